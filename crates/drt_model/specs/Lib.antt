@@ -1,0 +1,14 @@
+pub mod Contents
+pub mod Limits
+pub mod Legal
+pub mod Trace
+pub mod Schedulable
+pub mod Misses
+pub mod Constrained
+pub mod Digraph
+pub mod Walk
+pub mod Utilisation
+pub mod Potential
+pub mod RatioRules
+pub mod Horizon
+pub mod RequestFunction
