@@ -1,12 +1,11 @@
 -- A list of releases is legal exactly where each release is allowed alone and each step from one to the next is.
-use Rattle.std.proofs.Common.{◌≡◌, ℕ, zero, suc, ◌+◌, ◌<◌, ◌≤◌, ◌⊎◌, inl, inr, Bool, true, false, eqb, List, [], ◌∷◌, length, get_or, filter, slice_get, Some, None, IsSomeAnd, All, refl, sym, ap, ◌∙◌, subst, arith}
-use Rattle.std.proofs.lemmas.Option.{slice_get-get_or, slice_get_within, slice_get_past}
-use Rattle.std.proofs.lemmas.List.{get_or_default}
+use Rattle.std.proofs.Common.{◌≡◌, ℕ, ◌+◌, ◌<◌, ◌≤◌, inl, inr, eqb, List, [], ◌∷◌, length, get_or, slice_get, Some, All, refl, sym, ◌∙◌, subst, arith}
+use Rattle.std.proofs.lemmas.Option.{slice_get-get_or, slice_get_past}
 use Rattle.std.proofs.lemmas.List.Elements.{All-nil, All-cons, All-head, All-tail}
 use Rattle.std.proofs.lemmas.Bool.{cases_eq, cases_lt, eq-eqb, ne_eqb}
 use Rattle.drt_model.specs.declared.tasks.Task.{Task}
 use Rattle.drt_model.specs.declared.jobs.Release.{Release}
-use Rattle.drt_model.specs.Legal.{AllNeighbours, IsReleaseOf, Follows, IsLegalPart, IsLegal, IsAllowed, IsAllowedStep, part_of}
+use Rattle.drt_model.specs.Legal.{AllNeighbours, IsReleaseOf, Follows, IsLegal, IsAllowed, IsAllowedStep, part_of}
 use Rattle.drt_model.proofs.Neighbours.{filter-yes, filter-no, kept, kept_neighbours, AllNeighbours-nil, AllNeighbours-one, AllNeighbours-tail, AllNeighbours-cons, AllNeighbours-head}
 
 task_at : (tasks : List Task) (r : Release) → r.task < length tasks → (t : Task) × (slice_get tasks r.task ≡ Some t)

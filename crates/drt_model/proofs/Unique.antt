@@ -1,13 +1,13 @@
 -- The best pending job is one alone, and stays the best while nothing is released and it isn't done.
-use Rattle.std.proofs.Common.{inl, inr, ◌⊎◌, ◌≡◌, ℕ, zero, suc, ◌+◌, ◌-◌, ◌<◌, ◌≤◌, Bool, true, false, cond, List, [], ◌∷◌, length, get_or, filter, Option, Some, None, All, Contains, refl, sym, ap, ◌∙◌, subst, arith}
+use Rattle.std.proofs.Common.{inl, inr, ◌⊎◌, ◌≡◌, ℕ, zero, suc, ◌+◌, ◌<◌, ◌≤◌, Bool, true, false, List, [], ◌∷◌, length, get_or, filter, Option, Some, None, All, refl, ap, ◌∙◌, subst, arith}
 use Rattle.std.specs.List.{range_with_len}
-use Rattle.std.proofs.lemmas.Bool.{cases_Bool, cases_lt, cases_eq, both_ways}
-use Rattle.std.proofs.lemmas.List.Elements.{All-nil, All-cons, All-weaker, All-contains, All-filter, All-head, All-tail}
+use Rattle.std.proofs.lemmas.Bool.{cases_Bool, both_ways}
+use Rattle.std.proofs.lemmas.List.Elements.{All-nil, All-cons, All-weaker, All-contains}
 use Rattle.drt_model.specs.declared.jobs.Job.{Job}
 use Rattle.drt_model.specs.declared.jobs.Policy.{Policy}
 use Rattle.drt_model.specs.Trace.{job_at, goes_before, better, best, pending, is_pending, trace, pick, done}
 use Rattle.drt_model.proofs.Order.{goes_before-order}
-use Rattle.drt_model.proofs.MachineLemmas.{IsPending, pick_pending, pick_some, pending-all, pending-contains, done_cases, done-picked, done-idle, pick_none, in_range}
+use Rattle.drt_model.proofs.MachineLemmas.{IsPending, pick_pending, pick_some, pending-contains, done_cases, done-picked, done-idle, pick_none, in_range}
 
 -- k goes before x, or neither goes before the other and k isn't behind
 abbrev pub IsAhead : Policy → List Job → ℕ → ℕ → Type 0

@@ -1,6 +1,6 @@
 -- Edges, walks and cycles of a graph (Stigge, Ekberg, Guan and Yi, RTAS 2011). A walk is its first vertex and the list of the
 -- vertices after it.
-use Rattle.std.specs.Prelude.{◌≡◌, ℕ, ◌+◌, ◌==◌, List, [], ◌∷◌, Option, Some, None, unwrap_or, if◌then◌else◌}
+use Rattle.std.specs.Prelude.{◌≡◌, ℕ, ◌+◌, ◌==◌, List, [], ◌∷◌, Option, Some, None, if◌then◌else◌}
 use Rattle.drt_model.specs.declared.tasks.Edge.{Edge}
 use Rattle.drt_model.specs.Digraph.{Digraph, vertex_of, out_edges}
 

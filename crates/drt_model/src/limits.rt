@@ -20,12 +20,10 @@ pub fn task_set(version: u8, tasks: Row<Task>) -> Option<TaskSet>
 fn is_task_set(version: u8, tasks: &[Task]) -> bool
     ensures { IsTrue result ↔ IsTaskSet version tasks.now }
 {
-    is_version(version)
-        && !tasks.is_empty()
-        && tasks.len() <= most_tasks(version)
-        && all_tasks(version, tasks)
-        && are_distinct(tasks)
-        && are_in_order(version, tasks)
+    if !has_count(version, tasks) || !all_tasks(version, tasks) {
+        return false;
+    }
+    are_distinct(tasks) && are_in_order(version, tasks)
 }
 
 // Whether no two tasks share a name or a priority.
@@ -33,6 +31,13 @@ fn are_distinct(tasks: &[Task]) -> bool
     ensures { IsTrue result ↔ AllPairs (λ s t. s.name ≢ t.name) tasks.now × AllPairs (λ s t. s.priority ≢ t.priority) tasks.now }
 {
     distinct_tasks(tasks) && distinct_priorities(tasks)
+}
+
+// Whether there is such a version, and it may have so many tasks.
+fn has_count(version: u8, tasks: &[Task]) -> bool
+    ensures { IsTrue result ↔ (IsVersion version × (1 ≤ length tasks.now) × (length tasks.now ≤ most_tasks version)) }
+{
+    is_version(version) && !tasks.is_empty() && tasks.len() <= most_tasks(version)
 }
 
 fn is_version(version: u8) -> bool

@@ -9,7 +9,12 @@ use std::alloc::{AllocError, Global};
 
 /// The picks of the first `ticks` ticks: at each place the place of the job that runs, or `None` where
 /// the processor is idle. Each tick looks at all jobs and all earlier picks.
-pub fn plain_trace(alloc: Global, policy: Policy, jobs: &[Job], ticks: u32) -> Result<Row<Option<u32>>, AllocError>
+pub fn plain_trace(
+    alloc: Global,
+    policy: Policy,
+    jobs: &[Job],
+    ticks: u32,
+) -> Result<Row<Option<u32>>, AllocError>
     requires { length jobs.now < 2 ^ 32 }
     ensures { IfOk result (λ picks. picks ≡ trace policy jobs.now ticks) }
 {
@@ -36,7 +41,7 @@ fn best_pending(policy: Policy, jobs: &[Job], picks: &[Option<u32>]) -> Option<u
 }
 
 // Whether job j is released by now and has had fewer ticks than its need.
-#[tactic(auto, unfolding(is_pending))]
+#[tactic(auto, unfolding(crate::specs::Trace::is_pending))]
 fn is_pending(jobs: &[Job], picks: &[Option<u32>], j: u32) -> bool
     requires { j < length jobs.now }
     ensures { result ≡ is_pending jobs.now picks.now j }
@@ -64,7 +69,7 @@ fn is_pick_of(j: u32, pick: Option<u32>) -> bool
 }
 
 // Job j, unless the other is there and goes before it.
-#[tactic(auto, unfolding(better))]
+#[tactic(auto, unfolding(crate::specs::Trace::better))]
 fn better(policy: Policy, jobs: &[Job], j: u32, other: Option<u32>) -> u32
     requires here { j < length jobs.now }
     requires other { ForSome other (λ k. k < length jobs.now) }
@@ -84,7 +89,7 @@ fn better(policy: Policy, jobs: &[Job], j: u32, other: Option<u32>) -> u32
 }
 
 /// Whether the job at place `j` goes before that at place `k` under the policy.
-#[tactic(auto, using(std::proofs::lemmas::Bool::Decides::nat_tests), unfolding(is_before, goes_before))]
+#[tactic(auto, using(std::proofs::lemmas::Bool::Decides::nat_tests), unfolding(crate::specs::Trace::is_before, crate::specs::Trace::goes_before))]
 pub fn goes_before(policy: Policy, jobs: &[Job], j: u32, k: u32) -> bool
     requires first { j < length jobs.now }
     requires second { k < length jobs.now }
@@ -99,7 +104,7 @@ pub fn goes_before(policy: Policy, jobs: &[Job], j: u32, k: u32) -> bool
 }
 
 // Whether the first job is of a task of lower number, or of the same task and earlier.
-#[tactic(auto, using(std::proofs::lemmas::Bool::Decides::nat_tests), unfolding(is_before))]
+#[tactic(auto, using(std::proofs::lemmas::Bool::Decides::nat_tests), unfolding(crate::specs::Trace::is_before))]
 fn comes_first(a: Job, b: Job) -> bool
     ensures { result ≡ is_before (a.task ∷ a.time ∷ []) (b.task ∷ b.time ∷ []) }
 {

@@ -1,4 +1,4 @@
-use Rattle.std.proofs.Common.{◌≡◌, ◌≢◌, ℕ, ◌<◌, slice_index_or}
+use Rattle.std.proofs.Common.{◌≢◌, ℕ, ◌<◌, slice_index_or}
 use Rattle.drt_model.specs.declared.tasks.Task.{Task}
 use Rattle.drt_model.proofs.limits.distinct_priorities.Given as goal
 

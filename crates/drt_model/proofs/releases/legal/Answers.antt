@@ -1,7 +1,6 @@
-use Rattle.std.proofs.Common.{◌≡◌, ℕ, ◌+◌, ◌-◌, ◌<◌, ◌≤◌, IsTrue, length, get_or, refl, arith, rules, sym, ◌∙◌, subst}
+use Rattle.std.proofs.Common.{◌≡◌, ◌+◌, ◌-◌, refl, arith, sym, subst}
 use Rattle.std.proofs.lemmas.Bool.{false≢true}
-use Rattle.drt_model.specs.declared.jobs.Release.{Release}
-use Rattle.drt_model.specs.Legal.{IsLegal, IsAllowedStep}
+use Rattle.drt_model.specs.Legal.{IsLegal}
 use Rattle.drt_model.proofs.LegalLemmas.{allowed_if_legal, step_if_legal, legal_if_allowed}
 use Rattle.drt_model.proofs.releases.legal.Goals as goal
 
