@@ -1,0 +1,12 @@
+use Rattle.std.proofs.lemmas.Nat.Gcd.{IsGcd-from_zero, IsGcd-from_mod}
+use Rattle.std.proofs.Common.{arith}
+use Rattle.drt_num.proofs.multiples.gcd.Goals as goal
+
+pub steps-init : goal.steps-init
+steps-init c g h = h
+
+pub steps-preserved : goal.steps-preserved
+steps-preserved c g h = c.steps.invariant g (IsGcd-from_mod _ _ g h)
+
+pub returns : goal.returns
+returns c = c.steps.invariant _ (IsGcd-from_zero _ _ (omega arith))
