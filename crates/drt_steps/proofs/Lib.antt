@@ -1,0 +1,5 @@
+pub mod Jumps
+pub mod Merging
+pub mod Kept
+pub mod Times
+pub mod Values

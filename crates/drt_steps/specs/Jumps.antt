@@ -1,0 +1,71 @@
+-- What the code keeps of a function: a base, and rises that come after given times.
+use Rattle.std.specs.Prelude.{ℕ, suc, zero, ◌≡◌, ◌+◌, ◌-◌, ◌≤◌, ◌<◌, max, nat_lt, nat_le, cond, Some, List, [], ◌∷◌, ◌++◌, length, slice_get, slice_index_or}
+use Rattle.drt_steps.specs.declared.jump.Jump.{Jump}
+
+-- The rises before the time t.
+abbrev pub risen : List Jump → ℕ → ℕ
+risen [] t = 0
+risen (j ∷ js) t = cond (nat_lt j.after t) j.rise 0 + risen js t
+
+-- All rises together.
+abbrev pub total : List Jump → ℕ
+total [] = 0
+total (j ∷ js) = j.rise + total js
+
+-- Each jump comes at s or later, and not before the one in front of it.
+abbrev pub AreFrom : ℕ → List Jump → Type 0
+AreFrom s [] = Unit {0}
+AreFrom s (j ∷ js) = (s ≤ j.after) × AreFrom j.after js
+
+-- Each jump comes before the time n.
+abbrev pub AreBelow : ℕ → List Jump → Type 0
+AreBelow n [] = Unit {0}
+AreBelow n (j ∷ js) = (j.after < n) × AreBelow n js
+
+-- The values of a function at t, at t + 1 and so on, n of them.
+abbrev pub values_from : (ℕ → ℕ) → ℕ → ℕ → List ℕ
+values_from f t zero = []
+values_from f t (suc n) = f t ∷ values_from f (suc t) n
+
+-- The values at 1 to the bound of a base and its jumps.
+abbrev pub values : ℕ → ℕ → List Jump → List ℕ
+values bound base jumps = values_from (λ t. base + risen jumps t) 1 bound
+
+-- What is true of the bound, the base and the jumps that are kept for a function.
+pub record AreKept (bound base : ℕ) (jumps : List Jump) : Type 0 where
+  pub from : 1 ≤ bound
+  pub to : bound ≤ 1000000
+  pub small : base + total jumps ≤ 1000000000000
+  pub order : AreFrom 1 jumps
+  pub below : AreBelow bound jumps
+
+-- The jumps that come at the time s or earlier.
+abbrev pub up_to : ℕ → List Jump → List Jump
+up_to s [] = []
+up_to s (j ∷ js) = cond (nat_le j.after s) (j ∷ up_to s js) (up_to s js)
+
+-- The jumps that come later than s.
+abbrev pub past : ℕ → List Jump → List Jump
+past s [] = []
+past s (j ∷ js) = cond (nat_lt s j.after) (j ∷ past s js) (past s js)
+
+-- The jumps after which a value has grown from one number to another at a time.
+abbrev pub grown : ℕ → ℕ → ℕ → List Jump → List Jump
+grown after before now js = cond (nat_lt before now) (js ++ record { after = after; rise = now - before } ∷ []) js
+
+-- The next of some jumps comes before the next of some others, by at least a gap.
+pub record IsNext (gap : ℕ) (xs : List Jump) (i : ℕ) (ys : List Jump) (j : ℕ) : Type 0 where
+  pub within : i < length xs
+  pub first : (o : Jump) → slice_get ys j ≡ Some o → (slice_index_or xs i (record { after = 0; rise = 0 })).after + gap ≤ o.after
+
+-- One function is below another one just after a jump of the other one, or at their bases.
+pub record IsBelowAt (own_base : ℕ) (own : List Jump) (other_base : ℕ) (other : List Jump) (s : ℕ) : Type 0 where
+  pub less : own_base + risen own (s + 1) < other_base + risen other (s + 1)
+  pub early : (n : ℕ) → 1 ≤ n → AreBelow n other → s < n
+
+-- Jumps above the greater base that make at each time the greater value.
+pub record AreMost (own_base : ℕ) (own : List Jump) (other_base : ℕ) (other : List Jump) (most : List Jump) : Type 0 where
+  pub values : (t : ℕ) → max (own_base + risen own t) (other_base + risen other t) ≡ max own_base other_base + risen most t
+  pub total : max (own_base + total own) (other_base + total other) ≡ max own_base other_base + total most
+  pub order : AreFrom 1 most
+  pub below : (n : ℕ) → AreBelow n own → AreBelow n other → AreBelow n most

@@ -1,0 +1,121 @@
+//! A function that never falls.
+ghost use Rattle.std.specs.Prelude.{◌≡◌, ℕ, ◌+◌, ◌≤◌, ◌<◌, length, replicate, IfOk};
+ghost use Rattle.drt_steps.specs.Values.{raise, value_at, covers, max_of};
+
+use crate::jump::{Jump, placed, risen_before};
+use crate::merge::{merged, stays_above};
+use std::alloc::{AllocError, Global};
+use std::marker::Model;
+
+/// A function on the times 1 to its bound that never falls: the work, in ticks, that is asked for before a time.
+/// It takes memory for each of its rises, and none for a tick.
+#[derive(Drop)]
+pub struct Steps {
+    bound: u64,
+    base: u64,
+    jumps: Vec<Jump>,
+}
+
+impl Model for Steps {
+    ghost use Rattle.std.specs.Prelude.{List, ℕ};
+    ghost use Rattle.drt_steps.specs.Jumps.{values, AreKept};
+
+    ghost Value = { List ℕ };
+
+    ghost view = { λ s. values s.bound s.base s.jumps.items };
+
+    ghost invariant = { λ s. AreKept s.bound s.base s.jumps.items };
+}
+
+impl Steps {
+    /// The function that has one value at each of 1 to `bound`.
+    pub fn flat(alloc: Global, bound: u64, value: u64) -> Result<Steps, AllocError>
+        requires from { 1 ≤ bound }
+        requires to { bound ≤ 1000000 }
+        requires value { value ≤ 1000000000000 }
+        ensures { IfOk result (λ s. s ≡ replicate bound value) }
+    {
+        Ok(Steps {
+            bound,
+            base: value,
+            jumps: Vec::new(alloc),
+        })
+    }
+
+    /// An equal function in memory of its own.
+    pub fn copy(&self, alloc: Global) -> Result<Steps, AllocError>
+        ensures { IfOk result (λ s. s ≡ self.now) }
+    {
+        Ok(Steps {
+            bound: self.bound,
+            base: self.base,
+            jumps: Vec::from_slice(alloc, &self.jumps)?,
+        })
+    }
+
+    /// The greatest time that the function has a value at.
+    pub fn bound(&self) -> u64
+        ensures value { result ≡ length self.now }
+        ensures from { 1 ≤ result }
+        ensures to { result ≤ 1000000 }
+    {
+        self.bound
+    }
+
+    /// The value at the time `t`.
+    pub fn at(&self, t: u64) -> u64
+        requires from { 1 ≤ t }
+        requires to { t ≤ length self.now }
+        ensures value { result ≡ value_at self.now t }
+        ensures small { result ≤ 1000000000000 }
+        ensures rises { (s : ℕ) → t ≤ s → s ≤ length self.now → result ≤ value_at self.now s }
+    {
+        self.base + risen_before(&self.jumps, t)
+    }
+
+    /// The function with `work` more at each time later than `offset`.
+    pub fn raise_after(&self, alloc: Global, offset: u64, work: u64) -> Result<Steps, AllocError>
+        requires { (t : ℕ) → offset < t → t ≤ length self.now → value_at self.now t + work ≤ 1000000000000 }
+        ensures { IfOk result (λ s. s ≡ raise offset work self.now) }
+    {
+        if offset >= self.bound {
+            return self.copy(alloc);
+        }
+        if offset == 0 {
+            return Ok(Steps {
+                bound: self.bound,
+                base: self.base + work,
+                jumps: Vec::from_slice(alloc, &self.jumps)?,
+            });
+        }
+        let new = Jump {
+            after: offset,
+            rise: work,
+        };
+        Ok(Steps {
+            bound: self.bound,
+            base: self.base,
+            jumps: placed(alloc, &self.jumps, new)?,
+        })
+    }
+
+    /// Whether this function is at each time at least the other one.
+    pub fn covers(&self, other: &Steps) -> bool
+        requires { length self.now ≡ length other.now }
+        ensures { result ≡ covers self.now other.now }
+    {
+        stays_above(self.base, &self.jumps, other.base, &other.jumps)
+    }
+
+    /// The function whose value at each time is the greater one of two.
+    pub fn max_of(alloc: Global, a: &Steps, b: &Steps) -> Result<Steps, AllocError>
+        requires { length a.now ≡ length b.now }
+        ensures { IfOk result (λ s. s ≡ max_of a.now b.now) }
+    {
+        Ok(Steps {
+            bound: a.bound,
+            base: a.base.max(b.base),
+            jumps: merged(alloc, a.base, &a.jumps, b.base, &b.jumps)?,
+        })
+    }
+}
