@@ -1,0 +1,6 @@
+pub mod QueueLemmas
+pub mod BoardLemmas
+pub mod QueueEvents
+pub mod EventLemmas
+pub mod PickLemmas
+pub mod AdvanceLemmas

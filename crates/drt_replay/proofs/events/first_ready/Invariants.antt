@@ -1,0 +1,9 @@
+use Rattle.std.proofs.Common.{length}
+use Rattle.drt_replay.specs.Events.{IsCleared}
+use Rattle.drt_replay.proofs.events.first_ready.Given as goal
+
+abbrev pub invariant-loop-entry : goal.invariant-loop-entry
+invariant-loop-entry l = IsCleared l.left l.initial.ready l.ready
+
+abbrev pub decreases-loop-entry : goal.decreases-loop-entry
+decreases-loop-entry l = length l.ready.items

@@ -1,0 +1,11 @@
+//! The replay of one list of releases on the tick machine.
+//!
+//! A `Board` shows the machine after so many ticks. It goes from event to event: to the next release, the
+//! next finish of the running job, or the tick that is asked for, whichever comes first, so its cost goes
+//! with the number of releases and not with their times. The layer above uses `Board::start`,
+//! `run_until`, `first_miss` and `finish_time`, each exact by the trace of `drt_model`.
+#![tactic(auto)]
+
+pub mod events;
+pub mod queue;
+
