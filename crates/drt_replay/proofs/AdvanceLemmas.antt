@@ -1,11 +1,11 @@
 -- One event: what was kept before it is kept after it.
-use Rattle.std.proofs.Common.{◌≡◌, ℕ, ◌+◌, ◌-◌, ◌<◌, ◌≤◌, cond, eqb, [], List, length, get_or, set, All, Option, Some, None, ap, subst, arith}
+use Rattle.std.proofs.Common.{◌≡◌, ℕ, ◌+◌, ◌-◌, ◌<◌, ◌≤◌, cond, eqb, [], List, length, get_or, set, All, Option, Some, None, subst, arith}
 use Rattle.drt_model.specs.declared.jobs.Job.{Job}
 use Rattle.drt_model.specs.declared.jobs.Policy.{Policy}
 use Rattle.drt_model.specs.Trace.{job_at, pick}
 use Rattle.drt_replay.specs.Queue.{Held}
 use Rattle.drt_replay.specs.Board.{IsLeft, AreFinishes}
-use Rattle.drt_replay.specs.Events.{AreLater, IsCleared, IsFirstLeft, IsMoved, IsQueued, IsReady}
+use Rattle.drt_replay.specs.Events.{AreLater, IsCleared, IsFirstLeft, IsMoved, IsQueued}
 use Rattle.drt_replay.proofs.EventLemmas.{IsCalm, calm_up_to, jump_left, jump_finishes, idle_left, idle_finishes}
 use Rattle.drt_replay.proofs.BoardLemmas.{picked_in_range}
 use Rattle.drt_replay.proofs.PickLemmas.{queued_moved, queued_cleared, first_pick, no_pick, calm_before, queued_later, queued_idle}

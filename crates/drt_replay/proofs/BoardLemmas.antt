@@ -1,9 +1,9 @@
 -- What a board keeps at its start, and what it says of the job that a tick runs.
-use Rattle.std.proofs.Common.{◌≡◌, ℕ, ◌+◌, ◌<◌, ◌≤◌, List, length, get_or, map, replicate, Option, Some, None, arith}
+use Rattle.std.proofs.Common.{◌≡◌, ℕ, ◌<◌, ◌≤◌, List, length, replicate, Option, Some, None, arith}
 use Rattle.std.proofs.lemmas.List.{get_or-map, length-map, get_or-replicate, length-replicate}
 use Rattle.drt_model.specs.declared.jobs.Job.{Job}
 use Rattle.drt_model.specs.declared.jobs.Policy.{Policy}
-use Rattle.drt_model.specs.Trace.{job_at, pick, done}
+use Rattle.drt_model.specs.Trace.{job_at, pick}
 use Rattle.drt_model.proofs.MachineLemmas.{pick_pending, in_range, done-zero}
 use Rattle.drt_replay.specs.Board.{IsLeft, AreFinishes, needs_of}
 

@@ -1,11 +1,11 @@
 -- Many ticks at once: while nothing is released and the running job isn't done, it runs on.
-use Rattle.std.proofs.Common.{inl, inr, ◌⊎◌, ◌≡◌, ℕ, zero, suc, ◌+◌, ◌-◌, ◌<◌, ◌≤◌, Bool, true, false, List, [], ◌∷◌, length, get_or, set, cond, Option, Some, None, refl, sym, ap, ◌∙◌, subst, arith, eqb}
+use Rattle.std.proofs.Common.{inl, inr, ◌≡◌, ℕ, zero, suc, ◌+◌, ◌-◌, ◌<◌, ◌≤◌, List, length, get_or, set, cond, Option, Some, None, refl, sym, ◌∙◌, subst, arith, eqb}
 use Rattle.std.proofs.lemmas.Bool.{cases_eq, cases_lt, eq-eqb, ne_eqb}
 use Rattle.std.proofs.lemmas.List.{get_or-set_same, get_or-set_other, length-set}
 use Rattle.drt_model.specs.declared.jobs.Job.{Job}
 use Rattle.drt_model.specs.declared.jobs.Policy.{Policy}
 use Rattle.drt_model.specs.Trace.{job_at, pick, done, IsFinish}
-use Rattle.drt_model.proofs.MachineLemmas.{IsPending, pick_pending, in_range, done-picked, done-other, done-idle, done_mono_le}
+use Rattle.drt_model.proofs.MachineLemmas.{pick_pending, in_range, done-picked, done-other, done-idle, done_mono_le}
 use Rattle.drt_model.proofs.Unique.{pick_stays, idle_stays}
 use Rattle.drt_replay.specs.Board.{IsLeft, AreFinishes, IsFinishSoFar}
 

@@ -4,3 +4,4 @@ pub mod QueueEvents
 pub mod EventLemmas
 pub mod PickLemmas
 pub mod AdvanceLemmas
+pub mod LateLemmas

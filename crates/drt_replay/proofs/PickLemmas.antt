@@ -1,21 +1,17 @@
 -- The job that the queues give is the pick, and nothing is released before the next event.
-use Rattle.std.proofs.Common.{inl, inr, ◌⊎◌, ◌≡◌, ℕ, zero, suc, ◌+◌, ◌-◌, ◌<◌, ◌≤◌, Bool, true, false, ◌&&◌, ◌||◌, eqb, ltb, List, [], ◌∷◌, length, get_or, set, All, Contains, Option, Some, None, refl, sym, ap, ◌∙◌, subst, arith}
-use Rattle.std.specs.declared.cmp.Reverse.{Reverse}
-use Rattle.std.proofs.lemmas.Bool.{cases_Bool, cases_eq, cases_lt, cases_order, lt-ltb, le-ltb, ltb-false, eq-eqb, ne_eqb}
-use Rattle.std.proofs.lemmas.Bool.Decides.{nat_tests}
+use Rattle.std.proofs.Common.{inl, inr, ◌⊎◌, ◌≡◌, ℕ, ◌-◌, ◌<◌, ◌≤◌, Bool, true, false, ◌&&◌, ◌||◌, eqb, ltb, List, [], length, get_or, set, All, Contains, Option, Some, None, refl, sym, ap, ◌∙◌, subst, arith}
+use Rattle.std.proofs.lemmas.Bool.{cases_eq, cases_lt, cases_order, lt-ltb, le-ltb, ltb-false, eq-eqb}
 use Rattle.std.proofs.lemmas.List.{get_or-set_same, get_or-set_other, get_or_past, length-set}
 use Rattle.std.proofs.lemmas.List.Elements.{All-contains, Contains-get_or}
 use Rattle.drt_model.specs.declared.jobs.Job.{Job}
 use Rattle.drt_model.specs.declared.jobs.Policy.{Policy}
 use Rattle.drt_model.specs.declared.jobs.Policy.TheVariants.{Edf, Fixed}
-use Rattle.drt_model.specs.Trace.{job_at, pick, done, goes_before, is_before}
+use Rattle.drt_model.specs.Trace.{job_at, pick, goes_before, is_before}
 use Rattle.drt_model.proofs.MachineLemmas.{IsPending, pick_pending, in_range, done_unreleased}
 use Rattle.drt_model.proofs.Unique.{IsAhead, pick_is}
-use Rattle.drt_replay.specs.declared.queue.Key.{Key}
-use Rattle.drt_replay.specs.Queue.{Held, IsFirst, entry, is_less}
+use Rattle.drt_replay.specs.Queue.{Held, entry, is_less}
 use Rattle.drt_replay.specs.Board.{IsLeft}
-use Rattle.drt_replay.specs.Events.{AreLater, IsCleared, IsFirstLeft, IsMoved, IsQueued, IsReady, IsWaiting, ready_key, waiting_key}
-use Rattle.drt_replay.proofs.EventLemmas.{IsCalm}
+use Rattle.drt_replay.specs.Events.{AreLater, IsCleared, IsFirstLeft, IsMoved, IsQueued, IsReady, ready_key, waiting_key}
 
 -- one number of two ranks, the rest of the test, and what it says
 ahead_number : (a x : ℕ) (rest here there : Bool) (P : Type 0) → (ltb a x || (eqb a x && rest)) ≡ false
@@ -124,10 +120,10 @@ module _ (policy : Policy) (jobs : List Job) (now : ℕ) (lefts : List ℕ) wher
     calm_before next needs bound k h t = elim (q.each k h) [
       | inl c ↦ All-contains (λ e. next ≤ e.0.first) w.items (entry (waiting_key jobs k)) bound c
       | inr (inl c) ↦ absurd (
-        let ready : IsReady policy jobs now (ready_key policy jobs k) = All-contains (λ e. IsReady policy jobs now e.0) r.items (entry (ready_key policy jobs k)) q.readies c in
-        let released : (job_at jobs k).time ≤ now = subst (λ i. (job_at jobs i).time ≤ now) (ready_place policy jobs k) ready.released in
-        omega arith
-      )
+          let ready : IsReady policy jobs now (ready_key policy jobs k) = All-contains (λ e. IsReady policy jobs now e.0) r.items (entry (ready_key policy jobs k)) q.readies c in
+          let released : (job_at jobs k).time ≤ now = subst (λ i. (job_at jobs i).time ≤ now) (ready_place policy jobs k) ready.released in
+          omega arith
+          )
       | inr (inr z) ↦ absurd (omega (arith, z, shown.each k h, needs k h, done_unreleased policy jobs k now (omega arith)))
     ]
 

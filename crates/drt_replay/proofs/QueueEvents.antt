@@ -1,11 +1,10 @@
 -- The queues from event to event.
-use Rattle.std.proofs.Common.{inl, inr, ◌⊎◌, ◌≡◌, ℕ, zero, suc, ◌+◌, ◌-◌, ◌<◌, ◌≤◌, Bool, true, false, ◌&&◌, ◌||◌, eqb, ltb, leb, List, [], ◌∷◌, length, get_or, set, All, Contains, IsPermutation, Option, Some, None, MatchOption, refl, sym, ap, ◌∙◌, subst, arith}
+use Rattle.std.proofs.Common.{inl, inr, ◌⊎◌, ◌≡◌, ℕ, zero, suc, ◌+◌, ◌<◌, ◌≤◌, Bool, true, false, ◌&&◌, ◌||◌, eqb, ltb, leb, List, [], ◌∷◌, length, get_or, All, Contains, IsPermutation, Option, Some, None, MatchOption, refl, sym, ap, ◌∙◌, subst, arith}
 use Rattle.std.specs.Bool.{MatchBool}
 use Rattle.std.specs.declared.cmp.Reverse.{Reverse}
 use Rattle.std.proofs.lemmas.Bool.{cases_eq, cases_lt, lt-ltb, le-leb, lt-leb, ltb-false}
 use Rattle.std.proofs.lemmas.Bool.Decides.{nat_tests}
-use Rattle.std.proofs.lemmas.List.{get_or-set_same, get_or-set_other, get_or_past, length-set}
-use Rattle.std.proofs.lemmas.List.Elements.{All-cons, All-tail, All-contains, Contains-get_or}
+use Rattle.std.proofs.lemmas.List.Elements.{All-cons, All-tail, All-contains}
 use Rattle.std.proofs.lemmas.List.Sorted.{IsPermutation-sym, All-permutation, Contains-permutation, length_permutation}
 use Rattle.drt_model.specs.declared.jobs.Job.{Job}
 use Rattle.drt_model.specs.declared.jobs.Policy.{Policy}
@@ -13,7 +12,7 @@ use Rattle.drt_model.specs.declared.jobs.Policy.TheVariants.{Edf, Fixed}
 use Rattle.drt_model.specs.Trace.{job_at}
 use Rattle.drt_replay.specs.declared.queue.Key.{Key}
 use Rattle.drt_replay.specs.Queue.{Held, IsFirst, IsPopped, entry, is_less}
-use Rattle.drt_replay.specs.Events.{AreLater, HasDue, IsCleared, IsFirstLeft, IsMoved, IsQueued, IsReady, IsWaiting, ready_key, waiting_key}
+use Rattle.drt_replay.specs.Events.{AreLater, HasDue, IsCleared, IsMoved, IsQueued, IsReady, IsWaiting, AreWaiting, ready_key, waiting_key}
 
 -- an element of a list of one more
 Contains-cons_cases : {X : Type 0} (y : X) (ys : List X) (x : X) → Contains (y ∷ ys) x → (y ≡ x) ⊎ Contains ys x
@@ -160,3 +159,34 @@ cleared_none lefts queue = record { kept = λ k c. inl c; among = λ k c. c; few
 
 pub cleared_here : (lefts : List ℕ) (old mid : Held) (n : ℕ) → IsCleared lefts old mid → All (λ r. r.0.place < n) old.items → (key : Key) → IsFirst mid.items key → key.place < n
 cleared_here lefts old mid n cleared all key first = All-contains (λ r. r.0.place < n) old.items (entry key) all (cleared.among key first.member)
+
+-- one job more waits
+pub waiting_none : (jobs : List Job) (room : ℕ) → length jobs ≤ room → AreWaiting jobs 0 (record { items = []; room = room })
+waiting_none jobs room h = record {
+  waits = λ k d l. absurd (omega arith);
+  each = λ j l. absurd (omega arith);
+  many = refl;
+  room = h;
+}
+
+pub waiting_more : (jobs : List Job) (j : ℕ) (old new : Held) → j < length jobs → AreWaiting jobs j old → IsPermutation (entry (waiting_key jobs j) ∷ old.items) new.items → old.room ≤ new.room → AreWaiting jobs (j + 1) new
+waiting_more jobs j old new h a p larger =
+    let e = entry (waiting_key jobs j) in
+    record {
+      waits = All-permutation (λ r. IsWaiting jobs r.0) (e ∷ old.items) new.items p (All-cons (λ r. IsWaiting jobs r.0) e old.items (record { here = h; is = refl }) a.waits);
+      each = λ k l. Contains-permutation (e ∷ old.items) new.items (entry (waiting_key jobs k)) p (elim (cases_eq k j) [
+        | inl s ↦ subst (λ i. Contains (e ∷ old.items) (entry (waiting_key jobs i))) (sym s) (Contains-here e old.items)
+        | inr ne ↦ Contains-later e old.items (entry (waiting_key jobs k)) (a.each k (omega arith))
+      ]);
+      many = omega (arith, length_permutation (e ∷ old.items) new.items p, a.many);
+      room = omega (arith, a.room);
+    }
+
+-- at the start each job waits, and none is ready
+pub queued-start : (policy : Policy) (jobs : List Job) (lefts : List ℕ) (waiting : Held) (room : ℕ) → AreWaiting jobs (length jobs) waiting → length jobs ≤ room → IsQueued policy jobs 0 lefts waiting (record { items = []; room = room })
+queued-start policy jobs lefts waiting room a h = record {
+  waits = a.waits;
+  readies = λ k d l. absurd (omega arith);
+  each = λ j l. inl (a.each j l);
+  room = omega (arith, a.many);
+}

@@ -1,18 +1,16 @@
 -- What a heap's clauses say of the least key.
-use Rattle.std.proofs.Common.{Bor, inl, inr, ◌≡◌, ℕ, ◌+◌, ◌<◌, ◌≤◌, Bool, true, false, ◌&&◌, ◌||◌, cond, eqb, ltb, List, [], ◌∷◌, length, get_or, All, Contains, IsPermutation, Option, Some, None, MatchOption, refl, sym, ap, ◌∙◌, subst, arith}
+use Rattle.std.proofs.Common.{Bor, inl, inr, ◌≡◌, ℕ, false, ◌&&◌, ◌||◌, eqb, ltb, List, [], ◌∷◌, length, get_or, All, IsPermutation, Option, Some, None, MatchOption, refl, sym, ap, ◌∙◌, arith}
 use Rattle.std.specs.declared.cmp.Ordering.{Ordering}
-use Rattle.std.specs.declared.cmp.Ordering.TheVariants.{Less, Equal, Greater}
 use Rattle.std.specs.declared.cmp.Reverse.{Reverse}
 use Rattle.std.specs.Ordering.{nat_cmp, ordering_then, is_lt}
 use Rattle.std.specs.BinaryHeap.{IsUpperBound, IsHeap, PopsGreatest}
 use Rattle.std.specs.Slice.{IsItemAt}
 use Rattle.std.specs.Option.{IfSome, IfNone}
 use Rattle.std.proofs.lemmas.List.Sorted.{length_permutation}
-use Rattle.std.specs.List.{AllByRecursion}
-use Rattle.std.proofs.lemmas.Bool.{cases_Bool, cases_eq, cases_lt, lt-ltb, le-ltb, eq-eqb, ne_eqb}
-use Rattle.std.proofs.lemmas.List.Elements.{All-nil, All-cons, Contains-from_at, Contains-get_or}
+use Rattle.std.proofs.lemmas.Bool.{cases_eq, cases_lt, lt-ltb, le-ltb, eq-eqb, ne_eqb}
+use Rattle.std.proofs.lemmas.List.Elements.{All-nil, All-cons}
 use Rattle.drt_replay.specs.declared.queue.Key.{Key}
-use Rattle.drt_replay.specs.Queue.{Held, IsFirst, IsPopped, entry, compare, is_less}
+use Rattle.drt_replay.specs.Queue.{Held, IsFirst, IsPopped, compare, is_less}
 
 -- one number of a comparison
 is_lt-then : (a b : ℕ) (rest : Ordering) → is_lt (ordering_then (nat_cmp a b) rest) ≡ (ltb a b || (eqb a b && is_lt rest))

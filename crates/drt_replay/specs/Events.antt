@@ -36,6 +36,13 @@ pub record IsQueued (policy : Policy) (jobs : List Job) (now : ℕ) (lefts : Lis
       → Contains waiting.items (entry (waiting_key jobs j)) ⊎ (Contains ready.items (entry (ready_key policy jobs j)) ⊎ (slice_index lefts j ≡ 0))
   pub room : length waiting.items + length ready.items ≤ ready.room
 
+-- The first so many jobs wait, and no more keys, and there is room for all jobs.
+pub record AreWaiting (jobs : List Job) (count : ℕ) (waiting : Held) : Type 0 where
+  pub waits : All (λ r. IsWaiting jobs r.0) waiting.items
+  pub each : (j : ℕ) → j < count → Contains waiting.items (entry (waiting_key jobs j))
+  pub many : length waiting.items ≡ count
+  pub room : length jobs ≤ waiting.room
+
 -- Jobs that waited have become ready.
 pub record IsMoved (policy : Policy) (jobs : List Job) (now : ℕ) (waiting ready waiting' ready' : Held) : Type 0 where
   pub waited : (j : ℕ) → Contains waiting.items (entry (waiting_key jobs j))

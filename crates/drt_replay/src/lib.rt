@@ -6,6 +6,10 @@
 //! `run_until`, `first_miss` and `finish_time`, each exact by the trace of `drt_model`.
 #![tactic(auto)]
 
+pub mod board;
 pub mod events;
+pub mod late;
+pub mod made;
 pub mod queue;
 
+pub use board::Board;

@@ -1,4 +1,4 @@
-use Rattle.std.proofs.Common.{◌+◌, ◌<◌, length, sym, subst, arith}
+use Rattle.std.proofs.Common.{◌+◌, sym, subst, arith}
 use Rattle.drt_replay.specs.Board.{IsLeft, AreFinishes}
 use Rattle.drt_replay.specs.Events.{IsQueued}
 use Rattle.drt_replay.proofs.AdvanceLemmas.{ready_here, run_here, run_left, run_finishes, run_queued, rest_left, rest_finishes, rest_queued}

@@ -1,4 +1,4 @@
-use Rattle.std.proofs.Common.{◌≡◌, ◌<◌, length, arith, rules, get_or}
+use Rattle.std.proofs.Common.{◌≡◌, ◌<◌, length, arith, get_or}
 use Rattle.drt_replay.proofs.QueueEvents.{clear_popped, cleared_here}
 use Rattle.drt_replay.proofs.events.first_ready.Goals as goal
 

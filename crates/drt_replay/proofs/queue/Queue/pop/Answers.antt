@@ -1,4 +1,4 @@
-use Rattle.std.proofs.Common.{◌≡◌, ℕ, [], MatchOption, Option, length, get_or, refl, sym, ap, ◌∙◌, subst, arith, rules}
+use Rattle.std.proofs.Common.{◌≡◌, [], MatchOption, length, subst, arith}
 use Rattle.std.specs.BinaryHeap.{heap_items, heap_capacity, heap_len}
 use Rattle.std.specs.Option.{IfNone}
 use Rattle.drt_replay.specs.Queue.{IsPopped, Held}
