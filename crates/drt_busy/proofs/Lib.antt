@@ -1,2 +1,9 @@
 pub mod Apart
 pub mod OneTask
+pub mod Busy
+pub mod Fixed
+pub mod Overload
+pub mod ByTask
+pub mod Window
+pub mod FirstMiss
+pub mod Laws

@@ -1,1 +1,3 @@
 pub mod OneTask
+pub mod Work
+pub mod Laws

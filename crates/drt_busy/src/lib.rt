@@ -5,5 +5,6 @@
 #![tactic(auto)]
 
 pub mod one_task;
+pub mod trace;
 
 pub use one_task::{one_task_decides, too_long_misses};
