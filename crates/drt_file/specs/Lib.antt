@@ -1,0 +1,5 @@
+pub mod Canonical
+pub mod Cutting
+pub mod Draft
+pub mod Reading
+pub mod Words

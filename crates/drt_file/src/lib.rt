@@ -1,0 +1,13 @@
+//! Task files: printing a task set as its canonical text, and reading one back.
+#![tactic(auto)]
+
+pub mod cutting;
+mod draft;
+pub mod fault;
+pub mod printing;
+pub mod reading;
+pub mod words;
+
+pub use fault::{FileError, FileFault};
+pub use printing::print;
+pub use reading::read;

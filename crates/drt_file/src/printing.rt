@@ -1,0 +1,141 @@
+//! Printing a task set as its canonical text.
+ghost use Rattle.std.specs.Prelude.{◌≡◌, ◌++◌, map, IfOk, OnOk};
+ghost use Rattle.std.specs.List.{flat_map};
+ghost use Rattle.drt_file.specs.Canonical.{
+    canonical, written, written_line, name_at, priority_lines, body_lines, task_lines, vertex_line,
+    edge_line
+};
+
+use drt_model::{Edge, Row, Task, TaskSet, Vertex};
+use itoa::Buffer;
+use std::alloc::{AllocError as Memory, Global};
+
+/// The canonical text of a set of either version: `drt VERSION`, each task with its name, in version
+/// 2 its priority, its vertices and its edges, and `end`.
+pub fn print(alloc: Global, set: &TaskSet) -> Result<Row<u8>, Memory>
+    ensures { IfOk result (λ text. text ≡ canonical set.now) }
+{
+    let mut text = Vec::new(alloc);
+    let version = set.version();
+    let mut number = Buffer::new();
+    push_line(
+        &mut text,
+        &[b"drt".as_slice(), number.format(version).as_bytes()],
+    )?;
+    push_tasks(&mut text, version, set.tasks())?;
+    push_line(&mut text, &[b"end".as_slice()])?;
+    Ok(Row::from_vec(text))
+}
+
+// Adds the lines of tasks.
+fn push_tasks(text: &mut Vec<u8>, version: u8, tasks: &[Task]) -> Result<(), Memory>
+    ensures { OnOk result (text.new.items ≡ text.old.items ++ written (flat_map (task_lines version) tasks.now)) }
+{
+    for task in tasks {
+        push_task(text, version, task)?;
+    }
+    Ok(())
+}
+
+// Adds the lines of a task.
+fn push_task(text: &mut Vec<u8>, version: u8, task: &Task) -> Result<(), Memory>
+    ensures { OnOk result (text.new.items ≡ text.old.items ++ written (task_lines version task.now)) }
+{
+    push_line(text, &[b"task".as_slice(), task.name.as_slice()])?;
+    push_priority(text, version, task)?;
+    push_vertices(text, task.vertices.as_slice())?;
+    push_edges(text, task.vertices.as_slice(), task.edges.as_slice())
+}
+
+// Adds the line of a task's priority, in version 2.
+fn push_priority(text: &mut Vec<u8>, version: u8, task: &Task) -> Result<(), Memory>
+    ensures { OnOk result (text.new.items ≡ text.old.items ++ written (priority_lines version task.now)) }
+{
+    if version != 2 {
+        return Ok(());
+    }
+    let mut number = Buffer::new();
+    push_line(
+        text,
+        &[
+            b"priority".as_slice(),
+            number.format(task.priority).as_bytes(),
+        ],
+    )
+}
+
+// Adds the lines of vertices.
+fn push_vertices(text: &mut Vec<u8>, vertices: &[Vertex]) -> Result<(), Memory>
+    ensures { OnOk result (text.new.items ≡ text.old.items ++ written (map vertex_line vertices.now)) }
+{
+    for vertex in vertices {
+        push_vertex(text, vertex)?;
+    }
+    Ok(())
+}
+
+fn push_vertex(text: &mut Vec<u8>, vertex: &Vertex) -> Result<(), Memory>
+    ensures { OnOk result (text.new.items ≡ text.old.items ++ written_line (vertex_line vertex.now)) }
+{
+    let mut wcet = Buffer::new();
+    let mut deadline = Buffer::new();
+    push_line(
+        text,
+        &[
+            b"vertex".as_slice(),
+            vertex.name.as_slice(),
+            wcet.format(vertex.wcet).as_bytes(),
+            deadline.format(vertex.deadline).as_bytes(),
+        ],
+    )
+}
+
+// Adds the lines of edges between these vertices.
+fn push_edges(text: &mut Vec<u8>, vertices: &[Vertex], edges: &[Edge]) -> Result<(), Memory>
+    ensures { OnOk result (text.new.items ≡ text.old.items ++ written (map (edge_line vertices.now) edges.now)) }
+{
+    for edge in edges {
+        push_edge(text, vertices, *edge)?;
+    }
+    Ok(())
+}
+
+fn push_edge(text: &mut Vec<u8>, vertices: &[Vertex], edge: Edge) -> Result<(), Memory>
+    ensures { OnOk result (text.new.items ≡ text.old.items ++ written_line (edge_line vertices.now edge)) }
+{
+    let mut sep = Buffer::new();
+    push_line(
+        text,
+        &[
+            b"edge".as_slice(),
+            name_of(vertices, edge.from),
+            name_of(vertices, edge.to),
+            sep.format(edge.sep).as_bytes(),
+        ],
+    )
+}
+
+// The name of the vertex at a place, and no byte where none is there.
+#[tactic(auto, unfolding(crate::specs::Canonical::name_at))]
+fn name_of(vertices: &[Vertex], place: u32) -> &[u8]
+    ensures { result.now ≡ name_at vertices.now place }
+{
+    match vertices.get(place as usize) {
+        Some(vertex) => vertex.name.as_slice(),
+        None => &[],
+    }
+}
+
+// Adds a line of fields: parted by one space, with a LF behind the last.
+fn push_line(text: &mut Vec<u8>, words: &[&[u8]]) -> Result<(), Memory>
+    ensures { OnOk result (text.new.items ≡ text.old.items ++ written_line (map (λ w. w.now) words.now)) }
+{
+    for (i, word) in words.iter().enumerate() {
+        if i > 0 {
+            text.push(b' ')?;
+        }
+        text.extend_from_slice(word)?;
+    }
+    text.push(b'\n')?;
+    Ok(())
+}
