@@ -1,6 +1,6 @@
 -- The canonical text of a set of version 1 with one task says that set.
-use Rattle.std.proofs.Common.{◌≡◌, ◌≢◌, ℕ, ◌+◌, ◌<◌, ◌≤◌, ◌↔◌, Bool, true, false, List, [], ◌∷◌, ◌++◌, length, map, get_or, Option, Some, None, refl, sym, ap, subst, ◌∙◌, arith}
-use Rattle.std.specs.Prelude.{decimal, bytes_eq, slice_get, AllPairs, IsSome, IfSome, MatchOption}
+use Rattle.std.proofs.Common.{◌≡◌, ◌≢◌, ℕ, ◌<◌, ◌↔◌, Bool, true, false, List, [], ◌∷◌, ◌++◌, length, map, get_or, Option, Some, None, refl, sym, ap, subst, ◌∙◌, arith}
+use Rattle.std.specs.Prelude.{decimal, bytes_eq, AllPairs, IsSome, IfSome, MatchOption}
 use Rattle.std.specs.List.{AllByRecursion, filter_map, cons_option}
 use Rattle.std.proofs.lemmas.List.{append-nil}
 use Rattle.std.proofs.lemmas.List.Elements.{recursion_from_All, filter_map-append}
@@ -39,7 +39,7 @@ place_back vs distinct i lt =
     let here = (get_or vs i nobody).name in
     ap (λ name. place_of name vs) (name_at_is vs i nobody lt)
     ∙ position_or_len_is (λ v. bytes_eq v.name here) vs i nobody (omega arith)
-      (λ k below. unlike (get_or vs k nobody).name here (distinct k i nobody below lt)) (λ _. (bytes_eq-Decides here here).1 refl)
+    (λ k below. unlike (get_or vs k nobody).name here (distinct k i nobody below lt)) (λ _. (bytes_eq-Decides here here).1 refl)
 
 one_vertex_back : (v : Vertex) → IsVertex v → vertex_in (vertex_line v) ≡ Some v
 unfolding vertex_in

@@ -1,6 +1,6 @@
 -- Each field of the lines of a set is a run of bytes above the space.
-use Rattle.std.proofs.Common.{◌≡◌, ℕ, ◌+◌, ◌<◌, ◌≤◌, ◌^◌, ◌⊎◌, List, [], ◌∷◌, ◌++◌, length, map, get_or, Some, refl, sym, ap, subst, ◌∙◌, arith, rules, inl, inr}
-use Rattle.std.specs.Prelude.{decimal, unwrap_or, option_map, slice_get, ◌==◌, Bool, true, false, cond}
+use Rattle.std.proofs.Common.{◌≡◌, ℕ, ◌<◌, ◌≤◌, List, [], ◌∷◌, ◌++◌, length, map, get_or, sym, ap, subst, arith, rules}
+use Rattle.std.specs.Prelude.{decimal, unwrap_or, option_map, ◌==◌, Bool, true, false, cond}
 use Rattle.std.specs.List.{AllByRecursion, flat_map}
 use Rattle.std.proofs.lemmas.List.Elements.{recursion_from_All}
 use Rattle.std.proofs.lemmas.Option.{slice_get-get_or}
@@ -10,7 +10,7 @@ use Rattle.drt_model.specs.declared.tasks.Task.{Task}
 use Rattle.drt_model.specs.Contents.{Contents}
 use Rattle.drt_model.specs.Limits.{IsNameByte, IsName, IsVertex, IsEdgeAmong, IsTask, IsTaskSet, IsVersion}
 use Rattle.drt_file.specs.Words.{drt_word, task_word, vertex_word, edge_word, priority_word, end_word}
-use Rattle.drt_file.specs.Canonical.{name_at, vertex_line, edge_line, task_line, version_line, end_line, priority_lines, body_lines, task_lines, set_lines}
+use Rattle.drt_file.specs.Canonical.{name_at, vertex_line, edge_line, end_line, priority_lines, body_lines, task_lines, set_lines}
 use Rattle.drt_file.proofs.Again.{IsField, all_of_both}
 use Rattle.drt_file.proofs.Digits.{decimal_field}
 
@@ -78,12 +78,13 @@ priority_fielded version t le = go (version == 2)
 
 task_fielded : (version : ℕ) (t : Task) → IsTask version t → AllByRecursion (AllByRecursion IsField) (task_lines version t)
 unfolding task_lines body_lines
-task_fielded version t is =
-    ((task_field, (name_field t.name is.name, tt)),
-    all_of_both (AllByRecursion IsField) (priority_lines version t) (map vertex_line t.vertices ++ map (edge_line t.vertices) t.edges) (priority_fielded version t is.priority.1)
-    (all_of_both (AllByRecursion IsField) (map vertex_line t.vertices) (map (edge_line t.vertices) t.edges)
-    (vertex_lines_fielded t.vertices (recursion_from_All IsVertex t.vertices is.vertices))
-    (edge_lines_fielded t.vertices is.vertices t.edges (recursion_from_All (IsEdgeAmong (length t.vertices)) t.edges is.edges))))
+task_fielded version t is = (
+  (task_field, (name_field t.name is.name, tt)),
+  all_of_both (AllByRecursion IsField) (priority_lines version t) (map vertex_line t.vertices ++ map (edge_line t.vertices) t.edges) (priority_fielded version t is.priority.1)
+      (all_of_both (AllByRecursion IsField) (map vertex_line t.vertices) (map (edge_line t.vertices) t.edges)
+      (vertex_lines_fielded t.vertices (recursion_from_All IsVertex t.vertices is.vertices))
+      (edge_lines_fielded t.vertices is.vertices t.edges (recursion_from_All (IsEdgeAmong (length t.vertices)) t.edges is.edges))),
+)
 
 tasks_fielded : (version : ℕ) (ts : List Task) → AllByRecursion (IsTask version) ts → AllByRecursion (AllByRecursion IsField) (flat_map (task_lines version) ts)
 tasks_fielded version [] are = tt
@@ -96,7 +97,8 @@ version_small version is = grind (arith, is)
 -- Each field of the lines of a set within its limits is a field to be written.
 pub set_fielded : (set : Contents) → IsTaskSet set.version set.tasks → AllByRecursion (AllByRecursion IsField) (set_lines set)
 unfolding set_lines
-set_fielded set is =
-    ((drt_field, (small_number set.version (version_small set.version is.known), tt)),
-    all_of_both (AllByRecursion IsField) (flat_map (task_lines set.version) set.tasks) (end_line ∷ [])
-    (tasks_fielded set.version set.tasks (recursion_from_All (IsTask set.version) set.tasks is.each)) ((end_field, tt), tt))
+set_fielded set is = (
+  (drt_field, (small_number set.version (version_small set.version is.known), tt)),
+  all_of_both (AllByRecursion IsField) (flat_map (task_lines set.version) set.tasks) (end_line ∷ [])
+      (tasks_fielded set.version set.tasks (recursion_from_All (IsTask set.version) set.tasks is.each)) ((end_field, tt), tt),
+)

@@ -26,7 +26,7 @@ word_more start was mid now words i d has lt so_far spaced more =
     let few : 0 < length front = grind (arith, common_steps) in
     let e : join_with_byte 32 (texts (take (i + 1) words)) ≡ join_with_byte 32 front ++ 32 ∷ w
     = ap (λ ws. join_with_byte 32 (texts ws)) (take_more words i d lt) ∙ ap (join_with_byte 32) (map_push (λ x. x.now) (take i words) (get_or words i d))
-      ∙ join_push front w few in
+    ∙ join_push front w few in
     more ∙ ap (λ t. t ++ w) spaced ∙ ap (λ t. (t ++ 32 ∷ []) ++ w) so_far ∙ append_assoc (start ++ join_with_byte 32 front) (32 ∷ []) w
     ∙ append_assoc start (join_with_byte 32 front) (32 ∷ w) ∙ ap (λ r. start ++ r) (sym e)
 
@@ -39,7 +39,7 @@ word_first start was mid now words i d none lt so_far same more =
     let empty : front ≡ [] = rw zero refl in
     let e : join_with_byte 32 (texts (take (i + 1) words)) ≡ (get_or words i d).now
     = ap (λ ws. join_with_byte 32 (texts ws)) (take_more words i d lt) ∙ ap (join_with_byte 32) (map_push (λ x. x.now) (take i words) (get_or words i d))
-      ∙ ap (λ ws. join_with_byte 32 (ws ++ (get_or words i d).now ∷ [])) empty in
+    ∙ ap (λ ws. join_with_byte 32 (ws ++ (get_or words i d).now ∷ [])) empty in
     more ∙ ap (λ t. t ++ (get_or words i d).now) (same ∙ so_far ∙ ap (λ ws. start ++ join_with_byte 32 ws) empty ∙ append-nil start) ∙ ap (λ r. start ++ r) (sym e)
 
 -- The words and the LF behind them.
@@ -58,7 +58,7 @@ line_more f start was now xs i x lt at so_far more =
     let taken : take (i + 1) xs ≡ take i xs ++ x ∷ [] = take_more xs i x lt ∙ ap (λ y. take i xs ++ y ∷ []) (sym at) in
     let e : written (map f (take (i + 1) xs)) ≡ written front ++ written_line (f x)
     = ap (λ ys. written (map f ys)) taken ∙ ap written (map_push f (take i xs) x) ∙ flat_map-append written_line front (f x ∷ [])
-      ∙ ap (λ r. written front ++ r) (append-nil (written_line (f x))) in
+    ∙ ap (λ r. written front ++ r) (append-nil (written_line (f x))) in
     more ∙ ap (λ t. t ++ written_line (f x)) so_far ∙ append_assoc start (written front) (written_line (f x)) ∙ ap (λ r. start ++ r) (sym e)
 
 -- More lines, those of the item at i.
@@ -69,5 +69,5 @@ lines_more f start was now xs i x lt at so_far more =
     let taken : take (i + 1) xs ≡ take i xs ++ x ∷ [] = take_more xs i x lt ∙ ap (λ y. take i xs ++ y ∷ []) (sym at) in
     let e : written (flat_map f (take (i + 1) xs)) ≡ written front ++ written (f x)
     = ap (λ ys. written (flat_map f ys)) taken ∙ ap written (flat_map-append f (take i xs) (x ∷ [])) ∙ ap (λ r. written (front ++ r)) (append-nil (f x))
-      ∙ flat_map-append written_line front (f x) in
+    ∙ flat_map-append written_line front (f x) in
     more ∙ ap (λ t. t ++ written (f x)) so_far ∙ append_assoc start (written front) (written (f x)) ∙ ap (λ r. start ++ r) (sym e)

@@ -6,3 +6,4 @@ pub mod Drafts
 pub mod Fielded
 pub mod Joins
 pub mod Numbers
+pub mod OneSet

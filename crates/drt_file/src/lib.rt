@@ -4,8 +4,11 @@
 pub mod cutting;
 mod draft;
 pub mod fault;
+pub mod laws;
 pub mod printing;
 pub mod reading;
+#[cfg(test)]
+mod tests;
 pub mod words;
 
 pub use fault::{FileError, FileFault};

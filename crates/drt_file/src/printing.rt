@@ -2,8 +2,15 @@
 ghost use Rattle.std.specs.Prelude.{◌≡◌, ◌++◌, map, IfOk, OnOk};
 ghost use Rattle.std.specs.List.{flat_map};
 ghost use Rattle.drt_file.specs.Canonical.{
-    canonical, written, written_line, name_at, priority_lines, body_lines, task_lines, vertex_line,
-    edge_line
+  canonical,
+  written,
+  written_line,
+  name_at,
+  priority_lines,
+  body_lines,
+  task_lines,
+  vertex_line,
+  edge_line,
 };
 
 use drt_model::{Edge, Row, Task, TaskSet, Vertex};

@@ -46,8 +46,8 @@ fn not_read() -> FileError
 fn set_of(alloc: Global, text: &[u8]) -> Result<Option<TaskSet>, Memory>
     ensures { IfOk result (λ found.
         MatchOption found
-            (¬ IsTaskSet 1 (task_in (lines_of_fields text.now) ∷ []))
-            (λ set. set ≡ contents_in (lines_of_fields text.now))) }
+        (¬ IsTaskSet 1 (task_in (lines_of_fields text.now) ∷ []))
+        (λ set. set ≡ contents_in (lines_of_fields text.now))) }
 {
     let vertices = vertices_of(alloc, text)?;
     if vertices.len() > 48 {

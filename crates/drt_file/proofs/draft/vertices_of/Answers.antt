@@ -1,4 +1,4 @@
-use Rattle.std.proofs.Common.{◌≡◌, ◌∷◌, List, ℕ, length, map, sym, ap, ◌∙◌, arith, Bor}
+use Rattle.std.proofs.Common.{◌≡◌, List, ℕ, length, map, sym, ap, ◌∙◌, arith, Bor}
 use Rattle.drt_file.specs.Cutting.{fields, lines_of_fields}
 use Rattle.drt_file.specs.Draft.{vertex_in, vertices_in}
 use Rattle.drt_file.proofs.Drafts.{found_one, found_none, found_all}
