@@ -16,7 +16,7 @@ use Rattle.drt_model.specs.Schedulable.{jobs_of}
 use Rattle.drt_model.specs.Trace.{job_at, pick, done, Misses}
 use Rattle.drt_model.proofs.MachineLemmas.{IsPending, pick_pending, pick_first, pick_some, in_range, done_mono_le, done-le-need, done_cases, done-zero}
 use Rattle.drt_model.proofs.JobLemmas.{job_at-jobs_of, no_release}
-use Rattle.drt_busy.specs.Work.{work, is_due, is_above, AreTimed}
+use Rattle.drt_busy.specs.Needs.{needs, is_due, is_above, AreTimed}
 use Rattle.drt_busy.specs.Laws.{PicksArePending, DoneGrows, TicksAreUsed, LeastMisses, MissesOverload, OverloadMisses, MissesPassNoTime, NoTimeMisses}
 use Rattle.drt_busy.proofs.Busy.{demand, edf_overload}
 use Rattle.drt_busy.proofs.ByTask.{due, demand-sum}
@@ -140,7 +140,7 @@ overload_misses policy jobs timed t h =
     let test : Job → Bool = λ job. leb job.deadline t in
     overloaded_misses policy jobs t (omega (arith, h, due_timed t jobs timed, demand-sum policy jobs test 0 t))
 
-above_work : (jobs : List Job) (j s t : ℕ) → t < (job_at jobs j).need + demand Fixed jobs (is_higher jobs j) (length jobs) s (s + t) → t < (job_at jobs j).need + work (is_above (job_at jobs j).priority s (s + t)) jobs
+above_work : (jobs : List Job) (j s t : ℕ) → t < (job_at jobs j).need + demand Fixed jobs (is_higher jobs j) (length jobs) s (s + t) → t < (job_at jobs j).need + needs (is_above (job_at jobs j).priority s (s + t)) jobs
 unfolding is_higher
 above_work jobs j s t h =
     let test : Job → Bool = λ job. ltb job.priority (job_at jobs j).priority in
@@ -184,7 +184,7 @@ last_tick policy jobs j (suc n) one h = elim (cases_lt (done policy jobs j n) (j
   ]
 ]
 
-higher_work : (jobs : List Job) (j t : ℕ) → demand Fixed jobs (is_higher jobs j) (length jobs) 0 t ≡ work (is_above (job_at jobs j).priority 0 t) jobs
+higher_work : (jobs : List Job) (j t : ℕ) → demand Fixed jobs (is_higher jobs j) (length jobs) 0 t ≡ needs (is_above (job_at jobs j).priority 0 t) jobs
 unfolding is_higher
 higher_work jobs j t =
     let test : Job → Bool = λ job. ltb job.priority (job_at jobs j).priority in

@@ -7,3 +7,4 @@ pub mod ByTask
 pub mod Window
 pub mod FirstMiss
 pub mod Laws
+pub mod PartWalk

@@ -10,7 +10,7 @@ use Rattle.drt_model.specs.Legal.{IsLegal}
 use Rattle.drt_model.specs.Limits.{IsTaskSet}
 use Rattle.drt_model.specs.Schedulable.{jobs_of}
 use Rattle.drt_model.specs.Trace.{job_at, pick, done, goes_before, Misses}
-use Rattle.drt_busy.specs.Work.{work, is_due, is_above, AreTimed}
+use Rattle.drt_busy.specs.Needs.{needs, is_due, is_above, AreTimed}
 
 -- A pick is a job of the list that is released and lacks ticks.
 abbrev pub PicksArePending : Type 0
@@ -42,12 +42,12 @@ abbrev pub MissesOverload : Type 0
 MissesOverload =
     (jobs : List Job) (j : ℕ) → (job_at jobs j).time < (job_at jobs j).deadline → Misses Edf jobs j
     → (s : ℕ) × (s < (job_at jobs j).deadline)
-    × ((job_at jobs j).deadline < s + work (is_due s (job_at jobs j).deadline) jobs)
+    × ((job_at jobs j).deadline < s + needs (is_due s (job_at jobs j).deadline) jobs)
 
 -- Under either policy: where the jobs that are due by t need more than t, one of them misses.
 abbrev pub OverloadMisses : Type 0
 OverloadMisses =
-    (policy : Policy) (jobs : List Job) → AreTimed jobs → (t : ℕ) → t < work (is_due 0 t) jobs
+    (policy : Policy) (jobs : List Job) → AreTimed jobs → (t : ℕ) → t < needs (is_due 0 t) jobs
     → (j : ℕ) × (j < length jobs) × ((job_at jobs j).deadline ≤ t) × Misses policy jobs j
 
 -- Under fixed priorities, with constrained deadlines: where a job misses and no earlier one of its task does, the earlier ones
@@ -62,12 +62,12 @@ MissesPassNoTime =
     → (job_at (jobs_of tasks rs) i).need ≤ done Fixed (jobs_of tasks rs) i (job_at (jobs_of tasks rs) j).time)
     × ((s : ℕ) × (s ≤ (job_at (jobs_of tasks rs) j).time)
     × ((t : ℕ) → 1 ≤ t → (job_at (jobs_of tasks rs) j).time + t ≤ (job_at (jobs_of tasks rs) j).deadline
-    → t < (job_at (jobs_of tasks rs) j).need + work (is_above (job_at (jobs_of tasks rs) j).priority s (s + t)) (jobs_of tasks rs)))
+    → t < (job_at (jobs_of tasks rs) j).need + needs (is_above (job_at (jobs_of tasks rs) j).priority s (s + t)) (jobs_of tasks rs)))
 
 -- Under fixed priorities: a job released at 0 misses where for no t up to its deadline its need and the needs of the higher
 -- priorities' jobs released before t fit into t ticks.
 abbrev pub NoTimeMisses : Type 0
 NoTimeMisses =
     (jobs : List Job) (j : ℕ) → j < length jobs → (job_at jobs j).time ≡ 0 → 1 ≤ (job_at jobs j).need
-    → ((t : ℕ) → 1 ≤ t → t ≤ (job_at jobs j).deadline → t < (job_at jobs j).need + work (is_above (job_at jobs j).priority 0 t) jobs)
+    → ((t : ℕ) → 1 ≤ t → t ≤ (job_at jobs j).deadline → t < (job_at jobs j).need + needs (is_above (job_at jobs j).priority 0 t) jobs)
     → Misses Fixed jobs j

@@ -1,3 +1,5 @@
 pub mod OneTask
-pub mod Work
+pub mod Needs
 pub mod Laws
+pub mod Choice
+pub mod Decide

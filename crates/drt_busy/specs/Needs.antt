@@ -3,8 +3,8 @@ use Rattle.std.specs.Prelude.{ℕ, ◌<◌, Bool, ◌&&◌, if◌then◌else◌,
 use Rattle.drt_model.specs.declared.jobs.Job.{Job}
 
 -- The sum of the needs of the jobs that pass a test.
-abbrev pub work : (Job → Bool) → List Job → ℕ
-work passes jobs = sum_by (λ job. if passes job then job.need else 0) jobs
+abbrev pub needs : (Job → Bool) → List Job → ℕ
+needs passes jobs = sum_by (λ job. if passes job then job.need else 0) jobs
 
 -- The job is released at s or later, and due by t.
 abbrev pub is_due : ℕ → ℕ → Job → Bool
