@@ -1,5 +1,5 @@
 -- The demand of a set of jobs, as the sum of the demands of the tasks' parts.
-use Rattle.std.proofs.Common.{inl, inr, ◌≡◌, ℕ, zero, suc, ◌+◌, ◌<◌, ◌≤◌, Bool, ◌&&◌, cond, eqb, leb, ltb, List, [], ◌∷◌, length, take, filter, sum_by, refl, sym, ap, ◌∙◌, arith, All, add-one}
+use Rattle.std.proofs.Common.{map, inl, inr, ◌≡◌, ℕ, zero, suc, ◌+◌, ◌<◌, ◌≤◌, Bool, ◌&&◌, cond, eqb, leb, ltb, List, [], ◌∷◌, length, take, filter, sum_by, refl, sym, ap, ◌∙◌, arith, All, add-one}
 use Rattle.std.proofs.lemmas.Bool.{cases_eq, eq-eqb, ne_eqb}
 use Rattle.std.proofs.lemmas.List.{take_all}
 use Rattle.std.proofs.lemmas.List.Sums.{sum_by_more, sum_by-cons}
@@ -74,3 +74,7 @@ of_task-part tasks k (r ∷ rs) = elim (cases_eq r.task k) [
   | inl e ↦ rw (eq-eqb r.task k e) (ap (λ js. job_of tasks r ∷ js) (of_task-part tasks k rs))
   | inr ne ↦ rw (ne_eqb r.task k ne) (of_task-part tasks k rs)
 ]
+
+pub sum-map : (f : Job → ℕ) (g : Release → Job) (rs : List Release) → sum_by f (map g rs) ≡ sum_by (λ r. f (g r)) rs
+sum-map f g [] = refl
+sum-map f g (r ∷ rs) = sum_by-cons f (g r) (map g rs) ∙ ap (λ x. f (g r) + x) (sum-map f g rs) ∙ sym (sum_by-cons (λ x. f (g x)) r rs)

@@ -8,3 +8,5 @@ pub mod Window
 pub mod FirstMiss
 pub mod Laws
 pub mod PartWalk
+pub mod EdfWalks
+pub mod FixedWalks
