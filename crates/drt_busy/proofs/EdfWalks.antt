@@ -38,7 +38,7 @@ deadline_is t u = by_range (cases_lt u (length t.vertices)) where
 abbrev is_due_within : Task → ℕ → ℕ → Release → Bool
 is_due_within t s d r = leb s r.time && leb (r.time + deadline (digraph_of t) r.vertex) d
 
-source_due : (t : Task) (e : Edge) (o : Option Vertex) → slice_get t.vertices e.from ≡ o → IfSome o (λ v. v.deadline ≤ e.sep) → deadline (digraph_of t) e.from ≤ e.sep
+pub source_due : (t : Task) (e : Edge) (o : Option Vertex) → slice_get t.vertices e.from ≡ o → IfSome o (λ v. v.deadline ≤ e.sep) → deadline (digraph_of t) e.from ≤ e.sep
 source_due t e None at c = (let f = deadline_is t e.from in let z : unwrap_or (option_map (λ v. v.deadline) (slice_get t.vertices e.from)) 0 ≡ 0 = rw at refl in omega arith)
 source_due t e (Some v) at c = (let f = deadline_is t e.from in let z : unwrap_or (option_map (λ v. v.deadline) (slice_get t.vertices e.from)) 0 ≡ v.deadline = rw at refl in omega arith)
 
@@ -84,7 +84,7 @@ window_due version t ok s d le (r ∷ rs) part all =
     omega arith
 
 module _ (tasks : List Task) (k : ℕ) (h : k < length tasks) (s d : ℕ) where
-  deadline_here : (r : Release) → r.task ≡ k → deadline_of tasks r ≡ deadline (graph_at tasks k) r.vertex
+  pub deadline_here : (r : Release) → r.task ≡ k → deadline_of tasks r ≡ deadline (graph_at tasks k) r.vertex
   deadline_here r e = rw (e, slice_get-get_or tasks k no_task h) (deadline_is (task_at tasks k) r.vertex)
 
   one_due : (r : Release) → r.task ≡ k → cond (is_due s d (job_of tasks r)) r.need 0 ≡ cond (is_due_within (task_at tasks k) s d r) r.need 0

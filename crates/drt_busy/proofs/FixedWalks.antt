@@ -51,7 +51,7 @@ asked version t ok a b (r ∷ rs) part from =
     part_request version t ok a b 0 r rs (omega arith) part.each part.steps
 
 module _ (tasks : List Task) (k : ℕ) (h : k < length tasks) (p a b : ℕ) where
-  priority_here : (r : Release) → r.task ≡ k → priority_of tasks r ≡ (task_at tasks k).priority
+  pub priority_here : (r : Release) → r.task ≡ k → priority_of tasks r ≡ (task_at tasks k).priority
   priority_here r e = rw (e, slice_get-get_or tasks k no_task h) refl
 
   one_above : (r : Release) → r.task ≡ k → cond (is_above p a b (job_of tasks r)) r.need 0 ≡ cond (ltb (task_at tasks k).priority p && (leb a r.time && ltb r.time b)) r.need 0

@@ -10,3 +10,4 @@ pub mod Laws
 pub mod PartWalk
 pub mod EdfWalks
 pub mod FixedWalks
+pub mod WalkReleases

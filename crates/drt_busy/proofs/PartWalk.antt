@@ -55,7 +55,7 @@ asked_one a b offset time need wcet from le = elim (cases_lt time b) [
 ]
 
 module _ (version : ℕ) (t : Task) (ok : IsTask version t) where
-  out_is : (u : ℕ) → u < length t.vertices → out_edges (digraph_of t) u ≡ edges_from t.edges u
+  pub out_is : (u : ℕ) → u < length t.vertices → out_edges (digraph_of t) u ≡ edges_from t.edges u
   out_is u h =
       get_or-map (edges_from t.edges) (range_with_len 0 (length t.vertices)) u 0 [] (rw length-range_with_len h)
       ∙ ap (edges_from t.edges) (get_or-range_with_len 0 (length t.vertices) u 0 h ∙ omega arith)
@@ -66,7 +66,7 @@ module _ (version : ℕ) (t : Task) (ok : IsTask version t) where
       let among : IsEdgeAmong (length t.vertices) e = subst (IsEdgeAmong (length t.vertices)) at (ok.edges i e h) in
       (among.from, among.to, rw (out_is e.from among.from) (sep_first t.edges i e e.from e.to ok.one_edge_each_way h at refl refl))
 
-  gap_is : (u v p : ℕ) → sep (digraph_of t) u v ≡ Some p → gap (digraph_of t) u v ≡ p
+  pub gap_is : (u v p : ℕ) → sep (digraph_of t) u v ≡ Some p → gap (digraph_of t) u v ≡ p
   unfolding or_zero
   gap_is u v p e = rw e refl
 

@@ -3,3 +3,4 @@ pub mod Needs
 pub mod Laws
 pub mod Choice
 pub mod Decide
+pub mod WalkReleases
