@@ -11,3 +11,4 @@ pub mod PartWalk
 pub mod EdfWalks
 pub mod FixedWalks
 pub mod WalkReleases
+pub mod Decide

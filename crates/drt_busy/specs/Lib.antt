@@ -2,5 +2,5 @@ pub mod OneTask
 pub mod Needs
 pub mod Laws
 pub mod Choice
-pub mod Decide
 pub mod WalkReleases
+pub mod Decide
