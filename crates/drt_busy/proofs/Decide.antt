@@ -1,28 +1,30 @@
 -- What decides a task set: both ways, under both policies.
-use Rattle.std.proofs.Common.{inl, inr, ◌⊎◌, ◌≡◌, ℕ, zero, suc, ◌+◌, ◌<◌, ◌≤◌, Bool, true, false, cond, eqb, ltb, List, [], ◌∷◌, length, get_or, All, Contains, refl, sym, ap, ◌∙◌, subst, arith}
+use Rattle.std.proofs.Common.{inl, inr, ◌⊎◌, ◌≡◌, ℕ, zero, suc, ◌+◌, ◌<◌, ◌≤◌, true, false, ltb, List, [], ◌∷◌, length, get_or, Contains, refl, sym, ap, ◌∙◌, subst, arith}
 use Rattle.std.proofs.lemmas.Bool.{cases_eq, cases_lt, cases_Bool, eq-eqb, ne_eqb, le-ltb}
 use Rattle.std.proofs.lemmas.List.{get_or_default}
 use Rattle.std.proofs.lemmas.List.Elements.{Contains-append_left, Contains-append_right}
 use Rattle.drt_model.specs.declared.jobs.Job.{Job}
-use Rattle.drt_model.specs.declared.jobs.Policy.{Policy}
-use Rattle.drt_model.specs.declared.jobs.Policy.TheVariants.{Edf, Fixed}
+use Rattle.drt_model.specs.declared.jobs.Policy.TheVariants.{Edf}
 use Rattle.drt_model.specs.declared.jobs.Release.{Release}
 use Rattle.drt_model.specs.declared.tasks.Task.{Task}
 use Rattle.drt_model.specs.Constrained.{AreConstrained}
 use Rattle.drt_model.specs.Digraph.{vertex_count, no_vertex}
 use Rattle.drt_model.specs.Legal.{IsLegal}
 use Rattle.drt_model.specs.Limits.{IsTaskSet, IsVertex}
-use Rattle.drt_model.specs.Schedulable.{Schedulable, job_of, jobs_of}
-use Rattle.drt_model.specs.Trace.{job_at, Misses}
+use Rattle.drt_model.specs.Schedulable.{job_of, jobs_of}
+use Rattle.drt_model.specs.Trace.{job_at}
 use Rattle.drt_model.specs.Walk.{deadline, wcet}
 use Rattle.drt_model.proofs.JobLemmas.{no_release, length-jobs_of, job_at-jobs_of}
-use Rattle.drt_busy.specs.Choice.{AreDueBy, AreWalks, IsWalk, efforts, graph_at, no_task, request_of, requests, task_at}
+use Rattle.drt_busy.specs.Choice.{AreWalks, IsWalk, efforts, graph_at, no_task, request_of, requests, task_at}
 use Rattle.drt_busy.specs.Decide.{DeadlinesDecide, DemandMisses, RequestsMiss, TimesDecide}
 use Rattle.drt_busy.specs.Needs.{AreTimed, is_above, is_due, needs}
 use Rattle.drt_busy.specs.WalkReleases.{all_releases, release_at, releases_from, releases_of, with_job}
-use Rattle.drt_busy.proofs.EdfWalks.{deadline_here, deadlines_suffice, due_after}
-use Rattle.drt_busy.proofs.FixedWalks.{priority_here, times_suffice}
+use Rattle.drt_busy.proofs.EdfWalks.{deadline_here, deadlines_suffice, due_after, window_due}
+use Rattle.drt_busy.proofs.FixedWalks.{asked, priority_here, times_suffice}
 use Rattle.drt_busy.proofs.Laws.{no_time_misses, overload_misses}
+use Rattle.drt_busy.specs.PartWalk.{PartsFollowWalks}
+use Rattle.drt_busy.proofs.PartWalk.{part_walk, part_work}
+use Rattle.drt_busy.proofs.Window.{within_walk}
 use Rattle.drt_busy.proofs.WalkReleases.{releases_above, releases_due, releases_legal}
 
 -- the jobs of legal releases are due after their releases
@@ -48,10 +50,10 @@ deadlines_decide version tasks ok constrained = (
   (λ sched t walks are due. elim (cases_lt t (efforts tasks walks (length tasks))) [
     | inr fits ↦ fits
     | inl over ↦ absurd (
-      let (legal, more, misses) = demand_misses version tasks ok constrained t walks are due over in
-      let (j, h, by, miss) = misses Edf in
-      sched (all_releases tasks walks (length tasks)) legal j h miss
-    )
+        let (legal, more, misses) = demand_misses version tasks ok constrained t walks are due over in
+        let (j, h, by, miss) = misses Edf in
+        sched (all_releases tasks walks (length tasks)) legal j h miss
+        )
   ]),
   (λ fits. deadlines_suffice version tasks ok constrained fits),
 )
@@ -148,10 +150,19 @@ times_decide version tasks ok constrained = (
       elim (search_times (λ t. wcet (graph_at tasks k) v + requests tasks walks (task_at tasks k).priority (length tasks) t) (deadline (graph_at tasks k) v)) [
         | inl found ↦ found
         | inr none ↦ absurd (
-          let (legal, missed) = requests_miss version tasks ok k v h here walks are none in
-          let (j, l, at, miss) = missed in
-          sched (all_releases tasks (with_job tasks walks k v) (length tasks)) legal j l miss
-        )
+            let (legal, missed) = requests_miss version tasks ok k v h here walks are none in
+            let (j, l, at, miss) = missed in
+            sched (all_releases tasks (with_job tasks walks k v) (length tasks)) legal j l miss
+            )
       ]),
   (λ pass. times_suffice version tasks ok constrained pass),
+)
+
+pub parts_follow_walks : PartsFollowWalks
+parts_follow_walks version t ok rs part = (
+  (λ a b. within_walk t a b rs part),
+  part_walk version t ok rs part,
+  part_work version t ok rs part.each,
+  (λ a d le all. window_due version t ok a d le rs part all),
+  (λ a b from. asked version t ok a b rs part from),
 )

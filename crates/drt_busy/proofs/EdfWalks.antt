@@ -1,5 +1,5 @@
 -- Under EDF, walks whose work fits their last deadlines make a set schedulable.
-use Rattle.std.proofs.Common.{inl, inr, ◌⊎◌, ◌≡◌, ℕ, zero, suc, ◌+◌, ◌-◌, ◌<◌, ◌≤◌, Bool, true, false, ◌&&◌, cond, eqb, leb, ltb, List, [], ◌∷◌, length, get_or, map, filter, sum_by, Option, Some, None, All, IfSome, slice_get, refl, sym, ap, ◌∙◌, subst, arith}
+use Rattle.std.proofs.Common.{inl, inr, ◌⊎◌, ◌≡◌, ℕ, zero, suc, ◌+◌, ◌-◌, ◌<◌, ◌≤◌, Bool, true, false, ◌&&◌, cond, leb, List, [], ◌∷◌, length, get_or, filter, sum_by, Option, Some, None, All, IfSome, slice_get, refl, sym, ap, ◌∙◌, subst, arith}
 use Rattle.std.specs.Option.{option_map, unwrap_or}
 use Rattle.std.proofs.lemmas.Bool.{cases_eq, cases_lt, both_ways, leb-true, le-leb, lt-leb, and_parts, and_right, and_from, eq-eqb, ne_eqb}
 use Rattle.std.proofs.lemmas.List.{get_or_past}
@@ -19,21 +19,22 @@ use Rattle.drt_model.specs.Limits.{IsTaskSet, IsTask, IsVertex}
 use Rattle.drt_model.specs.Schedulable.{Schedulable, job_of, jobs_of, deadline_of}
 use Rattle.drt_model.specs.Trace.{job_at, Misses}
 use Rattle.drt_model.specs.Walk.{deadline, work}
-use Rattle.drt_model.proofs.JobLemmas.{no_release, Known, known, deadline_of_known, length-jobs_of, job_at-jobs_of}
+use Rattle.drt_model.proofs.JobLemmas.{no_release, known, deadline_of_known, job_at-jobs_of}
 use Rattle.drt_model.proofs.LegalLemmas.{allowed_if_legal}
-use Rattle.drt_busy.specs.Choice.{AreDueBy, AreWalks, IsWalk, due_of, efforts, graph_at, no_task, task_at}
+use Rattle.drt_busy.specs.Choice.{AreDueBy, AreWalks, due_of, efforts, graph_at, no_task, task_at}
 use Rattle.drt_busy.specs.Needs.{needs, is_due}
+use Rattle.drt_busy.specs.PartWalk.{walk_of}
 use Rattle.drt_busy.proofs.ByTask.{of_task, of_task-part, task_sums, sum-by_task, sum-map}
 use Rattle.drt_busy.proofs.Laws.{misses_overload}
-use Rattle.drt_busy.proofs.PartWalk.{walk_of, part_walk, part_work, part_due}
+use Rattle.drt_busy.proofs.PartWalk.{part_walk, part_work, part_due}
 use Rattle.drt_busy.proofs.Window.{window_walk, needs_within, follows_later}
 
 -- the deadline of a vertex, found or not
 pub deadline_is : (t : Task) (u : ℕ) → unwrap_or (option_map (λ v. v.deadline) (slice_get t.vertices u)) 0 ≡ deadline (digraph_of t) u
 deadline_is t u = by_range (cases_lt u (length t.vertices)) where
-    by_range : (u < length t.vertices) ⊎ (length t.vertices ≤ u) → unwrap_or (option_map (λ v. v.deadline) (slice_get t.vertices u)) 0 ≡ deadline (digraph_of t) u
-    by_range (inl h) = rw (slice_get-get_or t.vertices u no_vertex h) refl
-    by_range (inr h) = rw (slice_get_past t.vertices u h) (sym (ap (λ v. v.deadline) (get_or_past t.vertices u no_vertex h)))
+  by_range : (u < length t.vertices) ⊎ (length t.vertices ≤ u) → unwrap_or (option_map (λ v. v.deadline) (slice_get t.vertices u)) 0 ≡ deadline (digraph_of t) u
+  by_range (inl h) = rw (slice_get-get_or t.vertices u no_vertex h) refl
+  by_range (inr h) = rw (slice_get_past t.vertices u h) (sym (ap (λ v. v.deadline) (get_or_past t.vertices u no_vertex h)))
 
 abbrev is_due_within : Task → ℕ → ℕ → Release → Bool
 is_due_within t s d r = leb s r.time && leb (r.time + deadline (digraph_of t) r.vertex) d
@@ -76,7 +77,7 @@ module _ (t : Task) (constrained : All (IsConstrainedEdge t) t.edges) where
         (leb-true s r.time low, leb-true (r.time + deadline (digraph_of t) r.vertex) d high)
 
 -- a window's releases are due within its length
-window_due : (version : ℕ) (t : Task) → IsTask version t → (s d : ℕ) → s ≤ d → (rs : List Release) → IsLegalPart t rs → All (λ r. (s ≤ r.time) × (r.time + deadline (digraph_of t) r.vertex ≤ d)) rs → due_of (digraph_of t) (walk_of rs) ≤ d - s
+pub window_due : (version : ℕ) (t : Task) → IsTask version t → (s d : ℕ) → s ≤ d → (rs : List Release) → IsLegalPart t rs → All (λ r. (s ≤ r.time) × (r.time + deadline (digraph_of t) r.vertex ≤ d)) rs → due_of (digraph_of t) (walk_of rs) ≤ d - s
 window_due version t ok s d le [] part all = omega arith
 window_due version t ok s d le (r ∷ rs) part all =
     let here = All-head (λ r. (s ≤ r.time) × (r.time + deadline (digraph_of t) r.vertex ≤ d)) r rs all in

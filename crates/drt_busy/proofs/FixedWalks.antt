@@ -1,5 +1,5 @@
 -- Under fixed priorities, a time that passes for each vertex and all walks makes a set schedulable.
-use Rattle.std.proofs.Common.{inl, inr, ◌⊎◌, ◌≡◌, ℕ, zero, suc, ◌+◌, ◌-◌, ◌<◌, ◌≤◌, Bool, true, false, ◌&&◌, cond, eqb, leb, ltb, List, [], ◌∷◌, length, get_or, map, filter, sum_by, Option, Some, None, All, slice_get, refl, sym, ap, ◌∙◌, subst, arith}
+use Rattle.std.proofs.Common.{inl, inr, ◌≡◌, ℕ, zero, suc, ◌+◌, ◌-◌, ◌<◌, ◌≤◌, Bool, true, false, ◌&&◌, cond, leb, ltb, List, [], ◌∷◌, length, get_or, filter, sum_by, Some, All, slice_get, refl, sym, ap, ◌∙◌, subst, arith}
 use Rattle.std.proofs.lemmas.Bool.{cases_eq, cases_Bool, both_ways, leb-true, le-leb, eq-eqb, ne_eqb}
 use Rattle.std.proofs.lemmas.List.Elements.{All-map, All-head, filter_passes}
 use Rattle.std.proofs.lemmas.List.Sums.{sum_by-cons}
@@ -10,18 +10,20 @@ use Rattle.drt_model.specs.declared.jobs.Policy.TheVariants.{Fixed}
 use Rattle.drt_model.specs.declared.tasks.Task.{Task}
 use Rattle.drt_model.specs.Constrained.{AreConstrained}
 use Rattle.drt_model.specs.Digraph.{digraph_of, vertex_count, no_vertex}
-use Rattle.drt_model.specs.Legal.{IsLegal, IsLegalPart, IsReleaseOf, Follows, part_of}
+use Rattle.drt_model.specs.Legal.{IsLegal, IsLegalPart, part_of}
 use Rattle.drt_model.specs.Limits.{IsTaskSet, IsTask}
-use Rattle.drt_model.specs.Schedulable.{Schedulable, job_of, jobs_of, deadline_of, priority_of}
+use Rattle.drt_model.specs.Schedulable.{Schedulable, job_of, jobs_of, priority_of}
 use Rattle.drt_model.specs.Trace.{job_at, Misses}
-use Rattle.drt_model.specs.Walk.{deadline, wcet, work}
-use Rattle.drt_model.proofs.JobLemmas.{no_release, Known, known, deadline_of_known, job_at-jobs_of}
+use Rattle.drt_model.specs.Walk.{deadline, wcet}
+use Rattle.drt_model.proofs.JobLemmas.{no_release, known, deadline_of_known, job_at-jobs_of}
 use Rattle.drt_model.proofs.LegalLemmas.{allowed_if_legal}
 use Rattle.drt_busy.specs.Choice.{AreWalks, graph_at, no_task, request_of, requests, task_at}
+use Rattle.drt_busy.specs.Decide.{TimesSufficeForTask}
 use Rattle.drt_busy.specs.Needs.{needs, is_above}
+use Rattle.drt_busy.specs.PartWalk.{walk_of}
 use Rattle.drt_busy.proofs.ByTask.{of_task, of_task-part, task_sums, sum-by_task, sum-map}
 use Rattle.drt_busy.proofs.Laws.{misses_pass_no_time}
-use Rattle.drt_busy.proofs.PartWalk.{walk_of, part_walk, part_request}
+use Rattle.drt_busy.proofs.PartWalk.{part_walk, part_request}
 use Rattle.drt_busy.proofs.Window.{window_walk, follows_later}
 
 -- the releases from a on
@@ -44,7 +46,7 @@ from_needs a b (r ∷ rs) = elim (cases_Bool (leb a r.time)) [
 ]
 
 -- what a part released from a on needs before b is asked for by its walk
-asked : (version : ℕ) (t : Task) → IsTask version t → (a b : ℕ) (rs : List Release) → IsLegalPart t rs → All (λ r. a ≤ r.time) rs → sum_by (λ r. cond (ltb r.time b) r.need 0) rs ≤ request_of (digraph_of t) (walk_of rs) (b - a)
+pub asked : (version : ℕ) (t : Task) → IsTask version t → (a b : ℕ) (rs : List Release) → IsLegalPart t rs → All (λ r. a ≤ r.time) rs → sum_by (λ r. cond (ltb r.time b) r.need 0) rs ≤ request_of (digraph_of t) (walk_of rs) (b - a)
 asked version t ok a b [] part from = omega arith
 asked version t ok a b (r ∷ rs) part from =
     let here = All-head (λ r. a ≤ r.time) r rs from in
@@ -114,36 +116,46 @@ module _ (version : ℕ) (tasks : List Task) (ok : IsTaskSet version tasks) (con
       let in_tasks : All (λ job. job.task < length tasks) (jobs_of tasks rs) = All-map (λ job. job.task < length tasks) (job_of tasks) rs legal.of_tasks in
       omega (arith, sum-by_task f (length tasks) (jobs_of tasks rs) in_tasks, sums_request p a b (length tasks) (omega arith))
 
-  -- some time passes for each vertex and all walks
-  abbrev pub TimesPass : Type 0
-  TimesPass = (k v : ℕ) → k < length tasks → v < vertex_count (graph_at tasks k) → (walks : ℕ → List ℕ) → AreWalks tasks walks
-      → (t : ℕ) × (1 ≤ t) × (t ≤ deadline (graph_at tasks k) v) × (wcet (graph_at tasks k) v + requests tasks walks (task_at tasks k).priority (length tasks) t ≤ t)
+  module _ (k : ℕ) where
+    -- some time passes for each vertex of task k and all walks
+    abbrev pub TaskPasses : Type 0
+    TaskPasses = (v : ℕ) → v < vertex_count (graph_at tasks k) → (walks : ℕ → List ℕ) → AreWalks tasks walks
+        → (t : ℕ) × (1 ≤ t) × (t ≤ deadline (graph_at tasks k) v) × (wcet (graph_at tasks k) v + requests tasks walks (task_at tasks k).priority (length tasks) t ≤ t)
 
-  none_misses : TimesPass → (m j : ℕ) → j < m → j < length rs → Misses Fixed (jobs_of tasks rs) j → ⊥
-  none_misses pass zero j l h miss = omega arith
-  none_misses pass (suc m) j l h miss =
-      let jobs = jobs_of tasks rs in
-      let r = get_or rs j no_release in
-      let k = known tasks r (allowed_if_legal tasks rs legal j no_release h) in
-      let job = job_at-jobs_of tasks rs j h in
-      let (earlier, start) = misses_pass_no_time version tasks ok constrained rs legal j h miss (λ i lt same missed. none_misses pass m i (omega arith) (omega arith) missed) in
-      let (s, low, f) = start in
-      let in_tasks = slice_get_within tasks r.task k.task k.is_task in
-      let task : task_at tasks r.task ≡ k.task = get_or_from_slice_get tasks r.task k.task no_task k.is_task in
-      let here : r.vertex < length (task_at tasks r.task).vertices = subst (λ t. r.vertex < length t.vertices) (sym task) (slice_get_within k.task.vertices r.vertex k.vertex k.is_vertex) in
-      let vertex = ap (λ t. get_or t.vertices r.vertex no_vertex) task ∙ get_or_from_slice_get k.task.vertices r.vertex k.vertex no_vertex k.is_vertex in
-      let priority : (job_at jobs j).priority ≡ (task_at tasks r.task).priority = ap (λ x. x.priority) job ∙ rw (k.is_task) (ap (λ t. t.priority) (sym task)) in
-      let (t, one, due, fits) = pass r.task r.vertex in_tasks here (walk_from s) (are_walks s) in
-      let d : (job_at jobs j).deadline ≡ r.time + k.vertex.deadline = ap (λ x. x.deadline) job ∙ ap (λ x. r.time + x) (deadline_of_known tasks r k) in
-      let over = f t one (omega (arith, d, ap (λ x. x.time) job, ap (λ x. x.deadline) vertex)) in
-      let asks = needs_request (job_at jobs j).priority s (s + t) in
-      let back : (s + t) - s ≡ t = omega arith in
-      let asks' = rw (back, priority) at asks in
-      let over' = rw priority at over in
-      omega (arith, over', asks', fits, k.need, ap (λ x. x.need) job, ap (λ x. x.wcet) vertex)
+    pub none_misses : TaskPasses → (m j : ℕ) → j < m → j < length rs → (get_or rs j no_release).task ≡ k → Misses Fixed (jobs_of tasks rs) j → ⊥
+    none_misses pass zero j l h of_k miss = omega arith
+    none_misses pass (suc m) j l h of_k miss =
+        let jobs = jobs_of tasks rs in
+        let r = get_or rs j no_release in
+        let known_r = known tasks r (allowed_if_legal tasks rs legal j no_release h) in
+        let job = job_at-jobs_of tasks rs j h in
+        let earlier_of_k : (i : ℕ) → i < j → (job_at jobs i).task ≡ (job_at jobs j).task → (get_or rs i no_release).task ≡ k =
+        λ i lt same. sym (ap (λ x. x.task) (job_at-jobs_of tasks rs i (omega arith))) ∙ same ∙ ap (λ x. x.task) job ∙ of_k in
+        let (earlier, start) = misses_pass_no_time version tasks ok constrained rs legal j h miss (λ i lt same missed. none_misses pass m i (omega arith) (omega arith) (earlier_of_k i lt same) missed) in
+        let (s, low, f) = start in
+        let found : slice_get tasks k ≡ Some known_r.task = subst (λ n. slice_get tasks n ≡ Some known_r.task) of_k known_r.is_task in
+        let task : task_at tasks k ≡ known_r.task = get_or_from_slice_get tasks k known_r.task no_task found in
+        let here : r.vertex < length (task_at tasks k).vertices = subst (λ t. r.vertex < length t.vertices) (sym task) (slice_get_within known_r.task.vertices r.vertex known_r.vertex known_r.is_vertex) in
+        let vertex = ap (λ t. get_or t.vertices r.vertex no_vertex) task ∙ get_or_from_slice_get known_r.task.vertices r.vertex known_r.vertex no_vertex known_r.is_vertex in
+        let priority : (job_at jobs j).priority ≡ (task_at tasks k).priority = ap (λ x. x.priority) job ∙ rw (known_r.is_task) (ap (λ t. t.priority) (sym task)) in
+        let (t, one, due, fits) = pass r.vertex here (walk_from s) (are_walks s) in
+        let d : (job_at jobs j).deadline ≡ r.time + known_r.vertex.deadline = ap (λ x. x.deadline) job ∙ ap (λ x. r.time + x) (deadline_of_known tasks r known_r) in
+        let over = f t one (omega (arith, d, ap (λ x. x.time) job, ap (λ x. x.deadline) vertex)) in
+        let asks = needs_request (job_at jobs j).priority s (s + t) in
+        let back : (s + t) - s ≡ t = omega arith in
+        let asks' = rw (back, priority) at asks in
+        let over' = rw priority at over in
+        omega (arith, over', asks', fits, known_r.need, ap (λ x. x.need) job, ap (λ x. x.wcet) vertex)
+
+-- where some time passes for each vertex of a task, none of its jobs misses
+pub times_suffice_for_task : TimesSufficeForTask
+times_suffice_for_task version tasks ok constrained k pass rs legal j h of_k miss =
+    none_misses version tasks ok constrained rs legal k pass (suc j) j (omega arith) h (sym (ap (λ x. x.task) (job_at-jobs_of tasks rs j h)) ∙ of_k) miss
 
 pub times_suffice : (version : ℕ) (tasks : List Task) → IsTaskSet version tasks → AreConstrained tasks
     → ((k v : ℕ) → k < length tasks → v < vertex_count (graph_at tasks k) → (walks : ℕ → List ℕ) → AreWalks tasks walks
-      → (t : ℕ) × (1 ≤ t) × (t ≤ deadline (graph_at tasks k) v) × (wcet (graph_at tasks k) v + requests tasks walks (task_at tasks k).priority (length tasks) t ≤ t))
+    → (t : ℕ) × (1 ≤ t) × (t ≤ deadline (graph_at tasks k) v) × (wcet (graph_at tasks k) v + requests tasks walks (task_at tasks k).priority (length tasks) t ≤ t))
     → Schedulable tasks Fixed
-times_suffice version tasks ok constrained pass rs legal j h miss = none_misses version tasks ok constrained rs legal pass (suc j) j (omega arith) h miss
+times_suffice version tasks ok constrained pass rs legal j h miss =
+    let k = (get_or rs j no_release).task in
+    none_misses version tasks ok constrained rs legal k (λ v here walks are. pass k v (legal.of_tasks j no_release h) here walks are) (suc j) j (omega arith) h refl miss

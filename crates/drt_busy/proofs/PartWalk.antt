@@ -1,28 +1,24 @@
 -- The releases of a task follow a walk of its graph.
-use Rattle.std.proofs.Common.{inl, inr, ◌⊎◌, ◌≡◌, ℕ, zero, suc, ◌+◌, ◌-◌, ◌<◌, ◌≤◌, Bool, true, false, cond, eqb, ltb, leb, List, [], ◌∷◌, length, get_or, map, filter, sum_by, Option, Some, None, All, AllPairs, IsSomeAnd, slice_get, refl, sym, ap, ◌∙◌, subst, arith}
+use Rattle.std.proofs.Common.{inl, inr, ◌≡◌, ℕ, zero, suc, ◌+◌, ◌-◌, ◌<◌, ◌≤◌, cond, eqb, ltb, List, [], ◌∷◌, length, get_or, sum_by, Option, Some, None, All, AllPairs, IsSomeAnd, slice_get, refl, sym, ap, ◌∙◌, subst, arith}
 use Rattle.std.specs.List.{range_with_len}
-use Rattle.std.specs.Option.{option_map, unwrap_or}
 use Rattle.std.proofs.lemmas.Bool.{cases_eq, cases_lt, eq-eqb, ne_eqb, lt-ltb, le-ltb}
-use Rattle.std.proofs.lemmas.List.{get_or-map, get_or_past}
+use Rattle.std.proofs.lemmas.List.{get_or-map}
 use Rattle.std.proofs.lemmas.List.Elements.{All-head, All-tail}
 use Rattle.std.proofs.lemmas.List.FromFn.{get_or-range_with_len, length-range_with_len}
 use Rattle.std.proofs.lemmas.List.Sums.{sum_by-cons}
-use Rattle.std.proofs.lemmas.Option.{get_or_from_slice_get, slice_get_within, slice_get-get_or, slice_get_past}
+use Rattle.std.proofs.lemmas.Option.{get_or_from_slice_get, slice_get_within}
 use Rattle.drt_model.specs.declared.jobs.Release.{Release}
 use Rattle.drt_model.specs.declared.tasks.Edge.{Edge}
 use Rattle.drt_model.specs.declared.tasks.Task.{Task}
 use Rattle.drt_model.specs.declared.tasks.Vertex.{Vertex}
-use Rattle.drt_model.specs.Digraph.{Digraph, digraph_of, edges_from, out_edges, vertex_count, vertex_of, no_vertex}
-use Rattle.drt_model.specs.Legal.{AllNeighbours, IsReleaseOf, Follows, Leads, IsLegalPart}
+use Rattle.drt_model.specs.Digraph.{digraph_of, edges_from, out_edges, no_vertex}
+use Rattle.drt_model.specs.Legal.{AllNeighbours, IsReleaseOf, Follows, IsLegalPart}
 use Rattle.drt_model.specs.Limits.{IsTask, IsEdgeAmong}
-use Rattle.drt_model.specs.RequestFunction.{requested_from, request}
+use Rattle.drt_model.specs.RequestFunction.{requested_from}
 use Rattle.drt_model.specs.Walk.{sep_in, sep, or_zero, gap, IsEdge, IsPath, wcet, deadline, last_of, span, work}
 use Rattle.drt_model.proofs.Neighbours.{filter-yes, filter-no, AllNeighbours-tail, AllNeighbours-head}
-use Rattle.drt_busy.specs.Choice.{IsWalk, due_of, request_of}
-
--- the vertices of some releases
-abbrev pub walk_of : List Release → List ℕ
-walk_of rs = map (λ r. r.vertex) rs
+use Rattle.drt_busy.specs.Choice.{IsWalk}
+use Rattle.drt_busy.specs.PartWalk.{walk_of}
 
 -- one edge each way
 abbrev AreSingle : List Edge → Type 0

@@ -1,6 +1,6 @@
 -- The releases of walks are legal, and what they need.
-use Rattle.std.proofs.Common.{inl, inr, ◌⊎◌, ◌≡◌, ℕ, zero, suc, ◌+◌, ◌-◌, ◌<◌, ◌≤◌, Bool, true, false, ◌&&◌, cond, eqb, leb, ltb, List, [], ◌∷◌, ◌++◌, length, get_or, map, filter, sum_by, Option, Some, None, All, Contains, slice_get, refl, sym, ap, ◌∙◌, subst, arith}
-use Rattle.std.proofs.lemmas.Bool.{cases_eq, cases_lt, cases_Bool, eq-eqb, ne_eqb, eqb-true, le-leb, lt-ltb, le-ltb}
+use Rattle.std.proofs.Common.{inl, inr, ◌≡◌, ℕ, zero, suc, ◌+◌, ◌<◌, ◌≤◌, true, false, ◌&&◌, cond, eqb, leb, ltb, List, [], ◌∷◌, ◌++◌, length, get_or, sum_by, Some, All, slice_get, refl, sym, ap, ◌∙◌, subst, arith}
+use Rattle.std.proofs.lemmas.Bool.{cases_Bool, eqb-true, le-leb}
 use Rattle.std.proofs.lemmas.List.Elements.{All-nil, All-cons, All-append, All-weaker}
 use Rattle.std.proofs.lemmas.List.Sums.{sum_by-cons, sum_by-append}
 use Rattle.std.proofs.lemmas.Option.{slice_get-get_or, same_Some}
@@ -12,8 +12,8 @@ use Rattle.drt_model.specs.Digraph.{Digraph, digraph_of, edges_from, vertex_coun
 use Rattle.drt_model.specs.Legal.{AllNeighbours, Follows, IsAllowed, IsAllowedStep, IsLegal, IsReleaseOf}
 use Rattle.drt_model.specs.Limits.{IsTaskSet, IsTask, IsEdgeAmong, IsVertex}
 use Rattle.drt_model.specs.RequestFunction.{requested_from}
-use Rattle.drt_model.specs.Schedulable.{job_of, jobs_of, deadline_of, priority_of}
-use Rattle.drt_model.specs.Walk.{sep_in, sep, or_zero, gap, IsEdge, IsPath, wcet, deadline, last_of, span, work}
+use Rattle.drt_model.specs.Schedulable.{job_of, jobs_of, deadline_of}
+use Rattle.drt_model.specs.Walk.{sep_in, gap, IsEdge, IsPath, wcet, deadline, last_of, span, work}
 use Rattle.drt_model.proofs.LegalLemmas.{legal_if_allowed}
 use Rattle.drt_model.proofs.Neighbours.{filter-yes, filter-no, AllNeighbours-nil, AllNeighbours-one, AllNeighbours-cons, AllNeighbours-head, AllNeighbours-tail}
 use Rattle.drt_busy.specs.Choice.{AreDueBy, AreWalks, IsWalk, due_of, efforts, graph_at, no_task, request_of, requests, task_at}
@@ -22,7 +22,7 @@ use Rattle.drt_busy.specs.WalkReleases.{all_releases, release_at, releases_from,
 use Rattle.drt_busy.proofs.ByTask.{sum-map}
 use Rattle.drt_busy.proofs.EdfWalks.{deadline_here, source_due}
 use Rattle.drt_busy.proofs.FixedWalks.{priority_here}
-use Rattle.drt_busy.proofs.PartWalk.{out_is, gap_is}
+use Rattle.drt_busy.proofs.PartWalk.{out_is}
 
 -- neighbours in two lists one after the other
 append_neighbours : {X : Type 0} (R : X → X → Type 0) (P Q : X → Type 0) (xs ys : List X) → AllNeighbours R xs → AllNeighbours R ys → All P xs → All Q ys → ((x y : X) → P x → Q y → R x y) → AllNeighbours R (xs ++ ys)
@@ -128,7 +128,7 @@ module _ (version : ℕ) (tasks : List Task) (ok : IsTaskSet version tasks) wher
         let (each', steps') = task_allowed k h (walks k) (are k h) in (
           All-append (IsAllowed tasks) (all_releases tasks walks k) (releases_of (graph_at tasks k) k (walks k)) each each',
           append_neighbours (IsAllowedStep tasks) (λ r. r.task < k) (λ r. r.task ≡ k) (all_releases tasks walks k) (releases_of (graph_at tasks k) k (walks k)) steps steps'
-          (below k) (of_task (graph_at tasks k) k (walks k)) (λ x y p q. inl (omega arith)),
+              (below k) (of_task (graph_at tasks k) k (walks k)) (λ x y p q. inl (omega arith)),
         )
 
     -- the releases of walks are legal

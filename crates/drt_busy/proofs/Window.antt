@@ -1,11 +1,12 @@
 -- What a task releases in a window is a walk of its own.
-use Rattle.std.proofs.Common.{inl, inr, ◌≡◌, ℕ, ◌≤◌, Bool, true, false, ◌&&◌, cond, leb, ltb, List, [], ◌∷◌, filter, sum_by, refl, sym, ◌∙◌, arith}
+use Rattle.std.proofs.Common.{inl, inr, ◌≡◌, ℕ, ◌≤◌, Bool, true, false, cond, leb, ltb, List, [], ◌∷◌, filter, sum_by, refl, sym, ◌∙◌, arith}
 use Rattle.std.proofs.lemmas.Bool.{cases_Bool, cases_lt, leb-true, le-leb, lt-ltb, le-ltb, and_parts, both_ways}
 use Rattle.std.proofs.lemmas.List.Elements.{All-filter}
 use Rattle.std.proofs.lemmas.List.Sums.{sum_by-cons}
 use Rattle.drt_model.specs.declared.tasks.Task.{Task}
 use Rattle.drt_model.specs.declared.jobs.Release.{Release}
 use Rattle.drt_model.specs.Legal.{AllNeighbours, IsReleaseOf, Follows, IsLegalPart}
+use Rattle.drt_busy.specs.PartWalk.{is_within}
 use Rattle.drt_model.proofs.Neighbours.{filter-yes, filter-no, AllNeighbours-nil, AllNeighbours-one, AllNeighbours-tail, AllNeighbours-cons, AllNeighbours-head}
 
 -- a test that a walk enters and leaves once: after it has left, it is past
@@ -38,10 +39,6 @@ module _ (t : Task) (q : Release → Bool) (Past : Release → Type 0)
 
   pub window_walk : (rs : List Release) → IsLegalPart t rs → IsLegalPart t (filter q rs)
   window_walk rs w = record { each = All-filter q (IsReleaseOf t) rs w.each; steps = window_steps rs w.steps }
-
--- released from a up to b
-abbrev pub is_within : ℕ → ℕ → Release → Bool
-is_within a b r = leb a r.time && ltb r.time b
 
 pub follows_later : (t : Task) (x y : Release) → Follows t x y → x.time ≤ y.time
 follows_later t x y (i, e, h, at, (from, to, sep)) = omega arith

@@ -2,5 +2,6 @@ pub mod OneTask
 pub mod Needs
 pub mod Laws
 pub mod Choice
+pub mod PartWalk
 pub mod WalkReleases
 pub mod Decide
