@@ -1,0 +1,14 @@
+//! A ratio with its evidence.
+use drt_model::Row;
+use drt_num::Ratio;
+
+/// A ratio of a graph, a cycle that has it, and a potential for each vertex.
+///
+/// The cycle is a list of vertices, each with an edge to the next and the last with one to the first. It is empty where
+/// the ratio is 0/1, which stands for a graph without cycles.
+#[derive(Debug, Drop)]
+pub struct RatioProof {
+    pub ratio: Ratio,
+    pub cycle: Row<u32>,
+    pub potentials: Row<i64>,
+}
