@@ -14,6 +14,8 @@ mod cycles;
 mod improving;
 mod levels;
 mod ratio_proof;
+#[cfg(test)]
+mod tests;
 mod traces;
 
 pub use checking::check_ratio;

@@ -1,0 +1,130 @@
+use super::{RatioProof, check_ratio, greatest};
+use drt_graph::{Graph, Graphs, check};
+use drt_model::{Edge, Memory, Name, Row, Task, Vertex, task_set};
+use drt_num::Ratio;
+use std::alloc::Global;
+use std::test::Fail;
+
+// A task of vertices a, b, c .. with these execution times and these edges.
+fn task(alloc: Global, wcets: &[u32], edges: &[Edge]) -> Result<Task, Memory> {
+    let mut vertices = Vec::new(alloc);
+    for (i, wcet) in wcets.iter().enumerate() {
+        let letter = b'a' + (i % 26) as u8;
+        vertices.push(Vertex {
+            name: Name::from_vec(Vec::from_slice(alloc, &[letter])?),
+            wcet: *wcet,
+            deadline: 1,
+        })?;
+    }
+    Ok(Task {
+        name: Name::from_vec(Vec::from_slice(alloc, b"T")?),
+        priority: 1,
+        vertices: Row::from_vec(vertices),
+        edges: Row::from_vec(Vec::from_slice(alloc, edges)?),
+    })
+}
+
+// The graphs of a set of that one task.
+fn graphs(alloc: Global, wcets: &[u32], edges: &[Edge]) -> Result<Graphs, Fail> {
+    let mut tasks = Vec::new(alloc);
+    tasks.push(task(alloc, wcets, edges)?)?;
+    let set = task_set(1, Row::from_vec(tasks)).ok_or("within the limits")?;
+    Ok(check(alloc, &set)?)
+}
+
+fn edge(from: u32, to: u32, sep: u32) -> Edge {
+    Edge { from, to, sep }
+}
+
+#[test]
+fn ratios_and_potentials_by_hand(rt: HostRuntime) -> Result<(), Fail> {
+    let alloc = rt.alloc();
+    // Three speeds of an engine: the loops of the second and of the third vertex have equal ratios.
+    let engine = [
+        edge(0, 0, 60),
+        edge(0, 1, 60),
+        edge(1, 0, 30),
+        edge(1, 1, 30),
+        edge(1, 2, 30),
+        edge(2, 2, 15),
+        edge(2, 1, 15),
+    ];
+    // The best cycle is that of the first two vertices. The shortest is the loop, the heaviest goes through the third.
+    let neither = [
+        edge(0, 0, 10),
+        edge(0, 1, 4),
+        edge(1, 0, 4),
+        edge(0, 2, 20),
+        edge(2, 0, 20),
+    ];
+    let all = [edge(0, 1, 5), edge(1, 2, 5), edge(2, 0, 2)];
+    let cases: [(&[u32], &[Edge], u128, u128, &[i64]); 9] = [
+        (&[12, 8, 4], &engine, 4, 15, &[120, 60, 0]),
+        (&[10], &[edge(0, 0, 50)], 1, 5, &[0]),
+        (&[20], &[edge(0, 0, 200)], 1, 10, &[0]),
+        (&[2], &[edge(0, 0, 5)], 2, 5, &[0]),
+        (&[4], &[edge(0, 0, 7)], 4, 7, &[0]),
+        (&[6], &[], 0, 1, &[0]),
+        (&[2, 3], &[edge(0, 1, 5)], 0, 1, &[0, 3]),
+        (&[3, 1, 9], &neither, 1, 2, &[2, 0, 0]),
+        (&[1, 2, 3], &all, 1, 2, &[1, 0, 1]),
+    ];
+    for (wcets, edges, num, den, potentials) in cases {
+        let graphs = graphs(alloc, wcets, edges)?;
+        assert_eq!(rt; graphs.count(), 1);
+        let graph = graphs.graph(0);
+        let proof = greatest(alloc, graph)?;
+        assert_eq!(rt; proof.ratio.num(), num);
+        assert_eq!(rt; proof.ratio.den(), den);
+        assert_eq!(rt; proof.cycle.as_slice().is_empty(), num == 0);
+        assert_eq!(rt; proof.potentials.as_slice(), potentials);
+        assert!(rt; check_ratio(graph, &proof));
+    }
+    Ok(())
+}
+
+// A claim of 2/5 or 1/2 or 0/1 about the graph.
+fn claim(
+    alloc: Global,
+    graph: &Graph,
+    num: u128,
+    den: u128,
+    cycle: &[u32],
+    potentials: &[i64],
+) -> Result<bool, Memory> {
+    if num > 9 || den == 0 || den > 9 {
+        return Ok(false);
+    }
+    let proof = RatioProof {
+        ratio: Ratio::new(num, den),
+        cycle: Row::from_vec(Vec::from_slice(alloc, cycle)?),
+        potentials: Row::from_vec(Vec::from_slice(alloc, potentials)?),
+    };
+    Ok(check_ratio(graph, &proof))
+}
+
+#[test]
+fn a_claim_is_kept_to_each_rule(rt: HostRuntime) -> Result<(), Fail> {
+    let alloc = rt.alloc();
+    let graphs = graphs(alloc, &[2], &[edge(0, 0, 5)])?;
+    assert_eq!(rt; graphs.count(), 1);
+    let cases: [(u128, u128, &[u32], &[i64], bool); 10] = [
+        (2, 5, &[0], &[0], true),
+        (2, 5, &[0], &[-7], true),
+        (2, 5, &[0, 0], &[0], true),
+        (2, 5, &[0], &[], false),
+        (2, 5, &[0], &[0, 0], false),
+        (2, 5, &[], &[0], false),
+        (2, 5, &[1], &[0], false),
+        (1, 2, &[0], &[0], false),
+        (0, 1, &[], &[0], false),
+        (0, 1, &[0], &[0], false),
+    ];
+    for (num, den, cycle, potentials, kept) in cases {
+        assert_eq!(rt;
+            claim(alloc, graphs.graph(0), num, den, cycle, potentials)?,
+            kept
+        );
+    }
+    Ok(())
+}
