@@ -14,15 +14,15 @@ use Rattle.drt_model.specs.Utilisation.{AreDistinct}
 use Rattle.drt_ratio.specs.Levels.{height, level_of, IsRound, IsTower, IsTrace, IsRepeat, IsGain}
 use Rattle.drt_ratio.proofs.Paths.{path_both, path_first, path_rest, last_both, work_both, span_both, path_cycle, climbs_path}
 
--- what a walk of few edges gains at most
+-- What a walk of few edges gains at most.
 pub record IsMost (g : Digraph) (a b n v most : ℕ) : Type 0 where
   pub each : (u : ℕ) (vs : List ℕ) → IsPath g u vs → last_of u vs ≡ v → length vs < n → b * work g vs ≤ most + a * span g u vs
 
--- in plain numbers, of the parts of a walk
+-- In plain numbers, of the parts of a walk.
 parts : (a b h most w1 w2 w3 s1 s2 s3 : ℕ) → b * (w1 + (w2 + w3)) ≡ h + a * (s1 + (s2 + s3)) → most < h → b * (w1 + w3) ≤ most + a * (s1 + s3) → a * s2 < b * w2
 parts a b h most w1 w2 w3 s1 s2 s3 e l m = omega arith
 
--- the loop cs of a walk gains where the walk without it gains less
+-- The loop cs of a walk gains where the walk without it gains less.
 pub loop_gains : (g : Digraph) (a b n v h most u : ℕ) (xs cs ys : List ℕ) → IsPath g u (xs ++ (cs ++ ys)) → last_of u (xs ++ (cs ++ ys)) ≡ v → b * work g (xs ++ (cs ++ ys)) ≡ h + a * span g u (xs ++ (cs ++ ys)) → most < h → IsMost g a b n v most → length (xs ++ ys) < n → last_of (last_of u xs) cs ≡ last_of u xs → IsPath g (last_of u xs) cs × (a * span g (last_of u xs) cs < b * work g cs)
 loop_gains g a b n v h most u xs cs ys path end sum more is short back =
     let rest = path_rest g u xs (cs ++ ys) path in
@@ -47,7 +47,7 @@ in_parts vs i m = ap (λ ys. take i vs ++ ys) (whole m (drop i vs)) ∙ whole i 
     whole (suc k) [] = refl
     whole (suc k) (x ∷ xs) = ap (λ ys. x ∷ ys) (whole k xs)
 
--- where a path leads from a vertex on, all its vertices are in range
+-- Where a path leads from a vertex on, all its vertices are in range.
 pub path_below : (g : Digraph) → IsSound g → (u : ℕ) (vs : List ℕ) → IsPath g u vs → (k : ℕ) → k < length vs → get_or vs k 0 < vertex_count g
 path_below g sound u [] p k l = absurd (omega arith)
 path_below g sound u (v ∷ vs) p zero l = (target_of g sound u v (gap g u v) p.0).0
@@ -68,7 +68,7 @@ any_below (x ∷ xs) n q each e = go (or_cases (eqb q x) (list_any (eqb q) xs) e
     go (inl h) ih = let same = eqb-true q x h in omega (arith, each 0 (omega arith))
     go (inr h) ih = ih h
 
--- distinct numbers below n are at most n
+-- Distinct numbers below n are at most n.
 pub few_distinct : (xs : List ℕ) (n : ℕ) → AreDistinct xs → ((k : ℕ) → k < length xs → get_or xs k 0 < n) → length xs ≤ n
 few_distinct xs n distinct each =
     length-le_from_distinct_below xs n
@@ -88,7 +88,7 @@ keeps_up g a b levels v l tower j (suc k) m =
     let up = (tower.rounds (j + k) (omega arith)).raised.keeps v l in
     rw e (omega (arith, up, keeps_up g a b levels v l tower j k (omega arith)))
 
--- the last level but one has the most that a walk of few edges gains
+-- The last level but one has the most that a walk of few edges gains.
 pub tower_most : (g : Digraph) (a b : ℕ) (levels : List Level) (n v : ℕ) → IsSound g → IsTower g a b levels → length levels ≡ n + 1 → v < vertex_count g → IsMost g a b n v (height (level_of levels (n - 1)) v)
 tower_most g a b levels n v sound tower count l = record {
   each = λ u vs path end short.
@@ -120,7 +120,7 @@ two_takes zero m vs = let e : 0 + m ≡ m = omega arith in rw e refl
 two_takes (suc i) m [] = take_none m ∙ sym (take_none (suc i + m))
 two_takes (suc i) m (v ∷ vs) = let e : suc i + m ≡ suc (i + m) = omega arith in rw e (ap (λ ys. v ∷ ys) (two_takes i m vs))
 
--- the loop of a walk between two places with the same vertex
+-- The loop of a walk between two places with the same vertex.
 pub loop_found : (g : Digraph) (a b n v h most u i m : ℕ) (vs : List ℕ) → IsPath g u vs → last_of u vs ≡ v → length vs ≤ n → b * work g vs ≡ h + a * span g u vs → most < h → IsMost g a b n v most → 0 < m → i + m ≤ length vs → get_or (u ∷ vs) i 0 ≡ get_or (u ∷ vs) (i + m) 0 → IsCycle g (take m (drop i vs)) × (a * cycle_span g (take m (drop i vs)) < b * work g (take m (drop i vs)))
 loop_found g a b n v h most u i m vs path end short sum more is some l same =
     let e = in_parts vs i m in
@@ -146,7 +146,7 @@ loop_distinct u i m vs l same differ p q before within e =
         let at : suc (i + q) ≡ i + m = omega arith in
         differ i (suc (i + p)) (omega arith) (omega arith) (same ∙ sym (ap (λ k. get_or (u ∷ vs) k 0) at) ∙ sym f)
 
--- the cycle that the first repeat of the walk shows
+-- The cycle that the first repeat of the walk shows.
 pub gain_found : (g : Digraph) (a b : ℕ) (levels : List Level) (n v i j : ℕ) (walk : List ℕ) → IsSound g → IsTower g a b levels → length levels ≡ n + 1 → n ≡ vertex_count g → 0 < n → v < vertex_count g → (height (level_of levels n) v ≡ height (level_of levels (n - 1)) v → ⊥) → IsTrace g a b n v (height (level_of levels n) v) walk → IsRepeat walk i j → IsGain g a b (take (j + 1 - (i + 1)) (drop (i + 1) walk))
 gain_found g a b levels n v i j [] sound tower count size some l differ trace again = absurd trace
 gain_found g a b levels n v i j (u ∷ vs) sound tower count size some l differ (path, end, short, sum) again =
@@ -163,7 +163,7 @@ gain_found g a b levels n v i j (u ∷ vs) sound tower count size some l differ 
     let few : length (take (j - i) (drop i vs)) ≤ vertex_count g = simp (length-take, length-drop) (omega arith) in
     rw (m, add-one) (record { is = r.0; distinct = d; few = few; gains = r.1 })
 
--- so a walk as long as the vertices are many repeats one
+-- So a walk as long as the vertices are many repeats one.
 pub must_repeat : (g : Digraph) (a b : ℕ) (levels : List Level) (n v : ℕ) (walk : List ℕ) → IsSound g → IsTower g a b levels → length levels ≡ n + 1 → n ≡ vertex_count g → 0 < n → v < vertex_count g → (height (level_of levels n) v ≡ height (level_of levels (n - 1)) v → ⊥) → IsTrace g a b n v (height (level_of levels n) v) walk → AreDistinct walk → ⊥
 must_repeat g a b levels n v [] sound tower count size some l differ trace distinct = trace
 must_repeat g a b levels n v (u ∷ vs) sound tower count size some l differ (path, end, short, sum) distinct =

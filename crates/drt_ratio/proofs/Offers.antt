@@ -9,7 +9,7 @@ use Rattle.drt_graph.proofs.Edges.{source_of, gap_of}
 use Rattle.drt_ratio.specs.declared.levels.Level.{Level}
 use Rattle.drt_ratio.specs.Levels.{height, IsRaised, Comes, IsBelow}
 
--- a level is at most one edge above the one below it
+-- A level is at most one edge above the one below it.
 pub raised_below : (g : Digraph) (a b top : ℕ) (low high : Level) → IsSound g → b ≤ 100000000 → IsRaised g a b low high → IsBelow g low top → IsBelow g high (top + 100000000000000)
 raised_below g a b top low high sound small is below v l = go (is.comes v l)
   where
@@ -41,7 +41,7 @@ raise_one g a b low high u v p is edge l m more = record {
         rw (e, get_or-set_same high.heights v (height low u + b * wcet g v - a * p) 0 l, get_or-set_same high.from v u 0 m) (inr (record { edge = q.1; sum = rw (q.0) (omega arith) }))
     comes w k (inr differ) = rw (get_or-set_other high.heights v w (height low u + b * wcet g v - a * p) 0 differ, get_or-set_other high.from v w u 0 differ) (is.comes w k)
 
--- the loss by one edge
+-- The loss by one edge.
 pub loss_small : (g : Digraph) (a u k : ℕ) → IsSound g → a ≤ 100000000 → u < vertex_count g → k < out_degree g u → a * (edge_of g u k).sep ≤ 100000000000000
 loss_small g a u k sound small l m = mul-le a (edge_of g u k).sep 100000000 1000000 small (sound.sep u k l m).1
 

@@ -1,23 +1,20 @@
--- Ratios that rise, and what stands once none does.
-use Rattle.std.proofs.Common.{◌≡◌, ℕ, ℤ, pos, zero, suc, ◌+◌, ◌-◌, ◌*◌, ◌/◌, ◌<◌, ◌≤◌, List, [], ◌∷◌, Some, length, get_or, ◌⊎◌, inl, inr, refl, ap, arith, ◌∙◌, mul-le-mul_left}
+-- Ratios that rise, and what the levels say once none does.
+use Rattle.std.proofs.Common.{◌≡◌, ℕ, pos, zero, suc, ◌+◌, ◌-◌, ◌*◌, ◌/◌, ◌<◌, ◌≤◌, List, [], ◌∷◌, Some, length, get_or, ◌⊎◌, inl, inr, refl, ap, arith, mul-le-mul_left}
 use Rattle.std.proofs.lemmas.Bool.{cases_lt}
 use Rattle.std.proofs.lemmas.Nat.{mul-le, le-div}
 use Rattle.std.proofs.Math.Nat.{div-mul-le_self, div-le_self, le_trans}
 use Rattle.std.proofs.lemmas.Int.{ints}
-use Rattle.std.specs.Int.{IsGcd}
 use Rattle.drt_model.specs.Digraph.{Digraph, IsSound, vertex_count}
 use Rattle.drt_model.specs.Walk.{sep, gap, wcet, IsEdge, IsPath, last_of, work, span, IsCycle, cycle_span}
 use Rattle.drt_graph.proofs.Edges.{target_of, source_of, gap_of}
 use Rattle.drt_ratio.specs.declared.levels.Level.{Level}
-use Rattle.drt_model.specs.Utilisation.{AreDistinct, HasRatio, IsLeast}
-use Rattle.drt_model.specs.Potential.{IsPotential, potential_of, AreCanonical}
-use Rattle.drt_ratio.specs.Claims.{IsInReach, IsRatioProof}
-use Rattle.drt_model.specs.RatioRules.{IsClosed, IsTight, KeepsRules}
+use Rattle.drt_model.specs.Utilisation.{HasRatio, IsLeast}
+use Rattle.drt_model.specs.Potential.{IsPotential}
 use Rattle.drt_ratio.specs.Levels.{height, level_of, Comes, IsRound, IsTower, IsSettled}
 use Rattle.drt_ratio.proofs.Paths.{work_cons, span_cons, work_none, span_none, fits_cycle}
-use Rattle.drt_ratio.proofs.Loops.{IsMost, tower_most, round_edge}
+use Rattle.drt_ratio.proofs.Loops.{IsMost, round_edge}
 
--- the sums of a path are at least its edges, and at most a million each
+-- The sums of a path are at least its edges, and at most a million each.
 pub record AreSums (g : Digraph) (u : ℕ) (vs : List ℕ) : Type 0 where
   pub work_least : length vs ≤ work g vs
   pub work_most : work g vs ≤ length vs * 1000000
@@ -49,7 +46,7 @@ cycle_sums g sound (v ∷ vs) is =
     let r = path_sums g sound (last_of v vs) (v ∷ vs) is in
     record { work_some = omega (arith, r.work_least); work_most = r.work_most; span_some = omega (arith, r.span_least); span_most = r.span_most }
 
--- where a / b is below w / s, it is below the same ratio in lowest terms
+-- Where a / b is below w / s, it is below the same ratio in lowest terms.
 pub cross : (a b c d w s : ℕ) → a * s < b * w → c * s ≡ w * d → 1 ≤ d → a * d < b * c
 cross a b c d w s less same some = go (cases_lt (a * d) (b * c))
   where
@@ -61,7 +58,7 @@ cross a b c d w s less same some = go (cases_lt (a * d) (b * c))
         let z : b * (c * s) ≡ b * (w * d) = ap (λ n. b * n) same in
         absurd (omega arith)
 
--- so it is below it by a whole at a scale of at least the product of the denominators
+-- So it is below it by a whole at a scale of at least the product of the denominators.
 pub steps_up : (a b c d scale : ℕ) → a * d < b * c → 1 ≤ b → 1 ≤ d → b * d ≤ scale → a * scale / b < c * scale / d
 steps_up a b c d scale less some_b some_d fits = le-div (suc (a * scale / b)) (c * scale) d some_d (go (cases_lt (c * scale) (suc (a * scale / b) * d)))
   where
@@ -93,11 +90,11 @@ has_ratio g c d (v ∷ vs) is same some more = (is, omega arith, positive c (spa
     positive zero s w d e x y = let p : 1 * 1 ≤ w * d = mul-le 1 1 w d y x in absurd (omega arith)
     positive (suc c) s w d e x y = omega arith
 
--- a walk that ends at v and gains h
+-- A walk that ends at v and gains h.
 pub IsReached : Digraph → ℕ → ℕ → ℕ → ℕ → ℕ → Type 0
 IsReached g a b n v h = (u : ℕ) × ((vs : List ℕ) × IsPath g u vs × (last_of u vs ≡ v) × (length vs ≤ n) × (b * work g vs ≡ h + a * span g u vs))
 
--- from the height at a level down along the walk that it belongs to
+-- From the height at a level down along the walk that it belongs to.
 reaches : (g : Digraph) (a b : ℕ) (levels : List Level) (n v h : ℕ) → IsSound g → IsTower g a b levels → (k at : ℕ) (vs : List ℕ) → k < length levels → at < vertex_count g → IsPath g at vs → last_of at vs ≡ v → length vs + k ≤ n → b * work g vs + height (level_of levels k) at ≡ h + a * span g at vs → IsReached g a b n v h
 unfolding IsReached
 reaches g a b levels n v h sound tower zero at vs m l path end short sum = let z = tower.opens at in (at, (vs, path, end, omega arith, omega arith))
@@ -122,7 +119,7 @@ is_potential g a b n v h size some most (u, (vs, path, end, short, sum)) = recor
   reached = (u, (vs, path, end, omega arith, omega (arith, ints)));
 }
 
--- once the last round raises nothing no cycle gains
+-- Once the last round raises nothing no cycle gains.
 pub settled_least : (g : Digraph) (a b : ℕ) (levels : List Level) (n : ℕ) → IsSound g → IsTower g a b levels → length levels ≡ n + 1 → n ≡ vertex_count g → 0 < n → IsSettled levels n → IsLeast g a b
 settled_least g a b levels n sound tower count size some settled cycle is = fits_cycle g a b (λ v. height (level_of levels (n - 1)) v) fits cycle is
   where
@@ -133,17 +130,6 @@ settled_least g a b levels n sound tower count size some settled cycle is = fits
         let l = (target_of g sound u v (gap g u v) edge).0 in
         omega (arith, round_edge g a b (level_of levels (n - 1)) (level_of levels n) sound round u v edge, settled v (omega arith))
 
-pub ratio_proof : (g : Digraph) (a b : ℕ) (levels : List Level) (n : ℕ) (cycle : List ℕ) (hs : List ℤ) → IsSound g → IsTower g a b levels → length levels ≡ n + 1 → n ≡ vertex_count g → IsSettled levels n → IsGcd a b 1 → HasRatio g a b cycle → AreDistinct cycle → length hs ≡ n → ((v : ℕ) → v < n → potential_of hs v ≡ pos (height (level_of levels (n - 1)) v)) → IsRatioProof g a b cycle hs
-ratio_proof g a b levels n cycle hs sound tower count size settled lowest has distinct counted are =
-    let some : 0 < n = omega (arith, sound.some) in
-    record {
-      lowest = lowest;
-      least = settled_least g a b levels n sound tower count size some settled;
-      has = has;
-      distinct = distinct;
-      canonical = record { counted = counted ∙ size; each = λ v l. (let e = are v (omega arith) in rw e (is_potential g a b n v (height (level_of levels (n - 1)) v) size some (tower_most g a b levels n v sound tower count l) (tower_reaches g a b levels (n - 1) v sound tower (omega arith) l))) };
-    }
-
 pub settled_fits : (g : Digraph) (a b : ℕ) (levels : List Level) (n : ℕ) → IsSound g → IsTower g a b levels → length levels ≡ n + 1 → n ≡ vertex_count g → 0 < n → IsSettled levels n → (u v p : ℕ) → sep g u v ≡ Some p → height (level_of levels (n - 1)) u + b * wcet g v ≤ height (level_of levels (n - 1)) v + a * p
 settled_fits g a b levels n sound tower count size some settled u v p edge =
     let last : n - 1 + 1 ≡ n = omega arith in
@@ -152,38 +138,3 @@ settled_fits g a b levels n sound tower count size some settled u v p edge =
     let q = gap_of g u v p edge in
     let e = rw (q.0) at (round_edge g a b (level_of levels (n - 1)) (level_of levels n) sound round u v q.1) in
     omega (arith, e, settled v (omega arith))
-
-closed_of : (g : Digraph) (a b : ℕ) (cycle : List ℕ) → HasRatio g a b cycle → IsClosed g a cycle
-closed_of g a b [] has = has.0
-closed_of g a b (v ∷ vs) has = (λ e. (let some = has.2 in absurd (omega arith)), has.0)
-
-tight_of : (g : Digraph) (a b : ℕ) (cycle : List ℕ) → HasRatio g a b cycle → IsTight g a b cycle
-tight_of g a b [] has = tt
-tight_of g a b (v ∷ vs) has = has.1
-
-pub rules_kept : (g : Digraph) (a b : ℕ) (levels : List Level) (n : ℕ) (cycle : List ℕ) (hs : List ℤ) → IsSound g → IsTower g a b levels → length levels ≡ n + 1 → n ≡ vertex_count g → IsSettled levels n → HasRatio g a b cycle → length hs ≡ n → ((v : ℕ) → v < n → potential_of hs v ≡ pos (height (level_of levels (n - 1)) v)) → KeepsRules g a b cycle hs
-rules_kept g a b levels n cycle hs sound tower count size settled has counted are =
-    let some : 0 < n = omega (arith, sound.some) in
-    record {
-      counted = counted ∙ size;
-      fits = λ u v p edge.
-          (let f = settled_fits g a b levels n sound tower count size some settled u v p edge in
-          let x = are u (omega (arith, source_of g sound u v p edge)) in
-          let y = are v (omega (arith, (target_of g sound u v p edge).0)) in
-          rw (x, y) (omega (arith, ints, f)));
-      closed = closed_of g a b cycle has;
-      tight = tight_of g a b cycle has;
-    }
-
-pub in_reach : (g : Digraph) (a b : ℕ) (levels : List Level) (n : ℕ) (hs : List ℤ) → IsSound g → IsTower g a b levels → length levels ≡ n + 1 → n ≡ vertex_count g → a ≤ 100000000 → b ≤ 100000000 → ((v : ℕ) → v < n → potential_of hs v ≡ pos (height (level_of levels (n - 1)) v)) → IsInReach g a b hs
-in_reach g a b levels n hs sound tower count size num den are = record {
-  num = num;
-  den = den;
-  low = λ v l. (let e = are v (omega arith) in rw e (omega (arith, ints)));
-  high = λ v l.
-      (let e = are v (omega arith) in
-      let few = sound.few in
-      let small = tower.small (n - 1) (omega arith) v l in
-      let most : height (level_of levels (n - 1)) v ≤ 10000000000000000 = omega arith in
-      rw e (omega (arith, ints)));
-}

@@ -30,15 +30,15 @@ unfolding span
 span_both g u [] ys = omega arith
 span_both g u (x ∷ xs) ys = omega (arith, span_both g x xs ys)
 
--- a cycle as a path from its last vertex round to it
+-- A cycle as a path from its last vertex round to it.
 pub cycle_path : (g : Digraph) (v : ℕ) (vs : List ℕ) → IsCycle g (v ∷ vs) → (u : ℕ) × IsPath g u (v ∷ vs) × (last_of u (v ∷ vs) ≡ u) × (cycle_span g (v ∷ vs) ≡ span g u (v ∷ vs))
 cycle_path g v vs is = (last_of v vs, is, refl, refl)
 
--- and a path that comes back is a cycle
+-- And a path that comes back is a cycle.
 pub path_cycle : (g : Digraph) (u v : ℕ) (vs : List ℕ) → IsPath g u (v ∷ vs) → last_of v vs ≡ u → IsCycle g (v ∷ vs) × (cycle_span g (v ∷ vs) ≡ span g u (v ∷ vs))
 path_cycle g u v vs is back = (rw back is, rw back refl)
 
--- each vertex that a path reaches is one of the graph
+-- Each vertex that a path reaches is one of the graph.
 pub path_within : (g : Digraph) → IsSound g → (u : ℕ) (vs : List ℕ) → u < vertex_count g → IsPath g u vs → last_of u vs < vertex_count g
 path_within g sound u [] l is = l
 path_within g sound u (v ∷ vs) l is = path_within g sound v vs (target_of g sound u v (gap g u v) is.0).0 is.1
@@ -59,13 +59,13 @@ pub span_none : (g : Digraph) (u : ℕ) → span g u [] ≡ 0
 unfolding span
 span_none g u = refl
 
--- where each edge fits heights that stay, so does each path
+-- Where each edge fits heights that stay, so does each path.
 pub fits_path : (g : Digraph) (a b : ℕ) (h : ℕ → ℕ) → ((u v : ℕ) → IsEdge g u v → h u + b * wcet g v ≤ h v + a * gap g u v) → (u : ℕ) (vs : List ℕ) → IsPath g u vs → h u + b * work g vs ≤ h (last_of u vs) + a * span g u vs
 fits_path g a b h fits u [] is = rw (work_none, span_none) (omega arith)
 fits_path g a b h fits u (v ∷ vs) is =
     rw (work_cons, span_cons) (omega (arith, fits u v is.0, fits_path g a b h fits v vs is.1))
 
--- heights by level: each edge leads one level up
+-- Heights by level: each edge leads one level up.
 pub climbs_path : (g : Digraph) (a b n : ℕ) (h : ℕ → ℕ → ℕ) → ((k u v : ℕ) → k < n → IsEdge g u v → h k u + b * wcet g v ≤ h (suc k) v + a * gap g u v) → (k u : ℕ) (vs : List ℕ) → k + length vs ≤ n → IsPath g u vs → h k u + b * work g vs ≤ h (k + length vs) (last_of u vs) + a * span g u vs
 climbs_path g a b n h climbs k u [] l is = let e : k + 0 ≡ k = omega arith in rw (work_none, span_none, e) (omega arith)
 climbs_path g a b n h climbs k u (v ∷ vs) l is =
@@ -74,7 +74,7 @@ climbs_path g a b n h climbs k u (v ∷ vs) l is =
     let s : h (suc k) v + b * work g vs ≤ h (k + suc (length vs)) (last_of v vs) + a * span g v vs = rw e at r in
     rw (work_cons, span_cons) (omega (arith, climbs k u v (omega arith) is.0, s))
 
--- so no cycle gains
+-- So no cycle gains.
 pub fits_cycle : (g : Digraph) (a b : ℕ) (h : ℕ → ℕ) → ((u v : ℕ) → IsEdge g u v → h u + b * wcet g v ≤ h v + a * gap g u v) → (cycle : List ℕ) → IsCycle g cycle → b * work g cycle ≤ a * cycle_span g cycle
 fits_cycle g a b h fits [] is = absurd is
 fits_cycle g a b h fits (v ∷ vs) is = omega (arith, fits_path g a b h fits (last_of v vs) (v ∷ vs) is)

@@ -10,7 +10,7 @@ at_last : (v : ℕ) (vs : List ℕ) → get_or (v ∷ vs) (length vs) 0 ≡ last
 at_last v [] = refl
 at_last v (w ∷ vs) = at_last w vs
 
--- what is left of the cycle, from the vertex at on
+-- What is left of the cycle, from the vertex at on.
 pub record IsLeft (g : Digraph) (cycle : List ℕ) (done past at i : ℕ) : Type 0 where
   pub works : done + work g (drop i cycle) ≡ work g cycle
   pub spans : past + span g at (drop i cycle) ≡ cycle_span g cycle

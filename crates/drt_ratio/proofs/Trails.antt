@@ -13,7 +13,7 @@ trail_starts g a b levels n v = ([], refl, tt, refl, omega arith, rw (work_none,
 pub trail_stays : (g : Digraph) (a b : ℕ) (levels : List Level) (n v k at : ℕ) (items : List ℕ) → height (level_of levels (suc k)) at ≡ height (level_of levels k) at → IsTrail g a b levels n v (suc k) at items → IsTrail g a b levels n v k at items
 trail_stays g a b levels n v k at items same (vs, are, path, end, short, sum) = (vs, are, path, end, omega arith, omega arith)
 
--- the edge that a raised height comes by
+-- The edge that a raised height comes by.
 pub moves : (g : Digraph) (a b : ℕ) (low high : Level) (at : ℕ) → IsSound g → at < vertex_count g → (height high at ≡ height low at → ⊥) → IsRaised g a b low high → Comes g a b low (get_or high.from at 0) at (height high at) × (get_or high.from at 0 < vertex_count g)
 moves g a b low high at sound l differ is = go (is.comes at l)
   where
@@ -30,7 +30,7 @@ trail_ends g a b levels n v at items none (vs, are, path, end, short, sum) =
     let e : reverse items ≡ at ∷ vs = ap reverse are ∙ reverse-reverse (at ∷ vs) in
     rw e (path, end, omega arith, omega arith)
 
--- one level down by an edge
+-- One level down by an edge.
 pub trail_down : (g : Digraph) (a b : ℕ) (levels : List Level) (n v k at : ℕ) (items : List ℕ) → IsSound g → IsTower g a b levels → length levels ≡ n + 1 → 0 < k → k ≤ n → at < vertex_count g → (height (level_of levels k) at ≡ height (level_of levels (k - 1)) at → ⊥) → IsTrail g a b levels n v k at items → (get_or (level_of levels k).from at 0 < vertex_count g) × IsTrail g a b levels n v (k - 1) (get_or (level_of levels k).from at 0) (items ++ get_or (level_of levels k).from at 0 ∷ [])
 trail_down g a b levels n v zero at items sound tower count some most l differ trail = absurd (omega arith)
 trail_down g a b levels n v (suc k) at items sound tower count some most l differ trail =

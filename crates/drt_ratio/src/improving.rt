@@ -4,7 +4,7 @@ ghost use Rattle.drt_model.specs.Digraph.{Digraph, vertex_count};
 ghost use Rattle.drt_ratio.specs.Claims.{IsInReach, IsRatioProof};
 ghost use Rattle.drt_model.specs.RatioRules.{KeepsRules};
 ghost use Rattle.drt_model.specs.Potential.{potential_of};
-ghost use Rattle.drt_ratio.specs.Levels.{height, IsBelow, IsGain};
+ghost use Rattle.drt_ratio.specs.Levels.{height, IsBelow};
 ghost use Rattle.drt_model.specs.Walk.{IsCycle, work, cycle_span};
 
 use crate::cycles::totals;
@@ -30,9 +30,10 @@ fn potentials(alloc: Global, level: &Level, count: u32) -> Result<Vec<i64>, Memo
     Ok(out)
 }
 
-// The ratio of a cycle that gains at the ratio a / b.
-fn ratio_of(graph: &Graph, _a: u64, _b: u64, cycle: &[u32]) -> Ratio
-    requires { IsGain graph.now _a _b cycle.now }
+// The ratio of a cycle.
+fn ratio_of(graph: &Graph, cycle: &[u32]) -> Ratio
+    requires is { IsCycle graph.now cycle.now }
+    requires few { length cycle.now ≤ vertex_count graph.now }
     ensures value { result.num * cycle_span graph.now cycle.now ≡ work graph.now cycle.now * result.den }
     ensures num_small { result.num ≤ 100000000 }
     ensures den_small { result.den ≤ 100000000 }
@@ -71,7 +72,7 @@ pub fn greatest(alloc: Global, graph: &Graph) -> Result<RatioProof, Memory>
                 potentials: Row::from_vec(potentials),
             });
         };
-        ratio = ratio_of(graph, a, b, found.as_slice());
+        ratio = ratio_of(graph, found.as_slice());
         cycle = found;
     }
 }

@@ -9,7 +9,7 @@ use drt_graph::Graph;
 use drt_model::Memory;
 use std::alloc::Global;
 
-// The walk to `v` that has the gain of the last level.
+// The walk to `v` that has the gain of the last level. The contract alone reads `_a` and `_b`, the ratio of the levels.
 fn trace(
     alloc: Global,
     graph: &Graph,

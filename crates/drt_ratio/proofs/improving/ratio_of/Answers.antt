@@ -18,3 +18,6 @@ returns-clause-den_small c =
     let sound = c.vertex_count-count.ensures.sound in
     let sums = cycle_sums c.args.graph.now sound c.args.cycle.now c.requires.is in
     omega (arith, sums.span_most, c.in-Some.ensures.2, c.new.ensures.den_most, c.requires.few, sound.few)
+
+pub returns-clause-work_some : goal.returns-clause-work_some
+returns-clause-work_some c = (cycle_sums c.args.graph.now c.vertex_count-count.ensures.sound c.args.cycle.now c.requires.is).work_some
