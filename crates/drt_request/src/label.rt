@@ -1,0 +1,93 @@
+//! The label of a walk by its request function.
+ghost use Rattle.std.specs.Prelude.{◌≡◌, ℕ};
+ghost use Rattle.drt_model.specs.Digraph.{Digraph};
+ghost use Rattle.drt_request.specs.Request.{request_algebra};
+ghost use Rattle.drt_request.specs.Walk.{LabelWalks};
+ghost use Rattle.drt_request.specs.Laws.{request_laws};
+
+use drt_label::Label;
+use drt_steps::Steps;
+use std::alloc::{AllocError as Memory, Global};
+use std::marker::Model;
+
+/// The last vertex of a walk, the offset of its last release in ticks, and its request function. It dominates another
+/// one of its vertex where its offset is at most the other's and its function covers the other's. It is in range
+/// where its offset is below the bound (Stigge and Yi, RTSS 2013).
+#[derive(Drop)]
+pub struct RequestLabel {
+    vertex: u32,
+    offset: u64,
+    steps: Steps,
+}
+
+impl Model for RequestLabel {
+    ghost use Rattle.drt_request.specs.Request.{Request, IsWithinLimits};
+
+    ghost Value = { Request };
+
+    ghost view = { λ s. record { vertex = s.vertex; offset = s.offset; values = s.steps } };
+
+    ghost invariant = { λ s. IsWithinLimits s.offset s.steps };
+}
+
+impl RequestLabel {
+    /// The request function of the walk.
+    pub fn steps(&self) -> &Steps
+        ensures { result.now ≡ self.now.values }
+    {
+        &self.steps
+    }
+}
+
+impl Label for RequestLabel {
+    ghost algebra = { request_algebra };
+
+    fn opening(alloc: Global, number: u32, wcet: u32, bound: u64) -> Result<RequestLabel, Memory> {
+        Ok(RequestLabel {
+            vertex: number,
+            offset: 0,
+            steps: Steps::flat(alloc, bound, wcet as u64)?,
+        })
+    }
+
+    fn extend(
+        &self,
+        alloc: Global,
+        sep: u32,
+        target: u32,
+        wcet: u32,
+    ) -> Result<RequestLabel, Memory> {
+        let offset = self.offset + sep as u64;
+        Ok(RequestLabel {
+            vertex: target,
+            offset,
+            steps: self.steps.raise_after(alloc, offset, wcet as u64)?,
+        })
+    }
+
+    fn vertex(&self) -> u32 {
+        self.vertex
+    }
+
+    fn offset(&self) -> u64 {
+        self.offset
+    }
+
+    fn in_range(&self, _deadline: u32, bound: u64) -> bool {
+        self.offset < bound
+    }
+
+    fn dominates(&self, other: &Self) -> bool {
+        self.vertex == other.vertex
+            && self.offset <= other.offset
+            && self.steps.covers(&other.steps)
+    }
+
+    ghost laws = { request_laws };
+}
+
+/// The law that the label of a walk has the walk's last vertex, its span and its request function: the opening label
+/// has those of the walk of one vertex, and each extension keeps this.
+pub fn labels_of_walks()
+    ensures { (g : Digraph) (bound : ℕ) → LabelWalks g bound }
+{}
