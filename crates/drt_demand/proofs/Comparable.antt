@@ -1,0 +1,13 @@
+-- Of two demand labels of one vertex and one offset, one dominates the other. So a table keeps at most one of each vertex
+-- and offset.
+use Rattle.std.proofs.Common.{◌≡◌, ◌≤◌, ◌⊎◌, inl, inr, arith}
+use Rattle.std.specs.Prelude.{IsTrue}
+use Rattle.std.proofs.lemmas.Bool.Decides.{nat_tests}
+use Rattle.drt_demand.specs.Demand.{Demand, dominates}
+
+by_work : (x y : Demand) → x.vertex ≡ y.vertex → x.offset ≡ y.offset → (x.work ≤ y.work) ⊎ (y.work ≤ x.work) → IsTrue (dominates x y) ⊎ IsTrue (dominates y x)
+by_work x y p q (inl h) = inr (grind (arith, nat_tests))
+by_work x y p q (inr h) = inl (grind (arith, nat_tests))
+
+pub comparable : (x y : Demand) → x.vertex ≡ y.vertex → x.offset ≡ y.offset → IsTrue (dominates x y) ⊎ IsTrue (dominates y x)
+comparable x y p q = by_work x y p q (grind arith)

@@ -1,0 +1,2 @@
+pub mod WalkLabels
+pub mod Comparable

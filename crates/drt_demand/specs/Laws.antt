@@ -1,0 +1,37 @@
+-- Demand labels keep the laws of labels.
+use Rattle.std.specs.Prelude.{◌≡◌, IsTrue, refl}
+use Rattle.std.proofs.Common.{arith, ap, ◌∙◌}
+use Rattle.std.proofs.lemmas.Bool.Decides.{nat_tests}
+use Rattle.drt_label.specs.Algebra.{Laws}
+use Rattle.drt_demand.specs.Demand.{Demand, dominates, demand_algebra}
+
+-- Two labels with the same parts are equal.
+same_demand : (x y : Demand) → x.vertex ≡ y.vertex → x.offset ≡ y.offset → x.work ≡ y.work → x ≡ y
+same_demand x y p q r =
+    ap (λ v. record { vertex = v; offset = x.offset; work = x.work }) p
+    ∙ (ap (λ o. record { vertex = y.vertex; offset = o; work = x.work }) q
+    ∙ ap (λ w. record { vertex = y.vertex; offset = y.offset; work = w }) r)
+
+-- Two labels that dominate each other are equal.
+antisymmetric : (x y : Demand) → IsTrue (dominates x y) → IsTrue (dominates y x) → x ≡ y
+antisymmetric x y h k = same_demand x y (grind (arith, nat_tests)) (grind (arith, nat_tests)) (grind (arith, nat_tests))
+
+-- The laws.
+pub demand_laws : Laws demand_algebra
+demand_laws = record {
+  reflexive = λ x. grind (arith, nat_tests);
+  transitive = λ x y z h k. grind (arith, nat_tests);
+  antisymmetric = antisymmetric;
+  extends = λ x y h k. grind (arith, nat_tests);
+  monotone = λ x y sep target wcet h k. grind (arith, nat_tests);
+  ranges = λ x y deadline bound h k. grind (arith, nat_tests);
+  same_vertex = λ x y h. grind (arith, nat_tests);
+  no_later = λ x y h. grind (arith, nat_tests);
+  opening_vertex = λ number wcet bound. refl;
+  opening_offset = λ number wcet bound. refl;
+  extended_vertex = λ x sep target wcet. refl;
+  extended_offset = λ x sep target wcet. refl;
+  opening_of = λ number wcet bound h. h;
+  extended_of = λ x sep target wcet bound h. h;
+  extendable = λ x deadline bound h k. grind (arith, nat_tests);
+}

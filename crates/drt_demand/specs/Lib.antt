@@ -1,0 +1,4 @@
+pub mod Demand
+pub mod Laws
+pub mod WalkLabel
+pub mod Dbf

@@ -1,0 +1,27 @@
+//! The demand of a time.
+
+ghost use Rattle.std.specs.Prelude.{◌≡◌, ℕ, ◌<◌, All};
+ghost use Rattle.drt_model.specs.Digraph.{vertex_count};
+ghost use Rattle.drt_demand.specs.Dbf.{dbf_at};
+
+use crate::label::DemandLabel;
+use drt_graph::Graph;
+
+/// The demand bound function over some labels: the greatest work, in ticks, among those labels whose last job is due
+/// at `t` or before, and 0 where there is none. Where the labels are the front of a task, this is the greatest work
+/// that jobs of the task can have both released and due within `t` ticks.
+///
+/// Source: Stigge, Ekberg, Guan and Yi, "The Digraph Real-Time Task Model" (RTAS 2011).
+pub fn dbf(graph: &Graph, labels: &[DemandLabel], t: u64) -> u64
+    requires { All (λ x. x.vertex < vertex_count graph.now) labels.now }
+    ensures { result ≡ dbf_at graph.now labels.now t }
+{
+    let mut greatest = 0u64;
+    for label in labels {
+        let deadline = graph.vertex(label.vertex).deadline as u64;
+        if label.offset + deadline <= t {
+            greatest = greatest.max(label.work);
+        }
+    }
+    greatest
+}
