@@ -11,5 +11,7 @@ pub mod events;
 pub mod late;
 pub mod made;
 pub mod queue;
+#[cfg(test)]
+mod tests;
 
 pub use board::Board;
