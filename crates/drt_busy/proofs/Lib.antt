@@ -12,3 +12,4 @@ pub mod EdfWalks
 pub mod FixedWalks
 pub mod WalkReleases
 pub mod Decide
+pub mod Assignment

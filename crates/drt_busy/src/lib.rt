@@ -12,8 +12,8 @@ pub mod walks;
 
 pub use one_task::{one_task_decides, too_long_misses};
 pub use trace::{
-    done_grows, least_misses, misses_overload, misses_pass_no_time, no_time_misses,
-    overload_misses, picks_are_pending, ticks_are_used,
+    done_grows, least_misses, misses_overload, misses_pass_no_time, no_assignment_meets,
+    no_time_misses, overload_misses, picks_are_pending, ticks_are_used,
 };
 pub use walks::{
     deadlines_decide, demand_misses, parts_follow_walks, requests_miss, times_decide,

@@ -1,4 +1,5 @@
 //! The laws of the trace: what the jobs have had, and what a miss says of their needs.
+ghost use Rattle.drt_busy.specs.Assignment.{NoAssignmentMeets};
 ghost use Rattle.drt_busy.specs.Laws.{DoneGrows, LeastMisses, MissesOverload, MissesPassNoTime, NoTimeMisses, OverloadMisses, PicksArePending, TicksAreUsed};
 
 /// A pick is a job of the list that is released and lacks ticks.
@@ -42,4 +43,10 @@ pub fn misses_pass_no_time()
 /// the needs of the higher jobs released within it.
 pub fn no_time_misses()
     ensures { NoTimeMisses }
+{}
+
+/// Where the jobs that are due by t need more than t, no assignment of one job to each tick meets all
+/// these deadlines, whatever the order.
+pub fn no_assignment_meets()
+    ensures { NoAssignmentMeets }
 {}
