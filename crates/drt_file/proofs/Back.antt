@@ -129,7 +129,6 @@ unfolding contents_in canonical
 one_back t is =
     let set : Contents = record { version = 1; tasks = t ∷ [] } in
     let said : lines_of_fields (canonical set) ≡ one_task_lines t = written_again (set_lines set) (set_fielded set is) ∙ one_lines t in
-    let at : length (t ∷ []) ≡ 1 = refl in
     let each : IsTask 1 t = is.each 0 t (omega arith) in
     let first : t.priority ≡ 1 = is.in_order refl 0 t refl in
     ap (λ ls. record { version = 1; tasks = task_in ls ∷ [] }) said ∙ ap (λ u. record { version = 1; tasks = u ∷ [] }) (task_back t each first)

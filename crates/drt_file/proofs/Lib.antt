@@ -5,5 +5,6 @@ pub mod Digits
 pub mod Drafts
 pub mod Fielded
 pub mod Joins
+pub mod Names
 pub mod Numbers
 pub mod OneSet

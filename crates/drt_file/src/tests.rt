@@ -2,6 +2,7 @@
 use crate::fault::FileError;
 use crate::printing::print;
 use crate::reading::read;
+use crate::versions::upgrade;
 use drt_model::{Edge, Memory, Name, Row, Task, Vertex, task_set};
 use std::alloc::Global;
 use std::test::Fail;
@@ -115,4 +116,18 @@ fn every_other_text_has_the_one_fault(rt: HostRuntime) {
     for text in texts {
         assert_eq!(rt; fault_of(&rt, text), (0, 99));
     }
+}
+
+#[test]
+fn upgrading_changes_the_version_alone(rt: HostRuntime) -> Result<(), Fail> {
+    let alloc = rt.alloc();
+    let set = read(
+        alloc,
+        b"drt 1\ntask T\nvertex a 2 5\nedge a a 5\nend\n".as_slice(),
+    )?;
+    let text = print(alloc, &upgrade(set))?;
+    assert!(rt;
+        text.as_slice() == b"drt 2\ntask T\npriority 1\nvertex a 2 5\nedge a a 5\nend\n".as_slice()
+    );
+    Ok(())
 }
