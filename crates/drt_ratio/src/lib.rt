@@ -7,6 +7,8 @@
 //! `greatest` raises a ratio that begins at 0. At each ratio it takes as many rounds over all edges as there are
 //! vertices. If the last round still raises the gain of some walk, the walk goes round a cycle with a greater ratio, and
 //! that ratio is the next one. If not, the ratio is the greatest, and the last gains are the potentials.
+//!
+//! `scale`, `rate` and `utilisation` are those of the ratios of a set of tasks.
 #![tactic(auto)]
 
 mod checking;
@@ -14,6 +16,7 @@ mod cycles;
 mod improving;
 mod levels;
 mod ratio_proof;
+mod set_ratios;
 #[cfg(test)]
 mod tests;
 mod traces;
@@ -21,3 +24,4 @@ mod traces;
 pub use checking::check_ratio;
 pub use improving::greatest;
 pub use ratio_proof::RatioProof;
+pub use set_ratios::{proofs_give_ratios, rate, scale, utilisation};

@@ -1,4 +1,6 @@
-use super::{RatioProof, check_ratio, greatest};
+ghost use Rattle.std.specs.Prelude.{◌≤◌};
+
+use super::{RatioProof, check_ratio, greatest, rate, scale, utilisation};
 use drt_graph::{Graph, Graphs, check};
 use drt_model::{Edge, Memory, Name, Row, Task, Vertex, task_set};
 use drt_num::Ratio;
@@ -126,5 +128,52 @@ fn a_claim_is_kept_to_each_rule(rt: HostRuntime) -> Result<(), Fail> {
             kept
         );
     }
+    Ok(())
+}
+
+// A claim of that ratio.
+fn ratio(alloc: Global, num: u128, den: u128) -> RatioProof
+    requires some { 1 ≤ den }
+    requires num_small { num ≤ 1000000 }
+    requires den_small { den ≤ 1000000 }
+    ensures num { result.ratio.num ≤ 1000000 }
+    ensures den { result.ratio.den ≤ 1000000 }
+{
+    RatioProof {
+        ratio: Ratio::new(num, den),
+        cycle: Row::from_vec(Vec::new(alloc)),
+        potentials: Row::from_vec(Vec::new(alloc)),
+    }
+}
+
+#[test]
+fn utilisations_by_hand(rt: HostRuntime) -> Result<(), Fail> {
+    let alloc = rt.alloc();
+    let two = [ratio(alloc, 2, 5), ratio(alloc, 4, 7)];
+    assert_eq!(rt; scale(&two), Some(35));
+    assert_eq!(rt; rate(&two, 35), 34);
+    let sum = utilisation(&two).ok_or("in reach")?;
+    assert_eq!(rt; (sum.num(), sum.den()), (34, 35));
+    // Over 30 the sum is 8 + 6 + 3.
+    let three = [ratio(alloc, 4, 15), ratio(alloc, 1, 5), ratio(alloc, 1, 10)];
+    let sum = utilisation(&three).ok_or("in reach")?;
+    assert_eq!(rt; (sum.num(), sum.den()), (17, 30));
+    // Over 10 the sum is 5 + 3, and 8/10 is 4/5.
+    let lowest = [ratio(alloc, 1, 2), ratio(alloc, 3, 10)];
+    assert_eq!(rt; rate(&lowest, 10), 8);
+    let sum = utilisation(&lowest).ok_or("in reach")?;
+    assert_eq!(rt; (sum.num(), sum.den()), (4, 5));
+    let none = [ratio(alloc, 0, 1)];
+    let sum = utilisation(&none).ok_or("in reach")?;
+    assert_eq!(rt; (sum.num(), sum.den()), (0, 1));
+    // The least common multiple is 499997000005499997000000, above 2^60.
+    let fine = [
+        ratio(alloc, 1, 1000000),
+        ratio(alloc, 1, 999999),
+        ratio(alloc, 1, 999998),
+        ratio(alloc, 1, 999997),
+    ];
+    assert_eq!(rt; scale(&fine), None);
+    assert!(rt; utilisation(&fine).is_none());
     Ok(())
 }

@@ -1,0 +1,40 @@
+-- The ratios of a set, as its claims have them.
+use Rattle.std.specs.Prelude.{◌≡◌, ℕ, ◌*◌, ◌^◌, ◌<◌, ◌≤◌, List, [], ◌∷◌}
+use Rattle.std.specs.Int.{IsGcd}
+use Rattle.drt_model.specs.Digraph.{Digraph}
+use Rattle.drt_model.specs.Utilisation.{Fraction, AreRatios, IsScale, rate}
+use Rattle.drt_ratio.specs.declared.ratio_proof.RatioProof.{RatioProof}
+use Rattle.drt_ratio.specs.Claims.{IsRatioProof}
+
+-- The fraction of a claim.
+abbrev pub fraction_of : RatioProof → Fraction
+fraction_of p = record { num = p.ratio.num; den = p.ratio.den }
+
+-- The fractions of claims, in order.
+abbrev pub fractions_of : List RatioProof → List Fraction
+fractions_of [] = []
+fractions_of (p ∷ proofs) = fraction_of p ∷ fractions_of proofs
+
+-- Each numerator and each denominator is at most 1,000,000,000.
+abbrev pub AreSmall : List RatioProof → Type 0
+AreSmall [] = Unit {0}
+AreSmall (p ∷ proofs) = (p.ratio.num ≤ 1000000000) × (p.ratio.den ≤ 1000000000) × AreSmall proofs
+
+-- The scale of the ratios exceeds 2^60.
+abbrev pub IsTooFine : List Fraction → Type 0
+IsTooFine ratios = (scale : ℕ) × IsScale ratios scale × (2 ^ 60 < scale)
+
+-- The fraction a / b is the rate of the ratios over their scale, in lowest terms, where the scale is at most 2^60.
+abbrev pub IsUtilisation : List Fraction → ℕ → ℕ → Type 0
+IsUtilisation ratios a b = (scale : ℕ) × IsScale ratios scale × (scale ≤ 2 ^ 60) × (a * scale ≡ rate scale ratios * b) × IsGcd a b 1 × (1 ≤ b)
+
+-- Each claim is the ratio of its graph with its evidence, in order.
+abbrev pub AreRatioProofs : List Digraph → List RatioProof → Type 0
+AreRatioProofs [] [] = Unit {0}
+AreRatioProofs [] (p ∷ proofs) = ⊥
+AreRatioProofs (g ∷ graphs) [] = ⊥
+AreRatioProofs (g ∷ graphs) (p ∷ proofs) = IsRatioProof g p.ratio.num p.ratio.den p.cycle p.potentials × AreRatioProofs graphs proofs
+
+-- Where each claim is the ratio of its graph with its evidence, the claims' fractions are the ratios of the graphs.
+abbrev pub ProofsGiveRatios : Type 0
+ProofsGiveRatios = (graphs : List Digraph) (proofs : List RatioProof) → AreRatioProofs graphs proofs → AreRatios graphs (fractions_of proofs)
