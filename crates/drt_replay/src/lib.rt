@@ -6,11 +6,11 @@
 //! `run_until`, `first_miss` and `finish_time`, each exact by the trace of `drt_model`.
 #![tactic(auto)]
 
-pub mod board;
-pub mod events;
-pub mod late;
-pub mod made;
-pub mod queue;
+mod board;
+mod events;
+mod late;
+mod made;
+mod queue;
 #[cfg(test)]
 mod tests;
 
