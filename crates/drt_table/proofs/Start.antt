@@ -1,0 +1,77 @@
+-- The loop that makes the opening nodes.
+use Rattle.std.proofs.Common.{◌≡◌, ℕ, suc, zero, ◌+◌, ◌-◌, ◌<◌, Bool, true, false, cond, None, List, [], ◌∷◌, ◌++◌, length, map, replicate, refl, sym, ap, ◌∙◌, subst, arith, append_assoc, length-append}
+use Rattle.std.proofs.lemmas.List.{map-append, replicate_more}
+use Rattle.drt_label.specs.Algebra.{Algebra, Laws}
+use Rattle.drt_model.specs.Digraph.{vertex_of}
+use Rattle.std.specs.Prelude.{◌&&◌, ◌==◌}
+use Rattle.std.proofs.lemmas.Option.{none-some, same_Some}
+use Rattle.std.proofs.lemmas.Bool.Decides.{nat_tests}
+use Rattle.drt_table.specs.Held.{AllOf}
+use Rattle.drt_table.specs.View.{kept_at}
+use Rattle.drt_table.specs.Node.{NodeOf, Held, is_kept, fresh}
+use Rattle.drt_table.specs.Machine.{Setting, opening_label, in_range, opening_nodes}
+
+module _ {L : Type 0} (a : Algebra L) (laws : Laws a) (t : Setting) where
+  opening_more : (v n : ℕ) → v < n → opening_nodes a t v (n - v) ≡ cond (in_range a t (opening_label a t v)) (fresh (opening_label a t v) None ∷ opening_nodes a t (v + 1) (n - (v + 1))) (opening_nodes a t (v + 1) (n - (v + 1)))
+  opening_more v n lt = let e : n - v ≡ suc (n - (v + 1)) = omega arith in ap (λ k. opening_nodes a t v k) e
+
+  range_is : (v : ℕ) (deadline : ℕ) → deadline ≡ (vertex_of t.graph v).deadline → in_range a t (opening_label a t v) ≡ a.in_range (opening_label a t v) deadline t.bound
+  range_is v deadline e =
+      ap (λ u. a.in_range (opening_label a t v) (vertex_of t.graph u).deadline t.bound) (laws.opening_vertex v (vertex_of t.graph v).wcet t.bound)
+      ∙ ap (λ d. a.in_range (opening_label a t v) d t.bound) (sym e)
+
+  module _ (nodes : List (Held L)) (all : List (NodeOf L)) (v n deadline : ℕ) (l : L) (lt : v < n) (l_is : l ≡ opening_label a t v) (d_is : deadline ≡ (vertex_of t.graph v).deadline) (so_far : map (λ (h : Held L). h.node) nodes ++ opening_nodes a t v (n - v) ≡ all) where
+    range_of : (b : Bool) → a.in_range l deadline t.bound ≡ b → in_range a t (opening_label a t v) ≡ b
+    range_of b e = range_is v deadline d_is ∙ (ap (λ x. a.in_range x deadline t.bound) (sym l_is) ∙ e)
+
+    more_at : (b : Bool) → in_range a t (opening_label a t v) ≡ b → map (λ (h : Held L). h.node) nodes ++ cond b (fresh (opening_label a t v) None ∷ opening_nodes a t (v + 1) (n - (v + 1))) (opening_nodes a t (v + 1) (n - (v + 1))) ≡ all
+    more_at b e =
+        ap (λ x. map (λ (h : Held L). h.node) nodes ++ cond x (fresh (opening_label a t v) None ∷ opening_nodes a t (v + 1) (n - (v + 1))) (opening_nodes a t (v + 1) (n - (v + 1)))) (sym e)
+        ∙ (ap (λ xs. map (λ (h : Held L). h.node) nodes ++ xs) (sym (opening_more v n lt)) ∙ so_far)
+
+    pub opening_in : (new : List (Held L)) → a.in_range l deadline t.bound ≡ true → new ≡ nodes ++ record { node = fresh l None; spare = true } ∷ [] → map (λ (h : Held L). h.node) new ++ opening_nodes a t (v + 1) (n - (v + 1)) ≡ all
+    opening_in new r e =
+        ap (λ xs. map (λ (h : Held L). h.node) xs ++ opening_nodes a t (v + 1) (n - (v + 1))) e
+        ∙ (ap (λ xs. xs ++ opening_nodes a t (v + 1) (n - (v + 1))) (map-append (λ (h : Held L). h.node) nodes (record { node = fresh l None; spare = true } ∷ []))
+        ∙ (append_assoc (map (λ (h : Held L). h.node) nodes) (fresh l None ∷ []) (opening_nodes a t (v + 1) (n - (v + 1)))
+        ∙ (ap (λ x. map (λ (h : Held L). h.node) nodes ++ (fresh x None ∷ opening_nodes a t (v + 1) (n - (v + 1)))) l_is
+        ∙ more_at true (range_of true r))))
+
+    pub opening_out : a.in_range l deadline t.bound ≡ false → map (λ (h : Held L). h.node) nodes ++ opening_nodes a t (v + 1) (n - (v + 1)) ≡ all
+    opening_out r = more_at false (range_of false r)
+
+pub spares_more : {L : Type 0} (nodes new : List (Held L)) (h : Held L) → h.spare ≡ true → new ≡ nodes ++ h ∷ [] → map (λ (x : Held L). x.spare) nodes ≡ replicate (length nodes) true → map (λ (x : Held L). x.spare) new ≡ replicate (length new) true
+spares_more {L} nodes new h s e so_far =
+    ap (λ xs. map (λ (x : Held L). x.spare) xs) e
+    ∙ (map-append (λ (x : Held L). x.spare) nodes (h ∷ [])
+    ∙ (ap (λ xs. xs ++ h.spare ∷ []) so_far
+    ∙ (ap (λ b. replicate (length nodes) true ++ b ∷ []) s
+    ∙ (replicate_more (length nodes) true
+    ∙ (ap (λ n. replicate n true) (sym (length-append nodes (h ∷ [])))
+    ∙ ap (λ xs. replicate (length xs) true) (sym e))))))
+
+-- a fact of each element, and of one that is pushed
+pub all_push : {A : Type 0} (P : A → Type 0) (xs : List A) (z : A) → AllOf P xs → P z → AllOf P (xs ++ z ∷ [])
+all_push P [] z h p zero y at = subst P (same_Some z y at) p
+all_push P [] z h p (suc k) y at = absurd (none-some y at)
+all_push P (x ∷ xs) z h p zero y at = h 0 y at
+all_push P (x ∷ xs) z h p (suc k) y at = all_push P xs z (λ j w g. h (suc j) w g) p k y at
+
+not_here : (b : Bool) (x u : ℕ) → x < u → (b && (x == u)) ≡ false
+not_here true x u lt = grind (arith, nat_tests)
+not_here false x u lt = refl
+
+module _ {L : Type 0} (a : Algebra L) where
+  -- no node of the vertex yet
+  pub alone_of : (nodes : List (Held L)) (v u : ℕ) → AllOf (λ (h : Held L). a.vertex h.node.label < v) nodes → u ≡ v → AllOf (λ (h : Held L). kept_at a u h.node ≡ false) nodes
+  alone_of nodes v u low e k h at =
+      let lt : a.vertex h.node.label < v = low k h at in
+      not_here (is_kept h.node) (a.vertex h.node.label) u (omega arith)
+
+  pub low_in : (nodes new : List (Held L)) (v : ℕ) (l : L) → AllOf (λ (h : Held L). a.vertex h.node.label < v) nodes → new ≡ nodes ++ record { node = fresh l None; spare = true } ∷ [] → a.vertex l ≡ v → AllOf (λ (h : Held L). a.vertex h.node.label < v + 1) new
+  low_in nodes new v l low e here =
+      subst (λ (xs : List (Held L)). AllOf (λ (h : Held L). a.vertex h.node.label < v + 1) xs) (sym e)
+      (all_push (λ (h : Held L). a.vertex h.node.label < v + 1) nodes (record { node = fresh l None; spare = true }) (λ k h at. let lt : a.vertex h.node.label < v = low k h at in omega arith) (omega arith))
+
+  pub low_out : (nodes : List (Held L)) (v : ℕ) → AllOf (λ (h : Held L). a.vertex h.node.label < v) nodes → AllOf (λ (h : Held L). a.vertex h.node.label < v + 1) nodes
+  low_out nodes v low k h at = let lt : a.vertex h.node.label < v = low k h at in omega arith

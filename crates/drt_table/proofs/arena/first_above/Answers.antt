@@ -1,0 +1,19 @@
+use Rattle.std.proofs.Common.{◌≡◌, arith, Some, refl, sym, ◌∙◌}
+use Rattle.std.specs.Prelude.{slice_get}
+use Rattle.std.proofs.lemmas.Option.{slice_get_read}
+use Rattle.drt_table.specs.Held.{dominates_held}
+use Rattle.drt_table.proofs.Lists.{first_is, first_none, fails_more}
+use Rattle.drt_table.proofs.arena.first_above.Goals as goal
+
+pub returns-then-is_above : goal.returns-then-is_above
+returns-then-is_above g c =
+    let at : slice_get c.args.nodes.now c.loop-i.i ≡ Some c.index-nodes-i.result = slice_get_read _ _ _ _ refl c.loop-i-test.true c.index-nodes-i.is in
+    first_is (dominates_held g.L.Label.algebra c.args.label.now) c.args.nodes.now c.loop-i.i c.index-nodes-i.result at (sym c.is_above.ensures ∙ c.if-is_above.true) c.loop-i.invariant
+
+pub loop-i-preserved : goal.loop-i-preserved
+loop-i-preserved g c =
+    let at : slice_get c.args.nodes.now c.loop-i.i ≡ Some c.index-nodes-i.result = slice_get_read _ _ _ _ refl c.loop-i-test.true c.index-nodes-i.is in
+    fails_more (dominates_held g.L.Label.algebra c.args.label.now) c.args.nodes.now c.loop-i.i c.index-nodes-i.result at (sym c.is_above.ensures ∙ c.if-is_above.false) c.loop-i.invariant
+
+pub returns : goal.returns
+returns g c = first_none (dominates_held g.L.Label.algebra c.args.label.now) c.args.nodes.now (λ k h lt at. c.loop-i.invariant k h (omega arith) at)

@@ -1,0 +1,13 @@
+pub mod Places
+pub mod Node
+pub mod Machine
+pub mod Walk
+pub mod Cover
+pub mod Facts
+pub mod Work
+pub mod View
+pub mod Held
+pub mod Arena
+pub mod Taking
+pub mod Drive
+pub mod Turn

@@ -1,0 +1,44 @@
+-- Places in a list: the first that passes a test, the least value of those that pass, and a change at one place.
+use Rattle.std.specs.Prelude.{ℕ, suc, zero, Bool, ◌&&◌, ◌==◌, min, nat_lt, Option, None, Some, option_map, List, [], ◌∷◌, if◌then◌else◌}
+
+-- The first place at which p passes.
+abbrev pub first : {A : Type 0} → (A → Bool) → List A → Option ℕ
+first p [] = None
+first p (x ∷ xs) = if p x then Some 0 else option_map suc (first p xs)
+
+-- The first place from k on at which p passes.
+abbrev pub first_from : {A : Type 0} → ℕ → (A → Bool) → List A → Option ℕ
+first_from zero p xs = first p xs
+first_from (suc k) p [] = None
+first_from (suc k) p (x ∷ xs) = option_map suc (first_from k p xs)
+
+-- The list with f applied at place k.
+abbrev pub changed : {A : Type 0} → ℕ → (A → A) → List A → List A
+changed k f [] = []
+changed zero f (x ∷ xs) = f x ∷ xs
+changed (suc k) f (x ∷ xs) = x ∷ changed k f xs
+
+-- The smaller of two numbers, where there are two.
+abbrev pub smaller : Option ℕ → Option ℕ → Option ℕ
+smaller None o = o
+smaller (Some m) None = Some m
+smaller (Some m) (Some n) = Some (min m n)
+
+-- The least f of the elements that pass p.
+abbrev pub least_of : {A : Type 0} → (A → Bool) → (A → ℕ) → List A → Option ℕ
+least_of p f [] = None
+least_of p f (x ∷ xs) = if p x then smaller (Some (f x)) (least_of p f xs) else least_of p f xs
+
+-- The first place at which p passes and f is the number, if there is one.
+abbrev pub first_with : {A : Type 0} → (A → Bool) → (A → ℕ) → List A → Option ℕ → Option ℕ
+first_with p f xs None = None
+first_with p f xs (Some m) = first (λ x. p x && (f x == m)) xs
+
+-- Of the places at which p passes, that of least f, and the first of these in a tie.
+abbrev pub earliest : {A : Type 0} → (A → Bool) → (A → ℕ) → List A → Option ℕ
+earliest p f xs = first_with p f xs (least_of p f xs)
+
+-- The better of the best place so far, with its value, and a new one: the new one where its value is less.
+abbrev pub sooner : Option (ℕ × ℕ) → ℕ → ℕ → Option (ℕ × ℕ)
+sooner None i m = Some (i, m)
+sooner (Some b) i m = if nat_lt m b.1 then Some (i, m) else Some b

@@ -1,0 +1,24 @@
+//! The table of labels that no other label dominates, and its machine.
+//!
+//! A table of a graph and a bound finds the labels of all in-range walks that no different one dominates. Any workers
+//! may step it in any order: each takes the waiting node of least offset, offers its label extended by each out-edge,
+//! and closes it. `Table::apply` is exactly one step of the machine that `specs/Machine.antt` gives, and takes no
+//! memory. What holds after every run, whoever made its steps, is the contract of `over_every_interleaving`. The layer
+//! above uses that contract and those of `Table`.
+//!
+//! The nodes stand in one list that is searched from its front: a step takes time in proportion to the nodes there are.
+#![tactic(auto)]
+
+mod arena;
+mod drive;
+mod node;
+mod reading;
+mod shortest;
+mod step;
+mod table;
+mod theorem;
+
+pub use node::{Node, NodeState, Twin};
+pub use step::{Entry, TableReply, TableStep};
+pub use table::Table;
+pub use theorem::over_every_interleaving;
