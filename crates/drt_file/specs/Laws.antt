@@ -1,9 +1,11 @@
--- What holds of canonical texts.
-use Rattle.std.specs.Prelude.{◌≡◌}
+-- What holds of texts and sets.
+use Rattle.std.specs.Prelude.{◌≡◌, ◌↔◌, ℕ, List, Ok}
 use Rattle.drt_model.specs.Contents.{Contents}
 use Rattle.drt_model.specs.Limits.{IsTaskSet}
 use Rattle.drt_file.specs.Cutting.{lines_of_fields}
 use Rattle.drt_file.specs.Canonical.{canonical, set_lines}
+use Rattle.drt_file.specs.Steps.{read_text}
+use Rattle.drt_file.specs.Reading.{Reads}
 
 -- The canonical text of a set is cut into the lines and fields that it was made of.
 abbrev pub TextsAreCutAsMade : Type 0
@@ -14,3 +16,16 @@ abbrev pub TextsTellSets : Type 0
 TextsTellSets =
     (first second : Contents) → IsTaskSet first.version first.tasks → IsTaskSet second.version second.tasks
     → canonical first ≡ canonical second → first ≡ second
+
+-- The lines of a text, gone through one by one with the table of codes, give a set exactly where the whole text reads as it.
+abbrev pub LinesAgreeWithWholes : Type 0
+LinesAgreeWithWholes = (bytes : List ℕ) (set : Contents) → read_text bytes ≡ Ok set ↔ Reads bytes set
+
+-- A text reads as one set at most.
+abbrev pub TextsReadAsOneSet : Type 0
+TextsReadAsOneSet = (bytes : List ℕ) (first second : Contents) → Reads bytes first → Reads bytes second → first ≡ second
+
+-- The canonical text of a set reads as that set, and as no other.
+abbrev pub CanonicalTextsRead : Type 0
+CanonicalTextsRead =
+    (set : Contents) → IsTaskSet set.version set.tasks → Reads (canonical set) set × ((other : Contents) → Reads (canonical set) other → other ≡ set)

@@ -1,22 +1,67 @@
 -- Which texts read as which sets, and the fault of every other.
-use Rattle.std.specs.Prelude.{◌≡◌, ℕ, List, length}
+use Rattle.std.specs.Prelude.{◌≡◌, ℕ, ◌==◌, if◌then◌else◌, List, [], ◌∷◌, ◌++◌, Option, Some, None, IsTrue, Err, slice_get}
+use Rattle.drt_model.specs.declared.tasks.Vertex.{Vertex}
+use Rattle.drt_model.specs.declared.tasks.Edge.{Edge}
+use Rattle.drt_model.specs.declared.tasks.Task.{Task}
 use Rattle.drt_model.specs.Contents.{Contents}
 use Rattle.drt_model.specs.Limits.{IsTaskSet}
 use Rattle.drt_file.specs.declared.fault.FileError.{FileError}
 use Rattle.drt_file.specs.declared.fault.FileError.TheVariants as errors
-use Rattle.drt_file.specs.Canonical.{canonical}
+use Rattle.drt_file.specs.Words.{is_number, value, task_word, vertex_word, edge_word, priority_word}
+use Rattle.drt_file.specs.Canonical.{version_line, end_line}
+use Rattle.drt_file.specs.Line.{said}
+use Rattle.drt_file.specs.Steps.{read_text}
 
--- A text reads as a set where it is the canonical text of that set, which is of version 1 and has one task.
+-- A field means a number where it is decimal digits of that value. Leading zeros are allowed.
+abbrev pub Means : List ℕ → ℕ → Type 0
+Means word n = IsTrue (is_number word) × (value word ≡ n)
+
+-- A line says a vertex: `vertex NAME WCET DEADLINE`.
+abbrev pub SaysVertex : List (List ℕ) → Vertex → Type 0
+SaysVertex words v = (wcet : List ℕ) × (deadline : List ℕ) × (words ≡ vertex_word ∷ v.name ∷ wcet ∷ deadline ∷ []) × Means wcet v.wcet × Means deadline v.deadline
+
+-- A line says an edge between two of these vertices: `edge FROM TO SEPARATION`, the ends by their names.
+abbrev pub SaysEdge : List Vertex → List (List ℕ) → Edge → Type 0
+SaysEdge vs words e = (from : Vertex) × (to : Vertex) × (sep : List ℕ) × (slice_get vs e.from ≡ Some from) × (slice_get vs e.to ≡ Some to)
+    × (words ≡ edge_word ∷ from.name ∷ to.name ∷ sep ∷ []) × Means sep e.sep
+
+-- A line says a priority: `priority N`.
+abbrev pub SaysPriority : List (List ℕ) → ℕ → Type 0
+SaysPriority words n = (number : List ℕ) × (words ≡ priority_word ∷ number ∷ []) × Means number n
+
+-- The lines of a task below its `task` line say these vertices and these edges, each in this order, and this priority or none: line by
+-- line, the last one last. An edge names vertices that stand above it, and no line follows another with a second priority.
+pub data Says : List (List (List ℕ)) → List Vertex → List Edge → Option ℕ → Type 0 where
+  nothing : Says [] [] [] None
+  vertex : (body : List (List (List ℕ))) (vs : List Vertex) (es : List Edge) (p : Option ℕ) (words : List (List ℕ)) (v : Vertex) → Says body vs es p → SaysVertex words v → Says (body ++ words ∷ []) (vs ++ v ∷ []) es p
+  edge : (body : List (List (List ℕ))) (vs : List Vertex) (es : List Edge) (p : Option ℕ) (words : List (List ℕ)) (e : Edge) → Says body vs es p → SaysEdge vs words e → Says (body ++ words ∷ []) vs (es ++ e ∷ []) p
+  priority : (body : List (List (List ℕ))) (vs : List Vertex) (es : List Edge) (words : List (List ℕ)) (n : ℕ) → Says body vs es None → SaysPriority words n → Says (body ++ words ∷ []) vs es (Some n)
+
+-- The priority that the lines of a task write: in version 2 its own, in version 1 none.
+unfoldable pub written_priority : ℕ → Option ℕ → Option ℕ
+written_priority version p = if version == 2 then p else None
+
+-- Lines say a task: `task NAME`, and below it its vertices, its edges and in version 2 its priority.
+abbrev pub SaysTask : ℕ → List (List (List ℕ)) → Task → Type 0
+SaysTask version own t = (body : List (List (List ℕ))) × (own ≡ (task_word ∷ t.name ∷ []) ∷ body) × Says body t.vertices t.edges (written_priority version (Some t.priority))
+
+-- Lines say tasks: those of each follow those of the tasks before it.
+pub data SaysTasks (version : ℕ) : List (List (List ℕ)) → List Task → Type 0 where
+  no_task : SaysTasks version [] []
+  next_task : (ls : List (List (List ℕ))) (ts : List Task) (own : List (List (List ℕ))) (t : Task) → SaysTasks version ls ts → SaysTask version own t → SaysTasks version (ls ++ own) (ts ++ t ∷ [])
+
+-- A text reads as a set that keeps the limits of its version where the fields of its lines that aren't skipped are, line by line, those
+-- of `drt 1` or `drt 2`, of the tasks in order, and of `end`.
 pub record Reads (bytes : List ℕ) (set : Contents) : Type 0 where
-  pub spelled : bytes ≡ canonical set
-  pub version : set.version ≡ 1
-  pub one_task : length set.tasks ≡ 1
+  pub limits : IsTaskSet set.version set.tasks
+  pub task_lines : List (List (List ℕ))
+  pub spelled : said bytes ≡ version_line set.version ∷ (task_lines ++ end_line ∷ [])
+  pub tasks : SaysTasks set.version task_lines set.tasks
 
--- A text has a fault, by line and code, where it reads as no set: line 0, code 99.
+-- A text has this fault: its first faulty line has it, by the table of codes, and the text reads as no set.
 pub record HasFault (bytes : List ℕ) (line code : ℕ) : Type 0 where
-  pub at_line : line ≡ 0
-  pub of_code : code ≡ 99
-  pub reads_as_none : (set : Contents) → IsTaskSet set.version set.tasks → ¬ Reads bytes set
+  pub first : read_text bytes ≡ Err (record { line = line; code = code })
+  pub reads_as_none : (set : Contents) → ¬ Reads bytes set
 
 -- Why a text isn't read: it has that fault, or memory ran out.
 abbrev pub IsCauseOf : List ℕ → FileError → Type 0

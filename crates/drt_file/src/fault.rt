@@ -3,9 +3,6 @@ use drt_model::Memory;
 use std::alloc::AllocFailed;
 use thiserror::Error;
 
-/// The code of every text that isn't read.
-pub const NOT_READ: u8 = 99;
-
 /// Where a file breaks the format: the line, counted from 1, and the code of the rule. A fault of the
 /// file as a whole has line 0.
 #[derive(Debug, Clone, Copy, PartialEq, Eq, Error)]

@@ -1,17 +1,22 @@
 //! Task files: reading them, and printing a task set as its canonical text.
 //!
-//! The layers above use `read`, which answers with the set that a text reads as or with the text's
-//! fault, `print`, whose text is `canonical` of the set, and `upgrade`. `laws` says that a set is
-//! told by its canonical text alone. How a text is cut into lines and fields is in `cutting`, what
-//! single fields say in `words`.
+//! The layers above use `read`, which answers with the set that a text reads as (`Reads`, a relation
+//! on whole texts) or with the line and the code of its first fault (`HasFault`, by the table of
+//! codes in `specs/Faults.antt`), `print`, whose text is `canonical` of the set, and `upgrade`. `laws`
+//! says how these fit: what is printed is read back, and a text reads as one set at most. How a text
+//! is cut into lines and fields is in `cutting`, what single fields say in `words`.
 #![tactic(auto)]
 
+pub mod codes;
 pub mod cutting;
-mod draft;
+mod effects;
 pub mod fault;
+mod faults;
 pub mod laws;
+mod line;
 pub mod printing;
 pub mod reading;
+pub mod state;
 #[cfg(test)]
 mod tests;
 pub mod versions;

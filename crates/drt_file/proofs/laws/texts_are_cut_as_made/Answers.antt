@@ -1,4 +1,4 @@
-use Rattle.drt_file.proofs.OneSet.{cut_as_made}
+use Rattle.drt_file.proofs.Printed.{cut_as_made}
 use Rattle.drt_file.proofs.laws.texts_are_cut_as_made.Goals as goal
 
 pub returns : goal.returns

@@ -1,19 +1,15 @@
-use Rattle.std.proofs.Common.{sym, ◌∙◌}
-use Rattle.drt_file.proofs.Back.{read_as, read_as_none, says_none, is_cause}
+use Rattle.std.proofs.lemmas.Result.{err_from_is_err_and}
+use Rattle.drt_file.proofs.Exact.{cause_of}
+use Rattle.drt_file.proofs.Whole.{read_says}
 use Rattle.drt_file.proofs.reading.read.Goals as goal
 
-pub returns-then-eq-clause-read : goal.returns-then-eq-clause-read
-returns-then-eq-clause-read c =
-    let said = rw c.in-Some.is at c.in_ok-set.ensures in
-    read_as c.args.bytes.now c.as_slice.result.now c.in-Some.set said (c.as_slice.ensures ∙ c.in_ok-text-in-Some.ensures) (sym c.if-eq.ensures)
+pub returns-in_err-version-clause-fault : goal.returns-in_err-version-clause-fault
+returns-in_err-version-clause-fault c =
+    let p = err_from_is_err_and c.from_residual.result c.from_residual.ensures.1 in
+    rw (p.1, p.2) (cause_of c.args.bytes.now c.in_err-version.field-0.0 c.in_err-version.ensures)
 
-pub returns-else-eq-clause-fault : goal.returns-else-eq-clause-fault
-returns-else-eq-clause-fault c =
-    let said = rw c.in-Some.is at c.in_ok-set.ensures in
-    is_cause c.args.bytes.now c.not_read.result c.not_read.ensures
-    (read_as_none c.args.bytes.now c.as_slice.result.now c.in-Some.set said (c.as_slice.ensures ∙ c.in_ok-text-in-Some.ensures) (sym c.if-eq.ensures))
+pub invariant_of-result : goal.invariant_of-result
+invariant_of-result c = (read_says c.args.bytes.now (record { version = c.in_ok-version.version; tasks = c.in_ok-version.tasks }) c.in_ok-version.ensures).limits
 
-pub returns-in-None-clause-fault : goal.returns-in-None-clause-fault
-returns-in-None-clause-fault c =
-    let said = rw c.in-None.is at c.in_ok-set.ensures in
-    is_cause c.args.bytes.now c.not_read-in-None.result c.not_read-in-None.ensures (says_none c.args.bytes.now said)
+pub returns-clause-read : goal.returns-clause-read
+returns-clause-read c = read_says c.args.bytes.now (record { version = c.in_ok-version.version; tasks = c.in_ok-version.tasks }) c.in_ok-version.ensures
