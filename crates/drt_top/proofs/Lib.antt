@@ -1,0 +1,10 @@
+pub mod BadLemmas
+pub mod Completeness
+pub mod Faults
+pub mod Joins
+pub mod Late
+pub mod NumberLemmas
+pub mod PlainLemmas
+pub mod Told
+pub mod UtilLemmas
+pub mod Written

@@ -1,0 +1,38 @@
+-- The command line, as clap's clauses see it.
+use Rattle.std.specs.Prelude.{ℕ, List, [], ◌∷◌, Some, true, codes}
+use Rattle.clap.specs.Words.{App, Rule, Shape, Text, new_app, new_rule, with_rule, with_subcommand}
+use Rattle.clap.specs.declared.builder.ArgAction.TheVariants.{Set}
+use Rattle.clap.specs.declared.builder.ValueParser.TheVariants as vp
+
+-- An option of one whole number from 1 to `most`, with a default.
+abbrev pub number_rule : Text → ℕ → Text → Rule
+number_rule name most standard = record (new_rule name) {
+  long = Some name;
+  action = Some Set;
+  parser = Some (vp.Unsigned 1 most);
+  defaults = standard ∷ [];
+}
+
+-- A command that searches has the options for workers and budget.
+abbrev pub analysis_app : Text → App
+analysis_app name = with_rule (with_rule (new_app name)
+    (number_rule (codes "workers") 16 (codes "4")))
+    (number_rule (codes "budget") 1000000 (codes "100000"))
+
+-- Help, version and the help subcommand are off, and a subcommand is required.
+abbrev pub bare_top : Shape → Shape
+bare_top s = record s {
+  disable_help_flag = true;
+  disable_version_flag = true;
+  disable_help_subcommand = true;
+  subcommand_required = true;
+}
+
+-- The same of a command's top shape.
+abbrev pub bare_app : App → App
+bare_app a = record { top = bare_top a.top; subs = a.subs }
+
+-- The whole command line: the commands `sp`, `upgrade` and `util`.
+abbrev pub drt_app : App
+drt_app = with_subcommand (with_subcommand (with_subcommand (bare_app (new_app (codes "drt")))
+    (analysis_app (codes "sp")).top) (new_app (codes "upgrade")).top) (new_app (codes "util")).top

@@ -1,0 +1,11 @@
+pub mod Command
+pub mod Number
+pub mod Meaning
+pub mod Plain
+pub mod Stops
+pub mod Notices
+pub mod Dossier
+pub mod Files
+pub mod Answers
+pub mod Util
+pub mod Run

@@ -1,0 +1,57 @@
+-- Plain lists of words, and lists that must be refused.
+use Rattle.std.specs.Prelude.{◌≡◌, ◌≢◌, ◌≤◌, ◌&&◌, ℕ, List, [], ◌∷◌, ◌++◌, codes, false, None, slice_index}
+use Rattle.std.specs.Str.{bytes_eq}
+use Rattle.std.specs.Str.Parse.{IsNumeral, digits_value}
+use Rattle.clap.specs.Lexer.{long_of, short_of}
+use Rattle.clap.specs.ValueTests.{is_unsigned_in}
+use Rattle.drt_top.specs.declared.words.Meaning.{Meaning}
+use Rattle.drt_top.specs.declared.words.Meaning.TheVariants.{Sp, Upgrade, Util}
+
+-- The text is a number from 1 to `most` in decimal digits without leading zeros.
+pub record IsPlainNumber (most : ℕ) (text : List ℕ) (n : ℕ) : Type 0 where
+  pub digits : IsNumeral 10 text
+  pub no_leading_zero : slice_index text 0 ≢ 48
+  pub value : digits_value 10 text ≡ n
+  pub some : 1 ≤ n
+  pub within : n ≤ most
+
+-- An option with its value is spelled `--name value` or `--name=value`.
+pub data Spells (name text : List ℕ) : List (List ℕ) → Type 0 where
+  apart : Spells name text ((codes "--" ++ name) ∷ text ∷ [])
+  joined : Spells name text ((codes "--" ++ name ++ codes "=" ++ text) ∷ [])
+
+-- The options of a command that searches, each at most once and in any order, with the numbers that they give or the defaults.
+pub data PlainOptions : List (List ℕ) → ℕ → ℕ → Type 0 where
+  neither : PlainOptions [] 4 100000
+  workers : (words : List (List ℕ)) (a : List ℕ) (m : ℕ) → IsPlainNumber 16 a m → Spells (codes "workers") a words → PlainOptions words m 100000
+  budget : (words : List (List ℕ)) (b : List ℕ) (n : ℕ) → IsPlainNumber 1000000 b n → Spells (codes "budget") b words → PlainOptions words 4 n
+  workers_first : (front back : List (List ℕ)) (a b : List ℕ) (m n : ℕ) → IsPlainNumber 16 a m → IsPlainNumber 1000000 b n
+      → Spells (codes "workers") a front → Spells (codes "budget") b back → PlainOptions (front ++ back) m n
+  budget_first : (front back : List (List ℕ)) (a b : List ℕ) (m n : ℕ) → IsPlainNumber 16 a m → IsPlainNumber 1000000 b n
+      → Spells (codes "budget") b front → Spells (codes "workers") a back → PlainOptions (front ++ back) m n
+
+-- A plain list: a program name, a command, then that command's options.
+pub data IsPlain : List (List ℕ) → Meaning → Type 0 where
+  plain_sp : (program : List ℕ) (options : List (List ℕ)) (m n : ℕ) → PlainOptions options m n → IsPlain (program ∷ codes "sp" ∷ options) (Sp m n)
+  plain_upgrade : (program : List ℕ) → IsPlain (program ∷ codes "upgrade" ∷ []) Upgrade
+  plain_util : (program : List ℕ) → IsPlain (program ∷ codes "util" ∷ []) Util
+
+-- The word isn't `--` and doesn't read as a flag.
+pub record BeginsPlain (text : List ℕ) : Type 0 where
+  pub no_dashes : bytes_eq text (codes "--") ≡ false
+  pub no_long : long_of text ≡ None
+  pub no_short : short_of text ≡ None
+
+-- Both options with these texts as their values, in either order.
+pub data BothOptions (a b : List ℕ) : List (List ℕ) → Type 0 where
+  workers_then_budget : (front back : List (List ℕ)) → Spells (codes "workers") a front → Spells (codes "budget") b back → BothOptions a b (front ++ back)
+  budget_then_workers : (front back : List (List ℕ)) → Spells (codes "budget") b front → Spells (codes "workers") a back → BothOptions a b (front ++ back)
+
+-- The list gives an option of `sp` a value that is no number in its range, alone or beside the other option, whatever that one's value is.
+pub data GivesBadNumber : List (List ℕ) → Type 0 where
+  bad_workers : (program text : List ℕ) (words : List (List ℕ)) → is_unsigned_in 1 16 text ≡ false → BeginsPlain text
+      → Spells (codes "workers") text words → GivesBadNumber (program ∷ codes "sp" ∷ words)
+  bad_budget : (program text : List ℕ) (words : List (List ℕ)) → is_unsigned_in 1 1000000 text ≡ false → BeginsPlain text
+      → Spells (codes "budget") text words → GivesBadNumber (program ∷ codes "sp" ∷ words)
+  bad_either : (program a b : List ℕ) (words : List (List ℕ)) → (is_unsigned_in 1 16 a && is_unsigned_in 1 1000000 b) ≡ false → BeginsPlain a → BeginsPlain b
+      → BothOptions a b words → GivesBadNumber (program ∷ codes "sp" ∷ words)

@@ -1,0 +1,19 @@
+//! A number of the command line.
+ghost use Rattle.std.specs.Prelude.{◌≡◌, ◌<◌, ◌^◌};
+ghost use Rattle.drt_top.specs.Number.{number_in};
+
+/// The number of a text, where it lies in 1 to `most`.
+pub fn number_of(text: &str, most: u32) -> Option<u32>
+    ensures { result ≡ number_in most text.now }
+{
+    match text.parse::<u32>() {
+        Ok(number) => {
+            if 1 <= number && number <= most {
+                Some(number)
+            } else {
+                None
+            }
+        }
+        Err(_) => None,
+    }
+}

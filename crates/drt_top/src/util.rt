@@ -1,0 +1,105 @@
+//! The text of `util`: the ratio of each task, and the utilisation of the set.
+ghost use Rattle.std.specs.Prelude.{◌≡◌, ◌≤◌, ◌++◌, ◌⊎◌, IfErr, IfOk, OnOk, length, map};
+ghost use Rattle.drt_file.specs.Canonical.{written, written_line};
+ghost use Rattle.drt_model.specs.Digraph.{digraph_of};
+ghost use Rattle.drt_ratio.specs.SetRatios.{AreRatioProofs, AreSmall, fractions_of};
+ghost use Rattle.drt_top.specs.Util.{IsTooFine, IsUtilisationText, fraction_line, ratio_lines, util_lines};
+
+use crate::lines::push_line;
+use crate::outcome::Fault;
+use crate::stop::Stop;
+use drt_graph::Graphs;
+use drt_model::{Memory, Row, Task, TaskSet};
+use drt_num::Ratio;
+use drt_ratio::{RatioProof, greatest, proofs_give_ratios, utilisation};
+use itoa::Buffer;
+use std::alloc::Global;
+
+/// The code of a set whose scale exceeds 2^60.
+const SCALE_TOO_FINE: u8 = 21;
+
+/// The text of `util`: a line `NAME NUM/DEN` for the ratio of each task, in order, and a line `total NUM/DEN` for the
+/// utilisation of the set, all in lowest terms. A set whose scale exceeds 2^60 is refused with the fault of that limit.
+pub(crate) fn util_text(alloc: Global, set: &TaskSet, graphs: &Graphs) -> Result<Row<u8>, Stop>
+    requires { graphs.now ≡ map digraph_of set.now.tasks }
+    ensures text { IfOk result (λ text. IsUtilisationText set.now text) }
+    ensures stops { IfErr result (λ stop. (stop ≡ Stop.Memory) ⊎ ((stop ≡ Stop.File (Fault.Limit 21)) × IsTooFine set.now)) }
+{
+    proofs_give_ratios();
+    let Ok(proofs) = ratio_proofs(alloc, graphs) else {
+        return Err(Stop::Memory);
+    };
+    let Some(total) = utilisation(proofs.as_slice()) else {
+        return Err(Stop::File(Fault::Limit {
+            code: SCALE_TOO_FINE,
+        }));
+    };
+    match text_of(alloc, set.tasks(), proofs.as_slice(), &total) {
+        Ok(text) => Ok(text),
+        Err(_) => Err(Stop::Memory),
+    }
+}
+
+// The ratio of each graph, with its evidence.
+fn ratio_proofs(alloc: Global, graphs: &Graphs) -> Result<Vec<RatioProof>, Memory>
+    ensures are { IfOk result (λ proofs. AreRatioProofs graphs.now proofs.items) }
+    ensures small { IfOk result (λ proofs. AreSmall proofs.items) }
+    ensures few { IfOk result (λ proofs. length proofs.items ≤ 32) }
+    ensures count { IfOk result (λ proofs. length proofs.items ≡ length graphs.now) }
+{
+    let mut proofs = Vec::new(alloc);
+    let count = graphs.count();
+    'graphs: for i in 0..count {
+        proofs.push(greatest(alloc, graphs.graph(i))?)?;
+    }
+    Ok(proofs)
+}
+
+// The lines of the tasks with their ratios, and the one of the total.
+fn text_of(
+    alloc: Global,
+    tasks: &[Task],
+    proofs: &[RatioProof],
+    total: &Ratio,
+) -> Result<Row<u8>, Memory>
+    requires { length tasks.now ≡ length proofs.now }
+    ensures { IfOk result (λ text. text ≡ written (util_lines tasks.now (fractions_of proofs.now) (record { num = total.now.num; den = total.now.den }))) }
+{
+    let mut text = Vec::new(alloc);
+    push_ratios(alloc, &mut text, tasks, proofs)?;
+    push_fraction(alloc, &mut text, b"total", total)?;
+    Ok(Row::from_vec(text))
+}
+
+// Adds the lines of the tasks with their ratios.
+fn push_ratios(
+    alloc: Global,
+    text: &mut Vec<u8>,
+    tasks: &[Task],
+    proofs: &[RatioProof],
+) -> Result<(), Memory>
+    requires { length tasks.now ≡ length proofs.now }
+    ensures { OnOk result (text.new.items ≡ text.old.items ++ written (ratio_lines tasks.now (fractions_of proofs.now))) }
+{
+    'tasks: for i in 0..tasks.len() {
+        push_fraction(alloc, text, tasks[i].name.as_slice(), &proofs[i].ratio)?;
+    }
+    Ok(())
+}
+
+// Adds the line of a name and a fraction.
+fn push_fraction(
+    alloc: Global,
+    text: &mut Vec<u8>,
+    name: &[u8],
+    ratio: &Ratio,
+) -> Result<(), Memory>
+    ensures { OnOk result (text.new.items ≡ text.old.items ++ written_line (fraction_line name.now (record { num = ratio.now.num; den = ratio.now.den }))) }
+{
+    let mut num = Buffer::new();
+    let mut den = Buffer::new();
+    let mut fraction = Vec::from_slice(alloc, num.format(ratio.num()).as_bytes())?;
+    fraction.extend_from_slice(b"/")?;
+    fraction.extend_from_slice(den.format(ratio.den()).as_bytes())?;
+    push_line(text, &[name, fraction.as_slice()])
+}
