@@ -1,0 +1,57 @@
+//! How a run ends.
+
+/// How a run ends: the status that the program ends with, what shows a spent budget, and the fault
+/// of a refused file.
+#[derive(Debug, Drop)]
+pub struct Outcome {
+    pub status: u8,
+    pub trail: Trail,
+    pub fault: Fault,
+}
+
+/// What shows that a budget was spent.
+#[derive(Debug, Drop)]
+pub enum Trail {
+    /// No budget was spent.
+    Nothing,
+}
+
+/// Why a file is refused.
+#[derive(Debug, Clone, Copy, PartialEq, Eq)]
+pub enum Fault {
+    /// It isn't.
+    Nothing,
+    /// The fault of this code at this line, counted from 1, or at line 0 a fault of the whole file.
+    File { line: u32, code: u8 },
+    /// The separation of this edge of this task is below the deadline of its source.
+    Edge { task: u32, edge: u32 },
+    /// The analysis has a limit that the set passes.
+    Limit { code: u8 },
+}
+
+/// The schedulable set's status.
+pub const YES: u8 = 0;
+
+/// The status of a set that isn't schedulable.
+pub const NO: u8 = 1;
+
+/// The status of a refused file.
+pub const FILE_REFUSED: u8 = 4;
+
+/// The status of refused words.
+pub const WORDS_REFUSED: u8 = 5;
+
+/// The status of a failed read.
+pub const READ_FAILED: u8 = 6;
+
+/// The status of a failed write.
+pub const WRITE_FAILED: u8 = 7;
+
+/// The status of want of memory.
+pub const OUT_OF_MEMORY: u8 = 8;
+
+/// The code of a file that is too long.
+pub const TOO_LONG: u8 = 23;
+
+/// The code of a file that isn't analysed.
+pub const NOT_ANALYSED: u8 = 99;
