@@ -1,0 +1,35 @@
+//! The program `drt`: the adapters over standard input and output, and one run.
+#![tactic(auto)]
+
+use drt_io::{FromRead, FromWrite, write_all};
+use drt_top::{notice, run};
+use std::process::ExitCode;
+use std::rt::Env;
+use std::{env, io};
+
+// The status where the system gives no words.
+const NO_WORDS: u8 = 11;
+
+fn main(rt: HostRuntime) -> ExitCode {
+    let words = match words_of(&rt) {
+        Ok(words) => words,
+        Err(_) => return ExitCode::from(NO_WORDS),
+    };
+    let mut source = FromRead::new(rt.stdin().lock());
+    let mut sink = FromWrite::new(rt.stdout());
+    let outcome = run(rt.alloc(), words.as_slice(), &mut source, &mut sink);
+    if let Ok(line) = notice(rt.alloc(), &outcome) {
+        // There is nowhere else to say that standard error takes no more.
+        let _ = write_all(&mut FromWrite::new(rt.stderr()), line.as_slice());
+    }
+    ExitCode::from(outcome.status)
+}
+
+// The words that the program was called with.
+fn words_of(rt: &(impl Env + AllocGlobal)) -> io::Result<Vec<String>> {
+    let mut words = Vec::new(rt.alloc());
+    for word in env::args(rt)? {
+        words.push(word)?;
+    }
+    Ok(words)
+}
