@@ -19,3 +19,6 @@ pub mod words;
 pub use notices::notice;
 pub use outcome::{Fault, Outcome, Trail};
 pub use running::run;
+
+#[cfg(test)]
+mod tests;
