@@ -8,7 +8,7 @@ use Rattle.drt_model.specs.declared.jobs.Job.{Job}
 use Rattle.drt_model.specs.declared.jobs.Policy.{Policy}
 use Rattle.drt_model.specs.Trace.{job_at, done, Misses}
 use Rattle.drt_model.proofs.MachineLemmas.{done_mono_le, done-le-need}
-use Rattle.drt_model.specs.Misses.{index_of, miss_of, IsJob}
+use Rattle.drt_model.specs.Misses.{index_of, miss_of, IsJob, IsLeastMiss}
 use Rattle.drt_replay.specs.Board.{Shown, AreFinishes, IsFinishSoFar, IsLate, IsLateBy, IsNoLaterAt, IsEarlier, IsFirstLate, IsNoLater, IsFirstMiss}
 
 late_by : (policy : Policy) (jobs : List Job) (ticks j : ℕ) (o : Option ℕ) → IsFinishSoFar policy jobs ticks j o → IsLateBy (job_at jobs j) o ticks → Misses policy jobs j
@@ -125,3 +125,20 @@ job_unique jobs task index j k a b =
       | inr (inl h) ↦ absurd (omega (arith, count_at jobs task j k a.task_is h (omega (arith, b.here)), x, y, a.index_is, b.index_is))
       | inr (inr h) ↦ absurd (omega (arith, count_at jobs task k j b.task_is h (omega (arith, a.here)), x, y, a.index_is, b.index_is))
     ]
+
+-- the first miss by now is of least deadline among all misses
+pub least_if : (shown : Shown) (m : Miss) → IsFirstMiss shown m → IsLeastMiss shown.policy shown.jobs m
+least_if shown m f = record {
+  job = f.job;
+  here = f.late.0;
+  is = f.is;
+  misses = f.late.1;
+  least = λ k h miss. elim (cases_lt shown.ticks (job_at shown.jobs k).deadline) [
+    | inl later ↦ omega (arith, f.late.2)
+    | inr come ↦ (let due : m.deadline ≡ (job_at shown.jobs f.job).deadline = ap (λ x. x.deadline) f.is in
+        elim (f.first k (h, miss, come)) [
+          | inl sooner ↦ omega arith
+          | inr (e, _) ↦ omega arith
+        ])
+  ];
+}

@@ -1,7 +1,7 @@
 //! A board that shows the tick machine.
-ghost use Rattle.std.specs.Prelude.{◌≡◌, ℕ, ◌+◌, ◌^◌, ◌<◌, ◌≤◌, All, IfOk, MatchOption, length};
+ghost use Rattle.std.specs.Prelude.{◌≡◌, ℕ, ◌+◌, ◌^◌, ◌<◌, ◌≤◌, All, IfOk, IfSome, MatchOption, length};
 ghost use Rattle.drt_model.specs.Legal.{IsLegal};
-ghost use Rattle.drt_model.specs.Misses.{IsJob};
+ghost use Rattle.drt_model.specs.Misses.{IsJob, IsLeastMiss};
 ghost use Rattle.drt_model.specs.Schedulable.{jobs_of};
 
 use crate::events::advance;
@@ -97,9 +97,11 @@ impl Board {
         );
     }
 
-    /// The first miss by now: that of least deadline, then of least task, then of least index.
+    /// The first miss among the deadlines that have come: that of least deadline, then of least task, then of
+    /// least index. None where no job with such a deadline misses.
     pub fn first_miss(&self) -> Option<Miss>
-        ensures { MatchOption result ((j : ℕ) → IsLate self.now j → ⊥) (IsFirstMiss self.now) }
+        ensures first { MatchOption result ((j : ℕ) → IsLate self.now j → ⊥) (IsFirstMiss self.now) }
+        ensures least { IfSome result (IsLeastMiss self.now.policy self.now.jobs) }
     {
         match self.first_late() {
             Some(j) => Some(Miss {

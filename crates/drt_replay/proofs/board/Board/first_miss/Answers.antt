@@ -2,13 +2,13 @@ use Rattle.std.proofs.Common.{◌≡◌, sym, ap, ◌∙◌, subst}
 use Rattle.std.proofs.lemmas.List.{get_or_read}
 use Rattle.drt_model.specs.declared.jobs.Job.{Job}
 use Rattle.drt_model.specs.declared.jobs.Miss.{Miss}
-use Rattle.drt_model.specs.Misses.{index_of}
+use Rattle.drt_model.specs.Misses.{IsLeastMiss, index_of}
 use Rattle.drt_replay.specs.Board.{Shown, IsFirstMiss, IsFirstLate}
-use Rattle.drt_replay.proofs.LateLemmas.{first_miss_if, miss_parts}
+use Rattle.drt_replay.proofs.LateLemmas.{first_miss_if, least_if, miss_parts}
 use Rattle.drt_replay.proofs.board.Board.first_miss.Goals as goal
 
-pub returns-in-Some : goal.returns-in-Some
-returns-in-Some c =
+pub returns-in-Some-clause-first : goal.returns-in-Some-clause-first
+returns-in-Some-clause-first c =
     let b = c.self.inside in
     let shown : Shown = record { policy = b.policy; jobs = b.jobs.items; ticks = b.ticks } in
     let is : shown ≡ c.args.self.now = c.self.view_is in
@@ -23,3 +23,20 @@ returns-in-Some c =
     (c.index_of.ensures.value ∙ ap (λ js. index_of js j) c.deref.ensures.value)
     (ap (λ job. job.deadline) again) in
     subst (λ s. IsFirstMiss s m) is (first_miss_if shown j m f parts)
+
+pub returns-in-Some-clause-least : goal.returns-in-Some-clause-least
+returns-in-Some-clause-least c =
+    let b = c.self.inside in
+    let shown : Shown = record { policy = b.policy; jobs = b.jobs.items; ticks = b.ticks } in
+    let is : shown ≡ c.args.self.now = c.self.view_is in
+    let j = c.in-Some.j in
+    let f = subst (λ s. IsFirstLate s j) (sym is) c.in-Some.ensures in
+    let d : Job = record { task = 0; priority = 0; time = 0; deadline = 0; need = 0 } in
+    let here = get_or_read b.jobs.items j c.index.result.now f.late.0 c.index.ensures d in
+    let again = get_or_read b.jobs.items j c.index-in-Some.result.now f.late.0 c.index-in-Some.ensures d in
+    let m : Miss = record { task = c.index.result.now.task; index = c.index_of.result; deadline = c.index-in-Some.result.now.deadline } in
+    let parts = miss_parts b.jobs.items j c.index.result.now.task c.index_of.result c.index-in-Some.result.now.deadline
+    (ap (λ job. job.task) here)
+    (c.index_of.ensures.value ∙ ap (λ js. index_of js j) c.deref.ensures.value)
+    (ap (λ job. job.deadline) again) in
+    subst (λ s. IsLeastMiss s.policy s.jobs m) is (least_if shown m (first_miss_if shown j m f parts))
