@@ -3,3 +3,4 @@ pub mod Merging
 pub mod Kept
 pub mod Times
 pub mod Values
+pub mod Ends

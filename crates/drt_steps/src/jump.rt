@@ -1,5 +1,5 @@
 //! The places where a function rises, in order of time.
-ghost use Rattle.std.specs.Prelude.{◌≡◌, ℕ, ◌+◌, ◌≤◌, ◌++◌, ◌∷◌, IfOk};
+ghost use Rattle.std.specs.Prelude.{◌≡◌, ℕ, ◌+◌, ◌≤◌, ◌<◌, ◌++◌, ◌∷◌, IfOk};
 ghost use Rattle.drt_steps.specs.Jumps.{risen, up_to, past};
 
 use std::alloc::{AllocError, Global};
@@ -23,6 +23,21 @@ pub fn risen_before(jumps: &[Jump], t: u64) -> u64
         }
     }
     sum
+}
+
+// A time before `t`, or 0, since when the rises are those before `t`.
+pub fn level_since(jumps: &[Jump], t: u64) -> u64
+    requires { 1 ≤ t }
+    ensures before { result < t }
+    ensures level { (s : ℕ) → result < s → s ≤ t → risen jumps.now s ≡ risen jumps.now t }
+{
+    let mut since = 0;
+    for jump in jumps {
+        if t > jump.after {
+            since = jump.after.max(since);
+        }
+    }
+    since
 }
 
 // The jumps with one more in its place, behind those of its time.

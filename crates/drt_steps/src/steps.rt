@@ -1,10 +1,13 @@
 //! A function that never falls.
-ghost use Rattle.std.specs.Prelude.{◌≡◌, ℕ, ◌+◌, ◌≤◌, ◌<◌, length, replicate, IfOk};
+ghost use Rattle.std.specs.Prelude.{◌≡◌, ℕ, ◌+◌, ◌≤◌, ◌<◌, length, replicate, reverse, IfOk};
+ghost use Rattle.std.specs.Ordering.{nat_cmp};
+ghost use Rattle.std.specs.Cmp.Lexicographic.{slice_cmp};
 ghost use Rattle.drt_steps.specs.Values.{raise, value_at, covers, max_of};
 
-use crate::jump::{Jump, placed, risen_before};
+use crate::jump::{Jump, level_since, placed, risen_before};
 use crate::merge::{merged, stays_above};
 use std::alloc::{AllocError, Global};
+use std::cmp::Ordering;
 use std::marker::Model;
 
 /// A function on the times 1 to its bound that never falls: the work, in ticks, that is asked for before a time.
@@ -117,5 +120,33 @@ impl Steps {
             base: a.base.max(b.base),
             jumps: merged(alloc, a.base, &a.jumps, b.base, &b.jumps)?,
         })
+    }
+
+    /// The order of two functions by their values at the bound, and where those are equal by the values at the time
+    /// before, and so on down to 1. It looks only at times where one of them rises.
+    pub fn compare_from_end(&self, other: &Steps) -> Ordering
+        requires { length self.now ≡ length other.now }
+        ensures { result ≡ slice_cmp nat_cmp (reverse self.now) (reverse other.now) }
+    {
+        let mut t = self.bound();
+        while t > 0 {
+            let own = self.at(t);
+            let others = other.at(t);
+            if own != others {
+                return own.cmp(&others);
+            }
+            t = self.level_since(t).max(other.level_since(t));
+        }
+        Ordering::Equal
+    }
+
+    // A time before `t`, or 0, since when the value is that at `t`.
+    fn level_since(&self, t: u64) -> u64
+        requires from { 1 ≤ t }
+        requires to { t ≤ length self.now }
+        ensures before { result < t }
+        ensures level { (s : ℕ) → result < s → s ≤ t → value_at self.now s ≡ value_at self.now t }
+    {
+        level_since(&self.jumps, t)
     }
 }

@@ -3,6 +3,7 @@ ghost use Rattle.std.specs.Prelude.{◌≡◌, ◌≤◌, length};
 
 use crate::{Steps, least_time};
 use std::alloc::{AllocError, Global};
+use std::cmp::Ordering;
 use std::process::Abort;
 use std::test::Fail;
 
@@ -61,6 +62,7 @@ fn at_each_time_the_greater_value_is_taken(rt: HostRuntime) -> Result<(), Fail> 
     assert!(rt; !early.covers(&late));
     assert!(rt; !late.covers(&early));
     assert!(rt; early.covers(&early));
+    assert!(rt; early.compare_from_end(&late) == Ordering::Less);
     Ok(())
 }
 

@@ -1,0 +1,3 @@
+pub mod Leaf
+pub mod Tree
+pub mod Shape
