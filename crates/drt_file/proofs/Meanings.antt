@@ -2,9 +2,8 @@
 use Rattle.std.proofs.Common.{◌≡◌, ◌≢◌, ℕ, ◌≤◌, Bool, true, false, not, ◌&&◌, ◌||◌, List, [], ◌∷◌, length, refl, ap, ◌∙◌, arith}
 use Rattle.std.specs.Prelude.{bytes_eq, nat_le}
 use Rattle.std.specs.List.{AllByRecursion, list_all, list_any}
-use Rattle.std.proofs.lemmas.List.Elements.{All-from_recursion, recursion_from_All}
 use Rattle.std.proofs.lemmas.Slice.Eq.{bytes_eq-Decides}
-use Rattle.drt_model.specs.Limits.{IsNameByte, IsName, IsTime}
+use Rattle.drt_model.specs.Limits.{IsTime}
 use Rattle.drt_file.specs.Cutting.{is_blank}
 use Rattle.drt_file.specs.Words.{is_digit, is_name_byte, is_name, is_number, value, capped, is_between}
 use Rattle.drt_file.specs.Line.{is_text, is_in_range}
