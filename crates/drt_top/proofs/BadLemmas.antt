@@ -3,7 +3,7 @@ use Rattle.std.proofs.Common.{◌≡◌, ◌&&◌, ℕ, Bool, List, [], ◌∷�
 use Rattle.clap.proofs.OnLiterals.{clap_on_literals}
 use Rattle.clap.specs.ValueTests.{is_unsigned_in}
 use Rattle.drt_top.specs.Meaning.{meaning_of}
-use Rattle.drt_top.specs.Plain.{BeginsPlain, Spells, apart, joined, BothOptions, workers_then_budget, budget_then_workers}
+use Rattle.drt_top.specs.Plain.{BeginsPlain, apart, joined, BothOptions, workers_then_budget, budget_then_workers}
 
 module _ (program a b : List ℕ) (p : BeginsPlain a) (q : BeginsPlain b) where
   workers_first_apart_apart : (x y : Bool) → is_unsigned_in 1 16 a ≡ x → is_unsigned_in 1 1000000 b ≡ y → (x && y) ≡ false → meaning_of (program ∷ codes "sp" ∷ (codes "--workers") ∷ a ∷ (codes "--budget") ∷ b ∷ []) ≡ None

@@ -1,5 +1,5 @@
 -- Where nothing fails, a file has the status that it must have.
-use Rattle.std.proofs.Common.{◌≡◌, ◌<◌, ◌⊎◌, ℕ, List, length, Option, Some, None, IfSome, inl, inr, refl, sym, ap, ◌∙◌, subst, lit<, arith}
+use Rattle.std.proofs.Common.{◌≡◌, ◌<◌, ◌⊎◌, ℕ, List, length, Option, Some, None, IfSome, inl, inr, refl, ap, ◌∙◌, subst, lit<, arith}
 use Rattle.std.proofs.lemmas.Bool.{cases_lt}
 use Rattle.drt_model.specs.Contents.{Contents}
 use Rattle.drt_model.specs.declared.jobs.Policy.TheVariants.{Fixed}

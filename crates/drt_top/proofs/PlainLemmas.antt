@@ -1,5 +1,5 @@
 -- What the command says of plain lists, and of values out of range.
-use Rattle.std.proofs.Common.{◌≡◌, ◌≢◌, ◌<◌, ◌≤◌, ◌^◌, ℕ, List, [], ◌∷◌, ◌++◌, Some, None, true, false, codes, refl, arith, ap, length, lt-ltb, lit<, lit≤, ◌==◌}
+use Rattle.std.proofs.Common.{◌≡◌, ◌<◌, ◌≤◌, ◌^◌, ℕ, List, [], ◌∷◌, ◌++◌, Some, None, true, false, codes, refl, arith, ap, length, lt-ltb, lit<, lit≤, ◌==◌}
 use Rattle.std.specs.Char.{digit_value}
 use Rattle.std.proofs.lemmas.Bool.{le-leb, ne_eqb}
 use Rattle.std.specs.Str.Parse.{digits_value, without_leading_plus}

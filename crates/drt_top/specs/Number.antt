@@ -1,5 +1,5 @@
 -- A number of the command line.
-use Rattle.std.specs.Prelude.{◌&&◌, ℕ, List, Option, Some, None, length, if◌then◌else◌, nat_le, nat_lt}
+use Rattle.std.specs.Prelude.{◌&&◌, ℕ, List, Option, Some, None, if◌then◌else◌, nat_le}
 use Rattle.std.specs.Str.Parse.{digits_value, without_leading_plus}
 use Rattle.clap.specs.ValueTests.{is_numeral}
 

@@ -1,4 +1,4 @@
-use Rattle.std.proofs.Common.{rules, arith}
+use Rattle.std.proofs.Common.{rules}
 use Rattle.drt_top.proofs.NumberLemmas.{number_read, number_refused}
 use Rattle.drt_top.proofs.number.number_of.Goals as goal
 
