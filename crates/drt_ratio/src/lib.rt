@@ -22,6 +22,7 @@ mod tests;
 mod traces;
 
 pub use checking::check_ratio;
+pub use cycles::totals as cycle_totals;
 pub use improving::greatest;
 pub use ratio_proof::RatioProof;
 pub use set_ratios::{proofs_give_ratios, rate, scale, utilisation};

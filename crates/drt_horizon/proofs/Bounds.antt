@@ -1,0 +1,65 @@
+-- Potentials along a walk.
+use Rattle.std.proofs.Common.{◌≡◌, ℕ, ℤ, pos, zero, suc, ◌+◌, ◌-◌, ◌*◌, ◌<◌, ◌≤◌, List, [], ◌∷◌, ◌⊎◌, inl, inr, refl, arith}
+use Rattle.std.specs.Prelude.{◌+ℤ◌, ◌-ℤ◌, ◌≤ℤ◌}
+use Rattle.std.specs.Int.{int_max}
+use Rattle.std.proofs.lemmas.Int.{ints, clamps}
+use Rattle.std.proofs.lemmas.Bool.{cases_lt}
+use Rattle.drt_model.specs.Digraph.{Digraph, IsSound, vertex_count}
+use Rattle.drt_model.specs.Walk.{gap, wcet, deadline, IsEdge, IsPath, last_of, work, span}
+use Rattle.drt_model.specs.Potential.{potential_of}
+use Rattle.drt_model.specs.RatioRules.{FitPotentials}
+use Rattle.drt_ratio.proofs.Paths.{work_cons, span_cons, work_none, span_none, path_within}
+use Rattle.drt_model.specs.Horizon.{most_to, most_over, constant_of}
+
+at_most : (f : ℕ → ℤ) (n k : ℕ) → k ≤ n → f k ≤ℤ most_to f n
+unfolding most_to
+at_most f zero k l = let e : k ≡ 0 = omega arith in rw e (omega (arith, ints))
+at_most f (suc n) k l = go (cases_lt k (suc n)) (λ m. at_most f n k m)
+  where
+    go : (k < suc n) ⊎ (suc n ≤ k) → (k ≤ n → f k ≤ℤ most_to f n) → f k ≤ℤ int_max (most_to f n) (f (suc n))
+    go (inl m) ih = let h = ih (omega arith) in omega (arith, ints, clamps, h)
+    go (inr m) ih = let e : k ≡ suc n = omega arith in rw e (omega (arith, ints, clamps))
+
+-- The greatest is at least each.
+pub most_at : (g : Digraph) (f : ℕ → ℤ) (v : ℕ) → v < vertex_count g → f v ≤ℤ most_over g f
+most_at g f v l = at_most f (vertex_count g - 1) v (omega arith)
+
+-- Along a walk the potentials rise by at least its gain.
+rises : (g : Digraph) (a b : ℕ) (hs : List ℤ) → ((u v : ℕ) → IsEdge g u v → (pos (b * wcet g v) -ℤ pos (a * gap g u v)) ≤ℤ (potential_of hs v -ℤ potential_of hs u)) → (u : ℕ) (vs : List ℕ) → IsPath g u vs → (pos (b * work g vs) -ℤ pos (a * span g u vs)) ≤ℤ (potential_of hs (last_of u vs) -ℤ potential_of hs u)
+rises g a b hs fits u [] is = rw (work_none, span_none) (omega (arith, ints))
+rises g a b hs fits u (v ∷ vs) is =
+    let h = fits u v is.0 in
+    let r = rises g a b hs fits v vs is.1 in
+    rw (work_cons, span_cons) (omega (arith, ints, h, r))
+
+-- The work of a walk is bounded by its last deadline.
+pub work_is_bounded : (g : Digraph) → IsSound g → (a b : ℕ) (hs : List ℤ) → FitPotentials g a b hs → (u : ℕ) (vs : List ℕ) → u < vertex_count g → IsPath g u vs → pos (b * work g (u ∷ vs)) ≤ℤ (pos (a * (span g u vs + deadline g (last_of u vs))) +ℤ constant_of g a b hs)
+work_is_bounded g sound a b hs fits u vs l is =
+    let w = last_of u vs in
+    let r = rises g a b hs (λ x y e. fits x y (gap g x y) e) u vs is in
+    let first = most_at g (λ x. pos (b * wcet g x) -ℤ potential_of hs x) u l in
+    let last = most_at g (λ x. potential_of hs x -ℤ pos (a * deadline g x)) (last_of u vs) (path_within g sound u vs l is) in
+    rw work_cons (omega (arith, ints, r, first, last))
+
+-- The greatest of the first vertex alone.
+pub most_start : (f : ℕ → ℤ) (z : ℤ) → z ≡ f 0 → z ≡ most_to f (1 - 1)
+unfolding most_to
+most_start f z e = e
+
+-- The greatest with one more vertex.
+pub most_more : (f : ℕ → ℤ) (v : ℕ) (z x : ℤ) → 1 ≤ v → z ≡ most_to f (v - 1) → x ≡ f v → int_max z x ≡ most_to f (v + 1 - 1)
+unfolding most_to
+most_more f zero z x l e q = absurd (omega arith)
+most_more f (suc v) z x l e q =
+    let a : suc v - 1 ≡ v = omega arith in
+    let b : suc v + 1 - 1 ≡ suc v = omega arith in
+    let e' : z ≡ most_to f v = rw a at e in
+    rw (b, e', q) refl
+
+-- A bound below both is below the larger.
+pub max_low : {low : ℤ} (m x y : ℤ) → m ≡ int_max x y → low ≤ℤ x → low ≤ℤ y → low ≤ℤ m
+max_low m x y e l k = omega (arith, ints, clamps, e, l, k)
+
+-- A bound above both is above the larger.
+pub max_high : {high : ℤ} (m x y : ℤ) → m ≡ int_max x y → x ≤ℤ high → y ≤ℤ high → m ≤ℤ high
+max_high m x y e l k = omega (arith, ints, clamps, e, l, k)

@@ -1,0 +1,48 @@
+-- The graphs and what is given for each, one after another.
+use Rattle.std.proofs.Common.{◌≡◌, ℕ, suc, ◌+◌, ◌*◌, ◌/◌, List, [], ◌∷◌, All, ◌++◌, length, refl, ap, arith}
+use Rattle.std.specs.Prelude.{ℤ}
+use Rattle.drt_model.specs.Digraph.{Digraph}
+use Rattle.drt_model.specs.Utilisation.{Fraction}
+use Rattle.drt_model.specs.Horizon.{extra, constant_of, above_zero}
+use Rattle.drt_ratio.specs.declared.ratio_proof.RatioProof.{RatioProof}
+use Rattle.drt_ratio.specs.SetRatios.{AreSmall}
+use Rattle.drt_horizon.specs.Given.{IsGiven, AreGiven}
+
+-- The first keeps what all keep.
+pub head_of : {X : Type 0} (P : X → Type 0) (x : X) (xs : List X) → All P (x ∷ xs) → P x
+head_of P x xs all = all 0 x (omega arith)
+
+-- So do the others.
+pub tail_of : {X : Type 0} (P : X → Type 0) (x : X) (xs : List X) → All P (x ∷ xs) → All P xs
+tail_of P x xs all k d l = all (suc k) d (omega arith)
+
+-- There are as many as graphs.
+pub given_count : (graphs : List Digraph) (proofs : List RatioProof) → AreGiven graphs proofs → length proofs ≡ length graphs
+given_count [] [] given = refl
+given_count [] (p ∷ proofs) given = absurd given
+given_count (g ∷ graphs) [] given = absurd given
+given_count (g ∷ graphs) (p ∷ proofs) given = ap suc (given_count graphs proofs given.1)
+
+-- Their numbers are small.
+pub given_small : (graphs : List Digraph) (proofs : List RatioProof) → AreGiven graphs proofs → AreSmall proofs
+given_small [] [] given = tt
+given_small [] (p ∷ proofs) given = absurd given
+given_small (g ∷ graphs) [] given = absurd given
+given_small (g ∷ graphs) (p ∷ proofs) given = (omega (arith, given.0.reach.num), omega (arith, given.0.reach.den), given_small graphs proofs given.1)
+
+-- The constant with one more task.
+pub extra_cons : (scale : ℕ) (g : Digraph) (gs : List Digraph) (r : Fraction) (rs : List Fraction) (hs : List ℤ) (hss : List (List ℤ)) → extra scale (g ∷ gs) (r ∷ rs) (hs ∷ hss) ≡ above_zero (constant_of g r.num r.den hs) * (scale / r.den) + extra scale gs rs hss
+unfolding extra
+extra_cons scale g gs r rs hs hss = refl
+
+-- The constant of no tasks is 0.
+pub extra_none : (scale : ℕ) (rs : List Fraction) (hss : List (List ℤ)) → extra scale [] rs hss ≡ 0
+unfolding extra
+extra_none scale rs hss = refl
+
+-- One more graph, with what is given for it.
+pub given_push : (graphs : List Digraph) (proofs : List RatioProof) (g : Digraph) (p : RatioProof) → AreGiven graphs proofs → IsGiven g p → AreGiven (graphs ++ g ∷ []) (proofs ++ p ∷ [])
+given_push [] [] g p are is = (is, tt)
+given_push [] (q ∷ proofs) g p are is = absurd are
+given_push (h ∷ graphs) [] g p are is = absurd are
+given_push (h ∷ graphs) (q ∷ proofs) g p are is = (are.0, given_push graphs proofs g p are.1 is)

@@ -1,0 +1,7 @@
+pub mod Bounds
+pub mod Turns
+pub mod Givens
+pub mod Horizons
+pub mod Multiples
+pub mod Overloads
+pub mod LapRows

@@ -1,0 +1,170 @@
+-- Multiples of spans, one after another.
+use Rattle.std.proofs.Common.{◌≡◌, ℕ, zero, suc, ◌+◌, ◌*◌, ◌/◌, ◌%◌, ◌<◌, ◌≤◌, Bool, true, false, eqb, ◌||◌, cond, List, [], ◌∷◌, ◌++◌, ◌⊎◌, inl, inr, refl, arith, mul-le-mul_left, div-lt_iff_lt-mul}
+use Rattle.std.proofs.lemmas.Bool.{cases_lt, eqb-true, eqb-false, or_parts}
+use Rattle.std.proofs.lemmas.Nat.{div-add-mod', le-div}
+use Rattle.std.proofs.Math.Nat.{mul-mod_left, div-mul-le_self, div-le_self}
+use Rattle.drt_horizon.specs.declared.laps.Lap.{Lap}
+use Rattle.drt_horizon.specs.Laps.{is_step, IsStep, steps_to, lapped, IsClear, IsNext, AreLaps}
+
+apart : (x y : ℕ) → (x ≡ y → ⊥) → eqb x y ≡ false
+apart x y differ = go (eqb x y) refl
+  where
+    go : (b : Bool) → eqb x y ≡ b → b ≡ false
+    go true e = absurd (differ (eqb-true x y e))
+    go false e = refl
+
+-- In plain numbers: a multiple of p after q * p is at least the next one.
+plain : (m q p t s : ℕ) → q * p ≤ t → t < s → m * p ≡ s → s < suc q * p → ⊥
+plain m q p t s l k e h = go (cases_lt q m)
+  where
+    go : (q < m) ⊎ (m ≤ q) → ⊥
+    go (inl x) = let f = mul-le-mul_left p x in absurd (omega arith)
+    go (inr x) = let f = mul-le-mul_left p x in absurd (omega arith)
+
+-- The first multiple of one span.
+pub next_multiple : (c : Lap) (t : ℕ) → 1 ≤ c.span → IsNext (c ∷ []) t ((t / c.span + 1) * c.span)
+unfolding is_step
+next_multiple c t some = record {
+  after = beyond;
+  step = rw (mul-mod_left (t / c.span + 1) c.span) refl;
+  first = λ s l m. rw (apart (s % c.span) 0 (λ e. other s l m e)) refl;
+}
+  where
+    beyond : t < (t / c.span + 1) * c.span
+    beyond = let l : t / c.span < t / c.span + 1 = omega arith in (div-lt_iff_lt-mul some).0 l
+
+    other : (s : ℕ) → t < s → s < (t / c.span + 1) * c.span → s % c.span ≡ 0 → ⊥
+    other s l m e =
+        let d = div-add-mod' s c.span in
+        plain (s / c.span) (t / c.span) c.span t s (div-mul-le_self t c.span) l (omega arith) (let f : t / c.span + 1 ≡ suc (t / c.span) = omega arith in rw f at m)
+
+step_push : (laps : List Lap) (c : Lap) (s : ℕ) → is_step (laps ++ c ∷ []) s ≡ (is_step laps s || is_step (c ∷ []) s)
+unfolding is_step
+step_push [] c s = refl
+step_push (d ∷ laps) c s = go (eqb (s % d.span) 0) (step_push laps c s)
+  where
+    go : (b : Bool) → is_step (laps ++ c ∷ []) s ≡ (is_step laps s || is_step (c ∷ []) s) → (b || is_step (laps ++ c ∷ []) s) ≡ ((b || is_step laps s) || is_step (c ∷ []) s)
+    go true ih = refl
+    go false ih = ih
+
+or_left : (a b : Bool) → a ≡ true → (a || b) ≡ true
+or_left true b e = refl
+or_left false b e = absurd (cc)
+
+or_right : (a b : Bool) → b ≡ true → (a || b) ≡ true
+or_right true b e = refl
+or_right false b e = e
+
+or_none : (a b : Bool) → a ≡ false → b ≡ false → (a || b) ≡ false
+or_none true b e f = absurd (cc)
+or_none false b e f = f
+
+-- One more lap whose next time is earlier.
+pub next_less : (laps : List Lap) (c : Lap) (t next other : ℕ) → IsNext laps t next → IsNext (c ∷ []) t other → other < next → IsNext (laps ++ c ∷ []) t other
+next_less laps c t next other p q l = record {
+  after = q.after;
+  step = rw step_push (or_right (is_step laps other) (is_step (c ∷ []) other) q.step);
+  first = λ s x y. rw step_push (or_none (is_step laps s) (is_step (c ∷ []) s) (p.first s x (omega arith)) (q.first s x y));
+}
+
+-- One more lap whose next time is no earlier.
+pub next_more : (laps : List Lap) (c : Lap) (t next other : ℕ) → IsNext laps t next → IsNext (c ∷ []) t other → next ≤ other → IsNext (laps ++ c ∷ []) t next
+next_more laps c t next other p q l = record {
+  after = p.after;
+  step = rw step_push (or_left (is_step laps next) (is_step (c ∷ []) next) p.step);
+  first = λ s x y. rw step_push (or_none (is_step laps s) (is_step (c ∷ []) s) (p.first s x y) (q.first s x (omega arith)));
+}
+
+count_stays : (laps : List Lap) (t n : ℕ) → t ≤ n → ((s : ℕ) → t < s → s ≤ n → is_step laps s ≡ false) → steps_to laps n ≡ steps_to laps t
+unfolding steps_to
+count_stays laps t zero l none = let e : t ≡ 0 = omega arith in rw e refl
+count_stays laps t (suc n) l none = go (cases_lt t (suc n)) (λ m. count_stays laps t n m (λ s x y. none s x (omega arith)))
+  where
+    go : (t < suc n) ⊎ (suc n ≤ t) → (t ≤ n → steps_to laps n ≡ steps_to laps t) → cond (is_step laps (suc n)) 1 0 + steps_to laps n ≡ steps_to laps t
+    go (inl m) ih = rw (none (suc n) m (omega arith)) (omega (arith, ih (omega arith)))
+    go (inr m) ih = let e : t ≡ suc n = omega arith in rw e refl
+
+-- The next step time counts one more.
+pub count_more : (laps : List Lap) (t next : ℕ) → IsNext laps t next → steps_to laps next ≡ steps_to laps t + 1
+unfolding steps_to
+count_more laps t zero is = let a = is.after in absurd (omega arith)
+count_more laps t (suc next) is =
+    let a = is.after in
+    rw is.step (omega (arith, count_stays laps t next (omega arith) (λ s x y. is.first s x (omega arith))))
+
+-- No step time is 0.
+pub count_none : (laps : List Lap) → steps_to laps 0 ≡ 0
+unfolding steps_to
+count_none laps = refl
+
+-- between two step times there is nothing to check.
+pub clear_to : (laps : List Lap) (t next : ℕ) → IsNext laps t next → IsClear laps (t + 1) → IsClear laps next
+clear_to laps t next is clear s l step = go (cases_lt t s)
+  where
+    go : (t < s) ⊎ (s ≤ t) → lapped laps s ≤ s
+    go (inl m) = let none = is.first s m l in let some = step.1 in absurd (cc)
+    go (inr m) = clear s (omega arith) step
+
+-- The next step time is clear too.
+pub clear_more : (laps : List Lap) (t next : ℕ) → IsNext laps t next → IsClear laps (t + 1) → lapped laps next ≤ next → IsClear laps (next + 1)
+clear_more laps t next is clear fits s l step = go (cases_lt s next)
+  where
+    go : (s < next) ⊎ (next ≤ s) → lapped laps s ≤ s
+    go (inl m) = clear_to laps t next is clear s m step
+    go (inr m) = let e : s ≡ next = omega arith in rw e fits
+
+-- The work of one more lap.
+pub lapped_cons : (c : Lap) (laps : List Lap) (t : ℕ) → lapped (c ∷ laps) t ≡ t / c.span * c.work + lapped laps t
+unfolding lapped
+lapped_cons c laps t = refl
+
+-- The work of no laps.
+pub lapped_none : (t : ℕ) → lapped [] t ≡ 0
+unfolding lapped
+lapped_none t = refl
+
+same_quotient : (t p : ℕ) → 1 ≤ p → (suc t % p ≡ 0 → ⊥) → suc t / p ≡ t / p
+same_quotient t p some differ =
+    let d = div-add-mod' (suc t) p in
+    let r : 1 ≤ suc t % p = positive (suc t % p) differ in
+    let x : suc t / p ≤ t / p = le-div (suc t / p) t p some (omega arith) in
+    let y : t / p ≤ suc t / p = le-div (t / p) (suc t) p some (let z = div-mul-le_self t p in omega arith) in
+    omega arith
+  where
+    positive : (r : ℕ) → (r ≡ 0 → ⊥) → 1 ≤ r
+    positive zero h = absurd (h refl)
+    positive (suc r) h = omega arith
+
+lapped_stays : (laps : List Lap) → AreLaps laps → (t : ℕ) → is_step laps (suc t) ≡ false → lapped laps (suc t) ≡ lapped laps t
+unfolding is_step lapped
+lapped_stays [] are t e = refl
+lapped_stays (c ∷ laps) are t e =
+    let r = or_parts (eqb (suc t % c.span) 0) (is_step laps (suc t)) e in
+    rw (same_quotient t c.span are.0 (eqb-false (suc t % c.span) 0 r.0), lapped_stays laps are.3 t r.1) refl
+
+-- No work is done by 0.
+pub lapped_zero : (laps : List Lap) → AreLaps laps → lapped laps 0 ≡ 0
+unfolding lapped
+lapped_zero [] are = refl
+lapped_zero (c ∷ laps) are =
+    let z : 0 / c.span ≡ 0 = (let l : 0 / c.span ≤ 0 = div-le_self 0 c.span in omega arith) in
+    rw (z, lapped_zero laps are.3) (omega arith)
+
+-- Where whole turns are too much at some time, they are at a step time up to it.
+pub steps_decide : (laps : List Lap) → AreLaps laps → (t : ℕ) → t < lapped laps t → (s : ℕ) × IsStep laps s × (s ≤ t) × (s < lapped laps s)
+steps_decide laps are zero l = let z = lapped_zero laps are in absurd (omega arith)
+steps_decide laps are (suc t) l = go (is_step laps (suc t)) refl (λ m. steps_decide laps are t m)
+  where
+    go : (b : Bool) → is_step laps (suc t) ≡ b → (t < lapped laps t → (s : ℕ) × IsStep laps s × (s ≤ t) × (s < lapped laps s)) → (s : ℕ) × IsStep laps s × (s ≤ suc t) × (s < lapped laps s)
+    go true e ih = (suc t, (omega arith, e), omega arith, l)
+    go false e ih = let r = ih (omega (arith, lapped_stays laps are t e)) in (r.0, r.1, omega (arith, r.2), r.3)
+
+-- Of t times at most t are step times.
+pub steps_few : (laps : List Lap) (n : ℕ) → steps_to laps n ≤ n
+unfolding steps_to
+steps_few laps zero = omega arith
+steps_few laps (suc n) = go (is_step laps (suc n)) (steps_few laps n)
+  where
+    go : (b : Bool) → steps_to laps n ≤ n → cond b 1 0 + steps_to laps n ≤ suc n
+    go true ih = omega arith
+    go false ih = omega arith

@@ -1,0 +1,35 @@
+use Rattle.std.proofs.Common.{◌≡◌, arith, ap}
+use Rattle.std.proofs.lemmas.Int.{ints}
+use Rattle.std.proofs.lemmas.Nat.{mul-le}
+use Rattle.drt_model.specs.Digraph.{vertex_of}
+use Rattle.drt_horizon.proofs.constants.closing.Goals as goal
+
+pub returns-clause-low : goal.returns-clause-low
+returns-clause-low c =
+    let is = c.potential.ensures in
+    let w : c.vertex.result.now.deadline ≡ (vertex_of c.args.graph.now c.args.v).deadline = ap (λ x. x.deadline) c.vertex.ensures in
+    let small = (c.vertex_count-count.ensures.sound.deadline c.args.v c.requires.vertex).1 in
+    let most = mul-le c.num.result c.vertex.result.now.deadline 1000000000 1000000 (omega (arith, c.num.ensures, c.requires.given.reach.num)) (omega arith) in
+    let low = c.requires.given.reach.low c.args.v c.requires.vertex in
+    let high = c.requires.given.reach.high c.args.v c.requires.vertex in
+    omega (arith, ints, is, low, high, most)
+
+pub returns-clause-high : goal.returns-clause-high
+returns-clause-high c =
+    let is = c.potential.ensures in
+    let w : c.vertex.result.now.deadline ≡ (vertex_of c.args.graph.now c.args.v).deadline = ap (λ x. x.deadline) c.vertex.ensures in
+    let small = (c.vertex_count-count.ensures.sound.deadline c.args.v c.requires.vertex).1 in
+    let most = mul-le c.num.result c.vertex.result.now.deadline 1000000000 1000000 (omega (arith, c.num.ensures, c.requires.given.reach.num)) (omega arith) in
+    let low = c.requires.given.reach.low c.args.v c.requires.vertex in
+    let high = c.requires.given.reach.high c.args.v c.requires.vertex in
+    omega (arith, ints, is, low, high, most)
+
+pub overflow_sub-result : goal.overflow_sub-result
+overflow_sub-result c =
+    let is = c.potential.ensures in
+    let w : c.vertex.result.now.deadline ≡ (vertex_of c.args.graph.now c.args.v).deadline = ap (λ x. x.deadline) c.vertex.ensures in
+    let small = (c.vertex_count-count.ensures.sound.deadline c.args.v c.requires.vertex).1 in
+    let most = mul-le c.num.result c.vertex.result.now.deadline 1000000000 1000000 (omega (arith, c.num.ensures, c.requires.given.reach.num)) (omega arith) in
+    let low = c.requires.given.reach.low c.args.v c.requires.vertex in
+    let high = c.requires.given.reach.high c.args.v c.requires.vertex in
+    omega (arith, ints, is, low, high, most)

@@ -1,0 +1,5 @@
+use Rattle.drt_horizon.proofs.Bounds.{work_is_bounded}
+use Rattle.drt_horizon.proofs.laws.work_is_bounded.Goals as goal
+
+pub returns : goal.returns
+returns c = work_is_bounded

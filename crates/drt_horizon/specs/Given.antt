@@ -1,0 +1,24 @@
+-- The graphs of a set with what the search for the greatest ratio gives for each.
+use Rattle.std.specs.Prelude.{ℤ, List, [], ◌∷◌}
+use Rattle.drt_model.specs.Digraph.{Digraph}
+use Rattle.drt_model.specs.RatioRules.{KeepsRules}
+use Rattle.drt_ratio.specs.declared.ratio_proof.RatioProof.{RatioProof}
+use Rattle.drt_ratio.specs.Claims.{IsRatioProof, IsInReach}
+
+-- What `greatest` gives for a graph: the ratio with its evidence, in reach, and it keeps the rules of a claimed ratio.
+pub record IsGiven (g : Digraph) (p : RatioProof) : Type 0 where
+  pub greatest : IsRatioProof g p.ratio.num p.ratio.den p.cycle p.potentials
+  pub reach : IsInReach g p.ratio.num p.ratio.den p.potentials
+  pub keeps : KeepsRules g p.ratio.num p.ratio.den p.cycle p.potentials
+
+-- One for each graph, in order.
+abbrev pub AreGiven : List Digraph → List RatioProof → Type 0
+AreGiven [] [] = Unit {0}
+AreGiven [] (p ∷ proofs) = ⊥
+AreGiven (g ∷ graphs) [] = ⊥
+AreGiven (g ∷ graphs) (p ∷ proofs) = IsGiven g p × AreGiven graphs proofs
+
+-- The potentials of each, in order.
+abbrev pub potentials_of : List RatioProof → List (List ℤ)
+potentials_of [] = []
+potentials_of (p ∷ proofs) = p.potentials ∷ potentials_of proofs

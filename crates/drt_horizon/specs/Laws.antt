@@ -1,0 +1,68 @@
+-- What the horizon and the laps of a set mean.
+use Rattle.std.specs.Prelude.{ℕ, ◌+◌, ◌-◌, ◌*◌, ◌/◌, ◌<◌, ◌≤◌, ℤ, pos, ◌+ℤ◌, ◌≤ℤ◌, List, [], ◌∷◌, Ok}
+use Rattle.drt_model.specs.Digraph.{Digraph, IsSound, vertex_count}
+use Rattle.drt_model.specs.Walk.{IsPath, last_of, work, span, deadline}
+use Rattle.drt_model.specs.RatioRules.{FitPotentials}
+use Rattle.drt_model.specs.Utilisation.{IsScale}
+use Rattle.drt_model.specs.Horizon.{constant_of}
+use Rattle.drt_graph.specs.Graphs.{AreGraphs}
+use Rattle.drt_ratio.specs.declared.ratio_proof.RatioProof.{RatioProof}
+use Rattle.drt_ratio.specs.SetRatios.{fractions_of}
+use Rattle.drt_horizon.specs.declared.answers.Horizon.TheVariants.{Under}
+use Rattle.drt_horizon.specs.declared.answers.Over.TheVariants.{Spent}
+use Rattle.drt_horizon.specs.Given.{AreGiven}
+use Rattle.drt_horizon.specs.Plans.{IsPlan, IsAboveOne, rate_at}
+use Rattle.drt_horizon.specs.Laps.{laps_of, lap_works, lapped, IsStep, IsOver}
+
+-- Where potentials fit each edge at the ratio a / b, b times the work of a walk is at most a times its last deadline plus the
+-- constant.
+abbrev pub WorkIsBounded : Type 0
+WorkIsBounded =
+    (g : Digraph) → IsSound g →
+    (a b : ℕ) (hs : List ℤ) → FitPotentials g a b hs →
+    (u : ℕ) (vs : List ℕ) → u < vertex_count g → IsPath g u vs →
+    pos (b * work g (u ∷ vs)) ≤ℤ (pos (a * (span g u vs + deadline g (last_of u vs))) +ℤ constant_of g a b hs)
+
+-- A walk, given as the list of its vertices, whose last deadline is at most t. The empty list stands for no walk.
+abbrev pub IsDue : Digraph → ℕ → List ℕ → Type 0
+IsDue g t [] = Unit {0}
+IsDue g t (u ∷ vs) = (u < vertex_count g) × IsPath g u vs × (span g u vs + deadline g (last_of u vs) ≤ t)
+
+-- Such a walk for each graph, in order.
+abbrev pub AreDue : ℕ → List Digraph → List (List ℕ) → Type 0
+AreDue t [] [] = Unit {0}
+AreDue t [] (w ∷ walks) = ⊥
+AreDue t (g ∷ graphs) [] = ⊥
+AreDue t (g ∷ graphs) (w ∷ walks) = IsDue g t w × AreDue t graphs walks
+
+-- The work of the walks together.
+unfoldable pub efforts : List Digraph → List (List ℕ) → ℕ
+efforts [] walks = 0
+efforts (g ∷ graphs) [] = 0
+efforts (g ∷ graphs) (w ∷ walks) = work g w + efforts graphs walks
+
+-- Where the plan is a horizon, each time by which walks with more work than time are due is at most the horizon.
+abbrev pub HorizonHolds : Type 0
+HorizonHolds =
+    (graphs : List Digraph) (proofs : List RatioProof) → AreGraphs graphs → AreGiven graphs proofs →
+    (bound : ℕ) → IsPlan graphs proofs (Ok (Under bound)) →
+    (t : ℕ) (walks : List (List ℕ)) → AreDue t graphs walks → t < efforts graphs walks →
+    t ≤ bound
+
+-- A time by which an overload shows: the scale times the work of one turn of each cycle, over the rate less the scale, and one.
+abbrev pub latest : ℕ → List Digraph → List RatioProof → ℕ
+latest scale graphs proofs = scale * lap_works (laps_of graphs proofs) / (rate_at scale proofs - scale) + 1
+
+-- Where the plan is that the utilisation is above one, a step time up to that time has more work of whole turns than time.
+abbrev pub OverloadHasATime : Type 0
+OverloadHasATime =
+    (graphs : List Digraph) (proofs : List RatioProof) → AreGraphs graphs → AreGiven graphs proofs → IsAboveOne graphs proofs →
+    (scale : ℕ) → IsScale (fractions_of proofs) scale →
+    (t : ℕ) × IsStep (laps_of graphs proofs) t × (t ≤ latest scale graphs proofs) × (t < lapped (laps_of graphs proofs) t)
+
+-- A search whose budget is at least that time does not spend it.
+abbrev pub SearchEnds : Type 0
+SearchEnds =
+    (graphs : List Digraph) (proofs : List RatioProof) → AreGraphs graphs → AreGiven graphs proofs → IsAboveOne graphs proofs →
+    (scale : ℕ) → IsScale (fractions_of proofs) scale →
+    (budget last : ℕ) → latest scale graphs proofs ≤ budget → IsOver (laps_of graphs proofs) budget (Spent last) → ⊥

@@ -1,0 +1,4 @@
+pub mod Given
+pub mod Plans
+pub mod Laps
+pub mod Laws

@@ -1,0 +1,38 @@
+-- What a plan says of a set.
+use Rattle.std.specs.Prelude.{◌≡◌, ℕ, ◌^◌, ◌<◌, ◌≤◌, List, Result, Ok, Err}
+use Rattle.drt_model.specs.Digraph.{Digraph}
+use Rattle.drt_model.specs.Utilisation.{IsScale, rate}
+use Rattle.drt_model.specs.Horizon.{horizon}
+use Rattle.drt_ratio.specs.declared.ratio_proof.RatioProof.{RatioProof}
+use Rattle.drt_ratio.specs.SetRatios.{fractions_of}
+use Rattle.drt_horizon.specs.declared.answers.Horizon.{Horizon}
+use Rattle.drt_horizon.specs.declared.answers.Horizon.TheVariants.{Under, One, Over}
+use Rattle.drt_horizon.specs.declared.answers.Beyond.{Beyond}
+use Rattle.drt_horizon.specs.declared.answers.Beyond.TheVariants.{TooFine, TooFar}
+use Rattle.drt_horizon.specs.Given.{potentials_of}
+
+-- The rate of the set at the scale.
+abbrev pub rate_at : ℕ → List RatioProof → ℕ
+rate_at scale proofs = rate scale (fractions_of proofs)
+
+-- The horizon of the set at the scale.
+abbrev pub horizon_at : ℕ → List Digraph → List RatioProof → ℕ
+horizon_at scale graphs proofs = horizon scale graphs (fractions_of proofs) (potentials_of proofs)
+
+-- The scale is at most 2^60, and the rate is below the scale with that horizon of at most 2^40, or is the scale, or is above the
+-- scale; or the scale exceeds 2^60; or it is at most that, and the horizon exceeds 2^40.
+abbrev pub IsPlanAt : ℕ → List Digraph → List RatioProof → Result Horizon Beyond → Type 0
+IsPlanAt scale graphs proofs (Ok (Under bound)) =
+    (scale ≤ 2 ^ 60) × (rate_at scale proofs < scale) × (horizon_at scale graphs proofs ≤ 2 ^ 40) × (bound ≡ horizon_at scale graphs proofs)
+IsPlanAt scale graphs proofs (Ok One) = (scale ≤ 2 ^ 60) × (rate_at scale proofs ≡ scale)
+IsPlanAt scale graphs proofs (Ok Over) = (scale ≤ 2 ^ 60) × (scale < rate_at scale proofs)
+IsPlanAt scale graphs proofs (Err TooFine) = 2 ^ 60 < scale
+IsPlanAt scale graphs proofs (Err TooFar) = (scale ≤ 2 ^ 60) × (rate_at scale proofs < scale) × (2 ^ 40 < horizon_at scale graphs proofs)
+
+-- It is so at the scale of the set's ratios.
+abbrev pub IsPlan : List Digraph → List RatioProof → Result Horizon Beyond → Type 0
+IsPlan graphs proofs result = (scale : ℕ) × IsScale (fractions_of proofs) scale × IsPlanAt scale graphs proofs result
+
+-- The plan is that the utilisation is above one.
+abbrev pub IsAboveOne : List Digraph → List RatioProof → Type 0
+IsAboveOne graphs proofs = IsPlan graphs proofs (Ok Over)

@@ -1,0 +1,52 @@
+//! The search for an overload.
+ghost use Rattle.std.specs.Prelude.{◌≤◌, length};
+ghost use Rattle.drt_horizon.specs.Given.{AreGiven};
+ghost use Rattle.drt_horizon.specs.Plans.{IsAboveOne};
+ghost use Rattle.drt_horizon.specs.Laps.{AreLaps, IsOver, laps_of};
+
+use crate::answers::Over;
+use crate::laps::{Lap, lap_of, next_step, work_within};
+use drt_graph::Graphs;
+use drt_ratio::RatioProof;
+
+// The least step time with more work than time, among the first `budget` ones.
+fn search(laps: &[Lap], budget: u64) -> Over
+    requires laps { AreLaps laps.now }
+    requires some { 1 ≤ length laps.now }
+    requires few { length laps.now ≤ 32 }
+    requires budget_some { 1 ≤ budget }
+    requires budget_few { budget ≤ 1000000 }
+    ensures { IsOver laps.now budget result }
+{
+    let mut t = 0;
+    'steps: for _ in 0..budget {
+        let next = next_step(laps, t);
+        if work_within(laps, next) > next as u128 {
+            return Over::Found(next);
+        }
+        t = next;
+    }
+    Over::Spent(t)
+}
+
+/// The least step time, in ticks, at which whole turns of the cycles that have the tasks' ratios have more work than time,
+/// if it is among the first `budget` step times. A step time is a positive multiple of the sum of separations of such a
+/// cycle, and equal ones count once. It takes no memory.
+pub fn overload(graphs: &Graphs, proofs: &[RatioProof], budget: u64) -> Over
+    requires given { AreGiven graphs.now proofs.now }
+    requires above { IsAboveOne graphs.now proofs.now }
+    requires budget_some { 1 ≤ budget }
+    requires budget_few { budget ≤ 1000000 }
+    ensures { IsOver (laps_of graphs.now proofs.now) budget result }
+{
+    let mut laps = [Lap { work: 0, span: 0 }; 32];
+    let mut count = 0usize;
+    'tasks: for i in 0..graphs.count() {
+        let cycle = proofs[i as usize].cycle.as_slice();
+        if cycle.len() != 0 {
+            laps[count] = lap_of(graphs.graph(i), cycle);
+            count += 1;
+        }
+    }
+    search(&laps[..count], budget)
+}
