@@ -28,6 +28,7 @@ fn name_of(alloc: Global, word: &[u8]) -> Result<Name, Memory>
     Ok(Name::from_vec(Vec::from_slice(alloc, word)?))
 }
 
+/// The tasks so far, with the open one closed behind them.
 #[tactic(auto, unfolding(crate::specs::Steps::with_last))]
 pub fn close(closed: Row<Draft>, current: Option<Draft>) -> Result<Row<Draft>, Memory>
     ensures { IfOk result (λ ds. ds ≡ with_last closed current) }
@@ -230,6 +231,7 @@ fn after_end(s: State) -> State
     }
 }
 
+/// The state below a line of this kind that has no fault.
 #[tactic(auto, unfolding(crate::specs::Steps::after_kind))]
 pub fn after(alloc: Global, kind: Kind, n: u32, s: State, words: &[&[u8]]) -> Result<State, Memory>
     ensures { IfOk result (λ t. t ≡ after_kind kind n s (map (λ w. w.now) words.now)) }
@@ -268,6 +270,7 @@ pub fn after(alloc: Global, kind: Kind, n: u32, s: State, words: &[&[u8]]) -> Re
     }
 }
 
+/// The state below the first line, where it is `drt 1` or `drt 2`.
 #[tactic(auto, unfolding(crate::specs::Steps::head, crate::specs::Steps::opening))]
 pub fn head(alloc: Global, words: &[&[u8]]) -> Option<State>
     ensures { result ≡ head (map (λ w. w.now) words.now) }

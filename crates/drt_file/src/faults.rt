@@ -35,7 +35,7 @@ fn any_vertex(vertices: &[Vertex], name: &[u8]) -> bool
     false
 }
 
-// How many vertices stand before the one of that name.
+/// How many vertices stand before the one of that name.
 #[tactic(auto, unfolding(crate::specs::Faults::place_of))]
 pub fn place(vertices: &[Vertex], name: &[u8]) -> usize
     ensures { result ≡ place_of name.now vertices.now }
@@ -228,7 +228,7 @@ fn fault_of_priority(s: &State, words: &[&[u8]]) -> Option<u8>
     }
 }
 
-// How many `task` lines stand above.
+/// How many `task` lines stand above.
 #[tactic(auto, unfolding(crate::specs::Faults::task_count, crate::specs::Faults::is_outside))]
 pub fn count_tasks(s: &State) -> usize
     ensures { result ≡ task_count s.now }
