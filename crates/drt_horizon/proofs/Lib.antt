@@ -5,3 +5,7 @@ pub mod Horizons
 pub mod Multiples
 pub mod Overloads
 pub mod LapRows
+pub mod Works
+pub mod Sweeps
+pub mod Fronts
+pub mod Walks

@@ -1,16 +1,19 @@
 -- What the horizon and the laps of a set mean.
-use Rattle.std.specs.Prelude.{ℕ, ◌+◌, ◌-◌, ◌*◌, ◌/◌, ◌<◌, ◌≤◌, ℤ, pos, ◌+ℤ◌, ◌≤ℤ◌, List, [], ◌∷◌, Ok}
+use Rattle.std.specs.Prelude.{◌≡◌, ℕ, ◌+◌, ◌-◌, ◌*◌, ◌/◌, ◌<◌, ◌≤◌, ℤ, pos, ◌+ℤ◌, ◌≤ℤ◌, List, [], ◌∷◌, All, Ok}
 use Rattle.drt_model.specs.Digraph.{Digraph, IsSound, vertex_count}
 use Rattle.drt_model.specs.Walk.{IsPath, last_of, work, span, deadline}
 use Rattle.drt_model.specs.RatioRules.{FitPotentials}
 use Rattle.drt_model.specs.Utilisation.{IsScale}
 use Rattle.drt_model.specs.Horizon.{constant_of}
 use Rattle.drt_graph.specs.Graphs.{AreGraphs}
+use Rattle.drt_demand.specs.Demand.{Demand}
+use Rattle.drt_demand.specs.WalkLabel.{demand_of}
 use Rattle.drt_ratio.specs.declared.ratio_proof.RatioProof.{RatioProof}
 use Rattle.drt_ratio.specs.SetRatios.{fractions_of}
 use Rattle.drt_horizon.specs.declared.answers.Horizon.TheVariants.{Under}
 use Rattle.drt_horizon.specs.declared.answers.Over.TheVariants.{Spent}
 use Rattle.drt_horizon.specs.Given.{AreGiven}
+use Rattle.drt_horizon.specs.Demands.{demands}
 use Rattle.drt_horizon.specs.Plans.{IsPlan, IsAboveOne, rate_at}
 use Rattle.drt_horizon.specs.Laps.{laps_of, lap_works, lapped, IsStep, IsOver}
 
@@ -66,3 +69,24 @@ SearchEnds =
     (graphs : List Digraph) (proofs : List RatioProof) → AreGraphs graphs → AreGiven graphs proofs → IsAboveOne graphs proofs →
     (scale : ℕ) → IsScale (fractions_of proofs) scale →
     (budget last : ℕ) → latest scale graphs proofs ≤ budget → IsOver (laps_of graphs proofs) budget (Spent last) → ⊥
+
+-- The label is that of a walk of the graph.
+abbrev pub IsWalkLabel : Digraph → Demand → Type 0
+IsWalkLabel g x = (u : ℕ) × (vs : List ℕ) × (u < vertex_count g) × IsPath g u vs × (x ≡ demand_of g u vs)
+
+-- Each label of each list is that of a walk of its graph, and there is one list for each graph, in order.
+abbrev pub AreWalkFronts : List Digraph → List (List Demand) → Type 0
+AreWalkFronts [] [] = Unit {0}
+AreWalkFronts [] (f ∷ fronts) = ⊥
+AreWalkFronts (g ∷ graphs) [] = ⊥
+AreWalkFronts (g ∷ graphs) (f ∷ fronts) = All (IsWalkLabel g) f × AreWalkFronts graphs fronts
+
+-- Where the plan is a horizon, each time at which the demands over such lists are together more than the time is at most the
+-- horizon.
+abbrev pub DemandsWithin : Type 0
+DemandsWithin =
+    (graphs : List Digraph) (proofs : List RatioProof) → AreGraphs graphs → AreGiven graphs proofs →
+    (bound : ℕ) → IsPlan graphs proofs (Ok (Under bound)) →
+    (fronts : List (List Demand)) → AreWalkFronts graphs fronts →
+    (t : ℕ) → t < demands graphs fronts t →
+    t ≤ bound

@@ -2,3 +2,5 @@ pub mod Given
 pub mod Plans
 pub mod Laps
 pub mod Laws
+pub mod Demands
+pub mod Rises

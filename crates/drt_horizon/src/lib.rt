@@ -5,7 +5,8 @@
 //! the ratios ask for too much by themselves, and `overload` searches their step times; `overload_has_a_time` bounds where
 //! that search ends.
 //!
-//! The scan of the times up to the horizon is not part of this crate yet.
+//! `scan` looks for the least time up to a horizon at which the demands of the tasks over their fronts are too much;
+//! `demands_within` is that there is none past the horizon, where the fronts' labels are those of walks.
 #![tactic(auto)]
 
 mod answers;
@@ -14,6 +15,7 @@ mod given;
 mod laps;
 mod laws;
 mod plans;
+mod scanning;
 mod searching;
 #[cfg(test)]
 mod tests;
@@ -21,6 +23,7 @@ mod tests;
 pub use answers::{Beyond, Horizon, Over};
 pub use given::ratios;
 pub use laps::Lap;
-pub use laws::{horizon_holds, overload_has_a_time, search_ends, work_is_bounded};
+pub use laws::{demands_within, horizon_holds, overload_has_a_time, search_ends, work_is_bounded};
 pub use plans::plan;
+pub use scanning::scan;
 pub use searching::overload;

@@ -1,5 +1,9 @@
-use super::{Beyond, Horizon, Over, overload, plan, ratios};
-use drt_graph::{Graphs, check};
+ghost use Rattle.std.specs.Prelude.{◌≤◌, IfOk};
+ghost use Rattle.drt_horizon.specs.Demands.{AreFronts, IsFront};
+
+use super::{Beyond, Horizon, Over, overload, plan, ratios, scan};
+use drt_demand::DemandLabel;
+use drt_graph::{Graph, Graphs, check};
 use drt_model::{Edge, Memory, Name, Row, Task, Vertex, task_set};
 use std::alloc::Global;
 use std::test::Fail;
@@ -141,6 +145,106 @@ fn an_overload_is_found_at_its_step_time(rt: HostRuntime) -> Result<(), Fail> {
         (1000000, Over::Found(12)),
     ] {
         assert_eq!(rt; overload(&graphs, proofs.as_slice(), budget), wanted);
+    }
+    Ok(())
+}
+
+// The labels of this task as a front of its graph, if each names a vertex and is due within the bound. A label is a task,
+// a vertex, an offset and a work.
+fn front(
+    alloc: Global,
+    graph: &Graph,
+    task: u32,
+    labels: &[(u32, u32, u64, u64)],
+    bound: u64,
+) -> Result<Row<DemandLabel>, Fail>
+    requires { bound ≤ 1000 }
+    ensures { IfOk result (λ front. IsFront graph.now bound front) }
+{
+    let count = graph.vertex_count();
+    let mut front = Vec::new(alloc);
+    'labels: for (owner, vertex, offset, work) in labels {
+        if *owner != task {
+            continue;
+        }
+        if *vertex >= count || *offset > 1000 || *work > 1000 {
+            return Err("no label of the graph".into());
+        }
+        if *offset + graph.vertex(*vertex).deadline as u64 > bound {
+            return Err("due past the bound".into());
+        }
+        front.push(DemandLabel {
+            vertex: *vertex,
+            offset: *offset,
+            work: *work,
+        })?;
+    }
+    Ok(Row::from_vec(front))
+}
+
+// Such a front for each graph.
+fn fronts(
+    alloc: Global,
+    graphs: &Graphs,
+    labels: &[(u32, u32, u64, u64)],
+    bound: u64,
+) -> Result<Row<Row<DemandLabel>>, Fail>
+    requires { bound ≤ 1000 }
+    ensures { IfOk result (λ fronts. AreFronts bound graphs.now fronts) }
+{
+    let mut fronts = Vec::new(alloc);
+    'tasks: for i in 0..graphs.count() {
+        fronts.push(front(alloc, graphs.graph(i), i, labels, bound)?)?;
+    }
+    Ok(Row::from_vec(fronts))
+}
+
+#[test]
+fn the_least_time_with_too_much_demand_is_found(rt: HostRuntime) -> Result<(), Fail> {
+    let alloc = rt.alloc();
+    let branching: Shape<'_> = (&[(1, 2), (4, 6)], &[(0, 1, 2), (1, 0, 8), (0, 0, 5)]);
+    let three: Shape<'_> = (&[(3, 4)], &[(0, 0, 10)]);
+    let two: Shape<'_> = (&[(2, 4)], &[(0, 0, 10)]);
+    let cases: [(&[Shape<'_>], &[(u32, u32, u64, u64)], u64, Option<u64>); 5] = [
+        // 6 ticks of work are due at 5.
+        (&[(&[(6, 5)], &[])], &[(0, 0, 0, 6)], 5, Some(5)),
+        // At 4 the work is 1 + 3, at 6 it is 4 + 3.
+        (
+            &[branching, three],
+            &[
+                (0, 1, 2, 5),
+                (0, 0, 5, 2),
+                (0, 1, 0, 4),
+                (1, 0, 0, 3),
+                (0, 0, 0, 1),
+            ],
+            9,
+            Some(6),
+        ),
+        // At 6 the work is 4 + 2, which is not more than the time, and at 8 it is 5 + 2.
+        (
+            &[branching, two],
+            &[
+                (0, 1, 2, 5),
+                (0, 0, 5, 2),
+                (0, 1, 0, 4),
+                (1, 0, 0, 2),
+                (0, 0, 0, 1),
+            ],
+            9,
+            None,
+        ),
+        // Only the first labels are due by 4.
+        (&[branching, two], &[(0, 0, 0, 1), (1, 0, 0, 2)], 4, None),
+        (&[branching, two], &[], 0, None),
+    ];
+    for (shapes, labels, bound, wanted) in cases {
+        let graphs = graphs(alloc, shapes)?;
+        if bound > 1000 {
+            return Err("a bound of at most 1000".into());
+        }
+        let fronts = fronts(alloc, &graphs, labels, bound)?;
+        assert_eq!(rt; scan(alloc, &graphs, fronts.as_slice(), bound)?, wanted);
     }
     Ok(())
 }

@@ -1,0 +1,66 @@
+-- The walks behind the demands of fronts.
+use Rattle.std.proofs.Common.{◌≡◌, ℕ, suc, ◌+◌, ◌<◌, ◌≤◌, Bool, true, false, cond, List, [], ◌∷◌, All, ◌⊎◌, inl, inr, refl, sym, ap, arith, ◌∙◌}
+use Rattle.std.specs.Prelude.{max, nat_le, Ok}
+use Rattle.std.proofs.lemmas.Bool.{cases_lt, leb-true}
+use Rattle.drt_model.specs.Digraph.{Digraph}
+use Rattle.drt_model.specs.Walk.{last_of, span, work, deadline}
+use Rattle.drt_graph.specs.Graphs.{AreGraphs}
+use Rattle.drt_demand.specs.Demand.{Demand}
+use Rattle.drt_demand.specs.Dbf.{dbf_at}
+use Rattle.drt_ratio.specs.declared.ratio_proof.RatioProof.{RatioProof}
+use Rattle.drt_ratio.proofs.Paths.{work_none}
+use Rattle.drt_horizon.specs.declared.answers.Horizon.TheVariants.{Under}
+use Rattle.drt_horizon.specs.Given.{AreGiven}
+use Rattle.drt_horizon.specs.Plans.{IsPlan}
+use Rattle.drt_horizon.specs.Demands.{demands}
+use Rattle.drt_horizon.specs.Laws.{IsDue, AreDue, efforts, IsWalkLabel, AreWalkFronts}
+use Rattle.drt_horizon.proofs.Horizons.{horizon_holds}
+
+-- A walk of a graph that is due by t and has that work.
+abbrev pub HasWalk : Digraph → ℕ → ℕ → Type 0
+HasWalk g t n = (w : List ℕ) × IsDue g t w × (work g w ≡ n)
+
+label_walk : (g : Digraph) (t r : ℕ) (x : Demand) → IsWalkLabel g x → HasWalk g t r → (b : Bool) → nat_le (x.offset + deadline g x.vertex) t ≡ b → HasWalk g t (max (cond b x.work 0) r)
+label_walk g t r x is rest false e = (rest.0, rest.1, rest.2 ∙ plain r)
+  where
+    plain : (n : ℕ) → n ≡ max 0 n
+    plain n = grind arith
+label_walk g t r x is rest true e = go (cases_lt x.work r)
+  where
+    due : x.offset + deadline g x.vertex ≤ t
+    due = leb-true (x.offset + deadline g x.vertex) t e
+
+    less : (a b : ℕ) → a < b → b ≡ max a b
+    less a b l = grind arith
+
+    more : (a b : ℕ) → b ≤ a → a ≡ max a b
+    more a b l = grind arith
+
+    go : (x.work < r) ⊎ (r ≤ x.work) → HasWalk g t (max x.work r)
+    go (inl l) = (rest.0, rest.1, rest.2 ∙ less x.work r l)
+    go (inr l) =
+        let same = is.4 in
+        let sum : x.offset + deadline g x.vertex ≡ span g is.0 is.1 + deadline g (last_of is.0 is.1) = ap (λ y. y.offset + deadline g y.vertex) same in
+        let total : x.work ≡ work g (is.0 ∷ is.1) = ap (λ y. y.work) same in
+        (is.0 ∷ is.1, (is.2, is.3, omega (arith, due, sum)), sym total ∙ more x.work r l)
+
+front_walk : (g : Digraph) (t : ℕ) (front : List Demand) → All (IsWalkLabel g) front → HasWalk g t (dbf_at g front t)
+front_walk g t [] all = ([], tt, work_none g)
+front_walk g t (x ∷ front) all =
+    label_walk g t (dbf_at g front t) x (all 0 x (omega arith)) (front_walk g t front (λ k d l. all (suc k) d (omega arith))) (nat_le (x.offset + deadline g x.vertex) t) refl
+
+front_walks : (graphs : List Digraph) (fronts : List (List Demand)) (t : ℕ) → AreWalkFronts graphs fronts → (walks : List (List ℕ)) × AreDue t graphs walks × (efforts graphs walks ≡ demands graphs fronts t)
+unfolding efforts demands
+front_walks [] [] t are = ([], tt, refl)
+front_walks [] (f ∷ fronts) t are = absurd are
+front_walks (g ∷ graphs) [] t are = absurd are
+front_walks (g ∷ graphs) (f ∷ fronts) t are =
+    let w = front_walk g t f are.0 in
+    let r = front_walks graphs fronts t are.1 in
+    (w.0 ∷ r.0, (w.1, r.1), omega (arith, w.2, r.2))
+
+-- A time with too much demand is within the horizon.
+pub demands_within : (graphs : List Digraph) (proofs : List RatioProof) → AreGraphs graphs → AreGiven graphs proofs → (bound : ℕ) → IsPlan graphs proofs (Ok (Under bound)) → (fronts : List (List Demand)) → AreWalkFronts graphs fronts → (t : ℕ) → t < demands graphs fronts t → t ≤ bound
+demands_within graphs proofs are given bound plan fronts is t over =
+    let w = front_walks graphs fronts t is in
+    horizon_holds graphs proofs are given bound plan t w.0 w.1 (omega (arith, w.2, over))

@@ -1,0 +1,32 @@
+use Rattle.std.proofs.Common.{◌<◌, ◌≤◌, length, get_or, arith, rules}
+use Rattle.std.proofs.lemmas.List.{get_or_default}
+use Rattle.drt_horizon.specs.Rises.{no_rise}
+use Rattle.drt_horizon.proofs.Sweeps.{row_first, row_step, clear_first, clear_next, clear_last, excess_next}
+use Rattle.drt_horizon.proofs.scanning.first_excess.Goals as goal
+
+pub rises-init : goal.rises-init
+rises-init c = record { row = row_first; clear = clear_first c.args.rises.now; small = omega arith }
+
+pub returns-then-total-rise : goal.returns-then-total-rise
+returns-then-total-rise c =
+    let l : c.rises.i < length c.args.rises.now = omega (arith, c.rises-test.true) in
+    let r = get_or c.args.rises.now c.rises.i no_rise in
+    let over = rw c.saturating_sub.ensures at c.if-total-rise.true in
+    excess_next c.args.rises.now c.rises.most c.rises.total c.rises.i (get_or c.args.rises.now c.rises.i no_rise) c.requires.order l (get_or_default c.args.rises.now c.rises.i no_rise (get_or c.args.rises.now c.rises.i no_rise) l) (c.requires.are c.rises.i no_rise l) c.rises.invariant.row over c.rises.invariant.clear
+
+pub rises-preserved : goal.rises-preserved
+rises-preserved c =
+    let l : c.rises.i < length c.args.rises.now = omega (arith, c.rises-test.true) in
+    let is = get_or_default c.args.rises.now c.rises.i no_rise (get_or c.args.rises.now c.rises.i no_rise) l in
+    let row = row_step c.args.rises.now c.rises.most c.rises.total c.rises.i (get_or c.args.rises.now c.rises.i no_rise) l is (c.requires.are c.rises.i no_rise l) c.rises.invariant.row in
+    let fits = rw c.saturating_sub.ensures at c.if-total-rise.false in
+    let most : c.saturating_sub.result ≤ 18446744073709551616 = search rules in
+    let small = rw c.saturating_sub.ensures at most in
+    rw (c.max.ensures, c.saturating_sub.ensures) (record {
+      row = row;
+      clear = clear_next c.args.rises.now _ _ c.rises.i (get_or c.args.rises.now c.rises.i no_rise) l is row fits c.rises.invariant.clear;
+      small = omega (arith, small, c.rises.invariant.small);
+    })
+
+pub returns : goal.returns
+returns c = clear_last c.args.rises.now c.rises.i (omega (arith, c.rises-test.false)) c.rises.invariant.clear
