@@ -140,7 +140,8 @@ fn expected(miss: Option<(u32, u32, u32)>, t: u64) -> Option<Miss> {
     }
 }
 
-fn replay(rt: &impl Abort, alloc: Global, case: Case) -> Result<(), Fail> {
+// Replays a case and compares each tick with the plain machine; a case by hand has its first miss as well.
+fn replay(rt: &impl Abort, alloc: Global, case: Case, by_hand: bool) -> Result<(), Fail> {
     let set = two_tasks(alloc, case.first, case.second)?.ok_or("past the limits")?;
     let [x, y, z] = case.releases;
     let releases = [at(x), at(y), at(z)];
@@ -151,7 +152,7 @@ fn replay(rt: &impl Abort, alloc: Global, case: Case) -> Result<(), Fail> {
     for t in 0..20 {
         board.run_until(t);
         let miss = board.first_miss();
-        assert_eq!(rt; miss, expected(case.miss, t));
+        assert!(rt; !by_hand || miss == expected(case.miss, t));
         assert_eq!(rt; miss, plain_miss(&jobs, picks.as_slice(), t));
     }
     Ok(())
@@ -221,7 +222,64 @@ fn first_misses_are_those_worked_by_hand_and_of_the_plain_machine(
         },
     ];
     for case in cases {
-        replay(&rt, rt.alloc(), case)?;
+        replay(&rt, rt.alloc(), case, true)?;
+    }
+    Ok(())
+}
+
+// A stream of numbers that look random.
+#[derive(Drop)]
+struct Draws {
+    state: u64,
+}
+
+impl Draws {
+    // A number below `k`.
+    fn draw(&mut self, k: u32) -> u32
+        requires { 0 < k }
+        ensures { result < k }
+    {
+        self.state = self
+            .state
+            .wrapping_mul(6_364_136_223_846_793_005)
+            .wrapping_add(1_442_695_040_888_963_407);
+        ((self.state >> 33) % u64::from(k)) as u32
+    }
+}
+
+// Two tasks with small numbers, and two releases of the first and one of the second.
+fn drawn(draws: &mut Draws) -> Case {
+    let swapped = draws.draw(2);
+    let (wcet, deadline) = (1 + draws.draw(4), 1 + draws.draw(6));
+    let (other_wcet, other_deadline) = (1 + draws.draw(4), 1 + draws.draw(8));
+    let start = draws.draw(4);
+    let next = start + deadline + draws.draw(3);
+    let other_start = draws.draw(5);
+    Case {
+        first: (1 + swapped, wcet, deadline),
+        second: (2 - swapped, other_wcet, other_deadline),
+        policy: if draws.draw(2) == 0 {
+            Policy::Edf
+        } else {
+            Policy::Fixed
+        },
+        releases: [
+            (0, start, 1 + draws.draw(wcet)),
+            (0, next, 1 + draws.draw(wcet)),
+            (1, other_start, 1 + draws.draw(other_wcet)),
+        ],
+        miss: None,
+    }
+}
+
+#[test]
+fn a_thousand_drawn_lists_are_replayed_as_by_the_plain_machine(
+    rt: HostRuntime,
+) -> Result<(), Fail> {
+    let mut draws = Draws { state: 1 };
+    for _ in 0..1000 {
+        let case = drawn(&mut draws);
+        replay(&rt, rt.alloc(), case, false)?;
     }
     Ok(())
 }
