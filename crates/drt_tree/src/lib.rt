@@ -11,3 +11,6 @@ mod node;
 pub use forest::Forest;
 pub use leaf::Leaf;
 pub use node::Node;
+
+#[cfg(test)]
+mod tests;
