@@ -1,0 +1,6 @@
+pub mod Statement
+pub mod Ranges
+pub mod Text
+pub mod Claims
+pub mod Fronts
+pub mod Rules
