@@ -1,0 +1,76 @@
+-- What each answer of the EDF analysis says.
+use Rattle.std.specs.Prelude.{◌≡◌, ℕ, ◌≤◌, ◌<◌, List, length, Option}
+use Rattle.drt_model.specs.declared.tasks.Task.{Task}
+use Rattle.drt_model.specs.declared.jobs.Policy.TheVariants.{Edf}
+use Rattle.drt_model.specs.declared.jobs.Release.{Release}
+use Rattle.drt_model.specs.declared.jobs.Miss.{Miss}
+use Rattle.drt_model.specs.Schedulable.{Schedulable, jobs_of}
+use Rattle.drt_model.specs.Trace.{job_at}
+use Rattle.drt_busy.specs.Needs.{needs, is_due}
+use Rattle.drt_busy.specs.Assignment.{had}
+use Rattle.drt_horizon.specs.declared.answers.Beyond.{Beyond}
+use Rattle.drt_horizon.specs.declared.answers.Beyond.TheVariants.{TooFine, TooFar}
+use Rattle.drt_evidence.specs.Claims.{graphs_of, Each, IsHorizon}
+use Rattle.drt_evidence.specs.Ranges.{IsInRange}
+use Rattle.drt_evidence.specs.Rules.{IsEdfYes, IsUtilisationOne, IsNo}
+use Rattle.drt_evidence.specs.declared.evidence.Evidence.{Evidence}
+use Rattle.drt_evidence.specs.declared.evidence.Evidence.TheVariants.{EdfYes, EdfNo, UtilisationOne, FixedYes, FixedNo, Undecided}
+use Rattle.drt_evidence.specs.declared.evidence.FrontEntry.{FrontEntry}
+use Rattle.drt_evidence.specs.declared.evidence.RatioClaim.{RatioClaim}
+use Rattle.drt_edf.specs.Plans.{IsAtOne, IsBelowOne, IsTooFar, IsTooFine}
+use Rattle.drt_edf.specs.Walks.{IsExactFront}
+use Rattle.drt_edf.specs.Spent.{IsSpentOverload, IsSpentTable}
+use Rattle.drt_edf.specs.declared.answer.EdfAnswer.{EdfAnswer}
+use Rattle.drt_edf.specs.declared.answer.EdfAnswer.TheVariants as answers
+use Rattle.drt_edf.specs.declared.answer.EdfTrail.{EdfTrail}
+use Rattle.drt_edf.specs.declared.answer.EdfTrail.TheVariants.{Table, Overload}
+
+-- A yes: the set is schedulable under EDF, its utilisation is below one, the evidence keeps the rules, and the front of each task
+-- has exactly the labels of walks due within the horizon that no other one covers.
+pub record IsYes (tasks : List Task) (ratios : List RatioClaim) (fronts : List (List FrontEntry)) : Type 0 where
+  pub schedulable : Schedulable tasks Edf
+  pub accepted : IsEdfYes tasks ratios fronts
+  pub bound : ℕ
+  pub below : IsBelowOne tasks bound
+  pub is_bound : IsHorizon (graphs_of tasks) ratios bound
+  pub exact : Each (IsExactFront bound) (graphs_of tasks) fronts
+
+-- A no: the set isn't schedulable under EDF, the releases are legal and the named job misses, before whose deadline none does; the
+-- jobs that are due by some t need more than t, and no assignment of one job to each tick meets all deadlines.
+pub record IsMissed (tasks : List Task) (releases : List Release) (miss : Miss) : Type 0 where
+  pub not_schedulable : ¬ Schedulable tasks Edf
+  pub accepted : IsNo Edf tasks releases miss
+  pub overloaded : (t : ℕ) × (t < needs (is_due 0 t) (jobs_of tasks releases))
+  pub hopeless :
+      (assigned : ℕ → Option ℕ) → (j : ℕ) × (j < length releases)
+      × (had assigned j (job_at (jobs_of tasks releases) j).deadline < (job_at (jobs_of tasks releases) j).need)
+
+-- A utilisation of one, with ratios that keep the rules.
+pub record IsOnlyOne (tasks : List Task) (ratios : List RatioClaim) : Type 0 where
+  pub at_one : IsAtOne tasks
+  pub accepted : IsUtilisationOne tasks ratios
+
+-- What the evidence of an answer says. The analysis gives no other kind.
+abbrev pub IsDone : List Task → Evidence → Type 0
+IsDone tasks (EdfYes ratios fronts) = IsYes tasks ratios fronts
+IsDone tasks (EdfNo releases miss) = IsMissed tasks releases miss
+IsDone tasks (UtilisationOne ratios) = IsOnlyOne tasks ratios
+IsDone tasks (FixedYes trees proofs) = ⊥
+IsDone tasks (FixedNo releases miss) = ⊥
+IsDone tasks Undecided = ⊥
+
+-- Why the numbers of a set are out of reach.
+abbrev pub IsBeyond : List Task → Beyond → Type 0
+IsBeyond tasks TooFine = IsTooFine tasks
+IsBeyond tasks TooFar = IsTooFar tasks
+
+-- Why there is no answer: a budget was spent.
+abbrev pub IsUndecided : List Task → ℕ → EdfTrail → Type 0
+IsUndecided tasks budget (Table task log) = IsSpentTable tasks budget task log
+IsUndecided tasks budget (Overload last) = IsSpentOverload tasks budget last
+
+-- What each answer says, with a budget.
+abbrev pub IsAnswer : List Task → ℕ → EdfAnswer → Type 0
+IsAnswer tasks budget (answers.Done evidence) = IsDone tasks evidence × IsInRange evidence
+IsAnswer tasks budget (answers.Beyond beyond) = IsBeyond tasks beyond
+IsAnswer tasks budget (answers.Undecided trail) = IsUndecided tasks budget trail

@@ -1,0 +1,5 @@
+pub mod Plans
+pub mod Walks
+pub mod Spent
+pub mod Answers
+pub mod LabelFronts

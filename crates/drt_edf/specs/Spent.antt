@@ -1,0 +1,62 @@
+-- Where a budget is spent, and how much is enough.
+use Rattle.std.specs.Prelude.{◌≡◌, ℕ, ◌+◌, ◌*◌, ◌≤◌, ◌<◌, ◌^◌, false, max, List, [], ◌∷◌, length, All, Some, slice_get}
+use Rattle.drt_model.specs.declared.tasks.Task.{Task}
+use Rattle.drt_model.specs.declared.tasks.Edge.{Edge}
+use Rattle.drt_model.specs.Digraph.{Digraph, vertex_count}
+use Rattle.drt_model.specs.Utilisation.{IsScale}
+use Rattle.drt_demand.specs.Demand.{demand_algebra}
+use Rattle.drt_ratio.specs.declared.ratio_proof.RatioProof.{RatioProof}
+use Rattle.drt_ratio.specs.SetRatios.{fractions_of}
+use Rattle.drt_table.specs.Machine.{Setting, IsRun, replay, is_finished}
+use Rattle.drt_table.specs.declared.step.Entry.{Entry}
+use Rattle.drt_horizon.specs.Given.{AreGiven}
+use Rattle.drt_horizon.specs.Laps.{laps_of, IsOver}
+use Rattle.drt_horizon.specs.Laws.{latest}
+use Rattle.drt_horizon.specs.Plans.{IsAboveOne as IsPlannedAboveOne}
+use Rattle.drt_horizon.specs.declared.answers.Over.TheVariants.{Spent}
+use Rattle.drt_evidence.specs.Claims.{graphs_of}
+use Rattle.drt_edf.specs.Plans.{IsAboveOne, IsBelowOne}
+
+-- The greatest number of edges out of a vertex.
+abbrev pub most_out : List (List Edge) → ℕ
+most_out [] = 0
+most_out (row ∷ rows) = max (length row) (most_out rows)
+
+-- No search of a graph's walks up to the bound makes so many steps: vertices, times offsets, times what is done at one of them.
+abbrev pub table_need : Digraph → ℕ → ℕ
+table_need g bound = vertex_count g * (bound + 1) * (most_out g.out + 2)
+
+-- What a search of a graph's walks never changes.
+abbrev pub search_of : Digraph → ℕ → ℕ → Setting
+search_of g bound budget = record { graph = g; bound = bound; budget = budget }
+
+-- The search of this task's walks spent the budget: the log is a run of that many steps which isn't finished, up to the horizon of
+-- a set whose utilisation is below one. So the budget is below what the search needs.
+pub record IsSpentTable (tasks : List Task) (budget task : ℕ) (log : List Entry) : Type 0 where
+  pub bound : ℕ
+  pub below : IsBelowOne tasks bound
+  pub near : bound ≤ 2 ^ 40
+  pub graph : Digraph
+  pub is_graph : slice_get (graphs_of tasks) task ≡ Some graph
+  pub run : IsRun demand_algebra (search_of graph bound budget) log
+  pub spent : length log ≡ budget
+  pub unfinished : is_finished demand_algebra (search_of graph bound budget) (replay demand_algebra (search_of graph bound budget) log) ≡ false
+  pub short : budget < table_need graph bound
+
+-- The search for an overload spent the budget: the utilisation is above one, and for some cycles that have the tasks' ratios and
+-- name each vertex at most once this is the last of so many step times, none of which has more work than time. So the budget is
+-- below the time by which there is one.
+pub record IsSpentOverload (tasks : List Task) (budget last : ℕ) : Type 0 where
+  pub above : IsAboveOne tasks
+  pub proofs : List RatioProof
+  pub are : AreGiven (graphs_of tasks) proofs
+  pub spent : IsOver (laps_of (graphs_of tasks) proofs) budget (Spent last)
+  pub scale : ℕ
+  pub is_scale : IsScale (fractions_of proofs) scale
+  pub short : budget < latest scale (graphs_of tasks) proofs
+
+-- The budget is enough for each search: of each task's walks up to the horizon where the utilisation is below one, and for an
+-- overload where it is above.
+pub record IsEnough (tasks : List Task) (budget : ℕ) : Type 0 where
+  pub tables : (bound : ℕ) → IsBelowOne tasks bound → All (λ g. table_need g bound ≤ budget) (graphs_of tasks)
+  pub overload : IsAboveOne tasks → (proofs : List RatioProof) → AreGiven (graphs_of tasks) proofs → (scale : ℕ) → IsScale (fractions_of proofs) scale → latest scale (graphs_of tasks) proofs ≤ budget

@@ -1,0 +1,11 @@
+//! The exact analysis of a task set under EDF.
+//!
+//! `analyse_edf` takes the ratios of the tasks' cycles and plans by them: a utilisation of one is told apart; above one the
+//! turns of the cycles are searched for a time with too much work; below one each task's walks are searched up to the horizon,
+//! and the demands over these fronts are scanned. Each answer carries its evidence, which keeps the rules of
+//! `drt_evidence`, and each other answer its cause. The layer above uses the one contract of `analyse_edf`.
+#![tactic(auto)]
+
+mod answer;
+
+pub use answer::{EdfAnswer, EdfTrail};

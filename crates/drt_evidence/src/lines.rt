@@ -1,1 +1,0 @@
-//! Lines of fields, as bytes.
