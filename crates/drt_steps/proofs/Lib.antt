@@ -4,3 +4,4 @@ pub mod Kept
 pub mod Times
 pub mod Values
 pub mod Ends
+pub mod Places

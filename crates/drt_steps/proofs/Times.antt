@@ -1,4 +1,4 @@
-use Rattle.std.proofs.Common.{◌≡◌, ℕ, suc, zero, ◌+◌, ◌<◌, ◌≤◌, Some, List, [], ◌∷◌, length, take, ap, ◌∙◌, subst, arith, add-one}
+use Rattle.std.proofs.Common.{◌≡◌, ℕ, suc, zero, ◌+◌, ◌<◌, ◌≤◌, Some, List, [], ◌∷◌, length, take, sym, ap, ◌∙◌, subst, arith, add-one}
 use Rattle.std.specs.Prelude.{slice_get, slice_index_or}
 use Rattle.std.proofs.lemmas.Option.{none-some, same_Some}
 use Rattle.drt_steps.specs.Values.{value_at}
@@ -29,3 +29,12 @@ none_more wcet deadline pool chosen t rises before s fails p =
     let up : sum_at pool chosen t ≤ sum_at pool chosen s = rises s from to in
     let q : wcet + sum_at pool chosen s ≤ s = p.passes in
     omega arith
+
+chosen_suc : (deadline : ℕ) (pool : List (List ℕ)) (chosen : List ℕ) (i k : ℕ) → AreChosen deadline pool (take i chosen) → slice_get chosen i ≡ Some k → ChosenAt deadline pool k → AreChosen deadline pool (take (suc i) chosen)
+chosen_suc deadline pool [] i k h at c = absurd (none-some k at)
+chosen_suc deadline pool (x ∷ chosen) zero k h at c = let d : ChosenAt deadline pool x = subst (λ (y : ℕ). ChosenAt deadline pool y) (sym (same_Some x k at)) c in (d.within, d.long, tt)
+chosen_suc deadline pool (x ∷ chosen) (suc i) k h at c = (h.0, h.1, chosen_suc deadline pool chosen i k h.2 at c)
+
+-- one more number that names a function
+pub chosen_more : (deadline : ℕ) (pool : List (List ℕ)) (chosen : List ℕ) (i k : ℕ) → AreChosen deadline pool (take i chosen) → slice_get chosen i ≡ Some k → ChosenAt deadline pool k → AreChosen deadline pool (take (i + 1) chosen)
+chosen_more deadline pool chosen i k h at c = subst (λ (n : ℕ). AreChosen deadline pool (take n chosen)) (sym (add-one i)) (chosen_suc deadline pool chosen i k h at c)

@@ -39,6 +39,26 @@ pub record AreKept (bound base : ℕ) (jumps : List Jump) : Type 0 where
   pub order : AreFrom 1 jumps
   pub below : AreBelow bound jumps
 
+-- The value from each jump on, where the value before the first is the base.
+abbrev pub levels : ℕ → List Jump → List ℕ
+levels base [] = []
+levels base (j ∷ js) = (base + j.rise) ∷ levels (base + j.rise) js
+
+-- All that is kept for a function: its bound, base and jumps, and the value from each jump on.
+pub record IsKept (bound base : ℕ) (jumps : List Jump) (values : List ℕ) : Type 0 where
+  pub kept : AreKept bound base jumps
+  pub levels_are : values ≡ levels base jumps
+
+-- A place among the jumps, or at their end, whose jump in front comes before the time t.
+pub record IsReached (jumps : List Jump) (t place : ℕ) : Type 0 where
+  pub within : place ≤ length jumps
+  pub before : (i : ℕ) (j : Jump) → i + 1 ≡ place → slice_get jumps i ≡ Some j → j.after < t
+
+-- The place of the time t among jumps in order: the jump in front comes before t, and the jump there doesn't.
+pub record IsPlace (jumps : List Jump) (t place : ℕ) : Type 0 where
+  pub reached : IsReached jumps t place
+  pub later : (j : Jump) → slice_get jumps place ≡ Some j → t ≤ j.after
+
 -- The jumps that come at the time s or earlier.
 abbrev pub up_to : ℕ → List Jump → List Jump
 up_to s [] = []

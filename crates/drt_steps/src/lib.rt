@@ -5,6 +5,7 @@
 #![tactic(auto)]
 
 mod jump;
+mod level;
 mod merge;
 mod steps;
 #[cfg(test)]

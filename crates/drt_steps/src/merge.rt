@@ -20,8 +20,8 @@ fn is_own_next(own: &[Jump], i: usize, other: &[Jump], j: usize) -> bool
     own[i].after <= other[j].after
 }
 
-// Whether a function is at each time at least another one. A rise of the other counts at once, and a rise of its own
-// at the same time counts with it.
+/// Whether a function is at each time at least another one. A rise of the other counts at once, and a rise of its own
+/// at the same time counts with it.
 pub fn stays_above(own_base: u64, own: &[Jump], other_base: u64, other: &[Jump]) -> bool
     requires own_order { AreFrom 1 own.now }
     requires other_order { AreFrom 1 other.now }
@@ -65,7 +65,7 @@ fn grow(jumps: &mut Vec<Jump>, after: u64, before: u64, now: u64) -> Result<(), 
     Ok(())
 }
 
-// The jumps of the greater of two functions, above the greater base.
+/// The jumps of the greater of two functions, above the greater base.
 pub fn merged(
     alloc: Global,
     own_base: u64,

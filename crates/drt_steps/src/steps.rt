@@ -3,8 +3,10 @@ ghost use Rattle.std.specs.Prelude.{◌≡◌, ℕ, ◌+◌, ◌≤◌, ◌<◌,
 ghost use Rattle.std.specs.Ordering.{nat_cmp};
 ghost use Rattle.std.specs.Cmp.Lexicographic.{slice_cmp};
 ghost use Rattle.drt_steps.specs.Values.{raise, value_at, covers, max_of};
+ghost use Rattle.drt_steps.specs.Jumps.{values, AreKept};
 
-use crate::jump::{Jump, level_since, placed, risen_before};
+use crate::jump::{Jump, level_since, place_from, place_of, placed};
+use crate::level::{level_after, levels};
 use crate::merge::{merged, stays_above};
 use std::alloc::{AllocError, Global};
 use std::cmp::Ordering;
@@ -17,20 +19,40 @@ pub struct Steps {
     bound: u64,
     base: u64,
     jumps: Vec<Jump>,
+    levels: Vec<u64>,
 }
 
 impl Model for Steps {
     ghost use Rattle.std.specs.Prelude.{List, ℕ};
-    ghost use Rattle.drt_steps.specs.Jumps.{values, AreKept};
+    ghost use Rattle.drt_steps.specs.Jumps.{values, IsKept};
 
     ghost Value = { List ℕ };
 
     ghost view = { λ s. values s.bound s.base s.jumps.items };
 
-    ghost invariant = { λ s. AreKept s.bound s.base s.jumps.items };
+    ghost invariant = { λ s. IsKept s.bound s.base s.jumps.items s.levels.items };
 }
 
 impl Steps {
+    // The function with this base and these jumps.
+    fn from_jumps(
+        alloc: Global,
+        bound: u64,
+        base: u64,
+        jumps: Vec<Jump>,
+    ) -> Result<Steps, AllocError>
+        requires { AreKept bound base jumps.items }
+        ensures { IfOk result (λ s. s ≡ values bound base jumps.items) }
+    {
+        let levels = levels(alloc, base, &jumps)?;
+        Ok(Steps {
+            bound,
+            base,
+            jumps,
+            levels,
+        })
+    }
+
     /// The function that has one value at each of 1 to `bound`.
     pub fn flat(alloc: Global, bound: u64, value: u64) -> Result<Steps, AllocError>
         requires from { 1 ≤ bound }
@@ -42,6 +64,7 @@ impl Steps {
             bound,
             base: value,
             jumps: Vec::new(alloc),
+            levels: Vec::new(alloc),
         })
     }
 
@@ -53,6 +76,7 @@ impl Steps {
             bound: self.bound,
             base: self.base,
             jumps: Vec::from_slice(alloc, &self.jumps)?,
+            levels: Vec::from_slice(alloc, &self.levels)?,
         })
     }
 
@@ -73,7 +97,20 @@ impl Steps {
         ensures small { result ≤ 1000000000000 }
         ensures rises { (s : ℕ) → t ≤ s → s ≤ length self.now → result ≤ value_at self.now s }
     {
-        self.base + risen_before(&self.jumps, t)
+        level_after(self.base, &self.levels, place_of(&self.jumps, t))
+    }
+
+    /// The value at the time `t`, by steps from where an earlier call left `place`. Over calls at times that grow, all
+    /// steps together are no more than there are rises. The value is the same at any `place`.
+    pub(crate) fn at_from(&self, place: &mut usize, t: u64) -> u64
+        requires from { 1 ≤ t }
+        requires to { t ≤ length self.now }
+        ensures value { result ≡ value_at self.now t }
+        ensures small { result ≤ 1000000000000 }
+        ensures rises { (s : ℕ) → t ≤ s → s ≤ length self.now → result ≤ value_at self.now s }
+    {
+        *place = place_from(&self.jumps, *place, t);
+        level_after(self.base, &self.levels, *place)
     }
 
     /// The function with `work` more at each time later than `offset`.
@@ -85,21 +122,15 @@ impl Steps {
             return self.copy(alloc);
         }
         if offset == 0 {
-            return Ok(Steps {
-                bound: self.bound,
-                base: self.base + work,
-                jumps: Vec::from_slice(alloc, &self.jumps)?,
-            });
+            let jumps = Vec::from_slice(alloc, &self.jumps)?;
+            return Steps::from_jumps(alloc, self.bound, self.base + work, jumps);
         }
         let new = Jump {
             after: offset,
             rise: work,
         };
-        Ok(Steps {
-            bound: self.bound,
-            base: self.base,
-            jumps: placed(alloc, &self.jumps, new)?,
-        })
+        let jumps = placed(alloc, &self.jumps, new)?;
+        Steps::from_jumps(alloc, self.bound, self.base, jumps)
     }
 
     /// Whether this function is at each time at least the other one.
@@ -115,11 +146,8 @@ impl Steps {
         requires { length a.now ≡ length b.now }
         ensures { IfOk result (λ s. s ≡ max_of a.now b.now) }
     {
-        Ok(Steps {
-            bound: a.bound,
-            base: a.base.max(b.base),
-            jumps: merged(alloc, a.base, &a.jumps, b.base, &b.jumps)?,
-        })
+        let jumps = merged(alloc, a.base, &a.jumps, b.base, &b.jumps)?;
+        Steps::from_jumps(alloc, a.bound, a.base.max(b.base), jumps)
     }
 
     /// The order of two functions by their values at the bound, and where those are equal by the values at the time

@@ -6,36 +6,36 @@ use Rattle.drt_steps.specs.Time.{sum_at}
 use Rattle.drt_steps.proofs.Times.{sum_more, chosen_at, ChosenAt}
 use Rattle.drt_steps.proofs.time.sum_of.Goals as goal
 
-pub bounds-pool-k : goal.bounds-pool-k
-bounds-pool-k c =
-    (chosen_at c.args.deadline c.args.pool.now c.args.chosen.now c.loop-k.k-index (slice_index_or c.args.chosen.now c.loop-k.k-index 0) c.requires.chosen (slice_get-get_or c.args.chosen.now c.loop-k.k-index 0 c.loop-k-test.true)).within
+pub bounds-pool-chosen : goal.bounds-pool-chosen
+bounds-pool-chosen c =
+    (chosen_at c.args.deadline c.args.pool.now c.args.chosen.now c.loop-i.i (slice_index_or c.args.chosen.now c.loop-i.i 0) c.requires.chosen (slice_get-get_or c.args.chosen.now c.loop-i.i 0 c.loop-i-test.true)).within
 
-pub at-sum-requires-clause-to : goal.at-sum-requires-clause-to
-at-sum-requires-clause-to c =
-    let k : ℕ = slice_index_or c.args.chosen.now c.loop-k.k-index 0 in
-    let h : ChosenAt c.args.deadline c.args.pool.now k = chosen_at c.args.deadline c.args.pool.now c.args.chosen.now c.loop-k.k-index k c.requires.chosen (slice_get-get_or c.args.chosen.now c.loop-k.k-index 0 c.loop-k-test.true) in
-    let e : slice_index_or c.args.pool.now k [] ≡ c.index-pool-k.result = get_or_from_slice_get c.args.pool.now k c.index-pool-k.result [] (slice_get_read c.args.pool.now (length c.args.pool.now) k c.index-pool-k.result refl h.within c.index-pool-k.is) in
-    let l : length (slice_index_or c.args.pool.now k []) ≡ length c.index-pool-k.result = ap length e in
+pub at_from-sum-requires-clause-to : goal.at_from-sum-requires-clause-to
+at_from-sum-requires-clause-to c =
+    let k : ℕ = slice_index_or c.args.chosen.now c.loop-i.i 0 in
+    let h : ChosenAt c.args.deadline c.args.pool.now k = chosen_at c.args.deadline c.args.pool.now c.args.chosen.now c.loop-i.i k c.requires.chosen (slice_get-get_or c.args.chosen.now c.loop-i.i 0 c.loop-i-test.true) in
+    let e : slice_index_or c.args.pool.now k [] ≡ c.index-pool-chosen.result = get_or_from_slice_get c.args.pool.now k c.index-pool-chosen.result [] (slice_get_read c.args.pool.now (length c.args.pool.now) k c.index-pool-chosen.result refl h.within c.index-pool-chosen.is) in
+    let l : length (slice_index_or c.args.pool.now k []) ≡ length c.index-pool-chosen.result = ap length e in
     omega (arith, h.long)
 
-pub loop-k-preserved : goal.loop-k-preserved
-loop-k-preserved c =
-    let i : ℕ = c.loop-k.k-index in
+pub loop-i-preserved : goal.loop-i-preserved
+loop-i-preserved c =
+    let i : ℕ = c.loop-i.i in
     let k : ℕ = slice_index_or c.args.chosen.now i 0 in
-    let at : slice_get c.args.chosen.now i ≡ Some k = slice_get-get_or c.args.chosen.now i 0 c.loop-k-test.true in
+    let at : slice_get c.args.chosen.now i ≡ Some k = slice_get-get_or c.args.chosen.now i 0 c.loop-i-test.true in
     let h : ChosenAt c.args.deadline c.args.pool.now k = chosen_at c.args.deadline c.args.pool.now c.args.chosen.now i k c.requires.chosen at in
-    let e : slice_index_or c.args.pool.now k [] ≡ c.index-pool-k.result = get_or_from_slice_get c.args.pool.now k c.index-pool-k.result [] (slice_get_read c.args.pool.now (length c.args.pool.now) k c.index-pool-k.result refl h.within c.index-pool-k.is) in
-    let l : length (slice_index_or c.args.pool.now k []) ≡ length c.index-pool-k.result = ap length e in
+    let e : slice_index_or c.args.pool.now k [] ≡ c.index-pool-chosen.result = get_or_from_slice_get c.args.pool.now k c.index-pool-chosen.result [] (slice_get_read c.args.pool.now (length c.args.pool.now) k c.index-pool-chosen.result refl h.within c.index-pool-chosen.is) in
+    let l : length (slice_index_or c.args.pool.now k []) ≡ length c.index-pool-chosen.result = ap length e in
     let long : c.args.deadline ≤ length (slice_index_or c.args.pool.now k []) = h.long in
     let m : sum_at c.args.pool.now (take (i + 1) c.args.chosen.now) c.args.t ≡ sum_at c.args.pool.now (take i c.args.chosen.now) c.args.t + value_at (slice_index_or c.args.pool.now k []) c.args.t = sum_more c.args.pool.now c.args.chosen.now i k c.args.t at in
-    let v : value_at (slice_index_or c.args.pool.now k []) c.args.t ≡ value_at c.index-pool-k.result c.args.t = ap (λ xs. value_at xs c.args.t) e in
-    let r : c.at-sum.result ≡ value_at c.index-pool-k.result c.args.t = c.at-sum.ensures.value in (
-      omega (arith, c.loop-k.invariant.0),
-      omega (arith, c.loop-k.invariant.1, c.at-sum.ensures.small),
+    let v : value_at (slice_index_or c.args.pool.now k []) c.args.t ≡ value_at c.index-pool-chosen.result c.args.t = ap (λ xs. value_at xs c.args.t) e in
+    let r : c.at_from-sum.result ≡ value_at c.index-pool-chosen.result c.args.t = c.at_from-sum.ensures.value in (
+      omega (arith, c.loop-i.invariant.0),
+      omega (arith, c.loop-i.invariant.1, c.at_from-sum.ensures.small),
       λ s le to.
           let ms : sum_at c.args.pool.now (take (i + 1) c.args.chosen.now) s ≡ sum_at c.args.pool.now (take i c.args.chosen.now) s + value_at (slice_index_or c.args.pool.now k []) s = sum_more c.args.pool.now c.args.chosen.now i k s at in
-          let vs : value_at (slice_index_or c.args.pool.now k []) s ≡ value_at c.index-pool-k.result s = ap (λ xs. value_at xs s) e in
-          let up : c.at-sum.result ≤ value_at c.index-pool-k.result s = c.at-sum.ensures.rises s le (omega arith) in
-          let before : c.loop-k.sum ≤ sum_at c.args.pool.now (take i c.args.chosen.now) s = c.loop-k.invariant.2 s le to in
+          let vs : value_at (slice_index_or c.args.pool.now k []) s ≡ value_at c.index-pool-chosen.result s = ap (λ xs. value_at xs s) e in
+          let up : c.at_from-sum.result ≤ value_at c.index-pool-chosen.result s = c.at_from-sum.ensures.rises s le (omega arith) in
+          let before : c.loop-i.sum ≤ sum_at c.args.pool.now (take i c.args.chosen.now) s = c.loop-i.invariant.2 s le to in
           omega arith,
     )

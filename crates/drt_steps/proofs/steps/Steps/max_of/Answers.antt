@@ -1,20 +1,20 @@
-use Rattle.std.proofs.Common.{◌≡◌, ℕ, List, sym, ap, ◌∙◌, subst}
+use Rattle.std.proofs.Common.{◌≡◌, ℕ, List, sym, ap, ◌∙◌, subst, IfOk}
 use Rattle.drt_steps.specs.declared.jump.Jump.{Jump}
 use Rattle.drt_steps.specs.Values.{max_of}
 use Rattle.drt_steps.specs.Jumps.{values, AreKept, AreMost}
 use Rattle.drt_steps.proofs.Kept.{long, most_along, most_kept, most_is}
 use Rattle.drt_steps.proofs.steps.Steps.max_of.Goals as goal
 
-pub invariant_of-result : goal.invariant_of-result
-invariant_of-result c =
+pub from_jumps-requires : goal.from_jumps-requires
+from_jumps-requires c =
     let p : ℕ = c.a.inside.base in
     let q : ℕ = c.b.inside.base in
     let own : List Jump = c.a.inside.jumps.items in
     let other : List Jump = c.b.inside.jumps.items in
-    let most : List Jump = c.in_ok-merged.field-0.items in
+    let most : List Jump = c.in_ok-jumps.jumps.items in
     let same : c.a.inside.bound ≡ c.b.inside.bound = long c.a.inside.bound p own c.args.a.now c.a.view_is ∙ (c.requires ∙ sym (long c.b.inside.bound q other c.args.b.now c.b.view_is)) in
-    let h : AreMost p own q other most = most_along p q c.deref.result.now own c.deref-2.result.now other most c.deref.ensures.value c.deref-2.ensures.value c.in_ok-merged.ensures in
-    subst (λ (z : ℕ). AreKept c.a.inside.bound z most) (sym c.max.ensures) (most_kept c.a.inside.bound c.b.inside.bound p q own other most same c.a.invariant c.b.invariant h)
+    let h : AreMost p own q other most = most_along p q c.deref.result.now own c.deref-2.result.now other most c.deref.ensures.value c.deref-2.ensures.value c.in_ok-jumps.ensures in
+    subst (λ (z : ℕ). AreKept c.a.inside.bound z most) (sym c.max.ensures) (most_kept c.a.inside.bound c.b.inside.bound p q own other most same c.a.invariant.kept c.b.invariant.kept h)
 
 pub returns : goal.returns
 returns c =
@@ -22,11 +22,11 @@ returns c =
     let q : ℕ = c.b.inside.base in
     let own : List Jump = c.a.inside.jumps.items in
     let other : List Jump = c.b.inside.jumps.items in
-    let most : List Jump = c.in_ok-merged.field-0.items in
+    let most : List Jump = c.in_ok-jumps.jumps.items in
     let same : c.a.inside.bound ≡ c.b.inside.bound = long c.a.inside.bound p own c.args.a.now c.a.view_is ∙ (c.requires ∙ sym (long c.b.inside.bound q other c.args.b.now c.b.view_is)) in
-    let h : AreMost p own q other most = most_along p q c.deref.result.now own c.deref-2.result.now other most c.deref.ensures.value c.deref-2.ensures.value c.in_ok-merged.ensures in
+    let h : AreMost p own q other most = most_along p q c.deref.result.now own c.deref-2.result.now other most c.deref.ensures.value c.deref-2.ensures.value c.in_ok-jumps.ensures in
     let e : values c.a.inside.bound c.max.result most ≡ max_of c.args.a.now c.args.b.now =
     ap (λ z. values c.a.inside.bound z most) c.max.ensures
     ∙ (most_is c.a.inside.bound c.b.inside.bound p q own other most same h
     ∙ (ap (λ xs. max_of xs (values c.b.inside.bound q other)) c.a.view_is ∙ ap (λ ys. max_of c.args.a.now ys) c.b.view_is)) in
-    e
+    subst (λ (xs : List ℕ). IfOk c.from_jumps.result (λ s. s ≡ xs)) e c.from_jumps.ensures

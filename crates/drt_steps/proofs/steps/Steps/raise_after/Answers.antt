@@ -12,38 +12,38 @@ returns-then-offset-self c =
     let e : raise c.args.offset c.args.work c.args.self.now ≡ c.args.self.now = raise_out c.args.offset c.args.work c.args.self.now (omega (arith, c.if-offset-self.true)) in
     subst (λ (xs : List ℕ). IfOk c.copy.result (λ s. s ≡ xs)) (sym e) c.copy.ensures
 
-pub invariant_of-result : goal.invariant_of-result
-invariant_of-result c =
+pub from_jumps-requires : goal.from_jumps-requires
+from_jumps-requires c =
     let n : ℕ = c.self.inside.bound in
     let js : List Jump = c.self.inside.jumps.items in
     let is : n ≡ length c.args.self.now = long n c.self.inside.base js c.args.self.now c.self.view_is in
-    let t : value_at c.args.self.now n ≡ c.self.inside.base + total js = top n c.self.inside.base js c.args.self.now c.self.view_is c.self.invariant in
-    let from : 1 ≤ n = c.self.invariant.from in
+    let t : value_at c.args.self.now n ≡ c.self.inside.base + total js = top n c.self.inside.base js c.args.self.now c.self.view_is c.self.invariant.kept in
+    let from : 1 ≤ n = c.self.invariant.kept.from in
     let small : value_at c.args.self.now n + c.args.work ≤ 1000000000000 = c.requires n (omega (arith, c.if-offset-eq0.true)) (omega arith) in
-    let e : js ≡ c.in_ok-from_slice.field-0.items = sym (c.in_ok-from_slice.ensures.items ∙ c.deref.ensures.value) in
-    subst (λ (ks : List Jump). AreKept n (c.self.inside.base + c.args.work) ks) e (base_kept n c.self.inside.base c.args.work js c.self.invariant (omega arith))
+    let e : js ≡ c.in_ok-jumps.jumps.items = sym (c.in_ok-jumps.ensures.items ∙ c.deref.ensures.value) in
+    subst (λ (ks : List Jump). AreKept n (c.self.inside.base + c.args.work) ks) e (base_kept n c.self.inside.base c.args.work js c.self.invariant.kept (omega arith))
 
 pub returns-then-offset-eq0 : goal.returns-then-offset-eq0
 returns-then-offset-eq0 c =
     let n : ℕ = c.self.inside.bound in
     let p : ℕ = c.self.inside.base in
     let js : List Jump = c.self.inside.jumps.items in
-    let e : c.in_ok-from_slice.field-0.items ≡ js = c.in_ok-from_slice.ensures.items ∙ c.deref.ensures.value in
-    let r : values n (p + c.args.work) c.in_ok-from_slice.field-0.items ≡ raise c.args.offset c.args.work c.args.self.now =
+    let e : c.in_ok-jumps.jumps.items ≡ js = c.in_ok-jumps.ensures.items ∙ c.deref.ensures.value in
+    let r : values n (p + c.args.work) c.in_ok-jumps.jumps.items ≡ raise c.args.offset c.args.work c.args.self.now =
     ap (λ ks. values n (p + c.args.work) ks) e ∙ (base_raised n p c.args.work js ∙ (ap (λ k. raise k c.args.work (values n p js)) (sym c.if-offset-eq0.true) ∙ ap (λ xs. raise c.args.offset c.args.work xs) c.self.view_is)) in
-    r
+    subst (λ (xs : List ℕ). IfOk c.from_jumps.result (λ s. s ≡ xs)) r c.from_jumps.ensures
 
-pub invariant_of-result-2 : goal.invariant_of-result-2
-invariant_of-result-2 c =
+pub from_jumps-requires-2 : goal.from_jumps-requires-2
+from_jumps-requires-2 c =
     let n : ℕ = c.self.inside.bound in
     let js : List Jump = c.self.inside.jumps.items in
     let new : Jump = record { after = c.args.offset; rise = c.args.work } in
     let is : n ≡ length c.args.self.now = long n c.self.inside.base js c.args.self.now c.self.view_is in
-    let t : value_at c.args.self.now n ≡ c.self.inside.base + total js = top n c.self.inside.base js c.args.self.now c.self.view_is c.self.invariant in
+    let t : value_at c.args.self.now n ≡ c.self.inside.base + total js = top n c.self.inside.base js c.args.self.now c.self.view_is c.self.invariant.kept in
     let lt : c.args.offset < n = c.if-offset-self.false in
     let small : value_at c.args.self.now n + c.args.work ≤ 1000000000000 = c.requires n lt (omega arith) in
-    let e : c.in_ok-placed.field-0.items ≡ up_to c.args.offset js ++ new ∷ past c.args.offset js = c.in_ok-placed.ensures ∙ ap (λ ks. up_to c.args.offset ks ++ new ∷ past c.args.offset ks) c.deref-2.ensures.value in
-    subst (λ (ks : List Jump). AreKept n c.self.inside.base ks) (sym e) (placed_kept n c.self.inside.base js new c.self.invariant (omega arith) (omega (arith, c.if-offset-eq0.false)) lt)
+    let e : c.in_ok-jumps-2.jumps.items ≡ up_to c.args.offset js ++ new ∷ past c.args.offset js = c.in_ok-jumps-2.ensures ∙ ap (λ ks. up_to c.args.offset ks ++ new ∷ past c.args.offset ks) c.deref-2.ensures.value in
+    subst (λ (ks : List Jump). AreKept n c.self.inside.base ks) (sym e) (placed_kept n c.self.inside.base js new c.self.invariant.kept (omega arith) (omega (arith, c.if-offset-eq0.false)) lt)
 
 pub returns : goal.returns
 returns c =
@@ -51,7 +51,7 @@ returns c =
     let p : ℕ = c.self.inside.base in
     let js : List Jump = c.self.inside.jumps.items in
     let new : Jump = record { after = c.args.offset; rise = c.args.work } in
-    let e : c.in_ok-placed.field-0.items ≡ up_to c.args.offset js ++ new ∷ past c.args.offset js = c.in_ok-placed.ensures ∙ ap (λ ks. up_to c.args.offset ks ++ new ∷ past c.args.offset ks) c.deref-2.ensures.value in
-    let r : values n p c.in_ok-placed.field-0.items ≡ raise c.args.offset c.args.work c.args.self.now =
+    let e : c.in_ok-jumps-2.jumps.items ≡ up_to c.args.offset js ++ new ∷ past c.args.offset js = c.in_ok-jumps-2.ensures ∙ ap (λ ks. up_to c.args.offset ks ++ new ∷ past c.args.offset ks) c.deref-2.ensures.value in
+    let r : values n p c.in_ok-jumps-2.jumps.items ≡ raise c.args.offset c.args.work c.args.self.now =
     ap (λ ks. values n p ks) e ∙ (placed_is n p js new ∙ ap (λ xs. raise c.args.offset c.args.work xs) c.self.view_is) in
-    r
+    subst (λ (xs : List ℕ). IfOk c.from_jumps-2.result (λ s. s ≡ xs)) r c.from_jumps-2.ensures
