@@ -3,3 +3,4 @@ pub mod Walks
 pub mod Spent
 pub mod Answers
 pub mod LabelFronts
+pub mod RatioClaims

@@ -12,7 +12,6 @@ use Rattle.drt_table.specs.declared.step.Entry.{Entry}
 use Rattle.drt_horizon.specs.Given.{AreGiven}
 use Rattle.drt_horizon.specs.Laps.{laps_of, IsOver}
 use Rattle.drt_horizon.specs.Laws.{latest}
-use Rattle.drt_horizon.specs.Plans.{IsAboveOne as IsPlannedAboveOne}
 use Rattle.drt_horizon.specs.declared.answers.Over.TheVariants.{Spent}
 use Rattle.drt_evidence.specs.Claims.{graphs_of}
 use Rattle.drt_edf.specs.Plans.{IsAboveOne, IsBelowOne}

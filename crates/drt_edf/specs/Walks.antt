@@ -1,5 +1,5 @@
 -- Fronts, as statements about all walks.
-use Rattle.std.specs.Prelude.{◌≡◌, ℕ, ◌+◌, ◌≤◌, ◌<◌, ◌↔◌, List, [], ◌∷◌, Contains}
+use Rattle.std.specs.Prelude.{◌≡◌, ℕ, ◌≤◌, ◌<◌, ◌↔◌, List, ◌∷◌, Contains}
 use Rattle.drt_model.specs.Digraph.{Digraph, vertex_count}
 use Rattle.drt_model.specs.Walk.{IsPath, last_of, span, work}
 use Rattle.drt_evidence.specs.declared.evidence.FrontEntry.{FrontEntry}

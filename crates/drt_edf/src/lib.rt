@@ -7,5 +7,6 @@
 #![tactic(auto)]
 
 mod answer;
+mod claims;
 
 pub use answer::{EdfAnswer, EdfTrail};

@@ -1,0 +1,2 @@
+pub mod RatioClaims
+pub mod Planned
