@@ -1,2 +1,4 @@
 pub mod RatioClaims
 pub mod Planned
+pub mod Covered
+pub mod Suffixes
