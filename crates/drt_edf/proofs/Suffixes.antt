@@ -108,7 +108,8 @@ due_count t [] (w ∷ walks) are = absurd are
 due_count t (g ∷ graphs) [] are = absurd are
 due_count t (g ∷ graphs) (w ∷ walks) are = ap suc (due_count t graphs walks are.1)
 
-count_of : (tasks : List Task) → length (graphs_of tasks) ≡ length tasks
+-- There is a graph for each task.
+pub count_of : (tasks : List Task) → length (graphs_of tasks) ≡ length tasks
 count_of [] = refl
 count_of (t ∷ tasks) = ap suc (count_of tasks)
 

@@ -1,0 +1,189 @@
+-- A yes: fronts without a time of too much demand, within the horizon.
+use Rattle.std.proofs.Common.{◌≡◌, ℕ, suc, ◌+◌, ◌*◌, ◌<◌, ◌≤◌, List, [], ◌∷◌, ◌++◌, All, length, get_or, map, ◌⊎◌, inl, inr, refl, sym, ap, arith, ◌∙◌}
+use Rattle.std.specs.Prelude.{Ok, ◌^◌}
+use Rattle.std.proofs.lemmas.Bool.{cases_lt}
+use Rattle.std.proofs.lemmas.List.{get_or_default}
+use Rattle.drt_model.specs.declared.tasks.Task.{Task}
+use Rattle.drt_model.specs.declared.jobs.Policy.TheVariants.{Edf}
+use Rattle.drt_model.specs.Constrained.{AreConstrained}
+use Rattle.drt_model.specs.Digraph.{Digraph, IsSound, vertex_count, out_degree, edge_of}
+use Rattle.drt_model.specs.Limits.{IsTaskSet}
+use Rattle.drt_model.specs.Schedulable.{Schedulable}
+use Rattle.drt_model.specs.Walk.{wcet, deadline, gap, IsEdge, IsPath, last_of, work, span}
+use Rattle.drt_busy.specs.Choice.{AreWalks, AreDueBy, efforts}
+use Rattle.drt_busy.specs.Decide.{DeadlinesDecide}
+use Rattle.drt_graph.specs.Graphs.{AreGraphs}
+use Rattle.drt_graph.proofs.Edges.{sep_of_edge, gap_of}
+use Rattle.drt_demand.specs.Demand.{Demand}
+use Rattle.drt_ratio.specs.declared.ratio_proof.RatioProof.{RatioProof}
+use Rattle.drt_ratio.proofs.Optima.{path_sums}
+use Rattle.drt_ratio.proofs.Paths.{path_both, last_both, work_both, span_both, work_cons, work_none, span_cons, span_none, path_within}
+use Rattle.drt_horizon.specs.declared.answers.Horizon.TheVariants.{Under}
+use Rattle.drt_horizon.specs.Demands.{demands}
+use Rattle.drt_horizon.specs.Given.{AreGiven}
+use Rattle.drt_horizon.specs.Laws.{HorizonHolds}
+use Rattle.drt_horizon.specs.Plans.{IsPlan}
+use Rattle.drt_evidence.specs.declared.evidence.FrontEntry.{FrontEntry}
+use Rattle.drt_evidence.specs.Claims.{graphs_of, Each}
+use Rattle.drt_evidence.specs.Fronts.{due, IsOrdered, HasOpenings, IsExtended, IsClosedFront, works_due, HaveRoom}
+use Rattle.drt_evidence.specs.Ranges.{IsInRangeEntry}
+use Rattle.drt_evidence.specs.Rules.{AreFrontClaims}
+use Rattle.drt_edf.specs.Answers.{IsYes}
+use Rattle.drt_edf.specs.LabelFronts.{entries_of, IsLabelFront, AreLabelFronts}
+use Rattle.drt_edf.specs.RatioClaims.{claims_of}
+use Rattle.drt_edf.specs.Walks.{IsWalkEntry, IsExactFront}
+use Rattle.drt_edf.proofs.Covered.{walk_entry, walk_entry_is, all_within, work_same}
+use Rattle.drt_edf.proofs.Planned.{claims_kept, claims_below, planned_below}
+use Rattle.drt_edf.proofs.RatioClaims.{head_of, tail_of}
+use Rattle.drt_edf.proofs.Suffixes.{listed, efforts_listed, due_listed, count_of}
+
+-- The demand has room at each time up to the bound.
+abbrev pub HasRoom : List Digraph → List (List Demand) → ℕ → Type 0
+HasRoom graphs fronts bound = (s : ℕ) → s ≤ bound → demands graphs fronts s ≤ s
+
+-- The set is schedulable.
+pub schedulable : HorizonHolds → DeadlinesDecide → (version : ℕ) (tasks : List Task) → IsTaskSet version tasks → AreConstrained tasks → AreGraphs (graphs_of tasks) → (proofs : List RatioProof) → AreGiven (graphs_of tasks) proofs → (bound : ℕ) → IsPlan (graphs_of tasks) proofs (Ok (Under bound)) → (fronts : List (List Demand)) → AreLabelFronts bound (graphs_of tasks) fronts → HasRoom (graphs_of tasks) fronts bound → Schedulable tasks Edf
+schedulable holds decide version tasks is constrained graphs proofs given bound plan fronts are room = (decide version tasks is constrained).1 fits
+  where
+    fits : (t : ℕ) (walks : ℕ → List ℕ) → AreWalks tasks walks → AreDueBy tasks walks t → efforts tasks walks (length tasks) ≤ t
+    fits t walks walk due_by = go (cases_lt t (efforts tasks walks (length tasks)))
+      where
+        near : t < efforts tasks walks (length tasks) → ⊥
+        near over =
+            let e = efforts_listed tasks walks in
+            let d = due_listed tasks walks t walk due_by in
+            let l = holds (graphs_of tasks) proofs graphs given bound plan t (listed walks 0 tasks) d (omega (arith, e, over)) in
+            let h = all_within (graphs_of tasks) bound t fronts (listed walks 0 tasks) are l d in
+            let r = room t l in
+            omega (arith, e, over, h, r)
+
+        go : (t < efforts tasks walks (length tasks)) ⊎ (efforts tasks walks (length tasks) ≤ t) → efforts tasks walks (length tasks) ≤ t
+        go (inl over) = absurd (near over)
+        go (inr l) = l
+
+-- There is a front for each graph.
+pub fronts_count : (graphs : List Digraph) (bound : ℕ) (fronts : List (List Demand)) → AreLabelFronts bound graphs fronts → length (map entries_of fronts) ≡ length graphs
+fronts_count [] bound fronts are = ap (λ fs. length (map entries_of fs)) are
+fronts_count (g ∷ graphs) bound [] are = absurd are
+fronts_count (g ∷ graphs) bound (f ∷ fronts) are = ap suc (fronts_count graphs bound fronts are.1)
+
+-- What holds of each front holds of all.
+pub each_front : (R : Digraph → List FrontEntry → Type 0) (bound : ℕ) → ((g : Digraph) (f : List Demand) → IsSound g → IsLabelFront g bound f → R g (entries_of f)) → (graphs : List Digraph) (fronts : List (List Demand)) → All IsSound graphs → AreLabelFronts bound graphs fronts → Each R graphs (map entries_of fronts)
+each_front R bound h [] fronts sound are = tt
+each_front R bound h (g ∷ graphs) [] sound are = tt
+each_front R bound h (g ∷ graphs) (f ∷ fronts) sound are =
+    (h g f (head_of IsSound g graphs sound) are.0, each_front R bound h graphs fronts (tail_of IsSound g graphs sound) are.1)
+
+-- The walk of one vertex is covered.
+openings : (bound : ℕ) (g : Digraph) (f : List Demand) → IsSound g → IsLabelFront g bound f → HasOpenings bound g (entries_of f)
+openings bound g f sound is v l near =
+    let s = span_none g v in
+    let c = is.covers (walk_entry g v []) (walk_entry_is g bound v [] l tt (omega (arith, s, near))) in
+    let w : work g (v ∷ []) ≡ wcet g v = work_cons g v [] ∙ (let n = work_none g in omega (arith, n)) in
+    (c.0, c.1, c.2, c.3, (c.4.0, omega (arith, s, c.4.1), omega (arith, w, c.4.2)))
+
+moved : (g : Digraph) (x y v : ℕ) → x ≡ y → IsEdge g x v → IsEdge g y v
+moved g x y v e h = rw e at h
+
+-- A walk that goes on by an edge is covered, or due past the bound.
+extended : (bound : ℕ) (g : Digraph) (f : List Demand) → IsSound g → IsLabelFront g bound f → (e : FrontEntry) → IsWalkEntry g bound e → (k : ℕ) → k < out_degree g e.vertex → IsExtended bound g (entries_of f) e k
+extended bound g f sound is e walk k l = go (cases_lt bound (e.offset + (edge_of g e.vertex k).sep + deadline g (edge_of g e.vertex k).to))
+  where
+    go : (bound < e.offset + (edge_of g e.vertex k).sep + deadline g (edge_of g e.vertex k).to) ⊎ (e.offset + (edge_of g e.vertex k).sep + deadline g (edge_of g e.vertex k).to ≤ bound) → IsExtended bound g (entries_of f) e k
+    go (inl far) = inl far
+    go (inr near) =
+        let v = (edge_of g e.vertex k).to in
+        let vs = walk.others ++ v ∷ [] in
+        let in_graph : e.vertex < vertex_count g = rw walk.vertex (path_within g sound walk.first walk.others walk.is_vertex walk.path) in
+        let edge = sep_of_edge g sound e.vertex k in_graph l in
+        let q = gap_of g e.vertex v (edge_of g e.vertex k).sep edge in
+        let edge_on : IsEdge g (last_of walk.first walk.others) v = moved g e.vertex (last_of walk.first walk.others) v walk.vertex q.1 in
+        let gap_on : gap g (last_of walk.first walk.others) v ≡ (edge_of g e.vertex k).sep = ap (λ x. gap g x v) (sym walk.vertex) ∙ q.0 in
+        let path : IsPath g walk.first vs = path_both g walk.first walk.others (v ∷ []) walk.path (edge_on, tt) in
+        let last : last_of walk.first vs ≡ v = last_both walk.first walk.others (v ∷ []) in
+        let s = span_both g walk.first walk.others (v ∷ []) in
+        let s1 = span_cons g (last_of walk.first walk.others) v [] in
+        let s2 = span_none g v in
+        let span_is : span g walk.first vs ≡ e.offset + (edge_of g e.vertex k).sep = omega (arith, s, s1, s2, gap_on, walk.offset) in
+        let w = work_both g (walk.first ∷ walk.others) (v ∷ []) in
+        let w1 = work_cons g v [] in
+        let w2 = work_none g in
+        let work_is : work g (walk.first ∷ vs) ≡ e.work + wcet g v = omega (arith, w, w1, w2, walk.works) in
+        let d : deadline g (last_of walk.first vs) ≡ deadline g v = ap (deadline g) last in
+        let c = is.covers (walk_entry g walk.first vs) (walk_entry_is g bound walk.first vs walk.is_vertex path (omega (arith, span_is, d, near))) in
+        inr (c.0, c.1, c.2, c.3, (c.4.0 ∙ last, omega (arith, span_is, c.4.1), omega (arith, work_is, c.4.2)))
+
+entry_walk : (bound : ℕ) (g : Digraph) (f : List Demand) → IsLabelFront g bound f → All (IsWalkEntry g bound) (entries_of f)
+entry_walk bound g f is k d l = ((is.exact (get_or (entries_of f) k d)).0 (k, l, get_or_default (entries_of f) k (get_or (entries_of f) k d) d l)).walk
+
+closed : (bound : ℕ) (g : Digraph) (f : List Demand) → IsSound g → IsLabelFront g bound f → IsClosedFront bound g (entries_of f)
+closed bound g f sound is k d l j m = extended bound g f sound is (get_or (entries_of f) k d) (entry_walk bound g f is k d l) j m
+
+-- The demands are the works of the entries that are due.
+works_same : (graphs : List Digraph) (fronts : List (List Demand)) (t : ℕ) → works_due graphs (map entries_of fronts) t ≡ demands graphs fronts t
+unfolding works_due demands
+works_same [] fronts t = refl
+works_same (g ∷ graphs) [] t = refl
+works_same (g ∷ graphs) (f ∷ fronts) t = let a = work_same g f t in let b = works_same graphs fronts t in omega (arith, a, b)
+
+-- At each time at which an entry is due there is room.
+has_room : (graphs : List Digraph) (fronts : List (List Demand)) (bound : ℕ) → HasRoom graphs fronts bound → All IsSound graphs → AreLabelFronts bound graphs fronts → HaveRoom graphs (map entries_of fronts)
+has_room graphs fronts bound room sound are = each_front (λ g front. All (λ e. works_due graphs (map entries_of fronts) (due g e) ≤ due g e) front) bound fits graphs fronts sound are
+  where
+    fits : (g : Digraph) (f : List Demand) → IsSound g → IsLabelFront g bound f → All (λ e. works_due graphs (map entries_of fronts) (due g e) ≤ due g e) (entries_of f)
+    fits g f s is k d l =
+        let w = is.ordered.0 k d l in
+        let t = due g (get_or (entries_of f) k d) in
+        let same = works_same graphs fronts (due g (get_or (entries_of f) k d)) in
+        let h = room (due g (get_or (entries_of f) k d)) w.1 in
+        omega (arith, same, h)
+
+-- The fronts keep the rules of fronts.
+pub fronts_kept : (tasks : List Task) (bound : ℕ) (fronts : List (List Demand)) → AreGraphs (graphs_of tasks) → bound ≤ 2 ^ 40 → AreLabelFronts bound (graphs_of tasks) fronts → HasRoom (graphs_of tasks) fronts bound → AreFrontClaims tasks bound (map entries_of fronts)
+fronts_kept tasks bound fronts graphs near are room = record {
+  near = near;
+  per_task = fronts_count (graphs_of tasks) bound fronts are ∙ count_of tasks;
+  ordered = each_front (IsOrdered bound) bound (λ g f s is. is.ordered) (graphs_of tasks) fronts graphs.sound are;
+  openings = each_front (HasOpenings bound) bound (openings bound) (graphs_of tasks) fronts graphs.sound are;
+  closed = each_front (IsClosedFront bound) bound (closed bound) (graphs_of tasks) fronts graphs.sound are;
+  room = has_room (graphs_of tasks) fronts bound room graphs.sound are;
+}
+
+-- A yes.
+pub is_yes : HorizonHolds → DeadlinesDecide → (version : ℕ) (tasks : List Task) → IsTaskSet version tasks → AreConstrained tasks → AreGraphs (graphs_of tasks) → (proofs : List RatioProof) → AreGiven (graphs_of tasks) proofs → (bound : ℕ) → IsPlan (graphs_of tasks) proofs (Ok (Under bound)) → (fronts : List (List Demand)) → AreLabelFronts bound (graphs_of tasks) fronts → HasRoom (graphs_of tasks) fronts bound → IsYes tasks (claims_of proofs) (map entries_of fronts)
+is_yes holds decide version tasks is constrained graphs proofs given bound plan fronts are room =
+    let below = claims_below proofs (graphs_of tasks) bound plan in
+    record {
+      schedulable = schedulable holds decide version tasks is constrained graphs proofs given bound plan fronts are room;
+      accepted = record {
+        claims = claims_kept tasks proofs given plan.0 plan.1 plan.2.0;
+        below = below.0;
+        bound = bound;
+        is_bound = below.1;
+        fronts_are = fronts_kept tasks bound fronts graphs (omega (arith, plan.2.2, plan.2.3)) are room;
+      };
+      bound = bound;
+      below = planned_below tasks proofs given bound plan;
+      is_bound = below.1;
+      exact = each_front (IsExactFront bound) bound (λ g f s is. is.exact) (graphs_of tasks) fronts graphs.sound are;
+    }
+
+-- In plain numbers: the work of a walk that is short in time.
+short_work : (count spans work : ℕ) → spans ≤ 1099511627776 → count ≤ spans → work ≤ suc count * 1000000 → work ≤ 2000000000000000000
+short_work count spans work l m n = omega arith
+
+entry_in_range : (g : Digraph) (bound : ℕ) (e : FrontEntry) → IsSound g → bound ≤ 1099511627776 → IsWalkEntry g bound e → IsInRangeEntry e
+entry_in_range g bound e sound near walk =
+    let in_graph : e.vertex < vertex_count g = rw walk.vertex (path_within g sound walk.first walk.others walk.is_vertex walk.path) in
+    let sums = path_sums g sound walk.first walk.others walk.path in
+    let w = work_cons g walk.first walk.others in
+    let one = sound.wcet walk.first walk.is_vertex in
+    record {
+      vertex = omega (arith, in_graph, sound.few);
+      offset = omega (arith, walk.within, near);
+      work = short_work (length walk.others) (span g walk.first walk.others) e.work (omega (arith, walk.within, walk.offset, near)) sums.span_least (omega (arith, w, walk.works, sums.work_most, one.1));
+    }
+
+-- The entries of a front are in range.
+pub front_in_range : (g : Digraph) (bound : ℕ) (f : List Demand) → IsSound g → bound ≤ 1099511627776 → IsLabelFront g bound f → All IsInRangeEntry (entries_of f)
+front_in_range g bound f sound near is k d l = entry_in_range g bound (get_or (entries_of f) k d) sound near (entry_walk bound g f is k d l)
