@@ -3,3 +3,5 @@ pub mod Planned
 pub mod Covered
 pub mod Suffixes
 pub mod Yes
+pub mod Bounded
+pub mod Searched

@@ -4,3 +4,4 @@ pub mod Spent
 pub mod Answers
 pub mod LabelFronts
 pub mod RatioClaims
+pub mod Searches

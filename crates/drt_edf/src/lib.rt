@@ -8,5 +8,6 @@
 
 mod answer;
 mod claims;
+mod searching;
 
 pub use answer::{EdfAnswer, EdfTrail};

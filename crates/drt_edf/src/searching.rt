@@ -1,0 +1,67 @@
+//! The searches of the tasks' walks.
+ghost use Rattle.std.specs.Prelude.{◌≡◌, ◌≤◌, IfOk};
+ghost use Rattle.drt_edf.specs.Searches.{AreSearches};
+ghost use Rattle.drt_edf.specs.Spent.{search_of};
+ghost use Rattle.drt_table.specs.Drive.{StopsAt};
+ghost use Rattle.drt_table.specs.View.{setting_of};
+ghost use Rattle.drt_demand.specs.Demand.{demand_algebra};
+
+use drt_demand::DemandLabel;
+use drt_graph::{Graph, Graphs};
+use drt_model::{Memory, Row};
+use drt_table::{Entry, Table, TableReply, over_every_interleaving};
+use std::alloc::Global;
+
+/// How the searches of the tasks' walks ended.
+#[derive(Drop)]
+pub(crate) enum Searched {
+    /// Each is finished, in order of tasks.
+    Finished(Row<Table<DemandLabel>>),
+    /// The first that spent its budget, by its task and its steps.
+    Spent { task: u32, log: Row<Entry> },
+}
+
+// The search of one graph's walks up to the bound, driven to its end by one worker.
+fn search(
+    alloc: Global,
+    graph: &Graph,
+    bound: u64,
+    budget: u64,
+) -> Result<(Table<DemandLabel>, TableReply), Memory>
+    requires bound { bound ≤ 1099511627776 }
+    requires some { 1 ≤ budget }
+    requires few { budget ≤ 1000000 }
+    ensures setting { IfOk result (λ end. setting_of end.0 ≡ search_of graph.now bound budget) }
+    ensures stops { IfOk result (λ end. StopsAt demand_algebra end.0 end.1) }
+{
+    let table: Table<DemandLabel> = Table::start(alloc, graph, bound, budget)?;
+    table.drive(alloc, 0)
+}
+
+/// The searches of the walks of all tasks up to the bound, in ticks, each with this budget of steps.
+pub(crate) fn searches(
+    alloc: Global,
+    graphs: &Graphs,
+    bound: u64,
+    budget: u64,
+) -> Result<Searched, Memory>
+    requires bound { bound ≤ 1099511627776 }
+    requires some { 1 ≤ budget }
+    requires few { budget ≤ 1000000 }
+    ensures { IfOk result (AreSearches graphs.now bound budget) }
+{
+    over_every_interleaving::<DemandLabel>();
+    let mut tables = Vec::new(alloc);
+    'tasks: for task in 0..graphs.count() {
+        let (table, _reply) = search(alloc, graphs.graph(task), bound, budget)?;
+        if !table.finished() {
+            let log = Vec::from_slice(alloc, table.log())?;
+            return Ok(Searched::Spent {
+                task,
+                log: Row::from_vec(log),
+            });
+        }
+        tables.push(table)?;
+    }
+    Ok(Searched::Finished(Row::from_vec(tables)))
+}
