@@ -5,3 +5,6 @@ pub mod Suffixes
 pub mod Yes
 pub mod Bounded
 pub mod Searched
+pub mod Rounds
+pub mod Nos
+pub mod StepTimes

@@ -5,3 +5,5 @@ pub mod Answers
 pub mod LabelFronts
 pub mod RatioClaims
 pub mod Searches
+pub mod Turns
+pub mod Nos

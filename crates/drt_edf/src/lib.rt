@@ -8,6 +8,8 @@
 
 mod answer;
 mod claims;
+mod refusal;
 mod searching;
+mod turns;
 
 pub use answer::{EdfAnswer, EdfTrail};
