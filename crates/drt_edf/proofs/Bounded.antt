@@ -1,10 +1,10 @@
 -- How many steps the search of a graph's walks takes.
-use Rattle.std.proofs.Common.{◌≡◌, ℕ, zero, suc, ◌+◌, ◌*◌, ◌<◌, ◌≤◌, ◌⊎◌, inl, inr, false, List, [], ◌∷◌, length, get_or, refl, sym, ap, arith, ◌∙◌, mul-le-mul_left}
-use Rattle.std.specs.Prelude.{IsTrue, max}
+use Rattle.std.proofs.Common.{◌≡◌, ℕ, zero, suc, ◌+◌, ◌*◌, ◌<◌, ◌≤◌, ◌⊎◌, inl, inr, false, List, [], ◌∷◌, length, get_or, sym, ap, arith, ◌∙◌, mul-le-mul_left}
+use Rattle.std.specs.Prelude.{IsTrue}
 use Rattle.std.proofs.Math.Nat.{le-max_left, le-max_right}
 use Rattle.std.proofs.lemmas.Bool.{cases_lt, leb-true}
 use Rattle.drt_model.specs.declared.tasks.Edge.{Edge}
-use Rattle.drt_model.specs.Digraph.{Digraph, IsSound, vertex_count, out_degree, edge_of}
+use Rattle.drt_model.specs.Digraph.{IsSound, vertex_count, edge_of}
 use Rattle.drt_model.specs.Walk.{deadline}
 use Rattle.drt_demand.specs.Demand.{Demand, demand_algebra}
 use Rattle.drt_demand.proofs.Comparable.{comparable}
@@ -13,7 +13,7 @@ use Rattle.drt_table.specs.View.{View, IsTable, setting_of, state_of}
 use Rattle.drt_table.specs.Walk.{WalkTo, IsWalkLabel}
 use Rattle.drt_table.specs.Work.{IsDegree, IsShort, AreSlots, kept_count}
 use Rattle.drt_table.specs.declared.step.Entry.{Entry}
-use Rattle.drt_edf.specs.Spent.{most_out, search_of, table_need}
+use Rattle.drt_edf.specs.Spent.{most_out, table_need}
 
 -- The label of an in-range walk to v is of v, which is a vertex, and is in range.
 label_of : (t : Setting) (v : ℕ) (before : List ℕ) (l : Demand) → IsSound t.graph → WalkTo demand_algebra t v before l → (l.vertex ≡ v) × (v < vertex_count t.graph) × IsTrue (in_range demand_algebra t l)

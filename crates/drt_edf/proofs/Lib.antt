@@ -8,3 +8,4 @@ pub mod Searched
 pub mod Rounds
 pub mod Nos
 pub mod StepTimes
+pub mod Unique

@@ -1,5 +1,5 @@
 -- What each answer of the EDF analysis says.
-use Rattle.std.specs.Prelude.{ℕ, ◌<◌, List, length, Option}
+use Rattle.std.specs.Prelude.{ℕ, ◌<◌, ◌≤◌, ◌^◌, ◌⊎◌, List, length, Option}
 use Rattle.drt_model.specs.declared.tasks.Task.{Task}
 use Rattle.drt_model.specs.declared.jobs.Policy.TheVariants.{Edf}
 use Rattle.drt_model.specs.declared.jobs.Release.{Release}
@@ -17,7 +17,7 @@ use Rattle.drt_evidence.specs.declared.evidence.Evidence.{Evidence}
 use Rattle.drt_evidence.specs.declared.evidence.Evidence.TheVariants.{EdfYes, EdfNo, UtilisationOne, FixedYes, FixedNo, Undecided}
 use Rattle.drt_evidence.specs.declared.evidence.FrontEntry.{FrontEntry}
 use Rattle.drt_evidence.specs.declared.evidence.RatioClaim.{RatioClaim}
-use Rattle.drt_edf.specs.Plans.{IsAtOne, IsBelowOne, IsTooFar, IsTooFine}
+use Rattle.drt_edf.specs.Plans.{IsAboveOne, IsAtOne, IsBelowOne, IsTooFar, IsTooFine}
 use Rattle.drt_edf.specs.Walks.{IsExactFront}
 use Rattle.drt_edf.specs.Spent.{IsSpentOverload, IsSpentTable}
 use Rattle.drt_edf.specs.declared.answer.EdfAnswer.{EdfAnswer}
@@ -59,6 +59,19 @@ IsDone tasks (FixedYes trees proofs) = ⊥
 IsDone tasks (FixedNo releases miss) = ⊥
 IsDone tasks Undecided = ⊥
 
+-- The utilisation isn't one: it is below one with a horizon of at most 2^40, or above one.
+abbrev pub IsOther : List Task → Type 0
+IsOther tasks = ((bound : ℕ) × IsBelowOne tasks bound × (bound ≤ 2 ^ 40)) ⊎ IsAboveOne tasks
+
+-- How the utilisation stands to one where a set has this evidence.
+abbrev pub IsPlanned : List Task → Evidence → Type 0
+IsPlanned tasks (EdfYes ratios fronts) = IsOther tasks
+IsPlanned tasks (EdfNo releases miss) = IsOther tasks
+IsPlanned tasks (UtilisationOne ratios) = IsAtOne tasks
+IsPlanned tasks (FixedYes trees proofs) = ⊥
+IsPlanned tasks (FixedNo releases miss) = ⊥
+IsPlanned tasks Undecided = ⊥
+
 -- Why the numbers of a set are out of reach.
 abbrev pub IsBeyond : List Task → Beyond → Type 0
 IsBeyond tasks TooFine = IsTooFine tasks
@@ -71,6 +84,6 @@ IsUndecided tasks budget (Overload last) = IsSpentOverload tasks budget last
 
 -- What each answer says, with a budget.
 abbrev pub IsAnswer : List Task → ℕ → EdfAnswer → Type 0
-IsAnswer tasks budget (answers.Done evidence) = IsDone tasks evidence × IsInRange evidence
+IsAnswer tasks budget (answers.Done evidence) = IsDone tasks evidence × IsPlanned tasks evidence × IsInRange evidence
 IsAnswer tasks budget (answers.Beyond beyond) = IsBeyond tasks beyond
 IsAnswer tasks budget (answers.Undecided trail) = IsUndecided tasks budget trail

@@ -7,3 +7,4 @@ pub mod RatioClaims
 pub mod Searches
 pub mod Turns
 pub mod Nos
+pub mod Exclusions

@@ -8,8 +8,10 @@
 
 mod answer;
 mod claims;
+mod laws;
 mod refusal;
 mod searching;
 mod turns;
 
 pub use answer::{EdfAnswer, EdfTrail};
+pub use laws::{horizon_is_one, rates_are_one};
