@@ -10,6 +10,8 @@ mod answer;
 mod claims;
 mod laws;
 mod refusal;
+#[cfg(test)]
+mod refusal_tests;
 mod searching;
 mod turns;
 

@@ -98,8 +98,8 @@ fn all_releases(
     Ok(releases)
 }
 
-// The walk of a task.
-fn walk_of(walks: &[Row<u32>], task: u32) -> &[u32]
+/// The walk of a task in a list of them, one for each; no walk past its end.
+pub(crate) fn walk_of(walks: &[Row<u32>], task: u32) -> &[u32]
     ensures { result.now ≡ walk_at walks.now task }
 {
     match walks.get(task as usize) {
