@@ -9,3 +9,7 @@ pub mod Rounds
 pub mod Nos
 pub mod StepTimes
 pub mod Unique
+pub mod LabelWalks
+pub mod KeptLists
+pub mod FrontLists
+pub mod DemandWalks

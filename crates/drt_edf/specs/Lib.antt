@@ -8,3 +8,4 @@ pub mod Searches
 pub mod Turns
 pub mod Nos
 pub mod Exclusions
+pub mod KeptNodes

@@ -8,12 +8,17 @@
 
 mod answer;
 mod claims;
+#[cfg(test)]
+mod front_tests;
+mod fronts;
+mod kept;
 mod laws;
 mod refusal;
 #[cfg(test)]
 mod refusal_tests;
 mod searching;
 mod turns;
+mod walks;
 
 pub use answer::{EdfAnswer, EdfTrail};
 pub use laws::{horizon_is_one, rates_are_one};

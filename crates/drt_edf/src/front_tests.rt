@@ -1,0 +1,155 @@
+ghost use Rattle.std.specs.Prelude.{◌≡◌, ◌≤◌, IfOk, IsTrue};
+ghost use Rattle.drt_demand.specs.Demand.{demand_algebra};
+ghost use Rattle.drt_table.specs.Machine.{is_finished};
+ghost use Rattle.drt_table.specs.View.{setting_of, state_of};
+
+use crate::fronts::front_of;
+use crate::walks::demand_walk;
+use drt_demand::DemandLabel;
+use drt_graph::{Graph, Graphs, check};
+use drt_model::{Edge, Memory, Name, Row, Task, Vertex, task_set};
+use drt_table::Table;
+use std::alloc::Global;
+use std::test::Fail;
+
+// A task as its vertices' execution times and deadlines, and its edges' sources, targets and separations.
+type Shape<'a> = (&'a [(u32, u32)], &'a [(u32, u32, u32)]);
+
+fn name(alloc: Global, letter: u8) -> Result<Name, Memory> {
+    Ok(Name::from_vec(Vec::from_slice(alloc, &[letter])?))
+}
+
+fn task(alloc: Global, shape: Shape<'_>) -> Result<Task, Memory> {
+    let mut vertices = Vec::new(alloc);
+    for (i, vertex) in shape.0.iter().enumerate() {
+        vertices.push(Vertex {
+            name: name(alloc, b'a' + (i % 26) as u8)?,
+            wcet: vertex.0,
+            deadline: vertex.1,
+        })?;
+    }
+    let mut edges = Vec::new(alloc);
+    for edge in shape.1 {
+        edges.push(Edge {
+            from: edge.0,
+            to: edge.1,
+            sep: edge.2,
+        })?;
+    }
+    Ok(Task {
+        name: name(alloc, b'T')?,
+        priority: 1,
+        vertices: Row::from_vec(vertices),
+        edges: Row::from_vec(edges),
+    })
+}
+
+fn graphs(alloc: Global, shape: Shape<'_>) -> Result<Graphs, Fail> {
+    let mut tasks = Vec::new(alloc);
+    tasks.push(task(alloc, shape)?)?;
+    let set = task_set(1, Row::from_vec(tasks)).ok_or("within the limits")?;
+    Ok(check(alloc, &set)?)
+}
+
+// The finished search of the graph's walks up to the bound.
+fn searched(alloc: Global, graph: &Graph, bound: u64) -> Result<Table<DemandLabel>, Fail>
+    requires { bound ≤ 1000 }
+    ensures graph { IfOk result (λ table. graph.now ≡ table.graph) }
+    ensures finished { IfOk result (λ table. IsTrue (is_finished demand_algebra (setting_of table) (state_of table))) }
+{
+    let table: Table<DemandLabel> = Table::start(alloc, graph, bound, 1000)?;
+    let (table, _reply) = table.drive(alloc, 0)?;
+    if !table.finished() {
+        return Err("the budget is enough".into());
+    }
+    Ok(table)
+}
+
+fn label(vertex: u32, offset: u64, work: u64) -> DemandLabel
+    requires offset { offset ≤ 1000 }
+    requires work { work ≤ 1000 }
+    ensures { result ≡ record { vertex = vertex; offset = offset; work = work } }
+{
+    DemandLabel {
+        vertex,
+        offset,
+        work,
+    }
+}
+
+// Into m from p and from q; m again after 3 ticks.
+const RETURNING: Shape<'static> = (
+    &[(1, 1), (2, 1), (1, 1)],
+    &[(0, 2, 1), (1, 2, 1), (2, 2, 3)],
+);
+
+// The label that is found first at the last vertex is the later one.
+const LATER_FIRST: Shape<'static> = (&[(3, 1), (1, 1), (1, 1)], &[(0, 2, 4), (1, 2, 2)]);
+
+#[test]
+fn fronts_have_the_undominated_labels_in_order(rt: HostRuntime) -> Result<(), Fail> {
+    let alloc = rt.alloc();
+    let returning = [
+        label(0, 0, 1),
+        label(1, 0, 2),
+        label(2, 0, 1),
+        label(2, 1, 3),
+        label(2, 4, 4),
+    ];
+    let near = [
+        label(0, 0, 1),
+        label(1, 0, 2),
+        label(2, 0, 1),
+        label(2, 1, 3),
+    ];
+    let later_first = [
+        label(0, 0, 3),
+        label(1, 0, 1),
+        label(2, 0, 1),
+        label(2, 2, 2),
+        label(2, 4, 4),
+    ];
+    let cases: [(Shape<'_>, u64, &[DemandLabel]); 4] = [
+        (RETURNING, 5, returning.as_slice()),
+        (RETURNING, 4, near.as_slice()),
+        (RETURNING, 0, &[]),
+        (LATER_FIRST, 5, later_first.as_slice()),
+    ];
+    for (shape, bound, wanted) in cases {
+        if bound > 1000 {
+            return Err("a bound of at most 1000".into());
+        }
+        let graphs = graphs(alloc, shape)?;
+        let graph = graphs.graph(0);
+        let table = searched(alloc, graph, bound)?;
+        let front = front_of(alloc, graph, &table)?;
+        assert_eq!(rt; front.as_slice(), wanted);
+    }
+    Ok(())
+}
+
+#[test]
+fn the_walk_of_a_time_has_all_of_its_demand(rt: HostRuntime) -> Result<(), Fail> {
+    let alloc = rt.alloc();
+    let cases: [(Shape<'_>, u64, &[u32]); 9] = [
+        (RETURNING, 0, &[]),
+        (RETURNING, 1, &[1]),
+        (RETURNING, 2, &[1, 2]),
+        (RETURNING, 4, &[1, 2]),
+        // The work of 4 ticks is due at 5.
+        (RETURNING, 5, &[1, 2, 2]),
+        (RETURNING, 1000, &[1, 2, 2]),
+        // At 3 the 3 ticks of p alone are more than the 2 of q and m.
+        (LATER_FIRST, 3, &[0]),
+        (LATER_FIRST, 4, &[0]),
+        (LATER_FIRST, 5, &[0, 2]),
+    ];
+    for (shape, t, wanted) in cases {
+        let graphs = graphs(alloc, shape)?;
+        let graph = graphs.graph(0);
+        let table = searched(alloc, graph, 5)?;
+        let walk = demand_walk(alloc, graph, &table, t)?;
+        assert_eq!(rt; walk.as_slice(), wanted);
+    }
+    Ok(())
+}
