@@ -1,22 +1,20 @@
 -- The node that has all the demand of a time, and its walk.
-use Rattle.std.proofs.Common.{◌≡◌, ℕ, zero, suc, ◌+◌, ◌<◌, ◌≤◌, ◌⊎◌, inl, inr, Bool, true, false, cond, List, [], ◌∷◌, ◌++◌, All, length, get_or, take, Option, Some, None, map, reverse, refl, sym, ap, ◌∙◌, subst, arith}
-use Rattle.std.specs.Prelude.{max, nat_le, nat_lt, ◌&&◌, Contains, slice_get}
+use Rattle.std.proofs.Common.{◌≡◌, ℕ, zero, suc, ◌+◌, ◌≤◌, Bool, true, false, cond, List, [], ◌∷◌, ◌++◌, All, get_or, Option, Some, None, reverse, refl, sym, ap, ◌∙◌, subst, arith}
+use Rattle.std.specs.Prelude.{max, nat_le, nat_lt, ◌&&◌, Contains}
 use Rattle.std.proofs.Math.Nat.{le-max_left, le-max_right, max-le}
-use Rattle.std.proofs.lemmas.Bool.{cases_lt, leb-true, le-leb, lt-ltb, ltb-true, ltb-false}
-use Rattle.std.proofs.lemmas.List.{map-append, reverse-reverse, take_more, take_all, get_or_default}
-use Rattle.std.proofs.lemmas.List.Elements.{All-cons, All-nil, All-contains, All-from_get_or, Contains-append_left, Contains-append_right, Contains-get_or, Contains-push}
-use Rattle.drt_model.specs.Digraph.{Digraph, IsSound, IsConstrainedGraph, vertex_count}
-use Rattle.drt_model.specs.Walk.{last_of, span, work, deadline}
-use Rattle.drt_busy.specs.Choice.{IsWalk, due_of}
+use Rattle.std.proofs.lemmas.Bool.{leb-true, ltb-true, ltb-false}
+use Rattle.std.proofs.lemmas.List.{reverse-reverse}
+use Rattle.std.proofs.lemmas.List.Elements.{All-contains, Contains-append_left, Contains-get_or, Contains-push}
+use Rattle.drt_model.specs.Digraph.{Digraph, IsSound, IsConstrainedGraph}
+use Rattle.drt_model.specs.Walk.{last_of, span, deadline}
 use Rattle.drt_ratio.proofs.Paths.{work_none}
 use Rattle.drt_demand.specs.Demand.{Demand, demand_algebra}
 use Rattle.drt_demand.specs.Dbf.{dbf_at}
-use Rattle.drt_table.specs.Node.{NodeOf}
 use Rattle.drt_table.specs.Machine.{Setting}
 use Rattle.drt_table.specs.Walk.{IsWalkOf, IsWalkBack}
 use Rattle.drt_table.specs.Cover.{IsNonDominated as IsAlone}
 use Rattle.drt_edf.specs.KeptNodes.{labels_of, label_due, work_so_far, better, IsGreatestDue}
-use Rattle.drt_edf.specs.LabelFronts.{entry_of, entries_of, IsLabelFront, IsDemandWalk}
+use Rattle.drt_edf.specs.LabelFronts.{entry_of, IsLabelFront, IsDemandWalk}
 use Rattle.drt_edf.specs.declared.kept.Kept.{Kept}
 use Rattle.drt_edf.proofs.LabelWalks.{label_of, path_to, entry_alone, label_alone}
 use Rattle.drt_edf.proofs.FrontLists.{AreAlone, contains_map, image_of}

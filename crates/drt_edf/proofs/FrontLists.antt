@@ -1,14 +1,13 @@
 -- From the kept labels of a finished search to a front.
-use Rattle.std.proofs.Common.{◌≡◌, ℕ, zero, suc, ◌+◌, ◌<◌, ◌≤◌, ◌⊎◌, inl, inr, Bool, true, false, List, [], ◌∷◌, All, length, map, get_or, Some, refl, sym, ap, ◌∙◌, subst, arith}
-use Rattle.std.specs.Prelude.{IsTrue, ◌==◌, ◌&&◌, nat_lt, Contains, Any, slice_get, slice_index_or}
+use Rattle.std.proofs.Common.{◌≡◌, ℕ, ◌+◌, ◌<◌, ◌≤◌, ◌⊎◌, inl, inr, Bool, true, false, List, All, length, map, get_or, refl, sym, ap, ◌∙◌, subst, arith}
+use Rattle.std.specs.Prelude.{IsTrue, ◌==◌, ◌&&◌, nat_lt, Contains, Any}
 use Rattle.std.specs.List.{IsDistinct}
 use Rattle.std.specs.List.Sorted.{IsPermutation, IsSortedByKey}
 use Rattle.std.specs.Ordering.{is_lt, nat_cmp, ordering_then}
 use Rattle.std.specs.declared.cmp.Ordering.TheVariants.{Less, Equal, Greater}
-use Rattle.std.proofs.lemmas.Bool.{cases_lt, lt-ltb, false_from_ne_true}
+use Rattle.std.proofs.lemmas.Bool.{cases_lt, false_from_ne_true}
 use Rattle.std.proofs.lemmas.Bool.Decides.{nat_tests}
-use Rattle.std.proofs.lemmas.Option.{same_Some}
-use Rattle.std.proofs.lemmas.List.{length-map, get_or-map, get_or_default}
+use Rattle.std.proofs.lemmas.List.{length-map, get_or-map}
 use Rattle.std.proofs.lemmas.List.Elements.{All-map, All-weaker, All-contains, Contains-get_or}
 use Rattle.std.proofs.lemmas.List.Sorted.{All-permutation, Contains-permutation}
 use Rattle.std.proofs.lemmas.Map.Keys.{IsDistinct-from_apart, apart_from_distinct, IsDistinct-IsPermutation}
@@ -23,15 +22,15 @@ use Rattle.drt_table.specs.View.{View, IsTable, setting_of, state_of}
 use Rattle.drt_table.specs.declared.step.Entry.{Entry}
 use Rattle.drt_table.specs.Walk.{IsWalkLabel}
 use Rattle.drt_table.specs.Cover.{IsFront, IsNonDominated as IsAlone, KeptAt}
-use Rattle.drt_table.proofs.Walks.{walk_vertex, walk_within, walk_range}
+use Rattle.drt_table.proofs.Walks.{walk_vertex, walk_within}
 use Rattle.drt_evidence.specs.declared.evidence.FrontEntry.{FrontEntry}
-use Rattle.drt_evidence.specs.Fronts.{due, Covers, IsWithin, IsNextEntry, IsOrdered}
+use Rattle.drt_evidence.specs.Fronts.{Covers, IsWithin, IsNextEntry}
 use Rattle.drt_edf.specs.KeptNodes.{kept_upto, labels_of, place_of, compare_places}
 use Rattle.drt_edf.specs.LabelFronts.{entry_of, entries_of, IsLabelFront}
-use Rattle.drt_edf.specs.Walks.{IsWalkEntry, IsNonDominated, IsExactFront}
+use Rattle.drt_edf.specs.Walks.{IsWalkEntry, IsNonDominated}
 use Rattle.drt_edf.specs.declared.kept.Kept.{Kept}
 use Rattle.drt_edf.proofs.KeptLists.{IsKeptEntry, IsEntryBelow, IsBefore, upto_all, upto_has, upto_order}
-use Rattle.drt_edf.proofs.LabelWalks.{label_of, same_label, walk_entry, entry_walk, entry_alone, label_alone}
+use Rattle.drt_edf.proofs.LabelWalks.{label_of, walk_entry, entry_walk, entry_alone, label_alone}
 
 -- What a list has, its images have.
 pub contains_map : {X Y : Type 0} (f : X → Y) (xs : List X) (x : X) → Contains xs x → Contains (map f xs) (f x)
@@ -52,8 +51,14 @@ image_of f back xs y c =
       image = sym (get_or-map f xs c.0 (back y) y l) ∙ c.2;
     }
 
--- A finished table has the front of its setting, by what holds over every interleaving.
-pub finished_front : (v : View Demand) → IsTable demand_algebra v → IsTrue (is_finished demand_algebra (setting_of v) (state_of v)) → ((t : Setting) (log : List Entry) → IsSound t.graph → IsTrue (demand_algebra.takes_bound t.bound) → IsRun demand_algebra t log → IsTrue (is_finished demand_algebra t (replay demand_algebra t log)) → IsFront demand_algebra t (replay demand_algebra t log).nodes) → IsFront demand_algebra (setting_of v) (state_of v).nodes
+-- What holds over every interleaving of a search: where it is finished, its nodes are a front.
+abbrev pub FrontLaw : Type 0
+FrontLaw =
+    (t : Setting) (log : List Entry) → IsSound t.graph → IsTrue (demand_algebra.takes_bound t.bound) → IsRun demand_algebra t log
+    → IsTrue (is_finished demand_algebra t (replay demand_algebra t log)) → IsFront demand_algebra t (replay demand_algebra t log).nodes
+
+-- So the nodes of a finished table are one.
+pub finished_front : (v : View Demand) → IsTable demand_algebra v → IsTrue (is_finished demand_algebra (setting_of v) (state_of v)) → FrontLaw → IsFront demand_algebra (setting_of v) (state_of v).nodes
 finished_front v is done front =
     subst (λ s. IsFront demand_algebra (setting_of v) s.nodes) (sym is.state) (front (setting_of v) v.log is.sound is.bound is.run (subst (λ s. IsTrue (is_finished demand_algebra (setting_of v) s)) is.state done))
 

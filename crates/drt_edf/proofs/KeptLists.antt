@@ -1,10 +1,10 @@
 -- The lists of kept nodes.
 use Rattle.std.proofs.Common.{◌≡◌, ℕ, zero, suc, ◌+◌, ◌-◌, ◌<◌, ◌≤◌, ◌⊎◌, inl, inr, Bool, true, false, cond, Option, Some, None, List, [], ◌∷◌, ◌++◌, All, length, drop, get_or, refl, sym, ap, ◌∙◌, subst, arith, append_assoc, add-one}
 use Rattle.std.specs.Prelude.{IsTrue, IfSome, is_none, slice_get, option_map, ◌==◌, ◌&&◌, Contains}
-use Rattle.std.proofs.lemmas.Bool.{cases_lt, eqb-true}
+use Rattle.std.proofs.lemmas.Bool.{cases_lt}
 use Rattle.std.proofs.lemmas.Bool.Decides.{nat_tests}
 use Rattle.std.proofs.lemmas.Option.{none-some, same_Some}
-use Rattle.std.proofs.lemmas.List.Elements.{All-nil, All-cons, All-weaker, All-append, All-contains, Contains-append_left, Contains-append_right}
+use Rattle.std.proofs.lemmas.List.Elements.{All-nil, All-cons, All-weaker, All-append, Contains-append_left, Contains-append_right}
 use Rattle.drt_demand.specs.Demand.{Demand, demand_algebra}
 use Rattle.drt_table.specs.Node.{NodeOf, is_kept}
 use Rattle.drt_table.specs.Places.{first, first_from}
@@ -64,35 +64,40 @@ none_left v (suc j) (n ∷ nodes) e b = go (first_from j (at_vertex v) nodes) (�
     go None ih f = ih refl
     go (Some k) ih f = absurd (cc)
 
+-- A kept node of v and those after it.
+abbrev from_one : ℕ → ℕ → NodeOf Demand → List (NodeOf Demand) → List Kept
+from_one v k n rest = record { node = k; label = n.label } ∷ kept_from (suc k) v rest
+
 -- Where it finds one, this one is the first that is left.
-one_first : (v b i d : ℕ) (nodes : List (NodeOf Demand)) (m : NodeOf Demand) → first (at_vertex v) nodes ≡ Some i → slice_get nodes i ≡ Some m → d ≡ b + i → kept_from b v nodes ≡ record { node = d; label = m.label } ∷ kept_from (suc d) v (drop (suc i) nodes)
+one_first : (v b i d : ℕ) (nodes : List (NodeOf Demand)) (m : NodeOf Demand) → first (at_vertex v) nodes ≡ Some i → slice_get nodes i ≡ Some m → d ≡ b + i → kept_from b v nodes ≡ from_one v d m (drop (suc i) nodes)
 one_first v b i d [] m e at q = absurd (none-some i e)
 one_first v b i d (n ∷ nodes) m e at q = go (at_vertex v n) (first (at_vertex v) nodes) (λ k h g r. one_first v (suc b) k d nodes m h g r) i e at q
   where
-    go : (c : Bool) (o : Option ℕ) → ((k : ℕ) → o ≡ Some k → slice_get nodes k ≡ Some m → d ≡ suc b + k → kept_from (suc b) v nodes ≡ record { node = d; label = m.label } ∷ kept_from (suc d) v (drop (suc k) nodes)) → (i : ℕ) → cond c (Some 0) (option_map suc o) ≡ Some i → slice_get (n ∷ nodes) i ≡ Some m → d ≡ b + i → cond c (record { node = b; label = n.label } ∷ kept_from (suc b) v nodes) (kept_from (suc b) v nodes) ≡ record { node = d; label = m.label } ∷ kept_from (suc d) v (drop i nodes)
+    go : (c : Bool) (o : Option ℕ) → ((k : ℕ) → o ≡ Some k → slice_get nodes k ≡ Some m → d ≡ suc b + k → kept_from (suc b) v nodes ≡ from_one v d m (drop (suc k) nodes))
+        → (i : ℕ) → cond c (Some 0) (option_map suc o) ≡ Some i → slice_get (n ∷ nodes) i ≡ Some m → d ≡ b + i → cond c (from_one v b n nodes) (kept_from (suc b) v nodes) ≡ from_one v d m (drop i nodes)
     go true o ih zero f at q =
         let same : b ≡ d = omega (arith, q) in
-        ap (λ x. record { node = x; label = n.label } ∷ kept_from (suc x) v nodes) same ∙ ap (λ y. record { node = d; label = y.label } ∷ kept_from (suc d) v nodes) (same_Some n m at)
+        ap (λ x. from_one v x n nodes) same ∙ ap (λ y. from_one v d y nodes) (same_Some n m at)
     go true o ih (suc i) f at q = absurd (cc)
     go false None ih i f at q = absurd (none-some i f)
     go false (Some k) ih zero f at q = absurd (cc)
     go false (Some k) ih (suc i) f at q =
         let same : suc k ≡ suc i = same_Some (suc k) (suc i) f in
         let k_is : k ≡ i = omega (arith, same) in
-        subst (λ x. kept_from (suc b) v nodes ≡ record { node = d; label = m.label } ∷ kept_from (suc d) v (drop (suc x) nodes)) k_is (ih k refl (subst (λ x. slice_get nodes x ≡ Some m) (sym k_is) at) (omega (arith, q, k_is)))
+        subst (λ x. kept_from (suc b) v nodes ≡ from_one v d m (drop (suc x) nodes)) k_is (ih k refl (subst (λ x. slice_get nodes x ≡ Some m) (sym k_is) at) (omega (arith, q, k_is)))
 
-pub one_left : (v b j i c d : ℕ) (nodes : List (NodeOf Demand)) (m : NodeOf Demand) → first_from j (at_vertex v) nodes ≡ Some i → slice_get nodes i ≡ Some m → c ≡ b + j → d ≡ b + i → kept_from c v (drop j nodes) ≡ record { node = d; label = m.label } ∷ kept_from (suc d) v (drop (suc i) nodes)
+pub one_left : (v b j i c d : ℕ) (nodes : List (NodeOf Demand)) (m : NodeOf Demand) → first_from j (at_vertex v) nodes ≡ Some i → slice_get nodes i ≡ Some m → c ≡ b + j → d ≡ b + i → kept_from c v (drop j nodes) ≡ from_one v d m (drop (suc i) nodes)
 one_left v b zero i c d nodes m e at p q = one_first v c i d nodes m e at (omega (arith, p, q))
 one_left v b (suc j) i c d [] m e at p q = absurd (none-some i e)
 one_left v b (suc j) i c d (n ∷ nodes) m e at p q = go (first_from j (at_vertex v) nodes) (λ k h g r. one_left v (suc b) j k c d nodes m h g (omega (arith, p)) r) i e at q
   where
-    go : (o : Option ℕ) → ((k : ℕ) → o ≡ Some k → slice_get nodes k ≡ Some m → d ≡ suc b + k → kept_from c v (drop j nodes) ≡ record { node = d; label = m.label } ∷ kept_from (suc d) v (drop (suc k) nodes)) → (i : ℕ) → option_map suc o ≡ Some i → slice_get (n ∷ nodes) i ≡ Some m → d ≡ b + i → kept_from c v (drop j nodes) ≡ record { node = d; label = m.label } ∷ kept_from (suc d) v (drop i nodes)
+    go : (o : Option ℕ) → ((k : ℕ) → o ≡ Some k → slice_get nodes k ≡ Some m → d ≡ suc b + k → kept_from c v (drop j nodes) ≡ from_one v d m (drop (suc k) nodes)) → (i : ℕ) → option_map suc o ≡ Some i → slice_get (n ∷ nodes) i ≡ Some m → d ≡ b + i → kept_from c v (drop j nodes) ≡ from_one v d m (drop i nodes)
     go None ih i f at q = absurd (none-some i f)
     go (Some k) ih zero f at q = absurd (cc)
     go (Some k) ih (suc i) f at q =
         let same : suc k ≡ suc i = same_Some (suc k) (suc i) f in
         let k_is : k ≡ i = omega (arith, same) in
-        subst (λ x. kept_from c v (drop j nodes) ≡ record { node = d; label = m.label } ∷ kept_from (suc d) v (drop (suc x) nodes)) k_is (ih k refl (subst (λ x. slice_get nodes x ≡ Some m) (sym k_is) at) (omega (arith, q, k_is)))
+        subst (λ x. kept_from c v (drop j nodes) ≡ from_one v d m (drop (suc x) nodes)) k_is (ih k refl (subst (λ x. slice_get nodes x ≡ Some m) (sym k_is) at) (omega (arith, q, k_is)))
 
 -- What passes is kept and of the vertex.
 pub passes_kept : (v : ℕ) (n : NodeOf Demand) → at_vertex v n ≡ true → n.dropped_by ≡ None

@@ -1,6 +1,6 @@
 -- Walks of a search of demand labels, as walks of the graph.
 use Rattle.std.proofs.Common.{◌≡◌, ℕ, ◌+◌, ◌<◌, ◌≤◌, Some, List, [], ◌∷◌, ◌++◌, reverse, refl, sym, ap, ◌∙◌, subst, arith}
-use Rattle.std.specs.Prelude.{IsTrue, nat_le}
+use Rattle.std.specs.Prelude.{IsTrue}
 use Rattle.std.proofs.lemmas.Bool.{leb-true, le-leb}
 use Rattle.std.proofs.lemmas.Bool.Decides.{nat_tests}
 use Rattle.std.proofs.lemmas.List.{reverse-append}
@@ -10,14 +10,14 @@ use Rattle.drt_graph.proofs.Edges.{sep_of_edge, edge_of_sep, gap_of, source_of}
 use Rattle.drt_ratio.proofs.Paths.{path_both, path_within, last_both, work_cons, work_none, span_cons, span_none}
 use Rattle.drt_demand.specs.Demand.{Demand, demand_algebra, opening, extend, dominates}
 use Rattle.drt_demand.specs.Laws.{demand_laws}
-use Rattle.drt_demand.specs.WalkLabel.{demand_of, AreWalkLabels}
+use Rattle.drt_demand.specs.WalkLabel.{demand_of}
 use Rattle.drt_demand.proofs.WalkLabels.{walk_labels}
 use Rattle.drt_table.specs.Machine.{Setting, in_range, extended}
 use Rattle.drt_table.specs.Walk.{WalkTo, IsWalkLabel}
 use Rattle.drt_table.specs.Cover.{IsNonDominated as IsAlone}
 use Rattle.drt_table.proofs.Walks.{walk_vertex, walk_range}
 use Rattle.drt_evidence.specs.declared.evidence.FrontEntry.{FrontEntry}
-use Rattle.drt_evidence.specs.Fronts.{due, Covers}
+use Rattle.drt_evidence.specs.Fronts.{Covers}
 use Rattle.drt_edf.specs.LabelFronts.{entry_of}
 use Rattle.drt_edf.specs.Walks.{IsWalkEntry, IsNonDominated}
 

@@ -1,5 +1,5 @@
 -- The kept nodes of a search of a task's walks.
-use Rattle.std.specs.Prelude.{◌≡◌, ℕ, zero, suc, ◌+◌, ◌<◌, ◌≤◌, nat_le, nat_lt, ◌&&◌, Bool, Option, Some, None, List, [], ◌∷◌, ◌++◌, map, Contains, if◌then◌else◌}
+use Rattle.std.specs.Prelude.{◌≡◌, ℕ, zero, suc, ◌+◌, ◌≤◌, nat_lt, ◌&&◌, Bool, Option, Some, None, List, [], ◌∷◌, ◌++◌, map, Contains, if◌then◌else◌}
 use Rattle.std.specs.Ordering.{ordering_then, nat_cmp}
 use Rattle.std.specs.declared.cmp.Ordering.{Ordering}
 use Rattle.drt_model.specs.Digraph.{Digraph}

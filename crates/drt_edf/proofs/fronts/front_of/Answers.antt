@@ -1,9 +1,8 @@
-use Rattle.std.proofs.Common.{◌≡◌, sym, ap, ◌∙◌, subst}
-use Rattle.std.specs.Prelude.{IsTrue}
+use Rattle.std.proofs.Common.{ap, ◌∙◌, subst}
 use Rattle.std.specs.List.Sorted.{IsPermutation}
 use Rattle.drt_model.specs.Digraph.{vertex_count}
 use Rattle.drt_demand.specs.Demand.{Demand, demand_algebra}
-use Rattle.drt_table.specs.Machine.{Setting, State, is_finished}
+use Rattle.drt_table.specs.Machine.{Setting}
 use Rattle.drt_table.specs.View.{View, IsTable, setting_of, state_of}
 use Rattle.drt_table.specs.Cover.{IsFront}
 use Rattle.drt_edf.specs.KeptNodes.{kept_upto, labels_of}

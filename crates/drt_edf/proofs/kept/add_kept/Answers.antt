@@ -1,12 +1,9 @@
-use Rattle.std.proofs.Common.{◌≡◌, ◌+◌, ◌<◌, Some, None, List, [], ◌++◌, length, drop, rules, refl, sym, ap, ◌∙◌, subst, arith}
+use Rattle.std.proofs.Common.{◌≡◌, ◌+◌, ◌<◌, Some, ◌++◌, length, rules, sym, ap, ◌∙◌, subst, arith}
 use Rattle.std.specs.Prelude.{slice_get, option_map}
 use Rattle.std.proofs.lemmas.List.{length-map, append-nil}
 use Rattle.std.proofs.lemmas.Option.{same_Some, slice_get-map, slice_get_within}
-use Rattle.drt_demand.specs.Demand.{Demand}
-use Rattle.drt_table.specs.Node.{NodeOf, Held}
 use Rattle.drt_table.specs.View.{state_of}
-use Rattle.drt_edf.specs.KeptNodes.{kept_from}
-use Rattle.drt_edf.proofs.KeptLists.{IsFoundKept, found_from, none_left, passes_kept, next_is, more_entries, left_from, fewer_left}
+use Rattle.drt_edf.proofs.KeptLists.{found_from, none_left, passes_kept, next_is, more_entries, left_from, fewer_left}
 use Rattle.drt_edf.proofs.kept.add_kept.Goals as goal
 
 pub node-requires-after_bounds : goal.node-requires-after_bounds

@@ -1,4 +1,4 @@
-use Rattle.std.proofs.Common.{◌≡◌, ◌++◌, sym, ap, ◌∙◌, add-one}
+use Rattle.std.proofs.Common.{◌++◌, sym, ap, ◌∙◌, add-one}
 use Rattle.drt_table.specs.View.{state_of}
 use Rattle.drt_edf.specs.KeptNodes.{kept_from, kept_upto}
 use Rattle.drt_edf.proofs.KeptLists.{upto_none, upto_more}

@@ -1,17 +1,16 @@
-use Rattle.std.proofs.Common.{◌≡◌, ◌<◌, Some, None, List, length, sym, ap, ◌∙◌, subst, arith}
-use Rattle.std.specs.Prelude.{IsTrue, slice_get, Contains}
+use Rattle.std.proofs.Common.{◌≡◌, Some, None, List, ap, ◌∙◌, subst, arith}
+use Rattle.std.specs.Prelude.{Contains}
 use Rattle.std.proofs.lemmas.List.{length-map}
 use Rattle.std.proofs.lemmas.List.Elements.{All-contains}
 use Rattle.std.proofs.lemmas.Option.{slice_get_within}
 use Rattle.std.proofs.lemmas.Result.{IfOk-weaker}
 use Rattle.drt_model.specs.Digraph.{vertex_count}
 use Rattle.drt_demand.specs.Demand.{Demand, demand_algebra}
-use Rattle.drt_table.specs.Machine.{Setting, State, is_finished}
+use Rattle.drt_table.specs.Machine.{Setting}
 use Rattle.drt_table.specs.View.{View, IsTable, setting_of, state_of}
 use Rattle.drt_table.specs.Walk.{IsWalkOf}
 use Rattle.drt_table.specs.Cover.{IsFront}
 use Rattle.drt_edf.specs.KeptNodes.{kept_upto, IsGreatestDue}
-use Rattle.drt_edf.specs.LabelFronts.{IsLabelFront, IsDemandWalk}
 use Rattle.drt_edf.specs.declared.kept.Kept.{Kept}
 use Rattle.drt_edf.proofs.KeptLists.{IsEntryBelow, upto_all}
 use Rattle.drt_edf.proofs.FrontLists.{finished_front, kept_alone}
