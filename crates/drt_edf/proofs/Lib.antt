@@ -13,3 +13,7 @@ pub mod LabelWalks
 pub mod KeptLists
 pub mod FrontLists
 pub mod DemandWalks
+pub mod Overloads
+pub mod EvidenceKinds
+pub mod Gathered
+pub mod Decided

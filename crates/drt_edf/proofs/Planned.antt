@@ -9,12 +9,13 @@ use Rattle.drt_model.specs.Horizon.{horizon}
 use Rattle.drt_ratio.specs.declared.ratio_proof.RatioProof.{RatioProof}
 use Rattle.drt_ratio.specs.SetRatios.{fractions_of}
 use Rattle.drt_horizon.specs.declared.answers.Horizon.TheVariants.{Under, One, Over}
+use Rattle.drt_horizon.specs.declared.answers.Beyond.{Beyond}
 use Rattle.drt_horizon.specs.declared.answers.Beyond.TheVariants.{TooFine, TooFar}
 use Rattle.drt_horizon.specs.Given.{AreGiven, potentials_of}
 use Rattle.drt_horizon.specs.Plans.{IsPlan}
 use Rattle.drt_evidence.specs.Claims.{graphs_of, fractions, IsBelowOne as ClaimsBelowOne, IsHorizon}
 use Rattle.drt_evidence.specs.Rules.{AreRatioClaims}
-use Rattle.drt_edf.specs.Answers.{IsOnlyOne}
+use Rattle.drt_edf.specs.Answers.{IsBeyond, IsOnlyOne}
 use Rattle.drt_edf.specs.Plans.{Rates, IsTooFine, IsAboveOne, IsBelowOne, IsTooFar}
 use Rattle.drt_edf.specs.RatioClaims.{claims_of}
 use Rattle.drt_edf.proofs.RatioClaims.{fractions_same, potentials_same, claims_count, claims_lowest, each_given, potentials_are, ratios_are}
@@ -88,3 +89,8 @@ pub claims_below : (proofs : List RatioProof) (graphs : List Digraph) (bound : �
 claims_below proofs graphs bound plan =
     ((plan.0, claims_scale proofs plan.0 plan.1, rw fractions_same plan.2.1),
     (plan.0, claims_scale proofs plan.0 plan.1, rw (fractions_same, potentials_same) plan.2.3))
+
+-- A plan whose numbers are out of reach.
+pub planned_beyond : (tasks : List Task) (proofs : List RatioProof) (beyond : Beyond) → AreGiven (graphs_of tasks) proofs → IsPlan (graphs_of tasks) proofs (Err beyond) → IsBeyond tasks beyond
+planned_beyond tasks proofs TooFine given plan = planned_fine tasks proofs given plan
+planned_beyond tasks proofs TooFar given plan = planned_far tasks proofs given plan

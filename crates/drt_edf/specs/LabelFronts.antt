@@ -38,3 +38,10 @@ pub record IsDemandWalk (g : Digraph) (labels : List Demand) (t : ℕ) (walk : L
 -- The walk of task k in a list of them, one for each task; no walk past its end.
 abbrev pub walk_at : List (List ℕ) → ℕ → List ℕ
 walk_at walks k = slice_index_or walks k []
+
+-- Such a walk for each graph, in order.
+abbrev pub AreDemandWalks : List Digraph → List (List Demand) → ℕ → List (List ℕ) → Type 0
+AreDemandWalks [] fronts t walks = walks ≡ []
+AreDemandWalks (g ∷ graphs) [] t walks = ⊥
+AreDemandWalks (g ∷ graphs) (f ∷ fronts) t [] = ⊥
+AreDemandWalks (g ∷ graphs) (f ∷ fronts) t (w ∷ walks) = IsDemandWalk g f t w × AreDemandWalks graphs fronts t walks

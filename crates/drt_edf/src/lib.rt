@@ -6,7 +6,10 @@
 //! `drt_evidence`, and each other answer its cause. The layer above uses the one contract of `analyse_edf`.
 #![tactic(auto)]
 
+mod above;
+mod analysis;
 mod answer;
+mod below;
 mod claims;
 #[cfg(test)]
 mod front_tests;
@@ -20,5 +23,6 @@ mod searching;
 mod turns;
 mod walks;
 
+pub use analysis::analyse_edf;
 pub use answer::{EdfAnswer, EdfTrail};
 pub use laws::{horizon_is_one, rates_are_one};

@@ -1,0 +1,48 @@
+//! The analysis.
+ghost use Rattle.std.specs.Prelude.{◌≡◌, ◌≤◌, IfOk};
+ghost use Rattle.drt_model.specs.Constrained.{AreConstrained};
+ghost use Rattle.drt_evidence.specs.Claims.{graphs_of};
+ghost use Rattle.drt_edf.specs.Answers.{IsAnswer};
+
+use crate::above::above_one;
+use crate::answer::EdfAnswer;
+use crate::below::below_one;
+use crate::claims::claims_of;
+use drt_evidence::Evidence;
+use drt_graph::Graphs;
+use drt_horizon::{Horizon, plan, ratios};
+use drt_model::{Memory, TaskSet};
+use std::alloc::Global;
+
+/// Decides whether a set with constrained deadlines is schedulable under EDF. Each search ends after `budget` steps at the latest.
+///
+/// First come the ratios of all tasks, then the plan. A utilisation of one is told apart, with the ratios as evidence. Above one
+/// the whole turns of the cycles are searched for a step time with more work than time. Below one each task's walks are searched
+/// up to the horizon, in order of tasks, and the demands over the fronts are scanned.
+///
+/// Source: Stigge, Ekberg, Guan and Yi, "The Digraph Real-Time Task Model" (RTAS 2011).
+pub fn analyse_edf(
+    alloc: Global,
+    set: &TaskSet,
+    graphs: &Graphs,
+    budget: u64,
+) -> Result<EdfAnswer, Memory>
+    requires constrained { AreConstrained set.now.tasks }
+    requires graphs { graphs.now ≡ graphs_of set.now.tasks }
+    requires some { 1 ≤ budget }
+    requires few { budget ≤ 1000000 }
+    ensures { IfOk result (IsAnswer set.now.tasks budget) }
+{
+    let proofs = ratios(alloc, graphs)?;
+    let _count = graphs.count();
+    match plan(graphs, proofs.as_slice()) {
+        Ok(Horizon::Under { bound }) => {
+            below_one(alloc, set, graphs, proofs.as_slice(), bound, budget)
+        }
+        Ok(Horizon::One) => Ok(EdfAnswer::Done(Evidence::UtilisationOne {
+            ratios: claims_of(alloc, proofs.as_slice())?,
+        })),
+        Ok(Horizon::Over) => above_one(alloc, set, graphs, proofs.as_slice(), budget),
+        Err(beyond) => Ok(EdfAnswer::Beyond(beyond)),
+    }
+}
