@@ -90,7 +90,7 @@ fn grow_tree(
     build(alloc, nodes, pool, low, count)
 }
 
-// Puts the tree of some labels and their walks behind the nodes, and gives its root. Without memory all is as before.
+/// Puts the tree of some labels and their walks behind the nodes, and gives its root. Without memory all is as before.
 pub fn add_tree(
     alloc: Global,
     nodes: &mut Vec<Node>,

@@ -34,7 +34,7 @@ impl Leaf {
     }
 }
 
-// The leaves of some labels and their walks, in memory of their own.
+/// The leaves of some labels and their walks, in memory of their own.
 pub fn gather(
     alloc: Global,
     labels: &[Arc<RequestLabel>],
@@ -54,7 +54,7 @@ pub fn gather(
     Ok(leaves)
 }
 
-// Puts the leaves in their order.
+/// Puts the leaves in their order: by their functions from the bound down, and then by their walks.
 pub fn sort_leaves(leaves: &mut Vec<Leaf>) -> Result<(), Memory>
     ensures permutation { IsPermutation leaves.old.items leaves.new.items }
     ensures sorted { OnOk result (IsSortedBy is_before leaves.new.items) }
