@@ -30,7 +30,9 @@ drop-at xs k x h = with_suc xs k x h ∙ ap (λ j. x ∷ drop j xs) (let e : suc
     with_suc (z ∷ xs) (suc k) x h = with_suc xs k x h
 
 module _ (g : Digraph) where
-  pub edge_more : (v k : ℕ) (least : Option ℕ) (s : ℕ) → k < out_degree g v → s ≡ (edge_of g v k).sep → smaller least (least_of (λ (e : Edge). true) (λ e. e.sep) (drop k (out_edges g v))) ≡ least_of (λ (e : Edge). true) (λ e. e.sep) (out_edges g v) → smaller (smaller least (Some s)) (least_of (λ (e : Edge). true) (λ e. e.sep) (drop (k + 1) (out_edges g v))) ≡ least_of (λ (e : Edge). true) (λ e. e.sep) (out_edges g v)
+  pub edge_more : (v k : ℕ) (least : Option ℕ) (s : ℕ) → k < out_degree g v → s ≡ (edge_of g v k).sep
+      → smaller least (least_of (λ (e : Edge). true) (λ e. e.sep) (drop k (out_edges g v))) ≡ least_of (λ (e : Edge). true) (λ e. e.sep) (out_edges g v)
+      → smaller (smaller least (Some s)) (least_of (λ (e : Edge). true) (λ e. e.sep) (drop (k + 1) (out_edges g v))) ≡ least_of (λ (e : Edge). true) (λ e. e.sep) (out_edges g v)
   edge_more v k least s lt e h =
       let at : slice_get (out_edges g v) k ≡ Some (edge_of g v k) = slice_get-get_or (out_edges g v) k no_edge lt in
       let rest : Option ℕ = least_of (λ (e : Edge). true) (λ e. e.sep) (drop (k + 1) (out_edges g v)) in
@@ -38,7 +40,9 @@ module _ (g : Digraph) where
       ∙ (ap (λ n. smaller least (smaller (Some n) rest)) e
       ∙ (ap (λ xs. smaller least (least_of (λ (e : Edge). true) (λ e. e.sep) xs)) (sym (drop-at (out_edges g v) k (edge_of g v k) at)) ∙ h))
 
-  pub edge_end : (v k : ℕ) (least : Option ℕ) → out_degree g v ≤ k → smaller least (least_of (λ (e : Edge). true) (λ e. e.sep) (drop k (out_edges g v))) ≡ least_of (λ (e : Edge). true) (λ e. e.sep) (out_edges g v) → least ≡ least_of (λ (e : Edge). true) (λ e. e.sep) (out_edges g v)
+  pub edge_end : (v k : ℕ) (least : Option ℕ) → out_degree g v ≤ k
+      → smaller least (least_of (λ (e : Edge). true) (λ e. e.sep) (drop k (out_edges g v))) ≡ least_of (λ (e : Edge). true) (λ e. e.sep) (out_edges g v)
+      → least ≡ least_of (λ (e : Edge). true) (λ e. e.sep) (out_edges g v)
   edge_end v k least le h = sym (smaller-none least) ∙ (ap (λ xs. smaller least (least_of (λ (e : Edge). true) (λ e. e.sep) xs)) (sym (drop_all k (out_edges g v) le)) ∙ h)
 
   pub row_more : IsSound g → (v : ℕ) (least o : Option ℕ) → v < length g.vertices → o ≡ least_of (λ (e : Edge). true) (λ e. e.sep) (out_edges g v) → smaller least (shortest (drop v g.out)) ≡ shortest g.out → smaller (smaller least o) (shortest (drop (v + 1) g.out)) ≡ shortest g.out

@@ -17,3 +17,10 @@ pub mod Back
 pub mod Start
 pub mod Tables
 pub mod Driving
+pub mod Links
+pub mod Unlink
+pub mod Sweep
+pub mod Sweeping
+pub mod Seeking
+pub mod Push
+pub mod Linking

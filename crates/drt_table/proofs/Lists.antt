@@ -146,6 +146,12 @@ changed-set f [] k x at = absurd (none-some x at)
 changed-set f (z ∷ xs) zero x at = ap (λ y. f y ∷ xs) (sym (same_Some z x at))
 changed-set f (z ∷ xs) (suc k) x at = ap (λ ys. z ∷ ys) (changed-set f xs k x at)
 
+-- a write of what stands there
+pub set_same : {A : Type 0} (xs : List A) (i : ℕ) (x : A) → slice_get xs i ≡ Some x → set xs i x ≡ xs
+set_same [] i x at = refl
+set_same (y ∷ xs) zero x at = ap (λ z. z ∷ xs) (sym (same_Some y x at))
+set_same (y ∷ xs) (suc i) x at = ap (λ zs. y ∷ zs) (set_same xs i x at)
+
 -- a view of each element
 pub first-map : {A B : Type 0} (p : B → Bool) (v : A → B) (xs : List A) → first p (map v xs) ≡ first (λ x. p (v x)) xs
 first-map p v [] = refl

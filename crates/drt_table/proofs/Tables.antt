@@ -70,7 +70,9 @@ module _ {L : Type 0} (a : Algebra L) (v : View L) where
   unchanged_step w step r e s = record { setting = refl; state = ap (λ (o : Outcome L). o.state) (sym e); reply_is = ap (λ (o : Outcome L). o.reply) (sym e); spares = sym s }
 
   -- a step that is logged
-  logged_step : (new : View L) (w : ℕ) (step : TableStep) (r : TableReply) (ns : List (NodeOf L)) → setting_of new ≡ setting_of v → map (λ (h : Held L). h.node) new.nodes ≡ ns → new.log ≡ v.log ++ record { worker = w; step = step } ∷ [] → outcome a v w step ≡ logged a (setting_of v) (state_of v) (record { worker = w; step = step }) ns r → spares_of new ≡ spares_after r (spares_of v) → IsStep a v new w step r
+  logged_step : (new : View L) (w : ℕ) (step : TableStep) (r : TableReply) (ns : List (NodeOf L)) → setting_of new ≡ setting_of v
+      → map (λ (h : Held L). h.node) new.nodes ≡ ns → new.log ≡ v.log ++ record { worker = w; step = step } ∷ []
+      → outcome a v w step ≡ logged a (setting_of v) (state_of v) (record { worker = w; step = step }) ns r → spares_of new ≡ spares_after r (spares_of v) → IsStep a v new w step r
   logged_step new w step r ns set nodes log e s = record {
     setting = set;
     state = state_eq (map (λ (h : Held L). h.node) new.nodes) ns new.log (v.log ++ record { worker = w; step = step } ∷ []) nodes log ∙ ap (λ (o : Outcome L). o.state) (sym e);

@@ -7,6 +7,7 @@ pub mod Facts
 pub mod Work
 pub mod View
 pub mod Held
+pub mod Links
 pub mod Arena
 pub mod Taking
 pub mod Drive

@@ -10,6 +10,7 @@ ghost use Rattle.std.specs.Option.{ForSome};
 ghost use Rattle.drt_table.specs.Taking.{is_soon};
 ghost use Rattle.drt_table.specs.View.{kept_at};
 
+use crate::kept::{place_in, push_node};
 use crate::node::{Node, Twin};
 use crate::step::TableReply;
 use drt_label::{Label, Memory};
@@ -21,19 +22,23 @@ use std::sync::Arc;
 #[derive(Drop)]
 pub(crate) struct Arena<L: Label> {
     nodes: Vec<Node<L>>,
-    vertices: u32,
+    // The next kept node of the node's vertex, for each kept node.
+    links: Vec<Option<u32>>,
+    // The least kept node of each vertex.
+    heads: Vec<Option<u32>>,
     room: usize,
 }
 
 impl<L: Label> Model for Arena<L> {
-    ghost use Rattle.std.specs.Prelude.{◌≤◌, vec_capacity};
+    ghost use Rattle.std.specs.Prelude.{◌≤◌, length, vec_capacity};
     ghost use Rattle.drt_table.specs.Arena.{Stock};
+    ghost use Rattle.drt_table.specs.Links.{AreLinked};
 
     ghost Value = { Stock L };
 
-    ghost view = { λ s. record { nodes = s.nodes.items; vertices = s.vertices; room = s.room } };
+    ghost view = { λ s. record { nodes = s.nodes.items; vertices = length s.heads.items; room = s.room } };
 
-    ghost invariant = { λ s. s.room ≤ vec_capacity s.nodes };
+    ghost invariant = { λ s. (s.room ≤ vec_capacity s.nodes) × (s.room ≤ vec_capacity s.links) × AreLinked L.algebra s.nodes.items s.links.items s.heads.items };
 }
 
 impl<L: Label> Arena<L> {
@@ -44,9 +49,12 @@ impl<L: Label> Arena<L> {
         ensures room { IfOk result (λ arena. arena.room ≡ room) }
     {
         let nodes = Vec::with_capacity(alloc, room)?;
+        let links = Vec::with_capacity(alloc, room)?;
+        let heads = vec![in alloc; None; vertices as usize]?;
         Ok(Arena {
             nodes,
-            vertices,
+            links,
+            heads,
             room,
         })
     }
@@ -106,31 +114,36 @@ impl<L: Label> Arena<L> {
 
     // The least kept node of the vertex.
     pub(crate) fn first_kept(&self, vertex: u32) -> Option<u32>
-        requires few { length self.now.nodes < 2 ^ 32 }
-        requires vertex { vertex < self.now.vertices }
+        requires { vertex < self.now.vertices }
         ensures { result ≡ first (λ h. kept_at L.algebra vertex h.node) self.now.nodes }
     {
-        first_kept_from(self.nodes.as_slice(), vertex, 0)
+        self.heads[vertex as usize]
     }
 
     // The next kept node of the node's vertex.
     pub(crate) fn next_kept(&self, id: u32) -> Option<u32>
-        requires few { length self.now.nodes < 2 ^ 32 }
-        requires kept { (h : Held L) × (slice_get self.now.nodes id ≡ Some h) × (h.node.dropped_by ≡ None) }
+        requires { (h : Held L) × (slice_get self.now.nodes id ≡ Some h) × (h.node.dropped_by ≡ None) }
         ensures { IfSome (slice_get self.now.nodes id) (λ h. result ≡ first_from (id + 1) (λ x. kept_at L.algebra (L.algebra.vertex h.node.label) x.node) self.now.nodes) }
     {
-        let vertex = self.nodes[id as usize].vertex();
-        first_kept_from(self.nodes.as_slice(), vertex, id as usize + 1)
+        self.links[id as usize]
     }
 
     // Adds an opening node, the first of its vertex.
     pub(crate) fn open(&mut self, twin: Twin<L>)
         requires room { length self.old.nodes < self.old.room }
+        requires few { length self.old.nodes < 2 ^ 32 }
         requires vertex { L.algebra.vertex twin < self.old.vertices }
         requires alone { AllOf (λ h. kept_at L.algebra (L.algebra.vertex twin) h.node ≡ false) self.old.nodes }
         ensures { HasNodes self.old self.new (self.old.nodes ++ fresh_held twin None ∷ []) }
     {
-        push_within(&mut self.nodes, Node::fresh(twin, None));
+        let heads = self.heads.as_mut_slice();
+        push_node(
+            &mut self.nodes,
+            &mut self.links,
+            heads,
+            None,
+            Node::fresh(twin, None),
+        );
     }
 
     // Lets the worker take the next node.
@@ -159,7 +172,16 @@ impl<L: Label> Arena<L> {
         ensures nodes { HasNodes self.old self.new (placed_nodes L.algebra twin parent deadline bound self.old.nodes) }
         ensures reply { result ≡ placed_reply L.algebra twin deadline bound self.old.nodes }
     {
-        place_in(&mut self.nodes, twin, parent, deadline, bound)
+        let heads = self.heads.as_mut_slice();
+        place_in(
+            &mut self.nodes,
+            &mut self.links,
+            heads,
+            twin,
+            parent,
+            deadline,
+            bound,
+        )
     }
 
     pub(crate) fn count_offer(&mut self, id: u32)
@@ -246,74 +268,6 @@ fn first_held<L>(nodes: &[Node<L>], worker: u32) -> Option<u32>
         }
     }
     None
-}
-
-// The least kept node of the vertex from a place on.
-fn first_kept_from<L: Label>(nodes: &[Node<L>], vertex: u32, from: usize) -> Option<u32>
-    requires { length nodes.now < 2 ^ 32 }
-    ensures { result ≡ first_from from (λ h. kept_at L.algebra vertex h.node) nodes.now }
-{
-    for i in from..nodes.len() {
-        if nodes[i].is_kept_at(vertex) {
-            return Some(i as u32);
-        }
-    }
-    None
-}
-
-// The least kept node that dominates the label.
-fn first_above<L: Label>(nodes: &[Node<L>], label: &L) -> Option<u32>
-    requires few { length nodes.now < 2 ^ 32 }
-    requires of { (bound : ℕ) × IsTrue (L.algebra.is_of label.now bound) × AllOf (λ h. IsTrue (L.algebra.is_of h.node.label bound)) nodes.now }
-    ensures { result ≡ first (dominates_held L.algebra label.now) nodes.now }
-{
-    for (i, node) in nodes.iter().enumerate() {
-        if node.is_above(label) {
-            return Some(i as u32);
-        }
-    }
-    None
-}
-
-// Drops each kept node that the label dominates.
-fn drop_all_below<L: Label>(nodes: &mut [Node<L>], label: &L, number: u32)
-    requires { (bound : ℕ) × IsTrue (L.algebra.is_of label.now bound) × AllOf (λ h. IsTrue (L.algebra.is_of h.node.label bound)) nodes.old }
-    ensures { nodes.new ≡ map (drop_held L.algebra label.now number) nodes.old }
-{
-    for node in nodes.iter_mut() {
-        node.drop_below(label, number);
-    }
-}
-
-// Offers the label of the twin to the nodes.
-fn place_in<L: Label>(
-    nodes: &mut Vec<Node<L>>,
-    twin: Twin<L>,
-    parent: u32,
-    deadline: u32,
-    bound: u64,
-) -> TableReply
-    requires room { vec_len nodes.old < vec_capacity nodes.old }
-    requires few { vec_len nodes.old < 2 ^ 32 }
-    requires deadline { IsTime deadline }
-    requires of { IsTrue (L.algebra.is_of twin bound) }
-    requires all_of { AllOf (λ h. IsTrue (L.algebra.is_of h.node.label bound)) nodes.old.items }
-    ensures nodes { nodes.new.items ≡ placed_nodes L.algebra twin parent deadline bound nodes.old.items }
-    ensures reply { result ≡ placed_reply L.algebra twin deadline bound nodes.old.items }
-    ensures capacity { vec_capacity nodes.old ≤ vec_capacity nodes.new }
-{
-    if !twin.label.in_range(deadline, bound) {
-        return TableReply::OutOfRange;
-    }
-    match first_above(nodes.as_slice(), &twin.label) {
-        Some(id) => TableReply::Dominated(id),
-        None => {
-            let number = nodes.len() as u32;
-            drop_all_below(nodes.as_mut_slice(), &twin.label, number);
-            push_within(nodes, Node::fresh(twin, Some(parent)));
-            TableReply::Added(number)
-        }
-    }
 }
 
 // A push into room that is there.

@@ -6,11 +6,13 @@
 //! memory. What holds after every run, whoever made its steps, is the contract of `over_every_interleaving`. The layer
 //! above uses that contract and those of `Table`.
 //!
-//! The nodes stand in one list that is searched from its front: a step takes time in proportion to the nodes there are.
+//! The nodes stand in an arena, and the kept nodes of each vertex in a list inside it, with node numbers for links: an
+//! offer looks at the kept nodes of the label's vertex alone.
 #![tactic(auto)]
 
 mod arena;
 mod drive;
+mod kept;
 mod node;
 mod reading;
 mod shortest;

@@ -5,12 +5,14 @@ use Rattle.drt_table.specs.Arena.{Stock, HasNodes}
 use Rattle.drt_table.specs.Held.{hand_out}
 use Rattle.drt_table.specs.Node.{Held, is_taken}
 use Rattle.drt_table.specs.Places.{changed}
+use Rattle.drt_table.specs.Links.{AreLinked}
 use Rattle.drt_table.proofs.Lists.{changed-set}
+use Rattle.drt_table.proofs.Linking.{changed_linked}
 use Rattle.drt_table.proofs.arena.Arena.hand_out.Goals as goal
 
 pub returns-clause-nodes : goal.returns-clause-nodes
 returns-clause-nodes g c =
-    let v : Stock _ = record { nodes = c.self.inside.nodes.items; vertices = c.self.inside.vertices; room = c.self.inside.room } in
+    let v : Stock _ = record { nodes = c.self.inside.nodes.items; vertices = length c.self.inside.heads.items; room = c.self.inside.room } in
     let can : (h : Held _) × (slice_get v.nodes c.args.id ≡ Some h) × IsTrue h.spare × IsTrue (is_taken h.node) = subst (λ (x : Stock _). (h : Held _) × (slice_get x.nodes c.args.id ≡ Some h) × IsTrue h.spare × IsTrue (is_taken h.node)) (sym c.self.view_is) c.requires in
     let lt : c.args.id < length v.nodes = slice_get_within v.nodes c.args.id can.0 can.1 in
     let at : slice_get v.nodes c.args.id ≡ Some c.index_mut.result.now = slice_get_read v.nodes (length v.nodes) c.args.id c.index_mut.result.now refl lt c.index_mut.ensures.value in
@@ -19,9 +21,18 @@ returns-clause-nodes g c =
 
 pub returns-clause-label : goal.returns-clause-label
 returns-clause-label g c =
-    let v : Stock _ = record { nodes = c.self.inside.nodes.items; vertices = c.self.inside.vertices; room = c.self.inside.room } in
+    let v : Stock _ = record { nodes = c.self.inside.nodes.items; vertices = length c.self.inside.heads.items; room = c.self.inside.room } in
     let can : (h : Held _) × (slice_get v.nodes c.args.id ≡ Some h) × IsTrue h.spare × IsTrue (is_taken h.node) = subst (λ (x : Stock _). (h : Held _) × (slice_get x.nodes c.args.id ≡ Some h) × IsTrue h.spare × IsTrue (is_taken h.node)) (sym c.self.view_is) c.requires in
     let lt : c.args.id < length v.nodes = slice_get_within v.nodes c.args.id can.0 can.1 in
     let at : slice_get v.nodes c.args.id ≡ Some c.index_mut.result.now = slice_get_read v.nodes (length v.nodes) c.args.id c.index_mut.result.now refl lt c.index_mut.ensures.value in
     let nodes : slice_set v.nodes c.args.id c.hand_out.new.self ≡ changed c.args.id hand_out v.nodes = ap (λ x. set v.nodes c.args.id x) c.hand_out.ensures.node ∙ changed-set hand_out v.nodes c.args.id c.index_mut.result.now at in
     subst (λ (x : Stock _). IfSome (slice_get x.nodes c.args.id) (λ h. c.hand_out.result.value ≡ h.node.label)) c.self.view_is (subst (λ o. IfSome o (λ h. c.hand_out.result.value ≡ h.node.label)) (sym at) c.hand_out.ensures.label)
+
+pub invariant_of-self : goal.invariant_of-self
+invariant_of-self g c =
+    let v : Stock _ = record { nodes = c.self.inside.nodes.items; vertices = length c.self.inside.heads.items; room = c.self.inside.room } in
+    let can : (h : Held _) × (slice_get v.nodes c.args.id ≡ Some h) × IsTrue h.spare × IsTrue (is_taken h.node) = subst (λ (x : Stock _). (h : Held _) × (slice_get x.nodes c.args.id ≡ Some h) × IsTrue h.spare × IsTrue (is_taken h.node)) (sym c.self.view_is) c.requires in
+    let lt : c.args.id < length v.nodes = slice_get_within v.nodes c.args.id can.0 can.1 in
+    let at : slice_get v.nodes c.args.id ≡ Some c.index_mut.result.now = slice_get_read v.nodes (length v.nodes) c.args.id c.index_mut.result.now refl lt c.index_mut.ensures.value in
+    let nodes : slice_set v.nodes c.args.id c.hand_out.new.self ≡ changed c.args.id hand_out v.nodes = ap (λ x. set v.nodes c.args.id x) c.hand_out.ensures.node ∙ changed-set hand_out v.nodes c.args.id c.index_mut.result.now at in
+    (c.self.invariant.0, c.self.invariant.1, subst (λ xs. AreLinked g.L.Label.algebra xs c.self.inside.links.items c.self.inside.heads.items) (sym nodes) (changed_linked g.L.Label.algebra hand_out (λ h. (refl, refl)) c.args.id v.nodes c.self.inside.links.items c.self.inside.heads.items c.self.invariant.2))

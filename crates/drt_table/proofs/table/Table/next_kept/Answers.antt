@@ -1,23 +1,14 @@
-use Rattle.std.proofs.Common.{◌≡◌, ◌<◌, ◌+◌, Some, None, length, sym, ◌∙◌, subst}
+use Rattle.std.proofs.Common.{◌≡◌, ◌+◌, Some, None, sym, ◌∙◌, subst}
 use Rattle.std.specs.Prelude.{slice_get, IfSome}
 use Rattle.drt_table.specs.Node.{NodeOf, Held}
 use Rattle.drt_table.specs.Places.{first_from}
 use Rattle.drt_table.specs.View.{View, IsTable, state_of, kept_at}
 use Rattle.drt_table.proofs.Lists.{first_from-map}
-use Rattle.drt_table.proofs.Tables.{nodes_small, at_node, kept_node}
+use Rattle.drt_table.proofs.Tables.{at_node, kept_node}
 use Rattle.drt_table.proofs.table.Table.next_kept.Goals as goal
 
-pub next_kept-requires-clause-few : goal.next_kept-requires-clause-few
-next_kept-requires-clause-few g c κs within =
-    let a = g.L.Label.algebra in
-    let laws = (g.met.L.Label g.world.𝓛 g.world.𝓜 g.world.𝓡 ((λ s x. x), (λ x. x), (λ x. x), λ x. x)).laws in
-    let v : View _ = record { graph = c.self.inside.graph; bound = c.self.inside.bound; budget = c.self.inside.budget; nodes = c.self.inside.arena.nodes; log = c.self.inside.log.items } in
-    let is : IsTable a v = c.self.invariant.0 in
-    let few : length v.nodes < 4294967296 = nodes_small a laws v is in
-    few
-
-pub next_kept-requires-clause-kept : goal.next_kept-requires-clause-kept
-next_kept-requires-clause-kept g c κs within =
+pub next_kept-requires-after_bounds : goal.next_kept-requires-after_bounds
+next_kept-requires-after_bounds g c κs within =
     let a = g.L.Label.algebra in
     let laws = (g.met.L.Label g.world.𝓛 g.world.𝓜 g.world.𝓡 ((λ s x. x), (λ x. x), (λ x. x), λ x. x)).laws in
     let v : View _ = record { graph = c.self.inside.graph; bound = c.self.inside.bound; budget = c.self.inside.budget; nodes = c.self.inside.arena.nodes; log = c.self.inside.log.items } in
