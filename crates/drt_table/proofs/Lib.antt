@@ -1,6 +1,5 @@
 pub mod Lists
 pub mod Earliest
-pub mod Best
 pub mod Separation
 pub mod LeastSeparation
 pub mod Walks
@@ -24,3 +23,6 @@ pub mod Sweeping
 pub mod Seeking
 pub mod Push
 pub mod Linking
+pub mod Tickets
+pub mod Scan
+pub mod Arranged

@@ -187,12 +187,6 @@ first_from_none zero p xs below = first_none p xs (λ k y lt h. below k y (omega
 first_from_none (suc from) p [] below = refl
 first_from_none (suc from) p (z ∷ xs) below = ap (λ o. option_map suc o) (first_from_none from p xs (λ k y l lt h. below (suc k) y (omega arith) (omega arith) h))
 
-pub fails_from_more : {A : Type 0} (from : ℕ) (p : A → Bool) (xs : List A) (i : ℕ) (x : A) → slice_get xs i ≡ Some x → p x ≡ false → ((k : ℕ) (y : A) → from ≤ k → k < i → slice_get xs k ≡ Some y → p y ≡ false) → (k : ℕ) (y : A) → from ≤ k → k < i + 1 → slice_get xs k ≡ Some y → p y ≡ false
-fails_from_more from p xs i x at failed below k y l lt h = elim (cases_le k i lt) as (λ _. p y ≡ false) [ inl less ↦ below k y l less h | inr e ↦ subst (λ z. p z ≡ false) (same_Some x y (sym at ∙ (ap (λ j. slice_get xs j) (sym e) ∙ h))) failed ]
-  where
-    cases_le : (k i : ℕ) → k < i + 1 → (k < i) ⊎ (k ≡ i)
-    cases_le k i lt = grind arith
-
 pub first_from-map : {A B : Type 0} (from : ℕ) (p : B → Bool) (v : A → B) (xs : List A) → first_from from p (map v xs) ≡ first_from from (λ x. p (v x)) xs
 first_from-map zero p v xs = first-map p v xs
 first_from-map (suc from) p v [] = refl

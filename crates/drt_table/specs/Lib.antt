@@ -8,6 +8,7 @@ pub mod Work
 pub mod View
 pub mod Held
 pub mod Links
+pub mod Waiting
 pub mod Arena
 pub mod Taking
 pub mod Drive

@@ -1,5 +1,5 @@
 -- Places in a list: the first that passes a test, the least value of those that pass, and a change at one place.
-use Rattle.std.specs.Prelude.{ℕ, suc, zero, Bool, ◌&&◌, ◌==◌, min, nat_lt, Option, None, Some, option_map, List, [], ◌∷◌, if◌then◌else◌}
+use Rattle.std.specs.Prelude.{ℕ, suc, zero, Bool, ◌&&◌, ◌==◌, min, Option, None, Some, option_map, List, [], ◌∷◌, if◌then◌else◌}
 
 -- The first place at which p passes.
 abbrev pub first : {A : Type 0} → (A → Bool) → List A → Option ℕ
@@ -37,8 +37,3 @@ first_with p f xs (Some m) = first (λ x. p x && (f x == m)) xs
 -- Of the places at which p passes, that of least f, and the first of these in a tie.
 abbrev pub earliest : {A : Type 0} → (A → Bool) → (A → ℕ) → List A → Option ℕ
 earliest p f xs = first_with p f xs (least_of p f xs)
-
--- The better of the best place so far, with its value, and a new one: the new one where its value is less.
-abbrev pub sooner : Option (ℕ × ℕ) → ℕ → ℕ → Option (ℕ × ℕ)
-sooner None i m = Some (i, m)
-sooner (Some b) i m = if nat_lt m b.1 then Some (i, m) else Some b

@@ -1,20 +1,26 @@
-//! The nodes of a table.
+//! The nodes of a table, and how they are found.
+//!
+//! The kept nodes of a vertex form a list, with node numbers for links. The pending nodes stand in a queue, the taken ones
+//! in a short list. All room is taken when an arena is made.
 
 ghost use Rattle.std.specs.Prelude.{◌≡◌, ℕ, ◌+◌, ◌<◌, ◌≤◌, ◌^◌, ◌++◌, ◌∷◌, [], IfOk, IfSome, IsTrue, true, false, Some, None, length, map, slice_get, option_map, unwrap_or, nat_lt, vec_len, vec_capacity, if◌then◌else◌};
 ghost use Rattle.drt_label.specs.Algebra.{IsTime};
 ghost use Rattle.drt_table.specs.Arena.{Stock, HasNodes};
 ghost use Rattle.drt_table.specs.Held.{AllOf, take_by, count_offer, close_node, hand_out, fresh_held, held_offset, drop_held, dominates_held, placed_nodes, placed_reply};
 ghost use Rattle.drt_table.specs.Node.{Held, is_pending, is_taken, is_held_by};
-ghost use Rattle.drt_table.specs.Places.{first, first_from, changed, earliest, sooner};
+ghost use Rattle.drt_table.specs.Places.{first, first_from, changed, earliest};
 ghost use Rattle.std.specs.Option.{ForSome};
 ghost use Rattle.drt_table.specs.Taking.{is_soon};
 ghost use Rattle.drt_table.specs.View.{kept_at};
 
+use crate::holding::{first_held, first_taken, forget};
 use crate::kept::{place_in, push_node};
 use crate::node::{Node, Twin};
 use crate::step::TableReply;
+use crate::waiting::{Queue, admit, first_waiting, pop_ticket, refresh};
 use drt_label::{Label, Memory};
 use std::alloc::Global;
+use std::collections::BinaryHeap;
 use std::marker::Model;
 use std::sync::Arc;
 
@@ -26,19 +32,30 @@ pub(crate) struct Arena<L: Label> {
     links: Vec<Option<u32>>,
     // The least kept node of each vertex.
     heads: Vec<Option<u32>>,
+    // The pending nodes.
+    queue: Queue,
+    // The taken nodes.
+    taken: Vec<u32>,
     room: usize,
 }
 
 impl<L: Label> Model for Arena<L> {
-    ghost use Rattle.std.specs.Prelude.{◌≤◌, length, vec_capacity};
-    ghost use Rattle.drt_table.specs.Arena.{Stock};
-    ghost use Rattle.drt_table.specs.Links.{AreLinked};
+    ghost use Rattle.std.specs.Prelude.{◌+◌, ◌≤◌, length, vec_len, vec_capacity};
+    ghost use Rattle.std.specs.BinaryHeap.{heap_capacity, heap_items, heap_len};
+    ghost use Rattle.drt_table.specs.Arena.{Stock, AreArranged};
 
     ghost Value = { Stock L };
 
     ghost view = { λ s. record { nodes = s.nodes.items; vertices = length s.heads.items; room = s.room } };
 
-    ghost invariant = { λ s. (s.room ≤ vec_capacity s.nodes) × (s.room ≤ vec_capacity s.links) × AreLinked L.algebra s.nodes.items s.links.items s.heads.items };
+    ghost invariant = { λ s.
+        AreArranged L.algebra s.nodes.items s.links.items s.heads.items (heap_items s.queue) s.taken.items
+        × (length s.nodes.items ≤ s.room)
+        × (heap_len s.queue + vec_len s.taken ≤ length s.nodes.items)
+        × (s.room ≤ vec_capacity s.nodes)
+        × (s.room ≤ vec_capacity s.links)
+        × (s.room ≤ heap_capacity s.queue)
+        × (s.room ≤ vec_capacity s.taken) };
 }
 
 impl<L: Label> Arena<L> {
@@ -51,10 +68,14 @@ impl<L: Label> Arena<L> {
         let nodes = Vec::with_capacity(alloc, room)?;
         let links = Vec::with_capacity(alloc, room)?;
         let heads = vec![in alloc; None; vertices as usize]?;
+        let queue = BinaryHeap::with_capacity(alloc, room)?;
+        let taken = Vec::with_capacity(alloc, room)?;
         Ok(Arena {
             nodes,
             links,
             heads,
+            queue,
+            taken,
             room,
         })
     }
@@ -68,18 +89,16 @@ impl<L: Label> Arena<L> {
 
     // The pending node of least offset, the least number in a tie.
     pub(crate) fn next(&self) -> Option<u32>
-        requires { length self.now.nodes < 2 ^ 32 }
         ensures { result ≡ earliest (λ h. is_pending h.node) (held_offset L.algebra) self.now.nodes }
     {
-        earliest_in(self.nodes.as_slice(), false)
+        first_waiting(self.nodes.as_slice(), &self.queue)
     }
 
     // The taken node of least offset, the least number in a tie.
     pub(crate) fn holder(&self) -> Option<u32>
-        requires { length self.now.nodes < 2 ^ 32 }
         ensures { result ≡ earliest (λ h. is_taken h.node) (held_offset L.algebra) self.now.nodes }
     {
-        earliest_in(self.nodes.as_slice(), true)
+        first_taken(self.nodes.as_slice(), self.taken.as_slice())
     }
 
     // Whether no taken node can give an offset as small as the next node's.
@@ -106,10 +125,9 @@ impl<L: Label> Arena<L> {
 
     // The least node that the worker holds.
     pub(crate) fn held_by(&self, worker: u32) -> Option<u32>
-        requires { length self.now.nodes < 2 ^ 32 }
         ensures { result ≡ first (λ h. is_held_by worker h.node) self.now.nodes }
     {
-        first_held(self.nodes.as_slice(), worker)
+        first_held(self.nodes.as_slice(), self.taken.as_slice(), worker)
     }
 
     // The least kept node of the vertex.
@@ -136,6 +154,7 @@ impl<L: Label> Arena<L> {
         requires alone { AllOf (λ h. kept_at L.algebra (L.algebra.vertex twin) h.node ≡ false) self.old.nodes }
         ensures { HasNodes self.old self.new (self.old.nodes ++ fresh_held twin None ∷ []) }
     {
+        let from = self.nodes.len();
         let heads = self.heads.as_mut_slice();
         push_node(
             &mut self.nodes,
@@ -144,6 +163,7 @@ impl<L: Label> Arena<L> {
             None,
             Node::fresh(twin, None),
         );
+        admit(self.nodes.as_slice(), from, &mut self.queue);
     }
 
     // Lets the worker take the next node.
@@ -152,6 +172,9 @@ impl<L: Label> Arena<L> {
         ensures { HasNodes self.old self.new (changed id (take_by worker) self.old.nodes) }
     {
         self.nodes[id as usize].take_by(worker);
+        pop_ticket(&mut self.queue);
+        refresh(self.nodes.as_slice(), &mut self.queue);
+        push_within(&mut self.taken, id);
     }
 
     // Offers a label, which the node `parent` gave: it is out of range, or dominated, or it is added and drops the kept
@@ -172,8 +195,9 @@ impl<L: Label> Arena<L> {
         ensures nodes { HasNodes self.old self.new (placed_nodes L.algebra twin parent deadline bound self.old.nodes) }
         ensures reply { result ≡ placed_reply L.algebra twin deadline bound self.old.nodes }
     {
+        let from = self.nodes.len();
         let heads = self.heads.as_mut_slice();
-        place_in(
+        let reply = place_in(
             &mut self.nodes,
             &mut self.links,
             heads,
@@ -181,7 +205,9 @@ impl<L: Label> Arena<L> {
             parent,
             deadline,
             bound,
-        )
+        );
+        admit(self.nodes.as_slice(), from, &mut self.queue);
+        reply
     }
 
     pub(crate) fn count_offer(&mut self, id: u32)
@@ -196,6 +222,7 @@ impl<L: Label> Arena<L> {
         ensures { HasNodes self.old self.new (changed id close_node self.old.nodes) }
     {
         self.nodes[id as usize].close();
+        forget(&mut self.taken, id);
     }
 
     pub(crate) fn hand_out(&mut self, id: u32) -> Arc<L>
@@ -204,45 +231,6 @@ impl<L: Label> Arena<L> {
         ensures label { IfSome (slice_get self.old.nodes id) (λ h. result.value ≡ h.node.label) }
     {
         self.nodes[id as usize].hand_out()
-    }
-}
-
-// The earliest of the taken nodes, or else of the pending ones.
-fn earliest_in<L: Label>(nodes: &[Node<L>], taken: bool) -> Option<u32>
-    requires { length nodes.now < 2 ^ 32 }
-    ensures { result ≡ earliest (λ h. if taken then is_taken h.node else is_pending h.node) (held_offset L.algebra) nodes.now }
-{
-    let mut best = None;
-    for (i, node) in nodes.iter().enumerate() {
-        if node.is_in(taken) {
-            best = sooner(best, i as u32, node.offset());
-        }
-    }
-    place_of(best)
-}
-
-fn place_of(best: Option<(u32, u64)>) -> Option<u32>
-    ensures { result ≡ option_map (λ b. b.0) best }
-{
-    match best {
-        None => None,
-        Some((id, _)) => Some(id),
-    }
-}
-
-// The better of the best node so far, with its offset, and another one.
-fn sooner(best: Option<(u32, u64)>, id: u32, offset: u64) -> Option<(u32, u64)>
-    ensures { result ≡ sooner best id offset }
-{
-    match best {
-        None => Some((id, offset)),
-        Some((_, least)) => {
-            if offset < least {
-                Some((id, offset))
-            } else {
-                best
-            }
-        }
     }
 }
 
@@ -255,19 +243,6 @@ fn is_within(offset: u64, from: u64, shortest: Option<u32>, bound: u64) -> bool
         Some(sep) => offset < from || gap < sep as u64,
         None => gap <= bound,
     }
-}
-
-// The least node that the worker holds.
-fn first_held<L>(nodes: &[Node<L>], worker: u32) -> Option<u32>
-    requires { length nodes.now < 2 ^ 32 }
-    ensures { result ≡ first (λ h. is_held_by worker h.node) nodes.now }
-{
-    for (i, node) in nodes.iter().enumerate() {
-        if node.is_held_by(worker) {
-            return Some(i as u32);
-        }
-    }
-    None
 }
 
 // A push into room that is there.

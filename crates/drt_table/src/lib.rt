@@ -6,12 +6,14 @@
 //! memory. What holds after every run, whoever made its steps, is the contract of `over_every_interleaving`. The layer
 //! above uses that contract and those of `Table`.
 //!
-//! The nodes stand in an arena, and the kept nodes of each vertex in a list inside it, with node numbers for links: an
-//! offer looks at the kept nodes of the label's vertex alone.
+//! The nodes stand in an arena. The kept nodes of each vertex form a list inside it, with node numbers for links, so an
+//! offer looks at the kept nodes of the label's vertex alone. The pending nodes stand in a queue by offset, and the taken
+//! ones in a list that is as short as the workers are few.
 #![tactic(auto)]
 
 mod arena;
 mod drive;
+mod holding;
 mod kept;
 mod node;
 mod reading;
@@ -19,6 +21,7 @@ mod shortest;
 mod step;
 mod table;
 mod theorem;
+mod waiting;
 
 pub use node::{Node, NodeState, Twin};
 pub use step::{Entry, TableReply, TableStep};

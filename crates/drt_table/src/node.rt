@@ -1,9 +1,8 @@
 //! Nodes of a table.
 
-ghost use Rattle.std.specs.Prelude.{◌≡◌, ℕ, ◌<◌, ◌^◌, ◌++◌, ◌∷◌, [], IfOk, IsTrue, true, false, Some, None, if◌then◌else◌};
+ghost use Rattle.std.specs.Prelude.{◌≡◌, ℕ, ◌<◌, ◌^◌, ◌++◌, ◌∷◌, [], IfOk, IsTrue, true, false, Some, None};
 ghost use Rattle.drt_table.specs.Node.{Held, is_pending, is_taken, is_kept, is_held_by, fresh};
 ghost use Rattle.drt_table.specs.Held.{take_by, count_offer, close_node, hand_out, fresh_held, held_offset, drop_held, dominates_held};
-ghost use Rattle.drt_table.specs.View.{kept_at};
 ghost use Rattle.drt_label.specs.Algebra.{IsTime};
 
 use drt_label::{Label, Memory};
@@ -118,17 +117,6 @@ impl<L> Node<L> {
         }
     }
 
-    // Whether the node is taken, or else whether it is pending.
-    pub(crate) fn is_in(&self, taken: bool) -> bool
-        ensures { result ≡ (if taken then is_taken self.now.node else is_pending self.now.node) }
-    {
-        if taken {
-            self.is_taken()
-        } else {
-            self.is_pending()
-        }
-    }
-
     pub(crate) fn is_held_by(&self, worker: u32) -> bool
         ensures { result ≡ is_held_by worker self.now.node }
     {
@@ -216,12 +204,6 @@ impl<L: Label> Node<L> {
         ensures { result ≡ held_offset L.algebra self.now }
     {
         self.label.offset()
-    }
-
-    pub(crate) fn is_kept_at(&self, vertex: u32) -> bool
-        ensures { result ≡ kept_at L.algebra vertex self.now.node }
-    {
-        self.dropped_by.is_none() && self.label.vertex() == vertex
     }
 
     // Whether the node is kept and dominates the label.

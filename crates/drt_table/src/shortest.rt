@@ -32,7 +32,8 @@ fn shortest_out(graph: &Graph, v: u32) -> Option<u32>
     least
 }
 
-fn smaller(a: Option<u32>, b: Option<u32>) -> Option<u32>
+// The smaller of two numbers, where there are two.
+pub(crate) fn smaller(a: Option<u32>, b: Option<u32>) -> Option<u32>
     ensures { result ≡ smaller a b }
 {
     match (a, b) {

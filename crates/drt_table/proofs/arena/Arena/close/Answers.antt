@@ -1,13 +1,15 @@
-use Rattle.std.proofs.Common.{◌≡◌, ◌<◌, Some, length, refl, sym, ap, ◌∙◌, subst, set}
+use Rattle.std.proofs.Common.{◌≡◌, ◌<◌, Some, length, refl, sym, ap, ◌∙◌, subst, set, arith}
 use Rattle.std.specs.Prelude.{slice_get, slice_set, IsTrue}
-use Rattle.std.proofs.lemmas.Option.{slice_get_read, slice_get_within}
-use Rattle.drt_table.specs.Arena.{Stock, HasNodes}
+use Rattle.std.specs.BinaryHeap.{heap_items}
+use Rattle.std.proofs.lemmas.List.{length-set}
+use Rattle.std.proofs.lemmas.Option.{slice_get_read, slice_get_within, same_Some}
+use Rattle.drt_table.specs.Arena.{Stock, HasNodes, AreArranged}
 use Rattle.drt_table.specs.Held.{close_node}
 use Rattle.drt_table.specs.Node.{Held, is_taken}
 use Rattle.drt_table.specs.Places.{changed}
-use Rattle.drt_table.specs.Links.{AreLinked}
-use Rattle.drt_table.proofs.Lists.{changed-set}
-use Rattle.drt_table.proofs.Linking.{changed_linked}
+use Rattle.drt_table.specs.Waiting.{AreHeld}
+use Rattle.drt_table.proofs.Lists.{changed-set, changed_at}
+use Rattle.drt_table.proofs.Arranged.{change_arranged, forget_held, taken_not_pending, close_calms, close_keeps}
 use Rattle.drt_table.proofs.arena.Arena.close.Goals as goal
 
 pub returns : goal.returns
@@ -26,4 +28,13 @@ invariant_of-self g c =
     let lt : c.args.id < length v.nodes = slice_get_within v.nodes c.args.id can.0 can.1 in
     let at : slice_get v.nodes c.args.id ≡ Some c.index_mut.result.now = slice_get_read v.nodes (length v.nodes) c.args.id c.index_mut.result.now refl lt c.index_mut.ensures.value in
     let nodes : slice_set v.nodes c.args.id c.close.new.self ≡ changed c.args.id close_node v.nodes = ap (λ x. set v.nodes c.args.id x) c.close.ensures ∙ changed-set close_node v.nodes c.args.id c.index_mut.result.now at in
-    (c.self.invariant.0, c.self.invariant.1, subst (λ xs. AreLinked g.L.Label.algebra xs c.self.inside.links.items c.self.inside.heads.items) (sym nodes) (changed_linked g.L.Label.algebra close_node (λ h. (refl, refl)) c.args.id v.nodes c.self.inside.links.items c.self.inside.heads.items c.self.invariant.2))
+    let old = c.self.invariant in
+    let x : Held _ = c.index_mut.result.now in
+    let taken_x : IsTrue (is_taken x.node) = ap (λ (h : Held _). is_taken h.node) (same_Some x can.0 (sym at ∙ can.1)) ∙ can.2 in
+    let arranged = change_arranged close_node c.args.id v.nodes g.L.Label.algebra c.self.inside.links.items c.self.inside.heads.items (heap_items c.self.inside.queue) c.self.inside.taken.items x at (λ h. (refl, refl)) close_calms close_keeps (λ t. absurd (taken_not_pending x.node taken_x t)) old.0 in
+    let held : AreHeld (changed c.args.id close_node v.nodes) c.forget.new.taken.items = forget_held (changed c.args.id close_node v.nodes) c.self.inside.taken.items c.forget.new.taken.items c.args.id (close_node x) (changed_at c.args.id close_node v.nodes x at) refl c.forget.ensures.others c.forget.ensures.within arranged.held in
+    let all : AreArranged g.L.Label.algebra (changed c.args.id close_node v.nodes) c.self.inside.links.items c.self.inside.heads.items (heap_items c.self.inside.queue) c.forget.new.taken.items =
+    record { linked = arranged.linked; waiting = arranged.waiting; fresh = arranged.fresh; order = arranged.order; held = held } in
+    let count : length (slice_set v.nodes c.args.id c.close.new.self) ≡ length v.nodes = length-set v.nodes c.args.id c.close.new.self in
+    let less = c.forget.ensures.len in
+    (subst (λ xs. AreArranged g.L.Label.algebra xs c.self.inside.links.items c.self.inside.heads.items (heap_items c.self.inside.queue) c.forget.new.taken.items) (sym nodes) all, omega (arith, count, old.1), omega (arith, count, less, old.2), old.3, old.4, old.5, omega (arith, c.forget.ensures.capacity, old.6))

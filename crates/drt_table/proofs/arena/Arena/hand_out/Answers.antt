@@ -1,13 +1,14 @@
-use Rattle.std.proofs.Common.{◌≡◌, ◌<◌, Some, length, refl, sym, ap, ◌∙◌, subst, set}
+use Rattle.std.proofs.Common.{◌≡◌, ◌<◌, Some, length, refl, sym, ap, ◌∙◌, subst, set, arith}
 use Rattle.std.specs.Prelude.{slice_get, slice_set, IsTrue, IfSome}
+use Rattle.std.specs.BinaryHeap.{heap_items}
+use Rattle.std.proofs.lemmas.List.{length-set}
 use Rattle.std.proofs.lemmas.Option.{slice_get_read, slice_get_within}
-use Rattle.drt_table.specs.Arena.{Stock, HasNodes}
+use Rattle.drt_table.specs.Arena.{Stock, HasNodes, AreArranged}
 use Rattle.drt_table.specs.Held.{hand_out}
 use Rattle.drt_table.specs.Node.{Held, is_taken}
 use Rattle.drt_table.specs.Places.{changed}
-use Rattle.drt_table.specs.Links.{AreLinked}
 use Rattle.drt_table.proofs.Lists.{changed-set}
-use Rattle.drt_table.proofs.Linking.{changed_linked}
+use Rattle.drt_table.proofs.Arranged.{Calms, change_arranged}
 use Rattle.drt_table.proofs.arena.Arena.hand_out.Goals as goal
 
 pub returns-clause-nodes : goal.returns-clause-nodes
@@ -35,4 +36,8 @@ invariant_of-self g c =
     let lt : c.args.id < length v.nodes = slice_get_within v.nodes c.args.id can.0 can.1 in
     let at : slice_get v.nodes c.args.id ≡ Some c.index_mut.result.now = slice_get_read v.nodes (length v.nodes) c.args.id c.index_mut.result.now refl lt c.index_mut.ensures.value in
     let nodes : slice_set v.nodes c.args.id c.hand_out.new.self ≡ changed c.args.id hand_out v.nodes = ap (λ x. set v.nodes c.args.id x) c.hand_out.ensures.node ∙ changed-set hand_out v.nodes c.args.id c.index_mut.result.now at in
-    (c.self.invariant.0, c.self.invariant.1, subst (λ xs. AreLinked g.L.Label.algebra xs c.self.inside.links.items c.self.inside.heads.items) (sym nodes) (changed_linked g.L.Label.algebra hand_out (λ h. (refl, refl)) c.args.id v.nodes c.self.inside.links.items c.self.inside.heads.items c.self.invariant.2))
+    let old = c.self.invariant in
+    let calms : Calms hand_out = record { label = λ h. refl; pending = λ h t. t } in
+    let arranged = change_arranged hand_out c.args.id v.nodes g.L.Label.algebra c.self.inside.links.items c.self.inside.heads.items (heap_items c.self.inside.queue) c.self.inside.taken.items c.index_mut.result.now at (λ h. (refl, refl)) calms (λ h t. t) (λ t. t) old.0 in
+    let count : length (slice_set v.nodes c.args.id c.hand_out.new.self) ≡ length v.nodes = length-set v.nodes c.args.id c.hand_out.new.self in
+    (subst (λ xs. AreArranged g.L.Label.algebra xs c.self.inside.links.items c.self.inside.heads.items (heap_items c.self.inside.queue) c.self.inside.taken.items) (sym nodes) arranged, omega (arith, count, old.1), omega (arith, count, old.2), old.3, old.4, old.5, old.6)

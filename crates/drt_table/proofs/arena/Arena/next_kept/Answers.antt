@@ -12,7 +12,7 @@ returns g c =
     let a = g.L.Label.algebra in
     let v : Stock _ = record { nodes = c.self.inside.nodes.items; vertices = length c.self.inside.heads.items; room = c.self.inside.room } in
     let can : (h : Held _) × (slice_get v.nodes c.args.id ≡ Some h) × (h.node.dropped_by ≡ None) = subst (λ (x : Stock _). (h : Held _) × (slice_get x.nodes c.args.id ≡ Some h) × (h.node.dropped_by ≡ None)) (sym c.self.view_is) c.requires in
-    let linked = c.self.invariant.2 in
+    let linked = c.self.invariant.0.linked in
     let links = c.self.inside.links.items in
     let lt : c.args.id < length links = subst (λ n. c.args.id < n) (sym linked.as_many) (slice_get_within v.nodes c.args.id can.0 can.1) in
     let link : slice_get links c.args.id ≡ Some c.index.result.now = slice_get_read links (length links) c.args.id c.index.result.now refl lt c.index.ensures in

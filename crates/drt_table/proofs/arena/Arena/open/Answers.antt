@@ -1,10 +1,16 @@
-use Rattle.std.proofs.Common.{◌≡◌, false, None, length, sym, subst}
-use Rattle.drt_table.specs.Arena.{Stock}
+use Rattle.std.proofs.Common.{◌≡◌, ◌<◌, ◌+◌, ◌++◌, ◌∷◌, [], false, None, length, take, drop, sym, ap, ◌∙◌, subst, arith, rules}
+use Rattle.std.specs.BinaryHeap.{heap_items}
+use Rattle.std.proofs.lemmas.List.{length_push}
+use Rattle.drt_table.specs.Arena.{Stock, AreArranged}
+use Rattle.drt_table.specs.Waiting.{AreWaiting, IsFresh, AreHeld}
 use Rattle.drt_table.specs.Held.{AllOf}
-use Rattle.drt_table.specs.Node.{Held}
+use Rattle.drt_table.specs.Node.{Held, is_taken}
 use Rattle.drt_table.specs.Places.{first}
 use Rattle.drt_table.specs.View.{kept_at}
+use Rattle.drt_table.proofs.Arranged.{still_held, push_stays, push_held}
+use Rattle.drt_table.proofs.Linking.{written_back}
 use Rattle.drt_table.proofs.Lists.{first_none}
+use Rattle.drt_table.proofs.Tickets.{still_waiting}
 use Rattle.drt_table.proofs.arena.Arena.open.Goals as goal
 
 pub push_node-requires-clause-last : goal.push_node-requires-clause-last
@@ -14,3 +20,44 @@ push_node-requires-clause-last g c κs within =
     let alone : AllOf (λ (h : Held _). kept_at a (a.vertex c.args.twin) h.node ≡ false) v.nodes = subst (λ (x : Stock _). AllOf (λ (h : Held _). kept_at a (a.vertex c.args.twin) h.node ≡ false) x.nodes) (sym c.self.view_is) c.requires.alone in
     subst (λ (z : Held _). None ≡ first (λ (h : Held _). kept_at a (a.vertex z.node.label) h.node) v.nodes) (sym c.fresh.ensures)
     (first_none (λ (h : Held _). kept_at a (a.vertex c.args.twin) h.node) v.nodes (λ k y lt at. alone k y at))
+
+pub admit-requires-clause-waiting : goal.admit-requires-clause-waiting
+admit-requires-clause-waiting g c κs within =
+    let a = g.L.Label.algebra in
+    let nodes = c.self.inside.nodes.items in
+    let tickets = heap_items c.self.inside.queue in
+    let z : Held _ = c.fresh.result in
+    let from : c.len-from.result ≡ length nodes = search rules in
+    subst (λ xs. AreWaiting a xs tickets c.len-from.result) (sym (c.as_slice.ensures.value ∙ c.push_node.ensures.nodes))
+    (subst (λ n. AreWaiting a (nodes ++ z ∷ []) tickets n) (sym from) (still_waiting a nodes (nodes ++ z ∷ []) tickets (push_stays nodes z) c.self.invariant.0.waiting))
+
+pub invariant_of-self : goal.invariant_of-self
+invariant_of-self g c =
+    let a = g.L.Label.algebra in
+    let v : Stock _ = record { nodes = c.self.inside.nodes.items; vertices = length c.self.inside.heads.items; room = c.self.inside.room } in
+    let nodes = c.self.inside.nodes.items in
+    let taken = c.self.inside.taken.items in
+    let z : Held _ = c.fresh.result in
+    let old = c.self.invariant in
+    let room : length v.nodes < v.room = subst (λ (x : Stock _). length x.nodes < x.room) (sym c.self.view_is) c.requires.room in
+    let from : c.len-from.result ≡ length nodes = search rules in
+    let idle : is_taken z.node ≡ false = ap (λ (h : Held _). is_taken h.node) c.fresh.ensures in
+    let queue = heap_items c.admit.new.queue in
+    let all : AreArranged a c.push_node.new.nodes.items c.push_node.new.links.items c.push_node.new.heads queue taken = record {
+      linked = c.push_node.ensures.linked;
+      waiting = subst (λ xs. AreWaiting a xs queue (length xs)) c.as_slice.ensures.value c.admit.ensures.waiting;
+      fresh = subst (λ xs. IsFresh xs queue) c.as_slice.ensures.value c.admit.ensures.fresh;
+      order = c.admit.ensures.order;
+      held = subst (λ xs. AreHeld xs taken) (sym c.push_node.ensures.nodes) (still_held nodes (nodes ++ z ∷ []) taken (push_held nodes z idle) old.0.held);
+    } in
+    let heads : take c.self.inside.heads.len (c.push_node.new.heads ++ drop (length c.push_node.new.heads) c.self.inside.heads.items) ≡ c.push_node.new.heads = written_back c.self.inside.heads.len c.push_node.new.heads (drop (length c.push_node.new.heads) c.self.inside.heads.items) (search rules) in
+    let more : length c.push_node.new.nodes.items ≡ length nodes + 1 = ap length c.push_node.ensures.nodes ∙ length_push nodes z in
+    let seen : length c.as_slice.result.now ≡ length c.push_node.new.nodes.items = ap length c.as_slice.ensures.value in (
+      subst (λ os. AreArranged a c.push_node.new.nodes.items c.push_node.new.links.items os queue taken) (sym heads) all,
+      omega (arith, more, room),
+      omega (arith, more, seen, from, c.admit.ensures.len, old.2),
+      omega (arith, c.push_node.ensures.capacity.0, old.3),
+      omega (arith, c.push_node.ensures.capacity.1, old.4),
+      omega (arith, c.admit.ensures.capacity, old.5),
+      old.6,
+    )

@@ -1,29 +1,11 @@
-use Rattle.std.proofs.Common.{◌≡◌, ◌<◌, length, sym, ap, ◌∙◌, subst}
+use Rattle.std.proofs.Common.{◌≡◌, sym, ap, ◌∙◌, subst}
 use Rattle.std.specs.Prelude.{is_none, ◌&&◌}
 use Rattle.drt_table.specs.Cover.{IsFront}
 use Rattle.drt_table.specs.Machine.{is_finished}
 use Rattle.drt_table.specs.View.{View, IsTable, setting_of, state_of}
-use Rattle.drt_table.proofs.Tables.{nodes_small, facts_of, finished_is, none_result}
+use Rattle.drt_table.proofs.Tables.{facts_of, finished_is, none_result}
 use Rattle.drt_table.proofs.Finished.{run_front}
 use Rattle.drt_table.proofs.table.Table.finished.Goals as goal
-
-pub next-next-requires-after_bounds : goal.next-next-requires-after_bounds
-next-next-requires-after_bounds g c κs within =
-    let a = g.L.Label.algebra in
-    let laws = (g.met.L.Label g.world.𝓛 g.world.𝓜 g.world.𝓡 ((λ s x. x), (λ x. x), (λ x. x), λ x. x)).laws in
-    let v : View _ = record { graph = c.self.inside.graph; bound = c.self.inside.bound; budget = c.self.inside.budget; nodes = c.self.inside.arena.nodes; log = c.self.inside.log.items } in
-    let is : IsTable a v = c.self.invariant.0 in
-    let few : length v.nodes < 4294967296 = nodes_small a laws v is in
-    few
-
-pub holder-holder-requires-after_bounds : goal.holder-holder-requires-after_bounds
-holder-holder-requires-after_bounds g c κs within =
-    let a = g.L.Label.algebra in
-    let laws = (g.met.L.Label g.world.𝓛 g.world.𝓜 g.world.𝓡 ((λ s x. x), (λ x. x), (λ x. x), λ x. x)).laws in
-    let v : View _ = record { graph = c.self.inside.graph; bound = c.self.inside.bound; budget = c.self.inside.budget; nodes = c.self.inside.arena.nodes; log = c.self.inside.log.items } in
-    let is : IsTable a v = c.self.invariant.0 in
-    let few : length v.nodes < 4294967296 = nodes_small a laws v is in
-    few
 
 pub returns-clause-finished : goal.returns-clause-finished
 returns-clause-finished g c =

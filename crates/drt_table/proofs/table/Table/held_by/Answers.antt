@@ -1,19 +1,9 @@
-use Rattle.std.proofs.Common.{◌<◌, length, sym, ap, ◌∙◌}
+use Rattle.std.proofs.Common.{sym, ap, ◌∙◌}
 use Rattle.drt_table.specs.Node.{Held, is_held_by}
 use Rattle.drt_table.specs.Places.{first}
 use Rattle.drt_table.specs.View.{View, IsTable, state_of}
 use Rattle.drt_table.proofs.Lists.{first-map}
-use Rattle.drt_table.proofs.Tables.{nodes_small}
 use Rattle.drt_table.proofs.table.Table.held_by.Goals as goal
-
-pub held_by-requires-after_bounds : goal.held_by-requires-after_bounds
-held_by-requires-after_bounds g c κs within =
-    let a = g.L.Label.algebra in
-    let laws = (g.met.L.Label g.world.𝓛 g.world.𝓜 g.world.𝓡 ((λ s x. x), (λ x. x), (λ x. x), λ x. x)).laws in
-    let v : View _ = record { graph = c.self.inside.graph; bound = c.self.inside.bound; budget = c.self.inside.budget; nodes = c.self.inside.arena.nodes; log = c.self.inside.log.items } in
-    let is : IsTable a v = c.self.invariant.0 in
-    let few : length v.nodes < 4294967296 = nodes_small a laws v is in
-    few
 
 pub returns : goal.returns
 returns g c =

@@ -1,4 +1,4 @@
-use Rattle.std.proofs.Common.{◌≡◌, ℕ, ◌+◌, ◌<◌, Some, length, false, refl, sym, ap, ◌∙◌, subst, arith}
+use Rattle.std.proofs.Common.{◌≡◌, ℕ, ◌+◌, Some, length, false, refl, sym, ap, ◌∙◌, subst, arith}
 use Rattle.std.specs.Prelude.{nat_le, unwrap_or}
 use Rattle.std.proofs.lemmas.Option.{slice_get_within}
 use Rattle.drt_table.specs.Node.{Held, is_pending, is_taken}
@@ -9,26 +9,8 @@ use Rattle.drt_table.specs.View.{View, CanApply, IsStep, IsTable, setting_of, st
 use Rattle.drt_table.specs.declared.step.TableStep.TheVariants.{Take}
 use Rattle.drt_table.specs.declared.step.TableReply.TheVariants.{Taken}
 use Rattle.drt_table.proofs.Earliest.{Earliest, found_earliest}
-use Rattle.drt_table.proofs.Tables.{Found-for-take, nodes_small, take_same, take_taken, taken_room, table_more}
+use Rattle.drt_table.proofs.Tables.{Found-for-take, take_same, take_taken, taken_room, table_more}
 use Rattle.drt_table.proofs.table.Table.take.Goals as goal
-
-pub next-next-requires-after_bounds : goal.next-next-requires-after_bounds
-next-next-requires-after_bounds g c κs within =
-    let a = g.L.Label.algebra in
-    let laws = (g.met.L.Label g.world.𝓛 g.world.𝓜 g.world.𝓡 ((λ s x. x), (λ x. x), (λ x. x), λ x. x)).laws in
-    let v : View _ = record { graph = c.self.inside.graph; bound = c.self.inside.bound; budget = c.self.inside.budget; nodes = c.self.inside.arena.nodes; log = c.self.inside.log.items } in
-    let is : IsTable a v = c.self.invariant.0 in
-    let few : length v.nodes < 4294967296 = nodes_small a laws v is in
-    few
-
-pub holder-holder-requires-after_bounds : goal.holder-holder-requires-after_bounds
-holder-holder-requires-after_bounds g c κs within =
-    let a = g.L.Label.algebra in
-    let laws = (g.met.L.Label g.world.𝓛 g.world.𝓜 g.world.𝓡 ((λ s x. x), (λ x. x), (λ x. x), λ x. x)).laws in
-    let v : View _ = record { graph = c.self.inside.graph; bound = c.self.inside.bound; budget = c.self.inside.budget; nodes = c.self.inside.arena.nodes; log = c.self.inside.log.items } in
-    let is : IsTable a v = c.self.invariant.0 in
-    let few : length v.nodes < 4294967296 = nodes_small a laws v is in
-    few
 
 pub is_soon-soon-requires-clause-next : goal.is_soon-soon-requires-clause-next
 is_soon-soon-requires-clause-next g c κs within k e =

@@ -8,18 +8,9 @@ use Rattle.drt_table.specs.declared.step.TableStep.TheVariants.{Offer, Close}
 use Rattle.drt_table.specs.View.{View, IsTable, setting_of, state_of, CanApply, ComesWith}
 use Rattle.drt_table.specs.Held.{held_offset}
 use Rattle.drt_table.proofs.Earliest.{Earliest, found_earliest, earliest-map}
-use Rattle.drt_table.proofs.Tables.{at_node, nodes_small, log_within, node_vertex, node_holds, node_all}
+use Rattle.drt_table.proofs.Tables.{at_node, log_within, node_vertex, node_holds, node_all}
 use Rattle.drt_table.proofs.Driving.{can_take, after_take, after_offer, after_close}
 use Rattle.drt_table.proofs.table.Table.turn.Goals as goal
-
-pub holder-requires-after_bounds : goal.holder-requires-after_bounds
-holder-requires-after_bounds g c κs within =
-    let a = g.L.Label.algebra in
-    let laws = (g.met.L.Label g.world.𝓛 g.world.𝓜 g.world.𝓡 ((λ s x. x), (λ x. x), (λ x. x), λ x. x)).laws in
-    let v : View _ = record { graph = c.self.inside.graph; bound = c.self.inside.bound; budget = c.self.inside.budget; nodes = c.self.inside.arena.nodes; log = c.self.inside.log.items } in
-    let is : IsTable a v = c.self.invariant.0 in
-    let few : length v.nodes < 4294967296 = nodes_small a laws v is in
-    few
 
 pub take-requires-after_bounds : goal.take-requires-after_bounds
 take-requires-after_bounds g c κs within =

@@ -1,7 +1,0 @@
-use Rattle.std.proofs.Common.{◌≡◌, ℕ, ◌<◌, Some, false}
-use Rattle.std.specs.Prelude.{slice_get}
-use Rattle.drt_table.specs.Node.{Held, is_held_by}
-use Rattle.drt_table.proofs.arena.first_held.Given as goal
-
-abbrev pub invariant-loop-i : goal.invariant-loop-i
-invariant-loop-i g l = (k : ℕ) (h : Held _) → k < l.i → slice_get l.nodes k ≡ Some h → is_held_by l.worker h.node ≡ false
