@@ -6,7 +6,6 @@ use Rattle.drt_model.specs.declared.jobs.Release.{Release}
 use Rattle.drt_model.specs.declared.jobs.Miss.{Miss}
 use Rattle.drt_model.specs.declared.tasks.Task.{Task}
 use Rattle.drt_model.specs.Constrained.{AreConstrained}
-use Rattle.drt_model.specs.Digraph.{Digraph}
 use Rattle.drt_model.specs.Legal.{IsLegal}
 use Rattle.drt_model.specs.Misses.{IsLeastMiss}
 use Rattle.drt_model.specs.Schedulable.{jobs_of}

@@ -58,15 +58,29 @@ pub struct ProofClaim {
 #[derive(Debug, Drop)]
 pub enum Evidence {
     /// The set is schedulable under EDF.
-    EdfYes { ratios: Row<RatioClaim>, fronts: Row<Row<FrontEntry>> },
+    EdfYes {
+        ratios: Row<RatioClaim>,
+        fronts: Row<Row<FrontEntry>>,
+    },
     /// The set isn't schedulable under EDF: the named job of these releases misses.
-    EdfNo { releases: Row<Release>, miss: Miss },
+    EdfNo {
+        releases: Row<Release>,
+        miss: Miss,
+    },
     /// The utilisation of the set is one.
-    UtilisationOne { ratios: Row<RatioClaim> },
+    UtilisationOne {
+        ratios: Row<RatioClaim>,
+    },
     /// The set is schedulable under fixed priorities.
-    FixedYes { trees: Row<TreeClaim>, proofs: Row<ProofClaim> },
+    FixedYes {
+        trees: Row<TreeClaim>,
+        proofs: Row<ProofClaim>,
+    },
     /// The set isn't schedulable under fixed priorities: the named job of these releases misses.
-    FixedNo { releases: Row<Release>, miss: Miss },
+    FixedNo {
+        releases: Row<Release>,
+        miss: Miss,
+    },
     /// A budget was spent before there was an answer.
     Undecided,
 }

@@ -5,9 +5,14 @@
 //! proofs. A dossier has exactly one text. What the checker asks of a dossier stands in `specs/Rules.antt`,
 //! so that analyses may promise it without standing on the checker.
 //!
-//! The layer above uses the types, and the definitions `text` and `Accepts`.
+//! The layer above uses the types, `print`, and the definitions `text` and `Accepts`.
 #![tactic(auto)]
 
 mod evidence;
+mod lines;
+mod printing;
+#[cfg(test)]
+mod tests;
 
 pub use evidence::{Dossier, Evidence, FrontEntry, Item, Pair, ProofClaim, RatioClaim, TreeClaim};
+pub use printing::print;
