@@ -57,7 +57,7 @@ joined_again (w ∷ []) are = last_again w are.0.has_byte (no_blank w are.0.byte
 joined_again (w ∷ x ∷ ws) are = first_again w (join_with_byte 32 (x ∷ ws)) are.0.has_byte (no_blank w are.0.bytes) ∙ ap (λ others. w ∷ others) (joined_again (x ∷ ws) are.1)
 
 -- They have no LF.
-joined_no_feed : (ws : List (List ℕ)) → AllByRecursion IsField ws → AllByRecursion (λ b. b ≢ 10) (join_with_byte 32 ws)
+pub joined_no_feed : (ws : List (List ℕ)) → AllByRecursion IsField ws → AllByRecursion (λ b. b ≢ 10) (join_with_byte 32 ws)
 joined_no_feed [] are = are
 joined_no_feed (w ∷ []) are = no_feed w are.0.bytes
 joined_no_feed (w ∷ x ∷ ws) are =

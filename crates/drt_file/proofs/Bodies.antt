@@ -95,7 +95,7 @@ parts_edge version vs e es p =
       one_edge = (pairs_pop (λ x y. x.from ≡ y.from → x.to ≢ y.to) es e p.one_edge).0;
     }
 
-vertex_text : (name wcet deadline : List ℕ) → is_name name ≡ true → is_number wcet ≡ true → is_number deadline ≡ true
+pub vertex_text : (name wcet deadline : List ℕ) → is_name name ≡ true → is_number wcet ≡ true → is_number deadline ≡ true
     → list_all (list_all is_text) (vertex_word ∷ name ∷ wcet ∷ deadline ∷ []) ≡ true
 unfolding is_text is_blank
 vertex_text name wcet deadline n w d =
@@ -112,7 +112,7 @@ edge_text from to sep f t n =
     let c = number_text sep n in
     rw (a, b, c) refl
 
-priority_text : (number : List ℕ) → is_number number ≡ true → list_all (list_all is_text) (priority_word ∷ number ∷ []) ≡ true
+pub priority_text : (number : List ℕ) → is_number number ≡ true → list_all (list_all is_text) (priority_word ∷ number ∷ []) ≡ true
 unfolding is_text is_blank
 priority_text number n = let a = number_text number n in rw a refl
 

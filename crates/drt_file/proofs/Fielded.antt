@@ -25,22 +25,22 @@ high_of_names (b ∷ name) are = (name_byte_high b are.0, high_of_names name are
 pub name_field : (name : List ℕ) → IsName name → IsField name
 name_field name is = record { has_byte = omega (arith, is.not_empty); bytes = high_of_names name (recursion_from_All IsNameByte name is.bytes) }
 
-drt_field : IsField drt_word
+pub drt_field : IsField drt_word
 drt_field = record { has_byte = omega arith; bytes = search rules }
 
-task_field : IsField task_word
+pub task_field : IsField task_word
 task_field = record { has_byte = omega arith; bytes = search rules }
 
-vertex_field : IsField vertex_word
+pub vertex_field : IsField vertex_word
 vertex_field = record { has_byte = omega arith; bytes = search rules }
 
-edge_field : IsField edge_word
+pub edge_field : IsField edge_word
 edge_field = record { has_byte = omega arith; bytes = search rules }
 
-priority_field : IsField priority_word
+pub priority_field : IsField priority_word
 priority_field = record { has_byte = omega arith; bytes = search rules }
 
-end_field : IsField end_word
+pub end_field : IsField end_word
 end_field = record { has_byte = omega arith; bytes = search rules }
 
 -- At a place where a vertex is, its name is found.

@@ -42,13 +42,16 @@ word_first start was mid now words i d none lt so_far same more =
     ∙ ap (λ ws. join_with_byte 32 (ws ++ (get_or words i d).now ∷ [])) empty in
     more ∙ ap (λ t. t ++ (get_or words i d).now) (same ∙ so_far ∙ ap (λ ws. start ++ join_with_byte 32 ws) empty ∙ append-nil start) ∙ ap (λ r. start ++ r) (sym e)
 
+-- All the words.
+pub words_done : (start now : List ℕ) (words : List (Bor (List ℕ))) (i : ℕ) → length words ≤ i
+    → now ≡ start ++ join_with_byte 32 (texts (take i words)) → now ≡ start ++ join_with_byte 32 (texts words)
+words_done start now words i all so_far = so_far ∙ ap (λ ws. start ++ join_with_byte 32 (texts ws)) (take_all i words all)
+
 -- The words and the LF behind them.
-pub line_done : (start was now : List ℕ) (words : List (Bor (List ℕ))) (i : ℕ) → length words ≤ i
-    → was ≡ start ++ join_with_byte 32 (texts (take i words)) → now ≡ was ++ 10 ∷ [] → now ≡ start ++ written_line (texts words)
+pub line_done : (start was now : List ℕ) (words : List (Bor (List ℕ))) → was ≡ start ++ join_with_byte 32 (texts words) → now ≡ was ++ 10 ∷ []
+    → now ≡ start ++ written_line (texts words)
 unfolding written_line
-line_done start was now words i all so_far more =
-    more ∙ ap (λ t. t ++ 10 ∷ []) (so_far ∙ ap (λ ws. start ++ join_with_byte 32 (texts ws)) (take_all i words all))
-    ∙ append_assoc start (join_with_byte 32 (texts words)) (10 ∷ [])
+line_done start was now words so_far more = more ∙ ap (λ t. t ++ 10 ∷ []) so_far ∙ append_assoc start (join_with_byte 32 (texts words)) (10 ∷ [])
 
 -- One more line, of the item at i.
 pub line_more : {X : Type 0} (f : X → List (List ℕ)) (start was now : List ℕ) (xs : List X) (i : ℕ) (x : X) → i < length xs → x ≡ get_or xs i x

@@ -63,7 +63,7 @@ goes_on : (ws done own : List (List (List ℕ))) (version : ℕ) (words : List (
     → ws ++ words ∷ [] ≡ version_line version ∷ (done ++ (own ++ words ∷ []))
 goes_on ws done own version words e = ap (λ l. l ++ words ∷ []) e ∙ ap (λ l. version_line version ∷ l) (append_assoc done own (words ∷ []))
 
-one_more : {X : Type 0} (xs : List X) (y : X) → length (xs ++ y ∷ []) ≡ length xs + 1
+pub one_more : {X : Type 0} (xs : List X) (y : X) → length (xs ++ y ∷ []) ≡ length xs + 1
 one_more xs y = length-append xs (y ∷ [])
 
 abbrev pub vertex_of : {s : State} {words : List (List ℕ)} → VertexPassed s words → Vertex
@@ -104,14 +104,14 @@ vertex_goes ws s words p is at =
       keys = at.keys;
     }
 
-most_96 : (version : ℕ) → most_vertices version ≤ 96
+pub most_96 : (version : ℕ) → most_vertices version ≤ 96
 most_96 version = go (version == 1)
   where
     go : (b : Bool) → cond b 48 96 ≤ 96
     go true = omega arith
     go false = omega arith
 
-narrow_same : (n m : ℕ) → n < m → m ≤ 96 → narrow n ≡ n
+pub narrow_same : (n m : ℕ) → n < m → m ≤ 96 → narrow n ≡ n
 narrow_same n m lt le = grind (arith, lt, le)
 
 old_edge : (x : Edge) (f t from to : ℕ) → (x.from == f && x.to == t) ≡ false → from ≡ f → to ≡ t → x.from ≡ from → x.to ≡ to → ⊥

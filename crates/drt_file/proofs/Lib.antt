@@ -1,10 +1,16 @@
 pub mod Again
+pub mod Agreed
 pub mod Bodies
+pub mod Completed
 pub mod Cuts
 pub mod Digits
 pub mod Exact
+pub mod Feeds
 pub mod Fielded
 pub mod Follows
+pub mod Fresh
+pub mod Fronts
+pub mod Grown
 pub mod Joins
 pub mod Kept
 pub mod Keys
@@ -14,6 +20,7 @@ pub mod Meanings
 pub mod Names
 pub mod Numbers
 pub mod Opened
+pub mod Ordered
 pub mod Passing
 pub mod Places
 pub mod Printed

@@ -23,7 +23,7 @@ pub record Opens (version count : ℕ) (o : Option ℕ) : Type 0 where
   pub in_order : version ≡ 1 → o ≡ Some (1 + count)
   pub not_yet : version ≡ 2 → o ≡ None
 
-most_32 : (version : ℕ) → most_tasks version ≤ 32
+pub most_32 : (version : ℕ) → most_tasks version ≤ 32
 most_32 version = go (version == 1)
   where
     go : (b : Bool) → cond b 16 32 ≤ 32

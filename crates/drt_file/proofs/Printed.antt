@@ -24,10 +24,10 @@ pub cut_as_made : (set : Contents) → IsTaskSet set.version set.tasks → lines
 unfolding canonical
 cut_as_made set is = written_again (set_lines set) (set_fielded set is)
 
-abbrev Stays : List (List ℕ) → Type 0
+abbrev pub Stays : List (List ℕ) → Type 0
 Stays words = is_skipped words ≡ false
 
-all_stay : (ls : List (List (List ℕ))) → AllByRecursion Stays ls → filter (λ words. not (is_skipped words)) ls ≡ ls
+pub all_stay : (ls : List (List (List ℕ))) → AllByRecursion Stays ls → filter (λ words. not (is_skipped words)) ls ≡ ls
 all_stay [] are = refl
 all_stay (l ∷ ls) are = ap (λ b. cond (not b) (l ∷ filter (λ words. not (is_skipped words)) ls) (filter (λ words. not (is_skipped words)) ls)) are.0 ∙ ap (λ others. l ∷ others) (all_stay ls are.1)
 
@@ -57,7 +57,7 @@ tasks_stay version (t ∷ ts) =
     (refl, all_of_both Stays (priority_lines version t) (body_lines t) (priority_stays version t) (all_of_both Stays (map vertex_line t.vertices) (map (edge_line t.vertices) t.edges) (vertices_stay t.vertices) (edges_stay t.vertices t.edges)))
     (tasks_stay version ts)
 
-set_stays : (set : Contents) → AllByRecursion Stays (set_lines set)
+pub set_stays : (set : Contents) → AllByRecursion Stays (set_lines set)
 unfolding set_lines is_skipped
 set_stays set = (refl, all_of_both Stays (flat_map (task_lines set.version) set.tasks) (end_line ∷ []) (tasks_stay set.version set.tasks) (refl, tt))
 
@@ -113,7 +113,7 @@ task_said version t is =
     let edges : Says ((pl ++ mv) ++ me) t.vertices t.edges p = edges_said t.edges (pl ++ mv) t.vertices [] p (recursion_from_All (IsEdgeAmong (length t.vertices)) t.edges is.edges) vertices in
     (pl ++ (mv ++ me), refl, subst (λ b. Says b t.vertices t.edges p) (append_assoc pl mv me) edges)
 
-tasks_said : (version : ℕ) (us : List Task) (ls : List (List (List ℕ))) (ts : List Task) → AllByRecursion (IsTask version) us → SaysTasks version ls ts
+pub tasks_said : (version : ℕ) (us : List Task) (ls : List (List (List ℕ))) (ts : List Task) → AllByRecursion (IsTask version) us → SaysTasks version ls ts
     → SaysTasks version (ls ++ flat_map (task_lines version) us) (ts ++ us)
 tasks_said version [] ls ts are says = rw (append-nil ls, append-nil ts) says
 tasks_said version (u ∷ us) ls ts are says =

@@ -193,7 +193,7 @@ tasks_lead version known ls ts (next_task ls2 ts2 own t rest (body, own_is, says
     (λ o h. in_done version ts2 t o (subst (λ p. In version ts2 (t.name, p, t.vertices, t.edges) o) (held_written version ts2 t known order) h)) both in
     leads_then (Done version []) (Done version ts2) (Done version (ts2 ++ t ∷ [])) ls2 own first (subst (λ l. Leads (Done version ts2) l (Done version (ts2 ++ t ∷ []))) (sym own_is) whole)
 
-end_text : list_all (list_all is_text) end_line ≡ true
+pub end_text : list_all (list_all is_text) end_line ≡ true
 unfolding is_text is_blank
 end_text = refl
 
@@ -208,7 +208,7 @@ end_one version done n above line at cut =
       record { s = after_end s; is = refl; version_is = at.version_is; at_end = refl; drafts_are = at.drafts_are },
     )
 
-opens_as : (version : ℕ) → IsVersion version → head (version_line version) ≡ Some (opening version)
+pub opens_as : (version : ℕ) → IsVersion version → head (version_line version) ≡ Some (opening version)
 unfolding head
 opens_as version (inl one) =
     let word : version_line version ≡ drt_word ∷ (49 ∷ []) ∷ [] = ap version_line one ∙ ap (λ w. drt_word ∷ w ∷ []) (decimal_digit 1 (omega arith)) in
@@ -226,7 +226,7 @@ head_one version known n above line at cut = (
   record { s = opening version; is = refl; version_is = refl; still = refl; drafts_are = refl },
 )
 
-text_leads : (version : ℕ) → IsVersion version → (ls : List (List (List ℕ))) (ts : List Task) → SaysTasks version ls ts → Few version ts
+pub text_leads : (version : ℕ) → IsVersion version → (ls : List (List (List ℕ))) (ts : List Task) → SaysTasks version ls ts → Few version ts
     → Leads (λ o. o ≡ None) (version_line version ∷ (ls ++ end_line ∷ [])) (Ended version ts)
 text_leads version known ls ts says f =
     let first = leads_one (λ o. o ≡ None) (Done version []) (version_line version) (head_one version known) in
@@ -250,7 +250,7 @@ has_priority_again : (d : Draft) → (n : ℕ) × (d.priority ≡ Some n) → ha
 unfolding has_no_priority
 has_priority_again d (n, at) = ap (λ (o : Option ℕ). elim o [ None ↦ true | Some k ↦ false ]) at
 
-closing_again : (n : ℕ) (ds : List Draft) (ended : Bool) → ended ≡ true → 1 ≤ length ds → AllByRecursion (λ d. 1 ≤ length d.vertices) ds → AllByRecursion (λ d. (k : ℕ) × (d.priority ≡ Some k)) ds
+pub closing_again : (n : ℕ) (ds : List Draft) (ended : Bool) → ended ≡ true → 1 ≤ length ds → AllByRecursion (λ d. 1 ≤ length d.vertices) ds → AllByRecursion (λ d. (k : ℕ) × (d.priority ≡ Some k)) ds
     → closing n ds ended ≡ Ok ds
 unfolding closing unless_at
 closing_again n ds ended at has vertices priorities =

@@ -1,8 +1,10 @@
 pub mod Canonical
+pub mod CanonicalPrefix
 pub mod Cutting
 pub mod Faults
 pub mod Laws
 pub mod Line
 pub mod Reading
 pub mod Steps
+pub mod Strict
 pub mod Words

@@ -2,9 +2,11 @@
 //!
 //! The layers above use `read`, which answers with the set that a text reads as (`Reads`, a relation
 //! on whole texts) or with the line and the code of its first fault (`HasFault`, by the table of
-//! codes in `specs/Faults.antt`), `print`, whose text is `canonical` of the set, and `upgrade`. `laws`
-//! says how these fit: what is printed is read back, and a text reads as one set at most. How a text
-//! is cut into lines and fields is in `cutting`, what single fields say in `words`.
+//! codes in `specs/Faults.antt`), `print`, whose text is `canonical` of the set, `upgrade`, and
+//! `read_canonical`, which takes the canonical text at the front of a file, or says the first line with
+//! which no canonical text goes on (`specs/CanonicalPrefix.antt`). `laws` says how these fit: what is
+//! printed is read back, and a text reads as one set at most. How a text is cut into lines and fields
+//! is in `cutting`, what single fields say in `words`.
 #![tactic(auto)]
 
 pub mod codes;
@@ -12,17 +14,24 @@ pub mod cutting;
 mod effects;
 pub mod fault;
 mod faults;
+mod finishing;
+pub mod front;
+#[cfg(test)]
+mod front_tests;
 pub mod laws;
 mod line;
 pub mod printing;
 pub mod reading;
 pub mod state;
+mod steps;
+mod strict;
 #[cfg(test)]
 mod tests;
 pub mod versions;
 pub mod words;
 
 pub use fault::{FileError, FileFault};
+pub use front::{Canonical, CanonicalError, read_canonical};
 pub use printing::print;
 pub use reading::read;
 pub use versions::upgrade;

@@ -1,6 +1,6 @@
 //! Printing a task set as its canonical text.
 ghost use Rattle.std.specs.Prelude.{◌≡◌, ◌++◌, map, IfOk, OnOk};
-ghost use Rattle.std.specs.List.{flat_map};
+ghost use Rattle.std.specs.List.{flat_map, join_with_byte};
 ghost use Rattle.drt_file.specs.Canonical.{
   canonical,
   written,
@@ -133,9 +133,9 @@ fn name_of(vertices: &[Vertex], place: u32) -> &[u8]
     }
 }
 
-// Adds a line of fields: parted by one space, with a LF behind the last.
-fn push_line(text: &mut Vec<u8>, words: &[&[u8]]) -> Result<(), Memory>
-    ensures { OnOk result (text.new.items ≡ text.old.items ++ written_line (map (λ w. w.now) words.now)) }
+/// Adds fields, parted by one space.
+pub fn push_words(text: &mut Vec<u8>, words: &[&[u8]]) -> Result<(), Memory>
+    ensures { OnOk result (text.new.items ≡ text.old.items ++ join_with_byte 32 (map (λ w. w.now) words.now)) }
 {
     for (i, word) in words.iter().enumerate() {
         if i > 0 {
@@ -143,6 +143,14 @@ fn push_line(text: &mut Vec<u8>, words: &[&[u8]]) -> Result<(), Memory>
         }
         text.extend_from_slice(word)?;
     }
+    Ok(())
+}
+
+// Adds a line of fields: parted by one space, with a LF behind the last.
+fn push_line(text: &mut Vec<u8>, words: &[&[u8]]) -> Result<(), Memory>
+    ensures { OnOk result (text.new.items ≡ text.old.items ++ written_line (map (λ w. w.now) words.now)) }
+{
+    push_words(text, words)?;
     text.push(b'\n')?;
     Ok(())
 }

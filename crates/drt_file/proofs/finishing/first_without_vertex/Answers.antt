@@ -1,7 +1,7 @@
 use Rattle.std.proofs.Common.{sym, ◌∙◌}
 use Rattle.drt_file.proofs.Lines.{found_here, goes_past, none_left}
 use Rattle.drt_file.specs.Steps.{has_no_vertex}
-use Rattle.drt_file.proofs.reading.first_without_vertex.Goals as goal
+use Rattle.drt_file.proofs.finishing.first_without_vertex.Goals as goal
 
 pub returns-then-no_vertex : goal.returns-then-no_vertex
 returns-then-no_vertex c = sym (found_here has_no_vertex c.args.drafts.now c.loop-d.d-index c.d-item.result c.loop-d-test.true c.d-item.is c.if-no_vertex.ensures) ∙ c.loop-d.invariant

@@ -1,6 +1,6 @@
 use Rattle.std.proofs.Common.{◌≡◌, map}
 use Rattle.drt_file.specs.Steps.{task_of}
-use Rattle.drt_file.proofs.reading.tasks_of.Given as goal
+use Rattle.drt_file.proofs.finishing.tasks_of.Given as goal
 
 abbrev pub invariant-loop-d : goal.invariant-loop-d
 invariant-loop-d l = l.tasks.items ≡ map task_of l.yielded

@@ -1,0 +1,62 @@
+//! One line of a task file, below what the lines above leave.
+ghost use Rattle.std.specs.Prelude.{◌≡◌, map};
+ghost use Rattle.drt_file.specs.Faults.{line_fault};
+ghost use Rattle.drt_file.specs.Line.{kind, first_word};
+ghost use Rattle.drt_file.specs.Steps.{Gives, after_kind, judged, headed, head, line_step};
+
+use crate::codes::NO_HEAD;
+use crate::effects::{after, head};
+use crate::fault::{FileError, FileFault};
+use crate::faults::fault_of_line;
+use crate::line::kind_of;
+use crate::state::State;
+use std::alloc::Global;
+
+#[tactic(auto, unfolding(crate::specs::Steps::judged))]
+fn below(
+    alloc: Global,
+    n: u32,
+    s: State,
+    line: &[u8],
+    words: &[&[u8]],
+) -> Result<Option<State>, FileError>
+    ensures { Gives result (judged n (line_fault s line.now (map (λ w. w.now) words.now)) (after_kind (kind s.version (first_word (map (λ w. w.now) words.now))) n s (map (λ w. w.now) words.now))) }
+{
+    match fault_of_line(&s, line, words) {
+        Some(code) => Err(FileError::Fault(FileFault { line: n, code })),
+        None => {
+            let kind = kind_of(s.version, words);
+            Ok(Some(after(alloc, kind, n, s, words)?))
+        }
+    }
+}
+
+#[tactic(auto, unfolding(crate::specs::Steps::headed))]
+fn first(alloc: Global, n: u32, words: &[&[u8]]) -> Result<Option<State>, FileError>
+    ensures { Gives result (headed n (head (map (λ w. w.now) words.now))) }
+{
+    match head(alloc, words) {
+        Some(s) => Ok(Some(s)),
+        None => Err(FileError::Fault(FileFault {
+            line: n,
+            code: NO_HEAD,
+        })),
+    }
+}
+
+/// What a line that isn't skipped leaves, or its fault.
+#[tactic(auto, unfolding(crate::specs::Steps::line_step))]
+pub fn line_step(
+    alloc: Global,
+    n: u32,
+    above: Option<State>,
+    line: &[u8],
+    words: &[&[u8]],
+) -> Result<Option<State>, FileError>
+    ensures { Gives result (line_step n above line.now (map (λ w. w.now) words.now)) }
+{
+    match above {
+        None => first(alloc, n, words),
+        Some(s) => below(alloc, n, s, line, words),
+    }
+}
