@@ -147,7 +147,8 @@ loop_distinct u i m vs l same differ p q before within e =
         differ i (suc (i + p)) (omega arith) (omega arith) (same ∙ sym (ap (λ k. get_or (u ∷ vs) k 0) at) ∙ sym f)
 
 -- The cycle that the first repeat of the walk shows.
-pub gain_found : (g : Digraph) (a b : ℕ) (levels : List Level) (n v i j : ℕ) (walk : List ℕ) → IsSound g → IsTower g a b levels → length levels ≡ n + 1 → n ≡ vertex_count g → 0 < n → v < vertex_count g → (height (level_of levels n) v ≡ height (level_of levels (n - 1)) v → ⊥) → IsTrace g a b n v (height (level_of levels n) v) walk → IsRepeat walk i j → IsGain g a b (take (j + 1 - (i + 1)) (drop (i + 1) walk))
+pub gain_found : (g : Digraph) (a b : ℕ) (levels : List Level) (n v i j : ℕ) (walk : List ℕ) → IsSound g → IsTower g a b levels → length levels ≡ n + 1 → n ≡ vertex_count g → 0 < n → v < vertex_count g →
+    (height (level_of levels n) v ≡ height (level_of levels (n - 1)) v → ⊥) → IsTrace g a b n v (height (level_of levels n) v) walk → IsRepeat walk i j → IsGain g a b (take (j + 1 - (i + 1)) (drop (i + 1) walk))
 gain_found g a b levels n v i j [] sound tower count size some l differ trace again = absurd trace
 gain_found g a b levels n v i j (u ∷ vs) sound tower count size some l differ (path, end, short, sum) again =
     let m : j + 1 - (i + 1) ≡ j - i = omega (arith, again.order) in

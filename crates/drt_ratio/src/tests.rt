@@ -1,5 +1,9 @@
-ghost use Rattle.std.specs.Prelude.{◌≤◌};
+//! The ratios of small graphs.
+ghost use Rattle.std.specs.Prelude.{◌<◌, ◌≤◌};
 
+mod enumeration;
+
+use self::enumeration::greatest_of_simple;
 use super::{RatioProof, check_ratio, greatest, rate, scale, utilisation};
 use drt_graph::{Graph, Graphs, check};
 use drt_model::{Edge, Memory, Name, Row, Task, Vertex, task_set};
@@ -175,5 +179,76 @@ fn utilisations_by_hand(rt: HostRuntime) -> Result<(), Fail> {
     ];
     assert_eq!(rt; scale(&fine), None);
     assert!(rt; utilisation(&fine).is_none());
+    Ok(())
+}
+
+#[derive(Drop)]
+struct Draws {
+    state: u64,
+}
+
+impl Draws {
+    // A number below another, by a linear congruential generator.
+    fn below(&mut self, end: u32) -> u32
+        requires { 0 < end }
+        ensures { result < end }
+    {
+        self.state = self
+            .state
+            .wrapping_mul(6364136223846793005)
+            .wrapping_add(1442695040888963407);
+        ((self.state >> 33) % end as u64) as u32
+    }
+}
+
+// Execution times of 1 to 9 ticks.
+fn drawn_wcets(alloc: Global, draws: &mut Draws, count: u32) -> Result<Vec<u32>, Memory> {
+    let mut wcets = Vec::new(alloc);
+    for _vertex in 0..count {
+        wcets.push(draws.below(9) + 1)?;
+    }
+    Ok(wcets)
+}
+
+// About one in three of the possible edges, with separations of 1 to 9 ticks.
+fn drawn_edges(alloc: Global, draws: &mut Draws, count: u32) -> Result<Vec<Edge>, Memory>
+    requires { count ≤ 5 }
+{
+    let mut edges = Vec::new(alloc);
+    for pair in 0..count * count {
+        if draws.below(3) == 0 {
+            edges.push(edge(pair / count, pair % count, draws.below(9) + 1))?;
+        }
+    }
+    Ok(edges)
+}
+
+#[test]
+fn ratios_of_drawn_graphs_are_those_of_their_simple_cycles(rt: HostRuntime) -> Result<(), Fail> {
+    let alloc = rt.alloc();
+    let mut draws = Draws { state: 1 };
+    let mut without_cycles: u32 = 0;
+    for number in 0..200u32 {
+        let count = draws.below(4) + 2;
+        let wcets = drawn_wcets(alloc, &mut draws, count)?;
+        let edges = drawn_edges(alloc, &mut draws, count)?;
+        let graphs = graphs(alloc, wcets.as_slice(), edges.as_slice())?;
+        assert_eq!(rt; graphs.count(), 1);
+        let graph = graphs.graph(0);
+        assert!(rt; graph.vertex_count() <= 5);
+        let simple = greatest_of_simple(alloc, graph)?;
+        let proof = greatest(alloc, graph)?;
+        assert_eq!(rt;
+            (proof.ratio.num(), proof.ratio.den()),
+            (simple.num(), simple.den()),
+            "graph {number}"
+        );
+        if simple.num() == 0 {
+            without_cycles += 1;
+        }
+    }
+    // Some graphs have cycles and some have none.
+    assert!(rt; without_cycles > 0);
+    assert!(rt; without_cycles < 100);
     Ok(())
 }
