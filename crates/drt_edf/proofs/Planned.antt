@@ -63,15 +63,18 @@ planned_fine tasks proofs given plan = (rates tasks proofs given plan.0 plan.1, 
 
 -- A plan whose horizon is too far.
 pub planned_far : (tasks : List Task) (proofs : List RatioProof) → AreGiven (graphs_of tasks) proofs → IsPlan (graphs_of tasks) proofs (Err TooFar) → IsTooFar tasks
-planned_far tasks proofs given plan =
-    (horizon plan.0 (graphs_of tasks) (fractions_of proofs) (potentials_of proofs), record {
-      rates = rates tasks proofs given plan.0 plan.1;
-      fine = plan.2.0;
-      below = plan.2.1;
-      potentials = potentials_of proofs;
-      canonical = potentials_are (graphs_of tasks) proofs given;
-      is_bound = refl;
-    }, plan.2.2)
+planned_far tasks proofs given plan = (
+  horizon plan.0 (graphs_of tasks) (fractions_of proofs) (potentials_of proofs),
+  record {
+    rates = rates tasks proofs given plan.0 plan.1;
+    fine = plan.2.0;
+    below = plan.2.1;
+    potentials = potentials_of proofs;
+    canonical = potentials_are (graphs_of tasks) proofs given;
+    is_bound = refl;
+  },
+  plan.2.2,
+)
 
 -- A plan with a horizon: the utilisation of the tasks is below one, with this horizon.
 pub planned_below : (tasks : List Task) (proofs : List RatioProof) → AreGiven (graphs_of tasks) proofs → (bound : ℕ) → IsPlan (graphs_of tasks) proofs (Ok (Under bound)) → IsBelowOne tasks bound
@@ -86,9 +89,10 @@ planned_below tasks proofs given bound plan = record {
 
 -- And it is the horizon of the claims, whose utilisation is below one.
 pub claims_below : (proofs : List RatioProof) (graphs : List Digraph) (bound : ℕ) → IsPlan graphs proofs (Ok (Under bound)) → ClaimsBelowOne (claims_of proofs) × IsHorizon graphs (claims_of proofs) bound
-claims_below proofs graphs bound plan =
-    ((plan.0, claims_scale proofs plan.0 plan.1, rw fractions_same plan.2.1),
-    (plan.0, claims_scale proofs plan.0 plan.1, rw (fractions_same, potentials_same) plan.2.3))
+claims_below proofs graphs bound plan = (
+  (plan.0, claims_scale proofs plan.0 plan.1, rw fractions_same plan.2.1),
+  (plan.0, claims_scale proofs plan.0 plan.1, rw (fractions_same, potentials_same) plan.2.3),
+)
 
 -- A plan whose numbers are out of reach.
 pub planned_beyond : (tasks : List Task) (proofs : List RatioProof) (beyond : Beyond) → AreGiven (graphs_of tasks) proofs → IsPlan (graphs_of tasks) proofs (Err beyond) → IsBeyond tasks beyond

@@ -47,10 +47,7 @@ fn entries_of(alloc: Global, labels: &[DemandLabel]) -> Result<Row<FrontEntry>, 
 }
 
 // The entries of all fronts, in order.
-fn all_entries(
-    alloc: Global,
-    fronts: &[Row<DemandLabel>],
-) -> Result<Row<Row<FrontEntry>>, Memory>
+fn all_entries(alloc: Global, fronts: &[Row<DemandLabel>]) -> Result<Row<Row<FrontEntry>>, Memory>
     ensures entries { IfOk result (λ entries. entries ≡ map entries_of fronts.now) }
     ensures counted { IfOk result (λ entries. All IsCounted entries) }
 {

@@ -1,5 +1,5 @@
 -- Where nothing fails, a file has the status that it must have.
-use Rattle.std.proofs.Common.{◌≡◌, ◌<◌, ◌⊎◌, ℕ, List, length, Option, Some, None, IfSome, inl, inr, refl, ap, ◌∙◌, subst, lit<, arith}
+use Rattle.std.proofs.Common.{◌≡◌, ◌<◌, ◌⊎◌, ℕ, zero, suc, List, length, Option, Some, None, IfSome, inl, inr, refl, ap, ◌∙◌, subst, lit<, arith}
 use Rattle.std.proofs.lemmas.Bool.{cases_lt}
 use Rattle.drt_model.specs.Contents.{Contents}
 use Rattle.drt_model.specs.declared.jobs.Policy.TheVariants.{Fixed}
@@ -7,10 +7,12 @@ use Rattle.drt_model.specs.Schedulable.{Schedulable}
 use Rattle.drt_file.specs.Laws.{TextsReadAsOneSet}
 use Rattle.drt_top.specs.declared.outcome.Fault.{Fault}
 use Rattle.drt_top.specs.declared.outcome.Fault.TheVariants.{Nothing}
+use Rattle.drt_top.specs.declared.outcome.Trail.{Trail}
+use Rattle.drt_top.specs.declared.outcome.Trail.TheVariants as trails
 use Rattle.drt_top.specs.declared.stop.Stop.{Stop}
 use Rattle.drt_top.specs.declared.stop.Stop.TheVariants as stops
 use Rattle.drt_top.specs.declared.words.Meaning.{Meaning}
-use Rattle.drt_top.specs.declared.words.Meaning.TheVariants.{Sp, Upgrade, Util}
+use Rattle.drt_top.specs.declared.words.Meaning.TheVariants.{Edf, Sp, Upgrade, Util}
 use Rattle.drt_top.specs.Files.{IsAccepted}
 use Rattle.drt_top.specs.Run.{IsAnswer, Makes, Refuses, Ends, IsComplete, IsRunCause, IsStatus, Says}
 use Rattle.drt_top.specs.Stops.{outcome_of}
@@ -18,33 +20,44 @@ use Rattle.drt_top.proofs.Faults.{accepted_one, accepted_well, refused_one}
 use Rattle.drt_top.specs.Util.{IsTooFine}
 use Rattle.drt_top.proofs.Told.{told_more}
 use Rattle.drt_top.proofs.UtilLemmas.{text_is_not_too_fine}
+use Rattle.drt_edf.specs.Answers.{IsBeyond}
+use Rattle.drt_top.specs.Edf.{IsEdfAnswer}
+use Rattle.drt_top.proofs.EdfLemmas as edf
 
 answer_ends : (set : Contents) (status : ℕ) (text : List ℕ) → IsAnswer set status text → (status ≡ 8) ⊎ (((status ≡ 0) × Schedulable set.tasks Fixed) ⊎ ((status ≡ 1) × ¬ Schedulable set.tasks Fixed))
 answer_ends set status text (inl y) = inr (inl (y.0, y.1.schedulable))
 answer_ends set status text (inr n) = inr (inr (n.0, n.1.not_schedulable))
 
-made_ends : TextsReadAsOneSet → (meaning : Meaning) (bytes : List ℕ) (status : ℕ) (text : List ℕ) → Makes meaning bytes status text
+made_ends : TextsReadAsOneSet → (meaning : Meaning) (bytes : List ℕ) (status : ℕ) (text : List ℕ) (trail : Trail) → Makes meaning bytes status text trail
     → (set : Contents) → IsAccepted bytes set → Ends meaning set status
-made_ends law (Sp w b) bytes status text m set a = λ one.
-    answer_ends set status text (subst (λ s. IsAnswer s status text) (accepted_one law bytes m.set set m.accepted a) m.answer)
-made_ends law Upgrade bytes status text m set a = inr m.done
-made_ends law Util bytes status text m set a = inr (inl m.done)
+made_ends law (Edf w b) bytes status text trail m set a =
+    edf.answer_ends set a.reads.limits b status text trail (subst (λ s. IsEdfAnswer s b status text trail) (accepted_one law bytes m.set set m.accepted a) m.answer)
+made_ends law (Sp w b) bytes status text trail m set a = λ one.
+    answer_ends set status text (subst (λ s. IsAnswer s status text) (accepted_one law bytes m.0.set set m.0.accepted a) m.0.answer)
+made_ends law Upgrade bytes status text trail m set a = inr m.0.done
+made_ends law Util bytes status text trail m set a = inr (inl m.0.done)
 
-made_well : TextsReadAsOneSet → (meaning : Meaning) (bytes : List ℕ) (status : ℕ) (text : List ℕ) (f : Fault) → Makes meaning bytes status text → Refuses meaning bytes f → ⊥
-made_well law (Sp w b) bytes status text f m (inl h) = accepted_well law bytes m.set f m.accepted h
-made_well law (Sp w b) bytes status text f m (inr h) = h.other (ap (λ (s : Contents). length s.tasks) (accepted_one law bytes h.set m.set h.accepted m.accepted) ∙ m.one_task)
-made_well law Upgrade bytes status text f m h = accepted_well law bytes m.set f m.accepted h
-made_well law Util bytes status text f m (inl h) = accepted_well law bytes m.set f m.accepted h
-made_well law Util bytes status text f m (inr h) =
-    text_is_not_too_fine m.set text m.accepted.reads.limits m.text_is (subst IsTooFine (accepted_one law bytes h.set m.set h.accepted m.accepted) h.fine)
+made_well : TextsReadAsOneSet → (meaning : Meaning) (bytes : List ℕ) (status : ℕ) (text : List ℕ) (trail : Trail) (f : Fault) → Makes meaning bytes status text trail → Refuses meaning bytes f → ⊥
+made_well law (Edf w b) bytes status text trail f m (inl h) = accepted_well law bytes m.set f m.accepted h
+made_well law (Edf w b) bytes status text trail f m (inr h) =
+    edf.answer_near m.set m.accepted.reads.limits b status text trail h.beyond m.answer (subst (λ (s : Contents). IsBeyond s.tasks h.beyond) (accepted_one law bytes h.set m.set h.accepted m.accepted) h.cause)
+made_well law (Sp w b) bytes status text trail f m (inl h) = accepted_well law bytes m.0.set f m.0.accepted h
+made_well law (Sp w b) bytes status text trail f m (inr h) = h.other (ap (λ (s : Contents). length s.tasks) (accepted_one law bytes h.set m.0.set h.accepted m.0.accepted) ∙ m.0.one_task)
+made_well law Upgrade bytes status text trail f m h = accepted_well law bytes m.0.set f m.0.accepted h
+made_well law Util bytes status text trail f m (inl h) = accepted_well law bytes m.0.set f m.0.accepted h
+made_well law Util bytes status text trail f m (inr h) =
+    text_is_not_too_fine m.0.set text m.0.accepted.reads.limits m.0.text_is (subst IsTooFine (accepted_one law bytes h.set m.0.set h.accepted m.0.accepted) h.fine)
 
-complete_made : TextsReadAsOneSet → (meaning : Meaning) (bytes : List ℕ) (status : ℕ) (text : List ℕ) → Makes meaning bytes status text → IsComplete meaning bytes status Nothing
-complete_made law meaning bytes status text m = record {
-  answered = made_ends law meaning bytes status text m;
-  refused = λ f h. absurd (made_well law meaning bytes status text f m h);
+complete_made : TextsReadAsOneSet → (meaning : Meaning) (bytes : List ℕ) (status : ℕ) (text : List ℕ) (trail : Trail) → Makes meaning bytes status text trail → IsComplete meaning bytes status Nothing
+complete_made law meaning bytes status text trail m = record {
+  answered = made_ends law meaning bytes status text trail m;
+  refused = λ f h. absurd (made_well law meaning bytes status text trail f m h);
 }
 
 refused_ends : TextsReadAsOneSet → (meaning : Meaning) (bytes : List ℕ) (f : Fault) → Refuses meaning bytes f → (set : Contents) → IsAccepted bytes set → Ends meaning set 4
+refused_ends law (Edf w b) bytes f (inl h) set a = absurd (accepted_well law bytes set f a h)
+refused_ends law (Edf w b) bytes f (inr h) set a =
+    edf.beyond_ends set a.reads.limits b h.beyond (subst (λ (s : Contents). IsBeyond s.tasks h.beyond) (accepted_one law bytes h.set set h.accepted a) h.cause)
 refused_ends law (Sp w b) bytes f (inl h) set a = λ one. absurd (accepted_well law bytes set f a h)
 refused_ends law (Sp w b) bytes f (inr h) set a = λ one. absurd (h.other (ap (λ (s : Contents). length s.tasks) (accepted_one law bytes h.set set h.accepted a) ∙ one))
 refused_ends law Upgrade bytes f h set a = absurd (accepted_well law bytes set f a h)
@@ -58,6 +71,7 @@ complete_refused law meaning bytes f h = record {
 }
 
 memory_ends : (meaning : Meaning) (set : Contents) → Ends meaning set 8
+memory_ends (Edf w b) set = edf.memory_ends set b
 memory_ends (Sp w b) set = λ one. inl refl
 memory_ends Upgrade set = inl refl
 memory_ends Util set = inl refl
@@ -65,10 +79,10 @@ memory_ends Util set = inl refl
 complete_memory : (meaning : Meaning) (bytes : List ℕ) → IsComplete meaning bytes 8 Nothing
 complete_memory meaning bytes = record { answered = λ set a. memory_ends meaning set; refused = λ f h. inl refl }
 
-pub says_so : TextsReadAsOneSet → (meaning : Meaning) (left old new : Option (List ℕ)) (status : ℕ)
-    → IfSome left (λ b. Says meaning status b old new) → IfSome left (λ b. IsComplete meaning b status Nothing)
-says_so law meaning left old new status h =
-    told_more left (λ b. Says meaning status b old new) (λ b. IsComplete meaning b status Nothing) h (λ b s. complete_made law meaning b status s.text s.makes)
+pub says_so : TextsReadAsOneSet → (meaning : Meaning) (left old new : Option (List ℕ)) (status : ℕ) (trail : Trail)
+    → IfSome left (λ b. Says meaning status trail b old new) → IfSome left (λ b. IsComplete meaning b status Nothing)
+says_so law meaning left old new status trail h =
+    told_more left (λ b. Says meaning status trail b old new) (λ b. IsComplete meaning b status Nothing) h (λ b s. complete_made law meaning b status s.text trail s.makes)
 
 any_memory : (meaning : Meaning) (left : Option (List ℕ)) → IfSome left (λ b. IsComplete meaning b 8 Nothing)
 any_memory meaning None = tt
@@ -84,24 +98,33 @@ stops_so law meaning left (stops.File f) R W h no_read no_write =
     told_more left (λ b. Refuses meaning b f) (λ b. IsComplete meaning b 4 f) h (λ b k. complete_refused law meaning b f k)
 
 pub stop_known : (stop : Stop) → IsStatus (outcome_of stop).status
-stop_known stops.Words = (3, lit< tt, refl)
-stop_known stops.Read = (4, lit< tt, refl)
-stop_known stops.Write = (5, lit< tt, refl)
-stop_known stops.Memory = (6, lit< tt, refl)
-stop_known (stops.File f) = (2, lit< tt, refl)
+stop_known stops.Words = (5, lit< tt, refl)
+stop_known stops.Read = (6, lit< tt, refl)
+stop_known stops.Write = (7, lit< tt, refl)
+stop_known stops.Memory = (8, lit< tt, refl)
+stop_known (stops.File f) = (4, lit< tt, refl)
 
--- what a command makes has the status 0 or 1
-pub made_low : (meaning : Meaning) (bytes : List ℕ) (status : ℕ) (text : List ℕ) → Makes meaning bytes status text → status < 2
-made_low (Sp w b) bytes status text m = answer_low m.answer
+-- what a command makes has a status below 4
+pub made_low : (meaning : Meaning) (bytes : List ℕ) (status : ℕ) (text : List ℕ) (trail : Trail) → Makes meaning bytes status text trail → status < 4
+made_low (Edf w b) bytes status text trail m = edf.answer_low m.set b status text trail m.answer
+made_low (Sp w b) bytes status text trail m = low m.0.answer
   where
-    answer_low : IsAnswer m.set status text → status < 2
-    answer_low (inl y) = omega (arith, y.0)
-    answer_low (inr n) = omega (arith, n.0)
-made_low Upgrade bytes status text m = omega (arith, m.done)
-made_low Util bytes status text m = omega (arith, m.done)
+    low : IsAnswer m.0.set status text → status < 4
+    low (inl y) = omega (arith, y.0)
+    low (inr n) = omega (arith, n.0)
+made_low Upgrade bytes status text trail m = omega (arith, m.0.done)
+made_low Util bytes status text trail m = omega (arith, m.0.done)
 
-pub low_known : (status : ℕ) → status < 2 → IsStatus status
-low_known status h = elim (cases_lt status 1) [
-  | inl z ↦ (0, lit< tt, (omega arith))
-  | inr o ↦ (1, lit< tt, (omega arith))
-]
+-- only a spent budget has a trail
+pub made_quiet : (meaning : Meaning) (bytes : List ℕ) (status : ℕ) (text : List ℕ) (trail : Trail) → Makes meaning bytes status text trail → (status ≡ 3 → ⊥) → trail ≡ trails.Nothing
+made_quiet (Edf w b) bytes status text trail m = edf.answer_quiet m.set b status text trail m.answer
+made_quiet (Sp w b) bytes status text trail m = λ other. m.1
+made_quiet Upgrade bytes status text trail m = λ other. m.1
+made_quiet Util bytes status text trail m = λ other. m.1
+
+pub low_known : (status : ℕ) → status < 4 → IsStatus status
+low_known zero h = (0, lit< tt, refl)
+low_known (suc zero) h = (1, lit< tt, refl)
+low_known (suc (suc zero)) h = (2, lit< tt, refl)
+low_known (suc (suc (suc zero))) h = (3, lit< tt, refl)
+low_known (suc (suc (suc (suc n)))) h = absurd (omega arith)

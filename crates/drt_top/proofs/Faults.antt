@@ -15,9 +15,12 @@ use Rattle.drt_graph.specs.Past.{IsFirstPast, IsFirstPastEdge}
 use Rattle.drt_top.specs.declared.outcome.Fault.{Fault}
 use Rattle.drt_top.specs.declared.outcome.Fault.TheVariants.{Nothing, File, Edge, Limit}
 use Rattle.drt_top.specs.declared.words.Meaning.{Meaning}
-use Rattle.drt_top.specs.declared.words.Meaning.TheVariants.{Sp, Upgrade, Util}
+use Rattle.drt_top.specs.declared.words.Meaning.TheVariants.{Edf, Sp, Upgrade, Util}
 use Rattle.drt_top.specs.Files.{IsAccepted, IsFileFault}
+use Rattle.drt_top.specs.Edf.{IsOutOfReach, beyond_code}
 use Rattle.drt_top.specs.Run.{Refuses}
+use Rattle.drt_edf.specs.Answers.{IsBeyond}
+use Rattle.drt_top.proofs.EdfLemmas.{beyond_one}
 
 pub accepted_one : TextsReadAsOneSet → (bytes : List ℕ) (a b : Contents) → IsAccepted bytes a → IsAccepted bytes b → a ≡ b
 accepted_one law bytes a b h k = law bytes a b h.reads k.reads
@@ -126,8 +129,19 @@ fault_one law bytes (Edge t e) (File l c) h (inr text) = absurd (text.1.reads_as
 fault_one law bytes (Edge t e) (Edge u f) h k =
     same_edge k.set.tasks t u e f (subst (λ (s : Contents). IsFirstPast s.tasks t e) (law bytes h.set k.set h.reads k.reads) h.first) k.first
 
+reach_one : TextsReadAsOneSet → (bytes : List ℕ) (f g : Fault) → IsOutOfReach bytes f → IsOutOfReach bytes g → f ≡ g
+reach_one law bytes f g h k =
+    let e = accepted_one law bytes h.set k.set h.accepted k.accepted in
+    let c = subst (λ (s : Contents). IsBeyond s.tasks h.beyond) e h.cause in
+    let b = beyond_one k.set.version k.set.tasks k.accepted.reads.limits h.beyond k.beyond c k.cause in
+    h.is ∙ ap (λ x. Limit (beyond_code x)) b ∙ sym k.is
+
 -- a command that refuses a file refuses it with one fault
 pub refused_one : TextsReadAsOneSet → (meaning : Meaning) (bytes : List ℕ) (f g : Fault) → Refuses meaning bytes f → Refuses meaning bytes g → f ≡ g
+refused_one law (Edf w b) bytes f g (inl h) (inl k) = fault_one law bytes f g h k
+refused_one law (Edf w b) bytes f g (inl h) (inr k) = absurd (accepted_well law bytes k.set f k.accepted h)
+refused_one law (Edf w b) bytes f g (inr h) (inl k) = absurd (accepted_well law bytes h.set g h.accepted k)
+refused_one law (Edf w b) bytes f g (inr h) (inr k) = reach_one law bytes f g h k
 refused_one law (Sp w b) bytes f g (inl h) (inl k) = fault_one law bytes f g h k
 refused_one law (Sp w b) bytes f g (inl h) (inr k) = absurd (accepted_well law bytes k.set f k.accepted h)
 refused_one law (Sp w b) bytes f g (inr h) (inl k) = absurd (accepted_well law bytes h.set g h.accepted k)

@@ -1,10 +1,9 @@
 -- Lines of fields, written one after the other.
 use Rattle.std.proofs.Common.{◌≡◌, ℕ, ◌+◌, ◌<◌, ◌≤◌, List, [], ◌∷◌, ◌++◌, length, map, take, get_or, refl, sym, ap, ◌∙◌, append_assoc, arith, Bor}
-use Rattle.std.specs.List.{flat_map, join_with_byte}
+use Rattle.std.specs.List.{join_with_byte}
 use Rattle.std.proofs.lemmas.List.{append-nil, take_more, take_all, map_push}
 use Rattle.std.proofs.lemmas.Grind.{common_steps}
-use Rattle.std.proofs.lemmas.List.Concat.{flat_map-append}
-use Rattle.drt_file.specs.Canonical.{written, written_line}
+use Rattle.drt_file.specs.Canonical.{written_line}
 
 -- One more field behind others.
 pub join_push : (ws : List (List ℕ)) (w : List ℕ) → 0 < length ws → join_with_byte 32 (ws ++ w ∷ []) ≡ join_with_byte 32 ws ++ 32 ∷ w
@@ -49,25 +48,3 @@ unfolding written_line
 line_done start was now words i all so_far more =
     more ∙ ap (λ t. t ++ 10 ∷ []) (so_far ∙ ap (λ ws. start ++ join_with_byte 32 (texts ws)) (take_all i words all))
     ∙ append_assoc start (join_with_byte 32 (texts words)) (10 ∷ [])
-
--- One more line, of the item at i.
-pub line_more : {X : Type 0} (f : X → List (List ℕ)) (start was now : List ℕ) (xs : List X) (i : ℕ) (x : X) → i < length xs → x ≡ get_or xs i x
-    → was ≡ start ++ written (map f (take i xs)) → now ≡ was ++ written_line (f x) → now ≡ start ++ written (map f (take (i + 1) xs))
-line_more f start was now xs i x lt at so_far more =
-    let front = map f (take i xs) in
-    let taken : take (i + 1) xs ≡ take i xs ++ x ∷ [] = take_more xs i x lt ∙ ap (λ y. take i xs ++ y ∷ []) (sym at) in
-    let e : written (map f (take (i + 1) xs)) ≡ written front ++ written_line (f x)
-    = ap (λ ys. written (map f ys)) taken ∙ ap written (map_push f (take i xs) x) ∙ flat_map-append written_line front (f x ∷ [])
-    ∙ ap (λ r. written front ++ r) (append-nil (written_line (f x))) in
-    more ∙ ap (λ t. t ++ written_line (f x)) so_far ∙ append_assoc start (written front) (written_line (f x)) ∙ ap (λ r. start ++ r) (sym e)
-
--- More lines, those of the item at i.
-pub lines_more : {X : Type 0} (f : X → List (List (List ℕ))) (start was now : List ℕ) (xs : List X) (i : ℕ) (x : X) → i < length xs → x ≡ get_or xs i x
-    → was ≡ start ++ written (flat_map f (take i xs)) → now ≡ was ++ written (f x) → now ≡ start ++ written (flat_map f (take (i + 1) xs))
-lines_more f start was now xs i x lt at so_far more =
-    let front = flat_map f (take i xs) in
-    let taken : take (i + 1) xs ≡ take i xs ++ x ∷ [] = take_more xs i x lt ∙ ap (λ y. take i xs ++ y ∷ []) (sym at) in
-    let e : written (flat_map f (take (i + 1) xs)) ≡ written front ++ written (f x)
-    = ap (λ ys. written (flat_map f ys)) taken ∙ ap written (flat_map-append f (take i xs) (x ∷ [])) ∙ ap (λ r. written (front ++ r)) (append-nil (f x))
-    ∙ flat_map-append written_line front (f x) in
-    more ∙ ap (λ t. t ++ written (f x)) so_far ∙ append_assoc start (written front) (written (f x)) ∙ ap (λ r. start ++ r) (sym e)

@@ -1,5 +1,7 @@
 pub mod BadLemmas
 pub mod Completeness
+pub mod EdfLemmas
+pub mod Evidence
 pub mod Faults
 pub mod Joins
 pub mod Late
@@ -7,4 +9,3 @@ pub mod NumberLemmas
 pub mod PlainLemmas
 pub mod Told
 pub mod UtilLemmas
-pub mod Written

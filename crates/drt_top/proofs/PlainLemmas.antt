@@ -7,11 +7,11 @@ use Rattle.clap.proofs.OnLiterals.{clap_on_literals}
 use Rattle.clap.specs.ValueTests.{is_unsigned_in}
 use Rattle.drt_top.specs.Number.{number_in}
 use Rattle.drt_top.specs.Meaning.{meaning_of}
-use Rattle.drt_top.specs.Plain.{IsPlainNumber, BeginsPlain, Spells, apart, joined, PlainOptions, neither, workers, budget, workers_first, budget_first, IsPlain, plain_sp, plain_upgrade, plain_util, GivesBadNumber, bad_workers, bad_budget, bad_either}
+use Rattle.drt_top.specs.Plain.{IsPlainNumber, BeginsPlain, Spells, apart, joined, PlainOptions, neither, workers, budget, workers_first, budget_first, IsPlain, plain_search, Search, for_edf, for_sp, search_word, search_meaning, plain_upgrade, plain_util, GivesBadNumber, bad_workers, bad_budget, bad_either}
 use Rattle.drt_top.proofs.BadLemmas.{either_bad}
 use Rattle.drt_top.proofs.NumberLemmas.{digits_pass}
 use Rattle.drt_top.specs.declared.words.Meaning.{Meaning}
-use Rattle.drt_top.specs.declared.words.Meaning.TheVariants.{Sp, Upgrade, Util}
+use Rattle.drt_top.specs.declared.words.Meaning.TheVariants.{Upgrade, Util}
 
 -- what clap and the reader find at a plain number
 record Read (most : ℕ) (text : List ℕ) (n : ℕ) : Type 0 where
@@ -20,75 +20,91 @@ record Read (most : ℕ) (text : List ℕ) (n : ℕ) : Type 0 where
   number : number_in most text ≡ Some n
 
 module _ (program : List ℕ) where
-  one_workers : (words : List (List ℕ)) (a : List ℕ) (m : ℕ) → Read 16 a m → Spells (codes "workers") a words
-      → meaning_of (program ∷ codes "sp" ∷ words) ≡ Some (Sp m 100000)
+  one_workers : (k : Search) → (words : List (List ℕ)) (a : List ℕ) (m : ℕ) → Read 16 a m → Spells (codes "workers") a words
+      → meaning_of (program ∷ search_word k ∷ words) ≡ Some (search_meaning k m 100000)
   unfolding clap_on_literals
-  one_workers words a m r apart = rw (r.plain.no_dashes, r.plain.no_long, r.plain.no_short, r.passes, r.number) refl
-  one_workers words a m r joined = rw (r.passes, r.number) refl
+  one_workers for_edf words a m r apart = rw (r.plain.no_dashes, r.plain.no_long, r.plain.no_short, r.passes, r.number) refl
+  one_workers for_sp words a m r apart = rw (r.plain.no_dashes, r.plain.no_long, r.plain.no_short, r.passes, r.number) refl
+  one_workers for_edf words a m r joined = rw (r.passes, r.number) refl
+  one_workers for_sp words a m r joined = rw (r.passes, r.number) refl
 
-  one_budget : (words : List (List ℕ)) (b : List ℕ) (n : ℕ) → Read 1000000 b n → Spells (codes "budget") b words
-      → meaning_of (program ∷ codes "sp" ∷ words) ≡ Some (Sp 4 n)
+  one_budget : (k : Search) → (words : List (List ℕ)) (b : List ℕ) (n : ℕ) → Read 1000000 b n → Spells (codes "budget") b words
+      → meaning_of (program ∷ search_word k ∷ words) ≡ Some (search_meaning k 4 n)
   unfolding clap_on_literals
-  one_budget words b n r apart = rw (r.plain.no_dashes, r.plain.no_long, r.plain.no_short, r.passes, r.number) refl
-  one_budget words b n r joined = rw (r.passes, r.number) refl
+  one_budget for_edf words b n r apart = rw (r.plain.no_dashes, r.plain.no_long, r.plain.no_short, r.passes, r.number) refl
+  one_budget for_sp words b n r apart = rw (r.plain.no_dashes, r.plain.no_long, r.plain.no_short, r.passes, r.number) refl
+  one_budget for_edf words b n r joined = rw (r.passes, r.number) refl
+  one_budget for_sp words b n r joined = rw (r.passes, r.number) refl
 
-  first_workers_apart_apart : (a b : List ℕ) (m n : ℕ) → Read 16 a m → Read 1000000 b n → meaning_of (program ∷ codes "sp" ∷ (codes "--workers") ∷ a ∷ (codes "--budget") ∷ b ∷ []) ≡ Some (Sp m n)
+  first_workers_apart_apart : (k : Search) → (a b : List ℕ) (m n : ℕ) → Read 16 a m → Read 1000000 b n → meaning_of (program ∷ search_word k ∷ (codes "--workers") ∷ a ∷ (codes "--budget") ∷ b ∷ []) ≡ Some (search_meaning k m n)
   unfolding clap_on_literals
-  first_workers_apart_apart a b m n r s = rw (r.plain.no_dashes, r.plain.no_long, r.plain.no_short) (rw (s.plain.no_dashes, s.plain.no_long, s.plain.no_short) (rw (r.passes, s.passes) (rw r.number (rw s.number refl))))
+  first_workers_apart_apart for_edf a b m n r s = rw (r.plain.no_dashes, r.plain.no_long, r.plain.no_short) (rw (s.plain.no_dashes, s.plain.no_long, s.plain.no_short) (rw (r.passes, s.passes) (rw r.number (rw s.number refl))))
+  first_workers_apart_apart for_sp a b m n r s = rw (r.plain.no_dashes, r.plain.no_long, r.plain.no_short) (rw (s.plain.no_dashes, s.plain.no_long, s.plain.no_short) (rw (r.passes, s.passes) (rw r.number (rw s.number refl))))
 
-  first_workers_apart_joined : (a b : List ℕ) (m n : ℕ) → Read 16 a m → Read 1000000 b n → meaning_of (program ∷ codes "sp" ∷ (codes "--workers") ∷ a ∷ (codes "--budget=" ++ b) ∷ []) ≡ Some (Sp m n)
+  first_workers_apart_joined : (k : Search) → (a b : List ℕ) (m n : ℕ) → Read 16 a m → Read 1000000 b n → meaning_of (program ∷ search_word k ∷ (codes "--workers") ∷ a ∷ (codes "--budget=" ++ b) ∷ []) ≡ Some (search_meaning k m n)
   unfolding clap_on_literals
-  first_workers_apart_joined a b m n r s = rw (r.plain.no_dashes, r.plain.no_long, r.plain.no_short) (rw (r.passes, s.passes) (rw r.number (rw s.number refl)))
+  first_workers_apart_joined for_edf a b m n r s = rw (r.plain.no_dashes, r.plain.no_long, r.plain.no_short) (rw (r.passes, s.passes) (rw r.number (rw s.number refl)))
+  first_workers_apart_joined for_sp a b m n r s = rw (r.plain.no_dashes, r.plain.no_long, r.plain.no_short) (rw (r.passes, s.passes) (rw r.number (rw s.number refl)))
 
-  first_workers_joined_apart : (a b : List ℕ) (m n : ℕ) → Read 16 a m → Read 1000000 b n → meaning_of (program ∷ codes "sp" ∷ (codes "--workers=" ++ a) ∷ (codes "--budget") ∷ b ∷ []) ≡ Some (Sp m n)
+  first_workers_joined_apart : (k : Search) → (a b : List ℕ) (m n : ℕ) → Read 16 a m → Read 1000000 b n → meaning_of (program ∷ search_word k ∷ (codes "--workers=" ++ a) ∷ (codes "--budget") ∷ b ∷ []) ≡ Some (search_meaning k m n)
   unfolding clap_on_literals
-  first_workers_joined_apart a b m n r s = rw (s.plain.no_dashes, s.plain.no_long, s.plain.no_short) (rw (r.passes, s.passes) (rw r.number (rw s.number refl)))
+  first_workers_joined_apart for_edf a b m n r s = rw (s.plain.no_dashes, s.plain.no_long, s.plain.no_short) (rw (r.passes, s.passes) (rw r.number (rw s.number refl)))
+  first_workers_joined_apart for_sp a b m n r s = rw (s.plain.no_dashes, s.plain.no_long, s.plain.no_short) (rw (r.passes, s.passes) (rw r.number (rw s.number refl)))
 
-  first_workers_joined_joined : (a b : List ℕ) (m n : ℕ) → Read 16 a m → Read 1000000 b n → meaning_of (program ∷ codes "sp" ∷ (codes "--workers=" ++ a) ∷ (codes "--budget=" ++ b) ∷ []) ≡ Some (Sp m n)
+  first_workers_joined_joined : (k : Search) → (a b : List ℕ) (m n : ℕ) → Read 16 a m → Read 1000000 b n → meaning_of (program ∷ search_word k ∷ (codes "--workers=" ++ a) ∷ (codes "--budget=" ++ b) ∷ []) ≡ Some (search_meaning k m n)
   unfolding clap_on_literals
-  first_workers_joined_joined a b m n r s = rw (r.passes, s.passes) (rw r.number (rw s.number refl))
+  first_workers_joined_joined for_edf a b m n r s = rw (r.passes, s.passes) (rw r.number (rw s.number refl))
+  first_workers_joined_joined for_sp a b m n r s = rw (r.passes, s.passes) (rw r.number (rw s.number refl))
 
-  first_budget_apart_apart : (a b : List ℕ) (m n : ℕ) → Read 16 a m → Read 1000000 b n → meaning_of (program ∷ codes "sp" ∷ (codes "--budget") ∷ b ∷ (codes "--workers") ∷ a ∷ []) ≡ Some (Sp m n)
+  first_budget_apart_apart : (k : Search) → (a b : List ℕ) (m n : ℕ) → Read 16 a m → Read 1000000 b n → meaning_of (program ∷ search_word k ∷ (codes "--budget") ∷ b ∷ (codes "--workers") ∷ a ∷ []) ≡ Some (search_meaning k m n)
   unfolding clap_on_literals
-  first_budget_apart_apart a b m n r s = rw (s.plain.no_dashes, s.plain.no_long, s.plain.no_short) (rw (r.plain.no_dashes, r.plain.no_long, r.plain.no_short) (rw (r.passes, s.passes) (rw r.number (rw s.number refl))))
+  first_budget_apart_apart for_edf a b m n r s = rw (s.plain.no_dashes, s.plain.no_long, s.plain.no_short) (rw (r.plain.no_dashes, r.plain.no_long, r.plain.no_short) (rw (r.passes, s.passes) (rw r.number (rw s.number refl))))
+  first_budget_apart_apart for_sp a b m n r s = rw (s.plain.no_dashes, s.plain.no_long, s.plain.no_short) (rw (r.plain.no_dashes, r.plain.no_long, r.plain.no_short) (rw (r.passes, s.passes) (rw r.number (rw s.number refl))))
 
-  first_budget_apart_joined : (a b : List ℕ) (m n : ℕ) → Read 16 a m → Read 1000000 b n → meaning_of (program ∷ codes "sp" ∷ (codes "--budget") ∷ b ∷ (codes "--workers=" ++ a) ∷ []) ≡ Some (Sp m n)
+  first_budget_apart_joined : (k : Search) → (a b : List ℕ) (m n : ℕ) → Read 16 a m → Read 1000000 b n → meaning_of (program ∷ search_word k ∷ (codes "--budget") ∷ b ∷ (codes "--workers=" ++ a) ∷ []) ≡ Some (search_meaning k m n)
   unfolding clap_on_literals
-  first_budget_apart_joined a b m n r s = rw (s.plain.no_dashes, s.plain.no_long, s.plain.no_short) (rw (r.passes, s.passes) (rw r.number (rw s.number refl)))
+  first_budget_apart_joined for_edf a b m n r s = rw (s.plain.no_dashes, s.plain.no_long, s.plain.no_short) (rw (r.passes, s.passes) (rw r.number (rw s.number refl)))
+  first_budget_apart_joined for_sp a b m n r s = rw (s.plain.no_dashes, s.plain.no_long, s.plain.no_short) (rw (r.passes, s.passes) (rw r.number (rw s.number refl)))
 
-  first_budget_joined_apart : (a b : List ℕ) (m n : ℕ) → Read 16 a m → Read 1000000 b n → meaning_of (program ∷ codes "sp" ∷ (codes "--budget=" ++ b) ∷ (codes "--workers") ∷ a ∷ []) ≡ Some (Sp m n)
+  first_budget_joined_apart : (k : Search) → (a b : List ℕ) (m n : ℕ) → Read 16 a m → Read 1000000 b n → meaning_of (program ∷ search_word k ∷ (codes "--budget=" ++ b) ∷ (codes "--workers") ∷ a ∷ []) ≡ Some (search_meaning k m n)
   unfolding clap_on_literals
-  first_budget_joined_apart a b m n r s = rw (r.plain.no_dashes, r.plain.no_long, r.plain.no_short) (rw (r.passes, s.passes) (rw r.number (rw s.number refl)))
+  first_budget_joined_apart for_edf a b m n r s = rw (r.plain.no_dashes, r.plain.no_long, r.plain.no_short) (rw (r.passes, s.passes) (rw r.number (rw s.number refl)))
+  first_budget_joined_apart for_sp a b m n r s = rw (r.plain.no_dashes, r.plain.no_long, r.plain.no_short) (rw (r.passes, s.passes) (rw r.number (rw s.number refl)))
 
-  first_budget_joined_joined : (a b : List ℕ) (m n : ℕ) → Read 16 a m → Read 1000000 b n → meaning_of (program ∷ codes "sp" ∷ (codes "--budget=" ++ b) ∷ (codes "--workers=" ++ a) ∷ []) ≡ Some (Sp m n)
+  first_budget_joined_joined : (k : Search) → (a b : List ℕ) (m n : ℕ) → Read 16 a m → Read 1000000 b n → meaning_of (program ∷ search_word k ∷ (codes "--budget=" ++ b) ∷ (codes "--workers=" ++ a) ∷ []) ≡ Some (search_meaning k m n)
   unfolding clap_on_literals
-  first_budget_joined_joined a b m n r s = rw (r.passes, s.passes) (rw r.number (rw s.number refl))
+  first_budget_joined_joined for_edf a b m n r s = rw (r.passes, s.passes) (rw r.number (rw s.number refl))
+  first_budget_joined_joined for_sp a b m n r s = rw (r.passes, s.passes) (rw r.number (rw s.number refl))
 
-  first_workers : (front back : List (List ℕ)) (a b : List ℕ) (m n : ℕ) → Read 16 a m → Read 1000000 b n
-      → Spells (codes "workers") a front → Spells (codes "budget") b back → meaning_of (program ∷ codes "sp" ∷ (front ++ back)) ≡ Some (Sp m n)
-  first_workers front back a b m n r s apart apart = first_workers_apart_apart a b m n r s
-  first_workers front back a b m n r s apart joined = first_workers_apart_joined a b m n r s
-  first_workers front back a b m n r s joined apart = first_workers_joined_apart a b m n r s
-  first_workers front back a b m n r s joined joined = first_workers_joined_joined a b m n r s
+  first_workers : (k : Search) → (front back : List (List ℕ)) (a b : List ℕ) (m n : ℕ) → Read 16 a m → Read 1000000 b n
+      → Spells (codes "workers") a front → Spells (codes "budget") b back → meaning_of (program ∷ search_word k ∷ (front ++ back)) ≡ Some (search_meaning k m n)
+  first_workers k front back a b m n r s apart apart = first_workers_apart_apart k a b m n r s
+  first_workers k front back a b m n r s apart joined = first_workers_apart_joined k a b m n r s
+  first_workers k front back a b m n r s joined apart = first_workers_joined_apart k a b m n r s
+  first_workers k front back a b m n r s joined joined = first_workers_joined_joined k a b m n r s
 
-  first_budget : (front back : List (List ℕ)) (a b : List ℕ) (m n : ℕ) → Read 16 a m → Read 1000000 b n
-      → Spells (codes "budget") b front → Spells (codes "workers") a back → meaning_of (program ∷ codes "sp" ∷ (front ++ back)) ≡ Some (Sp m n)
-  first_budget front back a b m n r s apart apart = first_budget_apart_apart a b m n r s
-  first_budget front back a b m n r s apart joined = first_budget_apart_joined a b m n r s
-  first_budget front back a b m n r s joined apart = first_budget_joined_apart a b m n r s
-  first_budget front back a b m n r s joined joined = first_budget_joined_joined a b m n r s
+  first_budget : (k : Search) → (front back : List (List ℕ)) (a b : List ℕ) (m n : ℕ) → Read 16 a m → Read 1000000 b n
+      → Spells (codes "budget") b front → Spells (codes "workers") a back → meaning_of (program ∷ search_word k ∷ (front ++ back)) ≡ Some (search_meaning k m n)
+  first_budget k front back a b m n r s apart apart = first_budget_apart_apart k a b m n r s
+  first_budget k front back a b m n r s apart joined = first_budget_apart_joined k a b m n r s
+  first_budget k front back a b m n r s joined apart = first_budget_joined_apart k a b m n r s
+  first_budget k front back a b m n r s joined joined = first_budget_joined_joined k a b m n r s
 
-  bad_workers_mean : (text : List ℕ) (words : List (List ℕ)) → is_unsigned_in 1 16 text ≡ false → BeginsPlain text
-      → Spells (codes "workers") text words → meaning_of (program ∷ codes "sp" ∷ words) ≡ None
+  bad_workers_mean : (k : Search) → (text : List ℕ) (words : List (List ℕ)) → is_unsigned_in 1 16 text ≡ false → BeginsPlain text
+      → Spells (codes "workers") text words → meaning_of (program ∷ search_word k ∷ words) ≡ None
   unfolding clap_on_literals
-  bad_workers_mean text words bad p apart = rw (p.no_dashes, p.no_long, p.no_short, bad) refl
-  bad_workers_mean text words bad p joined = rw bad refl
+  bad_workers_mean for_edf text words bad p apart = rw (p.no_dashes, p.no_long, p.no_short, bad) refl
+  bad_workers_mean for_sp text words bad p apart = rw (p.no_dashes, p.no_long, p.no_short, bad) refl
+  bad_workers_mean for_edf text words bad p joined = rw bad refl
+  bad_workers_mean for_sp text words bad p joined = rw bad refl
 
-  bad_budget_mean : (text : List ℕ) (words : List (List ℕ)) → is_unsigned_in 1 1000000 text ≡ false → BeginsPlain text
-      → Spells (codes "budget") text words → meaning_of (program ∷ codes "sp" ∷ words) ≡ None
+  bad_budget_mean : (k : Search) → (text : List ℕ) (words : List (List ℕ)) → is_unsigned_in 1 1000000 text ≡ false → BeginsPlain text
+      → Spells (codes "budget") text words → meaning_of (program ∷ search_word k ∷ words) ≡ None
   unfolding clap_on_literals
-  bad_budget_mean text words bad p apart = rw (p.no_dashes, p.no_long, p.no_short, bad) refl
-  bad_budget_mean text words bad p joined = rw bad refl
+  bad_budget_mean for_edf text words bad p apart = rw (p.no_dashes, p.no_long, p.no_short, bad) refl
+  bad_budget_mean for_sp text words bad p apart = rw (p.no_dashes, p.no_long, p.no_short, bad) refl
+  bad_budget_mean for_edf text words bad p joined = rw bad refl
+  bad_budget_mean for_sp text words bad p joined = rw bad refl
 
 -- a plain number is what both readers find
 passes_of : (most n : ℕ) (text : List ℕ) → most < 2 ^ 64 → without_leading_plus text ≡ text → IsPlainNumber most text n → is_unsigned_in 1 most text ≡ true
@@ -123,13 +139,14 @@ read_of most n (d ∷ ds) fits p =
       number = number_is most n (d ∷ ds) e p;
     }
 
-options_mean : (program : List ℕ) (words : List (List ℕ)) (m n : ℕ) → PlainOptions words m n → meaning_of (program ∷ codes "sp" ∷ words) ≡ Some (Sp m n)
+options_mean : (k : Search) (program : List ℕ) (words : List (List ℕ)) (m n : ℕ) → PlainOptions words m n → meaning_of (program ∷ search_word k ∷ words) ≡ Some (search_meaning k m n)
 unfolding clap_on_literals
-options_mean program words m n neither = refl
-options_mean program words m n (workers ws a k p s) = one_workers program ws a k (read_of 16 k a (lit< tt) p) s
-options_mean program words m n (budget ws b k p s) = one_budget program ws b k (read_of 1000000 k b (lit< tt) p) s
-options_mean program words m n (workers_first front back a b k l p q s t) = first_workers program front back a b k l (read_of 16 k a (lit< tt) p) (read_of 1000000 l b (lit< tt) q) s t
-options_mean program words m n (budget_first front back a b k l p q s t) = first_budget program front back a b k l (read_of 16 k a (lit< tt) p) (read_of 1000000 l b (lit< tt) q) s t
+options_mean for_edf program words m n neither = refl
+options_mean for_sp program words m n neither = refl
+options_mean c program words m n (workers ws a k p s) = one_workers program c ws a k (read_of 16 k a (lit< tt) p) s
+options_mean c program words m n (budget ws b k p s) = one_budget program c ws b k (read_of 1000000 k b (lit< tt) p) s
+options_mean c program words m n (workers_first front back a b k l p q s t) = first_workers program c front back a b k l (read_of 16 k a (lit< tt) p) (read_of 1000000 l b (lit< tt) q) s t
+options_mean c program words m n (budget_first front back a b k l p q s t) = first_budget program c front back a b k l (read_of 16 k a (lit< tt) p) (read_of 1000000 l b (lit< tt) q) s t
 
 upgrade_means : (program : List ℕ) → meaning_of (program ∷ codes "upgrade" ∷ []) ≡ Some Upgrade
 unfolding clap_on_literals
@@ -140,11 +157,11 @@ unfolding clap_on_literals
 util_means program = refl
 
 pub plain_means : (words : List (List ℕ)) (meaning : Meaning) → IsPlain words meaning → meaning_of words ≡ Some meaning
-plain_means words meaning (plain_sp program options m n o) = options_mean program options m n o
+plain_means words meaning (plain_search program command options m n o) = options_mean command program options m n o
 plain_means words meaning (plain_upgrade program) = upgrade_means program
 plain_means words meaning (plain_util program) = util_means program
 
 pub bad_means : (words : List (List ℕ)) → GivesBadNumber words → meaning_of words ≡ None
-bad_means words (bad_workers program text ws bad p s) = bad_workers_mean program text ws bad p s
-bad_means words (bad_budget program text ws bad p s) = bad_budget_mean program text ws bad p s
-bad_means words (bad_either program a b ws bad p q both) = either_bad program a b p q ws bad both
+bad_means words (bad_workers command program text ws bad p s) = bad_workers_mean program command text ws bad p s
+bad_means words (bad_budget command program text ws bad p s) = bad_budget_mean program command text ws bad p s
+bad_means words (bad_either command program a b ws bad p q both) = either_bad program a b p q command ws bad both

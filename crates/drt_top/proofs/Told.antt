@@ -3,12 +3,13 @@ use Rattle.std.proofs.Common.{◌≡◌, ◌<◌, ℕ, List, length, Option, Som
 use Rattle.std.specs.Io.KnownBytes.{Consumes}
 use Rattle.drt_io.specs.Writing.{Grows, GrowsByPrefix}
 use Rattle.drt_top.specs.declared.outcome.Fault.{Fault}
+use Rattle.drt_top.specs.declared.outcome.Trail.{Trail}
 use Rattle.drt_top.specs.declared.stop.Stop.{Stop}
 use Rattle.drt_top.specs.declared.stop.Stop.TheVariants as stops
 use Rattle.drt_top.specs.declared.words.Meaning.{Meaning}
-use Rattle.drt_top.specs.declared.words.Meaning.TheVariants.{Sp, Upgrade, Util}
+use Rattle.drt_top.specs.declared.words.Meaning.TheVariants.{Edf, Sp, Upgrade, Util}
 use Rattle.drt_top.specs.Files.{IsFileFault}
-use Rattle.drt_top.specs.Run.{Makes, Says, IsCutShort, Refuses, IsInputCause, IsFileCause, IsMakeCause, IsAnalyseCause, IsRunCause}
+use Rattle.drt_top.specs.Run.{Makes, Says, IsCutShort, Refuses, IsInputCause, IsFileCause, IsMakeCause, IsAnalyseCause, IsEdfCause, IsRunCause}
 
 pub told : (left : Option (List ℕ)) (bytes : List ℕ) (P : List ℕ → Type 0) → IfSome left (λ b. bytes ≡ b) → P bytes → IfSome left P
 told None bytes P e h = tt
@@ -24,15 +25,15 @@ taken_was_left None new taken n h more = tt
 taken_was_left (Some b) None taken n h more = absurd h
 taken_was_left (Some b) (Some c) taken n h more = omega (arith, ap length h, length-append taken c)
 
-pub cut_short : (meaning : Meaning) (left : Option (List ℕ)) (bytes : List ℕ) (status : ℕ) (text : List ℕ) (old new : Option (List ℕ))
-    → IfSome left (λ b. bytes ≡ b) → Makes meaning bytes status text → GrowsByPrefix old new text → IfSome left (λ b. IsCutShort meaning b old new)
-cut_short meaning left bytes status text old new e makes written =
-    told left bytes (λ b. IsCutShort meaning b old new) e (record { status = status; text = text; makes = makes; written = written })
+pub cut_short : (meaning : Meaning) (left : Option (List ℕ)) (bytes : List ℕ) (status : ℕ) (text : List ℕ) (trail : Trail) (old new : Option (List ℕ))
+    → IfSome left (λ b. bytes ≡ b) → Makes meaning bytes status text trail → GrowsByPrefix old new text → IfSome left (λ b. IsCutShort meaning b old new)
+cut_short meaning left bytes status text trail old new e makes written =
+    told left bytes (λ b. IsCutShort meaning b old new) e (record { status = status; text = text; trail = trail; makes = makes; written = written })
 
-pub says : (meaning : Meaning) (left : Option (List ℕ)) (bytes : List ℕ) (status : ℕ) (text : List ℕ) (old new : Option (List ℕ))
-    → IfSome left (λ b. bytes ≡ b) → Makes meaning bytes status text → Grows old new text → IfSome left (λ b. Says meaning status b old new)
-says meaning left bytes status text old new e makes written =
-    told left bytes (λ b. Says meaning status b old new) e (record { text = text; makes = makes; written = written })
+pub says : (meaning : Meaning) (left : Option (List ℕ)) (bytes : List ℕ) (status : ℕ) (text : List ℕ) (trail : Trail) (old new : Option (List ℕ))
+    → IfSome left (λ b. bytes ≡ b) → Makes meaning bytes status text trail → Grows old new text → IfSome left (λ b. Says meaning status trail b old new)
+says meaning left bytes status text trail old new e makes written =
+    told left bytes (λ b. Says meaning status trail b old new) e (record { text = text; makes = makes; written = written })
 
 -- what refuses the bytes that were read refuses the bytes that the source told
 pub refuses_told : (meaning : Meaning) (R W : Type 0) (left : Option (List ℕ)) (bytes : List ℕ) (stop : Stop)
@@ -44,6 +45,7 @@ refuses_told meaning R W left bytes stops.Memory e h = tt
 refuses_told meaning R W left bytes (stops.File f) e h = told left bytes (λ b. Refuses meaning b f) e h
 
 file_refused : (meaning : Meaning) (bytes : List ℕ) (f : Fault) → IsFileFault bytes f → Refuses meaning bytes f
+file_refused (Edf w b) bytes f h = inl h
 file_refused (Sp w b) bytes f h = inl h
 file_refused Upgrade bytes f h = h
 file_refused Util bytes f h = inl h
@@ -68,3 +70,10 @@ analysis_refused w b bytes stops.Read h = h
 analysis_refused w b bytes stops.Write h = h
 analysis_refused w b bytes stops.Memory h = tt
 analysis_refused w b bytes (stops.File f) h = inr h
+
+pub edf_refused : (w b : ℕ) (bytes : List ℕ) (stop : Stop) → IsEdfCause bytes stop → IsMakeCause (Edf w b) bytes stop
+edf_refused w b bytes stops.Words h = h
+edf_refused w b bytes stops.Read h = h
+edf_refused w b bytes stops.Write h = h
+edf_refused w b bytes stops.Memory h = tt
+edf_refused w b bytes (stops.File f) h = inr h

@@ -8,4 +8,6 @@ pub mod Dossier
 pub mod Files
 pub mod Answers
 pub mod Util
+pub mod Edf
 pub mod Run
+pub mod Reports

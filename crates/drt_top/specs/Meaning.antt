@@ -7,7 +7,7 @@ use Rattle.clap.specs.Walk.{is_empty}
 use Rattle.drt_top.specs.Command.{drt_app}
 use Rattle.drt_top.specs.Number.{number_in}
 use Rattle.drt_top.specs.declared.words.Meaning.{Meaning}
-use Rattle.drt_top.specs.declared.words.Meaning.TheVariants.{Sp, Upgrade, Util}
+use Rattle.drt_top.specs.declared.words.Meaning.TheVariants.{Edf, Sp, Upgrade, Util}
 
 -- The number of an option that is there, or stands by default.
 abbrev pub number_at : Text → ℕ → List Row → Option ℕ
@@ -21,9 +21,10 @@ with_numbers make rows = option_and_then (λ workers. option_map (make workers)
 -- What a command of this name asks for with these options.
 abbrev pub meaning_at : Text → List Row → Option Meaning
 meaning_at name rows =
-    if bytes_eq name (codes "sp") then with_numbers Sp rows
+    if bytes_eq name (codes "edf") then with_numbers Edf rows
+    else (if bytes_eq name (codes "sp") then with_numbers Sp rows
     else (if bytes_eq name (codes "upgrade") then Some Upgrade
-    else (if bytes_eq name (codes "util") then Some Util else None))
+    else (if bytes_eq name (codes "util") then Some Util else None)))
 
 -- What a list of words means: what clap's command states of the words, where it refuses none of them.
 abbrev pub meaning_of : List Text → Option Meaning

@@ -5,7 +5,7 @@ use Rattle.std.specs.Str.Parse.{IsNumeral, digits_value}
 use Rattle.clap.specs.Lexer.{long_of, short_of}
 use Rattle.clap.specs.ValueTests.{is_unsigned_in}
 use Rattle.drt_top.specs.declared.words.Meaning.{Meaning}
-use Rattle.drt_top.specs.declared.words.Meaning.TheVariants.{Sp, Upgrade, Util}
+use Rattle.drt_top.specs.declared.words.Meaning.TheVariants.{Edf, Sp, Upgrade, Util}
 
 -- The text is a number from 1 to `most` in decimal digits without leading zeros.
 pub record IsPlainNumber (most : ℕ) (text : List ℕ) (n : ℕ) : Type 0 where
@@ -30,9 +30,24 @@ pub data PlainOptions : List (List ℕ) → ℕ → ℕ → Type 0 where
   budget_first : (front back : List (List ℕ)) (a b : List ℕ) (m n : ℕ) → IsPlainNumber 16 a m → IsPlainNumber 1000000 b n
       → Spells (codes "budget") b front → Spells (codes "workers") a back → PlainOptions (front ++ back) m n
 
+-- The commands that search.
+pub data Search : Type 0 where
+  for_edf : Search
+  for_sp : Search
+
+-- The name of such a command.
+abbrev pub search_word : Search → List ℕ
+search_word for_edf = codes "edf"
+search_word for_sp = codes "sp"
+
+-- What it means with workers and a budget.
+abbrev pub search_meaning : Search → ℕ → ℕ → Meaning
+search_meaning for_edf m n = Edf m n
+search_meaning for_sp m n = Sp m n
+
 -- A plain list: a program name, a command, then that command's options.
 pub data IsPlain : List (List ℕ) → Meaning → Type 0 where
-  plain_sp : (program : List ℕ) (options : List (List ℕ)) (m n : ℕ) → PlainOptions options m n → IsPlain (program ∷ codes "sp" ∷ options) (Sp m n)
+  plain_search : (program : List ℕ) (command : Search) (options : List (List ℕ)) (m n : ℕ) → PlainOptions options m n → IsPlain (program ∷ search_word command ∷ options) (search_meaning command m n)
   plain_upgrade : (program : List ℕ) → IsPlain (program ∷ codes "upgrade" ∷ []) Upgrade
   plain_util : (program : List ℕ) → IsPlain (program ∷ codes "util" ∷ []) Util
 
@@ -47,11 +62,11 @@ pub data BothOptions (a b : List ℕ) : List (List ℕ) → Type 0 where
   workers_then_budget : (front back : List (List ℕ)) → Spells (codes "workers") a front → Spells (codes "budget") b back → BothOptions a b (front ++ back)
   budget_then_workers : (front back : List (List ℕ)) → Spells (codes "budget") b front → Spells (codes "workers") a back → BothOptions a b (front ++ back)
 
--- The list gives an option of `sp` a value that is no number in its range, alone or beside the other option, whatever that one's value is.
+-- The list gives an option of a command that searches a value that is no number in its range, alone or beside the other option, whatever that one's value is.
 pub data GivesBadNumber : List (List ℕ) → Type 0 where
-  bad_workers : (program text : List ℕ) (words : List (List ℕ)) → is_unsigned_in 1 16 text ≡ false → BeginsPlain text
-      → Spells (codes "workers") text words → GivesBadNumber (program ∷ codes "sp" ∷ words)
-  bad_budget : (program text : List ℕ) (words : List (List ℕ)) → is_unsigned_in 1 1000000 text ≡ false → BeginsPlain text
-      → Spells (codes "budget") text words → GivesBadNumber (program ∷ codes "sp" ∷ words)
-  bad_either : (program a b : List ℕ) (words : List (List ℕ)) → (is_unsigned_in 1 16 a && is_unsigned_in 1 1000000 b) ≡ false → BeginsPlain a → BeginsPlain b
-      → BothOptions a b words → GivesBadNumber (program ∷ codes "sp" ∷ words)
+  bad_workers : (command : Search) (program text : List ℕ) (words : List (List ℕ)) → is_unsigned_in 1 16 text ≡ false → BeginsPlain text
+      → Spells (codes "workers") text words → GivesBadNumber (program ∷ search_word command ∷ words)
+  bad_budget : (command : Search) (program text : List ℕ) (words : List (List ℕ)) → is_unsigned_in 1 1000000 text ≡ false → BeginsPlain text
+      → Spells (codes "budget") text words → GivesBadNumber (program ∷ search_word command ∷ words)
+  bad_either : (command : Search) (program a b : List ℕ) (words : List (List ℕ)) → (is_unsigned_in 1 16 a && is_unsigned_in 1 1000000 b) ≡ false → BeginsPlain a → BeginsPlain b
+      → BothOptions a b words → GivesBadNumber (program ∷ search_word command ∷ words)

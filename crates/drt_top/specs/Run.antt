@@ -1,5 +1,5 @@
 -- What a run did, at each of its ends.
-use Rattle.std.specs.Prelude.{◌≡◌, ◌≢◌, ℕ, ◌⊎◌, List, [], ◌∷◌, Option, Some, None, IfSome, Contains, length}
+use Rattle.std.specs.Prelude.{◌≡◌, ◌≢◌, ◌≤◌, ℕ, ◌⊎◌, List, [], ◌∷◌, Option, Some, None, IfSome, Contains, length}
 use Rattle.drt_model.specs.Contents.{Contents}
 use Rattle.drt_model.specs.declared.jobs.Policy.TheVariants.{Fixed}
 use Rattle.drt_model.specs.Schedulable.{Schedulable}
@@ -7,13 +7,16 @@ use Rattle.drt_file.specs.Canonical.{canonical}
 use Rattle.drt_io.specs.Writing.{Grows, GrowsByPrefix}
 use Rattle.drt_top.specs.declared.outcome.Fault.{Fault}
 use Rattle.drt_top.specs.declared.outcome.Fault.TheVariants as faults
+use Rattle.drt_top.specs.declared.outcome.Trail.{Trail}
+use Rattle.drt_top.specs.declared.outcome.Trail.TheVariants as trails
 use Rattle.drt_top.specs.declared.stop.Stop.{Stop}
 use Rattle.drt_top.specs.declared.stop.Stop.TheVariants as stops
 use Rattle.drt_top.specs.declared.words.Meaning.{Meaning}
-use Rattle.drt_top.specs.declared.words.Meaning.TheVariants.{Sp, Upgrade, Util}
+use Rattle.drt_top.specs.declared.words.Meaning.TheVariants.{Edf, Sp, Upgrade, Util}
 use Rattle.drt_top.specs.Files.{IsAccepted, IsFileFault}
 use Rattle.drt_top.specs.Answers.{IsYes, IsNo}
 use Rattle.drt_top.specs.Util.{IsUtilisationText, IsTooFine}
+use Rattle.drt_top.specs.Edf.{Decides, EdfEnds, IsOutOfReach}
 
 -- A yes has the status 0 and a no the status 1, each with its text.
 abbrev pub IsAnswer : Contents → ℕ → List ℕ → Type 0
@@ -40,23 +43,25 @@ pub record Utilises (bytes : List ℕ) (status : ℕ) (text : List ℕ) : Type 0
   pub done : status ≡ 0
   pub text_is : IsUtilisationText set text
 
--- What a command makes of the bytes that it reads: a status and a text.
-abbrev pub Makes : Meaning → List ℕ → ℕ → List ℕ → Type 0
-Makes (Sp workers budget) bytes status text = Analyses bytes status text
-Makes Upgrade bytes status text = Upgrades bytes status text
-Makes Util bytes status text = Utilises bytes status text
+-- What a command makes of the bytes that it reads: a status, a text, and a trail where a budget was spent.
+abbrev pub Makes : Meaning → List ℕ → ℕ → List ℕ → Trail → Type 0
+Makes (Edf workers budget) bytes status text trail = Decides bytes budget status text trail
+Makes (Sp workers budget) bytes status text trail = Analyses bytes status text × (trail ≡ trails.Nothing)
+Makes Upgrade bytes status text trail = Upgrades bytes status text × (trail ≡ trails.Nothing)
+Makes Util bytes status text trail = Utilises bytes status text × (trail ≡ trails.Nothing)
 
 -- The command made a text of the bytes, and what the sink holds grew by exactly this text.
-pub record Says (meaning : Meaning) (status : ℕ) (bytes : List ℕ) (old new : Option (List ℕ)) : Type 0 where
+pub record Says (meaning : Meaning) (status : ℕ) (trail : Trail) (bytes : List ℕ) (old new : Option (List ℕ)) : Type 0 where
   pub text : List ℕ
-  pub makes : Makes meaning bytes status text
+  pub makes : Makes meaning bytes status text trail
   pub written : Grows old new text
 
 -- The command made a text of the bytes, and what the sink holds grew by a prefix of it.
 pub record IsCutShort (meaning : Meaning) (bytes : List ℕ) (old new : Option (List ℕ)) : Type 0 where
   pub status : ℕ
   pub text : List ℕ
-  pub makes : Makes meaning bytes status text
+  pub trail : Trail
+  pub makes : Makes meaning bytes status text trail
   pub written : GrowsByPrefix old new text
 
 -- The file is accepted, but its set hasn't exactly one task, which `sp` doesn't analyse yet: code 99 at line 0.
@@ -81,8 +86,17 @@ IsAnalyseCause bytes stops.Write = ⊥
 IsAnalyseCause bytes stops.Memory = Unit {0}
 IsAnalyseCause bytes (stops.File fault) = IsNotAnalysed bytes fault
 
+-- Why `edf` decides nothing of an accepted set: its numbers are out of reach. Want of memory is free.
+abbrev pub IsEdfCause : List ℕ → Stop → Type 0
+IsEdfCause bytes stops.Words = ⊥
+IsEdfCause bytes stops.Read = ⊥
+IsEdfCause bytes stops.Write = ⊥
+IsEdfCause bytes stops.Memory = Unit {0}
+IsEdfCause bytes (stops.File fault) = IsOutOfReach bytes fault
+
 -- The command refuses the bytes with this fault.
 abbrev pub Refuses : Meaning → List ℕ → Fault → Type 0
+Refuses (Edf workers budget) bytes fault = IsFileFault bytes fault ⊎ IsOutOfReach bytes fault
 Refuses (Sp workers budget) bytes fault = IsFileFault bytes fault ⊎ IsNotAnalysed bytes fault
 Refuses Upgrade bytes fault = IsFileFault bytes fault
 Refuses Util bytes fault = IsFileFault bytes fault ⊎ IsTooFineFile bytes fault
@@ -121,11 +135,12 @@ IsRunCause read_failed write_failed left meaning (stops.File fault) = IfSome lef
 
 -- A run ends with one of these statuses.
 abbrev pub IsStatus : ℕ → Type 0
-IsStatus status = Contains (0 ∷ 1 ∷ 4 ∷ 5 ∷ 6 ∷ 7 ∷ 8 ∷ []) status
+IsStatus status = Contains (0 ∷ 1 ∷ 2 ∷ 3 ∷ 4 ∷ 5 ∷ 6 ∷ 7 ∷ 8 ∷ []) status
 
--- The status that a command ends with at an accepted set where nothing fails: 8 for want of memory, or, for `sp` and one task, 0 where the
+-- The status that a command ends with at an accepted set where nothing fails: 8 for want of memory, or, for `edf` as said above, for `sp` and one task, 0 where the
 -- set is schedulable under fixed priorities and 1 where it isn't, and for `upgrade` 0; for `util` 0, or 4 where the scale is above 2^60.
 abbrev pub Ends : Meaning → Contents → ℕ → Type 0
+Ends (Edf workers budget) set status = EdfEnds set budget status
 Ends (Sp workers budget) set status =
     length set.tasks ≡ 1 → (status ≡ 8) ⊎ (((status ≡ 0) × Schedulable set.tasks Fixed) ⊎ ((status ≡ 1) × ¬ Schedulable set.tasks Fixed))
 Ends Upgrade set status = (status ≡ 8) ⊎ (status ≡ 0)
@@ -136,10 +151,10 @@ pub record IsComplete (meaning : Meaning) (bytes : List ℕ) (status : ℕ) (fau
   pub answered : (set : Contents) → IsAccepted bytes set → Ends meaning set status
   pub refused : (f : Fault) → Refuses meaning bytes f → (status ≡ 8) ⊎ ((status ≡ 4) × (fault ≡ f))
 
--- The words mean a command, and it wrote its text with this status.
-abbrev pub IsDone : Option Meaning → ℕ → List ℕ → Option (List ℕ) → Option (List ℕ) → Type 0
-IsDone None status bytes old new = ⊥
-IsDone (Some meaning) status bytes old new = Says meaning status bytes old new
+-- The words mean a command, and it wrote its text with this status and this trail.
+abbrev pub IsDone : Option Meaning → ℕ → Trail → List ℕ → Option (List ℕ) → Option (List ℕ) → Type 0
+IsDone None status trail bytes old new = ⊥
+IsDone (Some meaning) status trail bytes old new = Says meaning status trail bytes old new
 
 -- The words mean a command, and its text was written in part.
 abbrev pub IsInPart : Option Meaning → List ℕ → Option (List ℕ) → Option (List ℕ) → Type 0
@@ -150,3 +165,14 @@ IsInPart (Some meaning) bytes old new = IsCutShort meaning bytes old new
 abbrev pub IsRefused : Option Meaning → List ℕ → Fault → Type 0
 IsRefused None bytes fault = ⊥
 IsRefused (Some meaning) bytes fault = Refuses meaning bytes fault
+
+-- The numbers of a command are in range: 1 to 16 workers, and a budget of 1 to 1,000,000 steps.
+abbrev pub AreInRange : ℕ → ℕ → Type 0
+AreInRange workers budget = (1 ≤ workers) × (workers ≤ 16) × (1 ≤ budget) × (budget ≤ 1000000)
+
+-- It is so for a command that has these numbers.
+abbrev pub IsInRange : Meaning → Type 0
+IsInRange (Edf workers budget) = AreInRange workers budget
+IsInRange (Sp workers budget) = AreInRange workers budget
+IsInRange Upgrade = Unit {0}
+IsInRange Util = Unit {0}

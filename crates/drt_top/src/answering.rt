@@ -1,21 +1,24 @@
 //! The answer to a set of one task, and its dossier.
 ghost use Rattle.std.specs.Prelude.{◌≡◌, ◌≢◌, ◌≤◌, All, IfErr, IfOk, length, IsTrue};
+ghost use Rattle.drt_evidence.specs.Ranges.{IsInRange};
 ghost use Rattle.drt_model.specs.Constrained.{AreConstrained};
 ghost use Rattle.drt_top.specs.Answers.{Fits, IsFirstLate, IsOnlyTask};
+ghost use Rattle.drt_top.specs.Dossier.{dossier};
 ghost use Rattle.drt_top.specs.Files.{IsAccepted};
 ghost use Rattle.drt_top.specs.Run.{IsAnswer, Analyses, IsAnalyseCause};
 
 use crate::analysis::first_late;
-use crate::dossier::{no_text, yes_text};
+use crate::dossier::{evidence_of_no, evidence_of_yes};
 use crate::outcome::{Fault, NO, NOT_ANALYSED, YES};
 use crate::stop::Stop;
 use drt_busy::{one_task_decides, too_long_misses};
-use drt_model::{Memory, Miss, Release, Row, Task, TaskSet, Vertex};
+use drt_evidence::{Dossier, Evidence};
+use drt_model::{Memory, Miss, Policy, Release, Row, Task, TaskSet, Vertex};
 use std::alloc::Global;
 
 // The status and the dossier of an accepted set of one task; no other set is analysed yet.
-pub(crate) fn answer_to(alloc: Global, bytes: &[u8], set: &TaskSet) -> Result<(u8, Row<u8>), Stop>
-    requires { IsAccepted bytes.now set.now }
+pub(crate) fn answer_to(alloc: Global, bytes: &[u8], set: TaskSet) -> Result<(u8, Row<u8>), Stop>
+    requires { IsAccepted bytes.now set }
     ensures analyses { IfOk result (λ a. Analyses bytes.now a.0 a.1) }
     ensures stops { IfErr result (IsAnalyseCause bytes.now) }
 {
@@ -39,10 +42,27 @@ fn not_analysed() -> Stop
 }
 
 // The status and the dossier of a set of one task.
-fn answer(alloc: Global, set: &TaskSet) -> Result<(u8, Row<u8>), Memory>
+fn answer(alloc: Global, set: TaskSet) -> Result<(u8, Row<u8>), Memory>
+    requires one_task { length set.tasks ≡ 1 }
+    requires constrained { AreConstrained set.tasks }
+    ensures { IfOk result (λ a. IsAnswer set a.0 a.1) }
+{
+    let (status, evidence) = found(alloc, &set)?;
+    let dossier = Dossier {
+        policy: Policy::Fixed,
+        set,
+        evidence,
+    };
+    let text = drt_evidence::print(alloc, &dossier)?;
+    Ok((status, text))
+}
+
+// The status and the evidence for a set of one task.
+fn found(alloc: Global, set: &TaskSet) -> Result<(u8, Evidence), Memory>
     requires one_task { length set.now.tasks ≡ 1 }
     requires constrained { AreConstrained set.now.tasks }
-    ensures { IfOk result (λ a. IsAnswer set.now a.0 a.1) }
+    ensures answer { IfOk result (λ a. IsAnswer set.now a.0 (dossier set.now a.1)) }
+    ensures in_range { IfOk result (λ a. IsInRange a.1) }
 {
     let tasks = set.tasks();
     let task = &tasks[0];
@@ -54,15 +74,16 @@ fn answer(alloc: Global, set: &TaskSet) -> Result<(u8, Row<u8>), Memory>
 }
 
 // The yes of a set of one task each of whose vertices fits.
-fn yes(alloc: Global, set: &TaskSet, task: &Task) -> Result<(u8, Row<u8>), Memory>
+fn yes(alloc: Global, set: &TaskSet, task: &Task) -> Result<(u8, Evidence), Memory>
     requires is_task { IsOnlyTask set.now task.now }
     requires constrained { AreConstrained set.now.tasks }
     requires fits { All Fits task.now.vertices }
-    ensures { IfOk result (λ a. IsAnswer set.now a.0 a.1) }
+    ensures answer { IfOk result (λ a. IsAnswer set.now a.0 (dossier set.now a.1)) }
+    ensures in_range { IfOk result (λ a. IsInRange a.1) }
 {
     one_task_decides();
-    let text = yes_text(alloc, set, task.vertices.as_slice())?;
-    Ok((YES, text))
+    let evidence = evidence_of_yes(alloc, task.vertices.as_slice())?;
+    Ok((YES, evidence))
 }
 
 // The no of a set of one task of which this vertex is the first that doesn't fit.
@@ -72,11 +93,12 @@ fn no(
     task: &Task,
     v: u32,
     vertex: &Vertex,
-) -> Result<(u8, Row<u8>), Memory>
+) -> Result<(u8, Evidence), Memory>
     requires is_task { IsOnlyTask set.now task.now }
     requires constrained { AreConstrained set.now.tasks }
     requires late { IsFirstLate task.now.vertices v vertex.now }
-    ensures { IfOk result (λ a. IsAnswer set.now a.0 a.1) }
+    ensures answer { IfOk result (λ a. IsAnswer set.now a.0 (dossier set.now a.1)) }
+    ensures in_range { IfOk result (λ a. IsInRange a.1) }
 {
     one_task_decides();
     too_long_misses();
@@ -91,6 +113,6 @@ fn no(
         index: 0,
         deadline: u64::from(vertex.deadline),
     };
-    let text = no_text(alloc, set, release, miss)?;
-    Ok((NO, text))
+    let evidence = evidence_of_no(alloc, release, miss)?;
+    Ok((NO, evidence))
 }

@@ -35,6 +35,7 @@ fn analysis<'a>(alloc: Global, name: &'a str) -> Result<Command<'a>, AllocError>
 pub fn drt<'a>(alloc: Global) -> Result<Command<'a>, AllocError>
     ensures { IfOk result (λ c. app_of c ≡ drt_app) }
 {
+    let edf = analysis(alloc, "edf")?;
     let sp = analysis(alloc, "sp")?;
     let upgrade = Command::new(alloc, "upgrade");
     let util = Command::new(alloc, "util");
@@ -43,7 +44,8 @@ pub fn drt<'a>(alloc: Global) -> Result<Command<'a>, AllocError>
         .disable_version_flag(true)
         .disable_help_subcommand(true)
         .subcommand_required(true);
-    let with_sp = top.subcommand(sp)?;
+    let with_edf = top.subcommand(edf)?;
+    let with_sp = with_edf.subcommand(sp)?;
     let with_upgrade = with_sp.subcommand(upgrade)?;
     with_upgrade.subcommand(util)
 }

@@ -1,177 +1,66 @@
-//! Dossiers of sets of one task under fixed priorities.
-ghost use Rattle.std.specs.Prelude.{◌≡◌, ◌++◌, ◌<◌, ◌^◌, ◌∷◌, [], length, map, IfOk, OnOk};
-ghost use Rattle.drt_file.specs.Canonical.{canonical, written, written_line};
-ghost use Rattle.drt_top.specs.Dossier.{
-  dossier,
-  head_lines,
-  last_lines,
-  miss_line,
-  no_evidence,
-  no_head,
-  proof_line,
-  proof_lines,
-  proofs_line,
-  release_line,
-  yes_evidence,
-  yes_head,
-};
+//! The evidence of the answers for sets of one task under fixed priorities.
+ghost use Rattle.std.specs.Prelude.{◌≡◌, ◌<◌, ◌^◌, ◌∷◌, [], All, IfOk, length, map};
+ghost use Rattle.drt_evidence.specs.Ranges.{AreInRangeReleases, IsInRange, IsInRangeProof};
+ghost use Rattle.drt_top.specs.Dossier.{no_evidence, proof_at, proofs_from, yes_evidence};
 
-use crate::lines::push_line;
-use drt_model::{Memory, Miss, Release, Row, TaskSet, Vertex};
-use itoa::Buffer;
+use drt_evidence::{Evidence, Item, ProofClaim};
+use drt_model::{Memory, Miss, Release, Row, Vertex};
 use std::alloc::Global;
 
-// The dossier of a yes: each vertex of the one task passes at its execution time.
-pub(crate) fn yes_text(alloc: Global, set: &TaskSet, vertices: &[Vertex]) -> Result<Row<u8>, Memory>
+// The evidence of a yes: each vertex of the one task passes at its execution time.
+pub(crate) fn evidence_of_yes(alloc: Global, vertices: &[Vertex]) -> Result<Evidence, Memory>
     requires { length vertices.now < 2 ^ 32 }
-    ensures { IfOk result (λ text. text ≡ dossier set.now (yes_evidence (map (λ v. v.wcet) vertices.now))) }
+    ensures is { IfOk result (λ e. e ≡ yes_evidence (map (λ v. v.wcet) vertices.now)) }
+    ensures in_range { IfOk result IsInRange }
 {
-    let mut text = opening(alloc, set)?;
-    push_yes_head(&mut text)?;
-    push_count(&mut text, vertices.len() as u32)?;
-    push_proofs(alloc, &mut text, vertices)?;
-    push_close(&mut text)?;
-    Ok(Row::from_vec(text))
+    let proofs = proofs_of(alloc, vertices)?;
+    Ok(Evidence::FixedYes {
+        trees: Row::from_vec(Vec::new(alloc)),
+        proofs: Row::from_vec(proofs),
+    })
 }
 
-// The dossier of a no: one release, and the miss of its job.
-pub(crate) fn no_text(
+// The evidence of a no: one release, and the miss of its job.
+pub(crate) fn evidence_of_no(
     alloc: Global,
-    set: &TaskSet,
     release: Release,
     miss: Miss,
-) -> Result<Row<u8>, Memory>
-    ensures { IfOk result (λ text. text ≡ dossier set.now (no_evidence (release ∷ []) miss)) }
+) -> Result<Evidence, Memory>
+    requires { AreInRangeReleases (release ∷ []) miss }
+    ensures is { IfOk result (λ e. e ≡ no_evidence (release ∷ []) miss) }
+    ensures in_range { IfOk result IsInRange }
 {
-    let mut text = opening(alloc, set)?;
-    push_no_head(&mut text)?;
-    push_release(&mut text, release)?;
-    push_miss(&mut text, miss)?;
-    push_close(&mut text)?;
-    Ok(Row::from_vec(text))
+    let mut releases = Vec::new(alloc);
+    releases.push(release)?;
+    Ok(Evidence::FixedNo {
+        releases: Row::from_vec(releases),
+        miss,
+    })
 }
 
-// The first lines of a dossier and the text of the set.
-fn opening(alloc: Global, set: &TaskSet) -> Result<Vec<u8>, Memory>
-    ensures { IfOk result (λ text. text.items ≡ written head_lines ++ canonical set.now) }
-{
-    let mut text = Vec::new(alloc);
-    push_head(&mut text)?;
-    let printed = drt_file::print(alloc, set)?;
-    text.extend_from_slice(printed.as_slice())?;
-    Ok(text)
-}
-
-// Adds the first lines of a dossier.
-#[tactic(auto, unfolding(crate::specs::Dossier::head_lines, drt_file::specs::Canonical::written_line))]
-fn push_head(text: &mut Vec<u8>) -> Result<(), Memory>
-    ensures { OnOk result (text.new.items ≡ text.old.items ++ written head_lines) }
-{
-    text.extend_from_slice(b"drt-dossier 1\npolicy fixed\n")
-}
-
-// Adds the lines above the proofs and their number.
-#[tactic(auto, unfolding(crate::specs::Dossier::yes_head, drt_file::specs::Canonical::written_line))]
-fn push_yes_head(text: &mut Vec<u8>) -> Result<(), Memory>
-    ensures { OnOk result (text.new.items ≡ text.old.items ++ written yes_head) }
-{
-    text.extend_from_slice(b"evidence fixed-yes\ntrees 0\n")
-}
-
-// Adds the line of the number of proofs.
-fn push_count(text: &mut Vec<u8>, count: u32) -> Result<(), Memory>
-    ensures { OnOk result (text.new.items ≡ text.old.items ++ written_line (proofs_line count)) }
-{
-    let mut number = Buffer::new();
-    push_line(
-        text,
-        &[b"proofs".as_slice(), number.format(count).as_bytes()],
-    )
-}
-
-// Adds the proofs of the vertices.
-fn push_proofs(alloc: Global, text: &mut Vec<u8>, vertices: &[Vertex]) -> Result<(), Memory>
+// The proof of each vertex, in order.
+fn proofs_of(alloc: Global, vertices: &[Vertex]) -> Result<Vec<ProofClaim>, Memory>
     requires { length vertices.now < 2 ^ 32 }
-    ensures { OnOk result (text.new.items ≡ text.old.items ++ written (proof_lines 0 (map (λ v. v.wcet) vertices.now))) }
+    ensures are { IfOk result (λ proofs. proofs.items ≡ proofs_from 0 (map (λ v. v.wcet) vertices.now)) }
+    ensures in_range { IfOk result (λ proofs. All IsInRangeProof proofs.items) }
 {
+    let mut proofs = Vec::new(alloc);
     for i in 0..vertices.len() {
-        push_proof(alloc, text, i as u32, vertices[i].wcet)?;
+        proofs.push(proof_of(alloc, i as u32, vertices[i].wcet)?)?;
     }
-    Ok(())
+    Ok(proofs)
 }
 
-// Adds the proof that vertex v passes at this time.
-fn push_proof(alloc: Global, text: &mut Vec<u8>, v: u32, time: u32) -> Result<(), Memory>
-    ensures { OnOk result (text.new.items ≡ text.old.items ++ written_line (proof_line v time)) }
+// The proof that a vertex of the one task passes at this time.
+fn proof_of(alloc: Global, vertex: u32, time: u32) -> Result<ProofClaim, Memory>
+    ensures is { IfOk result (λ proof. proof ≡ proof_at vertex time) }
+    ensures in_range { IfOk result IsInRangeProof }
 {
-    let mut first = Buffer::new();
-    let mut vertex = Buffer::new();
-    let mut one = Buffer::new();
-    let mut number = Buffer::new();
-    let mut item = Vec::from_slice(alloc, b"p")?;
-    item.extend_from_slice(number.format(time).as_bytes())?;
-    push_line(
-        text,
-        &[
-            b"proof".as_slice(),
-            first.format(0u32).as_bytes(),
-            vertex.format(v).as_bytes(),
-            one.format(1u32).as_bytes(),
-            item.as_slice(),
-        ],
-    )
-}
-
-// Adds the lines above one release.
-#[tactic(auto, unfolding(crate::specs::Dossier::no_head))]
-fn push_no_head(text: &mut Vec<u8>) -> Result<(), Memory>
-    ensures { OnOk result (text.new.items ≡ text.old.items ++ written (no_head 1)) }
-{
-    let mut one = Buffer::new();
-    push_line(text, &[b"evidence".as_slice(), b"fixed-no".as_slice()])?;
-    push_line(text, &[b"releases".as_slice(), one.format(1u32).as_bytes()])
-}
-
-fn push_release(text: &mut Vec<u8>, release: Release) -> Result<(), Memory>
-    ensures { OnOk result (text.new.items ≡ text.old.items ++ written_line (release_line release)) }
-{
-    let mut task = Buffer::new();
-    let mut vertex = Buffer::new();
-    let mut time = Buffer::new();
-    let mut need = Buffer::new();
-    push_line(
-        text,
-        &[
-            b"release".as_slice(),
-            task.format(release.task).as_bytes(),
-            vertex.format(release.vertex).as_bytes(),
-            time.format(release.time).as_bytes(),
-            need.format(release.need).as_bytes(),
-        ],
-    )
-}
-
-fn push_miss(text: &mut Vec<u8>, miss: Miss) -> Result<(), Memory>
-    ensures { OnOk result (text.new.items ≡ text.old.items ++ written_line (miss_line miss)) }
-{
-    let mut task = Buffer::new();
-    let mut index = Buffer::new();
-    let mut deadline = Buffer::new();
-    push_line(
-        text,
-        &[
-            b"miss".as_slice(),
-            task.format(miss.task).as_bytes(),
-            index.format(miss.index).as_bytes(),
-            deadline.format(miss.deadline).as_bytes(),
-        ],
-    )
-}
-
-// Adds the last line.
-#[tactic(auto, unfolding(crate::specs::Dossier::last_lines, drt_file::specs::Canonical::written_line))]
-fn push_close(text: &mut Vec<u8>) -> Result<(), Memory>
-    ensures { OnOk result (text.new.items ≡ text.old.items ++ written last_lines) }
-{
-    text.extend_from_slice(b"close\n")
+    let mut items = Vec::new(alloc);
+    items.push(Item::Pass(u64::from(time)))?;
+    Ok(ProofClaim {
+        task: 0,
+        vertex,
+        items: Row::from_vec(items),
+    })
 }

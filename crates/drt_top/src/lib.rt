@@ -11,6 +11,7 @@ mod analysis;
 mod answering;
 mod command;
 mod dossier;
+mod edf;
 mod input;
 mod lines;
 mod making;

@@ -2,11 +2,13 @@
 ghost use Rattle.std.specs.Prelude.{◌≡◌, ◌≤◌, IfErr, IfOk, length, map};
 ghost use Rattle.drt_model.specs.Digraph.{digraph_of};
 ghost use Rattle.drt_top.specs.Files.{IsAccepted, most_bytes};
-ghost use Rattle.drt_top.specs.Run.{Makes, Upgrades, Utilises, IsMakeCause};
+ghost use Rattle.drt_top.specs.Reports.{without_trail};
+ghost use Rattle.drt_top.specs.Run.{IsInRange, Makes, Upgrades, Utilises, IsMakeCause};
 
 use crate::answering::answer_to;
+use crate::edf::decided;
 use crate::input::read_set;
-use crate::outcome::YES;
+use crate::outcome::{Trail, YES};
 use crate::stop::Stop;
 use crate::util::util_text;
 use crate::words::Meaning;
@@ -15,10 +17,19 @@ use drt_graph::Graphs;
 use drt_model::{Memory, Row, TaskSet};
 use std::alloc::Global;
 
-// The status and the text that a command makes of a file.
-pub(crate) fn made(alloc: Global, meaning: Meaning, bytes: &[u8]) -> Result<(u8, Row<u8>), Stop>
-    requires { length bytes.now ≤ most_bytes }
-    ensures makes { IfOk result (λ a. Makes meaning bytes.now a.0 a.1) }
+/// What a command makes of a file: a status, a text in bytes, and a trail where a budget was spent.
+#[derive(Drop)]
+pub(crate) struct Report {
+    pub(crate) status: u8,
+    pub(crate) text: Row<u8>,
+    pub(crate) trail: Trail,
+}
+
+// What a command makes of a file.
+pub(crate) fn made(alloc: Global, meaning: Meaning, bytes: &[u8]) -> Result<Report, Stop>
+    requires small { length bytes.now ≤ most_bytes }
+    requires numbers { IsInRange meaning }
+    ensures makes { IfOk result (λ m. Makes meaning bytes.now m.status m.text m.trail) }
     ensures stops { IfErr result (IsMakeCause meaning bytes.now) }
 {
     let (set, graphs) = match read_set(alloc, bytes) {
@@ -26,12 +37,27 @@ pub(crate) fn made(alloc: Global, meaning: Meaning, bytes: &[u8]) -> Result<(u8,
         Err(stop) => return Err(stop),
     };
     match meaning {
-        Meaning::Sp { .. } => answer_to(alloc, bytes, &set),
+        Meaning::Edf { workers: _, budget } => decided(alloc, bytes, set, &graphs, budget),
+        Meaning::Sp { .. } => without_trail(answer_to(alloc, bytes, set)),
         Meaning::Upgrade => match upgraded(alloc, bytes, set) {
-            Ok(text) => Ok((YES, text)),
+            Ok(text) => without_trail(Ok((YES, text))),
             Err(_) => Err(Stop::Memory),
         },
-        Meaning::Util => utilised(alloc, bytes, &set, &graphs),
+        Meaning::Util => without_trail(utilised(alloc, bytes, &set, &graphs)),
+    }
+}
+
+// A status and a text, where no budget was spent.
+fn without_trail(made: Result<(u8, Row<u8>), Stop>) -> Result<Report, Stop>
+    ensures { result ≡ without_trail made }
+{
+    match made {
+        Ok((status, text)) => Ok(Report {
+            status,
+            text,
+            trail: Trail::Nothing,
+        }),
+        Err(stop) => Err(stop),
     }
 }
 

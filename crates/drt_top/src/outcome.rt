@@ -1,4 +1,6 @@
 //! How a run ends.
+use drt_model::Row;
+use drt_table::Entry;
 
 /// How a run ends: the status that the program ends with, what shows a spent budget, and the fault
 /// of a refused file.
@@ -14,6 +16,10 @@ pub struct Outcome {
 pub enum Trail {
     /// No budget was spent.
     Nothing,
+    /// The search of this task's walks spent it, by the steps of this log.
+    Table { task: u32, log: Row<Entry> },
+    /// The search for an overload spent it; its last step time, in ticks.
+    Overload { last: u64 },
 }
 
 /// Why a file is refused.
@@ -35,6 +41,12 @@ pub const YES: u8 = 0;
 /// The status of a set that isn't schedulable.
 pub const NO: u8 = 1;
 
+/// The status of a utilisation of one.
+pub const ONE: u8 = 2;
+
+/// The status of a spent budget.
+pub const UNDECIDED: u8 = 3;
+
 /// The status of a refused file.
 pub const FILE_REFUSED: u8 = 4;
 
@@ -52,6 +64,12 @@ pub const OUT_OF_MEMORY: u8 = 8;
 
 /// The code of a file that is too long.
 pub const TOO_LONG: u8 = 23;
+
+/// The code of a set whose scale exceeds 2^60.
+pub const SCALE_TOO_FINE: u8 = 21;
+
+/// The code of a set whose horizon exceeds 2^40.
+pub const HORIZON_TOO_FAR: u8 = 22;
 
 /// The code of a file that isn't analysed.
 pub const NOT_ANALYSED: u8 = 99;

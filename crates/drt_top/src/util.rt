@@ -6,7 +6,7 @@ ghost use Rattle.drt_ratio.specs.SetRatios.{AreRatioProofs, AreSmall, fractions_
 ghost use Rattle.drt_top.specs.Util.{IsTooFine, IsUtilisationText, fraction_line, ratio_lines, util_lines};
 
 use crate::lines::push_line;
-use crate::outcome::Fault;
+use crate::outcome::{Fault, SCALE_TOO_FINE};
 use crate::stop::Stop;
 use drt_graph::Graphs;
 use drt_model::{Memory, Row, Task, TaskSet};
@@ -14,9 +14,6 @@ use drt_num::Ratio;
 use drt_ratio::{RatioProof, greatest, proofs_give_ratios, utilisation};
 use itoa::Buffer;
 use std::alloc::Global;
-
-/// The code of a set whose scale exceeds 2^60.
-const SCALE_TOO_FINE: u8 = 21;
 
 /// The text of `util`: a line `NAME NUM/DEN` for the ratio of each task, in order, and a line `total NUM/DEN` for the
 /// utilisation of the set, all in lowest terms. A set whose scale exceeds 2^60 is refused with the fault of that limit.

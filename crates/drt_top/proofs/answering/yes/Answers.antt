@@ -1,18 +1,20 @@
-use Rattle.std.proofs.Common.{inl, refl}
-use Rattle.std.proofs.Common.{ap, ◌∙◌, map, List}
+use Rattle.std.proofs.Common.{inl, refl, ap, ◌∙◌, map, List}
 use Rattle.drt_model.specs.declared.tasks.Vertex.{Vertex}
-use Rattle.drt_top.specs.Dossier.{dossier, yes_evidence}
 use Rattle.drt_model.specs.declared.jobs.Policy.TheVariants.{Fixed}
+use Rattle.drt_top.specs.Dossier.{dossier, yes_evidence}
 use Rattle.drt_top.proofs.answering.yes.Goals as goal
 
 pub returns : goal.returns
-returns c = inl (
-  refl,
-  record {
-    schedulable = (c.one_task_decides.ensures c.args.set.now.version c.args.set.now.tasks c.args.task.now Fixed c.requires.is_task.limits c.requires.constrained c.requires.is_task.one c.requires.is_task.is).1 c.requires.fits;
-    task = c.args.task.now;
-    is = c.requires.is_task.is;
-    fits = c.requires.fits;
-    text_is = c.in_ok-text.ensures ∙ ap (λ (vs : List Vertex). dossier c.args.set.now (yes_evidence (map (λ (v : Vertex). v.wcet) vs))) c.as_slice.ensures;
-  },
-)
+returns c = record {
+  answer = inl (
+    refl,
+    record {
+      schedulable = (c.one_task_decides.ensures c.args.set.now.version c.args.set.now.tasks c.args.task.now Fixed c.requires.is_task.limits c.requires.constrained c.requires.is_task.one c.requires.is_task.is).1 c.requires.fits;
+      task = c.args.task.now;
+      is = c.requires.is_task.is;
+      fits = c.requires.fits;
+      text_is = ap (dossier c.args.set.now) (c.in_ok-evidence.ensures.is ∙ ap (λ (vs : List Vertex). yes_evidence (map (λ (v : Vertex). v.wcet) vs)) c.as_slice.ensures);
+    },
+  );
+  in_range = c.in_ok-evidence.ensures.in_range;
+}

@@ -20,6 +20,12 @@ required = on_top (λ s. record s { subcommand_required = true })
 abbrev top_of : App → Shape
 top_of a = a.top
 
+abbrev with_edf : App
+with_edf = with_subcommand (bare_app (new_app (codes "drt"))) (analysis_app (codes "edf")).top
+
+abbrev with_sp : App
+with_sp = with_subcommand with_edf (analysis_app (codes "sp")).top
+
 pub returns : goal.returns
 returns c =
     let top_is : app_of c.subcommand_required-top.result ≡ bare_app (new_app (codes "drt")) =
@@ -27,8 +33,10 @@ returns c =
     (ap app_of_fields c.disable_help_subcommand.ensures ∙ ap no_help_command
     (ap app_of_fields c.disable_version_flag.ensures ∙ ap no_version
     (ap app_of_fields c.disable_help_flag.ensures ∙ ap no_help c.new.ensures.app))) in
-    let sp_is : app_of c.in_ok-with_sp.with_sp ≡ with_subcommand (bare_app (new_app (codes "drt"))) (analysis_app (codes "sp")).top =
-    c.in_ok-with_sp.ensures.shape c.in_ok-sp.ensures.local ∙ ap₂ with_subcommand top_is (ap top_of c.in_ok-sp.ensures.app) in
-    let upgrade_is : app_of c.in_ok-with_upgrade.with_upgrade ≡ with_subcommand (with_subcommand (bare_app (new_app (codes "drt"))) (analysis_app (codes "sp")).top) (new_app (codes "upgrade")).top =
+    let edf_is : app_of c.in_ok-with_edf.with_edf ≡ with_edf =
+    c.in_ok-with_edf.ensures.shape c.in_ok-edf.ensures.local ∙ ap₂ with_subcommand top_is (ap top_of c.in_ok-edf.ensures.app) in
+    let sp_is : app_of c.in_ok-with_sp.with_sp ≡ with_sp =
+    c.in_ok-with_sp.ensures.shape c.in_ok-sp.ensures.local ∙ ap₂ with_subcommand edf_is (ap top_of c.in_ok-sp.ensures.app) in
+    let upgrade_is : app_of c.in_ok-with_upgrade.with_upgrade ≡ with_subcommand with_sp (new_app (codes "upgrade")).top =
     c.in_ok-with_upgrade.ensures.shape c.new-upgrade.ensures.local ∙ ap₂ with_subcommand sp_is (ap top_of c.new-upgrade.ensures.app) in
-    IfOk-weaker c.subcommand-3.result _ _ (λ made h. h.shape c.new-util.ensures.local ∙ ap₂ with_subcommand upgrade_is (ap top_of c.new-util.ensures.app)) c.subcommand-3.ensures
+    IfOk-weaker c.subcommand-4.result _ _ (λ made h. h.shape c.new-util.ensures.local ∙ ap₂ with_subcommand upgrade_is (ap top_of c.new-util.ensures.app)) c.subcommand-4.ensures

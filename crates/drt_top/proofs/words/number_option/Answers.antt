@@ -5,8 +5,8 @@ use Rattle.clap.proofs.WalkLemmas.{first_value-rows}
 use Rattle.drt_top.specs.Number.{number_in}
 use Rattle.drt_top.proofs.words.number_option.Goals as goal
 
-pub returns-in-Some : goal.returns-in-Some
-returns-in-Some c = c.number_of.ensures ∙ ap (option_and_then (number_in c.args.most)) (c.in-Some.ensures ∙ first_value-rows (found_of c.args.matches.now) c.args.name.now)
+pub returns-in-Some-clause-value : goal.returns-in-Some-clause-value
+returns-in-Some-clause-value c = c.number_of.ensures.value ∙ ap (option_and_then (number_in c.args.most)) (c.in-Some.ensures ∙ first_value-rows (found_of c.args.matches.now) c.args.name.now)
 
-pub returns-in-None : goal.returns-in-None
-returns-in-None c = ap (option_and_then (number_in c.args.most)) (c.in-None.ensures ∙ first_value-rows (found_of c.args.matches.now) c.args.name.now)
+pub returns-in-None-clause-value : goal.returns-in-None-clause-value
+returns-in-None-clause-value c = ap (option_and_then (number_in c.args.most)) (c.in-None.ensures ∙ first_value-rows (found_of c.args.matches.now) c.args.name.now)
