@@ -12,6 +12,8 @@ mod answering;
 mod command;
 mod dossier;
 mod edf;
+#[cfg(test)]
+mod edf_tests;
 mod input;
 mod lines;
 mod making;
