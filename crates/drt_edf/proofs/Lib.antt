@@ -17,3 +17,4 @@ pub mod Overloads
 pub mod EvidenceKinds
 pub mod Gathered
 pub mod Decided
+pub mod PlainWorks

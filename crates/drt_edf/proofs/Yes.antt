@@ -42,7 +42,8 @@ abbrev pub HasRoom : List Digraph → List (List Demand) → ℕ → Type 0
 HasRoom graphs fronts bound = (s : ℕ) → s ≤ bound → demands graphs fronts s ≤ s
 
 -- The set is schedulable.
-pub schedulable : HorizonHolds → DeadlinesDecide → (version : ℕ) (tasks : List Task) → IsTaskSet version tasks → AreConstrained tasks → AreGraphs (graphs_of tasks) → (proofs : List RatioProof) → AreGiven (graphs_of tasks) proofs → (bound : ℕ) → IsPlan (graphs_of tasks) proofs (Ok (Under bound)) → (fronts : List (List Demand)) → AreLabelFronts bound (graphs_of tasks) fronts → HasRoom (graphs_of tasks) fronts bound → Schedulable tasks Edf
+pub schedulable : HorizonHolds → DeadlinesDecide → (version : ℕ) (tasks : List Task) → IsTaskSet version tasks → AreConstrained tasks → AreGraphs (graphs_of tasks)
+    → (proofs : List RatioProof) → AreGiven (graphs_of tasks) proofs → (bound : ℕ) → IsPlan (graphs_of tasks) proofs (Ok (Under bound)) → (fronts : List (List Demand)) → AreLabelFronts bound (graphs_of tasks) fronts → HasRoom (graphs_of tasks) fronts bound → Schedulable tasks Edf
 schedulable holds decide version tasks is constrained graphs proofs given bound plan fronts are room = (decide version tasks is constrained).1 fits
   where
     fits : (t : ℕ) (walks : ℕ → List ℕ) → AreWalks tasks walks → AreDueBy tasks walks t → efforts tasks walks (length tasks) ≤ t
@@ -150,7 +151,8 @@ fronts_kept tasks bound fronts graphs near are room = record {
 }
 
 -- A yes.
-pub is_yes : HorizonHolds → DeadlinesDecide → (version : ℕ) (tasks : List Task) → IsTaskSet version tasks → AreConstrained tasks → AreGraphs (graphs_of tasks) → (proofs : List RatioProof) → AreGiven (graphs_of tasks) proofs → (bound : ℕ) → IsPlan (graphs_of tasks) proofs (Ok (Under bound)) → (fronts : List (List Demand)) → AreLabelFronts bound (graphs_of tasks) fronts → HasRoom (graphs_of tasks) fronts bound → IsYes tasks (claims_of proofs) (map entries_of fronts)
+pub is_yes : HorizonHolds → DeadlinesDecide → (version : ℕ) (tasks : List Task) → IsTaskSet version tasks → AreConstrained tasks → AreGraphs (graphs_of tasks)
+    → (proofs : List RatioProof) → AreGiven (graphs_of tasks) proofs → (bound : ℕ) → IsPlan (graphs_of tasks) proofs (Ok (Under bound)) → (fronts : List (List Demand)) → AreLabelFronts bound (graphs_of tasks) fronts → HasRoom (graphs_of tasks) fronts bound → IsYes tasks (claims_of proofs) (map entries_of fronts)
 is_yes holds decide version tasks is constrained graphs proofs given bound plan fronts are room =
     let below = claims_below proofs (graphs_of tasks) bound plan in
     record {

@@ -9,3 +9,4 @@ pub mod Turns
 pub mod Nos
 pub mod Exclusions
 pub mod KeptNodes
+pub mod Plain

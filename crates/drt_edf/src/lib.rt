@@ -12,10 +12,14 @@ mod answer;
 mod below;
 mod claims;
 #[cfg(test)]
+mod drawn_tests;
+#[cfg(test)]
 mod front_tests;
 mod fronts;
 mod kept;
 mod laws;
+#[cfg(test)]
+mod plain;
 mod refusal;
 #[cfg(test)]
 mod refusal_tests;

@@ -165,3 +165,55 @@ fn numbers_out_of_reach_have_their_code(rt: HostRuntime) -> Result<(), Fail> {
     }
     Ok(())
 }
+
+#[test]
+fn an_engine_controller_meets_its_deadlines(rt: HostRuntime) -> Result<(), Fail> {
+    let text =
+        "drt 1\ntask engine\nvertex slow 12 60\nvertex mid 8 30\nvertex fast 4 15\nedge slow slow 60\nedge slow mid 60\nedge mid slow 30\nedge mid mid 30\nedge mid fast 30\nedge fast fast 15\nedge fast mid 15\ntask can\nvertex c 10 50\nedge c c 50\ntask log\nvertex l 20 100\nedge l l 200\nend\n";
+    let (outcome, held) = decided(rt.alloc(), &[], text)?;
+    assert_eq!(rt; outcome.status, 0);
+    // Each of these cycles has the engine's ratio.
+    let mut is_one_of_them = false;
+    for cycle in ["1 1", "1 2", "2 1 2", "2 2 1"] {
+        let mut whole = dossier(
+            rt.alloc(),
+            text,
+            "evidence edf-yes\nratios 3\nratio 4 15\ncycle ",
+        )?;
+        whole.extend_from_slice(cycle.as_bytes())?;
+        whole.extend_from_slice(
+            b"\npotentials 3 120 60 0\nratio 1 5\ncycle 1 0\npotentials 1 0\nratio 1 10\ncycle 1 0\npotentials 1 0\nfronts 3\nfront 1\nlabel 2 0 4\nfront 0\nfront 0\nclose\n",
+        )?;
+        is_one_of_them = is_one_of_them || held.as_slice() == whole.as_slice();
+    }
+    assert!(rt; is_one_of_them);
+    Ok(())
+}
+
+#[test]
+fn numbers_out_of_range_are_refused_under_edf(rt: HostRuntime) -> Result<(), Fail> {
+    for option in ["--workers=0", "--workers=17", "--budget=1000001"] {
+        let (outcome, held) = decided(rt.alloc(), &[option], "")?;
+        assert_eq!(rt; outcome.status, 5);
+        assert!(rt; held.as_slice().is_empty());
+    }
+    Ok(())
+}
+
+#[test]
+fn a_failed_read_ends_an_analysis_under_edf(rt: HostRuntime) -> Result<(), Fail> {
+    let alloc = rt.alloc();
+    let text =
+        "drt 1\ntask T1\nvertex a 1 2\nvertex b 4 6\nedge a b 2\nedge b a 8\nedge a a 5\ntask T2\nvertex c 3 4\nedge c c 10\nend\n";
+    let mut words = Vec::new(alloc);
+    words.push(String::from_str(alloc, "drt")?)?;
+    words.push(String::from_str(alloc, "edf")?)?;
+    let input = Row::from_vec(Vec::from_slice(alloc, text.as_bytes())?);
+    let failing = Row::from_vec(Vec::from_slice(alloc, &[2u64])?);
+    let mut source = MemorySource::new(input, 16, failing);
+    let mut sink = MemorySink::new(alloc, 2000, 100, Row::from_vec(Vec::new(alloc)))?;
+    let outcome = run(alloc, words.as_slice(), &mut source, &mut sink);
+    assert_eq!(rt; outcome.status, 6);
+    assert!(rt; sink.bytes().is_empty());
+    Ok(())
+}
