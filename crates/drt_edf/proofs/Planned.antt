@@ -16,7 +16,8 @@ use Rattle.drt_horizon.specs.Plans.{IsPlan}
 use Rattle.drt_evidence.specs.Claims.{graphs_of, fractions, IsBelowOne as ClaimsBelowOne, IsHorizon}
 use Rattle.drt_evidence.specs.Rules.{AreRatioClaims}
 use Rattle.drt_edf.specs.Answers.{IsBeyond, IsOnlyOne}
-use Rattle.drt_edf.specs.Plans.{Rates, IsTooFine, IsAboveOne, IsBelowOne, IsTooFar}
+use Rattle.drt_evidence.specs.Rates.{Rates}
+use Rattle.drt_edf.specs.Plans.{IsTooFine, IsAboveOne, IsBelowOne, IsTooFar}
 use Rattle.drt_edf.specs.RatioClaims.{claims_of}
 use Rattle.drt_edf.proofs.RatioClaims.{fractions_same, potentials_same, claims_count, claims_lowest, each_given, potentials_are, ratios_are}
 

@@ -10,7 +10,8 @@ use Rattle.drt_model.specs.Horizon.{horizon}
 use Rattle.drt_ratio.proofs.Scales.{scale_same}
 use Rattle.drt_ratio.proofs.Unique.{ratios_same}
 use Rattle.drt_evidence.specs.Claims.{graphs_of}
-use Rattle.drt_edf.specs.Plans.{ArePotentials, Rates, IsBelowOne}
+use Rattle.drt_evidence.specs.Rates.{Rates}
+use Rattle.drt_edf.specs.Plans.{ArePotentials, IsBelowOne}
 
 -- The ratios and the scale.
 pub rates_same : (tasks : List Task) → All IsSound (graphs_of tasks) → (r s : Rates tasks) → (r.ratios ≡ s.ratios) × (r.scale ≡ s.scale)

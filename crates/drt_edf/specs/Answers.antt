@@ -17,7 +17,8 @@ use Rattle.drt_evidence.specs.declared.evidence.Evidence.{Evidence}
 use Rattle.drt_evidence.specs.declared.evidence.Evidence.TheVariants.{EdfYes, EdfNo, UtilisationOne, FixedYes, FixedNo, Undecided}
 use Rattle.drt_evidence.specs.declared.evidence.FrontEntry.{FrontEntry}
 use Rattle.drt_evidence.specs.declared.evidence.RatioClaim.{RatioClaim}
-use Rattle.drt_edf.specs.Plans.{IsAboveOne, IsAtOne, IsBelowOne, IsTooFar, IsTooFine}
+use Rattle.drt_evidence.specs.Rates.{IsAtOne}
+use Rattle.drt_edf.specs.Plans.{IsAboveOne, IsBelowOne, IsTooFar, IsTooFine}
 use Rattle.drt_edf.specs.Walks.{IsExactFront}
 use Rattle.drt_edf.specs.Spent.{IsSpentOverload, IsSpentTable}
 use Rattle.drt_edf.specs.declared.answer.EdfAnswer.{EdfAnswer}

@@ -3,7 +3,8 @@ use Rattle.std.specs.Prelude.{◌≡◌, ℕ, List, All}
 use Rattle.drt_model.specs.declared.tasks.Task.{Task}
 use Rattle.drt_model.specs.Digraph.{IsSound}
 use Rattle.drt_evidence.specs.Claims.{graphs_of}
-use Rattle.drt_edf.specs.Plans.{Rates, IsBelowOne}
+use Rattle.drt_evidence.specs.Rates.{Rates}
+use Rattle.drt_edf.specs.Plans.{IsBelowOne}
 
 -- The ratios of a set's tasks are one list, and its scale one number.
 abbrev pub RatesAreOne : Type 0

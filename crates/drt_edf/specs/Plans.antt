@@ -2,10 +2,11 @@
 use Rattle.std.specs.Prelude.{◌≡◌, ℕ, ◌≤◌, ◌<◌, ◌^◌, ℤ, List, [], ◌∷◌}
 use Rattle.drt_model.specs.declared.tasks.Task.{Task}
 use Rattle.drt_model.specs.Digraph.{Digraph}
-use Rattle.drt_model.specs.Utilisation.{Fraction, AreRatios, IsScale, rate}
+use Rattle.drt_model.specs.Utilisation.{Fraction, rate}
 use Rattle.drt_model.specs.Potential.{AreCanonical}
 use Rattle.drt_model.specs.Horizon.{horizon}
 use Rattle.drt_evidence.specs.Claims.{graphs_of}
+use Rattle.drt_evidence.specs.Rates.{Rates}
 
 -- The lists are the canonical potentials of the graphs at these ratios, in order.
 abbrev pub ArePotentials : List Digraph → List Fraction → List (List ℤ) → Type 0
@@ -14,20 +15,9 @@ ArePotentials (g ∷ graphs) [] potentials = ⊥
 ArePotentials (g ∷ graphs) (r ∷ ratios) [] = ⊥
 ArePotentials (g ∷ graphs) (r ∷ ratios) (hs ∷ potentials) = AreCanonical g r.num r.den hs × ArePotentials graphs ratios potentials
 
--- The ratios of a set's tasks, and their scale.
-pub record Rates (tasks : List Task) : Type 0 where
-  pub ratios : List Fraction
-  pub are : AreRatios (graphs_of tasks) ratios
-  pub scale : ℕ
-  pub is_scale : IsScale ratios scale
-
 -- The scale exceeds 2^60.
 abbrev pub IsTooFine : List Task → Type 0
 IsTooFine tasks = (r : Rates tasks) × (2 ^ 60 < r.scale)
-
--- The scale is at most 2^60, and the utilisation is one.
-abbrev pub IsAtOne : List Task → Type 0
-IsAtOne tasks = (r : Rates tasks) × (r.scale ≤ 2 ^ 60) × (rate r.scale r.ratios ≡ r.scale)
 
 -- The scale is at most 2^60, and the utilisation is above one.
 abbrev pub IsAboveOne : List Task → Type 0

@@ -5,3 +5,6 @@ pub mod Fields
 pub mod Claims
 pub mod Fronts
 pub mod Rules
+pub mod Numbered
+pub mod Rates
+pub mod Reading

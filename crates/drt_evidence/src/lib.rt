@@ -9,10 +9,12 @@
 #![tactic(auto)]
 
 mod evidence;
+pub mod fault;
 mod lines;
 mod printing;
 #[cfg(test)]
 mod tests;
 
 pub use evidence::{Dossier, Evidence, FrontEntry, Item, Pair, ProofClaim, RatioClaim, TreeClaim};
+pub use fault::{DossierError, DossierFault};
 pub use printing::print;

@@ -16,7 +16,8 @@ use Rattle.drt_evidence.specs.Text.{text}
 use Rattle.drt_evidence.specs.declared.evidence.Evidence.{Evidence}
 use Rattle.drt_evidence.specs.declared.evidence.Evidence.TheVariants.{EdfYes, EdfNo, UtilisationOne, FixedYes, FixedNo, Undecided}
 use Rattle.drt_edf.specs.Answers.{IsBeyond, IsDone, IsOther, IsPlanned, IsUndecided}
-use Rattle.drt_edf.specs.Plans.{IsAboveOne, IsAtOne, IsBelowOne, Rates}
+use Rattle.drt_evidence.specs.Rates.{IsAtOne, Rates}
+use Rattle.drt_edf.specs.Plans.{IsAboveOne, IsBelowOne}
 use Rattle.drt_edf.specs.Spent.{IsEnough, table_need}
 use Rattle.drt_edf.specs.declared.answer.EdfTrail.{EdfTrail}
 use Rattle.drt_edf.specs.declared.answer.EdfTrail.TheVariants.{Table, Overload}

@@ -15,7 +15,7 @@ use Rattle.drt_evidence.specs.Rules.{Accepts}
 use Rattle.drt_evidence.specs.Statement.{Statement}
 use Rattle.drt_evidence.specs.Text.{text}
 use Rattle.drt_edf.specs.Answers.{IsYes, IsMissed, IsOnlyOne, IsOther, IsUndecided, IsBeyond}
-use Rattle.drt_edf.specs.Plans.{IsAtOne}
+use Rattle.drt_evidence.specs.Rates.{IsAtOne}
 use Rattle.drt_edf.specs.Spent.{IsEnough}
 use Rattle.drt_edf.specs.declared.answer.EdfTrail.{EdfTrail}
 use Rattle.drt_edf.specs.declared.answer.EdfTrail.TheVariants.{Table, Overload}

@@ -1,0 +1,37 @@
+-- What the checker's judgement of a dossier says.
+use Rattle.std.specs.Prelude.{◌≡◌, ℕ, List}
+use Rattle.drt_model.specs.Schedulable.{Schedulable}
+use Rattle.drt_evidence.specs.Statement.{Statement}
+use Rattle.drt_evidence.specs.Numbered.{BreaksFirst}
+use Rattle.drt_evidence.specs.Rates.{IsAtOne}
+use Rattle.drt_evidence.specs.Rules.{Accepts}
+use Rattle.drt_evidence.specs.declared.evidence.Evidence.{Evidence}
+use Rattle.drt_evidence.specs.declared.evidence.Evidence.TheVariants.{EdfYes, EdfNo, UtilisationOne, FixedYes, FixedNo, Undecided}
+use Rattle.drt_check.specs.declared.judgement.Judgement.{Judgement}
+use Rattle.drt_check.specs.declared.judgement.Judgement.TheVariants as judgements
+
+-- The judgement of accepted evidence, by its kind.
+abbrev pub claimed : Evidence → Judgement
+claimed (EdfYes ratios fronts) = judgements.Schedulable
+claimed (EdfNo releases miss) = judgements.Unschedulable
+claimed (UtilisationOne ratios) = judgements.UtilisationOne
+claimed (FixedYes trees proofs) = judgements.Schedulable
+claimed (FixedNo releases miss) = judgements.Unschedulable
+claimed Undecided = judgements.NothingToCheck
+
+-- How a statement is judged: there is nothing to check exactly where the evidence is `undecided`; else it is rejected with the least
+-- number of a rule that it breaks, or it is accepted, and judged by the kind of its evidence.
+abbrev pub IsJudged : Statement → Judgement → Type 0
+IsJudged s judgements.Schedulable = Accepts s × (claimed s.evidence ≡ judgements.Schedulable)
+IsJudged s judgements.Unschedulable = Accepts s × (claimed s.evidence ≡ judgements.Unschedulable)
+IsJudged s judgements.UtilisationOne = Accepts s × (claimed s.evidence ≡ judgements.UtilisationOne)
+IsJudged s judgements.NothingToCheck = s.evidence ≡ Undecided
+IsJudged s (judgements.Rejected number) = (¬ (s.evidence ≡ Undecided)) × BreaksFirst s number
+
+-- What a judgement means, whoever made the dossier.
+abbrev pub IsSound : Statement → Judgement → Type 0
+IsSound s judgements.Schedulable = Schedulable s.set.tasks s.policy
+IsSound s judgements.Unschedulable = ¬ Schedulable s.set.tasks s.policy
+IsSound s judgements.UtilisationOne = IsAtOne s.set.tasks
+IsSound s judgements.NothingToCheck = Unit {0}
+IsSound s (judgements.Rejected number) = Unit {0}

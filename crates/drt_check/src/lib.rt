@@ -1,0 +1,9 @@
+//! The independent checker of dossiers.
+//!
+//! It stands on no crate of the search. What it asks of a dossier are the rules of `drt_evidence/specs/Numbered.antt`, each a
+//! sentence over lists and numbers; what its judgement means stands in `specs/Judging.antt`.
+#![tactic(auto)]
+
+mod judgement;
+
+pub use judgement::Judgement;
