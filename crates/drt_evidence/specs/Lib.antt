@@ -8,3 +8,4 @@ pub mod Rules
 pub mod Numbered
 pub mod Rates
 pub mod Reading
+pub mod LineForms

@@ -12,6 +12,7 @@ mod evidence;
 pub mod fault;
 mod lines;
 mod printing;
+mod reading;
 #[cfg(test)]
 mod tests;
 

@@ -1,0 +1,114 @@
+//! Single fields of a line.
+ghost use Rattle.std.specs.Prelude.{◌≡◌, ◌≤◌, ◌++◌, ◌∷◌, List, ℕ, min, decimal, MatchOption};
+ghost use Rattle.std.specs.Fmt.{signed_decimal};
+ghost use Rattle.drt_file.specs.Words.{value};
+ghost use Rattle.drt_evidence.specs.LineForms.{HasNoSpace, IsForm, IsNoForm};
+ghost use Rattle.drt_evidence.specs.Ranges.{IsInRangeItem, IsInRangePotential, IsNumber, IsTick};
+ghost use Rattle.drt_evidence.specs.Text.{item_field};
+
+use crate::evidence::Item;
+use itoa::Buffer;
+
+/// The greatest number of a vertex, a task, a job or a place, and the greatest count.
+pub(crate) const MOST_NUMBER: u64 = 4_294_967_295;
+/// The greatest offset, time, need or deadline, in ticks.
+pub(crate) const MOST_TICKS: u64 = 1_000_000_000_000_000_000;
+/// The greatest work, in ticks.
+pub(crate) const MOST_WORK: u64 = 2_000_000_000_000_000_000;
+/// The greatest numerator and denominator of a ratio.
+pub(crate) const MOST_PART: u64 = 1_000_000_000;
+/// The greatest size of a potential.
+const MOST_HEIGHT: u64 = 10_000_000_000_000_000;
+
+// The first field of bytes, and what stands behind the space at its end.
+pub(crate) fn cut_field(bytes: &[u8]) -> (&[u8], Option<&[u8]>)
+    ensures field { HasNoSpace result.0.now }
+    ensures rest { MatchOption result.1 (bytes.now ≡ result.0.now) (λ rest. bytes.now ≡ result.0.now ++ 32 ∷ rest.now) }
+{
+    for (i, b) in bytes.iter().enumerate() {
+        if *b == b' ' {
+            return (&bytes[..i], Some(&bytes[i + 1..]));
+        }
+    }
+    (bytes, None)
+}
+
+// What stands behind a word and a space.
+pub(crate) fn behind_word<'a>(line: &'a [u8], word: &[u8]) -> Option<&'a [u8]>
+    ensures { MatchOption result ((rest : List ℕ) → ¬ (line.now ≡ word.now ++ 32 ∷ rest)) (λ rest. line.now ≡ word.now ++ 32 ∷ rest.now) }
+{
+    match line.strip_prefix(word)? {
+        [b' ', rest @ ..] => Some(rest),
+        _ => None,
+    }
+}
+
+// What bytes mean as digits, and the greatest number where that is greater.
+fn value_of(field: &[u8]) -> u64
+    ensures { result ≡ min (value field.now) 18446744073709551615 }
+{
+    let mut n: u64 = 0;
+    for b in field {
+        n = n
+            .saturating_mul(10)
+            .saturating_add(u64::from(b.saturating_sub(48)));
+    }
+    n
+}
+
+// The number that the field is, where it is at most so great.
+pub(crate) fn number_of(field: &[u8], most: u64) -> Option<u64>
+    ensures { MatchOption result (IsNoForm decimal (λ n. n ≤ most) field.now) (IsForm decimal (λ n. n ≤ most) field.now) }
+{
+    let n = value_of(field);
+    let mut number = Buffer::new();
+    if n <= most && number.format(n).as_bytes() == field {
+        Some(n)
+    } else {
+        None
+    }
+}
+
+// The number of a vertex, a task, a job or a place, or the count, that the field is.
+pub(crate) fn index_of(field: &[u8]) -> Option<u32>
+    ensures { MatchOption result (IsNoForm decimal IsNumber field.now) (IsForm decimal IsNumber field.now) }
+{
+    match number_of(field, MOST_NUMBER) {
+        Some(n) => Some(n as u32),
+        None => None,
+    }
+}
+
+// The potential that the field is.
+pub(crate) fn potential_of(field: &[u8]) -> Option<i64>
+    ensures { MatchOption result (IsNoForm signed_decimal IsInRangePotential field.now) (IsForm signed_decimal IsInRangePotential field.now) }
+{
+    match field {
+        [b'-', digits @ ..] => match number_of(digits, MOST_HEIGHT) {
+            Some(0) => None,
+            Some(n) => Some(-(n as i64)),
+            None => None,
+        },
+        _ => match number_of(field, MOST_HEIGHT) {
+            Some(n) => Some(n as i64),
+            None => None,
+        },
+    }
+}
+
+// The item of a proof that the field is.
+pub(crate) fn item_of(field: &[u8]) -> Option<Item>
+    ensures { MatchOption result (IsNoForm item_field IsInRangeItem field.now) (IsForm item_field IsInRangeItem field.now) }
+{
+    match field {
+        [b'p', time @ ..] => match number_of(time, MOST_TICKS) {
+            Some(t) => Some(Item::Pass(t)),
+            None => None,
+        },
+        [b's', place @ ..] => match index_of(place) {
+            Some(p) => Some(Item::Split(p)),
+            None => None,
+        },
+        _ => None,
+    }
+}
