@@ -4,6 +4,7 @@
 //! sentence over lists and numbers; what its judgement means stands in `specs/Judging.antt`.
 #![tactic(auto)]
 
+mod fronts;
 mod judgement;
 
 pub use judgement::Judgement;

@@ -1,0 +1,268 @@
+ghost use Rattle.std.specs.Prelude.{All, IfOk};
+ghost use Rattle.drt_evidence.specs.Ranges.{IsInRangeEntry};
+
+use super::broken_front_rule;
+use drt_evidence::FrontEntry;
+use drt_graph::{Graphs, check};
+use drt_model::{Edge, Memory, Name, Row, Task, Vertex, task_set};
+use std::alloc::Global;
+use std::process::Abort;
+use std::test::Fail;
+
+// A task as its vertices' execution times and deadlines, and its edges' sources, targets and separations.
+type Shape<'a> = (&'a [(u32, u32)], &'a [(u32, u32, u32)]);
+
+// An entry as its vertex, offset and work.
+type Entry = (u32, u64, u64);
+
+// Tasks, a bound, fronts, and the rule that they break.
+type Case<'a> = (&'a [Shape<'a>], u64, &'a [&'a [Entry]], Option<u8>);
+
+fn name(alloc: Global, first: u8, number: usize) -> Result<Name, Memory> {
+    Ok(Name::from_vec(Vec::from_slice(alloc, &[first, b'a' + (number % 26) as u8])?))
+}
+
+fn task(alloc: Global, number: usize, shape: Shape<'_>) -> Result<Task, Memory> {
+    let mut vertices = Vec::new(alloc);
+    for (i, vertex) in shape.0.iter().enumerate() {
+        vertices.push(Vertex {
+            name: name(alloc, b'v', i)?,
+            wcet: vertex.0,
+            deadline: vertex.1,
+        })?;
+    }
+    let mut edges = Vec::new(alloc);
+    for edge in shape.1 {
+        edges.push(Edge {
+            from: edge.0,
+            to: edge.1,
+            sep: edge.2,
+        })?;
+    }
+    Ok(Task {
+        name: name(alloc, b'T', number)?,
+        priority: (number % 16) as u32 + 1,
+        vertices: Row::from_vec(vertices),
+        edges: Row::from_vec(edges),
+    })
+}
+
+fn graphs(alloc: Global, shapes: &[Shape<'_>]) -> Result<Graphs, Fail> {
+    let mut tasks = Vec::new(alloc);
+    for (i, shape) in shapes.iter().enumerate() {
+        tasks.push(task(alloc, i, *shape)?)?;
+    }
+    let set = task_set(1, Row::from_vec(tasks)).ok_or("within the limits")?;
+    Ok(check(alloc, &set)?)
+}
+
+fn front(alloc: Global, entries: &[Entry]) -> Result<Row<FrontEntry>, Fail>
+    ensures { IfOk result (λ front. All IsInRangeEntry front) }
+{
+    let mut front = Vec::new(alloc);
+    'entries: for i in 0..entries.len() {
+        let (vertex, offset, work) = entries[i];
+        if offset > 1000000000000000000 || work > 2000000000000000000 {
+            return Err("in range".into());
+        }
+        front.push(FrontEntry {
+            vertex,
+            offset,
+            work,
+        })?;
+    }
+    Ok(Row::from_vec(front))
+}
+
+fn fronts(alloc: Global, given: &[&[Entry]]) -> Result<Vec<Row<FrontEntry>>, Fail>
+    ensures { IfOk result (λ fronts. All (All IsInRangeEntry) fronts.items) }
+{
+    let mut fronts = Vec::new(alloc);
+    'tasks: for i in 0..given.len() {
+        fronts.push(front(alloc, given[i])?)?;
+    }
+    Ok(fronts)
+}
+
+fn judge(rt: &impl Abort, alloc: Global, cases: &[Case<'_>]) -> Result<(), Fail> {
+    for case in cases {
+        let (shapes, bound, given, wanted) = *case;
+        let graphs = graphs(alloc, shapes)?;
+        let fronts = fronts(alloc, given)?;
+        assert_eq!(rt;
+            broken_front_rule(alloc, &graphs, fronts.as_slice(), bound)?,
+            wanted
+        );
+    }
+    Ok(())
+}
+
+// Jobs of one tick and of four, of which the second may follow the first after two ticks.
+const BRANCHING: Shape<'static> = (&[(1, 2), (4, 6)], &[(0, 1, 2), (1, 0, 8), (0, 0, 5)]);
+
+#[test]
+fn the_fronts_of_a_schedulable_set_keep_the_rules(rt: HostRuntime) -> Result<(), Fail> {
+    let shapes: [Shape<'_>; 2] = [BRANCHING, (&[(2, 4)], &[(0, 0, 10)])];
+    judge(
+        &rt,
+        rt.alloc(),
+        &[
+            (&shapes, 4, &[&[(0, 0, 1)], &[(0, 0, 2)]], None),
+            // One tick past the bound.
+            (&shapes, 4, &[&[(0, 0, 1)], &[(0, 1, 2)]], Some(12)),
+            (&shapes, 3, &[&[(0, 0, 1)], &[(0, 0, 2)]], Some(12)),
+            (&shapes, 4, &[&[(0, 0, 1)], &[]], Some(13)),
+            // Nothing is due by then.
+            (&shapes, 1, &[&[], &[]], None),
+        ],
+    )
+}
+
+#[test]
+fn the_least_rule_that_is_broken_is_told(rt: HostRuntime) -> Result<(), Fail> {
+    let shapes: [Shape<'_>; 2] = [BRANCHING, (&[(3, 4)], &[(0, 0, 10)])];
+    judge(
+        &rt,
+        rt.alloc(),
+        &[
+            (
+                &shapes,
+                9,
+                &[&[(0, 0, 1), (0, 5, 2), (1, 0, 4)], &[(0, 0, 3)]],
+                Some(14),
+            ),
+            // At 6 the sum is 7.
+            (
+                &shapes,
+                9,
+                &[&[(0, 0, 1), (0, 5, 2), (1, 0, 4), (1, 2, 5)], &[(0, 0, 3)]],
+                Some(15),
+            ),
+            // The extension of the last entry is left out, and there is no room either.
+            (
+                &shapes,
+                12,
+                &[
+                    &[(0, 0, 1), (0, 5, 2), (0, 8, 5), (1, 0, 4), (1, 2, 5)],
+                    &[(0, 0, 3)],
+                ],
+                Some(14),
+            ),
+            (
+                &shapes,
+                9,
+                &[&[(0, 0, 1), (1, 0, 4), (1, 2, 5)], &[]],
+                Some(13),
+            ),
+            (
+                &shapes,
+                9,
+                &[&[(0, 0, 1), (0, 5, 2), (1, 0, 4), (1, 2, 5)], &[(0, 6, 3)]],
+                Some(12),
+            ),
+        ],
+    )
+}
+
+#[test]
+fn entries_out_of_order_break_the_first_rule(rt: HostRuntime) -> Result<(), Fail> {
+    let shapes: [Shape<'_>; 1] = [(&[(1, 2), (1, 3)], &[])];
+    judge(
+        &rt,
+        rt.alloc(),
+        &[
+            (&shapes, 9, &[&[(0, 0, 1), (1, 0, 1)]], None),
+            (&shapes, 9, &[&[(1, 0, 1), (0, 0, 1)]], Some(12)),
+            (&shapes, 9, &[&[(0, 0, 1), (0, 1, 2), (1, 0, 1)]], None),
+            // Equal offsets, falling ones, equal works, falling ones.
+            (&shapes, 9, &[&[(0, 0, 1), (0, 0, 2), (1, 0, 1)]], Some(12)),
+            (&shapes, 9, &[&[(0, 1, 1), (0, 0, 2), (1, 0, 1)]], Some(12)),
+            (&shapes, 9, &[&[(0, 0, 1), (0, 1, 1), (1, 0, 1)]], Some(12)),
+            (&shapes, 9, &[&[(0, 0, 2), (0, 1, 1), (1, 0, 1)]], Some(12)),
+            // There is no third vertex.
+            (&shapes, 9, &[&[(0, 0, 1), (1, 0, 1), (2, 0, 1)]], Some(12)),
+            // Fewer and more fronts than tasks.
+            (&shapes, 9, &[], Some(12)),
+            (&shapes, 9, &[&[(0, 0, 1), (1, 0, 1)], &[]], Some(12)),
+            // The greatest numbers.
+            (
+                &shapes,
+                1000000000000000002,
+                &[&[
+                    (0, 0, 1),
+                    (0, 1000000000000000000, 2000000000000000000),
+                    (1, 0, 1),
+                ]],
+                Some(15),
+            ),
+            (
+                &shapes,
+                1000000000000000001,
+                &[&[
+                    (0, 0, 1),
+                    (0, 1000000000000000000, 2000000000000000000),
+                    (1, 0, 1),
+                ]],
+                Some(12),
+            ),
+        ],
+    )
+}
+
+#[test]
+fn works_due_at_once_are_added_over_the_tasks(rt: HostRuntime) -> Result<(), Fail> {
+    let fitting: [Shape<'_>; 2] = [(&[(1, 3), (1, 3)], &[]), (&[(2, 3)], &[])];
+    let more: [Shape<'_>; 2] = [(&[(2, 3)], &[]), (&[(2, 3)], &[])];
+    judge(
+        &rt,
+        rt.alloc(),
+        &[
+            // Of the first task one vertex counts, and not both.
+            (&fitting, 3, &[&[(0, 0, 1), (1, 0, 1)], &[(0, 0, 2)]], None),
+            (
+                &fitting,
+                3,
+                &[&[(0, 0, 1), (1, 0, 2)], &[(0, 0, 2)]],
+                Some(15),
+            ),
+            (&more, 3, &[&[(0, 0, 2)], &[(0, 0, 2)]], Some(15)),
+            // A greater work that is due earlier counts later, too.
+            (
+                &fitting,
+                4,
+                &[&[(0, 0, 2), (1, 1, 1), (1, 0, 1)], &[(0, 0, 2)]],
+                Some(12),
+            ),
+            (
+                &fitting,
+                4,
+                &[&[(0, 0, 2), (1, 0, 1)], &[(0, 0, 2)]],
+                Some(15),
+            ),
+        ],
+    )
+}
+
+// A job of one tick after each tick, up to 20,000 of them.
+fn ticks(alloc: Global) -> Result<Vec<Entry>, Memory> {
+    let mut entries = Vec::new(alloc);
+    for i in 0..20000u64 {
+        entries.push((0, i, i + 1))?;
+    }
+    Ok(entries)
+}
+
+#[test]
+fn a_front_of_twenty_thousand_entries_is_judged_at_once(rt: HostRuntime) -> Result<(), Fail> {
+    let entries = ticks(rt.alloc())?;
+    let shapes: [Shape<'_>; 1] = [(&[(1, 1)], &[(0, 0, 1)])];
+    judge(
+        &rt,
+        rt.alloc(),
+        &[
+            (&shapes, 20000, &[entries.as_slice()], None),
+            (&shapes, 20001, &[entries.as_slice()], Some(14)),
+            (&shapes, 19999, &[entries.as_slice()], Some(12)),
+        ],
+    )
+}
