@@ -1,1 +1,4 @@
+pub mod Forms
 pub mod Joins
+pub mod Numerals
+pub mod Spaces

@@ -33,14 +33,18 @@ pub(crate) fn cut_field(bytes: &[u8]) -> (&[u8], Option<&[u8]>)
     (bytes, None)
 }
 
+// What stands behind a word.
+fn strip<'a>(line: &'a [u8], word: &[u8]) -> Option<&'a [u8]>
+    ensures { MatchOption result ((rest : List ℕ) → ¬ (line.now ≡ word.now ++ rest)) (λ rest. line.now ≡ word.now ++ rest.now) }
+{
+    line.strip_prefix(word)
+}
+
 // What stands behind a word and a space.
 pub(crate) fn behind_word<'a>(line: &'a [u8], word: &[u8]) -> Option<&'a [u8]>
     ensures { MatchOption result ((rest : List ℕ) → ¬ (line.now ≡ word.now ++ 32 ∷ rest)) (λ rest. line.now ≡ word.now ++ 32 ∷ rest.now) }
 {
-    match line.strip_prefix(word)? {
-        [b' ', rest @ ..] => Some(rest),
-        _ => None,
-    }
+    strip(strip(line, word)?, b" ")
 }
 
 // What bytes mean as digits, and the greatest number where that is greater.

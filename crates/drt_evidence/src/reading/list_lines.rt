@@ -17,8 +17,8 @@ use std::alloc::Global;
 // The numbers that the fields behind a space are.
 fn numbers_behind(alloc: Global, rest: Option<&[u8]>) -> Result<Option<Vec<u32>>, Memory>
     ensures { IfOk result (λ found. MatchOption found
-        (IsNoForm (λ xs. behind (map decimal xs)) (All IsNumber) (spaced (option_map (λ r. r.now) rest)))
-        (λ v. IsForm (λ xs. behind (map decimal xs)) (All IsNumber) (spaced (option_map (λ r. r.now) rest)) v.items)) }
+        (IsNoForm (λ xs. behind (map decimal xs)) (All IsNumber) (spaced (option_map (λ r. r.now) rest.entry)))
+        (λ v. IsForm (λ xs. behind (map decimal xs)) (All IsNumber) (spaced (option_map (λ r. r.now) rest.entry)) v.items)) }
 {
     let mut found = Vec::new(alloc);
     let mut rest = rest;
@@ -77,8 +77,8 @@ pub(crate) fn numbers_of(
 // The potentials that the fields behind a space are.
 fn potentials_behind(alloc: Global, rest: Option<&[u8]>) -> Result<Option<Vec<i64>>, Memory>
     ensures { IfOk result (λ found. MatchOption found
-        (IsNoForm (λ xs. behind (map signed_decimal xs)) (All IsInRangePotential) (spaced (option_map (λ r. r.now) rest)))
-        (λ v. IsForm (λ xs. behind (map signed_decimal xs)) (All IsInRangePotential) (spaced (option_map (λ r. r.now) rest)) v.items)) }
+        (IsNoForm (λ xs. behind (map signed_decimal xs)) (All IsInRangePotential) (spaced (option_map (λ r. r.now) rest.entry)))
+        (λ v. IsForm (λ xs. behind (map signed_decimal xs)) (All IsInRangePotential) (spaced (option_map (λ r. r.now) rest.entry)) v.items)) }
 {
     let mut found = Vec::new(alloc);
     let mut rest = rest;
@@ -133,8 +133,8 @@ pub(crate) fn potentials_of(alloc: Global, line: &[u8]) -> Result<Option<Row<i64
 // The items that the fields behind a space are.
 fn items_behind(alloc: Global, rest: Option<&[u8]>) -> Result<Option<Vec<Item>>, Memory>
     ensures { IfOk result (λ found. MatchOption found
-        (IsNoForm (λ xs. behind (map item_field xs)) (All IsInRangeItem) (spaced (option_map (λ r. r.now) rest)))
-        (λ v. IsForm (λ xs. behind (map item_field xs)) (All IsInRangeItem) (spaced (option_map (λ r. r.now) rest)) v.items)) }
+        (IsNoForm (λ xs. behind (map item_field xs)) (All IsInRangeItem) (spaced (option_map (λ r. r.now) rest.entry)))
+        (λ v. IsForm (λ xs. behind (map item_field xs)) (All IsInRangeItem) (spaced (option_map (λ r. r.now) rest.entry)) v.items)) }
 {
     let mut found = Vec::new(alloc);
     let mut rest = rest;
