@@ -7,7 +7,7 @@ use Rattle.drt_model.specs.Digraph.{Digraph, vertex_count}
 use Rattle.drt_model.specs.Walk.{IsPath, last_of, work, span, deadline}
 use Rattle.drt_demand.specs.Demand.{Demand}
 use Rattle.drt_demand.specs.Dbf.{dbf_at}
-use Rattle.drt_ratio.proofs.Paths.{work_none}
+use Rattle.drt_graph.proofs.Paths.{work_none}
 use Rattle.drt_horizon.specs.Demands.{demands}
 use Rattle.drt_horizon.specs.Laws.{IsDue, AreDue, efforts}
 use Rattle.drt_evidence.specs.declared.evidence.FrontEntry.{FrontEntry}

@@ -7,7 +7,7 @@ use Rattle.std.proofs.lemmas.List.{reverse-reverse}
 use Rattle.std.proofs.lemmas.List.Elements.{All-contains, Contains-append_left, Contains-get_or, Contains-push}
 use Rattle.drt_model.specs.Digraph.{Digraph, IsSound, IsConstrainedGraph}
 use Rattle.drt_model.specs.Walk.{last_of, span, deadline}
-use Rattle.drt_ratio.proofs.Paths.{work_none}
+use Rattle.drt_graph.proofs.Paths.{work_none}
 use Rattle.drt_demand.specs.Demand.{Demand, demand_algebra}
 use Rattle.drt_demand.specs.Dbf.{dbf_at}
 use Rattle.drt_table.specs.Machine.{Setting}

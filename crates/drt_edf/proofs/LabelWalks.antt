@@ -7,7 +7,7 @@ use Rattle.std.proofs.lemmas.List.{reverse-append}
 use Rattle.drt_model.specs.Digraph.{Digraph, IsSound, IsConstrainedGraph, vertex_count, out_degree, edge_of}
 use Rattle.drt_model.specs.Walk.{gap, wcet, deadline, sep, IsEdge, IsPath, last_of, span, work}
 use Rattle.drt_graph.proofs.Edges.{sep_of_edge, edge_of_sep, gap_of, source_of}
-use Rattle.drt_ratio.proofs.Paths.{path_both, path_within, last_both, work_cons, work_none, span_cons, span_none}
+use Rattle.drt_graph.proofs.Paths.{path_both, path_within, last_both, work_cons, work_none, span_cons, span_none}
 use Rattle.drt_demand.specs.Demand.{Demand, demand_algebra, opening, extend, dominates}
 use Rattle.drt_demand.specs.Laws.{demand_laws}
 use Rattle.drt_demand.specs.WalkLabel.{demand_of}

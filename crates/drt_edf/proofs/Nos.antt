@@ -18,7 +18,7 @@ use Rattle.drt_model.specs.Trace.{job_at}
 use Rattle.drt_model.specs.Walk.{gap, IsPath, deadline, last_of, span}
 use Rattle.drt_graph.specs.Graphs.{AreGraphs, graph_of, no_graph}
 use Rattle.drt_graph.proofs.Edges.{target_of}
-use Rattle.drt_ratio.proofs.Paths.{span_cons}
+use Rattle.drt_graph.proofs.Paths.{span_cons}
 use Rattle.drt_busy.specs.Assignment.{NoAssignmentMeets}
 use Rattle.drt_busy.specs.Choice.{AreDueBy, AreWalks, IsWalk, due_of, efforts, graph_at, no_task}
 use Rattle.drt_busy.specs.Decide.{DemandMisses}

@@ -8,7 +8,7 @@ use Rattle.drt_model.specs.Digraph.{Digraph, IsSound, edge_of, out_degree, verte
 use Rattle.drt_model.specs.Walk.{deadline, gap, last_of, span, wcet, work}
 use Rattle.drt_graph.proofs.Edges.{edge_of_sep, gap_of, sep_of_edge}
 use Rattle.drt_ratio.proofs.Optima.{path_sums}
-use Rattle.drt_ratio.proofs.Paths.{span_cons, span_none, work_cons, work_none}
+use Rattle.drt_graph.proofs.Paths.{span_cons, span_none, work_cons, work_none}
 use Rattle.drt_graph.specs.Graphs.{graph_of}
 use Rattle.drt_horizon.specs.Laws.{IsDue, AreDue, efforts}
 use Rattle.std.specs.Prelude.{max}

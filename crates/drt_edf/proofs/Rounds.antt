@@ -9,7 +9,7 @@ use Rattle.drt_model.specs.Digraph.{Digraph, IsSound, IsConstrainedGraph, digrap
 use Rattle.drt_model.specs.Walk.{gap, IsEdge, IsPath, deadline, last_of, span, work, IsCycle, cycle_span}
 use Rattle.drt_graph.proofs.Edges.{edge_of_sep, source_of, target_of}
 use Rattle.drt_ratio.specs.declared.ratio_proof.RatioProof.{RatioProof}
-use Rattle.drt_ratio.proofs.Paths.{path_both, last_both, work_both, span_both, span_cons, work_none, span_none, cycle_path}
+use Rattle.drt_graph.proofs.Paths.{path_both, last_both, work_both, span_both, span_cons, work_none, span_none, cycle_path}
 use Rattle.drt_busy.specs.Choice.{IsWalk, due_of, AreDueBy, AreWalks, efforts}
 use Rattle.drt_horizon.specs.declared.laps.Lap.{Lap}
 use Rattle.drt_horizon.specs.Given.{AreGiven}

@@ -1,4 +1,3 @@
-pub mod Bounds
 pub mod Turns
 pub mod Givens
 pub mod Horizons

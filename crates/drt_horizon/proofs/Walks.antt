@@ -8,7 +8,7 @@ use Rattle.drt_graph.specs.Graphs.{AreGraphs}
 use Rattle.drt_demand.specs.Demand.{Demand}
 use Rattle.drt_demand.specs.Dbf.{dbf_at}
 use Rattle.drt_ratio.specs.declared.ratio_proof.RatioProof.{RatioProof}
-use Rattle.drt_ratio.proofs.Paths.{work_none}
+use Rattle.drt_graph.proofs.Paths.{work_none}
 use Rattle.drt_horizon.specs.declared.answers.Horizon.TheVariants.{Under}
 use Rattle.drt_horizon.specs.Given.{AreGiven}
 use Rattle.drt_horizon.specs.Plans.{IsPlan}

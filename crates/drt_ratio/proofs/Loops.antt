@@ -12,7 +12,7 @@ use Rattle.drt_graph.proofs.Edges.{target_of, source_of, edge_of_sep}
 use Rattle.drt_ratio.specs.declared.levels.Level.{Level}
 use Rattle.drt_model.specs.Utilisation.{AreDistinct}
 use Rattle.drt_ratio.specs.Levels.{height, level_of, IsRound, IsTower, IsTrace, IsRepeat, IsGain}
-use Rattle.drt_ratio.proofs.Paths.{path_both, path_first, path_rest, last_both, work_both, span_both, path_cycle, climbs_path}
+use Rattle.drt_graph.proofs.Paths.{path_both, path_first, path_rest, last_both, work_both, span_both, path_cycle, climbs_path}
 
 -- What a walk of few edges gains at most.
 pub record IsMost (g : Digraph) (a b n v most : ℕ) : Type 0 where

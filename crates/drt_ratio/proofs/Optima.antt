@@ -11,7 +11,7 @@ use Rattle.drt_ratio.specs.declared.levels.Level.{Level}
 use Rattle.drt_model.specs.Utilisation.{HasRatio, IsLeast}
 use Rattle.drt_model.specs.Potential.{IsPotential}
 use Rattle.drt_ratio.specs.Levels.{height, level_of, Comes, IsRound, IsTower, IsSettled}
-use Rattle.drt_ratio.proofs.Paths.{work_cons, span_cons, work_none, span_none, fits_cycle}
+use Rattle.drt_graph.proofs.Paths.{work_cons, span_cons, work_none, span_none, fits_cycle}
 use Rattle.drt_ratio.proofs.Loops.{IsMost, round_edge}
 
 -- The sums of a path are at least its edges, and at most a million each.

@@ -4,7 +4,7 @@ use Rattle.std.proofs.lemmas.List.{drop_more, drop_all}
 use Rattle.drt_model.specs.Digraph.{Digraph}
 use Rattle.drt_model.specs.Walk.{sep, wcet, IsEdge, IsPath, last_of, work, span, IsCycle, cycle_span}
 use Rattle.drt_graph.proofs.Edges.{gap_of}
-use Rattle.drt_ratio.proofs.Paths.{work_cons, span_cons, work_none, span_none}
+use Rattle.drt_graph.proofs.Paths.{work_cons, span_cons, work_none, span_none}
 
 at_last : (v : ℕ) (vs : List ℕ) → get_or (v ∷ vs) (length vs) 0 ≡ last_of v vs
 at_last v [] = refl

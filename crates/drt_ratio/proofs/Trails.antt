@@ -5,7 +5,7 @@ use Rattle.drt_model.specs.Digraph.{Digraph, IsSound, vertex_count}
 use Rattle.drt_graph.proofs.Edges.{source_of}
 use Rattle.drt_ratio.specs.declared.levels.Level.{Level}
 use Rattle.drt_ratio.specs.Levels.{height, level_of, IsRaised, Comes, IsRound, IsTower, IsTrail, IsTrace}
-use Rattle.drt_ratio.proofs.Paths.{work_cons, span_cons, work_none, span_none}
+use Rattle.drt_graph.proofs.Paths.{work_cons, span_cons, work_none, span_none}
 
 pub trail_starts : (g : Digraph) (a b : ℕ) (levels : List Level) (n v : ℕ) → IsTrail g a b levels n v n v (v ∷ [])
 trail_starts g a b levels n v = ([], refl, tt, refl, omega arith, rw (work_none, span_none) (omega arith))

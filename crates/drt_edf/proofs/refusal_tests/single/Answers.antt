@@ -2,7 +2,7 @@ use Rattle.std.proofs.Common.{◌≡◌, ℕ, ◌<◌, ◌≤◌, List, [], ◌�
 use Rattle.drt_model.specs.declared.tasks.Vertex.{Vertex}
 use Rattle.drt_model.specs.Digraph.{Digraph, IsSound, vertex_count}
 use Rattle.drt_model.specs.Walk.{deadline, wcet, work}
-use Rattle.drt_ratio.proofs.Paths.{work_cons, work_none, span_none}
+use Rattle.drt_graph.proofs.Paths.{work_cons, work_none, span_none}
 use Rattle.drt_busy.specs.Choice.{IsWalk, due_of}
 use Rattle.drt_edf.proofs.refusal_tests.single.Goals as goal
 
