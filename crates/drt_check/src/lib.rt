@@ -6,5 +6,7 @@
 
 mod fronts;
 mod judgement;
+mod laws;
 
 pub use judgement::Judgement;
+pub use laws::accepted_is_sound;
