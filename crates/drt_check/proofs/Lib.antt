@@ -6,3 +6,10 @@ pub mod SoundFronts
 pub mod SoundRoom
 pub mod SoundYes
 pub mod Sound
+mod Steps
+mod Rests
+mod Gaps
+mod Bounds
+mod Denominators
+mod Allowed
+mod Lists

@@ -2,3 +2,5 @@ pub mod Judging
 pub mod Laws
 pub mod FrontRules
 pub mod Rises
+pub mod Orders
+pub mod Claimed

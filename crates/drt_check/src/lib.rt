@@ -5,8 +5,13 @@
 #![tactic(auto)]
 
 mod fronts;
+mod claimed;
+mod constants;
+mod cycles;
+mod horizons;
 mod judgement;
 mod laws;
+mod scales;
 
 pub use judgement::Judgement;
 pub use laws::accepted_is_sound;

@@ -1,0 +1,9 @@
+-- What is left decides.
+use Rattle.std.proofs.Common.{drop}
+use Rattle.std.specs.Prelude.{◌↔◌}
+use Rattle.drt_evidence.specs.Claims.{Each}
+use Rattle.drt_check.specs.Claimed.{Keeps}
+use Rattle.drt_check.proofs.claimed.all_keep.Given as goal
+
+abbrev pub invariant-tasks : goal.invariant-tasks
+invariant-tasks l = Each (Keeps l.rule) l.graphs l.ratios ↔ Each (Keeps l.rule) (drop l.i l.graphs) (drop l.i l.ratios)

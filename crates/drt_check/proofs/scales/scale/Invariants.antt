@@ -1,0 +1,11 @@
+-- The number is the scale of the claims that were taken.
+use Rattle.std.proofs.Common.{◌^◌, ◌≤◌, take}
+use Rattle.drt_model.specs.Utilisation.{IsScale}
+use Rattle.drt_evidence.specs.Claims.{fractions}
+use Rattle.drt_check.proofs.scales.scale.Given as goal
+
+abbrev pub invariant-ratios : goal.invariant-ratios
+invariant-ratios l = record {
+  scale : IsScale (fractions (take l.i l.ratios)) l.common;
+  most : l.common ≤ 2 ^ 60;
+}
