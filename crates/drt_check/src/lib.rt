@@ -4,10 +4,10 @@
 //! sentence over lists and numbers; what its judgement means stands in `specs/Judging.antt`.
 #![tactic(auto)]
 
-mod fronts;
 mod claimed;
 mod constants;
 mod cycles;
+mod fronts;
 mod horizons;
 mod judgement;
 mod laws;
