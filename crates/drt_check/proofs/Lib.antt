@@ -13,3 +13,9 @@ mod Bounds
 mod Denominators
 mod Allowed
 mod Lists
+mod Orders
+mod Eachs
+mod Closings
+mod Works
+mod Sweeps
+mod Rooms
