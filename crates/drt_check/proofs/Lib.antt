@@ -19,3 +19,4 @@ mod Closings
 mod Works
 mod Sweeps
 mod Rooms
+mod Naming

@@ -4,3 +4,4 @@ pub mod FrontRules
 pub mod Rises
 pub mod Orders
 pub mod Claimed
+pub mod Named

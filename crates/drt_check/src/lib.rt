@@ -11,6 +11,7 @@ mod fronts;
 mod horizons;
 mod judgement;
 mod laws;
+mod releases;
 mod scales;
 
 pub use judgement::Judgement;
