@@ -1,5 +1,5 @@
 -- Forms of pairs, of lines behind a keyword, and of lists.
-use Rattle.std.proofs.Common.{◌≡◌, ◌≢◌, ℕ, ◌+◌, ◌<◌, ◌≤◌, List, [], ◌∷◌, ◌++◌, length, map, All, Option, Some, None, refl, sym, ap, subst, ◌∙◌, append_assoc, arith}
+use Rattle.std.proofs.Common.{◌≡◌, ◌≢◌, ℕ, ◌+◌, ◌<◌, ◌≤◌, List, [], ◌∷◌, ◌++◌, length, map, All, Option, Some, None, MatchOption, refl, sym, ap, subst, ◌∙◌, append_assoc, arith}
 use Rattle.std.specs.Prelude.{decimal}
 use Rattle.std.specs.List.{join_with_byte}
 use Rattle.std.proofs.lemmas.List.{append-nil, append_cancel_left, map_push, length-map}
@@ -172,3 +172,13 @@ pub list_miscounted : {A : Type 0} (f : A → List ℕ) (P : A → Type 0) (byte
 list_miscounted f P bytes field others count xs alone cut counted is size ys are e =
     let r = cut_same field (decimal (length ys)) (spaced others) (behind (map f ys)) alone (number_no_space (length ys) are.1) (spaced_behind others) (fields_behind (map f ys)) (sym cut ∙ e) in
     size (sym (ap length (is.only ys are.0 r.1)) ∙ counted.only (length ys) are.1 r.0)
+
+-- A number up to a bound of 64 bits has no space.
+pub bounded_no_space : (most : ℕ) → most < 18446744073709551616 → IsFieldForm decimal (λ n. n ≤ most)
+bounded_no_space most fits n le = decimal_no_space n (omega (arith, le, fits))
+
+-- A line whose value is its one part.
+pub line_found : {A : Type 0} {word : List ℕ} {form : A → List ℕ} {In : A → Type 0} {fields : A → List (List ℕ)} → IsShape word form In fields In (λ x. x)
+    → (line rest : List ℕ) (o : Option A) → line ≡ word ++ 32 ∷ rest → MatchOption o (IsNoForm form In rest) (λ x. IsForm form In rest x) → MatchOption o (IsNoLine fields In line) (λ x. IsLineOf fields In line x)
+line_found {A} {word} {form} {In} {fields} shape line rest None opens not = line_broken shape line rest opens not
+line_found {A} {word} {form} {In} {fields} shape line rest (Some x) opens is = line_is shape line rest x x opens is refl

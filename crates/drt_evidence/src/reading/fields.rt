@@ -1,5 +1,5 @@
 //! Single fields of a line.
-ghost use Rattle.std.specs.Prelude.{◌≡◌, ◌≤◌, ◌++◌, ◌∷◌, List, ℕ, min, decimal, MatchOption};
+ghost use Rattle.std.specs.Prelude.{◌≡◌, ◌≤◌, ◌-◌, ◌++◌, ◌∷◌, List, ℕ, negsuc, min, decimal, MatchOption};
 ghost use Rattle.std.specs.Fmt.{signed_decimal};
 ghost use Rattle.drt_file.specs.Words.{value};
 ghost use Rattle.drt_evidence.specs.LineForms.{HasNoSpace, IsForm, IsNoForm};
@@ -83,20 +83,35 @@ pub(crate) fn index_of(field: &[u8]) -> Option<u32>
     }
 }
 
+// A number from 1 on, with a minus.
+fn negated(n: u64) -> i64
+    requires { (1 ≤ n) × (n ≤ 10000000000000000) }
+    ensures { result ≡ negsuc (n - 1) }
+{
+    -(n as i64)
+}
+
+// The potential below 0 whose digits, behind the minus, these are.
+fn negative_of(digits: &[u8]) -> Option<i64>
+    ensures { MatchOption result (IsNoForm signed_decimal IsInRangePotential (45 ∷ digits.now)) (IsForm signed_decimal IsInRangePotential (45 ∷ digits.now)) }
+{
+    match number_of(digits, MOST_HEIGHT) {
+        Some(0) => None,
+        Some(n) => Some(negated(n)),
+        None => None,
+    }
+}
+
 // The potential that the field is.
 pub(crate) fn potential_of(field: &[u8]) -> Option<i64>
     ensures { MatchOption result (IsNoForm signed_decimal IsInRangePotential field.now) (IsForm signed_decimal IsInRangePotential field.now) }
 {
-    match field {
-        [b'-', digits @ ..] => match number_of(digits, MOST_HEIGHT) {
-            Some(0) => None,
-            Some(n) => Some(-(n as i64)),
-            None => None,
-        },
-        _ => match number_of(field, MOST_HEIGHT) {
-            Some(n) => Some(n as i64),
-            None => None,
-        },
+    if let Some(digits) = strip(field, b"-") {
+        return negative_of(digits);
+    }
+    match number_of(field, MOST_HEIGHT) {
+        Some(n) => Some(n as i64),
+        None => None,
     }
 }
 

@@ -93,8 +93,9 @@ fn two_of(bytes: &[u8], first: u64, second: u64) -> Option<(u64, u64)>
         (IsForm (pair_form decimal decimal) (AreBoth (λ n. n ≤ first) (λ n. n ≤ second)) bytes.now) }
 {
     let (field, rest) = cut_field(bytes);
+    let rest = rest?;
     let number = number_of(field, first)?;
-    Some((number, number_of(rest?, second)?))
+    Some((number, number_of(rest, second)?))
 }
 
 // Three numbers, each at most so great, with a space between them.
@@ -104,8 +105,9 @@ fn three_of(bytes: &[u8], first: u64, second: u64, third: u64) -> Option<(u64, (
         (IsForm (pair_form decimal (pair_form decimal decimal)) (AreBoth (λ n. n ≤ first) (AreBoth (λ n. n ≤ second) (λ n. n ≤ third))) bytes.now) }
 {
     let (field, rest) = cut_field(bytes);
+    let rest = rest?;
     let number = number_of(field, first)?;
-    Some((number, two_of(rest?, second, third)?))
+    Some((number, two_of(rest, second, third)?))
 }
 
 // The numerator and the denominator that the line says.
@@ -163,8 +165,9 @@ fn parts_of_release(bytes: &[u8]) -> Option<(u64, (u64, (u64, u64)))>
         (IsForm (pair_form decimal (pair_form decimal (pair_form decimal decimal))) (AreBoth IsNumber (AreBoth IsNumber (AreBoth IsTick IsTick))) bytes.now) }
 {
     let (field, rest) = cut_field(bytes);
+    let rest = rest?;
     let task = number_of(field, MOST_NUMBER)?;
-    Some((task, three_of(rest?, MOST_NUMBER, MOST_TICKS, MOST_TICKS)?))
+    Some((task, three_of(rest, MOST_NUMBER, MOST_TICKS, MOST_TICKS)?))
 }
 
 // The release that the line says.
