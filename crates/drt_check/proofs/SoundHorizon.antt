@@ -2,18 +2,18 @@
 use Rattle.std.proofs.Common.{◌≡◌, ℕ, ℤ, suc, ◌+◌, ◌-◌, ◌*◌, ◌/◌, ◌<◌, ◌≤◌, List, [], ◌∷◌, All, length, ◌⊎◌, inl, inr, arith, subst}
 use Rattle.std.specs.Int.{◌∣◌}
 use Rattle.std.proofs.lemmas.Bool.{cases_lt}
-use Rattle.std.proofs.lemmas.Nat.Gcd.{dvd_antisymm}
 use Rattle.drt_model.specs.declared.tasks.Task.{Task}
 use Rattle.drt_model.specs.Digraph.{Digraph, IsSound, digraph_of}
 use Rattle.drt_model.specs.Horizon.{above_zero, constant_of, extra}
 use Rattle.drt_model.specs.RatioRules.{FitPotentials}
-use Rattle.drt_model.specs.Utilisation.{EachDivides, Fraction, IsScale, rate}
+use Rattle.drt_model.specs.Utilisation.{EachDivides, rate}
 use Rattle.drt_model.specs.Walk.{work}
 use Rattle.drt_graph.proofs.Bounds.{beyond, scaled_work}
 use Rattle.drt_graph.proofs.Paths.{work_none}
 use Rattle.drt_busy.specs.Choice.{AreDueBy, AreWalks, IsWalk, due_of, efforts}
 use Rattle.drt_evidence.specs.declared.evidence.RatioClaim.{RatioClaim}
 use Rattle.drt_evidence.specs.Claims.{HaveFittingPotentials, IsBelowOne, IsHorizon, fractions, graphs_of, potentials}
+use Rattle.drt_check.proofs.Denominators.{scale_same}
 use Rattle.drt_check.proofs.SoundWalks.{efforts_cons, efforts_none}
 
 -- At a scale, the work of one walk that is due by t.
@@ -37,9 +37,6 @@ past : (scale rate extra t e : ℕ) → rate < scale → (extra - scale) / (scal
 past scale rate extra t e under far most over =
     let s : rate + (scale - rate) ≡ scale = omega arith in
     beyond (scale - rate) rate extra t e (omega arith) (rw s far) (rw s most) over
-
-scale_same : (rs : List Fraction) (m n : ℕ) → IsScale rs m → IsScale rs n → m ≡ n
-scale_same rs m n p q = dvd_antisymm (p.least n q.multiple) (q.least m p.multiple)
 
 -- Walks with more work than time are due within the horizon.
 pub within_horizon : (tasks : List Task) (claims : List RatioClaim) (bound : ℕ) → All IsSound (graphs_of tasks) → length claims ≡ length tasks → HaveFittingPotentials (graphs_of tasks) claims → IsBelowOne claims → IsHorizon (graphs_of tasks) claims bound
