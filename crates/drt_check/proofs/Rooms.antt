@@ -140,8 +140,8 @@ same_works graphs fronts all few same t = works_same (rises_of 0 graphs fronts) 
 pub room_from : (graphs : List Digraph) (fronts : List (List FrontEntry)) (all : List Rise) → length graphs ≤ 32 → IsPermutation (rises_of 0 graphs fronts) all → HaveRoomAmong all → HaveRoom graphs fronts
 room_from graphs fronts all few same room =
     dues_from (λ t. works_due graphs fronts t ≤ t) 0 graphs fronts
-        (All-permutation (λ r. works_due graphs fronts r.due ≤ r.due) all (rises_of 0 graphs fronts) (IsPermutation-sym (rises_of 0 graphs fronts) all same)
-            (λ k d l. (let h = room k d l in let e = same_works graphs fronts all few same (get_or all k d).due in omega (arith, h, e))))
+    (All-permutation (λ r. works_due graphs fronts r.due ≤ r.due) all (rises_of 0 graphs fronts) (IsPermutation-sym (rises_of 0 graphs fronts) all same)
+    (λ k d l. (let h = room k d l in let e = same_works graphs fronts all few same (get_or all k d).due in omega (arith, h, e))))
 
 pub room_to : (graphs : List Digraph) (fronts : List (List FrontEntry)) (all : List Rise) → length graphs ≤ 32 → IsPermutation (rises_of 0 graphs fronts) all → HaveRoom graphs fronts → HaveRoomAmong all
 room_to graphs fronts all few same room =

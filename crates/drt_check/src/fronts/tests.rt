@@ -15,8 +15,8 @@ type Shape<'a> = (&'a [(u32, u32)], &'a [(u32, u32, u32)]);
 // An entry as its vertex, offset and work.
 type Entry = (u32, u64, u64);
 
-// Tasks, a bound, fronts, and the rule that they break.
-type Case<'a> = (&'a [Shape<'a>], u64, &'a [&'a [Entry]], Option<u8>);
+// A bound, fronts, and the rule that they break.
+type Case<'a> = (u64, &'a [&'a [Entry]], Option<u8>);
 
 fn name(alloc: Global, first: u8, number: usize) -> Result<Name, Memory> {
     Ok(Name::from_vec(Vec::from_slice(alloc, &[first, b'a' + (number % 26) as u8])?))
@@ -56,20 +56,26 @@ fn graphs(alloc: Global, shapes: &[Shape<'_>]) -> Result<Graphs, Fail> {
     Ok(check(alloc, &set)?)
 }
 
+fn entry(vertex: u32, offset: u64, work: u64) -> Result<FrontEntry, Fail>
+    ensures { IfOk result (λ entry. IsInRangeEntry entry) }
+{
+    if offset > 1000000000000000000 || work > 2000000000000000000 {
+        return Err("in range".into());
+    }
+    Ok(FrontEntry {
+        vertex,
+        offset,
+        work,
+    })
+}
+
 fn front(alloc: Global, entries: &[Entry]) -> Result<Row<FrontEntry>, Fail>
     ensures { IfOk result (λ front. All IsInRangeEntry front) }
 {
     let mut front = Vec::new(alloc);
     'entries: for i in 0..entries.len() {
         let (vertex, offset, work) = entries[i];
-        if offset > 1000000000000000000 || work > 2000000000000000000 {
-            return Err("in range".into());
-        }
-        front.push(FrontEntry {
-            vertex,
-            offset,
-            work,
-        })?;
+        front.push(entry(vertex, offset, work)?)?;
     }
     Ok(Row::from_vec(front))
 }
@@ -84,16 +90,13 @@ fn fronts(alloc: Global, given: &[&[Entry]]) -> Result<Vec<Row<FrontEntry>>, Fai
     Ok(fronts)
 }
 
-fn judge(rt: &impl Abort, alloc: Global, cases: &[Case<'_>]) -> Result<(), Fail> {
-    for case in cases {
-        let (shapes, bound, given, wanted) = *case;
-        let graphs = graphs(alloc, shapes)?;
-        let fronts = fronts(alloc, given)?;
-        assert_eq!(rt;
-            broken_front_rule(alloc, &graphs, fronts.as_slice(), bound)?,
-            wanted
-        );
-    }
+fn judge(rt: &impl Abort, alloc: Global, graphs: &Graphs, case: Case<'_>) -> Result<(), Fail> {
+    let (bound, given, wanted) = case;
+    let fronts = fronts(alloc, given)?;
+    assert_eq!(rt;
+        broken_front_rule(alloc, graphs, fronts.as_slice(), bound)?,
+        wanted
+    );
     Ok(())
 }
 
@@ -102,167 +105,175 @@ const BRANCHING: Shape<'static> = (&[(1, 2), (4, 6)], &[(0, 1, 2), (1, 0, 8), (0
 
 #[test]
 fn the_fronts_of_a_schedulable_set_keep_the_rules(rt: HostRuntime) -> Result<(), Fail> {
-    let shapes: [Shape<'_>; 2] = [BRANCHING, (&[(2, 4)], &[(0, 0, 10)])];
-    judge(
-        &rt,
-        rt.alloc(),
-        &[
-            (&shapes, 4, &[&[(0, 0, 1)], &[(0, 0, 2)]], None),
-            // One tick past the bound.
-            (&shapes, 4, &[&[(0, 0, 1)], &[(0, 1, 2)]], Some(12)),
-            (&shapes, 3, &[&[(0, 0, 1)], &[(0, 0, 2)]], Some(12)),
-            (&shapes, 4, &[&[(0, 0, 1)], &[]], Some(13)),
-            // Nothing is due by then.
-            (&shapes, 1, &[&[], &[]], None),
-        ],
-    )
+    let alloc = rt.alloc();
+    let graphs = graphs(alloc, &[BRANCHING, (&[(2, 4)], &[(0, 0, 10)])])?;
+    let cases: [Case<'_>; 5] = [
+        (4, &[&[(0, 0, 1)], &[(0, 0, 2)]], None),
+        // One tick past the bound.
+        (4, &[&[(0, 0, 1)], &[(0, 1, 2)]], Some(12)),
+        (3, &[&[(0, 0, 1)], &[(0, 0, 2)]], Some(12)),
+        (4, &[&[(0, 0, 1)], &[]], Some(13)),
+        // Nothing is due by then.
+        (1, &[&[], &[]], None),
+    ];
+    for case in cases {
+        judge(&rt, alloc, &graphs, case)?;
+    }
+    Ok(())
 }
 
 #[test]
 fn the_least_rule_that_is_broken_is_told(rt: HostRuntime) -> Result<(), Fail> {
-    let shapes: [Shape<'_>; 2] = [BRANCHING, (&[(3, 4)], &[(0, 0, 10)])];
-    judge(
-        &rt,
-        rt.alloc(),
-        &[
-            (
-                &shapes,
-                9,
-                &[&[(0, 0, 1), (0, 5, 2), (1, 0, 4)], &[(0, 0, 3)]],
-                Some(14),
-            ),
-            // At 6 the sum is 7.
-            (
-                &shapes,
-                9,
-                &[&[(0, 0, 1), (0, 5, 2), (1, 0, 4), (1, 2, 5)], &[(0, 0, 3)]],
-                Some(15),
-            ),
-            // The extension of the last entry is left out, and there is no room either.
-            (
-                &shapes,
-                12,
-                &[
-                    &[(0, 0, 1), (0, 5, 2), (0, 8, 5), (1, 0, 4), (1, 2, 5)],
-                    &[(0, 0, 3)],
-                ],
-                Some(14),
-            ),
-            (
-                &shapes,
-                9,
-                &[&[(0, 0, 1), (1, 0, 4), (1, 2, 5)], &[]],
-                Some(13),
-            ),
-            (
-                &shapes,
-                9,
-                &[&[(0, 0, 1), (0, 5, 2), (1, 0, 4), (1, 2, 5)], &[(0, 6, 3)]],
-                Some(12),
-            ),
-        ],
-    )
+    let alloc = rt.alloc();
+    let graphs = graphs(alloc, &[BRANCHING, (&[(3, 4)], &[(0, 0, 10)])])?;
+    let cases: [Case<'_>; 5] = [
+        // The second job may follow the first, and is due at 8.
+        (
+            9,
+            &[&[(0, 0, 1), (0, 5, 2), (1, 0, 4)], &[(0, 0, 3)]],
+            Some(14),
+        ),
+        // At 6 the sum is 7.
+        (
+            9,
+            &[&[(0, 0, 1), (0, 5, 2), (1, 0, 4), (1, 2, 5)], &[(0, 0, 3)]],
+            Some(15),
+        ),
+        // The extension of the last entry of the first vertex is left out, and there is no room either.
+        (
+            12,
+            &[
+                &[(0, 0, 1), (0, 5, 2), (0, 8, 5), (1, 0, 4), (1, 2, 5)],
+                &[(0, 0, 3)],
+            ],
+            Some(14),
+        ),
+        (9, &[&[(0, 0, 1), (1, 0, 4), (1, 2, 5)], &[]], Some(13)),
+        (
+            9,
+            &[&[(0, 0, 1), (0, 5, 2), (1, 0, 4), (1, 2, 5)], &[(0, 6, 3)]],
+            Some(12),
+        ),
+    ];
+    for case in cases {
+        judge(&rt, alloc, &graphs, case)?;
+    }
+    Ok(())
 }
 
 #[test]
 fn entries_out_of_order_break_the_first_rule(rt: HostRuntime) -> Result<(), Fail> {
-    let shapes: [Shape<'_>; 1] = [(&[(1, 2), (1, 3)], &[])];
-    judge(
-        &rt,
-        rt.alloc(),
-        &[
-            (&shapes, 9, &[&[(0, 0, 1), (1, 0, 1)]], None),
-            (&shapes, 9, &[&[(1, 0, 1), (0, 0, 1)]], Some(12)),
-            (&shapes, 9, &[&[(0, 0, 1), (0, 1, 2), (1, 0, 1)]], None),
-            // Equal offsets, falling ones, equal works, falling ones.
-            (&shapes, 9, &[&[(0, 0, 1), (0, 0, 2), (1, 0, 1)]], Some(12)),
-            (&shapes, 9, &[&[(0, 1, 1), (0, 0, 2), (1, 0, 1)]], Some(12)),
-            (&shapes, 9, &[&[(0, 0, 1), (0, 1, 1), (1, 0, 1)]], Some(12)),
-            (&shapes, 9, &[&[(0, 0, 2), (0, 1, 1), (1, 0, 1)]], Some(12)),
-            // There is no third vertex.
-            (&shapes, 9, &[&[(0, 0, 1), (1, 0, 1), (2, 0, 1)]], Some(12)),
-            // Fewer and more fronts than tasks.
-            (&shapes, 9, &[], Some(12)),
-            (&shapes, 9, &[&[(0, 0, 1), (1, 0, 1)], &[]], Some(12)),
-            // The greatest numbers.
-            (
-                &shapes,
-                1000000000000000002,
-                &[&[
-                    (0, 0, 1),
-                    (0, 1000000000000000000, 2000000000000000000),
-                    (1, 0, 1),
-                ]],
-                Some(15),
-            ),
-            (
-                &shapes,
-                1000000000000000001,
-                &[&[
-                    (0, 0, 1),
-                    (0, 1000000000000000000, 2000000000000000000),
-                    (1, 0, 1),
-                ]],
-                Some(12),
-            ),
-        ],
-    )
+    let alloc = rt.alloc();
+    let graphs = graphs(alloc, &[(&[(1, 2), (1, 3)], &[])])?;
+    let cases: [Case<'_>; 12] = [
+        (9, &[&[(0, 0, 1), (1, 0, 1)]], None),
+        (9, &[&[(1, 0, 1), (0, 0, 1)]], Some(12)),
+        (9, &[&[(0, 0, 1), (0, 1, 2), (1, 0, 1)]], None),
+        // Equal offsets, falling ones, equal works, falling ones.
+        (9, &[&[(0, 0, 1), (0, 0, 2), (1, 0, 1)]], Some(12)),
+        (9, &[&[(0, 1, 1), (0, 0, 2), (1, 0, 1)]], Some(12)),
+        (9, &[&[(0, 0, 1), (0, 1, 1), (1, 0, 1)]], Some(12)),
+        (9, &[&[(0, 0, 2), (0, 1, 1), (1, 0, 1)]], Some(12)),
+        // There is no third vertex.
+        (9, &[&[(0, 0, 1), (1, 0, 1), (2, 0, 1)]], Some(12)),
+        // Fewer and more fronts than tasks.
+        (9, &[], Some(12)),
+        (9, &[&[(0, 0, 1), (1, 0, 1)], &[]], Some(12)),
+        // The greatest offset and work, due at the bound and past it.
+        (
+            1000000000000000002,
+            &[&[
+                (0, 0, 1),
+                (0, 1000000000000000000, 2000000000000000000),
+                (1, 0, 1),
+            ]],
+            Some(15),
+        ),
+        (
+            1000000000000000001,
+            &[&[
+                (0, 0, 1),
+                (0, 1000000000000000000, 2000000000000000000),
+                (1, 0, 1),
+            ]],
+            Some(12),
+        ),
+    ];
+    for case in cases {
+        judge(&rt, alloc, &graphs, case)?;
+    }
+    Ok(())
+}
+
+#[test]
+fn an_entry_covers_what_is_no_sooner_and_no_more_work(rt: HostRuntime) -> Result<(), Fail> {
+    let alloc = rt.alloc();
+    let graphs = graphs(alloc, &[(&[(2, 4), (1, 3)], &[(0, 0, 5), (0, 1, 4)])])?;
+    let cases: [Case<'_>; 9] = [
+        (9, &[&[(0, 0, 2), (0, 5, 4), (1, 0, 1), (1, 4, 3)]], None),
+        // The second edge and the first one without an entry.
+        (9, &[&[(0, 0, 2), (0, 5, 4), (1, 0, 1)]], Some(14)),
+        (9, &[&[(0, 0, 2), (1, 0, 1), (1, 4, 3)]], Some(14)),
+        (8, &[&[(0, 0, 2), (1, 0, 1), (1, 4, 3)]], None),
+        // A tick sooner and more work, a tick later, less work.
+        (9, &[&[(0, 0, 2), (0, 5, 4), (1, 0, 1), (1, 3, 4)]], None),
+        (
+            9,
+            &[&[(0, 0, 2), (0, 5, 4), (1, 0, 1), (1, 5, 3)]],
+            Some(14),
+        ),
+        (
+            9,
+            &[&[(0, 0, 2), (0, 5, 4), (1, 0, 1), (1, 4, 2)]],
+            Some(14),
+        ),
+        // The first job a tick later, and with less work.
+        (
+            9,
+            &[&[(0, 1, 2), (0, 5, 4), (1, 0, 1), (1, 4, 3)]],
+            Some(13),
+        ),
+        (
+            9,
+            &[&[(0, 0, 1), (0, 5, 4), (1, 0, 1), (1, 4, 3)]],
+            Some(13),
+        ),
+    ];
+    for case in cases {
+        judge(&rt, alloc, &graphs, case)?;
+    }
+    Ok(())
 }
 
 #[test]
 fn works_due_at_once_are_added_over_the_tasks(rt: HostRuntime) -> Result<(), Fail> {
-    let fitting: [Shape<'_>; 2] = [(&[(1, 3), (1, 3)], &[]), (&[(2, 3)], &[])];
-    let more: [Shape<'_>; 2] = [(&[(2, 3)], &[]), (&[(2, 3)], &[])];
-    judge(
-        &rt,
-        rt.alloc(),
-        &[
-            // Of the first task one vertex counts, and not both.
-            (&fitting, 3, &[&[(0, 0, 1), (1, 0, 1)], &[(0, 0, 2)]], None),
-            (
-                &fitting,
-                3,
-                &[&[(0, 0, 1), (1, 0, 2)], &[(0, 0, 2)]],
-                Some(15),
-            ),
-            (&more, 3, &[&[(0, 0, 2)], &[(0, 0, 2)]], Some(15)),
-            // A greater work that is due earlier counts later, too.
-            (
-                &fitting,
-                4,
-                &[&[(0, 0, 2), (1, 1, 1), (1, 0, 1)], &[(0, 0, 2)]],
-                Some(12),
-            ),
-            (
-                &fitting,
-                4,
-                &[&[(0, 0, 2), (1, 0, 1)], &[(0, 0, 2)]],
-                Some(15),
-            ),
-        ],
-    )
-}
-
-// A job of one tick after each tick, up to 20,000 of them.
-fn ticks(alloc: Global) -> Result<Vec<Entry>, Memory> {
-    let mut entries = Vec::new(alloc);
-    for i in 0..20000u64 {
-        entries.push((0, i, i + 1))?;
+    let alloc = rt.alloc();
+    let graphs = graphs(alloc, &[(&[(1, 3), (1, 3)], &[]), (&[(2, 3)], &[])])?;
+    let cases: [Case<'_>; 4] = [
+        // Of one task the greatest work counts, and not the sum.
+        (3, &[&[(0, 0, 1), (1, 0, 1)], &[(0, 0, 2)]], None),
+        (3, &[&[(0, 0, 1), (1, 0, 2)], &[(0, 0, 2)]], Some(15)),
+        (3, &[&[(0, 0, 2), (1, 0, 1)], &[(0, 0, 2)]], Some(15)),
+        // At 4 as much work is due as there is time, and at 3 as well.
+        (4, &[&[(0, 0, 1), (0, 1, 2), (1, 0, 1)], &[(0, 0, 2)]], None),
+    ];
+    for case in cases {
+        judge(&rt, alloc, &graphs, case)?;
     }
-    Ok(entries)
+    Ok(())
 }
 
 #[test]
 fn a_front_of_twenty_thousand_entries_is_judged_at_once(rt: HostRuntime) -> Result<(), Fail> {
-    let entries = ticks(rt.alloc())?;
-    let shapes: [Shape<'_>; 1] = [(&[(1, 1)], &[(0, 0, 1)])];
-    judge(
-        &rt,
-        rt.alloc(),
-        &[
-            (&shapes, 20000, &[entries.as_slice()], None),
-            (&shapes, 20001, &[entries.as_slice()], Some(14)),
-            (&shapes, 19999, &[entries.as_slice()], Some(12)),
-        ],
-    )
+    let alloc = rt.alloc();
+    let graphs = graphs(alloc, &[(&[(1, 1)], &[(0, 0, 1)])])?;
+    // A job of one tick after each tick.
+    let mut entries = Vec::new(alloc);
+    for i in 0..20000u64 {
+        entries.push((0, i, i + 1))?;
+    }
+    let given = [entries.as_slice()];
+    judge(&rt, alloc, &graphs, (20000, &given, None))?;
+    judge(&rt, alloc, &graphs, (20001, &given, Some(14)))?;
+    judge(&rt, alloc, &graphs, (19999, &given, Some(12)))
 }
