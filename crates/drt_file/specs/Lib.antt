@@ -4,6 +4,7 @@ pub mod Cutting
 pub mod Faults
 pub mod Laws
 pub mod Line
+pub mod Reader
 pub mod Reading
 pub mod Steps
 pub mod Strict

@@ -1,6 +1,7 @@
 //! What a line without a fault adds to what the lines above leave.
-ghost use Rattle.std.specs.Prelude.{◌≡◌, None, Some, map, IfOk, option_map};
-ghost use Rattle.drt_file.specs.Faults.{place_of, task_count};
+ghost use Rattle.std.specs.Prelude.{◌≡◌, None, Some, false, map, bytes_eq, IfOk, option_map};
+ghost use Rattle.drt_file.specs.Faults.{place_of, has_vertex, in_some_task, is_outside, kind_fault};
+ghost use Rattle.drt_file.specs.Reader.{own_vertices, joined};
 ghost use Rattle.drt_file.specs.Steps.{
   after_task,
   after_end,
@@ -12,20 +13,26 @@ ghost use Rattle.drt_file.specs.Steps.{
   with_last,
   narrow,
   opening_priority,
-  opening,
   head,
 };
 
-use crate::faults::{count_tasks, place};
+use crate::faults::count_tasks;
+use crate::reader::Reader;
 use crate::state::{Draft, Kind, State, pushed};
 use crate::words::value_of;
 use drt_model::{Edge, Memory, Name, Row, Vertex};
 use std::alloc::Global;
 
+fn copy_of(alloc: Global, word: &[u8]) -> Result<Vec<u8>, Memory>
+    ensures { IfOk result (λ v. v.items ≡ word.now) }
+{
+    Ok(Vec::from_slice(alloc, word)?)
+}
+
 fn name_of(alloc: Global, word: &[u8]) -> Result<Name, Memory>
     ensures { IfOk result (λ n. n ≡ word.now) }
 {
-    Ok(Name::from_vec(Vec::from_slice(alloc, word)?))
+    Ok(Name::from_vec(copy_of(alloc, word)?))
 }
 
 /// The tasks so far, with the open one closed behind them.
@@ -52,7 +59,7 @@ fn opening_priority(s: &State) -> Option<u32>
 }
 
 #[tactic(auto, unfolding(crate::specs::Steps::after_task))]
-fn after_task(alloc: Global, n: u32, s: State, name: &[u8]) -> Result<State, Memory>
+fn task_opened(alloc: Global, n: u32, s: State, name: &[u8]) -> Result<State, Memory>
     ensures { IfOk result (λ t. t ≡ after_task n s name.now) }
 {
     let priority = opening_priority(&s);
@@ -75,6 +82,24 @@ fn after_task(alloc: Global, n: u32, s: State, name: &[u8]) -> Result<State, Mem
         closed,
         current: Some(draft),
         ended,
+    })
+}
+
+fn after_task(alloc: Global, n: u32, r: Reader, name: &[u8]) -> Result<Reader, Memory>
+    requires { in_some_task (λ d. bytes_eq d.name name.now) r ≡ false }
+    ensures { IfOk result (λ t. t ≡ after_task n r name.now) }
+{
+    let Reader {
+        state,
+        mut tasks,
+        mut vertices,
+    } = r;
+    tasks.add(copy_of(alloc, name)?)?;
+    vertices.clear();
+    Ok(Reader {
+        state: task_opened(alloc, n, state, name)?,
+        tasks,
+        vertices,
     })
 }
 
@@ -104,25 +129,12 @@ fn vertex_added(current: Option<Draft>, v: Vertex) -> Result<Option<Draft>, Memo
     }
 }
 
-fn place_in(d: &Draft, name: &[u8]) -> u32
-    ensures { result ≡ narrow (place_of name.now d.now.vertices) }
-{
-    place(d.vertices.as_slice(), name).min(4294967295) as u32
-}
-
-#[tactic(auto, unfolding(crate::specs::Steps::with_edge))]
-fn edge_added(
-    current: Option<Draft>,
-    from: &[u8],
-    to: &[u8],
-    sep: u32,
-) -> Result<Option<Draft>, Memory>
-    ensures { IfOk result (λ d. d ≡ option_map (with_edge from.now to.now sep) current) }
+#[tactic(auto, unfolding(crate::specs::Reader::joined))]
+fn edge_added(current: Option<Draft>, edge: Edge) -> Result<Option<Draft>, Memory>
+    ensures { IfOk result (λ d. d ≡ option_map (joined edge) current) }
 {
     match current {
         Some(d) => {
-            let from = place_in(&d, from);
-            let to = place_in(&d, to);
             let Draft {
                 name,
                 line,
@@ -130,7 +142,7 @@ fn edge_added(
                 vertices,
                 edges,
             } = d;
-            let edges = pushed(edges, Edge { from, to, sep })?;
+            let edges = pushed(edges, edge)?;
             Ok(Some(Draft {
                 name,
                 line,
@@ -157,7 +169,7 @@ fn priority_set(current: Option<Draft>, n: u32) -> Option<Draft>
 }
 
 #[tactic(auto, unfolding(crate::specs::Steps::on_current))]
-fn after_vertex(s: State, v: Vertex) -> Result<State, Memory>
+fn vertex_put(s: State, v: Vertex) -> Result<State, Memory>
     ensures { IfOk result (λ t. t ≡ on_current (with_vertex v) s) }
 {
     let State {
@@ -175,9 +187,27 @@ fn after_vertex(s: State, v: Vertex) -> Result<State, Memory>
     })
 }
 
+fn after_vertex(alloc: Global, r: Reader, v: Vertex) -> Result<Reader, Memory>
+    requires inside { is_outside r ≡ false }
+    requires new { has_vertex v.name (own_vertices r) ≡ false }
+    ensures { IfOk result (λ t. t ≡ on_current (with_vertex v) r) }
+{
+    let Reader {
+        state,
+        tasks,
+        mut vertices,
+    } = r;
+    vertices.add(copy_of(alloc, v.name.as_slice())?)?;
+    Ok(Reader {
+        state: vertex_put(state, v)?,
+        tasks,
+        vertices,
+    })
+}
+
 #[tactic(auto, unfolding(crate::specs::Steps::on_current))]
-fn after_edge(s: State, from: &[u8], to: &[u8], sep: u32) -> Result<State, Memory>
-    ensures { IfOk result (λ t. t ≡ on_current (with_edge from.now to.now sep) s) }
+fn edge_put(s: State, edge: Edge) -> Result<State, Memory>
+    ensures { IfOk result (λ t. t ≡ on_current (joined edge) s) }
 {
     let State {
         version,
@@ -185,7 +215,7 @@ fn after_edge(s: State, from: &[u8], to: &[u8], sep: u32) -> Result<State, Memor
         current,
         ended,
     } = s;
-    let current = edge_added(current, from, to, sep)?;
+    let current = edge_added(current, edge)?;
     Ok(State {
         version,
         closed,
@@ -194,8 +224,34 @@ fn after_edge(s: State, from: &[u8], to: &[u8], sep: u32) -> Result<State, Memor
     })
 }
 
+fn place_in(r: &Reader, name: &[u8]) -> u32
+    ensures { result ≡ narrow (place_of name.now (own_vertices r.now)) }
+{
+    r.place(name).min(4294967295) as u32
+}
+
+fn after_edge(r: Reader, from: &[u8], to: &[u8], sep: u32) -> Result<Reader, Memory>
+    ensures { IfOk result (λ t. t ≡ on_current (with_edge from.now to.now sep) r) }
+{
+    let edge = Edge {
+        from: place_in(&r, from),
+        to: place_in(&r, to),
+        sep,
+    };
+    let Reader {
+        state,
+        tasks,
+        vertices,
+    } = r;
+    Ok(Reader {
+        state: edge_put(state, edge)?,
+        tasks,
+        vertices,
+    })
+}
+
 #[tactic(auto, unfolding(crate::specs::Steps::on_current))]
-fn after_priority(s: State, n: u32) -> State
+fn priority_put(s: State, n: u32) -> State
     ensures { result ≡ on_current (with_priority n) s }
 {
     let State {
@@ -213,8 +269,23 @@ fn after_priority(s: State, n: u32) -> State
     }
 }
 
+fn after_priority(r: Reader, n: u32) -> Reader
+    ensures { result ≡ on_current (with_priority n) r }
+{
+    let Reader {
+        state,
+        tasks,
+        vertices,
+    } = r;
+    Reader {
+        state: priority_put(state, n),
+        tasks,
+        vertices,
+    }
+}
+
 #[tactic(auto, unfolding(crate::specs::Steps::after_end))]
-fn after_end(s: State) -> State
+fn end_put(s: State) -> State
     ensures { result ≡ after_end s }
 {
     let State {
@@ -231,15 +302,37 @@ fn after_end(s: State) -> State
     }
 }
 
+fn after_end(r: Reader) -> Reader
+    ensures { result ≡ after_end r }
+{
+    let Reader {
+        state,
+        tasks,
+        vertices,
+    } = r;
+    Reader {
+        state: end_put(state),
+        tasks,
+        vertices,
+    }
+}
+
 /// The state below a line of this kind that has no fault.
 #[tactic(auto, unfolding(crate::specs::Steps::after_kind))]
-pub fn after(alloc: Global, kind: Kind, n: u32, s: State, words: &[&[u8]]) -> Result<State, Memory>
-    ensures { IfOk result (λ t. t ≡ after_kind kind n s (map (λ w. w.now) words.now)) }
+pub fn after(
+    alloc: Global,
+    kind: Kind,
+    n: u32,
+    r: Reader,
+    words: &[&[u8]],
+) -> Result<Reader, Memory>
+    requires { kind_fault kind r (map (λ w. w.now) words.now) ≡ None }
+    ensures { IfOk result (λ t. t ≡ after_kind kind n r (map (λ w. w.now) words.now)) }
 {
     match kind {
         Kind::Task => match words {
-            [_, name, ..] => after_task(alloc, n, s, name),
-            _ => Ok(s),
+            [_, name, ..] => after_task(alloc, n, r, name),
+            _ => Ok(r),
         },
         Kind::Vertex => match words {
             [_, name, wcet, deadline, ..] => {
@@ -247,7 +340,8 @@ pub fn after(alloc: Global, kind: Kind, n: u32, s: State, words: &[&[u8]]) -> Re
                 let wcet = value_of(wcet);
                 let deadline = value_of(deadline);
                 after_vertex(
-                    s,
+                    alloc,
+                    r,
                     Vertex {
                         name,
                         wcet,
@@ -255,24 +349,24 @@ pub fn after(alloc: Global, kind: Kind, n: u32, s: State, words: &[&[u8]]) -> Re
                     },
                 )
             }
-            _ => Ok(s),
+            _ => Ok(r),
         },
         Kind::Edge => match words {
-            [_, from, to, sep, ..] => after_edge(s, from, to, value_of(sep)),
-            _ => Ok(s),
+            [_, from, to, sep, ..] => after_edge(r, from, to, value_of(sep)),
+            _ => Ok(r),
         },
         Kind::Priority => match words {
-            [_, number, ..] => Ok(after_priority(s, value_of(number))),
-            _ => Ok(s),
+            [_, number, ..] => Ok(after_priority(r, value_of(number))),
+            _ => Ok(r),
         },
-        Kind::End => Ok(after_end(s)),
-        Kind::Other => Ok(s),
+        Kind::End => Ok(after_end(r)),
+        Kind::Other => Ok(r),
     }
 }
 
 /// The state below the first line, where it is `drt 1` or `drt 2`.
-#[tactic(auto, unfolding(crate::specs::Steps::head, crate::specs::Steps::opening))]
-pub fn head(alloc: Global, words: &[&[u8]]) -> Option<State>
+#[tactic(auto, unfolding(crate::specs::Steps::head))]
+pub fn head(alloc: Global, words: &[&[u8]]) -> Option<Reader>
     ensures { result ≡ head (map (λ w. w.now) words.now) }
 {
     match words {
@@ -281,25 +375,13 @@ pub fn head(alloc: Global, words: &[&[u8]]) -> Option<State>
                 return None;
             }
             if *version == b"1".as_slice() {
-                return Some(open(alloc, 1));
+                return Some(Reader::open(alloc, 1));
             }
             if *version == b"2".as_slice() {
-                return Some(open(alloc, 2));
+                return Some(Reader::open(alloc, 2));
             }
             None
         }
         _ => None,
-    }
-}
-
-#[tactic(auto, unfolding(crate::specs::Steps::opening))]
-fn open(alloc: Global, version: u8) -> State
-    ensures { result ≡ opening version }
-{
-    State {
-        version,
-        closed: Row::from_vec(Vec::new(alloc)),
-        current: None,
-        ended: false,
     }
 }

@@ -1,52 +1,19 @@
 //! The fault of a line, given what the lines above leave.
-ghost use Rattle.std.specs.Prelude.{◌≡◌, ◌<◌, ◌+◌, ◌==◌, ◌&&◌, nat_le, map, length, bytes_eq};
+ghost use Rattle.std.specs.Prelude.{◌≡◌, ◌<◌, ◌+◌, ◌==◌, ◌&&◌, nat_le, map, length};
 ghost use Rattle.std.specs.List.{list_any};
 ghost use Rattle.drt_model.specs.Limits.{most_tasks, most_vertices};
-ghost use Rattle.drt_file.specs.Faults.{has_vertex, place_of, has_edge, has_that_priority, has_priority, in_task, in_some_task, is_outside, task_count, task_fault, vertex_fault, edge_fault, priority_fault, end_fault, line_fault, kind_fault};
+ghost use Rattle.drt_file.specs.Faults.{has_vertex, place_of, has_edge, has_that_priority, has_priority, is_outside, task_count, task_fault, vertex_fault, edge_fault, priority_fault, end_fault, line_fault, kind_fault};
 ghost use Rattle.drt_file.specs.Line.{first_word};
+ghost use Rattle.drt_file.specs.Reader.{own_vertices};
 ghost use Rattle.drt_file.specs.Words.{is_name};
 
 use crate::codes::*;
 use crate::line::{all_text, in_range, kind_of};
+use crate::reader::Reader;
 use crate::state::{Draft, Kind, State};
 use crate::words::{a_name, a_number, value_of};
 use drt_model::limits::{most_tasks, most_vertices};
-use drt_model::{Edge, Vertex};
-
-fn any_task(tasks: &[Draft], name: &[u8]) -> bool
-    ensures { result ≡ list_any (λ d. bytes_eq d.name name.now) tasks.now }
-{
-    for d in tasks {
-        if d.name.as_slice() == name {
-            return true;
-        }
-    }
-    false
-}
-
-fn any_vertex(vertices: &[Vertex], name: &[u8]) -> bool
-    ensures { result ≡ has_vertex name.now vertices.now }
-{
-    for v in vertices {
-        if v.name.as_slice() == name {
-            return true;
-        }
-    }
-    false
-}
-
-/// How many vertices stand before the one of that name.
-#[tactic(auto, unfolding(crate::specs::Faults::place_of))]
-pub fn place(vertices: &[Vertex], name: &[u8]) -> usize
-    ensures { result ≡ place_of name.now vertices.now }
-{
-    for (i, v) in vertices.iter().enumerate() {
-        if v.name.as_slice() == name {
-            return i;
-        }
-    }
-    vertices.len()
-}
+use drt_model::Edge;
 
 #[tactic(auto, unfolding(crate::specs::Faults::has_edge))]
 fn any_edge(from: usize, to: usize, edges: &[Edge]) -> bool
@@ -81,19 +48,6 @@ fn any_priority(n: u32, tasks: &[Draft]) -> bool
     false
 }
 
-#[tactic(auto, unfolding(crate::specs::Faults::in_some_task, crate::specs::Faults::in_task))]
-fn any_task_above(s: &State, name: &[u8]) -> bool
-    ensures { result ≡ in_some_task (λ d. bytes_eq d.name name.now) s.now }
-{
-    if any_task(s.closed.as_slice(), name) {
-        return true;
-    }
-    match &s.current {
-        Some(d) => d.name.as_slice() == name,
-        None => false,
-    }
-}
-
 /// The fault of an `end` line.
 #[tactic(auto, unfolding(crate::specs::Faults::end_fault))]
 fn fault_of_end(words: &[&[u8]]) -> Option<u8>
@@ -106,9 +60,9 @@ fn fault_of_end(words: &[&[u8]]) -> Option<u8>
 }
 
 /// The fault of a `vertex` line.
-#[tactic(auto, unfolding(crate::specs::Faults::vertex_fault, crate::specs::Faults::first_of, crate::specs::Faults::in_task, crate::specs::Faults::is_outside))]
-fn fault_of_vertex(s: &State, words: &[&[u8]]) -> Option<u8>
-    ensures { result ≡ vertex_fault s.now (map (λ w. w.now) words.now) }
+#[tactic(auto, unfolding(crate::specs::Reader::own_vertices, crate::specs::Faults::vertex_fault, crate::specs::Faults::first_of, crate::specs::Faults::in_task, crate::specs::Faults::is_outside))]
+fn fault_of_vertex(r: &Reader, words: &[&[u8]]) -> Option<u8>
+    ensures { result ≡ vertex_fault r.now (map (λ w. w.now) words.now) }
 {
     match words {
         [_, name, wcet, deadline] => {
@@ -121,13 +75,13 @@ fn fault_of_vertex(s: &State, words: &[&[u8]]) -> Option<u8>
             if !a_name(name) {
                 return Some(NO_NAME);
             }
-            match &s.current {
+            match &r.state().current {
                 None => Some(OUTSIDE),
                 Some(d) => {
-                    if any_vertex(d.vertices.as_slice(), name) {
+                    if r.has_vertex(name) {
                         return Some(SAME_VERTEX);
                     }
-                    if most_vertices(s.version) <= d.vertices.as_slice().len() {
+                    if most_vertices(r.state().version) <= d.vertices.as_slice().len() {
                         return Some(TOO_MANY_VERTICES);
                     }
                     None
@@ -144,28 +98,22 @@ fn both_names(from: &[u8], to: &[u8]) -> bool
     a_name(from) && a_name(to)
 }
 
-fn both_stand(d: &Draft, from: &[u8], to: &[u8]) -> bool
-    ensures { result ≡ (has_vertex from.now d.now.vertices && has_vertex to.now d.now.vertices) }
+fn both_stand(r: &Reader, from: &[u8], to: &[u8]) -> bool
+    ensures { result ≡ (has_vertex from.now (own_vertices r.now) && has_vertex to.now (own_vertices r.now)) }
 {
-    let vertices = d.vertices.as_slice();
-    any_vertex(vertices, from) && any_vertex(vertices, to)
+    r.has_vertex(from) && r.has_vertex(to)
 }
 
-fn joins(d: &Draft, from: &[u8], to: &[u8]) -> bool
-    ensures { result ≡ has_edge (place_of from.now d.now.vertices) (place_of to.now d.now.vertices) d.now.edges }
+fn joins(r: &Reader, d: &Draft, from: &[u8], to: &[u8]) -> bool
+    ensures { result ≡ has_edge (place_of from.now (own_vertices r.now)) (place_of to.now (own_vertices r.now)) d.now.edges }
 {
-    let vertices = d.vertices.as_slice();
-    any_edge(
-        place(vertices, from),
-        place(vertices, to),
-        d.edges.as_slice(),
-    )
+    any_edge(r.place(from), r.place(to), d.edges.as_slice())
 }
 
 /// The fault of an `edge` line.
-#[tactic(auto, unfolding(crate::specs::Faults::edge_fault, crate::specs::Faults::first_of, crate::specs::Faults::in_task, crate::specs::Faults::is_outside))]
-fn fault_of_edge(s: &State, words: &[&[u8]]) -> Option<u8>
-    ensures { result ≡ edge_fault s.now (map (λ w. w.now) words.now) }
+#[tactic(auto, unfolding(crate::specs::Reader::own_vertices, crate::specs::Faults::edge_fault, crate::specs::Faults::first_of, crate::specs::Faults::in_task, crate::specs::Faults::is_outside))]
+fn fault_of_edge(r: &Reader, words: &[&[u8]]) -> Option<u8>
+    ensures { result ≡ edge_fault r.now (map (λ w. w.now) words.now) }
 {
     match words {
         [_, from, to, sep] => {
@@ -178,13 +126,13 @@ fn fault_of_edge(s: &State, words: &[&[u8]]) -> Option<u8>
             if !both_names(from, to) {
                 return Some(NO_NAME);
             }
-            match &s.current {
+            match &r.state().current {
                 None => Some(OUTSIDE),
                 Some(d) => {
-                    if !both_stand(d, from, to) {
+                    if !both_stand(r, from, to) {
                         return Some(NO_VERTEX_OF_NAME);
                     }
-                    if joins(d, from, to) {
+                    if joins(r, d, from, to) {
                         return Some(SAME_EDGE);
                     }
                     if 256 <= d.edges.as_slice().len() {
@@ -247,18 +195,18 @@ fn are_full(s: &State) -> bool
 
 /// The fault of a `task` line.
 #[tactic(auto, unfolding(crate::specs::Faults::task_fault, crate::specs::Faults::first_of))]
-fn fault_of_task(s: &State, words: &[&[u8]]) -> Option<u8>
-    ensures { result ≡ task_fault s.now (map (λ w. w.now) words.now) }
+fn fault_of_task(r: &Reader, words: &[&[u8]]) -> Option<u8>
+    ensures { result ≡ task_fault r.now (map (λ w. w.now) words.now) }
 {
     match words {
         [_, name] => {
             if !a_name(name) {
                 return Some(NO_NAME);
             }
-            if any_task_above(s, name) {
+            if r.has_task(name) {
                 return Some(SAME_TASK);
             }
-            if are_full(s) {
+            if are_full(r.state()) {
                 return Some(TOO_MANY_TASKS);
             }
             None
@@ -268,14 +216,14 @@ fn fault_of_task(s: &State, words: &[&[u8]]) -> Option<u8>
 }
 
 #[tactic(auto, unfolding(crate::specs::Faults::kind_fault))]
-fn fault_by_kind(kind: Kind, s: &State, words: &[&[u8]]) -> Option<u8>
-    ensures { result ≡ kind_fault kind s.now (map (λ w. w.now) words.now) }
+fn fault_by_kind(kind: Kind, r: &Reader, words: &[&[u8]]) -> Option<u8>
+    ensures { result ≡ kind_fault kind r.now (map (λ w. w.now) words.now) }
 {
     match kind {
-        Kind::Task => fault_of_task(s, words),
-        Kind::Vertex => fault_of_vertex(s, words),
-        Kind::Edge => fault_of_edge(s, words),
-        Kind::Priority => fault_of_priority(s, words),
+        Kind::Task => fault_of_task(r, words),
+        Kind::Vertex => fault_of_vertex(r, words),
+        Kind::Edge => fault_of_edge(r, words),
+        Kind::Priority => fault_of_priority(r.state(), words),
         Kind::End => fault_of_end(words),
         Kind::Other => Some(NO_KIND),
     }
@@ -283,14 +231,15 @@ fn fault_by_kind(kind: Kind, s: &State, words: &[&[u8]]) -> Option<u8>
 
 /// The fault of a line that isn't skipped and isn't the first such.
 #[tactic(auto, unfolding(crate::specs::Faults::line_fault))]
-pub fn fault_of_line(s: &State, line: &[u8], words: &[&[u8]]) -> Option<u8>
-    ensures { result ≡ line_fault s.now line.now (map (λ w. w.now) words.now) }
+pub fn fault_of_line(r: &Reader, line: &[u8], words: &[&[u8]]) -> Option<u8>
+    ensures { result ≡ line_fault r.now line.now (map (λ w. w.now) words.now) }
 {
     if !all_text(line) {
         return Some(NO_TEXT);
     }
+    let s = r.state();
     if s.ended {
         return Some(AFTER_END);
     }
-    fault_by_kind(kind_of(s.version, words), s, words)
+    fault_by_kind(kind_of(s.version, words), r, words)
 }

@@ -15,6 +15,7 @@ ghost use Rattle.drt_file.specs.Steps.{
 use crate::codes::*;
 use crate::effects::close;
 use crate::fault::{FileError, FileFault};
+use crate::reader::Reader;
 use crate::state::{Draft, State};
 use drt_model::{Memory, Row, Task};
 use std::alloc::Global;
@@ -116,18 +117,18 @@ fn tasks_of(alloc: Global, drafts: Row<Draft>) -> Result<Row<Task>, Memory>
 
 /// The version and the tasks of the set that a text says.
 #[tactic(auto, unfolding(crate::specs::Steps::finish))]
-pub fn finish(alloc: Global, n: u32, above: Option<State>) -> Result<(u8, Row<Task>), FileError>
+pub fn finish(alloc: Global, n: u32, above: Option<Reader>) -> Result<(u8, Row<Task>), FileError>
     ensures { GivesSet result (finish n above) }
 {
     match above {
         None => Err(fault_at(n, NO_HEAD)),
-        Some(s) => {
+        Some(r) => {
             let State {
                 version,
                 closed,
                 current,
                 ended,
-            } = s;
+            } = r.into_state();
             let drafts = closing(n, close(closed, current)?, ended)?;
             Ok((version, tasks_of(alloc, drafts)?))
         }

@@ -6,7 +6,7 @@ ghost use Rattle.drt_file.specs.CanonicalPrefix.{BeginsWith, GivesFront, IsCanon
 ghost use Rattle.drt_file.specs.Strict.{Above, HasNoFeed, has_ended};
 
 use crate::finishing::finish;
-use crate::state::State;
+use crate::reader::Reader;
 use crate::strict::strict_step;
 use drt_model::{Memory, TaskSet};
 use std::alloc::Global;
@@ -61,17 +61,17 @@ fn fault(line: u32, missing: bool) -> CanonicalError
 }
 
 #[tactic(auto, unfolding(crate::specs::Strict::has_ended))]
-fn has_ended(above: &Option<State>) -> bool
+fn has_ended(above: &Option<Reader>) -> bool
     ensures { result ≡ has_ended above.now }
 {
     match above {
-        Some(s) => s.ended,
+        Some(r) => r.state().ended,
         None => false,
     }
 }
 
 // The lines down to `end`: the number behind it, what they leave, and the text behind them.
-fn all_lines(alloc: Global, bytes: &[u8]) -> Result<(u32, Option<State>, &[u8]), CanonicalError>
+fn all_lines(alloc: Global, bytes: &[u8]) -> Result<(u32, Option<Reader>, &[u8]), CanonicalError>
     requires { length bytes.now ≤ 1073741824 }
     ensures read { IfOk result (λ end. Above bytes.now end.0 end.1 end.2.now × (has_ended end.1 ≡ true)) }
     ensures fault { IfErr result (IsCanonicalCause bytes.now) }
@@ -85,7 +85,7 @@ fn all_lines(alloc: Global, bytes: &[u8]) -> Result<(u32, Option<State>, &[u8]),
             None => return Err(fault(n, true)),
         };
         above = match strict_step(alloc, n, above, line)? {
-            Some(s) => Some(s),
+            Some(r) => Some(r),
             None => return Err(fault(n, false)),
         };
         n += 1;

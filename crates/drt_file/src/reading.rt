@@ -8,7 +8,7 @@ use crate::cutting::{cut_line, fields_of};
 use crate::fault::FileError;
 use crate::finishing::finish;
 use crate::line::skipped;
-use crate::state::State;
+use crate::reader::Reader;
 use crate::steps::line_step;
 use drt_model::{Row, Task, TaskSet};
 use std::alloc::Global;
@@ -17,9 +17,9 @@ use std::alloc::Global;
 fn step(
     alloc: Global,
     n: u32,
-    above: Option<State>,
+    above: Option<Reader>,
     line: &[u8],
-) -> Result<Option<State>, FileError>
+) -> Result<Option<Reader>, FileError>
     ensures { Gives result (step n above line.now) }
 {
     let words = fields_of(alloc, line)?;
@@ -29,7 +29,7 @@ fn step(
     line_step(alloc, n, above, line, words.as_slice())
 }
 
-fn all_lines(alloc: Global, text: &[u8]) -> Result<(u32, Option<State>), FileError>
+fn all_lines(alloc: Global, text: &[u8]) -> Result<(u32, Option<Reader>), FileError>
     requires { length text.now ≤ 1073741824 }
     ensures { Gives result (steps 1 None (lines text.now)) }
 {
@@ -57,8 +57,8 @@ fn parts_of(alloc: Global, bytes: &[u8]) -> Result<(u8, Row<Task>), FileError>
 
 /// The set that a task file says, or the line and the code of its first fault.
 ///
-/// It goes once over the bytes. Names are found by a search over those that stand above in the file
-/// or in the task, of which there are at most 32 and 96.
+/// It goes once over the bytes. Names are numbered in the order of the file and found by hash, those
+/// of tasks among the tasks above, those of vertices among the vertices above in the task.
 pub fn read(alloc: Global, bytes: &[u8]) -> Result<TaskSet, FileError>
     requires { length bytes.now ≤ 1073741824 }
     ensures read { IfOk result (λ set. Reads bytes.now set) }

@@ -9,34 +9,34 @@ use crate::effects::{after, head};
 use crate::fault::{FileError, FileFault};
 use crate::faults::fault_of_line;
 use crate::line::kind_of;
-use crate::state::State;
+use crate::reader::Reader;
 use std::alloc::Global;
 
 #[tactic(auto, unfolding(crate::specs::Steps::judged))]
 fn below(
     alloc: Global,
     n: u32,
-    s: State,
+    r: Reader,
     line: &[u8],
     words: &[&[u8]],
-) -> Result<Option<State>, FileError>
-    ensures { Gives result (judged n (line_fault s line.now (map (λ w. w.now) words.now)) (after_kind (kind s.version (first_word (map (λ w. w.now) words.now))) n s (map (λ w. w.now) words.now))) }
+) -> Result<Option<Reader>, FileError>
+    ensures { Gives result (judged n (line_fault r line.now (map (λ w. w.now) words.now)) (after_kind (kind r.version (first_word (map (λ w. w.now) words.now))) n r (map (λ w. w.now) words.now))) }
 {
-    match fault_of_line(&s, line, words) {
+    match fault_of_line(&r, line, words) {
         Some(code) => Err(FileError::Fault(FileFault { line: n, code })),
         None => {
-            let kind = kind_of(s.version, words);
-            Ok(Some(after(alloc, kind, n, s, words)?))
+            let kind = kind_of(r.state().version, words);
+            Ok(Some(after(alloc, kind, n, r, words)?))
         }
     }
 }
 
 #[tactic(auto, unfolding(crate::specs::Steps::headed))]
-fn first(alloc: Global, n: u32, words: &[&[u8]]) -> Result<Option<State>, FileError>
+fn first(alloc: Global, n: u32, words: &[&[u8]]) -> Result<Option<Reader>, FileError>
     ensures { Gives result (headed n (head (map (λ w. w.now) words.now))) }
 {
     match head(alloc, words) {
-        Some(s) => Ok(Some(s)),
+        Some(r) => Ok(Some(r)),
         None => Err(FileError::Fault(FileFault {
             line: n,
             code: NO_HEAD,
@@ -49,14 +49,14 @@ fn first(alloc: Global, n: u32, words: &[&[u8]]) -> Result<Option<State>, FileEr
 pub fn line_step(
     alloc: Global,
     n: u32,
-    above: Option<State>,
+    above: Option<Reader>,
     line: &[u8],
     words: &[&[u8]],
-) -> Result<Option<State>, FileError>
+) -> Result<Option<Reader>, FileError>
     ensures { Gives result (line_step n above line.now (map (λ w. w.now) words.now)) }
 {
     match above {
         None => first(alloc, n, words),
-        Some(s) => below(alloc, n, s, line, words),
+        Some(r) => below(alloc, n, r, line, words),
     }
 }

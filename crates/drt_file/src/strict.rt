@@ -16,6 +16,7 @@ use crate::cutting::fields_of;
 use crate::fault::FileError;
 use crate::line::kind_of;
 use crate::printing::push_words;
+use crate::reader::Reader;
 use crate::state::{Draft, Kind, State};
 use crate::steps::line_step;
 use crate::words::value_of;
@@ -117,12 +118,15 @@ fn fits(kind: Kind, s: &State, words: &[&[u8]]) -> bool
 }
 
 #[tactic(auto, unfolding(crate::specs::Strict::fits_below))]
-fn fits_below(above: &Option<State>, words: &[&[u8]]) -> bool
+fn fits_below(above: &Option<Reader>, words: &[&[u8]]) -> bool
     ensures { result ≡ fits_below above.now (map (λ w. w.now) words.now) }
 {
     match above {
         None => true,
-        Some(s) => fits(kind_of(s.version, words), s, words),
+        Some(r) => {
+            let s = r.state();
+            fits(kind_of(s.version, words), s, words)
+        }
     }
 }
 
@@ -140,9 +144,9 @@ fn joined(alloc: Global, line: &[u8], words: &[&[u8]]) -> Result<bool, Memory>
 pub fn strict_step(
     alloc: Global,
     n: u32,
-    above: Option<State>,
+    above: Option<Reader>,
     line: &[u8],
-) -> Result<Option<State>, Memory>
+) -> Result<Option<Reader>, Memory>
     ensures { IfOk result (λ below. below ≡ strict_step n above line.now) }
 {
     let words = fields_of(alloc, line)?;
