@@ -18,6 +18,7 @@ pub mod Leads
 pub mod Lines
 pub mod Meanings
 pub mod Names
+pub mod NamesAbove
 pub mod Numbers
 pub mod Opened
 pub mod Ordered

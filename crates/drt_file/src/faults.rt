@@ -12,8 +12,8 @@ use crate::line::{all_text, in_range, kind_of};
 use crate::reader::Reader;
 use crate::state::{Draft, Kind, State};
 use crate::words::{a_name, a_number, value_of};
-use drt_model::limits::{most_tasks, most_vertices};
 use drt_model::Edge;
+use drt_model::limits::{most_tasks, most_vertices};
 
 #[tactic(auto, unfolding(crate::specs::Faults::has_edge))]
 fn any_edge(from: usize, to: usize, edges: &[Edge]) -> bool

@@ -85,7 +85,7 @@ fn all_lines(alloc: Global, bytes: &[u8]) -> Result<(u32, Option<Reader>, &[u8])
             None => return Err(fault(n, true)),
         };
         above = match strict_step(alloc, n, above, line)? {
-            Some(r) => Some(r),
+            Some(s) => Some(s),
             None => return Err(fault(n, false)),
         };
         n += 1;
