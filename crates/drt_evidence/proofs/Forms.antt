@@ -1,6 +1,6 @@
 -- Forms of pairs, of lines behind a keyword, and of lists.
-use Rattle.std.proofs.Common.{◌≡◌, ◌≢◌, ℕ, ◌+◌, ◌<◌, ◌≤◌, List, [], ◌∷◌, ◌++◌, length, map, All, Option, Some, None, MatchOption, refl, sym, ap, subst, ◌∙◌, append_assoc, arith}
-use Rattle.std.specs.Prelude.{decimal}
+use Rattle.std.proofs.Common.{◌≡◌, ◌≢◌, ℕ, ◌+◌, ◌<◌, ◌≤◌, List, [], ◌∷◌, ◌++◌, length, map, All, Option, Some, None, MatchOption, Bor, refl, sym, ap, subst, ◌∙◌, append_assoc, arith}
+use Rattle.std.specs.Prelude.{decimal, option_map}
 use Rattle.std.specs.List.{join_with_byte}
 use Rattle.std.proofs.lemmas.List.{append-nil, append_cancel_left, map_push, length-map}
 use Rattle.std.proofs.lemmas.List.Concat.{flat_map-append}
@@ -8,8 +8,8 @@ use Rattle.std.proofs.lemmas.List.Elements.{All-nil, All-head, All-tail, All-pus
 use Rattle.drt_file.proofs.Digits.{decimal_field}
 use Rattle.drt_evidence.specs.Fields.{behind}
 use Rattle.drt_evidence.specs.Ranges.{IsNumber, IsCounted}
-use Rattle.drt_evidence.specs.LineForms.{HasNoSpace, IsForm, IsNoForm, IsLineOf, IsNoLine, spaced, pair_form, AreBoth, list_form, AreCounted}
-use Rattle.drt_evidence.proofs.Spaces.{IsBehind, cut_same, no_cut, fields_behind, spaced_behind, field_no_space}
+use Rattle.drt_evidence.specs.LineForms.{HasNoSpace, IsForm, IsNoForm, IsLineOf, IsNoLine, spaced, pair_form, AreBoth, IsAny, itself, list_form, AreCounted}
+use Rattle.drt_evidence.proofs.Spaces.{IsBehind, cut_same, cut_spaced, no_cut, fields_behind, spaced_behind, field_no_space}
 
 -- The form of each value in range has no space.
 abbrev pub IsFieldForm : {A : Type 0} → (A → List ℕ) → (A → Type 0) → Type 0
@@ -53,6 +53,36 @@ pair_second f P g Q none bytes field rest alone cut not y ranges e =
     let r = cut_same field (f y.0) (32 ∷ rest) (32 ∷ g y.1) alone (none y.0 ranges.0) refl refl (sym cut ∙ e) in
     let tail : rest ≡ g y.1 = cc in
     not y.1 ranges.1 tail
+
+-- A value and the bytes behind it, and the form of those.
+pub rest_is : {A B : Type 0} (f : A → List ℕ) (P : A → Type 0) (g : B → List ℕ) (Q : B → Type 0) → (bytes rest : List ℕ) (a : A) (b : B)
+    → IsForm (pair_form f itself) (AreBoth P IsAny) bytes (a, rest) → IsForm g Q rest b → IsForm (pair_form f g) (AreBoth P Q) bytes (a, b)
+rest_is {A} {B} f P g Q bytes rest a b first second = record {
+  in_range = (first.in_range.0, second.in_range);
+  is = first.is ∙ ap (λ t. f a ++ 32 ∷ t) second.is;
+  only = only;
+}
+  where
+    only : (y : A × B) → AreBoth P Q y → bytes ≡ pair_form f g y → y ≡ (a, b)
+    only (x, y) ranges e =
+        let same = first.only (x, g y) (ranges.0, tt) e in
+        let tail : g y ≡ rest = ap (λ (p : A × List ℕ). p.1) same in
+        ap (λ (p : A × List ℕ). (p.0, y)) same ∙ ap (λ t. (a, t)) (second.only y ranges.1 (sym tail))
+
+pub rest_none : {A B : Type 0} (f : A → List ℕ) (P : A → Type 0) (g : B → List ℕ) (Q : B → Type 0) → (bytes : List ℕ)
+    → IsNoForm (pair_form f itself) (AreBoth P IsAny) bytes → IsNoForm (pair_form f g) (AreBoth P Q) bytes
+rest_none f P g Q bytes not y ranges e = not (y.0, g y.1) (ranges.0, tt) e
+
+pub rest_broken : {A B : Type 0} (f : A → List ℕ) (P : A → Type 0) (g : B → List ℕ) (Q : B → Type 0) → (bytes rest : List ℕ) (a : A)
+    → IsForm (pair_form f itself) (AreBoth P IsAny) bytes (a, rest) → IsNoForm g Q rest → IsNoForm (pair_form f g) (AreBoth P Q) bytes
+rest_broken {A} {B} f P g Q bytes rest a first not y ranges e =
+    let same = first.only (y.0, g y.1) (ranges.0, tt) e in
+    let tail : g y.1 ≡ rest = ap (λ (p : A × List ℕ). p.1) same in
+    not y.1 ranges.1 (sym tail)
+
+-- Bytes are their own form.
+pub itself_is : (bytes : List ℕ) → IsForm itself IsAny bytes bytes
+itself_is bytes = record { in_range = tt; is = refl; only = λ y r e. sym e }
 
 -- A line is a keyword, a space, and the form of its parts.
 pub record IsShape {A T : Type 0} (word : List ℕ) (form : T → List ℕ) (In : T → Type 0) (fields : A → List (List ℕ)) (InLine : A → Type 0) (parts : A → T) : Type 0 where
@@ -182,3 +212,25 @@ pub line_found : {A : Type 0} {word : List ℕ} {form : A → List ℕ} {In : A 
     → (line rest : List ℕ) (o : Option A) → line ≡ word ++ 32 ∷ rest → MatchOption o (IsNoForm form In rest) (λ x. IsForm form In rest x) → MatchOption o (IsNoLine fields In line) (λ x. IsLineOf fields In line x)
 line_found {A} {word} {form} {In} {fields} shape line rest None opens not = line_broken shape line rest opens not
 line_found {A} {word} {form} {In} {fields} shape line rest (Some x) opens is = line_is shape line rest x x opens is refl
+
+-- What is left of a line behind a field.
+abbrev pub left : Option (Bor (List ℕ)) → List ℕ
+left rest = spaced (option_map (λ r. r.now) rest)
+
+-- As a loop finds one item more, one that is none, and no further.
+pub loop_more : {A : Type 0} (f : A → List ℕ) (P : A → Type 0) → IsFieldForm f P → (all field : List ℕ) (rest others : Option (Bor (List ℕ))) (bytes : Bor (List ℕ)) (found now : List A) (x : A)
+    → IsBegun f P all (left rest) found → rest ≡ Some bytes → HasNoSpace field → MatchOption others (bytes.now ≡ field) (λ r. bytes.now ≡ field ++ 32 ∷ r.now)
+    → IsForm f P field x → now ≡ found ++ x ∷ [] → IsBegun f P all (left others) now
+loop_more f P none all field rest others bytes found now x so_far here alone cut is more =
+    subst (λ xs. IsBegun f P all (left others) xs) (sym more)
+    (begun_more f P none all bytes.now field (option_map (λ r. r.now) others) found x (subst (λ o. IsBegun f P all (left o) found) here so_far) alone (cut_spaced bytes.now field others cut) is)
+
+pub loop_broken : {A : Type 0} (f : A → List ℕ) (P : A → Type 0) → IsFieldForm f P → (all field : List ℕ) (rest others : Option (Bor (List ℕ))) (bytes : Bor (List ℕ)) (found : List A)
+    → IsBegun f P all (left rest) found → rest ≡ Some bytes → HasNoSpace field → MatchOption others (bytes.now ≡ field) (λ r. bytes.now ≡ field ++ 32 ∷ r.now)
+    → IsNoForm f P field → IsNoForm (λ xs. behind (map f xs)) (All P) all
+loop_broken f P none all field rest others bytes found so_far here alone cut not =
+    begun_broken f P none all bytes.now field (option_map (λ r. r.now) others) found (subst (λ o. IsBegun f P all (left o) found) here so_far) alone (cut_spaced bytes.now field others cut) not
+
+pub loop_done : {A : Type 0} (f : A → List ℕ) (P : A → Type 0) (all : List ℕ) (rest : Option (Bor (List ℕ))) (found : List A)
+    → IsBegun f P all (left rest) found → rest ≡ None → IsForm (λ xs. behind (map f xs)) (All P) all found
+loop_done f P all rest found so_far end = begun_done f P all found (subst (λ o. IsBegun f P all (left o) found) end so_far)

@@ -5,7 +5,10 @@ use Rattle.std.proofs.lemmas.Int.{ints}
 use Rattle.std.specs.Fmt.{signed_decimal}
 use Rattle.drt_file.specs.Words.{value, is_number, is_digit}
 use Rattle.drt_file.proofs.Digits.{value_decimal, decimal_number}
-use Rattle.drt_evidence.specs.Ranges.{IsInRangePotential}
+use Rattle.drt_evidence.specs.declared.evidence.Item.TheVariants.{Pass, Split}
+use Rattle.drt_evidence.specs.Ranges.{IsInRangeItem, IsInRangePotential}
+use Rattle.drt_evidence.specs.Text.{item_field}
+use Rattle.drt_evidence.proofs.Forms.{IsFieldForm, decimal_no_space}
 use Rattle.drt_evidence.specs.LineForms.{IsForm, IsNoForm}
 
 -- A field that is a number means it.
@@ -35,13 +38,13 @@ in_range_below m le = (omega (arith, ints, le), omega (arith, ints))
 in_range_above : (m : ℕ) → m ≤ 10000000000000000 → IsInRangePotential (pos m)
 in_range_above m le = (omega (arith, ints), omega (arith, ints, le))
 
-range_below : (m : ℕ) → IsInRangePotential (negsuc m) → suc m ≤ 10000000000000000
+pub range_below : (m : ℕ) → IsInRangePotential (negsuc m) → suc m ≤ 10000000000000000
 range_below m range = below range.0
   where
     below : negsuc 9999999999999999 ≤ℤ negsuc m → suc m ≤ 10000000000000000
     below low = omega (arith, ints)
 
-range_above : (m : ℕ) → IsInRangePotential (pos m) → m ≤ 10000000000000000
+pub range_above : (m : ℕ) → IsInRangePotential (pos m) → m ≤ 10000000000000000
 range_above m range = above range.1
   where
     above : pos m ≤ℤ pos 10000000000000000 → m ≤ 10000000000000000
@@ -103,3 +106,12 @@ positive_is field n other is = record {
 pub positive_other : (field : List ℕ) → ((rest : List ℕ) → ¬ (field ≡ (45 ∷ []) ++ rest)) → IsNoForm decimal (λ y. y ≤ 10000000000000000) field → IsNoForm signed_decimal IsInRangePotential field
 positive_other field other not (pos k) range e = not k (range_above k range) e
 positive_other field other not (negsuc k) range e = other (decimal (suc k)) e
+
+-- Potentials and items have no space.
+pub potential_no_space : IsFieldForm signed_decimal IsInRangePotential
+potential_no_space (pos k) range = decimal_no_space k (omega (arith, range_above k range))
+potential_no_space (negsuc k) range = ((λ e. absurd (omega (arith, e))), decimal_no_space (suc k) (omega (arith, range_below k range)))
+
+pub item_no_space : IsFieldForm item_field IsInRangeItem
+item_no_space (Pass t) range = ((λ e. absurd (omega (arith, e))), decimal_no_space t (omega (arith, range)))
+item_no_space (Split p) range = ((λ e. absurd (omega (arith, e))), decimal_no_space p (omega (arith, range)))

@@ -45,6 +45,10 @@ abbrev pub spaced : Option (List ℕ) → List ℕ
 spaced None = []
 spaced (Some rest) = 32 ∷ rest
 
+-- The form of bytes is the bytes.
+abbrev pub itself : List ℕ → List ℕ
+itself bytes = bytes
+
 -- The form of two values: a space stands between theirs.
 abbrev pub pair_form : {A B : Type 0} → (A → List ℕ) → (B → List ℕ) → A × B → List ℕ
 pair_form f g p = f p.0 ++ 32 ∷ g p.1

@@ -2,7 +2,7 @@
 ghost use Rattle.std.specs.Prelude.{◌≡◌, ◌≤◌, ◌-◌, ◌++◌, ◌∷◌, List, ℕ, negsuc, min, decimal, MatchOption};
 ghost use Rattle.std.specs.Fmt.{signed_decimal};
 ghost use Rattle.drt_file.specs.Words.{value};
-ghost use Rattle.drt_evidence.specs.LineForms.{HasNoSpace, IsForm, IsNoForm};
+ghost use Rattle.drt_evidence.specs.LineForms.{AreBoth, HasNoSpace, IsAny, IsForm, IsNoForm, itself, pair_form};
 ghost use Rattle.drt_evidence.specs.Ranges.{IsInRangeItem, IsInRangePotential, IsNumber, IsTick};
 ghost use Rattle.drt_evidence.specs.Text.{item_field};
 
@@ -81,6 +81,17 @@ pub(crate) fn index_of(field: &[u8]) -> Option<u32>
         Some(n) => Some(n as u32),
         None => None,
     }
+}
+
+// The number that the first field is, and what stands behind the space at its end.
+pub(crate) fn index_before(bytes: &[u8]) -> Option<(u32, &[u8])>
+    ensures { MatchOption result
+        (IsNoForm (pair_form decimal itself) (AreBoth IsNumber IsAny) bytes.now)
+        (λ p. IsForm (pair_form decimal itself) (AreBoth IsNumber IsAny) bytes.now (p.0, p.1.now)) }
+{
+    let (field, rest) = cut_field(bytes);
+    let rest = rest?;
+    Some((index_of(field)?, rest))
 }
 
 // A number from 1 on, with a minus.

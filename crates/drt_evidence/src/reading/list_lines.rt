@@ -10,7 +10,9 @@ ghost use Rattle.drt_evidence.specs.Ranges.{IsInRangeItem, IsInRangePotential, I
 ghost use Rattle.drt_evidence.specs.Text.{item_field, proof_line};
 
 use crate::evidence::{Item, ProofClaim};
-use crate::reading::fields::{behind_word, cut_field, index_of, item_of, potential_of};
+use crate::reading::fields::{
+    behind_word, cut_field, index_before, index_of, item_of, potential_of,
+};
 use drt_model::{Memory, Row};
 use std::alloc::Global;
 
@@ -176,13 +178,13 @@ fn vertex_and_items(alloc: Global, bytes: &[u8]) -> Result<Option<(u32, Vec<Item
         (IsNoForm (pair_form decimal (list_form item_field)) (AreBoth IsNumber (AreCounted IsInRangeItem)) bytes.now)
         (λ p. IsForm (pair_form decimal (list_form item_field)) (AreBoth IsNumber (AreCounted IsInRangeItem)) bytes.now (p.0, p.1.items))) }
 {
-    let (field, rest) = cut_field(bytes);
-    match (index_of(field), rest) {
-        (Some(vertex), Some(rest)) => match list_of_items(alloc, rest)? {
-            Some(items) => Ok(Some((vertex, items))),
-            None => Ok(None),
-        },
-        _ => Ok(None),
+    let (vertex, rest) = match index_before(bytes) {
+        Some(parts) => parts,
+        None => return Ok(None),
+    };
+    match list_of_items(alloc, rest)? {
+        Some(items) => Ok(Some((vertex, items))),
+        None => Ok(None),
     }
 }
 
@@ -192,13 +194,13 @@ fn parts_of_proof(alloc: Global, bytes: &[u8]) -> Result<Option<(u32, (u32, Vec<
         (IsNoForm (pair_form decimal (pair_form decimal (list_form item_field))) (AreBoth IsNumber (AreBoth IsNumber (AreCounted IsInRangeItem))) bytes.now)
         (λ p. IsForm (pair_form decimal (pair_form decimal (list_form item_field))) (AreBoth IsNumber (AreBoth IsNumber (AreCounted IsInRangeItem))) bytes.now (p.0, (p.1.0, p.1.1.items)))) }
 {
-    let (field, rest) = cut_field(bytes);
-    match (index_of(field), rest) {
-        (Some(task), Some(rest)) => match vertex_and_items(alloc, rest)? {
-            Some(others) => Ok(Some((task, others))),
-            None => Ok(None),
-        },
-        _ => Ok(None),
+    let (task, rest) = match index_before(bytes) {
+        Some(parts) => parts,
+        None => return Ok(None),
+    };
+    match vertex_and_items(alloc, rest)? {
+        Some(others) => Ok(Some((task, others))),
+        None => Ok(None),
     }
 }
 

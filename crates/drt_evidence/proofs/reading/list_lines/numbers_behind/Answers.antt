@@ -1,0 +1,17 @@
+use Rattle.std.proofs.Common.{decimal}
+use Rattle.drt_evidence.specs.Ranges.{IsNumber}
+use Rattle.drt_evidence.proofs.Forms.{left, loop_more, loop_broken, loop_done, number_no_space}
+use Rattle.drt_evidence.proofs.reading.list_lines.numbers_behind.Goals as goal
+
+pub returns-in-None : goal.returns-in-None
+returns-in-None c =
+    loop_broken decimal IsNumber number_no_space (left c.args.rest) c.cut_field.result.0.now c.fields.rest c.cut_field.result.1 c.in-Some.bytes c.fields.found.items
+    c.fields.invariant c.in-Some.is c.cut_field.ensures.field c.cut_field.ensures.rest c.in-None.ensures
+
+pub fields-preserved : goal.fields-preserved
+fields-preserved c =
+    loop_more decimal IsNumber number_no_space (left c.args.rest) c.cut_field.result.0.now c.fields.rest c.cut_field.result.1 c.in-Some.bytes c.fields.found.items c.push.new.self.items c.in-Some-index_of.number
+    c.fields.invariant c.in-Some.is c.cut_field.ensures.field c.cut_field.ensures.rest c.in-Some-index_of.ensures c.in_ok-push-in-Some-index_of.ensures.items
+
+pub returns : goal.returns
+returns c = loop_done decimal IsNumber (left c.args.rest) c.fields.rest c.fields.found.items c.fields.invariant c.in_default.is
