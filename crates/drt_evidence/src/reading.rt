@@ -2,3 +2,5 @@
 pub(crate) mod fields;
 pub(crate) mod line_forms;
 pub(crate) mod list_lines;
+#[cfg(test)]
+mod tests;

@@ -162,14 +162,14 @@ fn list_of_items(alloc: Global, bytes: &[u8]) -> Result<Option<Vec<Item>>, Memor
         Some(count) => count,
         None => return Ok(None),
     };
-    let found = match items_behind(alloc, rest)? {
-        Some(found) => found,
+    let items = match items_behind(alloc, rest)? {
+        Some(items) => items,
         None => return Ok(None),
     };
-    if found.len() != count as usize {
+    if items.len() != count as usize {
         return Ok(None);
     }
-    Ok(Some(found))
+    Ok(Some(items))
 }
 
 // The number of a vertex, and items.

@@ -14,18 +14,18 @@ returns-in-None c =
 pub returns-in-None-2 : goal.returns-in-None-2
 returns-in-None-2 c =
     list_broken item_field IsInRangeItem c.args.bytes.now c.cut_field.result.0.now (option_map (λ r. r.now) c.cut_field.result.1) c.cut_field.ensures.field
-    (cut_spaced c.args.bytes.now c.cut_field.result.0.now c.cut_field.result.1 c.cut_field.ensures.rest) (rw c.in-None-2.is at c.in_ok-found.ensures)
+    (cut_spaced c.args.bytes.now c.cut_field.result.0.now c.cut_field.result.1 c.cut_field.ensures.rest) (rw c.in-None-2.is at c.in_ok-items.ensures)
 
 pub returns-then-len-count : goal.returns-then-len-count
 returns-then-len-count c =
-    let size : vec_len c.in-Some-2.found ≡ length c.in-Some-2.found.items = search rules in
-    let differ : length c.in-Some-2.found.items ≢ c.in-Some.count = λ e. c.if-len-count.true (c.len.ensures ∙ size ∙ e) in
-    list_miscounted item_field IsInRangeItem c.args.bytes.now c.cut_field.result.0.now (option_map (λ r. r.now) c.cut_field.result.1) c.in-Some.count c.in-Some-2.found.items c.cut_field.ensures.field
-    (cut_spaced c.args.bytes.now c.cut_field.result.0.now c.cut_field.result.1 c.cut_field.ensures.rest) c.in-Some.ensures (rw c.in-Some-2.is at c.in_ok-found.ensures) differ
+    let size : vec_len c.in-Some-2.items ≡ length c.in-Some-2.items.items = search rules in
+    let differ : length c.in-Some-2.items.items ≢ c.in-Some.count = λ e. c.if-len-count.true (c.len.ensures ∙ size ∙ e) in
+    list_miscounted item_field IsInRangeItem c.args.bytes.now c.cut_field.result.0.now (option_map (λ r. r.now) c.cut_field.result.1) c.in-Some.count c.in-Some-2.items.items c.cut_field.ensures.field
+    (cut_spaced c.args.bytes.now c.cut_field.result.0.now c.cut_field.result.1 c.cut_field.ensures.rest) c.in-Some.ensures (rw c.in-Some-2.is at c.in_ok-items.ensures) differ
 
 pub returns : goal.returns
 returns c =
-    let size : vec_len c.in-Some-2.found ≡ length c.in-Some-2.found.items = search rules in
-    let same : length c.in-Some-2.found.items ≡ c.in-Some.count = sym size ∙ sym c.len.ensures ∙ c.if-len-count.false in
-    list_is item_field IsInRangeItem c.args.bytes.now c.cut_field.result.0.now (option_map (λ r. r.now) c.cut_field.result.1) c.in-Some.count c.in-Some-2.found.items c.cut_field.ensures.field
-    (cut_spaced c.args.bytes.now c.cut_field.result.0.now c.cut_field.result.1 c.cut_field.ensures.rest) c.in-Some.ensures (rw c.in-Some-2.is at c.in_ok-found.ensures) same
+    let size : vec_len c.in-Some-2.items ≡ length c.in-Some-2.items.items = search rules in
+    let same : length c.in-Some-2.items.items ≡ c.in-Some.count = sym size ∙ sym c.len.ensures ∙ c.if-len-count.false in
+    list_is item_field IsInRangeItem c.args.bytes.now c.cut_field.result.0.now (option_map (λ r. r.now) c.cut_field.result.1) c.in-Some.count c.in-Some-2.items.items c.cut_field.ensures.field
+    (cut_spaced c.args.bytes.now c.cut_field.result.0.now c.cut_field.result.1 c.cut_field.ensures.rest) c.in-Some.ensures (rw c.in-Some-2.is at c.in_ok-items.ensures) same
