@@ -1,15 +1,15 @@
 -- Forms of pairs, of lines behind a keyword, and of lists.
-use Rattle.std.proofs.Common.{◌≡◌, ◌≢◌, ℕ, ◌+◌, ◌<◌, ◌≤◌, List, [], ◌∷◌, ◌++◌, length, map, All, Option, Some, None, MatchOption, Bor, refl, sym, ap, subst, ◌∙◌, append_assoc, arith}
+use Rattle.std.proofs.Common.{◌≡◌, ◌≢◌, ℕ, ◌<◌, ◌≤◌, List, [], ◌∷◌, ◌++◌, length, map, All, Option, Some, None, MatchOption, Bor, refl, sym, ap, subst, ◌∙◌, append_assoc, arith}
 use Rattle.std.specs.Prelude.{decimal, option_map}
 use Rattle.std.specs.List.{join_with_byte}
-use Rattle.std.proofs.lemmas.List.{append-nil, append_cancel_left, map_push, length-map}
+use Rattle.std.proofs.lemmas.List.{append-nil, append_cancel_left, map_push}
 use Rattle.std.proofs.lemmas.List.Concat.{flat_map-append}
 use Rattle.std.proofs.lemmas.List.Elements.{All-nil, All-head, All-tail, All-push}
 use Rattle.drt_file.proofs.Digits.{decimal_field}
 use Rattle.drt_evidence.specs.Fields.{behind}
-use Rattle.drt_evidence.specs.Ranges.{IsNumber, IsCounted}
+use Rattle.drt_evidence.specs.Ranges.{IsNumber}
 use Rattle.drt_evidence.specs.LineForms.{HasNoSpace, IsForm, IsNoForm, IsLineOf, IsNoLine, spaced, pair_form, AreBoth, IsAny, itself, list_form, AreCounted}
-use Rattle.drt_evidence.proofs.Spaces.{IsBehind, cut_same, cut_spaced, no_cut, fields_behind, spaced_behind, field_no_space}
+use Rattle.drt_evidence.proofs.Spaces.{cut_same, cut_spaced, no_cut, fields_behind, spaced_behind, field_no_space}
 
 -- The form of each value in range has no space.
 abbrev pub IsFieldForm : {A : Type 0} → (A → List ℕ) → (A → Type 0) → Type 0

@@ -1,5 +1,5 @@
 -- Each line's fields are runs of bytes above the space, so no line has a LF.
-use Rattle.std.proofs.Common.{◌≡◌, ℕ, suc, ◌<◌, ◌≤◌, ◌^◌, List, [], ◌∷◌, ◌++◌, length, map, All, subst, sym, arith, rules}
+use Rattle.std.proofs.Common.{ℕ, suc, ◌≤◌, List, [], ◌∷◌, length, map, All, subst, sym, arith, rules}
 use Rattle.std.specs.Prelude.{ℤ, pos, negsuc, codes, decimal}
 use Rattle.std.specs.List.{AllByRecursion, join_with_byte}
 use Rattle.std.specs.Fmt.{signed_decimal}
@@ -20,7 +20,7 @@ use Rattle.drt_evidence.specs.declared.evidence.ProofClaim.{ProofClaim}
 use Rattle.drt_evidence.specs.declared.reading.line_forms.KindOfEvidence.{KindOfEvidence}
 use Rattle.drt_evidence.specs.declared.reading.line_forms.KindOfEvidence.TheVariants as kinds
 use Rattle.drt_evidence.specs.declared.reading.line_forms.WrittenRatio.{WrittenRatio}
-use Rattle.drt_evidence.specs.Ranges.{IsNumber, IsTick, IsInRangeEntry, IsInRangeItem, IsInRangeMiss, IsInRangePair, IsInRangePotential, IsInRangeProof, IsInRangeRelease}
+use Rattle.drt_evidence.specs.Ranges.{IsNumber, IsInRangeEntry, IsInRangeItem, IsInRangeMiss, IsInRangePair, IsInRangePotential, IsInRangeProof, IsInRangeRelease}
 use Rattle.drt_evidence.specs.Text.{count_line, entry_line, item_field, miss_line, pair_line, policy_word, proof_line, release_line, word_line}
 use Rattle.drt_evidence.specs.LineForms.{AreCounted, IsInRangeWritten, kind_keyword, kind_line, numbers_line, policy_line, potentials_line, written_ratio_line}
 use Rattle.drt_evidence.proofs.Numerals.{range_above, range_below}

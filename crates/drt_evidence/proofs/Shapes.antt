@@ -1,6 +1,6 @@
 -- The shape of each line: its keyword, and the form of what stands behind it.
-use Rattle.std.proofs.Common.{◌≡◌, ◌≢◌, ℕ, ◌≤◌, List, [], ◌∷◌, ◌++◌, length, map, All, refl, ap, ◌∙◌, arith}
-use Rattle.std.specs.Prelude.{ℤ, codes, decimal}
+use Rattle.std.proofs.Common.{◌≡◌, ◌≢◌, ℕ, ◌≤◌, List, ◌∷◌, ◌++◌, length, map, refl, ap, ◌∙◌, arith}
+use Rattle.std.specs.Prelude.{codes, decimal}
 use Rattle.std.specs.List.{join_with_byte}
 use Rattle.std.specs.Fmt.{signed_decimal}
 use Rattle.std.proofs.lemmas.List.{length-map}
@@ -13,7 +13,7 @@ use Rattle.drt_evidence.specs.declared.evidence.ProofClaim.{ProofClaim}
 use Rattle.drt_evidence.specs.declared.reading.line_forms.WrittenRatio.{WrittenRatio}
 use Rattle.drt_evidence.specs.Fields.{behind}
 use Rattle.drt_evidence.specs.Ranges.{IsNumber, IsTick, IsInRangeEntry, IsInRangeItem, IsInRangeMiss, IsInRangePair, IsInRangePotential, IsInRangeProof, IsInRangeRelease}
-use Rattle.drt_evidence.specs.Text.{count_line, entry_line, item_field, list_line, miss_line, pair_line, proof_line, release_line}
+use Rattle.drt_evidence.specs.Text.{count_line, entry_line, item_field, miss_line, pair_line, proof_line, release_line}
 use Rattle.drt_evidence.specs.LineForms.{AreBoth, AreCounted, IsForm, IsNoForm, IsInRangeWritten, list_form, numbers_line, pair_form, potentials_line, written_ratio_line}
 use Rattle.drt_evidence.proofs.Joins.{join_behind}
 use Rattle.drt_evidence.proofs.Forms.{IsShape}
