@@ -20,3 +20,6 @@ mod Works
 mod Sweeps
 mod Rooms
 mod Naming
+mod Excludes
+mod Found
+mod Pasts

@@ -5,3 +5,4 @@ pub mod Rises
 pub mod Orders
 pub mod Claimed
 pub mod Named
+pub mod Exclusion

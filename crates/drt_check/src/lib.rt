@@ -4,15 +4,20 @@
 //! sentence over lists and numbers; what its judgement means stands in `specs/Judging.antt`.
 #![tactic(auto)]
 
+mod checking;
 mod claimed;
 mod constants;
 mod cycles;
+mod exclusion;
 mod fronts;
 mod horizons;
 mod judgement;
 mod laws;
 mod releases;
+mod ruling;
 mod scales;
 
+pub use checking::check;
+pub use exclusion::accepted_breaks_none;
 pub use judgement::Judgement;
 pub use laws::accepted_is_sound;
