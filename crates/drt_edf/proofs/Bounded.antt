@@ -1,19 +1,21 @@
 -- How many steps the search of a graph's walks takes.
-use Rattle.std.proofs.Common.{◌≡◌, ℕ, zero, suc, ◌+◌, ◌*◌, ◌<◌, ◌≤◌, ◌⊎◌, inl, inr, false, List, [], ◌∷◌, length, get_or, sym, ap, arith, ◌∙◌, mul-le-mul_left}
+use Rattle.std.proofs.Common.{◌≡◌, ℕ, zero, suc, ◌+◌, ◌*◌, ◌<◌, ◌≤◌, ◌⊎◌, inl, inr, false, List, [], ◌∷◌, ◌++◌, length, append_assoc, get_or, sym, ap, arith, ◌∙◌, mul-le-mul_left}
 use Rattle.std.specs.Prelude.{IsTrue}
 use Rattle.std.proofs.Math.Nat.{le-max_left, le-max_right}
 use Rattle.std.proofs.lemmas.Bool.{cases_lt, leb-true}
+use Rattle.std.proofs.lemmas.List.{append-nil}
 use Rattle.drt_model.specs.declared.tasks.Edge.{Edge}
 use Rattle.drt_model.specs.Digraph.{IsSound, vertex_count, edge_of}
 use Rattle.drt_model.specs.Walk.{deadline}
 use Rattle.drt_demand.specs.Demand.{Demand, demand_algebra}
 use Rattle.drt_demand.proofs.Comparable.{comparable}
-use Rattle.drt_table.specs.Machine.{Setting, IsRun, replay, is_finished, in_range}
+use Rattle.drt_table.specs.Machine.{Setting, State, step_of, opening_state, replay_from, IsRun, IsRunFrom, replay, is_finished, in_range}
 use Rattle.drt_table.specs.View.{View, IsTable, setting_of, state_of}
 use Rattle.drt_table.specs.Walk.{WalkTo, IsWalkLabel}
-use Rattle.drt_table.specs.Work.{IsDegree, IsShort, AreSlots, kept_count}
+use Rattle.drt_table.specs.Work.{IsBounded, IsDegree, IsShort, AreSlots, kept_count}
 use Rattle.drt_table.specs.declared.step.Entry.{Entry}
-use Rattle.drt_edf.specs.Spent.{most_out, table_need}
+use Rattle.drt_edf.specs.Bounded.{SearchesAreBounded}
+use Rattle.drt_edf.specs.Spent.{most_out, search_of, table_need}
 
 -- The label of an in-range walk to v is of v, which is a vertex, and is in range.
 label_of : (t : Setting) (v : ℕ) (before : List ℕ) (l : Demand) → IsSound t.graph → WalkTo demand_algebra t v before l → (l.vertex ≡ v) × (v < vertex_count t.graph) × IsTrue (in_range demand_algebra t l)
@@ -80,6 +82,9 @@ AreShort = (t : Setting) (log : List Entry) (g : ℕ) → IsSound t.graph → Is
 abbrev pub AreFew : Type 0
 AreFew = (t : Setting) (log : List Entry) (slot : Demand → ℕ) (many : ℕ) → IsSound t.graph → IsTrue (demand_algebra.takes_bound t.bound) → IsRun demand_algebra t log → AreSlots demand_algebra t slot many → kept_count (replay demand_algebra t log).nodes ≤ many
 
+abbrev pub AreOnce : Type 0
+AreOnce = (t : Setting) (log : List Entry) → IsSound t.graph → IsTrue (demand_algebra.takes_bound t.bound) → IsRun demand_algebra t log → IsBounded (replay demand_algebra t log)
+
 scaled : (n kept many g : ℕ) → n < kept * (g + 2) → kept ≤ many → n < many * (g + 2)
 scaled n kept many g l m =
     let x : (g + 2) * kept ≤ (g + 2) * many = mul-le-mul_left (g + 2) m in
@@ -95,3 +100,34 @@ unfinished_short short few v is unfinished =
     let u : is_finished demand_algebra t (replay demand_algebra t v.log) ≡ false = ap (λ x. is_finished demand_algebra t x) (sym is.state) ∙ unfinished in
     let m = s.unfinished u in
     scaled (length v.log) (kept_count (replay demand_algebra t v.log).nodes) (vertex_count v.graph * (v.bound + 1)) (most_out v.graph.out) (omega (arith, log, m)) k
+
+scaled_most : (n kept many g : ℕ) → n ≤ kept * (g + 2) → kept ≤ many → n ≤ many * (g + 2)
+scaled_most n kept many g l m =
+    let x : (g + 2) * kept ≤ (g + 2) * many = mul-le-mul_left (g + 2) m in
+    omega arith
+
+-- The log of the state after a run is the run.
+module _ (t : Setting) where
+  run_log_from : (es : List Entry) (s : State Demand) → IsRunFrom demand_algebra t s es → (replay_from demand_algebra t s es).log ≡ s.log ++ es
+  run_log_from [] s run = sym (append-nil s.log)
+  run_log_from (e ∷ es) s run =
+      let h = run_log_from es (step_of demand_algebra t s e.worker e.step).state run.2 in
+      h ∙ (ap (λ l. l ++ es) run.1 ∙ append_assoc s.log (e ∷ []) es)
+
+run_log : (t : Setting) (log : List Entry) → IsRun demand_algebra t log → length (replay demand_algebra t log).log ≡ length log
+run_log t log run = ap length (run_log_from t log (opening_state demand_algebra t) run)
+
+-- Each run of a search is bounded.
+pub every_search : AreOnce → AreShort → AreFew → SearchesAreBounded
+every_search once short few g bound budget log sound takes run =
+    let t = search_of g bound budget in
+    let s = short t log (most_out g.out) sound takes run (λ u l. most_row g.out u) in
+    let k = few t log (slot bound) (vertex_count g * (bound + 1)) sound takes run (slots_are t sound) in
+    let o = once t log sound takes run in
+    record {
+      most = scaled_most (length log) (kept_count (replay demand_algebra t log).nodes) (vertex_count g * (bound + 1)) (most_out g.out) (omega (arith, run_log t log run, s.log)) k;
+      unfinished = λ u. scaled (length log) (kept_count (replay demand_algebra t log).nodes) (vertex_count g * (bound + 1)) (most_out g.out) (let m = s.unfinished u in omega (arith, run_log t log run, m)) k;
+      once = o.once;
+      each = s.each;
+      kept = k;
+    }

@@ -10,3 +10,4 @@ pub mod Nos
 pub mod Exclusions
 pub mod KeptNodes
 pub mod Plain
+pub mod Bounded

@@ -29,4 +29,4 @@ mod walks;
 
 pub use analysis::analyse_edf;
 pub use answer::{EdfAnswer, EdfTrail};
-pub use laws::{horizon_is_one, rates_are_one};
+pub use laws::{horizon_is_one, rates_are_one, searches_are_bounded};
