@@ -80,6 +80,12 @@ impl<L: Label> Arena<L> {
         })
     }
 
+    pub(crate) fn count(&self) -> usize
+        ensures { result ≡ length self.now.nodes }
+    {
+        self.nodes.len()
+    }
+
     pub(crate) fn node(&self, id: u32) -> &Node<L>
         requires { id < length self.now.nodes }
         ensures { slice_get self.now.nodes id ≡ Some result.now }

@@ -17,6 +17,13 @@ use drt_model::Row;
 use std::alloc::Global;
 
 impl<L: Label> Table<L> {
+    /// How many nodes there are, those included that were dropped. Their numbers are those from 0 on.
+    pub fn node_count(&self) -> usize
+        ensures { result ≡ length self.now.nodes }
+    {
+        self.arena.count()
+    }
+
     /// The node of that number.
     pub fn node(&self, id: u32) -> &Node<L>
         requires { id < length self.now.nodes }

@@ -1,0 +1,124 @@
+-- The conditions of calls, as a driver looks at them.
+use Rattle.std.proofs.Common.{◌≡◌, ℕ, ◌+◌, ◌-◌, ◌<◌, Bool, true, false, refl, Option, Some, None, length, sym, ap, ◌∙◌, subst, arith}
+use Rattle.std.specs.Prelude.{slice_get, option_map, is_none, ◌&&◌, ◌==◌, IfSome}
+use Rattle.std.proofs.lemmas.Bool.Decides.{nat_tests}
+use Rattle.std.proofs.lemmas.List.{length-map}
+use Rattle.std.proofs.lemmas.Option.{same_Some, slice_get-map, slice_get_within}
+use Rattle.drt_model.specs.Digraph.{out_degree}
+use Rattle.drt_demand.specs.Demand.{Demand, demand_algebra}
+use Rattle.drt_table.specs.Node.{NodeOf, Held, is_held_by, is_taken_by}
+use Rattle.drt_table.specs.declared.node.NodeState.{NodeState}
+use Rattle.drt_table.specs.declared.node.NodeState.TheVariants.{Pending, Taken as TakenBy, Done}
+use Rattle.drt_table.specs.declared.step.TableStep.TheVariants.{Take, Offer, Close}
+use Rattle.drt_table.specs.Places.{first, first_from}
+use Rattle.drt_table.specs.Machine.{Holds, extended}
+use Rattle.drt_table.specs.View.{View, CanApply, ComesWith, setting_of, state_of, kept_at}
+use Rattle.drt_table.proofs.Links.{found_from}
+use Rattle.drt_table.proofs.Lists.{Found, found, none_found}
+use Rattle.drt_table.proofs.Sweep.{remaining}
+
+-- A worker holds a node that is taken by it, and no other.
+held_by_itself : (w : ℕ) (s : NodeState) → s ≡ TakenBy w → is_taken_by w s ≡ false → ⊥
+held_by_itself w Pending e h = absurd (cc)
+held_by_itself w (TakenBy x) e h = same w x h e
+  where
+    same : (w x : ℕ) → is_taken_by w (TakenBy x) ≡ false → TakenBy x ≡ TakenBy w → ⊥
+    same w x h e = grind (arith, nat_tests)
+held_by_itself w Done e h = absurd (cc)
+
+state_held : (w : ℕ) (s : NodeState) → is_taken_by w s ≡ true → s ≡ TakenBy w
+state_held w Pending h = absurd (cc)
+state_held w (TakenBy x) h = ap TakenBy (same w x h)
+  where
+    same : (w x : ℕ) → is_taken_by w (TakenBy x) ≡ true → x ≡ w
+    same w x h = grind (arith, nat_tests)
+state_held w Done h = absurd (cc)
+
+-- A worker that holds no node may take.
+pub can_take : (v : View Demand) (w : ℕ) → first (is_held_by w) (state_of v).nodes ≡ None → CanApply demand_algebra v w Take
+can_take v w e id n at held = held_by_itself w n.state held (none_found (is_held_by w) (state_of v).nodes e id n at)
+
+-- The node that a worker holds.
+pub held_node : (v : View Demand) (w id : ℕ) → first (is_held_by w) (state_of v).nodes ≡ Some id → (n : NodeOf Demand) × Holds demand_algebra (setting_of v) (state_of v) w id n
+held_node v w id e =
+    let f : Found (is_held_by w) (state_of v).nodes id = found (is_held_by w) (state_of v).nodes id e in
+    (f.item, record { at = f.at; held = state_held w f.item.state f.passes })
+
+-- It is a node of the table.
+pub held_within : (v : View Demand) (w id : ℕ) → first (is_held_by w) (state_of v).nodes ≡ Some id → id < length v.nodes
+held_within v w id e =
+    let f = held_node v w id e in
+    let l = slice_get_within (state_of v).nodes id f.0 f.1.at in
+    let same = length-map v.nodes (λ h. h.node) in
+    omega (arith, l, same)
+
+-- The node of a number, as the table has it.
+node_at : (v : View Demand) (id : ℕ) (h : Held Demand) → slice_get v.nodes id ≡ Some h → slice_get (state_of v).nodes id ≡ Some h.node
+node_at v id h at = slice_get-map (λ x. x.node) v.nodes id ∙ ap (λ o. option_map (λ x. x.node) o) at
+
+-- A worker holds the node that was read.
+holds_read : (v : View Demand) (w id : ℕ) (h : Held Demand) → first (is_held_by w) (state_of v).nodes ≡ Some id → slice_get v.nodes id ≡ Some h → Holds demand_algebra (setting_of v) (state_of v) w id h.node
+holds_read v w id h e at =
+    let f = held_node v w id e in
+    let same : f.0 ≡ h.node = same_Some f.0 h.node (sym f.1.at ∙ node_at v id h at) in
+    subst (λ n. Holds demand_algebra (setting_of v) (state_of v) w id n) same f.1
+
+-- Both times the same node was read.
+read_again : (v : View Demand) (id : ℕ) (h k : Held Demand) → slice_get v.nodes id ≡ Some h → slice_get v.nodes id ≡ Some k → k.node.label.vertex ≡ h.node.label.vertex
+read_again v id h k at again = ap (λ x. x.node.label.vertex) (same_Some k h (sym again ∙ at))
+
+-- A worker may offer the next edge of the node that it holds.
+pub can_offer : (v : View Demand) (w id edge : ℕ) (h k : Held Demand) → first (is_held_by w) (state_of v).nodes ≡ Some id → slice_get v.nodes id ≡ Some h → slice_get v.nodes id ≡ Some k → edge ≡ h.node.offered → edge < out_degree v.graph k.node.label.vertex → CanApply demand_algebra v w (Offer id edge)
+can_offer v w id edge h k e at again next lt =
+    let d = ap (λ x. out_degree v.graph x) (read_again v id h k at again) in
+    (h.node, holds_read v w id h e at, next, omega (arith, lt, d))
+
+-- It may close the node where all edges were offered.
+pub can_close : (v : View Demand) (w id : ℕ) (h k : Held Demand) → first (is_held_by w) (state_of v).nodes ≡ Some id → slice_get v.nodes id ≡ Some h → slice_get v.nodes id ≡ Some k → h.node.offered ≡ out_degree v.graph k.node.label.vertex → CanApply demand_algebra v w (Close id)
+can_close v w id h k e at again all =
+    let d = ap (λ x. out_degree v.graph x) (read_again v id h k at again) in
+    (h.node, holds_read v w id h e at, all ∙ d)
+
+-- The label that comes with an offer.
+pub comes_extended : (v : View Demand) (id edge : ℕ) (h : Held Demand) (read x : Demand) → slice_get v.nodes id ≡ Some h → read ≡ h.node.label → x ≡ extended demand_algebra (setting_of v) read edge → ComesWith demand_algebra v (Offer id edge) (Some x)
+comes_extended v id edge h read x at e is = (h.node, node_at v id h at, ap Some (is ∙ ap (λ l. extended demand_algebra (setting_of v) l edge) e))
+
+-- Where there is a next node, it is kept.
+abbrev pub IsKeptNext : View Demand → Option ℕ → Type 0
+IsKeptNext v o = (i : ℕ) → o ≡ Some i → (n : NodeOf Demand) × (slice_get (state_of v).nodes i ≡ Some n) × (n.dropped_by ≡ None)
+
+none_dropped : (o : Option ℕ) (b : Bool) → (is_none o && b) ≡ true → o ≡ None
+none_dropped None b e = refl
+none_dropped (Some d) b e = absurd (cc)
+
+pub first_next : (v : View Demand) (vertex : ℕ) (o : Option ℕ) → o ≡ first (kept_at demand_algebra vertex) (state_of v).nodes → IsKeptNext v o
+first_next v vertex o e i is =
+    let f : Found (kept_at demand_algebra vertex) (state_of v).nodes i = found (kept_at demand_algebra vertex) (state_of v).nodes i (sym e ∙ is) in
+    (f.item, f.at, none_dropped f.item.dropped_by (f.item.label.vertex == vertex) f.passes)
+
+-- The node after a kept one is kept and later.
+module _ (v : View Demand) (id : ℕ) (n : NodeOf Demand) (o : Option ℕ) (at : slice_get (state_of v).nodes id ≡ Some n) (next : IfSome (slice_get (state_of v).nodes id) (λ m. o ≡ first_from (id + 1) (kept_at demand_algebra m.label.vertex) (state_of v).nodes)) where
+  after_node : o ≡ first_from (id + 1) (kept_at demand_algebra n.label.vertex) (state_of v).nodes
+  after_node = subst (λ s. IfSome s (λ m. o ≡ first_from (id + 1) (kept_at demand_algebra m.label.vertex) (state_of v).nodes)) at next
+
+  pub later_next : IsKeptNext v o
+  later_next i is =
+      let f = found_from (id + 1) (kept_at demand_algebra n.label.vertex) (state_of v).nodes i (sym after_node ∙ is) in
+      (f.item, f.at, none_dropped f.item.dropped_by (f.item.label.vertex == n.label.vertex) f.passes)
+
+  pub fewer_left : remaining (length v.nodes) o < remaining (length v.nodes) (Some id)
+  fewer_left = go o refl
+    where
+      within : id < length v.nodes
+      within =
+          let l = slice_get_within (state_of v).nodes id n at in
+          let same = length-map v.nodes (λ h. h.node) in
+          omega (arith, l, same)
+
+      go : (p : Option ℕ) → o ≡ p → remaining (length v.nodes) p < length v.nodes - id
+      go None e = let l = within in omega (arith, l)
+      go (Some j) e =
+          let f = found_from (id + 1) (kept_at demand_algebra n.label.vertex) (state_of v).nodes j (sym after_node ∙ e) in
+          let l = within in
+          let low = f.low in
+          omega (arith, l, low)
