@@ -4,3 +4,11 @@ pub mod LineFeeds
 pub mod Numerals
 pub mod Shapes
 pub mod Spaces
+pub mod Blocks
+pub mod Leaves
+pub mod Plain
+pub mod Parts
+pub mod Records
+pub mod Sets
+pub mod Dossiers
+pub mod Unique

@@ -9,3 +9,6 @@ pub mod Numbered
 pub mod Rates
 pub mod Reading
 pub mod LineForms
+pub mod Blocks
+pub mod Some
+pub mod Laws

@@ -3,6 +3,13 @@ use drt_model::Memory;
 use std::alloc::AllocFailed;
 use thiserror::Error;
 
+/// The code of a line that can't stand there.
+pub const UNFIT: u8 = 1;
+/// The code of a line that is missing or doesn't end with LF.
+pub const MISSING: u8 = 2;
+/// The code of bytes behind a whole dossier.
+pub const FOLLOWED: u8 = 3;
+
 /// Where bytes stop being the text of a dossier: the line, counted from 1, and the code.
 ///
 /// Code 1: the line can't stand there. Code 2: it is missing or doesn't end with LF. Code 3: bytes follow a whole dossier.

@@ -5,11 +5,14 @@
 //! proofs. A dossier has exactly one text. What the checker asks of a dossier stands in `specs/Rules.antt`,
 //! so that analyses may promise it without standing on the checker.
 //!
-//! The layer above uses the types, `print`, and the definitions `text` and `Accepts`.
+//! The layer above uses the types, `print`, `read`, which answers with the dossier whose text bytes are, or with the line and the
+//! code at which they stop being one (`specs/Reading.antt`), and the definitions `text` and `Accepts`. `laws` says that bytes are
+//! the text of one dossier at most.
 #![tactic(auto)]
 
 mod evidence;
 pub mod fault;
+pub mod laws;
 mod lines;
 mod printing;
 mod reading;
@@ -19,3 +22,4 @@ mod tests;
 pub use evidence::{Dossier, Evidence, FrontEntry, Item, Pair, ProofClaim, RatioClaim, TreeClaim};
 pub use fault::{DossierError, DossierFault};
 pub use printing::print;
+pub use reading::read;

@@ -1,6 +1,17 @@
 //! Reading the text of a dossier.
+mod block;
+mod blocks;
+#[cfg(test)]
+mod dossier_tests;
+mod dossiers;
+mod evidences;
 pub(crate) mod fields;
+mod forms;
 pub(crate) mod line_forms;
 pub(crate) mod list_lines;
+mod sets;
 #[cfg(test)]
 mod tests;
+pub(crate) mod text;
+
+pub use dossiers::read;

@@ -55,7 +55,7 @@ unfolding first_lines
 first_none [] = refl
 first_none (b ∷ bs) = refl
 
-first_line_of : (n : ℕ) (line rest : List ℕ) → HasNoFeed line → first_lines (suc n) (line ++ 10 ∷ rest) ≡ line ++ 10 ∷ first_lines n rest
+pub first_line_of : (n : ℕ) (line rest : List ℕ) → HasNoFeed line → first_lines (suc n) (line ++ 10 ∷ rest) ≡ line ++ 10 ∷ first_lines n rest
 unfolding first_lines
 first_line_of n [] rest none = let e : suc n - 1 ≡ n = omega arith in let z : (suc n == 0) ≡ false = grind arith in rw (z, e) refl
 first_line_of n (b ∷ line) rest none =

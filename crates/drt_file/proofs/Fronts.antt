@@ -260,3 +260,16 @@ read_is bytes n (Some s) rest version tasks a ended e =
           let r = begins_one bytes a.ls n s rest a.no_feeds a.bytes_are a.steps_are ended other count b in
           (sym same ∙ r.0, size ∙ r.1);
     }
+
+-- No text begins with the canonical texts of two sets.
+pub one_front : (first second : Contents) (s t : List ℕ) → IsTaskSet first.version first.tasks → IsTaskSet second.version second.tasks → canonical first ++ s ≡ canonical second ++ t → second ≡ first
+one_front first second s t is also e =
+    let p = print_of first is in
+    let bytes = canonical first ++ s in
+    let are : bytes ≡ fed p.ls ++ s = ap (λ w. w ++ s) (sym p.fed_is) in
+    let begins : (set : Contents) (w : List ℕ) → IsTaskSet set.version set.tasks → bytes ≡ canonical set ++ w → set_of p.s ≡ set
+    = λ set w limits at.
+    let size = ap length at ∙ length-append (canonical set) w in
+    (begins_one bytes p.ls p.m p.s s p.no_feeds are p.taken p.ended set (length (canonical set))
+    (record { limits = limits; within = omega (arith, size); front = ap (take (length (canonical set))) at ∙ take-append_seam (canonical set) w })).0 in
+    sym (begins second t also e) ∙ begins first s is refl

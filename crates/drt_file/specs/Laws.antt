@@ -1,5 +1,5 @@
 -- What holds of texts and sets.
-use Rattle.std.specs.Prelude.{◌≡◌, ◌↔◌, ℕ, List, Ok}
+use Rattle.std.specs.Prelude.{◌≡◌, ◌↔◌, ◌++◌, ℕ, List, Ok}
 use Rattle.drt_model.specs.Contents.{Contents}
 use Rattle.drt_model.specs.Limits.{IsTaskSet}
 use Rattle.drt_file.specs.Cutting.{lines_of_fields}
@@ -29,3 +29,9 @@ TextsReadAsOneSet = (bytes : List ℕ) (first second : Contents) → Reads bytes
 abbrev pub CanonicalTextsRead : Type 0
 CanonicalTextsRead =
     (set : Contents) → IsTaskSet set.version set.tasks → Reads (canonical set) set × ((other : Contents) → Reads (canonical set) other → other ≡ set)
+
+-- No text begins with the canonical texts of two sets.
+abbrev pub FrontsTellSets : Type 0
+FrontsTellSets =
+    (first second : Contents) (s t : List ℕ) → IsTaskSet first.version first.tasks → IsTaskSet second.version second.tasks
+    → canonical first ++ s ≡ canonical second ++ t → second ≡ first

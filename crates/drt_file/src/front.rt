@@ -42,8 +42,8 @@ impl From<Memory> for CanonicalError {
     }
 }
 
-// The first line of a text without its LF, and the text behind the LF.
-fn cut_fed_line(text: &[u8]) -> Option<(&[u8], &[u8])>
+/// The first line of a text without its LF, and the text behind the LF; none where the text has no LF.
+pub fn cut_fed_line(text: &[u8]) -> Option<(&[u8], &[u8])>
     ensures { MatchOption result (HasNoFeed text.now) (λ cut. (text.now ≡ cut.0.now ++ 10 ∷ cut.1.now) × HasNoFeed cut.0.now) }
 {
     for (i, b) in text.iter().enumerate() {

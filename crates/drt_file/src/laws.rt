@@ -5,6 +5,7 @@ ghost use Rattle.drt_file.specs.Laws.{
   LinesAgreeWithWholes,
   TextsReadAsOneSet,
   CanonicalTextsRead,
+  FrontsTellSets,
 };
 
 /// The canonical text of a set is cut into the lines and fields that it was made of.
@@ -31,4 +32,9 @@ pub fn texts_read_as_one_set()
 /// What is printed reads as the set that was printed, and as no other: `read(print(S)) = S`.
 pub fn canonical_texts_read()
     ensures { CanonicalTextsRead }
+{}
+
+/// No text begins with the canonical texts of two sets.
+pub fn fronts_tell_sets()
+    ensures { FrontsTellSets }
 {}

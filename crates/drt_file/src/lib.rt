@@ -33,7 +33,7 @@ pub mod versions;
 pub mod words;
 
 pub use fault::{FileError, FileFault};
-pub use front::{Canonical, CanonicalError, read_canonical};
+pub use front::{Canonical, CanonicalError, cut_fed_line, read_canonical};
 pub use printing::print;
 pub use reading::read;
 pub use versions::upgrade;

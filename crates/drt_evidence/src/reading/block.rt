@@ -1,0 +1,55 @@
+//! Blocks of a text, and lists of them.
+ghost use Rattle.std.specs.Prelude.{ℕ, List, IfOk, IfErr};
+ghost use Rattle.drt_evidence.specs.Blocks.{AreSoMany, IsStop, Reads, counted, in_turn};
+ghost use Rattle.drt_evidence.specs.LineForms.{AreCounted};
+ghost use Rattle.drt_file.specs.Strict.{HasNoFeed};
+
+use crate::reading::forms::read_count;
+use crate::reading::text::{Stop, Text};
+use drt_model::Row;
+use std::alloc::Global;
+
+// A value that has a block of lines of its own.
+pub(crate) trait Block: Sized + Drop {
+    // The block of a value.
+    ghost block: { Self → List ℕ };
+
+    // The values that have a block.
+    ghost is_stated: { Self → Type 0 };
+
+    // The value whose block stands at the front of a text.
+    fn read(alloc: Global, text: &mut Text) -> Result<Self, Stop>
+        ensures read { IfOk result (λ x. Reads block is_stated text.old.rest.now x text.new.rest.now) }
+        ensures stops { IfErr result (IsStop block is_stated text.old.rest.now) };
+
+    // Some value has a block.
+    ghost some: { (x : Self) × is_stated x };
+}
+
+// So many blocks, one after another.
+fn read_each<B: Block>(alloc: Global, text: &mut Text, count: u32) -> Result<Vec<B>, Stop>
+    ensures read { IfOk result (λ xs. Reads (in_turn B.block) (AreSoMany count B.is_stated) text.old.rest.now xs.items text.new.rest.now) }
+    ensures stops { IfErr result (IsStop (in_turn B.block) (AreSoMany count B.is_stated) text.old.rest.now) }
+{
+    let mut blocks = Vec::new(alloc);
+    for _ in 0..count {
+        let block = B::read(alloc, text)?;
+        blocks.push(block)?;
+    }
+    Ok(blocks)
+}
+
+// The line of a count, and so many blocks below it.
+pub(crate) fn read_counted<B: Block>(
+    alloc: Global,
+    text: &mut Text,
+    word: &[u8],
+) -> Result<Row<B>, Stop>
+    requires { HasNoFeed word.now }
+    ensures read { IfOk result (λ xs. Reads (counted word.now B.block) (AreCounted B.is_stated) text.old.rest.now xs text.new.rest.now) }
+    ensures stops { IfErr result (IsStop (counted word.now B.block) (AreCounted B.is_stated) text.old.rest.now) }
+{
+    let count = read_count(text, word)?;
+    let blocks = read_each(alloc, text, count)?;
+    Ok(Row::from_vec(blocks))
+}

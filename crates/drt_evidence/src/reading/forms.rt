@@ -1,0 +1,215 @@
+//! Blocks of one line.
+//!
+//! Each function takes the first line of a text, where it says a value, and answers with the value.
+ghost use Rattle.std.specs.Prelude.{ℕ, List, IfOk, IfErr};
+ghost use Rattle.drt_file.specs.Canonical.{written_line};
+ghost use Rattle.drt_file.specs.Strict.{HasNoFeed};
+ghost use Rattle.drt_evidence.specs.Blocks.{IsStop, Reads, close_block, first_block};
+ghost use Rattle.drt_evidence.specs.LineForms.{AreCounted, IsAny, IsInRangeWritten, kind_line, numbers_line, policy_line, potentials_line, written_ratio_line};
+ghost use Rattle.drt_evidence.specs.Ranges.{IsInRangeEntry, IsInRangeMiss, IsInRangePair, IsInRangePotential, IsInRangeProof, IsInRangeRelease, IsNumber};
+ghost use Rattle.drt_evidence.specs.Text.{count_line, entry_line, miss_line, pair_line, proof_line, release_line};
+
+use crate::evidence::{FrontEntry, Pair, ProofClaim};
+use crate::reading::line_forms::{
+    KindOfEvidence, WrittenRatio, count_of, entry_of, is_first_line, is_last_line, kind_of,
+    miss_of, pair_of, policy_of, ratio_of, release_of,
+};
+use crate::reading::list_lines::{numbers_of, potentials_of, proof_of};
+use crate::reading::text::{Stop, Text, first_line, refused};
+use drt_model::{Miss, Policy, Release, Row};
+use std::alloc::Global;
+
+// The first line of a dossier.
+pub(crate) fn read_first(text: &mut Text) -> Result<(), Stop>
+    ensures read { IfOk result (λ u. Reads first_block IsAny text.old.rest.now u text.new.rest.now) }
+    ensures stops { IfErr result (IsStop first_block IsAny text.old.rest.now) }
+{
+    let (line, others) = first_line(text.rest)?;
+    if is_first_line(line) {
+        text.rest = others;
+        Ok(())
+    } else {
+        Err(refused(text.rest))
+    }
+}
+
+// The last line of a dossier.
+pub(crate) fn read_last(text: &mut Text) -> Result<(), Stop>
+    ensures read { IfOk result (λ u. Reads close_block IsAny text.old.rest.now u text.new.rest.now) }
+    ensures stops { IfErr result (IsStop close_block IsAny text.old.rest.now) }
+{
+    let (line, others) = first_line(text.rest)?;
+    if is_last_line(line) {
+        text.rest = others;
+        Ok(())
+    } else {
+        Err(refused(text.rest))
+    }
+}
+
+// The line of a policy.
+pub(crate) fn read_policy(text: &mut Text) -> Result<Policy, Stop>
+    ensures read { IfOk result (λ x. Reads (λ y. written_line (policy_line y)) IsAny text.old.rest.now x text.new.rest.now) }
+    ensures stops { IfErr result (IsStop (λ y. written_line (policy_line y)) IsAny text.old.rest.now) }
+{
+    let (line, others) = first_line(text.rest)?;
+    match policy_of(line) {
+        Some(found) => {
+            text.rest = others;
+            Ok(found)
+        }
+        None => Err(refused(text.rest)),
+    }
+}
+
+// The line of a kind of evidence.
+pub(crate) fn read_kind(text: &mut Text) -> Result<KindOfEvidence, Stop>
+    ensures read { IfOk result (λ x. Reads (λ y. written_line (kind_line y)) IsAny text.old.rest.now x text.new.rest.now) }
+    ensures stops { IfErr result (IsStop (λ y. written_line (kind_line y)) IsAny text.old.rest.now) }
+{
+    let (line, others) = first_line(text.rest)?;
+    match kind_of(line) {
+        Some(found) => {
+            text.rest = others;
+            Ok(found)
+        }
+        None => Err(refused(text.rest)),
+    }
+}
+
+// The line of a count.
+pub(crate) fn read_count(text: &mut Text, word: &[u8]) -> Result<u32, Stop>
+    requires { HasNoFeed word.now }
+    ensures read { IfOk result (λ x. Reads (λ y. written_line (count_line word.now y)) IsNumber text.old.rest.now x text.new.rest.now) }
+    ensures stops { IfErr result (IsStop (λ y. written_line (count_line word.now y)) IsNumber text.old.rest.now) }
+{
+    let (line, others) = first_line(text.rest)?;
+    match count_of(line, word) {
+        Some(found) => {
+            text.rest = others;
+            Ok(found)
+        }
+        None => Err(refused(text.rest)),
+    }
+}
+
+// The line of a numerator and a denominator.
+pub(crate) fn read_ratio_line(text: &mut Text) -> Result<WrittenRatio, Stop>
+    ensures read { IfOk result (λ x. Reads (λ y. written_line (written_ratio_line y)) IsInRangeWritten text.old.rest.now x text.new.rest.now) }
+    ensures stops { IfErr result (IsStop (λ y. written_line (written_ratio_line y)) IsInRangeWritten text.old.rest.now) }
+{
+    let (line, others) = first_line(text.rest)?;
+    match ratio_of(line) {
+        Some(found) => {
+            text.rest = others;
+            Ok(found)
+        }
+        None => Err(refused(text.rest)),
+    }
+}
+
+// The line of a label of a front.
+pub(crate) fn read_entry(text: &mut Text) -> Result<FrontEntry, Stop>
+    ensures read { IfOk result (λ x. Reads (λ y. written_line (entry_line y)) IsInRangeEntry text.old.rest.now x text.new.rest.now) }
+    ensures stops { IfErr result (IsStop (λ y. written_line (entry_line y)) IsInRangeEntry text.old.rest.now) }
+{
+    let (line, others) = first_line(text.rest)?;
+    match entry_of(line) {
+        Some(found) => {
+            text.rest = others;
+            Ok(found)
+        }
+        None => Err(refused(text.rest)),
+    }
+}
+
+// The line of a release.
+pub(crate) fn read_release(text: &mut Text) -> Result<Release, Stop>
+    ensures read { IfOk result (λ x. Reads (λ y. written_line (release_line y)) IsInRangeRelease text.old.rest.now x text.new.rest.now) }
+    ensures stops { IfErr result (IsStop (λ y. written_line (release_line y)) IsInRangeRelease text.old.rest.now) }
+{
+    let (line, others) = first_line(text.rest)?;
+    match release_of(line) {
+        Some(found) => {
+            text.rest = others;
+            Ok(found)
+        }
+        None => Err(refused(text.rest)),
+    }
+}
+
+// The line of a miss.
+pub(crate) fn read_miss(text: &mut Text) -> Result<Miss, Stop>
+    ensures read { IfOk result (λ x. Reads (λ y. written_line (miss_line y)) IsInRangeMiss text.old.rest.now x text.new.rest.now) }
+    ensures stops { IfErr result (IsStop (λ y. written_line (miss_line y)) IsInRangeMiss text.old.rest.now) }
+{
+    let (line, others) = first_line(text.rest)?;
+    match miss_of(line) {
+        Some(found) => {
+            text.rest = others;
+            Ok(found)
+        }
+        None => Err(refused(text.rest)),
+    }
+}
+
+// The line of a pair of a tree.
+pub(crate) fn read_pair(text: &mut Text) -> Result<Pair, Stop>
+    ensures read { IfOk result (λ x. Reads (λ y. written_line (pair_line y)) IsInRangePair text.old.rest.now x text.new.rest.now) }
+    ensures stops { IfErr result (IsStop (λ y. written_line (pair_line y)) IsInRangePair text.old.rest.now) }
+{
+    let (line, others) = first_line(text.rest)?;
+    match pair_of(line) {
+        Some(found) => {
+            text.rest = others;
+            Ok(found)
+        }
+        None => Err(refused(text.rest)),
+    }
+}
+
+// The line of a list of numbers.
+pub(crate) fn read_numbers(alloc: Global, text: &mut Text, word: &[u8]) -> Result<Row<u32>, Stop>
+    requires { HasNoFeed word.now }
+    ensures read { IfOk result (λ x. Reads (λ y. written_line (numbers_line word.now y)) (AreCounted IsNumber) text.old.rest.now x text.new.rest.now) }
+    ensures stops { IfErr result (IsStop (λ y. written_line (numbers_line word.now y)) (AreCounted IsNumber) text.old.rest.now) }
+{
+    let (line, others) = first_line(text.rest)?;
+    match numbers_of(alloc, line, word)? {
+        Some(found) => {
+            text.rest = others;
+            Ok(found)
+        }
+        None => Err(refused(text.rest)),
+    }
+}
+
+// The line of potentials.
+pub(crate) fn read_potentials(alloc: Global, text: &mut Text) -> Result<Row<i64>, Stop>
+    ensures read { IfOk result (λ x. Reads (λ y. written_line (potentials_line y)) (AreCounted IsInRangePotential) text.old.rest.now x text.new.rest.now) }
+    ensures stops { IfErr result (IsStop (λ y. written_line (potentials_line y)) (AreCounted IsInRangePotential) text.old.rest.now) }
+{
+    let (line, others) = first_line(text.rest)?;
+    match potentials_of(alloc, line)? {
+        Some(found) => {
+            text.rest = others;
+            Ok(found)
+        }
+        None => Err(refused(text.rest)),
+    }
+}
+
+// The line of a proof.
+pub(crate) fn read_proof(alloc: Global, text: &mut Text) -> Result<ProofClaim, Stop>
+    ensures read { IfOk result (λ x. Reads (λ y. written_line (proof_line y)) IsInRangeProof text.old.rest.now x text.new.rest.now) }
+    ensures stops { IfErr result (IsStop (λ y. written_line (proof_line y)) IsInRangeProof text.old.rest.now) }
+{
+    let (line, others) = first_line(text.rest)?;
+    match proof_of(alloc, line)? {
+        Some(found) => {
+            text.rest = others;
+            Ok(found)
+        }
+        None => Err(refused(text.rest)),
+    }
+}
