@@ -16,6 +16,8 @@ mod laws;
 mod releases;
 mod ruling;
 mod scales;
+#[cfg(test)]
+mod tests;
 
 pub use checking::check;
 pub use exclusion::accepted_breaks_none;
