@@ -18,7 +18,7 @@ use Rattle.drt_edf.specs.Bounded.{SearchesAreBounded}
 use Rattle.drt_edf.specs.Spent.{most_out, search_of, table_need}
 
 -- The label of an in-range walk to v is of v, which is a vertex, and is in range.
-label_of : (t : Setting) (v : ℕ) (before : List ℕ) (l : Demand) → IsSound t.graph → WalkTo demand_algebra t v before l → (l.vertex ≡ v) × (v < vertex_count t.graph) × IsTrue (in_range demand_algebra t l)
+pub label_of : (t : Setting) (v : ℕ) (before : List ℕ) (l : Demand) → IsSound t.graph → WalkTo demand_algebra t v before l → (l.vertex ≡ v) × (v < vertex_count t.graph) × IsTrue (in_range demand_algebra t l)
 label_of t v [] l sound w = (ap (λ x. x.vertex) w.1, w.0, w.2)
 label_of t v (u ∷ before) l sound w =
     let h = label_of t u before w.1 sound w.2 in

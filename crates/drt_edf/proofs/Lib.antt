@@ -18,3 +18,4 @@ pub mod EvidenceKinds
 pub mod Gathered
 pub mod Decided
 pub mod PlainWorks
+pub mod EndingWorks

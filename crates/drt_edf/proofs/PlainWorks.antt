@@ -129,7 +129,7 @@ place_less s t u v c l m e =
     let x : c * suc s ≤ c * t = mul-le-mul_left c l in
     omega arith
 
-place_same : (s t u v c : ℕ) → u < c → v < c → s * c + u ≡ t * c + v → (s ≡ t) × (u ≡ v)
+pub place_same : (s t u v c : ℕ) → u < c → v < c → s * c + u ≡ t * c + v → (s ≡ t) × (u ≡ v)
 place_same s t u v c l m e = go (cases_lt s t) (cases_lt t s)
   where
     go : (s < t) ⊎ (t ≤ s) → (t < s) ⊎ (s ≤ t) → (s ≡ t) × (u ≡ v)
@@ -210,7 +210,7 @@ all_demand g t n is = record { most = most; reached = found is.reached }
     found (inl none) = ([], tt, work_none g ∙ sym none)
     found (inr r) = (r.0 ∷ r.1, (r.2, r.3.0, r.3.1), r.4)
 
-in_table : (s t u c : ℕ) → s < t → u < c → s * c + u < t * c
+pub in_table : (s t u c : ℕ) → s < t → u < c → s * c + u < t * c
 in_table s t u c l m =
     let x : c * suc s ≤ c * t = mul-le-mul_left c l in
     omega arith

@@ -11,3 +11,4 @@ pub mod Exclusions
 pub mod KeptNodes
 pub mod Plain
 pub mod Bounded
+pub mod Ending

@@ -14,6 +14,8 @@ mod claims;
 #[cfg(test)]
 mod drawn_tests;
 #[cfg(test)]
+mod ending;
+#[cfg(test)]
 mod front_tests;
 mod fronts;
 mod kept;
