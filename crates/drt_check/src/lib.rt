@@ -13,6 +13,8 @@ mod fronts;
 mod horizons;
 mod judgement;
 mod laws;
+#[cfg(test)]
+mod line_tests;
 mod releases;
 mod ruling;
 mod scales;

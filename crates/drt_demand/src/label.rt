@@ -40,6 +40,10 @@ impl Model for DemandLabel {
 impl Copy for DemandLabel {}
 
 impl Clone for DemandLabel {
+    ghost use Rattle.std.specs.Prelude.{◌≡◌};
+
+    ghost is_clone = { λ x y. y ≡ x };
+
     fn clone(&self) -> Result<DemandLabel, Memory> {
         Ok(*self)
     }

@@ -1,10 +1,10 @@
 -- What `edf` says of an accepted set, and what it doesn't.
-use Rattle.std.proofs.Common.{◌≡◌, ℕ, ◌<◌, ◌≤◌, ◌⊎◌, List, All, get_or, length, map, Some, inl, inr, refl, sym, ap, ◌∙◌, subst, arith, slice_get}
+use Rattle.std.proofs.Common.{◌≡◌, ℕ, ◌<◌, ◌≤◌, List, All, inl, inr, refl, ap, ◌∙◌, subst, arith}
 use Rattle.std.proofs.lemmas.List.Elements.{All-map}
 use Rattle.std.proofs.lemmas.Option.{slice_get_within, get_or_from_slice_get}
 use Rattle.drt_model.specs.Contents.{Contents}
 use Rattle.drt_model.specs.Constrained.{AreConstrained}
-use Rattle.drt_model.specs.Digraph.{Digraph, IsSound, digraph_of}
+use Rattle.drt_model.specs.Digraph.{IsSound, digraph_of}
 use Rattle.drt_model.specs.Limits.{IsTaskSet}
 use Rattle.drt_model.specs.Utilisation.{rate}
 use Rattle.drt_model.specs.declared.tasks.Task.{Task}
@@ -17,12 +17,11 @@ use Rattle.drt_evidence.specs.declared.evidence.Evidence.{Evidence}
 use Rattle.drt_evidence.specs.declared.evidence.Evidence.TheVariants.{EdfYes, EdfNo, UtilisationOne, FixedYes, FixedNo, Undecided}
 use Rattle.drt_edf.specs.Answers.{IsBeyond, IsDone, IsOther, IsPlanned, IsUndecided}
 use Rattle.drt_evidence.specs.Rates.{IsAtOne, Rates}
-use Rattle.drt_edf.specs.Plans.{IsAboveOne, IsBelowOne}
 use Rattle.drt_edf.specs.Spent.{IsEnough, table_need}
 use Rattle.drt_edf.specs.declared.answer.EdfTrail.{EdfTrail}
 use Rattle.drt_edf.specs.declared.answer.EdfTrail.TheVariants.{Table, Overload}
 use Rattle.drt_edf.proofs.Unique.{rates_same, horizon_same}
-use Rattle.drt_top.specs.Edf.{EdfEnds, IsEdfAnswer, IsOutOfReach, beyond_code, evidence_status, trail_of, under_edf}
+use Rattle.drt_top.specs.Edf.{EdfEnds, IsEdfAnswer, evidence_status, trail_of, under_edf}
 use Rattle.drt_top.specs.declared.outcome.Trail.{Trail}
 use Rattle.drt_top.specs.declared.outcome.Trail.TheVariants as trails
 
@@ -92,22 +91,22 @@ pub answer_ends : (set : Contents) → IsTaskSet set.version set.tasks → (budg
 answer_ends set limits budget status written trail (inl a) = record {
   one = λ p. absurd (one_alone set.version set.tasks limits p a.1.other);
   beyond = λ b q. absurd (other_near set.version set.tasks limits b a.1.other q);
-  decided = λ p enough. inr (inl (a.0, a.1.yes.schedulable));
+  decided = λ enough near. inr (inr (inl (a.0, a.1.yes.schedulable)));
 }
 answer_ends set limits budget status written trail (inr (inl a)) = record {
   one = λ p. absurd (one_alone set.version set.tasks limits p a.1.other);
   beyond = λ b q. absurd (other_near set.version set.tasks limits b a.1.other q);
-  decided = λ p enough. inr (inr (a.0, a.1.no.not_schedulable));
+  decided = λ enough near. inr (inr (inr (a.0, a.1.no.not_schedulable)));
 }
 answer_ends set limits budget status written trail (inr (inr (inl a))) = record {
   one = λ p. inr a.0;
   beyond = λ b q. absurd (one_near set.version set.tasks limits b a.1.one.at_one q);
-  decided = λ p enough. absurd (one_alone set.version set.tasks limits a.1.one.at_one p);
+  decided = λ enough near. inr (inl (a.0, a.1.one.at_one));
 }
 answer_ends set limits budget status written trail (inr (inr (inr a))) = record {
   one = λ p. absurd (one_alone set.version set.tasks limits p (undecided_other set.tasks budget a.1.spent a.1.cause));
   beyond = λ b q. absurd (other_near set.version set.tasks limits b (undecided_other set.tasks budget a.1.spent a.1.cause) q);
-  decided = λ p enough. absurd (not_enough set.tasks budget a.1.spent a.1.cause enough);
+  decided = λ enough near. absurd (not_enough set.tasks budget a.1.spent a.1.cause enough);
 }
 
 -- An answer isn't out of reach.
@@ -122,12 +121,12 @@ pub beyond_ends : (set : Contents) → IsTaskSet set.version set.tasks → (budg
 beyond_ends set limits budget b q = record {
   one = λ p. absurd (one_near set.version set.tasks limits b p q);
   beyond = λ c r. inr refl;
-  decided = λ p enough. absurd (other_near set.version set.tasks limits b p q);
+  decided = λ enough near. absurd (near b q);
 }
 
 -- So has want of memory its own.
 pub memory_ends : (set : Contents) (budget : ℕ) → EdfEnds set budget 8
-memory_ends set budget = record { one = λ p. inl refl; beyond = λ b q. inl refl; decided = λ p enough. inl refl }
+memory_ends set budget = record { one = λ p. inl refl; beyond = λ b q. inl refl; decided = λ enough near. inl refl }
 
 -- An answer has a status below 4.
 pub answer_low : (set : Contents) (budget status : ℕ) (written : List ℕ) (trail : Trail) → IsEdfAnswer set budget status written trail → status < 4

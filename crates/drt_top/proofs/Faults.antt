@@ -13,13 +13,14 @@ use Rattle.drt_file.specs.Laws.{TextsReadAsOneSet}
 use Rattle.drt_file.specs.Reading.{HasFault}
 use Rattle.drt_graph.specs.Past.{IsFirstPast, IsFirstPastEdge}
 use Rattle.drt_top.specs.declared.outcome.Fault.{Fault}
-use Rattle.drt_top.specs.declared.outcome.Fault.TheVariants.{Nothing, File, Edge, Limit}
+use Rattle.drt_top.specs.declared.outcome.Fault.TheVariants.{Nothing, File, Edge, Limit, Rule, Dossier}
 use Rattle.drt_top.specs.declared.words.Meaning.{Meaning}
-use Rattle.drt_top.specs.declared.words.Meaning.TheVariants.{Edf, Sp, Upgrade, Util}
+use Rattle.drt_top.specs.declared.words.Meaning.TheVariants.{Edf, Sp, Upgrade, Util, Check}
 use Rattle.drt_top.specs.Files.{IsAccepted, IsFileFault}
 use Rattle.drt_top.specs.Edf.{IsOutOfReach, beyond_code}
 use Rattle.drt_top.specs.Run.{Refuses}
 use Rattle.drt_edf.specs.Answers.{IsBeyond}
+use Rattle.drt_top.proofs.CheckLemmas.{dossier_fault_one}
 use Rattle.drt_top.proofs.EdfLemmas.{beyond_one}
 
 pub accepted_one : TextsReadAsOneSet → (bytes : List ℕ) (a b : Contents) → IsAccepted bytes a → IsAccepted bytes b → a ≡ b
@@ -105,6 +106,8 @@ same_text bytes l c m d h k =
 pub accepted_well : TextsReadAsOneSet → (bytes : List ℕ) (set : Contents) (f : Fault) → IsAccepted bytes set → IsFileFault bytes f → ⊥
 accepted_well law bytes set Nothing a h = h
 accepted_well law bytes set (Limit c) a h = h
+accepted_well law bytes set (Rule n) a h = h
+accepted_well law bytes set (Dossier l c) a h = h
 accepted_well law bytes set (File l c) a (inl big) = omega (arith, a.small, big.0)
 accepted_well law bytes set (File l c) a (inr text) = text.1.reads_as_none set a.reads
 accepted_well law bytes set (Edge t e) a h =
@@ -114,8 +117,12 @@ accepted_well law bytes set (Edge t e) a h =
 pub fault_one : TextsReadAsOneSet → (bytes : List ℕ) (f g : Fault) → IsFileFault bytes f → IsFileFault bytes g → f ≡ g
 fault_one law bytes Nothing g h k = absurd h
 fault_one law bytes (Limit c) g h k = absurd h
+fault_one law bytes (Rule n) g h k = absurd h
+fault_one law bytes (Dossier l c) g h k = absurd h
 fault_one law bytes (File l c) Nothing h k = absurd k
 fault_one law bytes (File l c) (Limit d) h k = absurd k
+fault_one law bytes (File l c) (Rule n) h k = absurd k
+fault_one law bytes (File l c) (Dossier m d) h k = absurd k
 fault_one law bytes (File l c) (File m d) (inl big) (inl more) = same_place l c m d (big.1 ∙ sym more.1) (big.2 ∙ sym more.2)
 fault_one law bytes (File l c) (File m d) (inl big) (inr text) = absurd (omega (arith, big.0, text.0))
 fault_one law bytes (File l c) (File m d) (inr text) (inl big) = absurd (omega (arith, big.0, text.0))
@@ -124,6 +131,8 @@ fault_one law bytes (File l c) (Edge t e) (inl big) k = absurd (omega (arith, bi
 fault_one law bytes (File l c) (Edge t e) (inr text) k = absurd (text.1.reads_as_none k.set k.reads)
 fault_one law bytes (Edge t e) Nothing h k = absurd k
 fault_one law bytes (Edge t e) (Limit d) h k = absurd k
+fault_one law bytes (Edge t e) (Rule n) h k = absurd k
+fault_one law bytes (Edge t e) (Dossier m d) h k = absurd k
 fault_one law bytes (Edge t e) (File l c) h (inl big) = absurd (omega (arith, big.0, h.small))
 fault_one law bytes (Edge t e) (File l c) h (inr text) = absurd (text.1.reads_as_none h.set h.reads)
 fault_one law bytes (Edge t e) (Edge u f) h k =
@@ -151,3 +160,4 @@ refused_one law Util bytes f g (inl h) (inl k) = fault_one law bytes f g h k
 refused_one law Util bytes f g (inl h) (inr k) = absurd (accepted_well law bytes k.set f k.accepted h)
 refused_one law Util bytes f g (inr h) (inl k) = absurd (accepted_well law bytes h.set g h.accepted k)
 refused_one law Util bytes f g (inr h) (inr k) = h.is ∙ sym k.is
+refused_one law Check bytes f g h k = dossier_fault_one bytes f g h k

@@ -2,6 +2,7 @@ pub mod BadLemmas
 pub mod Completeness
 pub mod EdfLemmas
 pub mod Evidence
+pub mod CheckLemmas
 pub mod Faults
 pub mod Joins
 pub mod Late

@@ -7,11 +7,11 @@ use Rattle.clap.proofs.OnLiterals.{clap_on_literals}
 use Rattle.clap.specs.ValueTests.{is_unsigned_in}
 use Rattle.drt_top.specs.Number.{number_in}
 use Rattle.drt_top.specs.Meaning.{meaning_of}
-use Rattle.drt_top.specs.Plain.{IsPlainNumber, BeginsPlain, Spells, apart, joined, PlainOptions, neither, workers, budget, workers_first, budget_first, IsPlain, plain_search, Search, for_edf, for_sp, search_word, search_meaning, plain_upgrade, plain_util, GivesBadNumber, bad_workers, bad_budget, bad_either}
+use Rattle.drt_top.specs.Plain.{IsPlainNumber, BeginsPlain, Spells, apart, joined, PlainOptions, neither, workers, budget, workers_first, budget_first, IsPlain, plain_search, Search, for_edf, for_sp, search_word, search_meaning, plain_upgrade, plain_util, plain_check, GivesBadNumber, bad_workers, bad_budget, bad_either}
 use Rattle.drt_top.proofs.BadLemmas.{either_bad}
 use Rattle.drt_top.proofs.NumberLemmas.{digits_pass}
 use Rattle.drt_top.specs.declared.words.Meaning.{Meaning}
-use Rattle.drt_top.specs.declared.words.Meaning.TheVariants.{Upgrade, Util}
+use Rattle.drt_top.specs.declared.words.Meaning.TheVariants.{Upgrade, Util, Check}
 
 -- what clap and the reader find at a plain number
 record Read (most : ℕ) (text : List ℕ) (n : ℕ) : Type 0 where
@@ -156,10 +156,15 @@ util_means : (program : List ℕ) → meaning_of (program ∷ codes "util" ∷ [
 unfolding clap_on_literals
 util_means program = refl
 
+check_means : (program : List ℕ) → meaning_of (program ∷ codes "check" ∷ []) ≡ Some Check
+unfolding clap_on_literals
+check_means program = refl
+
 pub plain_means : (words : List (List ℕ)) (meaning : Meaning) → IsPlain words meaning → meaning_of words ≡ Some meaning
 plain_means words meaning (plain_search program command options m n o) = options_mean command program options m n o
 plain_means words meaning (plain_upgrade program) = upgrade_means program
 plain_means words meaning (plain_util program) = util_means program
+plain_means words meaning (plain_check program) = check_means program
 
 pub bad_means : (words : List (List ℕ)) → GivesBadNumber words → meaning_of words ≡ None
 bad_means words (bad_workers command program text ws bad p s) = bad_workers_mean program command text ws bad p s

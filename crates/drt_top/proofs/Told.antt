@@ -7,7 +7,7 @@ use Rattle.drt_top.specs.declared.outcome.Trail.{Trail}
 use Rattle.drt_top.specs.declared.stop.Stop.{Stop}
 use Rattle.drt_top.specs.declared.stop.Stop.TheVariants as stops
 use Rattle.drt_top.specs.declared.words.Meaning.{Meaning}
-use Rattle.drt_top.specs.declared.words.Meaning.TheVariants.{Edf, Sp, Upgrade, Util}
+use Rattle.drt_top.specs.declared.words.Meaning.TheVariants.{Edf, Sp, Upgrade, Util, Check}
 use Rattle.drt_top.specs.Files.{IsFileFault}
 use Rattle.drt_top.specs.Run.{Makes, Says, IsCutShort, Refuses, IsInputCause, IsFileCause, IsMakeCause, IsAnalyseCause, IsEdfCause, IsRunCause}
 
@@ -42,38 +42,47 @@ refuses_told meaning R W left bytes stops.Words e h = h
 refuses_told meaning R W left bytes stops.Read e h = absurd h
 refuses_told meaning R W left bytes stops.Write e h = absurd h
 refuses_told meaning R W left bytes stops.Memory e h = tt
-refuses_told meaning R W left bytes (stops.File f) e h = told left bytes (λ b. Refuses meaning b f) e h
+refuses_told meaning R W left bytes (stops.Refused f) e h = told left bytes (λ b. Refuses meaning b f) e h
 
-file_refused : (meaning : Meaning) (bytes : List ℕ) (f : Fault) → IsFileFault bytes f → Refuses meaning bytes f
-file_refused (Edf w b) bytes f h = inl h
-file_refused (Sp w b) bytes f h = inl h
-file_refused Upgrade bytes f h = h
-file_refused Util bytes f h = inl h
+-- A command that reads task files.
+abbrev pub ReadsFiles : Meaning → Type 0
+ReadsFiles (Edf w b) = Unit {0}
+ReadsFiles (Sp w b) = Unit {0}
+ReadsFiles Upgrade = Unit {0}
+ReadsFiles Util = Unit {0}
+ReadsFiles Check = ⊥
 
-pub input_refused : (meaning : Meaning) (R W : Type 0) (left : Option (List ℕ)) (stop : Stop) → IsInputCause R left stop → IsRunCause R W left meaning stop
+pub file_refused : (meaning : Meaning) → ReadsFiles meaning → (bytes : List ℕ) (f : Fault) → IsFileFault bytes f → Refuses meaning bytes f
+file_refused (Edf w b) reads bytes f h = inl h
+file_refused (Sp w b) reads bytes f h = inl h
+file_refused Upgrade reads bytes f h = h
+file_refused Util reads bytes f h = inl h
+file_refused Check reads bytes f h = absurd reads
+
+pub input_refused : (meaning : Meaning) (R W : Type 0) (left : Option (List ℕ)) (stop : Stop) → IsInputCause R left meaning stop → IsRunCause R W left meaning stop
 input_refused meaning R W left stops.Words h = h
 input_refused meaning R W left stops.Read h = h
 input_refused meaning R W left stops.Write h = absurd h
 input_refused meaning R W left stops.Memory h = tt
-input_refused meaning R W left (stops.File f) h = told_more left (λ b. IsFileFault b f) (λ b. Refuses meaning b f) h (λ b k. file_refused meaning b f k)
+input_refused meaning R W left (stops.Refused f) h = h
 
-pub set_refused : (meaning : Meaning) (bytes : List ℕ) (stop : Stop) → IsFileCause bytes stop → IsMakeCause meaning bytes stop
-set_refused meaning bytes stops.Words h = h
-set_refused meaning bytes stops.Read h = h
-set_refused meaning bytes stops.Write h = h
-set_refused meaning bytes stops.Memory h = tt
-set_refused meaning bytes (stops.File f) h = file_refused meaning bytes f h
+pub set_refused : (meaning : Meaning) → ReadsFiles meaning → (bytes : List ℕ) (stop : Stop) → IsFileCause bytes stop → IsMakeCause meaning bytes stop
+set_refused meaning reads bytes stops.Words h = h
+set_refused meaning reads bytes stops.Read h = h
+set_refused meaning reads bytes stops.Write h = h
+set_refused meaning reads bytes stops.Memory h = tt
+set_refused meaning reads bytes (stops.Refused f) h = file_refused meaning reads bytes f h
 
 pub analysis_refused : (w b : ℕ) (bytes : List ℕ) (stop : Stop) → IsAnalyseCause bytes stop → IsMakeCause (Sp w b) bytes stop
 analysis_refused w b bytes stops.Words h = h
 analysis_refused w b bytes stops.Read h = h
 analysis_refused w b bytes stops.Write h = h
 analysis_refused w b bytes stops.Memory h = tt
-analysis_refused w b bytes (stops.File f) h = inr h
+analysis_refused w b bytes (stops.Refused f) h = inr h
 
 pub edf_refused : (w b : ℕ) (bytes : List ℕ) (stop : Stop) → IsEdfCause bytes stop → IsMakeCause (Edf w b) bytes stop
 edf_refused w b bytes stops.Words h = h
 edf_refused w b bytes stops.Read h = h
 edf_refused w b bytes stops.Write h = h
 edf_refused w b bytes stops.Memory h = tt
-edf_refused w b bytes (stops.File f) h = inr h
+edf_refused w b bytes (stops.Refused f) h = inr h

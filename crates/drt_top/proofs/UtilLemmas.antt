@@ -1,22 +1,16 @@
 -- The text of `util`, task by task; and a set has that text or is too fine, but not both.
-use Rattle.std.proofs.Common.{◌≡◌, ℕ, suc, ◌+◌, ◌*◌, ◌<◌, ◌≤◌, List, [], ◌∷◌, ◌++◌, length, map, All, refl, sym, ap, ◌∙◌, subst, arith, take, mul-le-mul_left}
-use Rattle.std.specs.Int.{IsGcd, ◌∣◌}
-use Rattle.std.proofs.Math.Nat.{dvd-mul_left, dvd-mul_right, le_of_mul-le-mul_left, le_antisymm}
-use Rattle.std.proofs.lemmas.Nat.Gcd.{dvd_antisymm}
+use Rattle.std.proofs.Common.{◌≡◌, ℕ, ◌+◌, ◌<◌, ◌≤◌, List, [], ◌∷◌, ◌++◌, length, map, All, sym, ap, ◌∙◌, subst, arith, take}
 use Rattle.std.proofs.lemmas.List.{take_more}
 use Rattle.std.proofs.lemmas.List.Elements.{All-map}
-use Rattle.drt_num.proofs.Divisors.{gcd_scaled}
 use Rattle.drt_model.specs.Contents.{Contents}
 use Rattle.drt_model.specs.Limits.{IsTaskSet}
 use Rattle.drt_model.specs.Digraph.{Digraph, IsSound, digraph_of}
-use Rattle.drt_model.specs.Walk.{work, cycle_span}
-use Rattle.drt_model.specs.Utilisation.{Fraction, HasRatio, IsLeast, IsRatio, AreRatios, IsScale}
+use Rattle.drt_model.specs.Utilisation.{IsScale}
 use Rattle.drt_graph.specs.Graphs.{graph_of, no_graph}
 use Rattle.drt_graph.proofs.Soundness.{all_sound}
 use Rattle.drt_ratio.specs.declared.ratio_proof.RatioProof.{RatioProof}
 use Rattle.drt_ratio.specs.Claims.{IsRatioProof}
 use Rattle.drt_ratio.specs.SetRatios.{AreRatioProofs, AreSmall}
-use Rattle.drt_ratio.proofs.Optima.{cycle_sums}
 use Rattle.drt_ratio.proofs.Scales.{scale_same}
 use Rattle.drt_ratio.proofs.Unique.{ratios_same}
 use Rattle.drt_top.specs.Util.{IsUtilisationText, IsTooFine}

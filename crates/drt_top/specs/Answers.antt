@@ -10,7 +10,8 @@ use Rattle.drt_model.specs.Legal.{IsLegal}
 use Rattle.drt_model.specs.Misses.{IsLeastMiss}
 use Rattle.drt_model.specs.Schedulable.{Schedulable, jobs_of}
 use Rattle.drt_busy.specs.OneTask.{whole_release}
-use Rattle.drt_top.specs.Dossier.{dossier, yes_evidence, no_evidence}
+use Rattle.drt_evidence.specs.Rules.{Accepts}
+use Rattle.drt_top.specs.Dossier.{dossier, under_fixed, yes_evidence, no_evidence}
 
 -- The set keeps the limits, and this is its only task.
 pub record IsOnlyTask (set : Contents) (task : Task) : Type 0 where
@@ -44,7 +45,7 @@ IsLateAt vertices v = (x : Vertex) × IsFirstLate vertices v x
 abbrev pub named_miss : Vertex → Miss
 named_miss x = record { task = 0; index = 0; deadline = x.deadline }
 
--- The text is the no of a set of one task: the set isn't schedulable, the one release written, that of the first late vertex, is legal, and its job misses the deadline written.
+-- The text is the no of a set of one task: the set isn't schedulable, the one release written, that of the first late vertex, is legal, and its job misses the deadline written. The evidence keeps the rules of the checker.
 pub record IsNo (set : Contents) (text : List ℕ) : Type 0 where
   pub not_schedulable : ¬ Schedulable set.tasks Fixed
   pub task : Task
@@ -54,4 +55,5 @@ pub record IsNo (set : Contents) (text : List ℕ) : Type 0 where
   pub first_late : IsFirstLate task.vertices v vertex
   pub legal : IsLegal set.tasks (whole_release v vertex.wcet)
   pub misses : IsLeastMiss Fixed (jobs_of set.tasks (whole_release v vertex.wcet)) (named_miss vertex)
+  pub accepts : Accepts (under_fixed set (no_evidence (whole_release v vertex.wcet) (named_miss vertex)))
   pub text_is : text ≡ dossier set (no_evidence (whole_release v vertex.wcet) (named_miss vertex))

@@ -32,7 +32,8 @@ bare_top s = record s {
 abbrev pub bare_app : App → App
 bare_app a = record { top = bare_top a.top; subs = a.subs }
 
--- The whole command line: the commands `edf`, `sp`, `upgrade` and `util`.
+-- The whole command line: the commands `edf`, `sp`, `upgrade`, `util` and `check`.
 abbrev pub drt_app : App
-drt_app = with_subcommand (with_subcommand (with_subcommand (with_subcommand (bare_app (new_app (codes "drt")))
-    (analysis_app (codes "edf")).top) (analysis_app (codes "sp")).top) (new_app (codes "upgrade")).top) (new_app (codes "util")).top
+drt_app = with_subcommand (with_subcommand (with_subcommand (with_subcommand (with_subcommand (bare_app (new_app (codes "drt")))
+    (analysis_app (codes "edf")).top) (analysis_app (codes "sp")).top) (new_app (codes "upgrade")).top) (new_app (codes "util")).top)
+    (new_app (codes "check")).top

@@ -4,15 +4,20 @@ use Rattle.drt_model.specs.Contents.{Contents}
 use Rattle.drt_model.specs.declared.jobs.Policy.TheVariants.{Fixed}
 use Rattle.drt_model.specs.declared.jobs.Release.{Release}
 use Rattle.drt_model.specs.declared.jobs.Miss.{Miss}
+use Rattle.drt_evidence.specs.Statement.{Statement}
 use Rattle.drt_evidence.specs.Text.{text}
 use Rattle.drt_evidence.specs.declared.evidence.Evidence.{Evidence}
 use Rattle.drt_evidence.specs.declared.evidence.Evidence.TheVariants.{FixedYes, FixedNo}
 use Rattle.drt_evidence.specs.declared.evidence.Item.TheVariants.{Pass}
 use Rattle.drt_evidence.specs.declared.evidence.ProofClaim.{ProofClaim}
 
+-- A set under fixed priorities with this evidence.
+abbrev pub under_fixed : Contents → Evidence → Statement
+under_fixed set evidence = record { policy = Fixed; set = set; evidence = evidence }
+
 -- A dossier under fixed priorities: the text of the set and the evidence.
 abbrev pub dossier : Contents → Evidence → List ℕ
-dossier set evidence = text (record { policy = Fixed; set = set; evidence = evidence })
+dossier set evidence = text (under_fixed set evidence)
 
 -- The proof that vertex v of the first task meets its deadline: it passes at this time.
 abbrev pub proof_at : ℕ → ℕ → ProofClaim

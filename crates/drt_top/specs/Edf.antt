@@ -105,10 +105,10 @@ pub record IsOutOfReach (bytes : List ℕ) (fault : Fault) : Type 0 where
   pub is : fault ≡ Limit (beyond_code beyond)
 
 -- The status of `edf` at an accepted set where nothing fails, but for 8, want of memory: 2 where the utilisation is one; 4 where its
--- numbers are out of reach; and else, where the budget is enough for each search, 0 where the set is schedulable under EDF and 1
--- where it isn't.
+-- numbers are out of reach. Where they aren't, and the budget is enough for each search, it is 2 only where the utilisation is one, 0 only
+-- where the set is schedulable under EDF and 1 only where it isn't, and it is one of these.
 pub record EdfEnds (set : Contents) (budget status : ℕ) : Type 0 where
   pub one : IsAtOne set.tasks → (status ≡ 8) ⊎ (status ≡ 2)
   pub beyond : (b : Beyond) → IsBeyond set.tasks b → (status ≡ 8) ⊎ (status ≡ 4)
-  pub decided : IsOther set.tasks → IsEnough set.tasks budget
-      → (status ≡ 8) ⊎ (((status ≡ 0) × Schedulable set.tasks Edf) ⊎ ((status ≡ 1) × ¬ Schedulable set.tasks Edf))
+  pub decided : IsEnough set.tasks budget → ((b : Beyond) → ¬ IsBeyond set.tasks b)
+      → (status ≡ 8) ⊎ (((status ≡ 2) × IsAtOne set.tasks) ⊎ (((status ≡ 0) × Schedulable set.tasks Edf) ⊎ ((status ≡ 1) × ¬ Schedulable set.tasks Edf)))

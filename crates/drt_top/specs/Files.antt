@@ -5,7 +5,7 @@ use Rattle.drt_model.specs.Constrained.{AreConstrained}
 use Rattle.drt_file.specs.Reading.{Reads, HasFault}
 use Rattle.drt_graph.specs.Past.{IsFirstPast}
 use Rattle.drt_top.specs.declared.outcome.Fault.{Fault}
-use Rattle.drt_top.specs.declared.outcome.Fault.TheVariants.{Nothing, File, Edge, Limit}
+use Rattle.drt_top.specs.declared.outcome.Fault.TheVariants.{Nothing, File, Edge, Limit, Rule, Dossier}
 
 -- A task file has at most so many bytes.
 abbrev pub most_bytes : ℕ
@@ -30,3 +30,5 @@ IsFileFault bytes Nothing = ⊥
 IsFileFault bytes (File line code) = ((most_bytes < length bytes) × (line ≡ 0) × (code ≡ 23)) ⊎ ((length bytes ≤ most_bytes) × HasFault bytes line code)
 IsFileFault bytes (Edge task edge) = IsPastIn bytes task edge
 IsFileFault bytes (Limit code) = ⊥
+IsFileFault bytes (Rule number) = ⊥
+IsFileFault bytes (Dossier line code) = ⊥

@@ -6,6 +6,7 @@ pub mod Stops
 pub mod Notices
 pub mod Dossier
 pub mod Files
+pub mod Checks
 pub mod Answers
 pub mod Util
 pub mod Edf

@@ -7,7 +7,7 @@ use Rattle.clap.specs.Walk.{is_empty}
 use Rattle.drt_top.specs.Command.{drt_app}
 use Rattle.drt_top.specs.Number.{number_in}
 use Rattle.drt_top.specs.declared.words.Meaning.{Meaning}
-use Rattle.drt_top.specs.declared.words.Meaning.TheVariants.{Edf, Sp, Upgrade, Util}
+use Rattle.drt_top.specs.declared.words.Meaning.TheVariants.{Edf, Sp, Upgrade, Util, Check}
 
 -- The number of an option that is there, or stands by default.
 abbrev pub number_at : Text → ℕ → List Row → Option ℕ
@@ -24,7 +24,8 @@ meaning_at name rows =
     if bytes_eq name (codes "edf") then with_numbers Edf rows
     else (if bytes_eq name (codes "sp") then with_numbers Sp rows
     else (if bytes_eq name (codes "upgrade") then Some Upgrade
-    else (if bytes_eq name (codes "util") then Some Util else None)))
+    else (if bytes_eq name (codes "util") then Some Util
+    else (if bytes_eq name (codes "check") then Some Check else None))))
 
 -- What a list of words means: what clap's command states of the words, where it refuses none of them.
 abbrev pub meaning_of : List Text → Option Meaning

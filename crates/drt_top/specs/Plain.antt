@@ -5,7 +5,7 @@ use Rattle.std.specs.Str.Parse.{IsNumeral, digits_value}
 use Rattle.clap.specs.Lexer.{long_of, short_of}
 use Rattle.clap.specs.ValueTests.{is_unsigned_in}
 use Rattle.drt_top.specs.declared.words.Meaning.{Meaning}
-use Rattle.drt_top.specs.declared.words.Meaning.TheVariants.{Edf, Sp, Upgrade, Util}
+use Rattle.drt_top.specs.declared.words.Meaning.TheVariants.{Edf, Sp, Upgrade, Util, Check}
 
 -- The text is a number from 1 to `most` in decimal digits without leading zeros.
 pub record IsPlainNumber (most : ℕ) (text : List ℕ) (n : ℕ) : Type 0 where
@@ -50,6 +50,7 @@ pub data IsPlain : List (List ℕ) → Meaning → Type 0 where
   plain_search : (program : List ℕ) (command : Search) (options : List (List ℕ)) (m n : ℕ) → PlainOptions options m n → IsPlain (program ∷ search_word command ∷ options) (search_meaning command m n)
   plain_upgrade : (program : List ℕ) → IsPlain (program ∷ codes "upgrade" ∷ []) Upgrade
   plain_util : (program : List ℕ) → IsPlain (program ∷ codes "util" ∷ []) Util
+  plain_check : (program : List ℕ) → IsPlain (program ∷ codes "check" ∷ []) Check
 
 -- The word isn't `--` and doesn't read as a flag.
 pub record BeginsPlain (text : List ℕ) : Type 0 where

@@ -33,9 +33,9 @@ pub(crate) fn answer_to(alloc: Global, bytes: &[u8], set: TaskSet) -> Result<(u8
 
 // Why a set that isn't analysed has no answer.
 fn not_analysed() -> Stop
-    ensures { result ≡ Stop.File (Fault.File 0 99) }
+    ensures { result ≡ Stop.Refused (Fault.File 0 99) }
 {
-    Stop::File(Fault::File {
+    Stop::Refused(Fault::File {
         line: 0,
         code: NOT_ANALYSED,
     })

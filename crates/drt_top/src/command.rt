@@ -39,6 +39,7 @@ pub fn drt<'a>(alloc: Global) -> Result<Command<'a>, AllocError>
     let sp = analysis(alloc, "sp")?;
     let upgrade = Command::new(alloc, "upgrade");
     let util = Command::new(alloc, "util");
+    let check = Command::new(alloc, "check");
     let top = Command::new(alloc, "drt")
         .disable_help_flag(true)
         .disable_version_flag(true)
@@ -47,5 +48,6 @@ pub fn drt<'a>(alloc: Global) -> Result<Command<'a>, AllocError>
     let with_edf = top.subcommand(edf)?;
     let with_sp = with_edf.subcommand(sp)?;
     let with_upgrade = with_sp.subcommand(upgrade)?;
-    with_upgrade.subcommand(util)
+    let with_util = with_upgrade.subcommand(util)?;
+    with_util.subcommand(check)
 }

@@ -52,13 +52,13 @@ fn shown(trail: EdfTrail) -> Trail
 
 // Why a set whose numbers are out of reach has no answer.
 fn out_of_reach(beyond: Beyond) -> Stop
-    ensures { result ≡ Stop.File (Fault.Limit (beyond_code beyond)) }
+    ensures { result ≡ Stop.Refused (Fault.Limit (beyond_code beyond)) }
 {
     let code = match beyond {
         Beyond::TooFine => SCALE_TOO_FINE,
         Beyond::TooFar => HORIZON_TOO_FAR,
     };
-    Stop::File(Fault::Limit { code })
+    Stop::Refused(Fault::Limit { code })
 }
 
 // The status of an answer with this evidence.

@@ -5,6 +5,10 @@ use drt_table::{Entry, TableStep};
 use std::alloc::Global;
 use std::test::Fail;
 
+// An engine controller, a bus and a log.
+pub(crate) const ENGINE: &str =
+    "drt 1\ntask engine\nvertex slow 12 60\nvertex mid 8 30\nvertex fast 4 15\nedge slow slow 60\nedge slow mid 60\nedge mid slow 30\nedge mid mid 30\nedge mid fast 30\nedge fast fast 15\nedge fast mid 15\ntask can\nvertex c 10 50\nedge c c 50\ntask log\nvertex l 20 100\nedge l l 200\nend\n";
+
 // How `edf` with these further words ends on a file, and what is then written.
 fn decided(alloc: Global, options: &[&str], text: &str) -> Result<(Outcome, Vec<u8>), Fail> {
     let mut words = Vec::new(alloc);
@@ -168,16 +172,14 @@ fn numbers_out_of_reach_have_their_code(rt: HostRuntime) -> Result<(), Fail> {
 
 #[test]
 fn an_engine_controller_meets_its_deadlines(rt: HostRuntime) -> Result<(), Fail> {
-    let text =
-        "drt 1\ntask engine\nvertex slow 12 60\nvertex mid 8 30\nvertex fast 4 15\nedge slow slow 60\nedge slow mid 60\nedge mid slow 30\nedge mid mid 30\nedge mid fast 30\nedge fast fast 15\nedge fast mid 15\ntask can\nvertex c 10 50\nedge c c 50\ntask log\nvertex l 20 100\nedge l l 200\nend\n";
-    let (outcome, held) = decided(rt.alloc(), &[], text)?;
+    let (outcome, held) = decided(rt.alloc(), &[], ENGINE)?;
     assert_eq!(rt; outcome.status, 0);
     // Each of these cycles has the engine's ratio.
     let mut is_one_of_them = false;
     for cycle in ["1 1", "1 2", "2 1 2", "2 2 1"] {
         let mut whole = dossier(
             rt.alloc(),
-            text,
+            ENGINE,
             "evidence edf-yes\nratios 3\nratio 4 15\ncycle ",
         )?;
         whole.extend_from_slice(cycle.as_bytes())?;

@@ -9,6 +9,9 @@
 
 mod analysis;
 mod answering;
+mod check;
+#[cfg(test)]
+mod check_tests;
 mod command;
 mod dossier;
 mod edf;

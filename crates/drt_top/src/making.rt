@@ -1,11 +1,12 @@
 //! What a command makes of the bytes that it read.
 ghost use Rattle.std.specs.Prelude.{◌≡◌, ◌≤◌, IfErr, IfOk, length, map};
 ghost use Rattle.drt_model.specs.Digraph.{digraph_of};
-ghost use Rattle.drt_top.specs.Files.{IsAccepted, most_bytes};
+ghost use Rattle.drt_top.specs.Files.{IsAccepted};
 ghost use Rattle.drt_top.specs.Reports.{without_trail};
-ghost use Rattle.drt_top.specs.Run.{IsInRange, Makes, Upgrades, Utilises, IsMakeCause};
+ghost use Rattle.drt_top.specs.Run.{IsInRange, Makes, Upgrades, Utilises, IsMakeCause, most_bytes_of};
 
 use crate::answering::answer_to;
+use crate::check::judged;
 use crate::edf::decided;
 use crate::input::read_set;
 use crate::outcome::{Trail, YES};
@@ -14,10 +15,10 @@ use crate::util::util_text;
 use crate::words::Meaning;
 use drt_file::upgrade;
 use drt_graph::Graphs;
-use drt_model::{Memory, Row, TaskSet};
+use drt_model::{Row, TaskSet};
 use std::alloc::Global;
 
-/// What a command makes of a file: a status, a text in bytes, and a trail where a budget was spent.
+/// What a command makes of its input: a status, a text in bytes, and a trail where a budget was spent.
 #[derive(Drop)]
 pub(crate) struct Report {
     pub(crate) status: u8,
@@ -25,25 +26,31 @@ pub(crate) struct Report {
     pub(crate) trail: Trail,
 }
 
-// What a command makes of a file.
+// What a command makes of its input.
 pub(crate) fn made(alloc: Global, meaning: Meaning, bytes: &[u8]) -> Result<Report, Stop>
-    requires small { length bytes.now ≤ most_bytes }
+    requires small { length bytes.now ≤ most_bytes_of meaning }
     requires numbers { IsInRange meaning }
     ensures makes { IfOk result (λ m. Makes meaning bytes.now m.status m.text m.trail) }
     ensures stops { IfErr result (IsMakeCause meaning bytes.now) }
 {
-    let (set, graphs) = match read_set(alloc, bytes) {
-        Ok(read) => read,
-        Err(stop) => return Err(stop),
-    };
     match meaning {
-        Meaning::Edf { workers: _, budget } => decided(alloc, bytes, set, &graphs, budget),
-        Meaning::Sp { .. } => without_trail(answer_to(alloc, bytes, set)),
-        Meaning::Upgrade => match upgraded(alloc, bytes, set) {
-            Ok(text) => without_trail(Ok((YES, text))),
-            Err(_) => Err(Stop::Memory),
+        Meaning::Edf { workers: _, budget } => match read_set(alloc, bytes) {
+            Ok((set, graphs)) => decided(alloc, bytes, set, &graphs, budget),
+            Err(stop) => Err(stop),
         },
-        Meaning::Util => without_trail(utilised(alloc, bytes, &set, &graphs)),
+        Meaning::Sp { .. } => match read_set(alloc, bytes) {
+            Ok((set, _)) => without_trail(answer_to(alloc, bytes, set)),
+            Err(stop) => Err(stop),
+        },
+        Meaning::Upgrade => match read_set(alloc, bytes) {
+            Ok((set, _)) => without_trail(upgraded(alloc, bytes, set)),
+            Err(stop) => Err(stop),
+        },
+        Meaning::Util => match read_set(alloc, bytes) {
+            Ok((set, graphs)) => without_trail(utilised(alloc, bytes, &set, &graphs)),
+            Err(stop) => Err(stop),
+        },
+        Meaning::Check => without_trail(judged(alloc, bytes)),
     }
 }
 
@@ -80,10 +87,14 @@ fn utilised(
 }
 
 // The text of an accepted set as one of version 2.
-fn upgraded(alloc: Global, bytes: &[u8], set: TaskSet) -> Result<Row<u8>, Memory>
+fn upgraded(alloc: Global, bytes: &[u8], set: TaskSet) -> Result<(u8, Row<u8>), Stop>
     requires { IsAccepted bytes.now set }
-    ensures { IfOk result (λ text. Upgrades bytes.now 0 text) }
+    ensures upgrades { IfOk result (λ a. Upgrades bytes.now a.0 a.1) }
+    ensures stops { IfErr result (IsMakeCause Meaning.Upgrade bytes.now) }
 {
     let later = upgrade(set);
-    drt_file::print(alloc, &later)
+    match drt_file::print(alloc, &later) {
+        Ok(text) => Ok((YES, text)),
+        Err(_) => Err(Stop::Memory),
+    }
 }

@@ -3,7 +3,8 @@ ghost use Rattle.std.specs.Prelude.{◌≡◌, ◌++◌, IfOk, OnOk, decimal};
 ghost use Rattle.drt_top.specs.Notices.{fault_notice, notice_of};
 
 use crate::outcome::{
-    FILE_REFUSED, Fault, OUT_OF_MEMORY, Outcome, READ_FAILED, WORDS_REFUSED, WRITE_FAILED,
+    DOSSIER_REFUSED, EVIDENCE_REJECTED, FILE_REFUSED, Fault, OUT_OF_MEMORY, Outcome, READ_FAILED,
+    WORDS_REFUSED, WRITE_FAILED,
 };
 use drt_model::{Memory, Row};
 use itoa::Buffer;
@@ -15,7 +16,9 @@ pub fn notice(alloc: Global, outcome: &Outcome) -> Result<Row<u8>, Memory>
     ensures { IfOk result (λ text. text ≡ notice_of outcome.now.status outcome.now.fault) }
 {
     let text = match outcome.status {
-        FILE_REFUSED => return fault_notice(alloc, outcome.fault),
+        FILE_REFUSED | EVIDENCE_REJECTED | DOSSIER_REFUSED => {
+            return fault_notice(alloc, outcome.fault);
+        }
         WORDS_REFUSED => b"drt: words refused\n".as_slice(),
         READ_FAILED => b"drt: read failed\n".as_slice(),
         WRITE_FAILED => b"drt: write failed\n".as_slice(),
@@ -25,7 +28,7 @@ pub fn notice(alloc: Global, outcome: &Outcome) -> Result<Row<u8>, Memory>
     Ok(Row::from_vec(Vec::from_slice(alloc, text)?))
 }
 
-// The line of a refused file.
+// The line of a refused input.
 fn fault_notice(alloc: Global, fault: Fault) -> Result<Row<u8>, Memory>
     ensures { IfOk result (λ text. text ≡ fault_notice fault) }
 {
@@ -44,6 +47,19 @@ fn fault_notice(alloc: Global, fault: Fault) -> Result<Row<u8>, Memory>
         }
         Fault::Limit { code } => {
             push(&mut text, b"drt: fault ", u32::from(code))?;
+            text.push(b'\n')?;
+        }
+        Fault::Rule { number } => {
+            push(
+                &mut text,
+                b"drt: evidence rejected by rule ",
+                u32::from(number),
+            )?;
+            text.push(b'\n')?;
+        }
+        Fault::Dossier { line, code } => {
+            push(&mut text, b"drt: dossier line ", line)?;
+            push(&mut text, b": fault ", u32::from(code))?;
             text.push(b'\n')?;
         }
     }

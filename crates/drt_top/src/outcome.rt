@@ -3,7 +3,7 @@ use drt_model::Row;
 use drt_table::Entry;
 
 /// How a run ends: the status that the program ends with, what shows a spent budget, and the fault
-/// of a refused file.
+/// of a refused input.
 #[derive(Debug, Drop)]
 pub struct Outcome {
     pub status: u8,
@@ -22,7 +22,7 @@ pub enum Trail {
     Overload { last: u64 },
 }
 
-/// Why a file is refused.
+/// Why an input is refused.
 #[derive(Debug, Clone, Copy, PartialEq, Eq)]
 pub enum Fault {
     /// It isn't.
@@ -33,6 +33,10 @@ pub enum Fault {
     Edge { task: u32, edge: u32 },
     /// The analysis has a limit that the set passes.
     Limit { code: u8 },
+    /// The evidence of the dossier breaks rules, of which this is the least number.
+    Rule { number: u8 },
+    /// The dossier has the fault of this code at this line, counted from 1, or at line 0 a fault of the whole dossier.
+    Dossier { line: u32, code: u8 },
 }
 
 /// The schedulable set's status.
@@ -62,8 +66,17 @@ pub const WRITE_FAILED: u8 = 7;
 /// The status of want of memory.
 pub const OUT_OF_MEMORY: u8 = 8;
 
+/// The status of evidence that breaks a rule.
+pub const EVIDENCE_REJECTED: u8 = 9;
+
+/// The status of a refused dossier.
+pub const DOSSIER_REFUSED: u8 = 10;
+
 /// The code of a file that is too long.
 pub const TOO_LONG: u8 = 23;
+
+/// The code of a dossier that is too long.
+pub const DOSSIER_TOO_LONG: u8 = 4;
 
 /// The code of a set whose scale exceeds 2^60.
 pub const SCALE_TOO_FINE: u8 = 21;

@@ -1,7 +1,8 @@
-//! One run: words, reading, the file, the analysis, writing.
+//! One run: words, reading, the input, the analysis or the checker, writing.
 ghost use Rattle.std.specs.Prelude.{◌≡◌, ◌≢◌, ◌<◌, ◌≤◌, ◌⊎◌, None, Ok, Err, Some, IfOk, IfErr, IfSome, map, string_bytes};
 ghost use Rattle.drt_io.specs.Causes.{Rose};
 ghost use Rattle.drt_top.specs.Meaning.{meaning_of};
+ghost use Rattle.drt_top.specs.Stops.{IsRefusal, fault_status};
 ghost use Rattle.drt_top.specs.Run.{IsComplete, IsCutShort, IsDone, IsInPart, IsInRange, IsRefused, IsRunCause, IsStatus, Says};
 
 use crate::input::read_input;
@@ -9,15 +10,17 @@ use crate::making::{Report, made};
 use crate::outcome::{Fault, Outcome, Trail};
 use crate::stop::{Stop, outcome_of};
 use crate::words::{Meaning, WordsError, words_of};
+use drt_check::accepted_breaks_none;
 use drt_file::laws::texts_read_as_one_set;
 use drt_io::{Sink, Source, write_all};
 use std::alloc::Global;
 
-/// Runs the command that the words name: it reads a task file from the source, and writes what the
-/// command makes of it to the sink. Statuses: 0 done, and for `edf` and `sp` the set is schedulable; 1 for
-/// `edf` and `sp` it isn't; 2 for `edf` the utilisation is one; 3 for `edf` the budget was spent, with the
-/// trail; 4 the file is refused with a fault; 5 the words are refused; 6 a read failed; 7 a write failed; 8
-/// no memory was to be had.
+/// Runs the command that the words name: it reads a task file from the source, for `check` a dossier, and
+/// writes what the command makes of it to the sink. Statuses: 0 done, and for `edf`, `sp` and `check` the set
+/// is schedulable; 1 for these it isn't; 2 for `edf` and `check` the utilisation is one; 3 for `edf` the
+/// budget was spent, with the trail, and for `check` there is nothing to check; 4 the file is refused with a
+/// fault; 5 the words are refused; 6 a read failed; 7 a write failed; 8 no memory was to be had; 9 the
+/// evidence of the dossier breaks a rule; 10 the dossier is refused with a fault.
 ///
 /// Where the source tells its bytes, the clauses speak of them.
 pub fn run<S: Source, K: Sink>(
@@ -26,11 +29,11 @@ pub fn run<S: Source, K: Sink>(
     source: &mut S,
     sink: &mut K,
 ) -> Outcome
-    // What the command makes of the file is written, whole, and it is true.
+    // What the command makes of its input is written, whole, and it is true.
     ensures done { result.status < 4 → IfSome (S.left source.old) (λ bytes. IsDone (meaning_of (map string_bytes words.now)) result.status result.trail bytes (K.held sink.old) (K.held sink.new)) }
 
     // Every other end has its cause.
-    ensures refused { result.status ≡ 4 → IfSome (S.left source.old) (λ bytes. IsRefused (meaning_of (map string_bytes words.now)) bytes result.fault) }
+    ensures refused { IsRefusal result.status → IfSome (S.left source.old) (λ bytes. IsRefused (meaning_of (map string_bytes words.now)) bytes result.fault) }
     ensures words { result.status ≡ 5 → meaning_of (map string_bytes words.now) ≡ None }
     ensures read { result.status ≡ 6 → Rose (S.faults source.old) (S.faults source.new) }
     ensures write { result.status ≡ 7 → Rose (K.faults sink.old) (K.faults sink.new) }
@@ -41,15 +44,16 @@ pub fn run<S: Source, K: Sink>(
     ensures unwritten { 4 ≤ result.status → result.status ≢ 7 → sink.new ≡ sink.old }
     ensures unread { result.status ≡ 5 → source.new ≡ source.old }
 
-    // Refused words have status 5 but for want of memory, and where nothing fails, a file has the status that it must have.
+    // Refused words have status 5 but for want of memory, and where nothing fails, an input has the status that it must have.
     ensures refused_words { meaning_of (map string_bytes words.now) ≡ None → (result.status ≡ 5) ⊎ (result.status ≡ 8) }
     ensures complete { (meaning : Meaning) → meaning_of (map string_bytes words.now) ≡ Some meaning
         → ¬ Rose (S.faults source.old) (S.faults source.new)
         → ¬ Rose (K.faults sink.old) (K.faults sink.new)
         → IfSome (S.left source.old) (λ bytes. IsComplete meaning bytes result.status result.fault) }
 
-    // A fault stands in the outcome of a refused file alone, and a trail in that of a spent budget.
-    ensures fault { result.status ≢ 4 → result.fault ≡ Fault.Nothing }
+    // A fault stands in the outcome of a refused input alone, with the status of its kind, and a trail in that of a spent budget.
+    ensures fault { ¬ IsRefusal result.status → result.fault ≡ Fault.Nothing }
+    ensures kind { IsRefusal result.status → result.status ≡ fault_status result.fault }
     ensures trail { result.status ≢ 3 → result.trail ≡ Trail.Nothing }
 {
     match words_of(alloc, words) {
@@ -68,7 +72,7 @@ fn ended<S: Source, K: Sink>(
 ) -> Outcome
     requires { IsInRange meaning }
     ensures done { result.status < 4 → IfSome (S.left source.old) (λ bytes. Says meaning result.status result.trail bytes (K.held sink.old) (K.held sink.new)) }
-    ensures refused { result.status ≡ 4 → IfSome (S.left source.old) (λ bytes. IsRefused (Some meaning) bytes result.fault) }
+    ensures refused { IsRefusal result.status → IfSome (S.left source.old) (λ bytes. IsRefused (Some meaning) bytes result.fault) }
     ensures words { result.status ≢ 5 }
     ensures read { result.status ≡ 6 → Rose (S.faults source.old) (S.faults source.new) }
     ensures write { result.status ≡ 7 → Rose (K.faults sink.old) (K.faults sink.new) }
@@ -78,10 +82,12 @@ fn ended<S: Source, K: Sink>(
     ensures complete { ¬ Rose (S.faults source.old) (S.faults source.new)
         → ¬ Rose (K.faults sink.old) (K.faults sink.new)
         → IfSome (S.left source.old) (λ bytes. IsComplete meaning bytes result.status result.fault) }
-    ensures fault { result.status ≢ 4 → result.fault ≡ Fault.Nothing }
+    ensures fault { ¬ IsRefusal result.status → result.fault ≡ Fault.Nothing }
+    ensures kind { IsRefusal result.status → result.status ≡ fault_status result.fault }
     ensures trail { result.status ≢ 3 → result.trail ≡ Trail.Nothing }
 {
     texts_read_as_one_set();
+    accepted_breaks_none();
     match performed(alloc, meaning, source, sink) {
         Ok((status, trail)) => Outcome {
             status,
@@ -92,7 +98,7 @@ fn ended<S: Source, K: Sink>(
     }
 }
 
-// Reads a file, makes what the command makes of it, and writes that.
+// Reads an input, makes what the command makes of it, and writes that.
 fn performed<S: Source, K: Sink>(
     alloc: Global,
     meaning: Meaning,
@@ -107,7 +113,7 @@ fn performed<S: Source, K: Sink>(
     ensures unwritten { IfErr result (λ stop. stop ≢ Stop.Write → sink.new ≡ sink.old) }
     ensures stops { IfErr result (IsRunCause (Rose (S.faults source.old) (S.faults source.new)) (Rose (K.faults sink.old) (K.faults sink.new)) (S.left source.old) meaning) }
 {
-    let bytes = match read_input(alloc, source) {
+    let bytes = match read_input(alloc, meaning, source) {
         Ok(bytes) => bytes,
         Err(stop) => return Err(stop),
     };

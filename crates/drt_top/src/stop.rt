@@ -1,9 +1,10 @@
 //! Why a run stops before its answer is written.
 ghost use Rattle.std.specs.Prelude.{◌≡◌};
-ghost use Rattle.drt_top.specs.Stops.{outcome_of};
+ghost use Rattle.drt_top.specs.Stops.{fault_status, outcome_of};
 
 use crate::outcome::{
-    FILE_REFUSED, Fault, OUT_OF_MEMORY, Outcome, READ_FAILED, Trail, WORDS_REFUSED, WRITE_FAILED,
+    DOSSIER_REFUSED, EVIDENCE_REJECTED, FILE_REFUSED, Fault, OUT_OF_MEMORY, Outcome, READ_FAILED,
+    Trail, WORDS_REFUSED, WRITE_FAILED,
 };
 use drt_model::Memory;
 
@@ -18,8 +19,8 @@ pub enum Stop {
     Write,
     /// No memory was to be had.
     Memory,
-    /// The file has this fault.
-    File(Fault),
+    /// The input has this fault.
+    Refused(Fault),
 }
 
 impl From<Memory> for Stop {
@@ -42,11 +43,24 @@ pub(crate) fn outcome_of(stop: Stop) -> Outcome
         Stop::Read => without_fault(READ_FAILED),
         Stop::Write => without_fault(WRITE_FAILED),
         Stop::Memory => without_fault(OUT_OF_MEMORY),
-        Stop::File(fault) => Outcome {
-            status: FILE_REFUSED,
+        Stop::Refused(fault) => Outcome {
+            status: fault_status(fault),
             trail: Trail::Nothing,
             fault,
         },
+    }
+}
+
+// The status of an input with this fault.
+fn fault_status(fault: Fault) -> u8
+    ensures { result ≡ fault_status fault }
+{
+    match fault {
+        Fault::Nothing | Fault::File { .. } | Fault::Edge { .. } | Fault::Limit { .. } => {
+            FILE_REFUSED
+        }
+        Fault::Rule { .. } => EVIDENCE_REJECTED,
+        Fault::Dossier { .. } => DOSSIER_REFUSED,
     }
 }
 

@@ -1,4 +1,5 @@
 use super::*;
+use crate::edf_tests::ENGINE;
 use drt_io::{MemorySink, MemorySource, SureSink, SureSource};
 use drt_model::Row;
 use std::alloc::Global;
@@ -150,6 +151,13 @@ fn a_file_is_upgraded_and_its_utilisation_told(rt: HostRuntime) -> Result<(), Fa
         ),
         ("util", two, 0, "T1 2/5\nT2 4/7\ntotal 34/35\n", ""),
         ("util", lone, 0, "T 0/1\ntotal 0/1\n", ""),
+        (
+            "util",
+            ENGINE,
+            0,
+            "engine 4/15\ncan 1/5\nlog 1/10\ntotal 17/30\n",
+            "",
+        ),
         ("util", fine, 4, "", "drt: fault 21\n"),
         (
             "sp",

@@ -20,14 +20,14 @@ use std::alloc::Global;
 pub(crate) fn util_text(alloc: Global, set: &TaskSet, graphs: &Graphs) -> Result<Row<u8>, Stop>
     requires { graphs.now ≡ map digraph_of set.now.tasks }
     ensures text { IfOk result (λ text. IsUtilisationText set.now text) }
-    ensures stops { IfErr result (λ stop. (stop ≡ Stop.Memory) ⊎ ((stop ≡ Stop.File (Fault.Limit 21)) × IsTooFine set.now)) }
+    ensures stops { IfErr result (λ stop. (stop ≡ Stop.Memory) ⊎ ((stop ≡ Stop.Refused (Fault.Limit 21)) × IsTooFine set.now)) }
 {
     proofs_give_ratios();
     let Ok(proofs) = ratio_proofs(alloc, graphs) else {
         return Err(Stop::Memory);
     };
     let Some(total) = utilisation(proofs.as_slice()) else {
-        return Err(Stop::File(Fault::Limit {
+        return Err(Stop::Refused(Fault::Limit {
             code: SCALE_TOO_FINE,
         }));
     };

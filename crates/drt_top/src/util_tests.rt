@@ -93,6 +93,6 @@ fn a_scale_beyond_2_to_the_60_is_refused(rt: HostRuntime) -> Result<(), Fail> {
     let Err(stop) = said(rt.alloc(), tasks.as_slice())? else {
         return Err("no text".into());
     };
-    assert_eq!(rt; stop, Stop::File(Fault::Limit { code: 21 }));
+    assert_eq!(rt; stop, Stop::Refused(Fault::Limit { code: 21 }));
     Ok(())
 }

@@ -23,6 +23,8 @@ pub enum Meaning {
     Upgrade,
     /// The ratio of each task, and the utilisation.
     Util,
+    /// The checker's judgement of a dossier.
+    Check,
 }
 
 /// Why a list of words has no meaning.
@@ -76,6 +78,8 @@ fn meaning_in(name: &str, matches: &ArgMatches) -> Option<Meaning>
         Some(Meaning::Upgrade)
     } else if name == "util" {
         Some(Meaning::Util)
+    } else if name == "check" {
+        Some(Meaning::Check)
     } else {
         None
     }

@@ -25,6 +25,7 @@ returns c =
           first_late = c.requires.late;
           legal = shown.0;
           misses = shown.1;
+          accepts = record { constrained = c.requires.constrained; of_policy = refl; keeps = record { legal = shown.0; misses = shown.1 } };
           text_is = ap (dossier c.args.set.now) (search (rules, c.in_ok-evidence.ensures.is));
         },
       );

@@ -39,4 +39,6 @@ returns c =
     c.in_ok-with_sp.ensures.shape c.in_ok-sp.ensures.local ∙ ap₂ with_subcommand edf_is (ap top_of c.in_ok-sp.ensures.app) in
     let upgrade_is : app_of c.in_ok-with_upgrade.with_upgrade ≡ with_subcommand with_sp (new_app (codes "upgrade")).top =
     c.in_ok-with_upgrade.ensures.shape c.new-upgrade.ensures.local ∙ ap₂ with_subcommand sp_is (ap top_of c.new-upgrade.ensures.app) in
-    IfOk-weaker c.subcommand-4.result _ _ (λ made h. h.shape c.new-util.ensures.local ∙ ap₂ with_subcommand upgrade_is (ap top_of c.new-util.ensures.app)) c.subcommand-4.ensures
+    let util_is : app_of c.in_ok-with_util.with_util ≡ with_subcommand (with_subcommand with_sp (new_app (codes "upgrade")).top) (new_app (codes "util")).top =
+    c.in_ok-with_util.ensures.shape c.new-util.ensures.local ∙ ap₂ with_subcommand upgrade_is (ap top_of c.new-util.ensures.app) in
+    IfOk-weaker c.subcommand-5.result _ _ (λ made h. h.shape c.new-check.ensures.local ∙ ap₂ with_subcommand util_is (ap top_of c.new-check.ensures.app)) c.subcommand-5.ensures

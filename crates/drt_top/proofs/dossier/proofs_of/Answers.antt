@@ -1,4 +1,4 @@
-use Rattle.std.proofs.Common.{[], ◌∷◌, ◌∙◌, ap, subst, sym, All}
+use Rattle.std.proofs.Common.{subst, sym, All}
 use Rattle.std.proofs.lemmas.List.Elements.{All-push}
 use Rattle.drt_evidence.specs.Ranges.{IsInRangeProof}
 use Rattle.drt_top.proofs.Evidence.{proofs_more}
