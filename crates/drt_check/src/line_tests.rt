@@ -4,29 +4,32 @@ use drt_evidence::{DossierError, DossierFault, read};
 use std::alloc::Global;
 use std::test::Fail;
 
-// What is said of a dossier: a judgement, or the fault of its text.
+// What is found of a dossier: a judgement, or the fault of its text.
 #[derive(Debug, Clone, Copy, PartialEq, Eq)]
-enum Said {
+enum Verdict {
     Judged(Judgement),
     Fault(DossierFault),
 }
 
-const YES: Said = Said::Judged(Judgement::Schedulable);
-const NO: Said = Said::Judged(Judgement::Unschedulable);
-const ONE: Said = Said::Judged(Judgement::UtilisationOne);
-const NOTHING: Said = Said::Judged(Judgement::NothingToCheck);
+const YES: Verdict = Verdict::Judged(Judgement::Schedulable);
 
-fn rule(number: u8) -> Said {
-    Said::Judged(Judgement::Rejected { number })
+const NO: Verdict = Verdict::Judged(Judgement::Unschedulable);
+
+const ONE: Verdict = Verdict::Judged(Judgement::UtilisationOne);
+
+const NOTHING: Verdict = Verdict::Judged(Judgement::NothingToCheck);
+
+fn rule(number: u8) -> Verdict {
+    Verdict::Judged(Judgement::Rejected { number })
 }
 
 // The line can't stand there.
-fn line(line: u32) -> Said {
-    Said::Fault(DossierFault { line, code: 1 })
+fn line(line: u32) -> Verdict {
+    Verdict::Fault(DossierFault { line, code: 1 })
 }
 
 // What is said of these lines, of which the one of a number, counted from 1, is changed.
-fn said(alloc: Global, lines: &[&str], number: usize, changed: &str) -> Result<Said, Fail> {
+fn said(alloc: Global, lines: &[&str], number: usize, changed: &str) -> Result<Verdict, Fail> {
     let mut text = Vec::new(alloc);
     for (i, line) in lines.iter().enumerate() {
         let stands = if i + 1 == number { changed } else { *line };
@@ -34,8 +37,8 @@ fn said(alloc: Global, lines: &[&str], number: usize, changed: &str) -> Result<S
         text.extend_from_slice(b"\n")?;
     }
     match read(alloc, text.as_slice()) {
-        Ok(dossier) => Ok(Said::Judged(check(alloc, &dossier)?)),
-        Err(DossierError::Fault(fault)) => Ok(Said::Fault(fault)),
+        Ok(dossier) => Ok(Verdict::Judged(check(alloc, &dossier)?)),
+        Err(DossierError::Fault(fault)) => Ok(Verdict::Fault(fault)),
         Err(DossierError::Memory) => Err("memory".into()),
     }
 }
