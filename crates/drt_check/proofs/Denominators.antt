@@ -1,5 +1,5 @@
 -- The scale, the rate and the constant of claims, one after another.
-use Rattle.std.proofs.Common.{◌≡◌, ℕ, zero, suc, ◌+◌, ◌*◌, ◌/◌, ◌<◌, ◌≤◌, ◌^◌, List, [], ◌∷◌, ◌++◌, All, length, get_or, take, refl, sym, ap, arith, ◌∙◌, subst}
+use Rattle.std.proofs.Common.{◌≡◌, ℕ, zero, suc, ◌+◌, ◌*◌, ◌/◌, ◌<◌, ◌≤◌, ◌^◌, List, [], ◌∷◌, ◌++◌, length, get_or, take, refl, sym, ap, arith, ◌∙◌, subst}
 use Rattle.std.specs.Prelude.{ℤ}
 use Rattle.std.specs.Int.{◌∣◌}
 use Rattle.std.proofs.lemmas.Nat.{mul-le}
@@ -7,7 +7,6 @@ use Rattle.std.proofs.lemmas.Nat.Gcd.{dvd_trans, dvd_antisymm, le_of_dvd}
 use Rattle.std.proofs.Math.Nat.{dvd-mul_left, dvd-mul_right, one-dvd, eq-zero_of_zero-dvd, div-le_self}
 use Rattle.std.proofs.lemmas.List.{take_more}
 use Rattle.drt_num.specs.Multiple.{IsLcm}
-use Rattle.drt_num.proofs.CommonMultiples.{lcm_exists}
 use Rattle.drt_model.specs.Digraph.{Digraph}
 use Rattle.drt_model.specs.Utilisation.{Fraction, EachDivides, IsScale, rate}
 use Rattle.drt_model.specs.Horizon.{extra, constant_of, above_zero}

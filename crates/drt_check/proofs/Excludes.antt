@@ -7,7 +7,7 @@ use Rattle.drt_model.specs.declared.tasks.Task.{Task}
 use Rattle.drt_evidence.specs.Statement.{Statement}
 use Rattle.drt_evidence.specs.Numbered.{Breaks, OfRatios, OfFronts, OfReleases, IsClaimedUtilisation, IsOfKnownKind}
 use Rattle.drt_evidence.specs.Numbered.{deadline_past_separation, other_policy, other_count_of_ratios, not_in_lowest_terms, other_count_of_potentials, rises_too_little, no_cycle, other_ratio_of_cycle, scale_too_fine, other_utilisation, horizon_too_far, front_out_of_order, opening_not_covered, extension_not_covered, no_room, not_legal, no_least_miss, unknown_kind}
-use Rattle.drt_evidence.specs.Rules.{AreRatioClaims, IsEdfYes, IsUtilisationOne, IsNo, KeepsRules, Accepts}
+use Rattle.drt_evidence.specs.Rules.{AreRatioClaims, IsEdfYes, IsNo, KeepsRules, Accepts}
 use Rattle.drt_evidence.specs.declared.evidence.Evidence.{Evidence}
 use Rattle.drt_evidence.specs.declared.evidence.Evidence.TheVariants.{EdfYes, EdfNo, UtilisationOne, FixedYes, FixedNo, Undecided}
 use Rattle.drt_evidence.specs.declared.evidence.FrontEntry.{FrontEntry}

@@ -1,5 +1,5 @@
 -- What is found of a statement, rule by rule.
-use Rattle.std.proofs.Common.{◌≡◌, ℕ, ◌+◌, ◌<◌, ◌≤◌, ◌^◌, List, length, Option, Some, None, Result, Ok, Err, IfOk, MatchOption, refl, sym, ap, arith, subst, ◌∙◌}
+use Rattle.std.proofs.Common.{◌≡◌, ℕ, ◌<◌, ◌≤◌, ◌^◌, List, length, Option, Some, None, Result, Ok, Err, IfOk, MatchOption, sym, ap, arith, subst, ◌∙◌}
 use Rattle.std.specs.Prelude.{◌↔◌}
 use Rattle.std.proofs.lemmas.List.{length-map}
 use Rattle.drt_model.specs.Constrained.{AreConstrained}
@@ -18,7 +18,7 @@ use Rattle.drt_evidence.specs.Fronts.{IsOrdered, HasOpenings, IsClosedFront, Hav
 use Rattle.drt_evidence.specs.Numbered.{Breaks, BreaksFirst, OfRatios, OfFronts, OfReleases, IsClaimedUtilisation, IsNear, AreOrdered, HaveOpenings, AreClosedFronts}
 use Rattle.drt_evidence.specs.Numbered.{deadline_past_separation, other_policy, other_count_of_ratios, not_in_lowest_terms, other_count_of_potentials, no_cycle, other_ratio_of_cycle, scale_too_fine, other_utilisation, horizon_too_far, front_out_of_order, opening_not_covered, extension_not_covered, no_room, not_legal, no_least_miss, unknown_kind}
 use Rattle.drt_evidence.specs.Numbered as numbered
-use Rattle.drt_evidence.specs.Rules.{IsOfPolicy, AreRatioClaims, IsEdfYes, IsUtilisationOne, IsNo}
+use Rattle.drt_evidence.specs.Rules.{IsOfPolicy, AreRatioClaims, IsEdfYes}
 use Rattle.drt_evidence.specs.declared.evidence.FrontEntry.{FrontEntry}
 use Rattle.drt_evidence.specs.declared.evidence.ProofClaim.{ProofClaim}
 use Rattle.drt_evidence.specs.declared.evidence.RatioClaim.{RatioClaim}

@@ -1,5 +1,5 @@
 -- Separations and gaps.
-use Rattle.std.proofs.Common.{◌≡◌, ℕ, ◌≤◌, [], Some, None, refl, sym, ap, arith, ◌∙◌}
+use Rattle.std.proofs.Common.{◌≡◌, ℕ, ◌≤◌, [], Some, None, refl, sym, ap, arith}
 use Rattle.std.proofs.lemmas.List.{get_or_past}
 use Rattle.drt_model.specs.Digraph.{Digraph, IsSound, vertex_count, out_edges, no_vertex}
 use Rattle.drt_model.specs.Walk.{wcet, sep_in, sep, or_zero, gap, IsEdge}

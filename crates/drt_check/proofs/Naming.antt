@@ -7,7 +7,7 @@ use Rattle.drt_model.specs.declared.jobs.Job.{Job}
 use Rattle.drt_model.specs.declared.jobs.Miss.{Miss}
 use Rattle.drt_model.specs.declared.jobs.Policy.{Policy}
 use Rattle.drt_model.specs.declared.jobs.Release.{Release}
-use Rattle.drt_model.specs.Trace.{job_at, done, Misses}
+use Rattle.drt_model.specs.Trace.{job_at, done}
 use Rattle.drt_model.specs.Misses.{index_of, miss_of, IsJob, IsLeastMiss}
 use Rattle.drt_model.specs.Schedulable.{deadline_of, job_of, jobs_of}
 use Rattle.drt_model.proofs.JobLemmas.{length-jobs_of, job_at-jobs_of}

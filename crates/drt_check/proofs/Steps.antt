@@ -8,7 +8,7 @@ use Rattle.drt_model.specs.Legal.{IsLegal}
 use Rattle.drt_model.specs.Misses.{IsLeastMiss}
 use Rattle.drt_model.specs.Schedulable.{jobs_of}
 use Rattle.drt_evidence.specs.Statement.{Statement}
-use Rattle.drt_evidence.specs.Numbered.{Breaks, BreaksFirst, OfRatios, OfFronts, OfReleases, IsClaimedUtilisation, IsOfKnownKind, IsNear, AreOrdered, HaveOpenings, AreClosedFronts}
+use Rattle.drt_evidence.specs.Numbered.{Breaks, BreaksFirst, OfRatios, OfFronts, OfReleases, IsClaimedUtilisation, IsNear, AreOrdered, HaveOpenings, AreClosedFronts}
 use Rattle.drt_evidence.specs.Numbered.{deadline_past_separation, other_policy, other_count_of_ratios, not_in_lowest_terms, other_count_of_potentials, rises_too_little, no_cycle, other_ratio_of_cycle, scale_too_fine, other_utilisation, horizon_too_far, front_out_of_order, opening_not_covered, extension_not_covered, no_room, not_legal, no_least_miss, unknown_kind}
 use Rattle.drt_evidence.specs.Claims.{graphs_of, IsClaimPerTask, AreLowest, HavePotentials, HaveFittingPotentials, HaveClosedCycles, HaveTightCycles, IsFine}
 use Rattle.drt_evidence.specs.Fronts.{HaveRoom}

@@ -1,5 +1,5 @@
 -- What the checker's judgement of a dossier says.
-use Rattle.std.specs.Prelude.{◌≡◌, ℕ, List}
+use Rattle.std.specs.Prelude.{◌≡◌}
 use Rattle.drt_model.specs.Schedulable.{Schedulable}
 use Rattle.drt_evidence.specs.Statement.{Statement}
 use Rattle.drt_evidence.specs.Numbered.{BreaksFirst}

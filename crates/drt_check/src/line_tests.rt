@@ -36,6 +36,9 @@ fn said(alloc: Global, lines: &[&str], number: usize, changed: &str) -> Result<V
         text.extend_from_slice(stands.as_bytes())?;
         text.extend_from_slice(b"\n")?;
     }
+    if text.len() > 1_073_741_824 {
+        return Err("more bytes than a dossier has".into());
+    }
     match read(alloc, text.as_slice()) {
         Ok(dossier) => Ok(Verdict::Judged(check(alloc, &dossier)?)),
         Err(DossierError::Fault(fault)) => Ok(Verdict::Fault(fault)),

@@ -2,7 +2,6 @@ use Rattle.std.proofs.Common.{◌≡◌, ap}
 use Rattle.drt_model.specs.Limits.{IsTaskSet}
 use Rattle.drt_evidence.specs.Statement.{Statement}
 use Rattle.drt_evidence.specs.Ranges.{IsInRange}
-use Rattle.drt_evidence.specs.Reading.{IsStated}
 use Rattle.drt_evidence.specs.Rules.{Accepts}
 use Rattle.drt_check.specs.Judging.{claimed}
 use Rattle.drt_check.proofs.checking.check.Goals as goal

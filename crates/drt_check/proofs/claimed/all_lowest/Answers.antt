@@ -1,6 +1,5 @@
-use Rattle.std.proofs.Common.{◌≡◌, true, false, arith, refl}
+use Rattle.std.proofs.Common.{arith, refl}
 use Rattle.std.specs.Int.{IsGcd}
-use Rattle.drt_evidence.specs.declared.evidence.RatioClaim.{RatioClaim}
 use Rattle.drt_check.proofs.Lists.{all_more, all_at}
 use Rattle.drt_check.proofs.claimed.all_lowest.Goals as goal
 

@@ -1,7 +1,7 @@
-use Rattle.std.proofs.Common.{◌≡◌, true, false, refl, length, arith}
+use Rattle.std.proofs.Common.{◌≡◌, length, arith}
 use Rattle.drt_check.proofs.claimed.first_misfit.Goals as goal
 use Rattle.drt_check.specs.Claimed.{other_count, not_lowest, not_counted, rises_too_little, not_closed, not_tight}
-use Rattle.drt_evidence.specs.Claims.{AreLowest, HavePotentials, HaveFittingPotentials, HaveClosedCycles, HaveTightCycles}
+use Rattle.drt_evidence.specs.Claims.{AreLowest, HavePotentials, HaveFittingPotentials, HaveClosedCycles}
 
 pub returns-then-ratios-count : goal.returns-then-ratios-count
 returns-then-ratios-count c = other_count (λ e. (let t = c.if-ratios-count.true in let n = c.count.ensures.count in omega arith))

@@ -1,4 +1,3 @@
-use Rattle.std.proofs.Common.{◌≡◌, ℕ, ◌*◌, ◌<◌, length}
 use Rattle.std.specs.Prelude.{◌↔◌, IsTrue}
 use Rattle.drt_check.specs.Claimed.{AllowAll}
 use Rattle.drt_check.proofs.Allowed.{fits_allow, allow_fits}

@@ -1,4 +1,3 @@
-use Rattle.std.proofs.Common.{◌≡◌, refl}
 use Rattle.drt_check.proofs.Naming.{least_named}
 use Rattle.drt_model.specs.Schedulable.{jobs_of}
 use Rattle.drt_check.proofs.releases.is_least_miss.Goals as goal

@@ -1,5 +1,4 @@
-use Rattle.std.proofs.Common.{◌≡◌, ℕ, Some, refl, subst}
-use Rattle.drt_model.specs.Misses.{IsJob}
+use Rattle.std.proofs.Common.{Some, subst}
 use Rattle.drt_replay.specs.Board.{IsFinishSoFar}
 use Rattle.drt_check.proofs.Naming.{finished_not_least}
 use Rattle.drt_check.proofs.releases.is_least_now.Goals as goal

@@ -1,7 +1,4 @@
-use Rattle.std.proofs.Common.{◌≡◌, true, false, arith, subst}
 use Rattle.drt_model.specs.Legal.{IsLegal}
-use Rattle.drt_model.specs.Misses.{IsLeastMiss}
-use Rattle.drt_model.specs.Schedulable.{jobs_of}
 use Rattle.drt_check.proofs.Found.{edf_no_kept, fixed_no_kept, edf_no_releases, fixed_no_releases, legal_first, miss_first}
 use Rattle.drt_check.proofs.ruling.first_of_no.Goals as goal
 

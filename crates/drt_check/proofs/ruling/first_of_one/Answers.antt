@@ -1,6 +1,5 @@
-use Rattle.std.proofs.Common.{◌≡◌, ◌≤◌, ◌^◌, arith, subst}
-use Rattle.drt_evidence.specs.Claims.{fractions, IsFine, IsOne}
-use Rattle.drt_evidence.specs.Numbered.{IsClaimedUtilisation}
+use Rattle.std.proofs.Common.{arith, subst}
+use Rattle.drt_evidence.specs.Claims.{IsFine, IsOne}
 use Rattle.drt_check.specs.Claimed.{AreFitting, IsFirstMisfit}
 use Rattle.drt_check.proofs.Found.{one_ratios, misfit_first, scale_first, utilisation_first, not_one}
 use Rattle.drt_check.proofs.ruling.first_of_one.Goals as goal

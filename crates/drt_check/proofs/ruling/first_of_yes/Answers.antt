@@ -1,4 +1,4 @@
-use Rattle.std.proofs.Common.{◌≡◌, ◌<◌, ◌≤◌, ◌^◌, arith, subst, Option, MatchOption}
+use Rattle.std.proofs.Common.{◌<◌, ◌≤◌, ◌^◌, arith, subst, MatchOption}
 use Rattle.drt_model.specs.Utilisation.{rate}
 use Rattle.drt_evidence.specs.Claims.{graphs_of, fractions, IsFine, IsBelowOne, IsHorizon}
 use Rattle.drt_evidence.specs.Numbered.{IsClaimedUtilisation}

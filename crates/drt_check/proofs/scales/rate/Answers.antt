@@ -1,4 +1,4 @@
-use Rattle.std.proofs.Common.{◌≡◌, ◌<◌, length, arith}
+use Rattle.std.proofs.Common.{◌<◌, length, arith}
 use Rattle.std.proofs.lemmas.List.{drop_all}
 use Rattle.drt_evidence.specs.Ranges.{IsInRangeRatio}
 use Rattle.drt_check.proofs.Rests.{left_at}

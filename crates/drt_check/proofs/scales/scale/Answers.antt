@@ -1,4 +1,4 @@
-use Rattle.std.proofs.Common.{◌≡◌, ◌<◌, ◌+◌, [], ◌∷◌, ◌++◌, length, take, arith}
+use Rattle.std.proofs.Common.{◌<◌, ◌+◌, [], ◌∷◌, ◌++◌, length, take, arith}
 use Rattle.drt_model.specs.Utilisation.{IsScale}
 use Rattle.drt_num.specs.Multiple.{IsLcm}
 use Rattle.drt_evidence.specs.Claims.{fractions}
