@@ -16,6 +16,8 @@ mod drawn_tests;
 #[cfg(test)]
 mod ending;
 #[cfg(test)]
+mod ending_tests;
+#[cfg(test)]
 mod front_tests;
 mod fronts;
 mod kept;
