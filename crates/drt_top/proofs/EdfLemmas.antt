@@ -12,6 +12,7 @@ use Rattle.drt_graph.proofs.Soundness.{all_sound}
 use Rattle.drt_horizon.specs.declared.answers.Beyond.{Beyond}
 use Rattle.drt_horizon.specs.declared.answers.Beyond.TheVariants.{TooFine, TooFar}
 use Rattle.drt_evidence.specs.Claims.{graphs_of}
+use Rattle.drt_evidence.specs.Ranges.{IsInRange}
 use Rattle.drt_evidence.specs.Text.{text}
 use Rattle.drt_evidence.specs.declared.evidence.Evidence.{Evidence}
 use Rattle.drt_evidence.specs.declared.evidence.Evidence.TheVariants.{EdfYes, EdfNo, UtilisationOne, FixedYes, FixedNo, Undecided}
@@ -143,17 +144,17 @@ answer_quiet set budget status written trail (inr (inr (inl a))) other = a.2
 answer_quiet set budget status written trail (inr (inr (inr a))) other = absurd (other a.0)
 
 -- The answer of evidence.
-pub answer_is : (set : Contents) (budget : ℕ) (evidence : Evidence) → AreConstrained set.tasks → IsDone set.tasks evidence → IsPlanned set.tasks evidence → IsEdfAnswer set budget (evidence_status evidence) (text (under_edf set evidence)) trails.Nothing
-answer_is set budget (EdfYes ratios fronts) constrained done planned =
-    inl (refl, record { ratios = ratios; fronts = fronts; yes = done; other = planned; is = record { accepts = record { constrained = constrained; of_policy = refl; keeps = done.accepted }; text_is = refl } }, refl)
-answer_is set budget (EdfNo releases miss) constrained done planned =
-    inr (inl (refl, record { releases = releases; miss = miss; no = done; other = planned; is = record { accepts = record { constrained = constrained; of_policy = refl; keeps = done.accepted }; text_is = refl } }, refl))
-answer_is set budget (UtilisationOne ratios) constrained done planned =
-    inr (inr (inl (refl, record { ratios = ratios; one = done; is = record { accepts = record { constrained = constrained; of_policy = refl; keeps = done.accepted }; text_is = refl } }, refl)))
-answer_is set budget (FixedYes trees proofs) constrained done planned = absurd done
-answer_is set budget (FixedNo releases miss) constrained done planned = absurd done
-answer_is set budget Undecided constrained done planned = absurd done
+pub answer_is : (set : Contents) (budget : ℕ) (evidence : Evidence) → IsTaskSet set.version set.tasks → AreConstrained set.tasks → IsDone set.tasks evidence → IsPlanned set.tasks evidence → IsInRange evidence → IsEdfAnswer set budget (evidence_status evidence) (text (under_edf set evidence)) trails.Nothing
+answer_is set budget (EdfYes ratios fronts) limits constrained done planned range =
+    inl (refl, record { ratios = ratios; fronts = fronts; yes = done; other = planned; is = record { accepts = record { constrained = constrained; of_policy = refl; keeps = done.accepted }; is = record { stated = (limits, range); is = refl } } }, refl)
+answer_is set budget (EdfNo releases miss) limits constrained done planned range =
+    inr (inl (refl, record { releases = releases; miss = miss; no = done; other = planned; is = record { accepts = record { constrained = constrained; of_policy = refl; keeps = done.accepted }; is = record { stated = (limits, range); is = refl } } }, refl))
+answer_is set budget (UtilisationOne ratios) limits constrained done planned range =
+    inr (inr (inl (refl, record { ratios = ratios; one = done; is = record { accepts = record { constrained = constrained; of_policy = refl; keeps = done.accepted }; is = record { stated = (limits, range); is = refl } } }, refl)))
+answer_is set budget (FixedYes trees proofs) limits constrained done planned range = absurd done
+answer_is set budget (FixedNo releases miss) limits constrained done planned range = absurd done
+answer_is set budget Undecided limits constrained done planned range = absurd done
 
 -- The answer of a spent budget.
-pub undecided_is : (set : Contents) (budget : ℕ) (spent : EdfTrail) → IsUndecided set.tasks budget spent → IsEdfAnswer set budget 3 (text (under_edf set Undecided)) (trail_of spent)
-undecided_is set budget spent cause = inr (inr (inr (refl, record { spent = spent; cause = cause; trail_is = refl; text_is = refl })))
+pub undecided_is : (set : Contents) (budget : ℕ) (spent : EdfTrail) → IsTaskSet set.version set.tasks → IsUndecided set.tasks budget spent → IsEdfAnswer set budget 3 (text (under_edf set Undecided)) (trail_of spent)
+undecided_is set budget spent limits cause = inr (inr (inr (refl, record { spent = spent; cause = cause; trail_is = refl; is = record { stated = (limits, tt); is = refl } })))

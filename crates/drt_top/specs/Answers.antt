@@ -10,8 +10,9 @@ use Rattle.drt_model.specs.Legal.{IsLegal}
 use Rattle.drt_model.specs.Misses.{IsLeastMiss}
 use Rattle.drt_model.specs.Schedulable.{Schedulable, jobs_of}
 use Rattle.drt_busy.specs.OneTask.{whole_release}
+use Rattle.drt_evidence.specs.Reading.{IsTextOf}
 use Rattle.drt_evidence.specs.Rules.{Accepts}
-use Rattle.drt_top.specs.Dossier.{dossier, under_fixed, yes_evidence, no_evidence}
+use Rattle.drt_top.specs.Dossier.{under_fixed, yes_evidence, no_evidence}
 
 -- The set keeps the limits, and this is its only task.
 pub record IsOnlyTask (set : Contents) (task : Task) : Type 0 where
@@ -29,7 +30,7 @@ pub record IsYes (set : Contents) (text : List ℕ) : Type 0 where
   pub task : Task
   pub is : slice_get set.tasks 0 ≡ Some task
   pub fits : All Fits task.vertices
-  pub text_is : text ≡ dossier set (yes_evidence (map (λ v. v.wcet) task.vertices))
+  pub text_is : IsTextOf (under_fixed set (yes_evidence (map (λ v. v.wcet) task.vertices))) text
 
 -- The first vertex of these, in file order, that isn't done by its deadline where its task runs alone.
 pub record IsFirstLate (vertices : List Vertex) (v : ℕ) (x : Vertex) : Type 0 where
@@ -56,4 +57,4 @@ pub record IsNo (set : Contents) (text : List ℕ) : Type 0 where
   pub legal : IsLegal set.tasks (whole_release v vertex.wcet)
   pub misses : IsLeastMiss Fixed (jobs_of set.tasks (whole_release v vertex.wcet)) (named_miss vertex)
   pub accepts : Accepts (under_fixed set (no_evidence (whole_release v vertex.wcet) (named_miss vertex)))
-  pub text_is : text ≡ dossier set (no_evidence (whole_release v vertex.wcet) (named_miss vertex))
+  pub text_is : IsTextOf (under_fixed set (no_evidence (whole_release v vertex.wcet) (named_miss vertex))) text

@@ -13,7 +13,7 @@ use Rattle.drt_evidence.specs.declared.evidence.FrontEntry.{FrontEntry}
 use Rattle.drt_evidence.specs.declared.evidence.RatioClaim.{RatioClaim}
 use Rattle.drt_evidence.specs.Rules.{Accepts}
 use Rattle.drt_evidence.specs.Statement.{Statement}
-use Rattle.drt_evidence.specs.Text.{text}
+use Rattle.drt_evidence.specs.Reading.{IsTextOf}
 use Rattle.drt_edf.specs.Answers.{IsYes, IsMissed, IsOnlyOne, IsOther, IsUndecided, IsBeyond}
 use Rattle.drt_evidence.specs.Rates.{IsAtOne}
 use Rattle.drt_edf.specs.Spent.{IsEnough}
@@ -38,10 +38,11 @@ evidence_status (FixedYes trees proofs) = 3
 evidence_status (FixedNo releases miss) = 3
 evidence_status Undecided = 3
 
--- The text is a dossier of the set under EDF with this evidence, which keeps the rules of the checker.
+-- The text is that of a dossier of the set under EDF with this evidence, which keeps the rules of the checker. So `check` reads it as that
+-- dossier, and accepts it.
 pub record IsAcceptedText (set : Contents) (evidence : Evidence) (written : List ℕ) : Type 0 where
   pub accepts : Accepts (under_edf set evidence)
-  pub text_is : written ≡ text (under_edf set evidence)
+  pub is : IsTextOf (under_edf set evidence) written
 
 -- The text is a yes: the set is schedulable under EDF, and each front is exact.
 pub record IsEdfYesText (set : Contents) (written : List ℕ) : Type 0 where
@@ -75,7 +76,7 @@ pub record IsUndecidedText (set : Contents) (budget : ℕ) (written : List ℕ) 
   pub spent : EdfTrail
   pub cause : IsUndecided set.tasks budget spent
   pub trail_is : trail ≡ trail_of spent
-  pub text_is : written ≡ text (under_edf set Undecided)
+  pub is : IsTextOf (under_edf set Undecided) written
 
 -- A yes has the status 0, a no 1, a utilisation of one 2 and a spent budget 3, each with its text; only the last has a trail.
 abbrev pub IsEdfAnswer : Contents → ℕ → ℕ → List ℕ → Trail → Type 0

@@ -1,6 +1,9 @@
-use Rattle.std.proofs.Common.{inr, refl, ap, arith, rules}
+use Rattle.std.proofs.Common.{◌≡◌, inr, refl, ap, arith, rules, subst}
+use Rattle.drt_busy.specs.OneTask.{whole_release}
+use Rattle.drt_evidence.specs.Ranges.{IsInRange}
 use Rattle.drt_model.specs.declared.jobs.Policy.TheVariants.{Fixed}
-use Rattle.drt_top.specs.Dossier.{dossier}
+use Rattle.drt_top.specs.Dossier.{dossier, no_evidence}
+use Rattle.drt_top.specs.Answers.{named_miss}
 use Rattle.drt_top.proofs.Evidence.{one_in_range}
 use Rattle.drt_top.proofs.Late.{late_breaks}
 use Rattle.drt_top.proofs.answering.no.Goals as goal
@@ -13,6 +16,7 @@ pub returns : goal.returns
 returns c =
     let law = c.one_task_decides.ensures c.args.set.now.version c.args.set.now.tasks c.args.task.now Fixed c.requires.is_task.limits c.requires.constrained c.requires.is_task.one c.requires.is_task.is in
     let shown = c.too_long_misses.ensures c.args.set.now.version c.args.set.now.tasks c.args.task.now c.args.v c.args.vertex.now Fixed c.requires.is_task.limits c.requires.is_task.is c.requires.late.is c.requires.late.late in
+    let is : c.in_ok-evidence.evidence ≡ no_evidence (whole_release c.args.v c.args.vertex.now.wcet) (named_miss c.args.vertex.now) = search (rules, c.in_ok-evidence.ensures.is) in
     record {
       answer = inr (
         refl,
@@ -26,7 +30,10 @@ returns c =
           legal = shown.0;
           misses = shown.1;
           accepts = record { constrained = c.requires.constrained; of_policy = refl; keeps = record { legal = shown.0; misses = shown.1 } };
-          text_is = ap (dossier c.args.set.now) (search (rules, c.in_ok-evidence.ensures.is));
+          text_is = record {
+            stated = (c.requires.is_task.limits, subst IsInRange is c.in_ok-evidence.ensures.in_range);
+            is = ap (dossier c.args.set.now) is;
+          };
         },
       );
       in_range = c.in_ok-evidence.ensures.in_range;
