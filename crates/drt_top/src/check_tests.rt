@@ -142,14 +142,14 @@ fn a_dossier_cut_after_a_line_lacks_the_next(rt: HostRuntime) -> Result<(), Fail
     assert_eq!(rt; empty.fault, Fault::Dossier { line: 1, code: 2 });
     for (i, byte) in whole.iter().enumerate() {
         if *byte == b'\n' {
-            lines += 1;
+            lines = lines.saturating_add(1);
             let (judged, _) = performed(rt.alloc(), &["check"], &whole.as_slice()[..i + 1])?;
             if i + 1 < whole.len() {
                 assert_eq!(rt; judged.status, 10);
                 assert_eq!(rt;
                     judged.fault,
                     Fault::Dossier {
-                        line: lines + 1,
+                        line: lines.saturating_add(1),
                         code: 2
                     }
                 );
