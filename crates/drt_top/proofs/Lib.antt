@@ -1,4 +1,4 @@
-pub mod BadLemmas
+pub mod BadNumbers
 pub mod Completeness
 pub mod EdfLemmas
 pub mod Evidence

@@ -1,5 +1,5 @@
--- What the command says of plain lists, and of values out of range.
-use Rattle.std.proofs.Common.{◌≡◌, ◌<◌, ◌≤◌, ◌^◌, ℕ, List, [], ◌∷◌, ◌++◌, Some, None, true, false, codes, refl, arith, ap, length, lt-ltb, lit<, lit≤, ◌==◌}
+-- What the command says of plain lists.
+use Rattle.std.proofs.Common.{◌≡◌, ◌<◌, ◌≤◌, ◌^◌, ℕ, List, [], ◌∷◌, ◌++◌, Some, true, false, codes, refl, arith, ap, length, lt-ltb, lit<, lit≤, ◌==◌}
 use Rattle.std.specs.Char.{digit_value}
 use Rattle.std.proofs.lemmas.Bool.{le-leb, ne_eqb}
 use Rattle.std.specs.Str.Parse.{digits_value, without_leading_plus}
@@ -7,8 +7,7 @@ use Rattle.clap.proofs.OnLiterals.{clap_on_literals}
 use Rattle.clap.specs.ValueTests.{is_unsigned_in}
 use Rattle.drt_top.specs.Number.{number_in}
 use Rattle.drt_top.specs.Meaning.{meaning_of}
-use Rattle.drt_top.specs.Plain.{IsPlainNumber, BeginsPlain, Spells, apart, joined, PlainOptions, neither, workers, budget, workers_first, budget_first, IsPlain, plain_search, Search, for_edf, for_sp, search_word, search_meaning, plain_upgrade, plain_util, plain_check, GivesBadNumber, bad_workers, bad_budget, bad_either}
-use Rattle.drt_top.proofs.BadLemmas.{either_bad}
+use Rattle.drt_top.specs.Plain.{IsPlainNumber, BeginsPlain, Spells, apart, joined, PlainOptions, neither, workers, budget, workers_first, budget_first, IsPlain, plain_search, Search, for_edf, for_sp, search_word, search_meaning, plain_upgrade, plain_util, plain_check}
 use Rattle.drt_top.proofs.NumberLemmas.{digits_pass}
 use Rattle.drt_top.specs.declared.words.Meaning.{Meaning}
 use Rattle.drt_top.specs.declared.words.Meaning.TheVariants.{Upgrade, Util, Check}
@@ -90,22 +89,6 @@ module _ (program : List ℕ) where
   first_budget k front back a b m n r s joined apart = first_budget_joined_apart k a b m n r s
   first_budget k front back a b m n r s joined joined = first_budget_joined_joined k a b m n r s
 
-  bad_workers_mean : (k : Search) → (text : List ℕ) (words : List (List ℕ)) → is_unsigned_in 1 16 text ≡ false → BeginsPlain text
-      → Spells (codes "workers") text words → meaning_of (program ∷ search_word k ∷ words) ≡ None
-  unfolding clap_on_literals
-  bad_workers_mean for_edf text words bad p apart = rw (p.no_dashes, p.no_long, p.no_short, bad) refl
-  bad_workers_mean for_sp text words bad p apart = rw (p.no_dashes, p.no_long, p.no_short, bad) refl
-  bad_workers_mean for_edf text words bad p joined = rw bad refl
-  bad_workers_mean for_sp text words bad p joined = rw bad refl
-
-  bad_budget_mean : (k : Search) → (text : List ℕ) (words : List (List ℕ)) → is_unsigned_in 1 1000000 text ≡ false → BeginsPlain text
-      → Spells (codes "budget") text words → meaning_of (program ∷ search_word k ∷ words) ≡ None
-  unfolding clap_on_literals
-  bad_budget_mean for_edf text words bad p apart = rw (p.no_dashes, p.no_long, p.no_short, bad) refl
-  bad_budget_mean for_sp text words bad p apart = rw (p.no_dashes, p.no_long, p.no_short, bad) refl
-  bad_budget_mean for_edf text words bad p joined = rw bad refl
-  bad_budget_mean for_sp text words bad p joined = rw bad refl
-
 -- a plain number is what both readers find
 passes_of : (most n : ℕ) (text : List ℕ) → most < 2 ^ 64 → without_leading_plus text ≡ text → IsPlainNumber most text n → is_unsigned_in 1 most text ≡ true
 passes_of most n text fits e p =
@@ -165,8 +148,3 @@ plain_means words meaning (plain_search program command options m n o) = options
 plain_means words meaning (plain_upgrade program) = upgrade_means program
 plain_means words meaning (plain_util program) = util_means program
 plain_means words meaning (plain_check program) = check_means program
-
-pub bad_means : (words : List (List ℕ)) → GivesBadNumber words → meaning_of words ≡ None
-bad_means words (bad_workers command program text ws bad p s) = bad_workers_mean program command text ws bad p s
-bad_means words (bad_budget command program text ws bad p s) = bad_budget_mean program command text ws bad p s
-bad_means words (bad_either command program a b ws bad p q both) = either_bad program a b p q command ws bad both

@@ -1,5 +1,5 @@
 -- Plain lists of words, and lists that must be refused.
-use Rattle.std.specs.Prelude.{◌≡◌, ◌≢◌, ◌≤◌, ◌&&◌, ℕ, List, [], ◌∷◌, ◌++◌, codes, false, None, slice_index}
+use Rattle.std.specs.Prelude.{◌≡◌, ◌≢◌, ◌≤◌, ℕ, List, [], ◌∷◌, ◌++◌, codes, false, None, slice_index}
 use Rattle.std.specs.Str.{bytes_eq}
 use Rattle.std.specs.Str.Parse.{IsNumeral, digits_value}
 use Rattle.clap.specs.Lexer.{long_of, short_of}
@@ -58,16 +58,9 @@ pub record BeginsPlain (text : List ℕ) : Type 0 where
   pub no_long : long_of text ≡ None
   pub no_short : short_of text ≡ None
 
--- Both options with these texts as their values, in either order.
-pub data BothOptions (a b : List ℕ) : List (List ℕ) → Type 0 where
-  workers_then_budget : (front back : List (List ℕ)) → Spells (codes "workers") a front → Spells (codes "budget") b back → BothOptions a b (front ++ back)
-  budget_then_workers : (front back : List (List ℕ)) → Spells (codes "budget") b front → Spells (codes "workers") a back → BothOptions a b (front ++ back)
-
--- The list gives an option of a command that searches a value that is no number in its range, alone or beside the other option, whatever that one's value is.
+-- The list gives an option of a command that searches a value that is no number in its range, whatever stands before it and after it.
 pub data GivesBadNumber : List (List ℕ) → Type 0 where
-  bad_workers : (command : Search) (program text : List ℕ) (words : List (List ℕ)) → is_unsigned_in 1 16 text ≡ false → BeginsPlain text
-      → Spells (codes "workers") text words → GivesBadNumber (program ∷ search_word command ∷ words)
-  bad_budget : (command : Search) (program text : List ℕ) (words : List (List ℕ)) → is_unsigned_in 1 1000000 text ≡ false → BeginsPlain text
-      → Spells (codes "budget") text words → GivesBadNumber (program ∷ search_word command ∷ words)
-  bad_either : (command : Search) (program a b : List ℕ) (words : List (List ℕ)) → (is_unsigned_in 1 16 a && is_unsigned_in 1 1000000 b) ≡ false → BeginsPlain a → BeginsPlain b
-      → BothOptions a b words → GivesBadNumber (program ∷ search_word command ∷ words)
+  bad_workers : (command : Search) (program text : List ℕ) (front words back : List (List ℕ)) → is_unsigned_in 1 16 text ≡ false
+      → Spells (codes "workers") text words → GivesBadNumber (program ∷ search_word command ∷ (front ++ words ++ back))
+  bad_budget : (command : Search) (program text : List ℕ) (front words back : List (List ℕ)) → is_unsigned_in 1 1000000 text ≡ false
+      → Spells (codes "budget") text words → GivesBadNumber (program ∷ search_word command ∷ (front ++ words ++ back))

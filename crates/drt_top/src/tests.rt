@@ -182,6 +182,7 @@ fn words_out_of_range_are_refused(rt: HostRuntime) -> Result<(), Fail> {
         ["drt", "sp", "--workers=0"],
         ["drt", "sp", "--workers=17"],
         ["drt", "sp", "--budget=1000001"],
+        ["drt", "edf", "--workers=-1"],
         ["drt", "upgrade", "--workers=2"],
         ["drt", "help", "sp"],
     ] {

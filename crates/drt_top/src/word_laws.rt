@@ -25,12 +25,14 @@ pub fn unknown_command()
         → meaning_of (program ∷ text ∷ rest) ≡ None }
 {}
 
-/// A word whose first byte isn't `-` is no flag.
+/// The empty word is no flag, nor is one whose first byte isn't `-`.
 pub fn plain_words()
-    ensures { (d : ℕ) (ds : List ℕ) → (d == 45) ≡ false → BeginsPlain (d ∷ ds) }
+    ensures empty { BeginsPlain [] }
+    ensures first { (d : ℕ) (ds : List ℕ) → (d == 45) ≡ false → BeginsPlain (d ∷ ds) }
 {}
 
-/// A value that is no number in its range is refused.
+/// A list that gives an option of `edf` or `sp` a value that is no number in its range means nothing,
+/// whatever stands before it and after it.
 pub fn bad_numbers()
     ensures { (words : List (List ℕ)) → GivesBadNumber words → meaning_of words ≡ None }
 {}

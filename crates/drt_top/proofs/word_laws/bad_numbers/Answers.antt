@@ -1,4 +1,4 @@
-use Rattle.drt_top.proofs.PlainLemmas.{bad_means}
+use Rattle.drt_top.proofs.BadNumbers.{bad_means}
 use Rattle.drt_top.proofs.word_laws.bad_numbers.Goals as goal
 
 pub returns : goal.returns
