@@ -5,22 +5,9 @@ ghost use Rattle.drt_file.specs.Canonical.{written_line};
 ghost use Rattle.drt_evidence.specs.Fields.{behind};
 ghost use Rattle.drt_evidence.specs.Text.{count_line, list_line};
 
+use drt_file::push_line;
 use drt_model::Memory;
 use itoa::Buffer;
-
-// Adds a line of fields: parted by one space, with a LF behind the last.
-pub(crate) fn push_line(text: &mut Vec<u8>, words: &[&[u8]]) -> Result<(), Memory>
-    ensures { OnOk result (text.new.items ≡ text.old.items ++ written_line (map (λ w. w.now) words.now)) }
-{
-    for (i, word) in words.iter().enumerate() {
-        if i > 0 {
-            text.push(b' ')?;
-        }
-        text.extend_from_slice(word)?;
-    }
-    text.push(b'\n')?;
-    Ok(())
-}
 
 // Adds the line of a count: a keyword and how many follow.
 pub(crate) fn push_count(text: &mut Vec<u8>, word: &[u8], count: usize) -> Result<(), Memory>

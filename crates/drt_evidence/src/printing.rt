@@ -10,7 +10,7 @@ mod releases;
 mod trees;
 
 use crate::evidence::{Dossier, Evidence};
-use crate::lines::push_line;
+use drt_file::push_line;
 use drt_model::{Memory, Policy, Row};
 use fronts::push_fronts;
 use proofs::push_proofs;

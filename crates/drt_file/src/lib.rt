@@ -4,7 +4,7 @@
 //! on whole texts) or with the line and the code of its first fault (`HasFault`, by the table of
 //! codes in `specs/Faults.antt`), `print`, whose text is `canonical` of the set, `upgrade`, and
 //! `read_canonical`, which takes the canonical text at the front of a file, or says the first line with
-//! which no canonical text goes on (`specs/CanonicalPrefix.antt`). `laws` says how these fit: what is
+//! which no canonical text goes on (`specs/CanonicalPrefix.antt`). `push_line` adds one line of fields. `laws` says how these fit: what is
 //! printed is read back, and a text reads as one set at most. How a text is cut into lines and fields
 //! is in `cutting`, what single fields say in `words`.
 #![tactic(auto)]
@@ -34,6 +34,6 @@ pub mod words;
 
 pub use fault::{FileError, FileFault};
 pub use front::{Canonical, CanonicalError, cut_fed_line, read_canonical};
-pub use printing::print;
+pub use printing::{print, push_line};
 pub use reading::read;
 pub use versions::upgrade;

@@ -146,8 +146,11 @@ pub fn push_words(text: &mut Vec<u8>, words: &[&[u8]]) -> Result<(), Memory>
     Ok(())
 }
 
-// Adds a line of fields: parted by one space, with a LF behind the last.
-fn push_line(text: &mut Vec<u8>, words: &[&[u8]]) -> Result<(), Memory>
+/// Adds a line of fields: the bytes of each, one space (32) between two, and a LF (10) behind the last.
+///
+/// No field is looked at, so that one with a space or a LF in it reads as several. The error says that
+/// memory was refused; the text may then end within the line.
+pub fn push_line(text: &mut Vec<u8>, words: &[&[u8]]) -> Result<(), Memory>
     ensures { OnOk result (text.new.items ≡ text.old.items ++ written_line (map (λ w. w.now) words.now)) }
 {
     push_words(text, words)?;

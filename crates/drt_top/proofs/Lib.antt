@@ -4,7 +4,6 @@ pub mod EdfLemmas
 pub mod Evidence
 pub mod CheckLemmas
 pub mod Faults
-pub mod Joins
 pub mod Late
 pub mod NumberLemmas
 pub mod PlainLemmas

@@ -18,7 +18,6 @@ mod edf;
 #[cfg(test)]
 mod edf_tests;
 mod input;
-mod lines;
 mod making;
 pub mod notices;
 mod number;

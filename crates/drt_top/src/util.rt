@@ -5,9 +5,9 @@ ghost use Rattle.drt_model.specs.Digraph.{digraph_of};
 ghost use Rattle.drt_ratio.specs.SetRatios.{AreRatioProofs, AreSmall, fractions_of};
 ghost use Rattle.drt_top.specs.Util.{IsTooFine, IsUtilisationText, fraction_line, ratio_lines, util_lines};
 
-use crate::lines::push_line;
 use crate::outcome::{Fault, SCALE_TOO_FINE};
 use crate::stop::Stop;
+use drt_file::push_line;
 use drt_graph::Graphs;
 use drt_model::{Memory, Row, Task, TaskSet};
 use drt_num::Ratio;

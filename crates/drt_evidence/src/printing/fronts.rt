@@ -4,7 +4,8 @@ ghost use Rattle.drt_file.specs.Canonical.{written, written_line};
 ghost use Rattle.drt_evidence.specs.Text.{entry_line, front_block, front_lines};
 
 use crate::evidence::FrontEntry;
-use crate::lines::{push_count, push_line};
+use crate::lines::push_count;
+use drt_file::push_line;
 use drt_model::{Memory, Row};
 use itoa::Buffer;
 

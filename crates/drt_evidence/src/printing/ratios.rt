@@ -4,7 +4,8 @@ ghost use Rattle.drt_file.specs.Canonical.{written, written_line};
 ghost use Rattle.drt_evidence.specs.Text.{ratio_block, ratio_line, ratio_lines};
 
 use crate::evidence::RatioClaim;
-use crate::lines::{push_count, push_line, push_numbers, push_signed};
+use crate::lines::{push_count, push_numbers, push_signed};
+use drt_file::push_line;
 use drt_model::Memory;
 use itoa::Buffer;
 

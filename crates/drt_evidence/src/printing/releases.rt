@@ -3,7 +3,8 @@ ghost use Rattle.std.specs.Prelude.{◌≡◌, ◌++◌, map, OnOk};
 ghost use Rattle.drt_file.specs.Canonical.{written, written_line};
 ghost use Rattle.drt_evidence.specs.Text.{miss_line, release_block, release_line};
 
-use crate::lines::{push_count, push_line};
+use crate::lines::push_count;
+use drt_file::push_line;
 use drt_model::{Memory, Miss, Release};
 use itoa::Buffer;
 

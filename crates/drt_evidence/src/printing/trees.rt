@@ -4,7 +4,8 @@ ghost use Rattle.drt_file.specs.Canonical.{written, written_line};
 ghost use Rattle.drt_evidence.specs.Text.{pair_line, tree_block, tree_lines, walk_line};
 
 use crate::evidence::{Pair, TreeClaim};
-use crate::lines::{push_count, push_line, push_numbers};
+use crate::lines::{push_count, push_numbers};
+use drt_file::push_line;
 use drt_model::{Memory, Row};
 use itoa::Buffer;
 
