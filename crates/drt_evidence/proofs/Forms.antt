@@ -8,12 +8,8 @@ use Rattle.std.proofs.lemmas.List.Elements.{All-nil, All-head, All-tail, All-pus
 use Rattle.drt_file.proofs.Digits.{decimal_field}
 use Rattle.drt_evidence.specs.Fields.{behind}
 use Rattle.drt_evidence.specs.Ranges.{IsNumber}
-use Rattle.drt_evidence.specs.LineForms.{HasNoSpace, IsForm, IsNoForm, IsLineOf, IsNoLine, spaced, pair_form, AreBoth, IsAny, itself, list_form, AreCounted}
+use Rattle.drt_evidence.specs.LineForms.{HasNoSpace, IsFieldForm, IsForm, IsNoForm, IsLineOf, IsNoLine, spaced, pair_form, AreBoth, IsAny, itself, list_form, AreCounted}
 use Rattle.drt_evidence.proofs.Spaces.{cut_same, cut_spaced, no_cut, fields_behind, spaced_behind, field_no_space}
-
--- The form of each value in range has no space.
-abbrev pub IsFieldForm : {A : Type 0} → (A → List ℕ) → (A → Type 0) → Type 0
-IsFieldForm {A} f P = (x : A) → P x → HasNoSpace (f x)
 
 -- A number has no space.
 pub decimal_no_space : (n : ℕ) → n < 18446744073709551616 → HasNoSpace (decimal n)

@@ -8,8 +8,8 @@ use Rattle.drt_file.proofs.Digits.{value_decimal, decimal_number}
 use Rattle.drt_evidence.specs.declared.evidence.Item.TheVariants.{Pass, Split}
 use Rattle.drt_evidence.specs.Ranges.{IsInRangeItem, IsInRangePotential}
 use Rattle.drt_evidence.specs.Text.{item_field}
-use Rattle.drt_evidence.proofs.Forms.{IsFieldForm, decimal_no_space}
-use Rattle.drt_evidence.specs.LineForms.{IsForm, IsNoForm}
+use Rattle.drt_evidence.proofs.Forms.{decimal_no_space}
+use Rattle.drt_evidence.specs.LineForms.{IsFieldForm, IsForm, IsNoForm}
 
 -- A field that is a number means it.
 pub number_meant : (field : List ℕ) (n y : ℕ) → n ≡ min (value field) 18446744073709551615 → y ≤ 18446744073709551615 → field ≡ decimal y → y ≡ n

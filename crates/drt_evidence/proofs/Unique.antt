@@ -16,7 +16,7 @@ use Rattle.drt_file.proofs.Feeds.{line_same}
 use Rattle.drt_file.proofs.Fronts.{one_front}
 use Rattle.drt_evidence.specs.Blocks.{AreNamed, IsOfKind, IsSet, close_block, counted, in_turn, named_block}
 use Rattle.drt_evidence.specs.Fields.{behind}
-use Rattle.drt_evidence.specs.LineForms.{AreBoth, AreCounted, IsAny, kind_line, IsInRangeWritten, kind_of, list_form, numbers_line, pair_form, policy_line, potentials_line, written_ratio_line}
+use Rattle.drt_evidence.specs.LineForms.{AreBoth, AreCounted, IsAny, IsFieldForm, kind_line, IsInRangeWritten, kind_of, list_form, numbers_line, pair_form, policy_line, potentials_line, written_ratio_line}
 use Rattle.drt_evidence.specs.Ranges.{IsInRange, IsInRangeEntry, IsInRangeFront, IsInRangeItem, IsInRangeMiss, IsInRangePair, IsInRangePotential, IsInRangeProof, IsInRangeRatio, IsInRangeRelease, IsInRangeTree, IsInRangeWalk, IsNumber, IsTick}
 use Rattle.drt_evidence.specs.Reading.{IsStated, IsTextOf}
 use Rattle.drt_evidence.specs.Statement.{Statement}
@@ -26,7 +26,7 @@ use Rattle.drt_evidence.specs.declared.evidence.Evidence.TheVariants.{Undecided}
 use Rattle.drt_evidence.specs.declared.evidence.Item.TheVariants.{Pass, Split}
 use Rattle.drt_evidence.specs.declared.reading.line_forms.KindOfEvidence.{KindOfEvidence}
 use Rattle.drt_evidence.specs.declared.reading.line_forms.KindOfEvidence.TheVariants as kinds
-use Rattle.drt_evidence.proofs.Forms.{IsFieldForm, IsShape, bounded_no_space, number_no_space}
+use Rattle.drt_evidence.proofs.Forms.{IsShape, bounded_no_space, number_no_space}
 use Rattle.drt_evidence.proofs.Leaves.{IsLine, is_plain, plain_word}
 use Rattle.drt_evidence.proofs.Numerals.{item_no_space, potential_no_space, range_above, range_below}
 use Rattle.drt_evidence.proofs.Parts.{One, Two}

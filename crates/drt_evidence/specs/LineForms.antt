@@ -39,6 +39,10 @@ IsAny x = Unit {0}
 abbrev pub HasNoSpace : List ℕ → Type 0
 HasNoSpace field = AllByRecursion (λ b. b ≢ 32) field
 
+-- The form of each value in range has no space.
+abbrev pub IsFieldForm : {A : Type 0} → (A → List ℕ) → (A → Type 0) → Type 0
+IsFieldForm {A} f P = (x : A) → P x → HasNoSpace (f x)
+
 -- What stands behind a field, with the space before it, where there is one.
 abbrev pub spaced : Option (List ℕ) → List ℕ
 spaced None = []

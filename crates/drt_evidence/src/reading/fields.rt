@@ -142,3 +142,46 @@ pub(crate) fn item_of(field: &[u8]) -> Option<Item>
         _ => None,
     }
 }
+
+// A value that is one field of a list.
+pub(crate) trait Field: Sized + Drop {
+    // The field of a value.
+    ghost field: { Self → List ℕ };
+
+    // The values that have a field.
+    ghost is_stated: { Self → Type 0 };
+
+    // The value whose field the bytes are.
+    fn of(bytes: &[u8]) -> Option<Self>
+        ensures { MatchOption result (IsNoForm field is_stated bytes.now) (IsForm field is_stated bytes.now) };
+}
+
+impl Field for u32 {
+    ghost field = { decimal };
+
+    ghost is_stated = { IsNumber };
+
+    fn of(bytes: &[u8]) -> Option<u32> {
+        index_of(bytes)
+    }
+}
+
+impl Field for i64 {
+    ghost field = { signed_decimal };
+
+    ghost is_stated = { IsInRangePotential };
+
+    fn of(bytes: &[u8]) -> Option<i64> {
+        potential_of(bytes)
+    }
+}
+
+impl Field for Item {
+    ghost field = { item_field };
+
+    ghost is_stated = { IsInRangeItem };
+
+    fn of(bytes: &[u8]) -> Option<Item> {
+        item_of(bytes)
+    }
+}

@@ -3,31 +3,29 @@
 //! Each function is given a line without its LF. A count that isn't that of the fields behind it is no line, and nothing is reserved
 //! by it.
 ghost use Rattle.std.specs.Prelude.{◌≡◌, decimal, map, option_map, All, IfOk, MatchOption};
-ghost use Rattle.std.specs.Fmt.{signed_decimal};
 ghost use Rattle.drt_evidence.specs.Fields.{behind};
-ghost use Rattle.drt_evidence.specs.LineForms.{AreBoth, AreCounted, IsForm, IsLineOf, IsNoForm, IsNoLine, list_form, numbers_line, pair_form, potentials_line, spaced};
+ghost use Rattle.drt_evidence.specs.LineForms.{AreBoth, AreCounted, IsFieldForm, IsForm, IsLineOf, IsNoForm, IsNoLine, list_form, numbers_line, pair_form, potentials_line, spaced};
 ghost use Rattle.drt_evidence.specs.Ranges.{IsInRangeItem, IsInRangePotential, IsInRangeProof, IsNumber};
 ghost use Rattle.drt_evidence.specs.Text.{item_field, proof_line};
 
 use crate::evidence::{Item, ProofClaim};
-use crate::reading::fields::{
-    behind_word, cut_field, index_before, index_of, item_of, potential_of,
-};
+use crate::reading::fields::{Field, behind_word, cut_field, index_before, index_of};
 use drt_model::{Memory, Row};
 use std::alloc::Global;
 
-// The numbers that the fields behind a space are.
-fn numbers_behind(alloc: Global, rest: Option<&[u8]>) -> Result<Option<Vec<u32>>, Memory>
+// The values that the fields behind a space are.
+fn values_behind<F: Field>(alloc: Global, rest: Option<&[u8]>) -> Result<Option<Vec<F>>, Memory>
+    requires { IsFieldForm F.field F.is_stated }
     ensures { IfOk result (λ found. MatchOption found
-        (IsNoForm (λ xs. behind (map decimal xs)) (All IsNumber) (spaced (option_map (λ r. r.now) rest.entry)))
-        (λ v. IsForm (λ xs. behind (map decimal xs)) (All IsNumber) (spaced (option_map (λ r. r.now) rest.entry)) v.items)) }
+        (IsNoForm (λ xs. behind (map F.field xs)) (All F.is_stated) (spaced (option_map (λ r. r.now) rest.entry)))
+        (λ v. IsForm (λ xs. behind (map F.field xs)) (All F.is_stated) (spaced (option_map (λ r. r.now) rest.entry)) v.items)) }
 {
     let mut found = Vec::new(alloc);
     let mut rest = rest;
     'fields: while let Some(bytes) = rest {
         let (field, others) = cut_field(bytes);
-        match index_of(field) {
-            Some(number) => found.push(number)?,
+        match F::of(field) {
+            Some(value) => found.push(value)?,
             None => return Ok(None),
         }
         rest = others;
@@ -35,18 +33,19 @@ fn numbers_behind(alloc: Global, rest: Option<&[u8]>) -> Result<Option<Vec<u32>>
     Ok(Some(found))
 }
 
-// The list of numbers that the bytes are: how many, and these.
-fn list_of_numbers(alloc: Global, bytes: &[u8]) -> Result<Option<Vec<u32>>, Memory>
+// The list that the bytes are: how many values, and these.
+fn list_of<F: Field>(alloc: Global, bytes: &[u8]) -> Result<Option<Vec<F>>, Memory>
+    requires { IsFieldForm F.field F.is_stated }
     ensures { IfOk result (λ found. MatchOption found
-        (IsNoForm (list_form decimal) (AreCounted IsNumber) bytes.now)
-        (λ v. IsForm (list_form decimal) (AreCounted IsNumber) bytes.now v.items)) }
+        (IsNoForm (list_form F.field) (AreCounted F.is_stated) bytes.now)
+        (λ v. IsForm (list_form F.field) (AreCounted F.is_stated) bytes.now v.items)) }
 {
     let (field, rest) = cut_field(bytes);
     let count = match index_of(field) {
         Some(count) => count,
         None => return Ok(None),
     };
-    let found = match numbers_behind(alloc, rest)? {
+    let found = match values_behind(alloc, rest)? {
         Some(found) => found,
         None => return Ok(None),
     };
@@ -70,50 +69,10 @@ pub(crate) fn numbers_of(
         Some(rest) => rest,
         None => return Ok(None),
     };
-    match list_of_numbers(alloc, rest)? {
+    match list_of(alloc, rest)? {
         Some(found) => Ok(Some(Row::from_vec(found))),
         None => Ok(None),
     }
-}
-
-// The potentials that the fields behind a space are.
-fn potentials_behind(alloc: Global, rest: Option<&[u8]>) -> Result<Option<Vec<i64>>, Memory>
-    ensures { IfOk result (λ found. MatchOption found
-        (IsNoForm (λ xs. behind (map signed_decimal xs)) (All IsInRangePotential) (spaced (option_map (λ r. r.now) rest.entry)))
-        (λ v. IsForm (λ xs. behind (map signed_decimal xs)) (All IsInRangePotential) (spaced (option_map (λ r. r.now) rest.entry)) v.items)) }
-{
-    let mut found = Vec::new(alloc);
-    let mut rest = rest;
-    'fields: while let Some(bytes) = rest {
-        let (field, others) = cut_field(bytes);
-        match potential_of(field) {
-            Some(height) => found.push(height)?,
-            None => return Ok(None),
-        }
-        rest = others;
-    }
-    Ok(Some(found))
-}
-
-// The list of potentials that the bytes are: how many, and these.
-fn list_of_potentials(alloc: Global, bytes: &[u8]) -> Result<Option<Vec<i64>>, Memory>
-    ensures { IfOk result (λ found. MatchOption found
-        (IsNoForm (list_form signed_decimal) (AreCounted IsInRangePotential) bytes.now)
-        (λ v. IsForm (list_form signed_decimal) (AreCounted IsInRangePotential) bytes.now v.items)) }
-{
-    let (field, rest) = cut_field(bytes);
-    let count = match index_of(field) {
-        Some(count) => count,
-        None => return Ok(None),
-    };
-    let found = match potentials_behind(alloc, rest)? {
-        Some(found) => found,
-        None => return Ok(None),
-    };
-    if found.len() != count as usize {
-        return Ok(None);
-    }
-    Ok(Some(found))
 }
 
 // The potentials that the line says.
@@ -126,50 +85,10 @@ pub(crate) fn potentials_of(alloc: Global, line: &[u8]) -> Result<Option<Row<i64
         Some(rest) => rest,
         None => return Ok(None),
     };
-    match list_of_potentials(alloc, rest)? {
+    match list_of(alloc, rest)? {
         Some(found) => Ok(Some(Row::from_vec(found))),
         None => Ok(None),
     }
-}
-
-// The items that the fields behind a space are.
-fn items_behind(alloc: Global, rest: Option<&[u8]>) -> Result<Option<Vec<Item>>, Memory>
-    ensures { IfOk result (λ found. MatchOption found
-        (IsNoForm (λ xs. behind (map item_field xs)) (All IsInRangeItem) (spaced (option_map (λ r. r.now) rest.entry)))
-        (λ v. IsForm (λ xs. behind (map item_field xs)) (All IsInRangeItem) (spaced (option_map (λ r. r.now) rest.entry)) v.items)) }
-{
-    let mut found = Vec::new(alloc);
-    let mut rest = rest;
-    'fields: while let Some(bytes) = rest {
-        let (field, others) = cut_field(bytes);
-        match item_of(field) {
-            Some(item) => found.push(item)?,
-            None => return Ok(None),
-        }
-        rest = others;
-    }
-    Ok(Some(found))
-}
-
-// The list of items that the bytes are: how many, and these.
-fn list_of_items(alloc: Global, bytes: &[u8]) -> Result<Option<Vec<Item>>, Memory>
-    ensures { IfOk result (λ found. MatchOption found
-        (IsNoForm (list_form item_field) (AreCounted IsInRangeItem) bytes.now)
-        (λ v. IsForm (list_form item_field) (AreCounted IsInRangeItem) bytes.now v.items)) }
-{
-    let (field, rest) = cut_field(bytes);
-    let count = match index_of(field) {
-        Some(count) => count,
-        None => return Ok(None),
-    };
-    let items = match items_behind(alloc, rest)? {
-        Some(items) => items,
-        None => return Ok(None),
-    };
-    if items.len() != count as usize {
-        return Ok(None);
-    }
-    Ok(Some(items))
 }
 
 // The number of a vertex, and items.
@@ -182,7 +101,7 @@ fn vertex_and_items(alloc: Global, bytes: &[u8]) -> Result<Option<(u32, Vec<Item
         Some(parts) => parts,
         None => return Ok(None),
     };
-    match list_of_items(alloc, rest)? {
+    match list_of(alloc, rest)? {
         Some(items) => Ok(Some((vertex, items))),
         None => Ok(None),
     }

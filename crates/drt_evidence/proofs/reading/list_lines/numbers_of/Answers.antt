@@ -1,6 +1,9 @@
-use Rattle.drt_evidence.proofs.Forms.{line_is, line_other, line_broken}
+use Rattle.drt_evidence.proofs.Forms.{line_is, line_other, line_broken, number_no_space}
 use Rattle.drt_evidence.proofs.Shapes.{numbers_shape}
 use Rattle.drt_evidence.proofs.reading.list_lines.numbers_of.Goals as goal
+
+pub list_of-requires : goal.list_of-requires
+list_of-requires c = number_no_space
 
 pub returns-in-None : goal.returns-in-None
 returns-in-None c = line_other (numbers_shape c.args.word.now) c.args.line.now c.in-None.ensures

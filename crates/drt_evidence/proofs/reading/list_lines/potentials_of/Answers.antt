@@ -1,6 +1,10 @@
 use Rattle.drt_evidence.proofs.Forms.{line_is, line_other, line_broken}
+use Rattle.drt_evidence.proofs.Numerals.{potential_no_space}
 use Rattle.drt_evidence.proofs.Shapes.{potentials_shape}
 use Rattle.drt_evidence.proofs.reading.list_lines.potentials_of.Goals as goal
+
+pub list_of-requires : goal.list_of-requires
+list_of-requires c = potential_no_space
 
 pub returns-in-None : goal.returns-in-None
 returns-in-None c = line_other potentials_shape c.args.line.now c.in-None.ensures

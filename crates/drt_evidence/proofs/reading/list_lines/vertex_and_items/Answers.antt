@@ -3,7 +3,11 @@ use Rattle.drt_evidence.specs.LineForms.{AreCounted, list_form}
 use Rattle.drt_evidence.specs.Ranges.{IsInRangeItem, IsNumber}
 use Rattle.drt_evidence.specs.Text.{item_field}
 use Rattle.drt_evidence.proofs.Forms.{rest_is, rest_none, rest_broken}
+use Rattle.drt_evidence.proofs.Numerals.{item_no_space}
 use Rattle.drt_evidence.proofs.reading.list_lines.vertex_and_items.Goals as goal
+
+pub list_of-requires : goal.list_of-requires
+list_of-requires c = item_no_space
 
 pub returns-in-None : goal.returns-in-None
 returns-in-None c = rest_none decimal IsNumber (list_form item_field) (AreCounted IsInRangeItem) c.args.bytes.now c.in-None.ensures
