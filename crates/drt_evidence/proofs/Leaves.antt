@@ -1,6 +1,7 @@
 -- Blocks of one line.
 use Rattle.std.proofs.Common.{◌≡◌, ℕ, Bool, true, false, not, ◌&&◌, ◌==◌, List, [], ◌∷◌, ◌++◌, length, refl, sym, ap, subst, ◌∙◌, append_assoc, arith}
-use Rattle.std.specs.Prelude.{Result, Ok, Err, IfErr, IsErrAnd}
+use Rattle.std.specs.Bool.{then_some}
+use Rattle.std.specs.Prelude.{Option, Some, None, MatchOption, Result, Ok, Err, IfOk, IfErr, IsErrAnd, IsTrue, ◌↔◌}
 use Rattle.std.specs.List.{join_with_byte}
 use Rattle.drt_file.specs.Canonical.{written_line}
 use Rattle.drt_file.specs.Strict.{HasNoFeed}
@@ -29,7 +30,7 @@ lines_of : (words : List (List ℕ)) → HasNoFeed (join_with_byte 32 words) →
 unfolding written_line
 lines_of words none = one_line (join_with_byte 32 words) none
 
-pub line_read : {X : Type 0} (fields : X → List (List ℕ)) (In : X → Type 0) (rest line others : List ℕ) (x : X) → IsLine fields In → rest ≡ line ++ 10 ∷ others → HasNoFeed line
+line_read : {X : Type 0} (fields : X → List (List ℕ)) (In : X → Type 0) (rest line others : List ℕ) (x : X) → IsLine fields In → rest ≡ line ++ 10 ∷ others → HasNoFeed line
     → IsLineOf fields In line x → Reads (λ y. written_line (fields y)) In rest x others
 line_read fields In rest line others x form cut none l = record {
   is = l.in_range;
@@ -41,7 +42,7 @@ line_read fields In rest line others x form cut none l = record {
       l.only y isy (l.is ∙ same.0);
 }
 
-pub line_missing : {X : Type 0} (fields : X → List (List ℕ)) (In : X → Type 0) (rest : List ℕ) (e : Stop) → IsLine fields In → e ≡ stops.Fault (length rest) true → HasNoFeed rest
+line_missing : {X : Type 0} (fields : X → List (List ℕ)) (In : X → Type 0) (rest : List ℕ) (e : Stop) → IsLine fields In → e ≡ stops.Fault (length rest) true → HasNoFeed rest
     → IsStop (λ y. written_line (fields y)) In rest e
 line_missing fields In rest e form is none = record {
   at = λ left missing other.
@@ -61,7 +62,7 @@ line_missing fields In rest e form is none = record {
       };
 }
 
-pub line_refused : {X : Type 0} (fields : X → List (List ℕ)) (In : X → Type 0) (rest line others : List ℕ) (e : Stop) → IsLine fields In → e ≡ stops.Fault (length rest) false
+line_refused : {X : Type 0} (fields : X → List (List ℕ)) (In : X → Type 0) (rest line others : List ℕ) (e : Stop) → IsLine fields In → e ≡ stops.Fault (length rest) false
     → rest ≡ line ++ 10 ∷ others → HasNoFeed line → IsNoLine fields In line → IsStop (λ y. written_line (fields y)) In rest e
 line_refused {X} fields In rest line others e form is cut none denied = record {
   at = λ left missing other.
@@ -103,24 +104,42 @@ plain_word (b ∷ bs) is = go (b == 10) refl is (plain_word bs)
     go true e h on = absurd (cc)
     go false e h on = ((λ same. absurd (grind (arith, e, same))), on h)
 
--- A line that is the only one of its kind.
-pub word_read : (words : List (List ℕ)) (rest line others : List ℕ) (u : Unit {0}) → HasNoFeed (join_with_byte 32 words)
-    → rest ≡ line ++ 10 ∷ others → HasNoFeed line → line ≡ join_with_byte 32 words → Reads (λ (v : Unit {0}). written_line words) (λ v. Unit {0}) rest u others
-word_read words rest line others u plain cut none is =
-    line_read (λ (v : Unit {0}). words) (λ v. Unit {0}) rest line others u (record { value = tt; value_in = tt; no_feed = λ v i. plain }) cut none
-    (record { in_range = tt; is = is; only = λ v i e. refl })
+-- A line that is the only one of its kind, and what a test for it says.
+pub word_kind : (words : List (List ℕ)) → HasNoFeed (join_with_byte 32 words) → IsLine (λ (u : Unit {0}). words) (λ u. Unit {0})
+word_kind words plain = record { value = tt; value_in = tt; no_feed = λ u i. plain }
 
-pub word_missing : (words : List (List ℕ)) (rest : List ℕ) (e : Stop) → HasNoFeed (join_with_byte 32 words) → e ≡ stops.Fault (length rest) true → HasNoFeed rest
-    → IsStop (λ (v : Unit {0}). written_line words) (λ v. Unit {0}) rest e
-word_missing words rest e plain is none =
-    line_missing (λ (v : Unit {0}). words) (λ v. Unit {0}) rest e (record { value = tt; value_in = tt; no_feed = λ v i. plain }) is none
+word_tested : (words : List (List ℕ)) (line : List ℕ) (t : Bool) → (IsTrue t ↔ (line ≡ join_with_byte 32 words))
+    → MatchOption (then_some t tt) (IsNoLine (λ (u : Unit {0}). words) (λ u. Unit {0}) line) (IsLineOf (λ (u : Unit {0}). words) (λ u. Unit {0}) line)
+word_tested words line true said = record { in_range = tt; is = said.0 refl; only = λ u i e. refl }
+word_tested words line false said = λ u i e. let wrong = said.1 e in cc
 
-pub word_refused : (words : List (List ℕ)) (rest line others : List ℕ) (e : Stop) → HasNoFeed (join_with_byte 32 words) → e ≡ stops.Fault (length rest) false
-    → rest ≡ line ++ 10 ∷ others → HasNoFeed line → (line ≡ join_with_byte 32 words → ⊥) → IsStop (λ (v : Unit {0}). written_line words) (λ v. Unit {0}) rest e
-word_refused words rest line others e plain is cut none denied =
-    line_refused (λ (v : Unit {0}). words) (λ v. Unit {0}) rest line others e (record { value = tt; value_in = tt; no_feed = λ v i. plain }) is cut none (λ v i e. denied e)
+pub word_said : (words : List (List ℕ)) (line : List ℕ) (t : Bool) (found : Option (Unit {0})) → (IsTrue t ↔ (line ≡ join_with_byte 32 words)) → found ≡ then_some t tt
+    → MatchOption found (IsNoLine (λ (u : Unit {0}). words) (λ u. Unit {0}) line) (IsLineOf (λ (u : Unit {0}). words) (λ u. Unit {0}) line)
+word_said words line t found said is = rw is (word_tested words line t said)
 
 -- An error that is passed on.
-pub passed : {T E : Type 0} (r : Result T E) (e : E) (P : E → Type 0) → IsErrAnd r (λ y. y ≡ e) → P e → IfErr r P
+passed : {T E : Type 0} (r : Result T E) (e : E) (P : E → Type 0) → IsErrAnd r (λ y. y ≡ e) → P e → IfErr r P
 passed (Ok x) e P is p = tt
 passed (Err y) e P is p = subst P (sym is) p
+
+-- The first line is missing.
+pub none_taken : {X T : Type 0} {fields : X → List (List ℕ)} {In : X → Type 0} → IsLine fields In → (rest : List ℕ) (e : Stop) (r : Result T Stop) → IsErrAnd r (λ y. y ≡ e)
+    → (e ≡ stops.Fault (length rest) true) × HasNoFeed rest → IfErr r (IsStop (λ y. written_line (fields y)) In rest)
+none_taken {X} {T} {fields} {In} kind rest e r is missing =
+    passed r e (IsStop (λ y. written_line (fields y)) In rest) is (line_missing fields In rest e kind missing.0 missing.1)
+
+-- What is found in the first line is taken, or the line is refused.
+pub line_taken : {X : Type 0} {fields : X → List (List ℕ)} {In : X → Type 0} → IsLine fields In → (rest line others now : List ℕ) (found : Option X) (r : Result X Stop)
+    → (rest ≡ line ++ 10 ∷ others) × HasNoFeed line → MatchOption found (IsNoLine fields In line) (IsLineOf fields In line)
+    → IfOk r (λ x. (found ≡ Some x) × (now ≡ others)) → IfOk r (λ x. Reads (λ y. written_line (fields y)) In rest x now)
+line_taken {X} {fields} {In} kind rest line others now found (Ok x) cut says is =
+    subst (λ t. Reads (λ y. written_line (fields y)) In rest x t) (sym is.1)
+    (line_read fields In rest line others x kind cut.0 cut.1 (subst (λ o. MatchOption o (IsNoLine fields In line) (IsLineOf fields In line)) is.0 says))
+line_taken {X} {fields} {In} kind rest line others now found (Err e) cut says is = tt
+
+pub line_left : {X : Type 0} {fields : X → List (List ℕ)} {In : X → Type 0} → IsLine fields In → (rest line others : List ℕ) (found : Option X) (r : Result X Stop)
+    → (rest ≡ line ++ 10 ∷ others) × HasNoFeed line → MatchOption found (IsNoLine fields In line) (IsLineOf fields In line)
+    → IfErr r (λ e. (found ≡ None) × (e ≡ stops.Fault (length rest) false)) → IfErr r (IsStop (λ y. written_line (fields y)) In rest)
+line_left {X} {fields} {In} kind rest line others found (Ok x) cut says is = tt
+line_left {X} {fields} {In} kind rest line others found (Err e) cut says is =
+    line_refused fields In rest line others e kind is.1 cut.0 cut.1 (subst (λ o. MatchOption o (IsNoLine fields In line) (IsLineOf fields In line)) is.0 says)

@@ -1,6 +1,6 @@
 -- The kinds of lines: some value has a line of each, and no line has a LF in it.
-use Rattle.std.proofs.Common.{◌≢◌, ℕ, ◌≤◌, List, [], ◌∷◌, All, length, map, arith, lit≤}
-use Rattle.std.specs.Prelude.{decimal}
+use Rattle.std.proofs.Common.{◌≢◌, ℕ, ◌≤◌, List, [], ◌∷◌, All, length, map, refl, arith, lit≤}
+use Rattle.std.specs.Prelude.{codes, decimal}
 use Rattle.std.specs.List.{AllByRecursion, join_with_byte}
 use Rattle.std.proofs.lemmas.List.{length-map}
 use Rattle.std.proofs.lemmas.List.Elements.{All-nil, recursion_from_All}
@@ -12,9 +12,9 @@ use Rattle.drt_file.proofs.Snoc.{every_map, every_weaker}
 use Rattle.drt_evidence.specs.LineForms.{AreCounted, IsAny, IsInRangeWritten, kind_line, numbers_line, policy_line, potentials_line, written_ratio_line}
 use Rattle.drt_evidence.specs.Ranges.{IsInRangeEntry, IsInRangeMiss, IsInRangePair, IsInRangePotential, IsInRangeProof, IsInRangeRelease, IsNumber}
 use Rattle.drt_evidence.specs.Some.{some_entry, some_pair, some_proof, some_release, some_walk}
-use Rattle.drt_evidence.specs.Text.{count_line, entry_line, miss_line, pair_line, proof_line, release_line}
+use Rattle.drt_evidence.specs.Text.{count_line, entry_line, miss_line, pair_line, proof_line, release_line, word_line}
 use Rattle.drt_evidence.specs.declared.reading.line_forms.KindOfEvidence.TheVariants as kinds
-use Rattle.drt_evidence.proofs.Leaves.{IsLine}
+use Rattle.drt_evidence.proofs.Leaves.{IsLine, plain_word, word_kind}
 use Rattle.drt_evidence.proofs.LineFeeds.{entry_fields, kind_fields, miss_fields, no_feed, pair_fields, policy_fields, potentials_fields, proof_fields, ratio_fields, release_fields}
 
 high_plain : (word : List ℕ) → AllByRecursion (λ b. 33 ≤ b) word → HasNoFeed word
@@ -49,6 +49,12 @@ numbers_kind word none = record {
       fields_plain (numbers_line word xs)
       (none, (number_plain (length (map decimal xs)) (let e = length-map xs decimal in let n = is.1 in omega (arith, e, n)), numbers_plain xs is.0));
 }
+
+pub first_kind : IsLine (λ (u : Unit {0}). codes "drt-dossier" ∷ codes "1" ∷ []) IsAny
+first_kind = word_kind (codes "drt-dossier" ∷ codes "1" ∷ []) (plain_word (codes "drt-dossier 1") refl)
+
+pub last_kind : IsLine (λ (u : Unit {0}). word_line (codes "close")) IsAny
+last_kind = word_kind (word_line (codes "close")) (plain_word (codes "close") refl)
 
 pub policy_kind : IsLine policy_line IsAny
 policy_kind = record { value = policies.Edf; value_in = tt; no_feed = λ p is. no_feed (policy_line p) (policy_fields p) }

@@ -1,10 +1,11 @@
 //! Blocks of one line.
 //!
 //! Each function takes the first line of a text, where it says a value, and answers with the value.
-ghost use Rattle.std.specs.Prelude.{ℕ, List, IfOk, IfErr};
+ghost use Rattle.std.specs.Prelude.{◌≡◌, ℕ, List, Some, None, false, length, IfOk, IfErr};
 ghost use Rattle.drt_file.specs.Canonical.{written_line};
 ghost use Rattle.drt_file.specs.Strict.{HasNoFeed};
 ghost use Rattle.drt_evidence.specs.Blocks.{IsStop, Reads, close_block, first_block};
+ghost use Rattle.drt_evidence.specs.declared.reading.text.Stop.TheVariants.{Fault};
 ghost use Rattle.drt_evidence.specs.LineForms.{AreCounted, IsAny, IsInRangeWritten, kind_line, numbers_line, policy_line, potentials_line, written_ratio_line};
 ghost use Rattle.drt_evidence.specs.Ranges.{IsInRangeEntry, IsInRangeMiss, IsInRangePair, IsInRangePotential, IsInRangeProof, IsInRangeRelease, IsNumber};
 ghost use Rattle.drt_evidence.specs.Text.{count_line, entry_line, miss_line, pair_line, proof_line, release_line};
@@ -19,18 +20,27 @@ use crate::reading::text::{Stop, Text, first_line, refused};
 use drt_model::{Miss, Policy, Release, Row};
 use std::alloc::Global;
 
+// What was found in the first line of a text, which goes on with the others; or the refusal of that line, where nothing was found.
+fn taken<'a, T>(text: &mut Text<'a>, others: &'a [u8], found: Option<T>) -> Result<T, Stop>
+    ensures read { IfOk result (λ x. (found ≡ Some x) × (text.new.rest.now ≡ others.now)) }
+    ensures stops { IfErr result (λ e. (found ≡ None) × (e ≡ Fault (length text.old.rest.now) false)) }
+{
+    match found {
+        Some(found) => {
+            text.rest = others;
+            Ok(found)
+        }
+        None => Err(refused(text.rest)),
+    }
+}
+
 // The first line of a dossier.
 pub(crate) fn read_first(text: &mut Text) -> Result<(), Stop>
     ensures read { IfOk result (λ u. Reads first_block IsAny text.old.rest.now u text.new.rest.now) }
     ensures stops { IfErr result (IsStop first_block IsAny text.old.rest.now) }
 {
     let (line, others) = first_line(text.rest)?;
-    if is_first_line(line) {
-        text.rest = others;
-        Ok(())
-    } else {
-        Err(refused(text.rest))
-    }
+    taken(text, others, is_first_line(line).then_some(()))
 }
 
 // The last line of a dossier.
@@ -39,12 +49,7 @@ pub(crate) fn read_last(text: &mut Text) -> Result<(), Stop>
     ensures stops { IfErr result (IsStop close_block IsAny text.old.rest.now) }
 {
     let (line, others) = first_line(text.rest)?;
-    if is_last_line(line) {
-        text.rest = others;
-        Ok(())
-    } else {
-        Err(refused(text.rest))
-    }
+    taken(text, others, is_last_line(line).then_some(()))
 }
 
 // The line of a policy.
@@ -53,13 +58,7 @@ pub(crate) fn read_policy(text: &mut Text) -> Result<Policy, Stop>
     ensures stops { IfErr result (IsStop (λ y. written_line (policy_line y)) IsAny text.old.rest.now) }
 {
     let (line, others) = first_line(text.rest)?;
-    match policy_of(line) {
-        Some(found) => {
-            text.rest = others;
-            Ok(found)
-        }
-        None => Err(refused(text.rest)),
-    }
+    taken(text, others, policy_of(line))
 }
 
 // The line of a kind of evidence.
@@ -68,13 +67,7 @@ pub(crate) fn read_kind(text: &mut Text) -> Result<KindOfEvidence, Stop>
     ensures stops { IfErr result (IsStop (λ y. written_line (kind_line y)) IsAny text.old.rest.now) }
 {
     let (line, others) = first_line(text.rest)?;
-    match kind_of(line) {
-        Some(found) => {
-            text.rest = others;
-            Ok(found)
-        }
-        None => Err(refused(text.rest)),
-    }
+    taken(text, others, kind_of(line))
 }
 
 // The line of a count.
@@ -84,13 +77,7 @@ pub(crate) fn read_count(text: &mut Text, word: &[u8]) -> Result<u32, Stop>
     ensures stops { IfErr result (IsStop (λ y. written_line (count_line word.now y)) IsNumber text.old.rest.now) }
 {
     let (line, others) = first_line(text.rest)?;
-    match count_of(line, word) {
-        Some(found) => {
-            text.rest = others;
-            Ok(found)
-        }
-        None => Err(refused(text.rest)),
-    }
+    taken(text, others, count_of(line, word))
 }
 
 // The line of a numerator and a denominator.
@@ -99,13 +86,7 @@ pub(crate) fn read_ratio_line(text: &mut Text) -> Result<WrittenRatio, Stop>
     ensures stops { IfErr result (IsStop (λ y. written_line (written_ratio_line y)) IsInRangeWritten text.old.rest.now) }
 {
     let (line, others) = first_line(text.rest)?;
-    match ratio_of(line) {
-        Some(found) => {
-            text.rest = others;
-            Ok(found)
-        }
-        None => Err(refused(text.rest)),
-    }
+    taken(text, others, ratio_of(line))
 }
 
 // The line of a label of a front.
@@ -114,13 +95,7 @@ pub(crate) fn read_entry(text: &mut Text) -> Result<FrontEntry, Stop>
     ensures stops { IfErr result (IsStop (λ y. written_line (entry_line y)) IsInRangeEntry text.old.rest.now) }
 {
     let (line, others) = first_line(text.rest)?;
-    match entry_of(line) {
-        Some(found) => {
-            text.rest = others;
-            Ok(found)
-        }
-        None => Err(refused(text.rest)),
-    }
+    taken(text, others, entry_of(line))
 }
 
 // The line of a release.
@@ -129,13 +104,7 @@ pub(crate) fn read_release(text: &mut Text) -> Result<Release, Stop>
     ensures stops { IfErr result (IsStop (λ y. written_line (release_line y)) IsInRangeRelease text.old.rest.now) }
 {
     let (line, others) = first_line(text.rest)?;
-    match release_of(line) {
-        Some(found) => {
-            text.rest = others;
-            Ok(found)
-        }
-        None => Err(refused(text.rest)),
-    }
+    taken(text, others, release_of(line))
 }
 
 // The line of a miss.
@@ -144,13 +113,7 @@ pub(crate) fn read_miss(text: &mut Text) -> Result<Miss, Stop>
     ensures stops { IfErr result (IsStop (λ y. written_line (miss_line y)) IsInRangeMiss text.old.rest.now) }
 {
     let (line, others) = first_line(text.rest)?;
-    match miss_of(line) {
-        Some(found) => {
-            text.rest = others;
-            Ok(found)
-        }
-        None => Err(refused(text.rest)),
-    }
+    taken(text, others, miss_of(line))
 }
 
 // The line of a pair of a tree.
@@ -159,13 +122,7 @@ pub(crate) fn read_pair(text: &mut Text) -> Result<Pair, Stop>
     ensures stops { IfErr result (IsStop (λ y. written_line (pair_line y)) IsInRangePair text.old.rest.now) }
 {
     let (line, others) = first_line(text.rest)?;
-    match pair_of(line) {
-        Some(found) => {
-            text.rest = others;
-            Ok(found)
-        }
-        None => Err(refused(text.rest)),
-    }
+    taken(text, others, pair_of(line))
 }
 
 // The line of a list of numbers.
@@ -175,13 +132,8 @@ pub(crate) fn read_numbers(alloc: Global, text: &mut Text, word: &[u8]) -> Resul
     ensures stops { IfErr result (IsStop (λ y. written_line (numbers_line word.now y)) (AreCounted IsNumber) text.old.rest.now) }
 {
     let (line, others) = first_line(text.rest)?;
-    match numbers_of(alloc, line, word)? {
-        Some(found) => {
-            text.rest = others;
-            Ok(found)
-        }
-        None => Err(refused(text.rest)),
-    }
+    let found = numbers_of(alloc, line, word)?;
+    taken(text, others, found)
 }
 
 // The line of potentials.
@@ -190,13 +142,8 @@ pub(crate) fn read_potentials(alloc: Global, text: &mut Text) -> Result<Row<i64>
     ensures stops { IfErr result (IsStop (λ y. written_line (potentials_line y)) (AreCounted IsInRangePotential) text.old.rest.now) }
 {
     let (line, others) = first_line(text.rest)?;
-    match potentials_of(alloc, line)? {
-        Some(found) => {
-            text.rest = others;
-            Ok(found)
-        }
-        None => Err(refused(text.rest)),
-    }
+    let found = potentials_of(alloc, line)?;
+    taken(text, others, found)
 }
 
 // The line of a proof.
@@ -205,11 +152,6 @@ pub(crate) fn read_proof(alloc: Global, text: &mut Text) -> Result<ProofClaim, S
     ensures stops { IfErr result (IsStop (λ y. written_line (proof_line y)) IsInRangeProof text.old.rest.now) }
 {
     let (line, others) = first_line(text.rest)?;
-    match proof_of(alloc, line)? {
-        Some(found) => {
-            text.rest = others;
-            Ok(found)
-        }
-        None => Err(refused(text.rest)),
-    }
+    let found = proof_of(alloc, line)?;
+    taken(text, others, found)
 }

@@ -1,22 +1,15 @@
-use Rattle.drt_file.specs.Canonical.{written_line}
-use Rattle.drt_evidence.specs.Blocks.{IsStop}
-use Rattle.drt_evidence.specs.Ranges.{IsNumber}
-use Rattle.drt_evidence.specs.Text.{count_line}
-use Rattle.drt_evidence.proofs.Leaves.{line_read, line_missing, line_refused, passed}
+use Rattle.drt_evidence.proofs.Leaves.{line_left, line_taken, none_taken}
 use Rattle.drt_evidence.proofs.Plain.{count_kind}
 use Rattle.drt_evidence.proofs.reading.forms.read_count.Goals as goal
 
 pub returns-in_err-line-clause-stops : goal.returns-in_err-line-clause-stops
-returns-in_err-line-clause-stops c =
-    passed c.from_residual.result c.in_err-line.field-0.0 (IsStop (λ y. written_line (count_line c.args.word.now y)) IsNumber c.args.text.now.rest.now) c.from_residual.ensures.1
-    (line_missing (count_line c.args.word.now) IsNumber c.args.text.now.rest.now c.in_err-line.field-0.0 (count_kind c.args.word.now c.requires) c.in_err-line.ensures.0 c.in_err-line.ensures.1)
+returns-in_err-line-clause-stops c = none_taken (count_kind c.args.word.now c.requires) c.args.text.now.rest.now c.in_err-line.field-0.0 c.from_residual.result c.from_residual.ensures.1 c.in_err-line.ensures
 
-pub returns-in-None-clause-stops : goal.returns-in-None-clause-stops
-returns-in-None-clause-stops c =
-    line_refused (count_line c.args.word.now) IsNumber c.args.text.now.rest.now c.in_ok-line.line.now c.in_ok-line.others.now c.refused.result (count_kind c.args.word.now c.requires) c.refused.ensures
-    c.in_ok-line.ensures.0 c.in_ok-line.ensures.1 c.in-None.ensures
+pub returns-clause-read : goal.returns-clause-read
+returns-clause-read c =
+    line_taken (count_kind c.args.word.now c.requires) c.args.text.now.rest.now c.in_ok-line.line.now c.in_ok-line.others.now c.taken.new.text.rest.now c.count_of.result c.taken.result
+    c.in_ok-line.ensures c.count_of.ensures c.taken.ensures.read
 
-pub returns-in-Some-clause-read : goal.returns-in-Some-clause-read
-returns-in-Some-clause-read c =
-    line_read (count_line c.args.word.now) IsNumber c.args.text.now.rest.now c.in_ok-line.line.now c.in_ok-line.others.now c.in-Some.found (count_kind c.args.word.now c.requires)
-    c.in_ok-line.ensures.0 c.in_ok-line.ensures.1 c.in-Some.ensures
+pub returns-clause-stops : goal.returns-clause-stops
+returns-clause-stops c =
+    line_left (count_kind c.args.word.now c.requires) c.args.text.now.rest.now c.in_ok-line.line.now c.in_ok-line.others.now c.count_of.result c.taken.result c.in_ok-line.ensures c.count_of.ensures c.taken.ensures.stops

@@ -1,22 +1,15 @@
-use Rattle.drt_file.specs.Canonical.{written_line}
-use Rattle.drt_evidence.specs.Blocks.{IsStop}
-use Rattle.drt_evidence.specs.Ranges.{IsInRangePair}
-use Rattle.drt_evidence.specs.Text.{pair_line}
-use Rattle.drt_evidence.proofs.Leaves.{line_read, line_missing, line_refused, passed}
+use Rattle.drt_evidence.proofs.Leaves.{line_left, line_taken, none_taken}
 use Rattle.drt_evidence.proofs.Plain.{pair_kind}
 use Rattle.drt_evidence.proofs.reading.forms.read_pair.Goals as goal
 
 pub returns-in_err-line-clause-stops : goal.returns-in_err-line-clause-stops
-returns-in_err-line-clause-stops c =
-    passed c.from_residual.result c.in_err-line.field-0.0 (IsStop (λ y. written_line (pair_line y)) IsInRangePair c.args.text.now.rest.now) c.from_residual.ensures.1
-    (line_missing pair_line IsInRangePair c.args.text.now.rest.now c.in_err-line.field-0.0 pair_kind c.in_err-line.ensures.0 c.in_err-line.ensures.1)
+returns-in_err-line-clause-stops c = none_taken pair_kind c.args.text.now.rest.now c.in_err-line.field-0.0 c.from_residual.result c.from_residual.ensures.1 c.in_err-line.ensures
 
-pub returns-in-None-clause-stops : goal.returns-in-None-clause-stops
-returns-in-None-clause-stops c =
-    line_refused pair_line IsInRangePair c.args.text.now.rest.now c.in_ok-line.line.now c.in_ok-line.others.now c.refused.result pair_kind c.refused.ensures
-    c.in_ok-line.ensures.0 c.in_ok-line.ensures.1 c.in-None.ensures
+pub returns-clause-read : goal.returns-clause-read
+returns-clause-read c =
+    line_taken pair_kind c.args.text.now.rest.now c.in_ok-line.line.now c.in_ok-line.others.now c.taken.new.text.rest.now c.pair_of.result c.taken.result
+    c.in_ok-line.ensures c.pair_of.ensures c.taken.ensures.read
 
-pub returns-in-Some-clause-read : goal.returns-in-Some-clause-read
-returns-in-Some-clause-read c =
-    line_read pair_line IsInRangePair c.args.text.now.rest.now c.in_ok-line.line.now c.in_ok-line.others.now c.in-Some.found pair_kind
-    c.in_ok-line.ensures.0 c.in_ok-line.ensures.1 c.in-Some.ensures
+pub returns-clause-stops : goal.returns-clause-stops
+returns-clause-stops c =
+    line_left pair_kind c.args.text.now.rest.now c.in_ok-line.line.now c.in_ok-line.others.now c.pair_of.result c.taken.result c.in_ok-line.ensures c.pair_of.ensures c.taken.ensures.stops
