@@ -204,7 +204,9 @@ yes_kept tasks ratios fronts bound claims below is near kept = record {
 }
 
 -- What is found of the fronts is found of the statement.
-pub front_found : (s : Statement) (ratios : List RatioClaim) (fronts : List (List FrontEntry)) → s.evidence ≡ EdfYes ratios fronts → IsKeptTo s 3 → AreFitting (graphs_of s.set.tasks) ratios → IsFine ratios → IsBelowOne ratios → (bound : ℕ) → IsHorizon (graphs_of s.set.tasks) ratios bound → bound ≤ 2 ^ 40 → (found : Option ℕ) → MatchOption found (AreKept (graphs_of s.set.tasks) bound fronts) (λ n. IsFirstBroken (graphs_of s.set.tasks) bound fronts n) → IsFound s found
+pub front_found : (s : Statement) (ratios : List RatioClaim) (fronts : List (List FrontEntry)) → s.evidence ≡ EdfYes ratios fronts → IsKeptTo s 3
+    → AreFitting (graphs_of s.set.tasks) ratios → IsFine ratios → IsBelowOne ratios → (bound : ℕ) → IsHorizon (graphs_of s.set.tasks) ratios bound → bound ≤ 2 ^ 40
+    → (found : Option ℕ) → MatchOption found (AreKept (graphs_of s.set.tasks) bound fronts) (λ n. IsFirstBroken (graphs_of s.set.tasks) bound fronts n) → IsFound s found
 front_found s ratios fronts e kept fit fine below bound is near None keeps =
     let yes : IsEdfYes s.set.tasks ratios fronts = yes_kept s.set.tasks ratios fronts bound (ratio_claims s.set.tasks ratios fit fine) below is near keeps in
     rw e yes

@@ -6,6 +6,7 @@ pub mod SoundFronts
 pub mod SoundRoom
 pub mod SoundYes
 pub mod Sound
+pub mod Pasts
 mod Steps
 mod Rests
 mod Gaps
@@ -22,4 +23,3 @@ mod Rooms
 mod Naming
 mod Excludes
 mod Found
-mod Pasts

@@ -7,11 +7,12 @@ use Rattle.drt_model.specs.declared.tasks.Task.{Task}
 use Rattle.drt_model.specs.declared.tasks.Vertex.{Vertex}
 use Rattle.drt_graph.specs.Past.{IsFirstPast, IsFirstPastEdge}
 
-clash : (o : Option Vertex) (s : ℕ) → IsSomeAnd o (λ v. s < v.deadline) → IfSome o (λ v. v.deadline ≤ s) → ⊥
+-- an edge isn't past and constrained at once
+pub clash : (o : Option Vertex) (s : ℕ) → IsSomeAnd o (λ v. s < v.deadline) → IfSome o (λ v. v.deadline ≤ s) → ⊥
 clash None s h k = absurd h
 clash (Some v) s h k = omega (arith, h, k)
 
-edge_past : (t : Task) (k : ℕ) → IsFirstPastEdge t k → All (IsConstrainedEdge t) t.edges → ⊥
+pub edge_past : (t : Task) (k : ℕ) → IsFirstPastEdge t k → All (IsConstrainedEdge t) t.edges → ⊥
 edge_past t k h all =
     let e = get_or t.edges k no_edge in
     clash (slice_get t.vertices e.from) e.sep h.past (all k no_edge h.there)

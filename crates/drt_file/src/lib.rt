@@ -4,9 +4,9 @@
 //! on whole texts) or with the line and the code of its first fault (`HasFault`, by the table of
 //! codes in `specs/Faults.antt`), `print`, whose text is `canonical` of the set, `upgrade`, and
 //! `read_canonical`, which takes the canonical text at the front of a file, or says the first line with
-//! which no canonical text goes on (`specs/CanonicalPrefix.antt`). `push_line` adds one line of fields. `laws` says how these fit: what is
+//! which no canonical text goes on (`specs/CanonicalPrefix.antt`). `laws` says how these fit: what is
 //! printed is read back, and a text reads as one set at most. How a text is cut into lines and fields
-//! is in `cutting`, what single fields say in `words`.
+//! is in `cutting`, what single fields say in `words`. `push_line` adds one line of fields to a text.
 #![tactic(auto)]
 
 pub mod codes;

@@ -1,5 +1,5 @@
 -- A file has one fault, or is accepted as one set.
-use Rattle.std.proofs.Common.{◌≡◌, ℕ, ◌<◌, ◌≤◌, List, length, take, get_or, All, inl, inr, refl, sym, ap, ◌∙◌, subst, arith, Option, Some, None, IfSome, IsSomeAnd, slice_get, Result, Err}
+use Rattle.std.proofs.Common.{◌≡◌, ℕ, ◌<◌, List, length, take, get_or, All, inl, inr, refl, sym, ap, ◌∙◌, subst, arith, Option, Some, None, IsSomeAnd, slice_get, Result, Err}
 use Rattle.std.proofs.lemmas.Bool.{cases_lt}
 use Rattle.std.proofs.lemmas.List.{length-take-le, get_or-take}
 use Rattle.std.proofs.lemmas.Option.{same_Some, slice_get_within, get_or_from_slice_get}
@@ -7,7 +7,6 @@ use Rattle.drt_model.specs.Contents.{Contents}
 use Rattle.drt_model.specs.Constrained.{AreConstrained, IsConstrainedEdge}
 use Rattle.drt_model.specs.Digraph.{no_edge}
 use Rattle.drt_model.specs.declared.tasks.Task.{Task}
-use Rattle.drt_model.specs.declared.tasks.Vertex.{Vertex}
 use Rattle.drt_file.specs.declared.fault.FileFault.{FileFault}
 use Rattle.drt_file.specs.Laws.{TextsReadAsOneSet}
 use Rattle.drt_file.specs.Reading.{HasFault}
@@ -20,21 +19,12 @@ use Rattle.drt_top.specs.Files.{IsAccepted, IsFileFault}
 use Rattle.drt_top.specs.Edf.{IsOutOfReach, beyond_code}
 use Rattle.drt_top.specs.Run.{Refuses}
 use Rattle.drt_edf.specs.Answers.{IsBeyond}
+use Rattle.drt_check.proofs.Pasts.{clash, edge_past, past_breaks}
 use Rattle.drt_top.proofs.CheckLemmas.{dossier_fault_one}
 use Rattle.drt_top.proofs.EdfLemmas.{beyond_one}
 
 pub accepted_one : TextsReadAsOneSet → (bytes : List ℕ) (a b : Contents) → IsAccepted bytes a → IsAccepted bytes b → a ≡ b
 accepted_one law bytes a b h k = law bytes a b h.reads k.reads
-
--- an edge isn't past and constrained at once
-clash : (o : Option Vertex) (s : ℕ) → IsSomeAnd o (λ v. s < v.deadline) → IfSome o (λ v. v.deadline ≤ s) → ⊥
-clash None s h k = absurd h
-clash (Some v) s h k = omega (arith, h, k)
-
-edge_past : (t : Task) (k : ℕ) → IsFirstPastEdge t k → All (IsConstrainedEdge t) t.edges → ⊥
-edge_past t k h all =
-    let e = get_or t.edges k no_edge in
-    clash (slice_get t.vertices e.from) e.sep h.past (all k no_edge h.there)
 
 edge_before : (t : Task) (j k : ℕ) → IsFirstPastEdge t j → IsFirstPastEdge t k → j < k → ⊥
 edge_before t j k h g lt =
@@ -61,13 +51,6 @@ past_in tasks i k (Some t) e h = record { task = t; at = e; edge = h }
 
 past_at : (tasks : List Task) (i k : ℕ) → IsFirstPast tasks i k → PastAt tasks i k
 past_at tasks i k h = past_in tasks i k (slice_get tasks i) refl h.edge
-
-past_breaks : (tasks : List Task) (i k : ℕ) → IsFirstPast tasks i k → AreConstrained tasks → ⊥
-past_breaks tasks i k h all =
-    let p = past_at tasks i k h in
-    let lt = slice_get_within tasks i p.task p.at in
-    let is : get_or tasks i p.task ≡ p.task = get_or_from_slice_get tasks i p.task p.task p.at in
-    edge_past p.task k p.edge (subst (λ t. All (IsConstrainedEdge t) t.edges) is (all i p.task lt))
 
 task_before : (tasks : List Task) (i j k l : ℕ) → IsFirstPast tasks i k → IsFirstPast tasks j l → i < j → ⊥
 task_before tasks i j k l h g lt =
