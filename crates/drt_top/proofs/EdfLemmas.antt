@@ -1,5 +1,5 @@
 -- What `edf` says of an accepted set, and what it doesn't.
-use Rattle.std.proofs.Common.{◌≡◌, ℕ, ◌<◌, ◌≤◌, List, All, inl, inr, refl, ap, ◌∙◌, subst, arith}
+use Rattle.std.proofs.Common.{◌≡◌, ◌⊎◌, ℕ, ◌<◌, ◌≤◌, List, All, inl, inr, refl, ap, ◌∙◌, subst, arith}
 use Rattle.std.proofs.lemmas.List.Elements.{All-map}
 use Rattle.std.proofs.lemmas.Option.{slice_get_within, get_or_from_slice_get}
 use Rattle.drt_model.specs.Contents.{Contents}
@@ -22,9 +22,10 @@ use Rattle.drt_edf.specs.Spent.{IsEnough, table_need}
 use Rattle.drt_edf.specs.declared.answer.EdfTrail.{EdfTrail}
 use Rattle.drt_edf.specs.declared.answer.EdfTrail.TheVariants.{Table, Overload}
 use Rattle.drt_edf.proofs.Unique.{rates_same, horizon_same}
-use Rattle.drt_top.specs.Edf.{EdfEnds, IsEdfAnswer, evidence_status, trail_of, under_edf}
-use Rattle.drt_top.specs.declared.outcome.Trail.{Trail}
-use Rattle.drt_top.specs.declared.outcome.Trail.TheVariants as trails
+use Rattle.drt_top.specs.Dossiers.{evidence_status}
+use Rattle.drt_top.specs.commands.Edf.{EdfEnds, IsEdfNoText, IsEdfYesText, IsOneText, IsUndecidedText, trail_of, under_edf}
+use Rattle.drt_outcome.specs.declared.outcome.Trail.{Trail}
+use Rattle.drt_outcome.specs.declared.outcome.Trail.TheVariants as trails
 
 module _ (version : ℕ) (tasks : List Task) (limits : IsTaskSet version tasks) where
   sound : All IsSound (graphs_of tasks)
@@ -87,22 +88,30 @@ not_enough tasks budget (Overload last) s enough =
     let all = enough.overload s.above s.proofs s.are s.scale s.is_scale in
     omega (arith, all, s.short)
 
+-- The answer, by its parts.
+abbrev pub IsEdfAnswer : Contents → ℕ → ℕ → List ℕ → Trail → Type 0
+IsEdfAnswer set budget status written trail =
+    ((status ≡ 0) × IsEdfYesText set written × (trail ≡ trails.Nothing))
+    ⊎ (((status ≡ 1) × IsEdfNoText set written × (trail ≡ trails.Nothing))
+    ⊎ (((status ≡ 2) × IsOneText set written × (trail ≡ trails.Nothing))
+    ⊎ ((status ≡ 3) × IsUndecidedText set budget written trail)))
+
 -- An answer has the status that it must have.
 pub answer_ends : (set : Contents) → IsTaskSet set.version set.tasks → (budget status : ℕ) (written : List ℕ) (trail : Trail) → IsEdfAnswer set budget status written trail → EdfEnds set budget status
 answer_ends set limits budget status written trail (inl a) = record {
   one = λ p. absurd (one_alone set.version set.tasks limits p a.1.other);
   beyond = λ b q. absurd (other_near set.version set.tasks limits b a.1.other q);
-  decided = λ enough near. inr (inr (inl (a.0, a.1.yes.schedulable)));
+  decided = λ enough near. inr (inl (a.0, a.1.yes.schedulable));
 }
 answer_ends set limits budget status written trail (inr (inl a)) = record {
   one = λ p. absurd (one_alone set.version set.tasks limits p a.1.other);
   beyond = λ b q. absurd (other_near set.version set.tasks limits b a.1.other q);
-  decided = λ enough near. inr (inr (inr (a.0, a.1.no.not_schedulable)));
+  decided = λ enough near. inr (inr (a.0, a.1.no.not_schedulable));
 }
 answer_ends set limits budget status written trail (inr (inr (inl a))) = record {
-  one = λ p. inr a.0;
+  one = λ p. a.0;
   beyond = λ b q. absurd (one_near set.version set.tasks limits b a.1.one.at_one q);
-  decided = λ enough near. inr (inl (a.0, a.1.one.at_one));
+  decided = λ enough near. inl (a.0, a.1.one.at_one);
 }
 answer_ends set limits budget status written trail (inr (inr (inr a))) = record {
   one = λ p. absurd (one_alone set.version set.tasks limits p (undecided_other set.tasks budget a.1.spent a.1.cause));
@@ -121,13 +130,9 @@ answer_near set limits budget status written trail b (inr (inr (inr a))) q = oth
 pub beyond_ends : (set : Contents) → IsTaskSet set.version set.tasks → (budget : ℕ) (b : Beyond) → IsBeyond set.tasks b → EdfEnds set budget 4
 beyond_ends set limits budget b q = record {
   one = λ p. absurd (one_near set.version set.tasks limits b p q);
-  beyond = λ c r. inr refl;
+  beyond = λ c r. refl;
   decided = λ enough near. absurd (near b q);
 }
-
--- So has want of memory its own.
-pub memory_ends : (set : Contents) (budget : ℕ) → EdfEnds set budget 8
-memory_ends set budget = record { one = λ p. inl refl; beyond = λ b q. inl refl; decided = λ enough near. inl refl }
 
 -- An answer has a status below 4.
 pub answer_low : (set : Contents) (budget status : ℕ) (written : List ℕ) (trail : Trail) → IsEdfAnswer set budget status written trail → status < 4
@@ -135,13 +140,6 @@ answer_low set budget status written trail (inl a) = omega (arith, a.0)
 answer_low set budget status written trail (inr (inl a)) = omega (arith, a.0)
 answer_low set budget status written trail (inr (inr (inl a))) = omega (arith, a.0)
 answer_low set budget status written trail (inr (inr (inr a))) = omega (arith, a.0)
-
--- Only a spent budget has a trail.
-pub answer_quiet : (set : Contents) (budget status : ℕ) (written : List ℕ) (trail : Trail) → IsEdfAnswer set budget status written trail → (status ≡ 3 → ⊥) → trail ≡ trails.Nothing
-answer_quiet set budget status written trail (inl a) other = a.2
-answer_quiet set budget status written trail (inr (inl a)) other = a.2
-answer_quiet set budget status written trail (inr (inr (inl a))) other = a.2
-answer_quiet set budget status written trail (inr (inr (inr a))) other = absurd (other a.0)
 
 -- The answer of evidence.
 pub answer_is : (set : Contents) (budget : ℕ) (evidence : Evidence) → IsTaskSet set.version set.tasks → AreConstrained set.tasks → IsDone set.tasks evidence → IsPlanned set.tasks evidence → IsInRange evidence → IsEdfAnswer set budget (evidence_status evidence) (text (under_edf set evidence)) trails.Nothing

@@ -13,7 +13,7 @@ use Rattle.drt_ratio.specs.Claims.{IsRatioProof}
 use Rattle.drt_ratio.specs.SetRatios.{AreRatioProofs, AreSmall}
 use Rattle.drt_ratio.proofs.Scales.{scale_same}
 use Rattle.drt_ratio.proofs.Unique.{ratios_same}
-use Rattle.drt_top.specs.Util.{IsUtilisationText, IsTooFine}
+use Rattle.drt_top.specs.commands.Util.{IsUtilisationText, IsTooFine}
 
 -- The claims with one more, for one more graph.
 proofs_push : (gs : List Digraph) (ps : List RatioProof) (g : Digraph) (p : RatioProof) → AreRatioProofs gs ps → IsRatioProof g p.ratio.num p.ratio.den p.cycle p.potentials → AreRatioProofs (gs ++ g ∷ []) (ps ++ p ∷ [])
