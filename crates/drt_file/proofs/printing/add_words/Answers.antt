@@ -1,8 +1,8 @@
 use Rattle.std.proofs.Common.{[], ap, ◌∙◌}
 use Rattle.std.proofs.Common.{Bor, List, ℕ}
 use Rattle.drt_file.proofs.Joins.{word_more, word_first, words_done}
-use Rattle.drt_file.proofs.printing.push_words.Goals as goal
-use Rattle.drt_file.proofs.printing.push_words.Goals.{then-i-gt0+in_ok-push, else-i-gt0}
+use Rattle.drt_file.proofs.printing.add_words.Goals as goal
+use Rattle.drt_file.proofs.printing.add_words.Goals.{then-i-gt0+in_ok-push, else-i-gt0}
 
 pub loop-i-preserved : goal.loop-i-preserved
 loop-i-preserved c =
@@ -16,5 +16,5 @@ loop-i-preserved c =
           w.if-i-gt0.false c.loop-i-test.true c.loop-i.invariant (ap (λ t. t.items) w.text-is) c.in_ok-extend_from_slice.ensures.items
     ]
 
-pub returns : goal.returns
-returns c = words_done c.args.text.now.items c.loop-i.text.items c.args.words.now c.loop-i.i c.loop-i-test.false c.loop-i.invariant
+pub returns-clause-words : goal.returns-clause-words
+returns-clause-words c = words_done c.args.text.now.items c.loop-i.text.items c.args.words.now c.loop-i.i c.loop-i-test.false c.loop-i.invariant
