@@ -87,7 +87,8 @@ judged_well rules bytes made (Edge t e) m h = h
 judged_well rules bytes made (Limit c) m h = h
 judged_well rules bytes made (Rule n) m h =
     let e = m.of.dossier.only h.statement h.dossier.is in
-    not_broken rules m.of.statement m.judgement n m.of.judged (omega (arith, m.status_is, m.not_rejected)) (subst (λ (s : Statement). ¬ (s.evidence ≡ Undecided)) e h.claims) (subst (λ s. BreaksFirst s n) e h.first)
+    not_broken rules m.of.statement m.judgement n m.of.judged (omega (arith, m.status_is, m.not_rejected))
+    (subst (λ (s : Statement). ¬ (s.evidence ≡ Undecided)) e h.claims) (subst (λ s. BreaksFirst s n) e h.first)
 judged_well rules bytes made (Dossier l c) m (inl big) = omega (arith, big.0, m.of.dossier.small)
 judged_well rules bytes made (Dossier l c) m (inr lacks) = lacks.none m.of.statement m.of.dossier.is
 

@@ -120,7 +120,8 @@ answer_ends set limits budget status written trail (inr (inr (inr a))) = record 
 }
 
 -- An answer isn't out of reach.
-pub answer_near : (set : Contents) → IsTaskSet set.version set.tasks → (budget status : ℕ) (written : List ℕ) (trail : Trail) (b : Beyond) → IsEdfAnswer set budget status written trail → IsBeyond set.tasks b → ⊥
+pub answer_near : (set : Contents) → IsTaskSet set.version set.tasks → (budget status : ℕ) (written : List ℕ) (trail : Trail) (b : Beyond)
+    → IsEdfAnswer set budget status written trail → IsBeyond set.tasks b → ⊥
 answer_near set limits budget status written trail b (inl a) q = other_near set.version set.tasks limits b a.1.other q
 answer_near set limits budget status written trail b (inr (inl a)) q = other_near set.version set.tasks limits b a.1.other q
 answer_near set limits budget status written trail b (inr (inr (inl a))) q = one_near set.version set.tasks limits b a.1.one.at_one q
@@ -142,17 +143,48 @@ answer_low set budget status written trail (inr (inr (inl a))) = omega (arith, a
 answer_low set budget status written trail (inr (inr (inr a))) = omega (arith, a.0)
 
 -- The answer of evidence.
-pub answer_is : (set : Contents) (budget : ℕ) (evidence : Evidence) → IsTaskSet set.version set.tasks → AreConstrained set.tasks → IsDone set.tasks evidence → IsPlanned set.tasks evidence → IsInRange evidence → IsEdfAnswer set budget (evidence_status evidence) (text (under_edf set evidence)) trails.Nothing
+pub answer_is : (set : Contents) (budget : ℕ) (evidence : Evidence) → IsTaskSet set.version set.tasks → AreConstrained set.tasks
+    → IsDone set.tasks evidence → IsPlanned set.tasks evidence → IsInRange evidence
+    → IsEdfAnswer set budget (evidence_status evidence) (text (under_edf set evidence)) trails.Nothing
 answer_is set budget (EdfYes ratios fronts) limits constrained done planned range =
-    inl (refl, record { ratios = ratios; fronts = fronts; yes = done; other = planned; is = record { accepts = record { constrained = constrained; of_policy = refl; keeps = done.accepted }; is = record { stated = (limits, range); is = refl } } }, refl)
+    inl (
+      refl,
+      record {
+        ratios = ratios;
+        fronts = fronts;
+        yes = done;
+        other = planned;
+        is = record { accepts = record { constrained = constrained; of_policy = refl; keeps = done.accepted }; is = record { stated = (limits, range); is = refl } };
+      },
+      refl,
+    )
 answer_is set budget (EdfNo releases miss) limits constrained done planned range =
-    inr (inl (refl, record { releases = releases; miss = miss; no = done; other = planned; is = record { accepts = record { constrained = constrained; of_policy = refl; keeps = done.accepted }; is = record { stated = (limits, range); is = refl } } }, refl))
+    inr (inl (
+      refl,
+      record {
+        releases = releases;
+        miss = miss;
+        no = done;
+        other = planned;
+        is = record { accepts = record { constrained = constrained; of_policy = refl; keeps = done.accepted }; is = record { stated = (limits, range); is = refl } };
+      },
+      refl,
+    ))
 answer_is set budget (UtilisationOne ratios) limits constrained done planned range =
-    inr (inr (inl (refl, record { ratios = ratios; one = done; is = record { accepts = record { constrained = constrained; of_policy = refl; keeps = done.accepted }; is = record { stated = (limits, range); is = refl } } }, refl)))
+    inr (inr (inl (
+      refl,
+      record {
+        ratios = ratios;
+        one = done;
+        is = record { accepts = record { constrained = constrained; of_policy = refl; keeps = done.accepted }; is = record { stated = (limits, range); is = refl } };
+      },
+      refl,
+    )))
 answer_is set budget (FixedYes trees proofs) limits constrained done planned range = absurd done
 answer_is set budget (FixedNo releases miss) limits constrained done planned range = absurd done
 answer_is set budget Undecided limits constrained done planned range = absurd done
 
 -- The answer of a spent budget.
-pub undecided_is : (set : Contents) (budget : ℕ) (spent : EdfTrail) → IsTaskSet set.version set.tasks → IsUndecided set.tasks budget spent → IsEdfAnswer set budget 3 (text (under_edf set Undecided)) (trail_of spent)
+pub undecided_is : (set : Contents) (budget : ℕ) (spent : EdfTrail) → IsTaskSet set.version set.tasks → IsUndecided set.tasks budget spent
+    → IsEdfAnswer set budget 3 (text (under_edf set Undecided)) (trail_of spent)
 undecided_is set budget spent limits cause = inr (inr (inr (refl, record { spent = spent; cause = cause; trail_is = refl; is = record { stated = (limits, tt); is = refl } })))

@@ -24,7 +24,8 @@ module _ (law : TextsReadAsOneSet) (b : ℕ) where
   edf_apart : (bytes : List ℕ) (m : Report) (f : Fault) → Decides b bytes m → IsFileFault bytes f ⊎ IsOutOfReach bytes f → ⊥
   edf_apart bytes m f d (inl h) = accepted_well law bytes d.set f d.accepted h
   edf_apart bytes m f d (inr h) =
-      answer_near d.set d.accepted.reads.limits b m.status m.text m.trail h.beyond d.answer (subst (λ (s : Contents). IsBeyond s.tasks h.beyond) (accepted_one law bytes h.set d.set h.accepted d.accepted) h.cause)
+      answer_near d.set d.accepted.reads.limits b m.status m.text m.trail h.beyond d.answer
+      (subst (λ (s : Contents). IsBeyond s.tasks h.beyond) (accepted_one law bytes h.set d.set h.accepted d.accepted) h.cause)
 
   edf_one : (bytes : List ℕ) (f g : Fault) → IsFileFault bytes f ⊎ IsOutOfReach bytes f → IsFileFault bytes g ⊎ IsOutOfReach bytes g → f ≡ g
   edf_one bytes f g (inl h) (inl k) = fault_one law bytes f g h k

@@ -36,10 +36,8 @@ impl Command for Check {
     }
 
     fn make(&self, alloc: Global, bytes: &[u8]) -> Result<Report, Unmade> {
-        match judge(alloc, bytes) {
-            Ok(judgement) => make_report(alloc, bytes, judgement),
-            Err(unmade) => Err(unmade),
-        }
+        let judgement = judge(alloc, bytes)?;
+        make_report(alloc, bytes, judgement)
     }
 }
 

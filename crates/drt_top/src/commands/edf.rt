@@ -38,10 +38,8 @@ impl Command for Edf {
     }
 
     fn make(&self, alloc: Global, bytes: &[u8]) -> Result<Report, Unmade> {
-        match read_set(alloc, bytes) {
-            Ok((set, graphs)) => decide(alloc, bytes, set, &graphs, self.search.budget()),
-            Err(unmade) => Err(unmade),
-        }
+        let (set, graphs) = read_set(alloc, bytes)?;
+        decide(alloc, bytes, set, &graphs, self.search.budget())
     }
 }
 

@@ -30,10 +30,8 @@ impl Command for Sp {
     }
 
     fn make(&self, alloc: Global, bytes: &[u8]) -> Result<Report, Unmade> {
-        match read_set(alloc, bytes) {
-            Ok((set, _)) => analyse(alloc, bytes, set),
-            Err(unmade) => Err(unmade),
-        }
+        let (set, _graphs) = read_set(alloc, bytes)?;
+        analyse(alloc, bytes, set)
     }
 }
 
@@ -49,8 +47,6 @@ fn analyse(alloc: Global, bytes: &[u8], set: TaskSet) -> Result<Report, Unmade>
             code: NOT_ANALYSED,
         }));
     }
-    match analyse_one_task(alloc, &set) {
-        Ok(evidence) => make_report(alloc, Policy::Fixed, set, evidence, Trail::Nothing),
-        Err(_) => Err(Unmade::Memory),
-    }
+    let evidence = analyse_one_task(alloc, &set)?;
+    make_report(alloc, Policy::Fixed, set, evidence, Trail::Nothing)
 }

@@ -27,10 +27,8 @@ impl Command for Upgrade {
     }
 
     fn make(&self, alloc: Global, bytes: &[u8]) -> Result<Report, Unmade> {
-        match read_set(alloc, bytes) {
-            Ok((set, _)) => print(alloc, bytes, set),
-            Err(unmade) => Err(unmade),
-        }
+        let (set, _graphs) = read_set(alloc, bytes)?;
+        print(alloc, bytes, set)
     }
 }
 

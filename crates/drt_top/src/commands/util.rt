@@ -39,10 +39,8 @@ impl Command for Util {
     }
 
     fn make(&self, alloc: Global, bytes: &[u8]) -> Result<Report, Unmade> {
-        match read_set(alloc, bytes) {
-            Ok((set, graphs)) => print(alloc, bytes, &set, &graphs),
-            Err(unmade) => Err(unmade),
-        }
+        let (set, graphs) = read_set(alloc, bytes)?;
+        print(alloc, bytes, &set, &graphs)
     }
 }
 
@@ -53,10 +51,8 @@ fn print(alloc: Global, bytes: &[u8], set: &TaskSet, graphs: &Graphs) -> Result<
     ensures utilises { IfOk result (Utilises bytes.now) }
     ensures unmade { IfErr result (IsCause IsTooFineFile bytes.now) }
 {
-    match make_text(alloc, set, graphs) {
-        Ok(text) => Ok(Report::new(YES, text)),
-        Err(unmade) => Err(unmade),
-    }
+    let text = make_text(alloc, set, graphs)?;
+    Ok(Report::new(YES, text))
 }
 
 // A line `NAME NUM/DEN` for the ratio of each task, in order, and a line `total NUM/DEN` for the utilisation of the set,

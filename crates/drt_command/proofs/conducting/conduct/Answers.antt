@@ -1,3 +1,4 @@
+-- A run that stopped is as promised.
 use Rattle.std.proofs.Common.{Err, ap, subst, sym, ◌∙◌}
 use Rattle.drt_io.specs.Causes.{Rose}
 use Rattle.drt_outcome.specs.declared.outcome.Outcome.{Outcome}

@@ -1,3 +1,4 @@
+-- Where more was taken than is read, the input is too long.
 use Rattle.std.proofs.Common.{Err, ap, subst, sym, ◌∙◌}
 use Rattle.drt_command.specs.declared.input.Input.{Input}
 use Rattle.drt_command.specs.Inputs.{AtInput, IsLonger}

@@ -1,3 +1,4 @@
+-- The evidence of a yes is in range.
 use Rattle.std.proofs.Common.{◌<◌, ◌^◌, [], All, length, map, arith, subst, sym, ◌∙◌}
 use Rattle.std.proofs.lemmas.List.{length-map}
 use Rattle.drt_model.specs.declared.tasks.Vertex.{Vertex}

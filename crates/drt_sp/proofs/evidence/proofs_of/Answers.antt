@@ -1,3 +1,4 @@
+-- One more vertex has its proof.
 use Rattle.std.proofs.Common.{subst, sym, All}
 use Rattle.std.proofs.lemmas.List.Elements.{All-push}
 use Rattle.drt_evidence.specs.Ranges.{IsInRangeProof}

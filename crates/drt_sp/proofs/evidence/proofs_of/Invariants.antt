@@ -1,3 +1,4 @@
+-- The vertices so far have their proofs.
 use Rattle.std.proofs.Common.{◌≡◌, map, take, All}
 use Rattle.drt_evidence.specs.Ranges.{IsInRangeProof}
 use Rattle.drt_sp.specs.Evidence.{proofs_from}

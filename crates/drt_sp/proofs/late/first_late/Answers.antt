@@ -1,3 +1,4 @@
+-- One more vertex fits, and at the end all do.
 use Rattle.drt_sp.proofs.Lateness.{fits_more, fits_all}
 use Rattle.drt_sp.proofs.late.first_late.Goals as goal
 

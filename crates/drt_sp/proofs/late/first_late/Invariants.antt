@@ -1,3 +1,4 @@
+-- The vertices so far fit.
 use Rattle.std.proofs.Common.{take, All}
 use Rattle.drt_sp.specs.OneTask.{Fits}
 use Rattle.drt_sp.proofs.late.first_late.Given as goal

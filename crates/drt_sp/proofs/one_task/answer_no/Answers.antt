@@ -14,8 +14,10 @@ evidence_of_no-requires c =
 
 pub returns : goal.returns
 returns c =
-    let law = c.one_task_decides.ensures c.args.set.now.version c.args.set.now.tasks c.args.task.now Fixed c.requires.is_task.limits c.requires.constrained c.requires.is_task.one c.requires.is_task.is in
-    let shown = c.too_long_misses.ensures c.args.set.now.version c.args.set.now.tasks c.args.task.now c.args.v c.args.vertex.now Fixed c.requires.is_task.limits c.requires.is_task.is c.requires.late.is c.requires.late.late in
+    let law = c.one_task_decides.ensures c.args.set.now.version c.args.set.now.tasks c.args.task.now Fixed
+    c.requires.is_task.limits c.requires.constrained c.requires.is_task.one c.requires.is_task.is in
+    let shown = c.too_long_misses.ensures c.args.set.now.version c.args.set.now.tasks c.args.task.now c.args.v c.args.vertex.now Fixed
+    c.requires.is_task.limits c.requires.is_task.is c.requires.late.is c.requires.late.late in
     let is : c.in_ok-evidence.evidence ≡ no_evidence (whole_release c.args.v c.args.vertex.now.wcet) (named_miss c.args.vertex.now) = search (rules, c.in_ok-evidence.ensures.is) in
     record {
       answer = inr (

@@ -1,3 +1,4 @@
+-- The words are refused, or the run of their command is as promised.
 use Rattle.std.proofs.Common.{subst, sym, ◌∙◌}
 use Rattle.std.proofs.lemmas.Option.{same_Some}
 use Rattle.drt_outcome.specs.declared.outcome.Outcome.{Outcome}

@@ -1,3 +1,4 @@
+-- A number is read where the text has one in the range.
 use Rattle.std.proofs.Common.{rules}
 use Rattle.drt_words.proofs.NumberLemmas.{number_read, number_refused}
 use Rattle.drt_words.proofs.number.number_of.Goals as goal

@@ -1,3 +1,4 @@
+-- A word that does not begin with a dash is no flag.
 use Rattle.std.proofs.Common.{refl}
 use Rattle.drt_words.proofs.word_laws.plain_words.Goals as goal
 

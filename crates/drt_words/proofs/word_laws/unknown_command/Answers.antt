@@ -1,3 +1,4 @@
+-- A list whose second word is no command computes to nothing.
 use Rattle.std.proofs.Common.{refl}
 use Rattle.clap.proofs.OnLiterals.{clap_on_literals}
 use Rattle.drt_words.proofs.word_laws.unknown_command.Goals as goal

@@ -1,3 +1,4 @@
+-- The first value of an option is that of its rows.
 use Rattle.std.proofs.Common.{ap, ◌∙◌}
 use Rattle.std.specs.Prelude.{option_and_then}
 use Rattle.clap.specs.Words.{found_of}

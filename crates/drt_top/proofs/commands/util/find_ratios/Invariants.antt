@@ -1,3 +1,4 @@
+-- The graphs so far have their ratios.
 use Rattle.std.proofs.Common.{◌≡◌, length, take}
 use Rattle.drt_ratio.specs.SetRatios.{AreRatioProofs, AreSmall}
 use Rattle.drt_top.proofs.commands.util.find_ratios.Given as goal

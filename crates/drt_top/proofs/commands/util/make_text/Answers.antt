@@ -1,3 +1,4 @@
+-- The text says the ratios and the utilisation.
 use Rattle.std.proofs.Common.{map, subst}
 use Rattle.drt_model.specs.Digraph.{digraph_of}
 use Rattle.drt_model.specs.Utilisation.{AreRatios}

@@ -1,3 +1,4 @@
+-- What is promised of `check` agrees.
 use Rattle.drt_top.proofs.CheckPromises.{check_lawful}
 use Rattle.drt_top.proofs.commands.check.CheckCommand.laws.Goals as goal
 

@@ -1,3 +1,4 @@
+-- What is promised of `edf` agrees.
 use Rattle.drt_top.proofs.EdfPromises.{edf_lawful}
 use Rattle.drt_top.proofs.commands.edf.EdfCommand.laws.Goals as goal
 

@@ -1,3 +1,4 @@
+-- What is promised of `sp` agrees.
 use Rattle.drt_top.proofs.SpPromises.{sp_lawful}
 use Rattle.drt_top.proofs.commands.sp.SpCommand.laws.Goals as goal
 

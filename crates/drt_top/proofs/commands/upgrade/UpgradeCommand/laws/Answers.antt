@@ -1,3 +1,4 @@
+-- What is promised of `upgrade` agrees.
 use Rattle.drt_top.proofs.UpgradePromises.{upgrade_lawful}
 use Rattle.drt_top.proofs.commands.upgrade.UpgradeCommand.laws.Goals as goal
 

@@ -1,3 +1,4 @@
+-- What is promised of `util` agrees.
 use Rattle.drt_top.proofs.UtilPromises.{util_lawful}
 use Rattle.drt_top.proofs.commands.util.UtilCommand.laws.Goals as goal
 
