@@ -9,6 +9,8 @@ mod bound;
 mod label;
 #[cfg(test)]
 mod tests;
+mod walks;
 
 pub use bound::dbf;
 pub use label::DemandLabel;
+pub use walks::labels_of_walks;

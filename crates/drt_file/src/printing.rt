@@ -1,5 +1,5 @@
 //! Printing a task set as its canonical text.
-ghost use Rattle.std.specs.Prelude.{◌≡◌, ◌++◌, map, IfOk, OnOk};
+ghost use Rattle.std.specs.Prelude.{◌≡◌, ◌++◌, map, IfOk, OnErr, OnOk, length, take};
 ghost use Rattle.std.specs.List.{flat_map, join_with_byte};
 ghost use Rattle.drt_file.specs.Canonical.{
   canonical,
@@ -133,9 +133,10 @@ fn name_of(vertices: &[Vertex], place: u32) -> &[u8]
     }
 }
 
-/// Adds fields, parted by one space.
-pub fn push_words(text: &mut Vec<u8>, words: &[&[u8]]) -> Result<(), Memory>
-    ensures { OnOk result (text.new.items ≡ text.old.items ++ join_with_byte 32 (map (λ w. w.now) words.now)) }
+// Adds fields, parted by one space; where memory is refused, some of these bytes.
+fn add_words(text: &mut Vec<u8>, words: &[&[u8]]) -> Result<(), Memory>
+    ensures words { OnOk result (text.new.items ≡ text.old.items ++ join_with_byte 32 (map (λ w. w.now) words.now)) }
+    ensures kept { take (length text.old.items) text.new.items ≡ text.old.items }
 {
     for (i, word) in words.iter().enumerate() {
         if i > 0 {
@@ -146,14 +147,41 @@ pub fn push_words(text: &mut Vec<u8>, words: &[&[u8]]) -> Result<(), Memory>
     Ok(())
 }
 
+// Adds a line of fields; where memory is refused, some of its bytes.
+fn add_line(text: &mut Vec<u8>, words: &[&[u8]]) -> Result<(), Memory>
+    ensures line { OnOk result (text.new.items ≡ text.old.items ++ written_line (map (λ w. w.now) words.now)) }
+    ensures kept { take (length text.old.items) text.new.items ≡ text.old.items }
+{
+    add_words(text, words)?;
+    text.push(b'\n')?;
+    Ok(())
+}
+
+/// Adds fields, parted by one space. Where memory is refused the text stays as it was.
+pub fn push_words(text: &mut Vec<u8>, words: &[&[u8]]) -> Result<(), Memory>
+    ensures words { OnOk result (text.new.items ≡ text.old.items ++ join_with_byte 32 (map (λ w. w.now) words.now)) }
+    ensures unchanged { OnErr result (text.new.items ≡ text.old.items) }
+{
+    let before = text.len();
+    let added = add_words(text, words);
+    if added.is_err() {
+        text.truncate(before);
+    }
+    added
+}
+
 /// Adds a line of fields: the bytes of each, one space (32) between two, and a LF (10) behind the last.
 ///
 /// No field is looked at, so that one with a space or a LF in it reads as several. The error says that
-/// memory was refused; the text may then end within the line.
+/// memory was refused; the text then stays as it was.
 pub fn push_line(text: &mut Vec<u8>, words: &[&[u8]]) -> Result<(), Memory>
-    ensures { OnOk result (text.new.items ≡ text.old.items ++ written_line (map (λ w. w.now) words.now)) }
+    ensures line { OnOk result (text.new.items ≡ text.old.items ++ written_line (map (λ w. w.now) words.now)) }
+    ensures unchanged { OnErr result (text.new.items ≡ text.old.items) }
 {
-    push_words(text, words)?;
-    text.push(b'\n')?;
-    Ok(())
+    let before = text.len();
+    let added = add_line(text, words);
+    if added.is_err() {
+        text.truncate(before);
+    }
+    added
 }

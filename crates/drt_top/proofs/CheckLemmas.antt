@@ -9,10 +9,11 @@ use Rattle.drt_check.specs.Judging.{IsJudged, IsSound}
 use Rattle.drt_check.specs.Exclusion.{AcceptedBreaksNone}
 use Rattle.drt_check.specs.declared.judgement.Judgement.{Judgement}
 use Rattle.drt_check.specs.declared.judgement.Judgement.TheVariants as judgements
-use Rattle.drt_top.specs.Checks.{CheckEnds, Checks, IsDossierFault, judged_status, most_dossier_bytes}
-use Rattle.drt_top.specs.Stops.{fault_status}
-use Rattle.drt_top.specs.declared.outcome.Fault.{Fault}
-use Rattle.drt_top.specs.declared.outcome.Fault.TheVariants.{Nothing, File, Edge, Limit, Rule, Dossier}
+use Rattle.drt_top.specs.commands.Check.{CheckEnds, Checks, IsDossierFault, judged_status, most_dossier_bytes}
+use Rattle.drt_command.specs.declared.report.Report.{Report}
+use Rattle.drt_outcome.specs.Stops.{fault_status}
+use Rattle.drt_outcome.specs.declared.fault.Fault.{Fault}
+use Rattle.drt_outcome.specs.declared.fault.Fault.TheVariants.{Nothing, File, Edge, Limit, Rule, Dossier}
 
 -- A fault has one line.
 line_one : (bytes : List ℕ) (l m c d : ℕ) → HasDossierFault bytes l c → HasDossierFault bytes m d → l ≡ m
@@ -79,22 +80,23 @@ not_broken law s judgements.NothingToCheck n is low claims b = claims is
 not_broken law s (judgements.Rejected m) n is low claims b = omega (arith, low)
 
 -- A dossier that is judged has no fault.
-pub judged_well : AcceptedBreaksNone → (bytes : List ℕ) (status : ℕ) (text : List ℕ) (f : Fault) → Checks bytes status text → IsDossierFault bytes f → ⊥
-judged_well rules bytes status text Nothing m h = h
-judged_well rules bytes status text (File l c) m h = h
-judged_well rules bytes status text (Edge t e) m h = h
-judged_well rules bytes status text (Limit c) m h = h
-judged_well rules bytes status text (Rule n) m h =
+pub judged_well : AcceptedBreaksNone → (bytes : List ℕ) (made : Report) (f : Fault) → Checks bytes made → IsDossierFault bytes f → ⊥
+judged_well rules bytes made Nothing m h = h
+judged_well rules bytes made (File l c) m h = h
+judged_well rules bytes made (Edge t e) m h = h
+judged_well rules bytes made (Limit c) m h = h
+judged_well rules bytes made (Rule n) m h =
     let e = m.of.dossier.only h.statement h.dossier.is in
-    not_broken rules m.of.statement m.judgement n m.of.judged (omega (arith, m.status_is, m.not_rejected)) (subst (λ (s : Statement). ¬ (s.evidence ≡ Undecided)) e h.claims) (subst (λ s. BreaksFirst s n) e h.first)
-judged_well rules bytes status text (Dossier l c) m (inl big) = omega (arith, big.0, m.of.dossier.small)
-judged_well rules bytes status text (Dossier l c) m (inr lacks) = lacks.none m.of.statement m.of.dossier.is
+    not_broken rules m.of.statement m.judgement n m.of.judged (omega (arith, m.status_is, m.not_rejected))
+    (subst (λ (s : Statement). ¬ (s.evidence ≡ Undecided)) e h.claims) (subst (λ s. BreaksFirst s n) e h.first)
+judged_well rules bytes made (Dossier l c) m (inl big) = omega (arith, big.0, m.of.dossier.small)
+judged_well rules bytes made (Dossier l c) m (inr lacks) = lacks.none m.of.statement m.of.dossier.is
 
 -- It has the status of its judgement.
-pub judged_ends : (bytes : List ℕ) (status : ℕ) (text : List ℕ) → Checks bytes status text → (s : Statement) → IsTextOf s bytes → CheckEnds s status
-judged_ends bytes status text m s is =
+pub judged_ends : (bytes : List ℕ) (made : Report) → Checks bytes made → (s : Statement) → IsTextOf s bytes → CheckEnds s made.status
+judged_ends bytes made m s is =
     let e = sym (m.of.dossier.only s is) in
-    inr (m.judgement, subst (λ t. IsJudged t m.judgement) e m.of.judged, subst (λ t. IsSound t m.judgement) e m.of.sound, m.status_is)
+    (m.judgement, subst (λ t. IsJudged t m.judgement) e m.of.judged, subst (λ t. IsSound t m.judgement) e m.of.sound, m.status_is)
 
 -- So has one that is rejected.
 pub rejected_ends : (bytes : List ℕ) (f : Fault) → IsDossierFault bytes f → (s : Statement) → IsTextOf s bytes → length bytes ≤ most_dossier_bytes → CheckEnds s (fault_status f)
@@ -104,6 +106,6 @@ rejected_ends bytes (Edge t e) h s is small = absurd h
 rejected_ends bytes (Limit c) h s is small = absurd h
 rejected_ends bytes (Rule n) h s is small =
     let e = sym (h.dossier.only s is) in
-    inr (judgements.Rejected n, (subst (λ (t : Statement). ¬ (t.evidence ≡ Undecided)) e h.claims, subst (λ t. BreaksFirst t n) e h.first), tt, refl)
+    (judgements.Rejected n, (subst (λ (t : Statement). ¬ (t.evidence ≡ Undecided)) e h.claims, subst (λ t. BreaksFirst t n) e h.first), tt, refl)
 rejected_ends bytes (Dossier l c) (inl big) s is small = absurd (omega (arith, big.0, small))
 rejected_ends bytes (Dossier l c) (inr lacks) s is small = absurd (lacks.none s is)

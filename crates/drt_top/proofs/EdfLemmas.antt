@@ -1,5 +1,5 @@
 -- What `edf` says of an accepted set, and what it doesn't.
-use Rattle.std.proofs.Common.{◌≡◌, ℕ, ◌<◌, ◌≤◌, List, All, inl, inr, refl, ap, ◌∙◌, subst, arith}
+use Rattle.std.proofs.Common.{◌≡◌, ◌⊎◌, ℕ, ◌<◌, ◌≤◌, List, All, inl, inr, refl, ap, ◌∙◌, subst, arith}
 use Rattle.std.proofs.lemmas.List.Elements.{All-map}
 use Rattle.std.proofs.lemmas.Option.{slice_get_within, get_or_from_slice_get}
 use Rattle.drt_model.specs.Contents.{Contents}
@@ -22,9 +22,10 @@ use Rattle.drt_edf.specs.Spent.{IsEnough, table_need}
 use Rattle.drt_edf.specs.declared.answer.EdfTrail.{EdfTrail}
 use Rattle.drt_edf.specs.declared.answer.EdfTrail.TheVariants.{Table, Overload}
 use Rattle.drt_edf.proofs.Unique.{rates_same, horizon_same}
-use Rattle.drt_top.specs.Edf.{EdfEnds, IsEdfAnswer, evidence_status, trail_of, under_edf}
-use Rattle.drt_top.specs.declared.outcome.Trail.{Trail}
-use Rattle.drt_top.specs.declared.outcome.Trail.TheVariants as trails
+use Rattle.drt_top.specs.Dossiers.{evidence_status}
+use Rattle.drt_top.specs.commands.Edf.{EdfEnds, IsEdfNoText, IsEdfYesText, IsOneText, IsUndecidedText, trail_of, under_edf}
+use Rattle.drt_outcome.specs.declared.outcome.Trail.{Trail}
+use Rattle.drt_outcome.specs.declared.outcome.Trail.TheVariants as trails
 
 module _ (version : ℕ) (tasks : List Task) (limits : IsTaskSet version tasks) where
   sound : All IsSound (graphs_of tasks)
@@ -87,22 +88,30 @@ not_enough tasks budget (Overload last) s enough =
     let all = enough.overload s.above s.proofs s.are s.scale s.is_scale in
     omega (arith, all, s.short)
 
+-- The answer, by its parts.
+abbrev pub IsEdfAnswer : Contents → ℕ → ℕ → List ℕ → Trail → Type 0
+IsEdfAnswer set budget status written trail =
+    ((status ≡ 0) × IsEdfYesText set written × (trail ≡ trails.Nothing))
+    ⊎ (((status ≡ 1) × IsEdfNoText set written × (trail ≡ trails.Nothing))
+    ⊎ (((status ≡ 2) × IsOneText set written × (trail ≡ trails.Nothing))
+    ⊎ ((status ≡ 3) × IsUndecidedText set budget written trail)))
+
 -- An answer has the status that it must have.
 pub answer_ends : (set : Contents) → IsTaskSet set.version set.tasks → (budget status : ℕ) (written : List ℕ) (trail : Trail) → IsEdfAnswer set budget status written trail → EdfEnds set budget status
 answer_ends set limits budget status written trail (inl a) = record {
   one = λ p. absurd (one_alone set.version set.tasks limits p a.1.other);
   beyond = λ b q. absurd (other_near set.version set.tasks limits b a.1.other q);
-  decided = λ enough near. inr (inr (inl (a.0, a.1.yes.schedulable)));
+  decided = λ enough near. inr (inl (a.0, a.1.yes.schedulable));
 }
 answer_ends set limits budget status written trail (inr (inl a)) = record {
   one = λ p. absurd (one_alone set.version set.tasks limits p a.1.other);
   beyond = λ b q. absurd (other_near set.version set.tasks limits b a.1.other q);
-  decided = λ enough near. inr (inr (inr (a.0, a.1.no.not_schedulable)));
+  decided = λ enough near. inr (inr (a.0, a.1.no.not_schedulable));
 }
 answer_ends set limits budget status written trail (inr (inr (inl a))) = record {
-  one = λ p. inr a.0;
+  one = λ p. a.0;
   beyond = λ b q. absurd (one_near set.version set.tasks limits b a.1.one.at_one q);
-  decided = λ enough near. inr (inl (a.0, a.1.one.at_one));
+  decided = λ enough near. inl (a.0, a.1.one.at_one);
 }
 answer_ends set limits budget status written trail (inr (inr (inr a))) = record {
   one = λ p. absurd (one_alone set.version set.tasks limits p (undecided_other set.tasks budget a.1.spent a.1.cause));
@@ -111,7 +120,8 @@ answer_ends set limits budget status written trail (inr (inr (inr a))) = record 
 }
 
 -- An answer isn't out of reach.
-pub answer_near : (set : Contents) → IsTaskSet set.version set.tasks → (budget status : ℕ) (written : List ℕ) (trail : Trail) (b : Beyond) → IsEdfAnswer set budget status written trail → IsBeyond set.tasks b → ⊥
+pub answer_near : (set : Contents) → IsTaskSet set.version set.tasks → (budget status : ℕ) (written : List ℕ) (trail : Trail) (b : Beyond)
+    → IsEdfAnswer set budget status written trail → IsBeyond set.tasks b → ⊥
 answer_near set limits budget status written trail b (inl a) q = other_near set.version set.tasks limits b a.1.other q
 answer_near set limits budget status written trail b (inr (inl a)) q = other_near set.version set.tasks limits b a.1.other q
 answer_near set limits budget status written trail b (inr (inr (inl a))) q = one_near set.version set.tasks limits b a.1.one.at_one q
@@ -121,13 +131,9 @@ answer_near set limits budget status written trail b (inr (inr (inr a))) q = oth
 pub beyond_ends : (set : Contents) → IsTaskSet set.version set.tasks → (budget : ℕ) (b : Beyond) → IsBeyond set.tasks b → EdfEnds set budget 4
 beyond_ends set limits budget b q = record {
   one = λ p. absurd (one_near set.version set.tasks limits b p q);
-  beyond = λ c r. inr refl;
+  beyond = λ c r. refl;
   decided = λ enough near. absurd (near b q);
 }
-
--- So has want of memory its own.
-pub memory_ends : (set : Contents) (budget : ℕ) → EdfEnds set budget 8
-memory_ends set budget = record { one = λ p. inl refl; beyond = λ b q. inl refl; decided = λ enough near. inl refl }
 
 -- An answer has a status below 4.
 pub answer_low : (set : Contents) (budget status : ℕ) (written : List ℕ) (trail : Trail) → IsEdfAnswer set budget status written trail → status < 4
@@ -136,25 +142,49 @@ answer_low set budget status written trail (inr (inl a)) = omega (arith, a.0)
 answer_low set budget status written trail (inr (inr (inl a))) = omega (arith, a.0)
 answer_low set budget status written trail (inr (inr (inr a))) = omega (arith, a.0)
 
--- Only a spent budget has a trail.
-pub answer_quiet : (set : Contents) (budget status : ℕ) (written : List ℕ) (trail : Trail) → IsEdfAnswer set budget status written trail → (status ≡ 3 → ⊥) → trail ≡ trails.Nothing
-answer_quiet set budget status written trail (inl a) other = a.2
-answer_quiet set budget status written trail (inr (inl a)) other = a.2
-answer_quiet set budget status written trail (inr (inr (inl a))) other = a.2
-answer_quiet set budget status written trail (inr (inr (inr a))) other = absurd (other a.0)
-
 -- The answer of evidence.
-pub answer_is : (set : Contents) (budget : ℕ) (evidence : Evidence) → IsTaskSet set.version set.tasks → AreConstrained set.tasks → IsDone set.tasks evidence → IsPlanned set.tasks evidence → IsInRange evidence → IsEdfAnswer set budget (evidence_status evidence) (text (under_edf set evidence)) trails.Nothing
+pub answer_is : (set : Contents) (budget : ℕ) (evidence : Evidence) → IsTaskSet set.version set.tasks → AreConstrained set.tasks
+    → IsDone set.tasks evidence → IsPlanned set.tasks evidence → IsInRange evidence
+    → IsEdfAnswer set budget (evidence_status evidence) (text (under_edf set evidence)) trails.Nothing
 answer_is set budget (EdfYes ratios fronts) limits constrained done planned range =
-    inl (refl, record { ratios = ratios; fronts = fronts; yes = done; other = planned; is = record { accepts = record { constrained = constrained; of_policy = refl; keeps = done.accepted }; is = record { stated = (limits, range); is = refl } } }, refl)
+    inl (
+      refl,
+      record {
+        ratios = ratios;
+        fronts = fronts;
+        yes = done;
+        other = planned;
+        is = record { accepts = record { constrained = constrained; of_policy = refl; keeps = done.accepted }; is = record { stated = (limits, range); is = refl } };
+      },
+      refl,
+    )
 answer_is set budget (EdfNo releases miss) limits constrained done planned range =
-    inr (inl (refl, record { releases = releases; miss = miss; no = done; other = planned; is = record { accepts = record { constrained = constrained; of_policy = refl; keeps = done.accepted }; is = record { stated = (limits, range); is = refl } } }, refl))
+    inr (inl (
+      refl,
+      record {
+        releases = releases;
+        miss = miss;
+        no = done;
+        other = planned;
+        is = record { accepts = record { constrained = constrained; of_policy = refl; keeps = done.accepted }; is = record { stated = (limits, range); is = refl } };
+      },
+      refl,
+    ))
 answer_is set budget (UtilisationOne ratios) limits constrained done planned range =
-    inr (inr (inl (refl, record { ratios = ratios; one = done; is = record { accepts = record { constrained = constrained; of_policy = refl; keeps = done.accepted }; is = record { stated = (limits, range); is = refl } } }, refl)))
+    inr (inr (inl (
+      refl,
+      record {
+        ratios = ratios;
+        one = done;
+        is = record { accepts = record { constrained = constrained; of_policy = refl; keeps = done.accepted }; is = record { stated = (limits, range); is = refl } };
+      },
+      refl,
+    )))
 answer_is set budget (FixedYes trees proofs) limits constrained done planned range = absurd done
 answer_is set budget (FixedNo releases miss) limits constrained done planned range = absurd done
 answer_is set budget Undecided limits constrained done planned range = absurd done
 
 -- The answer of a spent budget.
-pub undecided_is : (set : Contents) (budget : ℕ) (spent : EdfTrail) → IsTaskSet set.version set.tasks → IsUndecided set.tasks budget spent → IsEdfAnswer set budget 3 (text (under_edf set Undecided)) (trail_of spent)
+pub undecided_is : (set : Contents) (budget : ℕ) (spent : EdfTrail) → IsTaskSet set.version set.tasks → IsUndecided set.tasks budget spent
+    → IsEdfAnswer set budget 3 (text (under_edf set Undecided)) (trail_of spent)
 undecided_is set budget spent limits cause = inr (inr (inr (refl, record { spent = spent; cause = cause; trail_is = refl; is = record { stated = (limits, tt); is = refl } })))

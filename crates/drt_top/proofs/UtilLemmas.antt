@@ -13,17 +13,19 @@ use Rattle.drt_ratio.specs.Claims.{IsRatioProof}
 use Rattle.drt_ratio.specs.SetRatios.{AreRatioProofs, AreSmall}
 use Rattle.drt_ratio.proofs.Scales.{scale_same}
 use Rattle.drt_ratio.proofs.Unique.{ratios_same}
-use Rattle.drt_top.specs.Util.{IsUtilisationText, IsTooFine}
+use Rattle.drt_top.specs.commands.Util.{IsUtilisationText, IsTooFine}
 
 -- The claims with one more, for one more graph.
-proofs_push : (gs : List Digraph) (ps : List RatioProof) (g : Digraph) (p : RatioProof) → AreRatioProofs gs ps → IsRatioProof g p.ratio.num p.ratio.den p.cycle p.potentials → AreRatioProofs (gs ++ g ∷ []) (ps ++ p ∷ [])
+proofs_push : (gs : List Digraph) (ps : List RatioProof) (g : Digraph) (p : RatioProof) → AreRatioProofs gs ps
+    → IsRatioProof g p.ratio.num p.ratio.den p.cycle p.potentials → AreRatioProofs (gs ++ g ∷ []) (ps ++ p ∷ [])
 proofs_push [] [] g p are is = (is, tt)
 proofs_push [] (q ∷ ps) g p are is = absurd are
 proofs_push (h ∷ gs) [] g p are is = absurd are
 proofs_push (h ∷ gs) (q ∷ ps) g p are is = (are.0, proofs_push gs ps g p are.1 is)
 
 -- The claims with the one for the graph of number i.
-pub proofs_more : (gs : List Digraph) (i : ℕ) (g : Digraph) (ps qs : List RatioProof) (p : RatioProof) → i < length gs → g ≡ graph_of gs i → qs ≡ ps ++ p ∷ [] → AreRatioProofs (take i gs) ps → IsRatioProof g p.ratio.num p.ratio.den p.cycle p.potentials → AreRatioProofs (take (i + 1) gs) qs
+pub proofs_more : (gs : List Digraph) (i : ℕ) (g : Digraph) (ps qs : List RatioProof) (p : RatioProof) → i < length gs → g ≡ graph_of gs i
+    → qs ≡ ps ++ p ∷ [] → AreRatioProofs (take i gs) ps → IsRatioProof g p.ratio.num p.ratio.den p.cycle p.potentials → AreRatioProofs (take (i + 1) gs) qs
 proofs_more gs i g ps qs p l is e are proof =
     let t : take (i + 1) gs ≡ take i gs ++ g ∷ [] = take_more gs i no_graph l ∙ ap (λ h. take i gs ++ h ∷ []) (sym is) in
     rw (t, e) (proofs_push (take i gs) ps g p are proof)

@@ -1,14 +1,3 @@
-pub mod Command
-pub mod Number
-pub mod Meaning
-pub mod Plain
-pub mod Stops
-pub mod Notices
-pub mod Dossier
-pub mod Files
-pub mod Checks
-pub mod Answers
-pub mod Util
-pub mod Edf
-pub mod Run
-pub mod Reports
+pub mod TaskFiles
+pub mod Dossiers
+pub mod commands

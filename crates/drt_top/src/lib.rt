@@ -1,37 +1,15 @@
 //! The top call: one run of the command, from its words and its input to its output and its status.
 //!
-//! `run` carries the theorem of the whole tool: a dossier is written only where its answer holds of
-//! the set that the input says, and every other status comes only under its cause. The program
-//! above prints `notice` and ends with the status. What the words mean is read by `clap`; a further
-//! command is one more subcommand in `command`, one more `Meaning`, and one more case of `Makes`
-//! and `Refuses` in specs/Run.antt.
+//! `run` carries the theorem of the whole tool: a text is written only where it is what the command
+//! makes of the input, and every other status comes only under its cause. The program above prints
+//! `notice` and ends with the status. A further command is a file of its own in commands/, in
+//! specs/commands/ and in proofs/, and one arm of `dispatch` and of `rules_of`.
 #![tactic(auto)]
 
-mod analysis;
-mod answering;
-mod check;
-#[cfg(test)]
-mod check_tests;
-mod command;
-mod dossier;
-mod edf;
-#[cfg(test)]
-mod edf_tests;
-mod input;
-mod making;
-pub mod notices;
-mod number;
-pub mod outcome;
+mod commands;
+mod dossiers;
 pub mod running;
-pub mod stop;
-#[cfg(test)]
-mod tests;
-mod util;
-#[cfg(test)]
-mod util_tests;
-pub mod word_laws;
-pub mod words;
+mod task_files;
 
-pub use notices::notice;
-pub use outcome::{Fault, Outcome, Trail};
+pub use drt_outcome::{Fault, Outcome, Trail, notice};
 pub use running::run;

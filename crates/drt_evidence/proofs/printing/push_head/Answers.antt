@@ -8,4 +8,4 @@ pub returns : goal.returns
 returns c =
     two_lines c.args.bytes.now.items c.push_line.new.text.items c.push_line-2.new.text.items
     (codes "drt-dossier" ∷ codes "1" ∷ []) (codes "policy" ∷ policy_word c.args.policy ∷ [])
-    (rw c.as_slice.ensures at c.in_ok-push_line.ensures) (rw (c.as_slice-2.ensures, c.word_of.ensures) at c.in_ok-push_line-2.ensures)
+    (rw c.as_slice.ensures at c.in_ok-push_line.ensures.line) (rw (c.as_slice-2.ensures, c.word_of.ensures) at c.in_ok-push_line-2.ensures.line)

@@ -1,0 +1,50 @@
+//! Why an input is refused.
+ghost use Rattle.std.specs.Prelude.{◌≡◌};
+ghost use Rattle.drt_outcome.specs.Stops.{fault_status};
+
+use crate::outcome::{DOSSIER_REFUSED, EVIDENCE_REJECTED, FILE_REFUSED};
+
+/// Why an input is refused.
+#[derive(Debug, Clone, Copy, PartialEq, Eq)]
+pub enum Fault {
+    /// It isn't.
+    Nothing,
+    /// The fault of this code at this line, counted from 1, or at line 0 a fault of the whole file.
+    File { line: u32, code: u8 },
+    /// The separation of this edge of this task is below the deadline of its source.
+    Edge { task: u32, edge: u32 },
+    /// The analysis has a limit that the set passes.
+    Limit { code: u8 },
+    /// The evidence of the dossier breaks rules, of which this is the least number.
+    Rule { number: u8 },
+    /// The dossier has the fault of this code at this line, counted from 1, or at line 0 a fault of the whole dossier.
+    Dossier { line: u32, code: u8 },
+}
+
+/// The code of a file that is too long.
+pub const TOO_LONG: u8 = 23;
+
+/// The code of a dossier that is too long.
+pub const DOSSIER_TOO_LONG: u8 = 4;
+
+/// The code of a set whose scale exceeds 2^60.
+pub const SCALE_TOO_FINE: u8 = 21;
+
+/// The code of a set whose horizon exceeds 2^40.
+pub const HORIZON_TOO_FAR: u8 = 22;
+
+/// The code of a file that isn't analysed.
+pub const NOT_ANALYSED: u8 = 99;
+
+/// The status of an input with this fault.
+pub fn fault_status(fault: Fault) -> u8
+    ensures { result ≡ fault_status fault }
+{
+    match fault {
+        Fault::Nothing | Fault::File { .. } | Fault::Edge { .. } | Fault::Limit { .. } => {
+            FILE_REFUSED
+        }
+        Fault::Rule { .. } => EVIDENCE_REJECTED,
+        Fault::Dossier { .. } => DOSSIER_REFUSED,
+    }
+}

@@ -1,0 +1,57 @@
+//! How a run ends.
+use crate::fault::Fault;
+use drt_model::Row;
+use drt_table::Entry;
+
+/// How a run ends: the status that the program ends with, what shows a spent budget, and the fault
+/// of a refused input.
+#[derive(Debug, Drop)]
+pub struct Outcome {
+    pub status: u8,
+    pub trail: Trail,
+    pub fault: Fault,
+}
+
+/// What shows that a budget was spent.
+#[derive(Debug, Drop)]
+pub enum Trail {
+    /// No budget was spent.
+    Nothing,
+    /// The search of this task's walks spent it, by the steps of this log.
+    Table { task: u32, log: Row<Entry> },
+    /// The search for an overload spent it; its last step time, in ticks.
+    Overload { last: u64 },
+}
+
+/// The schedulable set's status.
+pub const YES: u8 = 0;
+
+/// The status of a set that isn't schedulable.
+pub const NO: u8 = 1;
+
+/// The status of a utilisation of one.
+pub const ONE: u8 = 2;
+
+/// The status of a spent budget.
+pub const UNDECIDED: u8 = 3;
+
+/// The status of a refused file.
+pub const FILE_REFUSED: u8 = 4;
+
+/// The status of refused words.
+pub const WORDS_REFUSED: u8 = 5;
+
+/// The status of a failed read.
+pub const READ_FAILED: u8 = 6;
+
+/// The status of a failed write.
+pub const WRITE_FAILED: u8 = 7;
+
+/// The status of want of memory.
+pub const OUT_OF_MEMORY: u8 = 8;
+
+/// The status of evidence that breaks a rule.
+pub const EVIDENCE_REJECTED: u8 = 9;
+
+/// The status of a refused dossier.
+pub const DOSSIER_REFUSED: u8 = 10;

@@ -1,0 +1,2 @@
+pub mod EvidenceLemmas
+pub mod Lateness

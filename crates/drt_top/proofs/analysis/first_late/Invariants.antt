@@ -1,6 +1,0 @@
-use Rattle.std.proofs.Common.{take, All}
-use Rattle.drt_top.specs.Answers.{Fits}
-use Rattle.drt_top.proofs.analysis.first_late.Given as goal
-
-abbrev pub invariant-loop-i : goal.invariant-loop-i
-invariant-loop-i l = All Fits (take l.i l.vertices)

@@ -1,7 +1,0 @@
-use Rattle.std.proofs.Common.{refl}
-use Rattle.clap.proofs.OnLiterals.{clap_on_literals}
-use Rattle.drt_top.proofs.word_laws.no_command.Goals as goal
-
-pub returns : goal.returns
-unfolding clap_on_literals
-returns c = record { none = refl; program = λ program. refl }

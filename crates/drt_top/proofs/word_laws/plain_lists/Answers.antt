@@ -1,5 +1,0 @@
-use Rattle.drt_top.proofs.PlainLemmas.{plain_means}
-use Rattle.drt_top.proofs.word_laws.plain_lists.Goals as goal
-
-pub returns : goal.returns
-returns c = plain_means

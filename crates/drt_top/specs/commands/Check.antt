@@ -1,0 +1,98 @@
+-- `check`: what it says of a dossier, what it refuses, and with which status it ends.
+use Rattle.std.specs.Prelude.{◌≡◌, ℕ, ◌≤◌, ◌<◌, ◌⊎◌, List, [], codes, length}
+use Rattle.drt_evidence.specs.Numbered.{BreaksFirst}
+use Rattle.drt_evidence.specs.Reading.{HasDossierFault, IsTextOf}
+use Rattle.drt_evidence.specs.Statement.{Statement}
+use Rattle.drt_evidence.specs.declared.evidence.Evidence.TheVariants.{Undecided}
+use Rattle.drt_check.specs.Judging.{IsJudged, IsSound}
+use Rattle.drt_check.specs.declared.judgement.Judgement.{Judgement}
+use Rattle.drt_check.specs.declared.judgement.Judgement.TheVariants as judgements
+use Rattle.drt_outcome.specs.declared.fault.Fault.{Fault}
+use Rattle.drt_outcome.specs.declared.fault.Fault.TheVariants.{Nothing, File, Edge, Limit, Rule, Dossier}
+use Rattle.drt_outcome.specs.declared.outcome.Trail.TheVariants as trails
+use Rattle.drt_command.specs.declared.input.Input.{Input}
+use Rattle.drt_command.specs.declared.input.Input.TheVariants.{AtMost}
+use Rattle.drt_command.specs.declared.report.Report.{Report}
+use Rattle.drt_command.specs.Rules.{Rules}
+
+-- A dossier that is checked has at most so many bytes.
+abbrev pub most_dossier_bytes : ℕ
+most_dossier_bytes = 1073741824
+
+-- The line of each judgement; rejected evidence has none.
+abbrev pub verdict : Judgement → List ℕ
+verdict judgements.Schedulable = codes "schedulable\n"
+verdict judgements.Unschedulable = codes "unschedulable\n"
+verdict judgements.UtilisationOne = codes "utilisation-one\n"
+verdict judgements.NothingToCheck = codes "nothing-to-check\n"
+verdict (judgements.Rejected number) = []
+
+-- The status of each judgement.
+abbrev pub judged_status : Judgement → ℕ
+judged_status judgements.Schedulable = 0
+judged_status judgements.Unschedulable = 1
+judged_status judgements.UtilisationOne = 2
+judged_status judgements.NothingToCheck = 3
+judged_status (judgements.Rejected number) = 9
+
+-- The bytes are the text of this dossier and of no other, and aren't too many.
+pub record IsDossier (bytes : List ℕ) (s : Statement) : Type 0 where
+  pub small : length bytes ≤ most_dossier_bytes
+  pub is : IsTextOf s bytes
+  pub only : (t : Statement) → IsTextOf t bytes → t ≡ s
+
+-- The bytes are a dossier with this judgement, which means what it says whoever made the dossier.
+pub record IsJudgementOf (bytes : List ℕ) (judgement : Judgement) : Type 0 where
+  pub statement : Statement
+  pub dossier : IsDossier bytes statement
+  pub judged : IsJudged statement judgement
+  pub sound : IsSound statement judgement
+
+-- `check`: the bytes are a dossier, and the status and the text are those of its judgement.
+pub record Checks (bytes : List ℕ) (made : Report) : Type 0 where
+  pub judgement : Judgement
+  pub of : IsJudgementOf bytes judgement
+  pub status_is : made.status ≡ judged_status judgement
+  pub not_rejected : made.status < 4
+  pub text_is : made.text ≡ verdict judgement
+  pub trail : made.trail ≡ trails.Nothing
+
+-- The bytes are a dossier whose evidence breaks rules, of which this is the least number.
+pub record IsRejected (bytes : List ℕ) (number : ℕ) : Type 0 where
+  pub statement : Statement
+  pub dossier : IsDossier bytes statement
+  pub claims : ¬ (statement.evidence ≡ Undecided)
+  pub first : BreaksFirst statement number
+
+-- The bytes are no dossier's text, and stop being one at this line with this code.
+pub record IsNoDossier (bytes : List ℕ) (line code : ℕ) : Type 0 where
+  pub small : length bytes ≤ most_dossier_bytes
+  pub none : (s : Statement) → ¬ IsTextOf s bytes
+  pub fault : HasDossierFault bytes line code
+
+-- A dossier has this fault: code 4 at line 0 where it is too long, else the fault of its text, else the least number of a rule that
+-- its evidence breaks.
+abbrev pub IsDossierFault : List ℕ → Fault → Type 0
+IsDossierFault bytes Nothing = ⊥
+IsDossierFault bytes (File line code) = ⊥
+IsDossierFault bytes (Edge task edge) = ⊥
+IsDossierFault bytes (Limit code) = ⊥
+IsDossierFault bytes (Rule number) = IsRejected bytes number
+IsDossierFault bytes (Dossier line code) = ((most_dossier_bytes < length bytes) × (line ≡ 0) × (code ≡ 4)) ⊎ IsNoDossier bytes line code
+
+-- The status of `check` at a dossier where nothing fails: that of the dossier's judgement.
+abbrev pub CheckEnds : Statement → ℕ → Type 0
+CheckEnds s status = (judgement : Judgement) × IsJudged s judgement × IsSound s judgement × (status ≡ judged_status judgement)
+
+-- A command that reads a dossier takes at most so many bytes, else the dossier's fault 4.
+abbrev pub dossier_input : Input
+dossier_input = AtMost most_dossier_bytes (Dossier 0 4)
+
+-- What is promised of `check`.
+abbrev pub check_rules : Rules
+check_rules = record {
+  input = dossier_input;
+  makes = Checks;
+  refuses = IsDossierFault;
+  ends = λ bytes status. (s : Statement) → IsTextOf s bytes → length bytes ≤ most_dossier_bytes → CheckEnds s status;
+}

@@ -1,0 +1,391 @@
+-- A list that gives an option of a search a value out of its range is refused, wherever in the list that stands.
+use Rattle.std.proofs.Common.{◌≡◌, ◌⊎◌, ◌++◌, ℕ, zero, suc, Bool, cond, true, false, List, [], ◌∷◌, Option, Some, None, codes, refl, sym, inl, inr, length, drop, fold, encode_utf8, slice_get, bytes_eq, chars, append_assoc, append-nil, ne_eqb, suc-ne-zero, true≢false}
+use Rattle.clap.proofs.OnLiterals.{clap_on_literals}
+use Rattle.clap.specs.Kinds.{Kinds, or_else}
+use Rattle.clap.specs.Lexer.{long_of, short_of}
+use Rattle.clap.specs.ValueTests.{is_unsigned_in}
+use Rattle.clap.specs.Simple.{App, Shape, built, filled, names_of, new_shape, with_index}
+use Rattle.clap.specs.Walk.{Held, Names, Outcome, Row, Rule, Step, Text, Waiting, Walk, bundle_step, done, waits, plain, refused, idle, option, positional, next, trailing, subcommand, value, after_flag, after_step, arg_by_long, bundle, bundle_met, is_empty, long_or_other, nothing_held, plain_word, settled, short_or_plain, walk_from, walked, word_met}
+use Rattle.clap.specs.Faults.{entered_fault, fault_of, flag_word_fault, level_fault, long_fault, repeat_fault, settle_fault, step_fault, turn_fault, use_fault, walk_fault, word_fault}
+use Rattle.drt_words.specs.CommandLine.{drt_app, number_rule}
+use Rattle.drt_words.specs.Meaning.{meaning_of}
+use Rattle.drt_words.specs.Searches.{most_budget, most_workers}
+use Rattle.drt_words.specs.Plain.{Searcher, for_edf, for_sp, searcher_word, Spells, apart, joined, GivesBadNumber, bad_workers, bad_budget}
+
+-- ---- some kind of fault
+
+-- there is a fault
+abbrev Faulty : Kinds → Type 0
+Faulty [] = ⊥
+Faulty (k ∷ kinds) = Unit {0}
+
+or_first : (a b : Kinds) → Faulty a → Faulty (or_else a b)
+or_first [] b h = absurd h
+or_first (k ∷ ks) b h = tt
+
+or_second : (a b : Kinds) → Faulty b → Faulty (or_else a b)
+or_second [] b h = h
+or_second (k ∷ ks) b h = tt
+
+-- a list of kinds that has one isn't empty
+not_empty : (kinds : Kinds) → Faulty kinds → is_empty kinds ≡ false
+not_empty [] h = absurd h
+not_empty (k ∷ kinds) h = ne_eqb (length (k ∷ kinds)) 0 (suc-ne-zero (length kinds))
+
+-- ---- the two options
+
+data Number : Type 0 where
+  for_workers : Number
+  for_budget : Number
+
+abbrev option_name : Number → Text
+option_name for_workers = codes "workers"
+option_name for_budget = codes "budget"
+
+abbrev greatest : Number → ℕ
+greatest for_workers = most_workers
+greatest for_budget = most_budget
+
+-- the options as built
+abbrev workers_rule : Rule
+workers_rule = with_index 1 (filled (number_rule (codes "workers") most_workers (codes "4")))
+
+abbrev budget_rule : Rule
+budget_rule = with_index 1 (filled (number_rule (codes "budget") most_budget (codes "100000")))
+
+abbrev option_rule : Number → Rule
+option_rule for_workers = workers_rule
+option_rule for_budget = budget_rule
+
+abbrev both : List Rule
+both = workers_rule ∷ budget_rule ∷ []
+
+-- the command of a search, as built
+abbrev leaf : Searcher → Shape
+leaf k = record (new_shape (searcher_word k)) {
+  rules = both;
+  disable_help_flag = true;
+  disable_help_subcommand = true;
+  disable_version_flag = true;
+  is_built = true;
+}
+
+-- ---- the walk of such a command
+
+-- a walk that no subcommand stopped
+abbrev at : Held → Waiting → ℕ → Bool → Walk
+at h waiting position is_trailing = record { held = h; waiting = waiting; position = position; is_trailing = is_trailing; stopped = None }
+
+-- the words lead to a fault on the way or at the end
+abbrev Fails : Searcher → Walk → List Text → Type 0
+Fails k w words = Faulty (walk_fault (leaf k) [] w words) ⊎ Faulty (settle_fault both false (fold (walked both []) w words).held)
+
+-- the step enters no subcommand
+abbrev IsWithin : Step → Type 0
+IsWithin (next waiting) = Unit {0}
+IsWithin (trailing position) = Unit {0}
+IsWithin (subcommand name) = ⊥
+IsWithin value = Unit {0}
+
+plain_within : (waiting : Waiting) (word : Text) (h : Held) → IsWithin (plain_word both waiting word h).1
+plain_within idle word h = tt
+plain_within (option id) word h = tt
+plain_within positional word h = tt
+
+flag_within : (waiting : Waiting) (word : Text) (h : Held) (o : Outcome) → IsWithin (after_flag both waiting word h o).1
+flag_within waiting word h done = tt
+flag_within waiting word h (waits id) = tt
+flag_within waiting word h plain = plain_within waiting word h
+flag_within waiting word h refused = plain_within waiting word h
+
+short_within : (waiting : Waiting) (word : Text) (flags : Option Text) (h : Held) → IsWithin (short_or_plain both waiting word flags h).1
+short_within waiting word (Some flags) h = flag_within waiting word (bundle both flags h).0 (bundle both flags h).1
+short_within waiting word None h = plain_within waiting word h
+
+long_within : (waiting : Waiting) (word : Text) (name : Option (Text × Option Text)) (h : Held) → IsWithin (long_or_other both waiting word name h).1
+long_within waiting word (Some p) h = flag_within waiting word _ _
+long_within waiting word None h = short_within waiting word (short_of word) h
+
+dash_within : (b : Bool) (waiting : Waiting) (position : ℕ) (word : Text) (h : Held)
+    → IsWithin (cond b (h, trailing position) (long_or_other both waiting word (long_of word) h)).1
+dash_within true waiting position word h = tt
+dash_within false waiting position word h = long_within waiting word (long_of word) h
+
+met_within : (is_trailing : Bool) (waiting : Waiting) (position : ℕ) (word : Text) (h : Held)
+    → IsWithin (word_met both [] is_trailing waiting position word h).1
+met_within true waiting position word h = tt
+met_within false idle position word h = dash_within _ idle position word h
+met_within false (option id) position word h = dash_within _ (option id) position word h
+met_within false positional position word h = dash_within _ positional position word h
+
+-- a walk after one more word
+record Goes (h : Held) (waiting : Waiting) (position : ℕ) (is_trailing : Bool) (word : Text) : Type 0 where
+  to_held : Held
+  to_waiting : Waiting
+  to_position : ℕ
+  to_trailing : Bool
+  is : walked both [] (at h waiting position is_trailing) word ≡ at to_held to_waiting to_position to_trailing
+
+goes : (h : Held) (waiting : Waiting) (position : ℕ) (is_trailing : Bool) (word : Text) → Goes h waiting position is_trailing word
+unfolding walked
+goes h waiting position is_trailing word =
+    let met = word_met both [] is_trailing waiting position word h in
+    step met.0 met.1 (met_within is_trailing waiting position word h) refl
+  where
+    start : Walk
+    start = at h waiting position is_trailing
+
+    step : (g : Held) (s : Step) → IsWithin s → walked both [] start word ≡ after_step both word start g s → Goes h waiting position is_trailing word
+    step g (next w) in_it e = record { to_held = g; to_waiting = w; to_position = position; to_trailing = is_trailing; is = e }
+    step g (trailing p) in_it e = record { to_held = g; to_waiting = waiting; to_position = p; to_trailing = true; is = e }
+    step g (subcommand name) in_it e = absurd in_it
+    step g value in_it e = record { to_held = g; to_waiting = waiting; to_position = position; to_trailing = is_trailing; is = e }
+
+-- a fault of the next word, or of those after it
+now : (k : Searcher) (w : Walk) (word : Text) (words : List Text) → Faulty (turn_fault (leaf k) [] w word) → Fails k w (word ∷ words)
+unfolding walk_fault
+now k w word words bad = inl (or_first _ _ bad)
+
+later : (k : Searcher) (w v : Walk) (word : Text) (words : List Text) → walked both [] w word ≡ v → Fails k v words → Fails k w (word ∷ words)
+unfolding walk_fault
+later k w v word words is fails = go (rw is fails)
+  where
+    go : Fails k (walked both [] w word) words → Fails k w (word ∷ words)
+    go (inl bad) = inl (or_second (turn_fault (leaf k) [] w word) _ bad)
+    go (inr bad) = inr bad
+
+-- ---- a walk that holds an option whose values are refused
+
+-- the option that is held is refused once it is used
+abbrev IsRefused : Held → Type 0
+IsRefused h = Faulty (settle_fault both false h)
+
+-- a word that no option takes is refused
+stray : (k : Searcher) (h : Held) (waiting : Waiting) (position : ℕ) (word : Text) (words : List Text) → Fails k (at h waiting position true) (word ∷ words)
+stray k h waiting position word words = now k (at h waiting position true) word words tt
+
+-- the option of a long name
+data Named (o : Option Rule) : Type 0 where
+  unknown : o ≡ None → Named o
+  known : (n : Number) → o ≡ Some (option_rule n) → Named o
+
+named : (name : Text) → Named (arg_by_long both name)
+named name = go (bytes_eq (codes "workers") name) (bytes_eq (codes "budget") name) refl refl
+  where
+    go : (a b : Bool) → bytes_eq (codes "workers") name ≡ a → bytes_eq (codes "budget") name ≡ b → Named (arg_by_long both name)
+    go true b e f = known for_workers (rw e refl)
+    go false true e f = known for_budget (rw (e, f) refl)
+    go false false e f = unknown (rw (e, f) refl)
+
+option_first : (n : Number) (v : Option Text) (h : Held) → IsRefused h → Faulty (long_fault both false (Some (option_rule n)) v h)
+option_first for_workers (Some v) h bad = or_first _ _ bad
+option_first for_workers None h bad = bad
+option_first for_budget (Some v) h bad = or_first _ _ bad
+option_first for_budget None h bad = bad
+
+-- an option uses what was held before it
+long_first : (name : Text) (v : Option Text) (h : Held) → IsRefused h → Faulty (long_fault both false (arg_by_long both name) v h)
+long_first name v h bad = go (arg_by_long both name) (named name)
+  where
+    go : (o : Option Rule) → Named o → Faulty (long_fault both false o v h)
+    go o (unknown e) = rw e tt
+    go o (known n e) = rw e (option_first n v h bad)
+
+-- no option has a short name
+record IsNoFlag (h : Held) (o : Held × Outcome) : Type 0 where
+  held : o.0 ≡ h
+  outcome : (o.1 ≡ plain) ⊎ (o.1 ≡ refused)
+
+bundle_none : (n : ℕ) (flags : Text) (skip : ℕ) (h : Held) → IsNoFlag h (bundle_met both n flags skip plain h)
+unfolding bundle_met
+bundle_none zero flags skip h = record { held = refl; outcome = inl refl }
+bundle_none (suc n) flags skip h = step (bundle_none n) (slice_get (chars flags) 0) skip
+  where
+    step : ((rest : Text) (m : ℕ) (g : Held) → IsNoFlag g (bundle_met both n rest m plain g)) → (x : Option ℕ) (m : ℕ)
+        → IsNoFlag h (bundle_step both x flags m plain h (bundle_met both n))
+    step after None m = record { held = refl; outcome = inl refl }
+    step after (Some x) zero = record { held = refl; outcome = inr refl }
+    step after (Some x) (suc m) = after (drop (length (encode_utf8 x)) flags) m h
+
+-- such a word goes to no option where none waits
+quiet : (word : Text) (h : Held) (flags : Option Text) → (short_or_plain both idle word flags h).1 ≡ value
+quiet word h None = refl
+quiet word h (Some flags) = go (bundle both flags h) (bundle_none (length flags) flags h.skip (record h { skip = 0 }))
+  where
+    go : (o : Held × Outcome) → IsNoFlag (record h { skip = 0 }) o → (after_flag both idle word o.0 o.1).1 ≡ value
+    go o none = elim none.outcome [ inl e ↦ rw e refl | inr e ↦ rw e refl ]
+
+step_stray : (k : Searcher) (position : ℕ) (h : Held) (s : Step) → s ≡ value → Faulty (step_fault (leaf k) position h s)
+step_stray k position h s e = rw e tt
+
+abbrev dashes : Text
+dashes = 45 ∷ 45 ∷ []
+
+-- nothing takes a word that is no flag
+idle_stray : (k : Searcher) (h : Held) (position : ℕ) (word : Text) (words : List Text) → bytes_eq word dashes ≡ false → long_of word ≡ None
+    → Fails k (at h idle position false) (word ∷ words)
+idle_stray k h position word words dash long =
+    let met : (word_met both [] false idle position word h).1 ≡ value = rw (dash, long) (quiet word h (short_of word)) in
+    now k (at h idle position false) word words (or_second _ _ (step_stray k position (word_met both [] false idle position word h).0 _ met))
+
+-- a word that begins with two dashes is read before anything else
+flag_first : (k : Searcher) (h : Held) (waiting : Waiting) (position : ℕ) (word : Text) (words : List Text) → bytes_eq word dashes ≡ false
+    → Faulty (flag_word_fault both false (long_of word) word h) → Fails k (at h waiting position false) (word ∷ words)
+flag_first k h idle position word words dash bad = now k (at h idle position false) word words (or_first (word_fault (leaf k) [] false idle word h) _ (rw dash bad))
+flag_first k h (option id) position word words dash bad = now k (at h (option id) position false) word words (or_first (word_fault (leaf k) [] false (option id) word h) _ (rw dash bad))
+flag_first k h positional position word words dash bad = now k (at h positional position false) word words (or_first (word_fault (leaf k) [] false positional word h) _ (rw dash bad))
+
+-- whatever follows, what is held is refused
+stuck : (k : Searcher) (words : List Text) (h : Held) (waiting : Waiting) (position : ℕ) (is_trailing : Bool) → (is_trailing ≡ true) ⊎ (waiting ≡ idle) → IsRefused h
+    → Fails k (at h waiting position is_trailing) words
+unfolding walked
+stuck k [] h waiting position is_trailing free bad = inr bad
+stuck k (word ∷ words) h waiting position true free bad = stray k h waiting position word words
+stuck k (word ∷ words) h waiting position false (inl e) bad = absurd (true≢false (sym e))
+stuck k (word ∷ words) h waiting position false (inr e) bad = rw e (go (stuck k words h idle position true (inl refl) bad) (bytes_eq word dashes) refl (long_of word) refl)
+  where
+    go : Fails k (at h idle position true) words → (b : Bool) → bytes_eq word dashes ≡ b → (o : Option (Text × Option Text)) → long_of word ≡ o → Fails k (at h idle position false) (word ∷ words)
+    go after true dash o long = later k (at h idle position false) (at h idle position true) word words (rw dash refl) after
+    go after false dash (Some p) long = flag_first k h idle position word words dash (rw long (long_first p.0 p.1 h bad))
+    go after false dash None long = idle_stray k h position word words dash long
+
+-- ---- an option with a value out of its range
+
+-- a use of an option with such a value is refused
+use_refused : (n : Number) (text : Text) (rows : List Row) → is_unsigned_in 1 (greatest n) text ≡ false → Faulty (use_fault false (option_rule n) (text ∷ []) rows)
+use_refused for_workers text rows bad = or_second (repeat_fault false (codes "workers") rows) _ (rw bad tt)
+use_refused for_budget text rows bad = or_second (repeat_fault false (codes "budget") rows) _ (rw bad tt)
+
+-- the option waits for its value
+abbrev awaiting : Number → Held → Held
+awaiting n h = record (settled both h) { pending = Some (option_name n, []) }
+
+awaiting_refused : (n : Number) (h : Held) → IsRefused (awaiting n h)
+awaiting_refused for_workers h = tt
+awaiting_refused for_budget h = tt
+
+-- the option has its value
+record Taken (n : Number) (text : Text) (o : Held × Step) : Type 0 where
+  to_held : Held
+  is : o ≡ (to_held, next idle)
+  pending : to_held.pending ≡ Some (option_name n, text ∷ [])
+
+-- the value of an option that waits, held without regard to flags
+plain_taken : (n : Number) (h : Held) (text : Text) → Taken n text (plain_word both (option (option_name n)) text (record (awaiting n h) { skip = 0 }))
+plain_taken for_workers h text = record { to_held = _; is = refl; pending = refl }
+plain_taken for_budget h text = record { to_held = _; is = refl; pending = refl }
+
+value_taken : (n : Number) (h : Held) (text : Text) (flags : Option Text) → Taken n text (short_or_plain both (option (option_name n)) text flags (awaiting n h))
+value_taken for_workers h text None = record { to_held = _; is = refl; pending = refl }
+value_taken for_budget h text None = record { to_held = _; is = refl; pending = refl }
+value_taken n h text (Some flags) = go (bundle both flags (awaiting n h)) (bundle_none (length flags) flags (awaiting n h).skip (record (awaiting n h) { skip = 0 }))
+  where
+    go : (o : Held × Outcome) → IsNoFlag (record (awaiting n h) { skip = 0 }) o → Taken n text (after_flag both (option (option_name n)) text o.0 o.1)
+    go o none = elim none.outcome [
+      | inl e ↦ rw (e, none.held) (plain_taken n h text)
+      | inr e ↦ rw (e, none.held) (plain_taken n h text)
+    ]
+
+taken_refused : (n : Number) (text : Text) (h : Held) → is_unsigned_in 1 (greatest n) text ≡ false → h.pending ≡ Some (option_name n, text ∷ []) → IsRefused h
+taken_refused for_workers text h bad e = rw e (use_refused for_workers text h.rows bad)
+taken_refused for_budget text h bad e = rw e (use_refused for_budget text h.rows bad)
+
+-- the value follows the option
+second : (k : Searcher) (n : Number) (text : Text) (back : List Text) (h : Held) (position : ℕ) → is_unsigned_in 1 (greatest n) text ≡ false
+    → Fails k (at (awaiting n h) (option (option_name n)) position false) (text ∷ back)
+unfolding walked
+second k n text back h position bad = go (bytes_eq text dashes) refl (long_of text) refl
+  where
+    waits_for : Walk
+    waits_for = at (awaiting n h) (option (option_name n)) position false
+
+    go : (b : Bool) → bytes_eq text dashes ≡ b → (o : Option (Text × Option Text)) → long_of text ≡ o → Fails k waits_for (text ∷ back)
+    go true dash o long =
+        later k waits_for (at (awaiting n h) (option (option_name n)) position true) text back (rw dash refl)
+        (stuck k back (awaiting n h) (option (option_name n)) position true (inl refl) (awaiting_refused n h))
+    go false dash (Some p) long =
+        flag_first k (awaiting n h) (option (option_name n)) position text back dash (rw long (long_first p.0 p.1 (awaiting n h) (awaiting_refused n h)))
+    go false dash None long =
+        let t = value_taken n h text (short_of text) in
+        later k waits_for (at t.to_held idle position false) text back (rw (dash, long, t.is) refl)
+        (stuck k back t.to_held idle position false (inr refl) (taken_refused n text t.to_held bad t.pending))
+
+-- the option's own word
+awaits : (n : Number) (h : Held) (waiting : Waiting) (position : ℕ)
+    → walked both [] (at h waiting position false) (codes "--" ++ option_name n) ≡ at (awaiting n h) (option (option_name n)) position false
+unfolding walked
+awaits for_workers h idle position = refl
+awaits for_workers h (option id) position = refl
+awaits for_workers h positional position = refl
+awaits for_budget h idle position = refl
+awaits for_budget h (option id) position = refl
+awaits for_budget h positional position = refl
+
+joined_refused : (k : Searcher) (n : Number) (text : Text) (back : List Text) (h : Held) (waiting : Waiting) (position : ℕ) → is_unsigned_in 1 (greatest n) text ≡ false
+    → Fails k (at h waiting position false) ((codes "--" ++ option_name n ++ codes "=" ++ text) ∷ back)
+joined_refused k for_workers text back h waiting position bad =
+    flag_first k h waiting position _ back refl (or_second (settle_fault both false h) _ (use_refused for_workers text (settled both h).rows bad))
+joined_refused k for_budget text back h waiting position bad =
+    flag_first k h waiting position _ back refl (or_second (settle_fault both false h) _ (use_refused for_budget text (settled both h).rows bad))
+
+given : (k : Searcher) (n : Number) (text : Text) (words back : List Text) → is_unsigned_in 1 (greatest n) text ≡ false → Spells (option_name n) text words
+    → (h : Held) (waiting : Waiting) (position : ℕ) (is_trailing : Bool) → Fails k (at h waiting position is_trailing) (words ++ back)
+given k n text words back bad apart h waiting position true = stray k h waiting position _ _
+given k n text words back bad joined h waiting position true = stray k h waiting position _ _
+given k n text words back bad apart h waiting position false = later k _ _ _ _ (awaits n h waiting position) (second k n text back h position bad)
+given k n text words back bad joined h waiting position false = joined_refused k n text back h waiting position bad
+
+anywhere : (k : Searcher) (n : Number) (text : Text) (words back : List Text) → is_unsigned_in 1 (greatest n) text ≡ false → Spells (option_name n) text words
+    → (front : List Text) (h : Held) (waiting : Waiting) (position : ℕ) (is_trailing : Bool) → Fails k (at h waiting position is_trailing) (front ++ words ++ back)
+anywhere k n text words back bad s [] h waiting position is_trailing = given k n text words back bad s h waiting position is_trailing
+anywhere k n text words back bad s (word ∷ front) h waiting position is_trailing =
+    let g = goes h waiting position is_trailing word in
+    later k _ _ word _ g.is (anywhere k n text words back bad s front g.to_held g.to_waiting g.to_position g.to_trailing)
+
+-- ---- the whole list
+
+level_fails : (k : Searcher) (words : List Text) → Fails k (walk_from nothing_held) words → Faulty (level_fault (leaf k) [] nothing_held words false [])
+level_fails k words (inl bad) = or_first _ _ bad
+level_fails k words (inr bad) = or_second _ _ (or_first _ _ bad)
+
+-- a walk that stopped keeps the words that follow
+keeps : (c : List Rule) (names : Names) (words : List Text) (w : Walk) (name : Text) (met : List Text) → w.stopped ≡ Some (name, met)
+    → (fold (walked c names) w words).stopped ≡ Some (name, met ++ words)
+unfolding walked
+keeps c names [] w name met e = rw (append-nil met) e
+keeps c names (word ∷ words) w name met e =
+    rw (← append_assoc met (word ∷ []) words) (keeps c names words (walked c names w word) name (met ++ word ∷ []) (rw e refl))
+
+-- the command as built, and its walk over the name of a search and these words
+abbrev whole : App
+whole = built drt_app
+
+abbrev entering : Searcher → List Text → Walk
+entering k words = fold (walked whole.top.rules (names_of whole)) (walked whole.top.rules (names_of whole) (walk_from nothing_held) (searcher_word k)) words
+
+enters : (k : Searcher) (words : List Text) → (entering k words).stopped ≡ Some (searcher_word k, words)
+unfolding clap_on_literals
+enters for_edf words = keeps whole.top.rules (names_of whole) words (walked whole.top.rules (names_of whole) (walk_from nothing_held) (codes "edf")) (codes "edf") [] refl
+enters for_sp words = keeps whole.top.rules (names_of whole) words (walked whole.top.rules (names_of whole) (walk_from nothing_held) (codes "sp")) (codes "sp") [] refl
+
+refused_below : (k : Searcher) (program : Text) (words : List Text) → Faulty (level_fault (leaf k) [] nothing_held words false [])
+    → meaning_of (program ∷ searcher_word k ∷ words) ≡ None
+unfolding clap_on_literals
+refused_below for_edf program words bad =
+    let faulty : Faulty (fault_of drt_app (program ∷ codes "edf" ∷ words)) =
+    or_second (walk_fault whole.top (names_of whole) (walk_from nothing_held) (codes "edf" ∷ words)) _
+    (or_first (entered_fault whole (entering for_edf words).stopped) _ (rw (enters for_edf words) bad)) in
+    rw (not_empty (fault_of drt_app (program ∷ codes "edf" ∷ words)) faulty) refl
+refused_below for_sp program words bad =
+    let faulty : Faulty (fault_of drt_app (program ∷ codes "sp" ∷ words)) =
+    or_second (walk_fault whole.top (names_of whole) (walk_from nothing_held) (codes "sp" ∷ words)) _
+    (or_first (entered_fault whole (entering for_sp words).stopped) _ (rw (enters for_sp words) bad)) in
+    rw (not_empty (fault_of drt_app (program ∷ codes "sp" ∷ words)) faulty) refl
+
+refuses : (k : Searcher) (n : Number) (program text : Text) (front words back : List Text) → is_unsigned_in 1 (greatest n) text ≡ false → Spells (option_name n) text words
+    → meaning_of (program ∷ searcher_word k ∷ (front ++ words ++ back)) ≡ None
+refuses k n program text front words back bad s = refused_below k program _ (level_fails k _ (anywhere k n text words back bad s front nothing_held idle 1 false))
+
+pub bad_means : (words : List (List ℕ)) → GivesBadNumber words → meaning_of words ≡ None
+bad_means words (bad_workers command program text front spelled back bad s) = refuses command for_workers program text front spelled back bad s
+bad_means words (bad_budget command program text front spelled back bad s) = refuses command for_budget program text front spelled back bad s

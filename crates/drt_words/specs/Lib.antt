@@ -1,0 +1,5 @@
+pub mod Searches
+pub mod CommandLine
+pub mod Number
+pub mod Meaning
+pub mod Plain

@@ -1,0 +1,35 @@
+-- What a list of words means.
+use Rattle.std.specs.Prelude.{ℕ, List, Option, Some, None, if◌then◌else◌}
+use Rattle.std.specs.Prelude.{codes, option_map, option_and_then}
+use Rattle.std.specs.Str.{bytes_eq}
+use Rattle.clap.specs.Words.{Row, Text, first_of, subcommand_of, fault_of}
+use Rattle.clap.specs.Walk.{is_empty}
+use Rattle.drt_words.specs.CommandLine.{drt_app}
+use Rattle.drt_words.specs.Number.{number_in}
+use Rattle.drt_words.specs.Searches.{Numbers, most_budget, most_workers}
+use Rattle.drt_words.specs.declared.meaning.Meaning.{Meaning}
+use Rattle.drt_words.specs.declared.meaning.Meaning.TheVariants.{Edf, Sp, Upgrade, Util, Check}
+
+-- The number of an option that is there, or stands by default.
+abbrev pub number_at : Text → ℕ → List Row → Option ℕ
+number_at name most rows = option_and_then (number_in most) (first_of name rows)
+
+-- The numbers of a search, by its options.
+abbrev pub search_at : List Row → Option Numbers
+search_at rows = option_and_then (λ workers. option_map (λ budget. record { workers = workers; budget = budget })
+    (number_at (codes "budget") most_budget rows)) (number_at (codes "workers") most_workers rows)
+
+-- What a command of this name asks for with these options.
+abbrev pub meaning_at : Text → List Row → Option Meaning
+meaning_at name rows =
+    if bytes_eq name (codes "edf") then option_map Edf (search_at rows)
+    else (if bytes_eq name (codes "sp") then option_map Sp (search_at rows)
+    else (if bytes_eq name (codes "upgrade") then Some Upgrade
+    else (if bytes_eq name (codes "util") then Some Util
+    else (if bytes_eq name (codes "check") then Some Check else None))))
+
+-- What a list of words means: what clap's command states of the words, where it refuses none of them.
+abbrev pub meaning_of : List Text → Option Meaning
+meaning_of words =
+    if is_empty (fault_of drt_app words)
+    then option_and_then (λ p. meaning_at p.0 p.1) (subcommand_of drt_app words) else None

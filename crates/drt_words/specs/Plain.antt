@@ -1,0 +1,67 @@
+-- Plain lists of words, and lists that must be refused.
+use Rattle.std.specs.Prelude.{◌≡◌, ◌≢◌, ◌≤◌, ℕ, List, [], ◌∷◌, ◌++◌, codes, false, None, slice_index}
+use Rattle.std.specs.Str.{bytes_eq}
+use Rattle.std.specs.Str.Parse.{IsNumeral, digits_value}
+use Rattle.clap.specs.Lexer.{long_of, short_of}
+use Rattle.clap.specs.ValueTests.{is_unsigned_in}
+use Rattle.drt_words.specs.Searches.{most_budget, most_workers}
+use Rattle.drt_words.specs.declared.meaning.Meaning.{Meaning}
+use Rattle.drt_words.specs.declared.meaning.Meaning.TheVariants.{Edf, Sp, Upgrade, Util, Check}
+
+-- The text is a number from 1 to `most` in decimal digits without leading zeros.
+pub record IsPlainNumber (most : ℕ) (text : List ℕ) (n : ℕ) : Type 0 where
+  pub digits : IsNumeral 10 text
+  pub no_leading_zero : slice_index text 0 ≢ 48
+  pub value : digits_value 10 text ≡ n
+  pub some : 1 ≤ n
+  pub within : n ≤ most
+
+-- An option with its value is spelled `--name value` or `--name=value`.
+pub data Spells (name text : List ℕ) : List (List ℕ) → Type 0 where
+  apart : Spells name text ((codes "--" ++ name) ∷ text ∷ [])
+  joined : Spells name text ((codes "--" ++ name ++ codes "=" ++ text) ∷ [])
+
+-- The options of a command that searches, each at most once and in any order, with the numbers that they give or the defaults.
+pub data PlainOptions : List (List ℕ) → ℕ → ℕ → Type 0 where
+  neither : PlainOptions [] 4 100000
+  workers : (words : List (List ℕ)) (a : List ℕ) (m : ℕ) → IsPlainNumber most_workers a m → Spells (codes "workers") a words → PlainOptions words m 100000
+  budget : (words : List (List ℕ)) (b : List ℕ) (n : ℕ) → IsPlainNumber most_budget b n → Spells (codes "budget") b words → PlainOptions words 4 n
+  workers_first : (front back : List (List ℕ)) (a b : List ℕ) (m n : ℕ) → IsPlainNumber most_workers a m → IsPlainNumber most_budget b n
+      → Spells (codes "workers") a front → Spells (codes "budget") b back → PlainOptions (front ++ back) m n
+  budget_first : (front back : List (List ℕ)) (a b : List ℕ) (m n : ℕ) → IsPlainNumber most_workers a m → IsPlainNumber most_budget b n
+      → Spells (codes "budget") b front → Spells (codes "workers") a back → PlainOptions (front ++ back) m n
+
+-- The commands that search.
+pub data Searcher : Type 0 where
+  for_edf : Searcher
+  for_sp : Searcher
+
+-- The name of such a command.
+abbrev pub searcher_word : Searcher → List ℕ
+searcher_word for_edf = codes "edf"
+searcher_word for_sp = codes "sp"
+
+-- What it means with workers and a budget.
+abbrev pub searcher_meaning : Searcher → ℕ → ℕ → Meaning
+searcher_meaning for_edf m n = Edf (record { workers = m; budget = n })
+searcher_meaning for_sp m n = Sp (record { workers = m; budget = n })
+
+-- A plain list: a program name, a command, then that command's options.
+pub data IsPlain : List (List ℕ) → Meaning → Type 0 where
+  plain_searcher : (program : List ℕ) (command : Searcher) (options : List (List ℕ)) (m n : ℕ) → PlainOptions options m n → IsPlain (program ∷ searcher_word command ∷ options) (searcher_meaning command m n)
+  plain_upgrade : (program : List ℕ) → IsPlain (program ∷ codes "upgrade" ∷ []) Upgrade
+  plain_util : (program : List ℕ) → IsPlain (program ∷ codes "util" ∷ []) Util
+  plain_check : (program : List ℕ) → IsPlain (program ∷ codes "check" ∷ []) Check
+
+-- The word isn't `--` and doesn't read as a flag.
+pub record BeginsPlain (text : List ℕ) : Type 0 where
+  pub no_dashes : bytes_eq text (codes "--") ≡ false
+  pub no_long : long_of text ≡ None
+  pub no_short : short_of text ≡ None
+
+-- The list gives an option of a command that searches a value that is no number in its range, whatever stands before it and after it.
+pub data GivesBadNumber : List (List ℕ) → Type 0 where
+  bad_workers : (command : Searcher) (program text : List ℕ) (front words back : List (List ℕ)) → is_unsigned_in 1 most_workers text ≡ false
+      → Spells (codes "workers") text words → GivesBadNumber (program ∷ searcher_word command ∷ (front ++ words ++ back))
+  bad_budget : (command : Searcher) (program text : List ℕ) (front words back : List (List ℕ)) → is_unsigned_in 1 most_budget text ≡ false
+      → Spells (codes "budget") text words → GivesBadNumber (program ∷ searcher_word command ∷ (front ++ words ++ back))

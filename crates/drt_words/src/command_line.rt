@@ -1,0 +1,70 @@
+//! The command line, as `clap` is told of it. A further command is one more line of `drt`.
+ghost use Rattle.std.specs.Prelude.{◌≡◌, IfOk, false, codes};
+ghost use Rattle.clap.specs.Words.{app_of, new_app, rule_of};
+ghost use Rattle.clap.specs.declared.builder.Command.TheViews.{out-Command};
+ghost use Rattle.drt_words.specs.CommandLine.{bare_app, drt_app, number_rule, search_app, with_plain, with_search};
+
+use crate::search::{MOST_BUDGET, MOST_WORKERS};
+use clap::builder::ValueParser;
+use clap::{Arg, ArgAction, Command};
+use std::alloc::{AllocError, Global};
+
+// An option of one whole number from 1 to `most`.
+fn number_option<'a>(alloc: Global, name: &'a str, most: u64, standard: &'a str) -> Arg<'a>
+    ensures rule { rule_of result ≡ number_rule name.entry.now most standard.entry.now }
+    ensures local { result.global ≡ false }
+{
+    Arg::new(alloc, name)
+        .long(name)
+        .action(ArgAction::Set)
+        .value_parser(ValueParser::Unsigned(1, most))
+        .default_value(standard)
+}
+
+// A command that searches: with the options for workers and budget.
+fn search<'a>(alloc: Global, name: &'a str) -> Result<Command<'a>, AllocError>
+    ensures app { IfOk result (λ c. app_of c ≡ search_app name.entry.now) }
+    ensures local { IfOk result (λ c. (out-Command c).has_globals ≡ false) }
+{
+    let workers = number_option(alloc, "workers", u64::from(MOST_WORKERS), "4");
+    let budget = number_option(alloc, "budget", u64::from(MOST_BUDGET), "100000");
+    let command = Command::new(alloc, name).arg(workers)?;
+    command.arg(budget)
+}
+
+// The command line that has no command yet: help, version and the help subcommand are off, and a subcommand is required.
+fn bare<'a>(alloc: Global) -> Command<'a>
+    ensures { app_of result ≡ bare_app (new_app (codes "drt")) }
+{
+    Command::new(alloc, "drt")
+        .disable_help_flag(true)
+        .disable_version_flag(true)
+        .disable_help_subcommand(true)
+        .subcommand_required(true)
+}
+
+// The command line with one more command that searches.
+fn add_search<'a>(alloc: Global, top: Command<'a>, name: &'a str) -> Result<Command<'a>, AllocError>
+    ensures { IfOk result (λ c. app_of c ≡ with_search (app_of top.entry) name.entry.now) }
+{
+    top.subcommand(search(alloc, name)?)
+}
+
+// The command line with one more command that has no options.
+fn add_plain<'a>(alloc: Global, top: Command<'a>, name: &'a str) -> Result<Command<'a>, AllocError>
+    ensures { IfOk result (λ c. app_of c ≡ with_plain (app_of top.entry) name.entry.now) }
+{
+    top.subcommand(Command::new(alloc, name))
+}
+
+// The whole command line.
+pub(crate) fn drt<'a>(alloc: Global) -> Result<Command<'a>, AllocError>
+    ensures { IfOk result (λ c. app_of c ≡ drt_app) }
+{
+    let top = bare(alloc);
+    let edf = add_search(alloc, top, "edf")?;
+    let sp = add_search(alloc, edf, "sp")?;
+    let upgrade = add_plain(alloc, sp, "upgrade")?;
+    let util = add_plain(alloc, upgrade, "util")?;
+    add_plain(alloc, util, "check")
+}

@@ -1,0 +1,17 @@
+//! What a list of words asks for.
+use crate::search::Search;
+
+/// What a list of words asks for.
+#[derive(Debug, Drop)]
+pub enum Meaning {
+    /// The answer under EDF.
+    Edf { search: Search },
+    /// The answer under fixed priorities.
+    Sp { search: Search },
+    /// The task file as one of version 2.
+    Upgrade,
+    /// The ratio of each task, and the utilisation.
+    Util,
+    /// The checker's judgement of a dossier.
+    Check,
+}

@@ -1,0 +1,45 @@
+use super::*;
+use std::alloc::Global;
+use std::test::Fail;
+
+// Whether these words mean `edf` with so many steps.
+fn means_edf(alloc: Global, words: &[&str], budget: u32) -> bool {
+    match words_of(alloc, words) {
+        Ok(Meaning::Edf { search }) => search.budget() == budget,
+        _ => false,
+    }
+}
+
+// Whether these words are refused.
+fn are_refused(alloc: Global, words: &[&str]) -> bool {
+    matches!(words_of(alloc, words), Err(WordsError::Refused))
+}
+
+#[test]
+fn words_of_edf_mean_its_budget(rt: HostRuntime) -> Result<(), Fail> {
+    let cases = [
+        (["drt", "edf", "--budget=7"], 7),
+        (["drt", "edf", "--workers=16"], 100_000),
+        (["drt", "edf", "--budget=1000000"], 1_000_000),
+    ];
+    for (words, budget) in cases {
+        assert!(rt; means_edf(rt.alloc(), words.as_slice(), budget), "{budget}");
+    }
+    Ok(())
+}
+
+#[test]
+fn words_out_of_range_are_refused(rt: HostRuntime) -> Result<(), Fail> {
+    let cases = [
+        ["drt", "sp", "--workers=0"],
+        ["drt", "sp", "--workers=17"],
+        ["drt", "sp", "--budget=1000001"],
+        ["drt", "edf", "--workers=-1"],
+        ["drt", "upgrade", "--workers=2"],
+        ["drt", "help", "sp"],
+    ];
+    for words in cases {
+        assert!(rt; are_refused(rt.alloc(), words.as_slice()), "{words:?}");
+    }
+    Ok(())
+}
