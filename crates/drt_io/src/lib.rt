@@ -26,6 +26,3 @@ pub use steady::Steady;
 pub use sure_sink::SureSink;
 pub use sure_source::SureSource;
 pub use writing::write_all;
-
-#[cfg(test)]
-mod tests;

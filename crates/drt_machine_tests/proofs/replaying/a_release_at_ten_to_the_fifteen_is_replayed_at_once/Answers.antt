@@ -1,7 +1,7 @@
 use Rattle.std.proofs.Common.{ℕ, refl, sym, ap, ◌∙◌, subst, arith}
 use Rattle.drt_model.specs.Misses.{IsJob}
 use Rattle.drt_replay.specs.Board.{Shown}
-use Rattle.drt_replay.proofs.tests.a_release_at_ten_to_the_fifteen_is_replayed_at_once.Goals as goal
+use Rattle.drt_machine_tests.proofs.replaying.a_release_at_ten_to_the_fifteen_is_replayed_at_once.Goals as goal
 
 pub finish_time-requires-2 : goal.finish_time-requires-2
 finish_time-requires-2 g c =

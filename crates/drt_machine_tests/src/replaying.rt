@@ -1,39 +1,17 @@
 //! Worked replays, and replays beside the plain tick machine.
-ghost use Rattle.std.specs.Prelude.{◌≤◌, ◌<◌, ◌^◌, length};
+ghost use Rattle.std.specs.Prelude.{◌≡◌, ◌≤◌, ◌<◌, ◌^◌, length};
 
-use crate::Board;
+use drt_fixtures::make_looped;
 use drt_model::{
-    Edge, Job, Memory, Miss, Name, Policy, Release, Row, Task, TaskSet, Vertex, legal, plain_trace,
-    task_set,
+    Job, Memory, Miss, Policy, Release, Row, Task, TaskSet, legal, plain_trace, task_set,
 };
+use drt_replay::Board;
 use std::alloc::Global;
-use std::process::Abort;
 use std::test::Fail;
 
-// A task of one vertex with a loop: its priority, its execution time, and its deadline and separation.
-fn looped(
-    alloc: Global,
-    name: &[u8],
-    (priority, wcet, deadline): (u32, u32, u32),
-) -> Result<Task, Memory> {
-    let mut vertices = Vec::new(alloc);
-    vertices.push(Vertex {
-        name: Name::from_vec(Vec::from_slice(alloc, name)?),
-        wcet,
-        deadline,
-    })?;
-    let mut edges = Vec::new(alloc);
-    edges.push(Edge {
-        from: 0,
-        to: 0,
-        sep: deadline,
-    })?;
-    Ok(Task {
-        name: Name::from_vec(Vec::from_slice(alloc, name)?),
-        priority,
-        vertices: Row::from_vec(vertices),
-        edges: Row::from_vec(edges),
-    })
+// Such a task: its priority, its execution time, and its deadline and separation.
+fn looped(alloc: Global, name: &[u8], task: (u32, u32, u32)) -> Result<Task, Memory> {
+    make_looped(alloc, name, task.0, task.1, task.2)
 }
 
 fn one_task(alloc: Global, task: (u32, u32, u32)) -> Result<Option<TaskSet>, Memory> {
@@ -140,22 +118,38 @@ fn expected(miss: Option<(u32, u32, u32)>, t: u64) -> Option<Miss> {
     }
 }
 
-// Replays a case and compares each tick with the plain machine; a case by hand has its first miss as well.
-fn replay(rt: &impl Abort, alloc: Global, case: Case, by_hand: bool) -> Result<(), Fail> {
+// Whether a replay shows at each tick what the plain machine does; a case by hand has its first miss as well.
+fn replays(alloc: Global, case: Case, by_hand: bool) -> Result<bool, Fail> {
     let set = two_tasks(alloc, case.first, case.second)?.ok_or("past the limits")?;
     let [x, y, z] = case.releases;
     let releases = [at(x), at(y), at(z)];
     let jobs = [job(case, x), job(case, y), job(case, z)];
-    assert!(rt; legal(&set, &releases));
+    if !legal(&set, &releases) {
+        return Ok(false);
+    }
     let picks = plain_trace(alloc, case.policy, &jobs, 20)?;
     let mut board = Board::start(alloc, &set, case.policy, &releases)?;
+    Ok(shows(&mut board, case, by_hand, &jobs, picks.as_slice()))
+}
+
+// Whether the board shows the plain machine's misses at the ticks 0 to 19.
+fn shows(
+    board: &mut Board,
+    case: Case,
+    by_hand: bool,
+    jobs: &[Job; 3],
+    picks: &[Option<u32>],
+) -> bool
+    requires { board.old.ticks ≡ 0 }
+{
     for t in 0..20 {
         board.run_until(t);
         let miss = board.first_miss();
-        assert!(rt; !by_hand || miss == expected(case.miss, t));
-        assert_eq!(rt; miss, plain_miss(&jobs, picks.as_slice(), t));
+        if miss != plain_miss(jobs, picks, t) || by_hand && miss != expected(case.miss, t) {
+            return false;
+        }
     }
-    Ok(())
+    true
 }
 
 #[test]
@@ -221,8 +215,8 @@ fn first_misses_are_those_worked_by_hand_and_of_the_plain_machine(
             miss: Some((0, 0, 5)),
         },
     ];
-    for case in cases {
-        replay(&rt, rt.alloc(), case, true)?;
+    for (i, case) in cases.iter().enumerate() {
+        assert!(rt; replays(rt.alloc(), *case, true)?, "case {i}");
     }
     Ok(())
 }
@@ -277,9 +271,9 @@ fn a_thousand_drawn_lists_are_replayed_as_by_the_plain_machine(
     rt: HostRuntime,
 ) -> Result<(), Fail> {
     let mut draws = Draws { state: 1 };
-    for _ in 0..1000 {
+    for i in 0..1000 {
         let case = drawn(&mut draws);
-        replay(&rt, rt.alloc(), case, false)?;
+        assert!(rt; replays(rt.alloc(), case, false)?, "list {i}");
     }
     Ok(())
 }

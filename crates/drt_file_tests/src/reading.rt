@@ -1,100 +1,18 @@
-//! Texts and sets by hand.
-use crate::fault::FileError;
-use crate::printing::print;
-use crate::reading::read;
-use crate::versions::upgrade;
-use drt_model::{Edge, Memory, Name, Row, Task, Vertex, task_set};
+//! Faults of task files, and what spelling leaves free.
+use drt_file::{FileError, print, read, upgrade};
+use drt_fixtures::texts::PERIODIC;
+use drt_model::Memory;
 use std::alloc::Global;
 use std::test::Fail;
 
-fn name(alloc: Global, bytes: &[u8]) -> Result<Name, Memory> {
-    Ok(Name::from_vec(Vec::from_slice(alloc, bytes)?))
-}
-
-fn vertex(alloc: Global, bytes: &[u8], wcet: u32, deadline: u32) -> Result<Vertex, Memory> {
-    Ok(Vertex {
-        name: name(alloc, bytes)?,
-        wcet,
-        deadline,
-    })
-}
-
-fn edge(from: u32, to: u32, sep: u32) -> Edge {
-    Edge { from, to, sep }
-}
-
-// A task of two vertices with an edge each way.
-fn two_modes(alloc: Global) -> Result<Task, Memory> {
-    let mut vertices = Vec::new(alloc);
-    vertices.push(vertex(alloc, b"a", 1, 10)?)?;
-    vertices.push(vertex(alloc, b"b_2", 20, 300)?)?;
-    let mut edges = Vec::new(alloc);
-    edges.push(edge(0, 1, 15))?;
-    edges.push(edge(1, 0, 400))?;
-    Ok(Task {
-        name: name(alloc, b"A")?,
-        priority: 7,
-        vertices: Row::from_vec(vertices),
-        edges: Row::from_vec(edges),
-    })
-}
-
-// A task of one vertex and no edge.
-fn one_shot(alloc: Global) -> Result<Task, Memory> {
-    let mut vertices = Vec::new(alloc);
-    vertices.push(vertex(alloc, b"x", 1_000_000, 1_000_000)?)?;
-    Ok(Task {
-        name: name(alloc, b"B-1")?,
-        priority: 1_000_000,
-        vertices: Row::from_vec(vertices),
-        edges: Row::from_vec(Vec::new(alloc)),
-    })
-}
-
-#[test]
-fn a_set_of_version_2_prints_each_task_with_its_priority(rt: HostRuntime) -> Result<(), Fail> {
-    let alloc = rt.alloc();
-    let mut tasks = Vec::new(alloc);
-    tasks.push(two_modes(alloc)?)?;
-    tasks.push(one_shot(alloc)?)?;
-    let set = task_set(2, Row::from_vec(tasks)).ok_or("within the limits")?;
-    let text = print(alloc, &set)?;
-    assert!(rt;
-        text.as_slice()
-            == b"drt 2\ntask A\npriority 7\nvertex a 1 10\nvertex b_2 20 300\nedge a b_2 15\nedge b_2 a 400\ntask B-1\npriority 1000000\nvertex x 1000000 1000000\nend\n".as_slice()
-    );
-    Ok(())
-}
-
-#[test]
-fn the_text_of_a_set_of_one_task_is_read_and_printed(rt: HostRuntime) -> Result<(), Fail> {
-    let alloc = rt.alloc();
-    let bytes = b"drt 1\ntask T\nvertex a 2 5\nedge a a 5\nend\n".as_slice();
-    let set = read(alloc, bytes)?;
-    assert_eq!(rt; set.version(), 1);
-    let tasks = set.tasks();
-    assert_eq!(rt; tasks.len(), 1);
-    let task = &tasks[0];
-    assert!(rt; task.name.as_slice() == b"T".as_slice());
-    assert_eq!(rt; task.priority, 1);
-    let vertices = task.vertices.as_slice();
-    assert_eq!(rt; vertices.len(), 1);
-    assert!(rt; vertices[0].name.as_slice() == b"a".as_slice());
-    assert_eq!(rt; vertices[0].wcet, 2);
-    assert_eq!(rt; vertices[0].deadline, 5);
-    assert_eq!(rt; task.edges.as_slice(), [edge(0, 0, 5)].as_slice());
-    let text = print(alloc, &set)?;
-    assert!(rt; text.as_slice() == bytes);
-    Ok(())
-}
-
-fn fault_of(rt: &HostRuntime, text: &[u8]) -> (u32, u8) {
+// The line and the code of a text's fault, zeros for none; code 98 is want of memory.
+fn fault_of(alloc: Global, text: &[u8]) -> (u32, u8) {
     if text.len() > 100_000 {
-        return (1, 1);
+        return (0, 97);
     }
-    match read(rt.alloc(), text) {
+    match read(alloc, text) {
         Ok(_) => (0, 0),
-        Err(FileError::Fault(f)) => (f.line, f.code),
+        Err(FileError::Fault(fault)) => (fault.line, fault.code),
         Err(FileError::Memory) => (0, 98),
     }
 }
@@ -151,7 +69,7 @@ fn the_first_faulty_line_gives_the_fault(rt: HostRuntime) {
         (b"drt 2\ntask T\nvertex a 1 1\nend\n".as_slice(), 2, 26),
     ];
     for (text, line, code) in texts {
-        assert_eq!(rt; fault_of(&rt, text), (line, code));
+        assert_eq!(rt; fault_of(rt.alloc(), text), (line, code));
     }
 }
 
@@ -182,32 +100,36 @@ fn the_least_code_that_fits_a_line_wins(rt: HostRuntime) {
         (b"drt 1\n".as_slice(), 2, 16),
     ];
     for (text, line, code) in texts {
-        assert_eq!(rt; fault_of(&rt, text), (line, code));
+        assert_eq!(rt; fault_of(rt.alloc(), text), (line, code));
     }
 }
 
-#[test]
-fn blanks_comments_and_line_ends_are_free(rt: HostRuntime) -> Result<(), Fail> {
-    let alloc = rt.alloc();
-    let bytes =
-        b"\r\n# Pr\xc3\xbcfstand\r\n\tdrt \t1\r\ntask T\r\n vertex\ta  2 005\r\nedge a\ta 5 \r\n  #\nend".as_slice();
-    let set = read(alloc, bytes)?;
-    let text = print(alloc, &set)?;
-    assert!(rt; text.as_slice() == b"drt 1\ntask T\nvertex a 2 5\nedge a a 5\nend\n".as_slice());
-    Ok(())
+// Whether a text reads as a set that prints as this one.
+fn reads_as(alloc: Global, text: &[u8], printed: &[u8]) -> Result<bool, Fail> {
+    if text.len() > 100_000 {
+        return Ok(false);
+    }
+    let set = read(alloc, text)?;
+    Ok(print(alloc, &set)?.as_slice() == printed)
 }
 
 #[test]
-fn a_priority_stands_anywhere_in_its_task(rt: HostRuntime) -> Result<(), Fail> {
-    let alloc = rt.alloc();
-    let bytes =
-        b"drt 2\ntask T2\nvertex b 2 4\nedge b b 8\npriority 09\ntask T1\npriority 3\nvertex a 2 2\nedge a a 4\nend\n".as_slice();
-    let set = read(alloc, bytes)?;
-    let text = print(alloc, &set)?;
-    assert!(rt;
-        text.as_slice()
-            == b"drt 2\ntask T2\npriority 9\nvertex b 2 4\nedge b b 8\ntask T1\npriority 3\nvertex a 2 2\nedge a a 4\nend\n".as_slice()
-    );
+fn blanks_comments_line_ends_and_places_of_priorities_are_free(
+    rt: HostRuntime,
+) -> Result<(), Fail> {
+    let cases = [
+        (
+            b"\r\n# Pr\xc3\xbcfstand\r\n\tdrt \t1\r\ntask T\r\n vertex\ta  2 005\r\nedge a\ta 5 \r\n  #\nend".as_slice(),
+            PERIODIC.as_bytes(),
+        ),
+        (
+            b"drt 2\ntask T2\nvertex b 2 4\nedge b b 8\npriority 09\ntask T1\npriority 3\nvertex a 2 2\nedge a a 4\nend\n".as_slice(),
+            b"drt 2\ntask T2\npriority 9\nvertex b 2 4\nedge b b 8\ntask T1\npriority 3\nvertex a 2 2\nedge a a 4\nend\n".as_slice(),
+        ),
+    ];
+    for (text, printed) in cases {
+        assert!(rt; reads_as(rt.alloc(), text, printed)?);
+    }
     Ok(())
 }
 
@@ -223,9 +145,14 @@ fn one_vertex(alloc: Global, length: u32, wcet: &[u8]) -> Result<Vec<u8>, Memory
     Ok(text)
 }
 
+// The fault of such a text.
+fn fault_of_vertex(alloc: Global, length: u32, wcet: &[u8]) -> Result<(u32, u8), Memory> {
+    let text = one_vertex(alloc, length, wcet)?;
+    Ok(fault_of(alloc, text.as_slice()))
+}
+
 #[test]
 fn names_and_times_have_limits_on_both_sides(rt: HostRuntime) -> Result<(), Fail> {
-    let alloc = rt.alloc();
     let cases = [
         (32, b"1".as_slice(), (0, 0)),
         (33, b"1".as_slice(), (3, 7)),
@@ -244,14 +171,13 @@ fn names_and_times_have_limits_on_both_sides(rt: HostRuntime) -> Result<(), Fail
         ),
     ];
     for (length, wcet, fault) in cases {
-        let text = one_vertex(alloc, length, wcet)?;
-        assert_eq!(rt; fault_of(&rt, text.as_slice()), fault);
+        assert_eq!(rt; fault_of_vertex(rt.alloc(), length, wcet)?, fault);
     }
     Ok(())
 }
 
-// A text of this version with so many tasks of so many vertices each, and so many edges, each
-// between two of the first 17 vertices.
+// A text of so many tasks of so many vertices each, and so many edges, each between two of the
+// first 17 vertices.
 fn sized(
     alloc: Global,
     head: &[u8],
@@ -283,39 +209,49 @@ fn sized(
     Ok(text)
 }
 
+// The fault of such a text.
+fn fault_of_size(
+    alloc: Global,
+    head: &[u8],
+    (tasks, vertices, edges): (u8, u8, u16),
+) -> Result<(u32, u8), Memory> {
+    let text = sized(alloc, head, tasks, vertices, edges)?;
+    Ok(fault_of(alloc, text.as_slice()))
+}
+
 #[test]
 fn tasks_vertices_and_edges_have_limits_by_version(rt: HostRuntime) -> Result<(), Fail> {
-    let alloc = rt.alloc();
     let one = b"drt 1\n".as_slice();
     let two = b"drt 2\n".as_slice();
     let cases = [
-        (one, 16, 1, 0, (0, 0)),
-        (one, 17, 1, 0, (34, 13)),
-        (two, 32, 1, 0, (2, 26)),
-        (two, 33, 1, 0, (66, 13)),
-        (one, 1, 48, 256, (0, 0)),
-        (one, 1, 49, 0, (51, 14)),
-        (two, 1, 96, 256, (2, 26)),
-        (two, 1, 97, 0, (99, 14)),
-        (one, 1, 17, 257, (276, 15)),
+        (one, (16u8, 1u8, 0u16), (0u32, 0u8)),
+        (one, (17, 1, 0), (34, 13)),
+        (two, (32, 1, 0), (2, 26)),
+        (two, (33, 1, 0), (66, 13)),
+        (one, (1, 48, 256), (0, 0)),
+        (one, (1, 49, 0), (51, 14)),
+        (two, (1, 96, 256), (2, 26)),
+        (two, (1, 97, 0), (99, 14)),
+        (one, (1, 17, 257), (276, 15)),
     ];
-    for (head, tasks, vertices, edges, fault) in cases {
-        let text = sized(alloc, head, tasks, vertices, edges)?;
-        assert_eq!(rt; fault_of(&rt, text.as_slice()), fault);
+    for (head, size, fault) in cases {
+        assert_eq!(rt; fault_of_size(rt.alloc(), head, size)?, fault);
     }
     Ok(())
 }
 
+// Whether a text, upgraded, prints as this one.
+fn upgrades_to(alloc: Global, text: &str, printed: &str) -> Result<bool, Fail> {
+    if text.len() > 100_000 {
+        return Ok(false);
+    }
+    let set = read(alloc, text.as_bytes())?;
+    Ok(print(alloc, &upgrade(set))?.as_slice() == printed.as_bytes())
+}
+
 #[test]
 fn upgrading_changes_the_version_alone(rt: HostRuntime) -> Result<(), Fail> {
-    let alloc = rt.alloc();
-    let set = read(
-        alloc,
-        b"drt 1\ntask T\nvertex a 2 5\nedge a a 5\nend\n".as_slice(),
-    )?;
-    let text = print(alloc, &upgrade(set))?;
-    assert!(rt;
-        text.as_slice() == b"drt 2\ntask T\npriority 1\nvertex a 2 5\nedge a a 5\nend\n".as_slice()
-    );
+    let printed = "drt 2\ntask T\npriority 1\nvertex a 2 5\nedge a a 5\nend\n";
+    assert!(rt; upgrades_to(rt.alloc(), PERIODIC, printed)?);
     Ok(())
 }

@@ -1,6 +1,5 @@
 //! Canonical texts at the front of files, by hand.
-use crate::front::{CanonicalError, read_canonical};
-use crate::printing::print;
+use drt_file::{CanonicalError, print, read_canonical};
 use drt_model::Memory;
 use std::alloc::Global;
 use std::test::Fail;
@@ -10,20 +9,35 @@ fn two_tasks() -> &'static [u8] {
 }
 
 // The line of the fault and whether it is missing; line 0 where there is none, missing for want of memory.
-fn fault_of(rt: &HostRuntime, text: &[u8]) -> (u32, bool) {
+fn fault_of(alloc: Global, text: &[u8]) -> (u32, bool) {
     if text.len() > 100_000 {
         return (99, true);
     }
-    match read_canonical(rt.alloc(), text) {
+    match read_canonical(alloc, text) {
         Ok(_) => (0, false),
         Err(CanonicalError::Fault { line, missing }) => (line, missing),
         Err(CanonicalError::Memory) => (0, true),
     }
 }
 
+// Whether the text of two tasks is read in front of these bytes, and of no more.
+fn is_read_before(alloc: Global, tail: &[u8]) -> Result<bool, Fail> {
+    let mut bytes = Vec::from_slice(alloc, two_tasks())?;
+    bytes.extend_from_slice(tail)?;
+    if bytes.as_slice().len() > 1000 {
+        return Ok(false);
+    }
+    let front = read_canonical(alloc, bytes.as_slice())?;
+    Ok(
+        front.length == 140
+            && front.set.version() == 2
+            && front.set.tasks().len() == 2
+            && print(alloc, &front.set)?.as_slice() == two_tasks(),
+    )
+}
+
 #[test]
 fn the_text_at_the_front_is_read_whatever_follows(rt: HostRuntime) -> Result<(), Fail> {
-    let alloc = rt.alloc();
     let tails = [
         b"".as_slice(),
         b"\n".as_slice(),
@@ -31,16 +45,7 @@ fn the_text_at_the_front_is_read_whatever_follows(rt: HostRuntime) -> Result<(),
         b"drt 1\ntask T\nvertex a 2 5\nend\n".as_slice(),
     ];
     for tail in tails {
-        let mut bytes = Vec::from_slice(alloc, two_tasks())?;
-        bytes.extend_from_slice(tail)?;
-        if bytes.as_slice().len() < 1000 {
-            let front = read_canonical(alloc, bytes.as_slice())?;
-            assert_eq!(rt; front.length, 140);
-            assert_eq!(rt; front.set.version(), 2);
-            assert_eq!(rt; front.set.tasks().len(), 2);
-            let text = print(alloc, &front.set)?;
-            assert!(rt; text.as_slice() == two_tasks());
-        }
+        assert!(rt; is_read_before(rt.alloc(), tail)?);
     }
     Ok(())
 }
@@ -50,7 +55,7 @@ fn wherever_a_text_is_cut_its_next_line_is_missing(rt: HostRuntime) {
     let text = two_tasks();
     let mut line = 1;
     for (i, b) in text.iter().enumerate() {
-        assert_eq!(rt; fault_of(&rt, &text[..i]), (line, true));
+        assert_eq!(rt; fault_of(rt.alloc(), &text[..i]), (line, true));
         if *b == b'\n' && line < 1000 {
             line += 1;
         }
@@ -77,7 +82,7 @@ fn a_first_line_is_drt_and_the_version(rt: HostRuntime) {
         (b"drt 1\ndrt 1\n".as_slice(), (2, false)),
     ];
     for (text, fault) in texts {
-        assert_eq!(rt; fault_of(&rt, text), fault);
+        assert_eq!(rt; fault_of(rt.alloc(), text), fault);
     }
 }
 
@@ -115,8 +120,15 @@ fn lines_stand_in_the_order_of_print(rt: HostRuntime) {
         ),
     ];
     for (text, fault) in texts {
-        assert_eq!(rt; fault_of(&rt, text), fault);
+        assert_eq!(rt; fault_of(rt.alloc(), text), fault);
     }
+}
+
+// The fault of a text whose fourth line begins so.
+fn fault_of_line(alloc: Global, line: &[u8]) -> Result<(u32, bool), Memory> {
+    let mut text = Vec::from_slice(alloc, b"drt 1\ntask T\nvertex a 2 5\n".as_slice())?;
+    text.extend_from_slice(line)?;
+    Ok(fault_of(alloc, text.as_slice()))
 }
 
 #[test]
@@ -149,11 +161,8 @@ fn a_line_stands_as_it_is_printed(rt: HostRuntime) -> Result<(), Fail> {
         (b"task T\n".as_slice(), (4, false)),
         (b"task U\n".as_slice(), (5, true)),
     ];
-    let alloc = rt.alloc();
     for (line, fault) in lines {
-        let mut text = Vec::from_slice(alloc, b"drt 1\ntask T\nvertex a 2 5\n".as_slice())?;
-        text.extend_from_slice(line)?;
-        assert_eq!(rt; fault_of(&rt, text.as_slice()), fault);
+        assert_eq!(rt; fault_of_line(rt.alloc(), line)?, fault);
     }
     Ok(())
 }
@@ -174,7 +183,7 @@ fn a_priority_is_printed_once(rt: HostRuntime) {
         ),
     ];
     for (text, fault) in texts {
-        assert_eq!(rt; fault_of(&rt, text), fault);
+        assert_eq!(rt; fault_of(rt.alloc(), text), fault);
     }
 }
 
@@ -213,23 +222,31 @@ fn sized(alloc: Global, two: bool, tasks: u8, vertices: u8, edges: u16) -> Resul
     Ok(text)
 }
 
+// The fault of such a text.
+fn fault_of_size(
+    alloc: Global,
+    two: bool,
+    (tasks, vertices, edges): (u8, u8, u16),
+) -> Result<(u32, bool), Memory> {
+    let text = sized(alloc, two, tasks, vertices, edges)?;
+    Ok(fault_of(alloc, text.as_slice()))
+}
+
 #[test]
 fn one_task_vertex_or_edge_too_many_begins_no_text(rt: HostRuntime) -> Result<(), Fail> {
-    let alloc = rt.alloc();
     let cases = [
-        (false, 16, 1, 0, (0, false)),
-        (false, 17, 1, 0, (34, false)),
-        (true, 32, 1, 0, (0, false)),
-        (true, 33, 1, 0, (98, false)),
-        (false, 1, 48, 256, (0, false)),
-        (false, 1, 49, 0, (51, false)),
-        (true, 1, 96, 256, (0, false)),
-        (true, 1, 97, 0, (100, false)),
-        (false, 1, 17, 257, (276, false)),
+        (false, (16u8, 1u8, 0u16), (0u32, false)),
+        (false, (17, 1, 0), (34, false)),
+        (true, (32, 1, 0), (0, false)),
+        (true, (33, 1, 0), (98, false)),
+        (false, (1, 48, 256), (0, false)),
+        (false, (1, 49, 0), (51, false)),
+        (true, (1, 96, 256), (0, false)),
+        (true, (1, 97, 0), (100, false)),
+        (false, (1, 17, 257), (276, false)),
     ];
-    for (two, tasks, vertices, edges, fault) in cases {
-        let text = sized(alloc, two, tasks, vertices, edges)?;
-        assert_eq!(rt; fault_of(&rt, text.as_slice()), fault);
+    for (two, size, fault) in cases {
+        assert_eq!(rt; fault_of_size(rt.alloc(), two, size)?, fault);
     }
     Ok(())
 }
