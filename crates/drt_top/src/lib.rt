@@ -10,13 +10,9 @@
 mod analysis;
 mod answering;
 mod check;
-#[cfg(test)]
-mod check_tests;
 mod command;
 mod dossier;
 mod edf;
-#[cfg(test)]
-mod edf_tests;
 mod input;
 mod making;
 pub mod notices;
@@ -24,11 +20,7 @@ mod number;
 pub mod outcome;
 pub mod running;
 pub mod stop;
-#[cfg(test)]
-mod tests;
 mod util;
-#[cfg(test)]
-mod util_tests;
 pub mod word_laws;
 pub mod words;
 
