@@ -16,8 +16,6 @@ pub mod fault;
 mod faults;
 mod finishing;
 pub mod front;
-#[cfg(test)]
-mod front_tests;
 pub mod laws;
 mod line;
 mod name_table;
@@ -27,8 +25,6 @@ pub mod reading;
 pub mod state;
 mod steps;
 mod strict;
-#[cfg(test)]
-mod tests;
 pub mod versions;
 pub mod words;
 

@@ -1,66 +1,83 @@
 //! Standard writers as sinks.
-ghost use Rattle.std.specs.Prelude.{◌≡◌, ◌≤◌, ◌<◌, IfOk, None, length};
+ghost use Rattle.std.specs.Prelude.{◌≡◌};
+ghost use Rattle.std.specs.Io.{WritesAtMost};
+ghost use Rattle.drt_io.specs.Writing.{MovesOn, WriteGrows};
 
 use crate::device::{Failed, Sink};
+use crate::steady::Steady;
 use std::io::Write;
 use std::marker::Model;
 
-/// A writer of std as a sink. It tells no bytes. Each error of the writer, also of the flush
-/// after each write, and each write that takes nothing of a non-empty piece raises its count of
-/// faults, which is what contracts see of it.
+/// A writer of std as a sink, flushed after each write. It tells the bytes that the writer tells.
+/// Each error of the writer and of a flush, and each write that takes nothing of a non-empty
+/// piece, raises its count of faults. Bytes whose flush failed count as not taken, and nothing
+/// more is written after them.
 #[derive(Drop)]
-pub struct FromWrite<W: Write + Drop> {
+pub struct FromWrite<W: Steady + Drop> {
     writer: W,
+    unflushed: usize,
     faults: u64,
 }
 
-impl<W: Write + Drop> Model for FromWrite<W> {
-    ghost use Rattle.std.specs.Prelude.{ℕ};
+impl<W: Steady + Drop> Model for FromWrite<W> {
+    ghost use Rattle.drt_io.specs.Devices.{Outflow, without_last};
 
-    ghost Value = { ℕ };
+    ghost Value = { Outflow };
 
-    ghost view = { λ s. s.faults };
+    ghost view = { λ s. record { held = without_last s.unflushed (W.contents s.writer); faults = s.faults } };
 }
 
-impl<W: Write + Drop> FromWrite<W> {
+impl<W: Steady + Drop> FromWrite<W> {
     /// A sink that writes to the writer.
     pub fn new(writer: W) -> FromWrite<W>
-        ensures { result ≡ 0 }
+        ensures { result ≡ record { held = W.contents writer; faults = 0 } }
     {
-        FromWrite { writer, faults: 0 }
+        FromWrite {
+            writer,
+            unflushed: 0,
+            faults: 0,
+        }
+    }
+
+    // A write and the flush after it.
+    fn write_out(&mut self, piece: &[u8]) -> Result<usize, Failed>
+        ensures bound { WritesAtMost result piece.now }
+        ensures progress { MovesOn result piece.now }
+        ensures bytes { WriteGrows self.old.held self.new.held result piece.now }
+        ensures same { self.new.faults ≡ self.old.faults }
+    {
+        if self.unflushed > 0 {
+            return Err(Failed);
+        }
+        let count = match self.writer.write(piece) {
+            Ok(count) => count,
+            Err(_) => return Err(Failed),
+        };
+        if count == 0 && !piece.is_empty() {
+            return Err(Failed);
+        }
+        match self.writer.flush() {
+            Ok(()) => Ok(count),
+            Err(_) => {
+                self.unflushed = count;
+                Err(Failed)
+            }
+        }
     }
 }
 
-impl<W: Write + Drop> Sink for FromWrite<W> {
-    ghost held = { λ _. None };
+impl<W: Steady + Drop> Sink for FromWrite<W> {
+    ghost held = { λ s. s.held };
 
-    ghost faults = { λ s. s };
+    ghost faults = { λ s. s.faults };
 
     fn write(&mut self, piece: &[u8]) -> Result<usize, Failed> {
-        match write_out(&mut self.writer, piece) {
+        match self.write_out(piece) {
             Ok(count) => Ok(count),
             Err(failed) => {
                 self.faults = self.faults.saturating_add(1);
                 Err(failed)
             }
         }
-    }
-}
-
-// One write and the flush after it.
-fn write_out<W: Write>(writer: &mut W, piece: &[u8]) -> Result<usize, Failed>
-    ensures bound { IfOk result (λ n. n ≤ length piece.now) }
-    ensures progress { IfOk result (λ n. 0 < length piece.now → 0 < n) }
-{
-    let count = match writer.write(piece) {
-        Ok(count) => count,
-        Err(_) => return Err(Failed),
-    };
-    if count == 0 && !piece.is_empty() {
-        return Err(Failed);
-    }
-    match writer.flush() {
-        Ok(()) => Ok(count),
-        Err(_) => Err(Failed),
     }
 }

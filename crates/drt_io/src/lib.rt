@@ -11,6 +11,7 @@ pub mod memory_sink;
 pub mod memory_source;
 pub mod pieces;
 pub mod reading;
+pub mod steady;
 pub mod sure_sink;
 pub mod sure_source;
 pub mod writing;
@@ -21,9 +22,7 @@ pub use from_write::FromWrite;
 pub use memory_sink::MemorySink;
 pub use memory_source::MemorySource;
 pub use reading::{ReadEnd, read_all};
+pub use steady::Steady;
 pub use sure_sink::SureSink;
 pub use sure_source::SureSource;
 pub use writing::write_all;
-
-#[cfg(test)]
-mod tests;

@@ -22,6 +22,3 @@ pub use releases::legal;
 pub use row::Row;
 pub use std::alloc::AllocError as Memory;
 pub use tasks::{Edge, Task, TaskSet, Vertex};
-
-#[cfg(test)]
-mod tests;

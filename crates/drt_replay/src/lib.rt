@@ -11,7 +11,5 @@ mod events;
 mod late;
 mod made;
 mod queue;
-#[cfg(test)]
-mod tests;
 
 pub use board::Board;

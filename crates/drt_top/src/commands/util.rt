@@ -20,9 +20,6 @@ use drt_ratio::{RatioProof, greatest, proofs_give_ratios, utilisation};
 use itoa::Buffer;
 use std::alloc::Global;
 
-#[cfg(test)]
-mod tests;
-
 /// The command `util`.
 #[derive(Debug, Drop)]
 pub(crate) struct Util;
