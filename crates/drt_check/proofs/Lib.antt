@@ -17,8 +17,6 @@ mod Lists
 mod Orders
 mod Eachs
 mod Closings
-mod Works
-mod Sweeps
 mod Rooms
 mod Naming
 mod Excludes
