@@ -8,11 +8,7 @@ pub mod SoundYes
 pub mod Sound
 pub mod Pasts
 mod Steps
-mod Rests
-mod Gaps
 mod Bounds
-mod Denominators
-mod Allowed
 mod Lists
 mod Orders
 mod Eachs

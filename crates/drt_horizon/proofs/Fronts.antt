@@ -1,14 +1,13 @@
 -- The fronts of the tasks within a bound, and the first excess among their works.
-use Rattle.std.proofs.Common.{◌≡◌, ℕ, zero, suc, ◌+◌, ◌<◌, ◌≤◌, List, [], ◌∷◌, ◌++◌, All, length, subst, arith, ap}
+use Rattle.std.proofs.Common.{ℕ, zero, suc, ◌≤◌, List, [], ◌∷◌, ◌++◌, All, length, subst, arith}
 use Rattle.std.specs.Prelude.{Option, Some, None}
-use Rattle.std.specs.List.{Any}
 use Rattle.drt_model.specs.Digraph.{Digraph}
 use Rattle.drt_sweep.specs.declared.due_work.DueWork.{DueWork}
 use Rattle.drt_sweep.specs.DueWorks.{IsFirstExcess, works_from, works_of}
 use Rattle.drt_sweep.proofs.Lists.{sums_same}
 use Rattle.drt_demand.specs.Demand.{Demand}
 use Rattle.drt_demand.specs.Dbf.{label_due}
-use Rattle.drt_horizon.specs.Demands.{IsFront, AreFronts, demands, IsLeastExcess}
+use Rattle.drt_horizon.specs.Demands.{IsFront, AreFronts, IsLeastExcess}
 
 -- Lists within a bound are within a greater one.
 pub fronts_up : (graphs : List Digraph) (fronts : List (List Demand)) (m n : ℕ) → m ≤ n → AreFronts m graphs fronts → AreFronts n graphs fronts
