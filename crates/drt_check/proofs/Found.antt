@@ -27,7 +27,7 @@ use Rattle.drt_evidence.specs.declared.evidence.Evidence.TheVariants.{EdfYes, Ed
 use Rattle.drt_check.specs.Claimed.{AreFitting, IsFirstMisfit, other_count, not_lowest, not_counted, rises_too_little, not_closed, not_tight}
 use Rattle.drt_check.specs.FrontRules.{AreInOrder, AreKept, IsFirstBroken, out_of_order, opening, extension, room}
 use Rattle.drt_check.specs.Orders.{IsKeptTo, IsFound, IsDecided}
-use Rattle.drt_check.proofs.Denominators.{scale_same}
+use Rattle.drt_graph.proofs.Scales.{scale_same}
 use Rattle.drt_check.proofs.Steps.{kept_none, kept_more, unbroken_1, unbroken_2, first_at, unbroken_3, unbroken_4, unbroken_5, unbroken_6, unbroken_7, unbroken_8, unbroken_9, unbroken_10, unbroken_11, unbroken_12, unbroken_13, unbroken_14, unbroken_23, kept_to_23, kept_to_99}
 
 -- What is said of the evidence's ratios is said of these.

@@ -8,17 +8,11 @@ pub mod SoundYes
 pub mod Sound
 pub mod Pasts
 mod Steps
-mod Rests
-mod Gaps
 mod Bounds
-mod Denominators
-mod Allowed
 mod Lists
 mod Orders
 mod Eachs
 mod Closings
-mod Works
-mod Sweeps
 mod Rooms
 mod Naming
 mod Excludes

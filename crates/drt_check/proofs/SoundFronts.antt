@@ -9,6 +9,7 @@ use Rattle.drt_model.specs.Walk.{IsEdge, IsPath, deadline, gap, last_of, span, w
 use Rattle.drt_graph.proofs.Edges.{edge_of_sep, target_of}
 use Rattle.drt_graph.proofs.Paths.{span_cons, span_none, work_cons, work_none}
 use Rattle.drt_busy.specs.Choice.{AreDueBy, AreWalks, IsWalk, due_of, efforts}
+use Rattle.drt_sweep.specs.Dues.{sum_due}
 use Rattle.drt_evidence.specs.declared.evidence.FrontEntry.{FrontEntry}
 use Rattle.drt_evidence.specs.Claims.{Each, graphs_of}
 use Rattle.drt_evidence.specs.Fronts.{Covers, HasOpenings, IsClosedFront, IsExtended, due, work_due, works_due}
@@ -90,7 +91,7 @@ one_within g sound constrained bound t front openings closed near (u ∷ vs) is 
 -- Walks of the tasks that are due by t have together at most the works that are due by t.
 pub all_within : (tasks : List Task) → All IsSound (graphs_of tasks) → All IsConstrainedGraph (graphs_of tasks) → (bound t : ℕ) (fronts : List (List FrontEntry)) → length fronts ≡ length tasks → Each (HasOpenings bound) (graphs_of tasks) fronts → Each (IsClosedFront bound) (graphs_of tasks) fronts → t ≤ bound
     → (walks : ℕ → List ℕ) → AreWalks tasks walks → AreDueBy tasks walks t → efforts tasks walks (length tasks) ≤ works_due (graphs_of tasks) fronts t
-unfolding works_due
+unfolding sum_due
 all_within [] sound constrained bound t fronts count openings closed near walks are by = rw efforts_none (omega arith)
 all_within (x ∷ tasks) sound constrained bound t [] count openings closed near walks are by = absurd (omega arith)
 all_within (x ∷ tasks) sound constrained bound t (f ∷ fronts) count openings closed near walks are by =

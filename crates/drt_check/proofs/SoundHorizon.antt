@@ -13,7 +13,7 @@ use Rattle.drt_graph.proofs.Paths.{work_none}
 use Rattle.drt_busy.specs.Choice.{AreDueBy, AreWalks, IsWalk, due_of, efforts}
 use Rattle.drt_evidence.specs.declared.evidence.RatioClaim.{RatioClaim}
 use Rattle.drt_evidence.specs.Claims.{HaveFittingPotentials, IsBelowOne, IsHorizon, fractions, graphs_of, potentials}
-use Rattle.drt_check.proofs.Denominators.{scale_same}
+use Rattle.drt_graph.proofs.Scales.{scale_same}
 use Rattle.drt_check.proofs.SoundWalks.{efforts_cons, efforts_none}
 
 -- At a scale, the work of one walk that is due by t.

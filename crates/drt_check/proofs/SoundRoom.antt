@@ -3,6 +3,7 @@ use Rattle.std.proofs.Common.{◌≡◌, ℕ, zero, suc, ◌+◌, ◌≤◌, Boo
 use Rattle.std.proofs.lemmas.Bool.{eqb-true}
 use Rattle.std.proofs.lemmas.Bool.Decides.{nat_tests}
 use Rattle.drt_model.specs.Digraph.{Digraph}
+use Rattle.drt_sweep.specs.Dues.{sum_due}
 use Rattle.drt_evidence.specs.declared.evidence.FrontEntry.{FrontEntry}
 use Rattle.drt_evidence.specs.Claims.{Each}
 use Rattle.drt_evidence.specs.Fronts.{HaveRoom, due, work_due, works_due}
@@ -34,7 +35,7 @@ work_starts P g (e ∷ front) each = go (eqb (due g e) 0) refl (work_starts P g 
 
 -- And so for all fronts together.
 works_stay : (P : ℕ → Type 0) (graphs : List Digraph) (fronts : List (List FrontEntry)) (t : ℕ) → Each (λ g front. All (λ e. P (due g e)) front) graphs fronts → P (suc t) ⊎ (works_due graphs fronts (suc t) ≡ works_due graphs fronts t)
-unfolding works_due
+unfolding sum_due
 works_stay P [] fronts t each = inr refl
 works_stay P (g ∷ graphs) [] t each = inr refl
 works_stay P (g ∷ graphs) (f ∷ fronts) t each = go (work_stays P g f t each.0) (works_stay P graphs fronts t each.1)
@@ -45,7 +46,7 @@ works_stay P (g ∷ graphs) (f ∷ fronts) t each = go (work_stays P g f t each.
     go (inr same) (inr others) = inr (omega (arith, same, others))
 
 works_start : (P : ℕ → Type 0) (graphs : List Digraph) (fronts : List (List FrontEntry)) → Each (λ g front. All (λ e. P (due g e)) front) graphs fronts → P 0 ⊎ (works_due graphs fronts 0 ≡ 0)
-unfolding works_due
+unfolding sum_due
 works_start P [] fronts each = inr refl
 works_start P (g ∷ graphs) [] each = inr refl
 works_start P (g ∷ graphs) (f ∷ fronts) each = go (work_starts P g f each.0) (works_start P graphs fronts each.1)

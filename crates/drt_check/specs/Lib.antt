@@ -1,7 +1,6 @@
 pub mod Judging
 pub mod Laws
 pub mod FrontRules
-pub mod Rises
 pub mod Orders
 pub mod Claimed
 pub mod Named

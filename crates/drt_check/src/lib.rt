@@ -7,7 +7,6 @@
 mod checking;
 mod claimed;
 mod constants;
-mod cycles;
 mod exclusion;
 mod fronts;
 mod horizons;

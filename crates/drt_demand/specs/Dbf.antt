@@ -1,9 +1,14 @@
 -- The demand of a time over a list of labels (the demand bound function of Stigge, Ekberg, Guan and Yi, RTAS 2011).
-use Rattle.std.specs.Prelude.{ℕ, ◌+◌, max, nat_le, List, [], ◌∷◌, if◌then◌else◌}
-use Rattle.drt_model.specs.Digraph.{Digraph, vertex_of}
+use Rattle.std.specs.Prelude.{ℕ, ◌+◌, List}
+use Rattle.drt_model.specs.Digraph.{Digraph}
+use Rattle.drt_model.specs.Walk.{deadline}
+use Rattle.drt_sweep.specs.Dues.{greatest_due}
 use Rattle.drt_demand.specs.Demand.{Demand}
+
+-- When the last job of a label's walk is due: its offset and its vertex's deadline.
+abbrev pub label_due : Digraph → Demand → ℕ
+label_due g x = x.offset + deadline g x.vertex
 
 -- The greatest work among the labels whose offset and deadline are at most t, and 0 where there is none.
 abbrev pub dbf_at : Digraph → List Demand → ℕ → ℕ
-dbf_at g [] t = 0
-dbf_at g (x ∷ xs) t = max (if nat_le (x.offset + (vertex_of g x.vertex).deadline) t then x.work else 0) (dbf_at g xs t)
+dbf_at g xs t = greatest_due (label_due g) (λ x. x.work) xs t

@@ -9,11 +9,11 @@ use Rattle.drt_model.specs.Digraph.{Digraph, IsSound, IsConstrainedGraph}
 use Rattle.drt_model.specs.Walk.{last_of, span, deadline}
 use Rattle.drt_graph.proofs.Paths.{work_none}
 use Rattle.drt_demand.specs.Demand.{Demand, demand_algebra}
-use Rattle.drt_demand.specs.Dbf.{dbf_at}
+use Rattle.drt_demand.specs.Dbf.{dbf_at, label_due}
 use Rattle.drt_table.specs.Machine.{Setting}
 use Rattle.drt_table.specs.Walk.{IsWalkOf, IsWalkBack}
 use Rattle.drt_table.specs.Cover.{IsNonDominated as IsAlone}
-use Rattle.drt_edf.specs.KeptNodes.{labels_of, label_due, work_so_far, better, IsGreatestDue}
+use Rattle.drt_edf.specs.KeptNodes.{labels_of, work_so_far, better, IsGreatestDue}
 use Rattle.drt_edf.specs.LabelFronts.{entry_of, IsLabelFront, IsDemandWalk}
 use Rattle.drt_edf.specs.declared.kept.Kept.{Kept}
 use Rattle.drt_edf.proofs.LabelWalks.{label_of, path_to, entry_alone, label_alone}

@@ -5,6 +5,7 @@ use Rattle.drt_model.specs.Walk.{deadline}
 use Rattle.drt_graph.specs.Graphs.{graph_of}
 use Rattle.drt_demand.specs.Demand.{Demand}
 use Rattle.drt_table.specs.View.{View}
+use Rattle.drt_sweep.specs.Dues.{sum_due}
 use Rattle.drt_horizon.specs.Demands.{IsFront, AreFronts, demands}
 use Rattle.drt_horizon.specs.Laws.{AreDue, efforts}
 use Rattle.drt_evidence.specs.Fronts.{IsWithin}
@@ -87,7 +88,7 @@ walks_due (g ∷ graphs) (f ∷ fronts) t [] are = absurd are
 walks_due (g ∷ graphs) (f ∷ fronts) t (w ∷ walks) are = (due_walk g t w are.0.walk_is are.0.due, walks_due graphs fronts t walks are.1)
 
 pub walks_work : (graphs : List Digraph) (fronts : List (List Demand)) (t : ℕ) (walks : List (List ℕ)) → AreDemandWalks graphs fronts t walks → efforts graphs walks ≡ demands graphs fronts t
-unfolding efforts demands
+unfolding efforts sum_due
 walks_work [] fronts t walks are = refl
 walks_work (g ∷ graphs) [] t walks are = absurd are
 walks_work (g ∷ graphs) (f ∷ fronts) t [] are = absurd are

@@ -7,7 +7,7 @@ use Rattle.drt_model.specs.Digraph.{Digraph, IsSound}
 use Rattle.drt_model.specs.Utilisation.{Fraction, IsScale}
 use Rattle.drt_model.specs.Potential.{IsPotential, potential_of, AreCanonical}
 use Rattle.drt_model.specs.Horizon.{horizon}
-use Rattle.drt_ratio.proofs.Scales.{scale_same}
+use Rattle.drt_graph.proofs.Scales.{scale_same}
 use Rattle.drt_ratio.proofs.Unique.{ratios_same}
 use Rattle.drt_evidence.specs.Claims.{graphs_of}
 use Rattle.drt_evidence.specs.Rates.{Rates}

@@ -19,6 +19,7 @@ use Rattle.drt_ratio.specs.declared.ratio_proof.RatioProof.{RatioProof}
 use Rattle.drt_ratio.proofs.Optima.{path_sums}
 use Rattle.drt_graph.proofs.Paths.{path_both, last_both, work_both, span_both, work_cons, work_none, span_cons, span_none, path_within}
 use Rattle.drt_horizon.specs.declared.answers.Horizon.TheVariants.{Under}
+use Rattle.drt_sweep.specs.Dues.{sum_due}
 use Rattle.drt_horizon.specs.Demands.{demands}
 use Rattle.drt_horizon.specs.Given.{AreGiven}
 use Rattle.drt_horizon.specs.Laws.{HorizonHolds}
@@ -122,7 +123,7 @@ closed bound g f sound is k d l j m = extended bound g f sound is (get_or (entri
 
 -- The demands are the works of the entries that are due.
 works_same : (graphs : List Digraph) (fronts : List (List Demand)) (t : ℕ) → works_due graphs (map entries_of fronts) t ≡ demands graphs fronts t
-unfolding works_due demands
+unfolding sum_due
 works_same [] fronts t = refl
 works_same (g ∷ graphs) [] t = refl
 works_same (g ∷ graphs) (f ∷ fronts) t = let a = work_same g f t in let b = works_same graphs fronts t in omega (arith, a, b)

@@ -3,9 +3,8 @@ use Rattle.std.specs.Prelude.{ℕ, zero, suc, ◌+◌, ◌≤◌, nat_lt, ◌&&�
 use Rattle.std.specs.Ordering.{ordering_then, nat_cmp}
 use Rattle.std.specs.declared.cmp.Ordering.{Ordering}
 use Rattle.drt_model.specs.Digraph.{Digraph}
-use Rattle.drt_model.specs.Walk.{deadline}
 use Rattle.drt_demand.specs.Demand.{Demand, demand_algebra}
-use Rattle.drt_demand.specs.Dbf.{dbf_at}
+use Rattle.drt_demand.specs.Dbf.{dbf_at, label_due}
 use Rattle.drt_table.specs.Node.{NodeOf}
 use Rattle.drt_table.specs.View.{kept_at}
 use Rattle.drt_edf.specs.declared.kept.Kept.{Kept}
@@ -40,10 +39,6 @@ place_of x = (x.vertex, x.offset)
 -- The order of these.
 abbrev pub compare_places : ℕ × ℕ → ℕ × ℕ → Ordering
 compare_places p q = ordering_then (nat_cmp p.0 q.0) (nat_cmp p.1 q.1)
-
--- When the last job of a label's walk is due: its offset and its vertex's deadline.
-abbrev pub label_due : Digraph → Demand → ℕ
-label_due g x = x.offset + deadline g x.vertex
 
 -- The work of the node so far, and 0 where there is none.
 abbrev pub work_so_far : Option Kept → ℕ

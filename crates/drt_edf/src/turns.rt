@@ -7,9 +7,9 @@ ghost use Rattle.drt_horizon.specs.Given.{AreGiven};
 ghost use Rattle.drt_evidence.specs.Claims.{graphs_of};
 ghost use Rattle.drt_edf.specs.Turns.{AreTurns, turns_of, turns_within};
 
-use drt_graph::{Graph, Graphs};
+use drt_graph::{Graph, Graphs, cycle_sums};
 use drt_model::{Memory, Row};
-use drt_ratio::{RatioProof, cycle_totals};
+use drt_ratio::RatioProof;
 use std::alloc::Global;
 
 /// For each task the walk of the whole turns of its cycle within `t`.
@@ -40,9 +40,7 @@ fn turns_of(alloc: Global, graph: &Graph, cycle: &[u32], t: u64) -> Result<Row<u
     if cycle.is_empty() {
         return Ok(Row::from_vec(Vec::new(alloc)));
     }
-    let Some((_work, span)) = cycle_totals(graph, cycle) else {
-        unreachable!();
-    };
+    let (_work, span) = cycle_sums(graph, cycle);
     let count = t as u128 / span;
     Ok(Row::from_vec(cycle.repeat(alloc, count as usize)?))
 }

@@ -4,7 +4,8 @@ ghost use Rattle.drt_model.specs.Digraph.{IsConstrainedGraph, vertex_count};
 ghost use Rattle.drt_demand.specs.Demand.{Demand, demand_algebra};
 ghost use Rattle.drt_table.specs.Machine.{is_finished};
 ghost use Rattle.drt_table.specs.View.{setting_of, state_of};
-ghost use Rattle.drt_edf.specs.KeptNodes.{IsGreatestDue, better, label_due, work_so_far};
+ghost use Rattle.drt_demand.specs.Dbf.{label_due};
+ghost use Rattle.drt_edf.specs.KeptNodes.{IsGreatestDue, better, work_so_far};
 ghost use Rattle.drt_edf.specs.LabelFronts.{IsLabelFront, IsDemandWalk};
 
 use crate::kept::{Kept, kept_nodes};

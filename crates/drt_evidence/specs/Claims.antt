@@ -12,9 +12,13 @@ use Rattle.drt_evidence.specs.declared.evidence.RatioClaim.{RatioClaim}
 abbrev pub graphs_of : List Task → List Digraph
 graphs_of tasks = map digraph_of tasks
 
+-- A claimed ratio as a fraction.
+abbrev pub fraction_of : RatioClaim → Fraction
+fraction_of c = record { num = c.num; den = c.den }
+
 -- The claimed ratios as fractions.
 abbrev pub fractions : List RatioClaim → List Fraction
-fractions claims = map (λ c. record { num = c.num; den = c.den }) claims
+fractions claims = map fraction_of claims
 
 -- The claimed potentials.
 abbrev pub potentials : List RatioClaim → List (List ℤ)

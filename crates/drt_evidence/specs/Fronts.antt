@@ -1,9 +1,10 @@
 -- Claimed fronts: for each task labels that are to dominate the labels of all its walks within the horizon.
-use Rattle.std.specs.Prelude.{◌≡◌, ℕ, ◌+◌, ◌≤◌, ◌<◌, ◌⊎◌, max, nat_le, if◌then◌else◌, List, [], ◌∷◌, length, All, Any}
+use Rattle.std.specs.Prelude.{◌≡◌, ℕ, ◌+◌, ◌≤◌, ◌<◌, ◌⊎◌, List, length, All, Any}
 use Rattle.drt_model.specs.declared.tasks.Task.{Task}
 use Rattle.drt_model.specs.Digraph.{Digraph, vertex_count, out_degree, edge_of}
 use Rattle.drt_model.specs.Walk.{wcet, deadline}
 use Rattle.drt_model.specs.Legal.{AllNeighbours}
+use Rattle.drt_sweep.specs.Dues.{greatest_due, sum_due}
 use Rattle.drt_evidence.specs.declared.evidence.FrontEntry.{FrontEntry}
 use Rattle.drt_evidence.specs.Claims.{Each}
 
@@ -47,14 +48,11 @@ IsClosedFront bound g front = All (λ e. (k : ℕ) → k < out_degree g e.vertex
 
 -- The greatest work of an entry that is due by t, and 0 where there is none.
 abbrev pub work_due : Digraph → List FrontEntry → ℕ → ℕ
-work_due g [] t = 0
-work_due g (e ∷ front) t = max (if nat_le (due g e) t then e.work else 0) (work_due g front t)
+work_due g front t = greatest_due (due g) (λ e. e.work) front t
 
 -- The sum of these over the tasks.
-unfoldable pub works_due : List Digraph → List (List FrontEntry) → ℕ → ℕ
-works_due [] fronts t = 0
-works_due (g ∷ graphs) [] t = 0
-works_due (g ∷ graphs) (f ∷ fronts) t = work_due g f t + works_due graphs fronts t
+abbrev pub works_due : List Digraph → List (List FrontEntry) → ℕ → ℕ
+works_due graphs fronts t = sum_due due (λ e. e.work) graphs fronts t
 
 -- At each time at which an entry is due, the works that are due by then have room.
 abbrev pub HaveRoom : List Digraph → List (List FrontEntry) → Type 0

@@ -3,3 +3,7 @@ pub mod Rows
 pub mod Soundness
 pub mod Paths
 pub mod Bounds
+pub mod Allowed
+pub mod Gaps
+pub mod Rests
+pub mod Scales

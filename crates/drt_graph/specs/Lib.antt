@@ -1,2 +1,3 @@
 pub mod Graphs
 pub mod Past
+pub mod Fits

@@ -4,17 +4,27 @@
 //! most the separation. Its `Graphs` has one `Graph` a task, which lists the edges out of each vertex in file order.
 //! The layers above read graphs by `vertex_count`, `vertex`, `out_degree` and `out_edge`, and learn from
 //! `vertex_count` and `Graphs::graph` what a graph keeps.
+//!
+//! `potentials_fit`, `is_closed` and `is_tight` test what a claimed ratio of a graph has to keep, over plain numbers and lists,
+//! and `constant` is the constant that a ratio and potentials give. They search for nothing, so the search for the greatest
+//! ratio, the horizon and the checker of claims share them.
 #![tactic(auto)]
 
 mod building;
 mod checking;
+mod constants;
+mod cycles;
 mod error;
 mod graph;
 mod graphs;
+mod potentials;
 #[cfg(test)]
 mod tests;
 
 pub use checking::check;
+pub use constants::constant;
+pub use cycles::{cycle_sums, is_closed, is_cycle, is_tight};
 pub use error::GraphError;
 pub use graph::Graph;
 pub use graphs::Graphs;
+pub use potentials::potentials_fit;

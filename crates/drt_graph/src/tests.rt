@@ -1,4 +1,6 @@
-use super::{Graph, GraphError, Graphs, check};
+use super::{
+    Graph, GraphError, Graphs, check, cycle_sums, is_closed, is_cycle, is_tight, potentials_fit,
+};
 use drt_model::{Edge, Memory, Name, Row, Task, TaskSet, Vertex, task_set};
 use std::alloc::Global;
 use std::test::Fail;
@@ -81,5 +83,38 @@ fn rows_are_in_file_order_and_a_copy_has_the_same(rt: HostRuntime) -> Result<(),
     assert_eq!(rt; graph.out_degree(2), 0);
     assert_eq!(rt; graph.separation(0, 0), Some(9));
     assert_eq!(rt; graph.separation(2, 0), None);
+    Ok(())
+}
+
+#[test]
+fn a_cycle_has_its_sums_and_its_ratio(rt: HostRuntime) -> Result<(), Fail> {
+    let alloc = rt.alloc();
+    let graphs = answer(alloc, &[edge(0, 1, 5), edge(1, 0, 8)], &[])??;
+    let graph = graphs.graph(0);
+    assert!(rt; is_cycle(graph, &[0, 1]) && !is_cycle(graph, &[1]) && !is_cycle(graph, &[0, 1, 2]));
+    assert_eq!(rt; cycle_sums(graph, &[1, 0]), (2, 13));
+    assert!(rt; is_closed(graph, 2, &[0, 1]) && is_closed(graph, 0, &[]));
+    assert!(rt;
+        !is_closed(graph, 0, &[0, 1]) && !is_closed(graph, 2, &[]) && !is_closed(graph, 2, &[1, 2])
+    );
+    assert!(rt;
+        is_tight(graph, 2, 13, &[0, 1])
+            && is_tight(graph, 4, 26, &[0, 1])
+            && is_tight(graph, 1, 2, &[])
+    );
+    assert!(rt; !is_tight(graph, 1, 13, &[0, 1]));
+    Ok(())
+}
+
+#[test]
+fn potentials_rise_by_the_gain_of_each_edge(rt: HostRuntime) -> Result<(), Fail> {
+    let alloc = rt.alloc();
+    // At 2/13 the gains of the edges are 13 - 10 and 13 - 16.
+    let graphs = answer(alloc, &[edge(0, 1, 5), edge(1, 0, 8)], &[])??;
+    let graph = graphs.graph(0);
+    assert!(rt; potentials_fit(graph, 2, 13, &[0, 3, 0]) && potentials_fit(graph, 2, 13, &[-3, 0]));
+    assert!(rt;
+        !potentials_fit(graph, 2, 13, &[0, 2, 0]) && !potentials_fit(graph, 2, 13, &[0, 4, 0])
+    );
     Ok(())
 }

@@ -1,9 +1,6 @@
 -- The graphs and what is given for each, one after another.
-use Rattle.std.proofs.Common.{◌≡◌, ℕ, suc, ◌+◌, ◌*◌, ◌/◌, List, [], ◌∷◌, All, ◌++◌, length, refl, ap, arith}
-use Rattle.std.specs.Prelude.{ℤ}
+use Rattle.std.proofs.Common.{◌≡◌, suc, List, [], ◌∷◌, All, ◌++◌, length, refl, ap, arith}
 use Rattle.drt_model.specs.Digraph.{Digraph}
-use Rattle.drt_model.specs.Utilisation.{Fraction}
-use Rattle.drt_model.specs.Horizon.{extra, constant_of, above_zero}
 use Rattle.drt_ratio.specs.declared.ratio_proof.RatioProof.{RatioProof}
 use Rattle.drt_ratio.specs.SetRatios.{AreSmall}
 use Rattle.drt_horizon.specs.Given.{IsGiven, AreGiven}
@@ -29,16 +26,6 @@ given_small [] [] given = tt
 given_small [] (p ∷ proofs) given = absurd given
 given_small (g ∷ graphs) [] given = absurd given
 given_small (g ∷ graphs) (p ∷ proofs) given = (omega (arith, given.0.reach.num), omega (arith, given.0.reach.den), given_small graphs proofs given.1)
-
--- The constant with one more task.
-pub extra_cons : (scale : ℕ) (g : Digraph) (gs : List Digraph) (r : Fraction) (rs : List Fraction) (hs : List ℤ) (hss : List (List ℤ)) → extra scale (g ∷ gs) (r ∷ rs) (hs ∷ hss) ≡ above_zero (constant_of g r.num r.den hs) * (scale / r.den) + extra scale gs rs hss
-unfolding extra
-extra_cons scale g gs r rs hs hss = refl
-
--- The constant of no tasks is 0.
-pub extra_none : (scale : ℕ) (rs : List Fraction) (hss : List (List ℤ)) → extra scale [] rs hss ≡ 0
-unfolding extra
-extra_none scale rs hss = refl
 
 -- One more graph, with what is given for it.
 pub given_push : (graphs : List Digraph) (proofs : List RatioProof) (g : Digraph) (p : RatioProof) → AreGiven graphs proofs → IsGiven g p → AreGiven (graphs ++ g ∷ []) (proofs ++ p ∷ [])

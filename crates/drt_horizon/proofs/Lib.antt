@@ -4,7 +4,5 @@ pub mod Horizons
 pub mod Multiples
 pub mod Overloads
 pub mod LapRows
-pub mod Works
-pub mod Sweeps
 pub mod Fronts
 pub mod Walks

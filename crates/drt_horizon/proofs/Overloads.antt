@@ -11,7 +11,7 @@ use Rattle.drt_ratio.specs.declared.ratio_proof.RatioProof.{RatioProof}
 use Rattle.drt_ratio.specs.SetRatios.{fractions_of}
 use Rattle.drt_ratio.proofs.Loops.{few_distinct}
 use Rattle.drt_ratio.proofs.Optima.{cycle_sums}
-use Rattle.drt_ratio.proofs.Scales.{scale_same}
+use Rattle.drt_graph.proofs.Scales.{scale_same}
 use Rattle.drt_horizon.specs.declared.laps.Lap.{Lap}
 use Rattle.drt_horizon.specs.declared.answers.Over.TheVariants.{Spent}
 use Rattle.drt_horizon.specs.Given.{AreGiven}

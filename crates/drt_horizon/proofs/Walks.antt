@@ -6,6 +6,7 @@ use Rattle.drt_model.specs.Digraph.{Digraph}
 use Rattle.drt_model.specs.Walk.{last_of, span, work, deadline}
 use Rattle.drt_graph.specs.Graphs.{AreGraphs}
 use Rattle.drt_demand.specs.Demand.{Demand}
+use Rattle.drt_sweep.specs.Dues.{sum_due}
 use Rattle.drt_demand.specs.Dbf.{dbf_at}
 use Rattle.drt_ratio.specs.declared.ratio_proof.RatioProof.{RatioProof}
 use Rattle.drt_graph.proofs.Paths.{work_none}
@@ -50,7 +51,7 @@ front_walk g t (x ∷ front) all =
     label_walk g t (dbf_at g front t) x (all 0 x (omega arith)) (front_walk g t front (λ k d l. all (suc k) d (omega arith))) (nat_le (x.offset + deadline g x.vertex) t) refl
 
 front_walks : (graphs : List Digraph) (fronts : List (List Demand)) (t : ℕ) → AreWalkFronts graphs fronts → (walks : List (List ℕ)) × AreDue t graphs walks × (efforts graphs walks ≡ demands graphs fronts t)
-unfolding efforts demands
+unfolding efforts sum_due
 front_walks [] [] t are = ([], tt, refl)
 front_walks [] (f ∷ fronts) t are = absurd are
 front_walks (g ∷ graphs) [] t are = absurd are

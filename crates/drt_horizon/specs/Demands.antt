@@ -1,13 +1,13 @@
 -- The demands of a set over the fronts of its tasks.
-use Rattle.std.specs.Prelude.{ℕ, ◌+◌, ◌<◌, ◌≤◌, List, [], ◌∷◌, All, Option, Some, None}
+use Rattle.std.specs.Prelude.{ℕ, ◌<◌, ◌≤◌, List, [], ◌∷◌, All, Option, Some, None}
 use Rattle.drt_model.specs.Digraph.{Digraph, vertex_count}
-use Rattle.drt_model.specs.Walk.{deadline}
 use Rattle.drt_demand.specs.Demand.{Demand}
-use Rattle.drt_demand.specs.Dbf.{dbf_at}
+use Rattle.drt_demand.specs.Dbf.{label_due}
+use Rattle.drt_sweep.specs.Dues.{sum_due}
 
 -- Each label of the list names a vertex of the graph, and its last job is due within the bound.
 abbrev pub IsFront : Digraph → ℕ → List Demand → Type 0
-IsFront g bound front = All (λ x. (x.vertex < vertex_count g) × (x.offset + deadline g x.vertex ≤ bound)) front
+IsFront g bound front = All (λ x. (x.vertex < vertex_count g) × (label_due g x ≤ bound)) front
 
 -- One such list for each graph, in order.
 abbrev pub AreFronts : ℕ → List Digraph → List (List Demand) → Type 0
@@ -17,10 +17,8 @@ AreFronts bound (g ∷ graphs) [] = ⊥
 AreFronts bound (g ∷ graphs) (f ∷ fronts) = IsFront g bound f × AreFronts bound graphs fronts
 
 -- The sum of the tasks' demands at t.
-unfoldable pub demands : List Digraph → List (List Demand) → ℕ → ℕ
-demands [] fronts t = 0
-demands (g ∷ graphs) [] t = 0
-demands (g ∷ graphs) (f ∷ fronts) t = dbf_at g f t + demands graphs fronts t
+abbrev pub demands : List Digraph → List (List Demand) → ℕ → ℕ
+demands graphs fronts t = sum_due label_due (λ x. x.work) graphs fronts t
 
 -- The least time up to the bound at which the demands are together more than the time, or none.
 abbrev pub IsLeastExcess : List Digraph → List (List Demand) → ℕ → Option ℕ → Type 0

@@ -3,4 +3,3 @@ pub mod Plans
 pub mod Laps
 pub mod Laws
 pub mod Demands
-pub mod Rises

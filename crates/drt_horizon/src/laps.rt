@@ -4,8 +4,7 @@ ghost use Rattle.drt_model.specs.Digraph.{vertex_count};
 ghost use Rattle.drt_model.specs.Walk.{IsCycle, work, cycle_span};
 ghost use Rattle.drt_horizon.specs.Laps.{AreLaps, IsNext, lapped};
 
-use drt_graph::Graph;
-use drt_ratio::cycle_totals;
+use drt_graph::{Graph, cycle_sums};
 
 /// One turn of a cycle: the sum of its execution times and the sum of its separations, in ticks.
 #[derive(Drop, Clone, Copy, Debug)]
@@ -22,9 +21,7 @@ pub fn lap_of(graph: &Graph, cycle: &[u32]) -> Lap
     ensures span { result.span ≡ cycle_span graph.now cycle.now }
 {
     let _count = graph.vertex_count();
-    let Some((work, span)) = cycle_totals(graph, cycle) else {
-        unreachable!();
-    };
+    let (work, span) = cycle_sums(graph, cycle);
     Lap {
         work: work as u64,
         span: span as u64,

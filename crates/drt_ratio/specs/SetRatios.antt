@@ -1,5 +1,5 @@
 -- The ratios of a set, as its claims have them.
-use Rattle.std.specs.Prelude.{◌≡◌, ℕ, ◌*◌, ◌^◌, ◌<◌, ◌≤◌, List, [], ◌∷◌}
+use Rattle.std.specs.Prelude.{◌≡◌, ℕ, ◌*◌, ◌^◌, ◌<◌, ◌≤◌, List, [], ◌∷◌, map}
 use Rattle.std.specs.Int.{IsGcd}
 use Rattle.drt_model.specs.Digraph.{Digraph}
 use Rattle.drt_model.specs.Utilisation.{Fraction, AreRatios, IsScale, rate}
@@ -12,8 +12,7 @@ fraction_of p = record { num = p.ratio.num; den = p.ratio.den }
 
 -- The fractions of claims, in order.
 abbrev pub fractions_of : List RatioProof → List Fraction
-fractions_of [] = []
-fractions_of (p ∷ proofs) = fraction_of p ∷ fractions_of proofs
+fractions_of proofs = map fraction_of proofs
 
 -- Each numerator and each denominator is at most 1,000,000,000.
 abbrev pub AreSmall : List RatioProof → Type 0

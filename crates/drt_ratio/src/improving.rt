@@ -7,11 +7,10 @@ ghost use Rattle.drt_model.specs.Potential.{potential_of};
 ghost use Rattle.drt_ratio.specs.Levels.{height, IsBelow};
 ghost use Rattle.drt_model.specs.Walk.{IsCycle, work, cycle_span};
 
-use crate::cycles::totals;
 use crate::levels::{Level, levels};
 use crate::ratio_proof::RatioProof;
 use crate::traces::gaining;
-use drt_graph::Graph;
+use drt_graph::{Graph, cycle_sums};
 use drt_model::{Memory, Row};
 use drt_num::Ratio;
 use std::alloc::Global;
@@ -41,9 +40,7 @@ fn ratio_of(graph: &Graph, cycle: &[u32]) -> Ratio
     ensures work_some { 1 ≤ work graph.now cycle.now }
 {
     let _count = graph.vertex_count();
-    let Some((work, span)) = totals(graph, cycle) else {
-        unreachable!();
-    };
+    let (work, span) = cycle_sums(graph, cycle);
     Ratio::new(work, span)
 }
 

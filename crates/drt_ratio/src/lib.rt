@@ -12,7 +12,6 @@
 #![tactic(auto)]
 
 mod checking;
-mod cycles;
 mod improving;
 mod levels;
 mod ratio_proof;
@@ -22,7 +21,6 @@ mod tests;
 mod traces;
 
 pub use checking::check_ratio;
-pub use cycles::totals as cycle_totals;
 pub use improving::greatest;
 pub use ratio_proof::RatioProof;
 pub use set_ratios::{proofs_give_ratios, rate, scale, utilisation};

@@ -11,7 +11,7 @@ use Rattle.drt_graph.proofs.Soundness.{all_sound}
 use Rattle.drt_ratio.specs.declared.ratio_proof.RatioProof.{RatioProof}
 use Rattle.drt_ratio.specs.Claims.{IsRatioProof}
 use Rattle.drt_ratio.specs.SetRatios.{AreRatioProofs, AreSmall}
-use Rattle.drt_ratio.proofs.Scales.{scale_same}
+use Rattle.drt_graph.proofs.Scales.{scale_same}
 use Rattle.drt_ratio.proofs.Unique.{ratios_same}
 use Rattle.drt_top.specs.commands.Util.{IsUtilisationText, IsTooFine}
 

@@ -4,8 +4,7 @@ ghost use Rattle.drt_model.specs.Digraph.{vertex_count};
 ghost use Rattle.drt_model.specs.Utilisation.{AreDistinct};
 ghost use Rattle.drt_ratio.specs.Simple.{IsAtMost, IsSimpleCycle, HasSimple, IsSimpleRatio, digits};
 
-use crate::cycle_totals;
-use drt_graph::Graph;
+use drt_graph::{Graph, cycle_sums, is_cycle};
 use drt_model::Memory;
 use drt_num::Ratio;
 use std::alloc::Global;
@@ -54,10 +53,11 @@ fn greater(graph: &Graph, best: Ratio, xs: &[u32]) -> Ratio
     if !are_distinct(xs) {
         return best;
     }
-    match cycle_totals(graph, xs) {
-        None => best,
-        Some((work, span)) => greater_of(best, work, span),
+    if !is_cycle(graph, xs) {
+        return best;
     }
+    let (work, span) = cycle_sums(graph, xs);
+    greater_of(best, work, span)
 }
 
 // The greater one of two ratios.

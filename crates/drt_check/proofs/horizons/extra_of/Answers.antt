@@ -1,8 +1,7 @@
 use Rattle.std.proofs.Common.{◌<◌, length, arith}
 use Rattle.std.proofs.lemmas.List.{drop_more, drop_all}
 use Rattle.drt_graph.specs.Graphs.{no_graph}
-use Rattle.drt_check.proofs.Rests.{left_at}
-use Rattle.drt_check.proofs.Denominators.{extra_cons, extra_none}
+use Rattle.drt_graph.proofs.Scales.{left_at, extra_cons, extra_none}
 use Rattle.drt_check.proofs.horizons.extra_of.Goals as goal
 
 pub tasks-preserved : goal.tasks-preserved

@@ -1,9 +1,8 @@
 use Rattle.std.proofs.Common.{◌<◌, length, arith}
 use Rattle.std.proofs.lemmas.List.{drop_all}
 use Rattle.drt_evidence.specs.Ranges.{IsInRangeRatio}
-use Rattle.drt_check.proofs.Rests.{left_at}
 use Rattle.drt_check.proofs.Lists.{all_at}
-use Rattle.drt_check.proofs.Denominators.{rate_cons, rate_none, term_small}
+use Rattle.drt_graph.proofs.Scales.{left_at, rate_cons, rate_none, term_small}
 use Rattle.drt_check.proofs.scales.rate.Goals as goal
 
 pub ratios-preserved : goal.ratios-preserved

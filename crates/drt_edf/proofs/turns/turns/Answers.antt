@@ -1,7 +1,7 @@
 use Rattle.std.proofs.Common.{◌≡◌, ◌<◌, length, sym, ap, arith, ◌∙◌}
 use Rattle.std.proofs.lemmas.List.{drop_more, drop_all, append_assoc}
 use Rattle.drt_graph.specs.Graphs.{no_graph, graph_of}
-use Rattle.drt_ratio.proofs.Scales.{left_at}
+use Rattle.drt_graph.proofs.Scales.{left_at}
 use Rattle.drt_horizon.proofs.Givens.{given_count}
 use Rattle.drt_horizon.proofs.Overloads.{is_cycle}
 use Rattle.drt_edf.specs.Turns.{turns_of}

@@ -1,7 +1,8 @@
 use Rattle.std.proofs.Common.{◌≡◌, ◌++◌, ◌∷◌, ◌+◌, ◌<◌, [], take, length, sym, ap, ◌∙◌, subst, arith}
 use Rattle.std.specs.Prelude.{nat_le}
 use Rattle.std.proofs.lemmas.List.{take_more, get_or_default}
-use Rattle.drt_edf.specs.KeptNodes.{IsGreatestDue, better, label_due}
+use Rattle.drt_demand.specs.Dbf.{label_due}
+use Rattle.drt_edf.specs.KeptNodes.{IsGreatestDue, better}
 use Rattle.drt_edf.proofs.DemandWalks.{better_is}
 use Rattle.drt_edf.proofs.walks.greatest_due.Goals as goal
 

@@ -1,8 +1,8 @@
 use Rattle.std.proofs.Common.{◌<◌, length, arith}
 use Rattle.std.proofs.lemmas.List.{drop_more, drop_all}
 use Rattle.drt_graph.specs.Graphs.{no_graph}
-use Rattle.drt_ratio.proofs.Scales.{left_at}
-use Rattle.drt_horizon.proofs.Givens.{given_count, extra_cons, extra_none}
+use Rattle.drt_graph.proofs.Scales.{left_at, extra_cons, extra_none}
+use Rattle.drt_horizon.proofs.Givens.{given_count}
 use Rattle.drt_horizon.proofs.plans.extra_of.Goals as goal
 
 pub extra_at-total-requires-clause-given : goal.extra_at-total-requires-clause-given

@@ -1,7 +1,7 @@
 use Rattle.std.proofs.Common.{◌≡◌, ◌<◌, ◌∙◌, length, sym, ap, arith}
 use Rattle.std.proofs.lemmas.List.{drop_more, drop_all, length-set}
 use Rattle.drt_graph.specs.Graphs.{no_graph}
-use Rattle.drt_ratio.proofs.Scales.{left_at}
+use Rattle.drt_graph.proofs.Scales.{left_at}
 use Rattle.drt_horizon.proofs.Givens.{given_count}
 use Rattle.drt_horizon.proofs.Overloads.{are_laps, cycle_few, is_cycle, laps_some}
 use Rattle.drt_horizon.proofs.LapRows.{positive, laps_cons, lap_pushed, lap_skipped, laps_all}

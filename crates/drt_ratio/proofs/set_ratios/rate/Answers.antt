@@ -1,6 +1,6 @@
 use Rattle.std.proofs.Common.{◌≡◌, ◌<◌, length, arith, ap, sym, ◌∙◌}
 use Rattle.std.proofs.lemmas.List.{drop_all}
-use Rattle.drt_ratio.proofs.Scales.{left_at, rate_cons, rate_none, term_small}
+use Rattle.drt_graph.proofs.Scales.{left_at, rate_cons, rate_none, term_small}
 use Rattle.drt_ratio.proofs.set_ratios.rate.Goals as goal
 
 pub proofs-preserved : goal.proofs-preserved

@@ -1,18 +1,25 @@
-use Rattle.std.proofs.Common.{◌≡◌, ◌<◌, arith}
-use Rattle.std.proofs.lemmas.List.Sorted.{All-permutation}
-use Rattle.drt_check.specs.Rises.{rises_of}
-use Rattle.drt_check.proofs.Rooms.{few_tasks, room_from, room_to}
+use Rattle.std.proofs.Common.{◌≡◌, refl, subst}
+use Rattle.std.specs.Prelude.{None, Some}
+use Rattle.drt_sweep.specs.DueWorks.{IsFirstExcess, works_of}
+use Rattle.drt_sweep.proofs.Lists.{are_of_tasks}
+use Rattle.drt_evidence.specs.Fronts.{due}
+use Rattle.drt_check.proofs.Rooms.{no_room, room}
 use Rattle.drt_check.proofs.fronts.room.have_room.Goals as goal
 
-pub have_room_among-requires-clause-tasks : goal.have_room_among-requires-clause-tasks
-have_room_among-requires-clause-tasks c =
-    let built : c.in_ok-rises.rises.items ≡ rises_of 0 c.args.graphs.now c.args.fronts.now = c.in_ok-rises.ensures in
-    let same = rw built at c.in_order.ensures.same in
-    rw c.as_slice.ensures.value (All-permutation (λ r. r.task < 32) (rises_of 0 c.args.graphs.now c.args.fronts.now) c.in_order.new.rises.items same (few_tasks 0 c.args.graphs.now c.args.fronts.now 32 (omega (arith, c.count-count.ensures.kept.few))))
+pub first_excess-requires : goal.first_excess-requires
+first_excess-requires c =
+    let built : c.in_ok-works.works.items ≡ works_of due (λ e. e.work) 0 c.args.graphs.now c.args.fronts.now = c.in_ok-works.ensures in
+    rw built (are_of_tasks due (λ e. e.work) c.args.graphs.now c.args.fronts.now c.count-count.ensures.kept.few)
 
-pub returns : goal.returns
-returns c =
-    let built : c.in_ok-rises.rises.items ≡ rises_of 0 c.args.graphs.now c.args.fronts.now = c.in_ok-rises.ensures in
-    let same = rw built at c.in_order.ensures.same in
-    let decides = rw c.as_slice.ensures.value at c.have_room_among.ensures in
-    (λ e. room_from c.args.graphs.now c.args.fronts.now c.in_order.new.rises.items c.count-count.ensures.kept.few same (decides.0 e), λ room. decides.1 (room_to c.args.graphs.now c.args.fronts.now c.in_order.new.rises.items c.count-count.ensures.kept.few same room))
+pub returns-in-Some : goal.returns-in-Some
+returns-in-Some c =
+    let built : c.in_ok-works.works.items ≡ works_of due (λ e. e.work) 0 c.args.graphs.now c.args.fronts.now = c.in_ok-works.ensures in
+    let first : IsFirstExcess c.in_ok-works.works.items (Some c.in-Some.field-0) = c.in-Some.ensures in
+    let none = no_room c.args.graphs.now c.args.fronts.now c.in-Some.field-0 c.count-count.ensures.kept.few (subst (λ works. IsFirstExcess works (Some c.in-Some.field-0)) built first) in
+    (λ e. absurd (cc), λ has. absurd (none has))
+
+pub returns-in-None : goal.returns-in-None
+returns-in-None c =
+    let built : c.in_ok-works.works.items ≡ works_of due (λ e. e.work) 0 c.args.graphs.now c.args.fronts.now = c.in_ok-works.ensures in
+    let first : IsFirstExcess c.in_ok-works.works.items None = c.in-None.ensures in
+    (λ e. room c.args.graphs.now c.args.fronts.now c.count-count.ensures.kept.few (subst (λ works. IsFirstExcess works None) built first), λ has. refl)
