@@ -3,7 +3,7 @@ use Rattle.std.proofs.Common.{◌≡◌, ◌<◌, ◌≤◌, ◌⊎◌, ℕ, zer
 use Rattle.drt_model.specs.Contents.{Contents}
 use Rattle.drt_model.specs.declared.jobs.Policy.TheVariants.{Fixed}
 use Rattle.drt_model.specs.Schedulable.{Schedulable}
-use Rattle.drt_file.specs.Laws.{TextsReadAsOneSet}
+use Rattle.drt_file.specs.trusted.Laws.{TextsReadAsOneSet}
 use Rattle.drt_top.specs.declared.outcome.Fault.{Fault}
 use Rattle.drt_top.specs.declared.outcome.Fault.TheVariants.{Nothing, File, Edge, Limit, Rule, Dossier}
 use Rattle.drt_top.specs.declared.outcome.Trail.{Trail}

@@ -3,7 +3,7 @@ use Rattle.std.specs.Prelude.{◌≡◌, ◌≢◌, ◌≤◌, ℕ, ◌⊎◌, L
 use Rattle.drt_model.specs.Contents.{Contents}
 use Rattle.drt_model.specs.declared.jobs.Policy.TheVariants.{Fixed}
 use Rattle.drt_model.specs.Schedulable.{Schedulable}
-use Rattle.drt_file.specs.Canonical.{canonical}
+use Rattle.drt_file.specs.trusted.Canonical.{canonical}
 use Rattle.drt_io.specs.Writing.{Grows, GrowsByPrefix}
 use Rattle.drt_top.specs.declared.outcome.Fault.{Fault}
 use Rattle.drt_top.specs.declared.outcome.Fault.TheVariants as faults

@@ -5,7 +5,7 @@ use Rattle.drt_model.specs.Contents.{Contents}
 use Rattle.drt_model.specs.declared.tasks.Task.{Task}
 use Rattle.drt_model.specs.Digraph.{digraph_of}
 use Rattle.drt_model.specs.Utilisation.{Fraction, AreRatios, IsScale, rate}
-use Rattle.drt_file.specs.Canonical.{written}
+use Rattle.drt_file.specs.trusted.Canonical.{written}
 
 -- The line of a name and its fraction: `NAME NUM/DEN`.
 abbrev pub fraction_line : List ℕ → Fraction → List (List ℕ)

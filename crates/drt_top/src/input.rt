@@ -1,6 +1,6 @@
 //! The input, and the set that it says.
 ghost use Rattle.std.specs.Prelude.{◌≤◌, ◌<◌, ℕ, List, length, IfErr, IfOk, IfSome, ◌≡◌, map};
-ghost use Rattle.drt_file.specs.Reading.{Reads};
+ghost use Rattle.drt_file.specs.trusted.Reading.{Reads};
 ghost use Rattle.drt_io.specs.Causes.{Rose};
 ghost use Rattle.drt_model.specs.Constrained.{AreConstrained};
 ghost use Rattle.drt_model.specs.Digraph.{digraph_of};
