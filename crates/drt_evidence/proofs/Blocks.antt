@@ -5,8 +5,8 @@ use Rattle.std.proofs.Math.ListN.{replicate}
 use Rattle.std.proofs.lemmas.List.{append-nil, append_cancel_left, length-replicate}
 use Rattle.std.proofs.lemmas.List.Elements.{All-from_recursion, recursion_from_All, All-replicate}
 use Rattle.std.proofs.lemmas.Grind.{flat_map-append}
-use Rattle.drt_file.specs.Canonical.{written_line}
-use Rattle.drt_file.specs.Strict.{fed, HasNoFeed}
+use Rattle.drt_file.specs.trusted.Canonical.{written_line}
+use Rattle.drt_file.specs.trusted.Cutting.{fed, HasNoFeed}
 use Rattle.drt_file.proofs.Again.{all_of_both}
 use Rattle.drt_file.proofs.Feeds.{fed_both}
 use Rattle.drt_evidence.specs.Ranges.{IsNumber}

@@ -6,9 +6,9 @@ use Rattle.std.proofs.lemmas.List.Sums.{count_by-le-length, sum_by-cons}
 use Rattle.std.proofs.lemmas.List.{append-nil, append_cancel_left}
 use Rattle.std.proofs.Math.Seq.{take-append_seam}
 use Rattle.drt_model.specs.Contents.{Contents}
-use Rattle.drt_file.specs.Canonical.{canonical, written}
-use Rattle.drt_file.specs.CanonicalPrefix.{first_lines, line_count}
-use Rattle.drt_file.specs.Strict.{fed, HasNoFeed}
+use Rattle.drt_file.specs.trusted.Canonical.{canonical, written}
+use Rattle.drt_file.specs.trusted.CanonicalPrefix.{first_lines, line_count}
+use Rattle.drt_file.specs.trusted.Cutting.{fed, HasNoFeed}
 use Rattle.drt_file.proofs.Feeds.{count_fed, first_before, first_fed, first_line_of, no_lines}
 use Rattle.drt_evidence.specs.Blocks.{IsSet, IsStop, Reads, RefusesLine, Stops}
 use Rattle.drt_evidence.specs.LineForms.{IsAny}

@@ -3,8 +3,8 @@ use Rattle.std.proofs.Common.{◌≡◌, ℕ, Bool, true, false, not, ◌&&◌, 
 use Rattle.std.specs.Bool.{then_some}
 use Rattle.std.specs.Prelude.{Option, Some, None, MatchOption, Result, Ok, Err, IfOk, IfErr, IsErrAnd, IsTrue, ◌↔◌}
 use Rattle.std.specs.List.{join_with_byte}
-use Rattle.drt_file.specs.Canonical.{written_line}
-use Rattle.drt_file.specs.Strict.{HasNoFeed}
+use Rattle.drt_file.specs.trusted.Canonical.{written_line}
+use Rattle.drt_file.specs.trusted.Cutting.{HasNoFeed}
 use Rattle.drt_file.proofs.Feeds.{line_same, no_line_here}
 use Rattle.drt_evidence.specs.LineForms.{IsLineOf, IsNoLine}
 use Rattle.drt_evidence.specs.Blocks.{AreLines, Reads, IsStop}

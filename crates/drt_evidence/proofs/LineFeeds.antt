@@ -9,7 +9,7 @@ use Rattle.drt_model.specs.declared.jobs.Policy.{Policy}
 use Rattle.drt_model.specs.declared.jobs.Policy.TheVariants as policies
 use Rattle.drt_model.specs.declared.jobs.Release.{Release}
 use Rattle.drt_model.specs.declared.jobs.Miss.{Miss}
-use Rattle.drt_file.specs.Strict.{HasNoFeed}
+use Rattle.drt_file.specs.trusted.Cutting.{HasNoFeed}
 use Rattle.drt_file.proofs.Again.{IsField, joined_no_feed}
 use Rattle.drt_file.proofs.Digits.{decimal_field}
 use Rattle.drt_evidence.specs.declared.evidence.FrontEntry.{FrontEntry}

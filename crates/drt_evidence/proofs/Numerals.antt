@@ -3,7 +3,7 @@ use Rattle.std.proofs.Common.{◌≡◌, ◌≢◌, ℕ, suc, ◌-◌, ◌≤◌
 use Rattle.std.specs.Prelude.{decimal, ℤ, pos, negsuc, ◌≤ℤ◌}
 use Rattle.std.proofs.lemmas.Int.{ints}
 use Rattle.std.specs.Fmt.{signed_decimal}
-use Rattle.drt_file.specs.Words.{value, is_number, is_digit}
+use Rattle.drt_file.specs.trusted.Words.{value, is_number, is_digit}
 use Rattle.drt_file.proofs.Digits.{value_decimal, decimal_number}
 use Rattle.drt_evidence.specs.declared.evidence.Item.TheVariants.{Pass, Split}
 use Rattle.drt_evidence.specs.Ranges.{IsInRangeItem, IsInRangePotential}

@@ -4,7 +4,7 @@ use Rattle.std.specs.List.{flat_map}
 use Rattle.std.proofs.lemmas.List.{append-nil}
 use Rattle.std.proofs.lemmas.List.Folds.{flat_map-map}
 use Rattle.std.proofs.lemmas.Grind.{flat_map-append}
-use Rattle.drt_file.specs.Canonical.{written, written_line}
+use Rattle.drt_file.specs.trusted.Canonical.{written, written_line}
 use Rattle.drt_evidence.specs.Blocks.{Reads, IsStop}
 use Rattle.drt_evidence.specs.declared.reading.text.Stop.{Stop}
 use Rattle.drt_evidence.proofs.Blocks.{At, start, next, done, stop}

@@ -5,7 +5,7 @@ use Rattle.std.specs.List.{AllByRecursion, join_with_byte}
 use Rattle.std.proofs.lemmas.List.{length-map}
 use Rattle.std.proofs.lemmas.List.Elements.{All-nil, recursion_from_All}
 use Rattle.drt_model.specs.declared.jobs.Policy.TheVariants as policies
-use Rattle.drt_file.specs.Strict.{HasNoFeed}
+use Rattle.drt_file.specs.trusted.Cutting.{HasNoFeed}
 use Rattle.drt_file.proofs.Again.{all_of_both}
 use Rattle.drt_file.proofs.Digits.{decimal_field}
 use Rattle.drt_file.proofs.Snoc.{every_map, every_weaker}

@@ -8,7 +8,7 @@ use Rattle.std.proofs.lemmas.List.Elements.{All-nil}
 use Rattle.drt_model.specs.declared.jobs.Policy.TheVariants as policies
 use Rattle.drt_model.specs.declared.jobs.Release.{Release}
 use Rattle.drt_model.specs.declared.jobs.Miss.{Miss}
-use Rattle.drt_file.specs.Canonical.{written, written_line}
+use Rattle.drt_file.specs.trusted.Canonical.{written, written_line}
 use Rattle.drt_evidence.specs.Blocks.{AreNamed, Named, Reads, IsStop, named_block, counted, first_block, close_block, IsOfKind}
 use Rattle.drt_evidence.specs.LineForms.{AreCounted, IsAny, IsInRangeWritten, kind_keyword, kind_line, kind_of, numbers_line, policy_line, potentials_line, written_ratio_line}
 use Rattle.drt_evidence.specs.Ranges.{AreInRangeReleases, IsInRange, IsInRangeFront, IsInRangeMiss, IsInRangePair, IsInRangePotential, IsInRangeProof, IsInRangeRatio, IsInRangeRelease, IsInRangeTree, IsInRangeWalk, IsNumber}

@@ -10,9 +10,9 @@ use Rattle.drt_model.specs.Limits.{IsEdgeAmong, IsName, IsNameByte, IsTask, IsVe
 use Rattle.drt_model.specs.declared.tasks.Edge.{Edge}
 use Rattle.drt_model.specs.declared.tasks.Task.{Task}
 use Rattle.drt_model.specs.declared.tasks.Vertex.{Vertex}
-use Rattle.drt_file.specs.Canonical.{canonical}
-use Rattle.drt_file.specs.CanonicalPrefix.{BeginsWith, Breaks, HasCanonicalFault, first_lines, line_count}
-use Rattle.drt_file.specs.Strict.{fed, HasNoFeed}
+use Rattle.drt_file.specs.trusted.Canonical.{canonical}
+use Rattle.drt_file.specs.trusted.CanonicalPrefix.{BeginsWith, Breaks, HasCanonicalFault, first_lines, line_count}
+use Rattle.drt_file.specs.trusted.Cutting.{fed, HasNoFeed}
 use Rattle.drt_file.proofs.Agreed.{print_of}
 use Rattle.drt_file.proofs.Again.{all_of_both}
 use Rattle.drt_file.proofs.Feeds.{count_fed, fed_push, first_fed, no_lines}

@@ -9,8 +9,8 @@ use Rattle.std.proofs.lemmas.List.{append_cancel_left}
 use Rattle.std.proofs.lemmas.List.Elements.{All-head, All-tail, recursion_from_All}
 use Rattle.drt_model.specs.declared.jobs.Policy.{Policy}
 use Rattle.drt_model.specs.declared.jobs.Policy.TheVariants as policies
-use Rattle.drt_file.specs.Canonical.{canonical, written, written_line}
-use Rattle.drt_file.specs.Words.{value}
+use Rattle.drt_file.specs.trusted.Canonical.{canonical, written, written_line}
+use Rattle.drt_file.specs.trusted.Words.{value}
 use Rattle.drt_file.proofs.Digits.{value_decimal}
 use Rattle.drt_file.proofs.Feeds.{line_same}
 use Rattle.drt_file.proofs.Fronts.{one_front}

@@ -1,8 +1,8 @@
 -- Blocks of a text: the block of a value at the front of a text, or where the text stops being one.
 use Rattle.std.specs.Prelude.{◌≡◌, ℕ, ◌+◌, Bool, true, false, List, [], ◌∷◌, ◌++◌, length, codes}
 use Rattle.std.specs.List.{AllByRecursion, flat_map}
-use Rattle.drt_file.specs.Canonical.{written, written_line}
-use Rattle.drt_file.specs.Strict.{fed, HasNoFeed}
+use Rattle.drt_file.specs.trusted.Canonical.{written, written_line}
+use Rattle.drt_file.specs.trusted.Cutting.{fed, HasNoFeed}
 use Rattle.drt_model.specs.declared.jobs.Release.{Release}
 use Rattle.drt_model.specs.declared.jobs.Miss.{Miss}
 use Rattle.drt_model.specs.Contents.{Contents}

@@ -1,7 +1,7 @@
 -- When bytes are the text of a dossier, and where they stop being a prefix of one.
 use Rattle.std.specs.Prelude.{◌≡◌, ℕ, ◌<◌, ◌≤◌, ◌⊎◌, List, ◌++◌, Result, Ok, Err}
 use Rattle.drt_model.specs.Limits.{IsTaskSet}
-use Rattle.drt_file.specs.CanonicalPrefix.{line_count, first_lines}
+use Rattle.drt_file.specs.trusted.CanonicalPrefix.{line_count, first_lines}
 use Rattle.drt_evidence.specs.Ranges.{IsInRange}
 use Rattle.drt_evidence.specs.Statement.{Statement}
 use Rattle.drt_evidence.specs.Text.{text}

@@ -1,7 +1,7 @@
 //! Lines of fields, as bytes.
 ghost use Rattle.std.specs.Prelude.{◌≡◌, ◌++◌, ◌∷◌, [], decimal, length, map, OnOk};
 ghost use Rattle.std.specs.Fmt.{signed_decimal};
-ghost use Rattle.drt_file.specs.Canonical.{written_line};
+ghost use Rattle.drt_file.specs.trusted.Canonical.{written_line};
 ghost use Rattle.drt_evidence.specs.Fields.{behind};
 ghost use Rattle.drt_evidence.specs.Text.{count_line, list_line};
 

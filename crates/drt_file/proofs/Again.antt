@@ -2,8 +2,8 @@
 use Rattle.std.proofs.Common.{◌≡◌, ◌≢◌, ℕ, ◌<◌, ◌≤◌, true, false, List, [], ◌∷◌, ◌++◌, length, map, refl, sym, ap, ◌∙◌, append_assoc, arith}
 use Rattle.std.proofs.lemmas.List.{append-nil}
 use Rattle.std.specs.List.{AllByRecursion, join_with_byte}
-use Rattle.drt_file.specs.Cutting.{lines, lines_after, is_blank, fields, fields_after, with_run, lines_of_fields}
-use Rattle.drt_file.specs.Canonical.{written, written_line}
+use Rattle.drt_file.specs.trusted.Cutting.{lines, lines_after, is_blank, fields, fields_after, with_run, lines_of_fields}
+use Rattle.drt_file.specs.trusted.Canonical.{written, written_line}
 use Rattle.drt_file.proofs.Cuts.{past_byte, at_feed, at_blank, at_other, at_end, with_run_of}
 
 -- What holds of each element of two lists holds of each of both.

@@ -1,5 +1,5 @@
 -- The lines of a set are taken one by one.
-use Rattle.std.proofs.Common.{◌≡◌, ℕ, suc, ◌+◌, ◌≤◌, Bool, true, false, not, ◌&&◌, ◌||◌, List, [], ◌∷◌, ◌++◌, length, map, Option, Some, None, Result, Ok, Err, refl, sym, ap, subst, ◌∙◌, append_assoc, arith, inl, inr, cond}
+use Rattle.std.proofs.Common.{◌≡◌, ℕ, ◌+◌, ◌≤◌, Bool, true, false, not, ◌&&◌, ◌||◌, List, [], ◌∷◌, ◌++◌, length, map, Option, Some, None, Result, Ok, Err, refl, sym, ap, subst, ◌∙◌, append_assoc, arith, inl, inr, cond}
 use Rattle.std.specs.Prelude.{◌==◌, decimal, option_map, filter}
 use Rattle.std.specs.List.{AllByRecursion, flat_map, join_with_byte}
 use Rattle.std.proofs.lemmas.List.{append-nil}
@@ -14,18 +14,20 @@ use Rattle.drt_file.specs.declared.state.Draft.{Draft}
 use Rattle.drt_file.specs.declared.state.State.{State}
 use Rattle.drt_file.specs.declared.state.Kind.TheVariants as kinds
 use Rattle.drt_file.specs.declared.fault.FileFault.{FileFault}
-use Rattle.drt_file.specs.Cutting.{fields}
-use Rattle.drt_file.specs.Words.{capped, priority_word}
-use Rattle.drt_file.specs.Canonical.{canonical, written, written_line, name_at, version_line, task_line, vertex_line, edge_line, end_line, priority_lines, body_lines, task_lines, set_lines}
-use Rattle.drt_file.specs.Line.{is_skipped, kind}
-use Rattle.drt_file.specs.Faults.{has_priority, in_task, is_outside, task_count}
-use Rattle.drt_file.specs.Steps.{◌>>=◌, narrow, opening_priority, with_vertex, with_edge, with_priority, on_current, after_task, after_kind, opening, headed, line_step, step, steps}
-use Rattle.drt_file.specs.Strict.{is_printed, is_whole, takes_vertex, takes_priority, fits, fits_below, strict_steps, fed, HasNoFeed}
+use Rattle.drt_file.specs.trusted.Cutting.{fields, fed, HasNoFeed}
+use Rattle.drt_file.specs.trusted.Words.{priority_word}
+use Rattle.drt_file.specs.trusted.Canonical.{canonical, written, written_line, name_at, version_line, task_line, vertex_line, edge_line, end_line, priority_lines, body_lines, task_lines, set_lines}
+use Rattle.drt_file.specs.internal.Kinds.{kind}
+use Rattle.drt_file.specs.trusted.Line.{is_skipped}
+use Rattle.drt_file.specs.internal.StateFaults.{has_priority, in_task, is_outside, task_count}
+use Rattle.drt_file.specs.internal.Steps.{◌>>=◌, narrow, opening_priority, with_vertex, with_edge, with_priority, on_current, after_task, after_kind, opening, headed, line_step, step, steps, capped}
+use Rattle.drt_file.specs.internal.Strict.{is_printed, is_whole, takes_vertex, takes_priority, fits, fits_below, strict_steps}
 use Rattle.drt_file.proofs.Again.{IsField, joined_again, joined_no_feed}
 use Rattle.drt_file.proofs.Digits.{capped_decimal}
 use Rattle.drt_file.proofs.Fielded.{set_fielded}
 use Rattle.drt_file.proofs.Leads.{kept}
-use Rattle.drt_file.specs.Reading.{no_task}
+use Rattle.drt_file.proofs.Snoc.{one_item}
+use Rattle.drt_file.specs.trusted.Reading.{no_task}
 use Rattle.drt_file.proofs.Spelled.{few_of, opens_as, text_leads}
 use Rattle.drt_file.proofs.Printed.{Stays, all_stay, set_stays, tasks_said}
 use Rattle.drt_file.proofs.Ordered.{step_again, left_below, line_some, taken_first}
@@ -106,13 +108,6 @@ in_at test s d at e = rw at e
 
 no_items : {X : Type 0} (xs : List X) → xs ≡ [] → (length xs == 0) ≡ true
 no_items xs e = ap (λ ys. length ys == 0) e
-
-one_item : {X : Type 0} (xs : List X) (x : X) → (length (xs ++ x ∷ []) == 0) ≡ false
-one_item [] x = refl
-one_item (y ∷ xs) x = go (length (xs ++ x ∷ []))
-  where
-    go : (n : ℕ) → (suc n == 0) ≡ false
-    go n = grind arith
 
 is_vertices : (d : Draft) → (has_priority d ≡ true) → (length d.vertices == 0) ≡ false → Whole d
 unfolding is_whole

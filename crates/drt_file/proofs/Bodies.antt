@@ -10,12 +10,13 @@ use Rattle.drt_model.specs.Limits.{IsTime, IsPriority, IsVertex, most_vertices}
 use Rattle.drt_file.specs.declared.state.Draft.{Draft}
 use Rattle.drt_file.specs.declared.state.State.{State}
 use Rattle.drt_file.specs.declared.state.Kind.TheVariants as kinds
-use Rattle.drt_file.specs.Cutting.{is_blank, fields}
-use Rattle.drt_file.specs.Words.{is_name, is_number, value, capped, task_word, vertex_word, edge_word, priority_word}
-use Rattle.drt_file.specs.Line.{is_text, kind}
-use Rattle.drt_file.specs.Faults.{kind_fault, has_vertex, has_edge, has_that_priority, place_of}
-use Rattle.drt_file.specs.Steps.{narrow, with_vertex, with_edge, with_priority, on_current, after_kind, line_step}
-use Rattle.drt_file.specs.Reading.{Means, Says, nothing, vertex, edge, priority}
+use Rattle.drt_file.specs.trusted.Cutting.{is_blank, fields}
+use Rattle.drt_file.specs.trusted.Words.{is_name, is_number, value, task_word, vertex_word, edge_word, priority_word}
+use Rattle.drt_file.specs.internal.Kinds.{kind}
+use Rattle.drt_file.specs.trusted.Line.{is_text}
+use Rattle.drt_file.specs.internal.StateFaults.{kind_fault, has_vertex, has_edge, has_that_priority, place_of}
+use Rattle.drt_file.specs.internal.Steps.{narrow, with_vertex, with_edge, with_priority, on_current, after_kind, line_step, capped}
+use Rattle.drt_file.specs.trusted.Reading.{Means, Says, nothing, vertex, edge, priority}
 use Rattle.drt_file.proofs.Snoc.{every_pop, every_map, every_unmap, every_weaker, Pairwise, pairs_pop}
 use Rattle.drt_file.proofs.Meanings.{name_text, number_text, unlike, any_of_every}
 use Rattle.drt_file.proofs.Names.{name_is}

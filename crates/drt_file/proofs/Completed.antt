@@ -7,13 +7,14 @@ use Rattle.drt_model.specs.Limits.{most_tasks, most_vertices}
 use Rattle.drt_file.specs.declared.state.Draft.{Draft}
 use Rattle.drt_file.specs.declared.state.State.{State}
 use Rattle.drt_file.specs.declared.state.Kind.TheVariants as kinds
-use Rattle.drt_file.specs.Words.{is_name, is_name_byte, value, capped, drt_word, task_word, vertex_word, priority_word}
-use Rattle.drt_file.specs.Canonical.{end_line}
-use Rattle.drt_file.specs.Line.{kind}
-use Rattle.drt_file.specs.Faults.{kind_fault, end_fault, has_priority, has_vertex, has_that_priority, in_task, is_outside}
-use Rattle.drt_file.specs.Steps.{with_last, with_vertex, with_priority, on_current, after_task, after_end, after_kind, opening, head, headed, line_step}
-use Rattle.drt_file.specs.Reading.{Means}
-use Rattle.drt_file.specs.Strict.{is_printed, is_whole, takes_vertex, takes_priority, fits, fits_below, strict_step, strict_steps, HasNoFeed, has_ended}
+use Rattle.drt_file.specs.trusted.Words.{is_name, is_name_byte, value, drt_word, task_word, vertex_word, priority_word}
+use Rattle.drt_file.specs.trusted.Canonical.{end_line}
+use Rattle.drt_file.specs.internal.Kinds.{kind}
+use Rattle.drt_file.specs.internal.StateFaults.{kind_fault, end_fault, has_priority, has_vertex, has_that_priority, in_task, is_outside}
+use Rattle.drt_file.specs.internal.Steps.{with_last, with_vertex, with_priority, on_current, after_task, after_end, after_kind, opening, head, headed, line_step, capped}
+use Rattle.drt_file.specs.trusted.Reading.{Means}
+use Rattle.drt_file.specs.trusted.Cutting.{HasNoFeed}
+use Rattle.drt_file.specs.internal.Strict.{is_printed, is_whole, takes_vertex, takes_priority, fits, fits_below, strict_step, strict_steps, has_ended}
 use Rattle.drt_file.proofs.Again.{IsField, joined_again, joined_no_feed}
 use Rattle.drt_file.proofs.Names.{is_a_name}
 use Rattle.drt_file.proofs.Digits.{decimal_field, decimal_number, value_decimal}

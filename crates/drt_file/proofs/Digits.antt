@@ -4,7 +4,8 @@ use Rattle.std.specs.Prelude.{decimal}
 use Rattle.std.specs.List.{AllByRecursion, list_all}
 use Rattle.std.proofs.lemmas.Str.Parse.{IsNumeralModel, numerals_by_fold}
 use Rattle.std.proofs.lemmas.Fmt.{digits_decimal, digits_value-decimal, decimal_nonempty}
-use Rattle.drt_file.specs.Words.{is_digit, value_after, value, capped, is_number}
+use Rattle.drt_file.specs.internal.Steps.{capped}
+use Rattle.drt_file.specs.trusted.Words.{is_digit, value_after, value, is_number}
 use Rattle.drt_file.proofs.Again.{IsField}
 
 numerals : IsNumeralModel (λ ds. list_all is_digit ds ≡ true) value

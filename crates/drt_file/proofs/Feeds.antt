@@ -4,9 +4,8 @@ use Rattle.std.specs.List.{AllByRecursion}
 use Rattle.std.proofs.lemmas.List.{append-nil}
 use Rattle.std.proofs.lemmas.Grind.{take_at_read}
 use Rattle.std.proofs.lemmas.List.Concat.{flat_map-append}
-use Rattle.drt_file.specs.Cutting.{lines, lines_after, with_run}
-use Rattle.drt_file.specs.CanonicalPrefix.{line_count, first_lines}
-use Rattle.drt_file.specs.Strict.{fed, HasNoFeed}
+use Rattle.drt_file.specs.trusted.Cutting.{lines, lines_after, with_run, fed, HasNoFeed}
+use Rattle.drt_file.specs.trusted.CanonicalPrefix.{line_count, first_lines}
 use Rattle.drt_file.proofs.Again.{line_again}
 use Rattle.drt_file.proofs.Snoc.{every_push}
 

@@ -9,8 +9,8 @@ use Rattle.drt_model.specs.declared.tasks.Edge.{Edge}
 use Rattle.drt_model.specs.declared.tasks.Task.{Task}
 use Rattle.drt_model.specs.Contents.{Contents}
 use Rattle.drt_model.specs.Limits.{IsNameByte, IsName, IsVertex, IsEdgeAmong, IsTask, IsTaskSet, IsVersion}
-use Rattle.drt_file.specs.Words.{drt_word, task_word, vertex_word, edge_word, priority_word, end_word}
-use Rattle.drt_file.specs.Canonical.{name_at, vertex_line, edge_line, end_line, priority_lines, body_lines, task_lines, set_lines}
+use Rattle.drt_file.specs.trusted.Words.{drt_word, task_word, vertex_word, edge_word, priority_word, end_word}
+use Rattle.drt_file.specs.trusted.Canonical.{name_at, vertex_line, edge_line, end_line, priority_lines, body_lines, task_lines, set_lines}
 use Rattle.drt_file.proofs.Again.{IsField, all_of_both}
 use Rattle.drt_file.proofs.Digits.{decimal_field}
 

@@ -10,12 +10,13 @@ use Rattle.drt_file.specs.declared.state.State.{State}
 use Rattle.drt_file.specs.declared.state.Kind.{Kind}
 use Rattle.drt_file.specs.declared.state.Kind.TheVariants as kinds
 use Rattle.drt_file.specs.declared.fault.FileFault.{FileFault}
-use Rattle.drt_file.specs.Cutting.{fields}
-use Rattle.drt_file.specs.Words.{capped, drt_word, task_word, vertex_word, edge_word, priority_word, end_word}
-use Rattle.drt_file.specs.Canonical.{end_line}
-use Rattle.drt_file.specs.Line.{is_text, is_skipped, kind, first_word}
-use Rattle.drt_file.specs.Faults.{line_fault, kind_fault}
-use Rattle.drt_file.specs.Steps.{with_last, opening_priority, after_task, after_end, after_kind, with_vertex, with_edge, with_priority, on_current, opening, head, headed, judged, line_step, step, steps, ◌>>=◌}
+use Rattle.drt_file.specs.trusted.Cutting.{fields}
+use Rattle.drt_file.specs.trusted.Words.{drt_word, task_word, vertex_word, edge_word, priority_word, end_word}
+use Rattle.drt_file.specs.trusted.Canonical.{end_line}
+use Rattle.drt_file.specs.internal.Kinds.{kind, first_word}
+use Rattle.drt_file.specs.trusted.Line.{is_text, is_skipped}
+use Rattle.drt_file.specs.internal.StateFaults.{line_fault, kind_fault}
+use Rattle.drt_file.specs.internal.Steps.{with_last, opening_priority, after_task, after_end, after_kind, with_vertex, with_edge, with_priority, on_current, opening, head, headed, judged, line_step, step, steps, ◌>>=◌, capped}
 use Rattle.drt_file.proofs.Table.{task_passed, vertex_passed, edge_passed, priority_passed, end_passed}
 use Rattle.drt_file.proofs.Kept.{Inside, Stands, vertex_of, vertex_goes, edge_goes, priority_goes}
 use Rattle.drt_file.proofs.Opened.{task_goes}
@@ -151,7 +152,7 @@ head_follows n (word ∷ version ∷ []) below e = go (bytes_eq word drt_word) r
     go true isd false iso false ist h = absurd (cc)
     go false isd o iso t ist h = absurd (cc)
 
-line_follows : (ws : List (List (List ℕ))) (n : ℕ) (above : Option State) (line : List ℕ) (words : List (List ℕ)) (below : Option State) → line_step n above line words ≡ Ok below → Follows ws above
+pub line_follows : (ws : List (List (List ℕ))) (n : ℕ) (above : Option State) (line : List ℕ) (words : List (List ℕ)) (below : Option State) → line_step n above line words ≡ Ok below → Follows ws above
     → Follows (ws ++ words ∷ []) below
 unfolding line_step judged
 line_follows ws n None line words below e follows = rw follows (head_follows n words below e)

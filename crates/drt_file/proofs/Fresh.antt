@@ -3,7 +3,7 @@ use Rattle.std.proofs.Common.{◌≡◌, ℕ, zero, suc, ◌+◌, ◌≤◌, ◌
 use Rattle.std.specs.Prelude.{◌==◌, filter}
 use Rattle.std.specs.List.{list_any}
 use Rattle.drt_file.specs.declared.state.Draft.{Draft}
-use Rattle.drt_file.specs.Faults.{has_that_priority}
+use Rattle.drt_file.specs.internal.StateFaults.{has_that_priority}
 
 -- The elements of which a test doesn't hold.
 abbrev others : {X : Type 0} → (X → Bool) → List X → List X

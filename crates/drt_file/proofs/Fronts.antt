@@ -9,10 +9,11 @@ use Rattle.drt_model.specs.Limits.{IsTaskSet}
 use Rattle.drt_file.specs.declared.state.Draft.{Draft}
 use Rattle.drt_file.specs.declared.state.State.{State}
 use Rattle.drt_file.specs.declared.front.CanonicalError.TheVariants as errors
-use Rattle.drt_file.specs.Canonical.{canonical, written, version_line, end_line, priority_lines, body_lines, task_lines, set_lines}
-use Rattle.drt_file.specs.Steps.{◌>>=◌, with_last, task_of, closing, finish, steps, read_text}
-use Rattle.drt_file.specs.Strict.{strict_step, strict_steps, fed, HasNoFeed, has_ended, Above}
-use Rattle.drt_file.specs.CanonicalPrefix.{IsCanonicalPrefix, line_count, first_lines, Breaks, BeginsWith, IsCanonicalCause}
+use Rattle.drt_file.specs.trusted.Canonical.{canonical, written, version_line, end_line, priority_lines, body_lines, task_lines, set_lines}
+use Rattle.drt_file.specs.internal.Steps.{◌>>=◌, with_last, task_of, closing, finish, steps, read_text}
+use Rattle.drt_file.specs.trusted.Cutting.{fed, HasNoFeed}
+use Rattle.drt_file.specs.internal.Strict.{strict_step, strict_steps, has_ended, Above}
+use Rattle.drt_file.specs.trusted.CanonicalPrefix.{IsCanonicalPrefix, line_count, first_lines, Breaks, BeginsWith, IsCanonicalCause}
 use Rattle.drt_file.proofs.Snoc.{every_push, every_weaker}
 use Rattle.drt_file.proofs.Again.{all_of_both}
 use Rattle.drt_file.proofs.Spelled.{closing_again}

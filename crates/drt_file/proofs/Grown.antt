@@ -13,13 +13,13 @@ use Rattle.drt_file.specs.declared.state.Draft.{Draft}
 use Rattle.drt_file.specs.declared.state.State.{State}
 use Rattle.drt_file.specs.declared.state.Kind.{Kind}
 use Rattle.drt_file.specs.declared.state.Kind.TheVariants as kinds
-use Rattle.drt_file.specs.Cutting.{fields}
-use Rattle.drt_file.specs.Words.{capped, drt_word, task_word, vertex_word, edge_word, priority_word}
-use Rattle.drt_file.specs.Canonical.{written, written_line, name_at, version_line, vertex_line, edge_line, end_line}
-use Rattle.drt_file.specs.Line.{kind, first_word}
-use Rattle.drt_file.specs.Faults.{has_priority, has_vertex, in_task, is_outside, kind_fault, place_of}
-use Rattle.drt_file.specs.Steps.{narrow, with_last, opening_priority, with_vertex, with_edge, with_priority, on_current, after_task, after_end, after_kind, opening, head, headed, line_step}
-use Rattle.drt_file.specs.Strict.{is_printed, is_whole, takes_vertex, takes_priority, fits, fits_below, strict_step, strict_steps, fed}
+use Rattle.drt_file.specs.trusted.Cutting.{fields, fed}
+use Rattle.drt_file.specs.trusted.Words.{drt_word, task_word, vertex_word, edge_word, priority_word}
+use Rattle.drt_file.specs.trusted.Canonical.{written, written_line, name_at, version_line, vertex_line, edge_line, end_line}
+use Rattle.drt_file.specs.internal.Kinds.{kind, first_word}
+use Rattle.drt_file.specs.internal.StateFaults.{has_priority, has_vertex, in_task, is_outside, kind_fault, place_of}
+use Rattle.drt_file.specs.internal.Steps.{narrow, with_last, opening_priority, with_vertex, with_edge, with_priority, on_current, after_task, after_end, after_kind, opening, head, headed, line_step, capped}
+use Rattle.drt_file.specs.internal.Strict.{is_printed, is_whole, takes_vertex, takes_priority, fits, fits_below, strict_step, strict_steps}
 use Rattle.drt_file.proofs.Meanings.{both}
 use Rattle.drt_file.proofs.Places.{stands_at, place_within}
 use Rattle.drt_file.proofs.Kept.{one_more, most_96, narrow_same}

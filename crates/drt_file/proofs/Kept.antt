@@ -7,12 +7,12 @@ use Rattle.drt_model.specs.declared.tasks.Edge.{Edge}
 use Rattle.drt_model.specs.Limits.{IsVersion, IsName, IsPriority, IsVertex, IsEdgeAmong, most_tasks, most_vertices}
 use Rattle.drt_file.specs.declared.state.Draft.{Draft}
 use Rattle.drt_file.specs.declared.state.State.{State}
-use Rattle.drt_file.specs.Words.{is_number, value, capped, task_word, vertex_word, edge_word, priority_word}
-use Rattle.drt_file.specs.Line.{is_in_range}
-use Rattle.drt_file.specs.Canonical.{version_line}
-use Rattle.drt_file.specs.Faults.{has_edge, has_that_priority, place_of}
-use Rattle.drt_file.specs.Steps.{narrow, with_vertex, with_edge, with_priority}
-use Rattle.drt_file.specs.Reading.{Means, Says, vertex, edge, priority, written_priority}
+use Rattle.drt_file.specs.trusted.Words.{is_number, value, task_word, vertex_word, edge_word, priority_word}
+use Rattle.drt_file.specs.trusted.Line.{is_in_range}
+use Rattle.drt_file.specs.trusted.Canonical.{version_line}
+use Rattle.drt_file.specs.internal.StateFaults.{has_edge, has_that_priority, place_of}
+use Rattle.drt_file.specs.internal.Steps.{narrow, with_vertex, with_edge, with_priority, capped}
+use Rattle.drt_file.specs.trusted.Reading.{Means, Says, vertex, edge, priority, written_priority}
 use Rattle.drt_file.proofs.Snoc.{every_push, every_weaker, every_map, Pairwise, pairs_push}
 use Rattle.drt_file.proofs.Meanings.{range_is, range_capped, differ, every_of_any}
 use Rattle.drt_file.proofs.Names.{is_a_name}

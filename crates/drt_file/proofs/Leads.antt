@@ -6,11 +6,12 @@ use Rattle.std.proofs.lemmas.List.Folds.{list_all-append}
 use Rattle.drt_file.specs.declared.state.State.{State}
 use Rattle.drt_file.specs.declared.state.Kind.{Kind}
 use Rattle.drt_file.specs.declared.fault.FileFault.{FileFault}
-use Rattle.drt_file.specs.Cutting.{is_blank, with_run, fields_after, fields}
-use Rattle.drt_file.specs.Words.{is_between}
-use Rattle.drt_file.specs.Line.{is_text, is_skipped, kind, first_word}
-use Rattle.drt_file.specs.Faults.{kind_fault, line_fault}
-use Rattle.drt_file.specs.Steps.{◌>>=◌, after_kind, judged, line_step, step, steps}
+use Rattle.drt_file.specs.trusted.Cutting.{is_blank, with_run, fields_after, fields}
+use Rattle.drt_file.specs.trusted.Words.{is_between}
+use Rattle.drt_file.specs.internal.Kinds.{kind, first_word}
+use Rattle.drt_file.specs.trusted.Line.{is_text, is_skipped}
+use Rattle.drt_file.specs.internal.StateFaults.{kind_fault, line_fault}
+use Rattle.drt_file.specs.internal.Steps.{◌>>=◌, after_kind, judged, line_step, step, steps}
 use Rattle.drt_file.proofs.Meanings.{both}
 
 -- The fields of those lines that aren't skipped.

@@ -5,6 +5,8 @@ pub mod Completed
 pub mod Cuts
 pub mod Digits
 pub mod Exact
+mod FaultRows
+pub mod Faulty
 pub mod Feeds
 pub mod Fielded
 pub mod Follows
@@ -15,7 +17,9 @@ pub mod Joins
 pub mod Kept
 pub mod Keys
 pub mod Leads
+pub mod LineCodes
 pub mod Lines
+pub mod LinesAbove
 pub mod Meanings
 pub mod Names
 pub mod NamesAbove
@@ -25,7 +29,10 @@ pub mod Ordered
 pub mod Passing
 pub mod Places
 pub mod Printed
+pub mod Shown
 pub mod Snoc
 pub mod Spelled
 pub mod Table
+pub mod TaskLines
+pub mod TextFaults
 pub mod Whole

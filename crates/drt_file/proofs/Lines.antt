@@ -6,8 +6,8 @@ use Rattle.drt_file.specs.declared.state.State.{State}
 use Rattle.drt_file.specs.declared.fault.FileFault.{FileFault}
 use Rattle.drt_file.specs.declared.fault.FileError.{FileError}
 use Rattle.drt_file.specs.declared.fault.FileError.TheVariants as errors
-use Rattle.drt_file.specs.Cutting.{lines, lines_after, with_run}
-use Rattle.drt_file.specs.Steps.{Fails, step, steps, first_line}
+use Rattle.drt_file.specs.trusted.Cutting.{lines, lines_after, with_run}
+use Rattle.drt_file.specs.internal.Steps.{Fails, step, steps, first_line}
 
 pub line_read : (n : ℕ) (above below : Option State) (line rest others : List ℕ) (total : Result (ℕ × Option State) FileFault) → lines rest ≡ line ∷ lines others → step n above line ≡ Ok below
     → steps n above (lines rest) ≡ total → steps (n + 1) below (lines others) ≡ total

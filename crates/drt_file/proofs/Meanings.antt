@@ -4,9 +4,10 @@ use Rattle.std.specs.Prelude.{bytes_eq, nat_le}
 use Rattle.std.specs.List.{AllByRecursion, list_all, list_any}
 use Rattle.std.proofs.lemmas.Slice.Eq.{bytes_eq-Decides}
 use Rattle.drt_model.specs.Limits.{IsTime}
-use Rattle.drt_file.specs.Cutting.{is_blank}
-use Rattle.drt_file.specs.Words.{is_digit, is_name_byte, is_name, is_number, value, capped, is_between}
-use Rattle.drt_file.specs.Line.{is_text, is_in_range}
+use Rattle.drt_file.specs.trusted.Cutting.{is_blank}
+use Rattle.drt_file.specs.internal.Steps.{capped}
+use Rattle.drt_file.specs.trusted.Words.{is_digit, is_name_byte, is_name, is_number, value, is_between}
+use Rattle.drt_file.specs.trusted.Line.{is_text, is_in_range}
 
 pub both : (a b : Bool) → (a && b) ≡ true → (a ≡ true) × (b ≡ true)
 both true true e = (refl, refl)

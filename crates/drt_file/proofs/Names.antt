@@ -3,7 +3,7 @@ use Rattle.std.proofs.Common.{◌≡◌, ℕ, true, List, get_or, arith}
 use Rattle.std.specs.List.{list_all}
 use Rattle.std.proofs.lemmas.List.Sums.{AllPass-from_list_all, list_all-from_AllPass}
 use Rattle.drt_model.specs.Limits.{IsNameByte, IsName}
-use Rattle.drt_file.specs.Words.{is_name_byte, is_name}
+use Rattle.drt_file.specs.trusted.Words.{is_name_byte, is_name}
 
 byte_is : (b : ℕ) → IsNameByte b → is_name_byte b ≡ true
 unfolding is_name_byte

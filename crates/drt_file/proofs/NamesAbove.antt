@@ -11,10 +11,11 @@ use Rattle.drt_file.specs.declared.state.Draft.{Draft}
 use Rattle.drt_file.specs.declared.state.State.{State}
 use Rattle.drt_file.specs.declared.state.Kind.{Kind}
 use Rattle.drt_file.specs.declared.state.Kind.TheVariants as kinds
-use Rattle.drt_file.specs.Faults.{has_vertex, place_of, in_task, in_some_task, is_outside, task_fault, vertex_fault, kind_fault, line_fault}
-use Rattle.drt_file.specs.Line.{is_text, kind, first_word}
-use Rattle.drt_file.specs.Reader.{own_vertices, task_names, vertex_names, HasNames, joined}
-use Rattle.drt_file.specs.Steps.{with_last, narrow, on_current, after_task, after_end, with_vertex, with_edge, with_priority}
+use Rattle.drt_file.specs.internal.StateFaults.{has_vertex, place_of, in_task, in_some_task, is_outside, task_fault, vertex_fault, kind_fault, line_fault}
+use Rattle.drt_file.specs.internal.Kinds.{kind, first_word}
+use Rattle.drt_file.specs.trusted.Line.{is_text}
+use Rattle.drt_file.specs.internal.Reader.{own_vertices, task_names, vertex_names, HasNames, joined}
+use Rattle.drt_file.specs.internal.Steps.{with_last, narrow, on_current, after_task, after_end, with_vertex, with_edge, with_priority}
 use Rattle.drt_file.proofs.Table.{inside, passed, at_task}
 
 same_bytes : (xs ys : List ℕ) → bytes_eq xs ys ≡ bytes_eq ys xs

@@ -6,11 +6,11 @@ use Rattle.std.proofs.lemmas.List.{map_push, length-map}
 use Rattle.drt_model.specs.Limits.{IsVersion, IsName, most_tasks}
 use Rattle.drt_file.specs.declared.state.Draft.{Draft}
 use Rattle.drt_file.specs.declared.state.State.{State}
-use Rattle.drt_file.specs.Words.{task_word}
-use Rattle.drt_file.specs.Canonical.{version_line}
-use Rattle.drt_file.specs.Faults.{is_outside, task_count}
-use Rattle.drt_file.specs.Steps.{narrow, with_last, opening_priority}
-use Rattle.drt_file.specs.Reading.{Says, nothing, written_priority}
+use Rattle.drt_file.specs.trusted.Words.{task_word}
+use Rattle.drt_file.specs.trusted.Canonical.{version_line}
+use Rattle.drt_file.specs.internal.StateFaults.{is_outside, task_count}
+use Rattle.drt_file.specs.internal.Steps.{narrow, with_last, opening_priority}
+use Rattle.drt_file.specs.trusted.Reading.{Says, nothing, written_priority}
 use Rattle.drt_file.proofs.Snoc.{every_push, every_weaker, every_map}
 use Rattle.drt_file.proofs.Meanings.{differ, every_of_any}
 use Rattle.drt_file.proofs.Names.{is_a_name}

@@ -6,11 +6,12 @@ use Rattle.std.proofs.lemmas.Slice.Eq.{bytes_eq-Decides}
 use Rattle.drt_file.specs.declared.state.State.{State}
 use Rattle.drt_file.specs.declared.state.Kind.{Kind}
 use Rattle.drt_file.specs.declared.fault.FileFault.{FileFault}
-use Rattle.drt_file.specs.Cutting.{fields}
-use Rattle.drt_file.specs.Line.{is_text, is_skipped, kind, first_word}
-use Rattle.drt_file.specs.Faults.{kind_fault, line_fault}
-use Rattle.drt_file.specs.Steps.{after_kind, head, headed, judged, line_step, step, steps}
-use Rattle.drt_file.specs.Strict.{fits, fits_below, left_by, strict_step, strict_steps, has_ended}
+use Rattle.drt_file.specs.trusted.Cutting.{fields}
+use Rattle.drt_file.specs.internal.Kinds.{kind, first_word}
+use Rattle.drt_file.specs.trusted.Line.{is_text, is_skipped}
+use Rattle.drt_file.specs.internal.StateFaults.{kind_fault, line_fault}
+use Rattle.drt_file.specs.internal.Steps.{after_kind, head, headed, judged, line_step, step, steps}
+use Rattle.drt_file.specs.internal.Strict.{fits, fits_below, left_by, strict_step, strict_steps, has_ended}
 use Rattle.drt_file.proofs.Again.{IsField, joined_again}
 use Rattle.drt_file.proofs.Leads.{text_again, takes}
 use Rattle.drt_file.proofs.Follows.{LinePassed, line_passed}

@@ -9,11 +9,11 @@ use Rattle.drt_model.specs.declared.tasks.Edge.{Edge}
 use Rattle.drt_model.specs.Limits.{IsName, IsTime, IsPriority, most_tasks, most_vertices}
 use Rattle.drt_file.specs.declared.state.Draft.{Draft}
 use Rattle.drt_file.specs.declared.state.State.{State}
-use Rattle.drt_file.specs.Words.{is_name, value, capped, task_word, vertex_word, edge_word, priority_word}
-use Rattle.drt_file.specs.Line.{is_in_range}
-use Rattle.drt_file.specs.Reading.{Means}
-use Rattle.drt_file.specs.Faults.{first_of, in_task, in_some_task, is_outside, task_fault, vertex_fault, edge_fault, priority_fault, has_vertex, has_edge, has_priority, has_that_priority, place_of, task_count}
-use Rattle.drt_file.specs.Steps.{with_last}
+use Rattle.drt_file.specs.trusted.Words.{is_name, value, task_word, vertex_word, edge_word, priority_word}
+use Rattle.drt_file.specs.trusted.Line.{is_in_range}
+use Rattle.drt_file.specs.trusted.Reading.{Means}
+use Rattle.drt_file.specs.internal.StateFaults.{first_of, in_task, in_some_task, is_outside, task_fault, vertex_fault, edge_fault, priority_fault, has_vertex, has_edge, has_priority, has_that_priority, place_of, task_count}
+use Rattle.drt_file.specs.internal.Steps.{with_last, capped}
 use Rattle.drt_file.proofs.Snoc.{every_weaker, Pairwise}
 use Rattle.drt_file.proofs.Meanings.{range_again, range_capped, unlike, any_of_every}
 use Rattle.drt_file.proofs.Names.{name_is}
@@ -88,7 +88,7 @@ every_at P [] i x are e = absurd (cc)
 every_at P (y ∷ ys) zero x are e = let same : y ≡ x = cc in subst P same are.0
 every_at P (y ∷ ys) (suc i) x are e = every_at P ys i x are.1 e
 
-same_name : (name : List ℕ) → bytes_eq name name ≡ true
+pub same_name : (name : List ℕ) → bytes_eq name name ≡ true
 same_name name = (bytes_eq-Decides name name).1 refl
 
 pub stands_again : (vs : List Vertex) (i : ℕ) (v : Vertex) → slice_get vs i ≡ Some v → has_vertex v.name vs ≡ true

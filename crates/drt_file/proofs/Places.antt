@@ -3,7 +3,7 @@ use Rattle.std.proofs.Common.{◌≡◌, ℕ, suc, ◌<◌, Bool, true, false, �
 use Rattle.std.specs.Prelude.{bytes_eq, slice_get}
 use Rattle.std.proofs.lemmas.Slice.Eq.{bytes_eq-Decides}
 use Rattle.drt_model.specs.declared.tasks.Vertex.{Vertex}
-use Rattle.drt_file.specs.Faults.{has_vertex, place_of}
+use Rattle.drt_file.specs.internal.StateFaults.{has_vertex, place_of}
 
 -- a vertex of that name stands at its place
 pub stands_at : (name : List ℕ) (vs : List Vertex) → has_vertex name vs ≡ true → (v : Vertex) × (slice_get vs (place_of name vs) ≡ Some v) × (v.name ≡ name)

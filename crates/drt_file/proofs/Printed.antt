@@ -10,11 +10,11 @@ use Rattle.drt_model.specs.declared.tasks.Edge.{Edge}
 use Rattle.drt_model.specs.declared.tasks.Task.{Task}
 use Rattle.drt_model.specs.Contents.{Contents}
 use Rattle.drt_model.specs.Limits.{IsVertex, IsEdgeAmong, IsTask, IsTaskSet}
-use Rattle.drt_file.specs.Cutting.{lines_of_fields}
-use Rattle.drt_file.specs.Words.{edge_word, priority_word}
-use Rattle.drt_file.specs.Canonical.{name_at, vertex_line, edge_line, end_line, priority_lines, body_lines, task_lines, set_lines, canonical}
-use Rattle.drt_file.specs.Line.{is_skipped}
-use Rattle.drt_file.specs.Reading.{Means, Says, nothing, vertex, edge, priority, written_priority, SaysTask, SaysTasks, no_task, next_task, Reads}
+use Rattle.drt_file.specs.trusted.Cutting.{lines_of_fields}
+use Rattle.drt_file.specs.trusted.Words.{edge_word, priority_word}
+use Rattle.drt_file.specs.trusted.Canonical.{name_at, vertex_line, edge_line, end_line, priority_lines, body_lines, task_lines, set_lines, canonical}
+use Rattle.drt_file.specs.trusted.Line.{is_skipped}
+use Rattle.drt_file.specs.trusted.Reading.{Means, Says, nothing, vertex, edge, priority, written_priority, SaysTask, SaysTasks, no_task, next_task, Reads}
 use Rattle.drt_file.proofs.Again.{all_of_both, written_again}
 use Rattle.drt_file.proofs.Digits.{decimal_number, value_decimal}
 use Rattle.drt_file.proofs.Exact.{one_set}

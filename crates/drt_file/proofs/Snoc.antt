@@ -1,6 +1,6 @@
 -- Lists that grow at their end: what holds of each element, and of each element and each later one.
-use Rattle.std.proofs.Common.{suc, List, [], ◌∷◌, ◌++◌, map, arith}
-use Rattle.std.specs.Prelude.{AllPairs}
+use Rattle.std.proofs.Common.{◌≡◌, ℕ, suc, false, refl, length, List, [], ◌∷◌, ◌++◌, map, arith}
+use Rattle.std.specs.Prelude.{AllPairs, ◌==◌}
 use Rattle.std.specs.List.{AllByRecursion}
 use Rattle.std.proofs.lemmas.List.Elements.{All-from_recursion, recursion_from_All}
 use Rattle.std.proofs.lemmas.List.Kept.{AllPairs-cons}
@@ -67,3 +67,10 @@ pairs_of_all R (x ∷ xs) are = (
   recursion_from_All (R x) xs (λ k d lt. are 0 (suc k) d (omega arith) (omega (arith, lt))),
   pairs_of_all R xs (λ i j d lt le. are (suc i) (suc j) d (omega (arith, lt)) (omega (arith, le))),
 )
+
+pub one_item : {X : Type 0} (xs : List X) (x : X) → (length (xs ++ x ∷ []) == 0) ≡ false
+one_item [] x = refl
+one_item (y ∷ xs) x = go (length (xs ++ x ∷ []))
+  where
+    go : (n : ℕ) → (suc n == 0) ≡ false
+    go n = grind arith

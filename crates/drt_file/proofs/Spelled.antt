@@ -13,13 +13,14 @@ use Rattle.drt_model.specs.Limits.{IsVersion, IsName, IsTime, IsPriority, IsVert
 use Rattle.drt_file.specs.declared.state.Draft.{Draft}
 use Rattle.drt_file.specs.declared.state.State.{State}
 use Rattle.drt_file.specs.declared.state.Kind.TheVariants as kinds
-use Rattle.drt_file.specs.Cutting.{is_blank, lines, fields}
-use Rattle.drt_file.specs.Words.{drt_word, task_word}
-use Rattle.drt_file.specs.Canonical.{version_line, end_line}
-use Rattle.drt_file.specs.Line.{is_text, kind}
-use Rattle.drt_file.specs.Faults.{kind_fault, end_fault, task_count}
-use Rattle.drt_file.specs.Steps.{◌>>=◌, with_last, opening_priority, opening, after_task, after_end, after_kind, head, headed, line_step, first_line, has_no_vertex, has_no_priority, unless_at, task_of, closing, finish, read_text}
-use Rattle.drt_file.specs.Reading.{written_priority, SaysTasks, no_task, next_task, Reads}
+use Rattle.drt_file.specs.trusted.Cutting.{is_blank, lines, fields}
+use Rattle.drt_file.specs.trusted.Words.{drt_word, task_word}
+use Rattle.drt_file.specs.trusted.Canonical.{version_line, end_line}
+use Rattle.drt_file.specs.internal.Kinds.{kind}
+use Rattle.drt_file.specs.trusted.Line.{is_text}
+use Rattle.drt_file.specs.internal.StateFaults.{kind_fault, end_fault, task_count}
+use Rattle.drt_file.specs.internal.Steps.{◌>>=◌, with_last, opening_priority, opening, after_task, after_end, after_kind, head, headed, line_step, first_line, has_no_vertex, has_no_priority, unless_at, task_of, closing, finish, read_text}
+use Rattle.drt_file.specs.trusted.Reading.{written_priority, SaysTasks, no_task, next_task, Reads}
 use Rattle.drt_file.proofs.Snoc.{every_pop, every_map, every_unmap, every_weaker, Pairwise, pairs_pop, pairs_of_all}
 use Rattle.drt_file.proofs.Meanings.{unlike, any_of_every}
 use Rattle.drt_file.proofs.Names.{name_is}

@@ -5,9 +5,9 @@ use Rattle.std.specs.List.{list_any}
 use Rattle.drt_model.specs.Limits.{most_tasks, most_vertices}
 use Rattle.drt_file.specs.declared.state.Draft.{Draft}
 use Rattle.drt_file.specs.declared.state.State.{State}
-use Rattle.drt_file.specs.Words.{is_number, is_name, value}
-use Rattle.drt_file.specs.Line.{is_in_range}
-use Rattle.drt_file.specs.Faults.{first_of, in_task, in_some_task, is_outside, task_fault, vertex_fault, edge_fault, priority_fault, end_fault, has_vertex, has_edge, has_priority, has_that_priority, place_of, task_count}
+use Rattle.drt_file.specs.trusted.Words.{is_number, is_name, value}
+use Rattle.drt_file.specs.trusted.Line.{is_in_range}
+use Rattle.drt_file.specs.internal.StateFaults.{first_of, in_task, in_some_task, is_outside, task_fault, vertex_fault, edge_fault, priority_fault, end_fault, has_vertex, has_edge, has_priority, has_that_priority, place_of, task_count}
 use Rattle.drt_file.proofs.Meanings.{both, not_false, either_false}
 
 -- No code: this test doesn't hold, and none of the others.

@@ -10,11 +10,11 @@ use Rattle.drt_model.specs.Limits.{IsTask, IsTaskSet}
 use Rattle.drt_file.specs.declared.state.Draft.{Draft}
 use Rattle.drt_file.specs.declared.state.State.{State}
 use Rattle.drt_file.specs.declared.fault.FileFault.{FileFault}
-use Rattle.drt_file.specs.Cutting.{lines}
-use Rattle.drt_file.specs.Canonical.{version_line, end_line}
-use Rattle.drt_file.specs.Line.{said}
-use Rattle.drt_file.specs.Steps.{◌>>=◌, with_last, first_line, has_no_vertex, has_no_priority, unless_at, task_of, closing, finish, steps, read_text}
-use Rattle.drt_file.specs.Reading.{Says, written_priority, SaysTask, SaysTasks, no_task, next_task, Reads}
+use Rattle.drt_file.specs.trusted.Cutting.{lines}
+use Rattle.drt_file.specs.trusted.Canonical.{version_line, end_line}
+use Rattle.drt_file.specs.trusted.Line.{said}
+use Rattle.drt_file.specs.internal.Steps.{◌>>=◌, with_last, first_line, has_no_vertex, has_no_priority, unless_at, task_of, closing, finish, steps, read_text}
+use Rattle.drt_file.specs.trusted.Reading.{Says, written_priority, SaysTask, SaysTasks, no_task, next_task, Reads}
 use Rattle.drt_file.proofs.Snoc.{every_push, every_pop, Pairwise, pairs_unmap, pairs_map, pairs_weaker, pairs_all}
 use Rattle.drt_file.proofs.Keys.{key_of, Differ, Numbered, Keys}
 use Rattle.drt_file.proofs.Kept.{IsDraft, SaysDrafts, none, more}

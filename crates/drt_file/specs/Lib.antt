@@ -1,11 +1,2 @@
-pub mod Canonical
-pub mod CanonicalPrefix
-pub mod Cutting
-pub mod Faults
-pub mod Laws
-pub mod Line
-pub mod Reader
-pub mod Reading
-pub mod Steps
-pub mod Strict
-pub mod Words
+pub mod internal
+pub mod trusted

@@ -1,6 +1,6 @@
 //! Cutting a text into lines, and a line into fields.
 ghost use Rattle.std.specs.Prelude.{◌≡◌, ◌<◌, IsTrue, ◌↔◌, ◌∷◌, List, map, length, IfOk};
-ghost use Rattle.drt_file.specs.Cutting.{lines, is_blank, fields};
+ghost use Rattle.drt_file.specs.trusted.Cutting.{lines, is_blank, fields};
 
 use std::alloc::{AllocError as Memory, Global};
 
@@ -19,7 +19,7 @@ pub fn cut_line(text: &[u8]) -> (&[u8], &[u8])
 }
 
 /// Whether the byte is a space, a tab or a CR.
-#[tactic(auto, unfolding(crate::specs::Cutting::is_blank))]
+#[tactic(auto, unfolding(crate::specs::trusted::Cutting::is_blank))]
 pub fn blank(b: u8) -> bool
     ensures { result ≡ is_blank b }
 {

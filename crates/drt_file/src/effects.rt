@@ -1,8 +1,8 @@
 //! What a line without a fault adds to what the lines above leave.
 ghost use Rattle.std.specs.Prelude.{◌≡◌, None, Some, false, map, bytes_eq, IfOk, option_map};
-ghost use Rattle.drt_file.specs.Faults.{place_of, has_vertex, in_some_task, is_outside, kind_fault};
-ghost use Rattle.drt_file.specs.Reader.{own_vertices, joined};
-ghost use Rattle.drt_file.specs.Steps.{
+ghost use Rattle.drt_file.specs.internal.StateFaults.{place_of, has_vertex, in_some_task, is_outside, kind_fault};
+ghost use Rattle.drt_file.specs.internal.Reader.{own_vertices, joined};
+ghost use Rattle.drt_file.specs.internal.Steps.{
   after_task,
   after_end,
   on_current,
@@ -36,7 +36,7 @@ fn name_of(alloc: Global, word: &[u8]) -> Result<Name, Memory>
 }
 
 /// The tasks so far, with the open one closed behind them.
-#[tactic(auto, unfolding(crate::specs::Steps::with_last))]
+#[tactic(auto, unfolding(crate::specs::internal::Steps::with_last))]
 pub fn close(closed: Row<Draft>, current: Option<Draft>) -> Result<Row<Draft>, Memory>
     ensures { IfOk result (λ ds. ds ≡ with_last closed current) }
 {
@@ -47,7 +47,7 @@ pub fn close(closed: Row<Draft>, current: Option<Draft>) -> Result<Row<Draft>, M
 }
 
 // The priority of a task that opens: in version 1 its number, counted from 1.
-#[tactic(auto, unfolding(crate::specs::Steps::opening_priority))]
+#[tactic(auto, unfolding(crate::specs::internal::Steps::opening_priority))]
 fn opening_priority(s: &State) -> Option<u32>
     ensures { result ≡ opening_priority s.now }
 {
@@ -58,7 +58,7 @@ fn opening_priority(s: &State) -> Option<u32>
     }
 }
 
-#[tactic(auto, unfolding(crate::specs::Steps::after_task))]
+#[tactic(auto, unfolding(crate::specs::internal::Steps::after_task))]
 fn task_opened(alloc: Global, n: u32, s: State, name: &[u8]) -> Result<State, Memory>
     ensures { IfOk result (λ t. t ≡ after_task n s name.now) }
 {
@@ -103,7 +103,7 @@ fn after_task(alloc: Global, n: u32, r: Reader, name: &[u8]) -> Result<Reader, M
     })
 }
 
-#[tactic(auto, unfolding(crate::specs::Steps::with_vertex))]
+#[tactic(auto, unfolding(crate::specs::internal::Steps::with_vertex))]
 fn vertex_added(current: Option<Draft>, v: Vertex) -> Result<Option<Draft>, Memory>
     ensures { IfOk result (λ d. d ≡ option_map (with_vertex v) current) }
 {
@@ -129,7 +129,7 @@ fn vertex_added(current: Option<Draft>, v: Vertex) -> Result<Option<Draft>, Memo
     }
 }
 
-#[tactic(auto, unfolding(crate::specs::Reader::joined))]
+#[tactic(auto, unfolding(crate::specs::internal::Reader::joined))]
 fn edge_added(current: Option<Draft>, edge: Edge) -> Result<Option<Draft>, Memory>
     ensures { IfOk result (λ d. d ≡ option_map (joined edge) current) }
 {
@@ -155,7 +155,7 @@ fn edge_added(current: Option<Draft>, edge: Edge) -> Result<Option<Draft>, Memor
     }
 }
 
-#[tactic(auto, unfolding(crate::specs::Steps::with_priority))]
+#[tactic(auto, unfolding(crate::specs::internal::Steps::with_priority))]
 fn priority_set(current: Option<Draft>, n: u32) -> Option<Draft>
     ensures { result ≡ option_map (with_priority n) current }
 {
@@ -168,7 +168,7 @@ fn priority_set(current: Option<Draft>, n: u32) -> Option<Draft>
     }
 }
 
-#[tactic(auto, unfolding(crate::specs::Steps::on_current))]
+#[tactic(auto, unfolding(crate::specs::internal::Steps::on_current))]
 fn vertex_put(s: State, v: Vertex) -> Result<State, Memory>
     ensures { IfOk result (λ t. t ≡ on_current (with_vertex v) s) }
 {
@@ -205,7 +205,7 @@ fn after_vertex(alloc: Global, r: Reader, v: Vertex) -> Result<Reader, Memory>
     })
 }
 
-#[tactic(auto, unfolding(crate::specs::Steps::on_current))]
+#[tactic(auto, unfolding(crate::specs::internal::Steps::on_current))]
 fn edge_put(s: State, edge: Edge) -> Result<State, Memory>
     ensures { IfOk result (λ t. t ≡ on_current (joined edge) s) }
 {
@@ -250,7 +250,7 @@ fn after_edge(r: Reader, from: &[u8], to: &[u8], sep: u32) -> Result<Reader, Mem
     })
 }
 
-#[tactic(auto, unfolding(crate::specs::Steps::on_current))]
+#[tactic(auto, unfolding(crate::specs::internal::Steps::on_current))]
 fn priority_put(s: State, n: u32) -> State
     ensures { result ≡ on_current (with_priority n) s }
 {
@@ -284,7 +284,7 @@ fn after_priority(r: Reader, n: u32) -> Reader
     }
 }
 
-#[tactic(auto, unfolding(crate::specs::Steps::after_end))]
+#[tactic(auto, unfolding(crate::specs::internal::Steps::after_end))]
 fn end_put(s: State) -> State
     ensures { result ≡ after_end s }
 {
@@ -318,7 +318,7 @@ fn after_end(r: Reader) -> Reader
 }
 
 /// The state below a line of this kind that has no fault.
-#[tactic(auto, unfolding(crate::specs::Steps::after_kind))]
+#[tactic(auto, unfolding(crate::specs::internal::Steps::after_kind))]
 pub fn after(
     alloc: Global,
     kind: Kind,
@@ -365,7 +365,7 @@ pub fn after(
 }
 
 /// The state below the first line, where it is `drt 1` or `drt 2`.
-#[tactic(auto, unfolding(crate::specs::Steps::head))]
+#[tactic(auto, unfolding(crate::specs::internal::Steps::head))]
 pub fn head(alloc: Global, words: &[&[u8]]) -> Option<Reader>
     ensures { result ≡ head (map (λ w. w.now) words.now) }
 {

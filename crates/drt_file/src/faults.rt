@@ -2,10 +2,10 @@
 ghost use Rattle.std.specs.Prelude.{◌≡◌, ◌<◌, ◌+◌, ◌==◌, ◌&&◌, nat_le, map, length};
 ghost use Rattle.std.specs.List.{list_any};
 ghost use Rattle.drt_model.specs.Limits.{most_tasks, most_vertices};
-ghost use Rattle.drt_file.specs.Faults.{has_vertex, place_of, has_edge, has_that_priority, has_priority, is_outside, task_count, task_fault, vertex_fault, edge_fault, priority_fault, end_fault, line_fault, kind_fault};
-ghost use Rattle.drt_file.specs.Line.{first_word};
-ghost use Rattle.drt_file.specs.Reader.{own_vertices};
-ghost use Rattle.drt_file.specs.Words.{is_name};
+ghost use Rattle.drt_file.specs.internal.StateFaults.{has_vertex, place_of, has_edge, has_that_priority, has_priority, is_outside, task_count, task_fault, vertex_fault, edge_fault, priority_fault, end_fault, line_fault, kind_fault};
+ghost use Rattle.drt_file.specs.internal.Kinds.{first_word};
+ghost use Rattle.drt_file.specs.internal.Reader.{own_vertices};
+ghost use Rattle.drt_file.specs.trusted.Words.{is_name};
 
 use crate::codes::*;
 use crate::line::{all_text, in_range, kind_of};
@@ -15,7 +15,7 @@ use crate::words::{a_name, a_number, value_of};
 use drt_model::Edge;
 use drt_model::limits::{most_tasks, most_vertices};
 
-#[tactic(auto, unfolding(crate::specs::Faults::has_edge))]
+#[tactic(auto, unfolding(crate::specs::internal::StateFaults::has_edge))]
 fn any_edge(from: usize, to: usize, edges: &[Edge]) -> bool
     ensures { result ≡ has_edge from to edges.now }
 {
@@ -27,7 +27,7 @@ fn any_edge(from: usize, to: usize, edges: &[Edge]) -> bool
     false
 }
 
-#[tactic(auto, unfolding(crate::specs::Faults::has_that_priority))]
+#[tactic(auto, unfolding(crate::specs::internal::StateFaults::has_that_priority))]
 fn that_priority(n: u32, d: &Draft) -> bool
     ensures { result ≡ has_that_priority n d.now }
 {
@@ -49,7 +49,7 @@ fn any_priority(n: u32, tasks: &[Draft]) -> bool
 }
 
 /// The fault of an `end` line.
-#[tactic(auto, unfolding(crate::specs::Faults::end_fault))]
+#[tactic(auto, unfolding(crate::specs::internal::StateFaults::end_fault))]
 fn fault_of_end(words: &[&[u8]]) -> Option<u8>
     ensures { result ≡ end_fault (map (λ w. w.now) words.now) }
 {
@@ -60,7 +60,7 @@ fn fault_of_end(words: &[&[u8]]) -> Option<u8>
 }
 
 /// The fault of a `vertex` line.
-#[tactic(auto, unfolding(crate::specs::Reader::own_vertices, crate::specs::Faults::vertex_fault, crate::specs::Faults::first_of, crate::specs::Faults::in_task, crate::specs::Faults::is_outside))]
+#[tactic(auto, unfolding(crate::specs::internal::Reader::own_vertices, crate::specs::internal::StateFaults::vertex_fault, crate::specs::internal::StateFaults::first_of, crate::specs::internal::StateFaults::in_task, crate::specs::internal::StateFaults::is_outside))]
 fn fault_of_vertex(r: &Reader, words: &[&[u8]]) -> Option<u8>
     ensures { result ≡ vertex_fault r.now (map (λ w. w.now) words.now) }
 {
@@ -111,7 +111,7 @@ fn joins(r: &Reader, d: &Draft, from: &[u8], to: &[u8]) -> bool
 }
 
 /// The fault of an `edge` line.
-#[tactic(auto, unfolding(crate::specs::Reader::own_vertices, crate::specs::Faults::edge_fault, crate::specs::Faults::first_of, crate::specs::Faults::in_task, crate::specs::Faults::is_outside))]
+#[tactic(auto, unfolding(crate::specs::internal::Reader::own_vertices, crate::specs::internal::StateFaults::edge_fault, crate::specs::internal::StateFaults::first_of, crate::specs::internal::StateFaults::in_task, crate::specs::internal::StateFaults::is_outside))]
 fn fault_of_edge(r: &Reader, words: &[&[u8]]) -> Option<u8>
     ensures { result ≡ edge_fault r.now (map (λ w. w.now) words.now) }
 {
@@ -147,7 +147,7 @@ fn fault_of_edge(r: &Reader, words: &[&[u8]]) -> Option<u8>
 }
 
 /// The fault of a `priority` line.
-#[tactic(auto, unfolding(crate::specs::Faults::priority_fault, crate::specs::Faults::first_of, crate::specs::Faults::in_task, crate::specs::Faults::is_outside, crate::specs::Faults::has_priority))]
+#[tactic(auto, unfolding(crate::specs::internal::StateFaults::priority_fault, crate::specs::internal::StateFaults::first_of, crate::specs::internal::StateFaults::in_task, crate::specs::internal::StateFaults::is_outside, crate::specs::internal::StateFaults::has_priority))]
 fn fault_of_priority(s: &State, words: &[&[u8]]) -> Option<u8>
     ensures { result ≡ priority_fault s.now (map (λ w. w.now) words.now) }
 {
@@ -177,7 +177,7 @@ fn fault_of_priority(s: &State, words: &[&[u8]]) -> Option<u8>
 }
 
 /// How many `task` lines stand above.
-#[tactic(auto, unfolding(crate::specs::Faults::task_count, crate::specs::Faults::is_outside))]
+#[tactic(auto, unfolding(crate::specs::internal::StateFaults::task_count, crate::specs::internal::StateFaults::is_outside))]
 pub fn count_tasks(s: &State) -> usize
     ensures { result ≡ task_count s.now }
 {
@@ -194,7 +194,7 @@ fn are_full(s: &State) -> bool
 }
 
 /// The fault of a `task` line.
-#[tactic(auto, unfolding(crate::specs::Faults::task_fault, crate::specs::Faults::first_of))]
+#[tactic(auto, unfolding(crate::specs::internal::StateFaults::task_fault, crate::specs::internal::StateFaults::first_of))]
 fn fault_of_task(r: &Reader, words: &[&[u8]]) -> Option<u8>
     ensures { result ≡ task_fault r.now (map (λ w. w.now) words.now) }
 {
@@ -215,7 +215,7 @@ fn fault_of_task(r: &Reader, words: &[&[u8]]) -> Option<u8>
     }
 }
 
-#[tactic(auto, unfolding(crate::specs::Faults::kind_fault))]
+#[tactic(auto, unfolding(crate::specs::internal::StateFaults::kind_fault))]
 fn fault_by_kind(kind: Kind, r: &Reader, words: &[&[u8]]) -> Option<u8>
     ensures { result ≡ kind_fault kind r.now (map (λ w. w.now) words.now) }
 {
@@ -230,7 +230,7 @@ fn fault_by_kind(kind: Kind, r: &Reader, words: &[&[u8]]) -> Option<u8>
 }
 
 /// The fault of a line that isn't skipped and isn't the first such.
-#[tactic(auto, unfolding(crate::specs::Faults::line_fault))]
+#[tactic(auto, unfolding(crate::specs::internal::StateFaults::line_fault))]
 pub fn fault_of_line(r: &Reader, line: &[u8], words: &[&[u8]]) -> Option<u8>
     ensures { result ≡ line_fault r.now line.now (map (λ w. w.now) words.now) }
 {

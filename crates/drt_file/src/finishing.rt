@@ -1,7 +1,7 @@
 //! The end of a task file: the set that its lines say, or the fault of the text as a whole.
 ghost use Rattle.std.specs.Prelude.{◌≡◌, map, IfOk};
 ghost use Rattle.drt_file.specs.declared.fault.FileError.TheVariants.{Fault};
-ghost use Rattle.drt_file.specs.Steps.{
+ghost use Rattle.drt_file.specs.internal.Steps.{
   Gives,
   GivesSet,
   first_line,
@@ -31,14 +31,14 @@ fn first_without_vertex(drafts: &[Draft]) -> Option<u32>
     None
 }
 
-#[tactic(auto, unfolding(crate::specs::Steps::has_no_vertex))]
+#[tactic(auto, unfolding(crate::specs::internal::Steps::has_no_vertex))]
 fn no_vertex(d: &Draft) -> bool
     ensures { result ≡ has_no_vertex d.now }
 {
     d.vertices.as_slice().is_empty()
 }
 
-#[tactic(auto, unfolding(crate::specs::Steps::has_no_priority))]
+#[tactic(auto, unfolding(crate::specs::internal::Steps::has_no_priority))]
 fn no_priority(d: &Draft) -> bool
     ensures { result ≡ has_no_priority d.now }
 {
@@ -63,7 +63,7 @@ fn fault_at(line: u32, code: u8) -> FileError
 }
 
 // The tasks, where the text as a whole has no fault; n is the number behind its last line.
-#[tactic(auto, unfolding(crate::specs::Steps::closing, crate::specs::Steps::unless_at))]
+#[tactic(auto, unfolding(crate::specs::internal::Steps::closing, crate::specs::internal::Steps::unless_at))]
 fn closing(n: u32, drafts: Row<Draft>, ended: bool) -> Result<Row<Draft>, FileError>
     ensures { Gives result (closing n drafts ended) }
 {
@@ -82,7 +82,7 @@ fn closing(n: u32, drafts: Row<Draft>, ended: bool) -> Result<Row<Draft>, FileEr
     }
 }
 
-#[tactic(auto, unfolding(crate::specs::Steps::task_of))]
+#[tactic(auto, unfolding(crate::specs::internal::Steps::task_of))]
 fn task_of(d: Draft) -> Task
     ensures { result ≡ task_of d }
 {
@@ -116,7 +116,7 @@ fn tasks_of(alloc: Global, drafts: Row<Draft>) -> Result<Row<Task>, Memory>
 }
 
 /// The version and the tasks of the set that a text says.
-#[tactic(auto, unfolding(crate::specs::Steps::finish))]
+#[tactic(auto, unfolding(crate::specs::internal::Steps::finish))]
 pub fn finish(alloc: Global, n: u32, above: Option<Reader>) -> Result<(u8, Row<Task>), FileError>
     ensures { GivesSet result (finish n above) }
 {

@@ -2,8 +2,9 @@
 ghost use Rattle.std.specs.Prelude.{◌≡◌, ◌++◌, ◌∷◌, ◌≤◌, ℕ, true, length, IfOk, IfErr, MatchOption};
 ghost use Rattle.drt_model.specs.Contents.{Contents};
 ghost use Rattle.drt_file.specs.declared.front.CanonicalError.TheVariants.{Fault};
-ghost use Rattle.drt_file.specs.CanonicalPrefix.{BeginsWith, GivesFront, IsCanonicalCause};
-ghost use Rattle.drt_file.specs.Strict.{Above, HasNoFeed, has_ended};
+ghost use Rattle.drt_file.specs.trusted.CanonicalPrefix.{BeginsWith, GivesFront, IsCanonicalCause};
+ghost use Rattle.drt_file.specs.trusted.Cutting.{HasNoFeed};
+ghost use Rattle.drt_file.specs.internal.Strict.{Above, has_ended};
 
 use crate::finishing::finish;
 use crate::reader::Reader;
@@ -60,7 +61,7 @@ fn fault(line: u32, missing: bool) -> CanonicalError
     CanonicalError::Fault { line, missing }
 }
 
-#[tactic(auto, unfolding(crate::specs::Strict::has_ended))]
+#[tactic(auto, unfolding(crate::specs::internal::Strict::has_ended))]
 fn has_ended(above: &Option<Reader>) -> bool
     ensures { result ≡ has_ended above.now }
 {

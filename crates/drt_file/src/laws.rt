@@ -1,8 +1,8 @@
 //! Laws of texts and sets: each function does nothing, and its contract is the law.
-ghost use Rattle.drt_file.specs.Laws.{
+ghost use Rattle.drt_file.specs.trusted.Laws.{
   TextsAreCutAsMade,
   TextsTellSets,
-  LinesAgreeWithWholes,
+  FaultlessTextsRead,
   TextsReadAsOneSet,
   CanonicalTextsRead,
   FrontsTellSets,
@@ -18,10 +18,9 @@ pub fn texts_tell_sets()
     ensures { TextsTellSets }
 {}
 
-/// A text without a faulty line reads as the set that its lines give, and a text that reads as a
-/// set has no faulty line.
-pub fn lines_agree_with_wholes()
-    ensures { LinesAgreeWithWholes }
+/// A text has no fault by the tables of codes exactly where it reads as some set.
+pub fn faultless_texts_read()
+    ensures { FaultlessTextsRead }
 {}
 
 /// A text reads as one set at most.

@@ -1,12 +1,14 @@
 //! Task files: reading them, and printing a task set as its canonical text.
 //!
 //! The layers above use `read`, which answers with the set that a text reads as (`Reads`, a relation
-//! on whole texts) or with the line and the code of its first fault (`HasFault`, by the table of
-//! codes in `specs/Faults.antt`), `print`, whose text is `canonical` of the set, `upgrade`, and
+//! on whole texts) or with the line and the code of its fault (`HasFault`, by the tables of codes in
+//! `specs/trusted/Faults.antt`), `print`, whose text is `canonical` of the set, `upgrade`, and
 //! `read_canonical`, which takes the canonical text at the front of a file, or says the first line with
-//! which no canonical text goes on (`specs/CanonicalPrefix.antt`). `laws` says how these fit: what is
-//! printed is read back, and a text reads as one set at most. How a text is cut into lines and fields
-//! is in `cutting`, what single fields say in `words`. `push_line` adds one line of fields to a text.
+//! which no canonical text goes on (`specs/trusted/CanonicalPrefix.antt`). `laws` says how these fit: a
+//! text has no fault exactly where it reads as a set, and as one at most, and what is printed is read
+//! back. How a text is cut into lines and fields is in `cutting`, what single fields say in `words`.
+//! `push_line` adds one line of fields to a text. What must be believed stands in `specs/trusted`; the
+//! proofs of the reader speak of `specs/internal` too.
 #![tactic(auto)]
 
 pub mod codes;

@@ -1,13 +1,14 @@
 //! What a line is, from its bytes and its fields.
 ghost use Rattle.std.specs.Prelude.{◌≡◌, map};
 ghost use Rattle.std.specs.List.{list_all};
-ghost use Rattle.drt_file.specs.Line.{is_text, is_skipped, is_in_range, kind, first_word};
+ghost use Rattle.drt_file.specs.internal.Kinds.{kind, first_word};
+ghost use Rattle.drt_file.specs.trusted.Line.{is_text, is_skipped, is_in_range};
 
 use crate::cutting::blank;
 use crate::state::Kind;
 use crate::words::value_of;
 
-#[tactic(auto, unfolding(crate::specs::Line::is_text))]
+#[tactic(auto, unfolding(crate::specs::trusted::Line::is_text))]
 fn text(b: u8) -> bool
     ensures { result ≡ is_text b }
 {
@@ -27,7 +28,7 @@ pub fn all_text(line: &[u8]) -> bool
 }
 
 /// Whether a line of these fields is skipped.
-#[tactic(auto, unfolding(crate::specs::Line::is_skipped))]
+#[tactic(auto, unfolding(crate::specs::trusted::Line::is_skipped))]
 pub fn skipped(words: &[&[u8]]) -> bool
     ensures { result ≡ is_skipped (map (λ w. w.now) words.now) }
 {
@@ -49,7 +50,7 @@ pub fn in_range(word: &[u8]) -> bool
 }
 
 // What the first field of a line says that it is.
-#[tactic(auto, unfolding(crate::specs::Line::kind))]
+#[tactic(auto, unfolding(crate::specs::internal::Kinds::kind))]
 fn kind_of_word(version: u8, word: &[u8]) -> Kind
     ensures { result ≡ kind version word.now }
 {

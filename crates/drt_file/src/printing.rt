@@ -1,7 +1,7 @@
 //! Printing a task set as its canonical text.
 ghost use Rattle.std.specs.Prelude.{◌≡◌, ◌++◌, map, IfOk, OnErr, OnOk, length, take};
 ghost use Rattle.std.specs.List.{flat_map, join_with_byte};
-ghost use Rattle.drt_file.specs.Canonical.{
+ghost use Rattle.drt_file.specs.trusted.Canonical.{
   canonical,
   written,
   written_line,
@@ -123,7 +123,7 @@ fn push_edge(text: &mut Vec<u8>, vertices: &[Vertex], edge: Edge) -> Result<(), 
 }
 
 // The name of the vertex at a place, and no byte where none is there.
-#[tactic(auto, unfolding(crate::specs::Canonical::name_at))]
+#[tactic(auto, unfolding(crate::specs::trusted::Canonical::name_at))]
 fn name_of(vertices: &[Vertex], place: u32) -> &[u8]
     ensures { result.now ≡ name_at vertices.now place }
 {

@@ -1,8 +1,8 @@
 //! What the lines above leave, with the names that stand there found by hash.
 ghost use Rattle.std.specs.Prelude.{◌≡◌, bytes_eq};
-ghost use Rattle.drt_file.specs.Faults.{has_vertex, place_of, in_some_task};
-ghost use Rattle.drt_file.specs.Reader.{own_vertices};
-ghost use Rattle.drt_file.specs.Steps.{opening};
+ghost use Rattle.drt_file.specs.internal.StateFaults.{has_vertex, place_of, in_some_task};
+ghost use Rattle.drt_file.specs.internal.Reader.{own_vertices};
+ghost use Rattle.drt_file.specs.internal.Steps.{opening};
 
 use crate::name_table::NameTable;
 use crate::state::State;
@@ -21,7 +21,7 @@ pub struct Reader {
 
 impl Model for Reader {
     ghost use Rattle.drt_file.specs.declared.state.State.{State};
-    ghost use Rattle.drt_file.specs.Reader.{HasNames};
+    ghost use Rattle.drt_file.specs.internal.Reader.{HasNames};
 
     ghost Value = { State };
 
@@ -32,7 +32,7 @@ impl Model for Reader {
 
 impl Reader {
     /// Below a first line of that version.
-    #[tactic(auto, unfolding(crate::specs::Steps::opening, crate::specs::Reader::task_names, crate::specs::Reader::vertex_names, crate::specs::Reader::own_vertices, crate::specs::Steps::with_last))]
+    #[tactic(auto, unfolding(crate::specs::internal::Steps::opening, crate::specs::internal::Reader::task_names, crate::specs::internal::Reader::vertex_names, crate::specs::internal::Reader::own_vertices, crate::specs::internal::Steps::with_last))]
     pub fn open(alloc: Global, version: u8) -> Reader
         ensures { result ≡ opening version }
     {

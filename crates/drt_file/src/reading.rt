@@ -1,8 +1,8 @@
 //! Reading a task file: once over its bytes, line by line, down to the first fault.
 ghost use Rattle.std.specs.Prelude.{◌≡◌, ◌≤◌, None, length, IfOk, IfErr};
-ghost use Rattle.drt_file.specs.Cutting.{lines};
-ghost use Rattle.drt_file.specs.Reading.{Reads, IsCauseOf};
-ghost use Rattle.drt_file.specs.Steps.{Gives, GivesSet, read_text, step, steps};
+ghost use Rattle.drt_file.specs.trusted.Cutting.{lines};
+ghost use Rattle.drt_file.specs.trusted.Reading.{Reads, IsCauseOf};
+ghost use Rattle.drt_file.specs.internal.Steps.{Gives, GivesSet, read_text, step, steps};
 
 use crate::cutting::{cut_line, fields_of};
 use crate::fault::FileError;
@@ -13,7 +13,7 @@ use crate::steps::line_step;
 use drt_model::{Row, Task, TaskSet};
 use std::alloc::Global;
 
-#[tactic(auto, unfolding(crate::specs::Steps::step))]
+#[tactic(auto, unfolding(crate::specs::internal::Steps::step))]
 fn step(
     alloc: Global,
     n: u32,
@@ -46,7 +46,7 @@ fn all_lines(alloc: Global, text: &[u8]) -> Result<(u32, Option<Reader>), FileEr
 }
 
 // The version and the tasks of the set that a text says, or its fault.
-#[tactic(auto, unfolding(crate::specs::Steps::read_text))]
+#[tactic(auto, unfolding(crate::specs::internal::Steps::read_text))]
 fn parts_of(alloc: Global, bytes: &[u8]) -> Result<(u8, Row<Task>), FileError>
     requires { length bytes.now ≤ 1073741824 }
     ensures { GivesSet result (read_text bytes.now) }

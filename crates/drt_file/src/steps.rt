@@ -1,8 +1,8 @@
 //! One line of a task file, below what the lines above leave.
 ghost use Rattle.std.specs.Prelude.{◌≡◌, map};
-ghost use Rattle.drt_file.specs.Faults.{line_fault};
-ghost use Rattle.drt_file.specs.Line.{kind, first_word};
-ghost use Rattle.drt_file.specs.Steps.{Gives, after_kind, judged, headed, head, line_step};
+ghost use Rattle.drt_file.specs.internal.StateFaults.{line_fault};
+ghost use Rattle.drt_file.specs.internal.Kinds.{kind, first_word};
+ghost use Rattle.drt_file.specs.internal.Steps.{Gives, after_kind, judged, headed, head, line_step};
 
 use crate::codes::NO_HEAD;
 use crate::effects::{after, head};
@@ -12,7 +12,7 @@ use crate::line::kind_of;
 use crate::reader::Reader;
 use std::alloc::Global;
 
-#[tactic(auto, unfolding(crate::specs::Steps::judged))]
+#[tactic(auto, unfolding(crate::specs::internal::Steps::judged))]
 fn below(
     alloc: Global,
     n: u32,
@@ -31,7 +31,7 @@ fn below(
     }
 }
 
-#[tactic(auto, unfolding(crate::specs::Steps::headed))]
+#[tactic(auto, unfolding(crate::specs::internal::Steps::headed))]
 fn first(alloc: Global, n: u32, words: &[&[u8]]) -> Result<Option<Reader>, FileError>
     ensures { Gives result (headed n (head (map (λ w. w.now) words.now))) }
 {
@@ -45,7 +45,7 @@ fn first(alloc: Global, n: u32, words: &[&[u8]]) -> Result<Option<Reader>, FileE
 }
 
 /// What a line that isn't skipped leaves, or its fault.
-#[tactic(auto, unfolding(crate::specs::Steps::line_step))]
+#[tactic(auto, unfolding(crate::specs::internal::Steps::line_step))]
 pub fn line_step(
     alloc: Global,
     n: u32,

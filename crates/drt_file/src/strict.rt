@@ -1,8 +1,8 @@
 //! One line of a canonical text: as it is printed, and in the order of print.
 ghost use Rattle.std.specs.Prelude.{◌≡◌, ◌||◌, map, bytes_eq, IfOk};
 ghost use Rattle.std.specs.List.{join_with_byte};
-ghost use Rattle.drt_file.specs.Faults.{in_task, is_outside};
-ghost use Rattle.drt_file.specs.Strict.{
+ghost use Rattle.drt_file.specs.internal.StateFaults.{in_task, is_outside};
+ghost use Rattle.drt_file.specs.internal.Strict.{
   is_printed,
   is_whole,
   takes_vertex,
@@ -24,7 +24,7 @@ use drt_model::Memory;
 use itoa::Buffer;
 use std::alloc::Global;
 
-#[tactic(auto, unfolding(crate::specs::Strict::is_printed))]
+#[tactic(auto, unfolding(crate::specs::internal::Strict::is_printed))]
 fn printed(word: &[u8]) -> bool
     ensures { result ≡ is_printed word.now }
 {
@@ -32,28 +32,28 @@ fn printed(word: &[u8]) -> bool
     number.format(value_of(word)).as_bytes() == word
 }
 
-#[tactic(auto, unfolding(crate::specs::Strict::is_whole, crate::specs::Faults::has_priority))]
+#[tactic(auto, unfolding(crate::specs::internal::Strict::is_whole, crate::specs::internal::StateFaults::has_priority))]
 fn whole(d: &Draft) -> bool
     ensures { result ≡ is_whole d.now }
 {
     d.priority.is_some() && !d.vertices.as_slice().is_empty()
 }
 
-#[tactic(auto, unfolding(crate::specs::Strict::takes_vertex, crate::specs::Faults::has_priority))]
+#[tactic(auto, unfolding(crate::specs::internal::Strict::takes_vertex, crate::specs::internal::StateFaults::has_priority))]
 fn takes_vertex(d: &Draft) -> bool
     ensures { result ≡ takes_vertex d.now }
 {
     d.priority.is_some() && d.edges.as_slice().is_empty()
 }
 
-#[tactic(auto, unfolding(crate::specs::Strict::takes_priority))]
+#[tactic(auto, unfolding(crate::specs::internal::Strict::takes_priority))]
 fn takes_priority(d: &Draft) -> bool
     ensures { result ≡ takes_priority d.now }
 {
     d.vertices.as_slice().is_empty() && d.edges.as_slice().is_empty()
 }
 
-#[tactic(auto, unfolding(crate::specs::Faults::in_task))]
+#[tactic(auto, unfolding(crate::specs::internal::StateFaults::in_task))]
 fn in_whole(s: &State) -> bool
     ensures { result ≡ in_task is_whole s.now }
 {
@@ -63,7 +63,7 @@ fn in_whole(s: &State) -> bool
     }
 }
 
-#[tactic(auto, unfolding(crate::specs::Faults::in_task, crate::specs::Faults::is_outside))]
+#[tactic(auto, unfolding(crate::specs::internal::StateFaults::in_task, crate::specs::internal::StateFaults::is_outside))]
 fn takes_task(s: &State) -> bool
     ensures { result ≡ (is_outside s.now || in_task is_whole s.now) }
 {
@@ -73,7 +73,7 @@ fn takes_task(s: &State) -> bool
     }
 }
 
-#[tactic(auto, unfolding(crate::specs::Faults::in_task))]
+#[tactic(auto, unfolding(crate::specs::internal::StateFaults::in_task))]
 fn before_edges(s: &State) -> bool
     ensures { result ≡ in_task takes_vertex s.now }
 {
@@ -83,7 +83,7 @@ fn before_edges(s: &State) -> bool
     }
 }
 
-#[tactic(auto, unfolding(crate::specs::Faults::in_task))]
+#[tactic(auto, unfolding(crate::specs::internal::StateFaults::in_task))]
 fn before_vertices(s: &State) -> bool
     ensures { result ≡ in_task takes_priority s.now }
 {
@@ -94,7 +94,7 @@ fn before_vertices(s: &State) -> bool
 }
 
 // Whether a line of this kind may stand here in print.
-#[tactic(auto, unfolding(crate::specs::Strict::fits))]
+#[tactic(auto, unfolding(crate::specs::internal::Strict::fits))]
 fn fits(kind: Kind, s: &State, words: &[&[u8]]) -> bool
     ensures { result ≡ fits kind s.now (map (λ w. w.now) words.now) }
 {
@@ -117,7 +117,7 @@ fn fits(kind: Kind, s: &State, words: &[&[u8]]) -> bool
     }
 }
 
-#[tactic(auto, unfolding(crate::specs::Strict::fits_below))]
+#[tactic(auto, unfolding(crate::specs::internal::Strict::fits_below))]
 fn fits_below(above: &Option<Reader>, words: &[&[u8]]) -> bool
     ensures { result ≡ fits_below above.now (map (λ w. w.now) words.now) }
 {
@@ -140,7 +140,7 @@ fn joined(alloc: Global, line: &[u8], words: &[&[u8]]) -> Result<bool, Memory>
 }
 
 /// What a line leaves, where it stands as in a canonical text.
-#[tactic(auto, unfolding(crate::specs::Strict::strict_step, crate::specs::Strict::left_by))]
+#[tactic(auto, unfolding(crate::specs::internal::Strict::strict_step, crate::specs::internal::Strict::left_by))]
 pub fn strict_step(
     alloc: Global,
     n: u32,

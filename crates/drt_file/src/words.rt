@@ -1,16 +1,16 @@
 //! What single fields say.
 ghost use Rattle.std.specs.Prelude.{◌≡◌, min};
 ghost use Rattle.std.specs.List.{list_all};
-ghost use Rattle.drt_file.specs.Words.{is_digit, is_name_byte, is_name, is_number, value};
+ghost use Rattle.drt_file.specs.trusted.Words.{is_digit, is_name_byte, is_name, is_number, value};
 
-#[tactic(auto, unfolding(crate::specs::Words::is_digit))]
+#[tactic(auto, unfolding(crate::specs::trusted::Words::is_digit))]
 fn digit(b: u8) -> bool
     ensures { result ≡ is_digit b }
 {
     48 <= b && b <= 57
 }
 
-#[tactic(auto, unfolding(crate::specs::Words::is_name_byte))]
+#[tactic(auto, unfolding(crate::specs::trusted::Words::is_name_byte))]
 fn name_byte(b: u8) -> bool
     ensures { result ≡ is_name_byte b }
 {
@@ -40,7 +40,7 @@ fn all_name_bytes(word: &[u8]) -> bool
 }
 
 /// Whether the field is a name.
-#[tactic(auto, unfolding(crate::specs::Words::is_name))]
+#[tactic(auto, unfolding(crate::specs::trusted::Words::is_name))]
 pub fn a_name(word: &[u8]) -> bool
     ensures { result ≡ is_name word.now }
 {
@@ -48,7 +48,7 @@ pub fn a_name(word: &[u8]) -> bool
 }
 
 /// Whether the field is one or more decimal digits.
-#[tactic(auto, unfolding(crate::specs::Words::is_number))]
+#[tactic(auto, unfolding(crate::specs::trusted::Words::is_number))]
 pub fn a_number(word: &[u8]) -> bool
     ensures { result ≡ is_number word.now }
 {

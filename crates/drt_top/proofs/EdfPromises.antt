@@ -1,7 +1,7 @@
 -- What is promised of `edf` agrees.
 use Rattle.std.proofs.Common.{◌≡◌, ◌<◌, ◌⊎◌, ℕ, List, inl, inr, ap, sym, ◌∙◌, subst}
 use Rattle.drt_model.specs.Contents.{Contents}
-use Rattle.drt_file.specs.Laws.{TextsReadAsOneSet}
+use Rattle.drt_file.specs.trusted.Laws.{TextsReadAsOneSet}
 use Rattle.drt_edf.specs.Answers.{IsBeyond}
 use Rattle.drt_command.specs.declared.report.Report.{Report}
 use Rattle.drt_command.specs.Rules.{AreLawful}

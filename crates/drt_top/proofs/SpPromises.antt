@@ -2,7 +2,7 @@
 use Rattle.std.proofs.Common.{◌≡◌, ◌<◌, ◌⊎◌, ℕ, List, length, inl, inr, refl, ap, sym, ◌∙◌, subst, arith}
 use Rattle.drt_model.specs.Contents.{Contents}
 use Rattle.drt_model.specs.Limits.{IsTaskSet}
-use Rattle.drt_file.specs.Laws.{TextsReadAsOneSet}
+use Rattle.drt_file.specs.trusted.Laws.{TextsReadAsOneSet}
 use Rattle.drt_evidence.specs.Ranges.{IsInRange}
 use Rattle.drt_evidence.specs.Text.{text}
 use Rattle.drt_evidence.specs.declared.evidence.Evidence.{Evidence}

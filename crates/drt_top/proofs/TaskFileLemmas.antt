@@ -1,5 +1,5 @@
 -- A file has one fault, or is accepted as one set.
-use Rattle.std.proofs.Common.{◌≡◌, ℕ, ◌<◌, List, length, take, get_or, All, inl, inr, refl, sym, ap, ◌∙◌, subst, arith, Option, Some, None, IsSomeAnd, slice_get, Result, Err}
+use Rattle.std.proofs.Common.{◌≡◌, ℕ, ◌<◌, List, length, take, get_or, All, inl, inr, refl, sym, ap, ◌∙◌, subst, arith, Option, Some, None, IsSomeAnd, slice_get}
 use Rattle.std.proofs.lemmas.Bool.{cases_lt}
 use Rattle.std.proofs.lemmas.List.{length-take-le, get_or-take}
 use Rattle.std.proofs.lemmas.Option.{same_Some, slice_get_within, get_or_from_slice_get}
@@ -7,9 +7,8 @@ use Rattle.drt_model.specs.Contents.{Contents}
 use Rattle.drt_model.specs.Constrained.{AreConstrained, IsConstrainedEdge}
 use Rattle.drt_model.specs.Digraph.{no_edge}
 use Rattle.drt_model.specs.declared.tasks.Task.{Task}
-use Rattle.drt_file.specs.declared.fault.FileFault.{FileFault}
-use Rattle.drt_file.specs.Laws.{TextsReadAsOneSet}
-use Rattle.drt_file.specs.Reading.{HasFault}
+use Rattle.drt_file.specs.trusted.Laws.{TextsReadAsOneSet}
+use Rattle.drt_file.specs.trusted.Reading.{HasFault}
 use Rattle.drt_graph.specs.Past.{IsFirstPast, IsFirstPastEdge}
 use Rattle.drt_outcome.specs.declared.fault.Fault.{Fault}
 use Rattle.drt_outcome.specs.declared.fault.Fault.TheVariants.{Nothing, File, Edge, Limit, Rule, Dossier}
@@ -75,9 +74,8 @@ same_place l c m d p q = cc
 
 same_text : (bytes : List ℕ) (l c m d : ℕ) → HasFault bytes l c → HasFault bytes m d → File l c ≡ File m d
 same_text bytes l c m d h k =
-    let both : ◌≡◌ {A = Result Contents FileFault} (Err (record { line = l; code = c })) (Err (record { line = m; code = d })) = sym h.first ∙ k.first in
-    let one : ◌≡◌ {A = FileFault} (record { line = l; code = c }) (record { line = m; code = d }) = cc in
-    same_place l c m d (ap (λ (f : FileFault). f.line) one) (ap (λ (f : FileFault). f.code) one)
+    let one : ◌≡◌ {A = ℕ × ℕ} (l, c) (m, d) = same_Some (l, c) (m, d) (sym h.first ∙ k.first) in
+    same_place l c m d (ap (λ (x : ℕ × ℕ). x.0) one) (ap (λ (x : ℕ × ℕ). x.1) one)
 
 -- an accepted file has no fault
 pub accepted_well : TextsReadAsOneSet → (bytes : List ℕ) (set : Contents) (f : Fault) → IsAccepted bytes set → IsFileFault bytes f → ⊥

@@ -1,6 +1,6 @@
 -- What is promised of `upgrade` agrees.
 use Rattle.std.proofs.Common.{arith}
-use Rattle.drt_file.specs.Laws.{TextsReadAsOneSet}
+use Rattle.drt_file.specs.trusted.Laws.{TextsReadAsOneSet}
 use Rattle.drt_command.specs.Rules.{AreLawful}
 use Rattle.drt_top.specs.commands.Upgrade.{upgrade_rules}
 use Rattle.drt_top.proofs.TaskFileLemmas.{accepted_well, fault_one, long_file}

@@ -2,7 +2,7 @@
 use Rattle.std.specs.Prelude.{◌≡◌, ℕ, ◌≤◌, ◌<◌, ◌⊎◌, List, length}
 use Rattle.drt_model.specs.Contents.{Contents}
 use Rattle.drt_model.specs.Constrained.{AreConstrained}
-use Rattle.drt_file.specs.Reading.{Reads, HasFault}
+use Rattle.drt_file.specs.trusted.Reading.{Reads, HasFault}
 use Rattle.drt_graph.specs.Past.{IsFirstPast}
 use Rattle.drt_command.specs.declared.input.Input.{Input}
 use Rattle.drt_command.specs.declared.input.Input.TheVariants.{AtMost}

@@ -1,6 +1,6 @@
 //! Task files as an input, and the set that one says.
 ghost use Rattle.std.specs.Prelude.{◌≡◌, ◌≤◌, IfErr, IfOk, length, map};
-ghost use Rattle.drt_file.specs.Reading.{Reads};
+ghost use Rattle.drt_file.specs.trusted.Reading.{Reads};
 ghost use Rattle.drt_model.specs.Digraph.{digraph_of};
 ghost use Rattle.drt_command.specs.Rules.{IsCause};
 ghost use Rattle.drt_top.specs.TaskFiles.{IsAccepted, IsFileFault, file_input, most_bytes};

@@ -1,6 +1,6 @@
 //! The block of proofs.
 ghost use Rattle.std.specs.Prelude.{◌≡◌, ◌++◌, ◌∷◌, [], codes, decimal, length, map, OnOk};
-ghost use Rattle.drt_file.specs.Canonical.{written, written_line};
+ghost use Rattle.drt_file.specs.trusted.Canonical.{written, written_line};
 ghost use Rattle.drt_evidence.specs.Fields.{behind};
 ghost use Rattle.drt_evidence.specs.Text.{item_field, proof_block, proof_line};
 

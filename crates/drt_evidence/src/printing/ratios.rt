@@ -1,6 +1,6 @@
 //! The block of ratios.
 ghost use Rattle.std.specs.Prelude.{◌≡◌, ◌++◌, OnOk};
-ghost use Rattle.drt_file.specs.Canonical.{written, written_line};
+ghost use Rattle.drt_file.specs.trusted.Canonical.{written, written_line};
 ghost use Rattle.drt_evidence.specs.Text.{ratio_block, ratio_line, ratio_lines};
 
 use crate::evidence::RatioClaim;

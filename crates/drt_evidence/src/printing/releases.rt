@@ -1,6 +1,6 @@
 //! The block of releases.
 ghost use Rattle.std.specs.Prelude.{◌≡◌, ◌++◌, map, OnOk};
-ghost use Rattle.drt_file.specs.Canonical.{written, written_line};
+ghost use Rattle.drt_file.specs.trusted.Canonical.{written, written_line};
 ghost use Rattle.drt_evidence.specs.Text.{miss_line, release_block, release_line};
 
 use crate::lines::push_count;

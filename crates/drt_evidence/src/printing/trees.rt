@@ -1,6 +1,6 @@
 //! The block of trees.
 ghost use Rattle.std.specs.Prelude.{◌≡◌, ◌++◌, map, OnOk};
-ghost use Rattle.drt_file.specs.Canonical.{written, written_line};
+ghost use Rattle.drt_file.specs.trusted.Canonical.{written, written_line};
 ghost use Rattle.drt_evidence.specs.Text.{pair_line, tree_block, tree_lines, walk_line};
 
 use crate::evidence::{Pair, TreeClaim};

@@ -1,6 +1,6 @@
 //! The blocks of single values.
 ghost use Rattle.std.specs.Prelude.{ℕ, List, IfOk, IfErr};
-ghost use Rattle.drt_file.specs.Canonical.{written, written_line};
+ghost use Rattle.drt_file.specs.trusted.Canonical.{written, written_line};
 ghost use Rattle.drt_evidence.specs.Blocks.{IsStop, Reads};
 ghost use Rattle.drt_evidence.specs.Ranges.{IsInRangeEntry, IsInRangeFront, IsInRangePair, IsInRangeProof, IsInRangeRatio, IsInRangeRelease, IsInRangeTree, IsInRangeWalk};
 ghost use Rattle.drt_evidence.specs.Some.{some_entry, some_front, some_pair, some_proof, some_ratio, some_release, some_tree, some_walk};

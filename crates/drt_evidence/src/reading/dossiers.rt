@@ -1,7 +1,7 @@
 //! A whole dossier, and where bytes stop being one.
 ghost use Rattle.std.specs.Prelude.{◌≡◌, ◌≤◌, ◌+◌, ◌-◌, ℕ, List, length, take, IfOk, IfErr};
-ghost use Rattle.drt_file.specs.Canonical.{written};
-ghost use Rattle.drt_file.specs.CanonicalPrefix.{line_count};
+ghost use Rattle.drt_file.specs.trusted.Canonical.{written};
+ghost use Rattle.drt_file.specs.trusted.CanonicalPrefix.{line_count};
 ghost use Rattle.drt_evidence.specs.Blocks.{IsStop, Reads};
 ghost use Rattle.drt_evidence.specs.LineForms.{IsAny};
 ghost use Rattle.drt_evidence.specs.Reading.{GivesStatement, IsDossierCause, IsStated, IsTextOf};

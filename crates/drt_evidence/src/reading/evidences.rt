@@ -1,6 +1,6 @@
 //! The lines below the set: the kind of the evidence, its blocks, and the last line.
 ghost use Rattle.std.specs.Prelude.{ℕ, List, IfOk, IfErr};
-ghost use Rattle.drt_file.specs.Canonical.{written};
+ghost use Rattle.drt_file.specs.trusted.Canonical.{written};
 ghost use Rattle.drt_evidence.specs.Blocks.{AreNamed, IsOfKind, IsStop, Reads, named_block};
 ghost use Rattle.drt_evidence.specs.declared.reading.line_forms.KindOfEvidence.TheVariants.{EdfYes, FixedYes};
 ghost use Rattle.drt_evidence.specs.LineForms.{AreCounted};

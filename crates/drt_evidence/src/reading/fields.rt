@@ -1,7 +1,7 @@
 //! Single fields of a line.
 ghost use Rattle.std.specs.Prelude.{◌≡◌, ◌≤◌, ◌-◌, ◌++◌, ◌∷◌, List, ℕ, negsuc, min, decimal, MatchOption};
 ghost use Rattle.std.specs.Fmt.{signed_decimal};
-ghost use Rattle.drt_file.specs.Words.{value};
+ghost use Rattle.drt_file.specs.trusted.Words.{value};
 ghost use Rattle.drt_evidence.specs.LineForms.{AreBoth, HasNoSpace, IsAny, IsForm, IsNoForm, itself, pair_form};
 ghost use Rattle.drt_evidence.specs.Ranges.{IsInRangeItem, IsInRangePotential, IsNumber, IsTick};
 ghost use Rattle.drt_evidence.specs.Text.{item_field};

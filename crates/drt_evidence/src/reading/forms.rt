@@ -2,8 +2,8 @@
 //!
 //! Each function takes the first line of a text, where it says a value, and answers with the value.
 ghost use Rattle.std.specs.Prelude.{◌≡◌, ℕ, List, Some, None, false, length, IfOk, IfErr};
-ghost use Rattle.drt_file.specs.Canonical.{written_line};
-ghost use Rattle.drt_file.specs.Strict.{HasNoFeed};
+ghost use Rattle.drt_file.specs.trusted.Canonical.{written_line};
+ghost use Rattle.drt_file.specs.trusted.Cutting.{HasNoFeed};
 ghost use Rattle.drt_evidence.specs.Blocks.{IsStop, Reads, close_block, first_block};
 ghost use Rattle.drt_evidence.specs.declared.reading.text.Stop.TheVariants.{Fault};
 ghost use Rattle.drt_evidence.specs.LineForms.{AreCounted, IsAny, IsInRangeWritten, kind_line, numbers_line, policy_line, potentials_line, written_ratio_line};

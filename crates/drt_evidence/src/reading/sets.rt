@@ -1,7 +1,7 @@
 //! The set in the middle of a dossier.
 ghost use Rattle.std.specs.Prelude.{◌≡◌, ◌≤◌, ◌<◌, ◌+◌, ℕ, List, length, IfOk, IfErr};
-ghost use Rattle.drt_file.specs.Canonical.{canonical};
-ghost use Rattle.drt_file.specs.CanonicalPrefix.{line_count};
+ghost use Rattle.drt_file.specs.trusted.Canonical.{canonical};
+ghost use Rattle.drt_file.specs.trusted.CanonicalPrefix.{line_count};
 ghost use Rattle.drt_evidence.specs.Blocks.{IsBehind, IsSet, IsStop, Reads};
 
 use crate::reading::text::{Stop, Text};

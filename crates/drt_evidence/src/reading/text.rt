@@ -1,6 +1,6 @@
 //! A text that is read from its front, line by line.
 ghost use Rattle.std.specs.Prelude.{◌≡◌, ◌++◌, ◌∷◌, length, true, false, MatchResult};
-ghost use Rattle.drt_file.specs.Strict.{HasNoFeed};
+ghost use Rattle.drt_file.specs.trusted.Cutting.{HasNoFeed};
 ghost use Rattle.drt_evidence.specs.declared.reading.text.Stop.TheVariants.{Fault};
 
 use drt_file::cut_fed_line;

@@ -1,7 +1,7 @@
 -- `upgrade`: what it writes, what it refuses, and with which status it ends.
 use Rattle.std.specs.Prelude.{◌≡◌, ℕ, List}
 use Rattle.drt_model.specs.Contents.{Contents}
-use Rattle.drt_file.specs.Canonical.{canonical}
+use Rattle.drt_file.specs.trusted.Canonical.{canonical}
 use Rattle.drt_outcome.specs.declared.outcome.Trail.TheVariants as trails
 use Rattle.drt_command.specs.declared.report.Report.{Report}
 use Rattle.drt_command.specs.Rules.{Rules}

@@ -5,7 +5,7 @@ use Rattle.drt_model.specs.Contents.{Contents}
 use Rattle.drt_model.specs.declared.tasks.Task.{Task}
 use Rattle.drt_model.specs.Digraph.{digraph_of}
 use Rattle.drt_model.specs.Utilisation.{Fraction, AreRatios, IsScale, rate}
-use Rattle.drt_file.specs.Canonical.{written}
+use Rattle.drt_file.specs.trusted.Canonical.{written}
 use Rattle.drt_outcome.specs.declared.fault.Fault.{Fault}
 use Rattle.drt_outcome.specs.declared.fault.Fault.TheVariants as faults
 use Rattle.drt_outcome.specs.declared.outcome.Trail.TheVariants as trails

@@ -1,6 +1,6 @@
 //! `util`: the ratio of each task, and the utilisation.
 ghost use Rattle.std.specs.Prelude.{◌≡◌, ◌≤◌, ◌++◌, ◌⊎◌, IfErr, IfOk, OnOk, length, map};
-ghost use Rattle.drt_file.specs.Canonical.{written, written_line};
+ghost use Rattle.drt_file.specs.trusted.Canonical.{written, written_line};
 ghost use Rattle.drt_model.specs.Digraph.{digraph_of};
 ghost use Rattle.drt_ratio.specs.SetRatios.{AreRatioProofs, AreSmall, fractions_of};
 ghost use Rattle.drt_command.specs.Rules.{IsCause};

@@ -1,6 +1,6 @@
 use Rattle.std.proofs.Common.{[], ap, ◌∙◌}
-use Rattle.drt_file.specs.Faults.{has_vertex}
-use Rattle.drt_file.specs.Reader.{own_vertices}
+use Rattle.drt_file.specs.internal.StateFaults.{has_vertex}
+use Rattle.drt_file.specs.internal.Reader.{own_vertices}
 use Rattle.drt_file.proofs.NamesAbove.{new_task, new_vertex}
 use Rattle.drt_file.proofs.effects.after.Goals as goal
 

@@ -1,5 +1,5 @@
 use Rattle.std.proofs.Common.{◌≡◌, drop}
-use Rattle.drt_file.specs.Steps.{first_line, has_no_priority}
+use Rattle.drt_file.specs.internal.Steps.{first_line, has_no_priority}
 use Rattle.drt_file.proofs.finishing.first_without_priority.Given as goal
 
 abbrev pub invariant-loop-d : goal.invariant-loop-d

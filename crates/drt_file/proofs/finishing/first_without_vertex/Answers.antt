@@ -1,6 +1,6 @@
 use Rattle.std.proofs.Common.{sym, ◌∙◌}
 use Rattle.drt_file.proofs.Lines.{found_here, goes_past, none_left}
-use Rattle.drt_file.specs.Steps.{has_no_vertex}
+use Rattle.drt_file.specs.internal.Steps.{has_no_vertex}
 use Rattle.drt_file.proofs.finishing.first_without_vertex.Goals as goal
 
 pub returns-then-no_vertex : goal.returns-then-no_vertex

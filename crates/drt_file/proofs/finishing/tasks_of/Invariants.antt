@@ -1,5 +1,5 @@
 use Rattle.std.proofs.Common.{◌≡◌, map}
-use Rattle.drt_file.specs.Steps.{task_of}
+use Rattle.drt_file.specs.internal.Steps.{task_of}
 use Rattle.drt_file.proofs.finishing.tasks_of.Given as goal
 
 abbrev pub invariant-loop-d : goal.invariant-loop-d

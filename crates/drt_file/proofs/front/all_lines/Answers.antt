@@ -1,5 +1,5 @@
 use Rattle.std.proofs.Common.{◌≡◌, ◌+◌, ◌∷◌, ◌∙◌, sym, ap, subst, length, length-append, arith}
-use Rattle.drt_file.specs.CanonicalPrefix.{IsCanonicalCause}
+use Rattle.drt_file.specs.trusted.CanonicalPrefix.{IsCanonicalCause}
 use Rattle.drt_file.proofs.Fronts.{above_start, above_next, missing_cause, refused_cause}
 use Rattle.drt_file.proofs.front.all_lines.Goals as goal
 

@@ -1,5 +1,5 @@
 use Rattle.std.proofs.Common.{◌+◌, ◌≤◌, length}
-use Rattle.drt_file.specs.Strict.{Above}
+use Rattle.drt_file.specs.internal.Strict.{Above}
 use Rattle.drt_file.proofs.front.all_lines.Given as goal
 
 abbrev pub invariant-lines : goal.invariant-lines

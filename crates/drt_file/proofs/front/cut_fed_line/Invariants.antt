@@ -1,5 +1,5 @@
 use Rattle.std.proofs.Common.{take}
-use Rattle.drt_file.specs.Strict.{HasNoFeed}
+use Rattle.drt_file.specs.trusted.Cutting.{HasNoFeed}
 use Rattle.drt_file.proofs.front.cut_fed_line.Given as goal
 
 abbrev pub invariant-loop-i : goal.invariant-loop-i

@@ -1,4 +1,4 @@
-use Rattle.drt_file.specs.Canonical.{canonical}
+use Rattle.drt_file.specs.trusted.Canonical.{canonical}
 use Rattle.drt_file.proofs.Exact.{one_set}
 use Rattle.drt_file.proofs.Printed.{canonical_reads}
 use Rattle.drt_file.proofs.laws.canonical_texts_read.Goals as goal

@@ -1,6 +1,6 @@
 use Rattle.std.proofs.Common.{◌≡◌, drop}
 use Rattle.std.specs.List.{list_all}
-use Rattle.drt_file.specs.Line.{is_text}
+use Rattle.drt_file.specs.trusted.Line.{is_text}
 use Rattle.drt_file.proofs.line.all_text.Given as goal
 
 abbrev pub invariant-loop-b : goal.invariant-loop-b

@@ -1,5 +1,5 @@
 use Rattle.std.proofs.Common.{◌≡◌, ◌++◌, map, take}
-use Rattle.drt_file.specs.Canonical.{written, edge_line}
+use Rattle.drt_file.specs.trusted.Canonical.{written, edge_line}
 use Rattle.drt_file.proofs.printing.push_edges.Given as goal
 
 abbrev pub invariant-loop-edge : goal.invariant-loop-edge

@@ -1,6 +1,6 @@
 use Rattle.std.proofs.Common.{◌≡◌, ◌++◌, take}
 use Rattle.std.specs.List.{flat_map}
-use Rattle.drt_file.specs.Canonical.{written, task_lines}
+use Rattle.drt_file.specs.trusted.Canonical.{written, task_lines}
 use Rattle.drt_file.proofs.printing.push_tasks.Given as goal
 
 abbrev pub invariant-loop-task : goal.invariant-loop-task

@@ -1,5 +1,5 @@
 use Rattle.std.proofs.Common.{◌≡◌, ◌++◌, map, take}
-use Rattle.drt_file.specs.Canonical.{written, vertex_line}
+use Rattle.drt_file.specs.trusted.Canonical.{written, vertex_line}
 use Rattle.drt_file.proofs.printing.push_vertices.Given as goal
 
 abbrev pub invariant-loop-vertex : goal.invariant-loop-vertex

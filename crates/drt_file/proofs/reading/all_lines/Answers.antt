@@ -1,7 +1,7 @@
 use Rattle.std.proofs.Common.{None, arith}
 use Rattle.std.proofs.lemmas.Result.{err_from_is_err_and}
-use Rattle.drt_file.specs.Cutting.{lines}
-use Rattle.drt_file.specs.Steps.{steps}
+use Rattle.drt_file.specs.trusted.Cutting.{lines}
+use Rattle.drt_file.specs.internal.Steps.{steps}
 use Rattle.drt_file.proofs.Lines.{line_read, line_fails, no_line}
 use Rattle.drt_file.proofs.reading.all_lines.Goals as goal
 

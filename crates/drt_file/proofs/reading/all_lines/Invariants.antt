@@ -1,6 +1,6 @@
 use Rattle.std.proofs.Common.{◌≡◌, ◌+◌, ◌≤◌, length, None}
-use Rattle.drt_file.specs.Cutting.{lines}
-use Rattle.drt_file.specs.Steps.{steps}
+use Rattle.drt_file.specs.trusted.Cutting.{lines}
+use Rattle.drt_file.specs.internal.Steps.{steps}
 use Rattle.drt_file.proofs.reading.all_lines.Given as goal
 
 abbrev pub invariant-lines : goal.invariant-lines

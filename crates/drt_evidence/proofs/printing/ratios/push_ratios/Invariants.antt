@@ -1,6 +1,6 @@
 use Rattle.std.proofs.Common.{◌≡◌, ◌++◌, take}
 use Rattle.std.specs.List.{flat_map}
-use Rattle.drt_file.specs.Canonical.{written}
+use Rattle.drt_file.specs.trusted.Canonical.{written}
 use Rattle.drt_evidence.specs.Text.{ratio_lines}
 use Rattle.drt_evidence.proofs.printing.ratios.push_ratios.Given as goal
 

@@ -1,5 +1,5 @@
 use Rattle.std.proofs.Common.{◌≡◌, ◌++◌, map, take}
-use Rattle.drt_file.specs.Canonical.{written}
+use Rattle.drt_file.specs.trusted.Canonical.{written}
 use Rattle.drt_evidence.specs.Text.{release_line}
 use Rattle.drt_evidence.proofs.printing.releases.push_each_release.Given as goal
 

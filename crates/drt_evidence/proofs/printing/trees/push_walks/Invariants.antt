@@ -1,5 +1,5 @@
 use Rattle.std.proofs.Common.{◌≡◌, ◌++◌, map, take}
-use Rattle.drt_file.specs.Canonical.{written}
+use Rattle.drt_file.specs.trusted.Canonical.{written}
 use Rattle.drt_evidence.specs.Text.{walk_line}
 use Rattle.drt_evidence.proofs.printing.trees.push_walks.Given as goal
 

@@ -1,5 +1,5 @@
 use Rattle.std.proofs.Common.{◌≡◌, take, min}
-use Rattle.drt_file.specs.Words.{value}
+use Rattle.drt_file.specs.trusted.Words.{value}
 use Rattle.drt_evidence.proofs.reading.fields.value_of.Given as goal
 
 abbrev pub invariant-loop-b : goal.invariant-loop-b

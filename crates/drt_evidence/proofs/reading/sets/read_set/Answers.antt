@@ -1,6 +1,6 @@
 use Rattle.std.proofs.Common.{◌-◌, arith, drop, length, length-drop, subst, sym}
 use Rattle.std.proofs.lemmas.List.{take_all}
-use Rattle.drt_file.specs.Canonical.{canonical}
+use Rattle.drt_file.specs.trusted.Canonical.{canonical}
 use Rattle.drt_evidence.specs.Blocks.{IsSet, Reads}
 use Rattle.drt_evidence.proofs.Sets.{set_read, set_stopped, fault_above_0, fault_within}
 use Rattle.drt_evidence.proofs.reading.sets.read_set.Goals as goal

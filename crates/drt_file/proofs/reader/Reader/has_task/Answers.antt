@@ -1,7 +1,7 @@
 use Rattle.std.proofs.Common.{ap, ◌∙◌}
 use Rattle.std.specs.Prelude.{bytes_eq}
 use Rattle.std.specs.List.{list_any}
-use Rattle.drt_file.specs.Faults.{in_some_task}
+use Rattle.drt_file.specs.internal.StateFaults.{in_some_task}
 use Rattle.drt_file.proofs.NamesAbove.{task_among}
 use Rattle.drt_file.proofs.reader.Reader.has_task.Goals as goal
 

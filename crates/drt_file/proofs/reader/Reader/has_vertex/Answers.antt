@@ -1,8 +1,8 @@
 use Rattle.std.proofs.Common.{ap, ◌∙◌}
 use Rattle.std.specs.Prelude.{bytes_eq}
 use Rattle.std.specs.List.{list_any}
-use Rattle.drt_file.specs.Faults.{has_vertex}
-use Rattle.drt_file.specs.Reader.{own_vertices}
+use Rattle.drt_file.specs.internal.StateFaults.{has_vertex}
+use Rattle.drt_file.specs.internal.Reader.{own_vertices}
 use Rattle.drt_file.proofs.NamesAbove.{vertex_among}
 use Rattle.drt_file.proofs.reader.Reader.has_vertex.Goals as goal
 

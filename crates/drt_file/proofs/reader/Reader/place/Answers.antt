@@ -1,8 +1,8 @@
 use Rattle.std.proofs.Common.{ap, ◌∙◌}
 use Rattle.std.specs.Prelude.{bytes_eq}
 use Rattle.std.specs.List.{position_or_len}
-use Rattle.drt_file.specs.Faults.{place_of}
-use Rattle.drt_file.specs.Reader.{own_vertices}
+use Rattle.drt_file.specs.internal.StateFaults.{place_of}
+use Rattle.drt_file.specs.internal.Reader.{own_vertices}
 use Rattle.drt_file.proofs.NamesAbove.{vertex_placed}
 use Rattle.drt_file.proofs.reader.Reader.place.Goals as goal
 

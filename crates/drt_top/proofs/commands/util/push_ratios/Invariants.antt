@@ -1,6 +1,6 @@
 -- What is written and what is left of the lines are the whole.
 use Rattle.std.proofs.Common.{◌≡◌, ◌++◌, drop}
-use Rattle.drt_file.specs.Canonical.{written}
+use Rattle.drt_file.specs.trusted.Canonical.{written}
 use Rattle.drt_ratio.specs.SetRatios.{fractions_of}
 use Rattle.drt_top.specs.commands.Util.{ratio_lines}
 use Rattle.drt_top.proofs.commands.util.push_ratios.Given as goal

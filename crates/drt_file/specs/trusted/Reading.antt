@@ -1,5 +1,5 @@
 -- Which texts read as which sets, and the fault of every other.
-use Rattle.std.specs.Prelude.{◌≡◌, ℕ, ◌==◌, if◌then◌else◌, List, [], ◌∷◌, ◌++◌, Option, Some, None, IsTrue, Err, slice_get}
+use Rattle.std.specs.Prelude.{◌≡◌, ℕ, ◌==◌, if◌then◌else◌, List, [], ◌∷◌, ◌++◌, Option, Some, None, IsTrue, slice_get}
 use Rattle.drt_model.specs.declared.tasks.Vertex.{Vertex}
 use Rattle.drt_model.specs.declared.tasks.Edge.{Edge}
 use Rattle.drt_model.specs.declared.tasks.Task.{Task}
@@ -7,10 +7,10 @@ use Rattle.drt_model.specs.Contents.{Contents}
 use Rattle.drt_model.specs.Limits.{IsTaskSet}
 use Rattle.drt_file.specs.declared.fault.FileError.{FileError}
 use Rattle.drt_file.specs.declared.fault.FileError.TheVariants as errors
-use Rattle.drt_file.specs.Words.{is_number, value, task_word, vertex_word, edge_word, priority_word}
-use Rattle.drt_file.specs.Canonical.{version_line, end_line}
-use Rattle.drt_file.specs.Line.{said}
-use Rattle.drt_file.specs.Steps.{read_text}
+use Rattle.drt_file.specs.trusted.Words.{is_number, value, task_word, vertex_word, edge_word, priority_word}
+use Rattle.drt_file.specs.trusted.Canonical.{version_line, end_line}
+use Rattle.drt_file.specs.trusted.Faults.{fault_of}
+use Rattle.drt_file.specs.trusted.Line.{said}
 
 -- A field means a number where it is decimal digits of that value. Leading zeros are allowed.
 abbrev pub Means : List ℕ → ℕ → Type 0
@@ -58,9 +58,9 @@ pub record Reads (bytes : List ℕ) (set : Contents) : Type 0 where
   pub spelled : said bytes ≡ version_line set.version ∷ (task_lines ++ end_line ∷ [])
   pub tasks : SaysTasks set.version task_lines set.tasks
 
--- A text has this fault: its first faulty line has it, by the table of codes, and the text reads as no set.
+-- A text has this fault: it is the one that the tables of codes give (Faults.antt), and the text reads as no set.
 pub record HasFault (bytes : List ℕ) (line code : ℕ) : Type 0 where
-  pub first : read_text bytes ≡ Err (record { line = line; code = code })
+  pub first : fault_of bytes ≡ Some (line, code)
   pub reads_as_none : (set : Contents) → ¬ Reads bytes set
 
 -- Why a text isn't read: it has that fault, or memory ran out.

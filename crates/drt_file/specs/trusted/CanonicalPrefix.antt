@@ -5,7 +5,7 @@ use Rattle.drt_model.specs.Limits.{IsTaskSet}
 use Rattle.drt_file.specs.declared.front.Canonical.{Canonical}
 use Rattle.drt_file.specs.declared.front.CanonicalError.{CanonicalError}
 use Rattle.drt_file.specs.declared.front.CanonicalError.TheVariants as errors
-use Rattle.drt_file.specs.Canonical.{canonical}
+use Rattle.drt_file.specs.trusted.Canonical.{canonical}
 
 -- Bytes are a prefix of a canonical text where they and some bytes behind them are the canonical text of a set.
 abbrev pub IsCanonicalPrefix : List ℕ → Type 0

@@ -1,4 +1,4 @@
--- The fault of one line, given what the lines above it leave: the least code that fits.
+-- The fault of one line, as the reader finds it from the state that the lines above leave.
 use Rattle.std.specs.Prelude.{ℕ, ◌+◌, Bool, true, false, not, ◌&&◌, ◌||◌, ◌==◌, nat_le, if◌then◌else◌, List, [], ◌∷◌, length, Option, Some, None, bytes_eq}
 use Rattle.std.specs.List.{list_any, list_all, position_or_len}
 use Rattle.drt_model.specs.declared.tasks.Vertex.{Vertex}
@@ -8,8 +8,9 @@ use Rattle.drt_file.specs.declared.state.Draft.{Draft}
 use Rattle.drt_file.specs.declared.state.State.{State}
 use Rattle.drt_file.specs.declared.state.Kind.{Kind}
 use Rattle.drt_file.specs.declared.state.Kind.TheVariants as kinds
-use Rattle.drt_file.specs.Words.{is_name, is_number, value}
-use Rattle.drt_file.specs.Line.{is_text, is_in_range, kind, first_word}
+use Rattle.drt_file.specs.trusted.Words.{is_name, is_number, value}
+use Rattle.drt_file.specs.internal.Kinds.{kind, first_word}
+use Rattle.drt_file.specs.trusted.Line.{is_text, is_in_range}
 
 -- In a table of codes and tests, the code of the first test that holds.
 unfoldable pub first_of : List (ℕ × Bool) → Option ℕ

@@ -4,7 +4,7 @@ use Rattle.drt_model.specs.declared.tasks.Vertex.{Vertex}
 use Rattle.drt_model.specs.declared.tasks.Edge.{Edge}
 use Rattle.drt_file.specs.declared.state.Draft.{Draft}
 use Rattle.drt_file.specs.declared.state.State.{State}
-use Rattle.drt_file.specs.Steps.{all_drafts}
+use Rattle.drt_file.specs.internal.Steps.{all_drafts}
 
 -- The vertices above in the task that the line stands in. Above the first task there is none.
 unfoldable pub own_vertices : State → List Vertex

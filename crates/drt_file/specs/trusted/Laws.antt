@@ -1,11 +1,11 @@
 -- What holds of texts and sets.
-use Rattle.std.specs.Prelude.{◌≡◌, ◌↔◌, ◌++◌, ℕ, List, Ok}
+use Rattle.std.specs.Prelude.{◌≡◌, ◌↔◌, ◌++◌, ℕ, List, None}
 use Rattle.drt_model.specs.Contents.{Contents}
 use Rattle.drt_model.specs.Limits.{IsTaskSet}
-use Rattle.drt_file.specs.Cutting.{lines_of_fields}
-use Rattle.drt_file.specs.Canonical.{canonical, set_lines}
-use Rattle.drt_file.specs.Steps.{read_text}
-use Rattle.drt_file.specs.Reading.{Reads}
+use Rattle.drt_file.specs.trusted.Cutting.{lines_of_fields}
+use Rattle.drt_file.specs.trusted.Canonical.{canonical, set_lines}
+use Rattle.drt_file.specs.trusted.Faults.{fault_of}
+use Rattle.drt_file.specs.trusted.Reading.{Reads}
 
 -- The canonical text of a set is cut into the lines and fields that it was made of.
 abbrev pub TextsAreCutAsMade : Type 0
@@ -17,9 +17,9 @@ TextsTellSets =
     (first second : Contents) → IsTaskSet first.version first.tasks → IsTaskSet second.version second.tasks
     → canonical first ≡ canonical second → first ≡ second
 
--- The lines of a text, gone through one by one with the table of codes, give a set exactly where the whole text reads as it.
-abbrev pub LinesAgreeWithWholes : Type 0
-LinesAgreeWithWholes = (bytes : List ℕ) (set : Contents) → read_text bytes ≡ Ok set ↔ Reads bytes set
+-- A text has no fault exactly where it reads as some set.
+abbrev pub FaultlessTextsRead : Type 0
+FaultlessTextsRead = (bytes : List ℕ) → fault_of bytes ≡ None ↔ ((set : Contents) × Reads bytes set)
 
 -- A text reads as one set at most.
 abbrev pub TextsReadAsOneSet : Type 0

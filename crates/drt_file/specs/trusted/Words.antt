@@ -1,5 +1,5 @@
 -- What single fields say.
-use Rattle.std.specs.Prelude.{ℕ, ◌+◌, ◌*◌, ◌-◌, Bool, ◌&&◌, ◌||◌, ◌==◌, nat_le, List, [], ◌∷◌, length, min}
+use Rattle.std.specs.Prelude.{ℕ, ◌+◌, ◌*◌, ◌-◌, Bool, ◌&&◌, ◌||◌, ◌==◌, nat_le, List, [], ◌∷◌, length}
 use Rattle.std.specs.List.{list_all}
 
 -- A number lies between two others, or is one of them.
@@ -30,10 +30,6 @@ value_after n (b ∷ bs) = value_after (n * 10 + (b - 48)) bs
 -- The number that digits mean.
 abbrev pub value : List ℕ → ℕ
 value word = value_after 0 word
-
--- The number that digits mean, or 1,000,001 where it is greater.
-abbrev pub capped : List ℕ → ℕ
-capped word = min (value word) 1000001
 
 -- The keyword `drt`.
 abbrev pub drt_word : List ℕ

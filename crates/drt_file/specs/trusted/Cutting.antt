@@ -1,5 +1,6 @@
 -- How a text is cut into lines, and a line into fields.
-use Rattle.std.specs.Prelude.{ℕ, Bool, ◌||◌, ◌==◌, if◌then◌else◌, List, [], ◌∷◌, ◌++◌, map}
+use Rattle.std.specs.Prelude.{◌≢◌, ℕ, Bool, ◌||◌, ◌==◌, if◌then◌else◌, List, [], ◌∷◌, ◌++◌, map}
+use Rattle.std.specs.List.{flat_map, AllByRecursion}
 
 -- A run, unless it has no byte, before others.
 unfoldable pub with_run : List ℕ → List (List ℕ) → List (List ℕ)
@@ -32,3 +33,11 @@ fields line = fields_after [] line
 -- The fields of each line of a text.
 abbrev pub lines_of_fields : List ℕ → List (List (List ℕ))
 lines_of_fields text = map fields (lines text)
+
+-- Lines with a LF behind each.
+abbrev pub fed : List (List ℕ) → List ℕ
+fed ls = flat_map (λ line. line ++ 10 ∷ []) ls
+
+-- A line has no LF.
+abbrev pub HasNoFeed : List ℕ → Type 0
+HasNoFeed line = AllByRecursion (λ b. b ≢ 10) line

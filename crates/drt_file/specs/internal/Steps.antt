@@ -10,10 +10,15 @@ use Rattle.drt_file.specs.declared.state.Kind.TheVariants as kinds
 use Rattle.drt_file.specs.declared.fault.FileFault.{FileFault}
 use Rattle.drt_file.specs.declared.fault.FileError.{FileError}
 use Rattle.drt_file.specs.declared.fault.FileError.TheVariants as errors
-use Rattle.drt_file.specs.Cutting.{lines, fields}
-use Rattle.drt_file.specs.Words.{capped, drt_word}
-use Rattle.drt_file.specs.Line.{is_skipped, kind, first_word}
-use Rattle.drt_file.specs.Faults.{place_of, line_fault, task_count}
+use Rattle.drt_file.specs.trusted.Cutting.{lines, fields}
+use Rattle.drt_file.specs.trusted.Words.{drt_word, value}
+use Rattle.drt_file.specs.internal.Kinds.{kind, first_word}
+use Rattle.drt_file.specs.trusted.Line.{is_skipped}
+use Rattle.drt_file.specs.internal.StateFaults.{place_of, line_fault, task_count}
+
+-- The number that digits mean, or 1,000,001 where it is greater.
+abbrev pub capped : List ℕ → ℕ
+capped word = min (value word) 1000001
 
 infixl 10 ◌>>=◌
 -- What follows a step, where the step has no fault.

@@ -1,16 +1,15 @@
 -- Reading a text line by line as a canonical one: each line as it is printed, and in its order.
-use Rattle.std.specs.Prelude.{◌≡◌, ◌≢◌, ℕ, ◌+◌, Bool, true, false, not, ◌&&◌, ◌||◌, ◌==◌, if◌then◌else◌, List, [], ◌∷◌, ◌++◌, length, Option, Some, None, option_and_then, Result, Ok, Err, bytes_eq, decimal}
-use Rattle.std.specs.List.{flat_map, join_with_byte, AllByRecursion}
+use Rattle.std.specs.Prelude.{◌≡◌, ℕ, ◌+◌, Bool, true, false, not, ◌&&◌, ◌||◌, ◌==◌, if◌then◌else◌, List, [], ◌∷◌, ◌++◌, length, Option, Some, None, option_and_then, Result, Ok, Err, bytes_eq, decimal}
+use Rattle.std.specs.List.{join_with_byte, AllByRecursion}
 use Rattle.drt_file.specs.declared.state.Draft.{Draft}
 use Rattle.drt_file.specs.declared.state.State.{State}
 use Rattle.drt_file.specs.declared.state.Kind.{Kind}
 use Rattle.drt_file.specs.declared.state.Kind.TheVariants as kinds
 use Rattle.drt_file.specs.declared.fault.FileFault.{FileFault}
-use Rattle.drt_file.specs.Cutting.{fields}
-use Rattle.drt_file.specs.Words.{capped}
-use Rattle.drt_file.specs.Line.{kind, first_word}
-use Rattle.drt_file.specs.Faults.{in_task, is_outside, has_priority}
-use Rattle.drt_file.specs.Steps.{line_step}
+use Rattle.drt_file.specs.trusted.Cutting.{fields, fed, HasNoFeed}
+use Rattle.drt_file.specs.internal.Kinds.{kind, first_word}
+use Rattle.drt_file.specs.internal.StateFaults.{in_task, is_outside, has_priority}
+use Rattle.drt_file.specs.internal.Steps.{line_step, capped}
 
 -- A number as it is printed, without a leading zero.
 unfoldable pub is_printed : List ℕ → Bool
@@ -56,14 +55,6 @@ strict_step n above line =
 unfoldable pub strict_steps : ℕ → Option State → List (List ℕ) → Option (ℕ × Option State)
 strict_steps n above [] = Some (n, above)
 strict_steps n above (line ∷ others) = option_and_then (λ s. strict_steps (n + 1) (Some s) others) (strict_step n above line)
-
--- Lines with a LF behind each.
-abbrev pub fed : List (List ℕ) → List ℕ
-fed ls = flat_map (λ line. line ++ 10 ∷ []) ls
-
--- A line has no LF.
-abbrev pub HasNoFeed : List ℕ → Type 0
-HasNoFeed line = AllByRecursion (λ b. b ≢ 10) line
 
 -- The lines above end with `end`.
 unfoldable pub has_ended : Option State → Bool

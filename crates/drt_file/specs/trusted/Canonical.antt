@@ -5,7 +5,7 @@ use Rattle.drt_model.specs.declared.tasks.Vertex.{Vertex}
 use Rattle.drt_model.specs.declared.tasks.Edge.{Edge}
 use Rattle.drt_model.specs.declared.tasks.Task.{Task}
 use Rattle.drt_model.specs.Contents.{Contents}
-use Rattle.drt_file.specs.Words.{drt_word, task_word, vertex_word, edge_word, priority_word, end_word}
+use Rattle.drt_file.specs.trusted.Words.{drt_word, task_word, vertex_word, edge_word, priority_word, end_word}
 
 -- A line of fields as bytes: its fields, parted by one space, and a LF.
 unfoldable pub written_line : List (List ℕ) → List ℕ
