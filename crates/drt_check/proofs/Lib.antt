@@ -7,7 +7,7 @@ pub mod SoundRoom
 pub mod SoundYes
 pub mod Sound
 pub mod Pasts
-mod Steps
+pub mod Judged
 mod Rests
 mod Gaps
 mod Bounds
@@ -21,5 +21,6 @@ mod Works
 mod Sweeps
 mod Rooms
 mod Naming
-mod Excludes
-mod Found
+mod Accepted
+mod Rows
+mod Table

@@ -128,18 +128,19 @@ rest_dues P g k [] rs all = all
 rest_dues P g k (e ∷ front) rs all = rest_dues P g k front rs (λ i d l. all (suc i) d (omega arith))
 
 -- And the other way.
-dues_from : (P : ℕ → Type 0) (m : ℕ) (graphs : List Digraph) (fronts : List (List FrontEntry)) → All (λ r. P r.due) (rises_of m graphs fronts) → AtDues P graphs fronts
-dues_from P m [] fronts all = tt
-dues_from P m (g ∷ graphs) [] all = tt
-dues_from P m (g ∷ graphs) (f ∷ fronts) all = (front_dues P g m f (rises_of (suc m) graphs fronts) all, dues_from P (suc m) graphs fronts (rest_dues P g m f (rises_of (suc m) graphs fronts) all))
+dues_from : (P : ℕ → Type 0) (m : ℕ) (graphs : List Digraph) (fronts : List (List FrontEntry)) → length fronts ≡ length graphs → All (λ r. P r.due) (rises_of m graphs fronts) → AtDues P graphs fronts
+dues_from P m [] [] count all = tt
+dues_from P m [] (f ∷ fronts) count all = absurd (omega arith)
+dues_from P m (g ∷ graphs) [] count all = absurd (omega arith)
+dues_from P m (g ∷ graphs) (f ∷ fronts) count all = (front_dues P g m f (rises_of (suc m) graphs fronts) all, dues_from P (suc m) graphs fronts (omega arith) (rest_dues P g m f (rises_of (suc m) graphs fronts) all))
 
 same_works : (graphs : List Digraph) (fronts : List (List FrontEntry)) (all : List Rise) → length graphs ≤ 32 → IsPermutation (rises_of 0 graphs fronts) all → (t : ℕ) → works_by all t ≡ works_due graphs fronts t
 same_works graphs fronts all few same t = works_same (rises_of 0 graphs fronts) all t same ∙ works_are graphs fronts t few
 
 -- Room among the entries in any order is room for the fronts.
-pub room_from : (graphs : List Digraph) (fronts : List (List FrontEntry)) (all : List Rise) → length graphs ≤ 32 → IsPermutation (rises_of 0 graphs fronts) all → HaveRoomAmong all → HaveRoom graphs fronts
-room_from graphs fronts all few same room =
-    dues_from (λ t. works_due graphs fronts t ≤ t) 0 graphs fronts
+pub room_from : (graphs : List Digraph) (fronts : List (List FrontEntry)) (all : List Rise) → length fronts ≡ length graphs → length graphs ≤ 32 → IsPermutation (rises_of 0 graphs fronts) all → HaveRoomAmong all → HaveRoom graphs fronts
+room_from graphs fronts all count few same room =
+    dues_from (λ t. works_due graphs fronts t ≤ t) 0 graphs fronts count
     (All-permutation (λ r. works_due graphs fronts r.due ≤ r.due) all (rises_of 0 graphs fronts) (IsPermutation-sym (rises_of 0 graphs fronts) all same)
     (λ k d l. (let h = room k d l in let e = same_works graphs fronts all few same (get_or all k d).due in omega (arith, h, e))))
 

@@ -1,20 +1,19 @@
 -- The rules of one claimed ratio.
-use Rattle.std.specs.Prelude.{◌≡◌, ℕ, ◌*◌, ◌<◌, ℤ, pos, ◌-ℤ◌, ◌≤ℤ◌, List, length}
+use Rattle.std.specs.Prelude.{ℕ, ◌*◌, ◌<◌, ℤ, pos, ◌-ℤ◌, ◌≤ℤ◌, List}
 use Rattle.drt_model.specs.Digraph.{Digraph, vertex_count, out_degree, edge_of}
 use Rattle.drt_model.specs.Walk.{wcet}
 use Rattle.drt_model.specs.Potential.{potential_of}
 use Rattle.drt_model.specs.RatioRules.{AreCounted, FitPotentials, IsClosed, IsTight}
-use Rattle.drt_evidence.specs.Claims.{AreLowest, HavePotentials, HaveFittingPotentials, HaveClosedCycles, HaveTightCycles}
 use Rattle.drt_evidence.specs.declared.evidence.RatioClaim.{RatioClaim}
-use Rattle.drt_check.specs.declared.claimed.Rule.{Rule}
-use Rattle.drt_check.specs.declared.claimed.Rule.TheVariants.{Counted, Fits, Closed, Tight}
+use Rattle.drt_check.specs.declared.claimed.ClaimRule.{ClaimRule}
+use Rattle.drt_check.specs.declared.claimed.ClaimRule.TheVariants.{Counted, Fits, Closed, Tight}
 
 -- A claim keeps a rule.
-abbrev pub Keeps : Rule → Digraph → RatioClaim → Type 0
-Keeps Counted g c = AreCounted g c.potentials
-Keeps Fits g c = FitPotentials g c.num c.den c.potentials
-Keeps Closed g c = IsClosed g c.num c.cycle
-Keeps Tight g c = IsTight g c.num c.den c.cycle
+abbrev pub IsKept : ClaimRule → Digraph → RatioClaim → Type 0
+IsKept Counted g c = AreCounted g c.potentials
+IsKept Fits g c = FitPotentials g c.num c.den c.potentials
+IsKept Closed g c = IsClosed g c.num c.cycle
+IsKept Tight g c = IsTight g c.num c.den c.cycle
 
 -- On the k-th edge out of u the gain of the edge is at most what the potential rises.
 abbrev pub Allows : Digraph → ℕ → ℕ → List ℤ → ℕ → ℕ → Type 0
@@ -23,24 +22,3 @@ Allows g a b hs u k = (pos (b * wcet g (edge_of g u k).to) -ℤ pos (a * (edge_o
 -- It is so on each edge.
 abbrev pub AllowAll : Digraph → ℕ → ℕ → List ℤ → Type 0
 AllowAll g a b hs = (u k : ℕ) → u < vertex_count g → k < out_degree g u → Allows g a b hs u k
-
--- There is a claim for each graph, and the claims keep the rules of one claimed ratio.
-pub record AreFitting (graphs : List Digraph) (claims : List RatioClaim) : Type 0 where
-  pub per_graph : length claims ≡ length graphs
-  pub lowest : AreLowest claims
-  pub counted : HavePotentials graphs claims
-  pub fits : HaveFittingPotentials graphs claims
-  pub closed : HaveClosedCycles graphs claims
-  pub tight : HaveTightCycles graphs claims
-
--- The rule of this number is broken, and those of the smaller numbers are kept.
-pub data IsFirstMisfit (graphs : List Digraph) (claims : List RatioClaim) : ℕ → Type 0 where
-  other_count : ¬ (length claims ≡ length graphs) → IsFirstMisfit graphs claims 3
-  not_lowest : length claims ≡ length graphs → ¬ AreLowest claims → IsFirstMisfit graphs claims 4
-  not_counted : length claims ≡ length graphs → AreLowest claims → ¬ HavePotentials graphs claims → IsFirstMisfit graphs claims 5
-  rises_too_little : length claims ≡ length graphs → AreLowest claims → HavePotentials graphs claims → ¬ HaveFittingPotentials graphs claims
-      → IsFirstMisfit graphs claims 6
-  not_closed : length claims ≡ length graphs → AreLowest claims → HavePotentials graphs claims → HaveFittingPotentials graphs claims
-      → ¬ HaveClosedCycles graphs claims → IsFirstMisfit graphs claims 7
-  not_tight : length claims ≡ length graphs → AreLowest claims → HavePotentials graphs claims → HaveFittingPotentials graphs claims
-      → HaveClosedCycles graphs claims → ¬ HaveTightCycles graphs claims → IsFirstMisfit graphs claims 8

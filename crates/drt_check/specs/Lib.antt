@@ -1,8 +1,7 @@
 pub mod Judging
 pub mod Laws
-pub mod FrontRules
+pub mod Deciding
+pub mod FrontOrder
 pub mod Rises
-pub mod Orders
 pub mod Claimed
 pub mod Named
-pub mod Exclusion

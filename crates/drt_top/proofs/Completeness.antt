@@ -24,14 +24,14 @@ use Rattle.drt_top.specs.Edf.{EdfEnds, IsEdfAnswer}
 use Rattle.drt_evidence.specs.Reading.{IsTextOf}
 use Rattle.drt_top.specs.Checks.{most_dossier_bytes}
 use Rattle.drt_evidence.specs.Statement.{Statement}
-use Rattle.drt_check.specs.Exclusion.{AcceptedBreaksNone}
+use Rattle.drt_check.specs.Laws.{JudgedOnce}
 use Rattle.drt_top.proofs.CheckLemmas.{judged_ends, judged_well, rejected_ends}
 use Rattle.drt_top.proofs.EdfLemmas as edf
 
--- What is known of texts and rules.
+-- What is known of texts and judgements.
 pub record Laws : Type 0 where
   pub files : TextsReadAsOneSet
-  pub rules : AcceptedBreaksNone
+  pub judgements : JudgedOnce
 
 answer_ends : (set : Contents) (status : ℕ) (text : List ℕ) → IsAnswer set status text → (status ≡ 8) ⊎ (((status ≡ 0) × Schedulable set.tasks Fixed) ⊎ ((status ≡ 1) × ¬ Schedulable set.tasks Fixed))
 answer_ends set status text (inl y) = inr (inl (y.0, y.1.schedulable))
@@ -66,7 +66,7 @@ made_well laws Upgrade bytes status text trail f m h = accepted_well laws.files 
 made_well laws Util bytes status text trail f m (inl h) = accepted_well laws.files bytes m.0.set f m.0.accepted h
 made_well laws Util bytes status text trail f m (inr h) =
     text_is_not_too_fine m.0.set text m.0.accepted.reads.limits m.0.text_is (subst IsTooFine (accepted_one laws.files bytes h.set m.0.set h.accepted m.0.accepted) h.fine)
-made_well laws Check bytes status text trail f m h = judged_well laws.rules bytes status text f m.0 h
+made_well laws Check bytes status text trail f m h = judged_well laws.judgements bytes status text f m.0 h
 
 complete_made : Laws → (meaning : Meaning) (bytes : List ℕ) (status : ℕ) (text : List ℕ) (trail : Trail) → Makes meaning bytes status text trail → IsComplete meaning bytes status Nothing
 complete_made laws meaning bytes status text trail m = record {

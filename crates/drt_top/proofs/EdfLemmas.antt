@@ -1,5 +1,5 @@
 -- What `edf` says of an accepted set, and what it doesn't.
-use Rattle.std.proofs.Common.{◌≡◌, ℕ, ◌<◌, ◌≤◌, List, All, inl, inr, refl, ap, ◌∙◌, subst, arith}
+use Rattle.std.proofs.Common.{◌≡◌, ℕ, ◌<◌, ◌≤◌, List, All, Result, Ok, Err, IfOk, inl, inr, refl, sym, ap, ◌∙◌, subst, arith}
 use Rattle.std.proofs.lemmas.List.Elements.{All-map}
 use Rattle.std.proofs.lemmas.Option.{slice_get_within, get_or_from_slice_get}
 use Rattle.drt_model.specs.Contents.{Contents}
@@ -22,7 +22,10 @@ use Rattle.drt_edf.specs.Spent.{IsEnough, table_need}
 use Rattle.drt_edf.specs.declared.answer.EdfTrail.{EdfTrail}
 use Rattle.drt_edf.specs.declared.answer.EdfTrail.TheVariants.{Table, Overload}
 use Rattle.drt_edf.proofs.Unique.{rates_same, horizon_same}
-use Rattle.drt_top.specs.Edf.{EdfEnds, IsEdfAnswer, evidence_status, trail_of, under_edf}
+use Rattle.drt_top.specs.Edf.{Decides, EdfEnds, IsEdfAnswer, evidence_status, trail_of, under_edf}
+use Rattle.drt_top.specs.Files.{IsAccepted}
+use Rattle.drt_top.specs.declared.making.Report.{Report}
+use Rattle.drt_top.specs.declared.stop.Stop.{Stop}
 use Rattle.drt_top.specs.declared.outcome.Trail.{Trail}
 use Rattle.drt_top.specs.declared.outcome.Trail.TheVariants as trails
 
@@ -146,14 +149,24 @@ answer_quiet set budget status written trail (inr (inr (inr a))) other = absurd 
 -- The answer of evidence.
 pub answer_is : (set : Contents) (budget : ℕ) (evidence : Evidence) → IsTaskSet set.version set.tasks → AreConstrained set.tasks → IsDone set.tasks evidence → IsPlanned set.tasks evidence → IsInRange evidence → IsEdfAnswer set budget (evidence_status evidence) (text (under_edf set evidence)) trails.Nothing
 answer_is set budget (EdfYes ratios fronts) limits constrained done planned range =
-    inl (refl, record { ratios = ratios; fronts = fronts; yes = done; other = planned; is = record { accepts = record { constrained = constrained; of_policy = refl; keeps = done.accepted }; is = record { stated = (limits, range); is = refl } } }, refl)
+    inl (refl, record { ratios = ratios; fronts = fronts; yes = done; other = planned; is = record { accepts = done.accepted set.version; is = record { stated = (limits, range); is = refl } } }, refl)
 answer_is set budget (EdfNo releases miss) limits constrained done planned range =
-    inr (inl (refl, record { releases = releases; miss = miss; no = done; other = planned; is = record { accepts = record { constrained = constrained; of_policy = refl; keeps = done.accepted }; is = record { stated = (limits, range); is = refl } } }, refl))
+    inr (inl (refl, record { releases = releases; miss = miss; no = done; other = planned; is = record { accepts = done.accepted set.version; is = record { stated = (limits, range); is = refl } } }, refl))
 answer_is set budget (UtilisationOne ratios) limits constrained done planned range =
-    inr (inr (inl (refl, record { ratios = ratios; one = done; is = record { accepts = record { constrained = constrained; of_policy = refl; keeps = done.accepted }; is = record { stated = (limits, range); is = refl } } }, refl)))
+    inr (inr (inl (refl, record { ratios = ratios; one = done; is = record { accepts = done.accepted set.version; is = record { stated = (limits, range); is = refl } } }, refl)))
 answer_is set budget (FixedYes trees proofs) limits constrained done planned range = absurd done
 answer_is set budget (FixedNo releases miss) limits constrained done planned range = absurd done
 answer_is set budget Undecided limits constrained done planned range = absurd done
+
+-- It is the answer of the report that is made of the evidence.
+pub done_decides : (bytes : List ℕ) (set : Contents) (budget : ℕ) (evidence : Evidence) → IsAccepted bytes set → IsDone set.tasks evidence → IsPlanned set.tasks evidence
+    → IsInRange evidence → (r : Result Report Stop)
+    → IfOk r (λ m. m ≡ record { status = evidence_status evidence; text = text (under_edf set evidence); trail = trails.Nothing })
+    → IfOk r (λ m. Decides bytes budget m.status m.text m.trail)
+done_decides bytes set budget evidence accepted done planned range (Ok m) is =
+    subst (λ (x : Report). Decides bytes budget x.status x.text x.trail) (sym is)
+    (record { set = set; accepted = accepted; answer = answer_is set budget evidence accepted.reads.limits accepted.constrained done planned range })
+done_decides bytes set budget evidence accepted done planned range (Err e) is = tt
 
 -- The answer of a spent budget.
 pub undecided_is : (set : Contents) (budget : ℕ) (spent : EdfTrail) → IsTaskSet set.version set.tasks → IsUndecided set.tasks budget spent → IsEdfAnswer set budget 3 (text (under_edf set Undecided)) (trail_of spent)

@@ -10,7 +10,7 @@ use crate::making::{Report, made};
 use crate::outcome::{Fault, Outcome, Trail};
 use crate::stop::{Stop, outcome_of};
 use crate::words::{Meaning, WordsError, words_of};
-use drt_check::accepted_breaks_none;
+use drt_check::judged_once;
 use drt_file::laws::texts_read_as_one_set;
 use drt_io::{Sink, Source, write_all};
 use std::alloc::Global;
@@ -87,7 +87,7 @@ fn ended<S: Source, K: Sink>(
     ensures trail { result.status ≢ 3 → result.trail ≡ Trail.Nothing }
 {
     texts_read_as_one_set();
-    accepted_breaks_none();
+    judged_once();
     match performed(alloc, meaning, source, sink) {
         Ok((status, trail)) => Outcome {
             status,

@@ -2,7 +2,7 @@
 ghost use Rattle.std.specs.Prelude.{◌≡◌, ◌↔◌, ◌++◌, ◌<◌, ◌≤◌, All, IfOk, IsTrue, length};
 ghost use Rattle.std.specs.List.Sorted.{IsPermutation, IsNonDecreasingBy};
 ghost use Rattle.drt_evidence.specs.Fronts.{HaveRoom, IsWithin};
-ghost use Rattle.drt_check.specs.FrontRules.{AreInOrder};
+ghost use Rattle.drt_check.specs.FrontOrder.{AreInOrder};
 ghost use Rattle.drt_check.specs.Rises.{HaveRoomAmong, rises_from, rises_of};
 
 use drt_evidence::FrontEntry;

@@ -1,6 +1,7 @@
 use Rattle.std.proofs.Common.{◌≡◌, inr, refl, ap, arith, rules, subst}
 use Rattle.drt_busy.specs.OneTask.{whole_release}
 use Rattle.drt_evidence.specs.Ranges.{IsInRange}
+use Rattle.drt_evidence.proofs.Accepting.{fixed_no_accepted}
 use Rattle.drt_model.specs.declared.jobs.Policy.TheVariants.{Fixed}
 use Rattle.drt_top.specs.Dossier.{dossier, no_evidence}
 use Rattle.drt_top.specs.Answers.{named_miss}
@@ -29,7 +30,7 @@ returns c =
           first_late = c.requires.late;
           legal = shown.0;
           misses = shown.1;
-          accepts = record { constrained = c.requires.constrained; of_policy = refl; keeps = record { legal = shown.0; misses = shown.1 } };
+          accepts = fixed_no_accepted c.args.set.now (whole_release c.args.v c.args.vertex.now.wcet) (named_miss c.args.vertex.now) c.requires.constrained (record { legal = shown.0; misses = shown.1 });
           text_is = record {
             stated = (c.requires.is_task.limits, subst IsInRange is c.in_ok-evidence.ensures.in_range);
             is = ap (dossier c.args.set.now) is;

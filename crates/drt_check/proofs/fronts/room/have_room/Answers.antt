@@ -15,4 +15,4 @@ returns c =
     let built : c.in_ok-rises.rises.items ≡ rises_of 0 c.args.graphs.now c.args.fronts.now = c.in_ok-rises.ensures in
     let same = rw built at c.in_order.ensures.same in
     let decides = rw c.as_slice.ensures.value at c.have_room_among.ensures in
-    (λ e. room_from c.args.graphs.now c.args.fronts.now c.in_order.new.rises.items c.count-count.ensures.kept.few same (decides.0 e), λ room. decides.1 (room_to c.args.graphs.now c.args.fronts.now c.in_order.new.rises.items c.count-count.ensures.kept.few same room))
+    (λ e. room_from c.args.graphs.now c.args.fronts.now c.in_order.new.rises.items c.requires.0 c.count-count.ensures.kept.few same (decides.0 e), λ room. decides.1 (room_to c.args.graphs.now c.args.fronts.now c.in_order.new.rises.items c.count-count.ensures.kept.few same room))
