@@ -1,10 +1,17 @@
 -- What holds of each graph and what stands at its place, by places.
-use Rattle.std.proofs.Common.{◌≡◌, ℕ, zero, suc, ◌<◌, List, [], ◌∷◌, length, get_or, ◌+◌, ◌≤◌, ◌⊎◌, inl, inr, sym, subst, arith, ◌∙◌}
+use Rattle.std.proofs.Common.{◌≡◌, ℕ, zero, suc, ◌<◌, List, [], ◌∷◌, length, get_or, ◌+◌, ◌≤◌, ◌⊎◌, inl, inr, refl, sym, ap, subst, arith, ◌∙◌}
 use Rattle.std.proofs.lemmas.Bool.{cases_lt}
 use Rattle.std.proofs.lemmas.List.{get_or_default}
 use Rattle.drt_model.specs.Digraph.{Digraph}
 use Rattle.drt_graph.specs.Graphs.{graph_of}
 use Rattle.drt_evidence.specs.Claims.{Each}
+
+-- There are as many items as graphs.
+pub each_count : {A : Type 0} (R : Digraph → A → Type 0) (graphs : List Digraph) (xs : List A) → Each R graphs xs → length xs ≡ length graphs
+each_count R [] [] each = refl
+each_count R [] (x ∷ xs) each = absurd each
+each_count R (g ∷ graphs) [] each = absurd each
+each_count R (g ∷ graphs) (x ∷ xs) each = ap suc (each_count R graphs xs each.1)
 
 pub each_at : {A : Type 0} (R : Digraph → A → Type 0) (graphs : List Digraph) (xs : List A) (k : ℕ) (d : A) → length xs ≡ length graphs → k < length graphs → Each R graphs xs → R (graph_of graphs k) (get_or xs k d)
 each_at R [] xs k d e l each = absurd (omega arith)
@@ -13,8 +20,9 @@ each_at R (g ∷ graphs) (x ∷ xs) zero d e l each = each.0
 each_at R (g ∷ graphs) (x ∷ xs) (suc k) d e l each = each_at R graphs xs k d (omega arith) (omega arith) each.1
 
 pub each_from : {A : Type 0} (R : Digraph → A → Type 0) (graphs : List Digraph) (xs : List A) → length xs ≡ length graphs → ((k : ℕ) (d : A) → k < length graphs → R (graph_of graphs k) (get_or xs k d)) → Each R graphs xs
-each_from R [] xs e all = tt
-each_from R (g ∷ graphs) [] e all = tt
+each_from R [] [] e all = tt
+each_from R [] (x ∷ xs) e all = absurd (omega arith)
+each_from R (g ∷ graphs) [] e all = absurd (omega arith)
 each_from R (g ∷ graphs) (x ∷ xs) e all = (all 0 x (omega arith), each_from R graphs xs (omega arith) (λ k d l. all (suc k) d (omega arith)))
 
 -- What holds of each, holds at this place.

@@ -7,7 +7,7 @@ pub mod SoundRoom
 pub mod SoundYes
 pub mod Sound
 pub mod Pasts
-mod Steps
+pub mod Judged
 mod Bounds
 mod Lists
 mod Orders
@@ -15,5 +15,6 @@ mod Eachs
 mod Closings
 mod Rooms
 mod Naming
-mod Excludes
-mod Found
+mod Accepted
+mod Rows
+mod Table

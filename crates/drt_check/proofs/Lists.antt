@@ -34,8 +34,9 @@ from_none R graphs xs i g x e f not from each =
     let rest = rw (e, f) at from in
     not (rest.0 each).0
 
-pub from_end : {A : Type 0} (R : Digraph → A → Type 0) (graphs : List Digraph) (xs : List A) (i : ℕ) → length graphs ≤ i → (Each R graphs xs ↔ Each R (drop i graphs) (drop i xs)) → Each R graphs xs
-from_end R graphs xs i l from =
+pub from_end : {A : Type 0} (R : Digraph → A → Type 0) (graphs : List Digraph) (xs : List A) (i : ℕ) → length graphs ≤ i → length xs ≤ i → (Each R graphs xs ↔ Each R (drop i graphs) (drop i xs)) → Each R graphs xs
+from_end R graphs xs i l m from =
     let e : drop i graphs ≡ [] = drop_all i graphs l in
-    let rest = rw e at from in
+    let f : drop i xs ≡ [] = drop_all i xs m in
+    let rest = rw (e, f) at from in
     rest.1 tt

@@ -1,5 +1,5 @@
 -- The first excess among the works of the fronts against the room of the fronts.
-use Rattle.std.proofs.Common.{ℕ, ◌≤◌, List, [], ◌∷◌, All, length, arith}
+use Rattle.std.proofs.Common.{◌≡◌, ℕ, ◌≤◌, List, [], ◌∷◌, All, length, arith}
 use Rattle.std.specs.Prelude.{Some, None}
 use Rattle.drt_model.specs.Digraph.{Digraph}
 use Rattle.drt_sweep.specs.DueWorks.{IsFirstExcess, works_of}
@@ -10,15 +10,18 @@ use Rattle.drt_evidence.specs.Fronts.{due, works_due, HaveRoom}
 use Rattle.drt_check.proofs.SoundRoom.{room_at}
 
 -- What holds at each time holds at those at which entries are due.
-at_dues : (P : ℕ → Type 0) → ((t : ℕ) → P t) → (graphs : List Digraph) (fronts : List (List FrontEntry)) → Each (λ g front. All (λ e. P (due g e)) front) graphs fronts
-at_dues P all [] fronts = tt
-at_dues P all (g ∷ graphs) [] = tt
-at_dues P all (g ∷ graphs) (f ∷ fronts) = (λ k d l. all _, at_dues P all graphs fronts)
+at_dues : (P : ℕ → Type 0) → ((t : ℕ) → P t) → (graphs : List Digraph) (fronts : List (List FrontEntry)) → length fronts ≡ length graphs
+    → Each (λ g front. All (λ e. P (due g e)) front) graphs fronts
+at_dues P all [] [] count = tt
+at_dues P all [] (f ∷ fronts) count = absurd (omega arith)
+at_dues P all (g ∷ graphs) [] count = absurd (omega arith)
+at_dues P all (g ∷ graphs) (f ∷ fronts) count = (λ k d l. all _, at_dues P all graphs fronts (omega arith))
 
 -- Where there is no excess, there is room.
-pub room : (graphs : List Digraph) (fronts : List (List FrontEntry)) → length graphs ≤ 32 → IsFirstExcess (works_of due (λ e. e.work) 0 graphs fronts) None → HaveRoom graphs fronts
-room graphs fronts few none =
-    at_dues (λ t. works_due graphs fronts t ≤ t) (λ t. (let e = sums_same due (λ e. e.work) graphs fronts t few in omega (arith, e, none t))) graphs fronts
+pub room : (graphs : List Digraph) (fronts : List (List FrontEntry)) → length fronts ≡ length graphs → length graphs ≤ 32
+    → IsFirstExcess (works_of due (λ e. e.work) 0 graphs fronts) None → HaveRoom graphs fronts
+room graphs fronts count few none =
+    at_dues (λ t. works_due graphs fronts t ≤ t) (λ t. (let e = sums_same due (λ e. e.work) graphs fronts t few in omega (arith, e, none t))) graphs fronts count
 
 -- Where there is one, there is no room.
 pub no_room : (graphs : List Digraph) (fronts : List (List FrontEntry)) (t : ℕ) → length graphs ≤ 32 → IsFirstExcess (works_of due (λ e. e.work) 0 graphs fronts) (Some t) → HaveRoom graphs fronts → ⊥

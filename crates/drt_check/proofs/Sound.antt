@@ -1,19 +1,32 @@
 -- Accepted evidence is sound, kind by kind.
-use Rattle.std.proofs.Common.{sym, subst}
+use Rattle.std.proofs.Common.{◌≡◌, sym, subst}
+use Rattle.drt_busy.specs.Decide.{DeadlinesDecide}
+use Rattle.drt_model.specs.Limits.{IsTaskSet}
 use Rattle.drt_model.specs.Schedulable.{Schedulable}
+use Rattle.drt_model.specs.declared.jobs.Policy.{Policy}
+use Rattle.drt_model.specs.declared.jobs.Policy.TheVariants.{Edf}
+use Rattle.drt_evidence.specs.Rules.{Accepts}
 use Rattle.drt_evidence.specs.declared.evidence.Evidence.{Evidence}
 use Rattle.drt_evidence.specs.declared.evidence.Evidence.TheVariants.{EdfYes, EdfNo, UtilisationOne, FixedYes, FixedNo, Undecided}
-use Rattle.drt_evidence.specs.Rules.{IsOfPolicy, KeepsRules}
+use Rattle.drt_evidence.specs.declared.rule.Rule.TheVariants.{ConstrainedDeadlines, KindOfPolicy, KnownKind, LeastMiss, LegalReleases}
+use Rattle.drt_evidence.proofs.Accepting.{statement}
 use Rattle.drt_check.specs.Judging.{IsSound, claimed}
-use Rattle.drt_check.specs.Laws.{AcceptedIsSound, NoIsSound, OneIsSound, YesIsSound}
+use Rattle.drt_check.specs.Laws.{AcceptedIsSound}
+use Rattle.drt_check.proofs.Accepted.{one_kept, yes_kept}
+use Rattle.drt_check.proofs.SoundNo.{no_is_sound}
+use Rattle.drt_check.proofs.SoundRatios.{one_is_sound}
+use Rattle.drt_check.proofs.SoundYes.{yes_is_sound}
 
-pub accepted_is_sound : NoIsSound → OneIsSound → YesIsSound → AcceptedIsSound
-accepted_is_sound refute at_one meet s stated accepts = by_kind s.evidence accepts.of_policy accepts.keeps
+pub accepted_is_sound : DeadlinesDecide → AcceptedIsSound
+accepted_is_sound decide s stated accepts = by_kind s.policy s.evidence accepts
   where
-    by_kind : (evidence : Evidence) → IsOfPolicy s.policy evidence → KeepsRules s.policy s.set.tasks evidence → IsSound s (claimed evidence)
-    by_kind (EdfYes ratios fronts) edf keeps = subst (λ policy. Schedulable s.set.tasks policy) (sym edf) (meet s.set.version s.set.tasks stated.0 accepts.constrained ratios fronts keeps)
-    by_kind (EdfNo releases miss) edf keeps = refute s.policy s.set.tasks releases miss keeps
-    by_kind (UtilisationOne ratios) edf keeps = at_one s.set.tasks ratios keeps
-    by_kind (FixedYes trees proofs) fixed keeps = absurd keeps
-    by_kind (FixedNo releases miss) fixed keeps = refute s.policy s.set.tasks releases miss keeps
-    by_kind Undecided of keeps = absurd keeps
+    by_kind : (policy : Policy) (evidence : Evidence) → Accepts (statement policy s.set evidence) → IsSound (statement policy s.set evidence) (claimed evidence)
+    by_kind policy (EdfYes ratios fronts) is =
+        let edf : policy ≡ Edf = is.keeps KindOfPolicy tt in
+        subst (λ p. Schedulable s.set.tasks p) (sym edf)
+        (yes_is_sound decide s.set.version s.set.tasks stated.0 (is.keeps ConstrainedDeadlines tt) ratios fronts (yes_kept policy s.set ratios fronts is))
+    by_kind policy (EdfNo releases miss) is = no_is_sound policy s.set.tasks releases miss (is.keeps LegalReleases tt) (is.keeps LeastMiss tt)
+    by_kind policy (UtilisationOne ratios) is = one_is_sound s.set.tasks ratios (one_kept policy s.set ratios is)
+    by_kind policy (FixedYes trees proofs) is = absurd (is.keeps KnownKind tt)
+    by_kind policy (FixedNo releases miss) is = no_is_sound policy s.set.tasks releases miss (is.keeps LegalReleases tt) (is.keeps LeastMiss tt)
+    by_kind policy Undecided is = tt

@@ -12,7 +12,7 @@ use Rattle.drt_graph.proofs.Bounds.{beyond, scaled_work}
 use Rattle.drt_graph.proofs.Paths.{work_none}
 use Rattle.drt_busy.specs.Choice.{AreDueBy, AreWalks, IsWalk, due_of, efforts}
 use Rattle.drt_evidence.specs.declared.evidence.RatioClaim.{RatioClaim}
-use Rattle.drt_evidence.specs.Claims.{HaveFittingPotentials, IsBelowOne, IsHorizon, fractions, graphs_of, potentials}
+use Rattle.drt_evidence.specs.Claims.{HaveFittingPotentials, HaveUtilisationBelowOne, IsHorizon, fractions, graphs_of, potentials}
 use Rattle.drt_graph.proofs.Scales.{scale_same}
 use Rattle.drt_check.proofs.SoundWalks.{efforts_cons, efforts_none}
 
@@ -39,7 +39,7 @@ past scale rate extra t e under far most over =
     beyond (scale - rate) rate extra t e (omega arith) (rw s far) (rw s most) over
 
 -- Walks with more work than time are due within the horizon.
-pub within_horizon : (tasks : List Task) (claims : List RatioClaim) (bound : ℕ) → All IsSound (graphs_of tasks) → length claims ≡ length tasks → HaveFittingPotentials (graphs_of tasks) claims → IsBelowOne claims → IsHorizon (graphs_of tasks) claims bound
+pub within_horizon : (tasks : List Task) (claims : List RatioClaim) (bound : ℕ) → All IsSound (graphs_of tasks) → length claims ≡ length tasks → HaveFittingPotentials (graphs_of tasks) claims → HaveUtilisationBelowOne claims → IsHorizon (graphs_of tasks) claims bound
     → (t : ℕ) (walks : ℕ → List ℕ) → AreWalks tasks walks → AreDueBy tasks walks t → t < efforts tasks walks (length tasks) → t ≤ bound
 within_horizon tasks claims bound sound count fits below is t walks are due over = go (cases_lt bound t)
   where

@@ -14,7 +14,9 @@ use Rattle.drt_model.specs.Walk.{gap, last_of, span, work}
 use Rattle.drt_graph.proofs.Bounds.{rises}
 use Rattle.drt_evidence.specs.declared.evidence.RatioClaim.{RatioClaim}
 use Rattle.drt_evidence.specs.Claims.{AreLowest, HaveClosedCycles, HaveFittingPotentials, HaveTightCycles, fractions, graphs_of}
-use Rattle.drt_check.specs.Laws.{OneIsSound}
+use Rattle.drt_evidence.specs.Rates.{IsAtOne}
+use Rattle.drt_model.specs.declared.tasks.Task.{Task}
+use Rattle.drt_evidence.proofs.Accepting.{IsUtilisationOne}
 
 -- Round a cycle the potentials rise by nothing, so that it gains nothing.
 no_cycle_gains : (g : Digraph) (a b : ℕ) (hs : List ℤ) → FitPotentials g a b hs → IsLeast g a b
@@ -49,7 +51,8 @@ ratios_are (g ∷ graphs) (c ∷ claims) count lowest fits closed tight =
       ratios_are graphs claims (omega arith) (λ k d l. lowest (suc k) d (omega arith)) fits.1 closed.1 tight.1,
     )
 
-pub one_is_sound : OneIsSound
+-- So where the claimed utilisation is one, that of the tasks is.
+pub one_is_sound : (tasks : List Task) (ratios : List RatioClaim) → IsUtilisationOne tasks ratios → IsAtOne tasks
 one_is_sound tasks ratios is =
     let count : length ratios ≡ length (graphs_of tasks) = is.claims.per_task ∙ sym (length-map tasks digraph_of) in
     let are : AreRatios (graphs_of tasks) (fractions ratios) = ratios_are (graphs_of tasks) ratios count is.claims.lowest is.claims.fits is.claims.closed is.claims.tight in

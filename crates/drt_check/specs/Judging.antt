@@ -2,9 +2,8 @@
 use Rattle.std.specs.Prelude.{◌≡◌}
 use Rattle.drt_model.specs.Schedulable.{Schedulable}
 use Rattle.drt_evidence.specs.Statement.{Statement}
-use Rattle.drt_evidence.specs.Numbered.{BreaksFirst}
 use Rattle.drt_evidence.specs.Rates.{IsAtOne}
-use Rattle.drt_evidence.specs.Rules.{Accepts}
+use Rattle.drt_evidence.specs.Rules.{Accepts, Rejects}
 use Rattle.drt_evidence.specs.declared.evidence.Evidence.{Evidence}
 use Rattle.drt_evidence.specs.declared.evidence.Evidence.TheVariants.{EdfYes, EdfNo, UtilisationOne, FixedYes, FixedNo, Undecided}
 use Rattle.drt_check.specs.declared.judgement.Judgement.{Judgement}
@@ -20,13 +19,19 @@ claimed (FixedNo releases miss) = judgements.Unschedulable
 claimed Undecided = judgements.NothingToCheck
 
 -- How a statement is judged: there is nothing to check exactly where the evidence is `undecided`; else it is rejected with the least
--- number of a rule that it breaks, or it is accepted, and judged by the kind of its evidence.
+-- number of a rule that applies and isn't kept, or it is accepted, and judged by the kind of its evidence.
 abbrev pub IsJudged : Statement → Judgement → Type 0
 IsJudged s judgements.Schedulable = Accepts s × (claimed s.evidence ≡ judgements.Schedulable)
 IsJudged s judgements.Unschedulable = Accepts s × (claimed s.evidence ≡ judgements.Unschedulable)
 IsJudged s judgements.UtilisationOne = Accepts s × (claimed s.evidence ≡ judgements.UtilisationOne)
 IsJudged s judgements.NothingToCheck = s.evidence ≡ Undecided
-IsJudged s (judgements.Rejected number) = (¬ (s.evidence ≡ Undecided)) × BreaksFirst s number
+IsJudged s (judgements.Rejected number) = Rejects s number
+
+-- The judgement is that of accepted evidence.
+abbrev pub IsAcceptance : Judgement → Type 0
+IsAcceptance judgements.NothingToCheck = ⊥
+IsAcceptance (judgements.Rejected number) = ⊥
+IsAcceptance claim = Unit {0}
 
 -- What a judgement means, whoever made the dossier.
 abbrev pub IsSound : Statement → Judgement → Type 0

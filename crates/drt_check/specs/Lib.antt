@@ -1,7 +1,6 @@
 pub mod Judging
 pub mod Laws
-pub mod FrontRules
-pub mod Orders
+pub mod Deciding
+pub mod FrontOrder
 pub mod Claimed
 pub mod Named
-pub mod Exclusion

@@ -1,100 +1,68 @@
 //! The check of a dossier.
-ghost use Rattle.std.specs.Prelude.{◌≡◌, ◌≢◌, ◌↔◌, IfOk, IsTrue};
-ghost use Rattle.drt_evidence.specs.Rules.{IsOfPolicy};
-ghost use Rattle.drt_evidence.specs.declared.evidence.Evidence.TheVariants.{Undecided};
-ghost use Rattle.drt_check.specs.Judging.{claimed, IsJudged, IsSound};
-ghost use Rattle.drt_check.specs.Orders.{IsDecided};
+ghost use Rattle.std.specs.Prelude.{◌≡◌, ◌↔◌, ℕ, IfOk};
+ghost use Rattle.drt_model.specs.Constrained.{AreConstrained};
+ghost use Rattle.drt_evidence.specs.Claims.{graphs_of};
+ghost use Rattle.drt_evidence.specs.Rules.{Accepts, Rejects};
+ghost use Rattle.drt_check.specs.Deciding.{IsDecided};
+ghost use Rattle.drt_check.specs.Judging.{IsAcceptance, IsJudged, IsSound};
+ghost use Rattle.drt_check.specs.declared.judgement.Judgement.TheVariants.{Rejected};
 
 use crate::judgement::Judgement;
 use crate::laws::accepted_is_sound;
-use crate::ruling::{first_of_no, first_of_one, first_of_yes};
-use drt_evidence::{Dossier, Evidence};
-use drt_graph::GraphError;
-use drt_model::{Memory, Policy};
+use crate::parts::{claimed, is_undecided};
+use crate::rules::{RULES, applies, keeps};
+use drt_evidence::{Dossier, Rule};
+use drt_graph::{GraphError, Graphs};
+use drt_model::Memory;
 use std::alloc::Global;
 
 /// The judgement of a dossier, whoever made it. There is nothing to check where its evidence is `undecided`. Else it is
-/// rejected with the least number of a rule that it breaks, or accepted, and then what it claims holds.
+/// rejected with the least number of a rule that applies and isn't kept, or accepted, and then what it claims holds.
 pub fn check(alloc: Global, dossier: &Dossier) -> Result<Judgement, Memory>
     ensures judged { IfOk result (IsJudged dossier.now) }
+    ensures accepted { IfOk result (λ judgement. IsAcceptance judgement ↔ Accepts dossier.now) }
+    ensures rejected { IfOk result (λ judgement. (number : ℕ) → (judgement ≡ Rejected number) ↔ Rejects dossier.now number) }
     ensures sound { IfOk result (IsSound dossier.now) }
 {
-    if is_undecided(&dossier.evidence) {
+    if is_undecided(dossier) {
         return Ok(Judgement::NothingToCheck);
     }
     let _tasks = dossier.set.tasks();
     accepted_is_sound();
     match first_broken(alloc, dossier)? {
-        Some(number) => Ok(Judgement::Rejected { number }),
-        None => Ok(claimed(&dossier.evidence)),
+        Some(rule) => Ok(Judgement::Rejected {
+            number: rule.number(),
+        }),
+        None => Ok(claimed(dossier)),
     }
 }
 
-// The first rule that the dossier breaks, if it breaks one.
-fn first_broken(alloc: Global, dossier: &Dossier) -> Result<Option<u8>, Memory>
-    requires { dossier.now.evidence ≢ Undecided }
+// The first rule that applies and isn't kept, if there is one.
+fn first_broken(alloc: Global, dossier: &Dossier) -> Result<Option<Rule>, Memory>
     ensures { IfOk result (IsDecided dossier.now) }
 {
-    let graphs = match drt_graph::check(alloc, &dossier.set) {
-        Ok(graphs) => graphs,
-        Err(GraphError::DeadlinePastSeparation { .. }) => return Ok(Some(1)),
-        Err(GraphError::Memory) => return Err(Memory),
-    };
-    if !is_of_policy(dossier.policy, &dossier.evidence) {
-        return Ok(Some(2));
+    match drt_graph::check(alloc, &dossier.set) {
+        Ok(graphs) => first_broken_of(alloc, &graphs, dossier),
+        Err(GraphError::DeadlinePastSeparation { .. }) => Ok(Some(Rule::ConstrainedDeadlines)),
+        Err(GraphError::Memory) => Err(Memory),
     }
-    match &dossier.evidence {
-        Evidence::EdfYes { ratios, fronts } => {
-            first_of_yes(alloc, &graphs, ratios.as_slice(), fronts.as_slice())
+}
+
+// The same where the graphs could be made, so that the deadlines are constrained.
+fn first_broken_of(
+    alloc: Global,
+    graphs: &Graphs,
+    dossier: &Dossier,
+) -> Result<Option<Rule>, Memory>
+    requires graphs { graphs.now ≡ graphs_of dossier.now.set.tasks }
+    requires constrained { AreConstrained dossier.now.set.tasks }
+    ensures { IfOk result (IsDecided dossier.now) }
+{
+    'rules: for i in 0..RULES.len() {
+        let rule = RULES[i];
+        if applies(rule, dossier) && !keeps(alloc, rule, graphs, dossier)? {
+            return Ok(Some(rule));
         }
-        Evidence::EdfNo { releases, miss } => first_of_no(
-            alloc,
-            &dossier.set,
-            dossier.policy,
-            releases.as_slice(),
-            *miss,
-        ),
-        Evidence::UtilisationOne { ratios } => Ok(first_of_one(&graphs, ratios.as_slice())),
-        Evidence::FixedYes { .. } => Ok(Some(99)),
-        Evidence::FixedNo { releases, miss } => first_of_no(
-            alloc,
-            &dossier.set,
-            dossier.policy,
-            releases.as_slice(),
-            *miss,
-        ),
-        Evidence::Undecided => unreachable!(),
     }
-}
-
-// Whether nothing is claimed.
-fn is_undecided(evidence: &Evidence) -> bool
-    ensures { IsTrue result ↔ (evidence.now ≡ Undecided) }
-{
-    matches!(evidence, Evidence::Undecided)
-}
-
-// Whether the kind of the evidence is one of the policy's.
-fn is_of_policy(policy: Policy, evidence: &Evidence) -> bool
-    ensures { IsTrue result ↔ IsOfPolicy policy evidence.now }
-{
-    match evidence {
-        Evidence::EdfYes { .. } | Evidence::EdfNo { .. } | Evidence::UtilisationOne { .. } => {
-            policy == Policy::Edf
-        }
-        Evidence::FixedYes { .. } | Evidence::FixedNo { .. } => policy == Policy::Fixed,
-        Evidence::Undecided => true,
-    }
-}
-
-// The judgement of accepted evidence.
-fn claimed(evidence: &Evidence) -> Judgement
-    ensures { result ≡ claimed evidence.now }
-{
-    match evidence {
-        Evidence::EdfYes { .. } | Evidence::FixedYes { .. } => Judgement::Schedulable,
-        Evidence::EdfNo { .. } | Evidence::FixedNo { .. } => Judgement::Unschedulable,
-        Evidence::UtilisationOne { .. } => Judgement::UtilisationOne,
-        Evidence::Undecided => Judgement::NothingToCheck,
-    }
+    Ok(None)
 }

@@ -11,6 +11,6 @@ pub enum Judgement {
     UtilisationOne,
     /// Nothing is claimed: the evidence is `undecided`.
     NothingToCheck,
-    /// The evidence breaks rules, of which this is the least number.
+    /// Rules that apply aren't kept, of which this is the least number.
     Rejected { number: u8 },
 }

@@ -25,6 +25,7 @@ use Rattle.drt_busy.specs.Decide.{DemandMisses}
 use Rattle.drt_busy.specs.WalkReleases.{all_releases, release_at, releases_from, releases_of}
 use Rattle.drt_replay.specs.Board.{Shown, IsLate, IsFirstMiss}
 use Rattle.drt_evidence.specs.Claims.{graphs_of}
+use Rattle.drt_evidence.proofs.Accepting.{edf_no_accepted}
 use Rattle.drt_evidence.specs.Ranges.{IsInRangeMiss, IsInRangeRelease}
 use Rattle.drt_edf.specs.Answers.{IsMissed}
 use Rattle.drt_edf.specs.Nos.{AreDueWalks}
@@ -158,7 +159,7 @@ missed version tasks ok constrained demand none t walks are due excess releases 
     let j = d.2 Edf in
     subst (λ xs. IsMissed tasks xs miss) (sym same) (record {
       not_schedulable = λ s. s rs d.0 j.0 j.1 j.3;
-      accepted = record { legal = d.0; misses = l };
+      accepted = λ version. edf_no_accepted (record { version = version; tasks = tasks }) rs miss constrained (record { legal = d.0; misses = l });
       overloaded = (t, d.1);
       hopeless = λ assigned. (let h = none assigned (jobs_of tasks rs) t d.1 in (h.0, omega (arith, h.1, length-map rs (job_of tasks)), h.3));
     })

@@ -3,6 +3,7 @@ use Rattle.std.proofs.Common.{◌≡◌, ℕ, ◌≤◌, List, length, refl, ◌
 use Rattle.std.specs.Prelude.{Ok, Err, ◌^◌}
 use Rattle.drt_model.specs.declared.tasks.Task.{Task}
 use Rattle.std.proofs.lemmas.List.{length-map}
+use Rattle.drt_model.specs.Constrained.{AreConstrained}
 use Rattle.drt_model.specs.Digraph.{Digraph, digraph_of}
 use Rattle.drt_model.specs.Utilisation.{IsScale}
 use Rattle.drt_model.specs.Horizon.{horizon}
@@ -13,8 +14,8 @@ use Rattle.drt_horizon.specs.declared.answers.Beyond.{Beyond}
 use Rattle.drt_horizon.specs.declared.answers.Beyond.TheVariants.{TooFine, TooFar}
 use Rattle.drt_horizon.specs.Given.{AreGiven, potentials_of}
 use Rattle.drt_horizon.specs.Plans.{IsPlan}
-use Rattle.drt_evidence.specs.Claims.{graphs_of, fractions, IsBelowOne as ClaimsBelowOne, IsHorizon}
-use Rattle.drt_evidence.specs.Rules.{AreRatioClaims}
+use Rattle.drt_evidence.specs.Claims.{graphs_of, fractions, HaveUtilisationBelowOne, IsHorizon}
+use Rattle.drt_evidence.proofs.Accepting.{AreRatioClaims, one_accepted}
 use Rattle.drt_edf.specs.Answers.{IsBeyond, IsOnlyOne}
 use Rattle.drt_evidence.specs.Rates.{Rates}
 use Rattle.drt_edf.specs.Plans.{IsTooFine, IsAboveOne, IsBelowOne, IsTooFar}
@@ -30,7 +31,8 @@ claims_scale : (proofs : List RatioProof) (scale : ℕ) → IsScale (fractions_o
 claims_scale proofs scale is = rw fractions_same is
 
 -- The claims keep the rules of ratios where their scale is at most 2^60.
-pub claims_kept : (tasks : List Task) (proofs : List RatioProof) → AreGiven (graphs_of tasks) proofs → (scale : ℕ) → IsScale (fractions_of proofs) scale → scale ≤ 2 ^ 60 → AreRatioClaims tasks (claims_of proofs)
+pub claims_kept : (tasks : List Task) (proofs : List RatioProof) → AreGiven (graphs_of tasks) proofs → (scale : ℕ) → IsScale (fractions_of proofs) scale
+    → scale ≤ 2 ^ 60 → AreRatioClaims tasks (claims_of proofs)
 claims_kept tasks proofs given scale is fine = record {
   per_task = claims_count (graphs_of tasks) proofs given ∙ count tasks;
   lowest = claims_lowest (graphs_of tasks) proofs given;
@@ -45,13 +47,14 @@ claims_kept tasks proofs given scale is fine = record {
     count tasks = length-map tasks digraph_of
 
 -- A plan that the utilisation is one.
-pub planned_one : (tasks : List Task) (proofs : List RatioProof) → AreGiven (graphs_of tasks) proofs → IsPlan (graphs_of tasks) proofs (Ok One) → IsOnlyOne tasks (claims_of proofs)
-planned_one tasks proofs given plan = record {
+pub planned_one : (tasks : List Task) → AreConstrained tasks → (proofs : List RatioProof) → AreGiven (graphs_of tasks) proofs
+    → IsPlan (graphs_of tasks) proofs (Ok One) → IsOnlyOne tasks (claims_of proofs)
+planned_one tasks constrained proofs given plan = record {
   at_one = (rates tasks proofs given plan.0 plan.1, plan.2.0, plan.2.1);
-  accepted = record {
+  accepted = λ version. one_accepted (record { version = version; tasks = tasks }) (claims_of proofs) constrained (record {
     claims = claims_kept tasks proofs given plan.0 plan.1 plan.2.0;
     one = (plan.0, claims_scale proofs plan.0 plan.1, rw fractions_same plan.2.1);
-  };
+  });
 }
 
 -- A plan that the utilisation is above one.
@@ -89,7 +92,8 @@ planned_below tasks proofs given bound plan = record {
 }
 
 -- And it is the horizon of the claims, whose utilisation is below one.
-pub claims_below : (proofs : List RatioProof) (graphs : List Digraph) (bound : ℕ) → IsPlan graphs proofs (Ok (Under bound)) → ClaimsBelowOne (claims_of proofs) × IsHorizon graphs (claims_of proofs) bound
+pub claims_below : (proofs : List RatioProof) (graphs : List Digraph) (bound : ℕ) → IsPlan graphs proofs (Ok (Under bound))
+    → HaveUtilisationBelowOne (claims_of proofs) × IsHorizon graphs (claims_of proofs) bound
 claims_below proofs graphs bound plan = (
   (plan.0, claims_scale proofs plan.0 plan.1, rw fractions_same plan.2.1),
   (plan.0, claims_scale proofs plan.0 plan.1, rw (fractions_same, potentials_same) plan.2.3),

@@ -58,8 +58,9 @@ claims_lowest (g ∷ graphs) (p ∷ proofs) given (suc k) d l = claims_lowest gr
 
 -- What holds of each graph and what is given for it holds of the claims.
 pub each_given : (R : Digraph → RatioClaim → Type 0) → ((g : Digraph) (p : RatioProof) → IsGiven g p → R g (claim_of p)) → (graphs : List Digraph) (proofs : List RatioProof) → AreGiven graphs proofs → Each R graphs (claims_of proofs)
-each_given R f [] proofs given = tt
-each_given R f (g ∷ graphs) [] given = tt
+each_given R f [] [] given = tt
+each_given R f [] (p ∷ proofs) given = absurd given
+each_given R f (g ∷ graphs) [] given = absurd given
 each_given R f (g ∷ graphs) (p ∷ proofs) given = (f g p given.0, each_given R f graphs proofs given.1)
 
 -- The potentials are the canonical ones.

@@ -28,7 +28,7 @@ use Rattle.drt_evidence.specs.declared.evidence.FrontEntry.{FrontEntry}
 use Rattle.drt_evidence.specs.Claims.{graphs_of, Each}
 use Rattle.drt_evidence.specs.Fronts.{due, IsOrdered, HasOpenings, IsExtended, IsClosedFront, works_due, HaveRoom}
 use Rattle.drt_evidence.specs.Ranges.{IsInRangeEntry}
-use Rattle.drt_evidence.specs.Rules.{AreFrontClaims}
+use Rattle.drt_evidence.proofs.Accepting.{AreFrontClaims, yes_accepted}
 use Rattle.drt_edf.specs.Answers.{IsYes}
 use Rattle.drt_edf.specs.LabelFronts.{entries_of, IsLabelFront, AreLabelFronts}
 use Rattle.drt_edf.specs.RatioClaims.{claims_of}
@@ -36,7 +36,7 @@ use Rattle.drt_edf.specs.Walks.{IsWalkEntry, IsExactFront}
 use Rattle.drt_edf.proofs.Covered.{walk_entry, walk_entry_is, all_within, work_same}
 use Rattle.drt_edf.proofs.Planned.{claims_kept, claims_below, planned_below}
 use Rattle.drt_edf.proofs.RatioClaims.{head_of, tail_of}
-use Rattle.drt_edf.proofs.Suffixes.{listed, efforts_listed, due_listed, count_of}
+use Rattle.drt_edf.proofs.Suffixes.{listed, efforts_listed, due_listed}
 
 -- The demand has room at each time up to the bound.
 abbrev pub HasRoom : List Digraph → List (List Demand) → ℕ → Type 0
@@ -71,8 +71,9 @@ fronts_count (g ∷ graphs) bound (f ∷ fronts) are = ap suc (fronts_count grap
 
 -- What holds of each front holds of all.
 pub each_front : (R : Digraph → List FrontEntry → Type 0) (bound : ℕ) → ((g : Digraph) (f : List Demand) → IsSound g → IsLabelFront g bound f → R g (entries_of f)) → (graphs : List Digraph) (fronts : List (List Demand)) → All IsSound graphs → AreLabelFronts bound graphs fronts → Each R graphs (map entries_of fronts)
-each_front R bound h [] fronts sound are = tt
-each_front R bound h (g ∷ graphs) [] sound are = tt
+each_front R bound h [] [] sound are = tt
+each_front R bound h [] (f ∷ fronts) sound are = absurd (let e = ap length are in omega (arith, e))
+each_front R bound h (g ∷ graphs) [] sound are = absurd are
 each_front R bound h (g ∷ graphs) (f ∷ fronts) sound are =
     (h g f (head_of IsSound g graphs sound) are.0, each_front R bound h graphs fronts (tail_of IsSound g graphs sound) are.1)
 
@@ -144,7 +145,6 @@ has_room graphs fronts bound room sound are = each_front (λ g front. All (λ e.
 pub fronts_kept : (tasks : List Task) (bound : ℕ) (fronts : List (List Demand)) → AreGraphs (graphs_of tasks) → bound ≤ 2 ^ 40 → AreLabelFronts bound (graphs_of tasks) fronts → HasRoom (graphs_of tasks) fronts bound → AreFrontClaims tasks bound (map entries_of fronts)
 fronts_kept tasks bound fronts graphs near are room = record {
   near = near;
-  per_task = fronts_count (graphs_of tasks) bound fronts are ∙ count_of tasks;
   ordered = each_front (IsOrdered bound) bound (λ g f s is. is.ordered) (graphs_of tasks) fronts graphs.sound are;
   openings = each_front (HasOpenings bound) bound (openings bound) (graphs_of tasks) fronts graphs.sound are;
   closed = each_front (IsClosedFront bound) bound (closed bound) (graphs_of tasks) fronts graphs.sound are;
@@ -158,13 +158,13 @@ is_yes holds decide version tasks is constrained graphs proofs given bound plan 
     let below = claims_below proofs (graphs_of tasks) bound plan in
     record {
       schedulable = schedulable holds decide version tasks is constrained graphs proofs given bound plan fronts are room;
-      accepted = record {
+      accepted = λ version. yes_accepted (record { version = version; tasks = tasks }) (claims_of proofs) (map entries_of fronts) constrained (record {
         claims = claims_kept tasks proofs given plan.0 plan.1 plan.2.0;
         below = below.0;
         bound = bound;
         is_bound = below.1;
         fronts_are = fronts_kept tasks bound fronts graphs (omega (arith, plan.2.2, plan.2.3)) are room;
-      };
+      });
       bound = bound;
       below = planned_below tasks proofs given bound plan;
       is_bound = below.1;

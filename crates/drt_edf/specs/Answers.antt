@@ -12,7 +12,7 @@ use Rattle.drt_horizon.specs.declared.answers.Beyond.{Beyond}
 use Rattle.drt_horizon.specs.declared.answers.Beyond.TheVariants.{TooFine, TooFar}
 use Rattle.drt_evidence.specs.Claims.{graphs_of, Each, IsHorizon}
 use Rattle.drt_evidence.specs.Ranges.{IsInRange}
-use Rattle.drt_evidence.specs.Rules.{IsEdfYes, IsUtilisationOne, IsNo}
+use Rattle.drt_evidence.specs.Rules.{Accepts}
 use Rattle.drt_evidence.specs.declared.evidence.Evidence.{Evidence}
 use Rattle.drt_evidence.specs.declared.evidence.Evidence.TheVariants.{EdfYes, EdfNo, UtilisationOne, FixedYes, FixedNo, Undecided}
 use Rattle.drt_evidence.specs.declared.evidence.FrontEntry.{FrontEntry}
@@ -26,11 +26,15 @@ use Rattle.drt_edf.specs.declared.answer.EdfAnswer.TheVariants as answers
 use Rattle.drt_edf.specs.declared.answer.EdfTrail.{EdfTrail}
 use Rattle.drt_edf.specs.declared.answer.EdfTrail.TheVariants.{Table, Overload}
 
--- A yes: the set is schedulable under EDF, its utilisation is below one, the evidence keeps the rules, and the front of each task
+-- The checker accepts the evidence for a set of these tasks under EDF.
+abbrev pub IsAcceptedFor : List Task → Evidence → Type 0
+IsAcceptedFor tasks evidence = (version : ℕ) → Accepts (record { policy = Edf; set = record { version = version; tasks = tasks }; evidence = evidence })
+
+-- A yes: the set is schedulable under EDF, its utilisation is below one, the evidence is accepted, and the front of each task
 -- has exactly the labels of walks due within the horizon that no other one covers.
 pub record IsYes (tasks : List Task) (ratios : List RatioClaim) (fronts : List (List FrontEntry)) : Type 0 where
   pub schedulable : Schedulable tasks Edf
-  pub accepted : IsEdfYes tasks ratios fronts
+  pub accepted : IsAcceptedFor tasks (EdfYes ratios fronts)
   pub bound : ℕ
   pub below : IsBelowOne tasks bound
   pub is_bound : IsHorizon (graphs_of tasks) ratios bound
@@ -40,16 +44,16 @@ pub record IsYes (tasks : List Task) (ratios : List RatioClaim) (fronts : List (
 -- jobs that are due by some t need more than t, and no assignment of one job to each tick meets all deadlines.
 pub record IsMissed (tasks : List Task) (releases : List Release) (miss : Miss) : Type 0 where
   pub not_schedulable : ¬ Schedulable tasks Edf
-  pub accepted : IsNo Edf tasks releases miss
+  pub accepted : IsAcceptedFor tasks (EdfNo releases miss)
   pub overloaded : (t : ℕ) × (t < needs (is_due 0 t) (jobs_of tasks releases))
   pub hopeless :
       (assigned : ℕ → Option ℕ) → (j : ℕ) × (j < length releases)
       × (had assigned j (job_at (jobs_of tasks releases) j).deadline < (job_at (jobs_of tasks releases) j).need)
 
--- A utilisation of one, with ratios that keep the rules.
+-- A utilisation of one, with ratios that are accepted.
 pub record IsOnlyOne (tasks : List Task) (ratios : List RatioClaim) : Type 0 where
   pub at_one : IsAtOne tasks
-  pub accepted : IsUtilisationOne tasks ratios
+  pub accepted : IsAcceptedFor tasks (UtilisationOne ratios)
 
 -- What the evidence of an answer says. The analysis gives no other kind.
 abbrev pub IsDone : List Task → Evidence → Type 0

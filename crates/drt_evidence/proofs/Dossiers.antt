@@ -13,7 +13,7 @@ use Rattle.drt_file.proofs.Feeds.{count_fed, first_before, first_fed, first_line
 use Rattle.drt_evidence.specs.Blocks.{IsSet, IsStop, Reads, RefusesLine, Stops}
 use Rattle.drt_evidence.specs.LineForms.{IsAny}
 use Rattle.drt_evidence.specs.Ranges.{IsInRange}
-use Rattle.drt_evidence.specs.Reading.{Breaks, HasDossierFault, HoldsDossier, IsDossierCause, IsStated, IsTextOf}
+use Rattle.drt_evidence.specs.Reading.{IsFaultyBy, HasDossierFault, HoldsDossier, IsDossierCause, IsStated, IsTextOf}
 use Rattle.drt_evidence.specs.Statement.{Statement}
 use Rattle.drt_evidence.specs.Text.{evidence_lines, head_lines, text}
 use Rattle.drt_evidence.specs.declared.evidence.Evidence.{Evidence}
@@ -90,7 +90,7 @@ line_behind bytes front tail ls left are size lines none = ap (λ n. 1 + n) (ap 
 
 -- Fewer lines than begin a text don't break.
 keep : (bytes : List ℕ) (ls : List (List ℕ)) (rest : List ℕ) → AllByRecursion HasNoFeed ls → bytes ≡ fed ls ++ rest
-    → (((s : Statement) (after : List ℕ) → IsStated s → text s ≡ fed ls ++ after → ⊥) → ⊥) → (n : ℕ) → n ≤ length ls → Breaks bytes n → ⊥
+    → (((s : Statement) (after : List ℕ) → IsStated s → text s ≡ fed ls ++ after → ⊥) → ⊥) → (n : ℕ) → n ≤ length ls → IsFaultyBy bytes n → ⊥
 keep bytes ls rest none are begun n le (inl (few, hold)) =
     let count = ap line_count are ∙ count_fed ls rest none in
     omega (arith, count, few, le)

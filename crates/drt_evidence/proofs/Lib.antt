@@ -1,3 +1,4 @@
+pub mod Accepting
 pub mod Forms
 pub mod Joins
 pub mod LineFeeds

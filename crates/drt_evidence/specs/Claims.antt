@@ -24,11 +24,12 @@ fractions claims = map fraction_of claims
 abbrev pub potentials : List RatioClaim → List (List ℤ)
 potentials claims = map (λ c. c.potentials) claims
 
--- R holds of each graph and what stands at its place in the other list.
-abbrev pub Each : {A : Type 0} → (Digraph → A → Type 0) → List Digraph → List A → Type 0
-Each R [] xs = Unit {0}
-Each R (g ∷ graphs) [] = Unit {0}
-Each R (g ∷ graphs) (x ∷ xs) = R g x × Each R graphs xs
+-- The lists have as many items, and R holds of each item of the first and the one at its place in the second.
+abbrev pub Each : {A B : Type 0} → (A → B → Type 0) → List A → List B → Type 0
+Each R [] [] = Unit {0}
+Each R [] (y ∷ ys) = ⊥
+Each R (x ∷ xs) [] = ⊥
+Each R (x ∷ xs) (y ∷ ys) = R x y × Each R xs ys
 
 -- There are as many claims as tasks.
 abbrev pub IsClaimPerTask : List Task → List RatioClaim → Type 0
@@ -60,12 +61,12 @@ abbrev pub IsFine : List RatioClaim → Type 0
 IsFine claims = (scale : ℕ) × IsScale (fractions claims) scale × (scale ≤ 2 ^ 60)
 
 -- The utilisation that is claimed is below one.
-abbrev pub IsBelowOne : List RatioClaim → Type 0
-IsBelowOne claims = (scale : ℕ) × IsScale (fractions claims) scale × (rate scale (fractions claims) < scale)
+abbrev pub HaveUtilisationBelowOne : List RatioClaim → Type 0
+HaveUtilisationBelowOne claims = (scale : ℕ) × IsScale (fractions claims) scale × (rate scale (fractions claims) < scale)
 
 -- The utilisation that is claimed is one.
-abbrev pub IsOne : List RatioClaim → Type 0
-IsOne claims = (scale : ℕ) × IsScale (fractions claims) scale × (rate scale (fractions claims) ≡ scale)
+abbrev pub HaveUtilisationOne : List RatioClaim → Type 0
+HaveUtilisationOne claims = (scale : ℕ) × IsScale (fractions claims) scale × (rate scale (fractions claims) ≡ scale)
 
 -- The horizon, by the claimed ratios and potentials.
 abbrev pub IsHorizon : List Digraph → List RatioClaim → ℕ → Type 0

@@ -4,8 +4,8 @@ pub mod Text
 pub mod Fields
 pub mod Claims
 pub mod Fronts
+pub mod Kinds
 pub mod Rules
-pub mod Numbered
 pub mod Rates
 pub mod Reading
 pub mod LineForms

@@ -28,8 +28,8 @@ HoldsDossier bytes = (s : Statement) × (front rest : List ℕ) × IsTextOf s fr
 
 -- The first n lines, each with its LF, are a prefix of no dossier's text, or there are fewer than n lines that end with LF while no
 -- whole dossier stands before.
-abbrev pub Breaks : List ℕ → ℕ → Type 0
-Breaks bytes n = ((line_count bytes < n) × ¬ HoldsDossier bytes) ⊎ (¬ IsDossierPrefix (first_lines n bytes))
+abbrev pub IsFaultyBy : List ℕ → ℕ → Type 0
+IsFaultyBy bytes n = ((line_count bytes < n) × ¬ HoldsDossier bytes) ⊎ (¬ IsDossierPrefix (first_lines n bytes))
 
 -- The code of a fault at a line: 3 where bytes follow a whole dossier; else 2 where the line is missing or doesn't end with LF, and 1
 -- where it does and can't stand there.
@@ -38,10 +38,10 @@ IsCode bytes line code =
     ((code ≡ 3) × HoldsDossier bytes)
     ⊎ (((code ≡ 2) × (line_count bytes < line) × ¬ HoldsDossier bytes) ⊎ ((code ≡ 1) × (line ≤ line_count bytes) × ¬ HoldsDossier bytes))
 
--- The bytes stop being a dossier's text at the least n where they break, with the code of that line.
+-- The bytes stop being a dossier's text at the least n by which they are faulty, with the code of that line.
 pub record HasDossierFault (bytes : List ℕ) (line code : ℕ) : Type 0 where
-  pub here : Breaks bytes line
-  pub least : (n : ℕ) → n < line → ¬ Breaks bytes n
+  pub here : IsFaultyBy bytes line
+  pub least : (n : ℕ) → n < line → ¬ IsFaultyBy bytes n
   pub is_code : IsCode bytes line code
 
 -- Why there is no dossier: the bytes are the text of none and stop being one there, or memory ran out.

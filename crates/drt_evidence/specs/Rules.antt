@@ -1,80 +1,105 @@
--- What evidence has to keep to be accepted. Each rule is a sentence over lists and numbers, and speaks of no search.
-use Rattle.std.specs.Prelude.{◌≡◌, ℕ, ◌≤◌, ◌^◌, List}
-use Rattle.drt_model.specs.declared.jobs.Policy.{Policy}
-use Rattle.drt_model.specs.declared.jobs.Policy.TheVariants.{Edf, Fixed}
-use Rattle.drt_model.specs.declared.jobs.Release.{Release}
-use Rattle.drt_model.specs.declared.jobs.Miss.{Miss}
-use Rattle.drt_model.specs.declared.tasks.Task.{Task}
+-- The rules of the checker, each said once. A rule is a sentence over lists and numbers, and speaks of no search.
+use Rattle.std.specs.Prelude.{◌≡◌, ℕ, ◌≤◌, ◌<◌, ◌^◌, List}
 use Rattle.drt_model.specs.Constrained.{AreConstrained}
 use Rattle.drt_model.specs.Legal.{IsLegal}
 use Rattle.drt_model.specs.Misses.{IsLeastMiss}
 use Rattle.drt_model.specs.Schedulable.{jobs_of}
+use Rattle.drt_evidence.specs.Claims.{graphs_of, Each, IsClaimPerTask, AreLowest, HavePotentials, HaveFittingPotentials, HaveClosedCycles}
+use Rattle.drt_evidence.specs.Claims.{HaveTightCycles, IsFine, HaveUtilisationBelowOne, HaveUtilisationOne, IsHorizon}
+use Rattle.drt_evidence.specs.Fronts.{IsOrdered, HasOpenings, IsClosedFront, HaveRoom}
+use Rattle.drt_evidence.specs.Kinds.{IsOfPolicy, HasRatios, HasFronts, HasReleases, HasTrees, ratios_of, fronts_of, releases_of, miss_of}
 use Rattle.drt_evidence.specs.Statement.{Statement}
-use Rattle.drt_evidence.specs.Claims.{graphs_of, Each, IsClaimPerTask, AreLowest, HavePotentials, HaveFittingPotentials, HaveClosedCycles, HaveTightCycles, IsFine, IsBelowOne, IsOne, IsHorizon}
-use Rattle.drt_evidence.specs.Fronts.{IsFrontPerTask, IsOrdered, HasOpenings, IsClosedFront, HaveRoom}
 use Rattle.drt_evidence.specs.declared.evidence.Evidence.{Evidence}
-use Rattle.drt_evidence.specs.declared.evidence.Evidence.TheVariants.{EdfYes, EdfNo, UtilisationOne, FixedYes, FixedNo, Undecided}
-use Rattle.drt_evidence.specs.declared.evidence.FrontEntry.{FrontEntry}
-use Rattle.drt_evidence.specs.declared.evidence.RatioClaim.{RatioClaim}
+use Rattle.drt_evidence.specs.declared.evidence.Evidence.TheVariants.{EdfYes, UtilisationOne, Undecided}
+use Rattle.drt_evidence.specs.declared.rule.Rule.{Rule}
+use Rattle.drt_evidence.specs.declared.rule.Rule.TheVariants.{ConstrainedDeadlines, KindOfPolicy, RatioPerTask, LowestTerms, PotentialPerVertex, FittingPotentials}
+use Rattle.drt_evidence.specs.declared.rule.Rule.TheVariants.{ClosedCycles, TightCycles, FineScale, ClaimedUtilisation, NearHorizon, OrderedFronts, CoveredOpenings, CoveredExtensions, Room}
+use Rattle.drt_evidence.specs.declared.rule.Rule.TheVariants.{LegalReleases, LeastMiss, KnownKind}
 
--- The kind of the evidence is one of the policy's.
-abbrev pub IsOfPolicy : Policy → Evidence → Type 0
-IsOfPolicy policy (EdfYes ratios fronts) = policy ≡ Edf
-IsOfPolicy policy (EdfNo releases miss) = policy ≡ Edf
-IsOfPolicy policy (UtilisationOne ratios) = policy ≡ Edf
-IsOfPolicy policy (FixedYes trees proofs) = policy ≡ Fixed
-IsOfPolicy policy (FixedNo releases miss) = policy ≡ Fixed
-IsOfPolicy policy Undecided = Unit {0}
+-- The number by which a rule is told. (99 stands for 16 to 22, the rules of a yes under fixed priorities, which are still to come.)
+abbrev pub number_of : Rule → ℕ
+number_of ConstrainedDeadlines = 1
+number_of KindOfPolicy = 2
+number_of RatioPerTask = 3
+number_of LowestTerms = 4
+number_of PotentialPerVertex = 5
+number_of FittingPotentials = 6
+number_of ClosedCycles = 7
+number_of TightCycles = 8
+number_of FineScale = 9
+number_of ClaimedUtilisation = 10
+number_of NearHorizon = 11
+number_of OrderedFronts = 12
+number_of CoveredOpenings = 13
+number_of CoveredExtensions = 14
+number_of Room = 15
+number_of LegalReleases = 23
+number_of LeastMiss = 24
+number_of KnownKind = 99
 
--- What the claimed ratios of the tasks have to keep.
-pub record AreRatioClaims (tasks : List Task) (claims : List RatioClaim) : Type 0 where
-  pub per_task : IsClaimPerTask tasks claims
-  pub lowest : AreLowest claims
-  pub counted : HavePotentials (graphs_of tasks) claims
-  pub fits : HaveFittingPotentials (graphs_of tasks) claims
-  pub closed : HaveClosedCycles (graphs_of tasks) claims
-  pub tight : HaveTightCycles (graphs_of tasks) claims
-  pub fine : IsFine claims
+-- The rule applies to the kind of the evidence.
+abbrev pub Applies : Rule → Evidence → Type 0
+Applies ConstrainedDeadlines e = Unit {0}
+Applies KindOfPolicy e = Unit {0}
+Applies RatioPerTask e = HasRatios e
+Applies LowestTerms e = HasRatios e
+Applies PotentialPerVertex e = HasRatios e
+Applies FittingPotentials e = HasRatios e
+Applies ClosedCycles e = HasRatios e
+Applies TightCycles e = HasRatios e
+Applies FineScale e = HasRatios e
+Applies ClaimedUtilisation e = HasRatios e
+Applies NearHorizon e = HasFronts e
+Applies OrderedFronts e = HasFronts e
+Applies CoveredOpenings e = HasFronts e
+Applies CoveredExtensions e = HasFronts e
+Applies Room e = HasFronts e
+Applies LegalReleases e = HasReleases e
+Applies LeastMiss e = HasReleases e
+Applies KnownKind e = HasTrees e
 
--- What the claimed fronts of the tasks have to keep within the horizon.
-pub record AreFrontClaims (tasks : List Task) (bound : ℕ) (fronts : List (List FrontEntry)) : Type 0 where
-  pub near : bound ≤ 2 ^ 40
-  pub per_task : IsFrontPerTask tasks fronts
-  pub ordered : Each (IsOrdered bound) (graphs_of tasks) fronts
-  pub openings : Each (HasOpenings bound) (graphs_of tasks) fronts
-  pub closed : Each (IsClosedFront bound) (graphs_of tasks) fronts
-  pub room : HaveRoom (graphs_of tasks) fronts
+-- The utilisation of the claimed ratios is below one for a yes, and one for a claim of that.
+abbrev pub HasClaimedUtilisation : Evidence → Type 0
+HasClaimedUtilisation (EdfYes ratios fronts) = HaveUtilisationBelowOne ratios
+HasClaimedUtilisation (UtilisationOne ratios) = HaveUtilisationOne ratios
+HasClaimedUtilisation other = Unit {0}
 
--- A yes of EDF: ratios with a utilisation below one, and fronts within the horizon that they give.
-pub record IsEdfYes (tasks : List Task) (ratios : List RatioClaim) (fronts : List (List FrontEntry)) : Type 0 where
-  pub claims : AreRatioClaims tasks ratios
-  pub below : IsBelowOne ratios
-  pub bound : ℕ
-  pub is_bound : IsHorizon (graphs_of tasks) ratios bound
-  pub fronts_are : AreFrontClaims tasks bound fronts
+-- It holds of the horizon that the claimed ratios and potentials give.
+abbrev pub AtHorizon : Statement → (ℕ → Type 0) → Type 0
+AtHorizon s R = (bound : ℕ) × IsHorizon (graphs_of s.set.tasks) (ratios_of s.evidence) bound × R bound
 
--- A utilisation of one: ratios with that utilisation.
-pub record IsUtilisationOne (tasks : List Task) (ratios : List RatioClaim) : Type 0 where
-  pub claims : AreRatioClaims tasks ratios
-  pub one : IsOne ratios
+-- The statement keeps the rule. What a rule says counts only where it applies and those that apply and have smaller numbers are kept: before,
+-- there may be no horizon.
+abbrev pub Keeps : Rule → Statement → Type 0
+Keeps ConstrainedDeadlines s = AreConstrained s.set.tasks
+Keeps KindOfPolicy s = IsOfPolicy s.policy s.evidence
+Keeps RatioPerTask s = IsClaimPerTask s.set.tasks (ratios_of s.evidence)
+Keeps LowestTerms s = AreLowest (ratios_of s.evidence)
+Keeps PotentialPerVertex s = HavePotentials (graphs_of s.set.tasks) (ratios_of s.evidence)
+Keeps FittingPotentials s = HaveFittingPotentials (graphs_of s.set.tasks) (ratios_of s.evidence)
+Keeps ClosedCycles s = HaveClosedCycles (graphs_of s.set.tasks) (ratios_of s.evidence)
+Keeps TightCycles s = HaveTightCycles (graphs_of s.set.tasks) (ratios_of s.evidence)
+Keeps FineScale s = IsFine (ratios_of s.evidence)
+Keeps ClaimedUtilisation s = HasClaimedUtilisation s.evidence
+Keeps NearHorizon s = AtHorizon s (λ bound. bound ≤ 2 ^ 40)
+Keeps OrderedFronts s = AtHorizon s (λ bound. Each (IsOrdered bound) (graphs_of s.set.tasks) (fronts_of s.evidence))
+Keeps CoveredOpenings s = AtHorizon s (λ bound. Each (HasOpenings bound) (graphs_of s.set.tasks) (fronts_of s.evidence))
+Keeps CoveredExtensions s = AtHorizon s (λ bound. Each (IsClosedFront bound) (graphs_of s.set.tasks) (fronts_of s.evidence))
+Keeps Room s = HaveRoom (graphs_of s.set.tasks) (fronts_of s.evidence)
+Keeps LegalReleases s = IsLegal s.set.tasks (releases_of s.evidence)
+Keeps LeastMiss s = IsLeastMiss s.policy (jobs_of s.set.tasks (releases_of s.evidence)) (miss_of s.evidence)
+Keeps KnownKind s = ⊥
 
--- A no: legal releases, and a job of theirs that misses, before whose deadline no job misses.
-pub record IsNo (policy : Policy) (tasks : List Task) (releases : List Release) (miss : Miss) : Type 0 where
-  pub legal : IsLegal tasks releases
-  pub misses : IsLeastMiss policy (jobs_of tasks releases) miss
-
--- The evidence keeps the rules of its kind. (Those of a yes under fixed priorities are still to come, so that none is accepted.)
-abbrev pub KeepsRules : Policy → List Task → Evidence → Type 0
-KeepsRules policy tasks (EdfYes ratios fronts) = IsEdfYes tasks ratios fronts
-KeepsRules policy tasks (EdfNo releases miss) = IsNo policy tasks releases miss
-KeepsRules policy tasks (UtilisationOne ratios) = IsUtilisationOne tasks ratios
-KeepsRules policy tasks (FixedYes trees proofs) = ⊥
-KeepsRules policy tasks (FixedNo releases miss) = IsNo policy tasks releases miss
-KeepsRules policy tasks Undecided = ⊥
-
--- A statement is accepted where the set's deadlines are constrained, and its evidence is of its policy and keeps the rules of its
--- kind.
+-- A statement is accepted where something is claimed and each rule that applies is kept.
 pub record Accepts (s : Statement) : Type 0 where
-  pub constrained : AreConstrained s.set.tasks
-  pub of_policy : IsOfPolicy s.policy s.evidence
-  pub keeps : KeepsRules s.policy s.set.tasks s.evidence
+  pub claims : ¬ (s.evidence ≡ Undecided)
+  pub keeps : (rule : Rule) → Applies rule s.evidence → Keeps rule s
+
+-- A statement is rejected with a number where something is claimed and this is the least number of a rule that applies and isn't kept.
+pub record Rejects (s : Statement) (number : ℕ) : Type 0 where
+  pub claims : ¬ (s.evidence ≡ Undecided)
+  pub rule : Rule
+  pub number_is : number ≡ number_of rule
+  pub applies : Applies rule s.evidence
+  pub broken : ¬ Keeps rule s
+  pub least : (other : Rule) → Applies other s.evidence → number_of other < number → Keeps other s

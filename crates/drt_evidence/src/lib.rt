@@ -2,7 +2,7 @@
 //!
 //! A dossier says for which policy and which task set something is claimed, and gives the evidence: for EDF's yes the ratios,
 //! potentials and fronts, for a no of either policy releases and the job that misses, for a yes of fixed priorities trees and
-//! proofs. A dossier has exactly one text. What the checker asks of a dossier stands in `specs/Rules.antt`,
+//! proofs. A dossier has exactly one text. What the checker asks of a dossier stands in `specs/Rules.antt`, one `Rule` a line,
 //! so that analyses may promise it without standing on the checker.
 //!
 //! The layer above uses the types, `print`, `read`, which answers with the dossier whose text bytes are, or with the line and the
@@ -16,6 +16,7 @@ pub mod laws;
 mod lines;
 mod printing;
 mod reading;
+mod rule;
 #[cfg(test)]
 mod tests;
 
@@ -23,3 +24,4 @@ pub use evidence::{Dossier, Evidence, FrontEntry, Item, Pair, ProofClaim, RatioC
 pub use fault::{DossierError, DossierFault};
 pub use printing::print;
 pub use reading::read;
+pub use rule::Rule;

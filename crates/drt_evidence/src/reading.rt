@@ -1,8 +1,6 @@
 //! Reading the text of a dossier.
 mod block;
 mod blocks;
-#[cfg(test)]
-mod dossier_tests;
 mod dossiers;
 mod evidences;
 pub(crate) mod fields;

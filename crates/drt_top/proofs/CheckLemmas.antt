@@ -1,12 +1,12 @@
 -- A dossier has one judgement or one fault.
 use Rattle.std.proofs.Common.{◌≡◌, ℕ, ◌<◌, ◌≤◌, ◌⊎◌, List, length, inl, inr, refl, sym, ap, ◌∙◌, subst, arith}
 use Rattle.std.proofs.lemmas.Bool.{cases_lt}
-use Rattle.drt_evidence.specs.Numbered.{BreaksFirst}
 use Rattle.drt_evidence.specs.Reading.{HasDossierFault, IsCode, IsTextOf}
+use Rattle.drt_evidence.specs.Rules.{Rejects}
 use Rattle.drt_evidence.specs.Statement.{Statement}
-use Rattle.drt_evidence.specs.declared.evidence.Evidence.TheVariants.{Undecided}
 use Rattle.drt_check.specs.Judging.{IsJudged, IsSound}
-use Rattle.drt_check.specs.Exclusion.{AcceptedBreaksNone}
+use Rattle.drt_check.specs.Laws.{JudgedOnce}
+use Rattle.drt_check.proofs.Judged.{number_one}
 use Rattle.drt_check.specs.declared.judgement.Judgement.{Judgement}
 use Rattle.drt_check.specs.declared.judgement.Judgement.TheVariants as judgements
 use Rattle.drt_top.specs.commands.Check.{CheckEnds, Checks, IsDossierFault, judged_status, most_dossier_bytes}
@@ -42,9 +42,6 @@ text_fault_one bytes l m c d h k =
     let code = code_one bytes m c d (subst (λ n. IsCode bytes n c) e h.is_code) k.is_code in
     ap (λ n. Dossier n c) e ∙ ap (Dossier m) code
 
-first_one : (s : Statement) (m n : ℕ) → BreaksFirst s m → BreaksFirst s n → m ≡ n
-first_one s m n h k = let a = h.least n k.broken in let b = k.least m h.broken in omega (arith, a, b)
-
 -- A dossier has one fault.
 pub dossier_fault_one : (bytes : List ℕ) (f g : Fault) → IsDossierFault bytes f → IsDossierFault bytes g → f ≡ g
 dossier_fault_one bytes Nothing g h k = absurd h
@@ -57,7 +54,7 @@ dossier_fault_one bytes (Rule m) (Edge t e) h k = absurd k
 dossier_fault_one bytes (Rule m) (Limit c) h k = absurd k
 dossier_fault_one bytes (Rule m) (Rule n) h k =
     let e = k.dossier.only h.statement h.dossier.is in
-    ap Rule (first_one k.statement m n (subst (λ s. BreaksFirst s m) e h.first) k.first)
+    ap Rule (number_one k.statement m n (subst (λ s. Rejects s m) e h.rejects) k.rejects)
 dossier_fault_one bytes (Rule m) (Dossier l c) h (inl big) = absurd (omega (arith, big.0, h.dossier.small))
 dossier_fault_one bytes (Rule m) (Dossier l c) h (inr lacks) = absurd (lacks.none h.statement h.dossier.is)
 dossier_fault_one bytes (Dossier l c) Nothing h k = absurd k
@@ -71,26 +68,24 @@ dossier_fault_one bytes (Dossier l c) (Dossier m d) (inl big) (inr lacks) = absu
 dossier_fault_one bytes (Dossier l c) (Dossier m d) (inr lacks) (inl big) = absurd (omega (arith, big.0, lacks.small))
 dossier_fault_one bytes (Dossier l c) (Dossier m d) (inr h) (inr k) = text_fault_one bytes l m c d h.fault k.fault
 
--- Judged evidence that isn't rejected breaks no rule.
-not_broken : AcceptedBreaksNone → (s : Statement) (j : Judgement) (n : ℕ) → IsJudged s j → judged_status j < 4 → ¬ (s.evidence ≡ Undecided) → BreaksFirst s n → ⊥
-not_broken law s judgements.Schedulable n is low claims b = law s is.0 n b.broken
-not_broken law s judgements.Unschedulable n is low claims b = law s is.0 n b.broken
-not_broken law s judgements.UtilisationOne n is low claims b = law s is.0 n b.broken
-not_broken law s judgements.NothingToCheck n is low claims b = claims is
-not_broken law s (judgements.Rejected m) n is low claims b = omega (arith, low)
+-- Judged evidence that isn't rejected is rejected with no number.
+not_rejected : JudgedOnce → (s : Statement) (j : Judgement) (n : ℕ) → IsJudged s j → judged_status j < 4 → Rejects s n → ⊥
+not_rejected law s j n is low rejects =
+    let same : j ≡ judgements.Rejected n = law s j (judgements.Rejected n) is rejects in
+    let l : 9 < 4 = subst (λ k. judged_status k < 4) same low in
+    omega (arith, l)
 
 -- A dossier that is judged has no fault.
-pub judged_well : AcceptedBreaksNone → (bytes : List ℕ) (made : Report) (f : Fault) → Checks bytes made → IsDossierFault bytes f → ⊥
-judged_well rules bytes made Nothing m h = h
-judged_well rules bytes made (File l c) m h = h
-judged_well rules bytes made (Edge t e) m h = h
-judged_well rules bytes made (Limit c) m h = h
-judged_well rules bytes made (Rule n) m h =
+pub judged_well : JudgedOnce → (bytes : List ℕ) (made : Report) (f : Fault) → Checks bytes made → IsDossierFault bytes f → ⊥
+judged_well law bytes made Nothing m h = h
+judged_well law bytes made (File l c) m h = h
+judged_well law bytes made (Edge t e) m h = h
+judged_well law bytes made (Limit c) m h = h
+judged_well law bytes made (Rule n) m h =
     let e = m.of.dossier.only h.statement h.dossier.is in
-    not_broken rules m.of.statement m.judgement n m.of.judged (omega (arith, m.status_is, m.not_rejected))
-    (subst (λ (s : Statement). ¬ (s.evidence ≡ Undecided)) e h.claims) (subst (λ s. BreaksFirst s n) e h.first)
-judged_well rules bytes made (Dossier l c) m (inl big) = omega (arith, big.0, m.of.dossier.small)
-judged_well rules bytes made (Dossier l c) m (inr lacks) = lacks.none m.of.statement m.of.dossier.is
+    not_rejected law m.of.statement m.judgement n m.of.judged (omega (arith, m.status_is, m.not_rejected)) (subst (λ s. Rejects s n) e h.rejects)
+judged_well law bytes made (Dossier l c) m (inl big) = omega (arith, big.0, m.of.dossier.small)
+judged_well law bytes made (Dossier l c) m (inr lacks) = lacks.none m.of.statement m.of.dossier.is
 
 -- It has the status of its judgement.
 pub judged_ends : (bytes : List ℕ) (made : Report) → Checks bytes made → (s : Statement) → IsTextOf s bytes → CheckEnds s made.status
@@ -106,6 +101,6 @@ rejected_ends bytes (Edge t e) h s is small = absurd h
 rejected_ends bytes (Limit c) h s is small = absurd h
 rejected_ends bytes (Rule n) h s is small =
     let e = sym (h.dossier.only s is) in
-    (judgements.Rejected n, (subst (λ (t : Statement). ¬ (t.evidence ≡ Undecided)) e h.claims, subst (λ t. BreaksFirst t n) e h.first), tt, refl)
+    (judgements.Rejected n, subst (λ t. Rejects t n) e h.rejects, tt, refl)
 rejected_ends bytes (Dossier l c) (inl big) s is small = absurd (omega (arith, big.0, small))
 rejected_ends bytes (Dossier l c) (inr lacks) s is small = absurd (lacks.none s is)

@@ -1,6 +1,6 @@
 -- What is promised of `check` agrees.
 use Rattle.std.proofs.Common.{ℕ, List, inl, refl, sym, subst}
-use Rattle.drt_check.specs.Exclusion.{AcceptedBreaksNone}
+use Rattle.drt_check.specs.Laws.{JudgedOnce}
 use Rattle.drt_command.specs.Inputs.{IsLonger}
 use Rattle.drt_command.specs.Rules.{AreLawful}
 use Rattle.drt_outcome.specs.declared.fault.Fault.{Fault}
@@ -11,7 +11,7 @@ use Rattle.drt_top.proofs.CheckLemmas.{dossier_fault_one, judged_ends, judged_we
 long_dossier : (bytes : List ℕ) (f : Fault) → IsLonger dossier_input bytes f → IsDossierFault bytes f
 long_dossier bytes f h = subst (IsDossierFault bytes) (sym h.1) (inl (h.0, refl, refl))
 
-pub check_lawful : AcceptedBreaksNone → AreLawful check_rules
+pub check_lawful : JudgedOnce → AreLawful check_rules
 check_lawful rules = record {
   low = λ bytes m d. d.not_rejected;
   apart = λ bytes m f d h. judged_well rules bytes m f d h;

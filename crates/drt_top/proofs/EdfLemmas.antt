@@ -154,7 +154,7 @@ answer_is set budget (EdfYes ratios fronts) limits constrained done planned rang
         fronts = fronts;
         yes = done;
         other = planned;
-        is = record { accepts = record { constrained = constrained; of_policy = refl; keeps = done.accepted }; is = record { stated = (limits, range); is = refl } };
+        is = record { accepts = done.accepted set.version; is = record { stated = (limits, range); is = refl } };
       },
       refl,
     )
@@ -166,7 +166,7 @@ answer_is set budget (EdfNo releases miss) limits constrained done planned range
         miss = miss;
         no = done;
         other = planned;
-        is = record { accepts = record { constrained = constrained; of_policy = refl; keeps = done.accepted }; is = record { stated = (limits, range); is = refl } };
+        is = record { accepts = done.accepted set.version; is = record { stated = (limits, range); is = refl } };
       },
       refl,
     ))
@@ -176,7 +176,7 @@ answer_is set budget (UtilisationOne ratios) limits constrained done planned ran
       record {
         ratios = ratios;
         one = done;
-        is = record { accepts = record { constrained = constrained; of_policy = refl; keeps = done.accepted }; is = record { stated = (limits, range); is = refl } };
+        is = record { accepts = done.accepted set.version; is = record { stated = (limits, range); is = refl } };
       },
       refl,
     )))

@@ -5,7 +5,7 @@ ghost use Rattle.drt_model.specs.Legal.{AllNeighbours};
 ghost use Rattle.drt_evidence.specs.Claims.{Each};
 ghost use Rattle.drt_evidence.specs.Fronts.{IsClosedFront, IsExtended, IsNextEntry, IsOrdered};
 ghost use Rattle.drt_evidence.specs.Ranges.{IsInRangeEntry};
-ghost use Rattle.drt_check.specs.FrontRules.{AreInOrder};
+ghost use Rattle.drt_check.specs.FrontOrder.{AreInOrder};
 
 use crate::fronts::covering::is_covered;
 use drt_evidence::FrontEntry;

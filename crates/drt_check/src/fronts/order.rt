@@ -3,7 +3,7 @@ ghost use Rattle.std.specs.Prelude.{◌≡◌, ◌↔◌, All, IsTrue, length};
 ghost use Rattle.drt_model.specs.Legal.{AllNeighbours};
 ghost use Rattle.drt_evidence.specs.Fronts.{IsNextEntry, IsOrdered, IsWithin};
 ghost use Rattle.drt_evidence.specs.Ranges.{IsInRangeEntry};
-ghost use Rattle.drt_check.specs.FrontRules.{AreInOrder};
+ghost use Rattle.drt_check.specs.FrontOrder.{AreInOrder};
 
 use drt_evidence::FrontEntry;
 use drt_graph::{Graph, Graphs};

@@ -2,7 +2,7 @@
 ghost use Rattle.std.specs.Prelude.{◌≡◌, ◌↔◌, ◌++◌, All, IfOk, IsTrue};
 ghost use Rattle.drt_sweep.specs.DueWorks.{works_from, works_of};
 ghost use Rattle.drt_evidence.specs.Fronts.{HaveRoom, IsWithin, due};
-ghost use Rattle.drt_check.specs.FrontRules.{AreInOrder};
+ghost use Rattle.drt_check.specs.FrontOrder.{AreInOrder};
 
 use drt_evidence::FrontEntry;
 use drt_graph::{Graph, Graphs};

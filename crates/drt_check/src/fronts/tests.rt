@@ -1,7 +1,7 @@
 ghost use Rattle.std.specs.Prelude.{All, IfOk};
 ghost use Rattle.drt_evidence.specs.Ranges.{IsInRangeEntry};
 
-use super::broken_front_rule;
+use super::{are_closed, are_in_order, have_openings, have_room};
 use drt_evidence::FrontEntry;
 use drt_graph::{Graphs, check};
 use drt_model::{Edge, Memory, Name, Row, Task, Vertex, task_set};
@@ -90,11 +90,35 @@ fn fronts(alloc: Global, given: &[&[Entry]]) -> Result<Vec<Row<FrontEntry>>, Fai
     Ok(fronts)
 }
 
+// The least number of a rule of 12 to 15 that the fronts break within the bound.
+fn broken_rule(
+    alloc: Global,
+    graphs: &Graphs,
+    fronts: &[Row<FrontEntry>],
+    bound: u64,
+) -> Result<Option<u8>, Memory>
+    requires { All (All IsInRangeEntry) fronts.now }
+{
+    if !are_in_order(graphs, fronts, bound) {
+        return Ok(Some(12));
+    }
+    if !have_openings(graphs, fronts, bound) {
+        return Ok(Some(13));
+    }
+    if !are_closed(graphs, fronts, bound) {
+        return Ok(Some(14));
+    }
+    if !have_room(alloc, graphs, fronts, bound)? {
+        return Ok(Some(15));
+    }
+    Ok(None)
+}
+
 fn judge(rt: &impl Abort, alloc: Global, graphs: &Graphs, case: Case<'_>) -> Result<(), Fail> {
     let (bound, given, wanted) = case;
     let fronts = fronts(alloc, given)?;
     assert_eq!(rt;
-        broken_front_rule(alloc, graphs, fronts.as_slice(), bound)?,
+        broken_rule(alloc, graphs, fronts.as_slice(), bound)?,
         wanted
     );
     Ok(())

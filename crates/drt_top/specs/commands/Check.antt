@@ -1,9 +1,8 @@
 -- `check`: what it says of a dossier, what it refuses, and with which status it ends.
 use Rattle.std.specs.Prelude.{◌≡◌, ℕ, ◌≤◌, ◌<◌, ◌⊎◌, List, [], codes, length}
-use Rattle.drt_evidence.specs.Numbered.{BreaksFirst}
 use Rattle.drt_evidence.specs.Reading.{HasDossierFault, IsTextOf}
+use Rattle.drt_evidence.specs.Rules.{Rejects}
 use Rattle.drt_evidence.specs.Statement.{Statement}
-use Rattle.drt_evidence.specs.declared.evidence.Evidence.TheVariants.{Undecided}
 use Rattle.drt_check.specs.Judging.{IsJudged, IsSound}
 use Rattle.drt_check.specs.declared.judgement.Judgement.{Judgement}
 use Rattle.drt_check.specs.declared.judgement.Judgement.TheVariants as judgements
@@ -57,12 +56,11 @@ pub record Checks (bytes : List ℕ) (made : Report) : Type 0 where
   pub text_is : made.text ≡ verdict judgement
   pub trail : made.trail ≡ trails.Nothing
 
--- The bytes are a dossier whose evidence breaks rules, of which this is the least number.
+-- The bytes are a dossier that is rejected with this number.
 pub record IsRejected (bytes : List ℕ) (number : ℕ) : Type 0 where
   pub statement : Statement
   pub dossier : IsDossier bytes statement
-  pub claims : ¬ (statement.evidence ≡ Undecided)
-  pub first : BreaksFirst statement number
+  pub rejects : Rejects statement number
 
 -- The bytes are no dossier's text, and stop being one at this line with this code.
 pub record IsNoDossier (bytes : List ℕ) (line code : ℕ) : Type 0 where
@@ -71,7 +69,7 @@ pub record IsNoDossier (bytes : List ℕ) (line code : ℕ) : Type 0 where
   pub fault : HasDossierFault bytes line code
 
 -- A dossier has this fault: code 4 at line 0 where it is too long, else the fault of its text, else the least number of a rule that
--- its evidence breaks.
+-- applies and isn't kept.
 abbrev pub IsDossierFault : List ℕ → Fault → Type 0
 IsDossierFault bytes Nothing = ⊥
 IsDossierFault bytes (File line code) = ⊥

@@ -3,7 +3,7 @@ ghost use Rattle.std.specs.Prelude.{◌≡◌, ◌≤◌, IfErr, IfOk, length};
 ghost use Rattle.drt_command.specs.Rules.{IsCause};
 ghost use Rattle.drt_top.specs.commands.Check.{Checks, IsDossierFault, IsJudgementOf, check_rules, most_dossier_bytes};
 
-use drt_check::{Judgement, accepted_breaks_none};
+use drt_check::{Judgement, judged_once};
 use drt_command::{Command, Input, Report, Unmade};
 use drt_evidence::{DossierError, DossierFault};
 use drt_model::Row;
@@ -22,7 +22,7 @@ impl Command for Check {
     ghost rules = { λ _. check_rules };
 
     fn laws(&self) {
-        accepted_breaks_none();
+        judged_once();
     }
 
     fn input(&self) -> Input {

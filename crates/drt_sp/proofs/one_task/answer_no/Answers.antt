@@ -2,6 +2,7 @@
 use Rattle.std.proofs.Common.{◌≡◌, inr, refl, arith, rules}
 use Rattle.drt_busy.specs.OneTask.{whole_release}
 use Rattle.drt_model.specs.declared.jobs.Policy.TheVariants.{Fixed}
+use Rattle.drt_evidence.proofs.Accepting.{fixed_no_accepted}
 use Rattle.drt_sp.specs.Evidence.{no_evidence}
 use Rattle.drt_sp.specs.OneTask.{named_miss}
 use Rattle.drt_sp.proofs.EvidenceLemmas.{one_in_range}
@@ -30,7 +31,7 @@ returns c =
             first_late = c.requires.late;
             legal = shown.0;
             misses = shown.1;
-            accepts = record { constrained = c.requires.constrained; of_policy = refl; keeps = record { legal = shown.0; misses = shown.1 } };
+            accepts = fixed_no_accepted c.args.set.now (whole_release c.args.v c.args.vertex.now.wcet) (named_miss c.args.vertex.now) c.requires.constrained (record { legal = shown.0; misses = shown.1 });
             evidence_is = is;
           }
           );

@@ -22,4 +22,4 @@ pub returns-in-None : goal.returns-in-None
 returns-in-None c =
     let built : c.in_ok-works.works.items ≡ works_of due (λ e. e.work) 0 c.args.graphs.now c.args.fronts.now = c.in_ok-works.ensures in
     let first : IsFirstExcess c.in_ok-works.works.items None = c.in-None.ensures in
-    (λ e. room c.args.graphs.now c.args.fronts.now c.count-count.ensures.kept.few (subst (λ works. IsFirstExcess works None) built first), λ has. refl)
+    (λ e. room c.args.graphs.now c.args.fronts.now c.requires.0 c.count-count.ensures.kept.few (subst (λ works. IsFirstExcess works None) built first), λ has. refl)

@@ -3,4 +3,4 @@ use Rattle.drt_top.proofs.CheckPromises.{check_lawful}
 use Rattle.drt_top.proofs.commands.check.CheckCommand.laws.Goals as goal
 
 pub returns : goal.returns
-returns c = check_lawful c.accepted_breaks_none.ensures
+returns c = check_lawful c.judged_once.ensures

@@ -1,0 +1,69 @@
+-- What accepted evidence keeps, as the record of its kind.
+use Rattle.std.proofs.Common.{◌≡◌, ℕ, ◌≤◌, List, sym, ap, ◌∙◌, subst}
+use Rattle.drt_model.specs.Contents.{Contents}
+use Rattle.drt_model.specs.Digraph.{Digraph}
+use Rattle.drt_model.specs.Horizon.{horizon}
+use Rattle.drt_model.specs.declared.jobs.Policy.{Policy}
+use Rattle.drt_evidence.specs.Claims.{graphs_of, Each, fractions, potentials, IsHorizon}
+use Rattle.drt_evidence.specs.Fronts.{HasOpenings, IsClosedFront, IsOrdered}
+use Rattle.drt_evidence.specs.Rules.{Accepts}
+use Rattle.drt_evidence.specs.declared.evidence.Evidence.TheVariants.{EdfYes, UtilisationOne}
+use Rattle.drt_evidence.specs.declared.evidence.FrontEntry.{FrontEntry}
+use Rattle.drt_evidence.specs.declared.evidence.RatioClaim.{RatioClaim}
+use Rattle.drt_evidence.specs.declared.rule.Rule.TheVariants.{RatioPerTask, LowestTerms, PotentialPerVertex, FittingPotentials, ClosedCycles, TightCycles}
+use Rattle.drt_evidence.specs.declared.rule.Rule.TheVariants.{FineScale, ClaimedUtilisation, NearHorizon, OrderedFronts, CoveredOpenings, CoveredExtensions, Room}
+use Rattle.drt_evidence.proofs.Accepting.{AreRatioClaims, AreFrontClaims, IsEdfYes, IsUtilisationOne, statement}
+use Rattle.drt_check.proofs.Denominators.{scale_same}
+
+-- There is one horizon.
+pub horizon_same : (graphs : List Digraph) (ratios : List RatioClaim) (b c : ℕ) → IsHorizon graphs ratios b → IsHorizon graphs ratios c → b ≡ c
+horizon_same graphs ratios b c p q =
+    let e : p.0 ≡ q.0 = scale_same (fractions ratios) p.0 q.0 p.1 q.1 in
+    p.2 ∙ ap (λ n. horizon n graphs (fractions ratios) (potentials ratios)) e ∙ sym q.2
+
+-- What holds at a horizon holds at the horizon.
+pub at_horizon : (graphs : List Digraph) (ratios : List RatioClaim) (b : ℕ) → IsHorizon graphs ratios b → (R : ℕ → Type 0)
+    → (c : ℕ) × IsHorizon graphs ratios c × R c → R b
+at_horizon graphs ratios b is R other = subst R (horizon_same graphs ratios other.0 b other.1 is) other.2
+
+-- A yes of EDF.
+pub yes_kept : (policy : Policy) (set : Contents) (ratios : List RatioClaim) (fronts : List (List FrontEntry))
+    → Accepts (statement policy set (EdfYes ratios fronts)) → IsEdfYes set.tasks ratios fronts
+yes_kept policy set ratios fronts is =
+    let near = is.keeps NearHorizon tt in
+    record {
+      claims = record {
+        per_task = is.keeps RatioPerTask tt;
+        lowest = is.keeps LowestTerms tt;
+        counted = is.keeps PotentialPerVertex tt;
+        fits = is.keeps FittingPotentials tt;
+        closed = is.keeps ClosedCycles tt;
+        tight = is.keeps TightCycles tt;
+        fine = is.keeps FineScale tt;
+      };
+      below = is.keeps ClaimedUtilisation tt;
+      bound = near.0;
+      is_bound = near.1;
+      fronts_are = record {
+        near = near.2;
+        ordered = at_horizon (graphs_of set.tasks) ratios near.0 near.1 (λ bound. Each (IsOrdered bound) (graphs_of set.tasks) fronts) (is.keeps OrderedFronts tt);
+        openings = at_horizon (graphs_of set.tasks) ratios near.0 near.1 (λ bound. Each (HasOpenings bound) (graphs_of set.tasks) fronts) (is.keeps CoveredOpenings tt);
+        closed = at_horizon (graphs_of set.tasks) ratios near.0 near.1 (λ bound. Each (IsClosedFront bound) (graphs_of set.tasks) fronts) (is.keeps CoveredExtensions tt);
+        room = is.keeps Room tt;
+      };
+    }
+
+-- A utilisation of one.
+pub one_kept : (policy : Policy) (set : Contents) (ratios : List RatioClaim) → Accepts (statement policy set (UtilisationOne ratios)) → IsUtilisationOne set.tasks ratios
+one_kept policy set ratios is = record {
+  claims = record {
+    per_task = is.keeps RatioPerTask tt;
+    lowest = is.keeps LowestTerms tt;
+    counted = is.keeps PotentialPerVertex tt;
+    fits = is.keeps FittingPotentials tt;
+    closed = is.keeps ClosedCycles tt;
+    tight = is.keeps TightCycles tt;
+    fine = is.keeps FineScale tt;
+  };
+  one = is.keeps ClaimedUtilisation tt;
+}

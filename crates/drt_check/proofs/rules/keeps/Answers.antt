@@ -1,0 +1,155 @@
+use Rattle.std.proofs.Common.{◌≡◌, ap, subst, arith}
+use Rattle.drt_evidence.specs.Claims.{graphs_of, Each}
+use Rattle.drt_evidence.specs.Fronts.{HasOpenings, IsClosedFront}
+use Rattle.drt_evidence.specs.Kinds.{fronts_of, ratios_of}
+use Rattle.drt_evidence.specs.Statement.{Statement}
+use Rattle.drt_evidence.specs.declared.rule.Rule.TheVariants.{LowestTerms, PotentialPerVertex, FittingPotentials, ClosedCycles, TightCycles, NearHorizon}
+use Rattle.drt_evidence.specs.declared.rule.Rule.TheVariants.{OrderedFronts, CoveredOpenings, CoveredExtensions, Room, LegalReleases, LeastMiss}
+use Rattle.drt_check.specs.Deciding.{IsNext}
+use Rattle.drt_check.proofs.Rows.{counted, decides, decides_at, decides_near, decides_order, given, in_order, near}
+use Rattle.drt_check.proofs.rules.keeps.Goals as goal
+
+pub all_keep-requires-clause-counted : goal.all_keep-requires-clause-counted
+all_keep-requires-clause-counted c =
+    let next = subst (λ r. IsNext c.args.dossier.now r) c.in-PotentialPerVertex.is c.requires.next in
+    rw (c.ratios_of-ratios.ensures.value, c.requires.graphs) (counted c.args.dossier.now PotentialPerVertex next next.applies (omega arith))
+
+pub all_keep-requires-in-FittingPotentials-clause-counted : goal.all_keep-requires-in-FittingPotentials-clause-counted
+all_keep-requires-in-FittingPotentials-clause-counted c =
+    let next = subst (λ r. IsNext c.args.dossier.now r) c.in-FittingPotentials.is c.requires.next in
+    rw (c.ratios_of-ratios.ensures.value, c.requires.graphs) (counted c.args.dossier.now FittingPotentials next next.applies (omega arith))
+
+pub all_keep-requires-in-ClosedCycles-clause-counted : goal.all_keep-requires-in-ClosedCycles-clause-counted
+all_keep-requires-in-ClosedCycles-clause-counted c =
+    let next = subst (λ r. IsNext c.args.dossier.now r) c.in-ClosedCycles.is c.requires.next in
+    rw (c.ratios_of-ratios.ensures.value, c.requires.graphs) (counted c.args.dossier.now ClosedCycles next next.applies (omega arith))
+
+pub all_keep-requires-in-TightCycles-clause-counted : goal.all_keep-requires-in-TightCycles-clause-counted
+all_keep-requires-in-TightCycles-clause-counted c =
+    let next = subst (λ r. IsNext c.args.dossier.now r) c.in-TightCycles.is c.requires.next in
+    rw (c.ratios_of-ratios.ensures.value, c.requires.graphs) (counted c.args.dossier.now TightCycles next next.applies (omega arith))
+
+pub horizon_of-requires-clause-given : goal.horizon_of-requires-clause-given
+horizon_of-requires-clause-given c =
+    let next = subst (λ r. IsNext c.args.dossier.now r) c.in-NearHorizon.is c.requires.next in
+    rw (c.ratios_of-ratios.ensures.value, c.requires.graphs) (given c.args.dossier.now NearHorizon next next.applies (omega arith))
+
+pub near_horizon-requires-clause-given : goal.near_horizon-requires-clause-given
+near_horizon-requires-clause-given c =
+    let next = subst (λ r. IsNext c.args.dossier.now r) c.in-OrderedFronts.is c.requires.next in
+    rw (c.ratios_of-ratios.ensures.value, c.requires.graphs) (given c.args.dossier.now OrderedFronts next next.applies (omega arith))
+
+pub near_horizon-requires-clause-near : goal.near_horizon-requires-clause-near
+near_horizon-requires-clause-near c =
+    let next = subst (λ r. IsNext c.args.dossier.now r) c.in-OrderedFronts.is c.requires.next in
+    rw (c.ratios_of-ratios.ensures.value, c.requires.graphs) (near c.args.dossier.now OrderedFronts next next.applies (omega arith))
+
+pub near_horizon-requires-in-CoveredOpenings-clause-given : goal.near_horizon-requires-in-CoveredOpenings-clause-given
+near_horizon-requires-in-CoveredOpenings-clause-given c =
+    let next = subst (λ r. IsNext c.args.dossier.now r) c.in-CoveredOpenings.is c.requires.next in
+    rw (c.ratios_of-ratios.ensures.value, c.requires.graphs) (given c.args.dossier.now CoveredOpenings next next.applies (omega arith))
+
+pub near_horizon-requires-in-CoveredOpenings-clause-near : goal.near_horizon-requires-in-CoveredOpenings-clause-near
+near_horizon-requires-in-CoveredOpenings-clause-near c =
+    let next = subst (λ r. IsNext c.args.dossier.now r) c.in-CoveredOpenings.is c.requires.next in
+    rw (c.ratios_of-ratios.ensures.value, c.requires.graphs) (near c.args.dossier.now CoveredOpenings next next.applies (omega arith))
+
+pub near_horizon-requires-in-CoveredExtensions-clause-given : goal.near_horizon-requires-in-CoveredExtensions-clause-given
+near_horizon-requires-in-CoveredExtensions-clause-given c =
+    let next = subst (λ r. IsNext c.args.dossier.now r) c.in-CoveredExtensions.is c.requires.next in
+    rw (c.ratios_of-ratios.ensures.value, c.requires.graphs) (given c.args.dossier.now CoveredExtensions next next.applies (omega arith))
+
+pub near_horizon-requires-in-CoveredExtensions-clause-near : goal.near_horizon-requires-in-CoveredExtensions-clause-near
+near_horizon-requires-in-CoveredExtensions-clause-near c =
+    let next = subst (λ r. IsNext c.args.dossier.now r) c.in-CoveredExtensions.is c.requires.next in
+    rw (c.ratios_of-ratios.ensures.value, c.requires.graphs) (near c.args.dossier.now CoveredExtensions next next.applies (omega arith))
+
+pub near_horizon-requires-in-Room-clause-given : goal.near_horizon-requires-in-Room-clause-given
+near_horizon-requires-in-Room-clause-given c =
+    let next = subst (λ r. IsNext c.args.dossier.now r) c.in-Room.is c.requires.next in
+    rw (c.ratios_of-ratios.ensures.value, c.requires.graphs) (given c.args.dossier.now Room next next.applies (omega arith))
+
+pub near_horizon-requires-in-Room-clause-near : goal.near_horizon-requires-in-Room-clause-near
+near_horizon-requires-in-Room-clause-near c =
+    let next = subst (λ r. IsNext c.args.dossier.now r) c.in-Room.is c.requires.next in
+    rw (c.ratios_of-ratios.ensures.value, c.requires.graphs) (near c.args.dossier.now Room next next.applies (omega arith))
+
+pub have_openings-requires : goal.have_openings-requires
+have_openings-requires c =
+    let next = subst (λ r. IsNext c.args.dossier.now r) c.in-CoveredOpenings.is c.requires.next in
+    let is = rw (c.ratios_of-ratios.ensures.value, c.requires.graphs) at c.near_horizon-in-CoveredOpenings.ensures in
+    rw (c.fronts_of-fronts.ensures.value, c.requires.graphs) (in_order c.args.dossier.now CoveredOpenings next next.applies (omega arith) c.near_horizon-in-CoveredOpenings.result is)
+
+pub are_closed-requires-clause-order : goal.are_closed-requires-clause-order
+are_closed-requires-clause-order c =
+    let next = subst (λ r. IsNext c.args.dossier.now r) c.in-CoveredExtensions.is c.requires.next in
+    let is = rw (c.ratios_of-ratios.ensures.value, c.requires.graphs) at c.near_horizon-in-CoveredExtensions.ensures in
+    rw (c.fronts_of-fronts.ensures.value, c.requires.graphs) (in_order c.args.dossier.now CoveredExtensions next next.applies (omega arith) c.near_horizon-in-CoveredExtensions.result is)
+
+pub have_room-requires : goal.have_room-requires
+have_room-requires c =
+    let next = subst (λ r. IsNext c.args.dossier.now r) c.in-Room.is c.requires.next in
+    let is = rw (c.ratios_of-ratios.ensures.value, c.requires.graphs) at c.near_horizon-in-Room.ensures in
+    rw (c.fronts_of-fronts.ensures.value, c.requires.graphs) (in_order c.args.dossier.now Room next next.applies (omega arith) c.near_horizon-in-Room.result is)
+
+pub is_least_miss-requires-clause-legal : goal.is_least_miss-requires-clause-legal
+is_least_miss-requires-clause-legal c =
+    let next = subst (λ r. IsNext c.args.dossier.now r) c.in-LeastMiss.is c.requires.next in
+    let set = ap (λ (s : Statement). s.set) c.dossier.view_is in
+    rw (set, c.releases_of-releases.ensures.value) (next.before LegalReleases next.applies (omega arith))
+
+pub returns-in-LowestTerms : goal.returns-in-LowestTerms
+returns-in-LowestTerms c =
+    decides c.args.dossier.now c.args.rule LowestTerms c.are_lowest.result c.in-LowestTerms.is (rw c.ratios_of-ratios.ensures.value at c.are_lowest.ensures)
+
+pub returns-in-PotentialPerVertex : goal.returns-in-PotentialPerVertex
+returns-in-PotentialPerVertex c =
+    decides c.args.dossier.now c.args.rule PotentialPerVertex c.all_keep.result c.in-PotentialPerVertex.is (rw (c.ratios_of-ratios.ensures.value, c.requires.graphs) at c.all_keep.ensures)
+
+pub returns-in-FittingPotentials : goal.returns-in-FittingPotentials
+returns-in-FittingPotentials c =
+    decides c.args.dossier.now c.args.rule FittingPotentials c.all_keep-in-FittingPotentials.result c.in-FittingPotentials.is (rw (c.ratios_of-ratios.ensures.value, c.requires.graphs) at c.all_keep-in-FittingPotentials.ensures)
+
+pub returns-in-ClosedCycles : goal.returns-in-ClosedCycles
+returns-in-ClosedCycles c =
+    decides c.args.dossier.now c.args.rule ClosedCycles c.all_keep-in-ClosedCycles.result c.in-ClosedCycles.is (rw (c.ratios_of-ratios.ensures.value, c.requires.graphs) at c.all_keep-in-ClosedCycles.ensures)
+
+pub returns-in-TightCycles : goal.returns-in-TightCycles
+returns-in-TightCycles c =
+    decides c.args.dossier.now c.args.rule TightCycles c.all_keep-in-TightCycles.result c.in-TightCycles.is (rw (c.ratios_of-ratios.ensures.value, c.requires.graphs) at c.all_keep-in-TightCycles.ensures)
+
+pub returns-in-NearHorizon : goal.returns-in-NearHorizon
+returns-in-NearHorizon c =
+    let d = c.args.dossier.now in
+    let is = rw (c.ratios_of-ratios.ensures.value, c.requires.graphs) at c.horizon_of.ensures in
+    decides d c.args.rule NearHorizon _ c.in-NearHorizon.is (decides_near (graphs_of d.set.tasks) (ratios_of d.evidence) c.horizon_of.result is)
+
+pub returns-in-OrderedFronts : goal.returns-in-OrderedFronts
+returns-in-OrderedFronts c =
+    let d = c.args.dossier.now in
+    let is = rw (c.ratios_of-ratios.ensures.value, c.requires.graphs) at c.near_horizon.ensures in
+    let order = rw (c.fronts_of-fronts.ensures.value, c.requires.graphs) at c.are_in_order.ensures in
+    decides d c.args.rule OrderedFronts c.are_in_order.result c.in-OrderedFronts.is
+    (decides_order (graphs_of d.set.tasks) (ratios_of d.evidence) c.near_horizon.result is (fronts_of d.evidence) c.are_in_order.result order)
+
+pub returns-in-CoveredOpenings : goal.returns-in-CoveredOpenings
+returns-in-CoveredOpenings c =
+    let d = c.args.dossier.now in
+    let is = rw (c.ratios_of-ratios.ensures.value, c.requires.graphs) at c.near_horizon-in-CoveredOpenings.ensures in
+    let each = rw (c.fronts_of-fronts.ensures.value, c.requires.graphs) at c.have_openings.ensures in
+    decides d c.args.rule CoveredOpenings c.have_openings.result c.in-CoveredOpenings.is
+    (decides_at (graphs_of d.set.tasks) (ratios_of d.evidence) c.near_horizon-in-CoveredOpenings.result is (λ n. Each (HasOpenings n) (graphs_of d.set.tasks) (fronts_of d.evidence)) c.have_openings.result each)
+
+pub returns-in-CoveredExtensions : goal.returns-in-CoveredExtensions
+returns-in-CoveredExtensions c =
+    let d = c.args.dossier.now in
+    let is = rw (c.ratios_of-ratios.ensures.value, c.requires.graphs) at c.near_horizon-in-CoveredExtensions.ensures in
+    let each = rw (c.fronts_of-fronts.ensures.value, c.requires.graphs) at c.are_closed.ensures in
+    decides d c.args.rule CoveredExtensions c.are_closed.result c.in-CoveredExtensions.is
+    (decides_at (graphs_of d.set.tasks) (ratios_of d.evidence) c.near_horizon-in-CoveredExtensions.result is (λ n. Each (IsClosedFront n) (graphs_of d.set.tasks) (fronts_of d.evidence)) c.are_closed.result each)
+
+pub returns-in-LeastMiss : goal.returns-in-LeastMiss
+returns-in-LeastMiss c =
+    let policy = ap (λ (s : Statement). s.policy) c.dossier.view_is in
+    let set = ap (λ (s : Statement). s.set) c.dossier.view_is in
+    rw c.in-LeastMiss.is (rw (policy, set, c.releases_of-releases.ensures.value, c.miss_of.ensures) at c.is_least_miss.ensures)

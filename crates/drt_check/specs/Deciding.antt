@@ -1,0 +1,28 @@
+-- What is found of a statement, rule by rule.
+use Rattle.std.specs.Prelude.{◌≡◌, ℕ, ◌<◌, ◌≤◌, ◌^◌, List, Option, Some, None, length}
+use Rattle.drt_model.specs.Digraph.{Digraph}
+use Rattle.drt_evidence.specs.Claims.{IsFine, HaveUtilisationBelowOne, IsHorizon}
+use Rattle.drt_evidence.specs.Rules.{Applies, Keeps, number_of}
+use Rattle.drt_evidence.specs.Statement.{Statement}
+use Rattle.drt_evidence.specs.declared.evidence.RatioClaim.{RatioClaim}
+use Rattle.drt_evidence.specs.declared.rule.Rule.{Rule}
+
+-- The rule applies, and those that apply and have smaller numbers are kept.
+pub record IsNext (s : Statement) (rule : Rule) : Type 0 where
+  pub applies : Applies rule s.evidence
+  pub before : (other : Rule) → Applies other s.evidence → number_of other < number_of rule → Keeps other s
+
+-- None is found where each rule that applies is kept, and else the first that isn't.
+abbrev pub IsDecided : Statement → Option Rule → Type 0
+IsDecided s None = (rule : Rule) → Applies rule s.evidence → Keeps rule s
+IsDecided s (Some rule) = IsNext s rule × ¬ Keeps rule s
+
+-- There is a claim for each graph, and the claims have a small scale and a utilisation below one.
+pub record HaveHorizon (graphs : List Digraph) (claims : List RatioClaim) : Type 0 where
+  pub per_graph : length claims ≡ length graphs
+  pub fine : IsFine claims
+  pub below : HaveUtilisationBelowOne claims
+
+-- The horizon is at most 2^40.
+abbrev pub HaveNearHorizon : List Digraph → List RatioClaim → Type 0
+HaveNearHorizon graphs claims = (bound : ℕ) × IsHorizon graphs claims bound × (bound ≤ 2 ^ 40)

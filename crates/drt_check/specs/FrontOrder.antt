@@ -1,0 +1,10 @@
+-- Fronts in order within a bound.
+use Rattle.std.specs.Prelude.{◌≡◌, ℕ, List, length}
+use Rattle.drt_model.specs.Digraph.{Digraph}
+use Rattle.drt_evidence.specs.declared.evidence.FrontEntry.{FrontEntry}
+use Rattle.drt_evidence.specs.Claims.{Each}
+use Rattle.drt_evidence.specs.Fronts.{IsOrdered}
+
+-- There is a front for each graph, in order within the bound.
+abbrev pub AreInOrder : List Digraph → ℕ → List (List FrontEntry) → Type 0
+AreInOrder graphs bound fronts = (length fronts ≡ length graphs) × Each (IsOrdered bound) graphs fronts

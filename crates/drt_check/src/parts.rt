@@ -1,0 +1,92 @@
+//! What a dossier has, by the kind of its evidence.
+ghost use Rattle.std.specs.Prelude.{◌≡◌, ◌↔◌, All, IsTrue};
+ghost use Rattle.drt_evidence.specs.Kinds.{IsOfPolicy, fronts_of, miss_of, ratios_of, releases_of};
+ghost use Rattle.drt_evidence.specs.Ranges.{AreInRangeReleases, IsInRangeEntry, IsInRangeRatio};
+ghost use Rattle.drt_evidence.specs.declared.evidence.Evidence.TheVariants.{Undecided};
+ghost use Rattle.drt_check.specs.Judging.{claimed};
+
+use crate::judgement::Judgement;
+use drt_evidence::{Dossier, Evidence, FrontEntry, RatioClaim};
+use drt_model::{Miss, Policy, Release, Row};
+
+/// Whether nothing is claimed.
+pub fn is_undecided(dossier: &Dossier) -> bool
+    ensures { IsTrue result ↔ (dossier.now.evidence ≡ Undecided) }
+{
+    matches!(&dossier.evidence, Evidence::Undecided)
+}
+
+/// Whether the kind of the evidence is one of the policy's.
+pub fn is_of_policy(dossier: &Dossier) -> bool
+    ensures { IsTrue result ↔ IsOfPolicy dossier.now.policy dossier.now.evidence }
+{
+    match &dossier.evidence {
+        Evidence::EdfYes { .. } | Evidence::EdfNo { .. } | Evidence::UtilisationOne { .. } => {
+            dossier.policy == Policy::Edf
+        }
+        Evidence::FixedYes { .. } | Evidence::FixedNo { .. } => dossier.policy == Policy::Fixed,
+        Evidence::Undecided => true,
+    }
+}
+
+/// The judgement of accepted evidence.
+pub fn claimed(dossier: &Dossier) -> Judgement
+    ensures { result ≡ claimed dossier.now.evidence }
+{
+    match &dossier.evidence {
+        Evidence::EdfYes { .. } | Evidence::FixedYes { .. } => Judgement::Schedulable,
+        Evidence::EdfNo { .. } | Evidence::FixedNo { .. } => Judgement::Unschedulable,
+        Evidence::UtilisationOne { .. } => Judgement::UtilisationOne,
+        Evidence::Undecided => Judgement::NothingToCheck,
+    }
+}
+
+/// The claimed ratios, and none where the evidence has none.
+pub fn ratios_of(dossier: &Dossier) -> &[RatioClaim]
+    ensures value { result.now ≡ ratios_of dossier.now.evidence }
+    ensures in_range { All IsInRangeRatio result.now }
+{
+    match &dossier.evidence {
+        Evidence::EdfYes { ratios, .. } => ratios.as_slice(),
+        Evidence::UtilisationOne { ratios } => ratios.as_slice(),
+        _ => &[],
+    }
+}
+
+/// The claimed fronts, and none where the evidence has none.
+pub fn fronts_of(dossier: &Dossier) -> &[Row<FrontEntry>]
+    ensures value { result.now ≡ fronts_of dossier.now.evidence }
+    ensures in_range { All (All IsInRangeEntry) result.now }
+{
+    match &dossier.evidence {
+        Evidence::EdfYes { fronts, .. } => fronts.as_slice(),
+        _ => &[],
+    }
+}
+
+/// The releases that are to miss, and none where the evidence has none.
+pub fn releases_of(dossier: &Dossier) -> &[Release]
+    ensures value { result.now ≡ releases_of dossier.now.evidence }
+    ensures in_range { AreInRangeReleases result.now (miss_of dossier.now.evidence) }
+{
+    match &dossier.evidence {
+        Evidence::EdfNo { releases, .. } => releases.as_slice(),
+        Evidence::FixedNo { releases, .. } => releases.as_slice(),
+        _ => &[],
+    }
+}
+
+/// The miss that is named, and that of no job where the evidence names none.
+pub fn miss_of(dossier: &Dossier) -> Miss
+    ensures { result ≡ miss_of dossier.now.evidence }
+{
+    match &dossier.evidence {
+        Evidence::EdfNo { miss, .. } => *miss,
+        Evidence::FixedNo { miss, .. } => *miss,
+        _ => Miss {
+            task: 0,
+            index: 0,
+            deadline: 0,
+        },
+    }
+}

@@ -1,0 +1,128 @@
+//! The rules, one row for each.
+ghost use Rattle.std.specs.Prelude.{◌≡◌, ◌↔◌, IfOk, IsTrue};
+ghost use Rattle.drt_model.specs.Constrained.{AreConstrained};
+ghost use Rattle.drt_evidence.specs.Claims.{graphs_of};
+ghost use Rattle.drt_evidence.specs.Rules.{Applies, HasClaimedUtilisation, Keeps};
+ghost use Rattle.drt_evidence.specs.declared.rule.Rule.TheVariants.{ClaimedUtilisation};
+ghost use Rattle.drt_check.specs.Deciding.{IsNext};
+
+use crate::claimed::{ClaimRule, all_keep, are_lowest};
+use crate::fronts::{are_closed, are_in_order, have_openings, have_room};
+use crate::parts::{fronts_of, is_of_policy, miss_of, ratios_of, releases_of};
+use crate::releases::is_least_miss;
+use crate::scales::scale;
+use crate::utilisation::{horizon_of, is_below_one, is_one, near_horizon};
+use drt_evidence::{Dossier, Evidence, Rule};
+use drt_graph::Graphs;
+use drt_model::{Memory, legal};
+use std::alloc::Global;
+
+const GREATEST_HORIZON: u128 = 1 << 40;
+
+/// The rules in the order of their numbers.
+pub const RULES: [Rule; 18] = [
+    Rule::ConstrainedDeadlines,
+    Rule::KindOfPolicy,
+    Rule::RatioPerTask,
+    Rule::LowestTerms,
+    Rule::PotentialPerVertex,
+    Rule::FittingPotentials,
+    Rule::ClosedCycles,
+    Rule::TightCycles,
+    Rule::FineScale,
+    Rule::ClaimedUtilisation,
+    Rule::NearHorizon,
+    Rule::OrderedFronts,
+    Rule::CoveredOpenings,
+    Rule::CoveredExtensions,
+    Rule::Room,
+    Rule::LegalReleases,
+    Rule::LeastMiss,
+    Rule::KnownKind,
+];
+
+/// Whether the rule applies to the kind of the dossier's evidence.
+pub fn applies(rule: Rule, dossier: &Dossier) -> bool
+    ensures { IsTrue result ↔ Applies rule dossier.now.evidence }
+{
+    let evidence = &dossier.evidence;
+    match rule {
+        Rule::ConstrainedDeadlines | Rule::KindOfPolicy => true,
+        Rule::RatioPerTask
+        | Rule::LowestTerms
+        | Rule::PotentialPerVertex
+        | Rule::FittingPotentials
+        | Rule::ClosedCycles
+        | Rule::TightCycles
+        | Rule::FineScale
+        | Rule::ClaimedUtilisation => {
+            matches!(
+                evidence,
+                Evidence::EdfYes { .. } | Evidence::UtilisationOne { .. }
+            )
+        }
+        Rule::NearHorizon
+        | Rule::OrderedFronts
+        | Rule::CoveredOpenings
+        | Rule::CoveredExtensions
+        | Rule::Room => matches!(evidence, Evidence::EdfYes { .. }),
+        Rule::LegalReleases | Rule::LeastMiss => {
+            matches!(evidence, Evidence::EdfNo { .. } | Evidence::FixedNo { .. })
+        }
+        Rule::KnownKind => matches!(evidence, Evidence::FixedYes { .. }),
+    }
+}
+
+/// Whether the dossier keeps the rule, where it keeps those that apply and have smaller numbers. The first was decided where the
+/// graphs were made.
+pub fn keeps(alloc: Global, rule: Rule, graphs: &Graphs, dossier: &Dossier) -> Result<bool, Memory>
+    requires graphs { graphs.now ≡ graphs_of dossier.now.set.tasks }
+    requires constrained { AreConstrained dossier.now.set.tasks }
+    requires next { IsNext dossier.now rule }
+    ensures { IfOk result (λ kept. IsTrue kept ↔ Keeps rule dossier.now) }
+{
+    let ratios = ratios_of(dossier);
+    let fronts = fronts_of(dossier);
+    let releases = releases_of(dossier);
+    match rule {
+        Rule::ConstrainedDeadlines => Ok(true),
+        Rule::KindOfPolicy => Ok(is_of_policy(dossier)),
+        Rule::RatioPerTask => Ok(ratios.len() == graphs.count() as usize),
+        Rule::LowestTerms => Ok(are_lowest(ratios)),
+        Rule::PotentialPerVertex => Ok(all_keep(ClaimRule::Counted, graphs, ratios)),
+        Rule::FittingPotentials => Ok(all_keep(ClaimRule::Fits, graphs, ratios)),
+        Rule::ClosedCycles => Ok(all_keep(ClaimRule::Closed, graphs, ratios)),
+        Rule::TightCycles => Ok(all_keep(ClaimRule::Tight, graphs, ratios)),
+        Rule::FineScale => Ok(scale(ratios).is_some()),
+        Rule::ClaimedUtilisation => Ok(has_claimed_utilisation(graphs, dossier)),
+        Rule::NearHorizon => Ok(horizon_of(graphs, ratios) <= GREATEST_HORIZON),
+        Rule::OrderedFronts => Ok(are_in_order(graphs, fronts, near_horizon(graphs, ratios))),
+        Rule::CoveredOpenings => Ok(have_openings(graphs, fronts, near_horizon(graphs, ratios))),
+        Rule::CoveredExtensions => Ok(are_closed(graphs, fronts, near_horizon(graphs, ratios))),
+        Rule::Room => have_room(alloc, graphs, fronts, near_horizon(graphs, ratios)),
+        Rule::LegalReleases => Ok(legal(&dossier.set, releases)),
+        Rule::LeastMiss => is_least_miss(
+            alloc,
+            &dossier.set,
+            dossier.policy,
+            releases,
+            miss_of(dossier),
+        ),
+        Rule::KnownKind => Ok(false),
+    }
+}
+
+// Whether the utilisation of the ratios is below one for a yes, and one for a claim of that.
+fn has_claimed_utilisation(graphs: &Graphs, dossier: &Dossier) -> bool
+    requires graphs { graphs.now ≡ graphs_of dossier.now.set.tasks }
+    requires next { IsNext dossier.now ClaimedUtilisation }
+    ensures { IsTrue result ↔ HasClaimedUtilisation dossier.now.evidence }
+{
+    graphs.count();
+    let ratios = ratios_of(dossier);
+    match &dossier.evidence {
+        Evidence::EdfYes { .. } => is_below_one(ratios),
+        Evidence::UtilisationOne { .. } => is_one(ratios),
+        _ => true,
+    }
+}

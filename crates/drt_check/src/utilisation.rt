@@ -1,0 +1,59 @@
+//! What claimed ratios come to: whether their utilisation is the claimed one, and the horizon that they give.
+ghost use Rattle.std.specs.Prelude.{◌≡◌, ◌≤◌, ◌^◌, ◌↔◌, All, IsTrue, length};
+ghost use Rattle.drt_evidence.specs.Claims.{HaveUtilisationBelowOne, HaveUtilisationOne, IsFine, IsHorizon};
+ghost use Rattle.drt_evidence.specs.Ranges.{IsInRangeRatio};
+ghost use Rattle.drt_check.specs.Deciding.{HaveHorizon, HaveNearHorizon};
+
+use crate::horizons::horizon;
+use crate::scales::{rate, scale};
+use drt_evidence::RatioClaim;
+use drt_graph::Graphs;
+
+/// Whether the utilisation of the ratios is below one.
+pub fn is_below_one(ratios: &[RatioClaim]) -> bool
+    requires in_range { All IsInRangeRatio ratios.now }
+    requires few { length ratios.now ≤ 32 }
+    requires fine { IsFine ratios.now }
+    ensures { IsTrue result ↔ HaveUtilisationBelowOne ratios.now }
+{
+    match scale(ratios) {
+        Some(common) => rate(ratios, common) < common as u128,
+        None => unreachable!(),
+    }
+}
+
+/// Whether the utilisation of the ratios is one.
+pub fn is_one(ratios: &[RatioClaim]) -> bool
+    requires in_range { All IsInRangeRatio ratios.now }
+    requires few { length ratios.now ≤ 32 }
+    requires fine { IsFine ratios.now }
+    ensures { IsTrue result ↔ HaveUtilisationOne ratios.now }
+{
+    match scale(ratios) {
+        Some(common) => rate(ratios, common) == common as u128,
+        None => unreachable!(),
+    }
+}
+
+/// The horizon that the ratios and potentials give.
+pub fn horizon_of(graphs: &Graphs, ratios: &[RatioClaim]) -> u128
+    requires in_range { All IsInRangeRatio ratios.now }
+    requires given { HaveHorizon graphs.now ratios.now }
+    ensures { IsHorizon graphs.now ratios.now result }
+{
+    graphs.count();
+    match scale(ratios) {
+        Some(common) => horizon(graphs, ratios, common, rate(ratios, common)),
+        None => unreachable!(),
+    }
+}
+
+/// That horizon, where it is known to be at most 2^40 ticks.
+pub fn near_horizon(graphs: &Graphs, ratios: &[RatioClaim]) -> u64
+    requires in_range { All IsInRangeRatio ratios.now }
+    requires given { HaveHorizon graphs.now ratios.now }
+    requires near { HaveNearHorizon graphs.now ratios.now }
+    ensures { IsHorizon graphs.now ratios.now result }
+{
+    horizon_of(graphs, ratios) as u64
+}

@@ -1,0 +1,9 @@
+//! Tests of the checker's judgements: dossiers by hand, true and hostile, and dossiers with one line changed.
+#![tactic(auto)]
+
+#[cfg(test)]
+mod given;
+#[cfg(test)]
+mod line_tests;
+#[cfg(test)]
+mod tests;

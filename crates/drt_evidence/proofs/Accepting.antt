@@ -1,0 +1,125 @@
+-- When evidence of each kind is accepted: what its rules ask, as a record of its kind, is enough.
+use Rattle.std.proofs.Common.{◌≡◌, ℕ, ◌≤◌, ◌^◌, List, refl}
+use Rattle.drt_model.specs.Constrained.{AreConstrained}
+use Rattle.drt_model.specs.Contents.{Contents}
+use Rattle.drt_model.specs.Legal.{IsLegal}
+use Rattle.drt_model.specs.Misses.{IsLeastMiss}
+use Rattle.drt_model.specs.Schedulable.{jobs_of}
+use Rattle.drt_model.specs.declared.jobs.Miss.{Miss}
+use Rattle.drt_model.specs.declared.jobs.Policy.{Policy}
+use Rattle.drt_model.specs.declared.jobs.Policy.TheVariants.{Edf, Fixed}
+use Rattle.drt_model.specs.declared.jobs.Release.{Release}
+use Rattle.drt_model.specs.declared.tasks.Task.{Task}
+use Rattle.drt_evidence.specs.Claims.{graphs_of, Each, IsClaimPerTask, AreLowest, HavePotentials, HaveFittingPotentials, HaveClosedCycles}
+use Rattle.drt_evidence.specs.Claims.{HaveTightCycles, IsFine, HaveUtilisationBelowOne, HaveUtilisationOne, IsHorizon}
+use Rattle.drt_evidence.specs.Fronts.{IsOrdered, HasOpenings, IsClosedFront, HaveRoom}
+use Rattle.drt_evidence.specs.Rules.{Accepts, Applies, Keeps}
+use Rattle.drt_evidence.specs.Statement.{Statement}
+use Rattle.drt_evidence.specs.declared.evidence.Evidence.{Evidence}
+use Rattle.drt_evidence.specs.declared.evidence.Evidence.TheVariants.{EdfYes, EdfNo, UtilisationOne, FixedNo}
+use Rattle.drt_evidence.specs.declared.evidence.FrontEntry.{FrontEntry}
+use Rattle.drt_evidence.specs.declared.evidence.RatioClaim.{RatioClaim}
+use Rattle.drt_evidence.specs.declared.rule.Rule.{Rule}
+use Rattle.drt_evidence.specs.declared.rule.Rule.TheVariants.{ConstrainedDeadlines, KindOfPolicy, RatioPerTask, LowestTerms, PotentialPerVertex, FittingPotentials}
+use Rattle.drt_evidence.specs.declared.rule.Rule.TheVariants.{ClosedCycles, TightCycles, FineScale, ClaimedUtilisation, NearHorizon, OrderedFronts}
+use Rattle.drt_evidence.specs.declared.rule.Rule.TheVariants.{CoveredOpenings, CoveredExtensions, Room, LegalReleases, LeastMiss}
+
+-- A set under a policy with this evidence.
+abbrev pub statement : Policy → Contents → Evidence → Statement
+statement policy set evidence = record { policy = policy; set = set; evidence = evidence }
+
+-- What the rules 3 to 9 ask.
+pub record AreRatioClaims (tasks : List Task) (claims : List RatioClaim) : Type 0 where
+  pub per_task : IsClaimPerTask tasks claims
+  pub lowest : AreLowest claims
+  pub counted : HavePotentials (graphs_of tasks) claims
+  pub fits : HaveFittingPotentials (graphs_of tasks) claims
+  pub closed : HaveClosedCycles (graphs_of tasks) claims
+  pub tight : HaveTightCycles (graphs_of tasks) claims
+  pub fine : IsFine claims
+
+-- What the rules 11 to 15 ask at the horizon.
+pub record AreFrontClaims (tasks : List Task) (bound : ℕ) (fronts : List (List FrontEntry)) : Type 0 where
+  pub near : bound ≤ 2 ^ 40
+  pub ordered : Each (IsOrdered bound) (graphs_of tasks) fronts
+  pub openings : Each (HasOpenings bound) (graphs_of tasks) fronts
+  pub closed : Each (IsClosedFront bound) (graphs_of tasks) fronts
+  pub room : HaveRoom (graphs_of tasks) fronts
+
+-- What the rules from 3 on ask of a yes of EDF.
+pub record IsEdfYes (tasks : List Task) (ratios : List RatioClaim) (fronts : List (List FrontEntry)) : Type 0 where
+  pub claims : AreRatioClaims tasks ratios
+  pub below : HaveUtilisationBelowOne ratios
+  pub bound : ℕ
+  pub is_bound : IsHorizon (graphs_of tasks) ratios bound
+  pub fronts_are : AreFrontClaims tasks bound fronts
+
+-- What they ask of a utilisation of one.
+pub record IsUtilisationOne (tasks : List Task) (ratios : List RatioClaim) : Type 0 where
+  pub claims : AreRatioClaims tasks ratios
+  pub one : HaveUtilisationOne ratios
+
+-- What they ask of a no.
+pub record IsRefutation (policy : Policy) (tasks : List Task) (releases : List Release) (miss : Miss) : Type 0 where
+  pub legal : IsLegal tasks releases
+  pub misses : IsLeastMiss policy (jobs_of tasks releases) miss
+
+pub yes_accepted : (set : Contents) (ratios : List RatioClaim) (fronts : List (List FrontEntry)) → AreConstrained set.tasks → IsEdfYes set.tasks ratios fronts
+    → Accepts (statement Edf set (EdfYes ratios fronts))
+yes_accepted set ratios fronts constrained is = record { claims = λ e. absurd (cc); keeps = keeps }
+  where
+    keeps : (rule : Rule) → Applies rule (EdfYes ratios fronts) → Keeps rule (statement Edf set (EdfYes ratios fronts))
+    keeps ConstrainedDeadlines a = constrained
+    keeps KindOfPolicy a = refl
+    keeps RatioPerTask a = is.claims.per_task
+    keeps LowestTerms a = is.claims.lowest
+    keeps PotentialPerVertex a = is.claims.counted
+    keeps FittingPotentials a = is.claims.fits
+    keeps ClosedCycles a = is.claims.closed
+    keeps TightCycles a = is.claims.tight
+    keeps FineScale a = is.claims.fine
+    keeps ClaimedUtilisation a = is.below
+    keeps NearHorizon a = (is.bound, is.is_bound, is.fronts_are.near)
+    keeps OrderedFronts a = (is.bound, is.is_bound, is.fronts_are.ordered)
+    keeps CoveredOpenings a = (is.bound, is.is_bound, is.fronts_are.openings)
+    keeps CoveredExtensions a = (is.bound, is.is_bound, is.fronts_are.closed)
+    keeps Room a = is.fronts_are.room
+    keeps other a = absurd a
+
+pub one_accepted : (set : Contents) (ratios : List RatioClaim) → AreConstrained set.tasks → IsUtilisationOne set.tasks ratios → Accepts (statement Edf set (UtilisationOne ratios))
+one_accepted set ratios constrained is = record { claims = λ e. absurd (cc); keeps = keeps }
+  where
+    keeps : (rule : Rule) → Applies rule (UtilisationOne ratios) → Keeps rule (statement Edf set (UtilisationOne ratios))
+    keeps ConstrainedDeadlines a = constrained
+    keeps KindOfPolicy a = refl
+    keeps RatioPerTask a = is.claims.per_task
+    keeps LowestTerms a = is.claims.lowest
+    keeps PotentialPerVertex a = is.claims.counted
+    keeps FittingPotentials a = is.claims.fits
+    keeps ClosedCycles a = is.claims.closed
+    keeps TightCycles a = is.claims.tight
+    keeps FineScale a = is.claims.fine
+    keeps ClaimedUtilisation a = is.one
+    keeps other a = absurd a
+
+pub edf_no_accepted : (set : Contents) (releases : List Release) (miss : Miss) → AreConstrained set.tasks → IsRefutation Edf set.tasks releases miss
+    → Accepts (statement Edf set (EdfNo releases miss))
+edf_no_accepted set releases miss constrained is = record { claims = λ e. absurd (cc); keeps = keeps }
+  where
+    keeps : (rule : Rule) → Applies rule (EdfNo releases miss) → Keeps rule (statement Edf set (EdfNo releases miss))
+    keeps ConstrainedDeadlines a = constrained
+    keeps KindOfPolicy a = refl
+    keeps LegalReleases a = is.legal
+    keeps LeastMiss a = is.misses
+    keeps other a = absurd a
+
+pub fixed_no_accepted : (set : Contents) (releases : List Release) (miss : Miss) → AreConstrained set.tasks → IsRefutation Fixed set.tasks releases miss
+    → Accepts (statement Fixed set (FixedNo releases miss))
+fixed_no_accepted set releases miss constrained is = record { claims = λ e. absurd (cc); keeps = keeps }
+  where
+    keeps : (rule : Rule) → Applies rule (FixedNo releases miss) → Keeps rule (statement Fixed set (FixedNo releases miss))
+    keeps ConstrainedDeadlines a = constrained
+    keeps KindOfPolicy a = refl
+    keeps LegalReleases a = is.legal
+    keeps LeastMiss a = is.misses
+    keeps other a = absurd a

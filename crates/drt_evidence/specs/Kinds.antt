@@ -1,0 +1,64 @@
+-- The kinds of evidence, and what each has.
+use Rattle.std.specs.Prelude.{◌≡◌, List, []}
+use Rattle.drt_model.specs.declared.jobs.Miss.{Miss}
+use Rattle.drt_model.specs.declared.jobs.Policy.{Policy}
+use Rattle.drt_model.specs.declared.jobs.Policy.TheVariants.{Edf, Fixed}
+use Rattle.drt_model.specs.declared.jobs.Release.{Release}
+use Rattle.drt_evidence.specs.declared.evidence.Evidence.{Evidence}
+use Rattle.drt_evidence.specs.declared.evidence.Evidence.TheVariants.{EdfYes, EdfNo, UtilisationOne, FixedYes, FixedNo, Undecided}
+use Rattle.drt_evidence.specs.declared.evidence.FrontEntry.{FrontEntry}
+use Rattle.drt_evidence.specs.declared.evidence.RatioClaim.{RatioClaim}
+
+-- The kind of the evidence is one of the policy's.
+abbrev pub IsOfPolicy : Policy → Evidence → Type 0
+IsOfPolicy policy (EdfYes ratios fronts) = policy ≡ Edf
+IsOfPolicy policy (EdfNo releases miss) = policy ≡ Edf
+IsOfPolicy policy (UtilisationOne ratios) = policy ≡ Edf
+IsOfPolicy policy (FixedYes trees proofs) = policy ≡ Fixed
+IsOfPolicy policy (FixedNo releases miss) = policy ≡ Fixed
+IsOfPolicy policy Undecided = Unit {0}
+
+-- The evidence has ratios: it is a yes of EDF or a utilisation of one.
+abbrev pub HasRatios : Evidence → Type 0
+HasRatios (EdfYes ratios fronts) = Unit {0}
+HasRatios (UtilisationOne ratios) = Unit {0}
+HasRatios other = ⊥
+
+-- The evidence has fronts: it is a yes of EDF.
+abbrev pub HasFronts : Evidence → Type 0
+HasFronts (EdfYes ratios fronts) = Unit {0}
+HasFronts other = ⊥
+
+-- The evidence has releases: it is a no.
+abbrev pub HasReleases : Evidence → Type 0
+HasReleases (EdfNo releases miss) = Unit {0}
+HasReleases (FixedNo releases miss) = Unit {0}
+HasReleases other = ⊥
+
+-- The evidence has trees: it is a yes of fixed priorities.
+abbrev pub HasTrees : Evidence → Type 0
+HasTrees (FixedYes trees proofs) = Unit {0}
+HasTrees other = ⊥
+
+-- The ratios of evidence that has some.
+abbrev pub ratios_of : Evidence → List RatioClaim
+ratios_of (EdfYes ratios fronts) = ratios
+ratios_of (UtilisationOne ratios) = ratios
+ratios_of other = []
+
+-- The fronts of evidence that has some.
+abbrev pub fronts_of : Evidence → List (List FrontEntry)
+fronts_of (EdfYes ratios fronts) = fronts
+fronts_of other = []
+
+-- The releases of evidence that has some.
+abbrev pub releases_of : Evidence → List Release
+releases_of (EdfNo releases miss) = releases
+releases_of (FixedNo releases miss) = releases
+releases_of other = []
+
+-- The miss of evidence that has releases.
+abbrev pub miss_of : Evidence → Miss
+miss_of (EdfNo releases miss) = miss
+miss_of (FixedNo releases miss) = miss
+miss_of other = record { task = 0; index = 0; deadline = 0 }
