@@ -13,7 +13,7 @@ use Rattle.drt_evidence.specs.declared.evidence.RatioClaim.{RatioClaim}
 use Rattle.drt_evidence.specs.declared.rule.Rule.TheVariants.{RatioPerTask, LowestTerms, PotentialPerVertex, FittingPotentials, ClosedCycles, TightCycles}
 use Rattle.drt_evidence.specs.declared.rule.Rule.TheVariants.{FineScale, ClaimedUtilisation, NearHorizon, OrderedFronts, CoveredOpenings, CoveredExtensions, Room}
 use Rattle.drt_evidence.proofs.Accepting.{AreRatioClaims, AreFrontClaims, IsEdfYes, IsUtilisationOne, statement}
-use Rattle.drt_check.proofs.Denominators.{scale_same}
+use Rattle.drt_graph.proofs.Scales.{scale_same}
 
 -- There is one horizon.
 pub horizon_same : (graphs : List Digraph) (ratios : List RatioClaim) (b c : ℕ) → IsHorizon graphs ratios b → IsHorizon graphs ratios c → b ≡ c

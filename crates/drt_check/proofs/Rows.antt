@@ -20,7 +20,7 @@ use Rattle.drt_evidence.specs.declared.rule.Rule.TheVariants.{RatioPerTask, Fine
 use Rattle.drt_check.specs.Deciding.{HaveHorizon, HaveNearHorizon, IsNext}
 use Rattle.drt_check.specs.FrontOrder.{AreInOrder}
 use Rattle.drt_check.proofs.Accepted.{at_horizon}
-use Rattle.drt_check.proofs.Denominators.{scale_same}
+use Rattle.drt_graph.proofs.Scales.{scale_same}
 use Rattle.drt_check.proofs.Eachs.{each_count}
 
 -- Evidence with fronts has ratios, and the utilisation that it claims is below one.
