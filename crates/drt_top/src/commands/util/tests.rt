@@ -43,11 +43,12 @@ fn task(
 // What `util` says of a set of such tasks.
 fn text_of(
     alloc: Global,
-    tasks: &[(&str, u32, u32, u32)],
+    tasks: &[(&str, u32, u32, u32, u32)],
 ) -> Result<Result<Row<u8>, Unmade>, Fail> {
     let mut list = Vec::new(alloc);
-    for (i, (called, wcet, deadline, sep)) in tasks.iter().enumerate() {
-        list.push(task(alloc, called, i as u32 + 1, *wcet, *deadline, *sep)?)?;
+    for i in 0..tasks.len() {
+        let (called, priority, wcet, deadline, sep) = tasks[i];
+        list.push(task(alloc, called, priority, wcet, deadline, sep)?)?;
     }
     let set = task_set(1, Row::from_vec(list)).ok_or("within the limits")?;
     match drt_graph::check(alloc, &set) {
@@ -57,7 +58,7 @@ fn text_of(
 }
 
 // Whether that is this text.
-fn is_text(alloc: Global, tasks: &[(&str, u32, u32, u32)], want: &str) -> Result<bool, Fail> {
+fn is_text(alloc: Global, tasks: &[(&str, u32, u32, u32, u32)], want: &str) -> Result<bool, Fail> {
     match text_of(alloc, tasks)? {
         Ok(text) => Ok(text.as_slice() == want.as_bytes()),
         Err(_) => Ok(false),
@@ -68,15 +69,15 @@ fn is_text(alloc: Global, tasks: &[(&str, u32, u32, u32)], want: &str) -> Result
 fn ratios_and_their_total_are_in_lowest_terms(rt: HostRuntime) -> Result<(), Fail> {
     let cases = [
         (
-            [("T1", 2u32, 4u32, 5u32), ("T2", 4, 7, 7)],
+            [("T1", 1u32, 2u32, 4u32, 5u32), ("T2", 2, 4, 7, 7)],
             "T1 2/5\nT2 4/7\ntotal 34/35\n",
         ),
         (
-            [("T1", 2, 4, 4), ("T2", 3, 6, 6)],
+            [("T1", 1, 2, 4, 4), ("T2", 2, 3, 6, 6)],
             "T1 1/2\nT2 1/2\ntotal 1/1\n",
         ),
         (
-            [("T", 6, 5, 0), ("can", 10, 50, 50)],
+            [("T", 1, 6, 5, 0), ("can", 2, 10, 50, 50)],
             "T 0/1\ncan 1/5\ntotal 1/5\n",
         ),
     ];
@@ -89,10 +90,10 @@ fn ratios_and_their_total_are_in_lowest_terms(rt: HostRuntime) -> Result<(), Fai
 #[test]
 fn a_scale_beyond_2_to_the_60_is_refused(rt: HostRuntime) -> Result<(), Fail> {
     let tasks = [
-        ("T1", 1u32, 1u32, 1000000u32),
-        ("T2", 1, 1, 999999),
-        ("T3", 1, 1, 999998),
-        ("T4", 1, 1, 999997),
+        ("T1", 1u32, 1u32, 1u32, 1000000u32),
+        ("T2", 2, 1, 1, 999999),
+        ("T3", 3, 1, 1, 999998),
+        ("T4", 4, 1, 1, 999997),
     ];
     let refused = matches!(
         text_of(rt.alloc(), tasks.as_slice())?,
