@@ -1,5 +1,5 @@
 -- What accepted evidence keeps, as the record of its kind.
-use Rattle.std.proofs.Common.{◌≡◌, ℕ, ◌≤◌, List, sym, ap, ◌∙◌, subst}
+use Rattle.std.proofs.Common.{◌≡◌, ℕ, List, sym, ap, ◌∙◌, subst}
 use Rattle.drt_model.specs.Contents.{Contents}
 use Rattle.drt_model.specs.Digraph.{Digraph}
 use Rattle.drt_model.specs.Horizon.{horizon}
@@ -12,7 +12,7 @@ use Rattle.drt_evidence.specs.declared.evidence.FrontEntry.{FrontEntry}
 use Rattle.drt_evidence.specs.declared.evidence.RatioClaim.{RatioClaim}
 use Rattle.drt_evidence.specs.declared.rule.Rule.TheVariants.{RatioPerTask, LowestTerms, PotentialPerVertex, FittingPotentials, ClosedCycles, TightCycles}
 use Rattle.drt_evidence.specs.declared.rule.Rule.TheVariants.{FineScale, ClaimedUtilisation, NearHorizon, OrderedFronts, CoveredOpenings, CoveredExtensions, Room}
-use Rattle.drt_evidence.proofs.Accepting.{AreRatioClaims, AreFrontClaims, IsEdfYes, IsUtilisationOne, statement}
+use Rattle.drt_evidence.proofs.Accepting.{IsEdfYes, IsUtilisationOne, statement}
 use Rattle.drt_graph.proofs.Scales.{scale_same}
 
 -- There is one horizon.

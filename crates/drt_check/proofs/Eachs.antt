@@ -13,25 +13,30 @@ each_count R [] (x ∷ xs) each = absurd each
 each_count R (g ∷ graphs) [] each = absurd each
 each_count R (g ∷ graphs) (x ∷ xs) each = ap suc (each_count R graphs xs each.1)
 
-pub each_at : {A : Type 0} (R : Digraph → A → Type 0) (graphs : List Digraph) (xs : List A) (k : ℕ) (d : A) → length xs ≡ length graphs → k < length graphs → Each R graphs xs → R (graph_of graphs k) (get_or xs k d)
+pub each_at : {A : Type 0} (R : Digraph → A → Type 0) (graphs : List Digraph) (xs : List A) (k : ℕ) (d : A) → length xs ≡ length graphs → k < length graphs
+    → Each R graphs xs → R (graph_of graphs k) (get_or xs k d)
 each_at R [] xs k d e l each = absurd (omega arith)
 each_at R (g ∷ graphs) [] k d e l each = absurd (omega arith)
 each_at R (g ∷ graphs) (x ∷ xs) zero d e l each = each.0
 each_at R (g ∷ graphs) (x ∷ xs) (suc k) d e l each = each_at R graphs xs k d (omega arith) (omega arith) each.1
 
-pub each_from : {A : Type 0} (R : Digraph → A → Type 0) (graphs : List Digraph) (xs : List A) → length xs ≡ length graphs → ((k : ℕ) (d : A) → k < length graphs → R (graph_of graphs k) (get_or xs k d)) → Each R graphs xs
+pub each_from : {A : Type 0} (R : Digraph → A → Type 0) (graphs : List Digraph) (xs : List A) → length xs ≡ length graphs
+    → ((k : ℕ) (d : A) → k < length graphs → R (graph_of graphs k) (get_or xs k d)) → Each R graphs xs
 each_from R [] [] e all = tt
 each_from R [] (x ∷ xs) e all = absurd (omega arith)
 each_from R (g ∷ graphs) [] e all = absurd (omega arith)
 each_from R (g ∷ graphs) (x ∷ xs) e all = (all 0 x (omega arith), each_from R graphs xs (omega arith) (λ k d l. all (suc k) d (omega arith)))
 
 -- What holds of each, holds at this place.
-pub each_here : {A : Type 0} (R : Digraph → A → Type 0) (graphs : List Digraph) (xs : List A) (i : ℕ) (g : Digraph) (x : A) → length xs ≡ length graphs → i < length graphs → g ≡ graph_of graphs i → x ≡ get_or xs i x → Each R graphs xs → R g x
+pub each_here : {A : Type 0} (R : Digraph → A → Type 0) (graphs : List Digraph) (xs : List A) (i : ℕ) (g : Digraph) (x : A) → length xs ≡ length graphs
+    → i < length graphs → g ≡ graph_of graphs i → x ≡ get_or xs i x → Each R graphs xs → R g x
 each_here {A} R graphs xs i g x e l at_g at_x each =
     subst (λ (h : Digraph). R h x) (sym at_g) (subst (λ (y : A). R (graph_of graphs i) y) (sym at_x) (each_at R graphs xs i x e l each))
 
 -- One more place.
-pub here_more : {A : Type 0} (R : Digraph → A → Type 0) (graphs : List Digraph) (xs : List A) (i : ℕ) (g : Digraph) (x : A) → i < length xs → g ≡ graph_of graphs i → x ≡ get_or xs i x → R g x → ((k : ℕ) (d : A) → k < i → R (graph_of graphs k) (get_or xs k d)) → (k : ℕ) (d : A) → k < i + 1 → R (graph_of graphs k) (get_or xs k d)
+pub here_more : {A : Type 0} (R : Digraph → A → Type 0) (graphs : List Digraph) (xs : List A) (i : ℕ) (g : Digraph) (x : A) → i < length xs
+    → g ≡ graph_of graphs i → x ≡ get_or xs i x → R g x → ((k : ℕ) (d : A) → k < i → R (graph_of graphs k) (get_or xs k d)) → (k : ℕ) (d : A) → k < i + 1
+    → R (graph_of graphs k) (get_or xs k d)
 here_more {A} R graphs xs i g x l at_g at_x here so_far k d m = go (cases_lt k i)
   where
     go : (k < i) ⊎ (i ≤ k) → R (graph_of graphs k) (get_or xs k d)

@@ -7,7 +7,8 @@ use Rattle.drt_model.specs.Digraph.{Digraph}
 use Rattle.drt_evidence.specs.Claims.{Each}
 
 -- It holds of one place more.
-pub all_more : {X : Type 0} (P : X → Type 0) (xs : List X) (i : ℕ) (x : X) → i < length xs → x ≡ get_or xs i x → P x → ((k : ℕ) (d : X) → k < i → P (get_or xs k d)) → (k : ℕ) (d : X) → k < i + 1 → P (get_or xs k d)
+pub all_more : {X : Type 0} (P : X → Type 0) (xs : List X) (i : ℕ) (x : X) → i < length xs → x ≡ get_or xs i x → P x
+    → ((k : ℕ) (d : X) → k < i → P (get_or xs k d)) → (k : ℕ) (d : X) → k < i + 1 → P (get_or xs k d)
 all_more P xs i x l is p below k d m = go (cases_lt k i)
   where
     go : (k < i) ⊎ (i ≤ k) → P (get_or xs k d)
@@ -24,17 +25,22 @@ all_at P xs i x l is all = subst (λ y. P y) (sym is) (all i x l)
 pub from_start : {A : Type 0} (R : Digraph → A → Type 0) (graphs : List Digraph) (xs : List A) → Each R graphs xs ↔ Each R (drop 0 graphs) (drop 0 xs)
 from_start R graphs xs = (λ each. each, λ each. each)
 
-pub from_next : {A : Type 0} (R : Digraph → A → Type 0) (graphs : List Digraph) (xs : List A) (i : ℕ) (g : Digraph) (x : A) → drop i graphs ≡ g ∷ drop (i + 1) graphs → drop i xs ≡ x ∷ drop (i + 1) xs → R g x → (Each R graphs xs ↔ Each R (drop i graphs) (drop i xs)) → Each R graphs xs ↔ Each R (drop (i + 1) graphs) (drop (i + 1) xs)
+pub from_next : {A : Type 0} (R : Digraph → A → Type 0) (graphs : List Digraph) (xs : List A) (i : ℕ) (g : Digraph) (x : A)
+    → drop i graphs ≡ g ∷ drop (i + 1) graphs → drop i xs ≡ x ∷ drop (i + 1) xs → R g x → (Each R graphs xs ↔ Each R (drop i graphs) (drop i xs))
+    → Each R graphs xs ↔ Each R (drop (i + 1) graphs) (drop (i + 1) xs)
 from_next R graphs xs i g x e f r from =
     let rest = rw (e, f) at from in
     (λ each. (rest.0 each).1, λ each. rest.1 (r, each))
 
-pub from_none : {A : Type 0} (R : Digraph → A → Type 0) (graphs : List Digraph) (xs : List A) (i : ℕ) (g : Digraph) (x : A) → drop i graphs ≡ g ∷ drop (i + 1) graphs → drop i xs ≡ x ∷ drop (i + 1) xs → (R g x → ⊥) → (Each R graphs xs ↔ Each R (drop i graphs) (drop i xs)) → Each R graphs xs → ⊥
+pub from_none : {A : Type 0} (R : Digraph → A → Type 0) (graphs : List Digraph) (xs : List A) (i : ℕ) (g : Digraph) (x : A)
+    → drop i graphs ≡ g ∷ drop (i + 1) graphs → drop i xs ≡ x ∷ drop (i + 1) xs → (R g x → ⊥) → (Each R graphs xs ↔ Each R (drop i graphs) (drop i xs))
+    → Each R graphs xs → ⊥
 from_none R graphs xs i g x e f not from each =
     let rest = rw (e, f) at from in
     not (rest.0 each).0
 
-pub from_end : {A : Type 0} (R : Digraph → A → Type 0) (graphs : List Digraph) (xs : List A) (i : ℕ) → length graphs ≤ i → length xs ≤ i → (Each R graphs xs ↔ Each R (drop i graphs) (drop i xs)) → Each R graphs xs
+pub from_end : {A : Type 0} (R : Digraph → A → Type 0) (graphs : List Digraph) (xs : List A) (i : ℕ) → length graphs ≤ i → length xs ≤ i
+    → (Each R graphs xs ↔ Each R (drop i graphs) (drop i xs)) → Each R graphs xs
 from_end R graphs xs i l m from =
     let e : drop i graphs ≡ [] = drop_all i graphs l in
     let f : drop i xs ≡ [] = drop_all i xs m in

@@ -1,5 +1,5 @@
 -- What the rules of smaller numbers give to the next, and what its row decides.
-use Rattle.std.proofs.Common.{◌≡◌, ℕ, ◌<◌, ◌≤◌, ◌^◌, Bool, List, length, refl, sym, ap, ◌∙◌, subst, arith}
+use Rattle.std.proofs.Common.{◌≡◌, ℕ, ◌<◌, ◌≤◌, ◌^◌, Bool, List, length, sym, ◌∙◌, subst, arith}
 use Rattle.std.specs.Prelude.{◌↔◌, IsTrue, nat_le, nat_lt, nat_eq}
 use Rattle.std.proofs.lemmas.Bool.Decides.{nat_tests}
 use Rattle.std.proofs.lemmas.List.{length-map}
@@ -12,7 +12,7 @@ use Rattle.drt_evidence.specs.Kinds.{HasFronts, HasRatios, fronts_of, ratios_of}
 use Rattle.drt_evidence.specs.Rules.{HasClaimedUtilisation, Keeps, number_of}
 use Rattle.drt_evidence.specs.Statement.{Statement}
 use Rattle.drt_evidence.specs.declared.evidence.Evidence.{Evidence}
-use Rattle.drt_evidence.specs.declared.evidence.Evidence.TheVariants.{EdfYes, UtilisationOne}
+use Rattle.drt_evidence.specs.declared.evidence.Evidence.TheVariants.{EdfYes}
 use Rattle.drt_evidence.specs.declared.evidence.FrontEntry.{FrontEntry}
 use Rattle.drt_evidence.specs.declared.evidence.RatioClaim.{RatioClaim}
 use Rattle.drt_evidence.specs.declared.rule.Rule.{Rule}

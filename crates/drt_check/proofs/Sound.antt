@@ -1,7 +1,6 @@
 -- Accepted evidence is sound, kind by kind.
 use Rattle.std.proofs.Common.{◌≡◌, sym, subst}
 use Rattle.drt_busy.specs.Decide.{DeadlinesDecide}
-use Rattle.drt_model.specs.Limits.{IsTaskSet}
 use Rattle.drt_model.specs.Schedulable.{Schedulable}
 use Rattle.drt_model.specs.declared.jobs.Policy.{Policy}
 use Rattle.drt_model.specs.declared.jobs.Policy.TheVariants.{Edf}

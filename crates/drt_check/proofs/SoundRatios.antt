@@ -36,7 +36,8 @@ cycle_has g a b [] lowest closed tight = (closed, same_from_IsGcd a b b 1 (IsGcd
 cycle_has g a b (v ∷ vs) lowest closed tight = (closed.1, tight, some_of a closed.0)
 
 -- The claimed ratios are those of the graphs.
-pub ratios_are : (graphs : List Digraph) (claims : List RatioClaim) → length claims ≡ length graphs → AreLowest claims → HaveFittingPotentials graphs claims → HaveClosedCycles graphs claims → HaveTightCycles graphs claims → AreRatios graphs (fractions claims)
+pub ratios_are : (graphs : List Digraph) (claims : List RatioClaim) → length claims ≡ length graphs → AreLowest claims → HaveFittingPotentials graphs claims
+    → HaveClosedCycles graphs claims → HaveTightCycles graphs claims → AreRatios graphs (fractions claims)
 ratios_are [] [] count lowest fits closed tight = tt
 ratios_are [] (c ∷ claims) count lowest fits closed tight = absurd (omega arith)
 ratios_are (g ∷ graphs) [] count lowest fits closed tight = absurd (omega arith)

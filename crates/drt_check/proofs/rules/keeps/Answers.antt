@@ -1,10 +1,10 @@
-use Rattle.std.proofs.Common.{◌≡◌, ap, subst, arith}
+use Rattle.std.proofs.Common.{ap, subst, arith}
 use Rattle.drt_evidence.specs.Claims.{graphs_of, Each}
 use Rattle.drt_evidence.specs.Fronts.{HasOpenings, IsClosedFront}
 use Rattle.drt_evidence.specs.Kinds.{fronts_of, ratios_of}
 use Rattle.drt_evidence.specs.Statement.{Statement}
 use Rattle.drt_evidence.specs.declared.rule.Rule.TheVariants.{LowestTerms, PotentialPerVertex, FittingPotentials, ClosedCycles, TightCycles, NearHorizon}
-use Rattle.drt_evidence.specs.declared.rule.Rule.TheVariants.{OrderedFronts, CoveredOpenings, CoveredExtensions, Room, LegalReleases, LeastMiss}
+use Rattle.drt_evidence.specs.declared.rule.Rule.TheVariants.{OrderedFronts, CoveredOpenings, CoveredExtensions, Room, LegalReleases}
 use Rattle.drt_check.specs.Deciding.{IsNext}
 use Rattle.drt_check.proofs.Rows.{counted, decides, decides_at, decides_near, decides_order, given, in_order, near}
 use Rattle.drt_check.proofs.rules.keeps.Goals as goal
@@ -104,19 +104,23 @@ returns-in-LowestTerms c =
 
 pub returns-in-PotentialPerVertex : goal.returns-in-PotentialPerVertex
 returns-in-PotentialPerVertex c =
-    decides c.args.dossier.now c.args.rule PotentialPerVertex c.all_keep.result c.in-PotentialPerVertex.is (rw (c.ratios_of-ratios.ensures.value, c.requires.graphs) at c.all_keep.ensures)
+    decides c.args.dossier.now c.args.rule PotentialPerVertex c.all_keep.result c.in-PotentialPerVertex.is
+    (rw (c.ratios_of-ratios.ensures.value, c.requires.graphs) at c.all_keep.ensures)
 
 pub returns-in-FittingPotentials : goal.returns-in-FittingPotentials
 returns-in-FittingPotentials c =
-    decides c.args.dossier.now c.args.rule FittingPotentials c.all_keep-in-FittingPotentials.result c.in-FittingPotentials.is (rw (c.ratios_of-ratios.ensures.value, c.requires.graphs) at c.all_keep-in-FittingPotentials.ensures)
+    decides c.args.dossier.now c.args.rule FittingPotentials c.all_keep-in-FittingPotentials.result c.in-FittingPotentials.is
+    (rw (c.ratios_of-ratios.ensures.value, c.requires.graphs) at c.all_keep-in-FittingPotentials.ensures)
 
 pub returns-in-ClosedCycles : goal.returns-in-ClosedCycles
 returns-in-ClosedCycles c =
-    decides c.args.dossier.now c.args.rule ClosedCycles c.all_keep-in-ClosedCycles.result c.in-ClosedCycles.is (rw (c.ratios_of-ratios.ensures.value, c.requires.graphs) at c.all_keep-in-ClosedCycles.ensures)
+    decides c.args.dossier.now c.args.rule ClosedCycles c.all_keep-in-ClosedCycles.result c.in-ClosedCycles.is
+    (rw (c.ratios_of-ratios.ensures.value, c.requires.graphs) at c.all_keep-in-ClosedCycles.ensures)
 
 pub returns-in-TightCycles : goal.returns-in-TightCycles
 returns-in-TightCycles c =
-    decides c.args.dossier.now c.args.rule TightCycles c.all_keep-in-TightCycles.result c.in-TightCycles.is (rw (c.ratios_of-ratios.ensures.value, c.requires.graphs) at c.all_keep-in-TightCycles.ensures)
+    decides c.args.dossier.now c.args.rule TightCycles c.all_keep-in-TightCycles.result c.in-TightCycles.is
+    (rw (c.ratios_of-ratios.ensures.value, c.requires.graphs) at c.all_keep-in-TightCycles.ensures)
 
 pub returns-in-NearHorizon : goal.returns-in-NearHorizon
 returns-in-NearHorizon c =
@@ -138,7 +142,8 @@ returns-in-CoveredOpenings c =
     let is = rw (c.ratios_of-ratios.ensures.value, c.requires.graphs) at c.near_horizon-in-CoveredOpenings.ensures in
     let each = rw (c.fronts_of-fronts.ensures.value, c.requires.graphs) at c.have_openings.ensures in
     decides d c.args.rule CoveredOpenings c.have_openings.result c.in-CoveredOpenings.is
-    (decides_at (graphs_of d.set.tasks) (ratios_of d.evidence) c.near_horizon-in-CoveredOpenings.result is (λ n. Each (HasOpenings n) (graphs_of d.set.tasks) (fronts_of d.evidence)) c.have_openings.result each)
+    (decides_at (graphs_of d.set.tasks) (ratios_of d.evidence) c.near_horizon-in-CoveredOpenings.result is
+    (λ n. Each (HasOpenings n) (graphs_of d.set.tasks) (fronts_of d.evidence)) c.have_openings.result each)
 
 pub returns-in-CoveredExtensions : goal.returns-in-CoveredExtensions
 returns-in-CoveredExtensions c =
@@ -146,7 +151,8 @@ returns-in-CoveredExtensions c =
     let is = rw (c.ratios_of-ratios.ensures.value, c.requires.graphs) at c.near_horizon-in-CoveredExtensions.ensures in
     let each = rw (c.fronts_of-fronts.ensures.value, c.requires.graphs) at c.are_closed.ensures in
     decides d c.args.rule CoveredExtensions c.are_closed.result c.in-CoveredExtensions.is
-    (decides_at (graphs_of d.set.tasks) (ratios_of d.evidence) c.near_horizon-in-CoveredExtensions.result is (λ n. Each (IsClosedFront n) (graphs_of d.set.tasks) (fronts_of d.evidence)) c.are_closed.result each)
+    (decides_at (graphs_of d.set.tasks) (ratios_of d.evidence) c.near_horizon-in-CoveredExtensions.result is
+    (λ n. Each (IsClosedFront n) (graphs_of d.set.tasks) (fronts_of d.evidence)) c.are_closed.result each)
 
 pub returns-in-LeastMiss : goal.returns-in-LeastMiss
 returns-in-LeastMiss c =
