@@ -15,7 +15,6 @@ pub mod codes;
 pub mod cutting;
 mod effects;
 pub mod fault;
-mod faults;
 mod finishing;
 pub mod front;
 #[cfg(test)]
@@ -23,6 +22,7 @@ mod front_tests;
 pub mod laws;
 mod line;
 mod name_table;
+mod parsing;
 pub mod printing;
 mod reader;
 pub mod reading;
