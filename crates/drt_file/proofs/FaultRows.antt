@@ -90,18 +90,11 @@ by_order =
     ∷ (codes "# a comment\ndrt 2\ntask T\nvertex a 2 5\r\npriority 07\nedge a a 5\ntask U\n\nvertex a 1 9\npriority 1\nend\n# \u{7f}\n", None)
     ∷ []
 
-by_code_right : AreRight by_code
-unfolding with_run lines_after is_blank fields_after is_task is_vertex is_edge is_priority is_end numbers_of names_of is_first version_of has_task has_end own_lines lines_of_others has_task_named has_vertex_named has_edge_between others_have_priority is_no_head is_no_text is_of_no_kind has_wrong_length has_no_number is_out_of_range has_no_name is_task_again is_vertex_again names_no_vertex is_edge_again is_before_tasks is_task_too_many is_vertex_too_many is_edge_too_many is_second_priority is_priority_again table is_of_tasks is_tried first_code code_of first_faulty lines_of_task first_without text_table first_place fault_of is_skipped is_text is_digit is_name_byte is_name is_number value_after
-by_code_right = refl
-
-by_limit_right : AreRight by_limit
-unfolding with_run lines_after is_blank fields_after is_task is_vertex is_edge is_priority is_end numbers_of names_of is_first version_of has_task has_end own_lines lines_of_others has_task_named has_vertex_named has_edge_between others_have_priority is_no_head is_no_text is_of_no_kind has_wrong_length has_no_number is_out_of_range has_no_name is_task_again is_vertex_again names_no_vertex is_edge_again is_before_tasks is_task_too_many is_vertex_too_many is_edge_too_many is_second_priority is_priority_again table is_of_tasks is_tried first_code code_of first_faulty lines_of_task first_without text_table first_place fault_of is_skipped is_text is_digit is_name_byte is_name is_number value_after
-by_limit_right = refl
-
-by_edges_right : AreRight by_edges
-unfolding with_run lines_after is_blank fields_after is_task is_vertex is_edge is_priority is_end numbers_of names_of is_first version_of has_task has_end own_lines lines_of_others has_task_named has_vertex_named has_edge_between others_have_priority is_no_head is_no_text is_of_no_kind has_wrong_length has_no_number is_out_of_range has_no_name is_task_again is_vertex_again names_no_vertex is_edge_again is_before_tasks is_task_too_many is_vertex_too_many is_edge_too_many is_second_priority is_priority_again table is_of_tasks is_tried first_code code_of first_faulty lines_of_task first_without text_table first_place fault_of is_skipped is_text is_digit is_name_byte is_name is_number value_after
-by_edges_right = refl
-
-by_order_right : AreRight by_order
-unfolding with_run lines_after is_blank fields_after is_task is_vertex is_edge is_priority is_end numbers_of names_of is_first version_of has_task has_end own_lines lines_of_others has_task_named has_vertex_named has_edge_between others_have_priority is_no_head is_no_text is_of_no_kind has_wrong_length has_no_number is_out_of_range has_no_name is_task_again is_vertex_again names_no_vertex is_edge_again is_before_tasks is_task_too_many is_vertex_too_many is_edge_too_many is_second_priority is_priority_again table is_of_tasks is_tried first_code code_of first_faulty lines_of_task first_without text_table first_place fault_of is_skipped is_text is_digit is_name_byte is_name is_number value_after
-by_order_right = refl
+-- All of them are right.
+pub rows_right : AreRight by_code × AreRight by_limit × AreRight by_edges × AreRight by_order
+unfolding with_run lines_after is_blank fields_after is_task is_vertex is_edge is_priority is_end numbers_of names_of is_first version_of has_task has_end own_lines
+    lines_of_others has_task_named has_vertex_named has_edge_between others_have_priority is_no_head is_no_text is_of_no_kind has_wrong_length has_no_number
+    is_out_of_range has_no_name is_task_again is_vertex_again names_no_vertex is_edge_again is_before_tasks is_task_too_many is_vertex_too_many is_edge_too_many
+    is_second_priority is_priority_again table is_of_tasks is_tried first_code code_of first_faulty lines_of_task first_without text_table first_place fault_of is_skipped
+    is_text is_digit is_name_byte is_name is_number value_after
+rows_right = (refl, refl, refl, refl)

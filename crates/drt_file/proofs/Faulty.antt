@@ -158,7 +158,8 @@ judged_same n (Some c) s = inl (c, refl, refl)
 line_same : (n : ℕ) (ws : List Fields) (above : Option State) (line : List ℕ) → Follows ws above → Same n (code_of ws line) (line_step n above line (fields line))
 unfolding code_of line_step
 line_same n ws None line follows =
-    let e : first_code (is_tried ws) (table ws line (fields line)) ≡ told_head (head (fields line)) = ap (λ l. first_code (is_tried l) (table l line (fields line))) follows ∙ head_code line (fields line) ∙ head_same (fields line) in
+    let e : first_code (is_tried ws) (table ws line (fields line)) ≡ told_head (head (fields line))
+    = ap (λ l. first_code (is_tried l) (table l line (fields line))) follows ∙ head_code line (fields line) ∙ head_same (fields line) in
     subst (λ c. Same n c (headed n (head (fields line)))) (sym e) (headed_same n (head (fields line)))
 line_same n ws (Some s) line follows =
     subst (λ c. Same n c (line_step n (Some s) line (fields line))) (sym (code_same ws s line (fields line) follows))
@@ -174,7 +175,8 @@ lines_same (line ∷ ls) n ws above follows =
     go : (b : Bool) → first_faulty (n + 1) ws ls ≡ told (steps (n + 1) above ls)
         → ((mid : Option State) → Follows (ws ++ fields line ∷ []) mid → first_faulty (n + 1) (ws ++ fields line ∷ []) ls ≡ told (steps (n + 1) mid ls))
         → (c : Option ℕ) (r : Result (Option State) FileFault) → line_step n above line (fields line) ≡ r → Same n c r
-        → cond b (first_faulty (n + 1) ws ls) (elim c [ Some code ↦ Some (n, code) | None ↦ first_faulty (n + 1) (ws ++ fields line ∷ []) ls ]) ≡ told (cond b (Ok above) r >>= λ below. steps (n + 1) below ls)
+        → cond b (first_faulty (n + 1) ws ls) (elim c [ Some code ↦ Some (n, code) | None ↦ first_faulty (n + 1) (ws ++ fields line ∷ []) ls ])
+        ≡ told (cond b (Ok above) r >>= λ below. steps (n + 1) below ls)
     go true skip on c r at same = skip
     go false skip on c r at (inl (code, isc, isr)) = rw (isc, isr) refl
     go false skip on c r at (inr (mid, isc, isr)) = rw (isc, isr) (on mid (line_follows ws n above line (fields line) mid (at ∙ isr) follows))

@@ -26,6 +26,7 @@ pub mod NamesAbove
 pub mod Numbers
 pub mod Opened
 pub mod Ordered
+pub mod Parses
 pub mod Passing
 pub mod Places
 pub mod Printed

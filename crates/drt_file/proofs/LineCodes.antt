@@ -36,7 +36,8 @@ abbrev priority_rows : Bool → Bool → Bool → Bool → Bool → Option ℕ
 priority_rows inside number range second again = first_of ((5, not number) ∷ (6, not range) ∷ (12, not inside) ∷ (24, inside && second) ∷ (25, inside && again) ∷ [])
 
 -- Codes 3 and 4.
-kindless : (above : List Fields) (line : List ℕ) (words : Fields) (inside : Bool) → Open above line inside → is_of_no_kind above words ≡ true → first_code (is_tried above) (table above line words) ≡ Some 3
+kindless : (above : List Fields) (line : List ℕ) (words : Fields) (inside : Bool) → Open above line inside → is_of_no_kind above words ≡ true
+    → first_code (is_tried above) (table above line words) ≡ Some 3
 unfolding table first_code is_tried is_of_tasks is_no_head
 kindless above line words inside o e = rw (o.later, o.still, o.text, e) refl
 
@@ -110,7 +111,9 @@ priority_go true true true false false = refl
 task_codes : (above : List Fields) (line name : List ℕ) (inside : Bool) → Open above line inside
     → first_code (is_tried above) (table above line (task_word ∷ name ∷ []))
     ≡ task_rows (is_name name) (has_task_named name above) (nat_le (most_tasks (version_of above)) (count_by is_task above))
-unfolding table first_code first_of is_tried is_of_tasks is_no_head is_of_no_kind has_wrong_length has_no_number is_out_of_range has_no_name is_task_again is_vertex_again names_no_vertex is_edge_again is_before_tasks is_task_too_many is_vertex_too_many is_edge_too_many is_second_priority is_priority_again numbers_of names_of is_task is_vertex is_edge is_priority is_end
+unfolding table first_code first_of is_tried is_of_tasks is_no_head is_of_no_kind has_wrong_length has_no_number is_out_of_range has_no_name is_task_again is_vertex_again
+    names_no_vertex is_edge_again is_before_tasks is_task_too_many is_vertex_too_many is_edge_too_many is_second_priority is_priority_again numbers_of names_of is_task
+    is_vertex is_edge is_priority is_end
 task_codes above line name inside o =
     rw (o.later, o.still, o.text, o.within) (task_go inside (is_name name) (has_task_named name above) (nat_le (most_tasks (version_of above)) (count_by is_task above)))
 
@@ -118,7 +121,9 @@ vertex_codes : (above : List Fields) (line name wcet deadline : List ℕ) (insid
     → first_code (is_tried above) (table above line (vertex_word ∷ name ∷ wcet ∷ deadline ∷ []))
     ≡ vertex_rows inside (is_number wcet && is_number deadline) (is_in_range wcet && is_in_range deadline) (is_name name) (has_vertex_named name above)
     (nat_le (most_vertices (version_of above)) (count_by is_vertex (own_lines above)))
-unfolding table first_code first_of is_tried is_of_tasks is_no_head is_of_no_kind has_wrong_length has_no_number is_out_of_range has_no_name is_task_again is_vertex_again names_no_vertex is_edge_again is_before_tasks is_task_too_many is_vertex_too_many is_edge_too_many is_second_priority is_priority_again numbers_of names_of is_task is_vertex is_edge is_priority is_end
+unfolding table first_code first_of is_tried is_of_tasks is_no_head is_of_no_kind has_wrong_length has_no_number is_out_of_range has_no_name is_task_again is_vertex_again
+    names_no_vertex is_edge_again is_before_tasks is_task_too_many is_vertex_too_many is_edge_too_many is_second_priority is_priority_again numbers_of names_of is_task
+    is_vertex is_edge is_priority is_end
 vertex_codes above line name wcet deadline inside o =
     rw (o.later, o.still, o.text, o.within)
     (vertex_go inside (is_number wcet) (is_number deadline) (is_in_range wcet) (is_in_range deadline) (is_name name) (has_vertex_named name above)
@@ -128,7 +133,9 @@ edge_codes : (above : List Fields) (line from to sep : List ℕ) (inside : Bool)
     → first_code (is_tried above) (table above line (edge_word ∷ from ∷ to ∷ sep ∷ []))
     ≡ edge_rows inside (is_number sep) (is_in_range sep) (is_name from && is_name to) (not (has_vertex_named from above && has_vertex_named to above)) (has_edge_between from to above)
     (nat_le 256 (count_by is_edge (own_lines above)))
-unfolding table first_code first_of is_tried is_of_tasks is_no_head is_of_no_kind has_wrong_length has_no_number is_out_of_range has_no_name is_task_again is_vertex_again names_no_vertex is_edge_again is_before_tasks is_task_too_many is_vertex_too_many is_edge_too_many is_second_priority is_priority_again numbers_of names_of is_task is_vertex is_edge is_priority is_end
+unfolding table first_code first_of is_tried is_of_tasks is_no_head is_of_no_kind has_wrong_length has_no_number is_out_of_range has_no_name is_task_again is_vertex_again
+    names_no_vertex is_edge_again is_before_tasks is_task_too_many is_vertex_too_many is_edge_too_many is_second_priority is_priority_again numbers_of names_of is_task
+    is_vertex is_edge is_priority is_end
 edge_codes above line from to sep inside o =
     rw (o.later, o.still, o.text, o.within)
     (edge_go inside (is_number sep) (is_in_range sep) (is_name from) (is_name to) (not (has_vertex_named from above && has_vertex_named to above)) (has_edge_between from to above)
@@ -137,13 +144,17 @@ edge_codes above line from to sep inside o =
 priority_codes : (above : List Fields) (line number : List ℕ) (inside : Bool) → Open above line inside → version_of above ≡ 2
     → first_code (is_tried above) (table above line (priority_word ∷ number ∷ []))
     ≡ priority_rows inside (is_number number) (is_in_range number) (list_any is_priority (own_lines above)) (others_have_priority (value number) above)
-unfolding table first_code first_of is_tried is_of_tasks is_no_head is_of_no_kind has_wrong_length has_no_number is_out_of_range has_no_name is_task_again is_vertex_again names_no_vertex is_edge_again is_before_tasks is_task_too_many is_vertex_too_many is_edge_too_many is_second_priority is_priority_again numbers_of names_of is_task is_vertex is_edge is_priority is_end
+unfolding table first_code first_of is_tried is_of_tasks is_no_head is_of_no_kind has_wrong_length has_no_number is_out_of_range has_no_name is_task_again is_vertex_again
+    names_no_vertex is_edge_again is_before_tasks is_task_too_many is_vertex_too_many is_edge_too_many is_second_priority is_priority_again numbers_of names_of is_task
+    is_vertex is_edge is_priority is_end
 priority_codes above line number inside o two =
     rw (o.later, o.still, o.text, o.within, two)
     (priority_go inside (is_number number) (is_in_range number) (list_any is_priority (own_lines above)) (others_have_priority (value number) above))
 
 end_codes : (above : List Fields) (line : List ℕ) (inside : Bool) → Open above line inside → first_code (is_tried above) (table above line (end_word ∷ [])) ≡ None
-unfolding table first_code first_of is_tried is_of_tasks is_no_head is_of_no_kind has_wrong_length has_no_number is_out_of_range has_no_name is_task_again is_vertex_again names_no_vertex is_edge_again is_before_tasks is_task_too_many is_vertex_too_many is_edge_too_many is_second_priority is_priority_again numbers_of names_of is_task is_vertex is_edge is_priority is_end
+unfolding table first_code first_of is_tried is_of_tasks is_no_head is_of_no_kind has_wrong_length has_no_number is_out_of_range has_no_name is_task_again is_vertex_again
+    names_no_vertex is_edge_again is_before_tasks is_task_too_many is_vertex_too_many is_edge_too_many is_second_priority is_priority_again numbers_of names_of is_task
+    is_vertex is_edge is_priority is_end
 end_codes above line inside o = rw (o.later, o.still, o.text, o.within) (go inside)
   where
     go : (inside : Bool) → first_code (tried inside) ((1, false) ∷ (2, false) ∷ (3, false) ∷ (4, false) ∷ (5, false) ∷ (6, false) ∷ (7, false) ∷ (8, false) ∷ (9, false)
@@ -184,7 +195,8 @@ counted_same s = go s.current
     go None = refl
     go (Some d) = refl
 
-pub task_agrees : (ws : List Fields) (s : State) (line : List ℕ) (rest : Fields) (inside : Bool) → Open ws line inside → Shown ws s.version s.closed s.current → Agrees ws s line (task_word ∷ rest) kinds.Task
+pub task_agrees : (ws : List Fields) (s : State) (line : List ℕ) (rest : Fields) (inside : Bool) → Open ws line inside → Shown ws s.version s.closed s.current
+    → Agrees ws s line (task_word ∷ rest) kinds.Task
 unfolding kind_fault task_fault in_some_task in_task is_of_no_kind has_wrong_length is_task is_vertex is_edge is_priority is_end
 task_agrees ws s line [] inside o w = misshapen ws line (task_word ∷ []) inside o refl refl
 task_agrees ws s line (name ∷ more ∷ rest) inside o w = misshapen ws line (task_word ∷ name ∷ more ∷ rest) inside o refl (rw (longer task_word name more rest) refl)
@@ -196,7 +208,8 @@ task_agrees ws s line (name ∷ []) inside o w =
 
 -- The codes of the state, outside and inside of a task.
 vertex_in : (s : State) (d : Draft) (name wcet deadline : List ℕ) → s.current ≡ Some d → vertex_fault s (vertex_word ∷ name ∷ wcet ∷ deadline ∷ [])
-    ≡ vertex_rows true (is_number wcet && is_number deadline) (is_in_range wcet && is_in_range deadline) (is_name name) (has_vertex name d.vertices) (nat_le (most_vertices s.version) (length d.vertices))
+    ≡ vertex_rows true (is_number wcet && is_number deadline) (is_in_range wcet && is_in_range deadline) (is_name name) (has_vertex name d.vertices)
+    (nat_le (most_vertices s.version) (length d.vertices))
 unfolding vertex_fault in_task is_outside
 vertex_in s d name wcet deadline at = rw at refl
 
@@ -268,14 +281,19 @@ edge_agrees ws s line (from ∷ to ∷ sep ∷ []) None at o w =
     ∙ sym (edge_out s from to sep (not (has_vertex_named from ws && has_vertex_named to ws)) (has_edge_between from to ws) (nat_le 256 (count_by is_edge (own_lines ws))) at)
 edge_agrees ws s line (from ∷ to ∷ sep ∷ []) (Some d) at o w =
     let names = is_name from && is_name to in
+    let rows = edge_rows true (is_number sep) (is_in_range sep) names in
+    let many = nat_le 256 (count_by is_edge (own_lines ws)) in
+    let missing = not (has_vertex from d.vertices && has_vertex to d.vertices) in
+    let again = has_edge (place_of from d.vertices) (place_of to d.vertices) d.edges in
     edge_codes ws line from to sep true o
-    ∙ ap (λ b. edge_rows true (is_number sep) (is_in_range sep) names (not (b && has_vertex_named to ws)) (has_edge_between from to ws) (nat_le 256 (count_by is_edge (own_lines ws)))) (w.vertex_named from)
-    ∙ ap (λ b. edge_rows true (is_number sep) (is_in_range sep) names (not (has_vertex from d.vertices && b)) (has_edge_between from to ws) (nat_le 256 (count_by is_edge (own_lines ws)))) (w.vertex_named to)
-    ∙ ap (λ b. edge_rows true (is_number sep) (is_in_range sep) names (not (has_vertex from d.vertices && has_vertex to d.vertices)) b (nat_le 256 (count_by is_edge (own_lines ws)))) (w.edge_between from to)
-    ∙ ap (λ n. edge_rows true (is_number sep) (is_in_range sep) names (not (has_vertex from d.vertices && has_vertex to d.vertices)) (has_edge (place_of from d.vertices) (place_of to d.vertices) d.edges) (nat_le 256 n)) w.edges
+    ∙ ap (λ b. rows (not (b && has_vertex_named to ws)) (has_edge_between from to ws) many) (w.vertex_named from)
+    ∙ ap (λ b. rows (not (has_vertex from d.vertices && b)) (has_edge_between from to ws) many) (w.vertex_named to)
+    ∙ ap (λ b. rows missing b many) (w.edge_between from to)
+    ∙ ap (λ n. rows missing again (nat_le 256 n)) w.edges
     ∙ sym (edge_in s d from to sep at)
 
-pub priority_agrees : (ws : List Fields) (s : State) (line : List ℕ) (rest : Fields) (c : Option Draft) → s.current ≡ c → Open ws line (inside_of c) → version_of ws ≡ s.version → s.version ≡ 2 → ShownOf ws s c
+pub priority_agrees : (ws : List Fields) (s : State) (line : List ℕ) (rest : Fields) (c : Option Draft) → s.current ≡ c → Open ws line (inside_of c)
+    → version_of ws ≡ s.version → s.version ≡ 2 → ShownOf ws s c
     → Agrees ws s line (priority_word ∷ rest) kinds.Priority
 unfolding kind_fault priority_fault is_of_no_kind has_wrong_length is_task is_vertex is_edge is_priority is_end
 priority_agrees ws s line [] c at o v two w = misshapen ws line (priority_word ∷ []) (inside_of c) o (rw (v ∙ two) refl) refl

@@ -199,55 +199,6 @@ not_among_vertices s r name word tasks vertices has view same new =
     ap (λ w. list_any (λ n. bytes_eq n w) vertices) same ∙ ap (λ vs. list_any (λ n. bytes_eq n name) vs) has.of_vertices ∙ vertex_among s name
     ∙ ap (λ t. has_vertex name (own_vertices t)) view ∙ new
 
-task_of_words : (s : State) (ws : List (Bor (List ℕ))) (d : Bor (List ℕ)) → task_fault s (map (λ w. w.now) ws) ≡ None → in_some_task (λ x. bytes_eq x.name (slice_index_or ws 1 d).now) s ≡ false
-unfolding task_fault
-task_of_words s [] d e = absurd (cc)
-task_of_words s (a ∷ []) d e = absurd (cc)
-task_of_words s (a ∷ b ∷ []) d e =
-    let seven = passed _ _ e in
-    let eight = passed _ _ seven.1 in
-    eight.0
-task_of_words s (a ∷ b ∷ c ∷ more) d e = absurd (cc)
-
--- a task's name is new
-pub new_task : (k : Kind) (s : State) (ws : List (Bor (List ℕ))) (d : Bor (List ℕ)) → k ≡ kinds.Task → kind_fault k s (map (λ w. w.now) ws) ≡ None
-    → in_some_task (λ x. bytes_eq x.name (slice_index_or ws 1 d).now) s ≡ false
-unfolding kind_fault
-new_task k s ws d is e = task_of_words s ws d (subst (λ j. kind_fault j s (map (λ w. w.now) ws) ≡ None) is e)
-
-own_of : (s : State) (d : Draft) → s.current ≡ Some d → own_vertices s ≡ d.vertices
+pub own_of : (s : State) (d : Draft) → s.current ≡ Some d → own_vertices s ≡ d.vertices
 unfolding own_vertices
 own_of s d at = rw at refl
-
-vertex_of_words : (s : State) (ws : List (Bor (List ℕ))) (d : Bor (List ℕ)) → vertex_fault s (map (λ w. w.now) ws) ≡ None
-    → (is_outside s ≡ false) × (has_vertex (slice_index_or ws 1 d).now (own_vertices s) ≡ false)
-unfolding vertex_fault
-vertex_of_words s [] d e = absurd (cc)
-vertex_of_words s (a ∷ []) d e = absurd (cc)
-vertex_of_words s (a ∷ b ∷ []) d e = absurd (cc)
-vertex_of_words s (a ∷ b ∷ c1 ∷ []) d e = absurd (cc)
-vertex_of_words s (a ∷ b ∷ c1 ∷ c2 ∷ []) d e =
-    let five = passed _ _ e in
-    let six = passed _ _ five.1 in
-    let seven = passed _ _ six.1 in
-    let nine = passed _ _ seven.1 in
-    let twelve = passed _ _ nine.1 in
-    let here = inside s twelve.0 in
-    (twelve.0, ap (λ vs. has_vertex b.now vs) (own_of s here.0 here.1) ∙ sym (at_task (λ x. has_vertex b.now x.vertices) s here.0 here.1) ∙ nine.0)
-vertex_of_words s (a ∷ b ∷ c1 ∷ c2 ∷ c3 ∷ more) d e = absurd (cc)
-
--- a vertex stands in a task, and its name is new there
-pub new_vertex : (k : Kind) (s : State) (ws : List (Bor (List ℕ))) (d : Bor (List ℕ)) → k ≡ kinds.Vertex → kind_fault k s (map (λ w. w.now) ws) ≡ None
-    → (is_outside s ≡ false) × (has_vertex (slice_index_or ws 1 d).now (own_vertices s) ≡ false)
-unfolding kind_fault
-new_vertex k s ws d is e = vertex_of_words s ws d (subst (λ j. kind_fault j s (map (λ w. w.now) ws) ≡ None) is e)
-
--- a line without a fault has none of its kind
-pub no_kind_fault : (s r : State) (line : List ℕ) (words : List (List ℕ)) (k : Kind) → None ≡ line_fault r line words → s ≡ r → k ≡ kind s.version (first_word words) → kind_fault k r words ≡ None
-unfolding line_fault
-no_kind_fault s r line words k e same is = ap (λ j. kind_fault j r words) (is ∙ ap (λ x. kind x.version (first_word words)) same) ∙ go (not (list_all is_text line)) r.ended e
-  where
-    go : (a b : Bool) → None ≡ cond a (Some 2) (cond b (Some 19) (kind_fault (kind r.version (first_word words)) r words)) → kind_fault (kind r.version (first_word words)) r words ≡ None
-    go true b h = absurd (cc)
-    go false true h = absurd (cc)
-    go false false h = sym h

@@ -53,7 +53,8 @@ never [] = refl
 never (x ∷ xs) = never xs
 
 -- The lines of the open task, and those above it.
-parts : (ws : List Fields) (version : ℕ) (closed : List Draft) (d : Draft) (at : Inside ws version closed d) → (own_lines ws ≡ at.says_last.body) × (lines_of_others ws ≡ version_line version ∷ at.done)
+parts : (ws : List Fields) (version : ℕ) (closed : List Draft) (d : Draft) (at : Inside ws version closed d)
+    → (own_lines ws ≡ at.says_last.body) × (lines_of_others ws ≡ version_line version ∷ at.done)
 unfolding is_task
 parts ws version closed d at =
     let body = at.says_last.body in

@@ -281,7 +281,8 @@ head_placed V such test every n (word ∷ version ∷ []) below e none = go (byt
     go true isd false false h = absurd (cc)
     go false isd o t h = absurd (cc)
 
-line_placed : (V : ℕ → Type 0) (such : Fields → Bool) (test : Draft → Bool) → Tells V such test → (every : List Fields) (n : ℕ) (above : Option State) (line : List ℕ) (words : Fields) (below : Option State)
+line_placed : (V : ℕ → Type 0) (such : Fields → Bool) (test : Draft → Bool) → Tells V such test
+    → (every : List Fields) (n : ℕ) (above : Option State) (line : List ℕ) (words : Fields) (below : Option State)
     → line_step n above line words ≡ Ok below → n ≡ 1 + length every → PlacedAt V such test every above → PlacedAt V such test (every ++ words ∷ []) below
 unfolding line_step judged
 line_placed V such test tells every n None line words below e count p = head_placed V such test every n words below e p

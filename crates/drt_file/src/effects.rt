@@ -1,6 +1,7 @@
 //! What a line without a fault adds to what the lines above leave.
 ghost use Rattle.std.specs.Prelude.{◌≡◌, None, Some, false, map, bytes_eq, IfOk, option_map};
 ghost use Rattle.drt_file.specs.internal.StateFaults.{place_of, has_vertex, in_some_task, is_outside, kind_fault};
+ghost use Rattle.drt_file.specs.internal.Parsed.{IsNew, after_line};
 ghost use Rattle.drt_file.specs.internal.Reader.{own_vertices, joined};
 ghost use Rattle.drt_file.specs.internal.Steps.{
   after_task,
@@ -16,10 +17,9 @@ ghost use Rattle.drt_file.specs.internal.Steps.{
   head,
 };
 
-use crate::faults::count_tasks;
+use crate::parsing::count_tasks;
 use crate::reader::Reader;
-use crate::state::{Draft, Kind, State, pushed};
-use crate::words::value_of;
+use crate::state::{Draft, Line, State, pushed};
 use drt_model::{Edge, Memory, Name, Row, Vertex};
 use std::alloc::Global;
 
@@ -27,12 +27,6 @@ fn copy_of(alloc: Global, word: &[u8]) -> Result<Vec<u8>, Memory>
     ensures { IfOk result (λ v. v.items ≡ word.now) }
 {
     Ok(Vec::from_slice(alloc, word)?)
-}
-
-fn name_of(alloc: Global, word: &[u8]) -> Result<Name, Memory>
-    ensures { IfOk result (λ n. n ≡ word.now) }
-{
-    Ok(Name::from_vec(copy_of(alloc, word)?))
 }
 
 /// The tasks so far, with the open one closed behind them.
@@ -59,8 +53,8 @@ fn opening_priority(s: &State) -> Option<u32>
 }
 
 #[tactic(auto, unfolding(crate::specs::internal::Steps::after_task))]
-fn task_opened(alloc: Global, n: u32, s: State, name: &[u8]) -> Result<State, Memory>
-    ensures { IfOk result (λ t. t ≡ after_task n s name.now) }
+fn task_opened(alloc: Global, n: u32, s: State, name: Name) -> Result<State, Memory>
+    ensures { IfOk result (λ t. t ≡ after_task n s name) }
 {
     let priority = opening_priority(&s);
     let State {
@@ -71,7 +65,7 @@ fn task_opened(alloc: Global, n: u32, s: State, name: &[u8]) -> Result<State, Me
     } = s;
     let closed = close(closed, current)?;
     let draft = Draft {
-        name: name_of(alloc, name)?,
+        name,
         line: n,
         priority,
         vertices: Row::from_vec(Vec::new(alloc)),
@@ -85,16 +79,16 @@ fn task_opened(alloc: Global, n: u32, s: State, name: &[u8]) -> Result<State, Me
     })
 }
 
-fn after_task(alloc: Global, n: u32, r: Reader, name: &[u8]) -> Result<Reader, Memory>
-    requires { in_some_task (λ d. bytes_eq d.name name.now) r ≡ false }
-    ensures { IfOk result (λ t. t ≡ after_task n r name.now) }
+fn after_task(alloc: Global, n: u32, r: Reader, name: Name) -> Result<Reader, Memory>
+    requires { in_some_task (λ d. bytes_eq d.name name) r ≡ false }
+    ensures { IfOk result (λ t. t ≡ after_task n r name) }
 {
     let Reader {
         state,
         mut tasks,
         mut vertices,
     } = r;
-    tasks.add(copy_of(alloc, name)?)?;
+    tasks.add(copy_of(alloc, name.as_slice())?)?;
     vertices.clear();
     Ok(Reader {
         state: task_opened(alloc, n, state, name)?,
@@ -224,20 +218,9 @@ fn edge_put(s: State, edge: Edge) -> Result<State, Memory>
     })
 }
 
-fn place_in(r: &Reader, name: &[u8]) -> u32
-    ensures { result ≡ narrow (place_of name.now (own_vertices r.now)) }
+fn after_edge(r: Reader, edge: Edge) -> Result<Reader, Memory>
+    ensures { IfOk result (λ t. t ≡ on_current (joined edge) r) }
 {
-    r.place(name).min(4294967295) as u32
-}
-
-fn after_edge(r: Reader, from: &[u8], to: &[u8], sep: u32) -> Result<Reader, Memory>
-    ensures { IfOk result (λ t. t ≡ on_current (with_edge from.now to.now sep) r) }
-{
-    let edge = Edge {
-        from: place_in(&r, from),
-        to: place_in(&r, to),
-        sep,
-    };
     let Reader {
         state,
         tasks,
@@ -317,50 +300,18 @@ fn after_end(r: Reader) -> Reader
     }
 }
 
-/// The state below a line of this kind that has no fault.
-#[tactic(auto, unfolding(crate::specs::internal::Steps::after_kind))]
-pub fn after(
-    alloc: Global,
-    kind: Kind,
-    n: u32,
-    r: Reader,
-    words: &[&[u8]],
-) -> Result<Reader, Memory>
-    requires { kind_fault kind r (map (λ w. w.now) words.now) ≡ None }
-    ensures { IfOk result (λ t. t ≡ after_kind kind n r (map (λ w. w.now) words.now)) }
+/// The state below a line that says this.
+#[tactic(auto, unfolding(crate::specs::internal::Parsed::after_line, crate::specs::internal::Parsed::IsNew))]
+pub fn after(alloc: Global, n: u32, r: Reader, line: Line) -> Result<Reader, Memory>
+    requires { IsNew r line }
+    ensures { IfOk result (λ t. t ≡ after_line n r line) }
 {
-    match kind {
-        Kind::Task => match words {
-            [_, name, ..] => after_task(alloc, n, r, name),
-            _ => Ok(r),
-        },
-        Kind::Vertex => match words {
-            [_, name, wcet, deadline, ..] => {
-                let name = name_of(alloc, name)?;
-                let wcet = value_of(wcet);
-                let deadline = value_of(deadline);
-                after_vertex(
-                    alloc,
-                    r,
-                    Vertex {
-                        name,
-                        wcet,
-                        deadline,
-                    },
-                )
-            }
-            _ => Ok(r),
-        },
-        Kind::Edge => match words {
-            [_, from, to, sep, ..] => after_edge(r, from, to, value_of(sep)),
-            _ => Ok(r),
-        },
-        Kind::Priority => match words {
-            [_, number, ..] => Ok(after_priority(r, value_of(number))),
-            _ => Ok(r),
-        },
-        Kind::End => Ok(after_end(r)),
-        Kind::Other => Ok(r),
+    match line {
+        Line::Task(name) => after_task(alloc, n, r, name),
+        Line::Vertex(v) => after_vertex(alloc, r, v),
+        Line::Edge(edge) => after_edge(r, edge),
+        Line::Priority(number) => Ok(after_priority(r, number)),
+        Line::End => Ok(after_end(r)),
     }
 }
 

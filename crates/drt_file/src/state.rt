@@ -34,6 +34,17 @@ pub enum Kind {
     Other,
 }
 
+/// What a line without a fault says. The ends of an edge are places among the vertices above in its
+/// task.
+#[derive(Debug, Drop)]
+pub enum Line {
+    Task(Name),
+    Vertex(Vertex),
+    Edge(Edge),
+    Priority(u32),
+    End,
+}
+
 /// The row with one item more.
 pub fn pushed<T: Drop>(row: Row<T>, item: T) -> Result<Row<T>, Memory>
     ensures { IfOk result (λ longer. longer ≡ row ++ item ∷ []) }

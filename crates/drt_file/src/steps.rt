@@ -7,8 +7,7 @@ ghost use Rattle.drt_file.specs.internal.Steps.{Gives, after_kind, judged, heade
 use crate::codes::NO_HEAD;
 use crate::effects::{after, head};
 use crate::fault::{FileError, FileFault};
-use crate::faults::fault_of_line;
-use crate::line::kind_of;
+use crate::parsing::parse_line;
 use crate::reader::Reader;
 use std::alloc::Global;
 
@@ -22,13 +21,8 @@ fn below(
 ) -> Result<Option<Reader>, FileError>
     ensures { Gives result (judged n (line_fault r line.now (map (λ w. w.now) words.now)) (after_kind (kind r.version (first_word (map (λ w. w.now) words.now))) n r (map (λ w. w.now) words.now))) }
 {
-    match fault_of_line(&r, line, words) {
-        Some(code) => Err(FileError::Fault(FileFault { line: n, code })),
-        None => {
-            let kind = kind_of(r.state().version, words);
-            Ok(Some(after(alloc, kind, n, r, words)?))
-        }
-    }
+    let said = parse_line(alloc, n, &r, line, words)?;
+    Ok(Some(after(alloc, n, r, said)?))
 }
 
 #[tactic(auto, unfolding(crate::specs::internal::Steps::headed))]
