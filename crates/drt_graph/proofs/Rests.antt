@@ -41,7 +41,8 @@ pub summed_starts : (g : Digraph) (cycle : List ℕ) → 0 < length cycle → Is
 summed_starts g [] l = absurd (omega arith)
 summed_starts g (v ∷ vs) l = rw (last_at v vs) (record { works_are = omega arith; spans_are = omega arith })
 
-pub summed_step : (g : Digraph) (cycle : List ℕ) (works spans at i : ℕ) → i < length cycle → IsSummed g cycle works spans at i → IsSummed g cycle (works + wcet g (get_or cycle i 0)) (spans + gap g at (get_or cycle i 0)) (get_or cycle i 0) (i + 1)
+pub summed_step : (g : Digraph) (cycle : List ℕ) (works spans at i : ℕ) → i < length cycle → IsSummed g cycle works spans at i
+    → IsSummed g cycle (works + wcet g (get_or cycle i 0)) (spans + gap g at (get_or cycle i 0)) (get_or cycle i 0) (i + 1)
 summed_step g cycle works spans at i l is =
     let e = drop_more cycle i 0 l in
     let w = rw (e, work_cons) at is.works_are in

@@ -43,7 +43,8 @@ found graphs fronts bound (Some t) few are first =
 found graphs fronts bound None few are first = λ s l. (let e = sums_same label_due (λ x. x.work) graphs fronts s few in omega (arith, e, first s))
 
 -- One more front.
-pub fronts_push : (bound : ℕ) (graphs : List Digraph) (fronts : List (List Demand)) (g : Digraph) (f : List Demand) → AreFronts bound graphs fronts → IsFront g bound f → AreFronts bound (graphs ++ g ∷ []) (fronts ++ f ∷ [])
+pub fronts_push : (bound : ℕ) (graphs : List Digraph) (fronts : List (List Demand)) (g : Digraph) (f : List Demand) → AreFronts bound graphs fronts → IsFront g bound f
+    → AreFronts bound (graphs ++ g ∷ []) (fronts ++ f ∷ [])
 fronts_push bound [] [] g f are is = (is, tt)
 fronts_push bound [] (e ∷ fronts) g f are is = absurd are
 fronts_push bound (h ∷ graphs) [] g f are is = absurd are

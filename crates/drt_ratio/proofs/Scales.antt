@@ -1,5 +1,5 @@
 -- The scale of a set, and the ratios of its graphs.
-use Rattle.std.proofs.Common.{◌≡◌, ℕ, ◌≤◌, List, [], ◌∷◌}
+use Rattle.std.proofs.Common.{ℕ, ◌≤◌, List, [], ◌∷◌}
 use Rattle.drt_num.proofs.CommonMultiples.{lcm_exists}
 use Rattle.drt_model.specs.Digraph.{Digraph}
 use Rattle.drt_model.specs.Utilisation.{IsScale, IsRatio, AreRatios}

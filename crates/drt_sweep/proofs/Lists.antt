@@ -73,7 +73,9 @@ sum_from due work m [] lists t n l = sum_none (work_by [] t) n (λ k p. by_none 
 sum_from due work m (a ∷ tasks) [] t n l = sum_none (work_by [] t) n (λ k p. by_none t k)
 sum_from due work m (a ∷ tasks) (xs ∷ lists) t n l =
     let rest = sum_from due work (suc m) tasks lists t n (omega arith) in
-    let grown = sum_grows (work_by (works_of due work (suc m) tasks lists) t) (work_by (works_of due work m (a ∷ tasks) (xs ∷ lists)) t) m n (greatest_due (due a) work xs t) (omega arith) (λ k p differ. others k differ) here in
+    let later = work_by (works_of due work (suc m) tasks lists) t in
+    let all = work_by (works_of due work m (a ∷ tasks) (xs ∷ lists)) t in
+    let grown = sum_grows later all m n (greatest_due (due a) work xs t) (omega arith) (λ k p differ. others k differ) here in
     omega (arith, rest, grown)
   where
     others : (k : ℕ) → (k ≡ m → ⊥) → work_by (works_from (due a) work m xs ++ works_of due work (suc m) tasks lists) t k ≡ work_by (works_of due work (suc m) tasks lists) t k

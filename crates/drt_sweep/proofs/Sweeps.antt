@@ -4,7 +4,8 @@ use Rattle.std.specs.Prelude.{max, nat_le, ◌&&◌}
 use Rattle.std.specs.List.Sorted.{IsNonDecreasingBy}
 use Rattle.std.proofs.Math.Nat.{le-max_left, le-max_right, max-le}
 use Rattle.std.proofs.lemmas.Bool.{cases_lt, eqb-true, eqb-false, leb-true, le-leb}
-use Rattle.std.proofs.lemmas.List.{get_or-set_same, get_or-set_other, length-set, drop_more, drop_all, take_more, take-append-drop, get_or-drop, get_or-take, get_or_default, length-drop, length-take-le}
+use Rattle.std.proofs.lemmas.List.{get_or-set_same, get_or-set_other, length-set, drop_more, drop_all, take_more}
+use Rattle.std.proofs.lemmas.List.{take-append-drop, get_or-drop, get_or-take, get_or_default, length-drop, length-take-le}
 use Rattle.drt_sweep.specs.declared.due_work.DueWork.{DueWork}
 use Rattle.std.specs.Prelude.{Some}
 use Rattle.drt_sweep.specs.DueWorks.{work_by, sum_to, works_by, IsFirstExcess}
@@ -116,7 +117,8 @@ plain : (a b : ℕ) → max a b ≡ a + (b - a)
 plain a b = grind arith
 
 -- One more work in the row.
-pub row_push : (ps : List DueWork) (most : List ℕ) (total : ℕ) (r : DueWork) → r.task < 32 → IsRow ps most total → IsRow (ps ++ r ∷ []) (set most r.task (max (get_or most r.task 0) r.work)) (total + (r.work - get_or most r.task 0))
+pub row_push : (ps : List DueWork) (most : List ℕ) (total : ℕ) (r : DueWork) → r.task < 32 → IsRow ps most total
+    → IsRow (ps ++ r ∷ []) (set most r.task (max (get_or most r.task 0) r.work)) (total + (r.work - get_or most r.task 0))
 row_push ps most total r l is = record {
   size = length-set most r.task (max (get_or most r.task 0) r.work) ∙ is.size;
   each = λ k m. go k m (eqb k r.task) refl;
@@ -150,7 +152,8 @@ pub clear_first : (all : List DueWork) → IsClearBefore all 0
 clear_first all s late = let e = sum_none (work_by all s) 32 (λ k l. by_late all s k late) in omega (arith, e)
 
 -- Past one more work that is no excess.
-pub clear_next : (all : List DueWork) (most : List ℕ) (total i : ℕ) (r : DueWork) → i < length all → r ≡ get_or all i r → IsRow (take (i + 1) all) most total → total ≤ r.due → IsClearBefore all i → IsClearBefore all (i + 1)
+pub clear_next : (all : List DueWork) (most : List ℕ) (total i : ℕ) (r : DueWork) → i < length all → r ≡ get_or all i r → IsRow (take (i + 1) all) most total → total ≤ r.due
+    → IsClearBefore all i → IsClearBefore all (i + 1)
 clear_next all most total i r l is row fits clear s late = go (cases_lt s r.due)
   where
     go : (s < r.due) ⊎ (r.due ≤ s) → works_by all s ≤ s
@@ -200,11 +203,13 @@ done_at : (xs : List DueWork) (i : ℕ) (x : DueWork) → i < length xs → x �
 done_at xs i x l is = take_more xs i x l ∙ ap (λ (y : DueWork). take i xs ++ y ∷ []) (sym is)
 
 -- No excess at one more work.
-pub row_step : (all : List DueWork) (most : List ℕ) (total i : ℕ) (r : DueWork) → i < length all → r ≡ get_or all i r → r.task < 32 → IsRow (take i all) most total → IsRow (take (i + 1) all) (set most r.task (max (get_or most r.task 0) r.work)) (total + (r.work - get_or most r.task 0))
+pub row_step : (all : List DueWork) (most : List ℕ) (total i : ℕ) (r : DueWork) → i < length all → r ≡ get_or all i r → r.task < 32 → IsRow (take i all) most total
+    → IsRow (take (i + 1) all) (set most r.task (max (get_or most r.task 0) r.work)) (total + (r.work - get_or most r.task 0))
 row_step all most total i r l is m row = rw (done_at all i r l is) (row_push (take i all) most total r m row)
 
 -- An excess at one more work.
-pub excess_next : (all : List DueWork) (most : List ℕ) (total i : ℕ) (r : DueWork) → IsNonDecreasingBy (λ r. r.due) all → i < length all → r ≡ get_or all i r → r.task < 32 → IsRow (take i all) most total → r.due < total + (r.work - get_or most r.task 0) → IsClearBefore all i → IsFirstExcess all (Some r.due)
+pub excess_next : (all : List DueWork) (most : List ℕ) (total i : ℕ) (r : DueWork) → IsNonDecreasingBy (λ r. r.due) all → i < length all → r ≡ get_or all i r → r.task < 32
+    → IsRow (take i all) most total → r.due < total + (r.work - get_or most r.task 0) → IsClearBefore all i → IsFirstExcess all (Some r.due)
 excess_next all most total i r order l is m row over clear =
     let next = row_step all most total i r l is m row in
     ((i, r, l, sym is, refl), excess_at all _ _ (i + 1) r.due next (done_due all i r order l is) over, λ s q. clear s (left_later all i s r order l is q))

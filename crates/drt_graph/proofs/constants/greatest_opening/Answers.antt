@@ -1,4 +1,4 @@
-use Rattle.std.proofs.Common.{◌≡◌, pos, ◌*◌, arith, rules, SFits, w64, to_z, ◌∙◌}
+use Rattle.std.proofs.Common.{◌≡◌, ℕ, pos, ◌*◌, arith, rules, SFits, w64, to_z, ◌∙◌}
 use Rattle.std.specs.Prelude.{◌-ℤ◌}
 use Rattle.std.specs.Int.{int_max}
 use Rattle.std.proofs.lemmas.Int.{to_z-of_z}
@@ -11,7 +11,8 @@ pub vertices-init : goal.vertices-init
 vertices-init c =
     let f : SFits w64 c.opening-most.result = search rules in
     let e = to_z-of_z w64 c.opening-most.result f in
-    rw e (record { value = most_start (λ u. pos (c.args.den * wcet c.args.graph.now u) -ℤ potential_of c.args.potentials.now u) _ c.opening-most.ensures.value; low = c.opening-most.ensures.low; high = c.opening-most.ensures.high })
+    let value = most_start (λ u. pos (c.args.den * wcet c.args.graph.now u) -ℤ potential_of c.args.potentials.now u) _ c.opening-most.ensures.value in
+    rw e (record { value = value; low = c.opening-most.ensures.low; high = c.opening-most.ensures.high })
 
 pub vertices-preserved : goal.vertices-preserved
 vertices-preserved c =
@@ -19,8 +20,10 @@ vertices-preserved c =
     let e = to_z-of_z w64 c.larger-most.result f in
     let k : SFits w64 c.opening.result = search rules in
     let is : c.larger-most.result ≡ int_max (to_z w64 c.vertices.most-bits) c.opening.result = rw (to_z-of_z w64 c.opening.result k) at c.larger-most.ensures in
+    let share = (λ (u : ℕ). pos (c.args.den * wcet c.args.graph.now u) -ℤ potential_of c.args.potentials.now u) in
+    let more = most_more share c.vertices.v (to_z w64 c.vertices.most-bits) c.opening.result (omega arith) c.vertices.invariant.value c.opening.ensures.value in
     rw e (record {
-      value = is ∙ most_more (λ u. pos (c.args.den * wcet c.args.graph.now u) -ℤ potential_of c.args.potentials.now u) c.vertices.v (to_z w64 c.vertices.most-bits) c.opening.result (omega arith) c.vertices.invariant.value c.opening.ensures.value;
+      value = is ∙ more;
       low = max_low _ _ _ is c.vertices.invariant.low c.opening.ensures.low;
       high = max_high _ _ _ is c.vertices.invariant.high c.opening.ensures.high;
     })

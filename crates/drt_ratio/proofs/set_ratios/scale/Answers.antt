@@ -17,7 +17,8 @@ returns-in_default c =
     let is : IsLcm c.proofs.common c.index-proofs-i.result.ratio.den next = rw (c.den-den.ensures.value, ← c.index-proofs-i.is) at far.1 in
     let some : 1 ≤ c.index-proofs-i.result.ratio.den = c.index-proofs-i.result.ratio.positive in
     let whole = scale_exists c.args.proofs.now in
-    let most = scale_far fraction_of c.args.proofs.now _ (c.proofs.i + 1) next whole.0 e (scale_push fraction_of (take c.proofs.i c.args.proofs.now) c.index-proofs-i.result c.proofs.common next c.proofs.invariant.scale some is) whole.1 in
+    let more = scale_push fraction_of (take c.proofs.i c.args.proofs.now) c.index-proofs-i.result c.proofs.common next c.proofs.invariant.scale some is in
+    let most = scale_far fraction_of c.args.proofs.now _ (c.proofs.i + 1) next whole.0 e more whole.1 in
     (whole.0, whole.1, omega (arith, far.2))
 
 pub proofs-preserved : goal.proofs-preserved
@@ -28,4 +29,8 @@ proofs-preserved c =
     let small = rw f at c.proofs.invariant.small in
     let is : IsLcm c.proofs.common c.index-proofs-i.result.ratio.den c.in-Some.next = rw (c.den-den.ensures.value, ← c.index-proofs-i.is) at c.in-Some.ensures.0 in
     let some : 1 ≤ c.index-proofs-i.result.ratio.den = c.index-proofs-i.result.ratio.positive in
-    record { small = small.2; scale = rw e (scale_push fraction_of (take c.proofs.i c.args.proofs.now) c.index-proofs-i.result c.proofs.common c.in-Some.next c.proofs.invariant.scale some is); most = omega (arith, c.in-Some.ensures.1) }
+    record {
+      small = small.2;
+      scale = rw e (scale_push fraction_of (take c.proofs.i c.args.proofs.now) c.index-proofs-i.result c.proofs.common c.in-Some.next c.proofs.invariant.scale some is);
+      most = omega (arith, c.in-Some.ensures.1);
+    }

@@ -10,7 +10,9 @@ pub returns-then-total-next : goal.returns-then-total-next
 returns-then-total-next c =
     let l : c.works.i < length c.args.works.now = omega (arith, c.works-test.true) in
     let over = rw c.saturating_sub.ensures at c.if-total-next.true in
-    excess_next c.args.works.now c.works.most c.works.total c.works.i (get_or c.args.works.now c.works.i no_work) c.requires.order l (get_or_default c.args.works.now c.works.i no_work (get_or c.args.works.now c.works.i no_work) l) (c.requires.tasks c.works.i no_work l) c.works.invariant.row over c.works.invariant.clear
+    let is = get_or_default c.args.works.now c.works.i no_work (get_or c.args.works.now c.works.i no_work) l in
+    let few = c.requires.tasks c.works.i no_work l in
+    excess_next c.args.works.now c.works.most c.works.total c.works.i (get_or c.args.works.now c.works.i no_work) c.requires.order l is few c.works.invariant.row over c.works.invariant.clear
 
 pub works-preserved : goal.works-preserved
 works-preserved c =
