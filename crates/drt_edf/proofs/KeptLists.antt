@@ -1,18 +1,103 @@
 -- The lists of kept nodes.
-use Rattle.std.proofs.Common.{◌≡◌, ℕ, zero, suc, ◌+◌, ◌<◌, ◌≤◌, ◌⊎◌, inl, inr, Bool, true, false, cond, Option, Some, None, List, [], ◌∷◌, ◌++◌, All, length, get_or, refl, sym, ap, ◌∙◌, subst, arith}
-use Rattle.std.specs.Prelude.{IsTrue, is_none, slice_get, ◌==◌, ◌&&◌, Contains}
+use Rattle.std.proofs.Common.{◌≡◌, ℕ, zero, suc, ◌+◌, ◌-◌, ◌<◌, ◌≤◌, ◌⊎◌, inl, inr, Bool, true, false, cond, Option, Some, None, List, [], ◌∷◌, ◌++◌, All, length, drop, get_or, refl, sym, ap, ◌∙◌, subst, arith, append_assoc, add-one}
+use Rattle.std.specs.Prelude.{IsTrue, IfSome, is_none, slice_get, option_map, ◌==◌, ◌&&◌, Contains}
 use Rattle.std.proofs.lemmas.Bool.{cases_lt}
 use Rattle.std.proofs.lemmas.Bool.Decides.{nat_tests}
 use Rattle.std.proofs.lemmas.Option.{none-some, same_Some}
 use Rattle.std.proofs.lemmas.List.Elements.{All-nil, All-cons, All-weaker, All-append, Contains-append_left, Contains-append_right}
 use Rattle.drt_demand.specs.Demand.{Demand, demand_algebra}
 use Rattle.drt_table.specs.Node.{NodeOf, is_kept}
+use Rattle.drt_table.specs.Places.{first, first_from}
 use Rattle.drt_table.specs.View.{kept_at}
 use Rattle.drt_edf.specs.KeptNodes.{kept_from, kept_upto}
 use Rattle.drt_edf.specs.declared.kept.Kept.{Kept}
 
 abbrev pub at_vertex : ℕ → NodeOf Demand → Bool
 at_vertex v n = kept_at demand_algebra v n
+
+-- A node that a search for kept nodes of v from j on finds.
+pub record IsFoundKept (nodes : List (NodeOf Demand)) (v j i : ℕ) : Type 0 where
+  pub node : NodeOf Demand
+  pub at : slice_get nodes i ≡ Some node
+  pub passes : at_vertex v node ≡ true
+  pub from : j ≤ i
+
+found_first : (v : ℕ) (nodes : List (NodeOf Demand)) (i : ℕ) → first (at_vertex v) nodes ≡ Some i → IsFoundKept nodes v 0 i
+found_first v [] i e = absurd (none-some i e)
+found_first v (n ∷ nodes) i e = go (at_vertex v n) refl (first (at_vertex v) nodes) (λ k h. found_first v nodes k h) e
+  where
+    go : (b : Bool) → at_vertex v n ≡ b → (o : Option ℕ) → ((k : ℕ) → o ≡ Some k → IsFoundKept nodes v 0 k) → cond b (Some 0) (option_map suc o) ≡ Some i → IsFoundKept (n ∷ nodes) v 0 i
+    go true p o ih f = subst (λ k. IsFoundKept (n ∷ nodes) v 0 k) (same_Some 0 i f) (record { node = n; at = refl; passes = p; from = omega arith })
+    go false p None ih f = absurd (none-some i f)
+    go false p (Some k) ih f =
+        let h = ih k refl in
+        subst (λ m. IsFoundKept (n ∷ nodes) v 0 m) (same_Some (suc k) i f) (record { node = h.node; at = h.at; passes = h.passes; from = omega arith })
+
+pub found_from : (v j : ℕ) (nodes : List (NodeOf Demand)) (i : ℕ) → first_from j (at_vertex v) nodes ≡ Some i → IsFoundKept nodes v j i
+found_from v zero nodes i e = found_first v nodes i e
+found_from v (suc j) [] i e = absurd (none-some i e)
+found_from v (suc j) (n ∷ nodes) i e = go (first_from j (at_vertex v) nodes) (λ k h. found_from v j nodes k h) e
+  where
+    go : (o : Option ℕ) → ((k : ℕ) → o ≡ Some k → IsFoundKept nodes v j k) → option_map suc o ≡ Some i → IsFoundKept (n ∷ nodes) v (suc j) i
+    go None ih f = absurd (none-some i f)
+    go (Some k) ih f =
+        let h = ih k refl in
+        let l = h.from in
+        subst (λ m. IsFoundKept (n ∷ nodes) v (suc j) m) (same_Some (suc k) i f) (record { node = h.node; at = h.at; passes = h.passes; from = omega (arith, l) })
+
+-- Where a search finds none, none is left.
+none_first : (v : ℕ) (nodes : List (NodeOf Demand)) → first (at_vertex v) nodes ≡ None → (b : ℕ) → kept_from b v nodes ≡ []
+none_first v [] e b = refl
+none_first v (n ∷ nodes) e b = go (at_vertex v n) (first (at_vertex v) nodes) (λ h. none_first v nodes h (suc b)) e
+  where
+    go : (c : Bool) (o : Option ℕ) → (o ≡ None → kept_from (suc b) v nodes ≡ []) → cond c (Some 0) (option_map suc o) ≡ None → cond c (record { node = b; label = n.label } ∷ kept_from (suc b) v nodes) (kept_from (suc b) v nodes) ≡ []
+    go true o ih f = absurd (cc)
+    go false None ih f = ih refl
+    go false (Some k) ih f = absurd (cc)
+
+pub none_left : (v j : ℕ) (nodes : List (NodeOf Demand)) → first_from j (at_vertex v) nodes ≡ None → (b : ℕ) → kept_from b v (drop j nodes) ≡ []
+none_left v zero nodes e b = none_first v nodes e b
+none_left v (suc j) [] e b = refl
+none_left v (suc j) (n ∷ nodes) e b = go (first_from j (at_vertex v) nodes) (λ h. none_left v j nodes h b) e
+  where
+    go : (o : Option ℕ) → (o ≡ None → kept_from b v (drop j nodes) ≡ []) → option_map suc o ≡ None → kept_from b v (drop j nodes) ≡ []
+    go None ih f = ih refl
+    go (Some k) ih f = absurd (cc)
+
+-- A kept node of v and those after it.
+abbrev from_one : ℕ → ℕ → NodeOf Demand → List (NodeOf Demand) → List Kept
+from_one v k n rest = record { node = k; label = n.label } ∷ kept_from (suc k) v rest
+
+-- Where it finds one, this one is the first that is left.
+one_first : (v b i d : ℕ) (nodes : List (NodeOf Demand)) (m : NodeOf Demand) → first (at_vertex v) nodes ≡ Some i → slice_get nodes i ≡ Some m → d ≡ b + i → kept_from b v nodes ≡ from_one v d m (drop (suc i) nodes)
+one_first v b i d [] m e at q = absurd (none-some i e)
+one_first v b i d (n ∷ nodes) m e at q = go (at_vertex v n) (first (at_vertex v) nodes) (λ k h g r. one_first v (suc b) k d nodes m h g r) i e at q
+  where
+    go : (c : Bool) (o : Option ℕ) → ((k : ℕ) → o ≡ Some k → slice_get nodes k ≡ Some m → d ≡ suc b + k → kept_from (suc b) v nodes ≡ from_one v d m (drop (suc k) nodes))
+        → (i : ℕ) → cond c (Some 0) (option_map suc o) ≡ Some i → slice_get (n ∷ nodes) i ≡ Some m → d ≡ b + i → cond c (from_one v b n nodes) (kept_from (suc b) v nodes) ≡ from_one v d m (drop i nodes)
+    go true o ih zero f at q =
+        let same : b ≡ d = omega (arith, q) in
+        ap (λ x. from_one v x n nodes) same ∙ ap (λ y. from_one v d y nodes) (same_Some n m at)
+    go true o ih (suc i) f at q = absurd (cc)
+    go false None ih i f at q = absurd (none-some i f)
+    go false (Some k) ih zero f at q = absurd (cc)
+    go false (Some k) ih (suc i) f at q =
+        let same : suc k ≡ suc i = same_Some (suc k) (suc i) f in
+        let k_is : k ≡ i = omega (arith, same) in
+        subst (λ x. kept_from (suc b) v nodes ≡ from_one v d m (drop (suc x) nodes)) k_is (ih k refl (subst (λ x. slice_get nodes x ≡ Some m) (sym k_is) at) (omega (arith, q, k_is)))
+
+pub one_left : (v b j i c d : ℕ) (nodes : List (NodeOf Demand)) (m : NodeOf Demand) → first_from j (at_vertex v) nodes ≡ Some i → slice_get nodes i ≡ Some m → c ≡ b + j → d ≡ b + i → kept_from c v (drop j nodes) ≡ from_one v d m (drop (suc i) nodes)
+one_left v b zero i c d nodes m e at p q = one_first v c i d nodes m e at (omega (arith, p, q))
+one_left v b (suc j) i c d [] m e at p q = absurd (none-some i e)
+one_left v b (suc j) i c d (n ∷ nodes) m e at p q = go (first_from j (at_vertex v) nodes) (λ k h g r. one_left v (suc b) j k c d nodes m h g (omega (arith, p)) r) i e at q
+  where
+    go : (o : Option ℕ) → ((k : ℕ) → o ≡ Some k → slice_get nodes k ≡ Some m → d ≡ suc b + k → kept_from c v (drop j nodes) ≡ from_one v d m (drop (suc k) nodes)) → (i : ℕ) → option_map suc o ≡ Some i → slice_get (n ∷ nodes) i ≡ Some m → d ≡ b + i → kept_from c v (drop j nodes) ≡ from_one v d m (drop i nodes)
+    go None ih i f at q = absurd (none-some i f)
+    go (Some k) ih zero f at q = absurd (cc)
+    go (Some k) ih (suc i) f at q =
+        let same : suc k ≡ suc i = same_Some (suc k) (suc i) f in
+        let k_is : k ≡ i = omega (arith, same) in
+        subst (λ x. kept_from c v (drop j nodes) ≡ from_one v d m (drop (suc x) nodes)) k_is (ih k refl (subst (λ x. slice_get nodes x ≡ Some m) (sym k_is) at) (omega (arith, q, k_is)))
 
 -- What passes is kept and of the vertex.
 pub passes_kept : (v : ℕ) (n : NodeOf Demand) → at_vertex v n ≡ true → n.dropped_by ≡ None
@@ -24,6 +109,30 @@ passes_kept v n e = go n.dropped_by e
 
 pub passes_vertex : (v : ℕ) (n : NodeOf Demand) → at_vertex v n ≡ true → n.label.vertex ≡ v
 passes_vertex v n e = grind (arith, nat_tests)
+
+-- The search goes on at the same vertex.
+pub next_is : (v i : ℕ) (nodes : List (NodeOf Demand)) (m : NodeOf Demand) (r : Option ℕ) → slice_get nodes i ≡ Some m → at_vertex v m ≡ true → IfSome (slice_get nodes i) (λ n. r ≡ first_from (i + 1) (kept_at demand_algebra n.label.vertex) nodes) → r ≡ first_from (i + 1) (at_vertex v) nodes
+next_is v i nodes m r at passes is =
+    let found : r ≡ first_from (i + 1) (at_vertex m.label.vertex) nodes = rw at at is in
+    subst (λ x. r ≡ first_from (i + 1) (at_vertex x) nodes) (passes_vertex v m passes) found
+
+-- The entries so far and those that are left, with one more.
+pub more_entries : (v j i : ℕ) (nodes : List (NodeOf Demand)) (m : NodeOf Demand) (old new whole : List Kept) (l : Demand) → first_from j (at_vertex v) nodes ≡ Some i → slice_get nodes i ≡ Some m → l ≡ m.label → new ≡ old ++ record { node = i; label = l } ∷ [] → old ++ kept_from j v (drop j nodes) ≡ whole → new ++ kept_from (i + 1) v (drop (i + 1) nodes) ≡ whole
+more_entries v j i nodes m old new whole l e at is pushed sum =
+    ap (λ xs. xs ++ kept_from (i + 1) v (drop (i + 1) nodes)) pushed
+    ∙ (append_assoc old (record { node = i; label = l } ∷ []) (kept_from (i + 1) v (drop (i + 1) nodes))
+    ∙ (ap (λ x. old ++ record { node = i; label = x } ∷ kept_from (i + 1) v (drop (i + 1) nodes)) is
+    ∙ (ap (λ k. old ++ record { node = i; label = m.label } ∷ kept_from k v (drop k nodes)) (add-one i)
+    ∙ (ap (λ xs. old ++ xs) (sym (one_left v 0 j i j i nodes m e at (omega arith) (omega arith))) ∙ sum))))
+
+-- How many nodes are left from the next one on.
+abbrev pub left_from : ℕ → Option ℕ → ℕ
+left_from n None = 0
+left_from n (Some i) = n - i
+
+pub fewer_left : (v i n : ℕ) (nodes : List (NodeOf Demand)) (o : Option ℕ) → o ≡ first_from (i + 1) (at_vertex v) nodes → i < n → left_from n o < n - i
+fewer_left v i n nodes None e l = omega (arith, l)
+fewer_left v i n nodes (Some k) e l = let h = (found_from v (i + 1) nodes k (sym e)).from in omega (arith, l, h)
 
 -- A node of the list is kept and has the label.
 pub record IsKeptEntry (all : List (NodeOf Demand)) (x : Kept) : Type 0 where
