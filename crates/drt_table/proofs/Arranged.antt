@@ -14,8 +14,7 @@ use Rattle.drt_table.specs.declared.node.NodeState.TheVariants.{Pending, Taken, 
 use Rattle.drt_table.specs.Places.{first, changed, earliest}
 use Rattle.drt_table.specs.Held.{take_by, close_node, drop_held, dominates_held, fresh_held, held_offset, compared_nodes, placed_nodes}
 use Rattle.drt_table.specs.Arena.{AreArranged}
-use Rattle.drt_table.specs.KeptOrder.{IsNext}
-use Rattle.drt_table.specs.Links.{AreLinked}
+use Rattle.drt_table.specs.Links.{IsNext, AreLinked}
 use Rattle.drt_table.specs.Waiting.{Ticket, ticket_cmp, AreWaiting, IsFresh, AreHeld}
 use Rattle.drt_table.proofs.Lists.{Before, before_change, After, after_change, changed_at, length-changed, Pushed, earlier, last, before_push, after_push}
 use Rattle.drt_table.proofs.Linking.{StaysKept, changed_linked, at_pushed, get_pushed}

@@ -12,8 +12,7 @@ use Rattle.drt_table.specs.Places.{changed}
 use Rattle.drt_table.specs.Held.{AllOf}
 use Rattle.drt_table.specs.View.{kept_at}
 use Rattle.drt_table.proofs.Adding.{true_not_false}
-use Rattle.drt_table.specs.KeptOrder.{IsBelow, rank, IsKeptAt, IsGreatest, IsNext}
-use Rattle.drt_table.specs.Links.{AreLinked, IsPlace, IsLink, heads_after, links_after}
+use Rattle.drt_table.specs.Links.{IsBelow, rank, IsKeptAt, IsGreatest, IsNext, AreLinked, IsPlace, IsLink, heads_after, links_after}
 use Rattle.drt_table.proofs.Lists.{Before, before_change, After, after_change, length-changed}
 use Rattle.drt_table.proofs.Ranks.{lower, newer, same_offset}
 use Rattle.drt_table.proofs.Unlink.{set_here, set_other, same_or_not, rank_cases}

@@ -1,6 +1,6 @@
 -- Where nodes stand in the list of their vertex.
 use Rattle.std.proofs.Common.{◌≡◌, ℕ, ◌<◌, ◌≤◌, ◌⊎◌, arith}
-use Rattle.drt_table.specs.KeptOrder.{standing}
+use Rattle.drt_table.specs.Links.{standing}
 
 -- a node of less offset stands lower
 pub lower : (o p i j : ℕ) → o < p → standing o i < standing p j

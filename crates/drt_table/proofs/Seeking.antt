@@ -6,8 +6,7 @@ use Rattle.drt_label.specs.Algebra.{Algebra, Laws}
 use Rattle.drt_table.specs.Node.{Held, is_kept}
 use Rattle.drt_table.specs.Places.{first, smaller}
 use Rattle.drt_table.specs.Held.{dominates_held}
-use Rattle.drt_table.specs.KeptOrder.{rank, IsKeptAt, IsNext}
-use Rattle.drt_table.specs.Links.{AreLinked, AreAlone}
+use Rattle.drt_table.specs.Links.{rank, IsKeptAt, IsNext, AreLinked, AreAlone}
 use Rattle.drt_table.proofs.Lists.{first_is, first_none}
 use Rattle.drt_table.proofs.Adding.{true_not_false}
 use Rattle.drt_table.proofs.Earliest.{and_left, and_right}

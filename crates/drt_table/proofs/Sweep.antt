@@ -7,7 +7,7 @@ use Rattle.drt_table.specs.Node.{Held, is_kept}
 use Rattle.drt_table.specs.declared.node.NodeState.TheVariants.{Done}
 use Rattle.drt_table.specs.Held.{drop_held}
 use Rattle.drt_table.specs.Places.{changed}
-use Rattle.drt_table.specs.KeptOrder.{rank, IsKeptAt, IsNext}
+use Rattle.drt_table.specs.Links.{rank, IsKeptAt, IsNext}
 
 -- lists with the same elements at each place
 pub same_lists : {A : Type 0} (xs ys : List A) → ((k : ℕ) → slice_get xs k ≡ slice_get ys k) → xs ≡ ys

@@ -6,8 +6,7 @@ use Rattle.drt_label.specs.Algebra.{Algebra, Laws}
 use Rattle.drt_table.specs.Node.{Held, is_kept}
 use Rattle.drt_table.specs.Places.{changed}
 use Rattle.drt_table.specs.Held.{AllOf, drop_held}
-use Rattle.drt_table.specs.KeptOrder.{IsBelow, rank, IsKeptAt, IsNext}
-use Rattle.drt_table.specs.Links.{AreLinked, IsAfter, IsPlace, heads_after, links_after}
+use Rattle.drt_table.specs.Links.{IsBelow, rank, IsKeptAt, IsNext, AreLinked, IsAfter, IsPlace, heads_after, links_after}
 use Rattle.drt_table.proofs.Adding.{true_not_false}
 use Rattle.drt_table.proofs.Earliest.{and_left, and_right}
 use Rattle.drt_table.proofs.Links.{changed_other, changed_here}

@@ -6,8 +6,7 @@ use Rattle.std.proofs.lemmas.Option.{none-some, same_Some, slice_get_within}
 use Rattle.drt_label.specs.Algebra.{Algebra}
 use Rattle.drt_table.specs.Node.{Held, is_kept}
 use Rattle.drt_table.specs.Places.{changed}
-use Rattle.drt_table.specs.KeptOrder.{IsBelow, rank, IsKeptAt, IsGreatest, IsNext}
-use Rattle.drt_table.specs.Links.{AreLinked, IsAfter, heads_after, links_after}
+use Rattle.drt_table.specs.Links.{IsBelow, rank, IsKeptAt, IsGreatest, IsNext, AreLinked, IsAfter, heads_after, links_after}
 use Rattle.drt_table.proofs.Lists.{length-changed}
 use Rattle.drt_table.proofs.Adding.{true_not_false}
 use Rattle.drt_table.proofs.Links.{changed_other, changed_here}

@@ -7,7 +7,6 @@ pub mod Facts
 pub mod Work
 pub mod View
 pub mod Held
-pub mod KeptOrder
 pub mod Links
 pub mod Waiting
 pub mod Arena

@@ -8,15 +8,14 @@ ghost use Rattle.drt_label.specs.Algebra.{IsTime};
 ghost use Rattle.drt_table.specs.Arena.{Stock, HasNodes};
 ghost use Rattle.drt_table.specs.Held.{AllOf, take_by, count_offer, close_node, hand_out, fresh_held, held_offset, drop_held, dominates_held, placed_nodes, placed_reply};
 ghost use Rattle.drt_table.specs.Links.{AreAlone};
-ghost use Rattle.drt_table.specs.KeptOrder.{rank, IsNext};
-ghost use Rattle.drt_table.specs.Node.{Held, is_pending, is_taken, is_held_by, is_kept};
-ghost use Rattle.drt_table.specs.Places.{first, changed, earliest};
+ghost use Rattle.drt_table.specs.Node.{Held, is_pending, is_taken, is_held_by};
+ghost use Rattle.drt_table.specs.Places.{first, first_from, changed, earliest};
 ghost use Rattle.std.specs.Option.{ForSome};
 ghost use Rattle.drt_table.specs.Taking.{is_soon};
 ghost use Rattle.drt_table.specs.View.{kept_at};
 
 use crate::holding::{first_held, first_taken, forget};
-use crate::kept::{place_in, push_node};
+use crate::kept::{first_kept, place_in, push_node};
 use crate::node::{Node, Twin};
 use crate::step::TableReply;
 use crate::waiting::{Queue, admit, first_waiting, pop_ticket, refresh};
@@ -138,20 +137,20 @@ impl<L: Label> Arena<L> {
         first_held(self.nodes.as_slice(), self.taken.as_slice(), worker)
     }
 
-    // The first kept node of the vertex: the one of greatest offset, the least number in a tie.
+    // The least kept node of the vertex.
     pub(crate) fn first_kept(&self, vertex: u32) -> Option<u32>
-        requires { vertex < self.now.vertices }
-        ensures { IsNext L.algebra self.now.nodes vertex None result }
+        ensures { result ≡ first (λ h. kept_at L.algebra vertex h.node) self.now.nodes }
     {
-        self.heads[vertex as usize]
+        first_kept(self.nodes.as_slice(), 0, vertex)
     }
 
-    // The kept node that comes next after a kept one of the same vertex.
+    // The next kept node of the node's vertex.
     pub(crate) fn next_kept(&self, id: u32) -> Option<u32>
-        requires { (h : Held L) × (slice_get self.now.nodes id ≡ Some h) × IsTrue (is_kept h.node) }
-        ensures { IfSome (slice_get self.now.nodes id) (λ h. IsNext L.algebra self.now.nodes (L.algebra.vertex h.node.label) (Some (rank L.algebra id h)) result) }
+        requires { (h : Held L) × (slice_get self.now.nodes id ≡ Some h) × (h.node.dropped_by ≡ None) }
+        ensures { IfSome (slice_get self.now.nodes id) (λ h. result ≡ first_from (id + 1) (λ x. kept_at L.algebra (L.algebra.vertex h.node.label) x.node) self.now.nodes) }
     {
-        self.links[id as usize]
+        let vertex = self.nodes[id as usize].vertex();
+        first_kept(self.nodes.as_slice(), id as usize + 1, vertex)
     }
 
     // Adds an opening node, the first of its vertex.

@@ -4,10 +4,9 @@ ghost use Rattle.std.specs.Prelude.{◌≡◌, ℕ, ◌+◌, ◌<◌, Some, None
 ghost use Rattle.drt_model.specs.Digraph.{vertex_count};
 ghost use Rattle.drt_table.specs.Cover.{IsFront};
 ghost use Rattle.drt_table.specs.Machine.{is_finished};
-ghost use Rattle.drt_table.specs.KeptOrder.{rank, IsNext};
-ghost use Rattle.drt_table.specs.Node.{Held, NodeOf, is_held_by, is_kept};
-ghost use Rattle.drt_table.specs.Places.{first};
-ghost use Rattle.drt_table.specs.View.{IsTable, setting_of, state_of};
+ghost use Rattle.drt_table.specs.Node.{NodeOf, is_held_by};
+ghost use Rattle.drt_table.specs.Places.{first, first_from};
+ghost use Rattle.drt_table.specs.View.{IsTable, setting_of, state_of, kept_at};
 ghost use Rattle.drt_table.specs.Walk.{IsWalkOf};
 
 use crate::node::Node;
@@ -33,19 +32,18 @@ impl<L: Label> Table<L> {
         self.arena.node(id)
     }
 
-    /// The first kept node of a vertex, if there is one: that of greatest offset, the least number in a tie.
+    /// The least kept node of a vertex, if there is one.
     pub fn first_kept(&self, vertex: u32) -> Option<u32>
         requires { vertex < vertex_count self.now.graph }
-        ensures { IsNext L.algebra self.now.nodes vertex None result }
+        ensures { result ≡ first (kept_at L.algebra vertex) (state_of self.now).nodes }
     {
         self.arena.first_kept(vertex)
     }
 
-    /// The kept node that comes next after a kept one of the same vertex, if there is a further one: in descending order of
-    /// offset, the least number first in a tie. So a walk from the first one meets each kept node of the vertex once.
+    /// The next kept node of the same vertex, if there is a further one.
     pub fn next_kept(&self, id: u32) -> Option<u32>
-        requires { (h : Held _) × (slice_get self.now.nodes id ≡ Some h) × IsTrue (is_kept h.node) }
-        ensures { IfSome (slice_get self.now.nodes id) (λ h. IsNext L.algebra self.now.nodes (L.algebra.vertex h.node.label) (Some (rank L.algebra id h)) result) }
+        requires { (n : NodeOf _) × (slice_get (state_of self.now).nodes id ≡ Some n) × (n.dropped_by ≡ None) }
+        ensures { IfSome (slice_get (state_of self.now).nodes id) (λ n. result ≡ first_from (id + 1) (kept_at L.algebra (L.algebra.vertex n.label)) (state_of self.now).nodes) }
     {
         self.arena.next_kept(id)
     }
