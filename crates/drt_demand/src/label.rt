@@ -91,8 +91,4 @@ impl Label for DemandLabel {
     fn dominates(&self, other: &DemandLabel) -> bool {
         self.vertex == other.vertex && self.offset <= other.offset && other.work <= self.work
     }
-
-    fn is_chain() -> bool {
-        true
-    }
 }

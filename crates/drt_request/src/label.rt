@@ -83,10 +83,6 @@ impl Label for RequestLabel {
             && self.steps.covers(&other.steps)
     }
 
-    fn is_chain() -> bool {
-        false
-    }
-
     ghost laws = { request_laws };
 }
 
