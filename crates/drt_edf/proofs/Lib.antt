@@ -11,6 +11,7 @@ pub mod StepTimes
 pub mod Unique
 pub mod LabelWalks
 pub mod KeptLists
+pub mod KeptRows
 pub mod FrontLists
 pub mod DemandWalks
 pub mod Overloads

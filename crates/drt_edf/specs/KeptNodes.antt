@@ -1,5 +1,5 @@
 -- The kept nodes of a search of a task's walks.
-use Rattle.std.specs.Prelude.{◌≡◌, ℕ, zero, suc, ◌+◌, ◌≤◌, nat_lt, ◌&&◌, Bool, Option, Some, None, List, [], ◌∷◌, ◌++◌, map, Contains, if◌then◌else◌}
+use Rattle.std.specs.Prelude.{ℕ, zero, suc, ◌+◌, ◌≤◌, nat_lt, ◌&&◌, Bool, Option, Some, None, List, [], ◌∷◌, ◌++◌, map, length, slice_get, ◌≡◌, Contains, if◌then◌else◌}
 use Rattle.std.specs.Ordering.{ordering_then, nat_cmp}
 use Rattle.std.specs.declared.cmp.Ordering.{Ordering}
 use Rattle.drt_model.specs.Digraph.{Digraph}
@@ -14,6 +14,15 @@ use Rattle.drt_edf.specs.declared.kept.Kept.{Kept}
 abbrev pub kept_from : ℕ → ℕ → List (NodeOf Demand) → List Kept
 kept_from k v [] = []
 kept_from k v (n ∷ nodes) = if kept_at demand_algebra v n then record { node = k; label = n.label } ∷ kept_from (suc k) v nodes else kept_from (suc k) v nodes
+
+-- The kept nodes of a vertex after one more node of that number.
+abbrev pub row_after : ℕ → NodeOf Demand → ℕ → List Kept → List Kept
+row_after id n v row = if kept_at demand_algebra v n then row ++ record { node = id; label = n.label } ∷ [] else row
+
+-- There are so many rows, and each has the kept nodes of its vertex.
+pub record AreRows (count : ℕ) (nodes : List (NodeOf Demand)) (rows : List (List Kept)) : Type 0 where
+  pub many : length rows ≡ count
+  pub each : (v : ℕ) (row : List Kept) → slice_get rows v ≡ Some row → row ≡ kept_from 0 v nodes
 
 -- The kept nodes of the vertices below a number, in order of vertices and then of nodes.
 unfoldable pub kept_upto : ℕ → List (NodeOf Demand) → List Kept

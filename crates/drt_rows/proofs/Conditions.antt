@@ -15,7 +15,11 @@ use Rattle.drt_table.specs.Machine.{Holds, extended}
 use Rattle.drt_table.specs.View.{View, CanApply, ComesWith, setting_of, state_of, kept_at}
 use Rattle.drt_table.proofs.Links.{found_from}
 use Rattle.drt_table.proofs.Lists.{Found, found, none_found}
-use Rattle.drt_table.proofs.Sweep.{remaining}
+
+-- How many nodes are left from the next one on.
+abbrev pub remaining : ℕ → Option ℕ → ℕ
+remaining n None = 0
+remaining n (Some i) = n - i
 
 -- A worker holds a node that is taken by it, and no other.
 held_by_itself : (w : ℕ) (s : NodeState) → s ≡ TakenBy w → is_taken_by w s ≡ false → ⊥

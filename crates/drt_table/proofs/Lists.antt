@@ -1,5 +1,5 @@
 -- Elements of a list by their place, after a change, a map and a push.
-use Rattle.std.proofs.Common.{◌≡◌, ℕ, suc, zero, ◌+◌, ◌<◌, ◌≤◌, ◌⊎◌, Bool, true, false, cond, Option, Some, None, List, [], ◌∷◌, ◌++◌, length, map, refl, sym, ap, ◌∙◌, inl, inr, arith, subst, set, take, drop, add-one}
+use Rattle.std.proofs.Common.{◌≡◌, ℕ, suc, zero, ◌+◌, ◌<◌, ◌≤◌, ◌⊎◌, Bool, true, false, cond, Option, Some, None, List, [], ◌∷◌, ◌++◌, length, map, refl, sym, ap, ◌∙◌, inl, inr, arith, subst, set}
 use Rattle.std.specs.Prelude.{option_map, slice_get}
 use Rattle.std.proofs.lemmas.Option.{none-some, same_Some}
 use Rattle.drt_table.specs.Places.{first, first_from, changed}
@@ -123,34 +123,11 @@ fails_more p xs i x at failed below k y lt h = elim (cases_le k i lt) as (λ _. 
     cases_le : (k i : ℕ) → k < i + 1 → (k < i) ⊎ (k ≡ i)
     cases_le k i lt = grind arith
 
--- a map in place, one step on
-pub mapped_at : {A : Type 0} (f : A → A) (xs : List A) (i : ℕ) → slice_get (map f (take i xs) ++ drop i xs) i ≡ slice_get xs i
-mapped_at f [] zero = refl
-mapped_at f [] (suc i) = refl
-mapped_at f (x ∷ xs) zero = refl
-mapped_at f (x ∷ xs) (suc i) = mapped_at f xs i
-
-mapped_set : {A : Type 0} (f : A → A) (xs : List A) (i : ℕ) (x : A) → slice_get xs i ≡ Some x → set (map f (take i xs) ++ drop i xs) i (f x) ≡ map f (take (suc i) xs) ++ drop (suc i) xs
-mapped_set f [] i x at = absurd (none-some x at)
-mapped_set f (z ∷ xs) zero x at = ap (λ y. f y ∷ xs) (sym (same_Some z x at))
-mapped_set f (z ∷ xs) (suc i) x at = ap (λ ys. f z ∷ ys) (mapped_set f xs i x at)
-
-pub mapped_more : {A : Type 0} (f : A → A) (xs ys : List A) (i : ℕ) (x : A) → ys ≡ map f (take i xs) ++ drop i xs → slice_get ys i ≡ Some x → set ys i (f x) ≡ map f (take (i + 1) xs) ++ drop (i + 1) xs
-mapped_more f xs ys i x e at =
-    let at_old : slice_get xs i ≡ Some x = sym (mapped_at f xs i) ∙ (ap (λ zs. slice_get zs i) (sym e) ∙ at) in
-    ap (λ zs. set zs i (f x)) e ∙ (mapped_set f xs i x at_old ∙ ap (λ j. map f (take j xs) ++ drop j xs) (sym (add-one i)))
-
 -- a write, as a change
 pub changed-set : {A : Type 0} (f : A → A) (xs : List A) (k : ℕ) (x : A) → slice_get xs k ≡ Some x → set xs k (f x) ≡ changed k f xs
 changed-set f [] k x at = absurd (none-some x at)
 changed-set f (z ∷ xs) zero x at = ap (λ y. f y ∷ xs) (sym (same_Some z x at))
 changed-set f (z ∷ xs) (suc k) x at = ap (λ ys. z ∷ ys) (changed-set f xs k x at)
-
--- a write of what stands there
-pub set_same : {A : Type 0} (xs : List A) (i : ℕ) (x : A) → slice_get xs i ≡ Some x → set xs i x ≡ xs
-set_same [] i x at = refl
-set_same (y ∷ xs) zero x at = ap (λ z. z ∷ xs) (sym (same_Some y x at))
-set_same (y ∷ xs) (suc i) x at = ap (λ zs. y ∷ zs) (set_same xs i x at)
 
 -- a view of each element
 pub first-map : {A B : Type 0} (p : B → Bool) (v : A → B) (xs : List A) → first p (map v xs) ≡ first (λ x. p (v x)) xs

@@ -17,6 +17,7 @@ use Rattle.drt_table.specs.Places.{first, changed, earliest}
 use Rattle.drt_table.specs.Taking.{chosen, taken_node, offset_of, is_soon}
 use Rattle.drt_table.specs.Machine.{Setting, State, Outcome, separation, in_range, extended, is_full, unchanged, logged, offset, offset_in, offset_at, next, holder, takes, taken, drop_by, dominating, added, compared, counted, offered, offered_at, step_of, CanStep, Holds, replay, IsRun, is_finished}
 use Rattle.drt_table.specs.Facts.{Facts}
+use Rattle.drt_table.specs.Links.{AreAlone}
 use Rattle.drt_table.specs.Held.{AllOf, held_offset, take_by, count_offer, close_node, hand_out, dominates_held, drop_held, compared_nodes, compared_reply, placed_nodes, placed_reply}
 use Rattle.drt_table.specs.View.{View, setting_of, state_of, IsTable, spares_of, spares_after, CanApply, outcome, IsStep}
 use Rattle.drt_table.proofs.Earliest.{earliest-map}
@@ -342,6 +343,23 @@ module _ {L : Type 0} (a : Algebra L) (laws : Laws a) (v : View L) (is : IsTable
         counted_label : (j : ℕ) (y : Held L) (b : Before id count_offer v.nodes j y) → ((j ≡ id) × (y ≡ count_offer b.old)) ⊎ (y ≡ b.old) → y.node.label ≡ b.old.node.label
         counted_label j y b (inl p) = ap (λ (z : Held L). z.node.label) p.1
         counted_label j y b (inr q) = ap (λ (z : Held L). z.node.label) q
+
+-- no kept node dominates another one, also after an offer is counted
+pub offer_alone : {L : Type 0} (a : Algebra L) (laws : Laws a) (v : View L) → IsTable a v → (id : ℕ) → AreAlone a (changed id count_offer v.nodes)
+offer_alone {L} a laws v is id i j g h at_i at_j kept_i kept_j dom = from (before_change id count_offer v.nodes i g at_i) (before_change id count_offer v.nodes j h at_j)
+  where
+    label : (k : ℕ) (y : Held L) (b : Before id count_offer v.nodes k y) → ((k ≡ id) × (y ≡ count_offer b.old)) ⊎ (y ≡ b.old) → (y.node.label ≡ b.old.node.label) × (y.node.dropped_by ≡ b.old.node.dropped_by)
+    label k y b (inl p) = (ap (λ (z : Held L). z.node.label) p.1, ap (λ (z : Held L). z.node.dropped_by) p.1)
+    label k y b (inr q) = (ap (λ (z : Held L). z.node.label) q, ap (λ (z : Held L). z.node.dropped_by) q)
+
+    from : Before id count_offer v.nodes i g → Before id count_offer v.nodes j h → i ≡ j
+    from b c =
+        let p = label i g b b.is in
+        let q = label j h c c.is in
+        (facts_of a laws v is).alone i j b.old.node c.old.node
+        (record { at = at_node a laws v is i b.old b.at; kept = ap (λ o. is_none o) (sym p.1) ∙ kept_i })
+        (record { at = at_node a laws v is j c.old c.at; kept = ap (λ o. is_none o) (sym q.1) ∙ kept_j })
+        (subst (λ l. IsTrue (a.dominates l c.old.node.label)) p.0 (subst (λ l. IsTrue (a.dominates g.node.label l)) q.0 dom))
 
 -- whether the table is finished, by the next node and the holder
 pub finished_is : {L : Type 0} (a : Algebra L) (v : View L) (p o : Option ℕ) → p ≡ earliest (λ (h : Held L). is_pending h.node) (held_offset a) v.nodes → o ≡ earliest (λ (h : Held L). is_taken h.node) (held_offset a) v.nodes → (is_none p && is_none o) ≡ is_finished a (setting_of v) (state_of v)

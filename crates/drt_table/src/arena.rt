@@ -7,6 +7,7 @@ ghost use Rattle.std.specs.Prelude.{◌≡◌, ℕ, ◌+◌, ◌<◌, ◌≤◌,
 ghost use Rattle.drt_label.specs.Algebra.{IsTime};
 ghost use Rattle.drt_table.specs.Arena.{Stock, HasNodes};
 ghost use Rattle.drt_table.specs.Held.{AllOf, take_by, count_offer, close_node, hand_out, fresh_held, held_offset, drop_held, dominates_held, placed_nodes, placed_reply};
+ghost use Rattle.drt_table.specs.Links.{AreAlone};
 ghost use Rattle.drt_table.specs.Node.{Held, is_pending, is_taken, is_held_by};
 ghost use Rattle.drt_table.specs.Places.{first, first_from, changed, earliest};
 ghost use Rattle.std.specs.Option.{ForSome};
@@ -14,7 +15,7 @@ ghost use Rattle.drt_table.specs.Taking.{is_soon};
 ghost use Rattle.drt_table.specs.View.{kept_at};
 
 use crate::holding::{first_held, first_taken, forget};
-use crate::kept::{place_in, push_node};
+use crate::kept::{first_kept, place_in, push_node};
 use crate::node::{Node, Twin};
 use crate::step::TableReply;
 use crate::waiting::{Queue, admit, first_waiting, pop_ticket, refresh};
@@ -28,9 +29,9 @@ use std::sync::Arc;
 #[derive(Drop)]
 pub(crate) struct Arena<L: Label> {
     nodes: Vec<Node<L>>,
-    // The next kept node of the node's vertex, for each kept node.
+    // The kept node of the node's vertex with the next smaller offset, for each kept node.
     links: Vec<Option<u32>>,
-    // The least kept node of each vertex.
+    // The kept node of greatest offset of each vertex.
     heads: Vec<Option<u32>>,
     // The pending nodes.
     queue: Queue,
@@ -138,10 +139,9 @@ impl<L: Label> Arena<L> {
 
     // The least kept node of the vertex.
     pub(crate) fn first_kept(&self, vertex: u32) -> Option<u32>
-        requires { vertex < self.now.vertices }
         ensures { result ≡ first (λ h. kept_at L.algebra vertex h.node) self.now.nodes }
     {
-        self.heads[vertex as usize]
+        first_kept(self.nodes.as_slice(), 0, vertex)
     }
 
     // The next kept node of the node's vertex.
@@ -149,7 +149,8 @@ impl<L: Label> Arena<L> {
         requires { (h : Held L) × (slice_get self.now.nodes id ≡ Some h) × (h.node.dropped_by ≡ None) }
         ensures { IfSome (slice_get self.now.nodes id) (λ h. result ≡ first_from (id + 1) (λ x. kept_at L.algebra (L.algebra.vertex h.node.label) x.node) self.now.nodes) }
     {
-        self.links[id as usize]
+        let vertex = self.nodes[id as usize].vertex();
+        first_kept(self.nodes.as_slice(), id as usize + 1, vertex)
     }
 
     // Adds an opening node, the first of its vertex.
@@ -198,6 +199,7 @@ impl<L: Label> Arena<L> {
         requires deadline { IsTime deadline }
         requires of { IsTrue (L.algebra.is_of twin bound) }
         requires all_of { AllOf (λ h. IsTrue (L.algebra.is_of h.node.label bound)) self.old.nodes }
+        requires alone { AreAlone L.algebra self.old.nodes }
         ensures nodes { HasNodes self.old self.new (placed_nodes L.algebra twin parent deadline bound self.old.nodes) }
         ensures reply { result ≡ placed_reply L.algebra twin deadline bound self.old.nodes }
     {

@@ -1,6 +1,5 @@
 use Rattle.std.proofs.Common.{◌<◌, length, sym, subst}
-use Rattle.drt_table.proofs.Sweep.{remaining}
-use Rattle.drt_rows.proofs.Conditions.{first_next, later_next, fewer_left}
+use Rattle.drt_rows.proofs.Conditions.{remaining, first_next, later_next, fewer_left}
 use Rattle.drt_rows.proofs.tests.add_kept.Goals as goal
 
 pub nodes-init : goal.nodes-init

@@ -1,7 +1,6 @@
 -- The next node, if there is one, is kept; fewer are left.
 use Rattle.std.proofs.Common.{length}
-use Rattle.drt_table.proofs.Sweep.{remaining}
-use Rattle.drt_rows.proofs.Conditions.{IsKeptNext}
+use Rattle.drt_rows.proofs.Conditions.{remaining, IsKeptNext}
 use Rattle.drt_rows.proofs.tests.add_kept.Given as goal
 
 abbrev pub invariant-nodes : goal.invariant-nodes

@@ -1,18 +1,9 @@
-use Rattle.std.proofs.Common.{◌<◌, length, sym, ap, ◌∙◌, subst, arith}
+use Rattle.std.proofs.Common.{sym, ap, ◌∙◌}
 use Rattle.drt_table.specs.Node.{Held}
 use Rattle.drt_table.specs.Places.{first}
 use Rattle.drt_table.specs.View.{View, IsTable, state_of, kept_at}
 use Rattle.drt_table.proofs.Lists.{first-map}
 use Rattle.drt_table.proofs.table.Table.first_kept.Goals as goal
-
-pub first_kept-requires-after_bounds : goal.first_kept-requires-after_bounds
-first_kept-requires-after_bounds g c κs within =
-    let a = g.L.Label.algebra in
-    let laws = (g.met.L.Label g.world.𝓛 g.world.𝓜 g.world.𝓡 ((λ s x. x), (λ x. x), (λ x. x), λ x. x)).laws in
-    let v : View _ = record { graph = c.self.inside.graph; bound = c.self.inside.bound; budget = c.self.inside.budget; nodes = c.self.inside.arena.nodes; log = c.self.inside.log.items } in
-    let is : IsTable a v = c.self.invariant.0 in
-    let h : c.args.vertex < length v.graph.vertices = subst (λ (x : View _). c.args.vertex < length x.graph.vertices) (sym c.self.view_is) c.requires in
-    omega (arith, h, c.self.invariant.1)
 
 pub returns : goal.returns
 returns g c =
