@@ -11,7 +11,6 @@ pub mod StepTimes
 pub mod Unique
 pub mod LabelWalks
 pub mod KeptLists
-pub mod KeptRows
 pub mod FrontLists
 pub mod DemandWalks
 pub mod Overloads

@@ -16,8 +16,8 @@ pub mod Back
 pub mod Start
 pub mod Tables
 pub mod Driving
-pub mod Links
 pub mod Ranks
+pub mod KeptOrder
 pub mod Unlink
 pub mod Sweep
 pub mod Sweeping

@@ -2,7 +2,7 @@
 use Rattle.std.proofs.Common.{◌≡◌, ℕ, suc, zero, ◌+◌, ◌<◌, ◌≤◌, ◌⊎◌, Bool, true, false, cond, Option, Some, None, List, [], ◌∷◌, ◌++◌, length, map, refl, sym, ap, ◌∙◌, inl, inr, arith, subst, set}
 use Rattle.std.specs.Prelude.{option_map, slice_get}
 use Rattle.std.proofs.lemmas.Option.{none-some, same_Some}
-use Rattle.drt_table.specs.Places.{first, first_from, changed}
+use Rattle.drt_table.specs.Places.{first, changed}
 
 -- what stood at a place before it was changed
 pub record Before {A : Type 0} (k : ℕ) (f : A → A) (xs : List A) (j : ℕ) (y : A) : Type 0 where
@@ -152,22 +152,18 @@ pub map-map_same : {A B : Type 0} (v : A → B) (f : A → A) → ((x : A) → v
 map-map_same v f e [] = refl
 map-map_same v f e (x ∷ xs) = ap (λ y. y ∷ map v (map f xs)) (e x) ∙ ap (λ ys. v x ∷ ys) (map-map_same v f e xs)
 
--- the first place from one on
-pub first_from_is : {A : Type 0} (from : ℕ) (p : A → Bool) (xs : List A) (i : ℕ) (x : A) → from ≤ i → slice_get xs i ≡ Some x → p x ≡ true → ((k : ℕ) (y : A) → from ≤ k → k < i → slice_get xs k ≡ Some y → p y ≡ false) → Some i ≡ first_from from p xs
-first_from_is zero p xs i x le at passed below = first_is p xs i x at passed (λ k y lt h. below k y (omega arith) lt h)
-first_from_is (suc from) p [] i x le at passed below = absurd (none-some x at)
-first_from_is (suc from) p (z ∷ xs) zero x le at passed below = absurd (omega arith)
-first_from_is (suc from) p (z ∷ xs) (suc i) x le at passed below = ap (λ o. option_map suc o) (first_from_is from p xs i x (omega arith) at passed (λ k y l lt h. below (suc k) y (omega arith) (omega arith) h))
+-- what a change leaves, and what it makes
+pub changed_other : {A : Type 0} (i : ℕ) (g : A → A) (xs : List A) (k : ℕ) → (k ≡ i → ⊥) → slice_get (changed i g xs) k ≡ slice_get xs k
+changed_other i g [] k ne = refl
+changed_other zero g (x ∷ xs) zero ne = absurd (ne refl)
+changed_other zero g (x ∷ xs) (suc k) ne = refl
+changed_other (suc i) g (x ∷ xs) zero ne = refl
+changed_other (suc i) g (x ∷ xs) (suc k) ne = changed_other i g xs k (λ e. ne (ap suc e))
 
-pub first_from_none : {A : Type 0} (from : ℕ) (p : A → Bool) (xs : List A) → ((k : ℕ) (y : A) → from ≤ k → k < length xs → slice_get xs k ≡ Some y → p y ≡ false) → None ≡ first_from from p xs
-first_from_none zero p xs below = first_none p xs (λ k y lt h. below k y (omega arith) lt h)
-first_from_none (suc from) p [] below = refl
-first_from_none (suc from) p (z ∷ xs) below = ap (λ o. option_map suc o) (first_from_none from p xs (λ k y l lt h. below (suc k) y (omega arith) (omega arith) h))
-
-pub first_from-map : {A B : Type 0} (from : ℕ) (p : B → Bool) (v : A → B) (xs : List A) → first_from from p (map v xs) ≡ first_from from (λ x. p (v x)) xs
-first_from-map zero p v xs = first-map p v xs
-first_from-map (suc from) p v [] = refl
-first_from-map (suc from) p v (x ∷ xs) = ap (λ o. option_map suc o) (first_from-map from p v xs)
+pub changed_here : {A : Type 0} (i : ℕ) (g : A → A) (xs : List A) (x : A) → slice_get xs i ≡ Some x → slice_get (changed i g xs) i ≡ Some (g x)
+changed_here i g [] x at = absurd (none-some x at)
+changed_here zero g (z ∷ xs) x at = ap (λ y. Some (g y)) (same_Some z x at)
+changed_here (suc i) g (z ∷ xs) x at = changed_here i g xs x at
 
 pub get_within : {A : Type 0} (xs : List A) (i : ℕ) → i < length xs → (x : A) × (slice_get xs i ≡ Some x)
 get_within [] i lt = absurd (let h : i < 0 = lt in omega arith)

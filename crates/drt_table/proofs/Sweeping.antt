@@ -9,7 +9,7 @@ use Rattle.drt_table.specs.Held.{AllOf, drop_held}
 use Rattle.drt_table.specs.Links.{IsBelow, rank, IsKeptAt, IsNext, AreLinked, IsAfter, IsPlace, heads_after, links_after}
 use Rattle.drt_table.proofs.Adding.{true_not_false}
 use Rattle.drt_table.proofs.Earliest.{and_left, and_right}
-use Rattle.drt_table.proofs.Links.{changed_other, changed_here}
+use Rattle.drt_table.proofs.Lists.{changed_other, changed_here}
 use Rattle.drt_table.proofs.Ranks.{no_greater}
 use Rattle.drt_table.proofs.Unlink.{unlinked, next_unlinked, rank_cases, small, kept_same, same_or_not}
 use Rattle.drt_table.proofs.Sweep.{same_lists, none_changed, rank_of, rank_in, to_go, IsAhead, ahead_first, next_kept, drops, not_dropped, gone, drop_label}

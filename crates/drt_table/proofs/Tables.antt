@@ -417,11 +417,3 @@ pub offer_held : {L : Type 0} (a : Algebra L) (laws : Laws a) (v : View L) (is :
 offer_held {L} a laws v is w id k can l comes =
     let x : (h : Held L) × (slice_get v.nodes id ≡ Some h) = get_within v.nodes id (offer_within a laws v is w id k can l comes) in
     (x.0, x.1, offer_few a laws v is w id k can l comes x.0 x.1)
-
--- a node of the machine, with its spare
-pub kept_node : {L : Type 0} (a : Algebra L) (laws : Laws a) (v : View L) → IsTable a v → (id : ℕ) (n : NodeOf L) → slice_get (state_of v).nodes id ≡ Some n → n.dropped_by ≡ None → (h : Held L) × (slice_get v.nodes id ≡ Some h) × (h.node.dropped_by ≡ None)
-kept_node {L} a laws v is id n at kept =
-    let lt : id < length v.nodes = (let h : id < length (state_of v).nodes = slice_get_within (state_of v).nodes id n at in let e : length (state_of v).nodes ≡ length v.nodes = length-map v.nodes (λ h. h.node) in omega arith) in
-    let x : (h : Held L) × (slice_get v.nodes id ≡ Some h) = get_within v.nodes id lt in
-    let same : n ≡ x.0.node = same_Some n x.0.node (sym at ∙ at_node a laws v is id x.0 x.1) in
-    (x.0, x.1, ap (λ (m : NodeOf L). m.dropped_by) (sym same) ∙ kept)

@@ -9,7 +9,7 @@ use Rattle.drt_table.specs.Places.{changed}
 use Rattle.drt_table.specs.Links.{IsBelow, rank, IsKeptAt, IsGreatest, IsNext, AreLinked, IsAfter, heads_after, links_after}
 use Rattle.drt_table.proofs.Lists.{length-changed}
 use Rattle.drt_table.proofs.Adding.{true_not_false}
-use Rattle.drt_table.proofs.Links.{changed_other, changed_here}
+use Rattle.drt_table.proofs.Lists.{changed_other, changed_here}
 use Rattle.drt_table.proofs.Ranks.{same_number, below_above}
 
 pub set_here : {A : Type 0} (xs : List A) (i : ℕ) (y z : A) → slice_get (set xs i y) i ≡ Some z → z ≡ y

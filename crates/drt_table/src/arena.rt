@@ -8,14 +8,15 @@ ghost use Rattle.drt_label.specs.Algebra.{IsTime};
 ghost use Rattle.drt_table.specs.Arena.{Stock, HasNodes};
 ghost use Rattle.drt_table.specs.Held.{AllOf, take_by, count_offer, close_node, hand_out, fresh_held, held_offset, drop_held, dominates_held, placed_nodes, placed_reply};
 ghost use Rattle.drt_table.specs.Links.{AreAlone};
-ghost use Rattle.drt_table.specs.Node.{Held, is_pending, is_taken, is_held_by};
-ghost use Rattle.drt_table.specs.Places.{first, first_from, changed, earliest};
+ghost use Rattle.drt_table.specs.KeptOrder.{IsFirstKept, IsNextKept};
+ghost use Rattle.drt_table.specs.Node.{NodeOf, Held, is_pending, is_taken, is_held_by};
+ghost use Rattle.drt_table.specs.Places.{first, changed, earliest};
 ghost use Rattle.std.specs.Option.{ForSome};
 ghost use Rattle.drt_table.specs.Taking.{is_soon};
 ghost use Rattle.drt_table.specs.View.{kept_at};
 
 use crate::holding::{first_held, first_taken, forget};
-use crate::kept::{first_kept, place_in, push_node};
+use crate::kept::{place_in, push_node};
 use crate::node::{Node, Twin};
 use crate::step::TableReply;
 use crate::waiting::{Queue, admit, first_waiting, pop_ticket, refresh};
@@ -137,20 +138,20 @@ impl<L: Label> Arena<L> {
         first_held(self.nodes.as_slice(), self.taken.as_slice(), worker)
     }
 
-    // The least kept node of the vertex.
+    // The first kept node of the vertex.
     pub(crate) fn first_kept(&self, vertex: u32) -> Option<u32>
-        ensures { result ≡ first (λ h. kept_at L.algebra vertex h.node) self.now.nodes }
+        requires { vertex < self.now.vertices }
+        ensures { IsFirstKept L.algebra (map (λ h. h.node) self.now.nodes) vertex result }
     {
-        first_kept(self.nodes.as_slice(), 0, vertex)
+        self.heads[vertex as usize]
     }
 
     // The next kept node of the node's vertex.
     pub(crate) fn next_kept(&self, id: u32) -> Option<u32>
-        requires { (h : Held L) × (slice_get self.now.nodes id ≡ Some h) × (h.node.dropped_by ≡ None) }
-        ensures { IfSome (slice_get self.now.nodes id) (λ h. result ≡ first_from (id + 1) (λ x. kept_at L.algebra (L.algebra.vertex h.node.label) x.node) self.now.nodes) }
+        requires { (n : NodeOf L) × (slice_get (map (λ h. h.node) self.now.nodes) id ≡ Some n) × (n.dropped_by ≡ None) }
+        ensures { (n : NodeOf L) → slice_get (map (λ h. h.node) self.now.nodes) id ≡ Some n → IsNextKept L.algebra (map (λ h. h.node) self.now.nodes) (L.algebra.vertex n.label) id n result }
     {
-        let vertex = self.nodes[id as usize].vertex();
-        first_kept(self.nodes.as_slice(), id as usize + 1, vertex)
+        self.links[id as usize]
     }
 
     // Adds an opening node, the first of its vertex.

@@ -9,8 +9,7 @@ ghost use Rattle.drt_table.specs.Held.{AllOf, drop_held, dominates_held, fresh_h
 ghost use Rattle.drt_label.specs.Algebra.{IsTime};
 ghost use Rattle.drt_table.specs.Node.{is_kept};
 ghost use Rattle.drt_table.specs.Links.{AreLinked, AreAlone, IsPlace, IsLink, heads_after, links_after};
-ghost use Rattle.drt_table.specs.Places.{first, first_from};
-ghost use Rattle.drt_table.specs.View.{kept_at};
+ghost use Rattle.drt_table.specs.Places.{first};
 ghost use Rattle.std.specs.Option.{ForSome};
 
 use crate::arena::push_within;
@@ -187,19 +186,6 @@ fn link_after(
         None => heads[vertex as usize],
         Some(p) => links[p as usize],
     }
-}
-
-// The first kept node of the vertex from a number on.
-pub(crate) fn first_kept<L: Label>(nodes: &[Node<L>], from: usize, vertex: u32) -> Option<u32>
-    requires { length nodes.now ≤ 2 ^ 32 }
-    ensures { result ≡ first_from from (λ h. kept_at L.algebra vertex h.node) nodes.now }
-{
-    for i in from..nodes.len() {
-        if nodes[i].is_kept_at(vertex) {
-            return Some(i as u32);
-        }
-    }
-    None
 }
 
 // Has `next` come after `last` in the list of the vertex.

@@ -1,24 +1,64 @@
-use Rattle.std.proofs.Common.{◌≡◌, ◌<◌, Some, List, true, ◌∷◌, ◌++◌, [], map, length, set, Vec, Global, refl, sym, ap, ◌∙◌, subst, arith}
-use Rattle.std.specs.Prelude.{slice_get, is_none, option_map}
-use Rattle.std.proofs.lemmas.Option.{slice_get-map, slice_get_read}
-use Rattle.drt_demand.specs.Demand.{Demand}
+use Rattle.std.proofs.Common.{◌≡◌, ◌<◌, ◌++◌, ◌∷◌, [], Some, None, List, map, sym, ap, ◌∙◌, subst, arith}
+use Rattle.std.specs.Prelude.{slice_get, option_map}
+use Rattle.std.proofs.lemmas.List.{length-map}
+use Rattle.std.proofs.lemmas.Option.{same_Some, slice_get-map, slice_get_within}
+use Rattle.drt_model.specs.Digraph.{vertex_count}
+use Rattle.drt_demand.specs.Demand.{Demand, demand_algebra}
+use Rattle.drt_table.specs.KeptOrder.{IsKeptOf, IsNextKept, left_from}
 use Rattle.drt_table.specs.Node.{NodeOf}
-use Rattle.drt_edf.specs.KeptNodes.{row_after}
+use Rattle.drt_table.specs.View.{state_of}
+use Rattle.drt_table.proofs.KeptOrder.{less_left}
+use Rattle.drt_edf.specs.KeptNodes.{AreFalling, IsPassed}
 use Rattle.drt_edf.specs.declared.kept.Kept.{Kept}
-use Rattle.drt_edf.proofs.KeptRows.{rows_set, not_some}
+use Rattle.drt_edf.proofs.KeptLists.{StandsAt, falling_start, falling_more, falling_end, first_stands, next_stands}
 use Rattle.drt_edf.proofs.kept.add_kept.Goals as goal
 
-pub returns-clause-each : goal.returns-clause-each
-returns-clause-each c v row at =
-    let n : NodeOf Demand = c.args.node.now.node in
-    let label : c.deref-label.result.now ≡ n.label = c.deref-label.ensures ∙ ap (λ h. h.node.label) c.node.view_is in
-    let rows = c.args.rows.now.items in
-    let f : _ → List Kept = λ (r : Vec Kept Global). r.items in
-    let vertex : c.label.inside.vertex ≡ n.label.vertex = ap (λ (x : Demand). x.vertex) (c.label.view_is ∙ label) in
-    let lt : c.label.inside.vertex < length rows = omega (arith, c.if-vertex-len.false, c.len.ensures) in
-    let read : slice_get rows c.label.inside.vertex ≡ Some c.index_mut.result.now = slice_get_read rows (length rows) c.label.inside.vertex c.index_mut.result.now refl lt c.index_mut.ensures.value in
-    let old : slice_get (map f rows) n.label.vertex ≡ Some c.index_mut.result.now.items = ap (λ k. slice_get (map f rows) k) (sym vertex) ∙ (slice_get-map f rows c.label.inside.vertex ∙ ap (λ o. option_map f o) read) in
-    let kept : is_none n.dropped_by ≡ true = ap (λ h. is_none h.node.dropped_by) (sym c.node.view_is) ∙ not_some c.node.inside.dropped_by (sym c.is_some.ensures ∙ c.if-is_some.false) in
-    let is : c.push.new.self.items ≡ c.index_mut.result.now.items ++ record { node = c.args.id; label = n.label } ∷ [] = c.in_ok-push.ensures.items ∙ ap (λ l. c.index_mut.result.now.items ++ record { node = c.args.id; label = l } ∷ []) label in
-    subst (λ k. slice_get (map f (set rows k c.push.new.self)) v ≡ Some (row_after c.args.id n v row)) (sym vertex)
-    (rows_set f rows c.args.id n c.push.new.self c.index_mut.result.now.items kept old is v row at)
+pub nodes-init : goal.nodes-init
+nodes-init c =
+    let nodes = (state_of c.args.table.now).nodes in (
+      falling_start nodes c.args.vertex (vertex_count c.args.graph.now) c.first_kept-next.result c.args.kept.now.items c.first_kept-next.ensures c.requires.later,
+      first_stands nodes c.args.vertex c.first_kept-next.result c.first_kept-next.ensures,
+    )
+
+pub nodes-preserved : goal.nodes-preserved
+nodes-preserved c =
+    let nodes : List (NodeOf Demand) = (state_of c.args.table.now).nodes in
+    let v = c.args.vertex in
+    let id = c.in-Some.id in
+    let here : (n : NodeOf Demand) × IsKeptOf demand_algebra nodes v id n = c.nodes.invariant.1 id c.in-Some.is in
+    let next : IsNextKept demand_algebra nodes v id here.0 c.next_kept-next.result =
+    subst (λ u. IsNextKept demand_algebra nodes u id here.0 c.next_kept-next.result) here.1.vertex (c.next_kept-next.ensures here.0 here.1.at) in
+    let at : slice_get nodes id ≡ Some c.node.result.now.node = slice_get-map (λ h. h.node) c.args.table.now.nodes id ∙ ap (λ o. option_map (λ h. h.node) o) c.node.ensures in
+    let label : c.deref.result.now ≡ here.0.label =
+    (c.deref.ensures ∙ ap (λ h. h.node.label) c.behind-table.view_is) ∙ ap (λ (n : NodeOf Demand). n.label) (same_Some c.node.result.now.node here.0 (sym at ∙ here.1.at)) in
+    let old : AreFalling nodes (IsPassed nodes v (vertex_count c.args.graph.now) (Some id)) c.nodes.kept.items =
+    subst (λ o. AreFalling nodes (IsPassed nodes v (vertex_count c.args.graph.now) o) c.nodes.kept.items) c.in-Some.is c.nodes.invariant.0 in (
+      falling_more nodes v (vertex_count c.args.graph.now) id here.0 here.1 c.next_kept-next.result next c.nodes.kept.items c.push.new.self.items c.deref.result.now label c.in_ok-push.ensures.items old,
+      next_stands nodes v id here.0 c.next_kept-next.result next,
+    )
+
+pub nodes-smaller : goal.nodes-smaller
+nodes-smaller c =
+    let nodes : List (NodeOf Demand) = (state_of c.args.table.now).nodes in
+    let here : (n : NodeOf Demand) × IsKeptOf demand_algebra nodes c.args.vertex c.in-Some.id n = c.nodes.invariant.1 c.in-Some.id c.in-Some.is in
+    subst (λ o. left_from demand_algebra nodes c.next_kept-next.result < left_from demand_algebra nodes o) (sym c.in-Some.is)
+    (less_left demand_algebra nodes here.0.label.vertex c.in-Some.id here.0 c.next_kept-next.result here.1.at (c.next_kept-next.ensures here.0 here.1.at))
+
+pub next_kept-next-requires-after_bounds : goal.next_kept-next-requires-after_bounds
+next_kept-next-requires-after_bounds c κs =
+    let here = c.nodes.invariant.1 c.in-Some.id c.in-Some.is in
+    (here.0, here.1.at, here.1.kept)
+
+pub node-requires-after_bounds : goal.node-requires-after_bounds
+node-requires-after_bounds c κs =
+    let nodes : List (NodeOf Demand) = (state_of c.args.table.now).nodes in
+    let here = c.nodes.invariant.1 c.in-Some.id c.in-Some.is in
+    let l = slice_get_within nodes c.in-Some.id here.0 here.1.at in
+    let e = length-map c.args.table.now.nodes (λ h. h.node) in
+    omega (arith, l, e)
+
+pub returns : goal.returns
+returns c =
+    let nodes : List (NodeOf Demand) = (state_of c.args.table.now).nodes in
+    let none = subst (λ o. AreFalling nodes (IsPassed nodes c.args.vertex (vertex_count c.args.graph.now) o) c.nodes.kept.items) c.in_default.is c.nodes.invariant.0 in
+    falling_end nodes c.args.vertex (vertex_count c.args.graph.now) c.requires.vertex c.nodes.kept.items none
