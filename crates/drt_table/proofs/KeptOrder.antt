@@ -1,11 +1,11 @@
 -- The heads and links of the lists, as what callers see of them: the first kept node of a vertex, and the next one of a kept node.
-use Rattle.std.proofs.Common.{◌≡◌, ℕ, suc, ◌+◌, ◌*◌, ◌-◌, ◌<◌, ◌≤◌, ◌⊎◌, inl, inr, Bool, true, Option, Some, None, List, length, map, refl, sym, ap, ◌∙◌, subst, arith}
-use Rattle.std.specs.Prelude.{slice_get, option_map, is_none, IsTrue}
+use Rattle.std.proofs.Common.{◌≡◌, ℕ, suc, ◌+◌, ◌*◌, ◌-◌, ◌<◌, ◌≤◌, ◌⊎◌, inl, inr, true, Option, Some, None, List, length, map, refl, sym, ap, ◌∙◌, subst, arith}
+use Rattle.std.specs.Prelude.{slice_get, option_map, is_none}
 use Rattle.std.proofs.Math.Nat.{mul-le-mul_right}
 use Rattle.std.proofs.lemmas.Option.{none-some, same_Some, slice_get-map, slice_get_within}
 use Rattle.drt_label.specs.Algebra.{Algebra}
-use Rattle.drt_table.specs.Node.{NodeOf, Held, is_kept}
-use Rattle.drt_table.specs.Links.{rank, IsKeptAt, IsNext, standing}
+use Rattle.drt_table.specs.Node.{NodeOf, Held}
+use Rattle.drt_table.specs.Links.{rank, IsKeptAt, IsNext}
 use Rattle.drt_table.specs.KeptOrder.{ComesBefore, IsKeptOf, IsFirstKept, IsNextKept, left_at, left_from}
 use Rattle.drt_table.proofs.Ranks.{above_or_same, above, stands_lower}
 

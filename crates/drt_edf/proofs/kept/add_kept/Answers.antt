@@ -1,4 +1,4 @@
-use Rattle.std.proofs.Common.{◌≡◌, ◌<◌, ◌++◌, ◌∷◌, [], Some, None, List, map, sym, ap, ◌∙◌, subst, arith}
+use Rattle.std.proofs.Common.{◌≡◌, ◌<◌, Some, List, sym, ap, ◌∙◌, subst, arith}
 use Rattle.std.specs.Prelude.{slice_get, option_map}
 use Rattle.std.proofs.lemmas.List.{length-map}
 use Rattle.std.proofs.lemmas.Option.{same_Some, slice_get-map, slice_get_within}
@@ -9,8 +9,7 @@ use Rattle.drt_table.specs.Node.{NodeOf}
 use Rattle.drt_table.specs.View.{state_of}
 use Rattle.drt_table.proofs.KeptOrder.{less_left}
 use Rattle.drt_edf.specs.KeptNodes.{AreFalling, IsPassed}
-use Rattle.drt_edf.specs.declared.kept.Kept.{Kept}
-use Rattle.drt_edf.proofs.KeptLists.{StandsAt, falling_start, falling_more, falling_end, first_stands, next_stands}
+use Rattle.drt_edf.proofs.KeptLists.{falling_start, falling_more, falling_end, first_stands, next_stands}
 use Rattle.drt_edf.proofs.kept.add_kept.Goals as goal
 
 pub nodes-init : goal.nodes-init

@@ -1,4 +1,4 @@
-use Rattle.std.proofs.Common.{◌≡◌, ◌<◌, ◌≤◌, ◌-◌, ◌+◌, ℕ, List, sym, ap, ◌∙◌, subst, arith}
+use Rattle.std.proofs.Common.{◌≡◌, ◌-◌, List, sym, subst, arith}
 use Rattle.drt_model.specs.Digraph.{vertex_count}
 use Rattle.drt_demand.specs.Demand.{Demand}
 use Rattle.drt_table.specs.Node.{NodeOf}

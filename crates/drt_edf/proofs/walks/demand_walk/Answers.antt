@@ -1,10 +1,10 @@
-use Rattle.std.proofs.Common.{◌≡◌, ℕ, ◌<◌, Some, None, List, sym, ap, ◌∙◌, subst, arith}
+use Rattle.std.proofs.Common.{ℕ, ◌<◌, Some, None, List, sym, subst, arith}
 use Rattle.std.specs.Prelude.{Contains}
 use Rattle.std.proofs.lemmas.List.{length-map}
 use Rattle.std.proofs.lemmas.List.Elements.{All-contains}
 use Rattle.std.proofs.lemmas.Option.{slice_get_within}
 use Rattle.std.proofs.lemmas.Result.{IfOk-weaker}
-use Rattle.drt_model.specs.Digraph.{Digraph, vertex_count}
+use Rattle.drt_model.specs.Digraph.{vertex_count}
 use Rattle.drt_demand.specs.Demand.{Demand, demand_algebra}
 use Rattle.drt_table.specs.Machine.{Setting}
 use Rattle.drt_table.specs.Node.{NodeOf}

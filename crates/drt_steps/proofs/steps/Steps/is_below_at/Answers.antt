@@ -1,6 +1,5 @@
-use Rattle.std.proofs.Common.{◌≡◌, ◌<◌, ◌∙◌, sym, arith}
+use Rattle.std.proofs.Common.{◌<◌, arith}
 use Rattle.std.proofs.lemmas.Bool.{ltb-true}
-use Rattle.drt_steps.specs.Values.{value_at}
 use Rattle.drt_steps.proofs.Covering.{below_at}
 use Rattle.drt_steps.proofs.steps.Steps.is_below_at.Goals as goal
 
