@@ -1,5 +1,5 @@
 -- Demand labels as values.
-use Rattle.std.specs.Prelude.{ℕ, ◌+◌, ◌*◌, ◌≤◌, Bool, ◌==◌, nat_le, ◌&&◌}
+use Rattle.std.specs.Prelude.{ℕ, ◌+◌, ◌*◌, ◌≤◌, Bool, true, ◌==◌, nat_le, ◌&&◌}
 use Rattle.drt_label.specs.Algebra.{Algebra}
 
 -- The last vertex of a walk, the sum of its separations and the sum of its execution times.
@@ -40,6 +40,7 @@ demand_algebra = record {
   dominates = dominates;
   is_of = λ x bound. nat_le bound greatest_bound;
   is_extendable = λ x. nat_le x.offset greatest_bound;
+  is_chain = true;
 }
 
 -- What the type of demand labels keeps: the offset and the work are within these limits.

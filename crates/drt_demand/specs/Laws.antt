@@ -1,8 +1,8 @@
 -- Demand labels keep the laws of labels.
-use Rattle.std.specs.Prelude.{◌≡◌, IsTrue, refl}
-use Rattle.std.proofs.Common.{arith, ap, ◌∙◌}
+use Rattle.std.specs.Prelude.{◌≡◌, ◌≤◌, ◌<◌, ◌⊎◌, IsTrue, refl}
+use Rattle.std.proofs.Common.{inl, inr, arith, ap, ◌∙◌}
 use Rattle.std.proofs.lemmas.Bool.Decides.{nat_tests}
-use Rattle.drt_label.specs.Algebra.{Laws}
+use Rattle.drt_label.specs.Algebra.{IsChain, Laws}
 use Rattle.drt_demand.specs.Demand.{Demand, dominates, demand_algebra}
 
 -- Two labels with the same parts are equal.
@@ -16,6 +16,15 @@ same_demand x y p q r =
 antisymmetric : (x y : Demand) → IsTrue (dominates x y) → IsTrue (dominates y x) → x ≡ y
 antisymmetric x y h k = same_demand x y (grind (arith, nat_tests)) (grind (arith, nat_tests)) (grind (arith, nat_tests))
 
+by_work : (x y z : Demand) → x.vertex ≡ y.vertex → y.vertex ≡ z.vertex → x.offset ≤ y.offset → y.offset ≤ z.offset → IsTrue (dominates x z)
+    → (y.work ≤ x.work) ⊎ (x.work < y.work) → IsTrue (dominates x y) ⊎ IsTrue (dominates y z)
+by_work x y z p q r s h (inl le) = inl (grind (arith, nat_tests))
+by_work x y z p q r s h (inr lt) = inr (grind (arith, nat_tests))
+
+-- The work of the middle label is at most that of the first one, or at least that of the last one.
+chain : IsChain demand_algebra
+chain x y z p q r s h = by_work x y z p q r s h (grind arith)
+
 -- The laws.
 pub demand_laws : Laws demand_algebra
 demand_laws = record {
@@ -27,6 +36,7 @@ demand_laws = record {
   ranges = λ x y deadline bound h k. grind (arith, nat_tests);
   same_vertex = λ x y h. grind (arith, nat_tests);
   no_later = λ x y h. grind (arith, nat_tests);
+  chain = λ h. chain;
   opening_vertex = λ number wcet bound. refl;
   opening_offset = λ number wcet bound. refl;
   extended_vertex = λ x sep target wcet. refl;

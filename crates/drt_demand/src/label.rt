@@ -91,4 +91,8 @@ impl Label for DemandLabel {
     fn dominates(&self, other: &DemandLabel) -> bool {
         self.vertex == other.vertex && self.offset <= other.offset && other.work <= self.work
     }
+
+    fn is_chain() -> bool {
+        true
+    }
 }

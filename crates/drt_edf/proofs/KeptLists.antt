@@ -1,249 +1,194 @@
--- The lists of kept nodes.
-use Rattle.std.proofs.Common.{◌≡◌, ℕ, zero, suc, ◌+◌, ◌-◌, ◌<◌, ◌≤◌, ◌⊎◌, inl, inr, Bool, true, false, cond, Option, Some, None, List, [], ◌∷◌, ◌++◌, All, length, drop, get_or, refl, sym, ap, ◌∙◌, subst, arith, append_assoc, add-one}
-use Rattle.std.specs.Prelude.{IsTrue, IfSome, is_none, slice_get, option_map, ◌==◌, ◌&&◌, Contains}
+-- The kept nodes, gathered from the last vertex to the first and in descending order of offset, and then reversed.
+use Rattle.std.proofs.Common.{◌≡◌, ℕ, ◌+◌, ◌-◌, ◌<◌, ◌≤◌, ◌⊎◌, inl, inr, Option, Some, None, List, [], ◌∷◌, ◌++◌, All, length, get_or, reverse, refl, sym, ap, ◌∙◌, subst, arith}
+use Rattle.std.specs.Prelude.{slice_get, Contains}
 use Rattle.std.proofs.lemmas.Bool.{cases_lt}
-use Rattle.std.proofs.lemmas.Bool.Decides.{nat_tests}
 use Rattle.std.proofs.lemmas.Option.{none-some, same_Some}
-use Rattle.std.proofs.lemmas.List.Elements.{All-nil, All-cons, All-weaker, All-append, Contains-append_left, Contains-append_right}
+use Rattle.std.proofs.lemmas.List.{get_or-reverse, length-reverse}
+use Rattle.std.proofs.lemmas.List.Elements.{All-nil, All-push, All-weaker, Contains-append_left, Contains-push}
+use Rattle.std.proofs.lemmas.List.Quantifiers.{all_pairs_push}
+use Rattle.std.proofs.lemmas.List.Sorted.{All-permutation, Contains-permutation, IsPermutation-reverse}
 use Rattle.drt_demand.specs.Demand.{Demand, demand_algebra}
-use Rattle.drt_table.specs.Node.{NodeOf, is_kept}
-use Rattle.drt_table.specs.Places.{first, first_from}
-use Rattle.drt_table.specs.View.{kept_at}
-use Rattle.drt_edf.specs.KeptNodes.{kept_from, kept_upto}
+use Rattle.drt_table.specs.Node.{NodeOf}
+use Rattle.drt_table.specs.KeptOrder.{IsKeptOf, IsFirstKept, IsNextKept}
+use Rattle.drt_edf.specs.KeptNodes.{IsKeptEntry, IsEarlier, IsLower, AreFalling, AreKept, IsFrom, IsAfter, IsPassed}
 use Rattle.drt_edf.specs.declared.kept.Kept.{Kept}
 
-abbrev pub at_vertex : ℕ → NodeOf Demand → Bool
-at_vertex v n = kept_at demand_algebra v n
+-- A node of offset p and number j comes before one of offset o and number i, in ascending order.
+abbrev Precedes : ℕ → ℕ → ℕ → ℕ → Type 0
+Precedes p j o i = (p < o) ⊎ ((p ≡ o) × (i < j))
 
--- A node that a search for kept nodes of v from j on finds.
-pub record IsFoundKept (nodes : List (NodeOf Demand)) (v j i : ℕ) : Type 0 where
-  pub node : NodeOf Demand
-  pub at : slice_get nodes i ≡ Some node
-  pub passes : at_vertex v node ≡ true
-  pub from : j ≤ i
+precedes_on : (q k p j o i : ℕ) → Precedes q k p j → Precedes p j o i → Precedes q k o i
+precedes_on q k p j o i (inl l) (inl m) = inl (omega (arith, l, m))
+precedes_on q k p j o i (inl l) (inr m) = let e = m.0 in inl (omega (arith, l, e))
+precedes_on q k p j o i (inr l) (inl m) = let e = l.0 in inl (omega (arith, e, m))
+precedes_on q k p j o i (inr l) (inr m) = let e = l.0 in let f = m.0 in let a = l.1 in let b = m.1 in inr (omega (arith, e, f), omega (arith, a, b))
 
-found_first : (v : ℕ) (nodes : List (NodeOf Demand)) (i : ℕ) → first (at_vertex v) nodes ≡ Some i → IsFoundKept nodes v 0 i
-found_first v [] i e = absurd (none-some i e)
-found_first v (n ∷ nodes) i e = go (at_vertex v n) refl (first (at_vertex v) nodes) (λ k h. found_first v nodes k h) e
+precedes_once : (p j o i : ℕ) → Precedes p j o i → Precedes o i p j → ⊥
+precedes_once p j o i (inl l) (inl m) = omega (arith, l, m)
+precedes_once p j o i (inl l) (inr m) = let e = m.0 in omega (arith, l, e)
+precedes_once p j o i (inr l) (inl m) = let e = l.0 in omega (arith, e, m)
+precedes_once p j o i (inr l) (inr m) = let a = l.1 in let b = m.1 in omega (arith, a, b)
+
+apart_or_same : (p j o i : ℕ) → Precedes p j o i ⊎ ((i ≡ j) ⊎ Precedes o i p j)
+apart_or_same p j o i = by_offset (cases_lt p o) (cases_lt o p)
   where
-    go : (b : Bool) → at_vertex v n ≡ b → (o : Option ℕ) → ((k : ℕ) → o ≡ Some k → IsFoundKept nodes v 0 k) → cond b (Some 0) (option_map suc o) ≡ Some i → IsFoundKept (n ∷ nodes) v 0 i
-    go true p o ih f = subst (λ k. IsFoundKept (n ∷ nodes) v 0 k) (same_Some 0 i f) (record { node = n; at = refl; passes = p; from = omega arith })
-    go false p None ih f = absurd (none-some i f)
-    go false p (Some k) ih f =
-        let h = ih k refl in
-        subst (λ m. IsFoundKept (n ∷ nodes) v 0 m) (same_Some (suc k) i f) (record { node = h.node; at = h.at; passes = h.passes; from = omega arith })
+    by_number : p ≡ o → (i < j) ⊎ (j ≤ i) → (j < i) ⊎ (i ≤ j) → Precedes p j o i ⊎ ((i ≡ j) ⊎ Precedes o i p j)
+    by_number e (inl l) m = inl (inr (e, l))
+    by_number e (inr l) (inl m) = inr (inr (inr (sym e, m)))
+    by_number e (inr l) (inr m) = inr (inl (omega (arith, l, m)))
 
-pub found_from : (v j : ℕ) (nodes : List (NodeOf Demand)) (i : ℕ) → first_from j (at_vertex v) nodes ≡ Some i → IsFoundKept nodes v j i
-found_from v zero nodes i e = found_first v nodes i e
-found_from v (suc j) [] i e = absurd (none-some i e)
-found_from v (suc j) (n ∷ nodes) i e = go (first_from j (at_vertex v) nodes) (λ k h. found_from v j nodes k h) e
+    by_offset : (p < o) ⊎ (o ≤ p) → (o < p) ⊎ (p ≤ o) → Precedes p j o i ⊎ ((i ≡ j) ⊎ Precedes o i p j)
+    by_offset (inl l) m = inl (inl l)
+    by_offset (inr l) (inl m) = inr (inr (inl m))
+    by_offset (inr l) (inr m) = by_number (omega (arith, l, m)) (cases_lt i j) (cases_lt j i)
+
+-- An entry is a kept node of its vertex.
+kept_of : (nodes : List (NodeOf Demand)) (v : ℕ) (x : Kept) (e : IsKeptEntry nodes x) → x.label.vertex ≡ v → IsKeptOf demand_algebra nodes v x.node e.node
+kept_of nodes v x e same = record { at = e.at; kept = e.kept; vertex = ap (λ (l : Demand). l.vertex) e.label ∙ same }
+
+-- And a kept node an entry.
+pub entry_for : (nodes : List (NodeOf Demand)) (v i : ℕ) (m : NodeOf Demand) → IsKeptOf demand_algebra nodes v i m → IsKeptEntry nodes (record { node = i; label = m.label })
+entry_for nodes v i m is = record { node = m; at = is.at; kept = is.kept; label = refl }
+
+module _ (nodes : List (NodeOf Demand)) (v count : ℕ) where
+  -- Where node j stands at or above an entry, that one does not come after j.
+  not_after : (j : ℕ) (m : NodeOf Demand) → slice_get nodes j ≡ Some m → (x : Kept) (e : IsKeptEntry nodes x) → IsAfter nodes (Some j) x
+      → (x.node ≡ j) ⊎ Precedes e.node.label.offset x.node m.label.offset j → ⊥
+  not_after j m at x e after (inl same) =
+      let other : IsEarlier (record { node = j; label = m.label }) x = after m at in
+      let one : m ≡ e.node = same_Some m e.node (sym at ∙ (ap (λ k. slice_get nodes k) (sym same) ∙ e.at)) in
+      let offset : m.label.offset ≡ x.label.offset = ap (λ (n : NodeOf Demand). n.label.offset) one ∙ ap (λ (l : Demand). l.offset) e.label in
+      neither other offset same
+    where
+      neither : IsEarlier (record { node = j; label = m.label }) x → m.label.offset ≡ x.label.offset → x.node ≡ j → ⊥
+      neither (inl l) o n = omega (arith, l, o)
+      neither (inr l) o n = let a = l.1 in omega (arith, a, n)
+  not_after j m at x e after (inr lower) =
+      precedes_once m.label.offset j x.label.offset x.node (after m at) (subst (λ (l : Demand). Precedes l.offset x.node m.label.offset j) e.label lower)
+
+  -- Where the walk of a vertex begins, the entries are those of the later vertices.
+  pub falling_start : (o : Option ℕ) (kept : List Kept) → IsFirstKept demand_algebra nodes v o → AreFalling nodes (IsFrom (v + 1) count) kept → AreFalling nodes (IsPassed nodes v count o) kept
+  falling_start o kept first are = record {
+    sound = All-weaker (λ x. IsKeptEntry nodes x × IsFrom (v + 1) count x) (λ x. IsKeptEntry nodes x × IsPassed nodes v count o x) (λ x e. (e.0, inl (let l = e.1.0 in omega (arith, l), e.1.1))) kept are.sound;
+    complete = λ x e p. complete x e p;
+    order = are.order;
+  }
+    where
+      none : (o : Option ℕ) → IsFirstKept demand_algebra nodes v o → (x : Kept) → IsKeptEntry nodes x → x.label.vertex ≡ v → IsAfter nodes o x → ⊥
+      none None first x e same after = first x.node e.node (kept_of nodes v x e same)
+      none (Some j) first x e same after = not_after j first.0 first.1.at x e after (first.2 x.node e.node (kept_of nodes v x e same))
+
+      complete : (x : Kept) → IsKeptEntry nodes x → IsPassed nodes v count o x → Contains kept x
+      complete x e (inl l) = are.complete x e (let a = l.0 in omega (arith, a), l.1)
+      complete x e (inr l) = absurd (none o first x e l.0 l.1)
+
+  -- One more node of the vertex.
+  module _ (id : ℕ) (m : NodeOf Demand) (is : IsKeptOf demand_algebra nodes v id m) (o : Option ℕ) (next : IsNextKept demand_algebra nodes v id m o) where
+    abbrev one : Kept
+    one = record { node = id; label = m.label }
+
+    passes_on : (x : Kept) → IsEarlier one x → (p : Option ℕ) → IsNextKept demand_algebra nodes v id m p → IsAfter nodes p x
+    passes_on x before None next = tt
+    passes_on x before (Some j) next = λ n at.
+        let same : next.0 ≡ n = same_Some next.0 n (sym next.1.at ∙ at) in
+        precedes_on n.label.offset j m.label.offset id x.label.offset x.node (subst (λ (z : NodeOf Demand). Precedes z.label.offset j m.label.offset id) same next.2) before
+
+    still_passed : (x : Kept) → IsPassed nodes v count (Some id) x → IsPassed nodes v count o x
+    still_passed x (inl l) = inl l
+    still_passed x (inr l) = inr (l.0, passes_on x (l.1 m is.at) o next)
+
+    below : (x : Kept) → IsPassed nodes v count (Some id) x → IsLower one x
+    below x (inl l) = let a = l.0 in let b = is.vertex in inl (omega (arith, a, b))
+    below x (inr l) = let a = l.0 in inr (is.vertex ∙ sym a, l.1 m is.at)
+
+    not_passed : (x : Kept) (e : IsKeptEntry nodes x) → x.label.vertex ≡ v → Precedes x.label.offset x.node m.label.offset id → (p : Option ℕ) → IsNextKept demand_algebra nodes v id m p → IsAfter nodes p x → ⊥
+    not_passed x e same lower None next after = next x.node e.node (kept_of nodes v x e same) (subst (λ (l : Demand). Precedes l.offset x.node m.label.offset id) (sym e.label) lower)
+    not_passed x e same lower (Some j) next after =
+        not_after j next.0 next.1.at x e after (next.3 x.node e.node (kept_of nodes v x e same) (subst (λ (l : Demand). Precedes l.offset x.node m.label.offset id) (sym e.label) lower))
+
+    same_entry : (x : Kept) (e : IsKeptEntry nodes x) → x.node ≡ id → one ≡ x
+    same_entry x e same =
+        let node : m ≡ e.node = same_Some m e.node (sym is.at ∙ (ap (λ k. slice_get nodes k) (sym same) ∙ e.at)) in
+        ap (λ k. record { node = k; label = m.label }) (sym same) ∙ ap (λ l. record { node = x.node; label = l }) (ap (λ (n : NodeOf Demand). n.label) node ∙ e.label)
+
+    pub falling_more : (kept new : List Kept) (l : Demand) → l ≡ m.label → new ≡ kept ++ record { node = id; label = l } ∷ [] → AreFalling nodes (IsPassed nodes v count (Some id)) kept → AreFalling nodes (IsPassed nodes v count o) new
+    falling_more kept new l label pushed are = subst (AreFalling nodes (IsPassed nodes v count o)) (sym (pushed ∙ ap (λ y. kept ++ record { node = id; label = y } ∷ []) label)) (record {
+      sound =
+          All-push (λ x. IsKeptEntry nodes x × IsPassed nodes v count o x) kept one
+          (All-weaker (λ x. IsKeptEntry nodes x × IsPassed nodes v count (Some id) x) (λ x. IsKeptEntry nodes x × IsPassed nodes v count o x) (λ x e. (e.0, still_passed x e.1)) kept are.sound)
+          (entry_for nodes v id m is, inr (is.vertex, itself o next));
+      complete = complete;
+      order = all_pairs_push (λ x y. IsLower y x) kept one are.order (λ k d lt. below (get_or kept k d) (are.sound k d lt).1);
+    })
+      where
+        itself : (p : Option ℕ) → IsNextKept demand_algebra nodes v id m p → IsAfter nodes p one
+        itself None next = tt
+        itself (Some j) next = λ n at.
+            let same : next.0 ≡ n = same_Some next.0 n (sym next.1.at ∙ at) in
+            subst (λ (z : NodeOf Demand). Precedes z.label.offset j m.label.offset id) same next.2
+
+        complete : (x : Kept) → IsKeptEntry nodes x → IsPassed nodes v count o x → Contains (kept ++ one ∷ []) x
+        complete x e (inl p) = Contains-append_left kept (one ∷ []) x (are.complete x e (inl p))
+        complete x e (inr p) = by_place (apart_or_same m.label.offset id x.label.offset x.node)
+          where
+            by_place : Precedes m.label.offset id x.label.offset x.node ⊎ ((x.node ≡ id) ⊎ Precedes x.label.offset x.node m.label.offset id) → Contains (kept ++ one ∷ []) x
+            by_place (inl before) =
+                Contains-append_left kept (one ∷ []) x
+                (are.complete x e (inr (p.0, λ n at. subst (λ (z : NodeOf Demand). Precedes z.label.offset id x.label.offset x.node) (same_Some m n (sym is.at ∙ at)) before)))
+            by_place (inr (inl same)) = subst (Contains (kept ++ one ∷ [])) (same_entry x e same) (Contains-push kept one)
+            by_place (inr (inr lower)) = absurd (not_passed x e p.0 lower o next p.1)
+
+  -- Where the walk ends, the entries are those from the vertex on.
+  pub falling_end : v < count → (kept : List Kept) → AreFalling nodes (IsPassed nodes v count None) kept → AreFalling nodes (IsFrom v count) kept
+  falling_end lt kept are = record {
+    sound = All-weaker (λ x. IsKeptEntry nodes x × IsPassed nodes v count None x) (λ x. IsKeptEntry nodes x × IsFrom v count x) (λ x e. (e.0, from x e.1)) kept are.sound;
+    complete = λ x e p. are.complete x e (passed x p (cases_lt v x.label.vertex));
+    order = are.order;
+  }
+    where
+      from : (x : Kept) → IsPassed nodes v count None x → IsFrom v count x
+      from x (inl l) = (let a = l.0 in omega (arith, a), l.1)
+      from x (inr l) = let a = l.0 in (omega (arith, a), omega (arith, a, lt))
+
+      passed : (x : Kept) → IsFrom v count x → (v < x.label.vertex) ⊎ (x.label.vertex ≤ v) → IsPassed nodes v count None x
+      passed x p (inl l) = inl (l, p.1)
+      passed x p (inr l) = let a = p.0 in inr (omega (arith, a, l), tt)
+
+-- The walk stands at kept nodes of the vertex.
+abbrev pub StandsAt : List (NodeOf Demand) → ℕ → Option ℕ → Type 0
+StandsAt nodes v o = (id : ℕ) → o ≡ Some id → (n : NodeOf Demand) × IsKeptOf demand_algebra nodes v id n
+
+pub first_stands : (nodes : List (NodeOf Demand)) (v : ℕ) (o : Option ℕ) → IsFirstKept demand_algebra nodes v o → StandsAt nodes v o
+first_stands nodes v None first id e = absurd (none-some id e)
+first_stands nodes v (Some j) first id e = subst (λ k. (n : NodeOf Demand) × IsKeptOf demand_algebra nodes v k n) (same_Some j id e) (first.0, first.1)
+
+pub next_stands : (nodes : List (NodeOf Demand)) (v i : ℕ) (m : NodeOf Demand) (o : Option ℕ) → IsNextKept demand_algebra nodes v i m o → StandsAt nodes v o
+next_stands nodes v i m None next id e = absurd (none-some id e)
+next_stands nodes v i m (Some j) next id e = subst (λ k. (n : NodeOf Demand) × IsKeptOf demand_algebra nodes v k n) (same_Some j id e) (next.0, next.1)
+
+-- Before the first walk there are none.
+pub falling_none : (nodes : List (NodeOf Demand)) (count v : ℕ) → count ≤ v → AreFalling nodes (IsFrom v count) []
+falling_none nodes count v le = record {
+  sound = All-nil (λ x. IsKeptEntry nodes x × IsFrom v count x);
+  complete = λ x e p. let a = p.0 in let b = p.1 in absurd (omega (arith, a, b, le));
+  order = λ i j d l m. absurd (omega (arith, m));
+}
+
+-- All are gathered; reversed they stand in order.
+pub kept_reversed : (nodes : List (NodeOf Demand)) (count : ℕ) (kept : List Kept) → AreFalling nodes (IsFrom 0 count) kept → AreKept count nodes (reverse kept)
+kept_reversed nodes count kept are = record {
+  sound =
+      All-permutation (λ x. IsKeptEntry nodes x × (x.label.vertex < count)) kept (reverse kept) (IsPermutation-reverse kept)
+      (All-weaker (λ x. IsKeptEntry nodes x × IsFrom 0 count x) (λ x. IsKeptEntry nodes x × (x.label.vertex < count)) (λ x e. (e.0, e.1.1)) kept are.sound);
+  complete = λ x e l. Contains-permutation kept (reverse kept) x (IsPermutation-reverse kept) (are.complete x e (omega arith, l));
+  order = order;
+}
   where
-    go : (o : Option ℕ) → ((k : ℕ) → o ≡ Some k → IsFoundKept nodes v j k) → option_map suc o ≡ Some i → IsFoundKept (n ∷ nodes) v (suc j) i
-    go None ih f = absurd (none-some i f)
-    go (Some k) ih f =
-        let h = ih k refl in
-        let l = h.from in
-        subst (λ m. IsFoundKept (n ∷ nodes) v (suc j) m) (same_Some (suc k) i f) (record { node = h.node; at = h.at; passes = h.passes; from = omega (arith, l) })
-
--- Where a search finds none, none is left.
-none_first : (v : ℕ) (nodes : List (NodeOf Demand)) → first (at_vertex v) nodes ≡ None → (b : ℕ) → kept_from b v nodes ≡ []
-none_first v [] e b = refl
-none_first v (n ∷ nodes) e b = go (at_vertex v n) (first (at_vertex v) nodes) (λ h. none_first v nodes h (suc b)) e
-  where
-    go : (c : Bool) (o : Option ℕ) → (o ≡ None → kept_from (suc b) v nodes ≡ []) → cond c (Some 0) (option_map suc o) ≡ None → cond c (record { node = b; label = n.label } ∷ kept_from (suc b) v nodes) (kept_from (suc b) v nodes) ≡ []
-    go true o ih f = absurd (cc)
-    go false None ih f = ih refl
-    go false (Some k) ih f = absurd (cc)
-
-pub none_left : (v j : ℕ) (nodes : List (NodeOf Demand)) → first_from j (at_vertex v) nodes ≡ None → (b : ℕ) → kept_from b v (drop j nodes) ≡ []
-none_left v zero nodes e b = none_first v nodes e b
-none_left v (suc j) [] e b = refl
-none_left v (suc j) (n ∷ nodes) e b = go (first_from j (at_vertex v) nodes) (λ h. none_left v j nodes h b) e
-  where
-    go : (o : Option ℕ) → (o ≡ None → kept_from b v (drop j nodes) ≡ []) → option_map suc o ≡ None → kept_from b v (drop j nodes) ≡ []
-    go None ih f = ih refl
-    go (Some k) ih f = absurd (cc)
-
--- A kept node of v and those after it.
-abbrev from_one : ℕ → ℕ → NodeOf Demand → List (NodeOf Demand) → List Kept
-from_one v k n rest = record { node = k; label = n.label } ∷ kept_from (suc k) v rest
-
--- Where it finds one, this one is the first that is left.
-one_first : (v b i d : ℕ) (nodes : List (NodeOf Demand)) (m : NodeOf Demand) → first (at_vertex v) nodes ≡ Some i → slice_get nodes i ≡ Some m → d ≡ b + i → kept_from b v nodes ≡ from_one v d m (drop (suc i) nodes)
-one_first v b i d [] m e at q = absurd (none-some i e)
-one_first v b i d (n ∷ nodes) m e at q = go (at_vertex v n) (first (at_vertex v) nodes) (λ k h g r. one_first v (suc b) k d nodes m h g r) i e at q
-  where
-    go : (c : Bool) (o : Option ℕ) → ((k : ℕ) → o ≡ Some k → slice_get nodes k ≡ Some m → d ≡ suc b + k → kept_from (suc b) v nodes ≡ from_one v d m (drop (suc k) nodes))
-        → (i : ℕ) → cond c (Some 0) (option_map suc o) ≡ Some i → slice_get (n ∷ nodes) i ≡ Some m → d ≡ b + i → cond c (from_one v b n nodes) (kept_from (suc b) v nodes) ≡ from_one v d m (drop i nodes)
-    go true o ih zero f at q =
-        let same : b ≡ d = omega (arith, q) in
-        ap (λ x. from_one v x n nodes) same ∙ ap (λ y. from_one v d y nodes) (same_Some n m at)
-    go true o ih (suc i) f at q = absurd (cc)
-    go false None ih i f at q = absurd (none-some i f)
-    go false (Some k) ih zero f at q = absurd (cc)
-    go false (Some k) ih (suc i) f at q =
-        let same : suc k ≡ suc i = same_Some (suc k) (suc i) f in
-        let k_is : k ≡ i = omega (arith, same) in
-        subst (λ x. kept_from (suc b) v nodes ≡ from_one v d m (drop (suc x) nodes)) k_is (ih k refl (subst (λ x. slice_get nodes x ≡ Some m) (sym k_is) at) (omega (arith, q, k_is)))
-
-pub one_left : (v b j i c d : ℕ) (nodes : List (NodeOf Demand)) (m : NodeOf Demand) → first_from j (at_vertex v) nodes ≡ Some i → slice_get nodes i ≡ Some m → c ≡ b + j → d ≡ b + i → kept_from c v (drop j nodes) ≡ from_one v d m (drop (suc i) nodes)
-one_left v b zero i c d nodes m e at p q = one_first v c i d nodes m e at (omega (arith, p, q))
-one_left v b (suc j) i c d [] m e at p q = absurd (none-some i e)
-one_left v b (suc j) i c d (n ∷ nodes) m e at p q = go (first_from j (at_vertex v) nodes) (λ k h g r. one_left v (suc b) j k c d nodes m h g (omega (arith, p)) r) i e at q
-  where
-    go : (o : Option ℕ) → ((k : ℕ) → o ≡ Some k → slice_get nodes k ≡ Some m → d ≡ suc b + k → kept_from c v (drop j nodes) ≡ from_one v d m (drop (suc k) nodes)) → (i : ℕ) → option_map suc o ≡ Some i → slice_get (n ∷ nodes) i ≡ Some m → d ≡ b + i → kept_from c v (drop j nodes) ≡ from_one v d m (drop i nodes)
-    go None ih i f at q = absurd (none-some i f)
-    go (Some k) ih zero f at q = absurd (cc)
-    go (Some k) ih (suc i) f at q =
-        let same : suc k ≡ suc i = same_Some (suc k) (suc i) f in
-        let k_is : k ≡ i = omega (arith, same) in
-        subst (λ x. kept_from c v (drop j nodes) ≡ from_one v d m (drop (suc x) nodes)) k_is (ih k refl (subst (λ x. slice_get nodes x ≡ Some m) (sym k_is) at) (omega (arith, q, k_is)))
-
--- What passes is kept and of the vertex.
-pub passes_kept : (v : ℕ) (n : NodeOf Demand) → at_vertex v n ≡ true → n.dropped_by ≡ None
-passes_kept v n e = go n.dropped_by e
-  where
-    go : (o : Option ℕ) → (is_none o && (n.label.vertex == v)) ≡ true → o ≡ None
-    go None h = refl
-    go (Some k) h = absurd (cc)
-
-pub passes_vertex : (v : ℕ) (n : NodeOf Demand) → at_vertex v n ≡ true → n.label.vertex ≡ v
-passes_vertex v n e = grind (arith, nat_tests)
-
--- The search goes on at the same vertex.
-pub next_is : (v i : ℕ) (nodes : List (NodeOf Demand)) (m : NodeOf Demand) (r : Option ℕ) → slice_get nodes i ≡ Some m → at_vertex v m ≡ true → IfSome (slice_get nodes i) (λ n. r ≡ first_from (i + 1) (kept_at demand_algebra n.label.vertex) nodes) → r ≡ first_from (i + 1) (at_vertex v) nodes
-next_is v i nodes m r at passes is =
-    let found : r ≡ first_from (i + 1) (at_vertex m.label.vertex) nodes = rw at at is in
-    subst (λ x. r ≡ first_from (i + 1) (at_vertex x) nodes) (passes_vertex v m passes) found
-
--- The entries so far and those that are left, with one more.
-pub more_entries : (v j i : ℕ) (nodes : List (NodeOf Demand)) (m : NodeOf Demand) (old new whole : List Kept) (l : Demand) → first_from j (at_vertex v) nodes ≡ Some i → slice_get nodes i ≡ Some m → l ≡ m.label → new ≡ old ++ record { node = i; label = l } ∷ [] → old ++ kept_from j v (drop j nodes) ≡ whole → new ++ kept_from (i + 1) v (drop (i + 1) nodes) ≡ whole
-more_entries v j i nodes m old new whole l e at is pushed sum =
-    ap (λ xs. xs ++ kept_from (i + 1) v (drop (i + 1) nodes)) pushed
-    ∙ (append_assoc old (record { node = i; label = l } ∷ []) (kept_from (i + 1) v (drop (i + 1) nodes))
-    ∙ (ap (λ x. old ++ record { node = i; label = x } ∷ kept_from (i + 1) v (drop (i + 1) nodes)) is
-    ∙ (ap (λ k. old ++ record { node = i; label = m.label } ∷ kept_from k v (drop k nodes)) (add-one i)
-    ∙ (ap (λ xs. old ++ xs) (sym (one_left v 0 j i j i nodes m e at (omega arith) (omega arith))) ∙ sum))))
-
--- How many nodes are left from the next one on.
-abbrev pub left_from : ℕ → Option ℕ → ℕ
-left_from n None = 0
-left_from n (Some i) = n - i
-
-pub fewer_left : (v i n : ℕ) (nodes : List (NodeOf Demand)) (o : Option ℕ) → o ≡ first_from (i + 1) (at_vertex v) nodes → i < n → left_from n o < n - i
-fewer_left v i n nodes None e l = omega (arith, l)
-fewer_left v i n nodes (Some k) e l = let h = (found_from v (i + 1) nodes k (sym e)).from in omega (arith, l, h)
-
--- A node of the list is kept and has the label.
-pub record IsKeptEntry (all : List (NodeOf Demand)) (x : Kept) : Type 0 where
-  pub node : NodeOf Demand
-  pub at : slice_get all x.node ≡ Some node
-  pub kept : IsTrue (is_kept node)
-  pub label : node.label ≡ x.label
-
-abbrev pub IsEntryFrom : List (NodeOf Demand) → ℕ → ℕ → Kept → Type 0
-IsEntryFrom all v k x = IsKeptEntry all x × (x.label.vertex ≡ v) × (k ≤ x.node)
-
--- The nodes are those of the list from k on.
-abbrev IsPart : List (NodeOf Demand) → ℕ → List (NodeOf Demand) → Type 0
-IsPart all k nodes = (i j : ℕ) (n : NodeOf Demand) → j ≡ k + i → slice_get nodes i ≡ Some n → slice_get all j ≡ Some n
-
-rest_part : (all : List (NodeOf Demand)) (k : ℕ) (n : NodeOf Demand) (nodes : List (NodeOf Demand)) → IsPart all k (n ∷ nodes) → IsPart all (suc k) nodes
-rest_part all k n nodes is i j m e at = is (suc i) j m (omega (arith, e)) at
-
-from_all : (all : List (NodeOf Demand)) (v k : ℕ) (nodes : List (NodeOf Demand)) → IsPart all k nodes → All (IsEntryFrom all v k) (kept_from k v nodes)
-from_all all v k [] is = All-nil (IsEntryFrom all v k)
-from_all all v k (n ∷ nodes) is =
-    go (at_vertex v n) refl (All-weaker (IsEntryFrom all v (suc k)) (IsEntryFrom all v k) (λ x e. (e.0, e.1, (let l = e.2 in omega (arith, l)))) (kept_from (suc k) v nodes) (from_all all v (suc k) nodes (rest_part all k n nodes is)))
-  where
-    go : (b : Bool) → at_vertex v n ≡ b → All (IsEntryFrom all v k) (kept_from (suc k) v nodes) → All (IsEntryFrom all v k) (cond b (record { node = k; label = n.label } ∷ kept_from (suc k) v nodes) (kept_from (suc k) v nodes))
-    go true e rest =
-        let kept : is_kept n ≡ true = grind (arith, nat_tests) in
-        let vertex : n.label.vertex ≡ v = grind (arith, nat_tests) in
-        All-cons (IsEntryFrom all v k) (record { node = k; label = n.label }) (kept_from (suc k) v nodes) (record { node = n; at = is 0 k n (omega arith) refl; kept = kept; label = refl }, vertex, omega arith) rest
-    go false e rest = rest
-
-from_has : (v k : ℕ) (nodes : List (NodeOf Demand)) (i j : ℕ) (m : NodeOf Demand) → slice_get nodes i ≡ Some m → at_vertex v m ≡ true → j ≡ k + i → Contains (kept_from k v nodes) (record { node = j; label = m.label })
-from_has v k [] i j m at e q = absurd (none-some m at)
-from_has v k (n ∷ nodes) zero j m at e q =
-    let same : n ≡ m = same_Some n m at in
-    let here : at_vertex v n ≡ true = ap (at_vertex v) same ∙ e in
-    let number : j ≡ k = omega (arith, q) in
-    subst (λ c. Contains (cond c (record { node = k; label = n.label } ∷ kept_from (suc k) v nodes) (kept_from (suc k) v nodes)) (record { node = j; label = m.label })) (sym here)
-    (zero, omega arith, ap (λ x. record { node = x; label = n.label }) (sym number) ∙ ap (λ y. record { node = j; label = y.label }) same)
-from_has v k (n ∷ nodes) (suc i) j m at e q = go (at_vertex v n) (from_has v (suc k) nodes i j m at e (omega (arith, q)))
-  where
-    go : (c : Bool) → Contains (kept_from (suc k) v nodes) (record { node = j; label = m.label }) → Contains (cond c (record { node = k; label = n.label } ∷ kept_from (suc k) v nodes) (kept_from (suc k) v nodes)) (record { node = j; label = m.label })
-    go true h = let l = h.1 in (suc h.0, omega (arith, l), h.2)
-    go false h = h
-
--- R holds of each element and each later one.
-abbrev pub Pairs : (Kept → Kept → Type 0) → List Kept → Type 0
-Pairs R xs = (i j : ℕ) (d : Kept) → i < j → j < length xs → R (get_or xs i d) (get_or xs j d)
-
-pairs_cons : (R : Kept → Kept → Type 0) (x : Kept) (xs : List Kept) → All (R x) xs → Pairs R xs → Pairs R (x ∷ xs)
-pairs_cons R x xs head rest i zero d l m = absurd (omega (arith, l))
-pairs_cons R x xs head rest zero (suc j) d l m = head j d (omega (arith, m))
-pairs_cons R x xs head rest (suc i) (suc j) d l m = rest i j d (omega (arith, l)) (omega (arith, m))
-
-pairs_append : (R : Kept → Kept → Type 0) (xs ys : List Kept) → Pairs R xs → Pairs R ys → All (λ x. All (R x) ys) xs → Pairs R (xs ++ ys)
-pairs_append R [] ys p q cross = q
-pairs_append R (x ∷ xs) ys p q cross =
-    pairs_cons R x (xs ++ ys) (All-append (R x) xs ys (λ j d l. p 0 (suc j) d (omega arith) (omega (arith, l))) (cross 0 x (omega arith)))
-    (pairs_append R xs ys (λ i j d l m. p (suc i) (suc j) d (omega (arith, l)) (omega (arith, m))) q (λ k d l. cross (suc k) d (omega (arith, l))))
-
--- The second entry is of a later vertex, or of the same one with a later node.
-abbrev pub IsBefore : Kept → Kept → Type 0
-IsBefore x y = (x.label.vertex < y.label.vertex) ⊎ ((x.label.vertex ≡ y.label.vertex) × (x.node < y.node))
-
-from_order : (all : List (NodeOf Demand)) (v k : ℕ) (nodes : List (NodeOf Demand)) → IsPart all k nodes → Pairs IsBefore (kept_from k v nodes)
-from_order all v k [] is = λ i j d l m. absurd (omega (arith, m))
-from_order all v k (n ∷ nodes) is = go (at_vertex v n) refl (from_all all v (suc k) nodes (rest_part all k n nodes is)) (from_order all v (suc k) nodes (rest_part all k n nodes is))
-  where
-    go : (b : Bool) → at_vertex v n ≡ b → All (IsEntryFrom all v (suc k)) (kept_from (suc k) v nodes) → Pairs IsBefore (kept_from (suc k) v nodes) → Pairs IsBefore (cond b (record { node = k; label = n.label } ∷ kept_from (suc k) v nodes) (kept_from (suc k) v nodes))
-    go true e entries rest =
-        let vertex : n.label.vertex ≡ v = grind (arith, nat_tests) in
-        pairs_cons IsBefore (record { node = k; label = n.label }) (kept_from (suc k) v nodes) (All-weaker (IsEntryFrom all v (suc k)) (λ y. IsBefore (record { node = k; label = n.label }) y) (λ y h. inr (vertex ∙ sym h.1, (let l = h.2 in omega (arith, l)))) (kept_from (suc k) v nodes) entries) rest
-    go false e entries rest = rest
-
-whole : (all : List (NodeOf Demand)) → IsPart all 0 all
-whole all i j n e at = let same : i ≡ j = omega (arith, e) in subst (λ k. slice_get all k ≡ Some n) same at
-
--- The entries of the vertices below n.
-abbrev pub IsEntryBelow : List (NodeOf Demand) → ℕ → Kept → Type 0
-IsEntryBelow all n x = IsKeptEntry all x × (x.label.vertex < n)
-
-pub upto_all : (all : List (NodeOf Demand)) (n : ℕ) → All (IsEntryBelow all n) (kept_upto n all)
-unfolding kept_upto
-upto_all all zero = All-nil (IsEntryBelow all 0)
-upto_all all (suc n) =
-    All-append (IsEntryBelow all (suc n)) (kept_upto n all) (kept_from 0 n all)
-    (All-weaker (IsEntryBelow all n) (IsEntryBelow all (suc n)) (λ x e. (e.0, (let l = e.1 in omega (arith, l)))) (kept_upto n all) (upto_all all n))
-    (All-weaker (IsEntryFrom all n 0) (IsEntryBelow all (suc n)) (λ x e. (e.0, (let l = e.1 in omega (arith, l)))) (kept_from 0 n all) (from_all all n 0 all (whole all)))
-
-pub upto_has : (all : List (NodeOf Demand)) (n i : ℕ) (m : NodeOf Demand) → slice_get all i ≡ Some m → IsTrue (is_kept m) → m.label.vertex < n → Contains (kept_upto n all) (record { node = i; label = m.label })
-unfolding kept_upto
-upto_has all zero i m at kept l = absurd (omega (arith, l))
-upto_has all (suc n) i m at kept l = go (cases_lt m.label.vertex n) (λ h. upto_has all n i m at kept h)
-  where
-    go : (m.label.vertex < n) ⊎ (n ≤ m.label.vertex) → (m.label.vertex < n → Contains (kept_upto n all) (record { node = i; label = m.label })) → Contains (kept_upto n all ++ kept_from 0 n all) (record { node = i; label = m.label })
-    go (inl h) ih = Contains-append_left (kept_upto n all) (kept_from 0 n all) (record { node = i; label = m.label }) (ih h)
-    go (inr h) ih =
-        let same : m.label.vertex ≡ n = omega (arith, l, h) in
-        let passes : at_vertex n m ≡ true = grind (arith, nat_tests) in
-        Contains-append_right (kept_upto n all) (kept_from 0 n all) (record { node = i; label = m.label }) (from_has n 0 all i i m at passes (omega arith))
-
-pub upto_order : (all : List (NodeOf Demand)) (n : ℕ) → Pairs IsBefore (kept_upto n all)
-unfolding kept_upto
-upto_order all zero = λ i j d l m. absurd (omega (arith, m))
-upto_order all (suc n) =
-    pairs_append IsBefore (kept_upto n all) (kept_from 0 n all) (upto_order all n) (from_order all n 0 all (whole all))
-    (All-weaker (IsEntryBelow all n) (λ x. All (IsBefore x) (kept_from 0 n all)) (λ x e. All-weaker (IsEntryFrom all n 0) (IsBefore x) (λ y h. inl (let a = e.1 in let b = h.1 in omega (arith, a, b))) (kept_from 0 n all) (from_all all n 0 all (whole all))) (kept_upto n all) (upto_all all n))
-
-pub upto_more : (n : ℕ) (all : List (NodeOf Demand)) → kept_upto (suc n) all ≡ kept_upto n all ++ kept_from 0 n all
-unfolding kept_upto
-upto_more n all = refl
-
-pub upto_none : (all : List (NodeOf Demand)) → kept_upto 0 all ≡ []
-unfolding kept_upto
-upto_none all = refl
+    order : (i j : ℕ) (d : Kept) → i < j → j < length (reverse kept) → IsLower (get_or (reverse kept) i d) (get_or (reverse kept) j d)
+    order i j d l m =
+        let e : length (reverse kept) ≡ length kept = length-reverse kept in
+        let q : j < length kept = omega (arith, m, e) in
+        let p : i < length kept = omega (arith, l, q) in
+        let x = get_or-reverse kept i d p in
+        let y = get_or-reverse kept j d q in
+        rw (x, y) (are.order (length kept - 1 - j) (length kept - 1 - i) d (omega (arith, l, q)) (omega (arith, p)))

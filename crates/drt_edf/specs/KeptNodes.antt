@@ -1,35 +1,58 @@
 -- The kept nodes of a search of a task's walks.
-use Rattle.std.specs.Prelude.{◌≡◌, ℕ, zero, suc, ◌+◌, ◌≤◌, nat_lt, ◌&&◌, Bool, Option, Some, None, List, [], ◌∷◌, ◌++◌, map, Contains, if◌then◌else◌}
-use Rattle.std.specs.Ordering.{ordering_then, nat_cmp}
-use Rattle.std.specs.declared.cmp.Ordering.{Ordering}
+use Rattle.std.specs.Prelude.{ℕ, ◌+◌, ◌<◌, ◌≤◌, ◌⊎◌, nat_lt, ◌&&◌, Bool, Option, Some, None, List, map, slice_get, ◌≡◌, All, AllPairs, Contains, if◌then◌else◌}
 use Rattle.drt_model.specs.Digraph.{Digraph}
-use Rattle.drt_demand.specs.Demand.{Demand, demand_algebra}
+use Rattle.drt_demand.specs.Demand.{Demand}
 use Rattle.drt_demand.specs.Dbf.{dbf_at, label_due}
 use Rattle.drt_table.specs.Node.{NodeOf}
-use Rattle.drt_table.specs.View.{kept_at}
 use Rattle.drt_edf.specs.declared.kept.Kept.{Kept}
 
--- The kept nodes of a vertex among some nodes, of which the first has the number k.
-abbrev pub kept_from : ℕ → ℕ → List (NodeOf Demand) → List Kept
-kept_from k v [] = []
-kept_from k v (n ∷ nodes) = if kept_at demand_algebra v n then record { node = k; label = n.label } ∷ kept_from (suc k) v nodes else kept_from (suc k) v nodes
+-- A node of the list is kept and has the label.
+pub record IsKeptEntry (nodes : List (NodeOf Demand)) (x : Kept) : Type 0 where
+  pub node : NodeOf Demand
+  pub at : slice_get nodes x.node ≡ Some node
+  pub kept : node.dropped_by ≡ None
+  pub label : node.label ≡ x.label
 
--- The kept nodes of the vertices below a number, in order of vertices and then of nodes.
-unfoldable pub kept_upto : ℕ → List (NodeOf Demand) → List Kept
-kept_upto zero nodes = []
-kept_upto (suc v) nodes = kept_upto v nodes ++ kept_from 0 v nodes
+-- At one vertex y comes before x: its offset is less, or the same and its number greater.
+abbrev pub IsEarlier : Kept → Kept → Type 0
+IsEarlier y x = (y.label.offset < x.label.offset) ⊎ ((y.label.offset ≡ x.label.offset) × (x.node < y.node))
+
+-- y stands below x: its vertex is less, or the same and it comes before x.
+abbrev pub IsLower : Kept → Kept → Type 0
+IsLower y x = (y.label.vertex < x.label.vertex) ⊎ ((y.label.vertex ≡ x.label.vertex) × IsEarlier y x)
+
+-- The kept nodes that meet a condition, each once, from the highest to the lowest.
+pub record AreFalling (nodes : List (NodeOf Demand)) (P : Kept → Type 0) (kept : List Kept) : Type 0 where
+  pub sound : All (λ x. IsKeptEntry nodes x × P x) kept
+  pub complete : (x : Kept) → IsKeptEntry nodes x → P x → Contains kept x
+  pub order : AllPairs (λ x y. IsLower y x) kept
+
+-- The kept nodes of the vertices below a number, each once, in order of vertices and then of offsets.
+pub record AreKept (count : ℕ) (nodes : List (NodeOf Demand)) (kept : List Kept) : Type 0 where
+  pub sound : All (λ x. IsKeptEntry nodes x × (x.label.vertex < count)) kept
+  pub complete : (x : Kept) → IsKeptEntry nodes x → x.label.vertex < count → Contains kept x
+  pub order : AllPairs IsLower kept
+
+-- Its vertex is from v on, and below the number.
+abbrev pub IsFrom : ℕ → ℕ → Kept → Type 0
+IsFrom v count x = (v ≤ x.label.vertex) × (x.label.vertex < count)
+
+-- It comes after the next node, in order of offsets; any does where there is no next one.
+abbrev pub IsAfter : List (NodeOf Demand) → Option ℕ → Kept → Type 0
+IsAfter nodes None x = Unit {0}
+IsAfter nodes (Some j) x = (m : NodeOf Demand) → slice_get nodes j ≡ Some m → IsEarlier (record { node = j; label = m.label }) x
+
+-- It is of a vertex after v and below the number, or of v and comes after the next node.
+abbrev pub IsPassed : List (NodeOf Demand) → ℕ → ℕ → Option ℕ → Kept → Type 0
+IsPassed nodes v count next x = ((v < x.label.vertex) × (x.label.vertex < count)) ⊎ ((x.label.vertex ≡ v) × IsAfter nodes next x)
 
 -- The labels of kept nodes.
 abbrev pub labels_of : List Kept → List Demand
 labels_of kept = map (λ k. k.label) kept
 
--- What labels are put in order by: the vertex, and then the offset.
-abbrev pub place_of : Demand → ℕ × ℕ
-place_of x = (x.vertex, x.offset)
-
--- The order of these.
-abbrev pub compare_places : ℕ × ℕ → ℕ × ℕ → Ordering
-compare_places p q = ordering_then (nat_cmp p.0 q.0) (nat_cmp p.1 q.1)
+-- Labels in order of their vertices and then of their offsets.
+abbrev pub AreInOrder : List Demand → Type 0
+AreInOrder labels = AllPairs (λ x y. (x.vertex < y.vertex) ⊎ ((x.vertex ≡ y.vertex) × (x.offset ≤ y.offset))) labels
 
 -- The work of the node so far, and 0 where there is none.
 abbrev pub work_so_far : Option Kept → ℕ

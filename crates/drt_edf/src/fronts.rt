@@ -1,11 +1,10 @@
 //! The front of a task's walks.
 ghost use Rattle.std.specs.Prelude.{◌≡◌, IfOk, IsTrue};
-ghost use Rattle.std.specs.List.Sorted.{IsPermutation, IsSortedByKey};
 ghost use Rattle.drt_model.specs.Digraph.{IsConstrainedGraph};
 ghost use Rattle.drt_demand.specs.Demand.{demand_algebra};
 ghost use Rattle.drt_table.specs.Machine.{is_finished};
 ghost use Rattle.drt_table.specs.View.{setting_of, state_of};
-ghost use Rattle.drt_edf.specs.KeptNodes.{labels_of, place_of, compare_places};
+ghost use Rattle.drt_edf.specs.KeptNodes.{labels_of};
 ghost use Rattle.drt_edf.specs.LabelFronts.{IsLabelFront};
 
 use crate::kept::{Kept, kept_nodes};
@@ -20,14 +19,6 @@ fn labels_of(alloc: Global, kept: &[Kept]) -> Result<Vec<DemandLabel>, Memory>
     ensures { IfOk result (λ labels. labels.items ≡ labels_of kept.now) }
 {
     kept.iter().map(|entry| entry.label).collect(alloc)
-}
-
-// The labels in order of their vertices and then of their offsets.
-fn in_order(labels: &mut Vec<DemandLabel>)
-    ensures same { IsPermutation labels.old.items labels.new.items }
-    ensures order { IsSortedByKey place_of compare_places labels.new.items }
-{
-    labels.sort_unstable_by_key(|label| (label.vertex, label.offset));
 }
 
 /// The front of a finished search: the labels of walks due within the bound that no other label covers, in order of vertices
@@ -45,7 +36,6 @@ pub(crate) fn front_of(
     let _log = table.log();
     over_every_interleaving::<DemandLabel>();
     let kept = kept_nodes(alloc, graph, table)?;
-    let mut labels = labels_of(alloc, kept.as_slice())?;
-    in_order(&mut labels);
+    let labels = labels_of(alloc, kept.as_slice())?;
     Ok(Row::from_vec(labels))
 }

@@ -1,8 +1,8 @@
 //! The kept nodes of a search of a task's walks.
-ghost use Rattle.std.specs.Prelude.{◌≡◌, ◌<◌, ◌++◌, IfOk, length};
+ghost use Rattle.std.specs.Prelude.{◌≡◌, ◌+◌, ◌<◌, IfOk};
 ghost use Rattle.drt_model.specs.Digraph.{vertex_count};
 ghost use Rattle.drt_table.specs.View.{state_of};
-ghost use Rattle.drt_edf.specs.KeptNodes.{kept_from, kept_upto};
+ghost use Rattle.drt_edf.specs.KeptNodes.{AreFalling, AreKept, IsFrom};
 
 use drt_demand::DemandLabel;
 use drt_graph::Graph;
@@ -17,32 +17,43 @@ pub(crate) struct Kept {
     pub(crate) label: DemandLabel,
 }
 
-// The kept nodes of a vertex after those so far.
-fn add_kept(table: &Table<DemandLabel>, vertex: u32, kept: &mut Vec<Kept>) -> Result<(), Memory>
-    requires { vertex < vertex_count table.now.graph }
-    ensures { IfOk result (λ u. kept.new.items ≡ kept.old.items ++ kept_from 0 vertex (state_of table.now).nodes) }
+// Adds the kept nodes of a vertex to those of the later ones, as the table hands them out: in descending order of offset.
+fn add_kept(
+    graph: &Graph,
+    table: &Table<DemandLabel>,
+    vertex: u32,
+    kept: &mut Vec<Kept>,
+) -> Result<(), Memory>
+    requires graph { graph.now ≡ table.now.graph }
+    requires vertex { vertex < vertex_count graph.now }
+    requires later { AreFalling (state_of table.now).nodes (IsFrom (vertex + 1) (vertex_count graph.now)) kept.old.items }
+    ensures { IfOk result (λ u. AreFalling (state_of table.now).nodes (IsFrom vertex (vertex_count graph.now)) kept.new.items) }
 {
     let mut next = table.first_kept(vertex);
-    'nodes: while let Some(node) = next {
-        let label = *table.node(node).label;
-        kept.push(Kept { node, label })?;
-        next = table.next_kept(node);
+    'nodes: while let Some(id) = next {
+        kept.push(Kept {
+            node: id,
+            label: *table.node(id).label,
+        })?;
+        next = table.next_kept(id);
     }
     Ok(())
 }
 
-/// The kept nodes of the table, vertex by vertex. The graph is the table's.
+/// The kept nodes of the table, in order of vertices and then of offsets. The graph is the table's.
 pub(crate) fn kept_nodes(
     alloc: Global,
     graph: &Graph,
     table: &Table<DemandLabel>,
 ) -> Result<Vec<Kept>, Memory>
     requires { graph.now ≡ table.now.graph }
-    ensures { IfOk result (λ kept. kept.items ≡ kept_upto (vertex_count graph.now) (state_of table.now).nodes) }
+    ensures { IfOk result (λ kept. AreKept (vertex_count graph.now) (state_of table.now).nodes kept.items) }
 {
+    let count = graph.vertex_count();
     let mut kept = Vec::new(alloc);
-    'vertices: for vertex in 0..graph.vertex_count() {
-        add_kept(table, vertex, &mut kept)?;
+    'vertices: for later in 0..count {
+        add_kept(graph, table, count - 1 - later, &mut kept)?;
     }
+    kept.reverse();
     Ok(kept)
 }

@@ -1,5 +1,5 @@
 -- What a label of a walk is, as values: how labels are made, read and compared, and the laws that they keep.
-use Rattle.std.specs.Prelude.{◌≡◌, ℕ, ◌+◌, ◌≤◌, Bool, IsTrue}
+use Rattle.std.specs.Prelude.{◌≡◌, ℕ, ◌+◌, ◌≤◌, ◌⊎◌, Bool, IsTrue}
 
 -- How the labels of one kind are made, read and compared.
 pub record Algebra (L : Type 0) : Type 0 where
@@ -21,6 +21,16 @@ pub record Algebra (L : Type 0) : Type 0 where
   pub is_of : L → ℕ → Bool
   -- a walk with that label may go on
   pub is_extendable : L → Bool
+  -- of three labels of one vertex in ascending order of offset, the first dominates the last only where the middle one
+  -- comes between them
+  pub is_chain : Bool
+
+-- Of the labels x, y and z of one vertex, in ascending order of offset, the first dominates the last only where it dominates
+-- the middle one, or the middle one dominates the last.
+abbrev pub IsChain : {L : Type 0} → Algebra L → Type 0
+IsChain {L} a =
+    (x y z : L) → a.vertex x ≡ a.vertex y → a.vertex y ≡ a.vertex z → a.offset x ≤ a.offset y → a.offset y ≤ a.offset z
+    → IsTrue (a.dominates x z) → IsTrue (a.dominates x y) ⊎ IsTrue (a.dominates y z)
 
 -- What each kind of label keeps: dominance is an order that an extension and a range respect.
 pub record Laws {L : Type 0} (a : Algebra L) : Type 0 where
@@ -36,6 +46,8 @@ pub record Laws {L : Type 0} (a : Algebra L) : Type 0 where
   -- a label dominates only labels of its vertex, none of them with a smaller offset
   pub same_vertex : (x y : L) → IsTrue (a.dominates x y) → a.vertex x ≡ a.vertex y
   pub no_later : (x y : L) → IsTrue (a.dominates x y) → a.offset x ≤ a.offset y
+  -- where the kind says so, dominance is a chain
+  pub chain : IsTrue a.is_chain → IsChain a
   -- the vertex and the offset of an opening label, and of an extended one
   pub opening_vertex : (number wcet bound : ℕ) → a.vertex (a.opening number wcet bound) ≡ number
   pub opening_offset : (number wcet bound : ℕ) → a.offset (a.opening number wcet bound) ≡ 0

@@ -52,6 +52,11 @@ pub trait Label: Sized + Send + Sync + Drop {
         requires { (bound : ℕ) × IsTrue (algebra.is_of self.now bound) × IsTrue (algebra.is_of other.now bound) }
         ensures { result ≡ algebra.dominates self.now other.now };
 
+    /// Whether dominance is a chain: of three labels of one vertex in ascending order of offset, the first dominates the
+    /// last only where it dominates the middle one, or the middle one dominates the last.
+    fn is_chain() -> bool
+        ensures { result ≡ algebra.is_chain };
+
     /// What each kind of label keeps.
     ghost laws: { Laws algebra };
 }

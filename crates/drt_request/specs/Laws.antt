@@ -127,6 +127,7 @@ request_laws = record {
   ranges = λ x y deadline bound h k. let p : Parts x y = parts x y h in let o : x.offset ≤ y.offset = p.offset in grind (arith, nat_tests);
   same_vertex = λ x y h. (parts x y h).vertex;
   no_later = λ x y h. (parts x y h).offset;
+  chain = λ h. absurd (cc);
   opening_vertex = λ number wcet bound. refl;
   opening_offset = λ number wcet bound. refl;
   extended_vertex = λ x sep target wcet. refl;

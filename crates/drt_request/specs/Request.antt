@@ -1,5 +1,5 @@
 -- Request labels as values.
-use Rattle.std.specs.Prelude.{ℕ, ◌+◌, ◌*◌, ◌≤◌, Bool, ◌==◌, nat_le, nat_lt, ◌&&◌, List, length, replicate}
+use Rattle.std.specs.Prelude.{ℕ, ◌+◌, ◌*◌, ◌≤◌, Bool, ◌==◌, nat_le, nat_lt, ◌&&◌, false, List, length, replicate}
 use Rattle.drt_label.specs.Algebra.{Algebra}
 use Rattle.drt_steps.specs.Values.{raise, covers, value_at}
 
@@ -25,6 +25,7 @@ request_algebra = record {
   dominates = dominates;
   is_of = λ x bound. length x.values == bound;
   is_extendable = λ x. nat_lt x.offset (length x.values);
+  is_chain = false;
 }
 
 -- What each label keeps: with a release at most once a tick, the values stay small.

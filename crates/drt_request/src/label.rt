@@ -83,6 +83,10 @@ impl Label for RequestLabel {
             && self.steps.covers(&other.steps)
     }
 
+    fn is_chain() -> bool {
+        false
+    }
+
     ghost laws = { request_laws };
 }
 

@@ -3,19 +3,18 @@ use Rattle.std.proofs.Common.{◌≡◌, ℕ, ◌+◌, ◌-◌, ◌<◌, Bool, t
 use Rattle.std.specs.Prelude.{slice_get, option_map, is_none, ◌&&◌, ◌==◌, IfSome}
 use Rattle.std.proofs.lemmas.Bool.Decides.{nat_tests}
 use Rattle.std.proofs.lemmas.List.{length-map}
-use Rattle.std.proofs.lemmas.Option.{same_Some, slice_get-map, slice_get_within}
+use Rattle.std.proofs.lemmas.Option.{none-some, same_Some, slice_get-map, slice_get_within}
 use Rattle.drt_model.specs.Digraph.{out_degree}
 use Rattle.drt_demand.specs.Demand.{Demand, demand_algebra}
 use Rattle.drt_table.specs.Node.{NodeOf, Held, is_held_by, is_taken_by}
 use Rattle.drt_table.specs.declared.node.NodeState.{NodeState}
 use Rattle.drt_table.specs.declared.node.NodeState.TheVariants.{Pending, Taken as TakenBy, Done}
 use Rattle.drt_table.specs.declared.step.TableStep.TheVariants.{Take, Offer, Close}
-use Rattle.drt_table.specs.Places.{first, first_from}
+use Rattle.drt_table.specs.KeptOrder.{IsFirstKept, IsNextKept}
+use Rattle.drt_table.specs.Places.{first}
 use Rattle.drt_table.specs.Machine.{Holds, extended}
 use Rattle.drt_table.specs.View.{View, CanApply, ComesWith, setting_of, state_of, kept_at}
-use Rattle.drt_table.proofs.Links.{found_from}
 use Rattle.drt_table.proofs.Lists.{Found, found, none_found}
-use Rattle.drt_table.proofs.Sweep.{remaining}
 
 -- A worker holds a node that is taken by it, and no other.
 held_by_itself : (w : ℕ) (s : NodeState) → s ≡ TakenBy w → is_taken_by w s ≡ false → ⊥
@@ -87,38 +86,11 @@ comes_extended v id edge h read x at e is = (h.node, node_at v id h at, ap Some 
 abbrev pub IsKeptNext : View Demand → Option ℕ → Type 0
 IsKeptNext v o = (i : ℕ) → o ≡ Some i → (n : NodeOf Demand) × (slice_get (state_of v).nodes i ≡ Some n) × (n.dropped_by ≡ None)
 
-none_dropped : (o : Option ℕ) (b : Bool) → (is_none o && b) ≡ true → o ≡ None
-none_dropped None b e = refl
-none_dropped (Some d) b e = absurd (cc)
+pub first_next : (v : View Demand) (vertex : ℕ) (o : Option ℕ) → IsFirstKept demand_algebra (state_of v).nodes vertex o → IsKeptNext v o
+first_next v vertex None first i is = absurd (none-some i is)
+first_next v vertex (Some k) first i is = subst (λ j. (n : NodeOf Demand) × (slice_get (state_of v).nodes j ≡ Some n) × (n.dropped_by ≡ None)) (same_Some k i is) (first.0, first.1.at, first.1.kept)
 
-pub first_next : (v : View Demand) (vertex : ℕ) (o : Option ℕ) → o ≡ first (kept_at demand_algebra vertex) (state_of v).nodes → IsKeptNext v o
-first_next v vertex o e i is =
-    let f : Found (kept_at demand_algebra vertex) (state_of v).nodes i = found (kept_at demand_algebra vertex) (state_of v).nodes i (sym e ∙ is) in
-    (f.item, f.at, none_dropped f.item.dropped_by (f.item.label.vertex == vertex) f.passes)
-
--- The node after a kept one is kept and later.
-module _ (v : View Demand) (id : ℕ) (n : NodeOf Demand) (o : Option ℕ) (at : slice_get (state_of v).nodes id ≡ Some n) (next : IfSome (slice_get (state_of v).nodes id) (λ m. o ≡ first_from (id + 1) (kept_at demand_algebra m.label.vertex) (state_of v).nodes)) where
-  after_node : o ≡ first_from (id + 1) (kept_at demand_algebra n.label.vertex) (state_of v).nodes
-  after_node = subst (λ s. IfSome s (λ m. o ≡ first_from (id + 1) (kept_at demand_algebra m.label.vertex) (state_of v).nodes)) at next
-
-  pub later_next : IsKeptNext v o
-  later_next i is =
-      let f = found_from (id + 1) (kept_at demand_algebra n.label.vertex) (state_of v).nodes i (sym after_node ∙ is) in
-      (f.item, f.at, none_dropped f.item.dropped_by (f.item.label.vertex == n.label.vertex) f.passes)
-
-  pub fewer_left : remaining (length v.nodes) o < remaining (length v.nodes) (Some id)
-  fewer_left = go o refl
-    where
-      within : id < length v.nodes
-      within =
-          let l = slice_get_within (state_of v).nodes id n at in
-          let same = length-map v.nodes (λ h. h.node) in
-          omega (arith, l, same)
-
-      go : (p : Option ℕ) → o ≡ p → remaining (length v.nodes) p < length v.nodes - id
-      go None e = let l = within in omega (arith, l)
-      go (Some j) e =
-          let f = found_from (id + 1) (kept_at demand_algebra n.label.vertex) (state_of v).nodes j (sym after_node ∙ e) in
-          let l = within in
-          let low = f.low in
-          omega (arith, l, low)
+-- The node after a kept one is kept.
+pub later_next : (v : View Demand) (id : ℕ) (n : NodeOf Demand) (o : Option ℕ) → IsNextKept demand_algebra (state_of v).nodes n.label.vertex id n o → IsKeptNext v o
+later_next v id n None next i is = absurd (none-some i is)
+later_next v id n (Some k) next i is = subst (λ j. (n : NodeOf Demand) × (slice_get (state_of v).nodes j ≡ Some n) × (n.dropped_by ≡ None)) (same_Some k i is) (next.0, next.1.at, next.1.kept)

@@ -5,6 +5,8 @@
 #[cfg(test)]
 mod driver;
 #[cfg(test)]
+mod dropping_tests;
+#[cfg(test)]
 mod tests;
 mod worked;
 

@@ -213,7 +213,7 @@ fn compare_end(
         );
     }
     let kept = kept_nodes(alloc, graph, table)?;
-    assert_eq!(rt; kept.as_slice(), [0, 1, 2, 4, 5].as_slice());
+    assert_eq!(rt; kept.as_slice(), [0, 1, 5, 4, 2].as_slice());
     assert_eq!(rt; walk(alloc, table, 5)?.as_slice(), [1, 2, 2].as_slice());
     for (t, wanted) in [(0, 0), (1, 2), (2, 3), (4, 3), (5, 4), (100, 4)] {
         assert_eq!(rt;

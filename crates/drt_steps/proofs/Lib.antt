@@ -1,5 +1,6 @@
 pub mod Jumps
 pub mod Merging
+pub mod Covering
 pub mod Kept
 pub mod Times
 pub mod Values

@@ -97,11 +97,11 @@ covers_values f g t (suc n) h =
     let l : g t ≤ f t = h t in
     ap (λ b. b && covers (values_from f (suc t) n) (values_from g (suc t) n)) (let e : nat_le (g t) (f t) ≡ true = grind (arith, nat_tests) in e) ∙ covers_values f g (suc t) n h
 
-and_false : (b : Bool) → (b && false) ≡ false
+pub and_false : (b : Bool) → (b && false) ≡ false
 and_false true = refl
 and_false false = refl
 
-not_le : (a b : ℕ) → b < a → nat_le a b ≡ false
+pub not_le : (a b : ℕ) → b < a → nat_le a b ≡ false
 not_le a b lt = grind (arith, nat_tests)
 
 uncovers_at : (f g : ℕ → ℕ) (t n k s : ℕ) → s ≡ t + k → k < n → f s < g s → covers (values_from f t n) (values_from g t n) ≡ false

@@ -1,5 +1,5 @@
 //! A function that never falls.
-ghost use Rattle.std.specs.Prelude.{◌≡◌, ℕ, ◌+◌, ◌≤◌, ◌<◌, length, replicate, reverse, IfOk};
+ghost use Rattle.std.specs.Prelude.{◌≡◌, ℕ, ◌+◌, ◌≤◌, ◌<◌, true, false, length, replicate, reverse, IfOk};
 ghost use Rattle.std.specs.Ordering.{nat_cmp};
 ghost use Rattle.std.specs.Cmp.Lexicographic.{slice_cmp};
 ghost use Rattle.drt_steps.specs.Values.{raise, value_at, covers, max_of};
@@ -133,12 +133,39 @@ impl Steps {
         Steps::from_jumps(alloc, self.bound, self.base, jumps)
     }
 
-    /// Whether this function is at each time at least the other one.
+    /// Whether this function is at each time at least the other one. A few values settle most pairs; only where they don't
+    /// is each rise looked at.
     pub fn covers(&self, other: &Steps) -> bool
         requires { length self.now ≡ length other.now }
         ensures { result ≡ covers self.now other.now }
     {
+        if self.is_seen_below(other) {
+            return false;
+        }
         stays_above(self.base, &self.jumps, other.base, &other.jumps)
+    }
+
+    // Whether the function's value is less at the bound, or at one of three times that part the times before it.
+    fn is_seen_below(&self, other: &Steps) -> bool
+        requires { length self.now ≡ length other.now }
+        ensures { result ≡ true → covers self.now other.now ≡ false }
+    {
+        let bound = self.bound();
+        let quarter = bound / 4;
+        self.is_below_at(other, bound)
+            || self.is_below_at(other, bound - quarter)
+            || self.is_below_at(other, bound - 2 * quarter)
+            || self.is_below_at(other, bound - 3 * quarter)
+    }
+
+    // Whether the function's value at the time `t` is less.
+    fn is_below_at(&self, other: &Steps, t: u64) -> bool
+        requires from { 1 ≤ t }
+        requires to { t ≤ length self.now }
+        requires same { length self.now ≡ length other.now }
+        ensures { result ≡ true → covers self.now other.now ≡ false }
+    {
+        self.at(t) < other.at(t)
     }
 
     /// The function whose value at each time is the greater one of two.

@@ -14,7 +14,7 @@ use Rattle.drt_table.specs.declared.node.NodeState.TheVariants.{Pending, Taken, 
 use Rattle.drt_table.specs.Places.{first, changed, earliest}
 use Rattle.drt_table.specs.Held.{take_by, close_node, drop_held, dominates_held, fresh_held, held_offset, compared_nodes, placed_nodes}
 use Rattle.drt_table.specs.Arena.{AreArranged}
-use Rattle.drt_table.specs.Links.{AreLinked}
+use Rattle.drt_table.specs.Links.{IsNext, AreLinked}
 use Rattle.drt_table.specs.Waiting.{Ticket, ticket_cmp, AreWaiting, IsFresh, AreHeld}
 use Rattle.drt_table.proofs.Lists.{Before, before_change, After, after_change, changed_at, length-changed, Pushed, earlier, last, before_push, after_push}
 use Rattle.drt_table.proofs.Linking.{StaysKept, changed_linked, at_pushed, get_pushed}
@@ -199,7 +199,12 @@ none_at (suc n) zero o at = sym (same_Some None o at)
 none_at (suc n) (suc v) o at = none_at n v o at
 
 pub none_linked : {L : Type 0} (a : Algebra L) (n : ℕ) → AreLinked {L = L} a [] [] (replicate n None)
-none_linked a n = record { as_many = refl; heads_ok = λ v o at. none_at n v o at; links_ok = λ i h o at kept link. absurd (none-some h at) }
+none_linked {L} a n = record {
+  few = omega arith;
+  as_many = refl;
+  heads_ok = λ v o at. subst (λ (q : Option ℕ). IsNext {L = L} a [] v None q) (sym (none_at n v o at)) (λ k h is b. absurd (none-some h is.at));
+  links_ok = λ i h o at kept link. absurd (none-some h at);
+}
 
 pub none_arranged : {L : Type 0} (a : Algebra L) (heads : List (Option ℕ)) → AreLinked {L = L} a [] [] heads → IsHeap ticket_cmp [] → AreArranged {L = L} a [] [] heads [] []
 none_arranged {L} a heads linked order = record {

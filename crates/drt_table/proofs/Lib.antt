@@ -16,12 +16,12 @@ pub mod Back
 pub mod Start
 pub mod Tables
 pub mod Driving
-pub mod Links
+pub mod Ranks
+pub mod KeptOrder
 pub mod Unlink
 pub mod Sweep
 pub mod Sweeping
 pub mod Seeking
-pub mod Push
 pub mod Linking
 pub mod Tickets
 pub mod Scan

@@ -1,8 +1,8 @@
 -- Elements of a list by their place, after a change, a map and a push.
-use Rattle.std.proofs.Common.{◌≡◌, ℕ, suc, zero, ◌+◌, ◌<◌, ◌≤◌, ◌⊎◌, Bool, true, false, cond, Option, Some, None, List, [], ◌∷◌, ◌++◌, length, map, refl, sym, ap, ◌∙◌, inl, inr, arith, subst, set, take, drop, add-one}
+use Rattle.std.proofs.Common.{◌≡◌, ℕ, suc, zero, ◌+◌, ◌<◌, ◌⊎◌, Bool, true, false, cond, Option, Some, None, List, [], ◌∷◌, ◌++◌, length, map, refl, sym, ap, ◌∙◌, inl, inr, arith, subst, set}
 use Rattle.std.specs.Prelude.{option_map, slice_get}
 use Rattle.std.proofs.lemmas.Option.{none-some, same_Some}
-use Rattle.drt_table.specs.Places.{first, first_from, changed}
+use Rattle.drt_table.specs.Places.{first, changed}
 
 -- what stood at a place before it was changed
 pub record Before {A : Type 0} (k : ℕ) (f : A → A) (xs : List A) (j : ℕ) (y : A) : Type 0 where
@@ -123,34 +123,11 @@ fails_more p xs i x at failed below k y lt h = elim (cases_le k i lt) as (λ _. 
     cases_le : (k i : ℕ) → k < i + 1 → (k < i) ⊎ (k ≡ i)
     cases_le k i lt = grind arith
 
--- a map in place, one step on
-pub mapped_at : {A : Type 0} (f : A → A) (xs : List A) (i : ℕ) → slice_get (map f (take i xs) ++ drop i xs) i ≡ slice_get xs i
-mapped_at f [] zero = refl
-mapped_at f [] (suc i) = refl
-mapped_at f (x ∷ xs) zero = refl
-mapped_at f (x ∷ xs) (suc i) = mapped_at f xs i
-
-mapped_set : {A : Type 0} (f : A → A) (xs : List A) (i : ℕ) (x : A) → slice_get xs i ≡ Some x → set (map f (take i xs) ++ drop i xs) i (f x) ≡ map f (take (suc i) xs) ++ drop (suc i) xs
-mapped_set f [] i x at = absurd (none-some x at)
-mapped_set f (z ∷ xs) zero x at = ap (λ y. f y ∷ xs) (sym (same_Some z x at))
-mapped_set f (z ∷ xs) (suc i) x at = ap (λ ys. f z ∷ ys) (mapped_set f xs i x at)
-
-pub mapped_more : {A : Type 0} (f : A → A) (xs ys : List A) (i : ℕ) (x : A) → ys ≡ map f (take i xs) ++ drop i xs → slice_get ys i ≡ Some x → set ys i (f x) ≡ map f (take (i + 1) xs) ++ drop (i + 1) xs
-mapped_more f xs ys i x e at =
-    let at_old : slice_get xs i ≡ Some x = sym (mapped_at f xs i) ∙ (ap (λ zs. slice_get zs i) (sym e) ∙ at) in
-    ap (λ zs. set zs i (f x)) e ∙ (mapped_set f xs i x at_old ∙ ap (λ j. map f (take j xs) ++ drop j xs) (sym (add-one i)))
-
 -- a write, as a change
 pub changed-set : {A : Type 0} (f : A → A) (xs : List A) (k : ℕ) (x : A) → slice_get xs k ≡ Some x → set xs k (f x) ≡ changed k f xs
 changed-set f [] k x at = absurd (none-some x at)
 changed-set f (z ∷ xs) zero x at = ap (λ y. f y ∷ xs) (sym (same_Some z x at))
 changed-set f (z ∷ xs) (suc k) x at = ap (λ ys. z ∷ ys) (changed-set f xs k x at)
-
--- a write of what stands there
-pub set_same : {A : Type 0} (xs : List A) (i : ℕ) (x : A) → slice_get xs i ≡ Some x → set xs i x ≡ xs
-set_same [] i x at = refl
-set_same (y ∷ xs) zero x at = ap (λ z. z ∷ xs) (sym (same_Some y x at))
-set_same (y ∷ xs) (suc i) x at = ap (λ zs. y ∷ zs) (set_same xs i x at)
 
 -- a view of each element
 pub first-map : {A B : Type 0} (p : B → Bool) (v : A → B) (xs : List A) → first p (map v xs) ≡ first (λ x. p (v x)) xs
@@ -175,22 +152,18 @@ pub map-map_same : {A B : Type 0} (v : A → B) (f : A → A) → ((x : A) → v
 map-map_same v f e [] = refl
 map-map_same v f e (x ∷ xs) = ap (λ y. y ∷ map v (map f xs)) (e x) ∙ ap (λ ys. v x ∷ ys) (map-map_same v f e xs)
 
--- the first place from one on
-pub first_from_is : {A : Type 0} (from : ℕ) (p : A → Bool) (xs : List A) (i : ℕ) (x : A) → from ≤ i → slice_get xs i ≡ Some x → p x ≡ true → ((k : ℕ) (y : A) → from ≤ k → k < i → slice_get xs k ≡ Some y → p y ≡ false) → Some i ≡ first_from from p xs
-first_from_is zero p xs i x le at passed below = first_is p xs i x at passed (λ k y lt h. below k y (omega arith) lt h)
-first_from_is (suc from) p [] i x le at passed below = absurd (none-some x at)
-first_from_is (suc from) p (z ∷ xs) zero x le at passed below = absurd (omega arith)
-first_from_is (suc from) p (z ∷ xs) (suc i) x le at passed below = ap (λ o. option_map suc o) (first_from_is from p xs i x (omega arith) at passed (λ k y l lt h. below (suc k) y (omega arith) (omega arith) h))
+-- what a change leaves, and what it makes
+pub changed_other : {A : Type 0} (i : ℕ) (g : A → A) (xs : List A) (k : ℕ) → (k ≡ i → ⊥) → slice_get (changed i g xs) k ≡ slice_get xs k
+changed_other i g [] k ne = refl
+changed_other zero g (x ∷ xs) zero ne = absurd (ne refl)
+changed_other zero g (x ∷ xs) (suc k) ne = refl
+changed_other (suc i) g (x ∷ xs) zero ne = refl
+changed_other (suc i) g (x ∷ xs) (suc k) ne = changed_other i g xs k (λ e. ne (ap suc e))
 
-pub first_from_none : {A : Type 0} (from : ℕ) (p : A → Bool) (xs : List A) → ((k : ℕ) (y : A) → from ≤ k → k < length xs → slice_get xs k ≡ Some y → p y ≡ false) → None ≡ first_from from p xs
-first_from_none zero p xs below = first_none p xs (λ k y lt h. below k y (omega arith) lt h)
-first_from_none (suc from) p [] below = refl
-first_from_none (suc from) p (z ∷ xs) below = ap (λ o. option_map suc o) (first_from_none from p xs (λ k y l lt h. below (suc k) y (omega arith) (omega arith) h))
-
-pub first_from-map : {A B : Type 0} (from : ℕ) (p : B → Bool) (v : A → B) (xs : List A) → first_from from p (map v xs) ≡ first_from from (λ x. p (v x)) xs
-first_from-map zero p v xs = first-map p v xs
-first_from-map (suc from) p v [] = refl
-first_from-map (suc from) p v (x ∷ xs) = ap (λ o. option_map suc o) (first_from-map from p v xs)
+pub changed_here : {A : Type 0} (i : ℕ) (g : A → A) (xs : List A) (x : A) → slice_get xs i ≡ Some x → slice_get (changed i g xs) i ≡ Some (g x)
+changed_here i g [] x at = absurd (none-some x at)
+changed_here zero g (z ∷ xs) x at = ap (λ y. Some (g y)) (same_Some z x at)
+changed_here (suc i) g (z ∷ xs) x at = changed_here i g xs x at
 
 pub get_within : {A : Type 0} (xs : List A) (i : ℕ) → i < length xs → (x : A) × (slice_get xs i ≡ Some x)
 get_within [] i lt = absurd (let h : i < 0 = lt in omega arith)

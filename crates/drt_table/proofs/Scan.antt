@@ -14,7 +14,7 @@ use Rattle.drt_table.proofs.Lists.{first_is, first_none}
 use Rattle.drt_table.proofs.Earliest.{earliest_is, earliest_none}
 use Rattle.drt_table.proofs.Tickets.{at_contains, contains_cases}
 
-cases_le : (k i : ℕ) → k < i + 1 → (k < i) ⊎ (k ≡ i)
+pub cases_le : (k i : ℕ) → k < i + 1 → (k < i) ⊎ (k ≡ i)
 cases_le k i lt = grind arith
 
 module _ {A : Type 0} (p : A → Bool) (xs : List A) (ks : List ℕ) where

@@ -1,84 +1,82 @@
--- A walk along the list of a vertex that drops what the label dominates.
-use Rattle.std.proofs.Common.{◌≡◌, ℕ, suc, zero, ◌+◌, ◌-◌, ◌<◌, ◌≤◌, Bool, true, false, cond, Option, Some, None, List, [], ◌∷◌, ◌++◌, length, map, take, drop, refl, sym, ap, ◌∙◌, arith, set}
-use Rattle.std.specs.Prelude.{slice_get, unwrap_or, ◌&&◌, ◌==◌}
-use Rattle.std.proofs.lemmas.List.{append-nil, take_all, drop_all}
-use Rattle.std.proofs.lemmas.Bool.Decides.{nat_tests}
-use Rattle.drt_label.specs.Algebra.{Algebra, Laws}
+-- What the walks along the list of a vertex share: how far there still is to go, and what is still ahead.
+use Rattle.std.proofs.Common.{◌≡◌, ℕ, suc, zero, ◌+◌, ◌<◌, ◌≤◌, Bool, true, false, cond, Option, Some, None, List, [], ◌∷◌, refl, sym, ap, ◌∙◌, subst, arith}
+use Rattle.std.specs.Prelude.{slice_get, ◌&&◌}
+use Rattle.std.proofs.lemmas.Option.{none-some, same_Some}
+use Rattle.drt_label.specs.Algebra.{Algebra}
 use Rattle.drt_table.specs.Node.{Held, is_kept}
 use Rattle.drt_table.specs.declared.node.NodeState.TheVariants.{Done}
-use Rattle.drt_table.specs.Places.{first_from, changed}
 use Rattle.drt_table.specs.Held.{drop_held}
-use Rattle.drt_table.specs.View.{kept_at}
-use Rattle.drt_table.proofs.Lists.{changed-set, set_same, mapped_more}
-use Rattle.drt_table.proofs.Adding.{true_not_false}
-use Rattle.drt_table.proofs.Links.{FoundFrom, found_from, none_from}
+use Rattle.drt_table.specs.Places.{changed}
+use Rattle.drt_table.specs.Links.{rank, IsKeptAt, IsNext}
 
--- f on the elements below m
-abbrev pub below : {A : Type 0} → (A → A) → ℕ → List A → List A
-below f m xs = map f (take m xs) ++ drop m xs
+-- lists with the same elements at each place
+pub same_lists : {A : Type 0} (xs ys : List A) → ((k : ℕ) → slice_get xs k ≡ slice_get ys k) → xs ≡ ys
+same_lists [] [] h = refl
+same_lists [] (y ∷ ys) h = absurd (none-some y (h 0))
+same_lists (x ∷ xs) [] h = absurd (none-some x (sym (h 0)))
+same_lists (x ∷ xs) (y ∷ ys) h = ap (λ z. z ∷ xs) (same_Some x y (h 0)) ∙ ap (λ zs. y ∷ zs) (same_lists xs ys (λ k. h (suc k)))
 
-at_rest : {A : Type 0} (f : A → A) (xs : List A) (m k : ℕ) → m ≤ k → slice_get (below f m xs) k ≡ slice_get xs k
-at_rest f [] zero k le = refl
-at_rest f [] (suc m) k le = refl
-at_rest f (x ∷ xs) zero k le = refl
-at_rest f (x ∷ xs) (suc m) zero le = absurd (omega arith)
-at_rest f (x ∷ xs) (suc m) (suc k) le = at_rest f xs m k (omega arith)
+pub none_changed : {A : Type 0} (i : ℕ) (f : A → A) (xs : List A) (k : ℕ) → slice_get xs k ≡ None → slice_get (changed i f xs) k ≡ None
+none_changed i f [] k e = e
+none_changed zero f (x ∷ xs) zero e = absurd (none-some x (sym e))
+none_changed zero f (x ∷ xs) (suc k) e = e
+none_changed (suc i) f (x ∷ xs) zero e = e
+none_changed (suc i) f (x ∷ xs) (suc k) e = none_changed i f xs k e
 
-skip : {A : Type 0} (f : A → A) (xs : List A) (m q : ℕ) → m ≤ q → ((k : ℕ) (x : A) → m ≤ k → k < q → slice_get xs k ≡ Some x → f x ≡ x) → below f m xs ≡ below f q xs
-skip f [] zero zero le h = refl
-skip f [] zero (suc q) le h = refl
-skip f [] (suc m) zero le h = refl
-skip f [] (suc m) (suc q) le h = refl
-skip f (x ∷ xs) zero zero le h = refl
-skip f (x ∷ xs) zero (suc q) le h = ap (λ ys. x ∷ ys) (skip f xs zero q (omega arith) (λ k y l lt at. h (suc k) y (omega arith) (omega arith) at)) ∙ ap (λ z. z ∷ below f q xs) (sym (h 0 x (omega arith) (omega arith) refl))
-skip f (x ∷ xs) (suc m) zero le h = absurd (omega arith)
-skip f (x ∷ xs) (suc m) (suc q) le h = ap (λ ys. f x ∷ ys) (skip f xs m q (omega arith) (λ k y l lt at. h (suc k) y (omega arith) (omega arith) at))
+module _ {L : Type 0} (a : Algebra L) where
+  pub rank_of : (j : ℕ) (x y : Held L) → x.node.label ≡ y.node.label → rank a j x ≡ rank a j y
+  rank_of j x y e = ap (λ l. rank a j (record x { node = record x.node { label = l } })) e
 
--- how far there still is to go
-abbrev pub remaining : ℕ → Option ℕ → ℕ
-remaining n None = 0
-remaining n (Some i) = n - i
+  abbrev pub rank_in : Option (Held L) → ℕ → ℕ
+  rank_in None i = 0
+  rank_in (Some h) i = rank a i h
 
-module _ {L : Type 0} (a : Algebra L) (laws : Laws a) (l : L) (number : ℕ) where
-  unseen_at : (h : Held L) (b c : Bool) → is_kept h.node ≡ b → a.dominates l h.node.label ≡ c → kept_at a (a.vertex l) h.node ≡ false → cond (b && c) (record h { node = record h.node { dropped_by = Some number; state = Done } }) h ≡ h
-  unseen_at h true true p q e =
-      let same : a.vertex l ≡ a.vertex h.node.label = laws.same_vertex l h.node.label q in
-      let t : (a.vertex h.node.label == a.vertex l) ≡ true = grind (arith, nat_tests) in
-      absurd (true_not_false (ap (λ b. b && (a.vertex h.node.label == a.vertex l)) p ∙ t) e)
-  unseen_at h true false p q e = refl
-  unseen_at h false c p q e = refl
+  -- how far there still is to go
+  abbrev pub to_go : List (Held L) → Option ℕ → ℕ
+  to_go nodes None = 0
+  to_go nodes (Some i) = rank_in (slice_get nodes i) i + 1
 
-  unseen_drop : (h : Held L) → kept_at a (a.vertex l) h.node ≡ false → drop_held a l number h ≡ h
-  unseen_drop h e = unseen_at h (is_kept h.node) (a.dominates l h.node.label) refl refl e
+  pub less_to_go : (nodes : List (Held L)) (v i : ℕ) (x : Held L) (o : Option ℕ) → slice_get nodes i ≡ Some x → IsNext a nodes v (Some (rank a i x)) o → to_go nodes o < to_go nodes (Some i)
+  less_to_go nodes v i x None at next = omega arith
+  less_to_go nodes v i x (Some q) at next =
+      let here : rank_in (slice_get nodes i) i ≡ rank a i x = ap (λ y. rank_in y i) at in
+      let there : rank_in (slice_get nodes q) q ≡ rank a q next.held = ap (λ y. rank_in y q) next.is.at in
+      let lt : rank a q next.held < rank a i x = next.below in
+      omega arith
 
-  not_dominated : (h : Held L) (b c : Bool) → c ≡ false → cond (b && c) (record h { node = record h.node { dropped_by = Some number; state = Done } }) h ≡ h
-  not_dominated h true true e = absurd (cc)
-  not_dominated h true false e = refl
-  not_dominated h false c e = refl
+  -- the node isn't before the place where the walk stands
+  abbrev pub IsAhead : List (Held L) → Option ℕ → ℕ → Held L → Type 0
+  IsAhead nodes None k h = ⊥
+  IsAhead nodes (Some i) k h = (y : Held L) → slice_get nodes i ≡ Some y → rank a k h ≤ rank a i y
 
-  module _ (xs ns : List (Held L)) where
-    advance_to : (m q : ℕ) → m ≤ q → ns ≡ below (drop_held a l number) m xs → ((k : ℕ) (y : Held L) → m ≤ k → k < q → slice_get ns k ≡ Some y → kept_at a (a.vertex l) y.node ≡ false) → ns ≡ below (drop_held a l number) q xs
-    advance_to m q le e fails = e ∙ skip (drop_held a l number) xs m q le (λ k x l2 lt at.
-        unseen_drop x (fails k x l2 lt (ap (λ ys. slice_get ys k) e ∙ (at_rest (drop_held a l number) xs m k l2 ∙ at))))
+  -- at the start all nodes of the vertex are ahead
+  pub ahead_first : (nodes : List (Held L)) (v : ℕ) (next : Option ℕ) → IsNext a nodes v None next → (k : ℕ) (h : Held L) → IsKeptAt a nodes v k h → IsAhead nodes next k h
+  ahead_first nodes v None next k h is = absurd (next k h is tt)
+  ahead_first nodes v (Some i) next k h is = λ y at. subst (λ (z : Held L). rank a k h ≤ rank a i z) (same_Some next.held y (sym next.is.at ∙ at)) (next.most k h is tt)
 
-    past : (m n : ℕ) → length xs ≤ m → m ≤ n → below (drop_held a l number) m xs ≡ below (drop_held a l number) n xs
-    past m n le less = ap (λ ys. map (drop_held a l number) ys ++ drop m xs) (take_all m xs le ∙ sym (take_all n xs (omega arith))) ∙ ap (λ ys. map (drop_held a l number) (take n xs) ++ ys) (drop_all m xs le ∙ sym (drop_all n xs (omega arith)))
+  -- the walk stands at a kept node of the vertex, if at one
+  pub next_kept : (nodes : List (Held L)) (v : ℕ) (m next : Option ℕ) → IsNext a nodes v m next → (i : ℕ) → next ≡ Some i → (h : Held L) × IsKeptAt a nodes v i h
+  next_kept nodes v m None next i e = absurd (none-some i e)
+  next_kept nodes v m (Some q) next i e = (next.held, subst (λ (j : ℕ). IsKeptAt a nodes v j next.held) (same_Some q i e) next.is)
 
-    -- on to the next kept node of the vertex
-    pub advance : (m : ℕ) (o : Option ℕ) → m ≤ length xs → ns ≡ below (drop_held a l number) m xs → o ≡ first_from m (λ h. kept_at a (a.vertex l) h.node) ns → ns ≡ below (drop_held a l number) (unwrap_or o (length xs)) xs
-    advance m None le e next = advance_to m (length xs) le e (λ k y l2 lt at. none_from m (λ h. kept_at a (a.vertex l) h.node) ns (sym next) k y l2 at)
-    advance m (Some q) le e next =
-        let f : FoundFrom m (λ h. kept_at a (a.vertex l) h.node) ns q = found_from m (λ h. kept_at a (a.vertex l) h.node) ns q (sym next) in
-        advance_to m q f.low e (λ k y l2 lt at. f.before k y l2 lt at)
+  module _ (l : L) (number : ℕ) where
+    -- the label drops the node
+    abbrev pub drops : Held L → Bool
+    drops h = is_kept h.node && a.dominates l h.node.label
 
-    -- past a node that is dropped
-    pub swept_drop : (i : ℕ) (x : Held L) → ns ≡ below (drop_held a l number) i xs → slice_get ns i ≡ Some x → changed i (drop_held a l number) ns ≡ below (drop_held a l number) (i + 1) xs
-    swept_drop i x e at = sym (changed-set (drop_held a l number) ns i x at) ∙ mapped_more (drop_held a l number) xs ns i x e at
+    pub not_dropped : (h : Held L) → drops h ≡ false → drop_held a l number h ≡ h
+    not_dropped h e = ap (λ b. cond b (record h { node = record h.node { dropped_by = Some number; state = Done } }) h) e
 
-    -- past a node that stays
-    pub swept_keep : (i : ℕ) (x : Held L) → ns ≡ below (drop_held a l number) i xs → slice_get ns i ≡ Some x → a.dominates l x.node.label ≡ false → ns ≡ below (drop_held a l number) (i + 1) xs
-    swept_keep i x e at d =
-        sym (set_same ns i x at) ∙ (ap (λ y. set ns i y) (sym (not_dominated x (is_kept x.node) (a.dominates l x.node.label) d)) ∙ mapped_more (drop_held a l number) xs ns i x e at)
+    gone_at : (h : Held L) (b : Bool) → b ≡ true → is_kept (cond b (record h { node = record h.node { dropped_by = Some number; state = Done } }) h).node ≡ false
+    gone_at h true e = refl
+    gone_at h false e = absurd (cc)
 
-    pub swept_all : ns ≡ below (drop_held a l number) (length xs) xs → ns ≡ map (drop_held a l number) xs
-    swept_all e = e ∙ (ap (λ ys. map (drop_held a l number) ys ++ drop (length xs) xs) (take_all (length xs) xs (omega arith)) ∙ (ap (λ ys. map (drop_held a l number) xs ++ ys) (drop_all (length xs) xs (omega arith)) ∙ append-nil (map (drop_held a l number) xs)))
+    pub gone : (h : Held L) → drops h ≡ true → is_kept (drop_held a l number h).node ≡ false
+    gone h e = gone_at h (drops h) e
+
+    label_at : (h : Held L) (b : Bool) → (cond b (record h { node = record h.node { dropped_by = Some number; state = Done } }) h).node.label ≡ h.node.label
+    label_at h true = refl
+    label_at h false = refl
+
+    pub drop_label : (h : Held L) → (drop_held a l number h).node.label ≡ h.node.label
+    drop_label h = label_at h (drops h)

@@ -17,6 +17,7 @@ use Rattle.drt_table.specs.Places.{first, changed, earliest}
 use Rattle.drt_table.specs.Taking.{chosen, taken_node, offset_of, is_soon}
 use Rattle.drt_table.specs.Machine.{Setting, State, Outcome, separation, in_range, extended, is_full, unchanged, logged, offset, offset_in, offset_at, next, holder, takes, taken, drop_by, dominating, added, compared, counted, offered, offered_at, step_of, CanStep, Holds, replay, IsRun, is_finished}
 use Rattle.drt_table.specs.Facts.{Facts}
+use Rattle.drt_table.specs.Links.{AreAlone}
 use Rattle.drt_table.specs.Held.{AllOf, held_offset, take_by, count_offer, close_node, hand_out, dominates_held, drop_held, compared_nodes, compared_reply, placed_nodes, placed_reply}
 use Rattle.drt_table.specs.View.{View, setting_of, state_of, IsTable, spares_of, spares_after, CanApply, outcome, IsStep}
 use Rattle.drt_table.proofs.Earliest.{earliest-map}
@@ -343,6 +344,23 @@ module _ {L : Type 0} (a : Algebra L) (laws : Laws a) (v : View L) (is : IsTable
         counted_label j y b (inl p) = ap (λ (z : Held L). z.node.label) p.1
         counted_label j y b (inr q) = ap (λ (z : Held L). z.node.label) q
 
+-- no kept node dominates another one, also after an offer is counted
+pub offer_alone : {L : Type 0} (a : Algebra L) (laws : Laws a) (v : View L) → IsTable a v → (id : ℕ) → AreAlone a (changed id count_offer v.nodes)
+offer_alone {L} a laws v is id i j g h at_i at_j kept_i kept_j dom = from (before_change id count_offer v.nodes i g at_i) (before_change id count_offer v.nodes j h at_j)
+  where
+    label : (k : ℕ) (y : Held L) (b : Before id count_offer v.nodes k y) → ((k ≡ id) × (y ≡ count_offer b.old)) ⊎ (y ≡ b.old) → (y.node.label ≡ b.old.node.label) × (y.node.dropped_by ≡ b.old.node.dropped_by)
+    label k y b (inl p) = (ap (λ (z : Held L). z.node.label) p.1, ap (λ (z : Held L). z.node.dropped_by) p.1)
+    label k y b (inr q) = (ap (λ (z : Held L). z.node.label) q, ap (λ (z : Held L). z.node.dropped_by) q)
+
+    from : Before id count_offer v.nodes i g → Before id count_offer v.nodes j h → i ≡ j
+    from b c =
+        let p = label i g b b.is in
+        let q = label j h c c.is in
+        (facts_of a laws v is).alone i j b.old.node c.old.node
+        (record { at = at_node a laws v is i b.old b.at; kept = ap (λ o. is_none o) (sym p.1) ∙ kept_i })
+        (record { at = at_node a laws v is j c.old c.at; kept = ap (λ o. is_none o) (sym q.1) ∙ kept_j })
+        (subst (λ l. IsTrue (a.dominates l c.old.node.label)) p.0 (subst (λ l. IsTrue (a.dominates g.node.label l)) q.0 dom))
+
 -- whether the table is finished, by the next node and the holder
 pub finished_is : {L : Type 0} (a : Algebra L) (v : View L) (p o : Option ℕ) → p ≡ earliest (λ (h : Held L). is_pending h.node) (held_offset a) v.nodes → o ≡ earliest (λ (h : Held L). is_taken h.node) (held_offset a) v.nodes → (is_none p && is_none o) ≡ is_finished a (setting_of v) (state_of v)
 finished_is {L} a v p o e f =
@@ -399,11 +417,3 @@ pub offer_held : {L : Type 0} (a : Algebra L) (laws : Laws a) (v : View L) (is :
 offer_held {L} a laws v is w id k can l comes =
     let x : (h : Held L) × (slice_get v.nodes id ≡ Some h) = get_within v.nodes id (offer_within a laws v is w id k can l comes) in
     (x.0, x.1, offer_few a laws v is w id k can l comes x.0 x.1)
-
--- a node of the machine, with its spare
-pub kept_node : {L : Type 0} (a : Algebra L) (laws : Laws a) (v : View L) → IsTable a v → (id : ℕ) (n : NodeOf L) → slice_get (state_of v).nodes id ≡ Some n → n.dropped_by ≡ None → (h : Held L) × (slice_get v.nodes id ≡ Some h) × (h.node.dropped_by ≡ None)
-kept_node {L} a laws v is id n at kept =
-    let lt : id < length v.nodes = (let h : id < length (state_of v).nodes = slice_get_within (state_of v).nodes id n at in let e : length (state_of v).nodes ≡ length v.nodes = length-map v.nodes (λ h. h.node) in omega arith) in
-    let x : (h : Held L) × (slice_get v.nodes id ≡ Some h) = get_within v.nodes id lt in
-    let same : n ≡ x.0.node = same_Some n x.0.node (sym at ∙ at_node a laws v is id x.0 x.1) in
-    (x.0, x.1, ap (λ (m : NodeOf L). m.dropped_by) (sym same) ∙ kept)

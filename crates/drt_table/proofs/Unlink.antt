@@ -1,17 +1,16 @@
 -- Unlinking a node that is dropped keeps the links.
-use Rattle.std.proofs.Common.{◌≡◌, ℕ, suc, zero, ◌+◌, ◌<◌, ◌≤◌, ◌⊎◌, Bool, true, false, Option, Some, None, List, [], ◌∷◌, refl, sym, ap, ◌∙◌, subst, inl, inr, arith, set}
-use Rattle.std.specs.Prelude.{slice_get, IsTrue, ◌&&◌, ◌==◌}
+use Rattle.std.proofs.Common.{◌≡◌, ℕ, suc, zero, ◌<◌, ◌≤◌, ◌⊎◌, false, Option, Some, None, List, [], ◌∷◌, length, refl, sym, ap, ◌∙◌, subst, inl, inr, arith, set}
+use Rattle.std.specs.Prelude.{slice_get, IsTrue}
 use Rattle.std.proofs.lemmas.List.{length-set}
-use Rattle.std.proofs.lemmas.Option.{none-some, same_Some}
-use Rattle.std.proofs.lemmas.Bool.Decides.{nat_tests}
+use Rattle.std.proofs.lemmas.Option.{none-some, same_Some, slice_get_within}
 use Rattle.drt_label.specs.Algebra.{Algebra}
 use Rattle.drt_table.specs.Node.{Held, is_kept}
-use Rattle.drt_table.specs.Places.{first, first_from, changed}
-use Rattle.drt_table.specs.View.{kept_at}
-use Rattle.drt_table.specs.Links.{AreLinked, IsAfter, heads_after, links_after}
+use Rattle.drt_table.specs.Places.{changed}
+use Rattle.drt_table.specs.Links.{IsBelow, rank, IsKeptAt, IsGreatest, IsNext, AreLinked, IsAfter, heads_after, links_after}
 use Rattle.drt_table.proofs.Lists.{length-changed}
 use Rattle.drt_table.proofs.Adding.{true_not_false}
-use Rattle.drt_table.proofs.Links.{FoundFrom, found_from, none_from, changed_other, changed_here, from-changed_below, from-changed_unseen, from-changed_after, from-changed_at}
+use Rattle.drt_table.proofs.Lists.{changed_other, changed_here}
+use Rattle.drt_table.proofs.Ranks.{same_number, below_above}
 
 pub set_here : {A : Type 0} (xs : List A) (i : ℕ) (y z : A) → slice_get (set xs i y) i ≡ Some z → z ≡ y
 set_here [] i y z h = absurd (none-some z h)
@@ -31,126 +30,224 @@ same_or_not zero (suc n) = inr (λ e. absurd (omega arith))
 same_or_not (suc m) zero = inr (λ e. absurd (omega arith))
 same_or_not (suc m) (suc n) = elim (same_or_not m n) as (λ _. (suc m ≡ suc n) ⊎ (suc m ≡ suc n → ⊥)) [ inl e ↦ inl (ap suc e) | inr ne ↦ inr (λ e. ne (omega arith)) ]
 
-pub below_or_above : (m n : ℕ) → (m < n) ⊎ ((m ≡ n) ⊎ (n < m))
-below_or_above m n = grind arith
+-- below a lower rank is below
+pub below_less : (m : Option ℕ) (r s : ℕ) → IsBelow m s → r < s → IsBelow m r
+below_less None r s b lt = tt
+below_less (Some m) r s b lt = let h : s < m = b in omega arith
+
+module _ {L : Type 0} (a : Algebra L) (nodes : List (Held L)) (few : length nodes ≤ 4294967296) where
+  pub small : (v k : ℕ) (h : Held L) → IsKeptAt a nodes v k h → k < 4294967296
+  small v k h is = let lt : k < length nodes = slice_get_within nodes k h is.at in omega arith
+
+  -- two kept nodes of one rank are one
+  pub same_rank : (v i j : ℕ) (g h : Held L) → IsKeptAt a nodes v i g → IsKeptAt a nodes v j h → rank a i g ≡ rank a j h → i ≡ j
+  same_rank v i j g h p q e = same_number (a.offset g.node.label) (a.offset h.node.label) i j (small v i g p) (small v j h q) e
+
+  pub rank_cases : (v i j : ℕ) (g h : Held L) → IsKeptAt a nodes v i g → IsKeptAt a nodes v j h → (rank a i g < rank a j h) ⊎ ((i ≡ j) ⊎ (rank a j h < rank a i g))
+  rank_cases v i j g h p q = by_rank (below_above (rank a i g) (rank a j h))
+    where
+      by_rank : (rank a i g < rank a j h) ⊎ ((rank a i g ≡ rank a j h) ⊎ (rank a j h < rank a i g)) → (rank a i g < rank a j h) ⊎ ((i ≡ j) ⊎ (rank a j h < rank a i g))
+      by_rank (inl lt) = inl lt
+      by_rank (inr (inl e)) = inr (inl (same_rank v i j g h p q e))
+      by_rank (inr (inr more)) = inr (inr more)
+
+-- what is kept at a place is the node there
+pub kept_same : {L : Type 0} (a : Algebra L) (nodes : List (Held L)) (v i : ℕ) (g h : Held L) → IsKeptAt a nodes v i g → slice_get nodes i ≡ Some h → g ≡ h
+kept_same a nodes v i g h is at = same_Some g h (sym is.at ∙ at)
 
 module _ {L : Type 0} (a : Algebra L) (nodes : List (Held L)) (links heads : List (Option ℕ)) (ok : AreLinked a nodes links heads)
     (i : ℕ) (h : Held L) (at : slice_get nodes i ≡ Some h) (kept : IsTrue (is_kept h.node)) (o : Option ℕ) (link : slice_get links i ≡ Some o)
     (g : Held L → Held L) (drops : is_kept (g h).node ≡ false) where
-  kept_is : (v : ℕ) (x : Held L) → IsTrue (is_kept x.node) → a.vertex x.node.label ≡ v → kept_at a v x.node ≡ true
-  kept_is v x k e = ap (λ b. b && (a.vertex x.node.label == v)) k ∙ (let t : (a.vertex x.node.label == v) ≡ true = grind (arith, nat_tests) in t)
+  here : IsKeptAt a nodes (a.vertex h.node.label) i h
+  here = record { at = at; kept = kept; vertex = refl }
 
-  other_vertex : (v : ℕ) (x : Held L) → (a.vertex x.node.label ≡ v → ⊥) → (b : Bool) → (b && (a.vertex x.node.label == v)) ≡ false
-  other_vertex v x ne true = let t : (a.vertex x.node.label == v) ≡ false = grind (arith, nat_tests) in t
-  other_vertex v x ne false = refl
+  -- what is kept after the change was kept, and isn't i
+  not_i : (v j : ℕ) (m : Held L) → IsKeptAt a (changed i g nodes) v j m → j ≡ i → ⊥
+  not_i v j m is e = true_not_false is.kept (ap (λ (x : Held L). is_kept x.node) (same_Some m (g h) (sym is.at ∙ (ap (λ k. slice_get (changed i g nodes) k) e ∙ changed_here i g nodes h at))) ∙ drops)
 
-  not_now : (v : ℕ) → kept_at a v (g h).node ≡ false
-  not_now v = ap (λ b. b && (a.vertex (g h).node.label == v)) drops
+  back : (v j : ℕ) (m : Held L) → IsKeptAt a (changed i g nodes) v j m → IsKeptAt a nodes v j m
+  back v j m is = record { at = sym (changed_other i g nodes j (not_i v j m is)) ∙ is.at; kept = is.kept; vertex = is.vertex }
+
+  forth : (v j : ℕ) (m : Held L) → IsKeptAt a nodes v j m → (j ≡ i → ⊥) → IsKeptAt a (changed i g nodes) v j m
+  forth v j m is ne = record { at = changed_other i g nodes j ne ∙ is.at; kept = is.kept; vertex = is.vertex }
+
+  -- another node that came next still does
+  stays : (v : ℕ) (m q : Option ℕ) → (q ≡ Some i → ⊥) → IsNext a nodes v m q → IsNext a (changed i g nodes) v m q
+  stays v m None ne next = λ k x is b. next k x (back v k x is) b
+  stays v m (Some q) ne next = record {
+    held = next.held;
+    is = forth v q next.held next.is (λ e. ne (ap (λ k. Some k) e));
+    below = next.below;
+    most = λ k x is b. next.most k x (back v k x is) b;
+  }
+
+  -- where i came next, what comes after i does now
+  spliced : (m : Option ℕ) (q : Option ℕ) → IsGreatest a nodes (a.vertex h.node.label) m i → IsNext a nodes (a.vertex h.node.label) (Some (rank a i h)) q → IsNext a (changed i g nodes) (a.vertex h.node.label) m q
+  spliced m q first next = by_next q next
+    where
+      h_is : first.held ≡ h
+      h_is = kept_same a nodes (a.vertex h.node.label) i first.held h first.is at
+
+      low : (k : ℕ) (x : Held L) → IsKeptAt a (changed i g nodes) (a.vertex h.node.label) k x → IsBelow m (rank a k x) → rank a k x < rank a i h
+      low k x is b = by_rank (rank_cases a nodes ok.few (a.vertex h.node.label) k i x h (back (a.vertex h.node.label) k x is) here)
+        where
+          most : rank a k x ≤ rank a i h
+          most = subst (λ (y : Held L). rank a k x ≤ rank a i y) h_is (first.most k x (back (a.vertex h.node.label) k x is) b)
+
+          by_rank : (rank a k x < rank a i h) ⊎ ((k ≡ i) ⊎ (rank a i h < rank a k x)) → rank a k x < rank a i h
+          by_rank (inl lt) = lt
+          by_rank (inr (inl e)) = absurd (not_i (a.vertex h.node.label) k x is e)
+          by_rank (inr (inr more)) = absurd (let le = most in omega arith)
+
+      by_next : (q : Option ℕ) → IsNext a nodes (a.vertex h.node.label) (Some (rank a i h)) q → IsNext a (changed i g nodes) (a.vertex h.node.label) m q
+      by_next None none = λ k x is b. none k x (back (a.vertex h.node.label) k x is) (low k x is b)
+      by_next (Some q) n = record {
+        held = n.held;
+        is = forth (a.vertex h.node.label) q n.held n.is (λ e. differs q n e);
+        below = below_less m (rank a q n.held) (rank a i h) (subst (λ (y : Held L). IsBelow m (rank a i y)) h_is first.below) n.below;
+        most = λ k x is b. n.most k x (back (a.vertex h.node.label) k x is) (low k x is b);
+      }
+        where
+          differs : (q : ℕ) (n : IsGreatest a nodes (a.vertex h.node.label) (Some (rank a i h)) q) → q ≡ i → ⊥
+          differs q n e =
+              let same : n.held ≡ h = same_Some n.held h (sym n.is.at ∙ (ap (λ k. slice_get nodes k) e ∙ at)) in
+              let lt : rank a q n.held < rank a i h = n.below in
+              let eq : rank a q n.held ≡ rank a i h = ap (λ k. rank a k n.held) e ∙ ap (λ (y : Held L). rank a i y) same in
+              absurd (omega arith)
 
   -- the next kept node of i's vertex
-  next_is : o ≡ first_from (i + 1) (λ x. kept_at a (a.vertex h.node.label) x.node) nodes
+  next_is : IsNext a nodes (a.vertex h.node.label) (Some (rank a i h)) o
   next_is = ok.links_ok i h o at kept link
 
-  -- where i was the first kept node of its vertex from m on, the next one is the first now
-  next_from : (m : ℕ) → first_from m (λ x. kept_at a (a.vertex h.node.label) x.node) nodes ≡ Some i → o ≡ first_from m (λ x. kept_at a (a.vertex h.node.label) x.node) (changed i g nodes)
-  next_from m e = next_is ∙ sym (from-changed_at m (λ x. kept_at a (a.vertex h.node.label) x.node) g i nodes h e at (not_now (a.vertex h.node.label)))
+  -- a list of another vertex doesn't begin or go on with i
+  other_vertex : (v : ℕ) (m q : Option ℕ) → (v ≡ a.vertex h.node.label → ⊥) → IsNext a nodes v m q → q ≡ Some i → ⊥
+  other_vertex v m None ne next e = absurd (cc)
+  other_vertex v m (Some q) ne next e =
+      let same : q ≡ i = same_Some q i e in
+      ne (sym next.is.vertex ∙ ap (λ (y : Held L). a.vertex y.node.label) (same_Some next.held h (sym next.is.at ∙ (ap (λ k. slice_get nodes k) same ∙ at))))
 
-  -- the nodes of other vertices
-  unseen : (m v : ℕ) → (a.vertex h.node.label ≡ v → ⊥) → first_from m (λ x. kept_at a v x.node) nodes ≡ first_from m (λ x. kept_at a v x.node) (changed i g nodes)
-  unseen m v ne = sym (from-changed_unseen m (λ x. kept_at a v x.node) g i nodes h at (not_now v ∙ sym (other_vertex v h ne (is_kept h.node))))
+  as_many : (links' : List (Option ℕ)) → length links' ≡ length links → length links' ≡ length (changed i g nodes)
+  as_many links' e = e ∙ (ok.as_many ∙ sym (length-changed i g nodes))
 
-  -- a kept node that isn't the one before i keeps its link
-  link_stays : (j : ℕ) (m : Held L) → slice_get nodes j ≡ Some m → IsTrue (is_kept m.node) → (j ≡ i → ⊥)
-      → ((j < i) → a.vertex m.node.label ≡ a.vertex h.node.label → (k : ℕ) × (first_from (j + 1) (λ x. kept_at a (a.vertex h.node.label) x.node) nodes ≡ Some k) × (k < i))
-      → first_from (j + 1) (λ x. kept_at a (a.vertex m.node.label) x.node) nodes ≡ first_from (j + 1) (λ x. kept_at a (a.vertex m.node.label) x.node) (changed i g nodes)
-  link_stays j m at_m kept_m ne before = by_vertex (same_or_not (a.vertex m.node.label) (a.vertex h.node.label)) (below_or_above j i)
-    where
-      at_vertex : (v : ℕ) → a.vertex m.node.label ≡ v → (j < i) ⊎ ((j ≡ i) ⊎ (i < j)) → ((j < i) → (k : ℕ) × (first_from (j + 1) (λ x. kept_at a v x.node) nodes ≡ Some k) × (k < i)) → first_from (j + 1) (λ x. kept_at a v x.node) nodes ≡ first_from (j + 1) (λ x. kept_at a v x.node) (changed i g nodes)
-      at_vertex v e (inl less) b = let w : (k : ℕ) × (first_from (j + 1) (λ x. kept_at a v x.node) nodes ≡ Some k) × (k < i) = b less in sym (from-changed_after (j + 1) (λ x. kept_at a v x.node) g i nodes w.0 w.1 w.2)
-      at_vertex v e (inr (inl same)) b = absurd (ne same)
-      at_vertex v e (inr (inr more)) b = sym (from-changed_below (j + 1) (λ x. kept_at a v x.node) g i nodes (omega arith))
-
-      by_vertex : (a.vertex m.node.label ≡ a.vertex h.node.label) ⊎ (a.vertex m.node.label ≡ a.vertex h.node.label → ⊥) → (j < i) ⊎ ((j ≡ i) ⊎ (i < j)) → first_from (j + 1) (λ x. kept_at a (a.vertex m.node.label) x.node) nodes ≡ first_from (j + 1) (λ x. kept_at a (a.vertex m.node.label) x.node) (changed i g nodes)
-      by_vertex (inl e) c = subst (λ v. first_from (j + 1) (λ x. kept_at a v x.node) nodes ≡ first_from (j + 1) (λ x. kept_at a v x.node) (changed i g nodes)) (sym e) (at_vertex (a.vertex h.node.label) e c (λ less. before less e))
-      by_vertex (inr d) c = unseen (j + 1) (a.vertex m.node.label) (λ e. d (sym e))
-
-  not_i : (j : ℕ) (m : Held L) → slice_get (changed i g nodes) j ≡ Some m → IsTrue (is_kept m.node) → j ≡ i → ⊥
-  not_i j m at_m kept_m e = true_not_false kept_m (ap (λ (x : Held L). is_kept x.node) (same_Some m (g h) (sym at_m ∙ (ap (λ k. slice_get (changed i g nodes) k) e ∙ changed_here i g nodes h at))) ∙ drops)
+  still_few : length (changed i g nodes) ≤ 4294967296
+  still_few = subst (λ (n : ℕ). n ≤ 4294967296) (sym (length-changed i g nodes)) ok.few
 
   -- the head takes over the link
-  unlinked_head : first (λ x. kept_at a (a.vertex h.node.label) x.node) nodes ≡ Some i → AreLinked a (changed i g nodes) links (set heads (a.vertex h.node.label) o)
-  unlinked_head e = record {
-    as_many = ok.as_many ∙ sym (length-changed i g nodes);
-    heads_ok = λ v q s. head_at v q s (same_or_not v (a.vertex h.node.label));
-    links_ok = λ j m q at_m kept_m l.
-        let ne : (j ≡ i → ⊥) = not_i j m at_m kept_m in
-        let old : slice_get nodes j ≡ Some m = sym (changed_other i g nodes j ne) ∙ at_m in
-        ok.links_ok j m q old kept_m l ∙ link_stays j m old kept_m ne (λ less same.
-        let f : FoundFrom 0 (λ x. kept_at a (a.vertex h.node.label) x.node) nodes i = found_from 0 (λ x. kept_at a (a.vertex h.node.label) x.node) nodes i e in
-        absurd (true_not_false (kept_is (a.vertex h.node.label) m kept_m same) (f.before j m (omega arith) less old)));
-  }
-    where
-      head_at : (v : ℕ) (q : Option ℕ) → slice_get (set heads (a.vertex h.node.label) o) v ≡ Some q → (v ≡ a.vertex h.node.label) ⊎ (v ≡ a.vertex h.node.label → ⊥) → q ≡ first (λ x. kept_at a v x.node) (changed i g nodes)
-      head_at v q s (inl same) =
-          let here : q ≡ o = set_here heads (a.vertex h.node.label) o q (subst (λ k. slice_get (set heads (a.vertex h.node.label) o) k ≡ Some q) same s) in
-          subst (λ k. q ≡ first (λ x. kept_at a k x.node) (changed i g nodes)) (sym same) (here ∙ next_from 0 e)
-      head_at v q s (inr d) = ok.heads_ok v q (sym (set_other heads (a.vertex h.node.label) v o d) ∙ s) ∙ unseen 0 v (λ k. d (sym k))
+  module _ (first : IsGreatest a nodes (a.vertex h.node.label) None i) where
+    head_at : (v : ℕ) (q : Option ℕ) → slice_get (set heads (a.vertex h.node.label) o) v ≡ Some q → (v ≡ a.vertex h.node.label) ⊎ (v ≡ a.vertex h.node.label → ⊥) → IsNext a (changed i g nodes) v None q
+    head_at v q s (inl same) =
+        let q_is : q ≡ o = set_here heads (a.vertex h.node.label) o q (subst (λ k. slice_get (set heads (a.vertex h.node.label) o) k ≡ Some q) same s) in
+        subst (λ k. IsNext a (changed i g nodes) k None q) (sym same) (subst (λ k. IsNext a (changed i g nodes) (a.vertex h.node.label) None k) (sym q_is) (spliced None o first next_is))
+    head_at v q s (inr d) =
+        let old : IsNext a nodes v None q = ok.heads_ok v q (sym (set_other heads (a.vertex h.node.label) v o d) ∙ s) in
+        stays v None q (other_vertex v None q d old) old
+
+    -- no node has i for its link
+    no_link : (j : ℕ) (m : Held L) (q : Option ℕ) → IsKeptAt a nodes (a.vertex m.node.label) j m → IsNext a nodes (a.vertex m.node.label) (Some (rank a j m)) q → (a.vertex m.node.label ≡ a.vertex h.node.label) ⊎ (a.vertex m.node.label ≡ a.vertex h.node.label → ⊥) → q ≡ Some i → ⊥
+    no_link j m q is old (inr d) e = other_vertex (a.vertex m.node.label) (Some (rank a j m)) q d old e
+    no_link j m None is old (inl same) e = absurd (cc)
+    no_link j m (Some q) is old (inl same) e =
+        let q_is : q ≡ i = same_Some q i e in
+        let held_is : old.held ≡ first.held = same_Some old.held first.held (sym old.is.at ∙ (ap (λ k. slice_get nodes k) q_is ∙ first.is.at)) in
+        let lt : rank a q old.held < rank a j m = old.below in
+        let eq : rank a q old.held ≡ rank a i first.held = ap (λ k. rank a k old.held) q_is ∙ ap (λ (y : Held L). rank a i y) held_is in
+        let le : rank a j m ≤ rank a i first.held = first.most j m (subst (λ v. IsKeptAt a nodes v j m) same is) tt in
+        absurd (omega arith)
+
+    unlinked_head : AreLinked a (changed i g nodes) links (set heads (a.vertex h.node.label) o)
+    unlinked_head = record {
+      few = still_few;
+      as_many = as_many links refl;
+      heads_ok = λ v q s. head_at v q s (same_or_not v (a.vertex h.node.label));
+      links_ok = λ j m q at_m kept_m l.
+          let is : IsKeptAt a nodes (a.vertex m.node.label) j m = back (a.vertex m.node.label) j m (record { at = at_m; kept = kept_m; vertex = refl }) in
+          let old : IsNext a nodes (a.vertex m.node.label) (Some (rank a j m)) q = ok.links_ok j m q is.at kept_m l in
+          stays (a.vertex m.node.label) (Some (rank a j m)) q (no_link j m q is old (same_or_not (a.vertex m.node.label) (a.vertex h.node.label))) old;
+    }
 
   -- the kept node before i takes over the link
-  module _ (p : ℕ) (hp : Held L) (at_p : slice_get nodes p ≡ Some hp) (kept_p : IsTrue (is_kept hp.node)) (same_p : a.vertex hp.node.label ≡ a.vertex h.node.label)
-      (e : first_from (p + 1) (λ x. kept_at a (a.vertex h.node.label) x.node) nodes ≡ Some i) where
-    found_i : FoundFrom (p + 1) (λ x. kept_at a (a.vertex h.node.label) x.node) nodes i
-    found_i = found_from (p + 1) (λ x. kept_at a (a.vertex h.node.label) x.node) nodes i e
+  module _ (p : ℕ) (hp : Held L) (is_p : IsKeptAt a nodes (a.vertex h.node.label) p hp) (first : IsGreatest a nodes (a.vertex h.node.label) (Some (rank a p hp)) i) where
+    first_is : first.held ≡ h
+    first_is = kept_same a nodes (a.vertex h.node.label) i first.held h first.is at
 
-    -- from p or before it something before i is found
-    earlier_case : (m : ℕ) → m ≤ p → (q : Option ℕ) → first_from m (λ x. kept_at a (a.vertex h.node.label) x.node) nodes ≡ q → (k : ℕ) × (first_from m (λ x. kept_at a (a.vertex h.node.label) x.node) nodes ≡ Some k) × (k < i)
-    earlier_case m le None s = absurd (true_not_false (kept_is (a.vertex h.node.label) hp kept_p same_p) (none_from m (λ x. kept_at a (a.vertex h.node.label) x.node) nodes s p hp le at_p))
-    earlier_case m le (Some k) s = (k, s, within (below_or_above k p))
+    i_below : rank a i h < rank a p hp
+    i_below = subst (λ (y : Held L). rank a i y < rank a p hp) first_is first.below
+
+    -- where i comes next below a rank, that is p's
+    only_p : (j : ℕ) (m : Held L) (q : ℕ) → IsKeptAt a nodes (a.vertex h.node.label) j m → (old : IsGreatest a nodes (a.vertex h.node.label) (Some (rank a j m)) q) → q ≡ i → j ≡ p
+    only_p j m q is old e = by_rank (rank_cases a nodes ok.few (a.vertex h.node.label) j p m hp is is_p)
       where
-        within : (k < p) ⊎ ((k ≡ p) ⊎ (p < k)) → k < i
-        within (inl less) = let low : p + 1 ≤ i = found_i.low in omega arith
-        within (inr (inl same)) = let low : p + 1 ≤ i = found_i.low in omega arith
-        within (inr (inr more)) =
-            let f : FoundFrom m (λ x. kept_at a (a.vertex h.node.label) x.node) nodes k = found_from m (λ x. kept_at a (a.vertex h.node.label) x.node) nodes k s in
-            absurd (true_not_false (kept_is (a.vertex h.node.label) hp kept_p same_p) (f.before p hp le more at_p))
+        held_is : old.held ≡ h
+        held_is = same_Some old.held h (sym old.is.at ∙ (ap (λ k. slice_get nodes k) e ∙ at))
 
-    earlier_one : (m : ℕ) → m ≤ p → (k : ℕ) × (first_from m (λ x. kept_at a (a.vertex h.node.label) x.node) nodes ≡ Some k) × (k < i)
-    earlier_one m le = earlier_case m le (first_from m (λ x. kept_at a (a.vertex h.node.label) x.node) nodes) refl
+        eq : rank a q old.held ≡ rank a i h
+        eq = ap (λ k. rank a k old.held) e ∙ ap (λ (y : Held L). rank a i y) held_is
 
-    head_stays : (v : ℕ) (q : Option ℕ) → slice_get heads v ≡ Some q → (v ≡ a.vertex h.node.label) ⊎ (v ≡ a.vertex h.node.label → ⊥) → q ≡ first (λ x. kept_at a v x.node) (changed i g nodes)
-    head_stays v q s (inr d) = ok.heads_ok v q s ∙ unseen 0 v (λ k. d (sym k))
-    head_stays v q s (inl same) =
-        let w : (k : ℕ) × (first_from 0 (λ x. kept_at a (a.vertex h.node.label) x.node) nodes ≡ Some k) × (k < i) = earlier_one 0 (omega arith) in
-        let stays : first_from 0 (λ x. kept_at a (a.vertex h.node.label) x.node) (changed i g nodes) ≡ first_from 0 (λ x. kept_at a (a.vertex h.node.label) x.node) nodes = from-changed_after 0 (λ x. kept_at a (a.vertex h.node.label) x.node) g i nodes w.0 w.1 w.2 in
-        ok.heads_ok v q s ∙ subst (λ u. first (λ x. kept_at a u x.node) nodes ≡ first (λ x. kept_at a u x.node) (changed i g nodes)) (sym same) (sym stays)
+        by_rank : (rank a j m < rank a p hp) ⊎ ((j ≡ p) ⊎ (rank a p hp < rank a j m)) → j ≡ p
+        by_rank (inl lt) =
+            let le : rank a j m ≤ rank a i h = subst (λ (y : Held L). rank a j m ≤ rank a i y) first_is (first.most j m is lt) in
+            let b : rank a q old.held < rank a j m = old.below in
+            let same = eq in
+            absurd (omega arith)
+        by_rank (inr (inl same)) = same
+        by_rank (inr (inr more)) =
+            let le : rank a p hp ≤ rank a q old.held = old.most p hp is_p more in
+            let b = i_below in
+            let same = eq in
+            absurd (omega arith)
 
-    link_at : (j : ℕ) (m : Held L) (q : Option ℕ) → slice_get (changed i g nodes) j ≡ Some m → IsTrue (is_kept m.node) → slice_get (set links p o) j ≡ Some q → (j ≡ p) ⊎ (j ≡ p → ⊥) → q ≡ first_from (j + 1) (λ x. kept_at a (a.vertex m.node.label) x.node) (changed i g nodes)
-    link_at j m q at_m kept_m l (inl same) =
-        let ne : (j ≡ i → ⊥) = not_i j m at_m kept_m in
-        let old : slice_get nodes j ≡ Some m = sym (changed_other i g nodes j ne) ∙ at_m in
-        let m_is : hp ≡ m = same_Some hp m (sym at_p ∙ (ap (λ k. slice_get nodes k) (sym same) ∙ old)) in
+    head_stays : (v : ℕ) (q : Option ℕ) → IsNext a nodes v None q → (v ≡ a.vertex h.node.label) ⊎ (v ≡ a.vertex h.node.label → ⊥) → q ≡ Some i → ⊥
+    head_stays v q old (inr d) e = other_vertex v None q d old e
+    head_stays v None old (inl same) e = absurd (cc)
+    head_stays v (Some q) old (inl same) e =
+        let q_is : q ≡ i = same_Some q i e in
+        let held_is : old.held ≡ h = same_Some old.held h (sym old.is.at ∙ (ap (λ k. slice_get nodes k) q_is ∙ at)) in
+        let eq : rank a q old.held ≡ rank a i h = ap (λ k. rank a k old.held) q_is ∙ ap (λ (y : Held L). rank a i y) held_is in
+        let le : rank a p hp ≤ rank a q old.held = old.most p hp (subst (λ u. IsKeptAt a nodes u p hp) (sym same) is_p) tt in
+        let b = i_below in
+        absurd (omega arith)
+
+    link_stays : (j : ℕ) (m : Held L) (q : Option ℕ) → IsKeptAt a nodes (a.vertex m.node.label) j m → IsNext a nodes (a.vertex m.node.label) (Some (rank a j m)) q → (j ≡ p → ⊥) → (a.vertex m.node.label ≡ a.vertex h.node.label) ⊎ (a.vertex m.node.label ≡ a.vertex h.node.label → ⊥) → q ≡ Some i → ⊥
+    link_stays j m q is old ne (inr d) e = other_vertex (a.vertex m.node.label) (Some (rank a j m)) q d old e
+    link_stays j m None is old ne (inl same) e = absurd (cc)
+    link_stays j m (Some q) is old ne (inl same) e =
+        ne (only_p j m q (subst (λ v. IsKeptAt a nodes v j m) same is) (subst (λ v. IsGreatest a nodes v (Some (rank a j m)) q) same old) (same_Some q i e))
+
+    link_at : (j : ℕ) (m : Held L) (q : Option ℕ) → IsKeptAt a nodes (a.vertex m.node.label) j m → slice_get (set links p o) j ≡ Some q → (j ≡ p) ⊎ (j ≡ p → ⊥) → IsNext a (changed i g nodes) (a.vertex m.node.label) (Some (rank a j m)) q
+    link_at j m q is l (inl same) =
+        let m_is : hp ≡ m = same_Some hp m (sym is_p.at ∙ (ap (λ k. slice_get nodes k) (sym same) ∙ is.at)) in
         let q_is : q ≡ o = set_here links p o q (subst (λ k. slice_get (set links p o) k ≡ Some q) same l) in
-        let vertex : a.vertex h.node.label ≡ a.vertex m.node.label = sym same_p ∙ ap (λ (x : Held L). a.vertex x.node.label) m_is in
-        subst (λ k. q ≡ first_from (k + 1) (λ x. kept_at a (a.vertex m.node.label) x.node) (changed i g nodes)) (sym same)
-        (subst (λ u. q ≡ first_from (p + 1) (λ x. kept_at a u x.node) (changed i g nodes)) vertex (q_is ∙ next_from (p + 1) e))
-    link_at j m q at_m kept_m l (inr d) =
-        let ne : (j ≡ i → ⊥) = not_i j m at_m kept_m in
-        let old : slice_get nodes j ≡ Some m = sym (changed_other i g nodes j ne) ∙ at_m in
-        ok.links_ok j m q old kept_m (sym (set_other links p j o d) ∙ l) ∙ link_stays j m old kept_m ne (λ less same. by_order old kept_m less same d (below_or_above j p))
-      where
-        by_order : slice_get nodes j ≡ Some m → IsTrue (is_kept m.node) → j < i → a.vertex m.node.label ≡ a.vertex h.node.label → (j ≡ p → ⊥) → (j < p) ⊎ ((j ≡ p) ⊎ (p < j)) → (k : ℕ) × (first_from (j + 1) (λ x. kept_at a (a.vertex h.node.label) x.node) nodes ≡ Some k) × (k < i)
-        by_order old k less same d (inl before) = earlier_one (j + 1) (omega arith)
-        by_order old k less same d (inr (inl eq)) = absurd (d eq)
-        by_order old k less same d (inr (inr after)) = absurd (true_not_false (kept_is (a.vertex h.node.label) m k same) (found_i.before j m (omega arith) less old))
+        let vertex : a.vertex h.node.label ≡ a.vertex m.node.label = sym is_p.vertex ∙ ap (λ (x : Held L). a.vertex x.node.label) m_is in
+        subst (λ k. IsNext a (changed i g nodes) (a.vertex m.node.label) (Some (rank a k m)) q) (sym same)
+        (subst (λ (y : Held L). IsNext a (changed i g nodes) (a.vertex m.node.label) (Some (rank a p y)) q) m_is
+        (subst (λ v. IsNext a (changed i g nodes) v (Some (rank a p hp)) q) vertex
+        (subst (λ k. IsNext a (changed i g nodes) (a.vertex h.node.label) (Some (rank a p hp)) k) (sym q_is) (spliced (Some (rank a p hp)) o first next_is))))
+    link_at j m q is l (inr d) =
+        let old : IsNext a nodes (a.vertex m.node.label) (Some (rank a j m)) q = ok.links_ok j m q is.at is.kept (sym (set_other links p j o d) ∙ l) in
+        stays (a.vertex m.node.label) (Some (rank a j m)) q (link_stays j m q is old d (same_or_not (a.vertex m.node.label) (a.vertex h.node.label))) old
 
     unlinked_link : AreLinked a (changed i g nodes) (set links p o) heads
     unlinked_link = record {
-      as_many = length-set links p o ∙ (ok.as_many ∙ sym (length-changed i g nodes));
-      heads_ok = λ v q s. head_stays v q s (same_or_not v (a.vertex h.node.label));
-      links_ok = λ j m q at_m kept_m l. link_at j m q at_m kept_m l (same_or_not j p);
+      few = still_few;
+      as_many = as_many (set links p o) (length-set links p o);
+      heads_ok = λ v q s. let old : IsNext a nodes v None q = ok.heads_ok v q s in stays v None q (head_stays v q old (same_or_not v (a.vertex h.node.label))) old;
+      links_ok = λ j m q at_m kept_m l. link_at j m q (back (a.vertex m.node.label) j m (record { at = at_m; kept = kept_m; vertex = refl })) l (same_or_not j p);
     }
 
   -- what came after i comes after the one before it
   pub unlinked : (last : Option ℕ) → IsAfter a nodes (a.vertex h.node.label) last (Some i) → AreLinked a (changed i g nodes) (links_after last o links) (heads_after (a.vertex h.node.label) last o heads)
-  unlinked None e = unlinked_head (sym e)
-  unlinked (Some p) e = unlinked_link p e.0.held e.0.at e.0.kept e.0.vertex (sym e.1)
+  unlinked None e = unlinked_head e
+  unlinked (Some p) e = unlinked_link p e.0 e.1 e.2
+
+  -- and what came after i comes next now
+  pub next_unlinked : (last : Option ℕ) → IsAfter a nodes (a.vertex h.node.label) last (Some i) → IsAfter a (changed i g nodes) (a.vertex h.node.label) last o
+  next_unlinked None e = spliced None o e next_is
+  next_unlinked (Some p) e = (e.0, forth (a.vertex h.node.label) p e.0 e.1 (λ same. differs p e same), spliced (Some (rank a p e.0)) o e.2 next_is)
+    where
+      differs : (p : ℕ) (e : IsAfter a nodes (a.vertex h.node.label) (Some p) (Some i)) → p ≡ i → ⊥
+      differs p e same =
+          let first : IsGreatest a nodes (a.vertex h.node.label) (Some (rank a p e.0)) i = e.2 in
+          let held_is : first.held ≡ e.0 = same_Some first.held e.0 (sym first.is.at ∙ (ap (λ k. slice_get nodes k) (sym same) ∙ e.1.at)) in
+          let lt : rank a i first.held < rank a p e.0 = first.below in
+          let eq : rank a i first.held ≡ rank a p e.0 = ap (λ k. rank a k first.held) (sym same) ∙ ap (λ (y : Held L). rank a p y) held_is in
+          absurd (omega arith)

@@ -8,6 +8,7 @@ pub mod Work
 pub mod View
 pub mod Held
 pub mod Links
+pub mod KeptOrder
 pub mod Waiting
 pub mod Arena
 pub mod Taking

@@ -6,12 +6,6 @@ abbrev pub first : {A : Type 0} → (A → Bool) → List A → Option ℕ
 first p [] = None
 first p (x ∷ xs) = if p x then Some 0 else option_map suc (first p xs)
 
--- The first place from k on at which p passes.
-abbrev pub first_from : {A : Type 0} → ℕ → (A → Bool) → List A → Option ℕ
-first_from zero p xs = first p xs
-first_from (suc k) p [] = None
-first_from (suc k) p (x ∷ xs) = option_map suc (first_from k p xs)
-
 -- The list with f applied at place k.
 abbrev pub changed : {A : Type 0} → ℕ → (A → A) → List A → List A
 changed k f [] = []

@@ -7,8 +7,10 @@ ghost use Rattle.std.specs.Prelude.{◌≡◌, ℕ, ◌+◌, ◌<◌, ◌≤◌,
 ghost use Rattle.drt_label.specs.Algebra.{IsTime};
 ghost use Rattle.drt_table.specs.Arena.{Stock, HasNodes};
 ghost use Rattle.drt_table.specs.Held.{AllOf, take_by, count_offer, close_node, hand_out, fresh_held, held_offset, drop_held, dominates_held, placed_nodes, placed_reply};
-ghost use Rattle.drt_table.specs.Node.{Held, is_pending, is_taken, is_held_by};
-ghost use Rattle.drt_table.specs.Places.{first, first_from, changed, earliest};
+ghost use Rattle.drt_table.specs.Links.{AreAlone};
+ghost use Rattle.drt_table.specs.KeptOrder.{IsFirstKept, IsNextKept};
+ghost use Rattle.drt_table.specs.Node.{NodeOf, Held, is_pending, is_taken, is_held_by};
+ghost use Rattle.drt_table.specs.Places.{first, changed, earliest};
 ghost use Rattle.std.specs.Option.{ForSome};
 ghost use Rattle.drt_table.specs.Taking.{is_soon};
 ghost use Rattle.drt_table.specs.View.{kept_at};
@@ -28,9 +30,9 @@ use std::sync::Arc;
 #[derive(Drop)]
 pub(crate) struct Arena<L: Label> {
     nodes: Vec<Node<L>>,
-    // The next kept node of the node's vertex, for each kept node.
+    // The kept node of the node's vertex with the next smaller offset, for each kept node.
     links: Vec<Option<u32>>,
-    // The least kept node of each vertex.
+    // The kept node of greatest offset of each vertex.
     heads: Vec<Option<u32>>,
     // The pending nodes.
     queue: Queue,
@@ -136,18 +138,18 @@ impl<L: Label> Arena<L> {
         first_held(self.nodes.as_slice(), self.taken.as_slice(), worker)
     }
 
-    // The least kept node of the vertex.
+    // The first kept node of the vertex.
     pub(crate) fn first_kept(&self, vertex: u32) -> Option<u32>
         requires { vertex < self.now.vertices }
-        ensures { result ≡ first (λ h. kept_at L.algebra vertex h.node) self.now.nodes }
+        ensures { IsFirstKept L.algebra (map (λ h. h.node) self.now.nodes) vertex result }
     {
         self.heads[vertex as usize]
     }
 
     // The next kept node of the node's vertex.
     pub(crate) fn next_kept(&self, id: u32) -> Option<u32>
-        requires { (h : Held L) × (slice_get self.now.nodes id ≡ Some h) × (h.node.dropped_by ≡ None) }
-        ensures { IfSome (slice_get self.now.nodes id) (λ h. result ≡ first_from (id + 1) (λ x. kept_at L.algebra (L.algebra.vertex h.node.label) x.node) self.now.nodes) }
+        requires { (n : NodeOf L) × (slice_get (map (λ h. h.node) self.now.nodes) id ≡ Some n) × (n.dropped_by ≡ None) }
+        ensures { (n : NodeOf L) → slice_get (map (λ h. h.node) self.now.nodes) id ≡ Some n → IsNextKept L.algebra (map (λ h. h.node) self.now.nodes) (L.algebra.vertex n.label) id n result }
     {
         self.links[id as usize]
     }
@@ -198,6 +200,7 @@ impl<L: Label> Arena<L> {
         requires deadline { IsTime deadline }
         requires of { IsTrue (L.algebra.is_of twin bound) }
         requires all_of { AllOf (λ h. IsTrue (L.algebra.is_of h.node.label bound)) self.old.nodes }
+        requires alone { AreAlone L.algebra self.old.nodes }
         ensures nodes { HasNodes self.old self.new (placed_nodes L.algebra twin parent deadline bound self.old.nodes) }
         ensures reply { result ≡ placed_reply L.algebra twin deadline bound self.old.nodes }
     {

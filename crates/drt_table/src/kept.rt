@@ -1,15 +1,20 @@
-//! The kept nodes of each vertex, as a list in ascending order of number.
+//! The kept nodes of each vertex, as a list in descending order of offset.
+//!
+//! A label dominates only labels of its vertex with no smaller offset. So the nodes that a new label drops stand at the
+//! head of its vertex's list, down to its own offset, and those that dominate it stand from its offset on. Where dominance
+//! is a chain, the first one there that doesn't dominate it ends the search.
 
 ghost use Rattle.std.specs.Prelude.{◌≡◌, ℕ, ◌+◌, ◌<◌, ◌≤◌, IsTrue, Some, None, length, map, vec_len, vec_capacity, ◌^◌, ◌++◌, ◌∷◌, []};
 ghost use Rattle.drt_table.specs.Held.{AllOf, drop_held, dominates_held, fresh_held, placed_nodes, placed_reply};
 ghost use Rattle.drt_label.specs.Algebra.{IsTime};
 ghost use Rattle.drt_table.specs.Node.{is_kept};
-ghost use Rattle.drt_table.specs.Links.{AreLinked, IsAfter, heads_after, links_after};
+ghost use Rattle.drt_table.specs.Links.{AreLinked, AreAlone, IsPlace, IsLink, heads_after, links_after};
 ghost use Rattle.drt_table.specs.Places.{first};
 ghost use Rattle.std.specs.Option.{ForSome};
 
 use crate::arena::push_within;
 use crate::node::{Node, Twin};
+use crate::shortest::smaller;
 use crate::step::TableReply;
 use drt_label::Label;
 
@@ -30,6 +35,7 @@ pub(crate) fn place_in<L: Label>(
     requires deadline { IsTime deadline }
     requires of { IsTrue (L.algebra.is_of twin bound) }
     requires all_of { AllOf (λ h. IsTrue (L.algebra.is_of h.node.label bound)) nodes.old.items }
+    requires alone { AreAlone L.algebra nodes.old.items }
     ensures nodes { nodes.new.items ≡ placed_nodes L.algebra twin parent deadline bound nodes.old.items }
     ensures linked { AreLinked L.algebra nodes.new.items links.new.items heads.new }
     ensures reply { result ≡ placed_reply L.algebra twin deadline bound nodes.old.items }
@@ -74,7 +80,7 @@ fn add<L: Label>(
     number
 }
 
-// Adds a kept node, which comes after `last` and last in the list of its vertex.
+// Adds a kept node, which comes after `last` in the list of its vertex.
 pub(crate) fn push_node<L: Label>(
     nodes: &mut Vec<Node<L>>,
     links: &mut Vec<Option<u32>>,
@@ -85,7 +91,7 @@ pub(crate) fn push_node<L: Label>(
     requires linked { AreLinked L.algebra nodes.old.items links.old.items heads.old }
     requires kept { IsTrue (is_kept node.node) }
     requires vertex { L.algebra.vertex node.node.label < length heads.old }
-    requires last { IsAfter L.algebra nodes.old.items (L.algebra.vertex node.node.label) last None }
+    requires last { IsPlace L.algebra nodes.old.items (L.algebra.vertex node.node.label) (L.algebra.offset node.node.label) last }
     requires room { (vec_len nodes.old < vec_capacity nodes.old) × (vec_len links.old < vec_capacity links.old) }
     requires few { vec_len nodes.old < 2 ^ 32 }
     ensures nodes { nodes.new.items ≡ nodes.old.items ++ node ∷ [] }
@@ -94,9 +100,10 @@ pub(crate) fn push_node<L: Label>(
 {
     let number = nodes.len() as u32;
     let vertex = node.vertex();
+    let next = link_after(links.as_slice(), heads, vertex, last);
     link(links.as_mut_slice(), heads, vertex, last, Some(number));
     push_within(nodes, node);
-    push_within(links, None);
+    push_within(links, next);
 }
 
 // The least kept node that dominates the label.
@@ -109,20 +116,28 @@ pub(crate) fn first_above<L: Label>(
     requires linked { AreLinked L.algebra nodes.now links.now heads.now }
     requires vertex { L.algebra.vertex label.now < length heads.now }
     requires of { (bound : ℕ) × IsTrue (L.algebra.is_of label.now bound) × AllOf (λ h. IsTrue (L.algebra.is_of h.node.label bound)) nodes.now }
+    requires alone { AreAlone L.algebra nodes.now }
     ensures { result ≡ first (dominates_held L.algebra label.now) nodes.now }
 {
+    let offset = label.offset();
+    let chain = L::is_chain();
+    let mut least = None;
     let mut next = heads[label.vertex() as usize];
     while let Some(id) = next {
-        if nodes[id as usize].is_above(label) {
-            return Some(id);
-        }
         next = links[id as usize];
+        if nodes[id as usize].offset() <= offset {
+            if nodes[id as usize].is_above(label) {
+                least = smaller(least, Some(id));
+            } else if chain {
+                return least;
+            }
+        }
     }
-    None
+    least
 }
 
-// Drops each kept node that the label dominates, and takes it out of the list of its vertex. The answer is the last node
-// that stays in that list.
+// Drops each kept node that the label dominates, and takes it out of the list of its vertex. The answer is the node of
+// that list after which a new node with the label comes.
 pub(crate) fn drop_all_below<L: Label>(
     nodes: &mut [Node<L>],
     links: &mut [Option<u32>],
@@ -135,12 +150,16 @@ pub(crate) fn drop_all_below<L: Label>(
     requires of { (bound : ℕ) × IsTrue (L.algebra.is_of label.now bound) × AllOf (λ h. IsTrue (L.algebra.is_of h.node.label bound)) nodes.old }
     ensures nodes { nodes.new ≡ map (drop_held L.algebra label.now number) nodes.old }
     ensures linked { AreLinked L.algebra nodes.new links.new heads.new }
-    ensures last { IsAfter L.algebra nodes.new (L.algebra.vertex label.now) result None }
+    ensures last { IsPlace L.algebra nodes.new (L.algebra.vertex label.now) (L.algebra.offset label.now) result }
 {
     let vertex = label.vertex();
+    let offset = label.offset();
     let mut last = None;
     let mut next = heads[vertex as usize];
     while let Some(id) = next {
+        if nodes[id as usize].offset() < offset {
+            return last;
+        }
         next = links[id as usize];
         if nodes[id as usize].is_below(label) {
             nodes[id as usize].drop_below(label, number);
@@ -150,6 +169,23 @@ pub(crate) fn drop_all_below<L: Label>(
         }
     }
     last
+}
+
+// What comes after `last` in the list of the vertex.
+fn link_after(
+    links: &[Option<u32>],
+    heads: &[Option<u32>],
+    vertex: u32,
+    last: Option<u32>,
+) -> Option<u32>
+    requires vertex { vertex < length heads.now }
+    requires last { ForSome last (λ p. p < length links.now) }
+    ensures { IsLink vertex last result links.now heads.now }
+{
+    match last {
+        None => heads[vertex as usize],
+        Some(p) => links[p as usize],
+    }
 }
 
 // Has `next` come after `last` in the list of the vertex.

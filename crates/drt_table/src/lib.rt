@@ -6,9 +6,9 @@
 //! memory. What holds after every run, whoever made its steps, is the contract of `over_every_interleaving`. The layer
 //! above uses that contract and those of `Table`.
 //!
-//! The nodes stand in an arena. The kept nodes of each vertex form a list inside it, with node numbers for links, so an
-//! offer looks at the kept nodes of the label's vertex alone. The pending nodes stand in a queue by offset, and the taken
-//! ones in a list that is as short as the workers are few.
+//! The nodes stand in an arena. The kept nodes of each vertex form a list inside it, in descending order of offset and with
+//! node numbers for links, so an offer looks at few kept nodes of the label's vertex. The pending nodes stand in a queue by
+//! offset, and the taken ones in a list that is as short as the workers are few.
 #![tactic(auto)]
 
 mod arena;

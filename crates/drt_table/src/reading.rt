@@ -1,12 +1,13 @@
 //! What a table shows.
 
-ghost use Rattle.std.specs.Prelude.{◌≡◌, ℕ, ◌+◌, ◌<◌, Some, None, slice_get, length, IfOk, IfSome, IsTrue};
+ghost use Rattle.std.specs.Prelude.{◌≡◌, ◌<◌, Some, None, slice_get, length, IfOk, IsTrue};
 ghost use Rattle.drt_model.specs.Digraph.{vertex_count};
 ghost use Rattle.drt_table.specs.Cover.{IsFront};
+ghost use Rattle.drt_table.specs.KeptOrder.{IsFirstKept, IsNextKept};
 ghost use Rattle.drt_table.specs.Machine.{is_finished};
 ghost use Rattle.drt_table.specs.Node.{NodeOf, is_held_by};
-ghost use Rattle.drt_table.specs.Places.{first, first_from};
-ghost use Rattle.drt_table.specs.View.{IsTable, setting_of, state_of, kept_at};
+ghost use Rattle.drt_table.specs.Places.{first};
+ghost use Rattle.drt_table.specs.View.{IsTable, setting_of, state_of};
 ghost use Rattle.drt_table.specs.Walk.{IsWalkOf};
 
 use crate::node::Node;
@@ -32,18 +33,18 @@ impl<L: Label> Table<L> {
         self.arena.node(id)
     }
 
-    /// The least kept node of a vertex, if there is one.
+    /// The kept node of a vertex that has the greatest offset, the least number in a tie, if there is a kept one.
     pub fn first_kept(&self, vertex: u32) -> Option<u32>
         requires { vertex < vertex_count self.now.graph }
-        ensures { result ≡ first (kept_at L.algebra vertex) (state_of self.now).nodes }
+        ensures { IsFirstKept L.algebra (state_of self.now).nodes vertex result }
     {
         self.arena.first_kept(vertex)
     }
 
-    /// The next kept node of the same vertex, if there is a further one.
+    /// The next kept node of the same vertex, in descending order of offset, if there is a further one.
     pub fn next_kept(&self, id: u32) -> Option<u32>
         requires { (n : NodeOf _) × (slice_get (state_of self.now).nodes id ≡ Some n) × (n.dropped_by ≡ None) }
-        ensures { IfSome (slice_get (state_of self.now).nodes id) (λ n. result ≡ first_from (id + 1) (kept_at L.algebra (L.algebra.vertex n.label)) (state_of self.now).nodes) }
+        ensures { (n : NodeOf _) → slice_get (state_of self.now).nodes id ≡ Some n → IsNextKept L.algebra (state_of self.now).nodes (L.algebra.vertex n.label) id n result }
     {
         self.arena.next_kept(id)
     }

@@ -1,16 +1,22 @@
-use Rattle.std.proofs.Common.{◌++◌, sym, ap, ◌∙◌, add-one}
+use Rattle.std.proofs.Common.{◌≡◌, ◌-◌, List, sym, subst, arith}
+use Rattle.drt_model.specs.Digraph.{vertex_count}
+use Rattle.drt_demand.specs.Demand.{Demand}
+use Rattle.drt_table.specs.Node.{NodeOf}
 use Rattle.drt_table.specs.View.{state_of}
-use Rattle.drt_edf.specs.KeptNodes.{kept_from, kept_upto}
-use Rattle.drt_edf.proofs.KeptLists.{upto_none, upto_more}
+use Rattle.drt_edf.specs.KeptNodes.{AreFalling, AreKept, IsFrom}
+use Rattle.drt_edf.proofs.KeptLists.{falling_none, kept_reversed}
 use Rattle.drt_edf.proofs.kept.kept_nodes.Goals as goal
 
 pub vertices-init : goal.vertices-init
-vertices-init c = c.new-kept.ensures.items ∙ sym (upto_none (state_of c.args.table.now).nodes)
+vertices-init c =
+    let nodes : List (NodeOf Demand) = (state_of c.args.table.now).nodes in
+    let count = vertex_count c.args.graph.now in
+    subst (AreFalling nodes (IsFrom (count - 0) count)) (sym c.new-kept.ensures.items) (falling_none nodes count (count - 0) (omega arith))
 
-pub vertices-preserved : goal.vertices-preserved
-vertices-preserved c =
-    let nodes = (state_of c.args.table.now).nodes in
-    let v = c.vertices.vertex in
-    c.in_ok-add_kept.ensures
-    ∙ (ap (λ xs. xs ++ kept_from 0 v nodes) c.vertices.invariant
-    ∙ (sym (upto_more v nodes) ∙ ap (λ k. kept_upto k nodes) (sym (add-one v))))
+pub returns : goal.returns
+returns c =
+    let nodes : List (NodeOf Demand) = (state_of c.args.table.now).nodes in
+    let count = vertex_count c.args.graph.now in
+    let all : count - c.vertices.later ≡ 0 = omega (arith, c.vertices-test.false, c.vertex_count-count.ensures.count) in
+    let falling : AreFalling nodes (IsFrom 0 count) c.vertices.kept.items = subst (λ v. AreFalling nodes (IsFrom v count) c.vertices.kept.items) all c.vertices.invariant in
+    subst (AreKept count nodes) (sym c.reverse.ensures.items) (kept_reversed nodes count c.vertices.kept.items falling)

@@ -1,6 +1,7 @@
 -- The next node, if there is one, is kept; fewer are left.
-use Rattle.std.proofs.Common.{length}
-use Rattle.drt_table.proofs.Sweep.{remaining}
+use Rattle.drt_demand.specs.Demand.{demand_algebra}
+use Rattle.drt_table.specs.KeptOrder.{left_from}
+use Rattle.drt_table.specs.View.{state_of}
 use Rattle.drt_rows.proofs.Conditions.{IsKeptNext}
 use Rattle.drt_rows.proofs.tests.add_kept.Given as goal
 
@@ -8,4 +9,4 @@ abbrev pub invariant-nodes : goal.invariant-nodes
 invariant-nodes l = IsKeptNext l.table l.next
 
 abbrev pub decreases-nodes : goal.decreases-nodes
-decreases-nodes l = remaining (length l.table.nodes) l.next
+decreases-nodes l = left_from demand_algebra (state_of l.table).nodes l.next

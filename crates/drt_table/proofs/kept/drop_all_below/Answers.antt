@@ -1,15 +1,13 @@
-use Rattle.std.proofs.Common.{◌≡◌, ◌<◌, ℕ, None, Some, Option, length, sym, ap, ◌∙◌, subst, arith, set}
+use Rattle.std.proofs.Common.{◌≡◌, ◌<◌, ◌≤◌, ℕ, None, Some, Option, length, refl, sym, ap, ◌∙◌, subst, arith, set}
 use Rattle.std.specs.Prelude.{slice_get, slice_set, slice_index_or, IsTrue}
-use Rattle.std.proofs.lemmas.List.{length-set}
-use Rattle.std.proofs.lemmas.Option.{slice_get-get_or, same_Some}
+use Rattle.std.proofs.lemmas.Option.{none-some, same_Some, slice_get-get_or}
 use Rattle.drt_table.specs.Links.{links_after, heads_after}
-use Rattle.drt_table.specs.Places.{first, changed}
+use Rattle.drt_table.specs.Places.{changed}
 use Rattle.drt_table.specs.Held.{AllOf, drop_held}
 use Rattle.drt_table.specs.Node.{Held}
-use Rattle.drt_table.specs.View.{kept_at}
 use Rattle.drt_table.proofs.Lists.{changed-set}
-use Rattle.drt_table.proofs.Sweep.{remaining}
-use Rattle.drt_table.proofs.Sweeping.{IsSwept, sweep_start, swept_within, last_within, swept_of, sweep_less, sweep_drop, sweep_keep}
+use Rattle.drt_table.proofs.Sweep.{to_go}
+use Rattle.drt_table.proofs.Sweeping.{IsSwept, sweep_start, swept_within, swept_of, stop_at, all_swept, swept_place, last_within, sweep_less, sweep_keep, sweep_drop}
 use Rattle.drt_table.proofs.kept.drop_all_below.Goals as goal
 
 pub loop-next-init : goal.loop-next-init
@@ -19,9 +17,9 @@ loop-next-init g c =
     let l = c.args.label.now in
     let n : ℕ = c.args.number in
     let xs = c.args.nodes.now in
-    let head : slice_index_or c.args.heads.now c.vertex-vertex.result None ≡ first (λ (h : Held _). kept_at a c.vertex-vertex.result h.node) xs =
-    c.requires.linked.heads_ok c.vertex-vertex.result (slice_index_or c.args.heads.now c.vertex-vertex.result None) (slice_get-get_or c.args.heads.now c.vertex-vertex.result None (omega (arith, c.vertex-vertex.ensures, c.requires.vertex))) in
-    sweep_start a laws l n xs xs c.args.links.now c.args.heads.now None c.requires.linked (slice_index_or c.args.heads.now c.vertex-vertex.result None) (head ∙ ap (λ v. first (λ (h : Held _). kept_at a v h.node) xs) c.vertex-vertex.ensures)
+    let head : Option ℕ = slice_index_or c.args.heads.now c.vertex-vertex.result None in
+    let there : slice_get c.args.heads.now c.vertex-vertex.result ≡ Some head = slice_get-get_or c.args.heads.now c.vertex-vertex.result None (omega (arith, c.vertex-vertex.ensures, c.requires.vertex)) in
+    sweep_start a laws l n xs c.args.links.now c.args.heads.now c.requires.linked head (subst (λ v. slice_get c.args.heads.now v ≡ Some head) c.vertex-vertex.ensures there)
 
 pub bounds-nodes-id : goal.bounds-nodes-id
 bounds-nodes-id g c =
@@ -36,9 +34,48 @@ bounds-nodes-id g c =
     let last = c.loop-next.last in
     let i : ℕ = c.in-Some.id in
     let s : IsSwept a l n xs ns links heads last (Some i) = subst (λ o. IsSwept a l n xs ns links heads last o) c.in-Some.is c.loop-next.invariant in
-    let lt : c.in-Some.id < length c.loop-next.nodes = swept_within a laws l n xs ns links heads last i s in
-    let lt_link : c.in-Some.id < length c.loop-next.links = subst (λ (m : ℕ). i < m) (sym s.linked.as_many) lt in
+    let lt : c.in-Some.id < length c.loop-next.nodes = swept_within a laws l n xs ns links heads last (Some i) s i refl in
     lt
+
+pub returns-then-offset-clause-nodes : goal.returns-then-offset-clause-nodes
+returns-then-offset-clause-nodes g c =
+    let a = g.L.Label.algebra in
+    let laws = (g.met.L.Label g.world.𝓛 g.world.𝓜 g.world.𝓡 ((λ s x. x), (λ x. x), (λ x. x), λ x. x)).laws in
+    let l = c.args.label.now in
+    let n : ℕ = c.args.number in
+    let xs = c.args.nodes.now in
+    let ns = c.loop-next.nodes in
+    let links = c.loop-next.links in
+    let heads = c.loop-next.heads in
+    let last = c.loop-next.last in
+    let i : ℕ = c.in-Some.id in
+    let s : IsSwept a l n xs ns links heads last (Some i) = subst (λ o. IsSwept a l n xs ns links heads last o) c.in-Some.is c.loop-next.invariant in
+    let lt : c.in-Some.id < length c.loop-next.nodes = swept_within a laws l n xs ns links heads last (Some i) s i refl in
+    let w : Held _ = slice_index_or ns i c.index-nodes-id.result in
+    let at_w : slice_get ns i ≡ Some w = slice_get-get_or ns i c.index-nodes-id.result lt in
+    let less : a.offset w.node.label < a.offset l = omega (arith, c.if-offset.true, c.offset.ensures, c.offset-offset.ensures) in
+    let stop : (j : ℕ) (y : Held _) → Some i ≡ Some j → slice_get ns j ≡ Some y → a.offset y.node.label < a.offset l = stop_at a l ns i w at_w less in
+    all_swept a laws l n xs ns links heads last (Some i) s stop
+
+pub returns-then-offset-clause-last : goal.returns-then-offset-clause-last
+returns-then-offset-clause-last g c =
+    let a = g.L.Label.algebra in
+    let laws = (g.met.L.Label g.world.𝓛 g.world.𝓜 g.world.𝓡 ((λ s x. x), (λ x. x), (λ x. x), λ x. x)).laws in
+    let l = c.args.label.now in
+    let n : ℕ = c.args.number in
+    let xs = c.args.nodes.now in
+    let ns = c.loop-next.nodes in
+    let links = c.loop-next.links in
+    let heads = c.loop-next.heads in
+    let last = c.loop-next.last in
+    let i : ℕ = c.in-Some.id in
+    let s : IsSwept a l n xs ns links heads last (Some i) = subst (λ o. IsSwept a l n xs ns links heads last o) c.in-Some.is c.loop-next.invariant in
+    let lt : c.in-Some.id < length c.loop-next.nodes = swept_within a laws l n xs ns links heads last (Some i) s i refl in
+    let w : Held _ = slice_index_or ns i c.index-nodes-id.result in
+    let at_w : slice_get ns i ≡ Some w = slice_get-get_or ns i c.index-nodes-id.result lt in
+    let less : a.offset w.node.label < a.offset l = omega (arith, c.if-offset.true, c.offset.ensures, c.offset-offset.ensures) in
+    let stop : (j : ℕ) (y : Held _) → Some i ≡ Some j → slice_get ns j ≡ Some y → a.offset y.node.label < a.offset l = stop_at a l ns i w at_w less in
+    swept_place a laws l n xs ns links heads last (Some i) s stop
 
 pub slice_copy_out-next-in-Some : goal.slice_copy_out-next-in-Some
 slice_copy_out-next-in-Some g c =
@@ -53,9 +90,25 @@ slice_copy_out-next-in-Some g c =
     let last = c.loop-next.last in
     let i : ℕ = c.in-Some.id in
     let s : IsSwept a l n xs ns links heads last (Some i) = subst (λ o. IsSwept a l n xs ns links heads last o) c.in-Some.is c.loop-next.invariant in
-    let lt : c.in-Some.id < length c.loop-next.nodes = swept_within a laws l n xs ns links heads last i s in
+    let lt : c.in-Some.id < length c.loop-next.nodes = swept_within a laws l n xs ns links heads last (Some i) s i refl in
     let lt_link : c.in-Some.id < length c.loop-next.links = subst (λ (m : ℕ). i < m) (sym s.linked.as_many) lt in
     lt_link
+
+pub bounds-nodes-id-in-Some : goal.bounds-nodes-id-in-Some
+bounds-nodes-id-in-Some g c =
+    let a = g.L.Label.algebra in
+    let laws = (g.met.L.Label g.world.𝓛 g.world.𝓜 g.world.𝓡 ((λ s x. x), (λ x. x), (λ x. x), λ x. x)).laws in
+    let l = c.args.label.now in
+    let n : ℕ = c.args.number in
+    let xs = c.args.nodes.now in
+    let ns = c.loop-next.nodes in
+    let links = c.loop-next.links in
+    let heads = c.loop-next.heads in
+    let last = c.loop-next.last in
+    let i : ℕ = c.in-Some.id in
+    let s : IsSwept a l n xs ns links heads last (Some i) = subst (λ o. IsSwept a l n xs ns links heads last o) c.in-Some.is c.loop-next.invariant in
+    let lt : c.in-Some.id < length c.loop-next.nodes = swept_within a laws l n xs ns links heads last (Some i) s i refl in
+    lt
 
 pub is_below-requires-after_bounds : goal.is_below-requires-after_bounds
 is_below-requires-after_bounds g c κs within =
@@ -70,12 +123,11 @@ is_below-requires-after_bounds g c κs within =
     let last = c.loop-next.last in
     let i : ℕ = c.in-Some.id in
     let s : IsSwept a l n xs ns links heads last (Some i) = subst (λ o. IsSwept a l n xs ns links heads last o) c.in-Some.is c.loop-next.invariant in
-    let lt : c.in-Some.id < length c.loop-next.nodes = swept_within a laws l n xs ns links heads last i s in
-    let lt_link : c.in-Some.id < length c.loop-next.links = subst (λ (m : ℕ). i < m) (sym s.linked.as_many) lt in
-    let x : Held _ = slice_index_or ns i c.index-nodes-id.result in
-    let at : slice_get ns i ≡ Some x = slice_get-get_or ns i c.index-nodes-id.result lt in
-    let all : AllOf (λ (h : Held _). IsTrue (a.is_of h.node.label c.requires.of.0)) ns = swept_of a laws l n xs ns links heads last c.requires.of.0 (Some i) s c.requires.of.2 in
-    (c.requires.of.0, c.requires.of.1, all i x at)
+    let lt : c.in-Some.id < length c.loop-next.nodes = swept_within a laws l n xs ns links heads last (Some i) s i refl in
+    let x : Held _ = slice_index_or ns i c.index-nodes-id-in-Some.result in
+    let at_x : slice_get ns i ≡ Some x = slice_get-get_or ns i c.index-nodes-id-in-Some.result lt in
+    let all : AllOf (λ (h : Held _). IsTrue (a.is_of h.node.label c.requires.of.0)) ns = swept_of a laws l n xs ns links heads last (Some i) s c.requires.of.0 c.requires.of.2 in
+    (c.requires.of.0, c.requires.of.1, all i x at_x)
 
 pub bounds-nodes-id-then-is_below : goal.bounds-nodes-id-then-is_below
 bounds-nodes-id-then-is_below g c =
@@ -90,8 +142,7 @@ bounds-nodes-id-then-is_below g c =
     let last = c.loop-next.last in
     let i : ℕ = c.in-Some.id in
     let s : IsSwept a l n xs ns links heads last (Some i) = subst (λ o. IsSwept a l n xs ns links heads last o) c.in-Some.is c.loop-next.invariant in
-    let lt : c.in-Some.id < length c.loop-next.nodes = swept_within a laws l n xs ns links heads last i s in
-    let lt_link : c.in-Some.id < length c.loop-next.links = subst (λ (m : ℕ). i < m) (sym s.linked.as_many) lt in
+    let lt : c.in-Some.id < length c.loop-next.nodes = swept_within a laws l n xs ns links heads last (Some i) s i refl in
     lt
 
 pub drop_below-requires-after_bounds : goal.drop_below-requires-after_bounds
@@ -107,11 +158,10 @@ drop_below-requires-after_bounds g c κs within =
     let last = c.loop-next.last in
     let i : ℕ = c.in-Some.id in
     let s : IsSwept a l n xs ns links heads last (Some i) = subst (λ o. IsSwept a l n xs ns links heads last o) c.in-Some.is c.loop-next.invariant in
-    let lt : c.in-Some.id < length c.loop-next.nodes = swept_within a laws l n xs ns links heads last i s in
-    let lt_link : c.in-Some.id < length c.loop-next.links = subst (λ (m : ℕ). i < m) (sym s.linked.as_many) lt in
+    let lt : c.in-Some.id < length c.loop-next.nodes = swept_within a laws l n xs ns links heads last (Some i) s i refl in
     let y : Held _ = slice_index_or ns i c.index-nodes-id-then-is_below.result in
     let at_y : slice_get ns i ≡ Some y = slice_get-get_or ns i c.index-nodes-id-then-is_below.result lt in
-    let all : AllOf (λ (h : Held _). IsTrue (a.is_of h.node.label c.requires.of.0)) ns = swept_of a laws l n xs ns links heads last c.requires.of.0 (Some i) s c.requires.of.2 in
+    let all : AllOf (λ (h : Held _). IsTrue (a.is_of h.node.label c.requires.of.0)) ns = swept_of a laws l n xs ns links heads last (Some i) s c.requires.of.0 c.requires.of.2 in
     (c.requires.of.0, c.requires.of.1, all i y at_y)
 
 pub link-requires-clause-last : goal.link-requires-clause-last
@@ -127,32 +177,8 @@ link-requires-clause-last g c =
     let last = c.loop-next.last in
     let i : ℕ = c.in-Some.id in
     let s : IsSwept a l n xs ns links heads last (Some i) = subst (λ o. IsSwept a l n xs ns links heads last o) c.in-Some.is c.loop-next.invariant in
-    let lt : c.in-Some.id < length c.loop-next.nodes = swept_within a laws l n xs ns links heads last i s in
-    let lt_link : c.in-Some.id < length c.loop-next.links = subst (λ (m : ℕ). i < m) (sym s.linked.as_many) lt in
-    last_within a laws l n xs ns links heads last (Some i) s
-
-pub loop-next-smaller : goal.loop-next-smaller
-loop-next-smaller g c =
-    let a = g.L.Label.algebra in
-    let laws = (g.met.L.Label g.world.𝓛 g.world.𝓜 g.world.𝓡 ((λ s x. x), (λ x. x), (λ x. x), λ x. x)).laws in
-    let l = c.args.label.now in
-    let n : ℕ = c.args.number in
-    let xs = c.args.nodes.now in
-    let ns = c.loop-next.nodes in
-    let links = c.loop-next.links in
-    let heads = c.loop-next.heads in
-    let last = c.loop-next.last in
-    let i : ℕ = c.in-Some.id in
-    let s : IsSwept a l n xs ns links heads last (Some i) = subst (λ o. IsSwept a l n xs ns links heads last o) c.in-Some.is c.loop-next.invariant in
-    let lt : c.in-Some.id < length c.loop-next.nodes = swept_within a laws l n xs ns links heads last i s in
-    let lt_link : c.in-Some.id < length c.loop-next.links = subst (λ (m : ℕ). i < m) (sym s.linked.as_many) lt in
-    let x : Held _ = slice_index_or ns i c.index-nodes-id.result in
-    let at : slice_get ns i ≡ Some x = slice_get-get_or ns i c.index-nodes-id.result lt in
-    let o : Option ℕ = slice_index_or links i None in
-    let link : slice_get links i ≡ Some o = slice_get-get_or links i None lt_link in
-    let less : remaining (length ns) o < remaining (length ns) (Some i) = sweep_less a laws l n xs ns links heads last i s x at o link in
-    let from : remaining (length ns) c.loop-next.next ≡ remaining (length ns) (Some i) = ap (λ o. remaining (length ns) o) c.in-Some.is in
-    omega arith
+    let lt : c.in-Some.id < length c.loop-next.nodes = swept_within a laws l n xs ns links heads last (Some i) s i refl in
+    last_within a l n xs ns links heads last (Some i) s
 
 pub loop-next-smaller-then-is_below : goal.loop-next-smaller-then-is_below
 loop-next-smaller-then-is_below g c =
@@ -167,16 +193,34 @@ loop-next-smaller-then-is_below g c =
     let last = c.loop-next.last in
     let i : ℕ = c.in-Some.id in
     let s : IsSwept a l n xs ns links heads last (Some i) = subst (λ o. IsSwept a l n xs ns links heads last o) c.in-Some.is c.loop-next.invariant in
-    let lt : c.in-Some.id < length c.loop-next.nodes = swept_within a laws l n xs ns links heads last i s in
+    let lt : c.in-Some.id < length c.loop-next.nodes = swept_within a laws l n xs ns links heads last (Some i) s i refl in
     let lt_link : c.in-Some.id < length c.loop-next.links = subst (λ (m : ℕ). i < m) (sym s.linked.as_many) lt in
-    let x : Held _ = slice_index_or ns i c.index-nodes-id.result in
-    let at : slice_get ns i ≡ Some x = slice_get-get_or ns i c.index-nodes-id.result lt in
+    let x : Held _ = slice_index_or ns i c.index-nodes-id-in-Some.result in
+    let at_x : slice_get ns i ≡ Some x = slice_get-get_or ns i c.index-nodes-id-in-Some.result lt in
     let o : Option ℕ = slice_index_or links i None in
     let link : slice_get links i ≡ Some o = slice_get-get_or links i None lt_link in
-    let less : remaining (length ns) o < remaining (length ns) (Some i) = sweep_less a laws l n xs ns links heads last i s x at o link in
-    let from : remaining (length ns) c.loop-next.next ≡ remaining (length ns) (Some i) = ap (λ o. remaining (length ns) o) c.in-Some.is in
-    let to : remaining (length (slice_set ns i c.drop_below.new.self)) o ≡ remaining (length ns) o = ap (λ m. remaining m o) (length-set ns i c.drop_below.new.self) in
-    omega arith
+    subst (λ q. to_go a xs o < to_go a xs q) (sym c.in-Some.is) (sweep_less a laws l n xs ns links heads last i s x at_x o link)
+
+pub loop-next-smaller : goal.loop-next-smaller
+loop-next-smaller g c =
+    let a = g.L.Label.algebra in
+    let laws = (g.met.L.Label g.world.𝓛 g.world.𝓜 g.world.𝓡 ((λ s x. x), (λ x. x), (λ x. x), λ x. x)).laws in
+    let l = c.args.label.now in
+    let n : ℕ = c.args.number in
+    let xs = c.args.nodes.now in
+    let ns = c.loop-next.nodes in
+    let links = c.loop-next.links in
+    let heads = c.loop-next.heads in
+    let last = c.loop-next.last in
+    let i : ℕ = c.in-Some.id in
+    let s : IsSwept a l n xs ns links heads last (Some i) = subst (λ o. IsSwept a l n xs ns links heads last o) c.in-Some.is c.loop-next.invariant in
+    let lt : c.in-Some.id < length c.loop-next.nodes = swept_within a laws l n xs ns links heads last (Some i) s i refl in
+    let lt_link : c.in-Some.id < length c.loop-next.links = subst (λ (m : ℕ). i < m) (sym s.linked.as_many) lt in
+    let x : Held _ = slice_index_or ns i c.index-nodes-id-in-Some.result in
+    let at_x : slice_get ns i ≡ Some x = slice_get-get_or ns i c.index-nodes-id-in-Some.result lt in
+    let o : Option ℕ = slice_index_or links i None in
+    let link : slice_get links i ≡ Some o = slice_get-get_or links i None lt_link in
+    subst (λ q. to_go a xs o < to_go a xs q) (sym c.in-Some.is) (sweep_less a laws l n xs ns links heads last i s x at_x o link)
 
 pub loop-next-preserved-then-is_below : goal.loop-next-preserved-then-is_below
 loop-next-preserved-then-is_below g c =
@@ -191,16 +235,16 @@ loop-next-preserved-then-is_below g c =
     let last = c.loop-next.last in
     let i : ℕ = c.in-Some.id in
     let s : IsSwept a l n xs ns links heads last (Some i) = subst (λ o. IsSwept a l n xs ns links heads last o) c.in-Some.is c.loop-next.invariant in
-    let lt : c.in-Some.id < length c.loop-next.nodes = swept_within a laws l n xs ns links heads last i s in
+    let lt : c.in-Some.id < length c.loop-next.nodes = swept_within a laws l n xs ns links heads last (Some i) s i refl in
     let lt_link : c.in-Some.id < length c.loop-next.links = subst (λ (m : ℕ). i < m) (sym s.linked.as_many) lt in
-    let x : Held _ = slice_index_or ns i c.index-nodes-id.result in
-    let at : slice_get ns i ≡ Some x = slice_get-get_or ns i c.index-nodes-id.result lt in
+    let x : Held _ = slice_index_or ns i c.index-nodes-id-in-Some.result in
+    let at_x : slice_get ns i ≡ Some x = slice_get-get_or ns i c.index-nodes-id-in-Some.result lt in
     let y : Held _ = slice_index_or ns i c.index-nodes-id-then-is_below.result in
     let at_y : slice_get ns i ≡ Some y = slice_get-get_or ns i c.index-nodes-id-then-is_below.result lt in
     let o : Option ℕ = slice_index_or links i None in
     let link : slice_get links i ≡ Some o = slice_get-get_or links i None lt_link in
     let dom : IsTrue (a.dominates l x.node.label) = sym c.is_below.ensures ∙ c.if-is_below.true in
-    let dom_y : IsTrue (a.dominates l y.node.label) = subst (λ (h : Held _). IsTrue (a.dominates l h.node.label)) (same_Some x y (sym at ∙ at_y)) dom in
+    let dom_y : IsTrue (a.dominates l y.node.label) = subst (λ (h : Held _). IsTrue (a.dominates l h.node.label)) (same_Some x y (sym at_x ∙ at_y)) dom in
     let nodes : slice_set ns i c.drop_below.new.self ≡ changed i (drop_held a l n) ns = ap (λ h. set ns i h) c.drop_below.ensures ∙ changed-set (drop_held a l n) ns i y at_y in
     let heads_are : c.link.new.heads ≡ heads_after (a.vertex l) last o heads = c.link.ensures.heads ∙ ap (λ v. heads_after v last o heads) c.vertex-vertex.ensures in
     subst (λ ys. IsSwept a l n xs ys c.link.new.links c.link.new.heads last o) (sym nodes)
@@ -221,10 +265,42 @@ loop-next-preserved g c =
     let last = c.loop-next.last in
     let i : ℕ = c.in-Some.id in
     let s : IsSwept a l n xs ns links heads last (Some i) = subst (λ o. IsSwept a l n xs ns links heads last o) c.in-Some.is c.loop-next.invariant in
-    let lt : c.in-Some.id < length c.loop-next.nodes = swept_within a laws l n xs ns links heads last i s in
+    let lt : c.in-Some.id < length c.loop-next.nodes = swept_within a laws l n xs ns links heads last (Some i) s i refl in
     let lt_link : c.in-Some.id < length c.loop-next.links = subst (λ (m : ℕ). i < m) (sym s.linked.as_many) lt in
-    let x : Held _ = slice_index_or ns i c.index-nodes-id.result in
-    let at : slice_get ns i ≡ Some x = slice_get-get_or ns i c.index-nodes-id.result lt in
+    let w : Held _ = slice_index_or ns i c.index-nodes-id.result in
+    let at_w : slice_get ns i ≡ Some w = slice_get-get_or ns i c.index-nodes-id.result lt in
+    let x : Held _ = slice_index_or ns i c.index-nodes-id-in-Some.result in
+    let at_x : slice_get ns i ≡ Some x = slice_get-get_or ns i c.index-nodes-id-in-Some.result lt in
     let o : Option ℕ = slice_index_or links i None in
     let link : slice_get links i ≡ Some o = slice_get-get_or links i None lt_link in
-    sweep_keep a laws l n xs ns links heads last i s x at o link (sym c.is_below.ensures ∙ c.if-is_below.false)
+    let le : a.offset l ≤ a.offset w.node.label = omega (arith, c.if-offset.false, c.offset.ensures, c.offset-offset.ensures) in
+    let le_x : a.offset l ≤ a.offset x.node.label = subst (λ (h : Held _). a.offset l ≤ a.offset h.node.label) (same_Some w x (sym at_w ∙ at_x)) le in
+    sweep_keep a laws l n xs ns links heads last i s x at_x o link (sym c.is_below.ensures ∙ c.if-is_below.false) le_x
+
+pub returns-clause-nodes : goal.returns-clause-nodes
+returns-clause-nodes g c =
+    let a = g.L.Label.algebra in
+    let laws = (g.met.L.Label g.world.𝓛 g.world.𝓜 g.world.𝓡 ((λ s x. x), (λ x. x), (λ x. x), λ x. x)).laws in
+    let l = c.args.label.now in
+    let n : ℕ = c.args.number in
+    let xs = c.args.nodes.now in
+    let ns = c.loop-next.nodes in
+    let links = c.loop-next.links in
+    let heads = c.loop-next.heads in
+    let last = c.loop-next.last in
+    let s : IsSwept a l n xs ns links heads last None = subst (λ o. IsSwept a l n xs ns links heads last o) c.in_default.is c.loop-next.invariant in
+    all_swept a laws l n xs ns links heads last None s (λ j y e at. absurd (none-some j e))
+
+pub returns-clause-last : goal.returns-clause-last
+returns-clause-last g c =
+    let a = g.L.Label.algebra in
+    let laws = (g.met.L.Label g.world.𝓛 g.world.𝓜 g.world.𝓡 ((λ s x. x), (λ x. x), (λ x. x), λ x. x)).laws in
+    let l = c.args.label.now in
+    let n : ℕ = c.args.number in
+    let xs = c.args.nodes.now in
+    let ns = c.loop-next.nodes in
+    let links = c.loop-next.links in
+    let heads = c.loop-next.heads in
+    let last = c.loop-next.last in
+    let s : IsSwept a l n xs ns links heads last None = subst (λ o. IsSwept a l n xs ns links heads last o) c.in_default.is c.loop-next.invariant in
+    swept_place a laws l n xs ns links heads last None s (λ j y e at. absurd (none-some j e))

@@ -1,5 +1,4 @@
-use Rattle.std.proofs.Common.{length}
-use Rattle.drt_table.proofs.Sweep.{remaining}
+use Rattle.drt_table.proofs.Sweep.{to_go}
 use Rattle.drt_table.proofs.Sweeping.{IsSwept}
 use Rattle.drt_table.proofs.kept.drop_all_below.Given as goal
 
@@ -7,4 +6,4 @@ abbrev pub invariant-loop-next : goal.invariant-loop-next
 invariant-loop-next g l = IsSwept g.L.Label.algebra l.label l.number l.fn.nodes l.nodes l.links l.heads l.last l.next
 
 abbrev pub decreases-loop-next : goal.decreases-loop-next
-decreases-loop-next g l = remaining (length l.nodes) l.next
+decreases-loop-next g l = to_go g.L.Label.algebra l.fn.nodes l.next

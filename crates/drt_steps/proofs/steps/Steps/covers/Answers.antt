@@ -20,3 +20,6 @@ returns c =
     (subst (λ (ys : List Jump). c.stays_above.result ≡ false → (s : ℕ) × IsBelowAt p c.deref.result.now q ys s) c.deref-2.ensures.value c.stays_above.ensures.below) in
     covers_is c.stays_above.result c.self.inside.bound c.other.inside.bound p q own other same c.self.invariant.kept.from c.other.invariant.kept.below yes no
     ∙ (ap (λ xs. covers xs (values c.other.inside.bound q other)) c.self.view_is ∙ ap (λ ys. covers c.args.self.now ys) c.other.view_is)
+
+pub returns-then-is_seen_below : goal.returns-then-is_seen_below
+returns-then-is_seen_below c = sym (c.is_seen_below.ensures c.if-is_seen_below.true)

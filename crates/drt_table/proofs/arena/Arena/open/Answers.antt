@@ -5,11 +5,10 @@ use Rattle.drt_table.specs.Arena.{Stock, AreArranged}
 use Rattle.drt_table.specs.Waiting.{AreWaiting, IsFresh, AreHeld}
 use Rattle.drt_table.specs.Held.{AllOf}
 use Rattle.drt_table.specs.Node.{Held, is_taken}
-use Rattle.drt_table.specs.Places.{first}
+use Rattle.drt_table.specs.Links.{IsPlace}
 use Rattle.drt_table.specs.View.{kept_at}
 use Rattle.drt_table.proofs.Arranged.{still_held, push_stays, push_held}
-use Rattle.drt_table.proofs.Linking.{written_back}
-use Rattle.drt_table.proofs.Lists.{first_none}
+use Rattle.drt_table.proofs.Linking.{written_back, place_alone}
 use Rattle.drt_table.proofs.Tickets.{still_waiting}
 use Rattle.drt_table.proofs.arena.Arena.open.Goals as goal
 
@@ -18,8 +17,7 @@ push_node-requires-clause-last g c κs within =
     let a = g.L.Label.algebra in
     let v : Stock _ = record { nodes = c.self.inside.nodes.items; vertices = length c.self.inside.heads.items; room = c.self.inside.room } in
     let alone : AllOf (λ (h : Held _). kept_at a (a.vertex c.args.twin) h.node ≡ false) v.nodes = subst (λ (x : Stock _). AllOf (λ (h : Held _). kept_at a (a.vertex c.args.twin) h.node ≡ false) x.nodes) (sym c.self.view_is) c.requires.alone in
-    subst (λ (z : Held _). None ≡ first (λ (h : Held _). kept_at a (a.vertex z.node.label) h.node) v.nodes) (sym c.fresh.ensures)
-    (first_none (λ (h : Held _). kept_at a (a.vertex c.args.twin) h.node) v.nodes (λ k y lt at. alone k y at))
+    subst (λ (z : Held _). IsPlace a v.nodes (a.vertex z.node.label) (a.offset z.node.label) None) (sym c.fresh.ensures) (place_alone a v.nodes (a.vertex c.args.twin) (a.offset c.args.twin) alone)
 
 pub admit-requires-clause-waiting : goal.admit-requires-clause-waiting
 admit-requires-clause-waiting g c κs within =

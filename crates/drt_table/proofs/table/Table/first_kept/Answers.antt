@@ -1,23 +1,7 @@
-use Rattle.std.proofs.Common.{◌<◌, length, sym, ap, ◌∙◌, subst, arith}
-use Rattle.drt_table.specs.Node.{Held}
-use Rattle.drt_table.specs.Places.{first}
-use Rattle.drt_table.specs.View.{View, IsTable, state_of, kept_at}
-use Rattle.drt_table.proofs.Lists.{first-map}
+use Rattle.std.proofs.Common.{subst}
+use Rattle.drt_table.specs.KeptOrder.{IsFirstKept}
+use Rattle.drt_table.specs.View.{View, state_of}
 use Rattle.drt_table.proofs.table.Table.first_kept.Goals as goal
 
-pub first_kept-requires-after_bounds : goal.first_kept-requires-after_bounds
-first_kept-requires-after_bounds g c κs within =
-    let a = g.L.Label.algebra in
-    let laws = (g.met.L.Label g.world.𝓛 g.world.𝓜 g.world.𝓡 ((λ s x. x), (λ x. x), (λ x. x), λ x. x)).laws in
-    let v : View _ = record { graph = c.self.inside.graph; bound = c.self.inside.bound; budget = c.self.inside.budget; nodes = c.self.inside.arena.nodes; log = c.self.inside.log.items } in
-    let is : IsTable a v = c.self.invariant.0 in
-    let h : c.args.vertex < length v.graph.vertices = subst (λ (x : View _). c.args.vertex < length x.graph.vertices) (sym c.self.view_is) c.requires in
-    omega (arith, h, c.self.invariant.1)
-
 pub returns : goal.returns
-returns g c =
-    let a = g.L.Label.algebra in
-    let laws = (g.met.L.Label g.world.𝓛 g.world.𝓜 g.world.𝓡 ((λ s x. x), (λ x. x), (λ x. x), λ x. x)).laws in
-    let v : View _ = record { graph = c.self.inside.graph; bound = c.self.inside.bound; budget = c.self.inside.budget; nodes = c.self.inside.arena.nodes; log = c.self.inside.log.items } in
-    let is : IsTable a v = c.self.invariant.0 in
-    c.first_kept.ensures ∙ (sym (first-map (kept_at a c.args.vertex) (λ (h : Held _). h.node) v.nodes) ∙ ap (λ (x : View _). first (kept_at a c.args.vertex) (state_of x).nodes) c.self.view_is)
+returns g c = subst (λ (x : View _). IsFirstKept g.L.Label.algebra (state_of x).nodes c.args.vertex c.first_kept.result) c.self.view_is c.first_kept.ensures

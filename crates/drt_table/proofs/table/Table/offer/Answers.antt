@@ -3,12 +3,13 @@ use Rattle.std.specs.Prelude.{slice_get, IsTrue}
 use Rattle.drt_model.specs.Digraph.{vertex_of}
 use Rattle.drt_table.specs.Node.{NodeOf, Held}
 use Rattle.drt_table.specs.Held.{AllOf, count_offer, placed_nodes, placed_reply}
+use Rattle.drt_table.specs.Links.{AreAlone}
 use Rattle.drt_table.specs.Machine.{extended}
 use Rattle.drt_table.specs.Places.{changed}
 use Rattle.drt_table.specs.View.{View, CanApply, IsStep, IsTable, setting_of, state_of}
 use Rattle.drt_table.specs.declared.step.TableStep.TheVariants.{Offer}
 use Rattle.drt_table.proofs.Lists.{length-changed}
-use Rattle.drt_table.proofs.Tables.{nodes_small, nodes_few, offer_vertex, offer_of, offer_label, offer_all_of, offer_placed, table_more, offer_held}
+use Rattle.drt_table.proofs.Tables.{nodes_small, nodes_few, offer_vertex, offer_of, offer_label, offer_all_of, offer_alone, offer_placed, table_more, offer_held}
 use Rattle.drt_table.proofs.table.Table.offer.Goals as goal
 
 pub count_offer-requires-after_bounds : goal.count_offer-requires-after_bounds
@@ -85,6 +86,18 @@ place-reply-requires-clause-all_of g c κs within =
     let held : (h : Held _) × (slice_get v.nodes c.args.node ≡ Some h) × (h.node.offered < 1000) = offer_held a laws v is c.args.worker c.args.node c.args.edge can c.args.twin comes in
     let counted : c.count_offer.new.self.nodes ≡ changed c.args.node count_offer v.nodes = c.count_offer.ensures.nodes_are in
     subst (λ (xs : List (Held _)). AllOf (λ (h : Held _). IsTrue (a.is_of h.node.label v.bound)) xs) (sym counted) (offer_all_of a laws v is c.args.worker c.args.node c.args.edge can c.args.twin comes)
+
+pub place-reply-requires-clause-alone : goal.place-reply-requires-clause-alone
+place-reply-requires-clause-alone g c κs within =
+    let a = g.L.Label.algebra in
+    let laws = (g.met.L.Label g.world.𝓛 g.world.𝓜 g.world.𝓡 ((λ s x. x), (λ x. x), (λ x. x), λ x. x)).laws in
+    let v : View _ = record { graph = c.self.inside.graph; bound = c.self.inside.bound; budget = c.self.inside.budget; nodes = c.self.inside.arena.nodes; log = c.self.inside.log.items } in
+    let is : IsTable a v = c.self.invariant.0 in
+    let can : CanApply a v c.args.worker (Offer c.args.node c.args.edge) = subst (λ (x : View _). CanApply a x c.args.worker (Offer c.args.node c.args.edge)) (sym c.self.view_is) c.requires.can in
+    let comes : (n : NodeOf _) × (slice_get (state_of v).nodes c.args.node ≡ Some n) × (c.args.twin ≡ extended a (setting_of v) n.label c.args.edge) = subst (λ (x : View _). (n : NodeOf _) × (slice_get (state_of x).nodes c.args.node ≡ Some n) × (c.args.twin ≡ extended a (setting_of x) n.label c.args.edge)) (sym c.self.view_is) c.requires.comes in
+    let held : (h : Held _) × (slice_get v.nodes c.args.node ≡ Some h) × (h.node.offered < 1000) = offer_held a laws v is c.args.worker c.args.node c.args.edge can c.args.twin comes in
+    let counted : c.count_offer.new.self.nodes ≡ changed c.args.node count_offer v.nodes = c.count_offer.ensures.nodes_are in
+    subst (λ (xs : List (Held _)). AreAlone a xs) (sym counted) (offer_alone a laws v is c.args.node)
 
 pub invariant_of-self : goal.invariant_of-self
 invariant_of-self g c =
