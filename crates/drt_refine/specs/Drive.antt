@@ -1,14 +1,16 @@
 -- What a driver does and where it stops.
-use Rattle.std.specs.Prelude.{◌≡◌, ℕ, IsTrue, Bool, true, false, None, Some, List, ◌++◌, length}
+use Rattle.std.specs.Prelude.{◌≡◌, ℕ, ◌+◌, ◌<◌, IsTrue, Bool, true, false, None, Some, List, ◌++◌, length}
 use Rattle.drt_tree.specs.Tree.{Plain}
 use Rattle.drt_worklist.specs.Places.{first}
 use Rattle.drt_worklist.specs.Runs.{AllAlong}
-use Rattle.drt_refine.specs.Combination.{is_taken, is_failed}
-use Rattle.drt_refine.specs.Machine.{State, after, is_finished, IsRunFrom, replay_from}
-use Rattle.drt_refine.specs.Eager.{AreEagerFrom}
+use Rattle.drt_steps.specs.Time.{IsLeastTime}
+use Rattle.drt_refine.specs.Combination.{Combination, is_taken, is_failed}
+use Rattle.drt_refine.specs.Machine.{Setting, State, after, is_finished, IsRunFrom, replay_from, NonePasses, IsHopeless}
+use Rattle.drt_refine.specs.Eager.{AreEagerFrom, IsPlace}
 use Rattle.drt_refine.specs.View.{View, setting_of, state_of}
 use Rattle.drt_refine.specs.declared.step.FrontierEntry.{FrontierEntry}
-use Rattle.drt_refine.specs.declared.step.FrontierStep.TheVariants.{Take}
+use Rattle.drt_refine.specs.declared.step.FrontierStep.{FrontierStep}
+use Rattle.drt_refine.specs.declared.step.FrontierStep.TheVariants.{Take, Pass, Split, Fail}
 use Rattle.drt_refine.specs.declared.step.FrontierReply.{FrontierReply}
 use Rattle.drt_refine.specs.declared.step.FrontierReply.TheVariants.{Taken, Busy, Finished, Passed, Halved, Failed, Spent}
 
@@ -27,21 +29,22 @@ pub record Drives (f : Plain) (w : ℕ) (old new : View) : Type 0 where
   pub eager : AreEagerFrom (setting_of f old) (state_of old) more
   pub driven : AllAlong (after (setting_of f old)) (IsDriven w) (state_of old) more
 
--- The log has as many entries as the budget, the state isn't finished, and no combination has failed.
-pub record IsSpent (f : Plain) (v : View) : Type 0 where
-  pub full : length v.log ≡ v.budget
-  pub unfinished : is_finished (setting_of f v) (state_of v) ≡ false
-  pub unfailed : first is_failed v.combinations ≡ None
+module _ (t : Setting) (s : State) where
+  -- The log has as many entries as the budget, the state isn't finished, and no combination has failed.
+  pub record IsSpent : Type 0 where
+    pub full : length s.log ≡ t.budget
+    pub unfinished : is_finished t s ≡ false
+    pub unfailed : first is_failed s.combinations ≡ None
 
--- The reply at which a driver stops, with its cause.
-abbrev pub StopsAt : Plain → View → FrontierReply → Type 0
-StopsAt f v (Taken id) = ⊥
-StopsAt f v (Busy id) = ⊥
-StopsAt f v Finished = IsTrue (is_finished (setting_of f v) (state_of v))
-StopsAt f v Passed = ⊥
-StopsAt f v (Halved left right) = ⊥
-StopsAt f v (Failed id) = first is_failed v.combinations ≡ Some id
-StopsAt f v Spent = IsSpent f v
+  -- The reply at which a driver stops, with its cause.
+  abbrev pub StopsAt : FrontierReply → Type 0
+  StopsAt (Taken id) = ⊥
+  StopsAt (Busy id) = ⊥
+  StopsAt Finished = IsTrue (is_finished t s)
+  StopsAt Passed = ⊥
+  StopsAt (Halved left right) = ⊥
+  StopsAt (Failed id) = first is_failed s.combinations ≡ Some id
+  StopsAt Spent = IsSpent
 
 -- The reply ends a driver's work.
 abbrev pub ends : FrontierReply → Bool
@@ -53,8 +56,17 @@ ends (Halved left right) = false
 ends (Failed id) = true
 ends Spent = true
 
--- A driver's turn: it went on, and by its reply it made a step or stopped.
+module _ (t : Setting) (id : ℕ) (c : Combination) where
+  -- The step settles the combination of that number: it passes with the least time that passes; where none passes it is split at
+  -- its widest place, and fails where its nodes are leaves.
+  abbrev pub Settles : FrontierStep → Type 0
+  Settles Take = ⊥
+  Settles (Pass k time) = (k ≡ id) × IsLeastTime t.wcet t.deadline t.forest.pool c.nodes time
+  Settles (Split k place) = (k ≡ id) × NonePasses t c.nodes × IsPlace t.forest c.nodes (Some place)
+  Settles (Fail k) = (k ≡ id) × IsHopeless t c.nodes
+
+-- A driver's turn: it made a step, or stopped by its reply.
 pub record Turn (f : Plain) (w : ℕ) (old new : View) (r : FrontierReply) : Type 0 where
   pub drives : Drives f w old new
-  pub stops : ends r ≡ true → StopsAt f new r
-  pub goes : ends r ≡ false → length new.log ≡ length old.log + 1
+  pub stops : ends r ≡ true → StopsAt (setting_of f new) (state_of new) r
+  pub goes : ends r ≡ false → (length new.log ≡ length old.log + 1) × (length old.log < old.budget) × (new.budget ≡ old.budget)

@@ -55,10 +55,3 @@ moved v s = record { roots = v.roots; wcet = v.wcet; deadline = v.deadline; budg
 pub record IsStep (f : Plain) (old new : View) (w : ℕ) (step : FrontierStep) (reply : FrontierReply) : Type 0 where
   pub state : new ≡ moved old (outcome f old w step).state
   pub reply_is : reply ≡ (outcome f old w step).reply
-
--- What holds of the numbers that a frontier keeps.
-pub record AreSmall (v : View) : Type 0 where
-  pub few : length v.roots ≤ 31
-  pub wcet : v.wcet ≤ 1000000
-  pub budget : v.budget ≤ 1000000
-  pub within : length v.log ≤ v.budget

@@ -70,7 +70,7 @@ impl Frontier {
         ensures state { IfOk result (λ frontier. state_of frontier ≡ opening_state (setting_of forest.now frontier)) }
         ensures frontier { IfOk result (λ frontier. IsFrontier forest.now frontier) }
     {
-        let _functions = forest.all();
+        forest.show_sound();
         let room = budget as usize + 1;
         let mut nodes = Vec::with_capacity(alloc, room * roots.len())?;
         push_all(&mut nodes, roots);

@@ -13,6 +13,7 @@ pub fn choose_place(forest: &Forest, nodes: &[u32]) -> Option<u32>
     requires few { length nodes.now ≤ 31 }
     ensures { IsPlace forest.now nodes.now result }
 {
+    forest.show_sound();
     every_forest();
     let mut widest = None;
     let mut most = 1;

@@ -1,6 +1,6 @@
 //! What a frontier shows.
 
-ghost use Rattle.std.specs.Prelude.{◌≡◌, ◌<◌, length, slice_get, IfSome, nat_le};
+ghost use Rattle.std.specs.Prelude.{◌≡◌, ◌<◌, ◌≤◌, length, slice_get, IfSome, nat_le};
 ghost use Rattle.drt_worklist.specs.Places.{first};
 ghost use Rattle.drt_refine.specs.Combination.{is_pending, is_taken, is_held_by, is_failed};
 
@@ -41,7 +41,8 @@ impl Frontier {
 
     // The first combination that is taken.
     pub(crate) fn first_taken(&self) -> Option<u32>
-        ensures { result ≡ first is_taken self.now.combinations }
+        ensures value { result ≡ first is_taken self.now.combinations }
+        ensures within { length self.now.log ≤ self.now.budget }
     {
         self.states.first_taken()
     }

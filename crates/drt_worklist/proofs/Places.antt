@@ -95,6 +95,25 @@ module _ {A : Type 0} (p : A → Bool) where
   pub places_fewer : (xs : List A) (n : ℕ) (x y : A) → slice_get xs n ≡ Some x → p x ≡ true → p y ≡ false → length (places p (set xs n y)) + 1 ≡ length (places p xs)
   places_fewer xs n x y at e f = fewer_from 0 n xs x y at e f
 
+  -- any write
+  two_by : (b c : Bool) (i : ℕ) (ps : List ℕ) → length (cond b (i ∷ ps) ps) ≤ length (cond c (i ∷ ps) ps) + 1
+  two_by true true i ps = omega arith
+  two_by true false i ps = omega arith
+  two_by false true i ps = omega arith
+  two_by false false i ps = omega arith
+
+  same_by : (b : Bool) (i : ℕ) (ps qs : List ℕ) → length ps ≤ length qs + 1 → length (cond b (i ∷ ps) ps) ≤ length (cond b (i ∷ qs) qs) + 1
+  same_by true i ps qs h = omega arith
+  same_by false i ps qs h = h
+
+  set_from : (i n : ℕ) (xs : List A) (y : A) → length (places_from i p (set xs n y)) ≤ length (places_from i p xs) + 1
+  set_from i n [] y = omega arith
+  set_from i zero (x ∷ xs) y = two_by (p y) (p x) i (places_from (suc i) p xs)
+  set_from i (suc n) (x ∷ xs) y = same_by (p x) i (places_from (suc i) p (set xs n y)) (places_from (suc i) p xs) (set_from (suc i) n xs y)
+
+  pub places_set : (xs : List A) (n : ℕ) (y : A) → length (places p (set xs n y)) ≤ length (places p xs) + 1
+  places_set xs n y = set_from 0 n xs y
+
   -- a push of one that doesn't pass
   more_from : (i : ℕ) (xs : List A) (y : A) → p y ≡ false → places_from i p (xs ++ y ∷ []) ≡ places_from i p xs
   more_from i [] y e = ap (λ b. cond b (i ∷ []) []) e
