@@ -1,12 +1,12 @@
 -- Tuples below a combination: what a split of one of its nodes leaves below each half, and that what passes above passes below.
 use Rattle.std.proofs.Common.{◌≡◌, ℕ, suc, zero, ◌+◌, ◌*◌, ◌<◌, ◌≤◌, ◌⊎◌, Bool, true, false, cond, Option, Some, None, List, [], ◌∷◌, length, refl, sym, ap, ◌∙◌, subst, inl, inr, arith, set}
-use Rattle.std.specs.Prelude.{slice_get, slice_index_or}
+use Rattle.std.specs.Prelude.{slice_get}
 use Rattle.std.proofs.lemmas.Option.{none-some, same_Some, slice_get_within}
 use Rattle.drt_steps.specs.Values.{value_at}
 use Rattle.drt_steps.specs.Time.{sum_at, Passes, AreChosen}
 use Rattle.drt_tree.specs.Tree.{Plain, IsForest, IsPair, IsUnder, Leads, children, children_of, leaves, values}
 use Rattle.drt_tree.specs.declared.node.Node.{Node}
-use Rattle.drt_refine.specs.Below.{AreBelow, IsConcrete, AreNodes, tuples}
+use Rattle.drt_refine.specs.Below.{AreBelow, AreNodes, tuples}
 
 module _ (f : Plain) where
   turn : (l r l' r' leaf : ℕ) (b : Bool) (turns : List Bool) → (l ≡ l') × (r ≡ r') → Leads f (cond b l' r') turns leaf → IsUnder f leaf l ⊎ IsUnder f leaf r

@@ -1,6 +1,6 @@
 -- What a driver's turn does, and how turns add up.
-use Rattle.std.proofs.Common.{◌≡◌, ℕ, ◌+◌, ◌<◌, ◌≤◌, Bool, true, false, cond, Option, Some, None, List, [], ◌∷◌, ◌++◌, length, refl, sym, ap, ◌∙◌, subst, arith, append_assoc, length-append}
-use Rattle.std.specs.Prelude.{slice_get, is_none, ◌&&◌, IsTrue}
+use Rattle.std.proofs.Common.{◌≡◌, ℕ, ◌<◌, ◌≤◌, Bool, true, false, cond, Option, Some, None, List, [], ◌∷◌, ◌++◌, length, refl, sym, ap, ◌∙◌, subst, arith, append_assoc, length-append}
+use Rattle.std.specs.Prelude.{slice_get, is_none, ◌&&◌}
 use Rattle.std.proofs.lemmas.List.{append-nil}
 use Rattle.std.proofs.lemmas.Option.{none-some, same_Some, slice_get_within}
 use Rattle.std.proofs.lemmas.Bool.{leb-true, leb-false}
@@ -10,16 +10,15 @@ use Rattle.drt_worklist.specs.Runs.{AllAlong, IsRunFrom as IsRunBy}
 use Rattle.drt_worklist.proofs.Runs.{replay_join, along_join, run_join}
 use Rattle.drt_worklist.proofs.Writes.{changed_set, first_new}
 use Rattle.drt_refine.specs.Combination.{Combination, with_state, is_pending, is_taken, is_failed}
-use Rattle.drt_refine.specs.Machine.{Setting, State, Outcome, is_full, unchanged, logged, taken, halved, halved_at, children_at, stepped, step_by, step_of, CanStep, IsPairAt, after, CanEnter, replay_from, opening_state, is_finished}
+use Rattle.drt_refine.specs.Machine.{Setting, State, Outcome, is_full, unchanged, taken, halved, halved_at, children_at, stepped, step_by, step_of, CanStep, IsPairAt, after, CanEnter, replay_from, opening_state, is_finished}
 use Rattle.drt_refine.specs.Eager.{IsEagerStep, IsEager}
 use Rattle.drt_refine.specs.View.{View, setting_of, state_of, moved, CanApply, outcome, IsStep, IsFrontier}
-use Rattle.drt_refine.specs.Drive.{IsDriven, Drives, IsSpent, StopsAt, ends, Turn}
-use Rattle.drt_refine.specs.declared.step.CombinationState.{CombinationState}
+use Rattle.drt_refine.specs.Drive.{IsDriven, IsTurn, Drives, StopsAt, ends, Turn}
 use Rattle.drt_refine.specs.declared.step.CombinationState.TheVariants.{Failed as HasFailed}
 use Rattle.drt_refine.specs.declared.step.FrontierStep.{FrontierStep}
 use Rattle.drt_refine.specs.declared.step.FrontierStep.TheVariants.{Take, Pass, Split, Fail}
 use Rattle.drt_refine.specs.declared.step.FrontierReply.{FrontierReply}
-use Rattle.drt_refine.specs.declared.step.FrontierReply.TheVariants.{Finished, Failed, Spent}
+use Rattle.drt_refine.specs.declared.step.FrontierReply.TheVariants.{Spent}
 use Rattle.drt_refine.specs.declared.step.FrontierEntry.{FrontierEntry}
 
 and_false : (b : Bool) → (b && false) ≡ false
@@ -70,19 +69,12 @@ module _ (t : Setting) where
     fails : (id : ℕ) (c : Combination) → slice_get s.combinations id ≡ Some c → first is_failed (changed id (with_state HasFailed) s.combinations) ≡ Some id
     fails id c at = ap (λ cs. first is_failed cs) (changed_set (with_state HasFailed) s.combinations id c at) ∙ sym (first_new is_failed s.combinations id (with_state HasFailed c) (slice_get_within s.combinations id c at) unfailed refl)
 
-  -- what a driver's step finds: it takes where none is taken, and else settles one that is taken
-  abbrev pub IsTurn : State → FrontierStep → Type 0
-  IsTurn s Take = first is_taken s.combinations ≡ None
-  IsTurn s (Pass id time) = (k : ℕ) × (first is_taken s.combinations ≡ Some k)
-  IsTurn s (Split id place) = (k : ℕ) × (first is_taken s.combinations ≡ Some k)
-  IsTurn s (Fail id) = (k : ℕ) × (first is_taken s.combinations ≡ Some k)
-
   module _ (s : State) (w : ℕ) (within : length s.log ≤ t.budget) where
     take_effect : (o : Option ℕ) → first is_failed s.combinations ≡ None → first is_pending s.combinations ≡ o → first is_taken s.combinations ≡ None → Effect s (record { worker = w; step = Take }) (taken t s w o None)
     take_effect None unfailed h none = stood refl refl (none_finished s (record { worker = w; step = Take }) within unfailed h none)
     take_effect (Some k) unfailed h none = effect_full s (record { worker = w; step = Take }) within unfailed (is_full t s) _ refl (pending_unfinished s (record { worker = w; step = Take }) within unfailed k h) (λ lt. went lt refl (λ g. never false _ refl g))
 
-    stepped_effect : (step : FrontierStep) → first is_failed s.combinations ≡ None → CanStep t s w step → IsTurn s step → Effect s (record { worker = w; step = step }) (stepped t s w step)
+    stepped_effect : (step : FrontierStep) → first is_failed s.combinations ≡ None → CanStep t s w step → IsTurn t s step → Effect s (record { worker = w; step = step }) (stepped t s w step)
     stepped_effect Take unfailed can turn = subst (λ (o : Option ℕ). Effect s (record { worker = w; step = Take }) (taken t s w (first is_pending s.combinations) o)) (sym turn) (take_effect (first is_pending s.combinations) unfailed refl turn)
     stepped_effect (Pass id time) unfailed can turn =
         let e : FrontierEntry = record { worker = w; step = Pass id time } in
@@ -94,15 +86,15 @@ module _ (t : Setting) where
         let e : FrontierEntry = record { worker = w; step = Fail id } in
         effect_full s e within unfailed (is_full t s) _ refl (taken_unfinished s e within unfailed turn.0 turn.1) (λ lt. went lt refl (λ g. fails s e within unfailed id can.0 can.1.at))
 
-    by_effect : (step : FrontierStep) (o : Option ℕ) → first is_failed s.combinations ≡ o → CanStep t s w step → IsTurn s step → Effect s (record { worker = w; step = step }) (step_by t s w step o)
+    by_effect : (step : FrontierStep) (o : Option ℕ) → first is_failed s.combinations ≡ o → CanStep t s w step → IsTurn t s step → Effect s (record { worker = w; step = step }) (step_by t s w step o)
     by_effect step None h can turn = stepped_effect step h can turn
     by_effect step (Some id) h can turn = stood refl refl h
 
-    pub step_effect : (step : FrontierStep) → CanStep t s w step → IsTurn s step → Effect s (record { worker = w; step = step }) (step_of t s w step)
+    pub step_effect : (step : FrontierStep) → CanStep t s w step → IsTurn t s step → Effect s (record { worker = w; step = step }) (step_of t s w step)
     step_effect step can turn = by_effect step (first is_failed s.combinations) refl can turn
 
 module _ (f : Plain) (d : ℕ) (old : View) (w : ℕ) (step : FrontierStep) where
-  entry : FrontierEntry
+  abbrev pub entry : FrontierEntry
   entry = record { worker = w; step = step }
 
   turn_by : CanApply f old w step → IsEagerStep (setting_of f old) (state_of old) entry → IsDriven d (state_of old) entry → (o : Outcome) → outcome f old w step ≡ o → Effect (setting_of f old) (state_of old) entry o → Turn f d old (moved old o.state) o.reply

@@ -1,7 +1,7 @@
 -- What a split leaves in the flat lists.
-use Rattle.std.proofs.Common.{◌≡◌, ℕ, suc, zero, ◌+◌, ◌-◌, ◌*◌, ◌<◌, ◌≤◌, Bool, true, false, Option, Some, None, List, [], ◌∷◌, ◌++◌, length, take, drop, length-append, refl, sym, ap, ◌∙◌, subst, arith, set}
+use Rattle.std.proofs.Common.{◌≡◌, ℕ, ◌+◌, ◌-◌, ◌*◌, ◌<◌, ◌≤◌, true, Some, List, [], ◌∷◌, ◌++◌, length, take, drop, length-append, refl, sym, ap, ◌∙◌, arith, set}
 use Rattle.std.specs.Prelude.{slice_get}
-use Rattle.std.proofs.lemmas.Option.{none-some, same_Some, slice_get_within}
+use Rattle.std.proofs.lemmas.Option.{slice_get_within}
 use Rattle.drt_worklist.specs.Places.{changed, places}
 use Rattle.drt_worklist.proofs.Places.{Placed, placed}
 use Rattle.drt_worklist.proofs.Writes.{length_set}
@@ -9,8 +9,8 @@ use Rattle.drt_refine.specs.View.{combinations_of}
 use Rattle.drt_refine.specs.Combination.{Combination, with_state, is_taken, is_taken_state, fresh}
 use Rattle.drt_refine.specs.Machine.{halves}
 use Rattle.drt_refine.specs.declared.step.CombinationState.{CombinationState}
-use Rattle.drt_refine.specs.declared.step.CombinationState.TheVariants.{Pending, Taken as TakenBy, Passed as PassedAt, Split as SplitAt, Failed as HasFailed}
-use Rattle.drt_refine.proofs.Flat.{CombinationAt, combination_at, combinations_push, combinations_set, length_combinations, take_front, drop_front, length_drop}
+use Rattle.drt_refine.specs.declared.step.CombinationState.TheVariants.{Pending, Split as SplitAt}
+use Rattle.drt_refine.proofs.Flat.{CombinationAt, combination_at, combinations_push, combinations_set, take_front, drop_front, length_drop}
 
 pub record Room (w : ℕ) (nodes : List ℕ) (states : List CombinationState) (budget id : ℕ) (c : Combination) : Type 0 where
   pub lt : id < length states
@@ -68,6 +68,7 @@ module _ (w : ℕ) (nodes : List ℕ) (states : List CombinationState) (id place
       two : {A : Type 0} (xs : List A) (u v : A) → (xs ++ u ∷ []) ++ v ∷ [] ≡ xs ++ u ∷ v ∷ []
       two [] u v = refl
       two (z ∷ xs) u v = ap (λ l. z ∷ l) (two xs u v)
+
       length_two : (xs ys : List ℕ) → length (xs ++ ys) ≡ length xs + length ys
       length_two [] ys = let g : length ys ≡ 0 + length ys = omega arith in g
       length_two (z ∷ xs) ys = let g : length (xs ++ ys) ≡ length xs + length ys = length_two xs ys in omega arith

@@ -1,5 +1,5 @@
 -- A split on the flat lists: what its conditions give, and the two copies that it makes.
-use Rattle.std.proofs.Common.{◌≡◌, ℕ, suc, zero, ◌+◌, ◌*◌, ◌<◌, ◌≤◌, Bool, true, Option, Some, List, [], ◌∷◌, ◌++◌, length, take, drop, refl, sym, ap, ◌∙◌, subst, arith, set, length-append, append_assoc}
+use Rattle.std.proofs.Common.{◌≡◌, ℕ, ◌+◌, ◌*◌, ◌<◌, ◌≤◌, true, Some, List, [], ◌∷◌, ◌++◌, length, take, drop, refl, sym, ap, ◌∙◌, subst, arith, set, length-append, append_assoc}
 use Rattle.std.specs.Prelude.{slice_get}
 use Rattle.drt_worklist.specs.Places.{places}
 use Rattle.drt_worklist.proofs.Places.{places_fewer, places_more}
@@ -10,8 +10,8 @@ use Rattle.drt_refine.specs.View.{View, combinations_of}
 use Rattle.drt_refine.specs.declared.step.CombinationState.{CombinationState}
 use Rattle.drt_refine.specs.declared.step.CombinationState.TheVariants.{Pending, Split}
 use Rattle.drt_refine.specs.declared.step.FrontierEntry.{FrontierEntry}
-use Rattle.drt_refine.proofs.Flat.{CombinationAt, combination_at, length_combinations}
-use Rattle.drt_refine.proofs.Halves.{Room, room_of, rows, same_part, halves_made}
+use Rattle.drt_refine.proofs.Flat.{combination_at, length_combinations}
+use Rattle.drt_refine.proofs.Halves.{Room, room_of, same_part, halves_made}
 
 -- What the conditions give.
 pub record Halving (w width budget : ℕ) (nodes : List ℕ) (states : List CombinationState) (id : ℕ) (x : Combination) : Type 0 where

@@ -1,5 +1,5 @@
 -- What holds after any run, whoever made its steps: where it is finished, and where a combination has failed.
-use Rattle.std.proofs.Common.{◌≡◌, ℕ, suc, zero, ◌≤◌, Bool, true, false, Option, Some, None, List, [], ◌∷◌, length, refl, sym, ap, ◌∙◌, subst}
+use Rattle.std.proofs.Common.{◌≡◌, ℕ, suc, zero, ◌≤◌, Bool, true, false, Option, Some, None, List, [], ◌∷◌, refl, subst}
 use Rattle.std.specs.Prelude.{slice_get, is_none, ◌&&◌}
 use Rattle.std.proofs.lemmas.Option.{none-some, same_Some}
 use Rattle.drt_steps.specs.Values.{value_at}
@@ -93,8 +93,16 @@ module _ (t : Setting) (s : State) (facts : Facts t s.combinations) where
       (none_found is_taken s.combinations none.taken o.id o.combination o.at)
       (none_found is_failed s.combinations none.failed o.id o.combination o.at) o.stands in
       let p : PassesFor t o.combination.nodes u.time = subst (λ (x : CombinationState). IsTrueOf t o.combination.nodes x) u.is (facts.states o.id o.combination o.at) in
-      record { id = o.id; combination = o.combination; time = u.time; at = o.at; passed = u.is; below = o.below; whole = p;
-        tuple_passes = passes_below t.forest above t.wcet t.deadline tuple o.combination.nodes u.time o.below p }
+      record {
+        id = o.id;
+        combination = o.combination;
+        time = u.time;
+        at = o.at;
+        passed = u.is;
+        below = o.below;
+        whole = p;
+        tuple_passes = passes_below t.forest above t.wcet t.deadline tuple o.combination.nodes u.time o.below p;
+      }
 
   -- where one has failed, it is concrete and no time passes
   pub failed_hopeless : (id : ℕ) → first is_failed s.combinations ≡ Some id → (c : Combination) × (slice_get s.combinations id ≡ Some c) × IsHopeless t c.nodes

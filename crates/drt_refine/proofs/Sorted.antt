@@ -1,10 +1,10 @@
 -- The states as the code keeps them: which is the first pending one, and what taking, settling and pushing keep.
-use Rattle.std.proofs.Common.{◌≡◌, ℕ, suc, zero, ◌+◌, ◌<◌, ◌≤◌, ◌⊎◌, Bool, true, false, Option, Some, None, List, [], ◌∷◌, ◌++◌, length, refl, sym, ap, ◌∙◌, subst, arith, set, inl, inr, length-append}
-use Rattle.std.specs.Prelude.{slice_get, not, ◌==◌, vec_len}
+use Rattle.std.proofs.Common.{◌≡◌, ℕ, suc, zero, ◌+◌, ◌<◌, ◌≤◌, ◌⊎◌, Bool, true, false, Option, Some, None, List, [], ◌∷◌, ◌++◌, length, refl, sym, ap, ◌∙◌, arith, set, inl, inr, length-append}
+use Rattle.std.specs.Prelude.{slice_get, not, ◌==◌}
 use Rattle.std.specs.List.{filter}
 use Rattle.std.proofs.lemmas.Option.{none-some, same_Some, slice_get_within}
 use Rattle.drt_worklist.specs.Places.{first, places}
-use Rattle.drt_worklist.proofs.Lists.{Found, found, first_is, first_none, get_within, Joined, earlier, later, before_join}
+use Rattle.drt_worklist.proofs.Lists.{Found, found, first_is, first_none, get_within, earlier, later, before_join}
 use Rattle.drt_worklist.proofs.Places.{places_taken, places_dropped, places_more, places_few}
 use Rattle.drt_worklist.proofs.Writes.{set_at, length_set, first_same, first_new, first_more}
 use Rattle.drt_refine.specs.Combination.{is_pending_state, is_taken_state, is_held_state, is_failed_state}
@@ -97,11 +97,13 @@ module _ (items : List CombinationState) (next : ℕ) (taken : List ℕ) (failed
         record {
           within = let l : length (set items id (Taken w)) ≡ length items = length_set items id (Taken w) in omega arith;
           before = λ k s less at. elim (set_at items id (Taken w) k s at) as (λ _. is_pending_state s ≡ false) [
-            inl p ↦ ap is_pending_state p.1
-            | inr q ↦ (let ne : k ≡ id → ⊥ = q.0 in sorted.before k s (elim (sides k next) as (λ _. k < next) [ inl l ↦ l | inr m ↦ absurd (ne (omega arith)) ]) q.1) ];
+            | inl p ↦ ap is_pending_state p.1
+            | inr q ↦ (let ne : k ≡ id → ⊥ = q.0 in sorted.before k s (elim (sides k next) as (λ _. k < next) [ inl l ↦ l | inr m ↦ absurd (ne (omega arith)) ]) q.1)
+          ];
           after = λ k s more at. elim (set_at items id (Taken w) k s at) as (λ _. is_pending_state s ≡ true) [
-            inl p ↦ (let g : k ≡ id = p.0 in absurd (omega arith))
-            | inr q ↦ sorted.after k s (omega arith) q.1 ];
+            | inl p ↦ (let g : k ≡ id = p.0 in absurd (omega arith))
+            | inr q ↦ sorted.after k s (omega arith) q.1
+          ];
           taken_are = sym places_after;
           failed_is = sorted.failed_is ∙ sym (first_same is_failed_state items id f.item (Taken w) f.at (pending_unfailed f.item f.passes) refl);
         }
@@ -117,11 +119,13 @@ module _ (items : List CombinationState) (next : ℕ) (taken : List ℕ) (failed
         record {
           within = let l : length (set items id state) ≡ length items = length_set items id state in let g : next ≤ length items = sorted.within in omega arith;
           before = λ k x less at. elim (set_at items id state k x at) as (λ _. is_pending_state x ≡ false) [
-            inl p ↦ ap is_pending_state p.1 ∙ unpending
-            | inr q ↦ sorted.before k x less q.1 ];
+            | inl p ↦ ap is_pending_state p.1 ∙ unpending
+            | inr q ↦ sorted.before k x less q.1
+          ];
           after = λ k x more at. elim (set_at items id state k x at) as (λ _. is_pending_state x ≡ true) [
-            inl p ↦ (let g : k ≡ id = p.0 in absurd (omega arith))
-            | inr q ↦ sorted.after k x more q.1 ];
+            | inl p ↦ (let g : k ≡ id = p.0 in absurd (omega arith))
+            | inr q ↦ sorted.after k x more q.1
+          ];
           taken_are = ap (λ l. filter (λ k. not (k == id)) l) sorted.taken_are ∙ sym (places_dropped is_taken_state items id state untaken);
           failed_is = failed_now;
         }
@@ -139,11 +143,13 @@ module _ (items : List CombinationState) (next : ℕ) (taken : List ℕ) (failed
       record {
         within = omega arith;
         before = λ k s less at. elim (before_join items (Pending ∷ []) k s at) as (λ _. is_pending_state s ≡ false) [
-          earlier old ↦ sorted.before k s less old
-          | later i e new ↦ absurd (omega arith) ];
+          | earlier old ↦ sorted.before k s less old
+          | later i e new ↦ absurd (omega arith)
+        ];
         after = λ k s more at. elim (before_join items (Pending ∷ []) k s at) as (λ _. is_pending_state s ≡ true) [
-          earlier old ↦ sorted.after k s more old
-          | later i e new ↦ last i s new ];
+          | earlier old ↦ sorted.after k s more old
+          | later i e new ↦ last i s new
+        ];
         taken_are = sorted.taken_are ∙ sym (places_more is_taken_state items Pending refl);
         failed_is = sorted.failed_is ∙ sym (first_more is_failed_state items Pending refl);
       }

@@ -1,13 +1,12 @@
 -- The step Split: what its conditions give, and what it does.
-use Rattle.std.proofs.Common.{◌≡◌, ℕ, ◌+◌, ◌*◌, ◌<◌, ◌≤◌, Bool, true, false, cond, Option, Some, None, List, [], ◌∷◌, ◌++◌, length, take, drop, refl, sym, ap, ◌∙◌, subst, arith, set}
+use Rattle.std.proofs.Common.{◌≡◌, ℕ, ◌+◌, ◌<◌, true, false, cond, Some, None, [], ◌∷◌, ◌++◌, length, sym, ap, ◌∙◌, set}
 use Rattle.std.specs.Prelude.{slice_get, nat_le}
-use Rattle.std.proofs.lemmas.Option.{same_Some, slice_get_within}
 use Rattle.drt_worklist.specs.Places.{first}
 use Rattle.drt_tree.specs.Tree.{Plain, children}
 use Rattle.drt_refine.specs.Facts.{Facts}
-use Rattle.drt_refine.specs.View.{View, setting_of, state_of, outcome, moved, IsStep, IsFrontier, CanApply}
+use Rattle.drt_refine.specs.View.{View, setting_of, state_of, moved, IsStep, IsFrontier, CanApply}
 use Rattle.drt_refine.specs.Combination.{Combination, is_failed, is_taken, is_taken_state}
-use Rattle.drt_refine.specs.Machine.{State, Outcome, halves, stepped, step_by, unchanged, logged, halved, halved_at, children_at, IsPairAt, Holds}
+use Rattle.drt_refine.specs.Machine.{halves, step_by, unchanged, halved, halved_at, children_at}
 use Rattle.drt_refine.specs.declared.step.CombinationState.{CombinationState}
 use Rattle.drt_refine.specs.declared.step.FrontierStep.TheVariants.{Split}
 use Rattle.drt_refine.specs.declared.step.FrontierReply.{FrontierReply}
@@ -33,10 +32,15 @@ pub splitting : (p : Plain) (v : View) (w id place : ℕ) → IsFrontier p v →
 splitting p v w id place front can =
     let facts : Facts (setting_of p v) v.combinations = frontier_facts p v front in
     record {
-      combination = can.0; node = can.2.node; left = can.2.left; right = can.2.right; at = can.1.at;
+      combination = can.0;
+      node = can.2.node;
+      left = can.2.left;
+      right = can.2.right;
+      at = can.1.at;
       taken = ap (λ (x : CombinationState). is_taken_state x) can.1.held;
       wide = (facts.nodes id can.0 can.1.at).1;
-      node_at = can.2.at; pair = can.2.children;
+      node_at = can.2.at;
+      pair = can.2.children;
       within = child_within p can.2.node can.2.left can.2.right can.2.children;
     }
 

@@ -1,20 +1,20 @@
 -- Each step keeps the facts, whoever makes it.
-use Rattle.std.proofs.Common.{◌≡◌, ℕ, suc, zero, ◌+◌, ◌-◌, ◌*◌, ◌<◌, ◌≤◌, ◌⊎◌, Bool, true, false, cond, Option, Some, None, List, [], ◌∷◌, ◌++◌, length, refl, sym, ap, ◌∙◌, subst, inl, inr, arith, set}
-use Rattle.std.specs.Prelude.{slice_get, slice_set, nat_le}
+use Rattle.std.proofs.Common.{◌≡◌, ℕ, suc, zero, ◌+◌, ◌⊎◌, Bool, true, false, cond, Option, Some, None, List, [], ◌∷◌, length, refl, sym, ap, ◌∙◌, subst, inl, inr, set}
+use Rattle.std.specs.Prelude.{slice_get}
 use Rattle.std.proofs.lemmas.Option.{none-some, same_Some}
-use Rattle.drt_worklist.specs.Places.{first, changed, total}
+use Rattle.drt_worklist.specs.Places.{first, changed}
 use Rattle.drt_steps.specs.Time.{AreChosen}
-use Rattle.drt_tree.specs.Tree.{Plain, IsForest, children}
+use Rattle.drt_tree.specs.Tree.{IsForest, children}
 use Rattle.drt_refine.specs.Below.{AreBelow}
 use Rattle.drt_refine.specs.Combination.{Combination, fresh, with_state, is_pending, is_taken, is_failed, is_split_state}
-use Rattle.drt_refine.specs.Machine.{Setting, State, Outcome, is_full, halves, taken, halved, halved_at, children_at, stepped, step_by, step_of, CanStep, Holds, IsPairAt, unchanged, logged}
+use Rattle.drt_refine.specs.Machine.{Setting, State, Outcome, is_full, halves, taken, halved, halved_at, children_at, stepped, step_by, step_of, CanStep, IsPairAt}
 use Rattle.drt_refine.specs.Facts.{IsTrueOf, IsStanding, Facts, AreInPlace}
 use Rattle.drt_refine.specs.declared.step.CombinationState.{CombinationState}
-use Rattle.drt_refine.specs.declared.step.CombinationState.TheVariants.{Pending, Taken as TakenBy, Passed as PassedAt, Split as SplitAt, Failed as HasFailed}
+use Rattle.drt_refine.specs.declared.step.CombinationState.TheVariants.{Taken as TakenBy, Passed as PassedAt, Split as SplitAt, Failed as HasFailed}
 use Rattle.drt_refine.specs.declared.step.FrontierStep.{FrontierStep}
 use Rattle.drt_refine.specs.declared.step.FrontierStep.TheVariants.{Take, Pass, Split, Fail}
 use Rattle.drt_refine.specs.declared.step.FrontierEntry.{FrontierEntry}
-use Rattle.drt_worklist.proofs.Lists.{Before, before_change, After, after_change, Joined, earlier, later, before_join, after_join, after_end, length-changed, Found, found}
+use Rattle.drt_worklist.proofs.Lists.{Before, before_change, After, after_change, earlier, later, before_join, after_join, after_end, Found, found}
 use Rattle.drt_refine.proofs.Below.{below_half, chosen_halves, length_set}
 
 module _ (t : Setting) (forest : IsForest t.forest) where
@@ -25,11 +25,12 @@ module _ (t : Setting) (forest : IsForest t.forest) where
         let b : Before k (with_state s) combinations id x = before_change k (with_state s) combinations id x h in
         let n : AreInPlace t b.old.nodes = facts.nodes id b.old b.at in
         elim b.is [
-          inl p ↦
-          (let same : b.old ≡ c = same_Some b.old c (sym b.at ∙ (ap (λ i. slice_get combinations i) p.0 ∙ at)) in
-          subst (λ (y : Combination). IsTrueOf t y.nodes y.state × (AreInPlace t y.nodes)) (sym p.1)
-          (subst (λ (y : Combination). IsTrueOf t y.nodes s) (sym same) is, n))
-          | inr e ↦ subst (λ (y : Combination). IsTrueOf t y.nodes y.state × (AreInPlace t y.nodes)) (sym e) (facts.states id b.old b.at, n) ]
+          | inl p ↦
+              (let same : b.old ≡ c = same_Some b.old c (sym b.at ∙ (ap (λ i. slice_get combinations i) p.0 ∙ at)) in
+              subst (λ (y : Combination). IsTrueOf t y.nodes y.state × (AreInPlace t y.nodes)) (sym p.1)
+              (subst (λ (y : Combination). IsTrueOf t y.nodes s) (sym same) is, n))
+          | inr e ↦ subst (λ (y : Combination). IsTrueOf t y.nodes y.state × (AreInPlace t y.nodes)) (sym e) (facts.states id b.old b.at, n)
+        ]
 
   -- the combination at k gets a state that isn't Split
   module _ (combinations : List Combination) (k : ℕ) (c : Combination) (s : CombinationState) (at : slice_get combinations k ≡ Some c) (stands : is_split_state s ≡ false) (is : IsTrueOf t c.nodes s) (facts : Facts t combinations) where
@@ -38,8 +39,9 @@ module _ (t : Setting) (forest : IsForest t.forest) where
         let a : After k (with_state s) combinations o.id o.combination = after_change k (with_state s) combinations o.id o.combination o.at in
         let keeps : (is_split_state a.new.state ≡ false) × (AreBelow t.forest tuple a.new.nodes) =
         elim a.is [
-          inl p ↦ subst (λ (x : Combination). (is_split_state x.state ≡ false) × (AreBelow t.forest tuple x.nodes)) (sym p.1) (stands, o.below)
-          | inr e ↦ subst (λ (x : Combination). (is_split_state x.state ≡ false) × (AreBelow t.forest tuple x.nodes)) (sym e) (o.stands, o.below) ] in
+          | inl p ↦ subst (λ (x : Combination). (is_split_state x.state ≡ false) × (AreBelow t.forest tuple x.nodes)) (sym p.1) (stands, o.below)
+          | inr e ↦ subst (λ (x : Combination). (is_split_state x.state ≡ false) × (AreBelow t.forest tuple x.nodes)) (sym e) (o.stands, o.below)
+        ] in
         record { id = o.id; combination = a.new; at = a.at; stands = keeps.0; below = keeps.1 }
 
     pub state_keeps : Facts t (changed k (with_state s) combinations)
@@ -53,26 +55,36 @@ module _ (t : Setting) (forest : IsForest t.forest) where
   module _ (combinations : List Combination) (k : ℕ) (c : Combination) (place n l r : ℕ) (at : slice_get combinations k ≡ Some c) (node_at : slice_get c.nodes place ≡ Some n) (pair_is : children t.forest n ≡ Some (l, r)) (facts : Facts t combinations) where
     halved_standing : (tuple : List ℕ) → AreBelow t.forest tuple (set c.nodes place l) ⊎ AreBelow t.forest tuple (set c.nodes place r) → IsStanding t (halves combinations k place (set c.nodes place l) (set c.nodes place r)) tuple
     halved_standing tuple (inl u) = record {
-      id = length (changed k (with_state (SplitAt place (length combinations) (length combinations + 1))) combinations) + 0; combination = fresh (set c.nodes place l);
-      at = after_end (changed k (with_state (SplitAt place (length combinations) (length combinations + 1))) combinations) (fresh (set c.nodes place l) ∷ fresh (set c.nodes place r) ∷ []) 0 (fresh (set c.nodes place l)) refl; stands = refl; below = u }
+      id = length (changed k (with_state (SplitAt place (length combinations) (length combinations + 1))) combinations) + 0;
+      combination = fresh (set c.nodes place l);
+      at = after_end (changed k (with_state (SplitAt place (length combinations) (length combinations + 1))) combinations) (fresh (set c.nodes place l) ∷ fresh (set c.nodes place r) ∷ []) 0 (fresh (set c.nodes place l)) refl;
+      stands = refl;
+      below = u;
+    }
     halved_standing tuple (inr u) = record {
-      id = length (changed k (with_state (SplitAt place (length combinations) (length combinations + 1))) combinations) + 1; combination = fresh (set c.nodes place r);
-      at = after_end (changed k (with_state (SplitAt place (length combinations) (length combinations + 1))) combinations) (fresh (set c.nodes place l) ∷ fresh (set c.nodes place r) ∷ []) 1 (fresh (set c.nodes place r)) refl; stands = refl; below = u }
+      id = length (changed k (with_state (SplitAt place (length combinations) (length combinations + 1))) combinations) + 1;
+      combination = fresh (set c.nodes place r);
+      at = after_end (changed k (with_state (SplitAt place (length combinations) (length combinations + 1))) combinations) (fresh (set c.nodes place l) ∷ fresh (set c.nodes place r) ∷ []) 1 (fresh (set c.nodes place r)) refl;
+      stands = refl;
+      below = u;
+    }
 
     split_still : (tuple : List ℕ) → IsStanding t combinations tuple → IsStanding t (halves combinations k place (set c.nodes place l) (set c.nodes place r)) tuple
     split_still tuple o =
         let s = SplitAt place (length combinations) (length combinations + 1) in
         let a : After k (with_state s) combinations o.id o.combination = after_change k (with_state s) combinations o.id o.combination o.at in
         elim a.is [
-          inl p ↦
-          (let same : o.combination ≡ c = same_Some o.combination c (sym o.at ∙ (ap (λ i. slice_get combinations i) p.0 ∙ at)) in
-          halved_standing tuple (below_half t.forest tuple c.nodes place n l r node_at pair_is (subst (λ (x : Combination). AreBelow t.forest tuple x.nodes) same o.below)))
+          | inl p ↦
+              (let same : o.combination ≡ c = same_Some o.combination c (sym o.at ∙ (ap (λ i. slice_get combinations i) p.0 ∙ at)) in
+              halved_standing tuple (below_half t.forest tuple c.nodes place n l r node_at pair_is (subst (λ (x : Combination). AreBelow t.forest tuple x.nodes) same o.below)))
           | inr e ↦ record {
-            id = o.id; combination = a.new;
+            id = o.id;
+            combination = a.new;
             at = after_join (changed k (with_state s) combinations) (fresh (set c.nodes place l) ∷ fresh (set c.nodes place r) ∷ []) o.id a.new a.at;
             stands = subst (λ (x : Combination). is_split_state x.state ≡ false) (sym e) o.stands;
             below = subst (λ (x : Combination). AreBelow t.forest tuple x.nodes) (sym e) o.below;
-          } ]
+          }
+        ]
 
     nodes_of : AreInPlace t c.nodes
     nodes_of = facts.nodes k c at
@@ -93,8 +105,9 @@ module _ (t : Setting) (forest : IsForest t.forest) where
     split_told id x h =
         let s = SplitAt place (length combinations) (length combinations + 1) in
         elim (before_join (changed k (with_state s) combinations) (fresh (set c.nodes place l) ∷ fresh (set c.nodes place r) ∷ []) id x h) [
-          earlier g ↦ told combinations k c s at tt facts id x g
-          | later i e g ↦ told_new i x g ]
+          | earlier g ↦ told combinations k c s at tt facts id x g
+          | later i e g ↦ told_new i x g
+        ]
 
     pub split_keeps : Facts t (halves combinations k place (set c.nodes place l) (set c.nodes place r))
     split_keeps = record {

@@ -1,10 +1,10 @@
 -- The widest place of a combination, from what a search saw.
-use Rattle.std.proofs.Common.{◌≡◌, ℕ, suc, zero, ◌+◌, ◌<◌, ◌≤◌, ◌⊎◌, Option, Some, None, List, [], ◌∷◌, length, refl, sym, ap, ◌∙◌, subst, arith, inl, inr}
+use Rattle.std.proofs.Common.{◌≡◌, ℕ, suc, ◌+◌, ◌<◌, ◌≤◌, ◌⊎◌, Option, Some, None, List, [], ◌∷◌, length, refl, sym, ap, ◌∙◌, arith, inl, inr}
 use Rattle.std.specs.Prelude.{slice_get}
-use Rattle.std.proofs.lemmas.Option.{none-some, same_Some, slice_get_within}
+use Rattle.std.proofs.lemmas.Option.{same_Some, slice_get_within}
 use Rattle.drt_tree.specs.Tree.{Plain, IsForest, children, leaves}
 use Rattle.drt_refine.specs.Below.{IsConcrete}
-use Rattle.drt_refine.specs.Eager.{IsWidest, IsPlace}
+use Rattle.drt_refine.specs.Eager.{IsPlace}
 
 module _ (f : Plain) (nodes : List ℕ) where
   -- None of the first i nodes has more leaves than the number.
@@ -23,8 +23,9 @@ module _ (f : Plain) (nodes : List ℕ) where
   pub wider : (i n most : ℕ) → slice_get nodes i ≡ Some n → AreAtMost i most → most < leaves f n → 1 ≤ most → AreAtMost (i + 1) (leaves f n) × IsBest (i + 1) (leaves f n) (Some i)
   wider i n most at seen more some = (
     (λ q m lt here. elim (halves q i lt) as (λ _. leaves f m ≤ leaves f n) [
-      inl less ↦ (let a : leaves f m ≤ most = seen q m less here in omega arith)
-      | inr same ↦ (let e : leaves f n ≡ leaves f m = ap (λ k. leaves f k) (same_Some n m (sym at ∙ (ap (λ j. slice_get nodes j) (sym same) ∙ here))) in omega arith) ]),
+      | inl less ↦ (let a : leaves f m ≤ most = seen q m less here in omega arith)
+      | inr same ↦ (let e : leaves f n ≡ leaves f m = ap (λ k. leaves f k) (same_Some n m (sym at ∙ (ap (λ j. slice_get nodes j) (sym same) ∙ here))) in omega arith)
+    ]),
     (n, at, refl, omega arith, omega arith, (λ q m lt here. let a : leaves f m ≤ most = seen q m lt here in omega arith)),
   )
 
@@ -32,8 +33,9 @@ module _ (f : Plain) (nodes : List ℕ) where
   pub as_wide : (i n most : ℕ) (o : Option ℕ) → slice_get nodes i ≡ Some n → AreAtMost i most → leaves f n ≤ most → IsBest i most o → AreAtMost (i + 1) most × IsBest (i + 1) most o
   as_wide i n most o at seen le best = (
     (λ q m lt here. elim (halves q i lt) as (λ _. leaves f m ≤ most) [
-      inl less ↦ seen q m less here
-      | inr same ↦ (let e : leaves f n ≡ leaves f m = ap (λ k. leaves f k) (same_Some n m (sym at ∙ (ap (λ j. slice_get nodes j) (sym same) ∙ here))) in omega arith) ]),
+      | inl less ↦ seen q m less here
+      | inr same ↦ (let e : leaves f n ≡ leaves f m = ap (λ k. leaves f k) (same_Some n m (sym at ∙ (ap (λ j. slice_get nodes j) (sym same) ∙ here))) in omega arith)
+    ]),
     later o best,
   )
     where
@@ -60,8 +62,14 @@ module _ (f : Plain) (forest : IsForest f) (pairs : (n l r : ℕ) → children f
   place_of nodes most (Some p) seen best =
       let e : leaves f best.0 ≡ most = best.2 in
       let two : 2 ≤ most = best.3 in
-      (record {
-        node = best.0; at = best.1;
-        most = λ q m at. let a : leaves f m ≤ most = seen q m (slice_get_within nodes q m at) at in omega arith;
-        least = λ q m lt at. let a : leaves f m < most = best.5 q m lt at in omega arith },
-        pair_by best.0 (children f best.0) refl (omega arith))
+      let pair : (l : ℕ) × (r : ℕ) × (children f best.0 ≡ Some (l, r)) = pair_by best.0 (children f best.0) refl (omega arith) in (
+        record {
+          node = best.0;
+          at = best.1;
+          most = λ q m at. let a : leaves f m ≤ most = seen q m (slice_get_within nodes q m at) at in omega arith;
+          least = λ q m lt at. let a : leaves f m < most = best.5 q m lt at in omega arith;
+        },
+        pair.0,
+        pair.1,
+        pair.2,
+      )

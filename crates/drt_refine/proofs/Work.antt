@@ -1,14 +1,14 @@
 -- How much work a run can be: the entries that there are and those that can still come stay fewer than four for each tuple.
-use Rattle.std.proofs.Common.{◌≡◌, ℕ, suc, zero, ◌+◌, ◌-◌, ◌*◌, ◌<◌, ◌≤◌, Bool, true, false, cond, Option, Some, None, List, [], ◌∷◌, ◌++◌, length, refl, sym, ap, ◌∙◌, subst, arith, set}
+use Rattle.std.proofs.Common.{◌≡◌, ℕ, ◌+◌, ◌-◌, ◌*◌, ◌≤◌, Bool, true, false, cond, Option, Some, None, List, [], ◌∷◌, ◌++◌, length, refl, sym, ap, ◌∙◌, subst, arith, set}
 use Rattle.std.specs.Prelude.{slice_get}
 use Rattle.std.proofs.lemmas.Option.{same_Some}
-use Rattle.drt_tree.specs.Tree.{IsForest, children, leaves}
+use Rattle.drt_tree.specs.Tree.{IsForest, leaves}
 use Rattle.drt_worklist.specs.Places.{first, changed, total}
 use Rattle.drt_worklist.proofs.Lists.{Found, found, total_changed, total_join, length_join}
 use Rattle.drt_worklist.proofs.Runs.{run_keeps, run_log}
 use Rattle.drt_refine.specs.Below.{tuples}
 use Rattle.drt_refine.specs.Combination.{Combination, fresh, with_state, is_pending, is_pending_state, is_taken, is_failed}
-use Rattle.drt_refine.specs.Machine.{Setting, State, Outcome, is_full, taken, halved, halved_at, children_at, stepped, step_by, step_of, CanStep, IsPairAt, unchanged, logged, opening_state, after, CanEnter, replay, IsRun}
+use Rattle.drt_refine.specs.Machine.{Setting, State, Outcome, is_full, taken, halved, halved_at, children_at, stepped, step_by, step_of, CanStep, IsPairAt, opening_state, after, CanEnter, replay, IsRun}
 use Rattle.drt_refine.specs.Facts.{left_of, left, IsBounded}
 use Rattle.drt_refine.specs.declared.step.CombinationState.{CombinationState}
 use Rattle.drt_refine.specs.declared.step.CombinationState.TheVariants.{Pending, Taken as TakenBy, Passed as PassedAt, Split as SplitAt, Failed as HasFailed}

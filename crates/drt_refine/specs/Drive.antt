@@ -56,6 +56,13 @@ ends (Halved left right) = false
 ends (Failed id) = true
 ends Spent = true
 
+-- A driver's step: it takes where no combination is taken, and else settles one.
+abbrev pub IsTurn : Setting → State → FrontierStep → Type 0
+IsTurn t s Take = first is_taken s.combinations ≡ None
+IsTurn t s (Pass id time) = (k : ℕ) × (first is_taken s.combinations ≡ Some k)
+IsTurn t s (Split id place) = (k : ℕ) × (first is_taken s.combinations ≡ Some k)
+IsTurn t s (Fail id) = (k : ℕ) × (first is_taken s.combinations ≡ Some k)
+
 module _ (t : Setting) (id : ℕ) (c : Combination) where
   -- The step settles the combination of that number: it passes with the least time that passes; where none passes it is split at
   -- its widest place, and fails where its nodes are leaves.

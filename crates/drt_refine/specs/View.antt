@@ -1,5 +1,5 @@
 -- What contracts see of a frontier.
-use Rattle.std.specs.Prelude.{◌≡◌, ℕ, ◌≤◌, List, [], ◌∷◌, take, drop, length}
+use Rattle.std.specs.Prelude.{◌≡◌, ℕ, List, [], ◌∷◌, take, drop}
 use Rattle.drt_steps.specs.Time.{AreChosen}
 use Rattle.drt_tree.specs.Tree.{Plain, IsForest}
 use Rattle.drt_refine.specs.Combination.{Combination}

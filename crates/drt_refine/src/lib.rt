@@ -13,8 +13,8 @@ mod frontier;
 mod place;
 mod reading;
 mod states;
-mod stepping;
 mod step;
+mod stepping;
 mod theorem;
 
 pub use frontier::Frontier;

@@ -1,5 +1,5 @@
 -- What a write and a push change of a list and of its first place that passes, and a search among some places alone.
-use Rattle.std.proofs.Common.{◌≡◌, ℕ, suc, zero, ◌+◌, ◌<◌, ◌≤◌, ◌⊎◌, Bool, true, false, cond, Option, Some, None, List, [], ◌∷◌, ◌++◌, length, refl, sym, ap, ◌∙◌, subst, arith, set, inl, inr, zero-add}
+use Rattle.std.proofs.Common.{◌≡◌, ℕ, suc, zero, ◌+◌, ◌<◌, ◌⊎◌, Bool, true, false, cond, Some, None, List, [], ◌∷◌, ◌++◌, length, refl, sym, ap, ◌∙◌, arith, set, inl, inr, zero-add}
 use Rattle.std.specs.Prelude.{option_map, slice_get}
 use Rattle.std.proofs.lemmas.Option.{none-some, same_Some, slice_get_within}
 use Rattle.drt_worklist.specs.Places.{first, places, changed}
@@ -70,10 +70,12 @@ module _ {A : Type 0} (p q : A → Bool) (both : (x : A) → q x ≡ true → p 
     where
       clash : (k : ℕ) (y : A) → k < id → slice_get xs k ≡ Some y → q y ≡ true → (i : ℕ) × (slice_get ps i ≡ Some k) → ⊥
       clash k y lt here f r = elim (orders r.0 j) as (λ _. ⊥) [
-        inl less ↦ (let g : q y ≡ false = unseen r.0 k y less r.1 here in absurd (let h : true ≡ false = sym f ∙ g in cc))
+        | inl less ↦ (let g : q y ≡ false = unseen r.0 k y less r.1 here in absurd (let h : true ≡ false = sym f ∙ g in cc))
         | inr more ↦ elim more as (λ _. ⊥) [
-          inl same ↦ (let g : k ≡ id = same_Some k id (sym r.1 ∙ (ap (λ n. slice_get ps n) same ∙ there)) in absurd (omega arith))
-          | inr later ↦ (let g : id < k = places_rise p 0 xs j r.0 id k later (ap (λ l. slice_get l j) (sym is) ∙ there) (ap (λ l. slice_get l r.0) (sym is) ∙ r.1) in absurd (omega arith)) ] ]
+          | inl same ↦ (let g : k ≡ id = same_Some k id (sym r.1 ∙ (ap (λ n. slice_get ps n) same ∙ there)) in absurd (omega arith))
+          | inr later ↦ (let g : id < k = places_rise p 0 xs j r.0 id k later (ap (λ l. slice_get l j) (sym is) ∙ there) (ap (λ l. slice_get l r.0) (sym is) ∙ r.1) in absurd (omega arith))
+        ]
+      ]
 
   pub none_among : AreUnseen (length ps) → None ≡ first q xs
   none_among unseen = first_none q xs (λ k y lt here. false_by (q y) (q y) refl (λ f. clash k y here f (place_of k y here f)))
@@ -85,10 +87,11 @@ module _ {A : Type 0} (p q : A → Bool) (both : (x : A) → q x ≡ true → p 
 
   unseen_by : (j id : ℕ) (x : A) → slice_get ps j ≡ Some id → slice_get xs id ≡ Some x → q x ≡ false → AreUnseen j → AreUnseen (j + 1)
   unseen_by j id x there at e unseen i k y lt here found = elim (halves i j lt) as (λ _. q y ≡ false) [
-    inl less ↦ unseen i k y less here found
+    | inl less ↦ unseen i k y less here found
     | inr same ↦ (let g : id ≡ k = same_Some id k (sym there ∙ (ap (λ n. slice_get ps n) (sym same) ∙ here)) in
-    let h : x ≡ y = same_Some x y (sym at ∙ (ap (λ n. slice_get xs n) g ∙ found)) in
-    ap q (sym h) ∙ e) ]
+        let h : x ≡ y = same_Some x y (sym at ∙ (ap (λ n. slice_get xs n) g ∙ found)) in
+        ap q (sym h) ∙ e)
+  ]
     where
       halves : (i j : ℕ) → i < j + 1 → (i < j) ⊎ (i ≡ j)
       halves i j lt = grind arith

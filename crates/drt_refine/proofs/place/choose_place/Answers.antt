@@ -1,9 +1,8 @@
-use Rattle.std.proofs.Common.{◌≡◌, ℕ, ◌+◌, ◌<◌, ◌≤◌, Some, length, refl, sym, ap, ◌∙◌, subst, arith}
-use Rattle.std.specs.Prelude.{slice_get, slice_index_or}
+use Rattle.std.proofs.Common.{◌≡◌, ℕ, length, subst, arith}
+use Rattle.std.specs.Prelude.{slice_index_or}
 use Rattle.std.proofs.lemmas.Option.{slice_get-get_or}
-use Rattle.drt_tree.specs.Tree.{Plain, IsForest, leaves}
 use Rattle.drt_refine.proofs.Below.{nodes_at}
-use Rattle.drt_refine.proofs.Widest.{AreAtMost, IsBest, wider, as_wide, place_of}
+use Rattle.drt_refine.proofs.Widest.{AreAtMost, IsBest, place_of}
 use Rattle.drt_refine.proofs.place.choose_place.Goals as goal
 
 pub leaves_under-leaves-requires : goal.leaves_under-leaves-requires

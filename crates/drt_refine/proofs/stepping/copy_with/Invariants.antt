@@ -1,4 +1,4 @@
-use Rattle.std.proofs.Common.{◌≡◌, ℕ, ◌+◌, ◌≤◌, ◌++◌, take, drop, set, vec_capacity, length}
+use Rattle.std.proofs.Common.{◌≡◌, ◌+◌, ◌≤◌, ◌++◌, take, drop, set, vec_capacity, length}
 use Rattle.drt_refine.proofs.stepping.copy_with.Given as goal
 
 abbrev pub invariant-loop-k : goal.invariant-loop-k

@@ -34,5 +34,5 @@ pub returns : goal.returns
 returns c =
     let w : ℕ = length c.self.inside.roots.items in
     if_some (slice_get c.args.self.now.combinations c.args.id) _ (λ x at.
-      ap (λ xs. take (c.args.id * c.len-width.result + c.len-width.result - c.args.id * c.len-width.result) (drop (c.args.id * c.len-width.result) xs)) c.deref.ensures.value
-      ∙ part_is w c.len-width.result c.self.inside.nodes.items c.self.inside.states.items c.args.id x (omega (arith, c.self.inside.roots.ok.0, c.len-width.ensures)) (ap (λ (v : View). slice_get v.combinations c.args.id) c.self.view_is ∙ at))
+    ap (λ xs. take (c.args.id * c.len-width.result + c.len-width.result - c.args.id * c.len-width.result) (drop (c.args.id * c.len-width.result) xs)) c.deref.ensures.value
+    ∙ part_is w c.len-width.result c.self.inside.nodes.items c.self.inside.states.items c.args.id x (omega (arith, c.self.inside.roots.ok.0, c.len-width.ensures)) (ap (λ (v : View). slice_get v.combinations c.args.id) c.self.view_is ∙ at))

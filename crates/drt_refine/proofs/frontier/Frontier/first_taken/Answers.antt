@@ -1,4 +1,4 @@
-use Rattle.std.proofs.Common.{◌≡◌, ◌≤◌, ap, ◌∙◌, arith, length}
+use Rattle.std.proofs.Common.{◌≡◌, ap, ◌∙◌, arith, length}
 use Rattle.drt_worklist.specs.Places.{first}
 use Rattle.drt_refine.specs.Combination.{is_taken, is_taken_state}
 use Rattle.drt_refine.specs.View.{View}

@@ -1,10 +1,10 @@
-use Rattle.std.proofs.Common.{◌≡◌, ℕ, ◌+◌, ◌*◌, ◌<◌, ◌≤◌, Some, None, List, [], ◌∷◌, ◌++◌, length, take, drop, refl, sym, ap, ◌∙◌, subst, arith, set, length-append}
-use Rattle.std.specs.Prelude.{slice_get, slice_set, vec_capacity}
+use Rattle.std.proofs.Common.{◌≡◌, ℕ, ◌+◌, ◌*◌, ◌≤◌, List, [], ◌∷◌, ◌++◌, length, take, drop, sym, ap, ◌∙◌, arith, set, length-append}
+use Rattle.std.specs.Prelude.{vec_capacity}
 use Rattle.std.proofs.lemmas.Option.{same_Some}
 use Rattle.drt_worklist.specs.Places.{first, places}
 use Rattle.drt_refine.specs.Combination.{Combination, is_failed, is_failed_state, is_taken_state}
 use Rattle.drt_refine.specs.Machine.{halves}
-use Rattle.drt_refine.specs.View.{View, combinations_of, moved}
+use Rattle.drt_refine.specs.View.{View, combinations_of}
 use Rattle.drt_refine.specs.declared.step.CombinationState.{CombinationState}
 use Rattle.drt_refine.specs.declared.step.FrontierStep.TheVariants.{Split}
 use Rattle.drt_refine.specs.declared.step.FrontierReply.TheVariants.{Halved}
@@ -98,10 +98,17 @@ invariant_of-self c =
     let l2 : length c.copy_with-2.new.items.items ≡ length c.copy_with.new.items.items + length b = ap length c.copy_with-2.ensures.items ∙ length-append c.copy_with.new.items.items b in
     let n : length c.split-left.new.self.items ≡ length states + 2 = length_now w width budget nodes states id x z c.args.place c.split-left.new.self.items c.split-left.ensures.items in
     let t : length (places is_taken_state c.split-left.new.self.items) + 1 ≡ length (places is_taken_state states) = taken_now w width budget nodes states id x z c.args.place c.split-left.new.self.items c.split-left.ensures.items in
-    let m : length c.push_within.new.items.items ≡ length c.self.inside.log.items + 1 = ap length c.push_within.ensures.items ∙ length-append c.self.inside.log.items (_ ∷ []) in
-    (c.self.invariant.0, c.self.invariant.1, c.self.invariant.2, omega (arith, c.requires.room),
+    let m : length c.push_within.new.items.items ≡ length c.self.inside.log.items + 1 = ap length c.push_within.ensures.items ∙ length-append c.self.inside.log.items (_ ∷ []) in (
+      c.self.invariant.0,
+      c.self.invariant.1,
+      c.self.invariant.2,
+      omega (arith, c.requires.room),
       flat_now w width budget nodes states id x z c.args.place c.split-left.new.self.items c.split-left.ensures.items c.copy_with-2.new.items.items (omega arith),
-      omega (arith, c.self.invariant.5), omega (arith, c.self.invariant.6, c.split-left.ensures.room), omega (arith, c.self.invariant.7, c.copy_with.ensures.capacity, c.copy_with-2.ensures.capacity), omega (arith, c.self.invariant.8, c.push_within.ensures.capacity))
+      omega (arith, c.self.invariant.5),
+      omega (arith, c.self.invariant.6, c.split-left.ensures.room),
+      omega (arith, c.self.invariant.7, c.copy_with.ensures.capacity, c.copy_with-2.ensures.capacity),
+      omega (arith, c.self.invariant.8, c.push_within.ensures.capacity),
+    )
 
 pub returns-clause-new : goal.returns-clause-new
 returns-clause-new c y h =

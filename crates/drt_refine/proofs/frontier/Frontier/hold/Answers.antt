@@ -1,8 +1,8 @@
-use Rattle.std.proofs.Common.{◌≡◌, ℕ, ◌+◌, ◌*◌, ◌≤◌, ◌<◌, ◌∷◌, [], Some, ap, sym, ◌∙◌, arith, length, length-append, set, List}
+use Rattle.std.proofs.Common.{◌≡◌, ℕ, ◌+◌, ◌*◌, ◌≤◌, ◌∷◌, [], ap, sym, ◌∙◌, arith, length, length-append, set, List}
 use Rattle.drt_worklist.specs.Places.{first, places, changed}
 use Rattle.drt_worklist.proofs.Places.{places_set}
 use Rattle.drt_worklist.proofs.Writes.{length_set}
-use Rattle.drt_refine.specs.Combination.{Combination, with_state, is_pending, is_pending_state, is_taken_state}
+use Rattle.drt_refine.specs.Combination.{with_state, is_pending, is_pending_state, is_taken_state}
 use Rattle.drt_refine.specs.View.{View, combinations_of}
 use Rattle.drt_refine.specs.declared.step.CombinationState.{CombinationState}
 use Rattle.drt_refine.specs.declared.step.CombinationState.TheVariants.{Taken}

@@ -1,4 +1,4 @@
-use Rattle.std.proofs.Common.{◌≡◌, ℕ, ◌<◌, true, false, Some, List, length, refl, sym, ap, ◌∙◌, subst}
+use Rattle.std.proofs.Common.{◌≡◌, ℕ, true, Some, List, length, sym, ap, ◌∙◌}
 use Rattle.std.specs.Prelude.{slice_get}
 use Rattle.std.proofs.lemmas.Option.{same_Some, slice_get_within}
 use Rattle.drt_worklist.specs.Places.{first}
@@ -6,7 +6,6 @@ use Rattle.drt_worklist.proofs.Lists.{Found, found}
 use Rattle.drt_refine.specs.Combination.{Combination, is_taken, is_taken_state}
 use Rattle.drt_refine.specs.View.{View, combinations_of}
 use Rattle.drt_refine.specs.declared.step.CombinationState.{CombinationState}
-use Rattle.drt_refine.specs.declared.step.CombinationState.TheVariants.{Pending, Taken, Passed, Split, Failed}
 use Rattle.drt_refine.proofs.Sorted.{clash}
 use Rattle.drt_refine.proofs.Flat.{CombinationAt, combination_at}
 use Rattle.drt_refine.proofs.frontier.Frontier.holder.Goals as goal

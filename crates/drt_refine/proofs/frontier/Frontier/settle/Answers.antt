@@ -1,4 +1,4 @@
-use Rattle.std.proofs.Common.{◌≡◌, ℕ, ◌+◌, ◌*◌, ◌≤◌, ◌<◌, ◌∷◌, [], Some, None, ap, sym, ◌∙◌, arith, length, length-append, set, List, true}
+use Rattle.std.proofs.Common.{◌≡◌, ℕ, ◌+◌, ◌*◌, ◌≤◌, ◌∷◌, [], Some, ap, sym, ◌∙◌, arith, length, length-append, set, List}
 use Rattle.std.specs.Prelude.{slice_get}
 use Rattle.drt_worklist.specs.Places.{first, places, changed}
 use Rattle.drt_worklist.proofs.Places.{places_set}
@@ -6,7 +6,7 @@ use Rattle.drt_worklist.proofs.Writes.{length_set}
 use Rattle.drt_refine.specs.Combination.{Combination, with_state, is_failed, is_failed_state, is_taken_state}
 use Rattle.drt_refine.specs.View.{View, combinations_of}
 use Rattle.drt_refine.specs.declared.step.CombinationState.{CombinationState}
-use Rattle.drt_refine.proofs.Flat.{CombinationAt, combination_at, first_combinations, combinations_set, moved_by}
+use Rattle.drt_refine.proofs.Flat.{combination_at, first_combinations, combinations_set, moved_by}
 use Rattle.drt_refine.proofs.frontier.Frontier.settle.Goals as goal
 
 pub settle-requires-clause-taken : goal.settle-requires-clause-taken

@@ -1,7 +1,5 @@
-use Rattle.std.proofs.Common.{◌≡◌, ℕ, ◌<◌, Some, None, sym, ap, ◌∙◌, subst, length}
-use Rattle.std.specs.Prelude.{slice_get}
-use Rattle.std.proofs.lemmas.Option.{none-some, same_Some}
-use Rattle.drt_tree.specs.Tree.{Plain, children}
+use Rattle.std.proofs.Common.{ℕ, ◌<◌, sym, ◌∙◌, subst, length}
+use Rattle.std.proofs.lemmas.Option.{same_Some}
 use Rattle.drt_refine.proofs.Splits.{Splitting, splitting}
 use Rattle.drt_refine.proofs.frontier.Frontier.split.Goals as goal
 

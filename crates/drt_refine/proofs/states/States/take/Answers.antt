@@ -1,4 +1,4 @@
-use Rattle.std.proofs.Common.{◌≡◌, ℕ, ◌+◌, ◌≤◌, ◌<◌, ◌∷◌, [], ◌++◌, Some, ap, sym, ◌∙◌, subst, arith, length, set, List}
+use Rattle.std.proofs.Common.{◌≡◌, ℕ, ◌+◌, ◌≤◌, ◌<◌, Some, ap, sym, ◌∙◌, subst, arith, length, set, List}
 use Rattle.drt_worklist.specs.Places.{first}
 use Rattle.drt_worklist.proofs.Writes.{length_set}
 use Rattle.drt_refine.specs.Combination.{is_pending_state}
@@ -24,6 +24,10 @@ pub invariant_of-self : goal.invariant_of-self
 invariant_of-self c =
     let items : List CombinationState = c.self.inside.items.items in
     let h : first is_pending_state items ≡ Some c.args.id = ap (λ (v : Stock). first is_pending_state v.items) c.self.view_is ∙ c.requires in
-    let l : length (set items c.args.id (Taken c.args.worker)) ≡ length items = length_set items c.args.id (Taken c.args.worker) in
-    (subst (λ (xs : List ℕ). AreSorted (set items c.args.id (Taken c.args.worker)) (c.self.inside.next + 1) xs c.self.inside.failed) (sym c.push_within.ensures.items) (take_sorted items c.self.inside.next c.self.inside.taken.items c.self.inside.failed c.self.invariant.0 c.args.id c.args.worker h),
-      omega (arith, c.self.invariant.1), c.self.invariant.2, omega (arith, c.self.invariant.3), omega (arith, c.push_within.ensures.capacity, c.self.invariant.4))
+    let l : length (set items c.args.id (Taken c.args.worker)) ≡ length items = length_set items c.args.id (Taken c.args.worker) in (
+      subst (λ (xs : List ℕ). AreSorted (set items c.args.id (Taken c.args.worker)) (c.self.inside.next + 1) xs c.self.inside.failed) (sym c.push_within.ensures.items) (take_sorted items c.self.inside.next c.self.inside.taken.items c.self.inside.failed c.self.invariant.0 c.args.id c.args.worker h),
+      omega (arith, c.self.invariant.1),
+      c.self.invariant.2,
+      omega (arith, c.self.invariant.3),
+      omega (arith, c.push_within.ensures.capacity, c.self.invariant.4),
+    )
