@@ -11,4 +11,5 @@ pub mod Widest
 pub mod Making
 pub mod Settling
 pub mod Driving
+pub mod Longer
 pub mod Splits

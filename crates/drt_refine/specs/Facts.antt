@@ -1,10 +1,11 @@
 -- What each step of the machine keeps, and how many steps there can be.
-use Rattle.std.specs.Prelude.{◌≡◌, ℕ, ◌+◌, ◌-◌, ◌*◌, ◌≤◌, false, Some, List, length, slice_get}
+use Rattle.std.specs.Prelude.{◌≡◌, ℕ, ◌+◌, ◌-◌, ◌*◌, ◌≤◌, false, Some, List, [], ◌∷◌, ◌++◌, length, slice_get}
 use Rattle.drt_steps.specs.Time.{AreChosen}
 use Rattle.drt_worklist.specs.Places.{total}
 use Rattle.drt_refine.specs.Below.{AreBelow, tuples}
 use Rattle.drt_refine.specs.Combination.{Combination, is_split_state}
-use Rattle.drt_refine.specs.Machine.{Setting, State, PassesFor, IsHopeless}
+use Rattle.drt_refine.specs.Machine.{Setting, State, PassesFor, IsHopeless, IsRun}
+use Rattle.drt_refine.specs.declared.step.FrontierEntry.{FrontierEntry}
 use Rattle.drt_refine.specs.declared.step.CombinationState.{CombinationState}
 use Rattle.drt_refine.specs.declared.step.CombinationState.TheVariants.{Pending, Taken, Passed, Split, Failed}
 
@@ -65,3 +66,12 @@ module _ (t : Setting) where
   -- The entries, and those that can still come, are fewer than four for each tuple below the roots.
   abbrev pub IsBounded : State → Type 0
   IsBounded s = length s.log + total left s.combinations + 2 ≤ 4 * tuples t.forest t.roots
+
+-- The setting with another budget.
+abbrev pub with_budget : ℕ → Setting → Setting
+with_budget budget t = record { forest = t.forest; roots = t.roots; wcet = t.wcet; deadline = t.deadline; budget = budget }
+
+-- One more entry can follow some entries under the budget.
+pub record CanGoOn (t : Setting) (budget : ℕ) (log : List FrontierEntry) : Type 0 where
+  pub entry : FrontierEntry
+  pub run : IsRun (with_budget budget t) (log ++ entry ∷ [])
