@@ -63,6 +63,13 @@ impl Forest {
         add_tree(alloc, &mut self.nodes, &mut self.pool, labels, walks)
     }
 
+    /// Does nothing: it shows what every forest is.
+    pub fn show_sound(&self)
+        ensures { IsForest self.now }
+    {
+        let _nodes = self.nodes.as_slice();
+    }
+
     /// The two children of a pair, and `None` for a leaf.
     pub fn children(&self, node: u32) -> Option<(u32, u32)>
         requires { node < length self.now.nodes }

@@ -5,10 +5,12 @@
 
 mod build;
 mod forest;
+mod laws;
 mod leaf;
 mod node;
 
 pub use forest::Forest;
+pub use laws::every_forest;
 pub use leaf::Leaf;
 pub use node::Node;
 

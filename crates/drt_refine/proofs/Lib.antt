@@ -1,0 +1,15 @@
+pub mod Below
+pub mod Sorted
+pub mod Steps
+pub mod Runs
+pub mod Work
+pub mod Flat
+pub mod Copies
+pub mod Halves
+pub mod Halving
+pub mod Widest
+pub mod Making
+pub mod Settling
+pub mod Driving
+pub mod Longer
+pub mod Splits
