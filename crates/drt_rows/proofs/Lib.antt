@@ -1,1 +1,4 @@
 pub mod Conditions
+mod Sets
+mod LegalRows
+mod MachineRows
