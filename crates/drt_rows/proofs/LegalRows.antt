@@ -1,12 +1,11 @@
 -- Which lists of releases are legal, worked: one that is, and four that each break one sentence.
-use Rattle.std.proofs.Common.{◌≡◌, ℕ, zero, suc, ◌<◌, ◌≤◌, inl, inr, List, [], ◌∷◌, Some, refl, ap, lit<, lit≤, arith, get_or}
+use Rattle.std.proofs.Common.{◌≡◌, ℕ, zero, suc, ◌<◌, ◌≤◌, inl, inr, [], ◌∷◌, refl, ap, lit<, lit≤, arith, get_or}
 use Rattle.std.proofs.lemmas.List.Elements.{All-nil, All-cons}
-use Rattle.drt_model.specs.declared.jobs.Release.{Release}
 use Rattle.drt_model.specs.declared.tasks.Edge.{Edge}
-use Rattle.drt_model.specs.Legal.{Follows, IsLegal, IsAllowed, IsAllowedStep}
+use Rattle.drt_model.specs.Legal.{IsLegal, IsAllowed, IsAllowedStep}
 use Rattle.drt_model.proofs.LegalLemmas.{legal_if_allowed}
 use Rattle.drt_model.proofs.Neighbours.{AllNeighbours-one, AllNeighbours-cons}
-use Rattle.drt_rows.proofs.Sets.{edge, release, task_a, task_b, two_tasks, worked}
+use Rattle.drt_rows.proofs.Sets.{edge, release, task_a, two_tasks, worked}
 
 -- a at 0 and at 4, b at 0.
 pub worked_is_legal : IsLegal two_tasks worked

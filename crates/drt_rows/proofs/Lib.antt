@@ -1,4 +1,12 @@
 pub mod Conditions
 mod Sets
+mod SetRows
 mod LegalRows
 mod MachineRows
+mod SchedulableRows
+mod WalkRows
+mod UtilisationRows
+mod HorizonRows
+mod RequestRows
+mod PotentialRows
+mod FrontRows

@@ -1,8 +1,8 @@
 -- The tick machine on the worked releases: two traces, what jobs have had, when they finish, and the least miss.
-use Rattle.std.proofs.Common.{◌≡◌, ℕ, zero, suc, ◌<◌, ◌≤◌, List, [], ◌∷◌, Option, Some, None, refl, lit<, lit≤, arith}
+use Rattle.std.proofs.Common.{◌≡◌, ℕ, zero, suc, ◌<◌, ◌≤◌, List, [], ◌∷◌, Some, None, refl, lit<, lit≤, arith}
 use Rattle.drt_model.specs.declared.jobs.Job.{Job}
 use Rattle.drt_model.specs.declared.jobs.Policy.TheVariants.{Edf, Fixed}
-use Rattle.drt_model.specs.Trace.{trace, pick, pending, best, better, goes_before, is_before, is_pending, done, job_at, Misses, IsFinish}
+use Rattle.drt_model.specs.Trace.{trace, pending, best, better, goes_before, is_before, is_pending, done, job_at, Misses, IsFinish}
 use Rattle.drt_model.specs.Misses.{IsLeastMiss}
 use Rattle.drt_model.specs.Schedulable.{jobs_of}
 use Rattle.drt_rows.proofs.Sets.{two_tasks, worked}
