@@ -1,5 +1,5 @@
 pub mod Conditions
-mod Sets
+pub mod Sets
 mod SetRows
 mod LegalRows
 mod MachineRows
@@ -10,3 +10,4 @@ mod HorizonRows
 mod RequestRows
 mod PotentialRows
 mod FrontRows
+mod NeedsRows

@@ -1,0 +1,4 @@
+mod WordRows
+mod TextRows
+mod EntryRows
+mod SpentRows
