@@ -99,42 +99,67 @@ joined s end (e ∷ es) fs run is more =
     (run.0, run.1, joined (step_of demand_algebra setting s e.worker e.step).state end es fs run.2 is more)
 
 turn_p : IsRunFrom demand_algebra setting start (turn 0)
-turn_p =
-    (may_take setting start refl, refl,
-    ((taken (label 0 0 1) None 0, record { at = refl; held = refl }, refl, lit< tt), refl,
-    ((taken (label 0 0 1) None 1, record { at = refl; held = refl }, refl), refl, tt)))
+turn_p = (
+  may_take setting start refl,
+  refl,
+  (
+    (taken (label 0 0 1) None 0, record { at = refl; held = refl }, refl, lit< tt),
+    refl,
+    ((taken (label 0 0 1) None 1, record { at = refl; held = refl }, refl), refl, tt),
+  ),
+)
 
 turn_q : IsRunFrom demand_algebra setting after_p (turn 1)
-turn_q =
-    (may_take setting after_p refl, refl,
-    ((taken (label 1 0 2) None 0, record { at = refl; held = refl }, refl, lit< tt), refl,
-    ((taken (label 1 0 2) None 1, record { at = refl; held = refl }, refl), refl, tt)))
+turn_q = (
+  may_take setting after_p refl,
+  refl,
+  (
+    (taken (label 1 0 2) None 0, record { at = refl; held = refl }, refl, lit< tt),
+    refl,
+    ((taken (label 1 0 2) None 1, record { at = refl; held = refl }, refl), refl, tt),
+  ),
+)
 
 turn_m : IsRunFrom demand_algebra setting after_q (turn 2)
-turn_m =
-    (may_take setting after_q refl, refl,
-    ((taken (label 2 0 1) None 0, record { at = refl; held = refl }, refl, lit< tt), refl,
-    ((taken (label 2 0 1) None 1, record { at = refl; held = refl }, refl), refl, tt)))
+turn_m = (
+  may_take setting after_q refl,
+  refl,
+  (
+    (taken (label 2 0 1) None 0, record { at = refl; held = refl }, refl, lit< tt),
+    refl,
+    ((taken (label 2 0 1) None 1, record { at = refl; held = refl }, refl), refl, tt),
+  ),
+)
 
 turn_qm : IsRunFrom demand_algebra setting after_m (turn 4)
-turn_qm =
-    (may_take setting after_m refl, refl,
-    ((taken (label 2 1 3) (Some 1) 0, record { at = refl; held = refl }, refl, lit< tt), refl,
-    ((taken (label 2 1 3) (Some 1) 1, record { at = refl; held = refl }, refl), refl, tt)))
+turn_qm = (
+  may_take setting after_m refl,
+  refl,
+  (
+    (taken (label 2 1 3) (Some 1) 0, record { at = refl; held = refl }, refl, lit< tt),
+    refl,
+    ((taken (label 2 1 3) (Some 1) 1, record { at = refl; held = refl }, refl), refl, tt),
+  ),
+)
 
 turn_qmm : IsRunFrom demand_algebra setting after_qm (turn 5)
-turn_qmm =
-    (may_take setting after_qm refl, refl,
-    ((taken (label 2 4 4) (Some 4) 0, record { at = refl; held = refl }, refl, lit< tt), refl,
-    ((taken (label 2 4 4) (Some 4) 1, record { at = refl; held = refl }, refl), refl, tt)))
+turn_qmm = (
+  may_take setting after_qm refl,
+  refl,
+  (
+    (taken (label 2 4 4) (Some 4) 0, record { at = refl; held = refl }, refl, lit< tt),
+    refl,
+    ((taken (label 2 4 4) (Some 4) 1, record { at = refl; held = refl }, refl), refl, tt),
+  ),
+)
 
 -- Each step meets its conditions and is logged.
 pub run_is : IsRun demand_algebra setting log
 run_is =
     joined start after_p (turn 0) (turn 1 ++ (turn 2 ++ (turn 4 ++ turn 5))) turn_p refl
-      (joined after_p after_q (turn 1) (turn 2 ++ (turn 4 ++ turn 5)) turn_q refl
-        (joined after_q after_m (turn 2) (turn 4 ++ turn 5) turn_m refl
-          (joined after_m after_qm (turn 4) (turn 5) turn_qm refl turn_qmm)))
+    (joined after_p after_q (turn 1) (turn 2 ++ (turn 4 ++ turn 5)) turn_q refl
+    (joined after_q after_m (turn 2) (turn 4 ++ turn 5) turn_m refl
+    (joined after_m after_qm (turn 4) (turn 5) turn_qm refl turn_qmm)))
 
 -- It finishes: no node is pending and none is taken.
 pub run_finishes : is_finished demand_algebra setting (replay demand_algebra setting log) ≡ true

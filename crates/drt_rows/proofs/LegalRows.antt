@@ -12,11 +12,11 @@ pub worked_is_legal : IsLegal two_tasks worked
 worked_is_legal =
     let R = IsAllowedStep two_tasks in
     legal_if_allowed two_tasks worked
-      (All-cons (IsAllowed two_tasks) (release 0 0 0 2) (release 0 0 4 2 ∷ release 1 0 0 3 ∷ []) (lit≤ tt, lit≤ tt)
-        (All-cons (IsAllowed two_tasks) (release 0 0 4 2) (release 1 0 0 3 ∷ []) (lit≤ tt, lit≤ tt)
-          (All-cons (IsAllowed two_tasks) (release 1 0 0 3) [] (lit≤ tt, lit≤ tt) (All-nil (IsAllowed two_tasks)))))
-      (AllNeighbours-cons R (release 0 0 0 2) (release 0 0 4 2) (release 1 0 0 3 ∷ []) (inr (refl, (0, edge 0 0 4, lit< tt, refl, (refl, refl, lit≤ tt))))
-        (AllNeighbours-cons R (release 0 0 4 2) (release 1 0 0 3) [] (inl (lit< tt)) (AllNeighbours-one R (release 1 0 0 3))))
+    (All-cons (IsAllowed two_tasks) (release 0 0 0 2) (release 0 0 4 2 ∷ release 1 0 0 3 ∷ []) (lit≤ tt, lit≤ tt)
+    (All-cons (IsAllowed two_tasks) (release 0 0 4 2) (release 1 0 0 3 ∷ []) (lit≤ tt, lit≤ tt)
+    (All-cons (IsAllowed two_tasks) (release 1 0 0 3) [] (lit≤ tt, lit≤ tt) (All-nil (IsAllowed two_tasks)))))
+    (AllNeighbours-cons R (release 0 0 0 2) (release 0 0 4 2) (release 1 0 0 3 ∷ []) (inr (refl, (0, edge 0 0 4, lit< tt, refl, (refl, refl, lit≤ tt))))
+    (AllNeighbours-cons R (release 0 0 4 2) (release 1 0 0 3) [] (inl (lit< tt)) (AllNeighbours-one R (release 1 0 0 3))))
 
 -- The empty list is legal.
 pub none_is_legal : IsLegal two_tasks []

@@ -1,6 +1,6 @@
 pub mod Conditions
 pub mod Sets
-mod SetRows
+pub mod SetRows
 mod LegalRows
 mod MachineRows
 mod SchedulableRows

@@ -18,7 +18,7 @@ use Rattle.drt_rows.proofs.SetRows.{short_is_set, short_is_constrained}
 pub short_is_schedulable : (policy : Policy) → Schedulable (short ∷ []) policy
 short_is_schedulable policy =
     (one_task_decides 1 (short ∷ []) short policy short_is_set short_is_constrained refl refl).1
-      (All-cons (λ v. v.wcet ≤ v.deadline) (vertex (codes "v") 2 5) [] (lit≤ tt) (All-nil (λ v. v.wcet ≤ v.deadline)))
+    (All-cons (λ v. v.wcet ≤ v.deadline) (vertex (codes "v") 2 5) [] (lit≤ tt) (All-nil (λ v. v.wcet ≤ v.deadline)))
 
 -- The one release at 0 with the need 6.
 abbrev pub at_once : List Release
@@ -28,8 +28,8 @@ at_once = release 0 0 0 6 ∷ []
 pub once_is_legal : IsLegal (too_long ∷ []) at_once
 once_is_legal =
     legal_if_allowed (too_long ∷ []) at_once
-      (All-cons (IsAllowed (too_long ∷ [])) (release 0 0 0 6) [] (lit≤ tt, lit≤ tt) (All-nil (IsAllowed (too_long ∷ []))))
-      (AllNeighbours-one (IsAllowedStep (too_long ∷ [])) (release 0 0 0 6))
+    (All-cons (IsAllowed (too_long ∷ [])) (release 0 0 0 6) [] (lit≤ tt, lit≤ tt) (All-nil (IsAllowed (too_long ∷ []))))
+    (AllNeighbours-one (IsAllowedStep (too_long ∷ [])) (release 0 0 0 6))
 
 -- It has had 5 ticks before 5.
 pub once_misses : (policy : Policy) → Misses policy (jobs_of (too_long ∷ []) at_once) 0
@@ -44,8 +44,8 @@ too_long_is_not_schedulable policy s = s at_once once_is_legal 0 (lit< tt) (once
 pub once_is_legal_again : IsLegal (too_long_again ∷ []) at_once
 once_is_legal_again =
     legal_if_allowed (too_long_again ∷ []) at_once
-      (All-cons (IsAllowed (too_long_again ∷ [])) (release 0 0 0 6) [] (lit≤ tt, lit≤ tt) (All-nil (IsAllowed (too_long_again ∷ []))))
-      (AllNeighbours-one (IsAllowedStep (too_long_again ∷ [])) (release 0 0 0 6))
+    (All-cons (IsAllowed (too_long_again ∷ [])) (release 0 0 0 6) [] (lit≤ tt, lit≤ tt) (All-nil (IsAllowed (too_long_again ∷ []))))
+    (AllNeighbours-one (IsAllowedStep (too_long_again ∷ [])) (release 0 0 0 6))
 
 pub once_misses_again : (policy : Policy) → Misses policy (jobs_of (too_long_again ∷ []) at_once) 0
 unfolding done trace pending best better goes_before is_before is_pending

@@ -48,8 +48,8 @@ short_is_set = record {
 pub short_is_constrained : AreConstrained (short ∷ [])
 short_is_constrained =
     All-cons (λ t. All (IsConstrainedEdge t) t.edges) short []
-      (All-cons (IsConstrainedEdge short) (edge 0 0 5) [] (lit≤ tt) (All-nil (IsConstrainedEdge short)))
-      (All-nil (λ t. All (IsConstrainedEdge t) t.edges))
+    (All-cons (IsConstrainedEdge short) (edge 0 0 5) [] (lit≤ tt) (All-nil (IsConstrainedEdge short)))
+    (All-nil (λ t. All (IsConstrainedEdge t) t.edges))
 
 -- With a deadline of 6 they aren't: the edge's separation is 5.
 pub late_is_not_constrained : ¬ AreConstrained (looped (codes "T") 1 2 6 5 ∷ [])

@@ -2,3 +2,4 @@ mod WordRows
 mod TextRows
 mod EntryRows
 mod SpentRows
+mod DossierRows
