@@ -3,7 +3,7 @@ pub mod Sets
 pub mod SetRows
 mod LegalRows
 mod MachineRows
-mod SchedulableRows
+pub mod SchedulableRows
 mod WalkRows
 mod UtilisationRows
 mod HorizonRows

@@ -42,7 +42,7 @@ other_edge from to p edges v other = ap (λ b. if b then Some p else sep_in edge
 abbrev pub potentials : List ℤ
 potentials = pos 0 ∷ pos 6 ∷ []
 
-fits : FitPotentials g 1 2 potentials
+pub fits : FitPotentials g 1 2 potentials
 unfolding sep_in
 fits zero zero p e = let s : 5 ≡ p = same_Some 5 p e in omega (arith, ints, s)
 fits zero (suc zero) p e = let s : 2 ≡ p = same_Some 2 p e in omega (arith, ints, s)
@@ -91,7 +91,7 @@ potentials_are = record { counted = refl; each = each }
     each (suc (suc v)) l = absurd (omega arith)
 
 -- One vertex (2, 5) with a loop of 5 has the ratio 2/5.
-loop_fits : FitPotentials (digraph_of short) 2 5 (pos 0 ∷ [])
+pub loop_fits : FitPotentials (digraph_of short) 2 5 (pos 0 ∷ [])
 unfolding sep_in
 loop_fits zero zero p e = let s : 5 ≡ p = same_Some 5 p e in omega (arith, ints, s)
 loop_fits zero (suc v) p e = absurd (none-some p (sym (other_edge 0 0 5 [] (suc v) (λ h. omega (arith, h))) ∙ e))

@@ -18,7 +18,7 @@ use Rattle.drt_rows.proofs.SetRows.{short_is_set, short_is_constrained}
 pub short_is_schedulable : (policy : Policy) → Schedulable (short ∷ []) policy
 short_is_schedulable policy =
     (one_task_decides 1 (short ∷ []) short policy short_is_set short_is_constrained refl refl).1
-    (All-cons (λ v. v.wcet ≤ v.deadline) (vertex (codes "v") 2 5) [] (lit≤ tt) (All-nil (λ v. v.wcet ≤ v.deadline)))
+    (All-cons (λ v. v.wcet ≤ v.deadline) (vertex (codes "a") 2 5) [] (lit≤ tt) (All-nil (λ v. v.wcet ≤ v.deadline)))
 
 -- The one release at 0 with the need 6.
 abbrev pub at_once : List Release

@@ -8,12 +8,12 @@ use Rattle.drt_model.specs.Limits.{IsName, IsNameByte, IsTask, IsTaskSet, IsVert
 use Rattle.drt_model.specs.declared.tasks.Task.{Task}
 use Rattle.drt_rows.proofs.Sets.{vertex, edge, looped, task_a, task_b, short}
 
--- One capital letter, T, and one small one, v.
+-- The names T and a.
 name_T : IsName (codes "T")
 name_T = record { not_empty = lit≤ tt; at_most_32 = lit≤ tt; bytes = All-cons IsNameByte 84 [] (inl (inl (inr (lit≤ tt, lit≤ tt)))) (All-nil IsNameByte) }
 
-name_v : IsName (codes "v")
-name_v = record { not_empty = lit≤ tt; at_most_32 = lit≤ tt; bytes = All-cons IsNameByte 118 [] (inl (inr (lit≤ tt, lit≤ tt))) (All-nil IsNameByte) }
+name_a : IsName (codes "a")
+name_a = record { not_empty = lit≤ tt; at_most_32 = lit≤ tt; bytes = All-cons IsNameByte 97 [] (inl (inr (lit≤ tt, lit≤ tt))) (All-nil IsNameByte) }
 
 short_is_task : IsTask 1 short
 short_is_task = record {
@@ -21,7 +21,7 @@ short_is_task = record {
   priority = (lit≤ tt, lit≤ tt);
   has_vertex = lit≤ tt;
   few_vertices = lit≤ tt;
-  vertices = All-cons IsVertex (vertex (codes "v") 2 5) [] (record { name = name_v; wcet = (lit≤ tt, lit≤ tt); deadline = (lit≤ tt, lit≤ tt) }) (All-nil IsVertex);
+  vertices = All-cons IsVertex (vertex (codes "a") 2 5) [] (record { name = name_a; wcet = (lit≤ tt, lit≤ tt); deadline = (lit≤ tt, lit≤ tt) }) (All-nil IsVertex);
   distinct_names = λ i j d l m. absurd (omega arith);
   at_most_256_edges = lit≤ tt;
   edges = All-cons (IsEdgeAmong 1) (edge 0 0 5) [] (record { from = lit< tt; to = lit< tt; sep = (lit≤ tt, lit≤ tt) }) (All-nil (IsEdgeAmong 1));
@@ -65,4 +65,4 @@ equal_priorities_are_no_set s = s.distinct_priorities 0 1 task_a (lit< tt) (lit<
 
 -- An execution time is at least 1.
 pub no_time_is_no_set : ¬ IsTaskSet 1 (looped (codes "T") 1 0 5 5 ∷ [])
-no_time_is_no_set s = let h : 1 ≤ 0 = ((s.each 0 short (lit< tt)).vertices 0 (vertex (codes "v") 2 5) (lit< tt)).wcet.0 in absurd (omega (arith, h))
+no_time_is_no_set s = let h : 1 ≤ 0 = ((s.each 0 short (lit< tt)).vertices 0 (vertex (codes "a") 2 5) (lit< tt)).wcet.0 in absurd (omega (arith, h))

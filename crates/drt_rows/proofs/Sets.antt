@@ -17,12 +17,12 @@ release task vertex time need = record { task = task; vertex = vertex; time = ti
 -- A task with one vertex and a loop.
 abbrev pub looped : List ℕ → ℕ → ℕ → ℕ → ℕ → Task
 looped name priority wcet deadline sep =
-    record { name = name; priority = priority; vertices = vertex (codes "v") wcet deadline ∷ []; edges = edge 0 0 sep ∷ [] }
+    record { name = name; priority = priority; vertices = vertex (codes "a") wcet deadline ∷ []; edges = edge 0 0 sep ∷ [] }
 
 -- A task with one vertex and no edge.
 abbrev pub lone : List ℕ → ℕ → ℕ → ℕ → Task
 lone name priority wcet deadline =
-    record { name = name; priority = priority; vertices = vertex (codes "v") wcet deadline ∷ []; edges = [] }
+    record { name = name; priority = priority; vertices = vertex (codes "a") wcet deadline ∷ []; edges = [] }
 
 -- Task a has one vertex (2, 4) with a loop of 4, and task b, below it, one vertex (3, 6) with a loop of 6.
 abbrev pub task_a : Task

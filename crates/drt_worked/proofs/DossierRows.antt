@@ -16,7 +16,7 @@ abbrev pub undecided : Statement
 undecided = record { policy = Edf; set = record { version = 1; tasks = short ∷ [] }; evidence = Undecided }
 
 abbrev pub undecided_bytes : List ℕ
-undecided_bytes = codes "drt-dossier 1\npolicy edf\ndrt 1\ntask T\nvertex v 2 5\nedge v v 5\nend\nevidence undecided\nclose\n"
+undecided_bytes = codes "drt-dossier 1\npolicy edf\ndrt 1\ntask T\nvertex a 2 5\nedge a a 5\nend\nevidence undecided\nclose\n"
 
 pub undecided_is_text : IsTextOf undecided undecided_bytes
 unfolding text digits written_line name_at priority_lines body_lines task_lines set_lines canonical

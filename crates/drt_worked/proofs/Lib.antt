@@ -3,3 +3,4 @@ mod TextRows
 mod EntryRows
 mod SpentRows
 mod DossierRows
+mod JudgementRows

@@ -8,10 +8,11 @@ use Rattle.drt_model.specs.declared.tasks.Task.{Task}
 use Rattle.drt_file.specs.Canonical.{written, written_line, name_at, priority_lines, body_lines, task_lines, set_lines, canonical}
 use Rattle.drt_top.specs.Util.{util_lines}
 use Rattle.drt_top.specs.Dossier.{under_fixed, yes_evidence}
+use Rattle.drt_evidence.specs.Statement.{Statement}
 use Rattle.drt_evidence.specs.Text.{text}
 use Rattle.drt_evidence.specs.declared.evidence.Evidence.TheVariants.{EdfYes}
 use Rattle.drt_model.specs.declared.jobs.Policy.TheVariants.{Edf}
-use Rattle.drt_rows.proofs.Sets.{edge, looped, vertex}
+use Rattle.drt_rows.proofs.Sets.{looped, short}
 
 abbrev fraction : ℕ → ℕ → Fraction
 fraction a b = record { num = a; den = b }
@@ -25,23 +26,20 @@ unfolding written_line digits
 util_text = refl
 
 abbrev one : List Task
-one = looped (codes "T") 1 2 5 5 ∷ []
+one = short ∷ []
 
 -- The same set in version 1 and, with its priority, in version 2.
-pub first_text : canonical (record { version = 1; tasks = one }) ≡ codes "drt 1\ntask T\nvertex v 2 5\nedge v v 5\nend\n"
+pub first_text : canonical (record { version = 1; tasks = one }) ≡ codes "drt 1\ntask T\nvertex a 2 5\nedge a a 5\nend\n"
 unfolding digits written_line name_at priority_lines body_lines task_lines set_lines canonical
 first_text = refl
 
-pub second_text : canonical (record { version = 2; tasks = one }) ≡ codes "drt 2\ntask T\npriority 1\nvertex v 2 5\nedge v v 5\nend\n"
+pub second_text : canonical (record { version = 2; tasks = one }) ≡ codes "drt 2\ntask T\npriority 1\nvertex a 2 5\nedge a a 5\nend\n"
 unfolding digits written_line name_at priority_lines body_lines task_lines set_lines canonical
 second_text = refl
 
--- One vertex a (2, 5) with a loop of 5.
-abbrev set : Contents
-set = record {
-  version = 1;
-  tasks = record { name = codes "T"; priority = 1; vertices = vertex (codes "a") 2 5 ∷ []; edges = edge 0 0 5 ∷ [] } ∷ [];
-}
+-- That set of version 1.
+abbrev pub set : Contents
+set = record { version = 1; tasks = one }
 
 -- What `sp` writes of it: 12 lines, 125 bytes.
 abbrev sp_dossier : List ℕ
@@ -61,8 +59,14 @@ edf_dossier =
     codes "drt-dossier 1\npolicy edf\ndrt 1\ntask T\nvertex a 2 5\nedge a a 5\nend\n"
     ++ codes "evidence edf-yes\nratios 1\nratio 2 5\ncycle 1 0\npotentials 1 0\nfronts 1\nfront 0\nclose\n"
 
-pub edf_text :
-    text (record { policy = Edf; set = set; evidence = EdfYes (record { num = 2; den = 5; cycle = 0 ∷ []; potentials = pos 0 ∷ [] } ∷ []) ([] ∷ []) }) ≡ edf_dossier
+abbrev pub edf_statement : Statement
+edf_statement = record {
+  policy = Edf;
+  set = set;
+  evidence = EdfYes (record { num = 2; den = 5; cycle = 0 ∷ []; potentials = pos 0 ∷ [] } ∷ []) ([] ∷ []);
+}
+
+pub edf_text : text edf_statement ≡ edf_dossier
 unfolding text digits written_line name_at priority_lines body_lines task_lines set_lines canonical
 edf_text = refl
 
