@@ -1,19 +1,19 @@
 -- The ratios and the canonical potentials of worked graphs. That no cycle has a greater ratio, and that no short walk gains more, follows from the
 -- potentials themselves: along each edge they rise by at least its gain.
-use Rattle.std.proofs.Common.{◌≡◌, ℕ, zero, suc, ◌*◌, ◌<◌, List, [], ◌∷◌, Some, refl, sym, ap, ◌∙◌, lit<, lit≤, arith}
+use Rattle.std.proofs.Common.{◌≡◌, ℕ, zero, suc, ◌+◌, ◌*◌, ◌<◌, ◌≤◌, List, [], ◌∷◌, Some, refl, sym, ap, ◌∙◌, lit<, lit≤, arith}
 use Rattle.std.specs.Prelude.{if◌then◌else◌, ℤ, pos, ◌-ℤ◌, ◌≤ℤ◌}
 use Rattle.std.proofs.lemmas.Bool.{ne_eqb}
 use Rattle.std.proofs.lemmas.Int.{ints}
 use Rattle.std.proofs.lemmas.Nat.Gcd.{IsGcd-from_zero, IsGcd-from_mod, IsGcd-swap}
 use Rattle.std.proofs.lemmas.Option.{none-some, same_Some}
 use Rattle.drt_model.specs.Digraph.{Digraph, digraph_of}
-use Rattle.drt_model.specs.Walk.{sep_in, or_zero, gap, work, span, IsPath, last_of}
+use Rattle.drt_model.specs.Walk.{sep_in, or_zero, gap, work, span, IsPath, last_of, deadline, IsEdge}
 use Rattle.drt_model.specs.Potential.{gain, IsPotential, AreCanonical, potential_of}
 use Rattle.drt_model.specs.RatioRules.{FitPotentials}
 use Rattle.drt_model.specs.Utilisation.{IsLeast, IsRatio}
 use Rattle.drt_graph.proofs.Bounds.{rises}
 use Rattle.drt_model.specs.declared.tasks.Edge.{Edge}
-use Rattle.drt_rows.proofs.Sets.{edge, short, too_long}
+use Rattle.drt_rows.proofs.Sets.{apart, edge, short, too_long}
 use Rattle.drt_rows.proofs.UtilisationRows.{fraction, lowest}
 use Rattle.drt_rows.proofs.WalkRows.{g, cycle_ab}
 
@@ -119,3 +119,30 @@ lone_ratio_is = record {
   cycle = [];
   has = (refl, refl);
 }
+
+-- With x (100, 1000) alone and y (1, 1) with a loop of 2 each edge out of y leads to y.
+to_y : (v : ℕ) → IsEdge (digraph_of apart) 1 v → v ≡ 1
+unfolding sep_in or_zero
+to_y zero e = absurd (none-some (gap (digraph_of apart) 1 zero) (sym (other_edge 1 1 2 [] zero (λ h. omega (arith, h))) ∙ e))
+to_y (suc zero) e = refl
+to_y (suc (suc v)) e = absurd (none-some (gap (digraph_of apart) 1 (suc (suc v))) (sym (other_edge 1 1 2 [] (suc (suc v)) (λ h. omega (arith, h))) ∙ e))
+
+-- At the ratio 1/2: twice the work of the walk is at most its last deadline and 1.
+abbrev pub IsWithinOne : ℕ → List ℕ → Type 0
+IsWithinOne u vs = 2 * work (digraph_of apart) (u ∷ vs) ≤ span (digraph_of apart) u vs + deadline (digraph_of apart) (last_of u vs) + 1
+
+-- A walk that goes on to y.
+y_goes_on : (v : ℕ) (vs : List ℕ) → v ≡ 1 → IsPath (digraph_of apart) v vs → (IsPath (digraph_of apart) 1 vs → IsWithinOne 1 vs) → IsWithinOne 1 (v ∷ vs)
+unfolding work span sep_in or_zero
+y_goes_on v vs e p rest = rw e (let h = rest (rw e at p) in omega (arith, h))
+
+-- It is so for each walk, from y and from x: the constant of 199 lies above what any one walk needs.
+pub y_walks : (vs : List ℕ) → IsPath (digraph_of apart) 1 vs → IsWithinOne 1 vs
+unfolding work span sep_in or_zero
+y_walks [] is = lit≤ tt
+y_walks (v ∷ vs) is = y_goes_on v vs (to_y v is.0) is.1 (λ p. y_walks vs p)
+
+pub x_walks : (vs : List ℕ) → IsPath (digraph_of apart) 0 vs → IsWithinOne 0 vs
+unfolding work span sep_in or_zero
+x_walks [] is = lit≤ tt
+x_walks (v ∷ vs) is = absurd (none-some (gap (digraph_of apart) 0 v) is.0)
