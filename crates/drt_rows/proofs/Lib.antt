@@ -1,1 +1,13 @@
 pub mod Conditions
+pub mod Sets
+pub mod SetRows
+mod LegalRows
+mod MachineRows
+pub mod SchedulableRows
+mod WalkRows
+mod UtilisationRows
+mod HorizonRows
+mod RequestRows
+mod PotentialRows
+mod FrontRows
+mod NeedsRows

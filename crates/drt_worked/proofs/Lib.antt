@@ -1,0 +1,6 @@
+mod WordRows
+mod TextRows
+mod EntryRows
+mod SpentRows
+mod DossierRows
+mod JudgementRows

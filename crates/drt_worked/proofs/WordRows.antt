@@ -1,0 +1,43 @@
+-- What worked lists of words mean.
+use Rattle.std.proofs.Common.{◌≡◌, [], ◌∷◌, Some, None, codes, refl}
+use Rattle.clap.proofs.OnLiterals.{clap_on_literals}
+use Rattle.drt_top.specs.Meaning.{meaning_of}
+use Rattle.drt_top.specs.declared.words.Meaning.TheVariants.{Edf, Sp, Check}
+
+-- Four workers and a budget of 100,000 stand by default.
+pub edf_alone : meaning_of (codes "drt" ∷ codes "edf" ∷ []) ≡ Some (Edf 4 100000)
+unfolding clap_on_literals
+edf_alone = refl
+
+pub sp_joined : meaning_of (codes "drt" ∷ codes "sp" ∷ codes "--workers=2" ∷ codes "--budget=50" ∷ []) ≡ Some (Sp 2 50)
+unfolding clap_on_literals
+sp_joined = refl
+
+pub edf_apart : meaning_of (codes "drt" ∷ codes "edf" ∷ codes "--budget" ∷ codes "7" ∷ codes "--workers" ∷ codes "16" ∷ []) ≡ Some (Edf 16 7)
+unfolding clap_on_literals
+edf_apart = refl
+
+pub check_alone : meaning_of (codes "drt" ∷ codes "check" ∷ []) ≡ Some Check
+unfolding clap_on_literals
+check_alone = refl
+
+-- No command, an unknown one, and numbers out of range have no meaning.
+pub no_command : meaning_of (codes "drt" ∷ []) ≡ None
+unfolding clap_on_literals
+no_command = refl
+
+pub unknown_command : meaning_of (codes "drt" ∷ codes "walk" ∷ []) ≡ None
+unfolding clap_on_literals
+unknown_command = refl
+
+pub no_worker : meaning_of (codes "drt" ∷ codes "edf" ∷ codes "--workers" ∷ codes "0" ∷ []) ≡ None
+unfolding clap_on_literals
+no_worker = refl
+
+pub too_many_workers : meaning_of (codes "drt" ∷ codes "edf" ∷ codes "--workers" ∷ codes "17" ∷ []) ≡ None
+unfolding clap_on_literals
+too_many_workers = refl
+
+pub too_great_a_budget : meaning_of (codes "drt" ∷ codes "edf" ∷ codes "--budget" ∷ codes "1000001" ∷ []) ≡ None
+unfolding clap_on_literals
+too_great_a_budget = refl
