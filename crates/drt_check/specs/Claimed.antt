@@ -11,4 +11,3 @@ IsKept Counted g c = AreCounted g c.potentials
 IsKept Fits g c = FitPotentials g c.num c.den c.potentials
 IsKept Closed g c = IsClosed g c.num c.cycle
 IsKept Tight g c = IsTight g c.num c.den c.cycle
-

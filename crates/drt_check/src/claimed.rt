@@ -62,7 +62,9 @@ fn keeps(rule: ClaimRule, graph: &Graph, claim: &RatioClaim) -> bool
     let count = graph.vertex_count();
     match rule {
         ClaimRule::Counted => claim.potentials.as_slice().len() == count as usize,
-        ClaimRule::Fits => { potentials_fit(graph, claim.num, claim.den, claim.potentials.as_slice()) }
+        ClaimRule::Fits => {
+            potentials_fit(graph, claim.num, claim.den, claim.potentials.as_slice())
+        }
         ClaimRule::Closed => is_closed(graph, claim.num, claim.cycle.as_slice()),
         ClaimRule::Tight => is_tight(graph, claim.num, claim.den, claim.cycle.as_slice()),
     }

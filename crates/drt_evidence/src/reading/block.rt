@@ -3,6 +3,7 @@ ghost use Rattle.std.specs.Prelude.{ℕ, List, IfOk, IfErr};
 ghost use Rattle.drt_evidence.specs.Blocks.{AreSoMany, IsStop, Reads, counted, in_turn};
 ghost use Rattle.drt_evidence.specs.LineForms.{AreCounted};
 ghost use Rattle.drt_file.specs.trusted.Cutting.{HasNoFeed};
+
 use crate::reading::forms::read_count;
 use crate::reading::text::{Stop, Text};
 use drt_model::Row;
