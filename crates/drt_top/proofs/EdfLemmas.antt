@@ -1,5 +1,5 @@
 -- What `edf` says of an accepted set, and what it doesn't.
-use Rattle.std.proofs.Common.{◌≡◌, ◌⊎◌, ℕ, ◌<◌, ◌≤◌, List, All, inl, inr, refl, ap, ◌∙◌, subst, arith}
+use Rattle.std.proofs.Common.{◌≡◌, ◌⊎◌, ℕ, ◌<◌, ◌≤◌, List, All, Result, Ok, Err, IfOk, inl, inr, refl, sym, ap, ◌∙◌, subst, arith}
 use Rattle.std.proofs.lemmas.List.Elements.{All-map}
 use Rattle.std.proofs.lemmas.Option.{slice_get_within, get_or_from_slice_get}
 use Rattle.drt_model.specs.Contents.{Contents}
@@ -23,7 +23,10 @@ use Rattle.drt_edf.specs.declared.answer.EdfTrail.{EdfTrail}
 use Rattle.drt_edf.specs.declared.answer.EdfTrail.TheVariants.{Table, Overload}
 use Rattle.drt_edf.proofs.Unique.{rates_same, horizon_same}
 use Rattle.drt_top.specs.Dossiers.{evidence_status}
-use Rattle.drt_top.specs.commands.Edf.{EdfEnds, IsEdfNoText, IsEdfYesText, IsOneText, IsUndecidedText, trail_of, under_edf}
+use Rattle.drt_command.specs.declared.report.Report.{Report}
+use Rattle.drt_command.specs.declared.report.Unmade.{Unmade}
+use Rattle.drt_top.specs.TaskFiles.{IsAccepted}
+use Rattle.drt_top.specs.commands.Edf.{Decides, EdfEnds, IsEdfNoText, IsEdfYesText, IsOneText, IsUndecidedText, trail_of, under_edf}
 use Rattle.drt_outcome.specs.declared.outcome.Trail.{Trail}
 use Rattle.drt_outcome.specs.declared.outcome.Trail.TheVariants as trails
 
@@ -183,6 +186,16 @@ answer_is set budget (UtilisationOne ratios) limits constrained done planned ran
 answer_is set budget (FixedYes trees proofs) limits constrained done planned range = absurd done
 answer_is set budget (FixedNo releases miss) limits constrained done planned range = absurd done
 answer_is set budget Undecided limits constrained done planned range = absurd done
+
+-- It is the answer of the report that is made of the evidence.
+pub done_decides : (bytes : List ℕ) (set : Contents) (budget : ℕ) (evidence : Evidence) → IsAccepted bytes set → IsDone set.tasks evidence → IsPlanned set.tasks evidence
+    → IsInRange evidence → (r : Result Report Unmade)
+    → IfOk r (λ m. m ≡ record { status = evidence_status evidence; text = text (under_edf set evidence); trail = trails.Nothing })
+    → IfOk r (Decides budget bytes)
+done_decides bytes set budget evidence accepted done planned range (Ok m) is =
+    subst (Decides budget bytes) (sym is)
+    (record { set = set; accepted = accepted; answer = answer_is set budget evidence accepted.reads.limits accepted.constrained done planned range })
+done_decides bytes set budget evidence accepted done planned range (Err e) is = tt
 
 -- The answer of a spent budget.
 pub undecided_is : (set : Contents) (budget : ℕ) (spent : EdfTrail) → IsTaskSet set.version set.tasks → IsUndecided set.tasks budget spent
