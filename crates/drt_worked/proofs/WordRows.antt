@@ -1,19 +1,19 @@
 -- What worked lists of words mean.
 use Rattle.std.proofs.Common.{◌≡◌, [], ◌∷◌, Some, None, codes, refl}
 use Rattle.clap.proofs.OnLiterals.{clap_on_literals}
-use Rattle.drt_top.specs.Meaning.{meaning_of}
-use Rattle.drt_top.specs.declared.words.Meaning.TheVariants.{Edf, Sp, Check}
+use Rattle.drt_words.specs.Meaning.{meaning_of}
+use Rattle.drt_words.specs.declared.meaning.Meaning.TheVariants.{Edf, Sp, Check}
 
 -- Four workers and a budget of 100,000 stand by default.
-pub edf_alone : meaning_of (codes "drt" ∷ codes "edf" ∷ []) ≡ Some (Edf 4 100000)
+pub edf_alone : meaning_of (codes "drt" ∷ codes "edf" ∷ []) ≡ Some (Edf (record { workers = 4; budget = 100000 }))
 unfolding clap_on_literals
 edf_alone = refl
 
-pub sp_joined : meaning_of (codes "drt" ∷ codes "sp" ∷ codes "--workers=2" ∷ codes "--budget=50" ∷ []) ≡ Some (Sp 2 50)
+pub sp_joined : meaning_of (codes "drt" ∷ codes "sp" ∷ codes "--workers=2" ∷ codes "--budget=50" ∷ []) ≡ Some (Sp (record { workers = 2; budget = 50 }))
 unfolding clap_on_literals
 sp_joined = refl
 
-pub edf_apart : meaning_of (codes "drt" ∷ codes "edf" ∷ codes "--budget" ∷ codes "7" ∷ codes "--workers" ∷ codes "16" ∷ []) ≡ Some (Edf 16 7)
+pub edf_apart : meaning_of (codes "drt" ∷ codes "edf" ∷ codes "--budget" ∷ codes "7" ∷ codes "--workers" ∷ codes "16" ∷ []) ≡ Some (Edf (record { workers = 16; budget = 7 }))
 unfolding clap_on_literals
 edf_apart = refl
 
