@@ -46,14 +46,18 @@ abbrev pub replies : Setting → State → List FrontierEntry → List FrontierR
 replies t s [] = []
 replies t s (e ∷ es) = (step_of t s e.worker e.step).reply ∷ replies t (step_of t s e.worker e.step).state es
 
+-- The steps of one worker on the narrow forest: its combination is split, the left part passes, and the right one fails.
 abbrev pub steps_of_narrow : List FrontierEntry
 steps_of_narrow = by 0 Take ∷ by 0 (Split 0 0) ∷ by 0 Take ∷ by 0 (Pass 1 4) ∷ by 0 Take ∷ by 0 (Fail 2) ∷ by 0 Take ∷ []
 
+-- What they are answered.
 abbrev pub replies_to_narrow : List FrontierReply
 replies_to_narrow = Taken 0 ∷ Halved 1 2 ∷ Taken 1 ∷ Passed ∷ Taken 2 ∷ Failed 2 ∷ Failed 2 ∷ []
 
+-- The steps of three workers on the wide forest.
 abbrev pub steps_of_wide : List FrontierEntry
 steps_of_wide = by 0 Take ∷ by 1 Take ∷ by 0 (Split 0 0) ∷ by 0 Take ∷ by 1 Take ∷ by 1 (Pass 2 4) ∷ by 1 Take ∷ by 0 (Pass 1 5) ∷ by 2 Take ∷ []
 
+-- What they are answered.
 abbrev pub replies_to_wide : List FrontierReply
 replies_to_wide = Taken 0 ∷ Busy 0 ∷ Halved 1 2 ∷ Taken 1 ∷ Taken 2 ∷ Passed ∷ Busy 1 ∷ Passed ∷ Finished ∷ []
