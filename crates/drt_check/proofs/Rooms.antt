@@ -4,7 +4,7 @@ use Rattle.std.specs.Prelude.{Some, None}
 use Rattle.drt_model.specs.Digraph.{Digraph}
 use Rattle.drt_sweep.specs.DueWorks.{IsFirstExcess, works_of}
 use Rattle.drt_sweep.proofs.Lists.{sums_same}
-use Rattle.drt_evidence.specs.declared.evidence.FrontEntry.{FrontEntry}
+use Rattle.drt_model.specs.declared.front.FrontEntry.{FrontEntry}
 use Rattle.drt_evidence.specs.Claims.{Each}
 use Rattle.drt_evidence.specs.Fronts.{due, works_due, HaveRoom}
 use Rattle.drt_check.proofs.SoundRoom.{room_at}

@@ -10,7 +10,7 @@ use Rattle.drt_graph.proofs.Edges.{edge_of_sep, target_of}
 use Rattle.drt_graph.proofs.Paths.{span_cons, span_none, work_cons, work_none}
 use Rattle.drt_busy.specs.Choice.{AreDueBy, AreWalks, IsWalk, due_of, efforts}
 use Rattle.drt_sweep.specs.Dues.{sum_due}
-use Rattle.drt_evidence.specs.declared.evidence.FrontEntry.{FrontEntry}
+use Rattle.drt_model.specs.declared.front.FrontEntry.{FrontEntry}
 use Rattle.drt_evidence.specs.Claims.{Each, graphs_of}
 use Rattle.drt_evidence.specs.Fronts.{Covers, HasOpenings, IsClosedFront, IsExtended, due, work_due, works_due}
 use Rattle.drt_check.proofs.SoundWalks.{efforts_cons, efforts_none}

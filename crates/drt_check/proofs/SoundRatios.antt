@@ -9,7 +9,7 @@ use Rattle.std.proofs.lemmas.Nat.Gcd.{IsGcd-from_zero, IsGcd-swap, same_from_IsG
 use Rattle.drt_model.specs.Digraph.{Digraph, digraph_of}
 use Rattle.drt_model.specs.Potential.{potential_of}
 use Rattle.drt_model.specs.RatioRules.{FitPotentials, IsClosed, IsTight}
-use Rattle.drt_model.specs.Utilisation.{AreRatios, HasRatio, IsLeast}
+use Rattle.drt_model.specs.Utilisation.{AreRatios, HasRatio, BoundsCycles}
 use Rattle.drt_model.specs.Walk.{gap, last_of, span, work}
 use Rattle.drt_graph.proofs.Bounds.{rises}
 use Rattle.drt_evidence.specs.declared.evidence.RatioClaim.{RatioClaim}
@@ -19,7 +19,7 @@ use Rattle.drt_model.specs.declared.tasks.Task.{Task}
 use Rattle.drt_evidence.proofs.Accepting.{IsUtilisationOne}
 
 -- Round a cycle the potentials rise by nothing, so that it gains nothing.
-no_cycle_gains : (g : Digraph) (a b : ℕ) (hs : List ℤ) → FitPotentials g a b hs → IsLeast g a b
+no_cycle_gains : (g : Digraph) (a b : ℕ) (hs : List ℤ) → FitPotentials g a b hs → BoundsCycles g a b
 no_cycle_gains g a b hs fits [] is = absurd is
 no_cycle_gains g a b hs fits (v ∷ vs) is =
     let r : (pos (b * work g (v ∷ vs)) -ℤ pos (a * span g (last_of v vs) (v ∷ vs))) ≤ℤ (potential_of hs (last_of v vs) -ℤ potential_of hs (last_of v vs)) =

@@ -4,7 +4,7 @@ use Rattle.std.proofs.lemmas.Bool.{eqb-true}
 use Rattle.std.proofs.lemmas.Bool.Decides.{nat_tests}
 use Rattle.drt_model.specs.Digraph.{Digraph}
 use Rattle.drt_sweep.specs.Dues.{sum_due}
-use Rattle.drt_evidence.specs.declared.evidence.FrontEntry.{FrontEntry}
+use Rattle.drt_model.specs.declared.front.FrontEntry.{FrontEntry}
 use Rattle.drt_evidence.specs.Claims.{Each}
 use Rattle.drt_evidence.specs.Fronts.{HaveRoom, due, work_due, works_due}
 

@@ -13,7 +13,7 @@ use Rattle.drt_busy.specs.Decide.{DeadlinesDecide}
 use Rattle.drt_graph.proofs.Soundness.{are_graphs}
 use Rattle.drt_evidence.specs.Claims.{graphs_of}
 use Rattle.drt_evidence.specs.Fronts.{HasOpenings}
-use Rattle.drt_evidence.specs.declared.evidence.FrontEntry.{FrontEntry}
+use Rattle.drt_model.specs.declared.front.FrontEntry.{FrontEntry}
 use Rattle.drt_evidence.specs.declared.evidence.RatioClaim.{RatioClaim}
 use Rattle.drt_evidence.proofs.Accepting.{IsEdfYes}
 use Rattle.drt_check.proofs.Eachs.{each_count}

@@ -1,35 +1,30 @@
 -- Demand labels as values.
 use Rattle.std.specs.Prelude.{ℕ, ◌+◌, ◌*◌, ◌≤◌, Bool, true, ◌==◌, nat_le, ◌&&◌}
 use Rattle.drt_label.specs.Algebra.{Algebra}
-
--- The last vertex of a walk, the sum of its separations and the sum of its execution times.
-pub record Demand : Type 0 where
-  pub vertex : ℕ
-  pub offset : ℕ
-  pub work : ℕ
+use Rattle.drt_model.specs.declared.front.FrontEntry.{FrontEntry}
 
 -- The greatest bound of a table of demand labels, 2^40 ticks.
 abbrev pub greatest_bound : ℕ
 greatest_bound = 1099511627776
 
 -- The label of the walk of one vertex.
-abbrev pub opening : ℕ → ℕ → ℕ → Demand
+abbrev pub opening : ℕ → ℕ → ℕ → FrontEntry
 opening number wcet bound = record { vertex = number; offset = 0; work = wcet }
 
 -- The label of a walk that goes on by an edge.
-abbrev pub extend : Demand → ℕ → ℕ → ℕ → Demand
+abbrev pub extend : FrontEntry → ℕ → ℕ → ℕ → FrontEntry
 extend x sep target wcet = record { vertex = target; offset = x.offset + sep; work = x.work + wcet }
 
 -- A label is in range where its last job is due within the bound.
-abbrev pub in_range : Demand → ℕ → ℕ → Bool
+abbrev pub in_range : FrontEntry → ℕ → ℕ → Bool
 in_range x deadline bound = nat_le (x.offset + deadline) bound
 
 -- A label dominates one of the same vertex that is no earlier and has no more work.
-abbrev pub dominates : Demand → Demand → Bool
+abbrev pub dominates : FrontEntry → FrontEntry → Bool
 dominates x y = (x.vertex == y.vertex) && (nat_le x.offset y.offset && nat_le y.work x.work)
 
 -- Demand labels: each is of every bound up to the greatest one, and extendable where its offset is at most that.
-abbrev pub demand_algebra : Algebra Demand
+abbrev pub demand_algebra : Algebra FrontEntry
 demand_algebra = record {
   takes_bound = λ bound. nat_le bound greatest_bound;
   opening = opening;
@@ -44,5 +39,5 @@ demand_algebra = record {
 }
 
 -- What the type of demand labels keeps: the offset and the work are within these limits.
-abbrev pub IsWithinLimits : Demand → Type 0
+abbrev pub IsWithinLimits : FrontEntry → Type 0
 IsWithinLimits x = (x.offset ≤ greatest_bound + 1000000) × (x.work ≤ 1000000 * (x.offset + 1))

@@ -24,9 +24,9 @@ pub struct DemandLabel {
 }
 
 impl Model for DemandLabel {
-    ghost use Rattle.drt_demand.specs.Demand.{Demand};
+    ghost use Rattle.drt_model.specs.declared.front.FrontEntry.{FrontEntry};
 
-    ghost Value = { Demand };
+    ghost Value = { FrontEntry };
 
     ghost use Rattle.drt_demand.specs.Demand.{IsWithinLimits};
 

@@ -7,7 +7,8 @@ use Rattle.std.proofs.lemmas.List.{append-nil}
 use Rattle.drt_model.specs.declared.tasks.Edge.{Edge}
 use Rattle.drt_model.specs.Digraph.{IsSound, vertex_count, edge_of}
 use Rattle.drt_model.specs.Walk.{deadline}
-use Rattle.drt_demand.specs.Demand.{Demand, demand_algebra}
+use Rattle.drt_model.specs.declared.front.FrontEntry.{FrontEntry}
+use Rattle.drt_demand.specs.Demand.{demand_algebra}
 use Rattle.drt_demand.proofs.Comparable.{comparable}
 use Rattle.drt_table.specs.Machine.{Setting, State, step_of, opening_state, replay_from, IsRun, IsRunFrom, replay, is_finished, in_range}
 use Rattle.drt_table.specs.View.{View, IsTable, setting_of, state_of}
@@ -18,7 +19,7 @@ use Rattle.drt_edf.specs.Bounded.{SearchesAreBounded}
 use Rattle.drt_edf.specs.Spent.{most_out, search_of, table_need}
 
 -- The label of an in-range walk to v is of v, which is a vertex, and is in range.
-pub label_of : (t : Setting) (v : ℕ) (before : List ℕ) (l : Demand) → IsSound t.graph → WalkTo demand_algebra t v before l → (l.vertex ≡ v) × (v < vertex_count t.graph) × IsTrue (in_range demand_algebra t l)
+pub label_of : (t : Setting) (v : ℕ) (before : List ℕ) (l : FrontEntry) → IsSound t.graph → WalkTo demand_algebra t v before l → (l.vertex ≡ v) × (v < vertex_count t.graph) × IsTrue (in_range demand_algebra t l)
 label_of t v [] l sound w = (ap (λ x. x.vertex) w.1, w.0, w.2)
 label_of t v (u ∷ before) l sound w =
     let h = label_of t u before w.1 sound w.2 in
@@ -28,14 +29,14 @@ label_of t v (u ∷ before) l sound w =
     (same ∙ (e ∙ w.4), rw w.4 at to, w.6)
 
 -- So its offset is at most the bound.
-label_within : (t : Setting) (l : Demand) → IsSound t.graph → IsWalkLabel demand_algebra t l → (l.vertex < vertex_count t.graph) × (l.offset ≤ t.bound)
+label_within : (t : Setting) (l : FrontEntry) → IsSound t.graph → IsWalkLabel demand_algebra t l → (l.vertex < vertex_count t.graph) × (l.offset ≤ t.bound)
 label_within t l sound w =
     let h = label_of t w.0 w.1 l sound w.2 in
     let d : l.offset + deadline t.graph l.vertex ≤ t.bound = leb-true (l.offset + deadline t.graph l.vertex) t.bound h.2 in
     (omega (arith, h.0, h.1), omega (arith, d))
 
 -- The slot of a label: its place among all vertices and offsets up to the bound.
-abbrev pub slot : ℕ → Demand → ℕ
+abbrev pub slot : ℕ → FrontEntry → ℕ
 slot bound x = x.vertex * (bound + 1) + x.offset
 
 slot_below : (v o count bound : ℕ) → v < count → o ≤ bound → v * (bound + 1) + o < count * (bound + 1)
@@ -80,7 +81,7 @@ abbrev pub AreShort : Type 0
 AreShort = (t : Setting) (log : List Entry) (g : ℕ) → IsSound t.graph → IsTrue (demand_algebra.takes_bound t.bound) → IsRun demand_algebra t log → IsDegree demand_algebra t g → IsShort demand_algebra t g (replay demand_algebra t log)
 
 abbrev pub AreFew : Type 0
-AreFew = (t : Setting) (log : List Entry) (slot : Demand → ℕ) (many : ℕ) → IsSound t.graph → IsTrue (demand_algebra.takes_bound t.bound) → IsRun demand_algebra t log → AreSlots demand_algebra t slot many → kept_count (replay demand_algebra t log).nodes ≤ many
+AreFew = (t : Setting) (log : List Entry) (slot : FrontEntry → ℕ) (many : ℕ) → IsSound t.graph → IsTrue (demand_algebra.takes_bound t.bound) → IsRun demand_algebra t log → AreSlots demand_algebra t slot many → kept_count (replay demand_algebra t log).nodes ≤ many
 
 abbrev pub AreOnce : Type 0
 AreOnce = (t : Setting) (log : List Entry) → IsSound t.graph → IsTrue (demand_algebra.takes_bound t.bound) → IsRun demand_algebra t log → IsBounded (replay demand_algebra t log)
@@ -91,7 +92,7 @@ scaled n kept many g l m =
     omega arith
 
 -- An unfinished table has fewer steps than the search needs.
-pub unfinished_short : AreShort → AreFew → (v : View Demand) → IsTable demand_algebra v → is_finished demand_algebra (setting_of v) (state_of v) ≡ false → length v.log < table_need v.graph v.bound
+pub unfinished_short : AreShort → AreFew → (v : View FrontEntry) → IsTable demand_algebra v → is_finished demand_algebra (setting_of v) (state_of v) ≡ false → length v.log < table_need v.graph v.bound
 unfinished_short short few v is unfinished =
     let t = setting_of v in
     let s = short t v.log (most_out v.graph.out) is.sound is.bound is.run (λ u l. most_row v.graph.out u) in
@@ -108,7 +109,7 @@ scaled_most n kept many g l m =
 
 -- The log of the state after a run is the run.
 module _ (t : Setting) where
-  run_log_from : (es : List Entry) (s : State Demand) → IsRunFrom demand_algebra t s es → (replay_from demand_algebra t s es).log ≡ s.log ++ es
+  run_log_from : (es : List Entry) (s : State FrontEntry) → IsRunFrom demand_algebra t s es → (replay_from demand_algebra t s es).log ≡ s.log ++ es
   run_log_from [] s run = sym (append-nil s.log)
   run_log_from (e ∷ es) s run =
       let h = run_log_from es (step_of demand_algebra t s e.worker e.step).state run.2 in

@@ -5,13 +5,12 @@ use Rattle.std.proofs.Math.Nat.{le-max_left, le-max_right}
 use Rattle.std.proofs.lemmas.Bool.{le-leb}
 use Rattle.drt_model.specs.Digraph.{Digraph, vertex_count}
 use Rattle.drt_model.specs.Walk.{IsPath, last_of, work, span, deadline}
-use Rattle.drt_demand.specs.Demand.{Demand}
+use Rattle.drt_model.specs.declared.front.FrontEntry.{FrontEntry}
 use Rattle.drt_demand.specs.Dbf.{dbf_at}
 use Rattle.drt_graph.proofs.Paths.{work_none}
 use Rattle.drt_sweep.specs.Dues.{sum_due}
 use Rattle.drt_horizon.specs.Demands.{demands}
 use Rattle.drt_horizon.specs.Laws.{IsDue, AreDue, efforts}
-use Rattle.drt_evidence.specs.declared.evidence.FrontEntry.{FrontEntry}
 use Rattle.drt_evidence.specs.Fronts.{due, work_due}
 use Rattle.drt_edf.specs.Walks.{IsWalkEntry}
 use Rattle.drt_edf.specs.LabelFronts.{entries_of, IsLabelFront, AreLabelFronts}
@@ -29,7 +28,7 @@ most_here true w r n e l = omega (arith, le-max_left w r)
 most_here false w r n e l = absurd (cc)
 
 -- A label that is due by t has at most the demand of t.
-pub label_within : (g : Digraph) (front : List Demand) (t n k : ℕ) (e : FrontEntry) → k < length (entries_of front) → get_or (entries_of front) k e ≡ e → due g e ≤ t → n ≤ e.work → n ≤ dbf_at g front t
+pub label_within : (g : Digraph) (front : List FrontEntry) (t n k : ℕ) (e : FrontEntry) → k < length (entries_of front) → get_or (entries_of front) k e ≡ e → due g e ≤ t → n ≤ e.work → n ≤ dbf_at g front t
 label_within g [] t n k e l at d m = absurd (omega arith)
 label_within g (x ∷ front) t n zero e l at d m =
     let f : x.offset + deadline g x.vertex ≡ due g e = ap (λ y. due g y) at in
@@ -41,7 +40,7 @@ label_within g (x ∷ front) t n (suc k) e l at d m =
     omega (arith, h, r)
 
 -- So has a walk that is due by t.
-pub walk_within : (g : Digraph) (bound t : ℕ) (front : List Demand) → IsLabelFront g bound front → t ≤ bound → (w : List ℕ) → IsDue g t w → work g w ≤ dbf_at g front t
+pub walk_within : (g : Digraph) (bound t : ℕ) (front : List FrontEntry) → IsLabelFront g bound front → t ≤ bound → (w : List ℕ) → IsDue g t w → work g w ≤ dbf_at g front t
 walk_within g bound t front is l [] d = rw work_none (omega arith)
 walk_within g bound t front is l (u ∷ vs) d =
     let c = is.covers (walk_entry g u vs) (walk_entry_is g bound u vs d.0 d.1 (omega (arith, d.2, l))) in
@@ -49,7 +48,7 @@ walk_within g bound t front is l (u ∷ vs) d =
     label_within g front t (work g (u ∷ vs)) c.0 c.1 c.2 c.3 (omega (arith, same, c.4.1, d.2)) c.4.2
 
 -- Walks of the graphs that are due by t have together at most the demands of t.
-pub all_within : (graphs : List Digraph) (bound t : ℕ) (fronts : List (List Demand)) (walks : List (List ℕ)) → AreLabelFronts bound graphs fronts → t ≤ bound → AreDue t graphs walks → efforts graphs walks ≤ demands graphs fronts t
+pub all_within : (graphs : List Digraph) (bound t : ℕ) (fronts : List (List FrontEntry)) (walks : List (List ℕ)) → AreLabelFronts bound graphs fronts → t ≤ bound → AreDue t graphs walks → efforts graphs walks ≤ demands graphs fronts t
 unfolding efforts sum_due
 all_within [] bound t fronts walks are l d = omega arith
 all_within (g ∷ graphs) bound t [] walks are l d = absurd are
@@ -60,6 +59,6 @@ all_within (g ∷ graphs) bound t (f ∷ fronts) (w ∷ walks) are l d =
     omega (arith, h, r)
 
 -- The demand of t over labels is the work of their entries that are due by t.
-pub work_same : (g : Digraph) (front : List Demand) (t : ℕ) → work_due g (entries_of front) t ≡ dbf_at g front t
+pub work_same : (g : Digraph) (front : List FrontEntry) (t : ℕ) → work_due g (entries_of front) t ≡ dbf_at g front t
 work_same g [] t = refl
 work_same g (x ∷ front) t = ap (λ n. max (cond (nat_le (x.offset + deadline g x.vertex) t) x.work 0) n) (work_same g front t)

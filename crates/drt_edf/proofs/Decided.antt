@@ -4,7 +4,7 @@ use Rattle.std.specs.Prelude.{Ok}
 use Rattle.drt_model.specs.declared.tasks.Task.{Task}
 use Rattle.drt_model.specs.Digraph.{Digraph, IsSound}
 use Rattle.drt_graph.specs.Graphs.{AreGraphs}
-use Rattle.drt_demand.specs.Demand.{Demand}
+use Rattle.drt_model.specs.declared.front.FrontEntry.{FrontEntry}
 use Rattle.drt_ratio.specs.declared.ratio_proof.RatioProof.{RatioProof}
 use Rattle.drt_horizon.specs.declared.answers.Horizon.TheVariants.{Under}
 use Rattle.drt_horizon.specs.Given.{AreGiven}
@@ -23,7 +23,7 @@ use Rattle.drt_edf.proofs.RatioClaims.{all_cons, head_of, tail_of, claims_count,
 use Rattle.drt_edf.proofs.Suffixes.{AreListed, are_listed}
 use Rattle.drt_edf.proofs.Yes.{front_in_range, fronts_count}
 
-fronts_in_range : (graphs : List Digraph) (bound : ℕ) (fronts : List (List Demand)) → All IsSound graphs → bound ≤ 1099511627776 → AreLabelFronts bound graphs fronts → All IsCounted (map entries_of fronts) → All IsInRangeFront (map entries_of fronts)
+fronts_in_range : (graphs : List Digraph) (bound : ℕ) (fronts : List (List FrontEntry)) → All IsSound graphs → bound ≤ 1099511627776 → AreLabelFronts bound graphs fronts → All IsCounted (map entries_of fronts) → All IsInRangeFront (map entries_of fronts)
 fronts_in_range [] bound [] sound near are counted = λ k d l. absurd (omega arith)
 fronts_in_range [] bound (f ∷ fronts) sound near are counted = absurd (let h = ap length are in omega (arith, h))
 fronts_in_range (g ∷ graphs) bound [] sound near are counted = absurd are
@@ -33,7 +33,7 @@ fronts_in_range (g ∷ graphs) bound (f ∷ fronts) sound near are counted =
     (fronts_in_range graphs bound fronts (tail_of IsSound g graphs sound) near are.1 (tail_of IsCounted (entries_of f) (map entries_of fronts) counted))
 
 -- The numbers of a yes are in range.
-pub yes_in_range : (graphs : List Digraph) (proofs : List RatioProof) (bound : ℕ) (fronts : List (List Demand)) → AreGraphs graphs → AreGiven graphs proofs → bound ≤ 1099511627776 → AreLabelFronts bound graphs fronts → All IsCounted (map entries_of fronts) → IsInRange (EdfYes (claims_of proofs) (map entries_of fronts))
+pub yes_in_range : (graphs : List Digraph) (proofs : List RatioProof) (bound : ℕ) (fronts : List (List FrontEntry)) → AreGraphs graphs → AreGiven graphs proofs → bound ≤ 1099511627776 → AreLabelFronts bound graphs fronts → All IsCounted (map entries_of fronts) → IsInRange (EdfYes (claims_of proofs) (map entries_of fronts))
 yes_in_range graphs proofs bound fronts are given near label counted =
     let n = claims_count graphs proofs given in
     let m = fronts_count graphs bound fronts label in
@@ -58,5 +58,5 @@ spent_table tasks proofs given bound plan budget task log s = record {
 }
 
 -- Walks of demand with more work than time, as walks of the tasks.
-pub listed_walks : (tasks : List Task) (fronts : List (List Demand)) (t : ℕ) (walks : List (List ℕ)) → AreDemandWalks (graphs_of tasks) fronts t walks → AreListed tasks walks t
+pub listed_walks : (tasks : List Task) (fronts : List (List FrontEntry)) (t : ℕ) (walks : List (List ℕ)) → AreDemandWalks (graphs_of tasks) fronts t walks → AreListed tasks walks t
 listed_walks tasks fronts t walks are = are_listed tasks walks t (walks_due (graphs_of tasks) fronts t walks are)

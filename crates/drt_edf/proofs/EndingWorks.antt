@@ -8,7 +8,8 @@ use Rattle.std.proofs.lemmas.List.{get_or_append_left}
 use Rattle.drt_model.specs.declared.tasks.Edge.{Edge}
 use Rattle.drt_model.specs.Digraph.{Digraph, IsSound, edge_of, out_degree, vertex_count}
 use Rattle.drt_model.specs.Walk.{deadline, wcet}
-use Rattle.drt_demand.specs.Demand.{Demand, demand_algebra}
+use Rattle.drt_model.specs.declared.front.FrontEntry.{FrontEntry}
+use Rattle.drt_demand.specs.Demand.{demand_algebra}
 use Rattle.drt_table.specs.Machine.{in_range, extended}
 use Rattle.drt_table.specs.Walk.{WalkTo}
 use Rattle.drt_edf.specs.Spent.{search_of}
@@ -21,7 +22,7 @@ le_true a b l = grind (arith, nat_tests)
 
 module _ (g : Digraph) (sound : IsSound g) (bound : ℕ) where
   -- The last step of a walk.
-  step_back : (v u : ℕ) (before : List ℕ) (l : Demand) (w : WalkTo demand_algebra (search_of g bound 0) v (u ∷ before) l) → (l.offset ≡ w.1.offset + (edge_of g u w.0).sep) × (l.work ≡ w.1.work + wcet g v) × (u < vertex_count g)
+  step_back : (v u : ℕ) (before : List ℕ) (l : FrontEntry) (w : WalkTo demand_algebra (search_of g bound 0) v (u ∷ before) l) → (l.offset ≡ w.1.offset + (edge_of g u w.0).sep) × (l.work ≡ w.1.work + wcet g v) × (u < vertex_count g)
   step_back v u before l w =
       let h = label_of (search_of g bound 0) u before w.1 sound w.2 in
       let o : l.offset ≡ w.1.offset + (edge_of g w.1.vertex w.0).sep = ap (λ x. x.offset) w.5 in
@@ -31,7 +32,7 @@ module _ (g : Digraph) (sound : IsSound g) (bound : ℕ) where
       (o ∙ ap (λ x. w.1.offset + x) s, p ∙ ap (λ x. w.1.work + x) q, h.1)
 
   -- A walk has some work, and at most that of a vertex at each tick.
-  work_some : (v : ℕ) (before : List ℕ) (l : Demand) → WalkTo demand_algebra (search_of g bound 0) v before l → 1 ≤ l.work
+  work_some : (v : ℕ) (before : List ℕ) (l : FrontEntry) → WalkTo demand_algebra (search_of g bound 0) v before l → 1 ≤ l.work
   work_some v [] l w =
       let one = sound.wcet v w.0 in
       let e : l.work ≡ wcet g v = ap (λ x. x.work) w.1 in
@@ -41,7 +42,7 @@ module _ (g : Digraph) (sound : IsSound g) (bound : ℕ) where
       let h = work_some u before w.1 w.2 in
       omega (arith, s.1, h)
 
-  work_small : (v : ℕ) (before : List ℕ) (l : Demand) → WalkTo demand_algebra (search_of g bound 0) v before l → l.work ≤ 1000000 * (l.offset + 1)
+  work_small : (v : ℕ) (before : List ℕ) (l : FrontEntry) → WalkTo demand_algebra (search_of g bound 0) v before l → l.work ≤ 1000000 * (l.offset + 1)
   work_small v [] l w =
       let one = sound.wcet v w.0 in
       let e : l.work ≡ wcet g v = ap (λ x. x.work) w.1 in

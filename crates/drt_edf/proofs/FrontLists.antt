@@ -9,7 +9,8 @@ use Rattle.std.proofs.lemmas.List.Elements.{All-map, All-weaker, All-contains, C
 use Rattle.std.proofs.lemmas.Map.Keys.{IsDistinct-from_apart, apart_from_distinct}
 use Rattle.drt_model.specs.Digraph.{IsSound, IsConstrainedGraph, vertex_count}
 use Rattle.drt_model.specs.Legal.{AllNeighbours}
-use Rattle.drt_demand.specs.Demand.{Demand, demand_algebra, dominates}
+use Rattle.drt_model.specs.declared.front.FrontEntry.{FrontEntry}
+use Rattle.drt_demand.specs.Demand.{demand_algebra, dominates}
 use Rattle.drt_demand.specs.Laws.{demand_laws}
 use Rattle.drt_demand.proofs.Comparable.{comparable}
 use Rattle.drt_table.specs.Node.{NodeOf}
@@ -19,7 +20,6 @@ use Rattle.drt_table.specs.declared.step.Entry.{Entry}
 use Rattle.drt_table.specs.Walk.{IsWalkLabel}
 use Rattle.drt_table.specs.Cover.{IsFront, IsNonDominated as IsAlone, KeptAt}
 use Rattle.drt_table.proofs.Walks.{walk_vertex, walk_within}
-use Rattle.drt_evidence.specs.declared.evidence.FrontEntry.{FrontEntry}
 use Rattle.drt_evidence.specs.Fronts.{Covers, IsWithin, IsNextEntry}
 use Rattle.drt_edf.specs.KeptNodes.{IsKeptEntry, IsEarlier, IsLower, AreKept, AreInOrder, labels_of}
 use Rattle.drt_edf.specs.LabelFronts.{entry_of, entries_of, IsLabelFront}
@@ -57,23 +57,23 @@ FrontLaw =
     → IsTrue (is_finished demand_algebra t (replay demand_algebra t log)) → IsFront demand_algebra t (replay demand_algebra t log).nodes
 
 -- So the nodes of a finished table are one.
-pub finished_front : (v : View Demand) → IsTable demand_algebra v → IsTrue (is_finished demand_algebra (setting_of v) (state_of v)) → FrontLaw → IsFront demand_algebra (setting_of v) (state_of v).nodes
+pub finished_front : (v : View FrontEntry) → IsTable demand_algebra v → IsTrue (is_finished demand_algebra (setting_of v) (state_of v)) → FrontLaw → IsFront demand_algebra (setting_of v) (state_of v).nodes
 finished_front v is done front =
     subst (λ s. IsFront demand_algebra (setting_of v) s.nodes) (sym is.state) (front (setting_of v) v.log is.sound is.bound is.run (subst (λ s. IsTrue (is_finished demand_algebra (setting_of v) s)) is.state done))
 
 -- Two labels have one vertex and one offset.
-abbrev pub same_place : Demand → Demand → Bool
+abbrev pub same_place : FrontEntry → FrontEntry → Bool
 same_place x y = (x.vertex == y.vertex) && (x.offset == y.offset)
 
 -- The labels are those that no different one dominates, no two of one vertex and one offset.
-pub record AreAlone (t : Setting) (labels : List Demand) : Type 0 where
+pub record AreAlone (t : Setting) (labels : List FrontEntry) : Type 0 where
   pub sound : All (IsAlone demand_algebra t) labels
-  pub complete : (l : Demand) → IsAlone demand_algebra t l → Contains labels l
+  pub complete : (l : FrontEntry) → IsAlone demand_algebra t l → Contains labels l
   pub apart : IsDistinct same_place labels
 
 module _ (t : Setting) (sound : IsSound t.graph) where
   -- Labels that are alone and of one place are equal.
-  one_place : (x y : Demand) → IsAlone demand_algebra t x → IsAlone demand_algebra t y → same_place x y ≡ true → x ≡ y
+  one_place : (x y : FrontEntry) → IsAlone demand_algebra t x → IsAlone demand_algebra t y → same_place x y ≡ true → x ≡ y
   one_place x y p q e =
       let vertex : x.vertex ≡ y.vertex = grind (arith, nat_tests) in
       let offset : x.offset ≡ y.offset = grind (arith, nat_tests) in
@@ -83,11 +83,11 @@ module _ (t : Setting) (sound : IsSound t.graph) where
       go (inl d) = q.alone x p.walk d
       go (inr d) = sym (p.alone y q.walk d)
 
-  label_within : (l : Demand) → IsWalkLabel demand_algebra t l → l.vertex < vertex_count t.graph
+  label_within : (l : FrontEntry) → IsWalkLabel demand_algebra t l → l.vertex < vertex_count t.graph
   label_within l w =
       subst (λ v. v < vertex_count t.graph) (sym (walk_vertex demand_algebra demand_laws t w.0 w.1 l w.2)) (walk_within demand_algebra demand_laws t sound w.0 w.1 l w.2)
 
-  module _ (nodes : List (NodeOf Demand)) (front : IsFront demand_algebra t nodes) where
+  module _ (nodes : List (NodeOf FrontEntry)) (front : IsFront demand_algebra t nodes) where
     entry_is_alone : (x : Kept) → IsKeptEntry nodes x → IsAlone demand_algebra t x.label
     entry_is_alone x e = subst (IsAlone demand_algebra t) e.label (front.sound x.node e.node (record { at = e.at; kept = ap (λ o. is_none o) e.kept }))
 
@@ -112,7 +112,7 @@ module _ (t : Setting) (sound : IsSound t.graph) where
     -- The labels of all kept nodes are those that are alone, and they stand in order.
     module _ (kept : List Kept) (are : AreKept (vertex_count t.graph) nodes kept) where
       -- What holds of the entries at two places holds of their labels.
-      both : (R : Demand → Demand → Type 0) → ((x y : Kept) → IsKeptEntry nodes x → IsKeptEntry nodes y → IsLower x y → R x.label y.label) → AllPairs R (labels_of kept)
+      both : (R : FrontEntry → FrontEntry → Type 0) → ((x y : Kept) → IsKeptEntry nodes x → IsKeptEntry nodes y → IsLower x y → R x.label y.label) → AllPairs R (labels_of kept)
       both R each i j d l m =
           let e = length-map kept (λ k. k.label) in
           let q : j < length kept = omega (arith, m, e) in
@@ -131,7 +131,7 @@ module _ (t : Setting) (sound : IsSound t.graph) where
         apart = IsDistinct-from_apart same_place (labels_of kept) (both (λ x y. same_place x y ≡ false) entries_apart);
       }
         where
-          complete : (l : Demand) → IsAlone demand_algebra t l → Contains (labels_of kept) l
+          complete : (l : FrontEntry) → IsAlone demand_algebra t l → Contains (labels_of kept) l
           complete l is =
               let k = front.complete l is in
               let at : KeptAt demand_algebra t nodes k.0 k.1 = k.2 in
@@ -150,11 +150,11 @@ module _ (t : Setting) (sound : IsSound t.graph) where
               at_most (inl m) = omega (arith, m)
               at_most (inr m) = let e = m.0 in omega (arith, e)
 
-module _ (t : Setting) (sound : IsSound t.graph) (con : IsConstrainedGraph t.graph) (nodes : List (NodeOf Demand)) (front : IsFront demand_algebra t nodes) (labels : List Demand) (are : AreAlone t labels) where
-  is_within : (l : Demand) → IsAlone demand_algebra t l → IsWithin t.graph t.bound (entry_of l)
+module _ (t : Setting) (sound : IsSound t.graph) (con : IsConstrainedGraph t.graph) (nodes : List (NodeOf FrontEntry)) (front : IsFront demand_algebra t nodes) (labels : List FrontEntry) (are : AreAlone t labels) where
+  is_within : (l : FrontEntry) → IsAlone demand_algebra t l → IsWithin t.graph t.bound (entry_of l)
   is_within l is = (label_within t sound l is.walk, (walk_entry t sound l is.walk).within)
 
-  is_next : (x y : Demand) → IsAlone demand_algebra t x → IsAlone demand_algebra t y → same_place x y ≡ false → (x.vertex < y.vertex) ⊎ ((x.vertex ≡ y.vertex) × (x.offset ≤ y.offset)) → IsNextEntry (entry_of x) (entry_of y)
+  is_next : (x y : FrontEntry) → IsAlone demand_algebra t x → IsAlone demand_algebra t y → same_place x y ≡ false → (x.vertex < y.vertex) ⊎ ((x.vertex ≡ y.vertex) × (x.offset ≤ y.offset)) → IsNextEntry (entry_of x) (entry_of y)
   is_next x y p q differ (inl l) = inl l
   is_next x y p q differ (inr l) = inr (l.0, later, more (cases_lt x.work y.work))
     where
@@ -176,7 +176,7 @@ module _ (t : Setting) (sound : IsSound t.graph) (con : IsConstrainedGraph t.gra
       let e = length-map labels entry_of in
       let q : i + 1 < length labels = omega (arith, l, e) in
       let p : i < length labels = omega (arith, q) in
-      let z : Demand = label_of d in
+      let z : FrontEntry = label_of d in
       let x = get_or-map entry_of labels i z d p in
       let y = get_or-map entry_of labels (i + 1) z d q in
       rw (x, y) (is_next (get_or labels i z) (get_or labels (i + 1) z) (are.sound i z p) (are.sound (i + 1) z q) (apart_from_distinct same_place labels i (i + 1) z are.apart (omega arith) q) (order i (i + 1) z (omega arith) q))
@@ -192,12 +192,12 @@ module _ (t : Setting) (sound : IsSound t.graph) (con : IsConstrainedGraph t.gra
   covered : (e : FrontEntry) → IsWalkEntry t.graph t.bound e → Any (Covers e.vertex e.offset e.work) (entries_of labels)
   covered e w =
       let c = front.covers (label_of e) (entry_walk t sound con e w) in
-      let l : Demand = c.node.label in
+      let l : FrontEntry = c.node.label in
       let has = contains_map entry_of labels l (are.complete l (front.sound c.by c.node c.kept)) in
       let d : IsTrue (dominates l (label_of e)) = c.dominates in
       (has.0, entry_of l, has.1, has.2, covers l d)
     where
-      covers : (l : Demand) → IsTrue (dominates l (label_of e)) → Covers e.vertex e.offset e.work (entry_of l)
+      covers : (l : FrontEntry) → IsTrue (dominates l (label_of e)) → Covers e.vertex e.offset e.work (entry_of l)
       covers l d = (grind (arith, nat_tests), grind (arith, nat_tests), grind (arith, nat_tests))
 
   -- In order, the labels that are alone are a front.

@@ -3,7 +3,7 @@ use Rattle.std.proofs.Common.{◌≡◌, ℕ, zero, suc, ◌+◌, ◌<◌, ◌�
 use Rattle.drt_model.specs.Digraph.{Digraph, vertex_count}
 use Rattle.drt_model.specs.Walk.{deadline}
 use Rattle.drt_graph.specs.Graphs.{graph_of}
-use Rattle.drt_demand.specs.Demand.{Demand}
+use Rattle.drt_model.specs.declared.front.FrontEntry.{FrontEntry}
 use Rattle.drt_table.specs.View.{View}
 use Rattle.drt_sweep.specs.Dues.{sum_due}
 use Rattle.drt_horizon.specs.Demands.{IsFront, AreFronts, demands}
@@ -15,22 +15,22 @@ use Rattle.drt_edf.proofs.RatioClaims.{all_cons, tail_of}
 use Rattle.drt_edf.proofs.Suffixes.{due_walk}
 
 -- The search of the graph of number k.
-pub searched_at : (bound : ℕ) (graphs : List Digraph) (views : List (View Demand)) → AreSearched bound graphs views → (k : ℕ) (d : View Demand) → k < length graphs → IsSearched bound (graph_of graphs k) (get_or views k d)
+pub searched_at : (bound : ℕ) (graphs : List Digraph) (views : List (View FrontEntry)) → AreSearched bound graphs views → (k : ℕ) (d : View FrontEntry) → k < length graphs → IsSearched bound (graph_of graphs k) (get_or views k d)
 searched_at bound [] views are k d l = absurd (omega arith)
 searched_at bound (g ∷ graphs) [] are k d l = absurd are
 searched_at bound (g ∷ graphs) (v ∷ views) are zero d l = are.0
 searched_at bound (g ∷ graphs) (v ∷ views) are (suc k) d l = searched_at bound graphs views are.1 k d (omega arith)
 
 -- The same, as an element that was read.
-pub searched_here : (bound : ℕ) (graphs : List Digraph) (views : List (View Demand)) → AreSearched bound graphs views → (k : ℕ) (v : View Demand) → k < length graphs → v ≡ get_or views k v → IsSearched bound (graph_of graphs k) v
+pub searched_here : (bound : ℕ) (graphs : List Digraph) (views : List (View FrontEntry)) → AreSearched bound graphs views → (k : ℕ) (v : View FrontEntry) → k < length graphs → v ≡ get_or views k v → IsSearched bound (graph_of graphs k) v
 searched_here bound graphs views are k v l is = subst (λ x. IsSearched bound (graph_of graphs k) x) (sym is) (searched_at bound graphs views are k v l)
 
 -- The front of a search.
-pub front_is : (bound : ℕ) (g : Digraph) (v : View Demand) (labels : List Demand) → IsSearched bound g v → IsLabelFront v.graph v.bound labels → IsLabelFront g bound labels
+pub front_is : (bound : ℕ) (g : Digraph) (v : View FrontEntry) (labels : List FrontEntry) → IsSearched bound g v → IsLabelFront v.graph v.bound labels → IsLabelFront g bound labels
 front_is bound g v labels s f = subst (λ x. IsLabelFront x bound labels) s.graph_is (subst (λ b. IsLabelFront v.graph b labels) s.bound_is f)
 
 -- The walk of demand of a search.
-pub walk_is : (bound : ℕ) (g : Digraph) (v : View Demand) (t : ℕ) (walk : List ℕ) (labels : List Demand) → IsSearched bound g v → ((ls : List Demand) → IsLabelFront v.graph v.bound ls → IsDemandWalk v.graph ls t walk) → IsLabelFront g bound labels → IsDemandWalk g labels t walk
+pub walk_is : (bound : ℕ) (g : Digraph) (v : View FrontEntry) (t : ℕ) (walk : List ℕ) (labels : List FrontEntry) → IsSearched bound g v → ((ls : List FrontEntry) → IsLabelFront v.graph v.bound ls → IsDemandWalk v.graph ls t walk) → IsLabelFront g bound labels → IsDemandWalk g labels t walk
 walk_is bound g v t walk labels s is f =
     let h = subst (λ x. IsLabelFront x bound labels) (sym s.graph_is) f in
     subst (λ x. IsDemandWalk x labels t walk) s.graph_is (is labels (subst (λ b. IsLabelFront v.graph b labels) (sym s.bound_is) h))
@@ -45,33 +45,33 @@ taken_count (x ∷ xs) (y ∷ ys) zero e = refl
 taken_count (x ∷ xs) (y ∷ ys) (suc k) e = ap suc (taken_count xs ys k (omega arith))
 
 -- There is one for each graph.
-pub searched_count : (bound : ℕ) (graphs : List Digraph) (views : List (View Demand)) → AreSearched bound graphs views → length views ≡ length graphs
+pub searched_count : (bound : ℕ) (graphs : List Digraph) (views : List (View FrontEntry)) → AreSearched bound graphs views → length views ≡ length graphs
 searched_count bound [] views are = ap length are
 searched_count bound (g ∷ graphs) [] are = absurd are
 searched_count bound (g ∷ graphs) (v ∷ views) are = ap suc (searched_count bound graphs views are.1)
 
 -- One more front.
-pub fronts_push : (bound : ℕ) (graphs : List Digraph) (fronts : List (List Demand)) (g : Digraph) (f : List Demand) → AreLabelFronts bound graphs fronts → IsLabelFront g bound f → AreLabelFronts bound (graphs ++ g ∷ []) (fronts ++ f ∷ [])
+pub fronts_push : (bound : ℕ) (graphs : List Digraph) (fronts : List (List FrontEntry)) (g : Digraph) (f : List FrontEntry) → AreLabelFronts bound graphs fronts → IsLabelFront g bound f → AreLabelFronts bound (graphs ++ g ∷ []) (fronts ++ f ∷ [])
 fronts_push bound [] [] g f are is = (is, refl)
 fronts_push bound [] (x ∷ fronts) g f are is = absurd (let h = ap length are in omega (arith, h))
 fronts_push bound (h ∷ graphs) [] g f are is = absurd are
 fronts_push bound (h ∷ graphs) (x ∷ fronts) g f are is = (are.0, fronts_push bound graphs fronts g f are.1 is)
 
 -- The front of the graph of number k.
-pub front_at : (bound : ℕ) (graphs : List Digraph) (fronts : List (List Demand)) → AreLabelFronts bound graphs fronts → (k : ℕ) → k < length graphs → IsLabelFront (graph_of graphs k) bound (get_or fronts k [])
+pub front_at : (bound : ℕ) (graphs : List Digraph) (fronts : List (List FrontEntry)) → AreLabelFronts bound graphs fronts → (k : ℕ) → k < length graphs → IsLabelFront (graph_of graphs k) bound (get_or fronts k [])
 front_at bound [] fronts are k l = absurd (omega arith)
 front_at bound (g ∷ graphs) [] are k l = absurd are
 front_at bound (g ∷ graphs) (f ∷ fronts) are zero l = are.0
 front_at bound (g ∷ graphs) (f ∷ fronts) are (suc k) l = front_at bound graphs fronts are.1 k (omega arith)
 
 -- There is one for each graph.
-pub fronts_count : (bound : ℕ) (graphs : List Digraph) (fronts : List (List Demand)) → AreLabelFronts bound graphs fronts → length fronts ≡ length graphs
+pub fronts_count : (bound : ℕ) (graphs : List Digraph) (fronts : List (List FrontEntry)) → AreLabelFronts bound graphs fronts → length fronts ≡ length graphs
 fronts_count bound [] fronts are = ap length are
 fronts_count bound (g ∷ graphs) [] are = absurd are
 fronts_count bound (g ∷ graphs) (f ∷ fronts) are = ap suc (fronts_count bound graphs fronts are.1)
 
 -- One more walk of demand.
-pub walks_push : (graphs : List Digraph) (fronts : List (List Demand)) (t : ℕ) (walks : List (List ℕ)) (g : Digraph) (f : List Demand) (w : List ℕ) → length fronts ≡ length graphs → AreDemandWalks graphs fronts t walks → IsDemandWalk g f t w → AreDemandWalks (graphs ++ g ∷ []) (fronts ++ f ∷ []) t (walks ++ w ∷ [])
+pub walks_push : (graphs : List Digraph) (fronts : List (List FrontEntry)) (t : ℕ) (walks : List (List ℕ)) (g : Digraph) (f : List FrontEntry) (w : List ℕ) → length fronts ≡ length graphs → AreDemandWalks graphs fronts t walks → IsDemandWalk g f t w → AreDemandWalks (graphs ++ g ∷ []) (fronts ++ f ∷ []) t (walks ++ w ∷ [])
 walks_push [] [] t [] g f w e are is = (is, refl)
 walks_push [] [] t (x ∷ walks) g f w e are is = absurd (let h = ap length are in omega (arith, h))
 walks_push [] (x ∷ fronts) t walks g f w e are is = absurd (omega arith)
@@ -80,14 +80,14 @@ walks_push (h ∷ graphs) (x ∷ fronts) t [] g f w e are is = absurd are
 walks_push (h ∷ graphs) (x ∷ fronts) t (y ∷ walks) g f w e are is = (are.0, walks_push graphs fronts t walks g f w (omega arith) are.1 is)
 
 -- Walks of demand are due by the time, and have together the demands of it.
-pub walks_due : (graphs : List Digraph) (fronts : List (List Demand)) (t : ℕ) (walks : List (List ℕ)) → AreDemandWalks graphs fronts t walks → AreDue t graphs walks
+pub walks_due : (graphs : List Digraph) (fronts : List (List FrontEntry)) (t : ℕ) (walks : List (List ℕ)) → AreDemandWalks graphs fronts t walks → AreDue t graphs walks
 walks_due [] fronts t [] are = tt
 walks_due [] fronts t (w ∷ walks) are = absurd (let h = ap length are in omega (arith, h))
 walks_due (g ∷ graphs) [] t walks are = absurd are
 walks_due (g ∷ graphs) (f ∷ fronts) t [] are = absurd are
 walks_due (g ∷ graphs) (f ∷ fronts) t (w ∷ walks) are = (due_walk g t w are.0.walk_is are.0.due, walks_due graphs fronts t walks are.1)
 
-pub walks_work : (graphs : List Digraph) (fronts : List (List Demand)) (t : ℕ) (walks : List (List ℕ)) → AreDemandWalks graphs fronts t walks → efforts graphs walks ≡ demands graphs fronts t
+pub walks_work : (graphs : List Digraph) (fronts : List (List FrontEntry)) (t : ℕ) (walks : List (List ℕ)) → AreDemandWalks graphs fronts t walks → efforts graphs walks ≡ demands graphs fronts t
 unfolding efforts sum_due
 walks_work [] fronts t walks are = refl
 walks_work (g ∷ graphs) [] t walks are = absurd are
@@ -96,12 +96,12 @@ walks_work (g ∷ graphs) (f ∷ fronts) t (w ∷ walks) are =
     let h = walks_work graphs fronts t walks are.1 in
     omega (arith, h, are.0.all)
 
-front_within : (g : Digraph) (bound : ℕ) (f : List Demand) → All (IsWithin g bound) (entries_of f) → IsFront g bound f
+front_within : (g : Digraph) (bound : ℕ) (f : List FrontEntry) → All (IsWithin g bound) (entries_of f) → IsFront g bound f
 front_within g bound [] all = λ k d l. absurd (omega arith)
 front_within g bound (x ∷ f) all = all_cons (λ y. (y.vertex < vertex_count g) × (y.offset + deadline g y.vertex ≤ bound)) x f ((all 0 (entry_of x) (omega arith)).0, (all 0 (entry_of x) (omega arith)).1) (front_within g bound f (tail_of (IsWithin g bound) (entry_of x) (entries_of f) all))
 
 -- The fronts are within the bound.
-pub fronts_within : (graphs : List Digraph) (bound : ℕ) (fronts : List (List Demand)) → AreLabelFronts bound graphs fronts → AreFronts bound graphs fronts
+pub fronts_within : (graphs : List Digraph) (bound : ℕ) (fronts : List (List FrontEntry)) → AreLabelFronts bound graphs fronts → AreFronts bound graphs fronts
 fronts_within [] bound [] are = tt
 fronts_within [] bound (f ∷ fronts) are = absurd (let h = ap length are in omega (arith, h))
 fronts_within (g ∷ graphs) bound [] are = absurd are

@@ -8,7 +8,8 @@ use Rattle.drt_model.specs.Digraph.{Digraph, IsSound, IsConstrainedGraph, vertex
 use Rattle.drt_model.specs.Walk.{gap, wcet, deadline, sep, IsEdge, IsPath, last_of, span, work}
 use Rattle.drt_graph.proofs.Edges.{sep_of_edge, edge_of_sep, gap_of, source_of}
 use Rattle.drt_graph.proofs.Paths.{path_both, path_within, last_both, work_cons, work_none, span_cons, span_none}
-use Rattle.drt_demand.specs.Demand.{Demand, demand_algebra, opening, extend, dominates}
+use Rattle.drt_model.specs.declared.front.FrontEntry.{FrontEntry}
+use Rattle.drt_demand.specs.Demand.{demand_algebra, opening, extend, dominates}
 use Rattle.drt_demand.specs.Laws.{demand_laws}
 use Rattle.drt_demand.specs.WalkLabel.{demand_of}
 use Rattle.drt_demand.proofs.WalkLabels.{walk_labels}
@@ -16,24 +17,23 @@ use Rattle.drt_table.specs.Machine.{Setting, in_range, extended}
 use Rattle.drt_table.specs.Walk.{WalkTo, IsWalkLabel}
 use Rattle.drt_table.specs.Cover.{IsNonDominated as IsAlone}
 use Rattle.drt_table.proofs.Walks.{walk_vertex, walk_range}
-use Rattle.drt_evidence.specs.declared.evidence.FrontEntry.{FrontEntry}
 use Rattle.drt_evidence.specs.Fronts.{Covers}
 use Rattle.drt_edf.specs.LabelFronts.{entry_of}
 use Rattle.drt_edf.specs.Walks.{IsWalkEntry, IsNonDominated}
 
 -- Two labels with the same parts are equal.
-pub same_label : (x y : Demand) → x.vertex ≡ y.vertex → x.offset ≡ y.offset → x.work ≡ y.work → x ≡ y
+pub same_label : (x y : FrontEntry) → x.vertex ≡ y.vertex → x.offset ≡ y.offset → x.work ≡ y.work → x ≡ y
 same_label x y p q r =
     ap (λ v. record { vertex = v; offset = x.offset; work = x.work }) p
     ∙ (ap (λ o. record { vertex = y.vertex; offset = o; work = x.work }) q
     ∙ ap (λ w. record { vertex = y.vertex; offset = y.offset; work = w }) r)
 
 -- An entry of a front as a label.
-abbrev pub label_of : FrontEntry → Demand
+abbrev pub label_of : FrontEntry → FrontEntry
 label_of e = record { vertex = e.vertex; offset = e.offset; work = e.work }
 
 -- A walk given backwards, forwards: its first vertex, those after it, and its label.
-pub record IsPathTo (g : Digraph) (v : ℕ) (before : List ℕ) (l : Demand) : Type 0 where
+pub record IsPathTo (g : Digraph) (v : ℕ) (before : List ℕ) (l : FrontEntry) : Type 0 where
   pub first : ℕ
   pub others : List ℕ
   pub forward : reverse (v ∷ before) ≡ first ∷ others
@@ -54,17 +54,17 @@ path_due g sound con u (v ∷ vs) p =
 
 module _ (t : Setting) (sound : IsSound t.graph) where
   -- A label extended by an edge with these ends and this separation.
-  extended_is : (m : Demand) (u k v s : ℕ) → m.vertex ≡ u → (edge_of t.graph u k).sep ≡ s → (edge_of t.graph u k).to ≡ v → extended demand_algebra t m k ≡ extend m s v (wcet t.graph v)
+  extended_is : (m : FrontEntry) (u k v s : ℕ) → m.vertex ≡ u → (edge_of t.graph u k).sep ≡ s → (edge_of t.graph u k).to ≡ v → extended demand_algebra t m k ≡ extend m s v (wcet t.graph v)
   extended_is m u k v s p q r =
       ap (λ x. extend m (edge_of t.graph x k).sep (edge_of t.graph x k).to (wcet t.graph (edge_of t.graph x k).to)) p
       ∙ (ap (λ y. extend m y (edge_of t.graph u k).to (wcet t.graph (edge_of t.graph u k).to)) q
       ∙ ap (λ z. extend m s z (wcet t.graph z)) r)
 
   -- A label in range of a vertex is due within the bound.
-  due_of_range : (l : Demand) → IsTrue (in_range demand_algebra t l) → l.offset + deadline t.graph l.vertex ≤ t.bound
+  due_of_range : (l : FrontEntry) → IsTrue (in_range demand_algebra t l) → l.offset + deadline t.graph l.vertex ≤ t.bound
   due_of_range l r = leb-true (l.offset + deadline t.graph l.vertex) t.bound r
 
-  path_more : (v : ℕ) (u : ℕ) (before : List ℕ) (l m : Demand) (k : ℕ) → IsPathTo t.graph u before m → m.vertex ≡ u → k < out_degree t.graph u → (edge_of t.graph u k).to ≡ v → l ≡ extended demand_algebra t m k → IsPathTo t.graph v (u ∷ before) l
+  path_more : (v : ℕ) (u : ℕ) (before : List ℕ) (l m : FrontEntry) (k : ℕ) → IsPathTo t.graph u before m → m.vertex ≡ u → k < out_degree t.graph u → (edge_of t.graph u k).to ≡ v → l ≡ extended demand_algebra t m k → IsPathTo t.graph v (u ∷ before) l
   path_more v u before l m k p at lt to is =
       let lu : u < vertex_count t.graph = subst (λ x. x < vertex_count t.graph) p.last (path_within t.graph sound p.first p.others p.is_vertex p.path) in
       let named : sep t.graph u v ≡ Some (edge_of t.graph u k).sep = subst (λ x. sep t.graph u x ≡ Some (edge_of t.graph u k).sep) to (sep_of_edge t.graph sound u k lu lt) in
@@ -85,13 +85,13 @@ module _ (t : Setting) (sound : IsSound t.graph) where
       }
 
   -- A walk of the search is a path.
-  pub path_to : (v : ℕ) (before : List ℕ) (l : Demand) → WalkTo demand_algebra t v before l → IsPathTo t.graph v before l
+  pub path_to : (v : ℕ) (before : List ℕ) (l : FrontEntry) → WalkTo demand_algebra t v before l → IsPathTo t.graph v before l
   path_to v [] l w = record { first = v; others = []; forward = refl; is_vertex = w.0; path = tt; last = refl; label = w.1 ∙ sym ((walk_labels t.graph).opened v t.bound) }
   path_to v (u ∷ before) l w =
       path_more v u before l w.1 w.0 (path_to u before w.1 w.2) (walk_vertex demand_algebra demand_laws t u before w.1 w.2) w.3 w.4 w.5
 
   -- The label of a walk of the search is an entry.
-  pub walk_entry : (l : Demand) → IsWalkLabel demand_algebra t l → IsWalkEntry t.graph t.bound (entry_of l)
+  pub walk_entry : (l : FrontEntry) → IsWalkLabel demand_algebra t l → IsWalkEntry t.graph t.bound (entry_of l)
   walk_entry l w =
       let p = path_to w.0 w.1 l w.2 in
       record {
@@ -107,11 +107,11 @@ module _ (t : Setting) (sound : IsSound t.graph) where
 
   module _ (con : IsConstrainedGraph t.graph) where
     -- The label of a walk that goes on from u over these vertices.
-    abbrev gone : Demand → ℕ → List ℕ → Demand
+    abbrev gone : FrontEntry → ℕ → List ℕ → FrontEntry
     gone m u vs = record { vertex = last_of u vs; offset = m.offset + span t.graph u vs; work = m.work + work t.graph vs }
 
     -- Each walk due within the bound is one of the search: each of its first parts is due within the bound too.
-    walk_on : (u : ℕ) (before : List ℕ) (m : Demand) → WalkTo demand_algebra t u before m → (vs : List ℕ) → IsPath t.graph u vs → m.offset + span t.graph u vs + deadline t.graph (last_of u vs) ≤ t.bound → IsWalkLabel demand_algebra t (gone m u vs)
+    walk_on : (u : ℕ) (before : List ℕ) (m : FrontEntry) → WalkTo demand_algebra t u before m → (vs : List ℕ) → IsPath t.graph u vs → m.offset + span t.graph u vs + deadline t.graph (last_of u vs) ≤ t.bound → IsWalkLabel demand_algebra t (gone m u vs)
     walk_on u before m w [] p d =
         let at = walk_vertex demand_algebra demand_laws t u before m w in
         let s = span_none t.graph u in
@@ -120,7 +120,7 @@ module _ (t : Setting) (sound : IsSound t.graph) where
     walk_on u before m w (v ∷ vs) p d =
         let at = walk_vertex demand_algebra demand_laws t u before m w in
         let k = edge_of_sep t.graph u v (gap t.graph u v) p.0 in
-        let x : Demand = extend m (gap t.graph u v) v (wcet t.graph v) in
+        let x : FrontEntry = extend m (gap t.graph u v) v (wcet t.graph v) in
         let is : x ≡ extended demand_algebra t m k.0 = sym (extended_is m u k.0 v (gap t.graph u v) at k.3 k.2) in
         let s = span_cons t.graph u v vs in
         let n = work_cons t.graph v vs in
@@ -133,7 +133,7 @@ module _ (t : Setting) (sound : IsSound t.graph) where
     -- An entry of a walk is the label of a walk of the search.
     pub entry_walk : (e : FrontEntry) → IsWalkEntry t.graph t.bound e → IsWalkLabel demand_algebra t (label_of e)
     entry_walk e w =
-        let x : Demand = opening w.first (wcet t.graph w.first) t.bound in
+        let x : FrontEntry = opening w.first (wcet t.graph w.first) t.bound in
         let first = path_due t.graph sound con w.first w.others w.path in
         let o = w.offset in
         let v = w.vertex in
@@ -145,7 +145,7 @@ module _ (t : Setting) (sound : IsSound t.graph) where
         subst (λ y. IsWalkLabel demand_algebra t y) (same_label (gone x w.first w.others) (label_of e) (sym v) (omega (arith, o)) (omega (arith, n, r))) rest
 
     -- A label that no different one dominates is an entry that no other one covers.
-    pub entry_alone : (l : Demand) → IsAlone demand_algebra t l → IsNonDominated t.graph t.bound (entry_of l)
+    pub entry_alone : (l : FrontEntry) → IsAlone demand_algebra t l → IsNonDominated t.graph t.bound (entry_of l)
     entry_alone l is = record {
       walk = walk_entry l is.walk;
       alone = λ d w c. ap entry_of (is.alone (label_of d) (entry_walk d w) (above d c));
@@ -161,5 +161,5 @@ module _ (t : Setting) (sound : IsSound t.graph) where
       alone = λ m w d. ap label_of (is.alone (entry_of m) (walk_entry m w) (above m d));
     }
       where
-        above : (m : Demand) → IsTrue (dominates m (label_of e)) → Covers e.vertex e.offset e.work (entry_of m)
+        above : (m : FrontEntry) → IsTrue (dominates m (label_of e)) → Covers e.vertex e.offset e.work (entry_of m)
         above m d = (grind (arith, nat_tests), grind (arith, nat_tests), grind (arith, nat_tests))

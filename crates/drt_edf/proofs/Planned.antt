@@ -18,7 +18,7 @@ use Rattle.drt_evidence.specs.Claims.{graphs_of, fractions, HaveUtilisationBelow
 use Rattle.drt_evidence.proofs.Accepting.{AreRatioClaims, one_accepted}
 use Rattle.drt_edf.specs.Answers.{IsBeyond, IsOnlyOne}
 use Rattle.drt_evidence.specs.Rates.{Rates}
-use Rattle.drt_edf.specs.Plans.{IsTooFine, IsAboveOne, IsBelowOne, IsTooFar}
+use Rattle.drt_edf.specs.Plans.{AreTooFine, IsAboveOne, HasHorizon, IsTooFar}
 use Rattle.drt_edf.specs.RatioClaims.{claims_of}
 use Rattle.drt_edf.proofs.RatioClaims.{fractions_same, potentials_same, claims_count, claims_lowest, each_given, potentials_are, ratios_are}
 
@@ -62,7 +62,7 @@ pub planned_above : (tasks : List Task) (proofs : List RatioProof) → AreGiven 
 planned_above tasks proofs given plan = (rates tasks proofs given plan.0 plan.1, plan.2.0, plan.2.1)
 
 -- A plan whose scale is too great.
-pub planned_fine : (tasks : List Task) (proofs : List RatioProof) → AreGiven (graphs_of tasks) proofs → IsPlan (graphs_of tasks) proofs (Err TooFine) → IsTooFine tasks
+pub planned_fine : (tasks : List Task) (proofs : List RatioProof) → AreGiven (graphs_of tasks) proofs → IsPlan (graphs_of tasks) proofs (Err TooFine) → AreTooFine tasks
 planned_fine tasks proofs given plan = (rates tasks proofs given plan.0 plan.1, plan.2)
 
 -- A plan whose horizon is too far.
@@ -81,7 +81,7 @@ planned_far tasks proofs given plan = (
 )
 
 -- A plan with a horizon: the utilisation of the tasks is below one, with this horizon.
-pub planned_below : (tasks : List Task) (proofs : List RatioProof) → AreGiven (graphs_of tasks) proofs → (bound : ℕ) → IsPlan (graphs_of tasks) proofs (Ok (Under bound)) → IsBelowOne tasks bound
+pub planned_below : (tasks : List Task) (proofs : List RatioProof) → AreGiven (graphs_of tasks) proofs → (bound : ℕ) → IsPlan (graphs_of tasks) proofs (Ok (Under bound)) → HasHorizon tasks bound
 planned_below tasks proofs given bound plan = record {
   rates = rates tasks proofs given plan.0 plan.1;
   fine = plan.2.0;

@@ -11,9 +11,9 @@ use Rattle.drt_graph.proofs.Edges.{edge_of_sep, source_of, target_of}
 use Rattle.drt_ratio.specs.declared.ratio_proof.RatioProof.{RatioProof}
 use Rattle.drt_graph.proofs.Paths.{path_both, last_both, work_both, span_both, span_cons, work_none, span_none, cycle_path}
 use Rattle.drt_busy.specs.Choice.{IsWalk, due_of, AreDueBy, AreWalks, efforts}
-use Rattle.drt_horizon.specs.declared.laps.Lap.{Lap}
+use Rattle.drt_horizon.specs.declared.cycle_turns.CycleTurn.{CycleTurn}
 use Rattle.drt_horizon.specs.Given.{AreGiven}
-use Rattle.drt_horizon.specs.Laps.{with_lap, laps_of, lapped}
+use Rattle.drt_horizon.specs.CycleTurns.{with_cycle_turn, cycle_turns_of, turned}
 use Rattle.drt_horizon.proofs.Overloads.{is_cycle}
 use Rattle.drt_evidence.specs.Claims.{graphs_of}
 use Rattle.drt_edf.specs.LabelFronts.{walk_at}
@@ -92,10 +92,10 @@ unfolding turns_of
 turns_are g t n cycle walk e same = same ∙ ap (λ k. repeat k cycle) e
 
 -- The whole turns within t with one more task.
-lapped_with : (g : Digraph) (t : ℕ) (cycle : List ℕ) (laps : List Lap) → lapped (with_lap g cycle laps) t ≡ t / cycle_span g cycle * work g cycle + lapped laps t
-unfolding lapped
-lapped_with g t [] laps = omega (arith, none_works g (t / 0))
-lapped_with g t (v ∷ vs) laps = refl
+turned_with : (g : Digraph) (t : ℕ) (cycle : List ℕ) (cycle_turns : List CycleTurn) → turned (with_cycle_turn g cycle cycle_turns) t ≡ t / cycle_span g cycle * work g cycle + turned cycle_turns t
+unfolding turned
+turned_with g t [] cycle_turns = omega (arith, none_works g (t / 0))
+turned_with g t (v ∷ vs) cycle_turns = refl
 
 -- The work of walks with one more task before the others.
 efforts_with : (task : Task) (tasks : List Task) (walks : ℕ → List ℕ) (n : ℕ) → efforts (task ∷ tasks) walks (suc n) ≡ work (digraph_of task) (walks 0) + efforts tasks (λ k. walks (suc k)) n
@@ -114,7 +114,7 @@ unfolding turns_within
 turns_all walks whole proofs t e = sym (append-nil walks) ∙ e
 
 more_turns : (task : Task) (tasks : List Task) (p : RatioProof) (proofs : List RatioProof) (t : ℕ) (walk : List ℕ) (walks : List (List ℕ)) → IsTurnWalk (digraph_of task) t p.cycle walk → AreTurns tasks proofs t walks → AreTurns (task ∷ tasks) (p ∷ proofs) t (walk ∷ walks)
-unfolding laps_of
+unfolding cycle_turns_of
 more_turns task tasks p proofs t walk walks w rest = record { are = are; due = due; all = all }
   where
     are : AreWalks (task ∷ tasks) (walk_at (walk ∷ walks))
@@ -125,14 +125,14 @@ more_turns task tasks p proofs t walk walks w rest = record { are = are; due = d
     due zero l = w.due
     due (suc k) l = rest.due k (omega arith)
 
-    all : lapped (laps_of (graphs_of (task ∷ tasks)) (p ∷ proofs)) t ≤ efforts (task ∷ tasks) (walk_at (walk ∷ walks)) (length (task ∷ tasks))
+    all : turned (cycle_turns_of (graphs_of (task ∷ tasks)) (p ∷ proofs)) t ≤ efforts (task ∷ tasks) (walk_at (walk ∷ walks)) (length (task ∷ tasks))
     all =
         let e = efforts_with task tasks (walk_at (walk ∷ walks)) (length tasks) in
-        let f = lapped_with (digraph_of task) t p.cycle (laps_of (graphs_of tasks) proofs) in
+        let f = turned_with (digraph_of task) t p.cycle (cycle_turns_of (graphs_of tasks) proofs) in
         omega (arith, e, f, w.works, rest.all)
 
 no_turns : (proofs : List RatioProof) (t : ℕ) → AreTurns [] proofs t []
-unfolding laps_of lapped efforts
+unfolding cycle_turns_of turned efforts
 no_turns proofs t = record { are = λ k l. absurd (omega arith); due = λ k l. absurd (omega arith); all = omega arith }
 
 -- The whole turns are walks of the tasks, are due by t, and have the work of whole turns.

@@ -3,7 +3,8 @@ use Rattle.std.proofs.Common.{◌≡◌, ℕ, ◌<◌, false, List, [], ◌∷�
 use Rattle.std.proofs.lemmas.Option.{slice_get-get_or}
 use Rattle.drt_model.specs.Digraph.{Digraph}
 use Rattle.drt_graph.specs.Graphs.{no_graph, graph_of}
-use Rattle.drt_demand.specs.Demand.{Demand, demand_algebra}
+use Rattle.drt_model.specs.declared.front.FrontEntry.{FrontEntry}
+use Rattle.drt_demand.specs.Demand.{demand_algebra}
 use Rattle.drt_table.specs.Drive.{StopsAt}
 use Rattle.drt_table.specs.Machine.{IsRun, is_finished, replay}
 use Rattle.drt_table.specs.View.{View, IsTable, setting_of, state_of}
@@ -14,14 +15,14 @@ use Rattle.drt_edf.specs.Spent.{search_of, table_need}
 use Rattle.drt_edf.proofs.Bounded.{AreShort, AreFew, unfinished_short}
 
 -- One more finished search.
-pub searched_push : (bound : ℕ) (graphs : List Digraph) (views : List (View Demand)) (g : Digraph) (v : View Demand) → AreSearched bound graphs views → IsSearched bound g v → AreSearched bound (graphs ++ g ∷ []) (views ++ v ∷ [])
+pub searched_push : (bound : ℕ) (graphs : List Digraph) (views : List (View FrontEntry)) (g : Digraph) (v : View FrontEntry) → AreSearched bound graphs views → IsSearched bound g v → AreSearched bound (graphs ++ g ∷ []) (views ++ v ∷ [])
 searched_push bound [] [] g v are is = (is, refl)
 searched_push bound [] (x ∷ views) g v are is = absurd (let h = ap length are in omega (arith, h))
 searched_push bound (h ∷ graphs) [] g v are is = absurd are
 searched_push bound (h ∷ graphs) (x ∷ views) g v are is = (are.0, searched_push bound graphs views g v are.1 is)
 
 -- A driver that stops before the search is finished has spent the budget.
-stops_full : (v : View Demand) (reply : TableReply) → StopsAt demand_algebra v reply → is_finished demand_algebra (setting_of v) (state_of v) ≡ false → length v.log ≡ v.budget
+stops_full : (v : View FrontEntry) (reply : TableReply) → StopsAt demand_algebra v reply → is_finished demand_algebra (setting_of v) (state_of v) ≡ false → length v.log ≡ v.budget
 stops_full v (Taken k) stops unfinished = absurd stops
 stops_full v (Busy k) stops unfinished = absurd stops
 stops_full v Finished stops unfinished = absurd (cc)
@@ -32,7 +33,7 @@ stops_full v Closed stops unfinished = absurd stops
 stops_full v Spent stops unfinished = sym stops.0
 
 -- The search of the graph of that number spent its budget.
-pub spent_search : AreShort → AreFew → (graphs : List Digraph) (bound budget task : ℕ) (v : View Demand) (reply : TableReply) → task < length graphs → setting_of v ≡ search_of (graph_of graphs task) bound budget → IsTable demand_algebra v → StopsAt demand_algebra v reply → is_finished demand_algebra (setting_of v) (state_of v) ≡ false → IsSpentSearch graphs bound budget task v.log
+pub spent_search : AreShort → AreFew → (graphs : List Digraph) (bound budget task : ℕ) (v : View FrontEntry) (reply : TableReply) → task < length graphs → setting_of v ≡ search_of (graph_of graphs task) bound budget → IsTable demand_algebra v → StopsAt demand_algebra v reply → is_finished demand_algebra (setting_of v) (state_of v) ≡ false → IsSpentSearch graphs bound budget task v.log
 spent_search short few graphs bound budget task v reply l setting is stops unfinished =
     let n = unfinished_short short few v is unfinished in
     let u : is_finished demand_algebra (setting_of v) (replay demand_algebra (setting_of v) v.log) ≡ false = ap (λ x. is_finished demand_algebra (setting_of v) x) (sym is.state) ∙ unfinished in

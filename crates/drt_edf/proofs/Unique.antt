@@ -11,7 +11,7 @@ use Rattle.drt_graph.proofs.Scales.{scale_same}
 use Rattle.drt_ratio.proofs.Unique.{ratios_same}
 use Rattle.drt_evidence.specs.Claims.{graphs_of}
 use Rattle.drt_evidence.specs.Rates.{Rates}
-use Rattle.drt_edf.specs.Plans.{ArePotentials, IsBelowOne}
+use Rattle.drt_edf.specs.Plans.{ArePotentials, HasHorizon}
 
 -- The ratios and the scale.
 pub rates_same : (tasks : List Task) → All IsSound (graphs_of tasks) → (r s : Rates tasks) → (r.ratios ≡ s.ratios) × (r.scale ≡ s.scale)
@@ -45,7 +45,7 @@ potentials_same (g ∷ graphs) (r ∷ ratios) (hs ∷ hss) (ks ∷ kss) p q =
     ap (λ x. x ∷ hss) (canonical_same g r.num r.den hs ks p.0 q.0) ∙ ap (λ xs. ks ∷ xs) (potentials_same graphs ratios hss kss p.1 q.1)
 
 -- The horizon.
-pub horizon_same : (tasks : List Task) → All IsSound (graphs_of tasks) → (b c : ℕ) → IsBelowOne tasks b → IsBelowOne tasks c → b ≡ c
+pub horizon_same : (tasks : List Task) → All IsSound (graphs_of tasks) → (b c : ℕ) → HasHorizon tasks b → HasHorizon tasks c → b ≡ c
 horizon_same tasks sound b c p q =
     let s = rates_same tasks sound p.rates q.rates in
     let here = subst (λ rs. ArePotentials (graphs_of tasks) rs p.potentials) s.0 p.canonical in

@@ -15,10 +15,10 @@ use Rattle.drt_evidence.specs.Ranges.{IsInRange}
 use Rattle.drt_evidence.specs.Rules.{Accepts}
 use Rattle.drt_evidence.specs.declared.evidence.Evidence.{Evidence}
 use Rattle.drt_evidence.specs.declared.evidence.Evidence.TheVariants.{EdfYes, EdfNo, UtilisationOne, FixedYes, FixedNo, Undecided}
-use Rattle.drt_evidence.specs.declared.evidence.FrontEntry.{FrontEntry}
+use Rattle.drt_model.specs.declared.front.FrontEntry.{FrontEntry}
 use Rattle.drt_evidence.specs.declared.evidence.RatioClaim.{RatioClaim}
 use Rattle.drt_evidence.specs.Rates.{IsAtOne}
-use Rattle.drt_edf.specs.Plans.{IsAboveOne, IsBelowOne, IsTooFar, IsTooFine}
+use Rattle.drt_edf.specs.Plans.{IsAboveOne, HasHorizon, IsTooFar, AreTooFine}
 use Rattle.drt_edf.specs.Walks.{IsExactFront}
 use Rattle.drt_edf.specs.Spent.{IsSpentOverload, IsSpentTable}
 use Rattle.drt_edf.specs.declared.answer.EdfAnswer.{EdfAnswer}
@@ -32,11 +32,11 @@ IsAcceptedFor tasks evidence = (version : ℕ) → Accepts (record { policy = Ed
 
 -- A yes: the set is schedulable under EDF, its utilisation is below one, the evidence is accepted, and the front of each task
 -- has exactly the labels of walks due within the horizon that no other one covers.
-pub record IsYes (tasks : List Task) (ratios : List RatioClaim) (fronts : List (List FrontEntry)) : Type 0 where
+pub record IsExactYes (tasks : List Task) (ratios : List RatioClaim) (fronts : List (List FrontEntry)) : Type 0 where
   pub schedulable : Schedulable tasks Edf
   pub accepted : IsAcceptedFor tasks (EdfYes ratios fronts)
   pub bound : ℕ
-  pub below : IsBelowOne tasks bound
+  pub below : HasHorizon tasks bound
   pub is_bound : IsHorizon (graphs_of tasks) ratios bound
   pub exact : Each (IsExactFront bound) (graphs_of tasks) fronts
 
@@ -56,17 +56,17 @@ pub record IsOnlyOne (tasks : List Task) (ratios : List RatioClaim) : Type 0 whe
   pub accepted : IsAcceptedFor tasks (UtilisationOne ratios)
 
 -- What the evidence of an answer says. The analysis gives no other kind.
-abbrev pub IsDone : List Task → Evidence → Type 0
-IsDone tasks (EdfYes ratios fronts) = IsYes tasks ratios fronts
-IsDone tasks (EdfNo releases miss) = IsMissed tasks releases miss
-IsDone tasks (UtilisationOne ratios) = IsOnlyOne tasks ratios
-IsDone tasks (FixedYes trees proofs) = ⊥
-IsDone tasks (FixedNo releases miss) = ⊥
-IsDone tasks Undecided = ⊥
+abbrev pub IsVerdict : List Task → Evidence → Type 0
+IsVerdict tasks (EdfYes ratios fronts) = IsExactYes tasks ratios fronts
+IsVerdict tasks (EdfNo releases miss) = IsMissed tasks releases miss
+IsVerdict tasks (UtilisationOne ratios) = IsOnlyOne tasks ratios
+IsVerdict tasks (FixedYes trees proofs) = ⊥
+IsVerdict tasks (FixedNo releases miss) = ⊥
+IsVerdict tasks Undecided = ⊥
 
 -- The utilisation isn't one: it is below one with a horizon of at most 2^40, or above one.
 abbrev pub IsOther : List Task → Type 0
-IsOther tasks = ((bound : ℕ) × IsBelowOne tasks bound × (bound ≤ 2 ^ 40)) ⊎ IsAboveOne tasks
+IsOther tasks = ((bound : ℕ) × HasHorizon tasks bound × (bound ≤ 2 ^ 40)) ⊎ IsAboveOne tasks
 
 -- How the utilisation stands to one where a set has this evidence.
 abbrev pub IsPlanned : List Task → Evidence → Type 0
@@ -79,7 +79,7 @@ IsPlanned tasks Undecided = ⊥
 
 -- Why the numbers of a set are out of reach.
 abbrev pub IsBeyond : List Task → Beyond → Type 0
-IsBeyond tasks TooFine = IsTooFine tasks
+IsBeyond tasks TooFine = AreTooFine tasks
 IsBeyond tasks TooFar = IsTooFar tasks
 
 -- Why there is no answer: a budget was spent.
@@ -89,6 +89,6 @@ IsUndecided tasks budget (Overload last) = IsSpentOverload tasks budget last
 
 -- What each answer says, with a budget.
 abbrev pub IsAnswer : List Task → ℕ → EdfAnswer → Type 0
-IsAnswer tasks budget (answers.Done evidence) = IsDone tasks evidence × IsPlanned tasks evidence × IsInRange evidence
+IsAnswer tasks budget (answers.Done evidence) = IsVerdict tasks evidence × IsPlanned tasks evidence × IsInRange evidence
 IsAnswer tasks budget (answers.Beyond beyond) = IsBeyond tasks beyond
 IsAnswer tasks budget (answers.Undecided trail) = IsUndecided tasks budget trail

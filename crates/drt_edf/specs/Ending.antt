@@ -3,13 +3,14 @@
 use Rattle.std.specs.Prelude.{◌≡◌, ℕ, ◌+◌, ◌*◌, ◌<◌, ◌≤◌, ◌⊎◌, List, length, slice_index_or}
 use Rattle.drt_model.specs.Digraph.{Digraph, edge_of, out_degree, vertex_count}
 use Rattle.drt_model.specs.Walk.{wcet}
-use Rattle.drt_demand.specs.Demand.{Demand, demand_algebra}
+use Rattle.drt_model.specs.declared.front.FrontEntry.{FrontEntry}
+use Rattle.drt_demand.specs.Demand.{demand_algebra}
 use Rattle.drt_table.specs.Walk.{WalkTo}
 use Rattle.drt_edf.specs.Spent.{search_of}
 
 -- The walk over the vertices before, the last first, and then v is in range of the bound, its span is o and its work is n.
 pub record IsEnding (g : Digraph) (bound v o : ℕ) (before : List ℕ) (n : ℕ) : Type 0 where
-  pub label : Demand
+  pub label : FrontEntry
   pub walk : WalkTo demand_algebra (search_of g bound 0) v before label
   pub offset : label.offset ≡ o
   pub work : label.work ≡ n

@@ -4,7 +4,7 @@ use Rattle.drt_model.specs.declared.tasks.Task.{Task}
 use Rattle.drt_model.specs.Digraph.{IsSound}
 use Rattle.drt_evidence.specs.Claims.{graphs_of}
 use Rattle.drt_evidence.specs.Rates.{Rates}
-use Rattle.drt_edf.specs.Plans.{IsBelowOne}
+use Rattle.drt_edf.specs.Plans.{HasHorizon}
 
 -- The ratios of a set's tasks are one list, and its scale one number.
 abbrev pub RatesAreOne : Type 0
@@ -12,4 +12,4 @@ RatesAreOne = (tasks : List Task) → All IsSound (graphs_of tasks) → (r s : R
 
 -- A set whose utilisation is below one has one horizon.
 abbrev pub HorizonIsOne : Type 0
-HorizonIsOne = (tasks : List Task) → All IsSound (graphs_of tasks) → (b c : ℕ) → IsBelowOne tasks b → IsBelowOne tasks c → b ≡ c
+HorizonIsOne = (tasks : List Task) → All IsSound (graphs_of tasks) → (b c : ℕ) → HasHorizon tasks b → HasHorizon tasks c → b ≡ c

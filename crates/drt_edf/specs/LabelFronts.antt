@@ -2,35 +2,34 @@
 use Rattle.std.specs.Prelude.{◌≡◌, ℕ, ◌≤◌, List, [], ◌∷◌, map, Any, slice_index_or}
 use Rattle.drt_model.specs.Digraph.{Digraph}
 use Rattle.drt_model.specs.Walk.{work}
-use Rattle.drt_demand.specs.Demand.{Demand}
+use Rattle.drt_model.specs.declared.front.FrontEntry.{FrontEntry}
 use Rattle.drt_demand.specs.Dbf.{dbf_at}
 use Rattle.drt_busy.specs.Choice.{IsWalk, due_of}
-use Rattle.drt_evidence.specs.declared.evidence.FrontEntry.{FrontEntry}
 use Rattle.drt_evidence.specs.Fronts.{IsOrdered, Covers}
 use Rattle.drt_edf.specs.Walks.{IsWalkEntry, IsExactFront}
 
 -- A label as an entry of a front.
-abbrev pub entry_of : Demand → FrontEntry
+abbrev pub entry_of : FrontEntry → FrontEntry
 entry_of x = record { vertex = x.vertex; offset = x.offset; work = x.work }
 
 -- Labels as the entries of a front, in order.
-abbrev pub entries_of : List Demand → List FrontEntry
+abbrev pub entries_of : List FrontEntry → List FrontEntry
 entries_of labels = map entry_of labels
 
 -- The labels stand in order, are exactly those that no other label of a walk due within the bound covers, and cover each such walk.
-pub record IsLabelFront (g : Digraph) (bound : ℕ) (labels : List Demand) : Type 0 where
+pub record IsLabelFront (g : Digraph) (bound : ℕ) (labels : List FrontEntry) : Type 0 where
   pub ordered : IsOrdered bound g (entries_of labels)
   pub exact : IsExactFront bound g (entries_of labels)
   pub covers : (e : FrontEntry) → IsWalkEntry g bound e → Any (Covers e.vertex e.offset e.work) (entries_of labels)
 
 -- Such a front for each graph, in order.
-abbrev pub AreLabelFronts : ℕ → List Digraph → List (List Demand) → Type 0
+abbrev pub AreLabelFronts : ℕ → List Digraph → List (List FrontEntry) → Type 0
 AreLabelFronts bound [] fronts = fronts ≡ []
 AreLabelFronts bound (g ∷ graphs) [] = ⊥
 AreLabelFronts bound (g ∷ graphs) (f ∷ fronts) = IsLabelFront g bound f × AreLabelFronts bound graphs fronts
 
 -- A walk of the graph, as the list of its vertices, that is due by t and has all the demand of t; empty where there is none.
-pub record IsDemandWalk (g : Digraph) (labels : List Demand) (t : ℕ) (walk : List ℕ) : Type 0 where
+pub record IsDemandWalk (g : Digraph) (labels : List FrontEntry) (t : ℕ) (walk : List ℕ) : Type 0 where
   pub walk_is : IsWalk g walk
   pub due : due_of g walk ≤ t
   pub all : work g walk ≡ dbf_at g labels t
@@ -40,7 +39,7 @@ abbrev pub walk_at : List (List ℕ) → ℕ → List ℕ
 walk_at walks k = slice_index_or walks k []
 
 -- Such a walk for each graph, in order.
-abbrev pub AreDemandWalks : List Digraph → List (List Demand) → ℕ → List (List ℕ) → Type 0
+abbrev pub AreDemandWalks : List Digraph → List (List FrontEntry) → ℕ → List (List ℕ) → Type 0
 AreDemandWalks [] fronts t walks = walks ≡ []
 AreDemandWalks (g ∷ graphs) [] t walks = ⊥
 AreDemandWalks (g ∷ graphs) (f ∷ fronts) t [] = ⊥

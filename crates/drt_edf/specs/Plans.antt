@@ -16,15 +16,15 @@ ArePotentials (g ∷ graphs) (r ∷ ratios) [] = ⊥
 ArePotentials (g ∷ graphs) (r ∷ ratios) (hs ∷ potentials) = AreCanonical g r.num r.den hs × ArePotentials graphs ratios potentials
 
 -- The scale exceeds 2^60.
-abbrev pub IsTooFine : List Task → Type 0
-IsTooFine tasks = (r : Rates tasks) × (2 ^ 60 < r.scale)
+abbrev pub AreTooFine : List Task → Type 0
+AreTooFine tasks = (r : Rates tasks) × (2 ^ 60 < r.scale)
 
 -- The scale is at most 2^60, and the utilisation is above one.
 abbrev pub IsAboveOne : List Task → Type 0
 IsAboveOne tasks = (r : Rates tasks) × (r.scale ≤ 2 ^ 60) × (r.scale < rate r.scale r.ratios)
 
 -- The scale is at most 2^60, the utilisation is below one, and this is the horizon.
-pub record IsBelowOne (tasks : List Task) (bound : ℕ) : Type 0 where
+pub record HasHorizon (tasks : List Task) (bound : ℕ) : Type 0 where
   pub rates : Rates tasks
   pub fine : rates.scale ≤ 2 ^ 60
   pub below : rate rates.scale rates.ratios < rates.scale
@@ -34,4 +34,4 @@ pub record IsBelowOne (tasks : List Task) (bound : ℕ) : Type 0 where
 
 -- The utilisation is below one, and the horizon exceeds 2^40.
 abbrev pub IsTooFar : List Task → Type 0
-IsTooFar tasks = (bound : ℕ) × IsBelowOne tasks bound × (2 ^ 40 < bound)
+IsTooFar tasks = (bound : ℕ) × HasHorizon tasks bound × (2 ^ 40 < bound)

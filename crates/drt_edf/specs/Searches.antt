@@ -1,7 +1,8 @@
 -- The searches of the tasks' walks.
 use Rattle.std.specs.Prelude.{◌≡◌, ℕ, ◌<◌, IsTrue, false, List, [], ◌∷◌, length, Some, slice_get}
 use Rattle.drt_model.specs.Digraph.{Digraph}
-use Rattle.drt_demand.specs.Demand.{Demand, demand_algebra}
+use Rattle.drt_model.specs.declared.front.FrontEntry.{FrontEntry}
+use Rattle.drt_demand.specs.Demand.{demand_algebra}
 use Rattle.drt_table.specs.Machine.{IsRun, is_finished, replay}
 use Rattle.drt_table.specs.View.{View, setting_of, state_of}
 use Rattle.drt_table.specs.declared.step.Entry.{Entry}
@@ -10,13 +11,13 @@ use Rattle.drt_edf.specs.declared.searching.Searched.TheVariants.{Finished, Spen
 use Rattle.drt_edf.specs.Spent.{search_of, table_need}
 
 -- The finished search of a graph's walks up to a bound.
-pub record IsSearched (bound : ℕ) (g : Digraph) (v : View Demand) : Type 0 where
+pub record IsSearched (bound : ℕ) (g : Digraph) (v : View FrontEntry) : Type 0 where
   pub graph_is : v.graph ≡ g
   pub bound_is : v.bound ≡ bound
   pub finished : IsTrue (is_finished demand_algebra (setting_of v) (state_of v))
 
 -- One for each graph, in order.
-abbrev pub AreSearched : ℕ → List Digraph → List (View Demand) → Type 0
+abbrev pub AreSearched : ℕ → List Digraph → List (View FrontEntry) → Type 0
 AreSearched bound [] views = views ≡ []
 AreSearched bound (g ∷ graphs) [] = ⊥
 AreSearched bound (g ∷ graphs) (v ∷ views) = IsSearched bound g v × AreSearched bound graphs views

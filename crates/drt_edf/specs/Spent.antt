@@ -10,11 +10,11 @@ use Rattle.drt_ratio.specs.SetRatios.{fractions_of}
 use Rattle.drt_table.specs.Machine.{Setting, IsRun, replay, is_finished}
 use Rattle.drt_table.specs.declared.step.Entry.{Entry}
 use Rattle.drt_horizon.specs.Given.{AreGiven}
-use Rattle.drt_horizon.specs.Laps.{laps_of, IsOver}
+use Rattle.drt_horizon.specs.CycleTurns.{cycle_turns_of, IsOver}
 use Rattle.drt_horizon.specs.Laws.{latest}
 use Rattle.drt_horizon.specs.declared.answers.Over.TheVariants.{Spent}
 use Rattle.drt_evidence.specs.Claims.{graphs_of}
-use Rattle.drt_edf.specs.Plans.{IsAboveOne, IsBelowOne}
+use Rattle.drt_edf.specs.Plans.{IsAboveOne, HasHorizon}
 
 -- The greatest number of edges out of a vertex.
 abbrev pub most_out : List (List Edge) → ℕ
@@ -33,7 +33,7 @@ search_of g bound budget = record { graph = g; bound = bound; budget = budget }
 -- a set whose utilisation is below one. So the budget is below what the search needs.
 pub record IsSpentTable (tasks : List Task) (budget task : ℕ) (log : List Entry) : Type 0 where
   pub bound : ℕ
-  pub below : IsBelowOne tasks bound
+  pub below : HasHorizon tasks bound
   pub near : bound ≤ 2 ^ 40
   pub graph : Digraph
   pub is_graph : slice_get (graphs_of tasks) task ≡ Some graph
@@ -49,7 +49,7 @@ pub record IsSpentOverload (tasks : List Task) (budget last : ℕ) : Type 0 wher
   pub above : IsAboveOne tasks
   pub proofs : List RatioProof
   pub are : AreGiven (graphs_of tasks) proofs
-  pub spent : IsOver (laps_of (graphs_of tasks) proofs) budget (Spent last)
+  pub spent : IsOver (cycle_turns_of (graphs_of tasks) proofs) budget (Spent last)
   pub scale : ℕ
   pub is_scale : IsScale (fractions_of proofs) scale
   pub short : budget < latest scale (graphs_of tasks) proofs
@@ -57,5 +57,5 @@ pub record IsSpentOverload (tasks : List Task) (budget last : ℕ) : Type 0 wher
 -- The budget is enough for each search: of each task's walks up to the horizon where the utilisation is below one, and for an
 -- overload where it is above.
 pub record IsEnough (tasks : List Task) (budget : ℕ) : Type 0 where
-  pub tables : (bound : ℕ) → IsBelowOne tasks bound → All (λ g. table_need g bound ≤ budget) (graphs_of tasks)
+  pub tables : (bound : ℕ) → HasHorizon tasks bound → All (λ g. table_need g bound ≤ budget) (graphs_of tasks)
   pub overload : IsAboveOne tasks → (proofs : List RatioProof) → AreGiven (graphs_of tasks) proofs → (scale : ℕ) → IsScale (fractions_of proofs) scale → latest scale (graphs_of tasks) proofs ≤ budget

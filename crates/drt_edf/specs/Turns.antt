@@ -6,7 +6,7 @@ use Rattle.drt_model.specs.Digraph.{Digraph}
 use Rattle.drt_model.specs.Walk.{cycle_span}
 use Rattle.drt_ratio.specs.declared.ratio_proof.RatioProof.{RatioProof}
 use Rattle.drt_busy.specs.Choice.{AreDueBy, AreWalks, efforts}
-use Rattle.drt_horizon.specs.Laps.{laps_of, lapped}
+use Rattle.drt_horizon.specs.CycleTurns.{cycle_turns_of, turned}
 use Rattle.drt_evidence.specs.Claims.{graphs_of}
 use Rattle.drt_edf.specs.LabelFronts.{walk_at}
 
@@ -24,4 +24,4 @@ turns_within (g ∷ graphs) (p ∷ proofs) t = turns_of g t p.cycle ∷ turns_wi
 pub record AreTurns (tasks : List Task) (proofs : List RatioProof) (t : ℕ) (walks : List (List ℕ)) : Type 0 where
   pub are : AreWalks tasks (walk_at walks)
   pub due : AreDueBy tasks (walk_at walks) t
-  pub all : lapped (laps_of (graphs_of tasks) proofs) t ≤ efforts tasks (walk_at walks) (length tasks)
+  pub all : turned (cycle_turns_of (graphs_of tasks) proofs) t ≤ efforts tasks (walk_at walks) (length tasks)

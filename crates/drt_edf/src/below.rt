@@ -1,12 +1,12 @@
 //! Sets whose utilisation is below one.
 ghost use Rattle.std.specs.Prelude.{◌≡◌, ℕ, ◌≤◌, All, IfOk, List, Ok, map};
 ghost use Rattle.drt_model.specs.Constrained.{AreConstrained};
-ghost use Rattle.drt_demand.specs.Demand.{Demand};
+ghost use Rattle.drt_model.specs.declared.front.FrontEntry.{FrontEntry};
 ghost use Rattle.drt_horizon.specs.Given.{AreGiven};
 ghost use Rattle.drt_horizon.specs.Plans.{IsPlan};
 ghost use Rattle.drt_evidence.specs.Claims.{graphs_of};
 ghost use Rattle.drt_evidence.specs.Ranges.{IsCounted, IsInRange};
-ghost use Rattle.drt_edf.specs.Answers.{IsAnswer, IsDone};
+ghost use Rattle.drt_edf.specs.Answers.{IsAnswer, IsVerdict};
 ghost use Rattle.drt_edf.specs.LabelFronts.{AreDemandWalks, AreLabelFronts, entries_of};
 ghost use Rattle.drt_edf.specs.Searches.{AreSearched};
 
@@ -82,7 +82,7 @@ fn demand_walks(
     t: u64,
 ) -> Result<Row<Row<u32>>, Memory>
     requires { (bound : ℕ) × AreSearched bound graphs.now tables.now }
-    ensures { IfOk result (λ walks. (bound : ℕ) (fronts : List (List Demand)) → AreSearched bound graphs.now tables.now → AreLabelFronts bound graphs.now fronts → AreDemandWalks graphs.now fronts t walks) }
+    ensures { IfOk result (λ walks. (bound : ℕ) (fronts : List (List FrontEntry)) → AreSearched bound graphs.now tables.now → AreLabelFronts bound graphs.now fronts → AreDemandWalks graphs.now fronts t walks) }
 {
     let mut walks = Vec::new(alloc);
     'tasks: for task in 0..graphs.count() {
@@ -106,7 +106,7 @@ fn scanned(
     requires given { AreGiven graphs.now proofs.now }
     requires plan { IsPlan graphs.now proofs.now (Ok (Horizon.Under bound)) }
     requires searched { AreSearched bound graphs.now tables.now }
-    ensures done { IfOk result (λ e. IsDone set.now.tasks e) }
+    ensures done { IfOk result (λ e. IsVerdict set.now.tasks e) }
     ensures range { IfOk result (λ e. IsInRange e) }
 {
     horizon_holds();

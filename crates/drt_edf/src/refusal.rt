@@ -6,10 +6,10 @@ ghost use Rattle.drt_model.specs.Digraph.{vertex_count};
 ghost use Rattle.drt_busy.specs.Choice.{AreDueBy, AreWalks, IsWalk, due_of, efforts};
 ghost use Rattle.drt_busy.specs.WalkReleases.{all_releases, release_at, releases_of};
 ghost use Rattle.drt_horizon.specs.Given.{AreGiven};
-ghost use Rattle.drt_horizon.specs.Laps.{laps_of, lapped};
+ghost use Rattle.drt_horizon.specs.CycleTurns.{cycle_turns_of, turned};
 ghost use Rattle.drt_evidence.specs.Claims.{graphs_of};
 ghost use Rattle.drt_evidence.specs.Ranges.{IsInRange};
-ghost use Rattle.drt_edf.specs.Answers.{IsDone};
+ghost use Rattle.drt_edf.specs.Answers.{IsVerdict};
 ghost use Rattle.drt_edf.specs.LabelFronts.{walk_at};
 ghost use Rattle.drt_edf.specs.Nos.{AreDueWalks};
 
@@ -37,7 +37,7 @@ pub(crate) fn refusal(
     requires due { AreDueBy set.now.tasks (walk_at walks.now) t }
     requires excess { t < efforts set.now.tasks (walk_at walks.now) (length set.now.tasks) }
     requires time { t ≤ 1000000000000000000 }
-    ensures done { IfOk result (λ e. IsDone set.now.tasks e) }
+    ensures done { IfOk result (λ e. IsVerdict set.now.tasks e) }
     ensures range { IfOk result (λ e. IsInRange e) }
 {
     demand_misses();
@@ -71,9 +71,9 @@ pub(crate) fn overload_refusal(
     requires constrained { AreConstrained set.now.tasks }
     requires graphs { graphs.now ≡ graphs_of set.now.tasks }
     requires given { AreGiven graphs.now proofs.now }
-    requires excess { t < lapped (laps_of graphs.now proofs.now) t }
+    requires excess { t < turned (cycle_turns_of graphs.now proofs.now) t }
     requires time { t ≤ 1000000000000000000 }
-    ensures done { IfOk result (λ e. IsDone set.now.tasks e) }
+    ensures done { IfOk result (λ e. IsVerdict set.now.tasks e) }
     ensures range { IfOk result (λ e. IsInRange e) }
 {
     let walks = turns(alloc, graphs, proofs, t)?;

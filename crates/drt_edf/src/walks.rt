@@ -1,7 +1,8 @@
 //! The walk that has all the demand of a time.
 ghost use Rattle.std.specs.Prelude.{◌≡◌, ◌<◌, All, IfOk, IsTrue, List};
 ghost use Rattle.drt_model.specs.Digraph.{IsConstrainedGraph, vertex_count};
-ghost use Rattle.drt_demand.specs.Demand.{Demand, demand_algebra};
+ghost use Rattle.drt_model.specs.declared.front.FrontEntry.{FrontEntry};
+ghost use Rattle.drt_demand.specs.Demand.{demand_algebra};
 ghost use Rattle.drt_table.specs.Machine.{is_finished};
 ghost use Rattle.drt_table.specs.View.{setting_of, state_of};
 ghost use Rattle.drt_demand.specs.Dbf.{label_due};
@@ -68,7 +69,7 @@ pub(crate) fn demand_walk(
     requires graph { graph.now ≡ table.now.graph }
     requires finished { IsTrue (is_finished demand_algebra (setting_of table.now) (state_of table.now)) }
     requires constrained { IsConstrainedGraph table.now.graph }
-    ensures { IfOk result (λ walk. (labels : List Demand) → IsLabelFront table.now.graph table.now.bound labels → IsDemandWalk table.now.graph labels t walk) }
+    ensures { IfOk result (λ walk. (labels : List FrontEntry) → IsLabelFront table.now.graph table.now.bound labels → IsDemandWalk table.now.graph labels t walk) }
 {
     let _log = table.log();
     over_every_interleaving::<DemandLabel>();

@@ -17,7 +17,7 @@ use Rattle.drt_evidence.specs.Rules.{Accepts, Applies, Keeps}
 use Rattle.drt_evidence.specs.Statement.{Statement}
 use Rattle.drt_evidence.specs.declared.evidence.Evidence.{Evidence}
 use Rattle.drt_evidence.specs.declared.evidence.Evidence.TheVariants.{EdfYes, EdfNo, UtilisationOne, FixedNo}
-use Rattle.drt_evidence.specs.declared.evidence.FrontEntry.{FrontEntry}
+use Rattle.drt_model.specs.declared.front.FrontEntry.{FrontEntry}
 use Rattle.drt_evidence.specs.declared.evidence.RatioClaim.{RatioClaim}
 use Rattle.drt_evidence.specs.declared.rule.Rule.{Rule}
 use Rattle.drt_evidence.specs.declared.rule.Rule.TheVariants.{ConstrainedDeadlines, KindOfPolicy, RatioPerTask, LowestTerms, PotentialPerVertex, FittingPotentials}

@@ -11,7 +11,7 @@ use Rattle.drt_file.proofs.Again.{all_of_both}
 use Rattle.drt_file.proofs.Feeds.{fed_both}
 use Rattle.drt_evidence.specs.Ranges.{IsNumber}
 use Rattle.drt_evidence.specs.Text.{count_line}
-use Rattle.drt_evidence.specs.Blocks.{AreLines, Reads, RefusesLine, Stops, IsStop, in_turn, AreSoMany, counted}
+use Rattle.drt_evidence.specs.Blocks.{AreLines, ReadsBlock, RefusesLine, Stops, IsStop, in_turn, AreSoMany, counted}
 use Rattle.drt_evidence.specs.LineForms.{AreCounted}
 use Rattle.drt_evidence.specs.declared.reading.text.Stop.{Stop}
 use Rattle.drt_evidence.specs.declared.reading.text.Stop.TheVariants as stops
@@ -44,7 +44,7 @@ start T D bytes = record { front = []; stands = refl; lines = no_lines; every = 
 -- A part behind the front begins what is behind it.
 pub next : {X V : Type 0} {T : X → List ℕ} {D E : X → Type 0} {U : X → List ℕ} {bytes mid rest : List ℕ} {B : V → List ℕ} {F : V → Type 0} {v : V}
     → (part : X → V) (behind : X → List ℕ) → ((x : X) → E x → F (part x) × (U x ≡ B (part x) ++ behind x))
-    → At T D E U bytes mid → Reads B F mid v rest → At T D (λ x. E x × (part x ≡ v)) behind bytes rest
+    → At T D E U bytes mid → ReadsBlock B F mid v rest → At T D (λ x. E x × (part x ≡ v)) behind bytes rest
 next {T = T} {U = U} {rest = rest} {B = B} {v = v} part behind parts a r = record {
   front = a.front ++ B v;
   stands = a.stands ∙ ap (λ t. a.front ++ t) r.stands ∙ sym (append_assoc a.front (B v) rest);
@@ -63,7 +63,7 @@ next {T = T} {U = U} {rest = rest} {B = B} {v = v} part behind parts a r = recor
 
 -- The end of a block.
 pub done : {X : Type 0} {T : X → List ℕ} {D E : X → Type 0} {U : X → List ℕ} {bytes rest : List ℕ}
-    → At T D E U bytes rest → (x : X) → E x → U x ≡ [] → ((y : X) → E y → y ≡ x) → Reads T D bytes x rest
+    → At T D E U bytes rest → (x : X) → E x → U x ≡ [] → ((y : X) → E y → y ≡ x) → ReadsBlock T D bytes x rest
 done {T = T} {U = U} {rest = rest} a x is nothing one =
     let whole : T x ≡ a.front = (a.every x is).1 ∙ ap (λ t. a.front ++ t) nothing ∙ append-nil a.front in
     record {
@@ -127,8 +127,8 @@ pub no_memory : {X : Type 0} (T : X → List ℕ) (D : X → Type 0) (bytes : Li
 no_memory T D bytes e is = record { at = λ left missing other. absurd (cc) }
 
 -- The same blocks, written otherwise.
-pub reads_as : {X : Type 0} {T U : X → List ℕ} {D : X → Type 0} {bytes rest : List ℕ} {x : X} → T ≡ U → Reads T D bytes x rest → Reads U D bytes x rest
-reads_as {D = D} {bytes = bytes} {rest = rest} {x = x} same r = subst (λ W. Reads W D bytes x rest) same r
+pub reads_as : {X : Type 0} {T U : X → List ℕ} {D : X → Type 0} {bytes rest : List ℕ} {x : X} → T ≡ U → ReadsBlock T D bytes x rest → ReadsBlock U D bytes x rest
+reads_as {D = D} {bytes = bytes} {rest = rest} {x = x} same r = subst (λ W. ReadsBlock W D bytes x rest) same r
 
 pub stop_as : {X : Type 0} {T U : X → List ℕ} {D : X → Type 0} {bytes : List ℕ} {e : Stop} → T ≡ U → IsStop T D bytes e → IsStop U D bytes e
 stop_as {D = D} {bytes = bytes} {e = e} same i = subst (λ W. IsStop W D bytes e) same i
@@ -162,7 +162,7 @@ record Peeled {X : Type 0} (T : X → List ℕ) (D : X → Type 0) (xs ys : List
   is : D here
   goes : s ≡ T here ++ (in_turn T more ++ t)
 
-peel : {X : Type 0} {T : X → List ℕ} {D : X → Type 0} {n : ℕ} {bytes mid : List ℕ} {xs : List X} → Reads (in_turn T) (AreSoMany n D) bytes xs mid
+peel : {X : Type 0} {T : X → List ℕ} {D : X → Type 0} {n : ℕ} {bytes mid : List ℕ} {xs : List X} → ReadsBlock (in_turn T) (AreSoMany n D) bytes xs mid
     → (ys : List X) (s t : List ℕ) → n < length ys → AllByRecursion D ys → in_turn T xs ++ s ≡ in_turn T ys ++ t → Peeled T D xs ys s t
 peel {T = T} {D = D} {n = n} {xs = xs} r ys s t lt are e =
     let c = cut_at D n ys lt are in
@@ -182,11 +182,11 @@ peel {T = T} {D = D} {n = n} {xs = xs} r ys s t lt are e =
 turn_push : {X : Type 0} (T : X → List ℕ) (xs : List X) (x : X) → in_turn T (xs ++ x ∷ []) ≡ in_turn T xs ++ T x
 turn_push T xs x = flat_map-append T xs (x ∷ []) ∙ ap (λ t. in_turn T xs ++ t) (append-nil (T x))
 
-pub each_none : {X : Type 0} (T : X → List ℕ) (D : X → Type 0) (bytes : List ℕ) → Reads (in_turn T) (AreSoMany 0 D) bytes [] bytes
+pub each_none : {X : Type 0} (T : X → List ℕ) (D : X → Type 0) (bytes : List ℕ) → ReadsBlock (in_turn T) (AreSoMany 0 D) bytes [] bytes
 each_none T D bytes = record { is = (tt, refl); stands = refl; lines = no_lines; only = λ ys s t is e. empty_list ys is.1 }
 
 pub each_more : {X : Type 0} {T : X → List ℕ} {D : X → Type 0} {n : ℕ} {bytes mid rest : List ℕ} {xs : List X} {x : X}
-    → Reads (in_turn T) (AreSoMany n D) bytes xs mid → Reads T D mid x rest → Reads (in_turn T) (AreSoMany (n + 1) D) bytes (xs ++ x ∷ []) rest
+    → ReadsBlock (in_turn T) (AreSoMany n D) bytes xs mid → ReadsBlock T D mid x rest → ReadsBlock (in_turn T) (AreSoMany (n + 1) D) bytes (xs ++ x ∷ []) rest
 each_more {X} {T} {D} {n} {bytes} {mid} {rest} {xs} {x} r q = record {
   is = (all_of_both D xs (x ∷ []) r.is.0 (q.is, tt), let count = r.is.1 in let e = length-append xs (x ∷ []) in omega (arith, count, e));
   stands = r.stands ∙ ap (λ t. in_turn T xs ++ t) q.stands ∙ sym (append_assoc (in_turn T xs) (T x) rest) ∙ ap (λ t. t ++ rest) (sym (turn_push T xs x));
@@ -208,7 +208,7 @@ all_same : {X : Type 0} (D : X → Type 0) (n : ℕ) (x : X) → D x → AllByRe
 all_same D n x is = recursion_from_All D (replicate n x) (All-replicate D n x is)
 
 pub each_stop : {X : Type 0} {T : X → List ℕ} {D : X → Type 0} {n : ℕ} {bytes mid : List ℕ} {xs : List X} {e : Stop} (count : ℕ) → n < count → (x : X) → D x
-    → Reads (in_turn T) (AreSoMany n D) bytes xs mid → IsStop T D mid e → IsStop (in_turn T) (AreSoMany count D) bytes e
+    → ReadsBlock (in_turn T) (AreSoMany n D) bytes xs mid → IsStop T D mid e → IsStop (in_turn T) (AreSoMany count D) bytes e
 each_stop {X} {T} {D} {n} {bytes} {mid} {xs} {e} count lt some some_is r i = record { at = λ left missing is. whole left missing (i.at left missing is) }
   where
     refuses : (front tail : List ℕ) → RefusesLine T D front tail → RefusesLine (in_turn T) (AreSoMany count D) (in_turn T xs ++ front) tail
@@ -262,22 +262,22 @@ count_stop {X} {bytes} T D word x is i =
     (λ n num. (replicate n x, (All-replicate D n x is, subst IsNumber (sym (length-replicate n x)) num), length-replicate n x))
     (start (counted word T) (AreCounted D) bytes) i
 
-counted_at : {X : Type 0} {n : ℕ} {bytes mid : List ℕ} (T : X → List ℕ) (D : X → Type 0) (word : List ℕ) → Reads (λ k. written_line (count_line word k)) IsNumber bytes n mid
+counted_at : {X : Type 0} {n : ℕ} {bytes mid : List ℕ} (T : X → List ℕ) (D : X → Type 0) (word : List ℕ) → ReadsBlock (λ k. written_line (count_line word k)) IsNumber bytes n mid
     → At (counted word T) (AreCounted D) (λ (xs : List X). AreCounted D xs × (length xs ≡ n)) (in_turn T) bytes mid
 counted_at {X} {bytes = bytes} T D word r = next (λ (xs : List X). length xs) (in_turn T) (count_parts word T D) (start (counted word T) (AreCounted D) bytes) r
 
-pub counted_stop : {X : Type 0} {n : ℕ} {bytes mid : List ℕ} {e : Stop} (T : X → List ℕ) (D : X → Type 0) (word : List ℕ) → Reads (λ k. written_line (count_line word k)) IsNumber bytes n mid
+pub counted_stop : {X : Type 0} {n : ℕ} {bytes mid : List ℕ} {e : Stop} (T : X → List ℕ) (D : X → Type 0) (word : List ℕ) → ReadsBlock (λ k. written_line (count_line word k)) IsNumber bytes n mid
     → IsStop (in_turn T) (AreSoMany n D) mid e → IsStop (counted word T) (AreCounted D) bytes e
 counted_stop {X} {n} T D word r i =
     stop (λ (xs : List X). xs) (λ xs. []) (λ xs is. ((recursion_from_All D xs is.0.0, is.1), sym (append-nil (in_turn T xs))))
     (λ xs is. (xs, ((All-from_recursion D xs is.0, subst IsNumber (sym is.1) r.is), is.1), refl)) (counted_at T D word r) i
 
-pub counted_read : {X : Type 0} {n : ℕ} {bytes mid rest : List ℕ} {xs : List X} (T : X → List ℕ) (D : X → Type 0) (word : List ℕ) → Reads (λ k. written_line (count_line word k)) IsNumber bytes n mid
-    → Reads (in_turn T) (AreSoMany n D) mid xs rest → Reads (counted word T) (AreCounted D) bytes xs rest
+pub counted_read : {X : Type 0} {n : ℕ} {bytes mid rest : List ℕ} {xs : List X} (T : X → List ℕ) (D : X → Type 0) (word : List ℕ) → ReadsBlock (λ k. written_line (count_line word k)) IsNumber bytes n mid
+    → ReadsBlock (in_turn T) (AreSoMany n D) mid xs rest → ReadsBlock (counted word T) (AreCounted D) bytes xs rest
 counted_read {X} {n} {bytes} {mid} {rest} {xs} T D word r q =
     done (next (λ (ys : List X). ys) (λ ys. []) (λ ys is. ((recursion_from_All D ys is.0.0, is.1), sym (append-nil (in_turn T ys)))) (counted_at T D word r) q)
     xs (((All-from_recursion D xs q.is.0, subst IsNumber (sym q.is.1) r.is), q.is.1), refl) refl (λ ys is. is.1)
 
 -- What is left is no longer than the text.
-pub within : {X : Type 0} {T : X → List ℕ} {D : X → Type 0} {bytes rest : List ℕ} {x : X} → Reads T D bytes x rest → length rest ≤ length bytes
+pub within : {X : Type 0} {T : X → List ℕ} {D : X → Type 0} {bytes rest : List ℕ} {x : X} → ReadsBlock T D bytes x rest → length rest ≤ length bytes
 within {T = T} {rest = rest} {x = x} r = let total = ap length r.stands ∙ length-append (T x) rest in omega (arith, total)

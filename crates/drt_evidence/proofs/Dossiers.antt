@@ -10,7 +10,7 @@ use Rattle.drt_file.specs.trusted.Canonical.{canonical, written}
 use Rattle.drt_file.specs.trusted.CanonicalPrefix.{first_lines, line_count}
 use Rattle.drt_file.specs.trusted.Cutting.{fed, HasNoFeed}
 use Rattle.drt_file.proofs.Feeds.{count_fed, first_before, first_fed, first_line_of, no_lines}
-use Rattle.drt_evidence.specs.Blocks.{IsSet, IsStop, Reads, RefusesLine, Stops}
+use Rattle.drt_evidence.specs.Blocks.{IsSet, IsStop, ReadsBlock, RefusesLine, Stops}
 use Rattle.drt_evidence.specs.LineForms.{IsAny}
 use Rattle.drt_evidence.specs.Ranges.{IsInRange}
 use Rattle.drt_evidence.specs.Reading.{IsFaultyBy, HasDossierFault, HoldsDossier, IsDossierCause, IsStated, IsTextOf}
@@ -156,7 +156,7 @@ unfolding first_lines
 some_first b bs = (first_lines (cond (b == 10) 0 1) bs, refl)
 
 -- Bytes follow a whole dossier.
-followed_at : (bytes : List ℕ) (s : Statement) (b : ℕ) (rest : List ℕ) (line : ℕ) (r : Reads text IsStated bytes s (b ∷ rest)) → line ≡ 1 + length r.lines.ls
+followed_at : (bytes : List ℕ) (s : Statement) (b : ℕ) (rest : List ℕ) (line : ℕ) (r : ReadsBlock text IsStated bytes s (b ∷ rest)) → line ≡ 1 + length r.lines.ls
     → ((t : Statement) → IsTextOf t bytes → ⊥) × HasDossierFault bytes line 3
 followed_at bytes s b rest line r at =
     let ls = r.lines.ls in
@@ -194,7 +194,7 @@ unfit_cause bytes left h = (
   unfit_at bytes left (1 + line_count (take (length bytes - left) bytes)) h (line_behind bytes h.front h.tail h.lines.ls left h.stands h.left_is h.lines.are h.lines.no_feeds),
 )
 
-pub followed_cause : (bytes : List ℕ) (s : Statement) (rest : List ℕ) → Reads text IsStated bytes s rest → 0 < length rest
+pub followed_cause : (bytes : List ℕ) (s : Statement) (rest : List ℕ) → ReadsBlock text IsStated bytes s rest → 0 < length rest
     → IsDossierCause bytes (errors.Fault (record { line = 1 + line_count (take (length bytes - length rest) bytes); code = 3 }))
 followed_cause bytes s [] r some = absurd (omega (arith, some))
 followed_cause bytes s (b ∷ rest) r some =
@@ -202,11 +202,11 @@ followed_cause bytes s (b ∷ rest) r some =
     (line_behind bytes (text s) (b ∷ rest) r.lines.ls (length (b ∷ rest)) r.stands refl r.lines.are r.lines.no_feeds)
 
 -- A whole text is that of one statement.
-pub whole_text : (bytes : List ℕ) (s : Statement) (rest : List ℕ) → Reads text IsStated bytes s rest → length rest ≤ 0 → bytes ≡ text s
+pub whole_text : (bytes : List ℕ) (s : Statement) (rest : List ℕ) → ReadsBlock text IsStated bytes s rest → length rest ≤ 0 → bytes ≡ text s
 whole_text bytes s [] r none = r.stands ∙ append-nil (text s)
 whole_text bytes s (b ∷ rest) r none = absurd (omega (arith, none))
 
-pub whole_one : (bytes : List ℕ) (s : Statement) (rest : List ℕ) → Reads text IsStated bytes s rest → (t : Statement) → IsTextOf t bytes → t ≡ s
+pub whole_one : (bytes : List ℕ) (s : Statement) (rest : List ℕ) → ReadsBlock text IsStated bytes s rest → (t : Statement) → IsTextOf t bytes → t ≡ s
 whole_one bytes s rest r t is = r.only t rest [] is.stated (sym r.stands ∙ is.is ∙ sym (append-nil (text t)))
 
 -- How many bytes are left.

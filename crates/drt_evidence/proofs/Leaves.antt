@@ -7,7 +7,7 @@ use Rattle.drt_file.specs.trusted.Canonical.{written_line}
 use Rattle.drt_file.specs.trusted.Cutting.{HasNoFeed}
 use Rattle.drt_file.proofs.Feeds.{line_same, no_line_here}
 use Rattle.drt_evidence.specs.LineForms.{IsLineOf, IsNoLine}
-use Rattle.drt_evidence.specs.Blocks.{AreLines, Reads, IsStop}
+use Rattle.drt_evidence.specs.Blocks.{AreLines, ReadsBlock, IsStop}
 use Rattle.drt_evidence.specs.declared.reading.text.Stop.{Stop}
 use Rattle.drt_evidence.specs.declared.reading.text.Stop.TheVariants as stops
 use Rattle.drt_evidence.proofs.Blocks.{no_lines, one_line}
@@ -31,7 +31,7 @@ unfolding written_line
 lines_of words none = one_line (join_with_byte 32 words) none
 
 line_read : {X : Type 0} (fields : X → List (List ℕ)) (In : X → Type 0) (rest line others : List ℕ) (x : X) → IsLine fields In → rest ≡ line ++ 10 ∷ others → HasNoFeed line
-    → IsLineOf fields In line x → Reads (λ y. written_line (fields y)) In rest x others
+    → IsLineOf fields In line x → ReadsBlock (λ y. written_line (fields y)) In rest x others
 line_read fields In rest line others x form cut none l = record {
   is = l.in_range;
   stands = cut ∙ ap (λ t. t ++ 10 ∷ others) l.is ∙ sym (written_is (fields x) others);
@@ -131,9 +131,9 @@ none_taken {X} {T} {fields} {In} kind rest e r is missing =
 -- What is found in the first line is taken, or the line is refused.
 pub line_taken : {X : Type 0} {fields : X → List (List ℕ)} {In : X → Type 0} → IsLine fields In → (rest line others now : List ℕ) (found : Option X) (r : Result X Stop)
     → (rest ≡ line ++ 10 ∷ others) × HasNoFeed line → MatchOption found (IsNoLine fields In line) (IsLineOf fields In line)
-    → IfOk r (λ x. (found ≡ Some x) × (now ≡ others)) → IfOk r (λ x. Reads (λ y. written_line (fields y)) In rest x now)
+    → IfOk r (λ x. (found ≡ Some x) × (now ≡ others)) → IfOk r (λ x. ReadsBlock (λ y. written_line (fields y)) In rest x now)
 line_taken {X} {fields} {In} kind rest line others now found (Ok x) cut says is =
-    subst (λ t. Reads (λ y. written_line (fields y)) In rest x t) (sym is.1)
+    subst (λ t. ReadsBlock (λ y. written_line (fields y)) In rest x t) (sym is.1)
     (line_read fields In rest line others x kind cut.0 cut.1 (subst (λ o. MatchOption o (IsNoLine fields In line) (IsLineOf fields In line)) is.0 says))
 line_taken {X} {fields} {In} kind rest line others now found (Err e) cut says is = tt
 

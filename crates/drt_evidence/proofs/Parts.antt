@@ -5,7 +5,7 @@ use Rattle.std.proofs.lemmas.List.{append-nil}
 use Rattle.std.proofs.lemmas.List.Folds.{flat_map-map}
 use Rattle.std.proofs.lemmas.Grind.{flat_map-append}
 use Rattle.drt_file.specs.trusted.Canonical.{written, written_line}
-use Rattle.drt_evidence.specs.Blocks.{Reads, IsStop}
+use Rattle.drt_evidence.specs.Blocks.{ReadsBlock, IsStop}
 use Rattle.drt_evidence.specs.declared.reading.text.Stop.{Stop}
 use Rattle.drt_evidence.proofs.Blocks.{At, start, next, done, stop}
 
@@ -32,18 +32,18 @@ two_first {X} {V} {W} {T} {D} {A} {F} {B} {G} {bytes} two i =
     (start T D bytes) i
 
 two_at : {X V W : Type 0} {T : X → List ℕ} {D : X → Type 0} {A : V → List ℕ} {F : V → Type 0} {B : W → List ℕ} {G : W → Type 0} {bytes mid : List ℕ} {v : V}
-    → (two : Two T D A F B G) → Reads A F bytes v mid → At T D (λ x. D x × (two.first x ≡ v)) (λ x. B (two.second x)) bytes mid
+    → (two : Two T D A F B G) → ReadsBlock A F bytes v mid → At T D (λ x. D x × (two.first x ≡ v)) (λ x. B (two.second x)) bytes mid
 two_at {X} {V} {W} {T} {D} {A} {F} {B} {G} {bytes} two r = next two.first (λ x. B (two.second x)) (λ x is. (two.first_is x is, two.block_is x is)) (start T D bytes) r
 
 pub two_second : {X V W : Type 0} {T : X → List ℕ} {D : X → Type 0} {A : V → List ℕ} {F : V → Type 0} {B : W → List ℕ} {G : W → Type 0} {bytes mid : List ℕ} {v : V} {e : Stop}
-    → Two T D A F B G → Reads A F bytes v mid → IsStop B G mid e → IsStop T D bytes e
+    → Two T D A F B G → ReadsBlock A F bytes v mid → IsStop B G mid e → IsStop T D bytes e
 two_second {X} {V} {W} {T} {D} {A} {F} {B} {G} {bytes} {mid} {v} two r i =
     stop two.second (λ x. []) (λ x is. (two.second_is x is.0, sym (append-nil (B (two.second x)))))
     (λ w is. (two.make v w, (two.make_is v w r.is is, two.make_first v w r.is is), two.make_second v w r.is is))
     (two_at two r) i
 
 pub two_read : {X V W : Type 0} {T : X → List ℕ} {D : X → Type 0} {A : V → List ℕ} {F : V → Type 0} {B : W → List ℕ} {G : W → Type 0} {bytes mid rest : List ℕ} {v : V} {w : W}
-    → (two : Two T D A F B G) → Reads A F bytes v mid → Reads B G mid w rest → Reads T D bytes (two.make v w) rest
+    → (two : Two T D A F B G) → ReadsBlock A F bytes v mid → ReadsBlock B G mid w rest → ReadsBlock T D bytes (two.make v w) rest
 two_read {X} {V} {W} {T} {D} {A} {F} {B} {G} {bytes} {mid} {rest} {v} {w} two r q =
     done (next two.second (λ x. []) (λ x is. (two.second_is x is.0, sym (append-nil (B (two.second x))))) (two_at two r) q)
     (two.make v w) ((two.make_is v w r.is q.is, two.make_first v w r.is q.is), two.make_second v w r.is q.is) refl
@@ -66,7 +66,7 @@ one_stop {X} {V} {T} {D} {A} {F} {bytes} one i =
     (λ v is. (one.make v, one.make_is v is, one.make_part v is)) (start T D bytes) i
 
 pub one_read : {X V : Type 0} {T : X → List ℕ} {D : X → Type 0} {A : V → List ℕ} {F : V → Type 0} {bytes rest : List ℕ} {v : V}
-    → (one : One T D A F) → Reads A F bytes v rest → Reads T D bytes (one.make v) rest
+    → (one : One T D A F) → ReadsBlock A F bytes v rest → ReadsBlock T D bytes (one.make v) rest
 one_read {X} {V} {T} {D} {A} {F} {bytes} {rest} {v} one r =
     done (next one.part (λ x. []) (λ x is. (one.part_is x is, one.block_is x is ∙ sym (append-nil (A (one.part x))))) (start T D bytes) r)
     (one.make v) (one.make_is v r.is, one.make_part v r.is) refl (λ y is. one.made y is.0 ∙ ap one.make is.1)

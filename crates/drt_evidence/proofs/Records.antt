@@ -9,13 +9,13 @@ use Rattle.drt_model.specs.declared.jobs.Policy.TheVariants as policies
 use Rattle.drt_model.specs.declared.jobs.Release.{Release}
 use Rattle.drt_model.specs.declared.jobs.Miss.{Miss}
 use Rattle.drt_file.specs.trusted.Canonical.{written, written_line}
-use Rattle.drt_evidence.specs.Blocks.{AreNamed, Named, Reads, IsStop, named_block, counted, first_block, close_block, IsOfKind}
+use Rattle.drt_evidence.specs.Blocks.{AreNamed, Named, ReadsBlock, IsStop, named_block, counted, first_block, close_block, IsOfKind}
 use Rattle.drt_evidence.specs.LineForms.{AreCounted, IsAny, IsInRangeWritten, kind_keyword, kind_line, kind_of, numbers_line, policy_line, potentials_line, written_ratio_line}
 use Rattle.drt_evidence.specs.Ranges.{AreInRangeReleases, IsInRange, IsInRangeFront, IsInRangeMiss, IsInRangePair, IsInRangePotential, IsInRangeProof, IsInRangeRatio, IsInRangeRelease, IsInRangeTree, IsInRangeWalk, IsNumber}
 use Rattle.drt_evidence.specs.Text.{body_lines, count_line, evidence_lines, kind_word, word_line, entry_line, front_block, front_lines, head_lines, miss_line, pair_line, proof_block, proof_line, ratio_block, ratio_lines, release_block, release_line, tree_block, tree_lines, walk_line}
 use Rattle.drt_evidence.specs.declared.evidence.Evidence.{Evidence}
 use Rattle.drt_evidence.specs.declared.evidence.Evidence.TheVariants.{EdfYes, EdfNo, UtilisationOne, FixedYes, FixedNo, Undecided}
-use Rattle.drt_evidence.specs.declared.evidence.FrontEntry.{FrontEntry}
+use Rattle.drt_model.specs.declared.front.FrontEntry.{FrontEntry}
 use Rattle.drt_evidence.specs.declared.evidence.ProofClaim.{ProofClaim}
 use Rattle.drt_evidence.specs.declared.evidence.RatioClaim.{RatioClaim}
 use Rattle.drt_evidence.specs.declared.evidence.TreeClaim.{TreeClaim}
@@ -309,7 +309,7 @@ one_part = record {
   make_part = λ r i. refl;
 }
 
-pub undecided_read : (bytes : List ℕ) → Reads (λ e. written (body_lines e)) (IsOfKind kinds.Undecided) bytes Undecided bytes
+pub undecided_read : (bytes : List ℕ) → ReadsBlock (λ e. written (body_lines e)) (IsOfKind kinds.Undecided) bytes Undecided bytes
 undecided_read bytes =
     done (start (λ e. written (body_lines e)) (IsOfKind kinds.Undecided) bytes) Undecided (tt, refl)
     refl (λ y is. only_undecided (λ x. x ≡ Undecided) refl y is.1)
@@ -344,29 +344,29 @@ some_of kinds.Undecided is = (Undecided, tt, refl)
 pub kind_stop : {bytes : List ℕ} {e : Stop} → IsStop (λ y. written_line (kind_line y)) IsAny bytes e → IsStop (λ x. written (evidence_lines x)) IsInRange bytes e
 kind_stop {bytes} i = stop kind_of below_kind kind_parts some_of (start (λ x. written (evidence_lines x)) IsInRange bytes) i
 
-kind_at : {bytes mid : List ℕ} {k : KindOfEvidence} → Reads (λ y. written_line (kind_line y)) IsAny bytes k mid → At (λ x. written (evidence_lines x)) IsInRange (λ x. IsInRange x × (kind_of x ≡ k)) below_kind bytes mid
+kind_at : {bytes mid : List ℕ} {k : KindOfEvidence} → ReadsBlock (λ y. written_line (kind_line y)) IsAny bytes k mid → At (λ x. written (evidence_lines x)) IsInRange (λ x. IsInRange x × (kind_of x ≡ k)) below_kind bytes mid
 kind_at {bytes} r = next kind_of below_kind kind_parts (start (λ x. written (evidence_lines x)) IsInRange bytes) r
 
-pub body_stop : {bytes mid : List ℕ} {k : KindOfEvidence} {e : Stop} → Reads (λ y. written_line (kind_line y)) IsAny bytes k mid → IsStop (λ x. written (body_lines x)) (IsOfKind k) mid e
+pub body_stop : {bytes mid : List ℕ} {k : KindOfEvidence} {e : Stop} → ReadsBlock (λ y. written_line (kind_line y)) IsAny bytes k mid → IsStop (λ x. written (body_lines x)) (IsOfKind k) mid e
     → IsStop (λ x. written (evidence_lines x)) IsInRange bytes e
 body_stop r i = stop (λ (x : Evidence). x) (λ x. close_block tt) (λ x is. (is, refl)) (λ v is. (v, is, refl)) (kind_at r) i
 
-body_at : {bytes mid rest : List ℕ} {k : KindOfEvidence} {v : Evidence} → Reads (λ y. written_line (kind_line y)) IsAny bytes k mid → Reads (λ x. written (body_lines x)) (IsOfKind k) mid v rest
+body_at : {bytes mid rest : List ℕ} {k : KindOfEvidence} {v : Evidence} → ReadsBlock (λ y. written_line (kind_line y)) IsAny bytes k mid → ReadsBlock (λ x. written (body_lines x)) (IsOfKind k) mid v rest
     → At (λ x. written (evidence_lines x)) IsInRange (λ x. (IsInRange x × (kind_of x ≡ k)) × (x ≡ v)) (λ x. close_block tt) bytes rest
 body_at r q = next (λ (x : Evidence). x) (λ x. close_block tt) (λ x is. (is, refl)) (kind_at r) q
 
-pub last_stop : {bytes mid rest : List ℕ} {k : KindOfEvidence} {v : Evidence} {e : Stop} → Reads (λ y. written_line (kind_line y)) IsAny bytes k mid → Reads (λ x. written (body_lines x)) (IsOfKind k) mid v rest
+pub last_stop : {bytes mid rest : List ℕ} {k : KindOfEvidence} {v : Evidence} {e : Stop} → ReadsBlock (λ y. written_line (kind_line y)) IsAny bytes k mid → ReadsBlock (λ x. written (body_lines x)) (IsOfKind k) mid v rest
     → IsStop close_block IsAny rest e → IsStop (λ x. written (evidence_lines x)) IsInRange bytes e
 last_stop {v = v} r q i = stop (λ (x : Evidence). tt) (λ x. []) (λ x is. (tt, sym (append-nil (close_block tt)))) (λ u is. (v, (q.is, refl), refl)) (body_at r q) i
 
-pub evidence_read : {bytes mid rest end : List ℕ} {k : KindOfEvidence} {v : Evidence} {u : Unit {0}} → Reads (λ y. written_line (kind_line y)) IsAny bytes k mid → Reads (λ x. written (body_lines x)) (IsOfKind k) mid v rest
-    → Reads close_block IsAny rest u end → Reads (λ x. written (evidence_lines x)) IsInRange bytes v end
+pub evidence_read : {bytes mid rest end : List ℕ} {k : KindOfEvidence} {v : Evidence} {u : Unit {0}} → ReadsBlock (λ y. written_line (kind_line y)) IsAny bytes k mid → ReadsBlock (λ x. written (body_lines x)) (IsOfKind k) mid v rest
+    → ReadsBlock close_block IsAny rest u end → ReadsBlock (λ x. written (evidence_lines x)) IsInRange bytes v end
 evidence_read {v = v} r q l =
     done (next (λ (x : Evidence). tt) (λ x. []) (λ x is. (tt, sym (append-nil (close_block tt)))) (body_at r q) l) v ((q.is, refl), refl) refl (λ y is. is.0.1)
 
 -- The kind that was read.
-pub kind_read : {bytes rest : List ℕ} {v : Evidence} {k l : KindOfEvidence} → l ≡ k → Reads (λ x. written (body_lines x)) (IsOfKind k) bytes v rest → Reads (λ x. written (body_lines x)) (IsOfKind l) bytes v rest
-kind_read {bytes} {rest} {v} same r = subst (λ j. Reads (λ x. written (body_lines x)) (IsOfKind j) bytes v rest) (sym same) r
+pub kind_read : {bytes rest : List ℕ} {v : Evidence} {k l : KindOfEvidence} → l ≡ k → ReadsBlock (λ x. written (body_lines x)) (IsOfKind k) bytes v rest → ReadsBlock (λ x. written (body_lines x)) (IsOfKind l) bytes v rest
+kind_read {bytes} {rest} {v} same r = subst (λ j. ReadsBlock (λ x. written (body_lines x)) (IsOfKind j) bytes v rest) (sym same) r
 
 pub kind_stopped : {bytes : List ℕ} {e : Stop} {k l : KindOfEvidence} → l ≡ k → IsStop (λ x. written (body_lines x)) (IsOfKind k) bytes e → IsStop (λ x. written (body_lines x)) (IsOfKind l) bytes e
 kind_stopped {bytes} {e} same i = subst (λ j. IsStop (λ x. written (body_lines x)) (IsOfKind j) bytes e) (sym same) i

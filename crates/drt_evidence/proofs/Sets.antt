@@ -17,7 +17,7 @@ use Rattle.drt_file.proofs.Agreed.{print_of}
 use Rattle.drt_file.proofs.Again.{all_of_both}
 use Rattle.drt_file.proofs.Feeds.{count_fed, fed_push, first_fed, no_lines}
 use Rattle.drt_file.proofs.Fronts.{one_front}
-use Rattle.drt_evidence.specs.Blocks.{IsBehind, IsSet, IsStop, Reads, RefusesLine, Stops}
+use Rattle.drt_evidence.specs.Blocks.{IsBehind, IsSet, IsStop, ReadsBlock, RefusesLine, Stops}
 use Rattle.drt_evidence.specs.declared.reading.text.Stop.TheVariants as stops
 
 -- A set of one task of one vertex.
@@ -78,7 +78,7 @@ begins bytes t set is e = record {
   front = ap (take (length (canonical set))) e ∙ take-append_seam (canonical set) t;
 }
 
-pub set_read : (bytes : List ℕ) (set : Contents) (count : ℕ) → BeginsWith bytes set count → Reads canonical IsSet bytes set (drop count bytes)
+pub set_read : (bytes : List ℕ) (set : Contents) (count : ℕ) → BeginsWith bytes set count → ReadsBlock canonical IsSet bytes set (drop count bytes)
 set_read bytes set count b =
     let p = print_of set b.limits in
     record {

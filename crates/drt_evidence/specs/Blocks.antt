@@ -22,7 +22,7 @@ pub record AreLines (bytes : List ℕ) : Type 0 where
   pub are : bytes ≡ fed ls
 
 -- The block of a value stands at the front of a text, with the rest behind it. No text begins with the blocks of two values.
-pub record Reads {X : Type 0} (block : X → List ℕ) (Is : X → Type 0) (bytes : List ℕ) (x : X) (rest : List ℕ) : Type 0 where
+pub record ReadsBlock {X : Type 0} (block : X → List ℕ) (Is : X → Type 0) (bytes : List ℕ) (x : X) (rest : List ℕ) : Type 0 where
   pub is : Is x
   pub stands : bytes ≡ block x ++ rest
   pub lines : AreLines (block x)

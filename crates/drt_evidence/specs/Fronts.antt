@@ -4,7 +4,7 @@ use Rattle.drt_model.specs.Digraph.{Digraph, vertex_count, out_degree, edge_of}
 use Rattle.drt_model.specs.Walk.{wcet, deadline}
 use Rattle.drt_model.specs.Legal.{AllNeighbours}
 use Rattle.drt_sweep.specs.Dues.{greatest_due, sum_due}
-use Rattle.drt_evidence.specs.declared.evidence.FrontEntry.{FrontEntry}
+use Rattle.drt_model.specs.declared.front.FrontEntry.{FrontEntry}
 use Rattle.drt_evidence.specs.Claims.{Each}
 
 -- When the last job of an entry's walk is due: its offset and its vertex's deadline.

@@ -10,7 +10,7 @@ use Rattle.drt_file.specs.trusted.Canonical.{canonical, written}
 use Rattle.drt_evidence.specs.Statement.{Statement}
 use Rattle.drt_evidence.specs.declared.evidence.Evidence.{Evidence}
 use Rattle.drt_evidence.specs.declared.evidence.Evidence.TheVariants.{EdfYes, EdfNo, UtilisationOne, FixedYes, FixedNo, Undecided}
-use Rattle.drt_evidence.specs.declared.evidence.FrontEntry.{FrontEntry}
+use Rattle.drt_model.specs.declared.front.FrontEntry.{FrontEntry}
 use Rattle.drt_evidence.specs.declared.evidence.Item.{Item}
 use Rattle.drt_evidence.specs.declared.evidence.Item.TheVariants.{Pass, Split}
 use Rattle.drt_evidence.specs.declared.evidence.Pair.{Pair}

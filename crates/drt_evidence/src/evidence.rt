@@ -1,5 +1,5 @@
 //! What a dossier claims of a task set.
-use drt_model::{Miss, Policy, Release, Row, TaskSet};
+use drt_model::{FrontEntry, Miss, Policy, Release, Row, TaskSet};
 use std::marker::Model;
 
 /// The ratio `num / den` of a task's cycles, execution time per tick, with a cycle that has it and a potential for each vertex.
@@ -12,14 +12,6 @@ pub struct RatioClaim {
     pub den: u64,
     pub cycle: Row<u32>,
     pub potentials: Row<i64>,
-}
-
-/// A label of a front: the last vertex of a walk, the sum of its separations in ticks, and the sum of its execution times in ticks.
-#[derive(Debug, Drop, Clone, Copy, PartialEq, Eq)]
-pub struct FrontEntry {
-    pub vertex: u32,
-    pub offset: u64,
-    pub work: u64,
 }
 
 /// A node of a tree that joins two earlier ones.

@@ -20,7 +20,8 @@ mod rule;
 #[cfg(test)]
 mod tests;
 
-pub use evidence::{Dossier, Evidence, FrontEntry, Item, Pair, ProofClaim, RatioClaim, TreeClaim};
+pub use drt_model::FrontEntry;
+pub use evidence::{Dossier, Evidence, Item, Pair, ProofClaim, RatioClaim, TreeClaim};
 pub use fault::{DossierError, DossierFault};
 pub use printing::print;
 pub use reading::read;

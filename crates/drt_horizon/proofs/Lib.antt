@@ -3,6 +3,6 @@ pub mod Givens
 pub mod Horizons
 pub mod Multiples
 pub mod Overloads
-pub mod LapRows
+pub mod CycleTurnRows
 pub mod Fronts
 pub mod Walks

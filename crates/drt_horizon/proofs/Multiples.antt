@@ -3,8 +3,8 @@ use Rattle.std.proofs.Common.{◌≡◌, ℕ, zero, suc, ◌+◌, ◌*◌, ◌/�
 use Rattle.std.proofs.lemmas.Bool.{cases_lt, eqb-true, eqb-false, or_parts}
 use Rattle.std.proofs.lemmas.Nat.{div-add-mod', le-div}
 use Rattle.std.proofs.Math.Nat.{mul-mod_left, div-mul-le_self, div-le_self}
-use Rattle.drt_horizon.specs.declared.laps.Lap.{Lap}
-use Rattle.drt_horizon.specs.Laps.{is_step, IsStep, steps_to, lapped, IsClear, IsNext, AreLaps}
+use Rattle.drt_horizon.specs.declared.cycle_turns.CycleTurn.{CycleTurn}
+use Rattle.drt_horizon.specs.CycleTurns.{is_step, IsStep, steps_to, turned, IsClear, IsNext, AreCycleTurns}
 
 apart : (x y : ℕ) → (x ≡ y → ⊥) → eqb x y ≡ false
 apart x y differ = go (eqb x y) refl
@@ -22,7 +22,7 @@ plain m q p t s l k e h = go (cases_lt q m)
     go (inr x) = let f = mul-le-mul_left p x in absurd (omega arith)
 
 -- The first multiple of one span.
-pub next_multiple : (c : Lap) (t : ℕ) → 1 ≤ c.span → IsNext (c ∷ []) t ((t / c.span + 1) * c.span)
+pub next_multiple : (c : CycleTurn) (t : ℕ) → 1 ≤ c.span → IsNext (c ∷ []) t ((t / c.span + 1) * c.span)
 unfolding is_step
 next_multiple c t some = record {
   after = beyond;
@@ -38,12 +38,12 @@ next_multiple c t some = record {
         let d = div-add-mod' s c.span in
         plain (s / c.span) (t / c.span) c.span t s (div-mul-le_self t c.span) l (omega arith) (let f : t / c.span + 1 ≡ suc (t / c.span) = omega arith in rw f at m)
 
-step_push : (laps : List Lap) (c : Lap) (s : ℕ) → is_step (laps ++ c ∷ []) s ≡ (is_step laps s || is_step (c ∷ []) s)
+step_push : (cycle_turns : List CycleTurn) (c : CycleTurn) (s : ℕ) → is_step (cycle_turns ++ c ∷ []) s ≡ (is_step cycle_turns s || is_step (c ∷ []) s)
 unfolding is_step
 step_push [] c s = refl
-step_push (d ∷ laps) c s = go (eqb (s % d.span) 0) (step_push laps c s)
+step_push (d ∷ cycle_turns) c s = go (eqb (s % d.span) 0) (step_push cycle_turns c s)
   where
-    go : (b : Bool) → is_step (laps ++ c ∷ []) s ≡ (is_step laps s || is_step (c ∷ []) s) → (b || is_step (laps ++ c ∷ []) s) ≡ ((b || is_step laps s) || is_step (c ∷ []) s)
+    go : (b : Bool) → is_step (cycle_turns ++ c ∷ []) s ≡ (is_step cycle_turns s || is_step (c ∷ []) s) → (b || is_step (cycle_turns ++ c ∷ []) s) ≡ ((b || is_step cycle_turns s) || is_step (c ∷ []) s)
     go true ih = refl
     go false ih = ih
 
@@ -59,69 +59,69 @@ or_none : (a b : Bool) → a ≡ false → b ≡ false → (a || b) ≡ false
 or_none true b e f = absurd (cc)
 or_none false b e f = f
 
--- One more lap whose next time is earlier.
-pub next_less : (laps : List Lap) (c : Lap) (t next other : ℕ) → IsNext laps t next → IsNext (c ∷ []) t other → other < next → IsNext (laps ++ c ∷ []) t other
-next_less laps c t next other p q l = record {
+-- One more turn whose next time is earlier.
+pub next_less : (cycle_turns : List CycleTurn) (c : CycleTurn) (t next other : ℕ) → IsNext cycle_turns t next → IsNext (c ∷ []) t other → other < next → IsNext (cycle_turns ++ c ∷ []) t other
+next_less cycle_turns c t next other p q l = record {
   after = q.after;
-  step = rw step_push (or_right (is_step laps other) (is_step (c ∷ []) other) q.step);
-  first = λ s x y. rw step_push (or_none (is_step laps s) (is_step (c ∷ []) s) (p.first s x (omega arith)) (q.first s x y));
+  step = rw step_push (or_right (is_step cycle_turns other) (is_step (c ∷ []) other) q.step);
+  first = λ s x y. rw step_push (or_none (is_step cycle_turns s) (is_step (c ∷ []) s) (p.first s x (omega arith)) (q.first s x y));
 }
 
--- One more lap whose next time is no earlier.
-pub next_more : (laps : List Lap) (c : Lap) (t next other : ℕ) → IsNext laps t next → IsNext (c ∷ []) t other → next ≤ other → IsNext (laps ++ c ∷ []) t next
-next_more laps c t next other p q l = record {
+-- One more turn whose next time is no earlier.
+pub next_more : (cycle_turns : List CycleTurn) (c : CycleTurn) (t next other : ℕ) → IsNext cycle_turns t next → IsNext (c ∷ []) t other → next ≤ other → IsNext (cycle_turns ++ c ∷ []) t next
+next_more cycle_turns c t next other p q l = record {
   after = p.after;
-  step = rw step_push (or_left (is_step laps next) (is_step (c ∷ []) next) p.step);
-  first = λ s x y. rw step_push (or_none (is_step laps s) (is_step (c ∷ []) s) (p.first s x y) (q.first s x (omega arith)));
+  step = rw step_push (or_left (is_step cycle_turns next) (is_step (c ∷ []) next) p.step);
+  first = λ s x y. rw step_push (or_none (is_step cycle_turns s) (is_step (c ∷ []) s) (p.first s x y) (q.first s x (omega arith)));
 }
 
-count_stays : (laps : List Lap) (t n : ℕ) → t ≤ n → ((s : ℕ) → t < s → s ≤ n → is_step laps s ≡ false) → steps_to laps n ≡ steps_to laps t
+count_stays : (cycle_turns : List CycleTurn) (t n : ℕ) → t ≤ n → ((s : ℕ) → t < s → s ≤ n → is_step cycle_turns s ≡ false) → steps_to cycle_turns n ≡ steps_to cycle_turns t
 unfolding steps_to
-count_stays laps t zero l none = let e : t ≡ 0 = omega arith in rw e refl
-count_stays laps t (suc n) l none = go (cases_lt t (suc n)) (λ m. count_stays laps t n m (λ s x y. none s x (omega arith)))
+count_stays cycle_turns t zero l none = let e : t ≡ 0 = omega arith in rw e refl
+count_stays cycle_turns t (suc n) l none = go (cases_lt t (suc n)) (λ m. count_stays cycle_turns t n m (λ s x y. none s x (omega arith)))
   where
-    go : (t < suc n) ⊎ (suc n ≤ t) → (t ≤ n → steps_to laps n ≡ steps_to laps t) → cond (is_step laps (suc n)) 1 0 + steps_to laps n ≡ steps_to laps t
+    go : (t < suc n) ⊎ (suc n ≤ t) → (t ≤ n → steps_to cycle_turns n ≡ steps_to cycle_turns t) → cond (is_step cycle_turns (suc n)) 1 0 + steps_to cycle_turns n ≡ steps_to cycle_turns t
     go (inl m) ih = rw (none (suc n) m (omega arith)) (omega (arith, ih (omega arith)))
     go (inr m) ih = let e : t ≡ suc n = omega arith in rw e refl
 
 -- The next step time counts one more.
-pub count_more : (laps : List Lap) (t next : ℕ) → IsNext laps t next → steps_to laps next ≡ steps_to laps t + 1
+pub count_more : (cycle_turns : List CycleTurn) (t next : ℕ) → IsNext cycle_turns t next → steps_to cycle_turns next ≡ steps_to cycle_turns t + 1
 unfolding steps_to
-count_more laps t zero is = let a = is.after in absurd (omega arith)
-count_more laps t (suc next) is =
+count_more cycle_turns t zero is = let a = is.after in absurd (omega arith)
+count_more cycle_turns t (suc next) is =
     let a = is.after in
-    rw is.step (omega (arith, count_stays laps t next (omega arith) (λ s x y. is.first s x (omega arith))))
+    rw is.step (omega (arith, count_stays cycle_turns t next (omega arith) (λ s x y. is.first s x (omega arith))))
 
 -- No step time is 0.
-pub count_none : (laps : List Lap) → steps_to laps 0 ≡ 0
+pub count_none : (cycle_turns : List CycleTurn) → steps_to cycle_turns 0 ≡ 0
 unfolding steps_to
-count_none laps = refl
+count_none cycle_turns = refl
 
 -- between two step times there is nothing to check.
-pub clear_to : (laps : List Lap) (t next : ℕ) → IsNext laps t next → IsClear laps (t + 1) → IsClear laps next
-clear_to laps t next is clear s l step = go (cases_lt t s)
+pub clear_to : (cycle_turns : List CycleTurn) (t next : ℕ) → IsNext cycle_turns t next → IsClear cycle_turns (t + 1) → IsClear cycle_turns next
+clear_to cycle_turns t next is clear s l step = go (cases_lt t s)
   where
-    go : (t < s) ⊎ (s ≤ t) → lapped laps s ≤ s
+    go : (t < s) ⊎ (s ≤ t) → turned cycle_turns s ≤ s
     go (inl m) = let none = is.first s m l in let some = step.1 in absurd (cc)
     go (inr m) = clear s (omega arith) step
 
 -- The next step time is clear too.
-pub clear_more : (laps : List Lap) (t next : ℕ) → IsNext laps t next → IsClear laps (t + 1) → lapped laps next ≤ next → IsClear laps (next + 1)
-clear_more laps t next is clear fits s l step = go (cases_lt s next)
+pub clear_more : (cycle_turns : List CycleTurn) (t next : ℕ) → IsNext cycle_turns t next → IsClear cycle_turns (t + 1) → turned cycle_turns next ≤ next → IsClear cycle_turns (next + 1)
+clear_more cycle_turns t next is clear fits s l step = go (cases_lt s next)
   where
-    go : (s < next) ⊎ (next ≤ s) → lapped laps s ≤ s
-    go (inl m) = clear_to laps t next is clear s m step
+    go : (s < next) ⊎ (next ≤ s) → turned cycle_turns s ≤ s
+    go (inl m) = clear_to cycle_turns t next is clear s m step
     go (inr m) = let e : s ≡ next = omega arith in rw e fits
 
--- The work of one more lap.
-pub lapped_cons : (c : Lap) (laps : List Lap) (t : ℕ) → lapped (c ∷ laps) t ≡ t / c.span * c.work + lapped laps t
-unfolding lapped
-lapped_cons c laps t = refl
+-- The work of one more turn.
+pub turned_cons : (c : CycleTurn) (cycle_turns : List CycleTurn) (t : ℕ) → turned (c ∷ cycle_turns) t ≡ t / c.span * c.work + turned cycle_turns t
+unfolding turned
+turned_cons c cycle_turns t = refl
 
--- The work of no laps.
-pub lapped_none : (t : ℕ) → lapped [] t ≡ 0
-unfolding lapped
-lapped_none t = refl
+-- The work of no turns.
+pub turned_none : (t : ℕ) → turned [] t ≡ 0
+unfolding turned
+turned_none t = refl
 
 same_quotient : (t p : ℕ) → 1 ≤ p → (suc t % p ≡ 0 → ⊥) → suc t / p ≡ t / p
 same_quotient t p some differ =
@@ -135,36 +135,36 @@ same_quotient t p some differ =
     positive zero h = absurd (h refl)
     positive (suc r) h = omega arith
 
-lapped_stays : (laps : List Lap) → AreLaps laps → (t : ℕ) → is_step laps (suc t) ≡ false → lapped laps (suc t) ≡ lapped laps t
-unfolding is_step lapped
-lapped_stays [] are t e = refl
-lapped_stays (c ∷ laps) are t e =
-    let r = or_parts (eqb (suc t % c.span) 0) (is_step laps (suc t)) e in
-    rw (same_quotient t c.span are.0 (eqb-false (suc t % c.span) 0 r.0), lapped_stays laps are.3 t r.1) refl
+turned_stays : (cycle_turns : List CycleTurn) → AreCycleTurns cycle_turns → (t : ℕ) → is_step cycle_turns (suc t) ≡ false → turned cycle_turns (suc t) ≡ turned cycle_turns t
+unfolding is_step turned
+turned_stays [] are t e = refl
+turned_stays (c ∷ cycle_turns) are t e =
+    let r = or_parts (eqb (suc t % c.span) 0) (is_step cycle_turns (suc t)) e in
+    rw (same_quotient t c.span are.0 (eqb-false (suc t % c.span) 0 r.0), turned_stays cycle_turns are.3 t r.1) refl
 
 -- No work is done by 0.
-pub lapped_zero : (laps : List Lap) → AreLaps laps → lapped laps 0 ≡ 0
-unfolding lapped
-lapped_zero [] are = refl
-lapped_zero (c ∷ laps) are =
+pub turned_zero : (cycle_turns : List CycleTurn) → AreCycleTurns cycle_turns → turned cycle_turns 0 ≡ 0
+unfolding turned
+turned_zero [] are = refl
+turned_zero (c ∷ cycle_turns) are =
     let z : 0 / c.span ≡ 0 = (let l : 0 / c.span ≤ 0 = div-le_self 0 c.span in omega arith) in
-    rw (z, lapped_zero laps are.3) (omega arith)
+    rw (z, turned_zero cycle_turns are.3) (omega arith)
 
 -- Where whole turns are too much at some time, they are at a step time up to it.
-pub steps_decide : (laps : List Lap) → AreLaps laps → (t : ℕ) → t < lapped laps t → (s : ℕ) × IsStep laps s × (s ≤ t) × (s < lapped laps s)
-steps_decide laps are zero l = let z = lapped_zero laps are in absurd (omega arith)
-steps_decide laps are (suc t) l = go (is_step laps (suc t)) refl (λ m. steps_decide laps are t m)
+pub steps_decide : (cycle_turns : List CycleTurn) → AreCycleTurns cycle_turns → (t : ℕ) → t < turned cycle_turns t → (s : ℕ) × IsStep cycle_turns s × (s ≤ t) × (s < turned cycle_turns s)
+steps_decide cycle_turns are zero l = let z = turned_zero cycle_turns are in absurd (omega arith)
+steps_decide cycle_turns are (suc t) l = go (is_step cycle_turns (suc t)) refl (λ m. steps_decide cycle_turns are t m)
   where
-    go : (b : Bool) → is_step laps (suc t) ≡ b → (t < lapped laps t → (s : ℕ) × IsStep laps s × (s ≤ t) × (s < lapped laps s)) → (s : ℕ) × IsStep laps s × (s ≤ suc t) × (s < lapped laps s)
+    go : (b : Bool) → is_step cycle_turns (suc t) ≡ b → (t < turned cycle_turns t → (s : ℕ) × IsStep cycle_turns s × (s ≤ t) × (s < turned cycle_turns s)) → (s : ℕ) × IsStep cycle_turns s × (s ≤ suc t) × (s < turned cycle_turns s)
     go true e ih = (suc t, (omega arith, e), omega arith, l)
-    go false e ih = let r = ih (omega (arith, lapped_stays laps are t e)) in (r.0, r.1, omega (arith, r.2), r.3)
+    go false e ih = let r = ih (omega (arith, turned_stays cycle_turns are t e)) in (r.0, r.1, omega (arith, r.2), r.3)
 
 -- Of t times at most t are step times.
-pub steps_few : (laps : List Lap) (n : ℕ) → steps_to laps n ≤ n
+pub steps_few : (cycle_turns : List CycleTurn) (n : ℕ) → steps_to cycle_turns n ≤ n
 unfolding steps_to
-steps_few laps zero = omega arith
-steps_few laps (suc n) = go (is_step laps (suc n)) (steps_few laps n)
+steps_few cycle_turns zero = omega arith
+steps_few cycle_turns (suc n) = go (is_step cycle_turns (suc n)) (steps_few cycle_turns n)
   where
-    go : (b : Bool) → steps_to laps n ≤ n → cond b 1 0 + steps_to laps n ≤ suc n
+    go : (b : Bool) → steps_to cycle_turns n ≤ n → cond b 1 0 + steps_to cycle_turns n ≤ suc n
     go true ih = omega arith
     go false ih = omega arith

@@ -5,7 +5,7 @@ use Rattle.std.proofs.lemmas.Bool.{cases_lt, leb-true}
 use Rattle.drt_model.specs.Digraph.{Digraph}
 use Rattle.drt_model.specs.Walk.{last_of, span, work, deadline}
 use Rattle.drt_graph.specs.Graphs.{AreGraphs}
-use Rattle.drt_demand.specs.Demand.{Demand}
+use Rattle.drt_model.specs.declared.front.FrontEntry.{FrontEntry}
 use Rattle.drt_sweep.specs.Dues.{sum_due}
 use Rattle.drt_demand.specs.Dbf.{dbf_at}
 use Rattle.drt_ratio.specs.declared.ratio_proof.RatioProof.{RatioProof}
@@ -21,7 +21,7 @@ use Rattle.drt_horizon.proofs.Horizons.{horizon_holds}
 abbrev pub HasWalk : Digraph → ℕ → ℕ → Type 0
 HasWalk g t n = (w : List ℕ) × IsDue g t w × (work g w ≡ n)
 
-label_walk : (g : Digraph) (t r : ℕ) (x : Demand) → IsWalkLabel g x → HasWalk g t r → (b : Bool) → nat_le (x.offset + deadline g x.vertex) t ≡ b → HasWalk g t (max (cond b x.work 0) r)
+label_walk : (g : Digraph) (t r : ℕ) (x : FrontEntry) → IsWalkLabel g x → HasWalk g t r → (b : Bool) → nat_le (x.offset + deadline g x.vertex) t ≡ b → HasWalk g t (max (cond b x.work 0) r)
 label_walk g t r x is rest false e = (rest.0, rest.1, rest.2 ∙ plain r)
   where
     plain : (n : ℕ) → n ≡ max 0 n
@@ -45,12 +45,12 @@ label_walk g t r x is rest true e = go (cases_lt x.work r)
         let total : x.work ≡ work g (is.0 ∷ is.1) = ap (λ y. y.work) same in
         (is.0 ∷ is.1, (is.2, is.3, omega (arith, due, sum)), sym total ∙ more x.work r l)
 
-front_walk : (g : Digraph) (t : ℕ) (front : List Demand) → All (IsWalkLabel g) front → HasWalk g t (dbf_at g front t)
+front_walk : (g : Digraph) (t : ℕ) (front : List FrontEntry) → All (IsWalkLabel g) front → HasWalk g t (dbf_at g front t)
 front_walk g t [] all = ([], tt, work_none g)
 front_walk g t (x ∷ front) all =
     label_walk g t (dbf_at g front t) x (all 0 x (omega arith)) (front_walk g t front (λ k d l. all (suc k) d (omega arith))) (nat_le (x.offset + deadline g x.vertex) t) refl
 
-front_walks : (graphs : List Digraph) (fronts : List (List Demand)) (t : ℕ) → AreWalkFronts graphs fronts → (walks : List (List ℕ)) × AreDue t graphs walks × (efforts graphs walks ≡ demands graphs fronts t)
+front_walks : (graphs : List Digraph) (fronts : List (List FrontEntry)) (t : ℕ) → AreWalkFronts graphs fronts → (walks : List (List ℕ)) × AreDue t graphs walks × (efforts graphs walks ≡ demands graphs fronts t)
 unfolding efforts sum_due
 front_walks [] [] t are = ([], tt, refl)
 front_walks [] (f ∷ fronts) t are = absurd are
@@ -61,7 +61,7 @@ front_walks (g ∷ graphs) (f ∷ fronts) t are =
     (w.0 ∷ r.0, (w.1, r.1), omega (arith, w.2, r.2))
 
 -- A time with too much demand is within the horizon.
-pub demands_within : (graphs : List Digraph) (proofs : List RatioProof) → AreGraphs graphs → AreGiven graphs proofs → (bound : ℕ) → IsPlan graphs proofs (Ok (Under bound)) → (fronts : List (List Demand)) → AreWalkFronts graphs fronts → (t : ℕ) → t < demands graphs fronts t → t ≤ bound
+pub demands_within : (graphs : List Digraph) (proofs : List RatioProof) → AreGraphs graphs → AreGiven graphs proofs → (bound : ℕ) → IsPlan graphs proofs (Ok (Under bound)) → (fronts : List (List FrontEntry)) → AreWalkFronts graphs fronts → (t : ℕ) → t < demands graphs fronts t → t ≤ bound
 demands_within graphs proofs are given bound plan fronts is t over =
     let w = front_walks graphs fronts t is in
     horizon_holds graphs proofs are given bound plan t w.0 w.1 (omega (arith, w.2, over))

@@ -1,7 +1,7 @@
 -- The graphs of a set with what the search for the greatest ratio gives for each.
 use Rattle.std.specs.Prelude.{ℤ, List, [], ◌∷◌}
 use Rattle.drt_model.specs.Digraph.{Digraph}
-use Rattle.drt_model.specs.RatioRules.{KeepsRules}
+use Rattle.drt_model.specs.RatioRules.{ProvesRatio}
 use Rattle.drt_ratio.specs.declared.ratio_proof.RatioProof.{RatioProof}
 use Rattle.drt_ratio.specs.Claims.{IsRatioProof, IsInReach}
 
@@ -9,7 +9,7 @@ use Rattle.drt_ratio.specs.Claims.{IsRatioProof, IsInReach}
 pub record IsGiven (g : Digraph) (p : RatioProof) : Type 0 where
   pub greatest : IsRatioProof g p.ratio.num p.ratio.den p.cycle p.potentials
   pub reach : IsInReach g p.ratio.num p.ratio.den p.potentials
-  pub keeps : KeepsRules g p.ratio.num p.ratio.den p.cycle p.potentials
+  pub keeps : ProvesRatio g p.ratio.num p.ratio.den p.cycle p.potentials
 
 -- One for each graph, in order.
 abbrev pub AreGiven : List Digraph → List RatioProof → Type 0

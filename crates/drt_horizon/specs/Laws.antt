@@ -1,4 +1,4 @@
--- What the horizon and the laps of a set mean.
+-- What the horizon and the turns of a set mean.
 use Rattle.std.specs.Prelude.{◌≡◌, ℕ, ◌+◌, ◌-◌, ◌*◌, ◌/◌, ◌<◌, ◌≤◌, ℤ, pos, ◌+ℤ◌, ◌≤ℤ◌, List, [], ◌∷◌, All, Ok}
 use Rattle.drt_model.specs.Digraph.{Digraph, IsSound, vertex_count}
 use Rattle.drt_model.specs.Walk.{IsPath, last_of, work, span, deadline}
@@ -6,7 +6,7 @@ use Rattle.drt_model.specs.RatioRules.{FitPotentials}
 use Rattle.drt_model.specs.Utilisation.{IsScale}
 use Rattle.drt_model.specs.Horizon.{constant_of}
 use Rattle.drt_graph.specs.Graphs.{AreGraphs}
-use Rattle.drt_demand.specs.Demand.{Demand}
+use Rattle.drt_model.specs.declared.front.FrontEntry.{FrontEntry}
 use Rattle.drt_demand.specs.WalkLabel.{demand_of}
 use Rattle.drt_ratio.specs.declared.ratio_proof.RatioProof.{RatioProof}
 use Rattle.drt_ratio.specs.SetRatios.{fractions_of}
@@ -15,7 +15,7 @@ use Rattle.drt_horizon.specs.declared.answers.Over.TheVariants.{Spent}
 use Rattle.drt_horizon.specs.Given.{AreGiven}
 use Rattle.drt_horizon.specs.Demands.{demands}
 use Rattle.drt_horizon.specs.Plans.{IsPlan, IsAboveOne, rate_at}
-use Rattle.drt_horizon.specs.Laps.{laps_of, lap_works, lapped, IsStep, IsOver}
+use Rattle.drt_horizon.specs.CycleTurns.{cycle_turns_of, cycle_turn_works, turned, IsStep, IsOver}
 
 -- Where potentials fit each edge at the ratio a / b, b times the work of a walk is at most a times its last deadline plus the
 -- constant.
@@ -54,28 +54,28 @@ HorizonHolds =
 
 -- A time by which an overload shows: the scale times the work of one turn of each cycle, over the rate less the scale, and one.
 abbrev pub latest : ℕ → List Digraph → List RatioProof → ℕ
-latest scale graphs proofs = scale * lap_works (laps_of graphs proofs) / (rate_at scale proofs - scale) + 1
+latest scale graphs proofs = scale * cycle_turn_works (cycle_turns_of graphs proofs) / (rate_at scale proofs - scale) + 1
 
 -- Where the plan is that the utilisation is above one, a step time up to that time has more work of whole turns than time.
 abbrev pub OverloadHasATime : Type 0
 OverloadHasATime =
     (graphs : List Digraph) (proofs : List RatioProof) → AreGraphs graphs → AreGiven graphs proofs → IsAboveOne graphs proofs →
     (scale : ℕ) → IsScale (fractions_of proofs) scale →
-    (t : ℕ) × IsStep (laps_of graphs proofs) t × (t ≤ latest scale graphs proofs) × (t < lapped (laps_of graphs proofs) t)
+    (t : ℕ) × IsStep (cycle_turns_of graphs proofs) t × (t ≤ latest scale graphs proofs) × (t < turned (cycle_turns_of graphs proofs) t)
 
 -- A search whose budget is at least that time does not spend it.
 abbrev pub SearchEnds : Type 0
 SearchEnds =
     (graphs : List Digraph) (proofs : List RatioProof) → AreGraphs graphs → AreGiven graphs proofs → IsAboveOne graphs proofs →
     (scale : ℕ) → IsScale (fractions_of proofs) scale →
-    (budget last : ℕ) → latest scale graphs proofs ≤ budget → IsOver (laps_of graphs proofs) budget (Spent last) → ⊥
+    (budget last : ℕ) → latest scale graphs proofs ≤ budget → IsOver (cycle_turns_of graphs proofs) budget (Spent last) → ⊥
 
 -- The label is that of a walk of the graph.
-abbrev pub IsWalkLabel : Digraph → Demand → Type 0
+abbrev pub IsWalkLabel : Digraph → FrontEntry → Type 0
 IsWalkLabel g x = (u : ℕ) × (vs : List ℕ) × (u < vertex_count g) × IsPath g u vs × (x ≡ demand_of g u vs)
 
 -- Each label of each list is that of a walk of its graph, and there is one list for each graph, in order.
-abbrev pub AreWalkFronts : List Digraph → List (List Demand) → Type 0
+abbrev pub AreWalkFronts : List Digraph → List (List FrontEntry) → Type 0
 AreWalkFronts [] [] = Unit {0}
 AreWalkFronts [] (f ∷ fronts) = ⊥
 AreWalkFronts (g ∷ graphs) [] = ⊥
@@ -87,6 +87,6 @@ abbrev pub DemandsWithin : Type 0
 DemandsWithin =
     (graphs : List Digraph) (proofs : List RatioProof) → AreGraphs graphs → AreGiven graphs proofs →
     (bound : ℕ) → IsPlan graphs proofs (Ok (Under bound)) →
-    (fronts : List (List Demand)) → AreWalkFronts graphs fronts →
+    (fronts : List (List FrontEntry)) → AreWalkFronts graphs fronts →
     (t : ℕ) → t < demands graphs fronts t →
     t ≤ bound

@@ -1,5 +1,5 @@
 pub mod Given
 pub mod Plans
-pub mod Laps
+pub mod CycleTurns
 pub mod Laws
 pub mod Demands

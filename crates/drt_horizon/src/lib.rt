@@ -12,7 +12,7 @@
 mod answers;
 mod constants;
 mod given;
-mod laps;
+mod cycle_turns;
 mod laws;
 mod plans;
 mod scanning;
@@ -22,7 +22,7 @@ mod tests;
 
 pub use answers::{Beyond, Horizon, Over};
 pub use given::ratios;
-pub use laps::Lap;
+pub use cycle_turns::CycleTurn;
 pub use laws::{demands_within, horizon_holds, overload_has_a_time, search_ends, work_is_bounded};
 pub use plans::plan;
 pub use scanning::scan;

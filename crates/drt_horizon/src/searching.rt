@@ -2,26 +2,26 @@
 ghost use Rattle.std.specs.Prelude.{◌≤◌, length};
 ghost use Rattle.drt_horizon.specs.Given.{AreGiven};
 ghost use Rattle.drt_horizon.specs.Plans.{IsAboveOne};
-ghost use Rattle.drt_horizon.specs.Laps.{AreLaps, IsOver, laps_of};
+ghost use Rattle.drt_horizon.specs.CycleTurns.{AreCycleTurns, IsOver, cycle_turns_of};
 
 use crate::answers::Over;
-use crate::laps::{Lap, lap_of, next_step, work_within};
+use crate::cycle_turns::{CycleTurn, cycle_turn_of, next_step, work_within};
 use drt_graph::Graphs;
 use drt_ratio::RatioProof;
 
 // The least step time with more work than time, among the first `budget` ones.
-fn search(laps: &[Lap], budget: u64) -> Over
-    requires laps { AreLaps laps.now }
-    requires some { 1 ≤ length laps.now }
-    requires few { length laps.now ≤ 32 }
+fn search(cycle_turns: &[CycleTurn], budget: u64) -> Over
+    requires cycle_turns { AreCycleTurns cycle_turns.now }
+    requires some { 1 ≤ length cycle_turns.now }
+    requires few { length cycle_turns.now ≤ 32 }
     requires budget_some { 1 ≤ budget }
     requires budget_few { budget ≤ 1000000 }
-    ensures { IsOver laps.now budget result }
+    ensures { IsOver cycle_turns.now budget result }
 {
     let mut t = 0;
     'steps: for _ in 0..budget {
-        let next = next_step(laps, t);
-        if work_within(laps, next) > next as u128 {
+        let next = next_step(cycle_turns, t);
+        if work_within(cycle_turns, next) > next as u128 {
             return Over::Found(next);
         }
         t = next;
@@ -37,16 +37,16 @@ pub fn overload(graphs: &Graphs, proofs: &[RatioProof], budget: u64) -> Over
     requires above { IsAboveOne graphs.now proofs.now }
     requires budget_some { 1 ≤ budget }
     requires budget_few { budget ≤ 1000000 }
-    ensures { IsOver (laps_of graphs.now proofs.now) budget result }
+    ensures { IsOver (cycle_turns_of graphs.now proofs.now) budget result }
 {
-    let mut laps = [Lap { work: 0, span: 0 }; 32];
+    let mut cycle_turns = [CycleTurn { work: 0, span: 0 }; 32];
     let mut count = 0usize;
     'tasks: for i in 0..graphs.count() {
         let cycle = proofs[i as usize].cycle.as_slice();
         if cycle.len() != 0 {
-            laps[count] = lap_of(graphs.graph(i), cycle);
+            cycle_turns[count] = cycle_turn_of(graphs.graph(i), cycle);
             count += 1;
         }
     }
-    search(&laps[..count], budget)
+    search(&cycle_turns[..count], budget)
 }

@@ -23,7 +23,7 @@ IsTight g a b [] = Unit {0}
 IsTight g a b (v ∷ vs) = b * work g (v ∷ vs) ≡ a * cycle_span g (v ∷ vs)
 
 -- The claim keeps all four rules.
-pub record KeepsRules (g : Digraph) (a b : ℕ) (cycle : List ℕ) (hs : List ℤ) : Type 0 where
+pub record ProvesRatio (g : Digraph) (a b : ℕ) (cycle : List ℕ) (hs : List ℤ) : Type 0 where
   pub counted : AreCounted g hs
   pub fits : FitPotentials g a b hs
   pub closed : IsClosed g a cycle

@@ -5,8 +5,8 @@ use Rattle.drt_model.specs.Digraph.{Digraph}
 use Rattle.drt_model.specs.Walk.{work, IsCycle, cycle_span}
 
 -- No cycle has a greater ratio of its execution times to its separations than a / b.
-abbrev pub IsLeast : Digraph → ℕ → ℕ → Type 0
-IsLeast g a b = (cycle : List ℕ) → IsCycle g cycle → b * work g cycle ≤ a * cycle_span g cycle
+abbrev pub BoundsCycles : Digraph → ℕ → ℕ → Type 0
+BoundsCycles g a b = (cycle : List ℕ) → IsCycle g cycle → b * work g cycle ≤ a * cycle_span g cycle
 
 -- The cycle has the ratio a / b, which isn't 0; the empty list stands for no cycle, with the ratio 0 / 1.
 abbrev pub HasRatio : Digraph → ℕ → ℕ → List ℕ → Type 0
@@ -25,7 +25,7 @@ pub record Fraction : Type 0 where
 -- The ratio of a graph: in lowest terms, the greatest ratio of a cycle, which some cycle has; 0 / 1 where there is none.
 pub record IsRatio (g : Digraph) (r : Fraction) : Type 0 where
   pub lowest : IsGcd r.num r.den 1
-  pub least : IsLeast g r.num r.den
+  pub least : BoundsCycles g r.num r.den
   pub cycle : List ℕ
   pub has : HasRatio g r.num r.den cycle
 

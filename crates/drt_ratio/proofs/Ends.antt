@@ -4,7 +4,7 @@ use Rattle.std.proofs.lemmas.Int.{ints}
 use Rattle.std.specs.Int.{IsGcd}
 use Rattle.drt_model.specs.Digraph.{Digraph, IsSound, vertex_count}
 use Rattle.drt_model.specs.Potential.{potential_of}
-use Rattle.drt_model.specs.RatioRules.{IsClosed, IsTight, KeepsRules}
+use Rattle.drt_model.specs.RatioRules.{IsClosed, IsTight, ProvesRatio}
 use Rattle.drt_model.specs.Utilisation.{AreDistinct, HasRatio}
 use Rattle.drt_graph.proofs.Edges.{target_of, source_of}
 use Rattle.drt_ratio.specs.declared.levels.Level.{Level}
@@ -51,7 +51,7 @@ tight_of g a b [] has = tt
 tight_of g a b (v ∷ vs) has = has.1
 
 -- They keep the rules of a claimed ratio.
-pub rules_kept : (g : Digraph) (a b n : ℕ) (levels : List Level) (cycle : List ℕ) (hs : List ℤ) → Ended g a b n levels hs → HasRatio g a b cycle → KeepsRules g a b cycle hs
+pub rules_kept : (g : Digraph) (a b n : ℕ) (levels : List Level) (cycle : List ℕ) (hs : List ℤ) → Ended g a b n levels hs → HasRatio g a b cycle → ProvesRatio g a b cycle hs
 rules_kept g a b n levels cycle hs e has = record {
   counted = e.counted ∙ e.size;
   fits = λ u v p edge.

@@ -8,7 +8,7 @@ use Rattle.drt_model.specs.Digraph.{Digraph, IsSound, vertex_count}
 use Rattle.drt_model.specs.Walk.{sep, gap, wcet, IsEdge, IsPath, last_of, work, span, IsCycle, cycle_span}
 use Rattle.drt_graph.proofs.Edges.{target_of, source_of, gap_of}
 use Rattle.drt_ratio.specs.declared.levels.Level.{Level}
-use Rattle.drt_model.specs.Utilisation.{HasRatio, IsLeast}
+use Rattle.drt_model.specs.Utilisation.{HasRatio, BoundsCycles}
 use Rattle.drt_model.specs.Potential.{IsPotential}
 use Rattle.drt_ratio.specs.Levels.{height, level_of, Comes, IsRound, IsTower, IsSettled}
 use Rattle.drt_graph.proofs.Paths.{work_cons, span_cons, work_none, span_none, fits_cycle}
@@ -121,7 +121,7 @@ is_potential g a b n v h size some most (u, (vs, path, end, short, sum)) = recor
 }
 
 -- Once the last round raises nothing no cycle gains.
-pub settled_least : (g : Digraph) (a b : ℕ) (levels : List Level) (n : ℕ) → IsSound g → IsTower g a b levels → length levels ≡ n + 1 → n ≡ vertex_count g → 0 < n → IsSettled levels n → IsLeast g a b
+pub settled_least : (g : Digraph) (a b : ℕ) (levels : List Level) (n : ℕ) → IsSound g → IsTower g a b levels → length levels ≡ n + 1 → n ≡ vertex_count g → 0 < n → IsSettled levels n → BoundsCycles g a b
 settled_least g a b levels n sound tower count size some settled cycle is = fits_cycle g a b (λ v. height (level_of levels (n - 1)) v) fits cycle is
   where
     fits : (u v : ℕ) → IsEdge g u v → height (level_of levels (n - 1)) u + b * wcet g v ≤ height (level_of levels (n - 1)) v + a * gap g u v

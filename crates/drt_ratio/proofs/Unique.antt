@@ -6,11 +6,11 @@ use Rattle.std.proofs.lemmas.Nat.Gcd.{dvd_antisymm}
 use Rattle.drt_num.proofs.Divisors.{gcd_scaled}
 use Rattle.drt_model.specs.Digraph.{Digraph, IsSound}
 use Rattle.drt_model.specs.Walk.{work, cycle_span}
-use Rattle.drt_model.specs.Utilisation.{Fraction, HasRatio, IsLeast, IsRatio, AreRatios}
+use Rattle.drt_model.specs.Utilisation.{Fraction, HasRatio, BoundsCycles, IsRatio, AreRatios}
 use Rattle.drt_ratio.proofs.Optima.{cycle_sums}
 
 -- A ratio that a cycle has is at most a ratio that no cycle exceeds.
-below : (g : Digraph) → IsSound g → (a b c d : ℕ) (cycle : List ℕ) → HasRatio g a b cycle → IsLeast g c d → a * d ≤ c * b
+below : (g : Digraph) → IsSound g → (a b c d : ℕ) (cycle : List ℕ) → HasRatio g a b cycle → BoundsCycles g c d → a * d ≤ c * b
 below g sound a b c d [] has least = rw has.0 (omega arith)
 below g sound a b c d (v ∷ vs) has least =
     plain (work g (v ∷ vs)) (cycle_span g (v ∷ vs)) (cycle_sums g sound (v ∷ vs) has.0).span_some has.1 (least (v ∷ vs) has.0)

@@ -2,14 +2,14 @@
 use Rattle.std.specs.Prelude.{ℕ, ◌<◌, ◌≤◌, ℤ, pos, ◌≤ℤ◌, List}
 use Rattle.std.specs.Int.{IsGcd}
 use Rattle.drt_model.specs.Digraph.{Digraph, vertex_count}
-use Rattle.drt_model.specs.Utilisation.{IsLeast, HasRatio, AreDistinct}
+use Rattle.drt_model.specs.Utilisation.{BoundsCycles, HasRatio, AreDistinct}
 use Rattle.drt_model.specs.Potential.{potential_of, AreCanonical}
 
 -- The ratio a / b is that of the graph, in lowest terms; the cycle has it and names each vertex at most once, and is empty
 -- exactly at 0 / 1; the potentials are the canonical ones.
 pub record IsRatioProof (g : Digraph) (a b : ℕ) (cycle : List ℕ) (hs : List ℤ) : Type 0 where
   pub lowest : IsGcd a b 1
-  pub least : IsLeast g a b
+  pub least : BoundsCycles g a b
   pub has : HasRatio g a b cycle
   pub distinct : AreDistinct cycle
   pub canonical : AreCanonical g a b hs

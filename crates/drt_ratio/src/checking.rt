@@ -1,6 +1,6 @@
 //! Whether a claimed ratio keeps the rules.
 ghost use Rattle.std.specs.Prelude.{◌≤◌, ◌↔◌, IsTrue};
-ghost use Rattle.drt_model.specs.RatioRules.{KeepsRules};
+ghost use Rattle.drt_model.specs.RatioRules.{ProvesRatio};
 
 use crate::ratio_proof::RatioProof;
 use drt_graph::{Graph, is_closed, is_tight, potentials_fit};
@@ -10,7 +10,7 @@ use drt_graph::{Graph, is_closed, is_tight, potentials_fit};
 pub fn check_ratio(graph: &Graph, proof: &RatioProof) -> bool
     requires num { proof.now.ratio.num ≤ 1000000000 }
     requires den { proof.now.ratio.den ≤ 1000000000 }
-    ensures { IsTrue result ↔ KeepsRules graph.now proof.now.ratio.num proof.now.ratio.den proof.now.cycle proof.now.potentials }
+    ensures { IsTrue result ↔ ProvesRatio graph.now proof.now.ratio.num proof.now.ratio.den proof.now.cycle proof.now.potentials }
 {
     let num = proof.ratio.num() as u64;
     let den = proof.ratio.den() as u64;

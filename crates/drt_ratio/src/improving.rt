@@ -2,7 +2,7 @@
 ghost use Rattle.std.specs.Prelude.{◌≡◌, ℕ, ℤ, pos, ◌+◌, ◌*◌, ◌<◌, ◌≤◌, ◌-◌, IfOk, length};
 ghost use Rattle.drt_model.specs.Digraph.{Digraph, vertex_count};
 ghost use Rattle.drt_ratio.specs.Claims.{IsInReach, IsRatioProof};
-ghost use Rattle.drt_model.specs.RatioRules.{KeepsRules};
+ghost use Rattle.drt_model.specs.RatioRules.{ProvesRatio};
 ghost use Rattle.drt_model.specs.Potential.{potential_of};
 ghost use Rattle.drt_ratio.specs.Levels.{height, IsBelow};
 ghost use Rattle.drt_model.specs.Walk.{IsCycle, work, cycle_span};
@@ -52,7 +52,7 @@ fn ratio_of(graph: &Graph, cycle: &[u32]) -> Ratio
 pub fn greatest(alloc: Global, graph: &Graph) -> Result<RatioProof, Memory>
     ensures greatest { IfOk result (λ proof. IsRatioProof graph.now proof.ratio.num proof.ratio.den proof.cycle proof.potentials) }
     ensures reach { IfOk result (λ proof. IsInReach graph.now proof.ratio.num proof.ratio.den proof.potentials) }
-    ensures keeps { IfOk result (λ proof. KeepsRules graph.now proof.ratio.num proof.ratio.den proof.cycle proof.potentials) }
+    ensures keeps { IfOk result (λ proof. ProvesRatio graph.now proof.ratio.num proof.ratio.den proof.cycle proof.potentials) }
 {
     let mut ratio = Ratio::new(0, 1);
     let mut cycle = Vec::new(alloc);

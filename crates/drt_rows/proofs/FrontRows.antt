@@ -1,7 +1,8 @@
 -- One worker's run of the search of p(1,1), q(2,1), m(1,1) with the edges p-m 1, q-m 1, m-m 3 up to the bound 5: labels of walks, which covers
 -- which, and the front.
 use Rattle.std.proofs.Common.{◌≡◌, ℕ, List, [], ◌∷◌, ◌++◌, Option, Some, None, false, true, length, refl, sym, ap, subst, lit<}
-use Rattle.drt_demand.specs.Demand.{Demand, dominates, demand_algebra}
+use Rattle.drt_model.specs.declared.front.FrontEntry.{FrontEntry}
+use Rattle.drt_demand.specs.Demand.{dominates, demand_algebra}
 use Rattle.drt_demand.specs.Laws.{demand_laws}
 use Rattle.drt_table.specs.Cover.{IsFront, IsNonDominated}
 use Rattle.drt_table.specs.Machine.{Setting, State, CanStep, IsRun, IsRunFrom, replay, replay_from, is_finished, step_of, opening_state}
@@ -17,7 +18,7 @@ use Rattle.drt_table.proofs.Lists.{none_found}
 use Rattle.drt_table.proofs.Runs.{run_keeps}
 use Rattle.drt_rows.specs.Row.{graph, setting, by, kept_labels}
 
-abbrev pub label : ℕ → ℕ → ℕ → Demand
+abbrev pub label : ℕ → ℕ → ℕ → FrontEntry
 label v o w = record { vertex = v; offset = o; work = w }
 
 -- The walk q m has the label (m, 1, 3), and its last job is due within 5.
@@ -43,56 +44,56 @@ abbrev pub log : List Entry
 log = turn 0 ++ (turn 1 ++ (turn 2 ++ (turn 4 ++ turn 5)))
 
 -- A worker that holds no node may take.
-may_take : (t : Setting) (s : State Demand) → first (is_held_by 0) s.nodes ≡ None → CanStep demand_algebra t s 0 Take
+may_take : (t : Setting) (s : State FrontEntry) → first (is_held_by 0) s.nodes ≡ None → CanStep demand_algebra t s 0 Take
 may_take t s e id n at held =
     let none : is_held_by 0 n ≡ false = none_found (is_held_by 0) s.nodes e id n at in
     let one : is_held_by 0 n ≡ true = ap (is_taken_by 0) held in
     absurd (cc)
 
 -- Nodes that wait, that the worker has taken, and that are done with their one edge offered.
-abbrev waiting : Demand → Option ℕ → NodeOf Demand
+abbrev waiting : FrontEntry → Option ℕ → NodeOf FrontEntry
 waiting l parent = record { label = l; parent = parent; offered = 0; state = Pending; dropped_by = None }
 
-abbrev taken : Demand → Option ℕ → ℕ → NodeOf Demand
+abbrev taken : FrontEntry → Option ℕ → ℕ → NodeOf FrontEntry
 taken l parent offered = record { label = l; parent = parent; offered = offered; state = TakenBy 0; dropped_by = None }
 
-abbrev done : Demand → Option ℕ → NodeOf Demand
+abbrev done : FrontEntry → Option ℕ → NodeOf FrontEntry
 done l parent = record { label = l; parent = parent; offered = 1; state = Done; dropped_by = None }
 
 -- The node of p m is dropped by that of q m.
-abbrev dropped : NodeOf Demand
+abbrev dropped : NodeOf FrontEntry
 dropped = record { label = label 2 1 2; parent = Some 0; offered = 0; state = Done; dropped_by = Some 4 }
 
 -- The states between the turns.
-abbrev start : State Demand
+abbrev start : State FrontEntry
 start = record { nodes = waiting (label 0 0 1) None ∷ waiting (label 1 0 2) None ∷ waiting (label 2 0 1) None ∷ []; log = [] }
 
-abbrev after_p : State Demand
+abbrev after_p : State FrontEntry
 after_p = record {
   nodes = done (label 0 0 1) None ∷ waiting (label 1 0 2) None ∷ waiting (label 2 0 1) None ∷ waiting (label 2 1 2) (Some 0) ∷ [];
   log = turn 0;
 }
 
-abbrev after_q : State Demand
+abbrev after_q : State FrontEntry
 after_q = record {
   nodes = done (label 0 0 1) None ∷ done (label 1 0 2) None ∷ waiting (label 2 0 1) None ∷ dropped ∷ waiting (label 2 1 3) (Some 1) ∷ [];
   log = turn 0 ++ turn 1;
 }
 
-abbrev after_m : State Demand
+abbrev after_m : State FrontEntry
 after_m = record {
   nodes = done (label 0 0 1) None ∷ done (label 1 0 2) None ∷ done (label 2 0 1) None ∷ dropped ∷ waiting (label 2 1 3) (Some 1) ∷ [];
   log = turn 0 ++ (turn 1 ++ turn 2);
 }
 
-abbrev after_qm : State Demand
+abbrev after_qm : State FrontEntry
 after_qm = record {
   nodes = done (label 0 0 1) None ∷ done (label 1 0 2) None ∷ done (label 2 0 1) None ∷ dropped ∷ done (label 2 1 3) (Some 1) ∷ waiting (label 2 4 4) (Some 4) ∷ [];
   log = turn 0 ++ (turn 1 ++ (turn 2 ++ turn 4));
 }
 
 -- A run, and another from where it ends, are one.
-joined : (s end : State Demand) (es fs : List Entry) → IsRunFrom demand_algebra setting s es → replay_from demand_algebra setting s es ≡ end
+joined : (s end : State FrontEntry) (es fs : List Entry) → IsRunFrom demand_algebra setting s es → replay_from demand_algebra setting s es ≡ end
     → IsRunFrom demand_algebra setting end fs → IsRunFrom demand_algebra setting s (es ++ fs)
 joined s end [] fs run e more = subst (λ x. IsRunFrom demand_algebra setting x fs) (sym e) more
 joined s end (e ∷ es) fs run is more =
@@ -182,7 +183,7 @@ abbrev pub tight : Setting
 tight = record { graph = graph; bound = 5; budget = 1 }
 
 -- With a budget of 1 the first step spends it: the log has one entry, the search isn't finished, and the next step is refused.
-abbrev pub spent : State Demand
+abbrev pub spent : State FrontEntry
 spent = replay demand_algebra tight (by 0 Take ∷ [])
 
 pub spent_is_run : IsRun demand_algebra tight (by 0 Take ∷ [])

@@ -10,7 +10,7 @@ use Rattle.drt_model.specs.Digraph.{Digraph, digraph_of}
 use Rattle.drt_model.specs.Walk.{sep_in, or_zero, gap, work, span, IsPath, last_of, deadline, IsEdge}
 use Rattle.drt_model.specs.Potential.{gain, IsPotential, AreCanonical, potential_of}
 use Rattle.drt_model.specs.RatioRules.{FitPotentials}
-use Rattle.drt_model.specs.Utilisation.{IsLeast, IsRatio}
+use Rattle.drt_model.specs.Utilisation.{BoundsCycles, IsRatio}
 use Rattle.drt_graph.proofs.Bounds.{rises}
 use Rattle.drt_model.specs.declared.tasks.Edge.{Edge}
 use Rattle.drt_rows.proofs.Sets.{apart, edge, short, too_long}
@@ -18,7 +18,7 @@ use Rattle.drt_rows.proofs.UtilisationRows.{fraction, lowest}
 use Rattle.drt_rows.proofs.WalkRows.{g, cycle_ab}
 
 -- Round a cycle the potentials rise by nothing, so that it gains nothing.
-no_cycle_gains : (g : Digraph) (a b : ℕ) (hs : List ℤ) → FitPotentials g a b hs → IsLeast g a b
+no_cycle_gains : (g : Digraph) (a b : ℕ) (hs : List ℤ) → FitPotentials g a b hs → BoundsCycles g a b
 no_cycle_gains g a b hs fits [] is = absurd is
 no_cycle_gains g a b hs fits (v ∷ vs) is =
     let r : (pos (b * work g (v ∷ vs)) -ℤ pos (a * span g (last_of v vs) (v ∷ vs))) ≤ℤ (potential_of hs (last_of v vs) -ℤ potential_of hs (last_of v vs)) =

@@ -1,7 +1,8 @@
 -- The steps of three workers, and of one, on one small graph.
 use Rattle.std.specs.Prelude.{ℕ, Option, List, [], ◌∷◌, map, filter}
 use Rattle.drt_model.specs.Digraph.{Digraph}
-use Rattle.drt_demand.specs.Demand.{Demand, demand_algebra}
+use Rattle.drt_model.specs.declared.front.FrontEntry.{FrontEntry}
+use Rattle.drt_demand.specs.Demand.{demand_algebra}
 use Rattle.drt_table.specs.Node.{NodeOf, is_kept}
 use Rattle.drt_table.specs.Machine.{Setting, State, step_of, opening_state, replay_from}
 use Rattle.drt_table.specs.declared.step.TableStep.{TableStep}
@@ -26,7 +27,7 @@ abbrev pub by : ℕ → TableStep → Entry
 by w s = record { worker = w; step = s }
 
 -- The replies to calls, one after another.
-abbrev pub replies : Setting → State Demand → List Entry → List TableReply
+abbrev pub replies : Setting → State FrontEntry → List Entry → List TableReply
 replies t s [] = []
 replies t s (e ∷ es) = (step_of demand_algebra t s e.worker e.step).reply ∷ replies t (step_of demand_algebra t s e.worker e.step).state es
 
@@ -55,17 +56,17 @@ replies_to_one =
     ∷ Taken 4 ∷ Added 5 ∷ Closed ∷ Taken 5 ∷ OutOfRange ∷ Closed ∷ Finished ∷ []
 
 -- The state after the calls of three.
-abbrev pub after_three : State Demand
+abbrev pub after_three : State FrontEntry
 after_three = replay_from demand_algebra setting (opening_state demand_algebra setting) calls_of_three
 
 -- The state after the calls of one.
-abbrev pub after_one : State Demand
+abbrev pub after_one : State FrontEntry
 after_one = replay_from demand_algebra setting (opening_state demand_algebra setting) calls_of_one
 
 -- The node that dropped a node, if any.
-abbrev pub dropped_by : NodeOf Demand → Option ℕ
+abbrev pub dropped_by : NodeOf FrontEntry → Option ℕ
 dropped_by n = n.dropped_by
 
 -- The labels of the kept nodes.
-abbrev pub kept_labels : State Demand → List Demand
+abbrev pub kept_labels : State FrontEntry → List FrontEntry
 kept_labels s = map (λ n. n.label) (filter is_kept s.nodes)

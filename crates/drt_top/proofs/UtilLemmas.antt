@@ -13,7 +13,7 @@ use Rattle.drt_ratio.specs.Claims.{IsRatioProof}
 use Rattle.drt_ratio.specs.SetRatios.{AreRatioProofs, AreSmall}
 use Rattle.drt_graph.proofs.Scales.{scale_same}
 use Rattle.drt_ratio.proofs.Unique.{ratios_same}
-use Rattle.drt_top.specs.commands.Util.{IsUtilisationText, IsTooFine}
+use Rattle.drt_top.specs.commands.Util.{IsUtilisationText, IsTooFineSet}
 
 -- The claims with one more, for one more graph.
 proofs_push : (gs : List Digraph) (ps : List RatioProof) (g : Digraph) (p : RatioProof) → AreRatioProofs gs ps
@@ -36,7 +36,7 @@ small_push [] p small num den = (omega arith, omega arith, tt)
 small_push (q ∷ ps) p small num den = (small.0, small.1, small_push ps p small.2 num den)
 
 -- A set whose utilisation is written isn't too fine.
-pub text_is_not_too_fine : (set : Contents) (text : List ℕ) → IsTaskSet set.version set.tasks → IsUtilisationText set text → IsTooFine set → ⊥
+pub text_is_not_too_fine : (set : Contents) (text : List ℕ) → IsTaskSet set.version set.tasks → IsUtilisationText set text → IsTooFineSet set → ⊥
 text_is_not_too_fine set text limits p q =
     let sound : All IsSound (map digraph_of set.tasks) = All-map IsSound digraph_of set.tasks (all_sound set.version set.tasks limits) in
     let e : q.ratios ≡ p.ratios = ratios_same (map digraph_of set.tasks) sound q.ratios p.ratios q.are p.are in

@@ -3,10 +3,9 @@ ghost use Rattle.std.specs.Prelude.{◌≡◌, ◌++◌, OnOk};
 ghost use Rattle.drt_file.specs.trusted.Canonical.{written, written_line};
 ghost use Rattle.drt_evidence.specs.Text.{entry_line, front_block, front_lines};
 
-use crate::evidence::FrontEntry;
 use crate::lines::push_count;
 use drt_file::push_line;
-use drt_model::{Memory, Row};
+use drt_model::{FrontEntry, Memory, Row};
 use itoa::Buffer;
 
 // Adds how many fronts there are, and the lines of each.

@@ -1,6 +1,6 @@
 //! Blocks of a text, and lists of them.
 ghost use Rattle.std.specs.Prelude.{ℕ, List, IfOk, IfErr};
-ghost use Rattle.drt_evidence.specs.Blocks.{AreSoMany, IsStop, Reads, counted, in_turn};
+ghost use Rattle.drt_evidence.specs.Blocks.{AreSoMany, IsStop, ReadsBlock, counted, in_turn};
 ghost use Rattle.drt_evidence.specs.LineForms.{AreCounted};
 ghost use Rattle.drt_file.specs.trusted.Cutting.{HasNoFeed};
 
@@ -19,7 +19,7 @@ pub(crate) trait Block: Sized + Drop {
 
     // The value whose block stands at the front of a text.
     fn read(alloc: Global, text: &mut Text) -> Result<Self, Stop>
-        ensures read { IfOk result (λ x. Reads block is_stated text.old.rest.now x text.new.rest.now) }
+        ensures read { IfOk result (λ x. ReadsBlock block is_stated text.old.rest.now x text.new.rest.now) }
         ensures stops { IfErr result (IsStop block is_stated text.old.rest.now) };
 
     // Some value has a block.
@@ -28,7 +28,7 @@ pub(crate) trait Block: Sized + Drop {
 
 // So many blocks, one after another.
 fn read_each<B: Block>(alloc: Global, text: &mut Text, count: u32) -> Result<Vec<B>, Stop>
-    ensures read { IfOk result (λ xs. Reads (in_turn B.block) (AreSoMany count B.is_stated) text.old.rest.now xs.items text.new.rest.now) }
+    ensures read { IfOk result (λ xs. ReadsBlock (in_turn B.block) (AreSoMany count B.is_stated) text.old.rest.now xs.items text.new.rest.now) }
     ensures stops { IfErr result (IsStop (in_turn B.block) (AreSoMany count B.is_stated) text.old.rest.now) }
 {
     let mut blocks = Vec::new(alloc);
@@ -46,7 +46,7 @@ pub(crate) fn read_counted<B: Block>(
     word: &[u8],
 ) -> Result<Row<B>, Stop>
     requires { HasNoFeed word.now }
-    ensures read { IfOk result (λ xs. Reads (counted word.now B.block) (AreCounted B.is_stated) text.old.rest.now xs text.new.rest.now) }
+    ensures read { IfOk result (λ xs. ReadsBlock (counted word.now B.block) (AreCounted B.is_stated) text.old.rest.now xs text.new.rest.now) }
     ensures stops { IfErr result (IsStop (counted word.now B.block) (AreCounted B.is_stated) text.old.rest.now) }
 {
     let count = read_count(text, word)?;

@@ -1,23 +1,23 @@
 //! The blocks of single values.
 ghost use Rattle.std.specs.Prelude.{ℕ, List, IfOk, IfErr};
 ghost use Rattle.drt_file.specs.trusted.Canonical.{written, written_line};
-ghost use Rattle.drt_evidence.specs.Blocks.{IsStop, Reads};
+ghost use Rattle.drt_evidence.specs.Blocks.{IsStop, ReadsBlock};
 ghost use Rattle.drt_evidence.specs.Ranges.{IsInRangeEntry, IsInRangeFront, IsInRangePair, IsInRangeProof, IsInRangeRatio, IsInRangeRelease, IsInRangeTree, IsInRangeWalk};
 ghost use Rattle.drt_evidence.specs.Some.{some_entry, some_front, some_pair, some_proof, some_ratio, some_release, some_tree, some_walk};
 ghost use Rattle.drt_evidence.specs.Text.{entry_line, front_lines, pair_line, proof_line, ratio_lines, release_line, tree_lines, walk_line};
 
-use crate::evidence::{FrontEntry, Pair, ProofClaim, RatioClaim, TreeClaim};
+use crate::evidence::{Pair, ProofClaim, RatioClaim, TreeClaim};
 use crate::reading::block::{Block, read_counted};
 use crate::reading::forms::{
     read_entry, read_numbers, read_pair, read_potentials, read_proof, read_ratio_line, read_release,
 };
 use crate::reading::text::{Stop, Text};
-use drt_model::{Release, Row};
+use drt_model::{FrontEntry, Release, Row};
 use std::alloc::Global;
 
 // A ratio, its cycle and its potentials.
 fn read_ratio(alloc: Global, text: &mut Text) -> Result<RatioClaim, Stop>
-    ensures read { IfOk result (λ x. Reads (λ c. written (ratio_lines c)) IsInRangeRatio text.old.rest.now x text.new.rest.now) }
+    ensures read { IfOk result (λ x. ReadsBlock (λ c. written (ratio_lines c)) IsInRangeRatio text.old.rest.now x text.new.rest.now) }
     ensures stops { IfErr result (IsStop (λ c. written (ratio_lines c)) IsInRangeRatio text.old.rest.now) }
 {
     let ratio = read_ratio_line(text)?;
@@ -57,7 +57,7 @@ impl Block for FrontEntry {
 
 // A front: how many labels, and the line of each.
 fn read_front(alloc: Global, text: &mut Text) -> Result<Row<FrontEntry>, Stop>
-    ensures read { IfOk result (λ x. Reads (λ f. written (front_lines f)) IsInRangeFront text.old.rest.now x text.new.rest.now) }
+    ensures read { IfOk result (λ x. ReadsBlock (λ f. written (front_lines f)) IsInRangeFront text.old.rest.now x text.new.rest.now) }
     ensures stops { IfErr result (IsStop (λ f. written (front_lines f)) IsInRangeFront text.old.rest.now) }
 {
     read_counted(alloc, text, b"front")
@@ -113,7 +113,7 @@ impl Block for Pair {
 
 // A tree: how many walks, the line of each, how many pairs, and the line of each.
 fn read_tree(alloc: Global, text: &mut Text) -> Result<TreeClaim, Stop>
-    ensures read { IfOk result (λ x. Reads (λ t. written (tree_lines t)) IsInRangeTree text.old.rest.now x text.new.rest.now) }
+    ensures read { IfOk result (λ x. ReadsBlock (λ t. written (tree_lines t)) IsInRangeTree text.old.rest.now x text.new.rest.now) }
     ensures stops { IfErr result (IsStop (λ t. written (tree_lines t)) IsInRangeTree text.old.rest.now) }
 {
     let walks = read_counted(alloc, text, b"tree")?;

@@ -2,7 +2,7 @@
 ghost use Rattle.std.specs.Prelude.{◌≡◌, ◌≤◌, ◌+◌, ◌-◌, ℕ, List, length, take, IfOk, IfErr};
 ghost use Rattle.drt_file.specs.trusted.Canonical.{written};
 ghost use Rattle.drt_file.specs.trusted.CanonicalPrefix.{line_count};
-ghost use Rattle.drt_evidence.specs.Blocks.{IsStop, Reads};
+ghost use Rattle.drt_evidence.specs.Blocks.{IsStop, ReadsBlock};
 ghost use Rattle.drt_evidence.specs.LineForms.{IsAny};
 ghost use Rattle.drt_evidence.specs.Reading.{GivesStatement, IsDossierCause, IsStated, IsTextOf};
 ghost use Rattle.drt_evidence.specs.Statement.{Statement};
@@ -20,7 +20,7 @@ use std::alloc::Global;
 
 // The lines above the set.
 fn read_head(text: &mut Text) -> Result<Policy, Stop>
-    ensures read { IfOk result (λ x. Reads (λ p. written (head_lines p)) IsAny text.old.rest.now x text.new.rest.now) }
+    ensures read { IfOk result (λ x. ReadsBlock (λ p. written (head_lines p)) IsAny text.old.rest.now x text.new.rest.now) }
     ensures stops { IfErr result (IsStop (λ p. written (head_lines p)) IsAny text.old.rest.now) }
 {
     read_first(text)?;
@@ -31,7 +31,7 @@ fn read_head(text: &mut Text) -> Result<Policy, Stop>
 // The dossier whose text stands at the front of a text.
 fn read_dossier(alloc: Global, from: &mut Text) -> Result<Dossier, Stop>
     requires { length from.old.rest.now ≤ 1073741824 }
-    ensures read { IfOk result (λ d. Reads text IsStated from.old.rest.now d from.new.rest.now) }
+    ensures read { IfOk result (λ d. ReadsBlock text IsStated from.old.rest.now d from.new.rest.now) }
     ensures stops { IfErr result (IsStop text IsStated from.old.rest.now) }
 {
     let policy = read_head(from)?;

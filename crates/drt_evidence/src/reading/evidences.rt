@@ -1,23 +1,23 @@
 //! The lines below the set: the kind of the evidence, its blocks, and the last line.
 ghost use Rattle.std.specs.Prelude.{ℕ, List, IfOk, IfErr};
 ghost use Rattle.drt_file.specs.trusted.Canonical.{written};
-ghost use Rattle.drt_evidence.specs.Blocks.{AreNamed, IsOfKind, IsStop, Reads, named_block};
+ghost use Rattle.drt_evidence.specs.Blocks.{AreNamed, IsOfKind, IsStop, ReadsBlock, named_block};
 ghost use Rattle.drt_evidence.specs.declared.reading.line_forms.KindOfEvidence.TheVariants.{EdfYes, FixedYes};
 ghost use Rattle.drt_evidence.specs.LineForms.{AreCounted};
 ghost use Rattle.drt_evidence.specs.Ranges.{IsInRange, IsInRangeFront, IsInRangeProof, IsInRangeRatio, IsInRangeTree};
 ghost use Rattle.drt_evidence.specs.Text.{body_lines, evidence_lines, front_block, proof_block, ratio_block, tree_block};
 
-use crate::evidence::{Evidence, FrontEntry, ProofClaim, RatioClaim, TreeClaim};
+use crate::evidence::{Evidence, ProofClaim, RatioClaim, TreeClaim};
 use crate::reading::block::read_counted;
 use crate::reading::forms::{read_kind, read_last, read_miss};
 use crate::reading::line_forms::KindOfEvidence;
 use crate::reading::text::{Stop, Text};
-use drt_model::{Miss, Release, Row};
+use drt_model::{FrontEntry, Miss, Release, Row};
 use std::alloc::Global;
 
 // How many ratios, and the lines of each.
 fn read_ratios(alloc: Global, text: &mut Text) -> Result<Row<RatioClaim>, Stop>
-    ensures read { IfOk result (λ x. Reads (λ rs. written (ratio_block rs)) (AreCounted IsInRangeRatio) text.old.rest.now x text.new.rest.now) }
+    ensures read { IfOk result (λ x. ReadsBlock (λ rs. written (ratio_block rs)) (AreCounted IsInRangeRatio) text.old.rest.now x text.new.rest.now) }
     ensures stops { IfErr result (IsStop (λ rs. written (ratio_block rs)) (AreCounted IsInRangeRatio) text.old.rest.now) }
 {
     read_counted(alloc, text, b"ratios")
@@ -25,7 +25,7 @@ fn read_ratios(alloc: Global, text: &mut Text) -> Result<Row<RatioClaim>, Stop>
 
 // How many fronts, and the lines of each.
 fn read_fronts(alloc: Global, text: &mut Text) -> Result<Row<Row<FrontEntry>>, Stop>
-    ensures read { IfOk result (λ x. Reads (λ fs. written (front_block fs)) (AreCounted IsInRangeFront) text.old.rest.now x text.new.rest.now) }
+    ensures read { IfOk result (λ x. ReadsBlock (λ fs. written (front_block fs)) (AreCounted IsInRangeFront) text.old.rest.now x text.new.rest.now) }
     ensures stops { IfErr result (IsStop (λ fs. written (front_block fs)) (AreCounted IsInRangeFront) text.old.rest.now) }
 {
     read_counted(alloc, text, b"fronts")
@@ -33,7 +33,7 @@ fn read_fronts(alloc: Global, text: &mut Text) -> Result<Row<Row<FrontEntry>>, S
 
 // How many trees, and the lines of each.
 fn read_trees(alloc: Global, text: &mut Text) -> Result<Row<TreeClaim>, Stop>
-    ensures read { IfOk result (λ x. Reads (λ ts. written (tree_block ts)) (AreCounted IsInRangeTree) text.old.rest.now x text.new.rest.now) }
+    ensures read { IfOk result (λ x. ReadsBlock (λ ts. written (tree_block ts)) (AreCounted IsInRangeTree) text.old.rest.now x text.new.rest.now) }
     ensures stops { IfErr result (IsStop (λ ts. written (tree_block ts)) (AreCounted IsInRangeTree) text.old.rest.now) }
 {
     read_counted(alloc, text, b"trees")
@@ -41,7 +41,7 @@ fn read_trees(alloc: Global, text: &mut Text) -> Result<Row<TreeClaim>, Stop>
 
 // How many proofs, and the line of each.
 fn read_proofs(alloc: Global, text: &mut Text) -> Result<Row<ProofClaim>, Stop>
-    ensures read { IfOk result (λ x. Reads (λ ps. written (proof_block ps)) (AreCounted IsInRangeProof) text.old.rest.now x text.new.rest.now) }
+    ensures read { IfOk result (λ x. ReadsBlock (λ ps. written (proof_block ps)) (AreCounted IsInRangeProof) text.old.rest.now x text.new.rest.now) }
     ensures stops { IfErr result (IsStop (λ ps. written (proof_block ps)) (AreCounted IsInRangeProof) text.old.rest.now) }
 {
     read_counted(alloc, text, b"proofs")
@@ -49,7 +49,7 @@ fn read_proofs(alloc: Global, text: &mut Text) -> Result<Row<ProofClaim>, Stop>
 
 // How many releases, the line of each, and that of the miss.
 fn read_releases(alloc: Global, text: &mut Text) -> Result<(Row<Release>, Miss), Stop>
-    ensures read { IfOk result (λ x. Reads named_block AreNamed text.old.rest.now x text.new.rest.now) }
+    ensures read { IfOk result (λ x. ReadsBlock named_block AreNamed text.old.rest.now x text.new.rest.now) }
     ensures stops { IfErr result (IsStop named_block AreNamed text.old.rest.now) }
 {
     let releases = read_counted(alloc, text, b"releases")?;
@@ -59,7 +59,7 @@ fn read_releases(alloc: Global, text: &mut Text) -> Result<(Row<Release>, Miss),
 
 // The evidence of a yes under EDF.
 fn read_edf_yes(alloc: Global, text: &mut Text) -> Result<Evidence, Stop>
-    ensures read { IfOk result (λ x. Reads (λ e. written (body_lines e)) (IsOfKind EdfYes) text.old.rest.now x text.new.rest.now) }
+    ensures read { IfOk result (λ x. ReadsBlock (λ e. written (body_lines e)) (IsOfKind EdfYes) text.old.rest.now x text.new.rest.now) }
     ensures stops { IfErr result (IsStop (λ e. written (body_lines e)) (IsOfKind EdfYes) text.old.rest.now) }
 {
     let ratios = read_ratios(alloc, text)?;
@@ -69,7 +69,7 @@ fn read_edf_yes(alloc: Global, text: &mut Text) -> Result<Evidence, Stop>
 
 // The evidence of a yes under fixed priorities.
 fn read_fixed_yes(alloc: Global, text: &mut Text) -> Result<Evidence, Stop>
-    ensures read { IfOk result (λ x. Reads (λ e. written (body_lines e)) (IsOfKind FixedYes) text.old.rest.now x text.new.rest.now) }
+    ensures read { IfOk result (λ x. ReadsBlock (λ e. written (body_lines e)) (IsOfKind FixedYes) text.old.rest.now x text.new.rest.now) }
     ensures stops { IfErr result (IsStop (λ e. written (body_lines e)) (IsOfKind FixedYes) text.old.rest.now) }
 {
     let trees = read_trees(alloc, text)?;
@@ -79,7 +79,7 @@ fn read_fixed_yes(alloc: Global, text: &mut Text) -> Result<Evidence, Stop>
 
 // The blocks of a kind of evidence.
 fn read_body(alloc: Global, text: &mut Text, kind: KindOfEvidence) -> Result<Evidence, Stop>
-    ensures read { IfOk result (λ x. Reads (λ e. written (body_lines e)) (IsOfKind kind) text.old.rest.now x text.new.rest.now) }
+    ensures read { IfOk result (λ x. ReadsBlock (λ e. written (body_lines e)) (IsOfKind kind) text.old.rest.now x text.new.rest.now) }
     ensures stops { IfErr result (IsStop (λ e. written (body_lines e)) (IsOfKind kind) text.old.rest.now) }
 {
     match kind {
@@ -103,7 +103,7 @@ fn read_body(alloc: Global, text: &mut Text, kind: KindOfEvidence) -> Result<Evi
 
 // The lines below the set.
 pub(crate) fn read_evidence(alloc: Global, text: &mut Text) -> Result<Evidence, Stop>
-    ensures read { IfOk result (λ x. Reads (λ e. written (evidence_lines e)) IsInRange text.old.rest.now x text.new.rest.now) }
+    ensures read { IfOk result (λ x. ReadsBlock (λ e. written (evidence_lines e)) IsInRange text.old.rest.now x text.new.rest.now) }
     ensures stops { IfErr result (IsStop (λ e. written (evidence_lines e)) IsInRange text.old.rest.now) }
 {
     let kind = read_kind(text)?;

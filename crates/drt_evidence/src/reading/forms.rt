@@ -4,20 +4,20 @@
 ghost use Rattle.std.specs.Prelude.{◌≡◌, ℕ, List, Some, None, false, length, IfOk, IfErr};
 ghost use Rattle.drt_file.specs.trusted.Canonical.{written_line};
 ghost use Rattle.drt_file.specs.trusted.Cutting.{HasNoFeed};
-ghost use Rattle.drt_evidence.specs.Blocks.{IsStop, Reads, close_block, first_block};
+ghost use Rattle.drt_evidence.specs.Blocks.{IsStop, ReadsBlock, close_block, first_block};
 ghost use Rattle.drt_evidence.specs.declared.reading.text.Stop.TheVariants.{Fault};
 ghost use Rattle.drt_evidence.specs.LineForms.{AreCounted, IsAny, IsInRangeWritten, kind_line, numbers_line, policy_line, potentials_line, written_ratio_line};
 ghost use Rattle.drt_evidence.specs.Ranges.{IsInRangeEntry, IsInRangeMiss, IsInRangePair, IsInRangePotential, IsInRangeProof, IsInRangeRelease, IsNumber};
 ghost use Rattle.drt_evidence.specs.Text.{count_line, entry_line, miss_line, pair_line, proof_line, release_line};
 
-use crate::evidence::{FrontEntry, Pair, ProofClaim};
+use crate::evidence::{Pair, ProofClaim};
 use crate::reading::line_forms::{
     KindOfEvidence, WrittenRatio, count_of, entry_of, is_first_line, is_last_line, kind_of,
     miss_of, pair_of, policy_of, ratio_of, release_of,
 };
 use crate::reading::list_lines::{numbers_of, potentials_of, proof_of};
 use crate::reading::text::{Stop, Text, first_line, refused};
-use drt_model::{Miss, Policy, Release, Row};
+use drt_model::{FrontEntry, Miss, Policy, Release, Row};
 use std::alloc::Global;
 
 // What was found in the first line of a text, which goes on with the others; or the refusal of that line, where nothing was found.
@@ -36,7 +36,7 @@ fn taken<'a, T>(text: &mut Text<'a>, others: &'a [u8], found: Option<T>) -> Resu
 
 // The first line of a dossier.
 pub(crate) fn read_first(text: &mut Text) -> Result<(), Stop>
-    ensures read { IfOk result (λ u. Reads first_block IsAny text.old.rest.now u text.new.rest.now) }
+    ensures read { IfOk result (λ u. ReadsBlock first_block IsAny text.old.rest.now u text.new.rest.now) }
     ensures stops { IfErr result (IsStop first_block IsAny text.old.rest.now) }
 {
     let (line, others) = first_line(text.rest)?;
@@ -45,7 +45,7 @@ pub(crate) fn read_first(text: &mut Text) -> Result<(), Stop>
 
 // The last line of a dossier.
 pub(crate) fn read_last(text: &mut Text) -> Result<(), Stop>
-    ensures read { IfOk result (λ u. Reads close_block IsAny text.old.rest.now u text.new.rest.now) }
+    ensures read { IfOk result (λ u. ReadsBlock close_block IsAny text.old.rest.now u text.new.rest.now) }
     ensures stops { IfErr result (IsStop close_block IsAny text.old.rest.now) }
 {
     let (line, others) = first_line(text.rest)?;
@@ -54,7 +54,7 @@ pub(crate) fn read_last(text: &mut Text) -> Result<(), Stop>
 
 // The line of a policy.
 pub(crate) fn read_policy(text: &mut Text) -> Result<Policy, Stop>
-    ensures read { IfOk result (λ x. Reads (λ y. written_line (policy_line y)) IsAny text.old.rest.now x text.new.rest.now) }
+    ensures read { IfOk result (λ x. ReadsBlock (λ y. written_line (policy_line y)) IsAny text.old.rest.now x text.new.rest.now) }
     ensures stops { IfErr result (IsStop (λ y. written_line (policy_line y)) IsAny text.old.rest.now) }
 {
     let (line, others) = first_line(text.rest)?;
@@ -63,7 +63,7 @@ pub(crate) fn read_policy(text: &mut Text) -> Result<Policy, Stop>
 
 // The line of a kind of evidence.
 pub(crate) fn read_kind(text: &mut Text) -> Result<KindOfEvidence, Stop>
-    ensures read { IfOk result (λ x. Reads (λ y. written_line (kind_line y)) IsAny text.old.rest.now x text.new.rest.now) }
+    ensures read { IfOk result (λ x. ReadsBlock (λ y. written_line (kind_line y)) IsAny text.old.rest.now x text.new.rest.now) }
     ensures stops { IfErr result (IsStop (λ y. written_line (kind_line y)) IsAny text.old.rest.now) }
 {
     let (line, others) = first_line(text.rest)?;
@@ -73,7 +73,7 @@ pub(crate) fn read_kind(text: &mut Text) -> Result<KindOfEvidence, Stop>
 // The line of a count.
 pub(crate) fn read_count(text: &mut Text, word: &[u8]) -> Result<u32, Stop>
     requires { HasNoFeed word.now }
-    ensures read { IfOk result (λ x. Reads (λ y. written_line (count_line word.now y)) IsNumber text.old.rest.now x text.new.rest.now) }
+    ensures read { IfOk result (λ x. ReadsBlock (λ y. written_line (count_line word.now y)) IsNumber text.old.rest.now x text.new.rest.now) }
     ensures stops { IfErr result (IsStop (λ y. written_line (count_line word.now y)) IsNumber text.old.rest.now) }
 {
     let (line, others) = first_line(text.rest)?;
@@ -82,7 +82,7 @@ pub(crate) fn read_count(text: &mut Text, word: &[u8]) -> Result<u32, Stop>
 
 // The line of a numerator and a denominator.
 pub(crate) fn read_ratio_line(text: &mut Text) -> Result<WrittenRatio, Stop>
-    ensures read { IfOk result (λ x. Reads (λ y. written_line (written_ratio_line y)) IsInRangeWritten text.old.rest.now x text.new.rest.now) }
+    ensures read { IfOk result (λ x. ReadsBlock (λ y. written_line (written_ratio_line y)) IsInRangeWritten text.old.rest.now x text.new.rest.now) }
     ensures stops { IfErr result (IsStop (λ y. written_line (written_ratio_line y)) IsInRangeWritten text.old.rest.now) }
 {
     let (line, others) = first_line(text.rest)?;
@@ -91,7 +91,7 @@ pub(crate) fn read_ratio_line(text: &mut Text) -> Result<WrittenRatio, Stop>
 
 // The line of a label of a front.
 pub(crate) fn read_entry(text: &mut Text) -> Result<FrontEntry, Stop>
-    ensures read { IfOk result (λ x. Reads (λ y. written_line (entry_line y)) IsInRangeEntry text.old.rest.now x text.new.rest.now) }
+    ensures read { IfOk result (λ x. ReadsBlock (λ y. written_line (entry_line y)) IsInRangeEntry text.old.rest.now x text.new.rest.now) }
     ensures stops { IfErr result (IsStop (λ y. written_line (entry_line y)) IsInRangeEntry text.old.rest.now) }
 {
     let (line, others) = first_line(text.rest)?;
@@ -100,7 +100,7 @@ pub(crate) fn read_entry(text: &mut Text) -> Result<FrontEntry, Stop>
 
 // The line of a release.
 pub(crate) fn read_release(text: &mut Text) -> Result<Release, Stop>
-    ensures read { IfOk result (λ x. Reads (λ y. written_line (release_line y)) IsInRangeRelease text.old.rest.now x text.new.rest.now) }
+    ensures read { IfOk result (λ x. ReadsBlock (λ y. written_line (release_line y)) IsInRangeRelease text.old.rest.now x text.new.rest.now) }
     ensures stops { IfErr result (IsStop (λ y. written_line (release_line y)) IsInRangeRelease text.old.rest.now) }
 {
     let (line, others) = first_line(text.rest)?;
@@ -109,7 +109,7 @@ pub(crate) fn read_release(text: &mut Text) -> Result<Release, Stop>
 
 // The line of a miss.
 pub(crate) fn read_miss(text: &mut Text) -> Result<Miss, Stop>
-    ensures read { IfOk result (λ x. Reads (λ y. written_line (miss_line y)) IsInRangeMiss text.old.rest.now x text.new.rest.now) }
+    ensures read { IfOk result (λ x. ReadsBlock (λ y. written_line (miss_line y)) IsInRangeMiss text.old.rest.now x text.new.rest.now) }
     ensures stops { IfErr result (IsStop (λ y. written_line (miss_line y)) IsInRangeMiss text.old.rest.now) }
 {
     let (line, others) = first_line(text.rest)?;
@@ -118,7 +118,7 @@ pub(crate) fn read_miss(text: &mut Text) -> Result<Miss, Stop>
 
 // The line of a pair of a tree.
 pub(crate) fn read_pair(text: &mut Text) -> Result<Pair, Stop>
-    ensures read { IfOk result (λ x. Reads (λ y. written_line (pair_line y)) IsInRangePair text.old.rest.now x text.new.rest.now) }
+    ensures read { IfOk result (λ x. ReadsBlock (λ y. written_line (pair_line y)) IsInRangePair text.old.rest.now x text.new.rest.now) }
     ensures stops { IfErr result (IsStop (λ y. written_line (pair_line y)) IsInRangePair text.old.rest.now) }
 {
     let (line, others) = first_line(text.rest)?;
@@ -128,7 +128,7 @@ pub(crate) fn read_pair(text: &mut Text) -> Result<Pair, Stop>
 // The line of a list of numbers.
 pub(crate) fn read_numbers(alloc: Global, text: &mut Text, word: &[u8]) -> Result<Row<u32>, Stop>
     requires { HasNoFeed word.now }
-    ensures read { IfOk result (λ x. Reads (λ y. written_line (numbers_line word.now y)) (AreCounted IsNumber) text.old.rest.now x text.new.rest.now) }
+    ensures read { IfOk result (λ x. ReadsBlock (λ y. written_line (numbers_line word.now y)) (AreCounted IsNumber) text.old.rest.now x text.new.rest.now) }
     ensures stops { IfErr result (IsStop (λ y. written_line (numbers_line word.now y)) (AreCounted IsNumber) text.old.rest.now) }
 {
     let (line, others) = first_line(text.rest)?;
@@ -138,7 +138,7 @@ pub(crate) fn read_numbers(alloc: Global, text: &mut Text, word: &[u8]) -> Resul
 
 // The line of potentials.
 pub(crate) fn read_potentials(alloc: Global, text: &mut Text) -> Result<Row<i64>, Stop>
-    ensures read { IfOk result (λ x. Reads (λ y. written_line (potentials_line y)) (AreCounted IsInRangePotential) text.old.rest.now x text.new.rest.now) }
+    ensures read { IfOk result (λ x. ReadsBlock (λ y. written_line (potentials_line y)) (AreCounted IsInRangePotential) text.old.rest.now x text.new.rest.now) }
     ensures stops { IfErr result (IsStop (λ y. written_line (potentials_line y)) (AreCounted IsInRangePotential) text.old.rest.now) }
 {
     let (line, others) = first_line(text.rest)?;
@@ -148,7 +148,7 @@ pub(crate) fn read_potentials(alloc: Global, text: &mut Text) -> Result<Row<i64>
 
 // The line of a proof.
 pub(crate) fn read_proof(alloc: Global, text: &mut Text) -> Result<ProofClaim, Stop>
-    ensures read { IfOk result (λ x. Reads (λ y. written_line (proof_line y)) IsInRangeProof text.old.rest.now x text.new.rest.now) }
+    ensures read { IfOk result (λ x. ReadsBlock (λ y. written_line (proof_line y)) IsInRangeProof text.old.rest.now x text.new.rest.now) }
     ensures stops { IfErr result (IsStop (λ y. written_line (proof_line y)) IsInRangeProof text.old.rest.now) }
 {
     let (line, others) = first_line(text.rest)?;

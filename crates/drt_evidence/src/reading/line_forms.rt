@@ -7,11 +7,11 @@ ghost use Rattle.drt_evidence.specs.LineForms.{AreBoth, IsAny, IsForm, IsInRange
 ghost use Rattle.drt_evidence.specs.Ranges.{IsInRangeEntry, IsInRangeMiss, IsInRangePair, IsInRangeRelease, IsNumber, IsTick};
 ghost use Rattle.drt_evidence.specs.Text.{count_line, entry_line, miss_line, pair_line, release_line, word_line};
 
-use crate::evidence::{FrontEntry, Pair};
+use crate::evidence::Pair;
 use crate::reading::fields::{
     MOST_NUMBER, MOST_PART, MOST_TICKS, MOST_WORK, behind_word, cut_field, index_of, number_of,
 };
-use drt_model::{Miss, Policy, Release};
+use drt_model::{FrontEntry, Miss, Policy, Release};
 
 /// A kind of evidence, as the line above its blocks names it.
 #[derive(Debug, Clone, Copy, PartialEq, Eq)]

@@ -2,7 +2,7 @@
 ghost use Rattle.std.specs.Prelude.{◌≡◌, ◌≤◌, ◌<◌, ◌+◌, ℕ, List, length, IfOk, IfErr};
 ghost use Rattle.drt_file.specs.trusted.Canonical.{canonical};
 ghost use Rattle.drt_file.specs.trusted.CanonicalPrefix.{line_count};
-ghost use Rattle.drt_evidence.specs.Blocks.{IsBehind, IsSet, IsStop, Reads};
+ghost use Rattle.drt_evidence.specs.Blocks.{IsBehind, IsSet, IsStop, ReadsBlock};
 
 use crate::reading::text::{Stop, Text};
 use drt_file::{CanonicalError, cut_fed_line, read_canonical};
@@ -28,7 +28,7 @@ fn bytes_from(text: &[u8], line: u32) -> usize
 // The set whose canonical text stands at the front of a text.
 pub(crate) fn read_set(alloc: Global, text: &mut Text) -> Result<TaskSet, Stop>
     requires { length text.old.rest.now ≤ 1073741824 }
-    ensures read { IfOk result (λ x. Reads canonical IsSet text.old.rest.now x text.new.rest.now) }
+    ensures read { IfOk result (λ x. ReadsBlock canonical IsSet text.old.rest.now x text.new.rest.now) }
     ensures stops { IfErr result (IsStop canonical IsSet text.old.rest.now) }
 {
     match read_canonical(alloc, text.rest) {

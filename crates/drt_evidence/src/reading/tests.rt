@@ -1,11 +1,11 @@
 //! Lines that are those of a dossier, and lines that nearly are.
-use crate::evidence::{FrontEntry, Item, Pair};
+use crate::evidence::{Item, Pair};
 use crate::reading::line_forms::{
     KindOfEvidence, WrittenRatio, count_of, entry_of, is_first_line, is_last_line, kind_of,
     miss_of, pair_of, policy_of, ratio_of, release_of,
 };
 use crate::reading::list_lines::{numbers_of, potentials_of, proof_of};
-use drt_model::{Miss, Policy, Release};
+use drt_model::{FrontEntry, Miss, Policy, Release};
 use std::test::Fail;
 
 #[test]

@@ -44,7 +44,7 @@ pub record IsUtilisationText (set : Contents) (text : List ℕ) : Type 0 where
   pub text_is : text ≡ written (util_lines set.tasks ratios total)
 
 -- The scale of the ratios of the set's tasks exceeds 2^60.
-pub record IsTooFine (set : Contents) : Type 0 where
+pub record IsTooFineSet (set : Contents) : Type 0 where
   pub ratios : List Fraction
   pub are : AreRatios (map digraph_of set.tasks) ratios
   pub scale : ℕ
@@ -63,7 +63,7 @@ pub record Utilises (bytes : List ℕ) (made : Report) : Type 0 where
 pub record IsTooFineFile (bytes : List ℕ) (fault : Fault) : Type 0 where
   pub set : Contents
   pub accepted : IsAccepted bytes set
-  pub fine : IsTooFine set
+  pub fine : IsTooFineSet set
   pub is : fault ≡ faults.Limit 21
 
 -- What is promised of `util`.
@@ -72,5 +72,5 @@ util_rules = record {
   input = file_input;
   makes = Utilises;
   refuses = λ bytes fault. IsFileFault bytes fault ⊎ IsTooFineFile bytes fault;
-  ends = λ bytes status. (set : Contents) → IsAccepted bytes set → (status ≡ 0) ⊎ ((status ≡ 4) × IsTooFine set);
+  ends = λ bytes status. (set : Contents) → IsAccepted bytes set → (status ≡ 0) ⊎ ((status ≡ 4) × IsTooFineSet set);
 }

@@ -4,7 +4,7 @@ ghost use Rattle.drt_file.specs.trusted.Canonical.{written, written_line};
 ghost use Rattle.drt_model.specs.Digraph.{digraph_of};
 ghost use Rattle.drt_ratio.specs.SetRatios.{AreRatioProofs, AreSmall, fractions_of};
 ghost use Rattle.drt_command.specs.Rules.{IsCause};
-ghost use Rattle.drt_top.specs.commands.Util.{IsTooFine, IsTooFineFile, IsUtilisationText, Utilises, fraction_line, ratio_lines, util_lines, util_rules};
+ghost use Rattle.drt_top.specs.commands.Util.{IsTooFineSet, IsTooFineFile, IsUtilisationText, Utilises, fraction_line, ratio_lines, util_lines, util_rules};
 ghost use Rattle.drt_top.specs.TaskFiles.{IsAccepted};
 
 use crate::task_files::{file_input, read_set};
@@ -57,7 +57,7 @@ fn print(alloc: Global, bytes: &[u8], set: &TaskSet, graphs: &Graphs) -> Result<
 pub(crate) fn make_text(alloc: Global, set: &TaskSet, graphs: &Graphs) -> Result<Row<u8>, Unmade>
     requires { graphs.now ≡ map digraph_of set.now.tasks }
     ensures text { IfOk result (λ text. IsUtilisationText set.now text) }
-    ensures unmade { IfErr result (λ e. (e ≡ Unmade.Memory) ⊎ ((e ≡ Unmade.Refused (Fault.Limit 21)) × IsTooFine set.now)) }
+    ensures unmade { IfErr result (λ e. (e ≡ Unmade.Memory) ⊎ ((e ≡ Unmade.Refused (Fault.Limit 21)) × IsTooFineSet set.now)) }
 {
     proofs_give_ratios();
     let Ok(proofs) = find_ratios(alloc, graphs) else {

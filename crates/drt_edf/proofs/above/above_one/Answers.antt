@@ -2,7 +2,7 @@ use Rattle.std.proofs.Common.{inr, subst}
 use Rattle.drt_graph.specs.Graphs.{AreGraphs}
 use Rattle.drt_horizon.specs.declared.answers.Over.TheVariants.{Spent}
 use Rattle.drt_horizon.specs.Given.{AreGiven}
-use Rattle.drt_horizon.specs.Laps.{laps_of, IsOver}
+use Rattle.drt_horizon.specs.CycleTurns.{cycle_turns_of, IsOver}
 use Rattle.drt_horizon.specs.Plans.{IsAboveOne}
 use Rattle.drt_edf.proofs.EvidenceKinds.{planned_other}
 use Rattle.drt_edf.proofs.Overloads.{spent_overload}
@@ -25,5 +25,5 @@ returns-in-Spent c =
     let given = subst (λ gs. AreGiven gs c.args.proofs.now) c.requires.graphs c.requires.given in
     let above = subst (λ gs. IsAboveOne gs c.args.proofs.now) c.requires.graphs c.requires.above in
     let kept = subst (λ gs. AreGraphs gs) c.requires.graphs c.count-count.ensures.kept in
-    let over = subst (λ gs. IsOver (laps_of gs c.args.proofs.now) c.args.budget (Spent c.in-Spent.last)) c.requires.graphs c.in-Spent.ensures in
+    let over = subst (λ gs. IsOver (cycle_turns_of gs c.args.proofs.now) c.args.budget (Spent c.in-Spent.last)) c.requires.graphs c.in-Spent.ensures in
     spent_overload c.search_ends.ensures c.args.set.now.tasks c.args.proofs.now kept given above c.args.budget c.in-Spent.last over

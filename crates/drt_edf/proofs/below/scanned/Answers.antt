@@ -9,7 +9,7 @@ use Rattle.drt_horizon.proofs.Givens.{given_small}
 use Rattle.drt_evidence.specs.Claims.{graphs_of}
 use Rattle.drt_evidence.specs.Ranges.{IsCounted, IsInRange}
 use Rattle.drt_evidence.specs.declared.evidence.Evidence.TheVariants.{EdfYes}
-use Rattle.drt_edf.specs.Answers.{IsYes}
+use Rattle.drt_edf.specs.Answers.{IsExactYes}
 use Rattle.drt_edf.specs.LabelFronts.{entries_of, AreDemandWalks, AreLabelFronts}
 use Rattle.drt_edf.specs.RatioClaims.{claims_of}
 use Rattle.drt_edf.proofs.Decided.{listed_walks, plan_near, yes_in_range}
@@ -37,7 +37,7 @@ returns-in-None-clause-done c =
     let yes = is_yes c.horizon_holds.ensures c.deadlines_decide.ensures c.args.set.now.version c.args.set.now.tasks limits c.requires.constrained kept c.args.proofs.now given c.args.bound plan c.in_ok-fronts.fronts are room in
     let claims = c.in_ok-claims_of-in-None.ensures in
     let entries = c.in_ok-all_entries-in-None.ensures.entries ∙ ap (λ fs. map entries_of fs) (c.as_slice-in-None.ensures) in
-    subst (λ x. IsYes c.args.set.now.tasks x c.in_ok-all_entries-in-None.field-0) (sym claims) (subst (λ x. IsYes c.args.set.now.tasks (claims_of c.args.proofs.now) x) (sym entries) yes)
+    subst (λ x. IsExactYes c.args.set.now.tasks x c.in_ok-all_entries-in-None.field-0) (sym claims) (subst (λ x. IsExactYes c.args.set.now.tasks (claims_of c.args.proofs.now) x) (sym entries) yes)
 
 pub returns-in-None-clause-range : goal.returns-in-None-clause-range
 returns-in-None-clause-range c =

@@ -1,6 +1,7 @@
 use Rattle.std.proofs.Common.{List, sym, ◌∙◌, subst}
 use Rattle.drt_model.specs.Digraph.{vertex_count}
-use Rattle.drt_demand.specs.Demand.{Demand, demand_algebra}
+use Rattle.drt_model.specs.declared.front.FrontEntry.{FrontEntry}
+use Rattle.drt_demand.specs.Demand.{demand_algebra}
 use Rattle.drt_table.specs.Machine.{Setting}
 use Rattle.drt_table.specs.View.{View, IsTable, setting_of, state_of}
 use Rattle.drt_table.specs.Cover.{IsFront}
@@ -12,7 +13,7 @@ use Rattle.drt_edf.proofs.fronts.front_of.Goals as goal
 
 pub returns : goal.returns
 returns c =
-    let v : View Demand = c.args.table.now in
+    let v : View FrontEntry = c.args.table.now in
     let t : Setting = setting_of v in
     let nodes = (state_of v).nodes in
     let is : IsTable demand_algebra v = c.log-log.ensures.replayed in

@@ -3,7 +3,8 @@ use Rattle.std.specs.Prelude.{slice_get, option_map}
 use Rattle.std.proofs.lemmas.List.{length-map}
 use Rattle.std.proofs.lemmas.Option.{same_Some, slice_get-map, slice_get_within}
 use Rattle.drt_model.specs.Digraph.{vertex_count}
-use Rattle.drt_demand.specs.Demand.{Demand, demand_algebra}
+use Rattle.drt_model.specs.declared.front.FrontEntry.{FrontEntry}
+use Rattle.drt_demand.specs.Demand.{demand_algebra}
 use Rattle.drt_table.specs.KeptOrder.{IsKeptOf, IsNextKept, left_from}
 use Rattle.drt_table.specs.Node.{NodeOf}
 use Rattle.drt_table.specs.View.{state_of}
@@ -21,15 +22,15 @@ nodes-init c =
 
 pub nodes-preserved : goal.nodes-preserved
 nodes-preserved c =
-    let nodes : List (NodeOf Demand) = (state_of c.args.table.now).nodes in
+    let nodes : List (NodeOf FrontEntry) = (state_of c.args.table.now).nodes in
     let v = c.args.vertex in
     let id = c.in-Some.id in
-    let here : (n : NodeOf Demand) × IsKeptOf demand_algebra nodes v id n = c.nodes.invariant.1 id c.in-Some.is in
+    let here : (n : NodeOf FrontEntry) × IsKeptOf demand_algebra nodes v id n = c.nodes.invariant.1 id c.in-Some.is in
     let next : IsNextKept demand_algebra nodes v id here.0 c.next_kept-next.result =
     subst (λ u. IsNextKept demand_algebra nodes u id here.0 c.next_kept-next.result) here.1.vertex (c.next_kept-next.ensures here.0 here.1.at) in
     let at : slice_get nodes id ≡ Some c.node.result.now.node = slice_get-map (λ h. h.node) c.args.table.now.nodes id ∙ ap (λ o. option_map (λ h. h.node) o) c.node.ensures in
     let label : c.deref.result.now ≡ here.0.label =
-    (c.deref.ensures ∙ ap (λ h. h.node.label) c.behind-table.view_is) ∙ ap (λ (n : NodeOf Demand). n.label) (same_Some c.node.result.now.node here.0 (sym at ∙ here.1.at)) in
+    (c.deref.ensures ∙ ap (λ h. h.node.label) c.behind-table.view_is) ∙ ap (λ (n : NodeOf FrontEntry). n.label) (same_Some c.node.result.now.node here.0 (sym at ∙ here.1.at)) in
     let old : AreFalling nodes (IsPassed nodes v (vertex_count c.args.graph.now) (Some id)) c.nodes.kept.items =
     subst (λ o. AreFalling nodes (IsPassed nodes v (vertex_count c.args.graph.now) o) c.nodes.kept.items) c.in-Some.is c.nodes.invariant.0 in (
       falling_more nodes v (vertex_count c.args.graph.now) id here.0 here.1 c.next_kept-next.result next c.nodes.kept.items c.push.new.self.items c.deref.result.now label c.in_ok-push.ensures.items old,
@@ -38,8 +39,8 @@ nodes-preserved c =
 
 pub nodes-smaller : goal.nodes-smaller
 nodes-smaller c =
-    let nodes : List (NodeOf Demand) = (state_of c.args.table.now).nodes in
-    let here : (n : NodeOf Demand) × IsKeptOf demand_algebra nodes c.args.vertex c.in-Some.id n = c.nodes.invariant.1 c.in-Some.id c.in-Some.is in
+    let nodes : List (NodeOf FrontEntry) = (state_of c.args.table.now).nodes in
+    let here : (n : NodeOf FrontEntry) × IsKeptOf demand_algebra nodes c.args.vertex c.in-Some.id n = c.nodes.invariant.1 c.in-Some.id c.in-Some.is in
     subst (λ o. left_from demand_algebra nodes c.next_kept-next.result < left_from demand_algebra nodes o) (sym c.in-Some.is)
     (less_left demand_algebra nodes here.0.label.vertex c.in-Some.id here.0 c.next_kept-next.result here.1.at (c.next_kept-next.ensures here.0 here.1.at))
 
@@ -50,7 +51,7 @@ next_kept-next-requires-after_bounds c κs =
 
 pub node-requires-after_bounds : goal.node-requires-after_bounds
 node-requires-after_bounds c κs =
-    let nodes : List (NodeOf Demand) = (state_of c.args.table.now).nodes in
+    let nodes : List (NodeOf FrontEntry) = (state_of c.args.table.now).nodes in
     let here = c.nodes.invariant.1 c.in-Some.id c.in-Some.is in
     let l = slice_get_within nodes c.in-Some.id here.0 here.1.at in
     let e = length-map c.args.table.now.nodes (λ h. h.node) in
@@ -58,6 +59,6 @@ node-requires-after_bounds c κs =
 
 pub returns : goal.returns
 returns c =
-    let nodes : List (NodeOf Demand) = (state_of c.args.table.now).nodes in
+    let nodes : List (NodeOf FrontEntry) = (state_of c.args.table.now).nodes in
     let none = subst (λ o. AreFalling nodes (IsPassed nodes c.args.vertex (vertex_count c.args.graph.now) o) c.nodes.kept.items) c.in_default.is c.nodes.invariant.0 in
     falling_end nodes c.args.vertex (vertex_count c.args.graph.now) c.requires.vertex c.nodes.kept.items none

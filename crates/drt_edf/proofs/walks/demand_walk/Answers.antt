@@ -5,7 +5,8 @@ use Rattle.std.proofs.lemmas.List.Elements.{All-contains}
 use Rattle.std.proofs.lemmas.Option.{slice_get_within}
 use Rattle.std.proofs.lemmas.Result.{IfOk-weaker}
 use Rattle.drt_model.specs.Digraph.{vertex_count}
-use Rattle.drt_demand.specs.Demand.{Demand, demand_algebra}
+use Rattle.drt_model.specs.declared.front.FrontEntry.{FrontEntry}
+use Rattle.drt_demand.specs.Demand.{demand_algebra}
 use Rattle.drt_table.specs.Machine.{Setting}
 use Rattle.drt_table.specs.Node.{NodeOf}
 use Rattle.drt_table.specs.View.{View, IsTable, setting_of, state_of}
@@ -18,7 +19,7 @@ use Rattle.drt_edf.proofs.DemandWalks.{some_walk, no_walk}
 use Rattle.drt_edf.proofs.walks.demand_walk.Goals as goal
 
 -- An element of the gathered nodes is an entry.
-entry_in : (count : ℕ) (nodes : List (NodeOf Demand)) (kept : List Kept) → AreKept count nodes kept → (x : Kept) → Contains kept x → IsKeptEntry nodes x
+entry_in : (count : ℕ) (nodes : List (NodeOf FrontEntry)) (kept : List Kept) → AreKept count nodes kept → (x : Kept) → Contains kept x → IsKeptEntry nodes x
 entry_in count nodes kept are x has = (All-contains (λ k. IsKeptEntry nodes k × (k.label.vertex < count)) kept x are.sound has).0
 
 pub greatest_due-requires : goal.greatest_due-requires
@@ -38,7 +39,7 @@ walk-requires-after_bounds c κs =
 
 pub returns-in-Some : goal.returns-in-Some
 returns-in-Some c =
-    let v : View Demand = c.args.table.now in
+    let v : View FrontEntry = c.args.table.now in
     let t : Setting = setting_of v in
     let nodes = (state_of v).nodes in
     let is : IsTable demand_algebra v = c.log-log.ensures.replayed in
@@ -56,7 +57,7 @@ returns-in-Some c =
 
 pub returns : goal.returns
 returns c =
-    let v : View Demand = c.args.table.now in
+    let v : View FrontEntry = c.args.table.now in
     let t : Setting = setting_of v in
     let nodes = (state_of v).nodes in
     let is : IsTable demand_algebra v = c.log-log.ensures.replayed in

@@ -1,7 +1,7 @@
 use Rattle.std.proofs.Common.{◌≡◌, ℕ, List, [], ◌∷◌, length, All, ap, subst, sym, arith, rules}
 use Rattle.std.specs.Prelude.{ℤ, pos}
 use Rattle.std.proofs.lemmas.List.Elements.{All-nil, All-cons}
-use Rattle.drt_evidence.specs.declared.evidence.FrontEntry.{FrontEntry}
+use Rattle.drt_model.specs.declared.front.FrontEntry.{FrontEntry}
 use Rattle.drt_evidence.specs.declared.evidence.RatioClaim.{RatioClaim}
 use Rattle.drt_evidence.specs.Ranges.{IsNumber, IsInRangeEntry, IsInRangeFront, IsInRangePotential, IsInRangeRatio}
 use Rattle.drt_evidence.proofs.tests.yes_of_one_task.Goals as goal

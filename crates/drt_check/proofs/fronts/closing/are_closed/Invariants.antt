@@ -1,7 +1,7 @@
 -- The fronts so far cover their entries' extensions.
 use Rattle.std.proofs.Common.{ℕ, ◌<◌, List, get_or}
 use Rattle.drt_graph.specs.Graphs.{graph_of}
-use Rattle.drt_evidence.specs.declared.evidence.FrontEntry.{FrontEntry}
+use Rattle.drt_model.specs.declared.front.FrontEntry.{FrontEntry}
 use Rattle.drt_evidence.specs.Fronts.{IsClosedFront}
 use Rattle.drt_check.proofs.fronts.closing.are_closed.Given as goal
 

@@ -1,7 +1,7 @@
 -- The fronts so far cover their graphs' vertices.
 use Rattle.std.proofs.Common.{ℕ, ◌<◌, List, get_or}
 use Rattle.drt_graph.specs.Graphs.{graph_of}
-use Rattle.drt_evidence.specs.declared.evidence.FrontEntry.{FrontEntry}
+use Rattle.drt_model.specs.declared.front.FrontEntry.{FrontEntry}
 use Rattle.drt_evidence.specs.Fronts.{HasOpenings}
 use Rattle.drt_check.proofs.fronts.opening.have_openings.Given as goal
 

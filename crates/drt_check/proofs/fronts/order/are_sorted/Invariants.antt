@@ -1,6 +1,6 @@
 -- The entries so far are in order.
 use Rattle.std.proofs.Common.{ℕ, ◌+◌, ◌<◌, get_or}
-use Rattle.drt_evidence.specs.declared.evidence.FrontEntry.{FrontEntry}
+use Rattle.drt_model.specs.declared.front.FrontEntry.{FrontEntry}
 use Rattle.drt_evidence.specs.Fronts.{IsNextEntry}
 use Rattle.drt_check.proofs.fronts.order.are_sorted.Given as goal
 

@@ -1,6 +1,6 @@
 -- The entries so far are within the bound.
 use Rattle.std.proofs.Common.{ℕ, ◌<◌, get_or}
-use Rattle.drt_evidence.specs.declared.evidence.FrontEntry.{FrontEntry}
+use Rattle.drt_model.specs.declared.front.FrontEntry.{FrontEntry}
 use Rattle.drt_evidence.specs.Fronts.{IsWithin}
 use Rattle.drt_check.proofs.fronts.order.are_within.Given as goal
 

@@ -1,5 +1,5 @@
 use Rattle.std.proofs.Common.{rules, sym, subst, ◌+◌}
-use Rattle.drt_evidence.specs.Blocks.{AreSoMany, Reads, in_turn}
+use Rattle.drt_evidence.specs.Blocks.{AreSoMany, ReadsBlock, in_turn}
 use Rattle.drt_evidence.proofs.Blocks.{each_more, each_stop}
 use Rattle.drt_evidence.proofs.reading.block.read_each.Goals as goal
 
@@ -12,4 +12,4 @@ returns-in_err-block-clause-stops g c =
 pub loop-preserved : goal.loop-preserved
 loop-preserved g c =
     let h = each_more c.loop.invariant c.in_ok-block.ensures.read in
-    subst (λ xs. Reads (in_turn g.B.Block.block) (AreSoMany (c.loop.counter + 1) g.B.Block.is_stated) c.args.text.now.rest.now xs c.read.new.text.rest.now) (sym c.in_ok-push.ensures.items) h
+    subst (λ xs. ReadsBlock (in_turn g.B.Block.block) (AreSoMany (c.loop.counter + 1) g.B.Block.is_stated) c.args.text.now.rest.now xs c.read.new.text.rest.now) (sym c.in_ok-push.ensures.items) h

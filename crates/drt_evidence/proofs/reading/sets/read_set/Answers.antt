@@ -1,7 +1,7 @@
 use Rattle.std.proofs.Common.{◌-◌, arith, drop, length, length-drop, subst, sym}
 use Rattle.std.proofs.lemmas.List.{take_all}
 use Rattle.drt_file.specs.trusted.Canonical.{canonical}
-use Rattle.drt_evidence.specs.Blocks.{IsSet, Reads}
+use Rattle.drt_evidence.specs.Blocks.{IsSet, ReadsBlock}
 use Rattle.drt_evidence.proofs.Sets.{set_read, set_stopped, fault_above_0, fault_within}
 use Rattle.drt_evidence.proofs.reading.sets.read_set.Goals as goal
 
@@ -13,7 +13,7 @@ bytes_from-requires c =
 pub returns-in-Ok-clause-read : goal.returns-in-Ok-clause-read
 returns-in-Ok-clause-read c = let h = set_read c.args.text.now.rest.now c.in-Ok.front.set c.in-Ok.front.length c.in-Ok.ensures.read in
     let rest = drop c.in-Ok.front.length c.args.text.now.rest.now in
-    subst (λ t. Reads canonical IsSet c.args.text.now.rest.now c.in-Ok.front.set t) (sym (take_all (length c.args.text.now.rest.now - c.in-Ok.front.length) rest (omega (arith, length-drop c.in-Ok.front.length c.args.text.now.rest.now)))) h
+    subst (λ t. ReadsBlock canonical IsSet c.args.text.now.rest.now c.in-Ok.front.set t) (sym (take_all (length c.args.text.now.rest.now - c.in-Ok.front.length) rest (omega (arith, length-drop c.in-Ok.front.length c.args.text.now.rest.now)))) h
 
 pub returns-in-Err-Fault-clause-stops : goal.returns-in-Err-Fault-clause-stops
 returns-in-Err-Fault-clause-stops c =

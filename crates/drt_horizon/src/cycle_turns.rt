@@ -2,19 +2,19 @@
 ghost use Rattle.std.specs.Prelude.{◌≡◌, ℕ, ◌+◌, ◌<◌, ◌≤◌, [], ◌∷◌, length};
 ghost use Rattle.drt_model.specs.Digraph.{vertex_count};
 ghost use Rattle.drt_model.specs.Walk.{IsCycle, work, cycle_span};
-ghost use Rattle.drt_horizon.specs.Laps.{AreLaps, IsNext, lapped};
+ghost use Rattle.drt_horizon.specs.CycleTurns.{AreCycleTurns, IsNext, turned};
 
 use drt_graph::{Graph, cycle_sums};
 
 /// One turn of a cycle: the sum of its execution times and the sum of its separations, in ticks.
 #[derive(Drop, Clone, Copy, Debug)]
-pub struct Lap {
+pub struct CycleTurn {
     pub work: u64,
     pub span: u64,
 }
 
-/// The lap of a cycle.
-pub fn lap_of(graph: &Graph, cycle: &[u32]) -> Lap
+/// The turn of a cycle.
+pub fn cycle_turn_of(graph: &Graph, cycle: &[u32]) -> CycleTurn
     requires is { IsCycle graph.now cycle.now }
     requires few { length cycle.now ≤ 96 }
     ensures work { result.work ≡ work graph.now cycle.now }
@@ -22,34 +22,34 @@ pub fn lap_of(graph: &Graph, cycle: &[u32]) -> Lap
 {
     let _count = graph.vertex_count();
     let (work, span) = cycle_sums(graph, cycle);
-    Lap {
+    CycleTurn {
         work: work as u64,
         span: span as u64,
     }
 }
 
-// The first multiple of the lap's span after `t`.
-fn next_of(lap: Lap, t: u64) -> u64
-    requires some { 1 ≤ lap.span }
-    requires small { lap.span ≤ 100000000 }
+// The first multiple of the turn's span after `t`.
+fn next_of(cycle_turn: CycleTurn, t: u64) -> u64
+    requires some { 1 ≤ cycle_turn.span }
+    requires small { cycle_turn.span ≤ 100000000 }
     requires time { t ≤ 1000000000000000 }
-    ensures next { IsNext (lap ∷ []) t result }
+    ensures next { IsNext (cycle_turn ∷ []) t result }
     ensures near { result ≤ t + 100000000 }
 {
-    (t / lap.span + 1) * lap.span
+    (t / cycle_turn.span + 1) * cycle_turn.span
 }
 
 /// The first step time after `t`.
-pub fn next_step(laps: &[Lap], t: u64) -> u64
-    requires laps { AreLaps laps.now }
-    requires some { 1 ≤ length laps.now }
+pub fn next_step(cycle_turns: &[CycleTurn], t: u64) -> u64
+    requires cycle_turns { AreCycleTurns cycle_turns.now }
+    requires some { 1 ≤ length cycle_turns.now }
     requires time { t ≤ 1000000000000000 }
-    ensures next { IsNext laps.now t result }
+    ensures next { IsNext cycle_turns.now t result }
     ensures near { result ≤ t + 100000000 }
 {
-    let mut next = next_of(laps[0], t);
-    'laps: for i in 1..laps.len() {
-        let other = next_of(laps[i], t);
+    let mut next = next_of(cycle_turns[0], t);
+    'cycle_turns: for i in 1..cycle_turns.len() {
+        let other = next_of(cycle_turns[i], t);
         if other < next {
             next = other;
         }
@@ -58,16 +58,16 @@ pub fn next_step(laps: &[Lap], t: u64) -> u64
 }
 
 /// The work of whole turns within `t`.
-pub fn work_within(laps: &[Lap], t: u64) -> u128
-    requires laps { AreLaps laps.now }
-    requires few { length laps.now ≤ 32 }
+pub fn work_within(cycle_turns: &[CycleTurn], t: u64) -> u128
+    requires cycle_turns { AreCycleTurns cycle_turns.now }
+    requires few { length cycle_turns.now ≤ 32 }
     requires time { t ≤ 2000000000000000 }
-    ensures { result ≡ lapped laps.now t }
+    ensures { result ≡ turned cycle_turns.now t }
 {
     let mut total: u128 = 0;
-    'laps: for i in 0..laps.len() {
-        let lap = laps[i];
-        total += (t / lap.span) as u128 * lap.work as u128;
+    'cycle_turns: for i in 0..cycle_turns.len() {
+        let cycle_turn = cycle_turns[i];
+        total += (t / cycle_turn.span) as u128 * cycle_turn.work as u128;
     }
     total
 }
