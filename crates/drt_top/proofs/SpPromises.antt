@@ -62,10 +62,10 @@ answer_low set budget status written trail (inr (inl a)) = omega (arith, a.0)
 answer_low set budget status written trail (inr (inr a)) = omega (arith, a.0)
 
 module _ (law : TextsReadAsOneSet) (suffice : BudgetsSuffice) (b : ℕ) where
-  answer_ends : (set : Contents) (status : ℕ) (written : List ℕ) (trail : Trail) → IsSpAnswer set b status written trail → SpEnds set b status
-  answer_ends set status written trail (inl a) = λ enough. inl (a.0, a.1.yes.schedulable)
-  answer_ends set status written trail (inr (inl a)) = λ enough. inr (a.0, a.1.no.not_schedulable)
-  answer_ends set status written trail (inr (inr a)) = λ enough. absurd (suffice set b a.1.spent a.1.cause enough)
+  answer_ends : (set : Contents) → IsTaskSet set.version set.tasks → (status : ℕ) (written : List ℕ) (trail : Trail) → IsSpAnswer set b status written trail → SpEnds set b status
+  answer_ends set limits status written trail (inl a) = λ enough. inl (a.0, a.1.yes.schedulable)
+  answer_ends set limits status written trail (inr (inl a)) = λ enough. inr (a.0, a.1.no.not_schedulable)
+  answer_ends set limits status written trail (inr (inr a)) = λ enough. absurd (suffice set b a.1.spent limits a.1.cause enough)
 
   pub sp_lawful : AreLawful (sp_rules b)
   sp_lawful = record {
@@ -74,6 +74,6 @@ module _ (law : TextsReadAsOneSet) (suffice : BudgetsSuffice) (b : ℕ) where
     one_fault = λ bytes f g h k. fault_one law bytes f g h k;
     longer = λ bytes f h. long_file bytes f h;
     made_ends = λ bytes m d set a.
-        answer_ends set m.status m.text m.trail (subst (λ s. IsSpAnswer s b m.status m.text m.trail) (accepted_one law bytes d.set set d.accepted a) d.answer);
+        answer_ends set a.reads.limits m.status m.text m.trail (subst (λ s. IsSpAnswer s b m.status m.text m.trail) (accepted_one law bytes d.set set d.accepted a) d.answer);
     refused_ends = λ bytes f h set a. absurd (accepted_well law bytes set f a h);
   }
