@@ -52,3 +52,35 @@ pub const TOO_FINE: &str =
 /// Two tasks whose horizon is above 2^40.
 pub const TOO_FAR: &str =
     "drt 1\ntask T1\nvertex a 999998 999997\nedge a a 999999\ntask T2\nvertex b 1 1\nedge b b 1000000\nend\n";
+
+/// A task of two walks that both leave room for a third job, which a combination of both doesn't show.
+pub const SPLIT: &str =
+    "drt 1\ntask T1\nvertex x 3 5\nvertex y 2 4\nedge x x 20\nedge y y 4\ntask T2\nvertex z 2 5\nedge z z 10\nend\n";
+
+/// A periodic task whose second job comes just when the lower job is done.
+pub const JUST_DONE: &str =
+    "drt 1\ntask T1\nvertex a 2 2\nedge a a 4\ntask T2\nvertex b 2 5\nedge b b 8\nend\n";
+
+/// Two jobs without edges above a third one, of which the longer leaves too little room.
+pub const TOO_LITTLE_ROOM: &str =
+    "drt 1\ntask T1\nvertex x 3 5\nvertex y 2 4\ntask T2\nvertex z 2 4\nend\n";
+
+/// Three tasks without edges: of the walks of the higher two, only the longer ones together leave too little room.
+pub const ONLY_TOGETHER: &str =
+    "drt 1\ntask T1\nvertex a 2 4\nvertex b 1 4\ntask T2\nvertex a 2 4\nvertex b 1 4\ntask T3\nvertex c 1 4\nend\n";
+
+/// A task without edges above a periodic one, which meets its deadline with no tick to spare.
+pub const ONCE_ABOVE: &str =
+    "drt 1\ntask T1\nvertex a 2 4\ntask T2\nvertex b 2 4\nedge b b 8\nend\n";
+
+/// The same with one more tick of work in the periodic task, which then misses.
+pub const ONCE_ABOVE_LATE: &str =
+    "drt 1\ntask T1\nvertex a 2 4\ntask T2\nvertex b 3 4\nedge b b 8\nend\n";
+
+/// The task of lower priority stands first in the file.
+pub const LOWER_FIRST: &str =
+    "drt 2\ntask T2\npriority 9\nvertex b 2 4\nedge b b 8\ntask T1\npriority 3\nvertex a 2 2\nedge a a 4\nend\n";
+
+/// Two tasks of ratios 2/5 and 4/7, the second with the higher priority.
+pub const SEVENTHS_ABOVE_FIFTHS: &str =
+    "drt 2\ntask T1\npriority 2\nvertex a 2 4\nedge a a 5\ntask T2\npriority 1\nvertex b 4 7\nedge b b 7\nend\n";
