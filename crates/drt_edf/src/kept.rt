@@ -33,7 +33,7 @@ fn add_kept(
     'nodes: while let Some(id) = next {
         kept.push(Kept {
             node: id,
-            label: *table.node(id).label,
+            label: *table.node(id).label(),
         })?;
         next = table.next_kept(id);
     }

@@ -133,7 +133,7 @@ fn label(table: &Table<DemandLabel>, id: u32) -> Option<DemandLabel> {
     if id as usize >= table.node_count() {
         return None;
     }
-    Some(*table.node(id).label)
+    Some(*table.node(id).label())
 }
 
 // The node's state, and the node that dropped it, if any.
@@ -142,7 +142,7 @@ fn state(table: &Table<DemandLabel>, id: u32) -> Option<(NodeState, Option<u32>)
         return None;
     }
     let node = table.node(id);
-    Some((node.state, node.dropped_by))
+    Some((node.state(), node.dropped_by()))
 }
 
 // The walk of a node.

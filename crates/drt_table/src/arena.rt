@@ -24,7 +24,6 @@ use drt_label::{Label, Memory};
 use std::alloc::Global;
 use std::collections::BinaryHeap;
 use std::marker::Model;
-use std::sync::Arc;
 
 /// The nodes, with room for all that a table can have.
 #[derive(Drop)]
@@ -234,10 +233,10 @@ impl<L: Label> Arena<L> {
         forget(&mut self.taken, id);
     }
 
-    pub(crate) fn hand_out(&mut self, id: u32) -> Arc<L>
+    pub(crate) fn hand_out(&mut self, id: u32) -> L
         requires { (h : Held L) × (slice_get self.old.nodes id ≡ Some h) × IsTrue h.spare × IsTrue (is_taken h.node) }
         ensures nodes { HasNodes self.old self.new (changed id hand_out self.old.nodes) }
-        ensures label { IfSome (slice_get self.old.nodes id) (λ h. result.value ≡ h.node.label) }
+        ensures label { IfSome (slice_get self.old.nodes id) (λ h. result ≡ h.node.label) }
     {
         self.nodes[id as usize].hand_out()
     }

@@ -28,7 +28,7 @@ pub(crate) fn first_taken<L: Label>(nodes: &[Node<L>], taken: &[u32]) -> Option<
 }
 
 // The least node that the worker holds.
-pub(crate) fn first_held<L>(nodes: &[Node<L>], taken: &[u32], worker: u32) -> Option<u32>
+pub(crate) fn first_held<L: Label>(nodes: &[Node<L>], taken: &[u32], worker: u32) -> Option<u32>
     requires { AreHeld nodes.now taken.now }
     ensures { result ≡ first (λ h. is_held_by worker h.node) nodes.now }
 {

@@ -17,7 +17,6 @@ use drt_graph::Graph;
 use drt_label::{Label, Memory};
 use std::alloc::Global;
 use std::marker::Model;
-use std::sync::Arc;
 
 /// The labels of in-range walks of one graph that were found so far, and the log of the steps that found them.
 ///
@@ -122,13 +121,14 @@ impl<L: Label> Table<L> {
         }
     }
 
-    /// The spare of a taken node, which the node then lacks. Nothing else changes.
-    pub fn hand_out(&mut self, id: u32) -> Arc<L>
+    /// The label of a taken node once more, made of the node's spare, which the node then lacks. Nothing else changes, and it
+    /// takes no memory.
+    pub fn hand_out(&mut self, id: u32) -> L
         requires { (h : Held _) × (slice_get self.old.nodes id ≡ Some h) × IsTrue h.spare × IsTrue (is_taken h.node) }
         ensures setting { setting_of self.new ≡ setting_of self.old }
         ensures log { self.new.log ≡ self.old.log }
         ensures nodes { self.new.nodes ≡ changed id hand_out self.old.nodes }
-        ensures label { IfSome (slice_get self.old.nodes id) (λ h. result.value ≡ h.node.label) }
+        ensures label { IfSome (slice_get self.old.nodes id) (λ h. result ≡ h.node.label) }
     {
         self.arena.hand_out(id)
     }

@@ -27,7 +27,7 @@ returns-clause-label g c =
     let lt : c.args.id < length v.nodes = slice_get_within v.nodes c.args.id can.0 can.1 in
     let at : slice_get v.nodes c.args.id ≡ Some c.index_mut.result.now = slice_get_read v.nodes (length v.nodes) c.args.id c.index_mut.result.now refl lt c.index_mut.ensures.value in
     let nodes : slice_set v.nodes c.args.id c.hand_out.new.self ≡ changed c.args.id hand_out v.nodes = ap (λ x. set v.nodes c.args.id x) c.hand_out.ensures.node ∙ changed-set hand_out v.nodes c.args.id c.index_mut.result.now at in
-    subst (λ (x : Stock _). IfSome (slice_get x.nodes c.args.id) (λ h. c.hand_out.result.value ≡ h.node.label)) c.self.view_is (subst (λ o. IfSome o (λ h. c.hand_out.result.value ≡ h.node.label)) (sym at) c.hand_out.ensures.label)
+    subst (λ (x : Stock _). IfSome (slice_get x.nodes c.args.id) (λ h. c.hand_out.result ≡ h.node.label)) c.self.view_is (subst (λ o. IfSome o (λ h. c.hand_out.result ≡ h.node.label)) (sym at) c.hand_out.ensures.label)
 
 pub invariant_of-self : goal.invariant_of-self
 invariant_of-self g c =

@@ -2,7 +2,7 @@ use Rattle.std.proofs.Common.{◌≡◌, ◌<◌, ◌+◌, ◌++◌, ◌∷◌, 
 use Rattle.std.specs.Prelude.{slice_get, slice_set}
 use Rattle.std.specs.BinaryHeap.{heap_items}
 use Rattle.std.proofs.lemmas.List.{length-set, length_push}
-use Rattle.std.proofs.lemmas.Option.{slice_get_read, slice_get_within}
+use Rattle.std.proofs.lemmas.Option.{slice_get_read, slice_get_within, same_Some}
 use Rattle.drt_table.specs.Arena.{Stock, HasNodes, AreArranged}
 use Rattle.drt_table.specs.Held.{take_by, held_offset}
 use Rattle.drt_table.specs.Node.{Held, is_pending}
@@ -31,6 +31,15 @@ index_mut-requires g c =
     let f : Earliest (λ (h : Held _). is_pending h.node) (held_offset g.L.Label.algebra) v.nodes c.args.id = found_earliest (λ (h : Held _). is_pending h.node) (held_offset g.L.Label.algebra) v.nodes c.args.id (sym can) in
     let lt : c.args.id < length v.nodes = slice_get_within v.nodes c.args.id f.item f.at in
     omega (arith, lt, c.self.inside.nodes.ok.0)
+
+pub take_by-requires : goal.take_by-requires
+take_by-requires g c =
+    let v : Stock _ = record { nodes = c.self.inside.nodes.items; vertices = length c.self.inside.heads.items; room = c.self.inside.room } in
+    let can : Some c.args.id ≡ earliest (λ (h : Held _). is_pending h.node) (held_offset g.L.Label.algebra) v.nodes = subst (λ (x : Stock _). Some c.args.id ≡ earliest (λ (h : Held _). is_pending h.node) (held_offset g.L.Label.algebra) x.nodes) (sym c.self.view_is) c.requires in
+    let f : Earliest (λ (h : Held _). is_pending h.node) (held_offset g.L.Label.algebra) v.nodes c.args.id = found_earliest (λ (h : Held _). is_pending h.node) (held_offset g.L.Label.algebra) v.nodes c.args.id (sym can) in
+    let lt : c.args.id < length v.nodes = slice_get_within v.nodes c.args.id f.item f.at in
+    let at : slice_get v.nodes c.args.id ≡ Some c.index_mut.result.now = slice_get_read v.nodes (length v.nodes) c.args.id c.index_mut.result.now refl lt c.index_mut.ensures.value in
+    ap (λ (h : Held _). is_pending h.node) (same_Some c.index_mut.result.now f.item (sym at ∙ f.at)) ∙ f.passes
 
 pub pop_ticket-requires-clause-some : goal.pop_ticket-requires-clause-some
 pop_ticket-requires-clause-some g c =

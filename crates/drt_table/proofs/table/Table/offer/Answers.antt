@@ -113,7 +113,7 @@ invariant_of-self g c =
     let room : length v.log < v.budget = omega (arith, c.self.inside.log.ok.0) in
     let step : IsStep a v new c.args.worker (Offer c.args.node c.args.edge) c.place-reply.result =
     offer_placed a v c.args.worker c.args.node c.args.edge c.args.twin new held.0 c.vertex-2.result.now.deadline c.place-reply.result held.1 (offer_label a laws v is c.args.worker c.args.node c.args.edge can c.args.twin comes held.0 held.1)
-    (ap (λ x. x.deadline) c.vertex-2.ensures ∙ ap (λ x. (vertex_of v.graph x).deadline) (c.vertex.ensures ∙ ap a.vertex (c.deref.ensures ∙ c.twin.view_is))) refl
+    (ap (λ x. x.deadline) c.vertex-2.ensures ∙ ap (λ x. (vertex_of v.graph x).deadline) (c.vertex.ensures ∙ ap a.vertex c.twin.view_is)) refl
     (c.place-reply.ensures.nodes.nodes_are ∙ ap (λ xs. placed_nodes a c.args.twin c.args.node c.vertex-2.result.now.deadline v.bound xs) counted)
     (c.place-reply.ensures.reply ∙ ap (λ xs. placed_reply a c.args.twin c.vertex-2.result.now.deadline v.bound xs) counted)
     c.push_within.ensures.items room in (
@@ -138,7 +138,7 @@ returns g c =
     let room : length v.log < v.budget = omega (arith, c.self.inside.log.ok.0) in
     let step : IsStep a v new c.args.worker (Offer c.args.node c.args.edge) c.place-reply.result =
     offer_placed a v c.args.worker c.args.node c.args.edge c.args.twin new held.0 c.vertex-2.result.now.deadline c.place-reply.result held.1 (offer_label a laws v is c.args.worker c.args.node c.args.edge can c.args.twin comes held.0 held.1)
-    (ap (λ x. x.deadline) c.vertex-2.ensures ∙ ap (λ x. (vertex_of v.graph x).deadline) (c.vertex.ensures ∙ ap a.vertex (c.deref.ensures ∙ c.twin.view_is))) refl
+    (ap (λ x. x.deadline) c.vertex-2.ensures ∙ ap (λ x. (vertex_of v.graph x).deadline) (c.vertex.ensures ∙ ap a.vertex c.twin.view_is)) refl
     (c.place-reply.ensures.nodes.nodes_are ∙ ap (λ xs. placed_nodes a c.args.twin c.args.node c.vertex-2.result.now.deadline v.bound xs) counted)
     (c.place-reply.ensures.reply ∙ ap (λ xs. placed_reply a c.args.twin c.vertex-2.result.now.deadline v.bound xs) counted)
     c.push_within.ensures.items room in
