@@ -245,6 +245,14 @@ module _ {L : Type 0} (a : Algebra L) (nodes : List (Held L)) (links heads : Lis
       popped_ticket a (changed id (take_by w) nodes) tickets rest (length (changed id (take_by w) nodes)) t (take_by w found.item)
       (subst (λ n. AreWaiting a (changed id (take_by w) nodes) tickets n) (sym (length-changed id (take_by w) nodes)) (still_waiting a nodes (changed id (take_by w) nodes) tickets (change_stays (take_by w) id nodes (take_calms w)) ok.waiting)) here refl perm
 
+pub not_pending : {L : Type 0} (n : NodeOf L) → is_taken n ≡ true → is_pending n ≡ false
+not_pending n = by_state n.state
+  where
+    by_state : (s : NodeState) → is_taken_state s ≡ true → is_pending_state s ≡ false
+    by_state Pending t = absurd (cc)
+    by_state (Taken w) t = refl
+    by_state Done t = refl
+
 pub taken_not_pending : {L : Type 0} (n : NodeOf L) → is_taken n ≡ true → is_pending n ≡ true → ⊥
 taken_not_pending n = by_state n.state
   where

@@ -1,6 +1,7 @@
-use Rattle.std.proofs.Common.{◌≡◌, ◌<◌, ◌≤◌, ℕ, None, Some, Option, length, refl, sym, ap, ◌∙◌, subst, arith, set}
+use Rattle.std.proofs.Common.{◌≡◌, ◌<◌, ◌≤◌, ℕ, None, Some, Option, length, refl, sym, ap, ◌∙◌, subst, arith, rules, set}
 use Rattle.std.specs.Prelude.{slice_get, slice_set, slice_index_or, IsTrue}
 use Rattle.std.proofs.lemmas.Option.{none-some, same_Some, slice_get-get_or}
+use borrow.Author.Rules.{scaled_Fits}
 use Rattle.drt_table.specs.Links.{links_after, heads_after}
 use Rattle.drt_table.specs.Places.{changed}
 use Rattle.drt_table.specs.Held.{AllOf, drop_held}
@@ -304,3 +305,21 @@ returns-clause-last g c =
     let last = c.loop-next.last in
     let s : IsSwept a l n xs ns links heads last None = subst (λ o. IsSwept a l n xs ns links heads last o) c.in_default.is c.loop-next.invariant in
     swept_place a laws l n xs ns links heads last None s (λ j y e at. absurd (none-some j e))
+
+pub offset_bounds-nodes-id : goal.offset_bounds-nodes-id
+offset_bounds-nodes-id g c =
+    let laws = (g.met.L.Label g.world.𝓛 g.world.𝓜 g.world.𝓡 ((λ s x. x), (λ x. x), (λ x. x), λ x. x)).laws in
+    let lt : c.in-Some.id < length c.loop-next.nodes = swept_within g.L.Label.algebra laws _ _ _ _ _ _ _ _ c.loop-next.invariant c.in-Some.id c.in-Some.is in
+    scaled_Fits c.in-Some.id (length c.loop-next.nodes) _ lt (search rules)
+
+pub offset_bounds-nodes-id-in-Some : goal.offset_bounds-nodes-id-in-Some
+offset_bounds-nodes-id-in-Some g c =
+    let laws = (g.met.L.Label g.world.𝓛 g.world.𝓜 g.world.𝓡 ((λ s x. x), (λ x. x), (λ x. x), λ x. x)).laws in
+    let lt : c.in-Some.id < length c.loop-next.nodes = swept_within g.L.Label.algebra laws _ _ _ _ _ _ _ _ c.loop-next.invariant c.in-Some.id c.in-Some.is in
+    scaled_Fits c.in-Some.id (length c.loop-next.nodes) _ lt (search rules)
+
+pub offset_bounds-nodes-id-then-is_below : goal.offset_bounds-nodes-id-then-is_below
+offset_bounds-nodes-id-then-is_below g c =
+    let laws = (g.met.L.Label g.world.𝓛 g.world.𝓜 g.world.𝓡 ((λ s x. x), (λ x. x), (λ x. x), λ x. x)).laws in
+    let lt : c.in-Some.id < length c.loop-next.nodes = swept_within g.L.Label.algebra laws _ _ _ _ _ _ _ _ c.loop-next.invariant c.in-Some.id c.in-Some.is in
+    scaled_Fits c.in-Some.id (length c.loop-next.nodes) _ lt (search rules)

@@ -21,8 +21,8 @@ returns g c =
     let nodes : slice_set v.nodes c.args.id c.close.new.self ≡ changed c.args.id close_node v.nodes = ap (λ x. set v.nodes c.args.id x) c.close.ensures ∙ changed-set close_node v.nodes c.args.id c.index_mut.result.now at in
     subst (λ (x : Stock _). HasNodes x (record { nodes = slice_set v.nodes c.args.id c.close.new.self; vertices = v.vertices; room = v.room }) (changed c.args.id close_node x.nodes)) c.self.view_is (record { nodes_are = nodes; vertices = refl; room = refl })
 
-pub close-requires : goal.close-requires
-close-requires g c =
+pub close-requires-after_bounds : goal.close-requires-after_bounds
+close-requires-after_bounds g c κs within =
     let v : Stock _ = record { nodes = c.self.inside.nodes.items; vertices = length c.self.inside.heads.items; room = c.self.inside.room } in
     let can : (h : Held _) × (slice_get v.nodes c.args.id ≡ Some h) × IsTrue (is_taken h.node) = subst (λ (x : Stock _). (h : Held _) × (slice_get x.nodes c.args.id ≡ Some h) × IsTrue (is_taken h.node)) (sym c.self.view_is) c.requires in
     let lt : c.args.id < length v.nodes = slice_get_within v.nodes c.args.id can.0 can.1 in

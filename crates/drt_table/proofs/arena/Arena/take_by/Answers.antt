@@ -32,8 +32,8 @@ index_mut-requires g c =
     let lt : c.args.id < length v.nodes = slice_get_within v.nodes c.args.id f.item f.at in
     omega (arith, lt, c.self.inside.nodes.ok.0)
 
-pub take_by-requires : goal.take_by-requires
-take_by-requires g c =
+pub take_by-requires-after_bounds : goal.take_by-requires-after_bounds
+take_by-requires-after_bounds g c κs within =
     let v : Stock _ = record { nodes = c.self.inside.nodes.items; vertices = length c.self.inside.heads.items; room = c.self.inside.room } in
     let can : Some c.args.id ≡ earliest (λ (h : Held _). is_pending h.node) (held_offset g.L.Label.algebra) v.nodes = subst (λ (x : Stock _). Some c.args.id ≡ earliest (λ (h : Held _). is_pending h.node) (held_offset g.L.Label.algebra) x.nodes) (sym c.self.view_is) c.requires in
     let f : Earliest (λ (h : Held _). is_pending h.node) (held_offset g.L.Label.algebra) v.nodes c.args.id = found_earliest (λ (h : Held _). is_pending h.node) (held_offset g.L.Label.algebra) v.nodes c.args.id (sym can) in

@@ -34,8 +34,8 @@ node-node-requires-after_bounds g c κs within =
     let lt : id < length v.nodes = slice_get_within v.nodes id f.item f.at in
     lt
 
-pub holder-holder-requires : goal.holder-holder-requires
-holder-holder-requires g c =
+pub holder-holder-requires-after_bounds : goal.holder-holder-requires-after_bounds
+holder-holder-requires-after_bounds g c κs within =
     let a = g.L.Label.algebra in
     let laws = (g.met.L.Label g.world.𝓛 g.world.𝓜 g.world.𝓡 ((λ s x. x), (λ x. x), (λ x. x), λ x. x)).laws in
     let v : View _ = record { graph = c.self.inside.graph; bound = c.self.inside.bound; budget = c.self.inside.budget; nodes = c.self.inside.arena.nodes; log = c.self.inside.log.items } in
