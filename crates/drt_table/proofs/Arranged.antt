@@ -11,12 +11,14 @@ use Rattle.drt_label.specs.Algebra.{Algebra}
 use Rattle.drt_table.specs.Node.{Held, NodeOf, is_kept, is_pending, is_taken, is_pending_state, is_taken_state}
 use Rattle.drt_table.specs.declared.node.NodeState.{NodeState}
 use Rattle.drt_table.specs.declared.node.NodeState.TheVariants.{Pending, Taken, Done}
-use Rattle.drt_table.specs.Places.{first, changed, earliest}
+use Rattle.drt_worklist.specs.Places.{first, changed}
+use Rattle.drt_table.specs.Earliest.{earliest}
 use Rattle.drt_table.specs.Held.{take_by, close_node, drop_held, dominates_held, fresh_held, held_offset, compared_nodes, placed_nodes}
 use Rattle.drt_table.specs.Arena.{AreArranged}
 use Rattle.drt_table.specs.Links.{IsNext, AreLinked}
 use Rattle.drt_table.specs.Waiting.{Ticket, ticket_cmp, AreWaiting, IsFresh, AreHeld}
-use Rattle.drt_table.proofs.Lists.{Before, before_change, After, after_change, changed_at, length-changed, Pushed, earlier, last, before_push, after_push}
+use Rattle.drt_worklist.proofs.Lists.{Before, before_change, After, after_change, changed_at, length-changed}
+use Rattle.drt_worklist.proofs.Views.{Pushed, earlier, last, before_push, after_push}
 use Rattle.drt_table.proofs.Linking.{StaysKept, changed_linked, at_pushed, get_pushed}
 use Rattle.drt_table.proofs.Tickets.{StayWaiting, still_waiting, popped_ticket, at_contains, contains_at}
 use Rattle.drt_table.proofs.Earliest.{Earliest, found_earliest}

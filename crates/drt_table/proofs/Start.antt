@@ -7,7 +7,7 @@ use Rattle.std.specs.Prelude.{◌&&◌, ◌==◌, IsTrue}
 use Rattle.std.proofs.lemmas.Option.{none-some, same_Some}
 use Rattle.std.proofs.lemmas.Bool.Decides.{nat_tests}
 use Rattle.drt_table.specs.Held.{AllOf}
-use Rattle.drt_table.specs.View.{View, IsTable, kept_at, setting_of, state_of}
+use Rattle.drt_table.specs.View.{View, IsTable, kept_at, setting_of}
 use Rattle.drt_table.specs.Node.{NodeOf, Held, is_kept, fresh}
 use Rattle.drt_table.specs.Machine.{Setting, IsRun, opening_label, in_range, opening_nodes, opening_state, replay}
 

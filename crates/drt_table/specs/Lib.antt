@@ -1,4 +1,4 @@
-pub mod Places
+pub mod Earliest
 pub mod Node
 pub mod Stage
 pub mod Machine

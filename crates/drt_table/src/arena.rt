@@ -10,7 +10,8 @@ ghost use Rattle.drt_table.specs.Held.{AllOf, take_by, count_offer, close_node, 
 ghost use Rattle.drt_table.specs.Links.{AreAlone};
 ghost use Rattle.drt_table.specs.KeptOrder.{IsFirstKept, IsNextKept};
 ghost use Rattle.drt_table.specs.Node.{NodeOf, Held, is_pending, is_taken, is_held_by};
-ghost use Rattle.drt_table.specs.Places.{first, changed, earliest};
+ghost use Rattle.drt_worklist.specs.Places.{first, changed};
+ghost use Rattle.drt_table.specs.Earliest.{earliest};
 ghost use Rattle.std.specs.Option.{ForSome};
 ghost use Rattle.drt_table.specs.Taking.{is_soon};
 ghost use Rattle.drt_table.specs.View.{kept_at};
@@ -21,6 +22,7 @@ use crate::node::{Node, Twin};
 use crate::step::TableReply;
 use crate::waiting::{Queue, admit, first_waiting, pop_ticket, refresh};
 use drt_label::{Label, Memory};
+use drt_worklist::push_within;
 use std::alloc::Global;
 use std::collections::BinaryHeap;
 use std::marker::Model;
@@ -250,17 +252,5 @@ fn is_within(offset: u64, from: u64, shortest: Option<u32>, bound: u64) -> bool
     match shortest {
         Some(sep) => offset < from || gap < sep as u64,
         None => gap <= bound,
-    }
-}
-
-// A push into room that is there.
-pub(crate) fn push_within<T: Drop>(items: &mut Vec<T>, item: T)
-    requires { vec_len items.old < vec_capacity items.old }
-    ensures items { items.new.items ≡ items.old.items ++ item ∷ [] }
-    ensures capacity { vec_capacity items.old ≤ vec_capacity items.new }
-{
-    match items.push(item) {
-        Ok(()) => {}
-        Err(_) => unreachable!(),
     }
 }

@@ -4,7 +4,8 @@ ghost use Rattle.std.specs.Prelude.{◌≡◌, ◌≢◌, ℕ, ◌+◌, ◌<◌,
 ghost use Rattle.std.specs.List.{Contains};
 ghost use Rattle.drt_table.specs.Held.{held_offset};
 ghost use Rattle.drt_table.specs.Node.{is_taken, is_held_by};
-ghost use Rattle.drt_table.specs.Places.{earliest, first};
+ghost use Rattle.drt_worklist.specs.Places.{first};
+ghost use Rattle.drt_table.specs.Earliest.{earliest};
 ghost use Rattle.drt_table.specs.Waiting.{AreHeld, earlier};
 
 use crate::node::Node;

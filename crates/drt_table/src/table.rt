@@ -3,18 +3,19 @@
 ghost use Rattle.std.specs.Prelude.{◌≡◌, ℕ, ◌+◌, ◌≤◌, ◌<◌, ◌++◌, ◌∷◌, [], true, Some, slice_get, length, IfOk, IfSome, IsTrue, map, nat_le, replicate, vec_capacity};
 ghost use Rattle.drt_table.specs.View.{View, IsTable, setting_of, state_of, spares_of, CanApply, ComesWith, IsStep};
 ghost use Rattle.drt_table.specs.Machine.{opening_state, extended};
-ghost use Rattle.drt_table.specs.Places.{changed};
+ghost use Rattle.drt_worklist.specs.Places.{changed};
 ghost use Rattle.drt_table.specs.Node.{NodeOf, Held, is_taken};
 ghost use Rattle.drt_table.specs.Held.{hand_out};
 ghost use Rattle.drt_table.specs.Taking.{chosen, taken_node};
 ghost use Rattle.drt_model.specs.Digraph.{vertex_count};
 
-use crate::arena::{Arena, push_within};
+use crate::arena::Arena;
 use crate::node::Twin;
 use crate::shortest::shortest;
 use crate::step::{Entry, TableReply, TableStep};
 use drt_graph::Graph;
 use drt_label::{Label, Memory};
+use drt_worklist::push_within;
 use std::alloc::Global;
 use std::marker::Model;
 

@@ -2,7 +2,7 @@ use Rattle.std.proofs.Common.{◌≡◌, Some, refl, sym, ap, ◌∙◌, subst, 
 use Rattle.std.specs.Prelude.{slice_get, IsTrue, IfSome}
 use Rattle.drt_table.specs.Node.{Held, is_taken}
 use Rattle.drt_table.specs.Held.{hand_out}
-use Rattle.drt_table.specs.Places.{changed}
+use Rattle.drt_worklist.specs.Places.{changed}
 use Rattle.drt_table.specs.View.{View, IsTable}
 use Rattle.drt_table.proofs.Tables.{table_same_nodes}
 use Rattle.drt_table.proofs.table.Table.hand_out.Goals as goal

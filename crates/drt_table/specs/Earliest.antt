@@ -1,16 +1,6 @@
--- Places in a list: the first that passes a test, the least value of those that pass, and a change at one place.
-use Rattle.std.specs.Prelude.{ℕ, suc, zero, Bool, ◌&&◌, ◌==◌, min, Option, None, Some, option_map, List, [], ◌∷◌, if◌then◌else◌}
-
--- The first place at which p passes.
-abbrev pub first : {A : Type 0} → (A → Bool) → List A → Option ℕ
-first p [] = None
-first p (x ∷ xs) = if p x then Some 0 else option_map suc (first p xs)
-
--- The list with f applied at place k.
-abbrev pub changed : {A : Type 0} → ℕ → (A → A) → List A → List A
-changed k f [] = []
-changed zero f (x ∷ xs) = f x ∷ xs
-changed (suc k) f (x ∷ xs) = x ∷ changed k f xs
+-- Of the places at which a test passes, that of least value.
+use Rattle.std.specs.Prelude.{ℕ, Bool, ◌&&◌, ◌==◌, min, Option, None, Some, List, [], ◌∷◌, if◌then◌else◌}
+use Rattle.drt_worklist.specs.Places.{first}
 
 -- The smaller of two numbers, where there are two.
 abbrev pub smaller : Option ℕ → Option ℕ → Option ℕ
