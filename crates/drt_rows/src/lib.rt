@@ -6,7 +6,6 @@
 mod driver;
 #[cfg(test)]
 mod dropping_tests;
-mod sizes;
 #[cfg(test)]
 mod tests;
 mod worked;

@@ -5,7 +5,7 @@ use crate::driver::try_step;
 use drt_demand::{DemandLabel, dbf};
 use drt_graph::{Graph, Graphs, check};
 use drt_model::{Edge, Memory, Name, Row, Task, Vertex, task_set};
-use drt_table::{NodeState, Table, TableReply, TableStep};
+use drt_table::{Entry, Node, NodeState, Table, TableReply, TableStep};
 use std::alloc::Global;
 use std::process::Abort;
 use std::test::Fail;
@@ -340,4 +340,12 @@ fn a_step_whose_conditions_do_not_hold_is_not_made(rt: HostRuntime) -> Result<()
     make_none(&rt, alloc, graph, &mut table, refused.as_slice())?;
     assert_eq!(rt; table.log().len(), 1);
     Ok(())
+}
+
+// With its link of 8 bytes in the list of its vertex a node of a demand table takes 56 bytes.
+#[test]
+fn a_node_takes_48_bytes_and_an_entry_of_the_log_16(rt: HostRuntime) {
+    assert_eq!(rt; size_of::<Node<DemandLabel>>(), 48);
+    assert_eq!(rt; size_of::<Option<u32>>(), 8);
+    assert!(rt; size_of::<Entry>() <= 16);
 }
