@@ -37,21 +37,27 @@ module _ (tasks : List Task) (walks : ℕ → List ℕ) where
   asked t [] (x ∷ xs) = 0
   asked t (j ∷ order) (x ∷ xs) = asks t j + asked t order xs
 
-  requests_numbers : (p t n : ℕ) → requests tasks walks p n t ≡ sum_by (λ x. x) (map (asks_above p t) (range_with_len 0 n))
+  -- the sum over some tasks
+  abbrev total : ℕ → ℕ → List ℕ → ℕ
+  total p t js = sum_by (λ x. x) (map (asks_above p t) js)
+
+  requests_numbers : (p t n : ℕ) → requests tasks walks p n t ≡ total p t (range_with_len 0 n)
   unfolding requests
   requests_numbers p t zero = refl
   requests_numbers p t (suc n) =
       let one : suc n ≡ n + 1 = omega arith in
       let more = sum_by-map-range_with_len_more (λ x. x) (asks_above p t) 0 n n (omega arith) in
-      let here : sum_by (λ x. x) (map (asks_above p t) (range_with_len 0 (suc n))) ≡ sum_by (λ x. x) (map (asks_above p t) (range_with_len 0 n)) + asks_above p t n = ap (λ m. sum_by (λ x. x) (map (asks_above p t) (range_with_len 0 m))) one ∙ more in
+      let here : total p t (range_with_len 0 (suc n)) ≡ total p t (range_with_len 0 n) + asks_above p t n = ap (λ m. total p t (range_with_len 0 m)) one ∙ more in
       ap (λ x. x + asks_above p t n) (requests_numbers p t n) ∙ sym here
 
-  requests_ordered : (order : List ℕ) → IsOrder tasks order → (p t : ℕ) → requests tasks walks p (length tasks) t ≡ sum_by (λ x. x) (map (asks_above p t) order)
+  requests_ordered : (order : List ℕ) → IsOrder tasks order → (p t : ℕ) → requests tasks walks p (length tasks) t ≡ total p t order
   requests_ordered order is p t =
       let numbers = range_with_len 0 (length tasks) in
-      requests_numbers p t (length tasks) ∙ sym (sum_by-IsPermutation (λ x. x) (map (asks_above p t) numbers) (map (asks_above p t) order) (IsPermutation-map (asks_above p t) numbers order is.permutation))
+      let f = asks_above p t in
+      let same = sum_by-IsPermutation (λ x. x) (map f numbers) (map f order) (IsPermutation-map f numbers order is.permutation) in
+      requests_numbers p t (length tasks) ∙ sym same
 
-  none_above : (p t : ℕ) (order : List ℕ) → All (λ j. p ≤ (task_at tasks j).priority) order → sum_by (λ x. x) (map (asks_above p t) order) ≡ 0
+  none_above : (p t : ℕ) (order : List ℕ) → All (λ j. p ≤ (task_at tasks j).priority) order → total p t order ≡ 0
   none_above p t [] all = refl
   none_above p t (j ∷ order) all =
       let low : ltb (task_at tasks j).priority p ≡ false = le-ltb (task_at tasks j).priority p (all 0 j (omega arith)) in
@@ -59,13 +65,13 @@ module _ (tasks : List Task) (walks : ℕ → List ℕ) where
       let rest = none_above p t order (All-tail (λ i. p ≤ (task_at tasks i).priority) j order all) in
       omega (arith, sum_by-cons (λ x. x) (asks_above p t j) (map (asks_above p t) order), none, rest)
 
-  first_asked : (order xs : List ℕ) (k t : ℕ) → AreRising tasks order → slice_get order (length xs) ≡ Some k → sum_by (λ x. x) (map (asks_above (task_at tasks k).priority t) order) ≡ asked t order xs
+  first_asked : (order xs : List ℕ) (k t : ℕ) → AreRising tasks order → slice_get order (length xs) ≡ Some k → total (task_at tasks k).priority t order ≡ asked t order xs
   first_asked [] xs k t rising at = absurd (cc)
   first_asked (j ∷ order) [] k t rising at =
       let e : j ≡ k = same_Some j k at in
       let p = (task_at tasks j).priority in
       let low : All (λ i. p ≤ (task_at tasks i).priority) (j ∷ order) = λ i d h. not_higher i d h in
-      subst (λ n. sum_by (λ x. x) (map (asks_above (task_at tasks n).priority t) (j ∷ order)) ≡ 0) e (none_above p t (j ∷ order) low)
+      subst (λ n. total (task_at tasks n).priority t (j ∷ order) ≡ 0) e (none_above p t (j ∷ order) low)
     where
       not_higher : (i d : ℕ) → i < length (j ∷ order) → (task_at tasks j).priority ≤ (task_at tasks (get_or (j ∷ order) i d)).priority
       not_higher zero d h = omega arith
@@ -80,5 +86,6 @@ module _ (tasks : List Task) (walks : ℕ → List ℕ) where
       omega (arith, sum_by-cons (λ y. y) (asks_above p t j) (map (asks_above p t) order), here, first_asked order xs k t (rising_tail tasks j order rising) at)
 
   -- what the walks of the tasks of higher priority than task k ask for
-  pub requests_asked : (order xs : List ℕ) (k t : ℕ) → IsOrder tasks order → slice_get order (length xs) ≡ Some k → requests tasks walks (task_at tasks k).priority (length tasks) t ≡ asked t order xs
+  pub requests_asked : (order xs : List ℕ) (k t : ℕ) → IsOrder tasks order → slice_get order (length xs) ≡ Some k
+      → requests tasks walks (task_at tasks k).priority (length tasks) t ≡ asked t order xs
   requests_asked order xs k t is at = requests_ordered order is (task_at tasks k).priority t ∙ first_asked order xs k t is.rising at

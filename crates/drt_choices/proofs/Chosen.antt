@@ -1,15 +1,14 @@
 -- The walks that a tuple of leaves names are walks, and ask at each time up to d for what the tuple's functions do.
-use Rattle.std.proofs.Common.{inl, inr, ◌⊎◌, ◌≡◌, ℕ, suc, ◌+◌, ◌<◌, ◌≤◌, true, false, eqb, List, [], ◌∷◌, length, All, refl, sym, ap, ◌∙◌, subst, arith}
+use Rattle.std.proofs.Common.{inl, inr, ◌≡◌, ℕ, suc, ◌<◌, ◌≤◌, List, [], ◌∷◌, length, All, refl, sym, ap, ◌∙◌, subst, arith}
 use Rattle.std.proofs.lemmas.Bool.{cases_eq, eq-eqb, ne_eqb}
 use Rattle.std.proofs.lemmas.List.Elements.{All-head, All-tail, All-weaker}
 use Rattle.drt_model.specs.declared.tasks.Task.{Task}
 use Rattle.drt_busy.specs.Choice.{AreWalks, IsWalk, graph_at, request_of, task_at}
 use Rattle.drt_steps.specs.Time.{sum_at}
-use Rattle.drt_steps.specs.Values.{value_at}
-use Rattle.drt_tree.specs.Tree.{Plain, values, walk}
+use Rattle.drt_tree.specs.Tree.{Plain, walk}
 use Rattle.drt_refine.specs.Below.{AreBelow}
 use Rattle.drt_choices.specs.Choices.{AreTrees, chosen, cut}
-use Rattle.drt_choices.proofs.Asked.{AreRising, asked, asks, rising_first, rising_tail}
+use Rattle.drt_choices.proofs.Asked.{AreRising, asked, rising_first, rising_tail}
 use Rattle.drt_choices.proofs.Cuts.{cut_asks, cut_walk}
 
 -- a tuple below some nodes is as long as they are
@@ -48,8 +47,10 @@ module _ (tasks : List Task) (f : Plain) (d : ℕ) where
     chosen_walk [] (root ∷ roots) (leaf ∷ tuple) trees below k = absurd trees
     chosen_walk (j ∷ order) (root ∷ roots) (leaf ∷ tuple) trees below k = elim (cases_eq j k) [
       | inl e ↦
-          (let is : IsWalk (graph_at tasks j) (chosen tasks f d (j ∷ order) (leaf ∷ tuple) j) = subst (IsWalk (graph_at tasks j)) (sym (chosen_here j order leaf tuple)) (cut_walk (graph_at tasks j) d (walk f leaf) (trees.0.walks leaf below.0)) in
-          subst (λ n. IsWalk (graph_at tasks n) (chosen tasks f d (j ∷ order) (leaf ∷ tuple) n)) e is)
+          (let g = graph_at tasks j in
+          let w = chosen tasks f d (j ∷ order) (leaf ∷ tuple) in
+          let is : IsWalk g (w j) = subst (IsWalk g) (sym (chosen_here j order leaf tuple)) (cut_walk g d (walk f leaf) (trees.0.walks leaf below.0)) in
+          subst (λ n. IsWalk (graph_at tasks n) (w n)) e is)
       | inr ne ↦ subst (IsWalk (graph_at tasks k)) (sym (chosen_later j order leaf tuple k ne)) (chosen_walk order roots tuple trees.1 below.1 k)
     ]
 
@@ -66,8 +67,9 @@ module _ (tasks : List Task) (f : Plain) (d : ℕ) where
     chosen_asked (j ∷ order) (root ∷ roots) (leaf ∷ tuple) rising trees below t one by near =
         let g = graph_at tasks j in
         let w = chosen tasks f d (j ∷ order) (leaf ∷ tuple) in
-        let later : All (λ i. w i ≡ chosen tasks f d order tuple i) order = All-weaker (λ i. (task_at tasks j).priority < (task_at tasks i).priority) (λ i. w i ≡ chosen tasks f d order tuple i)
-        (λ i lt. chosen_later j order leaf tuple i (λ e. omega (arith, ap (λ n. (task_at tasks n).priority) e))) order (rising_first tasks j order rising) in
+        let p = λ (i : ℕ). (task_at tasks i).priority in
+        let other = λ (i : ℕ) (lt : p j < p i). chosen_later j order leaf tuple i (λ e. omega (arith, ap p e)) in
+        let later = All-weaker (λ i. p j < p i) (λ i. w i ≡ chosen tasks f d order tuple i) other order (rising_first tasks j order rising) in
         let first : request_of g (w j) t ≡ request_of g (walk f leaf) t = ap (λ x. request_of g x t) (chosen_here j order leaf tuple) ∙ cut_asks g d t by (walk f leaf) in
         let value = trees.0.asks leaf t below.0 one near in
         let same = asked_same tasks w (chosen tasks f d order tuple) t order tuple later in

@@ -1,5 +1,5 @@
 -- Which releases the walks of the tasks of higher priority and one of vertex v of task k give.
-use Rattle.std.proofs.Common.{inl, inr, ◌⊎◌, ◌≡◌, ℕ, zero, suc, ◌+◌, ◌<◌, ◌≤◌, Bool, true, false, cond, eqb, ltb, List, [], ◌∷◌, ◌++◌, length, get_or, take, count_by, sum_by, All, Contains, refl, sym, ap, ◌∙◌, subst, arith}
+use Rattle.std.proofs.Common.{inl, inr, ◌≡◌, ℕ, zero, suc, ◌+◌, ◌<◌, ◌≤◌, Bool, false, cond, eqb, ltb, List, [], ◌∷◌, length, get_or, take, count_by, All, Contains, refl, sym, ap, ◌∙◌, subst, arith}
 use Rattle.std.proofs.lemmas.Bool.{cases_eq, cases_lt, eq-eqb, le-ltb, ne_eqb}
 use Rattle.std.proofs.lemmas.List.{get_or_default}
 use Rattle.std.proofs.lemmas.List.Elements.{All-nil, All-cons, All-append, All-contains_itself, All-head, All-tail, All-weaker}
@@ -55,13 +55,20 @@ none_of k (r ∷ rs) none =
     omega (arith, sum_by-cons (λ x. cond (eqb x.task k) 1 0) r rs, zero_here, none_of k rs (All-tail (λ x. x.task ≡ k → ⊥) r rs none))
 
 module _ (tasks : List Task) (walks : ℕ → List ℕ) (k v : ℕ) where
-  pub job_here : with_job tasks walks k v k ≡ v ∷ []
-  unfolding with_job
-  job_here = let low : ltb (task_at tasks k).priority (task_at tasks k).priority ≡ false = le-ltb (task_at tasks k).priority (task_at tasks k).priority (omega arith) in rw (low, eq-eqb k k refl) refl
+  -- the releases of them all
+  abbrev pub job_releases : List Release
+  job_releases = all_releases tasks (with_job tasks walks k v) (length tasks)
 
-  pub job_nowhere : (i : ℕ) → (task_at tasks k).priority ≤ (task_at tasks i).priority → (i ≡ k → ⊥) → with_job tasks walks k v i ≡ []
+  not_higher : (i : ℕ) → (task_at tasks k).priority ≤ (task_at tasks i).priority → ltb (task_at tasks i).priority (task_at tasks k).priority ≡ false
+  not_higher i le = le-ltb (task_at tasks i).priority (task_at tasks k).priority le
+
+  job_here : with_job tasks walks k v k ≡ v ∷ []
   unfolding with_job
-  job_nowhere i le ne = let low : ltb (task_at tasks i).priority (task_at tasks k).priority ≡ false = le-ltb (task_at tasks i).priority (task_at tasks k).priority le in rw (low, ne_eqb i k ne) refl
+  job_here = rw (not_higher k (omega arith), eq-eqb k k refl) refl
+
+  job_nowhere : (i : ℕ) → (task_at tasks k).priority ≤ (task_at tasks i).priority → (i ≡ k → ⊥) → with_job tasks walks k v i ≡ []
+  unfolding with_job
+  job_nowhere i le ne = rw (not_higher i le, ne_eqb i k ne) refl
 
   only_release : releases_of (graph_at tasks k) k (with_job tasks walks k v k) ≡ release_at (graph_at tasks k) k 0 v ∷ []
   unfolding releases_from
@@ -77,7 +84,7 @@ module _ (tasks : List Task) (walks : ℕ → List ℕ) (k v : ℕ) where
       one_only (zero, h, is) = sym is
       one_only (suc i, h, is) = absurd (omega arith)
 
-  -- no other task of the same or a lower priority has a release
+  -- any other release is of a task of higher priority
   pub is_higher : (r : Release) → IsOfWalk tasks (with_job tasks walks k v) r → (r.task ≡ k → ⊥) → (task_at tasks r.task).priority < (task_at tasks k).priority
   is_higher r is_of ne = elim (cases_lt (task_at tasks r.task).priority (task_at tasks k).priority) [
     | inl lt ↦ lt
@@ -86,50 +93,52 @@ module _ (tasks : List Task) (walks : ℕ → List ℕ) (k v : ℕ) where
         absurd (omega (arith, none.1)))
   ]
 
-  of_others : (i : ℕ) → (i ≡ k → ⊥) → count_by (λ r. eqb r.task k) (releases_of (graph_at tasks i) i (with_job tasks walks k v i)) ≡ 0
-  of_others i ne =
-      let rs = releases_of (graph_at tasks i) i (with_job tasks walks k v i) in
-      none_of k rs (All-weaker (λ r. r.task ≡ i) (λ r. r.task ≡ k → ⊥) (λ r e l. ne (sym e ∙ l)) rs (of_task (graph_at tasks i) i (with_job tasks walks k v i)))
+  -- the releases of the walk of task i
+  abbrev of_one : ℕ → List Release
+  of_one i = releases_of (graph_at tasks i) i (with_job tasks walks k v i)
 
-  count_before : (n : ℕ) → n ≤ k → count_by (λ r. eqb r.task k) (all_releases tasks (with_job tasks walks k v) n) ≡ 0
+  -- how many of some releases are of task k
+  abbrev count : List Release → ℕ
+  count rs = count_by (λ r. eqb r.task k) rs
+
+  count_other : (i : ℕ) → (i ≡ k → ⊥) → count (of_one i) ≡ 0
+  count_other i ne =
+      let all = All-weaker (λ r. r.task ≡ i) (λ r. r.task ≡ k → ⊥) (λ r e l. ne (sym e ∙ l)) (of_one i) (of_task (graph_at tasks i) i (with_job tasks walks k v i)) in
+      none_of k (of_one i) all
+
+  count_more : (i : ℕ) → count (all_releases tasks (with_job tasks walks k v) (suc i)) ≡ count (all_releases tasks (with_job tasks walks k v) i) + count (of_one i)
   unfolding all_releases
-  count_before zero h = refl
-  count_before (suc i) h =
-      let w = with_job tasks walks k v in
-      omega (
-        arith,
-        sum_by-append (λ r. cond (eqb r.task k) 1 0) (all_releases tasks w i) (releases_of (graph_at tasks i) i (w i)),
-        count_before i (omega arith),
-        of_others i (λ e. omega arith),
-      )
+  count_more i = sum_by-append (λ r. cond (eqb r.task k) 1 0) (all_releases tasks (with_job tasks walks k v) i) (of_one i)
 
-  count_here : count_by (λ r. eqb r.task k) (releases_of (graph_at tasks k) k (with_job tasks walks k v k)) ≡ 1
+  count_none : count (all_releases tasks (with_job tasks walks k v) 0) ≡ 0
+  unfolding all_releases
+  count_none = refl
+
+  count_before : (n : ℕ) → n ≤ k → count (all_releases tasks (with_job tasks walks k v) n) ≡ 0
+  count_before zero h = count_none
+  count_before (suc i) h = omega (arith, count_more i, count_before i (omega arith), count_other i (λ e. omega arith))
+
+  count_here : count (of_one k) ≡ 1
   count_here = rw only_release (rw (eq-eqb k k refl) refl)
 
   -- at most one release is of task k
-  count_job : (n : ℕ) → count_by (λ r. eqb r.task k) (all_releases tasks (with_job tasks walks k v) n) ≤ 1
-  unfolding all_releases
-  count_job zero = omega arith
-  count_job (suc i) =
-      let w = with_job tasks walks k v in
-      let whole = sum_by-append (λ r. cond (eqb r.task k) 1 0) (all_releases tasks w i) (releases_of (graph_at tasks i) i (w i)) in
-      elim (cases_eq i k) [
-        | inl e ↦
-            (let here : count_by (λ r. eqb r.task k) (releases_of (graph_at tasks i) i (w i)) ≡ 1 = subst (λ n. count_by (λ r. eqb r.task k) (releases_of (graph_at tasks n) n (w n)) ≡ 1) (sym e) count_here in
-            omega (arith, whole, count_before i (omega arith), here))
-        | inr ne ↦ omega (arith, whole, count_job i, of_others i ne)
-      ]
+  count_job : (n : ℕ) → count (all_releases tasks (with_job tasks walks k v) n) ≤ 1
+  count_job zero = omega (arith, count_none)
+  count_job (suc i) = elim (cases_eq i k) [
+    | inl e ↦ omega (arith, count_more i, count_before i (omega arith), ap (λ n. count (of_one n)) e, count_here)
+    | inr ne ↦ omega (arith, count_more i, count_job i, count_other i ne)
+  ]
 
   -- no job of task k stands before a job of task k
-  pub first_job : (j : ℕ) → j < length (all_releases tasks (with_job tasks walks k v) (length tasks))
-      → (job_at (jobs_of tasks (all_releases tasks (with_job tasks walks k v) (length tasks))) j).task ≡ k
-      → index_of (jobs_of tasks (all_releases tasks (with_job tasks walks k v) (length tasks))) j ≡ 0
+  pub first_job : (j : ℕ) → j < length job_releases → (job_at (jobs_of tasks job_releases) j).task ≡ k → index_of (jobs_of tasks job_releases) j ≡ 0
   first_job j h e =
-      let rs = all_releases tasks (with_job tasks walks k v) (length tasks) in
-      let jobs = jobs_of tasks rs in
+      let jobs = jobs_of tasks job_releases in
       let of_k : Job → Bool = λ job. eqb job.task k in
       let one : Job → ℕ = λ job. cond (eqb job.task k) 1 0 in
-      let h' : j < length jobs = omega (arith, length-jobs_of tasks rs) in
-      let more = count_by_more_yes of_k jobs j (job_at jobs j) h' (eq-eqb (get_or jobs j (job_at jobs j)).task k (ap (λ job. job.task) (get_or_default jobs j (job_at jobs j) no_job h') ∙ e)) in
-      let none : count_by of_k (take j jobs) ≡ 0 = omega (arith, more, sum_by-take-le one jobs (j + 1), sum-map one (job_of tasks) rs, count_job (length tasks)) in
-      subst (λ n. count_by (λ job. eqb job.task n) (take j jobs) ≡ 0) (sym e) none
+      let h' : j < length jobs = omega (arith, length-jobs_of tasks job_releases) in
+      let job = job_at jobs j in
+      let here : (get_or jobs j job).task ≡ k = ap (λ x. x.task) (get_or_default jobs j job no_job h') ∙ e in
+      let more = count_by_more_yes of_k jobs j job h' (eq-eqb (get_or jobs j job).task k here) in
+      let most = sum_by-take-le one jobs (j + 1) in
+      let none : count_by of_k (take j jobs) ≡ 0 = omega (arith, more, most, sum-map one (job_of tasks) job_releases, count_job (length tasks)) in
+      subst (λ n. count_by (λ x. eqb x.task n) (take j jobs) ≡ 0) (sym e) none
