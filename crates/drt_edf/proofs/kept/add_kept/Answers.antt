@@ -29,11 +29,11 @@ nodes-preserved c =
     let next : IsNextKept demand_algebra nodes v id here.0 c.next_kept-next.result =
     subst (λ u. IsNextKept demand_algebra nodes u id here.0 c.next_kept-next.result) here.1.vertex (c.next_kept-next.ensures here.0 here.1.at) in
     let at : slice_get nodes id ≡ Some c.node.result.now.node = slice_get-map (λ h. h.node) c.args.table.now.nodes id ∙ ap (λ o. option_map (λ h. h.node) o) c.node.ensures in
-    let label : c.deref.result.now ≡ here.0.label =
-    (c.deref.ensures ∙ ap (λ h. h.node.label) c.behind-table.view_is) ∙ ap (λ (n : NodeOf FrontEntry). n.label) (same_Some c.node.result.now.node here.0 (sym at ∙ here.1.at)) in
+    let label : c.label.result.now ≡ here.0.label =
+    c.label.ensures ∙ ap (λ (n : NodeOf FrontEntry). n.label) (same_Some c.node.result.now.node here.0 (sym at ∙ here.1.at)) in
     let old : AreFalling nodes (IsPassed nodes v (vertex_count c.args.graph.now) (Some id)) c.nodes.kept.items =
     subst (λ o. AreFalling nodes (IsPassed nodes v (vertex_count c.args.graph.now) o) c.nodes.kept.items) c.in-Some.is c.nodes.invariant.0 in (
-      falling_more nodes v (vertex_count c.args.graph.now) id here.0 here.1 c.next_kept-next.result next c.nodes.kept.items c.push.new.self.items c.deref.result.now label c.in_ok-push.ensures.items old,
+      falling_more nodes v (vertex_count c.args.graph.now) id here.0 here.1 c.next_kept-next.result next c.nodes.kept.items c.push.new.self.items c.label.result.now label c.in_ok-push.ensures.items old,
       next_stands nodes v id here.0 c.next_kept-next.result next,
     )
 
