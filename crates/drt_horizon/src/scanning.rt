@@ -33,11 +33,7 @@ fn add_front(
 }
 
 // The works of all fronts.
-fn works(
-    alloc: Global,
-    graphs: &Graphs,
-    fronts: &[Row<FrontEntry>],
-) -> Result<Vec<DueWork>, Memory>
+fn works(alloc: Global, graphs: &Graphs, fronts: &[Row<FrontEntry>]) -> Result<Vec<DueWork>, Memory>
     requires { AreFronts 1099511627776 graphs.now fronts.now }
     ensures { IfOk result (λ out. out.items ≡ works_of label_due (λ x. x.work) 0 graphs.now fronts.now) }
 {

@@ -14,7 +14,7 @@ use Rattle.drt_edf.proofs.RatioClaims.{claims_count, claims_in_range}
 use Rattle.drt_edf.proofs.analysis.analyse_edf.Goals as goal
 
 pub claims_of-requires : goal.claims_of-requires
-claims_of-requires c = subst AreSmall (sym c.as_slice-in-Ok-One.ensures) (given_small c.args.graphs.now c.in_ok-proofs.proofs c.in_ok-proofs.ensures)
+claims_of-requires c = given_small c.args.graphs.now c.in_ok-proofs.proofs c.in_ok-proofs.ensures
 
 pub returns-in-Ok-One : goal.returns-in-Ok-One
 returns-in-Ok-One c =
@@ -22,7 +22,7 @@ returns-in-Ok-One c =
     let one = subst (λ h. IsPlan c.args.graphs.now c.as_slice.result.now (Ok h)) c.in-Ok-One.field-0-is c.in-Ok-One.ensures in
     let here = subst (λ ps. IsPlan c.args.graphs.now ps (Ok One)) c.as_slice.ensures one in
     let plan = subst (λ gs. IsPlan gs c.in_ok-proofs.proofs (Ok One)) c.requires.graphs here in
-    let claims = c.in_ok-claims_of-in-Ok-One.ensures ∙ ap claims_of c.as_slice-in-Ok-One.ensures in
+    let claims = c.in_ok-claims_of-in-Ok-One.ensures in
     let only = planned_one c.args.set.now.tasks c.requires.constrained c.in_ok-proofs.proofs given plan in
     let range = claims_in_range c.args.graphs.now c.in_ok-proofs.proofs c.count-count.ensures.kept.sound c.in_ok-proofs.ensures in
     let count = claims_count c.args.graphs.now c.in_ok-proofs.proofs c.in_ok-proofs.ensures in
