@@ -1,5 +1,5 @@
 -- From the labels of a finished search that no different one dominates to a front.
-use Rattle.std.proofs.Common.{◌≡◌, ◌+◌, ◌<◌, ◌≤◌, ◌⊎◌, inl, inr, List, All, length, get_or, sym, ap, subst, arith}
+use Rattle.std.proofs.Common.{◌≡◌, ◌+◌, ◌<◌, ◌≤◌, ◌⊎◌, inl, inr, List, length, get_or, sym, ap, subst, arith}
 use Rattle.std.specs.Prelude.{IsTrue, Any}
 use Rattle.std.proofs.lemmas.Bool.{cases_lt}
 use Rattle.std.proofs.lemmas.Bool.Decides.{nat_tests}
@@ -16,7 +16,7 @@ use Rattle.drt_table.specs.Cover.{IsFront, IsNonDominated as IsAlone}
 use Rattle.drt_evidence.specs.Fronts.{Covers, IsWithin, IsNextEntry}
 use Rattle.drt_edf.specs.Falling.{IsLower}
 use Rattle.drt_edf.specs.LabelFronts.{IsLabelFront}
-use Rattle.drt_edf.specs.Walks.{IsWalkEntry, IsNonDominated}
+use Rattle.drt_edf.specs.Walks.{IsWalkEntry}
 use Rattle.drt_edf.proofs.Falling.{AreAlone, label_within}
 use Rattle.drt_edf.proofs.LabelWalks.{walk_entry, entry_walk, entry_alone, label_alone}
 

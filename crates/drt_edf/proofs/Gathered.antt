@@ -1,5 +1,5 @@
 -- Fronts and walks of demand, task by task.
-use Rattle.std.proofs.Common.{◌≡◌, ℕ, zero, suc, ◌+◌, ◌<◌, ◌≤◌, List, [], ◌∷◌, ◌++◌, All, length, get_or, take, refl, sym, ap, arith, subst}
+use Rattle.std.proofs.Common.{◌≡◌, ℕ, zero, suc, ◌<◌, List, [], ◌∷◌, ◌++◌, length, get_or, take, refl, ap, arith}
 use Rattle.drt_model.specs.Digraph.{Digraph}
 use Rattle.drt_graph.specs.Graphs.{graph_of}
 use Rattle.drt_model.specs.declared.front.FrontEntry.{FrontEntry}

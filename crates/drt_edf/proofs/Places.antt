@@ -1,6 +1,6 @@
 -- The place of an entry in a front, which stands in order.
 use Rattle.std.proofs.Common.{◌≡◌, ℕ, zero, suc, ◌+◌, ◌-◌, ◌<◌, ◌≤◌, ◌⊎◌, inl, inr, Bool, true, false, List, length, get_or, sym, ap, ◌∙◌, subst, arith}
-use Rattle.std.specs.Prelude.{AllPairs, Contains}
+use Rattle.std.specs.Prelude.{◌↔◌, IsTrue, AllPairs, Contains}
 use Rattle.std.specs.List.Sorted.{IsPartitionPoint, IsPartitionedBy}
 use Rattle.std.proofs.lemmas.Bool.{cases_lt}
 use Rattle.std.proofs.lemmas.Bool.Decides.{nat_tests}
@@ -74,3 +74,10 @@ place_is front e place next parts c = go (cases_lt c.0 place) (cases_lt place c.
     go (inr l) (inr k) =
         let same : c.0 ≡ place = omega (arith, l, k) in
         (let m = c.1 in omega (arith, same, m), ap (λ h. get_or front h e) (sym same) ∙ c.2)
+
+-- Whether the entry found at the place is the wanted one tells whether that one stands in the front.
+pub entry_found : (front : List FrontEntry) (e f : FrontEntry) (place : ℕ) → place < length front → f ≡ get_or front place f → (Contains front e → (place < length front) × (get_or front place e ≡ e))
+    → (b : Bool) → (IsTrue b → f ≡ e) → (f ≡ e → IsTrue b) → IsTrue b ↔ Contains front e
+entry_found front e f place l at there b same true_of =
+    let here : f ≡ get_or front place e = at ∙ get_or_default front place f e l in
+    (λ t. (place, l, sym here ∙ same t), λ has. true_of (here ∙ (there has).1))

@@ -1,5 +1,5 @@
 -- A yes: fronts without a time of too much demand, within the horizon.
-use Rattle.std.proofs.Common.{◌≡◌, ℕ, suc, ◌+◌, ◌*◌, ◌<◌, ◌≤◌, List, [], ◌∷◌, ◌++◌, All, length, get_or, map, ◌⊎◌, inl, inr, refl, sym, ap, arith, ◌∙◌}
+use Rattle.std.proofs.Common.{◌≡◌, ℕ, suc, ◌+◌, ◌*◌, ◌<◌, ◌≤◌, List, [], ◌∷◌, ◌++◌, All, length, get_or, ◌⊎◌, inl, inr, sym, ap, arith, ◌∙◌}
 use Rattle.std.specs.Prelude.{Ok, ◌^◌}
 use Rattle.std.proofs.lemmas.Bool.{cases_lt}
 use Rattle.std.proofs.lemmas.List.{get_or_default}
@@ -19,7 +19,6 @@ use Rattle.drt_ratio.specs.declared.ratio_proof.RatioProof.{RatioProof}
 use Rattle.drt_ratio.proofs.Optima.{path_sums}
 use Rattle.drt_graph.proofs.Paths.{path_both, last_both, work_both, span_both, work_cons, work_none, span_cons, span_none, path_within}
 use Rattle.drt_horizon.specs.declared.answers.Horizon.TheVariants.{Under}
-use Rattle.drt_sweep.specs.Dues.{sum_due}
 use Rattle.drt_horizon.specs.Demands.{demands}
 use Rattle.drt_horizon.specs.Given.{AreGiven}
 use Rattle.drt_horizon.specs.Laws.{HorizonHolds}

@@ -21,6 +21,11 @@ abbrev pub IsOneBefore : Digraph → FrontEntry → ℕ → Option FrontEntry �
 IsOneBefore g e u None = (d : FrontEntry) → d.vertex ≡ u → IsPrefix g d e → ⊥
 IsOneBefore g e u (Some d) = (d.vertex ≡ u) × IsPrefix g d e
 
+-- The entry of vertex u in the front from which an edge leads so to e; none where there is no such entry.
+abbrev pub IsPrefixOf : Digraph → List FrontEntry → FrontEntry → ℕ → Option FrontEntry → Type 0
+IsPrefixOf g front e u None = (d : FrontEntry) → Contains front d → d.vertex ≡ u → IsPrefix g d e → ⊥
+IsPrefixOf g front e u (Some d) = Contains front d × IsPrefix g d e
+
 -- The walk from u over the others has the label e.
 pub record IsLabelOf (g : Digraph) (u : ℕ) (others : List ℕ) (e : FrontEntry) : Type 0 where
   pub is_vertex : u < vertex_count g

@@ -15,6 +15,17 @@ use drt_model::{FrontEntry, Memory, Row};
 use drt_table::{Table, over_every_interleaving};
 use std::alloc::Global;
 
+// The label as an entry of a front.
+fn entry_of(label: DemandLabel) -> FrontEntry
+    ensures { result ≡ label }
+{
+    FrontEntry {
+        vertex: label.vertex,
+        offset: label.offset,
+        work: label.work,
+    }
+}
+
 // Adds the labels of a vertex to those of the later ones, as the table hands them out: in descending order of offset.
 fn add_labels(
     table: &Table<DemandLabel>,
@@ -29,12 +40,7 @@ fn add_labels(
 {
     let mut next = table.first_kept(vertex);
     'nodes: while let Some(id) = next {
-        let label = *table.node(id).label;
-        front.push(FrontEntry {
-            vertex: label.vertex,
-            offset: label.offset,
-            work: label.work,
-        })?;
+        front.push(entry_of(*table.node(id).label))?;
         next = table.next_kept(id);
     }
     Ok(())

@@ -1,9 +1,9 @@
 //! The walk that has all the demand of a time.
 ghost use Rattle.std.specs.Prelude.{◌≡◌, ℕ, ◌<◌, ◌↔◌, All, Contains, IfOk, IsTrue};
-ghost use Rattle.drt_model.specs.Digraph.{IsConstrainedGraph, IsSound, vertex_count};
+ghost use Rattle.drt_model.specs.Digraph.{IsConstrainedGraph, vertex_count};
 ghost use Rattle.drt_model.specs.Legal.{AllNeighbours};
 ghost use Rattle.drt_evidence.specs.Fronts.{IsNextEntry};
-ghost use Rattle.drt_edf.specs.DemandWalk.{IsGreatestDue, IsOneBefore, IsPrefix, IsWalkTo, is_below};
+ghost use Rattle.drt_edf.specs.DemandWalk.{IsGreatestDue, IsOneBefore, IsPrefix, IsPrefixOf, IsWalkTo, is_below};
 ghost use Rattle.drt_edf.specs.LabelFronts.{IsLabelFront, IsDemandWalk};
 
 use drt_demand::{dbf, is_due};
@@ -52,19 +52,39 @@ fn one_before(graph: &Graph, entry: FrontEntry, u: u32) -> Option<FrontEntry>
     requires entry { entry.vertex < vertex_count graph.now }
     ensures { IsOneBefore graph.now entry u result }
 {
-    let sep = match graph.separation(u, entry.vertex) {
-        Some(sep) => sep as u64,
-        None => return None,
+    let Some(sep) = graph.separation(u, entry.vertex) else {
+        return None;
     };
-    let wcet = graph.vertex(entry.vertex).wcet as u64;
-    if entry.offset < sep || entry.work < wcet {
+    let gap = u64::from(sep);
+    let wcet = u64::from(graph.vertex(entry.vertex).wcet);
+    if entry.offset < gap {
+        return None;
+    }
+    if entry.work < wcet {
         return None;
     }
     Some(FrontEntry {
         vertex: u,
-        offset: entry.offset - sep,
+        offset: entry.offset - gap,
         work: entry.work - wcet,
     })
+}
+
+// The entry of `u` in the front from which an edge leads to this one, if there is one.
+fn prefix_of(graph: &Graph, front: &[FrontEntry], entry: FrontEntry, u: u32) -> Option<FrontEntry>
+    requires vertex { u < vertex_count graph.now }
+    requires entry { entry.vertex < vertex_count graph.now }
+    requires ordered { AllNeighbours IsNextEntry front.now }
+    ensures { IsPrefixOf graph.now front.now entry u result }
+{
+    let Some(before) = one_before(graph, entry, u) else {
+        return None;
+    };
+    if contains(front, before) {
+        Some(before)
+    } else {
+        None
+    }
 }
 
 // An entry of the front from which an edge leads to this one, which isn't the label of a single vertex.
@@ -78,12 +98,8 @@ fn predecessor(graph: &Graph, front: &[FrontEntry], entry: FrontEntry) -> FrontE
 {
     let count = graph.vertex_count();
     'vertices: for u in 0..count {
-        match one_before(graph, entry, u) {
-            Some(before) => {
-                if contains(front, before) {
-                    return before;
-                }
-            }
+        match prefix_of(graph, front, entry, u) {
+            Some(before) => return before,
             None => (),
         }
     }
@@ -102,6 +118,7 @@ fn walk_to(
     requires entry { Contains front.now last }
     ensures { IfOk result (λ walk. IsWalkTo graph.now last walk) }
 {
+    let _count = graph.vertex_count();
     let mut walk = Vec::new(alloc);
     let mut entry = last;
     walk.push(entry.vertex)?;

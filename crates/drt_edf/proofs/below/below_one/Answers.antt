@@ -22,9 +22,6 @@ pub returns-in-Spent : goal.returns-in-Spent
 returns-in-Spent c =
     let given = subst (λ gs. AreGiven gs c.args.proofs) c.requires.graphs c.requires.given in
     let plan = subst (λ gs. IsPlan gs c.args.proofs (Ok (Under c.args.bound))) c.requires.graphs c.requires.plan in
-    let spent = subst (λ s. AreSearches c.args.graphs.now c.args.bound c.args.budget s) c.in-Spent.is c.in_ok-searches.ensures in
+    let spent = subst (λ s. AreSearches c.args.graphs.now c.args.bound c.args.budget s) c.in-Spent.is c.in_ok-fronts.ensures in
     let at = subst (λ gs. AreSearches gs c.args.bound c.args.budget (Spent c.in-Spent.task c.in-Spent.log)) c.requires.graphs spent in
     spent_table c.args.set.now.tasks c.args.proofs given c.args.bound plan c.args.budget c.in-Spent.task c.in-Spent.log at
-
-pub scanned-evidence-requires-clause-fronts : goal.scanned-evidence-requires-clause-fronts
-scanned-evidence-requires-clause-fronts c = ?

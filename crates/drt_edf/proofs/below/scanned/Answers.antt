@@ -1,4 +1,4 @@
-use Rattle.std.proofs.Common.{All, arith, subst, sym}
+use Rattle.std.proofs.Common.{arith, subst, sym}
 use Rattle.std.specs.Prelude.{Ok, None, Some}
 use Rattle.drt_graph.specs.Graphs.{AreGraphs}
 use Rattle.drt_horizon.specs.declared.answers.Horizon.TheVariants.{Under}
@@ -23,8 +23,8 @@ scan-requires-clause-fronts c = rw c.as_slice.ensures (fronts_within c.args.grap
 pub claims_of-requires : goal.claims_of-requires
 claims_of-requires c = given_small c.args.graphs.now c.args.proofs c.requires.given
 
-pub returns-in-None-clause-done : goal.returns-in-None-clause-done
-returns-in-None-clause-done c =
+pub returns-in_ok-claims_of-in-None-clause-done : goal.returns-in_ok-claims_of-in-None-clause-done
+returns-in_ok-claims_of-in-None-clause-done c =
     let kept = subst AreGraphs c.requires.graphs c.count-count.ensures.kept in
     let given = subst (λ gs. AreGiven gs c.args.proofs) c.requires.graphs c.requires.given in
     let plan = subst (λ gs. IsPlan gs c.args.proofs (Ok (Under c.args.bound))) c.requires.graphs c.requires.plan in
@@ -36,8 +36,8 @@ returns-in-None-clause-done c =
     let yes = is_yes c.horizon_holds.ensures c.deadlines_decide.ensures c.args.set.now.version c.args.set.now.tasks limits c.requires.constrained kept c.args.proofs given c.args.bound plan c.args.fronts are room in
     subst (λ x. IsExactYes c.args.set.now.tasks x c.args.fronts) (sym c.in_ok-claims_of-in-None.ensures) yes
 
-pub returns-in-None-clause-range : goal.returns-in-None-clause-range
-returns-in-None-clause-range c =
+pub returns-in_ok-claims_of-in-None-clause-range : goal.returns-in_ok-claims_of-in-None-clause-range
+returns-in_ok-claims_of-in-None-clause-range c =
     let near = plan_near c.args.graphs.now c.args.proofs c.args.bound c.requires.plan in
     let range = yes_in_range c.args.graphs.now c.args.proofs c.args.bound c.args.fronts c.count-count.ensures.kept c.requires.given near c.requires.fronts c.requires.counted in
     subst (λ x. IsInRange (EdfYes x c.args.fronts)) (sym c.in_ok-claims_of-in-None.ensures) range

@@ -1,4 +1,4 @@
-use Rattle.std.proofs.Common.{◌≡◌, ◌+◌, ◌-◌, ◌<◌, sym, ap, ◌∙◌, subst, arith, reverse}
+use Rattle.std.proofs.Common.{◌≡◌, ◌-◌, sym, ap, ◌∙◌, subst, arith, reverse}
 use Rattle.drt_model.specs.Digraph.{vertex_count}
 use Rattle.drt_model.specs.declared.front.FrontEntry.{FrontEntry}
 use Rattle.drt_demand.specs.Demand.{demand_algebra}

@@ -1,5 +1,4 @@
 use Rattle.std.proofs.Common.{◌≡◌, ◌<◌, ◌≤◌, false, length, sym, subst, ap, arith, ◌∙◌}
-use Rattle.std.specs.Prelude.{IsTrue}
 use Rattle.std.proofs.lemmas.List.{take_all, take_more}
 use Rattle.std.proofs.lemmas.List.Elements.{All-push}
 use Rattle.drt_model.specs.Digraph.{IsConstrainedGraph}
@@ -46,4 +45,4 @@ returns c =
     let l : length c.args.graphs.now ≤ c.tasks.task = omega (arith, c.tasks-test.false, c.count-task-end.ensures.count) in
     let e = take_all c.tasks.task c.args.graphs.now l in
     let fronts = subst (λ gs. AreLabelFronts c.args.bound gs c.tasks.fronts.items) e c.tasks.invariant.fronts in
-    rw c.from_vec.ensures ((fronts, c.tasks.invariant.counted))
+    rw c.from_vec-2.ensures ((fronts, c.tasks.invariant.counted))

@@ -6,7 +6,7 @@ use Rattle.drt_edf.proofs.walks.walk_to.Given as goal
 abbrev pub invariant-steps : goal.invariant-steps
 invariant-steps l = record {
   there : Contains l.front l.entry;
-  tail : IsTail l.graph l.entry l.last l.walk.items;
+  tail : IsTail l.graph l.entry l.fn.last l.walk.items;
 }
 
 abbrev pub decreases-steps : goal.decreases-steps
