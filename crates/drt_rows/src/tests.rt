@@ -4,7 +4,7 @@ ghost use Rattle.drt_model.specs.Digraph.{vertex_count};
 use crate::driver::try_step;
 use drt_demand::{DemandLabel, dbf};
 use drt_graph::{Graph, Graphs, check};
-use drt_model::{Edge, Memory, Name, Row, Task, Vertex, task_set};
+use drt_model::{Edge, FrontEntry, Memory, Name, Row, Task, Vertex, task_set};
 use drt_table::{Entry, Node, NodeState, Table, TableReply, TableStep};
 use std::alloc::Global;
 use std::process::Abort;
@@ -163,7 +163,12 @@ fn demand(
 ) -> Result<u64, Fail> {
     let mut labels = Vec::new(alloc);
     for id in nodes.iter().copied() {
-        labels.push(label(table, id).ok_or("there is such a node")?)?;
+        let label = label(table, id).ok_or("there is such a node")?;
+        labels.push(FrontEntry {
+            vertex: label.vertex,
+            offset: label.offset,
+            work: label.work,
+        })?;
     }
     let count = graph.vertex_count();
     if !labels.iter().all(|x| x.vertex < count) {
