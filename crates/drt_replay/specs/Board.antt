@@ -5,6 +5,7 @@ use Rattle.drt_model.specs.declared.jobs.Policy.{Policy}
 use Rattle.drt_model.specs.declared.jobs.Miss.{Miss}
 use Rattle.drt_model.specs.Trace.{job_at, done, Misses, IsFinish}
 use Rattle.drt_model.specs.Misses.{miss_of}
+use Rattle.drt_replay.specs.declared.stretch.Stretch.{Stretch}
 use Rattle.drt_replay.specs.Queue.{Held}
 use Rattle.drt_replay.specs.Events.{IsQueued}
 
@@ -34,7 +35,7 @@ abbrev pub needs_of : List Job → List ℕ
 needs_of jobs = map (λ job. job.need) jobs
 
 -- What a board keeps beside what it shows: what is left of each need, the finishes, and the queues.
-pub record IsKept (shown : Shown) (lefts : List ℕ) (ends : List (Option ℕ)) (waiting ready : Held) : Type 0 where
+pub record IsKept (shown : Shown) (lefts : List ℕ) (ends : List (Option ℕ)) (waiting : List Stretch) (ready : Held) : Type 0 where
   pub few : length shown.jobs < 2 ^ 32
   pub needs : (j : ℕ) → j < length shown.jobs → 1 ≤ (job_at shown.jobs j).need
   pub left : IsLeft shown.policy shown.jobs shown.ticks lefts
