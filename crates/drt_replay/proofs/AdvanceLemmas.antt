@@ -37,7 +37,8 @@ module _ (policy : Policy) (jobs : List Job) (now : ℕ) (lefts : List ℕ) (sho
           pub run_left : IsLeft policy jobs (now + count) (set lefts j (get_or lefts j 0 - count))
           run_left = jump_left policy jobs now lefts shown j count runs (calm count in_time) some enough
 
-          pub run_finishes : (ends : List (Option ℕ)) → AreFinishes policy jobs now ends → AreFinishes policy jobs (now + count) (cond (eqb (get_or lefts j 0) count) (set ends j (Some (now + count))) ends)
+          pub run_finishes : (ends : List ℕ) → AreFinishes policy jobs now lefts ends
+              → AreFinishes policy jobs (now + count) (set lefts j (get_or lefts j 0 - count)) (cond (eqb (get_or lefts j 0) count) (set ends j (now + count)) ends)
           run_finishes ends ok = jump_finishes policy jobs now lefts shown j count runs (calm count in_time) some enough ends ok
 
           pub run_queued : IsQueued policy jobs (now + count) (set lefts j (get_or lefts j 0 - count)) w' r''
@@ -54,8 +55,8 @@ module _ (policy : Policy) (jobs : List Job) (now : ℕ) (lefts : List ℕ) (sho
         pub rest_left : IsLeft policy jobs next lefts
         rest_left = subst (λ n. IsLeft policy jobs n lefts) distance (idle_left policy jobs now lefts shown (next - now) idle (calm (next - now) (omega arith)))
 
-        pub rest_finishes : (ends : List (Option ℕ)) → AreFinishes policy jobs now ends → AreFinishes policy jobs next ends
-        rest_finishes ends ok = subst (λ n. AreFinishes policy jobs n ends) distance (idle_finishes policy jobs now (next - now) ends ok idle (calm (next - now) (omega arith)))
+        pub rest_finishes : (ends : List ℕ) → AreFinishes policy jobs now lefts ends → AreFinishes policy jobs next lefts ends
+        rest_finishes ends ok = subst (λ n. AreFinishes policy jobs n lefts ends) distance (idle_finishes policy jobs now (next - now) lefts ends ok)
 
         pub rest_queued : IsQueued policy jobs next lefts w' r''
         rest_queued = queued_idle policy jobs now lefts w' r'' queued next (omega arith)

@@ -5,8 +5,8 @@ ghost use Rattle.drt_model.specs.Misses.{IsJob, IsLeastMiss};
 ghost use Rattle.drt_model.specs.Schedulable.{jobs_of};
 
 use crate::events::advance;
-use crate::late::{earlier, index_of, is_late, place_of};
 use crate::jobs::Jobs;
+use crate::late::{earlier, index_of, is_late, place_of};
 use crate::made::{all_waiting, no_finishes};
 use crate::queue::Queue;
 use crate::stretch::Stretch;
@@ -16,14 +16,14 @@ use std::marker::Model;
 
 /// The tick machine on one list of jobs. Contracts see the policy, the jobs and how many ticks have run.
 ///
-/// It borrows the set and the releases, and makes each job where it needs it. It keeps what is left of each need, the finishes so
-/// far, the stretches of jobs that wait for their release, and the released ones in order of the policy.
+/// It borrows the set and the releases, and makes each job where it needs it. It keeps what is left of each need, the finishes of
+/// the jobs with nothing left, the stretches of jobs that wait for their release, and the released ones in order of the policy.
 #[derive(Drop)]
 pub struct Board<'a> {
     policy: Policy,
     jobs: Jobs<'a>,
     left: Vec<u64>,
-    finishes: Vec<Option<u64>>,
+    finishes: Vec<u64>,
     waiting: Vec<Stretch>,
     ready: Queue,
     ticks: u64,
@@ -120,7 +120,18 @@ impl<'a> Board<'a> {
         requires { (j : ℕ) × IsJob self.now.jobs task index j }
         ensures { (j : ℕ) → IsJob self.now.jobs task index j → IsFinishSoFar self.now.policy self.now.jobs self.now.ticks j result }
     {
-        self.finishes[place_of(&self.jobs, task, index)]
+        self.finish_at(place_of(&self.jobs, task, index))
+    }
+
+    // After how many ticks the job at a place had its need; none while it lacks ticks.
+    fn finish_at(&self, j: usize) -> Option<u64>
+        requires { j < length self.now.jobs }
+        ensures { IsFinishSoFar self.now.policy self.now.jobs self.now.ticks j result }
+    {
+        if self.left[j] > 0 {
+            return None;
+        }
+        Some(self.finishes[j])
     }
 
     // The place of the first job that is late by now.
@@ -129,7 +140,7 @@ impl<'a> Board<'a> {
     {
         let mut first = None;
         for j in 0..self.jobs.count() {
-            if is_late(self.jobs.job(j), self.finishes[j], self.ticks) {
+            if is_late(self.jobs.job(j), self.finish_at(j), self.ticks) {
                 first = Some(earlier(&self.jobs, first, j));
             }
         }

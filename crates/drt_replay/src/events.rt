@@ -1,5 +1,5 @@
 //! From event to event: many ticks at once.
-ghost use Rattle.std.specs.Prelude.{◌≡◌, ℕ, ◌+◌, ◌-◌, ◌^◌, ◌<◌, ◌≤◌, ◌==◌, if◌then◌else◌, [], All, MatchOption, Some, length, slice_index, slice_set};
+ghost use Rattle.std.specs.Prelude.{◌≡◌, ℕ, ◌+◌, ◌-◌, ◌^◌, ◌<◌, ◌≤◌, ◌==◌, if◌then◌else◌, [], All, MatchOption, length, slice_index, slice_set};
 ghost use Rattle.std.specs.Bool.{MatchBool};
 ghost use Rattle.drt_model.specs.Trace.{job_at};
 ghost use Rattle.drt_replay.specs.Board.{IsLeft, AreFinishes};
@@ -15,7 +15,7 @@ pub fn advance(
     policy: Policy,
     jobs: &Jobs,
     left: &mut [u64],
-    finishes: &mut [Option<u64>],
+    finishes: &mut [u64],
     waiting: &mut [Stretch],
     ready: &mut Queue,
     ticks: u64,
@@ -24,12 +24,12 @@ pub fn advance(
     requires ahead { ticks < t }
     requires needs { (j : ℕ) → j < length jobs.now → 1 ≤ (job_at jobs.now j).need }
     requires left { IsLeft policy jobs.now ticks left.old }
-    requires finishes { AreFinishes policy jobs.now ticks finishes.old }
+    requires finishes { AreFinishes policy jobs.now ticks left.old finishes.old }
     requires queued { IsQueued policy jobs.now ticks left.old waiting.old ready.old }
     ensures forward { ticks < result }
     ensures in_time { result ≤ t }
     ensures left { IsLeft policy jobs.now result left.new }
-    ensures finishes { AreFinishes policy jobs.now result finishes.new }
+    ensures finishes { AreFinishes policy jobs.now result left.new finishes.new }
     ensures queued { IsQueued policy jobs.now result left.new waiting.new ready.new }
 {
     release(policy, jobs, waiting, ready, ticks);
@@ -136,7 +136,7 @@ fn first_ready(ready: &mut Queue, left: &[u64]) -> Option<usize>
 }
 
 // Runs job j until it is done or `next` comes, and says for how many ticks.
-fn run_job(left: &mut [u64], finishes: &mut [Option<u64>], j: usize, now: u64, next: u64) -> u64
+fn run_job(left: &mut [u64], finishes: &mut [u64], j: usize, now: u64, next: u64) -> u64
     requires in_left { j < length left.old }
     requires in_finishes { j < length finishes.old }
     requires some_left { 0 < slice_index left.old j }
@@ -145,12 +145,12 @@ fn run_job(left: &mut [u64], finishes: &mut [Option<u64>], j: usize, now: u64, n
     ensures in_time { now + result ≤ next }
     ensures at_most { result ≤ slice_index left.old j }
     ensures left { left.new ≡ slice_set left.old j (slice_index left.old j - result) }
-    ensures finishes { finishes.new ≡ (if slice_index left.old j == result then slice_set finishes.old j (Some (now + result)) else finishes.old) }
+    ensures finishes { finishes.new ≡ (if slice_index left.old j == result then slice_set finishes.old j (now + result) else finishes.old) }
 {
     let count = left[j].min(next - now);
     left[j] -= count;
     if left[j] == 0 {
-        finishes[j] = Some(now + count);
+        finishes[j] = now + count;
     }
     count
 }

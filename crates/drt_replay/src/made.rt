@@ -1,5 +1,5 @@
 //! What a board starts with.
-ghost use Rattle.std.specs.Prelude.{◌≡◌, ℕ, ◌+◌, ◌<◌, ◌≤◌, IfOk, None, length, replicate};
+ghost use Rattle.std.specs.Prelude.{◌≡◌, ℕ, ◌+◌, ◌<◌, ◌≤◌, IfOk, length};
 ghost use Rattle.drt_replay.specs.Events.{AreWaiting, Ascend};
 
 use crate::jobs::Jobs;
@@ -7,13 +7,13 @@ use crate::stretch::Stretch;
 use drt_model::Memory;
 use std::alloc::Global;
 
-/// No finish for each of so many jobs.
-pub fn no_finishes(alloc: Global, count: usize) -> Result<Vec<Option<u64>>, Memory>
-    ensures { IfOk result (λ finishes. finishes.items ≡ replicate count None) }
+/// Room for the finish of each of so many jobs.
+pub fn no_finishes(alloc: Global, count: usize) -> Result<Vec<u64>, Memory>
+    ensures { IfOk result (λ finishes. length finishes.items ≡ count) }
 {
     let mut finishes = Vec::new(alloc);
     for _job in 0..count {
-        finishes.push(None)?;
+        finishes.push(0)?;
     }
     Ok(finishes)
 }

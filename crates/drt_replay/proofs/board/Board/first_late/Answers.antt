@@ -3,7 +3,7 @@ use Rattle.std.proofs.lemmas.List.{get_or_read}
 use Rattle.std.proofs.lemmas.Option.{same_Some}
 use Rattle.std.proofs.lemmas.Bool.{both_ways}
 use Rattle.drt_model.specs.Trace.{job_at}
-use Rattle.drt_replay.specs.Board.{Shown, IsLateBy, IsLate, IsEarlier, IsFirstLate}
+use Rattle.drt_replay.specs.Board.{Shown, IsFinishSoFar, IsLateBy, IsLate, IsEarlier, IsFirstLate}
 use Rattle.drt_replay.proofs.LateLemmas.{FirstBelow, below-more, below-late, below-all}
 use Rattle.drt_replay.proofs.board.Board.first_late.Goals as goal
 use Rattle.drt_replay.proofs.board.Board.first_late.Goals.{then-is_late, else-is_late}
@@ -16,18 +16,19 @@ loop-j-preserved c =
     let j = c.loop-j.j in
     let below : j < length b.jobs = omega (arith, c.count-j-end.ensures) in
     let so_far = subst (λ s. FirstBelow s j c.loop-j.first) (sym is) c.loop-j.invariant.first in
-    let finish : c.index.result.now ≡ get_or b.finishes.items j None = get_or_read b.finishes.items j c.index.result.now (omega (arith, c.self.invariant.finishes.as_many)) c.index.ensures None in
-    let late = subst (λ f. IsTrue c.is_late.result ↔ IsLateBy (job_at b.jobs j) f b.ticks) finish (subst (λ x. IsTrue c.is_late.result ↔ IsLateBy x c.index.result.now b.ticks) c.job.ensures c.is_late.ensures) in
+    let finish = c.finish_at.result in
+    let finished : IsFinishSoFar b.policy b.jobs b.ticks j finish = subst (λ s. IsFinishSoFar s.policy s.jobs s.ticks j finish) (sym is) c.finish_at.ensures in
+    let late = subst (λ x. IsTrue c.is_late.result ↔ IsLateBy x finish b.ticks) c.job.ensures c.is_late.ensures in
     elim c.if-is_late.branch [
       | then-is_late w ↦
           (let cases = w.earlier.ensures.cases in
-          let more = below-late shown b.finishes.items c.self.invariant.finishes j below c.loop-j.first w.earlier.result so_far (late.0 w.if-is_late.true) cases in
+          let more = below-late shown j below finish finished c.loop-j.first w.earlier.result so_far (late.0 w.if-is_late.true) cases in
           record {
             first = subst (λ s. FirstBelow s (j + 1) c.if-is_late.first) is (subst (FirstBelow shown (j + 1)) (sym w.first-is) more);
             before = λ x e. (let f : w.earlier.result ≡ x = same_Some w.earlier.result x (sym w.first-is ∙ e) in omega (arith, w.earlier.ensures.in_range));
           })
       | else-is_late w ↦
-          (let more = below-more shown b.finishes.items c.self.invariant.finishes j below c.loop-j.first so_far (λ l. both_ways c.is_late.result w.if-is_late.false (late.1 l)) in
+          (let more = below-more shown j below finish finished c.loop-j.first so_far (λ l. both_ways c.is_late.result w.if-is_late.false (late.1 l)) in
           record {
             first = subst (λ s. FirstBelow s (j + 1) c.if-is_late.first) is (subst (FirstBelow shown (j + 1)) (sym w.first-is) more);
             before = λ x e. (let f = c.loop-j.invariant.before x (sym w.first-is ∙ e) in omega arith);

@@ -24,13 +24,13 @@ invariant_of-result c =
     let jobs : List Job = c.of-jobs.result in
     let is : jobs ≡ jobs_of tasks rs = c.of-jobs.ensures in
     let needs : (j : ℕ) → j < length jobs → 1 ≤ (job_at jobs j).need = rw is (need_positive tasks rs l) in
-    let ends : c.in_ok-finishes.finishes.items ≡ replicate (length jobs) None = c.in_ok-finishes.ensures ∙ ap (λ n. replicate {A = Option ℕ} n None) c.count.ensures in
+    let many : length c.in_ok-finishes.finishes.items ≡ length jobs = omega (arith, c.in_ok-finishes.ensures, c.count.ensures) in
     let room : length jobs ≤ c.count-2.result = omega (arith, c.count-2.ensures) in
     record {
       few = rw is (rw (length-jobs_of tasks rs) c.requires.few);
       needs = needs;
       left = rw c.in_ok-left.ensures (left-start c.args.policy jobs);
-      finishes = rw ends (finishes-start c.args.policy jobs needs);
+      finishes = rw c.in_ok-left.ensures (finishes-start c.args.policy jobs needs c.in_ok-finishes.finishes.items many);
       queued = subst (IsQueued c.args.policy jobs 0 c.in_ok-left.left.items c.in_ok-waiting.waiting.items) (sym c.in_ok-ready.ensures)
           (queued-start c.args.policy jobs c.in_ok-left.left.items c.in_ok-waiting.waiting.items c.count-2.result c.in_ok-waiting.ensures room);
     }
