@@ -7,7 +7,9 @@ use Rattle.drt_model.specs.declared.jobs.Release.{Release}
 use Rattle.drt_evidence.specs.declared.evidence.Evidence.{Evidence}
 use Rattle.drt_evidence.specs.declared.evidence.Evidence.TheVariants.{EdfYes, EdfNo, UtilisationOne, FixedYes, FixedNo, Undecided}
 use Rattle.drt_model.specs.declared.front.FrontEntry.{FrontEntry}
+use Rattle.drt_evidence.specs.declared.evidence.ProofClaim.{ProofClaim}
 use Rattle.drt_evidence.specs.declared.evidence.RatioClaim.{RatioClaim}
+use Rattle.drt_evidence.specs.declared.evidence.TreeClaim.{TreeClaim}
 
 -- The kind of the evidence is one of the policy's.
 abbrev pub IsOfPolicy : Policy → Evidence → Type 0
@@ -62,3 +64,13 @@ abbrev pub miss_of : Evidence → Miss
 miss_of (EdfNo releases miss) = miss
 miss_of (FixedNo releases miss) = miss
 miss_of other = record { task = 0; index = 0; deadline = 0 }
+
+-- The trees of evidence that has some.
+abbrev pub trees_of : Evidence → List TreeClaim
+trees_of (FixedYes trees proofs) = trees
+trees_of other = []
+
+-- The proofs of evidence that has trees.
+abbrev pub proofs_of : Evidence → List ProofClaim
+proofs_of (FixedYes trees proofs) = proofs
+proofs_of other = []

@@ -5,6 +5,8 @@ pub mod Fields
 pub mod Claims
 pub mod Fronts
 pub mod Kinds
+pub mod Trees
+pub mod Proofs
 pub mod Rules
 pub mod Rates
 pub mod Reading

@@ -1,22 +1,26 @@
 -- The rules of the checker, each said once. A rule is a sentence over lists and numbers, and speaks of no search.
-use Rattle.std.specs.Prelude.{◌≡◌, ℕ, ◌≤◌, ◌<◌, ◌^◌, List}
+use Rattle.std.specs.Prelude.{◌≡◌, ℕ, ◌≤◌, ◌<◌, ◌^◌, List, All}
 use Rattle.drt_model.specs.Constrained.{AreConstrained}
+use Rattle.drt_model.specs.Digraph.{Digraph}
 use Rattle.drt_model.specs.Legal.{IsLegal}
 use Rattle.drt_model.specs.Misses.{IsLeastMiss}
 use Rattle.drt_model.specs.Schedulable.{jobs_of}
 use Rattle.drt_evidence.specs.Claims.{graphs_of, Each, IsClaimPerTask, AreLowest, HavePotentials, HaveFittingPotentials, HaveClosedCycles}
 use Rattle.drt_evidence.specs.Claims.{HaveTightCycles, IsFine, HaveUtilisationBelowOne, HaveUtilisationOne, IsHorizon}
 use Rattle.drt_evidence.specs.Fronts.{IsOrdered, HasOpenings, IsClosedFront, HaveRoom}
-use Rattle.drt_evidence.specs.Kinds.{IsOfPolicy, HasRatios, HasFronts, HasReleases, HasTrees, ratios_of, fronts_of, releases_of, miss_of}
+use Rattle.drt_evidence.specs.Kinds.{IsOfPolicy, HasRatios, HasFronts, HasReleases, HasTrees, ratios_of, fronts_of, releases_of, miss_of, trees_of, proofs_of}
+use Rattle.drt_evidence.specs.Proofs.{IsProofPerVertex, HasShape, HasPassingTimes}
 use Rattle.drt_evidence.specs.Statement.{Statement}
+use Rattle.drt_evidence.specs.Trees.{CoversWalks, HasShortWalks, IsTree, IsTreePerHigherTask, greatest_deadline, tree_graphs}
 use Rattle.drt_evidence.specs.declared.evidence.Evidence.{Evidence}
 use Rattle.drt_evidence.specs.declared.evidence.Evidence.TheVariants.{EdfYes, UtilisationOne, Undecided}
+use Rattle.drt_evidence.specs.declared.evidence.TreeClaim.{TreeClaim}
 use Rattle.drt_evidence.specs.declared.rule.Rule.{Rule}
 use Rattle.drt_evidence.specs.declared.rule.Rule.TheVariants.{ConstrainedDeadlines, KindOfPolicy, RatioPerTask, LowestTerms, PotentialPerVertex, FittingPotentials}
 use Rattle.drt_evidence.specs.declared.rule.Rule.TheVariants.{ClosedCycles, TightCycles, FineScale, ClaimedUtilisation, NearHorizon, OrderedFronts, CoveredOpenings, CoveredExtensions, Room}
-use Rattle.drt_evidence.specs.declared.rule.Rule.TheVariants.{LegalReleases, LeastMiss, KnownKind}
+use Rattle.drt_evidence.specs.declared.rule.Rule.TheVariants.{TreePerHigherTask, ShortWalks, CoveredWalks, TreeShapes, ProofPerVertex, ProofShapes, PassingTimes, LegalReleases, LeastMiss}
 
--- The number by which a rule is told. (99 stands for 16 to 22, the rules of a yes under fixed priorities, which are still to come.)
+-- The number by which a rule is told.
 abbrev pub number_of : Rule → ℕ
 number_of ConstrainedDeadlines = 1
 number_of KindOfPolicy = 2
@@ -33,9 +37,15 @@ number_of OrderedFronts = 12
 number_of CoveredOpenings = 13
 number_of CoveredExtensions = 14
 number_of Room = 15
+number_of TreePerHigherTask = 16
+number_of ShortWalks = 17
+number_of CoveredWalks = 18
+number_of TreeShapes = 19
+number_of ProofPerVertex = 20
+number_of ProofShapes = 21
+number_of PassingTimes = 22
 number_of LegalReleases = 23
 number_of LeastMiss = 24
-number_of KnownKind = 99
 
 -- The rule applies to the kind of the evidence.
 abbrev pub Applies : Rule → Evidence → Type 0
@@ -54,9 +64,15 @@ Applies OrderedFronts e = HasFronts e
 Applies CoveredOpenings e = HasFronts e
 Applies CoveredExtensions e = HasFronts e
 Applies Room e = HasFronts e
+Applies TreePerHigherTask e = HasTrees e
+Applies ShortWalks e = HasTrees e
+Applies CoveredWalks e = HasTrees e
+Applies TreeShapes e = HasTrees e
+Applies ProofPerVertex e = HasTrees e
+Applies ProofShapes e = HasTrees e
+Applies PassingTimes e = HasTrees e
 Applies LegalReleases e = HasReleases e
 Applies LeastMiss e = HasReleases e
-Applies KnownKind e = HasTrees e
 
 -- The utilisation of the claimed ratios is below one for a yes, and one for a claim of that.
 abbrev pub HasClaimedUtilisation : Evidence → Type 0
@@ -67,6 +83,10 @@ HasClaimedUtilisation other = Unit {0}
 -- It holds of the horizon that the claimed ratios and potentials give.
 abbrev pub AtHorizon : Statement → (ℕ → Type 0) → Type 0
 AtHorizon s R = (bound : ℕ) × IsHorizon (graphs_of s.set.tasks) (ratios_of s.evidence) bound × R bound
+
+-- It holds of each tree and the graph of its task, up to the greatest deadline.
+abbrev pub EachTree : Statement → (ℕ → Digraph → TreeClaim → Type 0) → Type 0
+EachTree s R = Each (R (greatest_deadline s.set.tasks)) (tree_graphs s.set.tasks (trees_of s.evidence)) (trees_of s.evidence)
 
 -- The statement keeps the rule. What a rule says counts only where it applies and those that apply and have smaller numbers are kept: before,
 -- there may be no horizon.
@@ -86,9 +106,15 @@ Keeps OrderedFronts s = AtHorizon s (λ bound. Each (IsOrdered bound) (graphs_of
 Keeps CoveredOpenings s = AtHorizon s (λ bound. Each (HasOpenings bound) (graphs_of s.set.tasks) (fronts_of s.evidence))
 Keeps CoveredExtensions s = AtHorizon s (λ bound. Each (IsClosedFront bound) (graphs_of s.set.tasks) (fronts_of s.evidence))
 Keeps Room s = HaveRoom (graphs_of s.set.tasks) (fronts_of s.evidence)
+Keeps TreePerHigherTask s = IsTreePerHigherTask s.set.tasks (trees_of s.evidence)
+Keeps ShortWalks s = EachTree s HasShortWalks
+Keeps CoveredWalks s = EachTree s CoversWalks
+Keeps TreeShapes s = All IsTree (trees_of s.evidence)
+Keeps ProofPerVertex s = IsProofPerVertex s.set.tasks (proofs_of s.evidence)
+Keeps ProofShapes s = All (HasShape s.set.tasks (trees_of s.evidence)) (proofs_of s.evidence)
+Keeps PassingTimes s = All (HasPassingTimes s.set.tasks (tree_graphs s.set.tasks (trees_of s.evidence)) (trees_of s.evidence)) (proofs_of s.evidence)
 Keeps LegalReleases s = IsLegal s.set.tasks (releases_of s.evidence)
 Keeps LeastMiss s = IsLeastMiss s.policy (jobs_of s.set.tasks (releases_of s.evidence)) (miss_of s.evidence)
-Keeps KnownKind s = ⊥
 
 -- A statement is accepted where something is claimed and each rule that applies is kept.
 pub record Accepts (s : Statement) : Type 0 where

@@ -35,12 +35,24 @@ pub enum Rule {
     CoveredExtensions,
     /// The works of the fronts have room.
     Room,
+    /// There is one tree fewer than tasks.
+    TreePerHigherTask,
+    /// Each walk of a tree has a vertex, follows edges and spans less than the greatest deadline.
+    ShortWalks,
+    /// The walks of single vertices and those of a tree, extended by an edge, are dominated by a walk of the tree.
+    CoveredWalks,
+    /// The pairs of a tree join its walks into one node, each node once.
+    TreeShapes,
+    /// There is one proof per vertex, in order.
+    ProofPerVertex,
+    /// The items of a proof can be taken, and end with the last one.
+    ProofShapes,
+    /// Each time at which an item passes does so.
+    PassingTimes,
     /// The releases are legal.
     LegalReleases,
     /// The named job misses, and none that misses has an earlier deadline.
     LeastMiss,
-    /// The rules of the kind are known: those of a yes under fixed priorities are still to come, and such evidence never keeps this one.
-    KnownKind,
 }
 
 impl Rule {
@@ -64,9 +76,15 @@ impl Rule {
             Rule::CoveredOpenings => 13,
             Rule::CoveredExtensions => 14,
             Rule::Room => 15,
+            Rule::TreePerHigherTask => 16,
+            Rule::ShortWalks => 17,
+            Rule::CoveredWalks => 18,
+            Rule::TreeShapes => 19,
+            Rule::ProofPerVertex => 20,
+            Rule::ProofShapes => 21,
+            Rule::PassingTimes => 22,
             Rule::LegalReleases => 23,
             Rule::LeastMiss => 24,
-            Rule::KnownKind => 99,
         }
     }
 }

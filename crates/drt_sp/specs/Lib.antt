@@ -1,2 +1,4 @@
 pub mod Evidence
 pub mod OneTask
+pub mod TreeClaims
+pub mod Items

@@ -8,5 +8,7 @@
 mod evidence;
 mod late;
 pub mod one_task;
+mod proving;
+mod trees;
 
 pub use one_task::analyse_one_task;

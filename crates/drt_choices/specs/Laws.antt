@@ -1,0 +1,52 @@
+-- What trees say of the walks of the tasks.
+use Rattle.std.specs.Prelude.{◌≡◌, ℕ, List, length}
+use Rattle.drt_model.specs.declared.jobs.Policy.TheVariants.{Fixed}
+use Rattle.drt_model.specs.declared.jobs.Release.{Release}
+use Rattle.drt_model.specs.declared.tasks.Task.{Task}
+use Rattle.drt_model.specs.Constrained.{AreConstrained}
+use Rattle.drt_model.specs.Legal.{IsLegal}
+use Rattle.drt_model.specs.Limits.{IsTaskSet}
+use Rattle.drt_model.specs.Misses.{IsLeastMiss}
+use Rattle.drt_model.specs.Schedulable.{jobs_of}
+use Rattle.drt_model.specs.Walk.{deadline, wcet}
+use Rattle.drt_busy.specs.Choice.{graph_at}
+use Rattle.drt_busy.specs.WalkReleases.{all_releases, with_job}
+use Rattle.drt_steps.specs.Time.{Passes}
+use Rattle.drt_tree.specs.Tree.{Plain}
+use Rattle.drt_refine.specs.Below.{AreBelow}
+use Rattle.drt_choices.specs.Choices.{AreTrees, FirstPass, IsOrder, IsSubject, VertexPasses, chosen}
+
+-- A set in order, the trees of the tasks at the first places, and a vertex of the task at the next place.
+pub record IsPosed (version : ℕ) (tasks : List Task) (order : List ℕ) (bound : ℕ) (f : Plain) (roots : List ℕ) (k v : ℕ) : Type 0 where
+  pub limits : IsTaskSet version tasks
+  pub order_is : IsOrder tasks order
+  pub trees : AreTrees tasks order bound f roots
+  pub subject : IsSubject tasks order bound (length roots) k v
+
+-- A time passes for vertex v of task k and the leaves of the tuple.
+abbrev pub PassesAt : List Task → Plain → List ℕ → ℕ → ℕ → ℕ → Type 0
+PassesAt tasks f tuple k v t = Passes (wcet (graph_at tasks k) v) (deadline (graph_at tasks k) v) f.pool tuple t
+
+-- Where a time passes for each tuple of leaves, one passes for all walks.
+abbrev pub LeavesPass : Type 0
+LeavesPass =
+    (version : ℕ) (tasks : List Task) (order : List ℕ) (bound : ℕ) (f : Plain) (roots : List ℕ) (k v : ℕ)
+    → IsPosed version tasks order bound f roots k v
+    → ((tuple : List ℕ) → AreBelow f tuple roots → (t : ℕ) × PassesAt tasks f tuple k v t)
+    → VertexPasses tasks k v
+
+-- The releases of a no: those of the walks that the tuple names, from time 0 and with offsets below the deadline of vertex v of
+-- task k, and one of that vertex at 0.
+abbrev pub no_releases : List Task → Plain → List ℕ → List ℕ → ℕ → ℕ → List Release
+no_releases tasks f order tuple k v =
+    all_releases tasks (with_job tasks (chosen tasks f (deadline (graph_at tasks k) v) order tuple) k v) (length tasks)
+
+-- Where no time passes for a tuple of leaves, and one passes for all walks at each vertex of the tasks of higher priority, these
+-- releases are legal, and the vertex's job is one of least deadline among those that miss.
+abbrev pub LeavesMiss : Type 0
+LeavesMiss =
+    (version : ℕ) (tasks : List Task) (order : List ℕ) (bound : ℕ) (f : Plain) (roots : List ℕ) (k v : ℕ)
+    → IsPosed version tasks order bound f roots k v → AreConstrained tasks → FirstPass tasks order (length roots)
+    → (tuple : List ℕ) → AreBelow f tuple roots → ((t : ℕ) → PassesAt tasks f tuple k v t → ⊥)
+    → IsLegal tasks (no_releases tasks f order tuple k v)
+    × IsLeastMiss Fixed (jobs_of tasks (no_releases tasks f order tuple k v)) (record { task = k; index = 0; deadline = deadline (graph_at tasks k) v })

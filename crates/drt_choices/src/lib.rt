@@ -1,0 +1,5 @@
+//! From tuples of tree leaves to choices of walks: what trees of request functions say of the walks of the tasks.
+//!
+//! Under fixed priorities a task is judged by choices of one walk for each task of higher priority. An analysis looks at trees
+//! instead, whose leaves are walks that stand for all others.
+#![tactic(auto)]
