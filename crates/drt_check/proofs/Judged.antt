@@ -49,7 +49,7 @@ standing s (Rejected n) (inl is) = rejected n is.0 is.1 refl
 standing s (Rejected n) (inr is) = unjudged n is refl
 
 -- Evidence with trees is something.
-some_trees : (e : Evidence) → HasTrees e → e ≡ Undecided → ⊥
+pub some_trees : (e : Evidence) → HasTrees e → e ≡ Undecided → ⊥
 some_trees e trees u = rw u at trees
 
 -- A rule of a number of at most 2 is one of the first two.

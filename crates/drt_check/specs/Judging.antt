@@ -1,5 +1,5 @@
 -- What the checker's judgement of a dossier says.
-use Rattle.std.specs.Prelude.{◌≡◌, ℕ, ◌≤◌, ◌⊎◌}
+use Rattle.std.specs.Prelude.{◌≡◌, ℕ, ◌≤◌, ◌⊎◌, Bool, true, false}
 use Rattle.drt_model.specs.Schedulable.{Schedulable}
 use Rattle.drt_evidence.specs.Statement.{Statement}
 use Rattle.drt_evidence.specs.Rates.{IsAtOne}
@@ -25,6 +25,12 @@ abbrev pub IsUnjudged : Statement → ℕ → Type 0
 IsUnjudged s number =
     HasTrees s.evidence
     × ((Rejects s number × (number ≤ 2)) ⊎ (Keeps ConstrainedDeadlines s × Keeps KindOfPolicy s × (number ≡ 99)))
+
+-- That number, by whether the deadlines are constrained and whether the kind is the policy's.
+abbrev pub unjudged_number : Bool → Bool → ℕ
+unjudged_number false of_policy = 1
+unjudged_number true false = 2
+unjudged_number true true = 99
 
 -- The statement is accepted, its evidence has no trees, and this is what it claims.
 abbrev pub IsClaimed : Statement → Judgement → Type 0

@@ -1,11 +1,11 @@
 //! The check of a dossier.
-ghost use Rattle.std.specs.Prelude.{◌≡◌, ◌↔◌, ℕ, IfOk};
+ghost use Rattle.std.specs.Prelude.{◌≡◌, ◌↔◌, ℕ, IfOk, IsTrue};
 ghost use Rattle.drt_model.specs.Constrained.{AreConstrained};
 ghost use Rattle.drt_evidence.specs.Claims.{graphs_of};
 ghost use Rattle.drt_evidence.specs.Kinds.{HasTrees};
 ghost use Rattle.drt_evidence.specs.Rules.{Accepts, Rejects};
 ghost use Rattle.drt_check.specs.Deciding.{IsDecided};
-ghost use Rattle.drt_check.specs.Judging.{IsAcceptance, IsJudged, IsSound, IsUnjudged};
+ghost use Rattle.drt_check.specs.Judging.{IsAcceptance, IsJudged, IsSound, unjudged_number};
 ghost use Rattle.drt_check.specs.declared.judgement.Judgement.TheVariants.{Rejected};
 
 use crate::judgement::Judgement;
@@ -45,21 +45,43 @@ pub fn check(alloc: Global, dossier: &Dossier) -> Result<Judgement, Memory>
     }
 }
 
+// Whether the deadlines of the set are constrained.
+fn is_constrained(alloc: Global, dossier: &Dossier) -> Result<bool, Memory>
+    ensures { IfOk result (λ is. IsTrue is ↔ AreConstrained dossier.now.set.tasks) }
+{
+    match drt_graph::check(alloc, &dossier.set) {
+        Ok(_graphs) => {
+            let constrained = true;
+            Ok(constrained)
+        }
+        Err(GraphError::DeadlinePastSeparation { .. }) => Ok(false),
+        Err(GraphError::Memory) => Err(Memory),
+    }
+}
+
+// The number that evidence with trees is rejected with, by whether the deadlines are constrained and whether the kind is the policy's.
+fn unjudged_number(constrained: bool, of_policy: bool) -> u8
+    ensures { result ≡ unjudged_number constrained of_policy }
+{
+    if !constrained {
+        Rule::ConstrainedDeadlines.number()
+    } else if !of_policy {
+        Rule::KindOfPolicy.number()
+    } else {
+        UNJUDGED
+    }
+}
+
 // The judgement of evidence with trees.
 fn judge_trees(alloc: Global, dossier: &Dossier) -> Result<Judgement, Memory>
     requires { HasTrees dossier.now.evidence }
-    ensures { IfOk result (λ judgement. (number : ℕ) × (judgement ≡ Rejected number) × IsUnjudged dossier.now number) }
+    ensures judged { IfOk result (IsJudged dossier.now) }
+    ensures rejected { IfOk result (λ judgement. (number : ℕ) × (judgement ≡ Rejected number)) }
 {
-    match drt_graph::check(alloc, &dossier.set) {
-        Ok(_) if is_of_policy(dossier) => Ok(Judgement::Rejected { number: UNJUDGED }),
-        Ok(_) => Ok(Judgement::Rejected {
-            number: Rule::KindOfPolicy.number(),
-        }),
-        Err(GraphError::DeadlinePastSeparation { .. }) => Ok(Judgement::Rejected {
-            number: Rule::ConstrainedDeadlines.number(),
-        }),
-        Err(GraphError::Memory) => Err(Memory),
-    }
+    let constrained = is_constrained(alloc, dossier)?;
+    Ok(Judgement::Rejected {
+        number: unjudged_number(constrained, is_of_policy(dossier)),
+    })
 }
 
 // The first rule that applies and isn't kept, if there is one.
