@@ -5,7 +5,7 @@ use Rattle.drt_model.specs.declared.tasks.Vertex.{Vertex}
 use Rattle.drt_model.specs.declared.jobs.Job.{Job}
 use Rattle.drt_model.specs.declared.jobs.Release.{Release}
 use Rattle.drt_model.specs.Schedulable.{deadline_of, priority_of}
-use Rattle.drt_replay.proofs.made.job_of.Goals as goal
+use Rattle.drt_replay.proofs.jobs.job_of.Goals as goal
 use Rattle.std.proofs.Common.{List}
 
 deadline_found : (tasks : List Task) (r : Release) (t : Task) (v : Vertex) → slice_get tasks r.task ≡ Some t → slice_get t.vertices r.vertex ≡ Some v → deadline_of tasks r ≡ v.deadline
