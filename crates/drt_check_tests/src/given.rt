@@ -3,12 +3,10 @@ ghost use Rattle.std.specs.Prelude.{◌≡◌, ◌↔◌, All, IfOk, IsTrue, len
 ghost use Rattle.drt_evidence.specs.Ranges.{IsCounted, IsInRange, IsInRangeEntry, IsInRangeFront, IsInRangeMiss, IsInRangePotential, IsInRangeRatio, IsInRangeRelease, IsNumber, IsTick};
 
 use drt_evidence::{Dossier, Evidence, FrontEntry, RatioClaim};
-use drt_model::{Edge, Memory, Miss, Name, Policy, Release, Row, Task, Vertex, task_set};
+use drt_fixtures::{Shape, make_set};
+use drt_model::{Memory, Miss, Policy, Release, Row};
 use std::alloc::Global;
 use std::test::Fail;
-
-/// A task as its vertices' execution times and deadlines, and its edges' sources, targets and separations.
-pub type Shape<'a> = (&'a [(u32, u32)], &'a [(u32, u32, u32)]);
 
 /// A ratio as its numerator, its denominator, its cycle and its potentials.
 pub type Claim<'a> = (u64, u64, &'a [u32], &'a [i64]);
@@ -18,35 +16,6 @@ pub type Entry = (u32, u64, u64);
 
 /// A release as its task, vertex, time and need.
 pub type Job = (u32, u32, u64, u64);
-
-fn name(alloc: Global, first: u8, number: usize) -> Result<Name, Memory> {
-    Ok(Name::from_vec(Vec::from_slice(alloc, &[first, b'a' + (number % 26) as u8])?))
-}
-
-fn task(alloc: Global, number: usize, shape: Shape<'_>) -> Result<Task, Memory> {
-    let mut vertices = Vec::new(alloc);
-    for (i, vertex) in shape.0.iter().enumerate() {
-        vertices.push(Vertex {
-            name: name(alloc, b'v', i)?,
-            wcet: vertex.0,
-            deadline: vertex.1,
-        })?;
-    }
-    let mut edges = Vec::new(alloc);
-    for edge in shape.1 {
-        edges.push(Edge {
-            from: edge.0,
-            to: edge.1,
-            sep: edge.2,
-        })?;
-    }
-    Ok(Task {
-        name: name(alloc, b'T', number)?,
-        priority: (number % 16) as u32 + 1,
-        vertices: Row::from_vec(vertices),
-        edges: Row::from_vec(edges),
-    })
-}
 
 fn claims(alloc: Global, given: &[Claim<'_>]) -> Result<Row<RatioClaim>, Memory> {
     let mut claims = Vec::new(alloc);
@@ -127,11 +96,7 @@ pub fn dossier(
     shapes: &[Shape<'_>],
     evidence: Evidence,
 ) -> Result<Dossier, Fail> {
-    let mut tasks = Vec::new(alloc);
-    for (i, shape) in shapes.iter().enumerate() {
-        tasks.push(task(alloc, i, *shape)?)?;
-    }
-    let set = task_set(1, Row::from_vec(tasks)).ok_or("within the limits")?;
+    let set = make_set(alloc, shapes)?.ok_or("within the limits")?;
     if !is_in_range(&evidence) {
         return Err("in range".into());
     }

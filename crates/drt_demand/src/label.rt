@@ -50,7 +50,11 @@ impl Clone for DemandLabel {
 }
 
 impl Label for DemandLabel {
+    type Spare = ();
+
     ghost algebra = { demand_algebra };
+
+    ghost is_spare = { λ label spare. Unit {0} };
 
     ghost laws = { demand_laws };
 
@@ -74,6 +78,14 @@ impl Label for DemandLabel {
             offset: self.offset + sep as u64,
             work: self.work + wcet as u64,
         })
+    }
+
+    fn make_spare(&self, _alloc: Global) -> Result<(), Memory> {
+        Ok(())
+    }
+
+    fn hand_out(&self, _spare: ()) -> DemandLabel {
+        *self
     }
 
     fn vertex(&self) -> u32 {

@@ -11,6 +11,6 @@ mod label;
 mod tests;
 mod walks;
 
-pub use bound::dbf;
+pub use bound::{dbf, is_due};
 pub use label::DemandLabel;
 pub use walks::labels_of_walks;

@@ -3,7 +3,7 @@ ghost use Rattle.std.specs.Prelude.{IsTrue, ◌<◌, ◌≤◌, length};
 use crate::{DemandLabel, dbf};
 use drt_graph::check;
 use drt_label::{Label, Memory};
-use drt_model::{Edge, Name, Row, Task, Vertex, task_set};
+use drt_model::{Edge, FrontEntry, Name, Row, Task, Vertex, task_set};
 use std::alloc::Global;
 use std::test::Fail;
 
@@ -104,27 +104,27 @@ fn the_demand_is_the_greatest_work_that_is_due_by_the_time(rt: HostRuntime) -> R
     let graph = graphs.graph(0);
     assert!(rt; graph.vertex_count() == 3);
     let front = [
-        DemandLabel {
+        FrontEntry {
             vertex: 0,
             offset: 0,
             work: 1,
         },
-        DemandLabel {
+        FrontEntry {
             vertex: 1,
             offset: 0,
             work: 2,
         },
-        DemandLabel {
+        FrontEntry {
             vertex: 2,
             offset: 0,
             work: 1,
         },
-        DemandLabel {
+        FrontEntry {
             vertex: 2,
             offset: 1,
             work: 3,
         },
-        DemandLabel {
+        FrontEntry {
             vertex: 2,
             offset: 4,
             work: 4,

@@ -11,9 +11,9 @@ use Rattle.drt_graph.proofs.Paths.{work_none}
 use Rattle.drt_sweep.specs.Dues.{sum_due}
 use Rattle.drt_horizon.specs.Demands.{demands}
 use Rattle.drt_horizon.specs.Laws.{IsDue, AreDue, efforts}
-use Rattle.drt_evidence.specs.Fronts.{due, work_due}
+use Rattle.drt_evidence.specs.Fronts.{due}
 use Rattle.drt_edf.specs.Walks.{IsWalkEntry}
-use Rattle.drt_edf.specs.LabelFronts.{entries_of, IsLabelFront, AreLabelFronts}
+use Rattle.drt_edf.specs.LabelFronts.{IsLabelFront, AreLabelFronts}
 
 -- The label of a walk, as an entry.
 abbrev pub walk_entry : Digraph → ℕ → List ℕ → FrontEntry
@@ -28,7 +28,7 @@ most_here true w r n e l = omega (arith, le-max_left w r)
 most_here false w r n e l = absurd (cc)
 
 -- A label that is due by t has at most the demand of t.
-pub label_within : (g : Digraph) (front : List FrontEntry) (t n k : ℕ) (e : FrontEntry) → k < length (entries_of front) → get_or (entries_of front) k e ≡ e → due g e ≤ t → n ≤ e.work → n ≤ dbf_at g front t
+pub label_within : (g : Digraph) (front : List FrontEntry) (t n k : ℕ) (e : FrontEntry) → k < length front → get_or front k e ≡ e → due g e ≤ t → n ≤ e.work → n ≤ dbf_at g front t
 label_within g [] t n k e l at d m = absurd (omega arith)
 label_within g (x ∷ front) t n zero e l at d m =
     let f : x.offset + deadline g x.vertex ≡ due g e = ap (λ y. due g y) at in
@@ -57,8 +57,3 @@ all_within (g ∷ graphs) bound t (f ∷ fronts) (w ∷ walks) are l d =
     let h = walk_within g bound t f are.0 l w d.0 in
     let r = all_within graphs bound t fronts walks are.1 l d.1 in
     omega (arith, h, r)
-
--- The demand of t over labels is the work of their entries that are due by t.
-pub work_same : (g : Digraph) (front : List FrontEntry) (t : ℕ) → work_due g (entries_of front) t ≡ dbf_at g front t
-work_same g [] t = refl
-work_same g (x ∷ front) t = ap (λ n. max (cond (nat_le (x.offset + deadline g x.vertex) t) x.work 0) n) (work_same g front t)

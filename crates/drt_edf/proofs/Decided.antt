@@ -1,5 +1,5 @@
 -- What the fronts of all tasks decide.
-use Rattle.std.proofs.Common.{ℕ, ◌≤◌, List, [], ◌∷◌, All, length, map, ap, arith}
+use Rattle.std.proofs.Common.{ℕ, ◌≤◌, List, [], ◌∷◌, All, length, ap, arith}
 use Rattle.std.specs.Prelude.{Ok}
 use Rattle.drt_model.specs.declared.tasks.Task.{Task}
 use Rattle.drt_model.specs.Digraph.{Digraph, IsSound}
@@ -13,30 +13,30 @@ use Rattle.drt_table.specs.declared.step.Entry.{Entry}
 use Rattle.drt_evidence.specs.declared.evidence.Evidence.TheVariants.{EdfYes}
 use Rattle.drt_evidence.specs.Claims.{graphs_of}
 use Rattle.drt_evidence.specs.Ranges.{IsCounted, IsInRange, IsInRangeFront}
-use Rattle.drt_edf.specs.LabelFronts.{entries_of, AreLabelFronts, AreDemandWalks}
+use Rattle.drt_edf.specs.LabelFronts.{AreLabelFronts, AreDemandWalks}
 use Rattle.drt_edf.specs.RatioClaims.{claims_of}
 use Rattle.drt_edf.specs.Searches.{IsSpentSearch}
 use Rattle.drt_edf.specs.Spent.{IsSpentTable}
-use Rattle.drt_edf.proofs.Gathered.{walks_due}
+use Rattle.drt_edf.proofs.Gathered.{fronts_count, walks_due}
 use Rattle.drt_edf.proofs.Planned.{planned_below}
 use Rattle.drt_edf.proofs.RatioClaims.{all_cons, head_of, tail_of, claims_count, claims_in_range}
 use Rattle.drt_edf.proofs.Suffixes.{AreListed, are_listed}
-use Rattle.drt_edf.proofs.Yes.{front_in_range, fronts_count}
+use Rattle.drt_edf.proofs.Yes.{front_in_range}
 
-fronts_in_range : (graphs : List Digraph) (bound : ℕ) (fronts : List (List FrontEntry)) → All IsSound graphs → bound ≤ 1099511627776 → AreLabelFronts bound graphs fronts → All IsCounted (map entries_of fronts) → All IsInRangeFront (map entries_of fronts)
+fronts_in_range : (graphs : List Digraph) (bound : ℕ) (fronts : List (List FrontEntry)) → All IsSound graphs → bound ≤ 1099511627776 → AreLabelFronts bound graphs fronts → All IsCounted fronts → All IsInRangeFront fronts
 fronts_in_range [] bound [] sound near are counted = λ k d l. absurd (omega arith)
 fronts_in_range [] bound (f ∷ fronts) sound near are counted = absurd (let h = ap length are in omega (arith, h))
 fronts_in_range (g ∷ graphs) bound [] sound near are counted = absurd are
 fronts_in_range (g ∷ graphs) bound (f ∷ fronts) sound near are counted =
-    all_cons IsInRangeFront (entries_of f) (map entries_of fronts)
-    (front_in_range g bound f (head_of IsSound g graphs sound) near are.0, head_of IsCounted (entries_of f) (map entries_of fronts) counted)
-    (fronts_in_range graphs bound fronts (tail_of IsSound g graphs sound) near are.1 (tail_of IsCounted (entries_of f) (map entries_of fronts) counted))
+    all_cons IsInRangeFront f fronts
+    (front_in_range g bound f (head_of IsSound g graphs sound) near are.0, head_of IsCounted f fronts counted)
+    (fronts_in_range graphs bound fronts (tail_of IsSound g graphs sound) near are.1 (tail_of IsCounted f fronts counted))
 
 -- The numbers of a yes are in range.
-pub yes_in_range : (graphs : List Digraph) (proofs : List RatioProof) (bound : ℕ) (fronts : List (List FrontEntry)) → AreGraphs graphs → AreGiven graphs proofs → bound ≤ 1099511627776 → AreLabelFronts bound graphs fronts → All IsCounted (map entries_of fronts) → IsInRange (EdfYes (claims_of proofs) (map entries_of fronts))
+pub yes_in_range : (graphs : List Digraph) (proofs : List RatioProof) (bound : ℕ) (fronts : List (List FrontEntry)) → AreGraphs graphs → AreGiven graphs proofs → bound ≤ 1099511627776 → AreLabelFronts bound graphs fronts → All IsCounted fronts → IsInRange (EdfYes (claims_of proofs) fronts)
 yes_in_range graphs proofs bound fronts are given near label counted =
     let n = claims_count graphs proofs given in
-    let m = fronts_count graphs bound fronts label in
+    let m = fronts_count bound graphs fronts label in
     ((claims_in_range graphs proofs are.sound given, omega (arith, n, are.few)), (fronts_in_range graphs bound fronts are.sound near label counted, omega (arith, m, are.few)))
 
 -- The horizon of a plan is at most 2^40.

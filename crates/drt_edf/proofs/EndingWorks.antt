@@ -1,5 +1,5 @@
 -- The greatest work of the walks that end at a vertex, by the edges that lead there.
-use Rattle.std.proofs.Common.{◌≡◌, ℕ, suc, ◌+◌, ◌-◌, ◌*◌, ◌<◌, ◌≤◌, ◌⊎◌, inl, inr, List, [], ◌∷◌, ◌++◌, get_or, length, length-append, refl, sym, ap, arith, subst, ◌∙◌}
+use Rattle.std.proofs.Common.{◌≡◌, ℕ, ◌+◌, ◌-◌, ◌*◌, ◌<◌, ◌≤◌, ◌⊎◌, inl, inr, List, [], ◌∷◌, ◌++◌, get_or, length, length-append, refl, sym, ap, arith, subst, ◌∙◌}
 use Rattle.std.specs.Prelude.{IsTrue, nat_le}
 use Rattle.std.proofs.Math.Seq.{get_or-append_seam}
 use Rattle.std.proofs.lemmas.Bool.{cases_lt, leb-true}
@@ -10,7 +10,7 @@ use Rattle.drt_model.specs.Digraph.{Digraph, IsSound, edge_of, out_degree, verte
 use Rattle.drt_model.specs.Walk.{deadline, wcet}
 use Rattle.drt_model.specs.declared.front.FrontEntry.{FrontEntry}
 use Rattle.drt_demand.specs.Demand.{demand_algebra}
-use Rattle.drt_table.specs.Machine.{in_range, extended}
+use Rattle.drt_table.specs.Machine.{extended}
 use Rattle.drt_table.specs.Walk.{WalkTo}
 use Rattle.drt_edf.specs.Spent.{search_of}
 use Rattle.drt_edf.specs.Ending.{IsEnding, IsReached, IsGreatestAt, AreGreatestAt, IsAboveEdge, IsGreatestOver}

@@ -1,39 +1,13 @@
--- Searches, fronts and walks of demand, task by task.
-use Rattle.std.proofs.Common.{◌≡◌, ℕ, zero, suc, ◌+◌, ◌<◌, ◌≤◌, List, [], ◌∷◌, ◌++◌, All, length, get_or, take, refl, sym, ap, arith, subst}
-use Rattle.drt_model.specs.Digraph.{Digraph, vertex_count}
-use Rattle.drt_model.specs.Walk.{deadline}
+-- Fronts and walks of demand, task by task.
+use Rattle.std.proofs.Common.{◌≡◌, ℕ, zero, suc, ◌<◌, List, [], ◌∷◌, ◌++◌, length, get_or, take, refl, ap, arith}
+use Rattle.drt_model.specs.Digraph.{Digraph}
 use Rattle.drt_graph.specs.Graphs.{graph_of}
 use Rattle.drt_model.specs.declared.front.FrontEntry.{FrontEntry}
-use Rattle.drt_table.specs.View.{View}
 use Rattle.drt_sweep.specs.Dues.{sum_due}
-use Rattle.drt_horizon.specs.Demands.{IsFront, AreFronts, demands}
+use Rattle.drt_horizon.specs.Demands.{AreFronts, demands}
 use Rattle.drt_horizon.specs.Laws.{AreDue, efforts}
-use Rattle.drt_evidence.specs.Fronts.{IsWithin}
-use Rattle.drt_edf.specs.LabelFronts.{entry_of, entries_of, IsLabelFront, AreLabelFronts, IsDemandWalk, AreDemandWalks}
-use Rattle.drt_edf.specs.Searches.{IsSearched, AreSearched}
-use Rattle.drt_edf.proofs.RatioClaims.{all_cons, tail_of}
+use Rattle.drt_edf.specs.LabelFronts.{IsLabelFront, AreLabelFronts, IsDemandWalk, AreDemandWalks}
 use Rattle.drt_edf.proofs.Suffixes.{due_walk}
-
--- The search of the graph of number k.
-pub searched_at : (bound : ℕ) (graphs : List Digraph) (views : List (View FrontEntry)) → AreSearched bound graphs views → (k : ℕ) (d : View FrontEntry) → k < length graphs → IsSearched bound (graph_of graphs k) (get_or views k d)
-searched_at bound [] views are k d l = absurd (omega arith)
-searched_at bound (g ∷ graphs) [] are k d l = absurd are
-searched_at bound (g ∷ graphs) (v ∷ views) are zero d l = are.0
-searched_at bound (g ∷ graphs) (v ∷ views) are (suc k) d l = searched_at bound graphs views are.1 k d (omega arith)
-
--- The same, as an element that was read.
-pub searched_here : (bound : ℕ) (graphs : List Digraph) (views : List (View FrontEntry)) → AreSearched bound graphs views → (k : ℕ) (v : View FrontEntry) → k < length graphs → v ≡ get_or views k v → IsSearched bound (graph_of graphs k) v
-searched_here bound graphs views are k v l is = subst (λ x. IsSearched bound (graph_of graphs k) x) (sym is) (searched_at bound graphs views are k v l)
-
--- The front of a search.
-pub front_is : (bound : ℕ) (g : Digraph) (v : View FrontEntry) (labels : List FrontEntry) → IsSearched bound g v → IsLabelFront v.graph v.bound labels → IsLabelFront g bound labels
-front_is bound g v labels s f = subst (λ x. IsLabelFront x bound labels) s.graph_is (subst (λ b. IsLabelFront v.graph b labels) s.bound_is f)
-
--- The walk of demand of a search.
-pub walk_is : (bound : ℕ) (g : Digraph) (v : View FrontEntry) (t : ℕ) (walk : List ℕ) (labels : List FrontEntry) → IsSearched bound g v → ((ls : List FrontEntry) → IsLabelFront v.graph v.bound ls → IsDemandWalk v.graph ls t walk) → IsLabelFront g bound labels → IsDemandWalk g labels t walk
-walk_is bound g v t walk labels s is f =
-    let h = subst (λ x. IsLabelFront x bound labels) (sym s.graph_is) f in
-    subst (λ x. IsDemandWalk x labels t walk) s.graph_is (is labels (subst (λ b. IsLabelFront v.graph b labels) (sym s.bound_is) h))
 
 -- As many of two lists of one length.
 pub taken_count : {A B : Type 0} (xs : List A) (ys : List B) (k : ℕ) → length xs ≡ length ys → length (take k xs) ≡ length (take k ys)
@@ -43,12 +17,6 @@ taken_count [] (y ∷ ys) k e = absurd (omega arith)
 taken_count (x ∷ xs) [] k e = absurd (omega arith)
 taken_count (x ∷ xs) (y ∷ ys) zero e = refl
 taken_count (x ∷ xs) (y ∷ ys) (suc k) e = ap suc (taken_count xs ys k (omega arith))
-
--- There is one for each graph.
-pub searched_count : (bound : ℕ) (graphs : List Digraph) (views : List (View FrontEntry)) → AreSearched bound graphs views → length views ≡ length graphs
-searched_count bound [] views are = ap length are
-searched_count bound (g ∷ graphs) [] are = absurd are
-searched_count bound (g ∷ graphs) (v ∷ views) are = ap suc (searched_count bound graphs views are.1)
 
 -- One more front.
 pub fronts_push : (bound : ℕ) (graphs : List Digraph) (fronts : List (List FrontEntry)) (g : Digraph) (f : List FrontEntry) → AreLabelFronts bound graphs fronts → IsLabelFront g bound f → AreLabelFronts bound (graphs ++ g ∷ []) (fronts ++ f ∷ [])
@@ -96,13 +64,9 @@ walks_work (g ∷ graphs) (f ∷ fronts) t (w ∷ walks) are =
     let h = walks_work graphs fronts t walks are.1 in
     omega (arith, h, are.0.all)
 
-front_within : (g : Digraph) (bound : ℕ) (f : List FrontEntry) → All (IsWithin g bound) (entries_of f) → IsFront g bound f
-front_within g bound [] all = λ k d l. absurd (omega arith)
-front_within g bound (x ∷ f) all = all_cons (λ y. (y.vertex < vertex_count g) × (y.offset + deadline g y.vertex ≤ bound)) x f ((all 0 (entry_of x) (omega arith)).0, (all 0 (entry_of x) (omega arith)).1) (front_within g bound f (tail_of (IsWithin g bound) (entry_of x) (entries_of f) all))
-
 -- The fronts are within the bound.
 pub fronts_within : (graphs : List Digraph) (bound : ℕ) (fronts : List (List FrontEntry)) → AreLabelFronts bound graphs fronts → AreFronts bound graphs fronts
 fronts_within [] bound [] are = tt
 fronts_within [] bound (f ∷ fronts) are = absurd (let h = ap length are in omega (arith, h))
 fronts_within (g ∷ graphs) bound [] are = absurd are
-fronts_within (g ∷ graphs) bound (f ∷ fronts) are = (front_within g bound f are.0.ordered.0, fronts_within graphs bound fronts are.1)
+fronts_within (g ∷ graphs) bound (f ∷ fronts) are = (are.0.ordered.0, fronts_within graphs bound fronts are.1)

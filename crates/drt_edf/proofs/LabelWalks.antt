@@ -18,7 +18,6 @@ use Rattle.drt_table.specs.Walk.{WalkTo, IsWalkLabel}
 use Rattle.drt_table.specs.Cover.{IsNonDominated as IsAlone}
 use Rattle.drt_table.proofs.Walks.{walk_vertex, walk_range}
 use Rattle.drt_evidence.specs.Fronts.{Covers}
-use Rattle.drt_edf.specs.LabelFronts.{entry_of}
 use Rattle.drt_edf.specs.Walks.{IsWalkEntry, IsNonDominated}
 
 -- Two labels with the same parts are equal.
@@ -27,10 +26,6 @@ same_label x y p q r =
     ap (λ v. record { vertex = v; offset = x.offset; work = x.work }) p
     ∙ (ap (λ o. record { vertex = y.vertex; offset = o; work = x.work }) q
     ∙ ap (λ w. record { vertex = y.vertex; offset = y.offset; work = w }) r)
-
--- An entry of a front as a label.
-abbrev pub label_of : FrontEntry → FrontEntry
-label_of e = record { vertex = e.vertex; offset = e.offset; work = e.work }
 
 -- A walk given backwards, forwards: its first vertex, those after it, and its label.
 pub record IsPathTo (g : Digraph) (v : ℕ) (before : List ℕ) (l : FrontEntry) : Type 0 where
@@ -91,7 +86,7 @@ module _ (t : Setting) (sound : IsSound t.graph) where
       path_more v u before l w.1 w.0 (path_to u before w.1 w.2) (walk_vertex demand_algebra demand_laws t u before w.1 w.2) w.3 w.4 w.5
 
   -- The label of a walk of the search is an entry.
-  pub walk_entry : (l : FrontEntry) → IsWalkLabel demand_algebra t l → IsWalkEntry t.graph t.bound (entry_of l)
+  pub walk_entry : (l : FrontEntry) → IsWalkLabel demand_algebra t l → IsWalkEntry t.graph t.bound l
   walk_entry l w =
       let p = path_to w.0 w.1 l w.2 in
       record {
@@ -131,7 +126,7 @@ module _ (t : Setting) (sound : IsSound t.graph) where
         subst (λ y. IsWalkLabel demand_algebra t y) (same_label (gone x v vs) (gone m u (v ∷ vs)) refl (omega (arith, s)) (omega (arith, n))) rest
 
     -- An entry of a walk is the label of a walk of the search.
-    pub entry_walk : (e : FrontEntry) → IsWalkEntry t.graph t.bound e → IsWalkLabel demand_algebra t (label_of e)
+    pub entry_walk : (e : FrontEntry) → IsWalkEntry t.graph t.bound e → IsWalkLabel demand_algebra t e
     entry_walk e w =
         let x : FrontEntry = opening w.first (wcet t.graph w.first) t.bound in
         let first = path_due t.graph sound con w.first w.others w.path in
@@ -142,24 +137,24 @@ module _ (t : Setting) (sound : IsSound t.graph) where
         let n = work_cons t.graph w.first w.others in
         let r = w.works in
         let rest = walk_on w.first [] x (w.is_vertex, refl, range) w.others w.path (omega (arith, within)) in
-        subst (λ y. IsWalkLabel demand_algebra t y) (same_label (gone x w.first w.others) (label_of e) (sym v) (omega (arith, o)) (omega (arith, n, r))) rest
+        subst (λ y. IsWalkLabel demand_algebra t y) (same_label (gone x w.first w.others) e (sym v) (omega (arith, o)) (omega (arith, n, r))) rest
 
     -- A label that no different one dominates is an entry that no other one covers.
-    pub entry_alone : (l : FrontEntry) → IsAlone demand_algebra t l → IsNonDominated t.graph t.bound (entry_of l)
+    pub entry_alone : (l : FrontEntry) → IsAlone demand_algebra t l → IsNonDominated t.graph t.bound l
     entry_alone l is = record {
       walk = walk_entry l is.walk;
-      alone = λ d w c. ap entry_of (is.alone (label_of d) (entry_walk d w) (above d c));
+      alone = λ d w c. is.alone d (entry_walk d w) (above d c);
     }
       where
-        above : (d : FrontEntry) → Covers l.vertex l.offset l.work d → IsTrue (dominates (label_of d) l)
+        above : (d : FrontEntry) → Covers l.vertex l.offset l.work d → IsTrue (dominates d l)
         above d c = let a = c.0 in let b = c.1 in let e = c.2 in grind (arith, nat_tests)
 
     -- And the converse.
-    pub label_alone : (e : FrontEntry) → IsNonDominated t.graph t.bound e → IsAlone demand_algebra t (label_of e)
+    pub label_alone : (e : FrontEntry) → IsNonDominated t.graph t.bound e → IsAlone demand_algebra t e
     label_alone e is = record {
       walk = entry_walk e is.walk;
-      alone = λ m w d. ap label_of (is.alone (entry_of m) (walk_entry m w) (above m d));
+      alone = λ m w d. is.alone m (walk_entry m w) (above m d);
     }
       where
-        above : (m : FrontEntry) → IsTrue (dominates m (label_of e)) → Covers e.vertex e.offset e.work (entry_of m)
+        above : (m : FrontEntry) → IsTrue (dominates m e) → Covers e.vertex e.offset e.work m
         above m d = (grind (arith, nat_tests), grind (arith, nat_tests), grind (arith, nat_tests))

@@ -10,8 +10,10 @@ pub mod Nos
 pub mod StepTimes
 pub mod Unique
 pub mod LabelWalks
-pub mod KeptLists
+pub mod Falling
 pub mod FrontLists
+pub mod Prefixes
+pub mod Places
 pub mod DemandWalks
 pub mod Overloads
 pub mod EvidenceKinds

@@ -8,7 +8,7 @@ use Rattle.drt_model.specs.Walk.{gap, IsPath, last_of, work, cycle_span}
 use Rattle.drt_model.specs.Utilisation.{HasRatio, AreRatios, AreDistinct}
 use Rattle.drt_graph.proofs.Edges.{target_of}
 use Rattle.drt_ratio.specs.declared.ratio_proof.RatioProof.{RatioProof}
-use Rattle.drt_ratio.specs.SetRatios.{fraction_of, fractions_of}
+use Rattle.drt_ratio.specs.SetRatios.{AreSmall, fraction_of, fractions_of}
 use Rattle.drt_ratio.proofs.Optima.{cycle_sums}
 use Rattle.drt_horizon.specs.Given.{IsGiven, AreGiven, potentials_of}
 use Rattle.drt_horizon.proofs.Overloads.{cycle_few}
@@ -140,3 +140,9 @@ claims_in_range [] (p ∷ proofs) sound given = absurd given
 claims_in_range (g ∷ graphs) [] sound given = absurd given
 claims_in_range (g ∷ graphs) (p ∷ proofs) sound given =
     all_cons IsInRangeRatio (claim_of p) (claims_of proofs) (claim_in_range g p (head_of IsSound g graphs sound) given.0) (claims_in_range graphs proofs (tail_of IsSound g graphs sound) given.1)
+
+-- The ratio at a place of a list of small ones.
+pub small_at : (proofs : List RatioProof) → AreSmall proofs → (k : ℕ) (d : RatioProof) → k < length proofs → ((get_or proofs k d).ratio.num ≤ 1000000000) × ((get_or proofs k d).ratio.den ≤ 1000000000)
+small_at [] small k d l = absurd (omega arith)
+small_at (p ∷ proofs) small zero d l = (small.0, small.1)
+small_at (p ∷ proofs) small (suc k) d l = small_at proofs small.2 k d (omega (arith, l))

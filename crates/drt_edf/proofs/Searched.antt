@@ -1,5 +1,5 @@
 -- How the searches of the tasks' walks end.
-use Rattle.std.proofs.Common.{◌≡◌, ℕ, ◌<◌, false, List, [], ◌∷◌, ◌++◌, length, refl, sym, ap, arith, ◌∙◌, subst}
+use Rattle.std.proofs.Common.{◌≡◌, ℕ, ◌<◌, false, List, length, sym, ap, arith, ◌∙◌, subst}
 use Rattle.std.proofs.lemmas.Option.{slice_get-get_or}
 use Rattle.drt_model.specs.Digraph.{Digraph}
 use Rattle.drt_graph.specs.Graphs.{no_graph, graph_of}
@@ -10,16 +10,9 @@ use Rattle.drt_table.specs.Machine.{IsRun, is_finished, replay}
 use Rattle.drt_table.specs.View.{View, IsTable, setting_of, state_of}
 use Rattle.drt_table.specs.declared.step.TableReply.{TableReply}
 use Rattle.drt_table.specs.declared.step.TableReply.TheVariants.{Taken, Busy, Finished, Added, Dominated, OutOfRange, Closed, Spent}
-use Rattle.drt_edf.specs.Searches.{IsSearched, AreSearched, IsSpentSearch}
+use Rattle.drt_edf.specs.Searches.{IsSpentSearch}
 use Rattle.drt_edf.specs.Spent.{search_of, table_need}
 use Rattle.drt_edf.proofs.Bounded.{AreShort, AreFew, unfinished_short}
-
--- One more finished search.
-pub searched_push : (bound : ℕ) (graphs : List Digraph) (views : List (View FrontEntry)) (g : Digraph) (v : View FrontEntry) → AreSearched bound graphs views → IsSearched bound g v → AreSearched bound (graphs ++ g ∷ []) (views ++ v ∷ [])
-searched_push bound [] [] g v are is = (is, refl)
-searched_push bound [] (x ∷ views) g v are is = absurd (let h = ap length are in omega (arith, h))
-searched_push bound (h ∷ graphs) [] g v are is = absurd are
-searched_push bound (h ∷ graphs) (x ∷ views) g v are is = (are.0, searched_push bound graphs views g v are.1 is)
 
 -- A driver that stops before the search is finished has spent the budget.
 stops_full : (v : View FrontEntry) (reply : TableReply) → StopsAt demand_algebra v reply → is_finished demand_algebra (setting_of v) (state_of v) ≡ false → length v.log ≡ v.budget

@@ -1,5 +1,5 @@
 -- A yes: fronts without a time of too much demand, within the horizon.
-use Rattle.std.proofs.Common.{◌≡◌, ℕ, suc, ◌+◌, ◌*◌, ◌<◌, ◌≤◌, List, [], ◌∷◌, ◌++◌, All, length, get_or, map, ◌⊎◌, inl, inr, refl, sym, ap, arith, ◌∙◌}
+use Rattle.std.proofs.Common.{◌≡◌, ℕ, suc, ◌+◌, ◌*◌, ◌<◌, ◌≤◌, List, [], ◌∷◌, ◌++◌, All, length, get_or, ◌⊎◌, inl, inr, sym, ap, arith, ◌∙◌}
 use Rattle.std.specs.Prelude.{Ok, ◌^◌}
 use Rattle.std.proofs.lemmas.Bool.{cases_lt}
 use Rattle.std.proofs.lemmas.List.{get_or_default}
@@ -19,7 +19,6 @@ use Rattle.drt_ratio.specs.declared.ratio_proof.RatioProof.{RatioProof}
 use Rattle.drt_ratio.proofs.Optima.{path_sums}
 use Rattle.drt_graph.proofs.Paths.{path_both, last_both, work_both, span_both, work_cons, work_none, span_cons, span_none, path_within}
 use Rattle.drt_horizon.specs.declared.answers.Horizon.TheVariants.{Under}
-use Rattle.drt_sweep.specs.Dues.{sum_due}
 use Rattle.drt_horizon.specs.Demands.{demands}
 use Rattle.drt_horizon.specs.Given.{AreGiven}
 use Rattle.drt_horizon.specs.Laws.{HorizonHolds}
@@ -29,10 +28,10 @@ use Rattle.drt_evidence.specs.Fronts.{due, IsOrdered, HasOpenings, IsExtended, I
 use Rattle.drt_evidence.specs.Ranges.{IsInRangeEntry}
 use Rattle.drt_evidence.proofs.Accepting.{AreFrontClaims, yes_accepted}
 use Rattle.drt_edf.specs.Answers.{IsExactYes}
-use Rattle.drt_edf.specs.LabelFronts.{entries_of, IsLabelFront, AreLabelFronts}
+use Rattle.drt_edf.specs.LabelFronts.{IsLabelFront, AreLabelFronts}
 use Rattle.drt_edf.specs.RatioClaims.{claims_of}
 use Rattle.drt_edf.specs.Walks.{IsWalkEntry, IsExactFront}
-use Rattle.drt_edf.proofs.Covered.{walk_entry, walk_entry_is, all_within, work_same}
+use Rattle.drt_edf.proofs.Covered.{walk_entry, walk_entry_is, all_within}
 use Rattle.drt_edf.proofs.Planned.{claims_kept, claims_below, planned_below}
 use Rattle.drt_edf.proofs.RatioClaims.{head_of, tail_of}
 use Rattle.drt_edf.proofs.Suffixes.{listed, efforts_listed, due_listed}
@@ -62,14 +61,8 @@ schedulable holds decide version tasks is constrained graphs proofs given bound 
         go (inl over) = absurd (near over)
         go (inr l) = l
 
--- There is a front for each graph.
-pub fronts_count : (graphs : List Digraph) (bound : ℕ) (fronts : List (List FrontEntry)) → AreLabelFronts bound graphs fronts → length (map entries_of fronts) ≡ length graphs
-fronts_count [] bound fronts are = ap (λ fs. length (map entries_of fs)) are
-fronts_count (g ∷ graphs) bound [] are = absurd are
-fronts_count (g ∷ graphs) bound (f ∷ fronts) are = ap suc (fronts_count graphs bound fronts are.1)
-
 -- What holds of each front holds of all.
-pub each_front : (R : Digraph → List FrontEntry → Type 0) (bound : ℕ) → ((g : Digraph) (f : List FrontEntry) → IsSound g → IsLabelFront g bound f → R g (entries_of f)) → (graphs : List Digraph) (fronts : List (List FrontEntry)) → All IsSound graphs → AreLabelFronts bound graphs fronts → Each R graphs (map entries_of fronts)
+pub each_front : (R : Digraph → List FrontEntry → Type 0) (bound : ℕ) → ((g : Digraph) (f : List FrontEntry) → IsSound g → IsLabelFront g bound f → R g f) → (graphs : List Digraph) (fronts : List (List FrontEntry)) → All IsSound graphs → AreLabelFronts bound graphs fronts → Each R graphs fronts
 each_front R bound h [] [] sound are = tt
 each_front R bound h [] (f ∷ fronts) sound are = absurd (let e = ap length are in omega (arith, e))
 each_front R bound h (g ∷ graphs) [] sound are = absurd are
@@ -77,7 +70,7 @@ each_front R bound h (g ∷ graphs) (f ∷ fronts) sound are =
     (h g f (head_of IsSound g graphs sound) are.0, each_front R bound h graphs fronts (tail_of IsSound g graphs sound) are.1)
 
 -- The walk of one vertex is covered.
-openings : (bound : ℕ) (g : Digraph) (f : List FrontEntry) → IsSound g → IsLabelFront g bound f → HasOpenings bound g (entries_of f)
+openings : (bound : ℕ) (g : Digraph) (f : List FrontEntry) → IsSound g → IsLabelFront g bound f → HasOpenings bound g f
 openings bound g f sound is v l near =
     let s = span_none g v in
     let c = is.covers (walk_entry g v []) (walk_entry_is g bound v [] l tt (omega (arith, s, near))) in
@@ -88,10 +81,10 @@ moved : (g : Digraph) (x y v : ℕ) → x ≡ y → IsEdge g x v → IsEdge g y 
 moved g x y v e h = rw e at h
 
 -- A walk that goes on by an edge is covered, or due past the bound.
-extended : (bound : ℕ) (g : Digraph) (f : List FrontEntry) → IsSound g → IsLabelFront g bound f → (e : FrontEntry) → IsWalkEntry g bound e → (k : ℕ) → k < out_degree g e.vertex → IsExtended bound g (entries_of f) e k
+extended : (bound : ℕ) (g : Digraph) (f : List FrontEntry) → IsSound g → IsLabelFront g bound f → (e : FrontEntry) → IsWalkEntry g bound e → (k : ℕ) → k < out_degree g e.vertex → IsExtended bound g f e k
 extended bound g f sound is e walk k l = go (cases_lt bound (e.offset + (edge_of g e.vertex k).sep + deadline g (edge_of g e.vertex k).to))
   where
-    go : (bound < e.offset + (edge_of g e.vertex k).sep + deadline g (edge_of g e.vertex k).to) ⊎ (e.offset + (edge_of g e.vertex k).sep + deadline g (edge_of g e.vertex k).to ≤ bound) → IsExtended bound g (entries_of f) e k
+    go : (bound < e.offset + (edge_of g e.vertex k).sep + deadline g (edge_of g e.vertex k).to) ⊎ (e.offset + (edge_of g e.vertex k).sep + deadline g (edge_of g e.vertex k).to ≤ bound) → IsExtended bound g f e k
     go (inl far) = inl far
     go (inr near) =
         let v = (edge_of g e.vertex k).to in
@@ -115,33 +108,25 @@ extended bound g f sound is e walk k l = go (cases_lt bound (e.offset + (edge_of
         let c = is.covers (walk_entry g walk.first vs) (walk_entry_is g bound walk.first vs walk.is_vertex path (omega (arith, span_is, d, near))) in
         inr (c.0, c.1, c.2, c.3, (c.4.0 ∙ last, omega (arith, span_is, c.4.1), omega (arith, work_is, c.4.2)))
 
-entry_walk : (bound : ℕ) (g : Digraph) (f : List FrontEntry) → IsLabelFront g bound f → All (IsWalkEntry g bound) (entries_of f)
-entry_walk bound g f is k d l = ((is.exact (get_or (entries_of f) k d)).0 (k, l, get_or_default (entries_of f) k (get_or (entries_of f) k d) d l)).walk
+entry_walk : (bound : ℕ) (g : Digraph) (f : List FrontEntry) → IsLabelFront g bound f → All (IsWalkEntry g bound) f
+entry_walk bound g f is k d l = ((is.exact (get_or f k d)).0 (k, l, get_or_default f k (get_or f k d) d l)).walk
 
-closed : (bound : ℕ) (g : Digraph) (f : List FrontEntry) → IsSound g → IsLabelFront g bound f → IsClosedFront bound g (entries_of f)
-closed bound g f sound is k d l j m = extended bound g f sound is (get_or (entries_of f) k d) (entry_walk bound g f is k d l) j m
-
--- The demands are the works of the entries that are due.
-works_same : (graphs : List Digraph) (fronts : List (List FrontEntry)) (t : ℕ) → works_due graphs (map entries_of fronts) t ≡ demands graphs fronts t
-unfolding sum_due
-works_same [] fronts t = refl
-works_same (g ∷ graphs) [] t = refl
-works_same (g ∷ graphs) (f ∷ fronts) t = let a = work_same g f t in let b = works_same graphs fronts t in omega (arith, a, b)
+closed : (bound : ℕ) (g : Digraph) (f : List FrontEntry) → IsSound g → IsLabelFront g bound f → IsClosedFront bound g f
+closed bound g f sound is k d l j m = extended bound g f sound is (get_or f k d) (entry_walk bound g f is k d l) j m
 
 -- At each time at which an entry is due there is room.
-has_room : (graphs : List Digraph) (fronts : List (List FrontEntry)) (bound : ℕ) → HasRoom graphs fronts bound → All IsSound graphs → AreLabelFronts bound graphs fronts → HaveRoom graphs (map entries_of fronts)
-has_room graphs fronts bound room sound are = each_front (λ g front. All (λ e. works_due graphs (map entries_of fronts) (due g e) ≤ due g e) front) bound fits graphs fronts sound are
+has_room : (graphs : List Digraph) (fronts : List (List FrontEntry)) (bound : ℕ) → HasRoom graphs fronts bound → All IsSound graphs → AreLabelFronts bound graphs fronts → HaveRoom graphs fronts
+has_room graphs fronts bound room sound are = each_front (λ g front. All (λ e. works_due graphs fronts (due g e) ≤ due g e) front) bound fits graphs fronts sound are
   where
-    fits : (g : Digraph) (f : List FrontEntry) → IsSound g → IsLabelFront g bound f → All (λ e. works_due graphs (map entries_of fronts) (due g e) ≤ due g e) (entries_of f)
+    fits : (g : Digraph) (f : List FrontEntry) → IsSound g → IsLabelFront g bound f → All (λ e. works_due graphs fronts (due g e) ≤ due g e) f
     fits g f s is k d l =
         let w = is.ordered.0 k d l in
-        let t = due g (get_or (entries_of f) k d) in
-        let same = works_same graphs fronts (due g (get_or (entries_of f) k d)) in
-        let h = room (due g (get_or (entries_of f) k d)) w.1 in
-        omega (arith, same, h)
+        let t = due g (get_or f k d) in
+        let h = room (due g (get_or f k d)) w.1 in
+        h
 
 -- The fronts keep the rules of fronts.
-pub fronts_kept : (tasks : List Task) (bound : ℕ) (fronts : List (List FrontEntry)) → AreGraphs (graphs_of tasks) → bound ≤ 2 ^ 40 → AreLabelFronts bound (graphs_of tasks) fronts → HasRoom (graphs_of tasks) fronts bound → AreFrontClaims tasks bound (map entries_of fronts)
+pub fronts_kept : (tasks : List Task) (bound : ℕ) (fronts : List (List FrontEntry)) → AreGraphs (graphs_of tasks) → bound ≤ 2 ^ 40 → AreLabelFronts bound (graphs_of tasks) fronts → HasRoom (graphs_of tasks) fronts bound → AreFrontClaims tasks bound fronts
 fronts_kept tasks bound fronts graphs near are room = record {
   near = near;
   ordered = each_front (IsOrdered bound) bound (λ g f s is. is.ordered) (graphs_of tasks) fronts graphs.sound are;
@@ -152,12 +137,12 @@ fronts_kept tasks bound fronts graphs near are room = record {
 
 -- A yes.
 pub is_yes : HorizonHolds → DeadlinesDecide → (version : ℕ) (tasks : List Task) → IsTaskSet version tasks → AreConstrained tasks → AreGraphs (graphs_of tasks)
-    → (proofs : List RatioProof) → AreGiven (graphs_of tasks) proofs → (bound : ℕ) → IsPlan (graphs_of tasks) proofs (Ok (Under bound)) → (fronts : List (List FrontEntry)) → AreLabelFronts bound (graphs_of tasks) fronts → HasRoom (graphs_of tasks) fronts bound → IsExactYes tasks (claims_of proofs) (map entries_of fronts)
+    → (proofs : List RatioProof) → AreGiven (graphs_of tasks) proofs → (bound : ℕ) → IsPlan (graphs_of tasks) proofs (Ok (Under bound)) → (fronts : List (List FrontEntry)) → AreLabelFronts bound (graphs_of tasks) fronts → HasRoom (graphs_of tasks) fronts bound → IsExactYes tasks (claims_of proofs) fronts
 is_yes holds decide version tasks is constrained graphs proofs given bound plan fronts are room =
     let below = claims_below proofs (graphs_of tasks) bound plan in
     record {
       schedulable = schedulable holds decide version tasks is constrained graphs proofs given bound plan fronts are room;
-      accepted = λ version. yes_accepted (record { version = version; tasks = tasks }) (claims_of proofs) (map entries_of fronts) constrained (record {
+      accepted = λ version. yes_accepted (record { version = version; tasks = tasks }) (claims_of proofs) fronts constrained (record {
         claims = claims_kept tasks proofs given plan.0 plan.1 plan.2.0;
         below = below.0;
         bound = bound;
@@ -187,5 +172,5 @@ entry_in_range g bound e sound near walk =
     }
 
 -- The entries of a front are in range.
-pub front_in_range : (g : Digraph) (bound : ℕ) (f : List FrontEntry) → IsSound g → bound ≤ 1099511627776 → IsLabelFront g bound f → All IsInRangeEntry (entries_of f)
-front_in_range g bound f sound near is k d l = entry_in_range g bound (get_or (entries_of f) k d) sound near (entry_walk bound g f is k d l)
+pub front_in_range : (g : Digraph) (bound : ℕ) (f : List FrontEntry) → IsSound g → bound ≤ 1099511627776 → IsLabelFront g bound f → All IsInRangeEntry f
+front_in_range g bound f sound near is k d l = entry_in_range g bound (get_or f k d) sound near (entry_walk bound g f is k d l)

@@ -1,5 +1,5 @@
--- What the search of a task's walks gives: a front of demand labels.
-use Rattle.std.specs.Prelude.{◌≡◌, ℕ, ◌≤◌, List, [], ◌∷◌, map, Any, slice_index_or}
+-- What the search of a task's walks gives: a front.
+use Rattle.std.specs.Prelude.{◌≡◌, ℕ, ◌≤◌, List, [], ◌∷◌, Any, slice_index_or}
 use Rattle.drt_model.specs.Digraph.{Digraph}
 use Rattle.drt_model.specs.Walk.{work}
 use Rattle.drt_model.specs.declared.front.FrontEntry.{FrontEntry}
@@ -8,19 +8,11 @@ use Rattle.drt_busy.specs.Choice.{IsWalk, due_of}
 use Rattle.drt_evidence.specs.Fronts.{IsOrdered, Covers}
 use Rattle.drt_edf.specs.Walks.{IsWalkEntry, IsExactFront}
 
--- A label as an entry of a front.
-abbrev pub entry_of : FrontEntry → FrontEntry
-entry_of x = record { vertex = x.vertex; offset = x.offset; work = x.work }
-
--- Labels as the entries of a front, in order.
-abbrev pub entries_of : List FrontEntry → List FrontEntry
-entries_of labels = map entry_of labels
-
 -- The labels stand in order, are exactly those that no other label of a walk due within the bound covers, and cover each such walk.
-pub record IsLabelFront (g : Digraph) (bound : ℕ) (labels : List FrontEntry) : Type 0 where
-  pub ordered : IsOrdered bound g (entries_of labels)
-  pub exact : IsExactFront bound g (entries_of labels)
-  pub covers : (e : FrontEntry) → IsWalkEntry g bound e → Any (Covers e.vertex e.offset e.work) (entries_of labels)
+pub record IsLabelFront (g : Digraph) (bound : ℕ) (front : List FrontEntry) : Type 0 where
+  pub ordered : IsOrdered bound g front
+  pub exact : IsExactFront bound g front
+  pub covers : (e : FrontEntry) → IsWalkEntry g bound e → Any (Covers e.vertex e.offset e.work) front
 
 -- Such a front for each graph, in order.
 abbrev pub AreLabelFronts : ℕ → List Digraph → List (List FrontEntry) → Type 0
@@ -29,10 +21,10 @@ AreLabelFronts bound (g ∷ graphs) [] = ⊥
 AreLabelFronts bound (g ∷ graphs) (f ∷ fronts) = IsLabelFront g bound f × AreLabelFronts bound graphs fronts
 
 -- A walk of the graph, as the list of its vertices, that is due by t and has all the demand of t; empty where there is none.
-pub record IsDemandWalk (g : Digraph) (labels : List FrontEntry) (t : ℕ) (walk : List ℕ) : Type 0 where
+pub record IsDemandWalk (g : Digraph) (front : List FrontEntry) (t : ℕ) (walk : List ℕ) : Type 0 where
   pub walk_is : IsWalk g walk
   pub due : due_of g walk ≤ t
-  pub all : work g walk ≡ dbf_at g labels t
+  pub all : work g walk ≡ dbf_at g front t
 
 -- The walk of task k in a list of them, one for each task; no walk past its end.
 abbrev pub walk_at : List (List ℕ) → ℕ → List ℕ

@@ -8,7 +8,8 @@ pub mod Searches
 pub mod Turns
 pub mod Nos
 pub mod Exclusions
-pub mod KeptNodes
+pub mod Falling
+pub mod DemandWalk
 pub mod Plain
 pub mod Bounded
 pub mod Ending

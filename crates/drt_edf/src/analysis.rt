@@ -36,11 +36,9 @@ pub fn analyse_edf(
     let proofs = ratios(alloc, graphs)?;
     let _count = graphs.count();
     match plan(graphs, proofs.as_slice()) {
-        Ok(Horizon::Under { bound }) => {
-            below_one(alloc, set, graphs, proofs.as_slice(), bound, budget)
-        }
+        Ok(Horizon::Under { bound }) => below_one(alloc, set, graphs, proofs, bound, budget),
         Ok(Horizon::One) => Ok(EdfAnswer::Done(Evidence::UtilisationOne {
-            ratios: claims_of(alloc, proofs.as_slice())?,
+            ratios: claims_of(alloc, proofs)?,
         })),
         Ok(Horizon::Over) => above_one(alloc, set, graphs, proofs.as_slice(), budget),
         Err(beyond) => Ok(EdfAnswer::Beyond(beyond)),

@@ -9,27 +9,27 @@ use drt_ratio::RatioProof;
 use std::alloc::Global;
 
 // The claim of one ratio.
-fn claim_of(alloc: Global, proof: &RatioProof) -> Result<RatioClaim, Memory>
-    requires num { proof.now.ratio.num ≤ 1000000000 }
-    requires den { proof.now.ratio.den ≤ 1000000000 }
-    ensures { IfOk result (λ claim. claim ≡ claim_of proof.now) }
+fn claim_of(proof: RatioProof) -> RatioClaim
+    requires num { proof.ratio.num ≤ 1000000000 }
+    requires den { proof.ratio.den ≤ 1000000000 }
+    ensures { result ≡ claim_of proof }
 {
-    Ok(RatioClaim {
+    RatioClaim {
         num: proof.ratio.num() as u64,
         den: proof.ratio.den() as u64,
-        cycle: Row::from_vec(Vec::from_slice(alloc, proof.cycle.as_slice())?),
-        potentials: Row::from_vec(Vec::from_slice(alloc, proof.potentials.as_slice())?),
-    })
+        cycle: proof.cycle,
+        potentials: proof.potentials,
+    }
 }
 
 /// The claims of the ratios of a set, in order.
-pub(crate) fn claims_of(alloc: Global, proofs: &[RatioProof]) -> Result<Row<RatioClaim>, Memory>
-    requires { AreSmall proofs.now }
-    ensures { IfOk result (λ claims. claims ≡ claims_of proofs.now) }
+pub(crate) fn claims_of(alloc: Global, proofs: Row<RatioProof>) -> Result<Row<RatioClaim>, Memory>
+    requires { AreSmall proofs }
+    ensures { IfOk result (λ claims. claims ≡ claims_of proofs) }
 {
     let mut claims = Vec::new(alloc);
-    'tasks: for i in 0..proofs.len() {
-        claims.push(claim_of(alloc, &proofs[i])?)?;
+    'tasks: for proof in proofs.into_vec() {
+        claims.push(claim_of(proof))?;
     }
     Ok(Row::from_vec(claims))
 }

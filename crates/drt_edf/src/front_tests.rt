@@ -7,7 +7,7 @@ use crate::fronts::front_of;
 use crate::walks::demand_walk;
 use drt_demand::DemandLabel;
 use drt_graph::{Graph, Graphs, check};
-use drt_model::{Edge, Memory, Name, Row, Task, Vertex, task_set};
+use drt_model::{Edge, FrontEntry, Memory, Name, Row, Task, Vertex, task_set};
 use drt_table::Table;
 use std::alloc::Global;
 use std::test::Fail;
@@ -65,12 +65,8 @@ fn searched(alloc: Global, graph: &Graph, bound: u64) -> Result<Table<DemandLabe
     Ok(table)
 }
 
-fn label(vertex: u32, offset: u64, work: u64) -> DemandLabel
-    requires offset { offset ≤ 1000 }
-    requires work { work ≤ 1000 }
-    ensures { result ≡ record { vertex = vertex; offset = offset; work = work } }
-{
-    DemandLabel {
+fn label(vertex: u32, offset: u64, work: u64) -> FrontEntry {
+    FrontEntry {
         vertex,
         offset,
         work,
@@ -109,7 +105,7 @@ fn fronts_have_the_undominated_labels_in_order(rt: HostRuntime) -> Result<(), Fa
         label(2, 2, 2),
         label(2, 4, 4),
     ];
-    let cases: [(Shape<'_>, u64, &[DemandLabel]); 4] = [
+    let cases: [(Shape<'_>, u64, &[FrontEntry]); 4] = [
         (RETURNING, 5, returning.as_slice()),
         (RETURNING, 4, near.as_slice()),
         (RETURNING, 0, &[]),
@@ -148,7 +144,8 @@ fn the_walk_of_a_time_has_all_of_its_demand(rt: HostRuntime) -> Result<(), Fail>
         let graphs = graphs(alloc, shape)?;
         let graph = graphs.graph(0);
         let table = searched(alloc, graph, 5)?;
-        let walk = demand_walk(alloc, graph, &table, t)?;
+        let front = front_of(alloc, graph, &table)?;
+        let walk = demand_walk(alloc, graph, front.as_slice(), t)?;
         assert_eq!(rt; walk.as_slice(), wanted);
     }
     Ok(())

@@ -20,7 +20,6 @@ mod ending_tests;
 #[cfg(test)]
 mod front_tests;
 mod fronts;
-mod kept;
 mod laws;
 #[cfg(test)]
 mod plain;

@@ -51,7 +51,9 @@ pub(crate) fn refusal(
     }
     let mut board = Board::start(alloc, set, Policy::Edf, releases.as_slice())?;
     board.run_until(t);
-    match board.first_miss() {
+    let missed = board.first_miss();
+    drop(board);
+    match missed {
         Some(miss) => Ok(Evidence::EdfNo {
             releases: Row::from_vec(releases),
             miss,

@@ -6,17 +6,18 @@ ghost use Rattle.drt_table.specs.Drive.{StopsAt};
 ghost use Rattle.drt_table.specs.View.{setting_of};
 ghost use Rattle.drt_demand.specs.Demand.{demand_algebra};
 
+use crate::fronts::front_of;
 use drt_demand::DemandLabel;
 use drt_graph::{Graph, Graphs};
-use drt_model::{Memory, Row};
+use drt_model::{FrontEntry, Memory, Row};
 use drt_table::{Entry, Table, TableReply, over_every_interleaving};
 use std::alloc::Global;
 
 /// How the searches of the tasks' walks ended.
 #[derive(Drop)]
 pub(crate) enum Searched {
-    /// Each is finished, in order of tasks.
-    Finished(Row<Table<DemandLabel>>),
+    /// Each is finished: their fronts, in order of tasks.
+    Finished(Row<Row<FrontEntry>>),
     /// The first that spent its budget, by its task and its steps.
     Spent { task: u32, log: Row<Entry> },
 }
@@ -38,7 +39,8 @@ fn search(
     table.drive(alloc, 0)
 }
 
-/// The searches of the walks of all tasks up to the bound, in ticks, each with this budget of steps.
+/// The searches of the walks of all tasks up to the bound, in ticks, each with this budget of steps. Each gives its front, and
+/// its table is dropped before the next one begins.
 pub(crate) fn searches(
     alloc: Global,
     graphs: &Graphs,
@@ -51,9 +53,10 @@ pub(crate) fn searches(
     ensures { IfOk result (AreSearches graphs.now bound budget) }
 {
     over_every_interleaving::<DemandLabel>();
-    let mut tables = Vec::new(alloc);
+    let mut fronts = Vec::new(alloc);
     'tasks: for task in 0..graphs.count() {
-        let (table, _reply) = search(alloc, graphs.graph(task), bound, budget)?;
+        let graph = graphs.graph(task);
+        let (table, _reply) = search(alloc, graph, bound, budget)?;
         if !table.finished() {
             let log = Vec::from_slice(alloc, table.log())?;
             return Ok(Searched::Spent {
@@ -61,7 +64,7 @@ pub(crate) fn searches(
                 log: Row::from_vec(log),
             });
         }
-        tables.push(table)?;
+        fronts.push(front_of(alloc, graph, &table)?)?;
     }
-    Ok(Searched::Finished(Row::from_vec(tables)))
+    Ok(Searched::Finished(Row::from_vec(fronts)))
 }

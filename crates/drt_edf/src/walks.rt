@@ -1,81 +1,150 @@
 //! The walk that has all the demand of a time.
-ghost use Rattle.std.specs.Prelude.{◌≡◌, ◌<◌, All, IfOk, IsTrue, List};
+ghost use Rattle.std.specs.Prelude.{◌≡◌, ℕ, ◌<◌, ◌↔◌, All, Contains, IfOk, IsTrue};
 ghost use Rattle.drt_model.specs.Digraph.{IsConstrainedGraph, vertex_count};
-ghost use Rattle.drt_model.specs.declared.front.FrontEntry.{FrontEntry};
-ghost use Rattle.drt_demand.specs.Demand.{demand_algebra};
-ghost use Rattle.drt_table.specs.Machine.{is_finished};
-ghost use Rattle.drt_table.specs.View.{setting_of, state_of};
-ghost use Rattle.drt_demand.specs.Dbf.{label_due};
-ghost use Rattle.drt_edf.specs.KeptNodes.{IsGreatestDue, better, work_so_far};
+ghost use Rattle.drt_model.specs.Legal.{AllNeighbours};
+ghost use Rattle.drt_evidence.specs.Fronts.{IsNextEntry};
+ghost use Rattle.drt_edf.specs.DemandWalk.{IsGreatestDue, IsOneBefore, IsPrefix, IsPrefixOf, IsWalkTo, is_below};
 ghost use Rattle.drt_edf.specs.LabelFronts.{IsLabelFront, IsDemandWalk};
 
-use crate::kept::{Kept, kept_nodes};
-use drt_demand::DemandLabel;
+use drt_demand::{dbf, is_due};
 use drt_graph::Graph;
-use drt_model::{Memory, Row};
-use drt_table::{Table, over_every_interleaving};
+use drt_model::{FrontEntry, Memory, Row};
 use std::alloc::Global;
 
-// The work of the node so far, and 0 where there is none.
-fn work_so_far(best: &Option<Kept>) -> u64
-    ensures { result ≡ work_so_far best.now }
+// An entry of the front that is due by `t` and has all the demand of `t`; none where that is 0.
+fn greatest_due(graph: &Graph, front: &[FrontEntry], t: u64) -> Option<FrontEntry>
+    requires { All (λ x. x.vertex < vertex_count graph.now) front.now }
+    ensures { IsGreatestDue graph.now front.now t result }
 {
-    match best {
-        Some(kept) => kept.label.work,
-        None => 0,
+    let demand = dbf(graph, front, t);
+    'entries: for i in 0..front.len() {
+        let entry = front[i];
+        if entry.work == demand && is_due(graph, entry, t) {
+            return Some(entry);
+        }
+    }
+    None
+}
+
+// Whether the entry stands below another place of a front.
+fn is_below(entry: &FrontEntry, vertex: u32, offset: u64) -> bool
+    ensures { result ≡ is_below entry.now vertex offset }
+{
+    entry.vertex < vertex || (entry.vertex == vertex && entry.offset < offset)
+}
+
+// Whether the entry stands in the front, found by halving it.
+fn contains(front: &[FrontEntry], entry: FrontEntry) -> bool
+    requires { AllNeighbours IsNextEntry front.now }
+    ensures { IsTrue result ↔ Contains front.now entry }
+{
+    let place = front.partition_point(|x| is_below(x, entry.vertex, entry.offset));
+    match front.get(place) {
+        Some(found) => *found == entry,
+        None => false,
     }
 }
 
-// The node of more work, of one so far and a new one, where the new one is due.
-fn better(best: Option<Kept>, entry: Kept, due: bool) -> Option<Kept>
-    ensures { result ≡ better best entry due }
+// What a walk that comes to the entry by an edge out of `u` has as its label before, where there is such an edge and so
+// much offset and work.
+fn one_before(graph: &Graph, entry: FrontEntry, u: u32) -> Option<FrontEntry>
+    requires vertex { u < vertex_count graph.now }
+    requires entry { entry.vertex < vertex_count graph.now }
+    ensures { IsOneBefore graph.now entry u result }
 {
-    let work = work_so_far(&best);
-    if due && work < entry.label.work {
-        return Some(entry);
+    let Some(sep) = graph.separation(u, entry.vertex) else {
+        return None;
+    };
+    let gap = u64::from(sep);
+    let wcet = u64::from(graph.vertex(entry.vertex).wcet);
+    if entry.offset < gap {
+        return None;
     }
-    best
-}
-
-// When the last job of the node's walk is due.
-fn due_of(graph: &Graph, entry: &Kept) -> u64
-    requires { entry.now.label.vertex < vertex_count graph.now }
-    ensures { result ≡ label_due graph.now entry.now.label }
-{
-    entry.label.offset + graph.vertex(entry.label.vertex).deadline as u64
-}
-
-// One of the nodes that is due by `t` and has all the demand of `t`; none where that is 0.
-fn greatest_due(graph: &Graph, kept: &[Kept], t: u64) -> Option<Kept>
-    requires { All (λ k. k.label.vertex < vertex_count graph.now) kept.now }
-    ensures { IsGreatestDue graph.now kept.now t result }
-{
-    let mut best: Option<Kept> = None;
-    'nodes: for i in 0..kept.len() {
-        let due = due_of(graph, &kept[i]);
-        best = better(best, kept[i], due <= t);
+    if entry.work < wcet {
+        return None;
     }
-    best
+    Some(FrontEntry {
+        vertex: u,
+        offset: entry.offset - gap,
+        work: entry.work - wcet,
+    })
 }
 
-/// A walk of the searched task that is due by `t` (in ticks, within the bound or not) and has all of its demand at `t`;
-/// empty where that is 0. The graph is the table's.
+// The entry of `u` in the front from which an edge leads to this one, if there is one.
+fn prefix_of(graph: &Graph, front: &[FrontEntry], entry: FrontEntry, u: u32) -> Option<FrontEntry>
+    requires vertex { u < vertex_count graph.now }
+    requires entry { entry.vertex < vertex_count graph.now }
+    requires ordered { AllNeighbours IsNextEntry front.now }
+    ensures { IsPrefixOf graph.now front.now entry u result }
+{
+    let Some(before) = one_before(graph, entry, u) else {
+        return None;
+    };
+    if contains(front, before) {
+        Some(before)
+    } else {
+        None
+    }
+}
+
+// An entry of the front from which an edge leads to this one, which isn't the label of a single vertex.
+fn predecessor(graph: &Graph, front: &[FrontEntry], entry: FrontEntry) -> FrontEntry
+    requires constrained { IsConstrainedGraph graph.now }
+    requires front { (bound : ℕ) × IsLabelFront graph.now bound front.now }
+    requires entry { Contains front.now entry }
+    requires later { 0 < entry.offset }
+    ensures there { Contains front.now result }
+    ensures before { IsPrefix graph.now result entry }
+{
+    let count = graph.vertex_count();
+    'vertices: for u in 0..count {
+        match prefix_of(graph, front, entry, u) {
+            Some(before) => return before,
+            None => (),
+        }
+    }
+    unreachable!()
+}
+
+// The walk whose label the entry of the front is.
+fn walk_to(
+    alloc: Global,
+    graph: &Graph,
+    front: &[FrontEntry],
+    last: FrontEntry,
+) -> Result<Row<u32>, Memory>
+    requires constrained { IsConstrainedGraph graph.now }
+    requires front { (bound : ℕ) × IsLabelFront graph.now bound front.now }
+    requires entry { Contains front.now last }
+    ensures { IfOk result (λ walk. IsWalkTo graph.now last walk) }
+{
+    let _count = graph.vertex_count();
+    let mut walk = Vec::new(alloc);
+    let mut entry = last;
+    walk.push(entry.vertex)?;
+    'steps: while entry.offset > 0 {
+        entry = predecessor(graph, front, entry);
+        walk.push(entry.vertex)?;
+    }
+    walk.reverse();
+    Ok(Row::from_vec(walk))
+}
+
+/// A walk of the task that is due by `t` (in ticks, within the bound or not) and has all of its demand at `t`; empty where that
+/// is 0. The front is that of all walks of the graph due within some bound.
 pub(crate) fn demand_walk(
     alloc: Global,
     graph: &Graph,
-    table: &Table<DemandLabel>,
+    front: &[FrontEntry],
     t: u64,
 ) -> Result<Row<u32>, Memory>
-    requires graph { graph.now ≡ table.now.graph }
-    requires finished { IsTrue (is_finished demand_algebra (setting_of table.now) (state_of table.now)) }
-    requires constrained { IsConstrainedGraph table.now.graph }
-    ensures { IfOk result (λ walk. (labels : List FrontEntry) → IsLabelFront table.now.graph table.now.bound labels → IsDemandWalk table.now.graph labels t walk) }
+    requires constrained { IsConstrainedGraph graph.now }
+    requires front { (bound : ℕ) × IsLabelFront graph.now bound front.now }
+    ensures { IfOk result (λ walk. IsDemandWalk graph.now front.now t walk) }
 {
-    let _log = table.log();
-    over_every_interleaving::<DemandLabel>();
-    let kept = kept_nodes(alloc, graph, table)?;
-    match greatest_due(graph, kept.as_slice(), t) {
-        Some(best) => table.walk(alloc, best.node),
+    let _count = graph.vertex_count();
+    match greatest_due(graph, front, t) {
+        Some(last) => walk_to(alloc, graph, front, last),
         None => Ok(Row::from_vec(Vec::new(alloc))),
     }
 }

@@ -1,8 +1,9 @@
 -- What a line says: the one value in range whose fields it is.
-use Rattle.std.specs.Prelude.{◌≡◌, ℕ, ◌≤◌, ℤ, List, [], ◌∷◌, ◌++◌, length, map, All, Option, Some, None, codes, decimal}
-use Rattle.std.specs.List.{join_with_byte, AllByRecursion}
+use Rattle.std.specs.Prelude.{◌≡◌, ℕ, ◌<◌, ◌≤◌, ℤ, true, slice_index, List, [], ◌∷◌, ◌++◌, length, map, All, Option, Some, None, codes, decimal}
+use Rattle.std.specs.List.{join_with_byte, AllByRecursion, list_all}
 use Rattle.std.specs.Prelude.{◌≢◌}
 use Rattle.std.specs.Fmt.{signed_decimal}
+use Rattle.drt_file.specs.trusted.Words.{is_digit}
 use Rattle.drt_model.specs.declared.jobs.Policy.{Policy}
 use Rattle.drt_evidence.specs.Fields.{behind}
 use Rattle.drt_evidence.specs.Ranges.{IsCounted}
@@ -42,6 +43,10 @@ HasNoSpace field = AllByRecursion (λ b. b ≢ 32) field
 -- The form of each value in range has no space.
 abbrev pub IsFieldForm : {A : Type 0} → (A → List ℕ) → (A → Type 0) → Type 0
 IsFieldForm {A} f P = (x : A) → P x → HasNoSpace (f x)
+
+-- Bytes are digits as a number has them: at least one, and a zero first only where it is alone.
+abbrev pub IsNumeral : List ℕ → Type 0
+IsNumeral ds = (0 < length ds) × (slice_index ds 0 ≡ 48 → length ds ≡ 1) × (list_all is_digit ds ≡ true)
 
 -- What stands behind a field, with the space before it, where there is one.
 abbrev pub spaced : Option (List ℕ) → List ℕ

@@ -11,8 +11,8 @@
 
 mod answers;
 mod constants;
-mod given;
 mod cycle_turns;
+mod given;
 mod laws;
 mod plans;
 mod scanning;
@@ -21,8 +21,8 @@ mod searching;
 mod tests;
 
 pub use answers::{Beyond, Horizon, Over};
-pub use given::ratios;
 pub use cycle_turns::CycleTurn;
+pub use given::ratios;
 pub use laws::{demands_within, horizon_holds, overload_has_a_time, search_ends, work_is_bounded};
 pub use plans::plan;
 pub use scanning::scan;

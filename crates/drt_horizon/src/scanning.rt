@@ -5,9 +5,8 @@ ghost use Rattle.drt_sweep.specs.DueWorks.{works_from, works_of};
 ghost use Rattle.drt_demand.specs.Dbf.{label_due};
 ghost use Rattle.drt_horizon.specs.Demands.{AreFronts, IsFront, IsLeastExcess};
 
-use drt_demand::DemandLabel;
 use drt_graph::{Graph, Graphs};
-use drt_model::{Memory, Row};
+use drt_model::{FrontEntry, Memory, Row};
 use drt_sweep::{DueWork, first_excess};
 use std::alloc::Global;
 
@@ -15,7 +14,7 @@ use std::alloc::Global;
 fn add_front(
     graph: &Graph,
     task: u32,
-    front: &[DemandLabel],
+    front: &[FrontEntry],
     works: &mut Vec<DueWork>,
 ) -> Result<(), Memory>
     requires { IsFront graph.now 1099511627776 front.now }
@@ -34,11 +33,7 @@ fn add_front(
 }
 
 // The works of all fronts.
-fn works(
-    alloc: Global,
-    graphs: &Graphs,
-    fronts: &[Row<DemandLabel>],
-) -> Result<Vec<DueWork>, Memory>
+fn works(alloc: Global, graphs: &Graphs, fronts: &[Row<FrontEntry>]) -> Result<Vec<DueWork>, Memory>
     requires { AreFronts 1099511627776 graphs.now fronts.now }
     ensures { IfOk result (λ out. out.items ≡ works_of label_due (λ x. x.work) 0 graphs.now fronts.now) }
 {
@@ -54,7 +49,7 @@ fn works(
 pub fn scan(
     alloc: Global,
     graphs: &Graphs,
-    fronts: &[Row<DemandLabel>],
+    fronts: &[Row<FrontEntry>],
     bound: u64,
 ) -> Result<Option<u64>, Memory>
     requires fronts { AreFronts bound graphs.now fronts.now }

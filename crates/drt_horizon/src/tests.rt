@@ -2,9 +2,8 @@ ghost use Rattle.std.specs.Prelude.{◌≤◌, IfOk};
 ghost use Rattle.drt_horizon.specs.Demands.{AreFronts, IsFront};
 
 use super::{Beyond, Horizon, Over, overload, plan, ratios, scan};
-use drt_demand::DemandLabel;
 use drt_graph::{Graph, Graphs, check};
-use drt_model::{Edge, Memory, Name, Row, Task, Vertex, task_set};
+use drt_model::{Edge, FrontEntry, Memory, Name, Row, Task, Vertex, task_set};
 use std::alloc::Global;
 use std::test::Fail;
 
@@ -157,7 +156,7 @@ fn front(
     task: u32,
     labels: &[(u32, u32, u64, u64)],
     bound: u64,
-) -> Result<Row<DemandLabel>, Fail>
+) -> Result<Row<FrontEntry>, Fail>
     requires { bound ≤ 1000 }
     ensures { IfOk result (λ front. IsFront graph.now bound front) }
 {
@@ -173,7 +172,7 @@ fn front(
         if *offset + graph.vertex(*vertex).deadline as u64 > bound {
             return Err("due past the bound".into());
         }
-        front.push(DemandLabel {
+        front.push(FrontEntry {
             vertex: *vertex,
             offset: *offset,
             work: *work,
@@ -188,7 +187,7 @@ fn fronts(
     graphs: &Graphs,
     labels: &[(u32, u32, u64, u64)],
     bound: u64,
-) -> Result<Row<Row<DemandLabel>>, Fail>
+) -> Result<Row<Row<FrontEntry>>, Fail>
     requires { bound ≤ 1000 }
     ensures { IfOk result (λ fronts. AreFronts bound graphs.now fronts) }
 {

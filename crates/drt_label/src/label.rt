@@ -14,8 +14,14 @@ use std::alloc::{AllocError as Memory, Global};
 /// Dominance of walks by their labels is that of Stigge, Ekberg, Guan and Yi, "The Digraph Real-Time Task Model"
 /// (RTAS 2011).
 pub trait Label: Sized + Send + Sync + Drop {
+    /// What a second handle of a label takes beside the label: nothing for a kind that is copied.
+    type Spare: Send + Sync + Drop;
+
     /// How labels are made, read and compared, as functions on values.
     ghost algebra: { Algebra Self };
+
+    /// The spare is one of the label.
+    ghost is_spare: { Self → Self.Spare → Type 0 };
 
     /// The label of the walk of one vertex: its number, its execution time in ticks, and the bound of the table.
     /// Its offset is 0.
@@ -31,6 +37,15 @@ pub trait Label: Sized + Send + Sync + Drop {
         requires sep { IsTime sep }
         requires wcet { IsTime wcet }
         ensures { IfOk result (λ label. label ≡ algebra.extend self.now sep target wcet) };
+
+    /// A spare of the label. It is made where memory may be taken, before the label is offered.
+    fn make_spare(&self, alloc: Global) -> Result<Self::Spare, Memory>
+        ensures { IfOk result (λ spare. is_spare self.now spare) };
+
+    /// The label once more, made of a spare of it. It takes no memory.
+    fn hand_out(&self, spare: Self::Spare) -> Self
+        requires { is_spare self.now spare }
+        ensures { result ≡ self.now };
 
     /// The last vertex of the walk.
     fn vertex(&self) -> u32

@@ -5,22 +5,23 @@ use Rattle.drt_model.specs.declared.jobs.Policy.{Policy}
 use Rattle.drt_model.specs.Trace.{job_at, pick}
 use Rattle.drt_replay.specs.Queue.{Held}
 use Rattle.drt_replay.specs.Board.{IsLeft, AreFinishes}
-use Rattle.drt_replay.specs.Events.{AreLater, IsCleared, IsFirstLeft, IsMoved, IsQueued}
+use Rattle.drt_replay.specs.declared.stretch.Stretch.{Stretch}
+use Rattle.drt_replay.specs.Events.{AreLater, IsCleared, IsFirstLeft, IsFrom, IsMoved, IsQueued}
 use Rattle.drt_replay.proofs.EventLemmas.{IsCalm, calm_up_to, jump_left, jump_finishes, idle_left, idle_finishes}
 use Rattle.drt_replay.proofs.BoardLemmas.{picked_in_range}
 use Rattle.drt_replay.proofs.PickLemmas.{queued_moved, queued_cleared, first_pick, no_pick, calm_before, queued_later, queued_idle}
 
-module _ (policy : Policy) (jobs : List Job) (now : ℕ) (lefts : List ℕ) (shown : IsLeft policy jobs now lefts) (w r w' r' : Held)
+module _ (policy : Policy) (jobs : List Job) (now : ℕ) (lefts : List ℕ) (shown : IsLeft policy jobs now lefts) (w : List Stretch) (r : Held) (w' : List Stretch) (r' : Held)
     (before : IsQueued policy jobs now lefts w r) (moved : IsMoved policy jobs now w r w' r') where
   -- the ready jobs' places
   pub ready_here : All (λ e. e.0.place < length lefts) r'.items
   ready_here k d h = (let ready = moved.readies k d h in omega (arith, ready.here, shown.as_many))
 
-  module _ (later : AreLater w'.items now) (r'' : Held) (cleared : IsCleared lefts r' r'') where
+  module _ (later : AreLater jobs w' now) (r'' : Held) (cleared : IsCleared lefts r' r'') where
     queued : IsQueued policy jobs now lefts w' r''
     queued = queued_cleared policy jobs now lefts w' r' r'' (queued_moved policy jobs now lefts w r w' r' before moved) cleared
 
-    module _ (needs : (j : ℕ) → j < length jobs → 1 ≤ (job_at jobs j).need) (next : ℕ) (soon : All (λ e. next ≤ e.0.first) w'.items) where
+    module _ (needs : (j : ℕ) → j < length jobs → 1 ≤ (job_at jobs j).need) (next : ℕ) (soon : All (IsFrom jobs next) w') where
       calm : (count : ℕ) → now + count ≤ next → IsCalm jobs now count
       calm count h = calm_up_to jobs now count next h (calm_before policy jobs now lefts w' r'' queued shown later next needs soon)
 
@@ -36,7 +37,8 @@ module _ (policy : Policy) (jobs : List Job) (now : ℕ) (lefts : List ℕ) (sho
           pub run_left : IsLeft policy jobs (now + count) (set lefts j (get_or lefts j 0 - count))
           run_left = jump_left policy jobs now lefts shown j count runs (calm count in_time) some enough
 
-          pub run_finishes : (ends : List (Option ℕ)) → AreFinishes policy jobs now ends → AreFinishes policy jobs (now + count) (cond (eqb (get_or lefts j 0) count) (set ends j (Some (now + count))) ends)
+          pub run_finishes : (ends : List ℕ) → AreFinishes policy jobs now lefts ends
+              → AreFinishes policy jobs (now + count) (set lefts j (get_or lefts j 0 - count)) (cond (eqb (get_or lefts j 0) count) (set ends j (now + count)) ends)
           run_finishes ends ok = jump_finishes policy jobs now lefts shown j count runs (calm count in_time) some enough ends ok
 
           pub run_queued : IsQueued policy jobs (now + count) (set lefts j (get_or lefts j 0 - count)) w' r''
@@ -53,8 +55,8 @@ module _ (policy : Policy) (jobs : List Job) (now : ℕ) (lefts : List ℕ) (sho
         pub rest_left : IsLeft policy jobs next lefts
         rest_left = subst (λ n. IsLeft policy jobs n lefts) distance (idle_left policy jobs now lefts shown (next - now) idle (calm (next - now) (omega arith)))
 
-        pub rest_finishes : (ends : List (Option ℕ)) → AreFinishes policy jobs now ends → AreFinishes policy jobs next ends
-        rest_finishes ends ok = subst (λ n. AreFinishes policy jobs n ends) distance (idle_finishes policy jobs now (next - now) ends ok idle (calm (next - now) (omega arith)))
+        pub rest_finishes : (ends : List ℕ) → AreFinishes policy jobs now lefts ends → AreFinishes policy jobs next lefts ends
+        rest_finishes ends ok = subst (λ n. AreFinishes policy jobs n lefts ends) distance (idle_finishes policy jobs now (next - now) lefts ends ok)
 
         pub rest_queued : IsQueued policy jobs next lefts w' r''
         rest_queued = queued_idle policy jobs now lefts w' r'' queued next (omega arith)

@@ -1,6 +1,6 @@
 -- What a board keeps at its start, and what it says of the job that a tick runs.
-use Rattle.std.proofs.Common.{◌≡◌, ℕ, ◌<◌, ◌≤◌, List, length, replicate, Option, Some, None, arith}
-use Rattle.std.proofs.lemmas.List.{get_or-map, length-map, get_or-replicate, length-replicate}
+use Rattle.std.proofs.Common.{◌≡◌, ℕ, ◌<◌, ◌≤◌, List, length, Option, Some, arith}
+use Rattle.std.proofs.lemmas.List.{get_or-map, length-map}
 use Rattle.drt_model.specs.declared.jobs.Job.{Job}
 use Rattle.drt_model.specs.declared.jobs.Policy.{Policy}
 use Rattle.drt_model.specs.Trace.{job_at, pick}
@@ -19,8 +19,8 @@ module _ (policy : Policy) (jobs : List Job) where
     each = λ j h. omega (arith, done-zero policy jobs j, get_or-map (λ job. job.need) jobs j (record { task = 0; priority = 0; time = 0; deadline = 0; need = 0 }) 0 h);
   }
 
-  pub finishes-start : ((j : ℕ) → j < length jobs → 1 ≤ (job_at jobs j).need) → AreFinishes policy jobs 0 (replicate (length jobs) None)
-  finishes-start h = record {
-    as_many = length-replicate (length jobs) None;
-    each = λ j l. rw (get_or-replicate {A = Option ℕ} (length jobs) j None None l) (omega (arith, done-zero policy jobs j, h j l));
+  pub finishes-start : ((j : ℕ) → j < length jobs → 1 ≤ (job_at jobs j).need) → (ends : List ℕ) → length ends ≡ length jobs → AreFinishes policy jobs 0 (needs_of jobs) ends
+  finishes-start h ends many = record {
+    as_many = many;
+    each = λ j l z. absurd (omega (arith, z, h j l, get_or-map (λ job. job.need) jobs j (record { task = 0; priority = 0; time = 0; deadline = 0; need = 0 }) 0 l));
   }

@@ -18,10 +18,9 @@ pub record IsRun (policy : Policy) (jobs : List Job) (n m j : ℕ) : Type 0 wher
   pub runs : (i : ℕ) → i ≤ m → done policy jobs j (n + i) ≡ done policy jobs j n + i
   pub others : (k : ℕ) → (j ≡ k → ⊥) → done policy jobs k (n + m) ≡ done policy jobs k n
 
--- a finish stays, and a job without one still lacks ticks
-later : (policy : Policy) (jobs : List Job) (n m k : ℕ) (o : Option ℕ) → IsFinishSoFar policy jobs n k o → (done policy jobs k n < (job_at jobs k).need → done policy jobs k (n + m) < (job_at jobs k).need) → IsFinishSoFar policy jobs (n + m) k o
-later policy jobs n m k None f h = h f
-later policy jobs n m k (Some x) f h = (f.0, omega arith)
+-- what is left and the finishes tell the finish so far
+pub finish_left : (policy : Policy) (jobs : List Job) (n : ℕ) (left ends : List ℕ) → IsLeft policy jobs n left → (j : ℕ) → j < length jobs → 0 < get_or left j 0 → IsFinishSoFar policy jobs n j None
+finish_left policy jobs n left ends shown j h some = omega (arith, shown.each j h)
 
 module _ (policy : Policy) (jobs : List Job) (n : ℕ) where
   module _ (j : ℕ) (e : pick policy jobs n ≡ Some j) (m : ℕ) (c : IsCalm jobs n m) (enough : done policy jobs j n + m ≤ (job_at jobs j).need) where
@@ -74,22 +73,27 @@ module _ (policy : Policy) (jobs : List Job) (n : ℕ) where
       ];
     }
 
-    module _ (ends : List (Option ℕ)) (ok : AreFinishes policy jobs n ends) where
+    module _ (ends : List ℕ) (ok : AreFinishes policy jobs n left ends) where
+      -- a job that has nothing left now had nothing left before, unless it is the one that ran
+      others_before : (k : ℕ) → (k ≡ j → ⊥) → get_or (set left j (get_or left j 0 - m)) k 0 ≡ 0 → get_or left k 0 ≡ 0
+      others_before k ne z = omega (arith, get_or-set_other left j k (get_or left j 0 - m) 0 ne, z)
+
       -- it isn't done yet
-      pub finishes-jump : m < get_or left j 0 → AreFinishes policy jobs (n + m) ends
+      pub finishes-jump : m < get_or left j 0 → AreFinishes policy jobs (n + m) (set left j (get_or left j 0 - m)) ends
       finishes-jump h = record {
         as_many = ok.as_many;
-        each = λ k l. later policy jobs n m k (get_or ends k None) (ok.each k l) (λ x. elim (cases_eq j k) [
-          | inl s ↦ subst (λ i. done policy jobs i (n + m) < (job_at jobs i).need) s (omega (arith, r.runs m (omega arith), shown.each j here))
-          | inr ne ↦ rw (r.others k ne) x
-        ]);
+        each = λ k l z. elim (cases_eq k j) [
+          | inl s ↦ absurd (let z' = subst (λ i. get_or (set left j (get_or left j 0 - m)) i 0 ≡ 0) s z in
+              omega (arith, get_or-set_same left j (get_or left j 0 - m) 0 (omega (arith, shown.as_many, here)), z'))
+          | inr ne ↦ (let (is, by) = ok.each k l (others_before k ne z) in (is, omega (arith, by)))
+        ];
       }
 
       -- it has had its need
-      pub finishes-end : 1 ≤ m → m ≡ get_or left j 0 → AreFinishes policy jobs (n + m) (set ends j (Some (n + m)))
+      pub finishes-end : 1 ≤ m → m ≡ get_or left j 0 → AreFinishes policy jobs (n + m) (set left j (get_or left j 0 - m)) (set ends j (n + m))
       finishes-end one h = record {
-        as_many = length-set ends j (Some (n + m)) ∙ ok.as_many;
-        each = λ k l. elim (cases_eq j k) [
+        as_many = length-set ends j (n + m) ∙ ok.as_many;
+        each = λ k l z. elim (cases_eq j k) [
           | inl s ↦
               (let e : n + (m - 1) + 1 ≡ n + m = omega arith in
               let before = r.runs (m - 1) (omega arith) in
@@ -98,9 +102,10 @@ module _ (policy : Policy) (jobs : List Job) (n : ℕ) where
                 reached = reached;
                 least = λ x d. elim (cases_lt x (n + m)) [ inr ge ↦ ge | inl lt ↦ absurd (omega (arith, done_mono_le policy jobs j x (n + (m - 1)) (omega arith), before, r.runs m (omega arith), reached, d)) ];
               } in
-              subst (λ i. IsFinishSoFar policy jobs (n + m) i (get_or (set ends j (Some (n + m))) i None)) s
-              (rw (get_or-set_same ends j (Some (n + m)) None (omega (arith, ok.as_many))) (finish, omega arith)))
-          | inr ne ↦ rw (get_or-set_other ends j k (Some (n + m)) None (λ s. ne (sym s))) (later policy jobs n m k (get_or ends k None) (ok.each k l) (λ x. rw (r.others k ne) x))
+              subst (λ i. IsFinish policy jobs i (get_or (set ends j (n + m)) i 0) × (get_or (set ends j (n + m)) i 0 ≤ n + m)) s
+              (rw (get_or-set_same ends j (n + m) 0 (omega (arith, ok.as_many))) (finish, omega arith)))
+          | inr ne ↦ rw (get_or-set_other ends j k (n + m) 0 (λ s. ne (sym s)))
+              (let (is, by) = ok.each k l (others_before k (λ s. ne (sym s)) z) in (is, omega (arith, by)))
         ];
       }
 
@@ -119,7 +124,8 @@ module _ (policy : Policy) (jobs : List Job) (n : ℕ) (left : List ℕ) (shown 
     pub jump_left : IsLeft policy jobs (n + m) (set left j (get_or left j 0 - m))
     jump_left = left-jump policy jobs n m j jump_run left shown jump_here enough
 
-    pub jump_finishes : (ends : List (Option ℕ)) → AreFinishes policy jobs n ends → AreFinishes policy jobs (n + m) (cond (eqb (get_or left j 0) m) (set ends j (Some (n + m))) ends)
+    pub jump_finishes : (ends : List ℕ) → AreFinishes policy jobs n left ends
+        → AreFinishes policy jobs (n + m) (set left j (get_or left j 0 - m)) (cond (eqb (get_or left j 0) m) (set ends j (n + m)) ends)
     jump_finishes ends ok = elim (cases_eq (get_or left j 0) m) [
       | inl l ↦ rw (eq-eqb (get_or left j 0) m l) (finishes-end policy jobs n m j jump_run left shown jump_here ends ok some (sym l))
       | inr ne ↦ rw (ne_eqb (get_or left j 0) m ne) (finishes-jump policy jobs n m j jump_run left shown jump_here ends ok (omega (arith, ne)))
@@ -128,8 +134,8 @@ module _ (policy : Policy) (jobs : List Job) (n : ℕ) (left : List ℕ) (shown 
   pub idle_left : (m : ℕ) → pick policy jobs n ≡ None → IsCalm jobs n m → IsLeft policy jobs (n + m) left
   idle_left m e c = record { as_many = shown.as_many; each = λ k h. rw (idle_done policy jobs n m e c k m (omega arith)) (shown.each k h) }
 
-pub idle_finishes : (policy : Policy) (jobs : List Job) (n m : ℕ) (ends : List (Option ℕ)) → AreFinishes policy jobs n ends → pick policy jobs n ≡ None → IsCalm jobs n m → AreFinishes policy jobs (n + m) ends
-idle_finishes policy jobs n m ends ok e c = record {
+pub idle_finishes : (policy : Policy) (jobs : List Job) (n m : ℕ) (left ends : List ℕ) → AreFinishes policy jobs n left ends → AreFinishes policy jobs (n + m) left ends
+idle_finishes policy jobs n m left ends ok = record {
   as_many = ok.as_many;
-  each = λ k h. later policy jobs n m k (get_or ends k None) (ok.each k h) (λ x. rw (idle_done policy jobs n m e c k m (omega arith)) x);
+  each = λ k h z. (let (is, by) = ok.each k h z in (is, omega (arith, by)));
 }

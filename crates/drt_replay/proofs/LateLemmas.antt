@@ -9,7 +9,7 @@ use Rattle.drt_model.specs.declared.jobs.Policy.{Policy}
 use Rattle.drt_model.specs.Trace.{job_at, done, Misses}
 use Rattle.drt_model.proofs.MachineLemmas.{done_mono_le, done-le-need}
 use Rattle.drt_model.specs.Misses.{index_of, miss_of, IsJob, IsLeastMiss}
-use Rattle.drt_replay.specs.Board.{Shown, AreFinishes, IsFinishSoFar, IsLate, IsLateBy, IsNoLaterAt, IsEarlier, IsFirstLate, IsNoLater, IsFirstMiss}
+use Rattle.drt_replay.specs.Board.{Shown, IsFinishSoFar, IsLate, IsLateBy, IsNoLaterAt, IsEarlier, IsFirstLate, IsNoLater, IsFirstMiss}
 
 late_by : (policy : Policy) (jobs : List Job) (ticks j : ℕ) (o : Option ℕ) → IsFinishSoFar policy jobs ticks j o → IsLateBy (job_at jobs j) o ticks → Misses policy jobs j
 late_by policy jobs ticks j None f h = omega (arith, f, done_mono_le policy jobs j (job_at jobs j).deadline ticks h.0)
@@ -37,25 +37,25 @@ FirstBelow shown j first =
 no_later-trans : (jobs : List Job) (a b c : ℕ) → IsNoLaterAt jobs a b → IsNoLaterAt jobs b c → IsNoLaterAt jobs a c
 no_later-trans jobs a b c h k = grind arith
 
-module _ (shown : Shown) (ends : List (Option ℕ)) (ok : AreFinishes shown.policy shown.jobs shown.ticks ends) (j : ℕ) (h : j < length shown.jobs) where
-  is_late_if : IsLateBy (job_at shown.jobs j) (get_or ends j None) shown.ticks → IsLate shown j
-  is_late_if l = (h, late_by shown.policy shown.jobs shown.ticks j (get_or ends j None) (ok.each j h) l, l.0)
+module _ (shown : Shown) (j : ℕ) (h : j < length shown.jobs) (finish : Option ℕ) (ok : IsFinishSoFar shown.policy shown.jobs shown.ticks j finish) where
+  is_late_if : IsLateBy (job_at shown.jobs j) finish shown.ticks → IsLate shown j
+  is_late_if l = (h, late_by shown.policy shown.jobs shown.ticks j finish ok l, l.0)
 
-  pub below-more : (first : Option ℕ) → FirstBelow shown j first → (IsLateBy (job_at shown.jobs j) (get_or ends j None) shown.ticks → ⊥) → FirstBelow shown (j + 1) first
+  pub below-more : (first : Option ℕ) → FirstBelow shown j first → (IsLateBy (job_at shown.jobs j) finish shown.ticks → ⊥) → FirstBelow shown (j + 1) first
   below-more None f not_late = λ k l late. elim (cases_eq k j) [
-    | inl e ↦ not_late (let at_j = subst (IsLate shown) e late in late_by_from shown.policy shown.jobs shown.ticks j (get_or ends j None) (ok.each j h) at_j.1 at_j.2)
+    | inl e ↦ not_late (let at_j = subst (IsLate shown) e late in late_by_from shown.policy shown.jobs shown.ticks j finish ok at_j.1 at_j.2)
     | inr ne ↦ f k (omega arith) late
   ]
   below-more (Some b) f not_late = (
     omega (arith, f.0),
     f.1,
     λ k l late. elim (cases_eq k j) [
-      | inl e ↦ absurd (not_late (let at_j = subst (IsLate shown) e late in late_by_from shown.policy shown.jobs shown.ticks j (get_or ends j None) (ok.each j h) at_j.1 at_j.2))
+      | inl e ↦ absurd (not_late (let at_j = subst (IsLate shown) e late in late_by_from shown.policy shown.jobs shown.ticks j finish ok at_j.1 at_j.2))
       | inr ne ↦ f.2 k (omega arith) late
     ],
   )
 
-  pub below-late : (first : Option ℕ) (r : ℕ) → FirstBelow shown j first → IsLateBy (job_at shown.jobs j) (get_or ends j None) shown.ticks → MatchOption first (r ≡ j) (λ k. IsEarlier shown.jobs k j r) → FirstBelow shown (j + 1) (Some r)
+  pub below-late : (first : Option ℕ) (r : ℕ) → FirstBelow shown j first → IsLateBy (job_at shown.jobs j) finish shown.ticks → MatchOption first (r ≡ j) (λ k. IsEarlier shown.jobs k j r) → FirstBelow shown (j + 1) (Some r)
   below-late None r f l e = (
     omega arith,
     subst (IsLate shown) (sym e) (is_late_if l),

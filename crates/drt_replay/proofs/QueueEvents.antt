@@ -1,4 +1,4 @@
--- The queues from event to event.
+-- The queue of the ready jobs: its keys, and what leaves it.
 use Rattle.std.proofs.Common.{inl, inr, ◌⊎◌, ◌≡◌, ℕ, zero, suc, ◌+◌, ◌<◌, ◌≤◌, Bool, true, false, ◌&&◌, ◌||◌, eqb, ltb, leb, List, [], ◌∷◌, length, get_or, All, Contains, IsPermutation, Option, Some, None, MatchOption, refl, sym, ap, ◌∙◌, subst, arith}
 use Rattle.std.specs.Bool.{MatchBool}
 use Rattle.std.specs.declared.cmp.Reverse.{Reverse}
@@ -12,7 +12,7 @@ use Rattle.drt_model.specs.declared.jobs.Policy.TheVariants.{Edf, Fixed}
 use Rattle.drt_model.specs.Trace.{job_at}
 use Rattle.drt_replay.specs.declared.queue.Key.{Key}
 use Rattle.drt_replay.specs.Queue.{Held, IsFirst, IsPopped, entry, is_less}
-use Rattle.drt_replay.specs.Events.{AreLater, HasDue, IsCleared, IsMoved, IsQueued, IsReady, IsWaiting, AreWaiting, ready_key, waiting_key}
+use Rattle.drt_replay.specs.Events.{IsCleared, IsReady, ready_key}
 
 -- an element of a list of one more
 Contains-cons_cases : {X : Type 0} (y : X) (ys : List X) (x : X) → Contains (y ∷ ys) x → (y ≡ x) ⊎ Contains ys x
@@ -61,72 +61,10 @@ module _ (items : List (Reverse Key)) where
   first_one : (a b : Key) → IsFirst items a → IsFirst items b → a ≡ b
   first_one a b f g = same_key a b (first_at b g a f.member) (first_at a f b g.member)
 
-  -- no first number is less than that of the first key
-  pub first_least : (k : Key) → IsFirst items k → All (λ r. k.first ≤ r.0.first) items
-  first_least k f i d h = not_less (get_or items i d).0 k (f.first i d h)
-
-  pub due_or_later : (k : Key) (now : ℕ) → IsFirst items k → MatchBool (leb k.first now) (HasDue items now) (AreLater items now)
-  due_or_later k now f = elim (cases_lt now k.first) [
-    | inl later ↦ rw (lt-leb k.first now later) (λ i d h. (let l = first_least k f i d h in omega arith))
-    | inr due ↦ rw (le-leb k.first now due) (record { key = k; first = f; due = due })
-  ]
-
-  pub next_least : (k : Key) (n : ℕ) → IsFirst items k → n ≤ k.first → All (λ r. n ≤ r.0.first) items
-  next_least k n f h i d l = (let least = first_least k f i d l in omega arith)
-
 -- the key of a released job
 pub is_ready : (policy : Policy) (jobs : List Job) (now j : ℕ) → j < length jobs → (job_at jobs j).time ≤ now → IsReady policy jobs now (ready_key policy jobs j)
 is_ready Edf jobs now j h t = record { here = h; is = refl; released = t }
 is_ready Fixed jobs now j h t = record { here = h; is = refl; released = t }
-
-module _ (policy : Policy) (jobs : List Job) (now : ℕ) where
-  pub moved_none : (w r : Held) → All (λ e. IsWaiting jobs e.0) w.items → All (λ e. IsReady policy jobs now e.0) r.items → length w.items + length r.items ≤ r.room → IsMoved policy jobs now w r w r
-  moved_none w r waits readies room = record { waited = λ j c. inl c; stayed = λ k c. c; waits = waits; readies = readies; room = room }
-
-  pub moved_more : (a b w r w' r' : Held) → IsMoved policy jobs now a b w r → IsMoved policy jobs now w r w' r' → IsMoved policy jobs now a b w' r'
-  moved_more a b w r w' r' m n = record {
-    waited = λ j c. elim (m.waited j c) [ inl x ↦ n.waited j x | inr x ↦ inr (n.stayed (ready_key policy jobs j) x) ];
-    stayed = λ k c. n.stayed k (m.stayed k c);
-    waits = n.waits;
-    readies = n.readies;
-    room = n.room;
-  }
-
-  module _ (w r w' r' : Held) (key : Key) (popped : IsPopped w w' key) (pushed : IsPermutation (entry (ready_key policy jobs key.place) ∷ r.items) r'.items) (due : HasDue w.items now)
-      (waits : All (λ e. IsWaiting jobs e.0) w.items) (readies : All (λ e. IsReady policy jobs now e.0) r.items) (room : length w.items + length r.items ≤ r.room) (larger : r.room ≤ r'.room) where
-    key_waits : IsWaiting jobs key
-    key_waits = All-contains (λ e. IsWaiting jobs e.0) w.items (entry key) waits popped.first.member
-
-    key_due : (job_at jobs key.place).time ≤ now
-    key_due =
-        let low = not_less due.key key (first_at w.items key popped.first due.key due.first.member) in
-        let is = ap (λ k. k.first) key_waits.is in
-        omega (arith, low, is, due.due)
-
-    fewer : length w.items ≡ length w'.items + 1
-    fewer = omega (arith, length_permutation w.items (entry key ∷ w'.items) popped.rest)
-
-    more : length r'.items ≡ length r.items + 1
-    more = omega (arith, length_permutation (entry (ready_key policy jobs key.place) ∷ r.items) r'.items pushed)
-
-    now_ready : Contains r'.items (entry (ready_key policy jobs key.place))
-    now_ready = Contains-permutation (entry (ready_key policy jobs key.place) ∷ r.items) r'.items (entry (ready_key policy jobs key.place)) pushed (Contains-here (entry (ready_key policy jobs key.place)) r.items)
-
-    pub moved_first : IsMoved policy jobs now w r w' r'
-    moved_first = record {
-      waited = λ j c. elim (Contains-cons_cases (entry key) w'.items (entry (waiting_key jobs j)) (Contains-permutation w.items (entry key ∷ w'.items) (entry (waiting_key jobs j)) popped.rest c)) [
-        | inr c ↦ inl c
-        | inl e ↦ inr (subst (λ i. Contains r'.items (entry (ready_key policy jobs i))) (ap (λ x. x.0.place) e) now_ready)
-      ];
-      stayed = λ k c. Contains-permutation (entry (ready_key policy jobs key.place) ∷ r.items) r'.items (entry k) pushed (Contains-later (entry (ready_key policy jobs key.place)) r.items (entry k) c);
-      waits = All-tail (λ e. IsWaiting jobs e.0) (entry key) w'.items (All-permutation (λ e. IsWaiting jobs e.0) w.items (entry key ∷ w'.items) popped.rest waits);
-      readies = All-permutation (λ e. IsReady policy jobs now e.0) (entry (ready_key policy jobs key.place) ∷ r.items) r'.items pushed
-          (All-cons (λ e. IsReady policy jobs now e.0) (entry (ready_key policy jobs key.place)) r.items (is_ready policy jobs now key.place key_waits.here key_due) readies);
-      room = omega (arith, fewer, more);
-    }
-
-    pub fewer_wait : length w'.items < length w.items
-    fewer_wait = omega (arith, fewer)
 
 -- what `pop` gives, whatever it is
 module _ (lefts : List ℕ) (old mid new : Held) (cleared : IsCleared lefts old mid) (key : Key) (first : IsFirst mid.items key) (over : get_or lefts key.place 0 ≡ 0) where
@@ -159,34 +97,3 @@ cleared_none lefts queue = record { kept = λ k c. inl c; among = λ k c. c; few
 
 pub cleared_here : (lefts : List ℕ) (old mid : Held) (n : ℕ) → IsCleared lefts old mid → All (λ r. r.0.place < n) old.items → (key : Key) → IsFirst mid.items key → key.place < n
 cleared_here lefts old mid n cleared all key first = All-contains (λ r. r.0.place < n) old.items (entry key) all (cleared.among key first.member)
-
--- one job more waits
-pub waiting_none : (jobs : List Job) (room : ℕ) → length jobs ≤ room → AreWaiting jobs 0 (record { items = []; room = room })
-waiting_none jobs room h = record {
-  waits = λ k d l. absurd (omega arith);
-  each = λ j l. absurd (omega arith);
-  many = refl;
-  room = h;
-}
-
-pub waiting_more : (jobs : List Job) (j : ℕ) (old new : Held) → j < length jobs → AreWaiting jobs j old → IsPermutation (entry (waiting_key jobs j) ∷ old.items) new.items → old.room ≤ new.room → AreWaiting jobs (j + 1) new
-waiting_more jobs j old new h a p larger =
-    let e = entry (waiting_key jobs j) in
-    record {
-      waits = All-permutation (λ r. IsWaiting jobs r.0) (e ∷ old.items) new.items p (All-cons (λ r. IsWaiting jobs r.0) e old.items (record { here = h; is = refl }) a.waits);
-      each = λ k l. Contains-permutation (e ∷ old.items) new.items (entry (waiting_key jobs k)) p (elim (cases_eq k j) [
-        | inl s ↦ subst (λ i. Contains (e ∷ old.items) (entry (waiting_key jobs i))) (sym s) (Contains-here e old.items)
-        | inr ne ↦ Contains-later e old.items (entry (waiting_key jobs k)) (a.each k (omega arith))
-      ]);
-      many = omega (arith, length_permutation (e ∷ old.items) new.items p, a.many);
-      room = omega (arith, a.room);
-    }
-
--- at the start each job waits, and none is ready
-pub queued-start : (policy : Policy) (jobs : List Job) (lefts : List ℕ) (waiting : Held) (room : ℕ) → AreWaiting jobs (length jobs) waiting → length jobs ≤ room → IsQueued policy jobs 0 lefts waiting (record { items = []; room = room })
-queued-start policy jobs lefts waiting room a h = record {
-  waits = a.waits;
-  readies = λ k d l. absurd (omega arith);
-  each = λ j l. inl (a.each j l);
-  room = omega (arith, a.many);
-}

@@ -1,10 +1,11 @@
 -- What a board shows.
-use Rattle.std.specs.Prelude.{◌≡◌, ℕ, ◌+◌, ◌^◌, ◌<◌, ◌≤◌, ◌⊎◌, List, length, IfSome, map, Option, None, Some, slice_index, slice_index_or}
+use Rattle.std.specs.Prelude.{◌≡◌, ℕ, ◌+◌, ◌^◌, ◌<◌, ◌≤◌, ◌⊎◌, List, length, IfSome, map, Option, None, Some, slice_index}
 use Rattle.drt_model.specs.declared.jobs.Job.{Job}
 use Rattle.drt_model.specs.declared.jobs.Policy.{Policy}
 use Rattle.drt_model.specs.declared.jobs.Miss.{Miss}
 use Rattle.drt_model.specs.Trace.{job_at, done, Misses, IsFinish}
 use Rattle.drt_model.specs.Misses.{miss_of}
+use Rattle.drt_replay.specs.declared.stretch.Stretch.{Stretch}
 use Rattle.drt_replay.specs.Queue.{Held}
 use Rattle.drt_replay.specs.Events.{IsQueued}
 
@@ -24,21 +25,21 @@ abbrev pub IsFinishSoFar : Policy → List Job → ℕ → ℕ → Option ℕ �
 IsFinishSoFar policy jobs ticks j None = done policy jobs j ticks < (job_at jobs j).need
 IsFinishSoFar policy jobs ticks j (Some n) = IsFinish policy jobs j n × (n ≤ ticks)
 
--- The list has the finish of each job so far.
-pub record AreFinishes (policy : Policy) (jobs : List Job) (ticks : ℕ) (ends : List (Option ℕ)) : Type 0 where
+-- The list has the finish of each job with nothing left.
+pub record AreFinishes (policy : Policy) (jobs : List Job) (ticks : ℕ) (left ends : List ℕ) : Type 0 where
   pub as_many : length ends ≡ length jobs
-  pub each : (j : ℕ) → j < length jobs → IsFinishSoFar policy jobs ticks j (slice_index_or ends j None)
+  pub each : (j : ℕ) → j < length jobs → slice_index left j ≡ 0 → IsFinish policy jobs j (slice_index ends j) × (slice_index ends j ≤ ticks)
 
 -- The needs of some jobs.
 abbrev pub needs_of : List Job → List ℕ
 needs_of jobs = map (λ job. job.need) jobs
 
 -- What a board keeps beside what it shows: what is left of each need, the finishes, and the queues.
-pub record IsKept (shown : Shown) (lefts : List ℕ) (ends : List (Option ℕ)) (waiting ready : Held) : Type 0 where
+pub record IsKept (shown : Shown) (lefts ends : List ℕ) (waiting : List Stretch) (ready : Held) : Type 0 where
   pub few : length shown.jobs < 2 ^ 32
   pub needs : (j : ℕ) → j < length shown.jobs → 1 ≤ (job_at shown.jobs j).need
   pub left : IsLeft shown.policy shown.jobs shown.ticks lefts
-  pub finishes : AreFinishes shown.policy shown.jobs shown.ticks ends
+  pub finishes : AreFinishes shown.policy shown.jobs shown.ticks lefts ends
   pub queued : IsQueued shown.policy shown.jobs shown.ticks lefts waiting ready
 
 -- The job at place j is late by now: its deadline has come, and it misses.

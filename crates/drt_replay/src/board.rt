@@ -5,58 +5,60 @@ ghost use Rattle.drt_model.specs.Misses.{IsJob, IsLeastMiss};
 ghost use Rattle.drt_model.specs.Schedulable.{jobs_of};
 
 use crate::events::advance;
+use crate::jobs::Jobs;
 use crate::late::{earlier, index_of, is_late, place_of};
-use crate::made;
+use crate::made::{all_waiting, no_finishes};
 use crate::queue::Queue;
-use drt_model::{Job, Memory, Miss, Policy, Release, TaskSet};
+use crate::stretch::Stretch;
+use drt_model::{Memory, Miss, Policy, Release, TaskSet};
 use std::alloc::Global;
 use std::marker::Model;
 
 /// The tick machine on one list of jobs. Contracts see the policy, the jobs and how many ticks have run.
 ///
-/// It keeps what is left of each need, the finishes so far, the jobs that wait for their release in order
-/// of times, and the released ones in order of the policy.
+/// It borrows the set and the releases, and makes each job where it needs it. It keeps what is left of each need, the finishes of
+/// the jobs with nothing left, the stretches of jobs that wait for their release, and the released ones in order of the policy.
 #[derive(Drop)]
-pub struct Board {
+pub struct Board<'a> {
     policy: Policy,
-    jobs: Vec<Job>,
+    jobs: Jobs<'a>,
     left: Vec<u64>,
-    finishes: Vec<Option<u64>>,
-    waiting: Queue,
+    finishes: Vec<u64>,
+    waiting: Vec<Stretch>,
     ready: Queue,
     ticks: u64,
 }
 
-impl Model for Board {
+impl<'a> Model for Board<'a> {
     ghost use Rattle.drt_replay.specs.Board.{Shown, IsKept};
 
     ghost Value = { Shown };
 
-    ghost view = { λ b. record { policy = b.policy; jobs = b.jobs.items; ticks = b.ticks } };
+    ghost view = { λ b. record { policy = b.policy; jobs = b.jobs; ticks = b.ticks } };
 
-    ghost invariant = { λ b. IsKept (record { policy = b.policy; jobs = b.jobs.items; ticks = b.ticks }) b.left.items b.finishes.items b.waiting b.ready };
+    ghost invariant = { λ b. IsKept (record { policy = b.policy; jobs = b.jobs; ticks = b.ticks }) b.left.items b.finishes.items b.waiting.items b.ready };
 }
 
-impl Board {
+impl<'a> Board<'a> {
     ghost use Rattle.drt_replay.specs.Board.{IsLate, IsFirstLate, IsFirstMiss, IsFinishSoFar};
 
     /// A board on which no tick has run. The releases are legal, at times of at most 10^18 ticks.
     pub fn start(
         alloc: Global,
-        set: &TaskSet,
+        set: &'a TaskSet,
         policy: Policy,
-        releases: &[Release],
-    ) -> Result<Board, Memory>
+        releases: &'a [Release],
+    ) -> Result<Board<'a>, Memory>
         requires legal { IsLegal set.now.tasks releases.now }
         requires times { All (λ r. r.time ≤ 10 ^ 18) releases.now }
         requires few { length releases.now < 2 ^ 32 }
         ensures { IfOk result (λ board. board ≡ record { policy = policy; jobs = jobs_of set.now.tasks releases.now; ticks = 0 }) }
     {
-        let jobs = made::jobs_of(alloc, set.tasks(), releases)?;
-        let left = made::needs_of(alloc, &jobs)?;
-        let finishes = made::no_finishes(alloc, &jobs)?;
-        let waiting = made::all_waiting(alloc, &jobs)?;
-        let ready = Queue::with_room(alloc, jobs.len())?;
+        let jobs = Jobs::of(set.tasks(), releases);
+        let left = jobs.needs(alloc)?;
+        let finishes = no_finishes(alloc, jobs.count())?;
+        let waiting = all_waiting(alloc, &jobs)?;
+        let ready = Queue::with_room(alloc, jobs.count())?;
         Ok(Board {
             policy,
             jobs,
@@ -105,9 +107,9 @@ impl Board {
     {
         match self.first_late() {
             Some(j) => Some(Miss {
-                task: self.jobs[j].task,
+                task: self.jobs.task(j),
                 index: index_of(&self.jobs, j) as u32,
-                deadline: self.jobs[j].deadline,
+                deadline: self.jobs.job(j).deadline,
             }),
             None => None,
         }
@@ -118,18 +120,28 @@ impl Board {
         requires { (j : ℕ) × IsJob self.now.jobs task index j }
         ensures { (j : ℕ) → IsJob self.now.jobs task index j → IsFinishSoFar self.now.policy self.now.jobs self.now.ticks j result }
     {
-        self.finishes[place_of(&self.jobs, task, index)]
+        self.finish_at(place_of(&self.jobs, task, index))
+    }
+
+    // After how many ticks the job at a place had its need; none while it lacks ticks.
+    fn finish_at(&self, j: usize) -> Option<u64>
+        requires { j < length self.now.jobs }
+        ensures { IsFinishSoFar self.now.policy self.now.jobs self.now.ticks j result }
+    {
+        if self.left[j] > 0 {
+            return None;
+        }
+        Some(self.finishes[j])
     }
 
     // The place of the first job that is late by now.
     fn first_late(&self) -> Option<usize>
         ensures { MatchOption result ((j : ℕ) → IsLate self.now j → ⊥) (IsFirstLate self.now) }
     {
-        let jobs = self.jobs.as_slice();
         let mut first = None;
-        for j in 0..jobs.len() {
-            if is_late(jobs[j], self.finishes[j], self.ticks) {
-                first = Some(earlier(jobs, first, j));
+        for j in 0..self.jobs.count() {
+            if is_late(self.jobs.job(j), self.finish_at(j), self.ticks) {
+                first = Some(earlier(&self.jobs, first, j));
             }
         }
         first

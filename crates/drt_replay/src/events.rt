@@ -1,20 +1,22 @@
 //! From event to event: many ticks at once.
-ghost use Rattle.std.specs.Prelude.{◌≡◌, ℕ, ◌+◌, ◌-◌, ◌^◌, ◌<◌, ◌≤◌, ◌==◌, if◌then◌else◌, [], All, MatchOption, Some, length, slice_index, slice_set};
+ghost use Rattle.std.specs.Prelude.{◌≡◌, ℕ, ◌+◌, ◌-◌, ◌^◌, ◌<◌, ◌≤◌, ◌==◌, if◌then◌else◌, [], All, MatchOption, length, slice_index, slice_set};
 ghost use Rattle.std.specs.Bool.{MatchBool};
 ghost use Rattle.drt_model.specs.Trace.{job_at};
 ghost use Rattle.drt_replay.specs.Board.{IsLeft, AreFinishes};
-ghost use Rattle.drt_replay.specs.Events.{AreLater, HasDue, IsCleared, IsFirstLeft, IsMoved, IsQueued, IsReady, IsWaiting, ready_key, waiting_key};
+ghost use Rattle.drt_replay.specs.Events.{AreLater, IsCleared, IsFirstLeft, IsFrom, IsLater, IsMoved, IsQueued, IsReady, IsReleased, IsStretch, count_of, ready_key};
 
+use crate::jobs::Jobs;
 use crate::queue::{Key, Queue};
-use drt_model::{Job, Policy};
+use crate::stretch::Stretch;
+use drt_model::Policy;
 
 /// Runs ticks up to the next event, at most until `t` have run, and says how many have.
 pub fn advance(
     policy: Policy,
-    jobs: &[Job],
+    jobs: &Jobs,
     left: &mut [u64],
-    finishes: &mut [Option<u64>],
-    waiting: &mut Queue,
+    finishes: &mut [u64],
+    waiting: &mut [Stretch],
     ready: &mut Queue,
     ticks: u64,
     t: u64,
@@ -22,16 +24,16 @@ pub fn advance(
     requires ahead { ticks < t }
     requires needs { (j : ℕ) → j < length jobs.now → 1 ≤ (job_at jobs.now j).need }
     requires left { IsLeft policy jobs.now ticks left.old }
-    requires finishes { AreFinishes policy jobs.now ticks finishes.old }
+    requires finishes { AreFinishes policy jobs.now ticks left.old finishes.old }
     requires queued { IsQueued policy jobs.now ticks left.old waiting.old ready.old }
     ensures forward { ticks < result }
     ensures in_time { result ≤ t }
     ensures left { IsLeft policy jobs.now result left.new }
-    ensures finishes { AreFinishes policy jobs.now result finishes.new }
+    ensures finishes { AreFinishes policy jobs.now result left.new finishes.new }
     ensures queued { IsQueued policy jobs.now result left.new waiting.new ready.new }
 {
     release(policy, jobs, waiting, ready, ticks);
-    let next = next_release(waiting, ticks, t);
+    let next = next_release(jobs, waiting, ticks, t);
     match first_ready(ready, left) {
         Some(j) => {
             let count = run_job(left, finishes, j, ticks, next);
@@ -42,62 +44,47 @@ pub fn advance(
 }
 
 // Moves the jobs that are released by `now` from the waiting to the ready.
-fn release(policy: Policy, jobs: &[Job], waiting: &mut Queue, ready: &mut Queue, now: u64)
-    requires waits { All (λ r. IsWaiting jobs.now r.0) waiting.old.items }
+fn release(policy: Policy, jobs: &Jobs, waiting: &mut [Stretch], ready: &mut Queue, now: u64)
+    requires waits { All (IsStretch jobs.now) waiting.old }
     requires readies { All (λ r. IsReady policy jobs.now now r.0) ready.old.items }
-    requires room { length waiting.old.items + length ready.old.items ≤ ready.old.room }
+    requires room { count_of waiting.old + length ready.old.items ≤ ready.old.room }
     ensures moved { IsMoved policy jobs.now now waiting.old ready.old waiting.new ready.new }
-    ensures later { AreLater waiting.new.items now }
+    ensures later { AreLater jobs.now waiting.new now }
 {
-    while is_due(waiting, now) {
-        release_first(policy, jobs, waiting, ready, now);
+    for i in 0..waiting.len() {
+        waiting[i] = release_from(policy, jobs, waiting[i], ready, now);
     }
 }
 
-// Moves the job that waits first to the ready.
-fn release_first(policy: Policy, jobs: &[Job], waiting: &mut Queue, ready: &mut Queue, now: u64)
-    requires due { HasDue waiting.old.items now }
-    requires waits { All (λ r. IsWaiting jobs.now r.0) waiting.old.items }
+// Moves the jobs of a stretch that are released by `now` to the ready, and answers with what waits on.
+fn release_from(
+    policy: Policy,
+    jobs: &Jobs,
+    stretch: Stretch,
+    ready: &mut Queue,
+    now: u64,
+) -> Stretch
+    requires waits { IsStretch jobs.now stretch }
     requires readies { All (λ r. IsReady policy jobs.now now r.0) ready.old.items }
-    requires room { length waiting.old.items + length ready.old.items ≤ ready.old.room }
-    ensures moved { IsMoved policy jobs.now now waiting.old ready.old waiting.new ready.new }
-    ensures fewer { length waiting.new.items < length waiting.old.items }
+    requires room { stretch.end - stretch.next + length ready.old.items ≤ ready.old.room }
+    ensures moved { IsReleased policy jobs.now now stretch ready.old result ready.new }
+    ensures later { IsLater jobs.now now result }
 {
-    match waiting.pop() {
-        Some(entry) => ready.push(ready_key(policy, jobs, entry.0.place)),
-        None => unreachable!(),
+    let end = stretch.end;
+    let mut next = stretch.next;
+    while next < end && jobs.time(next) <= now {
+        ready.push(ready_key(policy, jobs, next));
+        next += 1;
     }
-}
-
-// Whether the job that waits first is released by `now`.
-fn is_due(waiting: &Queue, now: u64) -> bool
-    ensures { MatchBool result (HasDue waiting.now.items now) (AreLater waiting.now.items now) }
-{
-    match waiting.first() {
-        Some(entry) => entry.0.first <= now,
-        None => false,
-    }
-}
-
-/// The key by which a job waits for its release: its time.
-pub fn waiting_key(jobs: &[Job], j: usize) -> Key
-    requires { j < length jobs.now }
-    ensures { result ≡ waiting_key jobs.now j }
-{
-    Key {
-        first: jobs[j].time,
-        second: 0,
-        third: 0,
-        place: j,
-    }
+    Stretch { next, end }
 }
 
 /// The key of a released job: its rank under the policy.
-pub fn ready_key(policy: Policy, jobs: &[Job], j: usize) -> Key
+pub fn ready_key(policy: Policy, jobs: &Jobs, j: usize) -> Key
     requires { j < length jobs.now }
     ensures { result ≡ ready_key policy jobs.now j }
 {
-    let job = jobs[j];
+    let job = jobs.job(j);
     match policy {
         Policy::Edf => Key {
             first: job.deadline,
@@ -115,17 +102,21 @@ pub fn ready_key(policy: Policy, jobs: &[Job], j: usize) -> Key
 }
 
 // The first release that waits, or t where that comes first; no job that waits is released by `now`.
-fn next_release(waiting: &Queue, now: u64, t: u64) -> u64
+fn next_release(jobs: &Jobs, waiting: &[Stretch], now: u64, t: u64) -> u64
     requires ahead { now < t }
-    requires later { AreLater waiting.now.items now }
+    requires waits { All (IsStretch jobs.now) waiting.now }
+    requires later { AreLater jobs.now waiting.now now }
     ensures later { now < result }
     ensures in_time { result ≤ t }
-    ensures calm { All (λ r. result ≤ r.0.first) waiting.now.items }
+    ensures calm { All (IsFrom jobs.now result) waiting.now }
 {
-    match waiting.first() {
-        Some(entry) => t.min(entry.0.first),
-        None => t,
+    let mut next = t;
+    for stretch in waiting {
+        if stretch.next < stretch.end {
+            next = next.min(jobs.time(stretch.next));
+        }
     }
+    next
 }
 
 // The place of the first ready job with something left; done jobs before it leave the queue.
@@ -145,7 +136,7 @@ fn first_ready(ready: &mut Queue, left: &[u64]) -> Option<usize>
 }
 
 // Runs job j until it is done or `next` comes, and says for how many ticks.
-fn run_job(left: &mut [u64], finishes: &mut [Option<u64>], j: usize, now: u64, next: u64) -> u64
+fn run_job(left: &mut [u64], finishes: &mut [u64], j: usize, now: u64, next: u64) -> u64
     requires in_left { j < length left.old }
     requires in_finishes { j < length finishes.old }
     requires some_left { 0 < slice_index left.old j }
@@ -154,12 +145,12 @@ fn run_job(left: &mut [u64], finishes: &mut [Option<u64>], j: usize, now: u64, n
     ensures in_time { now + result ≤ next }
     ensures at_most { result ≤ slice_index left.old j }
     ensures left { left.new ≡ slice_set left.old j (slice_index left.old j - result) }
-    ensures finishes { finishes.new ≡ (if slice_index left.old j == result then slice_set finishes.old j (Some (now + result)) else finishes.old) }
+    ensures finishes { finishes.new ≡ (if slice_index left.old j == result then slice_set finishes.old j (now + result) else finishes.old) }
 {
     let count = left[j].min(next - now);
     left[j] -= count;
     if left[j] == 0 {
-        finishes[j] = Some(now + count);
+        finishes[j] = now + count;
     }
     count
 }

@@ -4,6 +4,7 @@ ghost use Rattle.std.specs.Option.{ForSome};
 ghost use Rattle.drt_model.specs.Misses.{index_of, IsJob};
 ghost use Rattle.drt_replay.specs.Board.{IsLateBy, IsEarlier};
 
+use crate::jobs::Jobs;
 use drt_model::Job;
 
 /// Whether the job is late.
@@ -17,7 +18,7 @@ pub fn is_late(job: Job, finish: Option<u64>, ticks: u64) -> bool
 }
 
 /// Of two late jobs, the one that counts as the earlier; j stands behind the other.
-pub fn earlier(jobs: &[Job], first: Option<usize>, j: usize) -> usize
+pub fn earlier(jobs: &Jobs, first: Option<usize>, j: usize) -> usize
     requires here { j < length jobs.now }
     requires before { ForSome first (λ k. k < j) }
     ensures in_range { result ≤ j }
@@ -25,8 +26,9 @@ pub fn earlier(jobs: &[Job], first: Option<usize>, j: usize) -> usize
 {
     match first {
         Some(k) => {
-            if jobs[j].deadline < jobs[k].deadline
-                || jobs[j].deadline == jobs[k].deadline && jobs[j].task < jobs[k].task
+            let (at_j, at_k) = (jobs.job(j), jobs.job(k));
+            if at_j.deadline < at_k.deadline
+                || at_j.deadline == at_k.deadline && at_j.task < at_k.task
             {
                 j
             } else {
@@ -38,24 +40,30 @@ pub fn earlier(jobs: &[Job], first: Option<usize>, j: usize) -> usize
 }
 
 /// The place of job j among the jobs of its task.
-pub fn index_of(jobs: &[Job], j: usize) -> usize
+pub fn index_of(jobs: &Jobs, j: usize) -> usize
     requires { j < length jobs.now }
     ensures value { result ≡ index_of jobs.now j }
     ensures at_most { result ≤ j }
 {
-    let task = jobs[j].task;
-    jobs[..j].iter().filter(|job| job.task == task).count()
+    let task = jobs.task(j);
+    let mut count = 0;
+    for k in 0..j {
+        if jobs.task(k) == task {
+            count += 1;
+        }
+    }
+    count
 }
 
 /// The place of the job that the task and the index name.
-pub fn place_of(jobs: &[Job], task: u32, index: u32) -> usize
+pub fn place_of(jobs: &Jobs, task: u32, index: u32) -> usize
     requires { (j : ℕ) × IsJob jobs.now task index j }
     ensures in_range { result < length jobs.now }
     ensures only { (j : ℕ) → IsJob jobs.now task index j → j ≡ result }
 {
     let mut seen = 0;
-    for j in 0..jobs.len() {
-        if jobs[j].task == task {
+    for j in 0..jobs.count() {
+        if jobs.task(j) == task {
             if seen == index as usize {
                 return j;
             }

@@ -8,8 +8,10 @@
 
 mod board;
 mod events;
+mod jobs;
 mod late;
 mod made;
 mod queue;
+mod stretch;
 
 pub use board::Board;

@@ -9,6 +9,7 @@ use drt_label::Label;
 use drt_steps::Steps;
 use std::alloc::{AllocError as Memory, Global};
 use std::marker::Model;
+use std::sync::Arc;
 
 /// The last vertex of a walk, the offset of its last release in ticks, and its request function. It dominates another
 /// one of its vertex where its offset is at most the other's and its function covers the other's. It is in range
@@ -17,7 +18,7 @@ use std::marker::Model;
 pub struct RequestLabel {
     vertex: u32,
     offset: u64,
-    steps: Steps,
+    steps: Arc<Steps>,
 }
 
 impl Model for RequestLabel {
@@ -25,9 +26,9 @@ impl Model for RequestLabel {
 
     ghost Value = { Request };
 
-    ghost view = { λ s. record { vertex = s.vertex; offset = s.offset; values = s.steps } };
+    ghost view = { λ s. record { vertex = s.vertex; offset = s.offset; values = s.steps.value } };
 
-    ghost invariant = { λ s. IsWithinLimits s.offset s.steps };
+    ghost invariant = { λ s. IsWithinLimits s.offset s.steps.value };
 }
 
 impl RequestLabel {
@@ -40,13 +41,17 @@ impl RequestLabel {
 }
 
 impl Label for RequestLabel {
+    type Spare = Arc<Steps>;
+
     ghost algebra = { request_algebra };
+
+    ghost is_spare = { λ label spare. spare.value ≡ label.values };
 
     fn opening(alloc: Global, number: u32, wcet: u32, bound: u64) -> Result<RequestLabel, Memory> {
         Ok(RequestLabel {
             vertex: number,
             offset: 0,
-            steps: Steps::flat(alloc, bound, wcet as u64)?,
+            steps: Arc::new(alloc, Steps::flat(alloc, bound, wcet as u64)?)?,
         })
     }
 
@@ -58,11 +63,24 @@ impl Label for RequestLabel {
         wcet: u32,
     ) -> Result<RequestLabel, Memory> {
         let offset = self.offset + sep as u64;
+        let steps = self.steps.raise_after(alloc, offset, wcet as u64)?;
         Ok(RequestLabel {
             vertex: target,
             offset,
-            steps: self.steps.raise_after(alloc, offset, wcet as u64)?,
+            steps: Arc::new(alloc, steps)?,
         })
+    }
+
+    fn make_spare(&self, _alloc: Global) -> Result<Arc<Steps>, Memory> {
+        Arc::try_clone(&self.steps)
+    }
+
+    fn hand_out(&self, spare: Arc<Steps>) -> RequestLabel {
+        RequestLabel {
+            vertex: self.vertex,
+            offset: self.offset,
+            steps: spare,
+        }
     }
 
     fn vertex(&self) -> u32 {

@@ -12,10 +12,10 @@ use Rattle.drt_table.specs.declared.node.NodeState.{NodeState}
 use Rattle.drt_table.specs.declared.node.NodeState.TheVariants.{Pending, Taken as TakenBy, Done}
 use Rattle.drt_table.specs.declared.step.TableStep.TheVariants.{Take, Offer, Close}
 use Rattle.drt_table.specs.KeptOrder.{IsFirstKept, IsNextKept}
-use Rattle.drt_table.specs.Places.{first}
+use Rattle.drt_worklist.specs.Places.{first}
 use Rattle.drt_table.specs.Machine.{Holds, extended}
 use Rattle.drt_table.specs.View.{View, CanApply, ComesWith, setting_of, state_of, kept_at}
-use Rattle.drt_table.proofs.Lists.{Found, found, none_found}
+use Rattle.drt_worklist.proofs.Lists.{Found, found, none_found}
 
 -- A worker holds a node that is taken by it, and no other.
 held_by_itself : (w : ℕ) (s : NodeState) → s ≡ TakenBy w → is_taken_by w s ≡ false → ⊥

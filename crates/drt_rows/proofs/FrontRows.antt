@@ -7,14 +7,14 @@ use Rattle.drt_demand.specs.Laws.{demand_laws}
 use Rattle.drt_table.specs.Cover.{IsFront, IsNonDominated}
 use Rattle.drt_table.specs.Machine.{Setting, State, CanStep, IsRun, IsRunFrom, replay, replay_from, is_finished, step_of, opening_state}
 use Rattle.drt_table.specs.Node.{NodeOf, is_held_by, is_taken_by}
-use Rattle.drt_table.specs.Places.{first}
+use Rattle.drt_worklist.specs.Places.{first}
 use Rattle.drt_table.specs.Walk.{IsWalkOf}
 use Rattle.drt_table.specs.declared.node.NodeState.TheVariants.{Pending, Taken as TakenBy, Done}
 use Rattle.drt_table.specs.declared.step.Entry.{Entry}
 use Rattle.drt_table.specs.declared.step.TableReply.TheVariants.{Spent}
 use Rattle.drt_table.specs.declared.step.TableStep.TheVariants.{Take, Offer, Close}
 use Rattle.drt_table.proofs.Finished.{run_front}
-use Rattle.drt_table.proofs.Lists.{none_found}
+use Rattle.drt_worklist.proofs.Lists.{none_found}
 use Rattle.drt_table.proofs.Runs.{run_keeps}
 use Rattle.drt_rows.specs.Row.{graph, setting, by, kept_labels}
 

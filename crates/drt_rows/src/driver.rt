@@ -33,8 +33,8 @@ fn may_offer(graph: &Graph, table: &Table<DemandLabel>, worker: u32, node: u32, 
         Some(held) if held == node => {}
         _ => return false,
     }
-    let offered = table.node(node).offered;
-    let label = *table.node(node).label;
+    let offered = table.node(node).offered();
+    let label = *table.node(node).label();
     if edge != offered || label.vertex >= graph.vertex_count() {
         return false;
     }
@@ -50,8 +50,8 @@ fn may_close(graph: &Graph, table: &Table<DemandLabel>, worker: u32, node: u32) 
         Some(held) if held == node => {}
         _ => return false,
     }
-    let offered = table.node(node).offered;
-    let label = *table.node(node).label;
+    let offered = table.node(node).offered();
+    let label = *table.node(node).label();
     if label.vertex >= graph.vertex_count() {
         return false;
     }
@@ -95,7 +95,7 @@ fn try_offer(
     if !may_offer(graph, table, worker, node, edge) {
         return Ok(None);
     }
-    let label = *table.node(node).label;
+    let label = *table.node(node).label();
     match extended(alloc, graph, &label, edge)? {
         None => Ok(None),
         Some(more) => {

@@ -61,7 +61,7 @@ fn graphs(alloc: Global) -> Result<Graphs, Fail> {
 // Whether each of the nodes `from` to `to`, without the last, was dropped by that one, or by none.
 fn are_dropped<L: Label>(table: &Table<L>, from: u32, to: u32, by: Option<u32>) -> bool {
     for id in from..to {
-        if id as usize >= table.node_count() || table.node(id).dropped_by != by {
+        if id as usize >= table.node_count() || table.node(id).dropped_by() != by {
             return false;
         }
     }

@@ -4,8 +4,8 @@ ghost use Rattle.drt_model.specs.Digraph.{vertex_count};
 use crate::driver::try_step;
 use drt_demand::{DemandLabel, dbf};
 use drt_graph::{Graph, Graphs, check};
-use drt_model::{Edge, Memory, Name, Row, Task, Vertex, task_set};
-use drt_table::{NodeState, Table, TableReply, TableStep};
+use drt_model::{Edge, FrontEntry, Memory, Name, Row, Task, Vertex, task_set};
+use drt_table::{Entry, Node, NodeState, Table, TableReply, TableStep};
 use std::alloc::Global;
 use std::process::Abort;
 use std::test::Fail;
@@ -133,7 +133,7 @@ fn label(table: &Table<DemandLabel>, id: u32) -> Option<DemandLabel> {
     if id as usize >= table.node_count() {
         return None;
     }
-    Some(*table.node(id).label)
+    Some(*table.node(id).label())
 }
 
 // The node's state, and the node that dropped it, if any.
@@ -142,7 +142,7 @@ fn state(table: &Table<DemandLabel>, id: u32) -> Option<(NodeState, Option<u32>)
         return None;
     }
     let node = table.node(id);
-    Some((node.state, node.dropped_by))
+    Some((node.state(), node.dropped_by()))
 }
 
 // The walk of a node.
@@ -163,7 +163,12 @@ fn demand(
 ) -> Result<u64, Fail> {
     let mut labels = Vec::new(alloc);
     for id in nodes.iter().copied() {
-        labels.push(label(table, id).ok_or("there is such a node")?)?;
+        let label = label(table, id).ok_or("there is such a node")?;
+        labels.push(FrontEntry {
+            vertex: label.vertex,
+            offset: label.offset,
+            work: label.work,
+        })?;
     }
     let count = graph.vertex_count();
     if !labels.iter().all(|x| x.vertex < count) {
@@ -340,4 +345,12 @@ fn a_step_whose_conditions_do_not_hold_is_not_made(rt: HostRuntime) -> Result<()
     make_none(&rt, alloc, graph, &mut table, refused.as_slice())?;
     assert_eq!(rt; table.log().len(), 1);
     Ok(())
+}
+
+// With its link of 8 bytes in the list of its vertex a node of a demand table takes 56 bytes.
+#[test]
+fn a_node_takes_48_bytes_and_an_entry_of_the_log_16(rt: HostRuntime) {
+    assert_eq!(rt; size_of::<Node<DemandLabel>>(), 48);
+    assert_eq!(rt; size_of::<Option<u32>>(), 8);
+    assert!(rt; size_of::<Entry>() <= 16);
 }

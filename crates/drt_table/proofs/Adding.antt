@@ -10,7 +10,7 @@ use Rattle.drt_table.specs.Machine.{Setting, opening_label, in_range, extended, 
 use Rattle.drt_table.specs.Walk.{IsWalkLabel}
 use Rattle.drt_table.specs.Cover.{KeptAt, IsCovered}
 use Rattle.drt_table.specs.Facts.{Facts, IsDropper, HasNode, IsRoot, IsChild}
-use Rattle.drt_table.proofs.Lists.{Pushed, earlier, last, before_push, after_push, at_last}
+use Rattle.drt_worklist.proofs.Views.{Pushed, earlier, last, before_push, after_push, at_last}
 
 pub true_not_false : {b : Bool} → b ≡ true → b ≡ false → ⊥
 true_not_false p q = absurd (cc (p, q))

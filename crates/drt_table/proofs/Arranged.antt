@@ -11,12 +11,14 @@ use Rattle.drt_label.specs.Algebra.{Algebra}
 use Rattle.drt_table.specs.Node.{Held, NodeOf, is_kept, is_pending, is_taken, is_pending_state, is_taken_state}
 use Rattle.drt_table.specs.declared.node.NodeState.{NodeState}
 use Rattle.drt_table.specs.declared.node.NodeState.TheVariants.{Pending, Taken, Done}
-use Rattle.drt_table.specs.Places.{first, changed, earliest}
+use Rattle.drt_worklist.specs.Places.{first, changed}
+use Rattle.drt_table.specs.Earliest.{earliest}
 use Rattle.drt_table.specs.Held.{take_by, close_node, drop_held, dominates_held, fresh_held, held_offset, compared_nodes, placed_nodes}
 use Rattle.drt_table.specs.Arena.{AreArranged}
 use Rattle.drt_table.specs.Links.{IsNext, AreLinked}
 use Rattle.drt_table.specs.Waiting.{Ticket, ticket_cmp, AreWaiting, IsFresh, AreHeld}
-use Rattle.drt_table.proofs.Lists.{Before, before_change, After, after_change, changed_at, length-changed, Pushed, earlier, last, before_push, after_push}
+use Rattle.drt_worklist.proofs.Lists.{Before, before_change, After, after_change, changed_at, length-changed}
+use Rattle.drt_worklist.proofs.Views.{Pushed, earlier, last, before_push, after_push}
 use Rattle.drt_table.proofs.Linking.{StaysKept, changed_linked, at_pushed, get_pushed}
 use Rattle.drt_table.proofs.Tickets.{StayWaiting, still_waiting, popped_ticket, at_contains, contains_at}
 use Rattle.drt_table.proofs.Earliest.{Earliest, found_earliest}
@@ -244,6 +246,14 @@ module _ {L : Type 0} (a : Algebra L) (nodes : List (Held L)) (links heads : Lis
       let here : slice_get (changed id (take_by w) nodes) t.0.1 ≡ Some (take_by w found.item) = ap (λ k. slice_get (changed id (take_by w) nodes) k) same ∙ changed_at id (take_by w) nodes found.item found.at in
       popped_ticket a (changed id (take_by w) nodes) tickets rest (length (changed id (take_by w) nodes)) t (take_by w found.item)
       (subst (λ n. AreWaiting a (changed id (take_by w) nodes) tickets n) (sym (length-changed id (take_by w) nodes)) (still_waiting a nodes (changed id (take_by w) nodes) tickets (change_stays (take_by w) id nodes (take_calms w)) ok.waiting)) here refl perm
+
+pub not_pending : {L : Type 0} (n : NodeOf L) → is_taken n ≡ true → is_pending n ≡ false
+not_pending n = by_state n.state
+  where
+    by_state : (s : NodeState) → is_taken_state s ≡ true → is_pending_state s ≡ false
+    by_state Pending t = absurd (cc)
+    by_state (Taken w) t = refl
+    by_state Done t = refl
 
 pub taken_not_pending : {L : Type 0} (n : NodeOf L) → is_taken n ≡ true → is_pending n ≡ true → ⊥
 taken_not_pending n = by_state n.state

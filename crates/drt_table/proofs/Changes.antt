@@ -6,11 +6,11 @@ use Rattle.drt_model.specs.Digraph.{out_degree}
 use Rattle.drt_table.specs.Node.{NodeOf, is_kept}
 use Rattle.drt_table.specs.declared.node.NodeState.TheVariants.{Done}
 use Rattle.drt_table.specs.Machine.{Setting, opening_label, in_range, extended}
-use Rattle.drt_table.specs.Places.{changed}
+use Rattle.drt_worklist.specs.Places.{changed}
 use Rattle.drt_table.specs.Walk.{IsWalkLabel}
 use Rattle.drt_table.specs.Cover.{KeptAt, IsCovered}
 use Rattle.drt_table.specs.Facts.{Facts, IsDropper, HasNode, IsRoot, IsChild}
-use Rattle.drt_table.proofs.Lists.{Before, before_change, After, after_change}
+use Rattle.drt_worklist.proofs.Lists.{Before, before_change, After, after_change}
 
 pub record SameShape {L : Type 0} (m n : NodeOf L) : Type 0 where
   pub label : m.label ≡ n.label

@@ -13,14 +13,14 @@ use Rattle.drt_table.specs.declared.step.TableStep.TheVariants.{Take, Offer, Clo
 use Rattle.drt_table.specs.declared.step.TableReply.{TableReply}
 use Rattle.drt_table.specs.declared.step.TableReply.TheVariants.{Finished, OutOfRange, Spent}
 use Rattle.drt_table.specs.declared.step.Entry.{Entry}
-use Rattle.drt_table.specs.Places.{first}
-use Rattle.drt_table.specs.Machine.{Setting, State, Outcome, in_range, extended, is_full, unchanged, logged, offset, next, holder, taken, dominating, compared, counted, offered_at, step_of, CanStep, is_finished, replay_from}
+use Rattle.drt_worklist.specs.Places.{first}
+use Rattle.drt_table.specs.Machine.{Setting, State, Outcome, in_range, extended, is_full, unchanged, logged, offset, next, holder, taken, dominating, compared, counted, offered_at, step_of, CanStep, is_finished, after, CanEnter, replay_from}
 use Rattle.drt_table.specs.View.{View, setting_of, state_of, CanApply, outcome, IsStep}
-use Rattle.drt_table.specs.Drive.{IsDriven, AreDriven, Drives, StopsAt}
+use Rattle.drt_table.specs.Drive.{IsDriven, Drives, StopsAt}
 use Rattle.drt_table.specs.Turn.{Went, Stopped, ends, Turn}
 use Rattle.drt_table.proofs.Adding.{true_not_false}
 use Rattle.drt_table.proofs.Earliest.{none_earliest}
-use Rattle.drt_table.proofs.Runs.{replay_more_from, run_more_from}
+use Rattle.drt_worklist.proofs.Runs.{replay_join, along_join, run_join}
 
 module _ {L : Type 0} (a : Algebra L) (t : Setting) where
   -- the entry is added
@@ -118,10 +118,6 @@ pub can_take : {L : Type 0} (a : Algebra L) (v : View L) (w : ℕ) → holder a 
 can_take a v w e id n at held = not_taken n.state w held (none_earliest is_taken (offset a (setting_of v)) (state_of v).nodes e id n at)
 
 module _ {L : Type 0} (a : Algebra L) (w : ℕ) where
-  driven_more : (t : Setting) (es : List Entry) (s : State L) (e : Entry) → AreDriven a t w s es → IsDriven a t w (replay_from a t s es) e.worker e.step → AreDriven a t w s (es ++ e ∷ [])
-  driven_more t [] s e h d = (d, tt)
-  driven_more t (f ∷ es) s e h d = (h.0, driven_more t es (step_of a t s f.worker f.step).state e h.1 d)
-
   -- before the first turn
   pub drives_start : (v : View L) → Drives a w v v
   drives_start v = record { more = []; setting = refl; log = sym (append-nil v.log); run = tt; state = refl; driven = tt }
@@ -143,9 +139,9 @@ module _ {L : Type 0} (a : Algebra L) (w : ℕ) where
         more = d.more ++ e ∷ [];
         setting = g.is_step.setting ∙ d.setting;
         log = g.log ∙ (ap (λ es. es ++ e ∷ []) d.log ∙ append_assoc old.log d.more (e ∷ []));
-        run = run_more_from a t d.more (state_of old) e d.run can log_r;
-        state = state_r ∙ sym (replay_more_from a t d.more (state_of old) e);
-        driven = driven_more t d.more (state_of old) e d.driven driven;
+        run = run_join (after a t) (CanEnter a t) (λ (s : State L). s.log) d.more (e ∷ []) (state_of old) d.run (can, log_r, tt);
+        state = state_r ∙ sym (replay_join (after a t) d.more (e ∷ []) (state_of old));
+        driven = along_join (after a t) (λ (s : State L) (e : Entry). IsDriven a t w s e.worker e.step) d.more (e ∷ []) (state_of old) d.driven (driven, tt);
       }
 
   -- after a turn that stops

@@ -3,9 +3,10 @@ use Rattle.std.proofs.Common.{◌≡◌, ℕ, suc, zero, ◌<◌, ◌≤◌, ◌
 use Rattle.std.specs.Prelude.{slice_get, min, ◌&&◌, ◌==◌}
 use Rattle.std.proofs.lemmas.Option.{none-some, same_Some}
 use Rattle.std.proofs.lemmas.Bool.Decides.{nat_tests}
-use Rattle.drt_table.specs.Places.{smaller, least_of, first_with, earliest}
+use Rattle.drt_table.specs.Earliest.{smaller, least_of, first_with, earliest}
 use Rattle.std.proofs.Common.{map}
-use Rattle.drt_table.proofs.Lists.{Found, found, none_found, first_is, first-map}
+use Rattle.drt_worklist.proofs.Lists.{Found, found, none_found, first_is}
+use Rattle.drt_worklist.proofs.Views.{first-map}
 
 pub and_left : (b c : Bool) → (b && c) ≡ true → b ≡ true
 and_left true c h = refl

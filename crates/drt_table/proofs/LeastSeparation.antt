@@ -6,7 +6,7 @@ use Rattle.std.proofs.lemmas.List.{drop_all}
 use Rattle.drt_model.specs.Digraph.{Digraph, IsSound, out_edges, out_degree, edge_of, no_edge}
 use Rattle.drt_model.specs.declared.tasks.Edge.{Edge}
 use Rattle.drt_table.specs.Machine.{shortest}
-use Rattle.drt_table.specs.Places.{smaller, least_of}
+use Rattle.drt_table.specs.Earliest.{smaller, least_of}
 
 smaller-none : (o : Option ℕ) → smaller o None ≡ o
 smaller-none None = refl

@@ -1,4 +1,3 @@
-pub mod Lists
 pub mod Earliest
 pub mod Separation
 pub mod LeastSeparation
@@ -26,3 +25,5 @@ pub mod Linking
 pub mod Tickets
 pub mod Scan
 pub mod Arranged
+pub mod Offering
+pub mod Turning

@@ -8,12 +8,12 @@ use Rattle.std.proofs.lemmas.Option.{none-some, same_Some, slice_get_within}
 use Rattle.drt_label.specs.Algebra.{Algebra}
 use Rattle.drt_table.specs.Node.{Held, is_kept}
 use Rattle.std.proofs.lemmas.Bool.Decides.{nat_tests}
-use Rattle.drt_table.specs.Places.{changed}
+use Rattle.drt_worklist.specs.Places.{changed}
 use Rattle.drt_table.specs.Held.{AllOf}
 use Rattle.drt_table.specs.View.{kept_at}
 use Rattle.drt_table.proofs.Adding.{true_not_false}
 use Rattle.drt_table.specs.Links.{IsBelow, rank, IsKeptAt, IsGreatest, IsNext, AreLinked, IsPlace, IsLink, heads_after, links_after}
-use Rattle.drt_table.proofs.Lists.{Before, before_change, After, after_change, length-changed}
+use Rattle.drt_worklist.proofs.Lists.{Before, before_change, After, after_change, length-changed}
 use Rattle.drt_table.proofs.Ranks.{lower, newer, same_offset}
 use Rattle.drt_table.proofs.Unlink.{set_here, set_other, same_or_not, rank_cases}
 

@@ -13,10 +13,11 @@ use Rattle.drt_table.specs.declared.step.TableStep.TheVariants.{Take, Offer, Clo
 use Rattle.drt_table.specs.declared.step.TableReply.TheVariants.{Busy}
 use Rattle.drt_table.specs.declared.step.Entry.{Entry}
 use Rattle.drt_table.specs.Machine.{Setting, State, Outcome, separation, in_range, extended, is_full, unchanged, offset, offset_in, offset_at, next, holder, takes, taken, drop_by, dominating, added, compared, offered, offered_at, step_of, CanStep}
-use Rattle.drt_table.specs.Places.{first, changed}
+use Rattle.drt_worklist.specs.Places.{first, changed}
 use Rattle.drt_table.specs.Walk.{IsWalkLabel}
 use Rattle.drt_table.specs.Facts.{Facts, Order, WasTaken}
-use Rattle.drt_table.proofs.Lists.{Before, before_change, changed_at, Pushed, earlier, last, before_push}
+use Rattle.drt_worklist.proofs.Lists.{Before, before_change, changed_at}
+use Rattle.drt_worklist.proofs.Views.{Pushed, earlier, last, before_push}
 use Rattle.drt_table.proofs.Earliest.{Earliest, found_earliest, none_earliest}
 use Rattle.drt_table.proofs.Separation.{separation_le, separation_some}
 use Rattle.drt_table.proofs.Walks.{walk_vertex, walk_within}

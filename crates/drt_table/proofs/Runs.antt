@@ -11,11 +11,12 @@ use Rattle.drt_table.specs.declared.step.TableStep.TheVariants.{Take, Offer, Clo
 use Rattle.drt_table.specs.declared.step.TableReply.{TableReply}
 use Rattle.drt_table.specs.declared.step.TableReply.TheVariants.{Taken, Busy, Added, Dominated, Closed, OutOfRange}
 use Rattle.drt_table.specs.declared.step.Entry.{Entry}
-use Rattle.drt_table.specs.Machine.{Setting, separation, State, Outcome, in_range, extended, is_full, unchanged, logged, offset_at, next, holder, takes, taken, drop_by, dominating, added, compared, counted, offered_at, step_of, CanStep, opening_nodes, opening_state, replay_from, replay, IsRunFrom, IsRun}
-use Rattle.drt_table.specs.Places.{first, changed}
+use Rattle.drt_table.specs.Machine.{Setting, separation, State, Outcome, in_range, extended, is_full, unchanged, logged, offset_at, next, holder, takes, taken, drop_by, dominating, added, compared, counted, offered_at, step_of, CanStep, opening_nodes, opening_state, after, CanEnter, replay, IsRun}
+use Rattle.drt_worklist.specs.Places.{first, changed}
 use Rattle.drt_model.specs.Digraph.{IsSound}
+use Rattle.drt_worklist.proofs.Runs.{replay_join, run_join, replay_keeps, run_keeps as keeps_all}
 use Rattle.drt_table.specs.Facts.{Facts, Order}
-use Rattle.drt_table.proofs.Lists.{length-changed}
+use Rattle.drt_worklist.proofs.Lists.{length-changed}
 use Rattle.drt_table.proofs.Opening.{opening_facts, opening_order, opening_few}
 use Rattle.drt_table.proofs.Steps.{step_keeps}
 use Rattle.drt_table.proofs.Ordering.{step_order}
@@ -26,22 +27,17 @@ pub record Counts {L : Type 0} (t : Setting) (s : State L) : Type 0 where
   pub within : length s.log ≤ t.budget
 
 module _ {L : Type 0} (a : Algebra L) (laws : Laws a) (t : Setting) where
-  run_keeps_from : (es : List Entry) (s : State L) → Facts a t s.nodes → IsRunFrom a t s es → Facts a t (replay_from a t s es).nodes
-  run_keeps_from [] s facts run = facts
-  run_keeps_from (e ∷ es) s facts run = run_keeps_from es (step_of a t s e.worker e.step).state (step_keeps a laws t s e.worker e.step facts run.0) run.2
-
   -- whoever made its steps
   pub run_keeps : (es : List Entry) → IsRun a t es → Facts a t (replay a t es).nodes
-  run_keeps es run = run_keeps_from es (opening_state a t) (opening_facts a laws t) run
-
-  run_order_from : IsSound t.graph → (es : List Entry) (s : State L) → Facts a t s.nodes → Order a t s.nodes → IsRunFrom a t s es → Order a t (replay_from a t s es).nodes
-  run_order_from sound [] s facts order run = order
-  run_order_from sound (e ∷ es) s facts order run =
-      run_order_from sound es (step_of a t s e.worker e.step).state (step_keeps a laws t s e.worker e.step facts run.0) (step_order a t sound laws s e.worker e.step facts order run.0) run.2
+  run_keeps es run = keeps_all (after a t) (CanEnter a t) (λ (s : State L). s.log) (λ (s : State L). Facts a t s.nodes)
+      (λ s e can facts. step_keeps a laws t s e.worker e.step facts can) es (opening_state a t) (opening_facts a laws t) run
 
   -- whoever made its steps
   pub run_order : IsSound t.graph → (es : List Entry) → IsRun a t es → Order a t (replay a t es).nodes
-  run_order sound es run = run_order_from sound es (opening_state a t) (opening_facts a laws t) (opening_order a laws t) run
+  run_order sound es run =
+      (keeps_all (after a t) (CanEnter a t) (λ (s : State L). s.log) (λ (s : State L). Facts a t s.nodes × Order a t s.nodes)
+      (λ s e can both. (step_keeps a laws t s e.worker e.step both.0 can, step_order a t sound laws s e.worker e.step both.0 both.1 can))
+      es (opening_state a t) (opening_facts a laws t, opening_order a laws t) run).1
 
 module _ {L : Type 0} (a : Algebra L) (t : Setting) where
   counts_cond : (s : State L) (b : Bool) (x y : Outcome L) → is_full a t s ≡ b → Counts t x.state → (is_full a t s ≡ false → Counts t y.state) → Counts t (cond b x y).state
@@ -89,24 +85,14 @@ module _ {L : Type 0} (a : Algebra L) (t : Setting) where
   step_counts s w (Offer id k) c = counts_cond s (is_full a t s) _ _ refl c (λ f. counts_offered_at s (record { worker = w; step = Offer id k }) id k (slice_get s.nodes id) c f)
   step_counts s w (Close id) c = counts_cond s (is_full a t s) _ _ refl c (λ f. counts_logged s (record { worker = w; step = Close id }) (changed id (λ (n : NodeOf L). record n { state = Done }) s.nodes) Closed c (let h : length (changed id (λ (n : NodeOf L). record n { state = Done }) s.nodes) ≡ length s.nodes = length-changed id _ s.nodes in omega arith) f)
 
-  counts_from : (es : List Entry) (s : State L) → Counts t s → Counts t (replay_from a t s es)
-  counts_from [] s c = c
-  counts_from (e ∷ es) s c = counts_from es (step_of a t s e.worker e.step).state (step_counts s e.worker e.step c)
-
   pub run_counts : (es : List Entry) → Counts t (replay a t es)
-  run_counts es = counts_from es (opening_state a t) (record { few = let h : length (opening_nodes a t 0 (length t.graph.vertices)) ≤ length t.graph.vertices = opening_few a t (length t.graph.vertices) 0 in omega arith; within = omega arith })
+  run_counts es = replay_keeps (after a t) (Counts t) (λ s e c. step_counts s e.worker e.step c) es (opening_state a t)
+      (record { few = let h : length (opening_nodes a t 0 (length t.graph.vertices)) ≤ length t.graph.vertices = opening_few a t (length t.graph.vertices) 0 in omega arith; within = omega arith })
 
   -- a run that goes on
-  pub replay_more_from : (es : List Entry) (s : State L) (e : Entry) → replay_from a t s (es ++ e ∷ []) ≡ (step_of a t (replay_from a t s es) e.worker e.step).state
-  replay_more_from [] s e = refl
-  replay_more_from (f ∷ es) s e = replay_more_from es (step_of a t s f.worker f.step).state e
-
   pub replay_more : (es : List Entry) (e : Entry) → replay a t (es ++ e ∷ []) ≡ (step_of a t (replay a t es) e.worker e.step).state
-  replay_more es e = replay_more_from es (opening_state a t) e
+  replay_more es e = replay_join (after a t) es (e ∷ []) (opening_state a t)
 
-  pub run_more_from : (es : List Entry) (s : State L) (e : Entry) → IsRunFrom a t s es → CanStep a t (replay_from a t s es) e.worker e.step → ((step_of a t (replay_from a t s es) e.worker e.step).state.log ≡ (replay_from a t s es).log ++ e ∷ []) → IsRunFrom a t s (es ++ e ∷ [])
-  run_more_from [] s e run can log = (can, log, tt)
-  run_more_from (f ∷ es) s e run can log = (run.0, run.1, run_more_from es (step_of a t s f.worker f.step).state e run.2 can log)
-
-  pub run_more : (es : List Entry) (e : Entry) → IsRun a t es → CanStep a t (replay a t es) e.worker e.step → ((step_of a t (replay a t es) e.worker e.step).state.log ≡ (replay a t es).log ++ e ∷ []) → IsRun a t (es ++ e ∷ [])
-  run_more es e run can log = run_more_from es (opening_state a t) e run can log
+  pub run_more : (es : List Entry) (e : Entry) → IsRun a t es → CanStep a t (replay a t es) e.worker e.step
+      → ((step_of a t (replay a t es) e.worker e.step).state.log ≡ (replay a t es).log ++ e ∷ []) → IsRun a t (es ++ e ∷ [])
+  run_more es e run can log = run_join (after a t) (CanEnter a t) (λ (s : State L). s.log) es (e ∷ []) (opening_state a t) run (can, log, tt)

@@ -8,9 +8,10 @@ use Rattle.std.proofs.lemmas.Option.{same_Some, slice_get_within}
 use Rattle.drt_table.specs.Node.{NodeOf, is_held_by, is_taken, is_taken_by, is_taken_state}
 use Rattle.drt_table.specs.declared.node.NodeState.{NodeState}
 use Rattle.drt_table.specs.declared.node.NodeState.TheVariants.{Pending, Taken, Done}
-use Rattle.drt_table.specs.Places.{first, earliest, smaller}
+use Rattle.drt_worklist.specs.Places.{first}
+use Rattle.drt_table.specs.Earliest.{earliest, smaller}
 use Rattle.drt_table.specs.Waiting.{earlier}
-use Rattle.drt_table.proofs.Lists.{first_is, first_none}
+use Rattle.drt_worklist.proofs.Lists.{first_is, first_none}
 use Rattle.drt_table.proofs.Earliest.{earliest_is, earliest_none}
 use Rattle.drt_table.proofs.Tickets.{at_contains, contains_cases}
 

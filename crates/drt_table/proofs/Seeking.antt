@@ -4,10 +4,11 @@ use Rattle.std.specs.Prelude.{slice_get, IsTrue, min, ◌&&◌}
 use Rattle.std.proofs.lemmas.Option.{none-some, same_Some, slice_get_within}
 use Rattle.drt_label.specs.Algebra.{Algebra, Laws}
 use Rattle.drt_table.specs.Node.{Held, is_kept}
-use Rattle.drt_table.specs.Places.{first, smaller}
+use Rattle.drt_worklist.specs.Places.{first}
+use Rattle.drt_table.specs.Earliest.{smaller}
 use Rattle.drt_table.specs.Held.{dominates_held}
 use Rattle.drt_table.specs.Links.{rank, IsKeptAt, IsNext, AreLinked, AreAlone}
-use Rattle.drt_table.proofs.Lists.{first_is, first_none}
+use Rattle.drt_worklist.proofs.Lists.{first_is, first_none}
 use Rattle.drt_table.proofs.Adding.{true_not_false}
 use Rattle.drt_table.proofs.Earliest.{and_left, and_right}
 use Rattle.drt_table.proofs.Ranks.{no_greater}

@@ -5,7 +5,7 @@ use Rattle.std.proofs.lemmas.Option.{none-some, same_Some, slice_get-get_or, sli
 use Rattle.std.proofs.Math.Nat.{min-le_left, min-le_right}
 use Rattle.drt_model.specs.Digraph.{IsSound, out_edges, out_degree, edge_of, no_edge}
 use Rattle.drt_model.specs.declared.tasks.Edge.{Edge}
-use Rattle.drt_table.specs.Places.{smaller, least_of}
+use Rattle.drt_table.specs.Earliest.{smaller, least_of}
 use Rattle.drt_table.specs.Machine.{Setting, shortest, separation}
 use Rattle.drt_table.proofs.Earliest.{IsLeast, least_is, none_least}
 

@@ -12,7 +12,8 @@ use Rattle.drt_table.specs.declared.step.Entry.{Entry}
 use Rattle.drt_table.specs.Machine.{Setting, offset, next, holder, is_finished, replay, IsRun}
 use Rattle.drt_table.specs.Cover.{KeptAt}
 use Rattle.drt_table.specs.Facts.{Facts, Order}
-use Rattle.drt_table.specs.Work.{state_entries, node_entries, total, kept_count, IsDegree, IsShort, AreSlots}
+use Rattle.drt_worklist.specs.Places.{total}
+use Rattle.drt_table.specs.Work.{state_entries, node_entries, kept_count, IsDegree, IsShort, AreSlots}
 use Rattle.drt_table.proofs.Earliest.{Earliest, found_earliest, and_left, and_right}
 use Rattle.drt_table.proofs.Runs.{run_keeps, run_order}
 use Rattle.drt_table.proofs.Walks.{walk_vertex, walk_within}

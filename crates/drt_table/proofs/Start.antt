@@ -1,15 +1,15 @@
--- The loop that makes the opening nodes.
-use Rattle.std.proofs.Common.{◌≡◌, ℕ, suc, zero, ◌+◌, ◌-◌, ◌<◌, Bool, true, false, cond, None, List, [], ◌∷◌, ◌++◌, length, map, replicate, refl, sym, ap, ◌∙◌, subst, arith, append_assoc, length-append}
+-- The loop that makes the opening nodes, and the table at its start.
+use Rattle.std.proofs.Common.{◌≡◌, ℕ, suc, zero, ◌+◌, ◌-◌, ◌<◌, ◌≤◌, Bool, true, false, cond, None, List, [], ◌∷◌, ◌++◌, length, map, replicate, refl, sym, ap, ◌∙◌, subst, arith, append_assoc, length-append}
 use Rattle.std.proofs.lemmas.List.{map-append, replicate_more}
 use Rattle.drt_label.specs.Algebra.{Algebra, Laws}
-use Rattle.drt_model.specs.Digraph.{vertex_of}
-use Rattle.std.specs.Prelude.{◌&&◌, ◌==◌}
+use Rattle.drt_model.specs.Digraph.{IsSound, vertex_of}
+use Rattle.std.specs.Prelude.{◌&&◌, ◌==◌, IsTrue}
 use Rattle.std.proofs.lemmas.Option.{none-some, same_Some}
 use Rattle.std.proofs.lemmas.Bool.Decides.{nat_tests}
 use Rattle.drt_table.specs.Held.{AllOf}
-use Rattle.drt_table.specs.View.{kept_at}
+use Rattle.drt_table.specs.View.{View, IsTable, kept_at, setting_of}
 use Rattle.drt_table.specs.Node.{NodeOf, Held, is_kept, fresh}
-use Rattle.drt_table.specs.Machine.{Setting, opening_label, in_range, opening_nodes}
+use Rattle.drt_table.specs.Machine.{Setting, IsRun, opening_label, in_range, opening_nodes, opening_state, replay}
 
 module _ {L : Type 0} (a : Algebra L) (laws : Laws a) (t : Setting) where
   opening_more : (v n : ℕ) → v < n → opening_nodes a t v (n - v) ≡ cond (in_range a t (opening_label a t v)) (fresh (opening_label a t v) None ∷ opening_nodes a t (v + 1) (n - (v + 1))) (opening_nodes a t (v + 1) (n - (v + 1)))
@@ -75,3 +75,18 @@ module _ {L : Type 0} (a : Algebra L) where
 
   pub low_out : (nodes : List (Held L)) (v : ℕ) → AllOf (λ (h : Held L). a.vertex h.node.label < v) nodes → AllOf (λ (h : Held L). a.vertex h.node.label < v + 1) nodes
   low_out nodes v low k h at = let lt : a.vertex h.node.label < v = low k h at in omega arith
+
+-- a table at its start keeps what the type keeps
+pub table_starts : {L : Type 0} (a : Algebra L) (v : View L) (t : Setting) → setting_of v ≡ t → IsSound t.graph → IsTrue (a.takes_bound t.bound) → t.budget ≤ 1000000
+    → map (λ (h : Held L). h.node) v.nodes ≡ (opening_state a t).nodes → v.log ≡ [] → IsTable a v
+table_starts {L} a v t set sound bound budget nodes log =
+    let ns : List (NodeOf L) = (opening_state a (setting_of v)).nodes in
+    let nodes_are : map (λ (h : Held L). h.node) v.nodes ≡ ns = nodes ∙ ap (λ (x : Setting). (opening_state a x).nodes) (sym set) in
+    let as_replayed : opening_state a (setting_of v) ≡ replay a (setting_of v) v.log = ap (λ es. replay a (setting_of v) es) (sym log) in
+    record {
+      sound = subst (λ (x : Setting). IsSound x.graph) (sym set) sound;
+      bound = subst (λ (x : Setting). IsTrue (a.takes_bound x.bound)) (sym set) bound;
+      budget = subst (λ (x : Setting). x.budget ≤ 1000000) (sym set) budget;
+      run = subst (λ es. IsRun a (setting_of v) es) (sym log) tt;
+      state = ap (λ xs. record { nodes = xs; log = v.log }) nodes_are ∙ (ap (λ es. record { nodes = ns; log = es }) log ∙ as_replayed);
+    }

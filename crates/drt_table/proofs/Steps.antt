@@ -11,11 +11,12 @@ use Rattle.drt_table.specs.declared.step.TableStep.TheVariants.{Take, Offer, Clo
 use Rattle.drt_table.specs.declared.step.TableReply.TheVariants.{Busy, OutOfRange}
 use Rattle.drt_table.specs.declared.step.Entry.{Entry}
 use Rattle.drt_table.specs.Machine.{Setting, separation, State, Outcome, in_range, extended, is_full, unchanged, logged, offset_at, next, holder, takes, taken, drop_by, dominating, added, compared, counted, offered, offered_at, step_of, CanStep}
-use Rattle.drt_table.specs.Places.{first, changed}
+use Rattle.drt_worklist.specs.Places.{first, changed}
 use Rattle.drt_table.specs.Walk.{IsWalkLabel}
 use Rattle.drt_table.specs.Cover.{IsCovered}
 use Rattle.drt_table.specs.Facts.{Facts, IsChild}
-use Rattle.drt_table.proofs.Lists.{after_push, Before, before_change, After, after_change, Found, found, none_found, length-changed}
+use Rattle.drt_worklist.proofs.Lists.{Before, before_change, After, after_change, Found, found, none_found, length-changed}
+use Rattle.drt_worklist.proofs.Views.{after_push}
 use Rattle.drt_table.proofs.Earliest.{and_left, and_right, both}
 use Rattle.drt_table.proofs.Walks.{walk_more}
 use Rattle.drt_table.proofs.Changes.{SameShape, KeepsShape, shape_of, change_keeps}

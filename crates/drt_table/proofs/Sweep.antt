@@ -6,7 +6,7 @@ use Rattle.drt_label.specs.Algebra.{Algebra}
 use Rattle.drt_table.specs.Node.{Held, is_kept}
 use Rattle.drt_table.specs.declared.node.NodeState.TheVariants.{Done}
 use Rattle.drt_table.specs.Held.{drop_held}
-use Rattle.drt_table.specs.Places.{changed}
+use Rattle.drt_worklist.specs.Places.{changed}
 use Rattle.drt_table.specs.Links.{rank, IsKeptAt, IsNext}
 
 -- lists with the same elements at each place

@@ -4,12 +4,12 @@ use Rattle.std.specs.Prelude.{slice_get, IsTrue, option_map, ◌&&◌}
 use Rattle.std.proofs.lemmas.Option.{none-some, same_Some, slice_get_within, slice_get-map}
 use Rattle.drt_label.specs.Algebra.{Algebra, Laws}
 use Rattle.drt_table.specs.Node.{Held, is_kept}
-use Rattle.drt_table.specs.Places.{changed}
+use Rattle.drt_worklist.specs.Places.{changed}
 use Rattle.drt_table.specs.Held.{AllOf, drop_held}
 use Rattle.drt_table.specs.Links.{IsBelow, rank, IsKeptAt, IsNext, AreLinked, IsAfter, IsPlace, heads_after, links_after}
 use Rattle.drt_table.proofs.Adding.{true_not_false}
 use Rattle.drt_table.proofs.Earliest.{and_left, and_right}
-use Rattle.drt_table.proofs.Lists.{changed_other, changed_here}
+use Rattle.drt_worklist.proofs.Lists.{changed_other, changed_at}
 use Rattle.drt_table.proofs.Ranks.{no_greater}
 use Rattle.drt_table.proofs.Unlink.{unlinked, next_unlinked, rank_cases, small, kept_same, same_or_not}
 use Rattle.drt_table.proofs.Sweep.{same_lists, none_changed, rank_of, rank_in, to_go, IsAhead, ahead_first, next_kept, drops, not_dropped, gone, drop_label}
@@ -251,7 +251,7 @@ module _ {L : Type 0} (a : Algebra L) (laws : Laws a) (l : L) (number : ℕ) (xs
     by_place : (k : ℕ) (z : Held L) → slice_get xs k ≡ Some z → (k ≡ i) ⊎ (k ≡ i → ⊥) → IsPassed a l number xs ns (Some i) k z → IsPassed a l number xs (changed i (drop_held a l number) ns) o k z
     by_place k z at_z (inl e) passed =
         let x_is : x ≡ z = fresh_at z (subst (λ j. IsPassed a l number xs ns (Some i) j z) e passed) in
-        inl (ap (λ j. slice_get (changed i (drop_held a l number) ns) j) e ∙ (changed_here i (drop_held a l number) ns x at ∙ ap (λ y. Some (drop_held a l number y)) x_is))
+        inl (ap (λ j. slice_get (changed i (drop_held a l number) ns) j) e ∙ (changed_at i (drop_held a l number) ns x at ∙ ap (λ y. Some (drop_held a l number y)) x_is))
     by_place k z at_z (inr ne) (inl e) = inl (changed_other i (drop_held a l number) ns k ne ∙ e)
     by_place k z at_z (inr ne) (inr e) = by_test (drops a l number z) refl
       where

@@ -13,7 +13,8 @@ use Rattle.drt_table.specs.declared.step.TableStep.TheVariants.{Take, Offer, Clo
 use Rattle.drt_table.specs.declared.step.TableReply.{TableReply}
 use Rattle.drt_table.specs.declared.step.TableReply.TheVariants.{Taken, Busy, Added, OutOfRange, Closed, Spent}
 use Rattle.drt_table.specs.declared.step.Entry.{Entry}
-use Rattle.drt_table.specs.Places.{first, changed, earliest}
+use Rattle.drt_worklist.specs.Places.{first, changed}
+use Rattle.drt_table.specs.Earliest.{earliest}
 use Rattle.drt_table.specs.Taking.{chosen, taken_node, offset_of, is_soon}
 use Rattle.drt_table.specs.Machine.{Setting, State, Outcome, separation, in_range, extended, is_full, unchanged, logged, offset, offset_in, offset_at, next, holder, takes, taken, drop_by, dominating, added, compared, counted, offered, offered_at, step_of, CanStep, Holds, replay, IsRun, is_finished}
 use Rattle.drt_table.specs.Facts.{Facts}
@@ -21,7 +22,8 @@ use Rattle.drt_table.specs.Links.{AreAlone}
 use Rattle.drt_table.specs.Held.{AllOf, held_offset, take_by, count_offer, close_node, hand_out, dominates_held, drop_held, compared_nodes, compared_reply, placed_nodes, placed_reply}
 use Rattle.drt_table.specs.View.{View, setting_of, state_of, IsTable, spares_of, spares_after, CanApply, outcome, IsStep}
 use Rattle.drt_table.proofs.Earliest.{earliest-map}
-use Rattle.drt_table.proofs.Lists.{Before, before_change, first-map, map-changed, map-changed_same, map-map_with, map-map_same, get_within}
+use Rattle.drt_worklist.proofs.Lists.{Before, before_change, get_within}
+use Rattle.drt_worklist.proofs.Views.{first-map, map-changed, map-changed_same, map-map_with, map-map_same}
 use Rattle.drt_table.proofs.Walks.{walk_of, walk_vertex, walk_within, walk_range, extended_vertex}
 use Rattle.drt_table.specs.Walk.{IsWalkLabel}
 use Rattle.drt_table.proofs.Runs.{Counts, run_keeps, run_counts, replay_more, run_more}

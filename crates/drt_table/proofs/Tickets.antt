@@ -13,7 +13,7 @@ use Rattle.std.proofs.lemmas.Option.{none-some, same_Some, slice_get_within, sli
 use Rattle.drt_label.specs.Algebra.{Algebra}
 use Rattle.drt_table.specs.Node.{Held, is_pending}
 use Rattle.drt_table.specs.Held.{held_offset}
-use Rattle.drt_table.specs.Places.{earliest}
+use Rattle.drt_table.specs.Earliest.{earliest}
 use Rattle.drt_table.specs.Waiting.{Ticket, ticket, ticket_cmp, AreWaiting, IsFresh, IsStale}
 use Rattle.drt_table.proofs.Earliest.{earliest_is, earliest_none}
 use Rattle.drt_table.proofs.Adding.{true_not_false}

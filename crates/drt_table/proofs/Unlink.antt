@@ -5,11 +5,11 @@ use Rattle.std.proofs.lemmas.List.{length-set}
 use Rattle.std.proofs.lemmas.Option.{none-some, same_Some, slice_get_within}
 use Rattle.drt_label.specs.Algebra.{Algebra}
 use Rattle.drt_table.specs.Node.{Held, is_kept}
-use Rattle.drt_table.specs.Places.{changed}
+use Rattle.drt_worklist.specs.Places.{changed}
 use Rattle.drt_table.specs.Links.{IsBelow, rank, IsKeptAt, IsGreatest, IsNext, AreLinked, IsAfter, heads_after, links_after}
-use Rattle.drt_table.proofs.Lists.{length-changed}
+use Rattle.drt_worklist.proofs.Lists.{length-changed}
 use Rattle.drt_table.proofs.Adding.{true_not_false}
-use Rattle.drt_table.proofs.Lists.{changed_other, changed_here}
+use Rattle.drt_worklist.proofs.Lists.{changed_other, changed_at}
 use Rattle.drt_table.proofs.Ranks.{same_number, below_above}
 
 pub set_here : {A : Type 0} (xs : List A) (i : ℕ) (y z : A) → slice_get (set xs i y) i ≡ Some z → z ≡ y
@@ -63,7 +63,7 @@ module _ {L : Type 0} (a : Algebra L) (nodes : List (Held L)) (links heads : Lis
 
   -- what is kept after the change was kept, and isn't i
   not_i : (v j : ℕ) (m : Held L) → IsKeptAt a (changed i g nodes) v j m → j ≡ i → ⊥
-  not_i v j m is e = true_not_false is.kept (ap (λ (x : Held L). is_kept x.node) (same_Some m (g h) (sym is.at ∙ (ap (λ k. slice_get (changed i g nodes) k) e ∙ changed_here i g nodes h at))) ∙ drops)
+  not_i v j m is e = true_not_false is.kept (ap (λ (x : Held L). is_kept x.node) (same_Some m (g h) (sym is.at ∙ (ap (λ k. slice_get (changed i g nodes) k) e ∙ changed_at i g nodes h at))) ∙ drops)
 
   back : (v j : ℕ) (m : Held L) → IsKeptAt a (changed i g nodes) v j m → IsKeptAt a nodes v j m
   back v j m is = record { at = sym (changed_other i g nodes j (not_i v j m is)) ∙ is.at; kept = is.kept; vertex = is.vertex }

@@ -11,12 +11,14 @@ use Rattle.drt_table.specs.declared.step.TableStep.TheVariants.{Take, Offer, Clo
 use Rattle.drt_table.specs.declared.step.TableReply.{TableReply}
 use Rattle.drt_table.specs.declared.step.TableReply.TheVariants.{Taken, Busy, Added, Dominated, OutOfRange, Closed}
 use Rattle.drt_table.specs.declared.step.Entry.{Entry}
-use Rattle.drt_table.specs.Machine.{Setting, State, Outcome, opening_label, in_range, extended, is_full, unchanged, logged, offset, offset_at, separation, next, holder, takes, taken, drop_by, dominating, added, compared, offered, offered_at, step_of, CanStep, opening_nodes, opening_state, replay_from, replay, IsRunFrom, IsRun}
-use Rattle.drt_table.specs.Places.{first, changed}
+use Rattle.drt_table.specs.Machine.{Setting, State, Outcome, opening_label, in_range, extended, is_full, unchanged, logged, offset, offset_at, separation, next, holder, takes, taken, drop_by, dominating, added, compared, offered, offered_at, step_of, CanStep, opening_nodes, opening_state, after, CanEnter, replay, IsRun}
+use Rattle.drt_worklist.specs.Places.{first, changed, total}
 use Rattle.drt_table.specs.Cover.{IsCovered}
 use Rattle.drt_table.specs.Facts.{Facts, Order}
-use Rattle.drt_table.specs.Work.{state_entries, node_entries, total, IsBounded}
-use Rattle.drt_table.proofs.Lists.{Before, before_change, Pushed, earlier, last, before_push}
+use Rattle.drt_worklist.proofs.Runs.{run_keeps}
+use Rattle.drt_table.specs.Work.{state_entries, node_entries, IsBounded}
+use Rattle.drt_worklist.proofs.Lists.{Before, before_change}
+use Rattle.drt_worklist.proofs.Views.{Pushed, earlier, last, before_push}
 use Rattle.drt_table.proofs.Opening.{opening_facts, opening_order, distinct}
 use Rattle.drt_table.proofs.Adding.{IsUndominated}
 use Rattle.drt_table.proofs.Steps.{count_one, step_keeps, undominated}
@@ -183,11 +185,6 @@ module _ {L : Type 0} (a : Algebra L) (laws : Laws a) (t : Setting) (takes_bound
     keeps_step w (Offer id i) can = keeps_cond (is_full a t s) _ _ k (keeps_offered_at (record { worker = w; step = Offer id i }) w id i can.0 (slice_get s.nodes id) refl can.1.at can.1.held can.3)
     keeps_step w (Close id) can = keeps_close w id can.0 can.1.at can.1.held
 
-  keeps_run : (es : List Entry) (s : State L) → Facts a t s.nodes → Order a t s.nodes → Keeps s → IsRunFrom a t s es → Keeps (replay_from a t s es)
-  keeps_run [] s facts order k run = k
-  keeps_run (e ∷ es) s facts order k run =
-      keeps_run es (step_of a t s e.worker e.step).state (step_keeps a laws t s e.worker e.step facts run.0) (step_order a t sound laws s e.worker e.step facts order run.0) (keeps_step s facts order k e.worker e.step run.0) run.2
-
   opening_none : (n v : ℕ) → total node_entries (opening_nodes a t v n) ≡ 0
   opening_none zero v = refl
   opening_none (suc n) v = at_head (in_range a t (opening_label a t v)) (opening_none n (v + 1))
@@ -196,9 +193,30 @@ module _ {L : Type 0} (a : Algebra L) (laws : Laws a) (t : Setting) (takes_bound
       at_head true h = omega (arith, h)
       at_head false h = h
 
+  opening_keeps : Keeps (opening_state a t)
+  opening_keeps = record {
+    distinct_labels = record { once = λ i j m n hm hn e. distinct a laws t (length t.graph.vertices) 0 i j m n hm hn (ap a.vertex e) };
+    entries = sym (opening_none (length t.graph.vertices) 0);
+  }
+
+  -- what each step keeps beside the facts and the order
+  abbrev Kept : State L → Type 0
+  Kept s = Facts a t s.nodes × Order a t s.nodes × Keeps s
+
+  step_kept : (s : State L) (e : Entry) → CanEnter a t s e → Kept s → Kept (after a t s e)
+  step_kept s e can k = (
+    step_keeps a laws t s e.worker e.step k.0 can,
+    step_order a t sound laws s e.worker e.step k.0 k.1 can,
+    keeps_step s k.0 k.1 k.2 e.worker e.step can,
+  )
+
+  run_kept : (es : List Entry) → IsRun a t es → Kept (replay a t es)
+  run_kept es run =
+      run_keeps (after a t) (CanEnter a t) (λ (s : State L). s.log) Kept step_kept es (opening_state a t)
+      (opening_facts a laws t, opening_order a laws t, opening_keeps) run
+
   -- the work of a run
   pub run_bounded : (es : List Entry) → IsRun a t es → IsBounded (replay a t es)
   run_bounded es run =
-      let k : Keeps (replay a t es) = keeps_run es (opening_state a t) (opening_facts a laws t) (opening_order a laws t)
-      (record { distinct_labels = record { once = λ i j m n hm hn e. distinct a laws t (length t.graph.vertices) 0 i j m n hm hn (ap a.vertex e) }; entries = sym (opening_none (length t.graph.vertices) 0) }) run in
+      let k : Keeps (replay a t es) = (run_kept es run).2 in
       record { once = k.distinct_labels.once; entries = k.entries }

@@ -1,7 +1,8 @@
 -- What a driver does and where it stops.
-use Rattle.std.specs.Prelude.{◌≡◌, ℕ, IsTrue, false, None, List, [], ◌∷◌, ◌++◌, length}
+use Rattle.std.specs.Prelude.{◌≡◌, ℕ, IsTrue, false, None, List, ◌++◌, length}
 use Rattle.drt_label.specs.Algebra.{Algebra}
-use Rattle.drt_table.specs.Machine.{Setting, State, holder, step_of, is_finished, IsRunFrom, replay_from}
+use Rattle.drt_table.specs.Machine.{Setting, State, holder, after, is_finished, IsRunFrom, replay_from}
+use Rattle.drt_worklist.specs.Runs.{AllAlong}
 use Rattle.drt_table.specs.View.{View, setting_of, state_of}
 use Rattle.drt_table.specs.declared.step.Entry.{Entry}
 use Rattle.drt_table.specs.declared.step.TableStep.{TableStep}
@@ -18,8 +19,7 @@ module _ {L : Type 0} (a : Algebra L) (t : Setting) (w : ℕ) where
 
   -- Each entry is a driver's, one after another.
   abbrev pub AreDriven : State L → List Entry → Type 0
-  AreDriven s [] = Unit {0}
-  AreDriven s (e ∷ es) = IsDriven s e.worker e.step × AreDriven (step_of a t s e.worker e.step).state es
+  AreDriven s es = AllAlong (after a t) (λ (s : State L) (e : Entry). IsDriven s e.worker e.step) s es
 
 -- The driver w went on from old to new: each of its steps is one step of the machine, and the log begins with the old log.
 pub record Drives {L : Type 0} (a : Algebra L) (w : ℕ) (old new : View L) : Type 0 where

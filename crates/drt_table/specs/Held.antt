@@ -2,7 +2,7 @@
 use Rattle.std.specs.Prelude.{◌≡◌, ℕ, ◌+◌, Bool, true, false, if◌then◌else◌, ◌&&◌, Option, Some, None, List, [], ◌∷◌, ◌++◌, length, map, slice_get}
 use Rattle.drt_label.specs.Algebra.{Algebra}
 use Rattle.drt_table.specs.Node.{Held, is_kept, fresh}
-use Rattle.drt_table.specs.Places.{first}
+use Rattle.drt_worklist.specs.Places.{first}
 use Rattle.drt_table.specs.declared.step.TableReply.{TableReply}
 use Rattle.drt_table.specs.declared.step.TableReply.TheVariants.{Added, Dominated, OutOfRange}
 use Rattle.drt_table.specs.declared.node.NodeState.TheVariants.{Taken, Done}

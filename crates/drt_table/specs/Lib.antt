@@ -1,5 +1,6 @@
-pub mod Places
+pub mod Earliest
 pub mod Node
+pub mod Stage
 pub mod Machine
 pub mod Walk
 pub mod Cover

@@ -4,7 +4,9 @@ use Rattle.drt_label.specs.Algebra.{Algebra}
 use Rattle.drt_model.specs.Digraph.{Digraph, vertex_of, edge_of, out_degree}
 use Rattle.drt_model.specs.declared.tasks.Edge.{Edge}
 use Rattle.drt_table.specs.Node.{NodeOf, is_kept, is_pending, is_taken, fresh}
-use Rattle.drt_table.specs.Places.{first, changed, smaller, least_of, earliest}
+use Rattle.drt_worklist.specs.Places.{first, changed}
+use Rattle.drt_worklist.specs.Runs.{replay_from as replay_by, IsRunFrom as IsRunBy}
+use Rattle.drt_table.specs.Earliest.{smaller, least_of, earliest}
 use Rattle.drt_table.specs.declared.node.NodeState.TheVariants.{Taken as TakenBy, Done}
 use Rattle.drt_table.specs.declared.step.TableStep.{TableStep}
 use Rattle.drt_table.specs.declared.step.TableStep.TheVariants.{Take, Offer, Close}
@@ -161,15 +163,21 @@ module _ {L : Type 0} (a : Algebra L) (t : Setting) where
   CanStep s w (Offer id k) = (n : NodeOf L) × Holds s w id n × (k ≡ n.offered) × (k < out_degree t.graph (a.vertex n.label))
   CanStep s w (Close id) = (n : NodeOf L) × Holds s w id n × (n.offered ≡ out_degree t.graph (a.vertex n.label))
 
+  -- The state after an entry.
+  abbrev pub after : State L → Entry → State L
+  after s e = (step_of s e.worker e.step).state
+
+  -- An entry meets the conditions of its step.
+  abbrev pub CanEnter : State L → Entry → Type 0
+  CanEnter s e = CanStep s e.worker e.step
+
   -- The state after some entries.
   abbrev pub replay_from : State L → List Entry → State L
-  replay_from s [] = s
-  replay_from s (e ∷ es) = replay_from (step_of s e.worker e.step).state es
+  replay_from s es = replay_by after s es
 
   -- The entries meet the conditions one after another, and each adds itself to the log.
   abbrev pub IsRunFrom : State L → List Entry → Type 0
-  IsRunFrom s [] = Unit {0}
-  IsRunFrom s (e ∷ es) = CanStep s e.worker e.step × ((step_of s e.worker e.step).state.log ≡ s.log ++ e ∷ []) × IsRunFrom (step_of s e.worker e.step).state es
+  IsRunFrom s es = IsRunBy after CanEnter (λ (s : State L). s.log) s es
 
   -- The state after a log, from the opening state.
   abbrev pub replay : List Entry → State L

@@ -1,6 +1,5 @@
 -- A node of the table as a value.
-use Rattle.std.specs.Prelude.{◌≡◌, ℕ, Bool, true, false, ◌==◌, Option, None, is_none, is_some, IfSome}
-use Rattle.std.specs.declared.sync.Arc.{Arc}
+use Rattle.std.specs.Prelude.{ℕ, Bool, true, false, ◌==◌, Option, None, is_none}
 use Rattle.drt_table.specs.declared.node.NodeState.{NodeState}
 use Rattle.drt_table.specs.declared.node.NodeState.TheVariants.{Pending, Taken, Done}
 
@@ -54,8 +53,3 @@ is_held_by w n = is_taken_by w n.state
 -- A new node with a label and a parent is pending, has offered nothing and is kept.
 abbrev pub fresh : {L : Type 0} → L → Option ℕ → NodeOf L
 fresh l p = record { label = l; parent = p; offered = 0; state = Pending; dropped_by = None }
-
--- A spare, where it is there, holds the node's label, and a pending node has its spare.
-pub record IsSpare {L Z : Type 0} (label : L) (spare : Option (Arc L Z)) (state : NodeState) : Type 0 where
-  pub same : IfSome spare (λ x. x.value ≡ label)
-  pub there : is_pending_state state ≡ true → is_some spare ≡ true

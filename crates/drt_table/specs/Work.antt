@@ -1,6 +1,7 @@
 -- How much work a run does.
-use Rattle.std.specs.Prelude.{◌≡◌, ℕ, ◌+◌, ◌*◌, ◌≤◌, ◌<◌, ◌⊎◌, IsTrue, false, if◌then◌else◌, Some, List, length, [], ◌∷◌, slice_get}
+use Rattle.std.specs.Prelude.{◌≡◌, ℕ, ◌+◌, ◌*◌, ◌≤◌, ◌<◌, ◌⊎◌, IsTrue, false, if◌then◌else◌, Some, List, length, slice_get}
 use Rattle.drt_label.specs.Algebra.{Algebra}
+use Rattle.drt_worklist.specs.Places.{total}
 use Rattle.drt_model.specs.Digraph.{out_degree}
 use Rattle.drt_table.specs.Node.{NodeOf, is_kept}
 use Rattle.drt_table.specs.declared.node.NodeState.{NodeState}
@@ -17,11 +18,6 @@ state_entries Done = 2
 -- The entries of a node: its Take, its offers and its Close. A node that was dropped has none.
 abbrev pub node_entries : {L : Type 0} → NodeOf L → ℕ
 node_entries n = if is_kept n then n.offered + state_entries n.state else 0
-
--- The sum of f over the elements.
-abbrev pub total : {A : Type 0} → (A → ℕ) → List A → ℕ
-total f [] = 0
-total f (x ∷ xs) = f x + total f xs
 
 -- How many nodes are kept.
 abbrev pub kept_count : {L : Type 0} → List (NodeOf L) → ℕ

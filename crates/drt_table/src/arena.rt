@@ -10,7 +10,8 @@ ghost use Rattle.drt_table.specs.Held.{AllOf, take_by, count_offer, close_node, 
 ghost use Rattle.drt_table.specs.Links.{AreAlone};
 ghost use Rattle.drt_table.specs.KeptOrder.{IsFirstKept, IsNextKept};
 ghost use Rattle.drt_table.specs.Node.{NodeOf, Held, is_pending, is_taken, is_held_by};
-ghost use Rattle.drt_table.specs.Places.{first, changed, earliest};
+ghost use Rattle.drt_worklist.specs.Places.{first, changed};
+ghost use Rattle.drt_table.specs.Earliest.{earliest};
 ghost use Rattle.std.specs.Option.{ForSome};
 ghost use Rattle.drt_table.specs.Taking.{is_soon};
 ghost use Rattle.drt_table.specs.View.{kept_at};
@@ -21,10 +22,10 @@ use crate::node::{Node, Twin};
 use crate::step::TableReply;
 use crate::waiting::{Queue, admit, first_waiting, pop_ticket, refresh};
 use drt_label::{Label, Memory};
+use drt_worklist::push_within;
 use std::alloc::Global;
 use std::collections::BinaryHeap;
 use std::marker::Model;
-use std::sync::Arc;
 
 /// The nodes, with room for all that a table can have.
 #[derive(Drop)]
@@ -234,10 +235,10 @@ impl<L: Label> Arena<L> {
         forget(&mut self.taken, id);
     }
 
-    pub(crate) fn hand_out(&mut self, id: u32) -> Arc<L>
+    pub(crate) fn hand_out(&mut self, id: u32) -> L
         requires { (h : Held L) × (slice_get self.old.nodes id ≡ Some h) × IsTrue h.spare × IsTrue (is_taken h.node) }
         ensures nodes { HasNodes self.old self.new (changed id hand_out self.old.nodes) }
-        ensures label { IfSome (slice_get self.old.nodes id) (λ h. result.value ≡ h.node.label) }
+        ensures label { IfSome (slice_get self.old.nodes id) (λ h. result ≡ h.node.label) }
     {
         self.nodes[id as usize].hand_out()
     }
@@ -251,17 +252,5 @@ fn is_within(offset: u64, from: u64, shortest: Option<u32>, bound: u64) -> bool
     match shortest {
         Some(sep) => offset < from || gap < sep as u64,
         None => gap <= bound,
-    }
-}
-
-// A push into room that is there.
-pub(crate) fn push_within<T: Drop>(items: &mut Vec<T>, item: T)
-    requires { vec_len items.old < vec_capacity items.old }
-    ensures items { items.new.items ≡ items.old.items ++ item ∷ [] }
-    ensures capacity { vec_capacity items.old ≤ vec_capacity items.new }
-{
-    match items.push(item) {
-        Ok(()) => {}
-        Err(_) => unreachable!(),
     }
 }

@@ -4,7 +4,8 @@ ghost use Rattle.std.specs.Prelude.{◌≡◌, ◌≢◌, ℕ, ◌+◌, ◌<◌,
 ghost use Rattle.std.specs.List.{Contains};
 ghost use Rattle.drt_table.specs.Held.{held_offset};
 ghost use Rattle.drt_table.specs.Node.{is_taken, is_held_by};
-ghost use Rattle.drt_table.specs.Places.{earliest, first};
+ghost use Rattle.drt_worklist.specs.Places.{first};
+ghost use Rattle.drt_table.specs.Earliest.{earliest};
 ghost use Rattle.drt_table.specs.Waiting.{AreHeld, earlier};
 
 use crate::node::Node;
@@ -28,7 +29,7 @@ pub(crate) fn first_taken<L: Label>(nodes: &[Node<L>], taken: &[u32]) -> Option<
 }
 
 // The least node that the worker holds.
-pub(crate) fn first_held<L>(nodes: &[Node<L>], taken: &[u32], worker: u32) -> Option<u32>
+pub(crate) fn first_held<L: Label>(nodes: &[Node<L>], taken: &[u32], worker: u32) -> Option<u32>
     requires { AreHeld nodes.now taken.now }
     ensures { result ≡ first (λ h. is_held_by worker h.node) nodes.now }
 {

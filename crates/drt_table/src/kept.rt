@@ -9,14 +9,14 @@ ghost use Rattle.drt_table.specs.Held.{AllOf, drop_held, dominates_held, fresh_h
 ghost use Rattle.drt_label.specs.Algebra.{IsTime};
 ghost use Rattle.drt_table.specs.Node.{is_kept};
 ghost use Rattle.drt_table.specs.Links.{AreLinked, AreAlone, IsPlace, IsLink, heads_after, links_after};
-ghost use Rattle.drt_table.specs.Places.{first};
+ghost use Rattle.drt_worklist.specs.Places.{first};
 ghost use Rattle.std.specs.Option.{ForSome};
 
-use crate::arena::push_within;
 use crate::node::{Node, Twin};
 use crate::shortest::smaller;
 use crate::step::TableReply;
 use drt_label::Label;
+use drt_worklist::push_within;
 
 // Offers the label of the twin, which the node `parent` gave.
 pub(crate) fn place_in<L: Label>(

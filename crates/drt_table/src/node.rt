@@ -8,7 +8,6 @@ ghost use Rattle.drt_label.specs.Algebra.{IsTime};
 use drt_label::{Label, Memory};
 use std::alloc::Global;
 use std::marker::Model;
-use std::sync::Arc;
 
 /// Where a node stands: it waits, a worker holds it, or it is done. A node that is dropped is done.
 #[derive(Clone, Copy, Debug, PartialEq, Eq)]
@@ -18,64 +17,69 @@ pub enum NodeState {
     Done,
 }
 
-/// One label in two Arcs. It is made before the label is offered, so that no Arc has to be copied under a lock: the
-/// table keeps one, and a worker that takes the node is handed the other. Contracts see it as the label.
+/// A label with a spare of it. It is made before the label is offered, so that nothing has to be copied under a lock: the
+/// table keeps the label, and a worker that takes the node is handed the label made of the spare. Contracts see it as the
+/// label.
 #[derive(Drop)]
-pub struct Twin<L> {
-    pub label: Arc<L>,
-    pub spare: Arc<L>,
+pub struct Twin<L: Label> {
+    pub(crate) label: L,
+    spare: L::Spare,
 }
 
-impl<L> Model for Twin<L> {
-    ghost use Rattle.std.specs.Prelude.{◌≡◌};
-
+impl<L: Label> Model for Twin<L> {
     ghost Value = { L };
 
-    ghost view = { λ t. t.label.value };
+    ghost view = { λ t. t.label };
 
-    ghost invariant = { λ t. t.spare.value ≡ t.label.value };
+    ghost invariant = { λ t. L.is_spare t.label t.spare };
+}
+
+// Where a node stands, and the later node that dropped it, if any.
+#[derive(Clone, Copy)]
+enum Stage {
+    Pending,
+    Taken(u32),
+    Done,
+    Dropped(u32),
 }
 
 /// A label of a walk in a table: the node that it extends, how many of its out-edges were offered, its state, and the
 /// later node that dropped it, if any. The spare is there until it is handed out.
 #[derive(Drop)]
-pub struct Node<L> {
-    pub label: Arc<L>,
-    pub spare: Option<Arc<L>>,
-    pub parent: Option<u32>,
-    pub offered: u32,
-    pub state: NodeState,
-    pub dropped_by: Option<u32>,
+pub struct Node<L: Label> {
+    label: L,
+    spare: Option<L::Spare>,
+    parent: Option<u32>,
+    offered: u32,
+    stage: Stage,
 }
 
-impl<L> Model for Node<L> {
+impl<L: Label> Model for Node<L> {
     ghost use Rattle.std.specs.Prelude.{◌≡◌, IsTrue, IfSome, is_some};
-    ghost use Rattle.drt_table.specs.Node.{Held, NodeOf, is_pending_state};
+    ghost use Rattle.drt_table.specs.Node.{Held, NodeOf};
+    ghost use Rattle.drt_table.specs.Stage.{state_at, dropper, IsSpare};
 
     ghost Value = { Held L };
 
     ghost view = { λ n. record {
-      node = record { label = n.label.value; parent = n.parent; offered = n.offered; state = n.state; dropped_by = n.dropped_by };
+      node = record { label = n.label; parent = n.parent; offered = n.offered; state = state_at n.stage; dropped_by = dropper n.stage };
       spare = is_some n.spare;
     } };
 
-    ghost use Rattle.drt_table.specs.Node.{IsSpare};
-
-    ghost invariant = { λ n. IsSpare n.label.value n.spare n.state };
+    ghost invariant = { λ n. IsSpare L.is_spare n.label n.spare (state_at n.stage) };
 }
 
-impl<L: Drop> Twin<L> {
-    /// The label in two Arcs.
+impl<L: Label> Twin<L> {
+    /// The label with a spare.
     pub fn new(alloc: Global, label: L) -> Result<Twin<L>, Memory>
         ensures { IfOk result (λ twin. twin ≡ label) }
     {
-        let label = Arc::new(alloc, label)?;
-        let spare = Arc::try_clone(&label)?;
+        let spare = label.make_spare(alloc)?;
         Ok(Twin { label, spare })
     }
 }
 
-impl<L> Node<L> {
+impl<L: Label> Node<L> {
     // A new pending node.
     pub(crate) fn fresh(twin: Twin<L>, parent: Option<u32>) -> Node<L>
         ensures { result ≡ fresh_held twin parent }
@@ -86,51 +90,97 @@ impl<L> Node<L> {
             spare: Some(spare),
             parent,
             offered: 0,
-            state: NodeState::Pending,
-            dropped_by: None,
+            stage: Stage::Pending,
         }
     }
 
-    pub(crate) fn parent(&self) -> Option<u32>
+    /// The label of the walk.
+    pub fn label(&self) -> &L
+        ensures { result.now ≡ self.now.node.label }
+    {
+        &self.label
+    }
+
+    /// The node whose label it extends, none for an opening node.
+    pub fn parent(&self) -> Option<u32>
         ensures { result ≡ self.now.node.parent }
     {
         self.parent
     }
 
+    /// How many of the label's out-edges were offered.
+    pub fn offered(&self) -> u32
+        ensures { result ≡ self.now.node.offered }
+    {
+        self.offered
+    }
+
+    /// Whether it waits, is held or is done.
+    pub fn state(&self) -> NodeState
+        ensures { result ≡ self.now.node.state }
+    {
+        match self.stage {
+            Stage::Pending => NodeState::Pending,
+            Stage::Taken(worker) => NodeState::Taken(worker),
+            Stage::Done => NodeState::Done,
+            Stage::Dropped(_) => NodeState::Done,
+        }
+    }
+
+    /// The later node that dropped it, none for a kept node.
+    pub fn dropped_by(&self) -> Option<u32>
+        ensures { result ≡ self.now.node.dropped_by }
+    {
+        match self.stage {
+            Stage::Pending => None,
+            Stage::Taken(_) => None,
+            Stage::Done => None,
+            Stage::Dropped(number) => Some(number),
+        }
+    }
+
     pub(crate) fn is_pending(&self) -> bool
         ensures { result ≡ is_pending self.now.node }
     {
-        match self.state {
-            NodeState::Pending => true,
-            NodeState::Taken(_) => false,
-            NodeState::Done => false,
+        match self.stage {
+            Stage::Pending => true,
+            Stage::Taken(_) => false,
+            Stage::Done => false,
+            Stage::Dropped(_) => false,
         }
     }
 
     pub(crate) fn is_taken(&self) -> bool
         ensures { result ≡ is_taken self.now.node }
     {
-        match self.state {
-            NodeState::Pending => false,
-            NodeState::Taken(_) => true,
-            NodeState::Done => false,
+        match self.stage {
+            Stage::Pending => false,
+            Stage::Taken(_) => true,
+            Stage::Done => false,
+            Stage::Dropped(_) => false,
         }
     }
 
     pub(crate) fn is_held_by(&self, worker: u32) -> bool
         ensures { result ≡ is_held_by worker self.now.node }
     {
-        match self.state {
-            NodeState::Pending => false,
-            NodeState::Taken(holder) => holder == worker,
-            NodeState::Done => false,
+        match self.stage {
+            Stage::Pending => false,
+            Stage::Taken(holder) => holder == worker,
+            Stage::Done => false,
+            Stage::Dropped(_) => false,
         }
     }
 
-    pub(crate) fn offered(&self) -> u32
-        ensures { result ≡ self.now.node.offered }
+    pub(crate) fn is_kept(&self) -> bool
+        ensures { result ≡ is_kept self.now.node }
     {
-        self.offered
+        match self.stage {
+            Stage::Pending => true,
+            Stage::Taken(_) => true,
+            Stage::Done => true,
+            Stage::Dropped(_) => false,
+        }
     }
 
     // The worker that holds the node.
@@ -138,16 +188,17 @@ impl<L> Node<L> {
         requires { is_taken self.now.node ≡ true }
         ensures { self.now.node.state ≡ NodeState.Taken result }
     {
-        match self.state {
-            NodeState::Taken(worker) => worker,
+        match self.stage {
+            Stage::Taken(worker) => worker,
             _ => unreachable!(),
         }
     }
 
     pub(crate) fn take_by(&mut self, worker: u32)
+        requires { is_pending self.old.node ≡ true }
         ensures { self.new ≡ take_by worker self.old }
     {
-        self.state = NodeState::Taken(worker);
+        self.stage = Stage::Taken(worker);
     }
 
     pub(crate) fn count_offer(&mut self)
@@ -158,26 +209,25 @@ impl<L> Node<L> {
     }
 
     pub(crate) fn close(&mut self)
+        requires { is_taken self.old.node ≡ true }
         ensures { self.new ≡ close_node self.old }
     {
-        self.state = NodeState::Done;
+        self.stage = Stage::Done;
     }
 
-    // The spare, which the node then lacks.
-    pub(crate) fn hand_out(&mut self) -> Arc<L>
+    // The label once more, made of the spare, which the node then lacks.
+    pub(crate) fn hand_out(&mut self) -> L
         requires there { self.old.spare ≡ true }
         requires taken { is_pending self.old.node ≡ false }
         ensures node { self.new ≡ hand_out self.old }
-        ensures label { result.value ≡ self.old.node.label }
+        ensures label { result ≡ self.old.node.label }
     {
         match self.spare.take() {
-            Some(spare) => spare,
+            Some(spare) => self.label.hand_out(spare),
             None => unreachable!(),
         }
     }
-}
 
-impl<L: Label> Node<L> {
     // The node's label extended by an edge.
     pub(crate) fn extend(
         &self,
@@ -211,7 +261,7 @@ impl<L: Label> Node<L> {
         requires { (bound : ℕ) × IsTrue (L.algebra.is_of label.now bound) × IsTrue (L.algebra.is_of self.now.node.label bound) }
         ensures { result ≡ dominates_held L.algebra label.now self.now }
     {
-        self.dropped_by.is_none() && self.label.dominates(label)
+        self.is_kept() && self.label.dominates(label)
     }
 
     // Whether the label dominates the node.
@@ -227,9 +277,8 @@ impl<L: Label> Node<L> {
         requires { (bound : ℕ) × IsTrue (L.algebra.is_of label.now bound) × IsTrue (L.algebra.is_of self.old.node.label bound) }
         ensures { self.new ≡ drop_held L.algebra label.now number self.old }
     {
-        if self.dropped_by.is_none() && label.dominates(&self.label) {
-            self.dropped_by = Some(number);
-            self.state = NodeState::Done;
+        if self.is_kept() && label.dominates(&self.label) {
+            self.stage = Stage::Dropped(number);
         }
     }
 }

@@ -6,7 +6,7 @@ ghost use Rattle.drt_table.specs.Cover.{IsFront};
 ghost use Rattle.drt_table.specs.KeptOrder.{IsFirstKept, IsNextKept};
 ghost use Rattle.drt_table.specs.Machine.{is_finished};
 ghost use Rattle.drt_table.specs.Node.{NodeOf, is_held_by};
-ghost use Rattle.drt_table.specs.Places.{first};
+ghost use Rattle.drt_worklist.specs.Places.{first};
 ghost use Rattle.drt_table.specs.View.{IsTable, setting_of, state_of};
 ghost use Rattle.drt_table.specs.Walk.{IsWalkOf};
 

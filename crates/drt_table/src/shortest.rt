@@ -3,7 +3,7 @@
 ghost use Rattle.std.specs.Prelude.{◌≡◌, ◌<◌, true, length};
 ghost use Rattle.drt_model.specs.Digraph.{IsSound, vertex_count, out_edges};
 ghost use Rattle.drt_table.specs.Machine.{shortest};
-ghost use Rattle.drt_table.specs.Places.{smaller, least_of};
+ghost use Rattle.drt_table.specs.Earliest.{smaller, least_of};
 
 use drt_graph::Graph;
 

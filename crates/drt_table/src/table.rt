@@ -3,21 +3,21 @@
 ghost use Rattle.std.specs.Prelude.{◌≡◌, ℕ, ◌+◌, ◌≤◌, ◌<◌, ◌++◌, ◌∷◌, [], true, Some, slice_get, length, IfOk, IfSome, IsTrue, map, nat_le, replicate, vec_capacity};
 ghost use Rattle.drt_table.specs.View.{View, IsTable, setting_of, state_of, spares_of, CanApply, ComesWith, IsStep};
 ghost use Rattle.drt_table.specs.Machine.{opening_state, extended};
-ghost use Rattle.drt_table.specs.Places.{changed};
+ghost use Rattle.drt_worklist.specs.Places.{changed};
 ghost use Rattle.drt_table.specs.Node.{NodeOf, Held, is_taken};
 ghost use Rattle.drt_table.specs.Held.{hand_out};
 ghost use Rattle.drt_table.specs.Taking.{chosen, taken_node};
 ghost use Rattle.drt_model.specs.Digraph.{vertex_count};
 
-use crate::arena::{Arena, push_within};
+use crate::arena::Arena;
 use crate::node::Twin;
 use crate::shortest::shortest;
 use crate::step::{Entry, TableReply, TableStep};
 use drt_graph::Graph;
 use drt_label::{Label, Memory};
+use drt_worklist::push_within;
 use std::alloc::Global;
 use std::marker::Model;
-use std::sync::Arc;
 
 /// The labels of in-range walks of one graph that were found so far, and the log of the steps that found them.
 ///
@@ -122,13 +122,14 @@ impl<L: Label> Table<L> {
         }
     }
 
-    /// The spare of a taken node, which the node then lacks. Nothing else changes.
-    pub fn hand_out(&mut self, id: u32) -> Arc<L>
+    /// The label of a taken node once more, made of the node's spare, which the node then lacks. Nothing else changes, and it
+    /// takes no memory.
+    pub fn hand_out(&mut self, id: u32) -> L
         requires { (h : Held _) × (slice_get self.old.nodes id ≡ Some h) × IsTrue h.spare × IsTrue (is_taken h.node) }
         ensures setting { setting_of self.new ≡ setting_of self.old }
         ensures log { self.new.log ≡ self.old.log }
         ensures nodes { self.new.nodes ≡ changed id hand_out self.old.nodes }
-        ensures label { IfSome (slice_get self.old.nodes id) (λ h. result.value ≡ h.node.label) }
+        ensures label { IfSome (slice_get self.old.nodes id) (λ h. result ≡ h.node.label) }
     {
         self.arena.hand_out(id)
     }

@@ -7,7 +7,7 @@ ghost use Rattle.std.specs.BinaryHeap.{IsHeap, IsUpperBound, heap_capacity, heap
 ghost use Rattle.std.specs.List.Sorted.{IsPermutation};
 ghost use Rattle.drt_table.specs.Held.{held_offset};
 ghost use Rattle.drt_table.specs.Node.{is_pending};
-ghost use Rattle.drt_table.specs.Places.{earliest};
+ghost use Rattle.drt_table.specs.Earliest.{earliest};
 ghost use Rattle.drt_table.specs.Waiting.{Ticket, ticket, ticket_cmp, AreWaiting, IsFresh, IsStale};
 
 use crate::node::Node;

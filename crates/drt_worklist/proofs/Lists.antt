@@ -41,6 +41,19 @@ length-changed k f [] = refl
 length-changed zero f (x ∷ xs) = refl
 length-changed (suc k) f (x ∷ xs) = ap suc (length-changed k f xs)
 
+-- what a change makes, and what it leaves
+pub changed_at : {A : Type 0} (k : ℕ) (f : A → A) (xs : List A) (x : A) → slice_get xs k ≡ Some x → slice_get (changed k f xs) k ≡ Some (f x)
+changed_at k f [] x h = absurd (none-some x h)
+changed_at zero f (z ∷ xs) x h = ap (λ v. Some (f v)) (same_Some z x h)
+changed_at (suc k) f (z ∷ xs) x h = changed_at k f xs x h
+
+pub changed_other : {A : Type 0} (i : ℕ) (g : A → A) (xs : List A) (k : ℕ) → (k ≡ i → ⊥) → slice_get (changed i g xs) k ≡ slice_get xs k
+changed_other i g [] k ne = refl
+changed_other zero g (x ∷ xs) zero ne = absurd (ne refl)
+changed_other zero g (x ∷ xs) (suc k) ne = refl
+changed_other (suc i) g (x ∷ xs) zero ne = refl
+changed_other (suc i) g (x ∷ xs) (suc k) ne = changed_other i g xs k (λ e. ne (ap suc e))
+
 -- a first place that passes
 pub record Found {A : Type 0} (p : A → Bool) (xs : List A) (k : ℕ) : Type 0 where
   pub item : A

@@ -12,6 +12,11 @@ module _ {S E : Type 0} (next : S → E → S) where
   along_join P [] fs s h g = g
   along_join P (e ∷ es) fs s h g = (h.0, along_join P es fs (next s e) h.1 g)
 
+  -- what each entry keeps, whether it meets its conditions or not
+  pub replay_keeps : (P : S → Type 0) → ((s : S) (e : E) → P s → P (next s e)) → (es : List E) (s : S) → P s → P (replay_from next s es)
+  replay_keeps P keeps [] s h = h
+  replay_keeps P keeps (e ∷ es) s h = replay_keeps P keeps es (next s e) (keeps s e h)
+
   module _ (Can : S → E → Type 0) (log : S → List E) where
     pub run_join : (es fs : List E) (s : S) → IsRunFrom next Can log s es → IsRunFrom next Can log (replay_from next s es) fs → IsRunFrom next Can log s (es ++ fs)
     run_join [] fs s run more = more

@@ -1,13 +1,13 @@
 //! Single fields of a line.
-ghost use Rattle.std.specs.Prelude.{◌≡◌, ◌≤◌, ◌-◌, ◌++◌, ◌∷◌, List, ℕ, negsuc, min, decimal, MatchOption};
+ghost use Rattle.std.specs.Prelude.{◌≡◌, ◌<◌, ◌≤◌, ◌↔◌, ◌-◌, ◌++◌, ◌∷◌, IsTrue, List, ℕ, negsuc, min, decimal, MatchOption};
+ghost use Rattle.std.specs.List.{list_all};
 ghost use Rattle.std.specs.Fmt.{signed_decimal};
-ghost use Rattle.drt_file.specs.trusted.Words.{value};
-ghost use Rattle.drt_evidence.specs.LineForms.{AreBoth, HasNoSpace, IsAny, IsForm, IsNoForm, itself, pair_form};
+ghost use Rattle.drt_file.specs.trusted.Words.{is_digit, value};
+ghost use Rattle.drt_evidence.specs.LineForms.{AreBoth, HasNoSpace, IsAny, IsForm, IsNoForm, IsNumeral, itself, pair_form};
 ghost use Rattle.drt_evidence.specs.Ranges.{IsInRangeItem, IsInRangePotential, IsNumber, IsTick};
 ghost use Rattle.drt_evidence.specs.Text.{item_field};
 
 use crate::evidence::Item;
-use itoa::Buffer;
 
 /// The greatest number of a vertex, a task, a job or a place, and the greatest count.
 pub(crate) const MOST_NUMBER: u64 = 4_294_967_295;
@@ -60,17 +60,35 @@ fn value_of(field: &[u8]) -> u64
     n
 }
 
+// Whether bytes are digits as a number has them: at least one, and no leading zero.
+fn is_numeral(field: &[u8]) -> bool
+    ensures { IsTrue result ↔ IsNumeral field.now }
+{
+    match field {
+        [] => false,
+        [b'0', _, ..] => false,
+        _ => are_digits(field),
+    }
+}
+
+// Whether each byte is a digit.
+#[tactic(auto, unfolding(drt_file::specs::trusted::Words::is_digit))]
+fn are_digits(field: &[u8]) -> bool
+    ensures { result ≡ list_all is_digit field.now }
+{
+    field.iter().all(|b| *b >= b'0' && *b <= b'9')
+}
+
 // The number that the field is, where it is at most so great.
 pub(crate) fn number_of(field: &[u8], most: u64) -> Option<u64>
+    requires { most < 18446744073709551615 }
     ensures { MatchOption result (IsNoForm decimal (λ n. n ≤ most) field.now) (IsForm decimal (λ n. n ≤ most) field.now) }
 {
-    let n = value_of(field);
-    let mut number = Buffer::new();
-    if n <= most && number.format(n).as_bytes() == field {
-        Some(n)
-    } else {
-        None
+    if !is_numeral(field) {
+        return None;
     }
+    let n = value_of(field);
+    if n <= most { Some(n) } else { None }
 }
 
 // The number of a vertex, a task, a job or a place, or the count, that the field is.

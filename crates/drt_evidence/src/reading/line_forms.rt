@@ -1,7 +1,7 @@
 //! Lines with a fixed number of fields.
 //!
 //! Each function is given a line without its LF, and answers with the value that the line says, or with `None` where it says none.
-ghost use Rattle.std.specs.Prelude.{◌≡◌, ◌≤◌, ◌↔◌, ◌∷◌, [], IsTrue, codes, decimal, MatchOption};
+ghost use Rattle.std.specs.Prelude.{◌≡◌, ◌<◌, ◌≤◌, ◌↔◌, ◌∷◌, [], IsTrue, codes, decimal, MatchOption};
 ghost use Rattle.std.specs.List.{join_with_byte};
 ghost use Rattle.drt_evidence.specs.LineForms.{AreBoth, IsAny, IsForm, IsInRangeWritten, IsLineOf, IsNoForm, IsNoLine, kind_line, pair_form, policy_line, written_ratio_line};
 ghost use Rattle.drt_evidence.specs.Ranges.{IsInRangeEntry, IsInRangeMiss, IsInRangePair, IsInRangeRelease, IsNumber, IsTick};
@@ -88,6 +88,7 @@ pub(crate) fn count_of(line: &[u8], word: &[u8]) -> Option<u32>
 
 // Two numbers, each at most so great, with a space between them.
 fn two_of(bytes: &[u8], first: u64, second: u64) -> Option<(u64, u64)>
+    requires { (first < 18446744073709551615) × (second < 18446744073709551615) }
     ensures { MatchOption result
         (IsNoForm (pair_form decimal decimal) (AreBoth (λ n. n ≤ first) (λ n. n ≤ second)) bytes.now)
         (IsForm (pair_form decimal decimal) (AreBoth (λ n. n ≤ first) (λ n. n ≤ second)) bytes.now) }
@@ -100,6 +101,7 @@ fn two_of(bytes: &[u8], first: u64, second: u64) -> Option<(u64, u64)>
 
 // Three numbers, each at most so great, with a space between them.
 fn three_of(bytes: &[u8], first: u64, second: u64, third: u64) -> Option<(u64, (u64, u64))>
+    requires { (first < 18446744073709551615) × (second < 18446744073709551615) × (third < 18446744073709551615) }
     ensures { MatchOption result
         (IsNoForm (pair_form decimal (pair_form decimal decimal)) (AreBoth (λ n. n ≤ first) (AreBoth (λ n. n ≤ second) (λ n. n ≤ third))) bytes.now)
         (IsForm (pair_form decimal (pair_form decimal decimal)) (AreBoth (λ n. n ≤ first) (AreBoth (λ n. n ≤ second) (λ n. n ≤ third))) bytes.now) }

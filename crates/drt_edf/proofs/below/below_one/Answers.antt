@@ -12,16 +12,16 @@ use Rattle.drt_edf.proofs.below.below_one.Goals as goal
 
 pub returns-in_ok-evidence-in-Finished : goal.returns-in_ok-evidence-in-Finished
 returns-in_ok-evidence-in-Finished c =
-    let given = subst (λ gs. AreGiven gs c.args.proofs.now) c.requires.graphs c.requires.given in
-    let plan = subst (λ gs. IsPlan gs c.args.proofs.now (Ok (Under c.args.bound))) c.requires.graphs c.requires.plan in
-    let near = plan_near c.args.graphs.now c.args.proofs.now c.args.bound c.requires.plan in
+    let given = subst (λ gs. AreGiven gs c.args.proofs) c.requires.graphs c.requires.given in
+    let plan = subst (λ gs. IsPlan gs c.args.proofs (Ok (Under c.args.bound))) c.requires.graphs c.requires.plan in
+    let near = plan_near c.args.graphs.now c.args.proofs c.args.bound c.requires.plan in
     let done = c.in_ok-evidence-in-Finished.ensures.done in
-    (done, planned_other c.args.set.now.tasks c.in_ok-evidence-in-Finished.evidence (inl (c.args.bound, planned_below c.args.set.now.tasks c.args.proofs.now given c.args.bound plan, near)) done, c.in_ok-evidence-in-Finished.ensures.range)
+    (done, planned_other c.args.set.now.tasks c.in_ok-evidence-in-Finished.evidence (inl (c.args.bound, planned_below c.args.set.now.tasks c.args.proofs given c.args.bound plan, near)) done, c.in_ok-evidence-in-Finished.ensures.range)
 
 pub returns-in-Spent : goal.returns-in-Spent
 returns-in-Spent c =
-    let given = subst (λ gs. AreGiven gs c.args.proofs.now) c.requires.graphs c.requires.given in
-    let plan = subst (λ gs. IsPlan gs c.args.proofs.now (Ok (Under c.args.bound))) c.requires.graphs c.requires.plan in
-    let spent = subst (λ s. AreSearches c.args.graphs.now c.args.bound c.args.budget s) c.in-Spent.is c.in_ok-tables.ensures in
+    let given = subst (λ gs. AreGiven gs c.args.proofs) c.requires.graphs c.requires.given in
+    let plan = subst (λ gs. IsPlan gs c.args.proofs (Ok (Under c.args.bound))) c.requires.graphs c.requires.plan in
+    let spent = subst (λ s. AreSearches c.args.graphs.now c.args.bound c.args.budget s) c.in-Spent.is c.in_ok-fronts.ensures in
     let at = subst (λ gs. AreSearches gs c.args.bound c.args.budget (Spent c.in-Spent.task c.in-Spent.log)) c.requires.graphs spent in
-    spent_table c.args.set.now.tasks c.args.proofs.now given c.args.bound plan c.args.budget c.in-Spent.task c.in-Spent.log at
+    spent_table c.args.set.now.tasks c.args.proofs given c.args.bound plan c.args.budget c.in-Spent.task c.in-Spent.log at

@@ -36,8 +36,10 @@ unreachable-requires c =
     let is : c.run_until.new.self ≡ record { policy = Edf; jobs = jobs_of tasks releases; ticks = c.args.t } =
     c.run_until.ensures ∙ (ap (λ (b : Shown). let s : Shown = record { policy = b.policy; jobs = b.jobs; ticks = c.args.t } in s) c.in_ok-board.ensures
     ∙ ap (λ (rs : List Release). let s : Shown = record { policy = Edf; jobs = jobs_of tasks rs; ticks = c.args.t } in s) c.as_slice.ensures.value) in
-    let late = some_late c.args.set.now.version tasks c.tasks-tasks.ensures.limits c.requires.constrained c.demand_misses.ensures c.args.t (walk_at c.args.walks.now) c.requires.walks c.requires.due c.requires.excess releases (c.in_ok-releases.ensures tasks c.requires.graphs) c.run_until.new.self is in
-    c.in-None.ensures.first late.0 late.1
+    let late = some_late c.args.set.now.version tasks c.tasks-tasks.ensures.limits c.requires.constrained c.demand_misses.ensures c.args.t
+    (walk_at c.args.walks.now) c.requires.walks c.requires.due c.requires.excess releases (c.in_ok-releases.ensures tasks c.requires.graphs)
+    c.run_until.new.self is in
+    (rw c.in-None.is at c.first_miss-missed.ensures.first) late.0 late.1
 
 pub returns-clause-done : goal.returns-clause-done
 returns-clause-done c =
@@ -46,7 +48,10 @@ returns-clause-done c =
     let is : c.run_until.new.self ≡ record { policy = Edf; jobs = jobs_of tasks releases; ticks = c.args.t } =
     c.run_until.ensures ∙ (ap (λ (b : Shown). let s : Shown = record { policy = b.policy; jobs = b.jobs; ticks = c.args.t } in s) c.in_ok-board.ensures
     ∙ ap (λ (rs : List Release). let s : Shown = record { policy = Edf; jobs = jobs_of tasks rs; ticks = c.args.t } in s) c.as_slice.ensures.value) in
-    rw c.from_vec.ensures (missed c.args.set.now.version tasks c.tasks-tasks.ensures.limits c.requires.constrained c.demand_misses.ensures c.no_assignment_meets.ensures c.args.t (walk_at c.args.walks.now) c.requires.walks c.requires.due c.requires.excess releases (c.in_ok-releases.ensures tasks c.requires.graphs) c.run_until.new.self is c.in-Some.miss c.in-Some.ensures.least)
+    rw c.from_vec.ensures
+    (missed c.args.set.now.version tasks c.tasks-tasks.ensures.limits c.requires.constrained c.demand_misses.ensures c.no_assignment_meets.ensures c.args.t
+    (walk_at c.args.walks.now) c.requires.walks c.requires.due c.requires.excess releases (c.in_ok-releases.ensures tasks c.requires.graphs)
+    c.run_until.new.self is c.in-Some.miss (rw c.in-Some.is at c.first_miss-missed.ensures.least))
 
 pub returns-clause-range : goal.returns-clause-range
 returns-clause-range c =
@@ -60,4 +65,4 @@ returns-clause-range c =
     let all = all_in_range tasks (walk_at c.args.walks.now) c.args.t kept c.requires.walks c.requires.due c.requires.time (length tasks) (omega arith) in
     let each : All IsInRangeRelease releases = rw same all in
     let counted : length releases ≤ 4294967295 = omega (arith, c.if-len-gt4294967295.false, c.len.ensures) in
-    rw c.from_vec.ensures (record { each = each; counted = counted; named = miss_in_range tasks releases c.args.t c.run_until.new.self c.in-Some.miss is each counted c.requires.time c.in-Some.ensures.first })
+    rw c.from_vec.ensures (record { each = each; counted = counted; named = miss_in_range tasks releases c.args.t c.run_until.new.self c.in-Some.miss is each counted c.requires.time (rw c.in-Some.is at c.first_miss-missed.ensures.first) })

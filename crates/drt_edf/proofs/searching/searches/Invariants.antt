@@ -1,7 +1,11 @@
--- Those so far are of the graphs so far.
-use Rattle.std.proofs.Common.{take}
-use Rattle.drt_edf.specs.Searches.{AreSearched}
+-- The fronts so far are those of the graphs so far.
+use Rattle.std.proofs.Common.{take, All}
+use Rattle.drt_evidence.specs.Ranges.{IsCounted}
+use Rattle.drt_edf.specs.LabelFronts.{AreLabelFronts}
 use Rattle.drt_edf.proofs.searching.searches.Given as goal
 
 abbrev pub invariant-tasks : goal.invariant-tasks
-invariant-tasks l = AreSearched l.bound (take l.task l.graphs) l.tables.items
+invariant-tasks l = record {
+  fronts : AreLabelFronts l.bound (take l.task l.graphs) l.fronts.items;
+  counted : All IsCounted l.fronts.items;
+}

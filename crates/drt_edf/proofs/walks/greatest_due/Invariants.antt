@@ -1,7 +1,6 @@
--- The best node so far is the greatest of those so far.
-use Rattle.std.proofs.Common.{take}
-use Rattle.drt_edf.specs.KeptNodes.{IsGreatestDue}
+-- No entry so far is due with all the demand.
+use Rattle.drt_edf.proofs.DemandWalks.{HaveLess}
 use Rattle.drt_edf.proofs.walks.greatest_due.Given as goal
 
-abbrev pub invariant-nodes : goal.invariant-nodes
-invariant-nodes l = IsGreatestDue l.graph (take l.i l.kept) l.t l.best
+abbrev pub invariant-entries : goal.invariant-entries
+invariant-entries l = HaveLess l.graph l.front l.t l.i

@@ -38,12 +38,13 @@ returns-in-Some-clause-left c =
 
 pub returns-in-Some-clause-finishes : goal.returns-in-Some-clause-finishes
 returns-in-Some-clause-finishes c =
-    subst (AreFinishes c.args.policy c.args.jobs.now (c.args.ticks + c.run_job-count.result)) (sym c.run_job-count.ensures.finishes)
+    subst (λ lefts. AreFinishes c.args.policy c.args.jobs.now (c.args.ticks + c.run_job-count.result) lefts c.run_job-count.new.finishes) (sym c.run_job-count.ensures.left)
+    (subst (AreFinishes c.args.policy c.args.jobs.now (c.args.ticks + c.run_job-count.result) _) (sym c.run_job-count.ensures.finishes)
     (run_finishes c.args.policy c.args.jobs.now c.args.ticks c.args.left.now c.requires.left c.args.waiting.now c.args.ready.now
     c.release.new.waiting c.release.new.ready c.requires.queued c.release.ensures.moved c.release.ensures.later
     c.first_ready.new.ready c.in-Some.ensures.cleared c.requires.needs c.next_release-next.result
     c.next_release-next.ensures.calm c.in-Some.j c.in-Some.ensures.found c.run_job-count.result c.run_job-count.ensures.some
-    c.run_job-count.ensures.in_time c.run_job-count.ensures.at_most c.args.finishes.now c.requires.finishes)
+    c.run_job-count.ensures.in_time c.run_job-count.ensures.at_most c.args.finishes.now c.requires.finishes))
 
 pub returns-in-Some-clause-queued : goal.returns-in-Some-clause-queued
 returns-in-Some-clause-queued c =

@@ -1,9 +1,9 @@
-use Rattle.std.proofs.Common.{length}
-use Rattle.drt_replay.specs.Events.{IsMoved}
+use Rattle.std.proofs.Common.{ℕ, ◌<◌, ◌≡◌, length, get_or}
+use Rattle.drt_replay.specs.Events.{IsLater, IsMoved, stretch_at}
 use Rattle.drt_replay.proofs.events.release.Given as goal
 
-abbrev pub invariant-loop-policy : goal.invariant-loop-policy
-invariant-loop-policy l = IsMoved l.policy l.jobs l.now l.initial.waiting l.initial.ready l.waiting l.ready
-
-abbrev pub decreases-loop-policy : goal.decreases-loop-policy
-decreases-loop-policy l = length l.waiting.items
+abbrev pub invariant-loop-i : goal.invariant-loop-i
+invariant-loop-i l = record {
+  moved : IsMoved l.policy l.jobs l.now l.initial.waiting l.initial.ready l.waiting l.ready;
+  later : (k : ℕ) → k < l.i → IsLater l.jobs l.now (stretch_at l.waiting k);
+}

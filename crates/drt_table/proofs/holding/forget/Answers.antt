@@ -3,8 +3,8 @@ use Rattle.std.specs.Prelude.{◌==◌}
 use Rattle.std.specs.List.{Contains}
 use Rattle.std.proofs.lemmas.Bool.Decides.{nat_tests}
 use Rattle.std.proofs.lemmas.Option.{slice_get_within, get_or_from_slice_get}
-use Rattle.drt_table.specs.Places.{first}
-use Rattle.drt_table.proofs.Lists.{Found, found}
+use Rattle.drt_worklist.specs.Places.{first}
+use Rattle.drt_worklist.proofs.Lists.{Found, found}
 use Rattle.drt_table.proofs.Scan.{others_stay}
 use Rattle.drt_table.proofs.holding.forget.Goals as goal
 

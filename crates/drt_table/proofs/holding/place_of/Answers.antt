@@ -2,7 +2,7 @@ use Rattle.std.proofs.Common.{◌≡◌, ℕ, Some, arith}
 use Rattle.std.specs.Prelude.{slice_get, slice_index_or, ◌==◌}
 use Rattle.std.proofs.lemmas.Bool.Decides.{nat_tests}
 use Rattle.std.proofs.lemmas.Option.{slice_get-get_or}
-use Rattle.drt_table.proofs.Lists.{first_is, first_none, fails_more}
+use Rattle.drt_worklist.proofs.Lists.{first_is, first_none, fails_more}
 use Rattle.drt_table.proofs.holding.place_of.Goals as goal
 
 pub returns-then-taken-j : goal.returns-then-taken-j

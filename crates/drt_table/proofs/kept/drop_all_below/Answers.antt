@@ -1,11 +1,12 @@
-use Rattle.std.proofs.Common.{◌≡◌, ◌<◌, ◌≤◌, ℕ, None, Some, Option, length, refl, sym, ap, ◌∙◌, subst, arith, set}
+use Rattle.std.proofs.Common.{◌≡◌, ◌<◌, ◌≤◌, ℕ, None, Some, Option, length, refl, sym, ap, ◌∙◌, subst, arith, rules, set}
 use Rattle.std.specs.Prelude.{slice_get, slice_set, slice_index_or, IsTrue}
 use Rattle.std.proofs.lemmas.Option.{none-some, same_Some, slice_get-get_or}
+use borrow.Author.Rules.{scaled_Fits}
 use Rattle.drt_table.specs.Links.{links_after, heads_after}
-use Rattle.drt_table.specs.Places.{changed}
+use Rattle.drt_worklist.specs.Places.{changed}
 use Rattle.drt_table.specs.Held.{AllOf, drop_held}
 use Rattle.drt_table.specs.Node.{Held}
-use Rattle.drt_table.proofs.Lists.{changed-set}
+use Rattle.drt_worklist.proofs.Writes.{changed_set}
 use Rattle.drt_table.proofs.Sweep.{to_go}
 use Rattle.drt_table.proofs.Sweeping.{IsSwept, sweep_start, swept_within, swept_of, stop_at, all_swept, swept_place, last_within, sweep_less, sweep_keep, sweep_drop}
 use Rattle.drt_table.proofs.kept.drop_all_below.Goals as goal
@@ -245,7 +246,7 @@ loop-next-preserved-then-is_below g c =
     let link : slice_get links i ≡ Some o = slice_get-get_or links i None lt_link in
     let dom : IsTrue (a.dominates l x.node.label) = sym c.is_below.ensures ∙ c.if-is_below.true in
     let dom_y : IsTrue (a.dominates l y.node.label) = subst (λ (h : Held _). IsTrue (a.dominates l h.node.label)) (same_Some x y (sym at_x ∙ at_y)) dom in
-    let nodes : slice_set ns i c.drop_below.new.self ≡ changed i (drop_held a l n) ns = ap (λ h. set ns i h) c.drop_below.ensures ∙ changed-set (drop_held a l n) ns i y at_y in
+    let nodes : slice_set ns i c.drop_below.new.self ≡ changed i (drop_held a l n) ns = ap (λ h. set ns i h) c.drop_below.ensures ∙ sym (changed_set (drop_held a l n) ns i y at_y) in
     let heads_are : c.link.new.heads ≡ heads_after (a.vertex l) last o heads = c.link.ensures.heads ∙ ap (λ v. heads_after v last o heads) c.vertex-vertex.ensures in
     subst (λ ys. IsSwept a l n xs ys c.link.new.links c.link.new.heads last o) (sym nodes)
     (subst (λ ys. IsSwept a l n xs (changed i (drop_held a l n) ns) ys c.link.new.heads last o) (sym c.link.ensures.links)
@@ -304,3 +305,21 @@ returns-clause-last g c =
     let last = c.loop-next.last in
     let s : IsSwept a l n xs ns links heads last None = subst (λ o. IsSwept a l n xs ns links heads last o) c.in_default.is c.loop-next.invariant in
     swept_place a laws l n xs ns links heads last None s (λ j y e at. absurd (none-some j e))
+
+pub offset_bounds-nodes-id : goal.offset_bounds-nodes-id
+offset_bounds-nodes-id g c =
+    let laws = (g.met.L.Label g.world.𝓛 g.world.𝓜 g.world.𝓡 ((λ s x. x), (λ x. x), (λ x. x), λ x. x)).laws in
+    let lt : c.in-Some.id < length c.loop-next.nodes = swept_within g.L.Label.algebra laws _ _ _ _ _ _ _ _ c.loop-next.invariant c.in-Some.id c.in-Some.is in
+    scaled_Fits c.in-Some.id (length c.loop-next.nodes) _ lt (search rules)
+
+pub offset_bounds-nodes-id-in-Some : goal.offset_bounds-nodes-id-in-Some
+offset_bounds-nodes-id-in-Some g c =
+    let laws = (g.met.L.Label g.world.𝓛 g.world.𝓜 g.world.𝓡 ((λ s x. x), (λ x. x), (λ x. x), λ x. x)).laws in
+    let lt : c.in-Some.id < length c.loop-next.nodes = swept_within g.L.Label.algebra laws _ _ _ _ _ _ _ _ c.loop-next.invariant c.in-Some.id c.in-Some.is in
+    scaled_Fits c.in-Some.id (length c.loop-next.nodes) _ lt (search rules)
+
+pub offset_bounds-nodes-id-then-is_below : goal.offset_bounds-nodes-id-then-is_below
+offset_bounds-nodes-id-then-is_below g c =
+    let laws = (g.met.L.Label g.world.𝓛 g.world.𝓜 g.world.𝓡 ((λ s x. x), (λ x. x), (λ x. x), λ x. x)).laws in
+    let lt : c.in-Some.id < length c.loop-next.nodes = swept_within g.L.Label.algebra laws _ _ _ _ _ _ _ _ c.loop-next.invariant c.in-Some.id c.in-Some.is in
+    scaled_Fits c.in-Some.id (length c.loop-next.nodes) _ lt (search rules)

@@ -1,6 +1,6 @@
 use Rattle.std.proofs.Common.{◌≡◌, sym, subst, Option, ℕ, ◌+◌, drop, arith}
 use Rattle.drt_table.specs.Machine.{shortest}
-use Rattle.drt_table.specs.Places.{smaller}
+use Rattle.drt_table.specs.Earliest.{smaller}
 use Rattle.drt_table.proofs.LeastSeparation.{row_more, row_end}
 use Rattle.drt_table.proofs.shortest.shortest.Goals as goal
 

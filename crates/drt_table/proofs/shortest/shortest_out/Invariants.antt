@@ -1,7 +1,7 @@
 use Rattle.std.proofs.Common.{◌≡◌, true, drop}
 use Rattle.drt_model.specs.Digraph.{out_edges}
 use Rattle.drt_model.specs.declared.tasks.Edge.{Edge}
-use Rattle.drt_table.specs.Places.{smaller, least_of}
+use Rattle.drt_table.specs.Earliest.{smaller, least_of}
 use Rattle.drt_table.proofs.shortest.shortest_out.Given as goal
 
 -- the least so far and the least of the edges that are left make that of all

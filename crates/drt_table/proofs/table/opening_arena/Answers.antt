@@ -1,11 +1,25 @@
 use Rattle.std.proofs.Common.{◌≡◌, ◌++◌, ◌≤◌, ◌<◌, ◌+◌, ◌-◌, ◌∷◌, [], None, ℕ, true, length, map, replicate, refl, sym, ap, ◌∙◌, subst, arith, length-append}
-use Rattle.drt_model.specs.Digraph.{vertex_of}
+use Rattle.std.specs.Prelude.{IsTrue}
+use Rattle.drt_label.specs.Algebra.{IsTime}
+use Rattle.drt_model.specs.Digraph.{vertex_count, vertex_of}
 use Rattle.drt_table.specs.Node.{Held, fresh}
 use Rattle.drt_table.specs.Held.{AllOf, fresh_held}
 use Rattle.drt_table.specs.Machine.{Setting, opening_nodes, opening_label}
 use Rattle.drt_table.proofs.Start.{opening_in, opening_out, spares_more, alone_of, low_in, low_out}
 use Rattle.drt_table.proofs.table.opening_arena.Goals as goal
 use Rattle.drt_table.proofs.table.opening_arena.Goals.{then-in_range+in_ok-twin, else-in_range}
+
+pub in_range-requires-clause-deadline : goal.in_range-requires-clause-deadline
+in_range-requires-clause-deadline g c =
+    let within : c.loop-v.v < vertex_count c.args.graph.now = omega (arith, c.loop-v-test.true, c.vertex_count-count.ensures.count) in
+    subst (λ t. IsTime t) (ap (λ x. x.deadline) (sym c.vertex-vertex.ensures)) (c.vertex_count-count.ensures.sound.deadline c.loop-v.v within)
+
+pub in_range-requires-clause-of : goal.in_range-requires-clause-of
+in_range-requires-clause-of g c =
+    let a = g.L.Label.algebra in
+    let laws = (g.met.L.Label g.world.𝓛 g.world.𝓜 g.world.𝓡 ((λ s x. x), (λ x. x), (λ x. x), λ x. x)).laws in
+    let of = laws.opening_of c.loop-v.v c.vertex-vertex.result.now.wcet c.args.bound c.requires.bound in
+    subst (λ l. IsTrue (a.is_of l c.args.bound)) (sym c.in_ok-label.ensures) of
 
 pub open-requires-clause-room : goal.open-requires-clause-room
 open-requires-clause-room g c κs within = omega (arith, c.loop-v.invariant.few, c.loop-v.invariant.room, c.loop-v-test.true)

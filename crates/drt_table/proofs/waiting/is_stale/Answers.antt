@@ -1,4 +1,4 @@
-use Rattle.std.proofs.Common.{◌≡◌, ◌<◌, Some, length, refl, sym, ap, ◌∙◌}
+use Rattle.std.proofs.Common.{◌≡◌, ◌<◌, Some, length, refl, sym, ap, ◌∙◌, arith}
 use Rattle.std.specs.Prelude.{slice_get}
 use Rattle.std.specs.BinaryHeap.{heap_items}
 use Rattle.std.proofs.lemmas.Option.{slice_get_read, slice_get_within, same_Some}
@@ -15,6 +15,16 @@ bounds-nodes-id g c =
     let own = c.requires.sound t (contains_at tickets 0 t at) in
     let lt : t.0.1 < length nodes = slice_get_within nodes t.0.1 own.0 own.1 in
     lt
+
+pub offset_bounds-nodes-id : goal.offset_bounds-nodes-id
+offset_bounds-nodes-id g c =
+    let nodes = c.args.nodes.now in
+    let tickets = heap_items c.args.queue.now in
+    let t : Ticket = c.in-Some.field-0.now in
+    let at : slice_get tickets 0 ≡ Some t = slice_get_read tickets (length tickets) 0 t refl c.in-Some.ensures.item.3.0 c.in-Some.ensures.item.1 in
+    let own = c.requires.sound t (contains_at tickets 0 t at) in
+    let lt : t.0.1 < length nodes = slice_get_within nodes t.0.1 own.0 own.1 in
+    omega (arith, lt)
 
 pub returns-in-Some-clause-stale : goal.returns-in-Some-clause-stale
 returns-in-Some-clause-stale g c e =

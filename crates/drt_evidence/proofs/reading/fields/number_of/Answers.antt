@@ -1,23 +1,16 @@
-use Rattle.std.proofs.Common.{◌≡◌, true, false, sym, ◌∙◌, arith}
-use Rattle.std.proofs.lemmas.Bool.Decides.{Decides-eqb}
-use Rattle.std.proofs.lemmas.Slice.Eq.{slice_eq-Decides}
-use Rattle.drt_evidence.proofs.Numerals.{number_is, number_other}
+use Rattle.std.proofs.Common.{arith}
+use Rattle.std.proofs.lemmas.Bool.{both_ways}
+use Rattle.drt_evidence.proofs.Numerals.{no_numeral, number_is, number_other, numeral_is}
 use Rattle.drt_evidence.proofs.reading.fields.number_of.Goals as goal
-use Rattle.drt_evidence.proofs.reading.fields.number_of.Goals.{else-n-most-via-then-n-most+else-eq, else-n-most-via-else-n-most}
 
-pub returns-then-eq : goal.returns-then-eq
-returns-then-eq c =
+pub returns-then-not-is_numeral : goal.returns-then-not-is_numeral
+returns-then-not-is_numeral c = no_numeral c.args.field.now c.args.most c.requires (λ h. both_ways c.is_numeral.result c.if-not-is_numeral.true (c.is_numeral.ensures.1 h))
+
+pub returns-then-n-most : goal.returns-then-n-most
+returns-then-n-most c =
     number_is c.args.field.now c.value_of-n.result c.args.most (omega (arith, c.ranges.most)) c.value_of-n.ensures c.if-n-most.true
-    (sym ((slice_eq-Decides Decides-eqb c.as_bytes.result.now c.args.field.now c.eq.result c.eq.ensures).0 c.if-eq.true) ∙ c.as_bytes.ensures.value ∙ c.format.ensures.text)
+    (numeral_is c.args.field.now c.value_of-n.result (c.is_numeral.ensures.0 c.if-not-is_numeral.false) c.value_of-n.ensures (omega (arith, c.if-n-most.true, c.requires)))
 
 pub returns-else-n-most : goal.returns-else-n-most
 returns-else-n-most c =
-    number_other c.args.field.now c.value_of-n.result c.args.most (omega (arith, c.ranges.most)) c.value_of-n.ensures
-    (elim c.else-n-most.branch [
-      | else-n-most-via-then-n-most+else-eq w ↦ λ le is.
-          let same : w.eq.result ≡ true
-          = (slice_eq-Decides Decides-eqb w.as_bytes.result.now c.args.field.now w.eq.result w.eq.ensures).1 (w.as_bytes.ensures.value ∙ w.format.ensures.text ∙ sym is) in
-          let differs : w.eq.result ≡ false = w.if-eq.false in
-          absurd (grind (arith, same, differs))
-      | else-n-most-via-else-n-most w ↦ λ le is. absurd (omega (arith, le, w.if-n-most.false))
-    ])
+    number_other c.args.field.now c.value_of-n.result c.args.most (omega (arith, c.ranges.most)) c.value_of-n.ensures (λ le is. absurd (omega (arith, le, c.if-n-most.false)))

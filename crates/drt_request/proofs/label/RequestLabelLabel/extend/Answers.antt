@@ -1,4 +1,4 @@
-use Rattle.std.proofs.Common.{◌≡◌, ℕ, ◌+◌, ◌<◌, List, length, sym, subst, ap, arith}
+use Rattle.std.proofs.Common.{◌≡◌, ℕ, ◌+◌, ◌<◌, List, length, sym, ◌∙◌, subst, ap, arith}
 use Rattle.std.proofs.lemmas.Bool.Decides.{nat_tests}
 use Rattle.drt_request.specs.Request.{IsWithinLimits, Request}
 use Rattle.drt_request.proofs.Limits.{extended_limits}
@@ -6,9 +6,10 @@ use Rattle.drt_request.proofs.label.RequestLabelLabel.extend.Goals as goal
 
 pub invariant_of-result : goal.invariant_of-result
 invariant_of-result c =
-    let xs : List ℕ = c.self.inside.steps in
+    let xs : List ℕ = c.deref.result.now in
     let o : c.self.inside.offset ≡ c.args.self.now.offset = ap (λ (r : Request). r.offset) c.self.view_is in
-    let n : length xs ≡ length c.args.self.now.values = ap (λ (r : Request). length r.values) c.self.view_is in
+    let n : length xs ≡ length c.args.self.now.values = ap length c.deref.ensures ∙ ap (λ (r : Request). length r.values) c.self.view_is in
     let within : c.args.self.now.offset < length c.args.self.now.values = grind (arith, nat_tests, c.requires.extendable) in
-    subst (λ (ys : List ℕ). IsWithinLimits (c.self.inside.offset + c.args.sep) ys) (sym c.in_ok-raise_after.ensures)
-    (extended_limits c.self.inside.offset c.args.sep c.args.wcet xs c.self.invariant (omega arith) c.requires.sep.0 c.requires.sep.1 c.requires.wcet.1)
+    let limits : IsWithinLimits c.self.inside.offset xs = subst (λ (ys : List ℕ). IsWithinLimits c.self.inside.offset ys) (sym c.deref.ensures) c.self.invariant in
+    subst (λ (ys : List ℕ). IsWithinLimits (c.self.inside.offset + c.args.sep) ys) (sym (c.in_ok-new.ensures.ok ∙ c.in_ok-steps.ensures))
+    (extended_limits c.self.inside.offset c.args.sep c.args.wcet xs limits (omega arith) c.requires.sep.0 c.requires.sep.1 c.requires.wcet.1)

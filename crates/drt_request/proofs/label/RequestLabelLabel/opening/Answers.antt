@@ -1,4 +1,4 @@
-use Rattle.std.proofs.Common.{ℕ, ◌≤◌, List, sym, subst, arith}
+use Rattle.std.proofs.Common.{ℕ, ◌≤◌, List, sym, ◌∙◌, subst, arith}
 use Rattle.std.proofs.lemmas.Bool.Decides.{nat_tests}
 use Rattle.drt_request.specs.Request.{IsWithinLimits}
 use Rattle.drt_request.proofs.Limits.{opening_limits}
@@ -8,4 +8,4 @@ pub invariant_of-result : goal.invariant_of-result
 invariant_of-result c =
     let few : c.args.bound ≤ 1000000 = grind (arith, nat_tests, c.requires.bound) in
     let le : c.args.wcet ≤ 1000000 = c.requires.wcet.1 in
-    subst (λ (xs : List ℕ). IsWithinLimits 0 xs) (sym c.in_ok-flat.ensures) (opening_limits c.args.bound c.args.wcet few le)
+    subst (λ (xs : List ℕ). IsWithinLimits 0 xs) (sym (c.in_ok-new.ensures.ok ∙ c.in_ok-flat.ensures)) (opening_limits c.args.bound c.args.wcet few le)

@@ -6,9 +6,10 @@ use Rattle.std.proofs.lemmas.Option.{slice_get_read, slice_get_within, same_Some
 use Rattle.drt_table.specs.Arena.{Stock, HasNodes, AreArranged}
 use Rattle.drt_table.specs.Held.{close_node}
 use Rattle.drt_table.specs.Node.{Held, is_taken}
-use Rattle.drt_table.specs.Places.{changed}
+use Rattle.drt_worklist.specs.Places.{changed}
 use Rattle.drt_table.specs.Waiting.{AreHeld}
-use Rattle.drt_table.proofs.Lists.{changed-set, changed_at}
+use Rattle.drt_worklist.proofs.Lists.{changed_at}
+use Rattle.drt_worklist.proofs.Writes.{changed_set}
 use Rattle.drt_table.proofs.Arranged.{change_arranged, forget_held, taken_not_pending, close_calms, close_keeps}
 use Rattle.drt_table.proofs.arena.Arena.close.Goals as goal
 
@@ -18,8 +19,16 @@ returns g c =
     let can : (h : Held _) × (slice_get v.nodes c.args.id ≡ Some h) × IsTrue (is_taken h.node) = subst (λ (x : Stock _). (h : Held _) × (slice_get x.nodes c.args.id ≡ Some h) × IsTrue (is_taken h.node)) (sym c.self.view_is) c.requires in
     let lt : c.args.id < length v.nodes = slice_get_within v.nodes c.args.id can.0 can.1 in
     let at : slice_get v.nodes c.args.id ≡ Some c.index_mut.result.now = slice_get_read v.nodes (length v.nodes) c.args.id c.index_mut.result.now refl lt c.index_mut.ensures.value in
-    let nodes : slice_set v.nodes c.args.id c.close.new.self ≡ changed c.args.id close_node v.nodes = ap (λ x. set v.nodes c.args.id x) c.close.ensures ∙ changed-set close_node v.nodes c.args.id c.index_mut.result.now at in
+    let nodes : slice_set v.nodes c.args.id c.close.new.self ≡ changed c.args.id close_node v.nodes = ap (λ x. set v.nodes c.args.id x) c.close.ensures ∙ sym (changed_set close_node v.nodes c.args.id c.index_mut.result.now at) in
     subst (λ (x : Stock _). HasNodes x (record { nodes = slice_set v.nodes c.args.id c.close.new.self; vertices = v.vertices; room = v.room }) (changed c.args.id close_node x.nodes)) c.self.view_is (record { nodes_are = nodes; vertices = refl; room = refl })
+
+pub close-requires-after_bounds : goal.close-requires-after_bounds
+close-requires-after_bounds g c κs within =
+    let v : Stock _ = record { nodes = c.self.inside.nodes.items; vertices = length c.self.inside.heads.items; room = c.self.inside.room } in
+    let can : (h : Held _) × (slice_get v.nodes c.args.id ≡ Some h) × IsTrue (is_taken h.node) = subst (λ (x : Stock _). (h : Held _) × (slice_get x.nodes c.args.id ≡ Some h) × IsTrue (is_taken h.node)) (sym c.self.view_is) c.requires in
+    let lt : c.args.id < length v.nodes = slice_get_within v.nodes c.args.id can.0 can.1 in
+    let at : slice_get v.nodes c.args.id ≡ Some c.index_mut.result.now = slice_get_read v.nodes (length v.nodes) c.args.id c.index_mut.result.now refl lt c.index_mut.ensures.value in
+    ap (λ (h : Held _). is_taken h.node) (same_Some c.index_mut.result.now can.0 (sym at ∙ can.1)) ∙ can.2
 
 pub invariant_of-self : goal.invariant_of-self
 invariant_of-self g c =
@@ -27,7 +36,7 @@ invariant_of-self g c =
     let can : (h : Held _) × (slice_get v.nodes c.args.id ≡ Some h) × IsTrue (is_taken h.node) = subst (λ (x : Stock _). (h : Held _) × (slice_get x.nodes c.args.id ≡ Some h) × IsTrue (is_taken h.node)) (sym c.self.view_is) c.requires in
     let lt : c.args.id < length v.nodes = slice_get_within v.nodes c.args.id can.0 can.1 in
     let at : slice_get v.nodes c.args.id ≡ Some c.index_mut.result.now = slice_get_read v.nodes (length v.nodes) c.args.id c.index_mut.result.now refl lt c.index_mut.ensures.value in
-    let nodes : slice_set v.nodes c.args.id c.close.new.self ≡ changed c.args.id close_node v.nodes = ap (λ x. set v.nodes c.args.id x) c.close.ensures ∙ changed-set close_node v.nodes c.args.id c.index_mut.result.now at in
+    let nodes : slice_set v.nodes c.args.id c.close.new.self ≡ changed c.args.id close_node v.nodes = ap (λ x. set v.nodes c.args.id x) c.close.ensures ∙ sym (changed_set close_node v.nodes c.args.id c.index_mut.result.now at) in
     let old = c.self.invariant in
     let x : Held _ = c.index_mut.result.now in
     let taken_x : IsTrue (is_taken x.node) = ap (λ (h : Held _). is_taken h.node) (same_Some x can.0 (sym at ∙ can.1)) ∙ can.2 in

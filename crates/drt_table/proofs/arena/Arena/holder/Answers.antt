@@ -2,7 +2,7 @@ use Rattle.std.proofs.Common.{ap, ◌∙◌}
 use Rattle.drt_table.specs.Arena.{Stock}
 use Rattle.drt_table.specs.Held.{held_offset}
 use Rattle.drt_table.specs.Node.{Held, is_taken}
-use Rattle.drt_table.specs.Places.{earliest}
+use Rattle.drt_table.specs.Earliest.{earliest}
 use Rattle.drt_table.proofs.arena.Arena.holder.Goals as goal
 
 pub returns : goal.returns

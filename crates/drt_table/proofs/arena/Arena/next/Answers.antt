@@ -3,7 +3,7 @@ use Rattle.std.specs.BinaryHeap.{heap_items}
 use Rattle.drt_table.specs.Arena.{Stock}
 use Rattle.drt_table.specs.Held.{held_offset}
 use Rattle.drt_table.specs.Node.{Held, is_pending}
-use Rattle.drt_table.specs.Places.{earliest}
+use Rattle.drt_table.specs.Earliest.{earliest}
 use Rattle.drt_table.specs.Waiting.{IsFresh}
 use Rattle.drt_table.proofs.arena.Arena.next.Goals as goal
 

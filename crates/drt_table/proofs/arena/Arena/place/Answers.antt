@@ -20,6 +20,18 @@ admit-requires-clause-waiting g c κs within =
     subst (λ xs. AreWaiting a xs tickets c.len-from.result) (sym (c.as_slice.ensures.value ∙ c.place_in-reply.ensures.nodes))
     (subst (λ n. AreWaiting a later tickets n) (sym from) (still_waiting a nodes later tickets follows.waiting c.self.invariant.0.waiting))
 
+pub admit-requires-clause-room : goal.admit-requires-clause-room
+admit-requires-clause-room g c κs within =
+    let a = g.L.Label.algebra in
+    let nodes = c.self.inside.nodes.items in
+    let later : List (Held _) = placed_nodes a c.args.twin c.args.parent c.args.deadline c.args.bound nodes in
+    let follows : Follows a c.args.twin c.args.parent c.args.deadline c.args.bound nodes later = place_follows a c.args.twin c.args.parent c.args.deadline c.args.bound nodes in
+    let room : length nodes < c.self.inside.room = subst (λ (x : Stock _). length x.nodes < x.room) (sym c.self.view_is) c.requires.room in
+    let from : c.len-from.result ≡ length nodes = search rules in
+    let now : length c.place_in-reply.new.nodes.items ≡ length later = ap length c.place_in-reply.ensures.nodes in
+    let seen : length c.as_slice.result.now ≡ length c.place_in-reply.new.nodes.items = ap length c.as_slice.ensures.value in
+    omega (arith, seen, now, follows.at_most, room, from, c.self.invariant.2, c.self.invariant.5)
+
 pub invariant_of-self : goal.invariant_of-self
 invariant_of-self g c =
     let a = g.L.Label.algebra in

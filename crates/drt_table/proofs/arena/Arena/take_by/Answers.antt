@@ -2,16 +2,17 @@ use Rattle.std.proofs.Common.{◌≡◌, ◌<◌, ◌+◌, ◌++◌, ◌∷◌, 
 use Rattle.std.specs.Prelude.{slice_get, slice_set}
 use Rattle.std.specs.BinaryHeap.{heap_items}
 use Rattle.std.proofs.lemmas.List.{length-set, length_push}
-use Rattle.std.proofs.lemmas.Option.{slice_get_read, slice_get_within}
+use Rattle.std.proofs.lemmas.Option.{slice_get_read, slice_get_within, same_Some}
 use Rattle.drt_table.specs.Arena.{Stock, HasNodes, AreArranged}
 use Rattle.drt_table.specs.Held.{take_by, held_offset}
 use Rattle.drt_table.specs.Node.{Held, is_pending}
-use Rattle.drt_table.specs.Places.{changed, earliest}
+use Rattle.drt_worklist.specs.Places.{changed}
+use Rattle.drt_table.specs.Earliest.{earliest}
 use Rattle.drt_table.specs.Waiting.{Ticket, AreWaiting, IsFresh}
 use Rattle.drt_table.proofs.Arranged.{take_held, next_waits, taken_waiting}
 use Rattle.drt_table.proofs.Linking.{changed_linked}
 use Rattle.drt_table.proofs.Tickets.{first_is_next}
-use Rattle.drt_table.proofs.Lists.{changed-set}
+use Rattle.drt_worklist.proofs.Writes.{changed_set}
 use Rattle.drt_table.proofs.Earliest.{Earliest, found_earliest}
 use Rattle.drt_table.proofs.arena.Arena.take_by.Goals as goal
 
@@ -21,7 +22,7 @@ returns g c =
     let can : Some c.args.id ≡ earliest (λ (h : Held _). is_pending h.node) (held_offset g.L.Label.algebra) v.nodes = subst (λ (x : Stock _). Some c.args.id ≡ earliest (λ (h : Held _). is_pending h.node) (held_offset g.L.Label.algebra) x.nodes) (sym c.self.view_is) c.requires in
     let lt : c.args.id < length v.nodes = (let f : Earliest (λ (h : Held _). is_pending h.node) (held_offset g.L.Label.algebra) v.nodes c.args.id = found_earliest (λ (h : Held _). is_pending h.node) (held_offset g.L.Label.algebra) v.nodes c.args.id (sym can) in slice_get_within v.nodes c.args.id f.item f.at) in
     let at : slice_get v.nodes c.args.id ≡ Some c.index_mut.result.now = slice_get_read v.nodes (length v.nodes) c.args.id c.index_mut.result.now refl lt c.index_mut.ensures.value in
-    let nodes : slice_set v.nodes c.args.id c.take_by.new.self ≡ changed c.args.id (take_by c.args.worker) v.nodes = ap (λ x. set v.nodes c.args.id x) c.take_by.ensures ∙ changed-set (take_by c.args.worker) v.nodes c.args.id c.index_mut.result.now at in
+    let nodes : slice_set v.nodes c.args.id c.take_by.new.self ≡ changed c.args.id (take_by c.args.worker) v.nodes = ap (λ x. set v.nodes c.args.id x) c.take_by.ensures ∙ sym (changed_set (take_by c.args.worker) v.nodes c.args.id c.index_mut.result.now at) in
     subst (λ (x : Stock _). HasNodes x (record { nodes = slice_set v.nodes c.args.id c.take_by.new.self; vertices = v.vertices; room = v.room }) (changed c.args.id (take_by c.args.worker) x.nodes)) c.self.view_is (record { nodes_are = nodes; vertices = refl; room = refl })
 
 pub index_mut-requires : goal.index_mut-requires
@@ -32,13 +33,22 @@ index_mut-requires g c =
     let lt : c.args.id < length v.nodes = slice_get_within v.nodes c.args.id f.item f.at in
     omega (arith, lt, c.self.inside.nodes.ok.0)
 
+pub take_by-requires-after_bounds : goal.take_by-requires-after_bounds
+take_by-requires-after_bounds g c κs within =
+    let v : Stock _ = record { nodes = c.self.inside.nodes.items; vertices = length c.self.inside.heads.items; room = c.self.inside.room } in
+    let can : Some c.args.id ≡ earliest (λ (h : Held _). is_pending h.node) (held_offset g.L.Label.algebra) v.nodes = subst (λ (x : Stock _). Some c.args.id ≡ earliest (λ (h : Held _). is_pending h.node) (held_offset g.L.Label.algebra) x.nodes) (sym c.self.view_is) c.requires in
+    let f : Earliest (λ (h : Held _). is_pending h.node) (held_offset g.L.Label.algebra) v.nodes c.args.id = found_earliest (λ (h : Held _). is_pending h.node) (held_offset g.L.Label.algebra) v.nodes c.args.id (sym can) in
+    let lt : c.args.id < length v.nodes = slice_get_within v.nodes c.args.id f.item f.at in
+    let at : slice_get v.nodes c.args.id ≡ Some c.index_mut.result.now = slice_get_read v.nodes (length v.nodes) c.args.id c.index_mut.result.now refl lt c.index_mut.ensures.value in
+    ap (λ (h : Held _). is_pending h.node) (same_Some c.index_mut.result.now f.item (sym at ∙ f.at)) ∙ f.passes
+
 pub pop_ticket-requires-clause-some : goal.pop_ticket-requires-clause-some
 pop_ticket-requires-clause-some g c =
     let v : Stock _ = record { nodes = c.self.inside.nodes.items; vertices = length c.self.inside.heads.items; room = c.self.inside.room } in
     let can : Some c.args.id ≡ earliest (λ (h : Held _). is_pending h.node) (held_offset g.L.Label.algebra) v.nodes = subst (λ (x : Stock _). Some c.args.id ≡ earliest (λ (h : Held _). is_pending h.node) (held_offset g.L.Label.algebra) x.nodes) (sym c.self.view_is) c.requires in
     let lt : c.args.id < length v.nodes = (let f : Earliest (λ (h : Held _). is_pending h.node) (held_offset g.L.Label.algebra) v.nodes c.args.id = found_earliest (λ (h : Held _). is_pending h.node) (held_offset g.L.Label.algebra) v.nodes c.args.id (sym can) in slice_get_within v.nodes c.args.id f.item f.at) in
     let at : slice_get v.nodes c.args.id ≡ Some c.index_mut.result.now = slice_get_read v.nodes (length v.nodes) c.args.id c.index_mut.result.now refl lt c.index_mut.ensures.value in
-    let nodes : slice_set v.nodes c.args.id c.take_by.new.self ≡ changed c.args.id (take_by c.args.worker) v.nodes = ap (λ x. set v.nodes c.args.id x) c.take_by.ensures ∙ changed-set (take_by c.args.worker) v.nodes c.args.id c.index_mut.result.now at in
+    let nodes : slice_set v.nodes c.args.id c.take_by.new.self ≡ changed c.args.id (take_by c.args.worker) v.nodes = ap (λ x. set v.nodes c.args.id x) c.take_by.ensures ∙ sym (changed_set (take_by c.args.worker) v.nodes c.args.id c.index_mut.result.now at) in
     let old = c.self.invariant in
     let a = g.L.Label.algebra in
     let w : ℕ = c.args.worker in
@@ -56,7 +66,7 @@ refresh-requires-clause-waiting g c κs within =
     let can : Some c.args.id ≡ earliest (λ (h : Held _). is_pending h.node) (held_offset g.L.Label.algebra) v.nodes = subst (λ (x : Stock _). Some c.args.id ≡ earliest (λ (h : Held _). is_pending h.node) (held_offset g.L.Label.algebra) x.nodes) (sym c.self.view_is) c.requires in
     let lt : c.args.id < length v.nodes = (let f : Earliest (λ (h : Held _). is_pending h.node) (held_offset g.L.Label.algebra) v.nodes c.args.id = found_earliest (λ (h : Held _). is_pending h.node) (held_offset g.L.Label.algebra) v.nodes c.args.id (sym can) in slice_get_within v.nodes c.args.id f.item f.at) in
     let at : slice_get v.nodes c.args.id ≡ Some c.index_mut.result.now = slice_get_read v.nodes (length v.nodes) c.args.id c.index_mut.result.now refl lt c.index_mut.ensures.value in
-    let nodes : slice_set v.nodes c.args.id c.take_by.new.self ≡ changed c.args.id (take_by c.args.worker) v.nodes = ap (λ x. set v.nodes c.args.id x) c.take_by.ensures ∙ changed-set (take_by c.args.worker) v.nodes c.args.id c.index_mut.result.now at in
+    let nodes : slice_set v.nodes c.args.id c.take_by.new.self ≡ changed c.args.id (take_by c.args.worker) v.nodes = ap (λ x. set v.nodes c.args.id x) c.take_by.ensures ∙ sym (changed_set (take_by c.args.worker) v.nodes c.args.id c.index_mut.result.now at) in
     let old = c.self.invariant in
     let a = g.L.Label.algebra in
     let w : ℕ = c.args.worker in
@@ -77,7 +87,7 @@ invariant_of-self g c =
     let can : Some c.args.id ≡ earliest (λ (h : Held _). is_pending h.node) (held_offset g.L.Label.algebra) v.nodes = subst (λ (x : Stock _). Some c.args.id ≡ earliest (λ (h : Held _). is_pending h.node) (held_offset g.L.Label.algebra) x.nodes) (sym c.self.view_is) c.requires in
     let lt : c.args.id < length v.nodes = (let f : Earliest (λ (h : Held _). is_pending h.node) (held_offset g.L.Label.algebra) v.nodes c.args.id = found_earliest (λ (h : Held _). is_pending h.node) (held_offset g.L.Label.algebra) v.nodes c.args.id (sym can) in slice_get_within v.nodes c.args.id f.item f.at) in
     let at : slice_get v.nodes c.args.id ≡ Some c.index_mut.result.now = slice_get_read v.nodes (length v.nodes) c.args.id c.index_mut.result.now refl lt c.index_mut.ensures.value in
-    let nodes : slice_set v.nodes c.args.id c.take_by.new.self ≡ changed c.args.id (take_by c.args.worker) v.nodes = ap (λ x. set v.nodes c.args.id x) c.take_by.ensures ∙ changed-set (take_by c.args.worker) v.nodes c.args.id c.index_mut.result.now at in
+    let nodes : slice_set v.nodes c.args.id c.take_by.new.self ≡ changed c.args.id (take_by c.args.worker) v.nodes = ap (λ x. set v.nodes c.args.id x) c.take_by.ensures ∙ sym (changed_set (take_by c.args.worker) v.nodes c.args.id c.index_mut.result.now at) in
     let old = c.self.invariant in
     let a = g.L.Label.algebra in
     let w : ℕ = c.args.worker in

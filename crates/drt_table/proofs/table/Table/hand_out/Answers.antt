@@ -2,7 +2,7 @@ use Rattle.std.proofs.Common.{◌≡◌, Some, refl, sym, ap, ◌∙◌, subst, 
 use Rattle.std.specs.Prelude.{slice_get, IsTrue, IfSome}
 use Rattle.drt_table.specs.Node.{Held, is_taken}
 use Rattle.drt_table.specs.Held.{hand_out}
-use Rattle.drt_table.specs.Places.{changed}
+use Rattle.drt_worklist.specs.Places.{changed}
 use Rattle.drt_table.specs.View.{View, IsTable}
 use Rattle.drt_table.proofs.Tables.{table_same_nodes}
 use Rattle.drt_table.proofs.table.Table.hand_out.Goals as goal
@@ -52,4 +52,4 @@ returns-clause-label g c =
     let can : (h : Held _) × (slice_get v.nodes c.args.id ≡ Some h) × IsTrue h.spare × IsTrue (is_taken h.node) = subst (λ (x : View _). (h : Held _) × (slice_get x.nodes c.args.id ≡ Some h) × IsTrue h.spare × IsTrue (is_taken h.node)) (sym c.self.view_is) c.requires in
     let nodes : c.hand_out.new.self.nodes ≡ changed c.args.id hand_out v.nodes = c.hand_out.ensures.nodes.nodes_are in
     let new : View _ = record { graph = v.graph; bound = v.bound; budget = v.budget; nodes = c.hand_out.new.self.nodes; log = v.log } in
-    subst (λ (x : View _). IfSome (slice_get x.nodes c.args.id) (λ h. c.hand_out.result.value ≡ h.node.label)) c.self.view_is c.hand_out.ensures.label
+    subst (λ (x : View _). IfSome (slice_get x.nodes c.args.id) (λ h. c.hand_out.result ≡ h.node.label)) c.self.view_is c.hand_out.ensures.label

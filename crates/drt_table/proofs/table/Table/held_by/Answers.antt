@@ -1,8 +1,8 @@
 use Rattle.std.proofs.Common.{sym, ap, ◌∙◌}
 use Rattle.drt_table.specs.Node.{Held, is_held_by}
-use Rattle.drt_table.specs.Places.{first}
+use Rattle.drt_worklist.specs.Places.{first}
 use Rattle.drt_table.specs.View.{View, IsTable, state_of}
-use Rattle.drt_table.proofs.Lists.{first-map}
+use Rattle.drt_worklist.proofs.Views.{first-map}
 use Rattle.drt_table.proofs.table.Table.held_by.Goals as goal
 
 pub returns : goal.returns

@@ -6,7 +6,7 @@ use Rattle.drt_table.specs.Node.{NodeOf, Held}
 use Rattle.drt_table.specs.Facts.{Facts}
 use Rattle.drt_table.specs.Walk.{IsWalkBack}
 use Rattle.drt_table.specs.View.{View, IsTable, setting_of, state_of}
-use Rattle.drt_table.proofs.Lists.{get_within}
+use Rattle.drt_worklist.proofs.Lists.{get_within}
 use Rattle.drt_table.proofs.Tables.{at_node, facts_of}
 use Rattle.drt_table.proofs.Back.{IsRest, order_of, rest_start, rest_more, order_less}
 use Rattle.drt_table.proofs.table.Table.walk.Goals as goal
