@@ -69,6 +69,7 @@ fn scanned(
         }),
         Some(t) => {
             let walks = demand_walks(alloc, graphs, fronts.as_slice(), t)?;
+            drop(fronts);
             refusal(alloc, set, graphs, walks.as_slice(), t)
         }
     }
