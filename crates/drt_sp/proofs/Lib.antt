@@ -1,2 +1,3 @@
 pub mod EvidenceLemmas
 pub mod Lateness
+pub mod RequestWalks
