@@ -1,3 +1,9 @@
 pub mod EvidenceLemmas
 pub mod Lateness
 pub mod RequestWalks
+pub mod TreeShapes
+pub mod TreeLeaves
+pub mod TreeValues
+pub mod TreesGrow
+pub mod TaskTrees
+pub mod TreeSearches

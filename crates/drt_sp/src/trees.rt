@@ -12,7 +12,7 @@ use drt_evidence::TreeClaim;
 use drt_graph::Graph;
 use drt_model::{Memory, Row};
 use drt_request::RequestLabel;
-use drt_table::{Entry, Table, TableReply, over_every_interleaving};
+use drt_table::{Entry, Table, TableReply};
 use drt_tree::Forest;
 use std::alloc::Global;
 
@@ -78,7 +78,6 @@ pub(crate) fn search_tree(
         let log = Vec::from_slice(alloc, table.log())?;
         return Ok(TreeSearch::Spent(Row::from_vec(log)));
     }
-    over_every_interleaving::<RequestLabel>();
     let leaves = gather(alloc, table)?;
     let tree = add_tree(
         alloc,

@@ -2,7 +2,7 @@
 ghost use Rattle.std.specs.Prelude.{◌≡◌, ℕ, ◌+◌, ◌-◌, ◌*◌, ◌≤◌, ◌<◌, IfOk, None, Some, length};
 ghost use Rattle.drt_tree.specs.Leaf.{leaves_of};
 ghost use Rattle.drt_tree.specs.Shape.{IsAdded};
-ghost use Rattle.drt_tree.specs.Tree.{HaveOneBound, children};
+ghost use Rattle.drt_tree.specs.Tree.{HaveOneBound, IsForest, children};
 ghost use Rattle.drt_sp.specs.TaskTrees.{pair_of, pairs_from, walks_from};
 
 use crate::trees::TaskTree;
@@ -26,7 +26,7 @@ fn walks_from(
     ensures { IfOk result (λ walks. walks ≡ walks_from forest.now low count) }
 {
     let mut walks = Vec::new(alloc);
-    for leaf in low..low + count {
+    'leaves: for leaf in low..low + count {
         let walk = Vec::from_slice(alloc, forest.walk(leaf).as_slice())?;
         walks.push(Row::from_vec(walk))?;
     }
@@ -62,7 +62,7 @@ fn pairs_from(
     ensures { IfOk result (λ pairs. pairs ≡ pairs_from forest.now low first count) }
 {
     let mut pairs = Vec::new(alloc);
-    for node in first..first + count {
+    'pairs: for node in first..first + count {
         pairs.push(pair_of(forest, low, node))?;
     }
     Ok(Row::from_vec(pairs))
@@ -79,6 +79,7 @@ pub(crate) fn add_tree(
     requires some { 1 ≤ length labels.now }
     requires bound { HaveOneBound forest.old.pool (leaves_of labels.now walks.now) }
     requires room { length forest.old.nodes + 2 * length labels.now ≤ 4294967295 }
+    ensures forest { IsForest forest.old }
     ensures added { IfOk result (λ tree. IsAdded forest.old forest.new (leaves_of labels.now walks.now) tree.top) }
     ensures low { IfOk result (λ tree. tree.low ≡ length forest.old.nodes) }
     ensures walks { IfOk result (λ tree. tree.claim.walks ≡ walks_from forest.new tree.low (length labels.now)) }

@@ -28,7 +28,7 @@ pub(crate) fn gather(alloc: Global, table: Table<RequestLabel>) -> Result<Leaves
     let _log = table.log();
     let mut labels = Vec::new(alloc);
     let mut walks = Vec::new(alloc);
-    for id in 0..table.node_count() as u32 {
+    'nodes: for id in 0..table.node_count() as u32 {
         let node = table.node(id);
         if node.dropped_by.is_none() {
             labels.push(Arc::try_clone(&node.label)?)?;
