@@ -1,8 +1,9 @@
 -- How a search of a graph's walks ends, and the leaves that it gives.
-use Rattle.std.proofs.Common.{◌≡◌, ℕ, zero, suc, ◌+◌, ◌*◌, ◌<◌, ◌≤◌, false, List, [], ◌∷◌, ◌++◌, All, length, map, refl, sym, ap, ◌∙◌, subst, arith}
-use Rattle.std.specs.Prelude.{IsTrue}
+use Rattle.std.proofs.Common.{◌≡◌, ℕ, suc, ◌+◌, ◌<◌, ◌≤◌, ◌⊎◌, inl, inr, true, false, Option, None, Some, List, [], ◌∷◌, ◌++◌, All, length, map, refl, sym, ap, ◌∙◌, subst, arith}
+use Rattle.std.specs.Prelude.{is_none, is_some, option_map, slice_get}
 use Rattle.std.specs.declared.sync.Arc.{Arc}
 use Rattle.std.proofs.lemmas.List.{length-map}
+use Rattle.std.proofs.lemmas.Option.{slice_get-map}
 use Rattle.std.proofs.lemmas.List.Elements.{All-weaker}
 use Rattle.drt_model.specs.Digraph.{Digraph, IsSound}
 use Rattle.drt_model.specs.Walk.{span}
@@ -12,6 +13,8 @@ use Rattle.drt_request.specs.Request.{Request, request_algebra}
 use Rattle.drt_table.specs.Cover.{IsFront}
 use Rattle.drt_table.specs.Drive.{StopsAt}
 use Rattle.drt_table.specs.Machine.{IsRun, is_finished, replay}
+use Rattle.drt_table.specs.Node.{Held, NodeOf}
+use Rattle.drt_table.specs.Walk.{IsWalkOf}
 use Rattle.drt_table.specs.View.{View, IsTable, setting_of, state_of}
 use Rattle.drt_table.specs.declared.step.TableReply.{TableReply}
 use Rattle.drt_table.specs.declared.step.TableReply.TheVariants.{Taken, Busy, Finished, Added, Dominated, OutOfRange, Closed, Spent}
@@ -55,6 +58,10 @@ module _ (g : Digraph) (bound budget : ℕ) (v : View Request) (setting : settin
       let leaves = walk_leaves (setting_of v) (state_of v).nodes is.sound front ls (subst (λ n. AreGathered (setting_of v) (state_of v).nodes n ls) long are) in
       subst (λ x. AreWalkLeaves bound x ls) (ap (λ t. t.graph) setting) (subst (λ b. AreWalkLeaves b v.graph ls) (ap (λ t. t.bound) setting) leaves)
 
+  -- The same of labels and walks that were lent.
+  pub lent_leaves : {Z : Type 0} (labels kept : List (Arc Request Z)) (walks found : List (List ℕ)) → IsFront request_algebra (setting_of v) (state_of v).nodes → AreGathered (setting_of v) (state_of v).nodes (length v.nodes) (leaves_of kept found) → labels ≡ kept → walks ≡ found → AreWalkLeaves bound g (leaves_of labels walks)
+  lent_leaves labels kept walks found front are p q = rw (p, q) (search_leaves front (leaves_of kept found) are)
+
   -- A search has at most 1,000,096 nodes.
   pub search_few : budget ≤ 1000000 → length v.nodes ≤ 1000096
   search_few le =
@@ -82,3 +89,32 @@ leaves_push [] [] l w e = refl
 leaves_push [] (x ∷ walks) l w e = absurd (omega arith)
 leaves_push (x ∷ labels) [] l w e = absurd (omega arith)
 leaves_push (x ∷ labels) (y ∷ walks) l w e = ap (λ ls. record { steps = x.value.values; walk = y } ∷ ls) (leaves_push labels walks l w (omega arith))
+
+none_of : (o : Option ℕ) → is_some o ≡ false → is_none o ≡ true
+none_of None e = refl
+none_of (Some k) e = absurd (cc)
+
+some_of : (o : Option ℕ) → is_some o ≡ true → is_none o ≡ false
+some_of None e = absurd (cc)
+some_of (Some k) e = refl
+
+module _ (v : View Request) (i : ℕ) (h : Held Request) (at : slice_get v.nodes i ≡ Some h) where
+  node_at : slice_get (state_of v).nodes i ≡ Some h.node
+  node_at = slice_get-map (λ h. h.node) v.nodes i ∙ ap (λ o. option_map (λ h. h.node) o) at
+
+  next_is : suc i ≡ i + 1
+  next_is = omega arith
+
+  -- A kept node gives a leaf more.
+  pub gathered_kept : {Z : Type 0} (labels : List (Arc Request Z)) (walks : List (List ℕ)) (l : Arc Request Z) (w : List ℕ) → is_some h.node.dropped_by ≡ false → length labels ≡ length walks → l.value ≡ h.node.label
+      → ((n : NodeOf Request) → slice_get (state_of v).nodes i ≡ Some n → IsWalkOf request_algebra (setting_of v) w n.label)
+      → AreGathered (setting_of v) (state_of v).nodes i (leaves_of labels walks) → AreGathered (setting_of v) (state_of v).nodes (i + 1) (leaves_of (labels ++ l ∷ []) (walks ++ w ∷ []))
+  gathered_kept labels walks l w kept same label walk before =
+      let leaf : Leaf = record { steps = l.value.values; walk = w } in
+      subst (λ k. AreGathered (setting_of v) (state_of v).nodes k (leaves_of (labels ++ l ∷ []) (walks ++ w ∷ []))) next_is
+      (inr (h.node, leaf, leaves_of labels walks, record { at = node_at; kept = none_of h.node.dropped_by kept }, record { steps = ap (λ x. x.values) label; walk = walk h.node node_at }, leaves_push labels walks l w same, before))
+
+  -- A dropped one gives none.
+  pub gathered_dropped : (ls : List Leaf) → is_some h.node.dropped_by ≡ true → AreGathered (setting_of v) (state_of v).nodes i ls → AreGathered (setting_of v) (state_of v).nodes (i + 1) ls
+  gathered_dropped ls dropped before =
+      subst (λ k. AreGathered (setting_of v) (state_of v).nodes k ls) next_is (inl (h.node, node_at, some_of h.node.dropped_by dropped, before))
