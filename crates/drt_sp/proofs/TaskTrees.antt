@@ -1,31 +1,29 @@
 -- The tree that is added for the leaves of a search stands for all walks of the graph, and its claim keeps the rules.
-use Rattle.std.proofs.Common.{◌≡◌, ℕ, zero, suc, ◌+◌, ◌-◌, ◌*◌, ◌<◌, ◌≤◌, ◌⊎◌, inl, inr, Bool, true, false, cond, max, Option, Some, None, List, [], ◌∷◌, ◌++◌, All, length, map, get_or, refl, sym, ap, ◌∙◌, subst, arith}
+use Rattle.std.proofs.Common.{◌≡◌, ℕ, zero, suc, ◌+◌, ◌-◌, ◌<◌, ◌≤◌, ◌⊎◌, inl, inr, true, false, cond, max, Option, Some, None, List, [], ◌∷◌, ◌++◌, All, length, map, get_or, refl, sym, ap, ◌∙◌, subst, arith}
 use Rattle.std.specs.Prelude.{Any, slice_get, slice_index_or, nat_lt, option_map}
 use Rattle.std.specs.List.{range_with_len}
 use Rattle.std.proofs.lemmas.Bool.{cases_lt}
 use Rattle.std.proofs.lemmas.Bool.Decides.{nat_tests}
-use Rattle.std.proofs.lemmas.List.{get_or-append-add, length-map}
+use Rattle.std.proofs.lemmas.List.{length-map}
 use Rattle.std.proofs.lemmas.List.Elements.{All-cons, All-nil, All-map, All-weaker, All-get_or, All-from_get_or}
 use Rattle.std.proofs.lemmas.List.FromFn.{length-map-range_with_len, get_or-map-range_with_len}
 use Rattle.std.proofs.lemmas.List.Sorted.{length_permutation}
 use Rattle.std.proofs.lemmas.Option.{none-some, same_Some, slice_get-map, slice_get_within, slice_get-get_or, get_or_from_slice_get}
 use Rattle.drt_model.specs.Digraph.{Digraph, IsSound, vertex_count, out_degree, edge_of}
 use Rattle.drt_model.specs.RequestFunction.{request, requested_from}
-use Rattle.drt_model.specs.Walk.{gap, sep, wcet, IsEdge, IsPath, last_of, span}
+use Rattle.drt_model.specs.Walk.{gap, wcet, IsPath, last_of, span}
 use Rattle.drt_graph.proofs.Edges.{sep_of_edge, edge_of_sep, gap_of, source_of, target_of}
 use Rattle.drt_graph.proofs.Paths.{path_both, path_within, span_both, span_cons, span_none}
 use Rattle.drt_steps.specs.Values.{value_at}
 use Rattle.drt_busy.specs.Choice.{IsWalk, request_of}
-use Rattle.drt_tree.specs.Leaf.{leaves_of}
-use Rattle.drt_tree.specs.Shape.{Shape, parts as leaf_count, pairs as pair_count, root_of, Stands, IsBuilt, IsAdded}
-use Rattle.drt_tree.specs.Tree.{Plain, Grows, HaveOneBound, IsForest, IsPair, IsUnder, Leads, children, children_of, values, walk, walk_of, leaf_node, leaf_steps, with_leaves}
+use Rattle.drt_tree.specs.Shape.{Shape, parts as leaf_count, pairs as pair_count, root_of, IsAdded}
+use Rattle.drt_tree.specs.Tree.{Plain, IsForest, IsPair, IsUnder, Leads, children, children_of, values, walk, walk_of, leaf_node, leaf_steps, with_leaves}
 use Rattle.drt_tree.specs.declared.leaf.Leaf.{Leaf}
-use Rattle.drt_tree.specs.declared.node.Node.{Node}
 use Rattle.drt_tree.proofs.Trees.{get_front, grows_on, index_front, leaves_grow, with_long}
 use Rattle.drt_choices.specs.Choices.{StandsFor}
 use Rattle.drt_evidence.specs.Proofs.{parts}
-use Rattle.drt_evidence.specs.Ranges.{IsCounted, IsInRangePair, IsInRangeTree, IsInRangeWalk, IsNumber}
-use Rattle.drt_evidence.specs.Trees.{CoversWalks, HasOpeningWalks, HasShortWalks, IsAbove, IsClosedWalk, IsExtendedWalk, IsShortWalk, IsTree, asked, node_values, root}
+use Rattle.drt_evidence.specs.Ranges.{IsInRangePair, IsInRangeTree, IsInRangeWalk, IsNumber}
+use Rattle.drt_evidence.specs.Trees.{HasShortWalks, IsAbove, IsClosedWalk, IsExtendedWalk, IsShortWalk, IsTree, asked, node_values, root}
 use Rattle.drt_evidence.specs.declared.evidence.Pair.{Pair}
 use Rattle.drt_evidence.specs.declared.evidence.TreeClaim.{TreeClaim}
 use Rattle.drt_sp.specs.TaskTrees.{AreWalkLeaves, IsTaskTree, IsWalkLeaf, pair_of, pairs_from, walks_from}
@@ -304,12 +302,15 @@ module _ (f h : Plain) (ls : List Leaf) (top : ℕ) (old : IsForest f) (added : 
             let p = part_of g bound 0 u vs some is.1 in
             let early = p.early in
             let a = are.covers u p.others (is.0, p.path, omega (arith, early)) in
-            let at : slice_get added.sorted a.0 ≡ Some a.1 = slice_get-get_or added.sorted a.0 a.1 a.2 ∙ ap (λ x. Some x) a.3 in
-            (low + a.0, leaf_under a.0 a.2, λ t from to.
-                let e = p.same t to in
-                let b = above_asks bound g u p.others a.1.walk t a.4 from to in
-                let v = leaf_value a.0 a.1 t at from to in
-                omega (arith, e, b, v))
+            let at : slice_get added.sorted a.0 ≡ Some a.1 = slice_get-get_or added.sorted a.0 a.1 a.2 ∙ ap (λ x. Some x) a.3 in (
+              low + a.0,
+              leaf_under a.0 a.2,
+              λ t from to.
+                  let e = p.same t to in
+                  let b = above_asks bound g u p.others a.1.walk t a.4 from to in
+                  let v = leaf_value a.0 a.1 t at from to in
+                  omega (arith, e, b, v),
+            )
 
     -- The claim's walks and pairs.
     abbrev walks_are : List (List ℕ)
@@ -455,11 +456,11 @@ module _ (f h : Plain) (ls : List Leaf) (top : ℕ) (old : IsForest f) (added : 
         let n : length vs ≡ count = length-map walks_are (asked g t) ∙ walks_long in
         joined_is (value_of t) vs pairs_are
         (λ i l.
-            let w : i < count = omega (arith, l, n) in
-            let leaf : Leaf = get_or added.sorted i default_leaf in
-            let at : slice_get added.sorted i ≡ Some leaf = slice_get-get_or added.sorted i default_leaf w in
-            get_or_from_slice_get vs i (asked g t leaf.walk) 0 (map_got (asked g t) walks_are i leaf.walk (map_got (λ (x : Leaf). x.walk) added.sorted i leaf at))
-            ∙ sym (leaf_value i leaf t at from to))
+        let w : i < count = omega (arith, l, n) in
+        let leaf : Leaf = get_or added.sorted i default_leaf in
+        let at : slice_get added.sorted i ≡ Some leaf = slice_get-get_or added.sorted i default_leaf w in
+        get_or_from_slice_get vs i (asked g t leaf.walk) 0 (map_got (asked g t) walks_are i leaf.walk (map_got (λ (x : Leaf). x.walk) added.sorted i leaf at))
+        ∙ sym (leaf_value i leaf t at from to))
         (λ i p at. subst (λ m. IsJoin (value_of t) (m + i) p) (sym n) (join_at t i p at))
         k (let a = walks_long in let b = pairs_long in let c = pairs_counted in omega (arith, le, n, a, b, c))
 

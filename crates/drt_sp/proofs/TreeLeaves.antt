@@ -1,6 +1,6 @@
 -- From the kept nodes of a finished search to the leaves of a tree.
-use Rattle.std.proofs.Common.{◌≡◌, ℕ, zero, suc, ◌+◌, ◌<◌, ◌≤◌, ◌⊎◌, inl, inr, Bool, true, false, cond, Option, Some, None, List, [], ◌∷◌, ◌++◌, All, length, map, get_or, refl, sym, ap, ◌∙◌, subst, arith}
-use Rattle.std.specs.Prelude.{IsTrue, Any, Contains, slice_get, ◌==◌, is_none}
+use Rattle.std.proofs.Common.{◌≡◌, ℕ, zero, suc, ◌<◌, ◌≤◌, ◌⊎◌, inl, inr, true, false, cond, Some, List, [], ◌∷◌, ◌++◌, All, length, get_or, refl, sym, ap, ◌∙◌, subst, arith}
+use Rattle.std.specs.Prelude.{Any, Contains, slice_get, ◌==◌}
 use Rattle.std.specs.List.{swap}
 use Rattle.std.specs.List.Sorted.{IsPermutation}
 use Rattle.std.proofs.lemmas.Bool.{cases_lt}
@@ -10,10 +10,10 @@ use Rattle.std.proofs.lemmas.List.Elements.{All-nil, All-push}
 use Rattle.std.proofs.lemmas.List.Sorted.{All-permutation, Contains-permutation, IsPermutation-keeps}
 use Rattle.std.proofs.lemmas.Option.{none-some, same_Some, slice_get_within, slice_get-get_or, get_or_from_slice_get}
 use Rattle.drt_model.specs.Digraph.{Digraph, IsSound}
-use Rattle.drt_request.specs.Request.{Request, request_algebra, dominates}
+use Rattle.drt_request.specs.Request.{Request, request_algebra}
 use Rattle.drt_request.specs.Walk.{IsLabelOf}
 use Rattle.drt_steps.specs.Values.{value_at}
-use Rattle.drt_table.specs.Cover.{IsFront, KeptAt, IsCovered}
+use Rattle.drt_table.specs.Cover.{IsFront, KeptAt}
 use Rattle.drt_table.specs.Machine.{Setting}
 use Rattle.drt_table.specs.Node.{NodeOf, is_kept}
 use Rattle.drt_tree.specs.declared.leaf.Leaf.{Leaf}

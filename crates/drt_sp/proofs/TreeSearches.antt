@@ -1,12 +1,11 @@
 -- How a search of a graph's walks ends, and the leaves that it gives.
-use Rattle.std.proofs.Common.{◌≡◌, ℕ, suc, ◌+◌, ◌<◌, ◌≤◌, ◌⊎◌, inl, inr, true, false, Option, None, Some, List, [], ◌∷◌, ◌++◌, All, length, map, refl, sym, ap, ◌∙◌, subst, arith}
+use Rattle.std.proofs.Common.{◌≡◌, ℕ, suc, ◌+◌, ◌≤◌, inl, inr, true, false, Option, None, Some, List, [], ◌∷◌, ◌++◌, All, length, refl, sym, ap, ◌∙◌, subst, arith}
 use Rattle.std.specs.Prelude.{is_none, is_some, option_map, slice_get}
 use Rattle.std.specs.declared.sync.Arc.{Arc}
 use Rattle.std.proofs.lemmas.List.{length-map}
 use Rattle.std.proofs.lemmas.Option.{slice_get-map}
 use Rattle.std.proofs.lemmas.List.Elements.{All-weaker}
 use Rattle.drt_model.specs.Digraph.{Digraph, IsSound}
-use Rattle.drt_model.specs.Walk.{span}
 use Rattle.drt_graph.proofs.Paths.{span_none}
 use Rattle.drt_request.specs.Laws.{request_laws}
 use Rattle.drt_request.specs.Request.{Request, request_algebra}

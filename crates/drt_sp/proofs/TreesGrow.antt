@@ -1,11 +1,10 @@
 -- What is said of a tree of a forest stays true while the forest grows.
-use Rattle.std.proofs.Common.{◌≡◌, ℕ, ◌+◌, ◌<◌, ◌≤◌, Bool, true, false, cond, Option, Some, None, List, [], ◌∷◌, length, refl, sym, ap, ◌∙◌, subst, arith}
+use Rattle.std.proofs.Common.{◌≡◌, ℕ, ◌+◌, ◌<◌, ◌≤◌, Bool, true, false, cond, Some, List, [], ◌∷◌, length, sym, ap, ◌∙◌, subst, arith}
 use Rattle.std.specs.Prelude.{slice_get}
-use Rattle.std.proofs.lemmas.Option.{same_Some}
 use Rattle.drt_model.specs.Digraph.{Digraph}
 use Rattle.drt_steps.specs.Values.{value_at}
-use Rattle.drt_tree.specs.Tree.{Plain, Grows, IsForest, IsPair, IsUnder, Leads, children, values, walk, walk_of}
-use Rattle.drt_tree.proofs.Trees.{children_stay, child_within, get_front, grows_long, values_stay}
+use Rattle.drt_tree.specs.Tree.{Plain, Grows, IsForest, IsPair, Leads, children, values, walk, walk_of}
+use Rattle.drt_tree.proofs.Trees.{children_stay, get_front, grows_long, values_stay}
 use Rattle.drt_busy.specs.Choice.{IsWalk, request_of}
 use Rattle.drt_choices.specs.Choices.{StandsFor}
 use Rattle.drt_evidence.specs.Trees.{root}

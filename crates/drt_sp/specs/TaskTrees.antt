@@ -1,5 +1,5 @@
 -- How a search of a task's walks becomes a tree of the forest and a claim.
-use Rattle.std.specs.Prelude.{◌≡◌, ℕ, zero, suc, ◌+◌, ◌-◌, ◌*◌, ◌≤◌, ◌⊎◌, IsTrue, Option, None, Some, List, [], ◌∷◌, ◌++◌, length, map, slice_get, All, Any, false}
+use Rattle.std.specs.Prelude.{◌≡◌, ℕ, zero, suc, ◌+◌, ◌-◌, ◌*◌, ◌≤◌, ◌⊎◌, Option, None, Some, List, [], ◌∷◌, ◌++◌, length, map, slice_get, All, Any, false}
 use Rattle.std.specs.List.{range_with_len}
 use Rattle.drt_model.specs.Digraph.{Digraph}
 use Rattle.drt_request.specs.Request.{Request, request_algebra}

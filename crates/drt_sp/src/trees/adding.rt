@@ -14,12 +14,7 @@ use std::alloc::Global;
 use std::sync::Arc;
 
 // The walks of so many leaves from `low` on.
-fn walks_from(
-    alloc: Global,
-    forest: &Forest,
-    low: u32,
-    count: u32,
-) -> Result<Row<Row<u32>>, Memory>
+fn walks_from(alloc: Global, forest: &Forest, low: u32, count: u32) -> Result<Row<Row<u32>>, Memory>
     requires within { low + count ≤ length forest.now.nodes }
     requires room { low + count ≤ 4294967295 }
     requires leaves { (k : ℕ) → low ≤ k → k < low + count → children forest.now k ≡ None }

@@ -1,6 +1,6 @@
 //! The worked tree: a task of two vertices, each of which leads to itself.
 use crate::trees::{TreeSearch, search_tree};
-use drt_evidence::Pair;
+use drt_evidence::{Pair, TreeClaim};
 use drt_graph::{Graphs, check};
 use drt_model::{Edge, Memory, Name, Row, Task, Vertex, task_set};
 use drt_tree::Forest;
@@ -42,23 +42,40 @@ fn is_walk(walk: &Row<u32>, vertices: &[u32]) -> bool {
     walk.as_slice() == vertices
 }
 
+// Whether the claim has these three walks and two pairs.
+fn is_claim(claim: &TreeClaim, walks: [&[u32]; 3], pairs: [Pair; 2]) -> bool {
+    let given = claim.walks.as_slice();
+    given.len() == 3
+        && is_walk(&given[0], walks[0])
+        && is_walk(&given[1], walks[1])
+        && is_walk(&given[2], walks[2])
+        && claim.pairs.as_slice() == pairs.as_slice()
+}
+
 #[test]
 fn three_walks_give_two_pairs(rt: HostRuntime) -> Result<(), Fail> {
     let alloc = rt.alloc();
     let graphs = graphs(alloc)?;
     let mut forest = Forest::empty(alloc);
-    let search = search_tree(alloc, graphs.graph(0), 5, 100, &mut forest)?;
+    let search = search_tree(alloc, graphs.graph(0), 5, 9, &mut forest)?;
     let TreeSearch::Tree(tree) = search else {
-        return Err("the budget is enough".into());
+        return Err("nine steps are enough".into());
     };
-    let walks = tree.claim.walks.as_slice();
-    let expected: [&[u32]; 3] = [&[1], &[0], &[1, 1]];
-    assert_eq!(rt; walks.len(), 3);
-    assert!(rt; is_walk(&walks[0], expected[0]));
-    assert!(rt; is_walk(&walks[1], expected[1]));
-    assert!(rt; is_walk(&walks[2], expected[2]));
     let pairs = [Pair { left: 0, right: 1 }, Pair { left: 3, right: 2 }];
-    assert!(rt; tree.claim.pairs.as_slice() == pairs.as_slice());
+    assert!(rt; is_claim(&tree.claim, [&[1], &[0], &[1, 1]], pairs));
     assert!(rt; (tree.low, tree.top) == (0, 4));
+    Ok(())
+}
+
+#[test]
+fn eight_steps_are_too_few(rt: HostRuntime) -> Result<(), Fail> {
+    let alloc = rt.alloc();
+    let graphs = graphs(alloc)?;
+    let mut forest = Forest::empty(alloc);
+    let search = search_tree(alloc, graphs.graph(0), 5, 8, &mut forest)?;
+    let TreeSearch::Spent(log) = search else {
+        return Err("it needs nine".into());
+    };
+    assert!(rt; log.as_slice().len() == 8);
     Ok(())
 }

@@ -1,7 +1,5 @@
-use Rattle.std.proofs.Common.{◌≡◌, ◌+◌, ◌-◌, ◌≤◌, List, length, refl, sym, ap, ◌∙◌, subst, arith}
-use Rattle.drt_model.specs.Digraph.{IsSound}
+use Rattle.std.proofs.Common.{◌≡◌, ◌+◌, ◌-◌, List, length, refl, sym, ap, ◌∙◌, arith}
 use Rattle.drt_tree.specs.Leaf.{leaves_of}
-use Rattle.drt_tree.specs.Tree.{HaveOneBound}
 use Rattle.drt_tree.specs.declared.leaf.Leaf.{Leaf}
 use Rattle.drt_tree.proofs.Trees.{length-leaves_of}
 use Rattle.drt_sp.specs.TaskTrees.{AreWalkLeaves, pairs_from, walks_from}

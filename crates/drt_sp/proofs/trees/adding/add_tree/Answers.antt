@@ -1,7 +1,5 @@
-use Rattle.std.proofs.Common.{◌≡◌, ◌≤◌, List, length, sym, ap, ◌∙◌, subst, arith}
+use Rattle.std.proofs.Common.{length, ap, arith}
 use Rattle.drt_tree.specs.Leaf.{leaves_of}
-use Rattle.drt_tree.specs.Tree.{Plain}
-use Rattle.drt_tree.specs.declared.leaf.Leaf.{Leaf}
 use Rattle.drt_tree.proofs.Trees.{length-leaves_of}
 use Rattle.drt_sp.proofs.TaskTrees.{added_long, added_leaves, added_kids}
 use Rattle.drt_sp.proofs.trees.adding.add_tree.Goals as goal
@@ -35,7 +33,7 @@ pairs_from-requires-clause-children c =
     let low = ap length c.all.ensures.value in
     let same = c.all.ensures.forest.same in
     λ k from to.
-        let x = added_kids c.args.forest.now c.add.new.self (leaves_of c.args.labels.now c.args.walks.now) c.in_ok-top.top c.all.ensures.forest c.in_ok-top.ensures.added k (omega (arith, n, low, same, from)) (omega (arith, n, low, same, to)) in
-        let l = x.left_from in
-        let r = x.right_from in
-        (x.left, x.right, x.children, omega (arith, low, same, l), omega (arith, low, same, r))
+    let x = added_kids c.args.forest.now c.add.new.self (leaves_of c.args.labels.now c.args.walks.now) c.in_ok-top.top c.all.ensures.forest c.in_ok-top.ensures.added k (omega (arith, n, low, same, from)) (omega (arith, n, low, same, to)) in
+    let l = x.left_from in
+    let r = x.right_from in
+    (x.left, x.right, x.children, omega (arith, low, same, l), omega (arith, low, same, r))

@@ -1,4 +1,4 @@
-use Rattle.std.proofs.Common.{◌≡◌, ◌+◌, ◌-◌, ◌≤◌, ◌++◌, [], ◌∷◌, map, refl, sym, ap, ◌∙◌, arith}
+use Rattle.std.proofs.Common.{◌≡◌, ◌+◌, ◌-◌, ◌++◌, [], ◌∷◌, sym, ap, ◌∙◌, arith}
 use Rattle.std.proofs.lemmas.List.FromFn.{map-range_with_len_more}
 use Rattle.drt_tree.specs.Tree.{children}
 use Rattle.drt_sp.specs.TaskTrees.{pair_of, pairs_from}
@@ -11,13 +11,15 @@ pairs-preserved c =
     let f = c.args.forest.now in
     let low = c.args.low in
     let first = c.args.first in
-    let n : (c.pairs.node - first) + 1 ≡ c.pairs.node + 1 - first = omega (arith, a) in
-    (omega (arith, a), omega (arith, c.pairs-test.true),
+    let n : (c.pairs.node - first) + 1 ≡ c.pairs.node + 1 - first = omega (arith, a) in (
+      omega (arith, a),
+      omega (arith, c.pairs-test.true),
       c.in_ok-push.ensures.items
-      ∙ (ap (λ p. c.pairs.pairs.items ++ p ∷ []) c.pair_of.ensures
-      ∙ (ap (λ ps. ps ++ pair_of low (children f c.pairs.node) ∷ []) i.2
-      ∙ (sym (map-range_with_len_more (λ k. pair_of low (children f k)) first (c.pairs.node - first) c.pairs.node (omega (arith, a)))
-      ∙ ap (λ k. pairs_from f low first k) n))))
+          ∙ (ap (λ p. c.pairs.pairs.items ++ p ∷ []) c.pair_of.ensures
+          ∙ (ap (λ ps. ps ++ pair_of low (children f c.pairs.node) ∷ []) i.2
+          ∙ (sym (map-range_with_len_more (λ k. pair_of low (children f k)) first (c.pairs.node - first) c.pairs.node (omega (arith, a)))
+          ∙ ap (λ k. pairs_from f low first k) n))),
+    )
 
 pub returns : goal.returns
 returns c =

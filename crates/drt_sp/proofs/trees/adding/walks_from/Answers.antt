@@ -10,13 +10,15 @@ leaves-preserved c =
     let a = i.0 in
     let low = c.args.low in
     let made : c.in_ok-walk.walk.items ≡ walk c.args.forest.now c.leaves.leaf = c.in_ok-walk.ensures.items ∙ (c.as_slice.ensures ∙ c.walk.ensures) in
-    let n : (c.leaves.leaf - low) + 1 ≡ c.leaves.leaf + 1 - low = omega (arith, a) in
-    (omega (arith, a), omega (arith, c.leaves-test.true),
+    let n : (c.leaves.leaf - low) + 1 ≡ c.leaves.leaf + 1 - low = omega (arith, a) in (
+      omega (arith, a),
+      omega (arith, c.leaves-test.true),
       c.in_ok-push.ensures.items
-      ∙ (ap (λ w. c.leaves.walks.items ++ w ∷ []) (c.from_vec.ensures ∙ made)
-      ∙ (ap (λ ws. ws ++ walk c.args.forest.now c.leaves.leaf ∷ []) i.2
-      ∙ (sym (map-range_with_len_more (λ k. walk c.args.forest.now k) low (c.leaves.leaf - low) c.leaves.leaf (omega (arith, a)))
-      ∙ ap (λ k. walks_from c.args.forest.now low k) n))))
+          ∙ (ap (λ w. c.leaves.walks.items ++ w ∷ []) (c.from_vec.ensures ∙ made)
+          ∙ (ap (λ ws. ws ++ walk c.args.forest.now c.leaves.leaf ∷ []) i.2
+          ∙ (sym (map-range_with_len_more (λ k. walk c.args.forest.now k) low (c.leaves.leaf - low) c.leaves.leaf (omega (arith, a)))
+          ∙ ap (λ k. walks_from c.args.forest.now low k) n))),
+    )
 
 pub returns : goal.returns
 returns c =

@@ -1,12 +1,10 @@
-use Rattle.std.proofs.Common.{◌≡◌, ◌+◌, ◌<◌, ◌≤◌, ◌∷◌, ◌++◌, [], true, false, not, length, sym, ap, ◌∙◌, subst, arith}
+use Rattle.std.proofs.Common.{◌≡◌, ◌<◌, ◌∷◌, ◌++◌, [], true, false, not, length, sym, ap, ◌∙◌, arith}
 use Rattle.std.specs.Prelude.{is_some}
 use Rattle.std.proofs.lemmas.List.{length-append}
 use Rattle.drt_request.specs.Laws.{request_laws}
 use Rattle.drt_request.specs.Request.{request_algebra}
-use Rattle.drt_table.specs.View.{setting_of, state_of}
 use Rattle.drt_table.proofs.Tables.{nodes_small}
 use Rattle.drt_tree.specs.Leaf.{leaves_of}
-use Rattle.drt_sp.specs.TaskTrees.{AreGathered}
 use Rattle.drt_sp.proofs.TreeSearches.{gathered_dropped, gathered_kept}
 use Rattle.drt_sp.proofs.trees.gathering.gather.Goals.{then-is_none+in_ok-try_clone+in_ok-push+in_ok-walk+in_ok-push-2, else-is_none}
 use Rattle.drt_sp.proofs.trees.gathering.gather.Goals as goal
@@ -18,7 +16,7 @@ overflow_cast-id-end c =
 
 pub nodes-preserved : goal.nodes-preserved
 nodes-preserved c = elim c.if-is_none.branch [
-  then-is_none+in_ok-try_clone+in_ok-push+in_ok-walk+in_ok-push-2 w ↦
+  | then-is_none+in_ok-try_clone+in_ok-push+in_ok-walk+in_ok-push-2 w ↦
       let i = c.nodes.invariant in
       let a = i.0 in
       let b = i.1 in
@@ -29,9 +27,11 @@ nodes-preserved c = elim c.if-is_none.branch [
       let walks : c.if-is_none.walks.items ≡ c.nodes.walks.items ++ w.in_ok-walk.field-0 ∷ [] = ap (λ x. x.items) w.walks-is ∙ w.in_ok-push-2.ensures.items in
       let m = length-append c.nodes.labels.items (w.in_ok-try_clone.field-0 ∷ []) in
       let n = length-append c.nodes.walks.items (w.in_ok-walk.field-0 ∷ []) in
-      rw (labels, walks)
-      (omega (arith, a, m, n), omega (arith, b, m),
-        gathered_kept v c.nodes.id c.node-node.result.now c.node-node.ensures c.nodes.labels.items c.nodes.walks.items w.in_ok-try_clone.field-0 w.in_ok-walk.field-0 kept a label w.in_ok-walk.ensures i.2)
+      rw (labels, walks) (
+        omega (arith, a, m, n),
+        omega (arith, b, m),
+        gathered_kept v c.nodes.id c.node-node.result.now c.node-node.ensures c.nodes.labels.items c.nodes.walks.items w.in_ok-try_clone.field-0 w.in_ok-walk.field-0 kept a label w.in_ok-walk.ensures i.2,
+      )
   | else-is_none w ↦
       let i = c.nodes.invariant in
       let b = i.1 in
