@@ -54,7 +54,8 @@ unfolding requested_from
 part_of g bound offset u [] l p = record { others = []; path = tt; early = (let s = span_none g u in omega (arith, l, s)); same = λ t le. refl }
 part_of g bound offset u (v ∷ vs) l p = go (λ m. part_of g bound (offset + gap g u v) v vs m p.1) (cases_lt (offset + gap g u v) bound)
   where
-    more : (xs : List ℕ) (t : ℕ) → requested_from g (offset + gap g u v) v vs t ≡ requested_from g (offset + gap g u v) v xs t → requested_from g offset u (v ∷ vs) t ≡ requested_from g offset u (v ∷ xs) t
+    more : (xs : List ℕ) (t : ℕ) → requested_from g (offset + gap g u v) v vs t ≡ requested_from g (offset + gap g u v) v xs t
+        → requested_from g offset u (v ∷ vs) t ≡ requested_from g offset u (v ∷ xs) t
     more xs t e = ap (λ n. cond (nat_lt offset t) (wcet g u) 0 + n) e
 
     none : (t : ℕ) → requested_from g (offset + gap g u v) v vs t ≡ 0 → requested_from g offset u (v ∷ vs) t ≡ requested_from g offset u [] t
@@ -139,7 +140,8 @@ get_past (x ∷ xs) ys k = ap (λ n. slice_get (x ∷ (xs ++ ys)) n) (let e : su
 parts_before : (claim : TreeClaim) (k : ℕ) → k < length claim.walks → parts claim k ≡ None
 parts_before claim k l = let t : nat_lt k (length claim.walks) ≡ true = grind (arith, nat_tests) in rw t refl
 
-parts_after : (claim : TreeClaim) (k : ℕ) (p : Pair) → length claim.walks ≤ k → slice_get claim.pairs (k - length claim.walks) ≡ Some p → ◌≡◌ {A = Option (ℕ × ℕ)} (parts claim k) (Some (p.left, p.right))
+parts_after : (claim : TreeClaim) (k : ℕ) (p : Pair) → length claim.walks ≤ k → slice_get claim.pairs (k - length claim.walks) ≡ Some p
+    → ◌≡◌ {A = Option (ℕ × ℕ)} (parts claim k) (Some (p.left, p.right))
 parts_after claim k p l at = let t : nat_lt k (length claim.walks) ≡ false = grind (arith, nat_tests) in rw (t, at) refl
 
 module _ (f h : Plain) (ls : List Leaf) (top : ℕ) (old : IsForest f) (added : IsAdded f h ls top) where
@@ -574,7 +576,8 @@ module _ (f h : Plain) (ls : List Leaf) (top : ℕ) (old : IsForest f) (added : 
         ap (λ ws. record { walks = ws; pairs = pairs_are }) x ∙ ap (λ ps. record { walks = claim.walks; pairs = ps }) y
 
     -- The tree is one of the task.
-    pub task_tree : 1 ≤ bound → bound ≤ 1000000 → length ls ≤ 1000096 → (t : TaskTree) → t.low ≡ low → t.top ≡ top → t.claim.walks ≡ walks_from h t.low (length ls) → t.claim.pairs ≡ pairs_from h t.low (t.low + length ls) (length ls - 1) → IsTaskTree g bound f h t
+    pub task_tree : 1 ≤ bound → bound ≤ 1000000 → length ls ≤ 1000096 → (t : TaskTree) → t.low ≡ low → t.top ≡ top → t.claim.walks ≡ walks_from h t.low (length ls)
+        → t.claim.pairs ≡ pairs_from h t.low (t.low + length ls) (length ls - 1) → IsTaskTree g bound f h t
     task_tree some le few t is_low is_top ws ps =
         let claim : written ≡ t.claim = claim_is t.claim (ws ∙ ap (λ n. walks_from h n (length ls)) is_low) (ps ∙ ap (λ n. pairs_from h n (n + length ls) (length ls - 1)) is_low) in
         let c = counted in
@@ -584,7 +587,9 @@ module _ (f h : Plain) (ls : List Leaf) (top : ℕ) (old : IsForest f) (added : 
           functions = all_functions some;
           room = (let l = long in omega (arith, l, c, few));
           stands = subst (λ n. StandsFor g bound h n) (sym is_top) (stands_for some);
-          claim = subst (λ n. IsClaimOf g bound h n t.top t.claim) (sym is_low) (subst (λ n. IsClaimOf g bound h low n t.claim) (sym is_top) (subst (λ x. IsClaimOf g bound h low top x) claim (written_claim s)));
+          claim =
+              subst (λ n. IsClaimOf g bound h n t.top t.claim) (sym is_low)
+              (subst (λ n. IsClaimOf g bound h low n t.claim) (sym is_top) (subst (λ x. IsClaimOf g bound h low top x) claim (written_claim s)));
           rules = subst (IsTreeOf bound g) claim (written_rules some);
           range = subst IsInRangeTree claim (written_range le (omega (arith, c, few)));
         }

@@ -21,6 +21,7 @@ nodes-preserved c = elim c.if-is_none.branch [
       let a = i.0 in
       let b = i.1 in
       let v = c.args.table in
+      let arc = w.in_ok-try_clone.field-0 in
       let kept : is_some c.node-node.result.now.node.dropped_by ≡ false = ap (λ h. is_some h.node.dropped_by) (sym c.node.view_is) ∙ (c.is_none.ensures ∙ ap (λ x. not x) w.if-is_none.true) in
       let label : w.in_ok-try_clone.field-0.value ≡ c.node-node.result.now.node.label = w.in_ok-try_clone.ensures ∙ ap (λ h. h.node.label) c.node.view_is in
       let labels : c.if-is_none.labels.items ≡ c.nodes.labels.items ++ w.in_ok-try_clone.field-0 ∷ [] = ap (λ x. x.items) w.labels-is ∙ w.in_ok-push.ensures.items in
@@ -30,7 +31,7 @@ nodes-preserved c = elim c.if-is_none.branch [
       rw (labels, walks) (
         omega (arith, a, m, n),
         omega (arith, b, m),
-        gathered_kept v c.nodes.id c.node-node.result.now c.node-node.ensures c.nodes.labels.items c.nodes.walks.items w.in_ok-try_clone.field-0 w.in_ok-walk.field-0 kept a label w.in_ok-walk.ensures i.2,
+        gathered_kept v c.nodes.id c.node-node.result.now c.node-node.ensures c.nodes.labels.items c.nodes.walks.items arc w.in_ok-walk.field-0 kept a label w.in_ok-walk.ensures i.2,
       )
   | else-is_none w ↦
       let i = c.nodes.invariant in
