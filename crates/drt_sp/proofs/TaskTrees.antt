@@ -1,18 +1,18 @@
 -- The tree that is added for the leaves of a search stands for all walks of the graph, and its claim keeps the rules.
-use Rattle.std.proofs.Common.{◌≡◌, ℕ, zero, suc, ◌+◌, ◌-◌, ◌<◌, ◌≤◌, ◌⊎◌, inl, inr, true, false, cond, max, Option, Some, None, List, [], ◌∷◌, ◌++◌, All, length, map, get_or, refl, sym, ap, ◌∙◌, subst, arith}
+use Rattle.std.proofs.Common.{◌≡◌, ℕ, zero, suc, ◌+◌, ◌-◌, ◌<◌, ◌≤◌, ◌⊎◌, inl, inr, true, false, max, Option, Some, None, List, [], ◌∷◌, ◌++◌, All, length, map, get_or, refl, sym, ap, ◌∙◌, subst, arith}
 use Rattle.std.specs.Prelude.{Any, slice_get, slice_index_or, nat_lt, option_map}
 use Rattle.std.specs.List.{range_with_len}
 use Rattle.std.proofs.lemmas.Bool.{cases_lt}
 use Rattle.std.proofs.lemmas.Bool.Decides.{nat_tests}
 use Rattle.std.proofs.lemmas.List.{length-map}
-use Rattle.std.proofs.lemmas.List.Elements.{All-cons, All-nil, All-map, All-weaker, All-get_or, All-from_get_or}
+use Rattle.std.proofs.lemmas.List.Elements.{All-map, All-weaker, All-get_or, All-from_get_or}
 use Rattle.std.proofs.lemmas.List.FromFn.{length-map-range_with_len, get_or-map-range_with_len}
 use Rattle.std.proofs.lemmas.List.Sorted.{length_permutation}
 use Rattle.std.proofs.lemmas.Option.{none-some, same_Some, slice_get-map, slice_get_within, slice_get-get_or, get_or_from_slice_get}
 use Rattle.drt_model.specs.Digraph.{Digraph, IsSound, vertex_count, out_degree, edge_of}
-use Rattle.drt_model.specs.RequestFunction.{request, requested_from}
-use Rattle.drt_model.specs.Walk.{gap, wcet, IsPath, last_of, span}
-use Rattle.drt_graph.proofs.Edges.{sep_of_edge, edge_of_sep, gap_of, source_of, target_of}
+use Rattle.drt_model.specs.RequestFunction.{request}
+use Rattle.drt_model.specs.Walk.{last_of, span}
+use Rattle.drt_graph.proofs.Edges.{sep_of_edge, gap_of}
 use Rattle.drt_graph.proofs.Paths.{path_both, path_within, span_both, span_cons, span_none}
 use Rattle.drt_steps.specs.Values.{value_at}
 use Rattle.drt_busy.specs.Choice.{IsWalk, request_of}
@@ -23,7 +23,7 @@ use Rattle.drt_tree.proofs.Trees.{get_front, grows_on, index_front, leaves_grow,
 use Rattle.drt_choices.specs.Choices.{StandsFor, cut_from}
 use Rattle.drt_choices.proofs.Cuts.{cut_asks}
 use Rattle.drt_evidence.specs.Proofs.{parts}
-use Rattle.drt_evidence.specs.Ranges.{IsInRangePair, IsInRangeTree, IsInRangeWalk, IsNumber}
+use Rattle.drt_evidence.specs.Ranges.{IsInRangePair, IsInRangeTree, IsInRangeWalk}
 use Rattle.drt_evidence.specs.Trees.{HasShortWalks, IsAbove, IsClosedWalk, IsExtendedWalk, IsShortWalk, IsTree, asked, node_values, root}
 use Rattle.drt_evidence.specs.declared.evidence.Pair.{Pair}
 use Rattle.drt_evidence.specs.declared.evidence.TreeClaim.{TreeClaim}
