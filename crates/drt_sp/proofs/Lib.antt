@@ -1,2 +1,10 @@
 pub mod EvidenceLemmas
 pub mod Lateness
+pub mod RequestWalks
+pub mod TreeShapes
+pub mod TreeLeaves
+pub mod TreeValues
+pub mod TreesGrow
+pub mod ShortWalks
+pub mod TaskTrees
+pub mod TreeSearches
