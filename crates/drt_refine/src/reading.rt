@@ -8,6 +8,13 @@ use crate::frontier::Frontier;
 use crate::step::{CombinationState, FrontierEntry};
 
 impl Frontier {
+    /// The number of combinations.
+    pub fn count(&self) -> u32
+        ensures { result ≡ length self.now.combinations }
+    {
+        self.states.count()
+    }
+
     /// The nodes of the combination of that number, one for each root.
     pub fn combination(&self, id: u32) -> &[u32]
         requires { id < length self.now.combinations }

@@ -1,2 +1,4 @@
 pub mod EvidenceLemmas
 pub mod Lateness
+pub mod Visits
+pub mod ItemLists

@@ -1,10 +1,20 @@
 //! The proof that a vertex meets its deadline, whatever walks the tasks of higher priority take.
-ghost use Rattle.std.specs.Prelude.{◌≡◌, ◌≤◌, ◌<◌, ◌∷◌, [], IfOk, length};
+ghost use Rattle.std.specs.Prelude.{◌≡◌, ◌≤◌, ◌<◌, ◌∷◌, [], All, IfOk, IsTrue, Some, length, slice_get};
+ghost use Rattle.drt_evidence.specs.Ranges.{IsCounted, IsInRangeItem};
+ghost use Rattle.drt_refine.specs.Combination.{Combination};
+ghost use Rattle.drt_refine.specs.Eager.{IsEager};
+ghost use Rattle.drt_refine.specs.Machine.{is_finished};
+ghost use Rattle.drt_refine.specs.Settled.{IsDone};
+ghost use Rattle.drt_refine.specs.View.{IsFrontier, setting_of, state_of};
+ghost use Rattle.drt_sp.specs.Items.{AreItems, IsItemOf, IsVertexProof};
 ghost use Rattle.drt_steps.specs.Time.{AreChosen};
 
 use drt_evidence::Item;
 use drt_model::{Memory, Row};
-use drt_refine::{CombinationState, Frontier, FrontierEntry, FrontierReply};
+use drt_refine::{
+    CombinationState, Frontier, FrontierEntry, FrontierReply, eager_settles,
+    over_every_interleaving,
+};
 use drt_tree::Forest;
 use std::alloc::Global;
 
@@ -35,10 +45,11 @@ pub(crate) fn prove_vertex(
     requires wcet { (1 ≤ wcet) × (wcet ≤ 1000000) }
     requires deadline { (1 ≤ deadline) × (deadline ≤ 1000000) }
     requires budget { (1 ≤ budget) × (budget ≤ 1000000) }
+    ensures { IfOk result (IsVertexProof forest.now wcet deadline roots.now budget) }
 {
     let mut frontier = Frontier::start(alloc, forest, roots, wcet, deadline, budget)?;
     match frontier.drive(forest, WORKER) {
-        FrontierReply::Finished => Ok(VertexProof::Passes(items_of(alloc, &frontier)?)),
+        FrontierReply::Finished => Ok(VertexProof::Passes(items_of(alloc, forest, &frontier)?)),
         FrontierReply::Failed(id) => Ok(VertexProof::Fails(tuple_of(alloc, &frontier, id)?)),
         FrontierReply::Spent => Ok(VertexProof::Spent(log_of(alloc, &frontier)?)),
         FrontierReply::Taken(_) => unreachable!(),
@@ -50,8 +61,16 @@ pub(crate) fn prove_vertex(
 
 // The items of a finished frontier: those of a combination that was split are its own, then those of its left half, then
 // those of its right half.
-fn items_of(alloc: Global, frontier: &Frontier) -> Result<Row<Item>, Memory> {
-    let mut items = Vec::new(alloc);
+fn items_of(alloc: Global, forest: &Forest, frontier: &Frontier) -> Result<Row<Item>, Memory>
+    requires frontier { IsFrontier forest.now frontier.now }
+    requires eager { IsEager (setting_of forest.now frontier.now) frontier.now.log }
+    requires finished { IsTrue (is_finished (setting_of forest.now frontier.now) (state_of frontier.now)) }
+    requires deadline { frontier.now.deadline ≤ 1000000 }
+    ensures are { IfOk result (λ items. AreItems forest.now frontier.now.wcet frontier.now.deadline items (frontier.now.roots ∷ [])) }
+    ensures in_range { IfOk result (λ items. All IsInRangeItem items × IsCounted items) }
+{
+    eager_settles();
+    let mut items = Vec::with_capacity(alloc, frontier.count() as usize)?;
     let mut stack = Vec::new(alloc);
     stack.push(0)?;
     while let Some(id) = stack.pop() {
@@ -62,7 +81,11 @@ fn items_of(alloc: Global, frontier: &Frontier) -> Result<Row<Item>, Memory> {
 }
 
 // The item of a settled combination. Where it was split, its halves come on the stack, the left one on top.
-fn take_item(frontier: &Frontier, id: u32, stack: &mut Vec<u32>) -> Result<Item, Memory> {
+fn take_item(frontier: &Frontier, id: u32, stack: &mut Vec<u32>) -> Result<Item, Memory>
+    requires within { id < length frontier.now.combinations }
+    requires done { (c : Combination) → slice_get frontier.now.combinations id ≡ Some c → IsDone c.state }
+    ensures { IfOk result (λ item. (c : Combination) → slice_get frontier.now.combinations id ≡ Some c → IsItemOf c.state item stack.old.items stack.new.items) }
+{
     match frontier.state(id) {
         CombinationState::Passed(time) => Ok(Item::Pass(time)),
         CombinationState::Split { place, left, right } => {
@@ -77,7 +100,10 @@ fn take_item(frontier: &Frontier, id: u32, stack: &mut Vec<u32>) -> Result<Item,
 }
 
 // The leaves of a failed combination.
-fn tuple_of(alloc: Global, frontier: &Frontier, id: u32) -> Result<Row<u32>, Memory> {
+fn tuple_of(alloc: Global, frontier: &Frontier, id: u32) -> Result<Row<u32>, Memory>
+    requires { id < length frontier.now.combinations }
+    ensures { IfOk result (λ tuple. (c : Combination) → slice_get frontier.now.combinations id ≡ Some c → tuple ≡ c.nodes) }
+{
     Ok(Row::from_vec(Vec::from_slice(
         alloc,
         frontier.combination(id),
@@ -85,7 +111,9 @@ fn tuple_of(alloc: Global, frontier: &Frontier, id: u32) -> Result<Row<u32>, Mem
 }
 
 // A copy of the log.
-fn log_of(alloc: Global, frontier: &Frontier) -> Result<Row<FrontierEntry>, Memory> {
+fn log_of(alloc: Global, frontier: &Frontier) -> Result<Row<FrontierEntry>, Memory>
+    ensures { IfOk result (λ log. log ≡ frontier.now.log) }
+{
     Ok(Row::from_vec(Vec::from_slice(alloc, frontier.log())?))
 }
 
