@@ -2,3 +2,4 @@ pub mod EvidenceLemmas
 pub mod Lateness
 pub mod Visits
 pub mod ItemLists
+pub mod VertexProofs

@@ -47,6 +47,8 @@ pub(crate) fn prove_vertex(
     requires budget { (1 ≤ budget) × (budget ≤ 1000000) }
     ensures { IfOk result (IsVertexProof forest.now wcet deadline roots.now budget) }
 {
+    over_every_interleaving();
+    eager_settles();
     let mut frontier = Frontier::start(alloc, forest, roots, wcet, deadline, budget)?;
     match frontier.drive(forest, WORKER) {
         FrontierReply::Finished => Ok(VertexProof::Passes(items_of(alloc, forest, &frontier)?)),
