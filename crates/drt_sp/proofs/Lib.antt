@@ -3,4 +3,4 @@ pub mod Lateness
 pub mod Visits
 pub mod ItemLists
 pub mod VertexProofs
-pub mod ClaimedItems
+pub mod Translated

@@ -1,13 +1,11 @@
 -- The items of a vertex's proof, said of the nodes of a forest.
 use Rattle.std.specs.Prelude.{◌≡◌, ℕ, ◌<◌, Option, None, Some, List, [], ◌∷◌, ◌++◌, length, slice_get, slice_set, false, All}
-use Rattle.drt_model.specs.Digraph.{Digraph}
 use Rattle.drt_steps.specs.Time.{IsLeastTime, Passes}
 use Rattle.drt_tree.specs.Tree.{Plain, children}
 use Rattle.drt_worklist.specs.Places.{first}
 use Rattle.drt_evidence.specs.Ranges.{IsCounted, IsInRangeItem, IsNumber}
 use Rattle.drt_evidence.specs.declared.evidence.Item.{Item}
 use Rattle.drt_evidence.specs.declared.evidence.Item.TheVariants.{Pass, Split}
-use Rattle.drt_evidence.specs.declared.evidence.TreeClaim.{TreeClaim}
 use Rattle.drt_refine.specs.Below.{AreBelow}
 use Rattle.drt_refine.specs.Combination.{is_failed}
 use Rattle.drt_refine.specs.Eager.{IsEager, IsPlace}
@@ -15,7 +13,6 @@ use Rattle.drt_refine.specs.Machine.{Setting, IsRun, replay, is_finished}
 use Rattle.drt_refine.specs.declared.step.CombinationState.{CombinationState}
 use Rattle.drt_refine.specs.declared.step.CombinationState.TheVariants.{Pending, Taken, Passed as PassedAt, Split as SplitAt, Failed}
 use Rattle.drt_refine.specs.declared.step.FrontierEntry.{FrontierEntry}
-use Rattle.drt_sp.specs.TreeClaims.{IsClaimOf}
 use Rattle.drt_sp.specs.declared.proving.VertexProof.{VertexProof}
 use Rattle.drt_sp.specs.declared.proving.VertexProof.TheVariants.{Passes as PassesBy, Fails as FailsAt, Spent as SpentBy}
 
@@ -66,12 +63,6 @@ module _ (f : Plain) (wcet deadline : ℕ) where
   IsVertexProof roots budget (PassesBy items) = IsProofOf roots items × All IsInRangeItem items × IsCounted items
   IsVertexProof roots budget (FailsAt tuple) = IsFailure roots tuple
   IsVertexProof roots budget (SpentBy log) = IsSpentRefinement roots budget log
-
--- The claims are the trees of the graphs in the forest, each with its numbers from its low on up to its top, one after another.
-abbrev pub AreClaimsOf : ℕ → Plain → List Digraph → List TreeClaim → List ℕ → List ℕ → Type 0
-AreClaimsOf bound f [] [] [] [] = Unit {0}
-AreClaimsOf bound f (g ∷ graphs) (claim ∷ claims) (low ∷ lows) (top ∷ tops) = IsClaimOf g bound f low top claim × AreClaimsOf bound f graphs claims lows tops
-AreClaimsOf bound f graphs claims lows tops = ⊥
 
 -- The item of a combination in this state, and the numbers on a stack before and after it: those of its halves are put onto it, the
 -- left one last.

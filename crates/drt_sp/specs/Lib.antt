@@ -2,3 +2,4 @@ pub mod Evidence
 pub mod OneTask
 pub mod TreeClaims
 pub mod Items
+pub mod Claims

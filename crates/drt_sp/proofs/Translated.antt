@@ -1,11 +1,11 @@
 -- The items of a vertex's proof, which speak of nodes of a forest, are those of a dossier, which speak of nodes of claimed trees: a node
--- has its number in the forest less the low of its tree. For the assembly: `items_have_shape` and `items_pass`.
+-- has its number in the forest less the low of its tree. For the assembly: `items_shape` and `items_pass`.
 use Rattle.std.proofs.Common.{◌≡◌, ℕ, suc, zero, ◌+◌, ◌-◌, ◌≤◌, ◌<◌, Option, Some, None, List, [], ◌∷◌, ◌++◌, map, take, length, All, refl, sym, ap, ◌∙◌, subst, arith, set}
 use Rattle.std.specs.Prelude.{slice_get, slice_index_or}
 use Rattle.std.proofs.lemmas.Option.{none-some, same_Some}
 use Rattle.std.proofs.lemmas.List.Elements.{All-nil, All-cons}
 use Rattle.drt_model.specs.Digraph.{Digraph}
-use Rattle.drt_model.specs.Walk.{wcet as wcet_of, deadline as deadline_of}
+use Rattle.drt_model.specs.Walk.{wcet, deadline}
 use Rattle.drt_steps.specs.Values.{value_at}
 use Rattle.drt_steps.specs.Time.{Passes, sum_at as forest_sum}
 use Rattle.drt_tree.specs.Tree.{Plain, children, values}
@@ -15,7 +15,8 @@ use Rattle.drt_evidence.specs.declared.evidence.Item.{Item}
 use Rattle.drt_evidence.specs.declared.evidence.Item.TheVariants.{Pass, Split}
 use Rattle.drt_evidence.specs.declared.evidence.TreeClaim.{TreeClaim}
 use Rattle.drt_sp.specs.TreeClaims.{IsClaimOf, lowered}
-use Rattle.drt_sp.specs.Items.{AreClaimsOf, AreItems, AreHalves, none, pass, split}
+use Rattle.drt_sp.specs.Claims.{AreClaimsOf}
+use Rattle.drt_sp.specs.Items.{AreItems, AreHalves, none, pass, split}
 
 -- the numbers of nodes of the trees at the places, each less the low of its tree
 abbrev lower : List ℕ → List ℕ → List ℕ
@@ -25,13 +26,6 @@ lower (low ∷ lows) (n ∷ nodes) = (n - low) ∷ lower lows nodes
 
 abbrev lower_all : List ℕ → List (List ℕ) → List (List ℕ)
 lower_all lows stack = map (lower lows) stack
-
--- one more claimed tree
-pub claims_push : (bound : ℕ) (f : Plain) (graphs : List Digraph) (claims : List TreeClaim) (lows tops : List ℕ) (g : Digraph) (claim : TreeClaim) (low top : ℕ)
-    → AreClaimsOf bound f graphs claims lows tops → IsClaimOf g bound f low top claim → AreClaimsOf bound f (graphs ++ g ∷ []) (claims ++ claim ∷ []) (lows ++ low ∷ []) (tops ++ top ∷ [])
-claims_push bound f [] [] [] [] g claim low top are is = (is, tt)
-claims_push bound f (h ∷ graphs) (c ∷ claims) (l ∷ lows) (t ∷ tops) g claim low top are is = (are.0, claims_push bound f graphs claims lows tops g claim low top are.1 is)
-claims_push bound f graphs claims lows tops g claim low top are is = elim are [ ]
 
 module _ (bound : ℕ) (f : Plain) where
   -- the node is one of the claimed tree
@@ -112,74 +106,67 @@ module _ (bound : ℕ) (f : Plain) where
       ap (λ x. x + sum_at graphs claims (lower lows nodes) t) w ∙ ap (λ x. value_at (values f n) t + x) rest
   sums_are graphs claims lows (n ∷ nodes) t h some near = elim h [ ]
 
-  -- the first tops are in their trees, and are their roots
-  tops_in : (graphs : List Digraph) (claims : List TreeClaim) (lows tops : List ℕ) (count : ℕ) → AreClaimsOf bound f graphs claims lows tops → AreIn graphs claims lows (take count tops)
-  tops_in [] [] [] [] count are = subst (λ (ns : List ℕ). AreIn [] [] [] ns) (nothing count) tt
-    where
-      nothing : (count : ℕ) → [] ≡ take {A = ℕ} count []
-      nothing zero = refl
-      nothing (suc count) = refl
-  tops_in (g ∷ graphs) (claim ∷ claims) (low ∷ lows) (top ∷ tops) zero are = tt
-  tops_in (g ∷ graphs) (claim ∷ claims) (low ∷ lows) (top ∷ tops) (suc count) are =
-      (record { top = top; claim_is = are.0; from = omega (arith, are.0.root_is); to = omega (arith, are.0.root_is) }, tops_in graphs claims lows tops count are.1)
-  tops_in graphs claims lows tops count are = elim are [ ]
+  -- the tops are in their trees, and are their roots
+  tops_in : (graphs : List Digraph) (lows tops : List ℕ) (claims : List TreeClaim) → AreClaimsOf bound f graphs lows tops claims → AreIn graphs claims lows tops
+  tops_in [] [] [] [] are = tt
+  tops_in (g ∷ graphs) (low ∷ lows) (top ∷ tops) (claim ∷ claims) are =
+      (record { top = top; claim_is = are.0; from = omega (arith, are.0.root_is); to = omega (arith, are.0.root_is) }, tops_in graphs lows tops claims are.1)
+  tops_in graphs lows tops claims are = elim are [ ]
 
-  tops_low : (graphs : List Digraph) (claims : List TreeClaim) (lows tops : List ℕ) (count : ℕ) → AreClaimsOf bound f graphs claims lows tops → map root (take count claims) ≡ lower lows (take count tops)
-  tops_low [] [] [] [] zero are = refl
-  tops_low [] [] [] [] (suc count) are = refl
-  tops_low (g ∷ graphs) (claim ∷ claims) (low ∷ lows) (top ∷ tops) zero are = refl
-  tops_low (g ∷ graphs) (claim ∷ claims) (low ∷ lows) (top ∷ tops) (suc count) are =
+  tops_low : (graphs : List Digraph) (lows tops : List ℕ) (claims : List TreeClaim) → AreClaimsOf bound f graphs lows tops claims → map root claims ≡ lower lows tops
+  tops_low [] [] [] [] are = refl
+  tops_low (g ∷ graphs) (low ∷ lows) (top ∷ tops) (claim ∷ claims) are =
       let e : root claim ≡ top - low = omega (arith, are.0.root_is) in
-      ap (λ x. x ∷ map root (take count claims)) e ∙ ap (λ (ns : List ℕ). (top - low) ∷ ns) (tops_low graphs claims lows tops count are.1)
-  tops_low graphs claims lows tops count are = elim are [ ]
+      ap (λ x. x ∷ map root claims) e ∙ ap (λ (ns : List ℕ). (top - low) ∷ ns) (tops_low graphs lows tops claims are.1)
+  tops_low graphs lows tops claims are = elim are [ ]
 
-  module _ (graphs : List Digraph) (claims : List TreeClaim) (lows : List ℕ) (wcet deadline : ℕ) where
+  module _ (graphs : List Digraph) (claims : List TreeClaim) (lows : List ℕ) where
     -- the nodes of each combination of the stack are in their trees
     abbrev AllIn : List (List ℕ) → Type 0
     AllIn [] = Unit {0}
     AllIn (nodes ∷ stack) = AreIn graphs claims lows nodes × AllIn stack
 
-    halves_of : (nodes : List ℕ) (place l r : ℕ) → AreIn graphs claims lows nodes → AreHalves f wcet deadline nodes place l r → IsSplitOf graphs claims lows nodes place l r
-    halves_of nodes place l r h halves = split_of graphs claims lows nodes place halves.node l r h halves.at halves.children
+    halves_of : (w d : ℕ) (nodes : List ℕ) (place l r : ℕ) → AreIn graphs claims lows nodes → AreHalves f w d nodes place l r → IsSplitOf graphs claims lows nodes place l r
+    halves_of w d nodes place l r h halves = split_of graphs claims lows nodes place halves.node l r h halves.at halves.children
 
     split_after : (nodes : List ℕ) (stack : List (List ℕ)) (place l r : ℕ) → IsSplitOf graphs claims lows nodes place l r → after claims (Split place) (lower_all lows (nodes ∷ stack)) ≡ Some (lower_all lows (set nodes place l ∷ set nodes place r ∷ stack))
     split_after nodes stack place l r s =
         ap (halved (lower lows nodes) place (lower_all lows stack)) s.parts_are
         ∙ (ap (λ (ns : List ℕ). Some (ns ∷ set (lower lows nodes) place (r - s.low) ∷ lower_all lows stack)) (sym s.left_low) ∙ ap (λ (ns : List ℕ). Some (lower lows (set nodes place l) ∷ ns ∷ lower_all lows stack)) (sym s.right_low))
 
-    shape_of : (items : List Item) (stack : List (List ℕ)) → AreItems f wcet deadline items stack → AllIn stack → after_all claims items (Some (lower_all lows stack)) ≡ Some []
+    shape_of : (w d : ℕ) (items : List Item) (stack : List (List ℕ)) → AreItems f w d items stack → AllIn stack → after_all claims items (Some (lower_all lows stack)) ≡ Some []
     unfolding after_all
-    shape_of items stack none h = refl
-    shape_of items stack (pass t more nodes rest least are) h = shape_of more rest are h.1
-    shape_of items stack (split place l r more nodes rest hopeless place_is halves are) h =
-        let s : IsSplitOf graphs claims lows nodes place l r = halves_of nodes place l r h.0 halves in
-        ap (after_all claims more) (split_after nodes rest place l r s) ∙ shape_of more (set nodes place l ∷ set nodes place r ∷ rest) are (s.left_in, (s.right_in, h.1))
+    shape_of w d items stack none h = refl
+    shape_of w d items stack (pass t more nodes rest least are) h = shape_of w d more rest are h.1
+    shape_of w d items stack (split place l r more nodes rest hopeless place_is halves are) h =
+        let s : IsSplitOf graphs claims lows nodes place l r = halves_of w d nodes place l r h.0 halves in
+        ap (after_all claims more) (split_after nodes rest place l r s) ∙ shape_of w d more (set nodes place l ∷ set nodes place r ∷ rest) are (s.left_in, (s.right_in, h.1))
 
-    module _ (g : Digraph) (v : ℕ) (near : deadline ≤ bound) (wcet_is : wcet_of g v ≡ wcet) (deadline_is : deadline_of g v ≡ deadline) where
-      passed : (nodes : List ℕ) (t : ℕ) → AreIn graphs claims lows nodes → Passes wcet deadline f.pool nodes t → IsPassed graphs claims g v (lower lows nodes, t)
+    module _ (g : Digraph) (v : ℕ) (near : deadline g v ≤ bound) where
+      passed : (nodes : List ℕ) (t : ℕ) → AreIn graphs claims lows nodes → Passes (wcet g v) (deadline g v) f.pool nodes t → IsPassed graphs claims g v (lower lows nodes, t)
       passed nodes t h p =
           let sum : sum_at graphs claims (lower lows nodes) t ≡ forest_sum f.pool nodes t = sums_are graphs claims lows nodes t h p.from (omega (arith, p.to)) in
           record { some = p.from; within = omega (arith, p.to); fits = omega (arith, p.passes) }
 
-      passes_of : (items : List Item) (stack : List (List ℕ)) → AreItems f wcet deadline items stack → AllIn stack → All (IsPassed graphs claims g v) (passes claims items (Some (lower_all lows stack)))
+      passes_of : (items : List Item) (stack : List (List ℕ)) → AreItems f (wcet g v) (deadline g v) items stack → AllIn stack → All (IsPassed graphs claims g v) (passes claims items (Some (lower_all lows stack)))
       unfolding passes
       passes_of items stack none h = All-nil (IsPassed graphs claims g v)
       passes_of items stack (pass t more nodes rest least are) h = All-cons (IsPassed graphs claims g v) (lower lows nodes, t) (passes claims more (Some (lower_all lows rest))) (passed nodes t h.0 least.passes) (passes_of more rest are h.1)
       passes_of items stack (split place l r more nodes rest hopeless place_is halves are) h =
-          let s : IsSplitOf graphs claims lows nodes place l r = halves_of nodes place l r h.0 halves in
+          let s : IsSplitOf graphs claims lows nodes place l r = halves_of (wcet g v) (deadline g v) nodes place l r h.0 halves in
           subst (λ (o : Option (List (List ℕ))). All (IsPassed graphs claims g v) (passes claims more o)) (sym (split_after nodes rest place l r s)) (passes_of more (set nodes place l ∷ set nodes place r ∷ rest) are (s.left_in, (s.right_in, h.1)))
 
--- The items of a proof from the first `count` tops on end the stack of the dossier's proof, and not before the last one.
-pub items_have_shape : (bound : ℕ) (f : Plain) (graphs : List Digraph) (claims : List TreeClaim) (lows tops : List ℕ) (count wcet deadline : ℕ) (items : List Item)
-    → AreClaimsOf bound f graphs claims lows tops → AreItems f wcet deadline items (take count tops ∷ []) → after_all claims items (Some (opening claims count)) ≡ Some []
-items_have_shape bound f graphs claims lows tops count wcet deadline items are items_are =
-    ap (λ (nodes : List ℕ). after_all claims items (Some (nodes ∷ []))) (tops_low bound f graphs claims lows tops count are)
-    ∙ shape_of bound f graphs claims lows wcet deadline items (take count tops ∷ []) items_are (tops_in bound f graphs claims lows tops count are, tt)
+-- The items of a proof from the tops on end the stack of a dossier's proof, and not before the last one.
+pub items_shape : (bound : ℕ) (f : Plain) (graphs : List Digraph) (lows tops : List ℕ) (claims : List TreeClaim) → AreClaimsOf bound f graphs lows tops claims
+    → (w d : ℕ) (items : List Item) → AreItems f w d items (tops ∷ []) → after_all claims items (Some (map root claims ∷ [])) ≡ Some []
+items_shape bound f graphs lows tops claims are w d items is =
+    ap (λ (nodes : List ℕ). after_all claims items (Some (nodes ∷ []))) (tops_low bound f graphs lows tops claims are)
+    ∙ shape_of bound f graphs claims lows w d items (tops ∷ []) is (tops_in bound f graphs lows tops claims are, tt)
 
 -- Each of its items that passes does so at a time that passes for the vertex and the nodes of the claimed trees.
-pub items_pass : (bound : ℕ) (f : Plain) (graphs : List Digraph) (claims : List TreeClaim) (lows tops : List ℕ) (count wcet deadline : ℕ) (items : List Item) (g : Digraph) (v : ℕ)
-    → AreClaimsOf bound f graphs claims lows tops → AreItems f wcet deadline items (take count tops ∷ []) → deadline ≤ bound → wcet_of g v ≡ wcet → deadline_of g v ≡ deadline
-    → All (IsPassed graphs claims g v) (passes claims items (Some (opening claims count)))
-items_pass bound f graphs claims lows tops count wcet deadline items g v are items_are near wcet_is deadline_is =
-    subst (λ (nodes : List ℕ). All (IsPassed graphs claims g v) (passes claims items (Some (nodes ∷ [])))) (sym (tops_low bound f graphs claims lows tops count are))
-    (passes_of bound f graphs claims lows wcet deadline g v near wcet_is deadline_is items (take count tops ∷ []) items_are (tops_in bound f graphs claims lows tops count are, tt))
+pub items_pass : (bound : ℕ) (f : Plain) (graphs : List Digraph) (lows tops : List ℕ) (claims : List TreeClaim) → AreClaimsOf bound f graphs lows tops claims
+    → (g : Digraph) (v : ℕ) → deadline g v ≤ bound → (items : List Item) → AreItems f (wcet g v) (deadline g v) items (tops ∷ [])
+    → All (IsPassed graphs claims g v) (passes claims items (Some (map root claims ∷ [])))
+items_pass bound f graphs lows tops claims are g v near items is =
+    subst (λ (nodes : List ℕ). All (IsPassed graphs claims g v) (passes claims items (Some (nodes ∷ [])))) (sym (tops_low bound f graphs lows tops claims are))
+    (passes_of bound f graphs claims lows g v near items (tops ∷ []) is (tops_in bound f graphs lows tops claims are, tt))
