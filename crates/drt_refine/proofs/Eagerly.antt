@@ -3,12 +3,12 @@ use Rattle.std.proofs.Common.{◌≡◌, ℕ, suc, zero, ◌+◌, ◌≤◌, ◌
 use Rattle.std.specs.Prelude.{slice_get}
 use Rattle.std.proofs.lemmas.Option.{none-some, same_Some, slice_get_within}
 use Rattle.drt_worklist.specs.Places.{first, changed}
-use Rattle.drt_worklist.proofs.Lists.{Before, before_change, After, after_change, length-changed, Joined, earlier, later, before_join, after_join, after_end, Found, found, none_found}
-use Rattle.drt_tree.specs.Tree.{Plain, IsUnder, Leads, children}
+use Rattle.drt_worklist.proofs.Lists.{Before, before_change, After, after_change, length-changed, earlier, later, before_join, after_join, after_end, Found, found, none_found}
+use Rattle.drt_tree.specs.Tree.{Plain, IsUnder, children}
 use Rattle.drt_refine.specs.Below.{AreBelow}
 use Rattle.drt_refine.specs.Combination.{Combination, fresh, with_state, is_pending, is_pending_state, is_taken, is_taken_state, is_failed, is_failed_state}
-use Rattle.drt_refine.specs.Machine.{Setting, State, Outcome, opening_state, after, is_full, is_finished, halves, taken, halved, halved_at, children_at, stepped, step_by, step_of, replay_from, replay, IsRunFrom, IsRun, CanStep, IsPairAt, NonePasses}
-use Rattle.drt_refine.specs.Eager.{IsWidest, IsPlace, IsEagerFor, IsEagerStep, AreEagerFrom, IsEager, settled_by}
+use Rattle.drt_refine.specs.Machine.{Setting, State, Outcome, opening_state, after, is_full, is_finished, taken, halved, halved_at, children_at, stepped, step_by, replay_from, replay, IsRunFrom, IsRun, CanStep, IsPairAt, NonePasses}
+use Rattle.drt_refine.specs.Eager.{IsWidest, IsPlace, IsEagerStep, AreEagerFrom, IsEager}
 use Rattle.drt_refine.specs.Settled.{AreSettled, HasNodes, IsDone, IsHalfOf, IsSettled, IsSplitInto}
 use Rattle.drt_refine.specs.declared.step.CombinationState.{CombinationState}
 use Rattle.drt_refine.specs.declared.step.CombinationState.TheVariants.{Pending, Taken as TakenBy, Passed as PassedAt, Split as SplitAt, Failed as HasFailed}

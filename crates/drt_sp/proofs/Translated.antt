@@ -1,6 +1,6 @@
 -- The items of a vertex's proof, which speak of nodes of a forest, are those of a dossier, which speak of nodes of claimed trees: a node
 -- has its number in the forest less the low of its tree. For the assembly: `items_shape` and `items_pass`.
-use Rattle.std.proofs.Common.{◌≡◌, ℕ, suc, zero, ◌+◌, ◌-◌, ◌≤◌, ◌<◌, Option, Some, None, List, [], ◌∷◌, ◌++◌, map, take, length, All, refl, sym, ap, ◌∙◌, subst, arith, set}
+use Rattle.std.proofs.Common.{◌≡◌, ℕ, suc, zero, ◌+◌, ◌-◌, ◌≤◌, ◌<◌, Option, Some, List, [], ◌∷◌, map, All, refl, sym, ap, ◌∙◌, subst, arith, set}
 use Rattle.std.specs.Prelude.{slice_get, slice_index_or}
 use Rattle.std.proofs.lemmas.Option.{none-some, same_Some}
 use Rattle.std.proofs.lemmas.List.Elements.{All-nil, All-cons}
@@ -10,9 +10,9 @@ use Rattle.drt_steps.specs.Values.{value_at}
 use Rattle.drt_steps.specs.Time.{Passes, sum_at as forest_sum}
 use Rattle.drt_tree.specs.Tree.{Plain, children, values}
 use Rattle.drt_evidence.specs.Trees.{root, node_values}
-use Rattle.drt_evidence.specs.Proofs.{IsPassed, after, after_all, halved, opening, parts, parts_in, passes, sum_at}
+use Rattle.drt_evidence.specs.Proofs.{IsPassed, after, after_all, halved, parts, parts_in, passes, sum_at}
 use Rattle.drt_evidence.specs.declared.evidence.Item.{Item}
-use Rattle.drt_evidence.specs.declared.evidence.Item.TheVariants.{Pass, Split}
+use Rattle.drt_evidence.specs.declared.evidence.Item.TheVariants.{Split}
 use Rattle.drt_evidence.specs.declared.evidence.TreeClaim.{TreeClaim}
 use Rattle.drt_sp.specs.TreeClaims.{IsClaimOf, lowered}
 use Rattle.drt_sp.specs.Claims.{AreClaimsOf}

@@ -1,6 +1,6 @@
 -- Where a frontier stops: the items of a finished one are a proof, and the leaves of a failed combination are a tuple that fails.
-use Rattle.std.proofs.Common.{◌≡◌, ℕ, ◌<◌, Some, List, [], ◌∷◌, length, refl, sym, ap, ◌∙◌, subst}
-use Rattle.std.specs.Prelude.{slice_get, IsTrue}
+use Rattle.std.proofs.Common.{◌≡◌, ℕ, ◌<◌, Some, List, [], ◌∷◌, length, refl, sym, ap, subst}
+use Rattle.std.specs.Prelude.{slice_get}
 use Rattle.std.proofs.lemmas.Option.{slice_get_within}
 use Rattle.drt_tree.specs.Tree.{Plain}
 use Rattle.drt_worklist.specs.Places.{first}
@@ -10,7 +10,7 @@ use Rattle.drt_refine.specs.Below.{AreBelow, IsConcrete}
 use Rattle.drt_refine.specs.Combination.{Combination, is_failed}
 use Rattle.drt_refine.specs.Eager.{IsEager}
 use Rattle.drt_refine.specs.Facts.{IsPassed}
-use Rattle.drt_refine.specs.Machine.{Setting, State, IsHopeless, opening_state, replay}
+use Rattle.drt_refine.specs.Machine.{Setting, State, IsHopeless, opening_state}
 use Rattle.drt_refine.specs.Settled.{AreSettled}
 use Rattle.drt_refine.specs.View.{View, setting_of, state_of}
 use Rattle.drt_refine.specs.declared.step.FrontierEntry.{FrontierEntry}

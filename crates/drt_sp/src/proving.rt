@@ -106,10 +106,7 @@ fn tuple_of(alloc: Global, frontier: &Frontier, id: u32) -> Result<Row<u32>, Mem
     requires { id < length frontier.now.combinations }
     ensures { IfOk result (λ tuple. (c : Combination) → slice_get frontier.now.combinations id ≡ Some c → tuple ≡ c.nodes) }
 {
-    Ok(Row::from_vec(Vec::from_slice(
-        alloc,
-        frontier.combination(id),
-    )?))
+    Ok(Row::from_vec(Vec::from_slice(alloc, frontier.combination(id))?))
 }
 
 // A copy of the log.

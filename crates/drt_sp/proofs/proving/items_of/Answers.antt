@@ -1,16 +1,16 @@
 -- The items so far end the stack, whose numbers are those of combinations that were not read yet.
-use Rattle.std.proofs.Common.{◌≡◌, ℕ, ◌+◌, ◌-◌, ◌≤◌, ◌<◌, List, [], ◌∷◌, ◌++◌, length, refl, sym, ap, ◌∙◌, subst, arith, All, Some}
+use Rattle.std.proofs.Common.{◌≡◌, ℕ, ◌+◌, ◌≤◌, ◌<◌, List, [], ◌∷◌, ◌++◌, length, refl, sym, ap, ◌∙◌, subst, arith, All, Some}
 use Rattle.std.specs.Prelude.{slice_get, IsTrue}
 use Rattle.std.proofs.lemmas.Option.{slice_get_within}
-use Rattle.drt_evidence.specs.Ranges.{IsCounted, IsInRangeItem}
+use Rattle.drt_evidence.specs.Ranges.{IsInRangeItem}
 use Rattle.drt_evidence.specs.declared.evidence.Item.{Item}
 use Rattle.drt_refine.specs.Combination.{Combination}
-use Rattle.drt_refine.specs.Machine.{State, replay, is_finished}
-use Rattle.drt_refine.specs.Settled.{AreSettled, IsDone}
-use Rattle.drt_refine.specs.View.{setting_of, state_of}
-use Rattle.drt_sp.specs.Items.{AreItems, IsItemOf}
+use Rattle.drt_refine.specs.Machine.{State, is_finished}
+use Rattle.drt_refine.specs.Settled.{AreSettled}
+use Rattle.drt_refine.specs.View.{setting_of}
+use Rattle.drt_sp.specs.Items.{AreItems}
 use Rattle.drt_sp.proofs.ItemLists.{IsReading, reading_start, reading_end, reading_more, top}
-use Rattle.drt_sp.proofs.Visits.{IsVisit, visit_few}
+use Rattle.drt_sp.proofs.Visits.{visit_few}
 use Rattle.drt_worklist.proofs.Lists.{get_within, length_join}
 use Rattle.drt_sp.proofs.proving.items_of.Goals as goal
 

@@ -1,12 +1,12 @@
 -- Where the driven frontier stops.
-use Rattle.std.proofs.Common.{◌≡◌, ℕ, Some, sym, ap, ◌∙◌, subst}
+use Rattle.std.proofs.Common.{◌≡◌, Some, sym, ◌∙◌, subst}
 use Rattle.std.specs.Prelude.{slice_get, IsTrue}
 use Rattle.drt_worklist.specs.Places.{first}
 use Rattle.drt_refine.specs.Combination.{Combination, is_failed}
 use Rattle.drt_refine.specs.Eager.{IsEager}
-use Rattle.drt_refine.specs.Machine.{Setting, State, IsHopeless, is_finished, replay}
+use Rattle.drt_refine.specs.Machine.{State, IsHopeless, is_finished, replay}
 use Rattle.drt_refine.specs.Settled.{AreSettled}
-use Rattle.drt_refine.specs.View.{setting_of, state_of}
+use Rattle.drt_refine.specs.View.{setting_of}
 use Rattle.drt_sp.specs.Items.{refinement_of}
 use Rattle.drt_sp.proofs.VertexProofs.{driven_eager, proof_of, failure_of, failed_within}
 use Rattle.drt_sp.proofs.proving.prove_vertex.Goals as goal
@@ -18,11 +18,12 @@ returns-in-Finished c =
     let t = refinement_of f c.args.roots.now c.args.wcet c.args.deadline c.args.budget in
     let same : setting_of f v ≡ t = c.in-Finished.ensures.drives.setting ∙ c.in_ok-frontier.ensures.setting in
     let front = c.in-Finished.ensures.frontier in
-    let finished : IsTrue (is_finished (setting_of f v) (replay (setting_of f v) v.log)) = subst (λ (s : State). IsTrue (is_finished (setting_of f v) s)) front.state c.in-Finished.ensures.stops in
-    (proof_of t (setting_of f v) (replay (setting_of f v) v.log).combinations c.in_ok-items_of-in-Finished.field-0 same c.in_ok-items_of-in-Finished.ensures.are
-        (λ tuple below. c.over_every_interleaving.ensures.finished (setting_of f v) v.log front.forest front.roots front.run finished tuple below),
-    c.in_ok-items_of-in-Finished.ensures.in_range.0,
-    c.in_ok-items_of-in-Finished.ensures.in_range.1)
+    let finished : IsTrue (is_finished (setting_of f v) (replay (setting_of f v) v.log)) = subst (λ (s : State). IsTrue (is_finished (setting_of f v) s)) front.state c.in-Finished.ensures.stops in (
+      proof_of t (setting_of f v) (replay (setting_of f v) v.log).combinations c.in_ok-items_of-in-Finished.field-0 same c.in_ok-items_of-in-Finished.ensures.are
+          (λ tuple below. c.over_every_interleaving.ensures.finished (setting_of f v) v.log front.forest front.roots front.run finished tuple below),
+      c.in_ok-items_of-in-Finished.ensures.in_range.0,
+      c.in_ok-items_of-in-Finished.ensures.in_range.1,
+    )
 
 pub tuple_of-requires : goal.tuple_of-requires
 tuple_of-requires c = failed_within c.drive.new.self.combinations c.in-Failed.id c.in-Failed.ensures.stops

@@ -1,9 +1,8 @@
-use Rattle.std.proofs.Common.{◌≡◌, ℕ, ◌<◌, Option, Some, None, List, length, refl, sym, ap, ◌∙◌, arith}
+use Rattle.std.proofs.Common.{◌≡◌, Option, Some, None, length, refl, sym, ap, ◌∙◌, arith}
 use Rattle.std.specs.Prelude.{slice_get, IfSome}
 use Rattle.std.proofs.lemmas.Option.{same_Some}
 use Rattle.drt_refine.specs.Combination.{Combination}
-use Rattle.drt_refine.specs.View.{View, combinations_of}
-use Rattle.drt_refine.specs.declared.step.CombinationState.{CombinationState}
+use Rattle.drt_refine.specs.View.{View}
 use Rattle.drt_refine.proofs.Flat.{CombinationAt, combination_at, length_combinations}
 use Rattle.drt_refine.proofs.frontier.Frontier.state.Goals as goal
 
