@@ -1,0 +1,7 @@
+pub mod Asked
+pub mod Covered
+pub mod Cuts
+pub mod Chosen
+pub mod Members
+pub mod Missed
+pub mod Rows
