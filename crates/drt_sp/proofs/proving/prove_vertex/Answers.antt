@@ -38,7 +38,8 @@ returns-in-Failed c =
     let front = c.in-Failed.ensures.frontier in
     let eager : IsEager s v.log = driven_eager f c.in_ok-frontier.frontier v c.in_ok-frontier.ensures.state c.in-Failed.ensures.drives.setting c.in-Failed.ensures.eager in
     let settled : AreSettled s (replay s v.log).combinations = c.eager_settles.ensures.settled s v.log front.run eager in
-    let failed : first is_failed (replay s v.log).combinations ≡ Some c.in-Failed.id = subst (λ (x : State). first is_failed x.combinations ≡ Some c.in-Failed.id) front.state c.in-Failed.ensures.stops in
+    let failed : first is_failed (replay s v.log).combinations ≡ Some c.in-Failed.id
+    = subst (λ (x : State). first is_failed x.combinations ≡ Some c.in-Failed.id) front.state c.in-Failed.ensures.stops in
     let x : (x : Combination) × (slice_get (replay s v.log).combinations c.in-Failed.id ≡ Some x) × IsHopeless s x.nodes
     = c.over_every_interleaving.ensures.failed s v.log c.in-Failed.id front.forest front.roots front.run failed in
     failure_of t s (replay s v.log).combinations c.in-Failed.id x.0 c.in_ok-tuple_of-in-Failed.field-0 same settled x.1 x.2

@@ -12,7 +12,8 @@ if_some (Some x) P h = h x refl
 
 pub at-requires : goal.at-requires
 at-requires c =
-    let n : length c.self.inside.states.items ≡ length c.args.self.now.combinations = sym (length_combinations (length c.self.inside.roots.items) c.self.inside.nodes.items c.self.inside.states.items) ∙ ap (λ (v : View). length v.combinations) c.self.view_is in
+    let n : length c.self.inside.states.items ≡ length c.args.self.now.combinations
+    = sym (length_combinations (length c.self.inside.roots.items) c.self.inside.nodes.items c.self.inside.states.items) ∙ ap (λ (v : View). length v.combinations) c.self.view_is in
     omega (arith, c.requires)
 
 pub returns : goal.returns
