@@ -90,7 +90,8 @@ module _ (t : Setting) (cs : List Combination) (settled : AreSettled t cs) (item
       let under = stacked cs rest [] in
       let two : stacked cs (rest ++ right ∷ left ∷ []) [] ≡ l ∷ h ∷ under =
       stacked_two cs rest right left []
-      ∙ (ap (λ (nodes : List ℕ). nodes ∷ nodes_of (slice_get cs right) ∷ under) (has_nodes cs left l into.left_has) ∙ ap (λ (nodes : List ℕ). l ∷ nodes ∷ under) (has_nodes cs right h into.right_has)) in
+      ∙ (ap (λ (nodes : List ℕ). nodes ∷ nodes_of (slice_get cs right) ∷ under) (has_nodes cs left l into.left_has)
+      ∙ ap (λ (nodes : List ℕ). l ∷ nodes ∷ under) (has_nodes cs right h into.right_has)) in
       let halves : AreHalves t.forest t.wcet t.deadline c.nodes place into.pair.left into.pair.right = record { node = into.pair.node; at = into.pair.at; children = into.pair.children } in
       record {
         goes =
