@@ -8,3 +8,7 @@ pub mod TreesGrow
 pub mod ShortWalks
 pub mod TaskTrees
 pub mod TreeSearches
+pub mod Visits
+pub mod ItemLists
+pub mod VertexProofs
+pub mod Translated

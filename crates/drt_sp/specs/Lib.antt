@@ -3,3 +3,4 @@ pub mod OneTask
 pub mod TreeClaims
 pub mod Items
 pub mod TaskTrees
+pub mod Claims

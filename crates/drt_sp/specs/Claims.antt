@@ -1,0 +1,13 @@
+-- Forests that stand behind the trees and proofs of a dossier.
+use Rattle.std.specs.Prelude.{ℕ, List, [], ◌∷◌}
+use Rattle.drt_model.specs.Digraph.{Digraph}
+use Rattle.drt_tree.specs.Tree.{Plain}
+use Rattle.drt_evidence.specs.declared.evidence.TreeClaim.{TreeClaim}
+use Rattle.drt_sp.specs.TreeClaims.{IsClaimOf}
+
+-- There is one claim for each graph, and one root and one lowest number: the claim is the tree of the forest from this number up to this
+-- root.
+abbrev pub AreClaimsOf : ℕ → Plain → List Digraph → List ℕ → List ℕ → List TreeClaim → Type 0
+AreClaimsOf bound f [] [] [] [] = Unit {0}
+AreClaimsOf bound f (g ∷ graphs) (low ∷ lows) (top ∷ tops) (claim ∷ claims) = IsClaimOf g bound f low top claim × AreClaimsOf bound f graphs lows tops claims
+AreClaimsOf bound f graphs lows tops claims = ⊥
