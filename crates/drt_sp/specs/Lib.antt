@@ -4,3 +4,4 @@ pub mod TreeClaims
 pub mod Items
 pub mod TaskTrees
 pub mod Claims
+pub mod Needs

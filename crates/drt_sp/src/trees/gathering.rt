@@ -5,9 +5,10 @@ ghost use Rattle.drt_request.specs.Request.{request_algebra};
 ghost use Rattle.drt_table.specs.View.{IsTable, setting_of, state_of};
 ghost use Rattle.drt_sp.specs.TaskTrees.{AreGathered};
 
+use drt_label::Label;
 use drt_model::{Memory, Row};
 use drt_request::RequestLabel;
-use drt_table::Table;
+use drt_table::{Node, Table};
 use std::alloc::Global;
 use std::sync::Arc;
 
@@ -16,6 +17,15 @@ use std::sync::Arc;
 pub(crate) struct Leaves {
     pub(crate) labels: Vec<Arc<RequestLabel>>,
     pub(crate) walks: Vec<Row<u32>>,
+}
+
+// The label of a node. Its function is shared with the node.
+fn label_of(alloc: Global, node: &Node<RequestLabel>) -> Result<Arc<RequestLabel>, Memory>
+    ensures { IfOk result (λ label. label.value ≡ node.now.node.label) }
+{
+    let label = node.label();
+    let spare = label.make_spare(alloc)?;
+    Ok(Arc::new(alloc, label.hand_out(spare))?)
 }
 
 /// The leaves of the kept nodes of a search, in order of nodes. The labels are those of the table, which ends here.
@@ -30,8 +40,8 @@ pub(crate) fn gather(alloc: Global, table: Table<RequestLabel>) -> Result<Leaves
     let mut walks = Vec::new(alloc);
     'nodes: for id in 0..table.node_count() as u32 {
         let node = table.node(id);
-        if node.dropped_by.is_none() {
-            labels.push(Arc::try_clone(&node.label)?)?;
+        if node.dropped_by().is_none() {
+            labels.push(label_of(alloc, node)?)?;
             walks.push(table.walk(alloc, id)?)?;
         }
     }

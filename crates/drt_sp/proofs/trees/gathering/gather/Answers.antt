@@ -6,7 +6,7 @@ use Rattle.drt_request.specs.Request.{request_algebra}
 use Rattle.drt_table.proofs.Tables.{nodes_small}
 use Rattle.drt_tree.specs.Leaf.{leaves_of}
 use Rattle.drt_sp.proofs.TreeSearches.{gathered_dropped, gathered_kept}
-use Rattle.drt_sp.proofs.trees.gathering.gather.Goals.{then-is_none+in_ok-try_clone+in_ok-push+in_ok-walk+in_ok-push-2, else-is_none}
+use Rattle.drt_sp.proofs.trees.gathering.gather.Goals.{then-is_none+in_ok-label_of+in_ok-push+in_ok-walk+in_ok-push-2, else-is_none}
 use Rattle.drt_sp.proofs.trees.gathering.gather.Goals as goal
 
 pub overflow_cast-id-end : goal.overflow_cast-id-end
@@ -16,17 +16,17 @@ overflow_cast-id-end c =
 
 pub nodes-preserved : goal.nodes-preserved
 nodes-preserved c = elim c.if-is_none.branch [
-  | then-is_none+in_ok-try_clone+in_ok-push+in_ok-walk+in_ok-push-2 w ↦
+  | then-is_none+in_ok-label_of+in_ok-push+in_ok-walk+in_ok-push-2 w ↦
       let i = c.nodes.invariant in
       let a = i.0 in
       let b = i.1 in
       let v = c.args.table in
-      let arc = w.in_ok-try_clone.field-0 in
-      let kept : is_some c.node-node.result.now.node.dropped_by ≡ false = ap (λ h. is_some h.node.dropped_by) (sym c.node.view_is) ∙ (c.is_none.ensures ∙ ap (λ x. not x) w.if-is_none.true) in
-      let label : w.in_ok-try_clone.field-0.value ≡ c.node-node.result.now.node.label = w.in_ok-try_clone.ensures ∙ ap (λ h. h.node.label) c.node.view_is in
-      let labels : c.if-is_none.labels.items ≡ c.nodes.labels.items ++ w.in_ok-try_clone.field-0 ∷ [] = ap (λ x. x.items) w.labels-is ∙ w.in_ok-push.ensures.items in
+      let arc = w.in_ok-label_of.field-0 in
+      let kept : is_some c.node-node.result.now.node.dropped_by ≡ false = ap is_some (sym c.dropped_by.ensures) ∙ (c.is_none.ensures ∙ ap (λ x. not x) w.if-is_none.true) in
+      let label : w.in_ok-label_of.field-0.value ≡ c.node-node.result.now.node.label = w.in_ok-label_of.ensures in
+      let labels : c.if-is_none.labels.items ≡ c.nodes.labels.items ++ w.in_ok-label_of.field-0 ∷ [] = ap (λ x. x.items) w.labels-is ∙ w.in_ok-push.ensures.items in
       let walks : c.if-is_none.walks.items ≡ c.nodes.walks.items ++ w.in_ok-walk.field-0 ∷ [] = ap (λ x. x.items) w.walks-is ∙ w.in_ok-push-2.ensures.items in
-      let m = length-append c.nodes.labels.items (w.in_ok-try_clone.field-0 ∷ []) in
+      let m = length-append c.nodes.labels.items (w.in_ok-label_of.field-0 ∷ []) in
       let n = length-append c.nodes.walks.items (w.in_ok-walk.field-0 ∷ []) in
       rw (labels, walks) (
         omega (arith, a, m, n),
@@ -37,6 +37,6 @@ nodes-preserved c = elim c.if-is_none.branch [
       let i = c.nodes.invariant in
       let b = i.1 in
       let v = c.args.table in
-      let dropped : is_some c.node-node.result.now.node.dropped_by ≡ true = ap (λ h. is_some h.node.dropped_by) (sym c.node.view_is) ∙ w.if-is_none.ensures in
+      let dropped : is_some c.node-node.result.now.node.dropped_by ≡ true = ap is_some (sym c.dropped_by.ensures) ∙ w.if-is_none.ensures in
       rw (w.labels-is, w.walks-is) (i.0, omega (arith, b), gathered_dropped v c.nodes.id c.node-node.result.now c.node-node.ensures (leaves_of c.nodes.labels.items c.nodes.walks.items) dropped i.2)
 ]
