@@ -7,10 +7,12 @@ use Rattle.drt_model.specs.Utilisation.{Fraction}
 use Rattle.drt_model.specs.declared.tasks.Task.{Task}
 use Rattle.drt_file.specs.trusted.Canonical.{written, written_line, name_at, priority_lines, body_lines, task_lines, set_lines, canonical}
 use Rattle.drt_top.specs.commands.Util.{util_lines}
-use Rattle.drt_sp.specs.Evidence.{under_fixed, yes_evidence}
+use Rattle.drt_sp.specs.Evidence.{under_fixed}
 use Rattle.drt_evidence.specs.Statement.{Statement}
 use Rattle.drt_evidence.specs.Text.{text}
-use Rattle.drt_evidence.specs.declared.evidence.Evidence.TheVariants.{EdfYes}
+use Rattle.drt_evidence.specs.declared.evidence.Evidence.TheVariants.{EdfYes, FixedYes}
+use Rattle.drt_evidence.specs.declared.evidence.Item.TheVariants.{Pass}
+use Rattle.drt_evidence.specs.declared.evidence.ProofClaim.{ProofClaim}
 use Rattle.drt_model.specs.declared.jobs.Policy.TheVariants.{Edf}
 use Rattle.drt_rows.proofs.Sets.{looped, short}
 
@@ -46,7 +48,10 @@ abbrev sp_dossier : List ℕ
 sp_dossier =
     codes "drt-dossier 1\npolicy fixed\ndrt 1\ntask T\nvertex a 2 5\nedge a a 5\nend\n" ++ codes "evidence fixed-yes\ntrees 0\nproofs 1\nproof 0 0 1 p2\nclose\n"
 
-pub sp_text : text (under_fixed set (yes_evidence (2 ∷ []))) ≡ sp_dossier
+abbrev sp_proof : ProofClaim
+sp_proof = record { task = 0; vertex = 0; items = Pass 2 ∷ [] }
+
+pub sp_text : text (under_fixed set (FixedYes [] (sp_proof ∷ []))) ≡ sp_dossier
 unfolding text digits written_line name_at priority_lines body_lines task_lines set_lines canonical
 sp_text = refl
 
