@@ -12,7 +12,7 @@ lent c =
     let e = c.in_ok-leaves.ensures in
     let leaves = c.in_ok-leaves.leaves in
     lent_leaves c.args.graph.now c.args.bound c.args.budget c.in_ok-table.table c.in_ok-table.ensures.setting e.table c.requires.from c.requires.few
-    (c.if-not-finished.ensures.front refl) leaves.labels.items leaves.walks.items e.same e.few e.gathered
+    leaves.labels.items leaves.walks.items e.same e.few e.leaves
     c.as_slice.result.now c.as_slice-2.result.now c.as_slice.ensures.value c.as_slice-2.ensures.value
 
 pub add_tree-requires-clause-some : goal.add_tree-requires-clause-some
@@ -34,7 +34,7 @@ returns c =
     let walks = c.as_slice-2.result.now in
     let l : AreLent c.args.graph.now c.args.bound labels walks =
     lent_leaves c.args.graph.now c.args.bound c.args.budget c.in_ok-table.table c.in_ok-table.ensures.setting e.table c.requires.from c.requires.few
-    (c.if-not-finished.ensures.front refl) leaves.labels.items leaves.walks.items e.same e.few e.gathered
+    leaves.labels.items leaves.walks.items e.same e.few e.leaves
     labels walks c.as_slice.ensures.value c.as_slice-2.ensures.value in
     let f = c.args.forest.now in
     let h = c.add_tree.new.forest in

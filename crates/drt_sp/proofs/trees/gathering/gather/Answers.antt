@@ -1,11 +1,13 @@
-use Rattle.std.proofs.Common.{◌≡◌, ◌<◌, ◌∷◌, ◌++◌, [], true, false, not, length, sym, ap, ◌∙◌, arith}
+use Rattle.std.proofs.Common.{◌≡◌, ◌<◌, ◌∷◌, ◌++◌, [], true, false, not, length, sym, ap, ◌∙◌, subst, arith}
 use Rattle.std.specs.Prelude.{is_some}
 use Rattle.std.proofs.lemmas.List.{length-append}
 use Rattle.drt_request.specs.Laws.{request_laws}
 use Rattle.drt_request.specs.Request.{request_algebra}
+use Rattle.drt_table.specs.View.{setting_of, state_of}
 use Rattle.drt_table.proofs.Tables.{nodes_small}
 use Rattle.drt_tree.specs.Leaf.{leaves_of}
-use Rattle.drt_sp.proofs.TreeSearches.{gathered_dropped, gathered_kept}
+use Rattle.drt_sp.proofs.TreeLeaves.{AreGathered}
+use Rattle.drt_sp.proofs.TreeSearches.{gathered_dropped, gathered_kept, gathered_leaves}
 use Rattle.drt_sp.proofs.trees.gathering.gather.Goals.{then-is_none+in_ok-label_of+in_ok-push+in_ok-walk+in_ok-push-2, else-is_none}
 use Rattle.drt_sp.proofs.trees.gathering.gather.Goals as goal
 
@@ -40,3 +42,11 @@ nodes-preserved c = elim c.if-is_none.branch [
       let dropped : is_some c.node-node.result.now.node.dropped_by ≡ true = ap is_some (sym c.dropped_by.ensures) ∙ w.if-is_none.ensures in
       rw (w.labels-is, w.walks-is) (i.0, omega (arith, b), gathered_dropped v c.nodes.id c.node-node.result.now c.node-node.ensures (leaves_of c.nodes.labels.items c.nodes.walks.items) dropped i.2)
 ]
+
+pub returns-clause-leaves : goal.returns-clause-leaves
+returns-clause-leaves c =
+    let i = c.nodes.invariant in
+    let e : c.nodes.id ≡ length c.args.table.nodes = omega (arith, c.nodes-test.false, c.nodes.auto.id-end, c.node_count-id-end.ensures) in
+    let ls = leaves_of c.nodes.labels.items c.nodes.walks.items in
+    let are = subst (λ k. AreGathered (setting_of c.args.table) (state_of c.args.table).nodes k ls) e i.2 in
+    gathered_leaves c.args.table c.log-log.ensures.replayed c.requires.front ls are
