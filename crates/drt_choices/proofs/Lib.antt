@@ -1,0 +1,6 @@
+pub mod Asked
+pub mod Covered
+pub mod Cuts
+pub mod Chosen
+pub mod Members
+pub mod Missed

@@ -1,0 +1,50 @@
+-- A walk cut at d is a walk, and asks before each time up to d for what the whole walk does.
+use Rattle.std.proofs.Common.{inl, inr, ◌≡◌, ℕ, ◌+◌, ◌≤◌, cond, ltb, List, [], ◌∷◌, refl, ap, arith}
+use Rattle.std.proofs.lemmas.Bool.{cases_Bool, le-ltb, ltb-false}
+use Rattle.drt_model.specs.Digraph.{Digraph}
+use Rattle.drt_model.specs.RequestFunction.{requested_from}
+use Rattle.drt_model.specs.Walk.{IsPath, gap, wcet}
+use Rattle.drt_busy.specs.Choice.{IsWalk, request_of}
+use Rattle.drt_choices.specs.Choices.{cut, cut_from}
+
+module _ (g : Digraph) where
+  cut_path : (d offset u : ℕ) (vs : List ℕ) → IsPath g u vs → IsPath g u (cut_from g d offset u vs)
+  unfolding cut_from
+  cut_path d offset u [] path = tt
+  cut_path d offset u (v ∷ vs) path = elim (cases_Bool (ltb (offset + gap g u v) d)) [
+    | inl early ↦ rw early (path.0, cut_path d (offset + gap g u v) v vs path.1)
+    | inr late ↦ rw late tt
+  ]
+
+  -- a cut walk is a walk
+  pub cut_walk : (d : ℕ) (walk : List ℕ) → IsWalk g walk → IsWalk g (cut g d walk)
+  cut_walk d [] is = tt
+  cut_walk d (u ∷ vs) is = (is.0, cut_path d 0 u vs is.1)
+
+  -- a walk whose first release isn't before t asks for nothing before t
+  none_before : (offset u : ℕ) (vs : List ℕ) (t : ℕ) → t ≤ offset → requested_from g offset u vs t ≡ 0
+  unfolding requested_from
+  none_before offset u [] t le = rw (le-ltb offset t le) refl
+  none_before offset u (v ∷ vs) t le = rw (le-ltb offset t le) (omega (arith, none_before (offset + gap g u v) v vs t (omega arith)))
+
+  last_asks : (offset u v : ℕ) (vs : List ℕ) (t : ℕ) → t ≤ offset + gap g u v → requested_from g offset u [] t ≡ requested_from g offset u (v ∷ vs) t
+  unfolding requested_from
+  last_asks offset u v vs t le = omega (arith, none_before (offset + gap g u v) v vs t le)
+
+  next_asks : (offset u v : ℕ) (vs ws : List ℕ) (t : ℕ) → requested_from g (offset + gap g u v) v vs t ≡ requested_from g (offset + gap g u v) v ws t
+      → requested_from g offset u (v ∷ vs) t ≡ requested_from g offset u (v ∷ ws) t
+  unfolding requested_from
+  next_asks offset u v vs ws t same = ap (λ n. cond (ltb offset t) (wcet g u) 0 + n) same
+
+  cut_asks_from : (d t : ℕ) → t ≤ d → (offset u : ℕ) (vs : List ℕ) → requested_from g offset u (cut_from g d offset u vs) t ≡ requested_from g offset u vs t
+  unfolding cut_from
+  cut_asks_from d t le offset u [] = refl
+  cut_asks_from d t le offset u (v ∷ vs) = elim (cases_Bool (ltb (offset + gap g u v) d)) [
+    | inl early ↦ rw early (next_asks offset u v (cut_from g d (offset + gap g u v) v vs) vs t (cut_asks_from d t le (offset + gap g u v) v vs))
+    | inr late ↦ rw late (last_asks offset u v vs t (omega (arith, ltb-false (offset + gap g u v) d late)))
+  ]
+
+  -- before a time up to d it asks for what the whole walk does
+  pub cut_asks : (d t : ℕ) → t ≤ d → (walk : List ℕ) → request_of g (cut g d walk) t ≡ request_of g walk t
+  cut_asks d t le [] = refl
+  cut_asks d t le (u ∷ vs) = cut_asks_from d t le 0 u vs

@@ -1,0 +1,20 @@
+//! What trees say of the walks of the tasks.
+ghost use Rattle.drt_choices.specs.Laws.{LeavesMiss, LeavesPass};
+
+use drt_busy::{requests_miss, times_suffice_for_task};
+
+/// Where for each tuple of leaves, one of each tree, a time passes for a vertex, a time passes for all walks of the tasks of
+/// higher priority.
+pub fn leaves_pass()
+    ensures { LeavesPass }
+{}
+
+/// Where for a tuple of leaves no time passes for a vertex, and for each vertex of the tasks of higher priority one passes for
+/// all walks, the releases of the leaves' walks from time 0, with offsets below the vertex's deadline, and one of the vertex at
+/// 0 are legal, and the vertex's job misses its deadline, before which no job misses one.
+pub fn leaves_miss()
+    ensures { LeavesMiss }
+{
+    requests_miss();
+    times_suffice_for_task();
+}
