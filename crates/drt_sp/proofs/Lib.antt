@@ -2,6 +2,13 @@ pub mod EvidenceLemmas
 pub mod Lateness
 pub mod Rising
 pub mod Orders
-pub mod Deadlines
+pub mod GreatestDeadline
 pub mod Chosen
 pub mod Passing
+pub mod Extended
+pub mod Translated
+pub mod Yes
+pub mod TreesGrow
+pub mod Growth
+pub mod Refused
+pub mod FirstVertices

@@ -28,7 +28,7 @@ use Rattle.drt_sp.specs.Items.{IsProofOf}
 use Rattle.drt_sp.specs.Progress.{AreGrown}
 use Rattle.drt_sp.specs.TreeClaims.{IsClaimOf}
 use Rattle.drt_sp.specs.Vertices.{AreVertexProofs, IsVertexProof, TuplesPass, subject_of, subjects}
-use Rattle.drt_sp.proofs.Deadlines.{deadline_near}
+use Rattle.drt_sp.proofs.GreatestDeadline.{deadline_near}
 use Rattle.drt_sp.proofs.Orders.{order_before, order_below, order_place}
 
 -- The roots of claims are nodes of the forest.
@@ -53,7 +53,7 @@ proofs_pass f roots g k n proofs are v l =
     let a : get_or (map subject_of proofs) v (0, 0) ≡ subject_of (get_or proofs v none) = get_or-map subject_of proofs v none (0, 0) m in
     let b : get_or (subjects k n) v (0, 0) ≡ (k, v) = get_or-map-range_with_len (λ u. (k, u)) 0 n v v (0, 0) l (omega arith) in
     let c : subject_of (get_or proofs v none) ≡ (k, v) = sym a ∙ (ap (λ ss. get_or ss v (0, 0)) are.are ∙ b) in
-    let is : IsVertexProof f roots g (get_or proofs v none) = are.each v none m in
+    let is : IsVertexProof f roots g k (get_or proofs v none) = are.each v none m in
     subst (TuplesPass f roots g) (ap (λ (s : ℕ × ℕ). s.1) c) is.proves.each
 
 module _ (tasks : List Task) (order : List ℕ) (order_is : IsOrder tasks order) where

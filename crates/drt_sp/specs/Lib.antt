@@ -6,6 +6,5 @@ pub mod Claims
 pub mod Answers
 pub mod Chosen
 pub mod Vertices
-pub mod Proving
-pub mod TreeSearches
+pub mod TaskTrees
 pub mod Progress
