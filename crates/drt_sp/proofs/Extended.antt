@@ -25,7 +25,7 @@ IsNarrow m (Some stack) = AreNarrow m stack
 
 halved_narrow : (m : ℕ) (nodes : List ℕ) (place : ℕ) (stack : List (List ℕ)) (p : Option (ℕ × ℕ)) → length nodes ≤ m → AreNarrow m stack → IsNarrow m (halved nodes place stack p)
 halved_narrow m nodes place stack None l is = tt
-halved_narrow m nodes place stack (Some p) l is = (omega (arith, length-set nodes place p.0), omega (arith, length-set nodes place p.1), is)
+halved_narrow m nodes place stack (Some p) l is = (omega (arith, length-set nodes place p.0), (omega (arith, length-set nodes place p.1), is))
 
 after_narrow : (m : ℕ) (trees : List TreeClaim) (item : Item) (stack : List (List ℕ)) → AreNarrow m stack → IsNarrow m (after trees item stack)
 after_narrow m trees item [] is = tt
@@ -39,11 +39,11 @@ all_none trees (item ∷ items) = refl
 
 module _ (trees more : List TreeClaim) where
   parts_more : (place : ℕ) (t : Option TreeClaim) (n : Option ℕ) (p : ℕ × ℕ) → slice_get trees place ≡ t → parts_in t n ≡ Some p → slice_get (trees ++ more) place ≡ t
-  parts_more place None n p e h = absurd (none-some h)
+  parts_more place None n p e h = absurd (none-some p h)
   parts_more place (Some tree) n p e h = get_front trees more place (slice_get_within trees place tree e) ∙ e
 
   halved_some : (nodes : List ℕ) (place : ℕ) (stack next : List (List ℕ)) (p : Option (ℕ × ℕ)) → halved nodes place stack p ≡ Some next → (q : ℕ × ℕ) × (p ≡ Some q)
-  halved_some nodes place stack next None h = absurd (none-some h)
+  halved_some nodes place stack next None h = absurd (none-some next h)
   halved_some nodes place stack next (Some q) h = (q, refl)
 
   after_more : (item : Item) (stack next : List (List ℕ)) → after trees item stack ≡ Some next → after (trees ++ more) item stack ≡ after trees item stack
@@ -56,25 +56,29 @@ module _ (trees more : List TreeClaim) where
   pub all_more : (items : List Item) (stack last : List (List ℕ)) → after_all trees items (Some stack) ≡ Some last → after_all (trees ++ more) items (Some stack) ≡ Some last
   unfolding after_all
   all_more [] stack last h = h
-  all_more (item ∷ items) stack last h = go (after trees item stack) refl
+  all_more (item ∷ items) stack last h = go (after trees item stack) refl (λ next k. all_more items next last k)
     where
-      go : (next : Option (List (List ℕ))) → after trees item stack ≡ next → after_all (trees ++ more) items (after (trees ++ more) item stack) ≡ Some last
-      go None e = absurd (none-some (sym (all_none trees items) ∙ (sym (ap (after_all trees items) e) ∙ h)))
-      go (Some next) e =
-          ap (after_all (trees ++ more) items) (after_more item stack next e ∙ e) ∙ all_more items next last (sym (ap (after_all trees items) e) ∙ h)
+      go : (next : Option (List (List ℕ))) → after trees item stack ≡ next
+          → ((next : List (List ℕ)) → after_all trees items (Some next) ≡ Some last → after_all (trees ++ more) items (Some next) ≡ Some last)
+          → after_all (trees ++ more) items (after (trees ++ more) item stack) ≡ Some last
+      go None e rest = absurd (none-some last (sym (all_none trees items) ∙ (sym (ap (after_all trees items) e) ∙ h)))
+      go (Some next) e rest =
+          ap (after_all (trees ++ more) items) (after_more item stack next e ∙ e) ∙ rest next (sym (ap (after_all trees items) e) ∙ h)
 
   pub passes_more : (items : List Item) (stack last : List (List ℕ)) → after_all trees items (Some stack) ≡ Some last → passes (trees ++ more) items (Some stack) ≡ passes trees items (Some stack)
   unfolding after_all passes
   passes_more [] stack last h = refl
   passes_more (item ∷ items) [] last h = refl
   passes_more (Pass t ∷ items) (nodes ∷ stack) last h = ap (λ xs. (nodes, t) ∷ xs) (passes_more items stack last h)
-  passes_more (Split place ∷ items) (nodes ∷ stack) last h = go (after trees (Split place) (nodes ∷ stack)) refl
+  passes_more (Split place ∷ items) (nodes ∷ stack) last h = go (after trees (Split place) (nodes ∷ stack)) refl (λ next k. passes_more items next last k)
     where
-      go : (next : Option (List (List ℕ))) → after trees (Split place) (nodes ∷ stack) ≡ next → passes (trees ++ more) items (after (trees ++ more) (Split place) (nodes ∷ stack)) ≡ passes trees items (after trees (Split place) (nodes ∷ stack))
-      go None e = absurd (none-some (sym (all_none trees items) ∙ (sym (ap (after_all trees items) e) ∙ h)))
-      go (Some next) e =
+      go : (next : Option (List (List ℕ))) → after trees (Split place) (nodes ∷ stack) ≡ next
+          → ((next : List (List ℕ)) → after_all trees items (Some next) ≡ Some last → passes (trees ++ more) items (Some next) ≡ passes trees items (Some next))
+          → passes (trees ++ more) items (after (trees ++ more) (Split place) (nodes ∷ stack)) ≡ passes trees items (after trees (Split place) (nodes ∷ stack))
+      go None e rest = absurd (none-some last (sym (all_none trees items) ∙ (sym (ap (after_all trees items) e) ∙ h)))
+      go (Some next) e rest =
           ap (passes (trees ++ more) items) (after_more (Split place) (nodes ∷ stack) next e ∙ e)
-          ∙ (passes_more items next last (sym (ap (after_all trees items) e) ∙ h) ∙ sym (ap (passes trees items) e))
+          ∙ (rest next (sym (ap (after_all trees items) e) ∙ h) ∙ sym (ap (passes trees items) e))
 
 -- The combinations of the items that pass have at most m nodes.
 pub passes_narrow : (m : ℕ) (trees : List TreeClaim) (items : List Item) (stack : Option (List (List ℕ))) → IsNarrow m stack → All (λ at. length at.0 ≤ m) (passes trees items stack)

@@ -19,11 +19,10 @@ use Rattle.drt_evidence.specs.Trees.{greatest_deadline}
 use Rattle.drt_evidence.specs.declared.evidence.ProofClaim.{ProofClaim}
 use Rattle.drt_evidence.specs.declared.evidence.TreeClaim.{TreeClaim}
 use Rattle.drt_sp.specs.Claims.{AreClaimsOf}
-use Rattle.drt_sp.specs.Claims.AreClaimsOf.{none, more}
 use Rattle.drt_sp.specs.Items.{AreItems}
 use Rattle.drt_sp.specs.Progress.{AreGrown, AreProofsAt, AreProved, IsProofAt, first_graphs}
 use Rattle.drt_sp.specs.TreeClaims.{IsClaimOf, IsTreeOf}
-use Rattle.drt_sp.specs.Vertices.{AreVertexProofs, IsVertexProof}
+use Rattle.drt_sp.specs.Vertices.{AreVertexProofs, IsProvedVertex}
 use Rattle.drt_sp.proofs.TreesGrow.{claim_on, stands_for_on}
 use Rattle.drt_sp.proofs.Orders.{order_below, order_once}
 use Rattle.drt_sp.proofs.Passing.{claimed_nodes}
@@ -43,16 +42,17 @@ each_push R (z ∷ xs) [] x y e r = absurd e
 each_push R (w ∷ xs) (z ∷ ys) x y e r = (e.0, each_push R xs ys x y e.1 r)
 
 claims_stay : (bound : ℕ) (f g : Plain) → Grows f g → (graphs : List Digraph) (lows tops : List ℕ) (claims : List TreeClaim) → IsForest f → AreClaimsOf bound f graphs lows tops claims → AreClaimsOf bound g graphs lows tops claims
-claims_stay bound f g grows [] [] [] [] forest none = none
-claims_stay bound f g grows (x ∷ graphs) (low ∷ lows) (top ∷ tops) (claim ∷ claims) forest (more x graphs low lows top tops claim claims is rest) =
-    more x graphs low lows top tops claim claims (claim_on f g forest grows x bound low top claim is) (claims_stay bound f g grows graphs lows tops claims forest rest)
+claims_stay bound f g grows [] [] [] [] forest are = tt
+claims_stay bound f g grows (x ∷ graphs) (low ∷ lows) (top ∷ tops) (claim ∷ claims) forest are =
+    (claim_on f g forest grows x bound low top claim are.0, claims_stay bound f g grows graphs lows tops claims forest are.1)
+claims_stay bound f g grows graphs lows tops claims forest are = absurd are
 
 claims_push : (bound : ℕ) (f : Plain) (x : Digraph) (low top : ℕ) (claim : TreeClaim) → IsClaimOf x bound f low top claim
     → (graphs : List Digraph) (lows tops : List ℕ) (claims : List TreeClaim) → AreClaimsOf bound f graphs lows tops claims
     → AreClaimsOf bound f (graphs ++ x ∷ []) (lows ++ low ∷ []) (tops ++ top ∷ []) (claims ++ claim ∷ [])
-claims_push bound f x low top claim is [] [] [] [] none = more x [] low [] top [] claim [] is none
-claims_push bound f x low top claim is (y ∷ graphs) (l ∷ lows) (t ∷ tops) (c ∷ claims) (more y graphs l lows t tops c claims here rest) =
-    more y (graphs ++ x ∷ []) l (lows ++ low ∷ []) t (tops ++ top ∷ []) c (claims ++ claim ∷ []) here (claims_push bound f x low top claim is graphs lows tops claims rest)
+claims_push bound f x low top claim is [] [] [] [] are = (is, tt)
+claims_push bound f x low top claim is (y ∷ graphs) (l ∷ lows) (t ∷ tops) (c ∷ claims) are = (are.0, claims_push bound f x low top claim is graphs lows tops claims are.1)
+claims_push bound f x low top claim is graphs lows tops claims are = absurd are
 
 module _ (tasks : List Task) (bound : ℕ) (f g : Plain) (grows : Grows f g) (forest : IsForest f) where
   trees_stay : (order roots : List ℕ) → AreNodes f roots → AreTrees tasks order bound f roots → AreTrees tasks order bound g roots
@@ -62,8 +62,8 @@ module _ (tasks : List Task) (bound : ℕ) (f g : Plain) (grows : Grows f g) (fo
 
 trees_push : (tasks : List Task) (bound : ℕ) (f : Plain) (order roots : List ℕ) (k root : ℕ) → slice_get order (length roots) ≡ Some k → AreTrees tasks order bound f roots
     → StandsFor (graph_at tasks k) bound f root → AreTrees tasks order bound f (roots ++ root ∷ [])
-trees_push tasks bound f [] [] k root at are is = absurd (none-some at)
-trees_push tasks bound f (j ∷ order) [] k root at are is = (subst (λ x. StandsFor (graph_at tasks x) bound f root) (sym (same_Some at)) is, tt)
+trees_push tasks bound f [] [] k root at are is = absurd (none-some k at)
+trees_push tasks bound f (j ∷ order) [] k root at are is = (subst (λ x. StandsFor (graph_at tasks x) bound f root) (sym (same_Some j k at)) is, tt)
 trees_push tasks bound f [] (r ∷ roots) k root at are is = absurd are
 trees_push tasks bound f (j ∷ order) (r ∷ roots) k root at are is = (are.0, trees_push tasks bound f order roots k root at are.1 is)
 
@@ -126,7 +126,7 @@ proved_more tasks order order_is m k at f roots trees grown rows proved first pr
         subst (AreProofsAt tasks order i j trees) (sym (get_or-set_other rows k j proofs [] ne)) (proved.each i j before here))
     | inr after ↦
         (let e : m ≡ i = omega arith in
-        let same : k ≡ j = same_Some (sym at ∙ (ap (slice_get order) e ∙ here)) in
+        let same : k ≡ j = same_Some k j (sym at ∙ (ap (slice_get order) e ∙ here)) in
         let row : get_or (set rows k proofs) k [] ≡ proofs = get_or-set_same rows k proofs [] (omega (arith, below, proved.count)) in
         subst (λ x. AreProofsAt tasks order i x trees (get_or (set rows k proofs) x [])) same (subst (λ x. AreProofsAt tasks order x k trees (get_or (set rows k proofs) k [])) e (subst (AreProofsAt tasks order m k trees) (sym row) new)))
   ];
@@ -139,7 +139,7 @@ proved_more tasks order order_is m k at f roots trees grown rows proved first pr
     count = sym (each_length (IsTreeOf (greatest_deadline tasks)) (first_graphs tasks order m) trees grown.exact)
         ∙ length-take-le m (map (graph_at tasks) order) (omega (arith, slice_get_within order m k at, length-map order (graph_at tasks)))
 
-    backed : (p : ProofClaim) → IsVertexProof f roots (graph_at tasks k) k p → IsProofAt tasks order m k trees p
+    backed : (p : ProofClaim) → IsProvedVertex f roots (graph_at tasks k) k p → IsProofAt tasks order m k trees p
     backed p is = record {
       task_is = is.task_is;
       vertex = is.vertex;
@@ -152,4 +152,4 @@ proved_more tasks order order_is m k at f roots trees grown rows proved first pr
     }
 
     new : AreProofsAt tasks order m k trees proofs
-    new = record { are = are.are; each = All-weaker (IsVertexProof f roots (graph_at tasks k) k) (IsProofAt tasks order m k trees) backed proofs are.each }
+    new = record { are = are.are; each = All-weaker (IsProvedVertex f roots (graph_at tasks k) k) (IsProofAt tasks order m k trees) backed proofs are.each }

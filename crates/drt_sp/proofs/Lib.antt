@@ -12,3 +12,6 @@ pub mod TreesGrow
 pub mod Growth
 pub mod Refused
 pub mod FirstVertices
+pub mod Visits
+pub mod ItemLists
+pub mod VertexProofs

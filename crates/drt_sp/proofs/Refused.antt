@@ -88,6 +88,7 @@ module _ (tasks : List Task) (f : Plain) (order tuple : List ℕ) (are : AreLeav
   module _ (j v : ℕ) (here : j < length tasks) (vertex : v < vertex_count (graph_at tasks j)) where
     -- The walks of a no are walks of the tasks, and due by the last deadline.
     pub job_due : (k : ℕ) → k < length tasks → IsDueWalk (graph_at tasks k) 2000000 (with_job tasks (chosen tasks f (deadline (graph_at tasks j) v) order tuple) j v k)
+    unfolding with_job
     job_due k l = elim (cases_Bool (ltb (task_at tasks k).priority (task_at tasks j).priority)) [
       | inl h ↦ rw h (chosen_due (deadline (graph_at tasks j) v) ((sound_at j here).deadline v vertex).1 k l)
       | inr h ↦ rw h (elim (cases_Bool (eqb k j)) [
