@@ -6,9 +6,7 @@ pub mod GreatestDeadline
 pub mod Chosen
 pub mod Passing
 pub mod Extended
-pub mod Translated
 pub mod Yes
-pub mod TreesGrow
 pub mod Growth
 pub mod Refused
 pub mod FirstVertices

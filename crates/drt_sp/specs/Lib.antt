@@ -6,5 +6,4 @@ pub mod Claims
 pub mod Answers
 pub mod Chosen
 pub mod Vertices
-pub mod TaskTrees
 pub mod Progress
