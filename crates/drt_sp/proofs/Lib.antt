@@ -13,3 +13,10 @@ pub mod FirstVertices
 pub mod Visits
 pub mod ItemLists
 pub mod VertexProofs
+pub mod RequestWalks
+pub mod TreeShapes
+pub mod TreeLeaves
+pub mod TreeValues
+pub mod TreesGrow
+pub mod TaskTrees
+pub mod TreeSearches
