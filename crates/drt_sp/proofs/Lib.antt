@@ -20,3 +20,4 @@ pub mod TreeValues
 pub mod TreesGrow
 pub mod TaskTrees
 pub mod TreeSearches
+pub mod Translated
