@@ -3,7 +3,7 @@ use Rattle.std.proofs.Common.{inl, inr, ◌⊎◌, ◌≡◌, ℕ, zero, suc, �
 use Rattle.std.specs.Prelude.{slice_get}
 use Rattle.std.proofs.lemmas.Bool.{cases_eq, cases_lt}
 use Rattle.std.proofs.lemmas.List.{get_or-map, get_or-set_other, get_or-set_same, length-map, length-set, length-take-le, length_push, take-append-le, take_all, take_more}
-use Rattle.std.proofs.lemmas.List.Elements.{All-push, All-weaker}
+use Rattle.std.proofs.lemmas.List.Elements.{All-nil, All-push, All-weaker}
 use Rattle.std.proofs.lemmas.Option.{get_or_from_slice_get, none-some, same_Some, slice_get_within}
 use Rattle.drt_model.specs.Digraph.{Digraph, digraph_of, vertex_count}
 use Rattle.drt_model.specs.Walk.{deadline, wcet}
@@ -89,6 +89,33 @@ grown_more tasks order m k at f g roots trees grown forest grows bounds few low 
       range = All-push IsInRangeTree trees claim grown.range range;
     }
 
+-- There are as many trees as places.
+pub trees_count : (tasks : List Task) (order : List ℕ) (m : ℕ) → m ≤ length order → (f : Plain) (roots : List ℕ) (trees : List TreeClaim) → AreGrown tasks order m f roots trees → length trees ≡ m
+trees_count tasks order m l f roots trees grown =
+    sym (each_length (IsTreeOf (greatest_deadline tasks)) (first_graphs tasks order m) trees grown.exact)
+    ∙ length-take-le m (map (graph_at tasks) order) (omega (arith, l, length-map order (graph_at tasks)))
+
+-- Where nothing is done yet.
+pub none_grown : (tasks : List Task) (order : List ℕ) (f : Plain) (roots : List ℕ) (trees : List TreeClaim) → f.nodes ≡ [] → f.pool ≡ [] → roots ≡ [] → trees ≡ [] → AreGrown tasks order 0 f roots trees
+none_grown tasks order f roots trees nodes pool roots_none trees_none =
+    subst (λ ts. AreGrown tasks order 0 f roots ts) (sym trees_none) (subst (λ rs. AreGrown tasks order 0 f rs []) (sym roots_none) (record {
+      count = refl;
+      one_bound = subst (λ xs. All (λ (ys : List ℕ). length ys ≡ greatest_deadline tasks) xs) (sym pool) (All-nil (λ (ys : List ℕ). length ys ≡ greatest_deadline tasks));
+      few = omega (arith, ap length nodes);
+      stand = tt;
+      lows = [];
+      claimed = tt;
+      exact = tt;
+      range = All-nil IsInRangeTree;
+    }))
+
+pub none_proved : (tasks : List Task) (order : List ℕ) (trees : List TreeClaim) (rows : List (List ProofClaim)) → length rows ≡ length tasks → AreProved tasks order 0 trees rows
+none_proved tasks order trees rows count = record {
+  count = count;
+  passed = λ i k v l at w. absurd (omega arith);
+  each = λ i k l at. absurd (omega arith);
+}
+
 -- The proofs so far are over the first of more trees.
 proof_kept : (tasks : List Task) (order : List ℕ) (i k : ℕ) (trees : List TreeClaim) (claim : TreeClaim) → i ≤ length trees → (p : ProofClaim) → IsProofAt tasks order i k trees p → IsProofAt tasks order i k (trees ++ claim ∷ []) p
 proof_kept tasks order i k trees claim l p is = record {
@@ -136,8 +163,7 @@ proved_more tasks order order_is m k at f roots trees grown rows proved first pr
     below = omega (arith, order_below tasks order order_is m (slice_get_within order m k at), get_or_from_slice_get order m k 0 at)
 
     count : length trees ≡ m
-    count = sym (each_length (IsTreeOf (greatest_deadline tasks)) (first_graphs tasks order m) trees grown.exact)
-        ∙ length-take-le m (map (graph_at tasks) order) (omega (arith, slice_get_within order m k at, length-map order (graph_at tasks)))
+    count = trees_count tasks order m (omega (arith, slice_get_within order m k at)) f roots trees grown
 
     backed : (p : ProofClaim) → IsProvedVertex f roots (graph_at tasks k) k p → IsProofAt tasks order m k trees p
     backed p is = record {
