@@ -1,5 +1,18 @@
 pub mod EvidenceLemmas
 pub mod Lateness
+pub mod Rising
+pub mod Orders
+pub mod GreatestDeadline
+pub mod Chosen
+pub mod Passing
+pub mod Extended
+pub mod Yes
+pub mod Growth
+pub mod Refused
+pub mod FirstVertices
+pub mod Visits
+pub mod ItemLists
+pub mod VertexProofs
 pub mod RequestWalks
 pub mod TreeShapes
 pub mod TreeLeaves
@@ -8,7 +21,4 @@ pub mod TreesGrow
 pub mod ShortWalks
 pub mod TaskTrees
 pub mod TreeSearches
-pub mod Visits
-pub mod ItemLists
-pub mod VertexProofs
 pub mod Translated

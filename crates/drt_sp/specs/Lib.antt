@@ -5,3 +5,7 @@ pub mod Items
 pub mod TaskTrees
 pub mod Claims
 pub mod Needs
+pub mod Answers
+pub mod Chosen
+pub mod Vertices
+pub mod Progress
