@@ -31,12 +31,14 @@ nodes-preserved c =
     subst (λ u. IsNextKept demand_algebra nodes u id here.0 c.next_kept-next.result) here.1.vertex (c.next_kept-next.ensures here.0 here.1.at) in
     let at : slice_get nodes id ≡ Some c.node.result.now.node = slice_get-map (λ h. h.node) v.nodes id ∙ ap (λ o. option_map (λ h. h.node) o) c.node.ensures in
     let label : c.entry_of.result ≡ here.0.label =
-    c.entry_of.ensures ∙ (c.deref.ensures ∙ ap (λ h. h.node.label) c.behind-table.view_is) ∙ ap (λ (n : NodeOf FrontEntry). n.label) (same_Some c.node.result.now.node here.0 (sym at ∙ here.1.at)) in
+    c.entry_of.ensures ∙ (c.deref.ensures ∙ ap (λ h. h.node.label) c.behind-table.view_is) ∙ ap (λ (n : NodeOf FrontEntry). n.label)
+    (same_Some c.node.result.now.node here.0 (sym at ∙ here.1.at)) in
     let pushed : c.push.new.self.items ≡ c.nodes.front.items ++ here.0.label ∷ [] = c.in_ok-push.ensures.items ∙ ap (λ l. c.nodes.front.items ++ l ∷ []) label in
     let old : AreFalling (setting_of v) (IsPassed nodes c.args.vertex (Some id)) c.nodes.front.items =
     subst (λ o. AreFalling (setting_of v) (IsPassed nodes c.args.vertex o) c.nodes.front.items) c.in-Some.is c.nodes.invariant.passed in
     record {
-      passed = falling_more (setting_of v) c.requires.sound nodes c.requires.finished c.args.vertex id here.0 here.1 c.next_kept-next.result next c.nodes.front.items c.push.new.self.items pushed old;
+      passed = falling_more (setting_of v) c.requires.sound nodes c.requires.finished c.args.vertex id here.0 here.1 c.next_kept-next.result next c.nodes.front.items
+          c.push.new.self.items pushed old;
       stands = next_stands nodes c.args.vertex id here.0 c.next_kept-next.result next;
     }
 
