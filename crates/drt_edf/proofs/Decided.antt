@@ -23,7 +23,8 @@ use Rattle.drt_edf.proofs.RatioClaims.{all_cons, head_of, tail_of, claims_count,
 use Rattle.drt_edf.proofs.Suffixes.{AreListed, are_listed}
 use Rattle.drt_edf.proofs.Yes.{front_in_range}
 
-fronts_in_range : (graphs : List Digraph) (bound : ℕ) (fronts : List (List FrontEntry)) → All IsSound graphs → bound ≤ 1099511627776 → AreLabelFronts bound graphs fronts → All IsCounted fronts → All IsInRangeFront fronts
+fronts_in_range : (graphs : List Digraph) (bound : ℕ) (fronts : List (List FrontEntry)) → All IsSound graphs → bound ≤ 1099511627776 → AreLabelFronts bound graphs fronts
+    → All IsCounted fronts → All IsInRangeFront fronts
 fronts_in_range [] bound [] sound near are counted = λ k d l. absurd (omega arith)
 fronts_in_range [] bound (f ∷ fronts) sound near are counted = absurd (let h = ap length are in omega (arith, h))
 fronts_in_range (g ∷ graphs) bound [] sound near are counted = absurd are
@@ -33,7 +34,8 @@ fronts_in_range (g ∷ graphs) bound (f ∷ fronts) sound near are counted =
     (fronts_in_range graphs bound fronts (tail_of IsSound g graphs sound) near are.1 (tail_of IsCounted f fronts counted))
 
 -- The numbers of a yes are in range.
-pub yes_in_range : (graphs : List Digraph) (proofs : List RatioProof) (bound : ℕ) (fronts : List (List FrontEntry)) → AreGraphs graphs → AreGiven graphs proofs → bound ≤ 1099511627776 → AreLabelFronts bound graphs fronts → All IsCounted fronts → IsInRange (EdfYes (claims_of proofs) fronts)
+pub yes_in_range : (graphs : List Digraph) (proofs : List RatioProof) (bound : ℕ) (fronts : List (List FrontEntry)) → AreGraphs graphs → AreGiven graphs proofs
+    → bound ≤ 1099511627776 → AreLabelFronts bound graphs fronts → All IsCounted fronts → IsInRange (EdfYes (claims_of proofs) fronts)
 yes_in_range graphs proofs bound fronts are given near label counted =
     let n = claims_count graphs proofs given in
     let m = fronts_count bound graphs fronts label in
@@ -44,7 +46,8 @@ pub plan_near : (graphs : List Digraph) (proofs : List RatioProof) (bound : ℕ)
 plan_near graphs proofs bound plan = omega (arith, plan.2.2, plan.2.3)
 
 -- A spent search is one of the set.
-pub spent_table : (tasks : List Task) (proofs : List RatioProof) → AreGiven (graphs_of tasks) proofs → (bound : ℕ) → IsPlan (graphs_of tasks) proofs (Ok (Under bound)) → (budget task : ℕ) (log : List Entry) → IsSpentSearch (graphs_of tasks) bound budget task log → IsSpentTable tasks budget task log
+pub spent_table : (tasks : List Task) (proofs : List RatioProof) → AreGiven (graphs_of tasks) proofs → (bound : ℕ) → IsPlan (graphs_of tasks) proofs (Ok (Under bound))
+    → (budget task : ℕ) (log : List Entry) → IsSpentSearch (graphs_of tasks) bound budget task log → IsSpentTable tasks budget task log
 spent_table tasks proofs given bound plan budget task log s = record {
   bound = bound;
   below = planned_below tasks proofs given bound plan;

@@ -58,7 +58,8 @@ record IsNodeOf (nodes : List (NodeOf FrontEntry)) (x : FrontEntry) : Type 0 whe
 
 module _ (nodes : List (NodeOf FrontEntry)) where
   -- Where node j stands at or before node k, its offset is at least that one's.
-  at_most : (j : ℕ) (m : NodeOf FrontEntry) (k : ℕ) (n : NodeOf FrontEntry) → slice_get nodes j ≡ Some m → slice_get nodes k ≡ Some n → (k ≡ j) ⊎ ComesBefore demand_algebra j m k n → n.label.offset ≤ m.label.offset
+  at_most : (j : ℕ) (m : NodeOf FrontEntry) (k : ℕ) (n : NodeOf FrontEntry) → slice_get nodes j ≡ Some m → slice_get nodes k ≡ Some n → (k ≡ j) ⊎ ComesBefore demand_algebra j m k n
+      → n.label.offset ≤ m.label.offset
   at_most j m k n p q (inl same) =
       let one : n ≡ m = same_Some n m (sym q ∙ (ap (λ i. slice_get nodes i) same ∙ p)) in
       let e : n.label.offset ≡ m.label.offset = ap (λ (x : NodeOf FrontEntry). x.label.offset) one in
@@ -105,7 +106,8 @@ module _ (t : Setting) (sound : IsSound t.graph) (nodes : List (NodeOf FrontEntr
     -- Where the walk of a vertex begins, the labels are those of the later vertices.
     pub falling_start : (o : Option ℕ) (entries : List FrontEntry) → IsFirstKept demand_algebra nodes v o → AreFalling t (IsFrom (v + 1)) entries → AreFalling t (IsPassed nodes v o) entries
     falling_start o entries first are = record {
-      sound = All-weaker (λ x. IsAlone demand_algebra t x × IsFrom (v + 1) x) (λ x. IsAlone demand_algebra t x × IsPassed nodes v o x) (λ x e. (e.0, inl (let l = e.1 in omega (arith, l)))) entries are.sound;
+      sound = All-weaker (λ x. IsAlone demand_algebra t x × IsFrom (v + 1) x) (λ x. IsAlone demand_algebra t x × IsPassed nodes v o x)
+          (λ x e. (e.0, inl (let l = e.1 in omega (arith, l)))) entries are.sound;
       complete = complete;
       order = are.order;
     }
@@ -166,7 +168,8 @@ module _ (t : Setting) (sound : IsSound t.graph) (nodes : List (NodeOf FrontEntr
       falling_more entries new pushed are = subst (AreFalling t (IsPassed nodes v o)) (sym pushed) (record {
         sound =
             All-push (λ x. IsAlone demand_algebra t x × IsPassed nodes v o x) entries m.label
-            (All-weaker (λ x. IsAlone demand_algebra t x × IsPassed nodes v (Some id) x) (λ x. IsAlone demand_algebra t x × IsPassed nodes v o x) (λ x e. (e.0, still_passed x e.1)) entries are.sound)
+            (All-weaker (λ x. IsAlone demand_algebra t x × IsPassed nodes v (Some id) x) (λ x. IsAlone demand_algebra t x × IsPassed nodes v o x)
+            (λ x e. (e.0, still_passed x e.1)) entries are.sound)
             (alone_of v id m is, inr (is.vertex, itself o next));
         complete = complete;
         order = all_pairs_push (λ x y. IsLower y x) entries m.label are.order (λ k d lt. below (get_or entries k d) (are.sound k d lt).1);

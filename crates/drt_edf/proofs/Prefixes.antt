@@ -194,7 +194,8 @@ tail_more g d e last found new p t pushed =
     }
 
 -- Where the first label is that of a single vertex, it is a walk to the last.
-pub tail_whole : (g : Digraph) (e last : FrontEntry) (found walk : List ℕ) → e.vertex < vertex_count g → e.offset ≡ 0 → e.work ≡ wcet g e.vertex → IsTail g e last found → walk ≡ reverse found → IsWalkTo g last walk
+pub tail_whole : (g : Digraph) (e last : FrontEntry) (found walk : List ℕ) → e.vertex < vertex_count g → e.offset ≡ 0 → e.work ≡ wcet g e.vertex → IsTail g e last found
+    → walk ≡ reverse found → IsWalkTo g last walk
 tail_whole g e last found walk is_vertex none single t is =
     let o = t.offset in
     let n = t.works in

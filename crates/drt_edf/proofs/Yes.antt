@@ -42,7 +42,8 @@ HasRoom graphs fronts bound = (s : ℕ) → s ≤ bound → demands graphs front
 
 -- The set is schedulable.
 pub schedulable : HorizonHolds → DeadlinesDecide → (version : ℕ) (tasks : List Task) → IsTaskSet version tasks → AreConstrained tasks → AreGraphs (graphs_of tasks)
-    → (proofs : List RatioProof) → AreGiven (graphs_of tasks) proofs → (bound : ℕ) → IsPlan (graphs_of tasks) proofs (Ok (Under bound)) → (fronts : List (List FrontEntry)) → AreLabelFronts bound (graphs_of tasks) fronts → HasRoom (graphs_of tasks) fronts bound → Schedulable tasks Edf
+    → (proofs : List RatioProof) → AreGiven (graphs_of tasks) proofs → (bound : ℕ) → IsPlan (graphs_of tasks) proofs (Ok (Under bound)) → (fronts : List (List FrontEntry))
+    → AreLabelFronts bound (graphs_of tasks) fronts → HasRoom (graphs_of tasks) fronts bound → Schedulable tasks Edf
 schedulable holds decide version tasks is constrained graphs proofs given bound plan fronts are room = (decide version tasks is constrained).1 fits
   where
     fits : (t : ℕ) (walks : ℕ → List ℕ) → AreWalks tasks walks → AreDueBy tasks walks t → efforts tasks walks (length tasks) ≤ t
@@ -62,7 +63,8 @@ schedulable holds decide version tasks is constrained graphs proofs given bound 
         go (inr l) = l
 
 -- What holds of each front holds of all.
-pub each_front : (R : Digraph → List FrontEntry → Type 0) (bound : ℕ) → ((g : Digraph) (f : List FrontEntry) → IsSound g → IsLabelFront g bound f → R g f) → (graphs : List Digraph) (fronts : List (List FrontEntry)) → All IsSound graphs → AreLabelFronts bound graphs fronts → Each R graphs fronts
+pub each_front : (R : Digraph → List FrontEntry → Type 0) (bound : ℕ) → ((g : Digraph) (f : List FrontEntry) → IsSound g → IsLabelFront g bound f → R g f)
+    → (graphs : List Digraph) (fronts : List (List FrontEntry)) → All IsSound graphs → AreLabelFronts bound graphs fronts → Each R graphs fronts
 each_front R bound h [] [] sound are = tt
 each_front R bound h [] (f ∷ fronts) sound are = absurd (let e = ap length are in omega (arith, e))
 each_front R bound h (g ∷ graphs) [] sound are = absurd are
@@ -81,7 +83,8 @@ moved : (g : Digraph) (x y v : ℕ) → x ≡ y → IsEdge g x v → IsEdge g y 
 moved g x y v e h = rw e at h
 
 -- A walk that goes on by an edge is covered, or due past the bound.
-extended : (bound : ℕ) (g : Digraph) (f : List FrontEntry) → IsSound g → IsLabelFront g bound f → (e : FrontEntry) → IsWalkEntry g bound e → (k : ℕ) → k < out_degree g e.vertex → IsExtended bound g f e k
+extended : (bound : ℕ) (g : Digraph) (f : List FrontEntry) → IsSound g → IsLabelFront g bound f → (e : FrontEntry) → IsWalkEntry g bound e → (k : ℕ) → k < out_degree g e.vertex
+    → IsExtended bound g f e k
 extended bound g f sound is e walk k l = go (cases_lt bound (e.offset + (edge_of g e.vertex k).sep + deadline g (edge_of g e.vertex k).to))
   where
     go : (bound < e.offset + (edge_of g e.vertex k).sep + deadline g (edge_of g e.vertex k).to) ⊎ (e.offset + (edge_of g e.vertex k).sep + deadline g (edge_of g e.vertex k).to ≤ bound) → IsExtended bound g f e k
@@ -126,7 +129,8 @@ has_room graphs fronts bound room sound are = each_front (λ g front. All (λ e.
         h
 
 -- The fronts keep the rules of fronts.
-pub fronts_kept : (tasks : List Task) (bound : ℕ) (fronts : List (List FrontEntry)) → AreGraphs (graphs_of tasks) → bound ≤ 2 ^ 40 → AreLabelFronts bound (graphs_of tasks) fronts → HasRoom (graphs_of tasks) fronts bound → AreFrontClaims tasks bound fronts
+pub fronts_kept : (tasks : List Task) (bound : ℕ) (fronts : List (List FrontEntry)) → AreGraphs (graphs_of tasks) → bound ≤ 2 ^ 40 → AreLabelFronts bound (graphs_of tasks) fronts
+    → HasRoom (graphs_of tasks) fronts bound → AreFrontClaims tasks bound fronts
 fronts_kept tasks bound fronts graphs near are room = record {
   near = near;
   ordered = each_front (IsOrdered bound) bound (λ g f s is. is.ordered) (graphs_of tasks) fronts graphs.sound are;
@@ -137,7 +141,8 @@ fronts_kept tasks bound fronts graphs near are room = record {
 
 -- A yes.
 pub is_yes : HorizonHolds → DeadlinesDecide → (version : ℕ) (tasks : List Task) → IsTaskSet version tasks → AreConstrained tasks → AreGraphs (graphs_of tasks)
-    → (proofs : List RatioProof) → AreGiven (graphs_of tasks) proofs → (bound : ℕ) → IsPlan (graphs_of tasks) proofs (Ok (Under bound)) → (fronts : List (List FrontEntry)) → AreLabelFronts bound (graphs_of tasks) fronts → HasRoom (graphs_of tasks) fronts bound → IsExactYes tasks (claims_of proofs) fronts
+    → (proofs : List RatioProof) → AreGiven (graphs_of tasks) proofs → (bound : ℕ) → IsPlan (graphs_of tasks) proofs (Ok (Under bound)) → (fronts : List (List FrontEntry))
+    → AreLabelFronts bound (graphs_of tasks) fronts → HasRoom (graphs_of tasks) fronts bound → IsExactYes tasks (claims_of proofs) fronts
 is_yes holds decide version tasks is constrained graphs proofs given bound plan fronts are room =
     let below = claims_below proofs (graphs_of tasks) bound plan in
     record {
@@ -168,7 +173,8 @@ entry_in_range g bound e sound near walk =
     record {
       vertex = omega (arith, in_graph, sound.few);
       offset = omega (arith, walk.within, near);
-      work = short_work (length walk.others) (span g walk.first walk.others) e.work (omega (arith, walk.within, walk.offset, near)) sums.span_least (omega (arith, w, walk.works, sums.work_most, one.1));
+      work = short_work (length walk.others) (span g walk.first walk.others) e.work (omega (arith, walk.within, walk.offset, near)) sums.span_least
+          (omega (arith, w, walk.works, sums.work_most, one.1));
     }
 
 -- The entries of a front are in range.

@@ -15,8 +15,12 @@ returns-in_ok-evidence-in-Finished c =
     let given = subst (λ gs. AreGiven gs c.args.proofs) c.requires.graphs c.requires.given in
     let plan = subst (λ gs. IsPlan gs c.args.proofs (Ok (Under c.args.bound))) c.requires.graphs c.requires.plan in
     let near = plan_near c.args.graphs.now c.args.proofs c.args.bound c.requires.plan in
-    let done = c.in_ok-evidence-in-Finished.ensures.done in
-    (done, planned_other c.args.set.now.tasks c.in_ok-evidence-in-Finished.evidence (inl (c.args.bound, planned_below c.args.set.now.tasks c.args.proofs given c.args.bound plan, near)) done, c.in_ok-evidence-in-Finished.ensures.range)
+    let done = c.in_ok-evidence-in-Finished.ensures.done in (
+      done,
+      planned_other c.args.set.now.tasks c.in_ok-evidence-in-Finished.evidence
+          (inl (c.args.bound, planned_below c.args.set.now.tasks c.args.proofs given c.args.bound plan, near)) done,
+      c.in_ok-evidence-in-Finished.ensures.range,
+    )
 
 pub returns-in-Spent : goal.returns-in-Spent
 returns-in-Spent c =

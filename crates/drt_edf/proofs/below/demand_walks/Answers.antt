@@ -12,15 +12,20 @@ pub demand_walk-requires-clause-front : goal.demand_walk-requires-clause-front
 demand_walk-requires-clause-front c =
     let l : c.tasks.task < length c.args.graphs.now = omega (arith, c.tasks-test.true, c.count-task-end.ensures.count) in
     let n = fronts_count c.requires.0 c.args.graphs.now c.args.fronts.now c.requires.1 in
-    let same : c.as_slice-front.result.now ≡ get_or c.args.fronts.now c.tasks.task [] = c.as_slice-front.ensures ∙ (c.index-fronts-task.is ∙ get_or_default c.args.fronts.now c.tasks.task c.index-fronts-task.result [] (omega (arith, l, n))) in
-    (c.requires.0, subst (λ g. IsLabelFront g c.requires.0 c.as_slice-front.result.now) (sym c.graph.ensures.graph) (subst (IsLabelFront (graph_of c.args.graphs.now c.tasks.task) c.requires.0) (sym same) (front_at c.requires.0 c.args.graphs.now c.args.fronts.now c.requires.1 c.tasks.task l)))
+    let same : c.as_slice-front.result.now ≡ get_or c.args.fronts.now c.tasks.task [] = c.as_slice-front.ensures ∙
+    (c.index-fronts-task.is ∙ get_or_default c.args.fronts.now c.tasks.task c.index-fronts-task.result [] (omega (arith, l, n))) in (
+      c.requires.0,
+      subst (λ g. IsLabelFront g c.requires.0 c.as_slice-front.result.now) (sym c.graph.ensures.graph)
+          (subst (IsLabelFront (graph_of c.args.graphs.now c.tasks.task) c.requires.0) (sym same) (front_at c.requires.0 c.args.graphs.now c.args.fronts.now c.requires.1 c.tasks.task l)),
+    )
 
 pub tasks-preserved : goal.tasks-preserved
 tasks-preserved c =
     let l : c.tasks.task < length c.args.graphs.now = omega (arith, c.tasks-test.true, c.count-task-end.ensures.count) in
     let n = fronts_count c.requires.0 c.args.graphs.now c.args.fronts.now c.requires.1 in
     let m : c.tasks.task < length c.args.fronts.now = omega (arith, l, n) in
-    let same : c.as_slice-front.result.now ≡ get_or c.args.fronts.now c.tasks.task [] = c.as_slice-front.ensures ∙ (c.index-fronts-task.is ∙ get_or_default c.args.fronts.now c.tasks.task c.index-fronts-task.result [] m) in
+    let same : c.as_slice-front.result.now ≡ get_or c.args.fronts.now c.tasks.task [] = c.as_slice-front.ensures ∙
+    (c.index-fronts-task.is ∙ get_or_default c.args.fronts.now c.tasks.task c.index-fronts-task.result [] m) in
     let w = subst (λ f. IsDemandWalk c.graph.result.now f c.args.t c.in_ok-demand_walk.field-0) same c.in_ok-demand_walk.ensures in
     let at = subst (λ g. IsDemandWalk g (get_or c.args.fronts.now c.tasks.task []) c.args.t c.in_ok-demand_walk.field-0) c.graph.ensures.graph w in
     let e = take_more c.args.graphs.now c.tasks.task no_graph l in

@@ -33,7 +33,8 @@ returns-in_ok-claims_of-in-None-clause-done c =
     let at = subst (λ fs. IsLeastExcess c.args.graphs.now fs c.args.bound None) c.as_slice.ensures none in
     let room = subst (λ gs. IsLeastExcess gs c.args.fronts c.args.bound None) c.requires.graphs at in
     let limits = c.tasks-tasks.ensures.limits in
-    let yes = is_yes c.horizon_holds.ensures c.deadlines_decide.ensures c.args.set.now.version c.args.set.now.tasks limits c.requires.constrained kept c.args.proofs given c.args.bound plan c.args.fronts are room in
+    let yes = is_yes c.horizon_holds.ensures c.deadlines_decide.ensures c.args.set.now.version c.args.set.now.tasks limits c.requires.constrained kept c.args.proofs given
+    c.args.bound plan c.args.fronts are room in
     subst (λ x. IsExactYes c.args.set.now.tasks x c.args.fronts) (sym c.in_ok-claims_of-in-None.ensures) yes
 
 pub returns-in_ok-claims_of-in-None-clause-range : goal.returns-in_ok-claims_of-in-None-clause-range

@@ -36,7 +36,8 @@ nodes-preserved c =
     let old : AreFalling (setting_of v) (IsPassed nodes c.args.vertex (Some id)) c.nodes.front.items =
     subst (λ o. AreFalling (setting_of v) (IsPassed nodes c.args.vertex o) c.nodes.front.items) c.in-Some.is c.nodes.invariant.passed in
     record {
-      passed = falling_more (setting_of v) c.requires.sound nodes c.requires.finished c.args.vertex id here.0 here.1 c.next_kept-next.result next c.nodes.front.items c.push.new.self.items pushed old;
+      passed = falling_more (setting_of v) c.requires.sound nodes c.requires.finished c.args.vertex id here.0 here.1 c.next_kept-next.result next c.nodes.front.items
+          c.push.new.self.items pushed old;
       stands = next_stands nodes c.args.vertex id here.0 c.next_kept-next.result next;
     }
 

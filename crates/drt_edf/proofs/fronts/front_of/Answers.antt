@@ -31,5 +31,6 @@ returns-clause-front c =
     let front : IsFront demand_algebra t (state_of v).nodes = finished_front v is c.requires.finished c.over_every_interleaving.ensures.front in
     let all : vertex_count c.args.graph.now - c.vertices.later ≡ 0 = omega (arith, c.vertices-test.false, c.vertex_count-count.ensures.count) in
     let falling : AreFalling t (IsFrom 0) c.vertices.front.items = subst (λ u. AreFalling t (IsFrom u) c.vertices.front.items) all c.vertices.invariant in
-    let made : IsLabelFront v.graph v.bound (reverse c.vertices.front.items) = label_front t is.sound c.requires.constrained (state_of v).nodes front (reverse c.vertices.front.items) (falling_reversed t c.vertices.front.items falling) in
+    let made : IsLabelFront v.graph v.bound (reverse c.vertices.front.items) = label_front t is.sound c.requires.constrained (state_of v).nodes front
+    (reverse c.vertices.front.items) (falling_reversed t c.vertices.front.items falling) in
     subst (IsLabelFront v.graph v.bound) (sym (c.from_vec.ensures ∙ c.reverse.ensures.items)) made

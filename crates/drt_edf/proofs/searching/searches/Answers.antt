@@ -18,7 +18,8 @@ returns-then-not-finished c =
     let l : c.tasks.task < length c.args.graphs.now = omega (arith, c.tasks-test.true, c.count-task-end.ensures.count) in
     let setting = c.in_ok-table.ensures.setting ∙ ap (λ g. search_of g c.args.bound c.args.budget) c.graph-graph.ensures.graph in
     let unfinished : is_finished demand_algebra (setting_of c.in_ok-table.table) (state_of c.in_ok-table.table) ≡ false = cc (c.finished.ensures.finished, c.if-not-finished.true) in
-    let s = spent_search c.over_every_interleaving.ensures.short c.over_every_interleaving.ensures.slots c.args.graphs.now c.args.bound c.args.budget c.tasks.task c.in_ok-table.table c.in_ok-table._reply l setting c.log.ensures.replayed c.in_ok-table.ensures.stops unfinished in
+    let s = spent_search c.over_every_interleaving.ensures.short c.over_every_interleaving.ensures.slots c.args.graphs.now c.args.bound c.args.budget c.tasks.task
+    c.in_ok-table.table c.in_ok-table._reply l setting c.log.ensures.replayed c.in_ok-table.ensures.stops unfinished in
     let same : c.from_vec.result ≡ c.in_ok-table.table.log = c.from_vec.ensures ∙ (c.in_ok-log.ensures.items ∙ c.log.ensures.log) in
     rw same s
 

@@ -14,7 +14,8 @@ returns-in-Some c =
     let e = c.args.entry in
     let f : FrontEntry = c.in-Some.found.now in
     let place = c.partition_point-place.result in
-    let parts = IsPartitionPoint-from_clause (λ (x : FrontEntry). is_below x e.vertex e.offset) front place c.partition_point-place.ensures.partitioned (parted front e.vertex e.offset c.requires) (λ a r f' k. search rules) in
+    let parts = IsPartitionPoint-from_clause (λ (x : FrontEntry). is_below x e.vertex e.offset) front place c.partition_point-place.ensures.partitioned
+    (parted front e.vertex e.offset c.requires) (λ a r f' k. search rules) in
     let lookup = c.in-Some.ensures.lookup in
     let eq = c.eq.ensures in
     entry_found front e f place (ltb-true place (length front) (sym lookup.0)) lookup.1 (place_is front e place c.requires parts) c.eq.result
@@ -30,6 +31,7 @@ returns-in-None c =
     let front = c.args.front.now in
     let e = c.args.entry in
     let place = c.partition_point-place.result in
-    let parts = IsPartitionPoint-from_clause (λ (x : FrontEntry). is_below x e.vertex e.offset) front place c.partition_point-place.ensures.partitioned (parted front e.vertex e.offset c.requires) (λ a r f' k. search rules) in
+    let parts = IsPartitionPoint-from_clause (λ (x : FrontEntry). is_below x e.vertex e.offset) front place c.partition_point-place.ensures.partitioned
+    (parted front e.vertex e.offset c.requires) (λ a r f' k. search rules) in
     let past = ltb-false place (length front) (sym c.in-None.ensures.lookup.0) in
     (λ t. absurd (cc), λ has. absurd (let at = (place_is front e place c.requires parts has).0 in omega (arith, at, past)))

@@ -8,7 +8,8 @@ use Rattle.drt_edf.proofs.DemandWalks.{some_walk, no_walk}
 use Rattle.drt_edf.proofs.walks.demand_walk.Goals as goal
 
 -- The walk, where there was memory for it.
-walk_if : {E : Type 0} (g : Digraph) (front : List FrontEntry) (t : ℕ) (last : FrontEntry) → IsGreatestDue g front t (Some last) → (r : Result (List ℕ) E) → IfOk r (IsWalkTo g last) → IfOk r (IsDemandWalk g front t)
+walk_if : {E : Type 0} (g : Digraph) (front : List FrontEntry) (t : ℕ) (last : FrontEntry) → IsGreatestDue g front t (Some last) → (r : Result (List ℕ) E) → IfOk r (IsWalkTo g last)
+    → IfOk r (IsDemandWalk g front t)
 walk_if g front t last is (Ok walk) w = some_walk g front t last is walk w
 walk_if g front t last is (Err e) w = tt
 
@@ -16,4 +17,5 @@ pub returns-in-Some : goal.returns-in-Some
 returns-in-Some c = walk_if c.args.graph.now c.args.front.now c.args.t c.in-Some.last c.in-Some.ensures c.walk_to.result c.walk_to.ensures
 
 pub returns-in-None : goal.returns-in-None
-returns-in-None c = subst (IsDemandWalk c.args.graph.now c.args.front.now c.args.t) (sym (c.from_vec.ensures ∙ c.new.ensures.items)) (no_walk c.args.graph.now c.args.front.now c.args.t c.in-None.ensures)
+returns-in-None c = subst (IsDemandWalk c.args.graph.now c.args.front.now c.args.t) (sym (c.from_vec.ensures ∙ c.new.ensures.items))
+    (no_walk c.args.graph.now c.args.front.now c.args.t c.in-None.ensures)

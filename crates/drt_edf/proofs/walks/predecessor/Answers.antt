@@ -15,7 +15,8 @@ prefix_of-requires-clause-ordered c = c.requires.front.1.ordered.1
 pub vertices-preserved : goal.vertices-preserved
 vertices-preserved c = λ d has p. go d has p (c.vertices.invariant d has p) (cases_lt c.vertices.u d.vertex)
   where
-    go : (d : FrontEntry) → Contains c.args.front.now d → IsPrefix c.args.graph.now d c.args.entry → c.vertices.u ≤ d.vertex → (c.vertices.u < d.vertex) ⊎ (d.vertex ≤ c.vertices.u) → c.vertices.u + 1 ≤ d.vertex
+    go : (d : FrontEntry) → Contains c.args.front.now d → IsPrefix c.args.graph.now d c.args.entry → c.vertices.u ≤ d.vertex → (c.vertices.u < d.vertex) ⊎ (d.vertex ≤ c.vertices.u)
+        → c.vertices.u + 1 ≤ d.vertex
     go d has p l (inl m) = omega (arith, m)
     go d has p l (inr m) = absurd (c.in-None.ensures d has (omega (arith, l, m)) p)
 

@@ -11,7 +11,8 @@ steps-init c = record {
 pub steps-preserved : goal.steps-preserved
 steps-preserved c = record {
   there = c.predecessor-entry.ensures.there;
-  tail = tail_more c.args.graph.now c.predecessor-entry.result c.steps.entry c.args.last c.steps.walk.items c.push-in-steps.new.self.items c.predecessor-entry.ensures.before c.steps.invariant.tail c.in_ok-push-2.ensures.items;
+  tail = tail_more c.args.graph.now c.predecessor-entry.result c.steps.entry c.args.last c.steps.walk.items c.push-in-steps.new.self.items c.predecessor-entry.ensures.before
+      c.steps.invariant.tail c.in_ok-push-2.ensures.items;
 }
 
 pub steps-smaller : goal.steps-smaller
