@@ -2,11 +2,9 @@
 ghost use Rattle.std.specs.Prelude.{◌≡◌, ◌∷◌, [], IfOk};
 ghost use Rattle.drt_evidence.specs.Ranges.{IsInRange};
 
-use crate::evidence::{
-    Dossier, Evidence, FrontEntry, Item, Pair, ProofClaim, RatioClaim, TreeClaim,
-};
+use crate::evidence::{Dossier, Evidence, Item, Pair, ProofClaim, RatioClaim, TreeClaim};
 use crate::printing::{print, push_evidence};
-use drt_model::{Memory, Miss, Policy, Release, Row, TaskSet};
+use drt_model::{FrontEntry, Memory, Miss, Policy, Release, Row, TaskSet};
 use std::alloc::Global;
 use std::test::Fail;
 

@@ -18,10 +18,6 @@ pub record IsRun (policy : Policy) (jobs : List Job) (n m j : ℕ) : Type 0 wher
   pub runs : (i : ℕ) → i ≤ m → done policy jobs j (n + i) ≡ done policy jobs j n + i
   pub others : (k : ℕ) → (j ≡ k → ⊥) → done policy jobs k (n + m) ≡ done policy jobs k n
 
--- what is left and the finishes tell the finish so far
-pub finish_left : (policy : Policy) (jobs : List Job) (n : ℕ) (left ends : List ℕ) → IsLeft policy jobs n left → (j : ℕ) → j < length jobs → 0 < get_or left j 0 → IsFinishSoFar policy jobs n j None
-finish_left policy jobs n left ends shown j h some = omega (arith, shown.each j h)
-
 module _ (policy : Policy) (jobs : List Job) (n : ℕ) where
   module _ (j : ℕ) (e : pick policy jobs n ≡ Some j) (m : ℕ) (c : IsCalm jobs n m) (enough : done policy jobs j n + m ≤ (job_at jobs j).need) where
     stays : (i : ℕ) → i < m → (pick policy jobs (n + i) ≡ Some j) × (done policy jobs j (n + i) ≡ done policy jobs j n + i)
