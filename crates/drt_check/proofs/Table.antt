@@ -3,7 +3,8 @@ use Rattle.std.proofs.Common.{ℕ}
 use Rattle.drt_evidence.specs.declared.rule.Rule.{Rule}
 use Rattle.drt_evidence.specs.declared.rule.Rule.TheVariants.{ConstrainedDeadlines, KindOfPolicy, RatioPerTask, LowestTerms, PotentialPerVertex, FittingPotentials}
 use Rattle.drt_evidence.specs.declared.rule.Rule.TheVariants.{ClosedCycles, TightCycles, FineScale, ClaimedUtilisation, NearHorizon, OrderedFronts}
-use Rattle.drt_evidence.specs.declared.rule.Rule.TheVariants.{CoveredOpenings, CoveredExtensions, Room, LegalReleases, LeastMiss, KnownKind}
+use Rattle.drt_evidence.specs.declared.rule.Rule.TheVariants.{CoveredOpenings, CoveredExtensions, Room, LegalReleases, LeastMiss}
+use Rattle.drt_evidence.specs.declared.rule.Rule.TheVariants.{TreePerHigherTask, ShortWalks, CoveredWalks, TreeShapes, ProofPerVertex, ProofShapes, PassingTimes}
 
 -- The place of a rule.
 abbrev pub place : Rule → ℕ
@@ -22,6 +23,12 @@ place OrderedFronts = 11
 place CoveredOpenings = 12
 place CoveredExtensions = 13
 place Room = 14
-place LegalReleases = 15
-place LeastMiss = 16
-place KnownKind = 17
+place TreePerHigherTask = 15
+place ShortWalks = 16
+place CoveredWalks = 17
+place TreeShapes = 18
+place ProofPerVertex = 19
+place ProofShapes = 20
+place PassingTimes = 21
+place LegalReleases = 22
+place LeastMiss = 23

@@ -1,6 +1,6 @@
 //! What a dossier has, by the kind of its evidence.
 ghost use Rattle.std.specs.Prelude.{◌≡◌, ◌↔◌, All, IsTrue};
-ghost use Rattle.drt_evidence.specs.Kinds.{IsOfPolicy, fronts_of, miss_of, ratios_of, releases_of};
+ghost use Rattle.drt_evidence.specs.Kinds.{HasTrees, IsOfPolicy, fronts_of, miss_of, ratios_of, releases_of};
 ghost use Rattle.drt_evidence.specs.Ranges.{AreInRangeReleases, IsInRangeEntry, IsInRangeRatio};
 ghost use Rattle.drt_evidence.specs.declared.evidence.Evidence.TheVariants.{Undecided};
 ghost use Rattle.drt_check.specs.Judging.{claimed};
@@ -14,6 +14,13 @@ pub fn is_undecided(dossier: &Dossier) -> bool
     ensures { IsTrue result ↔ (dossier.now.evidence ≡ Undecided) }
 {
     matches!(&dossier.evidence, Evidence::Undecided)
+}
+
+/// Whether the evidence has trees.
+pub fn has_trees(dossier: &Dossier) -> bool
+    ensures { IsTrue result ↔ HasTrees dossier.now.evidence }
+{
+    matches!(&dossier.evidence, Evidence::FixedYes { .. })
 }
 
 /// Whether the kind of the evidence is one of the policy's.

@@ -2,6 +2,7 @@
 ghost use Rattle.std.specs.Prelude.{◌≡◌, ◌↔◌, IfOk, IsTrue};
 ghost use Rattle.drt_model.specs.Constrained.{AreConstrained};
 ghost use Rattle.drt_evidence.specs.Claims.{graphs_of};
+ghost use Rattle.drt_evidence.specs.Kinds.{HasTrees};
 ghost use Rattle.drt_evidence.specs.Rules.{Applies, HasClaimedUtilisation, Keeps};
 ghost use Rattle.drt_evidence.specs.declared.rule.Rule.TheVariants.{ClaimedUtilisation};
 ghost use Rattle.drt_check.specs.Deciding.{IsNext};
@@ -20,7 +21,7 @@ use std::alloc::Global;
 const GREATEST_HORIZON: u128 = 1 << 40;
 
 /// The rules in the order of their numbers.
-pub const RULES: [Rule; 18] = [
+pub const RULES: [Rule; 24] = [
     Rule::ConstrainedDeadlines,
     Rule::KindOfPolicy,
     Rule::RatioPerTask,
@@ -36,9 +37,15 @@ pub const RULES: [Rule; 18] = [
     Rule::CoveredOpenings,
     Rule::CoveredExtensions,
     Rule::Room,
+    Rule::TreePerHigherTask,
+    Rule::ShortWalks,
+    Rule::CoveredWalks,
+    Rule::TreeShapes,
+    Rule::ProofPerVertex,
+    Rule::ProofShapes,
+    Rule::PassingTimes,
     Rule::LegalReleases,
     Rule::LeastMiss,
-    Rule::KnownKind,
 ];
 
 /// Whether the rule applies to the kind of the dossier's evidence.
@@ -66,18 +73,25 @@ pub fn applies(rule: Rule, dossier: &Dossier) -> bool
         | Rule::CoveredOpenings
         | Rule::CoveredExtensions
         | Rule::Room => matches!(evidence, Evidence::EdfYes { .. }),
+        Rule::TreePerHigherTask
+        | Rule::ShortWalks
+        | Rule::CoveredWalks
+        | Rule::TreeShapes
+        | Rule::ProofPerVertex
+        | Rule::ProofShapes
+        | Rule::PassingTimes => matches!(evidence, Evidence::FixedYes { .. }),
         Rule::LegalReleases | Rule::LeastMiss => {
             matches!(evidence, Evidence::EdfNo { .. } | Evidence::FixedNo { .. })
         }
-        Rule::KnownKind => matches!(evidence, Evidence::FixedYes { .. }),
     }
 }
 
-/// Whether the dossier keeps the rule, where it keeps those that apply and have smaller numbers. The first was decided where the
-/// graphs were made.
+/// Whether the dossier, whose evidence has no trees, keeps the rule, where it keeps those that apply and have smaller numbers. The first
+/// was decided where the graphs were made.
 pub fn keeps(alloc: Global, rule: Rule, graphs: &Graphs, dossier: &Dossier) -> Result<bool, Memory>
     requires graphs { graphs.now ≡ graphs_of dossier.now.set.tasks }
     requires constrained { AreConstrained dossier.now.set.tasks }
+    requires known { ¬ HasTrees dossier.now.evidence }
     requires next { IsNext dossier.now rule }
     ensures { IfOk result (λ kept. IsTrue kept ↔ Keeps rule dossier.now) }
 {
@@ -108,7 +122,13 @@ pub fn keeps(alloc: Global, rule: Rule, graphs: &Graphs, dossier: &Dossier) -> R
             releases,
             miss_of(dossier),
         ),
-        Rule::KnownKind => Ok(false),
+        Rule::TreePerHigherTask
+        | Rule::ShortWalks
+        | Rule::CoveredWalks
+        | Rule::TreeShapes
+        | Rule::ProofPerVertex
+        | Rule::ProofShapes
+        | Rule::PassingTimes => unreachable!(),
     }
 }
 

@@ -22,7 +22,7 @@ module _ (g : Digraph) where
   cut_walk d (u ∷ vs) is = (is.0, cut_path d 0 u vs is.1)
 
   -- a walk whose first release isn't before t asks for nothing before t
-  none_before : (offset u : ℕ) (vs : List ℕ) (t : ℕ) → t ≤ offset → requested_from g offset u vs t ≡ 0
+  pub none_before : (offset u : ℕ) (vs : List ℕ) (t : ℕ) → t ≤ offset → requested_from g offset u vs t ≡ 0
   unfolding requested_from
   none_before offset u [] t le = rw (le-ltb offset t le) refl
   none_before offset u (v ∷ vs) t le = rw (le-ltb offset t le) (omega (arith, none_before (offset + gap g u v) v vs t (omega arith)))

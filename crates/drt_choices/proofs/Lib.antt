@@ -4,3 +4,4 @@ pub mod Cuts
 pub mod Chosen
 pub mod Members
 pub mod Missed
+pub mod Rows

@@ -27,9 +27,9 @@ pub record IsRaised (g : Digraph) (a b : ℕ) (low high : Level) : Type 0 where
   pub keeps : (v : ℕ) → v < vertex_count g → height low v ≤ height high v
   pub comes : (v : ℕ) → v < vertex_count g → (height high v ≡ height low v) ⊎ Comes g a b low (slice_index high.from v) v (height high v)
 
--- The k-th edge out of u gains no more than the height of its target.
-abbrev pub IsSettled : Digraph → ℕ → ℕ → Level → Level → ℕ → ℕ → Type 0
-IsSettled g a b low high u k = height low u + b * wcet g (edge_of g u k).to ≤ height high (edge_of g u k).to + a * (edge_of g u k).sep
+-- The k-th edge out of u is relaxed: it gains no more than the height of its target.
+abbrev pub IsRelaxed : Digraph → ℕ → ℕ → Level → Level → ℕ → ℕ → Type 0
+IsRelaxed g a b low high u k = height low u + b * wcet g (edge_of g u k).to ≤ height high (edge_of g u k).to + a * (edge_of g u k).sep
 
 -- No height falls.
 abbrev pub Rises : Level → Level → Type 0
@@ -42,7 +42,7 @@ IsBelow g l top = (v : ℕ) → v < vertex_count g → height l v ≤ top
 -- One level is a whole round above another: it is raised from it, and each edge is taken into account.
 pub record IsRound (g : Digraph) (a b : ℕ) (low high : Level) : Type 0 where
   pub raised : IsRaised g a b low high
-  pub done : (u k : ℕ) → u < vertex_count g → k < out_degree g u → IsSettled g a b low high u k
+  pub done : (u k : ℕ) → u < vertex_count g → k < out_degree g u → IsRelaxed g a b low high u k
 
 -- The heights of the first level are 0, each next level is a round above the one before, and heights grow by at most
 -- 100,000,000,000,000 a level.

@@ -1,7 +1,7 @@
 //! The greatest gains of walks, level by level.
 ghost use Rattle.std.specs.Prelude.{◌≡◌, ℕ, ◌+◌, ◌*◌, ◌<◌, ◌≤◌, IfOk, length, slice_index};
 ghost use Rattle.drt_model.specs.Digraph.{Digraph, vertex_count, out_degree, edge_of};
-ghost use Rattle.drt_ratio.specs.Levels.{height, level_of, IsRaised, IsSettled, Rises, IsBelow, IsRound, IsTower};
+ghost use Rattle.drt_ratio.specs.Levels.{height, level_of, IsRaised, IsRelaxed, Rises, IsBelow, IsRound, IsTower};
 
 use drt_graph::Graph;
 use drt_model::Memory;
@@ -26,7 +26,7 @@ fn offer(graph: &Graph, a: u64, b: u64, low: &Level, u: u32, k: u32, high: &mut 
     requires raised { IsRaised graph.now a b low.now high.old }
     ensures raised { IsRaised graph.now a b low.now high.new }
     ensures rises { Rises high.old high.new }
-    ensures done { IsSettled graph.now a b low.now high.new u k }
+    ensures done { IsRelaxed graph.now a b low.now high.new u k }
 {
     let _count = graph.vertex_count();
     let edge = *graph.out_edge(u, k);

@@ -2,11 +2,10 @@
 use Rattle.std.proofs.Common.{◌≡◌, ℕ, ◌<◌, ◌≤◌, ◌⊎◌, List, length, inl, inr, refl, sym, ap, ◌∙◌, subst, arith}
 use Rattle.std.proofs.lemmas.Bool.{cases_lt}
 use Rattle.drt_evidence.specs.Reading.{HasDossierFault, IsCode, IsTextOf}
-use Rattle.drt_evidence.specs.Rules.{Rejects}
 use Rattle.drt_evidence.specs.Statement.{Statement}
 use Rattle.drt_check.specs.Judging.{IsJudged, IsSound}
 use Rattle.drt_check.specs.Laws.{JudgedOnce}
-use Rattle.drt_check.proofs.Judged.{number_one}
+use Rattle.drt_check.proofs.Judged.{judged_once}
 use Rattle.drt_check.specs.declared.judgement.Judgement.{Judgement}
 use Rattle.drt_check.specs.declared.judgement.Judgement.TheVariants as judgements
 use Rattle.drt_top.specs.commands.Check.{CheckEnds, Checks, IsDossierFault, judged_status, most_dossier_bytes}
@@ -54,7 +53,8 @@ dossier_fault_one bytes (Rule m) (Edge t e) h k = absurd k
 dossier_fault_one bytes (Rule m) (Limit c) h k = absurd k
 dossier_fault_one bytes (Rule m) (Rule n) h k =
     let e = k.dossier.only h.statement h.dossier.is in
-    ap Rule (number_one k.statement m n (subst (λ s. Rejects s m) e h.rejects) k.rejects)
+    let same = judged_once k.statement (judgements.Rejected m) (judgements.Rejected n) (subst (λ s. IsJudged s (judgements.Rejected m)) e h.judged) k.judged in
+    ap Rule (let number : m ≡ n = cc in number)
 dossier_fault_one bytes (Rule m) (Dossier l c) h (inl big) = absurd (omega (arith, big.0, h.dossier.small))
 dossier_fault_one bytes (Rule m) (Dossier l c) h (inr lacks) = absurd (lacks.none h.statement h.dossier.is)
 dossier_fault_one bytes (Dossier l c) Nothing h k = absurd k
@@ -69,7 +69,7 @@ dossier_fault_one bytes (Dossier l c) (Dossier m d) (inr lacks) (inl big) = absu
 dossier_fault_one bytes (Dossier l c) (Dossier m d) (inr h) (inr k) = text_fault_one bytes l m c d h.fault k.fault
 
 -- Judged evidence that isn't rejected is rejected with no number.
-not_rejected : JudgedOnce → (s : Statement) (j : Judgement) (n : ℕ) → IsJudged s j → judged_status j < 4 → Rejects s n → ⊥
+not_rejected : JudgedOnce → (s : Statement) (j : Judgement) (n : ℕ) → IsJudged s j → judged_status j < 4 → IsJudged s (judgements.Rejected n) → ⊥
 not_rejected law s j n is low rejects =
     let same : j ≡ judgements.Rejected n = law s j (judgements.Rejected n) is rejects in
     let l : 9 < 4 = subst (λ k. judged_status k < 4) same low in
@@ -83,7 +83,7 @@ judged_well law bytes made (Edge t e) m h = h
 judged_well law bytes made (Limit c) m h = h
 judged_well law bytes made (Rule n) m h =
     let e = m.of.dossier.only h.statement h.dossier.is in
-    not_rejected law m.of.statement m.judgement n m.of.judged (omega (arith, m.status_is, m.not_rejected)) (subst (λ s. Rejects s n) e h.rejects)
+    not_rejected law m.of.statement m.judgement n m.of.judged (omega (arith, m.status_is, m.not_rejected)) (subst (λ s. IsJudged s (judgements.Rejected n)) e h.judged)
 judged_well law bytes made (Dossier l c) m (inl big) = omega (arith, big.0, m.of.dossier.small)
 judged_well law bytes made (Dossier l c) m (inr lacks) = lacks.none m.of.statement m.of.dossier.is
 
@@ -101,6 +101,6 @@ rejected_ends bytes (Edge t e) h s is small = absurd h
 rejected_ends bytes (Limit c) h s is small = absurd h
 rejected_ends bytes (Rule n) h s is small =
     let e = sym (h.dossier.only s is) in
-    (judgements.Rejected n, subst (λ t. Rejects t n) e h.rejects, tt, refl)
+    (judgements.Rejected n, subst (λ t. IsJudged t (judgements.Rejected n)) e h.judged, tt, refl)
 rejected_ends bytes (Dossier l c) (inl big) s is small = absurd (omega (arith, big.0, small))
 rejected_ends bytes (Dossier l c) (inr lacks) s is small = absurd (lacks.none s is)

@@ -16,7 +16,7 @@ use Rattle.drt_evidence.specs.Ranges.{IsInRange}
 use Rattle.drt_evidence.specs.Text.{text}
 use Rattle.drt_evidence.specs.declared.evidence.Evidence.{Evidence}
 use Rattle.drt_evidence.specs.declared.evidence.Evidence.TheVariants.{EdfYes, EdfNo, UtilisationOne, FixedYes, FixedNo, Undecided}
-use Rattle.drt_edf.specs.Answers.{IsBeyond, IsDone, IsOther, IsPlanned, IsUndecided}
+use Rattle.drt_edf.specs.Answers.{IsBeyond, IsVerdict, IsOther, IsPlanned, IsUndecided}
 use Rattle.drt_evidence.specs.Rates.{IsAtOne, Rates}
 use Rattle.drt_edf.specs.Spent.{IsEnough, table_need}
 use Rattle.drt_edf.specs.declared.answer.EdfTrail.{EdfTrail}
@@ -147,7 +147,7 @@ answer_low set budget status written trail (inr (inr (inr a))) = omega (arith, a
 
 -- The answer of evidence.
 pub answer_is : (set : Contents) (budget : ℕ) (evidence : Evidence) → IsTaskSet set.version set.tasks → AreConstrained set.tasks
-    → IsDone set.tasks evidence → IsPlanned set.tasks evidence → IsInRange evidence
+    → IsVerdict set.tasks evidence → IsPlanned set.tasks evidence → IsInRange evidence
     → IsEdfAnswer set budget (evidence_status evidence) (text (under_edf set evidence)) trails.Nothing
 answer_is set budget (EdfYes ratios fronts) limits constrained done planned range =
     inl (
@@ -188,7 +188,7 @@ answer_is set budget (FixedNo releases miss) limits constrained done planned ran
 answer_is set budget Undecided limits constrained done planned range = absurd done
 
 -- It is the answer of the report that is made of the evidence.
-pub done_decides : (bytes : List ℕ) (set : Contents) (budget : ℕ) (evidence : Evidence) → IsAccepted bytes set → IsDone set.tasks evidence → IsPlanned set.tasks evidence
+pub done_decides : (bytes : List ℕ) (set : Contents) (budget : ℕ) (evidence : Evidence) → IsAccepted bytes set → IsVerdict set.tasks evidence → IsPlanned set.tasks evidence
     → IsInRange evidence → (r : Result Report Unmade)
     → IfOk r (λ m. m ≡ record { status = evidence_status evidence; text = text (under_edf set evidence); trail = trails.Nothing })
     → IfOk r (Decides budget bytes)

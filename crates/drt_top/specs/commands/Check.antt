@@ -1,7 +1,6 @@
 -- `check`: what it says of a dossier, what it refuses, and with which status it ends.
 use Rattle.std.specs.Prelude.{◌≡◌, ℕ, ◌≤◌, ◌<◌, ◌⊎◌, List, [], codes, length}
 use Rattle.drt_evidence.specs.Reading.{HasDossierFault, IsTextOf}
-use Rattle.drt_evidence.specs.Rules.{Rejects}
 use Rattle.drt_evidence.specs.Statement.{Statement}
 use Rattle.drt_check.specs.Judging.{IsJudged, IsSound}
 use Rattle.drt_check.specs.declared.judgement.Judgement.{Judgement}
@@ -60,7 +59,7 @@ pub record Checks (bytes : List ℕ) (made : Report) : Type 0 where
 pub record IsRejected (bytes : List ℕ) (number : ℕ) : Type 0 where
   pub statement : Statement
   pub dossier : IsDossier bytes statement
-  pub rejects : Rejects statement number
+  pub judged : IsJudged statement (judgements.Rejected number)
 
 -- The bytes are no dossier's text, and stop being one at this line with this code.
 pub record IsNoDossier (bytes : List ℕ) (line code : ℕ) : Type 0 where
@@ -68,8 +67,8 @@ pub record IsNoDossier (bytes : List ℕ) (line code : ℕ) : Type 0 where
   pub none : (s : Statement) → ¬ IsTextOf s bytes
   pub fault : HasDossierFault bytes line code
 
--- A dossier has this fault: code 4 at line 0 where it is too long, else the fault of its text, else the least number of a rule that
--- applies and isn't kept.
+-- A dossier has this fault: code 4 at line 0 where it is too long, else the fault of its text, else the number with which it is
+-- rejected.
 abbrev pub IsDossierFault : List ℕ → Fault → Type 0
 IsDossierFault bytes Nothing = ⊥
 IsDossierFault bytes (File line code) = ⊥

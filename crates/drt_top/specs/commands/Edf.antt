@@ -14,7 +14,7 @@ use Rattle.drt_evidence.specs.declared.evidence.RatioClaim.{RatioClaim}
 use Rattle.drt_evidence.specs.Rules.{Accepts}
 use Rattle.drt_evidence.specs.Statement.{Statement}
 use Rattle.drt_evidence.specs.Reading.{IsTextOf}
-use Rattle.drt_edf.specs.Answers.{IsYes, IsMissed, IsOnlyOne, IsOther, IsUndecided, IsBeyond}
+use Rattle.drt_edf.specs.Answers.{IsExactYes, IsMissed, IsOnlyOne, IsOther, IsUndecided, IsBeyond}
 use Rattle.drt_evidence.specs.Rates.{IsAtOne}
 use Rattle.drt_edf.specs.Spent.{IsEnough}
 use Rattle.drt_edf.specs.declared.answer.EdfTrail.{EdfTrail}
@@ -41,7 +41,7 @@ pub record IsAcceptedText (set : Contents) (evidence : Evidence) (written : List
 pub record IsEdfYesText (set : Contents) (written : List ℕ) : Type 0 where
   pub ratios : List RatioClaim
   pub fronts : List (List FrontEntry)
-  pub yes : IsYes set.tasks ratios fronts
+  pub yes : IsExactYes set.tasks ratios fronts
   pub other : IsOther set.tasks
   pub is : IsAcceptedText set (EdfYes ratios fronts) written
 
