@@ -33,9 +33,6 @@ pub const SCALE_TOO_FINE: u8 = 21;
 /// The code of a set whose horizon exceeds 2^40.
 pub const HORIZON_TOO_FAR: u8 = 22;
 
-/// The code of a file that isn't analysed.
-pub const NOT_ANALYSED: u8 = 99;
-
 /// The status of an input with this fault.
 pub fn fault_status(fault: Fault) -> u8
     ensures { result ≡ fault_status fault }

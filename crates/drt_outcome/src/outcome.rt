@@ -1,6 +1,7 @@
 //! How a run ends.
 use crate::fault::Fault;
 use drt_model::Row;
+use drt_refine::FrontierEntry;
 use drt_table::Entry;
 
 /// How a run ends: the status that the program ends with, what shows a spent budget, and the fault
@@ -19,6 +20,12 @@ pub enum Trail {
     Nothing,
     /// The search of this task's walks spent it, by the steps of this log.
     Table { task: u32, log: Row<Entry> },
+    /// The refinement at this vertex of this task spent it, by the steps of this log.
+    Refine {
+        task: u32,
+        vertex: u32,
+        log: Row<FrontierEntry>,
+    },
     /// The search for an overload spent it; its last step time, in ticks.
     Overload { last: u64 },
 }

@@ -16,7 +16,7 @@ use Rattle.drt_top.specs.commands.Check.{check_rules}
 -- The promises of the command that the words mean.
 abbrev pub rules_of : Meaning → Rules
 rules_of (means.Edf search) = edf_rules search.budget
-rules_of (means.Sp search) = sp_rules
+rules_of (means.Sp search) = sp_rules search.budget
 rules_of means.Upgrade = upgrade_rules
 rules_of means.Util = util_rules
 rules_of means.Check = check_rules

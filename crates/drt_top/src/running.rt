@@ -22,8 +22,8 @@ use std::alloc::Global;
 
 /// Runs the command that the words name: it reads a task file from the source, for `check` a dossier, and
 /// writes what the command makes of it to the sink. Statuses: 0 done, and for `edf`, `sp` and `check` the set
-/// is schedulable; 1 for these it isn't; 2 for `edf` and `check` the utilisation is one; 3 for `edf` the
-/// budget was spent, with the trail, and for `check` there is nothing to check; 4 the file is refused with a
+/// is schedulable; 1 for these it isn't; 2 for `edf` and `check` the utilisation is one; 3 for `edf`
+/// and `sp` a budget was spent, with the trail, and for `check` there is nothing to check; 4 the file is refused with a
 /// fault; 5 the words are refused; 6 a read failed; 7 a write failed; 8 no memory was to be had; 9 the
 /// evidence of the dossier is rejected; 10 the dossier is refused with a fault.
 ///
@@ -85,7 +85,7 @@ fn dispatch<S: Source, K: Sink>(
 {
     match meaning {
         Meaning::Edf { search } => conduct(alloc, &Edf { search }, source, sink),
-        Meaning::Sp { search: _ } => conduct(alloc, &Sp, source, sink),
+        Meaning::Sp { search } => conduct(alloc, &Sp { search }, source, sink),
         Meaning::Upgrade => conduct(alloc, &Upgrade, source, sink),
         Meaning::Util => conduct(alloc, &Util, source, sink),
         Meaning::Check => conduct(alloc, &Check, source, sink),

@@ -1,28 +1,34 @@
-//! `sp`: the answer to a set of one task under fixed priorities, and its dossier.
-ghost use Rattle.std.specs.Prelude.{IfErr, IfOk};
-ghost use Rattle.drt_command.specs.Rules.{IsCause};
-ghost use Rattle.drt_top.specs.commands.Sp.{Analyses, IsNotAnalysed, sp_rules};
+//! `sp`: the answer under fixed priorities, and its dossier.
+ghost use Rattle.std.specs.Prelude.{◌≡◌, ◌≤◌, IfErr, IfOk, map};
+ghost use Rattle.drt_model.specs.Digraph.{digraph_of};
+ghost use Rattle.drt_words.specs.Searches.{most_budget};
+ghost use Rattle.drt_top.specs.commands.Sp.{Analyses, sp_rules, trail_of};
 ghost use Rattle.drt_top.specs.TaskFiles.{IsAccepted};
 
 use crate::dossiers::make_report;
 use crate::task_files::{file_input, read_set};
 use drt_command::{Command, Input, Report, Unmade};
+use drt_evidence::Evidence;
 use drt_file::laws::texts_read_as_one_set;
+use drt_graph::Graphs;
 use drt_model::{Policy, TaskSet};
-use drt_outcome::fault::{Fault, NOT_ANALYSED};
 use drt_outcome::outcome::Trail;
-use drt_sp::analyse_one_task;
+use drt_sp::{FixedAnswer, FixedTrail, analyse_fixed, budgets_suffice};
+use drt_words::Search;
 use std::alloc::Global;
 
 /// The command `sp`.
 #[derive(Debug, Drop)]
-pub(crate) struct Sp;
+pub(crate) struct Sp {
+    pub(crate) search: Search,
+}
 
 impl Command for Sp {
-    ghost rules = { λ _. sp_rules };
+    ghost rules = { λ c. sp_rules c.search.budget };
 
     fn laws(&self) {
         texts_read_as_one_set();
+        budgets_suffice();
     }
 
     fn input(&self) -> Input {
@@ -30,23 +36,47 @@ impl Command for Sp {
     }
 
     fn make(&self, alloc: Global, bytes: &[u8]) -> Result<Report, Unmade> {
-        let (set, _graphs) = read_set(alloc, bytes)?;
-        analyse(alloc, bytes, set)
+        let (set, graphs) = read_set(alloc, bytes)?;
+        analyse(alloc, bytes, set, &graphs, self.search.budget())
     }
 }
 
-// The answer to an accepted set of one task; no other set is analysed yet.
-fn analyse(alloc: Global, bytes: &[u8], set: TaskSet) -> Result<Report, Unmade>
-    requires { IsAccepted bytes.now set }
-    ensures analyses { IfOk result (Analyses bytes.now) }
-    ensures unmade { IfErr result (IsCause IsNotAnalysed bytes.now) }
+// The answer to an accepted set, with a budget of steps for each search.
+fn analyse(
+    alloc: Global,
+    bytes: &[u8],
+    set: TaskSet,
+    graphs: &Graphs,
+    budget: u32,
+) -> Result<Report, Unmade>
+    requires accepted { IsAccepted bytes.now set }
+    requires graphs { graphs.now ≡ map digraph_of set.tasks }
+    requires some { 1 ≤ budget }
+    requires few { budget ≤ most_budget }
+    ensures analyses { IfOk result (Analyses budget bytes.now) }
+    ensures unmade { IfErr result (λ e. e ≡ Unmade.Memory) }
 {
-    if set.tasks().len() != 1 {
-        return Err(Unmade::Refused(Fault::File {
-            line: 0,
-            code: NOT_ANALYSED,
-        }));
+    match analyse_fixed(alloc, &set, graphs, u64::from(budget)) {
+        Ok(FixedAnswer::Done(evidence)) => {
+            make_report(alloc, Policy::Fixed, set, evidence, Trail::Nothing)
+        }
+        Ok(FixedAnswer::Undecided(trail)) => make_report(
+            alloc,
+            Policy::Fixed,
+            set,
+            Evidence::Undecided,
+            make_trail(trail),
+        ),
+        Err(_) => Err(Unmade::Memory),
     }
-    let evidence = analyse_one_task(alloc, &set)?;
-    make_report(alloc, Policy::Fixed, set, evidence, Trail::Nothing)
+}
+
+// The trail of a spent budget.
+fn make_trail(trail: FixedTrail) -> Trail
+    ensures { result ≡ trail_of trail }
+{
+    match trail {
+        FixedTrail::Table { task, log } => Trail::Table { task, log },
+        FixedTrail::Refine { task, vertex, log } => Trail::Refine { task, vertex, log },
+    }
 }

@@ -1,0 +1,29 @@
+-- How large a budget is enough, by the numbers of the tasks' walks. Nothing computes these numbers.
+use Rattle.std.specs.Prelude.{◌≡◌, ℕ, zero, suc, ◌+◌, ◌*◌, ◌<◌, ◌≤◌, nat_lt, if◌then◌else◌, max, List, [], ◌∷◌, length, Contains}
+use Rattle.drt_model.specs.declared.tasks.Task.{Task}
+use Rattle.drt_model.specs.declared.tasks.Edge.{Edge}
+use Rattle.drt_model.specs.Digraph.{Digraph}
+use Rattle.drt_busy.specs.Choice.{graph_at, task_at}
+use Rattle.drt_evidence.specs.Trees.{IsShortWalk, greatest_deadline}
+
+-- The greatest number of edges out of a vertex.
+abbrev pub most_out : List (List Edge) → ℕ
+most_out [] = 0
+most_out (row ∷ rows) = max (length row) (most_out rows)
+
+-- No more than n walks of the graph span less than the bound: a list of n walks has each of them.
+abbrev pub HasAtMost : ℕ → Digraph → ℕ → Type 0
+HasAtMost bound g n = (walks : List (List ℕ)) × (length walks ≡ n) × ((w : List ℕ) → IsShortWalk bound g w → Contains walks w)
+
+-- The product of the numbers of those of the first n tasks that have a higher priority than p (a lower number).
+unfoldable pub product_above : List Task → (ℕ → ℕ) → ℕ → ℕ → ℕ
+product_above tasks counts p zero = 1
+product_above tasks counts p (suc k) = product_above tasks counts p k * (if nat_lt (task_at tasks k).priority p then counts k else 1)
+
+-- The budget is enough for each search of a task's walks but that of lowest priority, and for the refinement at each vertex.
+pub record IsEnough (tasks : List Task) (budget : ℕ) : Type 0 where
+  pub counts : ℕ → ℕ
+  pub walks : (k : ℕ) → k < length tasks → HasAtMost (greatest_deadline tasks) (graph_at tasks k) (counts k)
+  pub searches : (k i : ℕ) → k < length tasks → i < length tasks → (task_at tasks k).priority < (task_at tasks i).priority
+      → counts k * (most_out (graph_at tasks k).out + 2) ≤ budget
+  pub refinements : (k : ℕ) → k < length tasks → 4 * product_above tasks counts (task_at tasks k).priority (length tasks) ≤ budget
