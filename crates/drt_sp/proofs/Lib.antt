@@ -5,3 +5,9 @@ pub mod Orders
 pub mod Deadlines
 pub mod Chosen
 pub mod Passing
+pub mod RequestWalks
+pub mod FewWalks
+pub mod Products
+pub mod EnoughSearches
+pub mod EnoughRefinements
+pub mod Enough

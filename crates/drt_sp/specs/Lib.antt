@@ -9,3 +9,5 @@ pub mod Vertices
 pub mod Proving
 pub mod TreeSearches
 pub mod Progress
+pub mod Needs
+pub mod Laws

@@ -12,6 +12,7 @@ mod answer;
 mod deadlines;
 mod evidence;
 mod late;
+pub mod laws;
 pub mod one_task;
 mod order;
 mod progress;
@@ -23,4 +24,5 @@ mod walks;
 
 pub use analysis::analyse_fixed;
 pub use answer::{FixedAnswer, FixedTrail};
+pub use laws::budgets_suffice;
 pub use one_task::analyse_one_task;

@@ -1,0 +1,35 @@
+-- Where an answer is undecided, its budget isn't enough.
+use Rattle.std.proofs.Common.{◌≡◌, ℕ, ◌+◌, ◌*◌, ◌<◌, ◌≤◌, length, arith}
+use Rattle.drt_model.specs.Contents.{Contents}
+use Rattle.drt_model.specs.Digraph.{IsSound}
+use Rattle.drt_model.specs.Limits.{IsTaskSet}
+use Rattle.drt_busy.specs.Choice.{graph_at, no_task}
+use Rattle.drt_evidence.specs.Trees.{greatest_deadline}
+use Rattle.drt_graph.proofs.Soundness.{all_sound}
+use Rattle.drt_model.specs.Walk.{deadline, wcet}
+use Rattle.drt_sp.specs.Answers.{IsSpentTable, IsSpentVertex, IsUndecided}
+use Rattle.drt_sp.specs.Items.{refinement_of}
+use Rattle.drt_sp.specs.Laws.{BudgetsSuffice}
+use Rattle.drt_sp.specs.Needs.{IsEnough}
+use Rattle.drt_sp.specs.declared.answer.FixedTrail.{FixedTrail}
+use Rattle.drt_sp.specs.declared.answer.FixedTrail.TheVariants.{Table, Refine}
+use Rattle.drt_sp.proofs.Deadlines.{greatest_most, greatest_some}
+use Rattle.drt_sp.proofs.EnoughRefinements.{RefinementsAreShort, refinement_short}
+use Rattle.drt_sp.proofs.EnoughSearches.{SearchesAreShort, SearchesKeepFew, spent_search}
+use Rattle.drt_sp.proofs.Passing.{task_below}
+
+-- A budget that is enough isn't spent.
+pub suffice : SearchesAreShort → SearchesKeepFew → RefinementsAreShort → BudgetsSuffice
+suffice short few refined set budget (Table k log) limits is enough =
+    let sound : IsSound (graph_at set.tasks k) = all_sound set.version set.tasks limits k no_task is.task in
+    let less = spent_search short few (graph_at set.tasks k) (greatest_deadline set.tasks) budget (enough.counts k) log sound
+    (greatest_some set.version set.tasks limits) (greatest_most set.version set.tasks limits.each) is.search (enough.walks k is.task) in
+    let le = enough.searches k is.lower.0 is.task is.lower.1 is.lower.2 in
+    absurd (omega (arith, less, le))
+suffice short few refined set budget (Refine k v log) limits is enough =
+    let t = refinement_of is.forest is.roots (wcet (graph_at set.tasks k) v) (deadline (graph_at set.tasks k) v) budget in
+    let posed = is.reached.posed in
+    let less = refinement_short refined set.tasks enough.counts is.order k t log posed.order_is posed.subject.at is.reached.forest
+    (λ i j root at here. is.reached.few i j root (enough.counts j) at here (enough.walks j (task_below set.tasks is.order posed.order_is i j at))) is.refinement.run in
+    let le = enough.refinements k is.reached.task in
+    absurd (omega (arith, less, le, is.refinement.spent))

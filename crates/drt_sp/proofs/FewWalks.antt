@@ -1,0 +1,40 @@
+-- A tree has no more walks than walks of its graph span less than the bound, and so no more leaves.
+use Rattle.std.proofs.Common.{◌≡◌, ◌≢◌, ℕ, ◌+◌, ◌<◌, ◌≤◌, List, [], ◌∷◌, length, get_or, AllPairs, Contains, refl, sym, subst, arith}
+use Rattle.std.proofs.lemmas.Cmp.{nat_list_eq_equiv}
+use Rattle.std.proofs.lemmas.List.Elements.{All-contains, All-get_or}
+use Rattle.std.proofs.lemmas.Map.Made.{IsDistinct-from_AllPairs, is_member-Decides, length-le_from_is_member}
+use Rattle.std.proofs.lemmas.Option.{slice_get-get_or}
+use Rattle.std.proofs.lemmas.Slice.Eq.{bytes_eq-Decides}
+use Rattle.drt_model.specs.Digraph.{Digraph}
+use Rattle.drt_tree.specs.Tree.{Plain, leaves}
+use Rattle.drt_evidence.specs.Trees.{IsShortWalk}
+use Rattle.drt_evidence.specs.declared.evidence.TreeClaim.{TreeClaim}
+use Rattle.drt_sp.specs.Needs.{HasAtMost}
+use Rattle.drt_sp.specs.TreeClaims.{HaveOneLabel, IsTreeOf}
+
+-- Lists of which no two are equal are at most as many as the lists that have them all.
+pub apart_few : (xs ys : List (List ℕ)) → AllPairs (λ v w. v ≢ w) xs → ((w : List ℕ) → Contains xs w → Contains ys w) → length xs ≤ length ys
+apart_few xs ys apart within =
+    length-le_from_is_member nat_list_eq_equiv xs ys (IsDistinct-from_AllPairs bytes_eq-Decides xs apart)
+    (λ w h. (is_member-Decides bytes_eq-Decides ys w).1 (within w ((is_member-Decides bytes_eq-Decides xs w).0 h)))
+
+-- A walk has one label with itself.
+pub itself : (bound : ℕ) (g : Digraph) (w : List ℕ) → IsShortWalk bound g w → HaveOneLabel bound g w w
+itself bound g [] short = short
+itself bound g (u ∷ vs) short = ((refl, omega arith, λ t from to. omega arith), (refl, omega arith, λ t from to. omega arith))
+
+-- A tree has no more walks than span less than the bound.
+pub walks_few : (bound : ℕ) (g : Digraph) (claim : TreeClaim) (n : ℕ) → IsTreeOf bound g claim → HasAtMost bound g n → length claim.walks ≤ n
+walks_few bound g claim n is most = omega (arith, most.1, apart_few claim.walks most.0 apart (λ w h. most.2 w (All-contains (IsShortWalk bound g) claim.walks w is.short h)))
+  where
+    apart : AllPairs (λ v w. v ≢ w) claim.walks
+    apart i j d before within same =
+        let a : i < length claim.walks = omega arith in
+        let short : IsShortWalk bound g (get_or claim.walks i d) = is.short i d a in
+        let one = subst (HaveOneLabel bound g (get_or claim.walks i d)) same (itself bound g (get_or claim.walks i d) short) in
+        let e = is.exact.once i j (get_or claim.walks i d) (get_or claim.walks j d) (slice_get-get_or claim.walks i d a) (slice_get-get_or claim.walks j d within) one in
+        absurd (omega (arith, e))
+
+-- So a node that has a leaf for each walk of the tree has no more leaves than walks span less than the bound.
+pub leaves_few : (bound : ℕ) (g : Digraph) (claim : TreeClaim) (f : Plain) (top n : ℕ) → IsTreeOf bound g claim → leaves f top ≡ length claim.walks → HasAtMost bound g n → leaves f top ≤ n
+leaves_few bound g claim f top n is count most = omega (arith, count, walks_few bound g claim n is most)
