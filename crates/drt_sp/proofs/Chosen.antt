@@ -18,7 +18,7 @@ unfolding leaf_for
 leaf_place order [] k leaf e = absurd (cc)
 leaf_place [] (l ∷ tuple) k leaf e = absurd (cc)
 leaf_place (j ∷ order) (l ∷ tuple) k leaf e = elim (cases_Bool (eqb j k)) [
-  | inl h ↦ (0, omega arith, eqb-true j k h, same_Some (rw h at e))
+  | inl h ↦ (0, omega arith, eqb-true j k h, same_Some l leaf (rw h at e))
   | inr h ↦ (let rest = leaf_place order tuple k leaf (rw h at e) in (suc rest.0, omega (arith, rest.1), rest.2, rest.3))
 ]
 
@@ -40,7 +40,7 @@ module _ (tasks : List Task) (f : Plain) (d : ℕ) where
   chosen_some order [] k leaf e = absurd (cc)
   chosen_some [] (l ∷ tuple) k leaf e = absurd (cc)
   chosen_some (j ∷ order) (l ∷ tuple) k leaf e = elim (cases_Bool (eqb j k)) [
-    | inl h ↦ rw h (ap (λ n. cut (graph_at tasks k) d (walk f n)) (same_Some (rw h at e)))
+    | inl h ↦ rw h (ap (λ n. cut (graph_at tasks k) d (walk f n)) (same_Some l leaf (rw h at e)))
     | inr h ↦ rw h (chosen_some order tuple k leaf (rw h at e))
   ]
 
@@ -49,24 +49,24 @@ module _ (tasks : List Task) (f : Plain) (d : ℕ) where
   chosen_none order [] k e = refl
   chosen_none [] (l ∷ tuple) k e = refl
   chosen_none (j ∷ order) (l ∷ tuple) k e = elim (cases_Bool (eqb j k)) [
-    | inl h ↦ absurd (none-some (sym (rw h at e)))
+    | inl h ↦ none-some l (sym (rw h at e))
     | inr h ↦ rw h (chosen_none order tuple k (rw h at e))
   ]
 
+-- A walk cut so far: the vertices that are kept, the last of them and its offset, and the rest of the walk.
+pub record IsCut (g : Digraph) (d : ℕ) (walk kept : List ℕ) (u offset : ℕ) (rest : List ℕ) : Type 0 where
+  pub here : u < vertex_count g
+  pub path : IsPath g u rest
+  pub low : offset ≤ 4294967295
+  pub built : kept ++ cut_from g d offset u rest ≡ cut g d walk
+
 module _ (g : Digraph) (sound : IsSound g) where
-  -- A walk cut so far: the vertices that are kept, the last of them and its offset, and the rest of the walk.
-  pub record IsCut (d : ℕ) (walk kept : List ℕ) (u offset : ℕ) (rest : List ℕ) : Type 0 where
-    pub here : u < vertex_count g
-    pub path : IsPath g u rest
-    pub low : offset ≤ 4294967295
-    pub built : kept ++ cut_from g d offset u rest ≡ cut g d walk
-
-  pub cut_started : (d : ℕ) (w : List ℕ) (u : ℕ) → IsWalk g w → 0 < length w → u ≡ get_or w 0 u → IsCut d w (u ∷ []) u 0 (drop 1 w)
+  pub cut_started : (d : ℕ) (w : List ℕ) (u : ℕ) → IsWalk g w → 0 < length w → u ≡ get_or w 0 u → IsCut g d w (u ∷ []) u 0 (drop 1 w)
   cut_started d [] u is some at = absurd (omega arith)
-  cut_started d (v ∷ vs) u is some at = subst (λ x. IsCut d (v ∷ vs) (x ∷ []) x 0 vs) (sym at) (record { here = is.0; path = is.1; low = omega arith; built = refl })
+  cut_started d (v ∷ vs) u is some at = subst (λ x. IsCut g d (v ∷ vs) (x ∷ []) x 0 vs) (sym at) (record { here = is.0; path = is.1; low = omega arith; built = refl })
 
-  pub cut_stepped : (d : ℕ) (w kept : List ℕ) (u offset v : ℕ) (rest : List ℕ) → d ≤ 4294967295 → IsCut d w kept u offset (v ∷ rest) → offset + gap g u v < d
-      → IsCut d w (kept ++ v ∷ []) v (offset + gap g u v) rest
+  pub cut_stepped : (d : ℕ) (w kept : List ℕ) (u offset v : ℕ) (rest : List ℕ) → d ≤ 4294967295 → IsCut g d w kept u offset (v ∷ rest) → offset + gap g u v < d
+      → IsCut g d w (kept ++ v ∷ []) v (offset + gap g u v) rest
   unfolding cut_from
   cut_stepped d w kept u offset v rest few is l =
       let b : kept ++ v ∷ cut_from g d (offset + gap g u v) v rest ≡ cut g d w = rw (lt-ltb (offset + gap g u v) d l) at is.built in
@@ -77,13 +77,13 @@ module _ (g : Digraph) (sound : IsSound g) where
         built = append_assoc kept (v ∷ []) (cut_from g d (offset + gap g u v) v rest) ∙ b;
       }
 
-  pub cut_stopped : (d : ℕ) (w kept : List ℕ) (u offset v : ℕ) (rest : List ℕ) → IsCut d w kept u offset (v ∷ rest) → d ≤ offset + gap g u v → kept ≡ cut g d w
+  pub cut_stopped : (d : ℕ) (w kept : List ℕ) (u offset v : ℕ) (rest : List ℕ) → IsCut g d w kept u offset (v ∷ rest) → d ≤ offset + gap g u v → kept ≡ cut g d w
   unfolding cut_from
   cut_stopped d w kept u offset v rest is l =
       let b : kept ++ [] ≡ cut g d w = rw (le-ltb (offset + gap g u v) d l) at is.built in
       sym (append-nil kept) ∙ b
 
-  pub cut_finished : (d : ℕ) (w kept : List ℕ) (u offset : ℕ) → IsCut d w kept u offset [] → kept ≡ cut g d w
+  pub cut_finished : (d : ℕ) (w kept : List ℕ) (u offset : ℕ) → IsCut g d w kept u offset [] → kept ≡ cut g d w
   unfolding cut_from
   cut_finished d w kept u offset is = sym (append-nil kept) ∙ is.built
 

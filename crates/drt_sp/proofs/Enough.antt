@@ -13,7 +13,7 @@ use Rattle.drt_sp.specs.Laws.{BudgetsSuffice}
 use Rattle.drt_sp.specs.Needs.{IsEnough}
 use Rattle.drt_sp.specs.declared.answer.FixedTrail.{FixedTrail}
 use Rattle.drt_sp.specs.declared.answer.FixedTrail.TheVariants.{Table, Refine}
-use Rattle.drt_sp.proofs.Deadlines.{greatest_most, greatest_some}
+use Rattle.drt_sp.proofs.GreatestDeadline.{greatest_most, greatest_some}
 use Rattle.drt_sp.proofs.EnoughRefinements.{RefinementsAreShort, refinement_short}
 use Rattle.drt_sp.proofs.EnoughSearches.{SearchesAreShort, SearchesKeepFew, spent_search}
 use Rattle.drt_sp.proofs.Passing.{task_below}

@@ -2,7 +2,7 @@ pub mod EvidenceLemmas
 pub mod Lateness
 pub mod Rising
 pub mod Orders
-pub mod Deadlines
+pub mod GreatestDeadline
 pub mod Chosen
 pub mod Passing
 pub mod RequestWalks
@@ -11,3 +11,13 @@ pub mod Products
 pub mod EnoughSearches
 pub mod EnoughRefinements
 pub mod Enough
+pub mod Extended
+pub mod Translated
+pub mod Yes
+pub mod TreesGrow
+pub mod Growth
+pub mod Refused
+pub mod FirstVertices
+pub mod Visits
+pub mod ItemLists
+pub mod VertexProofs

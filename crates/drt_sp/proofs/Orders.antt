@@ -163,7 +163,7 @@ pub sorted_rises : (ts : List Task) → AllPairs (λ s t. s.priority ≢ t.prior
 unfolding by_priority
 sorted_rises [] apart = apart_none
   where
-    apart_none : AllPairs (λ a b. a.priority < b.priority) []
+    apart_none : AllPairs {X = Task} (λ a b. a.priority < b.priority) []
     apart_none i j d l m = absurd (omega arith)
 sorted_rises (t ∷ ts) apart =
     placed_rises t (by_priority ts) (sorted_rises ts (pairs_tail (λ s t. s.priority ≢ t.priority) t ts apart)) others

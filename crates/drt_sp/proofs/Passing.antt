@@ -21,20 +21,21 @@ use Rattle.drt_choices.specs.Choices.{AreTrees, FirstPass, IsOrder, IsSubject, V
 use Rattle.drt_choices.specs.Laws.{IsPosed, LeavesPass}
 use Rattle.drt_evidence.specs.Trees.{greatest_deadline}
 use Rattle.drt_evidence.specs.declared.evidence.ProofClaim.{ProofClaim}
+use Rattle.drt_evidence.specs.declared.evidence.TreeClaim.{TreeClaim}
 use Rattle.drt_sp.specs.Answers.{HigherMeetDeadlines, IsReached, MeetsDeadlines}
 use Rattle.drt_sp.specs.Claims.{AreClaimsOf}
-use Rattle.drt_sp.specs.Claims.AreClaimsOf.{none, more}
 use Rattle.drt_sp.specs.Items.{IsProofOf}
 use Rattle.drt_sp.specs.Progress.{AreGrown}
 use Rattle.drt_sp.specs.TreeClaims.{IsClaimOf}
-use Rattle.drt_sp.specs.Vertices.{AreVertexProofs, IsVertexProof, TuplesPass, subject_of, subjects}
-use Rattle.drt_sp.proofs.Deadlines.{deadline_near}
+use Rattle.drt_sp.specs.Vertices.{AreVertexProofs, IsProvedVertex, TuplesPass, subject_of, subjects}
+use Rattle.drt_sp.proofs.GreatestDeadline.{deadline_near}
 use Rattle.drt_sp.proofs.Orders.{order_before, order_below, order_place}
 
 -- The roots of claims are nodes of the forest.
-pub claimed_nodes : (bound : ℕ) (f : Plain) (graphs : List Digraph) (lows tops : List ℕ) (claims : _) → AreClaimsOf bound f graphs lows tops claims → AreNodes f tops
-claimed_nodes bound f [] [] [] [] none = tt
-claimed_nodes bound f (g ∷ graphs) (low ∷ lows) (top ∷ tops) (claim ∷ claims) (more g graphs low lows top tops claim claims is rest) = (is.within, claimed_nodes bound f graphs lows tops claims rest)
+pub claimed_nodes : (bound : ℕ) (f : Plain) (graphs : List Digraph) (lows tops : List ℕ) (claims : List TreeClaim) → AreClaimsOf bound f graphs lows tops claims → AreNodes f tops
+claimed_nodes bound f [] [] [] [] are = tt
+claimed_nodes bound f (g ∷ graphs) (low ∷ lows) (top ∷ tops) (claim ∷ claims) are = (are.0.within, claimed_nodes bound f graphs lows tops claims are.1)
+claimed_nodes bound f graphs lows tops claims are = absurd are
 
 -- Nodes whose functions all have one bound may be chosen up to it.
 pub nodes_chosen : (bound d : ℕ) (f : Plain) (roots : List ℕ) → length f.nodes ≡ length f.pool → All (λ (xs : List ℕ). length xs ≡ bound) f.pool → d ≤ bound → AreNodes f roots → AreChosen d f.pool roots
@@ -53,7 +54,7 @@ proofs_pass f roots g k n proofs are v l =
     let a : get_or (map subject_of proofs) v (0, 0) ≡ subject_of (get_or proofs v none) = get_or-map subject_of proofs v none (0, 0) m in
     let b : get_or (subjects k n) v (0, 0) ≡ (k, v) = get_or-map-range_with_len (λ u. (k, u)) 0 n v v (0, 0) l (omega arith) in
     let c : subject_of (get_or proofs v none) ≡ (k, v) = sym a ∙ (ap (λ ss. get_or ss v (0, 0)) are.are ∙ b) in
-    let is : IsVertexProof f roots g (get_or proofs v none) = are.each v none m in
+    let is : IsProvedVertex f roots g k (get_or proofs v none) = are.each v none m in
     subst (TuplesPass f roots g) (ap (λ (s : ℕ × ℕ). s.1) c) is.proves.each
 
 module _ (tasks : List Task) (order : List ℕ) (order_is : IsOrder tasks order) where
@@ -72,7 +73,7 @@ module _ (tasks : List Task) (order : List ℕ) (order_is : IsOrder tasks order)
     | inl before ↦ first i j v before here w
     | inr after ↦
         (let e : i ≡ m = omega arith in
-        let same : k ≡ j = same_Some (sym at ∙ (ap (slice_get order) (sym e) ∙ here)) in
+        let same : k ≡ j = same_Some k j (sym at ∙ (ap (slice_get order) (sym e) ∙ here)) in
         subst (λ x. VertexPasses tasks x v) same (pass v (subst (λ x. v < vertex_count (graph_at tasks x)) (sym same) w)))
   ]
 
@@ -89,7 +90,7 @@ module _ (tasks : List Task) (order : List ℕ) (order_is : IsOrder tasks order)
       let before : p.0 < m = order_before tasks order order_is p.0 m p.1 q lower in
       first_meet version suffice limits constrained m p.0 i first before (at_place p.0 p.1 ∙ ap Some p.2)
 
-  module _ (version m k : ℕ) (limits : IsTaskSet version tasks) (at : slice_get order m ≡ Some k) (f : Plain) (roots : List ℕ) (trees : _) (grown : AreGrown tasks order m f roots trees) where
+  module _ (version m k : ℕ) (limits : IsTaskSet version tasks) (at : slice_get order m ≡ Some k) (f : Plain) (roots : List ℕ) (trees : List TreeClaim) (grown : AreGrown tasks order m f roots trees) where
     pub posed_at : (v : ℕ) → v < vertex_count (graph_at tasks k) → IsPosed version tasks order (greatest_deadline tasks) f roots k v
     posed_at v l = record {
       limits = limits;
@@ -111,7 +112,7 @@ module _ (tasks : List Task) (order : List ℕ) (order_is : IsOrder tasks order)
 
 -- Where an analysis stands at a vertex whose earlier ones pass.
 pub reached_at : (set : Contents) (order : List ℕ) → IsOrder set.tasks order → IsTaskSet set.version set.tasks → AreConstrained set.tasks → TimesSufficeForTask → LeavesPass
-    → (m k v : ℕ) → slice_get order m ≡ Some k → (f : Plain) (roots : List ℕ) (trees : _) → AreGrown set.tasks order m f roots trees → FirstPass set.tasks order m
+    → (m k v : ℕ) → slice_get order m ≡ Some k → (f : Plain) (roots : List ℕ) (trees : List TreeClaim) → AreGrown set.tasks order m f roots trees → FirstPass set.tasks order m
     → v < vertex_count (graph_at set.tasks k) → ((u : ℕ) → u < v → TuplesPass f roots (graph_at set.tasks k) u) → IsReached set order f roots k v
 reached_at set order order_is limits constrained suffice pass m k v at f roots trees grown first l earlier = record {
   task = task_below set.tasks order order_is m k at;

@@ -12,11 +12,10 @@ use Rattle.drt_sp.specs.TreeClaims.{IsClaimOf}
 
 -- There is one claim for each graph, and one root and one lowest number: the claim is the tree of the forest from this number up to this
 -- root.
-pub data AreClaimsOf (bound : ℕ) (f : Plain) : List Digraph → List ℕ → List ℕ → List TreeClaim → Type 0 where
-  none : AreClaimsOf bound f [] [] [] []
-  more : (g : Digraph) (graphs : List Digraph) (low : ℕ) (lows : List ℕ) (top : ℕ) (tops : List ℕ) (claim : TreeClaim) (claims : List TreeClaim)
-      → IsClaimOf g bound f low top claim → AreClaimsOf bound f graphs lows tops claims
-      → AreClaimsOf bound f (g ∷ graphs) (low ∷ lows) (top ∷ tops) (claim ∷ claims)
+abbrev pub AreClaimsOf : ℕ → Plain → List Digraph → List ℕ → List ℕ → List TreeClaim → Type 0
+AreClaimsOf bound f [] [] [] [] = Unit {0}
+AreClaimsOf bound f (g ∷ graphs) (low ∷ lows) (top ∷ tops) (claim ∷ claims) = IsClaimOf g bound f low top claim × AreClaimsOf bound f graphs lows tops claims
+AreClaimsOf bound f graphs lows tops claims = ⊥
 
 -- The items of a proof are those of a refinement: each time is the least that passes, and a combination is split only where none does, at
 -- its widest place. The forest's trees are those that are claimed of the tasks of higher priority.

@@ -25,8 +25,9 @@ module _ (f : Plain) (roots : List ℕ) (g : Digraph) where
   abbrev pub TuplesPass : ℕ → Type 0
   TuplesPass v = (tuple : List ℕ) → AreBelow f tuple roots → (t : ℕ) × Passes (wcet g v) (deadline g v) f.pool tuple t
 
-  -- It proves a vertex of the graph, and its numbers are in range.
-  pub record IsVertexProof (p : ProofClaim) : Type 0 where
+  -- It proves a vertex of task k, whose graph this is, and its numbers are in range.
+  pub record IsProvedVertex (k : ℕ) (p : ProofClaim) : Type 0 where
+    pub task_is : p.task ≡ k
     pub vertex : p.vertex < vertex_count g
     pub proves : IsProofOf f (wcet g p.vertex) (deadline g p.vertex) roots p.items
     pub range : IsInRangeProof p
@@ -34,7 +35,7 @@ module _ (f : Plain) (roots : List ℕ) (g : Digraph) where
   -- They prove the first n vertices of task k, whose graph this is.
   pub record AreVertexProofs (k n : ℕ) (proofs : List ProofClaim) : Type 0 where
     pub are : map subject_of proofs ≡ subjects k n
-    pub each : All IsVertexProof proofs
+    pub each : All (IsProvedVertex k) proofs
 
   -- The first vertices, before vertex v, pass.
   pub record IsStop (v : ℕ) : Type 0 where

@@ -19,7 +19,7 @@ pub(crate) fn priority_order(alloc: Global, set: &TaskSet) -> Result<Vec<u32>, M
     }
     order.sort_by(
         |j: &u32, k: &u32| -> Ordering
-            ensures { result ≡ nat_cmp (task_at tasks.now j.now).priority (task_at tasks.now k.now).priority }
+            ensures { result ≡ nat_cmp (task_at tasks j.now).priority (task_at tasks k.now).priority }
         { priority_at(tasks, *j).cmp(&priority_at(tasks, *k)) },
     )?;
     Ok(order)

@@ -1,6 +1,6 @@
 //! How far an analysis has come.
-ghost use Rattle.std.specs.Prelude.{◌≡◌, ℕ, ◌+◌, ◌≤◌, ◌<◌, [], length, IfOk, MatchOption};
-ghost use Rattle.drt_evidence.specs.Claims.{graphs_of};
+ghost use Rattle.std.specs.Prelude.{◌≡◌, ℕ, ◌+◌, ◌<◌, length, IfOk, MatchOption};
+ghost use Rattle.std.specs.List.{flat_map};
 ghost use Rattle.drt_evidence.specs.Ranges.{IsInRange};
 ghost use Rattle.drt_sp.specs.Answers.{IsAnswer, IsVerdict};
 ghost use Rattle.drt_sp.specs.Progress.{AreGrown, AreProved, IsGiven};
@@ -149,4 +149,16 @@ impl Progress {
             proofs: Row::from_vec(joined(alloc, proofs)?),
         })
     }
+}
+
+// The items of all rows, one row after another.
+fn joined(alloc: Global, rows: Vec<Row<ProofClaim>>) -> Result<Vec<ProofClaim>, Memory>
+    ensures { IfOk result (λ all. all.items ≡ flat_map (λ row. row) rows.items) }
+{
+    let mut all = Vec::new(alloc);
+    for row in rows {
+        let mut row = row.into_vec();
+        all.append(&mut row)?;
+    }
+    Ok(all)
 }

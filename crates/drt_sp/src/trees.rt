@@ -1,6 +1,6 @@
 //! The tree of a task's walks.
-ghost use Rattle.std.specs.Prelude.{◌≡◌, ℕ, ◌+◌, ◌*◌, ◌≤◌, ◌<◌, length, IfOk, All, List};
-ghost use Rattle.drt_sp.specs.TreeSearches.{IsOutcome};
+ghost use Rattle.std.specs.Prelude.{◌≡◌, ℕ, ◌+◌, ◌*◌, ◌≤◌, ◌<◌, length, IfOk, All};
+ghost use Rattle.drt_sp.specs.TaskTrees.{IsTreeSearch};
 
 use drt_evidence::TreeClaim;
 use drt_graph::Graph;
@@ -16,13 +16,13 @@ pub(crate) struct TaskTree { pub(crate) low: u32, pub(crate) top: u32, pub(crate
 pub(crate) enum TreeSearch { Tree(TaskTree), Spent(Row<Entry>) }
 
 pub(crate) fn search_tree(alloc: Global, graph: &Graph, bound: u64, budget: u64, forest: &mut Forest) -> Result<TreeSearch, Memory>
-    requires some_bound { 1 ≤ bound }
-    requires few_bound { bound ≤ 1000000 }
+    requires from { 1 ≤ bound }
+    requires to { bound ≤ 1000000 }
     requires some { 1 ≤ budget }
     requires few { budget ≤ 1000000 }
-    requires one_bound { All (λ (xs : List ℕ). length xs ≡ bound) forest.old.pool }
+    requires functions { All (λ xs. length xs ≡ bound) forest.old.pool }
     requires room { length forest.old.nodes + 2 * (1000000 + 96) ≤ 4294967295 }
-    ensures { IfOk result (IsOutcome graph.now bound budget forest.old forest.new) }
+    ensures { IfOk result (IsTreeSearch graph.now bound budget forest.old forest.new) }
 {
     Err(Memory)
 }
