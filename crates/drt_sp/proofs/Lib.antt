@@ -21,3 +21,8 @@ pub mod FirstVertices
 pub mod Visits
 pub mod ItemLists
 pub mod VertexProofs
+pub mod TreeShapes
+pub mod TreeLeaves
+pub mod TreeValues
+pub mod TaskTrees
+pub mod TreeSearches

@@ -4,16 +4,15 @@ use Rattle.std.specs.Prelude.{IsTrue, nat_le, nat_lt, ◌==◌, ◌&&◌, slice_
 use Rattle.std.proofs.lemmas.Bool.Decides.{nat_tests}
 use Rattle.std.proofs.lemmas.List.{append-nil, append_assoc, reverse-append, reverse-reverse}
 use Rattle.drt_model.specs.Digraph.{Digraph, IsSound, vertex_count, out_degree, edge_of}
-use Rattle.drt_model.specs.RequestFunction.{request}
 use Rattle.drt_model.specs.Walk.{gap, wcet, sep, IsEdge, IsPath, last_of, span}
 use Rattle.drt_graph.proofs.Edges.{sep_of_edge, edge_of_sep, gap_of}
-use Rattle.drt_graph.proofs.Paths.{path_both, path_within, last_both, span_cons, span_none}
+use Rattle.drt_graph.proofs.Paths.{path_both, path_within, last_both, span_cons}
 use Rattle.drt_request.specs.Laws.{request_laws}
 use Rattle.drt_request.specs.Request.{Request, request_algebra, dominates}
 use Rattle.drt_request.specs.Walk.{IsLabelOf}
 use Rattle.drt_request.proofs.Walks.{label_walks}
 use Rattle.drt_steps.specs.Values.{covers, value_at}
-use Rattle.drt_table.specs.Machine.{Setting, in_range, extended}
+use Rattle.drt_table.specs.Machine.{Setting, extended}
 use Rattle.drt_table.specs.Walk.{WalkTo, IsWalkLabel, IsWalkBack, IsWalkOf}
 use Rattle.drt_table.proofs.Walks.{walk_vertex, walk_range}
 use Rattle.drt_evidence.specs.Trees.{IsAbove, IsShortWalk}
@@ -183,6 +182,7 @@ same_labels g bound u vs w ws x y p q have = request_laws.antisymmetric x y (dom
 
 -- And the converse.
 pub one_label : (g : Digraph) (bound u : ℕ) (vs : List ℕ) (w : ℕ) (ws : List ℕ) (x y : Request) → IsLabelOf g bound u vs x → IsLabelOf g bound w ws y → x ≡ y → HaveOneLabel bound g (u ∷ vs) (w ∷ ws)
-one_label g bound u vs w ws x y p q same =
-    (above_of g bound u vs w ws x y p q (subst (λ z. IsTrue (dominates z x)) same (request_laws.reflexive x)),
-      above_of g bound w ws u vs y x q p (subst (λ z. IsTrue (dominates x z)) same (request_laws.reflexive x)))
+one_label g bound u vs w ws x y p q same = (
+  above_of g bound u vs w ws x y p q (subst (λ z. IsTrue (dominates z x)) same (request_laws.reflexive x)),
+  above_of g bound w ws u vs y x q p (subst (λ z. IsTrue (dominates x z)) same (request_laws.reflexive x)),
+)
