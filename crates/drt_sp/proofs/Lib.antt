@@ -12,9 +12,7 @@ pub mod EnoughSearches
 pub mod EnoughRefinements
 pub mod Enough
 pub mod Extended
-pub mod Translated
 pub mod Yes
-pub mod TreesGrow
 pub mod Growth
 pub mod Refused
 pub mod FirstVertices
@@ -26,3 +24,4 @@ pub mod TreeLeaves
 pub mod TreeValues
 pub mod TaskTrees
 pub mod TreeSearches
+pub mod Translated

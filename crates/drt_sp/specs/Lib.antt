@@ -6,7 +6,7 @@ pub mod Claims
 pub mod Answers
 pub mod Chosen
 pub mod Vertices
-pub mod TaskTrees
 pub mod Progress
 pub mod Needs
 pub mod Laws
+pub mod TaskTrees

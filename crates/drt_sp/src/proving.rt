@@ -118,6 +118,3 @@ fn log_of(alloc: Global, frontier: &Frontier) -> Result<Row<FrontierEntry>, Memo
 {
     Ok(Row::from_vec(Vec::from_slice(alloc, frontier.log())?))
 }
-
-#[cfg(test)]
-mod tests;
