@@ -1,12 +1,12 @@
 pub mod Evidence
 pub mod OneTask
 pub mod TreeClaims
+pub mod Needs
+pub mod Laws
 pub mod Items
 pub mod Claims
 pub mod Answers
 pub mod Chosen
 pub mod Vertices
 pub mod Progress
-pub mod Needs
-pub mod Laws
 pub mod TaskTrees
