@@ -1,20 +1,15 @@
 -- Where an answer is undecided, its budget isn't enough.
-use Rattle.std.proofs.Common.{◌≡◌, ℕ, ◌+◌, ◌*◌, ◌<◌, ◌≤◌, Some, List, length, slice_get, arith}
+use Rattle.std.proofs.Common.{◌≡◌, ℕ, ◌<◌, Some, List, length, slice_get, arith}
 use Rattle.std.proofs.lemmas.Option.{get_or_from_slice_get, slice_get_within}
-use Rattle.drt_model.specs.Contents.{Contents}
 use Rattle.drt_model.specs.Digraph.{IsSound}
-use Rattle.drt_model.specs.Limits.{IsTaskSet}
 use Rattle.drt_model.specs.declared.tasks.Task.{Task}
 use Rattle.drt_busy.specs.Choice.{graph_at, no_task}
 use Rattle.drt_choices.specs.Choices.{IsOrder}
 use Rattle.drt_evidence.specs.Trees.{greatest_deadline}
 use Rattle.drt_graph.proofs.Soundness.{all_sound}
 use Rattle.drt_model.specs.Walk.{deadline, wcet}
-use Rattle.drt_sp.specs.Answers.{IsSpentTable, IsSpentVertex, IsUndecided}
 use Rattle.drt_sp.specs.Items.{refinement_of}
 use Rattle.drt_sp.specs.Laws.{BudgetsSuffice}
-use Rattle.drt_sp.specs.Needs.{IsEnough}
-use Rattle.drt_sp.specs.declared.answer.FixedTrail.{FixedTrail}
 use Rattle.drt_sp.specs.declared.answer.FixedTrail.TheVariants.{Table, Refine}
 use Rattle.drt_sp.proofs.GreatestDeadline.{greatest_most, greatest_some}
 use Rattle.drt_sp.proofs.EnoughRefinements.{RefinementsAreShort, refinement_short}

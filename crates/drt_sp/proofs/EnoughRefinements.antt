@@ -9,7 +9,7 @@ use Rattle.std.proofs.lemmas.List.Sorted.{IsPermutation-map}
 use Rattle.std.proofs.lemmas.Nat.{mul-le}
 use Rattle.std.proofs.lemmas.Option.{get_or_from_slice_get, slice_get_within, same_Some}
 use Rattle.drt_model.specs.declared.tasks.Task.{Task}
-use Rattle.drt_busy.specs.Choice.{graph_at, task_at}
+use Rattle.drt_busy.specs.Choice.{task_at}
 use Rattle.drt_tree.specs.Tree.{IsForest, Plain, leaves}
 use Rattle.drt_refine.specs.Below.{tuples}
 use Rattle.drt_refine.specs.Machine.{Setting, IsRun}
@@ -40,7 +40,8 @@ module _ (tasks : List Task) (counts : ℕ → ℕ) where
   above_numbers p (suc n) =
       let one : suc n ≡ n + 1 = omega arith in
       let more : map (above p) (range_with_len 0 (n + 1)) ≡ map (above p) (range_with_len 0 n) ++ above p n ∷ [] = map-range_with_len_more (above p) 0 n n (omega arith) in
-      let here : whole p (range_with_len 0 (suc n)) ≡ whole p (range_with_len 0 n) * above p n = ap (λ m. whole p (range_with_len 0 m)) one ∙ (ap product more ∙ product_push (map (above p) (range_with_len 0 n)) (above p n)) in
+      let push : whole p (range_with_len 0 (n + 1)) ≡ whole p (range_with_len 0 n) * above p n = ap product more ∙ product_push (map (above p) (range_with_len 0 n)) (above p n) in
+      let here : whole p (range_with_len 0 (suc n)) ≡ whole p (range_with_len 0 n) * above p n = ap (λ m. whole p (range_with_len 0 m)) one ∙ push in
       ap (λ x. x * above p n) (above_numbers p n) ∙ sym here
 
   above_ordered : (order : List ℕ) → IsOrder tasks order → (p : ℕ) → product_above tasks counts p (length tasks) ≡ whole p order
@@ -93,7 +94,8 @@ abbrev pub RefinementsAreShort : Type 0
 RefinementsAreShort = (t : Setting) (log : List FrontierEntry) → IsForest t.forest → IsRun t log → length log + 2 ≤ 4 * tuples t.forest t.roots
 
 -- A refinement's run is shorter than four times the product of the numbers of the tasks of higher priority.
-pub refinement_short : RefinementsAreShort → (tasks : List Task) (counts : ℕ → ℕ) (order : List ℕ) (k : ℕ) (t : Setting) (log : List FrontierEntry) → IsOrder tasks order → slice_get order (length t.roots) ≡ Some k → IsForest t.forest
+pub refinement_short : RefinementsAreShort → (tasks : List Task) (counts : ℕ → ℕ) (order : List ℕ) (k : ℕ) (t : Setting) (log : List FrontierEntry)
+    → IsOrder tasks order → slice_get order (length t.roots) ≡ Some k → IsForest t.forest
     → ((i j root : ℕ) → slice_get order i ≡ Some j → slice_get t.roots i ≡ Some root → leaves t.forest root ≤ counts j) → IsRun t log
     → length log < 4 * product_above tasks counts (task_at tasks k).priority (length tasks)
 refinement_short short tasks counts order k t log is at forest few run =

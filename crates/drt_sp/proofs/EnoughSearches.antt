@@ -1,5 +1,5 @@
 -- The search of a graph's walks takes few steps: a kept node for each walk at most, since one walk has one label.
-use Rattle.std.proofs.Common.{◌≡◌, ◌⊎◌, inl, inr, ℕ, zero, suc, ◌+◌, ◌-◌, ◌*◌, ◌<◌, ◌≤◌, Bool, true, false, List, [], ◌∷◌, ◌++◌, length, map, reverse, get_or, Contains, refl, sym, ap, ◌∙◌, subst, arith, append_assoc, mul-le-mul_left}
+use Rattle.std.proofs.Common.{◌≡◌, inl, inr, ℕ, zero, suc, ◌+◌, ◌-◌, ◌*◌, ◌<◌, ◌≤◌, Bool, true, false, List, [], ◌∷◌, ◌++◌, length, map, reverse, get_or, Contains, refl, sym, ap, ◌∙◌, subst, arith, append_assoc, mul-le-mul_left}
 use Rattle.std.specs.Prelude.{IsTrue, nat_le, ◌&&◌}
 use Rattle.std.specs.List.{position_or_len, range_with_len}
 use Rattle.std.proofs.Math.Nat.{le-max_left, le-max_right}
@@ -17,7 +17,7 @@ use Rattle.drt_request.specs.Laws.{request_laws}
 use Rattle.drt_request.specs.Request.{Request, request_algebra, dominates}
 use Rattle.drt_request.specs.Walk.{IsLabelOf}
 use Rattle.drt_table.specs.Machine.{Setting, State, step_of, opening_state, replay_from, IsRun, IsRunFrom, replay}
-use Rattle.drt_table.specs.Walk.{WalkTo, IsWalkBack, IsWalkLabel}
+use Rattle.drt_table.specs.Walk.{IsWalkBack, IsWalkLabel}
 use Rattle.drt_table.specs.Work.{IsDegree, IsShort, AreSlots, kept_count}
 use Rattle.drt_table.specs.declared.step.Entry.{Entry}
 use Rattle.drt_evidence.specs.Trees.{IsShortWalk}
@@ -90,15 +90,19 @@ module _ (g : Digraph) (bound : ℕ) where
     unfolding slot
     slot_has l within = passes_at_first (has_label g bound l) walks [] within
 
+-- The walks have each that spans less than the bound.
+abbrev HasAll : Setting → List (List ℕ) → Type 0
+HasAll t walks = (w : List ℕ) → IsShortWalk t.bound t.graph w → Contains walks w
+
 module _ (t : Setting) (sound : IsSound t.graph) where
   -- The label of a walk of the search is that of one of the walks.
-  labelled : (walks : List (List ℕ)) → ((w : List ℕ) → IsShortWalk t.bound t.graph w → Contains walks w) → (l : Request) → IsWalkLabel request_algebra t l → slot t.graph t.bound walks l < length walks
+  labelled : (walks : List (List ℕ)) → HasAll t walks → (l : Request) → IsWalkLabel request_algebra t l → slot t.graph t.bound walks l < length walks
   labelled walks all l is =
       let back = is.0 ∷ is.1 in
       let w = walk_short t sound (reverse back) l (subst (λ x. IsWalkBack request_algebra t x l) (sym (reverse-reverse back)) is.2) in
       slot_within t.graph t.bound walks l (w.first ∷ w.others) (all (w.first ∷ w.others) w.short) (walk_has t.graph t.bound w.first w.others l w.short w.label)
 
-  slots_are : (walks : List (List ℕ)) → ((w : List ℕ) → IsShortWalk t.bound t.graph w → Contains walks w) → AreSlots request_algebra t (slot t.graph t.bound walks) (length walks)
+  slots_are : (walks : List (List ℕ)) → HasAll t walks → AreSlots request_algebra t (slot t.graph t.bound walks) (length walks)
   slots_are walks all = record {
     within = labelled walks all;
     alone = λ l m is has same.
