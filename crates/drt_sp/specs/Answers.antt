@@ -54,8 +54,8 @@ pub record IsExactYes (set : Contents) (trees : List TreeClaim) (proofs : List P
   pub exact : Each (IsTreeOf (greatest_deadline set.tasks)) (tree_graphs set.tasks trees) trees
   pub eager : All (IsEagerProof set.tasks trees) proofs
 
--- Where an analysis stands at a vertex: trees of a forest stand for the walks of the tasks of higher priority, each of whose vertices
--- passes, so that none of their jobs misses; and each earlier vertex of its task passes.
+-- Where an analysis stands at a vertex: trees of a forest stand for the walks of the tasks of higher priority, with no more leaves than
+-- there are walks; each vertex of those tasks passes, so that none of their jobs misses; and each earlier vertex of its task passes.
 pub record IsReached (set : Contents) (order : List ℕ) (f : Plain) (roots : List ℕ) (k v : ℕ) : Type 0 where
   pub task : k < length set.tasks
   pub nodes : AreNodes f roots

@@ -4,6 +4,8 @@
 //! tasks of higher priority, and then makes the task's own tree. Each answer carries its evidence, which keeps the rules of
 //! `drt_evidence`, and each other answer its cause. The layer above uses the one contract of `analyse_fixed`.
 //!
+//! `budgets_suffice` says how large a budget is enough, by the numbers of the tasks' walks.
+//!
 //! `analyse_one_task` answers for sets of one task alone.
 #![tactic(auto)]
 
