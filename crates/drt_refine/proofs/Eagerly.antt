@@ -3,12 +3,13 @@ use Rattle.std.proofs.Common.{◌≡◌, ℕ, suc, zero, ◌+◌, ◌≤◌, ◌
 use Rattle.std.specs.Prelude.{slice_get}
 use Rattle.std.proofs.lemmas.Option.{none-some, same_Some, slice_get_within}
 use Rattle.drt_worklist.specs.Places.{first, changed}
-use Rattle.drt_worklist.proofs.Lists.{Before, before_change, After, after_change, length-changed, Joined, earlier, later, before_join, after_join, after_end, Found, found, none_found}
-use Rattle.drt_tree.specs.Tree.{Plain, IsUnder, Leads, children}
+use Rattle.drt_worklist.proofs.Lists.{Before, before_change, After, after_change, length-changed, earlier, later, before_join, after_join, after_end, Found, found, none_found}
+use Rattle.drt_tree.specs.Tree.{Plain, IsUnder, children}
 use Rattle.drt_refine.specs.Below.{AreBelow}
 use Rattle.drt_refine.specs.Combination.{Combination, fresh, with_state, is_pending, is_pending_state, is_taken, is_taken_state, is_failed, is_failed_state}
-use Rattle.drt_refine.specs.Machine.{Setting, State, Outcome, opening_state, after, is_full, is_finished, halves, taken, halved, halved_at, children_at, stepped, step_by, step_of, replay_from, replay, IsRunFrom, IsRun, CanStep, IsPairAt, NonePasses}
-use Rattle.drt_refine.specs.Eager.{IsWidest, IsPlace, IsEagerFor, IsEagerStep, AreEagerFrom, IsEager, settled_by}
+use Rattle.drt_refine.specs.Machine.{Setting, State, Outcome, opening_state, after, is_full, is_finished, taken, halved, halved_at, children_at, stepped, step_by}
+use Rattle.drt_refine.specs.Machine.{replay_from, replay, IsRunFrom, IsRun, CanStep, IsPairAt, NonePasses}
+use Rattle.drt_refine.specs.Eager.{IsWidest, IsPlace, IsEagerStep, AreEagerFrom, IsEager}
 use Rattle.drt_refine.specs.Settled.{AreSettled, HasNodes, IsDone, IsHalfOf, IsSettled, IsSplitInto}
 use Rattle.drt_refine.specs.declared.step.CombinationState.{CombinationState}
 use Rattle.drt_refine.specs.declared.step.CombinationState.TheVariants.{Pending, Taken as TakenBy, Passed as PassedAt, Split as SplitAt, Failed as HasFailed}
@@ -25,7 +26,8 @@ module _ (f : Plain) where
   under_right leaf n l r h u = (false ∷ u.0, (l, r, h, u.1))
 
   -- a tuple below the nodes with another node at a place, under which are only leaves under the one that stood there, is below the nodes
-  below_set : (tuple nodes : List ℕ) (place n l : ℕ) → slice_get nodes place ≡ Some n → ((leaf : ℕ) → IsUnder f leaf l → IsUnder f leaf n) → AreBelow f tuple (set nodes place l) → AreBelow f tuple nodes
+  below_set : (tuple nodes : List ℕ) (place n l : ℕ) → slice_get nodes place ≡ Some n → ((leaf : ℕ) → IsUnder f leaf l → IsUnder f leaf n) → AreBelow f tuple (set nodes place l)
+      → AreBelow f tuple nodes
   below_set tuple [] place n l at up b = absurd (none-some n at)
   below_set [] (m ∷ nodes) zero n l at up b = elim b [ ]
   below_set [] (m ∷ nodes) (suc place) n l at up b = elim b [ ]
@@ -49,7 +51,8 @@ has_join cs more j nodes h = record { combination = h.combination; at = after_jo
 
 module _ (t : Setting) where
   -- what is settled stays so where the combinations keep their nodes
-  settled_more : (old new : List Combination) → ((j : ℕ) (nodes : List ℕ) → HasNodes old j nodes → HasNodes new j nodes) → (id : ℕ) (nodes : List ℕ) (s : CombinationState) → IsSettled t old id nodes s → IsSettled t new id nodes s
+  settled_more : (old new : List Combination) → ((j : ℕ) (nodes : List ℕ) → HasNodes old j nodes → HasNodes new j nodes) → (id : ℕ) (nodes : List ℕ) (s : CombinationState)
+      → IsSettled t old id nodes s → IsSettled t new id nodes s
   settled_more old new keeps id nodes Pending h = tt
   settled_more old new keeps id nodes (TakenBy w) h = tt
   settled_more old new keeps id nodes (PassedAt time) h = h
@@ -89,12 +92,14 @@ module _ (t : Setting) where
         old = b.old;
         at = b.at;
         nodes = elim b.is as (λ _. x.nodes ≡ b.old.nodes) [ inl p ↦ ap (λ (y : Combination). y.nodes) p.1 | inr e ↦ ap (λ (y : Combination). y.nodes) e ];
-        state = elim b.is as (λ _. ((id ≡ k) × (x.state ≡ s)) ⊎ (x.state ≡ b.old.state)) [ inl p ↦ inl (p.0, ap (λ (y : Combination). y.state) p.1) | inr e ↦ inr (ap (λ (y : Combination). y.state) e) ];
+        state =
+            elim b.is as (λ _. ((id ≡ k) × (x.state ≡ s)) ⊎ (x.state ≡ b.old.state)) [ inl p ↦ inl (p.0, ap (λ (y : Combination). y.state) p.1) | inr e ↦ inr (ap (λ (y : Combination). y.state) e) ];
       }
 
   -- the combination at k gets another state, of which what it says is so
   module _ (cs : List Combination) (k : ℕ) (c : Combination) (s : CombinationState) (at : slice_get cs k ≡ Some c) (facts : AreSettled t cs) where
-    each_change : (new : List Combination) → ((j : ℕ) (nodes : List ℕ) → HasNodes cs j nodes → HasNodes new j nodes) → IsSettled t new k c.nodes s → (id : ℕ) (x : Combination) → slice_get (changed k (with_state s) cs) id ≡ Some x → IsSettled t new id x.nodes x.state
+    each_change : (new : List Combination) → ((j : ℕ) (nodes : List ℕ) → HasNodes cs j nodes → HasNodes new j nodes) → IsSettled t new k c.nodes s → (id : ℕ) (x : Combination)
+        → slice_get (changed k (with_state s) cs) id ≡ Some x → IsSettled t new id x.nodes x.state
     each_change new keeps is id x h =
         let b : Was cs k id s x = was cs k s id x h in
         elim b.state as (λ _. IsSettled t new id x.nodes x.state) [
@@ -103,7 +108,8 @@ module _ (t : Setting) where
               let nodes : c.nodes ≡ x.nodes = ap (λ (y : Combination). y.nodes) same ∙ sym b.nodes in
               subst (λ (z : CombinationState). IsSettled t new id x.nodes z) (sym p.1) (subst (λ (l : List ℕ). IsSettled t new id l s) nodes (subst (λ i. IsSettled t new i c.nodes s) (sym p.0) is)))
           | inr e ↦
-              subst (λ (z : CombinationState). IsSettled t new id x.nodes z) (sym e) (subst (λ (l : List ℕ). IsSettled t new id l b.old.state) (sym b.nodes) (settled_more cs new keeps id b.old.nodes b.old.state (facts.each id b.old b.at)))
+              (let old : IsSettled t new id b.old.nodes b.old.state = settled_more cs new keeps id b.old.nodes b.old.state (facts.each id b.old b.at) in
+              subst (λ (z : CombinationState). IsSettled t new id x.nodes z) (sym e) (subst (λ (l : List ℕ). IsSettled t new id l b.old.state) (sym b.nodes) old))
         ]
 
     below_change : (id : ℕ) (x : Combination) (tuple : List ℕ) → slice_get (changed k (with_state s) cs) id ≡ Some x → AreBelow t.forest tuple x.nodes → AreBelow t.forest tuple t.roots
@@ -118,7 +124,8 @@ module _ (t : Setting) where
         | inr e ↦ subst (λ (z : CombinationState). IsHalfOf n z) e h
       ]
 
-      once_change : (n i j : ℕ) (x y : Combination) → slice_get (changed k (with_state s) cs) i ≡ Some x → slice_get (changed k (with_state s) cs) j ≡ Some y → IsHalfOf n x.state → IsHalfOf n y.state → i ≡ j
+      once_change : (n i j : ℕ) (x y : Combination) → slice_get (changed k (with_state s) cs) i ≡ Some x → slice_get (changed k (with_state s) cs) j ≡ Some y → IsHalfOf n x.state
+          → IsHalfOf n y.state → i ≡ j
       once_change n i j x y hx hy gx gy =
           let bx : Was cs k i s x = was cs k s i x hx in
           let by : Was cs k j s y = was cs k s j y hy in
@@ -133,7 +140,8 @@ module _ (t : Setting) where
       }
 
   -- the combination at k is split at a pair
-  module _ (cs : List Combination) (k : ℕ) (c : Combination) (place : ℕ) (at : slice_get cs k ≡ Some c) (pair : IsPairAt t c.nodes place) (none : NonePasses t c.nodes) (place_is : IsPlace t.forest c.nodes (Some place)) (facts : AreSettled t cs) where
+  module _ (cs : List Combination) (k : ℕ) (c : Combination) (place : ℕ) (at : slice_get cs k ≡ Some c) (pair : IsPairAt t c.nodes place)
+      (none : NonePasses t c.nodes) (place_is : IsPlace t.forest c.nodes (Some place)) (facts : AreSettled t cs) where
     abbrev split_state : CombinationState
     split_state = SplitAt place (length cs) (length cs + 1)
 
@@ -161,8 +169,10 @@ module _ (t : Setting) where
           none = none;
           place_is = place_is;
           pair = pair;
-          left_has = record { combination = fresh left_nodes; at = subst (λ i. slice_get (front ++ back) i ≡ Some (fresh left_nodes)) l (after_end front back 0 (fresh left_nodes) refl); are = refl };
-          right_has = record { combination = fresh right_nodes; at = subst (λ i. slice_get (front ++ back) i ≡ Some (fresh right_nodes)) r (after_end front back 1 (fresh right_nodes) refl); are = refl };
+          left_has =
+              record { combination = fresh left_nodes; at = subst (λ i. slice_get (front ++ back) i ≡ Some (fresh left_nodes)) l (after_end front back 0 (fresh left_nodes) refl); are = refl };
+          right_has =
+              record { combination = fresh right_nodes; at = subst (λ i. slice_get (front ++ back) i ≡ Some (fresh right_nodes)) r (after_end front back 1 (fresh right_nodes) refl); are = refl };
           later = slice_get_within cs k c at;
           next = refl;
         }
@@ -175,7 +185,8 @@ module _ (t : Setting) where
     new_half : (child : ℕ) → ((leaf : ℕ) → IsUnder t.forest leaf child → IsUnder t.forest leaf pair.node) → (id : ℕ) (x : Combination) → fresh (set c.nodes place child) ≡ x → IsNew id x
     new_half child up id x e = record {
       state = sym (ap (λ (y : Combination). y.state) e);
-      below = λ tuple b. facts.below k c tuple at (below_set t.forest tuple c.nodes place pair.node child pair.at up (subst (λ (y : Combination). AreBelow t.forest tuple y.nodes) (sym e) b));
+      below =
+          λ tuple b. facts.below k c tuple at (below_set t.forest tuple c.nodes place pair.node child pair.at up (subst (λ (y : Combination). AreBelow t.forest tuple y.nodes) (sym e) b));
     }
 
     is_new : (i id : ℕ) (x : Combination) → slice_get back i ≡ Some x → IsNew id x
@@ -255,13 +266,15 @@ module _ (t : Setting) where
         let f : Found is_pending s.combinations k = found is_pending s.combinations k e in
         cond_settles (is_full t s) _ _ facts (state_settles s.combinations k f.item (TakenBy w) f.at facts (λ n h. h) (λ new. tt))
 
-    halved_settles : (e : FrontierEntry) (id place : ℕ) (c : Combination) (o : Option (ℕ × ℕ)) → slice_get s.combinations id ≡ Some c → IsPairAt t c.nodes place → NonePasses t c.nodes → IsWidest t.forest c.nodes place
+    halved_settles : (e : FrontierEntry) (id place : ℕ) (c : Combination) (o : Option (ℕ × ℕ)) → slice_get s.combinations id ≡ Some c → IsPairAt t c.nodes place
+        → NonePasses t c.nodes → IsWidest t.forest c.nodes place
         → children_at t (slice_get c.nodes place) ≡ o → AreSettled t (halved t s e id place c.nodes o).state.combinations
     halved_settles e id place c None at p none wide h = facts
     halved_settles e id place c (Some q) at p none wide h =
         split_settles s.combinations id c place at (pair_with c.nodes place q p h) none (place_of c.nodes place p wide) facts
 
-    halved_at_settles : (e : FrontierEntry) (id place : ℕ) (c : Combination) (o : Option Combination) → slice_get s.combinations id ≡ Some c → IsPairAt t c.nodes place → NonePasses t c.nodes → IsWidest t.forest c.nodes place
+    halved_at_settles : (e : FrontierEntry) (id place : ℕ) (c : Combination) (o : Option Combination) → slice_get s.combinations id ≡ Some c → IsPairAt t c.nodes place
+        → NonePasses t c.nodes → IsWidest t.forest c.nodes place
         → slice_get s.combinations id ≡ o → AreSettled t (halved_at t s e id place o).state.combinations
     halved_at_settles e id place c None at p none wide h = facts
     halved_at_settles e id place c (Some d) at p none wide h =
@@ -271,13 +284,15 @@ module _ (t : Setting) where
 
     stepped_settles : (step : FrontierStep) → CanStep t s w step → IsEagerStep t s (record { worker = w; step = step }) → AreSettled t (stepped t s w step).state.combinations
     stepped_settles Take can eager = take_settles (first is_pending s.combinations) (first is_taken s.combinations) refl
-    stepped_settles (Pass id time) can eager = cond_settles (is_full t s) _ _ facts (state_settles s.combinations id can.0 (PassedAt time) can.1.at facts (λ n h. h) (λ new. eager id can.0 refl can.1.at))
+    stepped_settles (Pass id time) can eager =
+        cond_settles (is_full t s) _ _ facts (state_settles s.combinations id can.0 (PassedAt time) can.1.at facts (λ n h. h) (λ new. eager id can.0 refl can.1.at))
     stepped_settles (Split id place) can eager =
         let is : NonePasses t can.0.nodes × IsWidest t.forest can.0.nodes place = eager id can.0 refl can.1.at in
         cond_settles (is_full t s) _ _ facts (halved_at_settles (record { worker = w; step = Split id place }) id place can.0 (slice_get s.combinations id) can.1.at can.2 is.0 is.1 refl)
     stepped_settles (Fail id) can eager = cond_settles (is_full t s) _ _ facts (state_settles s.combinations id can.0 HasFailed can.1.at facts (λ n h. h) (λ new. can.2))
 
-    step_by_settles : (step : FrontierStep) (o : Option ℕ) → CanStep t s w step → IsEagerStep t s (record { worker = w; step = step }) → AreSettled t (step_by t s w step o).state.combinations
+    step_by_settles : (step : FrontierStep) (o : Option ℕ) → CanStep t s w step → IsEagerStep t s (record { worker = w; step = step })
+        → AreSettled t (step_by t s w step o).state.combinations
     step_by_settles step None can eager = stepped_settles step can eager
     step_by_settles step (Some id) can eager = facts
 

@@ -40,6 +40,14 @@ impl Frontier {
         self.log.as_slice()
     }
 
+    /// The log, in order, where the frontier is no longer needed.
+    pub fn into_log(self) -> Vec<FrontierEntry>
+        ensures { result.items ≡ self.log }
+    {
+        let Frontier { log, .. } = self;
+        log
+    }
+
     /// The least combination that the worker holds, if there is one.
     pub fn held_by(&self, worker: u32) -> Option<u32>
         ensures { result ≡ first (is_held_by worker) self.now.combinations }

@@ -30,9 +30,20 @@ pub leaf_here : (order tuple : List ℕ) (k i : ℕ) → i < length order → i 
 unfolding leaf_for
 leaf_here order tuple k i l m e = rw (drop_more order i 0 l, drop_more tuple i 0 m, eq-eqb (get_or order i 0) k e) refl
 
-pub leaf_end : (order : List ℕ) (k : ℕ) → leaf_for order [] k ≡ None
+none_left : (tuple : List ℕ) (k i : ℕ) → length tuple ≤ i → leaf_for [] (drop i tuple) k ≡ None
 unfolding leaf_for
-leaf_end order k = refl
+none_left [] k zero l = refl
+none_left [] k (suc i) l = refl
+none_left (x ∷ tuple) k zero l = absurd (omega arith)
+none_left (x ∷ tuple) k (suc i) l = none_left tuple k i (omega arith)
+
+pub leaf_end : (order tuple : List ℕ) (k i : ℕ) → length tuple ≤ i → leaf_for (drop i order) (drop i tuple) k ≡ None
+unfolding leaf_for
+leaf_end order [] k zero l = refl
+leaf_end order [] k (suc i) l = refl
+leaf_end order (x ∷ tuple) k zero l = absurd (omega arith)
+leaf_end [] (x ∷ tuple) k (suc i) l = none_left tuple k i (omega arith)
+leaf_end (j ∷ order) (x ∷ tuple) k (suc i) l = leaf_end order tuple k i (omega arith)
 
 module _ (tasks : List Task) (f : Plain) (d : ℕ) where
   pub chosen_some : (order tuple : List ℕ) (k leaf : ℕ) → leaf_for order tuple k ≡ Some leaf → chosen tasks f d order tuple k ≡ cut (graph_at tasks k) d (walk f leaf)
@@ -49,7 +60,7 @@ module _ (tasks : List Task) (f : Plain) (d : ℕ) where
   chosen_none order [] k e = refl
   chosen_none [] (l ∷ tuple) k e = refl
   chosen_none (j ∷ order) (l ∷ tuple) k e = elim (cases_Bool (eqb j k)) [
-    | inl h ↦ none-some l (sym (rw h at e))
+    | inl h ↦ absurd (none-some l (sym (rw h at e)))
     | inr h ↦ rw h (chosen_none order tuple k (rw h at e))
   ]
 

@@ -18,13 +18,19 @@ pub greatest_more : (tasks : List Task) (i : ℕ) (d : Task) → i < length task
 unfolding greatest_deadline
 greatest_more tasks i d l = ap greatest_deadline (drop_more tasks i d l)
 
-pub latest_none : latest_deadline [] ≡ 0
+pub latest_end : (vertices : List Vertex) (i : ℕ) → length vertices ≤ i → latest_deadline (drop i vertices) ≡ 0
 unfolding latest_deadline
-latest_none = refl
+latest_end [] zero l = refl
+latest_end [] (suc i) l = refl
+latest_end (x ∷ vertices) zero l = absurd (omega arith)
+latest_end (x ∷ vertices) (suc i) l = latest_end vertices i (omega arith)
 
-pub greatest_none : greatest_deadline [] ≡ 0
+pub greatest_end : (tasks : List Task) (i : ℕ) → length tasks ≤ i → greatest_deadline (drop i tasks) ≡ 0
 unfolding greatest_deadline
-greatest_none = refl
+greatest_end [] zero l = refl
+greatest_end [] (suc i) l = refl
+greatest_end (x ∷ tasks) zero l = absurd (omega arith)
+greatest_end (x ∷ tasks) (suc i) l = greatest_end tasks i (omega arith)
 
 pub latest_bounds : (vertices : List Vertex) (v : ℕ) (d : Vertex) → v < length vertices → (get_or vertices v d).deadline ≤ latest_deadline vertices
 unfolding latest_deadline

@@ -3,7 +3,7 @@ use Rattle.std.proofs.Common.{inl, inr, ◌⊎◌, ◌≡◌, ℕ, zero, suc, �
 use Rattle.std.specs.Prelude.{slice_get}
 use Rattle.std.proofs.lemmas.Bool.{cases_eq, cases_lt}
 use Rattle.std.proofs.lemmas.List.{get_or-map, get_or-set_other, get_or-set_same, length-map, length-set, length-take-le, length_push, take-append-le, take_all, take_more}
-use Rattle.std.proofs.lemmas.List.Elements.{All-push, All-weaker}
+use Rattle.std.proofs.lemmas.List.Elements.{All-nil, All-push, All-weaker}
 use Rattle.std.proofs.lemmas.Option.{get_or_from_slice_get, none-some, same_Some, slice_get_within}
 use Rattle.drt_model.specs.Digraph.{Digraph, digraph_of, vertex_count}
 use Rattle.drt_model.specs.Walk.{deadline, wcet}
@@ -23,7 +23,7 @@ use Rattle.drt_sp.specs.Items.{AreItems}
 use Rattle.drt_sp.specs.Progress.{AreGrown, AreProofsAt, AreProved, IsProofAt, first_graphs}
 use Rattle.drt_sp.specs.TreeClaims.{IsClaimOf, IsTreeOf}
 use Rattle.drt_sp.specs.Vertices.{AreVertexProofs, IsProvedVertex}
-use Rattle.drt_sp.proofs.FewWalks.{more_few}
+use Rattle.drt_sp.proofs.FewWalks.{more_few, none_few}
 use Rattle.drt_sp.proofs.TreesGrow.{claim_on, stands_for_on}
 use Rattle.drt_sp.proofs.Orders.{order_below, order_once}
 use Rattle.drt_sp.proofs.Passing.{claimed_nodes}
@@ -71,7 +71,8 @@ trees_push tasks bound f (j ∷ order) (r ∷ roots) k root at are is = (are.0, 
 -- One more tree.
 pub grown_more : (tasks : List Task) (order : List ℕ) (m k : ℕ) → slice_get order m ≡ Some k → (f g : Plain) (roots : List ℕ) (trees : List TreeClaim)
     → AreGrown tasks order m f roots trees → IsForest f → Grows f g → All (λ (xs : List ℕ). length xs ≡ greatest_deadline tasks) g.pool → length g.nodes ≤ length f.nodes + 2000192
-    → (low top : ℕ) (claim : TreeClaim) → StandsFor (graph_at tasks k) (greatest_deadline tasks) g top → leaves g top ≡ length claim.walks → IsClaimOf (graph_at tasks k) (greatest_deadline tasks) g low top claim
+    → (low top : ℕ) (claim : TreeClaim) → StandsFor (graph_at tasks k) (greatest_deadline tasks) g top → leaves g top ≡ length claim.walks
+    → IsClaimOf (graph_at tasks k) (greatest_deadline tasks) g low top claim
     → IsTreeOf (greatest_deadline tasks) (graph_at tasks k) claim → IsInRangeTree claim → AreGrown tasks order (m + 1) g (roots ++ top ∷ []) (trees ++ claim ∷ [])
 grown_more tasks order m k at f g roots trees grown forest grows bounds few low top claim stands leaf_count is tree range =
     let bound : ℕ = greatest_deadline tasks in
@@ -92,6 +93,34 @@ grown_more tasks order m k at f g roots trees grown forest grows bounds few low 
       exact = subst (λ gs. Each (IsTreeOf bound) gs (trees ++ claim ∷ [])) (sym graphs) (each_push (IsTreeOf bound) (first_graphs tasks order m) trees (graph_at tasks k) claim grown.exact tree);
       range = All-push IsInRangeTree trees claim grown.range range;
     }
+
+-- There are as many trees as places.
+pub trees_count : (tasks : List Task) (order : List ℕ) (m : ℕ) → m ≤ length order → (f : Plain) (roots : List ℕ) (trees : List TreeClaim) → AreGrown tasks order m f roots trees → length trees ≡ m
+trees_count tasks order m l f roots trees grown =
+    sym (each_length (IsTreeOf (greatest_deadline tasks)) (first_graphs tasks order m) trees grown.exact)
+    ∙ length-take-le m (map (graph_at tasks) order) (omega (arith, l, length-map order (graph_at tasks)))
+
+-- Where nothing is done yet.
+pub none_grown : (tasks : List Task) (order : List ℕ) (f : Plain) (roots : List ℕ) (trees : List TreeClaim) → f.nodes ≡ [] → f.pool ≡ [] → roots ≡ [] → trees ≡ [] → AreGrown tasks order 0 f roots trees
+none_grown tasks order f roots trees nodes pool roots_none trees_none =
+    subst (λ ts. AreGrown tasks order 0 f roots ts) (sym trees_none) (subst (λ rs. AreGrown tasks order 0 f rs []) (sym roots_none) (record {
+      count = refl;
+      one_bound = subst (λ xs. All (λ (ys : List ℕ). length ys ≡ greatest_deadline tasks) xs) (sym pool) (All-nil (λ (ys : List ℕ). length ys ≡ greatest_deadline tasks));
+      few = omega (arith, ap length nodes);
+      stand = tt;
+      few_leaves = none_few tasks order f;
+      lows = [];
+      claimed = tt;
+      exact = tt;
+      range = All-nil IsInRangeTree;
+    }))
+
+pub none_proved : (tasks : List Task) (order : List ℕ) (trees : List TreeClaim) (rows : List (List ProofClaim)) → length rows ≡ length tasks → AreProved tasks order 0 trees rows
+none_proved tasks order trees rows count = record {
+  count = count;
+  passed = λ i k v l at w. absurd (omega arith);
+  each = λ i k l at. absurd (omega arith);
+}
 
 -- The proofs so far are over the first of more trees.
 proof_kept : (tasks : List Task) (order : List ℕ) (i k : ℕ) (trees : List TreeClaim) (claim : TreeClaim) → i ≤ length trees → (p : ProofClaim) → IsProofAt tasks order i k trees p → IsProofAt tasks order i k (trees ++ claim ∷ []) p
@@ -140,8 +169,7 @@ proved_more tasks order order_is m k at f roots trees grown rows proved first pr
     below = omega (arith, order_below tasks order order_is m (slice_get_within order m k at), get_or_from_slice_get order m k 0 at)
 
     count : length trees ≡ m
-    count = sym (each_length (IsTreeOf (greatest_deadline tasks)) (first_graphs tasks order m) trees grown.exact)
-        ∙ length-take-le m (map (graph_at tasks) order) (omega (arith, slice_get_within order m k at, length-map order (graph_at tasks)))
+    count = trees_count tasks order m (omega (arith, slice_get_within order m k at)) f roots trees grown
 
     backed : (p : ProofClaim) → IsProvedVertex f roots (graph_at tasks k) k p → IsProofAt tasks order m k trees p
     backed p is = record {

@@ -1,7 +1,6 @@
 -- The items of the combinations on a stack, read one after another.
-use Rattle.std.proofs.Common.{◌≡◌, ℕ, suc, ◌+◌, ◌≤◌, ◌<◌, Option, None, Some, List, [], ◌∷◌, ◌++◌, length, All, refl, sym, ap, ◌∙◌, subst, arith, append_assoc}
+use Rattle.std.proofs.Common.{◌≡◌, ℕ, ◌+◌, ◌≤◌, ◌<◌, Option, None, Some, List, [], ◌∷◌, ◌++◌, length, All, refl, sym, ap, ◌∙◌, subst, arith, append_assoc}
 use Rattle.std.specs.Prelude.{slice_get, slice_set}
-use Rattle.std.proofs.lemmas.Option.{same_Some}
 use Rattle.std.proofs.lemmas.List.{append-nil}
 use Rattle.std.proofs.lemmas.List.Elements.{All-push, All-nil}
 use Rattle.drt_worklist.proofs.Lists.{length_join}
@@ -31,7 +30,8 @@ stacked_push : (cs : List Combination) (ids : List ℕ) (id : ℕ) (under : List
 stacked_push cs [] id under = refl
 stacked_push cs (i ∷ ids) id under = stacked_push cs ids id (nodes_of (slice_get cs i) ∷ under)
 
-stacked_two : (cs : List Combination) (ids : List ℕ) (a b : ℕ) (under : List (List ℕ)) → stacked cs (ids ++ a ∷ b ∷ []) under ≡ nodes_of (slice_get cs b) ∷ nodes_of (slice_get cs a) ∷ stacked cs ids under
+stacked_two : (cs : List Combination) (ids : List ℕ) (a b : ℕ) (under : List (List ℕ))
+    → stacked cs (ids ++ a ∷ b ∷ []) under ≡ nodes_of (slice_get cs b) ∷ nodes_of (slice_get cs a) ∷ stacked cs ids under
 stacked_two cs [] a b under = refl
 stacked_two cs (i ∷ ids) a b under = stacked_two cs ids a b (nodes_of (slice_get cs i) ∷ under)
 
@@ -51,7 +51,8 @@ reading_start t cs settled some = record {
   visit = visit_start cs some;
 }
 
-pub reading_end : (t : Setting) (cs : List Combination) (items : List Item) → IsReading t.forest t.wcet t.deadline t.roots cs items [] → AreItems t.forest t.wcet t.deadline items (t.roots ∷ [])
+pub reading_end : (t : Setting) (cs : List Combination) (items : List Item) → IsReading t.forest t.wcet t.deadline t.roots cs items []
+    → AreItems t.forest t.wcet t.deadline items (t.roots ∷ [])
 reading_end t cs items r = subst (λ (l : List Item). AreItems t.forest t.wcet t.deadline l (t.roots ∷ [])) (append-nil items) (r.goes [] none)
 
 module _ (t : Setting) (cs : List Combination) (settled : AreSettled t cs) (items : List Item) (rest : List ℕ) (id : ℕ) (c : Combination) (at : slice_get cs id ≡ Some c) where
@@ -69,7 +70,8 @@ module _ (t : Setting) (cs : List Combination) (settled : AreSettled t cs) (item
 
   -- what ends the stack with this item first
   with_item : Reads items (rest ++ id ∷ []) → (item : Item) (more : List Item) → Are (item ∷ more) (c.nodes ∷ stacked cs rest []) → Are ((items ++ item ∷ []) ++ more) (t.roots ∷ [])
-  with_item r item more h = subst (λ (l : List Item). Are l (t.roots ∷ [])) (sym (append_assoc items (item ∷ []) more)) (r.goes (item ∷ more) (subst (λ (s : List (List ℕ)). Are (item ∷ more) s) on_top h))
+  with_item r item more h =
+      subst (λ (l : List Item). Are l (t.roots ∷ [])) (sym (append_assoc items (item ∷ []) more)) (r.goes (item ∷ more) (subst (λ (s : List (List ℕ)). Are (item ∷ more) s) on_top h))
 
   reading_pass : (time : ℕ) → t.deadline ≤ 1000000 → c.state ≡ PassedAt time → Reads items (rest ++ id ∷ []) → Reads (items ++ Pass time ∷ []) rest
   reading_pass time small is r =
@@ -87,15 +89,19 @@ module _ (t : Setting) (cs : List Combination) (settled : AreSettled t cs) (item
       let h = slice_set c.nodes place into.pair.right in
       let under = stacked cs rest [] in
       let two : stacked cs (rest ++ right ∷ left ∷ []) [] ≡ l ∷ h ∷ under =
-      stacked_two cs rest right left [] ∙ (ap (λ (nodes : List ℕ). nodes ∷ nodes_of (slice_get cs right) ∷ under) (has_nodes cs left l into.left_has) ∙ ap (λ (nodes : List ℕ). l ∷ nodes ∷ under) (has_nodes cs right h into.right_has)) in
+      stacked_two cs rest right left []
+      ∙ (ap (λ (nodes : List ℕ). nodes ∷ nodes_of (slice_get cs right) ∷ under) (has_nodes cs left l into.left_has)
+      ∙ ap (λ (nodes : List ℕ). l ∷ nodes ∷ under) (has_nodes cs right h into.right_has)) in
       let halves : AreHalves t.forest t.wcet t.deadline c.nodes place into.pair.left into.pair.right = record { node = into.pair.node; at = into.pair.at; children = into.pair.children } in
       record {
-        goes = λ more g. with_item r (Split place) more (split place into.pair.left into.pair.right more c.nodes under into.none into.place_is halves (subst (λ (s : List (List ℕ)). Are more s) two g));
+        goes =
+            λ more g. with_item r (Split place) more (split place into.pair.left into.pair.right more c.nodes under into.none into.place_is halves (subst (λ (s : List (List ℕ)). Are more s) two g));
         in_range = All-push IsInRangeItem items (Split place) r.in_range number;
         visit = subst (λ n. IsVisit cs (rest ++ right ∷ left ∷ []) n) (longer (Split place)) (visit_split cs rest id (length items) r.visit t settled c at place left right is);
       }
 
-  reading_by : (s : CombinationState) (item : Item) (new : List ℕ) → t.deadline ≤ 1000000 → c.state ≡ s → IsItemOf s item rest new → Reads items (rest ++ id ∷ []) → Reads (items ++ item ∷ []) new
+  reading_by : (s : CombinationState) (item : Item) (new : List ℕ) → t.deadline ≤ 1000000 → c.state ≡ s → IsItemOf s item rest new → Reads items (rest ++ id ∷ [])
+      → Reads (items ++ item ∷ []) new
   reading_by Pending item new small is h r = elim h [ ]
   reading_by (Taken w) item new small is h r = elim h [ ]
   reading_by (PassedAt time) item new small is h r =

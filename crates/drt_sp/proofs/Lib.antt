@@ -23,6 +23,7 @@ pub mod TreeShapes
 pub mod TreeLeaves
 pub mod TreeValues
 pub mod TreesGrow
+pub mod ShortWalks
 pub mod TaskTrees
 pub mod TreeSearches
 pub mod Translated

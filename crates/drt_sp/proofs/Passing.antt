@@ -112,7 +112,8 @@ module _ (tasks : List Task) (order : List ℕ) (order_is : IsOrder tasks order)
 
 -- Where an analysis stands at a vertex whose earlier ones pass.
 pub reached_at : (set : Contents) (order : List ℕ) → IsOrder set.tasks order → IsTaskSet set.version set.tasks → AreConstrained set.tasks → TimesSufficeForTask → LeavesPass
-    → (m k v : ℕ) → slice_get order m ≡ Some k → (f : Plain) (roots : List ℕ) (trees : List TreeClaim) → IsForest f → AreGrown set.tasks order m f roots trees → FirstPass set.tasks order m
+    → (m k v : ℕ) → slice_get order m ≡ Some k → (f : Plain) (roots : List ℕ) (trees : List TreeClaim) → IsForest f
+    → AreGrown set.tasks order m f roots trees → FirstPass set.tasks order m
     → v < vertex_count (graph_at set.tasks k) → ((u : ℕ) → u < v → TuplesPass f roots (graph_at set.tasks k) u) → IsReached set order f roots k v
 reached_at set order order_is limits constrained suffice pass m k v at f roots trees forest grown first l earlier = record {
   task = task_below set.tasks order order_is m k at;

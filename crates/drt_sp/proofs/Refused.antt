@@ -18,6 +18,7 @@ use Rattle.drt_refine.specs.Below.{AreBelow, AreNodes}
 use Rattle.drt_choices.specs.Choices.{AreTrees, IsOrder, chosen, cut}
 use Rattle.drt_choices.specs.Laws.{LeavesMiss, no_releases}
 use Rattle.drt_evidence.specs.Claims.{graphs_of}
+use Rattle.drt_evidence.specs.Ranges.{AreInRangeReleases, IsInRangeRelease}
 use Rattle.drt_evidence.proofs.Accepting.{fixed_no_accepted}
 use Rattle.drt_releases.proofs.Walks.{graph_same}
 use Rattle.drt_releases.specs.Walks.{AreDueWalks}
@@ -69,7 +70,7 @@ none_due : (g : Digraph) (t : ℕ) → IsDueWalk g t []
 none_due g t = (tt, omega arith)
 
 module _ (tasks : List Task) (f : Plain) (order tuple : List ℕ) (are : AreLeaves tasks f order tuple) (graphs : AreGraphs (graphs_of tasks)) where
-  sound_at : (k : ℕ) → k < length tasks → IsSound (graph_at tasks k)
+  pub sound_at : (k : ℕ) → k < length tasks → IsSound (graph_at tasks k)
   sound_at k l = subst IsSound (graph_same tasks k l) (graphs.sound k no_graph (omega (arith, length-map tasks digraph_of)))
 
   chosen_due : (d : ℕ) → d ≤ 1000000 → (k : ℕ) → k < length tasks → IsDueWalk (graph_at tasks k) 2000000 (chosen tasks f d order tuple k)
@@ -142,3 +143,12 @@ missed set order f k v tuple constrained law failed releases miss same is =
       miss_is = refl;
     } in
     subst (λ xs. IsMissed set xs miss) (sym same) (subst (λ m. IsMissed set rs m) (sym is) no)
+
+-- The releases and the miss of a no are in range.
+pub no_in_range : (tasks : List Task) (releases : List Release) (k v : ℕ) → All IsInRangeRelease releases → length releases ≤ 4294967295 → k < length tasks → length tasks ≤ 32
+    → IsSound (graph_at tasks k) → v < vertex_count (graph_at tasks k) → AreInRangeReleases releases (record { task = k; index = 0; deadline = deadline (graph_at tasks k) v })
+no_in_range tasks releases k v each few here tasks_few sound vertex = record {
+  each = each;
+  counted = few;
+  named = record { task = omega arith; index = omega arith; deadline = omega (arith, (sound.deadline v vertex).1) };
+}

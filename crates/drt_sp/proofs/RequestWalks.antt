@@ -4,6 +4,7 @@ use Rattle.std.specs.Prelude.{IsTrue, nat_le, nat_lt, ◌==◌, ◌&&◌, slice_
 use Rattle.std.proofs.lemmas.Bool.Decides.{nat_tests}
 use Rattle.std.proofs.lemmas.List.{append-nil, append_assoc, reverse-append, reverse-reverse}
 use Rattle.drt_model.specs.Digraph.{Digraph, IsSound, vertex_count, out_degree, edge_of}
+use Rattle.drt_model.specs.RequestFunction.{request}
 use Rattle.drt_model.specs.Walk.{gap, wcet, sep, IsEdge, IsPath, last_of, span}
 use Rattle.drt_graph.proofs.Edges.{sep_of_edge, edge_of_sep, gap_of}
 use Rattle.drt_graph.proofs.Paths.{path_both, path_within, last_both, span_cons}
@@ -38,13 +39,15 @@ pub record IsLabelled (g : Digraph) (bound : ℕ) (walk : List ℕ) (l : Request
 
 module _ (t : Setting) (sound : IsSound t.graph) where
   -- A label extended by an edge with these ends and this separation.
-  extended_is : (m : Request) (u k v s : ℕ) → m.vertex ≡ u → (edge_of t.graph u k).sep ≡ s → (edge_of t.graph u k).to ≡ v → extended request_algebra t m k ≡ request_algebra.extend m s v (wcet t.graph v)
+  extended_is : (m : Request) (u k v s : ℕ) → m.vertex ≡ u → (edge_of t.graph u k).sep ≡ s → (edge_of t.graph u k).to ≡ v
+      → extended request_algebra t m k ≡ request_algebra.extend m s v (wcet t.graph v)
   extended_is m u k v s p q r =
       ap (λ x. request_algebra.extend m (edge_of t.graph x k).sep (edge_of t.graph x k).to (wcet t.graph (edge_of t.graph x k).to)) p
       ∙ (ap (λ y. request_algebra.extend m y (edge_of t.graph u k).to (wcet t.graph (edge_of t.graph u k).to)) q
       ∙ ap (λ z. request_algebra.extend m s z (wcet t.graph z)) r)
 
-  path_more : (v u : ℕ) (before : List ℕ) (l m : Request) (k : ℕ) → IsPathTo t.graph t.bound u before m → m.vertex ≡ u → k < out_degree t.graph u → (edge_of t.graph u k).to ≡ v → l ≡ extended request_algebra t m k → IsPathTo t.graph t.bound v (u ∷ before) l
+  path_more : (v u : ℕ) (before : List ℕ) (l m : Request) (k : ℕ) → IsPathTo t.graph t.bound u before m → m.vertex ≡ u → k < out_degree t.graph u → (edge_of t.graph u k).to ≡ v
+      → l ≡ extended request_algebra t m k → IsPathTo t.graph t.bound v (u ∷ before) l
   path_more v u before l m k p at lt to is =
       let lu : u < vertex_count t.graph = subst (λ x. x < vertex_count t.graph) p.last (path_within t.graph sound p.first p.others p.is_vertex p.path) in
       let named : sep t.graph u v ≡ Some (edge_of t.graph u k).sep = subst (λ x. sep t.graph u x ≡ Some (edge_of t.graph u k).sep) to (sep_of_edge t.graph sound u k lu lt) in
@@ -103,7 +106,8 @@ module _ (t : Setting) (sound : IsSound t.graph) where
       let range : nat_lt (m.offset + gap t.graph u v) t.bound ≡ true = grind (arith, nat_tests) in
       let walk : WalkTo request_algebra t v (u ∷ before) x = (k.0, m, w, k.1, k.2, is, range) in
       let more : IsLabelOf t.graph t.bound first (others ++ v ∷ []) x =
-      subst (λ y. IsLabelOf t.graph t.bound first (others ++ v ∷ []) (request_algebra.extend m (gap t.graph y v) v (wcet t.graph v))) last ((label_walks t.graph t.bound).extended first others v m label) in
+      subst (λ y. IsLabelOf t.graph t.bound first (others ++ v ∷ []) (request_algebra.extend m (gap t.graph y v) v (wcet t.graph v))) last
+      ((label_walks t.graph t.bound).extended first others v m label) in
       let rest = walk_on first (others ++ v ∷ []) v (u ∷ before) x walk more (last_both first others (v ∷ [])) vs p.1 (omega (arith, s, d)) in
       (rest.0, rest.1, subst (λ xs. IsLabelOf t.graph t.bound first xs rest.0) (append_assoc others (v ∷ []) vs) rest.2)
 
@@ -152,7 +156,8 @@ covers_values xs ys bound e f h =
     (λ i l. subst (λ k. slice_index ys k ≤ slice_index xs k) (let q : (i + 1) - 1 ≡ i = omega arith in q) (h (i + 1) (omega arith) (omega (arith, l, e))))
 
 -- A label that dominates another one is that of a walk above the other's.
-pub above_of : (g : Digraph) (bound u : ℕ) (vs : List ℕ) (w : ℕ) (ws : List ℕ) (x y : Request) → IsLabelOf g bound u vs x → IsLabelOf g bound w ws y → IsTrue (dominates y x) → IsAbove bound g u vs (w ∷ ws)
+pub above_of : (g : Digraph) (bound u : ℕ) (vs : List ℕ) (w : ℕ) (ws : List ℕ) (x y : Request) → IsLabelOf g bound u vs x → IsLabelOf g bound w ws y → IsTrue (dominates y x)
+    → IsAbove bound g u vs (w ∷ ws)
 above_of g bound u vs w ws x y p q d =
     let v : (y.vertex == x.vertex) ≡ true = and_left (y.vertex == x.vertex) (nat_le y.offset x.offset && covers y.values x.values) d in
     let r : (nat_le y.offset x.offset && covers y.values x.values) ≡ true = and_right (y.vertex == x.vertex) (nat_le y.offset x.offset && covers y.values x.values) d in
@@ -162,10 +167,13 @@ above_of g bound u vs w ws x y p q d =
     let offset : y.offset ≤ x.offset = grind (arith, nat_tests) in
     let a = p.offset in
     let b = q.offset in
-    (sym q.vertex ∙ (vertex ∙ p.vertex), omega (arith, offset, a, b), λ t from to. let l = value_below y.values x.values c t in let m = p.values t from to in let n = q.values t from to in omega (arith, l, m, n))
+    let asks : (t : ℕ) → 1 ≤ t → t ≤ bound → request g u vs t ≤ request g w ws t =
+    λ t from to. let l = value_below y.values x.values c t in let m = p.values t from to in let n = q.values t from to in omega (arith, l, m, n) in
+    (sym q.vertex ∙ (vertex ∙ p.vertex), omega (arith, offset, a, b), asks)
 
 -- And the converse.
-pub dominates_of : (g : Digraph) (bound u : ℕ) (vs : List ℕ) (w : ℕ) (ws : List ℕ) (x y : Request) → IsLabelOf g bound u vs x → IsLabelOf g bound w ws y → IsAbove bound g u vs (w ∷ ws) → IsTrue (dominates y x)
+pub dominates_of : (g : Digraph) (bound u : ℕ) (vs : List ℕ) (w : ℕ) (ws : List ℕ) (x y : Request) → IsLabelOf g bound u vs x → IsLabelOf g bound w ws y → IsAbove bound g u vs (w ∷ ws)
+    → IsTrue (dominates y x)
 dominates_of g bound u vs w ws x y p q is =
     let vertex : y.vertex ≡ x.vertex = q.vertex ∙ (is.0 ∙ sym p.vertex) in
     let a = p.offset in

@@ -1,18 +1,18 @@
 -- The tree that is added for the leaves of a search stands for all walks of the graph, and its claim keeps the rules.
-use Rattle.std.proofs.Common.{◌≡◌, ℕ, zero, suc, ◌+◌, ◌-◌, ◌<◌, ◌≤◌, ◌⊎◌, inl, inr, true, false, cond, max, Option, Some, None, List, [], ◌∷◌, ◌++◌, All, length, map, get_or, refl, sym, ap, ◌∙◌, subst, arith}
+use Rattle.std.proofs.Common.{◌≡◌, ℕ, zero, suc, ◌+◌, ◌-◌, ◌<◌, ◌≤◌, ◌⊎◌, inl, inr, true, false, max, Option, Some, None, List, [], ◌∷◌, ◌++◌, All, length, map, get_or, refl, sym, ap, ◌∙◌, subst, arith}
 use Rattle.std.specs.Prelude.{Any, slice_get, slice_index_or, nat_lt, option_map}
 use Rattle.std.specs.List.{range_with_len}
 use Rattle.std.proofs.lemmas.Bool.{cases_lt}
 use Rattle.std.proofs.lemmas.Bool.Decides.{nat_tests}
 use Rattle.std.proofs.lemmas.List.{length-map}
-use Rattle.std.proofs.lemmas.List.Elements.{All-cons, All-nil, All-map, All-weaker, All-get_or, All-from_get_or}
+use Rattle.std.proofs.lemmas.List.Elements.{All-map, All-weaker, All-get_or, All-from_get_or}
 use Rattle.std.proofs.lemmas.List.FromFn.{length-map-range_with_len, get_or-map-range_with_len}
 use Rattle.std.proofs.lemmas.List.Sorted.{length_permutation}
 use Rattle.std.proofs.lemmas.Option.{none-some, same_Some, slice_get-map, slice_get_within, slice_get-get_or, get_or_from_slice_get}
 use Rattle.drt_model.specs.Digraph.{Digraph, IsSound, vertex_count, out_degree, edge_of}
-use Rattle.drt_model.specs.RequestFunction.{request, requested_from}
-use Rattle.drt_model.specs.Walk.{gap, wcet, IsPath, last_of, span}
-use Rattle.drt_graph.proofs.Edges.{sep_of_edge, edge_of_sep, gap_of, source_of, target_of}
+use Rattle.drt_model.specs.RequestFunction.{request}
+use Rattle.drt_model.specs.Walk.{last_of, span}
+use Rattle.drt_graph.proofs.Edges.{sep_of_edge, gap_of}
 use Rattle.drt_graph.proofs.Paths.{path_both, path_within, span_both, span_cons, span_none}
 use Rattle.drt_steps.specs.Values.{value_at}
 use Rattle.drt_busy.specs.Choice.{IsWalk, request_of}
@@ -20,93 +20,20 @@ use Rattle.drt_tree.specs.Shape.{Shape, parts as leaf_count, pairs as pair_count
 use Rattle.drt_tree.specs.Tree.{Plain, IsForest, IsPair, IsUnder, Leads, children, children_of, leaves, values, walk, walk_of, leaf_node, leaf_steps, with_leaves}
 use Rattle.drt_tree.specs.declared.leaf.Leaf.{Leaf}
 use Rattle.drt_tree.proofs.Trees.{get_front, grows_on, index_front, leaves_grow, with_long}
-use Rattle.drt_choices.specs.Choices.{StandsFor}
+use Rattle.drt_choices.specs.Choices.{StandsFor, cut_from}
+use Rattle.drt_choices.proofs.Cuts.{cut_asks}
 use Rattle.drt_evidence.specs.Proofs.{parts}
-use Rattle.drt_evidence.specs.Ranges.{IsInRangePair, IsInRangeTree, IsInRangeWalk, IsNumber}
+use Rattle.drt_evidence.specs.Ranges.{IsInRangePair, IsInRangeTree, IsInRangeWalk}
 use Rattle.drt_evidence.specs.Trees.{HasShortWalks, IsAbove, IsClosedWalk, IsExtendedWalk, IsShortWalk, IsTree, asked, node_values, root}
 use Rattle.drt_evidence.specs.declared.evidence.Pair.{Pair}
 use Rattle.drt_evidence.specs.declared.evidence.TreeClaim.{TreeClaim}
 use Rattle.drt_sp.specs.TaskTrees.{AreWalkLeaves, IsTaskTree, IsWalkLeaf, pair_of, pairs_from, walks_from}
 use Rattle.drt_sp.specs.TreeClaims.{HaveOneLabel, IsClaimOf, IsExactTree, IsNonDominated, IsTreeOf, lowered}
 use Rattle.drt_sp.specs.declared.trees.TaskTree.{TaskTree}
+use Rattle.drt_sp.proofs.ShortWalks.{above_asks, asked_is, cut_short, walk_in_range, walk_is}
 use Rattle.drt_sp.proofs.TreeLeaves.{any_at, leaves_permutation}
 use Rattle.drt_sp.proofs.TreeShapes.{HasKids, kids, named_once, pairs_of, pairs_stand, parts_pairs, root_last, under_all, under_range}
 use Rattle.drt_sp.proofs.TreeValues.{IsJoin, joined_is, most_value}
-
--- A release at t or later asks for nothing before t, and so do those after it.
-requested_late : (g : Digraph) (offset u : ℕ) (vs : List ℕ) (t : ℕ) → t ≤ offset → requested_from g offset u vs t ≡ 0
-unfolding requested_from
-requested_late g offset u [] t le = grind (arith, nat_tests)
-requested_late g offset u (v ∷ vs) t le =
-    let h = requested_late g (offset + gap g u v) v vs t (omega (arith, le)) in
-    let z : cond (nat_lt offset t) (wcet g u) 0 ≡ 0 = grind (arith, nat_tests) in
-    omega (arith, h, z)
-
--- The part of a walk whose releases come before the bound asks up to the bound for as much.
-record HasPart (g : Digraph) (bound offset u : ℕ) (vs : List ℕ) : Type 0 where
-  others : List ℕ
-  path : IsPath g u others
-  early : offset + span g u others < bound
-  same : (t : ℕ) → t ≤ bound → requested_from g offset u vs t ≡ requested_from g offset u others t
-
-part_of : (g : Digraph) (bound offset u : ℕ) (vs : List ℕ) → offset < bound → IsPath g u vs → HasPart g bound offset u vs
-unfolding requested_from
-part_of g bound offset u [] l p = record { others = []; path = tt; early = (let s = span_none g u in omega (arith, l, s)); same = λ t le. refl }
-part_of g bound offset u (v ∷ vs) l p = go (λ m. part_of g bound (offset + gap g u v) v vs m p.1) (cases_lt (offset + gap g u v) bound)
-  where
-    more : (xs : List ℕ) (t : ℕ) → requested_from g (offset + gap g u v) v vs t ≡ requested_from g (offset + gap g u v) v xs t → requested_from g offset u (v ∷ vs) t ≡ requested_from g offset u (v ∷ xs) t
-    more xs t e = ap (λ n. cond (nat_lt offset t) (wcet g u) 0 + n) e
-
-    none : (t : ℕ) → requested_from g (offset + gap g u v) v vs t ≡ 0 → requested_from g offset u (v ∷ vs) t ≡ requested_from g offset u [] t
-    none t e = omega (arith, e)
-
-    go : (offset + gap g u v < bound → HasPart g bound (offset + gap g u v) v vs) → (offset + gap g u v < bound) ⊎ (bound ≤ offset + gap g u v) → HasPart g bound offset u (v ∷ vs)
-    go rest (inl m) =
-        let h = rest m in
-        record {
-          others = v ∷ h.others;
-          path = (p.0, h.path);
-          early = (let s = span_cons g u v h.others in let e = h.early in omega (arith, s, e));
-          same = λ t le. more h.others t (h.same t le);
-        }
-    go rest (inr m) = record {
-      others = [];
-      path = tt;
-      early = (let s = span_none g u in omega (arith, l, s));
-      same = λ t le. none t (requested_late g (offset + gap g u v) v vs t (omega (arith, le, m)));
-    }
-
-asked_is : (g : Digraph) (t : ℕ) (w : List ℕ) → asked g t w ≡ request_of g w t
-asked_is g t [] = refl
-asked_is g t (u ∷ vs) = refl
-
-above_asks : (bound : ℕ) (g : Digraph) (u : ℕ) (vs w : List ℕ) (t : ℕ) → IsAbove bound g u vs w → 1 ≤ t → t ≤ bound → request g u vs t ≤ asked g t w
-above_asks bound g u vs [] t above from to = absurd above
-above_asks bound g u vs (x ∷ xs) t above from to = above.2 t from to
-
-walk_is : (bound : ℕ) (g : Digraph) (w : List ℕ) → IsShortWalk bound g w → IsWalk g w
-walk_is bound g [] short = absurd short
-walk_is bound g (u ∷ vs) short = (short.0, short.1)
-
--- A walk of the graph has a vertex for each tick that it spans at most, and one more.
-module _ (g : Digraph) (sound : IsSound g) where
-  length_span : (u : ℕ) (vs : List ℕ) → IsPath g u vs → length vs ≤ span g u vs
-  length_span u [] p = omega arith
-  length_span u (v ∷ vs) p =
-      let k = edge_of_sep g u v (gap g u v) p.0 in
-      let s = (sound.sep u k.0 (source_of g sound u v (gap g u v) p.0) k.1).0 in
-      let e = k.3 in
-      let h = length_span v vs p.1 in
-      let c = span_cons g u v vs in
-      omega (arith, s, e, h, c)
-
-  numbers : (u : ℕ) (vs : List ℕ) → u < vertex_count g → IsPath g u vs → All IsNumber (u ∷ vs)
-  numbers u [] l p = All-cons IsNumber u [] (let f = sound.few in omega (arith, l, f)) (All-nil IsNumber)
-  numbers u (v ∷ vs) l p = All-cons IsNumber u (v ∷ vs) (let f = sound.few in omega (arith, l, f)) (numbers v vs (target_of g sound u v (gap g u v) p.0).0 p.1)
-
-  walk_in_range : (bound : ℕ) → bound ≤ 1000000 → (w : List ℕ) → IsShortWalk bound g w → IsInRangeWalk w
-  walk_in_range bound le [] short = absurd short
-  walk_in_range bound le (u ∷ vs) short = (numbers u vs short.0 short.1, let s = length_span u vs short.1 in let b = short.2 in omega (arith, s, b, le))
 
 -- An element of a mapped list is the image of one.
 record IsImageAt {A B : Type 0} (f : A → B) (xs : List A) (i : ℕ) (y : B) : Type 0 where
@@ -139,7 +66,8 @@ get_past (x ∷ xs) ys k = ap (λ n. slice_get (x ∷ (xs ++ ys)) n) (let e : su
 parts_before : (claim : TreeClaim) (k : ℕ) → k < length claim.walks → parts claim k ≡ None
 parts_before claim k l = let t : nat_lt k (length claim.walks) ≡ true = grind (arith, nat_tests) in rw t refl
 
-parts_after : (claim : TreeClaim) (k : ℕ) (p : Pair) → length claim.walks ≤ k → slice_get claim.pairs (k - length claim.walks) ≡ Some p → ◌≡◌ {A = Option (ℕ × ℕ)} (parts claim k) (Some (p.left, p.right))
+parts_after : (claim : TreeClaim) (k : ℕ) (p : Pair) → length claim.walks ≤ k → slice_get claim.pairs (k - length claim.walks) ≡ Some p
+    → ◌≡◌ {A = Option (ℕ × ℕ)} (parts claim k) (Some (p.left, p.right))
 parts_after claim k p l at = let t : nat_lt k (length claim.walks) ≡ false = grind (arith, nat_tests) in rw (t, at) refl
 
 module _ (f h : Plain) (ls : List Leaf) (top : ℕ) (old : IsForest f) (added : IsAdded f h ls top) where
@@ -299,15 +227,14 @@ module _ (f h : Plain) (ls : List Leaf) (top : ℕ) (old : IsForest f) (added : 
         covers : (w : List ℕ) → IsWalk g w → (leaf : ℕ) × IsUnder h leaf top × ((t : ℕ) → 1 ≤ t → t ≤ bound → request_of g w t ≤ value_at (values h leaf) t)
         covers [] is = (low + 0, leaf_under 0 (some_leaf some), λ t from to. omega arith)
         covers (u ∷ vs) is =
-            let p = part_of g bound 0 u vs some is.1 in
-            let early = p.early in
-            let a = are.covers u p.others (is.0, p.path, omega (arith, early)) in
+            let xs : List ℕ = cut_from g bound 0 u vs in
+            let a = are.covers u xs (cut_short g bound some u vs is) in
             let at : slice_get added.sorted a.0 ≡ Some a.1 = slice_get-get_or added.sorted a.0 a.1 a.2 ∙ ap (λ x. Some x) a.3 in (
               low + a.0,
               leaf_under a.0 a.2,
               λ t from to.
-                  let e = p.same t to in
-                  let b = above_asks bound g u p.others a.1.walk t a.4 from to in
+                  let e : request g u xs t ≡ request g u vs t = cut_asks g bound t to (u ∷ vs) in
+                  let b = above_asks bound g u xs a.1.walk t a.4 from to in
                   let v = leaf_value a.0 a.1 t at from to in
                   omega (arith, e, b, v),
             )
@@ -574,7 +501,8 @@ module _ (f h : Plain) (ls : List Leaf) (top : ℕ) (old : IsForest f) (added : 
         ap (λ ws. record { walks = ws; pairs = pairs_are }) x ∙ ap (λ ps. record { walks = claim.walks; pairs = ps }) y
 
     -- The tree is one of the task.
-    pub task_tree : 1 ≤ bound → bound ≤ 1000000 → length ls ≤ 1000096 → (t : TaskTree) → t.low ≡ low → t.top ≡ top → t.claim.walks ≡ walks_from h t.low (length ls) → t.claim.pairs ≡ pairs_from h t.low (t.low + length ls) (length ls - 1) → IsTaskTree g bound f h t
+    pub task_tree : 1 ≤ bound → bound ≤ 1000000 → length ls ≤ 1000096 → (t : TaskTree) → t.low ≡ low → t.top ≡ top → t.claim.walks ≡ walks_from h t.low (length ls)
+        → t.claim.pairs ≡ pairs_from h t.low (t.low + length ls) (length ls - 1) → IsTaskTree g bound f h t
     task_tree some le few t is_low is_top ws ps =
         let claim : written ≡ t.claim = claim_is t.claim (ws ∙ ap (λ n. walks_from h n (length ls)) is_low) (ps ∙ ap (λ n. pairs_from h n (n + length ls) (length ls - 1)) is_low) in
         let c = counted in
@@ -585,7 +513,9 @@ module _ (f h : Plain) (ls : List Leaf) (top : ℕ) (old : IsForest f) (added : 
           room = (let l = long in omega (arith, l, c, few));
           stands = subst (λ n. StandsFor g bound h n) (sym is_top) (stands_for some);
           count = ap (λ n. leaves h n) is_top ∙ (added.built.count_is ∙ sym (ap length ws ∙ length-map-range_with_len (λ k. walk h k) t.low (length ls)));
-          claim = subst (λ n. IsClaimOf g bound h n t.top t.claim) (sym is_low) (subst (λ n. IsClaimOf g bound h low n t.claim) (sym is_top) (subst (λ x. IsClaimOf g bound h low top x) claim (written_claim s)));
+          claim =
+              subst (λ n. IsClaimOf g bound h n t.top t.claim) (sym is_low)
+              (subst (λ n. IsClaimOf g bound h low n t.claim) (sym is_top) (subst (λ x. IsClaimOf g bound h low top x) claim (written_claim s)));
           rules = subst (IsTreeOf bound g) claim (written_rules some);
           range = subst IsInRangeTree claim (written_range le (omega (arith, c, few)));
         }

@@ -1,6 +1,6 @@
 -- The items of a vertex's proof, which speak of nodes of a forest, are those of a dossier, which speak of nodes of claimed trees: a node
 -- has its number in the forest less the low of its tree. For the assembly: `items_shape` and `items_pass`.
-use Rattle.std.proofs.Common.{◌≡◌, ℕ, suc, zero, ◌+◌, ◌-◌, ◌≤◌, ◌<◌, Option, Some, None, List, [], ◌∷◌, ◌++◌, map, take, length, All, refl, sym, ap, ◌∙◌, subst, arith, set}
+use Rattle.std.proofs.Common.{◌≡◌, ℕ, suc, zero, ◌+◌, ◌-◌, ◌≤◌, ◌<◌, Option, Some, List, [], ◌∷◌, map, All, refl, sym, ap, ◌∙◌, subst, arith, set}
 use Rattle.std.specs.Prelude.{slice_get, slice_index_or}
 use Rattle.std.proofs.lemmas.Option.{none-some, same_Some}
 use Rattle.std.proofs.lemmas.List.Elements.{All-nil, All-cons}
@@ -10,9 +10,9 @@ use Rattle.drt_steps.specs.Values.{value_at}
 use Rattle.drt_steps.specs.Time.{Passes, sum_at as forest_sum}
 use Rattle.drt_tree.specs.Tree.{Plain, children, values}
 use Rattle.drt_evidence.specs.Trees.{root, node_values}
-use Rattle.drt_evidence.specs.Proofs.{IsPassed, after, after_all, halved, opening, parts, parts_in, passes, sum_at}
+use Rattle.drt_evidence.specs.Proofs.{IsPassed, after, after_all, halved, parts, parts_in, passes, sum_at}
 use Rattle.drt_evidence.specs.declared.evidence.Item.{Item}
-use Rattle.drt_evidence.specs.declared.evidence.Item.TheVariants.{Pass, Split}
+use Rattle.drt_evidence.specs.declared.evidence.Item.TheVariants.{Split}
 use Rattle.drt_evidence.specs.declared.evidence.TreeClaim.{TreeClaim}
 use Rattle.drt_sp.specs.TreeClaims.{IsClaimOf, lowered}
 use Rattle.drt_sp.specs.Claims.{AreClaimsOf}
@@ -58,8 +58,10 @@ module _ (bound : ℕ) (f : Plain) where
       part_in : IsIn g claim low l × IsIn g claim low r
       part_in =
           let h : (low ≤ l) × (low ≤ r) × (l < low + (n - low)) × (r < low + (n - low)) = is.claim_is.above (n - low) l r inside pair_is in
-          let to : n ≤ low + root claim = is.to in
-          (record { top = is.top; claim_is = is.claim_is; from = h.0; to = omega (arith, again, h.2, to) }, record { top = is.top; claim_is = is.claim_is; from = h.1; to = omega (arith, again, h.3, to) })
+          let to : n ≤ low + root claim = is.to in (
+            record { top = is.top; claim_is = is.claim_is; from = h.0; to = omega (arith, again, h.2, to) },
+            record { top = is.top; claim_is = is.claim_is; from = h.1; to = omega (arith, again, h.3, to) },
+          )
 
   -- a combination is split at a place, in the forest and in the claims
   record IsSplitOf (graphs : List Digraph) (claims : List TreeClaim) (lows nodes : List ℕ) (place l r : ℕ) : Type 0 where
@@ -70,7 +72,8 @@ module _ (bound : ℕ) (f : Plain) where
     left_in : AreIn graphs claims lows (set nodes place l)
     right_in : AreIn graphs claims lows (set nodes place r)
 
-  split_of : (graphs : List Digraph) (claims : List TreeClaim) (lows nodes : List ℕ) (place n l r : ℕ) → AreIn graphs claims lows nodes → slice_get nodes place ≡ Some n → children f n ≡ Some (l, r) → IsSplitOf graphs claims lows nodes place l r
+  split_of : (graphs : List Digraph) (claims : List TreeClaim) (lows nodes : List ℕ) (place n l r : ℕ) → AreIn graphs claims lows nodes → slice_get nodes place ≡ Some n
+      → children f n ≡ Some (l, r) → IsSplitOf graphs claims lows nodes place l r
   split_of graphs claims lows [] place n l r h at pair = absurd (none-some n at)
   split_of (g ∷ graphs) (claim ∷ claims) (low ∷ lows) (m ∷ nodes) zero n l r h at pair =
       let here : children f m ≡ Some (l, r) = ap (children f) (same_Some m n at) ∙ pair in
@@ -96,7 +99,8 @@ module _ (bound : ℕ) (f : Plain) where
   split_of graphs claims lows (m ∷ nodes) place n l r h at pair = elim h [ ]
 
   -- the sums are the same
-  sums_are : (graphs : List Digraph) (claims : List TreeClaim) (lows nodes : List ℕ) (t : ℕ) → AreIn graphs claims lows nodes → 1 ≤ t → t ≤ bound → sum_at graphs claims (lower lows nodes) t ≡ forest_sum f.pool nodes t
+  sums_are : (graphs : List Digraph) (claims : List TreeClaim) (lows nodes : List ℕ) (t : ℕ) → AreIn graphs claims lows nodes → 1 ≤ t → t ≤ bound
+      → sum_at graphs claims (lower lows nodes) t ≡ forest_sum f.pool nodes t
   unfolding sum_at
   sums_are graphs claims lows [] t h some near = refl
   sums_are (g ∷ graphs) (claim ∷ claims) (low ∷ lows) (n ∷ nodes) t h some near =
@@ -129,10 +133,12 @@ module _ (bound : ℕ) (f : Plain) where
     halves_of : (w d : ℕ) (nodes : List ℕ) (place l r : ℕ) → AreIn graphs claims lows nodes → AreHalves f w d nodes place l r → IsSplitOf graphs claims lows nodes place l r
     halves_of w d nodes place l r h halves = split_of graphs claims lows nodes place halves.node l r h halves.at halves.children
 
-    split_after : (nodes : List ℕ) (stack : List (List ℕ)) (place l r : ℕ) → IsSplitOf graphs claims lows nodes place l r → after claims (Split place) (lower_all lows (nodes ∷ stack)) ≡ Some (lower_all lows (set nodes place l ∷ set nodes place r ∷ stack))
+    split_after : (nodes : List ℕ) (stack : List (List ℕ)) (place l r : ℕ) → IsSplitOf graphs claims lows nodes place l r
+        → after claims (Split place) (lower_all lows (nodes ∷ stack)) ≡ Some (lower_all lows (set nodes place l ∷ set nodes place r ∷ stack))
     split_after nodes stack place l r s =
         ap (halved (lower lows nodes) place (lower_all lows stack)) s.parts_are
-        ∙ (ap (λ (ns : List ℕ). Some (ns ∷ set (lower lows nodes) place (r - s.low) ∷ lower_all lows stack)) (sym s.left_low) ∙ ap (λ (ns : List ℕ). Some (lower lows (set nodes place l) ∷ ns ∷ lower_all lows stack)) (sym s.right_low))
+        ∙ (ap (λ (ns : List ℕ). Some (ns ∷ set (lower lows nodes) place (r - s.low) ∷ lower_all lows stack)) (sym s.left_low)
+        ∙ ap (λ (ns : List ℕ). Some (lower lows (set nodes place l) ∷ ns ∷ lower_all lows stack)) (sym s.right_low))
 
     shape_of : (w d : ℕ) (items : List Item) (stack : List (List ℕ)) → AreItems f w d items stack → AllIn stack → after_all claims items (Some (lower_all lows stack)) ≡ Some []
     unfolding after_all
@@ -148,13 +154,16 @@ module _ (bound : ℕ) (f : Plain) where
           let sum : sum_at graphs claims (lower lows nodes) t ≡ forest_sum f.pool nodes t = sums_are graphs claims lows nodes t h p.from (omega (arith, p.to)) in
           record { some = p.from; within = omega (arith, p.to); fits = omega (arith, p.passes) }
 
-      passes_of : (items : List Item) (stack : List (List ℕ)) → AreItems f (wcet g v) (deadline g v) items stack → AllIn stack → All (IsPassed graphs claims g v) (passes claims items (Some (lower_all lows stack)))
+      passes_of : (items : List Item) (stack : List (List ℕ)) → AreItems f (wcet g v) (deadline g v) items stack → AllIn stack
+          → All (IsPassed graphs claims g v) (passes claims items (Some (lower_all lows stack)))
       unfolding passes
       passes_of items stack none h = All-nil (IsPassed graphs claims g v)
-      passes_of items stack (pass t more nodes rest least are) h = All-cons (IsPassed graphs claims g v) (lower lows nodes, t) (passes claims more (Some (lower_all lows rest))) (passed nodes t h.0 least.passes) (passes_of more rest are h.1)
+      passes_of items stack (pass t more nodes rest least are) h =
+          All-cons (IsPassed graphs claims g v) (lower lows nodes, t) (passes claims more (Some (lower_all lows rest))) (passed nodes t h.0 least.passes) (passes_of more rest are h.1)
       passes_of items stack (split place l r more nodes rest hopeless place_is halves are) h =
           let s : IsSplitOf graphs claims lows nodes place l r = halves_of (wcet g v) (deadline g v) nodes place l r h.0 halves in
-          subst (λ (o : Option (List (List ℕ))). All (IsPassed graphs claims g v) (passes claims more o)) (sym (split_after nodes rest place l r s)) (passes_of more (set nodes place l ∷ set nodes place r ∷ rest) are (s.left_in, (s.right_in, h.1)))
+          subst (λ (o : Option (List (List ℕ))). All (IsPassed graphs claims g v) (passes claims more o)) (sym (split_after nodes rest place l r s))
+          (passes_of more (set nodes place l ∷ set nodes place r ∷ rest) are (s.left_in, (s.right_in, h.1)))
 
 -- The items of a proof from the tops on end the stack of a dossier's proof, and not before the last one.
 pub items_shape : (bound : ℕ) (f : Plain) (graphs : List Digraph) (lows tops : List ℕ) (claims : List TreeClaim) → AreClaimsOf bound f graphs lows tops claims

@@ -16,11 +16,24 @@ use Rattle.drt_steps.specs.Values.{value_at}
 use Rattle.drt_table.specs.Cover.{IsFront, KeptAt}
 use Rattle.drt_table.specs.Machine.{Setting}
 use Rattle.drt_table.specs.Node.{NodeOf, is_kept}
+use Rattle.drt_table.specs.Walk.{IsWalkOf}
 use Rattle.drt_tree.specs.declared.leaf.Leaf.{Leaf}
 use Rattle.drt_evidence.specs.Trees.{IsAbove, IsShortWalk, asked}
-use Rattle.drt_sp.specs.TaskTrees.{AreGathered, AreWalkLeaves, IsLeafOfNode, IsWalkLeaf}
+use Rattle.drt_sp.specs.TaskTrees.{AreWalkLeaves, IsWalkLeaf}
 use Rattle.drt_sp.specs.TreeClaims.{HaveOneLabel, IsNonDominated}
 use Rattle.drt_sp.proofs.RequestWalks.{IsLabelled, walk_short, short_walk, above_of, dominates_of, same_labels, one_label}
+
+-- The leaf has the function of the node's label, and a walk of the search with that label.
+pub record IsLeafOfNode (t : Setting) (n : NodeOf Request) (l : Leaf) : Type 0 where
+  pub steps : l.steps ≡ n.label.values
+  pub walk : IsWalkOf request_algebra t l.walk n.label
+
+-- The leaves of the kept ones of the first nodes, in order.
+abbrev pub AreGathered : Setting → List (NodeOf Request) → ℕ → List Leaf → Type 0
+AreGathered t nodes zero ls = ls ≡ []
+AreGathered t nodes (suc i) ls =
+    ((n : NodeOf Request) × (slice_get nodes i ≡ Some n) × (is_kept n ≡ false) × AreGathered t nodes i ls)
+    ⊎ ((n : NodeOf Request) × (l : Leaf) × (before : List Leaf) × KeptAt request_algebra t nodes i n × IsLeafOfNode t n l × (ls ≡ before ++ l ∷ []) × AreGathered t nodes i before)
 
 -- An element of a list with one more at its end.
 got_push : {A : Type 0} (xs : List A) (y : A) (i : ℕ) (x : A) → slice_get (xs ++ y ∷ []) i ≡ Some x → (slice_get xs i ≡ Some x) ⊎ ((i ≡ length xs) × (y ≡ x))
@@ -133,7 +146,8 @@ module _ (t : Setting) (nodes : List (NodeOf Request)) where
         any_at (λ l. IsAbove t.bound t.graph u vs l.walk) ls h.place h.leaf h.at
         (subst (λ x. IsAbove t.bound t.graph u vs x) (sym w.is) (above_of t.graph t.bound u vs w.first w.others m.0 c.node.label m.2 w.label c.dominates))
 
-    same_node : (i j : ℕ) (m n : NodeOf Request) (x y : Leaf) → KeptAt request_algebra t nodes i m → KeptAt request_algebra t nodes j n → IsLeafOfNode t m x → IsLeafOfNode t n y → HaveOneLabel t.bound t.graph x.walk y.walk → i ≡ j
+    same_node : (i j : ℕ) (m n : NodeOf Request) (x y : Leaf) → KeptAt request_algebra t nodes i m → KeptAt request_algebra t nodes j n → IsLeafOfNode t m x → IsLeafOfNode t n y
+        → HaveOneLabel t.bound t.graph x.walk y.walk → i ≡ j
     same_node i j m n x y p q a b have =
         let v = walked m x a in
         let w = walked n y b in
@@ -145,12 +159,14 @@ module _ (t : Setting) (nodes : List (NodeOf Request)) where
     once_is zero ls are p q x y at bt have = absurd (none-some x (ap (λ ys. slice_get ys p) (sym are) ∙ at))
     once_is (suc i) ls (inl are) p q x y at bt have = once_is i ls are.3 p q x y at bt have
     once_is (suc i) ls (inr are) p q x y at bt have =
-        go (λ h k. once_is i are.2 are.6 p q x y h k have) (got_push are.2 are.1 p x (ap (λ ys. slice_get ys p) (sym are.5) ∙ at)) (got_push are.2 are.1 q y (ap (λ ys. slice_get ys q) (sym are.5) ∙ bt))
+        go (λ h k. once_is i are.2 are.6 p q x y h k have) (got_push are.2 are.1 p x (ap (λ ys. slice_get ys p) (sym are.5) ∙ at))
+        (got_push are.2 are.1 q y (ap (λ ys. slice_get ys q) (sym are.5) ∙ bt))
       where
         here : (z : Leaf) → are.1 ≡ z → IsLeafOfNode t are.0 z
         here z e = subst (λ l. IsLeafOfNode t are.0 l) e are.4
 
-        go : (slice_get are.2 p ≡ Some x → slice_get are.2 q ≡ Some y → p ≡ q) → (slice_get are.2 p ≡ Some x) ⊎ ((p ≡ length are.2) × (are.1 ≡ x)) → (slice_get are.2 q ≡ Some y) ⊎ ((q ≡ length are.2) × (are.1 ≡ y)) → p ≡ q
+        go : (slice_get are.2 p ≡ Some x → slice_get are.2 q ≡ Some y → p ≡ q) → (slice_get are.2 p ≡ Some x) ⊎ ((p ≡ length are.2) × (are.1 ≡ x))
+            → (slice_get are.2 q ≡ Some y) ⊎ ((q ≡ length are.2) × (are.1 ≡ y)) → p ≡ q
         go before (inl h) (inl k) = before h k
         go before (inl h) (inr k) =
             let o = origins i are.2 are.6 p x h in
@@ -164,7 +180,8 @@ module _ (t : Setting) (nodes : List (NodeOf Request)) where
             absurd (omega (arith, e, b))
         go before (inr h) (inr k) = h.0 ∙ sym k.0
 
-    each_is : (P : Leaf → Type 0) → ((i : ℕ) (n : NodeOf Request) (l : Leaf) → KeptAt request_algebra t nodes i n → IsLeafOfNode t n l → P l) → (i : ℕ) (ls : List Leaf) → AreGathered t nodes i ls → All P ls
+    each_is : (P : Leaf → Type 0) → ((i : ℕ) (n : NodeOf Request) (l : Leaf) → KeptAt request_algebra t nodes i n → IsLeafOfNode t n l → P l) → (i : ℕ) (ls : List Leaf)
+        → AreGathered t nodes i ls → All P ls
     each_is P f zero ls are = subst (All P) (sym are) (All-nil P)
     each_is P f (suc i) ls (inl are) = each_is P f i ls are.3
     each_is P f (suc i) ls (inr are) = subst (All P) (sym are.5) (All-push P are.2 are.1 (each_is P f i are.2 are.6) (f i are.0 are.1 are.3 are.4))

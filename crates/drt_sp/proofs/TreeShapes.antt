@@ -32,9 +32,11 @@ under_range f (two l r) low first st (b ∷ turns) leaf h =
     let p : ℕ × ℕ = (root_of l low first, root_of r (low + parts l) (first + pairs l)) in
     let q : ℕ × ℕ = (h.0, h.1) in
     let same : p ≡ q = same_Some p q (sym st.2 ∙ h.2) in
-    go b (λ k. under_range f l low first st.0 turns leaf k) (λ k. under_range f r (low + parts l) (first + pairs l) st.1 turns leaf k) (subst (λ (z : ℕ × ℕ). Leads f (cond b z.0 z.1) turns leaf) (sym same) h.3)
+    go b (λ k. under_range f l low first st.0 turns leaf k) (λ k. under_range f r (low + parts l) (first + pairs l) st.1 turns leaf k)
+    (subst (λ (z : ℕ × ℕ). Leads f (cond b z.0 z.1) turns leaf) (sym same) h.3)
   where
-    go : (c : Bool) → (Leads f (root_of l low first) turns leaf → (low ≤ leaf) × (leaf < low + parts l)) → (Leads f (root_of r (low + parts l) (first + pairs l)) turns leaf → (low + parts l ≤ leaf) × (leaf < low + parts l + parts r))
+    go : (c : Bool) → (Leads f (root_of l low first) turns leaf → (low ≤ leaf) × (leaf < low + parts l))
+        → (Leads f (root_of r (low + parts l) (first + pairs l)) turns leaf → (low + parts l ≤ leaf) × (leaf < low + parts l + parts r))
         → Leads f (cond c (root_of l low first) (root_of r (low + parts l) (first + pairs l))) turns leaf → (low ≤ leaf) × (leaf < low + (parts l + parts r))
     go true left right k = let i = left k in let x = i.0 in let y = i.1 in (x, omega (arith, y))
     go false left right k = let i = right k in let x = i.0 in let y = i.1 in (omega (arith, x), omega (arith, y))
@@ -47,7 +49,8 @@ under_all f one low first st leaf from to =
 under_all f (two l r) low first st leaf from to =
     go (λ c. under_all f l low first st.0 leaf from c) (λ c. under_all f r (low + parts l) (first + pairs l) st.1 leaf c (omega (arith, to))) (cases_lt leaf (low + parts l))
   where
-    go : (leaf < low + parts l → (turns : List Bool) × Leads f (root_of l low first) turns leaf) → (low + parts l ≤ leaf → (turns : List Bool) × Leads f (root_of r (low + parts l) (first + pairs l)) turns leaf)
+    go : (leaf < low + parts l → (turns : List Bool) × Leads f (root_of l low first) turns leaf)
+        → (low + parts l ≤ leaf → (turns : List Bool) × Leads f (root_of r (low + parts l) (first + pairs l)) turns leaf)
         → (leaf < low + parts l) ⊎ (low + parts l ≤ leaf) → (turns : List Bool) × Leads f (first + pairs l + pairs r) turns leaf
     go left right (inl c) = let u = left c in (true ∷ u.0, (root_of l low first, root_of r (low + parts l) (first + pairs l), st.2, u.1))
     go left right (inr c) = let u = right c in (false ∷ u.0, (root_of l low first, root_of r (low + parts l) (first + pairs l), st.2, u.1))
@@ -82,7 +85,8 @@ kids f (two l r) low first base st a b n from to =
           right_from = root_from r (low + parts l) (first + pairs l) base (omega (arith, a)) (omega (arith, b));
         }
 
-    go : (n < first + pairs l → HasKids f base n) → (first + pairs l ≤ n → n < (first + pairs l) + pairs r → HasKids f base n) → (n < first + pairs l) ⊎ (first + pairs l ≤ n) → (n < (first + pairs l) + pairs r) ⊎ ((first + pairs l) + pairs r ≤ n) → HasKids f base n
+    go : (n < first + pairs l → HasKids f base n) → (first + pairs l ≤ n → n < (first + pairs l) + pairs r → HasKids f base n) → (n < first + pairs l) ⊎ (first + pairs l ≤ n)
+        → (n < (first + pairs l) + pairs r) ⊎ ((first + pairs l) + pairs r ≤ n) → HasKids f base n
     go left right (inl c) d = left c
     go left right (inr c) (inl d) = right c d
     go left right (inr c) (inr d) = last d
@@ -90,7 +94,9 @@ kids f (two l r) low first base st a b n from to =
 -- The pairs of a tree in order.
 pub pairs_of : Shape → ℕ → ℕ → List Pair
 pairs_of one low first = []
-pairs_of (two l r) low first = pairs_of l low first ++ (pairs_of r (low + parts l) (first + pairs l) ++ record { left = root_of l low first; right = root_of r (low + parts l) (first + pairs l) } ∷ [])
+pairs_of (two l r) low first =
+    let last : Pair = record { left = root_of l low first; right = root_of r (low + parts l) (first + pairs l) } in
+    pairs_of l low first ++ (pairs_of r (low + parts l) (first + pairs l) ++ last ∷ [])
 
 range_both : (a m n : ℕ) → range_with_len a (m + n) ≡ range_with_len a m ++ range_with_len (a + m) n
 range_both a zero n = ap (λ k. range_with_len a k) (let e : zero + n ≡ n = omega arith in e) ∙ ap (λ k. range_with_len k n) (let e : a ≡ a + zero = omega arith in e)
@@ -98,9 +104,6 @@ range_both a (suc m) n =
     ap (λ k. range_with_len a k) (let e : suc m + n ≡ suc (m + n) = omega arith in e)
     ∙ (ap (λ ks. a ∷ ks) (range_both (a + 1) m n)
     ∙ ap (λ k. a ∷ (range_with_len (a + 1) m ++ range_with_len k n)) (let e : a + 1 + m ≡ a + suc m = omega arith in e))
-
-range_one : (a : ℕ) → range_with_len a 1 ≡ a ∷ []
-range_one a = refl
 
 -- A root as many numbers higher.
 root_higher : (s : Shape) (base low first a b : ℕ) → a ≡ base + low → b ≡ base + first → root_of s a b ≡ base + root_of s low first
@@ -122,7 +125,8 @@ pairs_stand f (two l r) base low first a b p q st =
     let left = pairs_stand f l base low first a b p q st.0 in
     let right = pairs_stand f r base (low + parts l) (first + pairs l) (a + parts l) (b + pairs l) (omega (arith, p)) (omega (arith, q)) st.1 in
     let last : g (b + pairs l + pairs r) ≡ record { left = root_of l low first; right = root_of r (low + parts l) (first + pairs l) } =
-    pair_is f base (b + pairs l + pairs r) (root_of l a b) (root_of r (a + parts l) (b + pairs l)) (root_of l low first) (root_of r (low + parts l) (first + pairs l)) st.2 (root_higher l base low first a b p q) (root_higher r base (low + parts l) (first + pairs l) (a + parts l) (b + pairs l) (omega (arith, p)) (omega (arith, q))) in
+    pair_is f base (b + pairs l + pairs r) (root_of l a b) (root_of r (a + parts l) (b + pairs l)) (root_of l low first) (root_of r (low + parts l) (first + pairs l)) st.2
+    (root_higher l base low first a b p q) (root_higher r base (low + parts l) (first + pairs l) (a + parts l) (b + pairs l) (omega (arith, p)) (omega (arith, q))) in
     ap (λ k. map g (range_with_len b k)) (let e : pairs l + pairs r + 1 ≡ pairs l + (pairs r + 1) = omega arith in e)
     ∙ (ap (λ ks. map g ks) (range_both b (pairs l) (pairs r + 1))
     ∙ (map-append g (range_with_len b (pairs l)) (range_with_len (b + pairs l) (pairs r + 1))
@@ -183,7 +187,8 @@ has_is (two l r) low first k =
     let d = within_both low (parts l) (parts r) k in
     let e = within_both first (pairs l) (pairs r + 1) k in
     let f = within_both (first + pairs l) (pairs r) 1 k in
-    let g : within first (pairs l + pairs r + 1) k ≡ within first (pairs l + (pairs r + 1)) k = ap (λ n. within first n k) (let h : pairs l + pairs r + 1 ≡ pairs l + (pairs r + 1) = omega arith in h) in
+    let h : pairs l + pairs r + 1 ≡ pairs l + (pairs r + 1) = omega arith in
+    let g : within first (pairs l + pairs r + 1) k ≡ within first (pairs l + (pairs r + 1)) k = ap (λ n. within first n k) h in
     omega (arith, a, b, c, d, e, f, g)
 
 -- Where the pairs come right after the leaves, each node but the last one is named exactly once.

@@ -1,6 +1,6 @@
 -- A walk over the combinations of an eager run from the first one on, by a stack of numbers: it comes to each combination at most
 -- once, since each is a half of one other at most.
-use Rattle.std.proofs.Common.{◌≡◌, ℕ, suc, zero, ◌+◌, ◌≤◌, ◌<◌, ◌⊎◌, Bool, true, false, cond, Some, List, [], ◌∷◌, ◌++◌, length, refl, sym, ap, ◌∙◌, subst, inl, inr, arith, eqb}
+use Rattle.std.proofs.Common.{◌≡◌, ℕ, suc, zero, ◌+◌, ◌≤◌, ◌<◌, ◌⊎◌, true, false, cond, Some, List, [], ◌∷◌, ◌++◌, length, refl, sym, ap, subst, inl, inr, arith, eqb}
 use Rattle.std.specs.Prelude.{slice_get, ◌||◌}
 use Rattle.std.specs.List.{list_any, IsDistinct, AllByRecursion}
 use Rattle.std.proofs.lemmas.Bool.Decides.{eqb_tells}
@@ -109,7 +109,8 @@ module _ (cs : List Combination) (rest : List ℕ) (id k : ℕ) (v : IsVisit cs 
   later_owned n o = record { owner = o.owner; combination = o.combination; at = o.at; half = o.half; before = let h : 1 ≤ times o.owner v.visited = o.before in omega arith }
 
   old_origin : (n : ℕ) → 1 ≤ times n (id ∷ v.visited) + times n rest → (n ≡ 0) ⊎ IsOwned cs (id ∷ v.visited) n
-  old_origin n h = elim (v.origin n (let e : times n (id ∷ v.visited) + times n rest ≡ times n v.visited + times n (rest ++ id ∷ []) = moved n in omega arith)) as (λ _. (n ≡ 0) ⊎ IsOwned cs (id ∷ v.visited) n) [ inl e ↦ inl e | inr o ↦ inr (later_owned n o) ]
+  old_origin n h =
+      elim (v.origin n (omega (arith, moved n, h))) as (λ _. (n ≡ 0) ⊎ IsOwned cs (id ∷ v.visited) n) [ inl e ↦ inl e | inr o ↦ inr (later_owned n o) ]
 
   old_once : (n : ℕ) → times n (id ∷ v.visited) + times n rest ≤ 1
   old_once n = omega (arith, moved n, v.once n)
@@ -155,7 +156,7 @@ module _ (cs : List Combination) (rest : List ℕ) (id k : ℕ) (v : IsVisit cs 
 
         seen : 1 ≤ times n (id ∷ v.visited) + times n rest → ⊥
         seen some =
-            elim (v.origin n (let e : times n (id ∷ v.visited) + times n rest ≡ times n v.visited + times n (rest ++ id ∷ []) = moved n in omega arith)) as (λ _. ⊥) [ inl e ↦ absurd (omega (arith, e, lt)) | inr o ↦ owned o ]
+            elim (v.origin n (omega (arith, moved n, some))) as (λ _. ⊥) [ inl e ↦ absurd (omega (arith, e, lt)) | inr o ↦ owned o ]
 
     sum_is : (n : ℕ) → times n (id ∷ v.visited) + times n (rest ++ right ∷ left ∷ []) ≡ (times n (id ∷ v.visited) + times n rest) + one n right + one n left
     sum_is n = let e : times n (rest ++ right ∷ left ∷ []) ≡ times n rest + (one n right + (one n left + 0)) = times_join n rest (right ∷ left ∷ []) in omega arith

@@ -1,5 +1,5 @@
 -- The items of a vertex's proof, said of the nodes of a forest.
-use Rattle.std.specs.Prelude.{◌≡◌, ℕ, ◌<◌, Option, None, Some, List, [], ◌∷◌, ◌++◌, length, slice_get, slice_set, false, All}
+use Rattle.std.specs.Prelude.{◌≡◌, ℕ, None, Some, List, [], ◌∷◌, ◌++◌, length, slice_get, slice_set, false, All}
 use Rattle.drt_steps.specs.Time.{IsLeastTime, Passes}
 use Rattle.drt_tree.specs.Tree.{Plain, children}
 use Rattle.drt_worklist.specs.Places.{first}

@@ -1,5 +1,5 @@
 -- How far an analysis under fixed priorities has come.
-use Rattle.std.specs.Prelude.{◌≡◌, ℕ, ◌*◌, ◌≤◌, ◌<◌, List, [], ◌∷◌, length, map, take, All, Some, slice_get, slice_index_or}
+use Rattle.std.specs.Prelude.{◌≡◌, ℕ, ◌+◌, ◌*◌, ◌≤◌, ◌<◌, List, [], ◌∷◌, length, map, take, All, Some, slice_get, slice_index_or}
 use Rattle.drt_model.specs.Constrained.{AreConstrained}
 use Rattle.drt_model.specs.Contents.{Contents}
 use Rattle.drt_model.specs.Digraph.{Digraph, vertex_count}
@@ -64,3 +64,12 @@ pub record AreProved (tasks : List Task) (order : List ℕ) (m : ℕ) (trees : L
   pub count : length rows ≡ length tasks
   pub passed : FirstPass tasks order m
   pub each : (i k : ℕ) → i < m → slice_get order i ≡ Some k → AreProofsAt tasks order i k trees (slice_index_or rows k [])
+
+-- The trees of all tasks but the last one of an order, and the proofs of all.
+pub record IsComplete (tasks : List Task) (f : Plain) (roots : List ℕ) (trees : List TreeClaim) (rows : List (List ProofClaim)) : Type 0 where
+  pub order : List ℕ
+  pub order_is : IsOrder tasks order
+  pub last : ℕ
+  pub whole : last + 1 ≡ length order
+  pub grown : AreGrown tasks order last f roots trees
+  pub proved : AreProved tasks order (length order) trees rows

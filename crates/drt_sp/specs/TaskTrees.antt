@@ -1,13 +1,8 @@
 -- How a search of a task's walks becomes a tree of the forest and a claim.
-use Rattle.std.specs.Prelude.{◌≡◌, ℕ, zero, suc, ◌+◌, ◌-◌, ◌*◌, ◌≤◌, ◌⊎◌, Option, None, Some, List, [], ◌∷◌, ◌++◌, length, map, slice_get, All, Any, false}
+use Rattle.std.specs.Prelude.{◌≡◌, ℕ, ◌+◌, ◌-◌, ◌*◌, ◌≤◌, Option, None, Some, List, ◌∷◌, length, map, slice_get, All, Any}
 use Rattle.std.specs.List.{range_with_len}
 use Rattle.drt_model.specs.Digraph.{Digraph}
-use Rattle.drt_request.specs.Request.{Request, request_algebra}
 use Rattle.drt_steps.specs.Values.{value_at}
-use Rattle.drt_table.specs.Cover.{KeptAt}
-use Rattle.drt_table.specs.Machine.{Setting}
-use Rattle.drt_table.specs.Node.{NodeOf, is_kept}
-use Rattle.drt_table.specs.Walk.{IsWalkOf}
 use Rattle.drt_tree.specs.Tree.{Plain, Grows, children, leaves, walk}
 use Rattle.drt_tree.specs.declared.leaf.Leaf.{Leaf}
 use Rattle.drt_choices.specs.Choices.{StandsFor}
@@ -18,18 +13,6 @@ use Rattle.drt_sp.specs.TreeClaims.{HaveOneLabel, IsClaimOf, IsNonDominated, IsS
 use Rattle.drt_sp.specs.declared.trees.TaskTree.{TaskTree}
 use Rattle.drt_sp.specs.declared.trees.TreeSearch.{TreeSearch}
 use Rattle.drt_sp.specs.declared.trees.TreeSearch.TheVariants.{Spent, Tree}
-
--- The leaf has the function of the node's label, and a walk of the search with that label.
-pub record IsLeafOfNode (t : Setting) (n : NodeOf Request) (l : Leaf) : Type 0 where
-  pub steps : l.steps ≡ n.label.values
-  pub walk : IsWalkOf request_algebra t l.walk n.label
-
--- The leaves of the kept ones of the first nodes, in order.
-abbrev pub AreGathered : Setting → List (NodeOf Request) → ℕ → List Leaf → Type 0
-AreGathered t nodes zero ls = ls ≡ []
-AreGathered t nodes (suc i) ls =
-    ((n : NodeOf Request) × (slice_get nodes i ≡ Some n) × (is_kept n ≡ false) × AreGathered t nodes i ls)
-    ⊎ ((n : NodeOf Request) × (l : Leaf) × (before : List Leaf) × KeptAt request_algebra t nodes i n × IsLeafOfNode t n l × (ls ≡ before ++ l ∷ []) × AreGathered t nodes i before)
 
 -- The walk spans less than the bound, and the function is what it asks for.
 pub record IsWalkLeaf (bound : ℕ) (g : Digraph) (l : Leaf) : Type 0 where

@@ -32,8 +32,8 @@ pub fn analyse_fixed(
     ensures { IfOk result (IsAnswer set.now budget) }
 {
     let _tasks = set.tasks();
-    let order = priority_order(alloc, set)?;
-    let order = order.as_slice();
+    let ranked = priority_order(alloc, set)?;
+    let order = ranked.as_slice();
     let mut progress = Progress::start(alloc, set, order)?;
     let last = order.len() - 1;
     'places: for place in 0..last {
@@ -47,7 +47,7 @@ pub fn analyse_fixed(
     match progress.prove_task(alloc, set, graphs, order, last, budget)? {
         Some(answer) => Ok(answer),
         None => {
-            let evidence = progress.evidence(alloc, set, graphs, order, budget)?;
+            let evidence = progress.evidence(alloc, set)?;
             Ok(FixedAnswer::Done(evidence))
         }
     }

@@ -1,5 +1,5 @@
 //! The greatest deadline of a set.
-ghost use Rattle.std.specs.Prelude.{◌≡◌, ◌≤◌};
+ghost use Rattle.std.specs.Prelude.{◌≡◌, ◌≤◌, max};
 ghost use Rattle.drt_evidence.specs.Trees.{greatest_deadline, latest_deadline};
 
 use drt_model::{TaskSet, Vertex};
@@ -12,7 +12,7 @@ pub(crate) fn greatest_deadline(set: &TaskSet) -> u64
 {
     let mut greatest = 0;
     for task in set.tasks() {
-        greatest = greatest.max(latest_deadline(task.vertices.as_slice()));
+        greatest = larger(greatest, latest_deadline(task.vertices.as_slice()));
     }
     u64::from(greatest)
 }
@@ -23,7 +23,14 @@ fn latest_deadline(vertices: &[Vertex]) -> u32
 {
     let mut latest = 0;
     for vertex in vertices {
-        latest = latest.max(vertex.deadline);
+        latest = larger(latest, vertex.deadline);
     }
     latest
+}
+
+// The larger of two numbers.
+fn larger(a: u32, b: u32) -> u32
+    ensures { result ≡ max a b }
+{
+    if a < b { b } else { a }
 }

@@ -1,12 +1,10 @@
 //! The tasks in order of priority.
 ghost use Rattle.std.specs.Prelude.{◌≡◌, IfOk};
-ghost use Rattle.std.specs.Ordering.{nat_cmp};
 ghost use Rattle.drt_busy.specs.Choice.{task_at};
 ghost use Rattle.drt_choices.specs.Choices.{IsOrder};
 
 use drt_model::{Memory, Task, TaskSet};
 use std::alloc::Global;
-use std::cmp::Ordering;
 
 /// The numbers of the tasks in order of priority, the highest (the least number) first.
 pub(crate) fn priority_order(alloc: Global, set: &TaskSet) -> Result<Vec<u32>, Memory>
@@ -17,10 +15,10 @@ pub(crate) fn priority_order(alloc: Global, set: &TaskSet) -> Result<Vec<u32>, M
     for k in 0..tasks.len() {
         order.push(k as u32)?;
     }
-    order.sort_by(
-        |j: &u32, k: &u32| -> Ordering
-            ensures { result ≡ nat_cmp (task_at tasks j.now).priority (task_at tasks k.now).priority }
-        { priority_at(tasks, *j).cmp(&priority_at(tasks, *k)) },
+    order.sort_by_key(
+        |k: &u32| -> u32
+            ensures { result ≡ (task_at tasks.entry.now k.now).priority }
+        { priority_at(tasks, *k) },
     )?;
     Ok(order)
 }

@@ -1,9 +1,10 @@
 //! How far an analysis has come.
 ghost use Rattle.std.specs.Prelude.{◌≡◌, ℕ, ◌+◌, ◌<◌, length, IfOk, MatchOption};
 ghost use Rattle.std.specs.List.{flat_map};
+ghost use Rattle.drt_model.specs.Constrained.{AreConstrained};
 ghost use Rattle.drt_evidence.specs.Ranges.{IsInRange};
 ghost use Rattle.drt_sp.specs.Answers.{IsAnswer, IsVerdict};
-ghost use Rattle.drt_sp.specs.Progress.{AreGrown, AreProved, IsGiven};
+ghost use Rattle.drt_sp.specs.Progress.{AreGrown, AreProved, IsComplete, IsGiven};
 
 use crate::answer::{FixedAnswer, FixedTrail};
 use crate::deadlines::greatest_deadline;
@@ -70,6 +71,7 @@ impl Progress {
         times_suffice_for_task();
         let _tasks = set.tasks();
         let _count = graphs.count();
+        self.forest.show_sound();
         let task = order[place];
         let graph = graphs.graph(task);
         match prove_vertices(alloc, &self.forest, self.roots.as_slice(), task, graph, budget)? {
@@ -110,6 +112,7 @@ impl Progress {
         times_suffice_for_task();
         let _tasks = set.tasks();
         let _count = graphs.count();
+        self.forest.show_sound();
         let task = order[place];
         let graph = graphs.graph(task);
         let bound = greatest_deadline(set);
@@ -127,17 +130,9 @@ impl Progress {
     }
 
     /// The evidence of a yes, with the proofs in file order.
-    pub(crate) fn evidence(
-        self,
-        alloc: Global,
-        set: &TaskSet,
-        graphs: &Graphs,
-        order: &[u32],
-        budget: u64,
-    ) -> Result<Evidence, Memory>
-        requires given { IsGiven set.now graphs.now order.now budget }
-        requires grown { (last : ℕ) × (last + 1 ≡ length order.now) × AreGrown set.now.tasks order.now last self.forest self.roots.items self.trees.items }
-        requires proved { AreProved set.now.tasks order.now (length order.now) self.trees.items self.proofs.items }
+    pub(crate) fn evidence(self, alloc: Global, set: &TaskSet) -> Result<Evidence, Memory>
+        requires constrained { AreConstrained set.now.tasks }
+        requires complete { IsComplete set.now.tasks self.forest self.roots.items self.trees.items self.proofs.items }
         ensures verdict { IfOk result (IsVerdict set.now) }
         ensures range { IfOk result IsInRange }
     {

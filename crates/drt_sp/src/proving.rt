@@ -53,7 +53,7 @@ pub(crate) fn prove_vertex(
     match frontier.drive(forest, WORKER) {
         FrontierReply::Finished => Ok(VertexProof::Passes(items_of(alloc, forest, &frontier)?)),
         FrontierReply::Failed(id) => Ok(VertexProof::Fails(tuple_of(alloc, &frontier, id)?)),
-        FrontierReply::Spent => Ok(VertexProof::Spent(log_of(alloc, &frontier)?)),
+        FrontierReply::Spent => Ok(VertexProof::Spent(Row::from_vec(frontier.into_log()))),
         FrontierReply::Taken(_) => unreachable!(),
         FrontierReply::Busy(_) => unreachable!(),
         FrontierReply::Passed => unreachable!(),
@@ -106,15 +106,5 @@ fn tuple_of(alloc: Global, frontier: &Frontier, id: u32) -> Result<Row<u32>, Mem
     requires { id < length frontier.now.combinations }
     ensures { IfOk result (λ tuple. (c : Combination) → slice_get frontier.now.combinations id ≡ Some c → tuple ≡ c.nodes) }
 {
-    Ok(Row::from_vec(Vec::from_slice(
-        alloc,
-        frontier.combination(id),
-    )?))
-}
-
-// A copy of the log.
-fn log_of(alloc: Global, frontier: &Frontier) -> Result<Row<FrontierEntry>, Memory>
-    ensures { IfOk result (λ log. log ≡ frontier.now.log) }
-{
-    Ok(Row::from_vec(Vec::from_slice(alloc, frontier.log())?))
+    Ok(Row::from_vec(Vec::from_slice(alloc, frontier.combination(id))?))
 }

@@ -3,7 +3,8 @@ ghost use Rattle.std.specs.Prelude.{◌≡◌, ◌+◌, ◌≤◌, IfOk, length}
 ghost use Rattle.drt_tree.specs.Leaf.{leaves_of};
 ghost use Rattle.drt_request.specs.Request.{request_algebra};
 ghost use Rattle.drt_table.specs.View.{IsTable, setting_of, state_of};
-ghost use Rattle.drt_sp.specs.TaskTrees.{AreGathered};
+ghost use Rattle.drt_table.specs.Cover.{IsFront};
+ghost use Rattle.drt_sp.specs.TaskTrees.{AreWalkLeaves};
 
 use drt_model::{Memory, Row};
 use drt_request::RequestLabel;
@@ -18,12 +19,13 @@ pub(crate) struct Leaves {
     pub(crate) walks: Vec<Row<u32>>,
 }
 
-/// The leaves of the kept nodes of a search, in order of nodes. The labels are those of the table, which ends here.
+/// The leaves of a finished search, in order of its kept nodes. The labels are those of the table, which ends here.
 pub(crate) fn gather(alloc: Global, table: Table<RequestLabel>) -> Result<Leaves, Memory>
+    requires front { IsFront request_algebra (setting_of table) (state_of table).nodes }
     ensures table { IsTable request_algebra table }
     ensures same { IfOk result (λ leaves. length leaves.labels.items ≡ length leaves.walks.items) }
     ensures few { IfOk result (λ leaves. length leaves.labels.items ≤ length table.nodes) }
-    ensures gathered { IfOk result (λ leaves. AreGathered (setting_of table) (state_of table).nodes (length table.nodes) (leaves_of leaves.labels.items leaves.walks.items)) }
+    ensures leaves { IfOk result (λ leaves. AreWalkLeaves table.bound table.graph (leaves_of leaves.labels.items leaves.walks.items)) }
 {
     let _log = table.log();
     let mut labels = Vec::new(alloc);

@@ -1,9 +1,8 @@
-use Rattle.std.proofs.Common.{◌≡◌, ℕ, ◌<◌, Option, Some, None, List, length, refl, sym, ap, ◌∙◌, arith}
+use Rattle.std.proofs.Common.{◌≡◌, Option, Some, None, length, refl, sym, ap, ◌∙◌, arith}
 use Rattle.std.specs.Prelude.{slice_get, IfSome}
 use Rattle.std.proofs.lemmas.Option.{same_Some}
 use Rattle.drt_refine.specs.Combination.{Combination}
-use Rattle.drt_refine.specs.View.{View, combinations_of}
-use Rattle.drt_refine.specs.declared.step.CombinationState.{CombinationState}
+use Rattle.drt_refine.specs.View.{View}
 use Rattle.drt_refine.proofs.Flat.{CombinationAt, combination_at, length_combinations}
 use Rattle.drt_refine.proofs.frontier.Frontier.state.Goals as goal
 
@@ -13,7 +12,8 @@ if_some (Some x) P h = h x refl
 
 pub at-requires : goal.at-requires
 at-requires c =
-    let n : length c.self.inside.states.items ≡ length c.args.self.now.combinations = sym (length_combinations (length c.self.inside.roots.items) c.self.inside.nodes.items c.self.inside.states.items) ∙ ap (λ (v : View). length v.combinations) c.self.view_is in
+    let n : length c.self.inside.states.items ≡ length c.args.self.now.combinations
+    = sym (length_combinations (length c.self.inside.roots.items) c.self.inside.nodes.items c.self.inside.states.items) ∙ ap (λ (v : View). length v.combinations) c.self.view_is in
     omega (arith, c.requires)
 
 pub returns : goal.returns

@@ -2,7 +2,7 @@
 use Rattle.std.proofs.Common.{◌≡◌, ◌≤◌, length}
 use Rattle.drt_table.specs.View.{setting_of, state_of}
 use Rattle.drt_tree.specs.Leaf.{leaves_of}
-use Rattle.drt_sp.specs.TaskTrees.{AreGathered}
+use Rattle.drt_sp.proofs.TreeLeaves.{AreGathered}
 use Rattle.drt_sp.proofs.trees.gathering.gather.Given as goal
 
 abbrev pub invariant-nodes : goal.invariant-nodes
