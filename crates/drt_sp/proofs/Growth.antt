@@ -10,7 +10,7 @@ use Rattle.drt_model.specs.Walk.{deadline, wcet}
 use Rattle.drt_model.specs.declared.tasks.Task.{Task}
 use Rattle.drt_busy.specs.Choice.{graph_at, no_task, task_at}
 use Rattle.drt_graph.specs.Graphs.{no_graph}
-use Rattle.drt_tree.specs.Tree.{Grows, IsForest, Plain}
+use Rattle.drt_tree.specs.Tree.{Grows, IsForest, Plain, leaves}
 use Rattle.drt_refine.specs.Below.{AreNodes}
 use Rattle.drt_choices.specs.Choices.{AreTrees, FirstPass, IsOrder, StandsFor}
 use Rattle.drt_evidence.specs.Claims.{Each}
@@ -23,6 +23,7 @@ use Rattle.drt_sp.specs.Items.{AreItems}
 use Rattle.drt_sp.specs.Progress.{AreGrown, AreProofsAt, AreProved, IsProofAt, first_graphs}
 use Rattle.drt_sp.specs.TreeClaims.{IsClaimOf, IsTreeOf}
 use Rattle.drt_sp.specs.Vertices.{AreVertexProofs, IsProvedVertex}
+use Rattle.drt_sp.proofs.FewWalks.{more_few, none_few}
 use Rattle.drt_sp.proofs.TreesGrow.{claim_on, stands_for_on}
 use Rattle.drt_sp.proofs.Orders.{order_below, order_once}
 use Rattle.drt_sp.proofs.Passing.{claimed_nodes}
@@ -70,19 +71,23 @@ trees_push tasks bound f (j ∷ order) (r ∷ roots) k root at are is = (are.0, 
 -- One more tree.
 pub grown_more : (tasks : List Task) (order : List ℕ) (m k : ℕ) → slice_get order m ≡ Some k → (f g : Plain) (roots : List ℕ) (trees : List TreeClaim)
     → AreGrown tasks order m f roots trees → IsForest f → Grows f g → All (λ (xs : List ℕ). length xs ≡ greatest_deadline tasks) g.pool → length g.nodes ≤ length f.nodes + 2000192
-    → (low top : ℕ) (claim : TreeClaim) → StandsFor (graph_at tasks k) (greatest_deadline tasks) g top → IsClaimOf (graph_at tasks k) (greatest_deadline tasks) g low top claim
+    → (low top : ℕ) (claim : TreeClaim) → StandsFor (graph_at tasks k) (greatest_deadline tasks) g top → leaves g top ≡ length claim.walks
+    → IsClaimOf (graph_at tasks k) (greatest_deadline tasks) g low top claim
     → IsTreeOf (greatest_deadline tasks) (graph_at tasks k) claim → IsInRangeTree claim → AreGrown tasks order (m + 1) g (roots ++ top ∷ []) (trees ++ claim ∷ [])
-grown_more tasks order m k at f g roots trees grown forest grows bounds few low top claim stands is tree range =
+grown_more tasks order m k at f g roots trees grown forest grows bounds few low top claim stands leaf_count is tree range =
     let bound : ℕ = greatest_deadline tasks in
     let graphs = graphs_more tasks order m k at in
     let claims : AreClaimsOf bound g (first_graphs tasks order m ++ graph_at tasks k ∷ []) (grown.lows ++ low ∷ []) (roots ++ top ∷ []) (trees ++ claim ∷ [])
     = claims_push bound g (graph_at tasks k) low top claim is (first_graphs tasks order m) grown.lows roots trees (claims_stay bound f g grows (first_graphs tasks order m) grown.lows roots trees forest grown.claimed) in
-    let stay : AreTrees tasks order bound g roots = trees_stay tasks bound f g grows forest order roots (claimed_nodes bound f (first_graphs tasks order m) grown.lows roots trees grown.claimed) grown.stand in
+    let nodes = claimed_nodes bound f (first_graphs tasks order m) grown.lows roots trees grown.claimed in
+    let stay : AreTrees tasks order bound g roots = trees_stay tasks bound f g grows forest order roots nodes grown.stand in
+    let here : slice_get order (length roots) ≡ Some k = ap (slice_get order) grown.count ∙ at in
     record {
       count = omega (arith, grown.count, length_push roots top);
       one_bound = bounds;
       few = omega (arith, few, grown.few);
-      stand = trees_push tasks bound g order roots k top (ap (slice_get order) grown.count ∙ at) stay stands;
+      stand = trees_push tasks bound g order roots k top here stay stands;
+      few_leaves = more_few tasks order f g roots k top claim here nodes grows tree leaf_count grown.few_leaves;
       lows = grown.lows ++ low ∷ [];
       claimed = subst (λ gs. AreClaimsOf bound g gs (grown.lows ++ low ∷ []) (roots ++ top ∷ []) (trees ++ claim ∷ [])) (sym graphs) claims;
       exact = subst (λ gs. Each (IsTreeOf bound) gs (trees ++ claim ∷ [])) (sym graphs) (each_push (IsTreeOf bound) (first_graphs tasks order m) trees (graph_at tasks k) claim grown.exact tree);
@@ -103,6 +108,7 @@ none_grown tasks order f roots trees nodes pool roots_none trees_none =
       one_bound = subst (λ xs. All (λ (ys : List ℕ). length ys ≡ greatest_deadline tasks) xs) (sym pool) (All-nil (λ (ys : List ℕ). length ys ≡ greatest_deadline tasks));
       few = omega (arith, ap length nodes);
       stand = tt;
+      few_leaves = none_few tasks order f;
       lows = [];
       claimed = tt;
       exact = tt;

@@ -1,6 +1,11 @@
 pub mod EvidenceLemmas
 pub mod Lateness
 pub mod Rising
+pub mod FewWalks
+pub mod Products
+pub mod EnoughSearches
+pub mod EnoughRefinements
+pub mod Enough
 pub mod Orders
 pub mod GreatestDeadline
 pub mod Chosen

@@ -112,13 +112,16 @@ module _ (tasks : List Task) (order : List ℕ) (order_is : IsOrder tasks order)
 
 -- Where an analysis stands at a vertex whose earlier ones pass.
 pub reached_at : (set : Contents) (order : List ℕ) → IsOrder set.tasks order → IsTaskSet set.version set.tasks → AreConstrained set.tasks → TimesSufficeForTask → LeavesPass
-    → (m k v : ℕ) → slice_get order m ≡ Some k → (f : Plain) (roots : List ℕ) (trees : List TreeClaim) → AreGrown set.tasks order m f roots trees → FirstPass set.tasks order m
+    → (m k v : ℕ) → slice_get order m ≡ Some k → (f : Plain) (roots : List ℕ) (trees : List TreeClaim) → IsForest f
+    → AreGrown set.tasks order m f roots trees → FirstPass set.tasks order m
     → v < vertex_count (graph_at set.tasks k) → ((u : ℕ) → u < v → TuplesPass f roots (graph_at set.tasks k) u) → IsReached set order f roots k v
-reached_at set order order_is limits constrained suffice pass m k v at f roots trees grown first l earlier = record {
+reached_at set order order_is limits constrained suffice pass m k v at f roots trees forest grown first l earlier = record {
   task = task_below set.tasks order order_is m k at;
   nodes = claimed_nodes (greatest_deadline set.tasks) f _ grown.lows roots trees grown.claimed;
   posed = posed_at set.tasks order order_is set.version m k limits at f roots trees grown v l;
   passed = subst (FirstPass set.tasks order) (sym grown.count) first;
   higher = higher_meet set.tasks order order_is set.version suffice limits constrained m k first at;
   earlier = λ u less. vertex_passes set.tasks order order_is set.version m k limits at f roots trees grown pass u (omega (arith, less, l)) (earlier u less);
+  forest = forest;
+  few = grown.few_leaves;
 }

@@ -17,7 +17,7 @@ use Rattle.drt_graph.proofs.Paths.{path_both, path_within, span_both, span_cons,
 use Rattle.drt_steps.specs.Values.{value_at}
 use Rattle.drt_busy.specs.Choice.{IsWalk, request_of}
 use Rattle.drt_tree.specs.Shape.{Shape, parts as leaf_count, pairs as pair_count, root_of, IsAdded}
-use Rattle.drt_tree.specs.Tree.{Plain, IsForest, IsPair, IsUnder, Leads, children, children_of, values, walk, walk_of, leaf_node, leaf_steps, with_leaves}
+use Rattle.drt_tree.specs.Tree.{Plain, IsForest, IsPair, IsUnder, Leads, children, children_of, leaves, values, walk, walk_of, leaf_node, leaf_steps, with_leaves}
 use Rattle.drt_tree.specs.declared.leaf.Leaf.{Leaf}
 use Rattle.drt_tree.proofs.Trees.{get_front, grows_on, index_front, leaves_grow, with_long}
 use Rattle.drt_choices.specs.Choices.{StandsFor, cut_from}
@@ -512,6 +512,7 @@ module _ (f h : Plain) (ls : List Leaf) (top : ℕ) (old : IsForest f) (added : 
           functions = all_functions some;
           room = (let l = long in omega (arith, l, c, few));
           stands = subst (λ n. StandsFor g bound h n) (sym is_top) (stands_for some);
+          count = ap (λ n. leaves h n) is_top ∙ (added.built.count_is ∙ sym (ap length ws ∙ length-map-range_with_len (λ k. walk h k) t.low (length ls)));
           claim =
               subst (λ n. IsClaimOf g bound h n t.top t.claim) (sym is_low)
               (subst (λ n. IsClaimOf g bound h low n t.claim) (sym is_top) (subst (λ x. IsClaimOf g bound h low top x) claim (written_claim s)));

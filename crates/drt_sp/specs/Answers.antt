@@ -11,7 +11,7 @@ use Rattle.drt_model.specs.Schedulable.{Schedulable, jobs_of}
 use Rattle.drt_model.specs.Trace.{job_at, Misses}
 use Rattle.drt_model.specs.Walk.{deadline, wcet}
 use Rattle.drt_busy.specs.Choice.{graph_at, task_at}
-use Rattle.drt_tree.specs.Tree.{Plain}
+use Rattle.drt_tree.specs.Tree.{IsForest, Plain}
 use Rattle.drt_refine.specs.Below.{AreNodes}
 use Rattle.drt_refine.specs.declared.step.FrontierEntry.{FrontierEntry}
 use Rattle.drt_table.specs.declared.step.Entry.{Entry}
@@ -29,6 +29,7 @@ use Rattle.drt_evidence.specs.declared.evidence.TreeClaim.{TreeClaim}
 use Rattle.drt_sp.specs.Claims.{IsEagerProof}
 use Rattle.drt_sp.specs.Evidence.{under_fixed}
 use Rattle.drt_sp.specs.Items.{IsFailure, IsSpentRefinement}
+use Rattle.drt_sp.specs.Needs.{AreFewLeaves}
 use Rattle.drt_sp.specs.TreeClaims.{IsSpentSearch, IsTreeOf}
 use Rattle.drt_sp.specs.declared.answer.FixedAnswer.{FixedAnswer}
 use Rattle.drt_sp.specs.declared.answer.FixedAnswer.TheVariants as answers
@@ -53,8 +54,8 @@ pub record IsExactYes (set : Contents) (trees : List TreeClaim) (proofs : List P
   pub exact : Each (IsTreeOf (greatest_deadline set.tasks)) (tree_graphs set.tasks trees) trees
   pub eager : All (IsEagerProof set.tasks trees) proofs
 
--- Where an analysis stands at a vertex: trees of a forest stand for the walks of the tasks of higher priority, each of whose vertices
--- passes, so that none of their jobs misses; and each earlier vertex of its task passes.
+-- Where an analysis stands at a vertex: trees of a forest stand for the walks of the tasks of higher priority, with no more leaves than
+-- there are walks; each vertex of those tasks passes, so that none of their jobs misses; and each earlier vertex of its task passes.
 pub record IsReached (set : Contents) (order : List ℕ) (f : Plain) (roots : List ℕ) (k v : ℕ) : Type 0 where
   pub task : k < length set.tasks
   pub nodes : AreNodes f roots
@@ -62,6 +63,8 @@ pub record IsReached (set : Contents) (order : List ℕ) (f : Plain) (roots : Li
   pub passed : FirstPass set.tasks order (length roots)
   pub higher : HigherMeetDeadlines set.tasks k
   pub earlier : (u : ℕ) → u < v → VertexPasses set.tasks k u
+  pub forest : IsForest f
+  pub few : AreFewLeaves set.tasks order f roots
 
 -- The vertex that was reached is the first that fails: no time passes for it and the tuple of leaves.
 pub record IsFailedVertex (set : Contents) (order : List ℕ) (f : Plain) (k v : ℕ) (tuple : List ℕ) : Type 0 where

@@ -1,6 +1,8 @@
 pub mod Evidence
 pub mod OneTask
 pub mod TreeClaims
+pub mod Needs
+pub mod Laws
 pub mod Items
 pub mod TaskTrees
 pub mod Claims

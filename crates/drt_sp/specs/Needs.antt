@@ -1,9 +1,10 @@
 -- How large a budget is enough, by the numbers of the tasks' walks. Nothing computes these numbers.
-use Rattle.std.specs.Prelude.{◌≡◌, ℕ, zero, suc, ◌+◌, ◌*◌, ◌<◌, ◌≤◌, nat_lt, if◌then◌else◌, max, List, [], ◌∷◌, length, Contains}
+use Rattle.std.specs.Prelude.{◌≡◌, ℕ, zero, suc, ◌+◌, ◌*◌, ◌<◌, ◌≤◌, nat_lt, if◌then◌else◌, max, Some, List, [], ◌∷◌, length, Contains, slice_get}
 use Rattle.drt_model.specs.declared.tasks.Task.{Task}
 use Rattle.drt_model.specs.declared.tasks.Edge.{Edge}
 use Rattle.drt_model.specs.Digraph.{Digraph}
 use Rattle.drt_busy.specs.Choice.{graph_at, task_at}
+use Rattle.drt_tree.specs.Tree.{Plain, leaves}
 use Rattle.drt_evidence.specs.Trees.{IsShortWalk, greatest_deadline}
 
 -- The greatest number of edges out of a vertex.
@@ -14,6 +15,12 @@ most_out (row ∷ rows) = max (length row) (most_out rows)
 -- No more than n walks of the graph span less than the bound: a list of n walks has each of them.
 abbrev pub HasAtMost : ℕ → Digraph → ℕ → Type 0
 HasAtMost bound g n = (walks : List (List ℕ)) × (length walks ≡ n) × ((w : List ℕ) → IsShortWalk bound g w → Contains walks w)
+
+-- The tree at each place has no more leaves than walks of the task at that place of the order span less than the greatest deadline.
+abbrev pub AreFewLeaves : List Task → List ℕ → Plain → List ℕ → Type 0
+AreFewLeaves tasks order f roots =
+    (i k root n : ℕ) → slice_get order i ≡ Some k → slice_get roots i ≡ Some root → HasAtMost (greatest_deadline tasks) (graph_at tasks k) n
+    → leaves f root ≤ n
 
 -- The product of the numbers of those of the first n tasks that have a higher priority than p (a lower number).
 unfoldable pub product_above : List Task → (ℕ → ℕ) → ℕ → ℕ → ℕ

@@ -15,6 +15,7 @@ use Rattle.drt_evidence.specs.declared.evidence.ProofClaim.{ProofClaim}
 use Rattle.drt_evidence.specs.declared.evidence.TreeClaim.{TreeClaim}
 use Rattle.drt_sp.specs.Claims.{AreClaimsOf}
 use Rattle.drt_sp.specs.Items.{AreItems}
+use Rattle.drt_sp.specs.Needs.{AreFewLeaves}
 use Rattle.drt_sp.specs.TreeClaims.{IsTreeOf}
 use Rattle.drt_sp.specs.Vertices.{subject_of, subjects}
 
@@ -36,6 +37,7 @@ pub record AreGrown (tasks : List Task) (order : List ℕ) (m : ℕ) (f : Plain)
   pub one_bound : All (λ (xs : List ℕ). length xs ≡ greatest_deadline tasks) f.pool
   pub few : length f.nodes ≤ m * 2000192
   pub stand : AreTrees tasks order (greatest_deadline tasks) f roots
+  pub few_leaves : AreFewLeaves tasks order f roots
   pub lows : List ℕ
   pub claimed : AreClaimsOf (greatest_deadline tasks) f (first_graphs tasks order m) lows roots trees
   pub exact : Each (IsTreeOf (greatest_deadline tasks)) (first_graphs tasks order m) trees

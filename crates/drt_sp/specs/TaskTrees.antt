@@ -3,7 +3,7 @@ use Rattle.std.specs.Prelude.{◌≡◌, ℕ, ◌+◌, ◌-◌, ◌*◌, ◌≤�
 use Rattle.std.specs.List.{range_with_len}
 use Rattle.drt_model.specs.Digraph.{Digraph}
 use Rattle.drt_steps.specs.Values.{value_at}
-use Rattle.drt_tree.specs.Tree.{Plain, Grows, children, walk}
+use Rattle.drt_tree.specs.Tree.{Plain, Grows, children, leaves, walk}
 use Rattle.drt_tree.specs.declared.leaf.Leaf.{Leaf}
 use Rattle.drt_choices.specs.Choices.{StandsFor}
 use Rattle.drt_evidence.specs.Ranges.{IsInRangeTree}
@@ -46,6 +46,7 @@ pub record IsTaskTree (g : Digraph) (bound : ℕ) (old new : Plain) (tree : Task
   pub functions : All (λ xs. length xs ≡ bound) new.pool
   pub room : length new.nodes ≤ length old.nodes + 2 * (1000000 + 96)
   pub stands : StandsFor g bound new tree.top
+  pub count : leaves new tree.top ≡ length tree.claim.walks
   pub claim : IsClaimOf g bound new tree.low tree.top tree.claim
   pub rules : IsTreeOf bound g tree.claim
   pub range : IsInRangeTree tree.claim

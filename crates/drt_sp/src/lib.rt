@@ -4,6 +4,8 @@
 //! tasks of higher priority, and then makes the task's own tree. Each answer carries its evidence, which keeps the rules of
 //! `drt_evidence`, and each other answer its cause. The layer above uses the one contract of `analyse_fixed`.
 //!
+//! `budgets_suffice` says how large a budget is enough, by the numbers of the tasks' walks.
+//!
 //! `analyse_one_task` answers for sets of one task alone.
 #![tactic(auto)]
 
@@ -12,6 +14,7 @@ mod answer;
 mod deadlines;
 mod evidence;
 mod late;
+pub mod laws;
 pub mod one_task;
 mod order;
 mod progress;
@@ -23,4 +26,5 @@ mod walks;
 
 pub use analysis::analyse_fixed;
 pub use answer::{FixedAnswer, FixedTrail};
+pub use laws::budgets_suffice;
 pub use one_task::analyse_one_task;

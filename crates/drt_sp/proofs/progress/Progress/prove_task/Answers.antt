@@ -80,7 +80,9 @@ refusal-requires-clause-failed c =
     = rw (c.in-Failed.is, graph, c.as_slice.ensures.value) at c.in_ok-proofs.ensures in
     record {
       roots = roots;
-      reached = reached_at set order is limits c.requires.given.constrained c.times_suffice_for_task.ensures c.leaves_pass.ensures place k v at f roots trees c.requires.grown c.requires.proved.passed came.0.vertex came.0.earlier;
+      reached =
+          reached_at set order is limits c.requires.given.constrained c.times_suffice_for_task.ensures c.leaves_pass.ensures place k v at f roots trees
+          c.show_sound.ensures c.requires.grown c.requires.proved.passed came.0.vertex came.0.earlier;
       failure = came.1;
     }
 
@@ -129,6 +131,8 @@ returns-in-Spent-clause-decided c =
       order = order;
       forest = f;
       roots = roots;
-      reached = reached_at set order is limits c.requires.given.constrained c.times_suffice_for_task.ensures c.leaves_pass.ensures place k v at f roots trees c.requires.grown c.requires.proved.passed came.0.vertex came.0.earlier;
+      reached =
+          reached_at set order is limits c.requires.given.constrained c.times_suffice_for_task.ensures c.leaves_pass.ensures place k v at f roots trees
+          c.show_sound.ensures c.requires.grown c.requires.proved.passed came.0.vertex came.0.earlier;
       refinement = came.1;
     }
