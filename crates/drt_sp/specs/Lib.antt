@@ -6,7 +6,6 @@ pub mod Laws
 pub mod Items
 pub mod TaskTrees
 pub mod Claims
-pub mod Needs
 pub mod Answers
 pub mod Chosen
 pub mod Vertices
