@@ -1,5 +1,3 @@
-pub mod EvidenceLemmas
-pub mod Lateness
 pub mod Rising
 pub mod FewWalks
 pub mod Products

@@ -1,5 +1,4 @@
 pub mod Evidence
-pub mod OneTask
 pub mod TreeClaims
 pub mod Needs
 pub mod Laws

@@ -5,17 +5,12 @@
 //! `drt_evidence`, and each other answer its cause. The layer above uses the one contract of `analyse_fixed`.
 //!
 //! `budgets_suffice` says how large a budget is enough, by the numbers of the tasks' walks.
-//!
-//! `analyse_one_task` answers for sets of one task alone.
 #![tactic(auto)]
 
 mod analysis;
 mod answer;
 mod deadlines;
-mod evidence;
-mod late;
 pub mod laws;
-pub mod one_task;
 mod order;
 mod progress;
 mod proving;
@@ -27,4 +22,3 @@ mod walks;
 pub use analysis::analyse_fixed;
 pub use answer::{FixedAnswer, FixedTrail};
 pub use laws::budgets_suffice;
-pub use one_task::analyse_one_task;
