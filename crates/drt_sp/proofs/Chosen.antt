@@ -115,7 +115,7 @@ module _ (g : Digraph) (sound : IsSound g) where
   cut_from_span d offset u [] l = omega arith
   cut_from_span d offset u (v ∷ vs) l = elim (cases_Bool (ltb (offset + gap g u v) d)) [
     | inl h ↦ rw h (let less : offset + gap g u v < d = ltb-true (offset + gap g u v) d h in
-      omega (arith, cut_from_span d (offset + gap g u v) v vs (omega arith)))
+        omega (arith, cut_from_span d (offset + gap g u v) v vs (omega arith)))
     | inr h ↦ rw h (omega arith)
   ]
 

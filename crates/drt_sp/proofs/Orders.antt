@@ -137,9 +137,9 @@ module _ (t : Task) where
       after : ltb t.priority u.priority ≡ false → All (R u) (placed t ts)
       after h i d l = elim (placed_cases ts (get_or (placed t ts) i d) (Contains-get_or (placed t ts) i d l)) [
         | inl e ↦ (let ne : t.priority ≢ u.priority = All-head (λ b. t.priority ≢ b.priority) u ts apart in
-          let le : u.priority ≤ t.priority = ltb-false t.priority u.priority h in
-          let less : u.priority < t.priority = omega (arith, le, ne) in
-          subst (R u) e less)
+            let le : u.priority ≤ t.priority = ltb-false t.priority u.priority h in
+            let less : u.priority < t.priority = omega (arith, le, ne) in
+            subst (R u) e less)
         | inr c ↦ all_contains (R u) ts (get_or (placed t ts) i d) (pairs_head R u ts rises) c
       ]
 

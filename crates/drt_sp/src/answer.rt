@@ -17,7 +17,14 @@ pub enum FixedAnswer {
 #[derive(Drop)]
 pub enum FixedTrail {
     /// In the search of this task's walks.
-    Table { task: u32, log: Row<Entry> },
+    Table {
+        task: u32,
+        log: Row<Entry>,
+    },
     /// In the refinement of combinations at this vertex of this task.
-    Refine { task: u32, vertex: u32, log: Row<FrontierEntry> },
+    Refine {
+        task: u32,
+        vertex: u32,
+        log: Row<FrontierEntry>,
+    },
 }

@@ -74,13 +74,24 @@ impl Progress {
         self.forest.show_sound();
         let task = order[place];
         let graph = graphs.graph(task);
-        match prove_vertices(alloc, &self.forest, self.roots.as_slice(), task, graph, budget)? {
+        match prove_vertices(
+            alloc,
+            &self.forest,
+            self.roots.as_slice(),
+            task,
+            graph,
+            budget,
+        )? {
             TaskProofs::Passed(proofs) => {
                 self.proofs[task as usize] = proofs;
                 Ok(None)
             }
             TaskProofs::Failed { vertex, tuple } => {
-                let failed = Failed { task, vertex, tuple };
+                let failed = Failed {
+                    task,
+                    vertex,
+                    tuple,
+                };
                 let evidence = refusal(alloc, set, graphs, &self.forest, order, &failed)?;
                 Ok(Some(FixedAnswer::Done(evidence)))
             }

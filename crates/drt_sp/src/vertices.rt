@@ -19,9 +19,15 @@ pub(crate) enum TaskProofs {
     /// Each passes, with these proofs, in file order.
     Passed(Row<ProofClaim>),
     /// Those before this vertex pass, and it fails for this tuple of leaves.
-    Failed { vertex: u32, tuple: Row<u32> },
+    Failed {
+        vertex: u32,
+        tuple: Row<u32>,
+    },
     /// Those before this vertex pass, and its refinement spent the budget by these steps.
-    Spent { vertex: u32, log: Row<FrontierEntry> },
+    Spent {
+        vertex: u32,
+        log: Row<FrontierEntry>,
+    },
 }
 
 /// Proves the vertices of a task, by its graph, in file order, against the trees with these roots, each with this budget of steps.

@@ -66,7 +66,15 @@ fn job_walk(
 {
     if tasks[k as usize].priority < tasks[failed.task as usize].priority {
         let end = graphs.graph(failed.task).vertex(failed.vertex).deadline;
-        return chosen_walk(alloc, graphs, forest, end, order, failed.tuple.as_slice(), k);
+        return chosen_walk(
+            alloc,
+            graphs,
+            forest,
+            end,
+            order,
+            failed.tuple.as_slice(),
+            k,
+        );
     }
     let mut walk = Vec::new(alloc);
     if k == failed.task {
