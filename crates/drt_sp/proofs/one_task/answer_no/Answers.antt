@@ -1,5 +1,5 @@
 -- The no of a set of one task.
-use Rattle.std.proofs.Common.{◌≡◌, inr, refl, arith, rules}
+use Rattle.std.proofs.Common.{◌≡◌, inr, arith, rules}
 use Rattle.drt_busy.specs.OneTask.{whole_release}
 use Rattle.drt_model.specs.declared.jobs.Policy.TheVariants.{Fixed}
 use Rattle.drt_evidence.proofs.Accepting.{fixed_no_accepted}
