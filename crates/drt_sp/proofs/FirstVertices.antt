@@ -1,5 +1,5 @@
 -- The proofs of the first vertices of a task, one after another.
-use Rattle.std.proofs.Common.{◌≡◌, ℕ, zero, suc, ◌+◌, ◌<◌, ◌≤◌, List, [], ◌∷◌, ◌++◌, length, map, All, refl, sym, ap, ◌∙◌, subst, arith}
+use Rattle.std.proofs.Common.{ℕ, ◌+◌, ◌<◌, ◌≤◌, List, [], ◌∷◌, ◌++◌, All, refl, sym, ap, ◌∙◌, arith}
 use Rattle.std.proofs.lemmas.List.{map_push}
 use Rattle.std.proofs.lemmas.List.Elements.{All-nil, All-push}
 use Rattle.std.proofs.lemmas.List.FromFn.{map-range_with_len_more}
@@ -10,7 +10,7 @@ use Rattle.drt_evidence.specs.Ranges.{IsCounted, IsInRangeItem}
 use Rattle.drt_evidence.specs.declared.evidence.Item.{Item}
 use Rattle.drt_evidence.specs.declared.evidence.ProofClaim.{ProofClaim}
 use Rattle.drt_sp.specs.Items.{IsProofOf}
-use Rattle.drt_sp.specs.Vertices.{AreVertexProofs, IsStop, IsProvedVertex, subject_of, subjects}
+use Rattle.drt_sp.specs.Vertices.{AreVertexProofs, IsStop, IsProvedVertex, subject_of}
 use Rattle.drt_sp.proofs.Passing.{proofs_pass}
 
 module _ (f : Plain) (roots : List ℕ) (g : Digraph) (k : ℕ) where

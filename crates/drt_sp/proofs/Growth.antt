@@ -1,14 +1,13 @@
 -- One more tree, and one more task's proofs.
-use Rattle.std.proofs.Common.{inl, inr, ◌⊎◌, ◌≡◌, ℕ, zero, suc, ◌+◌, ◌*◌, ◌<◌, ◌≤◌, Some, List, [], ◌∷◌, ◌++◌, length, map, take, set, get_or, All, refl, sym, ap, ◌∙◌, subst, arith}
+use Rattle.std.proofs.Common.{inl, inr, ◌≡◌, ℕ, ◌+◌, ◌<◌, ◌≤◌, Some, List, [], ◌∷◌, ◌++◌, length, map, set, get_or, All, refl, sym, ap, ◌∙◌, subst, arith}
 use Rattle.std.specs.Prelude.{slice_get}
-use Rattle.std.proofs.lemmas.Bool.{cases_eq, cases_lt}
+use Rattle.std.proofs.lemmas.Bool.{cases_lt}
 use Rattle.std.proofs.lemmas.List.{get_or-map, get_or-set_other, get_or-set_same, length-map, length-set, length-take-le, length_push, take-append-le, take_all, take_more}
 use Rattle.std.proofs.lemmas.List.Elements.{All-nil, All-push, All-weaker}
 use Rattle.std.proofs.lemmas.Option.{get_or_from_slice_get, none-some, same_Some, slice_get_within}
-use Rattle.drt_model.specs.Digraph.{Digraph, digraph_of, vertex_count}
-use Rattle.drt_model.specs.Walk.{deadline, wcet}
+use Rattle.drt_model.specs.Digraph.{Digraph, vertex_count}
 use Rattle.drt_model.specs.declared.tasks.Task.{Task}
-use Rattle.drt_busy.specs.Choice.{graph_at, no_task, task_at}
+use Rattle.drt_busy.specs.Choice.{graph_at}
 use Rattle.drt_graph.specs.Graphs.{no_graph}
 use Rattle.drt_tree.specs.Tree.{Grows, IsForest, Plain, leaves}
 use Rattle.drt_refine.specs.Below.{AreNodes}
@@ -19,7 +18,6 @@ use Rattle.drt_evidence.specs.Trees.{greatest_deadline}
 use Rattle.drt_evidence.specs.declared.evidence.ProofClaim.{ProofClaim}
 use Rattle.drt_evidence.specs.declared.evidence.TreeClaim.{TreeClaim}
 use Rattle.drt_sp.specs.Claims.{AreClaimsOf}
-use Rattle.drt_sp.specs.Items.{AreItems}
 use Rattle.drt_sp.specs.Progress.{AreGrown, AreProofsAt, AreProved, IsProofAt, first_graphs}
 use Rattle.drt_sp.specs.TreeClaims.{IsClaimOf, IsTreeOf}
 use Rattle.drt_sp.specs.Vertices.{AreVertexProofs, IsProvedVertex}

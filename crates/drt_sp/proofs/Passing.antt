@@ -1,7 +1,6 @@
 -- What trees and proofs of vertices say of the tasks: where an analysis stands, and which deadlines are met.
-use Rattle.std.proofs.Common.{inl, inr, ◌⊎◌, ◌≡◌, ℕ, zero, suc, ◌+◌, ◌*◌, ◌<◌, ◌≤◌, Some, List, [], ◌∷◌, length, map, get_or, All, refl, sym, ap, ◌∙◌, subst, arith}
+use Rattle.std.proofs.Common.{inl, inr, ◌≡◌, ℕ, ◌+◌, ◌<◌, ◌≤◌, Some, List, [], ◌∷◌, length, map, get_or, All, sym, ap, ◌∙◌, subst, arith}
 use Rattle.std.specs.Prelude.{slice_get}
-use Rattle.std.specs.List.{range_with_len}
 use Rattle.std.proofs.lemmas.Bool.{cases_lt}
 use Rattle.std.proofs.lemmas.List.{get_or-map, length-map}
 use Rattle.std.proofs.lemmas.List.FromFn.{get_or-map-range_with_len, length-map-range_with_len}
@@ -10,23 +9,21 @@ use Rattle.drt_model.specs.Contents.{Contents}
 use Rattle.drt_model.specs.Constrained.{AreConstrained}
 use Rattle.drt_model.specs.Digraph.{Digraph, vertex_count}
 use Rattle.drt_model.specs.Limits.{IsTaskSet}
-use Rattle.drt_model.specs.Walk.{deadline, wcet}
+use Rattle.drt_model.specs.Walk.{deadline}
 use Rattle.drt_model.specs.declared.tasks.Task.{Task}
-use Rattle.drt_busy.specs.Choice.{IsWalk, graph_at, task_at}
+use Rattle.drt_busy.specs.Choice.{graph_at, task_at}
 use Rattle.drt_busy.specs.Decide.{TimesSufficeForTask}
-use Rattle.drt_steps.specs.Time.{AreChosen, Passes}
-use Rattle.drt_tree.specs.Tree.{IsForest, IsUnder, Leads, Plain, children, values, walk}
-use Rattle.drt_refine.specs.Below.{AreBelow, AreNodes}
-use Rattle.drt_choices.specs.Choices.{AreTrees, FirstPass, IsOrder, IsSubject, VertexPasses}
+use Rattle.drt_steps.specs.Time.{AreChosen}
+use Rattle.drt_tree.specs.Tree.{IsForest, Plain, values}
+use Rattle.drt_refine.specs.Below.{AreNodes}
+use Rattle.drt_choices.specs.Choices.{FirstPass, IsOrder, VertexPasses}
 use Rattle.drt_choices.specs.Laws.{IsPosed, LeavesPass}
 use Rattle.drt_evidence.specs.Trees.{greatest_deadline}
 use Rattle.drt_evidence.specs.declared.evidence.ProofClaim.{ProofClaim}
 use Rattle.drt_evidence.specs.declared.evidence.TreeClaim.{TreeClaim}
 use Rattle.drt_sp.specs.Answers.{HigherMeetDeadlines, IsReached, MeetsDeadlines}
 use Rattle.drt_sp.specs.Claims.{AreClaimsOf}
-use Rattle.drt_sp.specs.Items.{IsProofOf}
 use Rattle.drt_sp.specs.Progress.{AreGrown}
-use Rattle.drt_sp.specs.TreeClaims.{IsClaimOf}
 use Rattle.drt_sp.specs.Vertices.{AreVertexProofs, IsProvedVertex, TuplesPass, subject_of, subjects}
 use Rattle.drt_sp.proofs.GreatestDeadline.{deadline_near}
 use Rattle.drt_sp.proofs.Orders.{order_before, order_below, order_place}

@@ -1,5 +1,5 @@
 -- What a failing tuple of leaves says: its walks, their releases, and the no.
-use Rattle.std.proofs.Common.{inl, inr, ◌⊎◌, ◌≡◌, ℕ, zero, suc, ◌+◌, ◌<◌, ◌≤◌, Bool, true, false, cond, eqb, ltb, Option, Some, None, List, [], ◌∷◌, ◌++◌, length, get_or, All, refl, sym, ap, ◌∙◌, subst, arith}
+use Rattle.std.proofs.Common.{inl, inr, ◌≡◌, ℕ, zero, suc, ◌+◌, ◌<◌, ◌≤◌, Bool, true, false, cond, eqb, ltb, Option, Some, None, List, [], ◌∷◌, ◌++◌, length, get_or, All, refl, sym, ap, ◌∙◌, subst, arith}
 use Rattle.std.proofs.lemmas.Bool.{cases_Bool, eqb-true}
 use Rattle.std.proofs.lemmas.List.{length-map}
 use Rattle.drt_model.specs.Contents.{Contents}
@@ -13,7 +13,7 @@ use Rattle.drt_model.proofs.JobLemmas.{length-jobs_of}
 use Rattle.drt_graph.specs.Graphs.{AreGraphs, graph_of, no_graph}
 use Rattle.drt_busy.specs.Choice.{AreDueBy, AreWalks, IsWalk, due_of, graph_at, task_at}
 use Rattle.drt_busy.specs.WalkReleases.{all_releases, releases_of, with_job}
-use Rattle.drt_tree.specs.Tree.{IsForest, IsPair, IsUnder, Leads, Plain, children, walk}
+use Rattle.drt_tree.specs.Tree.{IsForest, IsPair, Leads, Plain, children, walk}
 use Rattle.drt_refine.specs.Below.{AreBelow, AreNodes}
 use Rattle.drt_choices.specs.Choices.{AreTrees, IsOrder, chosen, cut}
 use Rattle.drt_choices.specs.Laws.{LeavesMiss, no_releases}

@@ -1,13 +1,12 @@
 -- What all trees and proofs say together: the evidence of a yes.
-use Rattle.std.proofs.Common.{inl, inr, ◌⊎◌, ◌≡◌, ℕ, zero, suc, ◌+◌, ◌*◌, ◌<◌, ◌≤◌, Bool, true, false, eqb, Some, List, [], ◌∷◌, ◌++◌, length, map, take, drop, get_or, All, refl, sym, ap, ◌∙◌, subst, arith}
+use Rattle.std.proofs.Common.{inl, inr, ◌≡◌, ℕ, suc, ◌+◌, ◌*◌, ◌<◌, ◌≤◌, eqb, Some, List, [], ◌∷◌, ◌++◌, length, map, take, drop, get_or, All, refl, sym, ap, ◌∙◌, subst, arith}
 use Rattle.std.specs.Prelude.{slice_get}
 use Rattle.std.specs.List.{flat_map}
 use Rattle.std.proofs.lemmas.Bool.{cases_Bool}
 use Rattle.std.proofs.lemmas.List.{length-append, length-map, length-take-le, map-append, take-append-drop, take-take}
 use Rattle.std.proofs.lemmas.List.Elements.{All-append, All-cons, All-head, All-nil, All-tail, All-weaker}
 use Rattle.std.proofs.lemmas.List.FromFn.{length-map-range_with_len}
-use Rattle.std.proofs.lemmas.Option.{get_or_from_slice_get, same_Some, slice_get-get_or, slice_get_within}
-use Rattle.drt_model.specs.Contents.{Contents}
+use Rattle.std.proofs.lemmas.Option.{get_or_from_slice_get, slice_get-get_or, slice_get_within}
 use Rattle.drt_model.specs.Constrained.{AreConstrained}
 use Rattle.drt_model.specs.Digraph.{Digraph, digraph_of, vertex_count}
 use Rattle.drt_model.specs.Limits.{IsTask, IsTaskSet, most_tasks, most_vertices}
@@ -20,8 +19,8 @@ use Rattle.drt_busy.specs.Decide.{TimesDecide}
 use Rattle.drt_tree.specs.Tree.{Plain}
 use Rattle.drt_choices.specs.Choices.{IsOrder, VertexPasses}
 use Rattle.drt_evidence.specs.Claims.{Each}
-use Rattle.drt_evidence.specs.Proofs.{HasPassingTimes, HasShape, IsPassed, IsProofPerVertex, after_all, opening, passes, subjects_from}
-use Rattle.drt_evidence.specs.Ranges.{IsInRange, IsInRangeProof, IsInRangeTree}
+use Rattle.drt_evidence.specs.Proofs.{HasPassingTimes, HasShape, IsPassed, after_all, opening, passes, subjects_from}
+use Rattle.drt_evidence.specs.Ranges.{IsInRange, IsInRangeProof}
 use Rattle.drt_evidence.specs.Trees.{CoversWalks, HasShortWalks, IsTree, by_priority, greatest_deadline, higher_count, root, tree_graphs}
 use Rattle.drt_evidence.specs.declared.evidence.Evidence.TheVariants.{FixedYes}
 use Rattle.drt_evidence.specs.declared.evidence.ProofClaim.{ProofClaim}

@@ -1,11 +1,10 @@
 -- What each answer of the analysis under fixed priorities says.
-use Rattle.std.specs.Prelude.{◌≡◌, ℕ, ◌<◌, ◌≤◌, List, [], length, All}
+use Rattle.std.specs.Prelude.{◌≡◌, ℕ, ◌<◌, List, length, All}
 use Rattle.drt_model.specs.Contents.{Contents}
 use Rattle.drt_model.specs.declared.tasks.Task.{Task}
 use Rattle.drt_model.specs.declared.jobs.Policy.TheVariants.{Fixed}
 use Rattle.drt_model.specs.declared.jobs.Release.{Release}
 use Rattle.drt_model.specs.declared.jobs.Miss.{Miss}
-use Rattle.drt_model.specs.Digraph.{vertex_count}
 use Rattle.drt_model.specs.Legal.{IsLegal}
 use Rattle.drt_model.specs.Schedulable.{Schedulable, jobs_of}
 use Rattle.drt_model.specs.Trace.{job_at, Misses}
@@ -18,7 +17,6 @@ use Rattle.drt_table.specs.declared.step.Entry.{Entry}
 use Rattle.drt_choices.specs.Choices.{FirstPass, VertexPasses}
 use Rattle.drt_choices.specs.Laws.{IsPosed, no_releases}
 use Rattle.drt_evidence.specs.Claims.{Each}
-use Rattle.drt_evidence.specs.Proofs.{IsProofPerVertex}
 use Rattle.drt_evidence.specs.Ranges.{IsInRange}
 use Rattle.drt_evidence.specs.Rules.{Accepts}
 use Rattle.drt_evidence.specs.Trees.{greatest_deadline, tree_graphs}

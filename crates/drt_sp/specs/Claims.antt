@@ -1,5 +1,5 @@
 -- Forests that stand behind the trees and proofs of a dossier.
-use Rattle.std.specs.Prelude.{◌≡◌, ℕ, ◌<◌, List, [], ◌∷◌, length, map, take, Some, slice_get}
+use Rattle.std.specs.Prelude.{◌≡◌, ℕ, ◌<◌, List, [], ◌∷◌, take, Some, slice_get}
 use Rattle.drt_model.specs.declared.tasks.Task.{Task}
 use Rattle.drt_model.specs.Digraph.{Digraph, digraph_of, vertex_count}
 use Rattle.drt_model.specs.Walk.{deadline, wcet}

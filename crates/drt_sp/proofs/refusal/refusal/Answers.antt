@@ -15,7 +15,7 @@ use Rattle.drt_evidence.specs.Ranges.{AreInRangeReleases, IsInRangeRelease}
 use Rattle.drt_evidence.specs.Trees.{greatest_deadline}
 use Rattle.drt_releases.proofs.Walks.{graph_same}
 use Rattle.drt_releases.specs.Walks.{walk_at}
-use Rattle.drt_sp.specs.Answers.{IsFailedVertex, IsMissed}
+use Rattle.drt_sp.specs.Answers.{IsFailedVertex}
 use Rattle.drt_sp.specs.Chosen.{AreLeaves}
 use Rattle.drt_sp.proofs.Refused.{all_same, are_leaves, due_walks, missed, no_in_range, sound_at, walks_are, walks_due}
 use Rattle.drt_sp.proofs.Yes.{few_tasks}

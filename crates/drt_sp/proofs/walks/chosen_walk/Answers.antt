@@ -1,4 +1,4 @@
-use Rattle.std.proofs.Common.{◌≡◌, ◌<◌, None, Some, List, ℕ, length, get_or, sym, ap, subst, arith, ◌∙◌}
+use Rattle.std.proofs.Common.{◌≡◌, ◌<◌, None, List, ℕ, length, get_or, sym, ap, subst, arith, ◌∙◌}
 use Rattle.std.proofs.lemmas.List.{length-map}
 use Rattle.drt_model.specs.Digraph.{digraph_of}
 use Rattle.drt_graph.specs.Graphs.{graph_of}
@@ -6,8 +6,7 @@ use Rattle.drt_busy.specs.Choice.{IsWalk, graph_at}
 use Rattle.drt_releases.proofs.Walks.{graph_same}
 use Rattle.drt_tree.specs.Tree.{children, walk}
 use Rattle.drt_tree.proofs.Trees.{if_ok_more}
-use Rattle.drt_choices.specs.Choices.{chosen, cut}
-use Rattle.drt_sp.specs.Chosen.{leaf_for}
+use Rattle.drt_choices.specs.Choices.{cut}
 use Rattle.drt_sp.proofs.Chosen.{chosen_none, chosen_some, leaf_place}
 use Rattle.drt_sp.proofs.walks.chosen_walk.Goals as goal
 

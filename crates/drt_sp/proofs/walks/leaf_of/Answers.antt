@@ -1,6 +1,5 @@
-use Rattle.std.proofs.Common.{◌≡◌, ◌<◌, length, drop, get_or, sym, arith, ◌∙◌}
+use Rattle.std.proofs.Common.{◌<◌, length, get_or, sym, arith, ◌∙◌}
 use Rattle.std.proofs.lemmas.Bool.{ne_eqb}
-use Rattle.drt_sp.specs.Chosen.{leaf_for}
 use Rattle.drt_sp.proofs.Chosen.{leaf_end, leaf_here, leaf_more}
 use Rattle.drt_sp.proofs.walks.leaf_of.Goals as goal
 

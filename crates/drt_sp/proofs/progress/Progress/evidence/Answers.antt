@@ -1,5 +1,4 @@
-use Rattle.std.proofs.Common.{◌≡◌, List, subst, sym, ◌∙◌}
-use Rattle.std.specs.List.{flat_map}
+use Rattle.std.proofs.Common.{List, subst, sym, ◌∙◌}
 use Rattle.drt_evidence.specs.Ranges.{IsInRange}
 use Rattle.drt_evidence.specs.declared.evidence.Evidence.TheVariants.{FixedYes}
 use Rattle.drt_evidence.specs.declared.evidence.ProofClaim.{ProofClaim}
