@@ -140,13 +140,14 @@ module _ (g : Digraph) where
     requested_most offset u (v ∷ vs) t l path =
         let target = target_of g sound u v (gap g u v) path.0 in
         let rest = requested_most (offset + gap g u v) v vs t target.0 path.1 in
-        let own = requested_most offset u [] t l tt in
         let one = sound.wcet u l in
         elim (cases_Bool (ltb offset t)) [
           | inl early ↦
               (let e : requested_from g offset u [] t ≡ wcet g u = alone_asks offset u t ∙ rw early refl in
               omega (arith, next_asks offset u v vs t, e, rest, one.1, target.1, ltb-true offset t early))
-          | inr late ↦ omega (arith, next_asks offset u v vs t, own, rest, ltb-false offset t late)
+          | inr late ↦
+              (let e : requested_from g offset u [] t ≡ 0 = alone_asks offset u t ∙ rw late refl in
+              omega (arith, next_asks offset u v vs t, e, rest, ltb-false offset t late))
         ]
 
     -- so a vertex and the walks after it can be added

@@ -1,12 +1,15 @@
 -- What choices of walks of the tasks of higher priority ask for.
-use Rattle.std.proofs.Common.{inl, inr, ◌⊎◌, ◌≡◌, ℕ, zero, suc, ◌+◌, ◌-◌, ◌*◌, ◌<◌, ◌≤◌, ◌↔◌, true, false, cond, ltb, eqb, List, [], ◌∷◌, length, get_or, map, All, refl, sym, ap, ◌∙◌, subst, arith, add-one}
+use Rattle.std.proofs.Common.{inl, inr, ◌⊎◌, ◌≡◌, Bool, IsTrue, ℕ, zero, suc, ◌+◌, ◌-◌, ◌*◌, ◌<◌, ◌≤◌, ◌↔◌, true, false, cond, ltb, eqb, List, [], ◌∷◌, length, get_or, map, All, refl, sym, ap, ◌∙◌, subst, arith, add-one}
 use Rattle.std.specs.List.{flat_map}
 use Rattle.std.proofs.lemmas.Bool.{cases_Bool, cases_eq, eq-eqb, le-ltb, lt-ltb, ne_eqb}
+use Rattle.std.proofs.lemmas.List.{get_or-map, length-map}
 use Rattle.std.proofs.lemmas.List.Elements.{All-weaker}
 use Rattle.drt_model.specs.declared.tasks.Task.{Task}
-use Rattle.drt_model.specs.Digraph.{IsSound, vertex_count}
+use Rattle.drt_model.specs.declared.tasks.Vertex.{Vertex}
+use Rattle.drt_model.specs.Digraph.{Digraph, IsSound, digraph_of, vertex_count, vertex_of}
 use Rattle.drt_model.specs.Walk.{deadline, wcet}
-use Rattle.drt_busy.specs.Choice.{AreWalks, IsWalk, graph_at, request_of, requests, task_at}
+use Rattle.drt_graph.specs.Graphs.{AreGraphs, graph_of, no_graph}
+use Rattle.drt_busy.specs.Choice.{AreWalks, IsWalk, graph_at, no_task, request_of, requests, task_at}
 use Rattle.drt_sp_plain.specs.Asked.{AreAll, CanAdd, Fits, HasTime, IsAsked, IsAskedAbove, IsSumOf, added, values_to}
 use Rattle.drt_sp_plain.proofs.AskedWalks.{walk_most}
 use Rattle.drt_sp_plain.proofs.Lists.{all_at, all_one, all_same, all_sums, value_is, values_added, values_can_add, values_long, values_same}
@@ -128,6 +131,16 @@ module _ (tasks : List Task) (p : ℕ) where
             (λ t by. omega (arith, requests_most walks are sound k t (omega (arith, l)) (omega (arith, by, small)), l, few))
             (λ t by. omega (arith, walk_most (graph_at tasks k) (sound k l) w t is, by, small))))
 
+-- The graphs of the tasks are those of the list, and keep the limits.
+pub graph_is : (graphs : List Digraph) (tasks : List Task) (k : ℕ) → graphs ≡ map digraph_of tasks → k < length tasks → graph_of graphs k ≡ graph_at tasks k
+graph_is graphs tasks k same lt = ap (λ gs. graph_of gs k) same ∙ get_or-map digraph_of tasks k no_task no_graph lt
+
+pub graphs_long : (graphs : List Digraph) (tasks : List Task) → graphs ≡ map digraph_of tasks → length graphs ≡ length tasks
+graphs_long graphs tasks same = ap length same ∙ length-map tasks digraph_of
+
+pub all_sound : (graphs : List Digraph) (tasks : List Task) → graphs ≡ map digraph_of tasks → AreGraphs graphs → (k : ℕ) → k < length tasks → IsSound (graph_at tasks k)
+all_sound graphs tasks same are k lt = subst IsSound (graph_is graphs tasks k same lt) (are.sound k no_graph (omega (arith, lt, graphs_long graphs tasks same)))
+
 -- A vertex fits where each of the sums has a time.
 pub fits_decided : (tasks : List Task) (k v : ℕ) (fs : List (List ℕ)) → AreAll (IsAskedAbove tasks (task_at tasks k).priority (length tasks) (deadline (graph_at tasks k) v)) fs
     → All (HasTime (wcet (graph_at tasks k) v)) fs ↔ Fits tasks k v
@@ -162,3 +175,13 @@ fits_decided tasks k v fs all = (to, from)
             let one : (at.0 - 1) + 1 ≡ at.0 = omega (arith, at.1) in
             let value = value_is d (asked walks) (at.0 - 1) 0 lt ∙ ap (asked walks) one in
             subst (HasTime c) (sym e) (at.0 - 1, omega (arith, lt, values_long d (asked walks)), omega (arith, value, at.3, one))
+
+-- The same of a vertex and a priority that were read.
+pub fits_read : (tasks : List Task) (k v : ℕ) (fs : List (List ℕ)) (vertex : Vertex) (p : ℕ) → vertex ≡ vertex_of (graph_at tasks k) v → p ≡ (task_at tasks k).priority
+    → AreAll (IsAskedAbove tasks p (length tasks) vertex.deadline) fs → (answer : Bool) → (IsTrue answer ↔ All (HasTime vertex.wcet) fs) → IsTrue answer ↔ Fits tasks k v
+fits_read tasks k v fs vertex p is high all answer decided =
+    let a = subst (λ q. AreAll (IsAskedAbove tasks q (length tasks) vertex.deadline) fs) high all in
+    let b = subst (λ (x : Vertex). AreAll (IsAskedAbove tasks (task_at tasks k).priority (length tasks) x.deadline) fs) is a in
+    let d = subst (λ (x : Vertex). IsTrue answer ↔ All (HasTime x.wcet) fs) is decided in
+    let f = fits_decided tasks k v fs b in
+    (λ y. f.0 (d.0 y), λ fit. d.1 (f.1 fit))

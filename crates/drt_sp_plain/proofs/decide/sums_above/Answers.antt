@@ -1,0 +1,12 @@
+use Rattle.std.proofs.Common.{◌≡◌, arith, subst, sym, ap, ◌∙◌, length, [], ◌∷◌, ◌++◌}
+use Rattle.drt_sp_plain.specs.Asked.{AreAll, IsAskedAbove}
+use Rattle.drt_sp_plain.proofs.Choices.{above_none, graphs_long}
+use Rattle.drt_sp_plain.proofs.decide.sums_above.Goals as goal
+
+pub tasks-init : goal.tasks-init
+tasks-init c = ?
+
+pub returns : goal.returns
+returns c =
+    let e : c.tasks.k ≡ length c.args.tasks.now = omega (arith, c.tasks-test.false, c.tasks.auto.k-end, c.count-k-end.ensures.count, graphs_long c.args.graphs.now c.args.tasks.now c.requires.graphs) in
+    subst (λ k. AreAll (IsAskedAbove c.args.tasks.now c.args.priority k c.args.bound) c.tasks.sums.items) e c.tasks.invariant
