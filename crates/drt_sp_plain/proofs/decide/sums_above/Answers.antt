@@ -4,7 +4,9 @@ use Rattle.drt_sp_plain.proofs.Choices.{above_none, graphs_long}
 use Rattle.drt_sp_plain.proofs.decide.sums_above.Goals as goal
 
 pub tasks-init : goal.tasks-init
-tasks-init c = ?
+tasks-init c =
+    let items = c.in_ok-push.ensures.items ∙ (ap (λ xs. xs ++ c.in_ok-zeros.field-0 ∷ []) c.new-sums.ensures.items ∙ ap (λ x. x ∷ []) c.in_ok-zeros.ensures) in
+    subst (AreAll (IsAskedAbove c.args.tasks.now c.args.priority 0 c.args.bound)) (sym items) (above_none c.args.tasks.now c.args.priority c.args.bound)
 
 pub returns : goal.returns
 returns c =
