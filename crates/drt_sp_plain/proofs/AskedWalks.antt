@@ -1,5 +1,5 @@
 -- What the walks of one graph ask for.
-use Rattle.std.proofs.Common.{inl, inr, ◌⊎◌, ◌≡◌, ℕ, zero, suc, ◌+◌, ◌-◌, ◌*◌, ◌<◌, ◌≤◌, true, false, cond, ltb, List, [], ◌∷◌, ◌++◌, length, map, All, refl, sym, ap, ◌∙◌, subst, arith}
+use Rattle.std.proofs.Common.{inl, inr, ◌⊎◌, ◌≡◌, ℕ, ◌+◌, ◌-◌, ◌*◌, ◌<◌, ◌≤◌, cond, ltb, List, [], ◌∷◌, ◌++◌, map, All, refl, sym, ap, ◌∙◌, subst, arith}
 use Rattle.std.proofs.lemmas.Bool.{cases_Bool, cases_lt, le-ltb, ltb-false, ltb-true}
 use Rattle.std.proofs.lemmas.List.Elements.{All-weaker}
 use Rattle.drt_model.specs.Digraph.{Digraph, IsSound, edge_of, out_degree, vertex_count}
@@ -84,7 +84,8 @@ module _ (g : Digraph) where
         → AreAll (IsAskedThrough g d offset u k) fs → AreAll (IsAskedFrom g d (offset + (edge_of g u k).sep) (edge_of g u k).to) rest
         → AreAll (IsAskedThrough g d offset u (k + 1)) (fs ++ map (added (asked_from g d offset u [])) rest)
     through_next d offset u k fs rest l m a b =
-        all_same Either (IsAskedThrough g d offset u (k + 1)) (fs ++ map (added own) rest) to from (all_both (IsAskedThrough g d offset u k) Later fs (map (added own) rest) a (all_mapped After (added own) rest b))
+        all_same Either (IsAskedThrough g d offset u (k + 1)) (fs ++ map (added own) rest) to from
+        (all_both (IsAskedThrough g d offset u k) Later fs (map (added own) rest) a (all_mapped After (added own) rest b))
       where
         own : List ℕ
         own = asked_from g d offset u []
@@ -134,7 +135,9 @@ module _ (g : Digraph) where
     requested_most offset u [] t l path =
         let one = sound.wcet u l in
         elim (cases_Bool (ltb offset t)) [
-          | inl early ↦ (let e : requested_from g offset u [] t ≡ wcet g u = alone_asks offset u t ∙ rw early refl in omega (arith, e, one.1, ltb-true offset t early))
+          | inl early ↦
+              (let e : requested_from g offset u [] t ≡ wcet g u = alone_asks offset u t ∙ rw early refl in
+              omega (arith, e, one.1, ltb-true offset t early))
           | inr late ↦ (let e : requested_from g offset u [] t ≡ 0 = alone_asks offset u t ∙ rw late refl in omega (arith, e))
         ]
     requested_most offset u (v ∷ vs) t l path =
@@ -197,7 +200,8 @@ module _ (g : Digraph) where
 
   -- walks from all vertices
   pub below_all : (d : ℕ) (fs : List (List ℕ)) → AreAll (IsAskedBelow g d (vertex_count g)) fs → AreAll (IsAsked g d) fs
-  below_all d fs = all_same (IsAskedBelow g d (vertex_count g)) (IsAsked g d) fs (λ f is. (is.0, is.1, is.3)) (λ f is. (is.0, is.1, starts is.0 is.1, is.2))
+  below_all d fs = all_same (IsAskedBelow g d (vertex_count g)) (IsAsked g d) fs
+      (λ f is. (is.0, is.1, is.3)) (λ f is. (is.0, is.1, starts is.0 is.1, is.2))
     where
       starts : (w : List ℕ) → IsWalk g w → StartsBelow (vertex_count g) w
       starts [] is = tt

@@ -1,12 +1,12 @@
 -- What choices of walks of the tasks of higher priority ask for.
-use Rattle.std.proofs.Common.{inl, inr, ◌⊎◌, ◌≡◌, Bool, IsTrue, ℕ, zero, suc, ◌+◌, ◌-◌, ◌*◌, ◌<◌, ◌≤◌, ◌↔◌, true, false, cond, ltb, eqb, List, [], ◌∷◌, length, get_or, map, All, refl, sym, ap, ◌∙◌, subst, arith, add-one}
+use Rattle.std.proofs.Common.{inl, inr, ◌≡◌, Bool, IsTrue, ℕ, zero, suc, ◌+◌, ◌-◌, ◌*◌, ◌<◌, ◌≤◌, ◌↔◌, cond, ltb, eqb, List, [], ◌∷◌, length, map, All, refl, sym, ap, ◌∙◌, subst, arith}
 use Rattle.std.specs.List.{flat_map}
 use Rattle.std.proofs.lemmas.Bool.{cases_Bool, cases_eq, eq-eqb, le-ltb, lt-ltb, ne_eqb}
 use Rattle.std.proofs.lemmas.List.{get_or-map, length-map}
 use Rattle.std.proofs.lemmas.List.Elements.{All-weaker}
 use Rattle.drt_model.specs.declared.tasks.Task.{Task}
 use Rattle.drt_model.specs.declared.tasks.Vertex.{Vertex}
-use Rattle.drt_model.specs.Digraph.{Digraph, IsSound, digraph_of, vertex_count, vertex_of}
+use Rattle.drt_model.specs.Digraph.{Digraph, IsSound, digraph_of, vertex_of}
 use Rattle.drt_model.specs.Walk.{deadline, wcet}
 use Rattle.drt_graph.specs.Graphs.{AreGraphs, graph_of, no_graph}
 use Rattle.drt_busy.specs.Choice.{AreWalks, IsWalk, graph_at, no_task, request_of, requests, task_at}
@@ -19,11 +19,13 @@ module _ (tasks : List Task) (p : ℕ) where
   unfolding requests
   requests_none walks t = refl
 
-  requests_suc : (walks : ℕ → List ℕ) (k t : ℕ) → requests tasks walks p (suc k) t ≡ requests tasks walks p k t + cond (ltb (task_at tasks k).priority p) (request_of (graph_at tasks k) (walks k) t) 0
+  requests_suc : (walks : ℕ → List ℕ) (k t : ℕ)
+      → requests tasks walks p (suc k) t ≡ requests tasks walks p k t + cond (ltb (task_at tasks k).priority p) (request_of (graph_at tasks k) (walks k) t) 0
   unfolding requests
   requests_suc walks k t = refl
 
-  requests_more : (walks : ℕ → List ℕ) (k t : ℕ) → requests tasks walks p (k + 1) t ≡ requests tasks walks p k t + cond (ltb (task_at tasks k).priority p) (request_of (graph_at tasks k) (walks k) t) 0
+  requests_more : (walks : ℕ → List ℕ) (k t : ℕ)
+      → requests tasks walks p (k + 1) t ≡ requests tasks walks p k t + cond (ltb (task_at tasks k).priority p) (request_of (graph_at tasks k) (walks k) t) 0
   requests_more walks k t = ap (λ n. requests tasks walks p n t) (let e : k + 1 ≡ suc k = omega arith in e) ∙ requests_suc walks k t
 
   -- a task that isn't of higher priority adds nothing
@@ -33,9 +35,11 @@ module _ (tasks : List Task) (p : ℕ) where
       omega (arith, requests_more walks k t, none)
 
   -- one of higher priority adds what its walk asks for
-  requests_add : (walks : ℕ → List ℕ) (k t : ℕ) → (task_at tasks k).priority < p → requests tasks walks p (k + 1) t ≡ requests tasks walks p k t + request_of (graph_at tasks k) (walks k) t
+  requests_add : (walks : ℕ → List ℕ) (k t : ℕ) → (task_at tasks k).priority < p
+      → requests tasks walks p (k + 1) t ≡ requests tasks walks p k t + request_of (graph_at tasks k) (walks k) t
   requests_add walks k t high =
-      let all : cond (ltb (task_at tasks k).priority p) (request_of (graph_at tasks k) (walks k) t) 0 ≡ request_of (graph_at tasks k) (walks k) t = rw (lt-ltb (task_at tasks k).priority p high) refl in
+      let r = request_of (graph_at tasks k) (walks k) t in
+      let all : cond (ltb (task_at tasks k).priority p) r 0 ≡ r = rw (lt-ltb (task_at tasks k).priority p high) refl in
       omega (arith, requests_more walks k t, all)
 
   -- the same walks of the first tasks ask for the same
@@ -110,10 +114,10 @@ module _ (tasks : List Task) (p : ℕ) where
 
         to : (f : List ℕ) → IsSumOf (IsAskedAbove tasks p k d) (IsAsked (graph_at tasks k) d) f → IsAskedAbove tasks p (k + 1) d f
         to f (x, y, (walks, are, ex), (w, is, ey), e) = (
-              put walks w,
-              put_walks walks w are is,
-              e ∙ (ap (λ z. added z y) (ex ∙ before walks w) ∙ (ap (added (values_to d (requests tasks (put walks w) p k))) (ey ∙ here walks w) ∙ sym (added_walk (put walks w) k high)))
-            )
+          put walks w,
+          put_walks walks w are is,
+          e ∙ (ap (λ z. added z y) (ex ∙ before walks w) ∙ (ap (added (values_to d (requests tasks (put walks w) p k))) (ey ∙ here walks w) ∙ sym (added_walk (put walks w) k high))),
+        )
 
         from : (f : List ℕ) → IsAskedAbove tasks p (k + 1) d f → IsSumOf (IsAskedAbove tasks p k d) (IsAsked (graph_at tasks k) d) f
         from f (walks, are, e) =
@@ -122,7 +126,8 @@ module _ (tasks : List Task) (p : ℕ) where
     -- what the walks of the tasks so far ask for can be added to what those of one more do
     pub above_can_add : (k : ℕ) (fs gs : List (List ℕ)) → k < length tasks → length tasks ≤ 32 → d ≤ 1000000 → ((j : ℕ) → j < length tasks → IsSound (graph_at tasks j))
         → AreAll (IsAskedAbove tasks p k d) fs → AreAll (IsAsked (graph_at tasks k) d) gs → All (λ f. All (CanAdd f) gs) fs
-    above_can_add k fs gs l few small sound a b = All-weaker (IsAskedAbove tasks p k d) (λ f. All (CanAdd f) gs) (λ f is. All-weaker (IsAsked (graph_at tasks k) d) (CanAdd f) (λ h of. can f h is of) gs b.each) fs a.each
+    above_can_add k fs gs l few small sound a b = All-weaker (IsAskedAbove tasks p k d) (λ f. All (CanAdd f) gs)
+        (λ f is. All-weaker (IsAsked (graph_at tasks k) d) (CanAdd f) (λ h of. can f h is of) gs b.each) fs a.each
       where
         can : (f h : List ℕ) → IsAskedAbove tasks p k d f → IsAsked (graph_at tasks k) d h → CanAdd f h
         can f h (walks, are, e) (w, is, eh) =

@@ -2,7 +2,7 @@
 use Rattle.std.proofs.Common.{inl, inr, ◌⊎◌, ◌≡◌, ℕ, zero, suc, ◌+◌, ◌<◌, ◌≤◌, List, [], ◌∷◌, ◌++◌, length, get_or, map, All, refl, sym, ap, ◌∙◌, subst, arith}
 use Rattle.std.specs.List.{Contains, flat_map, range_with_len}
 use Rattle.std.proofs.lemmas.List.{get_or-map, length-map}
-use Rattle.std.proofs.lemmas.List.Elements.{All-append, All-cons, All-head, All-map, All-nil, All-tail, All-weaker, Contains-append_cases, Contains-append_left, Contains-append_right}
+use Rattle.std.proofs.lemmas.List.Elements.{All-append, All-cons, All-head, All-map, All-nil, All-tail, All-weaker, Contains-append_left, Contains-append_right}
 use Rattle.std.proofs.lemmas.List.FromFn.{get_or-map-range_with_len, length-map-range_with_len, map-range_with_len_more}
 use Rattle.drt_sp_plain.specs.Asked.{AreAll, CanAdd, IsSumOf, added, values_to}
 
@@ -41,7 +41,8 @@ added_push (u ∷ xs) [] x y same = absurd (omega (arith, same))
 added_push (u ∷ xs) (v ∷ ys) x y same = ap (λ zs. (u + v) ∷ zs) (added_push xs ys x y (omega (arith, same)))
 
 -- values that are small can be added
-pub values_can_add : (d : ℕ) (f g : ℕ → ℕ) → ((t : ℕ) → t ≤ d → f t ≤ 1000000000000000) → ((t : ℕ) → t ≤ d → g t ≤ 1000000000000000) → CanAdd (values_to d f) (values_to d g)
+pub values_can_add : (d : ℕ) (f g : ℕ → ℕ) → ((t : ℕ) → t ≤ d → f t ≤ 1000000000000000) → ((t : ℕ) → t ≤ d → g t ≤ 1000000000000000)
+    → CanAdd (values_to d f) (values_to d g)
 values_can_add d f g few more = record {
   same = values_long d f ∙ sym (values_long d g);
   first = small f few;
@@ -80,7 +81,6 @@ all_mapped Q h gs a = record {
   each = All-map (λ f. (g : List ℕ) × Q g × (f ≡ h g)) h gs (All-weaker Q (λ g. (x : List ℕ) × Q x × (h g ≡ h x)) (λ g q. (g, q, refl)) gs a.each);
   whole = λ f is. subst (Contains (map h gs)) (sym is.2) (contains_mapped h gs is.0 (a.whole is.0 is.1));
 }
-
 
 sum_each : (P Q : List ℕ → Type 0) (xs ys : List (List ℕ)) → All P xs → All Q ys → All (IsSumOf P Q) (flat_map (λ x. map (added x) ys) xs)
 sum_each P Q [] ys a b = All-nil (IsSumOf P Q)

@@ -79,7 +79,7 @@ fn sums_above(
 {
     let mut sums = Vec::new(alloc);
     sums.push(zeros(alloc, bound)?)?;
-    'tasks: for k in 0..graphs.count() {
+    'higher: for k in 0..graphs.count() {
         sums = with_task(alloc, tasks, graphs, priority, bound, k, sums)?;
     }
     Ok(sums)

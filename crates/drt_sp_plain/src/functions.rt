@@ -1,7 +1,7 @@
 //! What the walks of one task ask for.
 ghost use Rattle.std.specs.Prelude.{◌≡◌, ◌+◌, ◌<◌, ◌≤◌, if◌then◌else◌, nat_lt, [], IfOk};
-ghost use Rattle.drt_model.specs.Digraph.{IsSound, edge_of, out_degree, vertex_count};
-ghost use Rattle.drt_sp_plain.specs.Asked.{AreAll, IsAsked, IsAskedBelow, IsAskedFrom, IsAskedThrough, asked_from, values_to};
+ghost use Rattle.drt_model.specs.Digraph.{vertex_count};
+ghost use Rattle.drt_sp_plain.specs.Asked.{AreAll, IsAsked, IsAskedFrom, asked_from, values_to};
 
 use crate::sums::add_each;
 use drt_graph::Graph;

@@ -1,4 +1,4 @@
-use Rattle.std.proofs.Common.{◌≡◌, take, get_or, length, All, refl, sym, ◌∙◌, subst, arith}
+use Rattle.std.proofs.Common.{take, get_or, All, refl, sym, ◌∙◌, subst, arith}
 use Rattle.std.proofs.lemmas.List.{take_all, take_more}
 use Rattle.std.proofs.lemmas.List.Elements.{All-push}
 use Rattle.drt_sp_plain.specs.Asked.{HasTime}
@@ -7,7 +7,8 @@ use Rattle.drt_sp_plain.proofs.decide.have_time.Goals as goal
 pub returns-then-not-has_time : goal.returns-then-not-has_time
 returns-then-not-has_time c =
     let here = c.as_slice.ensures ∙ c.asked-item.is in
-    (λ h. absurd (cc), λ all. sym c.if-not-has_time.true ∙ c.has_time.ensures.1 (subst (HasTime c.args.wcet) (sym here) (all c.functions.asked-index c.asked-item.result (omega (arith, c.functions-test.true)))))
+    let at = λ (all : All (HasTime c.args.wcet) c.args.functions.now). all c.functions.asked-index c.asked-item.result (omega (arith, c.functions-test.true)) in
+    (λ h. absurd (cc), λ all. sym c.if-not-has_time.true ∙ c.has_time.ensures.1 (subst (HasTime c.args.wcet) (sym here) (at all)))
 
 pub functions-preserved : goal.functions-preserved
 functions-preserved c =

@@ -2,5 +2,5 @@
 use Rattle.drt_sp_plain.specs.Asked.{AreAll, IsAskedAbove}
 use Rattle.drt_sp_plain.proofs.decide.sums_above.Given as goal
 
-abbrev pub invariant-tasks : goal.invariant-tasks
-invariant-tasks l = AreAll (IsAskedAbove l.tasks l.priority l.k l.bound) l.sums.items
+abbrev pub invariant-higher : goal.invariant-higher
+invariant-higher l = AreAll (IsAskedAbove l.tasks l.priority l.k l.bound) l.sums.items

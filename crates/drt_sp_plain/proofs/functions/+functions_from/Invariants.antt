@@ -1,6 +1,6 @@
 -- The edges so far; the offset comes nearer to the bound.
-use Rattle.std.proofs.Common.{◌≡◌, ◌-◌, []}
-use Rattle.drt_sp_plain.specs.Asked.{AreAll, IsAskedThrough, asked_from}
+use Rattle.std.proofs.Common.{◌-◌}
+use Rattle.drt_sp_plain.specs.Asked.{AreAll, IsAskedThrough}
 use Rattle.drt_sp_plain.proofs.functions.+functions_from.Given as goal
 
 abbrev pub decreases-functions_from : goal.decreases-functions_from
