@@ -35,7 +35,7 @@ fn drawn_task(alloc: Global, draws: &mut Draws, number: u32, priority: u32) -> R
     let mut vertices = Vec::new(alloc);
     let mut edges = Vec::new(alloc);
     for v in 0..count {
-        let gap = draws.below(6) + 3;
+        let gap = draws.below(7) + 3;
         vertices.push(Vertex {
             name: make_name(alloc, &[b'v', b'0' + v as u8])?,
             wcet: draws.below(2) + 1,
@@ -43,7 +43,7 @@ fn drawn_task(alloc: Global, draws: &mut Draws, number: u32, priority: u32) -> R
         })?;
         for to in 0..count {
             if draws.below(2) == 0 {
-                edges.push(edge(v, to, gap + draws.below(5)))?;
+                edges.push(edge(v, to, gap + draws.below(4)))?;
             }
         }
     }
