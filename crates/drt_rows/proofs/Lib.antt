@@ -11,3 +11,4 @@ mod RequestRows
 mod PotentialRows
 mod FrontRows
 mod NeedsRows
+mod TreeRows
