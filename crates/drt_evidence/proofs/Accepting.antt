@@ -1,5 +1,5 @@
 -- When evidence of each kind is accepted: what its rules ask, as a record of its kind, is enough.
-use Rattle.std.proofs.Common.{◌≡◌, ℕ, ◌≤◌, ◌^◌, List, refl}
+use Rattle.std.proofs.Common.{◌≡◌, ℕ, ◌≤◌, ◌^◌, List, All, refl}
 use Rattle.drt_model.specs.Constrained.{AreConstrained}
 use Rattle.drt_model.specs.Contents.{Contents}
 use Rattle.drt_model.specs.Legal.{IsLegal}
@@ -13,16 +13,21 @@ use Rattle.drt_model.specs.declared.tasks.Task.{Task}
 use Rattle.drt_evidence.specs.Claims.{graphs_of, Each, IsClaimPerTask, AreLowest, HavePotentials, HaveFittingPotentials, HaveClosedCycles}
 use Rattle.drt_evidence.specs.Claims.{HaveTightCycles, IsFine, HaveUtilisationBelowOne, HaveUtilisationOne, IsHorizon}
 use Rattle.drt_evidence.specs.Fronts.{IsOrdered, HasOpenings, IsClosedFront, HaveRoom}
+use Rattle.drt_evidence.specs.Proofs.{IsProofPerVertex, HasShape, HasPassingTimes}
 use Rattle.drt_evidence.specs.Rules.{Accepts, Applies, Keeps}
 use Rattle.drt_evidence.specs.Statement.{Statement}
+use Rattle.drt_evidence.specs.Trees.{CoversWalks, HasShortWalks, IsTree, IsTreePerHigherTask, greatest_deadline, tree_graphs}
 use Rattle.drt_evidence.specs.declared.evidence.Evidence.{Evidence}
-use Rattle.drt_evidence.specs.declared.evidence.Evidence.TheVariants.{EdfYes, EdfNo, UtilisationOne, FixedNo}
+use Rattle.drt_evidence.specs.declared.evidence.Evidence.TheVariants.{EdfYes, EdfNo, UtilisationOne, FixedYes, FixedNo}
 use Rattle.drt_model.specs.declared.front.FrontEntry.{FrontEntry}
+use Rattle.drt_evidence.specs.declared.evidence.ProofClaim.{ProofClaim}
 use Rattle.drt_evidence.specs.declared.evidence.RatioClaim.{RatioClaim}
+use Rattle.drt_evidence.specs.declared.evidence.TreeClaim.{TreeClaim}
 use Rattle.drt_evidence.specs.declared.rule.Rule.{Rule}
 use Rattle.drt_evidence.specs.declared.rule.Rule.TheVariants.{ConstrainedDeadlines, KindOfPolicy, RatioPerTask, LowestTerms, PotentialPerVertex, FittingPotentials}
 use Rattle.drt_evidence.specs.declared.rule.Rule.TheVariants.{ClosedCycles, TightCycles, FineScale, ClaimedUtilisation, NearHorizon, OrderedFronts}
 use Rattle.drt_evidence.specs.declared.rule.Rule.TheVariants.{CoveredOpenings, CoveredExtensions, Room, LegalReleases, LeastMiss}
+use Rattle.drt_evidence.specs.declared.rule.Rule.TheVariants.{TreePerHigherTask, ShortWalks, CoveredWalks, TreeShapes, ProofPerVertex, ProofShapes, PassingTimes}
 
 -- A set under a policy with this evidence.
 abbrev pub statement : Policy → Contents → Evidence → Statement
@@ -58,6 +63,20 @@ pub record IsEdfYes (tasks : List Task) (ratios : List RatioClaim) (fronts : Lis
 pub record IsUtilisationOne (tasks : List Task) (ratios : List RatioClaim) : Type 0 where
   pub claims : AreRatioClaims tasks ratios
   pub one : HaveUtilisationOne ratios
+
+-- What the rules 16 to 19 ask up to the greatest deadline.
+pub record AreTreeClaims (tasks : List Task) (trees : List TreeClaim) : Type 0 where
+  pub per_task : IsTreePerHigherTask tasks trees
+  pub short : Each (HasShortWalks (greatest_deadline tasks)) (tree_graphs tasks trees) trees
+  pub covers : Each (CoversWalks (greatest_deadline tasks)) (tree_graphs tasks trees) trees
+  pub shapes : All IsTree trees
+
+-- What the rules from 16 on ask of a yes of fixed priorities.
+pub record IsFixedYes (tasks : List Task) (trees : List TreeClaim) (proofs : List ProofClaim) : Type 0 where
+  pub trees_are : AreTreeClaims tasks trees
+  pub per_vertex : IsProofPerVertex tasks proofs
+  pub shapes : All (HasShape tasks trees) proofs
+  pub times : All (HasPassingTimes tasks (tree_graphs tasks trees) trees) proofs
 
 -- What they ask of a no.
 pub record IsRefutation (policy : Policy) (tasks : List Task) (releases : List Release) (miss : Miss) : Type 0 where
@@ -122,4 +141,20 @@ fixed_no_accepted set releases miss constrained is = record { claims = λ e. abs
     keeps KindOfPolicy a = refl
     keeps LegalReleases a = is.legal
     keeps LeastMiss a = is.misses
+    keeps other a = absurd a
+
+pub fixed_yes_accepted : (set : Contents) (trees : List TreeClaim) (proofs : List ProofClaim) → AreConstrained set.tasks → IsFixedYes set.tasks trees proofs
+    → Accepts (statement Fixed set (FixedYes trees proofs))
+fixed_yes_accepted set trees proofs constrained is = record { claims = λ e. absurd (cc); keeps = keeps }
+  where
+    keeps : (rule : Rule) → Applies rule (FixedYes trees proofs) → Keeps rule (statement Fixed set (FixedYes trees proofs))
+    keeps ConstrainedDeadlines a = constrained
+    keeps KindOfPolicy a = refl
+    keeps TreePerHigherTask a = is.trees_are.per_task
+    keeps ShortWalks a = is.trees_are.short
+    keeps CoveredWalks a = is.trees_are.covers
+    keeps TreeShapes a = is.trees_are.shapes
+    keeps ProofPerVertex a = is.per_vertex
+    keeps ProofShapes a = is.shapes
+    keeps PassingTimes a = is.times
     keeps other a = absurd a

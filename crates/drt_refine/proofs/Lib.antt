@@ -13,3 +13,4 @@ pub mod Settling
 pub mod Driving
 pub mod Longer
 pub mod Splits
+pub mod Eagerly

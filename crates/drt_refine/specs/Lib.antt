@@ -6,3 +6,4 @@ pub mod Facts
 pub mod View
 pub mod States
 pub mod Drive
+pub mod Settled

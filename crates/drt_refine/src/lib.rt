@@ -20,4 +20,4 @@ mod theorem;
 pub use frontier::Frontier;
 pub use place::choose_place;
 pub use step::{CombinationState, FrontierEntry, FrontierReply, FrontierStep};
-pub use theorem::over_every_interleaving;
+pub use theorem::{eager_settles, over_every_interleaving};

@@ -5,9 +5,16 @@ ghost use Rattle.drt_worklist.specs.Places.{first};
 ghost use Rattle.drt_refine.specs.Combination.{is_pending, is_taken, is_held_by, is_failed};
 
 use crate::frontier::Frontier;
-use crate::step::FrontierEntry;
+use crate::step::{CombinationState, FrontierEntry};
 
 impl Frontier {
+    /// The number of combinations.
+    pub fn count(&self) -> u32
+        ensures { result ≡ length self.now.combinations }
+    {
+        self.states.count()
+    }
+
     /// The nodes of the combination of that number, one for each root.
     pub fn combination(&self, id: u32) -> &[u32]
         requires { id < length self.now.combinations }
@@ -18,11 +25,27 @@ impl Frontier {
         &self.nodes[start..start + width]
     }
 
+    /// The state of the combination of that number.
+    pub fn state(&self, id: u32) -> CombinationState
+        requires { id < length self.now.combinations }
+        ensures { IfSome (slice_get self.now.combinations id) (λ c. result ≡ c.state) }
+    {
+        self.states.at(id)
+    }
+
     /// The log, in order. The state is what its replay gives.
     pub fn log(&self) -> &[FrontierEntry]
         ensures { result.now ≡ self.now.log }
     {
         self.log.as_slice()
+    }
+
+    /// The log, in order, where the frontier is no longer needed.
+    pub fn into_log(self) -> Vec<FrontierEntry>
+        ensures { result.items ≡ self.log }
+    {
+        let Frontier { log, .. } = self;
+        log
     }
 
     /// The least combination that the worker holds, if there is one.

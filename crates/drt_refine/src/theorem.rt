@@ -6,8 +6,10 @@ ghost use Rattle.drt_tree.specs.Tree.{IsForest};
 ghost use Rattle.drt_worklist.specs.Places.{first};
 ghost use Rattle.drt_refine.specs.Below.{AreBelow, tuples};
 ghost use Rattle.drt_refine.specs.Combination.{Combination, is_failed};
+ghost use Rattle.drt_refine.specs.Eager.{IsEager};
 ghost use Rattle.drt_refine.specs.Facts.{Facts, IsPassed, CanGoOn};
 ghost use Rattle.drt_refine.specs.Machine.{Setting, IsRun, replay, is_finished, IsHopeless};
+ghost use Rattle.drt_refine.specs.Settled.{AreSettled, IsDone};
 
 use drt_tree::every_forest;
 
@@ -30,3 +32,16 @@ pub fn over_every_interleaving()
 {
     every_forest();
 }
+
+/// What holds besides after any eager run of the frontier machine, whoever made its steps and in whatever order.
+///
+/// - The first combination has the roots as its nodes, and each tuple below a combination is below the roots. A time that
+///   passed is the least one that passes. Where a combination was split, no time passes for its nodes, the place is the
+///   widest, and its halves come later and are those of no other combination.
+/// - Where it is finished, each combination passed or was split.
+///
+/// The function does nothing: its contract is a theorem.
+pub fn eager_settles()
+    ensures settled { (t : Setting) (log : _) → IsRun t log → IsEager t log → AreSettled t (replay t log).combinations }
+    ensures finished { (t : Setting) (log : _) → IsTrue (is_finished t (replay t log)) → (id : ℕ) (c : Combination) → slice_get (replay t log).combinations id ≡ Some c → IsDone c.state }
+{}

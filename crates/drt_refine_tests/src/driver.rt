@@ -6,7 +6,7 @@ ghost use Rattle.drt_refine.specs.View.{IsFrontier};
 
 use drt_label::Label;
 use drt_model::Row;
-use drt_refine::{Frontier, FrontierEntry};
+use drt_refine::{CombinationState, Frontier, FrontierEntry};
 use drt_request::RequestLabel;
 use drt_tree::Forest;
 use std::alloc::{AllocError as Memory, Global};
@@ -95,4 +95,17 @@ pub(crate) fn frontier_of(
 // Whether the log has these entries of worker 0.
 pub(crate) fn has_log(frontier: &Frontier, entries: &[FrontierEntry]) -> bool {
     frontier.log() == entries
+}
+
+// Whether these are the states of the combinations, in order.
+pub(crate) fn has_states(frontier: &Frontier, states: &[CombinationState]) -> bool {
+    if frontier.count() as usize != states.len() {
+        return false;
+    }
+    for id in 0..frontier.count() {
+        if frontier.state(id) != states[id as usize] {
+            return false;
+        }
+    }
+    true
 }

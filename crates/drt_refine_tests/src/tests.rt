@@ -1,5 +1,5 @@
-use crate::driver::{frontier_of, has_log, three_walks, two_walks};
-use drt_refine::{Frontier, FrontierEntry, FrontierReply, FrontierStep};
+use crate::driver::{frontier_of, has_log, has_states, three_walks, two_walks};
+use drt_refine::{CombinationState, Frontier, FrontierEntry, FrontierReply, FrontierStep};
 use drt_tree::Forest;
 use std::test::Fail;
 
@@ -76,6 +76,25 @@ fn both_halves_of_three_walks_pass(rt: HostRuntime) -> Result<(), Fail> {
         by(7, pass(2, 4)),
     ];
     assert!(rt; has_log(&frontier, &log));
+    Ok(())
+}
+
+#[test]
+fn combinations_show_how_they_were_settled(rt: HostRuntime) -> Result<(), Fail> {
+    let (forest, root) = two_walks(&rt, rt.alloc())?;
+    let mut frontier = frontier_of(&rt, rt.alloc(), &forest, root, 4, 6)?;
+    let _ = frontier.drive(&forest, 0);
+    let states = [
+        CombinationState::Split {
+            place: 0,
+            left: 1,
+            right: 2,
+        },
+        CombinationState::Passed(4),
+        CombinationState::Failed,
+    ];
+    assert!(rt; has_states(&frontier, &states));
+    assert_eq!(rt; frontier.into_log().len(), 6);
     Ok(())
 }
 

@@ -1,15 +1,20 @@
 -- The items of a vertex's proof, said of the nodes of a forest.
-use Rattle.std.specs.Prelude.{◌≡◌, ℕ, ◌<◌, Option, None, Some, List, [], ◌∷◌, length, slice_get, slice_set, false}
+use Rattle.std.specs.Prelude.{◌≡◌, ℕ, None, Some, List, [], ◌∷◌, ◌++◌, length, slice_get, slice_set, false, All}
 use Rattle.drt_steps.specs.Time.{IsLeastTime, Passes}
 use Rattle.drt_tree.specs.Tree.{Plain, children}
 use Rattle.drt_worklist.specs.Places.{first}
+use Rattle.drt_evidence.specs.Ranges.{IsCounted, IsInRangeItem, IsNumber}
 use Rattle.drt_evidence.specs.declared.evidence.Item.{Item}
 use Rattle.drt_evidence.specs.declared.evidence.Item.TheVariants.{Pass, Split}
 use Rattle.drt_refine.specs.Below.{AreBelow}
 use Rattle.drt_refine.specs.Combination.{is_failed}
 use Rattle.drt_refine.specs.Eager.{IsEager, IsPlace}
 use Rattle.drt_refine.specs.Machine.{Setting, IsRun, replay, is_finished}
+use Rattle.drt_refine.specs.declared.step.CombinationState.{CombinationState}
+use Rattle.drt_refine.specs.declared.step.CombinationState.TheVariants.{Pending, Taken, Passed as PassedAt, Split as SplitAt, Failed}
 use Rattle.drt_refine.specs.declared.step.FrontierEntry.{FrontierEntry}
+use Rattle.drt_sp.specs.declared.proving.VertexProof.{VertexProof}
+use Rattle.drt_sp.specs.declared.proving.VertexProof.TheVariants.{Passes as PassesBy, Fails as FailsAt, Spent as SpentBy}
 
 -- A job of this wcet and deadline and the trees with these roots, with a budget of steps.
 abbrev pub refinement_of : Plain → List ℕ → ℕ → ℕ → ℕ → Setting
@@ -51,3 +56,19 @@ module _ (f : Plain) (wcet deadline : ℕ) where
     pub spent : length log ≡ budget
     pub unfinished : is_finished (refinement_of f roots wcet deadline budget) (replay (refinement_of f roots wcet deadline budget) log) ≡ false
     pub unfailed : first is_failed (replay (refinement_of f roots wcet deadline budget) log).combinations ≡ None
+
+  -- What becomes of a vertex is so: it passes by these items, whose numbers are in the ranges of a dossier; it fails at the tuple; or
+  -- the budget was spent after the log.
+  abbrev pub IsVertexProof : List ℕ → ℕ → VertexProof → Type 0
+  IsVertexProof roots budget (PassesBy items) = IsProofOf roots items × All IsInRangeItem items × IsCounted items
+  IsVertexProof roots budget (FailsAt tuple) = IsFailure roots tuple
+  IsVertexProof roots budget (SpentBy log) = IsSpentRefinement roots budget log
+
+-- The item of a combination in this state, and the numbers on a stack before and after it: those of its halves are put onto it, the
+-- left one last.
+abbrev pub IsItemOf : CombinationState → Item → List ℕ → List ℕ → Type 0
+IsItemOf Pending item old new = ⊥
+IsItemOf (Taken w) item old new = ⊥
+IsItemOf (PassedAt time) item old new = (item ≡ Pass time) × (new ≡ old)
+IsItemOf (SplitAt place left right) item old new = (item ≡ Split place) × IsNumber place × (new ≡ old ++ right ∷ left ∷ [])
+IsItemOf Failed item old new = ⊥

@@ -2,3 +2,9 @@ pub mod Evidence
 pub mod OneTask
 pub mod TreeClaims
 pub mod Items
+pub mod Claims
+pub mod Answers
+pub mod Chosen
+pub mod Vertices
+pub mod Progress
+pub mod TaskTrees

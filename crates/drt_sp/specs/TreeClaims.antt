@@ -1,12 +1,11 @@
 -- What the search of a task's walks gives for a dossier: the tree as it is written.
-use Rattle.std.specs.Prelude.{◌≡◌, ℕ, ◌+◌, ◌-◌, ◌≤◌, ◌<◌, ◌↔◌, Option, None, Some, List, [], ◌∷◌, length, slice_get, slice_index_or, false, All, Contains}
+use Rattle.std.specs.Prelude.{◌≡◌, ℕ, ◌+◌, ◌-◌, ◌≤◌, ◌<◌, Option, None, Some, List, [], ◌∷◌, length, slice_get, slice_index_or, false, All}
 use Rattle.drt_model.specs.Digraph.{Digraph}
-use Rattle.drt_model.specs.RequestFunction.{request}
 use Rattle.drt_request.specs.Request.{request_algebra}
 use Rattle.drt_steps.specs.Values.{value_at}
 use Rattle.drt_table.specs.Machine.{Setting, IsRun, replay, is_finished}
 use Rattle.drt_table.specs.declared.step.Entry.{Entry}
-use Rattle.drt_tree.specs.Tree.{Plain, children, values, walk}
+use Rattle.drt_tree.specs.Tree.{Plain, children, values}
 use Rattle.drt_evidence.specs.Proofs.{parts}
 use Rattle.drt_evidence.specs.Trees.{CoversWalks, HasShortWalks, IsAbove, IsShortWalk, IsTree, node_values, root}
 use Rattle.drt_evidence.specs.declared.evidence.TreeClaim.{TreeClaim}

@@ -1,1 +1,110 @@
-//! The proof of a vertex.
+//! The proof that a vertex meets its deadline, whatever walks the tasks of higher priority take.
+ghost use Rattle.std.specs.Prelude.{◌≡◌, ◌≤◌, ◌<◌, ◌∷◌, [], All, IfOk, IsTrue, Some, length, slice_get};
+ghost use Rattle.drt_evidence.specs.Ranges.{IsCounted, IsInRangeItem};
+ghost use Rattle.drt_refine.specs.Combination.{Combination};
+ghost use Rattle.drt_refine.specs.Eager.{IsEager};
+ghost use Rattle.drt_refine.specs.Machine.{is_finished};
+ghost use Rattle.drt_refine.specs.Settled.{IsDone};
+ghost use Rattle.drt_refine.specs.View.{IsFrontier, setting_of, state_of};
+ghost use Rattle.drt_sp.specs.Items.{AreItems, IsItemOf, IsVertexProof};
+ghost use Rattle.drt_steps.specs.Time.{AreChosen};
+
+use drt_evidence::Item;
+use drt_model::{Memory, Row};
+use drt_refine::{
+    CombinationState, Frontier, FrontierEntry, FrontierReply, eager_settles,
+    over_every_interleaving,
+};
+use drt_tree::Forest;
+use std::alloc::Global;
+
+// The one worker that drives a vertex's frontier.
+const WORKER: u32 = 0;
+
+/// What becomes of a vertex: it passes, by the items of its proof; it fails at a tuple of leaves, one for each root; or the
+/// budget was spent after the steps of this log.
+#[derive(Drop)]
+pub(crate) enum VertexProof {
+    Passes(Row<Item>),
+    Fails(Row<u32>),
+    Spent(Row<FrontierEntry>),
+}
+
+/// Looks for a time that passes for a vertex of this wcet and deadline (in ticks), for each tuple of leaves below the roots,
+/// which are those of the trees of the tasks of higher priority. The budget is how many steps the frontier may make.
+pub(crate) fn prove_vertex(
+    alloc: Global,
+    forest: &Forest,
+    roots: &[u32],
+    wcet: u32,
+    deadline: u32,
+    budget: u64,
+) -> Result<VertexProof, Memory>
+    requires few { length roots.now ≤ 31 }
+    requires roots { AreChosen deadline forest.now.pool roots.now }
+    requires wcet { (1 ≤ wcet) × (wcet ≤ 1000000) }
+    requires deadline { (1 ≤ deadline) × (deadline ≤ 1000000) }
+    requires budget { (1 ≤ budget) × (budget ≤ 1000000) }
+    ensures { IfOk result (IsVertexProof forest.now wcet deadline roots.now budget) }
+{
+    over_every_interleaving();
+    eager_settles();
+    let mut frontier = Frontier::start(alloc, forest, roots, wcet, deadline, budget)?;
+    match frontier.drive(forest, WORKER) {
+        FrontierReply::Finished => Ok(VertexProof::Passes(items_of(alloc, forest, &frontier)?)),
+        FrontierReply::Failed(id) => Ok(VertexProof::Fails(tuple_of(alloc, &frontier, id)?)),
+        FrontierReply::Spent => Ok(VertexProof::Spent(Row::from_vec(frontier.into_log()))),
+        FrontierReply::Taken(_) => unreachable!(),
+        FrontierReply::Busy(_) => unreachable!(),
+        FrontierReply::Passed => unreachable!(),
+        FrontierReply::Halved(_, _) => unreachable!(),
+    }
+}
+
+// The items of a finished frontier: those of a combination that was split are its own, then those of its left half, then
+// those of its right half.
+fn items_of(alloc: Global, forest: &Forest, frontier: &Frontier) -> Result<Row<Item>, Memory>
+    requires frontier { IsFrontier forest.now frontier.now }
+    requires eager { IsEager (setting_of forest.now frontier.now) frontier.now.log }
+    requires finished { IsTrue (is_finished (setting_of forest.now frontier.now) (state_of frontier.now)) }
+    requires deadline { frontier.now.deadline ≤ 1000000 }
+    ensures are { IfOk result (λ items. AreItems forest.now frontier.now.wcet frontier.now.deadline items (frontier.now.roots ∷ [])) }
+    ensures in_range { IfOk result (λ items. All IsInRangeItem items × IsCounted items) }
+{
+    eager_settles();
+    let mut items = Vec::with_capacity(alloc, frontier.count() as usize)?;
+    let mut stack = Vec::new(alloc);
+    stack.push(0)?;
+    while let Some(id) = stack.pop() {
+        let item = take_item(frontier, id, &mut stack)?;
+        items.push(item)?;
+    }
+    Ok(Row::from_vec(items))
+}
+
+// The item of a settled combination. Where it was split, its halves come on the stack, the left one on top.
+fn take_item(frontier: &Frontier, id: u32, stack: &mut Vec<u32>) -> Result<Item, Memory>
+    requires within { id < length frontier.now.combinations }
+    requires done { (c : Combination) → slice_get frontier.now.combinations id ≡ Some c → IsDone c.state }
+    ensures { IfOk result (λ item. (c : Combination) → slice_get frontier.now.combinations id ≡ Some c → IsItemOf c.state item stack.old.items stack.new.items) }
+{
+    match frontier.state(id) {
+        CombinationState::Passed(time) => Ok(Item::Pass(time)),
+        CombinationState::Split { place, left, right } => {
+            stack.push(right)?;
+            stack.push(left)?;
+            Ok(Item::Split(place))
+        }
+        CombinationState::Pending => unreachable!(),
+        CombinationState::Taken(_) => unreachable!(),
+        CombinationState::Failed => unreachable!(),
+    }
+}
+
+// The leaves of a failed combination.
+fn tuple_of(alloc: Global, frontier: &Frontier, id: u32) -> Result<Row<u32>, Memory>
+    requires { id < length frontier.now.combinations }
+    ensures { IfOk result (λ tuple. (c : Combination) → slice_get frontier.now.combinations id ≡ Some c → tuple ≡ c.nodes) }
+{
+    Ok(Row::from_vec(Vec::from_slice(alloc, frontier.combination(id))?))
+}

@@ -1,1 +1,89 @@
-//! The tree of a task's walks.
+//! The tree of a task's walks: from its graph to the forest and to the dossier.
+ghost use Rattle.std.specs.Prelude.{◌≡◌, ◌+◌, ◌*◌, ◌≤◌, All, IfOk, length};
+ghost use Rattle.drt_request.specs.Request.{request_algebra};
+ghost use Rattle.drt_table.specs.Drive.{StopsAt};
+ghost use Rattle.drt_table.specs.View.{setting_of};
+ghost use Rattle.drt_sp.specs.TreeClaims.{search_of};
+ghost use Rattle.drt_sp.specs.TaskTrees.{IsTreeSearch};
+
+use crate::trees::adding::add_tree;
+use crate::trees::gathering::gather;
+use drt_evidence::TreeClaim;
+use drt_graph::Graph;
+use drt_model::{Memory, Row};
+use drt_request::RequestLabel;
+use drt_table::{Entry, Table, TableReply};
+use drt_tree::Forest;
+use std::alloc::Global;
+
+mod adding;
+mod gathering;
+#[cfg(test)]
+mod tests;
+
+/// A task's tree: its first node and its root in the forest, and the tree as it is written.
+#[derive(Drop)]
+pub(crate) struct TaskTree {
+    pub(crate) low: u32,
+    pub(crate) top: u32,
+    pub(crate) claim: TreeClaim,
+}
+
+/// How the search of a task's walks ended.
+#[derive(Drop)]
+pub(crate) enum TreeSearch {
+    /// It is finished, and this is the tree of the walks that it found.
+    Tree(TaskTree),
+    /// It spent its budget by these steps.
+    Spent(Row<Entry>),
+}
+
+// The search of a graph's walks up to the bound, driven to its end by one worker.
+fn search(
+    alloc: Global,
+    graph: &Graph,
+    bound: u64,
+    budget: u64,
+) -> Result<(Table<RequestLabel>, TableReply), Memory>
+    requires from { 1 ≤ bound }
+    requires to { bound ≤ 1000000 }
+    requires some { 1 ≤ budget }
+    requires few { budget ≤ 1000000 }
+    ensures setting { IfOk result (λ end. setting_of end.0 ≡ search_of graph.now bound budget) }
+    ensures stops { IfOk result (λ end. StopsAt request_algebra end.0 end.1) }
+{
+    let table: Table<RequestLabel> = Table::start(alloc, graph, bound, budget)?;
+    table.drive(alloc, 0)
+}
+
+/// Searches the walks of a task's graph up to the bound, in ticks, with this budget of steps, and puts the tree of those that no
+/// other one dominates into the forest. After want of memory the forest may have that tree or not.
+pub(crate) fn search_tree(
+    alloc: Global,
+    graph: &Graph,
+    bound: u64,
+    budget: u64,
+    forest: &mut Forest,
+) -> Result<TreeSearch, Memory>
+    requires from { 1 ≤ bound }
+    requires to { bound ≤ 1000000 }
+    requires some { 1 ≤ budget }
+    requires few { budget ≤ 1000000 }
+    requires functions { All (λ xs. length xs ≡ bound) forest.old.pool }
+    requires room { length forest.old.nodes + 2 * (1000000 + 96) ≤ 4294967295 }
+    ensures { IfOk result (IsTreeSearch graph.now bound budget forest.old forest.new) }
+{
+    let (table, _reply) = search(alloc, graph, bound, budget)?;
+    if !table.finished() {
+        let log = Vec::from_slice(alloc, table.log())?;
+        return Ok(TreeSearch::Spent(Row::from_vec(log)));
+    }
+    let leaves = gather(alloc, table)?;
+    let tree = add_tree(
+        alloc,
+        leaves.labels.as_slice(),
+        leaves.walks.as_slice(),
+        forest,
+    )?;
+    Ok(TreeSearch::Tree(tree))
+}

@@ -1,7 +1,9 @@
-//! Tests of the analysis under fixed priorities beside a plain program.
+//! Tests of the analysis under fixed priorities: dossiers of worked sets, spent budgets, and drawn sets beside a plain program.
 #![tactic(auto)]
 
 #[cfg(test)]
+mod answer_tests;
+#[cfg(test)]
 mod drawn;
 #[cfg(test)]
-mod tests;
+mod drawn_tests;

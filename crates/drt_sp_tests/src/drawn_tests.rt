@@ -10,6 +10,7 @@ use std::alloc::Global;
 use std::test::Fail;
 
 const DRAWN_SETS: u32 = 200;
+
 const BUDGET: u64 = 1_000_000;
 
 // Whether the answer is a yes, where it is a yes or a no.

@@ -1,0 +1,38 @@
+-- The proofs of the first vertices of a task, one after another.
+use Rattle.std.proofs.Common.{◌≡◌, ℕ, zero, suc, ◌+◌, ◌<◌, ◌≤◌, List, [], ◌∷◌, ◌++◌, length, map, All, refl, sym, ap, ◌∙◌, subst, arith}
+use Rattle.std.proofs.lemmas.List.{map_push}
+use Rattle.std.proofs.lemmas.List.Elements.{All-nil, All-push}
+use Rattle.std.proofs.lemmas.List.FromFn.{map-range_with_len_more}
+use Rattle.drt_model.specs.Digraph.{Digraph, IsSound, vertex_count}
+use Rattle.drt_model.specs.Walk.{deadline, wcet}
+use Rattle.drt_tree.specs.Tree.{Plain}
+use Rattle.drt_evidence.specs.Ranges.{IsCounted, IsInRangeItem}
+use Rattle.drt_evidence.specs.declared.evidence.Item.{Item}
+use Rattle.drt_evidence.specs.declared.evidence.ProofClaim.{ProofClaim}
+use Rattle.drt_sp.specs.Items.{IsProofOf}
+use Rattle.drt_sp.specs.Vertices.{AreVertexProofs, IsStop, IsProvedVertex, subject_of, subjects}
+use Rattle.drt_sp.proofs.Passing.{proofs_pass}
+
+module _ (f : Plain) (roots : List ℕ) (g : Digraph) (k : ℕ) where
+  pub no_proofs : AreVertexProofs f roots g k 0 []
+  no_proofs = record { are = refl; each = All-nil (IsProvedVertex f roots g k) }
+
+  pub proofs_more : (v : ℕ) (proofs : List ProofClaim) (items : List Item) → IsSound g → k ≤ 4294967295 → v < vertex_count g → AreVertexProofs f roots g k v proofs
+      → IsProofOf f (wcet g v) (deadline g v) roots items → All IsInRangeItem items → IsCounted items
+      → AreVertexProofs f roots g k (v + 1) (proofs ++ record { task = k; vertex = v; items = items } ∷ [])
+  proofs_more v proofs items sound few l are is each counted = record {
+    are = map_push subject_of proofs p ∙ (ap (λ xs. xs ++ (k, v) ∷ []) are.are ∙ sym (map-range_with_len_more (λ u. (k, u)) 0 v v (omega arith)));
+    each = All-push (IsProvedVertex f roots g k) proofs p are.each (record {
+      task_is = refl;
+      vertex = l;
+      proves = is;
+      range = record { task = few; vertex = omega (arith, l, sound.few); items = each; counted = counted };
+    });
+  }
+    where
+      p : ProofClaim
+      p = record { task = k; vertex = v; items = items }
+
+  -- The earlier vertices pass.
+  pub stop_at : (v : ℕ) (proofs : List ProofClaim) → v < vertex_count g → AreVertexProofs f roots g k v proofs → IsStop f roots g v
+  stop_at v proofs l are = record { vertex = l; earlier = λ u less. proofs_pass f roots g k v proofs are u less }

@@ -1,0 +1,102 @@
+use Rattle.std.proofs.Common.{◌≡◌, ℕ, ◌+◌, ◌<◌, ◌≤◌, Some, List, length, get_or, sym, ap, subst, arith, ◌∙◌}
+use Rattle.std.specs.Prelude.{slice_get}
+use Rattle.std.proofs.lemmas.List.{length-map}
+use Rattle.drt_model.specs.declared.tasks.Task.{Task}
+use Rattle.drt_model.specs.Digraph.{digraph_of, vertex_count}
+use Rattle.drt_model.specs.Limits.{IsTaskSet}
+use Rattle.drt_graph.specs.Graphs.{graph_of}
+use Rattle.drt_busy.specs.Choice.{graph_at}
+use Rattle.drt_tree.specs.Tree.{Plain}
+use Rattle.drt_choices.specs.Choices.{FirstPass, IsOrder}
+use Rattle.drt_evidence.specs.declared.evidence.TreeClaim.{TreeClaim}
+use Rattle.drt_releases.proofs.Walks.{graph_same}
+use Rattle.drt_evidence.specs.Trees.{greatest_deadline}
+use Rattle.drt_sp.specs.TaskTrees.{IsTaskTree}
+use Rattle.drt_sp.specs.TreeClaims.{IsSpentSearch}
+use Rattle.drt_sp.proofs.Growth.{grown_more, proved_kept, trees_count}
+use Rattle.drt_sp.proofs.Orders.{order_below, order_count, order_rises}
+use Rattle.drt_sp.proofs.Passing.{at_place, first_meet, higher_meet}
+use Rattle.drt_sp.proofs.Yes.{few_tasks}
+use Rattle.drt_sp.proofs.progress.Progress.add_tree.Goals as goal
+
+pub graph-graph-requires : goal.graph-graph-requires
+graph-graph-requires c =
+    let tasks : List Task = c.args.set.now.tasks in
+    let order : List ℕ = c.args.order.now in
+    omega (arith, order_below tasks order c.requires.given.order_is c.args.place (omega (arith, c.requires.here)), ap length c.requires.given.graphs_are, length-map tasks digraph_of)
+
+pub search_tree-requires-clause-room : goal.search_tree-requires-clause-room
+search_tree-requires-clause-room c =
+    let set = c.args.set.now in
+    let tasks : List Task = set.tasks in
+    let order : List ℕ = c.args.order.now in
+    let place = c.args.place in
+    let k = get_or order place 0 in
+    let is : IsOrder tasks order = c.requires.given.order_is in
+    let f : Plain = c.args.self.now.forest in
+    let roots : List ℕ = c.args.self.now.roots.items in
+    let trees : List TreeClaim = c.args.self.now.trees.items in
+    let limits : IsTaskSet set.version tasks = c.tasks-tasks.ensures.limits in
+    omega (arith, c.requires.grown.few, c.requires.here, order_count tasks order is, few_tasks set.version tasks limits)
+
+pub returns-in_ok-push-in-Tree-2-clause-grown : goal.returns-in_ok-push-in-Tree-2-clause-grown
+returns-in_ok-push-in-Tree-2-clause-grown c =
+    let set = c.args.set.now in
+    let tasks : List Task = set.tasks in
+    let order : List ℕ = c.args.order.now in
+    let place = c.args.place in
+    let k = get_or order place 0 in
+    let is : IsOrder tasks order = c.requires.given.order_is in
+    let f : Plain = c.args.self.now.forest in
+    let roots : List ℕ = c.args.self.now.roots.items in
+    let trees : List TreeClaim = c.args.self.now.trees.items in
+    let limits : IsTaskSet set.version tasks = c.tasks-tasks.ensures.limits in
+    let l : place < length order = omega (arith, c.requires.here) in
+    let at : slice_get order place ≡ Some k = at_place tasks order is place l in
+    let below : k < length tasks = order_below tasks order is place l in
+    let graph : c.graph-graph.result.now ≡ graph_at tasks k = c.graph-graph.ensures.graph ∙ (ap (λ gs. graph_of gs k) c.requires.given.graphs_are ∙ graph_same tasks k below) in
+    let t : IsTaskTree (graph_at tasks k) (greatest_deadline tasks) f c.search_tree.new.forest c.in-Tree.tree = rw (c.in-Tree.is, graph, c.greatest_deadline-bound.ensures.value) at c.in_ok-tree.ensures in
+    rw (c.in_ok-push-in-Tree.ensures.items, c.in_ok-push-in-Tree-2.ensures.items) (grown_more tasks order place k at f c.search_tree.new.forest roots trees c.requires.grown c.show_sound.ensures t.grows t.functions t.room
+    c.in-Tree.tree.low c.in-Tree.tree.top c.in-Tree.tree.claim t.stands t.claim t.rules t.range)
+
+pub returns-in_ok-push-in-Tree-2-clause-proved : goal.returns-in_ok-push-in-Tree-2-clause-proved
+returns-in_ok-push-in-Tree-2-clause-proved c =
+    let set = c.args.set.now in
+    let tasks : List Task = set.tasks in
+    let order : List ℕ = c.args.order.now in
+    let place = c.args.place in
+    let k = get_or order place 0 in
+    let is : IsOrder tasks order = c.requires.given.order_is in
+    let f : Plain = c.args.self.now.forest in
+    let roots : List ℕ = c.args.self.now.roots.items in
+    let trees : List TreeClaim = c.args.self.now.trees.items in
+    let limits : IsTaskSet set.version tasks = c.tasks-tasks.ensures.limits in
+    let l : place < length order = omega (arith, c.requires.here) in
+    let count : length trees ≡ place = trees_count tasks order place (omega arith) f roots trees c.requires.grown in
+    rw c.in_ok-push-in-Tree-2.ensures.items (proved_kept tasks order (place + 1) trees c.in-Tree.tree.claim c.args.self.now.proofs.items (omega (arith, count)) c.requires.proved)
+
+pub returns-in-Spent-clause-grown : goal.returns-in-Spent-clause-grown
+returns-in-Spent-clause-grown c =
+    let set = c.args.set.now in
+    let tasks : List Task = set.tasks in
+    let order : List ℕ = c.args.order.now in
+    let place = c.args.place in
+    let k = get_or order place 0 in
+    let is : IsOrder tasks order = c.requires.given.order_is in
+    let f : Plain = c.args.self.now.forest in
+    let roots : List ℕ = c.args.self.now.roots.items in
+    let trees : List TreeClaim = c.args.self.now.trees.items in
+    let limits : IsTaskSet set.version tasks = c.tasks-tasks.ensures.limits in
+    let l : place < length order = omega (arith, c.requires.here) in
+    let at : slice_get order place ≡ Some k = at_place tasks order is place l in
+    let below : k < length tasks = order_below tasks order is place l in
+    let graph : c.graph-graph.result.now ≡ graph_at tasks k = c.graph-graph.ensures.graph ∙ (ap (λ gs. graph_of gs k) c.requires.given.graphs_are ∙ graph_same tasks k below) in
+    let spent : IsSpentSearch (graph_at tasks k) (greatest_deadline tasks) c.args.budget c.in-Spent.log = rw (c.in-Spent.is, graph, c.greatest_deadline-bound.ensures.value) at c.in_ok-tree.ensures in
+    let first : FirstPass tasks order place = λ i j v m here w. c.requires.proved.passed i j v (omega (arith, m)) here w in
+    record {
+      task = below;
+      lower = (get_or order (place + 1) 0, order_below tasks order is (place + 1) c.requires.here, order_rises tasks order is place (place + 1) (omega arith) c.requires.here);
+      search = spent;
+      meets = first_meet tasks order is set.version c.times_suffice_for_task.ensures limits c.requires.given.constrained (place + 1) place k c.requires.proved.passed (omega arith) at;
+      higher = higher_meet tasks order is set.version c.times_suffice_for_task.ensures limits c.requires.given.constrained place k first at;
+    }

@@ -1,0 +1,120 @@
+-- What each answer of the analysis under fixed priorities says.
+use Rattle.std.specs.Prelude.{◌≡◌, ℕ, ◌<◌, ◌≤◌, List, [], length, All}
+use Rattle.drt_model.specs.Contents.{Contents}
+use Rattle.drt_model.specs.declared.tasks.Task.{Task}
+use Rattle.drt_model.specs.declared.jobs.Policy.TheVariants.{Fixed}
+use Rattle.drt_model.specs.declared.jobs.Release.{Release}
+use Rattle.drt_model.specs.declared.jobs.Miss.{Miss}
+use Rattle.drt_model.specs.Digraph.{vertex_count}
+use Rattle.drt_model.specs.Legal.{IsLegal}
+use Rattle.drt_model.specs.Schedulable.{Schedulable, jobs_of}
+use Rattle.drt_model.specs.Trace.{job_at, Misses}
+use Rattle.drt_model.specs.Walk.{deadline, wcet}
+use Rattle.drt_busy.specs.Choice.{graph_at, task_at}
+use Rattle.drt_tree.specs.Tree.{Plain}
+use Rattle.drt_refine.specs.Below.{AreNodes}
+use Rattle.drt_refine.specs.declared.step.FrontierEntry.{FrontierEntry}
+use Rattle.drt_table.specs.declared.step.Entry.{Entry}
+use Rattle.drt_choices.specs.Choices.{FirstPass, VertexPasses}
+use Rattle.drt_choices.specs.Laws.{IsPosed, no_releases}
+use Rattle.drt_evidence.specs.Claims.{Each}
+use Rattle.drt_evidence.specs.Proofs.{IsProofPerVertex}
+use Rattle.drt_evidence.specs.Ranges.{IsInRange}
+use Rattle.drt_evidence.specs.Rules.{Accepts}
+use Rattle.drt_evidence.specs.Trees.{greatest_deadline, tree_graphs}
+use Rattle.drt_evidence.specs.declared.evidence.Evidence.{Evidence}
+use Rattle.drt_evidence.specs.declared.evidence.Evidence.TheVariants.{EdfYes, EdfNo, UtilisationOne, FixedYes, FixedNo, Undecided}
+use Rattle.drt_evidence.specs.declared.evidence.ProofClaim.{ProofClaim}
+use Rattle.drt_evidence.specs.declared.evidence.TreeClaim.{TreeClaim}
+use Rattle.drt_sp.specs.Claims.{IsEagerProof}
+use Rattle.drt_sp.specs.Evidence.{under_fixed}
+use Rattle.drt_sp.specs.Items.{IsFailure, IsSpentRefinement}
+use Rattle.drt_sp.specs.TreeClaims.{IsSpentSearch, IsTreeOf}
+use Rattle.drt_sp.specs.declared.answer.FixedAnswer.{FixedAnswer}
+use Rattle.drt_sp.specs.declared.answer.FixedAnswer.TheVariants as answers
+use Rattle.drt_sp.specs.declared.answer.FixedTrail.{FixedTrail}
+use Rattle.drt_sp.specs.declared.answer.FixedTrail.TheVariants.{Table, Refine}
+
+-- No job of the task misses, whatever the tasks legally release.
+abbrev pub MeetsDeadlines : List Task → ℕ → Type 0
+MeetsDeadlines tasks k =
+    (releases : List Release) → IsLegal tasks releases → (j : ℕ) → j < length releases → (job_at (jobs_of tasks releases) j).task ≡ k
+    → ¬ Misses Fixed (jobs_of tasks releases) j
+
+-- None of the jobs of a task of higher priority than task k does.
+abbrev pub HigherMeetDeadlines : List Task → ℕ → Type 0
+HigherMeetDeadlines tasks k = (i : ℕ) → i < length tasks → (task_at tasks i).priority < (task_at tasks k).priority → MeetsDeadlines tasks i
+
+-- A yes: the set is schedulable, the evidence is accepted, each tree has exactly the labels of walks that no other one dominates, and each
+-- proof splits only where no time passes and passes with the least time.
+pub record IsExactYes (set : Contents) (trees : List TreeClaim) (proofs : List ProofClaim) : Type 0 where
+  pub schedulable : Schedulable set.tasks Fixed
+  pub accepted : Accepts (under_fixed set (FixedYes trees proofs))
+  pub exact : Each (IsTreeOf (greatest_deadline set.tasks)) (tree_graphs set.tasks trees) trees
+  pub eager : All (IsEagerProof set.tasks trees) proofs
+
+-- Where an analysis stands at a vertex: trees of a forest stand for the walks of the tasks of higher priority, each of whose vertices
+-- passes, so that none of their jobs misses; and each earlier vertex of its task passes.
+pub record IsReached (set : Contents) (order : List ℕ) (f : Plain) (roots : List ℕ) (k v : ℕ) : Type 0 where
+  pub task : k < length set.tasks
+  pub nodes : AreNodes f roots
+  pub posed : IsPosed set.version set.tasks order (greatest_deadline set.tasks) f roots k v
+  pub passed : FirstPass set.tasks order (length roots)
+  pub higher : HigherMeetDeadlines set.tasks k
+  pub earlier : (u : ℕ) → u < v → VertexPasses set.tasks k u
+
+-- The vertex that was reached is the first that fails: no time passes for it and the tuple of leaves.
+pub record IsFailedVertex (set : Contents) (order : List ℕ) (f : Plain) (k v : ℕ) (tuple : List ℕ) : Type 0 where
+  pub roots : List ℕ
+  pub reached : IsReached set order f roots k v
+  pub failure : IsFailure f (wcet (graph_at set.tasks k) v) (deadline (graph_at set.tasks k) v) roots tuple
+
+-- A no: the set isn't schedulable, and the evidence is accepted. It is that of the first vertex that fails, in order of priority and then
+-- of the file: the releases are those of the walks of a tuple of leaves and one of the vertex, whose job misses.
+pub record IsMissed (set : Contents) (releases : List Release) (miss : Miss) : Type 0 where
+  pub not_schedulable : ¬ Schedulable set.tasks Fixed
+  pub accepted : Accepts (under_fixed set (FixedNo releases miss))
+  pub order : List ℕ
+  pub forest : Plain
+  pub task : ℕ
+  pub vertex : ℕ
+  pub tuple : List ℕ
+  pub failed : IsFailedVertex set order forest task vertex tuple
+  pub releases_are : releases ≡ no_releases set.tasks forest order tuple task vertex
+  pub miss_is : miss ≡ record { task = task; index = 0; deadline = deadline (graph_at set.tasks task) vertex }
+
+-- What the evidence of an answer says. The analysis gives no other kind.
+abbrev pub IsVerdict : Contents → Evidence → Type 0
+IsVerdict set (EdfYes ratios fronts) = ⊥
+IsVerdict set (EdfNo releases miss) = ⊥
+IsVerdict set (UtilisationOne ratios) = ⊥
+IsVerdict set (FixedYes trees proofs) = IsExactYes set trees proofs
+IsVerdict set (FixedNo releases miss) = IsMissed set releases miss
+IsVerdict set Undecided = ⊥
+
+-- The search of a task's walks up to the greatest deadline spent the budget. Another task has a lower priority, and no job of the task or
+-- of one of higher priority misses.
+pub record IsSpentTable (tasks : List Task) (budget k : ℕ) (log : List Entry) : Type 0 where
+  pub task : k < length tasks
+  pub lower : (i : ℕ) × (i < length tasks) × ((task_at tasks k).priority < (task_at tasks i).priority)
+  pub search : IsSpentSearch (graph_at tasks k) (greatest_deadline tasks) budget log
+  pub meets : MeetsDeadlines tasks k
+  pub higher : HigherMeetDeadlines tasks k
+
+-- The refinement at a vertex spent the budget.
+pub record IsSpentVertex (set : Contents) (budget k v : ℕ) (log : List FrontierEntry) : Type 0 where
+  pub order : List ℕ
+  pub forest : Plain
+  pub roots : List ℕ
+  pub reached : IsReached set order forest roots k v
+  pub refinement : IsSpentRefinement forest (wcet (graph_at set.tasks k) v) (deadline (graph_at set.tasks k) v) roots budget log
+
+-- Why there is no answer: a budget was spent.
+abbrev pub IsUndecided : Contents → ℕ → FixedTrail → Type 0
+IsUndecided set budget (Table task log) = IsSpentTable set.tasks budget task log
+IsUndecided set budget (Refine task vertex log) = IsSpentVertex set budget task vertex log
+
+-- What each answer says, with a budget.
+abbrev pub IsAnswer : Contents → ℕ → FixedAnswer → Type 0
+IsAnswer set budget (answers.Done evidence) = IsVerdict set evidence × IsInRange evidence
+IsAnswer set budget (answers.Undecided trail) = IsUndecided set budget trail

@@ -1,0 +1,73 @@
+-- How far an analysis under fixed priorities has come.
+use Rattle.std.specs.Prelude.{◌≡◌, ℕ, ◌+◌, ◌*◌, ◌≤◌, ◌<◌, List, [], ◌∷◌, length, map, take, All, Some, slice_get, slice_index_or}
+use Rattle.drt_model.specs.Constrained.{AreConstrained}
+use Rattle.drt_model.specs.Contents.{Contents}
+use Rattle.drt_model.specs.Digraph.{Digraph, vertex_count}
+use Rattle.drt_model.specs.Walk.{deadline, wcet}
+use Rattle.drt_model.specs.declared.tasks.Task.{Task}
+use Rattle.drt_busy.specs.Choice.{graph_at}
+use Rattle.drt_tree.specs.Tree.{Plain}
+use Rattle.drt_choices.specs.Choices.{AreTrees, FirstPass, IsOrder}
+use Rattle.drt_evidence.specs.Claims.{Each, graphs_of}
+use Rattle.drt_evidence.specs.Ranges.{IsInRangeProof, IsInRangeTree}
+use Rattle.drt_evidence.specs.Trees.{greatest_deadline}
+use Rattle.drt_evidence.specs.declared.evidence.ProofClaim.{ProofClaim}
+use Rattle.drt_evidence.specs.declared.evidence.TreeClaim.{TreeClaim}
+use Rattle.drt_sp.specs.Claims.{AreClaimsOf}
+use Rattle.drt_sp.specs.Items.{AreItems}
+use Rattle.drt_sp.specs.TreeClaims.{IsTreeOf}
+use Rattle.drt_sp.specs.Vertices.{subject_of, subjects}
+
+-- What an analysis is given: a set with constrained deadlines, its graphs, its tasks in order of priority, and a budget of steps.
+pub record IsGiven (set : Contents) (graphs : List Digraph) (order : List ℕ) (budget : ℕ) : Type 0 where
+  pub constrained : AreConstrained set.tasks
+  pub graphs_are : graphs ≡ graphs_of set.tasks
+  pub order_is : IsOrder set.tasks order
+  pub some : 1 ≤ budget
+  pub few : budget ≤ 1000000
+
+-- The graphs of the first tasks of an order.
+abbrev pub first_graphs : List Task → List ℕ → ℕ → List Digraph
+first_graphs tasks order m = take m (map (graph_at tasks) order)
+
+-- The trees of the tasks at the first m places of the order stand in the forest, with these roots and as these claims.
+pub record AreGrown (tasks : List Task) (order : List ℕ) (m : ℕ) (f : Plain) (roots : List ℕ) (trees : List TreeClaim) : Type 0 where
+  pub count : length roots ≡ m
+  pub one_bound : All (λ (xs : List ℕ). length xs ≡ greatest_deadline tasks) f.pool
+  pub few : length f.nodes ≤ m * 2000192
+  pub stand : AreTrees tasks order (greatest_deadline tasks) f roots
+  pub lows : List ℕ
+  pub claimed : AreClaimsOf (greatest_deadline tasks) f (first_graphs tasks order m) lows roots trees
+  pub exact : Each (IsTreeOf (greatest_deadline tasks)) (first_graphs tasks order m) trees
+  pub range : All IsInRangeTree trees
+
+-- It is the proof of a vertex of task k at place i of the order: its items are those of a refinement over the first i trees.
+pub record IsProofAt (tasks : List Task) (order : List ℕ) (i k : ℕ) (trees : List TreeClaim) (proof : ProofClaim) : Type 0 where
+  pub task_is : proof.task ≡ k
+  pub vertex : proof.vertex < vertex_count (graph_at tasks k)
+  pub range : IsInRangeProof proof
+  pub forest : Plain
+  pub lows : List ℕ
+  pub roots : List ℕ
+  pub claimed : AreClaimsOf (greatest_deadline tasks) forest (first_graphs tasks order i) lows roots (take i trees)
+  pub items_are : AreItems forest (wcet (graph_at tasks k) proof.vertex) (deadline (graph_at tasks k) proof.vertex) proof.items (roots ∷ [])
+
+-- They are the proofs of the vertices of task k at place i of the order.
+pub record AreProofsAt (tasks : List Task) (order : List ℕ) (i k : ℕ) (trees : List TreeClaim) (proofs : List ProofClaim) : Type 0 where
+  pub are : map subject_of proofs ≡ subjects k (vertex_count (graph_at tasks k))
+  pub each : All (IsProofAt tasks order i k trees) proofs
+
+-- Each vertex of the tasks at the first m places of the order passes, and has its proof in the row of its task.
+pub record AreProved (tasks : List Task) (order : List ℕ) (m : ℕ) (trees : List TreeClaim) (rows : List (List ProofClaim)) : Type 0 where
+  pub count : length rows ≡ length tasks
+  pub passed : FirstPass tasks order m
+  pub each : (i k : ℕ) → i < m → slice_get order i ≡ Some k → AreProofsAt tasks order i k trees (slice_index_or rows k [])
+
+-- The trees of all tasks but the last one of an order, and the proofs of all.
+pub record IsComplete (tasks : List Task) (f : Plain) (roots : List ℕ) (trees : List TreeClaim) (rows : List (List ProofClaim)) : Type 0 where
+  pub order : List ℕ
+  pub order_is : IsOrder tasks order
+  pub last : ℕ
+  pub whole : last + 1 ≡ length order
+  pub grown : AreGrown tasks order last f roots trees
+  pub proved : AreProved tasks order (length order) trees rows

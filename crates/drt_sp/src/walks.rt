@@ -1,0 +1,137 @@
+//! The walks that a failing tuple of leaves names.
+ghost use Rattle.std.specs.Prelude.{◌≡◌, ℕ, ◌≤◌, ◌<◌, List, length, IfOk};
+ghost use Rattle.drt_model.specs.declared.tasks.Task.{Task};
+ghost use Rattle.drt_model.specs.Digraph.{vertex_count};
+ghost use Rattle.drt_model.specs.Walk.{deadline};
+ghost use Rattle.drt_busy.specs.Choice.{IsWalk, graph_at};
+ghost use Rattle.drt_busy.specs.WalkReleases.{with_job};
+ghost use Rattle.drt_choices.specs.Choices.{chosen, cut};
+ghost use Rattle.drt_evidence.specs.Claims.{graphs_of};
+ghost use Rattle.drt_releases.specs.Walks.{walk_at};
+ghost use Rattle.drt_sp.specs.Chosen.{AreLeaves, leaf_for};
+
+use drt_graph::{Graph, Graphs};
+use drt_model::{Memory, Row, Task};
+use drt_tree::Forest;
+use std::alloc::Global;
+
+/// A vertex of a task, by their numbers, and a tuple of leaves for which no time passes for it.
+#[derive(Drop)]
+pub(crate) struct Failed {
+    pub(crate) task: u32,
+    pub(crate) vertex: u32,
+    pub(crate) tuple: Row<u32>,
+}
+
+/// The walks of a no, one for each task: those of the tuple's leaves for the tasks of higher priority, cut at the vertex's deadline, and
+/// the vertex alone for its own task.
+pub(crate) fn job_walks(
+    alloc: Global,
+    tasks: &[Task],
+    graphs: &Graphs,
+    forest: &Forest,
+    order: &[u32],
+    failed: &Failed,
+) -> Result<Vec<Row<u32>>, Memory>
+    requires graphs { graphs.now ≡ graphs_of tasks.now }
+    requires leaves { AreLeaves tasks.now forest.now order.now failed.now.tuple }
+    requires task { failed.now.task < length tasks.now }
+    requires vertex { failed.now.vertex < vertex_count (graph_at tasks.now failed.now.task) }
+    ensures count { IfOk result (λ walks. length walks.items ≡ length tasks.now) }
+    ensures each { IfOk result (λ walks. (k : ℕ) → k < length tasks.now → walk_at walks.items k ≡ with_job tasks.now (chosen tasks.now forest.now (deadline (graph_at tasks.now failed.now.task) failed.now.vertex) order.now failed.now.tuple) failed.now.task failed.now.vertex k) }
+{
+    let mut walks = Vec::new(alloc);
+    'tasks: for k in 0..graphs.count() {
+        walks.push(job_walk(alloc, tasks, graphs, forest, order, failed, k)?)?;
+    }
+    Ok(walks)
+}
+
+// The walk of one task among them.
+fn job_walk(
+    alloc: Global,
+    tasks: &[Task],
+    graphs: &Graphs,
+    forest: &Forest,
+    order: &[u32],
+    failed: &Failed,
+    k: u32,
+) -> Result<Row<u32>, Memory>
+    requires graphs { graphs.now ≡ graphs_of tasks.now }
+    requires leaves { AreLeaves tasks.now forest.now order.now failed.now.tuple }
+    requires task { failed.now.task < length tasks.now }
+    requires vertex { failed.now.vertex < vertex_count (graph_at tasks.now failed.now.task) }
+    requires here { k < length tasks.now }
+    ensures { IfOk result (λ walk. walk ≡ with_job tasks.now (chosen tasks.now forest.now (deadline (graph_at tasks.now failed.now.task) failed.now.vertex) order.now failed.now.tuple) failed.now.task failed.now.vertex k) }
+{
+    if tasks[k as usize].priority < tasks[failed.task as usize].priority {
+        let end = graphs.graph(failed.task).vertex(failed.vertex).deadline;
+        return chosen_walk(alloc, graphs, forest, end, order, failed.tuple.as_slice(), k);
+    }
+    let mut walk = Vec::new(alloc);
+    if k == failed.task {
+        walk.push(failed.vertex)?;
+    }
+    Ok(Row::from_vec(walk))
+}
+
+// The walk that a tuple names for a task, cut at `end` ticks; no walk where the tuple has no leaf for it.
+fn chosen_walk(
+    alloc: Global,
+    graphs: &Graphs,
+    forest: &Forest,
+    end: u32,
+    order: &[u32],
+    tuple: &[u32],
+    k: u32,
+) -> Result<Row<u32>, Memory>
+    requires here { k < length graphs.now }
+    requires leaves { (tasks : List Task) × (graphs.now ≡ graphs_of tasks) × AreLeaves tasks forest.now order.now tuple.now }
+    ensures { IfOk result (λ walk. (tasks : List Task) → graphs.now ≡ graphs_of tasks → walk ≡ chosen tasks forest.now end order.now tuple.now k) }
+{
+    match leaf_of(order, tuple, k) {
+        Some(leaf) => cut_walk(alloc, graphs.graph(k), end, forest.walk(leaf).as_slice()),
+        None => Ok(Row::from_vec(Vec::new(alloc))),
+    }
+}
+
+// The leaf that a tuple has for a task.
+fn leaf_of(order: &[u32], tuple: &[u32], k: u32) -> Option<u32>
+    requires { length tuple.now ≤ length order.now }
+    ensures { result ≡ leaf_for order.now tuple.now k }
+{
+    'places: for i in 0..tuple.len() {
+        if order[i] == k {
+            return Some(tuple[i]);
+        }
+    }
+    None
+}
+
+// A walk as far as the offsets of its releases are below `end`, in ticks.
+fn cut_walk(alloc: Global, graph: &Graph, end: u32, walk: &[u32]) -> Result<Row<u32>, Memory>
+    requires walk { IsWalk graph.now walk.now }
+    ensures { IfOk result (λ row. row ≡ cut graph.now end walk.now) }
+{
+    let _count = graph.vertex_count();
+    let mut kept = Vec::new(alloc);
+    if walk.is_empty() {
+        return Ok(Row::from_vec(kept));
+    }
+    let mut vertex = walk[0];
+    let mut offset: u64 = 0;
+    kept.push(vertex)?;
+    'steps: for i in 1..walk.len() {
+        let next = walk[i];
+        let Some(gap) = graph.separation(vertex, next) else {
+            unreachable!();
+        };
+        offset += u64::from(gap);
+        if offset >= u64::from(end) {
+            return Ok(Row::from_vec(kept));
+        }
+        kept.push(next)?;
+        vertex = next;
+    }
+    Ok(Row::from_vec(kept))
+}

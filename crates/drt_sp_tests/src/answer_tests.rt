@@ -1,0 +1,104 @@
+//! Answers of worked sets.
+use drt_evidence::{Dossier, print};
+use drt_model::{Policy, TaskSet};
+use drt_sp::{FixedAnswer, FixedTrail, analyse_fixed};
+use std::alloc::Global;
+use std::test::Fail;
+
+// A task of two jobs, each of which comes again, above a task of one.
+const LOOPED: &str = "drt 1\ntask T1\nvertex x 3 5\nvertex y 2 4\nedge x x 20\nedge y y 4\ntask T2\nvertex z 2 5\nedge z z 10\nend\n";
+
+const LOOPED_YES: &str = "evidence fixed-yes\ntrees 1\ntree 3\nwalk 1 1\nwalk 1 0\nwalk 2 1 1\npairs 2\npair 0 1\npair 3 2\nproofs 3\nproof 0 0 1 p3\nproof 0 1 1 p2\nproof 1 0 3 s0 p5 p4\nclose\n";
+
+// The job of the second task is a tick late behind the first one's longer job.
+const TICK_LATE: &str =
+    "drt 1\ntask T1\nvertex x 3 5\nvertex y 2 4\ntask T2\nvertex z 2 4\nend\n";
+
+const TICK_LATE_NO: &str =
+    "evidence fixed-no\nreleases 2\nrelease 0 0 0 3\nrelease 1 0 0 2\nmiss 1 0 4\nclose\n";
+
+// The job of the third task is done behind either of the others alone, and isn't behind both.
+const PAIR_LATE: &str =
+    "drt 1\ntask T1\nvertex a 2 4\ntask T2\nvertex b 2 4\ntask T3\nvertex c 1 4\nend\n";
+
+const PAIR_LATE_NO: &str =
+    "evidence fixed-no\nreleases 3\nrelease 0 0 0 2\nrelease 1 0 0 2\nrelease 2 0 0 1\nmiss 2 0 4\nclose\n";
+
+// Three tasks, the last of which has the highest priority.
+const TURNED: &str =
+    "drt 2\ntask A\npriority 30\nvertex c 1 6\ntask B\npriority 20\nvertex b 2 6\ntask C\npriority 10\nvertex a 3 6\nend\n";
+
+const TURNED_YES: &str =
+    "evidence fixed-yes\ntrees 2\ntree 1\nwalk 1 0\npairs 0\ntree 1\nwalk 1 0\npairs 0\nproofs 3\nproof 0 0 1 p6\nproof 1 0 1 p5\nproof 2 0 1 p3\nclose\n";
+
+// The set of a text, and the answer to it.
+fn answer_to(alloc: Global, text: &str, budget: u64) -> Result<(TaskSet, FixedAnswer), Fail> {
+    if text.len() > 1_000_000 || budget < 1 || budget > 1_000_000 {
+        return Err("a worked set is short, and its budget is in range".into());
+    }
+    let set = drt_file::read(alloc, text.as_bytes())?;
+    let graphs = drt_graph::check(alloc, &set)?;
+    let answer = analyse_fixed(alloc, &set, &graphs, budget)?;
+    Ok((set, answer))
+}
+
+// Whether the dossier of the answer has these lines behind the set, which is in canonical text.
+fn has_dossier(alloc: Global, text: &str, body: &str) -> Result<bool, Fail> {
+    let (set, answer) = answer_to(alloc, text, 1000)?;
+    let FixedAnswer::Done(evidence) = answer else {
+        return Ok(false);
+    };
+    let dossier = Dossier {
+        policy: Policy::Fixed,
+        set,
+        evidence,
+    };
+    let written = print(alloc, &dossier)?;
+    let mut expected = Vec::new(alloc);
+    expected.extend_from_slice(b"drt-dossier 1\npolicy fixed\n")?;
+    expected.extend_from_slice(text.as_bytes())?;
+    expected.extend_from_slice(body.as_bytes())?;
+    Ok(written.as_slice() == expected.as_slice())
+}
+
+// The task, the vertex if there is one, and the number of steps at which a budget was spent.
+fn trail_of(alloc: Global, text: &str, budget: u64) -> Result<Option<(u32, Option<u32>, usize)>, Fail> {
+    let (_set, answer) = answer_to(alloc, text, budget)?;
+    match answer {
+        FixedAnswer::Done(_) => Ok(None),
+        FixedAnswer::Undecided(FixedTrail::Table { task, log }) => {
+            Ok(Some((task, None, log.as_slice().len())))
+        }
+        FixedAnswer::Undecided(FixedTrail::Refine { task, vertex, log }) => {
+            Ok(Some((task, Some(vertex), log.as_slice().len())))
+        }
+    }
+}
+
+#[test]
+fn worked_sets_have_their_dossiers(rt: HostRuntime) -> Result<(), Fail> {
+    let cases = [
+        (LOOPED, LOOPED_YES),
+        (TICK_LATE, TICK_LATE_NO),
+        (PAIR_LATE, PAIR_LATE_NO),
+        (TURNED, TURNED_YES),
+    ];
+    for (text, body) in cases {
+        assert!(rt; has_dossier(rt.alloc(), text, body)?, "of {text}");
+    }
+    Ok(())
+}
+
+#[test]
+fn budgets_are_spent_in_a_search_or_a_refinement(rt: HostRuntime) -> Result<(), Fail> {
+    let cases = [
+        (LOOPED, 8, Some((0, None, 8))),
+        (LOOPED, 9, None),
+        (TICK_LATE, 5, Some((1, Some(0), 5))),
+        (TICK_LATE, 6, None),
+    ];
+    for (text, budget, trail) in cases {
+        assert!(rt; trail_of(rt.alloc(), text, budget)? == trail, "of {budget} steps");
+    }
+    Ok(())
+}
