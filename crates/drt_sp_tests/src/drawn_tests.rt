@@ -1,0 +1,85 @@
+//! Sets answered by the analysis, by a plain program and by hand.
+use crate::drawn::{Draws, drawn_set};
+use drt_evidence::Evidence;
+use drt_fixtures::{Shape, make_set};
+use drt_graph::{Graphs, check};
+use drt_model::TaskSet;
+use drt_sp::{FixedAnswer, analyse_fixed};
+use drt_sp_plain::is_schedulable;
+use std::alloc::Global;
+use std::test::Fail;
+
+const DRAWN_SETS: u32 = 200;
+
+const BUDGET: u64 = 1_000_000;
+
+// Whether the answer is a yes, where it is a yes or a no.
+fn verdict(answer: &FixedAnswer) -> Option<bool> {
+    match answer {
+        FixedAnswer::Done(Evidence::FixedYes { .. }) => Some(true),
+        FixedAnswer::Done(Evidence::FixedNo { .. }) => Some(false),
+        _ => None,
+    }
+}
+
+// What the plain program says of a set, and what the analysis does.
+fn verdicts(alloc: Global, set: &TaskSet) -> Result<(bool, Option<bool>), Fail> {
+    let Ok(graphs) = check(alloc, set) else {
+        return Err("constrained deadlines".into());
+    };
+    let plain = is_schedulable(alloc, set, &graphs)?;
+    let answer = analyse_fixed(alloc, set, &graphs, BUDGET)?;
+    Ok((plain, verdict(&answer)))
+}
+
+fn drawn_verdicts(alloc: Global, draws: &mut Draws) -> Result<(bool, Option<bool>), Fail> {
+    let set = drawn_set(alloc, draws)?;
+    verdicts(alloc, &set)
+}
+
+// Whether both say so of the set of these shapes.
+fn is_decided(alloc: Global, shapes: &[Shape<'_>], yes: bool) -> Result<bool, Fail> {
+    let set = make_set(alloc, shapes)?.ok_or("within the limits")?;
+    let (plain, analysed) = verdicts(alloc, &set)?;
+    Ok(plain == yes && analysed == Some(yes))
+}
+
+#[test]
+fn drawn_sets_are_answered_as_by_a_plain_program(rt: HostRuntime) -> Result<(), Fail> {
+    let mut draws = Draws { state: 1 };
+    let mut yes: u32 = 0;
+    let mut no: u32 = 0;
+    for number in 0..DRAWN_SETS {
+        let (plain, analysed) = drawn_verdicts(rt.alloc(), &mut draws)?;
+        assert_eq!(rt; analysed, Some(plain), "set {number}");
+        if plain {
+            yes = yes.saturating_add(1);
+        } else {
+            no = no.saturating_add(1);
+        }
+    }
+    // Each verdict is that of at least a quarter of the sets.
+    assert!(rt; yes >= DRAWN_SETS / 4 && no >= DRAWN_SETS / 4);
+    Ok(())
+}
+
+#[test]
+fn one_tick_decides_a_set(rt: HostRuntime) -> Result<(), Fail> {
+    // One job in 4 ticks; in turn a short job due after 2 ticks and a long one due after 4; one job in 2 ticks.
+    let one: Shape<'_> = (&[(1, 4)], &[(0, 0, 4)]);
+    let two: Shape<'_> = (&[(1, 2), (3, 4)], &[(0, 1, 2), (1, 0, 4)]);
+    let half: Shape<'_> = (&[(1, 2)], &[(0, 0, 2)]);
+    // Beside these a lower job passes where it is done at 4, at 6 (whichever of the two jobs comes first) and at 8.
+    let cases: [(&[Shape<'_>], bool); 6] = [
+        (&[one, (&[(3, 4)], &[])], true),
+        (&[one, (&[(4, 4)], &[])], false),
+        (&[two, (&[(2, 7)], &[])], true),
+        (&[two, (&[(3, 7)], &[])], false),
+        (&[half, one, (&[(2, 8)], &[])], true),
+        (&[half, one, (&[(3, 8)], &[])], false),
+    ];
+    for (shapes, yes) in cases {
+        assert!(rt; is_decided(rt.alloc(), shapes, yes)?);
+    }
+    Ok(())
+}
