@@ -1,8 +1,8 @@
 //! Dossiers by hand, true and hostile, and their judgements.
 use crate::given::{Claim, Entry, Job, dossier, no, one, yes};
-use drt_fixtures::Shape;
 use drt_check::{Judgement, check};
 use drt_evidence::Evidence;
+use drt_fixtures::Shape;
 use drt_model::{Policy, Row};
 use std::alloc::Global;
 use std::test::Fail;

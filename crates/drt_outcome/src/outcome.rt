@@ -19,7 +19,10 @@ pub enum Trail {
     /// No budget was spent.
     Nothing,
     /// The search of this task's walks spent it, by the steps of this log.
-    Table { task: u32, log: Row<Entry> },
+    Table {
+        task: u32,
+        log: Row<Entry>,
+    },
     /// The refinement at this vertex of this task spent it, by the steps of this log.
     Refine {
         task: u32,
@@ -27,7 +30,9 @@ pub enum Trail {
         log: Row<FrontierEntry>,
     },
     /// The search for an overload spent it; its last step time, in ticks.
-    Overload { last: u64 },
+    Overload {
+        last: u64,
+    },
 }
 
 /// The schedulable set's status.
