@@ -6,13 +6,14 @@ use std::alloc::Global;
 use std::test::Fail;
 
 // A task of two jobs, each of which comes again, above a task of one.
-const LOOPED: &str = "drt 1\ntask T1\nvertex x 3 5\nvertex y 2 4\nedge x x 20\nedge y y 4\ntask T2\nvertex z 2 5\nedge z z 10\nend\n";
+const LOOPED: &str =
+    "drt 1\ntask T1\nvertex x 3 5\nvertex y 2 4\nedge x x 20\nedge y y 4\ntask T2\nvertex z 2 5\nedge z z 10\nend\n";
 
-const LOOPED_YES: &str = "evidence fixed-yes\ntrees 1\ntree 3\nwalk 1 1\nwalk 1 0\nwalk 2 1 1\npairs 2\npair 0 1\npair 3 2\nproofs 3\nproof 0 0 1 p3\nproof 0 1 1 p2\nproof 1 0 3 s0 p5 p4\nclose\n";
+const LOOPED_YES: &str =
+    "evidence fixed-yes\ntrees 1\ntree 3\nwalk 1 1\nwalk 1 0\nwalk 2 1 1\npairs 2\npair 0 1\npair 3 2\nproofs 3\nproof 0 0 1 p3\nproof 0 1 1 p2\nproof 1 0 3 s0 p5 p4\nclose\n";
 
 // The job of the second task is a tick late behind the first one's longer job.
-const TICK_LATE: &str =
-    "drt 1\ntask T1\nvertex x 3 5\nvertex y 2 4\ntask T2\nvertex z 2 4\nend\n";
+const TICK_LATE: &str = "drt 1\ntask T1\nvertex x 3 5\nvertex y 2 4\ntask T2\nvertex z 2 4\nend\n";
 
 const TICK_LATE_NO: &str =
     "evidence fixed-no\nreleases 2\nrelease 0 0 0 3\nrelease 1 0 0 2\nmiss 1 0 4\nclose\n";
@@ -62,7 +63,11 @@ fn has_dossier(alloc: Global, text: &str, body: &str) -> Result<bool, Fail> {
 }
 
 // The task, the vertex if there is one, and the number of steps at which a budget was spent.
-fn trail_of(alloc: Global, text: &str, budget: u64) -> Result<Option<(u32, Option<u32>, usize)>, Fail> {
+fn trail_of(
+    alloc: Global,
+    text: &str,
+    budget: u64,
+) -> Result<Option<(u32, Option<u32>, usize)>, Fail> {
     let (_set, answer) = answer_to(alloc, text, budget)?;
     match answer {
         FixedAnswer::Done(_) => Ok(None),
@@ -98,7 +103,10 @@ fn budgets_are_spent_in_a_search_or_a_refinement(rt: HostRuntime) -> Result<(), 
         (TICK_LATE, 6, None),
     ];
     for (text, budget, trail) in cases {
-        assert!(rt; trail_of(rt.alloc(), text, budget)? == trail, "of {budget} steps");
+        assert!(rt;
+            trail_of(rt.alloc(), text, budget)? == trail,
+            "of {budget} steps"
+        );
     }
     Ok(())
 }
