@@ -1,4 +1,7 @@
 //! Answers of worked sets.
+ghost use Rattle.std.specs.Prelude.{IfOk};
+ghost use Rattle.drt_sp.specs.Answers.{IsAnswer};
+
 use drt_evidence::{Dossier, print};
 use drt_model::{Policy, TaskSet};
 use drt_sp::{FixedAnswer, FixedTrail, analyse_fixed};
@@ -33,7 +36,9 @@ const TURNED_YES: &str =
     "evidence fixed-yes\ntrees 2\ntree 1\nwalk 1 0\npairs 0\ntree 1\nwalk 1 0\npairs 0\nproofs 3\nproof 0 0 1 p6\nproof 1 0 1 p5\nproof 2 0 1 p3\nclose\n";
 
 // The set of a text, and the answer to it.
-fn answer_to(alloc: Global, text: &str, budget: u64) -> Result<(TaskSet, FixedAnswer), Fail> {
+fn answer_to(alloc: Global, text: &str, budget: u64) -> Result<(TaskSet, FixedAnswer), Fail>
+    ensures { IfOk result (λ a. IsAnswer a.0 budget a.1) }
+{
     if text.len() > 1_000_000 || budget < 1 || budget > 1_000_000 {
         return Err("a worked set is short, and its budget is in range".into());
     }
