@@ -8,7 +8,6 @@ pub mod SoundYes
 pub mod Sound
 pub mod Pasts
 pub mod Judged
-pub mod Unjudged
 mod Bounds
 mod Lists
 mod Orders

@@ -1,13 +1,11 @@
 -- What the checker's judgement of a dossier says.
-use Rattle.std.specs.Prelude.{◌≡◌, ℕ, ◌≤◌, ◌⊎◌, Bool, true, false}
+use Rattle.std.specs.Prelude.{◌≡◌, ℕ}
 use Rattle.drt_model.specs.Schedulable.{Schedulable}
 use Rattle.drt_evidence.specs.Statement.{Statement}
 use Rattle.drt_evidence.specs.Rates.{IsAtOne}
-use Rattle.drt_evidence.specs.Kinds.{HasTrees}
-use Rattle.drt_evidence.specs.Rules.{Accepts, Keeps, Rejects}
+use Rattle.drt_evidence.specs.Rules.{Accepts, Rejects}
 use Rattle.drt_evidence.specs.declared.evidence.Evidence.{Evidence}
 use Rattle.drt_evidence.specs.declared.evidence.Evidence.TheVariants.{EdfYes, EdfNo, UtilisationOne, FixedYes, FixedNo, Undecided}
-use Rattle.drt_evidence.specs.declared.rule.Rule.TheVariants.{ConstrainedDeadlines, KindOfPolicy}
 use Rattle.drt_check.specs.declared.judgement.Judgement.{Judgement}
 use Rattle.drt_check.specs.declared.judgement.Judgement.TheVariants as judgements
 
@@ -20,21 +18,9 @@ claimed (FixedYes trees proofs) = judgements.Schedulable
 claimed (FixedNo releases miss) = judgements.Unschedulable
 claimed Undecided = judgements.NothingToCheck
 
--- Evidence with trees is rejected with 1 or 2 where it breaks one of these rules, and else with 99: its further rules aren't decided yet.
-abbrev pub IsUnjudged : Statement → ℕ → Type 0
-IsUnjudged s number =
-    HasTrees s.evidence
-    × ((Rejects s number × (number ≤ 2)) ⊎ (Keeps ConstrainedDeadlines s × Keeps KindOfPolicy s × (number ≡ 99)))
-
--- That number, by whether the deadlines are constrained and whether the kind is the policy's.
-abbrev pub unjudged_number : Bool → Bool → ℕ
-unjudged_number false of_policy = 1
-unjudged_number true false = 2
-unjudged_number true true = 99
-
--- The statement is accepted, its evidence has no trees, and this is what it claims.
+-- The statement is accepted, and this is what it claims.
 abbrev pub IsClaimed : Statement → Judgement → Type 0
-IsClaimed s judgement = ¬ HasTrees s.evidence × Accepts s × (claimed s.evidence ≡ judgement)
+IsClaimed s judgement = Accepts s × (claimed s.evidence ≡ judgement)
 
 -- How a statement is judged: there is nothing to check exactly where the evidence is `undecided`; else it is rejected with the least
 -- number of a rule that applies and isn't kept, or it is accepted, and judged by the kind of its evidence.
@@ -43,7 +29,7 @@ IsJudged s judgements.Schedulable = IsClaimed s judgements.Schedulable
 IsJudged s judgements.Unschedulable = IsClaimed s judgements.Unschedulable
 IsJudged s judgements.UtilisationOne = IsClaimed s judgements.UtilisationOne
 IsJudged s judgements.NothingToCheck = s.evidence ≡ Undecided
-IsJudged s (judgements.Rejected number) = (¬ HasTrees s.evidence × Rejects s number) ⊎ IsUnjudged s number
+IsJudged s (judgements.Rejected number) = Rejects s number
 
 -- The judgement is that of accepted evidence.
 abbrev pub IsAcceptance : Judgement → Type 0

@@ -1,12 +1,12 @@
 //! What a dossier has, by the kind of its evidence.
 ghost use Rattle.std.specs.Prelude.{◌≡◌, ◌↔◌, All, IsTrue};
-ghost use Rattle.drt_evidence.specs.Kinds.{HasTrees, IsOfPolicy, fronts_of, miss_of, ratios_of, releases_of};
-ghost use Rattle.drt_evidence.specs.Ranges.{AreInRangeReleases, IsInRangeEntry, IsInRangeRatio};
+ghost use Rattle.drt_evidence.specs.Kinds.{IsOfPolicy, fronts_of, miss_of, proofs_of, ratios_of, releases_of, trees_of};
+ghost use Rattle.drt_evidence.specs.Ranges.{AreInRangeReleases, IsInRangeEntry, IsInRangeProof, IsInRangeRatio, IsInRangeTree};
 ghost use Rattle.drt_evidence.specs.declared.evidence.Evidence.TheVariants.{Undecided};
 ghost use Rattle.drt_check.specs.Judging.{claimed};
 
 use crate::judgement::Judgement;
-use drt_evidence::{Dossier, Evidence, FrontEntry, RatioClaim};
+use drt_evidence::{Dossier, Evidence, FrontEntry, ProofClaim, RatioClaim, TreeClaim};
 use drt_model::{Miss, Policy, Release, Row};
 
 /// Whether nothing is claimed.
@@ -14,13 +14,6 @@ pub fn is_undecided(dossier: &Dossier) -> bool
     ensures { IsTrue result ↔ (dossier.now.evidence ≡ Undecided) }
 {
     matches!(&dossier.evidence, Evidence::Undecided)
-}
-
-/// Whether the evidence has trees.
-pub fn has_trees(dossier: &Dossier) -> bool
-    ensures { IsTrue result ↔ HasTrees dossier.now.evidence }
-{
-    matches!(&dossier.evidence, Evidence::FixedYes { .. })
 }
 
 /// Whether the kind of the evidence is one of the policy's.
@@ -95,5 +88,27 @@ pub fn miss_of(dossier: &Dossier) -> Miss
             index: 0,
             deadline: 0,
         },
+    }
+}
+
+/// The claimed trees, and none where the evidence has none.
+pub fn trees_of(dossier: &Dossier) -> &[TreeClaim]
+    ensures value { result.now ≡ trees_of dossier.now.evidence }
+    ensures in_range { All IsInRangeTree result.now }
+{
+    match &dossier.evidence {
+        Evidence::FixedYes { trees, .. } => trees.as_slice(),
+        _ => &[],
+    }
+}
+
+/// The claimed proofs, and none where the evidence has none.
+pub fn proofs_of(dossier: &Dossier) -> &[ProofClaim]
+    ensures value { result.now ≡ proofs_of dossier.now.evidence }
+    ensures in_range { All IsInRangeProof result.now }
+{
+    match &dossier.evidence {
+        Evidence::FixedYes { proofs, .. } => proofs.as_slice(),
+        _ => &[],
     }
 }

@@ -2,17 +2,20 @@
 ghost use Rattle.std.specs.Prelude.{◌≡◌, ◌↔◌, IfOk, IsTrue};
 ghost use Rattle.drt_model.specs.Constrained.{AreConstrained};
 ghost use Rattle.drt_evidence.specs.Claims.{graphs_of};
-ghost use Rattle.drt_evidence.specs.Kinds.{HasTrees};
 ghost use Rattle.drt_evidence.specs.Rules.{Applies, HasClaimedUtilisation, Keeps};
 ghost use Rattle.drt_evidence.specs.declared.rule.Rule.TheVariants.{ClaimedUtilisation};
 ghost use Rattle.drt_check.specs.Deciding.{IsNext};
 
 use crate::claimed::{ClaimRule, all_keep, are_lowest};
 use crate::fronts::{are_closed, are_in_order, have_openings, have_room};
-use crate::parts::{fronts_of, is_of_policy, miss_of, ratios_of, releases_of};
+use crate::parts::{fronts_of, is_of_policy, miss_of, proofs_of, ratios_of, releases_of, trees_of};
 use crate::releases::is_least_miss;
 use crate::scales::scale;
 use crate::utilisation::{horizon_of, is_below_one, is_one, near_horizon};
+use drt_check_proofs::{have_passing_times, have_shapes, is_proof_per_vertex};
+use drt_check_trees::{
+    are_trees, cover_walks, have_short_walks, is_tree_per_higher_task, priority_order,
+};
 use drt_evidence::{Dossier, Evidence, Rule};
 use drt_graph::Graphs;
 use drt_model::{Memory, legal};
@@ -86,18 +89,19 @@ pub fn applies(rule: Rule, dossier: &Dossier) -> bool
     }
 }
 
-/// Whether the dossier, whose evidence has no trees, keeps the rule, where it keeps those that apply and have smaller numbers. The first
-/// was decided where the graphs were made.
+/// Whether the dossier keeps the rule, where it keeps those that apply and have smaller numbers. The first was decided where the graphs were
+/// made.
 pub fn keeps(alloc: Global, rule: Rule, graphs: &Graphs, dossier: &Dossier) -> Result<bool, Memory>
     requires graphs { graphs.now ≡ graphs_of dossier.now.set.tasks }
     requires constrained { AreConstrained dossier.now.set.tasks }
-    requires known { ¬ HasTrees dossier.now.evidence }
     requires next { IsNext dossier.now rule }
     ensures { IfOk result (λ kept. IsTrue kept ↔ Keeps rule dossier.now) }
 {
     let ratios = ratios_of(dossier);
     let fronts = fronts_of(dossier);
     let releases = releases_of(dossier);
+    let trees = trees_of(dossier);
+    let proofs = proofs_of(dossier);
     match rule {
         Rule::ConstrainedDeadlines => Ok(true),
         Rule::KindOfPolicy => Ok(is_of_policy(dossier)),
@@ -122,13 +126,22 @@ pub fn keeps(alloc: Global, rule: Rule, graphs: &Graphs, dossier: &Dossier) -> R
             releases,
             miss_of(dossier),
         ),
-        Rule::TreePerHigherTask
-        | Rule::ShortWalks
-        | Rule::CoveredWalks
-        | Rule::TreeShapes
-        | Rule::ProofPerVertex
-        | Rule::ProofShapes
-        | Rule::PassingTimes => unreachable!(),
+        Rule::TreePerHigherTask => Ok(is_tree_per_higher_task(&dossier.set, trees)),
+        Rule::ShortWalks => {
+            let order = priority_order(alloc, &dossier.set)?;
+            Ok(have_short_walks(&dossier.set, graphs, order.as_slice(), trees))
+        }
+        Rule::CoveredWalks => {
+            let order = priority_order(alloc, &dossier.set)?;
+            cover_walks(alloc, &dossier.set, graphs, order.as_slice(), trees)
+        }
+        Rule::TreeShapes => are_trees(alloc, trees),
+        Rule::ProofPerVertex => Ok(is_proof_per_vertex(&dossier.set, proofs)),
+        Rule::ProofShapes => have_shapes(alloc, &dossier.set, trees, proofs),
+        Rule::PassingTimes => {
+            let order = priority_order(alloc, &dossier.set)?;
+            have_passing_times(alloc, &dossier.set, graphs, order.as_slice(), trees, proofs)
+        }
     }
 }
 
