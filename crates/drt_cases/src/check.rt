@@ -1,6 +1,6 @@
 //! Runs of `check`.
 use crate::running::{Given, Wanted, ends, give, perform, refused, want};
-use drt_fixtures::texts::{BRANCHING, ENGINE, HALVES, LATE, OVERLOADED, PERIODIC};
+use drt_fixtures::texts::{BRANCHING, ENGINE, HALVES, LATE, OVERLOADED, PERIODIC, SPLIT, TIGHT};
 use drt_top::{Fault, Trail};
 use std::alloc::Global;
 use std::test::Fail;
@@ -45,6 +45,12 @@ fn what_is_written_is_accepted_with_the_same_status(rt: HostRuntime) -> Result<(
             "nothing-to-check\n",
         ),
         ("sp", LATE, 1, "unschedulable\n"),
+        ("sp", HALVES, 1, "unschedulable\n"),
+        ("sp", PERIODIC, 0, "schedulable\n"),
+        ("sp", TIGHT, 0, "schedulable\n"),
+        ("sp", SPLIT, 0, "schedulable\n"),
+        ("sp", ENGINE, 0, "schedulable\n"),
+        ("sp --budget 1", PERIODIC, 3, "nothing-to-check\n"),
     ];
     for (words, text, status, line) in cases {
         assert!(rt;
@@ -73,7 +79,7 @@ fn rejected_evidence_has_the_number_of_its_rule(rt: HostRuntime) -> Result<(), F
     let rises =
         "evidence edf-yes\nratios 2\nratio 1 2\ncycle 2 0 1\npotentials 2 0 5\nratio 1 5\ncycle 1 0\npotentials 1 0\nfronts 2\nfront 1\nlabel 0 0 1\nfront 1\nlabel 0 0 2\nclose\n";
     let meets = "evidence fixed-no\nreleases 1\nrelease 0 0 0 2\nmiss 0 0 5\nclose\n";
-    let yes = "evidence fixed-yes\ntrees 0\nproofs 1\nproof 0 0 1 p2\nclose\n";
+    let unproved = "evidence fixed-yes\ntrees 0\nproofs 0\nclose\n";
     let cases = [
         (
             EDF,
@@ -99,9 +105,9 @@ fn rejected_evidence_has_the_number_of_its_rule(rt: HostRuntime) -> Result<(), F
         (
             FIXED,
             PERIODIC,
-            yes,
-            99,
-            "drt: evidence rejected by rule 99\n",
+            unproved,
+            20,
+            "drt: evidence rejected by rule 20\n",
         ),
     ];
     for (head, text, evidence, number, told) in cases {

@@ -2,6 +2,8 @@
 #![tactic(auto)]
 
 #[cfg(test)]
+mod fixed_line_tests;
+#[cfg(test)]
 mod given;
 #[cfg(test)]
 mod line_tests;

@@ -6,12 +6,12 @@ use std::test::Fail;
 
 // What is found of a dossier: a judgement, or the fault of its text.
 #[derive(Debug, Clone, Copy, PartialEq, Eq)]
-enum Verdict {
+pub(crate) enum Verdict {
     Judged(Judgement),
     Fault(DossierFault),
 }
 
-const YES: Verdict = Verdict::Judged(Judgement::Schedulable);
+pub(crate) const YES: Verdict = Verdict::Judged(Judgement::Schedulable);
 
 const NO: Verdict = Verdict::Judged(Judgement::Unschedulable);
 
@@ -19,12 +19,12 @@ const ONE: Verdict = Verdict::Judged(Judgement::UtilisationOne);
 
 const NOTHING: Verdict = Verdict::Judged(Judgement::NothingToCheck);
 
-fn rule(number: u8) -> Verdict {
+pub(crate) fn rule(number: u8) -> Verdict {
     Verdict::Judged(Judgement::Rejected { number })
 }
 
 // The line can't stand there.
-fn line(line: u32) -> Verdict {
+pub(crate) fn line(line: u32) -> Verdict {
     Verdict::Fault(DossierFault { line, code: 1 })
 }
 
@@ -47,7 +47,7 @@ fn said(alloc: Global, lines: &[&str], number: usize, changed: &str) -> Result<V
 }
 
 // Whether that is said of them.
-fn is_said(
+pub(crate) fn is_said(
     alloc: Global,
     lines: &[&str],
     number: usize,

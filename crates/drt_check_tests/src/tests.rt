@@ -269,7 +269,8 @@ fn the_first_rules_are_asked_of_all_evidence(rt: HostRuntime) -> Result<(), Fail
     let fifths = plain(alloc, (2, 5, &[0], &[0]))?;
     assert!(rt; is_judged(alloc, FIXED, &set, fifths, rejected(2))?);
     assert!(rt; is_judged(alloc, EDF, &set, nothing(alloc), rejected(2))?);
-    assert!(rt; is_judged(alloc, FIXED, &set, nothing(alloc), rejected(99))?);
+    // One task has no tree, and wants a proof.
+    assert!(rt; is_judged(alloc, FIXED, &set, nothing(alloc), rejected(20))?);
     let undecided = Judgement::NothingToCheck;
     assert!(rt; is_judged(alloc, EDF, &past, Evidence::Undecided, undecided)?);
     assert!(rt; is_judged(alloc, FIXED, &set, Evidence::Undecided, undecided)?);
