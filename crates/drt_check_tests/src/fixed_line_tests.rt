@@ -33,9 +33,7 @@ const SPLIT_YES: [&str; 26] = [
 ];
 
 #[test]
-fn the_set_of_a_yes_of_fixed_priorities_with_one_line_changed(
-    rt: HostRuntime,
-) -> Result<(), Fail> {
+fn the_set_of_a_yes_of_fixed_priorities_with_one_line_changed(rt: HostRuntime) -> Result<(), Fail> {
     let cases = [
         (1, "drt-dossier 2", line(1)),
         (2, "policy edf", rule(2)),
@@ -67,7 +65,10 @@ fn the_set_of_a_yes_of_fixed_priorities_with_one_line_changed(
         (13, "evidence edf-yes", line(14)),
     ];
     for (number, changed, want) in cases {
-        assert!(rt; is_said(rt.alloc(), &SPLIT_YES, number, changed, want)?, "of {changed}");
+        assert!(rt;
+            is_said(rt.alloc(), SPLIT_YES.as_slice(), number, changed, want)?,
+            "of {changed}"
+        );
     }
     Ok(())
 }
@@ -100,7 +101,10 @@ fn the_trees_of_a_yes_of_fixed_priorities_with_one_line_changed(
         (21, "pair 2 3", rule(22)),
     ];
     for (number, changed, want) in cases {
-        assert!(rt; is_said(rt.alloc(), &SPLIT_YES, number, changed, want)?, "of {changed}");
+        assert!(rt;
+            is_said(rt.alloc(), SPLIT_YES.as_slice(), number, changed, want)?,
+            "of {changed}"
+        );
     }
     Ok(())
 }
@@ -137,7 +141,10 @@ fn the_proofs_of_a_yes_of_fixed_priorities_with_one_line_changed(
         (26, "closed", line(26)),
     ];
     for (number, changed, want) in cases {
-        assert!(rt; is_said(rt.alloc(), &SPLIT_YES, number, changed, want)?, "of {changed}");
+        assert!(rt;
+            is_said(rt.alloc(), SPLIT_YES.as_slice(), number, changed, want)?,
+            "of {changed}"
+        );
     }
     Ok(())
 }
@@ -209,7 +216,10 @@ fn a_yes_with_written_priorities_with_one_line_changed(rt: HostRuntime) -> Resul
         (20, "proof 1 0 1 p3", rule(22)),
     ];
     for (number, changed, want) in cases {
-        assert!(rt; is_said(rt.alloc(), &PRIORITIES_YES, number, changed, want)?, "of {changed}");
+        assert!(rt;
+            is_said(rt.alloc(), PRIORITIES_YES.as_slice(), number, changed, want)?,
+            "of {changed}"
+        );
     }
     Ok(())
 }
