@@ -35,6 +35,45 @@ const TURNED: &str =
 const TURNED_YES: &str =
     "evidence fixed-yes\ntrees 2\ntree 1\nwalk 1 0\npairs 0\ntree 1\nwalk 1 0\npairs 0\nproofs 3\nproof 0 0 1 p6\nproof 1 0 1 p5\nproof 2 0 1 p3\nclose\n";
 
+// As many tasks as a file may have, of one job of one tick each, all with this deadline, from the highest priority down.
+fn many_tasks(alloc: Global, deadline: u32) -> Result<String, Fail> {
+    let mut text = String::from_str(alloc, "drt 2\n")?;
+    for k in 0..32u32 {
+        let priority = k + 1;
+        let lines = format!(in alloc; "task t{k}\npriority {priority}\nvertex a 1 {deadline}\n")?;
+        text.push_str(lines.as_str())?;
+    }
+    text.push_str("end\n")?;
+    Ok(text)
+}
+
+// Each job is done a tick after the one above it.
+fn many_tasks_yes(alloc: Global) -> Result<String, Fail> {
+    let mut body = String::from_str(alloc, "evidence fixed-yes\ntrees 31\n")?;
+    for _ in 0..31 {
+        body.push_str("tree 1\nwalk 1 0\npairs 0\n")?;
+    }
+    body.push_str("proofs 32\n")?;
+    for k in 0..32u32 {
+        let time = k + 1;
+        let line = format!(in alloc; "proof {k} 0 1 p{time}\n")?;
+        body.push_str(line.as_str())?;
+    }
+    body.push_str("close\n")?;
+    Ok(body)
+}
+
+// With a deadline of 31 ticks the last job is late by one.
+fn many_tasks_no(alloc: Global) -> Result<String, Fail> {
+    let mut body = String::from_str(alloc, "evidence fixed-no\nreleases 32\n")?;
+    for k in 0..32u32 {
+        let line = format!(in alloc; "release {k} 0 0 1\n")?;
+        body.push_str(line.as_str())?;
+    }
+    body.push_str("miss 31 0 31\nclose\n")?;
+    Ok(body)
+}
+
 // The set of a text, and the answer to it.
 fn answer_to(alloc: Global, text: &str, budget: u64) -> Result<(TaskSet, FixedAnswer), Fail>
     ensures { IfOk result (λ a. IsAnswer a.0 budget a.1) }
@@ -113,5 +152,17 @@ fn budgets_are_spent_in_a_search_or_a_refinement(rt: HostRuntime) -> Result<(), 
             "of {budget} steps"
         );
     }
+    Ok(())
+}
+
+#[test]
+fn as_many_tasks_as_a_file_may_have(rt: HostRuntime) -> Result<(), Fail> {
+    let alloc = rt.alloc();
+    let just = many_tasks(alloc, 32)?;
+    let yes = many_tasks_yes(alloc)?;
+    assert!(rt; has_dossier(alloc, just.as_str(), yes.as_str())?);
+    let late = many_tasks(alloc, 31)?;
+    let no = many_tasks_no(alloc)?;
+    assert!(rt; has_dossier(alloc, late.as_str(), no.as_str())?);
     Ok(())
 }
