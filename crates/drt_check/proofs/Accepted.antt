@@ -7,12 +7,15 @@ use Rattle.drt_model.specs.declared.jobs.Policy.{Policy}
 use Rattle.drt_evidence.specs.Claims.{graphs_of, Each, fractions, potentials, IsHorizon}
 use Rattle.drt_evidence.specs.Fronts.{HasOpenings, IsClosedFront, IsOrdered}
 use Rattle.drt_evidence.specs.Rules.{Accepts}
-use Rattle.drt_evidence.specs.declared.evidence.Evidence.TheVariants.{EdfYes, UtilisationOne}
+use Rattle.drt_evidence.specs.declared.evidence.Evidence.TheVariants.{EdfYes, FixedYes, UtilisationOne}
 use Rattle.drt_model.specs.declared.front.FrontEntry.{FrontEntry}
+use Rattle.drt_evidence.specs.declared.evidence.ProofClaim.{ProofClaim}
 use Rattle.drt_evidence.specs.declared.evidence.RatioClaim.{RatioClaim}
+use Rattle.drt_evidence.specs.declared.evidence.TreeClaim.{TreeClaim}
 use Rattle.drt_evidence.specs.declared.rule.Rule.TheVariants.{RatioPerTask, LowestTerms, PotentialPerVertex, FittingPotentials, ClosedCycles, TightCycles}
 use Rattle.drt_evidence.specs.declared.rule.Rule.TheVariants.{FineScale, ClaimedUtilisation, NearHorizon, OrderedFronts, CoveredOpenings, CoveredExtensions, Room}
-use Rattle.drt_evidence.proofs.Accepting.{IsEdfYes, IsUtilisationOne, statement}
+use Rattle.drt_evidence.specs.declared.rule.Rule.TheVariants.{TreePerHigherTask, ShortWalks, CoveredWalks, TreeShapes, ProofPerVertex, ProofShapes, PassingTimes}
+use Rattle.drt_evidence.proofs.Accepting.{IsEdfYes, IsFixedYes, IsUtilisationOne, statement}
 use Rattle.drt_graph.proofs.Scales.{scale_same}
 
 -- There is one horizon.
@@ -66,4 +69,19 @@ one_kept policy set ratios is = record {
     fine = is.keeps FineScale tt;
   };
   one = is.keeps ClaimedUtilisation tt;
+}
+
+-- A yes of fixed priorities.
+pub fixed_kept : (policy : Policy) (set : Contents) (trees : List TreeClaim) (proofs : List ProofClaim)
+    → Accepts (statement policy set (FixedYes trees proofs)) → IsFixedYes set.tasks trees proofs
+fixed_kept policy set trees proofs is = record {
+  trees_are = record {
+    per_task = is.keeps TreePerHigherTask tt;
+    short = is.keeps ShortWalks tt;
+    covers = is.keeps CoveredWalks tt;
+    shapes = is.keeps TreeShapes tt;
+  };
+  per_vertex = is.keeps ProofPerVertex tt;
+  shapes = is.keeps ProofShapes tt;
+  times = is.keeps PassingTimes tt;
 }

@@ -5,6 +5,11 @@ pub mod SoundHorizon
 pub mod SoundFronts
 pub mod SoundRoom
 pub mod SoundYes
+pub mod SoundTrees
+pub mod SoundCovers
+pub mod SoundOrder
+pub mod SoundProofs
+pub mod SoundFixed
 pub mod Sound
 pub mod Pasts
 pub mod Judged

@@ -1,15 +1,14 @@
 -- What the checker's judgements rest on.
 use Rattle.std.specs.Prelude.{◌≡◌}
-use Rattle.drt_evidence.specs.Kinds.{HasTrees}
 use Rattle.drt_evidence.specs.Reading.{IsStated}
 use Rattle.drt_evidence.specs.Rules.{Accepts}
 use Rattle.drt_evidence.specs.Statement.{Statement}
 use Rattle.drt_check.specs.Judging.{claimed, IsJudged, IsSound}
 use Rattle.drt_check.specs.declared.judgement.Judgement.{Judgement}
 
--- Whoever made the dossier: where its evidence has no trees and is accepted, what it claims holds.
+-- Whoever made the dossier: where its evidence is accepted, what it claims holds.
 abbrev pub AcceptedIsSound : Type 0
-AcceptedIsSound = (s : Statement) → IsStated s → ¬ HasTrees s.evidence → Accepts s → IsSound s (claimed s.evidence)
+AcceptedIsSound = (s : Statement) → IsStated s → Accepts s → IsSound s (claimed s.evidence)
 
 -- A statement has one judgement.
 abbrev pub JudgedOnce : Type 0
