@@ -1,0 +1,5 @@
+mod GreatestDeadline
+mod Orders
+mod Eachs
+mod Naming
+mod Shorts
