@@ -1,8 +1,8 @@
 -- Evidence with trees that breaks one of the first two rules.
-use Rattle.std.proofs.Common.{◌≡◌, ℕ, ◌<◌, ◌≤◌, Bool, true, false, inl, inr, refl, arith}
+use Rattle.std.proofs.Common.{◌≡◌, ◌<◌, Bool, true, false, inl, inr, refl, arith}
 use Rattle.std.specs.Prelude.{◌↔◌, IsTrue, Some}
 use Rattle.drt_evidence.specs.Kinds.{HasTrees}
-use Rattle.drt_evidence.specs.Rules.{Applies, Keeps, number_of}
+use Rattle.drt_evidence.specs.Rules.{Keeps, number_of}
 use Rattle.drt_evidence.specs.Statement.{Statement}
 use Rattle.drt_evidence.specs.declared.rule.Rule.{Rule}
 use Rattle.drt_evidence.specs.declared.rule.Rule.TheVariants.{ConstrainedDeadlines, KindOfPolicy, RatioPerTask, LowestTerms, PotentialPerVertex, FittingPotentials}

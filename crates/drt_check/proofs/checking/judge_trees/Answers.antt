@@ -1,6 +1,4 @@
 use Rattle.std.proofs.Common.{inr}
-use Rattle.drt_evidence.specs.Rules.{Keeps}
-use Rattle.drt_check.specs.Judging.{IsUnjudged}
 use Rattle.drt_check.proofs.Unjudged.{by_tests}
 use Rattle.drt_check.proofs.checking.judge_trees.Goals as goal
 
