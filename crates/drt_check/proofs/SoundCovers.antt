@@ -86,16 +86,31 @@ walk_closed : (g : Digraph) (bound : ℕ) (tree : TreeClaim) → All (IsClosedWa
     → (k : ℕ) → k < out_degree g (last_of x xs) → IsExtendedWalk bound g tree x xs k
 walk_closed g bound tree closed i x xs l at = subst (λ w. IsClosedWalk bound g tree w) at (closed i (x ∷ xs) l)
 
+-- A walk of the tree that is above another one asks up to the bound for at least as much.
+asked_above : (g : Digraph) (bound : ℕ) (tree : TreeClaim) (u : ℕ) (vs : List ℕ) (i x : ℕ) (xs : List ℕ) → i < length tree.walks
+    → slice_index_or tree.walks i (x ∷ xs) ≡ x ∷ xs → IsAbove bound g u vs (x ∷ xs)
+    → (t : ℕ) → 1 ≤ t → t ≤ bound → request g u vs t ≤ asked g t (slice_index_or tree.walks i [])
+asked_above g bound tree u vs i x xs l at above t a b =
+    let walk : slice_index_or tree.walks i [] ≡ x ∷ xs = get_or_default tree.walks i [] (x ∷ xs) l ∙ at in
+    let e : asked g t (slice_index_or tree.walks i []) ≡ request g x xs t = ap (asked g t) walk in
+    omega (arith, above.2 t a b, e)
+
+-- Up to the bound a walk that goes on past it asks for no more than its first part.
+asked_past : (g : Digraph) (bound u : ℕ) (vs : List ℕ) (v : ℕ) (rest : List ℕ) → bound ≤ span g u vs + gap g (last_of u vs) v
+    → (t : ℕ) → t ≤ bound → request g u (vs ++ v ∷ rest) t ≡ request g u vs t
+asked_past g bound u vs v rest past t b =
+    let y : ℕ = 0 + span g u vs + gap g (last_of u vs) v in
+    let both = requested_both g 0 u vs v rest t y refl in
+    let none = requested_late g y v rest t (omega (arith, b, past)) in
+    omega (arith, both, none)
+
 -- Where a walk of the tree is above the first part of a walk, the whole walk is met.
 met_from : (g : Digraph) (bound : ℕ) (tree : TreeClaim) → All (IsClosedWalk bound g tree) tree.walks
     → (u : ℕ) (vs rest : List ℕ) → IsPath g (last_of u vs) rest → Any (IsAbove bound g u vs) tree.walks
     → IsMet bound g tree (request g u (vs ++ rest))
 met_from g bound tree closed u vs rest is (i, [], l, at, above) = absurd above
 met_from g bound tree closed u vs [] is (i, x ∷ xs, l, at, above) =
-    let walk : slice_index_or tree.walks i [] ≡ x ∷ xs = get_or_default tree.walks i [] (x ∷ xs) l ∙ at in
-    (i, l, λ t a b. let e : asked g t (slice_index_or tree.walks i []) ≡ request g x xs t = ap (asked g t) walk in
-    let f : request g u (vs ++ []) t ≡ request g u vs t = ap (λ ws. request g u ws t) (append-nil vs) in
-    omega (arith, above.2 t a b, e, f))
+    subst (λ ws. IsMet bound g tree (request g u ws)) (sym (append-nil vs)) (i, l, asked_above g bound tree u vs i x xs l at above)
 met_from g bound tree closed u vs (v ∷ rest) is (i, x ∷ xs, l, at, above) =
     let edge : IsEdge g (last_of x xs) v = rw above.0 is.0 in
     let k = edge_of_sep g (last_of x xs) v (gap g (last_of x xs) v) edge in
@@ -104,15 +119,8 @@ met_from g bound tree closed u vs (v ∷ rest) is (i, x ∷ xs, l, at, above) =
     path : IsPath g (last_of u (vs ++ v ∷ [])) rest
     path = subst (λ z. IsPath g z rest) (sym (last_both u vs (v ∷ []))) is.1
 
-    walk : slice_index_or tree.walks i [] ≡ x ∷ xs
-    walk = get_or_default tree.walks i [] (x ∷ xs) l ∙ at
-
     far : bound ≤ span g u vs + gap g (last_of u vs) v → IsMet bound g tree (request g u (vs ++ v ∷ rest))
-    far past = (i, l, λ t a b. let e : asked g t (slice_index_or tree.walks i []) ≡ request g x xs t = ap (asked g t) walk in
-        let y : ℕ = 0 + span g u vs + gap g (last_of u vs) v in
-        let both = requested_both g 0 u vs v rest t y refl in
-        let none = requested_late g y v rest t (omega (arith, b, past)) in
-        omega (arith, above.2 t a b, e, both, none))
+    far past = (i, l, λ t a b. omega (arith, asked_above g bound tree u vs i x xs l at above t a b, asked_past g bound u vs v rest past t b))
 
     onward : (to : ℕ) → to ≡ v → Any (IsAbove bound g x (xs ++ to ∷ [])) tree.walks → Any (IsAbove bound g u (vs ++ v ∷ [])) tree.walks
     onward to e (j, [], m, there, next) = absurd next
