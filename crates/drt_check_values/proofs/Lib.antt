@@ -1,0 +1,4 @@
+pub mod Halving
+pub mod Growing
+pub mod Counting
+pub mod Leaves

@@ -1,0 +1,4 @@
+//! The values of nodes of claimed trees at many times.
+#![tactic(auto)]
+
+mod greatest_values;
