@@ -2,3 +2,5 @@ pub mod Halving
 pub mod Growing
 pub mod Counting
 pub mod Leaves
+pub mod Placing
+pub mod Rising

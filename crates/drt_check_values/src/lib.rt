@@ -2,3 +2,5 @@
 #![tactic(auto)]
 
 mod greatest_values;
+mod places;
+mod rises;
