@@ -4,3 +4,5 @@ pub mod Counting
 pub mod Leaves
 pub mod Placing
 pub mod Rising
+pub mod Taking
+pub mod Valuing

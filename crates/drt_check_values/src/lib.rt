@@ -3,4 +3,10 @@
 
 mod greatest_values;
 mod places;
+mod query;
 mod rises;
+mod sweeping;
+mod values;
+
+pub use query::Query;
+pub use values::values_at;

@@ -8,8 +8,27 @@ use drt_evidence::TreeClaim;
 use drt_model::Memory;
 use std::alloc::Global;
 
-/// How many leaves there are below each node.
-pub(crate) fn sizes_of(alloc: Global, tree: &TreeClaim) -> Result<Vec<u32>, Memory>
+/// For each node the place from which on the leaves below it stand, and how many they are.
+#[derive(Debug, Drop)]
+pub(crate) struct Places {
+    pub(crate) firsts: Vec<u32>,
+    pub(crate) sizes: Vec<u32>,
+}
+
+/// The places of a tree's nodes.
+pub(crate) fn places_of(alloc: Global, tree: &TreeClaim) -> Result<Places, Memory>
+    requires tree { IsTree tree.now }
+    requires ranges { IsInRangeTree tree.now }
+    ensures firsts { IfOk result (λ places. AreFirsts tree.now places.firsts.items) }
+    ensures sizes { IfOk result (λ places. AreSizes tree.now places.sizes.items) }
+{
+    let sizes = sizes_of(alloc, tree)?;
+    let firsts = firsts_of(alloc, tree, sizes.as_slice())?;
+    Ok(Places { firsts, sizes })
+}
+
+// How many leaves there are below each node.
+fn sizes_of(alloc: Global, tree: &TreeClaim) -> Result<Vec<u32>, Memory>
     requires tree { IsTree tree.now }
     requires ranges { IsInRangeTree tree.now }
     ensures { IfOk result (λ sizes. AreSizes tree.now sizes.items) }
@@ -25,9 +44,9 @@ pub(crate) fn sizes_of(alloc: Global, tree: &TreeClaim) -> Result<Vec<u32>, Memo
     Ok(sizes)
 }
 
-/// The place from which on the leaves below each node stand: from the root down, those below a pair's right part follow those
-/// below its left one.
-pub(crate) fn firsts_of(
+// The place from which on the leaves below each node stand: from the root down, those below a pair's right part follow those
+// below its left one.
+fn firsts_of(
     alloc: Global,
     tree: &TreeClaim,
     sizes: &[u32],

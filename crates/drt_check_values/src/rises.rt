@@ -1,5 +1,6 @@
 //! The releases of a tree's walks, at the places of the walks.
 ghost use Rattle.std.specs.Prelude.{◌≡◌, ◌+◌, ◌*◌, ◌<◌, ◌≤◌, ◌++◌, All, IfOk, length, sum_by};
+ghost use Rattle.std.specs.List.Sorted.{IsNonDecreasingBy, IsPermutation};
 ghost use Rattle.drt_model.specs.Digraph.{vertex_count};
 ghost use Rattle.drt_evidence.specs.Ranges.{IsCounted, IsInRangeTree};
 ghost use Rattle.drt_evidence.specs.Trees.{HasShortWalks, IsShortWalk, IsTree};
@@ -40,6 +41,14 @@ pub(crate) fn rises_of(
         add_rises(graph, bound, walks[i].as_slice(), firsts[i], &mut rises)?;
     }
     Ok(rises)
+}
+
+/// Puts releases in order of their offsets.
+pub(crate) fn put_in_order(rises: &mut Vec<Rise>)
+    ensures same { IsPermutation rises.old.items rises.new.items }
+    ensures order { IsNonDecreasingBy (λ r. r.offset) rises.new.items }
+{
+    rises.sort_unstable_by_key(|rise| rise.offset);
 }
 
 // How many vertices the walks have together.
