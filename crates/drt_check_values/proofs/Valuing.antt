@@ -119,6 +119,15 @@ answers_are g tree is firsts sizes rises sorted queries placed sized are same no
     map_same (answer firsts sizes (length tree.walks) sorted) (λ q. get_or (node_values g tree q.time) q.node 0) queries
     (λ k d l. answer_is g tree is firsts sizes rises sorted (get_or queries k d) placed sized are same (nodes k d l))
 
+-- So what the sweep gives are the values of the queries' nodes.
+pub answers_same : (g : Digraph) (tree : TreeClaim) → IsTree tree → (firsts sizes : List ℕ) (rises sorted swept : List Rise) (count : ℕ) (queries : List Query) (values : List ℕ)
+    → AreFirsts tree firsts → AreSizes tree sizes → AreRises g tree rises → IsPermutation rises sorted → All (λ q. q.node < node_count tree) queries
+    → swept ≡ sorted → count ≡ length tree.walks → values ≡ map (answer firsts sizes count swept) queries
+    → values ≡ map (λ q. get_or (node_values g tree q.time) q.node 0) queries
+answers_same g tree is firsts sizes rises sorted swept count queries values placed sized are same nodes e f found =
+    found ∙ (ap (λ (rs : List Rise). map (answer firsts sizes count rs) queries) e
+    ∙ (ap (λ n. map (answer firsts sizes n sorted) queries) f ∙ answers_are g tree is firsts sizes rises sorted queries placed sized are same nodes))
+
 -- The query's places are some of those that there are.
 pub has_runs : (tree : TreeClaim) → IsTree tree → (firsts sizes : List ℕ) (queries : List Query) → AreFirsts tree firsts → AreSizes tree sizes → All (λ q. q.node < node_count tree) queries
     → All (HasRun firsts sizes (length tree.walks)) queries
