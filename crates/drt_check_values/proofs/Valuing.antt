@@ -1,0 +1,162 @@
+-- What places have of the releases before a time, where these are the releases of a tree's walks, and the bound that it keeps.
+use Rattle.std.proofs.Common.{◌≡◌, ℕ, zero, suc, ◌+◌, ◌*◌, ◌<◌, ◌≤◌, Bool, true, false, cond, ltb, List, [], ◌∷◌, length, map, drop, take, All, get_or, ◌⊎◌, inl, inr, refl, sym, ap, arith, ◌∙◌}
+use Rattle.std.specs.Prelude.{max}
+use Rattle.std.specs.List.Sorted.{IsPermutation, IsNonDecreasingBy}
+use Rattle.std.proofs.Math.Nat.{max-le}
+use Rattle.std.proofs.lemmas.Bool.{cases_lt}
+use Rattle.std.proofs.lemmas.List.{ext_get_or, get_or-map, get_or_past, length-map}
+use Rattle.std.proofs.lemmas.List.FromFn.{length-map-range_with_len, get_or-map-range_with_len}
+use Rattle.std.proofs.lemmas.List.Elements.{All-head, All-tail, All-from_get_or}
+use Rattle.std.proofs.lemmas.List.Sorted.{All-permutation, sum_by-IsPermutation}
+use Rattle.drt_model.specs.Digraph.{Digraph, IsSound, vertex_count}
+use Rattle.drt_model.specs.Walk.{gap, wcet, IsPath, span}
+use Rattle.drt_model.specs.RequestFunction.{requested_from}
+use Rattle.drt_graph.proofs.Edges.{target_of}
+use Rattle.drt_graph.proofs.Paths.{span_cons, span_none}
+use Rattle.drt_evidence.specs.declared.evidence.TreeClaim.{TreeClaim}
+use Rattle.drt_evidence.specs.Trees.{HasShortWalks, IsShortWalk, IsTree, asked, node_values}
+use Rattle.drt_check_values.specs.declared.query.Query.{Query}
+use Rattle.drt_check_values.specs.declared.rises.Rise.{Rise}
+use Rattle.drt_check_values.specs.Greatest.{greatest}
+use Rattle.drt_check_values.specs.Leaves.{AreFirsts, AreSizes, leaf_order, leaves_below, node_count}
+use Rattle.drt_check_values.specs.Rises.{AreRises, added, asked_at, risen}
+use Rattle.drt_check_values.specs.Sweeps.{AreReady, HasRun, answer, heights, total, whole}
+use Rattle.drt_check_values.proofs.Halving.{greatest_none, greatest_cons}
+use Rattle.drt_check_values.proofs.Leaves.{asked_of, first_fits, node_value, order_count, value_found}
+use Rattle.drt_check_values.proofs.Placing.{size_at, sizes_count}
+use Rattle.drt_check_values.proofs.Taking.{early_sum}
+
+-- Each release of a walk asks for at most 1,000,000.
+requested_most : (g : Digraph) → IsSound g → (x u : ℕ) (vs : List ℕ) (t : ℕ) → u < vertex_count g → IsPath g u vs → requested_from g x u vs t ≤ (length vs + 1) * 1000000
+unfolding requested_from
+requested_most g sound x u [] t here path = go (ltb x t)
+  where
+    go : (b : Bool) → cond b (wcet g u) 0 ≤ (0 + 1) * 1000000
+    go true = (let w = sound.wcet u here in omega (arith, w.1))
+    go false = omega arith
+requested_most g sound x u (v ∷ vs) t here path =
+    let rest = requested_most g sound (x + gap g u v) v vs t (target_of g sound u v (gap g u v) path.0).0 path.1 in
+    let one = go (ltb x t) in
+    omega (arith, rest, one)
+  where
+    go : (b : Bool) → cond b (wcet g u) 0 ≤ 1000000
+    go true = (let w = sound.wcet u here in omega (arith, w.1))
+    go false = omega arith
+
+-- A walk spans a tick at least for each vertex after the first.
+span_most : (g : Digraph) → IsSound g → (u : ℕ) (vs : List ℕ) → IsPath g u vs → length vs ≤ span g u vs
+span_most g sound u [] path = omega arith
+span_most g sound u (v ∷ vs) path =
+    let rest = span_most g sound v vs path.1 in
+    let to = target_of g sound u v (gap g u v) path.0 in
+    let s = span_cons g u v vs in
+    omega (arith, rest, to.1, s)
+
+-- So a short walk asks for at most 10^12.
+asked_most : (g : Digraph) → IsSound g → (bound t : ℕ) (walk : List ℕ) → bound ≤ 1000000 → IsShortWalk bound g walk → asked g t walk ≤ 1000000000000
+asked_most g sound bound t [] few is = omega arith
+asked_most g sound bound t (u ∷ vs) few is =
+    let a = requested_most g sound 0 u vs t is.0 is.1 in
+    let b = span_most g sound u vs is.1 in
+    omega (arith, a, b, is.2)
+
+pub walk_most : (g : Digraph) → IsSound g → (tree : TreeClaim) (bound : ℕ) → bound ≤ 1000000 → HasShortWalks bound g tree → (t w : ℕ) → asked_of g tree t w ≤ 1000000000000
+walk_most g sound tree bound few short t w = go (cases_lt w (length tree.walks))
+  where
+    go : (w < length tree.walks) ⊎ (length tree.walks ≤ w) → asked_of g tree t w ≤ 1000000000000
+    go (inl l) = asked_most g sound bound t (get_or tree.walks w []) few (short w [] l)
+    go (inr l) = (let e = ap (asked g t) (get_or_past tree.walks w [] l) in omega (arith, e))
+
+-- The releases in order are ready to be taken in.
+pub rises_ready : (g : Digraph) → IsSound g → (tree : TreeClaim) (bound : ℕ) → bound ≤ 1000000 → HasShortWalks bound g tree → (rises sorted : List Rise) → AreRises g tree rises
+    → IsPermutation rises sorted → IsNonDecreasingBy (λ r. r.offset) sorted → AreReady (length tree.walks) sorted
+rises_ready g sound tree bound few short rises sorted are same order = record {
+  order = order;
+  places = All-permutation (λ (r : Rise). r.place < length tree.walks) rises sorted same are.places;
+  most = λ p l. (let e = sum_by-IsPermutation (λ r. whole p r) rises sorted same in
+      let f = early_sum 1000000 p rises are.offsets in
+      let h = are.values 1000000 p l in
+      let m = walk_most g sound tree bound few short 1000000 (get_or (leaf_order tree) p 0) in
+      omega (arith, e, f, h, m));
+}
+
+-- The places have what the walks there ask for.
+heights_are : (g : Digraph) (tree : TreeClaim) → IsTree tree → (rises sorted : List Rise) (t : ℕ) → AreRises g tree rises → IsPermutation rises sorted
+    → heights sorted (length tree.walks) t ≡ map (asked_of g tree t) (leaf_order tree)
+heights_are g tree is rises sorted t are same =
+    ext_get_or 0 (heights sorted n t) (map (asked_of g tree t) (leaf_order tree)) (count ∙ (sym (order_count tree is) ∙ sym (length-map (leaf_order tree) (asked_of g tree t)))) (λ p l. go p (omega (arith, count, l)))
+  where
+    n : ℕ
+    n = length tree.walks
+
+    count : length (heights sorted n t) ≡ n
+    count = length-map-range_with_len (λ p. risen sorted t p) 0 n
+
+    go : (p : ℕ) → p < n → get_or (heights sorted n t) p 0 ≡ get_or (map (asked_of g tree t) (leaf_order tree)) p 0
+    go p l =
+        get_or-map-range_with_len (λ p. risen sorted t p) 0 n p p 0 l (omega arith)
+        ∙ (sum_by-IsPermutation (λ r. added t p r) rises sorted same
+        ∙ (are.values t p l ∙ sym (get_or-map (asked_of g tree t) (leaf_order tree) p 0 0 (omega (arith, order_count tree is, l)))))
+
+-- The query's answer is its node's value.
+answer_is : (g : Digraph) (tree : TreeClaim) → IsTree tree → (firsts sizes : List ℕ) (rises sorted : List Rise) (q : Query) → AreFirsts tree firsts → AreSizes tree sizes → AreRises g tree rises
+    → IsPermutation rises sorted → q.node < node_count tree → answer firsts sizes (length tree.walks) sorted q ≡ get_or (node_values g tree q.time) q.node 0
+answer_is g tree is firsts sizes rises sorted q placed sized are same l =
+    ap (λ n. greatest (take n (drop (get_or firsts q.node 0) (heights sorted (length tree.walks) q.time)))) (size_at tree is sizes sized q.node l)
+    ∙ value_found g tree is q.time q.node (get_or firsts q.node 0) (heights sorted (length tree.walks) q.time) l (placed.each q.node l) (heights_are g tree is rises sorted q.time are same)
+
+map_same : {X Y : Type 0} (f h : X → Y) (xs : List X) → All (λ x. f x ≡ h x) xs → map f xs ≡ map h xs
+map_same f h [] all = refl
+map_same {X} f h (x ∷ xs) all =
+    let one = All-head (λ (y : X). f y ≡ h y) x xs all in
+    let rest = map_same f h xs (All-tail (λ (y : X). f y ≡ h y) x xs all) in
+    ap (λ y. y ∷ map f xs) one ∙ ap (λ ys. h x ∷ ys) rest
+
+pub answers_are : (g : Digraph) (tree : TreeClaim) → IsTree tree → (firsts sizes : List ℕ) (rises sorted : List Rise) (queries : List Query) → AreFirsts tree firsts → AreSizes tree sizes → AreRises g tree rises
+    → IsPermutation rises sorted → All (λ q. q.node < node_count tree) queries
+    → map (answer firsts sizes (length tree.walks) sorted) queries ≡ map (λ q. get_or (node_values g tree q.time) q.node 0) queries
+answers_are g tree is firsts sizes rises sorted queries placed sized are same nodes =
+    map_same (answer firsts sizes (length tree.walks) sorted) (λ q. get_or (node_values g tree q.time) q.node 0) queries
+    (λ k d l. answer_is g tree is firsts sizes rises sorted (get_or queries k d) placed sized are same (nodes k d l))
+
+-- So what the sweep gives are the values of the queries' nodes.
+pub answers_same : (g : Digraph) (tree : TreeClaim) → IsTree tree → (firsts sizes : List ℕ) (rises sorted swept : List Rise) (count : ℕ) (queries : List Query) (values : List ℕ)
+    → AreFirsts tree firsts → AreSizes tree sizes → AreRises g tree rises → IsPermutation rises sorted → All (λ q. q.node < node_count tree) queries
+    → swept ≡ sorted → count ≡ length tree.walks → values ≡ map (answer firsts sizes count swept) queries
+    → values ≡ map (λ q. get_or (node_values g tree q.time) q.node 0) queries
+answers_same g tree is firsts sizes rises sorted swept count queries values placed sized are same nodes e f found =
+    found ∙ (ap (λ (rs : List Rise). map (answer firsts sizes count rs) queries) e
+    ∙ (ap (λ n. map (answer firsts sizes n sorted) queries) f ∙ answers_are g tree is firsts sizes rises sorted queries placed sized are same nodes))
+
+-- The query's places are some of those that there are.
+pub has_runs : (tree : TreeClaim) → IsTree tree → (firsts sizes : List ℕ) (queries : List Query) → AreFirsts tree firsts → AreSizes tree sizes → All (λ q. q.node < node_count tree) queries
+    → All (HasRun firsts sizes (length tree.walks)) queries
+has_runs tree is firsts sizes queries placed sized nodes k d l = one (get_or queries k d) (nodes k d l)
+  where
+    one : (q : Query) → q.node < node_count tree → HasRun firsts sizes (length tree.walks) q
+    one q m = record {
+      first = omega (arith, placed.count, m);
+      size = (let c = sizes_count tree is sizes sized in omega (arith, c, m));
+      within = (let f = first_fits tree is q.node (get_or firsts q.node 0) m (placed.each q.node m) in
+          let s = size_at tree is sizes sized q.node m in
+          let o = order_count tree is in
+          omega (arith, f, s, o));
+    }
+
+greatest_most : (f : ℕ → ℕ) (m : ℕ) (xs : List ℕ) → ((w : ℕ) → f w ≤ m) → greatest (map f xs) ≤ m
+greatest_most f m [] most = (let e = greatest_none in omega (arith, e))
+greatest_most f m (x ∷ xs) most =
+    let e = greatest_cons (f x) (map f xs) in
+    let h = max-le (most x) (greatest_most f m xs most) in
+    omega (arith, e, h)
+
+-- No value is more than 10^12.
+pub values_most : (g : Digraph) → IsSound g → (tree : TreeClaim) → IsTree tree → (bound : ℕ) → bound ≤ 1000000 → HasShortWalks bound g tree → (queries : List Query)
+    → All (λ q. q.node < node_count tree) queries → All (λ x. x ≤ 1000000000000) (map (λ q. get_or (node_values g tree q.time) q.node 0) queries)
+values_most g sound tree is bound few short [] nodes k d l = absurd (omega arith)
+values_most g sound tree is bound few short (q ∷ queries) nodes zero d l =
+    let v = node_value g tree is q.time q.node (nodes 0 q (omega arith)) in
+    let m = greatest_most (asked_of g tree q.time) 1000000000000 (leaves_below tree q.node) (walk_most g sound tree bound few short q.time) in
+    omega (arith, v, m)
+values_most g sound tree is bound few short (q ∷ queries) nodes (suc k) d l =
+    values_most g sound tree is bound few short queries (All-tail (λ (p : Query). p.node < node_count tree) q queries nodes) k d (omega arith)

@@ -1,0 +1,42 @@
+use Rattle.std.proofs.Common.{◌≡◌, ◌+◌, ◌<◌, Some, length, get_or, sym, arith, ◌∙◌}
+use Rattle.std.proofs.lemmas.List.{drop_more, get_or_default}
+use Rattle.drt_model.specs.Walk.{gap, sep}
+use Rattle.drt_graph.proofs.Edges.{gap_of, target_of}
+use Rattle.drt_check_values.proofs.Rising.{started, stepped, step_fits}
+use Rattle.drt_check_values.proofs.rises.add_rises.Goals as goal
+
+pub steps-init : goal.steps-init
+steps-init c =
+    let walk = c.args.walk.now in
+    let some : 0 < length walk = grind arith in
+    let first = get_or_default walk 0 0 (get_or walk 0 0) some in
+    rw (c.in_ok-push.ensures.items, c.rise_at.ensures) (started c.args.graph.now c.args.place c.args.bound c.args.rises.now.items (get_or walk 0 0) walk c.requires.walk some first)
+
+pub steps-preserved : goal.steps-preserved
+steps-preserved c =
+    let g = c.args.graph.now in
+    let walk = c.args.walk.now in
+    let l : c.steps.i < length walk = omega (arith, c.steps-test.true) in
+    let v = get_or walk c.steps.i 0 in
+    let step = rw (drop_more walk c.steps.i 0 l) at c.steps.invariant in
+    let e : sep g c.steps.vertex v ≡ Some c.in-Some.gap = sym c.separation.ensures ∙ c.in-Some.is in
+    let q = gap_of g c.steps.vertex v c.in-Some.gap e in
+    let time : c.steps.offset + c.in-Some.gap ≡ c.steps.offset + gap g c.steps.vertex v = omega (arith, q.0) in
+    rw (c.in_ok-push-2.ensures.items, c.rise_at-in-steps.ensures, time) (stepped g c.vertex_count-count.ensures.sound c.args.place c.args.bound _ c.steps.rises.items c.steps.offset c.steps.vertex v _ step)
+
+pub overflow_add-offset : goal.overflow_add-offset
+overflow_add-offset c =
+    let g = c.args.graph.now in
+    let walk = c.args.walk.now in
+    let l : c.steps.i < length walk = omega (arith, c.steps-test.true) in
+    let v = get_or walk c.steps.i 0 in
+    let step = rw (drop_more walk c.steps.i 0 l) at c.steps.invariant in
+    let e : sep g c.steps.vertex v ≡ Some c.in-Some.gap = sym c.separation.ensures ∙ c.in-Some.is in
+    let q = gap_of g c.steps.vertex v c.in-Some.gap e in
+    let short = step_fits g c.args.place c.args.bound _ c.steps.rises.items c.steps.offset c.steps.vertex v _ step in
+    omega (arith, q.0, short, c.requires.bound)
+
+pub rise_at-requires-in-steps : goal.rise_at-requires-in-steps
+rise_at-requires-in-steps c =
+    let e = sym c.separation.ensures ∙ c.in-Some.is in
+    (target_of c.args.graph.now c.vertex_count-count.ensures.sound c.steps.vertex (get_or c.args.walk.now c.steps.i 0) c.in-Some.gap e).0

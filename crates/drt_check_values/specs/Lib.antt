@@ -1,0 +1,4 @@
+pub mod Greatest
+pub mod Leaves
+pub mod Rises
+pub mod Sweeps
