@@ -1,5 +1,5 @@
 -- Each generated set keeps the limits, and its deadlines are constrained.
-use Rattle.std.proofs.Common.{◌≡◌, ◌≢◌, ◌⊎◌, inl, inr, ℕ, zero, suc, ◌+◌, ◌*◌, ◌/◌, ◌%◌, ◌-◌, ◌<◌, ◌≤◌, List, [], ◌∷◌, ◌++◌, length, get_or, map, slice_get, Some, IfSome, All, AllPairs, refl, sym, ap, subst, ◌∙◌, arith}
+use Rattle.std.proofs.Common.{◌≡◌, ◌≢◌, ◌⊎◌, inl, inr, ℕ, zero, suc, ◌+◌, ◌*◌, ◌/◌, ◌%◌, ◌<◌, ◌≤◌, List, [], ◌∷◌, ◌++◌, length, get_or, map, slice_get, Some, IfSome, All, AllPairs, refl, sym, ap, subst, ◌∙◌, arith}
 use Rattle.std.specs.Prelude.{decimal}
 use Rattle.std.specs.List.{range_with_len, flat_map}
 use Rattle.std.proofs.lemmas.Bool.{cases_eq, cases_lt, eq-eqb, ne_eqb}
@@ -15,8 +15,8 @@ use Rattle.drt_model.specs.declared.tasks.Edge.{Edge}
 use Rattle.drt_model.specs.declared.tasks.Task.{Task}
 use Rattle.drt_model.specs.Constrained.{AreConstrained, IsConstrainedEdge}
 use Rattle.drt_model.specs.Limits.{IsEdgeAmong, IsName, IsNameByte, IsTask, IsTaskSet, IsVertex}
-use Rattle.drt_gen.specs.Draws.{draw, state_after}
-use Rattle.drt_gen.specs.Generated.{all_drawn_edges, drawn_edges, drawn_period, drawn_task, drawn_vertex, drawn_vertices, generated, next_on_ring, periods}
+use Rattle.drt_gen.specs.Draws.{draw}
+use Rattle.drt_gen.specs.Generated.{drawn_edges, drawn_period, drawn_task, drawn_vertex, generated, next_on_ring, periods}
 use Rattle.drt_gen.proofs.Shifts.{edges_are}
 
 -- Lists of formulas of an index.
@@ -48,14 +48,14 @@ digit d l = inl (inl (inl (omega arith, omega arith)))
 
 small_number : (j : ℕ) → j < 12 → All IsNameByte (decimal j) × (length (decimal j) ≤ 2)
 small_number j l = elim (cases_lt j 10) [
-    inl one ↦
-        subst (λ ds. All IsNameByte ds × (length ds ≤ 2)) (sym (decimal_digit j one)) (All-cons IsNameByte (48 + j) [] (digit j one) (All-nil IsNameByte), omega arith)
+  | inl one ↦
+      subst (λ ds. All IsNameByte ds × (length ds ≤ 2)) (sym (decimal_digit j one)) (All-cons IsNameByte (48 + j) [] (digit j one) (All-nil IsNameByte), omega arith)
   | inr two ↦
-        let first : decimal (j / 10) ≡ (48 + j / 10) ∷ [] = decimal_digit (j / 10) (omega arith) in
-        let e : decimal j ≡ (48 + j / 10) ∷ (48 + j % 10) ∷ [] = decimal_step j two (omega arith) ∙ ap (λ ds. ds ++ (48 + j % 10) ∷ []) first in
-        subst (λ ds. All IsNameByte ds × (length ds ≤ 2)) (sym e)
-        (All-cons IsNameByte (48 + j / 10) ((48 + j % 10) ∷ []) (digit (j / 10) (omega arith)) (All-cons IsNameByte (48 + j % 10) [] (digit (j % 10) (mod_below j 10 (omega arith))) (All-nil IsNameByte)), omega arith)
-  ]
+      let first : decimal (j / 10) ≡ (48 + j / 10) ∷ [] = decimal_digit (j / 10) (omega arith) in
+      let e : decimal j ≡ (48 + j / 10) ∷ (48 + j % 10) ∷ [] = decimal_step j two (omega arith) ∙ ap (λ ds. ds ++ (48 + j % 10) ∷ []) first in
+      subst (λ ds. All IsNameByte ds × (length ds ≤ 2)) (sym e)
+      (All-cons IsNameByte (48 + j / 10) ((48 + j % 10) ∷ []) (digit (j / 10) (omega arith)) (All-cons IsNameByte (48 + j % 10) [] (digit (j % 10) (mod_below j 10 (omega arith))) (All-nil IsNameByte)), omega arith)
+]
 
 pub name : (b j : ℕ) → IsNameByte b → j < 12 → IsName (b ∷ decimal j)
 name b j letter l =
@@ -102,20 +102,20 @@ module _ (x p : ℕ) (lo : 100 ≤ p) (hi : p ≤ 600) where
   -- A separation is the period or twice it.
   pub sep_within : (k : ℕ) → (p ≤ p * (1 + draw x k 2)) × (p * (1 + draw x k 2) ≤ 1200)
   sep_within k = elim (cases_eq (draw x k 2) 0) [
-      inl e ↦ subst (λ d. (p ≤ p * (1 + d)) × (p * (1 + d) ≤ 1200)) (sym e) (omega arith, omega arith)
+    | inl e ↦ subst (λ d. (p ≤ p * (1 + d)) × (p * (1 + d) ≤ 1200)) (sym e) (omega arith, omega arith)
     | inr ne ↦
-          let e : draw x k 2 ≡ 1 = omega (arith, two_below k, ne) in
-          subst (λ d. (p ≤ p * (1 + d)) × (p * (1 + d) ≤ 1200)) (sym e) (omega arith, omega arith)
-    ]
+        let e : draw x k 2 ≡ 1 = omega (arith, two_below k, ne) in
+        subst (λ d. (p ≤ p * (1 + d)) × (p * (1 + d) ≤ 1200)) (sym e) (omega arith, omega arith)
+  ]
 
   -- The edges out of a vertex are the one on the ring, or that and one to another vertex.
   pub edges_cases : (k j : ℕ) → let ring : Edge = record { from = j; to = next_on_ring j; sep = p * (1 + draw x k 2) } in
       (drawn_edges p x k j ≡ ring ∷ [])
       ⊎ ((drawn_edges p x k j ≡ ring ∷ record { from = j; to = draw x (k + 1) 12; sep = p * (1 + draw x (k + 1 + 1) 2) } ∷ []) × (draw x (k + 1) 12 ≡ next_on_ring j → ⊥))
   edges_cases k j = elim (cases_eq (draw x (k + 1) 12) (next_on_ring j)) [
-      inl e ↦ inl (edges_are p x k j ∙ rw (eq-eqb _ _ e) refl)
+    | inl e ↦ inl (edges_are p x k j ∙ rw (eq-eqb _ _ e) refl)
     | inr ne ↦ inr (edges_are p x k j ∙ rw (ne_eqb _ _ ne) refl, ne)
-    ]
+  ]
 
   -- What holds of each edge from vertex j whose separation is the period or twice it holds of each that is drawn.
   pub each_edge : (P : Edge → Type 0) (k j : ℕ) → ((to sep : ℕ) → to < 12 → p ≤ sep → sep ≤ 1200 → P (record { from = j; to = to; sep = sep })) → All P (drawn_edges p x k j)
@@ -125,15 +125,15 @@ module _ (x p : ℕ) (lo : 100 ≤ p) (hi : p ≤ 600) where
       let others = sep_within (k + 1 + 1) in
       let other = holds (draw x (k + 1) 12) (p * (1 + draw x (k + 1 + 1) 2)) (mod_below _ 12 (omega arith)) others.0 others.1 in
       elim (edges_cases k j) [
-        inl e ↦ subst (All P) (sym e) (All-cons P _ [] ring (All-nil P))
-      | inr (e, ne) ↦ subst (All P) (sym e) (All-cons P _ (record { from = j; to = draw x (k + 1) 12; sep = p * (1 + draw x (k + 1 + 1) 2) } ∷ []) ring (All-cons P _ [] other (All-nil P)))
+        | inl e ↦ subst (All P) (sym e) (All-cons P _ [] ring (All-nil P))
+        | inr (e, ne) ↦ subst (All P) (sym e) (All-cons P _ (record { from = j; to = draw x (k + 1) 12; sep = p * (1 + draw x (k + 1 + 1) 2) } ∷ []) ring (All-cons P _ [] other (All-nil P)))
       ]
 
   pub few_edges : (k j : ℕ) → length (drawn_edges p x k j) ≤ 2
   few_edges k j = elim (edges_cases k j) [
-      inl e ↦ subst (λ es. length es ≤ 2) (sym e) (omega arith)
+    | inl e ↦ subst (λ es. length es ≤ 2) (sym e) (omega arith)
     | inr (e, ne) ↦ subst (λ es. length es ≤ 2) (sym e) (omega arith)
-    ]
+  ]
 
 -- Two edges don't join the same vertices.
 abbrev pub Apart : Edge → Edge → Type 0
@@ -156,8 +156,8 @@ module _ (x p : ℕ) (lo : 100 ≤ p) (hi : p ≤ 600) where
       let of_ring = apart_from k (a + 1) n ring (omega arith) in
       let of_chord = apart_from k (a + 1) n chord (omega arith) in
       elim (edges_cases x p lo hi (k + 3 * a) a) [
-        inl e ↦ subst (λ es. AllPairs Apart (es ++ rest)) (sym e) (AllPairs-cons Apart ring rest of_ring more)
-      | inr (e, ne) ↦
+        | inl e ↦ subst (λ es. AllPairs Apart (es ++ rest)) (sym e) (AllPairs-cons Apart ring rest of_ring more)
+        | inr (e, ne) ↦
             let two = AllPairs-cons Apart chord rest of_chord more in
             let one : Apart ring chord = λ same onto. ne (sym onto) in
             subst (λ es. AllPairs Apart (es ++ rest)) (sym e) (AllPairs-cons Apart ring (chord ∷ rest) (All-cons (Apart ring) chord rest one of_ring) two)
@@ -205,8 +205,8 @@ task_constrained x k i =
     let due : All (λ v. v.deadline ≤ p) vertices = each_of vertex (λ v. v.deadline ≤ p) 12 (λ j l. deadline_within p x (k + 1 + 2 * j) j) in
     let Kept : Edge → Type 0 = λ e. IfSome (slice_get vertices e.from) (λ v. v.deadline ≤ e.sep) in
     each_flat Kept (λ j. drawn_edges p x (k + 25 + 3 * j) j) 0 12 (λ j least l.
-      each_edge x p within.0 within.1 Kept (k + 25 + 3 * j) j (λ to sep in_range lo hi.
-        some_of (λ v. v.deadline ≤ sep) vertices j (vertex 0) (omega (arith, l, length-map-range_with_len vertex 0 12)) (All-weaker (λ v. v.deadline ≤ p) (λ v. v.deadline ≤ sep) (λ v due_by. omega (arith, due_by, lo)) vertices due)))
+    each_edge x p within.0 within.1 Kept (k + 25 + 3 * j) j (λ to sep in_range lo hi.
+    some_of (λ v. v.deadline ≤ sep) vertices j (vertex 0) (omega (arith, l, length-map-range_with_len vertex 0 12)) (All-weaker (λ v. v.deadline ≤ p) (λ v. v.deadline ≤ sep) (λ v due_by. omega (arith, due_by, lo)) vertices due)))
 
 -- A task keeps the limits.
 pub task_limits : (x k i : ℕ) → i < 12 → IsTask 1 (drawn_task x k i)

@@ -1,5 +1,5 @@
 -- What the code makes of its draws, as the formulas of Generated, and one more of each in its list.
-use Rattle.std.proofs.Common.{◌≡◌, ℕ, ◌+◌, ◌*◌, ◌/◌, ◌-◌, true, false, cond, eqb, List, [], ◌∷◌, ◌++◌, map, slice_index, refl, sym, ap, ◌∙◌, arith}
+use Rattle.std.proofs.Common.{◌≡◌, ℕ, ◌+◌, ◌*◌, ◌/◌, ◌-◌, true, false, eqb, List, [], ◌∷◌, ◌++◌, map, slice_index, refl, sym, ap, ◌∙◌, arith}
 use Rattle.std.specs.List.{range_with_len, flat_map}
 use Rattle.std.proofs.lemmas.Bool.{eq-eqb, ne_eqb}
 use Rattle.std.proofs.lemmas.List.{append-nil}
@@ -10,7 +10,7 @@ use Rattle.drt_model.specs.declared.tasks.Edge.{Edge}
 use Rattle.drt_model.specs.declared.tasks.Task.{Task}
 use Rattle.drt_gen.specs.Draws.{draw, state_after}
 use Rattle.drt_gen.specs.Generated.{all_drawn_edges, drawn_edges, drawn_period, drawn_task, drawn_vertex, drawn_vertices, next_on_ring, periods, task_name, vertex_name}
-use Rattle.drt_gen.proofs.Shifts.{all_edges_shift, edges_are, edges_by, edges_shift, period_shift, task_shift, vertex_shift, vertices_shift}
+use Rattle.drt_gen.proofs.Shifts.{all_edges_shift, edges_are, edges_shift, task_shift, vertex_shift, vertices_shift}
 
 -- A vertex.
 pub vertex_made : (p x j w d : ℕ) (name : List ℕ) → name ≡ vertex_name j → w ≡ draw x 0 (p / 15) → d ≡ draw x 1 (p / 2)
@@ -74,7 +74,7 @@ edges_more p x j s es fs gs so_far at is added =
     let f : ℕ → List Edge = λ k. drawn_edges p x (0 + 3 * k) k in
     let one : gs ≡ f j = is ∙ (ap (λ u. drawn_edges p u 0 j) at ∙ edges_shift x (3 * j) p 0 (0 + 3 * j) j (omega arith)) in
     let whole : flat_map f (range_with_len 0 (j + 1)) ≡ flat_map f (range_with_len 0 j) ++ f j
-        = ap (flat_map f) (range_more j) ∙ (flat_map-append f (range_with_len 0 j) (j ∷ []) ∙ ap (λ rest. flat_map f (range_with_len 0 j) ++ rest) (append-nil (f j))) in
+    = ap (flat_map f) (range_more j) ∙ (flat_map-append f (range_with_len 0 j) (j ∷ []) ∙ ap (λ rest. flat_map f (range_with_len 0 j) ++ rest) (append-nil (f j))) in
     added ∙ ((λ i. so_far i ++ one i) ∙ sym whole)
 
 -- The tasks so far.

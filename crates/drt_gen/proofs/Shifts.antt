@@ -1,11 +1,9 @@
 -- Draws that begin behind some others: a formula of draw k at the state after m draws is the formula of draw m + k.
 use Rattle.std.proofs.Common.{◌≡◌, ℕ, zero, suc, ◌+◌, ◌*◌, ◌/◌, ◌%◌, ◌^◌, ◌-◌, cond, eqb, List, [], ◌∷◌, map, slice_index, refl, sym, ap, ◌∙◌, arith}
 use Rattle.std.specs.List.{range_with_len, flat_map}
-use Rattle.drt_model.specs.declared.tasks.Vertex.{Vertex}
 use Rattle.drt_model.specs.declared.tasks.Edge.{Edge}
-use Rattle.drt_model.specs.declared.tasks.Task.{Task}
 use Rattle.drt_gen.specs.Draws.{draw, state_after}
-use Rattle.drt_gen.specs.Generated.{all_drawn_edges, drawn_edges, drawn_period, drawn_sep, drawn_task, drawn_vertex, drawn_vertices, next_on_ring, periods, task_name, vertex_name}
+use Rattle.drt_gen.specs.Generated.{all_drawn_edges, drawn_edges, drawn_period, drawn_task, drawn_vertex, drawn_vertices, next_on_ring, periods, task_name, vertex_name}
 
 -- One step of the generator.
 abbrev pub step : ℕ → ℕ
@@ -68,13 +66,13 @@ module _ (x m : ℕ) where
   pub vertices_shift : (p k l : ℕ) → m + k ≡ l → drawn_vertices p (state_after x m) k ≡ drawn_vertices p x l
   vertices_shift p k l e =
       let each : (j : ℕ) → drawn_vertex p (state_after x m) (k + 2 * j) j ≡ drawn_vertex p x (l + 2 * j) j
-          = λ j. vertex_shift x m p (k + 2 * j) (l + 2 * j) j (omega (arith, e)) in
+      = λ j. vertex_shift x m p (k + 2 * j) (l + 2 * j) j (omega (arith, e)) in
       λ i. map (λ j. each j i) (range_with_len 0 12)
 
   pub all_edges_shift : (p k l : ℕ) → m + k ≡ l → all_drawn_edges p (state_after x m) k ≡ all_drawn_edges p x l
   all_edges_shift p k l e =
       let each : (j : ℕ) → drawn_edges p (state_after x m) (k + 3 * j) j ≡ drawn_edges p x (l + 3 * j) j
-          = λ j. edges_shift p (k + 3 * j) (l + 3 * j) j (omega (arith, e)) in
+      = λ j. edges_shift p (k + 3 * j) (l + 3 * j) j (omega (arith, e)) in
       λ i. flat_map (λ j. each j i) (range_with_len 0 12)
 
   pub task_shift : (k l n : ℕ) → m + k ≡ l → drawn_task (state_after x m) k n ≡ drawn_task x l n

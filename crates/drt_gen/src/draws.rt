@@ -6,6 +6,7 @@ use std::marker::Model;
 
 // The multiplier and the increment of the generator, those of Knuth's MMIX.
 const MULTIPLIER: u64 = 6_364_136_223_846_793_005;
+
 const INCREMENT: u64 = 1_442_695_040_888_963_407;
 
 // The state of a generator. Contracts see it as its number.

@@ -67,12 +67,7 @@ fn draw_vertices(alloc: Global, draws: &mut Draws, period: u32) -> Result<Row<Ve
 }
 
 // The vertex of this number of a task with this period: its execution time, then its deadline.
-fn draw_vertex(
-    alloc: Global,
-    draws: &mut Draws,
-    period: u32,
-    number: u32,
-) -> Result<Vertex, Memory>
+fn draw_vertex(alloc: Global, draws: &mut Draws, period: u32, number: u32) -> Result<Vertex, Memory>
     requires { 15 ≤ period }
     ensures vertex { IfOk result (λ v. v ≡ drawn_vertex period draws.old 0 number) }
     ensures state { OnOk result (draws.new ≡ state_after draws.old 2) }

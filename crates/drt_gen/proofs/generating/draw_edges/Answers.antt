@@ -1,4 +1,4 @@
-use Rattle.std.proofs.Common.{◌≡◌, ◌+◌, ◌*◌, refl, sym, ap, ◌∙◌, arith}
+use Rattle.std.proofs.Common.{◌+◌, ◌*◌, refl, sym, ap, ◌∙◌, arith}
 use Rattle.drt_gen.specs.Draws.{state_after}
 use Rattle.drt_gen.specs.Generated.{drawn_edges}
 use Rattle.drt_gen.proofs.Made.{edges_more}

@@ -1,4 +1,4 @@
-use Rattle.std.proofs.Common.{◌≡◌, slice_index, refl, ap, ◌∙◌}
+use Rattle.std.proofs.Common.{slice_index, refl, ap, ◌∙◌}
 use Rattle.drt_gen.specs.Draws.{state_after}
 use Rattle.drt_gen.specs.Generated.{periods}
 use Rattle.drt_gen.proofs.Made.{task_made}

@@ -1,4 +1,4 @@
-use Rattle.std.proofs.Common.{◌≡◌, ◌/◌, refl, ap, ◌∙◌}
+use Rattle.std.proofs.Common.{◌/◌, refl, ap, ◌∙◌}
 use Rattle.drt_gen.specs.Draws.{draw}
 use Rattle.drt_gen.proofs.Made.{vertex_made}
 use Rattle.drt_gen.proofs.Shifts.{draws, states}

@@ -1,4 +1,4 @@
-use Rattle.std.proofs.Common.{◌≡◌, ◌+◌, ◌*◌, sym, ap, ◌∙◌, arith}
+use Rattle.std.proofs.Common.{◌+◌, ◌*◌, sym, ap, ◌∙◌, arith}
 use Rattle.drt_gen.specs.Draws.{state_after}
 use Rattle.drt_gen.proofs.Made.{vertices_more}
 use Rattle.drt_gen.proofs.Shifts.{after_none, states}

@@ -1,4 +1,4 @@
-use Rattle.std.proofs.Common.{◌≡◌, sym, subst}
+use Rattle.std.proofs.Common.{sym, subst}
 use Rattle.drt_model.specs.Limits.{IsTaskSet}
 use Rattle.drt_gen.specs.Generated.{generated}
 use Rattle.drt_gen.proofs.Limits.{set_limits}

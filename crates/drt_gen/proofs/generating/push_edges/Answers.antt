@@ -1,4 +1,4 @@
-use Rattle.std.proofs.Common.{◌≡◌, ◌+◌, ◌*◌, ◌%◌, List, [], ◌∷◌, ◌++◌, refl, sym, ap, ◌∙◌, append_assoc}
+use Rattle.std.proofs.Common.{◌+◌, ◌*◌, ◌++◌, refl, ap, ◌∙◌, append_assoc}
 use Rattle.drt_gen.specs.Draws.{draw, state_after}
 use Rattle.drt_gen.proofs.Made.{one_made, two_made}
 use Rattle.drt_gen.proofs.Shifts.{draws, states}
