@@ -3,6 +3,7 @@ ghost use Rattle.std.specs.Prelude.{◌≡◌, IfOk, false, codes};
 ghost use Rattle.clap.specs.Words.{app_of, new_app, rule_of};
 ghost use Rattle.clap.specs.declared.builder.Command.TheViews.{out-Command};
 ghost use Rattle.drt_words.specs.CommandLine.{bare_app, bench_app, drt_app, drawn_rule, number_rule, search_app, with_bench, with_plain, with_search};
+ghost use Rattle.drt_words.specs.Searches.{most_workers};
 
 use crate::search::{MOST_BUDGET, MOST_WORKERS};
 use clap::builder::ValueParser;
@@ -21,12 +22,20 @@ fn number_option<'a>(alloc: Global, name: &'a str, most: u64, standard: &'a str)
         .default_value(standard)
 }
 
+// The option for workers.
+fn workers_option<'a>(alloc: Global) -> Arg<'a>
+    ensures rule { rule_of result ≡ number_rule (codes "workers") most_workers (codes "4") }
+    ensures local { result.global ≡ false }
+{
+    number_option(alloc, "workers", u64::from(MOST_WORKERS), "4")
+}
+
 // A command that searches: with the options for workers and budget.
 fn search<'a>(alloc: Global, name: &'a str) -> Result<Command<'a>, AllocError>
     ensures app { IfOk result (λ c. app_of c ≡ search_app name.entry.now) }
     ensures local { IfOk result (λ c. (out-Command c).has_globals ≡ false) }
 {
-    let workers = number_option(alloc, "workers", u64::from(MOST_WORKERS), "4");
+    let workers = workers_option(alloc);
     let budget = number_option(alloc, "budget", u64::from(MOST_BUDGET), "100000");
     let command = Command::new(alloc, name).arg(workers)?;
     command.arg(budget)
@@ -48,7 +57,7 @@ fn bench<'a>(alloc: Global) -> Result<Command<'a>, AllocError>
     ensures app { IfOk result (λ c. app_of c ≡ bench_app) }
     ensures local { IfOk result (λ c. (out-Command c).has_globals ≡ false) }
 {
-    let workers = number_option(alloc, "workers", u64::from(MOST_WORKERS), "4");
+    let workers = workers_option(alloc);
     let number = drawn_number(alloc);
     let command = Command::new(alloc, "bench").arg(workers)?;
     command.arg(number)

@@ -23,5 +23,8 @@ pub fn number_of(text: &str, most: u32) -> Option<u32>
 pub fn whole_number_of(text: &str) -> Option<u64>
     ensures { result ≡ whole_number_in text.now }
 {
-    text.parse::<u64>().ok()
+    match text.parse::<u64>() {
+        Ok(number) => Some(number),
+        Err(_) => None,
+    }
 }
