@@ -1,0 +1,4 @@
+pub mod Shifts
+pub mod Made
+pub mod Limits
+mod Rows
