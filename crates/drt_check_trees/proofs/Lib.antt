@@ -3,3 +3,5 @@ mod Orders
 mod Eachs
 mod Naming
 mod Shorts
+mod Asks
+mod Looks

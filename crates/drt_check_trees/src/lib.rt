@@ -5,8 +5,11 @@
 //! those before it are kept. It stands on no crate of the search.
 #![tactic(auto)]
 
+mod asking;
 mod counts;
 mod deadlines;
+mod entries;
+mod gaps;
 mod order;
 mod shapes;
 mod short;
