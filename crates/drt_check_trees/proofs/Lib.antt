@@ -5,3 +5,4 @@ mod Naming
 mod Shorts
 mod Asks
 mod Looks
+mod Ranks

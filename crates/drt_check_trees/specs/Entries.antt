@@ -3,7 +3,8 @@ use Rattle.std.specs.Prelude.{◌≡◌, ℕ, ◌+◌, ◌-◌, ◌*◌, ◌<◌
 use Rattle.std.specs.List.Sorted.{IsNonDecreasingBy}
 use Rattle.drt_model.specs.Digraph.{Digraph}
 use Rattle.drt_model.specs.Walk.{last_of, work}
-use Rattle.drt_evidence.specs.Trees.{IsAbove}
+use Rattle.drt_evidence.specs.Trees.{IsAbove, IsExtendedWalk}
+use Rattle.drt_evidence.specs.declared.evidence.TreeClaim.{TreeClaim}
 use Rattle.drt_check_trees.specs.Asking.{span_of}
 use Rattle.drt_check_trees.specs.declared.entries.Entry.{Entry}
 
@@ -37,3 +38,8 @@ IsOver bound g (u ∷ vs) walk = IsAbove bound g u vs walk
 pub record IsListed (g : Digraph) (walks : List (List ℕ)) (entries : List Entry) (n : ℕ) : Type 0 where
   pub long : length entries ≡ n
   pub each : (k : ℕ) (d : Entry) → k < n → IsEntryOf g walks (slice_index_or entries k d) × ((slice_index_or entries k d).number ≡ k)
+
+-- The walk, extended by the k-th edge out of its last vertex, spans as much as the bound or is dominated by a walk of the tree.
+abbrev pub IsExtendedBy : ℕ → Digraph → TreeClaim → List ℕ → ℕ → Type 0
+IsExtendedBy bound g tree [] k = Unit {0}
+IsExtendedBy bound g tree (u ∷ vs) k = IsExtendedWalk bound g tree u vs k

@@ -1,10 +1,10 @@
 //! The walks of a tree in order, and the search for one that dominates a given walk.
-ghost use Rattle.std.specs.Prelude.{◌≡◌, ℕ, ◌↔◌, ◌<◌, ◌≤◌, All, Any, IfOk, IsTrue, length, slice_index_or};
+ghost use Rattle.std.specs.Prelude.{◌≡◌, ℕ, ◌↔◌, ◌<◌, ◌≤◌, [], All, Any, IfOk, IsTrue, length, slice_index_or};
 ghost use Rattle.std.specs.List.Sorted.{IsNonDecreasingBy};
 ghost use Rattle.drt_model.specs.Walk.{work};
 ghost use Rattle.drt_evidence.specs.Trees.{IsShortWalk};
-ghost use Rattle.drt_check_trees.specs.Asking.{span_of};
-ghost use Rattle.drt_check_trees.specs.Entries.{AreEntries, IsListed, IsOver, last_in, rank_of};
+ghost use Rattle.drt_check_trees.specs.Asking.{AsksNoLess, span_of};
+ghost use Rattle.drt_check_trees.specs.Entries.{AreEntries, IsEntryOf, IsListed, IsOver, last_in, rank_of};
 ghost use Rattle.drt_check_trees.specs.Gaps.{AreGaps};
 ghost use Rattle.drt_check_trees.specs.declared.entries.Entry.{Entry};
 
@@ -21,7 +21,7 @@ pub struct Entry {
     pub span: u64,
 }
 
-/// The rank of a walk of this last vertex and work.
+// The rank of a walk of this last vertex and work.
 fn rank_of(last: u32, work: u64) -> u64
     requires last { last < 96 }
     requires work { work ≤ 1000000000000 }
@@ -30,8 +30,8 @@ fn rank_of(last: u32, work: u64) -> u64
     1099511627776 * last as u64 + (1099511627775 - work)
 }
 
-// The last vertex of a walk.
-fn last_in(walk: &[u32]) -> u32
+/// The last vertex of a walk.
+pub(crate) fn last_in(walk: &[u32]) -> u32
     requires { 0 < length walk.now }
     ensures { result ≡ last_in walk.now }
 {
@@ -108,6 +108,36 @@ fn first_from(entries: &[Entry], rank: u64) -> usize
     entries.partition_point(|entry| entry.rank < rank)
 }
 
+// Whether the walk of the entry spans no more than the other one, and asks at no time for less.
+fn is_no_less(
+    graph: &Graph,
+    gaps: &[u32],
+    bound: u32,
+    walks: &[Row<u32>],
+    entry: Entry,
+    other: &[u32],
+    span: u64,
+) -> bool
+    requires gaps { AreGaps graph.now gaps.now }
+    requires bound { bound ≤ 1000000 }
+    requires short { All (IsShortWalk bound graph.now) walks.now }
+    requires entry { IsEntryOf graph.now walks.now entry }
+    requires other { IsShortWalk bound graph.now other.now }
+    ensures { IsTrue result ↔ (entry.span ≤ span) × AsksNoLess bound graph.now other.now (slice_index_or walks.now entry.number []) }
+{
+    let _count = graph.vertex_count();
+    if entry.span > span {
+        return false;
+    }
+    asks_no_less(
+        graph,
+        gaps,
+        bound,
+        walks[entry.number].as_slice(),
+        other,
+    )
+}
+
 /// Whether a walk dominates this one, of this extent. Of those with its last vertex and at least its work it looks at those with the
 /// least work first: where the walk itself is among them, it is found at once.
 pub(crate) fn has_above(
@@ -134,10 +164,7 @@ pub(crate) fn has_above(
     let mut k = first_from(entries, rank_of(last, extent.work) + 1);
     while k > from {
         k -= 1;
-        let entry = entries[k];
-        if entry.span <= extent.span
-            && asks_no_less(graph, gaps, bound, walks[entry.number].as_slice(), walk)
-        {
+        if is_no_less(graph, gaps, bound, walks, entries[k], walk, extent.span) {
             return true;
         }
     }

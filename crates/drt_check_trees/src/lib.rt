@@ -7,6 +7,7 @@
 
 mod asking;
 mod counts;
+mod covering;
 mod deadlines;
 mod entries;
 mod gaps;
@@ -14,6 +15,7 @@ mod order;
 mod shapes;
 mod short;
 
+pub use covering::cover_walks;
 pub use counts::is_tree_per_higher_task;
 pub use deadlines::greatest_deadline;
 pub use order::{priority_order, tree_graph};
