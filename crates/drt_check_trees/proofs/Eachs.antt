@@ -42,3 +42,8 @@ each_not {A} {B} R xs ys i x y at is l fails each = fails (subst (λ (z : B). R 
 
 pub each_end : {A B : Type 0} (R : A → B → Type 0) (xs : List A) (ys : List B) (i : ℕ) → length xs ≡ length ys → length ys ≤ i → IsEachTo R xs ys i → Each R xs ys
 each_end R xs ys i e l all = each_all R xs ys e (λ k x y m. all k x y (omega arith))
+
+-- What holds of each, holds at this place.
+pub each_here : {A B : Type 0} (R : A → B → Type 0) (xs : List A) (ys : List B) (i : ℕ) (x : A) (y : B) → slice_get xs i ≡ Some x → y ≡ get_or ys i y → i < length ys
+    → Each R xs ys → R x y
+each_here {A} {B} R xs ys i x y at is l each = subst (λ (z : B). R x z) (sym is) (each_at R xs ys i x (get_or ys i y) each at (slice_get-get_or ys i y l))

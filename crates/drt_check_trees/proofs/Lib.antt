@@ -6,3 +6,4 @@ mod Shorts
 mod Asks
 mod Looks
 mod Ranks
+mod Extending
