@@ -22,9 +22,9 @@ each_all R (x ∷ xs) [] e all = absurd (omega arith)
 each_all R (x ∷ xs) (y ∷ ys) e all = (all 0 x y (omega arith) refl refl, each_all R xs ys (omega arith) (λ k v w l. all (suc k) v w (omega arith)))
 
 -- One more place.
-pub each_more : {A B : Type 0} (R : A → B → Type 0) (xs : List A) (ys : List B) (i : ℕ) (x : A) (d : B) → slice_get xs i ≡ Some x → R x (get_or ys i d)
+pub each_more : {A B : Type 0} (R : A → B → Type 0) (xs : List A) (ys : List B) (i : ℕ) (x : A) (y : B) → slice_get xs i ≡ Some x → y ≡ get_or ys i y → R x y
     → IsEachTo R xs ys i → IsEachTo R xs ys (i + 1)
-each_more {A} {B} R xs ys i x d at here so_far k v w m at_v at_w = go (cases_lt k i)
+each_more {A} {B} R xs ys i x y at is here so_far k v w m at_v at_w = go (cases_lt k i)
   where
     go : (k < i) ⊎ (i ≤ k) → R v w
     go (inl q) = so_far k v w q at_v at_w
@@ -33,12 +33,17 @@ each_more {A} {B} R xs ys i x d at here so_far k v w m at_v at_w = go (cases_lt 
         let at_v' : slice_get xs i ≡ Some v = subst (λ (n : ℕ). slice_get xs n ≡ Some v) e at_v in
         let at_w' : slice_get ys i ≡ Some w = subst (λ (n : ℕ). slice_get ys n ≡ Some w) e at_w in
         let f : x ≡ v = same_Some x v (sym at ∙ at_v') in
-        subst (λ (z : A). R z w) f (subst (λ (z : B). R x z) (get_or_from_slice_get ys i w d at_w') here)
+        subst (λ (z : A). R z w) f (subst (λ (z : B). R x z) (is ∙ get_or_from_slice_get ys i w y at_w') here)
 
 -- What fails at a place fails of each.
-pub each_not : {A B : Type 0} (R : A → B → Type 0) (xs : List A) (ys : List B) (i : ℕ) (x : A) (d : B) → slice_get xs i ≡ Some x → i < length ys → (R x (get_or ys i d) → ⊥)
-    → Each R xs ys → ⊥
-each_not R xs ys i x d at l fails each = fails (each_at R xs ys i x (get_or ys i d) each at (slice_get-get_or ys i d l))
+pub each_not : {A B : Type 0} (R : A → B → Type 0) (xs : List A) (ys : List B) (i : ℕ) (x : A) (y : B) → slice_get xs i ≡ Some x → y ≡ get_or ys i y → i < length ys
+    → (R x y → ⊥) → Each R xs ys → ⊥
+each_not {A} {B} R xs ys i x y at is l fails each = fails (subst (λ (z : B). R x z) (sym is) (each_at R xs ys i x (get_or ys i y) each at (slice_get-get_or ys i y l)))
 
 pub each_end : {A B : Type 0} (R : A → B → Type 0) (xs : List A) (ys : List B) (i : ℕ) → length xs ≡ length ys → length ys ≤ i → IsEachTo R xs ys i → Each R xs ys
 each_end R xs ys i e l all = each_all R xs ys e (λ k x y m. all k x y (omega arith))
+
+-- What holds of each, holds at this place.
+pub each_here : {A B : Type 0} (R : A → B → Type 0) (xs : List A) (ys : List B) (i : ℕ) (x : A) (y : B) → slice_get xs i ≡ Some x → y ≡ get_or ys i y → i < length ys
+    → Each R xs ys → R x y
+each_here {A} {B} R xs ys i x y at is l each = subst (λ (z : B). R x z) (sym is) (each_at R xs ys i x (get_or ys i y) each at (slice_get-get_or ys i y l))

@@ -3,3 +3,7 @@ mod Orders
 mod Eachs
 mod Naming
 mod Shorts
+mod Asks
+mod Looks
+mod Ranks
+mod Extending

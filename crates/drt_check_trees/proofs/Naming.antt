@@ -3,7 +3,7 @@ use Rattle.std.proofs.Common.{◌≡◌, ℕ, zero, suc, ◌+◌, ◌*◌, ◌<�
 use Rattle.std.specs.Prelude.{◌↔◌, IsTrue, slice_get}
 use Rattle.std.proofs.lemmas.Bool.{cases_lt}
 use Rattle.std.proofs.lemmas.Bool.Decides.{nat_tests}
-use Rattle.std.proofs.lemmas.List.{drop_more, drop_all}
+use Rattle.std.proofs.lemmas.List.{drop_more, drop_all, get_or_default}
 use Rattle.std.proofs.lemmas.List.Sums.{sum_by-cons}
 use Rattle.std.proofs.lemmas.Option.{slice_get_within, slice_get-get_or, get_or_from_slice_get}
 use Rattle.drt_evidence.specs.Trees.{IsTree, named}
@@ -65,3 +65,15 @@ module _ (tree : TreeClaim) (some : 1 ≤ length tree.walks) (count : length tre
 
   pub lower_tree : IsTree tree → AreLower (length tree.walks) tree.pairs
   lower_tree is i p at = (is.left i p at, is.right i p at)
+
+-- It holds of one place more.
+pub all_more : {X : Type 0} (P : X → Type 0) (xs : List X) (i : ℕ) (x : X) → i < length xs → x ≡ get_or xs i x → P x
+    → ((k : ℕ) (d : X) → k < i → P (get_or xs k d)) → (k : ℕ) (d : X) → k < i + 1 → P (get_or xs k d)
+all_more P xs i x l is p below k d m = go (cases_lt k i)
+  where
+    go : (k < i) ⊎ (i ≤ k) → P (get_or xs k d)
+    go (inl n) = below k d n
+    go (inr n) =
+        let e : k ≡ i = omega arith in
+        let f : get_or xs i x ≡ get_or xs i d = get_or_default xs i x d l in
+        subst (λ j. P (get_or xs j d)) (sym e) (subst (λ y. P y) (is ∙ f) p)

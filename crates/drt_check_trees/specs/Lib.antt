@@ -1,2 +1,5 @@
 pub mod Order
 pub mod Marks
+pub mod Gaps
+pub mod Asking
+pub mod Entries

@@ -5,12 +5,17 @@
 //! those before it are kept. It stands on no crate of the search.
 #![tactic(auto)]
 
+mod asking;
 mod counts;
+mod covering;
 mod deadlines;
+mod entries;
+mod gaps;
 mod order;
 mod shapes;
 mod short;
 
+pub use covering::cover_walks;
 pub use counts::is_tree_per_higher_task;
 pub use deadlines::greatest_deadline;
 pub use order::{priority_order, tree_graph};

@@ -1,6 +1,5 @@
 //! Whether claims have the shape of trees.
 ghost use Rattle.std.specs.Prelude.{◌≡◌, ℕ, ◌+◌, ◌<◌, ◌≤◌, ◌↔◌, All, IfOk, IsTrue, false, true, length};
-ghost use Rattle.drt_evidence.specs.Ranges.{IsInRangeTree};
 ghost use Rattle.drt_evidence.specs.Trees.{IsTree, named};
 ghost use Rattle.drt_check_trees.specs.Marks.{AreLower, IsLower, marked, names};
 
@@ -10,7 +9,6 @@ use std::alloc::Global;
 
 /// Whether each claim is a tree: its pairs name lower nodes, and each node but the last is named once.
 pub fn are_trees(alloc: Global, trees: &[TreeClaim]) -> Result<bool, Memory>
-    requires { All IsInRangeTree trees.now }
     ensures { IfOk result (λ are. IsTrue are ↔ All IsTree trees.now) }
 {
     for i in 0..trees.len() {
@@ -23,7 +21,6 @@ pub fn are_trees(alloc: Global, trees: &[TreeClaim]) -> Result<bool, Memory>
 
 // Whether one claim is a tree.
 fn is_tree(alloc: Global, tree: &TreeClaim) -> Result<bool, Memory>
-    requires { IsInRangeTree tree.now }
     ensures { IfOk result (λ is. IsTrue is ↔ IsTree tree.now) }
 {
     let walks = tree.walks.as_slice().len();

@@ -11,12 +11,7 @@ use drt_graph::{Graph, Graphs};
 use drt_model::TaskSet;
 
 /// Whether the walks of all trees are walks of their graphs that span less than the greatest deadline. It takes no memory.
-pub fn have_short_walks(
-    set: &TaskSet,
-    graphs: &Graphs,
-    order: &[u32],
-    trees: &[TreeClaim],
-) -> bool
+pub fn have_short_walks(set: &TaskSet, graphs: &Graphs, order: &[u32], trees: &[TreeClaim]) -> bool
     requires graphs { graphs.now ≡ graphs_of set.now.tasks }
     requires order { IsPriorityOrder set.now.tasks order.now }
     requires per_task { IsTreePerHigherTask set.now.tasks trees.now }

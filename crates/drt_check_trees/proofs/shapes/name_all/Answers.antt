@@ -24,8 +24,7 @@ loop-i-preserved c =
     let i = c.loop-i.i in
     let d : Pair = record { left = 0; right = 0 } in
     let kept : IsLower (c.args.walks + i) (get_or pairs i d) × ((n : ℕ) → marked c.name_pair.new.marks n ≡ marked c.loop-i.marks n + names (get_or pairs i d) n)
-    = c.name_pair.ensures.kept c.if-not-name_pair.false in
-    (
+    = c.name_pair.ensures.kept c.if-not-name_pair.false in (
       lower_more c.args.walks pairs i d c.loop-i-test.true c.loop-i.invariant.0 kept.0,
       λ n l.
           let more = named_more pairs i d n c.loop-i-test.true in

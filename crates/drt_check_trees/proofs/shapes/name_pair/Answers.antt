@@ -7,13 +7,13 @@ pub returns-then-left-right-clause-broken : goal.returns-then-left-right-clause-
 returns-then-left-right-clause-broken c = λ e lower. elim c.then-left-right.branch [
   | then-left-right-via-then-left-right w ↦ (c.args.pair.left, lower.0, omega (arith, names_both c.args.pair w.if-left-right.true))
   | then-left-right-via-else-left-right+then-marks-left w ↦ (
-      c.args.pair.left,
-      lower.0,
-      omega (arith, names_left c.args.pair, is_marked c.args.marks.now c.args.pair.left w.if-marks-left.true),
-    )
+    c.args.pair.left,
+    lower.0,
+    omega (arith, names_left c.args.pair, is_marked c.args.marks.now c.args.pair.left w.if-marks-left.true),
+  )
   | then-left-right-via-else-left-right+else-marks-left+then-marks-right w ↦ (
-      c.args.pair.right,
-      lower.1,
-      omega (arith, names_right c.args.pair, is_marked c.args.marks.now c.args.pair.right w.if-marks-right.true),
-    )
+    c.args.pair.right,
+    lower.1,
+    omega (arith, names_right c.args.pair, is_marked c.args.marks.now c.args.pair.right w.if-marks-right.true),
+  )
 ]

@@ -1,0 +1,7 @@
+-- The trees so far cover their walks.
+use Rattle.drt_evidence.specs.Trees.{CoversWalks, tree_graphs}
+use Rattle.drt_check_trees.proofs.Eachs.{IsEachTo}
+use Rattle.drt_check_trees.proofs.covering.cover_walks.Given as goal
+
+abbrev pub invariant-loop-i : goal.invariant-loop-i
+invariant-loop-i l = IsEachTo (CoversWalks l.bound) (tree_graphs l.set.tasks l.trees) l.trees l.i

@@ -1,0 +1,8 @@
+-- The openings so far are dominated.
+use Rattle.std.proofs.Common.{ℕ, [], ◌<◌}
+use Rattle.std.specs.Prelude.{Any}
+use Rattle.drt_evidence.specs.Trees.{IsAbove}
+use Rattle.drt_check_trees.proofs.covering.has_openings.Given as goal
+
+abbrev pub invariant-loop-v : goal.invariant-loop-v
+invariant-loop-v l = (w : ℕ) → w < l.v → Any (IsAbove l.bound l.graph w []) l.tree.walks

@@ -1,0 +1,6 @@
+-- The entries so far.
+use Rattle.drt_check_trees.specs.Entries.{IsListed}
+use Rattle.drt_check_trees.proofs.entries.listed.Given as goal
+
+abbrev pub invariant-loop-i : goal.invariant-loop-i
+invariant-loop-i l = IsListed l.graph l.walks l.entries.items l.i

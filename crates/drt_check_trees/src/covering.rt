@@ -1,0 +1,193 @@
+//! Whether the walks of trees cover those that extend them.
+ghost use Rattle.std.specs.Prelude.{◌≡◌, ℕ, ◌++◌, ◌∷◌, [], ◌↔◌, ◌<◌, ◌≤◌, All, IfOk, IsTrue};
+ghost use Rattle.drt_model.specs.Digraph.{out_degree};
+ghost use Rattle.drt_model.specs.Walk.{work};
+ghost use Rattle.drt_evidence.specs.Claims.{Each, graphs_of};
+ghost use Rattle.drt_evidence.specs.Trees.{CoversWalks, HasOpeningWalks, HasShortWalks, IsClosedWalk, IsShortWalk, IsTreePerHigherTask, greatest_deadline, tree_graphs};
+ghost use Rattle.drt_check_trees.specs.Asking.{span_of};
+ghost use Rattle.drt_check_trees.specs.Entries.{AreEntries, IsExtendedBy, last_in};
+ghost use Rattle.drt_check_trees.specs.Gaps.{AreGaps};
+ghost use Rattle.drt_check_trees.specs.Order.{IsPriorityOrder};
+
+use crate::asking::{Extent, measure};
+use crate::deadlines::greatest_deadline;
+use crate::entries::{Entry, entries_of, has_above, last_in};
+use crate::gaps::gaps_of;
+use crate::order::tree_graph;
+use drt_evidence::TreeClaim;
+use drt_graph::{Graph, Graphs};
+use drt_model::{Memory, Row, TaskSet};
+use std::alloc::Global;
+
+/// Whether in each tree the walks of single vertices and the walks of the tree extended by an edge are dominated by walks of the
+/// tree, as far as they span less than the greatest deadline. It looks at no walk of another tree, and takes some 24 bytes for each
+/// walk of a tree at a time.
+pub fn cover_walks(
+    alloc: Global,
+    set: &TaskSet,
+    graphs: &Graphs,
+    order: &[u32],
+    trees: &[TreeClaim],
+) -> Result<bool, Memory>
+    requires graphs { graphs.now ≡ graphs_of set.now.tasks }
+    requires order { IsPriorityOrder set.now.tasks order.now }
+    requires per_task { IsTreePerHigherTask set.now.tasks trees.now }
+    requires short { Each (HasShortWalks (greatest_deadline set.now.tasks)) (tree_graphs set.now.tasks trees.now) trees.now }
+    ensures { IfOk result (λ covers. IsTrue covers ↔ Each (CoversWalks (greatest_deadline set.now.tasks)) (tree_graphs set.now.tasks trees.now) trees.now) }
+{
+    let bound = greatest_deadline(set);
+    for i in 0..trees.len() {
+        let graph = tree_graph(set, graphs, order, trees, i);
+        if !covers(alloc, graph, bound, &trees[i])? {
+            return Ok(false);
+        }
+    }
+    Ok(true)
+}
+
+// Whether the tree covers its openings and extensions.
+fn covers(alloc: Global, graph: &Graph, bound: u32, tree: &TreeClaim) -> Result<bool, Memory>
+    requires from { 1 ≤ bound }
+    requires to { bound ≤ 1000000 }
+    requires short { HasShortWalks bound graph.now tree.now }
+    ensures { IfOk result (λ covers. IsTrue covers ↔ CoversWalks bound graph.now tree.now) }
+{
+    let walks = tree.walks.as_slice();
+    let gaps = gaps_of(alloc, graph)?;
+    let entries = entries_of(alloc, graph, gaps.as_slice(), bound, walks)?;
+    if !has_openings(graph, gaps.as_slice(), bound, tree, entries.as_slice()) {
+        return Ok(false);
+    }
+    are_closed(alloc, graph, gaps.as_slice(), bound, tree, entries.as_slice())
+}
+
+// Whether the walk of each single vertex is dominated.
+fn has_openings(
+    graph: &Graph,
+    gaps: &[u32],
+    bound: u32,
+    tree: &TreeClaim,
+    entries: &[Entry],
+) -> bool
+    requires gaps { AreGaps graph.now gaps.now }
+    requires from { 1 ≤ bound }
+    requires to { bound ≤ 1000000 }
+    requires short { HasShortWalks bound graph.now tree.now }
+    requires entries { AreEntries graph.now tree.now.walks entries.now }
+    ensures { IsTrue result ↔ HasOpeningWalks bound graph.now tree.now }
+{
+    for v in 0..graph.vertex_count() {
+        let opening = [v];
+        let extent = Extent {
+            span: 0,
+            work: graph.vertex(v).wcet as u64,
+        };
+        if !has_above(graph, gaps, bound, tree.walks.as_slice(), entries, &opening, extent) {
+            return false;
+        }
+    }
+    true
+}
+
+// Whether each walk's extensions are dominated, or span as much as the bound.
+fn are_closed(
+    alloc: Global,
+    graph: &Graph,
+    gaps: &[u32],
+    bound: u32,
+    tree: &TreeClaim,
+    entries: &[Entry],
+) -> Result<bool, Memory>
+    requires gaps { AreGaps graph.now gaps.now }
+    requires bound { bound ≤ 1000000 }
+    requires short { HasShortWalks bound graph.now tree.now }
+    requires entries { AreEntries graph.now tree.now.walks entries.now }
+    ensures { IfOk result (λ closed. IsTrue closed ↔ All (IsClosedWalk bound graph.now tree.now) tree.now.walks) }
+{
+    let walks = tree.walks.as_slice();
+    for i in 0..walks.len() {
+        if !is_closed(alloc, graph, gaps, bound, tree, entries, walks[i].as_slice())? {
+            return Ok(false);
+        }
+    }
+    Ok(true)
+}
+
+// Whether the walk's extension by each edge out of its last vertex is dominated, or spans as much as the bound.
+fn is_closed(
+    alloc: Global,
+    graph: &Graph,
+    gaps: &[u32],
+    bound: u32,
+    tree: &TreeClaim,
+    entries: &[Entry],
+    walk: &[u32],
+) -> Result<bool, Memory>
+    requires gaps { AreGaps graph.now gaps.now }
+    requires bound { bound ≤ 1000000 }
+    requires short { HasShortWalks bound graph.now tree.now }
+    requires entries { AreEntries graph.now tree.now.walks entries.now }
+    requires walk { IsShortWalk bound graph.now walk.now }
+    ensures { IfOk result (λ closed. IsTrue closed ↔ IsClosedWalk bound graph.now tree.now walk.now) }
+{
+    let _count = graph.vertex_count();
+    let last = last_in(walk);
+    let extent = measure(graph, gaps, walk);
+    for k in 0..graph.out_degree(last) {
+        if !is_extended(alloc, graph, gaps, bound, tree, entries, walk, extent, k)? {
+            return Ok(false);
+        }
+    }
+    Ok(true)
+}
+
+// Whether the walk's extension by the edge of that number is dominated, or spans as much as the bound.
+fn is_extended(
+    alloc: Global,
+    graph: &Graph,
+    gaps: &[u32],
+    bound: u32,
+    tree: &TreeClaim,
+    entries: &[Entry],
+    walk: &[u32],
+    extent: Extent,
+    k: u32,
+) -> Result<bool, Memory>
+    requires gaps { AreGaps graph.now gaps.now }
+    requires bound { bound ≤ 1000000 }
+    requires short { HasShortWalks bound graph.now tree.now }
+    requires entries { AreEntries graph.now tree.now.walks entries.now }
+    requires walk { IsShortWalk bound graph.now walk.now }
+    requires span { extent.span ≡ span_of graph.now walk.now }
+    requires work { extent.work ≡ work graph.now walk.now }
+    requires edge { k < out_degree graph.now (last_in walk.now) }
+    ensures { IfOk result (λ is. IsTrue is ↔ IsExtendedBy bound graph.now tree.now walk.now k) }
+{
+    let _count = graph.vertex_count();
+    let edge = *graph.out_edge(last_in(walk), k);
+    let span = extent.span + edge.sep as u64;
+    if span >= bound as u64 {
+        return Ok(true);
+    }
+    let work = extent.work + graph.vertex(edge.to).wcet as u64;
+    let longer = extended(alloc, walk, edge.to)?;
+    Ok(has_above(
+        graph,
+        gaps,
+        bound,
+        tree.walks.as_slice(),
+        entries,
+        longer.as_slice(),
+        Extent { span, work },
+    ))
+}
+
+// The walk with one more vertex.
+fn extended(alloc: Global, walk: &[u32], to: u32) -> Result<Vec<u32>, Memory>
+    ensures { IfOk result (λ longer. longer.items ≡ walk.now ++ to ∷ []) }
+{
+    let mut longer = Vec::with_capacity(alloc, walk.len() + 1)?;
+    longer.extend_from_slice(walk)?;
+    longer.push(to)?;
+    Ok(longer)
+}

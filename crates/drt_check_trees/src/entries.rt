@@ -1,0 +1,172 @@
+//! The walks of a tree in order, and the search for one that dominates a given walk.
+ghost use Rattle.std.specs.Prelude.{◌≡◌, ℕ, ◌↔◌, ◌<◌, ◌≤◌, [], All, Any, IfOk, IsTrue, length, slice_index_or};
+ghost use Rattle.std.specs.List.Sorted.{IsNonDecreasingBy};
+ghost use Rattle.drt_model.specs.Walk.{work};
+ghost use Rattle.drt_evidence.specs.Trees.{IsShortWalk};
+ghost use Rattle.drt_check_trees.specs.Asking.{AsksNoLess, span_of};
+ghost use Rattle.drt_check_trees.specs.Entries.{AreEntries, IsEntryOf, IsListed, IsOver, last_in, rank_of};
+ghost use Rattle.drt_check_trees.specs.Gaps.{AreGaps};
+ghost use Rattle.drt_check_trees.specs.declared.entries.Entry.{Entry};
+
+use crate::asking::{Extent, asks_no_less, measure};
+use drt_graph::Graph;
+use drt_model::{Memory, Row};
+use std::alloc::Global;
+
+/// A walk by its number, with its span and its rank, by which walks are looked at.
+#[derive(Clone, Copy)]
+pub struct Entry {
+    pub rank: u64,
+    pub number: usize,
+    pub span: u64,
+}
+
+// The rank of a walk of this last vertex and work.
+fn rank_of(last: u32, work: u64) -> u64
+    requires last { last < 96 }
+    requires work { work ≤ 1000000000000 }
+    ensures { result ≡ rank_of last work }
+{
+    1099511627776 * last as u64 + (1099511627775 - work)
+}
+
+/// The last vertex of a walk.
+pub(crate) fn last_in(walk: &[u32]) -> u32
+    requires { 0 < length walk.now }
+    ensures { result ≡ last_in walk.now }
+{
+    walk[walk.len() - 1]
+}
+
+/// An entry for each walk, in order.
+pub(crate) fn entries_of(
+    alloc: Global,
+    graph: &Graph,
+    gaps: &[u32],
+    bound: u32,
+    walks: &[Row<u32>],
+) -> Result<Vec<Entry>, Memory>
+    requires gaps { AreGaps graph.now gaps.now }
+    requires bound { bound ≤ 1000000 }
+    requires short { All (IsShortWalk bound graph.now) walks.now }
+    ensures { IfOk result (λ entries. AreEntries graph.now walks.now entries.items) }
+{
+    let mut entries = listed(alloc, graph, gaps, bound, walks)?;
+    entries.sort_unstable_by_key(
+        |entry: &Entry| -> u64
+            ensures { result ≡ entry.now.rank }
+        { entry.rank },
+    );
+    Ok(entries)
+}
+
+// An entry for each walk, by their numbers.
+fn listed(
+    alloc: Global,
+    graph: &Graph,
+    gaps: &[u32],
+    bound: u32,
+    walks: &[Row<u32>],
+) -> Result<Vec<Entry>, Memory>
+    requires gaps { AreGaps graph.now gaps.now }
+    requires bound { bound ≤ 1000000 }
+    requires short { All (IsShortWalk bound graph.now) walks.now }
+    ensures { IfOk result (λ entries. IsListed graph.now walks.now entries.items (length walks.now)) }
+{
+    let mut entries = Vec::with_capacity(alloc, walks.len())?;
+    for i in 0..walks.len() {
+        entries.push(entry_of(graph, gaps, bound, walks[i].as_slice(), i))?;
+    }
+    Ok(entries)
+}
+
+// The entry of a walk that has this number.
+fn entry_of(graph: &Graph, gaps: &[u32], bound: u32, walk: &[u32], number: usize) -> Entry
+    requires gaps { AreGaps graph.now gaps.now }
+    requires bound { bound ≤ 1000000 }
+    requires short { IsShortWalk bound graph.now walk.now }
+    ensures number { result.number ≡ number }
+    ensures rank { result.rank ≡ rank_of (last_in walk.now) (work graph.now walk.now) }
+    ensures span { result.span ≡ span_of graph.now walk.now }
+{
+    let _count = graph.vertex_count();
+    let extent = measure(graph, gaps, walk);
+    Entry {
+        rank: rank_of(last_in(walk), extent.work),
+        number,
+        span: extent.span,
+    }
+}
+
+// How many entries stand before the first of this rank or a later one.
+fn first_from(entries: &[Entry], rank: u64) -> usize
+    requires { IsNonDecreasingBy (λ e. e.rank) entries.now }
+    ensures within { result ≤ length entries.now }
+    ensures before { (k : ℕ) (d : Entry) → k < result → (slice_index_or entries.now k d).rank < rank }
+    ensures after { (k : ℕ) (d : Entry) → result ≤ k → k < length entries.now → rank ≤ (slice_index_or entries.now k d).rank }
+{
+    entries.partition_point(|entry| entry.rank < rank)
+}
+
+// Whether the walk of the entry spans no more than the other one, and asks at no time for less.
+fn is_no_less(
+    graph: &Graph,
+    gaps: &[u32],
+    bound: u32,
+    walks: &[Row<u32>],
+    entry: Entry,
+    other: &[u32],
+    span: u64,
+) -> bool
+    requires gaps { AreGaps graph.now gaps.now }
+    requires bound { bound ≤ 1000000 }
+    requires short { All (IsShortWalk bound graph.now) walks.now }
+    requires entry { IsEntryOf graph.now walks.now entry }
+    requires other { IsShortWalk bound graph.now other.now }
+    ensures { IsTrue result ↔ (entry.span ≤ span) × AsksNoLess bound graph.now other.now (slice_index_or walks.now entry.number []) }
+{
+    let _count = graph.vertex_count();
+    if entry.span > span {
+        return false;
+    }
+    asks_no_less(
+        graph,
+        gaps,
+        bound,
+        walks[entry.number].as_slice(),
+        other,
+    )
+}
+
+/// Whether a walk dominates this one, of this extent. Of those with its last vertex and at least its work it looks at those with the
+/// least work first: where the walk itself is among them, it is found at once.
+pub(crate) fn has_above(
+    graph: &Graph,
+    gaps: &[u32],
+    bound: u32,
+    walks: &[Row<u32>],
+    entries: &[Entry],
+    walk: &[u32],
+    extent: Extent,
+) -> bool
+    requires gaps { AreGaps graph.now gaps.now }
+    requires bound { bound ≤ 1000000 }
+    requires short { All (IsShortWalk bound graph.now) walks.now }
+    requires entries { AreEntries graph.now walks.now entries.now }
+    requires walk { IsShortWalk bound graph.now walk.now }
+    requires span { extent.span ≡ span_of graph.now walk.now }
+    requires work { extent.work ≡ work graph.now walk.now }
+    ensures { IsTrue result ↔ Any (IsOver bound graph.now walk.now) walks.now }
+{
+    let _count = graph.vertex_count();
+    let last = last_in(walk);
+    let from = first_from(entries, 1099511627776 * last as u64);
+    let mut k = first_from(entries, rank_of(last, extent.work) + 1);
+    while k > from {
+        k -= 1;
+        if is_no_less(graph, gaps, bound, walks, entries[k], walk, extent.span) {
+            return true;
+        }
+    }
+    false
+}

@@ -1,0 +1,136 @@
+//! Claimed trees by hand, and the least rule that they break.
+use drt_check_trees::{
+    are_trees, cover_walks, greatest_deadline, have_short_walks, is_tree_per_higher_task,
+    priority_order,
+};
+use drt_evidence::{Pair, TreeClaim};
+use drt_fixtures::{Shape, make_set};
+use drt_graph::check;
+use drt_model::{Memory, Row, TaskSet};
+use std::alloc::Global;
+use std::test::Fail;
+
+// Two tasks: jobs of three ticks and of two, each of which may come again, and a job of two every ten. The greatest deadline is 5.
+const SHAPES: [Shape<'static>; 2] = [
+    (&[(3, 5), (2, 4)], &[(0, 0, 20), (1, 1, 4)]),
+    (&[(2, 5)], &[(0, 0, 10)]),
+];
+
+// A tree as its walks and its pairs.
+type Given<'a> = (&'a [&'a [u32]], &'a [(u32, u32)]);
+
+fn tree(alloc: Global, given: Given<'_>) -> Result<TreeClaim, Memory> {
+    let mut walks = Vec::new(alloc);
+    for walk in given.0 {
+        walks.push(Row::from_vec(Vec::from_slice(alloc, *walk)?))?;
+    }
+    let mut pairs = Vec::new(alloc);
+    for pair in given.1 {
+        pairs.push(Pair {
+            left: pair.0,
+            right: pair.1,
+        })?;
+    }
+    Ok(TreeClaim {
+        walks: Row::from_vec(walks),
+        pairs: Row::from_vec(pairs),
+    })
+}
+
+fn trees(alloc: Global, given: &[Given<'_>]) -> Result<Vec<TreeClaim>, Memory> {
+    let mut trees = Vec::new(alloc);
+    for one in given {
+        trees.push(tree(alloc, *one)?)?;
+    }
+    Ok(trees)
+}
+
+// The least number of a rule of 16 to 18 that the trees break.
+fn broken(alloc: Global, set: &TaskSet, trees: &[TreeClaim]) -> Result<Option<u8>, Fail> {
+    let graphs = check(alloc, set)?;
+    let order = priority_order(alloc, set)?;
+    if !is_tree_per_higher_task(set, trees) {
+        return Ok(Some(16));
+    }
+    if !have_short_walks(set, &graphs, order.as_slice(), trees) {
+        return Ok(Some(17));
+    }
+    if !cover_walks(alloc, set, &graphs, order.as_slice(), trees)? {
+        return Ok(Some(18));
+    }
+    Ok(None)
+}
+
+// Whether that is the least number of a rule of 16 to 18 that the trees of the worked set break.
+fn is_broken(alloc: Global, given: &[Given<'_>], wanted: Option<u8>) -> Result<bool, Fail> {
+    let set = make_set(alloc, &SHAPES)?.ok_or("within the limits")?;
+    let trees = trees(alloc, given)?;
+    Ok(broken(alloc, &set, trees.as_slice())? == wanted)
+}
+
+#[test]
+fn the_least_rule_that_trees_break_is_told(rt: HostRuntime) -> Result<(), Fail> {
+    let pairs: &[(u32, u32)] = &[(0, 1), (3, 2)];
+    let cases: [(&[Given<'_>], Option<u8>); 8] = [
+        (&[(&[&[1], &[0], &[1, 1]], pairs)], None),
+        // No tree, and one too many.
+        (&[], Some(16)),
+        (&[(&[&[1]], &[]), (&[&[0]], &[])], Some(16)),
+        // There is no edge from the second vertex to the first, no third vertex, and no walk of no vertex.
+        (&[(&[&[1, 0], &[0], &[1, 1]], pairs)], Some(17)),
+        (&[(&[&[1], &[0], &[2]], pairs)], Some(17)),
+        (&[(&[&[1], &[0], &[]], pairs)], Some(17)),
+        // The walk that goes round once is left out, and one that is a vertex alone.
+        (&[(&[&[1], &[0], &[1]], pairs)], Some(18)),
+        (&[(&[&[1], &[1, 1], &[1, 1]], pairs)], Some(18)),
+    ];
+    for (given, wanted) in cases {
+        assert!(rt; is_broken(rt.alloc(), given, wanted)?, "of {wanted:?}");
+    }
+    Ok(())
+}
+
+// A walk that spans as much as the greatest deadline isn't short.
+#[test]
+fn a_walk_that_spans_the_greatest_deadline_is_not_short(rt: HostRuntime) -> Result<(), Fail> {
+    let alloc = rt.alloc();
+    assert!(rt; is_broken(alloc, &[(&[&[1], &[0], &[1, 1, 1]], &[])], Some(17))?);
+    Ok(())
+}
+
+// Whether that is what is said of the claim's shape.
+fn is_shaped(alloc: Global, given: Given<'_>, wanted: bool) -> Result<bool, Fail> {
+    let trees = trees(alloc, &[given])?;
+    Ok(are_trees(alloc, trees.as_slice())? == wanted)
+}
+
+#[test]
+fn each_node_but_the_last_is_named_once_by_a_later_one(rt: HostRuntime) -> Result<(), Fail> {
+    let walks: &[&[u32]] = &[&[1], &[0], &[1, 1]];
+    let cases: [(Given<'_>, bool); 8] = [
+        ((walks, &[(0, 1), (3, 2)]), true),
+        ((&[&[0]], &[]), true),
+        // A node twice, another one not at all.
+        ((walks, &[(0, 1), (0, 2)]), false),
+        ((walks, &[(0, 0), (3, 2)]), false),
+        // A pair that names itself, or a later one.
+        ((walks, &[(0, 3), (1, 2)]), false),
+        ((walks, &[(0, 4), (1, 2)]), false),
+        // Too few pairs, and no walk.
+        ((walks, &[(0, 1)]), false),
+        ((&[], &[]), false),
+    ];
+    for (given, wanted) in cases {
+        assert!(rt; is_shaped(rt.alloc(), given, wanted)?, "of {wanted}");
+    }
+    Ok(())
+}
+
+#[test]
+fn tasks_stand_in_order_of_priority(rt: HostRuntime) -> Result<(), Fail> {
+    let set = make_set(rt.alloc(), &SHAPES)?.ok_or("within the limits")?;
+    let order = priority_order(rt.alloc(), &set)?;
+    assert_eq!(rt; order.as_slice(), [0, 1].as_slice());
+    assert_eq!(rt; greatest_deadline(&set), 5);
+    Ok(())
+}
