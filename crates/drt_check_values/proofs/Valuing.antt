@@ -1,26 +1,25 @@
 -- What places have of the releases before a time, where these are the releases of a tree's walks, and the bound that it keeps.
 use Rattle.std.proofs.Common.{◌≡◌, ℕ, zero, suc, ◌+◌, ◌*◌, ◌<◌, ◌≤◌, Bool, true, false, cond, ltb, List, [], ◌∷◌, length, map, drop, take, All, get_or, ◌⊎◌, inl, inr, refl, sym, ap, arith, ◌∙◌}
-use Rattle.std.specs.Prelude.{max}
 use Rattle.std.specs.List.Sorted.{IsPermutation, IsNonDecreasingBy}
 use Rattle.std.proofs.Math.Nat.{max-le}
 use Rattle.std.proofs.lemmas.Bool.{cases_lt}
 use Rattle.std.proofs.lemmas.List.{ext_get_or, get_or-map, get_or_past, length-map}
 use Rattle.std.proofs.lemmas.List.FromFn.{length-map-range_with_len, get_or-map-range_with_len}
-use Rattle.std.proofs.lemmas.List.Elements.{All-head, All-tail, All-from_get_or}
+use Rattle.std.proofs.lemmas.List.Elements.{All-head, All-tail}
 use Rattle.std.proofs.lemmas.List.Sorted.{All-permutation, sum_by-IsPermutation}
 use Rattle.drt_model.specs.Digraph.{Digraph, IsSound, vertex_count}
 use Rattle.drt_model.specs.Walk.{gap, wcet, IsPath, span}
 use Rattle.drt_model.specs.RequestFunction.{requested_from}
 use Rattle.drt_graph.proofs.Edges.{target_of}
-use Rattle.drt_graph.proofs.Paths.{span_cons, span_none}
+use Rattle.drt_graph.proofs.Paths.{span_cons}
 use Rattle.drt_evidence.specs.declared.evidence.TreeClaim.{TreeClaim}
 use Rattle.drt_evidence.specs.Trees.{HasShortWalks, IsShortWalk, IsTree, asked, node_values}
 use Rattle.drt_check_values.specs.declared.query.Query.{Query}
 use Rattle.drt_check_values.specs.declared.rises.Rise.{Rise}
 use Rattle.drt_check_values.specs.Greatest.{greatest}
 use Rattle.drt_check_values.specs.Leaves.{AreFirsts, AreSizes, leaf_order, leaves_below, node_count}
-use Rattle.drt_check_values.specs.Rises.{AreRises, added, asked_at, risen}
-use Rattle.drt_check_values.specs.Sweeps.{AreReady, HasRun, answer, heights, total, whole}
+use Rattle.drt_check_values.specs.Rises.{AreRises, added, risen}
+use Rattle.drt_check_values.specs.Sweeps.{AreReady, HasRun, answer, heights, whole}
 use Rattle.drt_check_values.proofs.Halving.{greatest_none, greatest_cons}
 use Rattle.drt_check_values.proofs.Leaves.{asked_of, first_fits, node_value, order_count, value_found}
 use Rattle.drt_check_values.proofs.Placing.{size_at, sizes_count}

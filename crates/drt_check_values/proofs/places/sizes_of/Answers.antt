@@ -1,4 +1,4 @@
-use Rattle.std.proofs.Common.{◌≡◌, ◌+◌, ◌<◌, ◌≤◌, length, ap, subst, sym, arith, replicate, ◌∙◌}
+use Rattle.std.proofs.Common.{◌≡◌, ◌+◌, length, ap, subst, sym, arith, replicate, ◌∙◌}
 use Rattle.drt_check_values.specs.Leaves.{node_count}
 use Rattle.drt_check_values.proofs.Placing.{AreSizesTo, sizes_first, sizes_next, sizes_all, read_sum, parts_within}
 use Rattle.drt_check_values.proofs.places.sizes_of.Goals as goal

@@ -1,7 +1,6 @@
-use Rattle.std.proofs.Common.{rules, ◌≡◌, ◌+◌, ◌<◌, ◌≤◌, ℕ, List, length, get_or, take, drop, ap, sym, arith, ◌∙◌}
+use Rattle.std.proofs.Common.{rules, ◌<◌, ℕ, List, length, get_or, take, drop, ap, arith, ◌∙◌}
 use Rattle.std.proofs.lemmas.List.{length-replicate}
 use Rattle.drt_check_values.specs.Greatest.{greatest}
-use Rattle.drt_check_values.specs.Sweeps.{answer}
 use Rattle.drt_check_values.proofs.Taking.{swept_first, swept_next, swept_all, turn, turn_within, turn_run, run_sized}
 use Rattle.drt_check_values.proofs.sweeping.sweep.Goals as goal
 

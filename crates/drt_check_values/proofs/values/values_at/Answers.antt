@@ -1,7 +1,7 @@
-use Rattle.std.proofs.Common.{◌≡◌, ℕ, List, length, ap, sym, subst, ◌∙◌, All, ◌≤◌}
+use Rattle.std.proofs.Common.{ℕ, List, length, ap, sym, subst, All, ◌≤◌}
 use Rattle.drt_check_values.specs.declared.rises.Rise.{Rise}
 use Rattle.drt_check_values.specs.Sweeps.{AreReady, HasRun}
-use Rattle.drt_check_values.proofs.Valuing.{answers_are, answers_same, has_runs, rises_ready, values_most}
+use Rattle.drt_check_values.proofs.Valuing.{answers_same, has_runs, rises_ready, values_most}
 use Rattle.drt_check_values.proofs.values.values_at.Goals as goal
 
 pub sweep-requires-clause-runs : goal.sweep-requires-clause-runs
