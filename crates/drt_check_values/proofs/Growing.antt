@@ -53,7 +53,8 @@ grown_step {A} none join items p pairs all has is = record {
         let a = old p.left (let h = has.left 0 l in omega (arith, h)) in
         let b = old p.right (let h = has.right 0 l in omega (arith, h)) in
         let e : length items + 0 ≡ length items = omega arith in
-        rw e (is.items_kept (length items) (omega (arith, more)) ∙ (get_or_push items new none (length items) refl ∙ sym (ap (λ x. join x (get_or all p.right none)) a ∙ ap (λ x. join (get_or items p.left none) x) b)))
+        rw e (is.items_kept (length items) (omega (arith, more)) ∙ (get_or_push items new none (length items) refl ∙ sym (ap (λ x. join x (get_or all p.right none)) a ∙ ap (λ x. join
+        (get_or items p.left none) x) b)))
     go (suc i) l =
         let e : length items + suc i ≡ length (items ++ new ∷ []) + i = omega (arith, more) in
         rw e (is.joins i (omega arith))

@@ -132,7 +132,8 @@ firsts_next tree is i size firsts l are e = record {
     go n from (inl a) b =
         rw a (subst (IsFirst tree (right_of tree i)) (sym (get_or-set_same once (right_of tree i) (f + size) 0 (omega (arith, counted, r)))) rights)
     go n from (inr a) (inl b) =
-        let at : get_or (set once (right_of tree i) (f + size)) n 0 ≡ f = get_or-set_other once (right_of tree i) n (f + size) 0 a ∙ (ap (λ k. get_or once k 0) b ∙ get_or-set_same firsts (left_of tree i) f 0 (omega (arith, are.count, p))) in
+        let at : get_or (set once (right_of tree i) (f + size)) n 0 ≡ f = get_or-set_other once (right_of tree i) n (f + size) 0 a ∙ (ap (λ k. get_or once k 0) b ∙ get_or-set_same
+        firsts (left_of tree i) f 0 (omega (arith, are.count, p))) in
         subst (IsFirst tree n) (sym at) (subst (λ k. IsFirst tree k f) (sym b) (left_first tree is i f l placed))
     go n (j, s, t, part) (inr a) (inr b) = kept n (are.each n (j, later (cases_lt i j) part, t, part)) b a
       where

@@ -83,7 +83,8 @@ rises_ready g sound tree bound few short rises sorted are same order = record {
 heights_are : (g : Digraph) (tree : TreeClaim) → IsTree tree → (rises sorted : List Rise) (t : ℕ) → AreRises g tree rises → IsPermutation rises sorted
     → heights sorted (length tree.walks) t ≡ map (asked_of g tree t) (leaf_order tree)
 heights_are g tree is rises sorted t are same =
-    ext_get_or 0 (heights sorted n t) (map (asked_of g tree t) (leaf_order tree)) (count ∙ (sym (order_count tree is) ∙ sym (length-map (leaf_order tree) (asked_of g tree t)))) (λ p l. go p (omega (arith, count, l)))
+    ext_get_or 0 (heights sorted n t) (map (asked_of g tree t) (leaf_order tree)) (count ∙ (sym (order_count tree is) ∙ sym (length-map (leaf_order tree) (asked_of g tree t)))) (λ p l.
+    go p (omega (arith, count, l)))
   where
     n : ℕ
     n = length tree.walks
@@ -111,7 +112,8 @@ map_same {X} f h (x ∷ xs) all =
     let rest = map_same f h xs (All-tail (λ (y : X). f y ≡ h y) x xs all) in
     ap (λ y. y ∷ map f xs) one ∙ ap (λ ys. h x ∷ ys) rest
 
-pub answers_are : (g : Digraph) (tree : TreeClaim) → IsTree tree → (firsts sizes : List ℕ) (rises sorted : List Rise) (queries : List Query) → AreFirsts tree firsts → AreSizes tree sizes → AreRises g tree rises
+pub answers_are : (g : Digraph) (tree : TreeClaim) → IsTree tree → (firsts sizes : List ℕ) (rises sorted : List Rise) (queries : List Query) → AreFirsts tree firsts
+    → AreSizes tree sizes → AreRises g tree rises
     → IsPermutation rises sorted → All (λ q. q.node < node_count tree) queries
     → map (answer firsts sizes (length tree.walks) sorted) queries ≡ map (λ q. get_or (node_values g tree q.time) q.node 0) queries
 answers_are g tree is firsts sizes rises sorted queries placed sized are same nodes =
