@@ -1,9 +1,9 @@
 -- Where each node but the last one is named exactly once, what is added over the two parts of each pair is, at the last node, the
 -- sum over the first nodes.
-use Rattle.std.proofs.Common.{◌≡◌, ◌≢◌, ℕ, zero, suc, ◌+◌, ◌-◌, ◌*◌, ◌<◌, ◌≤◌, Bool, true, false, cond, eqb, List, [], ◌∷◌, All, length, get_or, take, ◌⊎◌, inl, inr, refl, sym, ap, arith, ◌∙◌}
+use Rattle.std.proofs.Common.{◌≡◌, ℕ, zero, suc, ◌+◌, ◌-◌, ◌*◌, ◌<◌, ◌≤◌, Bool, true, false, cond, eqb, List, [], ◌∷◌, length, get_or, take, ◌⊎◌, inl, inr, refl, sym, ap, arith, ◌∙◌}
 use Rattle.std.specs.Prelude.{◌==◌}
 use Rattle.std.specs.List.{sum_by, count_by}
-use Rattle.std.proofs.lemmas.Bool.{cases_lt, cases_eq, eqb-true, eqb-false}
+use Rattle.std.proofs.lemmas.Bool.{cases_lt, eqb-true, eqb-false}
 use Rattle.std.proofs.lemmas.List.{take_all}
 use Rattle.std.proofs.lemmas.List.Sums.{sum_by-cons, sum_by_more}
 use Rattle.drt_evidence.specs.declared.evidence.Pair.{Pair}
@@ -80,7 +80,7 @@ parts_sum part f (p ∷ pairs) n few =
     let one = sum_by-cons (λ q. f (part q)) p pairs in
     let m = part p in
     let grows = sum_grows (λ k. count_by (λ q. part q == k) pairs * f k) (λ k. count_by (λ q. part q == k) (p ∷ pairs) * f k) m n (f m) (few 0 (omega arith))
-        (λ k l differ. ap (λ c. c * f k) (off k differ)) (rw on (omega arith)) in
+    (λ k l differ. ap (λ c. c * f k) (off k differ)) (rw on (omega arith)) in
     omega (arith, one, rest, grows)
   where
     off : (k : ℕ) → (k ≡ part p → ⊥) → count_by (λ q. part q == k) (p ∷ pairs) ≡ count_by (λ q. part q == k) pairs

@@ -1,8 +1,8 @@
 -- What the nodes of a tree have, where a pair has what its two parts have, joined.
-use Rattle.std.proofs.Common.{◌≡◌, ℕ, zero, suc, ◌+◌, ◌-◌, ◌<◌, ◌≤◌, List, [], ◌∷◌, ◌++◌, length, map, get_or, ◌⊎◌, inl, inr, refl, sym, ap, arith, ◌∙◌}
+use Rattle.std.proofs.Common.{◌≡◌, ℕ, zero, suc, ◌+◌, ◌-◌, ◌<◌, ◌≤◌, List, [], ◌∷◌, ◌++◌, length, get_or, ◌⊎◌, inl, inr, refl, sym, ap, arith, ◌∙◌}
 use Rattle.std.specs.Prelude.{max}
 use Rattle.std.proofs.lemmas.Bool.{cases_lt}
-use Rattle.std.proofs.lemmas.List.{length_push, get_or_push, get_or_append_left, get_or_default}
+use Rattle.std.proofs.lemmas.List.{length_push, get_or_push, get_or_append_left}
 use Rattle.drt_evidence.specs.declared.evidence.Pair.{Pair}
 use Rattle.drt_evidence.specs.Trees.{joined}
 use Rattle.drt_check_values.specs.Leaves.{grown}
@@ -53,7 +53,8 @@ grown_step {A} none join items p pairs all has is = record {
         let a = old p.left (let h = has.left 0 l in omega (arith, h)) in
         let b = old p.right (let h = has.right 0 l in omega (arith, h)) in
         let e : length items + 0 ≡ length items = omega arith in
-        rw e (is.items_kept (length items) (omega (arith, more)) ∙ (get_or_push items new none (length items) refl ∙ sym (ap (λ x. join x (get_or all p.right none)) a ∙ ap (λ x. join (get_or items p.left none) x) b)))
+        rw e (is.items_kept (length items) (omega (arith, more)) ∙ (get_or_push items new none (length items) refl ∙ sym (ap (λ x. join x (get_or all p.right none)) a ∙ ap (λ x. join
+        (get_or items p.left none) x) b)))
     go (suc i) l =
         let e : length items + suc i ≡ length (items ++ new ∷ []) + i = omega (arith, more) in
         rw e (is.joins i (omega arith))

@@ -1,9 +1,8 @@
 -- Nodes that have the greater value of their two parts: a run of nodes is as great as the run of half as many nodes above it.
-use Rattle.std.proofs.Common.{◌≡◌, ◌≢◌, ℕ, zero, suc, ◌+◌, ◌-◌, ◌*◌, ◌/◌, ◌%◌, ◌<◌, ◌≤◌, List, [], ◌∷◌, ◌++◌, length, get_or, set, take, drop, ◌⊎◌, inl, inr, refl, sym, ap, arith, ◌∙◌, add-one}
+use Rattle.std.proofs.Common.{◌≡◌, ◌≢◌, ℕ, zero, suc, ◌+◌, ◌-◌, ◌*◌, ◌/◌, ◌%◌, ◌<◌, ◌≤◌, List, [], ◌∷◌, ◌++◌, length, get_or, take, drop, ◌⊎◌, inl, inr, refl, sym, ap, arith, ◌∙◌}
 use Rattle.std.specs.Prelude.{max}
-use Rattle.std.proofs.lemmas.Bool.{cases_lt, cases_eq}
-use Rattle.std.proofs.lemmas.List.{get_or-set_same, get_or-set_other, length-set, length-drop, drop_more, take_more, get_or-drop}
-use Rattle.drt_check_values.specs.Greatest.{greatest, HasGreaterParts, IsJoined, IsJoinedBut}
+use Rattle.std.proofs.lemmas.List.{length-drop, drop_more, take_more, get_or-drop}
+use Rattle.drt_check_values.specs.Greatest.{greatest, IsJoined}
 
 pub greatest_none : greatest [] ≡ 0
 unfolding greatest
@@ -93,7 +92,6 @@ halved nodes l r joined some order within le re =
     let a : l ≡ 2 * (l / 2) = omega arith in
     let b : r - l ≡ 2 * (r / 2 - l / 2) = omega arith in
     ap (λ n. run nodes l n) b ∙ (ap (λ k. run nodes k (2 * (r / 2 - l / 2))) a ∙ run_halved nodes (l / 2) (r / 2 - l / 2) joined (omega arith) (omega arith))
-
 
 -- An end of a run that may be odd: there it is taken out.
 abbrev pub TakenOut : ℕ → ℕ → ℕ → ℕ → ℕ → ℕ → Type 0

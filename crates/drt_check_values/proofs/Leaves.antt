@@ -1,20 +1,21 @@
 -- The leaves below the nodes of a tree: the order of all leaves below the root has each leaf once, and those below a node stand in
 -- it one after another.
-use Rattle.std.proofs.Common.{◌≡◌, ◌≢◌, ℕ, zero, suc, ◌+◌, ◌-◌, ◌<◌, ◌≤◌, Bool, true, false, cond, eqb, List, [], ◌∷◌, ◌++◌, All, length, map, get_or, take, drop, ◌⊎◌, inl, inr, refl, sym, ap, subst, arith, ◌∙◌, Some}
+use Rattle.std.proofs.Common.{◌≡◌, ℕ, zero, suc, ◌+◌, ◌<◌, ◌≤◌, Bool, true, false, cond, eqb, List, [], ◌∷◌, ◌++◌, All, length, map, get_or, take, drop, ◌⊎◌, inl, inr, refl, sym, ap, subst}
+use Rattle.std.proofs.Common.{arith, ◌∙◌}
 use Rattle.std.specs.Prelude.{max, ◌==◌}
-use Rattle.std.specs.List.{range_with_len, sum_by, count_by}
-use Rattle.std.proofs.lemmas.Bool.{cases_lt, cases_eq, eqb-true, eqb-false}
-use Rattle.std.proofs.lemmas.List.{get_or-map, length-map, map-append, take-map, drop-map, take-take, take_at, take_all, drop_at, drop-take, drop-drop, get_or-drop, get_or-take, length-take, length-drop, length-append, drop_more}
+use Rattle.std.specs.List.{range_with_len, count_by}
+use Rattle.std.proofs.lemmas.Bool.{cases_lt, eqb-false}
+use Rattle.std.proofs.lemmas.List.{get_or-map, length-map, map-append, take-map, drop-map, take-take, take_at, take_all, drop_at, drop-take, drop-drop, get_or-drop, get_or-take}
+use Rattle.std.proofs.lemmas.List.{length-take, length-drop, length-append}
 use Rattle.std.proofs.lemmas.List.FromFn.{length-map-range_with_len, get_or-map-range_with_len}
 use Rattle.std.proofs.lemmas.List.Elements.{All-append}
 use Rattle.std.proofs.lemmas.List.Sums.{sum_by-cons, sum_by-append}
 use Rattle.std.proofs.lemmas.Option.{slice_get-get_or}
 use Rattle.drt_model.specs.Digraph.{Digraph}
-use Rattle.drt_evidence.specs.declared.evidence.Pair.{Pair}
 use Rattle.drt_evidence.specs.declared.evidence.TreeClaim.{TreeClaim}
 use Rattle.drt_evidence.specs.Trees.{IsTree, asked, node_values, root}
 use Rattle.drt_check_values.specs.Greatest.{greatest}
-use Rattle.drt_check_values.specs.Leaves.{grown, leaf_lists, leaves_below, leaf_order, node_count, IsFirst, AreFirsts}
+use Rattle.drt_check_values.specs.Leaves.{grown, leaf_lists, leaves_below, leaf_order, node_count, IsFirst}
 use Rattle.drt_check_values.proofs.Growing.{no_pair, HasParts, IsGrown, grown_is, joined_grown, each_node}
 use Rattle.drt_check_values.proofs.Counting.{tick, last_sum, has_pair, sum_one, sum_same, sum_below, sum_next, sum_none}
 use Rattle.drt_check_values.proofs.Halving.{greatest_none, greatest_cons, greatest-append}

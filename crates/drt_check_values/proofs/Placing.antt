@@ -1,5 +1,5 @@
 -- Sizes and places of the nodes, found pair by pair.
-use Rattle.std.proofs.Common.{◌≡◌, ◌≢◌, ℕ, zero, suc, ◌+◌, ◌-◌, ◌<◌, ◌≤◌, List, [], length, map, get_or, set, replicate, ◌⊎◌, inl, inr, refl, sym, ap, subst, arith, ◌∙◌}
+use Rattle.std.proofs.Common.{◌≡◌, ◌≢◌, ℕ, ◌+◌, ◌<◌, ◌≤◌, List, [], length, map, get_or, set, replicate, ◌⊎◌, inl, inr, sym, ap, subst, arith, ◌∙◌}
 use Rattle.std.proofs.lemmas.Bool.{cases_lt, cases_eq}
 use Rattle.std.proofs.lemmas.List.{ext_get_or, get_or-map, length-map, length-set, length-append, length-replicate, get_or-replicate, get_or_read, get_or-set_same, get_or-set_other}
 use Rattle.drt_evidence.specs.declared.evidence.TreeClaim.{TreeClaim}
@@ -132,7 +132,8 @@ firsts_next tree is i size firsts l are e = record {
     go n from (inl a) b =
         rw a (subst (IsFirst tree (right_of tree i)) (sym (get_or-set_same once (right_of tree i) (f + size) 0 (omega (arith, counted, r)))) rights)
     go n from (inr a) (inl b) =
-        let at : get_or (set once (right_of tree i) (f + size)) n 0 ≡ f = get_or-set_other once (right_of tree i) n (f + size) 0 a ∙ (ap (λ k. get_or once k 0) b ∙ get_or-set_same firsts (left_of tree i) f 0 (omega (arith, are.count, p))) in
+        let at : get_or (set once (right_of tree i) (f + size)) n 0 ≡ f = get_or-set_other once (right_of tree i) n (f + size) 0 a ∙ (ap (λ k. get_or once k 0) b ∙ get_or-set_same
+        firsts (left_of tree i) f 0 (omega (arith, are.count, p))) in
         subst (IsFirst tree n) (sym at) (subst (λ k. IsFirst tree k f) (sym b) (left_first tree is i f l placed))
     go n (j, s, t, part) (inr a) (inr b) = kept n (are.each n (j, later (cases_lt i j) part, t, part)) b a
       where

@@ -1,6 +1,6 @@
 -- The releases of walks at places, one after another, and what they add up to.
-use Rattle.std.proofs.Common.{◌≡◌, ◌≢◌, ℕ, zero, suc, ◌+◌, ◌-◌, ◌<◌, ◌≤◌, Bool, true, false, cond, eqb, ltb, List, [], ◌∷◌, ◌++◌, length, drop, All, get_or, ◌⊎◌, inl, inr, refl, sym, ap, subst, arith, ◌∙◌}
-use Rattle.std.specs.Prelude.{◌==◌, nat_lt, ◌&&◌, if◌then◌else◌}
+use Rattle.std.proofs.Common.{◌≡◌, ◌≢◌, ℕ, ◌+◌, ◌<◌, ◌≤◌, Bool, true, false, cond, eqb, ltb, List, [], ◌∷◌, ◌++◌, length, drop, All, get_or, ◌⊎◌, inl, inr, refl, sym, ap, subst, arith, ◌∙◌}
+use Rattle.std.specs.Prelude.{nat_lt, ◌&&◌}
 use Rattle.std.proofs.lemmas.Bool.{cases_lt, cases_eq, eqb-true, eqb-false, lt-ltb, le-ltb}
 use Rattle.std.proofs.lemmas.List.{append_assoc}
 use Rattle.std.proofs.lemmas.List.Elements.{All-nil, All-cons, All-append}
@@ -132,7 +132,8 @@ rises_first g tree = record {
     none w n = (let e = le-ltb w 0 (omega arith) in rw e refl)
 
 -- The releases of one walk more.
-pub rises_next : (g : Digraph) (tree : TreeClaim) → IsTree tree → (bound : ℕ) → bound ≤ 1000000 → HasShortWalks bound g tree → (i first : ℕ) (rises : List Rise) → i < length tree.walks → AreRisesTo g tree i rises → IsFirst tree i first
+pub rises_next : (g : Digraph) (tree : TreeClaim) → IsTree tree → (bound : ℕ) → bound ≤ 1000000 → HasShortWalks bound g tree → (i first : ℕ) (rises : List Rise)
+    → i < length tree.walks → AreRisesTo g tree i rises → IsFirst tree i first
     → AreRisesTo g tree (i + 1) (rises ++ rises_along g first (get_or tree.walks i []))
 rises_next g tree is bound few short i first rises l are at = record {
   offsets = All-append (λ (r : Rise). r.offset < 1000000) rises (rises_along g first walk) are.offsets (along_offsets g first bound walk (short i [] l) few);
@@ -161,8 +162,10 @@ rises_next g tree is bound few short i first rises l are at = record {
     go t p m (inl e) =
         let old = are.values t p m in
         let w : get_or (leaf_order tree) p 0 ≡ i = ap (λ k. get_or (leaf_order tree) k 0) (sym e) ∙ here in
-        let before : at_place (nat_lt (get_or (leaf_order tree) p 0) i) (asked_at g tree t p) ≡ 0 = ap (λ b. at_place b (asked_at g tree t p)) (le-ltb (get_or (leaf_order tree) p 0) i (omega (arith, w))) in
-        let since : at_place (nat_lt (get_or (leaf_order tree) p 0) (i + 1)) (asked_at g tree t p) ≡ asked_at g tree t p = ap (λ b. at_place b (asked_at g tree t p)) (lt-ltb (get_or (leaf_order tree) p 0) (i + 1) (omega (arith, w))) in
+        let before : at_place (nat_lt (get_or (leaf_order tree) p 0) i) (asked_at g tree t p) ≡ 0 = ap (λ b. at_place b (asked_at g tree t p)) (le-ltb (get_or (leaf_order tree) p 0) i
+        (omega (arith, w))) in
+        let since : at_place (nat_lt (get_or (leaf_order tree) p 0) (i + 1)) (asked_at g tree t p) ≡ asked_at g tree t p = ap (λ b. at_place b (asked_at g tree t p)) (lt-ltb (get_or
+        (leaf_order tree) p 0) (i + 1) (omega (arith, w))) in
         let new = along_risen g first walk t p in
         let same : at_place (eqb first p) (asked g t walk) ≡ asked g t walk = on (eqb first p) (λ f. eqb-false first p f e) (asked g t walk) in
         let mine : asked_at g tree t p ≡ asked g t walk = ap (λ k. asked g t (get_or tree.walks k [])) w in

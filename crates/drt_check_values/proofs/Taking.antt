@@ -1,14 +1,14 @@
 -- Releases taken in one after another in order of their offsets, and queries answered in order of their times.
-use Rattle.std.proofs.Common.{◌≡◌, ◌≢◌, ℕ, zero, suc, ◌+◌, ◌-◌, ◌<◌, ◌≤◌, Bool, true, false, cond, eqb, ltb, List, [], ◌∷◌, ◌++◌, length, map, take, drop, All, get_or, set, replicate, ◌⊎◌, inl, inr, refl, sym, ap, subst, arith, ◌∙◌}
-use Rattle.std.specs.Prelude.{◌==◌, nat_lt, ◌&&◌, slice_range}
-use Rattle.std.specs.List.{range_with_len, sum_by}
-use Rattle.std.specs.List.Sorted.{IsPermutation, IsNonDecreasingBy}
+use Rattle.std.proofs.Common.{◌≡◌, ◌≢◌, ℕ, ◌+◌, ◌-◌, ◌<◌, ◌≤◌, Bool, true, false, cond, eqb, ltb, List, [], ◌∷◌, ◌++◌, length, map, take, drop, All, get_or, set, replicate, ◌⊎◌, inl, inr}
+use Rattle.std.proofs.Common.{refl, sym, ap, subst, arith, ◌∙◌}
+use Rattle.std.specs.Prelude.{◌&&◌, slice_range}
+use Rattle.std.specs.List.{range_with_len}
 use Rattle.std.proofs.lemmas.Bool.{cases_lt, cases_eq, eqb-true, eqb-false, lt-ltb, le-ltb}
-use Rattle.std.proofs.lemmas.List.{map-id, ext_get_or, get_or-map, get_or_default, get_or-drop, get_or-replicate, length-set, length-map, length-drop, length-replicate, get_or-set_same, get_or-set_other}
+use Rattle.std.proofs.lemmas.List.{map-id, ext_get_or, get_or-map, get_or-drop, get_or-replicate, length-set, length-map, length-drop, length-replicate, get_or-set_same, get_or-set_other}
 use Rattle.std.proofs.lemmas.List.FromFn.{map-range_with_len_more, length-range_with_len, length-map-range_with_len, get_or-range_with_len, get_or-map-range_with_len}
 use Rattle.std.proofs.lemmas.List.Elements.{All-from_get_or, All-more, All-head, All-tail, All-nil, All-weaker}
 use Rattle.std.proofs.lemmas.List.Sums.{sum_by-cons, sum_by_more, sum_by_more_le, sum_by-take-drop}
-use Rattle.std.proofs.lemmas.List.Sorted.{All-permutation, IsPermutation-sym, length_permutation}
+use Rattle.std.proofs.lemmas.List.Sorted.{All-permutation, IsPermutation-sym}
 use Rattle.drt_check_values.specs.declared.query.Query.{Query}
 use Rattle.drt_check_values.specs.declared.rises.Rise.{Rise}
 use Rattle.drt_check_values.specs.Rises.{added, risen}
@@ -62,7 +62,8 @@ rise_fits rises taken t count values l ready same is =
     (m, omega (arith, at, more, here, most))
 
 -- The next release is taken in.
-pub rise_taken : (rises : List Rise) (taken t : ℕ) (values : List ℕ) → taken < length rises → (rise_of rises taken).offset < t → (rise_of rises taken).place < length values → IsTaken rises taken t values
+pub rise_taken : (rises : List Rise) (taken t : ℕ) (values : List ℕ) → taken < length rises → (rise_of rises taken).offset < t → (rise_of rises taken).place < length values
+    → IsTaken rises taken t values
     → IsTaken rises (taken + 1) t (set values (rise_of rises taken).place (get_or values (rise_of rises taken).place 0 + (rise_of rises taken).work))
 rise_taken rises taken t values l soon inside is = record {
   within = omega arith;
@@ -232,7 +233,8 @@ swept_all queries order firsts sizes count rises k taken reached values is l swe
     turns = All-from_get_or (λ i. get_or values i 0 ≡ answer firsts sizes count rises (get_or queries i no_query)) order 0 (λ j m. swept.found j (omega arith) m)
 
     all : All (λ i. get_or values i 0 ≡ answer firsts sizes count rises (get_or queries i no_query)) (range_with_len 0 (length queries))
-    all = All-permutation (λ i. get_or values i 0 ≡ answer firsts sizes count rises (get_or queries i no_query)) order (range_with_len 0 (length queries)) (IsPermutation-sym (range_with_len 0 (length queries)) order is.all) turns
+    all = All-permutation (λ i. get_or values i 0 ≡ answer firsts sizes count rises (get_or queries i no_query)) order (range_with_len 0 (length queries)) (IsPermutation-sym
+        (range_with_len 0 (length queries)) order is.all) turns
 
     each : (n : ℕ) → n < length values → get_or values n 0 ≡ get_or (map (answer firsts sizes count rises) queries) n 0
     each n m =

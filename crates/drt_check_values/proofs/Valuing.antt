@@ -1,26 +1,25 @@
 -- What places have of the releases before a time, where these are the releases of a tree's walks, and the bound that it keeps.
 use Rattle.std.proofs.Common.{◌≡◌, ℕ, zero, suc, ◌+◌, ◌*◌, ◌<◌, ◌≤◌, Bool, true, false, cond, ltb, List, [], ◌∷◌, length, map, drop, take, All, get_or, ◌⊎◌, inl, inr, refl, sym, ap, arith, ◌∙◌}
-use Rattle.std.specs.Prelude.{max}
 use Rattle.std.specs.List.Sorted.{IsPermutation, IsNonDecreasingBy}
 use Rattle.std.proofs.Math.Nat.{max-le}
 use Rattle.std.proofs.lemmas.Bool.{cases_lt}
 use Rattle.std.proofs.lemmas.List.{ext_get_or, get_or-map, get_or_past, length-map}
 use Rattle.std.proofs.lemmas.List.FromFn.{length-map-range_with_len, get_or-map-range_with_len}
-use Rattle.std.proofs.lemmas.List.Elements.{All-head, All-tail, All-from_get_or}
+use Rattle.std.proofs.lemmas.List.Elements.{All-head, All-tail}
 use Rattle.std.proofs.lemmas.List.Sorted.{All-permutation, sum_by-IsPermutation}
 use Rattle.drt_model.specs.Digraph.{Digraph, IsSound, vertex_count}
 use Rattle.drt_model.specs.Walk.{gap, wcet, IsPath, span}
 use Rattle.drt_model.specs.RequestFunction.{requested_from}
 use Rattle.drt_graph.proofs.Edges.{target_of}
-use Rattle.drt_graph.proofs.Paths.{span_cons, span_none}
+use Rattle.drt_graph.proofs.Paths.{span_cons}
 use Rattle.drt_evidence.specs.declared.evidence.TreeClaim.{TreeClaim}
 use Rattle.drt_evidence.specs.Trees.{HasShortWalks, IsShortWalk, IsTree, asked, node_values}
 use Rattle.drt_check_values.specs.declared.query.Query.{Query}
 use Rattle.drt_check_values.specs.declared.rises.Rise.{Rise}
 use Rattle.drt_check_values.specs.Greatest.{greatest}
 use Rattle.drt_check_values.specs.Leaves.{AreFirsts, AreSizes, leaf_order, leaves_below, node_count}
-use Rattle.drt_check_values.specs.Rises.{AreRises, added, asked_at, risen}
-use Rattle.drt_check_values.specs.Sweeps.{AreReady, HasRun, answer, heights, total, whole}
+use Rattle.drt_check_values.specs.Rises.{AreRises, added, risen}
+use Rattle.drt_check_values.specs.Sweeps.{AreReady, HasRun, answer, heights, whole}
 use Rattle.drt_check_values.proofs.Halving.{greatest_none, greatest_cons}
 use Rattle.drt_check_values.proofs.Leaves.{asked_of, first_fits, node_value, order_count, value_found}
 use Rattle.drt_check_values.proofs.Placing.{size_at, sizes_count}
@@ -84,7 +83,8 @@ rises_ready g sound tree bound few short rises sorted are same order = record {
 heights_are : (g : Digraph) (tree : TreeClaim) → IsTree tree → (rises sorted : List Rise) (t : ℕ) → AreRises g tree rises → IsPermutation rises sorted
     → heights sorted (length tree.walks) t ≡ map (asked_of g tree t) (leaf_order tree)
 heights_are g tree is rises sorted t are same =
-    ext_get_or 0 (heights sorted n t) (map (asked_of g tree t) (leaf_order tree)) (count ∙ (sym (order_count tree is) ∙ sym (length-map (leaf_order tree) (asked_of g tree t)))) (λ p l. go p (omega (arith, count, l)))
+    ext_get_or 0 (heights sorted n t) (map (asked_of g tree t) (leaf_order tree)) (count ∙ (sym (order_count tree is) ∙ sym (length-map (leaf_order tree) (asked_of g tree t)))) (λ p l.
+    go p (omega (arith, count, l)))
   where
     n : ℕ
     n = length tree.walks
@@ -112,7 +112,8 @@ map_same {X} f h (x ∷ xs) all =
     let rest = map_same f h xs (All-tail (λ (y : X). f y ≡ h y) x xs all) in
     ap (λ y. y ∷ map f xs) one ∙ ap (λ ys. h x ∷ ys) rest
 
-pub answers_are : (g : Digraph) (tree : TreeClaim) → IsTree tree → (firsts sizes : List ℕ) (rises sorted : List Rise) (queries : List Query) → AreFirsts tree firsts → AreSizes tree sizes → AreRises g tree rises
+pub answers_are : (g : Digraph) (tree : TreeClaim) → IsTree tree → (firsts sizes : List ℕ) (rises sorted : List Rise) (queries : List Query) → AreFirsts tree firsts
+    → AreSizes tree sizes → AreRises g tree rises
     → IsPermutation rises sorted → All (λ q. q.node < node_count tree) queries
     → map (answer firsts sizes (length tree.walks) sorted) queries ≡ map (λ q. get_or (node_values g tree q.time) q.node 0) queries
 answers_are g tree is firsts sizes rises sorted queries placed sized are same nodes =

@@ -6,11 +6,11 @@ unfoldable pub greatest : List ℕ → ℕ
 greatest [] = 0
 greatest (x ∷ xs) = max x (greatest xs)
 
--- In a list of nodes, the parts of node j are the nodes 2·j and 2·j + 1. Those from 1 on that have parts have the greater one of
--- their values; node 0 stands for nothing.
+-- In a list of nodes the parts of node j are the nodes 2·j and 2·j + 1. It has the greater one of their values.
 abbrev pub HasGreaterParts : List ℕ → ℕ → Type 0
 HasGreaterParts nodes j = slice_index_or nodes j 0 ≡ max (slice_index_or nodes (2 * j) 0) (slice_index_or nodes (2 * j + 1) 0)
 
+-- So it is for each node from 1 on that has parts; node 0 stands for nothing.
 abbrev pub IsJoined : List ℕ → Type 0
 IsJoined nodes = (j : ℕ) → 1 ≤ j → 2 * j + 1 < length nodes → HasGreaterParts nodes j
 

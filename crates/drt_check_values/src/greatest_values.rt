@@ -54,11 +54,7 @@ impl GreatestValues {
         requires within { end ≤ length self.now }
         ensures { result ≡ greatest (slice_range self.now first end) }
     {
-        greatest_of(
-            self.nodes.as_slice(),
-            self.count + first,
-            self.count + end,
-        )
+        greatest_of(self.nodes.as_slice(), self.count + first, self.count + end)
     }
 }
 

@@ -46,11 +46,7 @@ fn sizes_of(alloc: Global, tree: &TreeClaim) -> Result<Vec<u32>, Memory>
 
 // The place from which on the leaves below each node stand: from the root down, those below a pair's right part follow those
 // below its left one.
-fn firsts_of(
-    alloc: Global,
-    tree: &TreeClaim,
-    sizes: &[u32],
-) -> Result<Vec<u32>, Memory>
+fn firsts_of(alloc: Global, tree: &TreeClaim, sizes: &[u32]) -> Result<Vec<u32>, Memory>
     requires tree { IsTree tree.now }
     requires ranges { IsInRangeTree tree.now }
     requires sizes { AreSizes tree.now sizes.now }

@@ -39,7 +39,14 @@ pub fn values_at(
     put_in_order(&mut rises);
     let order = in_order(alloc, queries)?;
     let count = tree.walks.as_slice().len();
-    let values = sweep(alloc, queries, order.as_slice(), &places, rises.as_slice(), count)?;
+    let values = sweep(
+        alloc,
+        queries,
+        order.as_slice(),
+        &places,
+        rises.as_slice(),
+        count,
+    )?;
     Ok(values)
 }
 

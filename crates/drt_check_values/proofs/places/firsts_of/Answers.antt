@@ -1,9 +1,7 @@
-use Rattle.std.proofs.Common.{◌≡◌, ◌+◌, ◌-◌, ◌<◌, ◌≤◌, length, get_or, ap, sym, subst, arith, ◌∙◌}
+use Rattle.std.proofs.Common.{◌≡◌, ◌+◌, ◌-◌, length, get_or, ap, sym, subst, arith}
 use Rattle.std.proofs.lemmas.List.{get_or_read}
-use Rattle.drt_check_values.specs.Leaves.{node_count}
-use Rattle.drt_check_values.proofs.Growing.{no_pair}
 use Rattle.drt_check_values.proofs.Leaves.{left_of}
-use Rattle.drt_check_values.proofs.Placing.{AreFirstsFrom, firsts_first, firsts_next, firsts_all, parts_within, right_fits, sizes_count, size_at}
+use Rattle.drt_check_values.proofs.Placing.{AreFirstsFrom, firsts_next, firsts_all, parts_within, right_fits, sizes_count, size_at}
 use Rattle.drt_check_values.proofs.places.firsts_of.Goals as goal
 
 pub index_mut-requires-in-pairs : goal.index_mut-requires-in-pairs

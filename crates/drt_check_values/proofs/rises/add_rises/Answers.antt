@@ -22,7 +22,8 @@ steps-preserved c =
     let e : sep g c.steps.vertex v ≡ Some c.in-Some.gap = sym c.separation.ensures ∙ c.in-Some.is in
     let q = gap_of g c.steps.vertex v c.in-Some.gap e in
     let time : c.steps.offset + c.in-Some.gap ≡ c.steps.offset + gap g c.steps.vertex v = omega (arith, q.0) in
-    rw (c.in_ok-push-2.ensures.items, c.rise_at-in-steps.ensures, time) (stepped g c.vertex_count-count.ensures.sound c.args.place c.args.bound _ c.steps.rises.items c.steps.offset c.steps.vertex v _ step)
+    rw (c.in_ok-push-2.ensures.items, c.rise_at-in-steps.ensures, time) (stepped g c.vertex_count-count.ensures.sound c.args.place c.args.bound _ c.steps.rises.items c.steps.offset
+    c.steps.vertex v _ step)
 
 pub overflow_add-offset : goal.overflow_add-offset
 overflow_add-offset c =

@@ -1,7 +1,6 @@
-use Rattle.std.proofs.Common.{rules, ◌≡◌, ◌+◌, ◌<◌, ◌≤◌, ℕ, List, length, get_or, take, drop, ap, sym, arith, ◌∙◌}
+use Rattle.std.proofs.Common.{rules, ◌<◌, ℕ, List, length, get_or, take, drop, ap, arith, ◌∙◌}
 use Rattle.std.proofs.lemmas.List.{length-replicate}
 use Rattle.drt_check_values.specs.Greatest.{greatest}
-use Rattle.drt_check_values.specs.Sweeps.{answer}
 use Rattle.drt_check_values.proofs.Taking.{swept_first, swept_next, swept_all, turn, turn_within, turn_run, run_sized}
 use Rattle.drt_check_values.proofs.sweeping.sweep.Goals as goal
 
@@ -42,11 +41,13 @@ turns-preserved c =
     let sizes = c.args.places.now.sizes.items in
     let q = turn c.args.queries.now c.args.order.now c.turns.k in
     let found = c.greatest_below.ensures ∙ ap greatest (run_sized c.take_in-taken.new.reached (get_or firsts q.node 0) (get_or sizes q.node 0)) in
-    swept_next c.args.queries.now c.args.order.now firsts sizes c.args.count c.args.rises.now c.turns.k c.turns.taken c.take_in-taken.result c.greatest_below.result c.turns.reached c.take_in-taken.new.reached c.turns.values.items
+    swept_next c.args.queries.now c.args.order.now firsts sizes c.args.count c.args.rises.now c.turns.k c.turns.taken c.take_in-taken.result c.greatest_below.result c.turns.reached
+    c.take_in-taken.new.reached c.turns.values.items
     c.requires.order c.turns-test.true c.requires.rises c.turns.invariant c.take_in-taken.ensures.taken c.take_in-taken.ensures.count c.take_in-taken.ensures.late
     (λ same. found ∙ ap (λ (vs : List ℕ). greatest (take (get_or sizes q.node 0) (drop (get_or firsts q.node 0) vs))) same)
 
 pub returns : goal.returns
 returns c =
-    swept_all c.args.queries.now c.args.order.now c.args.places.now.firsts.items c.args.places.now.sizes.items c.args.count c.args.rises.now c.turns.k c.turns.taken c.turns.reached c.turns.values.items
+    swept_all c.args.queries.now c.args.order.now c.args.places.now.firsts.items c.args.places.now.sizes.items c.args.count c.args.rises.now c.turns.k c.turns.taken c.turns.reached
+    c.turns.values.items
     c.requires.order c.turns-test.false c.turns.invariant

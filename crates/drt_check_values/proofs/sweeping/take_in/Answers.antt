@@ -1,4 +1,4 @@
-use Rattle.std.proofs.Common.{◌≡◌, ◌<◌, length, sym, arith, ◌∙◌}
+use Rattle.std.proofs.Common.{length, sym, arith, ◌∙◌}
 use Rattle.std.proofs.lemmas.List.{length-set}
 use Rattle.drt_check_values.proofs.Taking.{rise_fits, rise_taken, rise_of}
 use Rattle.drt_check_values.proofs.sweeping.take_in.Goals as goal

@@ -1,0 +1,11 @@
+pub mod Asking
+pub mod Passed
+pub mod PointLaws
+pub mod Replays
+pub mod Rest
+pub mod RoomLaws
+pub mod Steps
+pub mod Sums
+pub mod TaskProofs
+pub mod Turns
+pub mod Withins

@@ -1,0 +1,79 @@
+use Rattle.std.proofs.Common.{◌≡◌, length, refl, sym, subst, ◌∙◌, arith}
+use Rattle.std.specs.Prelude.{Some, slice_get}
+use Rattle.std.proofs.lemmas.Bool.{both_ways, false≢true}
+use Rattle.std.proofs.lemmas.Option.{slice_get_read}
+use Rattle.drt_evidence.specs.Trees.{HasShortWalks, greatest_deadline, tree_graphs}
+use Rattle.drt_check_proofs.specs.Points.{points}
+use Rattle.drt_check_proofs.proofs.Asking.{as_many, asked_is, graphs_few, ready_is, tree_is}
+use Rattle.drt_check_proofs.proofs.RoomLaws.{each_at, rooms_last, rooms_more, values_fit}
+use Rattle.drt_check_proofs.proofs.Withins.{queries_within}
+use Rattle.drt_check_proofs.proofs.passing.take_places.Goals as goal
+
+pub values_at-requires-clause-walks : goal.values_at-requires-clause-walks
+values_at-requires-clause-walks c =
+    let tasks = c.args.set.now.tasks in
+    let trees = c.args.trees.now in
+    let tree = c.index-trees-i.result in
+    let g = c.tree_graph-graph.result.now in
+    let at : slice_get trees c.places.i ≡ Some tree = slice_get_read trees (length trees) c.places.i tree refl c.places-test.true c.index-trees-i.is in
+    let short = each_at (HasShortWalks (greatest_deadline tasks)) (tree_graphs tasks trees) trees c.places.i g tree c.requires.walks c.tree_graph-graph.ensures.graph at in
+    subst (λ b. HasShortWalks b g tree) (sym c.greatest_deadline-bound.ensures.value) short
+
+pub values_at-requires-clause-nodes : goal.values_at-requires-clause-nodes
+values_at-requires-clause-nodes c =
+    let tree = c.index-trees-i.result in
+    let is = tree_is c.args.trees.now c.places.i tree c.requires.trees c.places-test.true c.index-trees-i.is in
+    queries_within c.tasks-tasks.result.now tree c.places.i c.args.proofs.now c.as_slice.result.now is (c.as_slice.ensures.value ∙ c.in_ok-place_queries.ensures)
+
+pub take_values-requires : goal.take_values-requires
+take_values-requires c =
+    let tasks = c.args.set.now.tasks in
+    let trees = c.args.trees.now in
+    let proofs = c.args.proofs.now in
+    let tree = c.index-trees-i.result in
+    let at : slice_get trees c.places.i ≡ Some tree = slice_get_read trees (length trees) c.places.i tree refl c.places-test.true c.index-trees-i.is in
+    let asked = asked_is tasks c.tasks-tasks.result.now trees c.places.i tree proofs c.as_slice.result.now c.place_queries.new.queries.items c.as_slice.ensures.value c.in_ok-place_queries.ensures
+    c.tasks-tasks.ensures.tasks at c.requires.proofs in
+    let many = as_many c.tree_graph-graph.result.now tree c.places.i (points tasks trees proofs) c.as_slice.result.now c.as_slice-in-places.result.now asked
+    (c.as_slice-in-places.ensures.value ∙ c.in_ok-values.ensures.values) in
+    omega (arith, many, c.places.invariant.count, c.places.rooms.ok.0)
+
+pub returns-then-not-take_values : goal.returns-then-not-take_values
+returns-then-not-take_values c =
+    let tasks = c.args.set.now.tasks in
+    let trees = c.args.trees.now in
+    let proofs = c.args.proofs.now in
+    let tree = c.index-trees-i.result in
+    let g = c.tree_graph-graph.result.now in
+    let at : slice_get trees c.places.i ≡ Some tree = slice_get_read trees (length trees) c.places.i tree refl c.places-test.true c.index-trees-i.is in
+    let asked = asked_is tasks c.tasks-tasks.result.now trees c.places.i tree proofs c.as_slice.result.now c.place_queries.new.queries.items c.as_slice.ensures.value c.in_ok-place_queries.ensures
+    c.tasks-tasks.ensures.tasks at c.requires.proofs in
+    let is = tree_is trees c.places.i tree c.requires.trees c.places-test.true c.index-trees-i.is in
+    let ready = ready_is c.args.set.now.version tasks trees proofs c.requires.proofs c.tasks-tasks.ensures.limits.each c.requires.timely in
+    let fit = values_fit (tree_graphs tasks trees) trees c.places.i g tree (points tasks trees proofs) c.as_slice.result.now c.as_slice-in-places.result.now c.places.rooms.items c.tree_graph-graph.ensures.graph at is ready
+    asked (c.as_slice-in-places.ensures.value ∙ c.in_ok-values.ensures.values) c.places.invariant in
+    (λ e. absurd (false≢true e), λ all. absurd (both_ways c.take_values.result c.if-not-take_values.true (c.take_values.ensures.fits.1 (fit all))))
+
+pub places-preserved : goal.places-preserved
+places-preserved c =
+    let tasks = c.args.set.now.tasks in
+    let trees = c.args.trees.now in
+    let proofs = c.args.proofs.now in
+    let tree = c.index-trees-i.result in
+    let g = c.tree_graph-graph.result.now in
+    let at : slice_get trees c.places.i ≡ Some tree = slice_get_read trees (length trees) c.places.i tree refl c.places-test.true c.index-trees-i.is in
+    let asked = asked_is tasks c.tasks-tasks.result.now trees c.places.i tree proofs c.as_slice.result.now c.place_queries.new.queries.items c.as_slice.ensures.value c.in_ok-place_queries.ensures
+    c.tasks-tasks.ensures.tasks at c.requires.proofs in
+    let is = tree_is trees c.places.i tree c.requires.trees c.places-test.true c.index-trees-i.is in
+    let ready = ready_is c.args.set.now.version tasks trees proofs c.requires.proofs c.tasks-tasks.ensures.limits.each c.requires.timely in
+    rooms_more (tree_graphs tasks trees) trees c.places.i g tree (points tasks trees proofs) c.as_slice.result.now c.as_slice-in-places.result.now c.places.rooms.items c.take_values.new.rooms.items
+    c.tree_graph-graph.ensures.graph at is ready asked (c.as_slice-in-places.ensures.value ∙ c.in_ok-values.ensures.values) c.places.invariant
+    (omega (arith, c.take_values.ensures.count, c.places.rooms.ok.0, c.take_values.new.rooms.ok.0)) (c.take_values.ensures.left c.if-not-take_values.false)
+
+pub returns : goal.returns
+returns c =
+    let tasks = c.args.set.now.tasks in
+    let trees = c.args.trees.now in
+    let proofs = c.args.proofs.now in
+    let ready = ready_is c.args.set.now.version tasks trees proofs c.requires.proofs c.tasks-tasks.ensures.limits.each c.requires.timely in
+    (λ e. rooms_last (tree_graphs tasks trees) trees c.places.i (points tasks trees proofs) c.places.rooms.items (graphs_few tasks trees c.places.i c.places-test.false) ready c.places.invariant, λ all. refl)

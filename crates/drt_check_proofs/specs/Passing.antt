@@ -1,0 +1,55 @@
+-- Where the items that pass stand: their times, and their nodes at a place.
+use Rattle.std.specs.Prelude.{ℕ, min, nat_lt, if◌then◌else◌, Option, None, Some, List, [], ◌∷◌, ◌++◌, map, slice_get, slice_index_or}
+use Rattle.std.specs.List.{flat_map}
+use Rattle.drt_model.specs.declared.tasks.Task.{Task}
+use Rattle.drt_model.specs.Digraph.{Digraph}
+use Rattle.drt_evidence.specs.Trees.{higher_count, node_values, root}
+use Rattle.drt_evidence.specs.declared.evidence.Item.{Item}
+use Rattle.drt_evidence.specs.declared.evidence.Item.TheVariants.{Pass, Split}
+use Rattle.drt_evidence.specs.declared.evidence.ProofClaim.{ProofClaim}
+use Rattle.drt_evidence.specs.declared.evidence.TreeClaim.{TreeClaim}
+use Rattle.drt_check_values.specs.declared.Query.{Query}
+use Rattle.drt_check_proofs.specs.Places.{after_at}
+
+-- The times of the items that pass, in order.
+unfoldable pub times : List Item → List ℕ
+times [] = []
+times (Pass t ∷ items) = t ∷ times items
+times (Split place ∷ items) = times items
+
+-- The question for the value of a node at a time. A time past 32 bits, which passes for no vertex, stands for the greatest that has 32.
+abbrev pub asks : ℕ → ℕ → Query
+asks n t = record { node = n; time = min t 4294967295 }
+
+-- The question of an item at a place: one that passes asks for the topmost node.
+abbrev pub asks_at : Item → List ℕ → List Query
+asks_at (Pass t) [] = []
+asks_at (Pass t) (n ∷ nodes) = asks n t ∷ []
+asks_at (Split place) nodes = []
+
+-- The questions of some items at a place.
+unfoldable pub passes_at : TreeClaim → ℕ → List Item → Option (List ℕ) → List Query
+passes_at tree i items None = []
+passes_at tree i [] (Some nodes) = []
+passes_at tree i (item ∷ items) (Some nodes) = asks_at item nodes ++ passes_at tree i items (after_at tree i item nodes)
+
+-- The question of an item that passes and has no node at a place. Its value is 0.
+abbrev pub blank : ℕ → Query
+blank t = asks 0 0
+
+-- The questions of a proof at a place.
+abbrev pub queries_in : List Task → TreeClaim → ℕ → List Item → Option Task → List Query
+queries_in tasks tree i items None = []
+queries_in tasks tree i items (Some t) =
+    if nat_lt i (higher_count tasks t.priority) then passes_at tree i items (Some (root tree ∷ [])) else map blank (times items)
+
+abbrev pub queries_of : List Task → TreeClaim → ℕ → ProofClaim → List Query
+queries_of tasks tree i proof = queries_in tasks tree i proof.items (slice_get tasks proof.task)
+
+-- The questions of all proofs at a place.
+abbrev pub all_queries : List Task → TreeClaim → ℕ → List ProofClaim → List Query
+all_queries tasks tree i proofs = flat_map (queries_of tasks tree i) proofs
+
+-- The value of the node at the time.
+abbrev pub value : Digraph → TreeClaim → Query → ℕ
+value g tree q = slice_index_or (node_values g tree q.time) q.node 0

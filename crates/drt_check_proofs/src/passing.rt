@@ -1,0 +1,84 @@
+//! Whether the times at which items of proofs pass pass.
+ghost use Rattle.std.specs.Prelude.{◌≡◌, ◌↔◌, All, IfOk, IsTrue};
+ghost use Rattle.std.specs.List.{AllByRecursion};
+ghost use Rattle.drt_evidence.specs.Claims.{Each, graphs_of};
+ghost use Rattle.drt_evidence.specs.Proofs.{HasPassingTimes, HasShape};
+ghost use Rattle.drt_evidence.specs.Ranges.{IsInRangeTree};
+ghost use Rattle.drt_evidence.specs.Trees.{HasShortWalks, IsTree, IsTreePerHigherTask, greatest_deadline, tree_graphs};
+ghost use Rattle.drt_check_trees.specs.Order.{IsPriorityOrder};
+ghost use Rattle.drt_check_proofs.specs.Points.{AreRooms, IsPoint, IsTimely, marks, points};
+
+use crate::queries::place_queries;
+use crate::rooms::{add_rooms, take_values};
+use drt_check_trees::{greatest_deadline, tree_graph};
+use drt_check_values::values_at;
+use drt_evidence::{ProofClaim, TreeClaim};
+use drt_graph::Graphs;
+use drt_model::{Memory, TaskSet};
+use std::alloc::Global;
+
+/// Whether each time at which an item of a proof passes passes: it is 1 or later, not past the deadline of the proof's vertex, and
+/// the execution time of the vertex and what the combination asks for before it fit into it.
+///
+/// The values of each tree are asked for once, for all proofs. What is left of each time is kept between: 4 bytes for each item that
+/// passes, and 16 bytes beside them while a tree is asked.
+pub fn have_passing_times(
+    alloc: Global,
+    set: &TaskSet,
+    graphs: &Graphs,
+    order: &[u32],
+    trees: &[TreeClaim],
+    proofs: &[ProofClaim],
+) -> Result<bool, Memory>
+    requires graphs { graphs.now ≡ graphs_of set.now.tasks }
+    requires order { IsPriorityOrder set.now.tasks order.now }
+    requires per_task { IsTreePerHigherTask set.now.tasks trees.now }
+    requires in_range { All IsInRangeTree trees.now }
+    requires walks { Each (HasShortWalks (greatest_deadline set.now.tasks)) (tree_graphs set.now.tasks trees.now) trees.now }
+    requires trees { All IsTree trees.now }
+    requires proofs { All (HasShape set.now.tasks trees.now) proofs.now }
+    ensures { IfOk result (λ have. IsTrue have ↔ All (HasPassingTimes set.now.tasks (tree_graphs set.now.tasks trees.now) trees.now) proofs.now) }
+{
+    let mut rooms = Vec::new(alloc);
+    if !add_rooms(set.tasks(), proofs, &mut rooms)? {
+        return Ok(false);
+    }
+    take_places(alloc, set, graphs, order, trees, proofs, &mut rooms)
+}
+
+// Takes what the proofs ask for at each place from what is left of their times, if it fits.
+fn take_places(
+    alloc: Global,
+    set: &TaskSet,
+    graphs: &Graphs,
+    order: &[u32],
+    trees: &[TreeClaim],
+    proofs: &[ProofClaim],
+    rooms: &mut Vec<u32>,
+) -> Result<bool, Memory>
+    requires graphs { graphs.now ≡ graphs_of set.now.tasks }
+    requires order { IsPriorityOrder set.now.tasks order.now }
+    requires per_task { IsTreePerHigherTask set.now.tasks trees.now }
+    requires in_range { All IsInRangeTree trees.now }
+    requires walks { Each (HasShortWalks (greatest_deadline set.now.tasks)) (tree_graphs set.now.tasks trees.now) trees.now }
+    requires trees { All IsTree trees.now }
+    requires proofs { All (HasShape set.now.tasks trees.now) proofs.now }
+    requires timely { AllByRecursion IsTimely (marks set.now.tasks proofs.now) }
+    requires rooms { AreRooms (tree_graphs set.now.tasks trees.now) trees.now 0 (points set.now.tasks trees.now proofs.now) rooms.old.items }
+    ensures { IfOk result (λ have. IsTrue have ↔ AllByRecursion (IsPoint (tree_graphs set.now.tasks trees.now) trees.now) (points set.now.tasks trees.now proofs.now)) }
+{
+    let tasks = set.tasks();
+    let bound = greatest_deadline(set);
+    let mut nodes = Vec::new(alloc);
+    let mut queries = Vec::new(alloc);
+    'places: for i in 0..trees.len() {
+        let tree = &trees[i];
+        place_queries(tasks, tree, i, proofs, &mut nodes, &mut queries)?;
+        let graph = tree_graph(set, graphs, order, trees, i);
+        let values = values_at(alloc, graph, tree, bound, queries.as_slice())?;
+        if !take_values(rooms, values.as_slice()) {
+            return Ok(false);
+        }
+    }
+    Ok(true)
+}
