@@ -1,5 +1,5 @@
 -- The places of the rules in their table, in the order of their numbers.
-use Rattle.std.proofs.Common.{ℕ}
+use Rattle.std.proofs.Common.{◌≡◌, ℕ, List, [], ◌∷◌, slice_index_or, refl}
 use Rattle.drt_evidence.specs.declared.rule.Rule.{Rule}
 use Rattle.drt_evidence.specs.declared.rule.Rule.TheVariants.{ConstrainedDeadlines, KindOfPolicy, RatioPerTask, LowestTerms, PotentialPerVertex, FittingPotentials}
 use Rattle.drt_evidence.specs.declared.rule.Rule.TheVariants.{ClosedCycles, TightCycles, FineScale, ClaimedUtilisation, NearHorizon, OrderedFronts}
@@ -32,3 +32,38 @@ place ProofShapes = 20
 place PassingTimes = 21
 place LegalReleases = 22
 place LeastMiss = 23
+
+-- The table.
+abbrev pub table : List Rule
+table =
+    ConstrainedDeadlines ∷ KindOfPolicy ∷ RatioPerTask ∷ LowestTerms ∷ PotentialPerVertex ∷ FittingPotentials ∷
+    ClosedCycles ∷ TightCycles ∷ FineScale ∷ ClaimedUtilisation ∷ NearHorizon ∷ OrderedFronts ∷
+    CoveredOpenings ∷ CoveredExtensions ∷ Room ∷ TreePerHigherTask ∷ ShortWalks ∷ CoveredWalks ∷
+    TreeShapes ∷ ProofPerVertex ∷ ProofShapes ∷ PassingTimes ∷ LegalReleases ∷ LeastMiss ∷ []
+
+-- A rule stands at its place.
+pub at_place : (d rule : Rule) → slice_index_or table (place rule) d ≡ rule
+at_place d ConstrainedDeadlines = refl
+at_place d KindOfPolicy = refl
+at_place d RatioPerTask = refl
+at_place d LowestTerms = refl
+at_place d PotentialPerVertex = refl
+at_place d FittingPotentials = refl
+at_place d ClosedCycles = refl
+at_place d TightCycles = refl
+at_place d FineScale = refl
+at_place d ClaimedUtilisation = refl
+at_place d NearHorizon = refl
+at_place d OrderedFronts = refl
+at_place d CoveredOpenings = refl
+at_place d CoveredExtensions = refl
+at_place d Room = refl
+at_place d TreePerHigherTask = refl
+at_place d ShortWalks = refl
+at_place d CoveredWalks = refl
+at_place d TreeShapes = refl
+at_place d ProofPerVertex = refl
+at_place d ProofShapes = refl
+at_place d PassingTimes = refl
+at_place d LegalReleases = refl
+at_place d LeastMiss = refl

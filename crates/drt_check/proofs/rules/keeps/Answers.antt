@@ -5,6 +5,7 @@ use Rattle.drt_evidence.specs.Kinds.{fronts_of, ratios_of}
 use Rattle.drt_evidence.specs.Statement.{Statement}
 use Rattle.drt_evidence.specs.declared.rule.Rule.TheVariants.{LowestTerms, PotentialPerVertex, FittingPotentials, ClosedCycles, TightCycles, NearHorizon}
 use Rattle.drt_evidence.specs.declared.rule.Rule.TheVariants.{OrderedFronts, CoveredOpenings, CoveredExtensions, Room, LegalReleases}
+use Rattle.drt_evidence.specs.declared.rule.Rule.TheVariants.{TreePerHigherTask, ShortWalks, CoveredWalks, TreeShapes, ProofShapes, PassingTimes}
 use Rattle.drt_check.specs.Deciding.{IsNext}
 use Rattle.drt_check.proofs.Rows.{counted, decides, decides_at, decides_near, decides_order, given, in_order, near}
 use Rattle.drt_check.proofs.rules.keeps.Goals as goal
@@ -98,6 +99,47 @@ is_least_miss-requires-clause-legal c =
     let set = ap (λ (s : Statement). s.set) c.dossier.view_is in
     rw (set, c.releases_of-releases.ensures.value) (next.before LegalReleases next.applies (omega arith))
 
+pub have_short_walks-requires-clause-per_task : goal.have_short_walks-requires-clause-per_task
+have_short_walks-requires-clause-per_task c =
+    let next = subst (λ r. IsNext c.args.dossier.now r) c.in-ShortWalks.is c.requires.next in
+    let set = ap (λ (s : Statement). s.set) c.dossier.view_is in
+    rw (set, c.trees_of-trees.ensures.value) (next.before TreePerHigherTask next.applies (omega arith))
+
+pub cover_walks-requires-clause-per_task : goal.cover_walks-requires-clause-per_task
+cover_walks-requires-clause-per_task c =
+    let next = subst (λ r. IsNext c.args.dossier.now r) c.in-CoveredWalks.is c.requires.next in
+    let set = ap (λ (s : Statement). s.set) c.dossier.view_is in
+    rw (set, c.trees_of-trees.ensures.value) (next.before TreePerHigherTask next.applies (omega arith))
+
+pub cover_walks-requires-clause-short : goal.cover_walks-requires-clause-short
+cover_walks-requires-clause-short c =
+    let next = subst (λ r. IsNext c.args.dossier.now r) c.in-CoveredWalks.is c.requires.next in
+    let set = ap (λ (s : Statement). s.set) c.dossier.view_is in
+    rw (set, c.trees_of-trees.ensures.value) (next.before ShortWalks next.applies (omega arith))
+
+pub have_passing_times-requires-clause-per_task : goal.have_passing_times-requires-clause-per_task
+have_passing_times-requires-clause-per_task c =
+    let next = subst (λ r. IsNext c.args.dossier.now r) c.in-PassingTimes.is c.requires.next in
+    let set = ap (λ (s : Statement). s.set) c.dossier.view_is in
+    rw (set, c.trees_of-trees.ensures.value) (next.before TreePerHigherTask next.applies (omega arith))
+
+pub have_passing_times-requires-clause-walks : goal.have_passing_times-requires-clause-walks
+have_passing_times-requires-clause-walks c =
+    let next = subst (λ r. IsNext c.args.dossier.now r) c.in-PassingTimes.is c.requires.next in
+    let set = ap (λ (s : Statement). s.set) c.dossier.view_is in
+    rw (set, c.trees_of-trees.ensures.value) (next.before ShortWalks next.applies (omega arith))
+
+pub have_passing_times-requires-clause-trees : goal.have_passing_times-requires-clause-trees
+have_passing_times-requires-clause-trees c =
+    let next = subst (λ r. IsNext c.args.dossier.now r) c.in-PassingTimes.is c.requires.next in
+    rw c.trees_of-trees.ensures.value (next.before TreeShapes next.applies (omega arith))
+
+pub have_passing_times-requires-clause-proofs : goal.have_passing_times-requires-clause-proofs
+have_passing_times-requires-clause-proofs c =
+    let next = subst (λ r. IsNext c.args.dossier.now r) c.in-PassingTimes.is c.requires.next in
+    let set = ap (λ (s : Statement). s.set) c.dossier.view_is in
+    rw (set, c.trees_of-trees.ensures.value, c.proofs_of-proofs.ensures.value) (next.before ProofShapes next.applies (omega arith))
+
 pub returns-in-LowestTerms : goal.returns-in-LowestTerms
 returns-in-LowestTerms c =
     decides c.args.dossier.now c.args.rule LowestTerms c.are_lowest.result c.in-LowestTerms.is (rw c.ratios_of-ratios.ensures.value at c.are_lowest.ensures)
@@ -159,3 +201,16 @@ returns-in-LeastMiss c =
     let policy = ap (λ (s : Statement). s.policy) c.dossier.view_is in
     let set = ap (λ (s : Statement). s.set) c.dossier.view_is in
     rw c.in-LeastMiss.is (rw (policy, set, c.releases_of-releases.ensures.value, c.miss_of.ensures) at c.is_least_miss.ensures)
+
+pub returns-in-TreeShapes : goal.returns-in-TreeShapes
+returns-in-TreeShapes c = rw c.in-TreeShapes.is (rw c.trees_of-trees.ensures.value at c.are_trees.ensures)
+
+pub returns-in-ProofShapes : goal.returns-in-ProofShapes
+returns-in-ProofShapes c =
+    let set = ap (λ (s : Statement). s.set) c.dossier.view_is in
+    rw c.in-ProofShapes.is (rw (set, c.trees_of-trees.ensures.value, c.proofs_of-proofs.ensures.value) at c.have_shapes.ensures)
+
+pub returns-in_ok-order-in-PassingTimes : goal.returns-in_ok-order-in-PassingTimes
+returns-in_ok-order-in-PassingTimes c =
+    let set = ap (λ (s : Statement). s.set) c.dossier.view_is in
+    rw c.in-PassingTimes.is (rw (set, c.trees_of-trees.ensures.value, c.proofs_of-proofs.ensures.value) at c.have_passing_times.ensures)
