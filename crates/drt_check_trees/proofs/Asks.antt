@@ -1,11 +1,11 @@
 -- What walks ask for, vertex by vertex, and how two walks compare.
-use Rattle.std.proofs.Common.{◌≡◌, ℕ, zero, suc, ◌+◌, ◌*◌, ◌<◌, ◌≤◌, ◌⊎◌, inl, inr, List, [], ◌∷◌, All, length, get_or, drop, refl, sym, ap, arith, ◌∙◌}
+use Rattle.std.proofs.Common.{◌≡◌, ℕ, ◌+◌, ◌*◌, ◌<◌, ◌≤◌, ◌⊎◌, inl, inr, List, [], ◌∷◌, length, get_or, drop, refl, ap, arith, ◌∙◌}
 use Rattle.std.specs.Prelude.{◌↔◌}
 use Rattle.std.proofs.lemmas.Bool.{cases_lt, le-ltb, lt-ltb}
 use Rattle.std.proofs.lemmas.List.{drop_more, drop_all}
-use Rattle.drt_model.specs.Digraph.{Digraph, IsSound, vertex_count}
+use Rattle.drt_model.specs.Digraph.{Digraph}
 use Rattle.drt_model.specs.RequestFunction.{requested_from}
-use Rattle.drt_model.specs.Walk.{gap, span, wcet, work}
+use Rattle.drt_model.specs.Walk.{gap, wcet, work}
 use Rattle.drt_graph.proofs.Paths.{span_cons, span_none, work_cons, work_none}
 use Rattle.drt_check_trees.specs.Asking.{AsksNoLess, IsPlaced, asked_at, asked_from, span_of}
 use Rattle.drt_check_trees.specs.Gaps.{gap_to, leap}

@@ -7,3 +7,4 @@ mod Asks
 mod Looks
 mod Ranks
 mod Extending
+mod Rows

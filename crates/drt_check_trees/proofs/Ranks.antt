@@ -1,5 +1,5 @@
 -- Short walks, their ranks, and what dominates them.
-use Rattle.std.proofs.Common.{◌≡◌, ℕ, zero, suc, ◌+◌, ◌-◌, ◌*◌, ◌<◌, ◌≤◌, ◌⊎◌, inl, inr, Bool, true, false, List, [], ◌∷◌, All, length, get_or, refl, sym, ap, subst, arith, ◌∙◌}
+use Rattle.std.proofs.Common.{◌≡◌, ℕ, suc, ◌+◌, ◌-◌, ◌*◌, ◌<◌, ◌≤◌, List, [], ◌∷◌, All, length, get_or, refl, sym, ap, subst, arith, ◌∙◌}
 use Rattle.std.specs.Prelude.{Any, nat_lt}
 use Rattle.std.specs.List.Sorted.{IsNonDecreasingBy, IsPartitionedBy, IsPermutation}
 use Rattle.std.proofs.lemmas.Bool.{ltb-true, lt-ltb}
@@ -9,7 +9,7 @@ use Rattle.std.proofs.lemmas.List.Elements.{All-cons, All-head, All-nil, All-tai
 use Rattle.drt_model.specs.Digraph.{Digraph, IsSound, vertex_count}
 use Rattle.drt_model.specs.Walk.{IsPath, gap, last_of, span, work}
 use Rattle.drt_graph.proofs.Edges.{target_of}
-use Rattle.drt_graph.proofs.Paths.{path_within, span_cons, span_none, work_cons, work_none}
+use Rattle.drt_graph.proofs.Paths.{path_within, span_cons, work_cons, work_none}
 use Rattle.drt_evidence.specs.Trees.{IsShortWalk}
 use Rattle.drt_check_trees.specs.Asking.{AsksNoLess, IsWithin, asked_from, span_of}
 use Rattle.drt_check_trees.specs.Entries.{AreEntries, IsEntryOf, IsListed, IsOver, last_in, rank_of}
@@ -126,9 +126,13 @@ module _ (bound : ℕ) (g : Digraph) (walks : List (List ℕ)) (short : All (IsS
       → AsksNoLess bound g walk (get_or walks e.number []) → Any (IsOver bound g walk) walks
   entry_over e of from to span asks =
       let x = get_or walks e.number [] in
-      let last = rank_last (last_in walk) (work g walk) (last_in (get_or walks e.number [])) (work g (get_or walks e.number [])) (omega (arith, from, of.rank)) (omega (arith, to, of.rank)) in
-      (e.number, get_or walks e.number [], of.number, get_or_default walks e.number (get_or walks e.number []) [] of.number,
-      over_of bound g walk (get_or walks e.number []) is (entry_short e of) last (omega (arith, span, of.span)) asks)
+      let last = rank_last (last_in walk) (work g walk) (last_in (get_or walks e.number [])) (work g (get_or walks e.number [])) (omega (arith, from, of.rank)) (omega (arith, to, of.rank)) in (
+        e.number,
+        get_or walks e.number [],
+        of.number,
+        get_or_default walks e.number (get_or walks e.number []) [] of.number,
+        over_of bound g walk (get_or walks e.number []) is (entry_short e of) last (omega (arith, span, of.span)) asks,
+      )
 
   -- The entry of a walk that dominates.
   pub record HasOver (entries : List Entry) : Type 0 where

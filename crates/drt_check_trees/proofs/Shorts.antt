@@ -1,9 +1,9 @@
 -- What is left of a walk, step by step.
-use Rattle.std.proofs.Common.{◌≡◌, ℕ, suc, ◌+◌, ◌<◌, ◌≤◌, List, [], ◌∷◌, Some, None, length, get_or, drop, refl, sym, ap, arith, ◌∙◌}
+use Rattle.std.proofs.Common.{◌≡◌, ℕ, ◌+◌, ◌<◌, ◌≤◌, List, [], ◌∷◌, Some, None, length, get_or, drop, sym, arith, ◌∙◌}
 use Rattle.std.specs.Prelude.{◌↔◌}
 use Rattle.std.proofs.lemmas.List.{drop_more, drop_all}
 use Rattle.drt_model.specs.Digraph.{Digraph, IsSound, vertex_count}
-use Rattle.drt_model.specs.Walk.{IsEdge, IsPath, gap, sep, span}
+use Rattle.drt_model.specs.Walk.{IsPath, gap, sep, span}
 use Rattle.drt_graph.proofs.Edges.{gap_of, target_of}
 use Rattle.drt_graph.proofs.Paths.{span_cons, span_none}
 use Rattle.drt_evidence.specs.Trees.{IsShortWalk}

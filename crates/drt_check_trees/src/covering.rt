@@ -58,7 +58,14 @@ fn covers(alloc: Global, graph: &Graph, bound: u32, tree: &TreeClaim) -> Result<
     if !has_openings(graph, gaps.as_slice(), bound, tree, entries.as_slice()) {
         return Ok(false);
     }
-    are_closed(alloc, graph, gaps.as_slice(), bound, tree, entries.as_slice())
+    are_closed(
+        alloc,
+        graph,
+        gaps.as_slice(),
+        bound,
+        tree,
+        entries.as_slice(),
+    )
 }
 
 // Whether the walk of each single vertex is dominated.
@@ -82,7 +89,15 @@ fn has_openings(
             span: 0,
             work: graph.vertex(v).wcet as u64,
         };
-        if !has_above(graph, gaps, bound, tree.walks.as_slice(), entries, &opening, extent) {
+        if !has_above(
+            graph,
+            gaps,
+            bound,
+            tree.walks.as_slice(),
+            entries,
+            &opening,
+            extent,
+        ) {
             return false;
         }
     }
@@ -106,7 +121,15 @@ fn are_closed(
 {
     let walks = tree.walks.as_slice();
     for i in 0..walks.len() {
-        if !is_closed(alloc, graph, gaps, bound, tree, entries, walks[i].as_slice())? {
+        if !is_closed(
+            alloc,
+            graph,
+            gaps,
+            bound,
+            tree,
+            entries,
+            walks[i].as_slice(),
+        )? {
             return Ok(false);
         }
     }

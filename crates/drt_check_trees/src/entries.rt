@@ -129,13 +129,7 @@ fn is_no_less(
     if entry.span > span {
         return false;
     }
-    asks_no_less(
-        graph,
-        gaps,
-        bound,
-        walks[entry.number].as_slice(),
-        other,
-    )
+    asks_no_less(graph, gaps, bound, walks[entry.number].as_slice(), other)
 }
 
 /// Whether a walk dominates this one, of this extent. Of those with its last vertex and at least its work it looks at those with the

@@ -15,8 +15,8 @@ mod order;
 mod shapes;
 mod short;
 
-pub use covering::cover_walks;
 pub use counts::is_tree_per_higher_task;
+pub use covering::cover_walks;
 pub use deadlines::greatest_deadline;
 pub use order::{priority_order, tree_graph};
 pub use shapes::are_trees;

@@ -1,4 +1,4 @@
-use Rattle.std.proofs.Common.{◌≡◌, ◌+◌, ◌*◌, ◌<◌, ◌≤◌, ap, arith, get_or}
+use Rattle.std.proofs.Common.{◌≡◌, ◌+◌, ◌<◌, ◌≤◌, ap, arith, get_or}
 use Rattle.drt_model.specs.declared.tasks.Vertex.{Vertex}
 use Rattle.drt_model.specs.Walk.{wcet}
 use Rattle.drt_check_trees.specs.Gaps.{leap}
@@ -8,13 +8,12 @@ use Rattle.drt_check_trees.proofs.asking.asks_no_less.Goals as goal
 pub returns-then-cursor-work : goal.returns-then-cursor-work
 returns-then-cursor-work c =
     let v = ap (λ (x : Vertex). x.wcet) c.vertex.ensures in
-    let less : c.advance-cursor.result.work < c.loop-i.work + wcet c.args.graph.now (get_or c.args.other.now c.loop-i.i 0) = omega (arith, c.if-cursor-work.true, v) in
-    (
+    let less : c.advance-cursor.result.work < c.loop-i.work + wcet c.args.graph.now (get_or c.args.other.now c.loop-i.i 0) = omega (arith, c.if-cursor-work.true, v) in (
       λ e. absurd (cc),
       λ no_less. absurd (
-        settled_not c.args.graph.now c.args.bound c.args.other.now c.args.walk.now c.loop-i.i c.loop-i.offset c.loop-i.work c.loop-i.cursor c.loop-i.invariant
-        c.advance-cursor.result c.loop-i-test.true c.if-offset-bound.false c.advance-cursor.ensures.same c.advance-cursor.ensures.past less no_less
-      ),
+          settled_not c.args.graph.now c.args.bound c.args.other.now c.args.walk.now c.loop-i.i c.loop-i.offset c.loop-i.work c.loop-i.cursor c.loop-i.invariant
+          c.advance-cursor.result c.loop-i-test.true c.if-offset-bound.false c.advance-cursor.ensures.same c.advance-cursor.ensures.past less no_less
+          ),
     )
 
 pub loop-i-preserved : goal.loop-i-preserved

@@ -1,8 +1,6 @@
-use Rattle.std.proofs.Common.{◌≡◌, ◌+◌, ◌*◌, ◌≤◌, ap, arith, drop}
+use Rattle.std.proofs.Common.{ap, arith}
 use Rattle.drt_model.specs.declared.tasks.Vertex.{Vertex}
-use Rattle.drt_model.specs.Walk.{wcet, work}
-use Rattle.drt_check_trees.specs.Asking.{span_of}
-use Rattle.drt_check_trees.proofs.Asks.{span_at, span_end, work_at, work_end}
+use Rattle.drt_check_trees.proofs.Asks.{span_at, work_at, work_end}
 use Rattle.drt_check_trees.proofs.asking.measure.Goals as goal
 
 pub loop-i-preserved : goal.loop-i-preserved
@@ -13,8 +11,7 @@ loop-i-preserved c =
     let w = work_at g walk i c.loop-i-test.true in
     let s = span_at g walk i c.loop-i-test.true in
     let v = ap (λ (x : Vertex). x.wcet) c.vertex.ensures in
-    let small = (c.vertex_count-count.ensures.sound.wcet _ (c.requires.within.each i 0 c.loop-i-test.true)).1 in
-    (
+    let small = (c.vertex_count-count.ensures.sound.wcet _ (c.requires.within.each i 0 c.loop-i-test.true)).1 in (
       omega (arith, c.loop-i.invariant.0, w, v),
       omega (arith, c.loop-i.invariant.1, s, c.next_offset-span.ensures.value),
       omega (arith, c.loop-i.invariant.2, v, small),

@@ -1,6 +1,6 @@
-use Rattle.std.proofs.Common.{◌≡◌, ◌<◌, ◌≤◌, ℕ, length, true, false, refl, subst, sym, arith}
+use Rattle.std.proofs.Common.{◌≡◌, ℕ, true, false, refl, subst, sym}
 use Rattle.drt_evidence.specs.Claims.{Each}
-use Rattle.drt_evidence.specs.Trees.{CoversWalks, HasShortWalks, greatest_deadline, tree_graphs}
+use Rattle.drt_evidence.specs.Trees.{CoversWalks, HasShortWalks, tree_graphs}
 use Rattle.drt_check_trees.proofs.Eachs.{each_end, each_here, each_more, each_not}
 use Rattle.drt_check_trees.proofs.Orders.{graphs_long}
 use Rattle.drt_check_trees.proofs.covering.cover_walks.Goals as goal
@@ -13,11 +13,13 @@ covers-requires-clause-short c =
 
 pub returns-then-not-branch : goal.returns-then-not-branch
 returns-then-not-branch c =
-    let bound = c.greatest_deadline-bound.ensures.value in
-    (λ e. absurd (cc), λ each. absurd (each_not (CoversWalks c.greatest_deadline-bound.result) (tree_graphs c.args.set.now.tasks c.args.trees.now) c.args.trees.now c.loop-i.i
-    c.tree_graph-graph.result.now c.index-trees-i.result c.tree_graph-graph.ensures.graph c.index-trees-i.is c.loop-i-test.true
-    (λ has. (let r : c.in_ok-covers.field-0 ≡ true = c.in_ok-covers.ensures.1 has in let s : c.in_ok-covers.field-0 ≡ false = c.if-not-branch.true in cc))
-    (subst (λ (b : ℕ). Each (CoversWalks b) (tree_graphs c.args.set.now.tasks c.args.trees.now) c.args.trees.now) (sym bound) each)))
+    let bound = c.greatest_deadline-bound.ensures.value in (
+      λ e. absurd (cc),
+      λ each. absurd (each_not (CoversWalks c.greatest_deadline-bound.result) (tree_graphs c.args.set.now.tasks c.args.trees.now) c.args.trees.now c.loop-i.i
+          c.tree_graph-graph.result.now c.index-trees-i.result c.tree_graph-graph.ensures.graph c.index-trees-i.is c.loop-i-test.true
+          (λ has. (let r : c.in_ok-covers.field-0 ≡ true = c.in_ok-covers.ensures.1 has in let s : c.in_ok-covers.field-0 ≡ false = c.if-not-branch.true in cc))
+          (subst (λ (b : ℕ). Each (CoversWalks b) (tree_graphs c.args.set.now.tasks c.args.trees.now) c.args.trees.now) (sym bound) each)),
+    )
 
 pub loop-i-preserved : goal.loop-i-preserved
 loop-i-preserved c =

@@ -1,4 +1,4 @@
-use Rattle.std.proofs.Common.{◌≡◌, ℕ, ◌<◌, inl, inr, List, [], ◌∷◌, true, false, ap, arith, subst, sym, ◌∙◌}
+use Rattle.std.proofs.Common.{◌≡◌, ℕ, ◌<◌, inl, inr, List, [], true, ap, arith, subst, sym, ◌∙◌}
 use Rattle.std.specs.Prelude.{Any}
 use Rattle.std.proofs.lemmas.Bool.{cases_lt}
 use Rattle.drt_model.specs.Digraph.{vertex_count}
@@ -35,6 +35,6 @@ loop-v-preserved c = λ w l.
     elim (cases_lt w c.loop-v.v) [
       | inl q ↦ c.loop-v.invariant w q
       | inr q ↦ (
-        let e : c.loop-v.v ≡ w = omega (arith, l, q) in
-        subst (λ (n : ℕ). Any (IsAbove c.args.bound c.args.graph.now n []) c.args.tree.now.walks) e here)
+          let e : c.loop-v.v ≡ w = omega (arith, l, q) in
+          subst (λ (n : ℕ). Any (IsAbove c.args.bound c.args.graph.now n []) c.args.tree.now.walks) e here)
     ]

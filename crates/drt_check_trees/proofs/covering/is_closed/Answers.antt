@@ -14,9 +14,8 @@ out_degree-k-end-requires c =
 
 pub returns : goal.returns
 returns c =
-    let same = ap (λ (v : ℕ). out_degree c.args.graph.now v) c.last_in-last.ensures in
-    (
+    let same = ap (λ (v : ℕ). out_degree c.args.graph.now v) c.last_in-last.ensures in (
       λ t. (closed_all c.args.graph.now c.args.bound c.args.tree.now c.args.walk.now c.requires.walk).1
-      (λ k l. c.loop-k.invariant k (omega (arith, l, c.loop-k-test.false, c.out_degree-k-end.ensures, same))),
+          (λ k l. c.loop-k.invariant k (omega (arith, l, c.loop-k-test.false, c.out_degree-k-end.ensures, same))),
       λ is. refl,
     )

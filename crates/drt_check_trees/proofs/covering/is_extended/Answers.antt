@@ -1,5 +1,5 @@
 use Rattle.std.proofs.Common.{◌≡◌, ℕ, ◌+◌, ◌<◌, ◌≤◌, ◌++◌, ◌∷◌, [], List, ap, arith, refl, subst, sym, ◌∙◌}
-use Rattle.std.specs.Prelude.{◌↔◌, Any, IsTrue}
+use Rattle.std.specs.Prelude.{◌↔◌, Any}
 use Rattle.drt_model.specs.Digraph.{edge_of}
 use Rattle.drt_model.specs.Walk.{wcet, work}
 use Rattle.drt_model.specs.declared.tasks.Edge.{Edge}
@@ -67,8 +67,7 @@ returns c =
     let both = extended_near g c.args.bound k c.args.tree.now walk c.requires.walk near in
     let walks : c.as_slice.result.now ≡ c.args.tree.now.walks = c.as_slice.ensures in
     let before : (w : List ℕ) → Any (IsOver c.args.bound g w) c.as_slice.result.now ↔ Any (IsOver c.args.bound g w) c.args.tree.now.walks
-    = (λ w. (subst (λ (ws : List (List ℕ)). Any (IsOver c.args.bound g w) ws) walks, subst (λ (ws : List (List ℕ)). Any (IsOver c.args.bound g w) ws) (sym walks))) in
-    (
+    = (λ w. (subst (λ (ws : List (List ℕ)). Any (IsOver c.args.bound g w) ws) walks, subst (λ (ws : List (List ℕ)). Any (IsOver c.args.bound g w) ws) (sym walks))) in (
       λ t. both.1 (subst (λ (w : List ℕ). Any (IsOver c.args.bound g w) c.args.tree.now.walks) y ((before c.as_slice-2.result.now).0 (c.has_above.ensures.0 t))),
       λ is. c.has_above.ensures.1 ((before c.as_slice-2.result.now).1 (subst (λ (w : List ℕ). Any (IsOver c.args.bound g w) c.args.tree.now.walks) (sym y) (both.0 is))),
     )

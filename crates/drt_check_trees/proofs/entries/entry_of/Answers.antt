@@ -1,5 +1,5 @@
 use Rattle.std.proofs.Common.{arith}
-use Rattle.drt_check_trees.proofs.Ranks.{short_last, short_some, short_within}
+use Rattle.drt_check_trees.proofs.Ranks.{short_last, short_within}
 use Rattle.drt_check_trees.proofs.entries.entry_of.Goals as goal
 
 pub measure-extent-requires-clause-within : goal.measure-extent-requires-clause-within

@@ -41,8 +41,7 @@ returns-then-is_no_less c =
     let high : e.rank < c.rank_of.result + 1 = c.first_from-k.ensures.before k d (omega (arith, c.loop-k-test.true, c.loop-k.invariant.0)) in
     let from : 1099511627776 * last_in c.args.walk.now ≤ e.rank = omega (arith, low, c.last_in-last.ensures) in
     let to : e.rank ≤ rank_of (last_in c.args.walk.now) (work g c.args.walk.now) = omega (arith, high, c.rank_of.ensures, c.last_in-last.ensures, c.requires.work) in
-    let both : (e.span ≤ c.args.extent.span) × AsksNoLess c.args.bound g c.args.walk.now (get_or c.args.walks.now e.number []) = c.is_no_less.ensures.0 c.if-is_no_less.true in
-    (
+    let both : (e.span ≤ c.args.extent.span) × AsksNoLess c.args.bound g c.args.walk.now (get_or c.args.walks.now e.number []) = c.is_no_less.ensures.0 c.if-is_no_less.true in (
       λ t. entry_over c.args.bound g c.args.walks.now c.requires.short c.args.walk.now c.requires.walk e of from to (omega (arith, both.0, c.requires.span)) both.1,
       λ any. refl,
     )
@@ -58,18 +57,17 @@ loop-k-preserved c =
     let of : IsEntryOf g c.args.walks.now e = c.requires.entries.each k d l in
     let not : IsOver c.args.bound g c.args.walk.now (get_or c.args.walks.now e.number []) → ⊥
     = (λ over.
-        let parts = over_parts c.args.bound g c.args.walk.now (get_or c.args.walks.now e.number []) over in
-        let r : c.is_no_less.result ≡ true = c.is_no_less.ensures.1 (omega (arith, parts.1, of.span, c.requires.span), parts.2) in
-        let s : c.is_no_less.result ≡ false = c.if-is_no_less.false in
-        cc) in
-    (
+    let parts = over_parts c.args.bound g c.args.walk.now (get_or c.args.walks.now e.number []) over in
+    let r : c.is_no_less.result ≡ true = c.is_no_less.ensures.1 (omega (arith, parts.1, of.span, c.requires.span), parts.2) in
+    let s : c.is_no_less.result ≡ false = c.if-is_no_less.false in
+    cc) in (
       omega (arith, c.loop-k.invariant.0),
       λ j f m n to over.
           elim (cases_lt j c.loop-k.k) [
             | inl q ↦ (
-              let s : j ≡ k = omega (arith, m, q) in
-              let same : get_or entries j f ≡ e = ap (λ (i : ℕ). get_or entries i f) s ∙ get_or_default entries k f d l in
-              not (subst (λ (x : Entry). IsOver c.args.bound g c.args.walk.now (get_or c.args.walks.now x.number [])) same over))
+                let s : j ≡ k = omega (arith, m, q) in
+                let same : get_or entries j f ≡ e = ap (λ (i : ℕ). get_or entries i f) s ∙ get_or_default entries k f d l in
+                not (subst (λ (x : Entry). IsOver c.args.bound g c.args.walk.now (get_or c.args.walks.now x.number [])) same over))
             | inr q ↦ c.loop-k.invariant.1 j f q n to over
           ],
     )
@@ -77,16 +75,15 @@ loop-k-preserved c =
 pub returns : goal.returns
 returns c =
     let g = c.args.graph.now in
-    let entries : List Entry = c.args.entries.now in
-    (
+    let entries : List Entry = c.args.entries.now in (
       λ t. absurd (cc),
       λ any.
           let h = over_entry c.args.bound g c.args.walks.now c.requires.short c.args.walk.now c.requires.walk entries c.requires.entries any in
           let rank = ap (λ (x : Entry). x.rank) h.at in
           let past : c.loop-k.k ≤ h.place = elim (cases_lt h.place c.loop-k.k) [
             | inl q ↦ (
-              let b = c.first_from-from.ensures.before h.place h.entry (omega (arith, q, c.loop-k-test.false)) in
-              absurd (omega (arith, b, h.from, rank, c.last_in-last.ensures)))
+                let b = c.first_from-from.ensures.before h.place h.entry (omega (arith, q, c.loop-k-test.false)) in
+                absurd (omega (arith, b, h.from, rank, c.last_in-last.ensures)))
             | inr q ↦ q
           ] in
           absurd (c.loop-k.invariant.1 h.place h.entry past h.within (omega (arith, h.to, rank)) (subst (λ (x : Entry). IsOver c.args.bound g c.args.walk.now (get_or c.args.walks.now x.number [])) (sym h.at) h.over)),

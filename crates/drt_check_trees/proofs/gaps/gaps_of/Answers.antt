@@ -1,4 +1,4 @@
-use Rattle.std.proofs.Common.{◌≡◌, ◌≤◌, arith, ap, length}
+use Rattle.std.proofs.Common.{arith}
 use Rattle.drt_check_trees.proofs.Looks.{all_gaps, gaps_more, gaps_none, gaps_to}
 use Rattle.drt_check_trees.proofs.gaps.gaps_of.Goals as goal
 

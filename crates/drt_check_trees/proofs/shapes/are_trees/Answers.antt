@@ -1,4 +1,3 @@
-use Rattle.std.proofs.Common.{◌≡◌, true}
 use Rattle.drt_evidence.specs.Trees.{IsTree}
 use Rattle.drt_check_trees.proofs.Naming.{all_more}
 use Rattle.drt_check_trees.proofs.shapes.are_trees.Goals as goal

@@ -1,8 +1,7 @@
-use Rattle.std.proofs.Common.{◌≡◌, ◌+◌, ◌<◌, ◌≤◌, ℕ, List, length, get_or, refl, sym, ap, subst, arith}
-use Rattle.drt_evidence.specs.Trees.{named}
+use Rattle.std.proofs.Common.{◌≡◌, ◌+◌, ◌<◌, ◌≤◌, ℕ, List, length, get_or, arith}
 use Rattle.drt_evidence.specs.declared.evidence.Pair.{Pair}
 use Rattle.std.proofs.lemmas.Option.{slice_get-get_or, slice_get_within}
-use Rattle.drt_check_trees.specs.Marks.{AreLower, IsLower, marked, names}
+use Rattle.drt_check_trees.specs.Marks.{IsLower, marked, names}
 use Rattle.drt_check_trees.proofs.Naming.{lower_more, named_end, named_more}
 use Rattle.drt_check_trees.proofs.shapes.name_all.Goals as goal
 

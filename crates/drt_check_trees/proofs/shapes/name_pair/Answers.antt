@@ -1,4 +1,4 @@
-use Rattle.std.proofs.Common.{◌≡◌, arith}
+use Rattle.std.proofs.Common.{arith}
 use Rattle.drt_check_trees.proofs.Naming.{is_marked, names_both, names_left, names_right}
 use Rattle.drt_check_trees.proofs.shapes.name_pair.Goals as goal
 use Rattle.drt_check_trees.proofs.shapes.name_pair.Goals.{then-left-right-via-then-left-right, then-left-right-via-else-left-right+then-marks-left, then-left-right-via-else-left-right+else-marks-left+then-marks-right}

@@ -1,5 +1,5 @@
-use Rattle.std.proofs.Common.{◌<◌, ◌≤◌, ◌+◌, ◌≡◌, None, Some, refl, arith}
-use Rattle.drt_check_trees.proofs.Shorts.{broken, ends, no_vertex_first, no_walk, starts, steps, too_long}
+use Rattle.std.proofs.Common.{◌<◌, ◌≤◌, ◌+◌, refl, arith}
+use Rattle.drt_check_trees.proofs.Shorts.{ends, steps, too_long}
 use Rattle.drt_check_trees.proofs.short.is_short.Goals as goal
 
 pub returns-then-gap-bound : goal.returns-then-gap-bound
