@@ -10,7 +10,7 @@ use Rattle.drt_evidence.specs.Proofs.{HasShape}
 use Rattle.drt_evidence.specs.Trees.{IsTree, by_priority, tree_graphs}
 use Rattle.drt_evidence.specs.declared.evidence.ProofClaim.{ProofClaim}
 use Rattle.drt_evidence.specs.declared.evidence.TreeClaim.{TreeClaim}
-use Rattle.drt_check_values.specs.declared.Query.{Query}
+use Rattle.drt_check_values.specs.declared.query.Query.{Query}
 use Rattle.drt_check_proofs.specs.Passing.{all_queries, value}
 use Rattle.drt_check_proofs.specs.Points.{IsTimely, Point, marks, points, query}
 use Rattle.drt_check_proofs.proofs.PointLaws.{marks_points, queries_points}

@@ -6,7 +6,7 @@ use Rattle.drt_evidence.specs.Proofs.{after, after_all, passes}
 use Rattle.drt_evidence.specs.declared.evidence.Item.{Item}
 use Rattle.drt_evidence.specs.declared.evidence.Item.TheVariants.{Pass, Split}
 use Rattle.drt_evidence.specs.declared.evidence.TreeClaim.{TreeClaim}
-use Rattle.drt_check_values.specs.declared.Query.{Query}
+use Rattle.drt_check_values.specs.declared.query.Query.{Query}
 use Rattle.drt_check_proofs.specs.Passing.{asks, passes_at, times}
 use Rattle.drt_check_proofs.specs.Places.{at_place, node_at}
 use Rattle.drt_check_proofs.proofs.Steps.{AreWide, Stepped, stepped}

@@ -9,7 +9,7 @@ use Rattle.drt_evidence.specs.Claims.{Each}
 use Rattle.drt_evidence.specs.Proofs.{sum_at}
 use Rattle.drt_evidence.specs.Trees.{IsTree}
 use Rattle.drt_evidence.specs.declared.evidence.TreeClaim.{TreeClaim}
-use Rattle.drt_check_values.specs.declared.Query.{Query}
+use Rattle.drt_check_values.specs.declared.query.Query.{Query}
 use Rattle.drt_check_proofs.specs.Passing.{value}
 use Rattle.drt_check_proofs.specs.Points.{AreRooms, IsPoint, IsTimely, Mark, Point, query, room, used}
 use Rattle.drt_check_proofs.proofs.Sums.{used_first, used_more, used_most}

@@ -17,7 +17,7 @@ use Rattle.drt_evidence.specs.declared.evidence.Item.TheVariants.{Pass, Split}
 use Rattle.drt_evidence.specs.declared.evidence.Pair.{Pair}
 use Rattle.drt_evidence.specs.declared.evidence.ProofClaim.{ProofClaim}
 use Rattle.drt_evidence.specs.declared.evidence.TreeClaim.{TreeClaim}
-use Rattle.drt_check_values.specs.declared.Query.{Query}
+use Rattle.drt_check_values.specs.declared.query.Query.{Query}
 use Rattle.drt_check_proofs.specs.Passing.{all_queries, asks_at, blank, passes_at, queries_in, queries_of, times}
 use Rattle.drt_check_proofs.specs.Places.{after_at, with_halves}
 use Rattle.drt_check_proofs.specs.Points.{point, points, points_in, points_of}

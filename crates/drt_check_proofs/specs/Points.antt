@@ -8,7 +8,7 @@ use Rattle.drt_evidence.specs.Proofs.{opening, passes, sum_at}
 use Rattle.drt_evidence.specs.Trees.{higher_count}
 use Rattle.drt_evidence.specs.declared.evidence.ProofClaim.{ProofClaim}
 use Rattle.drt_evidence.specs.declared.evidence.TreeClaim.{TreeClaim}
-use Rattle.drt_check_values.specs.declared.Query.{Query}
+use Rattle.drt_check_values.specs.declared.query.Query.{Query}
 use Rattle.drt_check_proofs.specs.Passing.{asks, times}
 
 -- A time that is to pass for a vertex, with the vertex's execution time and deadline.

@@ -39,11 +39,20 @@ pub fn have_passing_times(
     requires proofs { All (HasShape set.now.tasks trees.now) proofs.now }
     ensures { IfOk result (λ have. IsTrue have ↔ All (HasPassingTimes set.now.tasks (tree_graphs set.now.tasks trees.now) trees.now) proofs.now) }
 {
-    let mut rooms = Vec::new(alloc);
+    let mut rooms = Vec::with_capacity(alloc, pass_count(proofs))?;
     if !add_rooms(set.tasks(), proofs, &mut rooms)? {
         return Ok(false);
     }
     take_places(alloc, set, graphs, order, trees, proofs, &mut rooms)
+}
+
+// Room for the items that pass: a proof has one more of them than items that split.
+fn pass_count(proofs: &[ProofClaim]) -> usize {
+    let mut count: usize = 0;
+    for proof in proofs {
+        count = count.saturating_add(proof.items.as_slice().len() / 2 + 1);
+    }
+    count
 }
 
 // Takes what the proofs ask for at each place from what is left of their times, if it fits.
@@ -70,7 +79,7 @@ fn take_places(
     let tasks = set.tasks();
     let bound = greatest_deadline(set);
     let mut nodes = Vec::new(alloc);
-    let mut queries = Vec::new(alloc);
+    let mut queries = Vec::with_capacity(alloc, pass_count(proofs))?;
     'places: for i in 0..trees.len() {
         let tree = &trees[i];
         place_queries(tasks, tree, i, proofs, &mut nodes, &mut queries)?;

@@ -9,8 +9,8 @@ use Rattle.drt_check_proofs.proofs.RoomLaws.{each_at, rooms_last, rooms_more, va
 use Rattle.drt_check_proofs.proofs.Withins.{queries_within}
 use Rattle.drt_check_proofs.proofs.passing.take_places.Goals as goal
 
-pub values_at-requires-clause-walks : goal.values_at-requires-clause-walks
-values_at-requires-clause-walks c =
+pub values_at-requires-clause-short : goal.values_at-requires-clause-short
+values_at-requires-clause-short c =
     let tasks = c.args.set.now.tasks in
     let trees = c.args.trees.now in
     let tree = c.index-trees-i.result in

@@ -4,7 +4,7 @@ use Rattle.std.proofs.lemmas.List.{append-nil}
 use Rattle.std.proofs.lemmas.Option.{slice_get_past, slice_get_read}
 use Rattle.drt_evidence.specs.Trees.{higher_count, root}
 use Rattle.drt_evidence.specs.declared.evidence.Item.{Item}
-use Rattle.drt_check_values.specs.declared.Query.{Query}
+use Rattle.drt_check_values.specs.declared.query.Query.{Query}
 use Rattle.drt_check_proofs.specs.Passing.{blank, passes_at, times}
 use Rattle.drt_check_proofs.proofs.Rest.{queries_above, queries_past}
 use Rattle.drt_check_proofs.proofs.queries.add_queries.Goals as goal
