@@ -1,0 +1,5 @@
+//! Lines by hand.
+#![tactic(auto)]
+
+#[cfg(test)]
+mod lines;
