@@ -4,7 +4,6 @@ use Rattle.clap.specs.Words.{App, Rule, Shape, Text, new_app, new_rule, with_rul
 use Rattle.clap.specs.declared.builder.ArgAction.TheVariants.{Set}
 use Rattle.clap.specs.declared.builder.ValueParser.TheVariants as vp
 use Rattle.drt_words.specs.Searches.{most_budget, most_workers}
-use Rattle.drt_words.specs.Number.{most_number}
 
 -- An option of one whole number from 1 to `most`, with a default.
 abbrev pub number_rule : Text → ℕ → Text → Rule
@@ -20,19 +19,6 @@ abbrev pub search_app : Text → App
 search_app name = with_rule (with_rule (new_app name)
     (number_rule (codes "workers") most_workers (codes "4")))
     (number_rule (codes "budget") most_budget (codes "100000"))
-
--- The number that a set is drawn from, which must stand there.
-abbrev pub drawn_rule : Rule
-drawn_rule = record (new_rule (codes "number")) {
-  required = true;
-  action = Some Set;
-  parser = Some (vp.Unsigned 0 most_number);
-}
-
--- The command that draws a set has the option for workers and the number.
-abbrev pub bench_app : App
-bench_app = with_rule (with_rule (new_app (codes "bench"))
-    (number_rule (codes "workers") most_workers (codes "4"))) drawn_rule
 
 -- Help, version and the help subcommand are off, and a subcommand is required.
 abbrev pub bare_top : Shape → Shape
@@ -55,12 +41,8 @@ with_search top name = with_subcommand top (search_app name).top
 abbrev pub with_plain : App → Text → App
 with_plain top name = with_subcommand top (new_app name).top
 
--- The command line with the command that draws a set.
-abbrev pub with_bench : App → App
-with_bench top = with_subcommand top bench_app.top
-
--- The whole command line: the commands `edf`, `sp`, `upgrade`, `util`, `check` and `bench`.
+-- The whole command line: the commands `edf`, `sp`, `upgrade`, `util` and `check`.
 abbrev pub drt_app : App
 drt_app =
-    with_bench (with_plain (with_plain (with_plain (with_search (with_search (bare_app (new_app (codes "drt")))
-    (codes "edf")) (codes "sp")) (codes "upgrade")) (codes "util")) (codes "check"))
+    with_plain (with_plain (with_plain (with_search (with_search (bare_app (new_app (codes "drt")))
+    (codes "edf")) (codes "sp")) (codes "upgrade")) (codes "util")) (codes "check")

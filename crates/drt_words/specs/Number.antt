@@ -3,16 +3,6 @@ use Rattle.std.specs.Prelude.{◌&&◌, ℕ, List, Option, Some, None, if◌then
 use Rattle.std.specs.Str.Parse.{digits_value, without_leading_plus}
 use Rattle.clap.specs.ValueTests.{is_numeral}
 
--- The greatest number of 64 bits.
-abbrev pub most_number : ℕ
-most_number = 18446744073709551615
-
--- The number of a text, where it has at most 64 bits.
-abbrev pub whole_number_in : List ℕ → Option ℕ
-whole_number_in text =
-    let n = digits_value 10 (without_leading_plus text) in
-    if is_numeral (without_leading_plus text) && nat_le n most_number then Some n else None
-
 -- The number of a text, where it lies in 1 to `most`.
 abbrev pub number_in : ℕ → List ℕ → Option ℕ
 number_in most text =

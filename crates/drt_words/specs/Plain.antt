@@ -1,13 +1,12 @@
 -- Plain lists of words, and lists that must be refused.
-use Rattle.std.specs.Prelude.{◌≡◌, ◌≢◌, ◌≤◌, ℕ, List, [], ◌∷◌, ◌++◌, codes, false, None, length, slice_index}
+use Rattle.std.specs.Prelude.{◌≡◌, ◌≢◌, ◌≤◌, ℕ, List, [], ◌∷◌, ◌++◌, codes, false, None, slice_index}
 use Rattle.std.specs.Str.{bytes_eq}
 use Rattle.std.specs.Str.Parse.{IsNumeral, digits_value}
 use Rattle.clap.specs.Lexer.{long_of, short_of}
 use Rattle.clap.specs.ValueTests.{is_unsigned_in}
 use Rattle.drt_words.specs.Searches.{most_budget, most_workers}
-use Rattle.drt_words.specs.Number.{most_number}
 use Rattle.drt_words.specs.declared.meaning.Meaning.{Meaning}
-use Rattle.drt_words.specs.declared.meaning.Meaning.TheVariants.{Edf, Sp, Upgrade, Util, Check, Bench}
+use Rattle.drt_words.specs.declared.meaning.Meaning.TheVariants.{Edf, Sp, Upgrade, Util, Check}
 
 -- The text is a number from 1 to `most` in decimal digits without leading zeros.
 pub record IsPlainNumber (most : ℕ) (text : List ℕ) (n : ℕ) : Type 0 where
@@ -16,13 +15,6 @@ pub record IsPlainNumber (most : ℕ) (text : List ℕ) (n : ℕ) : Type 0 where
   pub value : digits_value 10 text ≡ n
   pub some : 1 ≤ n
   pub within : n ≤ most
-
--- The text is a number of at most 64 bits in decimal digits, without leading zeros unless it is `0`.
-pub record IsPlainWhole (text : List ℕ) (n : ℕ) : Type 0 where
-  pub digits : IsNumeral 10 text
-  pub no_leading_zero : slice_index text 0 ≡ 48 → length text ≡ 1
-  pub value : digits_value 10 text ≡ n
-  pub within : n ≤ most_number
 
 -- An option with its value is spelled `--name value` or `--name=value`.
 pub data Spells (name text : List ℕ) : List (List ℕ) → Type 0 where
@@ -54,18 +46,12 @@ abbrev pub searcher_meaning : Searcher → ℕ → ℕ → Meaning
 searcher_meaning for_edf m n = Edf (record { workers = m; budget = n })
 searcher_meaning for_sp m n = Sp (record { workers = m; budget = n })
 
--- The option of the command that draws a set, with the number that it gives or the default.
-pub data PlainWorkers : List (List ℕ) → ℕ → Type 0 where
-  four_workers : PlainWorkers [] 4
-  some_workers : (words : List (List ℕ)) (a : List ℕ) (m : ℕ) → IsPlainNumber most_workers a m → Spells (codes "workers") a words → PlainWorkers words m
-
--- A plain list: a program name, a command, then that command's options, and for `bench` its number last.
+-- A plain list: a program name, a command, then that command's options.
 pub data IsPlain : List (List ℕ) → Meaning → Type 0 where
   plain_searcher : (program : List ℕ) (command : Searcher) (options : List (List ℕ)) (m n : ℕ) → PlainOptions options m n → IsPlain (program ∷ searcher_word command ∷ options) (searcher_meaning command m n)
   plain_upgrade : (program : List ℕ) → IsPlain (program ∷ codes "upgrade" ∷ []) Upgrade
   plain_util : (program : List ℕ) → IsPlain (program ∷ codes "util" ∷ []) Util
   plain_check : (program : List ℕ) → IsPlain (program ∷ codes "check" ∷ []) Check
-  plain_bench : (program : List ℕ) (options : List (List ℕ)) (text : List ℕ) (m n : ℕ) → PlainWorkers options m → IsPlainWhole text n → IsPlain (program ∷ codes "bench" ∷ (options ++ text ∷ [])) (Bench m n)
 
 -- The word isn't `--` and doesn't read as a flag.
 pub record BeginsPlain (text : List ℕ) : Type 0 where

@@ -14,6 +14,4 @@ pub enum Meaning {
     Util,
     /// The checker's judgement of a dossier.
     Check,
-    /// Both answers to the drawn set of a number, with so many workers.
-    Bench { workers: u32, number: u64 },
 }

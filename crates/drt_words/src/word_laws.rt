@@ -22,7 +22,6 @@ pub fn no_command()
 pub fn unknown_command()
     ensures { (program text : List ℕ) (rest : List (List ℕ)) → BeginsPlain text
         → bytes_eq (codes "edf") text ≡ false → bytes_eq (codes "sp") text ≡ false → bytes_eq (codes "upgrade") text ≡ false → bytes_eq (codes "util") text ≡ false → bytes_eq (codes "check") text ≡ false
-        → bytes_eq (codes "bench") text ≡ false
         → meaning_of (program ∷ text ∷ rest) ≡ None }
 {}
 
