@@ -11,13 +11,14 @@ rules-preserved c = λ rule a l. go rule a l (cases_lt (place rule) c.rules.i)
   where
     here : (rule : Rule) → Applies rule c.args.dossier.now.evidence → place rule ≡ c.rules.i → Keeps rule c.args.dossier.now
     here rule a e = elim c.else-applies.branch [
-      else-applies-via-then-applies+in_ok-keeps+else-not-branch w ↦
+      | else-applies-via-then-applies+in_ok-keeps+else-not-branch w ↦
           let kept = rw w.in_ok-keeps.was at w.keeps.ensures in
           let same = subst (λ n. (d : Rule) → slice_index_or table n d ≡ rule) e (λ d. at_place d rule) in
           subst (λ r. Keeps r c.args.dossier.now) (same _) (kept.0 (grind (arith, w.if-not-branch.false)))
       | else-applies-via-else-applies w ↦
           let same = subst (λ n. (d : Rule) → slice_index_or table n d ≡ rule) e (λ d. at_place d rule) in
-          let t : true ≡ false = sym (c.applies.ensures.1 (subst (λ r. Applies r c.args.dossier.now.evidence) (sym (same _)) a)) ∙ w.if-applies.false in cc ]
+          let t : true ≡ false = sym (c.applies.ensures.1 (subst (λ r. Applies r c.args.dossier.now.evidence) (sym (same _)) a)) ∙ w.if-applies.false in cc
+    ]
 
     go : (rule : Rule) → Applies rule c.args.dossier.now.evidence → place rule < c.rules.i + 1 → (place rule < c.rules.i) ⊎ (c.rules.i ≤ place rule) → Keeps rule c.args.dossier.now
     go rule a l (inl before) = c.rules.invariant rule a before
