@@ -8,7 +8,8 @@ use Rattle.drt_table.specs.Machine.{Setting}
 use Rattle.drt_table.specs.declared.step.TableReply.{TableReply}
 use Rattle.drt_table.specs.declared.step.TableReply.TheVariants.{Taken, Busy, Finished, Added, Dominated, OutOfRange, Closed, Spent}
 use Rattle.drt_shared.specs.Board.{ComesTaken, CanCount, HasMore}
-use Rattle.drt_shared.specs.Passes.{HoldsAfter, Keeps, holding_by, holding_after, one_more, AreHeld, IsHolding}
+use Rattle.drt_shared.specs.Passes.{HoldsAfter, Keeps, holding_by, holding_after, one_more, AreHeld, IsHolding, PassOf, SharedOf, IsNewPass}
+use Rattle.drt_shared.specs.Shared.{IsFresh}
 use Rattle.drt_shared.specs.Replies.{ForReply}
 use Rattle.drt_shared.specs.declared.pass.Holding.{Holding}
 use Rattle.drt_shared.specs.declared.reply.SharedReply.{SharedReply}
@@ -44,10 +45,20 @@ module _ {L : Type 0} where
     held_by (Added k) old taken was comes more = more_held old was more
     held_by (Dominated k) old taken was comes more = more_held old was more
     held_by OutOfRange old taken was comes more = more_held old was more
-    held_by Closed old taken was comes more h e = absurd (none-some h e)
+    held_by Closed old taken was comes more = λ h e. absurd (none-some h e)
     held_by Spent old taken was comes more = was
 
     pub held_after : (reply : SharedReply) (old taken : Option (Holding L)) → AreHeld a t old → AreHeld a t taken → ForReply (λ r. CanCount a t r old) reply → AreHeld a t (holding_after reply old taken)
     held_after (Step r) old taken was comes more = held_by r old taken was comes more
     held_after Halted old taken was comes more = was
     held_after (Strange f) old taken was comes more = was
+
+-- a pass as it is given out is one of the shared table
+pub new_pass : {L : Type 0} (a : Algebra L) (s : SharedOf) (i : ℕ) (p : PassOf L) → IsFresh s.name s.setting i p → IsNewPass a s i p
+new_pass a s i p f = record {
+  of_table = record { name = f.name_is; setting = f.setting_is; held = λ h e. absurd (none-some h (sym f.holding ∙ e)) };
+  number = f.number;
+  count = f.count;
+  holding = f.holding;
+  halted = f.halted;
+}

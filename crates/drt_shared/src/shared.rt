@@ -8,7 +8,7 @@ ghost use Rattle.drt_worklist.specs.Places.{total};
 ghost use Rattle.drt_shared.specs.Board.{CanMove, CanCount, IsCall, IsReplyTo};
 ghost use Rattle.drt_table.specs.Machine.{Setting};
 ghost use Rattle.drt_shared.specs.Finds.{DiffersIfStrange};
-ghost use Rattle.drt_shared.specs.Passes.{IsPassOf, IsNewPass, CanOffer, AreHeld, HasMoved, holding_after, one_more, is_any_halted as any_halted};
+ghost use Rattle.drt_shared.specs.Passes.{IsPassOf, IsNewPass, CanOffer, AreHeld, HasMoved, holding_after, holding_by, one_more, is_any_halted as any_halted};
 ghost use Rattle.drt_shared.specs.Replies.{ForReply, IsOfTake, IsOfOffer, IsOfClose, logged};
 ghost use Rattle.drt_shared.specs.declared.pass.Holding.{Holding};
 ghost use Rattle.drt_model.specs.Digraph.{out_degree};
@@ -240,16 +240,26 @@ fn hold<L: Label>(holding: &mut Option<Holding<L>>, reply: SharedReply, taken: O
     ensures { holding.new ≡ holding_after reply holding.old taken }
 {
     match reply {
-        SharedReply::Step(TableReply::Taken(_)) => *holding = taken,
-        SharedReply::Step(TableReply::Added(_)) => count_offer(holding),
-        SharedReply::Step(TableReply::Dominated(_)) => count_offer(holding),
-        SharedReply::Step(TableReply::OutOfRange) => count_offer(holding),
-        SharedReply::Step(TableReply::Closed) => *holding = None,
-        SharedReply::Step(TableReply::Busy(_)) => {}
-        SharedReply::Step(TableReply::Finished) => {}
-        SharedReply::Step(TableReply::Spent) => {}
+        SharedReply::Step(step) => hold_by(holding, step, taken),
         SharedReply::Halted => {}
         SharedReply::Strange(_) => {}
+    }
+}
+
+// What it holds after a reply of the table.
+fn hold_by<L: Label>(holding: &mut Option<Holding<L>>, reply: TableReply, taken: Option<Holding<L>>)
+    requires { (setting : Setting) × CanCount L.algebra setting reply holding.old }
+    ensures { holding.new ≡ holding_by reply holding.old taken }
+{
+    match reply {
+        TableReply::Taken(_) => *holding = taken,
+        TableReply::Busy(_) => {}
+        TableReply::Finished => {}
+        TableReply::Added(_) => count_offer(holding),
+        TableReply::Dominated(_) => count_offer(holding),
+        TableReply::OutOfRange => count_offer(holding),
+        TableReply::Closed => *holding = None,
+        TableReply::Spent => {}
     }
 }
 
