@@ -1,11 +1,11 @@
 -- Tables whose pending nodes have their spares: a step and a label that is handed out keep them so.
-use Rattle.std.proofs.Common.{◌≡◌, ℕ, zero, suc, ◌+◌, ◌<◌, ◌≤◌, ◌⊎◌, Bool, true, false, Option, Some, None, List, [], ◌∷◌, ◌++◌, length, map, refl, sym, ap, ◌∙◌, subst, ⊎_elim, arith}
+use Rattle.std.proofs.Common.{◌≡◌, ℕ, zero, suc, ◌+◌, ◌<◌, ◌≤◌, Bool, true, Some, List, [], ◌∷◌, ◌++◌, length, refl, sym, ap, ◌∙◌, subst, ⊎_elim, arith}
 use Rattle.std.specs.Prelude.{slice_get, IsTrue, option_map, replicate}
 use Rattle.std.proofs.lemmas.List.{length-map}
 use Rattle.std.proofs.lemmas.Option.{none-some, same_Some, slice_get-map, slice_get_within}
 use Rattle.drt_label.specs.Algebra.{Algebra, Laws}
 use Rattle.drt_table.specs.Held.{hand_out}
-use Rattle.drt_table.specs.Machine.{Setting, State, Outcome, step_of}
+use Rattle.drt_table.specs.Machine.{State, Outcome}
 use Rattle.drt_table.specs.Node.{NodeOf, Held, is_pending, is_taken, is_pending_state, is_taken_state, is_held_by}
 use Rattle.drt_table.specs.declared.node.NodeState.{NodeState}
 use Rattle.drt_table.specs.declared.node.NodeState.TheVariants.{Pending, Taken as TakenBy, Done}
@@ -123,9 +123,9 @@ handed_spares {L} old new id has can nodes k h at waits =
     let b : Before id hand_out old.nodes k h = before_change id hand_out old.nodes k h (ap (λ xs. slice_get xs k) (sym nodes) ∙ at) in
     ⊎_elim
     (λ (p : (k ≡ id) × (h ≡ hand_out b.old)).
-      let one : b.old ≡ can.0 = same_Some b.old can.0 (sym b.at ∙ (ap (λ i. slice_get old.nodes i) p.0 ∙ can.1)) in
-      let no : is_taken h.node ≡ true = ap (λ (x : Held L). is_taken x.node) p.1 ∙ (ap (λ (x : Held L). is_taken x.node) one ∙ can.3) in
-      absurd (not_both h.node.state waits no))
+    let one : b.old ≡ can.0 = same_Some b.old can.0 (sym b.at ∙ (ap (λ i. slice_get old.nodes i) p.0 ∙ can.1)) in
+    let no : is_taken h.node ≡ true = ap (λ (x : Held L). is_taken x.node) p.1 ∙ (ap (λ (x : Held L). is_taken x.node) one ∙ can.3) in
+    absurd (not_both h.node.state waits no))
     (λ (e : h ≡ b.old). ap (λ (x : Held L). x.spare) e ∙ has k b.old b.at (ap (λ (x : Held L). is_pending x.node) (sym e) ∙ waits)) b.is
 
 -- what is handed out is a label of the table

@@ -1,6 +1,6 @@
 -- A call on the table: what a look at the table shows, and what the call then makes of a step.
-use Rattle.std.proofs.Common.{◌≡◌, ℕ, ◌+◌, ◌<◌, ◌≤◌, Bool, true, false, Option, Some, None, List, length, refl, sym, ap, ◌∙◌, subst, arith}
-use Rattle.std.specs.Prelude.{slice_get, IsTrue, is_none, ◌&&◌, ◌==◌}
+use Rattle.std.proofs.Common.{◌≡◌, ℕ, ◌<◌, ◌≤◌, true, false, Option, Some, None, List, length, refl, sym, ap, ◌∙◌, subst, arith}
+use Rattle.std.specs.Prelude.{slice_get, is_none, ◌&&◌, ◌==◌}
 use Rattle.std.proofs.lemmas.Bool.Decides.{nat_tests}
 use Rattle.std.proofs.lemmas.Option.{none-some, same_Some}
 use Rattle.drt_label.specs.Algebra.{Algebra, Laws}
@@ -11,7 +11,6 @@ use Rattle.drt_table.specs.Taking.{taken_node}
 use Rattle.drt_table.specs.View.{View, CanApply, ComesWith, setting_of, state_of}
 use Rattle.drt_table.specs.declared.node.NodeState.{NodeState}
 use Rattle.drt_table.specs.declared.node.NodeState.TheVariants.{Pending, Taken as TakenBy, Done}
-use Rattle.drt_table.specs.declared.step.TableStep.{TableStep}
 use Rattle.drt_table.specs.declared.step.TableStep.TheVariants.{Take as TakeStep, Offer as OfferStep, Close as CloseStep}
 use Rattle.drt_table.specs.declared.step.TableReply.{TableReply}
 use Rattle.drt_table.specs.declared.step.TableReply.TheVariants.{Taken, Busy, Finished, Added, Dominated, OutOfRange, Closed, Spent}
@@ -21,8 +20,8 @@ use Rattle.drt_table.proofs.Earliest.{and_left, and_right}
 use Rattle.drt_worklist.specs.Places.{first}
 use Rattle.drt_worklist.proofs.Lists.{Found as FoundAt, found, none_found}
 use Rattle.drt_shared.specs.Board.{ComesTaken, CanMove, CanCount, HasMore, CanHandOut, HandsOut, IsLogged, IsCall}
-use Rattle.drt_shared.specs.Finds.{is_same, is_label_of, found_node, found_at, found_for, is_number, is_expected}
-use Rattle.drt_shared.specs.Passes.{HoldsNew, AreHeld, IsHolding, IsLabel, CanOffer}
+use Rattle.drt_shared.specs.Finds.{is_same, found_node, found_at, found_for, is_number, is_expected}
+use Rattle.drt_shared.specs.Passes.{AreHeld, IsHolding, IsLabel, CanOffer}
 use Rattle.drt_shared.specs.Replies.{IsOfTake, IsOfOffer, IsOfClose}
 use Rattle.drt_shared.specs.declared.pass.Holding.{Holding}
 use Rattle.drt_shared.specs.declared.reply.Found.{Found}
@@ -143,8 +142,7 @@ module _ {L : Type 0} (a : Algebra L) (laws : Laws a) (v : View L) (w : ℕ) (o 
       let one : held.0.node ≡ x.node = same_Some held.0.node x.node (sym (at_node a laws v table h.node held.0 held.1) ∙ x.holds.at) in
       let same : held.0.node.offered ≡ h.offered = ap (λ (n : NodeOf L). n.offered) one ∙ x.offered in
       let c : CanOffer a (setting_of v) g k l = subst (λ (y : Holding L). CanOffer a (setting_of v) y k l) (same_Some can.0 g (sym can.1 ∙ at)) can.2 in
-      let few : h.offered < 1000 = (let f : held.0.node.offered < 1000 = held.2 in omega arith) in
-      (
+      let few : h.offered < 1000 = (let f : held.0.node.offered < 1000 = held.2 in omega arith) in (
         subst (λ (y : Holding L). y.offered < 1000) (sym (one_held g at)) few,
         subst (λ n. n < out_degree v.graph (a.vertex g.label)) c.next c.within,
       )

@@ -1,8 +1,8 @@
 -- Each step of the table machine, as to its log, its reply, and the nodes that wait after it.
-use Rattle.std.proofs.Common.{◌≡◌, ℕ, ◌+◌, ◌<◌, ◌⊎◌, Bool, true, false, cond, Option, Some, None, List, [], ◌∷◌, ◌++◌, length, map, refl, sym, ap, ◌∙◌, subst, inl, inr, ⊎_elim, arith, length-append}
-use Rattle.std.specs.Prelude.{slice_get, IsTrue, ◌&&◌, nat_lt}
+use Rattle.std.proofs.Common.{◌≡◌, ℕ, ◌+◌, ◌⊎◌, Bool, true, false, cond, Option, Some, None, List, [], ◌∷◌, ◌++◌, length, refl, ◌∙◌, subst, inl, inr, ⊎_elim, arith, length-append}
+use Rattle.std.specs.Prelude.{slice_get, ◌&&◌, nat_lt}
 use Rattle.drt_label.specs.Algebra.{Algebra}
-use Rattle.drt_table.specs.Machine.{Setting, State, Outcome, in_range, extended, is_full, unchanged, logged, offset, offset_at, separation, next, holder, takes, taken, drop_by, dominating, added, compared, counted, offered, offered_at, step_of}
+use Rattle.drt_table.specs.Machine.{Setting, State, Outcome, in_range, extended, is_full, unchanged, offset, offset_at, separation, next, holder, takes, taken, drop_by, dominating, added, compared, counted, offered, offered_at, step_of}
 use Rattle.drt_table.specs.Node.{NodeOf, is_kept, is_pending, is_taken, fresh}
 use Rattle.drt_table.specs.declared.node.NodeState.TheVariants.{Taken as TakenBy, Done}
 use Rattle.drt_table.specs.declared.step.TableStep.{TableStep}

@@ -1,5 +1,5 @@
 -- A table behind the lock, and one call on it.
-use Rattle.std.specs.Prelude.{◌≡◌, ℕ, ◌+◌, ◌<◌, ◌≤◌, IsTrue, Option, None, Some, slice_get, List, length}
+use Rattle.std.specs.Prelude.{◌≡◌, ℕ, ◌+◌, ◌<◌, ◌≤◌, IsTrue, Option, None, Some, slice_get, length}
 use Rattle.drt_label.specs.Algebra.{Algebra}
 use Rattle.drt_model.specs.Digraph.{out_degree}
 use Rattle.drt_table.specs.Machine.{Setting}
@@ -15,7 +15,6 @@ use Rattle.drt_shared.specs.declared.pass.Holding.{Holding}
 use Rattle.drt_shared.specs.declared.reply.Move.{Move}
 use Rattle.drt_shared.specs.declared.reply.Move.TheVariants.{Take, Offer, Close}
 use Rattle.drt_shared.specs.declared.reply.SharedReply.{SharedReply}
-use Rattle.drt_shared.specs.declared.reply.SharedReply.TheVariants.{Step, Halted, Strange}
 
 module _ {L : Type 0} where
   -- Each pending node has its spare.

@@ -1,5 +1,5 @@
 -- What a call finds under the lock.
-use Rattle.std.specs.Prelude.{◌≡◌, ℕ, ◌==◌, Bool, true, false, ◌&&◌, Option, None, Some, is_none, List, slice_get}
+use Rattle.std.specs.Prelude.{◌≡◌, ℕ, ◌==◌, Bool, false, ◌&&◌, Option, None, Some, is_none, List, slice_get}
 use Rattle.drt_label.specs.Algebra.{Algebra}
 use Rattle.drt_worklist.specs.Places.{first}
 use Rattle.drt_table.specs.Node.{NodeOf, is_held_by}

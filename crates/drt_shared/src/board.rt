@@ -50,7 +50,12 @@ impl<L: Label> Guarded for Board<L> {
 }
 
 impl<L: Label> Board<L> {
-    pub(crate) fn start(alloc: Global, graph: &Graph, bound: u64, budget: u64) -> Result<Board<L>, Memory>
+    pub(crate) fn start(
+        alloc: Global,
+        graph: &Graph,
+        bound: u64,
+        budget: u64,
+    ) -> Result<Board<L>, Memory>
         requires bound { IsTrue (L.algebra.takes_bound bound) }
         requires budget { (1 ≤ budget) × (budget ≤ 1000000) }
         ensures setting { IfOk result (λ board. setting_of board ≡ record { graph = graph.now; bound = bound; budget = budget }) }

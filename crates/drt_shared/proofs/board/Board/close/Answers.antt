@@ -1,4 +1,4 @@
-use Rattle.drt_shared.proofs.Calls.{may_close, close_call}
+use Rattle.drt_shared.proofs.Calls.{may_close}
 use Rattle.drt_shared.proofs.board.Board.close.Goals as goal
 
 pub apply-requires-clause-can : goal.apply-requires-clause-can

@@ -1,6 +1,6 @@
 use Rattle.std.proofs.Common.{sym, ◌∙◌}
 use Rattle.drt_table.specs.View.{setting_of, state_of}
-use Rattle.drt_shared.proofs.Calls.{may_take, hands_node, take_call, taken_call}
+use Rattle.drt_shared.proofs.Calls.{may_take, hands_node}
 use Rattle.drt_shared.proofs.board.Board.take.Goals as goal
 
 pub apply-reply-requires-clause-can : goal.apply-reply-requires-clause-can

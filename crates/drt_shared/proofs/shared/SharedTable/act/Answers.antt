@@ -1,4 +1,4 @@
-use Rattle.std.proofs.Common.{◌≡◌, ◌∷◌, ap, subst, ◌∙◌, sym, rules}
+use Rattle.std.proofs.Common.{◌∷◌, ap, subst, ◌∙◌, sym, rules}
 use Rattle.atomic_table.specs.Table.{rest}
 use Rattle.drt_lock.proofs.Steps.{held_is}
 use Rattle.drt_table.specs.View.{setting_of}

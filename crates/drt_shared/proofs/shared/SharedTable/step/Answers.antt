@@ -1,9 +1,9 @@
 use Rattle.std.proofs.Common.{ap, subst, sym, ◌∙◌, rules}
 use Rattle.drt_table.specs.View.{setting_of}
 use Rattle.drt_shared.specs.Board.{CanMove, CanCount}
-use Rattle.drt_shared.specs.Passes.{AreHeld, Keeps}
+use Rattle.drt_shared.specs.Passes.{AreHeld}
 use Rattle.drt_shared.specs.Replies.{ForReply}
-use Rattle.drt_shared.proofs.Holds.{keeps, held_after}
+use Rattle.drt_shared.proofs.Holds.{held_after}
 use Rattle.drt_shared.proofs.shared.SharedTable.step.Goals as goal
 
 pub act-reply-requires-clause-can : goal.act-reply-requires-clause-can
