@@ -1,0 +1,138 @@
+//! Turning all passes.
+
+ghost use Rattle.std.specs.Prelude.{◌≡◌, ℕ, ◌<◌, ◌≤◌, length, IfNone, is_none, true};
+ghost use Rattle.drt_pool.specs.Turns.{AtPlace, EachPlace};
+
+use crate::gate::Gate;
+use crate::work::{Turn, Work};
+use std::sync::Wait;
+use std::thread;
+use std::thread::{Threads, available_parallelism};
+
+/// The most passes of one run.
+const MOST: usize = 16;
+
+/// Turns each pass until it answers Stop. The caller turns the first pass alone for as many turns as the gate leaves it.
+/// Where it stops within them the caller turns the others too, one after another; else the passes are shared among workers, no
+/// more than there are processors, of which the caller is one. Where no thread can be had the caller does its work.
+pub fn run_all<W: Work, G: Gate, R: Threads + Wait + Sync>(
+    rt: &R,
+    work: &W,
+    passes: &mut [W::Pass],
+    gate: &G,
+)
+    requires count { length passes.old ≤ 16 }
+    requires fits { EachPlace (W.fits work.now) passes.old }
+    ensures count { length passes.new ≡ length passes.old }
+    ensures fits { EachPlace (W.fits work.now) passes.new }
+    ensures ended { EachPlace (W.ended work.now) passes.new }
+{
+    if passes.is_empty() {
+        return;
+    }
+    let alone = gate.alone();
+    if begin(rt, work, &mut passes[0], gate, alone) {
+        turn_others(rt, work, passes, gate);
+    } else {
+        turn_beside(rt, work, passes, gate, alone);
+    }
+}
+
+// Turns the first pass so many times, or until it answers Stop, and says whether it did.
+fn begin<W: Work, G: Gate, R: Wait>(
+    rt: &R,
+    work: &W,
+    pass: &mut W::Pass,
+    gate: &G,
+    alone: u64,
+) -> bool
+    requires { W.fits work.now 0 pass.old }
+    ensures fits { W.fits work.now 0 pass.new }
+    ensures ended { result ≡ true → W.ended work.now 0 pass.new }
+{
+    for turn in 0..alone {
+        gate.before(0, turn);
+        if work.turn(rt, pass) == Turn::Stop {
+            return true;
+        }
+    }
+    false
+}
+
+// Turns the passes after the first, one after another.
+fn turn_others<W: Work, G: Gate, R: Wait>(rt: &R, work: &W, passes: &mut [W::Pass], gate: &G)
+    requires some { 0 < length passes.old }
+    requires count { length passes.old ≤ 16 }
+    requires fits { EachPlace (W.fits work.now) passes.old }
+    requires first { AtPlace (W.ended work.now) 0 passes.old }
+    ensures count { length passes.new ≡ length passes.old }
+    ensures fits { EachPlace (W.fits work.now) passes.new }
+    ensures ended { EachPlace (W.ended work.now) passes.new }
+{
+    for place in 1..passes.len() {
+        turn_all(rt, work, &mut passes[place], gate, place, 0);
+    }
+}
+
+// Turns all passes, each by a worker of its own where there are as many. The first one was turned so many times.
+fn turn_beside<W: Work, G: Gate, R: Threads + Wait + Sync>(
+    rt: &R,
+    work: &W,
+    passes: &mut [W::Pass],
+    gate: &G,
+    turned: u64,
+)
+    requires count { length passes.old ≤ 16 }
+    requires fits { EachPlace (W.fits work.now) passes.old }
+    ensures count { length passes.new ≡ length passes.old }
+    ensures fits { EachPlace (W.fits work.now) passes.new }
+    ensures ended { EachPlace (W.ended work.now) passes.new }
+{
+    let worker = move |place: usize, pass: &mut W::Pass|
+        requires { (place < 16) × W.fits work.now place pass.now }
+        ensures { W.fits work.entry.now place pass.exit.now × W.ended work.entry.now place pass.exit.now }
+    {
+        let from = if place == 0 { turned } else { 0 };
+        turn_all(rt, work, pass, gate, place, from)
+    };
+    thread::for_each_mut(rt, passes, worker_limit(rt, turned), &worker);
+}
+
+// How many workers may be begun: as many as there are processors, or one for each pass where the gate may wait for another
+// worker.
+fn worker_limit<R: Threads>(rt: &R, alone: u64) -> usize
+    ensures { 0 < result }
+{
+    if alone == 0 {
+        return MOST;
+    }
+    match available_parallelism(rt) {
+        Ok(processors) => processors.get(),
+        Err(_) => 1,
+    }
+}
+
+// Turns the pass of a place until it answers Stop. The first of these turns has the number `from`.
+fn turn_all<W: Work, G: Gate, R: Wait>(
+    rt: &R,
+    work: &W,
+    pass: &mut W::Pass,
+    gate: &G,
+    place: usize,
+    from: u64,
+)
+    requires place { place < 16 }
+    requires fits { W.fits work.now place pass.old }
+    ensures fits { W.fits work.now place pass.new }
+    ensures ended { W.ended work.now place pass.new }
+{
+    let mut turn = from;
+    for _ in rt.forever() {
+        gate.before(place as u32, turn);
+        if work.turn(rt, pass) == Turn::Stop {
+            return;
+        }
+        turn = turn.saturating_add(1);
+    }
+    unreachable!()
+}
