@@ -1,0 +1,6 @@
+pub mod Net
+pub mod Waves
+pub mod Seats
+pub mod Cells
+pub mod Greatest
+pub mod Dense
