@@ -12,7 +12,7 @@ use Rattle.drt_wave.specs.declared.view.Note.{Note}
 use Rattle.drt_wave.proofs.Sums.{greatest_at, greatest_term, most_among, among_most}
 
 -- every work that reaches a cell is more than 0
-positive : (g : Net) (n c x : ℕ) → Reaches g n c x → 0 < x
+pub positive : (g : Net) (n c x : ℕ) → Reaches g n c x → 0 < x
 positive g zero c x r = r.1
 positive g (suc n) c x r = let y = positive g n r.0 r.1 r.4 in omega (arith, r.6)
 

@@ -6,3 +6,5 @@ pub mod Cells
 pub mod Working
 pub mod OpenWords
 pub mod Walks
+pub mod Kept
+pub mod Tails

@@ -4,3 +4,6 @@ pub mod Seats
 pub mod Cells
 pub mod Greatest
 pub mod Dense
+pub mod Fronts
+pub mod Gathered
+pub mod Backwards

@@ -9,11 +9,13 @@
 mod dense;
 mod expanding;
 mod filling;
+mod gathering;
 mod opening;
 mod plan;
 mod rule;
 mod table;
 mod view;
+mod walking;
 mod works;
 
 pub use dense::DenseFront;

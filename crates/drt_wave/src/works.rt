@@ -1,5 +1,5 @@
 //! The works of a finished table.
-ghost use Rattle.std.specs.Prelude.{◌≡◌, ◌<◌, ◌≤◌};
+ghost use Rattle.std.specs.Prelude.{◌≡◌, ◌+◌, ◌<◌, ◌≤◌};
 ghost use Rattle.drt_model.specs.Digraph.{vertex_count};
 ghost use Rattle.drt_wave.specs.Cells.{IsPlan};
 ghost use Rattle.drt_wave.specs.Dense.{AreBest, work_at};
@@ -29,6 +29,13 @@ impl DenseFront {
         ensures { result ≡ self.now.plan.bound }
     {
         self.plan.bound
+    }
+
+    // How many offsets there are.
+    pub(crate) fn width(&self) -> u64
+        ensures { result ≡ self.now.plan.bound + 1 }
+    {
+        self.plan.bound + 1
     }
 
     // The cell of a vertex and an offset.
