@@ -14,7 +14,7 @@ use Rattle.drt_graph.proofs.Paths.{span_cons, span_none}
 use Rattle.drt_wave.specs.Cells.{IsPlan}
 use Rattle.drt_wave.specs.Dense.{Dense, AreBest, work_at}
 use Rattle.drt_wave.specs.Greatest.{IsInRange, IsWalkFrom, HasWalk, IsGreatestWork}
-use Rattle.drt_wave.specs.Fronts.{IsRangeEntry, IsWalkEntry, Covers, IsNonDominated, IsFrontOf, IsExactFront, IsNextEntry}
+use Rattle.drt_wave.specs.Fronts.{IsRangeEntry, IsWalkEntry, Covers, IsNonDominated, IsFrontOf, IsExactFront, CoversAll, IsNextEntry}
 use Rattle.drt_wave.specs.Gathered.{IsKept, IsBefore, AreGathered, IsMost}
 use Rattle.drt_wave.proofs.Walks.{greatest_at, has_bounds}
 
@@ -76,6 +76,39 @@ module _ (d : Dense) (plan : IsPlan d.plan) (best : AreBest d.plan d.cells) wher
   pub gathered_front : (entries : List FrontEntry) → AreGathered d (vertex_count d.plan.graph) 0 entries → IsFrontOf IsLabel entries
   gathered_front entries g e = (λ has. kept_alone e (g.kept e has).0, λ n. let k = alone_kept e n in g.all e k (inl k.vertex))
 
+  -- At an offset below n there is at least so much work, or there is less at each.
+  some_above : (v w n : ℕ) → ((t : ℕ) × (t < n) × (w ≤ work_at d v t)) ⊎ ((t : ℕ) → t < n → work_at d v t < w)
+  some_above v w zero = inr (λ t lt. absurd (omega arith))
+  some_above v w (suc n) = dite (dec_le w (work_at d v n))
+      (λ le. inl (n, omega arith, le))
+      (λ nle. ⊎_elim
+      (λ (f : (t : ℕ) × (t < n) × (w ≤ work_at d v t)). let l = f.1 in inl (f.0, omega (arith, l), f.2))
+      (λ (all : (t : ℕ) → t < n → work_at d v t < w). inr (λ t lt. dite (ℕ_discrete t n)
+          (λ (e : t ≡ n). subst (λ z. work_at d v z < w) (sym e) (omega arith))
+          (λ ne. all t (omega arith))))
+      (some_above v w n))
+
+  -- What is kept covers each work of a cell.
+  kept_covers : (n v s x : ℕ) → s < n → v < vertex_count d.plan.graph → s ≤ d.plan.bound → 0 < x → x ≤ work_at d v s → (k : FrontEntry) × IsKept d k × Covers v s x k
+  kept_covers zero v s x lt ltv le some fits = absurd (omega arith)
+  kept_covers (suc n) v s x lt ltv le some fits = ⊎_elim
+      (λ (f : (t : ℕ) × (t < s) × (work_at d v s ≤ work_at d v t)).
+      let early = f.1 in let more = f.2 in
+      let r = kept_covers n v f.0 x (omega (arith, early)) ltv (omega (arith, early)) some (omega (arith, more)) in
+      let off = r.2.1 in (r.0, r.1, (r.2.0, omega (arith, off, early), r.2.2)))
+      (λ (all : (t : ℕ) → t < s → work_at d v t < work_at d v s).
+      (entry v s (work_at d v s), record { vertex = ltv; offset = le; works = refl; some = omega arith; above = all }, (refl, omega arith, fits)))
+      (some_above v (work_at d v s) s)
+
+  -- Such a front covers each label.
+  pub gathered_covers : (entries : List FrontEntry) → AreGathered d (vertex_count d.plan.graph) 0 entries → CoversAll IsLabel entries
+  gathered_covers entries g e label =
+      let b = has_bounds d.plan plan e.vertex e.offset e.work label in
+      let le = (greatest e.vertex e.offset b.0 b.1).1 e.work label in
+      let r = kept_covers (e.offset + 1) e.vertex e.offset e.work (omega arith) b.0 b.1 b.2 le in
+      let has = g.all r.0 r.1 (inl r.1.vertex) in
+      (has.0, r.0, has.1, has.2, r.2)
+
   -- With constrained deadlines each prefix of a walk is due before the walk's last job.
   all_in_range : IsConstrainedGraph d.plan.graph → (s u : ℕ) (vs : List ℕ) → IsPath d.plan.graph u vs → s + span d.plan.graph u vs + deadline d.plan.graph (last_of u vs) ≤ d.plan.bound → IsInRange d.plan.graph d.plan.bound s u vs
   all_in_range con s u [] path due = let none = span_none d.plan.graph u in omega (arith, due, none)
@@ -134,6 +167,9 @@ module _ (d : Dense) (plan : IsPlan d.plan) (best : AreBest d.plan d.cells) wher
     (λ has. let n = (front e).0 has in record { label = walk_of_range e n.label; alone = λ o w covers. n.alone o (range_of_walk con o w) covers }),
     (λ n. (front e).1 record { label = range_of_walk con e n.label; alone = λ o w covers. n.alone o (walk_of_range o w) covers }),
   )
+
+  pub constrained_covers : (entries : List FrontEntry) → CoversAll IsLabel entries → IsConstrainedGraph d.plan.graph → CoversAll (IsWalkEntry d.plan.graph d.plan.bound) entries
+  constrained_covers entries all con e w = all e (range_of_walk con e w)
 
 -- One more at the end of a list, which stands behind each of it.
 neighbours_more : {X : Type 0} (R : X → X → Type 0) (xs : List X) (y : X) → AllNeighbours R xs → ((x : X) → Contains xs x → R x y) → AllNeighbours R (xs ++ y ∷ [])

@@ -1,5 +1,5 @@
 -- Fronts: the labels of walks that no other label covers.
-use Rattle.std.specs.Prelude.{◌≡◌, ℕ, ◌+◌, ◌≤◌, ◌<◌, ◌⊎◌, ◌↔◌, List, ◌∷◌, Contains}
+use Rattle.std.specs.Prelude.{◌≡◌, ℕ, ◌+◌, ◌≤◌, ◌<◌, ◌⊎◌, ◌↔◌, List, ◌∷◌, Any, Contains}
 use Rattle.drt_model.specs.Digraph.{Digraph, vertex_count}
 use Rattle.drt_model.specs.Walk.{IsPath, deadline, last_of, span, work}
 use Rattle.drt_model.specs.declared.front.FrontEntry.{FrontEntry}
@@ -36,6 +36,10 @@ IsFrontOf IsLabel front = (e : FrontEntry) → Contains front e ↔ IsNonDominat
 -- The front has exactly the labels, of walks whose last job is due within the bound, that no other one covers.
 abbrev pub IsExactFront : ℕ → Digraph → List FrontEntry → Type 0
 IsExactFront bound g front = IsFrontOf (IsWalkEntry g bound) front
+
+-- Each of some labels is covered by an entry of the front.
+abbrev pub CoversAll : (FrontEntry → Type 0) → List FrontEntry → Type 0
+CoversAll IsLabel front = (e : FrontEntry) → IsLabel e → Any (Covers e.vertex e.offset e.work) front
 
 -- The next entry is of a later vertex, or of the same one with a greater offset and a greater work.
 abbrev pub IsNextEntry : FrontEntry → FrontEntry → Type 0

@@ -2,7 +2,7 @@
 ghost use Rattle.std.specs.Prelude.{◌≡◌, ◌+◌, ◌<◌, ◌≤◌, IfOk};
 ghost use Rattle.drt_model.specs.Digraph.{IsConstrainedGraph, vertex_count};
 ghost use Rattle.drt_model.specs.Legal.{AllNeighbours};
-ghost use Rattle.drt_wave.specs.Fronts.{IsRangeEntry, IsFrontOf, IsExactFront, IsNextEntry};
+ghost use Rattle.drt_wave.specs.Fronts.{IsRangeEntry, IsWalkEntry, IsFrontOf, IsExactFront, CoversAll, IsNextEntry};
 ghost use Rattle.drt_wave.specs.Gathered.{AreGathered, IsMost};
 
 use crate::dense::DenseFront;
@@ -56,7 +56,9 @@ impl DenseFront {
     pub fn front(&self, alloc: Global) -> Result<Row<FrontEntry>, Memory>
         ensures ordered { IfOk result (λ front. AllNeighbours IsNextEntry front) }
         ensures non_dominated { IfOk result (λ front. IsFrontOf (IsRangeEntry self.now.plan.graph self.now.plan.bound) front) }
+        ensures covers { IfOk result (λ front. CoversAll (IsRangeEntry self.now.plan.graph self.now.plan.bound) front) }
         ensures exact { IfOk result (λ front. IsConstrainedGraph self.now.plan.graph → IsExactFront self.now.plan.bound self.now.plan.graph front) }
+        ensures covers_walks { IfOk result (λ front. IsConstrainedGraph self.now.plan.graph → CoversAll (IsWalkEntry self.now.plan.graph self.now.plan.bound) front) }
     {
         self.keeps_best();
         let count = self.graph().vertex_count();
