@@ -1,14 +1,13 @@
 -- Greatest works, and what stays known of them while cells grow.
-use Rattle.std.proofs.Common.{◌≡◌, ◌≢◌, ℕ, zero, suc, ◌+◌, ◌<◌, ◌≤◌, max, List, [], ◌∷◌, get_or, sym, refl, ap, ◌∙◌, subst, inl, inr, ⊎_elim, arith, Some, None}
+use Rattle.std.proofs.Common.{◌≡◌, ◌≢◌, ℕ, zero, suc, ◌+◌, ◌<◌, ◌≤◌, max, List, get_or, sym, ◌∙◌, subst, arith}
 use mathlib.Core.Logic.{dite}
 use mathlib.Core.Option.{some}
 use native.Mathlib.Decide.{dec_le, ℕ_discrete}
 use lib.ListN.{get_elem?}
 use Rattle.atomic_table.specs.Table.{State}
 use Rattle.drt_wave.specs.Net.{Net, IsNet, Among, Reaches, Reached, IsBest}
-use Rattle.drt_wave.specs.Waves.{greatest, most, IsDone, IsTrueNote, IsExpanded, AllExpanded, AllDrawn, Knows, InWaves}
+use Rattle.drt_wave.specs.Waves.{greatest, most, IsDone, IsExpanded, AllExpanded, AllDrawn, Knows, InWaves}
 use Rattle.drt_wave.specs.declared.view.View.{View}
-use Rattle.drt_wave.specs.declared.view.Note.{Note}
 use Rattle.drt_wave.proofs.Sums.{greatest_at, greatest_term, most_among, among_most}
 
 -- every work that reaches a cell is more than 0

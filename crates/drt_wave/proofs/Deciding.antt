@@ -1,7 +1,7 @@
 -- Whether a seat has expanded all that it drew can be decided, since a view is plain data.
-use Rattle.std.proofs.Common.{◌≡◌, ◌≢◌, ◌⊎◌, ℕ, zero, suc, ◌+◌, ◌/◌, arith, ◌<◌, ◌≤◌, List, [], ◌∷◌, refl, sym, ap, ◌∙◌, subst, inl, inr, ⊎_elim}
+use Rattle.std.proofs.Common.{◌≡◌, ◌≢◌, ℕ, zero, suc, ◌+◌, ◌/◌, arith, ◌<◌, ◌≤◌, List, [], ◌∷◌, refl, sym, ap, subst, inl, inr, ⊎_elim}
 use mathlib.Core.Logic.{dite}
-use native.Mathlib.Decide.{ℕ_discrete, dec_le, dec_lt}
+use native.Mathlib.Decide.{ℕ_discrete, dec_le}
 use Rattle.drt_wave.specs.Net.{Net, Among}
 use Rattle.drt_wave.specs.Waves.{IsExpanded, AllExpanded}
 use Rattle.drt_wave.specs.declared.view.View.{View}

@@ -1,11 +1,11 @@
 -- The labels that no other one covers, and the entries gathered so far.
-use Rattle.std.proofs.Common.{◌≡◌, ◌≢◌, ◌⊎◌, ℕ, zero, suc, ◌+◌, ◌<◌, ◌≤◌, List, [], ◌∷◌, ◌++◌, length, get_or, refl, sym, ap, ◌∙◌, subst, inl, inr, ⊎_elim, arith}
-use Rattle.std.specs.Prelude.{◌↔◌, Contains, slice_index}
+use Rattle.std.proofs.Common.{◌≡◌, ◌⊎◌, ℕ, zero, suc, ◌+◌, ◌<◌, ◌≤◌, List, [], ◌∷◌, ◌++◌, refl, sym, ap, ◌∙◌, subst, inl, inr, ⊎_elim, arith}
+use Rattle.std.specs.Prelude.{Contains}
 use Rattle.std.proofs.lemmas.List.Elements.{Contains-append_left, Contains-append_right, Contains-append_cases}
 use mathlib.Core.Logic.{dite}
 use native.Mathlib.Decide.{ℕ_discrete, dec_lt, dec_le}
-use Rattle.drt_model.specs.Digraph.{Digraph, IsSound, IsConstrainedGraph, vertex_count}
-use Rattle.drt_model.specs.Walk.{IsPath, IsEdge, gap, wcet, deadline, last_of, work, span}
+use Rattle.drt_model.specs.Digraph.{IsConstrainedGraph, vertex_count}
+use Rattle.drt_model.specs.Walk.{IsPath, gap, deadline, last_of, span}
 use Rattle.drt_model.specs.Legal.{AllNeighbours}
 use Rattle.drt_model.proofs.Neighbours.{AllNeighbours-one, AllNeighbours-head, AllNeighbours-tail, AllNeighbours-cons}
 use Rattle.drt_model.specs.declared.front.FrontEntry.{FrontEntry}
@@ -13,7 +13,7 @@ use Rattle.drt_graph.proofs.Edges.{edge_of_sep, source_of}
 use Rattle.drt_graph.proofs.Paths.{span_cons, span_none}
 use Rattle.drt_wave.specs.Cells.{IsPlan}
 use Rattle.drt_wave.specs.Dense.{Dense, AreBest, work_at}
-use Rattle.drt_wave.specs.Greatest.{IsInRange, IsWalkFrom, HasWalk, IsGreatestWork}
+use Rattle.drt_wave.specs.Greatest.{IsInRange, HasWalk, IsGreatestWork}
 use Rattle.drt_wave.specs.Fronts.{IsRangeEntry, IsWalkEntry, Covers, IsNonDominated, IsFrontOf, IsExactFront, CoversAll, IsNextEntry}
 use Rattle.drt_wave.specs.Gathered.{IsKept, IsBefore, AreGathered, IsMost}
 use Rattle.drt_wave.proofs.Walks.{greatest_at, has_bounds}
@@ -62,7 +62,7 @@ module _ (d : Dense) (plan : IsPlan d.plan) (best : AreBest d.plan d.cells) wher
       -- the entry of a cell of the vertex that has at least the work is the entry itself
       let itself : (t : ℕ) → t ≤ e.offset → e.work ≤ work_at d e.vertex t → entry e.vertex t (work_at d e.vertex t) ≡ e =
       λ t early more. n.alone (entry e.vertex t (work_at d e.vertex t))
-          ((greatest e.vertex t b.0 (let far = b.1 in omega (arith, far))).0 (λ z. absurd (omega arith))) (refl, early, more) in
+      ((greatest e.vertex t b.0 (let far = b.1 in omega (arith, far))).0 (λ z. absurd (omega arith))) (refl, early, more) in
       record {
         vertex = b.0;
         offset = b.1;
@@ -84,8 +84,8 @@ module _ (d : Dense) (plan : IsPlan d.plan) (best : AreBest d.plan d.cells) wher
       (λ nle. ⊎_elim
       (λ (f : (t : ℕ) × (t < n) × (w ≤ work_at d v t)). let l = f.1 in inl (f.0, omega (arith, l), f.2))
       (λ (all : (t : ℕ) → t < n → work_at d v t < w). inr (λ t lt. dite (ℕ_discrete t n)
-          (λ (e : t ≡ n). subst (λ z. work_at d v z < w) (sym e) (omega arith))
-          (λ ne. all t (omega arith))))
+      (λ (e : t ≡ n). subst (λ z. work_at d v z < w) (sym e) (omega arith))
+      (λ ne. all t (omega arith))))
       (some_above v w n))
 
   -- What is kept covers each work of a cell.

@@ -1,5 +1,5 @@
 -- The words of a table at its start.
-use Rattle.std.proofs.Common.{◌≡◌, ◌≢◌, ℕ, zero, suc, ◌+◌, ◌*◌, ◌/◌, ◌%◌, ◌<◌, ◌≤◌, Bool, true, false, nat_le, ◌==◌, ◌&&◌, if◌then◌else◌, List, [], ◌∷◌, ◌++◌, take, drop, length, get_or, set, replicate, sym, refl, ap, ◌∙◌, subst, arith, length-set, get_or-set_same, get_or-set_other}
+use Rattle.std.proofs.Common.{◌≡◌, ◌≢◌, ℕ, zero, suc, ◌+◌, ◌*◌, ◌/◌, ◌%◌, ◌<◌, ◌≤◌, false, nat_le, ◌==◌, ◌&&◌, if◌then◌else◌, List, [], ◌∷◌, ◌++◌, take, drop, length, get_or, set, replicate, sym, refl, ap, ◌∙◌, subst, arith, length-set, get_or-set_same, get_or-set_other}
 use Rattle.std.proofs.lemmas.Grind.{common_steps}
 use Rattle.std.proofs.lemmas.List.{length-replicate}
 use Rattle.std.proofs.lemmas.Nat.{div-add-mod', le-div}
@@ -18,7 +18,7 @@ use Rattle.drt_wave.specs.declared.view.View.{View}
 use Rattle.drt_wave.specs.Dense.{AreBest}
 use Rattle.drt_wave.specs.Waves.{InWaves, fresh, AllDrawn, AllExpanded}
 use Rattle.drt_wave.proofs.Steps.{opens_so, closes_drawn}
-use Rattle.drt_wave.proofs.Cells.{is_net, cell_lt, cell_vertex, cell_offset, vertex_lt, opening_of}
+use Rattle.drt_wave.proofs.Cells.{is_net, cell_lt, cell_vertex, vertex_lt, opening_of}
 
 module _ (p : Plan) where
   -- a cell that no walk of one vertex ends at opens with 0

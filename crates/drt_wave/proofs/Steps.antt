@@ -1,19 +1,18 @@
 -- Each kind of step keeps the rule.
-use Rattle.std.proofs.Common.{◌≡◌, ◌≢◌, ◌==◌, ◌⊎◌, ℕ, zero, suc, ◌+◌, ◌-◌, ◌*◌, ◌%◌, ◌/◌, ◌^◌, ◌<◌, ◌≤◌, max, List, [], ◌∷◌, ◌++◌, length, get_or, set, sym, refl, ap, ◌∙◌, subst, inl, inr, ⊎_elim, arith, Some, None, if◌then◌else◌, eq-eqb, ne_eqb, length-set, get_or-set_same, get_or-set_other, le_trans, le_refl}
+use Rattle.std.proofs.Common.{◌≡◌, ◌≢◌, ◌==◌, ℕ, ◌+◌, ◌*◌, ◌%◌, ◌/◌, ◌^◌, ◌<◌, ◌≤◌, max, List, [], ◌∷◌, ◌++◌, length, get_or, set, sym, refl, ap, ◌∙◌, subst, ⊎_elim, arith, Some, if◌then◌else◌, eq-eqb, ne_eqb, length-set, get_or-set_same, get_or-set_other}
 use Rattle.std.proofs.Math.Nat.{add-mod}
 use Rattle.std.proofs.lemmas.Nat.{div_below}
 use mathlib.Core.Logic.{dite}
-use mathlib.Core.Option.{Option, some, none, some-injective, some-ne-none}
+use mathlib.Core.Option.{some, none, some-ne-none}
 use native.Mathlib.Decide.{ℕ_discrete, dec_le, dec_lt}
 use lib.ListN.{get_elem?}
 use lib.Seq.{set-get_or}
-use Rattle.atomic_table.specs.Table.{State, Me, Step, step, Act, keeps, Allows, Splits, Joins, opening, Final, Seen}
+use Rattle.atomic_table.specs.Table.{State, Me, step, keeps, Allows, Splits, Joins, opening, Final, Seen}
 use Rattle.atomic_table.proofs.Lists.{at_set, at_snoc, set_here, set_else}
 use Rattle.drt_wave.specs.Net.{Net, IsNet, Among, Reached, IsBest}
 use Rattle.drt_wave.specs.Waves.{total, greatest, times, most, IsDone, IsTrueNote, fresh, spent, split_left, split_right, joined, with_draw, with_raise, with_note, IsExpanded, AllExpanded, AllDrawn, Knows, InWaves, claimed, glanced, raises}
 use Rattle.drt_wave.specs.Seats.{Draws}
 use Rattle.drt_wave.specs.declared.view.View.{View}
-use Rattle.drt_wave.specs.declared.view.Note.{Note}
 use Rattle.drt_wave.proofs.Sums.{total-append, total-set, total-one, term_le, among_times, greatest-append, greatest-set, greatest_term, greatest-drop, among-append, most_more, times_among, times_more, times-append, most-append, at_inside}
 use Rattle.drt_wave.proofs.Deciding.{dec_four, dec_expanded}
 use Rattle.drt_wave.proofs.Bests.{Grows, done_later, knows_later, cell_reached, best_now, expanded_done, all_done}

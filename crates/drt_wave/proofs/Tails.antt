@@ -1,20 +1,20 @@
 -- A walk that is found backwards over the cells.
-use Rattle.std.proofs.Common.{◌≡◌, ◌≢◌, ℕ, zero, suc, ◌+◌, ◌<◌, ◌≤◌, List, [], ◌∷◌, ◌++◌, reverse, Some, refl, sym, ap, ◌∙◌, subst, arith}
+use Rattle.std.proofs.Common.{◌≡◌, ℕ, ◌+◌, ◌<◌, ◌≤◌, List, [], ◌∷◌, ◌++◌, reverse, Some, refl, sym, ap, ◌∙◌, subst, arith}
 use Rattle.std.proofs.lemmas.List.{reverse-append}
 use Rattle.drt_model.specs.declared.tasks.Edge.{Edge}
 use Rattle.drt_model.specs.Digraph.{Digraph, IsSound, vertex_count, edge_of}
-use Rattle.drt_model.specs.Walk.{IsPath, IsEdge, gap, wcet, deadline, sep, last_of, work, span}
+use Rattle.drt_model.specs.Walk.{IsPath, gap, wcet, deadline, sep, last_of, work, span}
 use Rattle.drt_graph.proofs.Edges.{sep_of_edge, gap_of, source_of, target_of}
 use Rattle.drt_graph.proofs.Paths.{work_cons, work_none, span_cons, span_none}
 use Rattle.drt_wave.specs.Net.{IsBest, Reached}
-use Rattle.drt_wave.specs.Cells.{width, cell_at, net_of, IsPlan, WalkTo}
+use Rattle.drt_wave.specs.Cells.{cell_at, net_of, IsPlan, WalkTo}
 use Rattle.drt_wave.specs.Dense.{Dense, AreBest, work_at}
-use Rattle.drt_wave.specs.Greatest.{IsInRange, IsWalkFrom, HasWalk, IsWalkTo}
+use Rattle.drt_wave.specs.Greatest.{IsInRange, IsWalkTo}
 use Rattle.drt_wave.specs.Backwards.{IsStep}
 use Rattle.drt_wave.proofs.Bests.{positive}
 use Rattle.drt_wave.proofs.Cells.{to_walk, of_walk, cell_lt, cell_vertex, cell_offset}
 use Rattle.drt_wave.proofs.Working.{reach_more}
-use Rattle.drt_wave.proofs.Walks.{greatest_at, has_bounds}
+use Rattle.drt_wave.proofs.Walks.{greatest_at}
 use Rattle.drt_wave.proofs.Kept.{cell_due}
 
 -- The work of a walk of span 0 is that of one vertex.

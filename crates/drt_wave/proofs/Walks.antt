@@ -1,5 +1,5 @@
 -- The works that reach a cell are those of the graph's walks in range.
-use Rattle.std.proofs.Common.{◌≡◌, ◌≢◌, ℕ, ◌+◌, ◌/◌, ◌%◌, ◌<◌, ◌≤◌, List, [], ◌∷◌, ◌++◌, Some, refl, sym, ap, ◌∙◌, subst, arith, slice_index}
+use Rattle.std.proofs.Common.{◌≡◌, ℕ, ◌+◌, ◌<◌, ◌≤◌, List, [], ◌∷◌, ◌++◌, Some, refl, sym, ap, subst, arith, slice_index}
 use Rattle.drt_model.specs.declared.tasks.Edge.{Edge}
 use Rattle.drt_model.specs.Digraph.{Digraph, vertex_count, edge_of}
 use Rattle.drt_model.specs.Walk.{wcet, deadline, gap, sep, IsEdge, IsPath, last_of, work, span}
@@ -7,9 +7,9 @@ use Rattle.drt_graph.proofs.Edges.{sep_of_edge, edge_of_sep, gap_of}
 use Rattle.drt_graph.proofs.Paths.{path_both, path_within, last_both, work_both, span_both, work_cons, work_none, span_cons, span_none}
 use Rattle.drt_wave.specs.declared.plan.Plan.{Plan}
 use Rattle.drt_wave.specs.Net.{IsBest}
-use Rattle.drt_wave.specs.Cells.{width, cell_at, net_of, IsPlan, WalkTo}
+use Rattle.drt_wave.specs.Cells.{cell_at, net_of, IsPlan, WalkTo}
 use Rattle.drt_wave.specs.Dense.{AreBest}
-use Rattle.drt_wave.specs.Greatest.{IsInRange, IsWalkFrom, HasWalk, IsGreatestWork}
+use Rattle.drt_wave.specs.Greatest.{IsInRange, HasWalk, IsGreatestWork}
 use Rattle.drt_wave.proofs.Cells.{to_walk, of_walk, cell_lt, cell_vertex, cell_offset}
 
 -- A walk in range that goes on to a vertex that is due within the bound is in range.

@@ -1,5 +1,5 @@
 -- What a worker's steps do to its seat.
-use Rattle.std.proofs.Common.{◌≡◌, ◌≢◌, ℕ, zero, suc, ◌+◌, ◌*◌, ◌/◌, ◌%◌, ◌^◌, ◌<◌, ◌≤◌, List, [], ◌∷◌, length, sym, refl, ap, ◌∙◌, subst, inl, inr, ⊎_elim, arith, Some}
+use Rattle.std.proofs.Common.{◌≡◌, ◌≢◌, ℕ, suc, ◌+◌, ◌*◌, ◌/◌, ◌%◌, ◌^◌, ◌<◌, ◌≤◌, List, [], ◌∷◌, sym, refl, ap, ◌∙◌, subst, inl, inr, ⊎_elim, arith}
 use Rattle.std.proofs.Math.Nat.{mod-lt, mod-eq_of_lt, mod-le}
 use Rattle.std.proofs.lemmas.Nat.{mul-le, div-mul-add, mod-mul-add, div-add-mod', div_below}
 use mathlib.Core.Logic.{dite}
@@ -10,9 +10,8 @@ use Rattle.drt_model.specs.Digraph.{vertex_count, out_edges, out_degree, edge_of
 use Rattle.drt_model.specs.Walk.{wcet, deadline}
 use Rattle.drt_wave.specs.declared.plan.Plan.{Plan}
 use Rattle.drt_wave.specs.declared.view.View.{View}
-use Rattle.drt_wave.specs.declared.view.Note.{Note}
 use Rattle.drt_wave.specs.Net.{Net, Among, Reached}
-use Rattle.drt_wave.specs.Waves.{with_draw, with_raise, with_note, IsExpanded, AllExpanded}
+use Rattle.drt_wave.specs.Waves.{with_raise, with_note, IsExpanded, AllExpanded}
 use Rattle.drt_wave.specs.Cells.{width, offsets, cell_at, arcs_from, net_of, IsPlan, WalkTo}
 use Rattle.drt_wave.specs.Seats.{IsAt, Draws, Kept, PassedOn, Passed, IsPast, HasDrawn, Turned}
 use Rattle.drt_wave.proofs.Cells.{arc_is, arc_among, of_walk, to_walk, cell_lt, cell_vertex, cell_offset}

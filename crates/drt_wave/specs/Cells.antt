@@ -1,7 +1,7 @@
 -- The cells of a graph, their waves, and the walks that they are about.
-use Rattle.std.specs.Prelude.{◌≡◌, ◌≢◌, ℕ, ◌+◌, ◌-◌, ◌*◌, ◌/◌, ◌%◌, ◌<◌, ◌≤◌, min, nat_le, ◌==◌, ◌&&◌, if◌then◌else◌, List, [], ◌∷◌, length}
+use Rattle.std.specs.Prelude.{◌≡◌, ℕ, ◌+◌, ◌-◌, ◌*◌, ◌/◌, ◌%◌, ◌<◌, ◌≤◌, min, nat_le, ◌==◌, ◌&&◌, if◌then◌else◌, List, [], ◌∷◌}
 use Rattle.drt_model.specs.declared.tasks.Edge.{Edge}
-use Rattle.drt_model.specs.Digraph.{Digraph, IsSound, vertex_count, out_edges, out_degree, edge_of}
+use Rattle.drt_model.specs.Digraph.{IsSound, vertex_count, out_edges, out_degree, edge_of}
 use Rattle.drt_model.specs.Walk.{wcet, deadline}
 use Rattle.drt_wave.specs.declared.plan.Plan.{Plan}
 use Rattle.drt_wave.specs.Net.{Net}

@@ -1,5 +1,5 @@
 -- What a seat is before and after a step.
-use Rattle.std.specs.Prelude.{◌≡◌, ℕ, ◌+◌, ◌*◌, ◌<◌, ◌≤◌, ◌%◌, ◌/◌, ◌^◌, List, [], length, slice_index, Some}
+use Rattle.std.specs.Prelude.{◌≡◌, ℕ, ◌+◌, ◌*◌, ◌<◌, ◌≤◌, ◌%◌, ◌/◌, ◌^◌, List, length, slice_index, Some}
 use Rattle.atomic_table.specs.Table.{Me}
 use Rattle.drt_model.specs.Digraph.{edge_of}
 use Rattle.drt_model.specs.Walk.{wcet, deadline}

@@ -26,7 +26,10 @@ impl Model for DenseFront {
 
 impl Drop for DenseFront {
     fn drop(self) {
-        let DenseFront { plan: _plan, closed } = self;
+        let DenseFront {
+            plan: _plan,
+            closed,
+        } = self;
         closed.free();
     }
 }

@@ -22,14 +22,7 @@ fn cell(table: &WaveTable, vertex: u32, offset: u64) -> u32
 }
 
 // Passes the value of a cell on along edge number `k` out of its vertex.
-fn pass_one(
-    table: &WaveTable,
-    seat: &mut WaveSeat,
-    vertex: u32,
-    offset: u64,
-    value: u64,
-    k: u32,
-)
+fn pass_one(table: &WaveTable, seat: &mut WaveSeat, vertex: u32, offset: u64, value: u64, k: u32)
     requires id { seat.old.table_id ≡ table.now.table.shared.table_id }
     requires seat { IsAt table.now.plan seat.old.me.0 }
     requires vertex { vertex < vertex_count table.now.plan.graph }

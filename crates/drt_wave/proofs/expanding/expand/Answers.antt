@@ -1,4 +1,4 @@
-use Rattle.std.proofs.Common.{rules, ap, sym, refl, inl, arith, ◌∙◌, subst}
+use Rattle.std.proofs.Common.{rules, refl, inl}
 use Rattle.drt_wave.specs.Net.{Among}
 use Rattle.drt_wave.specs.Cells.{cell_at}
 use Rattle.drt_wave.proofs.Working.{kept_note, kept_more, expanded_by}

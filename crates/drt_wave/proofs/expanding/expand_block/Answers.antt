@@ -1,6 +1,6 @@
 use Rattle.std.proofs.Common.{◌≡◌, ℕ, ◌+◌, ◌*◌, ◌/◌, ◌%◌, subst, ◌∙◌}
 use Rattle.drt_wave.specs.Waves.{IsExpanded}
-use Rattle.drt_wave.specs.Cells.{net_of, cell_at, offsets}
+use Rattle.drt_wave.specs.Cells.{net_of, cell_at}
 use Rattle.drt_wave.proofs.Working.{kept_more, block_more}
 use Rattle.drt_wave.proofs.expanding.expand_block.Goals as goal
 

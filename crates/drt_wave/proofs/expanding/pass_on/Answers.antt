@@ -1,4 +1,4 @@
-use Rattle.std.proofs.Common.{rules, ap, sym, refl, arith, ◌∙◌}
+use Rattle.std.proofs.Common.{rules, refl, arith, ◌∙◌}
 use Rattle.drt_wave.proofs.Working.{kept_refl, kept_more, still_at, passed_more}
 use Rattle.drt_wave.proofs.expanding.pass_on.Goals as goal
 

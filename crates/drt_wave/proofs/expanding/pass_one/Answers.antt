@@ -1,6 +1,5 @@
-use Rattle.std.proofs.Common.{rules, ap, sym, refl, arith, ◌∙◌, ◌+◌, subst}
-use Rattle.drt_wave.specs.Net.{Reached}
-use Rattle.drt_wave.specs.Cells.{net_of, cell_at}
+use Rattle.std.proofs.Common.{rules, sym, refl}
+use Rattle.drt_wave.specs.Cells.{net_of}
 use Rattle.drt_wave.proofs.Working.{sum_fits, reach_more}
 use Rattle.drt_wave.proofs.expanding.pass_one.Goals as goal
 

@@ -1,4 +1,4 @@
-use Rattle.std.proofs.Common.{ap, sym, refl, subst, arith, ◌<◌, ◌≤◌, ◌*◌, ◌≡◌, ℕ}
+use Rattle.std.proofs.Common.{sym, refl, subst, arith, ◌<◌, ◌≤◌, ◌*◌}
 use Rattle.drt_wave.specs.Net.{Among}
 use Rattle.drt_wave.specs.Cells.{net_of}
 use Rattle.drt_wave.proofs.Working.{turned_past, turned_on, drawn_more, knows_drawn, size_small}

@@ -1,6 +1,6 @@
-use Rattle.std.proofs.Common.{refl, ◌∙◌, ◌≤◌, arith}
+use Rattle.std.proofs.Common.{refl, ◌∙◌, arith}
 use Rattle.drt_wave.specs.Cells.{net_of}
-use Rattle.drt_wave.proofs.Working.{turned_refl, turned_more, turned_at, waves_more}
+use Rattle.drt_wave.proofs.Working.{turned_refl, turned_more, waves_more}
 use Rattle.drt_wave.proofs.filling.work_all.Goals as goal
 
 pub waves-init : goal.waves-init

@@ -1,5 +1,5 @@
 -- The waves so far are drawn to their ends and known as final, and all that was drawn is expanded.
-use Rattle.std.proofs.Common.{◌≡◌, ℕ, ◌*◌, ◌/◌, ◌<◌, ◌≤◌}
+use Rattle.std.proofs.Common.{◌≡◌, ℕ, ◌/◌, ◌<◌, ◌≤◌}
 use Rattle.drt_wave.specs.Net.{Among}
 use Rattle.drt_wave.specs.Waves.{AllExpanded}
 use Rattle.drt_wave.specs.Cells.{net_of}

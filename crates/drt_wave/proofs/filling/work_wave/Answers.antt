@@ -1,5 +1,4 @@
-use Rattle.std.proofs.Common.{rules, refl, ◌∙◌, ◌+◌, ◌≡◌, sym, arith, subst}
-use Rattle.drt_wave.specs.Seats.{HasDrawn}
+use Rattle.std.proofs.Common.{refl, ◌∙◌, ◌+◌, arith}
 use Rattle.drt_wave.proofs.Working.{turned_refl, turned_more, turned_at, turned_known}
 use Rattle.drt_wave.proofs.filling.work_wave.Goals as goal
 

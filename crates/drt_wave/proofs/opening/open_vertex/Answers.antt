@@ -1,4 +1,4 @@
-use Rattle.std.proofs.Common.{rules, sym, subst, ◌+◌, ◌*◌, ◌≤◌, arith}
+use Rattle.std.proofs.Common.{subst, ◌+◌, ◌*◌, ◌≤◌, arith}
 use Rattle.drt_wave.proofs.OpenWords.{open_at}
 use Rattle.drt_wave.proofs.opening.open_vertex.Goals as goal
 

@@ -1,4 +1,4 @@
-use Rattle.std.proofs.Common.{rules, ◌≡◌, ◌+◌, sym, subst, ap, ◌∙◌, refl, replicate, ℕ, arith}
+use Rattle.std.proofs.Common.{rules, ◌≡◌, ◌+◌, sym, subst, refl, replicate, ℕ}
 use Rattle.drt_model.specs.Digraph.{vertex_count}
 use Rattle.drt_wave.specs.Cells.{net_of}
 use Rattle.drt_wave.specs.Seats.{Opened}

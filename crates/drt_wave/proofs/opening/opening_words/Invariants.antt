@@ -1,4 +1,3 @@
-use Rattle.std.proofs.Common.{◌≡◌}
 use Rattle.drt_wave.specs.Seats.{Opened}
 use Rattle.drt_wave.proofs.opening.opening_words.Given as goal
 

@@ -1,5 +1,5 @@
 -- No separation so far is less.
-use Rattle.std.proofs.Common.{◌≡◌, ℕ, ◌<◌, ◌≤◌}
+use Rattle.std.proofs.Common.{ℕ, ◌<◌, ◌≤◌}
 use Rattle.drt_model.specs.Digraph.{edge_of}
 use Rattle.drt_wave.proofs.plan.least_out.Given as goal
 

@@ -1,5 +1,5 @@
 -- No separation out of a vertex so far is less.
-use Rattle.std.proofs.Common.{◌≡◌, ℕ, ◌<◌, ◌≤◌}
+use Rattle.std.proofs.Common.{ℕ, ◌<◌, ◌≤◌}
 use Rattle.drt_model.specs.Digraph.{out_degree, edge_of}
 use Rattle.drt_wave.proofs.plan.least_separation.Given as goal
 

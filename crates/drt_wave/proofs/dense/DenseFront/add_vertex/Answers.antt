@@ -1,4 +1,4 @@
-use Rattle.std.proofs.Common.{◌<◌, arith}
+use Rattle.std.proofs.Common.{arith}
 use Rattle.drt_wave.proofs.Kept.{next_vertex}
 use Rattle.drt_wave.proofs.dense.DenseFront.add_vertex.Goals as goal
 

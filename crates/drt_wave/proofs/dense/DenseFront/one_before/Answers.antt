@@ -1,7 +1,6 @@
-use Rattle.std.proofs.Common.{◌≡◌, ◌+◌, ◌-◌, ◌<◌, Some, ap, sym, subst, ◌∙◌, arith}
+use Rattle.std.proofs.Common.{◌≡◌, Some, ap, sym, ◌∙◌, arith}
 use Rattle.drt_model.specs.Walk.{sep, wcet}
 use Rattle.drt_graph.proofs.Edges.{gap_of}
-use Rattle.drt_wave.specs.Dense.{work_at}
 use Rattle.drt_wave.proofs.dense.DenseFront.one_before.Goals as goal
 
 pub returns : goal.returns

@@ -1,4 +1,4 @@
-use Rattle.std.proofs.Common.{◌≡◌, ◌<◌, ◌∙◌, ap, arith}
+use Rattle.std.proofs.Common.{◌≡◌, ◌∙◌, ap, arith}
 use Rattle.drt_model.specs.Digraph.{vertex_count}
 use Rattle.drt_wave.proofs.Tails.{IsAtCell, has_step, step_cell}
 use Rattle.drt_wave.proofs.dense.DenseFront.step_back.Goals as goal

@@ -1,4 +1,4 @@
-use Rattle.std.proofs.Common.{◌≡◌, ◌++◌, ◌∷◌, [], ◌<◌, ap, ◌∙◌, arith}
+use Rattle.std.proofs.Common.{◌≡◌, ◌++◌, ◌∷◌, [], ap, ◌∙◌, arith}
 use Rattle.drt_wave.specs.Dense.{work_at}
 use Rattle.drt_wave.proofs.Walks.{greatest_at, has_bounds}
 use Rattle.drt_wave.proofs.Tails.{IsAtCell, tail_first, tail_more, tail_whole, step_cell, step_earlier}

@@ -1,4 +1,4 @@
-use Rattle.std.proofs.Common.{◌*◌, ◌+◌, ◌/◌, ◌<◌, ◌≤◌, ℕ, sym, subst}
+use Rattle.std.proofs.Common.{◌*◌, ◌+◌, ◌/◌, ◌<◌, ◌≤◌, subst}
 use Rattle.drt_wave.proofs.Working.{blocks_cover, block_begins}
 use Rattle.drt_wave.proofs.table.WaveTable.block_count.Goals as goal
 

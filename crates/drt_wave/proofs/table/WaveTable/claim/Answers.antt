@@ -1,4 +1,4 @@
-use Rattle.std.proofs.Common.{rules, ap, sym, subst, ◌∙◌, ◌≡◌, ◌+◌, ◌<◌, Some}
+use Rattle.std.proofs.Common.{rules, ap, sym, subst, ◌∙◌, ◌+◌, ◌<◌, Some}
 use Rattle.drt_wave.specs.Cells.{net_of}
 use Rattle.drt_wave.specs.Seats.{Draws}
 use Rattle.drt_wave.proofs.Steps.{claims_at, claim_tells}

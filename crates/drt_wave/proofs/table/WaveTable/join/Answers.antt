@@ -1,4 +1,3 @@
-use Rattle.std.proofs.Common.{rules}
 use Rattle.drt_wave.proofs.Steps.{joins}
 use Rattle.drt_wave.proofs.Working.{words_some}
 use Rattle.drt_wave.proofs.table.WaveTable.join.Goals as goal
