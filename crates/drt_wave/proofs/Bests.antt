@@ -108,7 +108,8 @@ module _ {F : Type 0} (net : F → Net) (key : F) where
     expanded_done i v c at lt low e = done_after i v c at lt (known_done i v c at low) e
 
     -- where a seat drew each block of each wave and expanded each cell, the cells are done, wave after wave
-    pub all_done : (i : ℕ) (v : View F) → get_elem? s.views i ≡ some v → AllDrawn (net key) v → AllExpanded (net key) v → (j c : ℕ) → c < (net key).cells → (net key).wave c < j → IsDone (net key) s.words c
+    pub all_done : (i : ℕ) (v : View F) → get_elem? s.views i ≡ some v → AllDrawn (net key) v → AllExpanded (net key) v → (j c : ℕ) → c < (net key).cells
+        → (net key).wave c < j → IsDone (net key) s.words c
     all_done i v at drawn all zero c lt low = absurd (omega arith)
     all_done i v at drawn all (suc j) c lt low =
         let g = net key in let p = h.lawful.place c lt in

@@ -1,5 +1,6 @@
 -- The cells of a graph make a net, and the works that reach a cell are those of walks.
-use Rattle.std.proofs.Common.{◌≡◌, ℕ, zero, suc, ◌+◌, ◌*◌, ◌/◌, ◌%◌, ◌<◌, ◌≤◌, true, false, nat_le, ◌==◌, ◌&&◌, if◌then◌else◌, List, [], ◌∷◌, length, get_or, sym, refl, ap, ◌∙◌, subst, inl, inr, ⊎_elim, arith}
+use Rattle.std.proofs.Common.{◌≡◌, ℕ, zero, suc, ◌+◌, ◌*◌, ◌/◌, ◌%◌, ◌<◌, ◌≤◌, true, false, nat_le, ◌==◌, ◌&&◌}
+use Rattle.std.proofs.Common.{if◌then◌else◌, List, [], ◌∷◌, length, get_or, sym, refl, ap, ◌∙◌, subst, inl, inr, ⊎_elim, arith}
 use Rattle.std.proofs.Math.Nat.{mul_comm, mod-lt}
 use Rattle.std.proofs.lemmas.Nat.{div-add-mod', div-mul-add, mod-mul-add, mul-add-lt, div_below, le-div}
 use Rattle.std.proofs.lemmas.Bool.Decides.{nat_tests}
@@ -78,7 +79,8 @@ module _ (p : Plan) where
 
   -- the number of a cell in its wave
   number_of : (c : ℕ) → 0 < p.span → c < vertex_count p.graph * width p
-      → (k : ℕ) × (k < vertex_count p.graph * offsets p (c % width p / p.span)) × (cell_at p (k / offsets p (c % width p / p.span)) (c % width p / p.span * p.span + k % offsets p (c % width p / p.span)) ≡ c)
+      → (k : ℕ) × (k < vertex_count p.graph * offsets p (c % width p / p.span)) × (cell_at p (k / offsets p (c % width p / p.span))
+      (c % width p / p.span * p.span + k % offsets p (c % width p / p.span)) ≡ c)
   number_of c some lt =
       let w : ℕ = width p in let v : ℕ = c / w in let s : ℕ = c % w in let j : ℕ = s / p.span in let first : ℕ = j * p.span in let i : ℕ = s % p.span in let n : ℕ = offsets p j in
       let split : first + i ≡ s = div-add-mod' s p.span in
@@ -116,7 +118,12 @@ module _ (p : Plan) where
   opening_is : (c : ℕ) → 0 < (net_of p).opens c → (c % width p ≡ 0) × (deadline p.graph (c / width p) ≤ p.bound) × ((net_of p).opens c ≡ wcet p.graph (c / width p))
   opening_is c h = dite (ℕ_discrete (c % width p) 0)
       (λ e. dite (dec_le (deadline p.graph (c / width p)) p.bound)
-      (λ le. (e, le, ap (λ b. if b then wcet p.graph (c / width p) else 0) (let test : ((c % width p == 0) && nat_le (deadline p.graph (c / width p)) p.bound) ≡ true = grind (arith, nat_tests) in test)))
+      (λ le. (
+        e,
+        le,
+        ap (λ b. if b then wcet p.graph (c / width p) else 0) (let test : ((c % width p == 0) && nat_le (deadline p.graph
+            (c / width p)) p.bound) ≡ true = grind (arith, nat_tests) in test),
+      ))
       (λ nle. let test : ((c % width p == 0) && nat_le (deadline p.graph (c / width p)) p.bound) ≡ false = grind (arith, nat_tests) in
       let none : (net_of p).opens c ≡ 0 = ap (λ b. if b then wcet p.graph (c / width p) else 0) test in absurd (omega arith)))
       (λ ne. let test : ((c % width p == 0) && nat_le (deadline p.graph (c / width p)) p.bound) ≡ false = grind (arith, nat_tests) in

@@ -110,7 +110,8 @@ module _ (d : Dense) (plan : IsPlan d.plan) (best : AreBest d.plan d.cells) wher
       (has.0, r.0, has.1, has.2, r.2)
 
   -- With constrained deadlines each prefix of a walk is due before the walk's last job.
-  all_in_range : IsConstrainedGraph d.plan.graph → (s u : ℕ) (vs : List ℕ) → IsPath d.plan.graph u vs → s + span d.plan.graph u vs + deadline d.plan.graph (last_of u vs) ≤ d.plan.bound → IsInRange d.plan.graph d.plan.bound s u vs
+  all_in_range : IsConstrainedGraph d.plan.graph → (s u : ℕ) (vs : List ℕ) → IsPath d.plan.graph u vs
+      → s + span d.plan.graph u vs + deadline d.plan.graph (last_of u vs) ≤ d.plan.bound → IsInRange d.plan.graph d.plan.bound s u vs
   all_in_range con s u [] path due = let none = span_none d.plan.graph u in omega (arith, due, none)
   all_in_range con s u (v ∷ vs) path due =
       let g = d.plan.graph in
@@ -242,7 +243,11 @@ module _ (d : Dense) where
       let mine : IsKept d x = record { vertex = ltv; offset = le; works = refl; some = omega arith; above = λ t l. let old = m.least t l in omega (arith, old) } in
       subst (AreGathered d v (s + 1)) (sym is) record {
         kept = λ e has. ⊎_elim
-            (λ (old : Contains entries e). let k = g.kept e old in (k.0, ⊎_elim (λ (l : e.vertex < v). inl l) (λ (l : (e.vertex ≡ v) × (e.offset < s)). let l1 = l.1 in inr (l.0, omega (arith, l1))) k.1))
+            (λ (old : Contains entries e). let k = g.kept e old in (
+              k.0,
+              ⊎_elim (λ (l : e.vertex < v). inl l) (λ (l : (e.vertex ≡ v) ×
+                  (e.offset < s)). let l1 = l.1 in inr (l.0, omega (arith, l1))) k.1,
+            ))
             (λ (now : Contains (x ∷ []) e). let same : x ≡ e = only x e now in subst (λ z. IsKept d z × IsBefore v (s + 1) z) same (mine, inr (refl, omega arith)))
             (Contains-append_cases entries (x ∷ []) e has);
         all = λ e k b. ⊎_elim

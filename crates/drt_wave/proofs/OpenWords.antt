@@ -1,5 +1,6 @@
 -- The words of a table at its start.
-use Rattle.std.proofs.Common.{◌≡◌, ◌≢◌, ℕ, zero, suc, ◌+◌, ◌*◌, ◌/◌, ◌%◌, ◌<◌, ◌≤◌, false, nat_le, ◌==◌, ◌&&◌, if◌then◌else◌, List, [], ◌∷◌, ◌++◌, take, drop, length, get_or, set, replicate, sym, refl, ap, ◌∙◌, subst, arith, length-set, get_or-set_same, get_or-set_other}
+use Rattle.std.proofs.Common.{◌≡◌, ◌≢◌, ℕ, zero, suc, ◌+◌, ◌*◌, ◌/◌, ◌%◌, ◌<◌, ◌≤◌, false, nat_le, ◌==◌, ◌&&◌, if◌then◌else◌, List}
+use Rattle.std.proofs.Common.{[], ◌∷◌, ◌++◌, take, drop, length, get_or, set, replicate, sym, refl, ap, ◌∙◌, subst, arith, length-set, get_or-set_same, get_or-set_other}
 use Rattle.std.proofs.lemmas.Grind.{common_steps}
 use Rattle.std.proofs.lemmas.List.{length-replicate}
 use Rattle.std.proofs.lemmas.Nat.{div-add-mod', le-div}
@@ -44,7 +45,8 @@ module _ (p : Plan) where
             (λ ne. get_or-set_other ws at c x 0 ne ∙ dite (dec_lt (c / width p) v)
             (λ low. o.open_cells c ltc low)
             (λ high. let is : c / width p ≡ v = omega arith in o.others c (omega arith) ∙ sym (opens_zero c (λ z due. ne (only_first c v is z)))));
-        others = λ c high. let ne : c ≢ at = λ e. let is : c / width p ≡ v = ap (λ i. i / width p) e ∙ cell_vertex p v 0 (omega arith) in omega arith in get_or-set_other ws at c x 0 ne ∙ o.others c (omega arith);
+        others = λ c high. let ne : c ≢ at = λ e. let is : c / width p ≡ v = ap (λ i. i / width p) e ∙ cell_vertex p v 0
+            (omega arith) in omega arith in get_or-set_other ws at c x 0 ne ∙ o.others c (omega arith);
       }
 
   pub open_at : (v at : ℕ) (ws : List ℕ) → at ≡ cell_at p v 0 → v < vertex_count p.graph → deadline p.graph v ≤ p.bound → Opened p v ws → Opened p (v + 1) (set ws at (wcet p.graph v))
@@ -92,6 +94,7 @@ start_holds p key ws is plan opened =
     (opens_so net_of p ws (is_net p plan) opened.wide (all_open p ws opened) (λ j lt. claims_zero p ws opened j))
 
 -- at its end each cell holds its greatest work
-pub end_best : {S : Type 0} (p key : Plan) (id : ℕ) (v : View Plan) (ws : List ℕ) (xs : List S) → key ≡ p → AllDrawn (net_of p) v → AllExpanded (net_of p) v → Final (Seen (InWaves {S = S} net_of key) id v) ws xs → AreBest p ws
+pub end_best : {S : Type 0} (p key : Plan) (id : ℕ) (v : View Plan) (ws : List ℕ) (xs : List S) → key ≡ p → AllDrawn (net_of p) v → AllExpanded (net_of p) v
+    → Final (Seen (InWaves {S = S} net_of key) id v) ws xs → AreBest p ws
 end_best {S} p key id v ws xs is drawn all fin c lt =
     closes_drawn net_of p id v ws xs drawn all (subst (λ k. Final (Seen (InWaves {S = S} net_of k) id v) ws xs) is fin) c lt

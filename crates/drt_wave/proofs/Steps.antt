@@ -1,5 +1,6 @@
 -- Each kind of step keeps the rule.
-use Rattle.std.proofs.Common.{◌≡◌, ◌≢◌, ◌==◌, ℕ, ◌+◌, ◌*◌, ◌%◌, ◌/◌, ◌^◌, ◌<◌, ◌≤◌, max, List, [], ◌∷◌, ◌++◌, length, get_or, set, sym, refl, ap, ◌∙◌, subst, ⊎_elim, arith, Some, if◌then◌else◌, eq-eqb, ne_eqb, length-set, get_or-set_same, get_or-set_other}
+use Rattle.std.proofs.Common.{◌≡◌, ◌≢◌, ◌==◌, ℕ, ◌+◌, ◌*◌, ◌%◌, ◌/◌, ◌^◌, ◌<◌, ◌≤◌, max, List, [], ◌∷◌, ◌++◌}
+use Rattle.std.proofs.Common.{length, get_or, set, sym, refl, ap, ◌∙◌, subst, ⊎_elim, arith, Some, if◌then◌else◌, eq-eqb, ne_eqb, length-set, get_or-set_same, get_or-set_other}
 use Rattle.std.proofs.Math.Nat.{add-mod}
 use Rattle.std.proofs.lemmas.Nat.{div_below}
 use mathlib.Core.Logic.{dite}
@@ -10,10 +11,12 @@ use lib.Seq.{set-get_or}
 use Rattle.atomic_table.specs.Table.{State, Me, step, keeps, Allows, Splits, Joins, opening, Final, Seen}
 use Rattle.atomic_table.proofs.Lists.{at_set, at_snoc, set_here, set_else}
 use Rattle.drt_wave.specs.Net.{Net, IsNet, Among, Reached, IsBest}
-use Rattle.drt_wave.specs.Waves.{total, greatest, times, most, IsDone, IsTrueNote, fresh, spent, split_left, split_right, joined, with_draw, with_raise, with_note, IsExpanded, AllExpanded, AllDrawn, Knows, InWaves, claimed, glanced, raises}
+use Rattle.drt_wave.specs.Waves.{total, greatest, times, most, IsDone, IsTrueNote, fresh, spent, split_left, split_right, joined}
+use Rattle.drt_wave.specs.Waves.{with_draw, with_raise, with_note, IsExpanded, AllExpanded, AllDrawn, Knows, InWaves, claimed, glanced, raises}
 use Rattle.drt_wave.specs.Seats.{Draws}
 use Rattle.drt_wave.specs.declared.view.View.{View}
-use Rattle.drt_wave.proofs.Sums.{total-append, total-set, total-one, term_le, among_times, greatest-append, greatest-set, greatest_term, greatest-drop, among-append, most_more, times_among, times_more, times-append, most-append, at_inside}
+use Rattle.drt_wave.proofs.Sums.{total-append, total-set, total-one, term_le, among_times, greatest-append, greatest-set, greatest_term}
+use Rattle.drt_wave.proofs.Sums.{greatest-drop, among-append, most_more, times_among, times_more, times-append, most-append, at_inside}
 use Rattle.drt_wave.proofs.Deciding.{dec_four, dec_expanded}
 use Rattle.drt_wave.proofs.Bests.{Grows, done_later, knows_later, cell_reached, best_now, expanded_done, all_done}
 
@@ -47,11 +50,13 @@ module _ {F : Type 0} where
       (λ (x : (j ≢ id) × (get_elem? views j ≡ some u)). others j u x.0 x.1) (at_set views id j w u e)
 
   -- where a seat draws nothing
-  same_draws : (views : List (View F)) (id : ℕ) (v w : View F) (j k : ℕ) → get_elem? views id ≡ some v → w.draws ≡ v.draws → total (λ u. times j k u.draws) (set views id w) ≡ total (λ u. times j k u.draws) views
+  same_draws : (views : List (View F)) (id : ℕ) (v w : View F) (j k : ℕ) → get_elem? views id ≡ some v → w.draws ≡ v.draws
+      → total (λ u. times j k u.draws) (set views id w) ≡ total (λ u. times j k u.draws) views
   same_draws views id v w j k me e = let same : times j k w.draws ≡ times j k v.draws = ap (times j k) e in omega (arith, total-set (λ (u : View F). times j k u.draws) views id v w me)
 
   -- where a seat contributes nothing
-  same_raised : (views : List (View F)) (id : ℕ) (v w : View F) (c : ℕ) → get_elem? views id ≡ some v → w.raised ≡ v.raised → greatest (λ u. most c u.raised) (set views id w) ≡ greatest (λ u. most c u.raised) views
+  same_raised : (views : List (View F)) (id : ℕ) (v w : View F) (c : ℕ) → get_elem? views id ≡ some v → w.raised ≡ v.raised
+      → greatest (λ u. most c u.raised) (set views id w) ≡ greatest (λ u. most c u.raised) views
   same_raised views id v w c me e =
       let same : most c w.raised ≡ most c v.raised = ap (most c) e in
       omega (arith, greatest-set (λ (u : View F). most c u.raised) views id 0 v w me (omega arith))
@@ -224,7 +229,17 @@ module _ {S F : Type 0} (net : F → Net) (key : F) where
         keeps,
         tt,
         drew s h id j (max v.known (j + 1)) v me part ltj (wave_done s h id j v me ends.0 ends.1 ends.2 ends.3),
-        (j, t, max v.known (j + 1), h.claims j ltj, refl, omega arith, (λ f e. (at_word f e, λ p q r u. omega arith)), (λ whole b lt. whole_draws s h id v me whole j b lt), (λ b a. draws_below s h id v me j b a)),
+        (
+          j,
+          t,
+          max v.known (j + 1),
+          h.claims j ltj,
+          refl,
+          omega arith,
+          (λ f e. (at_word f e, λ p q r u. omega arith)),
+          (λ whole b lt. whole_draws s h id v me whole j b lt),
+          (λ b a. draws_below s h id v me j b a),
+        ),
       ))
       (λ more. (
         with_draw v j t v.known,
@@ -372,18 +387,13 @@ module _ {S F : Type 0} (net : F → Net) (key : F) where
   pub opens_at : (ws : List ℕ) (n : ℕ) → n ≡ (net key).cells → IsNet (net key) → length ws ≡ n + (net key).waves → ((c : ℕ) → c < n → get_or ws c 0 ≡ (net key).opens c)
       → ((j : ℕ) → j < (net key).waves → get_or ws (n + j) 0 ≡ 0) → Holds (opening ws [] (fresh key 1024))
   opens_at ws n is lawful =
-      subst (λ n. length ws ≡ n + (net key).waves → ((c : ℕ) → c < n → get_or ws c 0 ≡ (net key).opens c) → ((j : ℕ) → j < (net key).waves → get_or ws (n + j) 0 ≡ 0) → Holds (opening ws [] (fresh key 1024))) (sym is) (opens_so ws lawful)
+      subst (λ n. length ws ≡ n + (net key).waves → ((c : ℕ) → c < n → get_or ws c 0 ≡ (net key).opens c) → ((j : ℕ) → j < (net key).waves → get_or ws (n + j) 0 ≡ 0)
+      → Holds (opening ws [] (fresh key 1024))) (sym is) (opens_so ws lawful)
 
   -- where a seat drew each block and expanded each cell, each cell holds its greatest work
-  pub closes_drawn : (id : ℕ) (v : View F) (ws : List ℕ) (xs : List S) → AllDrawn (net key) v → AllExpanded (net key) v → Final (Seen Holds id v) ws xs → (c : ℕ) → c < (net key).cells → IsBest (net key) c (get_or ws c 0)
+  pub closes_drawn : (id : ℕ) (v : View F) (ws : List ℕ) (xs : List S) → AllDrawn (net key) v → AllExpanded (net key) v → Final (Seen Holds id v) ws xs → (c : ℕ)
+      → c < (net key).cells → IsBest (net key) c (get_or ws c 0)
   closes_drawn id v ws xs drawn all fin c lt =
       let s = fin.0 in let h = fin.1.0 in let me = fin.1.1 in
       let done = all_done net key s h id v me drawn all ((net key).wave c + 1) c lt (omega arith) in
       subst (λ (l : List ℕ). IsBest (net key) c (get_or l c 0)) fin.2 done.0
-
-  -- where a seat knows every wave as final, each cell holds its greatest work
-  pub closes : (id : ℕ) (v : View F) (ws : List ℕ) (xs : List S) → (net key).waves ≤ v.known → Final (Seen Holds id v) ws xs → (c : ℕ) → c < (net key).cells → IsBest (net key) c (get_or ws c 0)
-  closes id v ws xs known fin c lt =
-      let s = fin.0 in let h = fin.1.0 in let me = fin.1.1 in
-      let low = h.lawful.waved c lt in
-      subst (λ (l : List ℕ). IsBest (net key) c (get_or l c 0)) fin.2 (best_now net key s h id v c me lt (omega arith))

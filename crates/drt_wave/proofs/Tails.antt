@@ -125,7 +125,8 @@ module _ (d : Dense) (plan : IsPlan d.plan) (best : AreBest d.plan d.cells) wher
           let le : y ≤ work_at d u r = here.1 y was.2 in
           let fits : r + e.sep + deadline g e.to ≤ p.bound = let same : deadline g e.to ≡ deadline g v = ap (deadline g) w.5 in omega (arith, off, due, same) in
           let on : Reached (net_of p) (cell_at p e.to (r + e.sep)) (work_at d u r + wcet g e.to) = reach_more p u r k (work_at d u r) was.1 was.0 w.4 fits (here.0 (λ z. absurd (omega arith))) in
-          let to : Reached (net_of p) (cell_at p v s) (work_at d u r + wcet g v) = subst (λ (q : ℕ × ℕ). Reached (net_of p) (cell_at p q.0 q.1) (work_at d u r + wcet g q.0)) (λ i. (w.5 i, sym off i)) on in
+          let to : Reached (net_of p) (cell_at p v s) (work_at d u r + wcet g v) = subst (λ (q : ℕ × ℕ). Reached (net_of p) (cell_at p q.0 q.1)
+          (work_at d u r + wcet g q.0)) (λ i. (w.5 i, sym off i)) on in
           let is : IsBest (net_of p) (cell_at p v s) (work_at d v s) = best (cell_at p v s) (cell_lt p v s cell.vertex cell.offset) in
           let ge = is.1 (work_at d u r + wcet g v) to in
           let named : sep g u v ≡ Some e.sep = subst (λ z. sep g u z ≡ Some e.sep) w.5 (sep_of_edge g plan.sound u k was.1 w.4) in

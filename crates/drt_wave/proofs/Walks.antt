@@ -23,7 +23,8 @@ range_first g bound s u [] range = range
 range_first g bound s u (v ∷ vs) range = range.0
 
 -- A walk in range that goes on by an edge, and is still in range.
-pub goes_on : (p : Plan) → IsPlan p → (u v s x : ℕ) → HasWalk p.graph p.bound u s x → IsEdge p.graph u v → s + gap p.graph u v + deadline p.graph v ≤ p.bound → HasWalk p.graph p.bound v (s + gap p.graph u v) (x + wcet p.graph v)
+pub goes_on : (p : Plan) → IsPlan p → (u v s x : ℕ) → HasWalk p.graph p.bound u s x → IsEdge p.graph u v → s + gap p.graph u v + deadline p.graph v ≤ p.bound
+    → HasWalk p.graph p.bound v (s + gap p.graph u v) (x + wcet p.graph v)
 goes_on p plan u v s x walk on fits =
     let g = p.graph in let f : ℕ = walk.0 in let others : List ℕ = walk.1 in let is = walk.2 in
     let edge : IsEdge g (last_of f others) v = subst (λ z. IsEdge g z v) (sym is.vertex) on in

@@ -106,7 +106,8 @@ module _ (p : Plan) where
       (λ nl. let same : k ≡ i = omega arith in subst (PassedOn p n.0 u s x) (sym same) now fits)
 
   -- the cell that was read, and whose value was passed on where it is not 0, is expanded
-  pub expanded_by : (n : View Plan) (u s x known : ℕ) → s ≤ p.bound → s / p.span ≤ known → Among record { cell = cell_at p u s; value = x; known = known } n.notes → (x ≢ 0 → Passed p n u s x (out_degree p.graph u))
+  pub expanded_by : (n : View Plan) (u s x known : ℕ) → s ≤ p.bound → s / p.span ≤ known → Among record { cell = cell_at p u s; value = x; known = known } n.notes
+      → (x ≢ 0 → Passed p n u s x (out_degree p.graph u))
       → IsExpanded (net_of p) n (cell_at p u s)
   expanded_by n u s x known le low at passed =
       let b : ℕ = cell_at p u s in
@@ -147,7 +148,8 @@ module _ {S F : Type 0} (g : Net) where
       )
 
   -- a number within the wave was drawn, and the cells of its block were expanded
-  pub turned_on : (m n o : Me S (View F)) (j r : ℕ) → Draws g j r m.0 n.0 → n.1 ≡ m.1 → AllExpanded g m.0 → g.size j < 2 ^ 64 → Kept n o → ((n : ℕ) → n < g.size j → n / 64 ≡ r → IsExpanded g o.0 (g.cell j n)) → AllExpanded g o.0 × Turned m o
+  pub turned_on : (m n o : Me S (View F)) (j r : ℕ) → Draws g j r m.0 n.0 → n.1 ≡ m.1 → AllExpanded g m.0 → g.size j < 2 ^ 64 → Kept n o → ((n : ℕ) → n < g.size j
+      → n / 64 ≡ r → IsExpanded g o.0 (g.cell j n)) → AllExpanded g o.0 × Turned m o
   turned_on m n o j r d slots all small kept here =
       let t : ℕ = d.0 in
       let drawn : (a b : ℕ) → Among (a, b) m.0.draws → Among (a, b) o.0.draws = λ a b at. subst (λ l. Among (a, b) l) (sym (kept.draws ∙ ap (λ v. v.draws) d.3)) (inr at) in (
@@ -190,17 +192,6 @@ module _ {F : Type 0} (g : Net) where
       let t : ℕ = d.0 in let low : b ≤ t = drawn_next v w j r b d has in
       subst (λ u. j < u.known) (sym d.3) (d.5 whole known all (omega arith))
 
-  -- what the seat with every part knows after a claim
-  pub knows_past : (v w : View F) (j r : ℕ) → Draws g j r v w → v.parts ≡ 1024 → j ≤ v.known → AllExpanded g v → g.size j ≤ r * 64 → j < w.known
-  knows_past v w j r d whole known all past =
-      let t : ℕ = d.0 in let low : r ≤ t = subst (λ z. z ≤ t) (sym d.2) (mod-le t (2 ^ 64)) in
-      subst (λ u. j < u.known) (sym d.3) (d.5 whole known all (omega arith))
-
-  pub knows_ended : (v w : View F) (j r : ℕ) → Draws g j r v w → v.parts ≡ 1024 → j ≤ v.known → AllExpanded g v → IsPast g j v → j < w.known
-  knows_ended v w j r d whole known all past =
-      let t : ℕ = d.0 in let above : past.0 < t = d.7 past.0 past.1 in
-      subst (λ u. j < u.known) (sym d.3) (d.5 whole known all (omega (arith, past.2, above)))
-
 module _ (p : Plan) where
   wave_first : IsPlan p → (j : ℕ) → j < p.bound / p.span + 1 → j * p.span ≤ p.bound
   wave_first plan j lt =
@@ -209,7 +200,8 @@ module _ (p : Plan) where
 
   pub size_small : IsPlan p → (n j : ℕ) → n ≤ 4194304 → n ≡ vertex_count p.graph * width p → (net_of p).size j < 2 ^ 64
   size_small plan n j small is =
-      let le : vertex_count p.graph * offsets p j ≤ vertex_count p.graph * width p = mul-le (vertex_count p.graph) (offsets p j) (vertex_count p.graph) (width p) (omega arith) (omega arith) in omega (arith, le, is)
+      let le : vertex_count p.graph * offsets p j ≤ vertex_count p.graph * width p = mul-le (vertex_count p.graph) (offsets p j) (vertex_count p.graph)
+      (width p) (omega arith) (omega arith) in omega (arith, le, is)
 
   -- where number k of wave j stands
   pub placed : IsPlan p → (j k : ℕ) → j < p.bound / p.span + 1 → k < vertex_count p.graph * offsets p j
@@ -220,9 +212,6 @@ module _ (p : Plan) where
       let positive : 0 < n = omega arith in
       let small : k % n < n = mod-lt k positive in
       (positive, div_below k n (vertex_count p.graph) positive ltk, omega arith, div-mul-add j p.span (k % n) (omega arith))
-
-  pub first_within : IsPlan p → (j : ℕ) → j < p.bound / p.span + 1 → (j * p.span ≤ p.bound) × (0 < offsets p j)
-  first_within plan j lt = let some = plan.some in let low = wave_first plan j lt in (low, omega arith)
 
 module _ {S F : Type 0} where
   pub turned_refl : (m : Me S (View F)) → Turned m m
@@ -282,7 +271,8 @@ in_block n b is = let q : ℕ = n / 64 in let split : q * 64 + n % 64 ≡ n = di
 
 module _ {S F : Type 0} (g : Net) where
   -- the cells of some numbers of a wave are expanded, and that of the next number too
-  pub block_more : (m n : Me S (View F)) (j low k : ℕ) → Kept m n → ((i : ℕ) → low ≤ i → i < k → IsExpanded g m.0 (g.cell j i)) → IsExpanded g n.0 (g.cell j k) → (i : ℕ) → low ≤ i → i < k + 1 → IsExpanded g n.0 (g.cell j i)
+  pub block_more : (m n : Me S (View F)) (j low k : ℕ) → Kept m n → ((i : ℕ) → low ≤ i → i < k → IsExpanded g m.0 (g.cell j i)) → IsExpanded g n.0 (g.cell j k)
+      → (i : ℕ) → low ≤ i → i < k + 1 → IsExpanded g n.0 (g.cell j i)
   block_more m n j low k kept before now i from lt = dite (dec_lt i k)
       (λ l. expanded_kept g m n (g.cell j i) kept (before i from l))
       (λ nl. let same : i ≡ k = omega arith in subst (λ z. IsExpanded g n.0 (g.cell j z)) (sym same) now)

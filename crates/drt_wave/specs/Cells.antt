@@ -45,4 +45,5 @@ pub record IsPlan (p : Plan) : Type 0 where
 -- The vertices of the list, the last first, and then v are a walk, the sum of its separations is s, that of its execution times is x, and each of its prefixes is in range
 abbrev pub WalkTo : Plan → ℕ → List ℕ → ℕ → ℕ → Type 0
 WalkTo p v [] s x = (v < vertex_count p.graph) × (s ≡ 0) × (x ≡ wcet p.graph v) × (deadline p.graph v ≤ p.bound)
-WalkTo p v (u ∷ before) s x = (k : ℕ) × (r : ℕ) × (y : ℕ) × WalkTo p u before r y × (k < out_degree p.graph u) × ((edge_of p.graph u k).to ≡ v) × (s ≡ r + (edge_of p.graph u k).sep) × (x ≡ y + wcet p.graph v) × (s + deadline p.graph v ≤ p.bound)
+WalkTo p v (u ∷ before) s x = (k : ℕ) × (r : ℕ) × (y : ℕ) × WalkTo p u before r y × (k < out_degree p.graph u) × ((edge_of p.graph u k).to ≡ v) × (s ≡ r +
+    (edge_of p.graph u k).sep) × (x ≡ y + wcet p.graph v) × (s + deadline p.graph v ≤ p.bound)

@@ -15,7 +15,8 @@ module _ {F : Type 0} where
   abbrev pub IsAt : F → View F → Type 0
   IsAt key v = (v.fixed ≡ Some key) × (0 < v.parts)
 
-  -- Number t of wave j was drawn, which is above those of the wave that the seat drew before, and r told of it. The seat with every part has drawn all numbers below it; where it also has expanded all that it drew and knows the earlier waves as final, it knows the wave as final once it is drawn to its end
+  -- Number t of wave j was drawn, which is above those of the wave that the seat drew before, and r told of it. The seat with
+  -- every part has drawn all numbers below it; where it also has expanded all that it drew and knows the earlier waves as final, it knows the wave as final once it is drawn to its end
   abbrev pub Draws : Net → ℕ → ℕ → View F → View F → Type 0
   Draws g j r v w = (t : ℕ) × (known : ℕ) × (r ≡ t % 2 ^ 64) × (w ≡ with_draw v j t known) × (v.known ≤ known)
       × (v.parts ≡ 1024 → j ≤ v.known → AllExpanded g v → g.size j ≤ t * 64 → j < known)

@@ -98,7 +98,8 @@ abbrev pub Said : Type 0 → Type 0 → Type 1
 Said S F = Step S → Me S (View F) → ℕ → Me S (View F) → Type 0
 
 module _ {S F : Type 0} (net : F → Net) where
-  -- Number t of wave j was drawn, which is above those of the wave that the seat drew before. The seat with every part has drawn all numbers below it; where it also has expanded all that it drew and knows the earlier waves as final, it knows the wave as final once it is drawn to its end
+  -- Number t of wave j was drawn, which is above those of the wave that the seat drew before. The seat with every part has drawn
+  -- all numbers below it; where it also has expanded all that it drew and knows the earlier waves as final, it knows the wave as final once it is drawn to its end
   abbrev pub claimed : Said S F
   claimed st m r n = (j : ℕ) × (t : ℕ) × (known : ℕ) × (r ≡ t % 2 ^ 64) × (n ≡ (with_draw m.0 j t known, m.1)) × (m.0.known ≤ known)
       × ((f : F) → m.0.fixed ≡ Some f → (st.word ≡ (net f).cells + j) × (m.0.parts ≡ 1024 → j ≤ m.0.known → AllExpanded (net f) m.0 → (net f).size j ≤ t * 64 → j < known))

@@ -17,4 +17,5 @@ pub returns-clause-expanded : goal.returns-clause-expanded
 returns-clause-expanded c =
     let p = c.args.table.now.plan in let v = c.args.seat.now.me.0 in
     let at : Among record { cell = cell_at p c.args.vertex c.args.offset; value = c.glance-value.result; known = v.known } c.glance-value.new.seat.me.0.notes = rw (c.glance-value.ensures.seat, c.cell-from.ensures.value) (inl refl) in
-    expanded_by p c.pass_on.new.seat.me.0 c.args.vertex c.args.offset c.glance-value.result v.known c.requires.offset c.requires.known (c.pass_on.ensures.kept.notes _ at) (λ ne. c.pass_on.ensures.passed)
+    expanded_by p c.pass_on.new.seat.me.0 c.args.vertex c.args.offset c.glance-value.result v.known c.requires.offset c.requires.known
+    (c.pass_on.ensures.kept.notes _ at) (λ ne. c.pass_on.ensures.passed)

@@ -7,7 +7,8 @@ use Rattle.drt_wave.proofs.expanding.expand_block.Goals as goal
 pub cells-preserved : goal.cells-preserved
 cells-preserved c =
     let p = c.args.table.now.plan in let inv = c.cells.invariant in let n : ℕ = c.cells._number in
-    let place = subst (λ w. (k : ℕ) → c.cells.vertex ≡ k / w → c.cells.at ≡ k % w → (c.next_place.result.0 ≡ (k + 1) / w) × (c.next_place.result.1 ≡ (k + 1) % w)) c.offsets-width.ensures.value c.next_place.ensures n inv.2 inv.3 in
+    let place = subst (λ w. (k : ℕ) → c.cells.vertex ≡ k / w → c.cells.at ≡ k % w
+    → (c.next_place.result.0 ≡ (k + 1) / w) × (c.next_place.result.1 ≡ (k + 1) % w)) c.offsets-width.ensures.value c.next_place.ensures n inv.2 inv.3 in
     let here = subst (λ (q : ℕ × ℕ). IsExpanded (net_of p) c.expand.new.seat.me.0 (cell_at p q.0 (c.args.wave * p.span + q.1))) (λ i. (inv.2 i, inv.3 i)) c.expand.ensures.expanded in (
       c.expand.ensures.id ∙ inv.0,
       kept_more _ _ _ inv.1 c.expand.ensures.kept,

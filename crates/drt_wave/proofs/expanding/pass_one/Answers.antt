@@ -8,7 +8,10 @@ overflow_add-value c =
     let p = c.args.table.now.plan in let plan = c.args.table.now.planned in
     let to = plan.sound.to c.args.vertex c.args.k c.requires.vertex c.requires.edge in
     let w = (plan.sound.wcet _ to).1 in
-    record { fits = sum_fits p plan (net_of p).cells c.args.vertex c.args.offset c.args.value _ plan.small refl c.requires.offset c.requires.value (rw (c.vertex-target.ensures, c.out_edge-edge.ensures) w) }
+    record {
+      fits = sum_fits p plan (net_of p).cells c.args.vertex c.args.offset c.args.value _ plan.small refl c.requires.offset c.requires.value (rw
+          (c.vertex-target.ensures, c.out_edge-edge.ensures) w);
+    }
 
 pub raise-requires-clause-work : goal.raise-requires-clause-work
 raise-requires-clause-work c =

@@ -20,7 +20,8 @@ pub returns-then-block-blocks-clause-drawn : goal.returns-then-block-blocks-clau
 returns-then-block-blocks-clause-drawn c = λ b whole has. drawn_more (net_of c.args.table.now.plan) _ _ c.args.wave _ b c.claim-block.ensures.drawn whole has
 
 pub returns-then-block-blocks-clause-ended : goal.returns-then-block-blocks-clause-ended
-returns-then-block-blocks-clause-ended c = λ b whole has ended. knows_drawn (net_of c.args.table.now.plan) _ _ c.args.wave _ b c.claim-block.ensures.drawn whole c.requires.known c.requires.all has ended
+returns-then-block-blocks-clause-ended c = λ b whole has ended. knows_drawn
+    (net_of c.args.table.now.plan) _ _ c.args.wave _ b c.claim-block.ensures.drawn whole c.requires.known c.requires.all has ended
 
 pub returns-clause-all : goal.returns-clause-all
 returns-clause-all c =
@@ -34,4 +35,5 @@ returns-clause-drawn c = λ b whole has k lt.
 
 pub returns-clause-ended : goal.returns-clause-ended
 returns-clause-ended c = λ b whole has ended.
-    subst (λ k. c.args.wave < k) (sym c.expand_block.ensures.kept.known) (knows_drawn (net_of c.args.table.now.plan) _ _ c.args.wave _ b c.claim-block.ensures.drawn whole c.requires.known c.requires.all has ended)
+    subst (λ k. c.args.wave < k) (sym c.expand_block.ensures.kept.known) (knows_drawn
+    (net_of c.args.table.now.plan) _ _ c.args.wave _ b c.claim-block.ensures.drawn whole c.requires.known c.requires.all has ended)

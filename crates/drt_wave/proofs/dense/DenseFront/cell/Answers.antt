@@ -7,4 +7,5 @@ use Rattle.drt_wave.proofs.dense.DenseFront.cell.Goals as goal
 pub returns : goal.returns
 returns c =
     let d = c.self.inside in
-    subst (λ d. c.word.result ≡ work_at d c.args.vertex c.args.offset) c.self.view_is (sym (word_is (slots_items d.closed.words) (c.args.vertex * (d.plan.bound + 1) + c.args.offset) c.word.result c.word.ensures))
+    subst (λ d. c.word.result ≡ work_at d c.args.vertex c.args.offset) c.self.view_is (sym (word_is (slots_items d.closed.words) (c.args.vertex *
+    (d.plan.bound + 1) + c.args.offset) c.word.result c.word.ensures))

@@ -31,4 +31,5 @@ returns-clause-exact c =
 pub returns-clause-covers_walks : goal.returns-clause-covers_walks
 returns-clause-covers_walks c =
     let d = c.args.self.now in let k = c.keeps_best.ensures in let entries = c.vertices.front.items in
-    λ con. subst (CoversAll (IsWalkEntry d.plan.graph d.plan.bound)) (sym c.from_vec.ensures) (constrained_covers d k.planned k.best entries (gathered_covers d k.planned k.best entries (gathered c)) con)
+    λ con. subst (CoversAll (IsWalkEntry d.plan.graph d.plan.bound)) (sym c.from_vec.ensures) (constrained_covers d k.planned k.best entries
+    (gathered_covers d k.planned k.best entries (gathered c)) con)

@@ -13,11 +13,13 @@ fetch_add-requires c =
 pub returns-clause-drawn : goal.returns-clause-drawn
 returns-clause-drawn c =
     let t = c.args.self.now in
-    let told = claim_tells net_of t.table.shared.key.value t.table.shared.table_id.slots _ c.args.wave _ _ _ (c.requires.seat.0 ∙ ap Some (sym t.keyed)) (ap (λ n. n + c.args.wave) (t.counted ∙ ap (λ f. (net_of f).cells) (sym t.keyed))) c.fetch_add.ensures.2 in
+    let told = claim_tells net_of t.table.shared.key.value t.table.shared.table_id.slots _ c.args.wave _ _ _ (c.requires.seat.0 ∙ ap Some (sym t.keyed)) (ap
+    (λ n. n + c.args.wave) (t.counted ∙ ap (λ f. (net_of f).cells) (sym t.keyed))) c.fetch_add.ensures.2 in
     subst (λ f. Draws (net_of f) c.args.wave c.fetch_add.result c.args.seat.now.me.0 c.fetch_add.new.seat.me.0) t.keyed told.0
 
 pub returns-clause-slots : goal.returns-clause-slots
 returns-clause-slots c =
     let t = c.args.self.now in
-    let told = claim_tells net_of t.table.shared.key.value t.table.shared.table_id.slots _ c.args.wave _ _ _ (c.requires.seat.0 ∙ ap Some (sym t.keyed)) (ap (λ n. n + c.args.wave) (t.counted ∙ ap (λ f. (net_of f).cells) (sym t.keyed))) c.fetch_add.ensures.2 in
+    let told = claim_tells net_of t.table.shared.key.value t.table.shared.table_id.slots _ c.args.wave _ _ _ (c.requires.seat.0 ∙ ap Some (sym t.keyed)) (ap
+    (λ n. n + c.args.wave) (t.counted ∙ ap (λ f. (net_of f).cells) (sym t.keyed))) c.fetch_add.ensures.2 in
     told.1

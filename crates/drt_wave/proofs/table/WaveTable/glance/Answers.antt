@@ -18,4 +18,5 @@ returns-clause-reached c =
 pub returns-clause-best : goal.returns-clause-best
 returns-clause-best c =
     let t = c.args.self.now in
-    subst (λ f. (net_of f).wave c.args.cell ≤ c.args.seat.now.me.0.known → IsBest (net_of f) c.args.cell c.load.result) t.keyed (c.load.ensures.2.1 t.table.shared.key.value (c.requires.seat.0 ∙ ap Some (sym t.keyed))).1
+    subst (λ f. (net_of f).wave c.args.cell ≤ c.args.seat.now.me.0.known → IsBest (net_of f) c.args.cell c.load.result) t.keyed
+    (c.load.ensures.2.1 t.table.shared.key.value (c.requires.seat.0 ∙ ap Some (sym t.keyed))).1
