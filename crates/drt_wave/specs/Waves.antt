@@ -110,5 +110,6 @@ module _ {S F : Type 0} (net : F → Net) where
   glanced st m r n = (n ≡ (with_note m.0 st.word r, m.1))
       × ((f : F) → m.0.fixed ≡ Some f → (r ≢ 0 → Reached (net f) st.word r) × ((net f).wave st.word ≤ m.0.known → IsBest (net f) st.word r))
 
+-- A work was contributed to a cell.
 abbrev pub raises : {S F : Type 0} → Said S F
 raises st m r n = n ≡ (with_raise m.0 st.word st.first, m.1)
