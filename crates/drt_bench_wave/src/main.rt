@@ -1,0 +1,135 @@
+//! How fast a dense table of greatest works is worked by one seat.
+//!
+//! The arguments are a number of vertices, a number of edges, the least separation, the number of separations from it on that edges draw
+//! from, a bound in ticks, and how often the table is worked anew; without them 6, 6, 1, 1, 50 and 1. In a ring with
+//! separations of 1 each vertex has one walk for each offset below the bound, of more work than those before, so there are 300 labels. The answer
+//! has no times in it: `bench/wave` takes them from outside.
+#![tactic(auto)]
+
+ghost use Rattle.std.specs.Prelude.{◌+◌, ◌*◌, ◌≤◌};
+ghost use Rattle.drt_model.specs.Digraph.{vertex_count};
+
+use drt_graph::{Graph, check};
+use drt_model::{Edge, Name, Row, Task, Vertex, task_set};
+use drt_wave::dense_front;
+use std::alloc::{AllocError, Global};
+use std::env;
+
+#[derive(Drop)]
+struct Draws {
+    state: u64,
+}
+
+impl Draws {
+    // A time from 1 to `longest` ticks, by a linear congruential generator.
+    fn time(&mut self, longest: u32) -> u32
+        requires some { 1 ≤ longest }
+        requires at_most { longest ≤ 1000000 }
+        ensures at_least_one { 1 ≤ result }
+        ensures at_most_longest { result ≤ longest }
+    {
+        self.state = self
+            .state
+            .wrapping_mul(6364136223846793005)
+            .wrapping_add(1442695040888963407);
+        ((self.state >> 33) % longest as u64) as u32 + 1
+    }
+}
+
+// A task of a ring through all vertices and, beyond its edges, of chords one further each time round.
+fn task(
+    alloc: Global,
+    draws: &mut Draws,
+    count: u32,
+    edge_count: u32,
+    least: u32,
+    range: u32,
+) -> Result<Task, AllocError>
+    requires some { 1 ≤ count }
+    requires few { count ≤ 96 }
+    requires edges { edge_count ≤ 256 }
+    requires least { 1 ≤ least }
+    requires range { 1 ≤ range }
+    requires at_most { least + range ≤ 1000000 }
+{
+    let mut vertices = Vec::new(alloc);
+    for v in 0..count {
+        let name = [b'a' + (v / 26) as u8, b'a' + (v % 26) as u8];
+        vertices.push(Vertex {
+            name: Name::from_vec(Vec::from_slice(alloc, &name)?),
+            wcet: draws.time(100),
+            deadline: 1,
+        })?;
+    }
+    let mut edges = Vec::new(alloc);
+    for k in 0..edge_count {
+        edges.push(Edge {
+            from: k % count,
+            to: (k + 1 + k / count) % count,
+            sep: least - 1 + draws.time(range),
+        })?;
+    }
+    Ok(Task {
+        name: Name::from_vec(Vec::from_slice(alloc, b"T")?),
+        priority: 1,
+        vertices: Row::from_vec(vertices),
+        edges: Row::from_vec(edges),
+    })
+}
+
+// Works a table as often as is said, and gives the number of labels that no other label covers.
+fn work_again(alloc: Global, graph: &Graph, bound: u64, times: u32) -> Result<usize, AllocError>
+    requires { vertex_count graph.now * (bound + 1) ≤ 4194304 }
+{
+    let mut works = dense_front(alloc, graph, bound)?;
+    'times: for _time in 1..times {
+        works = dense_front(alloc, graph, bound)?;
+    }
+    Ok(works.front(alloc)?.as_slice().len())
+}
+
+// The same for the graph of a task; 0 where the numbers make no graph or too many cells.
+fn labels(alloc: Global, task: Task, bound: u64, times: u32) -> anyhow::Result<usize>
+    requires { bound ≤ 1000000 }
+{
+    let mut tasks = Vec::new(alloc);
+    tasks.push(task)?;
+    let Some(set) = task_set(2, Row::from_vec(tasks)) else {
+        return Ok(0);
+    };
+    let graphs = check(alloc, &set)?;
+    let _count = graphs.count();
+    let graph = graphs.graph(0);
+    if graph.vertex_count() as u64 * (bound + 1) > 4_194_304 {
+        return Ok(0);
+    }
+    Ok(work_again(alloc, graph, bound, times)?)
+}
+
+// The number at this place of the arguments, or the other number.
+fn number(argument: Option<String>, other: u32) -> u32 {
+    match argument {
+        Some(text) => text.as_str().parse::<u32>().unwrap_or(other),
+        None => other,
+    }
+}
+
+fn main(rt: HostRuntime) -> anyhow::Result<()> {
+    let alloc = rt.alloc();
+    let mut arguments = env::args(&rt)?;
+    let _program = arguments.next();
+    let count = number(arguments.next(), 6).clamp(1, 96);
+    let edge_count = number(arguments.next(), 6).min(256);
+    let least = number(arguments.next(), 1).clamp(1, 500_000);
+    let range = number(arguments.next(), 1).clamp(1, 500_000);
+    let bound = number(arguments.next(), 50).min(1_000_000);
+    let times = number(arguments.next(), 1);
+    let mut draws = Draws { state: 1 };
+    let task = task(alloc, &mut draws, count, edge_count, least, range)?;
+    let kept = labels(alloc, task, bound as u64, times)?;
+    println!(rt;
+        "{} vertices, {} edges, separations from {}, a bound of {}: {} labels",
+        count, edge_count, least, bound, kept
+    )?;
+    Ok(())
+}

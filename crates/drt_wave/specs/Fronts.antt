@@ -1,0 +1,46 @@
+-- Fronts: the labels of walks that no other label covers.
+use Rattle.std.specs.Prelude.{◌≡◌, ℕ, ◌+◌, ◌≤◌, ◌<◌, ◌⊎◌, ◌↔◌, List, ◌∷◌, Any, Contains}
+use Rattle.drt_model.specs.Digraph.{Digraph, vertex_count}
+use Rattle.drt_model.specs.Walk.{IsPath, deadline, last_of, span, work}
+use Rattle.drt_model.specs.declared.front.FrontEntry.{FrontEntry}
+use Rattle.drt_wave.specs.Greatest.{HasWalk}
+
+-- The entry is the label of a walk that is in range of the bound.
+abbrev pub IsRangeEntry : Digraph → ℕ → FrontEntry → Type 0
+IsRangeEntry g bound e = HasWalk g bound e.vertex e.offset e.work
+
+-- The entry is the label of a walk whose last job is due within the bound.
+pub record IsWalkEntry (g : Digraph) (bound : ℕ) (e : FrontEntry) : Type 0 where
+  pub first : ℕ
+  pub others : List ℕ
+  pub is_vertex : first < vertex_count g
+  pub path : IsPath g first others
+  pub vertex : e.vertex ≡ last_of first others
+  pub offset : e.offset ≡ span g first others
+  pub works : e.work ≡ work g (first ∷ others)
+  pub within : e.offset + deadline g e.vertex ≤ bound
+
+-- The entry is of that vertex, has at most that offset and at least that work.
+abbrev pub Covers : ℕ → ℕ → ℕ → FrontEntry → Type 0
+Covers vertex offset work e = (e.vertex ≡ vertex) × (e.offset ≤ offset) × (work ≤ e.work)
+
+-- The entry is one of some labels, and no other of them covers it: none of its vertex has at most its offset and at least its work.
+pub record IsNonDominated (IsLabel : FrontEntry → Type 0) (e : FrontEntry) : Type 0 where
+  pub label : IsLabel e
+  pub alone : (d : FrontEntry) → IsLabel d → Covers e.vertex e.offset e.work d → d ≡ e
+
+-- The front has exactly those of some labels that no other one covers.
+abbrev pub IsFrontOf : (FrontEntry → Type 0) → List FrontEntry → Type 0
+IsFrontOf IsLabel front = (e : FrontEntry) → Contains front e ↔ IsNonDominated IsLabel e
+
+-- The front has exactly the labels, of walks whose last job is due within the bound, that no other one covers.
+abbrev pub IsExactFront : ℕ → Digraph → List FrontEntry → Type 0
+IsExactFront bound g front = IsFrontOf (IsWalkEntry g bound) front
+
+-- Each of some labels is covered by an entry of the front.
+abbrev pub CoversAll : (FrontEntry → Type 0) → List FrontEntry → Type 0
+CoversAll IsLabel front = (e : FrontEntry) → IsLabel e → Any (Covers e.vertex e.offset e.work) front
+
+-- The next entry is of a later vertex, or of the same one with a greater offset and a greater work.
+abbrev pub IsNextEntry : FrontEntry → FrontEntry → Type 0
+IsNextEntry d e = (d.vertex < e.vertex) ⊎ ((d.vertex ≡ e.vertex) × (d.offset < e.offset) × (d.work < e.work))

@@ -1,0 +1,30 @@
+-- The entries of a front that are gathered so far.
+use Rattle.std.specs.Prelude.{◌≡◌, ℕ, ◌<◌, ◌≤◌, ◌⊎◌, List, Contains}
+use Rattle.drt_model.specs.Digraph.{vertex_count}
+use Rattle.drt_model.specs.Legal.{AllNeighbours}
+use Rattle.drt_model.specs.declared.front.FrontEntry.{FrontEntry}
+use Rattle.drt_wave.specs.Dense.{Dense, work_at}
+use Rattle.drt_wave.specs.Fronts.{IsNextEntry}
+
+-- The entry has the work of its cell, which is more than that of each cell of its vertex at a smaller offset.
+pub record IsKept (d : Dense) (e : FrontEntry) : Type 0 where
+  pub vertex : e.vertex < vertex_count d.plan.graph
+  pub offset : e.offset ≤ d.plan.bound
+  pub works : e.work ≡ work_at d e.vertex e.offset
+  pub some : 0 < e.work
+  pub above : (t : ℕ) → t < e.offset → work_at d e.vertex t < e.work
+
+-- The entry is of an earlier vertex than v, or of v with a smaller offset than s.
+abbrev pub IsBefore : ℕ → ℕ → FrontEntry → Type 0
+IsBefore v s e = (e.vertex < v) ⊎ ((e.vertex ≡ v) × (e.offset < s))
+
+-- The list has, in order, exactly the entries to be kept before a vertex and an offset.
+pub record AreGathered (d : Dense) (v s : ℕ) (entries : List FrontEntry) : Type 0 where
+  pub kept : (e : FrontEntry) → Contains entries e → IsKept d e × IsBefore v s e
+  pub all : (e : FrontEntry) → IsKept d e → IsBefore v s e → Contains entries e
+  pub ordered : AllNeighbours IsNextEntry entries
+
+-- The greatest work of the cells of v at offsets below s, and 0 where there is none.
+pub record IsMost (d : Dense) (v s most : ℕ) : Type 0 where
+  pub least : (t : ℕ) → t < s → work_at d v t ≤ most
+  pub found : 0 < most → (t : ℕ) × (t < s) × (work_at d v t ≡ most)

@@ -1,0 +1,9 @@
+pub mod Net
+pub mod Waves
+pub mod Seats
+pub mod Cells
+pub mod Greatest
+pub mod Dense
+pub mod Fronts
+pub mod Gathered
+pub mod Backwards

@@ -1,0 +1,62 @@
+//! What a table is of.
+ghost use Rattle.std.specs.Prelude.{◌≡◌, ℕ, ◌+◌, ◌*◌, ◌<◌, ◌≤◌, IfOk};
+ghost use Rattle.drt_model.specs.Digraph.{vertex_count, out_degree, edge_of};
+ghost use Rattle.drt_wave.specs.Cells.{IsPlan};
+
+use drt_graph::Graph;
+use drt_model::Memory;
+use std::alloc::Global;
+
+/// A graph, the greatest offset in ticks, and how many offsets a wave spans: the least separation of the graph, or all
+/// offsets where that is less.
+#[derive(Drop)]
+pub struct Plan {
+    pub graph: Graph,
+    pub bound: u64,
+    pub span: u64,
+}
+
+// The least of the separations out of a vertex and `most`.
+fn least_out(graph: &Graph, v: u32, most: u64) -> u64
+    requires vertex { v < vertex_count graph.now }
+    requires some { 0 < most }
+    ensures some { 0 < result }
+    ensures within { result ≤ most }
+    ensures apart { (k : ℕ) → k < out_degree graph.now v → result ≤ (edge_of graph.now v k).sep }
+{
+    let _count = graph.vertex_count();
+    let degree = graph.out_degree(v);
+    let mut least = most;
+    'edges: for k in 0..degree {
+        least = least.min(u64::from(graph.out_edge(v, k).sep));
+    }
+    least
+}
+
+// The least separation of a graph, or `most` where no separation is less.
+fn least_separation(graph: &Graph, most: u64) -> u64
+    requires some { 0 < most }
+    ensures some { 0 < result }
+    ensures within { result ≤ most }
+    ensures apart { (v k : ℕ) → v < vertex_count graph.now → k < out_degree graph.now v → result ≤ (edge_of graph.now v k).sep }
+{
+    let count = graph.vertex_count();
+    let mut least = most;
+    'vertices: for v in 0..count {
+        least = least_out(graph, v, least);
+    }
+    least
+}
+
+/// The plan of a table of a graph up to a bound.
+pub(crate) fn make_plan(alloc: Global, graph: &Graph, bound: u64) -> Result<Plan, Memory>
+    requires small { vertex_count graph.now * (bound + 1) ≤ 4194304 }
+    ensures graph { IfOk result (λ plan. plan.graph ≡ graph.now) }
+    ensures bound { IfOk result (λ plan. plan.bound ≡ bound) }
+    ensures planned { IfOk result (λ plan. IsPlan plan) }
+{
+    let _count = graph.vertex_count();
+    let span = least_separation(graph, bound + 1);
+    let graph = graph.copy(alloc)?;
+    Ok(Plan { graph, bound, span })
+}

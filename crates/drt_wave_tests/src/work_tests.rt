@@ -1,0 +1,203 @@
+ghost use Rattle.std.specs.Prelude.{◌≤◌};
+
+use drt_fixtures::{Shape, make_set};
+use drt_graph::check;
+use drt_wave::{DenseFront, dense_front};
+use std::alloc::Global;
+use std::test::Fail;
+
+// The vertices p(1,1), q(2,1), m(1,1) with the edges p-m 1, q-m 1 and m-m 3.
+const THREE: Shape<'static> = (
+    &[(1, 1), (2, 1), (1, 1)],
+    &[(0, 2, 1), (1, 2, 1), (2, 2, 3)],
+);
+
+// The vertices a(1,1), b(5,1) with edges of 70 there and back: each of its waves has 140 cells, which is more than a block.
+const PAIR: Shape<'static> = (&[(1, 1), (5, 1)], &[(0, 1, 70), (1, 0, 70)]);
+
+// A vertex and a greater one that lies behind it by a separation of 2, and has more work by a detour of 5.
+const DETOUR: Shape<'static> = (
+    &[(1, 1), (4, 1), (9, 2)],
+    &[(0, 2, 2), (0, 1, 2), (1, 2, 3)],
+);
+
+// The works of a graph of this shape up to the bound.
+fn works_of(alloc: Global, shape: Shape<'_>, bound: u64) -> Result<DenseFront, Fail>
+    requires { bound ≤ 1000 }
+{
+    let set = make_set(alloc, &[shape])?.ok_or("within the limits")?;
+    let graphs = check(alloc, &set).ok().ok_or("constrained")?;
+    if graphs.count() == 0 {
+        return Err("a task".into());
+    }
+    let graph = graphs.graph(0);
+    if graph.vertex_count() as u64 * (bound + 1) > 4_194_304 {
+        return Err("few cells".into());
+    }
+    Ok(dense_front(alloc, graph, bound)?)
+}
+
+// The work that is wanted of a vertex and an offset, 0 where none is named.
+fn wanted_at(wanted: &[(u32, u64, u64)], vertex: u32, offset: u64) -> u64 {
+    for cell in wanted {
+        if cell.0 == vertex && cell.1 == offset {
+            return cell.2;
+        }
+    }
+    0
+}
+
+// Whether the works of a vertex are those wanted.
+fn has_row(works: &DenseFront, wanted: &[(u32, u64, u64)], vertex: u32) -> bool {
+    if vertex >= works.graph().vertex_count() {
+        return false;
+    }
+    let bound = works.bound();
+    for offset in 0..bound {
+        if works.work(vertex, offset) != wanted_at(wanted, vertex, offset) {
+            return false;
+        }
+    }
+    works.work(vertex, bound) == wanted_at(wanted, vertex, bound)
+}
+
+// Whether the works that aren't 0 are those wanted.
+fn has_works(works: &DenseFront, wanted: &[(u32, u64, u64)]) -> bool {
+    let count = works.graph().vertex_count();
+    for vertex in 0..count {
+        if !has_row(works, wanted, vertex) {
+            return false;
+        }
+    }
+    true
+}
+
+// Whether the front is the one wanted.
+fn has_front(
+    alloc: Global,
+    works: &DenseFront,
+    wanted: &[(u32, u64, u64)],
+) -> Result<bool, Fail> {
+    let front = works.front(alloc)?;
+    let entries = front.as_slice();
+    if entries.len() != wanted.len() {
+        return Ok(false);
+    }
+    for i in 0..entries.len() {
+        let found = (entries[i].vertex, entries[i].offset, entries[i].work);
+        if found != wanted[i] {
+            return Ok(false);
+        }
+    }
+    Ok(true)
+}
+
+// Whether the walk of a vertex and an offset is the one wanted.
+fn has_walk(
+    alloc: Global,
+    works: &DenseFront,
+    vertex: u32,
+    offset: u64,
+    wanted: &[u32],
+) -> Result<bool, Fail> {
+    if vertex >= works.graph().vertex_count() || offset > works.bound() {
+        return Ok(false);
+    }
+    if works.work(vertex, offset) == 0 {
+        return Ok(false);
+    }
+    let walk = works.walk(alloc, vertex, offset)?;
+    Ok(walk.as_slice() == wanted)
+}
+
+#[test]
+fn each_cell_has_the_greatest_work(rt: HostRuntime) -> Result<(), Fail> {
+    let works = works_of(rt.alloc(), THREE, 5)?;
+    let wanted = [
+        (0, 0, 1),
+        (1, 0, 2),
+        (2, 0, 1),
+        (2, 1, 3),
+        (2, 3, 2),
+        (2, 4, 4),
+    ];
+    assert!(rt; has_works(&works, &wanted));
+    Ok(())
+}
+
+#[test]
+fn the_front_leaves_out_a_label_with_less_work_than_an_earlier_one(
+    rt: HostRuntime,
+) -> Result<(), Fail> {
+    let works = works_of(rt.alloc(), THREE, 5)?;
+    let wanted = [(0, 0, 1), (1, 0, 2), (2, 0, 1), (2, 1, 3), (2, 4, 4)];
+    assert!(rt; has_front(rt.alloc(), &works, &wanted)?);
+    Ok(())
+}
+
+#[test]
+fn a_walk_is_found_backwards(rt: HostRuntime) -> Result<(), Fail> {
+    let works = works_of(rt.alloc(), THREE, 5)?;
+    assert!(rt; has_walk(rt.alloc(), &works, 2, 4, &[1, 2, 2])?);
+    let alone = has_walk(rt.alloc(), &works, 1, 0, &[1])?;
+    assert!(rt; alone);
+    Ok(())
+}
+
+#[test]
+fn a_wave_of_several_blocks_is_worked_to_its_end(rt: HostRuntime) -> Result<(), Fail> {
+    let works = works_of(rt.alloc(), PAIR, 150)?;
+    let wanted = [
+        (0, 0, 1),
+        (0, 70, 6),
+        (0, 140, 7),
+        (1, 0, 5),
+        (1, 70, 6),
+        (1, 140, 11),
+    ];
+    let kept = has_works(&works, &wanted) && has_front(rt.alloc(), &works, &wanted)?;
+    assert!(rt; kept);
+    assert!(rt; has_walk(rt.alloc(), &works, 1, 140, &[1, 0, 1])?);
+    Ok(())
+}
+
+#[test]
+fn the_last_job_is_due_within_the_bound(rt: HostRuntime) -> Result<(), Fail> {
+    let works = works_of(rt.alloc(), DETOUR, 6)?;
+    let wanted = [(0, 0, 1), (1, 0, 4), (1, 2, 5), (2, 0, 9), (2, 2, 10), (2, 3, 13)];
+    assert!(rt; has_works(&works, &wanted));
+    Ok(())
+}
+
+#[test]
+fn a_detour_with_more_work_is_no_shorter_walk(rt: HostRuntime) -> Result<(), Fail> {
+    let works = works_of(rt.alloc(), DETOUR, 7)?;
+    let wanted = [
+        (0, 0, 1),
+        (1, 0, 4),
+        (1, 2, 5),
+        (2, 0, 9),
+        (2, 2, 10),
+        (2, 3, 13),
+        (2, 5, 14),
+    ];
+    assert!(rt; has_front(rt.alloc(), &works, &wanted)?);
+    let direct = has_walk(rt.alloc(), &works, 2, 2, &[0, 2])?;
+    assert!(rt; direct);
+    assert!(rt; has_walk(rt.alloc(), &works, 2, 5, &[0, 1, 2])?);
+    Ok(())
+}
+
+#[test]
+fn nothing_is_due_by_time_0(rt: HostRuntime) -> Result<(), Fail> {
+    let works = works_of(rt.alloc(), THREE, 0)?;
+    assert!(rt; has_works(&works, &[]) && has_front(rt.alloc(), &works, &[])?);
+    Ok(())
+}
+
+#[test]
+fn without_an_edge_there_is_one_wave(rt: HostRuntime) -> Result<(), Fail> {
+    let works = works_of(rt.alloc(), (&[(3, 2)], &[]), 100)?;
+    assert!(rt; has_works(&works, &[(0, 0, 3)]));
+    Ok(())
+}
