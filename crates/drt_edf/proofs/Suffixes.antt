@@ -8,7 +8,7 @@ use Rattle.drt_busy.specs.Choice.{no_task, task_at, graph_at, IsWalk, due_of, Ar
 use Rattle.drt_graph.specs.Graphs.{no_graph}
 use Rattle.drt_horizon.specs.Laws.{IsDue, AreDue, efforts as list_efforts}
 use Rattle.drt_evidence.specs.Claims.{graphs_of}
-use Rattle.drt_edf.specs.LabelFronts.{walk_at}
+use Rattle.drt_releases.specs.Walks.{walk_at}
 
 -- The walks of the tasks from number m on, of which there is one for each of these.
 pub listed : (ℕ → List ℕ) → ℕ → List Task → List (List ℕ)

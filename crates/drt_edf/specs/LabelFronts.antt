@@ -1,5 +1,5 @@
 -- What the search of a task's walks gives: a front.
-use Rattle.std.specs.Prelude.{◌≡◌, ℕ, ◌≤◌, List, [], ◌∷◌, Any, slice_index_or}
+use Rattle.std.specs.Prelude.{◌≡◌, ℕ, ◌≤◌, List, [], ◌∷◌, Any}
 use Rattle.drt_model.specs.Digraph.{Digraph}
 use Rattle.drt_model.specs.Walk.{work}
 use Rattle.drt_model.specs.declared.front.FrontEntry.{FrontEntry}
@@ -25,10 +25,6 @@ pub record IsDemandWalk (g : Digraph) (front : List FrontEntry) (t : ℕ) (walk 
   pub walk_is : IsWalk g walk
   pub due : due_of g walk ≤ t
   pub all : work g walk ≡ dbf_at g front t
-
--- The walk of task k in a list of them, one for each task; no walk past its end.
-abbrev pub walk_at : List (List ℕ) → ℕ → List ℕ
-walk_at walks k = slice_index_or walks k []
 
 -- Such a walk for each graph, in order.
 abbrev pub AreDemandWalks : List Digraph → List (List FrontEntry) → ℕ → List (List ℕ) → Type 0

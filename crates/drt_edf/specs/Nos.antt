@@ -5,10 +5,6 @@ use Rattle.drt_model.specs.Digraph.{Digraph}
 use Rattle.drt_graph.specs.Graphs.{graph_of}
 use Rattle.drt_busy.specs.Choice.{AreDueBy, AreWalks, IsWalk, due_of, efforts}
 
--- Each graph has a walk, which is due by t.
-abbrev pub AreDueWalks : List Digraph → (ℕ → List ℕ) → ℕ → Type 0
-AreDueWalks graphs walks t = (k : ℕ) → k < length graphs → IsWalk (graph_of graphs k) (walks k) × (due_of (graph_of graphs k) (walks k) ≤ t)
-
 -- The walks are those of the tasks, are due by t, and have together more work than t.
 pub record IsExcess (tasks : List Task) (walks : ℕ → List ℕ) (t : ℕ) : Type 0 where
   pub are : AreWalks tasks walks

@@ -4,15 +4,16 @@ ghost use Rattle.drt_model.specs.declared.tasks.Task.{Task};
 ghost use Rattle.drt_model.specs.Walk.{work};
 ghost use Rattle.drt_busy.specs.Choice.{IsWalk, due_of};
 ghost use Rattle.drt_evidence.specs.Claims.{graphs_of};
-ghost use Rattle.drt_edf.specs.LabelFronts.{walk_at};
+ghost use Rattle.drt_releases.specs.Walks.{walk_at};
 ghost use Rattle.drt_edf.specs.Nos.{IsExcess};
 
-use crate::refusal::{overload_refusal, refusal, walk_of};
+use crate::refusal::{overload_refusal, refusal};
 use crate::turns::turns;
 use drt_evidence::Evidence;
 use drt_graph::{Graph, Graphs, check};
 use drt_horizon::{Horizon, Over, overload, plan, ratios};
 use drt_model::{Edge, Memory, Miss, Name, Release, Row, Task, TaskSet, Vertex, task_set};
+use drt_releases::walk_of;
 use std::alloc::Global;
 use std::process::Abort;
 use std::test::Fail;

@@ -22,11 +22,20 @@ pub fn all_releases(
     requires time { t ≤ 1000000000000000000 }
     ensures { IfOk result (λ releases. (tasks : List Task) → graphs.now ≡ graphs_of tasks → releases.items ≡ all_releases tasks (walk_at walks.now) (length tasks)) }
 {
-    let mut releases = Vec::new(alloc);
+    let mut releases = Vec::with_capacity(alloc, release_count(walks))?;
     'tasks: for i in 0..graphs.count() {
         add_releases(graphs.graph(i), i, walk_of(walks, i), t, &mut releases)?;
     }
     Ok(releases)
+}
+
+// How many releases the walks have.
+fn release_count(walks: &[Row<u32>]) -> usize {
+    let mut count: usize = 0;
+    'walks: for walk in walks {
+        count = count.saturating_add(walk.as_slice().len());
+    }
+    count
 }
 
 /// The walk of a task in a list of them, one for each; no walk past its end.

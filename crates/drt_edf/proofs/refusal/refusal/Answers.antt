@@ -6,8 +6,9 @@ use Rattle.drt_model.specs.Schedulable.{jobs_of}
 use Rattle.drt_busy.specs.WalkReleases.{all_releases}
 use Rattle.drt_replay.specs.Board.{Shown}
 use Rattle.drt_evidence.specs.Ranges.{IsInRangeRelease}
-use Rattle.drt_edf.specs.LabelFronts.{walk_at}
-use Rattle.drt_edf.proofs.Nos.{all_in_range, due_walks, miss_in_range, missed, some_late}
+use Rattle.drt_releases.specs.Walks.{walk_at}
+use Rattle.drt_releases.proofs.Walks.{due_walks}
+use Rattle.drt_edf.proofs.Nos.{miss_in_range, missed, some_late}
 use Rattle.drt_edf.proofs.refusal.refusal.Goals as goal
 
 pub all_releases-requires-clause-walks : goal.all_releases-requires-clause-walks
@@ -26,7 +27,7 @@ start-requires-clause-times c =
     let tasks = c.args.set.now.tasks in
     let same : c.as_slice.result.now ≡ all_releases tasks (walk_at c.args.walks.now) (length tasks) = c.as_slice.ensures.value ∙ c.in_ok-releases.ensures tasks c.requires.graphs in
     let kept = rw c.requires.graphs at c.count-count.ensures.kept in
-    let each = all_in_range tasks (walk_at c.args.walks.now) c.args.t kept c.requires.walks c.requires.due c.requires.time (length tasks) (omega arith) in
+    let each = c.releases_are_in_range.ensures tasks (walk_at c.args.walks.now) c.args.t kept c.requires.walks c.requires.due c.requires.time in
     rw same (All-weaker IsInRangeRelease (λ r. r.time ≤ 1000000000000000000) (λ r is. is.time) (all_releases tasks (walk_at c.args.walks.now) (length tasks)) each)
 
 pub unreachable-requires : goal.unreachable-requires
@@ -62,7 +63,7 @@ returns-clause-range c =
     ∙ ap (λ (rs : List Release). let s : Shown = record { policy = Edf; jobs = jobs_of tasks rs; ticks = c.args.t } in s) c.as_slice.ensures.value) in
     let same = c.in_ok-releases.ensures tasks c.requires.graphs in
     let kept = rw c.requires.graphs at c.count-count.ensures.kept in
-    let all = all_in_range tasks (walk_at c.args.walks.now) c.args.t kept c.requires.walks c.requires.due c.requires.time (length tasks) (omega arith) in
+    let all = c.releases_are_in_range.ensures tasks (walk_at c.args.walks.now) c.args.t kept c.requires.walks c.requires.due c.requires.time in
     let each : All IsInRangeRelease releases = rw same all in
     let counted : length releases ≤ 4294967295 = omega (arith, c.if-len-gt4294967295.false, c.len.ensures) in
     rw c.from_vec.ensures (record { each = each; counted = counted; named = miss_in_range tasks releases c.args.t c.run_until.new.self c.in-Some.miss is each counted c.requires.time (rw c.in-Some.is at c.first_miss-missed.ensures.first) })

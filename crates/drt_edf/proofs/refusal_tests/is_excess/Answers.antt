@@ -8,8 +8,8 @@ use Rattle.drt_model.specs.Digraph.{digraph_of}
 use Rattle.drt_model.specs.Walk.{work}
 use Rattle.drt_graph.specs.Graphs.{graph_of}
 use Rattle.drt_busy.specs.Choice.{IsWalk, due_of, efforts, graph_at}
-use Rattle.drt_edf.specs.LabelFronts.{walk_at}
-use Rattle.drt_edf.proofs.Nos.{graph_same}
+use Rattle.drt_releases.specs.Walks.{walk_at}
+use Rattle.drt_releases.proofs.Walks.{graph_same}
 use Rattle.drt_edf.proofs.refusal_tests.is_excess.Goals as goal
 
 efforts_none : (tasks : List Task) (walks : ℕ → List ℕ) → efforts tasks walks 0 ≡ 0

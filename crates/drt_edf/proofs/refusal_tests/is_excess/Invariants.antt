@@ -3,7 +3,7 @@ use Rattle.std.proofs.Common.{◌≡◌, ℕ, ◌*◌, ◌<◌, ◌≤◌, List}
 use Rattle.drt_model.specs.declared.tasks.Task.{Task}
 use Rattle.drt_busy.specs.Choice.{IsWalk, due_of, efforts, graph_at}
 use Rattle.drt_evidence.specs.Claims.{graphs_of}
-use Rattle.drt_edf.specs.LabelFronts.{walk_at}
+use Rattle.drt_releases.specs.Walks.{walk_at}
 use Rattle.drt_edf.proofs.refusal_tests.is_excess.Given as goal
 
 abbrev pub invariant-tasks : goal.invariant-tasks

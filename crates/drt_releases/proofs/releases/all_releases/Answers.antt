@@ -8,7 +8,7 @@ use Rattle.drt_releases.proofs.Walks.{all_none, all_more, graph_same}
 use Rattle.drt_releases.proofs.releases.all_releases.Goals as goal
 
 pub tasks-init : goal.tasks-init
-tasks-init c tasks same = c.new-releases.ensures.items ∙ sym (all_none tasks (walk_at c.args.walks.now))
+tasks-init c tasks same = c.in_ok-releases.ensures.items ∙ sym (all_none tasks (walk_at c.args.walks.now))
 
 pub tasks-preserved : goal.tasks-preserved
 tasks-preserved c tasks same =
