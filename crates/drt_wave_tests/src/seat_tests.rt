@@ -1,11 +1,11 @@
+ghost use Rattle.std.specs.Prelude.{◌≡◌, [], IfOk};
+ghost use Rattle.drt_wave.specs.Waves.{fresh};
+
 use drt_fixtures::{Shape, make_set};
 use drt_graph::check;
 use drt_wave::{WaveSeat, WaveTable};
 use std::alloc::Global;
 use std::test::Fail;
-
-ghost use Rattle.std.specs.Prelude.{◌≡◌, [], IfOk};
-ghost use Rattle.drt_wave.specs.Waves.{fresh};
 
 // The vertices p(1,1), q(2,1), m(1,1) with the edges p-m 1, q-m 1 and m-m 3.
 const THREE: Shape<'static> = (

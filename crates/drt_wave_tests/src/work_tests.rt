@@ -73,11 +73,7 @@ fn has_works(works: &DenseFront, wanted: &[(u32, u64, u64)]) -> bool {
 }
 
 // Whether the front is the one wanted.
-fn has_front(
-    alloc: Global,
-    works: &DenseFront,
-    wanted: &[(u32, u64, u64)],
-) -> Result<bool, Fail> {
+fn has_front(alloc: Global, works: &DenseFront, wanted: &[(u32, u64, u64)]) -> Result<bool, Fail> {
     let front = works.front(alloc)?;
     let entries = front.as_slice();
     if entries.len() != wanted.len() {
@@ -164,7 +160,14 @@ fn a_wave_of_several_blocks_is_worked_to_its_end(rt: HostRuntime) -> Result<(), 
 #[test]
 fn the_last_job_is_due_within_the_bound(rt: HostRuntime) -> Result<(), Fail> {
     let works = works_of(rt.alloc(), DETOUR, 6)?;
-    let wanted = [(0, 0, 1), (1, 0, 4), (1, 2, 5), (2, 0, 9), (2, 2, 10), (2, 3, 13)];
+    let wanted = [
+        (0, 0, 1),
+        (1, 0, 4),
+        (1, 2, 5),
+        (2, 0, 9),
+        (2, 2, 10),
+        (2, 3, 13),
+    ];
     assert!(rt; has_works(&works, &wanted));
     Ok(())
 }
