@@ -43,6 +43,7 @@ queries_in tasks tree i items None = []
 queries_in tasks tree i items (Some t) =
     if nat_lt i (higher_count tasks t.priority) then passes_at tree i items (Some (root tree ∷ [])) else map blank (times items)
 
+-- The questions of a proof at a place, of the task that it names.
 abbrev pub queries_of : List Task → TreeClaim → ℕ → ProofClaim → List Query
 queries_of tasks tree i proof = queries_in tasks tree i proof.items (slice_get tasks proof.task)
 

@@ -30,6 +30,7 @@ abbrev pub marks_in : ProofClaim → Option Task → List Mark
 marks_in proof None = []
 marks_in proof (Some t) = map (mark_at (digraph_of t) proof.vertex) (times proof.items)
 
+-- The marks of a proof, of the task that it names.
 abbrev pub marks_of : List Task → ProofClaim → List Mark
 marks_of tasks proof = marks_in proof (slice_get tasks proof.task)
 
@@ -61,6 +62,7 @@ abbrev pub points_in : List Task → List TreeClaim → ProofClaim → Option Ta
 points_in tasks trees proof None = []
 points_in tasks trees proof (Some t) = map (point (digraph_of t) proof.vertex) (passes trees proof.items (Some (opening trees (higher_count tasks t.priority))))
 
+-- The points of a proof, of the task that it names.
 abbrev pub points_of : List Task → List TreeClaim → ProofClaim → List Point
 points_of tasks trees proof = points_in tasks trees proof (slice_get tasks proof.task)
 
@@ -73,6 +75,7 @@ abbrev pub query_in : ℕ → Option ℕ → Query
 query_in t None = asks 0 0
 query_in t (Some n) = asks n t
 
+-- The question of a point at a place.
 abbrev pub query : ℕ → Point → Query
 query i p = query_in p.mark.time (slice_get p.nodes i)
 

@@ -34,6 +34,7 @@ impl<T: Drop> Model for Kept<T> {
 }
 
 impl<T: Drop> Kept<T> {
+    /// Keeps the value. `AllocError` is want of memory.
     pub fn new(alloc: Global, value: T) -> Result<Kept<T>, AllocError>
         ensures { IfOk result (λ kept. kept ≡ value) }
     {
@@ -46,6 +47,7 @@ impl<T: Drop> Kept<T> {
         }
     }
 
+    /// The value, taken out again.
     pub fn into_inner(self) -> T
         ensures { result ≡ self }
     {

@@ -35,6 +35,7 @@ IsOfTake OutOfRange = ⊥
 IsOfTake Closed = ⊥
 IsOfTake Spent = Unit {0}
 
+-- A reply that an offer may have.
 abbrev pub IsOfOffer : TableReply → Type 0
 IsOfOffer (Taken k) = ⊥
 IsOfOffer (Busy k) = ⊥
@@ -45,6 +46,7 @@ IsOfOffer OutOfRange = Unit {0}
 IsOfOffer Closed = ⊥
 IsOfOffer Spent = Unit {0}
 
+-- A reply that the close of a node may have.
 abbrev pub IsOfClose : TableReply → Type 0
 IsOfClose (Taken k) = ⊥
 IsOfClose (Busy k) = ⊥
