@@ -71,7 +71,7 @@ module _ (tasks : List Task) (walks : ℕ → List ℕ) (k v : ℕ) where
   unfolding with_job
   other_none i f ne = rw (f, ne_eqb i k ne) refl
 
-  with_walks : AreWalks tasks walks → v < vertex_count (graph_at tasks k) → AreWalks tasks (with_job tasks walks k v)
+  pub with_walks : AreWalks tasks walks → v < vertex_count (graph_at tasks k) → AreWalks tasks (with_job tasks walks k v)
   with_walks are here i h = elim (cases_eq i k) [
     | inl e ↦ subst (λ n. IsWalk (graph_at tasks n) (with_job tasks walks k v n)) (sym e) (subst (IsWalk (graph_at tasks k)) (sym self_alone) (here, tt))
     | inr ne ↦ elim (cases_Bool (ltb (task_at tasks i).priority (task_at tasks k).priority)) [
@@ -80,7 +80,7 @@ module _ (tasks : List Task) (walks : ℕ → List ℕ) (k v : ℕ) where
     ]
   ]
 
-  with_requests : (n t : ℕ) → requests tasks (with_job tasks walks k v) (task_at tasks k).priority n t ≡ requests tasks walks (task_at tasks k).priority n t
+  pub with_requests : (n t : ℕ) → requests tasks (with_job tasks walks k v) (task_at tasks k).priority n t ≡ requests tasks walks (task_at tasks k).priority n t
   unfolding requests
   with_requests zero t = refl
   with_requests (suc i) t =
@@ -94,7 +94,7 @@ module _ (tasks : List Task) (walks : ℕ → List ℕ) (k v : ℕ) where
   unfolding releases_from
   one_release = (0, omega arith, refl)
 
-  with_member : (n : ℕ) → k < n → Contains (all_releases tasks (with_job tasks walks k v) n) (release_at (graph_at tasks k) k 0 v)
+  pub with_member : (n : ℕ) → k < n → Contains (all_releases tasks (with_job tasks walks k v) n) (release_at (graph_at tasks k) k 0 v)
   unfolding all_releases
   with_member zero h = absurd (omega arith)
   with_member (suc i) h = elim (cases_eq i k) [
@@ -131,7 +131,7 @@ requests_miss version tasks ok k v h here walks are none =
     (legal, (j, l, at, no_time_misses jobs j (omega (arith, length-jobs_of tasks rs)) time (omega arith) over))
 
 -- some t from 1 to d has f t at most t, or none has
-search_times : (f : ℕ → ℕ) (d : ℕ) → ((t : ℕ) × (1 ≤ t) × (t ≤ d) × (f t ≤ t)) ⊎ ((t : ℕ) → 1 ≤ t → t ≤ d → t < f t)
+pub search_times : (f : ℕ → ℕ) (d : ℕ) → ((t : ℕ) × (1 ≤ t) × (t ≤ d) × (f t ≤ t)) ⊎ ((t : ℕ) → 1 ≤ t → t ≤ d → t < f t)
 search_times f zero = inr (λ t one by. absurd (omega arith))
 search_times f (suc d) = elim (search_times f d) [
   | inl (t, one, by, fits) ↦ inl (t, one, omega arith, fits)

@@ -97,8 +97,9 @@ module _ (jobs : List Job) where
       | inr ne ↦ omega (arith, demand-or m, due-other m ne)
     ]
 
-  pub fixed_overload : (j : ℕ) → AreEarlierDone j → Misses Fixed jobs j → (s : ℕ) × (s ≤ (job_at jobs j).time) × ((t : ℕ) → 1 ≤ t → (job_at jobs j).time + t ≤ (job_at jobs j).deadline → t < (job_at jobs j).need + demand Fixed jobs (is_higher j) (length jobs) s (s + t))
-  fixed_overload j earlier miss =
+  -- a job that lacks ticks at d: from some start of the higher tasks' busy time no length up to d has room
+  pub late_overload : (j d : ℕ) → AreEarlierDone j → done Fixed jobs j d < (job_at jobs j).need → (s : ℕ) × (s ≤ (job_at jobs j).time) × ((t : ℕ) → 1 ≤ t → (job_at jobs j).time + t ≤ d → t < (job_at jobs j).need + demand Fixed jobs (is_higher j) (length jobs) s (s + t))
+  late_overload j d earlier miss =
       let r = (job_at jobs j).time in
       let p = is_higher j in
       let p' = is_higher_or j in
@@ -111,7 +112,7 @@ module _ (jobs : List Job) where
         s,
         h,
         λ t one due.
-            (let lacks : done Fixed jobs j (s + t) < (job_at jobs j).need = omega (arith, miss, done_mono_le Fixed jobs j (s + t) (job_at jobs j).deadline (omega arith)) in
+            (let lacks : done Fixed jobs j (s + t) < (job_at jobs j).need = omega (arith, miss, done_mono_le Fixed jobs j (s + t) d (omega arith)) in
             elim (cases_lt r (s + t)) [
               | inr early ↦
                   (let run = served_run Fixed jobs p s t (λ n l u. higher n l (omega arith)) in
@@ -119,10 +120,13 @@ module _ (jobs : List Job) where
               | inl late ↦
                   (let run = served_run Fixed jobs p' s t (λ n l u. elim (cases_lt n r) [
                     | inl before ↦ pick_higher_or j (pick Fixed jobs n) (higher n l before)
-                    | inr after ↦ pick_above j n earlier after (omega (arith, miss, done_mono_le Fixed jobs j n (job_at jobs j).deadline (omega arith)))
+                    | inr after ↦ pick_above j n earlier after (omega (arith, miss, done_mono_le Fixed jobs j n d (omega arith)))
                   ]) in
                   let here : j < length jobs = in_range Fixed jobs (s + t) j (record { released = omega arith; lacks = lacks }) in
                   let less = work-demand-lt Fixed jobs p' s (s + t) quiet (length jobs) j here (higher_or-self j) late lacks h in
                   omega (arith, run, served-work Fixed jobs p' s, served-work Fixed jobs p' (s + t), less, demand-or j s (s + t) (length jobs)))
             ]),
       )
+
+  pub fixed_overload : (j : ℕ) → AreEarlierDone j → Misses Fixed jobs j → (s : ℕ) × (s ≤ (job_at jobs j).time) × ((t : ℕ) → 1 ≤ t → (job_at jobs j).time + t ≤ (job_at jobs j).deadline → t < (job_at jobs j).need + demand Fixed jobs (is_higher j) (length jobs) s (s + t))
+  fixed_overload j earlier miss = late_overload j (job_at jobs j).deadline earlier miss

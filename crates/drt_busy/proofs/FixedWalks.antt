@@ -79,13 +79,13 @@ none_counted q (r ∷ rs) = omega (arith, sum_by-cons (λ x. cond (false && q x)
 
 module _ (version : ℕ) (tasks : List Task) (ok : IsTaskSet version tasks) (constrained : AreConstrained tasks) (rs : List Release) (legal : IsLegal tasks rs) where
   -- the walk of what a task releases from a on
-  walk_from : ℕ → ℕ → List ℕ
+  pub walk_from : ℕ → ℕ → List ℕ
   walk_from a k = walk_of (from_on a (part_of k rs))
 
   part_from : (a k : ℕ) → k < length tasks → IsLegalPart (task_at tasks k) (from_on a (part_of k rs))
   part_from a k h = from_part (task_at tasks k) a (part_of k rs) (legal.parts k (task_at tasks k) (slice_get-get_or tasks k no_task h))
 
-  are_walks : (a : ℕ) → AreWalks tasks (walk_from a)
+  pub are_walks : (a : ℕ) → AreWalks tasks (walk_from a)
   unfolding walk_from
   are_walks a k h = part_walk version (task_at tasks k) (ok.each k no_task h) (from_on a (part_of k rs)) (part_from a k h)
 
@@ -110,7 +110,7 @@ module _ (version : ℕ) (tasks : List Task) (ok : IsTaskSet version tasks) (con
   sums_request p a b zero h = omega arith
   sums_request p a b (suc n) h = omega (arith, sums_request p a b n (omega arith), part_request_le p a b n (omega arith))
 
-  needs_request : (p a b : ℕ) → needs (is_above p a b) (jobs_of tasks rs) ≤ requests tasks (walk_from a) p (length tasks) (b - a)
+  pub needs_request : (p a b : ℕ) → needs (is_above p a b) (jobs_of tasks rs) ≤ requests tasks (walk_from a) p (length tasks) (b - a)
   needs_request p a b =
       let f : Job → ℕ = λ job. cond (is_above p a b job) job.need 0 in
       let in_tasks : All (λ job. job.task < length tasks) (jobs_of tasks rs) = All-map (λ job. job.task < length tasks) (job_of tasks) rs legal.of_tasks in

@@ -140,7 +140,7 @@ overload_misses policy jobs timed t h =
     let test : Job → Bool = λ job. leb job.deadline t in
     overloaded_misses policy jobs t (omega (arith, h, due_timed t jobs timed, demand-sum policy jobs test 0 t))
 
-above_work : (jobs : List Job) (j s t : ℕ) → t < (job_at jobs j).need + demand Fixed jobs (is_higher jobs j) (length jobs) s (s + t) → t < (job_at jobs j).need + needs (is_above (job_at jobs j).priority s (s + t)) jobs
+pub above_work : (jobs : List Job) (j s t : ℕ) → t < (job_at jobs j).need + demand Fixed jobs (is_higher jobs j) (length jobs) s (s + t) → t < (job_at jobs j).need + needs (is_above (job_at jobs j).priority s (s + t)) jobs
 unfolding is_higher
 above_work jobs j s t h =
     let test : Job → Bool = λ job. ltb job.priority (job_at jobs j).priority in
@@ -173,7 +173,7 @@ misses_pass_no_time version tasks ok constrained rs legal j h miss none =
     )
 
 -- the last tick of a job that has had its need
-last_tick : (policy : Policy) (jobs : List Job) (j n : ℕ) → 1 ≤ (job_at jobs j).need → (job_at jobs j).need ≤ done policy jobs j n
+pub last_tick : (policy : Policy) (jobs : List Job) (j n : ℕ) → 1 ≤ (job_at jobs j).need → (job_at jobs j).need ≤ done policy jobs j n
     → (m : ℕ) × (m < n) × (pick policy jobs m ≡ Some j) × (done policy jobs j (suc m) ≡ (job_at jobs j).need)
 last_tick policy jobs j zero one h = absurd (omega (arith, done-zero policy jobs j))
 last_tick policy jobs j (suc n) one h = elim (cases_lt (done policy jobs j n) (job_at jobs j).need) [
@@ -184,7 +184,7 @@ last_tick policy jobs j (suc n) one h = elim (cases_lt (done policy jobs j n) (j
   ]
 ]
 
-higher_work : (jobs : List Job) (j t : ℕ) → demand Fixed jobs (is_higher jobs j) (length jobs) 0 t ≡ needs (is_above (job_at jobs j).priority 0 t) jobs
+pub higher_work : (jobs : List Job) (j t : ℕ) → demand Fixed jobs (is_higher jobs j) (length jobs) 0 t ≡ needs (is_above (job_at jobs j).priority 0 t) jobs
 unfolding is_higher
 higher_work jobs j t =
     let test : Job → Bool = λ job. ltb job.priority (job_at jobs j).priority in

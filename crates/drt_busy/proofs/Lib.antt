@@ -13,3 +13,5 @@ pub mod FixedWalks
 pub mod WalkReleases
 pub mod Decide
 pub mod Assignment
+pub mod Cuts
+pub mod Response

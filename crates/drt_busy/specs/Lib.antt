@@ -6,3 +6,4 @@ pub mod Choice
 pub mod PartWalk
 pub mod WalkReleases
 pub mod Decide
+pub mod Response
