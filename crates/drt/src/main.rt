@@ -2,6 +2,7 @@
 #![tactic(auto)]
 
 use drt_io::{FromRead, FromWrite, write_all};
+use drt_pool::OpenGate;
 use drt_top::{notice, run};
 use std::process::ExitCode;
 use std::rt::Env;
@@ -17,7 +18,14 @@ fn main(rt: HostRuntime) -> ExitCode {
     };
     let mut source = FromRead::new(rt.stdin().lock());
     let mut sink = FromWrite::new(rt.stdout());
-    let outcome = run(rt.alloc(), words.as_slice(), &mut source, &mut sink);
+    let outcome = run(
+        &rt,
+        rt.alloc(),
+        words.as_slice(),
+        &mut source,
+        &mut sink,
+        &OpenGate,
+    );
     if let Ok(line) = notice(rt.alloc(), &outcome) {
         // There is nowhere else to say that standard error takes no more.
         let _ = write_all(&mut FromWrite::new(rt.stderr()), line.as_slice());

@@ -2,24 +2,29 @@
 use crate::running::{is_joined, join, split_words};
 use drt_fixtures::texts::{BRANCHING, ENGINE, HALVES, LATE, PERIODIC};
 use drt_io::{FromRead, FromWrite};
+use drt_pool::OpenGate;
 use drt_top::{Outcome, run};
 use std::alloc::Global;
 use std::io;
 use std::io::{Cursor, Read};
+use std::sync::Wait;
 use std::test::Fail;
+use std::thread::Threads;
 
 // The top call between the adapters over memory, without its clauses.
 fn run_through(
+    rt: &(impl Threads + Wait + Sync),
     alloc: Global,
     words: &[String],
     source: &mut FromRead<&[u8]>,
     sink: &mut FromWrite<&mut Vec<u8>>,
 ) -> Outcome {
-    run(alloc, words, source, sink)
+    run(rt, alloc, words, source, sink, &OpenGate)
 }
 
 // Whether a run through both adapters ends so, with these pieces written.
 fn passes(
+    rt: &(impl Threads + Wait + Sync),
     alloc: Global,
     words: &str,
     input: &[&str],
@@ -31,7 +36,7 @@ fn passes(
     let mut held = Vec::new(alloc);
     let mut source = FromRead::new(bytes.as_slice());
     let mut sink = FromWrite::new(&mut held);
-    let outcome = run_through(alloc, words.as_slice(), &mut source, &mut sink);
+    let outcome = run_through(rt, alloc, words.as_slice(), &mut source, &mut sink);
     drop(sink);
     Ok(outcome.status == status && is_joined(held.as_slice(), output))
 }
@@ -77,6 +82,7 @@ fn each_command_runs_through_the_adapters(rt: HostRuntime) -> Result<(), Fail> {
     for (words, input, status, output) in cases {
         assert!(rt;
             passes(
+                &rt,
                 rt.alloc(),
                 words,
                 input.as_slice(),
@@ -107,16 +113,23 @@ impl Read for Fading<'_> {
 
 // The top call from such a reader to a writer without room for it all, without its clauses.
 fn run_short(
+    rt: &(impl Threads + Wait + Sync),
     alloc: Global,
     words: &[String],
     source: &mut FromRead<Fading<'_>>,
     sink: &mut FromWrite<Cursor<&mut [u8]>>,
 ) -> Outcome {
-    run(alloc, words, source, sink)
+    run(rt, alloc, words, source, sink, &OpenGate)
 }
 
 // Whether a run of `edf` from such a reader ends so, with these bytes in a room of 8.
-fn is_cut(alloc: Global, fails: bool, status: u8, held: &[u8]) -> Result<bool, Fail> {
+fn is_cut(
+    rt: &(impl Threads + Wait + Sync),
+    alloc: Global,
+    fails: bool,
+    status: u8,
+    held: &[u8],
+) -> Result<bool, Fail> {
     let words = split_words(alloc, "edf")?;
     let mut room = [0u8; 8];
     let mut source = FromRead::new(Fading {
@@ -124,7 +137,7 @@ fn is_cut(alloc: Global, fails: bool, status: u8, held: &[u8]) -> Result<bool, F
         fails,
     });
     let mut sink = FromWrite::new(Cursor::new(room.as_mut_slice()));
-    let outcome = run_short(alloc, words.as_slice(), &mut source, &mut sink);
+    let outcome = run_short(rt, alloc, words.as_slice(), &mut source, &mut sink);
     drop(sink);
     Ok(outcome.status == status && room.as_slice() == held)
 }
@@ -133,7 +146,7 @@ fn is_cut(alloc: Global, fails: bool, status: u8, held: &[u8]) -> Result<bool, F
 fn errors_of_the_reader_and_of_the_writer_have_their_status(rt: HostRuntime) -> Result<(), Fail> {
     for (fails, status, held) in [(true, 6u8, b"\0\0\0\0\0\0\0\0"), (false, 7, b"drt-doss")] {
         assert!(rt;
-            is_cut(rt.alloc(), fails, status, held.as_slice())?,
+            is_cut(&rt, rt.alloc(), fails, status, held.as_slice())?,
             "status {status}"
         );
     }

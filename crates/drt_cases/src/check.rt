@@ -3,7 +3,9 @@ use crate::running::{Given, Wanted, ends, give, perform, refused, want};
 use drt_fixtures::texts::{BRANCHING, ENGINE, HALVES, LATE, OVERLOADED, PERIODIC, SPLIT, TIGHT};
 use drt_top::{Fault, Trail};
 use std::alloc::Global;
+use std::sync::Wait;
 use std::test::Fail;
+use std::thread::Threads;
 
 const EDF: &str = "drt-dossier 1\npolicy edf\n";
 
@@ -15,17 +17,18 @@ const PERIODIC_EVIDENCE: &str =
 // Whether a command ends on a file with that status, and `check` with the same and this line on
 // the dossier.
 fn is_written_and_judged(
+    rt: &(impl Threads + Wait + Sync),
     alloc: Global,
     words: &str,
     text: &str,
     status: u8,
     line: &str,
 ) -> Result<bool, Fail> {
-    let (made, held) = perform(alloc, give(words, &[text]))?;
+    let (made, held) = perform(rt, alloc, give(words, &[text]))?;
     let Ok(dossier) = str::from_utf8(held.as_slice()) else {
         return Ok(false);
     };
-    let is_judged = ends(alloc, give("check", &[dossier]), want(status, &[line]))?;
+    let is_judged = ends(rt, alloc, give("check", &[dossier]), want(status, &[line]))?;
     Ok(made.status == status && is_judged)
 }
 
@@ -54,7 +57,7 @@ fn what_is_written_is_accepted_with_the_same_status(rt: HostRuntime) -> Result<(
     ];
     for (words, text, status, line) in cases {
         assert!(rt;
-            is_written_and_judged(rt.alloc(), words, text, status, line)?,
+            is_written_and_judged(&rt, rt.alloc(), words, text, status, line)?,
             "{words} of {text}"
         );
     }
@@ -62,15 +65,19 @@ fn what_is_written_is_accepted_with_the_same_status(rt: HostRuntime) -> Result<(
 }
 
 // Whether the judgement of a dossier has no trail.
-fn has_no_trail(alloc: Global, input: &[&str]) -> Result<bool, Fail> {
-    let (judged, _) = perform(alloc, give("check", input))?;
+fn has_no_trail(
+    rt: &(impl Threads + Wait + Sync),
+    alloc: Global,
+    input: &[&str],
+) -> Result<bool, Fail> {
+    let (judged, _) = perform(rt, alloc, give("check", input))?;
     Ok(judged.status == 3 && matches!(&judged.trail, Trail::Nothing))
 }
 
 #[test]
 fn there_is_nothing_to_check_where_nothing_is_decided(rt: HostRuntime) -> Result<(), Fail> {
     let input = [EDF, BRANCHING, "evidence undecided\nclose\n"];
-    assert!(rt; has_no_trail(rt.alloc(), input.as_slice())?);
+    assert!(rt; has_no_trail(&rt, rt.alloc(), input.as_slice())?);
     Ok(())
 }
 
@@ -113,7 +120,12 @@ fn rejected_evidence_has_the_number_of_its_rule(rt: HostRuntime) -> Result<(), F
     for (head, text, evidence, number, told) in cases {
         let wanted = refused(9, Fault::Rule { number }, told);
         assert!(rt;
-            ends(rt.alloc(), give("check", &[head, text, evidence]), wanted)?,
+            ends(
+                &rt,
+                rt.alloc(),
+                give("check", &[head, text, evidence]),
+                wanted
+            )?,
             "of {told}"
         );
     }
@@ -121,8 +133,13 @@ fn rejected_evidence_has_the_number_of_its_rule(rt: HostRuntime) -> Result<(), F
 }
 
 // Whether `check` refuses the input with this fault.
-fn is_refused(alloc: Global, input: &[&str], fault: Fault) -> Result<bool, Fail> {
-    let (judged, held) = perform(alloc, give("check", input))?;
+fn is_refused(
+    rt: &(impl Threads + Wait + Sync),
+    alloc: Global,
+    input: &[&str],
+    fault: Fault,
+) -> Result<bool, Fail> {
+    let (judged, held) = perform(rt, alloc, give("check", input))?;
     Ok(judged.status == 10 && judged.fault == fault && held.is_empty())
 }
 
@@ -151,7 +168,7 @@ fn a_dossier_cut_after_a_line_lacks_the_next(rt: HostRuntime) -> Result<(), Fail
             code: 2,
         };
         assert!(rt;
-            is_refused(rt.alloc(), &lines[..i + 1], fault)?,
+            is_refused(&rt, rt.alloc(), &lines[..i + 1], fault)?,
             "after line {i}"
         );
     }
@@ -185,7 +202,7 @@ fn bytes_that_are_no_dossier_have_a_line_and_a_code(rt: HostRuntime) -> Result<(
     for (input, line, code, told) in cases {
         let wanted = refused(10, Fault::Dossier { line, code }, told);
         assert!(rt;
-            ends(rt.alloc(), give("check", input.as_slice()), wanted)?,
+            ends(&rt, rt.alloc(), give("check", input.as_slice()), wanted)?,
             "of {told}"
         );
     }
@@ -212,7 +229,7 @@ fn failures_of_a_judgement_have_their_status(rt: HostRuntime) -> Result<(), Fail
             output: &[written],
             notice: told,
         };
-        assert!(rt; ends(rt.alloc(), given, wanted)?, "status {status}");
+        assert!(rt; ends(&rt, rt.alloc(), given, wanted)?, "status {status}");
     }
     Ok(())
 }

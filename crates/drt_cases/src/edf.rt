@@ -7,7 +7,9 @@ use drt_fixtures::texts::{
 use drt_table::{Entry, TableStep};
 use drt_top::{Fault, Trail};
 use std::alloc::Global;
+use std::sync::Wait;
 use std::test::Fail;
+use std::thread::Threads;
 
 const HEAD: &str = "drt-dossier 1\npolicy edf\n";
 
@@ -64,6 +66,7 @@ fn a_set_is_answered_under_edf_with_its_dossier(rt: HostRuntime) -> Result<(), F
         let output = [HEAD, text, evidence];
         assert!(rt;
             ends(
+                &rt,
                 rt.alloc(),
                 give("edf --budget=5000", &[text]),
                 want(status, output.as_slice())
@@ -77,13 +80,14 @@ fn a_set_is_answered_under_edf_with_its_dossier(rt: HostRuntime) -> Result<(), F
 // Whether `edf` says yes of a file, in a dossier that has one of these cycles between the front of
 // its evidence and the rest.
 fn is_yes_with_one_of(
+    rt: &(impl Threads + Wait + Sync),
     alloc: Global,
     text: &str,
     front: &str,
     cycles: &[&str],
     rest: &str,
 ) -> Result<bool, Fail> {
-    let (outcome, held) = perform(alloc, give("edf", &[text]))?;
+    let (outcome, held) = perform(rt, alloc, give("edf", &[text]))?;
     let mut is_one_of_them = false;
     for cycle in cycles {
         is_one_of_them = is_one_of_them
@@ -99,7 +103,7 @@ fn demand_that_just_fits_past_the_horizon_is_a_yes(rt: HostRuntime) -> Result<()
     let cycles = ["2 0 1", "2 1 0"];
     let rest =
         "\npotentials 2 0 6\nratio 1 5\ncycle 1 0\npotentials 1 0\nfronts 2\nfront 1\nlabel 0 0 1\nfront 1\nlabel 0 0 2\nclose\n";
-    assert!(rt; is_yes_with_one_of(rt.alloc(), BRANCHING, front, cycles.as_slice(), rest)?);
+    assert!(rt; is_yes_with_one_of(&rt, rt.alloc(), BRANCHING, front, cycles.as_slice(), rest)?);
     Ok(())
 }
 
@@ -110,13 +114,17 @@ fn an_engine_controller_meets_its_deadlines(rt: HostRuntime) -> Result<(), Fail>
     let cycles = ["1 1", "1 2", "2 1 2", "2 2 1"];
     let rest =
         "\npotentials 3 120 60 0\nratio 1 5\ncycle 1 0\npotentials 1 0\nratio 1 10\ncycle 1 0\npotentials 1 0\nfronts 3\nfront 1\nlabel 2 0 4\nfront 0\nfront 0\nclose\n";
-    assert!(rt; is_yes_with_one_of(rt.alloc(), ENGINE, front, cycles.as_slice(), rest)?);
+    assert!(rt; is_yes_with_one_of(&rt, rt.alloc(), ENGINE, front, cycles.as_slice(), rest)?);
     Ok(())
 }
 
 // Whether `edf` with one step spends it at the first node of the first task.
-fn is_spent_at_once(alloc: Global, text: &str) -> Result<bool, Fail> {
-    let (outcome, held) = perform(alloc, give("edf --budget 1", &[text]))?;
+fn is_spent_at_once(
+    rt: &(impl Threads + Wait + Sync),
+    alloc: Global,
+    text: &str,
+) -> Result<bool, Fail> {
+    let (outcome, held) = perform(rt, alloc, give("edf --budget 1", &[text]))?;
     let take = Entry {
         worker: 0,
         step: TableStep::Take,
@@ -137,13 +145,17 @@ fn is_spent_at_once(alloc: Global, text: &str) -> Result<bool, Fail> {
 
 #[test]
 fn a_spent_budget_is_shown_by_its_trail(rt: HostRuntime) -> Result<(), Fail> {
-    assert!(rt; is_spent_at_once(rt.alloc(), BRANCHING_LATE)?);
+    assert!(rt; is_spent_at_once(&rt, rt.alloc(), BRANCHING_LATE)?);
     Ok(())
 }
 
 // How the search for an overload ends: the status, and the last step time of its trail, 0 without one.
-fn overload(alloc: Global, words: &str) -> Result<(u8, u64), Fail> {
-    let (outcome, _) = perform(alloc, give(words, &[OVERLOADED]))?;
+fn overload(
+    rt: &(impl Threads + Wait + Sync),
+    alloc: Global,
+    words: &str,
+) -> Result<(u8, u64), Fail> {
+    let (outcome, _) = perform(rt, alloc, give(words, &[OVERLOADED]))?;
     let last = match &outcome.trail {
         Trail::Overload { last } => *last,
         _ => 0,
@@ -154,7 +166,10 @@ fn overload(alloc: Global, words: &str) -> Result<(u8, u64), Fail> {
 #[test]
 fn an_overload_is_found_by_its_fifth_step_time(rt: HostRuntime) -> Result<(), Fail> {
     for (words, status, last) in [("edf --budget 5", 1u8, 0u64), ("edf --budget 4", 3, 10)] {
-        assert!(rt; overload(rt.alloc(), words)? == (status, last), "{words}");
+        assert!(rt;
+            overload(&rt, rt.alloc(), words)? == (status, last),
+            "{words}"
+        );
     }
     Ok(())
 }
@@ -167,7 +182,7 @@ fn numbers_out_of_reach_have_their_code(rt: HostRuntime) -> Result<(), Fail> {
     ] {
         let wanted = refused(4, Fault::Limit { code }, told);
         assert!(rt;
-            ends(rt.alloc(), give("edf", &[text]), wanted)?,
+            ends(&rt, rt.alloc(), give("edf", &[text]), wanted)?,
             "of {text}"
         );
     }

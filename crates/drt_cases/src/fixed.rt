@@ -44,6 +44,7 @@ fn one_task_is_answered_with_its_dossier(rt: HostRuntime) -> Result<(), Fail> {
         let output = [HEAD, text, evidence];
         assert!(rt;
             ends(
+                &rt,
                 rt.alloc(),
                 give("sp", &[text]),
                 want(status, output.as_slice())
@@ -80,7 +81,12 @@ fn a_refused_file_has_its_line_and_code(rt: HostRuntime) -> Result<(), Fail> {
     for (text, line, code, told) in cases {
         let fault = Fault::File { line, code };
         assert!(rt;
-            ends(rt.alloc(), give("sp", &[text]), refused(4, fault, told))?,
+            ends(
+                &rt,
+                rt.alloc(),
+                give("sp", &[text]),
+                refused(4, fault, told)
+            )?,
             "of {text}"
         );
     }
@@ -95,7 +101,7 @@ fn the_first_edge_past_its_deadline_is_named(rt: HostRuntime) -> Result<(), Fail
         Fault::Edge { task: 0, edge: 0 },
         "drt: task 0: edge 0: fault 20\n",
     );
-    assert!(rt; ends(rt.alloc(), give("sp", &[text]), wanted)?);
+    assert!(rt; ends(&rt, rt.alloc(), give("sp", &[text]), wanted)?);
     Ok(())
 }
 
@@ -113,6 +119,7 @@ fn other_spellings_of_a_file_give_the_same_dossier(rt: HostRuntime) -> Result<()
     ] {
         assert!(rt;
             ends(
+                &rt,
                 rt.alloc(),
                 give(words, &[other]),
                 want(0, output.as_slice())
@@ -201,6 +208,7 @@ fn tasks_are_answered_by_their_priorities(rt: HostRuntime) -> Result<(), Fail> {
         let output = [HEAD, text, evidence];
         assert!(rt;
             ends(
+                &rt,
                 rt.alloc(),
                 give("sp", &[text]),
                 want(status, output.as_slice())
@@ -213,7 +221,7 @@ fn tasks_are_answered_by_their_priorities(rt: HostRuntime) -> Result<(), Fail> {
 
 #[test]
 fn the_engine_is_schedulable(rt: HostRuntime) -> Result<(), Fail> {
-    let (outcome, _) = perform(rt.alloc(), give("sp --workers 1", &[ENGINE]))?;
+    let (outcome, _) = perform(&rt, rt.alloc(), give("sp --workers 1", &[ENGINE]))?;
     assert_eq!(rt; outcome.status, 0);
     Ok(())
 }
@@ -265,10 +273,15 @@ fn a_spent_refinement_shows_its_steps(rt: HostRuntime) -> Result<(), Fail> {
     for (text, words, subject, steps) in cases {
         let output = [HEAD, text, "evidence undecided\nclose\n"];
         assert!(rt;
-            ends(rt.alloc(), give(words, &[text]), want(3, output.as_slice()))?,
+            ends(
+                &rt,
+                rt.alloc(),
+                give(words, &[text]),
+                want(3, output.as_slice())
+            )?,
             "of {text}"
         );
-        let (outcome, _) = perform(rt.alloc(), give(words, &[text]))?;
+        let (outcome, _) = perform(&rt, rt.alloc(), give(words, &[text]))?;
         assert!(rt; is_refined(&outcome.trail, subject, steps), "of {text}");
     }
     Ok(())
@@ -282,7 +295,7 @@ fn one_step_more_is_enough(rt: HostRuntime) -> Result<(), Fail> {
         (SPLIT, "sp --workers 1 --budget 9", 0),
         (SPLIT, "sp --workers 1 --budget 8", 3),
     ] {
-        let (outcome, _) = perform(rt.alloc(), give(words, &[text]))?;
+        let (outcome, _) = perform(&rt, rt.alloc(), give(words, &[text]))?;
         assert_eq!(rt; outcome.status, status, "of {text}");
     }
     Ok(())

@@ -1,9 +1,12 @@
 //! One run over memory, and what a case says of it.
 use drt_io::{MemorySink, MemorySource};
 use drt_model::{Memory, Row};
+use drt_pool::OpenGate;
 use drt_top::{Fault, Outcome, notice, run};
 use std::alloc::Global;
+use std::sync::Wait;
 use std::test::Fail;
+use std::thread::Threads;
 
 /// What a run is given: the words behind the program's name, with a blank between them, the pieces
 /// of the input, and the numbers of the read and of the write that fail, 0 for none.
@@ -55,8 +58,13 @@ pub(crate) fn refused(status: u8, fault: Fault, notice: &str) -> Wanted<'_> {
 }
 
 /// Whether a run ends as it must.
-pub(crate) fn ends(alloc: Global, given: Given<'_>, wanted: Wanted<'_>) -> Result<bool, Fail> {
-    let (outcome, held) = perform(alloc, given)?;
+pub(crate) fn ends(
+    rt: &(impl Threads + Wait + Sync),
+    alloc: Global,
+    given: Given<'_>,
+    wanted: Wanted<'_>,
+) -> Result<bool, Fail> {
+    let (outcome, held) = perform(rt, alloc, given)?;
     let line = notice(alloc, &outcome)?;
     Ok(
         outcome.status == wanted.status
@@ -67,23 +75,28 @@ pub(crate) fn ends(alloc: Global, given: Given<'_>, wanted: Wanted<'_>) -> Resul
 }
 
 /// How a run ends, and what is then written.
-pub(crate) fn perform(alloc: Global, given: Given<'_>) -> Result<(Outcome, Vec<u8>), Fail> {
+pub(crate) fn perform(
+    rt: &(impl Threads + Wait + Sync),
+    alloc: Global,
+    given: Given<'_>,
+) -> Result<(Outcome, Vec<u8>), Fail> {
     let words = split_words(alloc, given.words)?;
     let mut source = make_source(alloc, given)?;
     let mut sink = make_sink(alloc, given)?;
-    let outcome = run_over_memory(alloc, words.as_slice(), &mut source, &mut sink);
+    let outcome = run_over_memory(rt, alloc, words.as_slice(), &mut source, &mut sink);
     let held = Vec::from_slice(alloc, sink.bytes())?;
     Ok((outcome, held))
 }
 
 // The top call, without its clauses, so that no caller carries them.
 fn run_over_memory(
+    rt: &(impl Threads + Wait + Sync),
     alloc: Global,
     words: &[String],
     source: &mut MemorySource,
     sink: &mut MemorySink,
 ) -> Outcome {
-    run(alloc, words, source, sink)
+    run(rt, alloc, words, source, sink, &OpenGate)
 }
 
 /// The program's name, and these words behind it.

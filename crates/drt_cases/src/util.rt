@@ -25,7 +25,7 @@ fn a_file_is_upgraded_and_its_utilisation_told(rt: HostRuntime) -> Result<(), Fa
     ];
     for (words, text, output) in cases {
         assert!(rt;
-            ends(rt.alloc(), give(words, &[text]), want(0, &[output]))?,
+            ends(&rt, rt.alloc(), give(words, &[text]), want(0, &[output]))?,
             "{words} of {text}"
         );
     }
@@ -35,6 +35,6 @@ fn a_file_is_upgraded_and_its_utilisation_told(rt: HostRuntime) -> Result<(), Fa
 #[test]
 fn a_scale_beyond_2_to_the_60_is_refused(rt: HostRuntime) -> Result<(), Fail> {
     let wanted = refused(4, Fault::Limit { code: 21 }, "drt: fault 21\n");
-    assert!(rt; ends(rt.alloc(), give("util", &[TOO_FINE]), wanted)?);
+    assert!(rt; ends(&rt, rt.alloc(), give("util", &[TOO_FINE]), wanted)?);
     Ok(())
 }

@@ -3,9 +3,12 @@ use crate::running::{Given, Wanted, ends, refused, split_words};
 use drt_fixtures::texts::{BRANCHING_LATE, PERIODIC};
 use drt_io::{SureSink, SureSource};
 use drt_model::Row;
+use drt_pool::OpenGate;
 use drt_top::{Fault, Outcome, run};
 use std::alloc::Global;
+use std::sync::Wait;
 use std::test::Fail;
+use std::thread::Threads;
 
 // The first read fails, so that it shows where it is made.
 #[test]
@@ -33,7 +36,7 @@ fn words_that_mean_nothing_are_refused_before_anything_is_read(
             failing_write: 1,
         };
         let wanted = refused(5, Fault::Nothing, "drt: words refused\n");
-        assert!(rt; ends(rt.alloc(), given, wanted)?, "of {words}");
+        assert!(rt; ends(&rt, rt.alloc(), given, wanted)?, "of {words}");
     }
     Ok(())
 }
@@ -58,23 +61,25 @@ fn a_failed_read_or_write_has_its_status(rt: HostRuntime) -> Result<(), Fail> {
             output: &[written],
             notice: told,
         };
-        assert!(rt; ends(rt.alloc(), given, wanted)?, "of {told}");
+        assert!(rt; ends(&rt, rt.alloc(), given, wanted)?, "of {told}");
     }
     Ok(())
 }
 
 // The top call between a source and a sink that never fail, without its clauses.
 fn run_surely(
+    rt: &(impl Threads + Wait + Sync),
     alloc: Global,
     words: &[String],
     source: &mut SureSource,
     sink: &mut SureSink,
 ) -> Outcome {
-    run(alloc, words, source, sink)
+    run(rt, alloc, words, source, sink, &OpenGate)
 }
 
 // Whether `sp` on these bytes ends so, and writes so many bytes, of which the first are these.
 fn is_surely(
+    rt: &(impl Threads + Wait + Sync),
     alloc: Global,
     bytes: Vec<u8>,
     status: u8,
@@ -84,7 +89,7 @@ fn is_surely(
     let words = split_words(alloc, "sp")?;
     let mut source = SureSource::new(Row::from_vec(bytes));
     let mut sink = SureSink::with_room(alloc, 200)?;
-    let outcome = run_surely(alloc, words.as_slice(), &mut source, &mut sink);
+    let outcome = run_surely(rt, alloc, words.as_slice(), &mut source, &mut sink);
     Ok(outcome.status == status && outcome.fault == fault && sink.bytes() == front)
 }
 
@@ -93,7 +98,16 @@ fn nothing_fails_between_a_sure_source_and_a_sure_sink(rt: HostRuntime) -> Resul
     let bytes = Vec::from_slice(rt.alloc(), PERIODIC.as_bytes())?;
     let written =
         b"drt-dossier 1\npolicy fixed\ndrt 1\ntask T\nvertex a 2 5\nedge a a 5\nend\nevidence fixed-yes\ntrees 0\nproofs 1\nproof 0 0 1 p2\nclose\n";
-    assert!(rt; is_surely(rt.alloc(), bytes, 0, Fault::Nothing, written.as_slice())?);
+    assert!(rt;
+        is_surely(
+            &rt,
+            rt.alloc(),
+            bytes,
+            0,
+            Fault::Nothing,
+            written.as_slice()
+        )?
+    );
     Ok(())
 }
 
@@ -103,7 +117,7 @@ fn the_limit_of_a_file_is_1048576_bytes(rt: HostRuntime) -> Result<(), Fail> {
         let bytes = vec![in rt.alloc(); b'#'; size]?;
         let fault = Fault::File { line, code };
         assert!(rt;
-            is_surely(rt.alloc(), bytes, 4, fault, b"")?,
+            is_surely(&rt, rt.alloc(), bytes, 4, fault, b"")?,
             "{size} bytes"
         );
     }

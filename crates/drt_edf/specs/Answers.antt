@@ -23,8 +23,8 @@ use Rattle.drt_edf.specs.Walks.{IsExactFront}
 use Rattle.drt_edf.specs.Spent.{IsSpentOverload, IsSpentTable}
 use Rattle.drt_edf.specs.declared.answer.EdfAnswer.{EdfAnswer}
 use Rattle.drt_edf.specs.declared.answer.EdfAnswer.TheVariants as answers
-use Rattle.drt_edf.specs.declared.answer.EdfTrail.{EdfTrail}
-use Rattle.drt_edf.specs.declared.answer.EdfTrail.TheVariants.{Table, Overload}
+use Rattle.drt_trails.specs.declared.EdfTrail.{EdfTrail}
+use Rattle.drt_trails.specs.declared.EdfTrail.TheVariants.{Table, Overload}
 
 -- The checker accepts the evidence for a set of these tasks under EDF.
 abbrev pub IsAcceptedFor : List Task → Evidence → Type 0

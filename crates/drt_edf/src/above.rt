@@ -6,12 +6,13 @@ ghost use Rattle.drt_horizon.specs.Plans.{IsAboveOne};
 ghost use Rattle.drt_evidence.specs.Claims.{graphs_of};
 ghost use Rattle.drt_edf.specs.Answers.{IsAnswer};
 
-use crate::answer::{EdfAnswer, EdfTrail};
+use crate::answer::EdfAnswer;
 use crate::refusal::overload_refusal;
 use drt_graph::Graphs;
 use drt_horizon::{Over, overload, search_ends};
 use drt_model::{Memory, TaskSet};
 use drt_ratio::RatioProof;
+use drt_trails::EdfTrail;
 use std::alloc::Global;
 
 /// The answer to a set whose utilisation is above one: the no of the least step time at which whole turns of the cycles have

@@ -12,23 +12,31 @@ use drt_evidence::Evidence;
 use drt_graph::Graphs;
 use drt_horizon::{Horizon, plan, ratios};
 use drt_model::{Memory, TaskSet};
+use drt_pool::Gate;
 use std::alloc::Global;
+use std::sync::Wait;
+use std::thread::Threads;
 
-/// Decides whether a set with constrained deadlines is schedulable under EDF. Each search ends after `budget` steps at the latest.
+/// Decides whether a set with constrained deadlines is schedulable under EDF. So many workers search together, and the gate sees each
+/// of their turns. Each search ends after `budget` steps at the latest.
 ///
 /// First come the ratios of all tasks, then the plan. A utilisation of one is told apart, with the ratios as evidence. Above one
 /// the whole turns of the cycles are searched for a step time with more work than time. Below one each task's walks are searched
 /// up to the horizon, in order of tasks, and the demands over the fronts are scanned.
 ///
 /// Source: Stigge, Ekberg, Guan and Yi, "The Digraph Real-Time Task Model" (RTAS 2011).
-pub fn analyse_edf(
+pub fn analyse_edf<G: Gate, R: Threads + Wait + Sync>(
+    rt: &R,
     alloc: Global,
     set: &TaskSet,
     graphs: &Graphs,
+    workers: u32,
     budget: u64,
+    gate: &G,
 ) -> Result<EdfAnswer, Memory>
     requires constrained { AreConstrained set.now.tasks }
     requires graphs { graphs.now ≡ graphs_of set.now.tasks }
+    requires workers { (1 ≤ workers) × (workers ≤ 16) }
     requires some { 1 ≤ budget }
     requires few { budget ≤ 1000000 }
     ensures { IfOk result (IsAnswer set.now.tasks budget) }
@@ -36,7 +44,9 @@ pub fn analyse_edf(
     let proofs = ratios(alloc, graphs)?;
     let _count = graphs.count();
     match plan(graphs, proofs.as_slice()) {
-        Ok(Horizon::Under { bound }) => below_one(alloc, set, graphs, proofs, bound, budget),
+        Ok(Horizon::Under { bound }) => below_one(
+            rt, alloc, set, graphs, proofs, bound, workers, budget, gate,
+        ),
         Ok(Horizon::One) => Ok(EdfAnswer::Done(Evidence::UtilisationOne {
             ratios: claims_of(alloc, proofs)?,
         })),

@@ -8,7 +8,7 @@ ghost use Rattle.drt_evidence.specs.Ranges.{IsCounted, IsInRange};
 ghost use Rattle.drt_edf.specs.Answers.{IsAnswer, IsVerdict};
 ghost use Rattle.drt_edf.specs.LabelFronts.{AreDemandWalks, AreLabelFronts};
 
-use crate::answer::{EdfAnswer, EdfTrail};
+use crate::answer::EdfAnswer;
 use crate::claims::claims_of;
 use crate::refusal::refusal;
 use crate::searching::{Searched, searches};
@@ -18,8 +18,12 @@ use drt_evidence::Evidence;
 use drt_graph::Graphs;
 use drt_horizon::{Horizon, horizon_holds, scan};
 use drt_model::{FrontEntry, Memory, Row, TaskSet};
+use drt_pool::Gate;
 use drt_ratio::RatioProof;
+use drt_trails::EdfTrail;
 use std::alloc::Global;
+use std::sync::Wait;
+use std::thread::Threads;
 
 // For each task a walk that is due by `t` and has all its demand at `t`, in order.
 fn demand_walks(
@@ -76,23 +80,27 @@ fn scanned(
 }
 
 /// The answer to a set whose utilisation is below one, with this horizon, in ticks.
-pub(crate) fn below_one(
+pub(crate) fn below_one<G: Gate, R: Threads + Wait + Sync>(
+    rt: &R,
     alloc: Global,
     set: &TaskSet,
     graphs: &Graphs,
     proofs: Row<RatioProof>,
     bound: u64,
+    workers: u32,
     budget: u64,
+    gate: &G,
 ) -> Result<EdfAnswer, Memory>
     requires constrained { AreConstrained set.now.tasks }
     requires graphs { graphs.now ≡ graphs_of set.now.tasks }
     requires given { AreGiven graphs.now proofs }
     requires plan { IsPlan graphs.now proofs (Ok (Horizon.Under bound)) }
+    requires workers { (1 ≤ workers) × (workers ≤ 16) }
     requires some { 1 ≤ budget }
     requires few { budget ≤ 1000000 }
     ensures { IfOk result (IsAnswer set.now.tasks budget) }
 {
-    match searches(alloc, graphs, bound, budget)? {
+    match searches(rt, alloc, graphs, bound, workers, budget, gate)? {
         Searched::Finished(fronts) => {
             let evidence = scanned(alloc, set, graphs, proofs, bound, fronts)?;
             Ok(EdfAnswer::Done(evidence))

@@ -7,6 +7,7 @@ use drt_evidence::Evidence;
 use drt_graph::check;
 use drt_horizon::{Horizon, plan, ratios};
 use drt_model::{Edge, Memory, Name, Row, Task, TaskSet, Vertex, task_set};
+use drt_pool::OpenGate;
 use std::alloc::Global;
 use std::test::Fail;
 
@@ -97,7 +98,7 @@ fn drawn_sets_are_answered_as_by_a_plain_program(rt: HostRuntime) -> Result<(), 
             return Err("constrained deadlines".into());
         };
         let proofs = ratios(alloc, &graphs)?;
-        let answer = analyse_edf(alloc, &set, &graphs, 100_000)?;
+        let answer = analyse_edf(&rt, alloc, &set, &graphs, 1, 100_000, &OpenGate)?;
         let (is_yes, is_no) = verdict(&answer);
         match plan(&graphs, proofs.as_slice()) {
             Ok(Horizon::Under { bound }) => {

@@ -31,5 +31,6 @@ mod turns;
 mod walks;
 
 pub use analysis::analyse_edf;
-pub use answer::{EdfAnswer, EdfTrail};
+pub use answer::EdfAnswer;
+pub use drt_trails::EdfTrail;
 pub use laws::{horizon_is_one, rates_are_one, searches_are_bounded};

@@ -10,8 +10,11 @@ use crate::fronts::front_of;
 use drt_demand::DemandLabel;
 use drt_graph::{Graph, Graphs};
 use drt_model::{FrontEntry, Memory, Row};
+use drt_pool::Gate;
 use drt_table::{Entry, Table, TableReply, over_every_interleaving};
 use std::alloc::Global;
+use std::sync::Wait;
+use std::thread::Threads;
 
 /// How the searches of the tasks' walks ended.
 #[derive(Drop)]
@@ -23,13 +26,17 @@ pub(crate) enum Searched {
 }
 
 // The search of one graph's walks up to the bound, driven to its end by one worker.
-fn search(
+fn search<G: Gate, R: Threads + Wait + Sync>(
+    _rt: &R,
     alloc: Global,
     graph: &Graph,
     bound: u64,
+    _workers: u32,
     budget: u64,
+    _gate: &G,
 ) -> Result<(Table<DemandLabel>, TableReply), Memory>
     requires bound { bound ≤ 1099511627776 }
+    requires workers { (1 ≤ _workers) × (_workers ≤ 16) }
     requires some { 1 ≤ budget }
     requires few { budget ≤ 1000000 }
     ensures setting { IfOk result (λ end. setting_of end.0 ≡ search_of graph.now bound budget) }
@@ -41,13 +48,17 @@ fn search(
 
 /// The searches of the walks of all tasks up to the bound, in ticks, each with this budget of steps. Each gives its front, and
 /// its table is dropped before the next one begins.
-pub(crate) fn searches(
+pub(crate) fn searches<G: Gate, R: Threads + Wait + Sync>(
+    rt: &R,
     alloc: Global,
     graphs: &Graphs,
     bound: u64,
+    workers: u32,
     budget: u64,
+    gate: &G,
 ) -> Result<Searched, Memory>
     requires bound { bound ≤ 1099511627776 }
+    requires workers { (1 ≤ workers) × (workers ≤ 16) }
     requires some { 1 ≤ budget }
     requires few { budget ≤ 1000000 }
     ensures { IfOk result (AreSearches graphs.now bound budget) }
@@ -56,7 +67,7 @@ pub(crate) fn searches(
     let mut fronts = Vec::new(alloc);
     'tasks: for task in 0..graphs.count() {
         let graph = graphs.graph(task);
-        let (table, _reply) = search(alloc, graph, bound, budget)?;
+        let (table, _reply) = search(rt, alloc, graph, bound, workers, budget, gate)?;
         if !table.finished() {
             let log = Vec::from_slice(alloc, table.log())?;
             return Ok(Searched::Spent {

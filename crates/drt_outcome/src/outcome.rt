@@ -3,6 +3,7 @@ use crate::fault::Fault;
 use drt_model::Row;
 use drt_refine::FrontierEntry;
 use drt_table::Entry;
+use drt_trails::{EdfTrail, FixedTrail};
 
 /// How a run ends: the status that the program ends with, what shows a spent budget, and the fault
 /// of a refused input.
@@ -32,6 +33,17 @@ pub enum Trail {
     /// The search for an overload spent it; its last step time, in ticks.
     Overload {
         last: u64,
+    },
+    /// Of the two analyses of a drawn set these spent it.
+    Bench {
+        edf: Option<EdfTrail>,
+        fixed: Option<FixedTrail>,
+    },
+    /// The search for the worst response of this vertex of this task spent it: one worker took these combinations, in order.
+    Response {
+        task: u32,
+        vertex: u32,
+        taken: Row<Row<u32>>,
     },
 }
 

@@ -10,7 +10,7 @@ use Rattle.drt_graph.proofs.Soundness.{all_sound}
 use Rattle.drt_model.specs.Walk.{deadline, wcet}
 use Rattle.drt_sp.specs.Items.{refinement_of}
 use Rattle.drt_sp.specs.Laws.{BudgetsSuffice}
-use Rattle.drt_sp.specs.declared.answer.FixedTrail.TheVariants.{Table, Refine}
+use Rattle.drt_trails.specs.declared.FixedTrail.TheVariants.{Table, Refine}
 use Rattle.drt_sp.proofs.GreatestDeadline.{greatest_most, greatest_some}
 use Rattle.drt_sp.proofs.EnoughRefinements.{RefinementsAreShort, refinement_short}
 use Rattle.drt_sp.proofs.EnoughSearches.{SearchesAreShort, SearchesKeepFew, spent_search}

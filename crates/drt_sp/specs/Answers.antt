@@ -31,8 +31,8 @@ use Rattle.drt_sp.specs.Needs.{AreFewLeaves}
 use Rattle.drt_sp.specs.TreeClaims.{IsSpentSearch, IsTreeOf}
 use Rattle.drt_sp.specs.declared.answer.FixedAnswer.{FixedAnswer}
 use Rattle.drt_sp.specs.declared.answer.FixedAnswer.TheVariants as answers
-use Rattle.drt_sp.specs.declared.answer.FixedTrail.{FixedTrail}
-use Rattle.drt_sp.specs.declared.answer.FixedTrail.TheVariants.{Table, Refine}
+use Rattle.drt_trails.specs.declared.FixedTrail.{FixedTrail}
+use Rattle.drt_trails.specs.declared.FixedTrail.TheVariants.{Table, Refine}
 
 -- No job of the task misses, whatever the tasks legally release.
 abbrev pub MeetsDeadlines : List Task → ℕ → Type 0

@@ -20,5 +20,6 @@ mod vertices;
 mod walks;
 
 pub use analysis::analyse_fixed;
-pub use answer::{FixedAnswer, FixedTrail};
+pub use answer::FixedAnswer;
+pub use drt_trails::FixedTrail;
 pub use laws::budgets_suffice;

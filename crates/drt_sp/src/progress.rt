@@ -1,12 +1,12 @@
 //! How far an analysis has come.
-ghost use Rattle.std.specs.Prelude.{◌≡◌, ℕ, ◌+◌, ◌<◌, length, IfOk, MatchOption};
+ghost use Rattle.std.specs.Prelude.{◌≡◌, ℕ, ◌+◌, ◌<◌, ◌≤◌, length, IfOk, MatchOption};
 ghost use Rattle.std.specs.List.{flat_map};
 ghost use Rattle.drt_model.specs.Constrained.{AreConstrained};
 ghost use Rattle.drt_evidence.specs.Ranges.{IsInRange};
 ghost use Rattle.drt_sp.specs.Answers.{IsAnswer, IsVerdict};
 ghost use Rattle.drt_sp.specs.Progress.{AreGrown, AreProved, IsComplete, IsGiven};
 
-use crate::answer::{FixedAnswer, FixedTrail};
+use crate::answer::FixedAnswer;
 use crate::deadlines::greatest_deadline;
 use crate::refusal::refusal;
 use crate::trees::{TreeSearch, search_tree};
@@ -17,8 +17,12 @@ use drt_choices::leaves_pass;
 use drt_evidence::{Evidence, ProofClaim, TreeClaim};
 use drt_graph::Graphs;
 use drt_model::{Memory, Row, TaskSet};
+use drt_pool::Gate;
+use drt_trails::FixedTrail;
 use drt_tree::Forest;
 use std::alloc::Global;
+use std::sync::Wait;
+use std::thread::Threads;
 
 /// What an analysis has made so far: the trees of the first tasks in order of priority, by their roots in the forest and as they are
 /// written, and the proofs of the vertices of the first tasks, in a row for each task of the file.
@@ -49,16 +53,20 @@ impl Progress {
     }
 
     /// Proves the vertices of the task at this place of the order, in file order. An answer ends the analysis.
-    pub(crate) fn prove_task(
+    pub(crate) fn prove_task<G: Gate, R: Threads + Wait + Sync>(
         &mut self,
+        rt: &R,
         alloc: Global,
         set: &TaskSet,
         graphs: &Graphs,
         order: &[u32],
         place: usize,
+        workers: u32,
         budget: u64,
+        gate: &G,
     ) -> Result<Option<FixedAnswer>, Memory>
         requires given { IsGiven set.now graphs.now order.now budget }
+        requires workers { (1 ≤ workers) × (workers ≤ 16) }
         requires here { place < length order.now }
         requires grown { AreGrown set.now.tasks order.now place self.old.forest self.old.roots.items self.old.trees.items }
         requires proved { AreProved set.now.tasks order.now place self.old.trees.items self.old.proofs.items }
@@ -75,12 +83,15 @@ impl Progress {
         let task = order[place];
         let graph = graphs.graph(task);
         match prove_vertices(
+            rt,
             alloc,
             &self.forest,
             self.roots.as_slice(),
             task,
             graph,
+            workers,
             budget,
+            gate,
         )? {
             TaskProofs::Passed(proofs) => {
                 self.proofs[task as usize] = proofs;
@@ -104,16 +115,20 @@ impl Progress {
 
     /// Searches the walks of the task at this place of the order, which isn't the last one, and adds their tree. An answer ends the
     /// analysis.
-    pub(crate) fn add_tree(
+    pub(crate) fn add_tree<G: Gate, R: Threads + Wait + Sync>(
         &mut self,
+        rt: &R,
         alloc: Global,
         set: &TaskSet,
         graphs: &Graphs,
         order: &[u32],
         place: usize,
+        workers: u32,
         budget: u64,
+        gate: &G,
     ) -> Result<Option<FixedAnswer>, Memory>
         requires given { IsGiven set.now graphs.now order.now budget }
+        requires workers { (1 ≤ workers) × (workers ≤ 16) }
         requires here { place + 1 < length order.now }
         requires grown { AreGrown set.now.tasks order.now place self.old.forest self.old.roots.items self.old.trees.items }
         requires proved { AreProved set.now.tasks order.now (place + 1) self.old.trees.items self.old.proofs.items }
@@ -127,7 +142,16 @@ impl Progress {
         let task = order[place];
         let graph = graphs.graph(task);
         let bound = greatest_deadline(set);
-        match search_tree(alloc, graph, bound, budget, &mut self.forest)? {
+        match search_tree(
+            rt,
+            alloc,
+            graph,
+            bound,
+            workers,
+            budget,
+            gate,
+            &mut self.forest,
+        )? {
             TreeSearch::Tree(tree) => {
                 self.roots.push(tree.top)?;
                 self.trees.push(tree.claim)?;

@@ -11,12 +11,15 @@ ghost use Rattle.drt_steps.specs.Time.{AreChosen};
 
 use drt_evidence::Item;
 use drt_model::{Memory, Row};
+use drt_pool::Gate;
 use drt_refine::{
     CombinationState, Frontier, FrontierEntry, FrontierReply, eager_settles,
     over_every_interleaving,
 };
 use drt_tree::Forest;
 use std::alloc::Global;
+use std::sync::Wait;
+use std::thread::Threads;
 
 // The one worker that drives a vertex's frontier.
 const WORKER: u32 = 0;
@@ -32,18 +35,22 @@ pub(crate) enum VertexProof {
 
 /// Looks for a time that passes for a vertex of this wcet and deadline (in ticks), for each tuple of leaves below the roots,
 /// which are those of the trees of the tasks of higher priority. The budget is how many steps the frontier may make.
-pub(crate) fn prove_vertex(
+pub(crate) fn prove_vertex<G: Gate, R: Threads + Wait + Sync>(
+    _rt: &R,
     alloc: Global,
     forest: &Forest,
     roots: &[u32],
     wcet: u32,
     deadline: u32,
+    _workers: u32,
     budget: u64,
+    _gate: &G,
 ) -> Result<VertexProof, Memory>
     requires few { length roots.now ≤ 31 }
     requires roots { AreChosen deadline forest.now.pool roots.now }
     requires wcet { (1 ≤ wcet) × (wcet ≤ 1000000) }
     requires deadline { (1 ≤ deadline) × (deadline ≤ 1000000) }
+    requires workers { (1 ≤ _workers) × (_workers ≤ 16) }
     requires budget { (1 ≤ budget) × (budget ≤ 1000000) }
     ensures { IfOk result (IsVertexProof forest.now wcet deadline roots.now budget) }
 {

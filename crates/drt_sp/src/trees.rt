@@ -11,10 +11,13 @@ use crate::trees::gathering::gather;
 use drt_evidence::TreeClaim;
 use drt_graph::Graph;
 use drt_model::{Memory, Row};
+use drt_pool::Gate;
 use drt_request::RequestLabel;
 use drt_table::{Entry, Table, TableReply};
 use drt_tree::Forest;
 use std::alloc::Global;
+use std::sync::Wait;
+use std::thread::Threads;
 
 mod adding;
 mod gathering;
@@ -39,14 +42,18 @@ pub(crate) enum TreeSearch {
 }
 
 // The search of a graph's walks up to the bound, driven to its end by one worker.
-fn search(
+fn search<G: Gate, R: Threads + Wait + Sync>(
+    _rt: &R,
     alloc: Global,
     graph: &Graph,
     bound: u64,
+    _workers: u32,
     budget: u64,
+    _gate: &G,
 ) -> Result<(Table<RequestLabel>, TableReply), Memory>
     requires from { 1 ≤ bound }
     requires to { bound ≤ 1000000 }
+    requires workers { (1 ≤ _workers) × (_workers ≤ 16) }
     requires some { 1 ≤ budget }
     requires few { budget ≤ 1000000 }
     ensures setting { IfOk result (λ end. setting_of end.0 ≡ search_of graph.now bound budget) }
@@ -58,22 +65,26 @@ fn search(
 
 /// Searches the walks of a task's graph up to the bound, in ticks, with this budget of steps, and puts the tree of those that no
 /// other one dominates into the forest. After want of memory the forest may have that tree or not.
-pub(crate) fn search_tree(
+pub(crate) fn search_tree<G: Gate, R: Threads + Wait + Sync>(
+    rt: &R,
     alloc: Global,
     graph: &Graph,
     bound: u64,
+    workers: u32,
     budget: u64,
+    gate: &G,
     forest: &mut Forest,
 ) -> Result<TreeSearch, Memory>
     requires from { 1 ≤ bound }
     requires to { bound ≤ 1000000 }
+    requires workers { (1 ≤ workers) × (workers ≤ 16) }
     requires some { 1 ≤ budget }
     requires few { budget ≤ 1000000 }
     requires functions { All (λ xs. length xs ≡ bound) forest.old.pool }
     requires room { length forest.old.nodes + 2 * (1000000 + 96) ≤ 4294967295 }
     ensures { IfOk result (IsTreeSearch graph.now bound budget forest.old forest.new) }
 {
-    let (table, _reply) = search(alloc, graph, bound, budget)?;
+    let (table, _reply) = search(rt, alloc, graph, bound, workers, budget, gate)?;
     if !table.finished() {
         let log = Vec::from_slice(alloc, table.log())?;
         return Ok(TreeSearch::Spent(Row::from_vec(log)));

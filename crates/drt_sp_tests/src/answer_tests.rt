@@ -4,9 +4,12 @@ ghost use Rattle.drt_sp.specs.Answers.{IsAnswer};
 
 use drt_evidence::{Dossier, print};
 use drt_model::{Policy, TaskSet};
+use drt_pool::OpenGate;
 use drt_sp::{FixedAnswer, FixedTrail, analyse_fixed};
 use std::alloc::Global;
+use std::sync::Wait;
 use std::test::Fail;
+use std::thread::Threads;
 
 // A task of two jobs, each of which comes again, above a task of one.
 const LOOPED: &str =
@@ -75,7 +78,12 @@ fn many_tasks_no(alloc: Global) -> Result<String, Fail> {
 }
 
 // The set of a text, and the answer to it.
-fn answer_to(alloc: Global, text: &str, budget: u64) -> Result<(TaskSet, FixedAnswer), Fail>
+fn answer_to<R: Threads + Wait + Sync>(
+    rt: &R,
+    alloc: Global,
+    text: &str,
+    budget: u64,
+) -> Result<(TaskSet, FixedAnswer), Fail>
     ensures { IfOk result (λ a. IsAnswer a.0 budget a.1) }
 {
     if text.len() > 1_000_000 || budget < 1 || budget > 1_000_000 {
@@ -83,13 +91,18 @@ fn answer_to(alloc: Global, text: &str, budget: u64) -> Result<(TaskSet, FixedAn
     }
     let set = drt_file::read(alloc, text.as_bytes())?;
     let graphs = drt_graph::check(alloc, &set)?;
-    let answer = analyse_fixed(alloc, &set, &graphs, budget)?;
+    let answer = analyse_fixed(rt, alloc, &set, &graphs, 1, budget, &OpenGate)?;
     Ok((set, answer))
 }
 
 // Whether the dossier of the answer has these lines behind the set, which is in canonical text.
-fn has_dossier(alloc: Global, text: &str, body: &str) -> Result<bool, Fail> {
-    let (set, answer) = answer_to(alloc, text, 1000)?;
+fn has_dossier<R: Threads + Wait + Sync>(
+    rt: &R,
+    alloc: Global,
+    text: &str,
+    body: &str,
+) -> Result<bool, Fail> {
+    let (set, answer) = answer_to(rt, alloc, text, 1000)?;
     let FixedAnswer::Done(evidence) = answer else {
         return Ok(false);
     };
@@ -107,12 +120,13 @@ fn has_dossier(alloc: Global, text: &str, body: &str) -> Result<bool, Fail> {
 }
 
 // The task, the vertex if there is one, and the number of steps at which a budget was spent.
-fn trail_of(
+fn trail_of<R: Threads + Wait + Sync>(
+    rt: &R,
     alloc: Global,
     text: &str,
     budget: u64,
 ) -> Result<Option<(u32, Option<u32>, usize)>, Fail> {
-    let (_set, answer) = answer_to(alloc, text, budget)?;
+    let (_set, answer) = answer_to(rt, alloc, text, budget)?;
     match answer {
         FixedAnswer::Done(_) => Ok(None),
         FixedAnswer::Undecided(FixedTrail::Table { task, log }) => {
@@ -133,7 +147,7 @@ fn worked_sets_have_their_dossiers(rt: HostRuntime) -> Result<(), Fail> {
         (TURNED, TURNED_YES),
     ];
     for (text, body) in cases {
-        assert!(rt; has_dossier(rt.alloc(), text, body)?, "of {text}");
+        assert!(rt; has_dossier(&rt, rt.alloc(), text, body)?, "of {text}");
     }
     Ok(())
 }
@@ -148,7 +162,7 @@ fn budgets_are_spent_in_a_search_or_a_refinement(rt: HostRuntime) -> Result<(), 
     ];
     for (text, budget, trail) in cases {
         assert!(rt;
-            trail_of(rt.alloc(), text, budget)? == trail,
+            trail_of(&rt, rt.alloc(), text, budget)? == trail,
             "of {budget} steps"
         );
     }
@@ -160,9 +174,9 @@ fn as_many_tasks_as_a_file_may_have(rt: HostRuntime) -> Result<(), Fail> {
     let alloc = rt.alloc();
     let just = many_tasks(alloc, 32)?;
     let yes = many_tasks_yes(alloc)?;
-    assert!(rt; has_dossier(alloc, just.as_str(), yes.as_str())?);
+    assert!(rt; has_dossier(&rt, alloc, just.as_str(), yes.as_str())?);
     let late = many_tasks(alloc, 31)?;
     let no = many_tasks_no(alloc)?;
-    assert!(rt; has_dossier(alloc, late.as_str(), no.as_str())?);
+    assert!(rt; has_dossier(&rt, alloc, late.as_str(), no.as_str())?);
     Ok(())
 }

@@ -4,10 +4,13 @@ use drt_evidence::Evidence;
 use drt_fixtures::{Shape, make_set};
 use drt_graph::{Graphs, check};
 use drt_model::TaskSet;
+use drt_pool::OpenGate;
 use drt_sp::{FixedAnswer, analyse_fixed};
 use drt_sp_plain::is_schedulable;
 use std::alloc::Global;
+use std::sync::Wait;
 use std::test::Fail;
+use std::thread::Threads;
 
 const DRAWN_SETS: u32 = 200;
 
@@ -23,24 +26,37 @@ fn verdict(answer: &FixedAnswer) -> Option<bool> {
 }
 
 // What the plain program says of a set, and what the analysis does.
-fn verdicts(alloc: Global, set: &TaskSet) -> Result<(bool, Option<bool>), Fail> {
+fn verdicts<R: Threads + Wait + Sync>(
+    rt: &R,
+    alloc: Global,
+    set: &TaskSet,
+) -> Result<(bool, Option<bool>), Fail> {
     let Ok(graphs) = check(alloc, set) else {
         return Err("constrained deadlines".into());
     };
     let plain = is_schedulable(alloc, set, &graphs)?;
-    let answer = analyse_fixed(alloc, set, &graphs, BUDGET)?;
+    let answer = analyse_fixed(rt, alloc, set, &graphs, 1, BUDGET, &OpenGate)?;
     Ok((plain, verdict(&answer)))
 }
 
-fn drawn_verdicts(alloc: Global, draws: &mut Draws) -> Result<(bool, Option<bool>), Fail> {
+fn drawn_verdicts<R: Threads + Wait + Sync>(
+    rt: &R,
+    alloc: Global,
+    draws: &mut Draws,
+) -> Result<(bool, Option<bool>), Fail> {
     let set = drawn_set(alloc, draws)?;
-    verdicts(alloc, &set)
+    verdicts(rt, alloc, &set)
 }
 
 // Whether both say so of the set of these shapes.
-fn is_decided(alloc: Global, shapes: &[Shape<'_>], yes: bool) -> Result<bool, Fail> {
+fn is_decided<R: Threads + Wait + Sync>(
+    rt: &R,
+    alloc: Global,
+    shapes: &[Shape<'_>],
+    yes: bool,
+) -> Result<bool, Fail> {
     let set = make_set(alloc, shapes)?.ok_or("within the limits")?;
-    let (plain, analysed) = verdicts(alloc, &set)?;
+    let (plain, analysed) = verdicts(rt, alloc, &set)?;
     Ok(plain == yes && analysed == Some(yes))
 }
 
@@ -50,7 +66,7 @@ fn drawn_sets_are_answered_as_by_a_plain_program(rt: HostRuntime) -> Result<(), 
     let mut yes: u32 = 0;
     let mut no: u32 = 0;
     for number in 0..DRAWN_SETS {
-        let (plain, analysed) = drawn_verdicts(rt.alloc(), &mut draws)?;
+        let (plain, analysed) = drawn_verdicts(&rt, rt.alloc(), &mut draws)?;
         assert_eq!(rt; analysed, Some(plain), "set {number}");
         if plain {
             yes = yes.saturating_add(1);
@@ -79,7 +95,7 @@ fn one_tick_decides_a_set(rt: HostRuntime) -> Result<(), Fail> {
         (&[half, one, (&[(3, 8)], &[])], false),
     ];
     for (shapes, yes) in cases {
-        assert!(rt; is_decided(rt.alloc(), shapes, yes)?);
+        assert!(rt; is_decided(&rt, rt.alloc(), shapes, yes)?);
     }
     Ok(())
 }

@@ -19,8 +19,8 @@ use Rattle.drt_evidence.specs.declared.evidence.Evidence.TheVariants.{EdfYes, Ed
 use Rattle.drt_edf.specs.Answers.{IsBeyond, IsVerdict, IsOther, IsPlanned, IsUndecided}
 use Rattle.drt_evidence.specs.Rates.{IsAtOne, Rates}
 use Rattle.drt_edf.specs.Spent.{IsEnough, table_need}
-use Rattle.drt_edf.specs.declared.answer.EdfTrail.{EdfTrail}
-use Rattle.drt_edf.specs.declared.answer.EdfTrail.TheVariants.{Table, Overload}
+use Rattle.drt_trails.specs.declared.EdfTrail.{EdfTrail}
+use Rattle.drt_trails.specs.declared.EdfTrail.TheVariants.{Table, Overload}
 use Rattle.drt_edf.proofs.Unique.{rates_same, horizon_same}
 use Rattle.drt_top.specs.Dossiers.{evidence_status}
 use Rattle.drt_command.specs.declared.report.Report.{Report}

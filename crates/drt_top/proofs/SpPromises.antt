@@ -17,7 +17,7 @@ use Rattle.drt_outcome.specs.Stops.{fault_status}
 use Rattle.drt_sp.specs.Answers.{IsUndecided, IsVerdict}
 use Rattle.drt_sp.specs.Evidence.{under_fixed}
 use Rattle.drt_sp.specs.Laws.{BudgetsSuffice}
-use Rattle.drt_sp.specs.declared.answer.FixedTrail.{FixedTrail}
+use Rattle.drt_trails.specs.declared.FixedTrail.{FixedTrail}
 use Rattle.drt_top.specs.Dossiers.{evidence_status}
 use Rattle.drt_top.specs.TaskFiles.{IsAccepted, IsFileFault}
 use Rattle.drt_top.specs.commands.Sp.{Analyses, IsSpNoText, IsSpUndecidedText, IsSpYesText, SpEnds, sp_rules, trail_of}

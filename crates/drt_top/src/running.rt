@@ -17,8 +17,11 @@ use crate::commands::util::Util;
 use drt_command::conduct;
 use drt_io::{Sink, Source};
 use drt_outcome::{Fault, Outcome, Stop, Trail, outcome_of};
+use drt_pool::Gate;
 use drt_words::{Meaning, WordsError, words_of};
 use std::alloc::Global;
+use std::sync::Wait;
+use std::thread::Threads;
 
 /// Runs the command that the words name: it reads a task file from the source, for `check` a dossier, and
 /// writes what the command makes of it to the sink. Statuses: 0 done, and for `edf`, `sp` and `check` the set
@@ -27,12 +30,15 @@ use std::alloc::Global;
 /// fault; 5 the words are refused; 6 a read failed; 7 a write failed; 8 no memory was to be had; 9 the
 /// evidence of the dossier is rejected; 10 the dossier is refused with a fault.
 ///
-/// Where the source tells its bytes, the clauses speak of them.
-pub fn run<S: Source, K: Sink>(
+/// Where the source tells its bytes, the clauses speak of them. The gate sees each turn of the workers that search together; whatever
+/// their number and whatever the order of their steps, the clauses hold.
+pub fn run<S: Source, K: Sink, G: Gate, R: Threads + Wait + Sync>(
+    rt: &R,
     alloc: Global,
     words: &[String],
     source: &mut S,
     sink: &mut K,
+    gate: &G,
 ) -> Outcome
     // What the command makes of its input is written, whole.
     ensures done { (m : Meaning) → meaning_of (map string_bytes words.now) ≡ Some m → result.status < 4
@@ -66,28 +72,30 @@ pub fn run<S: Source, K: Sink>(
     ensures trail { 4 ≤ result.status → result.trail ≡ Trail.Nothing }
 {
     match words_of(alloc, words) {
-        Ok(meaning) => dispatch(alloc, meaning, source, sink),
+        Ok(meaning) => dispatch(rt, alloc, meaning, source, sink, gate),
         Err(WordsError::Refused) => outcome_of(Stop::Words),
         Err(WordsError::Memory) => outcome_of(Stop::Memory),
     }
 }
 
 // Runs this command.
-fn dispatch<S: Source, K: Sink>(
+fn dispatch<S: Source, K: Sink, G: Gate, R: Threads + Wait + Sync>(
+    rt: &R,
     alloc: Global,
     meaning: Meaning,
     source: &mut S,
     sink: &mut K,
+    gate: &G,
 ) -> Outcome
     ensures run { IsRun (rules_of meaning) (S.left source.old) (Rose (S.faults source.old) (S.faults source.new)) (Rose (K.faults sink.old) (K.faults sink.new)) (K.held sink.old) (K.held sink.new) result }
     ensures unwritten { 4 ≤ result.status → result.status ≢ 7 → sink.new ≡ sink.old }
     ensures unread { (rules_of meaning).input ≡ Input.Nothing → source.new ≡ source.old }
 {
     match meaning {
-        Meaning::Edf { search } => conduct(alloc, &Edf { search }, source, sink),
-        Meaning::Sp { search } => conduct(alloc, &Sp { search }, source, sink),
-        Meaning::Upgrade => conduct(alloc, &Upgrade, source, sink),
-        Meaning::Util => conduct(alloc, &Util, source, sink),
-        Meaning::Check => conduct(alloc, &Check, source, sink),
+        Meaning::Edf { search } => conduct(rt, alloc, &Edf { search }, source, sink, gate),
+        Meaning::Sp { search } => conduct(rt, alloc, &Sp { search }, source, sink, gate),
+        Meaning::Upgrade => conduct(rt, alloc, &Upgrade, source, sink, gate),
+        Meaning::Util => conduct(rt, alloc, &Util, source, sink, gate),
+        Meaning::Check => conduct(rt, alloc, &Check, source, sink, gate),
     }
 }

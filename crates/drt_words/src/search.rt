@@ -39,6 +39,15 @@ impl Search {
         Search { workers, budget }
     }
 
+    /// The workers.
+    pub fn workers(&self) -> u32
+        ensures is { result ≡ self.now.workers }
+        ensures some { 1 ≤ result }
+        ensures few { result ≤ most_workers }
+    {
+        self.workers
+    }
+
     /// The steps.
     pub fn budget(&self) -> u32
         ensures is { result ≡ self.now.budget }

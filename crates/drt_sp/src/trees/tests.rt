@@ -3,6 +3,7 @@ use crate::trees::{TreeSearch, search_tree};
 use drt_evidence::{Pair, TreeClaim};
 use drt_graph::{Graphs, check};
 use drt_model::{Edge, Memory, Name, Row, Task, Vertex, task_set};
+use drt_pool::OpenGate;
 use drt_tree::Forest;
 use std::alloc::Global;
 use std::test::Fail;
@@ -57,7 +58,7 @@ fn three_walks_give_two_pairs(rt: HostRuntime) -> Result<(), Fail> {
     let alloc = rt.alloc();
     let graphs = graphs(alloc)?;
     let mut forest = Forest::empty(alloc);
-    let search = search_tree(alloc, graphs.graph(0), 5, 9, &mut forest)?;
+    let search = search_tree(&rt, alloc, graphs.graph(0), 5, 1, 9, &OpenGate, &mut forest)?;
     let TreeSearch::Tree(tree) = search else {
         return Err("nine steps are enough".into());
     };
@@ -72,7 +73,7 @@ fn eight_steps_are_too_few(rt: HostRuntime) -> Result<(), Fail> {
     let alloc = rt.alloc();
     let graphs = graphs(alloc)?;
     let mut forest = Forest::empty(alloc);
-    let search = search_tree(alloc, graphs.graph(0), 5, 8, &mut forest)?;
+    let search = search_tree(&rt, alloc, graphs.graph(0), 5, 1, 8, &OpenGate, &mut forest)?;
     let TreeSearch::Spent(log) = search else {
         return Err("it needs nine".into());
     };

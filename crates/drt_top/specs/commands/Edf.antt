@@ -17,8 +17,8 @@ use Rattle.drt_evidence.specs.Reading.{IsTextOf}
 use Rattle.drt_edf.specs.Answers.{IsExactYes, IsMissed, IsOnlyOne, IsOther, IsUndecided, IsBeyond}
 use Rattle.drt_evidence.specs.Rates.{IsAtOne}
 use Rattle.drt_edf.specs.Spent.{IsEnough}
-use Rattle.drt_edf.specs.declared.answer.EdfTrail.{EdfTrail}
-use Rattle.drt_edf.specs.declared.answer.EdfTrail.TheVariants.{Table, Overload}
+use Rattle.drt_trails.specs.declared.EdfTrail.{EdfTrail}
+use Rattle.drt_trails.specs.declared.EdfTrail.TheVariants.{Table, Overload}
 use Rattle.drt_command.specs.Rules.{Rules}
 use Rattle.drt_command.specs.declared.report.Report.{Report}
 use Rattle.drt_top.specs.TaskFiles.{IsAccepted, IsFileFault, file_input}

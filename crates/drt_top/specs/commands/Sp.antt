@@ -16,8 +16,8 @@ use Rattle.drt_command.specs.Rules.{Rules}
 use Rattle.drt_sp.specs.Answers.{IsExactYes, IsMissed, IsUndecided}
 use Rattle.drt_sp.specs.Evidence.{under_fixed}
 use Rattle.drt_sp.specs.Needs.{IsEnough}
-use Rattle.drt_sp.specs.declared.answer.FixedTrail.{FixedTrail}
-use Rattle.drt_sp.specs.declared.answer.FixedTrail.TheVariants.{Table, Refine}
+use Rattle.drt_trails.specs.declared.FixedTrail.{FixedTrail}
+use Rattle.drt_trails.specs.declared.FixedTrail.TheVariants.{Table, Refine}
 use Rattle.drt_top.specs.TaskFiles.{IsAccepted, IsFileFault, file_input}
 
 -- The text is a yes: the set is schedulable under fixed priorities, and the evidence is accepted.

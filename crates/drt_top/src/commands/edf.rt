@@ -1,8 +1,7 @@
 //! `edf`: the answer under EDF, and its dossier.
-ghost use Rattle.std.specs.Prelude.{◌≡◌, ◌≤◌, IfErr, IfOk, map};
+ghost use Rattle.std.specs.Prelude.{◌≡◌, IfErr, IfOk, map};
 ghost use Rattle.drt_model.specs.Digraph.{digraph_of};
 ghost use Rattle.drt_command.specs.Rules.{IsCause};
-ghost use Rattle.drt_words.specs.Searches.{most_budget};
 ghost use Rattle.drt_top.specs.commands.Edf.{Decides, IsOutOfReach, beyond_code, edf_rules, trail_of};
 ghost use Rattle.drt_top.specs.TaskFiles.{IsAccepted};
 
@@ -17,8 +16,11 @@ use drt_horizon::Beyond;
 use drt_model::{Policy, TaskSet};
 use drt_outcome::fault::{Fault, HORIZON_TOO_FAR, SCALE_TOO_FINE};
 use drt_outcome::outcome::Trail;
+use drt_pool::Gate;
 use drt_words::Search;
 use std::alloc::Global;
+use std::sync::Wait;
+use std::thread::Threads;
 
 /// The command `edf`.
 #[derive(Debug, Drop)]
@@ -37,28 +39,35 @@ impl Command for Edf {
         file_input()
     }
 
-    fn make(&self, alloc: Global, bytes: &[u8]) -> Result<Report, Unmade> {
+    fn make<G: Gate, R: Threads + Wait + Sync>(
+        &self,
+        rt: &R,
+        alloc: Global,
+        bytes: &[u8],
+        gate: &G,
+    ) -> Result<Report, Unmade> {
         let (set, graphs) = read_set(alloc, bytes)?;
-        decide(alloc, bytes, set, &graphs, self.search.budget())
+        decide(rt, alloc, bytes, set, &graphs, &self.search, gate)
     }
 }
 
-// The answer to an accepted set, with a budget of steps for each search.
-fn decide(
+// The answer to an accepted set, by so many workers and with a budget of steps for each search.
+fn decide<G: Gate, R: Threads + Wait + Sync>(
+    rt: &R,
     alloc: Global,
     bytes: &[u8],
     set: TaskSet,
     graphs: &Graphs,
-    budget: u32,
+    search: &Search,
+    gate: &G,
 ) -> Result<Report, Unmade>
     requires accepted { IsAccepted bytes.now set }
     requires graphs { graphs.now ≡ map digraph_of set.tasks }
-    requires some { 1 ≤ budget }
-    requires few { budget ≤ most_budget }
-    ensures decides { IfOk result (Decides budget bytes.now) }
+    ensures decides { IfOk result (Decides search.now.budget bytes.now) }
     ensures unmade { IfErr result (IsCause IsOutOfReach bytes.now) }
 {
-    match analyse_edf(alloc, &set, graphs, u64::from(budget)) {
+    let budget = u64::from(search.budget());
+    match analyse_edf(rt, alloc, &set, graphs, search.workers(), budget, gate) {
         Ok(EdfAnswer::Done(evidence)) => {
             make_report(alloc, Policy::Edf, set, evidence, Trail::Nothing)
         }

@@ -1,7 +1,6 @@
 //! `sp`: the answer under fixed priorities, and its dossier.
-ghost use Rattle.std.specs.Prelude.{◌≡◌, ◌≤◌, IfErr, IfOk, map};
+ghost use Rattle.std.specs.Prelude.{◌≡◌, IfErr, IfOk, map};
 ghost use Rattle.drt_model.specs.Digraph.{digraph_of};
-ghost use Rattle.drt_words.specs.Searches.{most_budget};
 ghost use Rattle.drt_top.specs.commands.Sp.{Analyses, sp_rules, trail_of};
 ghost use Rattle.drt_top.specs.TaskFiles.{IsAccepted};
 
@@ -13,9 +12,12 @@ use drt_file::laws::texts_read_as_one_set;
 use drt_graph::Graphs;
 use drt_model::{Policy, TaskSet};
 use drt_outcome::outcome::Trail;
+use drt_pool::Gate;
 use drt_sp::{FixedAnswer, FixedTrail, analyse_fixed, budgets_suffice};
 use drt_words::Search;
 use std::alloc::Global;
+use std::sync::Wait;
+use std::thread::Threads;
 
 /// The command `sp`.
 #[derive(Debug, Drop)]
@@ -35,28 +37,35 @@ impl Command for Sp {
         file_input()
     }
 
-    fn make(&self, alloc: Global, bytes: &[u8]) -> Result<Report, Unmade> {
+    fn make<G: Gate, R: Threads + Wait + Sync>(
+        &self,
+        rt: &R,
+        alloc: Global,
+        bytes: &[u8],
+        gate: &G,
+    ) -> Result<Report, Unmade> {
         let (set, graphs) = read_set(alloc, bytes)?;
-        analyse(alloc, bytes, set, &graphs, self.search.budget())
+        analyse(rt, alloc, bytes, set, &graphs, &self.search, gate)
     }
 }
 
-// The answer to an accepted set, with a budget of steps for each search.
-fn analyse(
+// The answer to an accepted set, by so many workers and with a budget of steps for each search.
+fn analyse<G: Gate, R: Threads + Wait + Sync>(
+    rt: &R,
     alloc: Global,
     bytes: &[u8],
     set: TaskSet,
     graphs: &Graphs,
-    budget: u32,
+    search: &Search,
+    gate: &G,
 ) -> Result<Report, Unmade>
     requires accepted { IsAccepted bytes.now set }
     requires graphs { graphs.now ≡ map digraph_of set.tasks }
-    requires some { 1 ≤ budget }
-    requires few { budget ≤ most_budget }
-    ensures analyses { IfOk result (Analyses budget bytes.now) }
+    ensures analyses { IfOk result (Analyses search.now.budget bytes.now) }
     ensures unmade { IfErr result (λ e. e ≡ Unmade.Memory) }
 {
-    match analyse_fixed(alloc, &set, graphs, u64::from(budget)) {
+    let budget = u64::from(search.budget());
+    match analyse_fixed(rt, alloc, &set, graphs, search.workers(), budget, gate) {
         Ok(FixedAnswer::Done(evidence)) => {
             make_report(alloc, Policy::Fixed, set, evidence, Trail::Nothing)
         }
