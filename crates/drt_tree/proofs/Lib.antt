@@ -1,4 +1,5 @@
 pub mod Leaves
+mod Apart
 pub mod Trees
 pub mod Labels
 pub mod Counts

@@ -15,8 +15,9 @@ use Rattle.drt_request.specs.Request.{Request}
 use Rattle.drt_tree.specs.Leaf.{leaves_of, is_before}
 use Rattle.drt_tree.specs.declared.leaf.Leaf.{Leaf}
 use Rattle.drt_tree.specs.declared.node.Node.{Node}
-use Rattle.drt_tree.specs.Tree.{Plain, plain, IsForest, IsPair, Grows, HaveOneBound, children, children_of, leaves, leaves_of_node, values, Leads, leaf_node, leaf_steps, with_leaves}
+use Rattle.drt_tree.specs.Tree.{Plain, plain, IsForest, IsPair, IsUnder, Grows, HaveOneBound, children, children_of, leaves, leaves_of_node, values, Leads, leaf_node, leaf_steps, with_leaves}
 use Rattle.drt_tree.specs.Shape.{Shape, one, two, parts, pairs, root_of, Stands, IsBuilt, IsAdded}
+use Rattle.drt_tree.proofs.Apart.{roots_apart}
 
 pub get_front : {A : Type 0} (xs ys : List A) (n : ℕ) → n < length xs → slice_get (xs ++ ys) n ≡ slice_get xs n
 get_front [] ys n lt = absurd (omega arith)
@@ -267,8 +268,50 @@ paired_bound f g n l r k p wl wr m false t w =
     let is : m ≡ length f.nodes = omega arith in
     ap (λ z. length (values g z)) is ∙ (ap length (new_values f g n l r s p) ∙ length-max_of (values f l) (values f r) (k.bound l r (omega arith) (omega arith)))
 
-paired_forest : (f g : Plain) (n l r : ℕ) → IsForest f → Paired f n l r g → l < length f.nodes → r < length f.nodes → n ≡ leaves f l + leaves f r → IsForest g
-paired_forest f g n l r k p wl wr e =
+-- a leaf under an old node of a forest that grew was under it before
+turned_within : (f : Plain) (n l r : ℕ) (b : Bool) → n < length f.nodes → IsPair f n l r → cond b l r < length f.nodes
+turned_within f n l r true w p = let le : l < n = p.left in omega arith
+turned_within f n l r false w p = let le : r < n = p.right in omega arith
+
+leads_back : (f g : Plain) → Grows f g → IsForest f → (n : ℕ) (turns : List Bool) (leaf : ℕ) → n < length f.nodes → Leads g n turns leaf → Leads f n turns leaf
+leads_back f g a k n [] leaf w h = (h.0, sym (children_stay f g n a w) ∙ h.1)
+leads_back f g a k n (b ∷ turns) leaf w h =
+    let e : children f n ≡ Some (h.0, h.1) = sym (children_stay f g n a w) ∙ h.2 in
+    let next : cond b h.0 h.1 < length f.nodes = turned_within f n h.0 h.1 b w (k.pairs n h.0 h.1 e) in
+    (h.0, h.1, e, leads_back f g a k (cond b h.0 h.1) turns leaf next h.3)
+
+under_back : (f g : Plain) → Grows f g → IsForest f → (n leaf : ℕ) → n < length f.nodes → IsUnder g leaf n → IsUnder f leaf n
+under_back f g a k n leaf w h = (h.0, leads_back f g a k n h.0 leaf w h.1)
+
+-- the parts of an old node stay apart
+apart_stays : (f g : Plain) (n l r leaf : ℕ) → Grows f g → IsForest f → n < length f.nodes → children g n ≡ Some (l, r) → IsUnder g leaf l → ¬ IsUnder g leaf r
+apart_stays f g n l r leaf a k w h under other =
+    let e : children f n ≡ Some (l, r) = sym (children_stay f g n a w) ∙ h in
+    let p : IsPair f n l r = k.pairs n l r e in
+    let wl : l < n = p.left in
+    let wr : r < n = p.right in
+    k.apart n l r leaf e (under_back f g a k l leaf (omega arith) under) (under_back f g a k r leaf (omega arith) other)
+
+paired_apart : (f g : Plain) (n l r : ℕ) → IsForest f → Paired f n l r g → l < length f.nodes → r < length f.nodes → ((leaf : ℕ) → IsUnder f leaf l → ¬ IsUnder f leaf r)
+    → (m l2 r2 leaf : ℕ) (old : Bool) → ltb m (length f.nodes) ≡ old → children g m ≡ Some (l2, r2) → IsUnder g leaf l2 → ¬ IsUnder g leaf r2
+paired_apart f g n l r k p wl wr apart m l2 r2 leaf true t h = apart_stays f g m l2 r2 leaf (paired_grows f g n l r p) k (grind (arith, nat_tests)) h
+paired_apart f g n l r k p wl wr apart m l2 r2 leaf false t h =
+    let late : length f.nodes ≤ m = grind (arith, nat_tests) in
+    let w : m < length g.nodes = child_within g m l2 r2 h in
+    let long : length g.nodes ≡ length f.nodes + 1 = paired_long f g n l r p in
+    let is : length f.nodes ≡ m = omega arith in
+    let v : ℕ × ℕ = (l, r) in
+    let v2 : ℕ × ℕ = (l2, r2) in
+    let c : children g m ≡ Some v = ap (λ z. children g z) (sym is) ∙ ap children_of (new_node f g n l r p) in
+    let same : v ≡ v2 = same_Some v v2 (sym c ∙ h) in
+    let el : l2 ≡ l = sym (ap (λ (z : ℕ × ℕ). z.0) same) in
+    let er : r2 ≡ r = sym (ap (λ (z : ℕ × ℕ). z.1) same) in
+    let a : Grows f g = paired_grows f g n l r p in
+    λ under other. apart leaf (under_back f g a k l leaf wl (subst (λ (z : ℕ). IsUnder g leaf z) el under)) (under_back f g a k r leaf wr (subst (λ (z : ℕ). IsUnder g leaf z) er other))
+
+paired_forest : (f g : Plain) (n l r : ℕ) → IsForest f → Paired f n l r g → l < length f.nodes → r < length f.nodes → n ≡ leaves f l + leaves f r
+    → ((leaf : ℕ) → IsUnder f leaf l → ¬ IsUnder f leaf r) → IsForest g
+paired_forest f g n l r k p wl wr e apart =
     let s : length f.nodes ≡ length f.pool = k.same in
     let a : length g.nodes ≡ length f.nodes + 1 = paired_long f g n l r p in
     let b : length g.pool ≡ length f.pool + 1 = paired_long_pool f g n l r p in
@@ -277,6 +320,7 @@ paired_forest f g n l r k p wl wr e =
       pairs = λ m l2 r2 h. paired_pair f g n l r k p wl wr e m l2 r2 (ltb m (length f.nodes)) refl h;
       ones = λ m h. paired_ones f g n l r k p m (ltb m (length f.nodes)) refl h;
       bound = λ i j wi wj. paired_bound f g n l r k p wl wr i (ltb i (length f.pool)) refl wi ∙ sym (paired_bound f g n l r k p wl wr j (ltb j (length f.pool)) refl wj);
+      apart = λ m l2 r2 leaf h. paired_apart f g n l r k p wl wr apart m l2 r2 leaf (ltb m (length f.nodes)) refl h;
     }
 
 -- two trees and their pair are a tree
@@ -302,11 +346,16 @@ built_two f a b g low count half rest l r sum le ge ga ba gb bb p =
     let right2 : Stands g bb.shape (low + parts ba.shape) (length a.nodes) = subst (λ (z : ℕ). Stands g bb.shape z (length a.nodes)) second right in
     let right3 : Stands g bb.shape (low + parts ba.shape) (length f.nodes + pairs ba.shape) = subst (λ (z : ℕ). Stands g bb.shape (low + parts ba.shape) z) first right2 in
     let rr : r ≡ root_of bb.shape (low + parts ba.shape) (length f.nodes + pairs ba.shape) = bb.root_is ∙ (ap (λ z. root_of bb.shape z (length a.nodes)) second ∙ ap (λ z. root_of bb.shape (low + parts ba.shape) z) first) in
+    let left1 : Stands b ba.shape low (length f.nodes) = stands_on a b ba.shape low (length f.nodes) gb ba.stands in
+    let right1 : Stands b bb.shape (low + parts ba.shape) (length a.nodes) = subst (λ (z : ℕ). Stands b bb.shape z (length a.nodes)) second bb.stands in
+    let rr1 : r ≡ root_of bb.shape (low + parts ba.shape) (length a.nodes) = bb.root_is ∙ ap (λ z. root_of bb.shape z (length a.nodes)) second in
+    let apart : (leaf : ℕ) → IsUnder b leaf l → ¬ IsUnder b leaf r = λ leaf under other. roots_apart b ba.shape bb.shape low (length f.nodes) (length a.nodes) leaf left1 right1
+    (subst (λ (z : ℕ). IsUnder b leaf z) ba.root_is under) (subst (λ (z : ℕ). IsUnder b leaf z) rr1 other) in
     let kids : children g (length b.nodes) ≡ Some (l, r) = ap children_of (new_node b g count l r p) in
     let kids2 : children g (length f.nodes + pairs ba.shape + pairs bb.shape) ≡ Some (root_of ba.shape low (length f.nodes), root_of bb.shape (low + parts ba.shape) (length f.nodes + pairs ba.shape)) =
     ap (λ z. children g z) (sym root) ∙ (kids ∙ (ap (λ z. Some (z, r)) ba.root_is ∙ ap (λ z. Some (root_of ba.shape low (length f.nodes), z)) rr)) in
     record {
-      forest = paired_forest b g count l r bb.forest p (omega arith) rw (omega arith);
+      forest = paired_forest b g count l r bb.forest p (omega arith) rw (omega arith) apart;
       long = omega arith;
       within = omega arith;
       count_is = ap leaves_of_node (new_node b g count l r p);
@@ -352,6 +401,13 @@ with_pair f ls k n l r false t h =
     let p : ℕ × ℕ = (l, r) in
     absurd (none-some p (sym (leaf_none f ls n (grind (arith, nat_tests))) ∙ h))
 
+with_apart : (f : Plain) (ls : List Leaf) → IsForest f → (n l r leaf : ℕ) (old : Bool) → ltb n (length f.nodes) ≡ old → children (with_leaves f ls) n ≡ Some (l, r)
+    → IsUnder (with_leaves f ls) leaf l → ¬ IsUnder (with_leaves f ls) leaf r
+with_apart f ls k n l r leaf true t h = apart_stays f (with_leaves f ls) n l r leaf (leaves_grow f ls) k (grind (arith, nat_tests)) h
+with_apart f ls k n l r leaf false t h =
+    let p : ℕ × ℕ = (l, r) in
+    absurd (none-some p (sym (leaf_none f ls n (grind (arith, nat_tests))) ∙ h))
+
 with_one : (f : Plain) (ls : List Leaf) → IsForest f → (n : ℕ) (old : Bool) → ltb n (length f.nodes) ≡ old → children (with_leaves f ls) n ≡ None → leaves (with_leaves f ls) n ≡ 1
 with_one f ls k n true t h =
     let w : n < length f.nodes = grind (arith, nat_tests) in
@@ -382,6 +438,7 @@ with_forest f ls k h =
       pairs = λ n l r e. with_pair f ls k n l r (ltb n (length f.nodes)) refl e;
       ones = λ n e. with_one f ls k n (ltb n (length f.nodes)) refl e;
       bound = λ m n wm wn. all m [] wm ∙ sym (all n [] wn);
+      apart = λ n l r leaf e. with_apart f ls k n l r leaf (ltb n (length f.nodes)) refl e;
     }
 
 pub with_long : (f : Plain) (ls : List Leaf) → length (with_leaves f ls).nodes ≡ length f.nodes + length ls

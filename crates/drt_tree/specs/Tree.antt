@@ -52,13 +52,6 @@ pub record IsPair (f : Plain) (n l r : ℕ) : Type 0 where
   pub count : leaves f n ≡ leaves f l + leaves f r
   pub most : values f n ≡ max_of (values f l) (values f r)
 
--- Each node with children is a pair, and all functions have one bound.
-pub record IsForest (f : Plain) : Type 0 where
-  pub same : length f.nodes ≡ length f.pool
-  pub pairs : (n l r : ℕ) → children f n ≡ Some (l, r) → IsPair f n l r
-  pub ones : (n : ℕ) → children f n ≡ None → leaves f n ≡ 1
-  pub bound : (m n : ℕ) → m < length f.pool → n < length f.pool → length (values f m) ≡ length (values f n)
-
 -- From a node, left or right at each turn, to a leaf.
 abbrev pub Leads : Plain → ℕ → List Bool → ℕ → Type 0
 Leads f n [] leaf = (n ≡ leaf) × (children f n ≡ None)
@@ -67,6 +60,18 @@ Leads f n (b ∷ turns) leaf = (l : ℕ) × (r : ℕ) × (children f n ≡ Some 
 -- The leaf is under the node.
 abbrev pub IsUnder : Plain → ℕ → ℕ → Type 0
 IsUnder f leaf n = (turns : List Bool) × Leads f n turns leaf
+
+-- No leaf is under both children of a node.
+abbrev pub AreApart : Plain → Type 0
+AreApart f = (n l r leaf : ℕ) → children f n ≡ Some (l, r) → IsUnder f leaf l → ¬ IsUnder f leaf r
+
+-- Each node with children is a pair, whose two parts have no leaf in common, and all functions have one bound.
+pub record IsForest (f : Plain) : Type 0 where
+  pub same : length f.nodes ≡ length f.pool
+  pub pairs : (n l r : ℕ) → children f n ≡ Some (l, r) → IsPair f n l r
+  pub ones : (n : ℕ) → children f n ≡ None → leaves f n ≡ 1
+  pub bound : (m n : ℕ) → m < length f.pool → n < length f.pool → length (values f m) ≡ length (values f n)
+  pub apart : AreApart f
 
 -- One forest goes on from another one, whose nodes it has first.
 pub record Grows (f g : Plain) : Type 0 where
