@@ -1,0 +1,3 @@
+mod SimpleCycles
+mod Periods
+mod Drawn
