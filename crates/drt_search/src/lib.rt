@@ -1,0 +1,12 @@
+//! Searches of a graph's walks by several workers.
+//!
+//! `search_together` starts a shared table with a pass for each worker, has the workers turn their passes, and drives what they
+//! left over to its end. Its answer is that of a table that one caller starts and drives, so the layers above use it in place
+//! of these two. A worker makes its labels where no lock is held.
+#![tactic(auto)]
+
+mod search;
+mod turn;
+
+pub use search::{drive_on, search_together};
+pub use turn::{SharedLabel, Turned, take_turn};
