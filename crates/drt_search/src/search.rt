@@ -19,7 +19,8 @@ use std::sync::Wait;
 use std::thread::Threads;
 
 /// The search of a graph's walks up to the bound, in ticks, with this budget of steps, by so many workers. What they leave over
-/// the caller drives to its end, as worker 0. The answer is that of a table that is started and driven.
+/// the caller drives to its end, as worker 0. The answer is that of a table that is started and driven. One worker shares its
+/// table with nobody, so it drives one without a lock, and the gate sees no turn of it.
 pub fn search_together<L: SharedLabel, G: Gate, R: Threads + Wait + Sync>(
     rt: &R,
     alloc: Global,
@@ -35,6 +36,10 @@ pub fn search_together<L: SharedLabel, G: Gate, R: Threads + Wait + Sync>(
     ensures setting { IfOk result (λ end. setting_of end.0 ≡ record { graph = graph.now; bound = bound; budget = budget }) }
     ensures stops { IfOk result (λ end. StopsAt L.algebra end.0 end.1) }
 {
+    if workers == 1 {
+        let table: Table<L> = Table::start(alloc, graph, bound, budget)?;
+        return table.drive(alloc, 0);
+    }
     let (shared, passes) = SharedTable::start(alloc, graph, bound, budget, workers)?;
     let passes = turn_passes(rt, alloc, graph, &shared, passes, gate);
     drive_on(alloc, shared, passes)
