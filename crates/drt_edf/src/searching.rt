@@ -11,6 +11,7 @@ use drt_demand::DemandLabel;
 use drt_graph::{Graph, Graphs};
 use drt_model::{FrontEntry, Memory, Row};
 use drt_pool::Gate;
+use drt_search::search_together;
 use drt_table::{Entry, Table, TableReply, over_every_interleaving};
 use std::alloc::Global;
 use std::sync::Wait;
@@ -25,25 +26,24 @@ pub(crate) enum Searched {
     Spent { task: u32, log: Row<Entry> },
 }
 
-// The search of one graph's walks up to the bound, driven to its end by one worker.
+// The search of one graph's walks up to the bound by these workers, driven to its end.
 fn search<G: Gate, R: Threads + Wait + Sync>(
-    _rt: &R,
+    rt: &R,
     alloc: Global,
     graph: &Graph,
     bound: u64,
-    _workers: u32,
+    workers: u32,
     budget: u64,
-    _gate: &G,
+    gate: &G,
 ) -> Result<(Table<DemandLabel>, TableReply), Memory>
     requires bound { bound ≤ 1099511627776 }
-    requires workers { (1 ≤ _workers) × (_workers ≤ 16) }
+    requires workers { (1 ≤ workers) × (workers ≤ 16) }
     requires some { 1 ≤ budget }
     requires few { budget ≤ 1000000 }
     ensures setting { IfOk result (λ end. setting_of end.0 ≡ search_of graph.now bound budget) }
     ensures stops { IfOk result (λ end. StopsAt demand_algebra end.0 end.1) }
 {
-    let table: Table<DemandLabel> = Table::start(alloc, graph, bound, budget)?;
-    table.drive(alloc, 0)
+    search_together(rt, alloc, graph, bound, budget, workers, gate)
 }
 
 /// The searches of the walks of all tasks up to the bound, in ticks, each with this budget of steps. Each gives its front, and

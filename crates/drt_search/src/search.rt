@@ -37,8 +37,8 @@ pub fn search_together<L: SharedLabel, G: Gate, R: Threads + Wait + Sync>(
     ensures stops { IfOk result (λ end. StopsAt L.algebra end.0 end.1) }
 {
     if workers == 1 {
-        let table: Table<L> = Table::start(alloc, graph, bound, budget)?;
-        return table.drive(alloc, 0);
+        let alone: Table<L> = Table::start(alloc, graph, bound, budget)?;
+        return alone.drive(alloc, 0);
     }
     let (shared, passes) = SharedTable::start(alloc, graph, bound, budget, workers)?;
     let passes = turn_passes(rt, alloc, graph, &shared, passes, gate);

@@ -13,6 +13,7 @@ use drt_graph::Graph;
 use drt_model::{Memory, Row};
 use drt_pool::Gate;
 use drt_request::RequestLabel;
+use drt_search::search_together;
 use drt_table::{Entry, Table, TableReply};
 use drt_tree::Forest;
 use std::alloc::Global;
@@ -41,26 +42,25 @@ pub(crate) enum TreeSearch {
     Spent(Row<Entry>),
 }
 
-// The search of a graph's walks up to the bound, driven to its end by one worker.
+// The search of a graph's walks up to the bound by these workers, driven to its end.
 fn search<G: Gate, R: Threads + Wait + Sync>(
-    _rt: &R,
+    rt: &R,
     alloc: Global,
     graph: &Graph,
     bound: u64,
-    _workers: u32,
+    workers: u32,
     budget: u64,
-    _gate: &G,
+    gate: &G,
 ) -> Result<(Table<RequestLabel>, TableReply), Memory>
     requires from { 1 ≤ bound }
     requires to { bound ≤ 1000000 }
-    requires workers { (1 ≤ _workers) × (_workers ≤ 16) }
+    requires workers { (1 ≤ workers) × (workers ≤ 16) }
     requires some { 1 ≤ budget }
     requires few { budget ≤ 1000000 }
     ensures setting { IfOk result (λ end. setting_of end.0 ≡ search_of graph.now bound budget) }
     ensures stops { IfOk result (λ end. StopsAt request_algebra end.0 end.1) }
 {
-    let table: Table<RequestLabel> = Table::start(alloc, graph, bound, budget)?;
-    table.drive(alloc, 0)
+    search_together(rt, alloc, graph, bound, budget, workers, gate)
 }
 
 /// Searches the walks of a task's graph up to the bound, in ticks, with this budget of steps, and puts the tree of those that no
