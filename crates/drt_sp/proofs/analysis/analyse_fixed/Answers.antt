@@ -6,27 +6,27 @@ use Rattle.drt_sp.proofs.Orders.{order_count}
 use Rattle.drt_sp.proofs.analysis.analyse_fixed.Goals as goal
 
 pub overflow_sub-last : goal.overflow_sub-last
-overflow_sub-last c =
+overflow_sub-last g c =
     let tasks : List Task = c.args.set.now.tasks in
     let order : List ℕ = c.as_slice-order.result.now in
     let is : IsOrder tasks order = subst (IsOrder tasks) (sym c.as_slice-order.ensures.value) c.in_ok-ranked.ensures in
     omega (arith, order_count tasks order is, c.tasks-tasks.ensures.limits.has_task)
 
 pub prove_task-requires-2-clause-here : goal.prove_task-requires-2-clause-here
-prove_task-requires-2-clause-here c =
+prove_task-requires-2-clause-here g c =
     let tasks : List Task = c.args.set.now.tasks in
     let order : List ℕ = c.as_slice-order.result.now in
     let is : IsOrder tasks order = subst (IsOrder tasks) (sym c.as_slice-order.ensures.value) c.in_ok-ranked.ensures in
     omega (arith, order_count tasks order is, c.tasks-tasks.ensures.limits.has_task)
 
 pub prove_task-requires-2-clause-proved : goal.prove_task-requires-2-clause-proved
-prove_task-requires-2-clause-proved c =
+prove_task-requires-2-clause-proved g c =
     let order : List ℕ = c.as_slice-order.result.now in
     let e : c.places.place ≡ length order - 1 = omega (arith, c.places-test.false, c.places.auto.place-end) in
     subst (λ (n : ℕ). AreProved c.args.set.now.tasks order n c.places.progress.trees.items c.places.progress.proofs.items) e c.places.invariant.proved
 
 pub evidence-requires-clause-complete : goal.evidence-requires-clause-complete
-evidence-requires-clause-complete c =
+evidence-requires-clause-complete g c =
     let tasks : List Task = c.args.set.now.tasks in
     let order : List ℕ = c.as_slice-order.result.now in
     let is : IsOrder tasks order = subst (IsOrder tasks) (sym c.as_slice-order.ensures.value) c.in_ok-ranked.ensures in

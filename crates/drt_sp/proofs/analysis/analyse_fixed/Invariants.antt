@@ -3,7 +3,7 @@ use Rattle.drt_sp.specs.Progress.{AreGrown, AreProved}
 use Rattle.drt_sp.proofs.analysis.analyse_fixed.Given as goal
 
 abbrev pub invariant-places : goal.invariant-places
-invariant-places l = record {
+invariant-places g l = record {
   grown : AreGrown l.set.tasks l.order l.place l.progress.forest l.progress.roots.items l.progress.trees.items;
   proved : AreProved l.set.tasks l.order l.place l.progress.trees.items l.progress.proofs.items;
 }

@@ -16,18 +16,18 @@ lent c =
     c.as_slice.result.now c.as_slice-2.result.now c.as_slice.ensures.value c.as_slice-2.ensures.value
 
 pub add_tree-requires-clause-some : goal.add_tree-requires-clause-some
-add_tree-requires-clause-some c = (lent c).some
+add_tree-requires-clause-some g c = (lent c).some
 
 pub add_tree-requires-clause-bound : goal.add_tree-requires-clause-bound
-add_tree-requires-clause-bound c =
+add_tree-requires-clause-bound g c =
     let ls : List Leaf = leaves_of c.as_slice.result.now c.as_slice-2.result.now in
     one_bound c.args.graph.now c.args.bound c.args.forest.now.pool ls c.requires.functions (lent c).leaves
 
 pub add_tree-requires-clause-room : goal.add_tree-requires-clause-room
-add_tree-requires-clause-room c = let few = (lent c).few in omega (arith, few, c.requires.room)
+add_tree-requires-clause-room g c = let few = (lent c).few in omega (arith, few, c.requires.room)
 
 pub returns : goal.returns
-returns c =
+returns g c =
     let e = c.in_ok-leaves.ensures in
     let leaves = c.in_ok-leaves.leaves in
     let labels = c.as_slice.result.now in
