@@ -20,7 +20,7 @@ prove_task-requires-2-clause-here g c =
     omega (arith, order_count tasks order is, c.tasks-tasks.ensures.limits.has_task)
 
 pub prove_task-requires-2-clause-proved : goal.prove_task-requires-2-clause-proved
-prove_task-requires-2-clause-proved g c =
+prove_task-requires-2-clause-proved g c κs lives =
     let order : List ℕ = c.as_slice-order.result.now in
     let e : c.places.place ≡ length order - 1 = omega (arith, c.places-test.false, c.places.auto.place-end) in
     subst (λ (n : ℕ). AreProved c.args.set.now.tasks order n c.places.progress.trees.items c.places.progress.proofs.items) e c.places.invariant.proved
