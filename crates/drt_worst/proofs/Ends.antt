@@ -1,5 +1,5 @@
 -- What the passes show together.
-use Rattle.std.proofs.Common.{◌≡◌, ◌≢◌, ℕ, suc, zero, ◌+◌, ◌*◌, ◌<◌, ◌≤◌, ◌⊎◌, Some, List, [], ◌∷◌, ◌++◌, length, map, refl, sym, ap, ◌∙◌, subst, inl, inr, arith, set, append_assoc, length-append}
+use Rattle.std.proofs.Common.{◌≡◌, ◌≢◌, ℕ, suc, zero, ◌+◌, ◌<◌, ◌≤◌, ◌⊎◌, Some, List, [], ◌∷◌, ◌++◌, length, map, refl, sym, ap, ◌∙◌, subst, inl, inr, arith, set, append_assoc, length-append}
 use Rattle.std.specs.Prelude.{slice_get, slice_index_or, reverse}
 use Rattle.std.proofs.lemmas.Bool.{cases_lt}
 use Rattle.std.proofs.lemmas.List.{length-reverse}
@@ -7,13 +7,13 @@ use Rattle.drt_word.specs.Closing.{WordOf}
 use Rattle.drt_worst.specs.Gathering.{IsGathered}
 use Rattle.drt_worst.specs.declared.pass.Question.{Question}
 use Rattle.std.proofs.lemmas.Option.{none-some, same_Some, slice_get_within, get_or_from_slice_get}
-use Rattle.drt_refine.specs.Below.{AreBelow, tuples}
+use Rattle.drt_refine.specs.Below.{AreBelow}
 use Rattle.drt_worst.specs.Splitting.{Search, AreParts, IsPart, IsSplit, IsBelowOne, IsReached, IsGreatest}
 use Rattle.drt_worst.specs.Runs.{Entry, combination_of, stack_after, known_after, IsEnded, Run, AreEnded, IsDealtTo, AreDealt}
 use Rattle.drt_worst.specs.Spent.{IsSpent}
 use Rattle.drt_worst.proofs.Below.{part_more, below_parts}
 use Rattle.drt_worst.proofs.Runs.{greatest, some_reached}
-use Rattle.drt_worst.proofs.Spending.{spent, spent_short}
+use Rattle.drt_worst.proofs.Different.{spent}
 use Rattle.drt_word.specs.Rising.{IsIn, joined}
 use Rattle.drt_word.specs.Closing.{IsClosed}
 use Rattle.drt_word.proofs.Steps.{each_in, each_join, each_weaker, in_left, in_right}
@@ -125,12 +125,11 @@ module _ (s : Search) (roots : List ℕ) where
       greatest s ready.forest roots best e.runs e.ended all leaves reached
 
   -- a pass that took as many as the budget and has something left
-  pub spends : IsReady s roots → (budget : ℕ) (p : Pass) → HasRun s roots p → p.stack.items ≢ [] → length p.taken.items ≡ budget → IsSpent s roots budget p.taken.items × (budget < 2 * tuples s.forest roots)
+  pub spends : IsReady s roots → (budget : ℕ) (p : Pass) → HasRun s roots p → p.stack.items ≢ [] → length p.taken.items ≡ budget → IsSpent s roots budget p.taken.items
   spends ready budget p r more count =
       let left : stack_after (p.start ∷ []) r.entries ≢ [] = λ e. more (reverse_none p.stack.items (sym r.stack ∙ e)) in
       let long : length r.entries ≡ budget = length_of r.entries ∙ (ap (λ (z : List (List ℕ)). length z) r.taken ∙ count) in
-      let short : length r.entries < 2 * tuples s.forest roots = spent_short s ready.forest roots p.start 0 r.entries r.part r.run left in
-      (subst (λ (z : List (List ℕ)). IsSpent s roots budget z) r.taken (spent s roots p.start 0 budget r.entries r.part r.run left long), omega arith)
+      subst (λ (z : List (List ℕ)). IsSpent s roots budget z) r.taken (spent s ready.forest roots p.start 0 budget r.entries r.part r.run left long)
     where
       length_of : (es : List Entry) → length es ≡ length (map combination_of es)
       length_of [] = refl

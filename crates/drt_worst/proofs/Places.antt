@@ -1,9 +1,9 @@
 -- What is taken together in the roots is so in each combination of their splitting tree.
-use Rattle.std.proofs.Common.{◌≡◌, ℕ, suc, zero, ◌+◌, ◌<◌, ◌≤◌, ◌⊎◌, Option, Some, None, List, [], ◌∷◌, length, refl, sym, ap, ◌∙◌, subst, inl, inr, arith, set}
+use Rattle.std.proofs.Common.{◌≡◌, ℕ, suc, zero, ◌<◌, ◌≤◌, ◌⊎◌, Some, List, [], ◌∷◌, length, refl, sym, ap, subst, inl, inr, arith, set}
 use Rattle.std.specs.Prelude.{slice_get}
 use Rattle.std.proofs.lemmas.Option.{none-some, same_Some}
 use Rattle.drt_steps.specs.Time.{AreChosen, Passes}
-use Rattle.drt_tree.specs.Tree.{Plain, IsForest, IsPair, children, leaves, values}
+use Rattle.drt_tree.specs.Tree.{Plain, IsForest, IsPair, values}
 use Rattle.drt_tree.proofs.Trees.{child_within}
 use Rattle.drt_refine.specs.Below.{AreBelow, AreNodes}
 use Rattle.drt_worst.specs.Splitting.{IsSplit, IsPartBy, IsPart, search_for}

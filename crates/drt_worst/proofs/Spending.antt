@@ -6,7 +6,7 @@ use Rattle.drt_tree.specs.Tree.{IsForest}
 use Rattle.drt_refine.specs.Below.{IsConcrete, tuples}
 use Rattle.drt_worst.specs.Splitting.{Search, IsPart, PassesFor, IsLeastFor}
 use Rattle.drt_worst.specs.Runs.{Choice, skips, reaches, splits, Entry, known, left_after, halves_of, stack_after, IsFit, IsRunFrom, combination_of, half_of}
-use Rattle.drt_worst.specs.Spent.{with_halves, AreHalves, AreTaken, IsSpent}
+use Rattle.drt_worst.specs.Spent.{with_halves, AreHalves, AreTaken}
 use Rattle.drt_worst.proofs.Below.{concrete_whole, tuples_some, tuples_split, tuples_part}
 use Rattle.drt_worst.proofs.Runs.{At, entry_at}
 
@@ -25,6 +25,10 @@ pub at_map : {A B : Type 0} (v : A → B) (xs : List A) (j : ℕ) (y : B) → sl
 at_map v [] j y h = absurd (none-some y h)
 at_map v (x ∷ xs) zero y h = record { item = x; at = refl; is = same_Some (v x) y h }
 at_map v (x ∷ xs) (suc j) y h = (let m : Mapped v xs j y = at_map v xs j y h in record { item = m.item; at = m.at; is = m.is })
+
+pub length-map : {A B : Type 0} (v : A → B) (xs : List A) → length (map v xs) ≡ length xs
+length-map v [] = refl
+length-map v (x ∷ xs) = ap suc (length-map v xs)
 
 module _ (s : Search) where
   halves_fit : (c : List ℕ) (seen : ℕ) (choice : Choice) → IsFit s c seen choice → AreHalves s.forest c (halves_of choice)
@@ -123,21 +127,3 @@ module _ (s : Search) where
       let c : tuples s.forest start ≤ tuples s.forest roots = tuples_part s.forest sound roots start p in
       let d : work (start ∷ []) ≡ (2 * tuples s.forest start - 1) + 0 = refl in
       omega arith
-
-  length-map : {A B : Type 0} (v : A → B) (xs : List A) → length (map v xs) ≡ length xs
-  length-map v [] = refl
-  length-map v (x ∷ xs) = ap suc (length-map v xs)
-
-  -- a pass that took as many as the budget and still has one to take
-  pub spent : (roots start : List ℕ) (low budget : ℕ) (es : List Entry) → IsPart s.forest roots start → IsRunFrom s low (start ∷ []) es → stack_after (start ∷ []) es ≢ [] → length es ≡ budget → IsSpent s roots budget (map combination_of es)
-  spent roots start low budget es p run more count = record {
-    start = start;
-    halves = map half_of es;
-    rest = stack_after (start ∷ []) es;
-    part = p;
-    takes = takes_run low (start ∷ []) es run;
-    count = length-map combination_of es ∙ count;
-    more = more;
-    fails = λ i c at n none. fails_split low (start ∷ []) es run i c at n none;
-    skips = λ i j T t c d lt ati atj leaf least own le. skips_later low (start ∷ []) es run i j T t c d lt ati atj leaf least own le;
-  }

@@ -5,8 +5,8 @@ ghost use Rattle.drt_worst.specs.Jobs.{IsPassOf, IsStopped};
 
 use crate::pass::{Pass, Question, take};
 use drt_model::Row;
-use drt_tree::Forest;
 use drt_pool::{Turn, Work};
+use drt_tree::Forest;
 use drt_word::Word;
 use std::alloc::Global;
 use std::sync::Wait;

@@ -29,5 +29,4 @@ returns-in-Some c =
     let count : length p.taken.items ≡ c.args.budget = elim (halted.2 well) as (λ _. length p.taken.items ≡ c.args.budget) [ inl none ↦ absurd (more none) | inr e ↦ e ] in
     let removed : c.remove-taken.result ≡ p = search (rules, get_or_from_slice_get) in
     let row : c.from_vec.result ≡ p.taken.items = c.from_vec.ensures ∙ ap (λ (x : Pass). x.taken.items) removed in
-    let both = spends s roots c.requires.ready c.args.budget p (halted.1 well) more count in
-    (subst (λ (z : List (List ℕ)). IsSpent s roots c.args.budget z) (sym row) both.0, both.1)
+    subst (λ (z : List (List ℕ)). IsSpent s roots c.args.budget z) (sym row) (spends s roots c.requires.ready c.args.budget p (halted.1 well) more count)
