@@ -91,7 +91,9 @@ pub fn analyse_trees<G: Gate, R: Threads + Wait + Sync>(
     )? {
         Outcome::Ended(FixedAnswer::Done(evidence)) => Ok(TreesAnswer::Missed(evidence)),
         Outcome::Ended(FixedAnswer::Undecided(trail)) => Ok(TreesAnswer::Undecided(trail)),
-        Outcome::Proved(progress) => Ok(TreesAnswer::Proved(ProvedTrees::of(set, ranked, progress))),
+        Outcome::Proved(progress) => Ok(TreesAnswer::Proved(ProvedTrees::of(
+            set, ranked, progress,
+        ))),
     }
 }
 

@@ -66,15 +66,7 @@ fn job_walk(
     ensures { IfOk result (λ walk. walk ≡ with_job tasks.now (chosen tasks.now forest.now end order.now shown.now.tuple) shown.now.task shown.now.vertex k) }
 {
     if tasks[k as usize].priority < tasks[shown.task as usize].priority {
-        return chosen_walk(
-            alloc,
-            graphs,
-            forest,
-            end,
-            order,
-            shown.tuple.as_slice(),
-            k,
-        );
+        return chosen_walk(alloc, graphs, forest, end, order, shown.tuple.as_slice(), k);
     }
     let mut walk = Vec::new(alloc);
     if k == shown.task {

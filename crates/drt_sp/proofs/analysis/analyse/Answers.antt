@@ -12,7 +12,7 @@ pub prove_task-requires-2-clause-here : goal.prove_task-requires-2-clause-here
 prove_task-requires-2-clause-here g c = omega (arith, order_count c.args.set.now.tasks c.args.order.now c.requires.given.order_is, c.tasks-tasks.ensures.limits.has_task)
 
 pub prove_task-requires-2-clause-proved : goal.prove_task-requires-2-clause-proved
-prove_task-requires-2-clause-proved g c =
+prove_task-requires-2-clause-proved g c κs within =
     let order : List ℕ = c.args.order.now in
     let e : c.places.place ≡ length order - 1 = omega (arith, c.places-test.false, c.places.auto.place-end) in
     subst (λ (n : ℕ). AreProved c.args.set.now.tasks order n c.places.progress.trees.items c.places.progress.proofs.items) e c.places.invariant.proved
