@@ -4,11 +4,10 @@ use Rattle.drt_tree.specs.declared.leaf.Leaf.{Leaf}
 use Rattle.drt_sp.specs.TaskTrees.{pairs_from, walks_from}
 use Rattle.drt_sp.proofs.TaskTrees.{task_tree}
 use Rattle.drt_sp.proofs.TreeSearches.{AreLent, lent_leaves, one_bound}
-use Rattle.drt_sp.proofs.trees.search_tree.Given as given
 use Rattle.drt_sp.proofs.trees.search_tree.Goals as goal
 
 -- The leaves of the search are lent.
-lent : (g : given.Over) (c : goal.After-add_tree-arg-1 g) → AreLent c.args.graph.now c.args.bound c.as_slice.result.now c.as_slice-2.result.now
+lent : (g : _) (c : goal.After-add_tree-arg-1 g) → AreLent c.args.graph.now c.args.bound c.as_slice.result.now c.as_slice-2.result.now
 lent g c =
     let e = c.in_ok-leaves.ensures in
     let leaves = c.in_ok-leaves.leaves in

@@ -4,7 +4,7 @@ use Rattle.drt_sp.proofs.FirstVertices.{proofs_more, stop_at}
 use Rattle.drt_sp.proofs.vertices.prove_vertices.Goals as goal
 
 pub prove_vertex-requires-clause-roots : goal.prove_vertex-requires-clause-roots
-prove_vertex-requires-clause-roots g c κs lives =
+prove_vertex-requires-clause-roots g c κs within =
     let l : c.vertices.vertex < vertex_count c.args.graph.now = omega (arith, c.vertices-test.true, c.vertex_count-vertex-end.ensures.count) in
     rw c.vertex-subject.ensures (c.requires.roots c.vertices.vertex l)
 

@@ -42,7 +42,7 @@ prove_vertices-requires-clause-few g c =
     omega (arith, ap length c.as_slice.ensures.value, c.requires.grown.count, l, order_count tasks order is, few_tasks set.version tasks limits)
 
 pub prove_vertices-requires-clause-roots : goal.prove_vertices-requires-clause-roots
-prove_vertices-requires-clause-roots g c κs lives =
+prove_vertices-requires-clause-roots g c κs within =
     let set = c.args.set.now in
     let tasks : List Task = set.tasks in
     let order : List ℕ = c.args.order.now in

@@ -1,6 +1,6 @@
 -- The tasks at the places so far have their trees and their proofs.
 use Rattle.drt_sp.specs.Progress.{AreGrown, AreProved}
-use Rattle.drt_sp.proofs.analysis.analyse_fixed.Given as goal
+use Rattle.drt_sp.proofs.analysis.analyse.Given as goal
 
 abbrev pub invariant-places : goal.invariant-places
 invariant-places g l = record {
