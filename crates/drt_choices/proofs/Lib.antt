@@ -5,3 +5,4 @@ pub mod Chosen
 pub mod Members
 pub mod Missed
 pub mod Rows
+pub mod Responses

@@ -7,4 +7,4 @@
 
 pub mod laws;
 
-pub use laws::{leaves_miss, leaves_pass};
+pub use laws::{leaves_miss, leaves_pass, leaves_respond, walks_pass};

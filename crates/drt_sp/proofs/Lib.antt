@@ -25,3 +25,4 @@ pub mod ShortWalks
 pub mod TaskTrees
 pub mod TreeSearches
 pub mod Translated
+mod Ended

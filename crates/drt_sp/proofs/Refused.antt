@@ -22,7 +22,7 @@ use Rattle.drt_evidence.specs.Ranges.{AreInRangeReleases, IsInRangeRelease}
 use Rattle.drt_evidence.proofs.Accepting.{fixed_no_accepted}
 use Rattle.drt_releases.proofs.Walks.{graph_same}
 use Rattle.drt_releases.specs.Walks.{AreDueWalks}
-use Rattle.drt_sp.specs.Answers.{IsFailedVertex, IsMissed}
+use Rattle.drt_sp.specs.Answers.{IsFailedVertex, IsMissed, IsTupleFor}
 use Rattle.drt_sp.specs.Chosen.{AreLeaves, IsLeafOf, leaf_for}
 use Rattle.drt_sp.proofs.Chosen.{chosen_none, chosen_some, cut_due, cut_walk_is, leaf_place, one_due}
 use Rattle.drt_sp.proofs.Orders.{order_below}
@@ -86,19 +86,19 @@ module _ (tasks : List Task) (f : Plain) (order tuple : List ℕ) (are : AreLeav
           let due : due_of g (cut g d (walk f leaf)) ≤ d + 1000000 = cut_due g (sound_at k l) d (walk f leaf) w in
           subst (IsDueWalk g 2000000) (sym (chosen_some tasks f d order tuple k leaf e)) (cut_walk_is g (sound_at k l) d (walk f leaf) w, omega (arith, due, le))
 
-  module _ (j v : ℕ) (here : j < length tasks) (vertex : v < vertex_count (graph_at tasks j)) where
-    -- The walks of a no are walks of the tasks, and due by the last deadline.
-    pub job_due : (k : ℕ) → k < length tasks → IsDueWalk (graph_at tasks k) 2000000 (with_job tasks (chosen tasks f (deadline (graph_at tasks j) v) order tuple) j v k)
+  module _ (j v d : ℕ) (here : j < length tasks) (vertex : v < vertex_count (graph_at tasks j)) (small : d ≤ 1000000) where
+    -- The walks of a vertex and a tuple of leaves are walks of the tasks, and due by the last deadline.
+    pub job_due : (k : ℕ) → k < length tasks → IsDueWalk (graph_at tasks k) 2000000 (with_job tasks (chosen tasks f d order tuple) j v k)
     unfolding with_job
     job_due k l = elim (cases_Bool (ltb (task_at tasks k).priority (task_at tasks j).priority)) [
-      | inl h ↦ rw h (chosen_due (deadline (graph_at tasks j) v) ((sound_at j here).deadline v vertex).1 k l)
+      | inl h ↦ rw h (chosen_due d small k l)
       | inr h ↦ rw h (elim (cases_Bool (eqb k j)) [
         | inl e ↦ rw e (subst (λ n. IsDueWalk (graph_at tasks n) 2000000 (v ∷ [])) (sym (eqb-true k j e)) ((vertex, tt), omega (arith, one_due (graph_at tasks j) (sound_at j here) v vertex)))
         | inr e ↦ rw e (none_due (graph_at tasks k) 2000000)
       ])
     ]
 
-    module _ (walks : ℕ → List ℕ) (same : (k : ℕ) → k < length tasks → walks k ≡ with_job tasks (chosen tasks f (deadline (graph_at tasks j) v) order tuple) j v k) where
+    module _ (walks : ℕ → List ℕ) (same : (k : ℕ) → k < length tasks → walks k ≡ with_job tasks (chosen tasks f d order tuple) j v k) where
       walk_due : (k : ℕ) → k < length tasks → IsDueWalk (graph_at tasks k) 2000000 (walks k)
       walk_due k l = subst (IsDueWalk (graph_at tasks k) 2000000) (sym (same k l)) (job_due k l)
 
@@ -121,6 +121,16 @@ all_same tasks walks others zero same = refl
 all_same tasks walks others (suc k) same =
     ap (λ rs. rs ++ releases_of (graph_at tasks k) k (walks k)) (all_same tasks walks others k (λ j l. same j (omega arith)))
     ∙ ap (λ w. all_releases tasks others k ++ releases_of (graph_at tasks k) k w) (same k (omega arith))
+
+-- The tuple of a failing vertex.
+pub failed_tuple : (set : Contents) (order : List ℕ) (f : Plain) (k v : ℕ) (tuple : List ℕ) → IsFailedVertex set order f k v tuple → IsTupleFor set order f k v tuple
+failed_tuple set order f k v tuple failed = record {
+  roots = failed.roots;
+  task = failed.reached.task;
+  nodes = failed.reached.nodes;
+  posed = failed.reached.posed;
+  below = failed.failure.below;
+}
 
 -- The no of a failing vertex.
 pub missed : (set : Contents) (order : List ℕ) (f : Plain) (k v : ℕ) (tuple : List ℕ) → AreConstrained set.tasks → LeavesMiss → IsFailedVertex set order f k v tuple

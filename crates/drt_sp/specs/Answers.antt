@@ -11,7 +11,7 @@ use Rattle.drt_model.specs.Trace.{job_at, Misses}
 use Rattle.drt_model.specs.Walk.{deadline, wcet}
 use Rattle.drt_busy.specs.Choice.{graph_at, task_at}
 use Rattle.drt_tree.specs.Tree.{IsForest, Plain}
-use Rattle.drt_refine.specs.Below.{AreNodes}
+use Rattle.drt_refine.specs.Below.{AreBelow, AreNodes}
 use Rattle.drt_refine.specs.declared.step.FrontierEntry.{FrontierEntry}
 use Rattle.drt_table.specs.declared.step.Entry.{Entry}
 use Rattle.drt_choices.specs.Choices.{FirstPass, VertexPasses}
@@ -64,6 +64,14 @@ pub record IsReached (set : Contents) (order : List ℕ) (f : Plain) (roots : Li
   pub forest : IsForest f
   pub few : AreFewLeaves set.tasks order f roots
 
+-- The tuple has one leaf of each tree of the tasks of higher priority than that of the vertex.
+pub record IsTupleFor (set : Contents) (order : List ℕ) (f : Plain) (k v : ℕ) (tuple : List ℕ) : Type 0 where
+  pub roots : List ℕ
+  pub task : k < length set.tasks
+  pub nodes : AreNodes f roots
+  pub posed : IsPosed set.version set.tasks order (greatest_deadline set.tasks) f roots k v
+  pub below : AreBelow f tuple roots
+
 -- The vertex that was reached is the first that fails: no time passes for it and the tuple of leaves.
 pub record IsFailedVertex (set : Contents) (order : List ℕ) (f : Plain) (k v : ℕ) (tuple : List ℕ) : Type 0 where
   pub roots : List ℕ
@@ -83,6 +91,15 @@ pub record IsMissed (set : Contents) (releases : List Release) (miss : Miss) : T
   pub failed : IsFailedVertex set order forest task vertex tuple
   pub releases_are : releases ≡ no_releases set.tasks forest order tuple task vertex
   pub miss_is : miss ≡ record { task = task; index = 0; deadline = deadline (graph_at set.tasks task) vertex }
+
+-- The evidence of a no, and no other.
+abbrev pub IsRefusal : Contents → Evidence → Type 0
+IsRefusal set (EdfYes ratios fronts) = ⊥
+IsRefusal set (EdfNo releases miss) = ⊥
+IsRefusal set (UtilisationOne ratios) = ⊥
+IsRefusal set (FixedYes trees proofs) = ⊥
+IsRefusal set (FixedNo releases miss) = IsMissed set releases miss
+IsRefusal set Undecided = ⊥
 
 -- What the evidence of an answer says. The analysis gives no other kind.
 abbrev pub IsVerdict : Contents → Evidence → Type 0
@@ -119,3 +136,8 @@ IsUndecided set budget (Refine task vertex log) = IsSpentVertex set budget task 
 abbrev pub IsAnswer : Contents → ℕ → FixedAnswer → Type 0
 IsAnswer set budget (answers.Done evidence) = IsVerdict set evidence × IsInRange evidence
 IsAnswer set budget (answers.Undecided trail) = IsUndecided set budget trail
+
+-- An answer before all vertices are proved: it is a no, or a budget was spent.
+abbrev pub IsEnding : Contents → ℕ → FixedAnswer → Type 0
+IsEnding set budget (answers.Done evidence) = IsRefusal set evidence × IsInRange evidence
+IsEnding set budget (answers.Undecided trail) = IsUndecided set budget trail

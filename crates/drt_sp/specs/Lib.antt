@@ -9,3 +9,4 @@ pub mod Answers
 pub mod Chosen
 pub mod Vertices
 pub mod Progress
+pub mod Grown

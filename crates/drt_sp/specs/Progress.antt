@@ -66,8 +66,7 @@ pub record AreProved (tasks : List Task) (order : List ℕ) (m : ℕ) (trees : L
   pub each : (i k : ℕ) → i < m → slice_get order i ≡ Some k → AreProofsAt tasks order i k trees (slice_index_or rows k [])
 
 -- The trees of all tasks but the last one of an order, and the proofs of all.
-pub record IsComplete (tasks : List Task) (f : Plain) (roots : List ℕ) (trees : List TreeClaim) (rows : List (List ProofClaim)) : Type 0 where
-  pub order : List ℕ
+pub record IsComplete (tasks : List Task) (order : List ℕ) (f : Plain) (roots : List ℕ) (trees : List TreeClaim) (rows : List (List ProofClaim)) : Type 0 where
   pub order_is : IsOrder tasks order
   pub last : ℕ
   pub whole : last + 1 ≡ length order

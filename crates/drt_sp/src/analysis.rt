@@ -3,8 +3,11 @@ ghost use Rattle.std.specs.Prelude.{◌≡◌, ◌≤◌, IfOk};
 ghost use Rattle.drt_model.specs.Constrained.{AreConstrained};
 ghost use Rattle.drt_evidence.specs.Claims.{graphs_of};
 ghost use Rattle.drt_sp.specs.Answers.{IsAnswer};
+ghost use Rattle.drt_sp.specs.Grown.{IsOutcome, IsTreesAnswer};
+ghost use Rattle.drt_sp.specs.Progress.{IsGiven};
 
 use crate::answer::FixedAnswer;
+use crate::grown::{Outcome, ProvedTrees, TreesAnswer};
 use crate::order::priority_order;
 use crate::progress::Progress;
 use drt_graph::Graphs;
@@ -39,28 +42,93 @@ pub fn analyse_fixed<G: Gate, R: Threads + Wait + Sync>(
     requires few { budget ≤ 1000000 }
     ensures { IfOk result (IsAnswer set.now budget) }
 {
-    let _tasks = set.tasks();
     let ranked = priority_order(alloc, set)?;
-    let order = ranked.as_slice();
+    match analyse(
+        rt,
+        alloc,
+        set,
+        graphs,
+        ranked.as_slice(),
+        workers,
+        budget,
+        gate,
+    )? {
+        Outcome::Ended(answer) => Ok(answer),
+        Outcome::Proved(progress) => {
+            let evidence = progress.evidence(alloc, set)?;
+            Ok(FixedAnswer::Done(evidence))
+        }
+    }
+}
+
+/// The same analysis, for whoever goes on with the trees of a set that is schedulable.
+pub fn analyse_trees<G: Gate, R: Threads + Wait + Sync>(
+    rt: &R,
+    alloc: Global,
+    set: &TaskSet,
+    graphs: &Graphs,
+    workers: u32,
+    budget: u64,
+    gate: &G,
+) -> Result<TreesAnswer, Memory>
+    requires constrained { AreConstrained set.now.tasks }
+    requires graphs { graphs.now ≡ graphs_of set.now.tasks }
+    requires workers { (1 ≤ workers) × (workers ≤ 16) }
+    requires some { 1 ≤ budget }
+    requires few { budget ≤ 1000000 }
+    ensures { IfOk result (IsTreesAnswer set.now budget) }
+{
+    let ranked = priority_order(alloc, set)?;
+    match analyse(
+        rt,
+        alloc,
+        set,
+        graphs,
+        ranked.as_slice(),
+        workers,
+        budget,
+        gate,
+    )? {
+        Outcome::Ended(FixedAnswer::Done(evidence)) => Ok(TreesAnswer::Missed(evidence)),
+        Outcome::Ended(FixedAnswer::Undecided(trail)) => Ok(TreesAnswer::Undecided(trail)),
+        Outcome::Proved(progress) => Ok(TreesAnswer::Proved(ProvedTrees::of(
+            set, ranked, progress,
+        ))),
+    }
+}
+
+// The analysis of the tasks in this order.
+fn analyse<G: Gate, R: Threads + Wait + Sync>(
+    rt: &R,
+    alloc: Global,
+    set: &TaskSet,
+    graphs: &Graphs,
+    order: &[u32],
+    workers: u32,
+    budget: u64,
+    gate: &G,
+) -> Result<Outcome, Memory>
+    requires given { IsGiven set.now graphs.now order.now budget }
+    requires workers { (1 ≤ workers) × (workers ≤ 16) }
+    ensures { IfOk result (IsOutcome set.now order.now budget) }
+{
+    let _tasks = set.tasks();
     let mut progress = Progress::start(alloc, set, order)?;
     let last = order.len() - 1;
     'places: for place in 0..last {
         if let Some(answer) = progress.prove_task(
             rt, alloc, set, graphs, order, place, workers, budget, gate,
         )? {
-            return Ok(answer);
+            return Ok(Outcome::Ended(answer));
         }
         if let Some(answer) = progress.add_tree(
             rt, alloc, set, graphs, order, place, workers, budget, gate,
         )? {
-            return Ok(answer);
+            return Ok(Outcome::Ended(answer));
         }
     }
     match progress.prove_task(rt, alloc, set, graphs, order, last, workers, budget, gate)? {
-        Some(answer) => Ok(answer),
-        None => {
-            let evidence = progress.evidence(alloc, set)?;
-            Ok(FixedAnswer::Done(evidence))
-        }
+        Some(answer) => Ok(Outcome::Ended(answer)),
+        None => Ok(Outcome::Proved(progress)),
     }
 }

@@ -10,16 +10,21 @@
 mod analysis;
 mod answer;
 mod deadlines;
+mod grown;
 pub mod laws;
 mod order;
 mod progress;
 mod proving;
 mod refusal;
+mod releases;
 mod trees;
 mod vertices;
 mod walks;
 
-pub use analysis::analyse_fixed;
+pub use analysis::{analyse_fixed, analyse_trees};
 pub use answer::FixedAnswer;
 pub use drt_trails::FixedTrail;
+pub use grown::{ProvedTrees, TreesAnswer};
 pub use laws::budgets_suffice;
+pub use releases::leaf_releases;
+pub use walks::VertexTuple;

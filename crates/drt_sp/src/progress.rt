@@ -1,9 +1,9 @@
 //! How far an analysis has come.
-ghost use Rattle.std.specs.Prelude.{◌≡◌, ℕ, ◌+◌, ◌<◌, ◌≤◌, length, IfOk, MatchOption};
+ghost use Rattle.std.specs.Prelude.{◌≡◌, ℕ, ◌+◌, ◌<◌, ◌≤◌, List, length, IfOk, MatchOption};
 ghost use Rattle.std.specs.List.{flat_map};
 ghost use Rattle.drt_model.specs.Constrained.{AreConstrained};
 ghost use Rattle.drt_evidence.specs.Ranges.{IsInRange};
-ghost use Rattle.drt_sp.specs.Answers.{IsAnswer, IsVerdict};
+ghost use Rattle.drt_sp.specs.Answers.{IsEnding, IsVerdict};
 ghost use Rattle.drt_sp.specs.Progress.{AreGrown, AreProved, IsComplete, IsGiven};
 
 use crate::answer::FixedAnswer;
@@ -11,7 +11,7 @@ use crate::deadlines::greatest_deadline;
 use crate::refusal::refusal;
 use crate::trees::{TreeSearch, search_tree};
 use crate::vertices::{TaskProofs, prove_vertices};
-use crate::walks::Failed;
+use crate::walks::VertexTuple;
 use drt_busy::{times_decide, times_suffice_for_task};
 use drt_choices::leaves_pass;
 use drt_evidence::{Evidence, ProofClaim, TreeClaim};
@@ -73,7 +73,7 @@ impl Progress {
         ensures forest { self.new.forest ≡ self.old.forest }
         ensures roots { self.new.roots ≡ self.old.roots }
         ensures trees { self.new.trees ≡ self.old.trees }
-        ensures decided { IfOk result (λ answer. MatchOption answer (AreProved set.now.tasks order.now (place + 1) self.new.trees.items self.new.proofs.items) (IsAnswer set.now budget)) }
+        ensures decided { IfOk result (λ answer. MatchOption answer (AreProved set.now.tasks order.now (place + 1) self.new.trees.items self.new.proofs.items) (IsEnding set.now budget)) }
     {
         leaves_pass();
         times_suffice_for_task();
@@ -98,7 +98,7 @@ impl Progress {
                 Ok(None)
             }
             TaskProofs::Failed { vertex, tuple } => {
-                let failed = Failed {
+                let failed = VertexTuple {
                     task,
                     vertex,
                     tuple,
@@ -132,7 +132,7 @@ impl Progress {
         requires here { place + 1 < length order.now }
         requires grown { AreGrown set.now.tasks order.now place self.old.forest self.old.roots.items self.old.trees.items }
         requires proved { AreProved set.now.tasks order.now (place + 1) self.old.trees.items self.old.proofs.items }
-        ensures grown { IfOk result (λ answer. MatchOption answer (AreGrown set.now.tasks order.now (place + 1) self.new.forest self.new.roots.items self.new.trees.items) (IsAnswer set.now budget)) }
+        ensures grown { IfOk result (λ answer. MatchOption answer (AreGrown set.now.tasks order.now (place + 1) self.new.forest self.new.roots.items self.new.trees.items) (IsEnding set.now budget)) }
         ensures proved { IfOk result (λ answer. AreProved set.now.tasks order.now (place + 1) self.new.trees.items self.new.proofs.items) }
     {
         times_suffice_for_task();
@@ -167,7 +167,7 @@ impl Progress {
     /// The evidence of a yes, with the proofs in file order.
     pub(crate) fn evidence(self, alloc: Global, set: &TaskSet) -> Result<Evidence, Memory>
         requires constrained { AreConstrained set.now.tasks }
-        requires complete { IsComplete set.now.tasks self.forest self.roots.items self.trees.items self.proofs.items }
+        requires complete { (order : List ℕ) × IsComplete set.now.tasks order self.forest self.roots.items self.trees.items self.proofs.items }
         ensures verdict { IfOk result (IsVerdict set.now) }
         ensures range { IfOk result IsInRange }
     {

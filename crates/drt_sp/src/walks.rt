@@ -1,8 +1,7 @@
-//! The walks that a failing tuple of leaves names.
+//! The walks that a tuple of leaves names.
 ghost use Rattle.std.specs.Prelude.{◌≡◌, ℕ, ◌≤◌, ◌<◌, List, length, IfOk};
 ghost use Rattle.drt_model.specs.declared.tasks.Task.{Task};
 ghost use Rattle.drt_model.specs.Digraph.{vertex_count};
-ghost use Rattle.drt_model.specs.Walk.{deadline};
 ghost use Rattle.drt_busy.specs.Choice.{IsWalk, graph_at};
 ghost use Rattle.drt_busy.specs.WalkReleases.{with_job};
 ghost use Rattle.drt_choices.specs.Choices.{chosen, cut};
@@ -15,34 +14,35 @@ use drt_model::{Memory, Row, Task};
 use drt_tree::Forest;
 use std::alloc::Global;
 
-/// A vertex of a task, by their numbers, and a tuple of leaves for which no time passes for it.
+/// A vertex of a task, by their numbers, and a tuple of leaves of the trees of the tasks of higher priority.
 #[derive(Drop)]
-pub(crate) struct Failed {
-    pub(crate) task: u32,
-    pub(crate) vertex: u32,
-    pub(crate) tuple: Row<u32>,
+pub struct VertexTuple {
+    pub task: u32,
+    pub vertex: u32,
+    pub tuple: Row<u32>,
 }
 
-/// The walks of a no, one for each task: those of the tuple's leaves for the tasks of higher priority, cut at the vertex's deadline, and
-/// the vertex alone for its own task.
+/// The walks of a vertex and a tuple of leaves, one for each task: those of the leaves for the tasks of higher priority, cut at `end`
+/// ticks, and the vertex alone for its own task.
 pub(crate) fn job_walks(
     alloc: Global,
     tasks: &[Task],
     graphs: &Graphs,
     forest: &Forest,
     order: &[u32],
-    failed: &Failed,
+    shown: &VertexTuple,
+    end: u32,
 ) -> Result<Vec<Row<u32>>, Memory>
     requires graphs { graphs.now ≡ graphs_of tasks.now }
-    requires leaves { AreLeaves tasks.now forest.now order.now failed.now.tuple }
-    requires task { failed.now.task < length tasks.now }
-    requires vertex { failed.now.vertex < vertex_count (graph_at tasks.now failed.now.task) }
+    requires leaves { AreLeaves tasks.now forest.now order.now shown.now.tuple }
+    requires task { shown.now.task < length tasks.now }
+    requires vertex { shown.now.vertex < vertex_count (graph_at tasks.now shown.now.task) }
     ensures count { IfOk result (λ walks. length walks.items ≡ length tasks.now) }
-    ensures each { IfOk result (λ walks. (k : ℕ) → k < length tasks.now → walk_at walks.items k ≡ with_job tasks.now (chosen tasks.now forest.now (deadline (graph_at tasks.now failed.now.task) failed.now.vertex) order.now failed.now.tuple) failed.now.task failed.now.vertex k) }
+    ensures each { IfOk result (λ walks. (k : ℕ) → k < length tasks.now → walk_at walks.items k ≡ with_job tasks.now (chosen tasks.now forest.now end order.now shown.now.tuple) shown.now.task shown.now.vertex k) }
 {
     let mut walks = Vec::new(alloc);
     'tasks: for k in 0..graphs.count() {
-        walks.push(job_walk(alloc, tasks, graphs, forest, order, failed, k)?)?;
+        walks.push(job_walk(alloc, tasks, graphs, forest, order, shown, end, k)?)?;
     }
     Ok(walks)
 }
@@ -54,31 +54,23 @@ fn job_walk(
     graphs: &Graphs,
     forest: &Forest,
     order: &[u32],
-    failed: &Failed,
+    shown: &VertexTuple,
+    end: u32,
     k: u32,
 ) -> Result<Row<u32>, Memory>
     requires graphs { graphs.now ≡ graphs_of tasks.now }
-    requires leaves { AreLeaves tasks.now forest.now order.now failed.now.tuple }
-    requires task { failed.now.task < length tasks.now }
-    requires vertex { failed.now.vertex < vertex_count (graph_at tasks.now failed.now.task) }
+    requires leaves { AreLeaves tasks.now forest.now order.now shown.now.tuple }
+    requires task { shown.now.task < length tasks.now }
+    requires vertex { shown.now.vertex < vertex_count (graph_at tasks.now shown.now.task) }
     requires here { k < length tasks.now }
-    ensures { IfOk result (λ walk. walk ≡ with_job tasks.now (chosen tasks.now forest.now (deadline (graph_at tasks.now failed.now.task) failed.now.vertex) order.now failed.now.tuple) failed.now.task failed.now.vertex k) }
+    ensures { IfOk result (λ walk. walk ≡ with_job tasks.now (chosen tasks.now forest.now end order.now shown.now.tuple) shown.now.task shown.now.vertex k) }
 {
-    if tasks[k as usize].priority < tasks[failed.task as usize].priority {
-        let end = graphs.graph(failed.task).vertex(failed.vertex).deadline;
-        return chosen_walk(
-            alloc,
-            graphs,
-            forest,
-            end,
-            order,
-            failed.tuple.as_slice(),
-            k,
-        );
+    if tasks[k as usize].priority < tasks[shown.task as usize].priority {
+        return chosen_walk(alloc, graphs, forest, end, order, shown.tuple.as_slice(), k);
     }
     let mut walk = Vec::new(alloc);
-    if k == failed.task {
-        walk.push(failed.vertex)?;
+    if k == shown.task {
+        walk.push(shown.vertex)?;
     }
     Ok(Row::from_vec(walk))
 }

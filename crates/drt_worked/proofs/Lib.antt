@@ -4,3 +4,5 @@ mod EntryRows
 mod SpentRows
 mod DossierRows
 mod JudgementRows
+mod EnoughRows
+mod AcceptedRows

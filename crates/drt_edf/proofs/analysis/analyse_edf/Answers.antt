@@ -13,10 +13,10 @@ use Rattle.drt_edf.proofs.RatioClaims.{claims_count, claims_in_range}
 use Rattle.drt_edf.proofs.analysis.analyse_edf.Goals as goal
 
 pub claims_of-requires : goal.claims_of-requires
-claims_of-requires c = given_small c.args.graphs.now c.in_ok-proofs.proofs c.in_ok-proofs.ensures
+claims_of-requires g c = given_small c.args.graphs.now c.in_ok-proofs.proofs c.in_ok-proofs.ensures
 
 pub returns-in_ok-claims_of-in-Ok-One : goal.returns-in_ok-claims_of-in-Ok-One
-returns-in_ok-claims_of-in-Ok-One c =
+returns-in_ok-claims_of-in-Ok-One g c =
     let given = subst (λ gs. AreGiven gs c.in_ok-proofs.proofs) c.requires.graphs c.in_ok-proofs.ensures in
     let one = subst (λ h. IsPlan c.args.graphs.now c.as_slice.result.now (Ok h)) c.in-Ok-One.field-0-is c.in-Ok-One.ensures in
     let here = subst (λ ps. IsPlan c.args.graphs.now ps (Ok One)) c.as_slice.ensures one in
@@ -29,7 +29,7 @@ returns-in_ok-claims_of-in-Ok-One c =
     (subst (λ x. IsOnlyOne c.args.set.now.tasks x) (sym claims) only, only.at_one, subst (λ x. IsInRange (UtilisationOne x)) (sym claims) ranges)
 
 pub returns-in-Err : goal.returns-in-Err
-returns-in-Err c =
+returns-in-Err g c =
     let given = subst (λ gs. AreGiven gs c.in_ok-proofs.proofs) c.requires.graphs c.in_ok-proofs.ensures in
     let here = subst (λ ps. IsPlan c.args.graphs.now ps (Err c.in-Err.beyond)) c.as_slice.ensures c.in-Err.ensures in
     let plan = subst (λ gs. IsPlan gs c.in_ok-proofs.proofs (Err c.in-Err.beyond)) c.requires.graphs here in

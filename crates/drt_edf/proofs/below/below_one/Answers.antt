@@ -11,7 +11,7 @@ use Rattle.drt_edf.proofs.Planned.{planned_below}
 use Rattle.drt_edf.proofs.below.below_one.Goals as goal
 
 pub returns-in_ok-evidence-in-Finished : goal.returns-in_ok-evidence-in-Finished
-returns-in_ok-evidence-in-Finished c =
+returns-in_ok-evidence-in-Finished g c =
     let given = subst (λ gs. AreGiven gs c.args.proofs) c.requires.graphs c.requires.given in
     let plan = subst (λ gs. IsPlan gs c.args.proofs (Ok (Under c.args.bound))) c.requires.graphs c.requires.plan in
     let near = plan_near c.args.graphs.now c.args.proofs c.args.bound c.requires.plan in
@@ -23,7 +23,7 @@ returns-in_ok-evidence-in-Finished c =
     )
 
 pub returns-in-Spent : goal.returns-in-Spent
-returns-in-Spent c =
+returns-in-Spent g c =
     let given = subst (λ gs. AreGiven gs c.args.proofs) c.requires.graphs c.requires.given in
     let plan = subst (λ gs. IsPlan gs c.args.proofs (Ok (Under c.args.bound))) c.requires.graphs c.requires.plan in
     let spent = subst (λ s. AreSearches c.args.graphs.now c.args.bound c.args.budget s) c.in-Spent.is c.in_ok-fronts.ensures in

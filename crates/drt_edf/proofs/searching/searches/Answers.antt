@@ -14,7 +14,7 @@ use Rattle.drt_edf.proofs.Searched.{spent_search}
 use Rattle.drt_edf.proofs.searching.searches.Goals as goal
 
 pub returns-then-not-finished : goal.returns-then-not-finished
-returns-then-not-finished c =
+returns-then-not-finished g c =
     let l : c.tasks.task < length c.args.graphs.now = omega (arith, c.tasks-test.true, c.count-task-end.ensures.count) in
     let setting = c.in_ok-table.ensures.setting ∙ ap (λ g. search_of g c.args.bound c.args.budget) c.graph-graph.ensures.graph in
     let unfinished : is_finished demand_algebra (setting_of c.in_ok-table.table) (state_of c.in_ok-table.table) ≡ false = cc (c.finished.ensures.finished, c.if-not-finished.true) in
@@ -24,13 +24,13 @@ returns-then-not-finished c =
     rw same s
 
 pub front_of-requires-clause-graph : goal.front_of-requires-clause-graph
-front_of-requires-clause-graph c = sym (ap (λ (t : Setting). t.graph) c.in_ok-table.ensures.setting)
+front_of-requires-clause-graph g c = sym (ap (λ (t : Setting). t.graph) c.in_ok-table.ensures.setting)
 
 pub front_of-requires-clause-constrained : goal.front_of-requires-clause-constrained
-front_of-requires-clause-constrained c = subst IsConstrainedGraph (sym (ap (λ (t : Setting). t.graph) c.in_ok-table.ensures.setting)) c.graph-graph.ensures.constrained
+front_of-requires-clause-constrained g c = subst IsConstrainedGraph (sym (ap (λ (t : Setting). t.graph) c.in_ok-table.ensures.setting)) c.graph-graph.ensures.constrained
 
 pub tasks-preserved : goal.tasks-preserved
-tasks-preserved c =
+tasks-preserved g c =
     let l : c.tasks.task < length c.args.graphs.now = omega (arith, c.tasks-test.true, c.count-task-end.ensures.count) in
     let f = take_more c.args.graphs.now c.tasks.task no_graph l in
     let setting = c.in_ok-table.ensures.setting ∙ ap (λ g. search_of g c.args.bound c.args.budget) c.graph-graph.ensures.graph in
@@ -42,7 +42,7 @@ tasks-preserved c =
     }
 
 pub returns : goal.returns
-returns c =
+returns g c =
     let l : length c.args.graphs.now ≤ c.tasks.task = omega (arith, c.tasks-test.false, c.count-task-end.ensures.count) in
     let e = take_all c.tasks.task c.args.graphs.now l in
     let fronts = subst (λ gs. AreLabelFronts c.args.bound gs c.tasks.fronts.items) e c.tasks.invariant.fronts in

@@ -5,7 +5,7 @@ use Rattle.drt_edf.specs.LabelFronts.{AreLabelFronts}
 use Rattle.drt_edf.proofs.searching.searches.Given as goal
 
 abbrev pub invariant-tasks : goal.invariant-tasks
-invariant-tasks l = record {
+invariant-tasks g l = record {
   fronts : AreLabelFronts l.bound (take l.task l.graphs) l.fronts.items;
   counted : All IsCounted l.fronts.items;
 }

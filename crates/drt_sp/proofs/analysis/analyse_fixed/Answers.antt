@@ -1,45 +1,6 @@
-use Rattle.std.proofs.Common.{◌≡◌, ◌+◌, ◌-◌, ℕ, List, length, sym, subst, arith}
-use Rattle.drt_model.specs.declared.tasks.Task.{Task}
-use Rattle.drt_choices.specs.Choices.{IsOrder}
-use Rattle.drt_sp.specs.Progress.{AreGrown, AreProved}
-use Rattle.drt_sp.proofs.Orders.{order_count}
+use Rattle.std.proofs.Common.{rules}
+use Rattle.drt_sp.proofs.Ended.{ending_answer}
 use Rattle.drt_sp.proofs.analysis.analyse_fixed.Goals as goal
 
-pub overflow_sub-last : goal.overflow_sub-last
-overflow_sub-last c =
-    let tasks : List Task = c.args.set.now.tasks in
-    let order : List ℕ = c.as_slice-order.result.now in
-    let is : IsOrder tasks order = subst (IsOrder tasks) (sym c.as_slice-order.ensures.value) c.in_ok-ranked.ensures in
-    omega (arith, order_count tasks order is, c.tasks-tasks.ensures.limits.has_task)
-
-pub prove_task-requires-2-clause-here : goal.prove_task-requires-2-clause-here
-prove_task-requires-2-clause-here c =
-    let tasks : List Task = c.args.set.now.tasks in
-    let order : List ℕ = c.as_slice-order.result.now in
-    let is : IsOrder tasks order = subst (IsOrder tasks) (sym c.as_slice-order.ensures.value) c.in_ok-ranked.ensures in
-    omega (arith, order_count tasks order is, c.tasks-tasks.ensures.limits.has_task)
-
-pub prove_task-requires-2-clause-proved : goal.prove_task-requires-2-clause-proved
-prove_task-requires-2-clause-proved c =
-    let order : List ℕ = c.as_slice-order.result.now in
-    let e : c.places.place ≡ length order - 1 = omega (arith, c.places-test.false, c.places.auto.place-end) in
-    subst (λ (n : ℕ). AreProved c.args.set.now.tasks order n c.places.progress.trees.items c.places.progress.proofs.items) e c.places.invariant.proved
-
-pub evidence-requires-clause-complete : goal.evidence-requires-clause-complete
-evidence-requires-clause-complete c =
-    let tasks : List Task = c.args.set.now.tasks in
-    let order : List ℕ = c.as_slice-order.result.now in
-    let is : IsOrder tasks order = subst (IsOrder tasks) (sym c.as_slice-order.ensures.value) c.in_ok-ranked.ensures in
-    let e : c.places.place ≡ length order - 1 = omega (arith, c.places-test.false, c.places.auto.place-end) in
-    let whole : (length order - 1) + 1 ≡ length order = omega (arith, order_count tasks order is, c.tasks-tasks.ensures.limits.has_task) in
-    let grown : AreGrown tasks order (length order - 1) c.places.progress.forest c.places.progress.roots.items c.places.progress.trees.items
-    = subst (λ (n : ℕ). AreGrown tasks order n c.places.progress.forest c.places.progress.roots.items c.places.progress.trees.items) e c.places.invariant.grown in
-    let proved : AreProved tasks order ((length order - 1) + 1) c.prove_task-2.new.self.trees.items c.prove_task-2.new.self.proofs.items = rw c.in-None.is at c.in_ok-answer-3.ensures.decided in
-    record {
-      order = order;
-      order_is = is;
-      last = length order - 1;
-      whole = whole;
-      grown = rw (c.in_ok-answer-3.ensures.forest, c.in_ok-answer-3.ensures.roots, c.in_ok-answer-3.ensures.trees) grown;
-      proved = subst (λ (n : ℕ). AreProved tasks order n c.prove_task-2.new.self.trees.items c.prove_task-2.new.self.proofs.items) whole proved;
-    }
+pub returns-in-Ended : goal.returns-in-Ended
+returns-in-Ended g c = ending_answer c.args.set.now c.args.budget c.in-Ended.answer (search rules)

@@ -12,7 +12,7 @@ use Rattle.drt_sp.proofs.VertexProofs.{driven_eager, proof_of, failure_of, faile
 use Rattle.drt_sp.proofs.proving.prove_vertex.Goals as goal
 
 pub returns-in_ok-items_of-in-Finished : goal.returns-in_ok-items_of-in-Finished
-returns-in_ok-items_of-in-Finished c =
+returns-in_ok-items_of-in-Finished g c =
     let f = c.args.forest.now in
     let v = c.drive.new.self in
     let t = refinement_of f c.args.roots.now c.args.wcet c.args.deadline c.args.budget in
@@ -26,10 +26,10 @@ returns-in_ok-items_of-in-Finished c =
     )
 
 pub tuple_of-requires : goal.tuple_of-requires
-tuple_of-requires c = failed_within c.drive.new.self.combinations c.in-Failed.id c.in-Failed.ensures.stops
+tuple_of-requires g c = failed_within c.drive.new.self.combinations c.in-Failed.id c.in-Failed.ensures.stops
 
 pub returns-in_ok-tuple_of-in-Failed : goal.returns-in_ok-tuple_of-in-Failed
-returns-in_ok-tuple_of-in-Failed c =
+returns-in_ok-tuple_of-in-Failed g c =
     let f = c.args.forest.now in
     let v = c.drive.new.self in
     let s = setting_of f v in

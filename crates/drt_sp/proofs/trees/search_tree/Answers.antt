@@ -7,8 +7,8 @@ use Rattle.drt_sp.proofs.TreeSearches.{AreLent, lent_leaves, one_bound}
 use Rattle.drt_sp.proofs.trees.search_tree.Goals as goal
 
 -- The leaves of the search are lent.
-lent : (c : goal.After-add_tree-arg-1) → AreLent c.args.graph.now c.args.bound c.as_slice.result.now c.as_slice-2.result.now
-lent c =
+lent : (g : _) (c : goal.After-add_tree-arg-1 g) → AreLent c.args.graph.now c.args.bound c.as_slice.result.now c.as_slice-2.result.now
+lent g c =
     let e = c.in_ok-leaves.ensures in
     let leaves = c.in_ok-leaves.leaves in
     lent_leaves c.args.graph.now c.args.bound c.args.budget c.in_ok-table.table c.in_ok-table.ensures.setting e.table c.requires.from c.requires.few
@@ -16,18 +16,18 @@ lent c =
     c.as_slice.result.now c.as_slice-2.result.now c.as_slice.ensures.value c.as_slice-2.ensures.value
 
 pub add_tree-requires-clause-some : goal.add_tree-requires-clause-some
-add_tree-requires-clause-some c = (lent c).some
+add_tree-requires-clause-some g c = (lent g c).some
 
 pub add_tree-requires-clause-bound : goal.add_tree-requires-clause-bound
-add_tree-requires-clause-bound c =
+add_tree-requires-clause-bound g c =
     let ls : List Leaf = leaves_of c.as_slice.result.now c.as_slice-2.result.now in
-    one_bound c.args.graph.now c.args.bound c.args.forest.now.pool ls c.requires.functions (lent c).leaves
+    one_bound c.args.graph.now c.args.bound c.args.forest.now.pool ls c.requires.functions (lent g c).leaves
 
 pub add_tree-requires-clause-room : goal.add_tree-requires-clause-room
-add_tree-requires-clause-room c = let few = (lent c).few in omega (arith, few, c.requires.room)
+add_tree-requires-clause-room g c = let few = (lent g c).few in omega (arith, few, c.requires.room)
 
 pub returns : goal.returns
-returns c =
+returns g c =
     let e = c.in_ok-leaves.ensures in
     let leaves = c.in_ok-leaves.leaves in
     let labels = c.as_slice.result.now in

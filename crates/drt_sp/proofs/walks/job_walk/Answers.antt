@@ -2,14 +2,11 @@ use Rattle.std.proofs.Common.{◌≡◌, ◌<◌, ◌≤◌, List, [], ◌∷◌
 use Rattle.std.proofs.lemmas.Bool.{eq-eqb, le-ltb, lt-ltb, ne_eqb}
 use Rattle.std.proofs.lemmas.List.{get_or_default}
 use Rattle.drt_model.specs.declared.tasks.Task.{Task}
-use Rattle.drt_model.specs.Walk.{deadline}
-use Rattle.drt_graph.specs.Graphs.{graph_of}
-use Rattle.drt_busy.specs.Choice.{graph_at, no_task, task_at}
+use Rattle.drt_busy.specs.Choice.{no_task, task_at}
 use Rattle.drt_busy.specs.WalkReleases.{with_job}
-use Rattle.drt_releases.proofs.Walks.{graph_same}
 use Rattle.drt_tree.proofs.Trees.{if_ok_more}
 use Rattle.drt_choices.specs.Choices.{chosen}
-use Rattle.drt_sp.proofs.walks.job_walk.Goals.{then-k-failed+in_ok-push, else-k-failed}
+use Rattle.drt_sp.proofs.walks.job_walk.Goals.{then-k-shown+in_ok-push, else-k-shown}
 use Rattle.drt_sp.proofs.walks.job_walk.Goals as goal
 
 job_higher : (tasks : List Task) (walks : ℕ → List ℕ) (j v k : ℕ) → (task_at tasks k).priority < (task_at tasks j).priority → with_job tasks walks j v k ≡ walks k
@@ -27,35 +24,32 @@ job_nowhere tasks walks j v k le ne = rw (le-ltb (task_at tasks k).priority (tas
 pub returns-then-tasks-k : goal.returns-then-tasks-k
 returns-then-tasks-k c =
     let tasks : List Task = c.args.tasks.now in
-    let j = c.args.failed.now.task in
-    let v = c.args.failed.now.vertex in
+    let j = c.args.shown.now.task in
+    let v = c.args.shown.now.vertex in
     let k = c.args.k in
     let f = c.args.forest.now in
-    let tuple : List ℕ = c.args.failed.now.tuple in
+    let tuple : List ℕ = c.args.shown.now.tuple in
     let a = get_or_default tasks k c.index-tasks-k.result no_task c.requires.here in
-    let b = get_or_default tasks j c.index-tasks-failed.result no_task c.requires.task in
+    let b = get_or_default tasks j c.index-tasks-shown.result no_task c.requires.task in
     let less : (task_at tasks k).priority < (task_at tasks j).priority = omega (arith, c.if-tasks-k.true, ap (λ (t : Task). t.priority) a, ap (λ (t : Task). t.priority) b) in
-    let graph : c.graph.result.now ≡ graph_at tasks j = c.graph.ensures.graph ∙ (ap (λ gs. graph_of gs j) c.requires.graphs ∙ graph_same tasks j c.requires.task) in
-    let end : c.vertex.result.now.deadline ≡ deadline (graph_at tasks j) v = ap (λ x. x.deadline) c.vertex.ensures ∙ ap (λ g. deadline g v) graph in
     if_ok_more _ _ c.chosen_walk.result (λ row is.
-    is tasks c.requires.graphs ∙ (ap (λ (d : ℕ). chosen tasks f d c.args.order.now c.as_slice.result.now k) end
-    ∙ (ap (λ (ts : List ℕ). chosen tasks f (deadline (graph_at tasks j) v) c.args.order.now ts k) c.as_slice.ensures
-    ∙ sym (job_higher tasks (chosen tasks f (deadline (graph_at tasks j) v) c.args.order.now tuple) j v k less)))
+    is tasks c.requires.graphs ∙ (ap (λ (ts : List ℕ). chosen tasks f c.args.end c.args.order.now ts k) c.as_slice.ensures
+    ∙ sym (job_higher tasks (chosen tasks f c.args.end c.args.order.now tuple) j v k less))
     ) c.chosen_walk.ensures
 
 pub returns : goal.returns
 returns c =
     let tasks : List Task = c.args.tasks.now in
-    let j = c.args.failed.now.task in
-    let v = c.args.failed.now.vertex in
+    let j = c.args.shown.now.task in
+    let v = c.args.shown.now.vertex in
     let k = c.args.k in
-    let walks = chosen tasks c.args.forest.now (deadline (graph_at tasks j) v) c.args.order.now c.args.failed.now.tuple in
+    let walks = chosen tasks c.args.forest.now c.args.end c.args.order.now c.args.shown.now.tuple in
     let a = get_or_default tasks k c.index-tasks-k.result no_task c.requires.here in
-    let b = get_or_default tasks j c.index-tasks-failed.result no_task c.requires.task in
+    let b = get_or_default tasks j c.index-tasks-shown.result no_task c.requires.task in
     let le : (task_at tasks j).priority ≤ (task_at tasks k).priority = omega (arith, c.if-tasks-k.false, ap (λ (t : Task). t.priority) a, ap (λ (t : Task). t.priority) b) in
-    elim c.if-k-failed.branch [
-      | then-k-failed+in_ok-push w ↦
+    elim c.if-k-shown.branch [
+      | then-k-shown+in_ok-push w ↦
           c.from_vec.ensures ∙ (ap (λ x. x.items) w.walk-is ∙ (w.in_ok-push.ensures.items ∙ (ap (λ (xs : List ℕ). xs ++ v ∷ []) c.new-walk.ensures.items
-          ∙ sym (job_here tasks walks j v k le w.if-k-failed.true))))
-      | else-k-failed w ↦ c.from_vec.ensures ∙ (ap (λ x. x.items) w.walk-is ∙ (c.new-walk.ensures.items ∙ sym (job_nowhere tasks walks j v k le w.if-k-failed.false)))
+          ∙ sym (job_here tasks walks j v k le w.if-k-shown.true))))
+      | else-k-shown w ↦ c.from_vec.ensures ∙ (ap (λ x. x.items) w.walk-is ∙ (c.new-walk.ensures.items ∙ sym (job_nowhere tasks walks j v k le w.if-k-shown.false)))
     ]

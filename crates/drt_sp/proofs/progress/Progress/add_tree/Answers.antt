@@ -20,13 +20,13 @@ use Rattle.drt_sp.proofs.Yes.{few_tasks}
 use Rattle.drt_sp.proofs.progress.Progress.add_tree.Goals as goal
 
 pub graph-graph-requires : goal.graph-graph-requires
-graph-graph-requires c =
+graph-graph-requires g c =
     let tasks : List Task = c.args.set.now.tasks in
     let order : List ℕ = c.args.order.now in
     omega (arith, order_below tasks order c.requires.given.order_is c.args.place (omega (arith, c.requires.here)), ap length c.requires.given.graphs_are, length-map tasks digraph_of)
 
 pub search_tree-requires-clause-room : goal.search_tree-requires-clause-room
-search_tree-requires-clause-room c =
+search_tree-requires-clause-room g c =
     let set = c.args.set.now in
     let tasks : List Task = set.tasks in
     let order : List ℕ = c.args.order.now in
@@ -40,7 +40,7 @@ search_tree-requires-clause-room c =
     omega (arith, c.requires.grown.few, c.requires.here, order_count tasks order is, few_tasks set.version tasks limits)
 
 pub returns-in_ok-push-in-Tree-2-clause-grown : goal.returns-in_ok-push-in-Tree-2-clause-grown
-returns-in_ok-push-in-Tree-2-clause-grown c =
+returns-in_ok-push-in-Tree-2-clause-grown g c =
     let set = c.args.set.now in
     let tasks : List Task = set.tasks in
     let order : List ℕ = c.args.order.now in
@@ -60,7 +60,7 @@ returns-in_ok-push-in-Tree-2-clause-grown c =
     c.in-Tree.tree.low c.in-Tree.tree.top c.in-Tree.tree.claim t.stands t.count t.claim t.rules t.range)
 
 pub returns-in_ok-push-in-Tree-2-clause-proved : goal.returns-in_ok-push-in-Tree-2-clause-proved
-returns-in_ok-push-in-Tree-2-clause-proved c =
+returns-in_ok-push-in-Tree-2-clause-proved g c =
     let set = c.args.set.now in
     let tasks : List Task = set.tasks in
     let order : List ℕ = c.args.order.now in
@@ -76,7 +76,7 @@ returns-in_ok-push-in-Tree-2-clause-proved c =
     rw c.in_ok-push-in-Tree-2.ensures.items (proved_kept tasks order (place + 1) trees c.in-Tree.tree.claim c.args.self.now.proofs.items (omega (arith, count)) c.requires.proved)
 
 pub returns-in-Spent-clause-grown : goal.returns-in-Spent-clause-grown
-returns-in-Spent-clause-grown c =
+returns-in-Spent-clause-grown g c =
     let set = c.args.set.now in
     let tasks : List Task = set.tasks in
     let order : List ℕ = c.args.order.now in

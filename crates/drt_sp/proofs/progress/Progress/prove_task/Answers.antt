@@ -21,13 +21,13 @@ use Rattle.drt_sp.proofs.Yes.{few_tasks}
 use Rattle.drt_sp.proofs.progress.Progress.prove_task.Goals as goal
 
 pub graph-graph-requires : goal.graph-graph-requires
-graph-graph-requires c =
+graph-graph-requires g c =
     let tasks : List Task = c.args.set.now.tasks in
     let order : List ℕ = c.args.order.now in
     omega (arith, order_below tasks order c.requires.given.order_is c.args.place c.requires.here, ap length c.requires.given.graphs_are, length-map tasks digraph_of)
 
 pub prove_vertices-requires-clause-few : goal.prove_vertices-requires-clause-few
-prove_vertices-requires-clause-few c =
+prove_vertices-requires-clause-few g c =
     let set = c.args.set.now in
     let tasks : List Task = set.tasks in
     let order : List ℕ = c.args.order.now in
@@ -42,7 +42,7 @@ prove_vertices-requires-clause-few c =
     omega (arith, ap length c.as_slice.ensures.value, c.requires.grown.count, l, order_count tasks order is, few_tasks set.version tasks limits)
 
 pub prove_vertices-requires-clause-roots : goal.prove_vertices-requires-clause-roots
-prove_vertices-requires-clause-roots c =
+prove_vertices-requires-clause-roots g c κs within =
     let set = c.args.set.now in
     let tasks : List Task = set.tasks in
     let order : List ℕ = c.args.order.now in
@@ -60,7 +60,7 @@ prove_vertices-requires-clause-roots c =
     rw (graph, c.as_slice.ensures.value) (chosen_at tasks order is set.version place k limits at f roots trees c.requires.grown c.show_sound.ensures)
 
 pub refusal-requires-clause-failed : goal.refusal-requires-clause-failed
-refusal-requires-clause-failed c =
+refusal-requires-clause-failed g c =
     let set = c.args.set.now in
     let tasks : List Task = set.tasks in
     let order : List ℕ = c.args.order.now in
@@ -87,7 +87,7 @@ refusal-requires-clause-failed c =
     }
 
 pub returns-in-Passed-clause-decided : goal.returns-in-Passed-clause-decided
-returns-in-Passed-clause-decided c =
+returns-in-Passed-clause-decided g c =
     let set = c.args.set.now in
     let tasks : List Task = set.tasks in
     let order : List ℕ = c.args.order.now in
@@ -109,7 +109,7 @@ returns-in-Passed-clause-decided c =
     proved_more tasks order is place k at f roots trees c.requires.grown c.args.self.now.proofs.items c.requires.proved first c.in-Passed.proofs came
 
 pub returns-in-Spent-clause-decided : goal.returns-in-Spent-clause-decided
-returns-in-Spent-clause-decided c =
+returns-in-Spent-clause-decided g c =
     let set = c.args.set.now in
     let tasks : List Task = set.tasks in
     let order : List ℕ = c.args.order.now in

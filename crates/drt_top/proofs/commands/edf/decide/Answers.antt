@@ -4,6 +4,6 @@ use Rattle.drt_top.proofs.EdfLemmas.{done_decides}
 use Rattle.drt_top.proofs.commands.edf.decide.Goals as goal
 
 pub returns-in-Ok-Done-clause-decides : goal.returns-in-Ok-Done-clause-decides
-returns-in-Ok-Done-clause-decides c =
+returns-in-Ok-Done-clause-decides g c =
     let answer : IsAnswer c.args.set.tasks c.args.budget (Done c.in-Ok-Done.evidence) = rw c.in-Ok-Done.field-0-is at c.in-Ok-Done.ensures in
     done_decides c.args.bytes.now c.args.set c.args.budget c.in-Ok-Done.evidence c.requires.accepted answer.0 answer.1 answer.2 c.make_report.result c.make_report.ensures.report

@@ -4,6 +4,6 @@ use Rattle.drt_top.proofs.SpPromises.{done_analyses}
 use Rattle.drt_top.proofs.commands.sp.analyse.Goals as goal
 
 pub returns-in-Ok-Done-clause-analyses : goal.returns-in-Ok-Done-clause-analyses
-returns-in-Ok-Done-clause-analyses c =
+returns-in-Ok-Done-clause-analyses g c =
     let answer : IsAnswer c.args.set c.args.budget (Done c.in-Ok-Done.evidence) = rw c.in-Ok-Done.field-0-is at c.in-Ok-Done.ensures in
     done_analyses c.args.bytes.now c.args.set c.args.budget c.in-Ok-Done.evidence c.requires.accepted answer.0 answer.1 c.make_report.result c.make_report.ensures.report

@@ -1,9 +1,9 @@
 -- The tasks at the places so far have their trees and their proofs.
 use Rattle.drt_sp.specs.Progress.{AreGrown, AreProved}
-use Rattle.drt_sp.proofs.analysis.analyse_fixed.Given as goal
+use Rattle.drt_sp.proofs.analysis.analyse.Given as goal
 
 abbrev pub invariant-places : goal.invariant-places
-invariant-places l = record {
+invariant-places g l = record {
   grown : AreGrown l.set.tasks l.order l.place l.progress.forest l.progress.roots.items l.progress.trees.items;
   proved : AreProved l.set.tasks l.order l.place l.progress.trees.items l.progress.proofs.items;
 }

@@ -1,0 +1,36 @@
+use Rattle.std.proofs.Common.{◌≡◌, ◌+◌, ◌-◌, ℕ, List, length, subst, arith}
+use Rattle.drt_model.specs.declared.tasks.Task.{Task}
+use Rattle.drt_choices.specs.Choices.{IsOrder}
+use Rattle.drt_sp.specs.Progress.{AreGrown, AreProved}
+use Rattle.drt_sp.proofs.Orders.{order_count}
+use Rattle.drt_sp.proofs.analysis.analyse.Goals as goal
+
+pub overflow_sub-last : goal.overflow_sub-last
+overflow_sub-last g c = omega (arith, order_count c.args.set.now.tasks c.args.order.now c.requires.given.order_is, c.tasks-tasks.ensures.limits.has_task)
+
+pub prove_task-requires-2-clause-here : goal.prove_task-requires-2-clause-here
+prove_task-requires-2-clause-here g c = omega (arith, order_count c.args.set.now.tasks c.args.order.now c.requires.given.order_is, c.tasks-tasks.ensures.limits.has_task)
+
+pub prove_task-requires-2-clause-proved : goal.prove_task-requires-2-clause-proved
+prove_task-requires-2-clause-proved g c κs within =
+    let order : List ℕ = c.args.order.now in
+    let e : c.places.place ≡ length order - 1 = omega (arith, c.places-test.false, c.places.auto.place-end) in
+    subst (λ (n : ℕ). AreProved c.args.set.now.tasks order n c.places.progress.trees.items c.places.progress.proofs.items) e c.places.invariant.proved
+
+pub returns-in-None : goal.returns-in-None
+returns-in-None g c =
+    let tasks : List Task = c.args.set.now.tasks in
+    let order : List ℕ = c.args.order.now in
+    let is : IsOrder tasks order = c.requires.given.order_is in
+    let e : c.places.place ≡ length order - 1 = omega (arith, c.places-test.false, c.places.auto.place-end) in
+    let whole : (length order - 1) + 1 ≡ length order = omega (arith, order_count tasks order is, c.tasks-tasks.ensures.limits.has_task) in
+    let grown : AreGrown tasks order (length order - 1) c.places.progress.forest c.places.progress.roots.items c.places.progress.trees.items
+    = subst (λ (n : ℕ). AreGrown tasks order n c.places.progress.forest c.places.progress.roots.items c.places.progress.trees.items) e c.places.invariant.grown in
+    let proved : AreProved tasks order ((length order - 1) + 1) c.prove_task-2.new.self.trees.items c.prove_task-2.new.self.proofs.items = rw c.in-None.is at c.in_ok-answer-3.ensures.decided in
+    record {
+      order_is = is;
+      last = length order - 1;
+      whole = whole;
+      grown = rw (c.in_ok-answer-3.ensures.forest, c.in_ok-answer-3.ensures.roots, c.in_ok-answer-3.ensures.trees) grown;
+      proved = subst (λ (n : ℕ). AreProved tasks order n c.prove_task-2.new.self.trees.items c.prove_task-2.new.self.proofs.items) whole proved;
+    }

@@ -1,0 +1,13 @@
+use Rattle.std.proofs.Common.{List, ℕ, sym, subst}
+use Rattle.drt_sp.specs.Grown.{AreProvedTrees}
+use Rattle.drt_sp.specs.declared.grown.ProvedTrees.{ProvedTrees}
+use Rattle.drt_sp.proofs.Ended.{proved_trees}
+use Rattle.drt_sp.proofs.grown.ProvedTrees.of.Goals as goal
+
+pub returns : goal.returns
+returns c =
+    let f = c.args.progress.forest in
+    let shown : (roots order : List ℕ) → ProvedTrees = λ roots order. record { forest = f; roots = roots; order = order } in
+    let made = proved_trees c.args.set.now c.args.order.items c.args.progress c.tasks-tasks.ensures.limits c.requires.constrained c.times_decide.ensures c.show_sound.ensures c.requires.complete in
+    subst (λ (roots : List ℕ). AreProvedTrees c.args.set.now (shown roots c.from_vec-2.result)) (sym c.from_vec.ensures)
+    (subst (λ (order : List ℕ). AreProvedTrees c.args.set.now (shown c.args.progress.roots.items order)) (sym c.from_vec-2.ensures) made)

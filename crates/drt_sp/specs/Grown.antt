@@ -1,0 +1,44 @@
+-- How an analysis ends, with its trees.
+use Rattle.std.specs.Prelude.{◌≡◌, ℕ, ◌+◌, List, length, All}
+use Rattle.drt_model.specs.Contents.{Contents}
+use Rattle.drt_model.specs.declared.jobs.Policy.TheVariants.{Fixed}
+use Rattle.drt_model.specs.Limits.{IsTaskSet}
+use Rattle.drt_model.specs.Schedulable.{Schedulable}
+use Rattle.drt_tree.specs.Tree.{IsForest}
+use Rattle.drt_refine.specs.Below.{AreNodes}
+use Rattle.drt_choices.specs.Choices.{AreTrees, FirstPass, IsOrder}
+use Rattle.drt_evidence.specs.Ranges.{IsInRange}
+use Rattle.drt_evidence.specs.Trees.{greatest_deadline}
+use Rattle.drt_sp.specs.Answers.{IsEnding, IsRefusal, IsUndecided}
+use Rattle.drt_sp.specs.Needs.{AreFewLeaves}
+use Rattle.drt_sp.specs.Progress.{IsComplete}
+use Rattle.drt_sp.specs.declared.grown.Outcome.{Outcome}
+use Rattle.drt_sp.specs.declared.grown.Outcome.TheVariants as outcomes
+use Rattle.drt_sp.specs.declared.grown.ProvedTrees.{ProvedTrees}
+use Rattle.drt_sp.specs.declared.grown.TreesAnswer.{TreesAnswer}
+use Rattle.drt_sp.specs.declared.grown.TreesAnswer.TheVariants.{Proved, Missed, Undecided}
+
+-- The set is schedulable, and each of its vertices passes. The trees of all tasks but that of lowest priority stand for the walks of these
+-- tasks up to the greatest deadline, in order of priority, with no more leaves than there are walks.
+pub record AreProvedTrees (set : Contents) (trees : ProvedTrees) : Type 0 where
+  pub schedulable : Schedulable set.tasks Fixed
+  pub limits : IsTaskSet set.version set.tasks
+  pub order_is : IsOrder set.tasks trees.order
+  pub count : length trees.roots + 1 ≡ length trees.order
+  pub passed : FirstPass set.tasks trees.order (length trees.order)
+  pub forest : IsForest trees.forest
+  pub nodes : AreNodes trees.forest trees.roots
+  pub one_bound : All (λ (xs : List ℕ). length xs ≡ greatest_deadline set.tasks) trees.forest.pool
+  pub stand : AreTrees set.tasks trees.order (greatest_deadline set.tasks) trees.forest trees.roots
+  pub few : AreFewLeaves set.tasks trees.order trees.forest trees.roots
+
+-- What each answer says, with a budget.
+abbrev pub IsTreesAnswer : Contents → ℕ → TreesAnswer → Type 0
+IsTreesAnswer set budget (Proved trees) = AreProvedTrees set trees
+IsTreesAnswer set budget (Missed evidence) = IsRefusal set evidence × IsInRange evidence
+IsTreesAnswer set budget (Undecided trail) = IsUndecided set budget trail
+
+-- How an analysis in this order ends.
+abbrev pub IsOutcome : Contents → List ℕ → ℕ → Outcome → Type 0
+IsOutcome set order budget (outcomes.Proved p) = IsComplete set.tasks order p.forest p.roots.items p.trees.items p.proofs.items
+IsOutcome set order budget (outcomes.Ended answer) = IsEnding set budget answer

@@ -1,0 +1,63 @@
+-- What `edf` writes of one vertex (2, 5) with a loop of 5 is accepted: each rule that applies is kept.
+use Rattle.std.proofs.Common.{◌≡◌, ℕ, zero, suc, ◌+◌, ◌*◌, ◌<◌, ◌≤◌, List, [], ◌∷◌, refl, lit<, lit≤, arith}
+use Rattle.std.specs.Prelude.{All, pos}
+use Rattle.std.specs.Int.{IsGcd}
+use Rattle.std.proofs.Math.Nat.{dvd-mul_left}
+use Rattle.std.proofs.lemmas.List.Elements.{All-nil, All-cons}
+use Rattle.drt_model.specs.Digraph.{Digraph, digraph_of}
+use Rattle.drt_model.specs.Horizon.{most_to, constant_of, extra, horizon}
+use Rattle.drt_model.specs.Utilisation.{IsScale, rate}
+use Rattle.drt_model.specs.Walk.{sep_in, or_zero, work, span}
+use Rattle.drt_model.specs.declared.front.FrontEntry.{FrontEntry}
+use Rattle.drt_evidence.specs.Fronts.{HasOpenings, IsClosedFront, IsExtended, IsNextEntry, IsWithin, due, works_due}
+use Rattle.drt_evidence.specs.Rules.{Accepts}
+use Rattle.drt_evidence.specs.declared.evidence.RatioClaim.{RatioClaim}
+use Rattle.drt_evidence.proofs.Accepting.{AreFrontClaims, AreRatioClaims, IsEdfYes, yes_accepted}
+use Rattle.drt_rows.proofs.PotentialRows.{loop_fits}
+use Rattle.drt_rows.proofs.SetRows.{short_is_constrained}
+use Rattle.drt_rows.proofs.Sets.{short}
+use Rattle.drt_rows.proofs.UtilisationRows.{fraction, lowest}
+use Rattle.drt_worked.proofs.TextRows.{edf_statement, one, set}
+
+abbrev claim : RatioClaim
+claim = record { num = 2; den = 5; cycle = 0 ∷ []; potentials = pos 0 ∷ [] }
+
+abbrev graph : Digraph
+graph = digraph_of short
+
+-- The scale of the ratio 2/5 is 5, and its rate is 2.
+scale_5 : IsScale (fraction 2 5 ∷ []) 5
+scale_5 = record { some = lit≤ tt; multiple = (dvd-mul_left 5 1, tt); least = λ m each. each.0 }
+
+-- The ratio is in lowest terms, its one potential fits the loop, and the loop is a cycle that has the ratio: 5 times the work 2 is 2 times the span 5.
+ratio_claims : AreRatioClaims one (claim ∷ [])
+unfolding work span sep_in or_zero
+ratio_claims = record {
+  per_task = refl;
+  lowest = All-cons (λ (c : RatioClaim). IsGcd c.num c.den 1) claim [] lowest (All-nil (λ (c : RatioClaim). IsGcd c.num c.den 1));
+  counted = (refl, tt);
+  fits = (loop_fits, tt);
+  closed = (((λ e. omega (arith, e)), (refl, tt)), tt);
+  tight = (refl, tt);
+  fine = (5, scale_5, lit≤ tt);
+}
+
+-- No vertex is due by the horizon 0, so that no label has to stand in the front.
+no_opening : HasOpenings 0 graph []
+no_opening zero h by = absurd (omega (arith, by))
+no_opening (suc v) h by = absurd (omega (arith, h))
+
+front_claims : AreFrontClaims one 0 ([] ∷ [])
+front_claims = record {
+  near = lit≤ tt;
+  ordered = ((All-nil (IsWithin graph 0), tt), tt);
+  openings = (no_opening, tt);
+  closed = (All-nil (λ (e : FrontEntry). (k : ℕ) → k < 1 → IsExtended 0 graph [] e k), tt);
+  room = (All-nil (λ (e : FrontEntry). works_due (graph ∷ []) ([] ∷ []) (due graph e) ≤ due graph e), tt);
+}
+
+pub yes_is_accepted : Accepts edf_statement
+unfolding rate most_to extra
+yes_is_accepted =
+    yes_accepted set (claim ∷ []) ([] ∷ []) short_is_constrained
+    (record { claims = ratio_claims; below = (5, scale_5, lit< tt); bound = 0; is_bound = (5, scale_5, refl); fronts_are = front_claims })

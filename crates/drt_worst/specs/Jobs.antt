@@ -1,0 +1,45 @@
+-- What the passes work on, and which passes are theirs.
+use Rattle.std.specs.Prelude.{◌≡◌, ℕ, ◌≤◌, ◌⊎◌, false, List, [], length, slice_get, Some}
+use Rattle.drt_worst.specs.Splitting.{Search, search_for}
+use Rattle.drt_worst.specs.Passing.{search_of, IsSeatOf, HasRun, IsReady}
+use Rattle.drt_worst.specs.declared.pass.Pass.{Pass}
+use Rattle.drt_word.specs.Closing.{WordOf}
+use Rattle.drt_worst.specs.declared.pass.Question.{Question}
+use Rattle.drt_worst.specs.declared.turn.Job.{Job}
+
+-- The search that the passes make.
+abbrev pub search_of_job : Job → Search
+search_of_job job = search_for job.forest.now job.wcet job.deadline
+
+-- The roots that they begin with.
+abbrev pub roots_of_job : Job → List ℕ
+roots_of_job job = job.word.now.about.roots.value
+
+-- The pass is one of the job. One that found no memory only has its seat.
+abbrev pub IsPassOf : Job → Pass → Type 0
+IsPassOf job p =
+    (search_of job.word.now.about ≡ search_of_job job) × IsReady (search_of_job job) (roots_of_job job)
+    × IsSeatOf job.word.now.name p
+    × (p.failed ≡ false → HasRun (search_of_job job) (roots_of_job job) p × (length p.taken.items ≤ job.budget))
+
+-- It found no memory, or has nothing left, or took as many as the budget.
+abbrev pub IsStopped : ℕ → Pass → Type 0
+IsStopped budget p = p.failed ≡ false → (p.stack.items ≡ []) ⊎ (length p.taken.items ≡ budget)
+
+-- A pass as it is opened: it has its seat and the combination at its place.
+abbrev pub IsOpened : WordOf Question → List (List ℕ) → ℕ → Pass → Type 0
+IsOpened word dealt place p =
+    IsSeatOf word.name p × HasRun (search_of word.about) word.about.roots.value p
+    × (p.failed ≡ false) × (p.taken.items ≡ []) × (slice_get dealt place ≡ Some p.start)
+
+-- A pass that has nothing left.
+abbrev pub IsDoneOf : WordOf Question → ℕ → Pass → Type 0
+IsDoneOf word place p =
+    IsSeatOf word.name p × HasRun (search_of word.about) word.about.roots.value p × (p.stack.items ≡ [])
+
+-- A pass that has stopped.
+abbrev pub IsHaltedOf : WordOf Question → ℕ → ℕ → Pass → Type 0
+IsHaltedOf word budget place p =
+    IsSeatOf word.name p
+    × (p.failed ≡ false → HasRun (search_of word.about) word.about.roots.value p)
+    × IsStopped budget p

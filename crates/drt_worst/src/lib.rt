@@ -1,0 +1,16 @@
+//! Exact worst response times: the greatest of the least times that pass, over all tuples of leaves below some roots.
+//!
+//! The response time of a vertex is greatest for some choice of one walk for each task of higher priority. The trees of those
+//! tasks are searched from their roots: a combination of nodes whose least time isn't above a value that was reached stands for no
+//! greater one, and is skipped; one of leaves reaches its own least time; any other is split. Each worker has a pass of its own
+//! over a part of the splitting tree, depth first, so it keeps few combinations. All passes share one word, which they only raise.
+#![tactic(auto)]
+
+mod answer;
+mod pass;
+mod plan;
+mod search;
+mod turn;
+
+pub use answer::Worst;
+pub use search::worst;

@@ -1,0 +1,170 @@
+//! What one pass owns, and one turn of it.
+ghost use Rattle.std.specs.Prelude.{◌≡◌, ◌≢◌, ℕ, ◌++◌, ◌+◌, ◌<◌, ◌≤◌, List, [], ◌∷◌, length, reverse, false, true, IfOk};
+ghost use Rattle.std.specs.Result.{OnOk};
+ghost use Rattle.drt_worst.specs.Splitting.{IsReached};
+ghost use Rattle.drt_worst.specs.Runs.{known, left_after, reaches};
+ghost use Rattle.drt_word.specs.Rising.{with_raised};
+ghost use Rattle.drt_worst.specs.Splitting.{search_for};
+ghost use Rattle.drt_worst.specs.Plans.{choice_of};
+ghost use Rattle.drt_worst.specs.Passing.{search_of, announced, best_after, leaves_after, IsSeatOf, HasRun, HasRunWith, IsReady};
+
+use crate::plan::{Plan, make_plan};
+use atomic_table::Seat;
+use drt_model::Row;
+use drt_tree::Forest;
+use drt_word::{Meaning, View, Word};
+use std::alloc::{AllocError as Memory, Global};
+use std::snapshot::Snapshot;
+
+/// What the word is about. It has no bytes but the two numbers.
+#[derive(Drop)]
+pub(crate) struct Question {
+    pub(crate) forest: Snapshot<Forest>,
+    pub(crate) roots: Snapshot<Row<u32>>,
+    pub(crate) wcet: u32,
+    pub(crate) deadline: u32,
+}
+
+impl Meaning for Question {
+    ghost is_reached = { λ q ticks. (tuple : List ℕ) × IsReached (search_of q) q.roots.value ticks tuple };
+}
+
+/// The combinations that a pass owns, and what it found.
+#[derive(Drop)]
+pub(crate) struct Pass {
+    /// What was dealt to it.
+    pub(crate) start: Row<u32>,
+    /// What is left, the next one last.
+    pub(crate) stack: Vec<Row<u32>>,
+    pub(crate) taken: Vec<Row<u32>>,
+    /// A value that was reached, as the pass knows.
+    pub(crate) known: u64,
+    /// The greatest value that the pass itself put into the word, and the combination that has it.
+    pub(crate) best: u64,
+    pub(crate) leaves: Row<u32>,
+    pub(crate) seat: Seat<(), View>,
+    pub(crate) failed: bool,
+}
+
+// The value that is known to be reached after the plan was followed.
+fn known_by(plan: &Plan, seen: u64) -> u64
+    ensures { result ≡ known seen (choice_of plan.now) }
+{
+    match plan {
+        Plan::Skips => seen,
+        Plan::Reaches(t) => *t,
+        Plan::Splits(_, _) => seen,
+    }
+}
+
+// Puts the value that was reached into the word.
+fn announce(word: &Word<Question>, seat: &mut Seat<(), View>, plan: &Plan)
+    requires name { seat.old.table_id ≡ word.now.name }
+    requires part { 0 < seat.old.me.0.parts }
+    requires reached { (t : ℕ) → choice_of plan.now ≡ reaches t → (tuple : List ℕ) × IsReached (search_of word.now.about) word.now.about.roots.value t tuple }
+    ensures name { seat.new.table_id ≡ seat.old.table_id }
+    ensures seat { seat.new.me ≡ (announced seat.old.me.0 (choice_of plan.now), seat.old.me.1) }
+{
+    match plan {
+        Plan::Skips => {}
+        Plan::Reaches(t) => word.raise(seat, *t),
+        Plan::Splits(_, _) => {}
+    }
+}
+
+// Keeps a combination that was reached.
+fn keep_best(
+    alloc: Global,
+    plan: &Plan,
+    combination: &[u32],
+    best: &mut u64,
+    leaves: &mut Row<u32>,
+) -> Result<(), Memory>
+    ensures best { OnOk result (best.new ≡ best_after best.old (choice_of plan.now)) }
+    ensures leaves { OnOk result (leaves.new ≡ leaves_after leaves.old combination.now (choice_of plan.now)) }
+{
+    match plan {
+        Plan::Skips => {}
+        Plan::Reaches(t) => {
+            let copy = Vec::from_slice(alloc, combination)?;
+            *best = *t;
+            *leaves = Row::from_vec(copy);
+        }
+        Plan::Splits(_, _) => {}
+    }
+    Ok(())
+}
+
+// Puts the parts of a combination that was split onto the stack, the left one as the next.
+fn push_parts(stack: &mut Vec<Row<u32>>, plan: Plan) -> Result<(), Memory>
+    ensures { OnOk result (reverse stack.new.items ≡ left_after (choice_of plan) (reverse stack.old.items)) }
+{
+    match plan {
+        Plan::Skips => {}
+        Plan::Reaches(_) => {}
+        Plan::Splits(left, right) => {
+            stack.push(right)?;
+            stack.push(left)?;
+        }
+    }
+    Ok(())
+}
+
+// Does with a combination what is to be done, and notes it.
+fn follow(
+    alloc: Global,
+    word: &Word<Question>,
+    forest: &Forest,
+    wcet: u32,
+    deadline: u32,
+    pass: &mut Pass,
+    combination: Row<u32>,
+) -> Result<(), Memory>
+    requires about { search_of word.now.about ≡ search_for forest.now wcet deadline }
+    requires ready { IsReady (search_for forest.now wcet deadline) word.now.about.roots.value }
+    requires seat { IsSeatOf word.now.name pass.old }
+    requires runs { HasRunWith (search_for forest.now wcet deadline) word.now.about.roots.value (combination ∷ reverse pass.old.stack.items) pass.old }
+    ensures seat { IsSeatOf word.now.name pass.new × (pass.new.start ≡ pass.old.start) }
+    ensures runs { OnOk result (HasRun (search_for forest.now wcet deadline) word.now.about.roots.value pass.new) }
+    ensures count { OnOk result (length pass.new.taken.items ≡ length pass.old.taken.items + 1) }
+{
+    let seen = word.glance(&mut pass.seat);
+    let plan = make_plan(alloc, forest, wcet, deadline, combination.as_slice(), seen)?;
+    let known = known_by(&plan, seen);
+    announce(word, &mut pass.seat, &plan);
+    keep_best(
+        alloc,
+        &plan,
+        combination.as_slice(),
+        &mut pass.best,
+        &mut pass.leaves,
+    )?;
+    push_parts(&mut pass.stack, plan)?;
+    pass.taken.push(combination)?;
+    pass.known = known;
+    Ok(())
+}
+
+/// AreTaken the next combination.
+pub(crate) fn take(
+    alloc: Global,
+    word: &Word<Question>,
+    forest: &Forest,
+    wcet: u32,
+    deadline: u32,
+    pass: &mut Pass,
+) -> Result<(), Memory>
+    requires about { search_of word.now.about ≡ search_for forest.now wcet deadline }
+    requires ready { IsReady (search_for forest.now wcet deadline) word.now.about.roots.value }
+    requires seat { IsSeatOf word.now.name pass.old }
+    requires runs { HasRun (search_for forest.now wcet deadline) word.now.about.roots.value pass.old }
+    requires some { pass.old.stack.items ≢ [] }
+    ensures seat { IsSeatOf word.now.name pass.new × (pass.new.start ≡ pass.old.start) }
+    ensures runs { OnOk result (HasRun (search_for forest.now wcet deadline) word.now.about.roots.value pass.new) }
+    ensures count { OnOk result (length pass.new.taken.items ≡ length pass.old.taken.items + 1) }
+{
+    match pass.stack.pop() {
+        Some(combination) => follow(alloc, word, forest, wcet, deadline, pass, combination),
+        None => unreachable!(),
+    }
+}

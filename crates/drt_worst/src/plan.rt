@@ -1,0 +1,106 @@
+//! What to do with a combination.
+
+ghost use Rattle.std.specs.Prelude.{◌≡◌, ℕ, ◌<◌, ◌≤◌, length, Some, IfSome, IfOk, slice_set};
+ghost use Rattle.drt_steps.specs.Time.{IsLeastTimeOf};
+ghost use Rattle.drt_refine.specs.Below.{AreNodes, IsConcrete};
+ghost use Rattle.drt_refine.specs.Eager.{IsPlace};
+ghost use Rattle.drt_worst.specs.Splitting.{IsSplit, PassesFor, search_for};
+ghost use Rattle.drt_worst.specs.Runs.{IsFit};
+ghost use Rattle.drt_worst.specs.Plans.{choice_of, CanTake};
+
+use drt_model::Row;
+use drt_refine::choose_place;
+use drt_steps::least_time;
+use drt_tree::Forest;
+use std::alloc::{AllocError as Memory, Global};
+
+/// What is done with a combination: it is skipped, or its least time is reached, or it is split into two parts.
+#[derive(Drop)]
+pub(crate) enum Plan {
+    Skips,
+    Reaches(u64),
+    Splits(Row<u32>, Row<u32>),
+}
+
+// A copy of a combination with another node at a place.
+fn with_node(alloc: Global, nodes: &[u32], place: usize, node: u32) -> Result<Row<u32>, Memory>
+    requires { place < length nodes.now }
+    ensures { IfOk result (λ r. r ≡ slice_set nodes.now place node) }
+{
+    let mut copy = Vec::from_slice(alloc, nodes)?;
+    copy[place] = node;
+    Ok(Row::from_vec(copy))
+}
+
+/// The two parts of a combination, which is split at the place.
+pub(crate) fn halves(
+    alloc: Global,
+    forest: &Forest,
+    nodes: &[u32],
+    place: u32,
+) -> Result<(Row<u32>, Row<u32>), Memory>
+    requires nodes { AreNodes forest.now nodes.now }
+    requires place { IsPlace forest.now nodes.now (Some place) }
+    ensures { IfOk result (λ r. IsSplit forest.now nodes.now r.0 r.1) }
+{
+    let place = place as usize;
+    match forest.children(nodes[place]) {
+        Some((left, right)) => {
+            let left = with_node(alloc, nodes, place, left)?;
+            let right = with_node(alloc, nodes, place, right)?;
+            Ok((left, right))
+        }
+        None => unreachable!(),
+    }
+}
+
+/// What to do with a combination, where the value `seen` was reached.
+pub(crate) fn make_plan(
+    alloc: Global,
+    forest: &Forest,
+    wcet: u32,
+    deadline: u32,
+    nodes: &[u32],
+    seen: u64,
+) -> Result<Plan, Memory>
+    requires wcet { wcet ≤ 1000000 }
+    requires take { CanTake forest.now deadline nodes.now }
+    requires some { IsConcrete forest.now nodes.now → (t : ℕ) × PassesFor (search_for forest.now wcet deadline) nodes.now t }
+    ensures { IfOk result (λ p. IsFit (search_for forest.now wcet deadline) nodes.now seen (choice_of p)) }
+{
+    let least = least_time(wcet as u64, deadline as u64, forest.all(), nodes);
+    if let Some(time) = least {
+        if time <= seen {
+            return Ok(Plan::Skips);
+        }
+    }
+    split_or_reach(alloc, forest, wcet, deadline, nodes, seen, least)
+}
+
+// The same where the least time isn't at most `seen`.
+fn split_or_reach(
+    alloc: Global,
+    forest: &Forest,
+    wcet: u32,
+    deadline: u32,
+    nodes: &[u32],
+    seen: u64,
+    least: Option<u64>,
+) -> Result<Plan, Memory>
+    requires take { CanTake forest.now deadline nodes.now }
+    requires some { IsConcrete forest.now nodes.now → (t : ℕ) × PassesFor (search_for forest.now wcet deadline) nodes.now t }
+    requires least { IsLeastTimeOf wcet deadline forest.now.pool nodes.now least }
+    requires above { IfSome least (λ t. seen < t) }
+    ensures { IfOk result (λ p. IsFit (search_for forest.now wcet deadline) nodes.now seen (choice_of p)) }
+{
+    match choose_place(forest, nodes) {
+        Some(place) => {
+            let (left, right) = halves(alloc, forest, nodes, place)?;
+            Ok(Plan::Splits(left, right))
+        }
+        None => match least {
+            Some(time) => Ok(Plan::Reaches(time)),
+            None => unreachable!(),
+        },
+    }
+}

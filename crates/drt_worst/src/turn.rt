@@ -1,0 +1,63 @@
+//! The turns of the passes.
+ghost use Rattle.std.specs.Prelude.{◌≡◌, ◌≢◌, ℕ, ◌≤◌, Some, slice_get};
+ghost use Rattle.drt_pool.specs.Turns.{IsStop};
+ghost use Rattle.drt_worst.specs.Jobs.{IsPassOf, IsStopped};
+
+use crate::pass::{Pass, Question, take};
+use drt_model::Row;
+use drt_pool::{Turn, Work};
+use drt_tree::Forest;
+use drt_word::Word;
+use std::alloc::Global;
+use std::sync::Wait;
+
+/// What all passes work on.
+#[derive(Drop)]
+pub(crate) struct Job<'a, 'b> {
+    pub(crate) alloc: Global,
+    pub(crate) word: &'a Word<Question>,
+    pub(crate) forest: &'b Forest,
+    pub(crate) wcet: u32,
+    pub(crate) deadline: u32,
+    pub(crate) budget: u64,
+    /// What was dealt to the pass at each place.
+    pub(crate) dealt: &'b [Row<u32>],
+}
+
+/// One turn of a pass: it stops where nothing is left, where it took as many as its budget, or where it found no memory.
+pub(crate) fn turn_of(job: &Job<'_, '_>, pass: &mut Pass) -> Turn
+    requires { IsPassOf job.now pass.old }
+    ensures kept { IsPassOf job.now pass.new }
+    ensures start { pass.new.start ≡ pass.old.start }
+    ensures stopped { IsStop result → IsStopped job.now.budget pass.new }
+{
+    if pass.failed || pass.stack.is_empty() || pass.taken.len() as u64 >= job.budget {
+        return Turn::Stop;
+    }
+    match take(
+        job.alloc,
+        job.word,
+        job.forest,
+        job.wcet,
+        job.deadline,
+        pass,
+    ) {
+        Ok(()) => {}
+        Err(_) => {
+            pass.failed = true;
+        }
+    }
+    Turn::More
+}
+
+impl Work for Job<'_, '_> {
+    type Pass = Pass;
+
+    ghost fits = { λ job place p. IsPassOf job p × (slice_get job.dealt.now place ≡ Some p.start) };
+
+    ghost ended = { λ job place p. IsStopped job.budget p };
+
+    fn turn<R: Wait>(&self, _rt: &R, pass: &mut Pass) -> Turn {
+        turn_of(self, pass)
+    }
+}
