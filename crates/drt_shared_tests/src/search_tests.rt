@@ -1,0 +1,168 @@
+//! Whole searches, by several numbers of workers.
+
+ghost use Rattle.std.specs.Prelude.{◌≤◌};
+
+use drt_demand::DemandLabel;
+use drt_fixtures::{Shape, make_set};
+use drt_graph::check;
+use drt_pool::{Gate, OpenGate};
+use drt_search::search_together;
+use drt_table::{Table, TableReply};
+use std::alloc::Global;
+use std::sync::Wait;
+use std::sync::atomic::{AtomicBool, AtomicU64, Ordering};
+use std::test::Fail;
+use std::thread;
+use std::thread::Threads;
+
+const LOOKS: u32 = 1_000_000;
+
+// A ring of six vertices (1,1) with separations of 1: the walk of k + 1 vertices that ends at one of them has the offset k and the
+// work k + 1, and no other walk ends there with that offset.
+const RING: Shape<'static> = (
+    &[(1, 1), (1, 1), (1, 1), (1, 1), (1, 1), (1, 1)],
+    &[
+        (0, 1, 1),
+        (1, 2, 1),
+        (2, 3, 1),
+        (3, 4, 1),
+        (4, 5, 1),
+        (5, 0, 1),
+    ],
+);
+
+// The search of the ring's walks up to the bound.
+fn search_ring<G: Gate, R: Threads + Wait + Sync>(
+    rt: &R,
+    alloc: Global,
+    bound: u64,
+    budget: u64,
+    workers: u32,
+    gate: &G,
+) -> Result<(Table<DemandLabel>, TableReply), Fail>
+    requires bound { bound ≤ 1000 }
+    requires budget { (1 ≤ budget) × (budget ≤ 1000000) }
+    requires workers { (1 ≤ workers) × (workers ≤ 16) }
+{
+    let set = make_set(alloc, &[RING])?.ok_or("within the limits")?;
+    let graphs = check(alloc, &set).ok().ok_or("constrained")?;
+    if graphs.count() == 0 {
+        return Err("a task".into());
+    }
+    Ok(search_together(rt, alloc, graphs.graph(0), bound, budget, workers, gate)?)
+}
+
+// Whether the table has one node for each vertex of the ring and each offset below the bound, each kept and with its work.
+fn has_ring(table: &Table<DemandLabel>, bound: u64) -> bool {
+    let count = table.node_count();
+    if count > 6_000 || count as u64 != bound.saturating_mul(6) {
+        return false;
+    }
+    'nodes: for id in 0..count {
+        let node = table.node(id as u32);
+        let label = *node.label();
+        if node.dropped_by().is_some() || label.offset >= bound || label.work != label.offset + 1 {
+            return false;
+        }
+    }
+    true
+}
+
+// Whether so many workers find the ring's walks up to the bound, in three steps for each.
+fn finds_ring<R: Threads + Wait + Sync>(
+    rt: &R,
+    alloc: Global,
+    bound: u64,
+    workers: u32,
+) -> Result<bool, Fail>
+    requires bound { bound ≤ 1000 }
+    requires workers { (1 ≤ workers) × (workers ≤ 16) }
+{
+    let (table, reply) = search_ring(rt, alloc, bound, 1_000_000, workers, &OpenGate)?;
+    Ok(
+        reply == TableReply::Finished
+            && table.log().len() as u64 == bound.saturating_mul(18)
+            && has_ring(&table, bound),
+    )
+}
+
+// The first search is over before a second worker is begun, and the others aren't.
+#[test]
+fn any_number_of_workers_finds_the_same_labels(rt: HostRuntime) -> Result<(), Fail> {
+    for bound in [5u64, 300, 1000] {
+        for workers in [1u32, 2, 4, 16] {
+            assert!(rt;
+                finds_ring(&rt, rt.alloc(), bound, workers)?,
+                "{workers} up to {bound}"
+            );
+        }
+    }
+    Ok(())
+}
+
+// Whether so many workers spend the budget.
+fn is_spent<R: Threads + Wait + Sync>(
+    rt: &R,
+    alloc: Global,
+    budget: u64,
+    workers: u32,
+) -> Result<bool, Fail>
+    requires budget { (1 ≤ budget) × (budget ≤ 1000000) }
+    requires workers { (1 ≤ workers) × (workers ≤ 16) }
+{
+    let (table, reply) = search_ring(rt, alloc, 300, budget, workers, &OpenGate)?;
+    Ok(reply == TableReply::Spent && table.log().len() as u64 == budget && !table.finished())
+}
+
+#[test]
+fn a_budget_is_spent_by_any_number_of_workers(rt: HostRuntime) -> Result<(), Fail> {
+    for budget in [1u64, 5_399] {
+        for workers in [1u32, 2, 16] {
+            assert!(rt;
+                is_spent(&rt, rt.alloc(), budget, workers)?,
+                "{budget} of {workers}"
+            );
+        }
+    }
+    assert!(rt; !is_spent(&rt, rt.alloc(), 5_400, 4)?);
+    Ok(())
+}
+
+// It holds the first turn of each of two workers until the other has come to its own.
+#[derive(Drop)]
+struct Meeting {
+    come: AtomicU64,
+    is_missed: AtomicBool,
+}
+
+impl Gate for Meeting {
+    fn before(&self, _worker: u32, turn: u64) {
+        if turn > 0 {
+            return;
+        }
+        self.come.fetch_add(1, Ordering::SeqCst);
+        for _ in 0..LOOKS {
+            if self.come.load(Ordering::SeqCst) == 2 {
+                return;
+            }
+            thread::yield_now();
+        }
+        self.is_missed.store(true, Ordering::SeqCst);
+    }
+
+    fn alone(&self) -> u64 {
+        0
+    }
+}
+
+#[test]
+fn two_workers_search_at_the_same_time(rt: HostRuntime) -> Result<(), Fail> {
+    let gate = Meeting {
+        come: AtomicU64::new(0),
+        is_missed: AtomicBool::new(false),
+    };
+    let (table, reply) = search_ring(&rt, rt.alloc(), 5, 1_000, 2, &gate)?;
+    assert!(rt; reply == TableReply::Finished && has_ring(&table, 5));
+    assert!(rt; gate.come.load(Ordering::SeqCst) == 2 && !gate.is_missed.load(Ordering::SeqCst));
+    Ok(())
+}

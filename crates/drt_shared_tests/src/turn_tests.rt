@@ -1,0 +1,267 @@
+//! Turns of passes, all in one thread.
+
+ghost use Rattle.std.specs.Prelude.{◌≡◌, ◌≤◌, length};
+ghost use Rattle.drt_demand.specs.Demand.{demand_algebra};
+ghost use Rattle.drt_pool.specs.Turns.{EachPlace};
+ghost use Rattle.drt_shared.specs.Passes.{IsPassOf};
+
+use drt_demand::DemandLabel;
+use drt_fixtures::{Shape, make_set};
+use drt_graph::{Graph, Graphs, check};
+use drt_model::Row;
+use drt_pool::Turn;
+use drt_search::{drive_on, take_turn};
+use drt_shared::{Pass, SharedReply, SharedTable};
+use drt_table::{Table, TableReply};
+use std::alloc::Global;
+use std::sync::Wait;
+use std::test::Fail;
+
+// The vertices p(1,1), q(2,1), m(1,1) with the edges p-m 1, q-m 1 and m-m 3.
+const THREE: Shape<'static> = (
+    &[(1, 1), (2, 1), (1, 1)],
+    &[(0, 2, 1), (1, 2, 1), (2, 2, 3)],
+);
+
+// The turns of three workers on its table up to 5, with their replies.
+const TURNS: [(usize, TableReply); 18] = [
+    (0, TableReply::Taken(0)),
+    (1, TableReply::Taken(1)),
+    (0, TableReply::Added(3)),
+    (0, TableReply::Closed),
+    (2, TableReply::Taken(2)),
+    (0, TableReply::Busy(1)),
+    (1, TableReply::Added(4)),
+    (1, TableReply::Closed),
+    (2, TableReply::Dominated(4)),
+    (2, TableReply::Closed),
+    (0, TableReply::Taken(4)),
+    (1, TableReply::Busy(4)),
+    (0, TableReply::Added(5)),
+    (0, TableReply::Closed),
+    (1, TableReply::Taken(5)),
+    (1, TableReply::OutOfRange),
+    (1, TableReply::Closed),
+    (0, TableReply::Finished),
+];
+
+fn graphs_of_three(alloc: Global) -> Result<Graphs, Fail> {
+    let set = make_set(alloc, &[THREE])?.ok_or("within the limits")?;
+    Ok(check(alloc, &set).ok().ok_or("constrained")?)
+}
+
+// Makes the turn of a worker, and says whether it has that reply, and is the worker's last only where it should be.
+fn has_reply<R: Wait>(
+    rt: &R,
+    alloc: Global,
+    graph: &Graph,
+    shared: &SharedTable<DemandLabel>,
+    passes: &mut [Pass<DemandLabel>],
+    worker: usize,
+    wanted: SharedReply,
+    turn: Turn,
+) -> bool
+    requires graph { graph.now ≡ shared.now.setting.graph }
+    requires passes { EachPlace (λ place p. IsPassOf demand_algebra shared.now p) passes.old }
+    ensures count { length passes.new ≡ length passes.old }
+    ensures passes { EachPlace (λ place p. IsPassOf demand_algebra shared.now p) passes.new }
+{
+    if worker >= passes.len() {
+        return false;
+    }
+    let turned = take_turn(rt, alloc, graph, shared, &mut passes[worker]);
+    turned.reply == Some(wanted) && turned.turn == turn
+}
+
+// Makes the turns of these workers one after another, and says whether each has its reply.
+fn have_replies<R: Wait>(
+    rt: &R,
+    alloc: Global,
+    graph: &Graph,
+    shared: &SharedTable<DemandLabel>,
+    passes: &mut [Pass<DemandLabel>],
+    turns: &[(usize, TableReply)],
+) -> bool
+    requires graph { graph.now ≡ shared.now.setting.graph }
+    requires passes { EachPlace (λ place p. IsPassOf demand_algebra shared.now p) passes.old }
+    ensures count { length passes.new ≡ length passes.old }
+    ensures passes { EachPlace (λ place p. IsPassOf demand_algebra shared.now p) passes.new }
+{
+    let mut are_so = true;
+    'turns: for i in 0..turns.len() {
+        let (worker, reply) = turns[i];
+        let turn = if reply == TableReply::Finished {
+            Turn::Stop
+        } else {
+            Turn::More
+        };
+        let wanted = SharedReply::Step(reply);
+        let is_so = has_reply(rt, alloc, graph, shared, passes, worker, wanted, turn);
+        are_so = are_so && is_so;
+    }
+    are_so
+}
+
+// Whether the passes counted so many logged steps.
+fn have_counts(passes: &[Pass<DemandLabel>], wanted: &[u64]) -> bool {
+    if passes.len() != wanted.len() {
+        return false;
+    }
+    'passes: for i in 0..passes.len() {
+        if passes[i].count() != wanted[i] || passes[i].held().is_some() {
+            return false;
+        }
+    }
+    true
+}
+
+// Whether all nodes of the table are kept but those that another one is said to have dropped.
+fn are_kept_but(table: &Table<DemandLabel>, count: usize, dropped: &[(usize, u32)]) -> bool {
+    if table.node_count() != count || count > 1_000_000 {
+        return false;
+    }
+    'nodes: for id in 0..count {
+        let mut wanted = None;
+        'drops: for j in 0..dropped.len() {
+            if dropped[j].0 == id {
+                wanted = Some(dropped[j].1);
+            }
+        }
+        if table.node(id as u32).dropped_by() != wanted {
+            return false;
+        }
+    }
+    true
+}
+
+#[test]
+fn three_workers_step_one_shared_table(rt: HostRuntime) -> Result<(), Fail> {
+    let alloc = rt.alloc();
+    let graphs = graphs_of_three(alloc)?;
+    if graphs.count() == 0 {
+        return Err("a task".into());
+    }
+    let graph = graphs.graph(0);
+    let (shared, passes) = SharedTable::start(alloc, graph, 5, 1000, 3)?;
+    let mut passes = passes.into_vec();
+    assert!(rt; have_replies(&rt, alloc, graph, &shared, passes.as_mut_slice(), &TURNS));
+    assert!(rt; have_counts(passes.as_slice(), &[6, 6, 3]));
+    let end = shared.finish(Row::from_vec(passes));
+    assert!(rt; !end.halted && end.table.finished() && end.table.log().len() == 15);
+    assert!(rt; are_kept_but(&end.table, 6, &[(3, 4)]));
+    Ok(())
+}
+
+// Halts the search with the pass at that place, if there is one.
+fn halt_by(shared: &SharedTable<DemandLabel>, passes: &mut [Pass<DemandLabel>], place: usize)
+    requires { EachPlace (λ place p. IsPassOf demand_algebra shared.now p) passes.old }
+    ensures count { length passes.new ≡ length passes.old }
+    ensures passes { EachPlace (λ place p. IsPassOf demand_algebra shared.now p) passes.new }
+{
+    if place < passes.len() {
+        shared.halt(&mut passes[place]);
+    }
+}
+
+// A table that worker 0 took a node of, and that worker 1 then halted: whether each worker's next turn finds the mark and is its
+// last, with the table and the passes.
+fn halted<R: Wait>(
+    rt: &R,
+    alloc: Global,
+    graph: &Graph,
+    shared: &SharedTable<DemandLabel>,
+    passes: &mut [Pass<DemandLabel>],
+) -> bool
+    requires graph { graph.now ≡ shared.now.setting.graph }
+    requires passes { EachPlace (λ place p. IsPassOf demand_algebra shared.now p) passes.old }
+    ensures count { length passes.new ≡ length passes.old }
+    ensures passes { EachPlace (λ place p. IsPassOf demand_algebra shared.now p) passes.new }
+{
+    let taken = have_replies(
+        rt,
+        alloc,
+        graph,
+        shared,
+        passes,
+        &[(0, TableReply::Taken(0))],
+    );
+    halt_by(shared, passes, 1);
+    let first = has_reply(
+        rt,
+        alloc,
+        graph,
+        shared,
+        passes,
+        0,
+        SharedReply::Halted,
+        Turn::Stop,
+    );
+    let second = has_reply(
+        rt,
+        alloc,
+        graph,
+        shared,
+        passes,
+        1,
+        SharedReply::Halted,
+        Turn::Stop,
+    );
+    taken && first && second
+}
+
+#[test]
+fn a_halted_search_makes_no_more_steps(rt: HostRuntime) -> Result<(), Fail> {
+    let alloc = rt.alloc();
+    let graphs = graphs_of_three(alloc)?;
+    if graphs.count() == 0 {
+        return Err("a task".into());
+    }
+    let graph = graphs.graph(0);
+    let (shared, passes) = SharedTable::start(alloc, graph, 5, 1000, 2)?;
+    let mut passes = passes.into_vec();
+    assert!(rt; halted(&rt, alloc, graph, &shared, passes.as_mut_slice()));
+    let end = shared.finish(Row::from_vec(passes));
+    assert!(rt; end.halted && end.table.log().len() == 1);
+    Ok(())
+}
+
+#[test]
+fn a_halted_search_ends_as_want_of_memory(rt: HostRuntime) -> Result<(), Fail> {
+    let alloc = rt.alloc();
+    let graphs = graphs_of_three(alloc)?;
+    if graphs.count() == 0 {
+        return Err("a task".into());
+    }
+    let graph = graphs.graph(0);
+    let (shared, passes) = SharedTable::start(alloc, graph, 5, 1000, 2)?;
+    let mut passes = passes.into_vec();
+    halt_by(&shared, passes.as_mut_slice(), 1);
+    assert!(rt; drive_on(alloc, shared, Row::from_vec(passes)).is_err());
+    Ok(())
+}
+
+#[test]
+fn what_the_workers_left_over_is_driven(rt: HostRuntime) -> Result<(), Fail> {
+    let alloc = rt.alloc();
+    let graphs = graphs_of_three(alloc)?;
+    if graphs.count() == 0 {
+        return Err("a task".into());
+    }
+    let graph = graphs.graph(0);
+    let (shared, passes) = SharedTable::start(alloc, graph, 5, 1000, 3)?;
+    let mut passes = passes.into_vec();
+    assert!(rt;
+        have_replies(
+            &rt,
+            alloc,
+            graph,
+            &shared,
+            passes.as_mut_slice(),
+            &TURNS[..7]
+        )
+    );
+    let (table, reply) = drive_on(alloc, shared, Row::from_vec(passes))?;
+    assert!(rt; reply == TableReply::Finished && table.log().len() == 15);
+    assert!(rt; are_kept_but(&table, 6, &[(3, 4)]));
+    Ok(())
+}
