@@ -11,6 +11,8 @@ mod edf;
 #[cfg(test)]
 mod fixed;
 #[cfg(test)]
+mod racing;
+#[cfg(test)]
 mod running;
 #[cfg(test)]
 mod util;

@@ -1,7 +1,7 @@
 //! One run over memory, and what a case says of it.
 use drt_io::{MemorySink, MemorySource};
 use drt_model::{Memory, Row};
-use drt_pool::OpenGate;
+use drt_pool::{Gate, OpenGate};
 use drt_top::{Fault, Outcome, notice, run};
 use std::alloc::Global;
 use std::sync::Wait;
@@ -80,23 +80,34 @@ pub(crate) fn perform(
     alloc: Global,
     given: Given<'_>,
 ) -> Result<(Outcome, Vec<u8>), Fail> {
+    perform_by(rt, alloc, given, &OpenGate)
+}
+
+/// The same, where the gate sees each turn of the workers.
+pub(crate) fn perform_by<G: Gate>(
+    rt: &(impl Threads + Wait + Sync),
+    alloc: Global,
+    given: Given<'_>,
+    gate: &G,
+) -> Result<(Outcome, Vec<u8>), Fail> {
     let words = split_words(alloc, given.words)?;
     let mut source = make_source(alloc, given)?;
     let mut sink = make_sink(alloc, given)?;
-    let outcome = run_over_memory(rt, alloc, words.as_slice(), &mut source, &mut sink);
+    let outcome = run_over_memory(rt, alloc, words.as_slice(), &mut source, &mut sink, gate);
     let held = Vec::from_slice(alloc, sink.bytes())?;
     Ok((outcome, held))
 }
 
 // The top call, without its clauses, so that no caller carries them.
-fn run_over_memory(
+fn run_over_memory<G: Gate>(
     rt: &(impl Threads + Wait + Sync),
     alloc: Global,
     words: &[String],
     source: &mut MemorySource,
     sink: &mut MemorySink,
+    gate: &G,
 ) -> Outcome {
-    run(rt, alloc, words, source, sink, &OpenGate)
+    run(rt, alloc, words, source, sink, gate)
 }
 
 /// The program's name, and these words behind it.

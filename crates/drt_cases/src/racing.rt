@@ -1,0 +1,180 @@
+//! Runs by several workers.
+use crate::running::{give, is_joined, perform, perform_by};
+use drt_fixtures::texts::{
+    BRANCHING, BRANCHING_LATE, ENGINE, FIFTHS_AND_SEVENTHS, HALVES, JUST_DONE, LATE, OVERLOADED,
+    PERIODIC, SPLIT, TOO_LITTLE_ROOM,
+};
+use drt_pool::Gate;
+use drt_table::{Entry, TableStep};
+use drt_top::Trail;
+use std::alloc::Global;
+use std::sync::Wait;
+use std::sync::atomic::{AtomicBool, AtomicU64, Ordering};
+use std::test::Fail;
+use std::thread;
+use std::thread::Threads;
+
+const LOOKS: u32 = 1_000_000;
+
+// It holds the turn of one number of each of two workers until the other has come to its own as often.
+#[derive(Drop)]
+struct Meeting {
+    turn: u64,
+    come: [AtomicU64; 2],
+    is_missed: AtomicBool,
+}
+
+impl Meeting {
+    fn at(turn: u64) -> Meeting {
+        Meeting {
+            turn,
+            come: [AtomicU64::new(0), AtomicU64::new(0)],
+            is_missed: AtomicBool::new(false),
+        }
+    }
+
+    // Whether each worker came, as often as the other, and none waited in vain.
+    fn has_met(&self) -> bool {
+        let first = self.come[0].load(Ordering::SeqCst);
+        let second = self.come[1].load(Ordering::SeqCst);
+        !self.is_missed.load(Ordering::SeqCst) && first > 0 && first == second
+    }
+}
+
+impl Gate for Meeting {
+    fn before(&self, worker: u32, turn: u64) {
+        if turn != self.turn || worker > 1 {
+            return;
+        }
+        let place = worker as usize;
+        let times = self.come[place].fetch_add(1, Ordering::SeqCst);
+        for _ in 0..LOOKS {
+            if self.come[1 - place].load(Ordering::SeqCst) > times {
+                return;
+            }
+            thread::yield_now();
+        }
+        self.is_missed.store(true, Ordering::SeqCst);
+    }
+
+    fn alone(&self) -> u64 {
+        0
+    }
+}
+
+// Whether the set is answered so by two workers that begin together.
+fn is_answered_together(
+    rt: &(impl Threads + Wait + Sync),
+    alloc: Global,
+    text: &str,
+    status: u8,
+    pieces: &[&str],
+) -> Result<bool, Fail> {
+    let gate = Meeting::at(0);
+    let input = [text];
+    let given = give("edf --workers 2", input.as_slice());
+    let (outcome, held) = perform_by(rt, alloc, given, &gate)?;
+    Ok(outcome.status == status && is_joined(held.as_slice(), pieces) && gate.has_met())
+}
+
+#[test]
+fn two_workers_begin_a_search_together(rt: HostRuntime) -> Result<(), Fail> {
+    let head = "drt-dossier 1\npolicy edf\n";
+    let evidence =
+        "evidence edf-no\nreleases 2\nrelease 0 1 0 4\nrelease 1 0 0 3\nmiss 0 0 6\nclose\n";
+    let pieces = [head, BRANCHING_LATE, evidence];
+    assert!(rt; is_answered_together(&rt, rt.alloc(), BRANCHING_LATE, 1, pieces.as_slice())?);
+    Ok(())
+}
+
+// Whether the entries from some place on have an offer of the first edge of that node by the worker.
+fn has_offer(log: &[Entry], from: usize, worker: u32, node: u32) -> bool {
+    for i in from..log.len() {
+        if log[i].worker == worker && log[i].step == (TableStep::Offer { node, edge: 0 }) {
+            return true;
+        }
+    }
+    false
+}
+
+// Whether the log has one Take of each of two workers, and behind it an offer of the first edge of the node that it took. The
+// first Take gave node 0, and the second one node 1.
+fn took_and_offered(log: &[Entry]) -> bool {
+    let mut taken = 0u32;
+    let mut takers = [0u32; 2];
+    for i in 0..log.len() {
+        if log[i].step == TableStep::Take {
+            let worker = log[i].worker;
+            if taken > 1 || worker > 1 || !has_offer(log, i, worker, taken) {
+                return false;
+            }
+            takers[worker as usize] = takers[worker as usize].saturating_add(1);
+            taken += 1;
+        }
+    }
+    log.len() == 4 && takers == [1, 1]
+}
+
+// Whether two workers that wait for one another before their third turns spend a budget of four steps together.
+fn is_spent_together(rt: &(impl Threads + Wait + Sync), alloc: Global) -> Result<bool, Fail> {
+    let gate = Meeting::at(2);
+    let input = [BRANCHING_LATE];
+    let given = give("edf --workers 2 --budget 4", input.as_slice());
+    let (outcome, _held) = perform_by(rt, alloc, given, &gate)?;
+    let are_logged = match outcome.trail {
+        Trail::Table { task, log } => task == 0 && took_and_offered(log.as_slice()),
+        _ => false,
+    };
+    Ok(outcome.status == 3 && are_logged && gate.has_met())
+}
+
+#[test]
+fn two_workers_spend_a_budget_together(rt: HostRuntime) -> Result<(), Fail> {
+    assert!(rt; is_spent_together(&rt, rt.alloc())?);
+    Ok(())
+}
+
+// Whether a run of the command by so many workers has that status.
+fn has_status(
+    rt: &(impl Threads + Wait + Sync),
+    alloc: Global,
+    command: &str,
+    workers: u32,
+    text: &str,
+    status: u8,
+) -> Result<bool, Fail> {
+    let words = format!(in alloc; "{command} --workers {workers}")?;
+    let (outcome, _held) = perform(rt, alloc, give(words.as_str(), &[text]))?;
+    Ok(outcome.status == status)
+}
+
+#[test]
+fn the_verdict_is_that_of_any_number_of_workers(rt: HostRuntime) -> Result<(), Fail> {
+    let cases = [
+        ("edf", PERIODIC, 0u8),
+        ("edf", LATE, 1),
+        ("edf", HALVES, 2),
+        ("edf", FIFTHS_AND_SEVENTHS, 0),
+        ("edf", BRANCHING_LATE, 1),
+        ("edf", BRANCHING, 0),
+        ("edf", OVERLOADED, 1),
+        ("edf", ENGINE, 0),
+        ("sp", PERIODIC, 0),
+        ("sp", LATE, 1),
+        ("sp", HALVES, 1),
+        ("sp", FIFTHS_AND_SEVENTHS, 1),
+        ("sp", SPLIT, 0),
+        ("sp", JUST_DONE, 0),
+        ("sp", TOO_LITTLE_ROOM, 1),
+        ("sp", ENGINE, 0),
+    ];
+    for (command, text, status) in cases {
+        for workers in [1u32, 2, 4, 16] {
+            assert!(rt;
+                has_status(&rt, rt.alloc(), command, workers, text, status)?,
+                "{command} by {workers} of {text}"
+            );
+        }
+    }
+    Ok(())
+}
