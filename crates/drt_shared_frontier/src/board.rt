@@ -139,7 +139,7 @@ impl Board {
 }
 
 // Whether the pass holds something and has a copy of these nodes.
-fn is_copy(held: Option<u32>, nodes: &[u32], its: &[u32]) -> bool
+pub(crate) fn is_copy(held: Option<u32>, nodes: &[u32], its: &[u32]) -> bool
     ensures { MatchBool result ((k : ℕ) × (held ≡ Some k) × (nodes.now ≡ its.now)) ((k : ℕ) → held ≡ Some k → nodes.now ≢ its.now) }
 {
     match held {

@@ -14,6 +14,8 @@ mod passes;
 mod refinement;
 mod shared;
 mod terms;
+#[cfg(test)]
+mod tests;
 
 pub use answer::{FrontierAnswer, FrontierFound};
 pub use pass::FrontierPass;
