@@ -11,7 +11,7 @@ use drt_tree::Forest;
 use std::alloc::Global;
 use std::sync::Arc;
 
-/// How far the functions of all trees go, in ticks.
+// How far the functions of the small trees go, in ticks.
 const BOUND: u64 = 5;
 
 // Whether the functions of all labels go to the bound.
@@ -31,14 +31,15 @@ fn walk(alloc: Global, vertices: &[u32]) -> Result<Row<u32>, Memory> {
     Ok(Row::from_vec(Vec::from_slice(alloc, vertices)?))
 }
 
-// The forest of one tree over these labels and walks, and its root; none where they can't be those of one.
+// The forest of one tree over these labels and walks, whose functions go to the bound, and its root; none where they can't be those of one.
 fn tree(
     alloc: Global,
+    bound: u64,
     labels: &[Arc<RequestLabel>],
     walks: &[Row<u32>],
 ) -> Result<Option<(Forest, u32)>, Memory> {
-    let is_whole = labels.len() >= 1 && labels.len() == walks.len() && labels.len() <= 1000;
-    if !(go_to(BOUND, labels) && is_whole) {
+    let is_whole = labels.len() >= 1 && labels.len() == walks.len() && labels.len() <= 100_000;
+    if !(go_to(bound, labels) && is_whole) {
         return Ok(None);
     }
     let mut forest = Forest::empty(alloc);
@@ -53,7 +54,7 @@ pub fn two_walks(alloc: Global) -> Result<Option<(Forest, u32)>, Memory> {
         Arc::new(alloc, RequestLabel::opening(alloc, 1, 2, BOUND)?)?,
     ];
     let walks = [walk(alloc, &[0])?, walk(alloc, &[1])?];
-    tree(alloc, &labels, &walks)
+    tree(alloc, BOUND, &labels, &walks)
 }
 
 /// The tree of three walks, up to 5 ticks: one of 2 ticks, which is leaf 0, one of 3 ticks, which is leaf 1, and one of 2 ticks and 2
@@ -70,5 +71,23 @@ pub fn three_walks(alloc: Global) -> Result<Option<(Forest, u32)>, Memory> {
         walk(alloc, &[1])?,
         walk(alloc, &[1, 1])?,
     ];
-    tree(alloc, &labels, &walks)
+    tree(alloc, BOUND, &labels, &walks)
+}
+
+/// The tree of so many walks, counted from 0, each with a window of 5 ticks of its own: a job of 1 tick with walk i ahead of it is
+/// done from 10·i + 10 to 10·i + 14, and not again up to the bound of 10·(walks + 1) ticks, since there the walk's second job has come.
+/// Where two walks can be taken it is never done. None where there is no walk or more than 50,000.
+pub fn windows(alloc: Global, walks: u32) -> Result<Option<(Forest, u32)>, Memory> {
+    if walks == 0 || walks > 50_000 {
+        return Ok(None);
+    }
+    let bound = 10 * (walks as u64 + 1);
+    let mut labels = Vec::new(alloc);
+    let mut rows = Vec::new(alloc);
+    for i in 0..walks {
+        let first = RequestLabel::opening(alloc, 0, 10 * i + 9, bound)?;
+        labels.push(Arc::new(alloc, first.extend(alloc, 10 * i + 14, 0, bound as u32)?)?)?;
+        rows.push(walk(alloc, &[0, i])?)?;
+    }
+    tree(alloc, bound, labels.as_slice(), rows.as_slice())
 }
