@@ -8,20 +8,10 @@ use Rattle.drt_worklist.proofs.Lists.{Found, found}
 use Rattle.drt_evidence.specs.declared.evidence.Item.{Item}
 use Rattle.drt_refine.specs.Below.{AreBelow, IsConcrete}
 use Rattle.drt_refine.specs.Combination.{Combination, is_failed}
-use Rattle.drt_refine.specs.Eager.{IsEager}
 use Rattle.drt_refine.specs.Facts.{IsPassed}
-use Rattle.drt_refine.specs.Machine.{Setting, State, IsHopeless, opening_state}
+use Rattle.drt_refine.specs.Machine.{Setting, IsHopeless}
 use Rattle.drt_refine.specs.Settled.{AreSettled}
-use Rattle.drt_refine.specs.View.{View, setting_of, state_of}
-use Rattle.drt_refine.specs.declared.step.FrontierEntry.{FrontierEntry}
 use Rattle.drt_sp.specs.Items.{AreItems, IsFailure, IsProofOf}
-
--- a frontier that began at the opening state and was driven has an eager log
-pub driven_eager : (f : Plain) (old new : View) → state_of old ≡ opening_state (setting_of f old) → setting_of f new ≡ setting_of f old
-    → (IsEager (setting_of f old) old.log → IsEager (setting_of f old) new.log) → IsEager (setting_of f new) new.log
-driven_eager f old new opening same goes =
-    let none : [] ≡ old.log = sym (ap (λ (s : State). s.log) opening) in
-    subst (λ (t : Setting). IsEager t new.log) (sym same) (goes (subst (λ (l : List FrontierEntry). IsEager (setting_of f old) l) none tt))
 
 -- leaves are below themselves
 self_below : (f : Plain) (nodes : List ℕ) → IsConcrete f nodes → AreBelow f nodes nodes

@@ -16,13 +16,11 @@ use drt_refine::{
     CombinationState, Frontier, FrontierEntry, FrontierReply, eager_settles,
     over_every_interleaving,
 };
+use drt_shared_frontier::refine;
 use drt_tree::Forest;
 use std::alloc::Global;
 use std::sync::Wait;
 use std::thread::Threads;
-
-// The one worker that drives a vertex's frontier.
-const WORKER: u32 = 0;
 
 /// What becomes of a vertex: it passes, by the items of its proof; it fails at a tuple of leaves, one for each root; or the
 /// budget was spent after the steps of this log.
@@ -36,28 +34,30 @@ pub(crate) enum VertexProof {
 /// Looks for a time that passes for a vertex of this wcet and deadline (in ticks), for each tuple of leaves below the roots,
 /// which are those of the trees of the tasks of higher priority. The budget is how many steps the frontier may make.
 pub(crate) fn prove_vertex<G: Gate, R: Threads + Wait + Sync>(
-    _rt: &R,
+    rt: &R,
     alloc: Global,
     forest: &Forest,
     roots: &[u32],
     wcet: u32,
     deadline: u32,
-    _workers: u32,
+    workers: u32,
     budget: u64,
-    _gate: &G,
+    gate: &G,
 ) -> Result<VertexProof, Memory>
     requires few { length roots.now ≤ 31 }
     requires roots { AreChosen deadline forest.now.pool roots.now }
     requires wcet { (1 ≤ wcet) × (wcet ≤ 1000000) }
     requires deadline { (1 ≤ deadline) × (deadline ≤ 1000000) }
-    requires workers { (1 ≤ _workers) × (_workers ≤ 16) }
+    requires workers { (1 ≤ workers) × (workers ≤ 16) }
     requires budget { (1 ≤ budget) × (budget ≤ 1000000) }
     ensures { IfOk result (IsVertexProof forest.now wcet deadline roots.now budget) }
 {
     over_every_interleaving();
     eager_settles();
-    let mut frontier = Frontier::start(alloc, forest, roots, wcet, deadline, budget)?;
-    match frontier.drive(forest, WORKER) {
+    let (frontier, reply) = refine(
+        rt, alloc, forest, roots, wcet, deadline, budget, workers, gate,
+    )?;
+    match reply {
         FrontierReply::Finished => Ok(VertexProof::Passes(items_of(alloc, forest, &frontier)?)),
         FrontierReply::Failed(id) => Ok(VertexProof::Fails(tuple_of(alloc, &frontier, id)?)),
         FrontierReply::Spent => Ok(VertexProof::Spent(Row::from_vec(frontier.into_log()))),

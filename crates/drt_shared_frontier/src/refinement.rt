@@ -1,0 +1,118 @@
+//! Working a frontier to its end.
+
+ghost use Rattle.std.specs.Prelude.{◌≡◌, ℕ, ◌≤◌, IfOk, length};
+ghost use Rattle.drt_pool.specs.Turns.{EachPlace, IsStop};
+ghost use Rattle.drt_refine.specs.Drive.{StopsAt};
+ghost use Rattle.drt_refine.specs.Eager.{IsEager};
+ghost use Rattle.drt_refine.specs.View.{IsFrontier, setting_of, state_of};
+ghost use Rattle.drt_steps.specs.Time.{AreChosen};
+ghost use Rattle.drt_shared_frontier.specs.Passes.{IsPassOf};
+
+use crate::answer::FrontierAnswer;
+use crate::pass::FrontierPass;
+use crate::shared::SharedFrontier;
+use drt_model::{Memory, Row};
+use drt_pool::{Gate, Turn, Work, run_all};
+use drt_refine::{Frontier, FrontierReply};
+use drt_tree::Forest;
+use std::alloc::Global;
+use std::sync::Wait;
+use std::thread::Threads;
+
+// The worker as which the caller goes on where all others have stopped.
+const DRIVER: u32 = 0;
+
+// What all workers work on.
+#[derive(Drop)]
+pub(crate) struct Refinement<'a> {
+    shared: &'a SharedFrontier,
+    forest: &'a Forest,
+}
+
+impl Work for Refinement<'_> {
+    type Pass = FrontierPass;
+
+    ghost fits = { λ work place pass. (work.forest.now ≡ work.shared.now.setting.forest) × IsPassOf work.shared.now pass };
+
+    ghost ended = { λ work place pass. Unit {0} };
+
+    // A turn takes a combination, or settles the one that the pass holds.
+    fn turn<R: Wait>(&self, rt: &R, pass: &mut FrontierPass) -> Turn {
+        let answer = match pass.held() {
+            None => self.shared.take(rt, self.forest, pass),
+            Some(_) => {
+                let step = self.shared.choose_step(self.forest, pass);
+                self.shared.settle(rt, self.forest, pass, step)
+            }
+        };
+        turn_after(answer)
+    }
+}
+
+// A worker stops where the frontier has come to an end, and where it holds something else for the worker than its pass.
+fn turn_after(answer: FrontierAnswer) -> Turn {
+    match answer {
+        FrontierAnswer::Step(FrontierReply::Taken(_)) => Turn::More,
+        FrontierAnswer::Step(FrontierReply::Busy(_)) => Turn::More,
+        FrontierAnswer::Step(FrontierReply::Passed) => Turn::More,
+        FrontierAnswer::Step(FrontierReply::Halved(_, _)) => Turn::More,
+        FrontierAnswer::Step(FrontierReply::Finished) => Turn::Stop,
+        FrontierAnswer::Step(FrontierReply::Failed(_)) => Turn::Stop,
+        FrontierAnswer::Step(FrontierReply::Spent) => Turn::Stop,
+        FrontierAnswer::Strange(_) => Turn::Stop,
+    }
+}
+
+/// Works the frontier of a job of this wcet and deadline (in ticks) and of the trees with these roots: so many workers take
+/// combinations and settle them until there is none left, one has failed or the budget of steps is spent. The caller then goes on
+/// from what they left, if anything is left, and answers the frontier and where it came to an end: Finished, Failed or Spent.
+pub fn refine<G: Gate, R: Threads + Wait + Sync>(
+    rt: &R,
+    alloc: Global,
+    forest: &Forest,
+    roots: &[u32],
+    wcet: u32,
+    deadline: u32,
+    budget: u64,
+    workers: u32,
+    gate: &G,
+) -> Result<(Frontier, FrontierReply), Memory>
+    requires few { length roots.now ≤ 31 }
+    requires roots { AreChosen deadline forest.now.pool roots.now }
+    requires wcet { (1 ≤ wcet) × (wcet ≤ 1000000) }
+    requires deadline { (1 ≤ deadline) × (deadline ≤ 1000000) }
+    requires budget { (1 ≤ budget) × (budget ≤ 1000000) }
+    requires workers { (1 ≤ workers) × (workers ≤ 16) }
+    ensures setting { IfOk result (λ r. setting_of forest.now r.0 ≡ record { forest = forest.now; roots = roots.now; wcet = wcet; deadline = deadline; budget = budget }) }
+    ensures frontier { IfOk result (λ r. IsFrontier forest.now r.0) }
+    ensures eager { IfOk result (λ r. IsEager (setting_of forest.now r.0) r.0.log) }
+    ensures stops { IfOk result (λ r. StopsAt (setting_of forest.now r.0) (state_of r.0) r.1) }
+{
+    let (shared, passes) = SharedFrontier::start(
+        alloc, forest, roots, wcet, deadline, budget, workers,
+    )?;
+    let passes = run_passes(rt, &shared, forest, passes, gate);
+    let mut frontier = shared.finish(passes);
+    let reply = frontier.drive(forest, DRIVER);
+    Ok((frontier, reply))
+}
+
+// All workers work, each through its pass, until each has stopped.
+fn run_passes<G: Gate, R: Threads + Wait + Sync>(
+    rt: &R,
+    shared: &SharedFrontier,
+    forest: &Forest,
+    passes: Row<FrontierPass>,
+    gate: &G,
+) -> Row<FrontierPass>
+    requires forest { forest.now ≡ shared.now.setting.forest }
+    requires count { length passes ≤ 16 }
+    requires passes { EachPlace (λ place p. IsPassOf shared.now p) passes }
+    ensures count { length result ≡ length passes }
+    ensures passes { EachPlace (λ place p. IsPassOf shared.now p) result }
+{
+    let mut passes = passes.into_vec();
+    let work = Refinement { shared, forest };
+    run_all(rt, &work, passes.as_mut_slice(), gate);
+    Row::from_vec(passes)
+}

@@ -1,0 +1,171 @@
+//! Passes of frontiers over worked forests, and their turns.
+
+ghost use Rattle.std.specs.Prelude.{◌≡◌, ◌≤◌, ◌∷◌, [], IfOk, length};
+ghost use Rattle.drt_pool.specs.Turns.{EachPlace};
+ghost use Rattle.drt_steps.specs.Time.{AreChosen};
+ghost use Rattle.drt_shared_frontier.specs.Passes.{IsPassOf};
+
+use drt_model::Memory;
+use drt_pool::Gate;
+use drt_refine::{CombinationState, Frontier, FrontierReply, FrontierStep};
+use drt_shared_frontier::{FrontierAnswer, FrontierPass, SharedFrontier, refine};
+use drt_tree::Forest;
+use std::alloc::Global;
+use std::process::Abort;
+use std::sync::Wait;
+use std::thread::Threads;
+
+// The wcet of the job, in ticks.
+const WCET: u32 = 2;
+
+// A turn: the place of the pass, the step that it makes, and the frontier's reply.
+#[derive(Clone, Copy, Debug)]
+pub(crate) struct Play {
+    pub(crate) place: usize,
+    pub(crate) step: FrontierStep,
+    pub(crate) reply: FrontierReply,
+}
+
+pub(crate) const fn make_play(place: usize, step: FrontierStep, reply: FrontierReply) -> Play {
+    Play { place, step, reply }
+}
+
+// The shared frontier of one tree, and so many passes.
+pub(crate) fn share(
+    rt: &impl Abort,
+    alloc: Global,
+    forest: &Forest,
+    root: u32,
+    deadline: u32,
+    budget: u64,
+    passes: u32,
+) -> Result<(SharedFrontier, Vec<FrontierPass>), Memory>
+    ensures forest { IfOk result (λ r. forest.now ≡ r.0.setting.forest) }
+    ensures count { IfOk result (λ r. length r.1.items ≡ r.0.passes) }
+    ensures passes { IfOk result (λ r. EachPlace (λ place p. IsPassOf r.0 p) r.1.items) }
+{
+    check(rt, forest, root, deadline, budget);
+    assert!(rt; 1 <= passes && passes <= 16);
+    let (shared, passes) = SharedFrontier::start(
+        alloc,
+        forest,
+        &[root],
+        WCET,
+        deadline,
+        budget,
+        passes,
+    )?;
+    Ok((shared, passes.into_vec()))
+}
+
+// What so many workers find.
+pub(crate) fn work<G: Gate, R: Abort + Threads + Wait + Sync>(
+    rt: &R,
+    alloc: Global,
+    forest: &Forest,
+    root: u32,
+    deadline: u32,
+    budget: u64,
+    workers: u32,
+    gate: &G,
+) -> Result<(Frontier, FrontierReply), Memory> {
+    check(rt, forest, root, deadline, budget);
+    assert!(rt; 1 <= workers && workers <= 16);
+    refine(
+        rt,
+        alloc,
+        forest,
+        &[root],
+        WCET,
+        deadline,
+        budget,
+        workers,
+        gate,
+    )
+}
+
+// Sees that these are the terms of a frontier over the forest.
+fn check(rt: &impl Abort, forest: &Forest, root: u32, deadline: u32, budget: u64)
+    ensures roots { AreChosen deadline forest.now.pool (root ∷ []) }
+    ensures deadline { (1 ≤ deadline) × (deadline ≤ 1000000) }
+    ensures budget { (1 ≤ budget) × (budget ≤ 1000000) }
+{
+    let functions = forest.all();
+    assert!(rt; (root as usize) < functions.len());
+    assert!(rt; deadline as u64 <= functions[root as usize].bound());
+    assert!(rt; 1 <= deadline && deadline <= 1000);
+    assert!(rt; 1 <= budget && budget <= 1000);
+}
+
+// A worker's turn: it takes a combination, or settles the one that its pass holds.
+fn turn<R: Wait>(
+    rt: &R,
+    shared: &SharedFrontier,
+    forest: &Forest,
+    pass: &mut FrontierPass,
+) -> (FrontierStep, FrontierAnswer)
+    requires forest { forest.now ≡ shared.now.setting.forest }
+    requires pass { IsPassOf shared.now pass.old }
+    ensures { IsPassOf shared.now pass.new }
+{
+    match pass.held() {
+        None => (FrontierStep::Take, shared.take(rt, forest, pass)),
+        Some(_) => {
+            let step = shared.choose_step(forest, pass);
+            (step, shared.settle(rt, forest, pass, step))
+        }
+    }
+}
+
+// Turns the passes in this order, and answers how many of the turns went as they are to go, up to the first that didn't.
+pub(crate) fn follow<R: Wait>(
+    rt: &R,
+    shared: &SharedFrontier,
+    forest: &Forest,
+    passes: &mut [FrontierPass],
+    plays: &[Play],
+) -> usize
+    requires forest { forest.now ≡ shared.now.setting.forest }
+    requires passes { EachPlace (λ place p. IsPassOf shared.now p) passes.old }
+    ensures count { length passes.new ≡ length passes.old }
+    ensures passes { EachPlace (λ place p. IsPassOf shared.now p) passes.new }
+{
+    for i in 0..plays.len() {
+        let play = plays[i];
+        if play.place >= passes.len() {
+            return i;
+        }
+        let (step, answer) = turn(rt, shared, forest, &mut passes[play.place]);
+        if step != play.step || answer != FrontierAnswer::Step(play.reply) {
+            return i;
+        }
+    }
+    plays.len()
+}
+
+// Whether the passes counted so many steps, and hold these combinations.
+pub(crate) fn have(passes: &[FrontierPass], counts: &[u64], held: &[Option<u32>]) -> bool {
+    if passes.len() != counts.len() || passes.len() != held.len() {
+        return false;
+    }
+    for place in 0..passes.len() {
+        let pass = &passes[place];
+        if pass.count() != counts[place] || pass.held() != held[place] {
+            return false;
+        }
+    }
+    true
+}
+
+// Whether these are the states of the combinations, in order.
+pub(crate) fn has_states(frontier: &Frontier, states: &[CombinationState]) -> bool {
+    if frontier.count() as usize != states.len() {
+        return false;
+    }
+    for id in 0..frontier.count() {
+        if frontier.state(id) != states[id as usize] {
+            return false;
+        }
+    }
+    true
+}

@@ -1,0 +1,6 @@
+//! Forests for tests and measurements: small ones that were worked by hand, and a large one whose combinations are all split.
+#![tactic(auto)]
+
+mod forests;
+
+pub use forests::{three_walks, two_walks, windows};
