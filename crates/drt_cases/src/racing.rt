@@ -33,11 +33,14 @@ impl Meeting {
         }
     }
 
-    // Whether each worker came, as often as the other, and none waited in vain.
-    fn has_met(&self) -> bool {
+    // How often each worker came, where both came as often and none waited in vain, and else 0.
+    fn times_met(&self) -> u64 {
         let first = self.come[0].load(Ordering::SeqCst);
         let second = self.come[1].load(Ordering::SeqCst);
-        !self.is_missed.load(Ordering::SeqCst) && first > 0 && first == second
+        if self.is_missed.load(Ordering::SeqCst) || first != second {
+            return 0;
+        }
+        first
     }
 }
 
@@ -74,7 +77,7 @@ fn is_answered_together(
     let input = [text];
     let given = give("edf --workers 2", input.as_slice());
     let (outcome, held) = perform_by(rt, alloc, given, &gate)?;
-    Ok(outcome.status == status && is_joined(held.as_slice(), pieces) && gate.has_met())
+    Ok(outcome.status == status && is_joined(held.as_slice(), pieces) && gate.times_met() > 0)
 }
 
 #[test]
@@ -125,12 +128,33 @@ fn is_spent_together(rt: &(impl Threads + Wait + Sync), alloc: Global) -> Result
         Trail::Table { task, log } => task == 0 && took_and_offered(log.as_slice()),
         _ => false,
     };
-    Ok(outcome.status == 3 && are_logged && gate.has_met())
+    Ok(outcome.status == 3 && are_logged && gate.times_met() > 0)
 }
 
 #[test]
 fn two_workers_spend_a_budget_together(rt: HostRuntime) -> Result<(), Fail> {
     assert!(rt; is_spent_together(&rt, rt.alloc())?);
+    Ok(())
+}
+
+// Whether a set is schedulable under fixed priorities by two workers that begin each of so many searches together.
+fn is_refined_together(
+    rt: &(impl Threads + Wait + Sync),
+    alloc: Global,
+    text: &str,
+    searches: u64,
+) -> Result<bool, Fail> {
+    let gate = Meeting::at(0);
+    let input = [text];
+    let given = give("sp --workers 2", input.as_slice());
+    let (outcome, _held) = perform_by(rt, alloc, given, &gate)?;
+    Ok(outcome.status == 0 && gate.times_met() == searches)
+}
+
+// The first task has two combinations to refine, one for each vertex, and a table; the second has one to refine.
+#[test]
+fn two_workers_begin_each_search_together(rt: HostRuntime) -> Result<(), Fail> {
+    assert!(rt; is_refined_together(&rt, rt.alloc(), SPLIT, 4)?);
     Ok(())
 }
 
