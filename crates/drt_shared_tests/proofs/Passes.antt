@@ -9,7 +9,7 @@ pub each_set : {X : Type 0} (P : X → Type 0) (xs : List X) (i : ℕ) (x : X) �
 each_set P [] i x all one k d lt = all k d lt
 each_set P (y ∷ ys) zero x all one zero d lt = one
 each_set P (y ∷ ys) zero x all one (suc k) d lt = all (suc k) d lt
-each_set P (y ∷ ys) (suc i) x all one zero d lt = all zero d lt
+each_set P (y ∷ ys) (suc i) x all one zero d lt = all zero d (omega arith)
 each_set P (y ∷ ys) (suc i) x all one (suc k) d lt = each_set P ys i x (λ j e less. all (suc j) e (omega (arith, less))) one k d (omega (arith, lt))
 
 -- a pass that halted the search is still of its table

@@ -102,6 +102,25 @@ fn have_replies<R: Wait>(
     are_so
 }
 
+// Makes the turns of these workers one after another, and says whether each has its reply, with the passes.
+fn play<R: Wait>(
+    rt: &R,
+    alloc: Global,
+    graph: &Graph,
+    shared: &SharedTable<DemandLabel>,
+    passes: Row<Pass<DemandLabel>>,
+    turns: &[(usize, TableReply)],
+) -> (bool, Row<Pass<DemandLabel>>)
+    requires graph { graph.now ≡ shared.now.setting.graph }
+    requires passes { EachPlace (λ place p. IsPassOf demand_algebra shared.now p) passes }
+    ensures count { length result.1 ≡ length passes }
+    ensures passes { EachPlace (λ place p. IsPassOf demand_algebra shared.now p) result.1 }
+{
+    let mut passes = passes.into_vec();
+    let are_so = have_replies(rt, alloc, graph, shared, passes.as_mut_slice(), turns);
+    (are_so, Row::from_vec(passes))
+}
+
 // Whether the passes counted so many logged steps.
 fn have_counts(passes: &[Pass<DemandLabel>], wanted: &[u64]) -> bool {
     if passes.len() != wanted.len() {
@@ -143,10 +162,9 @@ fn three_workers_step_one_shared_table(rt: HostRuntime) -> Result<(), Fail> {
     }
     let graph = graphs.graph(0);
     let (shared, passes) = SharedTable::start(alloc, graph, 5, 1000, 3)?;
-    let mut passes = passes.into_vec();
-    assert!(rt; have_replies(&rt, alloc, graph, &shared, passes.as_mut_slice(), &TURNS));
-    assert!(rt; have_counts(passes.as_slice(), &[6, 6, 3]));
-    let end = shared.finish(Row::from_vec(passes));
+    let (are_so, passes) = play(&rt, alloc, graph, &shared, passes, &TURNS);
+    assert!(rt; are_so && have_counts(passes.as_slice(), &[6, 6, 3]));
+    let end = shared.finish(passes);
     assert!(rt; !end.halted && end.table.finished() && end.table.log().len() == 15);
     assert!(rt; are_kept_but(&end.table, 6, &[(3, 4)]));
     Ok(())
@@ -171,8 +189,7 @@ fn halt_by(shared: &SharedTable<DemandLabel>, passes: &mut [Pass<DemandLabel>], 
     }
 }
 
-// A table that worker 0 took a node of, and that worker 1 then halted: whether each worker's next turn finds the mark and is its
-// last, with the table and the passes.
+// Worker 0 takes a node of the table, and worker 1 halts the search: whether each worker's next turn finds the mark and is its last.
 fn halted<R: Wait>(
     rt: &R,
     alloc: Global,
@@ -217,6 +234,24 @@ fn halted<R: Wait>(
     taken && first && second
 }
 
+// The same, with the passes.
+fn play_halted<R: Wait>(
+    rt: &R,
+    alloc: Global,
+    graph: &Graph,
+    shared: &SharedTable<DemandLabel>,
+    passes: Row<Pass<DemandLabel>>,
+) -> (bool, Row<Pass<DemandLabel>>)
+    requires graph { graph.now ≡ shared.now.setting.graph }
+    requires passes { EachPlace (λ place p. IsPassOf demand_algebra shared.now p) passes }
+    ensures count { length result.1 ≡ length passes }
+    ensures passes { EachPlace (λ place p. IsPassOf demand_algebra shared.now p) result.1 }
+{
+    let mut passes = passes.into_vec();
+    let are_halted = halted(rt, alloc, graph, shared, passes.as_mut_slice());
+    (are_halted, Row::from_vec(passes))
+}
+
 #[test]
 fn a_halted_search_makes_no_more_steps(rt: HostRuntime) -> Result<(), Fail> {
     let alloc = rt.alloc();
@@ -226,9 +261,9 @@ fn a_halted_search_makes_no_more_steps(rt: HostRuntime) -> Result<(), Fail> {
     }
     let graph = graphs.graph(0);
     let (shared, passes) = SharedTable::start(alloc, graph, 5, 1000, 2)?;
-    let mut passes = passes.into_vec();
-    assert!(rt; halted(&rt, alloc, graph, &shared, passes.as_mut_slice()));
-    let end = shared.finish(Row::from_vec(passes));
+    let (are_halted, passes) = play_halted(&rt, alloc, graph, &shared, passes);
+    let end = shared.finish(passes);
+    assert!(rt; are_halted);
     assert!(rt; end.halted && end.table.log().len() == 1);
     Ok(())
 }
@@ -257,18 +292,9 @@ fn what_the_workers_left_over_is_driven(rt: HostRuntime) -> Result<(), Fail> {
     }
     let graph = graphs.graph(0);
     let (shared, passes) = SharedTable::start(alloc, graph, 5, 1000, 3)?;
-    let mut passes = passes.into_vec();
-    assert!(rt;
-        have_replies(
-            &rt,
-            alloc,
-            graph,
-            &shared,
-            passes.as_mut_slice(),
-            &TURNS[..7]
-        )
-    );
-    let (table, reply) = drive_on(alloc, shared, Row::from_vec(passes))?;
+    let (are_so, passes) = play(&rt, alloc, graph, &shared, passes, &TURNS[..7]);
+    assert!(rt; are_so);
+    let (table, reply) = drive_on(alloc, shared, passes)?;
     assert!(rt; reply == TableReply::Finished && table.log().len() == 15);
     assert!(rt; are_kept_but(&table, 6, &[(3, 4)]));
     Ok(())
