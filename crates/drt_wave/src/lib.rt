@@ -13,6 +13,7 @@ mod gathering;
 mod opening;
 mod plan;
 mod rule;
+mod sharing;
 mod table;
 mod view;
 mod walking;
@@ -20,7 +21,7 @@ mod works;
 
 pub use dense::DenseFront;
 pub use expanding::turn;
-pub use filling::{dense_front, work_wave};
+pub use filling::{dense_front, fill, work_wave};
 pub use plan::Plan;
 pub use table::{WaveSeat, WaveTable};
 pub use view::{Note, View};
