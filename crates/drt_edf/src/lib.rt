@@ -29,8 +29,10 @@ mod refusal_tests;
 mod searching;
 mod turns;
 mod walks;
+mod waves;
 
 pub use analysis::analyse_edf;
 pub use answer::EdfAnswer;
 pub use drt_trails::EdfTrail;
 pub use laws::{horizon_is_one, rates_are_one, searches_are_bounded};
+pub use waves::has_wave_table;

@@ -18,8 +18,8 @@ module _ {X : Type 0} (P : X → Type 0) where
   pub places_push : (xs ys : List X) (x : X) → ys ≡ xs ++ x ∷ [] → EachPlace (λ i y. P y) xs → P x → EachPlace (λ i y. P y) ys
   places_push xs ys x e all one = subst (EachPlace (λ i y. P y)) (sym e)
       (λ k d h. dite (dec_lt k (length xs))
-          (λ l. subst P (sym (get_or_append_left xs (x ∷ []) d k l)) (all k d l))
-          (λ nl.
-          let more = length-append xs (x ∷ []) in
-          let same : k ≡ length xs = omega arith in
-          subst (λ z. P (slice_index_or (xs ++ x ∷ []) z d)) (sym same) (subst P (sym (get_or-append_seam xs x [] d)) one)))
+      (λ l. subst P (sym (get_or_append_left xs (x ∷ []) d k l)) (all k d l))
+      (λ nl.
+      let more = length-append xs (x ∷ []) in
+      let same : k ≡ length xs = omega arith in
+      subst (λ z. P (slice_index_or (xs ++ x ∷ []) z d)) (sym same) (subst P (sym (get_or-append_seam xs x [] d)) one)))

@@ -18,7 +18,7 @@ use std::sync::Wait;
 use std::thread::Threads;
 
 // A later wave of fewer cells is worked by the caller alone: to begin other workers costs more than they gain there.
-const WIDE: u64 = 8_192;
+const WIDE: u64 = 16_384;
 
 /// Works a wave to its end, or what is left of it, by the seat that has every part. The last turn is past the end, and by it the seat knows
 /// the wave as final.

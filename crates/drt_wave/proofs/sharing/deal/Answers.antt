@@ -15,7 +15,7 @@ seats-preserved c =
     let t = c.args.table.now in let inv = c.seats.invariant in let e = c.in_ok-seat.ensures in
     let few : length c.seats.seats.items < 16 = omega (arith, inv.2, c.seats-test.true, c.requires.workers.0) in (
       dealt_more t.table.shared.table_id t.plan c.args.wave c.seats.owner c.split.new.seat c.in_ok-seat.seat c.seats.seats.items c.push_reserved.new.self.items
-      e.id e.seat e.new_id e.new c.push_reserved.ensures.items few inv.0,
+          e.id e.seat e.new_id e.new c.push_reserved.ensures.items few inv.0,
       on_more _ _ _ inv.1 (on_split _ _ e.seat),
       search (rules, c.push_reserved.ensures.len, inv.2),
       search (rules, c.push_reserved.ensures.capacity, inv.3),
