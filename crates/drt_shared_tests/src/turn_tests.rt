@@ -152,6 +152,14 @@ fn three_workers_step_one_shared_table(rt: HostRuntime) -> Result<(), Fail> {
     Ok(())
 }
 
+// Halts the search with a pass.
+fn halt_with(shared: &SharedTable<DemandLabel>, pass: &mut Pass<DemandLabel>)
+    requires { IsPassOf demand_algebra shared.now pass.old }
+    ensures { IsPassOf demand_algebra shared.now pass.new }
+{
+    shared.halt(pass);
+}
+
 // Halts the search with the pass at that place, if there is one.
 fn halt_by(shared: &SharedTable<DemandLabel>, passes: &mut [Pass<DemandLabel>], place: usize)
     requires { EachPlace (λ place p. IsPassOf demand_algebra shared.now p) passes.old }
@@ -159,7 +167,7 @@ fn halt_by(shared: &SharedTable<DemandLabel>, passes: &mut [Pass<DemandLabel>], 
     ensures passes { EachPlace (λ place p. IsPassOf demand_algebra shared.now p) passes.new }
 {
     if place < passes.len() {
-        shared.halt(&mut passes[place]);
+        halt_with(shared, &mut passes[place]);
     }
 }
 
