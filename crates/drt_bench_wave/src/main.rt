@@ -1,19 +1,24 @@
-//! How fast a dense table of greatest works is worked by one seat.
+//! How fast a dense table of greatest works is worked by some workers, and beside it a driven table of the same walks.
 //!
 //! The arguments are a number of vertices, a number of edges, the least separation, the number of separations from it on that edges draw
-//! from, a bound in ticks, and how often the table is worked anew; without them 6, 6, 1, 1, 50 and 1. In a ring with
-//! separations of 1 each vertex has one walk for each offset below the bound, of more work than those before, so there are 300 labels. The answer
-//! has no times in it: `bench/wave` takes them from outside.
+//! from, a bound in ticks, how often the table is worked anew, and a number of workers; without them 6, 6, 1, 1, 50, 1 and 1. With no worker
+//! the table is a driven one, with a budget of 1,000,000 steps. In a ring with separations of 1 each vertex has one walk for each offset below
+//! the bound, of more work than those before, so there are 300 labels. The answer has no times in it: `bench/wave` takes them from outside.
 #![tactic(auto)]
 
 ghost use Rattle.std.specs.Prelude.{◌+◌, ◌*◌, ◌≤◌};
 ghost use Rattle.drt_model.specs.Digraph.{vertex_count};
 
+use drt_demand::DemandLabel;
 use drt_graph::{Graph, check};
 use drt_model::{Edge, Name, Row, Task, Vertex, task_set};
-use drt_wave::dense_front;
+use drt_pool::OpenGate;
+use drt_table::{Table, TableReply};
+use drt_wave::fill;
 use std::alloc::{AllocError, Global};
 use std::env;
+use std::sync::Wait;
+use std::thread::Threads;
 
 #[derive(Drop)]
 struct Draws {
@@ -78,19 +83,48 @@ fn task(
 }
 
 // Works a table as often as is said, and gives the number of labels that no other label covers.
-fn work_again(alloc: Global, graph: &Graph, bound: u64, times: u32) -> Result<usize, AllocError>
-    requires { vertex_count graph.now * (bound + 1) ≤ 4194304 }
+fn work_again<R: Threads + Wait + Sync>(
+    rt: &R,
+    alloc: Global,
+    graph: &Graph,
+    bound: u64,
+    times: u32,
+    workers: u32,
+) -> Result<usize, AllocError>
+    requires small { vertex_count graph.now * (bound + 1) ≤ 4194304 }
+    requires workers { (1 ≤ workers) × (workers ≤ 16) }
 {
-    let mut works = dense_front(alloc, graph, bound)?;
+    let mut works = fill(rt, alloc, graph, bound, workers, &OpenGate)?;
     'times: for _time in 1..times {
-        works = dense_front(alloc, graph, bound)?;
+        works = fill(rt, alloc, graph, bound, workers, &OpenGate)?;
     }
     Ok(works.front(alloc)?.as_slice().len())
 }
 
-// The same for the graph of a task; 0 where the numbers make no graph or too many cells.
-fn labels(alloc: Global, task: Task, bound: u64, times: u32) -> anyhow::Result<usize>
+// Drives a table as often as is said, and gives the number of steps.
+fn drive_again(alloc: Global, graph: &Graph, bound: u64, times: u32) -> Result<usize, AllocError>
     requires { bound ≤ 1000000 }
+{
+    let mut steps = 0;
+    'times: for _time in 0..times {
+        let table: Table<DemandLabel> = Table::start(alloc, graph, bound, 1_000_000)?;
+        let (table, _reply): (Table<DemandLabel>, TableReply) = table.drive(alloc, 0)?;
+        steps = table.log().len();
+    }
+    Ok(steps)
+}
+
+// The same for the graph of a task; 0 where the numbers make no graph or too many cells.
+fn labels<R: Threads + Wait + Sync>(
+    rt: &R,
+    alloc: Global,
+    task: Task,
+    bound: u64,
+    times: u32,
+    workers: u32,
+) -> anyhow::Result<usize>
+    requires bound { bound ≤ 1000000 }
+    requires workers { workers ≤ 16 }
 {
     let mut tasks = Vec::new(alloc);
     tasks.push(task)?;
@@ -103,7 +137,10 @@ fn labels(alloc: Global, task: Task, bound: u64, times: u32) -> anyhow::Result<u
     if graph.vertex_count() as u64 * (bound + 1) > 4_194_304 {
         return Ok(0);
     }
-    Ok(work_again(alloc, graph, bound, times)?)
+    if workers == 0 {
+        return Ok(drive_again(alloc, graph, bound, times)?);
+    }
+    Ok(work_again(rt, alloc, graph, bound, times, workers)?)
 }
 
 // The number at this place of the arguments, or the other number.
@@ -124,12 +161,14 @@ fn main(rt: HostRuntime) -> anyhow::Result<()> {
     let range = number(arguments.next(), 1).clamp(1, 500_000);
     let bound = number(arguments.next(), 50).min(1_000_000);
     let times = number(arguments.next(), 1);
+    let workers = number(arguments.next(), 1).min(16);
     let mut draws = Draws { state: 1 };
     let task = task(alloc, &mut draws, count, edge_count, least, range)?;
-    let kept = labels(alloc, task, bound as u64, times)?;
+    let kept = labels(&rt, alloc, task, bound as u64, times, workers)?;
+    let unit = if workers == 0 { "steps" } else { "labels" };
     println!(rt;
-        "{} vertices, {} edges, separations from {}, a bound of {}: {} labels",
-        count, edge_count, least, bound, kept
+        "{} vertices, {} edges, separations from {}, a bound of {}: {} {}",
+        count, edge_count, least, bound, kept, unit
     )?;
     Ok(())
 }

@@ -5,7 +5,7 @@ use Rattle.std.proofs.Math.Nat.{le-max_left, le-max_right}
 use Rattle.std.proofs.lemmas.Bool.{cases_lt, leb-true}
 use Rattle.std.proofs.lemmas.List.{append-nil}
 use Rattle.drt_model.specs.declared.tasks.Edge.{Edge}
-use Rattle.drt_model.specs.Digraph.{IsSound, vertex_count, edge_of}
+use Rattle.drt_model.specs.Digraph.{Digraph, IsSound, vertex_count, out_degree, edge_of}
 use Rattle.drt_model.specs.Walk.{deadline}
 use Rattle.drt_model.specs.declared.front.FrontEntry.{FrontEntry}
 use Rattle.drt_demand.specs.Demand.{demand_algebra}
@@ -75,6 +75,17 @@ most_row (row ∷ rows) (suc v) =
     let h = most_row rows v in
     let m = le-max_right (length row) (most_out rows) in
     omega (arith, h, m)
+
+pub most_row_of : (g : Digraph) (v : ℕ) → out_degree g v ≤ most_out g.out
+most_row_of g v = most_row g.out v
+
+-- where no row is longer
+most_least : (rows : List (List Edge)) (m : ℕ) → ((v : ℕ) → v < length rows → length (get_or rows v []) ≤ m) → most_out rows ≤ m
+most_least [] m all = omega arith
+most_least (row ∷ rows) m all = let here = all 0 (omega arith) in let rest = most_least rows m (λ v lt. all (suc v) (omega arith)) in omega (arith, here, rest)
+
+pub most_of : (g : Digraph) (m : ℕ) → length g.out ≡ vertex_count g → ((v : ℕ) → v < vertex_count g → out_degree g v ≤ m) → most_out g.out ≤ m
+most_of g m rows all = most_least g.out m (λ v lt. all v (omega arith))
 
 -- What holds after each run, of its log's length and of the kept nodes.
 abbrev pub AreShort : Type 0

@@ -52,12 +52,13 @@ spent_table tasks proofs given bound plan budget task log s = record {
   bound = bound;
   below = planned_below tasks proofs given bound plan;
   near = plan_near (graphs_of tasks) proofs bound plan;
-  graph = s.graph;
-  is_graph = s.is_graph;
-  run = s.run;
-  spent = s.spent;
-  unfinished = s.unfinished;
-  short = s.short;
+  graph = s.0;
+  is_graph = s.1;
+  run = s.2.run;
+  spent = s.2.spent;
+  unfinished = s.2.unfinished;
+  short = s.2.short;
+  shared = s.2.shared;
 }
 
 -- Walks of demand with more work than time, as walks of the tasks.

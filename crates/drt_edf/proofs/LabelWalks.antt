@@ -140,9 +140,9 @@ module _ (t : Setting) (sound : IsSound t.graph) where
         subst (λ y. IsWalkLabel demand_algebra t y) (same_label (gone x w.first w.others) e (sym v) (omega (arith, o)) (omega (arith, n, r))) rest
 
     -- A label that no different one dominates is an entry that no other one covers.
-    pub entry_alone : (l : FrontEntry) → IsAlone demand_algebra t l → IsNonDominated t.graph t.bound l
+    pub entry_alone : (l : FrontEntry) → IsAlone demand_algebra t l → IsNonDominated (IsWalkEntry t.graph t.bound) l
     entry_alone l is = record {
-      walk = walk_entry l is.walk;
+      label = walk_entry l is.walk;
       alone = λ d w c. is.alone d (entry_walk d w) (above d c);
     }
       where
@@ -150,9 +150,9 @@ module _ (t : Setting) (sound : IsSound t.graph) where
         above d c = let a = c.0 in let b = c.1 in let e = c.2 in grind (arith, nat_tests)
 
     -- And the converse.
-    pub label_alone : (e : FrontEntry) → IsNonDominated t.graph t.bound e → IsAlone demand_algebra t e
+    pub label_alone : (e : FrontEntry) → IsNonDominated (IsWalkEntry t.graph t.bound) e → IsAlone demand_algebra t e
     label_alone e is = record {
-      walk = entry_walk e is.walk;
+      walk = entry_walk e is.label;
       alone = λ m w d. is.alone m (walk_entry m w) (above m d);
     }
       where

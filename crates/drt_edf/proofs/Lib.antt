@@ -21,3 +21,4 @@ pub mod Gathered
 pub mod Decided
 pub mod PlainWorks
 pub mod EndingWorks
+pub mod WaveFronts

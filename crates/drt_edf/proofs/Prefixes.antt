@@ -85,7 +85,7 @@ single_work g sound u (v ∷ vs) p none =
 module _ (g : Digraph) (sound : IsSound g) (bound : ℕ) (front : List FrontEntry) (is : IsLabelFront g bound front) where
   -- An entry is the label of a walk.
   pub entry_walk : (e : FrontEntry) → Contains front e → IsWalkEntry g bound e
-  entry_walk e has = ((is.exact e).0 has).walk
+  entry_walk e has = ((is.exact e).0 has).label
 
   pub entry_vertex : (e : FrontEntry) → Contains front e → e.vertex < vertex_count g
   entry_vertex e has = (All-contains (IsWithin g bound) front e is.ordered.0 has).0
@@ -99,32 +99,32 @@ module _ (g : Digraph) (sound : IsSound g) (bound : ℕ) (front : List FrontEntr
   module _ (con : IsConstrainedGraph g) where
     -- Any other has an entry from which an edge leads to it.
     pub has_prefix : (e : FrontEntry) → Contains front e → 0 < e.offset → (d : FrontEntry) × Contains front d × IsPrefix g d e
-    has_prefix e has later = split alone.walk.others refl
+    has_prefix e has later = split alone.label.others refl
       where
-        alone : IsNonDominated g bound e
+        alone : IsNonDominated (IsWalkEntry g bound) e
         alone = (is.exact e).0 has
 
         prefix : (d : FrontEntry) → Contains front d → IsEdge g d.vertex e.vertex → d.offset + gap g d.vertex e.vertex ≤ e.offset → e.work ≤ d.work + wcet g e.vertex → IsPrefix g d e
         prefix d there edge early much =
-            let within : due g e ≤ bound = alone.walk.within in
+            let within : due g e ≤ bound = alone.label.within in
             let same : more g d e.vertex ≡ e = alone.alone (more g d e.vertex) (walk_more g bound d (entry_walk d there) e.vertex edge (omega (arith, early, within))) (refl, early, much) in
             record { edge = edge; offset = ap (λ (x : FrontEntry). x.offset) same; work = ap (λ (x : FrontEntry). x.work) same }
 
-        by_edge : HasLastEdge g alone.walk.first alone.walk.others → (d : FrontEntry) × Contains front d × IsPrefix g d e
+        by_edge : HasLastEdge g alone.label.first alone.label.others → (d : FrontEntry) × Contains front d × IsPrefix g d e
         by_edge r =
-            let first = alone.walk.first in
+            let first = alone.label.first in
             let u = last_of first r.before in
-            let v : last_of first alone.walk.others ≡ e.vertex = sym alone.walk.vertex in
+            let v : last_of first alone.label.others ≡ e.vertex = sym alone.label.vertex in
             let edge : IsEdge g u e.vertex = subst (λ x. IsEdge g u x) v r.edge in
-            let gaps : gap g u (last_of first alone.walk.others) ≡ gap g u e.vertex = ap (λ x. gap g u x) v in
-            let costs : wcet g (last_of first alone.walk.others) ≡ wcet g e.vertex = ap (λ x. wcet g x) v in
+            let gaps : gap g u (last_of first alone.label.others) ≡ gap g u e.vertex = ap (λ x. gap g u x) v in
+            let costs : wcet g (last_of first alone.label.others) ≡ wcet g e.vertex = ap (λ x. wcet g x) v in
             let k = edge_of_sep g u e.vertex (gap g u e.vertex) edge in
             let near = con u k.0 (source_of g sound u e.vertex (gap g u e.vertex) edge) k.1 in
             let sep = k.3 in
             let s = r.spans in
-            let o = alone.walk.offset in
-            let within : due g e ≤ bound = alone.walk.within in
-            let c = is.covers (walk_entry g first r.before) (walk_entry_is g bound first r.before alone.walk.is_vertex r.path (omega (arith, near, sep, s, gaps, o, within))) in
+            let o = alone.label.offset in
+            let within : due g e ≤ bound = alone.label.within in
+            let c = is.covers (walk_entry g first r.before) (walk_entry_is g bound first r.before alone.label.is_vertex r.path (omega (arith, near, sep, s, gaps, o, within))) in
             let there : Contains front c.1 = (c.0, c.2, c.3) in
             let vertex : c.1.vertex ≡ u = c.4.0 in
             let on : IsEdge g c.1.vertex e.vertex = moved g u c.1.vertex e.vertex (sym vertex) edge in
@@ -132,16 +132,16 @@ module _ (g : Digraph) (sound : IsSound g) (bound : ℕ) (front : List FrontEntr
             let early = c.4.1 in
             let much = c.4.2 in
             let w = r.works in
-            let w1 = work_cons g first alone.walk.others in
+            let w1 = work_cons g first alone.label.others in
             let w2 = work_cons g first r.before in
-            let n = alone.walk.works in
+            let n = alone.label.works in
             (c.1, there, prefix c.1 there on (omega (arith, gap_on, early, s, gaps, o)) (omega (arith, much, w, w1, w2, n, costs)))
 
-        split : (vs : List ℕ) → alone.walk.others ≡ vs → (d : FrontEntry) × Contains front d × IsPrefix g d e
+        split : (vs : List ℕ) → alone.label.others ≡ vs → (d : FrontEntry) × Contains front d × IsPrefix g d e
         split [] at =
-            let o : e.offset ≡ 0 = alone.walk.offset ∙ (ap (λ vs. span g alone.walk.first vs) at ∙ span_none g alone.walk.first) in
+            let o : e.offset ≡ 0 = alone.label.offset ∙ (ap (λ vs. span g alone.label.first vs) at ∙ span_none g alone.label.first) in
             absurd (omega (arith, o, later))
-        split (v ∷ vs) at = by_edge (subst (HasLastEdge g alone.walk.first) (sym at) (last_edge g alone.walk.first v vs (subst (IsPath g alone.walk.first) at alone.walk.path)))
+        split (v ∷ vs) at = by_edge (subst (HasLastEdge g alone.label.first) (sym at) (last_edge g alone.label.first v vs (subst (IsPath g alone.label.first) at alone.label.path)))
 
 -- From one vertex there is at most one such label.
 pub one_prefix : (g : Digraph) (c d e : FrontEntry) → c.vertex ≡ d.vertex → IsPrefix g c e → IsPrefix g d e → c ≡ d

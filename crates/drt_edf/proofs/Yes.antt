@@ -112,7 +112,7 @@ extended bound g f sound is e walk k l = go (cases_lt bound (e.offset + (edge_of
         inr (c.0, c.1, c.2, c.3, (c.4.0 ∙ last, omega (arith, span_is, c.4.1), omega (arith, work_is, c.4.2)))
 
 entry_walk : (bound : ℕ) (g : Digraph) (f : List FrontEntry) → IsLabelFront g bound f → All (IsWalkEntry g bound) f
-entry_walk bound g f is k d l = ((is.exact (get_or f k d)).0 (k, l, get_or_default f k (get_or f k d) d l)).walk
+entry_walk bound g f is k d l = ((is.exact (get_or f k d)).0 (k, l, get_or_default f k (get_or f k d) d l)).label
 
 closed : (bound : ℕ) (g : Digraph) (f : List FrontEntry) → IsSound g → IsLabelFront g bound f → IsClosedFront bound g f
 closed bound g f sound is k d l j m = extended bound g f sound is (get_or f k d) (entry_walk bound g f is k d l) j m

@@ -25,12 +25,17 @@ most_out (row ∷ rows) = max (length row) (most_out rows)
 abbrev pub table_need : Digraph → ℕ → ℕ
 table_need g bound = vertex_count g * (bound + 1) * (most_out g.out + 2)
 
+-- The walks of the graph up to the bound are worked in a wave table: one cell for each vertex and offset, and no budget is spent. So it is
+-- where the budget is enough for any search, and there are at most 2^22 cells.
+abbrev pub HasWaveTable : Digraph → ℕ → ℕ → Type 0
+HasWaveTable g bound budget = (vertex_count g * (bound + 1) ≤ 4194304) × (table_need g bound ≤ budget)
+
 -- What a search of a graph's walks never changes.
 abbrev pub search_of : Digraph → ℕ → ℕ → Setting
 search_of g bound budget = record { graph = g; bound = bound; budget = budget }
 
 -- The search of this task's walks spent the budget: the log is a run of that many steps which isn't finished, up to the horizon of
--- a set whose utilisation is below one. So the budget is below what the search needs.
+-- a set whose utilisation is below one. So the budget is below what the search needs, and the task has no wave table.
 pub record IsSpentTable (tasks : List Task) (budget task : ℕ) (log : List Entry) : Type 0 where
   pub bound : ℕ
   pub below : HasHorizon tasks bound
@@ -41,6 +46,7 @@ pub record IsSpentTable (tasks : List Task) (budget task : ℕ) (log : List Entr
   pub spent : length log ≡ budget
   pub unfinished : is_finished demand_algebra (search_of graph bound budget) (replay demand_algebra (search_of graph bound budget) log) ≡ false
   pub short : budget < table_need graph bound
+  pub shared : HasWaveTable graph bound budget → ⊥
 
 -- The search for an overload spent the budget: the utilisation is above one, and for some cycles that have the tasks' ratios and
 -- name each vertex at most once this is the last of so many step times, none of which has more work than time. So the budget is

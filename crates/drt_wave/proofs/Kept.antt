@@ -1,5 +1,5 @@
 -- The labels that no other one covers, and the entries gathered so far.
-use Rattle.std.proofs.Common.{◌≡◌, ◌⊎◌, ℕ, zero, suc, ◌+◌, ◌<◌, ◌≤◌, List, [], ◌∷◌, ◌++◌, refl, sym, ap, ◌∙◌, subst, inl, inr, ⊎_elim, arith}
+use Rattle.std.proofs.Common.{◌≡◌, ◌⊎◌, ℕ, zero, suc, ◌+◌, ◌*◌, ◌<◌, ◌≤◌, List, [], ◌∷◌, ◌++◌, length-append, refl, sym, ap, ◌∙◌, subst, inl, inr, ⊎_elim, arith}
 use Rattle.std.specs.Prelude.{Contains}
 use Rattle.std.proofs.lemmas.List.Elements.{Contains-append_left, Contains-append_right, Contains-append_cases}
 use mathlib.Core.Logic.{dite}
@@ -187,16 +187,18 @@ module _ (d : Dense) where
     kept = λ e has. absurd (omega (arith, has.1));
     all = λ e k b. ⊎_elim (λ (lt : e.vertex < 0). absurd (omega arith)) (λ (lt : (e.vertex ≡ 0) × (e.offset < 0)). let l = lt.1 in absurd (omega (arith, l))) b;
     ordered = λ i e lt. absurd (omega arith);
+    few = omega arith;
   }
 
   -- A vertex is done at the offset past the bound.
-  pub next_vertex : (v s : ℕ) (entries : List FrontEntry) → d.plan.bound < s → AreGathered d v s entries → AreGathered d (v + 1) 0 entries
-  next_vertex v s entries past g = record {
+  pub next_vertex : (v s : ℕ) (entries : List FrontEntry) → s ≡ d.plan.bound + 1 → AreGathered d v s entries → AreGathered d (v + 1) 0 entries
+  next_vertex v s entries end g = let past : d.plan.bound < s = omega arith in record {
     kept = λ e has. let k = g.kept e has in (k.0, ⊎_elim (λ (lt : e.vertex < v). inl (omega arith)) (λ (lt : (e.vertex ≡ v) × (e.offset < s)). let l = lt.0 in inl (omega (arith, l))) k.1);
     all = λ e k b. g.all e k (⊎_elim
         (λ (lt : e.vertex < v + 1). dite (dec_lt e.vertex v) (λ l. inl l) (λ nl. let far = k.offset in inr (omega arith, omega (arith, far))))
         (λ (lt : (e.vertex ≡ v + 1) × (e.offset < 0)). let l = lt.1 in absurd (omega (arith, l))) b);
     ordered = g.ordered;
+    few = (let few = g.few in let row : (v + 1) * (d.plan.bound + 1) ≡ v * (d.plan.bound + 1) + (d.plan.bound + 1) = grind arith in omega (arith, few, row, end));
   }
 
   pub most_none : (v : ℕ) → IsMost d v 0 0
@@ -233,6 +235,7 @@ module _ (d : Dense) where
         let there : work_at d e.vertex f.0 ≡ work_at d v f.0 = ap (λ z. work_at d z f.0) lt.0 in
         absurd (omega (arith, here, is, above, there, fis)))) b;
     ordered = g.ordered;
+    few = (let few = g.few in omega (arith, few));
   }
 
   -- where it has more it is
@@ -266,6 +269,7 @@ module _ (d : Dense) where
             let was = k.0.works in let low = m.least e.offset l.1 in
             let here : work_at d e.vertex e.offset ≡ work_at d v e.offset = ap (λ z. work_at d z e.offset) l.0 in
             inr (l.0, l.1, omega (arith, was, low, here))) k.1);
+        few = (let few = g.few in omega (arith, few, length-append entries (x ∷ [])));
       }
     where
       only : (x e : FrontEntry) → Contains (x ∷ []) e → x ≡ e

@@ -8,3 +8,4 @@ pub mod OpenWords
 pub mod Walks
 pub mod Kept
 pub mod Tails
+pub mod Dealing

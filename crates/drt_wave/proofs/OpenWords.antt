@@ -79,7 +79,7 @@ module _ (p : Plan) where
   claims_zero ws o j = o.others ((net_of p).cells + j) (le-div (vertex_count p.graph) ((net_of p).cells + j) (width p) (omega arith) (omega arith))
 
 -- a slice of a list, written back whole
-pub whole : (n o : List ℕ) (k : ℕ) → length n ≡ k → length o ≡ k → take k (n ++ drop (length n) o) ≡ n
+pub whole : {A : Type 0} (n o : List A) (k : ℕ) → length n ≡ k → length o ≡ k → take k (n ++ drop (length n) o) ≡ n
 whole n o k p q = grind (arith, common_steps)
 
 pub word_is : (ws : List ℕ) (i x : ℕ) → get_elem? ws i ≡ some x → get_or ws i 0 ≡ x

@@ -277,12 +277,13 @@ module _ {S F : Type 0} (g : Net) where
       (λ l. expanded_kept g m n (g.cell j i) kept (before i from l))
       (λ nl. let same : i ≡ k = omega arith in subst (λ z. IsExpanded g n.0 (g.cell j z)) (sym same) now)
 
+module _ {F : Type 0} (g : Net) where
   -- the waves so far were drawn to their ends, and the next one too
-  pub waves_more : (m n : Me S (View F)) (wave : ℕ) → Turned m n → ((j k : ℕ) → j < wave → k < g.size j → Among (j, k / 64) m.0.draws)
-      → (b : ℕ) → HasDrawn wave b n.0 → g.size wave ≤ b * 64 → (j k : ℕ) → j < wave + 1 → k < g.size j → Among (j, k / 64) n.0.draws
-  waves_more m n wave turned before b has ended j k lt few = dite (dec_lt j wave)
-      (λ l. turned.draws j (k / 64) (before j k l few))
+  pub waves_more : (v w : View F) (wave : ℕ) → ((j k : ℕ) → Among (j, k) v.draws → Among (j, k) w.draws) → ((j k : ℕ) → j < wave → k < g.size j → Among (j, k / 64) v.draws)
+      → (b : ℕ) → HasDrawn wave b w → g.size wave ≤ b * 64 → (j k : ℕ) → j < wave + 1 → k < g.size j → Among (j, k / 64) w.draws
+  waves_more v w wave draws before b has ended j k lt few = dite (dec_lt j wave)
+      (λ l. draws j (k / 64) (before j k l few))
       (λ nl.
       let same : j ≡ wave = omega arith in
       let few' : k < g.size wave = subst (λ z. k < g.size z) same few in
-      subst (λ z. Among (z, k / 64) n.0.draws) (sym same) (has (k / 64) (div_below k 64 b (omega arith) (omega arith))))
+      subst (λ z. Among (z, k / 64) w.draws) (sym same) (has (k / 64) (div_below k 64 b (omega arith) (omega arith))))

@@ -1,5 +1,5 @@
 -- The entries of a front that are gathered so far.
-use Rattle.std.specs.Prelude.{◌≡◌, ℕ, ◌<◌, ◌≤◌, ◌⊎◌, List, Contains}
+use Rattle.std.specs.Prelude.{◌≡◌, ℕ, ◌+◌, ◌*◌, ◌<◌, ◌≤◌, ◌⊎◌, List, length, Contains}
 use Rattle.drt_model.specs.Digraph.{vertex_count}
 use Rattle.drt_model.specs.Legal.{AllNeighbours}
 use Rattle.drt_model.specs.declared.front.FrontEntry.{FrontEntry}
@@ -18,11 +18,12 @@ pub record IsKept (d : Dense) (e : FrontEntry) : Type 0 where
 abbrev pub IsBefore : ℕ → ℕ → FrontEntry → Type 0
 IsBefore v s e = (e.vertex < v) ⊎ ((e.vertex ≡ v) × (e.offset < s))
 
--- The list has, in order, exactly the entries to be kept before a vertex and an offset.
+-- The list has, in order, exactly the entries to be kept before a vertex and an offset. There are no more than cells.
 pub record AreGathered (d : Dense) (v s : ℕ) (entries : List FrontEntry) : Type 0 where
   pub kept : (e : FrontEntry) → Contains entries e → IsKept d e × IsBefore v s e
   pub all : (e : FrontEntry) → IsKept d e → IsBefore v s e → Contains entries e
   pub ordered : AllNeighbours IsNextEntry entries
+  pub few : length entries ≤ v * (d.plan.bound + 1) + s
 
 -- The greatest work of the cells of v at offsets below s, and 0 where there is none.
 pub record IsMost (d : Dense) (v s most : ℕ) : Type 0 where

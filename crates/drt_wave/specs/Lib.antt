@@ -7,3 +7,4 @@ pub mod Dense
 pub mod Fronts
 pub mod Gathered
 pub mod Backwards
+pub mod Shifts

@@ -5,11 +5,12 @@ ghost use Rattle.drt_wave.specs.Net.{Reached};
 ghost use Rattle.drt_wave.specs.Waves.{IsExpanded, AllExpanded};
 ghost use Rattle.drt_wave.specs.Cells.{net_of, offsets, cell_at};
 ghost use Rattle.drt_wave.specs.Seats.{IsAt, Kept, Passed, PassedOn, IsPast, HasDrawn, Turned};
+ghost use Rattle.drt_wave.specs.Shifts.{HasWorked};
 
 use crate::table::{WaveSeat, WaveTable};
 
 // How many cells a block has, the last one of a wave aside.
-const BLOCK: u64 = 64;
+pub(crate) const BLOCK: u64 = 64;
 
 // The cell of a vertex and an offset.
 fn cell(table: &WaveTable, vertex: u32, offset: u64) -> u32
@@ -161,6 +162,7 @@ pub fn turn(table: &WaveTable, seat: &mut WaveSeat, wave: u32) -> bool
     ensures past { result ≡ false → IsPast (net_of table.now.plan) wave seat.new.me.0 }
     ensures drawn { (b : ℕ) → seat.old.me.0.parts ≡ 1024 → HasDrawn wave b seat.old.me.0 → HasDrawn wave (b + 1) seat.new.me.0 }
     ensures ended { (b : ℕ) → seat.old.me.0.parts ≡ 1024 → HasDrawn wave b seat.old.me.0 → (net_of table.now.plan).size wave ≤ b * 64 → wave < seat.new.me.0.known }
+    ensures worked { result ≡ false → seat.old.me.0.parts ≡ 1024 → HasWorked table.now.plan wave seat.new.me }
 {
     let blocks = table.block_count(wave);
     let block = table.claim(seat, wave);

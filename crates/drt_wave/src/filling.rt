@@ -1,18 +1,27 @@
-//! A whole table, worked by one seat.
+//! A whole table, worked by one seat or by several workers.
 ghost use Rattle.std.specs.Prelude.{◌≡◌, ℕ, ◌+◌, ◌*◌, ◌<◌, ◌≤◌, IfOk};
 ghost use Rattle.drt_model.specs.Digraph.{vertex_count};
 ghost use Rattle.drt_wave.specs.Waves.{AllDrawn, AllExpanded};
 ghost use Rattle.drt_wave.specs.Cells.{net_of};
 ghost use Rattle.drt_wave.specs.Seats.{IsAt, HasDrawn, Turned};
+ghost use Rattle.drt_wave.specs.Shifts.{IsAtWork, GoesOn, HasWorked};
 
 use crate::dense::DenseFront;
 use crate::expanding::turn;
+use crate::sharing::{BlockGate, share_wave};
 use crate::table::{WaveSeat, WaveTable};
 use drt_graph::Graph;
 use drt_model::Memory;
+use drt_pool::Gate;
 use std::alloc::Global;
+use std::sync::Wait;
+use std::thread::Threads;
 
-/// Works a wave to its end by the seat that has every part. The last turn is past the end, and by it the seat knows the wave as final.
+// A later wave of fewer cells is worked by the caller alone: to begin other workers costs more than they gain there.
+const WIDE: u64 = 16_384;
+
+/// Works a wave to its end, or what is left of it, by the seat that has every part. The last turn is past the end, and by it the seat knows
+/// the wave as final.
 pub fn work_wave(table: &WaveTable, seat: &mut WaveSeat, wave: u32)
     requires id { seat.old.table_id ≡ table.now.table.shared.table_id }
     requires seat { IsAt table.now.plan seat.old.me.0 }
@@ -28,7 +37,9 @@ pub fn work_wave(table: &WaveTable, seat: &mut WaveSeat, wave: u32)
 {
     let blocks = table.block_count(wave);
     'turns: for _block in 0..blocks {
-        turn(table, seat, wave);
+        if !turn(table, seat, wave) {
+            return;
+        }
     }
     turn(table, seat, wave);
 }
@@ -58,5 +69,77 @@ pub fn dense_front(alloc: Global, graph: &Graph, bound: u64) -> Result<DenseFron
     let (table, mut seat) = WaveTable::start(alloc, graph, bound)?;
     let waves = (table.plan.bound / table.plan.span + 1) as u32;
     work_all(&table, &mut seat, waves);
+    Ok(table.close(seat))
+}
+
+// Works the next wave: the first one by all workers, and a later one by all where it is wide, else by the caller.
+fn next_wave<G: Gate, R: Threads + Wait + Sync>(
+    rt: &R,
+    alloc: Global,
+    table: &WaveTable,
+    seat: &mut WaveSeat,
+    wave: u32,
+    workers: u32,
+    gate: &G,
+) -> Result<(), Memory>
+    requires id { seat.old.table_id ≡ table.now.table.shared.table_id }
+    requires seat { IsAtWork table.now.plan wave 1024 seat.old.me }
+    requires wave { wave < (net_of table.now.plan).waves }
+    requires workers { workers ≤ 16 }
+    ensures id { seat.new.table_id ≡ table.now.table.shared.table_id }
+    ensures whole { IsAtWork table.now.plan wave 1024 seat.new.me }
+    ensures on { GoesOn seat.old.me seat.new.me }
+    ensures worked { IfOk result (λ u. HasWorked table.now.plan wave seat.new.me) }
+{
+    if wave > 0 && table.wave_size(wave) < WIDE {
+        work_wave(table, seat, wave);
+        return Ok(());
+    }
+    let alone = if wave == 0 { u64::MAX } else { 1 };
+    let gate = BlockGate { gate, alone };
+    share_wave(rt, alloc, table, seat, wave, workers, &gate)
+}
+
+// Works all waves, in order.
+fn share_all<G: Gate, R: Threads + Wait + Sync>(
+    rt: &R,
+    alloc: Global,
+    table: &WaveTable,
+    seat: &mut WaveSeat,
+    count: u32,
+    workers: u32,
+    gate: &G,
+) -> Result<(), Memory>
+    requires id { seat.old.table_id ≡ table.now.table.shared.table_id }
+    requires seat { IsAtWork table.now.plan 0 1024 seat.old.me }
+    requires count { count ≡ (net_of table.now.plan).waves }
+    requires workers { workers ≤ 16 }
+    ensures id { seat.new.table_id ≡ table.now.table.shared.table_id }
+    ensures drawn { IfOk result (λ u. AllDrawn (net_of table.now.plan) seat.new.me.0) }
+    ensures all { AllExpanded (net_of table.now.plan) seat.new.me.0 }
+{
+    'waves: for wave in 0..count {
+        next_wave(rt, alloc, table, seat, wave, workers, gate)?;
+    }
+    Ok(())
+}
+
+/// The greatest works of a graph's walks up to a bound in ticks: a table that several workers work to its end.
+pub fn fill<G: Gate, R: Threads + Wait + Sync>(
+    rt: &R,
+    alloc: Global,
+    graph: &Graph,
+    bound: u64,
+    workers: u32,
+    gate: &G,
+) -> Result<DenseFront, Memory>
+    requires small { vertex_count graph.now * (bound + 1) ≤ 4194304 }
+    requires workers { (1 ≤ workers) × (workers ≤ 16) }
+    ensures graph { IfOk result (λ front. front.plan.graph ≡ graph.now) }
+    ensures bound { IfOk result (λ front. front.plan.bound ≡ bound) }
+{
+    let (table, mut seat) = WaveTable::start(alloc, graph, bound)?;
+    let waves = (table.plan.bound / table.plan.span + 1) as u32;
+    share_all(rt, alloc, &table, &mut seat, waves, workers, gate)?;
     Ok(table.close(seat))
 }

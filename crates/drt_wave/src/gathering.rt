@@ -1,5 +1,5 @@
 //! The front of a finished table.
-ghost use Rattle.std.specs.Prelude.{◌≡◌, ◌+◌, ◌<◌, ◌≤◌, IfOk};
+ghost use Rattle.std.specs.Prelude.{◌≡◌, ◌+◌, ◌*◌, ◌<◌, ◌≤◌, length, IfOk};
 ghost use Rattle.drt_model.specs.Digraph.{IsConstrainedGraph, vertex_count};
 ghost use Rattle.drt_model.specs.Legal.{AllNeighbours};
 ghost use Rattle.drt_wave.specs.Fronts.{IsRangeEntry, IsWalkEntry, IsFrontOf, IsExactFront, CoversAll, IsNextEntry};
@@ -55,6 +55,7 @@ impl DenseFront {
     /// a walk is in range as soon as its last job is due within the bound.
     pub fn front(&self, alloc: Global) -> Result<Row<FrontEntry>, Memory>
         ensures ordered { IfOk result (λ front. AllNeighbours IsNextEntry front) }
+        ensures few { IfOk result (λ front. length front ≤ vertex_count self.now.plan.graph * (self.now.plan.bound + 1)) }
         ensures non_dominated { IfOk result (λ front. IsFrontOf (IsRangeEntry self.now.plan.graph self.now.plan.bound) front) }
         ensures covers { IfOk result (λ front. CoversAll (IsRangeEntry self.now.plan.graph self.now.plan.bound) front) }
         ensures exact { IfOk result (λ front. IsConstrainedGraph self.now.plan.graph → IsExactFront self.now.plan.bound self.now.plan.graph front) }

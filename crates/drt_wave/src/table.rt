@@ -1,5 +1,5 @@
 //! The table. Each step is taken by a seat, and none waits.
-ghost use Rattle.std.specs.Prelude.{◌≡◌, ◌≢◌, ℕ, ◌+◌, ◌*◌, ◌<◌, ◌≤◌, [], IfOk};
+ghost use Rattle.std.specs.Prelude.{◌≡◌, ◌≢◌, ℕ, ◌+◌, ◌*◌, ◌<◌, ◌≤◌, [], IfOk, IfErr};
 ghost use Rattle.drt_model.specs.Digraph.{vertex_count};
 ghost use Rattle.drt_wave.specs.Net.{Reached, IsBest};
 ghost use Rattle.drt_wave.specs.Waves.{fresh, split_left, split_right, joined, with_note, with_raise, AllDrawn, AllExpanded};
@@ -94,12 +94,13 @@ impl WaveTable {
         self.table.shared.load::<Glance>(seat, cell as usize)
     }
 
-    /// A seat with one of the parts, for another worker.
+    /// A seat with one of the parts, for another worker. Where there is no memory the seat has all its parts still.
     pub fn split(&self, seat: &mut WaveSeat) -> Result<WaveSeat, Memory>
         requires id { seat.old.table_id ≡ self.now.table.shared.table_id }
         requires parts { 1 < seat.old.me.0.parts }
         ensures id { seat.new.table_id ≡ seat.old.table_id }
-        ensures seat { seat.new.me ≡ (split_left seat.old.me.0, seat.old.me.1) }
+        ensures seat { IfOk result (λ new. seat.new.me ≡ (split_left seat.old.me.0, seat.old.me.1)) }
+        ensures kept { IfErr result (λ e. seat.new.me ≡ seat.old.me) }
         ensures new_id { IfOk result (λ new. new.table_id ≡ seat.old.table_id) }
         ensures new { IfOk result (λ new. new.me ≡ (split_right seat.old.me.0, [])) }
     {

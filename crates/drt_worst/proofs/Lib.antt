@@ -1,5 +1,5 @@
 mod Least
-mod Below
+pub mod Below
 mod Runs
 mod Spending
 mod Different

@@ -2,6 +2,7 @@ use Rattle.std.proofs.Common.{sym, refl, subst, arith, ◌<◌, ◌≤◌, ◌*�
 use Rattle.drt_wave.specs.Net.{Among}
 use Rattle.drt_wave.specs.Cells.{net_of}
 use Rattle.drt_wave.proofs.Working.{turned_past, turned_on, drawn_more, knows_drawn, size_small}
+use Rattle.drt_wave.proofs.Dealing.{worked_past}
 use Rattle.drt_wave.proofs.expanding.turn.Goals as goal
 
 pub returns-then-block-blocks-clause-all : goal.returns-then-block-blocks-clause-all
@@ -37,3 +38,12 @@ pub returns-clause-ended : goal.returns-clause-ended
 returns-clause-ended c = λ b whole has ended.
     subst (λ k. c.args.wave < k) (sym c.expand_block.ensures.kept.known) (knows_drawn
     (net_of c.args.table.now.plan) _ _ c.args.wave _ b c.claim-block.ensures.drawn whole c.requires.known c.requires.all has ended)
+
+pub expand_block-requires-clause-block : goal.expand_block-requires-clause-block
+expand_block-requires-clause-block c = c.block_count-blocks.ensures.begins c.claim-block.result (omega (arith, c.if-block-blocks.false))
+
+pub returns-then-block-blocks-clause-worked : goal.returns-then-block-blocks-clause-worked
+returns-then-block-blocks-clause-worked c = λ _ whole.
+    let g = net_of c.args.table.now.plan in
+    let past : g.size c.args.wave ≤ c.claim-block.result * 64 = omega (arith, c.block_count-blocks.ensures.covers, c.if-block-blocks.true) in
+    worked_past c.args.table.now.plan c.args.wave c.claim-block.result c.args.seat.now.me c.claim-block.new.seat.me c.claim-block.ensures.drawn whole c.requires.known c.requires.all past

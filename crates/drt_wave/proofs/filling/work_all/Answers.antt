@@ -13,7 +13,7 @@ waves-preserved c =
       turned_more _ _ _ inv.1 w.turned,
       w.all,
       omega (arith, w.known),
-      waves_more (net_of c.args.table.now.plan) _ _ c.waves.wave w.turned inv.4 w.drawn.0 w.drawn.1 w.drawn.2,
+      waves_more (net_of c.args.table.now.plan) c.waves.seat.me.0 c.work_wave.new.seat.me.0 c.waves.wave w.turned.draws inv.4 w.drawn.0 w.drawn.1 w.drawn.2,
     )
 
 pub returns-clause-drawn : goal.returns-clause-drawn

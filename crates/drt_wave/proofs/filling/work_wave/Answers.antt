@@ -1,4 +1,4 @@
-use Rattle.std.proofs.Common.{refl, ◌∙◌, ◌+◌, arith}
+use Rattle.std.proofs.Common.{rules, refl, ◌∙◌, ◌+◌, arith}
 use Rattle.drt_wave.proofs.Working.{turned_refl, turned_more, turned_at, turned_known}
 use Rattle.drt_wave.proofs.filling.work_wave.Goals as goal
 
@@ -51,3 +51,13 @@ returns-clause-drawn c =
 pub returns-clause-known : goal.returns-clause-known
 returns-clause-known c =
     c.turn-2.ensures.ended c.turns._block (c.turns.invariant.1.parts ∙ c.requires.whole) c.turns.invariant.3 (omega (arith, c.block_count-blocks.ensures.covers, c.turns-test.false))
+
+pub returns-then-not-turn-clause-turned : goal.returns-then-not-turn-clause-turned
+returns-then-not-turn-clause-turned c = turned_more _ _ _ c.turns.invariant.1 c.turn.ensures.turned
+
+pub returns-then-not-turn-clause-drawn : goal.returns-then-not-turn-clause-drawn
+returns-then-not-turn-clause-drawn c =
+    let w = c.turn.ensures.worked (search rules) (c.turns.invariant.1.parts ∙ c.requires.whole) in (w.blocks, w.drawn, w.ended)
+
+pub returns-then-not-turn-clause-known : goal.returns-then-not-turn-clause-known
+returns-then-not-turn-clause-known c = (c.turn.ensures.worked (search rules) (c.turns.invariant.1.parts ∙ c.requires.whole)).known

@@ -1,4 +1,4 @@
-use Rattle.std.proofs.Common.{◌≡◌, ◌∙◌, ap, sym, subst, arith}
+use Rattle.std.proofs.Common.{◌≡◌, ◌∙◌, length, ap, sym, subst, arith}
 use Rattle.drt_model.specs.Digraph.{vertex_count}
 use Rattle.drt_wave.specs.Fronts.{IsRangeEntry, IsWalkEntry, IsFrontOf, IsExactFront, CoversAll}
 use Rattle.drt_wave.specs.Gathered.{AreGathered}
@@ -33,3 +33,8 @@ returns-clause-covers_walks c =
     let d = c.args.self.now in let k = c.keeps_best.ensures in let entries = c.vertices.front.items in
     λ con. subst (CoversAll (IsWalkEntry d.plan.graph d.plan.bound)) (sym c.from_vec.ensures) (constrained_covers d k.planned k.best entries
     (gathered_covers d k.planned k.best entries (gathered c)) con)
+
+pub returns-clause-few : goal.returns-clause-few
+returns-clause-few c =
+    let few = (gathered c).few in
+    omega (arith, few, ap length c.from_vec.ensures)
