@@ -126,7 +126,9 @@ fn decide_edf<G: Gate, R: Threads + Wait + Sync>(
             EdfVerdict::One,
             None,
         )),
-        EdfAnswer::Done(_) => unreachable!(),
+        EdfAnswer::Done(
+            Evidence::FixedYes { .. } | Evidence::FixedNo { .. } | Evidence::Undecided,
+        ) => unreachable!(),
         EdfAnswer::Beyond(Beyond::TooFar) => Ok(without_fronts(alloc, EdfVerdict::Beyond, None)),
         EdfAnswer::Beyond(Beyond::TooFine) => unreachable!(),
         EdfAnswer::Undecided(trail) => Ok(without_fronts(
@@ -190,7 +192,12 @@ fn decide_fixed<G: Gate, R: Threads + Wait + Sync>(
             verdict: FixedVerdict::No,
             trail: None,
         }),
-        FixedAnswer::Done(_) => unreachable!(),
+        FixedAnswer::Done(
+            Evidence::EdfYes { .. }
+            | Evidence::EdfNo { .. }
+            | Evidence::UtilisationOne { .. }
+            | Evidence::Undecided,
+        ) => unreachable!(),
         FixedAnswer::Undecided(trail) => Ok(FixedFinding {
             verdict: FixedVerdict::Undecided,
             trail: Some(trail),
