@@ -1,5 +1,5 @@
 -- What both answers to a drawn set say.
-use Rattle.std.proofs.Common.{◌≡◌, ◌≢◌, ◌⊎◌, inl, inr, ℕ, zero, suc, ◌+◌, ◌<◌, ◌≤◌, ◌^◌, List, [], ◌∷◌, length, get_or, map, AllPairs, Option, Some, None, refl, sym, ap, subst, ◌∙◌, arith}
+use Rattle.std.proofs.Common.{◌≡◌, ◌≢◌, ◌⊎◌, inl, inr, ℕ, zero, suc, ◌+◌, ◌<◌, ◌≤◌, ◌^◌, List, [], ◌∷◌, length, get_or, map, AllPairs, Option, Some, None, true≢false, refl, sym, ap, subst, ◌∙◌, arith}
 use Rattle.drt_model.specs.Contents.{Contents}
 use Rattle.drt_model.specs.Digraph.{Digraph}
 use Rattle.drt_model.specs.Legal.{AllNeighbours}
@@ -44,7 +44,7 @@ module _ (tasks : List Task) (limits : IsTaskSet 1 tasks) where
     no = λ e. absurd (cc);
     one = (λ e. absurd (cc), λ p. absurd (one_alone 1 tasks limits p other));
     beyond = (λ e. absurd (cc), λ p. absurd (other_near 1 tasks limits TooFar other p));
-    undecided = (λ e. absurd (cc), λ some. absurd some);
+    undecided = (λ e. absurd (cc), λ some. absurd (true≢false (sym some)));
     cause = tt;
   }
 
@@ -54,7 +54,7 @@ module _ (tasks : List Task) (limits : IsTaskSet 1 tasks) where
     no = λ e. no.not_schedulable;
     one = (λ e. absurd (cc), λ p. absurd (one_alone 1 tasks limits p other));
     beyond = (λ e. absurd (cc), λ p. absurd (other_near 1 tasks limits TooFar other p));
-    undecided = (λ e. absurd (cc), λ some. absurd some);
+    undecided = (λ e. absurd (cc), λ some. absurd (true≢false (sym some)));
     cause = tt;
   }
 
@@ -64,7 +64,7 @@ module _ (tasks : List Task) (limits : IsTaskSet 1 tasks) where
     no = λ e. absurd (cc);
     one = (λ e. at_one, λ p. refl);
     beyond = (λ e. absurd (cc), λ p. absurd (one_near 1 tasks limits TooFar at_one p));
-    undecided = (λ e. absurd (cc), λ some. absurd some);
+    undecided = (λ e. absurd (cc), λ some. absurd (true≢false (sym some)));
     cause = tt;
   }
 
@@ -74,7 +74,7 @@ module _ (tasks : List Task) (limits : IsTaskSet 1 tasks) where
     no = λ e. absurd (cc);
     one = (λ e. absurd (cc), λ p. absurd (one_near 1 tasks limits TooFar p far));
     beyond = (λ e. far, λ p. refl);
-    undecided = (λ e. absurd (cc), λ some. absurd some);
+    undecided = (λ e. absurd (cc), λ some. absurd (true≢false (sym some)));
     cause = tt;
   }
 
@@ -86,7 +86,7 @@ module _ (tasks : List Task) (limits : IsTaskSet 1 tasks) where
         no = λ e. absurd (cc);
         one = (λ e. absurd (cc), λ p. absurd (one_alone 1 tasks limits p other));
         beyond = (λ e. absurd (cc), λ p. absurd (other_near 1 tasks limits TooFar other p));
-        undecided = (λ e. tt, λ some. refl);
+        undecided = (λ e. refl, λ some. refl);
         cause = spent;
       }
 
@@ -115,7 +115,7 @@ module _ (set : Contents) where
   fixed_yes_says trees proofs yes = record {
     yes = λ e. yes.schedulable;
     no = λ e. absurd (cc);
-    undecided = (λ e. absurd (cc), λ some. absurd some);
+    undecided = (λ e. absurd (cc), λ some. absurd (true≢false (sym some)));
     cause = tt;
   }
 
@@ -123,7 +123,7 @@ module _ (set : Contents) where
   fixed_no_says releases miss no = record {
     yes = λ e. absurd (cc);
     no = λ e. no.not_schedulable;
-    undecided = (λ e. absurd (cc), λ some. absurd some);
+    undecided = (λ e. absurd (cc), λ some. absurd (true≢false (sym some)));
     cause = tt;
   }
 
@@ -131,6 +131,6 @@ module _ (set : Contents) where
   fixed_undecided_says trail spent = record {
     yes = λ e. absurd (cc);
     no = λ e. absurd (cc);
-    undecided = (λ e. tt, λ some. refl);
+    undecided = (λ e. refl, λ some. refl);
     cause = spent;
   }
