@@ -39,8 +39,8 @@ never_fine law number (rates, big) = omega (arith, law number rates.scale rates.
 
 module _ (tasks : List Task) (limits : IsTaskSet 1 tasks) where
   pub yes_says : (ratios : List RatioClaim) (fronts : List (List FrontEntry)) → IsExactYes tasks ratios fronts → IsOther tasks → EdfSays tasks on_edf.Yes None
-  yes_says ratios fronts yes other = record {
-    yes = λ e. yes.schedulable;
+  yes_says ratios fronts exact other = record {
+    yes = λ e. exact.schedulable;
     no = λ e. absurd (cc);
     one = (λ e. absurd (cc), λ p. absurd (one_alone 1 tasks limits p other));
     beyond = (λ e. absurd (cc), λ p. absurd (other_near 1 tasks limits TooFar other p));
@@ -49,9 +49,9 @@ module _ (tasks : List Task) (limits : IsTaskSet 1 tasks) where
   }
 
   pub no_says : (releases : List Release) (miss : Miss) → IsMissed tasks releases miss → IsOther tasks → EdfSays tasks on_edf.No None
-  no_says releases miss no other = record {
+  no_says releases miss missed other = record {
     yes = λ e. absurd (cc);
-    no = λ e. no.not_schedulable;
+    no = λ e. missed.not_schedulable;
     one = (λ e. absurd (cc), λ p. absurd (one_alone 1 tasks limits p other));
     beyond = (λ e. absurd (cc), λ p. absurd (other_near 1 tasks limits TooFar other p));
     undecided = (λ e. absurd (cc), λ some. absurd (true≢false (sym some)));
@@ -106,23 +106,23 @@ counts_each bound b (g ∷ gs) (f ∷ fronts) exact ordered =
     (record { labels = f; exact = exact.0; distinct = distinct_labels f ordered.0.1; long = refl }, counts_each bound b gs fronts exact.1 ordered.1)
 
 pub yes_counts : (tasks : List Task) (ratios : List RatioClaim) (fronts : List (List FrontEntry)) → IsExactYes tasks ratios fronts → AreCounts tasks (map length fronts)
-yes_counts tasks ratios fronts yes =
-    let (b, is_bound, ordered) = (yes.accepted 1).keeps OrderedFronts tt in
-    record { bound = yes.bound; below = yes.below; each = counts_each yes.bound b (graphs_of tasks) fronts yes.exact ordered }
+yes_counts tasks ratios fronts exact =
+    let (b, is_bound, ordered) = (exact.accepted 1).keeps OrderedFronts tt in
+    record { bound = exact.bound; below = exact.below; each = counts_each exact.bound b (graphs_of tasks) fronts exact.exact ordered }
 
 module _ (set : Contents) where
   pub fixed_yes_says : (trees : List TreeClaim) (proofs : List ProofClaim) → fixed_answers.IsExactYes set trees proofs → FixedSays set on_fixed.Yes None
-  fixed_yes_says trees proofs yes = record {
-    yes = λ e. yes.schedulable;
+  fixed_yes_says trees proofs exact = record {
+    yes = λ e. exact.schedulable;
     no = λ e. absurd (cc);
     undecided = (λ e. absurd (cc), λ some. absurd (true≢false (sym some)));
     cause = tt;
   }
 
   pub fixed_no_says : (releases : List Release) (miss : Miss) → fixed_answers.IsMissed set releases miss → FixedSays set on_fixed.No None
-  fixed_no_says releases miss no = record {
+  fixed_no_says releases miss missed = record {
     yes = λ e. absurd (cc);
-    no = λ e. no.not_schedulable;
+    no = λ e. missed.not_schedulable;
     undecided = (λ e. absurd (cc), λ some. absurd (true≢false (sym some)));
     cause = tt;
   }
