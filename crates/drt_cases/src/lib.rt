@@ -5,6 +5,8 @@
 #[cfg(test)]
 mod adapters;
 #[cfg(test)]
+mod bench;
+#[cfg(test)]
 mod check;
 #[cfg(test)]
 mod edf;

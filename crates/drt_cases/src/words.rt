@@ -28,6 +28,15 @@ fn words_that_mean_nothing_are_refused_before_anything_is_read(
         "edf --budget=1000001",
         "upgrade --workers=2",
         "check --workers 2",
+        "bench",
+        "bench 1 2",
+        "bench x",
+        "bench -1",
+        "bench 18446744073709551616",
+        "bench --workers=0 1",
+        "bench --workers=17 1",
+        "bench 1 --workers x",
+        "bench --budget=5 1",
     ] {
         let given = Given {
             words,

@@ -63,7 +63,10 @@ fn each_task_of_a_generated_set_has_a_wave_table(rt: HostRuntime) -> Result<(), 
         let set = generate(rt.alloc(), number)?;
         let graphs = check(rt.alloc(), &set).ok().ok_or("constrained")?;
         let bound = horizon(rt.alloc(), &graphs)?;
-        assert!(rt; bound <= 16_695 && have_wave_tables(&graphs, bound), "set {number}");
+        assert!(rt;
+            bound <= 16_695 && have_wave_tables(&graphs, bound),
+            "set {number}"
+        );
     }
     Ok(())
 }

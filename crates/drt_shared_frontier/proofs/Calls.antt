@@ -206,3 +206,10 @@ found_one combinations w id held nodes its false at are is = record {
     λ copy. absurd (is copy.copied copy.copied_is (copy.same ∙ sym (if_some (slice_get combinations id) (λ c. its ≡ c.nodes) copy.combination are (ap (λ i. slice_get combinations i) (same_Some id copy.found copy.found_is) ∙ copy.combination_is)))),
   );
 }
+
+-- a frontier that began at the opening state and was driven has an eager log
+pub driven_eager : (f : Plain) (old new : View) → state_of old ≡ opening_state (setting_of f old) → setting_of f new ≡ setting_of f old
+    → (IsEager (setting_of f old) old.log → IsEager (setting_of f old) new.log) → IsEager (setting_of f new) new.log
+driven_eager f old new opening same_setting goes =
+    let none : [] ≡ old.log = sym (ap (λ (s : State). s.log) opening) in
+    subst (λ (t : Setting). IsEager t new.log) (sym same_setting) (goes (subst (λ (l : List FrontierEntry). IsEager (setting_of f old) l) none tt))

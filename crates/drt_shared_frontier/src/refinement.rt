@@ -65,7 +65,8 @@ fn turn_after(answer: FrontierAnswer) -> Turn {
 
 /// Works the frontier of a job of this wcet and deadline (in ticks) and of the trees with these roots: so many workers take
 /// combinations and settle them until there is none left, one has failed or the budget of steps is spent. The caller then goes on
-/// from what they left, if anything is left, and answers the frontier and where it came to an end: Finished, Failed or Spent.
+/// from what they left, if anything is left, and answers the frontier and where it came to an end: Finished, Failed or Spent. One
+/// worker shares its frontier with nobody, so it drives one without a lock, and the gate sees no turn of it.
 pub fn refine<G: Gate, R: Threads + Wait + Sync>(
     rt: &R,
     alloc: Global,
@@ -88,6 +89,9 @@ pub fn refine<G: Gate, R: Threads + Wait + Sync>(
     ensures eager { IfOk result (λ r. IsEager (setting_of forest.now r.0) r.0.log) }
     ensures stops { IfOk result (λ r. StopsAt (setting_of forest.now r.0) (state_of r.0) r.1) }
 {
+    if workers == 1 {
+        return drive_alone(alloc, forest, roots, wcet, deadline, budget);
+    }
     let (shared, passes) = SharedFrontier::start(
         alloc, forest, roots, wcet, deadline, budget, workers,
     )?;
@@ -95,6 +99,30 @@ pub fn refine<G: Gate, R: Threads + Wait + Sync>(
     let mut frontier = shared.finish(passes);
     let reply = frontier.drive(forest, DRIVER);
     Ok((frontier, reply))
+}
+
+// The one worker drives a frontier of its own.
+fn drive_alone(
+    alloc: Global,
+    forest: &Forest,
+    roots: &[u32],
+    wcet: u32,
+    deadline: u32,
+    budget: u64,
+) -> Result<(Frontier, FrontierReply), Memory>
+    requires few { length roots.now ≤ 31 }
+    requires roots { AreChosen deadline forest.now.pool roots.now }
+    requires wcet { (1 ≤ wcet) × (wcet ≤ 1000000) }
+    requires deadline { (1 ≤ deadline) × (deadline ≤ 1000000) }
+    requires budget { (1 ≤ budget) × (budget ≤ 1000000) }
+    ensures setting { IfOk result (λ r. setting_of forest.now r.0 ≡ record { forest = forest.now; roots = roots.now; wcet = wcet; deadline = deadline; budget = budget }) }
+    ensures frontier { IfOk result (λ r. IsFrontier forest.now r.0) }
+    ensures eager { IfOk result (λ r. IsEager (setting_of forest.now r.0) r.0.log) }
+    ensures stops { IfOk result (λ r. StopsAt (setting_of forest.now r.0) (state_of r.0) r.1) }
+{
+    let mut alone = Frontier::start(alloc, forest, roots, wcet, deadline, budget)?;
+    let reply = alone.drive(forest, DRIVER);
+    Ok((alone, reply))
 }
 
 // All workers work, each through its pass, until each has stopped.

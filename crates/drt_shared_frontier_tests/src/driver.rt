@@ -2,10 +2,11 @@
 
 ghost use Rattle.std.specs.Prelude.{◌≡◌, ◌≤◌, ◌∷◌, [], IfOk, length};
 ghost use Rattle.drt_pool.specs.Turns.{EachPlace};
+ghost use Rattle.drt_refine.specs.View.{IsFrontier};
 ghost use Rattle.drt_steps.specs.Time.{AreChosen};
 ghost use Rattle.drt_shared_frontier.specs.Passes.{IsPassOf};
 
-use drt_model::Memory;
+use drt_model::{Memory, Row};
 use drt_pool::Gate;
 use drt_refine::{CombinationState, Frontier, FrontierReply, FrontierStep};
 use drt_shared_frontier::{FrontierAnswer, FrontierPass, SharedFrontier, refine};
@@ -141,6 +142,15 @@ pub(crate) fn follow<R: Wait>(
         }
     }
     plays.len()
+}
+
+// The frontier, once the passes are done with it.
+pub(crate) fn close(shared: SharedFrontier, passes: Vec<FrontierPass>) -> Frontier
+    requires count { length passes.items ≡ shared.passes }
+    requires passes { EachPlace (λ place p. IsPassOf shared p) passes.items }
+    ensures { IsFrontier shared.setting.forest result }
+{
+    shared.finish(Row::from_vec(passes))
 }
 
 // Whether the passes counted so many steps, and hold these combinations.

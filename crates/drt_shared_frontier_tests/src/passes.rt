@@ -1,7 +1,6 @@
 //! Passes that are turned in a given order, by one thread. What each turn is answered was worked out by hand.
 
-use crate::driver::{Play, follow, have, make_play, share};
-use drt_model::Row;
+use crate::driver::{Play, close, follow, have, make_play, share};
 use drt_refine::{FrontierEntry, FrontierReply, FrontierStep};
 use drt_worked_forests::{three_walks, two_walks};
 use std::test::Fail;
@@ -54,7 +53,7 @@ fn two_passes_settle_the_halves_of_three_walks(rt: HostRuntime) -> Result<(), Fa
     let followed = follow(&rt, &shared, &forest, &mut passes, &plays);
     assert_eq!(rt; followed, plays.len());
     assert!(rt; have(&passes, &[4, 2], &[None, None]));
-    let frontier = shared.finish(Row::from_vec(passes));
+    let frontier = close(shared, passes);
     let log = [
         by(0, TAKE),
         by(0, split(0, 0)),
@@ -89,7 +88,7 @@ fn three_passes_find_the_walk_that_is_too_much(rt: HostRuntime) -> Result<(), Fa
     let followed = follow(&rt, &shared, &forest, &mut passes, &plays);
     assert_eq!(rt; followed, plays.len());
     assert!(rt; have(&passes, &[1, 2, 2], &[Some(1), None, None]));
-    let mut frontier = shared.finish(Row::from_vec(passes));
+    let mut frontier = close(shared, passes);
     let log = [
         by(2, TAKE),
         by(2, split(0, 0)),
@@ -119,7 +118,7 @@ fn a_budget_of_three_steps_is_spent_by_both_passes(rt: HostRuntime) -> Result<()
     let followed = follow(&rt, &shared, &forest, &mut passes, &plays);
     assert_eq!(rt; followed, plays.len());
     assert!(rt; have(&passes, &[2, 1], &[None, Some(1)]));
-    let frontier = shared.finish(Row::from_vec(passes));
+    let frontier = close(shared, passes);
     let log = [by(0, TAKE), by(0, split(0, 0)), by(1, TAKE)];
     assert!(rt; frontier.log() == log.as_slice());
     Ok(())

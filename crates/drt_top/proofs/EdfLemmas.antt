@@ -76,9 +76,9 @@ module _ (version : ℕ) (tasks : List Task) (limits : IsTaskSet version tasks) 
       omega (arith, e.1, r, p.2, q.1.below)
 
 -- Where a budget was spent the utilisation is another than one.
-undecided_other : (tasks : List Task) (budget : ℕ) (spent : EdfTrail) → IsUndecided tasks budget spent → IsOther tasks
-undecided_other tasks budget (Table task log) s = inl (s.bound, s.below, s.near)
-undecided_other tasks budget (Overload last) s = inr s.above
+pub undecided_other : (tasks : List Task) (budget : ℕ) (spent : EdfTrail) → IsUndecided tasks budget spent → IsOther tasks
+pub undecided_other tasks budget (Table task log) s = inl (s.bound, s.below, s.near)
+pub undecided_other tasks budget (Overload last) s = inr s.above
 
 -- A budget that is enough isn't spent.
 not_enough : (tasks : List Task) (budget : ℕ) (spent : EdfTrail) → IsUndecided tasks budget spent → IsEnough tasks budget → ⊥

@@ -7,3 +7,4 @@ pub mod UtilLemmas
 pub mod UtilPromises
 pub mod CheckLemmas
 pub mod CheckPromises
+pub mod BenchLemmas

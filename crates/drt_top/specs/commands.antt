@@ -4,6 +4,7 @@ pub mod Sp
 pub mod Upgrade
 pub mod Util
 pub mod Check
+pub mod Bench
 use Rattle.drt_command.specs.Rules.{Rules}
 use Rattle.drt_words.specs.declared.meaning.Meaning.{Meaning}
 use Rattle.drt_words.specs.declared.meaning.Meaning.TheVariants as means
@@ -12,6 +13,7 @@ use Rattle.drt_top.specs.commands.Sp.{sp_rules}
 use Rattle.drt_top.specs.commands.Upgrade.{upgrade_rules}
 use Rattle.drt_top.specs.commands.Util.{util_rules}
 use Rattle.drt_top.specs.commands.Check.{check_rules}
+use Rattle.drt_top.specs.commands.Bench.{bench_rules}
 
 -- The promises of the command that the words mean.
 abbrev pub rules_of : Meaning → Rules
@@ -20,3 +22,4 @@ rules_of (means.Sp search) = sp_rules search.budget
 rules_of means.Upgrade = upgrade_rules
 rules_of means.Util = util_rules
 rules_of means.Check = check_rules
+rules_of (means.Bench workers number) = bench_rules number

@@ -1,4 +1,5 @@
 //! The commands, each in a file of its own.
+pub(crate) mod bench;
 pub(crate) mod check;
 pub(crate) mod edf;
 pub(crate) mod sp;

@@ -9,6 +9,7 @@ ghost use Rattle.drt_words.specs.declared.meaning.Meaning.{Meaning};
 ghost use Rattle.drt_words.specs.Meaning.{meaning_of};
 ghost use Rattle.drt_top.specs.commands.{rules_of};
 
+use crate::commands::bench::Bench;
 use crate::commands::check::Check;
 use crate::commands::edf::Edf;
 use crate::commands::sp::Sp;
@@ -23,7 +24,7 @@ use std::alloc::Global;
 use std::sync::Wait;
 use std::thread::Threads;
 
-/// Runs the command that the words name: it reads a task file from the source, for `check` a dossier, and
+/// Runs the command that the words name: it reads a task file from the source, for `check` a dossier and for `bench` nothing, and
 /// writes what the command makes of it to the sink. Statuses: 0 done, and for `edf`, `sp` and `check` the set
 /// is schedulable; 1 for these it isn't; 2 for `edf` and `check` the utilisation is one; 3 for `edf`
 /// and `sp` a budget was spent, with the trail, and for `check` there is nothing to check; 4 the file is refused with a
@@ -97,5 +98,8 @@ fn dispatch<S: Source, K: Sink, G: Gate, R: Threads + Wait + Sync>(
         Meaning::Upgrade => conduct(rt, alloc, &Upgrade, source, sink, gate),
         Meaning::Util => conduct(rt, alloc, &Util, source, sink, gate),
         Meaning::Check => conduct(rt, alloc, &Check, source, sink, gate),
+        Meaning::Bench { workers, number } => {
+            conduct(rt, alloc, &Bench { workers, number }, source, sink, gate)
+        }
     }
 }

@@ -10,27 +10,9 @@ use Rattle.clap.specs.Faults.{entered_fault, fault_of, flag_word_fault, level_fa
 use Rattle.drt_words.specs.CommandLine.{drt_app, number_rule}
 use Rattle.drt_words.specs.Meaning.{meaning_of}
 use Rattle.drt_words.specs.Searches.{most_budget, most_workers}
-use Rattle.drt_words.specs.Plain.{Searcher, for_edf, for_sp, searcher_word, Spells, apart, joined, GivesBadNumber, bad_workers, bad_budget}
-
--- ---- some kind of fault
-
--- there is a fault
-abbrev Faulty : Kinds → Type 0
-Faulty [] = ⊥
-Faulty (k ∷ kinds) = Unit {0}
-
-or_first : (a b : Kinds) → Faulty a → Faulty (or_else a b)
-or_first [] b h = absurd h
-or_first (k ∷ ks) b h = tt
-
-or_second : (a b : Kinds) → Faulty b → Faulty (or_else a b)
-or_second [] b h = h
-or_second (k ∷ ks) b h = tt
-
--- a list of kinds that has one isn't empty
-not_empty : (kinds : Kinds) → Faulty kinds → is_empty kinds ≡ false
-not_empty [] h = absurd h
-not_empty (k ∷ kinds) h = ne_eqb (length (k ∷ kinds)) 0 (suc-ne-zero (length kinds))
+use Rattle.drt_words.specs.Plain.{Searcher, for_edf, for_sp, searcher_word, Spells, apart, joined, GivesBadNumber, bad_workers, bad_budget, bad_bench}
+use Rattle.drt_words.proofs.BadBench.{bench_refuses}
+use Rattle.drt_words.proofs.WordWalks.{Faulty, or_first, or_second, not_empty, IsWithin, met_within, at, dashes, keeps}
 
 -- ---- the two options
 
@@ -72,51 +54,9 @@ leaf k = record (new_shape (searcher_word k)) {
 
 -- ---- the walk of such a command
 
--- a walk that no subcommand stopped
-abbrev at : Held → Waiting → ℕ → Bool → Walk
-at h waiting position is_trailing = record { held = h; waiting = waiting; position = position; is_trailing = is_trailing; stopped = None }
-
 -- the words lead to a fault on the way or at the end
 abbrev Fails : Searcher → Walk → List Text → Type 0
 Fails k w words = Faulty (walk_fault (leaf k) [] w words) ⊎ Faulty (settle_fault both false (fold (walked both []) w words).held)
-
--- the step enters no subcommand
-abbrev IsWithin : Step → Type 0
-IsWithin (next waiting) = Unit {0}
-IsWithin (trailing position) = Unit {0}
-IsWithin (subcommand name) = ⊥
-IsWithin value = Unit {0}
-
-plain_within : (waiting : Waiting) (word : Text) (h : Held) → IsWithin (plain_word both waiting word h).1
-plain_within idle word h = tt
-plain_within (option id) word h = tt
-plain_within positional word h = tt
-
-flag_within : (waiting : Waiting) (word : Text) (h : Held) (o : Outcome) → IsWithin (after_flag both waiting word h o).1
-flag_within waiting word h done = tt
-flag_within waiting word h (waits id) = tt
-flag_within waiting word h plain = plain_within waiting word h
-flag_within waiting word h refused = plain_within waiting word h
-
-short_within : (waiting : Waiting) (word : Text) (flags : Option Text) (h : Held) → IsWithin (short_or_plain both waiting word flags h).1
-short_within waiting word (Some flags) h = flag_within waiting word (bundle both flags h).0 (bundle both flags h).1
-short_within waiting word None h = plain_within waiting word h
-
-long_within : (waiting : Waiting) (word : Text) (name : Option (Text × Option Text)) (h : Held) → IsWithin (long_or_other both waiting word name h).1
-long_within waiting word (Some p) h = flag_within waiting word _ _
-long_within waiting word None h = short_within waiting word (short_of word) h
-
-dash_within : (b : Bool) (waiting : Waiting) (position : ℕ) (word : Text) (h : Held)
-    → IsWithin (cond b (h, trailing position) (long_or_other both waiting word (long_of word) h)).1
-dash_within true waiting position word h = tt
-dash_within false waiting position word h = long_within waiting word (long_of word) h
-
-met_within : (is_trailing : Bool) (waiting : Waiting) (position : ℕ) (word : Text) (h : Held)
-    → IsWithin (word_met both [] is_trailing waiting position word h).1
-met_within true waiting position word h = tt
-met_within false idle position word h = dash_within _ idle position word h
-met_within false (option id) position word h = dash_within _ (option id) position word h
-met_within false positional position word h = dash_within _ positional position word h
 
 -- a walk after one more word
 record Goes (h : Held) (waiting : Waiting) (position : ℕ) (is_trailing : Bool) (word : Text) : Type 0 where
@@ -130,7 +70,7 @@ goes : (h : Held) (waiting : Waiting) (position : ℕ) (is_trailing : Bool) (wor
 unfolding walked
 goes h waiting position is_trailing word =
     let met = word_met both [] is_trailing waiting position word h in
-    step met.0 met.1 (met_within is_trailing waiting position word h) refl
+    step met.0 met.1 (met_within both is_trailing waiting position word h) refl
   where
     start : Walk
     start = at h waiting position is_trailing
@@ -217,9 +157,6 @@ quiet word h (Some flags) = go (bundle both flags h) (bundle_none (length flags)
 
 step_stray : (k : Searcher) (position : ℕ) (h : Held) (s : Step) → s ≡ value → Faulty (step_fault (leaf k) position h s)
 step_stray k position h s e = rw e tt
-
-abbrev dashes : Text
-dashes = 45 ∷ 45 ∷ []
 
 -- nothing takes a word that is no flag
 idle_stray : (k : Searcher) (h : Held) (position : ℕ) (word : Text) (words : List Text) → bytes_eq word dashes ≡ false → long_of word ≡ None
@@ -348,14 +285,6 @@ level_fails : (k : Searcher) (words : List Text) → Fails k (walk_from nothing_
 level_fails k words (inl bad) = or_first _ _ bad
 level_fails k words (inr bad) = or_second _ _ (or_first _ _ bad)
 
--- a walk that stopped keeps the words that follow
-keeps : (c : List Rule) (names : Names) (words : List Text) (w : Walk) (name : Text) (met : List Text) → w.stopped ≡ Some (name, met)
-    → (fold (walked c names) w words).stopped ≡ Some (name, met ++ words)
-unfolding walked
-keeps c names [] w name met e = rw (append-nil met) e
-keeps c names (word ∷ words) w name met e =
-    rw (← append_assoc met (word ∷ []) words) (keeps c names words (walked c names w word) name (met ++ word ∷ []) (rw e refl))
-
 -- the command as built, and its walk over the name of a search and these words
 abbrev whole : App
 whole = built drt_app
@@ -389,3 +318,4 @@ refuses k n program text front words back bad s = refused_below k program _ (lev
 pub bad_means : (words : List (List ℕ)) → GivesBadNumber words → meaning_of words ≡ None
 bad_means words (bad_workers command program text front spelled back bad s) = refuses command for_workers program text front spelled back bad s
 bad_means words (bad_budget command program text front spelled back bad s) = refuses command for_budget program text front spelled back bad s
+bad_means words (bad_bench program text front spelled back bad s) = bench_refuses program text front spelled back bad s

@@ -1,3 +1,5 @@
 pub mod NumberLemmas
 pub mod PlainLemmas
 pub mod BadNumbers
+mod WordWalks
+mod BadBench

@@ -6,7 +6,7 @@ use Rattle.std.specs.Char.{digit_value}
 use Rattle.std.specs.Str.Parse.{AllDigits, IsNumeral, digits_value, without_leading_plus}
 use Rattle.std.proofs.lemmas.Bool.{le-leb, leb-true}
 use Rattle.clap.specs.ValueTests.{is_numeral}
-use Rattle.drt_words.specs.Number.{number_in}
+use Rattle.drt_words.specs.Number.{number_in, whole_in}
 
 pub digits_pass : (ds : List ℕ) → AllDigits 10 ds → list_all (λ d. nat_lt (digit_value d) 10) ds ≡ true
 digits_pass [] h = refl
@@ -47,3 +47,22 @@ number_from most text fits h true t =
 pub number_refused : (most : ℕ) (text : List ℕ) → most < 2 ^ 32
     → (IsNumeral 10 (without_leading_plus text) × (digits_value 10 (without_leading_plus text) < 2 ^ 32) → ⊥) → None ≡ number_in most text
 number_refused most text fits h = number_from most text fits h _ refl
+
+pub whole_read : (n : ℕ) (text : List ℕ) → IsNumeral 10 (without_leading_plus text) × (digits_value 10 (without_leading_plus text) < 2 ^ 64)
+    → n ≡ digits_value 10 (without_leading_plus text) → Some n ≡ whole_in text
+whole_read n text h is =
+    let ds = without_leading_plus text in
+    rw (lt-ltb 0 (length ds) h.0.0, digits_pass ds h.0.1, lt-ltb (digits_value 10 ds) (2 ^ 64) h.1, is) refl
+
+whole_from : (text : List ℕ) → (IsNumeral 10 (without_leading_plus text) × (digits_value 10 (without_leading_plus text) < 2 ^ 64) → ⊥)
+    → (b : Bool) → (is_numeral (without_leading_plus text) && nat_lt (digits_value 10 (without_leading_plus text)) (2 ^ 64)) ≡ b
+    → None ≡ cond b (Some (digits_value 10 (without_leading_plus text))) None
+whole_from text h false t = refl
+whole_from text h true t =
+    let ds = without_leading_plus text in
+    let outer = both _ _ t in
+    let digits = both _ _ outer.0 in
+    absurd (h ((ltb-true _ _ digits.0, digits_from ds digits.1), ltb-true _ _ outer.1))
+
+pub whole_refused : (text : List ℕ) → (IsNumeral 10 (without_leading_plus text) × (digits_value 10 (without_leading_plus text) < 2 ^ 64) → ⊥) → None ≡ whole_in text
+whole_refused text h = whole_from text h _ refl

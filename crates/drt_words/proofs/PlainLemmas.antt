@@ -5,13 +5,13 @@ use Rattle.std.proofs.lemmas.Bool.{le-leb, ne_eqb}
 use Rattle.std.specs.Str.Parse.{digits_value, without_leading_plus}
 use Rattle.clap.proofs.OnLiterals.{clap_on_literals}
 use Rattle.clap.specs.ValueTests.{is_unsigned_in}
-use Rattle.drt_words.specs.Number.{number_in}
+use Rattle.drt_words.specs.Number.{number_in, whole_in}
 use Rattle.drt_words.specs.Searches.{most_budget, most_workers}
 use Rattle.drt_words.specs.Meaning.{meaning_of}
-use Rattle.drt_words.specs.Plain.{IsPlainNumber, BeginsPlain, Spells, apart, joined, PlainOptions, neither, workers, budget, workers_first, budget_first, IsPlain, plain_searcher, Searcher, for_edf, for_sp, searcher_word, searcher_meaning, plain_upgrade, plain_util, plain_check}
+use Rattle.drt_words.specs.Plain.{IsPlainNumber, BeginsPlain, Spells, apart, joined, PlainOptions, neither, workers, budget, workers_first, budget_first, IsPlain, plain_searcher, Searcher, for_edf, for_sp, searcher_word, searcher_meaning, plain_upgrade, plain_util, plain_check, plain_bench, IsPlainWhole, PlainWorkers, standard, given}
 use Rattle.drt_words.proofs.NumberLemmas.{digits_pass}
 use Rattle.drt_words.specs.declared.meaning.Meaning.{Meaning}
-use Rattle.drt_words.specs.declared.meaning.Meaning.TheVariants.{Upgrade, Util, Check}
+use Rattle.drt_words.specs.declared.meaning.Meaning.TheVariants.{Upgrade, Util, Check, Bench}
 
 -- what clap and the reader find at a plain number
 record Read (most : ℕ) (text : List ℕ) (n : ℕ) : Type 0 where
@@ -144,8 +144,47 @@ check_means : (program : List ℕ) → meaning_of (program ∷ codes "check" ∷
 unfolding clap_on_literals
 check_means program = refl
 
+-- What clap and the reader find at a plain number of 64 bits.
+record ReadWhole (text : List ℕ) (n : ℕ) : Type 0 where
+  plain : BeginsPlain text
+  passes : is_unsigned_in 0 18446744073709551615 text ≡ true
+  number : whole_in text ≡ Some n
+
+whole_of : (n : ℕ) (text : List ℕ) → IsPlainWhole text n → ReadWhole text n
+whole_of n [] p = absurd (omega (arith, p.digits.0))
+whole_of n (d ∷ ds) p =
+    let plus : (d == 43) ≡ false = other 43 d (lit≤ tt) p.digits.1.0 in
+    let minus : (d == 45) ≡ false = other 45 d (lit≤ tt) p.digits.1.0 in
+    let e : without_leading_plus (d ∷ ds) ≡ d ∷ ds = rw plus refl in
+    let v = digits_value 10 (d ∷ ds) in
+    let small : v < 2 ^ 64 = omega (arith, p.value, p.within) in
+    let high : v ≤ 18446744073709551615 = omega (arith, small) in
+    record {
+      plain = record { no_dashes = rw minus refl; no_long = rw minus refl; no_short = rw minus refl };
+      passes = rw (e, lt-ltb 0 (length (d ∷ ds)) p.digits.0, digits_pass (d ∷ ds) p.digits.1, lt-ltb v (2 ^ 64) small, le-leb 0 v (omega arith), le-leb v 18446744073709551615 high) refl;
+      number = rw (e, lt-ltb 0 (length (d ∷ ds)) p.digits.0, digits_pass (d ∷ ds) p.digits.1, lt-ltb v (2 ^ 64) small) (ap Some p.value);
+    }
+
+module _ (program : List ℕ) where
+  bench_alone : (text : List ℕ) (n : ℕ) → ReadWhole text n → meaning_of (program ∷ codes "bench" ∷ text ∷ []) ≡ Some (Bench 4 n)
+  unfolding clap_on_literals
+  bench_alone text n r = rw (r.plain.no_dashes, r.plain.no_long, r.plain.no_short) (rw r.passes (rw r.number refl))
+
+  bench_given : (words : List (List ℕ)) (a text : List ℕ) (m n : ℕ) → Read most_workers a m → ReadWhole text n → Spells (codes "workers") a words
+      → meaning_of (program ∷ codes "bench" ∷ (words ++ text ∷ [])) ≡ Some (Bench m n)
+  unfolding clap_on_literals
+  bench_given words a text m n r s apart =
+      rw (r.plain.no_dashes, r.plain.no_long, r.plain.no_short) (rw (s.plain.no_dashes, s.plain.no_long, s.plain.no_short) (rw (r.passes, s.passes) (rw r.number (rw s.number refl))))
+  bench_given words a text m n r s joined = rw (s.plain.no_dashes, s.plain.no_long, s.plain.no_short) (rw (r.passes, s.passes) (rw r.number (rw s.number refl)))
+
+bench_means : (program : List ℕ) (options : List (List ℕ)) (text : List ℕ) (m n : ℕ) → PlainWorkers options m → ReadWhole text n
+    → meaning_of (program ∷ codes "bench" ∷ (options ++ text ∷ [])) ≡ Some (Bench m n)
+bench_means program options text m n standard r = bench_alone program text n r
+bench_means program options text m n (given words a k p s) r = bench_given program words a text k n (read_of most_workers k a (lit< tt) p) r s
+
 pub plain_means : (words : List (List ℕ)) (meaning : Meaning) → IsPlain words meaning → meaning_of words ≡ Some meaning
 plain_means words meaning (plain_searcher program command options m n o) = options_mean command program options m n o
 plain_means words meaning (plain_upgrade program) = upgrade_means program
 plain_means words meaning (plain_util program) = util_means program
 plain_means words meaning (plain_check program) = check_means program
+plain_means words meaning (plain_bench program options text m n o p) = bench_means program options text m n o (whole_of n text p)

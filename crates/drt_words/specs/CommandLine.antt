@@ -14,10 +14,13 @@ number_rule name most standard = record (new_rule name) {
   defaults = standard ∷ [];
 }
 
+-- The option for workers, 4 by default.
+abbrev pub workers_rule : Rule
+workers_rule = number_rule (codes "workers") most_workers (codes "4")
+
 -- A command that searches has the options for workers and budget.
 abbrev pub search_app : Text → App
-search_app name = with_rule (with_rule (new_app name)
-    (number_rule (codes "workers") most_workers (codes "4")))
+search_app name = with_rule (with_rule (new_app name) workers_rule)
     (number_rule (codes "budget") most_budget (codes "100000"))
 
 -- Help, version and the help subcommand are off, and a subcommand is required.
@@ -41,8 +44,24 @@ with_search top name = with_subcommand top (search_app name).top
 abbrev pub with_plain : App → Text → App
 with_plain top name = with_subcommand top (new_app name).top
 
--- The whole command line: the commands `edf`, `sp`, `upgrade`, `util` and `check`.
+-- A word that must stand: a whole number from 0 to 18,446,744,073,709,551,615.
+abbrev pub whole_rule : Text → Rule
+whole_rule name = record (new_rule name) {
+  action = Some Set;
+  parser = Some (vp.Unsigned 0 18446744073709551615);
+  required = true;
+}
+
+-- The command `bench` has the option for workers and the word of a number.
+abbrev pub bench_app : App
+bench_app = with_rule (with_rule (new_app (codes "bench")) workers_rule) (whole_rule (codes "number"))
+
+-- The command line with `bench` too.
+abbrev pub with_bench : App → App
+with_bench top = with_subcommand top bench_app.top
+
+-- The whole command line: the commands `edf`, `sp`, `upgrade`, `util`, `check` and `bench`.
 abbrev pub drt_app : App
 drt_app =
-    with_plain (with_plain (with_plain (with_search (with_search (bare_app (new_app (codes "drt")))
-    (codes "edf")) (codes "sp")) (codes "upgrade")) (codes "util")) (codes "check")
+    with_bench (with_plain (with_plain (with_plain (with_search (with_search (bare_app (new_app (codes "drt")))
+    (codes "edf")) (codes "sp")) (codes "upgrade")) (codes "util")) (codes "check"))

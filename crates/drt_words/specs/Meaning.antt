@@ -5,10 +5,10 @@ use Rattle.std.specs.Str.{bytes_eq}
 use Rattle.clap.specs.Words.{Row, Text, first_of, subcommand_of, fault_of}
 use Rattle.clap.specs.Walk.{is_empty}
 use Rattle.drt_words.specs.CommandLine.{drt_app}
-use Rattle.drt_words.specs.Number.{number_in}
+use Rattle.drt_words.specs.Number.{number_in, whole_in}
 use Rattle.drt_words.specs.Searches.{Numbers, most_budget, most_workers}
 use Rattle.drt_words.specs.declared.meaning.Meaning.{Meaning}
-use Rattle.drt_words.specs.declared.meaning.Meaning.TheVariants.{Edf, Sp, Upgrade, Util, Check}
+use Rattle.drt_words.specs.declared.meaning.Meaning.TheVariants.{Edf, Sp, Upgrade, Util, Check, Bench}
 
 -- The number of an option that is there, or stands by default.
 abbrev pub number_at : Text → ℕ → List Row → Option ℕ
@@ -19,6 +19,15 @@ abbrev pub search_at : List Row → Option Numbers
 search_at rows = option_and_then (λ workers. option_map (λ budget. record { workers = workers; budget = budget })
     (number_at (codes "budget") most_budget rows)) (number_at (codes "workers") most_workers rows)
 
+-- The word of a whole number.
+abbrev pub whole_at : Text → List Row → Option ℕ
+whole_at name rows = option_and_then whole_in (first_of name rows)
+
+-- What `bench` asks for, by its workers and its number.
+abbrev pub bench_at : List Row → Option Meaning
+bench_at rows = option_and_then (λ workers. option_map (λ number. Bench workers number)
+    (whole_at (codes "number") rows)) (number_at (codes "workers") most_workers rows)
+
 -- What a command of this name asks for with these options.
 abbrev pub meaning_at : Text → List Row → Option Meaning
 meaning_at name rows =
@@ -26,7 +35,8 @@ meaning_at name rows =
     else (if bytes_eq name (codes "sp") then option_map Sp (search_at rows)
     else (if bytes_eq name (codes "upgrade") then Some Upgrade
     else (if bytes_eq name (codes "util") then Some Util
-    else (if bytes_eq name (codes "check") then Some Check else None))))
+    else (if bytes_eq name (codes "check") then Some Check
+    else (if bytes_eq name (codes "bench") then bench_at rows else None)))))
 
 -- What a list of words means: what clap's command states of the words, where it refuses none of them.
 abbrev pub meaning_of : List Text → Option Meaning

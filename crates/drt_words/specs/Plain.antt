@@ -1,12 +1,12 @@
 -- Plain lists of words, and lists that must be refused.
-use Rattle.std.specs.Prelude.{◌≡◌, ◌≢◌, ◌≤◌, ℕ, List, [], ◌∷◌, ◌++◌, codes, false, None, slice_index}
+use Rattle.std.specs.Prelude.{◌≡◌, ◌≢◌, ◌≤◌, ◌<◌, ◌^◌, ℕ, List, [], ◌∷◌, ◌++◌, codes, length, false, None, slice_index}
 use Rattle.std.specs.Str.{bytes_eq}
 use Rattle.std.specs.Str.Parse.{IsNumeral, digits_value}
 use Rattle.clap.specs.Lexer.{long_of, short_of}
 use Rattle.clap.specs.ValueTests.{is_unsigned_in}
 use Rattle.drt_words.specs.Searches.{most_budget, most_workers}
 use Rattle.drt_words.specs.declared.meaning.Meaning.{Meaning}
-use Rattle.drt_words.specs.declared.meaning.Meaning.TheVariants.{Edf, Sp, Upgrade, Util, Check}
+use Rattle.drt_words.specs.declared.meaning.Meaning.TheVariants.{Edf, Sp, Upgrade, Util, Check, Bench}
 
 -- The text is a number from 1 to `most` in decimal digits without leading zeros.
 pub record IsPlainNumber (most : ℕ) (text : List ℕ) (n : ℕ) : Type 0 where
@@ -15,6 +15,13 @@ pub record IsPlainNumber (most : ℕ) (text : List ℕ) (n : ℕ) : Type 0 where
   pub value : digits_value 10 text ≡ n
   pub some : 1 ≤ n
   pub within : n ≤ most
+
+-- The text is a number from 0 to 18,446,744,073,709,551,615 in decimal digits without leading zeros.
+pub record IsPlainWhole (text : List ℕ) (n : ℕ) : Type 0 where
+  pub digits : IsNumeral 10 text
+  pub no_leading_zero : slice_index text 0 ≡ 48 → length text ≡ 1
+  pub value : digits_value 10 text ≡ n
+  pub within : n < 2 ^ 64
 
 -- An option with its value is spelled `--name value` or `--name=value`.
 pub data Spells (name text : List ℕ) : List (List ℕ) → Type 0 where
@@ -46,12 +53,19 @@ abbrev pub searcher_meaning : Searcher → ℕ → ℕ → Meaning
 searcher_meaning for_edf m n = Edf (record { workers = m; budget = n })
 searcher_meaning for_sp m n = Sp (record { workers = m; budget = n })
 
--- A plain list: a program name, a command, then that command's options.
+-- The option of `bench`, with the number that it gives or the default.
+pub data PlainWorkers : List (List ℕ) → ℕ → Type 0 where
+  standard : PlainWorkers [] 4
+  given : (words : List (List ℕ)) (a : List ℕ) (m : ℕ) → IsPlainNumber most_workers a m → Spells (codes "workers") a words → PlainWorkers words m
+
+-- A plain list: a program name, a command, then that command's options, and behind them the number of `bench`.
 pub data IsPlain : List (List ℕ) → Meaning → Type 0 where
   plain_searcher : (program : List ℕ) (command : Searcher) (options : List (List ℕ)) (m n : ℕ) → PlainOptions options m n → IsPlain (program ∷ searcher_word command ∷ options) (searcher_meaning command m n)
   plain_upgrade : (program : List ℕ) → IsPlain (program ∷ codes "upgrade" ∷ []) Upgrade
   plain_util : (program : List ℕ) → IsPlain (program ∷ codes "util" ∷ []) Util
   plain_check : (program : List ℕ) → IsPlain (program ∷ codes "check" ∷ []) Check
+  plain_bench : (program : List ℕ) (options : List (List ℕ)) (text : List ℕ) (m n : ℕ) → PlainWorkers options m → IsPlainWhole text n
+      → IsPlain (program ∷ codes "bench" ∷ (options ++ text ∷ [])) (Bench m n)
 
 -- The word isn't `--` and doesn't read as a flag.
 pub record BeginsPlain (text : List ℕ) : Type 0 where
@@ -59,9 +73,11 @@ pub record BeginsPlain (text : List ℕ) : Type 0 where
   pub no_long : long_of text ≡ None
   pub no_short : short_of text ≡ None
 
--- The list gives an option of a command that searches a value that is no number in its range, whatever stands before it and after it.
+-- The list gives an option of a command that searches, or of `bench`, a value that is no number in its range, whatever stands before it and after it.
 pub data GivesBadNumber : List (List ℕ) → Type 0 where
   bad_workers : (command : Searcher) (program text : List ℕ) (front words back : List (List ℕ)) → is_unsigned_in 1 most_workers text ≡ false
       → Spells (codes "workers") text words → GivesBadNumber (program ∷ searcher_word command ∷ (front ++ words ++ back))
   bad_budget : (command : Searcher) (program text : List ℕ) (front words back : List (List ℕ)) → is_unsigned_in 1 most_budget text ≡ false
       → Spells (codes "budget") text words → GivesBadNumber (program ∷ searcher_word command ∷ (front ++ words ++ back))
+  bad_bench : (program text : List ℕ) (front words back : List (List ℕ)) → is_unsigned_in 1 most_workers text ≡ false
+      → Spells (codes "workers") text words → GivesBadNumber (program ∷ codes "bench" ∷ (front ++ words ++ back))

@@ -9,6 +9,11 @@ most_workers = 16
 abbrev pub most_budget : ℕ
 most_budget = 1000000
 
+-- So many workers: at least one, and not above the limit.
+pub record IsWorkers (count : ℕ) : Type 0 where
+  pub some : 1 ≤ count
+  pub few : count ≤ most_workers
+
 -- How many workers search, and how many steps each search may take.
 pub record Numbers : Type 0 where
   pub workers : ℕ

@@ -2,7 +2,7 @@
 ghost use Rattle.std.specs.Prelude.{◌≡◌, IfOk, false, codes};
 ghost use Rattle.clap.specs.Words.{app_of, new_app, rule_of};
 ghost use Rattle.clap.specs.declared.builder.Command.TheViews.{out-Command};
-ghost use Rattle.drt_words.specs.CommandLine.{bare_app, drt_app, number_rule, search_app, with_plain, with_search};
+ghost use Rattle.drt_words.specs.CommandLine.{bare_app, bench_app, drt_app, number_rule, search_app, whole_rule, with_bench, with_plain, with_search, workers_rule};
 
 use crate::search::{MOST_BUDGET, MOST_WORKERS};
 use clap::builder::ValueParser;
@@ -21,15 +21,42 @@ fn number_option<'a>(alloc: Global, name: &'a str, most: u64, standard: &'a str)
         .default_value(standard)
 }
 
+// The option for workers.
+fn workers_option<'a>(alloc: Global) -> Arg<'a>
+    ensures rule { rule_of result ≡ workers_rule }
+    ensures local { result.global ≡ false }
+{
+    number_option(alloc, "workers", u64::from(MOST_WORKERS), "4")
+}
+
+// A word of one whole number of 64 bits, which must stand.
+fn whole_word<'a>(alloc: Global, name: &'a str) -> Arg<'a>
+    ensures rule { rule_of result ≡ whole_rule name.entry.now }
+    ensures local { result.global ≡ false }
+{
+    Arg::new(alloc, name)
+        .action(ArgAction::Set)
+        .value_parser(ValueParser::Unsigned(0, u64::MAX))
+        .required(true)
+}
+
 // A command that searches: with the options for workers and budget.
 fn search<'a>(alloc: Global, name: &'a str) -> Result<Command<'a>, AllocError>
     ensures app { IfOk result (λ c. app_of c ≡ search_app name.entry.now) }
     ensures local { IfOk result (λ c. (out-Command c).has_globals ≡ false) }
 {
-    let workers = number_option(alloc, "workers", u64::from(MOST_WORKERS), "4");
     let budget = number_option(alloc, "budget", u64::from(MOST_BUDGET), "100000");
-    let command = Command::new(alloc, name).arg(workers)?;
+    let command = Command::new(alloc, name).arg(workers_option(alloc))?;
     command.arg(budget)
+}
+
+// The command `bench`: with the option for workers and the word of a number.
+fn bench<'a>(alloc: Global) -> Result<Command<'a>, AllocError>
+    ensures app { IfOk result (λ c. app_of c ≡ bench_app) }
+    ensures local { IfOk result (λ c. (out-Command c).has_globals ≡ false) }
+{
+    let command = Command::new(alloc, "bench").arg(workers_option(alloc))?;
+    command.arg(whole_word(alloc, "number"))
 }
 
 // The command line that has no command yet: help, version and the help subcommand are off, and a subcommand is required.
@@ -57,6 +84,13 @@ fn add_plain<'a>(alloc: Global, top: Command<'a>, name: &'a str) -> Result<Comma
     top.subcommand(Command::new(alloc, name))
 }
 
+// The command line with `bench` too.
+fn add_bench<'a>(alloc: Global, top: Command<'a>) -> Result<Command<'a>, AllocError>
+    ensures { IfOk result (λ c. app_of c ≡ with_bench (app_of top.entry)) }
+{
+    top.subcommand(bench(alloc)?)
+}
+
 // The whole command line.
 pub(crate) fn drt<'a>(alloc: Global) -> Result<Command<'a>, AllocError>
     ensures { IfOk result (λ c. app_of c ≡ drt_app) }
@@ -66,5 +100,6 @@ pub(crate) fn drt<'a>(alloc: Global) -> Result<Command<'a>, AllocError>
     let sp = add_search(alloc, edf, "sp")?;
     let upgrade = add_plain(alloc, sp, "upgrade")?;
     let util = add_plain(alloc, upgrade, "util")?;
-    add_plain(alloc, util, "check")
+    let check = add_plain(alloc, util, "check")?;
+    add_bench(alloc, check)
 }

@@ -14,7 +14,9 @@ pub mod search;
 mod tests;
 pub mod word_laws;
 pub mod words;
+pub mod workers;
 
 pub use meaning::Meaning;
 pub use search::{MOST_BUDGET, MOST_WORKERS, Search};
 pub use words::{WordsError, words_of};
+pub use workers::Workers;

@@ -1,5 +1,6 @@
 //! What a list of words asks for.
 use crate::search::Search;
+use crate::workers::Workers;
 
 /// What a list of words asks for.
 #[derive(Debug, Drop)]
@@ -14,4 +15,6 @@ pub enum Meaning {
     Util,
     /// The checker's judgement of a dossier.
     Check,
+    /// Both answers to the drawn set of a number.
+    Bench { workers: Workers, number: u64 },
 }

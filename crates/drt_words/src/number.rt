@@ -1,6 +1,6 @@
 //! A number of the command line.
 ghost use Rattle.std.specs.Prelude.{◌≡◌, ◌<◌, ◌≤◌, ◌^◌, IfSome};
-ghost use Rattle.drt_words.specs.Number.{number_in};
+ghost use Rattle.drt_words.specs.Number.{number_in, whole_in};
 
 /// The number of a text, where it lies in 1 to `most`.
 pub fn number_of(text: &str, most: u32) -> Option<u32>
@@ -15,6 +15,16 @@ pub fn number_of(text: &str, most: u32) -> Option<u32>
                 None
             }
         }
+        Err(_) => None,
+    }
+}
+
+/// The number of a text, where it lies in 0 to 18,446,744,073,709,551,615.
+pub fn whole_of(text: &str) -> Option<u64>
+    ensures { result ≡ whole_in text.now }
+{
+    match text.parse::<u64>() {
+        Ok(number) => Some(number),
         Err(_) => None,
     }
 }

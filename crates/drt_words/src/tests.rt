@@ -10,6 +10,14 @@ fn means_edf(alloc: Global, words: &[&str], budget: u32) -> bool {
     }
 }
 
+// Whether these words mean `bench` with so many workers and this number.
+fn means_bench(alloc: Global, words: &[&str], count: u32, wanted: u64) -> bool {
+    match words_of(alloc, words) {
+        Ok(Meaning::Bench { workers, number }) => workers.count() == count && number == wanted,
+        _ => false,
+    }
+}
+
 // Whether these words are refused.
 fn are_refused(alloc: Global, words: &[&str]) -> bool {
     matches!(words_of(alloc, words), Err(WordsError::Refused))
@@ -29,6 +37,27 @@ fn words_of_edf_mean_its_budget(rt: HostRuntime) -> Result<(), Fail> {
 }
 
 #[test]
+fn words_of_bench_mean_its_number(rt: HostRuntime) -> Result<(), Fail> {
+    let cases = [
+        (["drt", "bench", "--workers=16", "0"], 16, 0),
+        (
+            ["drt", "bench", "--workers=1", "18446744073709551615"],
+            1,
+            u64::MAX,
+        ),
+        (["drt", "bench", "7", "--workers=2"], 2, 7),
+    ];
+    for (words, count, number) in cases {
+        assert!(rt;
+            means_bench(rt.alloc(), words.as_slice(), count, number),
+            "{number}"
+        );
+    }
+    assert!(rt; means_bench(rt.alloc(), ["drt", "bench", "1"].as_slice(), 4, 1));
+    Ok(())
+}
+
+#[test]
 fn words_out_of_range_are_refused(rt: HostRuntime) -> Result<(), Fail> {
     let cases = [
         ["drt", "sp", "--workers=0"],
@@ -37,6 +66,8 @@ fn words_out_of_range_are_refused(rt: HostRuntime) -> Result<(), Fail> {
         ["drt", "edf", "--workers=-1"],
         ["drt", "upgrade", "--workers=2"],
         ["drt", "help", "sp"],
+        ["drt", "bench", "18446744073709551616"],
+        ["drt", "bench", "--workers=2"],
     ];
     for words in cases {
         assert!(rt; are_refused(rt.alloc(), words.as_slice()), "{words:?}");

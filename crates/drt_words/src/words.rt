@@ -2,12 +2,13 @@
 ghost use Rattle.std.specs.Prelude.{◌≡◌, ◌≢◌, ◌≤◌, IfOk, IfSome, MatchResult, List, ℕ, None, Some, map, [], ◌∷◌, codes};
 ghost use Rattle.clap.specs.Words.{subcommand_of, subcommand_rows_of, fault_of, rows_of, found_of};
 ghost use Rattle.drt_words.specs.CommandLine.{drt_app};
-ghost use Rattle.drt_words.specs.Meaning.{meaning_at, meaning_of, number_at, search_at};
+ghost use Rattle.drt_words.specs.Meaning.{bench_at, meaning_at, meaning_of, number_at, search_at, whole_at};
 
 use crate::command_line::drt;
 use crate::meaning::Meaning;
-use crate::number::number_of;
+use crate::number::{number_of, whole_of};
 use crate::search::{MOST_BUDGET, MOST_WORKERS, Search};
+use crate::workers::Workers;
 use clap::ArgMatches;
 use clap::error::ErrorKind;
 use std::alloc::{AllocError, Global};
@@ -59,6 +60,28 @@ fn search_in(matches: &ArgMatches) -> Option<Search>
     Some(Search::new(workers, budget))
 }
 
+// The word of a whole number.
+fn whole_word(matches: &ArgMatches, name: &str) -> Option<u64>
+    ensures { result ≡ whole_at name.now (rows_of (found_of matches.now)) }
+{
+    match matches.get_str(name) {
+        Some(text) => whole_of(text),
+        None => None,
+    }
+}
+
+// What `bench` asks for.
+fn bench_in(matches: &ArgMatches) -> Option<Meaning>
+    ensures { result ≡ bench_at (rows_of (found_of matches.now)) }
+{
+    let workers = number_option(matches, "workers", MOST_WORKERS)?;
+    let number = whole_word(matches, "number")?;
+    Some(Meaning::Bench {
+        workers: Workers::new(workers),
+        number,
+    })
+}
+
 // What a command of this name asks for with these options.
 fn meaning_in(name: &str, matches: &ArgMatches) -> Option<Meaning>
     ensures { result ≡ meaning_at name.now (rows_of (found_of matches.now)) }
@@ -75,6 +98,8 @@ fn meaning_in(name: &str, matches: &ArgMatches) -> Option<Meaning>
         Some(Meaning::Util)
     } else if name == "check" {
         Some(Meaning::Check)
+    } else if name == "bench" {
+        bench_in(matches)
     } else {
         None
     }

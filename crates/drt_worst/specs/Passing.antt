@@ -12,19 +12,23 @@ use Rattle.drt_worst.specs.Plans.{CanTake}
 use Rattle.drt_worst.specs.declared.pass.Question.{Question}
 use Rattle.drt_worst.specs.declared.pass.Pass.{Pass}
 
+-- The search that the word is about.
 abbrev pub search_of : Question → Search
 search_of q = search_for q.forest.value q.wcet q.deadline
 
+-- What a seat knows once it has put into the word what was reached.
 abbrev pub announced : View → Choice → View
 announced v skips = v
 announced v (reaches t) = with_raised v t
 announced v (splits l r) = v
 
+-- The greatest value that the pass itself reached.
 abbrev pub best_after : ℕ → Choice → ℕ
 best_after best skips = best
 best_after best (reaches t) = t
 best_after best (splits l r) = best
 
+-- The combination that has it.
 abbrev pub leaves_after : List ℕ → List ℕ → Choice → List ℕ
 leaves_after leaves combination skips = leaves
 leaves_after leaves combination (reaches t) = combination

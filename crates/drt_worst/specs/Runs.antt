@@ -35,17 +35,21 @@ halves_of skips = None
 halves_of (reaches t) = None
 halves_of (splits l r) = Some (l, r)
 
+-- The combination that was taken.
 abbrev pub combination_of : Entry → List ℕ
 combination_of e = e.combination
 
+-- How it was split, if it was.
 abbrev pub half_of : Entry → Option (List ℕ × List ℕ)
 half_of e = halves_of e.choice
 
+-- The combinations that are left after some entries, the next one first.
 abbrev pub stack_after : List (List ℕ) → List Entry → List (List ℕ)
 stack_after stack [] = stack
 stack_after [] (e ∷ es) = []
 stack_after (c ∷ stack) (e ∷ es) = stack_after (left_after e.choice stack) es
 
+-- What the pass knows to be reached after some entries.
 abbrev pub known_after : ℕ → List Entry → ℕ
 known_after low [] = low
 known_after low (e ∷ es) = known_after (known e.seen e.choice) es
@@ -77,6 +81,7 @@ pub record Run : Type 0 where
   pub start : List (List ℕ)
   pub entries : List Entry
 
+-- All passes have ended.
 abbrev pub AreEnded : Search → ℕ → List Run → Type 0
 AreEnded s word [] = Unit {0}
 AreEnded s word (p ∷ ps) = IsEnded s word p.start p.entries × AreEnded s word ps

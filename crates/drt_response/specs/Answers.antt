@@ -1,0 +1,80 @@
+-- What each answer says of the response times of a set.
+use Rattle.std.specs.Prelude.{◌≡◌, ℕ, zero, suc, List, [], ◌++◌, length, map, All}
+use Rattle.drt_model.specs.Contents.{Contents}
+use Rattle.drt_model.specs.declared.jobs.Policy.TheVariants.{Fixed}
+use Rattle.drt_model.specs.declared.tasks.Task.{Task}
+use Rattle.drt_model.specs.Digraph.{vertex_count}
+use Rattle.drt_model.specs.Schedulable.{Schedulable}
+use Rattle.drt_model.specs.Walk.{deadline, wcet}
+use Rattle.drt_busy.specs.Choice.{graph_at}
+use Rattle.drt_busy.specs.Response.{IsGreatestResponse}
+use Rattle.drt_tree.specs.Tree.{Plain}
+use Rattle.drt_choices.specs.Laws.{AreReaching, leaf_releases}
+use Rattle.drt_evidence.specs.Ranges.{IsInRange}
+use Rattle.drt_sp.specs.Answers.{IsReached, IsRefusal, IsTupleFor, IsUndecided}
+use Rattle.drt_sp.specs.Vertices.{subjects}
+use Rattle.drt_worst.specs.Splitting.{search_for}
+use Rattle.drt_worst.specs.Spent.{IsSpent}
+use Rattle.drt_response.specs.declared.answer.Response.{Response}
+use Rattle.drt_response.specs.declared.answer.ResponseAnswer.{ResponseAnswer}
+use Rattle.drt_response.specs.declared.answer.ResponseAnswer.TheVariants.{Done, Missed, Undecided}
+use Rattle.drt_response.specs.declared.answer.ResponseTrail.{ResponseTrail}
+use Rattle.drt_response.specs.declared.answer.ResponseTrail.TheVariants.{Fixed as FixedTrailOf, Search}
+use Rattle.drt_response.specs.declared.vertex.VertexResponse.{VertexResponse}
+use Rattle.drt_response.specs.declared.vertex.VertexResponse.TheVariants as outcomes
+
+-- The number of ticks is the greatest response of the vertex. The releases are legal, in order of tasks, and reach it: they are those of
+-- the walks of a tuple of leaves, from time 0 and with offsets below that number, each with its worst case, and the job of the vertex at 0,
+-- which finishes after exactly so many ticks.
+pub record IsResponseOf (set : Contents) (r : Response) : Type 0 where
+  pub greatest : IsGreatestResponse set.tasks r.task r.vertex r.ticks
+  pub reaching : AreReaching set.tasks r.task r.vertex r.ticks r.releases
+  pub order : List ℕ
+  pub forest : Plain
+  pub tuple : List ℕ
+  pub leaves : IsTupleFor set order forest r.task r.vertex tuple
+  pub releases_are : r.releases ≡ leaf_releases set.tasks forest order tuple r.task r.vertex r.ticks
+
+-- The search at a vertex that the analysis reached spent the budget.
+pub record IsSpentSearch (set : Contents) (budget k v : ℕ) (taken : List (List ℕ)) : Type 0 where
+  pub order : List ℕ
+  pub forest : Plain
+  pub roots : List ℕ
+  pub reached : IsReached set order forest roots k v
+  pub spent : IsSpent (search_for forest (wcet (graph_at set.tasks k) v) (deadline (graph_at set.tasks k) v)) roots budget taken
+
+-- Why there is no answer: a budget was spent, in the analysis, or at a vertex of a set that is schedulable.
+abbrev pub IsUndecidedResponse : Contents → ℕ → ResponseTrail → Type 0
+IsUndecidedResponse set budget (FixedTrailOf trail) = IsUndecided set budget trail
+IsUndecidedResponse set budget (Search task vertex taken) = Schedulable set.tasks Fixed × IsSpentSearch set budget task vertex taken
+
+-- The vertices of the first n tasks, in order of the file.
+abbrev pub vertices_of : List Task → ℕ → List (ℕ × ℕ)
+vertices_of tasks zero = []
+vertices_of tasks (suc k) = vertices_of tasks k ++ subjects k (vertex_count (graph_at tasks k))
+
+-- The task and the vertex of a response.
+abbrev pub respondent : Response → ℕ × ℕ
+respondent r = (r.task, r.vertex)
+
+-- They are the responses of the vertices of the tasks before task k, and of its first n vertices.
+pub record AreResponsesTo (set : Contents) (k n : ℕ) (responses : List Response) : Type 0 where
+  pub are : map respondent responses ≡ vertices_of set.tasks k ++ subjects k n
+  pub each : All (IsResponseOf set) responses
+
+-- The set is schedulable, and there is a response of each vertex of each task, in order of the file.
+pub record AreResponses (set : Contents) (responses : List Response) : Type 0 where
+  pub schedulable : Schedulable set.tasks Fixed
+  pub are : map respondent responses ≡ vertices_of set.tasks (length set.tasks)
+  pub each : All (IsResponseOf set) responses
+
+-- What each answer says, with a budget.
+abbrev pub IsResponseAnswer : Contents → ℕ → ResponseAnswer → Type 0
+IsResponseAnswer set budget (Done responses) = AreResponses set responses
+IsResponseAnswer set budget (Missed evidence) = IsRefusal set evidence × IsInRange evidence
+IsResponseAnswer set budget (Undecided trail) = IsUndecidedResponse set budget trail
+
+-- What came of vertex v of task k.
+abbrev pub IsVertexResponse : Contents → ℕ → ℕ → ℕ → VertexResponse → Type 0
+IsVertexResponse set budget k v (outcomes.Reached r) = (r.task ≡ k) × (r.vertex ≡ v) × IsResponseOf set r
+IsVertexResponse set budget k v (outcomes.Spent taken) = IsSpentSearch set budget k v taken

@@ -1,0 +1,38 @@
+//! The answers.
+
+use drt_evidence::Evidence;
+use drt_model::{Release, Row};
+use drt_trails::FixedTrail;
+
+/// The greatest response time of a vertex, in ticks, and releases that reach it: the job of the vertex at time 0, and those of a walk of
+/// each task of higher priority from time 0, as far as they come before that job finishes. They stand in order of tasks.
+#[derive(Drop)]
+pub struct Response {
+    pub task: u32,
+    pub vertex: u32,
+    pub ticks: u64,
+    pub releases: Row<Release>,
+}
+
+/// Where a budget was spent: in the analysis, or in the search at this vertex of this task, with the combinations that one worker took,
+/// in their order.
+#[derive(Drop)]
+pub enum ResponseTrail {
+    Fixed(FixedTrail),
+    Search {
+        task: u32,
+        vertex: u32,
+        taken: Row<Row<u32>>,
+    },
+}
+
+/// What `respond` found.
+#[derive(Drop)]
+pub enum ResponseAnswer {
+    /// The set is schedulable, with a response for each vertex of each task, in order of the file.
+    Done(Row<Response>),
+    /// The set isn't schedulable, with the evidence.
+    Missed(Evidence),
+    /// A budget was spent before there was an answer.
+    Undecided(ResponseTrail),
+}

@@ -1,0 +1,12 @@
+//! Exact worst response times under fixed priorities.
+//!
+//! `respond` runs the analysis under fixed priorities. Where the set is schedulable, it searches the trees of that analysis for the
+//! greatest response time of each vertex, and shows releases that reach it. The layer above uses the one contract of `respond`.
+#![tactic(auto)]
+
+mod answer;
+mod responses;
+mod vertex;
+
+pub use answer::{Response, ResponseAnswer, ResponseTrail};
+pub use responses::respond;

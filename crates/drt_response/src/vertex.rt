@@ -1,0 +1,114 @@
+//! The greatest response time of one vertex.
+ghost use Rattle.std.specs.Prelude.{◌≡◌, ℕ, ◌≤◌, ◌<◌, length, take, Some, slice_get, IfOk};
+ghost use Rattle.drt_model.specs.Constrained.{AreConstrained};
+ghost use Rattle.drt_model.specs.Digraph.{vertex_count};
+ghost use Rattle.drt_busy.specs.Choice.{graph_at};
+ghost use Rattle.drt_evidence.specs.Claims.{graphs_of};
+ghost use Rattle.drt_sp.specs.Grown.{AreProvedTrees};
+ghost use Rattle.drt_response.specs.Answers.{IsVertexResponse};
+
+use crate::answer::Response;
+use drt_busy::times_suffice_for_task;
+use drt_choices::{leaves_respond, walks_pass};
+use drt_graph::Graphs;
+use drt_model::{Memory, Row, TaskSet};
+use drt_pool::Gate;
+use drt_sp::{ProvedTrees, VertexTuple, leaf_releases};
+use drt_worst::{Worst, worst};
+use std::alloc::Global;
+use std::sync::Wait;
+use std::thread::Threads;
+
+/// What came of a vertex: its response, or what a worker took that spent its budget.
+#[derive(Drop)]
+pub(crate) enum VertexResponse {
+    Reached(Response),
+    Spent(Row<Row<u32>>),
+}
+
+/// The greatest response time of a vertex of a task, in ticks, over the trees of the tasks of higher priority.
+pub(crate) fn respond_vertex<G: Gate, R: Threads + Wait + Sync>(
+    rt: &R,
+    alloc: Global,
+    set: &TaskSet,
+    graphs: &Graphs,
+    trees: &ProvedTrees,
+    task: u32,
+    vertex: u32,
+    workers: u32,
+    budget: u64,
+    gate: &G,
+) -> Result<VertexResponse, Memory>
+    requires constrained { AreConstrained set.now.tasks }
+    requires graphs { graphs.now ≡ graphs_of set.now.tasks }
+    requires trees { AreProvedTrees set.now trees.now }
+    requires task { task < length set.now.tasks }
+    requires vertex { vertex < vertex_count (graph_at set.now.tasks task) }
+    requires workers { (1 ≤ workers) × (workers ≤ 16) }
+    requires budget { (1 ≤ budget) × (budget ≤ 1000000) }
+    ensures { IfOk result (IsVertexResponse set.now budget task vertex) }
+{
+    times_suffice_for_task();
+    leaves_respond();
+    walks_pass();
+    let _count = graphs.count();
+    let order = trees.order.as_slice();
+    let higher = first_roots(trees.roots.as_slice(), place_of(order, task));
+    let subject = graphs.graph(task).vertex(vertex);
+    match worst(
+        rt,
+        alloc,
+        &trees.forest,
+        higher,
+        subject.wcet,
+        subject.deadline,
+        workers,
+        budget,
+        gate,
+    )? {
+        Worst::Spent { taken } => Ok(VertexResponse::Spent(taken)),
+        Worst::Reached { ticks, leaves } => {
+            let shown = VertexTuple {
+                task,
+                vertex,
+                tuple: leaves,
+            };
+            let releases = leaf_releases(
+                alloc,
+                set,
+                graphs,
+                &trees.forest,
+                order,
+                &shown,
+                ticks as u32,
+            )?;
+            Ok(VertexResponse::Reached(Response {
+                task,
+                vertex,
+                ticks,
+                releases,
+            }))
+        }
+    }
+}
+
+// The place of a task in the order.
+fn place_of(order: &[u32], task: u32) -> usize
+    requires { (i : ℕ) × (slice_get order.now i ≡ Some task) }
+    ensures { slice_get order.now result ≡ Some task }
+{
+    'places: for i in 0..order.len() {
+        if order[i] == task {
+            return i;
+        }
+    }
+    unreachable!()
+}
+
+// The roots at the first places.
+fn first_roots(roots: &[u32], count: usize) -> &[u32]
+    requires { count ≤ length roots.now }
+    ensures { result.now ≡ take count roots.now }
+{
+    &roots[..count]
+}
