@@ -1,5 +1,5 @@
 -- What a run of a command did, at each of its ends.
-use Rattle.std.specs.Prelude.{◌≡◌, ◌≢◌, ◌≤◌, ◌<◌, ℕ, ◌⊎◌, List, Option}
+use Rattle.std.specs.Prelude.{◌≡◌, ◌≢◌, ◌≤◌, ◌<◌, ℕ, ◌⊎◌, List, Option, Result, Ok, Err}
 use Rattle.drt_io.specs.Writing.{Grows, GrowsByPrefix}
 use Rattle.drt_outcome.specs.declared.fault.Fault.{Fault}
 use Rattle.drt_outcome.specs.declared.fault.Fault.TheVariants as faults
@@ -7,12 +7,14 @@ use Rattle.drt_outcome.specs.declared.outcome.Outcome.{Outcome}
 use Rattle.drt_outcome.specs.declared.outcome.Trail.{Trail}
 use Rattle.drt_outcome.specs.declared.outcome.Trail.TheVariants as trails
 use Rattle.drt_command.specs.declared.report.Report.{Report}
+use Rattle.drt_command.specs.declared.report.Unmade.{Unmade}
+use Rattle.drt_command.specs.declared.report.Unmade.TheVariants as unmade
 use Rattle.drt_command.specs.declared.input.Input.{Input}
 use Rattle.drt_outcome.specs.declared.stop.Stop.{Stop}
 use Rattle.drt_outcome.specs.declared.stop.Stop.TheVariants.{Words, Read, Write, Memory, Refused}
 use Rattle.drt_command.specs.Inputs.{AtInput, IsLonger}
 use Rattle.drt_command.specs.Rules.{Rules}
-use Rattle.drt_outcome.specs.Stops.{IsRefusal, IsStatus, fault_status}
+use Rattle.drt_outcome.specs.Stops.{IsRefusal, IsStatus, fault_status, outcome_of}
 
 -- The command made a text of the bytes, with this status and this trail, and what the sink holds grew by exactly this text.
 pub record Writes (r : Rules) (bytes : List ℕ) (status : ℕ) (trail : Trail) (old new : Option (List ℕ)) : Type 0 where
@@ -46,6 +48,17 @@ IsStopCause r read_failed write_failed left Read = read_failed
 IsStopCause r read_failed write_failed left Write = write_failed
 IsStopCause r read_failed write_failed left Memory = Unit {0}
 IsStopCause r read_failed write_failed left (Refused fault) = AtInput r.input left (λ bytes. r.refuses bytes fault)
+
+-- Why nothing was made is why the run stops.
+abbrev pub stop_of : Unmade → Stop
+stop_of unmade.Memory = Memory
+stop_of (unmade.Refused fault) = Refused fault
+
+-- What was made was written, or the write failed behind a prefix of its text; where nothing was made the outcome tells why.
+abbrev pub HasEnded : Result Report Unmade → Option (List ℕ) → Option (List ℕ) → Type 0 → Outcome → Type 0
+HasEnded (Ok made) old new write_failed o =
+    (Grows old new made.text × (o ≡ record { status = made.status; trail = made.trail; fault = faults.Nothing })) ⊎ (write_failed × GrowsByPrefix old new made.text × (o ≡ outcome_of Write))
+HasEnded (Err e) old new write_failed o = o ≡ outcome_of (stop_of e)
 
 -- A run of a command with these rules, from what the source told and what the sink held, to what the sink holds and the outcome.
 pub record IsRun (r : Rules) (left : Option (List ℕ)) (read_failed write_failed : Type 0) (old new : Option (List ℕ)) (o : Outcome) : Type 0 where

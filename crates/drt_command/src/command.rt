@@ -5,10 +5,7 @@ ghost use Rattle.drt_command.specs.Rules.{AreLawful, IsCause, Rules};
 
 use crate::input::Input;
 use crate::report::{Report, Unmade};
-use drt_pool::Gate;
 use std::alloc::Global;
-use std::sync::Wait;
-use std::thread::Threads;
 
 /// A command, with the words that it was given.
 pub trait Command {
@@ -23,14 +20,8 @@ pub trait Command {
     fn input(&self) -> Input
         ensures { result ≡ (rules self.now).input };
 
-    /// What it makes of its input. Where workers make it, the gate sees each of their turns.
-    fn make<G: Gate, R: Threads + Wait + Sync>(
-        &self,
-        rt: &R,
-        alloc: Global,
-        bytes: &[u8],
-        gate: &G,
-    ) -> Result<Report, Unmade>
+    /// What it makes of its input.
+    fn make(&self, alloc: Global, bytes: &[u8]) -> Result<Report, Unmade>
         requires { IsWithin (rules self.now).input bytes.now }
         ensures makes { IfOk result ((rules self.now).makes bytes.now) }
         ensures unmade { IfErr result (IsCause (rules self.now).refuses bytes.now) };

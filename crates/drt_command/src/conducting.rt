@@ -11,26 +11,21 @@ use crate::reading::read_input;
 use crate::report::{Report, Unmade};
 use drt_io::{Sink, Source, write_all};
 use drt_outcome::{Fault, Outcome, Stop, outcome_of};
-use drt_pool::Gate;
 use std::alloc::Global;
-use std::sync::Wait;
-use std::thread::Threads;
 
 /// Runs a command: it reads its input from the source, and writes what it makes of it to the sink.
-pub fn conduct<C: Command, S: Source, K: Sink, G: Gate, R: Threads + Wait + Sync>(
-    rt: &R,
+pub fn conduct<C: Command, S: Source, K: Sink>(
     alloc: Global,
     command: &C,
     source: &mut S,
     sink: &mut K,
-    gate: &G,
 ) -> Outcome
     ensures run { IsRun (C.rules command.now) (S.left source.old) (Rose (S.faults source.old) (S.faults source.new)) (Rose (K.faults sink.old) (K.faults sink.new)) (K.held sink.old) (K.held sink.new) result }
     ensures unwritten { 4 ≤ result.status → result.status ≢ 7 → sink.new ≡ sink.old }
     ensures unread { (C.rules command.now).input ≡ Input.Nothing → source.new ≡ source.old }
 {
     command.laws();
-    match perform(rt, alloc, command, source, sink, gate) {
+    match perform(alloc, command, source, sink) {
         Ok(
             Report {
                 status,
@@ -47,13 +42,11 @@ pub fn conduct<C: Command, S: Source, K: Sink, G: Gate, R: Threads + Wait + Sync
 }
 
 // Reads the input, makes what the command makes of it, and writes its text.
-fn perform<C: Command, S: Source, K: Sink, G: Gate, R: Threads + Wait + Sync>(
-    rt: &R,
+fn perform<C: Command, S: Source, K: Sink>(
     alloc: Global,
     command: &C,
     source: &mut S,
     sink: &mut K,
-    gate: &G,
 ) -> Result<Report, Stop>
     ensures made { IfOk result (λ m. AtInput (C.rules command.now).input (S.left source.old) (λ bytes. (C.rules command.now).makes bytes m)) }
     ensures written { IfOk result (λ m. Grows (K.held sink.old) (K.held sink.new) m.text) }
@@ -64,7 +57,7 @@ fn perform<C: Command, S: Source, K: Sink, G: Gate, R: Threads + Wait + Sync>(
 {
     command.laws();
     let bytes = read_input(alloc, command.input(), source)?;
-    let report = match command.make(rt, alloc, bytes.as_slice(), gate) {
+    let report = match command.make(alloc, bytes.as_slice()) {
         Ok(report) => report,
         Err(Unmade::Memory) => return Err(Stop::Memory),
         Err(Unmade::Refused(fault)) => return Err(Stop::Refused(fault)),

@@ -10,12 +10,8 @@ use drt_model::Row;
 use drt_outcome::Stop;
 use std::alloc::Global;
 
-// The whole input.
-pub(crate) fn read_input<S: Source>(
-    alloc: Global,
-    input: Input,
-    source: &mut S,
-) -> Result<Row<u8>, Stop>
+/// The whole input. Where it can't be had the run stops: a read failed, it is too long, or no memory was to be had.
+pub fn read_input<S: Source>(alloc: Global, input: Input, source: &mut S) -> Result<Row<u8>, Stop>
     ensures is { IfOk result (IsInput input (S.left source.old)) }
     ensures within { IfOk result (IsWithin input) }
     ensures stops { IfErr result (IsReadCause (Rose (S.faults source.old) (S.faults source.new)) input (S.left source.old)) }

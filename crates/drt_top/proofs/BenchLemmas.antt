@@ -15,7 +15,6 @@ use Rattle.drt_evidence.specs.declared.evidence.RatioClaim.{RatioClaim}
 use Rattle.drt_evidence.specs.declared.evidence.ProofClaim.{ProofClaim}
 use Rattle.drt_evidence.specs.declared.evidence.TreeClaim.{TreeClaim}
 use Rattle.drt_evidence.specs.declared.rule.Rule.TheVariants.{OrderedFronts}
-use Rattle.drt_check.proofs.Orders.{later}
 use Rattle.drt_horizon.specs.declared.answers.Beyond.TheVariants.{TooFar}
 use Rattle.drt_edf.specs.Answers.{IsExactYes, IsMissed, IsOther, IsUndecided}
 use Rattle.drt_edf.specs.Plans.{AreTooFine, IsTooFar}
@@ -31,6 +30,7 @@ use Rattle.drt_trails.specs.declared.EdfTrail.{EdfTrail}
 use Rattle.drt_trails.specs.declared.FixedTrail.{FixedTrail}
 use Rattle.drt_words.specs.Searches.{most_budget}
 use Rattle.drt_top.specs.commands.Bench.{AreCounts, EdfSays, FixedSays, HasCount}
+use Rattle.drt_top.proofs.FrontOrder.{later}
 use Rattle.drt_top.proofs.EdfLemmas.{one_alone, one_near, other_near, undecided_other}
 
 -- No drawn set is too fine.

@@ -8,3 +8,4 @@ pub mod UtilPromises
 pub mod CheckLemmas
 pub mod CheckPromises
 pub mod BenchLemmas
+pub mod FrontOrder

@@ -9,10 +9,10 @@ ghost use Rattle.drt_words.specs.declared.meaning.Meaning.{Meaning};
 ghost use Rattle.drt_words.specs.Meaning.{meaning_of};
 ghost use Rattle.drt_top.specs.commands.{rules_of};
 
-use crate::commands::bench::Bench;
+use crate::commands::bench::{self, Bench};
 use crate::commands::check::Check;
-use crate::commands::edf::Edf;
-use crate::commands::sp::Sp;
+use crate::commands::edf::{self, Edf};
+use crate::commands::sp::{self, Sp};
 use crate::commands::upgrade::Upgrade;
 use crate::commands::util::Util;
 use drt_command::conduct;
@@ -93,13 +93,14 @@ fn dispatch<S: Source, K: Sink, G: Gate, R: Threads + Wait + Sync>(
     ensures unread { (rules_of meaning).input ≡ Input.Nothing → source.new ≡ source.old }
 {
     match meaning {
-        Meaning::Edf { search } => conduct(rt, alloc, &Edf { search }, source, sink, gate),
-        Meaning::Sp { search } => conduct(rt, alloc, &Sp { search }, source, sink, gate),
-        Meaning::Upgrade => conduct(rt, alloc, &Upgrade, source, sink, gate),
-        Meaning::Util => conduct(rt, alloc, &Util, source, sink, gate),
-        Meaning::Check => conduct(rt, alloc, &Check, source, sink, gate),
+        Meaning::Edf { search } => edf::conduct(rt, alloc, &Edf { search }, source, sink, gate),
+        Meaning::Sp { search } => sp::conduct(rt, alloc, &Sp { search }, source, sink, gate),
+        Meaning::Upgrade => conduct(alloc, &Upgrade, source, sink),
+        Meaning::Util => conduct(alloc, &Util, source, sink),
+        Meaning::Check => conduct(alloc, &Check, source, sink),
         Meaning::Bench { workers, number } => {
-            conduct(rt, alloc, &Bench { workers, number }, source, sink, gate)
+            let command = Bench { workers, number };
+            bench::conduct(rt, alloc, &command, source, sink, gate)
         }
     }
 }

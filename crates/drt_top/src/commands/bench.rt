@@ -7,16 +7,23 @@ ghost use Rattle.drt_edf.specs.Plans.{AreTooFine};
 ghost use Rattle.drt_gen.specs.Generated.{generated};
 ghost use Rattle.drt_words.specs.Searches.{most_workers};
 ghost use Rattle.drt_summary.specs.declared.summary.EdfVerdict.{EdfVerdict};
+ghost use Rattle.drt_io.specs.Causes.{Rose};
+ghost use Rattle.drt_command.specs.declared.input.Input.{Input};
+ghost use Rattle.drt_command.specs.Inputs.{IsWithin};
+ghost use Rattle.drt_command.specs.Rules.{IsCause};
+ghost use Rattle.drt_command.specs.Runs.{IsRun};
 ghost use Rattle.drt_top.specs.commands.Bench.{AreCounts, Benches, EdfSays, FixedSays, bench_rules};
 
-use drt_command::{Command, Input, Report, Unmade};
+use drt_command::{Input, Promised, Report, Unmade, finish, read_input, stop_reading};
 use drt_edf::{EdfAnswer, EdfTrail, analyse_edf};
 use drt_evidence::Evidence;
 use drt_gen::{deadlines_are_constrained, generate, sets_keep_limits};
 use drt_gen_scale::scales_are_small;
 use drt_graph::{GraphError, Graphs, check};
 use drt_horizon::Beyond;
+use drt_io::{Sink, Source};
 use drt_model::{FrontEntry, Memory, Row, TaskSet};
+use drt_outcome::Outcome;
 use drt_outcome::outcome::{Trail, YES};
 use drt_pool::Gate;
 use drt_sp::{FixedAnswer, FixedTrail, analyse_fixed};
@@ -33,7 +40,7 @@ pub(crate) struct Bench {
     pub(crate) number: u64,
 }
 
-impl Command for Bench {
+impl Promised for Bench {
     ghost rules = { λ c. bench_rules c.number };
 
     fn laws(&self) {}
@@ -41,24 +48,51 @@ impl Command for Bench {
     fn input(&self) -> Input {
         Input::Nothing
     }
+}
 
-    fn make<G: Gate, R: Threads + Wait + Sync>(
-        &self,
-        rt: &R,
-        alloc: Global,
-        _bytes: &[u8],
-        gate: &G,
-    ) -> Result<Report, Unmade> {
-        sets_keep_limits();
-        deadlines_are_constrained();
-        scales_are_small();
-        let set = generate(alloc, self.number)?;
-        let graphs = make_graphs(alloc, &set)?;
-        let workers = self.workers.count();
-        let edf = decide_edf(rt, alloc, &set, &graphs, workers, gate)?;
-        let fixed = decide_fixed(rt, alloc, &set, &graphs, workers, gate)?;
-        Ok(summarise(alloc, self.number, edf, fixed)?)
+/// Runs `bench`: its input is read, workers make its text, and it is written.
+pub(crate) fn conduct<S: Source, K: Sink, G: Gate, R: Threads + Wait + Sync>(
+    rt: &R,
+    alloc: Global,
+    command: &Bench,
+    source: &mut S,
+    sink: &mut K,
+    gate: &G,
+) -> Outcome
+    ensures run { IsRun (bench_rules command.now.number) (S.left source.old) (Rose (S.faults source.old) (S.faults source.new)) (Rose (K.faults sink.old) (K.faults sink.new)) (K.held sink.old) (K.held sink.new) result }
+    ensures unwritten { 4 ≤ result.status → result.status ≢ 7 → sink.new ≡ sink.old }
+    ensures unread { (bench_rules command.now.number).input ≡ Input.Nothing → source.new ≡ source.old }
+{
+    match read_input(alloc, Input::Nothing, source) {
+        Ok(bytes) => {
+            let made = make(rt, alloc, command, bytes.as_slice(), gate);
+            finish(command, bytes.as_slice(), made, sink)
+        }
+        Err(stop) => stop_reading(command, stop),
     }
+}
+
+// What it makes of its input.
+fn make<G: Gate, R: Threads + Wait + Sync>(
+    rt: &R,
+    alloc: Global,
+    command: &Bench,
+    _bytes: &[u8],
+    gate: &G,
+) -> Result<Report, Unmade>
+    requires { IsWithin (bench_rules command.now.number).input _bytes.now }
+    ensures makes { IfOk result ((bench_rules command.now.number).makes _bytes.now) }
+    ensures unmade { IfErr result (IsCause (bench_rules command.now.number).refuses _bytes.now) }
+{
+    sets_keep_limits();
+    deadlines_are_constrained();
+    scales_are_small();
+    let set = generate(alloc, command.number)?;
+    let graphs = make_graphs(alloc, &set)?;
+    let workers = command.workers.count();
+    let edf = decide_edf(rt, alloc, &set, &graphs, workers, gate)?;
+    let fixed = decide_fixed(rt, alloc, &set, &graphs, workers, gate)?;
+    Ok(summarise(alloc, command.number, edf, fixed)?)
 }
 
 // What was found under EDF: the verdict, how many labels each front has, and the trail of a spent budget.

@@ -9,10 +9,7 @@ use drt_evidence::{DossierError, DossierFault};
 use drt_model::Row;
 use drt_outcome::fault::{DOSSIER_TOO_LONG, Fault};
 use drt_outcome::outcome::{NO, ONE, Trail, UNDECIDED, YES};
-use drt_pool::Gate;
 use std::alloc::Global;
-use std::sync::Wait;
-use std::thread::Threads;
 
 // The most bytes that a dossier has.
 const MOST_DOSSIER_BYTES: u64 = 1_073_741_824;
@@ -38,13 +35,7 @@ impl Command for Check {
         }
     }
 
-    fn make<G: Gate, R: Threads + Wait + Sync>(
-        &self,
-        _rt: &R,
-        alloc: Global,
-        bytes: &[u8],
-        _gate: &G,
-    ) -> Result<Report, Unmade> {
+    fn make(&self, alloc: Global, bytes: &[u8]) -> Result<Report, Unmade> {
         let judgement = judge(alloc, bytes)?;
         make_report(alloc, bytes, judgement)
     }

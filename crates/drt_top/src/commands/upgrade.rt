@@ -9,10 +9,7 @@ use drt_file::laws::texts_read_as_one_set;
 use drt_file::upgrade;
 use drt_model::TaskSet;
 use drt_outcome::outcome::YES;
-use drt_pool::Gate;
 use std::alloc::Global;
-use std::sync::Wait;
-use std::thread::Threads;
 
 /// The command `upgrade`.
 #[derive(Debug, Drop)]
@@ -29,13 +26,7 @@ impl Command for Upgrade {
         file_input()
     }
 
-    fn make<G: Gate, R: Threads + Wait + Sync>(
-        &self,
-        _rt: &R,
-        alloc: Global,
-        bytes: &[u8],
-        _gate: &G,
-    ) -> Result<Report, Unmade> {
+    fn make(&self, alloc: Global, bytes: &[u8]) -> Result<Report, Unmade> {
         let (set, _graphs) = read_set(alloc, bytes)?;
         print(alloc, bytes, set)
     }

@@ -16,12 +16,9 @@ use drt_model::{Memory, Row, Task, TaskSet};
 use drt_num::Ratio;
 use drt_outcome::fault::{Fault, SCALE_TOO_FINE};
 use drt_outcome::outcome::YES;
-use drt_pool::Gate;
 use drt_ratio::{RatioProof, greatest, proofs_give_ratios, utilisation};
 use itoa::Buffer;
 use std::alloc::Global;
-use std::sync::Wait;
-use std::thread::Threads;
 
 /// The command `util`.
 #[derive(Debug, Drop)]
@@ -38,13 +35,7 @@ impl Command for Util {
         file_input()
     }
 
-    fn make<G: Gate, R: Threads + Wait + Sync>(
-        &self,
-        _rt: &R,
-        alloc: Global,
-        bytes: &[u8],
-        _gate: &G,
-    ) -> Result<Report, Unmade> {
+    fn make(&self, alloc: Global, bytes: &[u8]) -> Result<Report, Unmade> {
         let (set, graphs) = read_set(alloc, bytes)?;
         print(alloc, bytes, &set, &graphs)
     }
