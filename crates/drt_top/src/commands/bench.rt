@@ -44,10 +44,6 @@ impl Promised for Bench {
     ghost rules = { λ c. bench_rules c.number };
 
     fn laws(&self) {}
-
-    fn input(&self) -> Input {
-        Input::Nothing
-    }
 }
 
 /// Runs `bench`: its input is read, workers make its text, and it is written.
