@@ -118,8 +118,27 @@ fn turn<R: Wait>(
     }
 }
 
-// Turns the passes in this order, and answers how many of the turns went as they are to go, up to the first that didn't.
+// Turns the passes in this order, and hands them back with how many of the turns went as they are to go, up to the first that didn't.
 pub(crate) fn follow<R: Wait>(
+    rt: &R,
+    shared: &SharedFrontier,
+    forest: &Forest,
+    passes: Vec<FrontierPass>,
+    plays: &[Play],
+) -> (usize, Vec<FrontierPass>)
+    requires forest { forest.now ≡ shared.now.setting.forest }
+    requires count { length passes.items ≡ shared.now.passes }
+    requires passes { EachPlace (λ place p. IsPassOf shared.now p) passes.items }
+    ensures count { length result.1.items ≡ shared.now.passes }
+    ensures passes { EachPlace (λ place p. IsPassOf shared.now p) result.1.items }
+{
+    let mut passes = passes;
+    let followed = play_all(rt, shared, forest, passes.as_mut_slice(), plays);
+    (followed, passes)
+}
+
+// Turns the passes in this order, and answers how many of the turns went so.
+fn play_all<R: Wait>(
     rt: &R,
     shared: &SharedFrontier,
     forest: &Forest,

@@ -37,7 +37,7 @@ const fn busy(place: usize, id: u32) -> Play {
 fn two_passes_settle_the_halves_of_three_walks(rt: HostRuntime) -> Result<(), Fail> {
     let alloc = rt.alloc();
     let (forest, root) = three_walks(alloc)?.expect(&rt, "a tree");
-    let (shared, mut passes) = share(&rt, alloc, &forest, root, 5, 100, 2)?;
+    let (shared, passes) = share(&rt, alloc, &forest, root, 5, 100, 2)?;
     let plays = [
         taken(0, 0),
         busy(1, 0),
@@ -50,7 +50,7 @@ fn two_passes_settle_the_halves_of_three_walks(rt: HostRuntime) -> Result<(), Fa
         make_play(1, TAKE, FrontierReply::Finished),
         make_play(0, TAKE, FrontierReply::Finished),
     ];
-    let followed = follow(&rt, &shared, &forest, &mut passes, &plays);
+    let (followed, passes) = follow(&rt, &shared, &forest, passes, &plays);
     assert_eq!(rt; followed, plays.len());
     assert!(rt; have(&passes, &[4, 2], &[None, None]));
     let frontier = close(shared, passes);
@@ -72,7 +72,7 @@ fn two_passes_settle_the_halves_of_three_walks(rt: HostRuntime) -> Result<(), Fa
 fn three_passes_find_the_walk_that_is_too_much(rt: HostRuntime) -> Result<(), Fail> {
     let alloc = rt.alloc();
     let (forest, root) = two_walks(alloc)?.expect(&rt, "a tree");
-    let (shared, mut passes) = share(&rt, alloc, &forest, root, 4, 100, 3)?;
+    let (shared, passes) = share(&rt, alloc, &forest, root, 4, 100, 3)?;
     let plays = [
         taken(2, 0),
         busy(0, 0),
@@ -85,7 +85,7 @@ fn three_passes_find_the_walk_that_is_too_much(rt: HostRuntime) -> Result<(), Fa
         make_play(2, TAKE, FrontierReply::Failed(2)),
         make_play(1, TAKE, FrontierReply::Failed(2)),
     ];
-    let followed = follow(&rt, &shared, &forest, &mut passes, &plays);
+    let (followed, passes) = follow(&rt, &shared, &forest, passes, &plays);
     assert_eq!(rt; followed, plays.len());
     assert!(rt; have(&passes, &[1, 2, 2], &[Some(1), None, None]));
     let mut frontier = close(shared, passes);
@@ -107,7 +107,7 @@ fn three_passes_find_the_walk_that_is_too_much(rt: HostRuntime) -> Result<(), Fa
 fn a_budget_of_three_steps_is_spent_by_both_passes(rt: HostRuntime) -> Result<(), Fail> {
     let alloc = rt.alloc();
     let (forest, root) = three_walks(alloc)?.expect(&rt, "a tree");
-    let (shared, mut passes) = share(&rt, alloc, &forest, root, 5, 3, 2)?;
+    let (shared, passes) = share(&rt, alloc, &forest, root, 5, 3, 2)?;
     let plays = [
         taken(0, 0),
         make_play(0, split(0, 0), FrontierReply::Halved(1, 2)),
@@ -115,7 +115,7 @@ fn a_budget_of_three_steps_is_spent_by_both_passes(rt: HostRuntime) -> Result<()
         make_play(0, TAKE, FrontierReply::Spent),
         make_play(1, pass(1, 5), FrontierReply::Spent),
     ];
-    let followed = follow(&rt, &shared, &forest, &mut passes, &plays);
+    let (followed, passes) = follow(&rt, &shared, &forest, passes, &plays);
     assert_eq!(rt; followed, plays.len());
     assert!(rt; have(&passes, &[2, 1], &[None, Some(1)]));
     let frontier = close(shared, passes);

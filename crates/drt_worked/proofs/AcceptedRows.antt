@@ -1,22 +1,25 @@
 -- What `edf` writes of one vertex (2, 5) with a loop of 5 is accepted: each rule that applies is kept.
-use Rattle.std.proofs.Common.{◌≡◌, ℕ, zero, suc, ◌+◌, ◌*◌, ◌<◌, ◌≤◌, List, [], ◌∷◌, refl, lit<, lit≤, arith}
-use Rattle.std.specs.Prelude.{All, pos}
+use Rattle.std.proofs.Common.{◌≡◌, ℕ, zero, suc, ◌+◌, ◌*◌, ◌<◌, ◌≤◌, List, [], ◌∷◌, Some, refl, sym, ap, ◌∙◌, lit<, lit≤, arith}
+use Rattle.std.specs.Prelude.{All, if◌then◌else◌, pos}
 use Rattle.std.specs.Int.{IsGcd}
 use Rattle.std.proofs.Math.Nat.{dvd-mul_left}
+use Rattle.std.proofs.lemmas.Bool.{ne_eqb}
+use Rattle.std.proofs.lemmas.Int.{ints}
 use Rattle.std.proofs.lemmas.List.Elements.{All-nil, All-cons}
-use Rattle.drt_model.specs.Digraph.{Digraph, digraph_of}
+use Rattle.std.proofs.lemmas.Nat.Gcd.{IsGcd-from_zero, IsGcd-from_mod, IsGcd-swap}
+use Rattle.std.proofs.lemmas.Option.{none-some, same_Some}
+use Rattle.drt_model.specs.Digraph.{Digraph, digraph_of, out_degree}
 use Rattle.drt_model.specs.Horizon.{most_to, constant_of, extra, horizon}
-use Rattle.drt_model.specs.Utilisation.{IsScale, rate}
+use Rattle.drt_model.specs.RatioRules.{FitPotentials}
+use Rattle.drt_model.specs.Utilisation.{Fraction, IsScale, rate}
 use Rattle.drt_model.specs.Walk.{sep_in, or_zero, work, span}
 use Rattle.drt_model.specs.declared.front.FrontEntry.{FrontEntry}
 use Rattle.drt_evidence.specs.Fronts.{HasOpenings, IsClosedFront, IsExtended, IsNextEntry, IsWithin, due, works_due}
 use Rattle.drt_evidence.specs.Rules.{Accepts}
 use Rattle.drt_evidence.specs.declared.evidence.RatioClaim.{RatioClaim}
 use Rattle.drt_evidence.proofs.Accepting.{AreFrontClaims, AreRatioClaims, IsEdfYes, yes_accepted}
-use Rattle.drt_rows.proofs.PotentialRows.{loop_fits}
 use Rattle.drt_rows.proofs.SetRows.{short_is_constrained}
-use Rattle.drt_rows.proofs.Sets.{short}
-use Rattle.drt_rows.proofs.UtilisationRows.{fraction, lowest}
+use Rattle.drt_rows.proofs.Sets.{edge, short}
 use Rattle.drt_worked.proofs.TextRows.{edf_statement, one, set}
 
 abbrev claim : RatioClaim
@@ -24,6 +27,19 @@ claim = record { num = 2; den = 5; cycle = 0 ∷ []; potentials = pos 0 ∷ [] }
 
 abbrev graph : Digraph
 graph = digraph_of short
+
+abbrev fraction : ℕ → ℕ → Fraction
+fraction a b = record { num = a; den = b }
+
+lowest : IsGcd 2 5 1
+lowest = IsGcd-swap 5 2 1 (IsGcd-from_mod 5 2 1 (IsGcd-from_mod 2 1 1 (IsGcd-from_zero 1 0 refl)))
+
+-- The loop gains nothing: 5 times 2 less 2 times 5.
+loop_fits : FitPotentials graph 2 5 (pos 0 ∷ [])
+unfolding sep_in
+loop_fits zero zero p e = let s : 5 ≡ p = same_Some 5 p e in omega (arith, ints, s)
+loop_fits zero (suc v) p e = absurd (none-some p (sym (ap (λ b. if b then Some 5 else sep_in [] (suc v)) (ne_eqb 0 (suc v) (λ h. omega (arith, h)))) ∙ e))
+loop_fits (suc u) v p e = absurd (none-some p e)
 
 -- The scale of the ratio 2/5 is 5, and its rate is 2.
 scale_5 : IsScale (fraction 2 5 ∷ []) 5
@@ -50,9 +66,9 @@ no_opening (suc v) h by = absurd (omega (arith, h))
 front_claims : AreFrontClaims one 0 ([] ∷ [])
 front_claims = record {
   near = lit≤ tt;
-  ordered = ((All-nil (IsWithin graph 0), tt), tt);
+  ordered = ((All-nil (IsWithin graph 0), (λ i d l. absurd (omega (arith, l)))), tt);
   openings = (no_opening, tt);
-  closed = (All-nil (λ (e : FrontEntry). (k : ℕ) → k < 1 → IsExtended 0 graph [] e k), tt);
+  closed = (All-nil (λ (e : FrontEntry). (k : ℕ) → k < out_degree graph e.vertex → IsExtended 0 graph [] e k), tt);
   room = (All-nil (λ (e : FrontEntry). works_due (graph ∷ []) ([] ∷ []) (due graph e) ≤ due graph e), tt);
 }
 

@@ -27,7 +27,7 @@ pub util_text : written (util_lines two (fraction 2 5 ∷ fraction 4 7 ∷ []) (
 unfolding written_line digits
 util_text = refl
 
-abbrev one : List Task
+abbrev pub one : List Task
 one = short ∷ []
 
 -- The same set in version 1 and, with its priority, in version 2.

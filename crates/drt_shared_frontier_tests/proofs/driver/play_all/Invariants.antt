@@ -1,7 +1,7 @@
 use Rattle.std.proofs.Common.{◌≡◌, length}
 use Rattle.drt_pool.specs.Turns.{EachPlace}
 use Rattle.drt_shared_frontier.specs.Passes.{IsPassOf}
-use Rattle.drt_shared_frontier_tests.proofs.driver.follow.Given as goal
+use Rattle.drt_shared_frontier_tests.proofs.driver.play_all.Given as goal
 
 abbrev pub invariant-loop-i : goal.invariant-loop-i
 invariant-loop-i g l = record {
