@@ -118,16 +118,21 @@ fn took_and_offered(log: &[Entry]) -> bool {
     log.len() == 4 && takers == [1, 1]
 }
 
+// Whether the trail is such a log of the first task.
+fn is_log_of_both(trail: &Trail) -> bool {
+    match trail {
+        Trail::Table { task, log } => *task == 0 && took_and_offered(log.as_slice()),
+        _ => false,
+    }
+}
+
 // Whether two workers that wait for one another before their third turns spend a budget of four steps together.
 fn is_spent_together(rt: &(impl Threads + Wait + Sync), alloc: Global) -> Result<bool, Fail> {
     let gate = Meeting::at(2);
     let input = [BRANCHING_LATE];
     let given = give("edf --workers 2 --budget 4", input.as_slice());
     let (outcome, _held) = perform_by(rt, alloc, given, &gate)?;
-    let are_logged = match outcome.trail {
-        Trail::Table { task, log } => task == 0 && took_and_offered(log.as_slice()),
-        _ => false,
-    };
+    let are_logged = is_log_of_both(&outcome.trail);
     Ok(outcome.status == 3 && are_logged && gate.times_met() > 0)
 }
 
