@@ -1,2 +1,3 @@
 mod Sums
 pub mod Steps
+pub mod Crossing

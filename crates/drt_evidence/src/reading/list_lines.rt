@@ -1,7 +1,7 @@
 //! Lines that end with a list: how many fields follow, and these.
 //!
-//! Each function is given a line without its LF. A count that isn't that of the fields behind it is no line, and nothing is reserved
-//! by it.
+//! Each function is given a line without its LF. A count that isn't that of the fields behind it is no line. Room is made at once for
+//! as many values as the count says, but for no more than the bytes behind it can hold.
 ghost use Rattle.std.specs.Prelude.{◌≡◌, decimal, map, option_map, All, IfOk, MatchOption};
 ghost use Rattle.drt_evidence.specs.Fields.{behind};
 ghost use Rattle.drt_evidence.specs.LineForms.{AreBoth, AreCounted, IsFieldForm, IsForm, IsLineOf, IsNoForm, IsNoLine, list_form, numbers_line, pair_form, potentials_line, spaced};
@@ -13,14 +13,18 @@ use crate::reading::fields::{Field, behind_word, cut_field, index_before, index_
 use drt_model::{Memory, Row};
 use std::alloc::Global;
 
-// The values that the fields behind a space are.
-fn values_behind<F: Field>(alloc: Global, rest: Option<&[u8]>) -> Result<Option<Vec<F>>, Memory>
+// The values that the fields behind a space are, of which so many are awaited.
+fn values_behind<F: Field>(
+    alloc: Global,
+    rest: Option<&[u8]>,
+    awaited: usize,
+) -> Result<Option<Vec<F>>, Memory>
     requires { IsFieldForm F.field F.is_stated }
     ensures { IfOk result (λ found. MatchOption found
         (IsNoForm (λ xs. behind (map F.field xs)) (All F.is_stated) (spaced (option_map (λ r. r.now) rest.entry)))
         (λ v. IsForm (λ xs. behind (map F.field xs)) (All F.is_stated) (spaced (option_map (λ r. r.now) rest.entry)) v.items)) }
 {
-    let mut found = Vec::new(alloc);
+    let mut found = Vec::with_capacity(alloc, room_for(rest, awaited))?;
     let mut rest = rest;
     'fields: while let Some(bytes) = rest {
         let (field, others) = cut_field(bytes);
@@ -31,6 +35,14 @@ fn values_behind<F: Field>(alloc: Global, rest: Option<&[u8]>) -> Result<Option<
         rest = others;
     }
     Ok(Some(found))
+}
+
+// Room for as many values as are awaited, but for no more than the bytes can hold: each takes two at least, but for the last.
+fn room_for(rest: Option<&[u8]>, awaited: usize) -> usize {
+    match rest {
+        Some(bytes) => awaited.min(bytes.len() / 2 + 1),
+        None => 0,
+    }
 }
 
 // The list that the bytes are: how many values, and these.
@@ -45,7 +57,7 @@ fn list_of<F: Field>(alloc: Global, bytes: &[u8]) -> Result<Option<Vec<F>>, Memo
         Some(count) => count,
         None => return Ok(None),
     };
-    let found = match values_behind(alloc, rest)? {
+    let found = match values_behind(alloc, rest, count as usize)? {
         Some(found) => found,
         None => return Ok(None),
     };
