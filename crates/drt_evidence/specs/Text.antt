@@ -58,13 +58,17 @@ front_block fronts = count_line (codes "fronts") (length fronts) ∷ flat_map fr
 abbrev pub release_line : Release → List (List ℕ)
 release_line r = codes "release" ∷ decimal r.task ∷ decimal r.vertex ∷ decimal r.time ∷ decimal r.need ∷ []
 
+-- How many releases there are, and the line of each.
+abbrev pub release_lines : List Release → List (List (List ℕ))
+release_lines releases = count_line (codes "releases") (length releases) ∷ map release_line releases
+
 -- The line of a miss: its task, its index among the task's releases, and the deadline missed.
 abbrev pub miss_line : Miss → List (List ℕ)
 miss_line m = codes "miss" ∷ decimal m.task ∷ decimal m.index ∷ decimal m.deadline ∷ []
 
--- The release block: how many releases, the line of each, and the line of the job of theirs that misses.
+-- The release block: the releases, and the line of the job of theirs that misses.
 abbrev pub release_block : List Release → Miss → List (List (List ℕ))
-release_block releases miss = count_line (codes "releases") (length releases) ∷ (map release_line releases ++ miss_line miss ∷ [])
+release_block releases miss = release_lines releases ++ miss_line miss ∷ []
 
 -- The line of a walk of a tree: how many vertices, and these.
 abbrev pub walk_line : List ℕ → List (List ℕ)

@@ -5,7 +5,7 @@
 //! proofs. A dossier has exactly one text. What the checker asks of a dossier stands in `specs/Rules.antt`, one `Rule` a line,
 //! so that analyses may promise it without standing on the checker.
 //!
-//! The layer above uses the types, `print`, `read`, which answers with the dossier whose text bytes are, or with the line and the
+//! The layer above uses the types, `print`, `push_release_lines`, which adds the lines of releases to a text, `read`, which answers with the dossier whose text bytes are, or with the line and the
 //! code at which they stop being one (`specs/Reading.antt`), and the definitions `text` and `Accepts`. `laws` says that bytes are
 //! the text of one dossier at most.
 #![tactic(auto)]
@@ -23,6 +23,6 @@ mod tests;
 pub use drt_model::FrontEntry;
 pub use evidence::{Dossier, Evidence, Item, Pair, ProofClaim, RatioClaim, TreeClaim};
 pub use fault::{DossierError, DossierFault};
-pub use printing::print;
+pub use printing::{print, push_release_lines};
 pub use reading::read;
 pub use rule::Rule;

@@ -9,8 +9,10 @@ mod ratios;
 mod releases;
 mod trees;
 
+pub use releases::push_release_lines;
+
 use crate::evidence::{Dossier, Evidence};
-use drt_file::push_line;
+use drt_file::{push_line, push_set};
 use drt_model::{Memory, Policy, Row};
 use fronts::push_fronts;
 use proofs::push_proofs;
@@ -25,8 +27,7 @@ pub fn print(alloc: Global, dossier: &Dossier) -> Result<Row<u8>, Memory>
 {
     let mut bytes = Vec::new(alloc);
     push_head(&mut bytes, dossier.policy)?;
-    let set = drt_file::print(alloc, &dossier.set)?;
-    bytes.extend_from_slice(set.as_slice())?;
+    push_set(&mut bytes, &dossier.set)?;
     push_evidence(&mut bytes, &dossier.evidence)?;
     Ok(Row::from_vec(bytes))
 }

@@ -7,7 +7,7 @@
 //! which no canonical text goes on (`specs/trusted/CanonicalPrefix.antt`). `laws` says how these fit: a
 //! text has no fault exactly where it reads as a set, and as one at most, and what is printed is read
 //! back. How a text is cut into lines and fields is in `cutting`, what single fields say in `words`.
-//! `push_line` adds one line of fields to a text. What must be believed stands in `specs/trusted`; the
+//! `push_set` adds a set's text to one, and `push_line` one line of fields. What must be believed stands in `specs/trusted`; the
 //! proofs of the reader speak of `specs/internal` too.
 #![tactic(auto)]
 
@@ -32,6 +32,6 @@ pub mod words;
 
 pub use fault::{FileError, FileFault};
 pub use front::{Canonical, CanonicalError, cut_fed_line, read_canonical};
-pub use printing::{print, push_line};
+pub use printing::{print, push_line, push_set};
 pub use reading::read;
 pub use versions::upgrade;

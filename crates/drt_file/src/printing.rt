@@ -23,15 +23,22 @@ pub fn print(alloc: Global, set: &TaskSet) -> Result<Row<u8>, Memory>
     ensures { IfOk result (λ text. text ≡ canonical set.now) }
 {
     let mut text = Vec::new(alloc);
+    push_set(&mut text, set)?;
+    Ok(Row::from_vec(text))
+}
+
+/// Adds the canonical text of a set to bytes.
+pub fn push_set(text: &mut Vec<u8>, set: &TaskSet) -> Result<(), Memory>
+    ensures { OnOk result (text.new.items ≡ text.old.items ++ canonical set.now) }
+{
     let version = set.version();
     let mut number = Buffer::new();
     push_line(
-        &mut text,
+        text,
         &[b"drt".as_slice(), number.format(version).as_bytes()],
     )?;
-    push_tasks(&mut text, version, set.tasks())?;
-    push_line(&mut text, &[b"end".as_slice()])?;
-    Ok(Row::from_vec(text))
+    push_tasks(text, version, set.tasks())?;
+    push_line(text, &[b"end".as_slice()])
 }
 
 // Adds the lines of tasks.

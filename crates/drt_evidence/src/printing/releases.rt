@@ -1,7 +1,7 @@
 //! The block of releases.
 ghost use Rattle.std.specs.Prelude.{◌≡◌, ◌++◌, map, OnOk};
 ghost use Rattle.drt_file.specs.trusted.Canonical.{written, written_line};
-ghost use Rattle.drt_evidence.specs.Text.{miss_line, release_block, release_line};
+ghost use Rattle.drt_evidence.specs.Text.{miss_line, release_block, release_line, release_lines};
 
 use crate::lines::push_count;
 use drt_file::push_line;
@@ -16,9 +16,16 @@ pub(crate) fn push_releases(
 ) -> Result<(), Memory>
     ensures { OnOk result (text.new.items ≡ text.old.items ++ written (release_block releases.now miss)) }
 {
-    push_count(text, b"releases", releases.len())?;
-    push_each_release(text, releases)?;
+    push_release_lines(text, releases)?;
     push_miss(text, miss)
+}
+
+/// Adds how many releases there are, and the line of each.
+pub fn push_release_lines(text: &mut Vec<u8>, releases: &[Release]) -> Result<(), Memory>
+    ensures { OnOk result (text.new.items ≡ text.old.items ++ written (release_lines releases.now)) }
+{
+    push_count(text, b"releases", releases.len())?;
+    push_each_release(text, releases)
 }
 
 // Adds the line of each release.

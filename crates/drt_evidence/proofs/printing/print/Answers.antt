@@ -16,8 +16,8 @@ returns c =
     let evidence : c.dossier.inside.evidence ≡ d.evidence = ap (λ (s : Statement). s.evidence) c.dossier.view_is in
     let start = c.new-bytes.result.items in
     let head = c.push_head.new.bytes.items in
-    let printed = c.extend_from_slice.new.self.items in
+    let printed = c.push_set.new.text.items in
     c.from_vec.ensures ∙ whole d start head printed c.push_evidence.new.bytes.items c.new-bytes.ensures.items
     (c.in_ok-push_head.ensures ∙ ap (λ (p : Policy). start ++ written (head_lines p)) policy)
-    (c.in_ok-extend_from_slice.ensures.items ∙ ap (λ t. head ++ t) (c.as_slice.ensures ∙ c.in_ok-set.ensures) ∙ ap (λ (s : Contents). head ++ canonical s) set)
+    (c.in_ok-push_set.ensures ∙ ap (λ (s : Contents). head ++ canonical s) set)
     (c.in_ok-push_evidence.ensures ∙ ap (λ (e : Evidence). printed ++ written (evidence_lines e)) evidence)

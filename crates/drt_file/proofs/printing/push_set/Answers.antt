@@ -3,7 +3,7 @@ use Rattle.std.proofs.lemmas.Grind.{common_steps}
 use Rattle.std.proofs.lemmas.List.{append-nil}
 use Rattle.std.proofs.lemmas.List.Concat.{flat_map-append}
 use Rattle.drt_file.specs.trusted.Canonical.{canonical, set_lines}
-use Rattle.drt_file.proofs.printing.print.Goals as goal
+use Rattle.drt_file.proofs.printing.push_set.Goals as goal
 
 pub returns : goal.returns
 unfolding canonical set_lines
