@@ -64,8 +64,9 @@ fn with_task(
     all_sums(alloc, sums.as_slice(), functions.as_slice())
 }
 
-// What all choices of walks of the tasks above a priority ask for before each time up to the bound.
-fn sums_above(
+/// What all choices of walks of the tasks above a priority ask for before each time up to the bound: a function for each choice.
+/// The only error is want of memory.
+pub fn sums_above(
     alloc: Global,
     tasks: &[Task],
     graphs: &Graphs,

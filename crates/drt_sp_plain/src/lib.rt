@@ -9,4 +9,4 @@ mod decide;
 mod functions;
 mod sums;
 
-pub use decide::is_schedulable;
+pub use decide::{is_schedulable, sums_above};
