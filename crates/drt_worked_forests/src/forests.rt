@@ -14,6 +14,9 @@ use std::sync::Arc;
 // How far the functions of the small trees go, in ticks.
 const BOUND: u64 = 5;
 
+// How far those of the tree of two even walks go, in ticks.
+const EVEN_BOUND: u64 = 10;
+
 // Whether the functions of all labels go to the bound.
 fn go_to(bound: u64, labels: &[Arc<RequestLabel>]) -> bool
     ensures { result ≡ true → (walks : List (List ℕ)) → HaveOneBound [] (leaves_of labels.now walks) }
@@ -72,6 +75,19 @@ pub fn three_walks(alloc: Global) -> Result<Option<(Forest, u32)>, Memory> {
         walk(alloc, &[1, 1])?,
     ];
     tree(alloc, BOUND, &labels, &walks)
+}
+
+/// The tree of two walks, up to 10 ticks: one of 3 ticks, which is leaf 0, and one of 2 ticks, 1 more after 2 ticks and 1 more after 4
+/// ticks, which is leaf 1. A job of 1 tick is done after 4 ticks behind either of them. The root is 2.
+pub fn even_walks(alloc: Global) -> Result<Option<(Forest, u32)>, Memory> {
+    let opening = RequestLabel::opening(alloc, 1, 2, EVEN_BOUND)?;
+    let next = opening.extend(alloc, 2, 2, 1)?;
+    let labels = [
+        Arc::new(alloc, RequestLabel::opening(alloc, 0, 3, EVEN_BOUND)?)?,
+        Arc::new(alloc, next.extend(alloc, 2, 2, 1)?)?,
+    ];
+    let walks = [walk(alloc, &[0])?, walk(alloc, &[1, 2, 2])?];
+    tree(alloc, EVEN_BOUND, &labels, &walks)
 }
 
 /// The tree of so many walks, counted from 0, each with a window of 5 ticks of its own: a job of 1 tick with walk i ahead of it is

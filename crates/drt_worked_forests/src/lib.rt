@@ -3,4 +3,4 @@
 
 mod forests;
 
-pub use forests::{three_walks, two_walks, windows};
+pub use forests::{even_walks, three_walks, two_walks, windows};
