@@ -1,30 +1,24 @@
 -- What the releases of walks and their first miss say.
-use Rattle.std.proofs.Common.{◌≡◌, ℕ, zero, suc, ◌+◌, ◌<◌, ◌≤◌, List, [], ◌∷◌, ◌++◌, length, take, drop, All, get_or, refl, sym, ap, subst, arith, ◌∙◌}
+use Rattle.std.proofs.Common.{◌≡◌, ℕ, ◌<◌, ◌≤◌, List, length, take, All, sym, ap, subst, arith, ◌∙◌}
 use Rattle.std.specs.Prelude.{◌==◌}
-use Rattle.std.proofs.Math.Numerals.{add-one}
-use Rattle.std.proofs.lemmas.List.{append_assoc, get_or-map, length-map, length-take-le}
-use Rattle.std.proofs.lemmas.List.Elements.{All-nil, All-cons, All-append, All-get_or, All-map, All-weaker}
+use Rattle.std.proofs.lemmas.List.{length-map, length-take-le}
+use Rattle.std.proofs.lemmas.List.Elements.{All-get_or, All-map, All-weaker}
 use Rattle.std.proofs.lemmas.List.Sums.{count_by-le-length}
 use Rattle.drt_model.specs.declared.jobs.Miss.{Miss}
 use Rattle.drt_model.specs.declared.jobs.Policy.TheVariants.{Edf}
 use Rattle.drt_model.specs.declared.jobs.Release.{Release}
 use Rattle.drt_model.specs.declared.tasks.Task.{Task}
 use Rattle.drt_model.specs.Constrained.{AreConstrained}
-use Rattle.drt_model.specs.Digraph.{Digraph, IsSound, digraph_of, vertex_count}
 use Rattle.drt_model.specs.Limits.{IsTaskSet}
 use Rattle.drt_model.specs.Misses.{IsLeastMiss, index_of}
 use Rattle.drt_model.specs.Schedulable.{job_of, jobs_of}
 use Rattle.drt_model.specs.Trace.{job_at}
-use Rattle.drt_model.specs.Walk.{gap, IsPath, deadline, last_of, span}
-use Rattle.drt_graph.specs.Graphs.{AreGraphs, graph_of, no_graph}
-use Rattle.drt_graph.proofs.Edges.{target_of}
-use Rattle.drt_graph.proofs.Paths.{span_cons}
+use Rattle.drt_model.specs.Walk.{deadline}
 use Rattle.drt_busy.specs.Assignment.{NoAssignmentMeets}
-use Rattle.drt_busy.specs.Choice.{AreDueBy, AreWalks, IsWalk, due_of, efforts, graph_at, no_task}
+use Rattle.drt_busy.specs.Choice.{AreDueBy, AreWalks, efforts}
 use Rattle.drt_busy.specs.Decide.{DemandMisses}
-use Rattle.drt_busy.specs.WalkReleases.{all_releases, release_at, releases_from, releases_of}
+use Rattle.drt_busy.specs.WalkReleases.{all_releases}
 use Rattle.drt_replay.specs.Board.{Shown, IsLate, IsFirstMiss}
-use Rattle.drt_evidence.specs.Claims.{graphs_of}
 use Rattle.drt_evidence.proofs.Accepting.{edf_no_accepted}
 use Rattle.drt_evidence.specs.Ranges.{IsInRangeMiss, IsInRangeRelease}
 use Rattle.drt_edf.specs.Answers.{IsMissed}

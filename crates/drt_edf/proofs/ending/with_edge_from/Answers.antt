@@ -1,4 +1,4 @@
-use Rattle.std.proofs.Common.{◌≡◌, ◌≤◌, ◌<◌, ◌+◌, ◌-◌, ◌*◌, inl, inr, slice_index_or, ap, arith, subst, sym, ◌∙◌}
+use Rattle.std.proofs.Common.{◌≡◌, ◌≤◌, ◌+◌, ◌-◌, ◌*◌, inl, inr, slice_index_or, ap, arith, subst, sym, ◌∙◌}
 use Rattle.drt_model.specs.Digraph.{edge_of}
 use Rattle.drt_model.specs.Walk.{wcet}
 use Rattle.drt_edf.specs.Ending.{IsGreatestOver}
