@@ -2,11 +2,15 @@
 //!
 //! `respond` runs the analysis under fixed priorities. Where the set is schedulable, it searches the trees of that analysis for the
 //! greatest response time of each vertex, and shows releases that reach it. The layer above uses the one contract of `respond`.
+//!
+//! `budgets_suffice_for_responses` says that a budget that is enough for the analysis is enough here.
 #![tactic(auto)]
 
 mod answer;
+mod laws;
 mod responses;
 mod vertex;
 
 pub use answer::{Response, ResponseAnswer, ResponseTrail};
+pub use laws::budgets_suffice_for_responses;
 pub use responses::respond;
