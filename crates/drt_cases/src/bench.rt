@@ -1,10 +1,8 @@
 //! Runs of `bench`, and of the other commands on the sets that it draws.
-use crate::running::{give, perform, split_words};
+use crate::running::{answer_to, give, perform};
 use drt_gen::generate;
-use drt_io::{SureSink, SureSource};
 use drt_model::Row;
 use drt_pool::OpenGate;
-use drt_top::{Outcome, run};
 use std::alloc::Global;
 use std::sync::Wait;
 use std::test::Fail;
@@ -61,6 +59,11 @@ fn a_number_has_one_line(rt: HostRuntime) -> Result<(), Fail> {
             "\"number\":2}\n",
         ),
         ("bench --workers=1 3", "bench 3", "\"number\":3}\n"),
+        (
+            "bench --workers=1 18446744073709551615",
+            "bench 18446744073709551615",
+            "\"number\":18446744073709551615}\n",
+        ),
     ];
     for (alone, together, end) in cases {
         assert!(rt;
@@ -71,17 +74,6 @@ fn a_number_has_one_line(rt: HostRuntime) -> Result<(), Fail> {
     Ok(())
 }
 
-// The top call between a source and a sink that never fail, without its clauses.
-fn run_surely(
-    rt: &(impl Threads + Wait + Sync),
-    alloc: Global,
-    words: &[String],
-    source: &mut SureSource,
-    sink: &mut SureSink,
-) -> Outcome {
-    run(rt, alloc, words, source, sink, &OpenGate)
-}
-
 // What a command writes for these bytes.
 fn written(
     rt: &(impl Threads + Wait + Sync),
@@ -89,11 +81,8 @@ fn written(
     words: &str,
     bytes: Row<u8>,
 ) -> Result<Row<u8>, Fail> {
-    let words = split_words(alloc, words)?;
-    let mut source = SureSource::new(bytes);
-    let mut sink = SureSink::with_room(alloc, 100_000)?;
-    run_surely(rt, alloc, words.as_slice(), &mut source, &mut sink);
-    Ok(Row::from_vec(Vec::from_slice(alloc, sink.bytes())?))
+    let (_outcome, held) = answer_to(rt, alloc, words, bytes, &OpenGate)?;
+    Ok(held)
 }
 
 // What `check` says of what a command writes for the drawn set of a number.

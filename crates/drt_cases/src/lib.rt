@@ -9,6 +9,8 @@ mod bench;
 #[cfg(test)]
 mod check;
 #[cfg(test)]
+mod drawn;
+#[cfg(test)]
 mod edf;
 #[cfg(test)]
 mod fixed;

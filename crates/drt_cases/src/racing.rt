@@ -1,9 +1,11 @@
 //! Runs by several workers.
-use crate::running::{give, is_joined, perform, perform_by};
+use crate::drawn::Rush;
+use crate::running::{answer_to, give, is_joined, perform_by};
 use drt_fixtures::texts::{
     BRANCHING, BRANCHING_LATE, ENGINE, FIFTHS_AND_SEVENTHS, HALVES, JUST_DONE, LATE, OVERLOADED,
     PERIODIC, SPLIT, TOO_LITTLE_ROOM,
 };
+use drt_model::Row;
 use drt_pool::Gate;
 use drt_table::{Entry, TableStep};
 use drt_top::Trail;
@@ -163,8 +165,11 @@ fn two_workers_begin_each_search_together(rt: HostRuntime) -> Result<(), Fail> {
     Ok(())
 }
 
-// Whether a run of the command by so many workers has that status.
-fn has_status(
+// How often each run is made again.
+const RUNS: u32 = 100;
+
+// Whether each of a hundred runs of the command by so many workers, which are begun at once, has that status.
+fn have_status(
     rt: &(impl Threads + Wait + Sync),
     alloc: Global,
     command: &str,
@@ -173,8 +178,14 @@ fn has_status(
     status: u8,
 ) -> Result<bool, Fail> {
     let words = format!(in alloc; "{command} --workers {workers}")?;
-    let (outcome, _held) = perform(rt, alloc, give(words.as_str(), &[text]))?;
-    Ok(outcome.status == status)
+    for _ in 0..RUNS {
+        let bytes = Row::from_vec(Vec::from_slice(alloc, text.as_bytes())?);
+        let (outcome, _held) = answer_to(rt, alloc, words.as_str(), bytes, &Rush)?;
+        if outcome.status != status {
+            return Ok(false);
+        }
+    }
+    Ok(true)
 }
 
 #[test]
@@ -200,7 +211,7 @@ fn the_verdict_is_that_of_any_number_of_workers(rt: HostRuntime) -> Result<(), F
     for (command, text, status) in cases {
         for workers in [1u32, 2, 4, 16] {
             assert!(rt;
-                has_status(&rt, rt.alloc(), command, workers, text, status)?,
+                have_status(&rt, rt.alloc(), command, workers, text, status)?,
                 "{command} by {workers} of {text}"
             );
         }

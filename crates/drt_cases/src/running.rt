@@ -1,5 +1,5 @@
 //! One run over memory, and what a case says of it.
-use drt_io::{MemorySink, MemorySource};
+use drt_io::{MemorySink, MemorySource, SureSink, SureSource};
 use drt_model::{Memory, Row};
 use drt_pool::{Gate, OpenGate};
 use drt_top::{Fault, Outcome, notice, run};
@@ -105,6 +105,34 @@ fn run_over_memory<G: Gate>(
     words: &[String],
     source: &mut MemorySource,
     sink: &mut MemorySink,
+    gate: &G,
+) -> Outcome {
+    run(rt, alloc, words, source, sink, gate)
+}
+
+/// How a run over these bytes ends between a source and a sink that never fail, and what is then written.
+pub(crate) fn answer_to<G: Gate>(
+    rt: &(impl Threads + Wait + Sync),
+    alloc: Global,
+    words: &str,
+    bytes: Row<u8>,
+    gate: &G,
+) -> Result<(Outcome, Row<u8>), Fail> {
+    let words = split_words(alloc, words)?;
+    let mut source = SureSource::new(bytes);
+    let mut sink = SureSink::with_room(alloc, 100_000)?;
+    let outcome = run_surely(rt, alloc, words.as_slice(), &mut source, &mut sink, gate);
+    let held = Row::from_vec(Vec::from_slice(alloc, sink.bytes())?);
+    Ok((outcome, held))
+}
+
+// The top call between a source and a sink that never fail, without its clauses.
+fn run_surely<G: Gate>(
+    rt: &(impl Threads + Wait + Sync),
+    alloc: Global,
+    words: &[String],
+    source: &mut SureSource,
+    sink: &mut SureSink,
     gate: &G,
 ) -> Outcome {
     run(rt, alloc, words, source, sink, gate)

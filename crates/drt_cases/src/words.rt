@@ -1,10 +1,9 @@
 //! Runs of words that mean nothing, of calls that fail, and of inputs that are too long.
-use crate::running::{Given, Wanted, ends, refused, split_words};
+use crate::running::{Given, Wanted, answer_to, ends, refused};
 use drt_fixtures::texts::{BRANCHING_LATE, PERIODIC};
-use drt_io::{SureSink, SureSource};
 use drt_model::Row;
 use drt_pool::OpenGate;
-use drt_top::{Fault, Outcome, run};
+use drt_top::Fault;
 use std::alloc::Global;
 use std::sync::Wait;
 use std::test::Fail;
@@ -75,31 +74,17 @@ fn a_failed_read_or_write_has_its_status(rt: HostRuntime) -> Result<(), Fail> {
     Ok(())
 }
 
-// The top call between a source and a sink that never fail, without its clauses.
-fn run_surely(
-    rt: &(impl Threads + Wait + Sync),
-    alloc: Global,
-    words: &[String],
-    source: &mut SureSource,
-    sink: &mut SureSink,
-) -> Outcome {
-    run(rt, alloc, words, source, sink, &OpenGate)
-}
-
-// Whether `sp` on these bytes ends so, and writes so many bytes, of which the first are these.
+// Whether `sp` on these bytes ends so, and writes this.
 fn is_surely(
     rt: &(impl Threads + Wait + Sync),
     alloc: Global,
     bytes: Vec<u8>,
     status: u8,
     fault: Fault,
-    front: &[u8],
+    written: &[u8],
 ) -> Result<bool, Fail> {
-    let words = split_words(alloc, "sp")?;
-    let mut source = SureSource::new(Row::from_vec(bytes));
-    let mut sink = SureSink::with_room(alloc, 200)?;
-    let outcome = run_surely(rt, alloc, words.as_slice(), &mut source, &mut sink);
-    Ok(outcome.status == status && outcome.fault == fault && sink.bytes() == front)
+    let (outcome, held) = answer_to(rt, alloc, "sp", Row::from_vec(bytes), &OpenGate)?;
+    Ok(outcome.status == status && outcome.fault == fault && held.as_slice() == written)
 }
 
 #[test]

@@ -19,7 +19,8 @@ use Rattle.drt_edf.specs.Bounded.{SearchesAreBounded}
 use Rattle.drt_edf.specs.Spent.{most_out, search_of, table_need}
 
 -- The label of an in-range walk to v is of v, which is a vertex, and is in range.
-pub label_of : (t : Setting) (v : ℕ) (before : List ℕ) (l : FrontEntry) → IsSound t.graph → WalkTo demand_algebra t v before l → (l.vertex ≡ v) × (v < vertex_count t.graph) × IsTrue (in_range demand_algebra t l)
+pub label_of : (t : Setting) (v : ℕ) (before : List ℕ) (l : FrontEntry) → IsSound t.graph
+    → WalkTo demand_algebra t v before l → (l.vertex ≡ v) × (v < vertex_count t.graph) × IsTrue (in_range demand_algebra t l)
 label_of t v [] l sound w = (ap (λ x. x.vertex) w.1, w.0, w.2)
 label_of t v (u ∷ before) l sound w =
     let h = label_of t u before w.1 sound w.2 in
@@ -89,10 +90,12 @@ most_of g m rows all = most_least g.out m (λ v lt. all v (omega arith))
 
 -- What holds after each run, of its log's length and of the kept nodes.
 abbrev pub AreShort : Type 0
-AreShort = (t : Setting) (log : List Entry) (g : ℕ) → IsSound t.graph → IsTrue (demand_algebra.takes_bound t.bound) → IsRun demand_algebra t log → IsDegree demand_algebra t g → IsShort demand_algebra t g (replay demand_algebra t log)
+AreShort = (t : Setting) (log : List Entry) (g : ℕ) → IsSound t.graph → IsTrue (demand_algebra.takes_bound t.bound)
+    → IsRun demand_algebra t log → IsDegree demand_algebra t g → IsShort demand_algebra t g (replay demand_algebra t log)
 
 abbrev pub AreFew : Type 0
-AreFew = (t : Setting) (log : List Entry) (slot : FrontEntry → ℕ) (many : ℕ) → IsSound t.graph → IsTrue (demand_algebra.takes_bound t.bound) → IsRun demand_algebra t log → AreSlots demand_algebra t slot many → kept_count (replay demand_algebra t log).nodes ≤ many
+AreFew = (t : Setting) (log : List Entry) (slot : FrontEntry → ℕ) (many : ℕ) → IsSound t.graph → IsTrue (demand_algebra.takes_bound t.bound)
+    → IsRun demand_algebra t log → AreSlots demand_algebra t slot many → kept_count (replay demand_algebra t log).nodes ≤ many
 
 abbrev pub AreOnce : Type 0
 AreOnce = (t : Setting) (log : List Entry) → IsSound t.graph → IsTrue (demand_algebra.takes_bound t.bound) → IsRun demand_algebra t log → IsBounded (replay demand_algebra t log)
@@ -138,7 +141,8 @@ every_search once short few g bound budget log sound takes run =
     let o = once t log sound takes run in
     record {
       most = scaled_most (length log) (kept_count (replay demand_algebra t log).nodes) (vertex_count g * (bound + 1)) (most_out g.out) (omega (arith, run_log t log run, s.log)) k;
-      unfinished = λ u. scaled (length log) (kept_count (replay demand_algebra t log).nodes) (vertex_count g * (bound + 1)) (most_out g.out) (let m = s.unfinished u in omega (arith, run_log t log run, m)) k;
+      unfinished = λ u. scaled (length log) (kept_count (replay demand_algebra t log).nodes)
+          (vertex_count g * (bound + 1)) (most_out g.out) (let m = s.unfinished u in omega (arith, run_log t log run, m)) k;
       once = o.once;
       each = s.each;
       kept = k;

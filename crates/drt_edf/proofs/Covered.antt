@@ -48,7 +48,8 @@ walk_within g bound t front is l (u ∷ vs) d =
     label_within g front t (work g (u ∷ vs)) c.0 c.1 c.2 c.3 (omega (arith, same, c.4.1, d.2)) c.4.2
 
 -- Walks of the graphs that are due by t have together at most the demands of t.
-pub all_within : (graphs : List Digraph) (bound t : ℕ) (fronts : List (List FrontEntry)) (walks : List (List ℕ)) → AreLabelFronts bound graphs fronts → t ≤ bound → AreDue t graphs walks → efforts graphs walks ≤ demands graphs fronts t
+pub all_within : (graphs : List Digraph) (bound t : ℕ) (fronts : List (List FrontEntry)) (walks : List (List ℕ))
+    → AreLabelFronts bound graphs fronts → t ≤ bound → AreDue t graphs walks → efforts graphs walks ≤ demands graphs fronts t
 unfolding efforts sum_due
 all_within [] bound t fronts walks are l d = omega arith
 all_within (g ∷ graphs) bound t [] walks are l d = absurd are

@@ -22,7 +22,8 @@ le_true a b l = grind (arith, nat_tests)
 
 module _ (g : Digraph) (sound : IsSound g) (bound : ℕ) where
   -- The last step of a walk.
-  step_back : (v u : ℕ) (before : List ℕ) (l : FrontEntry) (w : WalkTo demand_algebra (search_of g bound 0) v (u ∷ before) l) → (l.offset ≡ w.1.offset + (edge_of g u w.0).sep) × (l.work ≡ w.1.work + wcet g v) × (u < vertex_count g)
+  step_back : (v u : ℕ) (before : List ℕ) (l : FrontEntry) (w : WalkTo demand_algebra (search_of g bound 0) v (u ∷ before) l)
+      → (l.offset ≡ w.1.offset + (edge_of g u w.0).sep) × (l.work ≡ w.1.work + wcet g v) × (u < vertex_count g)
   step_back v u before l w =
       let h = label_of (search_of g bound 0) u before w.1 sound w.2 in
       let o : l.offset ≡ w.1.offset + (edge_of g w.1.vertex w.0).sep = ap (λ x. x.offset) w.5 in
@@ -67,7 +68,8 @@ module _ (g : Digraph) (sound : IsSound g) (bound : ℕ) where
       go (inr r) = let h = work_small v r.0 r.1.label r.1.walk in omega (arith, h, r.1.offset, r.1.work)
 
   -- A walk that goes on by an edge, in range.
-  go_on : (v u k p m : ℕ) (before : List ℕ) → IsEnding g bound u p before m → k < out_degree g u → (edge_of g u k).to ≡ v → p + (edge_of g u k).sep + deadline g v ≤ bound → IsEnding g bound v (p + (edge_of g u k).sep) (u ∷ before) (m + wcet g v)
+  go_on : (v u k p m : ℕ) (before : List ℕ) → IsEnding g bound u p before m → k < out_degree g u → (edge_of g u k).to ≡ v
+      → p + (edge_of g u k).sep + deadline g v ≤ bound → IsEnding g bound v (p + (edge_of g u k).sep) (u ∷ before) (m + wcet g v)
   go_on v u k p m before is lt to due =
       let h = label_of (search_of g bound 0) u before is.label sound is.walk in
       let s : (edge_of g is.label.vertex k).sep ≡ (edge_of g u k).sep = ap (λ x. (edge_of g x k).sep) h.0 in
@@ -75,7 +77,15 @@ module _ (g : Digraph) (sound : IsSound g) (bound : ℕ) where
       let d : deadline g (edge_of g is.label.vertex k).to ≡ deadline g v = ap (λ x. deadline g (edge_of g x k).to) h.0 ∙ ap (λ x. deadline g x) to in
       record {
         label = extended demand_algebra (search_of g bound 0) is.label k;
-        walk = (k, is.label, is.walk, lt, to, refl, le_true (is.label.offset + (edge_of g is.label.vertex k).sep + deadline g (edge_of g is.label.vertex k).to) bound (omega (arith, s, d, due, is.offset)));
+        walk = (
+          k,
+          is.label,
+          is.walk,
+          lt,
+          to,
+          refl,
+          le_true (is.label.offset + (edge_of g is.label.vertex k).sep + deadline g (edge_of g is.label.vertex k).to) bound (omega (arith, s, d, due, is.offset)),
+        );
         offset = omega (arith, s, is.offset);
         work = omega (arith, q, is.work);
       }
@@ -137,7 +147,8 @@ module _ (g : Digraph) (sound : IsSound g) (bound : ℕ) where
       go h some (inl none) = absurd (omega (arith, h, some, none))
       go h some (inr enough) = omega (arith, h, enough)
 
-  pub reached_by : (v o u k b : ℕ) → k < out_degree g u → (edge_of g u k).to ≡ v → (edge_of g u k).sep ≤ o → o + deadline g v ≤ bound → 1 ≤ b → IsGreatestAt g bound u (o - (edge_of g u k).sep) b → IsReached g bound v o (b + wcet g v)
+  pub reached_by : (v o u k b : ℕ) → k < out_degree g u → (edge_of g u k).to ≡ v → (edge_of g u k).sep ≤ o
+      → o + deadline g v ≤ bound → 1 ≤ b → IsGreatestAt g bound u (o - (edge_of g u k).sep) b → IsReached g bound v o (b + wcet g v)
   reached_by v o u k b lt to fits due some at = go at.reached
     where
       go : IsReached g bound u (o - (edge_of g u k).sep) b → IsReached g bound v o (b + wcet g v)
@@ -171,7 +182,8 @@ module _ (g : Digraph) (sound : IsSound g) (bound : ℕ) where
           omega (arith, h, w, e.work)
       most (u ∷ before) m e =
           let s = step_back v u before e.label e.walk in
-          let h = is.from u e.walk.0 s.2 e.walk.3 e.walk.4 before e.walk.1.offset e.walk.1.work (omega (arith, s.0, e.offset)) (record { label = e.walk.1; walk = e.walk.2; offset = refl; work = refl }) in
+          let h = is.from u e.walk.0 s.2 e.walk.3 e.walk.4 before e.walk.1.offset e.walk.1.work
+          (omega (arith, s.0, e.offset)) (record { label = e.walk.1; walk = e.walk.2; offset = refl; work = refl }) in
           omega (arith, h, s.1, e.work)
 
   -- Past the bound none ends.
@@ -186,7 +198,8 @@ module _ (g : Digraph) (sound : IsSound g) (bound : ℕ) where
           absurd (omega (arith, d, s, e.offset, past))
 
 -- One more number: of vertex v at offset o.
-pub ending_push : (g : Digraph) (bound o v n : ℕ) (best : List ℕ) → v < vertex_count g → length best ≡ o * vertex_count g + v → AreGreatestAt g bound best → IsGreatestAt g bound v o n → AreGreatestAt g bound (best ++ n ∷ [])
+pub ending_push : (g : Digraph) (bound o v n : ℕ) (best : List ℕ) → v < vertex_count g → length best ≡ o * vertex_count g + v
+    → AreGreatestAt g bound best → IsGreatestAt g bound v o n → AreGreatestAt g bound (best ++ n ∷ [])
 ending_push g bound o v n best l size are is s u m i = go (cases_lt (s * vertex_count g + u) (length best))
   where
     go : (s * vertex_count g + u < length best) ⊎ (length best ≤ s * vertex_count g + u) → IsGreatestAt g bound u s (get_or (best ++ n ∷ []) (s * vertex_count g + u) 0)
@@ -199,7 +212,8 @@ ending_push g bound o v n best l size are is s u m i = go (cases_lt (s * vertex_
         subst (λ x. IsGreatestAt g bound u s x) (sym read) (subst (λ x. IsGreatestAt g bound u x n) (sym same.0) (subst (λ x. IsGreatestAt g bound x o n) (sym same.1) is))
 
 -- What the list has for the source of an edge at the offset before it.
-pub before_is : (g : Digraph) → IsSound g → (bound o u k : ℕ) (best : List ℕ) (x : Edge) (count : ℕ) → u < vertex_count g → k < out_degree g u → x ≡ edge_of g u k → count ≡ vertex_count g → x.sep ≤ o → AreGreatestAt g bound best → o * vertex_count g ≤ length best → IsGreatestAt g bound u (o - (edge_of g u k).sep) (get_or best ((o - x.sep) * count + u) 0)
+pub before_is : (g : Digraph) → IsSound g → (bound o u k : ℕ) (best : List ℕ) (x : Edge) (count : ℕ) → u < vertex_count g → k < out_degree g u → x ≡ edge_of g u k → count ≡ vertex_count g
+    → x.sep ≤ o → AreGreatestAt g bound best → o * vertex_count g ≤ length best → IsGreatestAt g bound u (o - (edge_of g u k).sep) (get_or best ((o - x.sep) * count + u) 0)
 before_is g sound bound o u k best x count l m e n fits are long =
     let sep = sound.sep u k l m in
     let s : x.sep ≡ (edge_of g u k).sep = ap (λ y. y.sep) e in

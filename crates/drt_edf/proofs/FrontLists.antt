@@ -27,11 +27,14 @@ FrontLaw =
     → IsTrue (is_finished demand_algebra t (replay demand_algebra t log)) → IsFront demand_algebra t (replay demand_algebra t log).nodes
 
 -- So the nodes of a finished table are one.
-pub finished_front : (v : View FrontEntry) → IsTable demand_algebra v → IsTrue (is_finished demand_algebra (setting_of v) (state_of v)) → FrontLaw → IsFront demand_algebra (setting_of v) (state_of v).nodes
+pub finished_front : (v : View FrontEntry) → IsTable demand_algebra v
+    → IsTrue (is_finished demand_algebra (setting_of v) (state_of v)) → FrontLaw → IsFront demand_algebra (setting_of v) (state_of v).nodes
 finished_front v is done front =
-    subst (λ s. IsFront demand_algebra (setting_of v) s.nodes) (sym is.state) (front (setting_of v) v.log is.sound is.bound is.run (subst (λ s. IsTrue (is_finished demand_algebra (setting_of v) s)) is.state done))
+    subst (λ s. IsFront demand_algebra (setting_of v) s.nodes) (sym is.state)
+    (front (setting_of v) v.log is.sound is.bound is.run (subst (λ s. IsTrue (is_finished demand_algebra (setting_of v) s)) is.state done))
 
-module _ (t : Setting) (sound : IsSound t.graph) (con : IsConstrainedGraph t.graph) (nodes : List (NodeOf FrontEntry)) (front : IsFront demand_algebra t nodes) (labels : List FrontEntry) (are : AreAlone t labels) where
+module _ (t : Setting) (sound : IsSound t.graph) (con : IsConstrainedGraph t.graph) (nodes : List (NodeOf FrontEntry))
+    (front : IsFront demand_algebra t nodes) (labels : List FrontEntry) (are : AreAlone t labels) where
   is_within : (l : FrontEntry) → IsAlone demand_algebra t l → IsWithin t.graph t.bound l
   is_within l is = (label_within t sound l is.walk, (walk_entry t sound l is.walk).within)
 

@@ -19,14 +19,16 @@ taken_count (x ∷ xs) (y ∷ ys) zero e = refl
 taken_count (x ∷ xs) (y ∷ ys) (suc k) e = ap suc (taken_count xs ys k (omega arith))
 
 -- One more front.
-pub fronts_push : (bound : ℕ) (graphs : List Digraph) (fronts : List (List FrontEntry)) (g : Digraph) (f : List FrontEntry) → AreLabelFronts bound graphs fronts → IsLabelFront g bound f → AreLabelFronts bound (graphs ++ g ∷ []) (fronts ++ f ∷ [])
+pub fronts_push : (bound : ℕ) (graphs : List Digraph) (fronts : List (List FrontEntry)) (g : Digraph) (f : List FrontEntry)
+    → AreLabelFronts bound graphs fronts → IsLabelFront g bound f → AreLabelFronts bound (graphs ++ g ∷ []) (fronts ++ f ∷ [])
 fronts_push bound [] [] g f are is = (is, refl)
 fronts_push bound [] (x ∷ fronts) g f are is = absurd (let h = ap length are in omega (arith, h))
 fronts_push bound (h ∷ graphs) [] g f are is = absurd are
 fronts_push bound (h ∷ graphs) (x ∷ fronts) g f are is = (are.0, fronts_push bound graphs fronts g f are.1 is)
 
 -- The front of the graph of number k.
-pub front_at : (bound : ℕ) (graphs : List Digraph) (fronts : List (List FrontEntry)) → AreLabelFronts bound graphs fronts → (k : ℕ) → k < length graphs → IsLabelFront (graph_of graphs k) bound (get_or fronts k [])
+pub front_at : (bound : ℕ) (graphs : List Digraph) (fronts : List (List FrontEntry)) → AreLabelFronts bound graphs fronts
+    → (k : ℕ) → k < length graphs → IsLabelFront (graph_of graphs k) bound (get_or fronts k [])
 front_at bound [] fronts are k l = absurd (omega arith)
 front_at bound (g ∷ graphs) [] are k l = absurd are
 front_at bound (g ∷ graphs) (f ∷ fronts) are zero l = are.0
@@ -39,7 +41,8 @@ fronts_count bound (g ∷ graphs) [] are = absurd are
 fronts_count bound (g ∷ graphs) (f ∷ fronts) are = ap suc (fronts_count bound graphs fronts are.1)
 
 -- One more walk of demand.
-pub walks_push : (graphs : List Digraph) (fronts : List (List FrontEntry)) (t : ℕ) (walks : List (List ℕ)) (g : Digraph) (f : List FrontEntry) (w : List ℕ) → length fronts ≡ length graphs → AreDemandWalks graphs fronts t walks → IsDemandWalk g f t w → AreDemandWalks (graphs ++ g ∷ []) (fronts ++ f ∷ []) t (walks ++ w ∷ [])
+pub walks_push : (graphs : List Digraph) (fronts : List (List FrontEntry)) (t : ℕ) (walks : List (List ℕ)) (g : Digraph) (f : List FrontEntry) (w : List ℕ)
+    → length fronts ≡ length graphs → AreDemandWalks graphs fronts t walks → IsDemandWalk g f t w → AreDemandWalks (graphs ++ g ∷ []) (fronts ++ f ∷ []) t (walks ++ w ∷ [])
 walks_push [] [] t [] g f w e are is = (is, refl)
 walks_push [] [] t (x ∷ walks) g f w e are is = absurd (let h = ap length are in omega (arith, h))
 walks_push [] (x ∷ fronts) t walks g f w e are is = absurd (omega arith)

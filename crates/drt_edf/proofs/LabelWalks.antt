@@ -59,7 +59,8 @@ module _ (t : Setting) (sound : IsSound t.graph) where
   due_of_range : (l : FrontEntry) → IsTrue (in_range demand_algebra t l) → l.offset + deadline t.graph l.vertex ≤ t.bound
   due_of_range l r = leb-true (l.offset + deadline t.graph l.vertex) t.bound r
 
-  path_more : (v : ℕ) (u : ℕ) (before : List ℕ) (l m : FrontEntry) (k : ℕ) → IsPathTo t.graph u before m → m.vertex ≡ u → k < out_degree t.graph u → (edge_of t.graph u k).to ≡ v → l ≡ extended demand_algebra t m k → IsPathTo t.graph v (u ∷ before) l
+  path_more : (v : ℕ) (u : ℕ) (before : List ℕ) (l m : FrontEntry) (k : ℕ) → IsPathTo t.graph u before m → m.vertex ≡ u
+      → k < out_degree t.graph u → (edge_of t.graph u k).to ≡ v → l ≡ extended demand_algebra t m k → IsPathTo t.graph v (u ∷ before) l
   path_more v u before l m k p at lt to is =
       let lu : u < vertex_count t.graph = subst (λ x. x < vertex_count t.graph) p.last (path_within t.graph sound p.first p.others p.is_vertex p.path) in
       let named : sep t.graph u v ≡ Some (edge_of t.graph u k).sep = subst (λ x. sep t.graph u x ≡ Some (edge_of t.graph u k).sep) to (sep_of_edge t.graph sound u k lu lt) in
@@ -106,7 +107,8 @@ module _ (t : Setting) (sound : IsSound t.graph) where
     gone m u vs = record { vertex = last_of u vs; offset = m.offset + span t.graph u vs; work = m.work + work t.graph vs }
 
     -- Each walk due within the bound is one of the search: each of its first parts is due within the bound too.
-    walk_on : (u : ℕ) (before : List ℕ) (m : FrontEntry) → WalkTo demand_algebra t u before m → (vs : List ℕ) → IsPath t.graph u vs → m.offset + span t.graph u vs + deadline t.graph (last_of u vs) ≤ t.bound → IsWalkLabel demand_algebra t (gone m u vs)
+    walk_on : (u : ℕ) (before : List ℕ) (m : FrontEntry) → WalkTo demand_algebra t u before m → (vs : List ℕ) → IsPath t.graph u vs
+        → m.offset + span t.graph u vs + deadline t.graph (last_of u vs) ≤ t.bound → IsWalkLabel demand_algebra t (gone m u vs)
     walk_on u before m w [] p d =
         let at = walk_vertex demand_algebra demand_laws t u before m w in
         let s = span_none t.graph u in
@@ -132,7 +134,8 @@ module _ (t : Setting) (sound : IsSound t.graph) where
         let first = path_due t.graph sound con w.first w.others w.path in
         let o = w.offset in
         let v = w.vertex in
-        let within : span t.graph w.first w.others + deadline t.graph (last_of w.first w.others) ≤ t.bound = subst (λ y. span t.graph w.first w.others + deadline t.graph y ≤ t.bound) v (let h = w.within in omega (arith, h, o)) in
+        let within : span t.graph w.first w.others + deadline t.graph (last_of w.first w.others) ≤ t.bound
+        = subst (λ y. span t.graph w.first w.others + deadline t.graph y ≤ t.bound) v (let h = w.within in omega (arith, h, o)) in
         let range : IsTrue (in_range demand_algebra t x) = le-leb (0 + deadline t.graph w.first) t.bound (omega (arith, first, within)) in
         let n = work_cons t.graph w.first w.others in
         let r = w.works in

@@ -14,7 +14,8 @@ use Rattle.drt_edf.specs.Spent.{IsSpentOverload}
 use Rattle.drt_edf.proofs.Planned.{planned_above}
 
 -- A spent budget is below what the search needs.
-pub spent_overload : SearchEnds → (tasks : List Task) (proofs : List RatioProof) → AreGraphs (graphs_of tasks) → AreGiven (graphs_of tasks) proofs → IsAboveOne (graphs_of tasks) proofs → (budget last : ℕ) → IsOver (cycle_turns_of (graphs_of tasks) proofs) budget (Spent last) → IsSpentOverload tasks budget last
+pub spent_overload : SearchEnds → (tasks : List Task) (proofs : List RatioProof) → AreGraphs (graphs_of tasks) → AreGiven (graphs_of tasks) proofs
+    → IsAboveOne (graphs_of tasks) proofs → (budget last : ℕ) → IsOver (cycle_turns_of (graphs_of tasks) proofs) budget (Spent last) → IsSpentOverload tasks budget last
 spent_overload ends tasks proofs graphs given above budget last over = record {
   above = planned_above tasks proofs given above;
   proofs = proofs;

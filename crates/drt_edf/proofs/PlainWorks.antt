@@ -31,21 +31,24 @@ alone_late g v t l = record {
 }
 
 -- A walk that goes on by the k-th edge.
-through_due : (g : Digraph) → IsSound g → (v t k : ℕ) → v < vertex_count g → k < out_degree g v → (vs : List ℕ) → (edge_of g v k).sep ≤ t → IsDueFrom g (edge_of g v k).to (t - (edge_of g v k).sep) vs → IsDueFrom g v t ((edge_of g v k).to ∷ vs)
+through_due : (g : Digraph) → IsSound g → (v t k : ℕ) → v < vertex_count g → k < out_degree g v → (vs : List ℕ)
+    → (edge_of g v k).sep ≤ t → IsDueFrom g (edge_of g v k).to (t - (edge_of g v k).sep) vs → IsDueFrom g v t ((edge_of g v k).to ∷ vs)
 through_due g sound v t k l m vs fits d =
     let e = gap_of g v (edge_of g v k).to (edge_of g v k).sep (sep_of_edge g sound v k l m) in
     let s = span_cons g v (edge_of g v k).to vs in
     ((e.1, d.0), omega (arith, s, e.0, d.1, fits))
 
 -- One more edge, by which the walk is due by t and more work is reached.
-pub more_through : (g : Digraph) → IsSound g → (v t k n below : ℕ) → v < vertex_count g → k < out_degree g v → (edge_of g v k).sep ≤ t → IsGreatestFrom g (edge_of g v k).to (t - (edge_of g v k).sep) below → 1 ≤ below → n < wcet g v + below → IsGreatestOf g v t k n → IsGreatestOf g v t (k + 1) (wcet g v + below)
+pub more_through : (g : Digraph) → IsSound g → (v t k n below : ℕ) → v < vertex_count g → k < out_degree g v → (edge_of g v k).sep ≤ t
+    → IsGreatestFrom g (edge_of g v k).to (t - (edge_of g v k).sep) below → 1 ≤ below → n < wcet g v + below → IsGreatestOf g v t k n → IsGreatestOf g v t (k + 1) (wcet g v + below)
 more_through g sound v t k n below l m fits is some more so_far = record {
   alone = λ d. (let h = so_far.alone d in omega (arith, h, more));
   through = λ j i vs s d. go j i vs s d (cases_lt j k);
   reached = inr (found is.reached);
 }
   where
-    go : (j : ℕ) → j < k + 1 → (vs : List ℕ) → (edge_of g v j).sep ≤ t → IsDueFrom g (edge_of g v j).to (t - (edge_of g v j).sep) vs → (j < k) ⊎ (k ≤ j) → wcet g v + work g ((edge_of g v j).to ∷ vs) ≤ wcet g v + below
+    go : (j : ℕ) → j < k + 1 → (vs : List ℕ) → (edge_of g v j).sep ≤ t → IsDueFrom g (edge_of g v j).to (t - (edge_of g v j).sep) vs
+        → (j < k) ⊎ (k ≤ j) → wcet g v + work g ((edge_of g v j).to ∷ vs) ≤ wcet g v + below
     go j i vs s d (inl before) = let h = so_far.through j before vs s d in omega (arith, h, more)
     go j i vs s d (inr here) =
         let e : j ≡ k = omega (arith, i, here) in
@@ -53,17 +56,20 @@ more_through g sound v t k n below l m fits is some more so_far = record {
         let f = ap (λ x. work g ((edge_of g v x).to ∷ vs)) e in
         omega (arith, h, f)
 
-    found : (below ≡ 0) ⊎ ((vs : List ℕ) × IsDueFrom g (edge_of g v k).to (t - (edge_of g v k).sep) vs × (work g ((edge_of g v k).to ∷ vs) ≡ below)) → (vs : List ℕ) × IsDueFrom g v t vs × (work g (v ∷ vs) ≡ wcet g v + below)
+    found : (below ≡ 0) ⊎ ((vs : List ℕ) × IsDueFrom g (edge_of g v k).to (t - (edge_of g v k).sep) vs × (work g ((edge_of g v k).to ∷ vs) ≡ below))
+        → (vs : List ℕ) × IsDueFrom g v t vs × (work g (v ∷ vs) ≡ wcet g v + below)
     found (inl none) = absurd (omega arith)
     found (inr r) =
         let w = work_cons g v ((edge_of g v k).to ∷ r.0) in
         ((edge_of g v k).to ∷ r.0, through_due g sound v t k l m r.0 fits r.1, omega (arith, w, r.2))
 
 -- One more edge, by which no more work is reached.
-pub same_through : (g : Digraph) → IsSound g → (v t k n below : ℕ) → v < vertex_count g → k < out_degree g v → (edge_of g v k).sep ≤ t → IsGreatestFrom g (edge_of g v k).to (t - (edge_of g v k).sep) below → (below ≡ 0) ⊎ (wcet g v + below ≤ n) → IsGreatestOf g v t k n → IsGreatestOf g v t (k + 1) n
+pub same_through : (g : Digraph) → IsSound g → (v t k n below : ℕ) → v < vertex_count g → k < out_degree g v → (edge_of g v k).sep ≤ t
+    → IsGreatestFrom g (edge_of g v k).to (t - (edge_of g v k).sep) below → (below ≡ 0) ⊎ (wcet g v + below ≤ n) → IsGreatestOf g v t k n → IsGreatestOf g v t (k + 1) n
 same_through g sound v t k n below l m fits is less so_far = record { alone = so_far.alone; through = λ j i vs s d. go j i vs s d (cases_lt j k) less; reached = so_far.reached }
   where
-    go : (j : ℕ) → j < k + 1 → (vs : List ℕ) → (edge_of g v j).sep ≤ t → IsDueFrom g (edge_of g v j).to (t - (edge_of g v j).sep) vs → (j < k) ⊎ (k ≤ j) → (below ≡ 0) ⊎ (wcet g v + below ≤ n) → wcet g v + work g ((edge_of g v j).to ∷ vs) ≤ n
+    go : (j : ℕ) → j < k + 1 → (vs : List ℕ) → (edge_of g v j).sep ≤ t → IsDueFrom g (edge_of g v j).to (t - (edge_of g v j).sep) vs
+        → (j < k) ⊎ (k ≤ j) → (below ≡ 0) ⊎ (wcet g v + below ≤ n) → wcet g v + work g ((edge_of g v j).to ∷ vs) ≤ n
     go j i vs s d (inl before) c = so_far.through j before vs s d
     go j i vs s d (inr here) (inl none) =
         let e : j ≡ k = omega (arith, i, here) in
@@ -83,7 +89,8 @@ same_through g sound v t k n below l m fits is less so_far = record { alone = so
 pub past_through : (g : Digraph) (v t k n : ℕ) → t < (edge_of g v k).sep → IsGreatestOf g v t k n → IsGreatestOf g v t (k + 1) n
 past_through g v t k n past so_far = record { alone = so_far.alone; through = λ j i vs s d. go j i vs s d (cases_lt j k); reached = so_far.reached }
   where
-    go : (j : ℕ) → j < k + 1 → (vs : List ℕ) → (edge_of g v j).sep ≤ t → IsDueFrom g (edge_of g v j).to (t - (edge_of g v j).sep) vs → (j < k) ⊎ (k ≤ j) → wcet g v + work g ((edge_of g v j).to ∷ vs) ≤ n
+    go : (j : ℕ) → j < k + 1 → (vs : List ℕ) → (edge_of g v j).sep ≤ t → IsDueFrom g (edge_of g v j).to (t - (edge_of g v j).sep) vs
+        → (j < k) ⊎ (k ≤ j) → wcet g v + work g ((edge_of g v j).to ∷ vs) ≤ n
     go j i vs s d (inl before) = so_far.through j before vs s d
     go j i vs s d (inr here) =
         let e : j ≡ k = omega (arith, i, here) in
@@ -216,7 +223,8 @@ in_table s t u c l m =
     omega arith
 
 -- What the list has for the target of an edge at the time that is left.
-pub below_is : (g : Digraph) → IsSound g → (v t k : ℕ) (best : List ℕ) (x : Edge) (count : ℕ) → v < vertex_count g → k < out_degree g v → x ≡ edge_of g v k → count ≡ vertex_count g → x.sep ≤ t → AreGreatest g best → t * vertex_count g ≤ length best → IsGreatestFrom g (edge_of g v k).to (t - (edge_of g v k).sep) (get_or best ((t - x.sep) * count + x.to) 0)
+pub below_is : (g : Digraph) → IsSound g → (v t k : ℕ) (best : List ℕ) (x : Edge) (count : ℕ) → v < vertex_count g → k < out_degree g v → x ≡ edge_of g v k → count ≡ vertex_count g
+    → x.sep ≤ t → AreGreatest g best → t * vertex_count g ≤ length best → IsGreatestFrom g (edge_of g v k).to (t - (edge_of g v k).sep) (get_or best ((t - x.sep) * count + x.to) 0)
 below_is g sound v t k best x count l m e n fits are long =
     let to = sound.to v k l m in
     let sep = sound.sep v k l m in
@@ -234,7 +242,8 @@ pub sum_none : (t : ℕ) → IsGreatestSum [] t 0
 unfolding efforts
 sum_none t = record { most = λ walks d. omega arith; reached = ([], tt, refl) }
 
-due_split : (t : ℕ) (graphs : List Digraph) (g : Digraph) (walks : List (List ℕ)) → AreDue t (graphs ++ g ∷ []) walks → (front : List (List ℕ)) × (w : List ℕ) × AreDue t graphs front × IsDue g t w × (efforts (graphs ++ g ∷ []) walks ≡ efforts graphs front + work g w)
+due_split : (t : ℕ) (graphs : List Digraph) (g : Digraph) (walks : List (List ℕ)) → AreDue t (graphs ++ g ∷ []) walks
+    → (front : List (List ℕ)) × (w : List ℕ) × AreDue t graphs front × IsDue g t w × (efforts (graphs ++ g ∷ []) walks ≡ efforts graphs front + work g w)
 unfolding efforts
 due_split t [] g [] d = absurd d
 due_split t [] g (w ∷ []) d = ([], w, tt, d.0, omega arith)
@@ -244,7 +253,8 @@ due_split t (h ∷ graphs) g (w ∷ walks) d =
     let r = due_split t graphs g walks d.1 in
     (w ∷ r.0, r.1, (d.0, r.2), r.3, omega (arith, r.4))
 
-due_join : (t : ℕ) (graphs : List Digraph) (g : Digraph) (walks : List (List ℕ)) (w : List ℕ) → AreDue t graphs walks → IsDue g t w → AreDue t (graphs ++ g ∷ []) (walks ++ w ∷ []) × (efforts (graphs ++ g ∷ []) (walks ++ w ∷ []) ≡ efforts graphs walks + work g w)
+due_join : (t : ℕ) (graphs : List Digraph) (g : Digraph) (walks : List (List ℕ)) (w : List ℕ) → AreDue t graphs walks → IsDue g t w
+    → AreDue t (graphs ++ g ∷ []) (walks ++ w ∷ []) × (efforts (graphs ++ g ∷ []) (walks ++ w ∷ []) ≡ efforts graphs walks + work g w)
 unfolding efforts
 due_join t [] g [] w d e = ((e, tt), omega arith)
 due_join t [] g (x ∷ walks) w d e = absurd d
@@ -257,11 +267,13 @@ due_join t (h ∷ graphs) g (x ∷ walks) w d e =
 pub sum_push : (t n m : ℕ) (graphs : List Digraph) (g : Digraph) → IsGreatestSum graphs t n → IsGreatestDemand g t m → IsGreatestSum (graphs ++ g ∷ []) t (n + m)
 sum_push t n m graphs g so_far is = record {
   most = λ walks d. (let r = due_split t graphs g walks d in let a = so_far.most r.0 r.2 in let b = is.most r.1 r.3 in omega (arith, r.4, a, b));
-  reached = (let j = due_join t graphs g so_far.reached.0 is.reached.0 so_far.reached.1 is.reached.1 in (so_far.reached.0 ++ is.reached.0 ∷ [], j.0, omega (arith, j.1, so_far.reached.2, is.reached.2)));
+  reached =
+      (let j = due_join t graphs g so_far.reached.0 is.reached.0 so_far.reached.1 is.reached.1 in (so_far.reached.0 ++ is.reached.0 ∷ [], j.0, omega (arith, j.1, so_far.reached.2, is.reached.2)));
 }
 
 -- The table of the graph of number k.
-pub table_at : (bound : ℕ) (graphs : List Digraph) (tables : List (List ℕ)) → AreTables bound graphs tables → (k : ℕ) → k < length graphs → AreGreatest (graph_of graphs k) (get_or tables k []) × (length (get_or tables k []) ≡ (bound + 1) * vertex_count (graph_of graphs k))
+pub table_at : (bound : ℕ) (graphs : List Digraph) (tables : List (List ℕ)) → AreTables bound graphs tables → (k : ℕ) → k < length graphs
+    → AreGreatest (graph_of graphs k) (get_or tables k []) × (length (get_or tables k []) ≡ (bound + 1) * vertex_count (graph_of graphs k))
 table_at bound [] tables are k l = absurd (omega arith)
 table_at bound (g ∷ graphs) [] are k l = absurd are
 table_at bound (g ∷ graphs) (b ∷ tables) are zero l = are.0
@@ -272,7 +284,8 @@ tables_count bound [] tables are = ap length are
 tables_count bound (g ∷ graphs) [] are = absurd are
 tables_count bound (g ∷ graphs) (b ∷ tables) are = ap suc (tables_count bound graphs tables are.1)
 
-pub tables_push : (bound : ℕ) (graphs : List Digraph) (tables : List (List ℕ)) (g : Digraph) (b : List ℕ) → AreTables bound graphs tables → AreGreatest g b → length b ≡ (bound + 1) * vertex_count g → AreTables bound (graphs ++ g ∷ []) (tables ++ b ∷ [])
+pub tables_push : (bound : ℕ) (graphs : List Digraph) (tables : List (List ℕ)) (g : Digraph) (b : List ℕ) → AreTables bound graphs tables
+    → AreGreatest g b → length b ≡ (bound + 1) * vertex_count g → AreTables bound (graphs ++ g ∷ []) (tables ++ b ∷ [])
 tables_push bound [] [] g b are is long = ((is, long), refl)
 tables_push bound [] (x ∷ tables) g b are is long = absurd (let h = ap length are in omega (arith, h))
 tables_push bound (h ∷ graphs) [] g b are is long = absurd are

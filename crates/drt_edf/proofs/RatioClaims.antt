@@ -57,7 +57,8 @@ claims_lowest (g ∷ graphs) (p ∷ proofs) given zero d l = given.0.greatest.lo
 claims_lowest (g ∷ graphs) (p ∷ proofs) given (suc k) d l = claims_lowest graphs proofs given.1 k d (omega arith)
 
 -- What holds of each graph and what is given for it holds of the claims.
-pub each_given : (R : Digraph → RatioClaim → Type 0) → ((g : Digraph) (p : RatioProof) → IsGiven g p → R g (claim_of p)) → (graphs : List Digraph) (proofs : List RatioProof) → AreGiven graphs proofs → Each R graphs (claims_of proofs)
+pub each_given : (R : Digraph → RatioClaim → Type 0) → ((g : Digraph) (p : RatioProof) → IsGiven g p → R g (claim_of p))
+    → (graphs : List Digraph) (proofs : List RatioProof) → AreGiven graphs proofs → Each R graphs (claims_of proofs)
 each_given R f [] [] given = tt
 each_given R f [] (p ∷ proofs) given = absurd given
 each_given R f (g ∷ graphs) [] given = absurd given

@@ -104,7 +104,8 @@ efforts_with task tasks walks zero = omega arith
 efforts_with task tasks walks (suc n) = omega (arith, efforts_with task tasks walks n)
 
 -- The turns with one more task.
-pub turns_cons : (g : Digraph) (graphs : List Digraph) (p : RatioProof) (proofs : List RatioProof) (t : ℕ) → turns_within (g ∷ graphs) (p ∷ proofs) t ≡ turns_of g t p.cycle ∷ turns_within graphs proofs t
+pub turns_cons : (g : Digraph) (graphs : List Digraph) (p : RatioProof) (proofs : List RatioProof) (t : ℕ)
+    → turns_within (g ∷ graphs) (p ∷ proofs) t ≡ turns_of g t p.cycle ∷ turns_within graphs proofs t
 unfolding turns_within
 turns_cons g graphs p proofs t = refl
 
@@ -113,7 +114,8 @@ pub turns_all : (walks whole : List (List ℕ)) (proofs : List RatioProof) (t : 
 unfolding turns_within
 turns_all walks whole proofs t e = sym (append-nil walks) ∙ e
 
-more_turns : (task : Task) (tasks : List Task) (p : RatioProof) (proofs : List RatioProof) (t : ℕ) (walk : List ℕ) (walks : List (List ℕ)) → IsTurnWalk (digraph_of task) t p.cycle walk → AreTurns tasks proofs t walks → AreTurns (task ∷ tasks) (p ∷ proofs) t (walk ∷ walks)
+more_turns : (task : Task) (tasks : List Task) (p : RatioProof) (proofs : List RatioProof) (t : ℕ) (walk : List ℕ) (walks : List (List ℕ))
+    → IsTurnWalk (digraph_of task) t p.cycle walk → AreTurns tasks proofs t walks → AreTurns (task ∷ tasks) (p ∷ proofs) t (walk ∷ walks)
 unfolding cycle_turns_of
 more_turns task tasks p proofs t walk walks w rest = record { are = are; due = due; all = all }
   where
@@ -136,12 +138,14 @@ unfolding cycle_turns_of turned efforts
 no_turns proofs t = record { are = λ k l. absurd (omega arith); due = λ k l. absurd (omega arith); all = omega arith }
 
 -- The whole turns are walks of the tasks, are due by t, and have the work of whole turns.
-pub are_turns : (tasks : List Task) (proofs : List RatioProof) (t : ℕ) → All IsSound (graphs_of tasks) → All IsConstrainedGraph (graphs_of tasks) → AreGiven (graphs_of tasks) proofs → AreTurns tasks proofs t (turns_within (graphs_of tasks) proofs t)
+pub are_turns : (tasks : List Task) (proofs : List RatioProof) (t : ℕ) → All IsSound (graphs_of tasks) → All IsConstrainedGraph (graphs_of tasks)
+    → AreGiven (graphs_of tasks) proofs → AreTurns tasks proofs t (turns_within (graphs_of tasks) proofs t)
 unfolding turns_within
 are_turns [] proofs t sound constrained given = no_turns proofs t
 are_turns (task ∷ tasks) [] t sound constrained given = absurd given
 are_turns (task ∷ tasks) (p ∷ proofs) t sound constrained given =
     let g = digraph_of task in
-    let w = turn_walk g (All-head IsSound g (graphs_of tasks) sound) (All-head IsConstrainedGraph g (graphs_of tasks) constrained) t p.cycle (is_cycle g p.ratio.num p.ratio.den p.cycle given.0.greatest.has) in
+    let w = turn_walk g (All-head IsSound g (graphs_of tasks) sound) (All-head IsConstrainedGraph g (graphs_of tasks) constrained) t p.cycle
+    (is_cycle g p.ratio.num p.ratio.den p.cycle given.0.greatest.has) in
     more_turns task tasks p proofs t (turns_of g t p.cycle) (turns_within (graphs_of tasks) proofs t) w
     (are_turns tasks proofs t (All-tail IsSound g (graphs_of tasks) sound) (All-tail IsConstrainedGraph g (graphs_of tasks) constrained) given.1)

@@ -1,5 +1,5 @@
 -- How the searches of the tasks' walks end.
-use Rattle.std.proofs.Common.{◌≡◌, ℕ, ◌<◌, false, List, length, sym, ap, arith, ◌∙◌, subst}
+use Rattle.std.proofs.Common.{◌≡◌, ℕ, ◌<◌, false, length, sym, ap, arith, ◌∙◌, subst}
 use Rattle.drt_model.specs.Digraph.{Digraph}
 use Rattle.drt_model.specs.declared.front.FrontEntry.{FrontEntry}
 use Rattle.drt_demand.specs.Demand.{demand_algebra}

@@ -49,5 +49,6 @@ near_step (c ∷ cycle_turns) are t budget over few most =
     omega arith
 
 -- What a search for an overload finds is in range.
-pub overload_near : (graphs : List Digraph) (proofs : List RatioProof) → AreGraphs graphs → AreGiven graphs proofs → (budget t : ℕ) → budget ≤ 1000000 → IsOver (cycle_turns_of graphs proofs) budget (Found t) → t ≤ 1000000000000000000
+pub overload_near : (graphs : List Digraph) (proofs : List RatioProof) → AreGraphs graphs → AreGiven graphs proofs
+    → (budget t : ℕ) → budget ≤ 1000000 → IsOver (cycle_turns_of graphs proofs) budget (Found t) → t ≤ 1000000000000000000
 overload_near graphs proofs are given budget t most over = near_step (cycle_turns_of graphs proofs) (are_cycle_turns graphs proofs are.sound given) t budget over.1 over.3 most

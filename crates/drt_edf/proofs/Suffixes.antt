@@ -45,7 +45,8 @@ at_end tasks m e l =
     omega (arith, n, none, l)
 
 -- The work of all walks is that of the first m and of the list of the others.
-suffix_efforts : (tasks : List Task) (walks : ℕ → List ℕ) (m : ℕ) (rest : List Task) → drop m tasks ≡ rest → m ≤ length tasks → efforts tasks walks (length tasks) ≡ efforts tasks walks m + list_efforts (graphs_of rest) (listed walks m rest)
+suffix_efforts : (tasks : List Task) (walks : ℕ → List ℕ) (m : ℕ) (rest : List Task) → drop m tasks ≡ rest → m ≤ length tasks
+    → efforts tasks walks (length tasks) ≡ efforts tasks walks m + list_efforts (graphs_of rest) (listed walks m rest)
 unfolding efforts list_efforts listed
 suffix_efforts tasks walks m [] e l =
     let same = ap (efforts tasks walks) (at_end tasks m e l) in
@@ -69,7 +70,8 @@ pub walk_due : (g : Digraph) (t : ℕ) (w : List ℕ) → IsDue g t w → IsWalk
 walk_due g t [] is = (tt, omega arith)
 walk_due g t (u ∷ vs) is = ((is.0, is.1), is.2)
 
-suffix_due : (tasks : List Task) (walks : ℕ → List ℕ) (t m : ℕ) (rest : List Task) → drop m tasks ≡ rest → AreWalks tasks walks → AreDueBy tasks walks t → AreDue t (graphs_of rest) (listed walks m rest)
+suffix_due : (tasks : List Task) (walks : ℕ → List ℕ) (t m : ℕ) (rest : List Task) → drop m tasks ≡ rest
+    → AreWalks tasks walks → AreDueBy tasks walks t → AreDue t (graphs_of rest) (listed walks m rest)
 unfolding listed
 suffix_due tasks walks t m [] e are due = tt
 suffix_due tasks walks t m (x ∷ rest) e are due =

@@ -24,7 +24,8 @@ equal h k l m = omega (arith, ints)
 
 -- A vertex has one potential.
 potential_same : (g : Digraph) (a b v : ℕ) (h k : ℤ) → IsPotential g a b v h → IsPotential g a b v k → h ≡ k
-potential_same g a b v h k p q = equal h k (subst (λ x. x ≤ℤ k) p.reached.1.4 (q.most p.reached.0 p.reached.1.0 p.reached.1.1 p.reached.1.2 p.reached.1.3)) (subst (λ x. x ≤ℤ h) q.reached.1.4 (p.most q.reached.0 q.reached.1.0 q.reached.1.1 q.reached.1.2 q.reached.1.3))
+potential_same g a b v h k p q = equal h k (subst (λ x. x ≤ℤ k) p.reached.1.4 (q.most p.reached.0 p.reached.1.0 p.reached.1.1 p.reached.1.2 p.reached.1.3))
+    (subst (λ x. x ≤ℤ h) q.reached.1.4 (p.most q.reached.0 q.reached.1.0 q.reached.1.1 q.reached.1.2 q.reached.1.3))
 
 same_list : (hs ks : List ℤ) → length hs ≡ length ks → ((v : ℕ) → v < length hs → potential_of hs v ≡ potential_of ks v) → hs ≡ ks
 same_list [] [] e f = refl
@@ -33,7 +34,8 @@ same_list (h ∷ hs) [] e f = absurd (omega arith)
 same_list (h ∷ hs) (k ∷ ks) e f = ap (λ x. x ∷ hs) (f 0 (omega arith)) ∙ ap (λ xs. k ∷ xs) (same_list hs ks (omega arith) (λ v l. f (suc v) (omega arith)))
 
 canonical_same : (g : Digraph) (a b : ℕ) (hs ks : List ℤ) → AreCanonical g a b hs → AreCanonical g a b ks → hs ≡ ks
-canonical_same g a b hs ks p q = same_list hs ks (p.counted ∙ sym q.counted) (λ v l. potential_same g a b v (potential_of hs v) (potential_of ks v) (p.each v (omega (arith, l, p.counted))) (q.each v (omega (arith, l, p.counted))))
+canonical_same g a b hs ks p q = same_list hs ks (p.counted ∙ sym q.counted)
+    (λ v l. potential_same g a b v (potential_of hs v) (potential_of ks v) (p.each v (omega (arith, l, p.counted))) (q.each v (omega (arith, l, p.counted))))
 
 -- The potentials of graphs at their ratios are one list.
 potentials_same : (graphs : List Digraph) (ratios : List Fraction) (hss kss : List (List ℤ)) → ArePotentials graphs ratios hss → ArePotentials graphs ratios kss → hss ≡ kss

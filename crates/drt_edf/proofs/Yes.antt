@@ -87,7 +87,8 @@ extended : (bound : ℕ) (g : Digraph) (f : List FrontEntry) → IsSound g → I
     → IsExtended bound g f e k
 extended bound g f sound is e walk k l = go (cases_lt bound (e.offset + (edge_of g e.vertex k).sep + deadline g (edge_of g e.vertex k).to))
   where
-    go : (bound < e.offset + (edge_of g e.vertex k).sep + deadline g (edge_of g e.vertex k).to) ⊎ (e.offset + (edge_of g e.vertex k).sep + deadline g (edge_of g e.vertex k).to ≤ bound) → IsExtended bound g f e k
+    go : (bound < e.offset + (edge_of g e.vertex k).sep + deadline g (edge_of g e.vertex k).to) ⊎ (e.offset + (edge_of g e.vertex k).sep + deadline g (edge_of g e.vertex k).to ≤ bound)
+        → IsExtended bound g f e k
     go (inl far) = inl far
     go (inr near) =
         let v = (edge_of g e.vertex k).to in

@@ -28,4 +28,5 @@ pub record IsBoundedSearch (g : Digraph) (bound budget : ℕ) (log : List Entry)
 
 -- Each run of the search of a sound graph's walks is bounded, whoever made its steps and in whatever order, with any budget.
 abbrev pub SearchesAreBounded : Type 0
-SearchesAreBounded = (g : Digraph) (bound budget : ℕ) (log : List Entry) → IsSound g → IsTrue (demand_algebra.takes_bound bound) → IsRun demand_algebra (search_of g bound budget) log → IsBoundedSearch g bound budget log
+SearchesAreBounded = (g : Digraph) (bound budget : ℕ) (log : List Entry) → IsSound g → IsTrue (demand_algebra.takes_bound bound)
+    → IsRun demand_algebra (search_of g bound budget) log → IsBoundedSearch g bound budget log

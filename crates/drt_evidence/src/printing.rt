@@ -9,14 +9,13 @@ mod ratios;
 mod releases;
 mod trees;
 
-pub use releases::push_release_lines;
-
 use crate::evidence::{Dossier, Evidence};
 use drt_file::{push_line, push_set};
 use drt_model::{Memory, Policy, Row};
 use fronts::push_fronts;
 use proofs::push_proofs;
 use ratios::push_ratios;
+pub use releases::push_release_lines;
 use releases::push_releases;
 use std::alloc::Global;
 use trees::push_trees;

@@ -1,3 +1,4 @@
+mod Enough
 mod Firsts
 mod Posed
 mod Vertices

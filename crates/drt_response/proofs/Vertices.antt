@@ -24,7 +24,8 @@ module _ (set : Contents) where
       let here : respondent r ≡ (k, v) = rw (task_is, vertex_is) refl in
       record {
         are = map_push respondent responses r ∙ (ap (λ xs. xs ++ respondent r ∷ []) are.are
-            ∙ (append_assoc (vertices_of set.tasks k) (subjects k v) (respondent r ∷ []) ∙ (ap (λ x. vertices_of set.tasks k ++ (subjects k v ++ x ∷ [])) here ∙ ap (λ xs. vertices_of set.tasks k ++ xs) (sym next))));
+            ∙ (append_assoc (vertices_of set.tasks k) (subjects k v) (respondent r ∷ [])
+            ∙ (ap (λ x. vertices_of set.tasks k ++ (subjects k v ++ x ∷ [])) here ∙ ap (λ xs. vertices_of set.tasks k ++ xs) (sym next))));
         each = All-push (IsResponseOf set) responses r are.each is;
       }
 

@@ -147,7 +147,8 @@ module _ (t : Setting) (s : State) (w : ℕ) (nodes : List ℕ) (f : FrontierFou
   can_go (Some id) step is e can = settle_go id step is e can
 
 -- an eager step keeps a log eager
-module _ (f : Plain) (old : View) (w : ℕ) (step : FrontierStep) (front : IsFrontier f old) (eager : IsEagerStep (setting_of f old) (state_of old) (record { worker = w; step = step })) (was : IsEager (setting_of f old) old.log) where
+module _ (f : Plain) (old : View) (w : ℕ) (step : FrontierStep) (front : IsFrontier f old)
+    (eager : IsEagerStep (setting_of f old) (state_of old) (record { worker = w; step = step })) (was : IsEager (setting_of f old) old.log) where
   kept_by : (x : State) → Logs (state_of old) (record { worker = w; step = step }) x → IsEager (setting_of f old) x.log
   kept_by x (same e) = subst (λ (s : State). IsEager (setting_of f old) s.log) (sym e) was
   kept_by x (adds e) =
@@ -160,7 +161,8 @@ module _ (f : Plain) (old : View) (w : ℕ) (step : FrontierStep) (front : IsFro
   eager_kept new reply h = subst (λ (v : View). IsEager (setting_of f v) v.log) (sym h.state) (kept_by (outcome f old w step).state (step_logs (setting_of f old) (state_of old) w step))
 
 -- the step that was made
-pub made : (old new : BoardOf) (w : ℕ) (held : Option ℕ) (step : FrontierStep) (reply : FrontierReply) → new.forest ≡ old.forest → CanGo (terms_of old) (state_of old.frontier) w held step → IsStep old.forest old.frontier new.frontier w step reply → IsMade old new w held step reply
+pub made : (old new : BoardOf) (w : ℕ) (held : Option ℕ) (step : FrontierStep) (reply : FrontierReply) → new.forest ≡ old.forest
+    → CanGo (terms_of old) (state_of old.frontier) w held step → IsStep old.forest old.frontier new.frontier w step reply → IsMade old new w held step reply
 made old new w held step reply same_forest go h =
     let g : Goes (terms_of old) (state_of old.frontier) held step (outcome old.forest old.frontier w step) = goes (terms_of old) (state_of old.frontier) held w step go.fails go.other in
     let r : reply ≡ (outcome old.forest old.frontier w step).reply = h.reply_is in
@@ -182,14 +184,16 @@ if_some None P x h e = absurd (none-some x e)
 if_some (Some y) P x h e = subst P (same_Some y x e) h
 
 -- what the nodes of a combination are
-pub in_place : (f : Plain) (v : View) (id : ℕ) (nodes : List ℕ) → IsFrontier f v → id < length v.combinations → IfSome (slice_get v.combinations id) (λ c. nodes ≡ c.nodes) → AreInPlace (setting_of f v) nodes
+pub in_place : (f : Plain) (v : View) (id : ℕ) (nodes : List ℕ) → IsFrontier f v → id < length v.combinations
+    → IfSome (slice_get v.combinations id) (λ c. nodes ≡ c.nodes) → AreInPlace (setting_of f v) nodes
 in_place f v id nodes front lt are =
     let x : (x : Combination) × (slice_get v.combinations id ≡ Some x) = get_within v.combinations id lt in
     let facts = (frontier_facts f v front).nodes id x.0 x.1 in
     subst (λ ns. AreInPlace (setting_of f v) ns) (sym (if_some (slice_get v.combinations id) (λ c. nodes ≡ c.nodes) x.0 are x.1)) facts
 
 -- what was found of the combination that the worker holds
-pub found_one : (combinations : List Combination) (w id : ℕ) (held : Option ℕ) (nodes its : List ℕ) (b : Bool) → first (is_held_by w) combinations ≡ Some id → IfSome (slice_get combinations id) (λ c. its ≡ c.nodes)
+pub found_one : (combinations : List Combination) (w id : ℕ) (held : Option ℕ) (nodes its : List ℕ) (b : Bool)
+    → first (is_held_by w) combinations ≡ Some id → IfSome (slice_get combinations id) (λ c. its ≡ c.nodes)
     → MatchBool b ((k : ℕ) × (held ≡ Some k) × (nodes ≡ its)) ((k : ℕ) → held ≡ Some k → nodes ≢ its) → IsFound combinations w held nodes (record { held = Some id; same = b })
 found_one combinations w id held nodes its true at are is =
     let lt : id < length combinations = combination_within combinations w id at in
@@ -203,7 +207,9 @@ found_one combinations w id held nodes its false at are is = record {
   held_is = sym at;
   same_is = (
     (λ e. absurd (cc e)),
-    λ copy. absurd (is copy.copied copy.copied_is (copy.same ∙ sym (if_some (slice_get combinations id) (λ c. its ≡ c.nodes) copy.combination are (ap (λ i. slice_get combinations i) (same_Some id copy.found copy.found_is) ∙ copy.combination_is)))),
+    λ copy. (let here : slice_get combinations id ≡ Some copy.combination
+        = ap (λ i. slice_get combinations i) (same_Some id copy.found copy.found_is) ∙ copy.combination_is in
+        absurd (is copy.copied copy.copied_is (copy.same ∙ sym (if_some (slice_get combinations id) (λ c. its ≡ c.nodes) copy.combination are here)))),
   );
 }
 

@@ -33,7 +33,8 @@ module _ (t : Setting) (s : State) (held : Option ℕ) where
   }
 
   -- a step that is logged
-  adds : (step : FrontierStep) (e : FrontierEntry) (cs : List Combination) (r : FrontierReply) → length s.log < t.budget → logged_by held r ≡ 1 → IsReplyTo step r → ((k : ℕ) → taken_by r ≡ Some k → k < length cs) → Goes step (logged s e cs r)
+  adds : (step : FrontierStep) (e : FrontierEntry) (cs : List Combination) (r : FrontierReply) → length s.log < t.budget
+      → logged_by held r ≡ 1 → IsReplyTo step r → ((k : ℕ) → taken_by r ≡ Some k → k < length cs) → Goes step (logged s e cs r)
   adds step e cs r lt one kind within = record {
     log = (let l : length (s.log ++ e ∷ []) ≡ length s.log + 1 = length-append s.log (e ∷ []) in omega (arith, l, one));
     few = λ _. lt;
@@ -46,12 +47,14 @@ module _ (t : Setting) (s : State) (held : Option ℕ) where
   full_or step o kind go true e = stays step Spent refl kind refl
   full_or step o kind go false e = go (leb-false t.budget (length s.log) e)
 
-  takes : (w k : ℕ) → first is_pending s.combinations ≡ Some k → length s.log < t.budget → Goes Take (logged s (record { worker = w; step = Take }) (changed k (with_state (TakenBy w)) s.combinations) (Taken k))
+  takes : (w k : ℕ) → first is_pending s.combinations ≡ Some k → length s.log < t.budget
+      → Goes Take (logged s (record { worker = w; step = Take }) (changed k (with_state (TakenBy w)) s.combinations) (Taken k))
   takes w k is lt =
       let f : Found is_pending s.combinations k = found is_pending s.combinations k is in
       let within : k < length s.combinations = slice_get_within s.combinations k f.item f.at in
       let same : length (changed k (with_state (TakenBy w)) s.combinations) ≡ length s.combinations = length-changed k (with_state (TakenBy w)) s.combinations in
-      adds Take (record { worker = w; step = Take }) (changed k (with_state (TakenBy w)) s.combinations) (Taken k) lt refl tt (λ j e. (let one : k ≡ j = same_Some k j e in omega (arith, one, within, same)))
+      adds Take (record { worker = w; step = Take }) (changed k (with_state (TakenBy w)) s.combinations)
+      (Taken k) lt refl tt (λ j e. (let one : k ≡ j = same_Some k j e in omega (arith, one, within, same)))
 
   goes_take : (w : ℕ) (o u : Option ℕ) → first is_pending s.combinations ≡ o → Goes Take (taken t s w o u)
   goes_take w None None is = stays Take Finished refl tt refl
@@ -80,7 +83,8 @@ module _ (t : Setting) (s : State) (held : Option ℕ) where
   goes_stepped : (w : ℕ) (step : FrontierStep) → FailsHeld step → Goes step (stepped t s w step)
   goes_stepped w Take fails = goes_take w (first is_pending s.combinations) (first is_taken s.combinations) refl
   goes_stepped w (Pass id time) fails = full_or (Pass id time) _ tt (λ lt. adds (Pass id time) _ _ Passed lt refl tt (nothing Passed refl _)) (is_full t s) refl
-  goes_stepped w (Split id place) fails = full_or (Split id place) _ tt (λ lt. goes_halved_at (record { worker = w; step = Split id place }) id place lt (slice_get s.combinations id)) (is_full t s) refl
+  goes_stepped w (Split id place) fails =
+      full_or (Split id place) _ tt (λ lt. goes_halved_at (record { worker = w; step = Split id place }) id place lt (slice_get s.combinations id)) (is_full t s) refl
   goes_stepped w (Fail id) fails = full_or (Fail id) _ tt (λ lt. adds (Fail id) _ _ (Failed id) lt (ap (λ b. cond b 1 0) fails) tt (nothing (Failed id) refl _)) (is_full t s) refl
 
   failed_reply : (step : FrontierStep) (k : ℕ) → IsReplyTo step (Failed k)

@@ -17,7 +17,8 @@ may_settle t held nodes (Split id place) can = can
 may_settle t held nodes (Fail id) can = can
 
 -- a pass as it is given out is one of the shared frontier
-pub new_pass : (s : SharedOf) (roots : List ℕ) (i : ℕ) (p : PassOf) → s.setting.roots ≡ roots → AreChosen s.setting.deadline s.setting.forest.pool roots → IsFresh s.name s.setting roots i p → IsNewPass s i p
+pub new_pass : (s : SharedOf) (roots : List ℕ) (i : ℕ) (p : PassOf) → s.setting.roots ≡ roots
+    → AreChosen s.setting.deadline s.setting.forest.pool roots → IsFresh s.name s.setting roots i p → IsNewPass s i p
 new_pass s roots i p are chosen f = record {
   of_frontier = record { name = f.name_is; setting = f.setting_is; nodes = subst (λ ns. AreInPlace s.setting ns) (sym f.nodes) (chosen, ap length (sym are)) };
   number = f.number;

@@ -22,7 +22,8 @@ leaf_place (j ∷ order) (l ∷ tuple) k leaf e = elim (cases_Bool (eqb j k)) [
   | inr h ↦ (let rest = leaf_place order tuple k leaf (rw h at e) in (suc rest.0, omega (arith, rest.1), rest.2, rest.3))
 ]
 
-pub leaf_more : (order tuple : List ℕ) (k i : ℕ) → i < length order → i < length tuple → eqb (get_or order i 0) k ≡ false → leaf_for (drop i order) (drop i tuple) k ≡ leaf_for (drop (i + 1) order) (drop (i + 1) tuple) k
+pub leaf_more : (order tuple : List ℕ) (k i : ℕ) → i < length order → i < length tuple → eqb (get_or order i 0) k ≡ false
+    → leaf_for (drop i order) (drop i tuple) k ≡ leaf_for (drop (i + 1) order) (drop (i + 1) tuple) k
 unfolding leaf_for
 leaf_more order tuple k i l m h = rw (drop_more order i 0 l, drop_more tuple i 0 m, h) refl
 

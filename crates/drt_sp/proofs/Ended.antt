@@ -1,5 +1,5 @@
 -- How an analysis ends, and the trees that it hands over.
-use Rattle.std.proofs.Common.{◌≡◌, ℕ, ◌+◌, List, length, ap, arith, ◌∙◌, sym, subst}
+use Rattle.std.proofs.Common.{ℕ, List, arith}
 use Rattle.drt_model.specs.Contents.{Contents}
 use Rattle.drt_model.specs.Constrained.{AreConstrained}
 use Rattle.drt_model.specs.Limits.{IsTaskSet}
@@ -13,7 +13,6 @@ use Rattle.drt_sp.specs.Grown.{AreProvedTrees}
 use Rattle.drt_sp.specs.Progress.{IsComplete}
 use Rattle.drt_sp.specs.declared.answer.FixedAnswer.{FixedAnswer}
 use Rattle.drt_sp.specs.declared.answer.FixedAnswer.TheVariants as answers
-use Rattle.drt_sp.specs.declared.grown.ProvedTrees.{ProvedTrees}
 use Rattle.drt_sp.specs.declared.progress.Progress.{Progress}
 use Rattle.drt_sp.proofs.Passing.{claimed_nodes}
 use Rattle.drt_sp.proofs.Yes.{is_yes}

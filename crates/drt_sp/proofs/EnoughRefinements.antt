@@ -1,4 +1,4 @@
--- The refinement of the trees of the tasks of higher priority takes few steps: four for each choice of one walk of each such task.
+-- There are few tuples of leaves below the trees of the tasks of higher priority: one for each choice of one walk of each such task.
 use Rattle.std.proofs.Common.{◌≡◌, ℕ, zero, suc, ◌+◌, ◌*◌, ◌<◌, ◌≤◌, true, false, cond, ltb, List, [], ◌∷◌, ◌++◌, length, get_or, map, Some, All, refl, sym, ap, ◌∙◌, subst, arith}
 use Rattle.std.specs.Prelude.{slice_get}
 use Rattle.std.specs.List.{range_with_len}
@@ -10,10 +10,8 @@ use Rattle.std.proofs.lemmas.Nat.{mul-le}
 use Rattle.std.proofs.lemmas.Option.{get_or_from_slice_get, slice_get_within, same_Some}
 use Rattle.drt_model.specs.declared.tasks.Task.{Task}
 use Rattle.drt_busy.specs.Choice.{task_at}
-use Rattle.drt_tree.specs.Tree.{IsForest, Plain, leaves}
+use Rattle.drt_tree.specs.Tree.{Plain, leaves}
 use Rattle.drt_refine.specs.Below.{tuples}
-use Rattle.drt_refine.specs.Machine.{Setting, IsRun}
-use Rattle.drt_refine.specs.declared.step.FrontierEntry.{FrontierEntry}
 use Rattle.drt_choices.specs.Choices.{IsOrder}
 use Rattle.drt_choices.proofs.Asked.{AreRising, rising_first, rising_tail}
 use Rattle.drt_sp.specs.Needs.{product_above}
@@ -89,18 +87,13 @@ module _ (tasks : List Task) (counts : ℕ → ℕ) where
   tuples_few f (k ∷ order) (root ∷ roots) le few =
       mul-le (leaves f root) (tuples f roots) (counts k) (counted order roots) (few 0 k root refl refl) (tuples_few f order roots (omega (arith, le)) (λ i. few (suc i)))
 
--- What holds after each run, of its length.
-abbrev pub RefinementsAreShort : Type 0
-RefinementsAreShort = (t : Setting) (log : List FrontierEntry) → IsForest t.forest → IsRun t log → length log + 2 ≤ 4 * tuples t.forest t.roots
-
--- A refinement's run is shorter than four times the product of the numbers of the tasks of higher priority.
-pub refinement_short : RefinementsAreShort → (tasks : List Task) (counts : ℕ → ℕ) (order : List ℕ) (k : ℕ) (t : Setting) (log : List FrontierEntry)
-    → IsOrder tasks order → slice_get order (length t.roots) ≡ Some k → IsForest t.forest
-    → ((i j root : ℕ) → slice_get order i ≡ Some j → slice_get t.roots i ≡ Some root → leaves t.forest root ≤ counts j) → IsRun t log
-    → length log < 4 * product_above tasks counts (task_at tasks k).priority (length tasks)
-refinement_short short tasks counts order k t log is at forest few run =
-    let within = slice_get_within order (length t.roots) k at in
-    let s = short t log forest run in
-    let le = tuples_few tasks counts t.forest order t.roots (omega (arith, within)) few in
-    let e = above_counted tasks counts order t.roots k is at in
-    omega (arith, s, le, e)
+-- There are at most as many tuples of leaves below the trees of the tasks of higher priority than task k as the product of their numbers.
+pub tuples_short : (tasks : List Task) (counts : ℕ → ℕ) (order : List ℕ) (k : ℕ) (f : Plain) (roots : List ℕ)
+    → IsOrder tasks order → slice_get order (length roots) ≡ Some k
+    → ((i j root : ℕ) → slice_get order i ≡ Some j → slice_get roots i ≡ Some root → leaves f root ≤ counts j)
+    → tuples f roots ≤ product_above tasks counts (task_at tasks k).priority (length tasks)
+tuples_short tasks counts order k f roots is at few =
+    let within = slice_get_within order (length roots) k at in
+    let le = tuples_few tasks counts f order roots (omega (arith, within)) few in
+    let e = above_counted tasks counts order roots k is at in
+    omega (arith, le, e)

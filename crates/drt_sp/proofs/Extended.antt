@@ -86,7 +86,8 @@ passes_narrow m trees [] None is = All-nil (λ (at : List ℕ × ℕ). length at
 passes_narrow m trees [] (Some stack) is = All-nil (λ (at : List ℕ × ℕ). length at.0 ≤ m)
 passes_narrow m trees (item ∷ items) None is = All-nil (λ (at : List ℕ × ℕ). length at.0 ≤ m)
 passes_narrow m trees (item ∷ items) (Some []) is = All-nil (λ (at : List ℕ × ℕ). length at.0 ≤ m)
-passes_narrow m trees (Pass t ∷ items) (Some (nodes ∷ stack)) is = All-cons (λ (at : List ℕ × ℕ). length at.0 ≤ m) (nodes, t) (passes trees items (Some stack)) is.0 (passes_narrow m trees items (Some stack) is.1)
+passes_narrow m trees (Pass t ∷ items) (Some (nodes ∷ stack)) is =
+    All-cons (λ (at : List ℕ × ℕ). length at.0 ≤ m) (nodes, t) (passes trees items (Some stack)) is.0 (passes_narrow m trees items (Some stack) is.1)
 passes_narrow m trees (Split place ∷ items) (Some (nodes ∷ stack)) is = passes_narrow m trees items (after trees (Split place) (nodes ∷ stack)) (after_narrow m trees (Split place) (nodes ∷ stack) is)
 
 -- A combination's sum takes the first graphs and trees alone.

@@ -40,7 +40,8 @@ each_push R [] (z ∷ ys) x y e r = absurd e
 each_push R (z ∷ xs) [] x y e r = absurd e
 each_push R (w ∷ xs) (z ∷ ys) x y e r = (e.0, each_push R xs ys x y e.1 r)
 
-claims_stay : (bound : ℕ) (f g : Plain) → Grows f g → (graphs : List Digraph) (lows tops : List ℕ) (claims : List TreeClaim) → IsForest f → AreClaimsOf bound f graphs lows tops claims → AreClaimsOf bound g graphs lows tops claims
+claims_stay : (bound : ℕ) (f g : Plain) → Grows f g → (graphs : List Digraph) (lows tops : List ℕ) (claims : List TreeClaim)
+    → IsForest f → AreClaimsOf bound f graphs lows tops claims → AreClaimsOf bound g graphs lows tops claims
 claims_stay bound f g grows [] [] [] [] forest are = tt
 claims_stay bound f g grows (x ∷ graphs) (low ∷ lows) (top ∷ tops) (claim ∷ claims) forest are =
     (claim_on f g forest grows x bound low top claim are.0, claims_stay bound f g grows graphs lows tops claims forest are.1)
@@ -76,7 +77,8 @@ grown_more tasks order m k at f g roots trees grown forest grows bounds few low 
     let bound : ℕ = greatest_deadline tasks in
     let graphs = graphs_more tasks order m k at in
     let claims : AreClaimsOf bound g (first_graphs tasks order m ++ graph_at tasks k ∷ []) (grown.lows ++ low ∷ []) (roots ++ top ∷ []) (trees ++ claim ∷ [])
-    = claims_push bound g (graph_at tasks k) low top claim is (first_graphs tasks order m) grown.lows roots trees (claims_stay bound f g grows (first_graphs tasks order m) grown.lows roots trees forest grown.claimed) in
+    = claims_push bound g (graph_at tasks k) low top claim is (first_graphs tasks order m) grown.lows roots trees
+    (claims_stay bound f g grows (first_graphs tasks order m) grown.lows roots trees forest grown.claimed) in
     let nodes = claimed_nodes bound f (first_graphs tasks order m) grown.lows roots trees grown.claimed in
     let stay : AreTrees tasks order bound g roots = trees_stay tasks bound f g grows forest order roots nodes grown.stand in
     let here : slice_get order (length roots) ≡ Some k = ap (slice_get order) grown.count ∙ at in
@@ -99,7 +101,8 @@ trees_count tasks order m l f roots trees grown =
     ∙ length-take-le m (map (graph_at tasks) order) (omega (arith, l, length-map order (graph_at tasks)))
 
 -- Where nothing is done yet.
-pub none_grown : (tasks : List Task) (order : List ℕ) (f : Plain) (roots : List ℕ) (trees : List TreeClaim) → f.nodes ≡ [] → f.pool ≡ [] → roots ≡ [] → trees ≡ [] → AreGrown tasks order 0 f roots trees
+pub none_grown : (tasks : List Task) (order : List ℕ) (f : Plain) (roots : List ℕ) (trees : List TreeClaim)
+    → f.nodes ≡ [] → f.pool ≡ [] → roots ≡ [] → trees ≡ [] → AreGrown tasks order 0 f roots trees
 none_grown tasks order f roots trees nodes pool roots_none trees_none =
     subst (λ ts. AreGrown tasks order 0 f roots ts) (sym trees_none) (subst (λ rs. AreGrown tasks order 0 f rs []) (sym roots_none) (record {
       count = refl;
@@ -121,7 +124,8 @@ none_proved tasks order trees rows count = record {
 }
 
 -- The proofs so far are over the first of more trees.
-proof_kept : (tasks : List Task) (order : List ℕ) (i k : ℕ) (trees : List TreeClaim) (claim : TreeClaim) → i ≤ length trees → (p : ProofClaim) → IsProofAt tasks order i k trees p → IsProofAt tasks order i k (trees ++ claim ∷ []) p
+proof_kept : (tasks : List Task) (order : List ℕ) (i k : ℕ) (trees : List TreeClaim) (claim : TreeClaim) → i ≤ length trees
+    → (p : ProofClaim) → IsProofAt tasks order i k trees p → IsProofAt tasks order i k (trees ++ claim ∷ []) p
 proof_kept tasks order i k trees claim l p is = record {
   task_is = is.task_is;
   vertex = is.vertex;
@@ -140,7 +144,8 @@ proved_kept tasks order m trees claim rows l proved = record {
   passed = proved.passed;
   each = λ i k less at. record {
     are = (proved.each i k less at).are;
-    each = All-weaker (IsProofAt tasks order i k trees) (IsProofAt tasks order i k (trees ++ claim ∷ [])) (proof_kept tasks order i k trees claim (omega arith)) (get_or rows k []) (proved.each i k less at).each;
+    each = All-weaker (IsProofAt tasks order i k trees) (IsProofAt tasks order i k (trees ++ claim ∷ []))
+        (proof_kept tasks order i k trees claim (omega arith)) (get_or rows k []) (proved.each i k less at).each;
   };
 }
 
@@ -153,13 +158,16 @@ proved_more tasks order order_is m k at f roots trees grown rows proved first pr
   passed = first;
   each = λ i j l here. elim (cases_lt i m) [
     | inl before ↦
-        (let ne : j ≡ k → ⊥ = (λ e. (let same : i ≡ m = order_once tasks order order_is i m (slice_get_within order i j here) (slice_get_within order m k at) (get_or_from_slice_get order i j 0 here ∙ (e ∙ sym (get_or_from_slice_get order m k 0 at))) in absurd (omega arith))) in
+        (let once : j ≡ k → i ≡ m = λ e. order_once tasks order order_is i m (slice_get_within order i j here) (slice_get_within order m k at)
+        (get_or_from_slice_get order i j 0 here ∙ (e ∙ sym (get_or_from_slice_get order m k 0 at))) in
+        let ne : j ≡ k → ⊥ = λ e. (let same = once e in absurd (omega (arith, same, before))) in
         subst (AreProofsAt tasks order i j trees) (sym (get_or-set_other rows k j proofs [] ne)) (proved.each i j before here))
     | inr after ↦
         (let e : m ≡ i = omega arith in
         let same : k ≡ j = same_Some k j (sym at ∙ (ap (slice_get order) e ∙ here)) in
         let row : get_or (set rows k proofs) k [] ≡ proofs = get_or-set_same rows k proofs [] (omega (arith, below, proved.count)) in
-        subst (λ x. AreProofsAt tasks order i x trees (get_or (set rows k proofs) x [])) same (subst (λ x. AreProofsAt tasks order x k trees (get_or (set rows k proofs) k [])) e (subst (AreProofsAt tasks order m k trees) (sym row) new)))
+        subst (λ x. AreProofsAt tasks order i x trees (get_or (set rows k proofs) x [])) same
+        (subst (λ x. AreProofsAt tasks order x k trees (get_or (set rows k proofs) k [])) e (subst (AreProofsAt tasks order m k trees) (sym row) new)))
   ];
 }
   where

@@ -1,5 +1,6 @@
 -- Orders of tasks by priority: places and tasks, and the same order as a dossier's.
-use Rattle.std.proofs.Common.{inl, inr, ◌⊎◌, ◌≡◌, ◌≢◌, ℕ, zero, suc, ◌+◌, ◌<◌, ◌≤◌, Bool, true, false, cond, eqb, ltb, List, [], ◌∷◌, ◌++◌, length, map, take, drop, get_or, count_by, All, Contains, sym, ap, ◌∙◌, subst, arith}
+use Rattle.std.proofs.Common.{inl, inr, ◌⊎◌, ◌≡◌, ◌≢◌, ℕ, zero, suc, ◌+◌, ◌<◌, ◌≤◌, Bool, true, false, cond, eqb, ltb, List, [], ◌∷◌, ◌++◌, length, map, take, drop, get_or}
+use Rattle.std.proofs.Common.{count_by, All, Contains, sym, ap, ◌∙◌, subst, arith}
 use Rattle.std.specs.Prelude.{AllPairs}
 use Rattle.std.specs.List.{range_with_len}
 use Rattle.std.specs.List.Sorted.{IsNonDecreasingBy, IsPermutation}
@@ -127,7 +128,10 @@ module _ (t : Task) where
   unfolding placed
   placed_rises [] rises apart = AllPairs-cons (λ a b. a.priority < b.priority) t [] (All-nil (λ b. t.priority < b.priority)) rises
   placed_rises (u ∷ ts) rises apart = elim (cases_Bool (ltb t.priority u.priority)) [
-    | inl h ↦ rw h (AllPairs-cons R t (u ∷ ts) (All-cons (R t) u ts (ltb-true t.priority u.priority h) (All-weaker (R u) (R t) (λ b l. omega (arith, ltb-true t.priority u.priority h, l)) ts (pairs_head R u ts rises))) rises)
+    | inl h ↦
+        (let less = ltb-true t.priority u.priority h in
+        let others : All (R t) ts = All-weaker (R u) (R t) (λ b l. omega (arith, less, l)) ts (pairs_head R u ts rises) in
+        rw h (AllPairs-cons R t (u ∷ ts) (All-cons (R t) u ts less others) rises))
     | inr h ↦ rw h (AllPairs-cons R u (placed t ts) (after h) (placed_rises ts (pairs_tail R u ts rises) (All-tail (λ b. t.priority ≢ b.priority) u ts apart)))
   ]
     where
@@ -209,7 +213,8 @@ module _ (tasks : List Task) (order : List ℕ) (is : IsOrder tasks order) where
       let test : Task → Bool = λ t. ltb t.priority p in
       let at : ℕ → Bool = λ j. ltb (task_at tasks j).priority p in
       let all : map (task_at tasks) (range_with_len 0 (length tasks)) ≡ tasks = whole in
-      let a : count_by test (map (task_at tasks) (range_with_len 0 (length tasks))) ≡ count_by at (range_with_len 0 (length tasks)) = sum-map (λ t. cond (test t) 1 0) (task_at tasks) (range_with_len 0 (length tasks)) in
+      let a : count_by test (map (task_at tasks) (range_with_len 0 (length tasks))) ≡ count_by at (range_with_len 0 (length tasks))
+      = sum-map (λ t. cond (test t) 1 0) (task_at tasks) (range_with_len 0 (length tasks)) in
       let b : count_by at order ≡ count_by at (range_with_len 0 (length tasks)) = sum_by-IsPermutation (λ j. cond (at j) 1 0) (range_with_len 0 (length tasks)) order is.permutation in
       let c : count_by at (take m order ++ drop m order) ≡ count_by at (take m order) + count_by at (drop m order) = sum_by-append (λ j. cond (at j) 1 0) (take m order) (drop m order) in
       let d : count_by at (take m order) ≡ length (take m order) = count_all at (take m order) before in

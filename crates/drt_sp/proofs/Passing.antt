@@ -35,7 +35,8 @@ claimed_nodes bound f (g ∷ graphs) (low ∷ lows) (top ∷ tops) (claim ∷ cl
 claimed_nodes bound f graphs lows tops claims are = absurd are
 
 -- Nodes whose functions all have one bound may be chosen up to it.
-pub nodes_chosen : (bound d : ℕ) (f : Plain) (roots : List ℕ) → length f.nodes ≡ length f.pool → All (λ (xs : List ℕ). length xs ≡ bound) f.pool → d ≤ bound → AreNodes f roots → AreChosen d f.pool roots
+pub nodes_chosen : (bound d : ℕ) (f : Plain) (roots : List ℕ) → length f.nodes ≡ length f.pool
+    → All (λ (xs : List ℕ). length xs ≡ bound) f.pool → d ≤ bound → AreNodes f roots → AreChosen d f.pool roots
 nodes_chosen bound d f [] same all le are = tt
 nodes_chosen bound d f (root ∷ roots) same all le are =
     let l : root < length f.pool = omega (arith, are.0, same) in
@@ -75,19 +76,23 @@ module _ (tasks : List Task) (order : List ℕ) (order_is : IsOrder tasks order)
   ]
 
   -- The jobs of a task of whose vertices each passes meet their deadlines.
-  pub first_meet : (version : ℕ) → TimesSufficeForTask → IsTaskSet version tasks → AreConstrained tasks → (m i k : ℕ) → FirstPass tasks order m → i < m → slice_get order i ≡ Some k → MeetsDeadlines tasks k
+  pub first_meet : (version : ℕ) → TimesSufficeForTask → IsTaskSet version tasks → AreConstrained tasks
+      → (m i k : ℕ) → FirstPass tasks order m → i < m → slice_get order i ≡ Some k → MeetsDeadlines tasks k
   first_meet version suffice limits constrained m i k first l at rs legal j here of = suffice version tasks limits constrained k (λ v w. first i k v l at w) rs legal j here of
 
-  pub higher_meet : (version : ℕ) → TimesSufficeForTask → IsTaskSet version tasks → AreConstrained tasks → (m k : ℕ) → FirstPass tasks order m → slice_get order m ≡ Some k → HigherMeetDeadlines tasks k
+  pub higher_meet : (version : ℕ) → TimesSufficeForTask → IsTaskSet version tasks → AreConstrained tasks
+      → (m k : ℕ) → FirstPass tasks order m → slice_get order m ≡ Some k → HigherMeetDeadlines tasks k
   higher_meet version suffice limits constrained m k first at i l less =
       let p = order_place tasks order order_is i l in
       let q : m < length order = slice_get_within order m k at in
       let e : get_or order m 0 ≡ k = get_or_from_slice_get order m k 0 at in
-      let lower : (task_at tasks (get_or order p.0 0)).priority < (task_at tasks (get_or order m 0)).priority = omega (arith, less, ap (λ x. (task_at tasks x).priority) p.2, ap (λ x. (task_at tasks x).priority) e) in
+      let lower : (task_at tasks (get_or order p.0 0)).priority < (task_at tasks (get_or order m 0)).priority
+      = omega (arith, less, ap (λ x. (task_at tasks x).priority) p.2, ap (λ x. (task_at tasks x).priority) e) in
       let before : p.0 < m = order_before tasks order order_is p.0 m p.1 q lower in
       first_meet version suffice limits constrained m p.0 i first before (at_place p.0 p.1 ∙ ap Some p.2)
 
-  module _ (version m k : ℕ) (limits : IsTaskSet version tasks) (at : slice_get order m ≡ Some k) (f : Plain) (roots : List ℕ) (trees : List TreeClaim) (grown : AreGrown tasks order m f roots trees) where
+  module _ (version m k : ℕ) (limits : IsTaskSet version tasks) (at : slice_get order m ≡ Some k)
+      (f : Plain) (roots : List ℕ) (trees : List TreeClaim) (grown : AreGrown tasks order m f roots trees) where
     pub posed_at : (v : ℕ) → v < vertex_count (graph_at tasks k) → IsPosed version tasks order (greatest_deadline tasks) f roots k v
     posed_at v l = record {
       limits = limits;

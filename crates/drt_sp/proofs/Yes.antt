@@ -70,7 +70,8 @@ subjects_rows k [] (t ∷ tasks) same each = absurd (omega (arith, same))
 subjects_rows k (row ∷ rows) [] same each = absurd (omega (arith, same))
 subjects_rows k (row ∷ rows) (t ∷ tasks) same each =
     let here : map subject_of row ≡ subjects k (length t.vertices) = each 0 (omega arith) ∙ ap (λ n. subjects n (length t.vertices)) (omega arith) in
-    let rest : map subject_of (flat_map (λ x. x) rows) ≡ subjects_from (k + 1) tasks = subjects_rows (k + 1) rows tasks (omega (arith, same)) (λ j l. each (suc j) (omega arith) ∙ ap (λ n. subjects n (vertex_count (digraph_of (get_or tasks j no_task)))) (omega arith)) in
+    let rest : map subject_of (flat_map (λ x. x) rows) ≡ subjects_from (k + 1) tasks
+    = subjects_rows (k + 1) rows tasks (omega (arith, same)) (λ j l. each (suc j) (omega arith) ∙ ap (λ n. subjects n (vertex_count (digraph_of (get_or tasks j no_task)))) (omega arith)) in
     map-append subject_of row (flat_map (λ x. x) rows) ∙ (ap (λ xs. xs ++ map subject_of (flat_map (λ x. x) rows)) here ∙ ap (λ xs. subjects k (length t.vertices) ++ xs) rest)
 
 few_vertices : (version : ℕ) (t : Task) → IsTask version t → length t.vertices ≤ 96
@@ -151,7 +152,8 @@ module _ (tasks : List Task) (order : List ℕ) (order_is : IsOrder tasks order)
     near : deadline (graph_at tasks placed.task) p.vertex ≤ greatest_deadline tasks
     near = deadline_near tasks placed.task p.vertex (omega (arith, slice_get_within tasks p.task t here, placed.is.task_is)) placed.is.vertex
 
-    times_first : All (IsPassed (first_graphs tasks order placed.place) (take placed.place trees) (graph_at tasks placed.task) p.vertex) (passes (take placed.place trees) p.items (Some (opening trees placed.place)))
+    times_first : All (IsPassed (first_graphs tasks order placed.place) (take placed.place trees) (graph_at tasks placed.task) p.vertex)
+        (passes (take placed.place trees) p.items (Some (opening trees placed.place)))
     times_first = items_pass (greatest_deadline tasks) placed.is.forest (first_graphs tasks order placed.place) placed.is.lows placed.is.roots (take placed.place trees) placed.is.claimed
         (graph_at tasks placed.task) p.vertex near p.items placed.is.items_are
 
@@ -175,7 +177,8 @@ module _ (tasks : List Task) (order : List ℕ) (order_is : IsOrder tasks order)
         = passed_more (first_graphs tasks order i) (drop i (tree_graphs tasks trees)) front back i b a g p.vertex (passes front p.items (Some (opening trees i))) narrow times_first in
         let same : passes (front ++ back) p.items (Some (opening trees i)) ≡ passes front p.items (Some (opening trees i)) = passes_more front back p.items (opening trees i) [] shape_first in
         let moved : All (IsPassed (tree_graphs tasks trees) (front ++ back) g p.vertex) (passes (front ++ back) p.items (Some (opening trees i)))
-        = subst (λ ats. All (IsPassed (tree_graphs tasks trees) (front ++ back) g p.vertex) ats) (sym same) (subst (λ gs. All (IsPassed gs (front ++ back) g p.vertex) (passes front p.items (Some (opening trees i)))) split_graphs more) in
+        = subst (λ ats. All (IsPassed (tree_graphs tasks trees) (front ++ back) g p.vertex) ats) (sym same)
+        (subst (λ gs. All (IsPassed gs (front ++ back) g p.vertex) (passes front p.items (Some (opening trees i)))) split_graphs more) in
         subst (λ ts. All (IsPassed (tree_graphs tasks trees) ts g p.vertex) (passes ts p.items (Some (opening trees i)))) (take-append-drop i trees) moved
 
     -- And they pass over all trees.
@@ -198,7 +201,13 @@ module _ (tasks : List Task) (order : List ℕ) (order_is : IsOrder tasks order)
 
   eager_placed : (p : ProofClaim) → IsPlaced p → IsEagerProof tasks trees p
   eager_placed p placed =
-      let l : p.task < length tasks = omega (arith, placed.is.task_is, order_below tasks order order_is placed.place (slice_get_within order placed.place placed.task placed.at), get_or_from_slice_get order placed.place placed.task 0 placed.at) in
+      let l : p.task < length tasks
+      = omega (
+        arith,
+        placed.is.task_is,
+        order_below tasks order order_is placed.place (slice_get_within order placed.place placed.task placed.at),
+        get_or_from_slice_get order placed.place placed.task 0 placed.at,
+      ) in
       is_eager p placed (get_or tasks p.task no_task) (slice_get-get_or tasks p.task no_task l)
 
   module _ (rows : List (List ProofClaim)) (proved : AreProved tasks order (length order) trees rows) where

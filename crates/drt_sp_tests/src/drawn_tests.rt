@@ -1,5 +1,5 @@
 //! Sets answered by the analysis, by a plain program and by hand.
-use crate::drawn::{Draws, drawn_set};
+use drt_drawn::{Draws, drawn_set};
 use drt_evidence::Evidence;
 use drt_fixtures::{Shape, make_set};
 use drt_graph::{Graphs, check};
@@ -44,7 +44,7 @@ fn drawn_verdicts<R: Threads + Wait + Sync>(
     alloc: Global,
     draws: &mut Draws,
 ) -> Result<(bool, Option<bool>), Fail> {
-    let set = drawn_set(alloc, draws)?;
+    let set = drawn_set(alloc, draws)?.ok_or("within the limits")?;
     verdicts(rt, alloc, &set)
 }
 

@@ -4,6 +4,4 @@
 #[cfg(test)]
 mod answer_tests;
 #[cfg(test)]
-mod drawn;
-#[cfg(test)]
 mod drawn_tests;

@@ -2,6 +2,7 @@ pub mod TaskFileLemmas
 pub mod EdfLemmas
 pub mod EdfPromises
 pub mod SpPromises
+pub mod ResponsePromises
 pub mod UpgradePromises
 pub mod UtilLemmas
 pub mod UtilPromises

@@ -2,6 +2,7 @@
 pub(crate) mod bench;
 pub(crate) mod check;
 pub(crate) mod edf;
+pub(crate) mod response;
 pub(crate) mod sp;
 pub(crate) mod upgrade;
 pub(crate) mod util;

@@ -12,6 +12,7 @@ ghost use Rattle.drt_top.specs.commands.{rules_of};
 use crate::commands::bench::{self, Bench};
 use crate::commands::check::Check;
 use crate::commands::edf::{self, Edf};
+use crate::commands::response::{self, Responses};
 use crate::commands::sp::{self, Sp};
 use crate::commands::upgrade::Upgrade;
 use crate::commands::util::Util;
@@ -25,9 +26,9 @@ use std::sync::Wait;
 use std::thread::Threads;
 
 /// Runs the command that the words name: it reads a task file from the source, for `check` a dossier and for `bench` nothing, and
-/// writes what the command makes of it to the sink. Statuses: 0 done, and for `edf`, `sp` and `check` the set
-/// is schedulable; 1 for these it isn't; 2 for `edf` and `check` the utilisation is one; 3 for `edf`
-/// and `sp` a budget was spent, with the trail, and for `check` there is nothing to check; 4 the file is refused with a
+/// writes what the command makes of it to the sink. Statuses: 0 done, and for `edf`, `sp`, `response` and `check` the
+/// set is schedulable; 1 for these it isn't; 2 for `edf` and `check` the utilisation is one; 3 for `edf`, `sp` and `response`
+/// a budget was spent, with the trail, and for `check` there is nothing to check; 4 the file is refused with a
 /// fault; 5 the words are refused; 6 a read failed; 7 a write failed; 8 no memory was to be had; 9 the
 /// evidence of the dossier is rejected; 10 the dossier is refused with a fault.
 ///
@@ -101,6 +102,9 @@ fn dispatch<S: Source, K: Sink, G: Gate, R: Threads + Wait + Sync>(
         Meaning::Bench { workers, number } => {
             let command = Bench { workers, number };
             bench::conduct(rt, alloc, &command, source, sink, gate)
+        }
+        Meaning::Response { search } => {
+            response::conduct(rt, alloc, &Responses { search }, source, sink, gate)
         }
     }
 }

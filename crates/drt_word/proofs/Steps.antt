@@ -103,7 +103,13 @@ joined_top views id x other v w me ne at r =
     dite (ℕ_discrete r.0 id)
     (λ e. (id, b, first, in_left x v.raised w.raised (subst (λ (u : View). IsIn x u.raised) (same_view views id r.1 v (ap (λ i. get_elem? views i) (sym e) ∙ r.2) me) r.3)))
     (λ not_id. dite (ℕ_discrete r.0 other)
-    (λ e. (id, b, first, in_right x v.raised w.raised (subst (λ (u : View). IsIn x u.raised) (same_view vs other r.1 w (ap (λ i. get_elem? vs i) (sym e) ∙ (set_else views id r.0 b not_id ∙ r.2)) at) r.3)))
+    (λ e. (
+      id,
+      b,
+      first,
+      in_right x v.raised w.raised
+          (subst (λ (u : View). IsIn x u.raised) (same_view vs other r.1 w (ap (λ i. get_elem? vs i) (sym e) ∙ (set_else views id r.0 b not_id ∙ r.2)) at) r.3),
+    ))
     (λ not_other. (r.0, r.1, set_else vs other r.0 spent not_other ∙ (set_else views id r.0 b not_id ∙ r.2), r.3)))
 
 nobody : (x : ℕ) (u : View) → u.raised ≡ [] → IsIn x u.raised → ⊥
@@ -133,7 +139,8 @@ module _ {S : Type 0} (P : ℕ → Type 0) where
         record {
           wide = length-set s.words 0 (max n k) ∙ h.wide;
           parts = omega (arith, h.parts, parts_set s.views id v w me);
-          each = λ j u at. subst (λ (x : ℕ). Knows P x u) (sym word) (all_set (λ j u. Knows P (max n k) u) s.views id w new (λ j u at. knows_higher P n (max n k) u (omega arith) (h.each j u at)) j u at);
+          each = λ j u at. subst (λ (x : ℕ). Knows P x u) (sym word)
+              (all_set (λ j u. Knows P (max n k) u) s.views id w new (λ j u at. knows_higher P n (max n k) u (omega arith) (h.each j u at)) j u at);
           top = subst (λ (x : ℕ). (x ≡ 0) ⊎ IsRaisedIn x (set s.views id w)) (sym word) (raised_top s.views id k n v me h.top);
         },
         refl,
@@ -156,7 +163,8 @@ module _ {S : Type 0} (P : ℕ → Type 0) where
           wide = length-set s.words 0 n ∙ h.wide;
           parts = omega (arith, h.parts, parts_set s.views id v w me);
           each = λ j u at. subst (λ (x : ℕ). Knows P x u) (sym word) (all_set (λ j u. Knows P n u) s.views id w new (λ j u at. h.each j u at) j u at);
-          top = subst (λ (x : ℕ). (x ≡ 0) ⊎ IsRaisedIn x (set s.views id w)) (sym word) (elim h.top as (λ _. (n ≡ 0) ⊎ IsRaisedIn n (set s.views id w)) [ inl z ↦ inl z | inr r ↦ inr (still_raised s.views id n v w me (λ i. i) r) ]);
+          top = subst (λ (x : ℕ). (x ≡ 0) ⊎ IsRaisedIn x (set s.views id w)) (sym word)
+              (elim h.top as (λ _. (n ≡ 0) ⊎ IsRaisedIn n (set s.views id w)) [ inl z ↦ inl z | inr r ↦ inr (still_raised s.views id n v w me (λ i. i) r) ]);
         },
         (refl, each_weaker (λ x. (x ≤ n) × P x) (λ x. x ≤ n) (λ x g. g.0) v.raised mine.raised, mine.noted),
       )

@@ -10,7 +10,7 @@ use Rattle.clap.specs.Faults.{entered_fault, fault_of, flag_word_fault, level_fa
 use Rattle.drt_words.specs.CommandLine.{drt_app, number_rule}
 use Rattle.drt_words.specs.Meaning.{meaning_of}
 use Rattle.drt_words.specs.Searches.{most_budget, most_workers}
-use Rattle.drt_words.specs.Plain.{Searcher, for_edf, for_sp, searcher_word, Spells, apart, joined, GivesBadNumber, bad_workers, bad_budget, bad_bench}
+use Rattle.drt_words.specs.Plain.{Searcher, for_edf, for_sp, for_response, searcher_word, Spells, apart, joined, GivesBadNumber, bad_workers, bad_budget, bad_bench}
 use Rattle.drt_words.proofs.BadBench.{bench_refuses}
 use Rattle.drt_words.proofs.WordWalks.{Faulty, or_first, or_second, not_empty, IsWithin, met_within, at, dashes, keeps}
 
@@ -296,6 +296,7 @@ enters : (k : Searcher) (words : List Text) → (entering k words).stopped ≡ S
 unfolding clap_on_literals
 enters for_edf words = keeps whole.top.rules (names_of whole) words (walked whole.top.rules (names_of whole) (walk_from nothing_held) (codes "edf")) (codes "edf") [] refl
 enters for_sp words = keeps whole.top.rules (names_of whole) words (walked whole.top.rules (names_of whole) (walk_from nothing_held) (codes "sp")) (codes "sp") [] refl
+enters for_response words = keeps whole.top.rules (names_of whole) words (walked whole.top.rules (names_of whole) (walk_from nothing_held) (codes "response")) (codes "response") [] refl
 
 refused_below : (k : Searcher) (program : Text) (words : List Text) → Faulty (level_fault (leaf k) [] nothing_held words false [])
     → meaning_of (program ∷ searcher_word k ∷ words) ≡ None
@@ -310,6 +311,11 @@ refused_below for_sp program words bad =
     or_second (walk_fault whole.top (names_of whole) (walk_from nothing_held) (codes "sp" ∷ words)) _
     (or_first (entered_fault whole (entering for_sp words).stopped) _ (rw (enters for_sp words) bad)) in
     rw (not_empty (fault_of drt_app (program ∷ codes "sp" ∷ words)) faulty) refl
+refused_below for_response program words bad =
+    let faulty : Faulty (fault_of drt_app (program ∷ codes "response" ∷ words)) =
+    or_second (walk_fault whole.top (names_of whole) (walk_from nothing_held) (codes "response" ∷ words)) _
+    (or_first (entered_fault whole (entering for_response words).stopped) _ (rw (enters for_response words) bad)) in
+    rw (not_empty (fault_of drt_app (program ∷ codes "response" ∷ words)) faulty) refl
 
 refuses : (k : Searcher) (n : Number) (program text : Text) (front words back : List Text) → is_unsigned_in 1 (greatest n) text ≡ false → Spells (option_name n) text words
     → meaning_of (program ∷ searcher_word k ∷ (front ++ words ++ back)) ≡ None

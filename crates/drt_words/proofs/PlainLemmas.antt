@@ -8,7 +8,7 @@ use Rattle.clap.specs.ValueTests.{is_unsigned_in}
 use Rattle.drt_words.specs.Number.{number_in, whole_in}
 use Rattle.drt_words.specs.Searches.{most_budget, most_workers}
 use Rattle.drt_words.specs.Meaning.{meaning_of}
-use Rattle.drt_words.specs.Plain.{IsPlainNumber, BeginsPlain, Spells, apart, joined, PlainOptions, neither, workers, budget, workers_first, budget_first, IsPlain, plain_searcher, Searcher, for_edf, for_sp, searcher_word, searcher_meaning, plain_upgrade, plain_util, plain_check, plain_bench, IsPlainWhole, PlainWorkers, standard, given}
+use Rattle.drt_words.specs.Plain.{IsPlainNumber, BeginsPlain, Spells, apart, joined, PlainOptions, neither, workers, budget, workers_first, budget_first, IsPlain, plain_searcher, Searcher, for_edf, for_sp, for_response, searcher_word, searcher_meaning, plain_upgrade, plain_util, plain_check, plain_bench, IsPlainWhole, PlainWorkers, standard, given}
 use Rattle.drt_words.proofs.NumberLemmas.{digits_pass}
 use Rattle.drt_words.specs.declared.meaning.Meaning.{Meaning}
 use Rattle.drt_words.specs.declared.meaning.Meaning.TheVariants.{Upgrade, Util, Check, Bench}
@@ -25,56 +25,74 @@ module _ (program : List ℕ) where
   unfolding clap_on_literals
   one_workers for_edf words a m r apart = rw (r.plain.no_dashes, r.plain.no_long, r.plain.no_short, r.passes, r.number) refl
   one_workers for_sp words a m r apart = rw (r.plain.no_dashes, r.plain.no_long, r.plain.no_short, r.passes, r.number) refl
+  one_workers for_response words a m r apart = rw (r.plain.no_dashes, r.plain.no_long, r.plain.no_short, r.passes, r.number) refl
   one_workers for_edf words a m r joined = rw (r.passes, r.number) refl
   one_workers for_sp words a m r joined = rw (r.passes, r.number) refl
+  one_workers for_response words a m r joined = rw (r.passes, r.number) refl
 
   one_budget : (k : Searcher) → (words : List (List ℕ)) (b : List ℕ) (n : ℕ) → Read most_budget b n → Spells (codes "budget") b words
       → meaning_of (program ∷ searcher_word k ∷ words) ≡ Some (searcher_meaning k 4 n)
   unfolding clap_on_literals
   one_budget for_edf words b n r apart = rw (r.plain.no_dashes, r.plain.no_long, r.plain.no_short, r.passes, r.number) refl
   one_budget for_sp words b n r apart = rw (r.plain.no_dashes, r.plain.no_long, r.plain.no_short, r.passes, r.number) refl
+  one_budget for_response words b n r apart = rw (r.plain.no_dashes, r.plain.no_long, r.plain.no_short, r.passes, r.number) refl
   one_budget for_edf words b n r joined = rw (r.passes, r.number) refl
   one_budget for_sp words b n r joined = rw (r.passes, r.number) refl
+  one_budget for_response words b n r joined = rw (r.passes, r.number) refl
 
   first_workers_apart_apart : (k : Searcher) → (a b : List ℕ) (m n : ℕ) → Read most_workers a m → Read most_budget b n → meaning_of (program ∷ searcher_word k ∷ (codes "--workers") ∷ a ∷ (codes "--budget") ∷ b ∷ []) ≡ Some (searcher_meaning k m n)
   unfolding clap_on_literals
   first_workers_apart_apart for_edf a b m n r s = rw (r.plain.no_dashes, r.plain.no_long, r.plain.no_short) (rw (s.plain.no_dashes, s.plain.no_long, s.plain.no_short) (rw (r.passes, s.passes) (rw r.number (rw s.number refl))))
   first_workers_apart_apart for_sp a b m n r s = rw (r.plain.no_dashes, r.plain.no_long, r.plain.no_short) (rw (s.plain.no_dashes, s.plain.no_long, s.plain.no_short) (rw (r.passes, s.passes) (rw r.number (rw s.number refl))))
+  first_workers_apart_apart for_response a b m n r s =
+      rw (r.plain.no_dashes, r.plain.no_long, r.plain.no_short) (rw (s.plain.no_dashes, s.plain.no_long, s.plain.no_short) (rw (r.passes, s.passes) (rw r.number (rw s.number refl))))
 
   first_workers_apart_joined : (k : Searcher) → (a b : List ℕ) (m n : ℕ) → Read most_workers a m → Read most_budget b n → meaning_of (program ∷ searcher_word k ∷ (codes "--workers") ∷ a ∷ (codes "--budget=" ++ b) ∷ []) ≡ Some (searcher_meaning k m n)
   unfolding clap_on_literals
   first_workers_apart_joined for_edf a b m n r s = rw (r.plain.no_dashes, r.plain.no_long, r.plain.no_short) (rw (r.passes, s.passes) (rw r.number (rw s.number refl)))
   first_workers_apart_joined for_sp a b m n r s = rw (r.plain.no_dashes, r.plain.no_long, r.plain.no_short) (rw (r.passes, s.passes) (rw r.number (rw s.number refl)))
+  first_workers_apart_joined for_response a b m n r s =
+      rw (r.plain.no_dashes, r.plain.no_long, r.plain.no_short) (rw (r.passes, s.passes) (rw r.number (rw s.number refl)))
 
   first_workers_joined_apart : (k : Searcher) → (a b : List ℕ) (m n : ℕ) → Read most_workers a m → Read most_budget b n → meaning_of (program ∷ searcher_word k ∷ (codes "--workers=" ++ a) ∷ (codes "--budget") ∷ b ∷ []) ≡ Some (searcher_meaning k m n)
   unfolding clap_on_literals
   first_workers_joined_apart for_edf a b m n r s = rw (s.plain.no_dashes, s.plain.no_long, s.plain.no_short) (rw (r.passes, s.passes) (rw r.number (rw s.number refl)))
   first_workers_joined_apart for_sp a b m n r s = rw (s.plain.no_dashes, s.plain.no_long, s.plain.no_short) (rw (r.passes, s.passes) (rw r.number (rw s.number refl)))
+  first_workers_joined_apart for_response a b m n r s =
+      rw (s.plain.no_dashes, s.plain.no_long, s.plain.no_short) (rw (r.passes, s.passes) (rw r.number (rw s.number refl)))
 
   first_workers_joined_joined : (k : Searcher) → (a b : List ℕ) (m n : ℕ) → Read most_workers a m → Read most_budget b n → meaning_of (program ∷ searcher_word k ∷ (codes "--workers=" ++ a) ∷ (codes "--budget=" ++ b) ∷ []) ≡ Some (searcher_meaning k m n)
   unfolding clap_on_literals
   first_workers_joined_joined for_edf a b m n r s = rw (r.passes, s.passes) (rw r.number (rw s.number refl))
   first_workers_joined_joined for_sp a b m n r s = rw (r.passes, s.passes) (rw r.number (rw s.number refl))
+  first_workers_joined_joined for_response a b m n r s = rw (r.passes, s.passes) (rw r.number (rw s.number refl))
 
   first_budget_apart_apart : (k : Searcher) → (a b : List ℕ) (m n : ℕ) → Read most_workers a m → Read most_budget b n → meaning_of (program ∷ searcher_word k ∷ (codes "--budget") ∷ b ∷ (codes "--workers") ∷ a ∷ []) ≡ Some (searcher_meaning k m n)
   unfolding clap_on_literals
   first_budget_apart_apart for_edf a b m n r s = rw (s.plain.no_dashes, s.plain.no_long, s.plain.no_short) (rw (r.plain.no_dashes, r.plain.no_long, r.plain.no_short) (rw (r.passes, s.passes) (rw r.number (rw s.number refl))))
   first_budget_apart_apart for_sp a b m n r s = rw (s.plain.no_dashes, s.plain.no_long, s.plain.no_short) (rw (r.plain.no_dashes, r.plain.no_long, r.plain.no_short) (rw (r.passes, s.passes) (rw r.number (rw s.number refl))))
+  first_budget_apart_apart for_response a b m n r s =
+      rw (s.plain.no_dashes, s.plain.no_long, s.plain.no_short) (rw (r.plain.no_dashes, r.plain.no_long, r.plain.no_short) (rw (r.passes, s.passes) (rw r.number (rw s.number refl))))
 
   first_budget_apart_joined : (k : Searcher) → (a b : List ℕ) (m n : ℕ) → Read most_workers a m → Read most_budget b n → meaning_of (program ∷ searcher_word k ∷ (codes "--budget") ∷ b ∷ (codes "--workers=" ++ a) ∷ []) ≡ Some (searcher_meaning k m n)
   unfolding clap_on_literals
   first_budget_apart_joined for_edf a b m n r s = rw (s.plain.no_dashes, s.plain.no_long, s.plain.no_short) (rw (r.passes, s.passes) (rw r.number (rw s.number refl)))
   first_budget_apart_joined for_sp a b m n r s = rw (s.plain.no_dashes, s.plain.no_long, s.plain.no_short) (rw (r.passes, s.passes) (rw r.number (rw s.number refl)))
+  first_budget_apart_joined for_response a b m n r s =
+      rw (s.plain.no_dashes, s.plain.no_long, s.plain.no_short) (rw (r.passes, s.passes) (rw r.number (rw s.number refl)))
 
   first_budget_joined_apart : (k : Searcher) → (a b : List ℕ) (m n : ℕ) → Read most_workers a m → Read most_budget b n → meaning_of (program ∷ searcher_word k ∷ (codes "--budget=" ++ b) ∷ (codes "--workers") ∷ a ∷ []) ≡ Some (searcher_meaning k m n)
   unfolding clap_on_literals
   first_budget_joined_apart for_edf a b m n r s = rw (r.plain.no_dashes, r.plain.no_long, r.plain.no_short) (rw (r.passes, s.passes) (rw r.number (rw s.number refl)))
   first_budget_joined_apart for_sp a b m n r s = rw (r.plain.no_dashes, r.plain.no_long, r.plain.no_short) (rw (r.passes, s.passes) (rw r.number (rw s.number refl)))
+  first_budget_joined_apart for_response a b m n r s =
+      rw (r.plain.no_dashes, r.plain.no_long, r.plain.no_short) (rw (r.passes, s.passes) (rw r.number (rw s.number refl)))
 
   first_budget_joined_joined : (k : Searcher) → (a b : List ℕ) (m n : ℕ) → Read most_workers a m → Read most_budget b n → meaning_of (program ∷ searcher_word k ∷ (codes "--budget=" ++ b) ∷ (codes "--workers=" ++ a) ∷ []) ≡ Some (searcher_meaning k m n)
   unfolding clap_on_literals
   first_budget_joined_joined for_edf a b m n r s = rw (r.passes, s.passes) (rw r.number (rw s.number refl))
   first_budget_joined_joined for_sp a b m n r s = rw (r.passes, s.passes) (rw r.number (rw s.number refl))
+  first_budget_joined_joined for_response a b m n r s = rw (r.passes, s.passes) (rw r.number (rw s.number refl))
 
   first_workers : (k : Searcher) → (front back : List (List ℕ)) (a b : List ℕ) (m n : ℕ) → Read most_workers a m → Read most_budget b n
       → Spells (codes "workers") a front → Spells (codes "budget") b back → meaning_of (program ∷ searcher_word k ∷ (front ++ back)) ≡ Some (searcher_meaning k m n)
@@ -127,6 +145,7 @@ options_mean : (k : Searcher) (program : List ℕ) (words : List (List ℕ)) (m 
 unfolding clap_on_literals
 options_mean for_edf program words m n neither = refl
 options_mean for_sp program words m n neither = refl
+options_mean for_response program words m n neither = refl
 options_mean c program words m n (workers ws a k p s) = one_workers program c ws a k (read_of most_workers k a (lit< tt) p) s
 options_mean c program words m n (budget ws b k p s) = one_budget program c ws b k (read_of most_budget k b (lit< tt) p) s
 options_mean c program words m n (workers_first front back a b k l p q s t) = first_workers program c front back a b k l (read_of most_workers k a (lit< tt) p) (read_of most_budget l b (lit< tt) q) s t

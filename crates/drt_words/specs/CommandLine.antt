@@ -60,8 +60,8 @@ bench_app = with_rule (with_rule (new_app (codes "bench")) workers_rule) (whole_
 abbrev pub with_bench : App → App
 with_bench top = with_subcommand top bench_app.top
 
--- The whole command line: the commands `edf`, `sp`, `upgrade`, `util`, `check` and `bench`.
+-- The whole command line: the commands `edf`, `sp`, `upgrade`, `util`, `check`, `bench` and `response`.
 abbrev pub drt_app : App
 drt_app =
-    with_bench (with_plain (with_plain (with_plain (with_search (with_search (bare_app (new_app (codes "drt")))
-    (codes "edf")) (codes "sp")) (codes "upgrade")) (codes "util")) (codes "check"))
+    with_search (with_bench (with_plain (with_plain (with_plain (with_search (with_search (bare_app (new_app (codes "drt")))
+    (codes "edf")) (codes "sp")) (codes "upgrade")) (codes "util")) (codes "check"))) (codes "response")

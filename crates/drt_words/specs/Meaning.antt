@@ -8,7 +8,7 @@ use Rattle.drt_words.specs.CommandLine.{drt_app}
 use Rattle.drt_words.specs.Number.{number_in, whole_in}
 use Rattle.drt_words.specs.Searches.{Numbers, most_budget, most_workers}
 use Rattle.drt_words.specs.declared.meaning.Meaning.{Meaning}
-use Rattle.drt_words.specs.declared.meaning.Meaning.TheVariants.{Edf, Sp, Upgrade, Util, Check, Bench}
+use Rattle.drt_words.specs.declared.meaning.Meaning.TheVariants.{Edf, Sp, Upgrade, Util, Check, Bench, Response}
 
 -- The number of an option that is there, or stands by default.
 abbrev pub number_at : Text → ℕ → List Row → Option ℕ
@@ -36,7 +36,8 @@ meaning_at name rows =
     else (if bytes_eq name (codes "upgrade") then Some Upgrade
     else (if bytes_eq name (codes "util") then Some Util
     else (if bytes_eq name (codes "check") then Some Check
-    else (if bytes_eq name (codes "bench") then bench_at rows else None)))))
+    else (if bytes_eq name (codes "bench") then bench_at rows
+    else (if bytes_eq name (codes "response") then option_map Response (search_at rows) else None))))))
 
 -- What a list of words means: what clap's command states of the words, where it refuses none of them.
 abbrev pub meaning_of : List Text → Option Meaning

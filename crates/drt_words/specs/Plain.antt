@@ -6,7 +6,7 @@ use Rattle.clap.specs.Lexer.{long_of, short_of}
 use Rattle.clap.specs.ValueTests.{is_unsigned_in}
 use Rattle.drt_words.specs.Searches.{most_budget, most_workers}
 use Rattle.drt_words.specs.declared.meaning.Meaning.{Meaning}
-use Rattle.drt_words.specs.declared.meaning.Meaning.TheVariants.{Edf, Sp, Upgrade, Util, Check, Bench}
+use Rattle.drt_words.specs.declared.meaning.Meaning.TheVariants.{Edf, Sp, Upgrade, Util, Check, Bench, Response}
 
 -- The text is a number from 1 to `most` in decimal digits without leading zeros.
 pub record IsPlainNumber (most : ℕ) (text : List ℕ) (n : ℕ) : Type 0 where
@@ -42,16 +42,19 @@ pub data PlainOptions : List (List ℕ) → ℕ → ℕ → Type 0 where
 pub data Searcher : Type 0 where
   for_edf : Searcher
   for_sp : Searcher
+  for_response : Searcher
 
 -- The name of such a command.
 abbrev pub searcher_word : Searcher → List ℕ
 searcher_word for_edf = codes "edf"
 searcher_word for_sp = codes "sp"
+searcher_word for_response = codes "response"
 
 -- What it means with workers and a budget.
 abbrev pub searcher_meaning : Searcher → ℕ → ℕ → Meaning
 searcher_meaning for_edf m n = Edf (record { workers = m; budget = n })
 searcher_meaning for_sp m n = Sp (record { workers = m; budget = n })
+searcher_meaning for_response m n = Response (record { workers = m; budget = n })
 
 -- The option of `bench`, with the number that it gives or the default.
 pub data PlainWorkers : List (List ℕ) → ℕ → Type 0 where

@@ -101,5 +101,6 @@ pub(crate) fn drt<'a>(alloc: Global) -> Result<Command<'a>, AllocError>
     let upgrade = add_plain(alloc, sp, "upgrade")?;
     let util = add_plain(alloc, upgrade, "util")?;
     let check = add_plain(alloc, util, "check")?;
-    add_bench(alloc, check)
+    let bench = add_bench(alloc, check)?;
+    add_search(alloc, bench, "response")
 }

@@ -17,4 +17,6 @@ pub enum Meaning {
     Check,
     /// Both answers to the drawn set of a number.
     Bench { workers: Workers, number: u64 },
+    /// The greatest response time of each vertex, with releases that reach it.
+    Response { search: Search },
 }

@@ -10,6 +10,16 @@ fn means_edf(alloc: Global, words: &[&str], budget: u32) -> bool {
     }
 }
 
+// Whether these words mean `response` with so many workers and so many steps.
+fn means_response(alloc: Global, words: &[&str], workers: u32, budget: u32) -> bool {
+    match words_of(alloc, words) {
+        Ok(Meaning::Response { search }) => {
+            search.workers() == workers && search.budget() == budget
+        }
+        _ => false,
+    }
+}
+
 // Whether these words mean `bench` with so many workers and this number.
 fn means_bench(alloc: Global, words: &[&str], count: u32, wanted: u64) -> bool {
     match words_of(alloc, words) {
@@ -58,12 +68,20 @@ fn words_of_bench_mean_its_number(rt: HostRuntime) -> Result<(), Fail> {
 }
 
 #[test]
+fn words_of_response_mean_its_workers_and_budget(rt: HostRuntime) -> Result<(), Fail> {
+    let words = ["drt", "response", "--workers", "2", "--budget", "7"];
+    assert!(rt; means_response(rt.alloc(), words.as_slice(), 2, 7));
+    Ok(())
+}
+
+#[test]
 fn words_out_of_range_are_refused(rt: HostRuntime) -> Result<(), Fail> {
     let cases = [
         ["drt", "sp", "--workers=0"],
         ["drt", "sp", "--workers=17"],
         ["drt", "sp", "--budget=1000001"],
         ["drt", "edf", "--workers=-1"],
+        ["drt", "response", "--budget=0"],
         ["drt", "upgrade", "--workers=2"],
         ["drt", "help", "sp"],
         ["drt", "bench", "18446744073709551616"],

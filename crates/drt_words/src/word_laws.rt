@@ -21,7 +21,9 @@ pub fn no_command()
 /// whatever follows.
 pub fn unknown_command()
     ensures { (program text : List ℕ) (rest : List (List ℕ)) → BeginsPlain text
-        → bytes_eq (codes "edf") text ≡ false → bytes_eq (codes "sp") text ≡ false → bytes_eq (codes "upgrade") text ≡ false → bytes_eq (codes "util") text ≡ false → bytes_eq (codes "check") text ≡ false → bytes_eq (codes "bench") text ≡ false
+        → bytes_eq (codes "edf") text ≡ false → bytes_eq (codes "sp") text ≡ false → bytes_eq (codes "upgrade") text ≡ false
+        → bytes_eq (codes "util") text ≡ false → bytes_eq (codes "check") text ≡ false → bytes_eq (codes "bench") text ≡ false
+        → bytes_eq (codes "response") text ≡ false
         → meaning_of (program ∷ text ∷ rest) ≡ None }
 {}
 
@@ -31,7 +33,7 @@ pub fn plain_words()
     ensures first { (d : ℕ) (ds : List ℕ) → (d == 45) ≡ false → BeginsPlain (d ∷ ds) }
 {}
 
-/// A list that gives an option of `edf`, `sp` or `bench` a value that is no number in its range means nothing,
+/// A list that gives an option of `edf`, `sp`, `response` or `bench` a value that is no number in its range means nothing,
 /// whatever stands before it and after it.
 pub fn bad_numbers()
     ensures { (words : List (List ℕ)) → GivesBadNumber words → meaning_of words ≡ None }

@@ -100,6 +100,9 @@ fn meaning_in(name: &str, matches: &ArgMatches) -> Option<Meaning>
         Some(Meaning::Check)
     } else if name == "bench" {
         bench_in(matches)
+    } else if name == "response" {
+        let search = search_in(matches)?;
+        Some(Meaning::Response { search })
     } else {
         None
     }

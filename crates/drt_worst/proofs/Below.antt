@@ -40,17 +40,25 @@ module _ (f : Plain) where
   under_right leaf n l r h u = (false ∷ u.0, (l, r, h, u.1))
 
   -- a tuple below the nodes is below one of the halves
-  pub below_half : (tuple nodes : List ℕ) (place n l r : ℕ) → slice_get nodes place ≡ Some n → children f n ≡ Some (l, r) → AreBelow f tuple nodes → AreBelow f tuple (set nodes place l) ⊎ AreBelow f tuple (set nodes place r)
+  pub below_half : (tuple nodes : List ℕ) (place n l r : ℕ) → slice_get nodes place ≡ Some n → children f n ≡ Some (l, r)
+      → AreBelow f tuple nodes → AreBelow f tuple (set nodes place l) ⊎ AreBelow f tuple (set nodes place r)
   below_half [] [] place n l r at h b = absurd (none-some n at)
   below_half [] (m ∷ nodes) place n l r at h b = elim b [ ]
   below_half (leaf ∷ tuple) [] place n l r at h b = elim b [ ]
   below_half (leaf ∷ tuple) (m ∷ nodes) zero n l r at h b =
-      elim (under_child leaf n l r h (subst (λ (k : ℕ). IsUnder f leaf k) (same_Some m n at) b.0)) as (λ _. AreBelow f (leaf ∷ tuple) (l ∷ nodes) ⊎ AreBelow f (leaf ∷ tuple) (r ∷ nodes)) [ inl u ↦ inl (u, b.1) | inr u ↦ inr (u, b.1) ]
+      elim (under_child leaf n l r h (subst (λ (k : ℕ). IsUnder f leaf k) (same_Some m n at) b.0)) as (λ _. AreBelow f (leaf ∷ tuple) (l ∷ nodes) ⊎ AreBelow f (leaf ∷ tuple) (r ∷ nodes)) [
+        | inl u ↦ inl (u, b.1)
+        | inr u ↦ inr (u, b.1)
+      ]
   below_half (leaf ∷ tuple) (m ∷ nodes) (suc place) n l r at h b =
-      elim (below_half tuple nodes place n l r at h b.1) as (λ _. AreBelow f (leaf ∷ tuple) (m ∷ set nodes place l) ⊎ AreBelow f (leaf ∷ tuple) (m ∷ set nodes place r)) [ inl u ↦ inl (b.0, u) | inr u ↦ inr (b.0, u) ]
+      elim (below_half tuple nodes place n l r at h b.1) as (λ _. AreBelow f (leaf ∷ tuple) (m ∷ set nodes place l) ⊎ AreBelow f (leaf ∷ tuple) (m ∷ set nodes place r)) [
+        | inl u ↦ inl (b.0, u)
+        | inr u ↦ inr (b.0, u)
+      ]
 
   -- what is below the nodes with one of them replaced is below the nodes, where each leaf under the new one is under the old one
-  pub below_whole : (tuple nodes : List ℕ) (place n k : ℕ) → slice_get nodes place ≡ Some n → ((leaf : ℕ) → IsUnder f leaf k → IsUnder f leaf n) → AreBelow f tuple (set nodes place k) → AreBelow f tuple nodes
+  pub below_whole : (tuple nodes : List ℕ) (place n k : ℕ) → slice_get nodes place ≡ Some n
+      → ((leaf : ℕ) → IsUnder f leaf k → IsUnder f leaf n) → AreBelow f tuple (set nodes place k) → AreBelow f tuple nodes
   below_whole tuple [] place n k at h b = absurd (none-some n at)
   below_whole [] (m ∷ nodes) zero n k at h b = elim b [ ]
   below_whole [] (m ∷ nodes) (suc place) n k at h b = elim b [ ]
@@ -66,10 +74,12 @@ module _ (f : Plain) where
       ]
 
   pub below_from_left : (tuple c l r : List ℕ) → IsSplit f c l r → AreBelow f tuple l → AreBelow f tuple c
-  below_from_left tuple c l r h b = below_whole tuple c h.place h.widest.node h.left h.widest.at (λ leaf u. under_left leaf h.widest.node h.left h.right h.forks u) (subst (λ (x : List ℕ). AreBelow f tuple x) h.left_is b)
+  below_from_left tuple c l r h b =
+      below_whole tuple c h.place h.widest.node h.left h.widest.at (λ leaf u. under_left leaf h.widest.node h.left h.right h.forks u) (subst (λ (x : List ℕ). AreBelow f tuple x) h.left_is b)
 
   pub below_from_right : (tuple c l r : List ℕ) → IsSplit f c l r → AreBelow f tuple r → AreBelow f tuple c
-  below_from_right tuple c l r h b = below_whole tuple c h.place h.widest.node h.right h.widest.at (λ leaf u. under_right leaf h.widest.node h.left h.right h.forks u) (subst (λ (x : List ℕ). AreBelow f tuple x) h.right_is b)
+  below_from_right tuple c l r h b =
+      below_whole tuple c h.place h.widest.node h.right h.widest.at (λ leaf u. under_right leaf h.widest.node h.left h.right h.forks u) (subst (λ (x : List ℕ). AreBelow f tuple x) h.right_is b)
 
   below_half_of : (tuple c d other : List ℕ) → IsSplit f c d other ⊎ IsSplit f c other d → AreBelow f tuple d → AreBelow f tuple c
   below_half_of tuple c d other (inl h) b = below_from_left tuple c d other h b
@@ -179,7 +189,8 @@ module _ (f : Plain) where
   tuples_some sound [] = omega arith
   tuples_some sound (n ∷ nodes) = product (leaves f n) (tuples f nodes) (leaves_some sound n) (tuples_some sound nodes)
 
-  tuples_halved : IsForest f → (nodes : List ℕ) (place n l r : ℕ) → slice_get nodes place ≡ Some n → children f n ≡ Some (l, r) → tuples f (set nodes place l) + tuples f (set nodes place r) ≡ tuples f nodes
+  tuples_halved : IsForest f → (nodes : List ℕ) (place n l r : ℕ) → slice_get nodes place ≡ Some n
+      → children f n ≡ Some (l, r) → tuples f (set nodes place l) + tuples f (set nodes place r) ≡ tuples f nodes
   tuples_halved sound [] place n l r at h = absurd (none-some n at)
   tuples_halved sound (m ∷ nodes) zero n l r at h =
       let pair : IsPair f n l r = sound.pairs n l r h in

@@ -37,7 +37,8 @@ module _ (f : Plain) where
   all_differ c (d ∷ ds) h = (inl h.0, all_differ c ds h.1)
 
   -- a leaf under both nodes that stand at one place
-  shared_leaf : (tuple c : List ℕ) (place n a b : ℕ) → slice_get c place ≡ Some n → AreBelow f tuple (set c place a) → AreBelow f tuple (set c place b) → (leaf : ℕ) × IsUnder f leaf a × IsUnder f leaf b
+  shared_leaf : (tuple c : List ℕ) (place n a b : ℕ) → slice_get c place ≡ Some n → AreBelow f tuple (set c place a)
+      → AreBelow f tuple (set c place b) → (leaf : ℕ) × IsUnder f leaf a × IsUnder f leaf b
   shared_leaf tuple [] place n a b at g h = absurd (none-some n at)
   shared_leaf [] (m ∷ c) zero n a b at g h = elim g [ ]
   shared_leaf [] (m ∷ c) (suc place) n a b at g h = elim g [ ]
@@ -77,31 +78,36 @@ module _ (f : Plain) where
       (((λ tuple x y. h.0 tuple (below_from_left f tuple c l r s x) y), more.0), ((λ tuple x y. h.0 tuple (below_from_right f tuple c l r s x) y), more.1))
 
 module _ (s : Search) where
-  left_differ : IsForest s.forest → (b c : List ℕ) (stack : List (List ℕ)) (seen : ℕ) (choice : Choice) → IsFit s c seen choice → AllDiffer s.forest b (c ∷ stack) → AllDiffer s.forest b (left_after choice stack)
+  left_differ : IsForest s.forest → (b c : List ℕ) (stack : List (List ℕ)) (seen : ℕ) (choice : Choice)
+      → IsFit s c seen choice → AllDiffer s.forest b (c ∷ stack) → AllDiffer s.forest b (left_after choice stack)
   left_differ sound b c stack seen skips h d = d.1
   left_differ sound b c stack seen (reaches t) h d = d.1
   left_differ sound b c stack seen (splits l r) h d = (differs_left s.forest sound b c l r h.0 d.0, (differs_right s.forest sound b c l r h.0 d.0, d.1))
 
-  own_differ : IsForest s.forest → (c : List ℕ) (stack : List (List ℕ)) (seen : ℕ) (choice : Choice) → IsFit s c seen choice → AllDisjoint s.forest c stack → AllDiffer s.forest c (left_after choice stack)
+  own_differ : IsForest s.forest → (c : List ℕ) (stack : List (List ℕ)) (seen : ℕ) (choice : Choice)
+      → IsFit s c seen choice → AllDisjoint s.forest c stack → AllDiffer s.forest c (left_after choice stack)
   own_differ sound c stack seen skips h d = all_differ s.forest c stack d
   own_differ sound c stack seen (reaches t) h d = all_differ s.forest c stack d
   own_differ sound c stack seen (splits l r) h d = (inr (fewer_left s.forest sound c l r h.0), (inr (fewer_right s.forest sound c l r h.0), all_differ s.forest c stack d))
 
-  left_pairwise : AreApart s.forest → (c : List ℕ) (stack : List (List ℕ)) (seen : ℕ) (choice : Choice) → IsFit s c seen choice → ArePairwise s.forest (c ∷ stack) → ArePairwise s.forest (left_after choice stack)
+  left_pairwise : AreApart s.forest → (c : List ℕ) (stack : List (List ℕ)) (seen : ℕ) (choice : Choice)
+      → IsFit s c seen choice → ArePairwise s.forest (c ∷ stack) → ArePairwise s.forest (left_after choice stack)
   left_pairwise apart c stack seen skips h p = p.1
   left_pairwise apart c stack seen (reaches t) h p = p.1
   left_pairwise apart c stack seen (splits l r) h p =
       let both = disjoint_halves s.forest c c l r stack h.0 p.0 in
       ((halves_disjoint s.forest apart c l r h.0, both.0), (both.1, p.1))
 
-  later_differ : IsForest s.forest → (b : List ℕ) (low : ℕ) (stack : List (List ℕ)) (es : List Entry) (j : ℕ) (e : Entry) → IsRunFrom s low stack es → AllDiffer s.forest b stack → slice_get es j ≡ Some e → Differs s.forest b e.combination
+  later_differ : IsForest s.forest → (b : List ℕ) (low : ℕ) (stack : List (List ℕ)) (es : List Entry) (j : ℕ) (e : Entry)
+      → IsRunFrom s low stack es → AllDiffer s.forest b stack → slice_get es j ≡ Some e → Differs s.forest b e.combination
   later_differ sound b low stack [] j e run d at = absurd (none-some e at)
   later_differ sound b low [] (x ∷ es) j e run d at = elim run [ ]
   later_differ sound b low (c ∷ stack) (x ∷ es) zero e run d at = subst (λ (z : List ℕ). Differs s.forest b z) (sym run.0 ∙ ap (λ (y : Entry). y.combination) (same_Some x e at)) d.0
   later_differ sound b low (c ∷ stack) (x ∷ es) (suc j) e run d at =
       later_differ sound b (known x.seen x.choice) (left_after x.choice stack) es j e run.3 (left_differ sound b c stack x.seen x.choice run.2 d) at
 
-  entries_differ : IsForest s.forest → AreApart s.forest → (low : ℕ) (stack : List (List ℕ)) (es : List Entry) (i j : ℕ) (d e : Entry) → IsRunFrom s low stack es → ArePairwise s.forest stack → i < j → slice_get es i ≡ Some d → slice_get es j ≡ Some e → Differs s.forest d.combination e.combination
+  entries_differ : IsForest s.forest → AreApart s.forest → (low : ℕ) (stack : List (List ℕ)) (es : List Entry) (i j : ℕ) (d e : Entry) → IsRunFrom s low stack es
+      → ArePairwise s.forest stack → i < j → slice_get es i ≡ Some d → slice_get es j ≡ Some e → Differs s.forest d.combination e.combination
   entries_differ sound apart low stack [] i j d e run p lt ati atj = absurd (none-some d ati)
   entries_differ sound apart low [] (x ∷ es) i j d e run p lt ati atj = elim run [ ]
   entries_differ sound apart low (c ∷ stack) (x ∷ es) i zero d e run p lt ati atj = absurd (omega arith)
@@ -119,7 +125,8 @@ module _ (s : Search) where
   left_apart b c stack seen (splits l r) h d =
       ((λ tuple x y. d.0 tuple x (below_from_left s.forest tuple c l r h.0 y)), ((λ tuple x y. d.0 tuple x (below_from_right s.forest tuple c l r h.0 y)), d.1))
 
-  later_apart : (b : List ℕ) (low : ℕ) (stack : List (List ℕ)) (es : List Entry) (k : ℕ) (e : Entry) → IsRunFrom s low stack es → AllDisjoint s.forest b stack → slice_get es k ≡ Some e → AreDisjoint s.forest b e.combination
+  later_apart : (b : List ℕ) (low : ℕ) (stack : List (List ℕ)) (es : List Entry) (k : ℕ) (e : Entry)
+      → IsRunFrom s low stack es → AllDisjoint s.forest b stack → slice_get es k ≡ Some e → AreDisjoint s.forest b e.combination
   later_apart b low stack [] k e run d at = absurd (none-some e at)
   later_apart b low [] (x ∷ es) k e run d at = elim run [ ]
   later_apart b low (c ∷ stack) (x ∷ es) zero e run d at = subst (λ (z : List ℕ). AreDisjoint s.forest b z) (sym run.0 ∙ ap (λ (y : Entry). y.combination) (same_Some x e at)) d.0
@@ -133,7 +140,8 @@ module _ (s : Search) where
       let p : List ℕ × List ℕ = (l, r) in
       absurd (none-some p (sym h))
 
-  whole_apart : AreApart s.forest → (low : ℕ) (stack : List (List ℕ)) (es : List Entry) (j k : ℕ) (d e : Entry) → IsRunFrom s low stack es → ArePairwise s.forest stack → j < k → slice_get es j ≡ Some d → slice_get es k ≡ Some e
+  whole_apart : AreApart s.forest → (low : ℕ) (stack : List (List ℕ)) (es : List Entry) (j k : ℕ) (d e : Entry)
+      → IsRunFrom s low stack es → ArePairwise s.forest stack → j < k → slice_get es j ≡ Some d → slice_get es k ≡ Some e
       → halves_of d.choice ≡ None → AreDisjoint s.forest d.combination e.combination
   whole_apart apart low stack [] j k d e run p lt atj atk none = absurd (none-some d atj)
   whole_apart apart low [] (x ∷ es) j k d e run p lt atj atk none = elim run [ ]
@@ -179,7 +187,8 @@ module _ (s : Search) where
       ]
 
   -- of what isn't split no part is taken
-  pub whole_stays : IsForest s.forest → (low : ℕ) (start : List ℕ) (es : List Entry) → IsRunFrom s low (start ∷ []) es → (j k : ℕ) (d e : List ℕ) → slice_get (map combination_of es) j ≡ Some d → slice_get (map half_of es) j ≡ Some None
+  pub whole_stays : IsForest s.forest → (low : ℕ) (start : List ℕ) (es : List Entry) → IsRunFrom s low (start ∷ []) es
+      → (j k : ℕ) (d e : List ℕ) → slice_get (map combination_of es) j ≡ Some d → slice_get (map half_of es) j ≡ Some None
       → slice_get (map combination_of es) k ≡ Some e → ¬ IsProperPart s.forest d e
   whole_stays sound low start es run j k d e atj none atk proper =
       let x : Mapped combination_of es j d = at_map combination_of es j d atj in
@@ -200,7 +209,8 @@ module _ (s : Search) where
       differ_not s.forest sound x.item.combination y.item.combination differs (x.is ∙ (e ∙ sym y.is))
 
   -- a pass that took as many as the budget and still has one to take
-  pub spent : IsForest s.forest → (roots start : List ℕ) (low budget : ℕ) (es : List Entry) → IsPart s.forest roots start → IsRunFrom s low (start ∷ []) es → stack_after (start ∷ []) es ≢ [] → length es ≡ budget
+  pub spent : IsForest s.forest → (roots start : List ℕ) (low budget : ℕ) (es : List Entry)
+      → IsPart s.forest roots start → IsRunFrom s low (start ∷ []) es → stack_after (start ∷ []) es ≢ [] → length es ≡ budget
       → IsSpent s roots budget (map combination_of es)
   spent sound roots start low budget es p run more count = record {
     start = start;

@@ -84,7 +84,8 @@ module _ (s : Search) (roots : List ℕ) where
     pub ended : AreEnded s word runs
     pub dealt : (tuple : List ℕ) (i : ℕ) (p : Pass) → slice_get ps i ≡ Some p → AreBelow s.forest tuple p.start → IsDealtTo s.forest tuple runs
 
-  ended_more : (word : ℕ) (p : Pass) (ps : List Pass) (d : IsDone word p) (e : Ended word ps) → (tuple : List ℕ) (i : ℕ) (q : Pass) → slice_get (p ∷ ps) i ≡ Some q → AreBelow s.forest tuple q.start → IsDealtTo s.forest tuple (run_of word p d ∷ e.runs)
+  ended_more : (word : ℕ) (p : Pass) (ps : List Pass) (d : IsDone word p) (e : Ended word ps) → (tuple : List ℕ) (i : ℕ) (q : Pass)
+      → slice_get (p ∷ ps) i ≡ Some q → AreBelow s.forest tuple q.start → IsDealtTo s.forest tuple (run_of word p d ∷ e.runs)
   ended_more word p ps d e tuple zero q at b =
       let same : AreBelow s.forest tuple p.start = subst (λ (x : Pass). AreBelow s.forest tuple x.start) (sym (same_Some p q at)) b in
       inl (subst (λ (x : List (List ℕ)). IsBelowOne s.forest tuple x) (sym (run_start word p d)) (inl same))
@@ -103,7 +104,8 @@ module _ (s : Search) (roots : List ℕ) where
   below_which tuple (c ∷ cs) (inl b) = (0, c, refl, b)
   below_which tuple (c ∷ cs) (inr b) = (let r = below_which tuple cs b in (suc r.0, r.1, r.2, r.3))
 
-  pub all_dealt : (word : ℕ) (ps : List Pass) (dealt : List (List ℕ)) → Ended word ps → AreDealt s.forest roots dealt → ((i : ℕ) (c : List ℕ) → slice_get dealt i ≡ Some c → (p : Pass) × (slice_get ps i ≡ Some p) × (p.start ≡ c))
+  pub all_dealt : (word : ℕ) (ps : List Pass) (dealt : List (List ℕ)) → Ended word ps → AreDealt s.forest roots dealt
+      → ((i : ℕ) (c : List ℕ) → slice_get dealt i ≡ Some c → (p : Pass) × (slice_get ps i ≡ Some p) × (p.start ≡ c))
       → (e : Ended word ps) → (tuple : List ℕ) → AreBelow s.forest tuple roots → IsDealtTo s.forest tuple e.runs
   all_dealt word ps dealt unused d from e tuple b =
       let (i, c, at, below) = below_which tuple dealt (d.all tuple b) in
@@ -140,7 +142,10 @@ module _ (s : Search) (roots : List ℕ) where
 
       reverse_none : (xs : List (List ℕ)) → reverse xs ≡ [] → xs ≡ []
       reverse_none [] e = refl
-      reverse_none (x ∷ xs) e = absurd (let a : length (reverse (x ∷ xs)) ≡ suc (length xs) = length_reverse (x ∷ xs) in let b : length (reverse (x ∷ xs)) ≡ 0 = ap (λ (z : List (List ℕ)). length z) e in omega arith)
+      reverse_none (x ∷ xs) e =
+          let a : length (reverse (x ∷ xs)) ≡ suc (length xs) = length_reverse (x ∷ xs) in
+          let b : length (reverse (x ∷ xs)) ≡ 0 = ap (λ (z : List (List ℕ)). length z) e in
+          absurd (omega (arith, a, b))
 
   -- a combination that gives way to its parts, at its place and at the end
   parts_put : (xs : List (List ℕ)) (i : ℕ) (c l r : List ℕ) → slice_get xs i ≡ Some c → IsSplit s.forest c l r → AreParts s.forest roots xs → AreParts s.forest roots (set xs i l ++ r ∷ [])
@@ -163,10 +168,14 @@ module _ (s : Search) (roots : List ℕ) where
   below_front tuple r (x ∷ xs) (inl b) = inl b
   below_front tuple r (x ∷ xs) (inr b) = inr (below_front tuple r xs b)
 
-  below_put : (tuple : List ℕ) (xs : List (List ℕ)) (i : ℕ) (c l r : List ℕ) → slice_get xs i ≡ Some c → IsSplit s.forest c l r → IsBelowOne s.forest tuple xs → IsBelowOne s.forest tuple (set xs i l ++ r ∷ [])
+  below_put : (tuple : List ℕ) (xs : List (List ℕ)) (i : ℕ) (c l r : List ℕ) → slice_get xs i ≡ Some c
+      → IsSplit s.forest c l r → IsBelowOne s.forest tuple xs → IsBelowOne s.forest tuple (set xs i l ++ r ∷ [])
   below_put tuple [] i c l r at h b = absurd (none-some c at)
   below_put tuple (x ∷ xs) zero c l r at h (inl b) =
-      elim (below_parts s.forest tuple c l r h (subst (λ (z : List ℕ). AreBelow s.forest tuple z) (same_Some x c at) b)) as (λ _. IsBelowOne s.forest tuple (l ∷ (xs ++ r ∷ []))) [ inl u ↦ inl u | inr u ↦ inr (below_end tuple r xs u) ]
+      elim (below_parts s.forest tuple c l r h (subst (λ (z : List ℕ). AreBelow s.forest tuple z) (same_Some x c at) b)) as (λ _. IsBelowOne s.forest tuple (l ∷ (xs ++ r ∷ []))) [
+        | inl u ↦ inl u
+        | inr u ↦ inr (below_end tuple r xs u)
+      ]
   below_put tuple (x ∷ xs) zero c l r at h (inr b) = inr (below_front tuple r xs b)
   below_put tuple (x ∷ xs) (suc i) c l r at h (inl b) = inl b
   below_put tuple (x ∷ xs) (suc i) c l r at h (inr b) = inr (below_put tuple xs i c l r at h b)

@@ -20,7 +20,8 @@ set_nodes f [] place k lt h = tt
 set_nodes f (m ∷ nodes) zero k lt h = (lt, h.1)
 set_nodes f (m ∷ nodes) (suc place) k lt h = (h.0, set_nodes f nodes place k lt h.1)
 
-set_chosen : (f : Plain) (d : ℕ) (nodes : List ℕ) (place n k : ℕ) → slice_get nodes place ≡ Some n → k < length f.pool → length (values f k) ≡ length (values f n) → AreChosen d f.pool nodes → AreChosen d f.pool (set nodes place k)
+set_chosen : (f : Plain) (d : ℕ) (nodes : List ℕ) (place n k : ℕ) → slice_get nodes place ≡ Some n → k < length f.pool
+    → length (values f k) ≡ length (values f n) → AreChosen d f.pool nodes → AreChosen d f.pool (set nodes place k)
 set_chosen f d [] place n k at lt e h = absurd (none-some n at)
 set_chosen f d (m ∷ nodes) zero n k at lt e h = (
   lt,

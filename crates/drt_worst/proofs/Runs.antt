@@ -64,18 +64,21 @@ module _ (s : Search) where
   covered sound low stack [] run tuple b = inl b
   covered sound low [] (d ∷ es) run tuple b = elim run [ ]
   covered sound low (c ∷ stack) (d ∷ es) run tuple b =
-      elim (below_taken sound tuple c stack d.seen d.choice run.2 b) as (λ _. IsBelowOne s.forest tuple (stack_after (left_after d.choice stack) es) ⊎ IsWithin s tuple (known_after (known d.seen d.choice) es)) [
+      let taken = below_taken sound tuple c stack d.seen d.choice run.2 b in
+      elim taken as (λ _. IsBelowOne s.forest tuple (stack_after (left_after d.choice stack) es) ⊎ IsWithin s tuple (known_after (known d.seen d.choice) es)) [
         | inl u ↦ covered sound (known d.seen d.choice) (left_after d.choice stack) es run.3 tuple u
         | inr w ↦ inr (within_more tuple (known d.seen d.choice) (known_after (known d.seen d.choice) es) (known_rises (known d.seen d.choice) (left_after d.choice stack) es run.3) w)
       ]
 
   -- each combination on the stack stays one of the splitting tree
-  pub parts_left : (roots c : List ℕ) (stack : List (List ℕ)) (seen : ℕ) (choice : Choice) → IsFit s c seen choice → IsPart s.forest roots c → AreParts s.forest roots stack → AreParts s.forest roots (left_after choice stack)
+  pub parts_left : (roots c : List ℕ) (stack : List (List ℕ)) (seen : ℕ) (choice : Choice) → IsFit s c seen choice
+      → IsPart s.forest roots c → AreParts s.forest roots stack → AreParts s.forest roots (left_after choice stack)
   parts_left roots c stack seen skips h p ps = ps
   parts_left roots c stack seen (reaches t) h p ps = ps
   parts_left roots c stack seen (splits l r) h p ps = (part_more s.forest roots c l p (r, inl h.0), (part_more s.forest roots c r p (l, inr h.0), ps))
 
-  pub entry_part : (roots : List ℕ) (low : ℕ) (stack : List (List ℕ)) (es : List Entry) (j : ℕ) (e : Entry) → AreParts s.forest roots stack → IsRunFrom s low stack es → slice_get es j ≡ Some e → IsPart s.forest roots e.combination
+  pub entry_part : (roots : List ℕ) (low : ℕ) (stack : List (List ℕ)) (es : List Entry) (j : ℕ) (e : Entry)
+      → AreParts s.forest roots stack → IsRunFrom s low stack es → slice_get es j ≡ Some e → IsPart s.forest roots e.combination
   entry_part roots low stack [] j e ps run at = absurd (none-some e at)
   entry_part roots low [] (d ∷ es) j e ps run at = elim run [ ]
   entry_part roots low (c ∷ stack) (d ∷ es) zero e ps run at = subst (λ (x : List ℕ). IsPart s.forest roots x) (sym run.0 ∙ ap (λ (x : Entry). x.combination) (same_Some d e at)) ps.0
@@ -83,7 +86,8 @@ module _ (s : Search) where
       entry_part roots (known d.seen d.choice) (left_after d.choice stack) es j e (parts_left roots c stack d.seen d.choice run.2 ps.0 ps.1) run.3 at
 
   -- a value that a pass puts into the word is the least time of a tuple below the roots
-  pub reaches_tuple : (roots : List ℕ) (low : ℕ) (stack : List (List ℕ)) (es : List Entry) (j t : ℕ) (e : Entry) → AreParts s.forest roots stack → IsRunFrom s low stack es → slice_get es j ≡ Some e → e.choice ≡ reaches t → IsReached s roots t e.combination
+  pub reaches_tuple : (roots : List ℕ) (low : ℕ) (stack : List (List ℕ)) (es : List Entry) (j t : ℕ) (e : Entry) → AreParts s.forest roots stack
+      → IsRunFrom s low stack es → slice_get es j ≡ Some e → e.choice ≡ reaches t → IsReached s roots t e.combination
   reaches_tuple roots low stack es j t e ps run at is =
       let a : At low es e = entry_at low stack es j e run at in
       let h : IsFit s e.combination e.seen (reaches t) = subst (λ (x : Choice). IsFit s e.combination e.seen x) is a.fits in
@@ -91,11 +95,13 @@ module _ (s : Search) where
       record { below = below_part s.forest e.combination roots e.combination p (concrete_below s.forest e.combination h.0); least = h.1 }
 
   -- the entries of a pass that goes on
-  pub run_more : (low : ℕ) (stack : List (List ℕ)) (es : List Entry) (e : Entry) (c : List ℕ) (others : List (List ℕ)) → IsRunFrom s low stack es → stack_after stack es ≡ c ∷ others → e.combination ≡ c → known_after low es ≤ e.seen → IsFit s c e.seen e.choice
+  pub run_more : (low : ℕ) (stack : List (List ℕ)) (es : List Entry) (e : Entry) (c : List ℕ) (others : List (List ℕ))
+      → IsRunFrom s low stack es → stack_after stack es ≡ c ∷ others → e.combination ≡ c → known_after low es ≤ e.seen → IsFit s c e.seen e.choice
       → IsRunFrom s low stack (es ++ e ∷ []) × (stack_after stack (es ++ e ∷ []) ≡ left_after e.choice others) × (known_after low (es ++ e ∷ []) ≡ known e.seen e.choice)
   run_more low stack [] e c others run is same more fits =
       let go : (st : List (List ℕ)) → st ≡ c ∷ others → IsRunFrom s low st (e ∷ []) × (stack_after st (e ∷ []) ≡ left_after e.choice others) × (known e.seen e.choice ≡ known e.seen e.choice) =
-      λ st g. subst (λ (x : List (List ℕ)). IsRunFrom s low x (e ∷ []) × (stack_after x (e ∷ []) ≡ left_after e.choice others) × (known e.seen e.choice ≡ known e.seen e.choice)) (sym g) ((same, more, fits, tt), refl, refl) in
+      λ st g. subst (λ (x : List (List ℕ)). IsRunFrom s low x (e ∷ []) × (stack_after x (e ∷ []) ≡ left_after e.choice others) × (known e.seen e.choice ≡ known e.seen e.choice))
+      (sym g) ((same, more, fits, tt), refl, refl) in
       go stack is
   run_more low [] (d ∷ es) e c others run is same more fits = elim run [ ]
   run_more low (b ∷ stack) (d ∷ es) e c others run is same more fits =
@@ -129,7 +135,8 @@ module _ (s : Search) where
   }
 
   -- it was reached: else it would be 0, and there is a tuple
-  pub some_reached : IsForest s.forest → (roots : List ℕ) (word : ℕ) (passes : List Run) → AreEnded s word passes → ((tuple : List ℕ) → AreBelow s.forest tuple roots → IsDealtTo s.forest tuple passes) → word ≢ 0
+  pub some_reached : IsForest s.forest → (roots : List ℕ) (word : ℕ) (passes : List Run) → AreEnded s word passes
+      → ((tuple : List ℕ) → AreBelow s.forest tuple roots → IsDealtTo s.forest tuple passes) → word ≢ 0
   some_reached sound roots word passes ended dealt zero_is =
       let t = some_tuple s.forest sound roots in
       let w : IsWithin s t.0 word = all_within sound word passes ended t.0 (dealt t.0 t.1) in
@@ -141,15 +148,18 @@ module _ (s : Search) where
   pub dealt_roots : (roots : List ℕ) → AreDealt s.forest roots (roots ∷ [])
   dealt_roots roots = record { parts = (([], refl), tt); all = λ tuple b. inl b }
 
-  parts_join : (roots l r : List ℕ) (xs : List (List ℕ)) (c : List ℕ) (ys : List (List ℕ)) → IsSplit s.forest c l r → AreParts s.forest roots (xs ++ c ∷ ys) → AreParts s.forest roots (xs ++ l ∷ r ∷ ys)
+  parts_join : (roots l r : List ℕ) (xs : List (List ℕ)) (c : List ℕ) (ys : List (List ℕ))
+      → IsSplit s.forest c l r → AreParts s.forest roots (xs ++ c ∷ ys) → AreParts s.forest roots (xs ++ l ∷ r ∷ ys)
   parts_join roots l r [] c ys h ps = (part_more s.forest roots c l ps.0 (r, inl h), (part_more s.forest roots c r ps.0 (l, inr h), ps.1))
   parts_join roots l r (x ∷ xs) c ys h ps = (ps.0, parts_join roots l r xs c ys h ps.1)
 
-  below_join : (tuple l r : List ℕ) (xs : List (List ℕ)) (c : List ℕ) (ys : List (List ℕ)) → IsSplit s.forest c l r → IsBelowOne s.forest tuple (xs ++ c ∷ ys) → IsBelowOne s.forest tuple (xs ++ l ∷ r ∷ ys)
+  below_join : (tuple l r : List ℕ) (xs : List (List ℕ)) (c : List ℕ) (ys : List (List ℕ)) → IsSplit s.forest c l r
+      → IsBelowOne s.forest tuple (xs ++ c ∷ ys) → IsBelowOne s.forest tuple (xs ++ l ∷ r ∷ ys)
   below_join tuple l r [] c ys h (inl b) = elim (below_parts s.forest tuple c l r h b) as (λ _. IsBelowOne s.forest tuple (l ∷ r ∷ ys)) [ inl u ↦ inl u | inr u ↦ inr (inl u) ]
   below_join tuple l r [] c ys h (inr b) = inr (inr b)
   below_join tuple l r (x ∷ xs) c ys h (inl b) = inl b
   below_join tuple l r (x ∷ xs) c ys h (inr b) = inr (below_join tuple l r xs c ys h b)
 
-  pub dealt_split : (roots l r : List ℕ) (xs : List (List ℕ)) (c : List ℕ) (ys : List (List ℕ)) → IsSplit s.forest c l r → AreDealt s.forest roots (xs ++ c ∷ ys) → AreDealt s.forest roots (xs ++ l ∷ r ∷ ys)
+  pub dealt_split : (roots l r : List ℕ) (xs : List (List ℕ)) (c : List ℕ) (ys : List (List ℕ))
+      → IsSplit s.forest c l r → AreDealt s.forest roots (xs ++ c ∷ ys) → AreDealt s.forest roots (xs ++ l ∷ r ∷ ys)
   dealt_split roots l r xs c ys h d = record { parts = parts_join roots l r xs c ys h d.parts; all = λ tuple b. below_join tuple l r xs c ys h (d.all tuple b) }

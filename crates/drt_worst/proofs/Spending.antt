@@ -47,7 +47,8 @@ module _ (s : Search) where
   takes_run low (c ∷ stack) (d ∷ es) run = (
     sym run.0,
     halves_fit c d.seen d.choice run.2,
-    subst (λ (x : List (List ℕ)). AreTaken s.forest x (map combination_of es) (map half_of es) (stack_after (left_after d.choice stack) es)) (sym (put_left d.choice stack)) (takes_run (known d.seen d.choice) (left_after d.choice stack) es run.3),
+    subst (λ (x : List (List ℕ)). AreTaken s.forest x (map combination_of es) (map half_of es) (stack_after (left_after d.choice stack) es))
+        (sym (put_left d.choice stack)) (takes_run (known d.seen d.choice) (left_after d.choice stack) es run.3),
   )
 
   -- what isn't concrete and has no time that passes is split
@@ -56,7 +57,8 @@ module _ (s : Search) where
   split_failing c seen (reaches t) h n none = absurd (n h.0)
   split_failing c seen (splits l r) h n none = ((l, r), refl)
 
-  pub fails_split : (low : ℕ) (stack : List (List ℕ)) (es : List Entry) → IsRunFrom s low stack es → (i : ℕ) (c : List ℕ) → slice_get (map combination_of es) i ≡ Some c → ¬ IsConcrete s.forest c → ((t : ℕ) → ¬ PassesFor s c t)
+  pub fails_split : (low : ℕ) (stack : List (List ℕ)) (es : List Entry) → IsRunFrom s low stack es → (i : ℕ) (c : List ℕ)
+      → slice_get (map combination_of es) i ≡ Some c → ¬ IsConcrete s.forest c → ((t : ℕ) → ¬ PassesFor s c t)
       → (p : List ℕ × List ℕ) × (slice_get (map half_of es) i ≡ Some (Some p))
   fails_split low stack es run i c at n none =
       let m : Mapped combination_of es i c = at_map combination_of es i c at in
@@ -76,7 +78,8 @@ module _ (s : Search) where
   not_split c seen t (reaches u) h p le = refl
   not_split c seen t (splits l r) h p le = absurd (let a : seen < t = h.1 t p in omega arith)
 
-  pub skips_later : (low : ℕ) (stack : List (List ℕ)) (es : List Entry) → IsRunFrom s low stack es → (i j T t : ℕ) (c d : List ℕ) → i < j → slice_get (map combination_of es) i ≡ Some c → slice_get (map combination_of es) j ≡ Some d
+  pub skips_later : (low : ℕ) (stack : List (List ℕ)) (es : List Entry) → IsRunFrom s low stack es → (i j T t : ℕ) (c d : List ℕ)
+      → i < j → slice_get (map combination_of es) i ≡ Some c → slice_get (map combination_of es) j ≡ Some d
       → IsConcrete s.forest c → IsLeastFor s c T → IsLeastFor s d t → t ≤ T → slice_get (map half_of es) j ≡ Some None
   skips_later low stack [] run i j T t c d lt ati atj leaf least own le = absurd (none-some c ati)
   skips_later low [] (e ∷ es) run i j T t c d lt ati atj leaf least own le = elim run [ ]
@@ -98,7 +101,8 @@ module _ (s : Search) where
   work [] = 0
   work (c ∷ cs) = (2 * tuples s.forest c - 1) + work cs
 
-  work_left : IsForest s.forest → (c : List ℕ) (stack : List (List ℕ)) (seen : ℕ) (choice : Choice) → IsFit s c seen choice → work (left_after choice stack) + 1 ≤ (2 * tuples s.forest c - 1) + work stack
+  work_left : IsForest s.forest → (c : List ℕ) (stack : List (List ℕ)) (seen : ℕ) (choice : Choice)
+      → IsFit s c seen choice → work (left_after choice stack) + 1 ≤ (2 * tuples s.forest c - 1) + work stack
   work_left sound c stack seen skips h = let a : 1 ≤ tuples s.forest c = tuples_some s.forest sound c in omega arith
   work_left sound c stack seen (reaches t) h = let a : 1 ≤ tuples s.forest c = tuples_some s.forest sound c in omega arith
   work_left sound c stack seen (splits l r) h =
@@ -120,7 +124,8 @@ module _ (s : Search) where
   work_some sound (c ∷ cs) n = let a : 1 ≤ tuples s.forest c = tuples_some s.forest sound c in omega arith
 
   -- so what a pass takes is less than twice the tuples below the roots
-  pub spent_short : IsForest s.forest → (roots start : List ℕ) (low : ℕ) (es : List Entry) → IsPart s.forest roots start → IsRunFrom s low (start ∷ []) es → stack_after (start ∷ []) es ≢ [] → length es < 2 * tuples s.forest roots
+  pub spent_short : IsForest s.forest → (roots start : List ℕ) (low : ℕ) (es : List Entry) → IsPart s.forest roots start
+      → IsRunFrom s low (start ∷ []) es → stack_after (start ∷ []) es ≢ [] → length es < 2 * tuples s.forest roots
   spent_short sound roots start low es p run more =
       let a : length es + work (stack_after (start ∷ []) es) ≤ work (start ∷ []) = work_bounded sound low (start ∷ []) es run in
       let b : 1 ≤ work (stack_after (start ∷ []) es) = work_some sound (stack_after (start ∷ []) es) more in

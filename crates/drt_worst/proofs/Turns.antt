@@ -33,10 +33,13 @@ module _ (s : Search) (roots : List ℕ) where
   pub combo_take : IsReady s roots → (combination : List ℕ) (left : List (List ℕ)) (p : Pass) → HasRunWith s roots (combination ∷ left) p → CanTake s.forest s.deadline combination
   combo_take ready combination left p r = part_take s.forest s.deadline roots combination ready.forest (combo_part combination left p r) ready.take
 
-  pub combo_passes : IsReady s roots → (combination : List ℕ) (left : List (List ℕ)) (p : Pass) → HasRunWith s roots (combination ∷ left) p → IsConcrete s.forest combination → (t : ℕ) × PassesFor s combination t
-  combo_passes ready combination left p r leaf = ready.passes combination (below_part s.forest combination roots combination (combo_part combination left p r) (concrete_below s.forest combination leaf))
+  pub combo_passes : IsReady s roots → (combination : List ℕ) (left : List (List ℕ)) (p : Pass)
+      → HasRunWith s roots (combination ∷ left) p → IsConcrete s.forest combination → (t : ℕ) × PassesFor s combination t
+  combo_passes ready combination left p r leaf =
+      ready.passes combination (below_part s.forest combination roots combination (combo_part combination left p r) (concrete_below s.forest combination leaf))
 
-  pub combo_reached : (combination : List ℕ) (left : List (List ℕ)) (p : Pass) → HasRunWith s roots (combination ∷ left) p → (seen t : ℕ) (choice : Choice) → IsFit s combination seen choice → choice ≡ reaches t → IsReached s roots t combination
+  pub combo_reached : (combination : List ℕ) (left : List (List ℕ)) (p : Pass) → HasRunWith s roots (combination ∷ left) p
+      → (seen t : ℕ) (choice : Choice) → IsFit s combination seen choice → choice ≡ reaches t → IsReached s roots t combination
   combo_reached combination left p r seen t choice fits is =
       let h : IsFit s combination seen (reaches t) = subst (λ (x : Choice). IsFit s combination seen x) is fits in
       record { below = below_part s.forest combination roots combination (combo_part combination left p r) (concrete_below s.forest combination h.0); least = h.1 }
@@ -51,7 +54,8 @@ module _ (s : Search) (roots : List ℕ) where
   noted_by v seen (reaches t) = inr (inl (inl refl))
   noted_by v seen (splits l r) = inr (inr (inl refl))
 
-  best_by : (v : View) (combination leaves : List ℕ) (best seen : ℕ) (choice : Choice) → IsFit s combination seen choice → IsPart s.forest roots combination → Each (λ x. x ≤ seen) v.raised → IsBest s roots best leaves v
+  best_by : (v : View) (combination leaves : List ℕ) (best seen : ℕ) (choice : Choice) → IsFit s combination seen choice
+      → IsPart s.forest roots combination → Each (λ x. x ≤ seen) v.raised → IsBest s roots best leaves v
       → IsBest s roots (best_after best choice) (leaves_after leaves combination choice) (announced (with_noted v seen) choice)
   best_by v combination leaves best seen skips fits part a b = record { most = b.most; is = b.is }
   best_by v combination leaves best seen (reaches t) fits part a b =

@@ -145,7 +145,7 @@ fn follow(
     Ok(())
 }
 
-/// AreTaken the next combination.
+/// Takes the next combination.
 pub(crate) fn take(
     alloc: Global,
     word: &Word<Question>,

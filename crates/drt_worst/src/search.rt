@@ -84,7 +84,7 @@ fn open_one(
     })
 }
 
-// AreTaken in a pass that has ended, and keeps the greater value that was reached.
+// Takes in a pass that has ended, and keeps the greater value that was reached.
 fn absorb(
     word: &Word<Question>,
     owner: &mut Seat<(), View>,
@@ -187,7 +187,7 @@ fn first_unfinished(passes: &[Pass]) -> Option<usize>
     None
 }
 
-// AreTaken in all passes, which are done.
+// Takes in all passes, which are done.
 fn absorb_all(
     word: &Word<Question>,
     owner: &mut Seat<(), View>,
@@ -210,7 +210,7 @@ fn absorb_all(
     }
 }
 
-// AreTaken in all passes, which are done, and closes the word.
+// Takes in all passes, which are done, and closes the word.
 fn gather(
     alloc: Global,
     word: Word<Question>,

@@ -111,7 +111,7 @@ fn analyse<G: Gate, R: Threads + Wait + Sync>(
 }
 
 // The trail of a spent budget.
-fn make_trail(trail: FixedTrail) -> Trail
+pub(crate) fn make_trail(trail: FixedTrail) -> Trail
     ensures { result ≡ trail_of trail }
 {
     match trail {

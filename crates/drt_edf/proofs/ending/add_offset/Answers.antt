@@ -12,6 +12,7 @@ vertices-preserved c =
     let longer = ap length c.in_ok-push.ensures.items in
     let by = length-append c.vertices.best.items (n ∷ []) in
     record {
-      table = subst (AreGreatestAt g c.args.bound) (sym c.in_ok-push.ensures.items) (ending_push g c.args.bound c.args.offset c.vertices.v n c.vertices.best.items l c.vertices.invariant.long c.vertices.invariant.table c.greatest_at-greatest.ensures);
+      table = subst (AreGreatestAt g c.args.bound) (sym c.in_ok-push.ensures.items)
+          (ending_push g c.args.bound c.args.offset c.vertices.v n c.vertices.best.items l c.vertices.invariant.long c.vertices.invariant.table c.greatest_at-greatest.ensures);
       long = omega (arith, longer, by, c.vertices.invariant.long);
     }

@@ -7,4 +7,5 @@ use Rattle.drt_edf.proofs.ending.with_edges_from.Goals as goal
 pub returns : goal.returns
 returns c =
     let e : c.edges.k ≡ out_degree c.args.graph.now c.args.u = omega (arith, c.edges-test.false, c.edges.auto.k-end, c.out_degree-k-end.ensures) in
-    all_edges c.args.graph.now c.vertex_count-count.ensures.sound c.args.bound c.args.v c.args.offset c.args.u c.edges.greatest (subst (λ k. IsGreatestOver c.args.graph.now c.args.bound c.args.v c.args.offset c.args.u k c.edges.greatest) e c.edges.invariant)
+    all_edges c.args.graph.now c.vertex_count-count.ensures.sound c.args.bound c.args.v c.args.offset c.args.u c.edges.greatest
+    (subst (λ k. IsGreatestOver c.args.graph.now c.args.bound c.args.v c.args.offset c.args.u k c.edges.greatest) e c.edges.invariant)

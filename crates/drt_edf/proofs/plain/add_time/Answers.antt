@@ -12,6 +12,7 @@ vertices-preserved c =
     let longer = ap length c.in_ok-push.ensures.items in
     let by = length-append c.vertices.best.items (n ∷ []) in
     record {
-      table = subst (AreGreatest g) (sym c.in_ok-push.ensures.items) (greatest_push g c.args.t c.vertices.v n c.vertices.best.items l c.vertices.invariant.long c.vertices.invariant.table c.greatest_from-greatest.ensures);
+      table = subst (AreGreatest g) (sym c.in_ok-push.ensures.items)
+          (greatest_push g c.args.t c.vertices.v n c.vertices.best.items l c.vertices.invariant.long c.vertices.invariant.table c.greatest_from-greatest.ensures);
       long = omega (arith, longer, by, c.vertices.invariant.long);
     }

@@ -7,4 +7,5 @@ use Rattle.drt_edf.proofs.plain.greatest_from.Goals as goal
 pub returns : goal.returns
 returns c =
     let e : c.edges.k ≡ out_degree c.args.graph.now c.args.v = omega (arith, c.edges-test.false, c.edges.auto.k-end, c.out_degree-k-end.ensures) in
-    all_through c.args.graph.now c.vertex_count-count.ensures.sound c.args.v c.args.t c.edges.greatest c.requires.vertex (subst (λ k. IsGreatestOf c.args.graph.now c.args.v c.args.t k c.edges.greatest) e c.edges.invariant)
+    all_through c.args.graph.now c.vertex_count-count.ensures.sound c.args.v c.args.t c.edges.greatest c.requires.vertex
+    (subst (λ k. IsGreatestOf c.args.graph.now c.args.v c.args.t k c.edges.greatest) e c.edges.invariant)

@@ -27,7 +27,8 @@ demand-requires-clause-long c =
     let t = table_at c.args.bound c.args.graphs.now c.args.tables.now c.requires.tables c.graphs.i l in
     let same = ap length (c.as_slice.ensures ∙ (c.index-tables-i.is ∙ get_or_default c.args.tables.now c.graphs.i c.index-tables-i.result [] (omega (arith, l, n)))) in
     let count = ap vertex_count c.graph.ensures.graph in
-    let more : vertex_count (graph_of c.args.graphs.now c.graphs.i) * (c.args.t + 1) ≤ vertex_count (graph_of c.args.graphs.now c.graphs.i) * (c.args.bound + 1) = mul-le-mul_left (vertex_count (graph_of c.args.graphs.now c.graphs.i)) (omega (arith, c.requires.time)) in
+    let more : vertex_count (graph_of c.args.graphs.now c.graphs.i) * (c.args.t + 1) ≤ vertex_count (graph_of c.args.graphs.now c.graphs.i) * (c.args.bound + 1)
+    = mul-le-mul_left (vertex_count (graph_of c.args.graphs.now c.graphs.i)) (omega (arith, c.requires.time)) in
     subst (λ k. (c.args.t + 1) * k ≤ length c.as_slice.result.now) (sym count) (omega (arith, t.1, same, more))
 
 pub graphs-preserved : goal.graphs-preserved

@@ -18,7 +18,8 @@ all_releases-requires-clause-walks c =
 pub start-requires-clause-legal : goal.start-requires-clause-legal
 start-requires-clause-legal c =
     let tasks = c.args.set.now.tasks in
-    let d = c.demand_misses.ensures c.args.set.now.version tasks c.tasks-tasks.ensures.limits c.requires.constrained c.args.t (walk_at c.args.walks.now) c.requires.walks c.requires.due c.requires.excess in
+    let d = c.demand_misses.ensures c.args.set.now.version tasks c.tasks-tasks.ensures.limits c.requires.constrained c.args.t
+    (walk_at c.args.walks.now) c.requires.walks c.requires.due c.requires.excess in
     let same : c.as_slice.result.now ≡ all_releases tasks (walk_at c.args.walks.now) (length tasks) = c.as_slice.ensures.value ∙ c.in_ok-releases.ensures tasks c.requires.graphs in
     rw same d.0
 
@@ -66,4 +67,6 @@ returns-clause-range c =
     let all = c.releases_are_in_range.ensures tasks (walk_at c.args.walks.now) c.args.t kept c.requires.walks c.requires.due c.requires.time in
     let each : All IsInRangeRelease releases = rw same all in
     let counted : length releases ≤ 4294967295 = omega (arith, c.if-len-gt4294967295.false, c.len.ensures) in
-    rw c.from_vec.ensures (record { each = each; counted = counted; named = miss_in_range tasks releases c.args.t c.run_until.new.self c.in-Some.miss is each counted c.requires.time (rw c.in-Some.is at c.first_miss-missed.ensures.first) })
+    let first = rw c.in-Some.is at c.first_miss-missed.ensures.first in
+    let named = miss_in_range tasks releases c.args.t c.run_until.new.self c.in-Some.miss is each counted c.requires.time first in
+    rw c.from_vec.ensures (record { each = each; counted = counted; named = named })

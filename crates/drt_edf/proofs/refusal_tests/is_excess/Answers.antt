@@ -33,7 +33,8 @@ tasks-preserved c = record {
       (let l : c.tasks.i < length tasks = omega (arith, c.tasks-test.true, c.count-i-end.ensures.count, ap length same, length-map tasks digraph_of) in
       let g : c.graph.result.now ≡ graph_at tasks c.tasks.i = c.graph.ensures.graph ∙ (ap (λ gs. graph_of gs c.tasks.i) same ∙ graph_same tasks c.tasks.i l) in
       let is = rw (g, c.walk_of.ensures) at c.in-Some.ensures in
-      below_more (λ k. IsWalk (graph_at tasks k) (walk_at c.args.walks.now k) × (due_of (graph_at tasks k) (walk_at c.args.walks.now k) ≤ c.args.t)) c.tasks.i (c.tasks.invariant.each tasks same) (is.0, is.1));
+      below_more (λ k. IsWalk (graph_at tasks k) (walk_at c.args.walks.now k) × (due_of (graph_at tasks k) (walk_at c.args.walks.now k) ≤ c.args.t)) c.tasks.i
+      (c.tasks.invariant.each tasks same) (is.0, is.1));
   sum = λ tasks same.
       (let l : c.tasks.i < length tasks = omega (arith, c.tasks-test.true, c.count-i-end.ensures.count, ap length same, length-map tasks digraph_of) in
       let g : c.graph.result.now ≡ graph_at tasks c.tasks.i = c.graph.ensures.graph ∙ (ap (λ gs. graph_of gs c.tasks.i) same ∙ graph_same tasks c.tasks.i l) in

@@ -6,7 +6,8 @@ use Rattle.drt_graph.proofs.Paths.{work_cons, work_none, span_none}
 use Rattle.drt_busy.specs.Choice.{IsWalk, due_of}
 use Rattle.drt_edf.proofs.refusal_tests.single.Goals as goal
 
-one_vertex : (g : Digraph) → IsSound g → (walk : List ℕ) (t n : ℕ) → length walk ≡ 1 → get_or walk 0 0 < vertex_count g → deadline g (get_or walk 0 0) ≤ t → wcet g (get_or walk 0 0) ≡ n → IsWalk g walk × (due_of g walk ≤ t) × (work g walk ≡ n) × (n ≤ 1000000)
+one_vertex : (g : Digraph) → IsSound g → (walk : List ℕ) (t n : ℕ) → length walk ≡ 1 → get_or walk 0 0 < vertex_count g
+    → deadline g (get_or walk 0 0) ≤ t → wcet g (get_or walk 0 0) ≡ n → IsWalk g walk × (due_of g walk ≤ t) × (work g walk ≡ n) × (n ≤ 1000000)
 one_vertex g sound [] t n one here due is = absurd (omega arith)
 one_vertex g sound (v ∷ []) t n one here due is = ((here, tt), omega (arith, span_none g v), omega (arith, work_cons g v [], work_none g), omega (arith, (sound.wcet v here).1))
 one_vertex g sound (v ∷ (w ∷ vs)) t n one here due is = absurd (omega arith)

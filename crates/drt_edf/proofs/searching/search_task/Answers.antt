@@ -3,7 +3,6 @@ use Rattle.drt_model.specs.Digraph.{IsConstrainedGraph}
 use Rattle.drt_demand.specs.Demand.{demand_algebra}
 use Rattle.drt_table.specs.Machine.{Setting, is_finished}
 use Rattle.drt_table.specs.View.{setting_of, state_of}
-use Rattle.drt_edf.specs.LabelFronts.{IsLabelFront}
 use Rattle.drt_edf.proofs.Searched.{full_search}
 use Rattle.drt_edf.proofs.searching.search_task.Goals as goal
 

@@ -1,6 +1,5 @@
 use Rattle.std.proofs.Common.{ℕ, ◌+◌, ◌*◌, ◌≤◌, arith}
 use Rattle.std.proofs.lemmas.Nat.{mul-le}
-use Rattle.drt_edf.specs.Spent.{most_out}
 use Rattle.drt_edf.proofs.Bounded.{most_of}
 use Rattle.drt_edf.proofs.waves.has_wave_table.Goals as goal
 

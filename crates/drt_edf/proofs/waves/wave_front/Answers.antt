@@ -1,4 +1,4 @@
-use Rattle.std.proofs.Common.{◌≡◌, ℕ, sym, subst}
+use Rattle.std.proofs.Common.{ℕ, sym, subst}
 use Rattle.drt_model.specs.Digraph.{Digraph, IsSound, IsConstrainedGraph}
 use Rattle.drt_edf.specs.LabelFronts.{IsLabelFront}
 use Rattle.drt_edf.proofs.WaveFronts.{wave_front_is}

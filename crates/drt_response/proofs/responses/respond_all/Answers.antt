@@ -16,4 +16,5 @@ pub returns : goal.returns
 returns g c =
     let all : c.tasks.task ≡ length c.args.set.now.tasks
     = omega (arith, c.tasks-test.false, c.tasks.auto.task-end, c.count-task-end.ensures.count, ap length c.requires.graphs, length-map c.args.set.now.tasks digraph_of) in
-    subst (λ (rs : List Response). AreResponses c.args.set.now rs) (sym c.from_vec.ensures) (all_responses c.args.set.now c.tasks.task c.tasks.responses.items c.requires.trees.schedulable c.tasks.invariant all)
+    subst (λ (rs : List Response). AreResponses c.args.set.now rs) (sym c.from_vec.ensures)
+    (all_responses c.args.set.now c.tasks.task c.tasks.responses.items c.requires.trees.schedulable c.tasks.invariant all)

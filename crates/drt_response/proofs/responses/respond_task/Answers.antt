@@ -31,5 +31,6 @@ returns g c =
     let tasks : List Task = c.args.set.now.tasks in
     let k = c.args.task in
     let graph : c.graph-graph.result.now ≡ graph_at tasks k = c.graph-graph.ensures.graph ∙ (ap (λ gs. graph_of gs k) c.requires.graphs ∙ graph_same tasks k c.requires.task) in
-    let all : c.vertices.vertex ≡ vertex_count (graph_at tasks k) = omega (arith, c.vertices-test.false, c.vertices.auto.vertex-end, c.vertex_count-vertex-end.ensures.count, ap (λ x. vertex_count x) graph) in
+    let all : c.vertices.vertex ≡ vertex_count (graph_at tasks k)
+    = omega (arith, c.vertices-test.false, c.vertices.auto.vertex-end, c.vertex_count-vertex-end.ensures.count, ap (λ x. vertex_count x) graph) in
     responses_next c.args.set.now k c.vertices.vertex c.vertices.responses.items c.vertices.invariant all

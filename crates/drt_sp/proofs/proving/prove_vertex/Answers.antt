@@ -1,5 +1,5 @@
 -- Where the frontier came to an end.
-use Rattle.std.proofs.Common.{◌≡◌, Some, sym, ◌∙◌, subst}
+use Rattle.std.proofs.Common.{◌≡◌, Some, sym, subst}
 use Rattle.std.specs.Prelude.{slice_get, IsTrue}
 use Rattle.drt_worklist.specs.Places.{first}
 use Rattle.drt_refine.specs.Combination.{Combination, is_failed}

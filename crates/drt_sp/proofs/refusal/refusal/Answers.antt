@@ -1,7 +1,6 @@
-use Rattle.std.proofs.Common.{◌≡◌, ◌<◌, ◌≤◌, List, ℕ, length, sym, ap, subst, arith, ◌∙◌}
+use Rattle.std.proofs.Common.{◌≡◌, List, ℕ, sym, ap, subst, arith, ◌∙◌}
 use Rattle.std.proofs.lemmas.List.{length-map}
 use Rattle.drt_model.specs.declared.jobs.Miss.{Miss}
-use Rattle.drt_model.specs.declared.jobs.Release.{Release}
 use Rattle.drt_model.specs.declared.tasks.Task.{Task}
 use Rattle.drt_model.specs.Digraph.{IsSound, digraph_of}
 use Rattle.drt_model.specs.Walk.{deadline}
@@ -72,4 +71,5 @@ returns-clause-range c =
     let due : c.from.result ≡ deadline (graph_at tasks j) v = c.from.ensures ∙ end in
     let name : ℕ → Miss = λ (d : ℕ). record { task = j; index = 0; deadline = d } in
     subst (λ (d : ℕ). AreInRangeReleases c.in_ok-releases.releases (name d)) (sym due)
-    (no_in_range tasks c.in_ok-releases.releases j v c.in_ok-releases.ensures.range c.in_ok-releases.ensures.counted failed.reached.task (few_tasks set.version tasks failed.reached.posed.limits) sound failed.reached.posed.subject.vertex)
+    (no_in_range tasks c.in_ok-releases.releases j v c.in_ok-releases.ensures.range c.in_ok-releases.ensures.counted failed.reached.task
+    (few_tasks set.version tasks failed.reached.posed.limits) sound failed.reached.posed.subject.vertex)

@@ -31,7 +31,8 @@ cut_walk-requires c =
     let is = c.requires.leaves.2.each at.0 at.1 in
     let l : k < length tasks = omega (arith, c.requires.here, ap length c.requires.leaves.1, length-map tasks digraph_of) in
     let graph : c.graph.result.now ≡ graph_at tasks k = c.graph.ensures.graph ∙ (ap (λ gs. graph_of gs k) c.requires.leaves.1 ∙ graph_same tasks k l) in
-    let w : IsWalk (graph_at tasks k) (walk f c.in-Some.leaf) = subst (λ (n : ℕ). IsWalk (graph_at tasks k) (walk f n)) at.3 (subst (λ (n : ℕ). IsWalk (graph_at tasks n) (walk f (get_or c.args.tuple.now at.0 0))) at.2 is.walk_is) in
+    let w : IsWalk (graph_at tasks k) (walk f c.in-Some.leaf)
+    = subst (λ (n : ℕ). IsWalk (graph_at tasks k) (walk f n)) at.3 (subst (λ (n : ℕ). IsWalk (graph_at tasks n) (walk f (get_or c.args.tuple.now at.0 0))) at.2 is.walk_is) in
     record { walk = subst (λ g. IsWalk g c.as_slice.result.now) (sym graph) (subst (λ (xs : List ℕ). IsWalk (graph_at tasks k) xs) (sym (c.as_slice.ensures ∙ c.walk.ensures)) w) }
 
 pub returns-in-Some : goal.returns-in-Some
@@ -41,7 +42,10 @@ returns-in-Some c =
     let f = c.args.forest.now in
     let l : k < length tasks = omega (arith, c.requires.here, ap length same, length-map tasks digraph_of) in
     let graph : c.graph.result.now ≡ graph_at tasks k = c.graph.ensures.graph ∙ (ap (λ gs. graph_of gs k) same ∙ graph_same tasks k l) in
-    is ∙ (ap (λ g. cut g c.args.end c.as_slice.result.now) graph ∙ (ap (cut (graph_at tasks k) c.args.end) (c.as_slice.ensures ∙ c.walk.ensures) ∙ sym (chosen_some tasks f c.args.end c.args.order.now c.args.tuple.now k c.in-Some.leaf (sym c.leaf_of.ensures ∙ c.in-Some.is))))
+    is
+    ∙ (ap (λ g. cut g c.args.end c.as_slice.result.now) graph
+    ∙ (ap (cut (graph_at tasks k) c.args.end) (c.as_slice.ensures ∙ c.walk.ensures)
+    ∙ sym (chosen_some tasks f c.args.end c.args.order.now c.args.tuple.now k c.in-Some.leaf (sym c.leaf_of.ensures ∙ c.in-Some.is))))
     ) c.cut_walk.ensures
 
 pub returns-in-None : goal.returns-in-None

@@ -12,7 +12,8 @@ steps-init c =
     let some : 0 < length walk = grind arith in
     let first = get_or_default walk 0 0 (get_or walk 0 0) some in
     let items = c.in_ok-push.ensures.items ∙ ap (λ (xs : List ℕ). xs ++ get_or walk 0 0 ∷ []) c.new-kept.ensures.items in
-    subst (λ (xs : List ℕ). IsCut g c.args.end walk xs (get_or walk 0 0) 0 (drop 1 walk)) (sym items) (cut_started g c.vertex_count-count.ensures.sound c.args.end walk (get_or walk 0 0) c.requires.walk some first)
+    subst (λ (xs : List ℕ). IsCut g c.args.end walk xs (get_or walk 0 0) 0 (drop 1 walk)) (sym items)
+    (cut_started g c.vertex_count-count.ensures.sound c.args.end walk (get_or walk 0 0) c.requires.walk some first)
 
 pub returns-then-offset-from : goal.returns-then-offset-from
 returns-then-offset-from c =
@@ -38,7 +39,8 @@ steps-preserved c =
     let few : c.args.end ≤ 4294967295 = omega (arith, c.ranges.end.fits) in
     let early : c.steps.offset + gap g c.steps.vertex v < c.args.end = omega (arith, q.0, c.if-offset-from.false, c.from.ensures, c.from-offset.ensures) in
     let time : c.steps.offset + c.from-offset.result ≡ c.steps.offset + gap g c.steps.vertex v = omega (arith, q.0, c.from-offset.ensures) in
-    rw (c.in_ok-push-2.ensures.items, time) (cut_stepped g c.vertex_count-count.ensures.sound c.args.end walk c.steps.kept.items c.steps.vertex c.steps.offset v (drop (c.steps.i + 1) walk) few is early)
+    rw (c.in_ok-push-2.ensures.items, time)
+    (cut_stepped g c.vertex_count-count.ensures.sound c.args.end walk c.steps.kept.items c.steps.vertex c.steps.offset v (drop (c.steps.i + 1) walk) few is early)
 
 pub returns : goal.returns
 returns c =

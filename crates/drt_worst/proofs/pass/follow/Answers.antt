@@ -14,20 +14,26 @@ pub make_plan-requires-clause-take : goal.make_plan-requires-clause-take
 make_plan-requires-clause-take c =
     let s : Search = search_for c.args.forest.now c.args.wcet c.args.deadline in
     let roots : List ℕ = c.args.word.now.about.roots.value in
-    subst (λ (z : List ℕ). CanTake c.args.forest.now c.args.deadline z) (sym c.as_slice.ensures) (combo_take s roots c.requires.ready c.args.combination (reverse c.args.pass.now.stack.items) c.args.pass.now c.requires.runs)
+    subst (λ (z : List ℕ). CanTake c.args.forest.now c.args.deadline z) (sym c.as_slice.ensures)
+    (combo_take s roots c.requires.ready c.args.combination (reverse c.args.pass.now.stack.items) c.args.pass.now c.requires.runs)
 
 pub make_plan-requires-clause-some : goal.make_plan-requires-clause-some
 make_plan-requires-clause-some c =
     let s : Search = search_for c.args.forest.now c.args.wcet c.args.deadline in
     let roots : List ℕ = c.args.word.now.about.roots.value in
-    subst (λ (z : List ℕ). IsConcrete c.args.forest.now z → (t : ℕ) × PassesFor s z t) (sym c.as_slice.ensures) (combo_passes s roots c.requires.ready c.args.combination (reverse c.args.pass.now.stack.items) c.args.pass.now c.requires.runs)
+    subst (λ (z : List ℕ). IsConcrete c.args.forest.now z → (t : ℕ) × PassesFor s z t) (sym c.as_slice.ensures)
+    (combo_passes s roots c.requires.ready c.args.combination (reverse c.args.pass.now.stack.items) c.args.pass.now c.requires.runs)
 
 pub announce-requires-clause-reached : goal.announce-requires-clause-reached
 announce-requires-clause-reached c t is =
     let s : Search = search_for c.args.forest.now c.args.wcet c.args.deadline in
     let roots : List ℕ = c.args.word.now.about.roots.value in
-    let fits : IsFit s c.args.combination c.glance-seen.result (choice_of c.in_ok-plan.plan) = subst (λ (z : List ℕ). IsFit s z c.glance-seen.result (choice_of c.in_ok-plan.plan)) c.as_slice.ensures c.in_ok-plan.ensures in
-    (c.args.combination, subst (λ (z : Search). IsReached z roots t c.args.combination) (sym c.requires.about) (combo_reached s roots c.args.combination (reverse c.args.pass.now.stack.items) c.args.pass.now c.requires.runs c.glance-seen.result t (choice_of c.in_ok-plan.plan) fits is))
+    let fits : IsFit s c.args.combination c.glance-seen.result (choice_of c.in_ok-plan.plan)
+    = subst (λ (z : List ℕ). IsFit s z c.glance-seen.result (choice_of c.in_ok-plan.plan)) c.as_slice.ensures c.in_ok-plan.ensures in (
+      c.args.combination,
+      subst (λ (z : Search). IsReached z roots t c.args.combination) (sym c.requires.about)
+          (combo_reached s roots c.args.combination (reverse c.args.pass.now.stack.items) c.args.pass.now c.requires.runs c.glance-seen.result t (choice_of c.in_ok-plan.plan) fits is),
+    )
 
 pub returns-clause-runs : goal.returns-clause-runs
 returns-clause-runs c =

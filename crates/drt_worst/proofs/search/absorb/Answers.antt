@@ -12,7 +12,8 @@ returns-then-own_best-best-clause-best c =
     (best_right s roots c.args.best.now c.args.pass.best c.args.leaves.now c.args.pass.leaves c.args.owner.now.me.0 c.args.pass.seat.me.0 (search rules) c.requires.best c.requires.runs.best)
 
 pub returns-then-own_best-best-clause-known : goal.returns-then-own_best-best-clause-known
-returns-then-own_best-best-clause-known c = subst (λ (v : View). IsNotedIn c.args.pass.known v) (sym (ap (λ m. m.0) c.join.ensures.seat)) (noted_right c.args.pass.known c.args.owner.now.me.0 c.args.pass.seat.me.0 c.requires.runs.noted)
+returns-then-own_best-best-clause-known c =
+    subst (λ (v : View). IsNotedIn c.args.pass.known v) (sym (ap (λ m. m.0) c.join.ensures.seat)) (noted_right c.args.pass.known c.args.owner.now.me.0 c.args.pass.seat.me.0 c.requires.runs.noted)
 
 pub returns-then-own_best-best-clause-kept : goal.returns-then-own_best-best-clause-kept
 returns-then-own_best-best-clause-kept c n h = subst (λ (v : View). IsNotedIn n v) (sym (ap (λ m. m.0) c.join.ensures.seat)) (noted_left n c.args.owner.now.me.0 c.args.pass.seat.me.0 h)
@@ -25,7 +26,8 @@ returns-clause-best c =
     (best_left s roots c.args.best.now c.args.pass.best c.args.leaves.now c.args.pass.leaves c.args.owner.now.me.0 c.args.pass.seat.me.0 (search rules) c.requires.best c.requires.runs.best)
 
 pub returns-clause-known : goal.returns-clause-known
-returns-clause-known c = subst (λ (v : View). IsNotedIn c.args.pass.known v) (sym (ap (λ m. m.0) c.join.ensures.seat)) (noted_right c.args.pass.known c.args.owner.now.me.0 c.args.pass.seat.me.0 c.requires.runs.noted)
+returns-clause-known c = subst (λ (v : View). IsNotedIn c.args.pass.known v) (sym (ap (λ m. m.0) c.join.ensures.seat))
+    (noted_right c.args.pass.known c.args.owner.now.me.0 c.args.pass.seat.me.0 c.requires.runs.noted)
 
 pub returns-clause-kept : goal.returns-clause-kept
 returns-clause-kept c n h = subst (λ (v : View). IsNotedIn n v) (sym (ap (λ m. m.0) c.join.ensures.seat)) (noted_left n c.args.owner.now.me.0 c.args.pass.seat.me.0 h)

@@ -8,7 +8,8 @@ use Rattle.drt_worst.proofs.search.deal.Goals as goal
 pub split_first-requires-clause-nodes : goal.split_first-requires-clause-nodes
 split_first-requires-clause-nodes c k combination at =
     let f = c.args.forest.now in
-    let take = part_take f c.requires.take.0 c.args.roots.now combination c.requires.forest (parts_at (search_for f 0 0) c.args.roots.now c.loop.dealt.items k combination c.loop.invariant.0.parts at) c.requires.take.1 in
+    let take = part_take f c.requires.take.0 c.args.roots.now combination c.requires.forest
+    (parts_at (search_for f 0 0) c.args.roots.now c.loop.dealt.items k combination c.loop.invariant.0.parts at) c.requires.take.1 in
     (take.nodes_are, take.few)
 
 pub loop-preserved : goal.loop-preserved

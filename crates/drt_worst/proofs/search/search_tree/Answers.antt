@@ -32,7 +32,8 @@ finish-requires-clause-dealt g c =
     let lengths : length c.run_passes.new.passes ≡ length dealt = search rules in
     let about : search_of w.about ≡ search_for c.args.forest.now c.args.wcet c.args.deadline = search rules in
     let roots : w.about.roots.value ≡ c.args.roots.now = search rules in
-    let d : AreDealt c.args.forest.now c.args.roots.now dealt = subst (λ (xs : List (List ℕ)). AreDealt c.args.forest.now c.args.roots.now xs) (sym c.as_slice-2.ensures.value) c.in_ok-dealt.ensures.dealt in
+    let d : AreDealt c.args.forest.now c.args.roots.now dealt
+    = subst (λ (xs : List (List ℕ)). AreDealt c.args.forest.now c.args.roots.now xs) (sym c.as_slice-2.ensures.value) c.in_ok-dealt.ensures.dealt in
     let d' : AreDealt c.args.forest.now w.about.roots.value dealt = subst (λ (r : List ℕ). AreDealt c.args.forest.now r dealt) (sym roots) d in (
       dealt,
       subst (λ (s : Search). AreDealt s.forest w.about.roots.value dealt) (sym about) d',

@@ -29,4 +29,5 @@ returns-in-Some-clause-dealt c roots d =
     let at : slice_get xs c.loop-i.i ≡ Some combination = search (rules, slice_get-get_or) in
     let split : IsSplit f combination c.in_ok-left-in-Some.left c.in_ok-left-in-Some.right = c.in_ok-left-in-Some.ensures in
     subst (λ (z : List (List ℕ)). AreDealt f roots z) (sym c.in_ok-push-in-Some.ensures.items)
-    (dealt_put (search_for f 0 0) roots xs c.loop-i.i combination c.in_ok-left-in-Some.left c.in_ok-left-in-Some.right at split (subst (λ (z : List (List ℕ)). AreDealt f roots z) (sym c.loop-i.invariant) d))
+    (dealt_put (search_for f 0 0) roots xs c.loop-i.i combination c.in_ok-left-in-Some.left c.in_ok-left-in-Some.right at split
+    (subst (λ (z : List (List ℕ)). AreDealt f roots z) (sym c.loop-i.invariant) d))

@@ -9,5 +9,6 @@ combination-requires c = combination_within c.self.inside.frontier.combinations 
 
 pub returns-in-Some : goal.returns-in-Some
 returns-in-Some c =
-    let one = found_one c.self.inside.frontier.combinations c.args.worker c.in-Some.id c.args.held c.args.nodes.now c.combination.result.now c.is_copy.result (sym c.held_by.ensures ∙ c.in-Some.is) c.combination.ensures c.is_copy.ensures in
+    let one = found_one c.self.inside.frontier.combinations c.args.worker c.in-Some.id c.args.held c.args.nodes.now c.combination.result.now c.is_copy.result
+    (sym c.held_by.ensures ∙ c.in-Some.is) c.combination.ensures c.is_copy.ensures in
     subst (λ (b : BoardOf). IsFound b.frontier.combinations c.args.worker c.args.held c.args.nodes.now (record { held = Some c.in-Some.id; same = c.is_copy.result })) c.self.view_is one

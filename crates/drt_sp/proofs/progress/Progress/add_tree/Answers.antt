@@ -55,8 +55,10 @@ returns-in_ok-push-in-Tree-2-clause-grown g c =
     let at : slice_get order place ≡ Some k = at_place tasks order is place l in
     let below : k < length tasks = order_below tasks order is place l in
     let graph : c.graph-graph.result.now ≡ graph_at tasks k = c.graph-graph.ensures.graph ∙ (ap (λ gs. graph_of gs k) c.requires.given.graphs_are ∙ graph_same tasks k below) in
-    let t : IsTaskTree (graph_at tasks k) (greatest_deadline tasks) f c.search_tree.new.forest c.in-Tree.tree = rw (c.in-Tree.is, graph, c.greatest_deadline-bound.ensures.value) at c.in_ok-tree.ensures in
-    rw (c.in_ok-push-in-Tree.ensures.items, c.in_ok-push-in-Tree-2.ensures.items) (grown_more tasks order place k at f c.search_tree.new.forest roots trees c.requires.grown c.show_sound.ensures t.grows t.functions t.room
+    let t : IsTaskTree (graph_at tasks k) (greatest_deadline tasks) f c.search_tree.new.forest c.in-Tree.tree
+    = rw (c.in-Tree.is, graph, c.greatest_deadline-bound.ensures.value) at c.in_ok-tree.ensures in
+    rw (c.in_ok-push-in-Tree.ensures.items, c.in_ok-push-in-Tree-2.ensures.items)
+    (grown_more tasks order place k at f c.search_tree.new.forest roots trees c.requires.grown c.show_sound.ensures t.grows t.functions t.room
     c.in-Tree.tree.low c.in-Tree.tree.top c.in-Tree.tree.claim t.stands t.count t.claim t.rules t.range)
 
 pub returns-in_ok-push-in-Tree-2-clause-proved : goal.returns-in_ok-push-in-Tree-2-clause-proved

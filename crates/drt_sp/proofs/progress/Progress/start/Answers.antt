@@ -3,7 +3,8 @@ use Rattle.drt_sp.proofs.Growth.{none_grown, none_proved}
 use Rattle.drt_sp.proofs.progress.Progress.start.Goals as goal
 
 pub returns-clause-grown : goal.returns-clause-grown
-returns-clause-grown c = none_grown c.args.set.now.tasks c.args.order.now c.empty.result c.new-2.result.items c.new-3.result.items c.empty.ensures.nodes c.empty.ensures.pool c.new-2.ensures.items c.new-3.ensures.items
+returns-clause-grown c = none_grown c.args.set.now.tasks c.args.order.now c.empty.result c.new-2.result.items
+    c.new-3.result.items c.empty.ensures.nodes c.empty.ensures.pool c.new-2.ensures.items c.new-3.ensures.items
 
 pub returns-clause-proved : goal.returns-clause-proved
 returns-clause-proved c =

@@ -1,30 +1,10 @@
-//! Small sets, drawn at random.
-ghost use Rattle.std.specs.Prelude.{◌<◌, ◌≤◌};
+//! Sets of two or three tasks.
+ghost use Rattle.std.specs.Prelude.{◌<◌};
 
+use crate::draws::Draws;
 use drt_fixtures::{edge, make_name};
 use drt_model::{Memory, Row, Task, TaskSet, Vertex, task_set};
 use std::alloc::Global;
-use std::test::Fail;
-
-/// Numbers by a linear congruential generator.
-#[derive(Drop)]
-pub struct Draws {
-    pub state: u64,
-}
-
-impl Draws {
-    /// A number below another.
-    pub fn below(&mut self, end: u32) -> u32
-        requires { 0 < end }
-        ensures { result < end }
-    {
-        self.state = self
-            .state
-            .wrapping_mul(6364136223846793005)
-            .wrapping_add(1442695040888963407);
-        ((self.state >> 33) % end as u64) as u32
-    }
-}
 
 // A task of 1 to 3 vertices and about half of the possible edges. Each edge out of a vertex has a separation of at least its
 // drawn gap, and the vertex's deadline is at most that.
@@ -68,8 +48,8 @@ fn drawn_priority(draws: &mut Draws, version: u8, order: u32, number: u32) -> u3
     rank * 10 + draws.below(10) + 1
 }
 
-/// A set of 2 or 3 tasks, of version 1 or 2.
-pub fn drawn_set(alloc: Global, draws: &mut Draws) -> Result<TaskSet, Fail> {
+/// A set of 2 or 3 tasks, of version 1 or 2. None where it doesn't keep the limits, which none does.
+pub fn drawn_set(alloc: Global, draws: &mut Draws) -> Result<Option<TaskSet>, Memory> {
     let version = draws.below(2) as u8 + 1;
     let order = draws.below(6);
     let count = draws.below(2) + 2;
@@ -78,5 +58,5 @@ pub fn drawn_set(alloc: Global, draws: &mut Draws) -> Result<TaskSet, Fail> {
         let priority = drawn_priority(draws, version, order, number);
         tasks.push(drawn_task(alloc, draws, number, priority)?)?;
     }
-    Ok(task_set(version, Row::from_vec(tasks)).ok_or("within the limits")?)
+    Ok(task_set(version, Row::from_vec(tasks)))
 }
