@@ -1,3 +1,4 @@
 mod Firsts
 mod Posed
+mod Texts
 mod Vertices
