@@ -1,4 +1,4 @@
--- What is promised of `response` agrees. It stands on what is promised of `sp`: a no is the same.
+-- What is promised of `response` agrees. A no is that of `sp`.
 use Rattle.std.proofs.Common.{◌≡◌, ◌<◌, ◌⊎◌, ℕ, List, Result, Ok, Err, IfOk, inl, inr, refl, sym, subst, arith}
 use Rattle.drt_model.specs.Contents.{Contents}
 use Rattle.drt_model.specs.Limits.{IsTaskSet}
