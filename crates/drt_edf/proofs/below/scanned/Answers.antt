@@ -2,7 +2,7 @@ use Rattle.std.proofs.Common.{arith, subst, sym}
 use Rattle.std.specs.Prelude.{Ok, None, Some}
 use Rattle.drt_graph.specs.Graphs.{AreGraphs}
 use Rattle.drt_horizon.specs.declared.answers.Horizon.TheVariants.{Under}
-use Rattle.drt_horizon.specs.Demands.{IsLeastExcess}
+use Rattle.drt_rates.specs.Demands.{IsLeastExcess}
 use Rattle.drt_horizon.specs.Given.{AreGiven}
 use Rattle.drt_horizon.specs.Plans.{IsPlan}
 use Rattle.drt_horizon.proofs.Givens.{given_small}

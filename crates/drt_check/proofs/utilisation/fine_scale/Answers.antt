@@ -1,0 +1,5 @@
+use Rattle.drt_check.proofs.Bounds.{claims_small, not_fine}
+use Rattle.drt_check.proofs.utilisation.fine_scale.Goals as goal
+
+pub scale-requires : goal.scale-requires
+scale-requires c = claims_small c.args.ratios.now c.requires.in_range
