@@ -1,23 +1,28 @@
-//! A claimed ratio, for the arithmetic of ratios.
+//! How claimed ratios are read, for the arithmetic of ratios.
 ghost use Rattle.drt_evidence.specs.Claims.{fraction_of};
 
 use drt_evidence::RatioClaim;
 use drt_rates::Rated;
 
-impl Rated for RatioClaim {
+/// The reading of claimed ratios.
+pub struct Claimed;
+
+impl Rated for Claimed {
+    type Item = RatioClaim;
+
     ghost fraction = { fraction_of };
 
     ghost heights = { λ c. c.potentials };
 
-    fn num(&self) -> u128 {
-        self.num as u128
+    fn num(claim: &RatioClaim) -> u128 {
+        claim.num as u128
     }
 
-    fn den(&self) -> u128 {
-        self.den as u128
+    fn den(claim: &RatioClaim) -> u128 {
+        claim.den as u128
     }
 
-    fn potentials(&self) -> &[i64] {
-        self.potentials.as_slice()
+    fn potentials(claim: &RatioClaim) -> &[i64] {
+        claim.potentials.as_slice()
     }
 }

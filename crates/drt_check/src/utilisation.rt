@@ -5,6 +5,7 @@ ghost use Rattle.drt_evidence.specs.Claims.{HaveUtilisationBelowOne, HaveUtilisa
 ghost use Rattle.drt_evidence.specs.Ranges.{IsInRangeRatio};
 ghost use Rattle.drt_check.specs.Deciding.{HaveHorizon, HaveNearHorizon};
 
+use crate::rated::Claimed;
 use drt_evidence::RatioClaim;
 use drt_graph::Graphs;
 use drt_rates::{horizon, rate, scale};
@@ -14,7 +15,7 @@ pub fn is_fine(ratios: &[RatioClaim]) -> bool
     requires { All IsInRangeRatio ratios.now }
     ensures { IsTrue result ↔ IsFine ratios.now }
 {
-    scale(ratios).is_some()
+    scale::<Claimed>(ratios).is_some()
 }
 
 // That scale, where it is known to be at most 2^60.
@@ -24,7 +25,7 @@ fn fine_scale(ratios: &[RatioClaim]) -> u64
     ensures scale { IsScale (fractions ratios.now) result }
     ensures most { result ≤ 2 ^ 60 }
 {
-    match scale(ratios) {
+    match scale::<Claimed>(ratios) {
         Some(common) => common,
         None => unreachable!(),
     }
@@ -38,7 +39,7 @@ pub fn is_below_one(ratios: &[RatioClaim]) -> bool
     ensures { IsTrue result ↔ HaveUtilisationBelowOne ratios.now }
 {
     let common = fine_scale(ratios);
-    rate(ratios, common) < common as u128
+    rate::<Claimed>(ratios, common) < common as u128
 }
 
 /// Whether the utilisation of the ratios is one.
@@ -49,7 +50,7 @@ pub fn is_one(ratios: &[RatioClaim]) -> bool
     ensures { IsTrue result ↔ HaveUtilisationOne ratios.now }
 {
     let common = fine_scale(ratios);
-    rate(ratios, common) == common as u128
+    rate::<Claimed>(ratios, common) == common as u128
 }
 
 /// The horizon that the ratios and potentials give.
@@ -60,7 +61,7 @@ pub fn horizon_of(graphs: &Graphs, ratios: &[RatioClaim]) -> u128
 {
     graphs.count();
     let common = fine_scale(ratios);
-    horizon(graphs, ratios, common, rate(ratios, common))
+    horizon::<Claimed>(graphs, ratios, common, rate::<Claimed>(ratios, common))
 }
 
 /// That horizon, where it is known to be at most 2^40 ticks.

@@ -18,17 +18,17 @@ pub fn plan(graphs: &Graphs, proofs: &[RatioProof]) -> Result<Horizon, Beyond>
     ensures { IsPlan graphs.now proofs.now result }
 {
     let _count = graphs.count();
-    let Some(common) = scale(proofs) else {
+    let Some(common) = scale::<RatioProof>(proofs) else {
         return Err(Beyond::TooFine);
     };
-    let sum = rate(proofs, common);
+    let sum = rate::<RatioProof>(proofs, common);
     if sum == common as u128 {
         return Ok(Horizon::One);
     }
     if sum > common as u128 {
         return Ok(Horizon::Over);
     }
-    let bound = horizon(graphs, proofs, common, sum);
+    let bound = horizon::<RatioProof>(graphs, proofs, common, sum);
     if bound > GREATEST_BOUND {
         return Err(Beyond::TooFar);
     }

@@ -2,23 +2,26 @@
 ghost use Rattle.std.specs.Prelude.{◌≡◌, ℤ, List};
 ghost use Rattle.drt_model.specs.Utilisation.{Fraction};
 
-/// A ratio of a graph with potentials, found or claimed.
+/// How items are read as ratios of graphs with potentials, found or claimed.
 pub trait Rated {
-    // The ratio.
-    ghost fraction: { Self → Fraction };
+    /// What has a ratio and potentials.
+    type Item;
 
-    // The potentials.
-    ghost heights: { Self → List ℤ };
+    // The ratio of an item.
+    ghost fraction: { Self.Item → Fraction };
+
+    // The potentials of an item.
+    ghost heights: { Self.Item → List ℤ };
 
     /// The numerator of the ratio.
-    fn num(&self) -> u128
-        ensures { result ≡ (fraction self.now).num };
+    fn num(item: &Self::Item) -> u128
+        ensures { result ≡ (fraction item.now).num };
 
     /// The denominator of the ratio.
-    fn den(&self) -> u128
-        ensures { result ≡ (fraction self.now).den };
+    fn den(item: &Self::Item) -> u128
+        ensures { result ≡ (fraction item.now).den };
 
     /// The potential of each vertex, in order.
-    fn potentials(&self) -> &[i64]
-        ensures { result.now ≡ heights self.now };
+    fn potentials(item: &Self::Item) -> &[i64]
+        ensures { result.now ≡ heights item.now };
 }

@@ -17,19 +17,21 @@ pub struct RatioProof {
 }
 
 impl Rated for RatioProof {
+    type Item = RatioProof;
+
     ghost fraction = { fraction_of };
 
     ghost heights = { λ p. p.potentials };
 
-    fn num(&self) -> u128 {
-        self.ratio.num()
+    fn num(proof: &RatioProof) -> u128 {
+        proof.ratio.num()
     }
 
-    fn den(&self) -> u128 {
-        self.ratio.den()
+    fn den(proof: &RatioProof) -> u128 {
+        proof.ratio.den()
     }
 
-    fn potentials(&self) -> &[i64] {
-        self.potentials.as_slice()
+    fn potentials(proof: &RatioProof) -> &[i64] {
+        proof.potentials.as_slice()
     }
 }

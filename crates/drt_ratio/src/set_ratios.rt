@@ -14,10 +14,10 @@ pub fn utilisation(proofs: &[RatioProof]) -> Option<Ratio>
     requires few { length proofs.now ≤ 32 }
     ensures { MatchOption result (IsTooFine (fractions_of proofs.now)) (λ sum. IsUtilisation (fractions_of proofs.now) sum.num sum.den) }
 {
-    let Some(common) = scale(proofs) else {
+    let Some(common) = scale::<RatioProof>(proofs) else {
         return None;
     };
-    Some(Ratio::new(rate(proofs, common), common as u128))
+    Some(Ratio::new(rate::<RatioProof>(proofs, common), common as u128))
 }
 
 /// What `greatest` gives for each graph of a set are the ratios of the set.

@@ -23,8 +23,8 @@ returns-then-sum-common-2 c = (c.in-Some.common, c.in-Some.ensures.0, (c.in-Some
 
 pub returns-then-bound-gt-GREATEST_BOUND : goal.returns-then-bound-gt-GREATEST_BOUND
 returns-then-bound-gt-GREATEST_BOUND c =
-    (c.in-Some.common, c.in-Some.ensures.0, rw (← c.rate-sum.ensures, ← c.horizon-bound.ensures) (c.in-Some.ensures.1, omega arith, omega arith))
+    (c.in-Some.common, c.in-Some.ensures.0, rw (← c.horizon-bound.ensures, ← c.rate-sum.ensures) (c.in-Some.ensures.1, omega arith, omega arith))
 
 pub returns : goal.returns
 returns c =
-    (c.in-Some.common, c.in-Some.ensures.0, rw (← c.rate-sum.ensures, ← c.horizon-bound.ensures) (c.in-Some.ensures.1, omega arith, omega arith, refl))
+    (c.in-Some.common, c.in-Some.ensures.0, rw (← c.horizon-bound.ensures, ← c.rate-sum.ensures) (c.in-Some.ensures.1, omega arith, omega arith, refl))
