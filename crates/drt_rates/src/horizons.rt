@@ -17,8 +17,9 @@ fn extra_at<R: Rated>(graph: &Graph, ratio: &R::Item, scale: u64) -> u128
     ensures value { result ≡ above_zero (constant_of graph.now (R.fraction ratio.now).num (R.fraction ratio.now).den (R.heights ratio.now)) * (scale / (R.fraction ratio.now).den) }
     ensures most { result ≤ 25364273101350633472000000000000000 }
 {
+    let num = R::num(ratio) as u64;
     let den = R::den(ratio);
-    let above = constant(graph, R::num(ratio) as u64, den as u64, R::potentials(ratio));
+    let above = constant(graph, num, den as u64, R::potentials(ratio));
     above as u128 * (scale as u128 / den)
 }
 

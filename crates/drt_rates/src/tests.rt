@@ -30,7 +30,7 @@ impl Rated for Given {
     }
 }
 
-fn given(num: u32, den: u32) -> Given
+fn fraction(num: u32, den: u32) -> Given
     ensures num { result.num ≡ num }
     ensures den { result.den ≡ den }
 {
@@ -44,22 +44,22 @@ fn given(num: u32, den: u32) -> Given
 #[test]
 fn scales_and_rates_by_hand(rt: HostRuntime) {
     // 14 + 20 of 35.
-    let two = [given(2, 5), given(4, 7)];
+    let two = [fraction(2, 5), fraction(4, 7)];
     assert_eq!(rt; scale::<Given>(&two), Some(35));
     assert_eq!(rt; rate::<Given>(&two, 35), 34);
     // 5 + 3 of 10.
-    let lowest = [given(1, 2), given(3, 10)];
+    let lowest = [fraction(1, 2), fraction(3, 10)];
     assert_eq!(rt; scale::<Given>(&lowest), Some(10));
     assert_eq!(rt; rate::<Given>(&lowest, 10), 8);
     // The least common multiple of 4 and 6 is 12.
-    let shared = [given(1, 4), given(1, 6)];
+    let shared = [fraction(1, 4), fraction(1, 6)];
     assert_eq!(rt; scale::<Given>(&shared), Some(12));
     // The least common multiple is 499997000005499997000000, above 2^60.
     let fine = [
-        given(1, 1000000),
-        given(1, 999999),
-        given(1, 999998),
-        given(1, 999997),
+        fraction(1, 1000000),
+        fraction(1, 999999),
+        fraction(1, 999998),
+        fraction(1, 999997),
     ];
     assert_eq!(rt; scale::<Given>(&fine), None);
 }
