@@ -15,7 +15,10 @@ pub fn is_fine(ratios: &[RatioClaim]) -> bool
     requires { All IsInRangeRatio ratios.now }
     ensures { IsTrue result ↔ IsFine ratios.now }
 {
-    scale::<Claimed>(ratios).is_some()
+    match scale::<Claimed>(ratios) {
+        Some(_) => true,
+        None => false,
+    }
 }
 
 // That scale, where it is known to be at most 2^60.
