@@ -18,7 +18,7 @@ use Rattle.drt_edf.proofs.Yes.{is_yes}
 use Rattle.drt_edf.proofs.below.scanned.Goals as goal
 
 pub scan-requires : goal.scan-requires
-scan-requires c = rw c.as_slice.ensures (fronts_within c.args.graphs.now c.args.bound c.args.fronts c.requires.fronts)
+scan-requires c = record { fronts = rw c.as_slice.ensures (fronts_within c.args.graphs.now c.args.bound c.args.fronts c.requires.fronts) }
 
 pub claims_of-requires : goal.claims_of-requires
 claims_of-requires c = given_small c.args.graphs.now c.args.proofs c.requires.given

@@ -4,7 +4,7 @@ use Rattle.drt_check.proofs.Rooms.{fronts_within, no_room, room}
 use Rattle.drt_check.proofs.fronts.room.have_room.Goals as goal
 
 pub scan-requires : goal.scan-requires
-scan-requires c = fronts_within c.args.bound c.args.graphs.now c.args.fronts.now c.requires.1
+scan-requires c = record { fronts = fronts_within c.args.bound c.args.graphs.now c.args.fronts.now c.requires.1 }
 
 pub returns-in-Some : goal.returns-in-Some
 returns-in-Some c =
