@@ -1,31 +1,35 @@
--- The first excess among the works of the fronts against the room of the fronts.
-use Rattle.std.proofs.Common.{◌≡◌, ℕ, ◌≤◌, List, [], ◌∷◌, All, length, arith}
+-- The least time with too much demand against the room of the fronts.
+use Rattle.std.proofs.Common.{ℕ, ◌≤◌, ◌<◌, List, [], ◌∷◌, All, arith}
 use Rattle.std.specs.Prelude.{Some, None}
 use Rattle.drt_model.specs.Digraph.{Digraph}
-use Rattle.drt_sweep.specs.DueWorks.{IsFirstExcess, works_of}
-use Rattle.drt_sweep.proofs.Lists.{sums_same}
 use Rattle.drt_model.specs.declared.front.FrontEntry.{FrontEntry}
 use Rattle.drt_evidence.specs.Claims.{Each}
-use Rattle.drt_evidence.specs.Fronts.{due, works_due, HaveRoom}
+use Rattle.drt_evidence.specs.Fronts.{IsOrdered, due, works_due, HaveRoom}
+use Rattle.drt_rates.specs.Demands.{AreFronts, IsLeastExcess}
 use Rattle.drt_check.proofs.SoundRoom.{room_at}
 
--- What holds at each time holds at those at which entries are due.
-at_dues : (P : ℕ → Type 0) → ((t : ℕ) → P t) → (graphs : List Digraph) (fronts : List (List FrontEntry)) → length fronts ≡ length graphs
+-- Fronts in order are within the bound.
+pub fronts_within : (bound : ℕ) (graphs : List Digraph) (fronts : List (List FrontEntry)) → Each (IsOrdered bound) graphs fronts → AreFronts bound graphs fronts
+fronts_within bound [] [] each = tt
+fronts_within bound [] (f ∷ fronts) each = absurd each
+fronts_within bound (g ∷ graphs) [] each = absurd each
+fronts_within bound (g ∷ graphs) (f ∷ fronts) each = (each.0.0, fronts_within bound graphs fronts each.1)
+
+-- What holds at each time up to the bound holds at those at which entries are due.
+at_dues : (P : ℕ → Type 0) (bound : ℕ) → ((t : ℕ) → t ≤ bound → P t) → (graphs : List Digraph) (fronts : List (List FrontEntry)) → AreFronts bound graphs fronts
     → Each (λ g front. All (λ e. P (due g e)) front) graphs fronts
-at_dues P all [] [] count = tt
-at_dues P all [] (f ∷ fronts) count = absurd (omega arith)
-at_dues P all (g ∷ graphs) [] count = absurd (omega arith)
-at_dues P all (g ∷ graphs) (f ∷ fronts) count = (λ k d l. all _, at_dues P all graphs fronts (omega arith))
+at_dues P bound all [] [] are = tt
+at_dues P bound all [] (f ∷ fronts) are = absurd are
+at_dues P bound all (g ∷ graphs) [] are = absurd are
+at_dues P bound all (g ∷ graphs) (f ∷ fronts) are = (λ k d l. all _ (are.0 k d l).1, at_dues P bound all graphs fronts are.1)
 
--- Where there is no excess, there is room.
-pub room : (graphs : List Digraph) (fronts : List (List FrontEntry)) → length fronts ≡ length graphs → length graphs ≤ 32
-    → IsFirstExcess (works_of due (λ e. e.work) 0 graphs fronts) None → HaveRoom graphs fronts
-room graphs fronts count few none =
-    at_dues (λ t. works_due graphs fronts t ≤ t) (λ t. (let e = sums_same due (λ e. e.work) graphs fronts t few in omega (arith, e, none t))) graphs fronts count
+-- Where no time up to the bound has too much demand, there is room.
+pub room : (graphs : List Digraph) (fronts : List (List FrontEntry)) (bound : ℕ) → AreFronts bound graphs fronts → IsLeastExcess graphs fronts bound None → HaveRoom graphs fronts
+room graphs fronts bound are none = at_dues (λ t. works_due graphs fronts t ≤ t) bound none graphs fronts are
 
--- Where there is one, there is no room.
-pub no_room : (graphs : List Digraph) (fronts : List (List FrontEntry)) (t : ℕ) → length graphs ≤ 32 → IsFirstExcess (works_of due (λ e. e.work) 0 graphs fronts) (Some t) → HaveRoom graphs fronts → ⊥
-no_room graphs fronts t few first has =
-    let e = sums_same due (λ e. e.work) graphs fronts t few in
+-- Where one has, there is no room.
+pub no_room : (graphs : List Digraph) (fronts : List (List FrontEntry)) (bound t : ℕ) → IsLeastExcess graphs fronts bound (Some t) → HaveRoom graphs fronts → ⊥
+no_room graphs fronts bound t least has =
+    let over : t < works_due graphs fronts t = least.1 in
     let fits = room_at graphs fronts has t in
-    omega (arith, e, fits, first.1)
+    absurd (omega (arith, over, fits))

@@ -6,15 +6,13 @@
 
 mod checking;
 mod claimed;
-mod constants;
 mod fronts;
-mod horizons;
 mod judgement;
 mod laws;
 mod parts;
+mod rated;
 mod releases;
 mod rules;
-mod scales;
 mod utilisation;
 
 pub use checking::check;

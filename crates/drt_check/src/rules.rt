@@ -10,8 +10,7 @@ use crate::claimed::{ClaimRule, all_keep, are_lowest};
 use crate::fronts::{are_closed, are_in_order, have_openings, have_room};
 use crate::parts::{fronts_of, is_of_policy, miss_of, proofs_of, ratios_of, releases_of, trees_of};
 use crate::releases::is_least_miss;
-use crate::scales::scale;
-use crate::utilisation::{horizon_of, is_below_one, is_one, near_horizon};
+use crate::utilisation::{horizon_of, is_below_one, is_fine, is_one, near_horizon};
 use drt_check_proofs::{have_passing_times, have_shapes, is_proof_per_vertex};
 use drt_check_trees::{
     are_trees, cover_walks, have_short_walks, is_tree_per_higher_task, priority_order,
@@ -111,7 +110,7 @@ pub fn keeps(alloc: Global, rule: Rule, graphs: &Graphs, dossier: &Dossier) -> R
         Rule::FittingPotentials => Ok(all_keep(ClaimRule::Fits, graphs, ratios)),
         Rule::ClosedCycles => Ok(all_keep(ClaimRule::Closed, graphs, ratios)),
         Rule::TightCycles => Ok(all_keep(ClaimRule::Tight, graphs, ratios)),
-        Rule::FineScale => Ok(scale(ratios).is_some()),
+        Rule::FineScale => Ok(is_fine(ratios)),
         Rule::ClaimedUtilisation => Ok(has_claimed_utilisation(graphs, dossier)),
         Rule::NearHorizon => Ok(horizon_of(graphs, ratios) <= GREATEST_HORIZON),
         Rule::OrderedFronts => Ok(are_in_order(graphs, fronts, near_horizon(graphs, ratios))),

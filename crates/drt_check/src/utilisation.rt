@@ -1,13 +1,38 @@
 //! What claimed ratios come to: whether their utilisation is the claimed one, and the horizon that they give.
 ghost use Rattle.std.specs.Prelude.{◌≡◌, ◌≤◌, ◌^◌, ◌↔◌, All, IsTrue, length};
-ghost use Rattle.drt_evidence.specs.Claims.{HaveUtilisationBelowOne, HaveUtilisationOne, IsFine, IsHorizon};
+ghost use Rattle.drt_model.specs.Utilisation.{IsScale};
+ghost use Rattle.drt_evidence.specs.Claims.{HaveUtilisationBelowOne, HaveUtilisationOne, IsFine, IsHorizon, fractions};
 ghost use Rattle.drt_evidence.specs.Ranges.{IsInRangeRatio};
 ghost use Rattle.drt_check.specs.Deciding.{HaveHorizon, HaveNearHorizon};
 
-use crate::horizons::horizon;
-use crate::scales::{rate, scale};
+use crate::rated::Claimed;
 use drt_evidence::RatioClaim;
 use drt_graph::Graphs;
+use drt_rates::{horizon, rate, scale};
+
+/// Whether the scale of the ratios is at most 2^60.
+pub fn is_fine(ratios: &[RatioClaim]) -> bool
+    requires { All IsInRangeRatio ratios.now }
+    ensures { IsTrue result ↔ IsFine ratios.now }
+{
+    match scale::<Claimed>(ratios) {
+        Some(_) => true,
+        None => false,
+    }
+}
+
+// That scale, where it is known to be at most 2^60.
+fn fine_scale(ratios: &[RatioClaim]) -> u64
+    requires in_range { All IsInRangeRatio ratios.now }
+    requires fine { IsFine ratios.now }
+    ensures scale { IsScale (fractions ratios.now) result }
+    ensures most { result ≤ 2 ^ 60 }
+{
+    match scale::<Claimed>(ratios) {
+        Some(common) => common,
+        None => unreachable!(),
+    }
+}
 
 /// Whether the utilisation of the ratios is below one.
 pub fn is_below_one(ratios: &[RatioClaim]) -> bool
@@ -16,10 +41,8 @@ pub fn is_below_one(ratios: &[RatioClaim]) -> bool
     requires fine { IsFine ratios.now }
     ensures { IsTrue result ↔ HaveUtilisationBelowOne ratios.now }
 {
-    match scale(ratios) {
-        Some(common) => rate(ratios, common) < common as u128,
-        None => unreachable!(),
-    }
+    let common = fine_scale(ratios);
+    rate::<Claimed>(ratios, common) < common as u128
 }
 
 /// Whether the utilisation of the ratios is one.
@@ -29,10 +52,8 @@ pub fn is_one(ratios: &[RatioClaim]) -> bool
     requires fine { IsFine ratios.now }
     ensures { IsTrue result ↔ HaveUtilisationOne ratios.now }
 {
-    match scale(ratios) {
-        Some(common) => rate(ratios, common) == common as u128,
-        None => unreachable!(),
-    }
+    let common = fine_scale(ratios);
+    rate::<Claimed>(ratios, common) == common as u128
 }
 
 /// The horizon that the ratios and potentials give.
@@ -42,10 +63,8 @@ pub fn horizon_of(graphs: &Graphs, ratios: &[RatioClaim]) -> u128
     ensures { IsHorizon graphs.now ratios.now result }
 {
     graphs.count();
-    match scale(ratios) {
-        Some(common) => horizon(graphs, ratios, common, rate(ratios, common)),
-        None => unreachable!(),
-    }
+    let common = fine_scale(ratios);
+    horizon::<Claimed>(graphs, ratios, common, rate::<Claimed>(ratios, common))
 }
 
 /// That horizon, where it is known to be at most 2^40 ticks.

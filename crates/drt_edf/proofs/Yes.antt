@@ -19,7 +19,7 @@ use Rattle.drt_ratio.specs.declared.ratio_proof.RatioProof.{RatioProof}
 use Rattle.drt_ratio.proofs.Optima.{path_sums}
 use Rattle.drt_graph.proofs.Paths.{path_both, last_both, work_both, span_both, work_cons, work_none, span_cons, span_none, path_within}
 use Rattle.drt_horizon.specs.declared.answers.Horizon.TheVariants.{Under}
-use Rattle.drt_horizon.specs.Demands.{demands}
+use Rattle.drt_rates.specs.Demands.{demands}
 use Rattle.drt_horizon.specs.Given.{AreGiven}
 use Rattle.drt_horizon.specs.Laws.{HorizonHolds}
 use Rattle.drt_horizon.specs.Plans.{IsPlan}

@@ -1,8 +1,11 @@
 -- The graphs and what is given for each, one after another.
 use Rattle.std.proofs.Common.{◌≡◌, suc, List, [], ◌∷◌, All, ◌++◌, length, refl, ap, arith}
+use Rattle.std.proofs.lemmas.Int.{ints}
 use Rattle.drt_model.specs.Digraph.{Digraph}
+use Rattle.drt_graph.specs.Fits.{AreNear}
 use Rattle.drt_ratio.specs.declared.ratio_proof.RatioProof.{RatioProof}
-use Rattle.drt_ratio.specs.SetRatios.{AreSmall}
+use Rattle.drt_ratio.specs.SetRatios.{AreSmall, fraction_of}
+use Rattle.drt_rates.specs.Rates.{AreRated}
 use Rattle.drt_horizon.specs.Given.{IsGiven, AreGiven}
 
 -- The first keeps what all keep.
@@ -26,6 +29,15 @@ given_small [] [] given = tt
 given_small [] (p ∷ proofs) given = absurd given
 given_small (g ∷ graphs) [] given = absurd given
 given_small (g ∷ graphs) (p ∷ proofs) given = (omega (arith, given.0.reach.num), omega (arith, given.0.reach.den), given_small graphs proofs given.1)
+
+-- Their numbers and potentials are within what their arithmetic needs.
+pub given_rated : (graphs : List Digraph) (proofs : List RatioProof) → AreGiven graphs proofs → AreRated fraction_of (λ p. p.potentials) graphs proofs
+given_rated [] [] given = tt
+given_rated [] (p ∷ proofs) given = absurd given
+given_rated (g ∷ graphs) [] given = absurd given
+given_rated (g ∷ graphs) (p ∷ proofs) given =
+    let near : AreNear g p.potentials = λ v l. (let low = given.0.reach.low v l in let high = given.0.reach.high v l in (omega (arith, ints, low), high)) in
+    ((record { num = omega (arith, given.0.reach.num); some = p.ratio.positive; den = omega (arith, given.0.reach.den) }, near), given_rated graphs proofs given.1)
 
 -- One more graph, with what is given for it.
 pub given_push : (graphs : List Digraph) (proofs : List RatioProof) (g : Digraph) (p : RatioProof) → AreGiven graphs proofs → IsGiven g p → AreGiven (graphs ++ g ∷ []) (proofs ++ p ∷ [])

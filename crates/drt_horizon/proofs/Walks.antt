@@ -13,7 +13,7 @@ use Rattle.drt_graph.proofs.Paths.{work_none}
 use Rattle.drt_horizon.specs.declared.answers.Horizon.TheVariants.{Under}
 use Rattle.drt_horizon.specs.Given.{AreGiven}
 use Rattle.drt_horizon.specs.Plans.{IsPlan}
-use Rattle.drt_horizon.specs.Demands.{demands}
+use Rattle.drt_rates.specs.Demands.{demands}
 use Rattle.drt_horizon.specs.Laws.{IsDue, AreDue, efforts, IsWalkLabel, AreWalkFronts}
 use Rattle.drt_horizon.proofs.Horizons.{horizon_holds}
 

@@ -1,5 +1,5 @@
 -- The graphs of a set with what the search for the greatest ratio gives for each.
-use Rattle.std.specs.Prelude.{ℤ, List, [], ◌∷◌}
+use Rattle.std.specs.Prelude.{ℤ, List, [], ◌∷◌, map}
 use Rattle.drt_model.specs.Digraph.{Digraph}
 use Rattle.drt_model.specs.RatioRules.{ProvesRatio}
 use Rattle.drt_ratio.specs.declared.ratio_proof.RatioProof.{RatioProof}
@@ -20,5 +20,4 @@ AreGiven (g ∷ graphs) (p ∷ proofs) = IsGiven g p × AreGiven graphs proofs
 
 -- The potentials of each, in order.
 abbrev pub potentials_of : List RatioProof → List (List ℤ)
-potentials_of [] = []
-potentials_of (p ∷ proofs) = p.potentials ∷ potentials_of proofs
+potentials_of proofs = map (λ p. p.potentials) proofs

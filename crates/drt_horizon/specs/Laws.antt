@@ -13,7 +13,7 @@ use Rattle.drt_ratio.specs.SetRatios.{fractions_of}
 use Rattle.drt_horizon.specs.declared.answers.Horizon.TheVariants.{Under}
 use Rattle.drt_horizon.specs.declared.answers.Over.TheVariants.{Spent}
 use Rattle.drt_horizon.specs.Given.{AreGiven}
-use Rattle.drt_horizon.specs.Demands.{demands}
+use Rattle.drt_rates.specs.Demands.{demands}
 use Rattle.drt_horizon.specs.Plans.{IsPlan, IsAboveOne, rate_at}
 use Rattle.drt_horizon.specs.CycleTurns.{cycle_turns_of, cycle_turn_works, turned, IsStep, IsOver}
 

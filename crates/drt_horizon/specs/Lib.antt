@@ -2,4 +2,3 @@ pub mod Given
 pub mod Plans
 pub mod CycleTurns
 pub mod Laws
-pub mod Demands

@@ -5,25 +5,23 @@
 //! the ratios ask for too much by themselves, and `overload` searches their step times; `overload_has_a_time` bounds where
 //! that search ends.
 //!
-//! `scan` looks for the least time up to a horizon at which the demands of the tasks over their fronts are too much;
-//! `demands_within` is that there is none past the horizon, where the fronts' labels are those of walks.
+//! `drt_rates::scan` looks for the least time up to a horizon at which the demands of the tasks over their fronts are too
+//! much; `demands_within` is that there is none past the horizon, where the fronts' labels are those of walks.
 #![tactic(auto)]
 
 mod answers;
-mod constants;
 mod cycle_turns;
 mod given;
 mod laws;
 mod plans;
-mod scanning;
 mod searching;
 #[cfg(test)]
 mod tests;
 
 pub use answers::{Beyond, Horizon, Over};
 pub use cycle_turns::CycleTurn;
+pub use drt_rates::scan;
 pub use given::ratios;
 pub use laws::{demands_within, horizon_holds, overload_has_a_time, search_ends, work_is_bounded};
 pub use plans::plan;
-pub use scanning::scan;
 pub use searching::overload;

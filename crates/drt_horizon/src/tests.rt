@@ -1,5 +1,5 @@
 ghost use Rattle.std.specs.Prelude.{◌≤◌, IfOk};
-ghost use Rattle.drt_horizon.specs.Demands.{AreFronts, IsFront};
+ghost use Rattle.drt_rates.specs.Demands.{AreFronts, IsFront};
 
 use super::{Beyond, Horizon, Over, overload, plan, ratios, scan};
 use drt_graph::{Graph, Graphs, check};

@@ -1,21 +1,17 @@
--- The scale of a set, and the ratios of its graphs.
-use Rattle.std.proofs.Common.{ℕ, ◌≤◌, List, [], ◌∷◌}
-use Rattle.drt_num.proofs.CommonMultiples.{lcm_exists}
+-- The ratios of a set, and of its graphs.
+use Rattle.std.proofs.Common.{ℕ, zero, suc, List, [], ◌∷◌, All, arith}
 use Rattle.drt_model.specs.Digraph.{Digraph}
-use Rattle.drt_model.specs.Utilisation.{IsScale, IsRatio, AreRatios}
-use Rattle.drt_graph.proofs.Scales.{scale_none, scale_cons}
+use Rattle.drt_model.specs.Utilisation.{IsRatio, AreRatios}
+use Rattle.drt_rates.specs.Rates.{IsSmall}
 use Rattle.drt_ratio.specs.declared.ratio_proof.RatioProof.{RatioProof}
 use Rattle.drt_ratio.specs.Claims.{IsRatioProof}
-use Rattle.drt_ratio.specs.SetRatios.{AreRatioProofs, fraction_of, fractions_of}
+use Rattle.drt_ratio.specs.SetRatios.{AreRatioProofs, AreSmall, fraction_of, fractions_of}
 
--- The claims have a scale.
-pub scale_exists : (ps : List RatioProof) → (scale : ℕ) × IsScale (fractions_of ps) scale
-scale_exists [] = (1, scale_none)
-scale_exists (p ∷ ps) =
-    let s = scale_exists ps in
-    let some : 1 ≤ p.ratio.den = p.ratio.positive in
-    let m = lcm_exists s.0 p.ratio.den some in
-    (m.0, scale_cons (fraction_of p) (fractions_of ps) s.0 m.0 s.1 some m.1)
+-- Claims with small numbers have small ratios, since a ratio's denominator is at least 1.
+pub ratios_small : (ps : List RatioProof) → AreSmall ps → All (λ p. IsSmall (fraction_of p)) ps
+ratios_small [] small k d l = absurd (omega arith)
+ratios_small (p ∷ ps) small zero d l = record { num = small.0; some = p.ratio.positive; den = small.1 }
+ratios_small (p ∷ ps) small (suc k) d l = ratios_small ps small.2 k d (omega arith)
 
 ratio_of : (g : Digraph) (p : RatioProof) → IsRatioProof g p.ratio.num p.ratio.den p.cycle p.potentials → IsRatio g (fraction_of p)
 ratio_of g p is = record { lowest = is.lowest; least = is.least; cycle = p.cycle; has = is.has }

@@ -1,5 +1,5 @@
 -- The ratios of a set, as its claims have them.
-use Rattle.std.specs.Prelude.{◌≡◌, ℕ, ◌*◌, ◌^◌, ◌<◌, ◌≤◌, List, [], ◌∷◌, map}
+use Rattle.std.specs.Prelude.{◌≡◌, ℕ, ◌*◌, ◌^◌, ◌≤◌, List, [], ◌∷◌, map}
 use Rattle.std.specs.Int.{IsGcd}
 use Rattle.drt_model.specs.Digraph.{Digraph}
 use Rattle.drt_model.specs.Utilisation.{Fraction, AreRatios, IsScale, rate}
@@ -18,10 +18,6 @@ fractions_of proofs = map fraction_of proofs
 abbrev pub AreSmall : List RatioProof → Type 0
 AreSmall [] = Unit {0}
 AreSmall (p ∷ proofs) = (p.ratio.num ≤ 1000000000) × (p.ratio.den ≤ 1000000000) × AreSmall proofs
-
--- The scale of the ratios exceeds 2^60.
-abbrev pub IsTooFine : List Fraction → Type 0
-IsTooFine ratios = (scale : ℕ) × IsScale ratios scale × (2 ^ 60 < scale)
 
 -- The fraction a / b is the rate of the ratios over their scale, in lowest terms, where the scale is at most 2^60.
 abbrev pub IsUtilisation : List Fraction → ℕ → ℕ → Type 0

@@ -8,7 +8,7 @@
 //! vertices. If the last round still raises the gain of some walk, the walk goes round a cycle with a greater ratio, and
 //! that ratio is the next one. If not, the ratio is the greatest, and the last gains are the potentials.
 //!
-//! `scale`, `rate` and `utilisation` are those of the ratios of a set of tasks.
+//! `utilisation` is that of the ratios of a set of tasks.
 #![tactic(auto)]
 
 mod checking;
@@ -23,4 +23,4 @@ mod traces;
 pub use checking::check_ratio;
 pub use improving::greatest;
 pub use ratio_proof::RatioProof;
-pub use set_ratios::{proofs_give_ratios, rate, scale, utilisation};
+pub use set_ratios::{proofs_give_ratios, utilisation};

@@ -1,6 +1,9 @@
 //! A ratio with its evidence.
+ghost use Rattle.drt_ratio.specs.SetRatios.{fraction_of};
+
 use drt_model::Row;
 use drt_num::Ratio;
+use drt_rates::Rated;
 
 /// A ratio of a graph, a cycle that has it, and a potential for each vertex.
 ///
@@ -11,4 +14,24 @@ pub struct RatioProof {
     pub ratio: Ratio,
     pub cycle: Row<u32>,
     pub potentials: Row<i64>,
+}
+
+impl Rated for RatioProof {
+    type Item = RatioProof;
+
+    ghost fraction = { fraction_of };
+
+    ghost heights = { λ p. p.potentials };
+
+    fn num(proof: &RatioProof) -> u128 {
+        proof.ratio.num()
+    }
+
+    fn den(proof: &RatioProof) -> u128 {
+        proof.ratio.den()
+    }
+
+    fn potentials(proof: &RatioProof) -> &[i64] {
+        proof.potentials.as_slice()
+    }
 }

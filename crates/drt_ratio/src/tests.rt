@@ -4,7 +4,7 @@ ghost use Rattle.std.specs.Prelude.{◌<◌, ◌≤◌};
 mod enumeration;
 
 use self::enumeration::greatest_of_simple;
-use super::{RatioProof, check_ratio, greatest, rate, scale, utilisation};
+use super::{RatioProof, check_ratio, greatest, utilisation};
 use drt_graph::{Graph, Graphs, check};
 use drt_model::{Edge, Memory, Name, Row, Task, Vertex, task_set};
 use drt_num::Ratio;
@@ -154,8 +154,6 @@ fn ratio(alloc: Global, num: u128, den: u128) -> RatioProof
 fn utilisations_by_hand(rt: HostRuntime) -> Result<(), Fail> {
     let alloc = rt.alloc();
     let two = [ratio(alloc, 2, 5), ratio(alloc, 4, 7)];
-    assert_eq!(rt; scale(&two), Some(35));
-    assert_eq!(rt; rate(&two, 35), 34);
     let sum = utilisation(&two).ok_or("in reach")?;
     assert_eq!(rt; (sum.num(), sum.den()), (34, 35));
     // Over 30 the sum is 8 + 6 + 3.
@@ -164,7 +162,6 @@ fn utilisations_by_hand(rt: HostRuntime) -> Result<(), Fail> {
     assert_eq!(rt; (sum.num(), sum.den()), (17, 30));
     // Over 10 the sum is 5 + 3, and 8/10 is 4/5.
     let lowest = [ratio(alloc, 1, 2), ratio(alloc, 3, 10)];
-    assert_eq!(rt; rate(&lowest, 10), 8);
     let sum = utilisation(&lowest).ok_or("in reach")?;
     assert_eq!(rt; (sum.num(), sum.den()), (4, 5));
     let none = [ratio(alloc, 0, 1)];
@@ -177,7 +174,6 @@ fn utilisations_by_hand(rt: HostRuntime) -> Result<(), Fail> {
         ratio(alloc, 1, 999998),
         ratio(alloc, 1, 999997),
     ];
-    assert_eq!(rt; scale(&fine), None);
     assert!(rt; utilisation(&fine).is_none());
     Ok(())
 }

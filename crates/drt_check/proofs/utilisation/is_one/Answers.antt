@@ -1,5 +1,9 @@
+use Rattle.drt_check.proofs.Bounds.{claims_small}
 use Rattle.drt_check.proofs.Rows.{one_at}
 use Rattle.drt_check.proofs.utilisation.is_one.Goals as goal
 
+pub rate-requires-clause-small : goal.rate-requires-clause-small
+rate-requires-clause-small c = claims_small c.args.ratios.now c.requires.in_range
+
 pub returns : goal.returns
-returns c = one_at c.args.ratios.now c.in-Some.common c.rate.result c.in-Some.ensures.0 c.rate.ensures
+returns c = one_at c.args.ratios.now c.fine_scale-common.result c.rate.result c.fine_scale-common.ensures.scale c.rate.ensures

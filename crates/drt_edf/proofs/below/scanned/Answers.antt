@@ -2,7 +2,7 @@ use Rattle.std.proofs.Common.{arith, subst, sym}
 use Rattle.std.specs.Prelude.{Ok, None, Some}
 use Rattle.drt_graph.specs.Graphs.{AreGraphs}
 use Rattle.drt_horizon.specs.declared.answers.Horizon.TheVariants.{Under}
-use Rattle.drt_horizon.specs.Demands.{IsLeastExcess}
+use Rattle.drt_rates.specs.Demands.{IsLeastExcess}
 use Rattle.drt_horizon.specs.Given.{AreGiven}
 use Rattle.drt_horizon.specs.Plans.{IsPlan}
 use Rattle.drt_horizon.proofs.Givens.{given_small}
@@ -17,8 +17,8 @@ use Rattle.drt_edf.proofs.Suffixes.{AreListed}
 use Rattle.drt_edf.proofs.Yes.{is_yes}
 use Rattle.drt_edf.proofs.below.scanned.Goals as goal
 
-pub scan-requires-clause-fronts : goal.scan-requires-clause-fronts
-scan-requires-clause-fronts c = rw c.as_slice.ensures (fronts_within c.args.graphs.now c.args.bound c.args.fronts c.requires.fronts)
+pub scan-requires : goal.scan-requires
+scan-requires c = record { fronts = rw c.as_slice.ensures (fronts_within c.args.graphs.now c.args.bound c.args.fronts c.requires.fronts) }
 
 pub claims_of-requires : goal.claims_of-requires
 claims_of-requires c = given_small c.args.graphs.now c.args.proofs c.requires.given

@@ -1,5 +1,5 @@
 -- The labels so far are a front.
-use Rattle.drt_horizon.specs.Demands.{IsFront}
+use Rattle.drt_rates.specs.Demands.{IsFront}
 use Rattle.drt_horizon.proofs.tests.front.Given as goal
 
 abbrev pub invariant-labels : goal.invariant-labels

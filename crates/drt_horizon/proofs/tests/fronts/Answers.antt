@@ -1,7 +1,7 @@
 use Rattle.std.proofs.Common.{◌<◌, length, arith}
 use Rattle.std.proofs.lemmas.List.{take_more}
 use Rattle.drt_graph.specs.Graphs.{no_graph, graph_of}
-use Rattle.drt_horizon.specs.Demands.{IsFront}
+use Rattle.drt_rates.specs.Demands.{IsFront}
 use Rattle.drt_horizon.proofs.Fronts.{fronts_push}
 use Rattle.drt_horizon.proofs.tests.fronts.Goals as goal
 

@@ -1,6 +1,6 @@
 -- The fronts so far are those of the graphs so far.
 use Rattle.std.proofs.Common.{take}
-use Rattle.drt_horizon.specs.Demands.{AreFronts}
+use Rattle.drt_rates.specs.Demands.{AreFronts}
 use Rattle.drt_horizon.proofs.tests.fronts.Given as goal
 
 abbrev pub invariant-tasks : goal.invariant-tasks

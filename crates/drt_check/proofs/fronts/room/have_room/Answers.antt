@@ -1,25 +1,19 @@
-use Rattle.std.proofs.Common.{◌≡◌, refl, subst}
-use Rattle.std.specs.Prelude.{None, Some}
-use Rattle.drt_sweep.specs.DueWorks.{IsFirstExcess, works_of}
-use Rattle.drt_sweep.proofs.Lists.{are_of_tasks}
-use Rattle.drt_evidence.specs.Fronts.{due}
-use Rattle.drt_check.proofs.Rooms.{no_room, room}
+use Rattle.std.proofs.Common.{refl, subst}
+use Rattle.drt_rates.specs.Demands.{IsLeastExcess}
+use Rattle.drt_check.proofs.Rooms.{fronts_within, no_room, room}
 use Rattle.drt_check.proofs.fronts.room.have_room.Goals as goal
 
-pub first_excess-requires : goal.first_excess-requires
-first_excess-requires c =
-    let built : c.in_ok-works.works.items ≡ works_of due (λ e. e.work) 0 c.args.graphs.now c.args.fronts.now = c.in_ok-works.ensures in
-    rw built (are_of_tasks due (λ e. e.work) c.args.graphs.now c.args.fronts.now c.count-count.ensures.kept.few)
+pub scan-requires : goal.scan-requires
+scan-requires c = record { fronts = fronts_within c.args.bound c.args.graphs.now c.args.fronts.now c.requires.1 }
 
 pub returns-in-Some : goal.returns-in-Some
 returns-in-Some c =
-    let built : c.in_ok-works.works.items ≡ works_of due (λ e. e.work) 0 c.args.graphs.now c.args.fronts.now = c.in_ok-works.ensures in
-    let first : IsFirstExcess c.in_ok-works.works.items (Some c.in-Some.field-0) = c.in-Some.ensures in
-    let none = no_room c.args.graphs.now c.args.fronts.now c.in-Some.field-0 c.count-count.ensures.kept.few (subst (λ works. IsFirstExcess works (Some c.in-Some.field-0)) built first) in
+    let some = subst (λ o. IsLeastExcess c.args.graphs.now c.args.fronts.now c.args.bound o) c.in-Some.is c.in_ok-scan.ensures in
+    let none = no_room c.args.graphs.now c.args.fronts.now c.args.bound c.in-Some.field-0 some in
     (λ e. absurd (cc), λ has. absurd (none has))
 
 pub returns-in-None : goal.returns-in-None
 returns-in-None c =
-    let built : c.in_ok-works.works.items ≡ works_of due (λ e. e.work) 0 c.args.graphs.now c.args.fronts.now = c.in_ok-works.ensures in
-    let first : IsFirstExcess c.in_ok-works.works.items None = c.in-None.ensures in
-    (λ e. room c.args.graphs.now c.args.fronts.now c.requires.0 c.count-count.ensures.kept.few (subst (λ works. IsFirstExcess works None) built first), λ has. refl)
+    let none = subst (λ o. IsLeastExcess c.args.graphs.now c.args.fronts.now c.args.bound o) c.in-None.is c.in_ok-scan.ensures in
+    let are = fronts_within c.args.bound c.args.graphs.now c.args.fronts.now c.requires.1 in
+    (λ e. room c.args.graphs.now c.args.fronts.now c.args.bound are none, λ has. refl)

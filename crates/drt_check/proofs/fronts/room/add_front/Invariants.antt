@@ -1,8 +1,0 @@
--- The works so far and those of the entries that are left are those before and all of the front.
-use Rattle.std.proofs.Common.{◌≡◌, ◌++◌, drop}
-use Rattle.drt_sweep.specs.DueWorks.{works_from}
-use Rattle.drt_evidence.specs.Fronts.{due}
-use Rattle.drt_check.proofs.fronts.room.add_front.Given as goal
-
-abbrev pub invariant-entries : goal.invariant-entries
-invariant-entries l = l.works.items ++ works_from (due l.graph) (λ e. e.work) l.task (drop l.i l.front) ≡ l.initial.works.items ++ works_from (due l.graph) (λ e. e.work) l.task l.front

@@ -1,0 +1,2 @@
+mod Ratings
+mod Fronts

@@ -1,0 +1,10 @@
+-- The number is the scale of the ratios that were taken.
+use Rattle.std.proofs.Common.{◌^◌, ◌≤◌, take, map}
+use Rattle.drt_model.specs.Utilisation.{IsScale}
+use Rattle.drt_rates.proofs.scales.scale.Given as goal
+
+abbrev pub invariant-ratios : goal.invariant-ratios
+invariant-ratios g l = record {
+  scale : IsScale (map g.R.Rated.fraction (take l.i l.ratios)) l.common;
+  most : l.common ≤ 2 ^ 60;
+}

@@ -1,0 +1,11 @@
+-- The works so far and those of the fronts that are left are all works.
+use Rattle.std.proofs.Common.{◌≡◌, ◌++◌, drop}
+use Rattle.drt_sweep.specs.DueWorks.{works_of}
+use Rattle.drt_rates.specs.Demands.{AreFronts, due}
+use Rattle.drt_rates.proofs.scanning.works.Given as goal
+
+abbrev pub invariant-tasks : goal.invariant-tasks
+invariant-tasks l = record {
+  fronts : AreFronts l.bound (drop l.i l.graphs) (drop l.i l.fronts);
+  built : l.out.items ++ works_of due (λ x. x.work) l.i (drop l.i l.graphs) (drop l.i l.fronts) ≡ works_of due (λ x. x.work) 0 l.graphs l.fronts;
+}

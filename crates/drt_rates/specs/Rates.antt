@@ -1,0 +1,22 @@
+-- The graphs of a set, with a ratio and potentials for each.
+use Rattle.std.specs.Prelude.{ℕ, ◌^◌, ◌<◌, ◌≤◌, ℤ, List, [], ◌∷◌}
+use Rattle.drt_model.specs.Digraph.{Digraph}
+use Rattle.drt_model.specs.Utilisation.{Fraction, IsScale}
+use Rattle.drt_graph.specs.Fits.{AreNear}
+
+-- The numerator is at most 1,000,000,000, and the denominator is 1 to 1,000,000,000.
+pub record IsSmall (r : Fraction) : Type 0 where
+  pub num : r.num ≤ 1000000000
+  pub some : 1 ≤ r.den
+  pub den : r.den ≤ 1000000000
+
+-- The scale of the ratios exceeds 2^60.
+abbrev pub IsTooFine : List Fraction → Type 0
+IsTooFine ratios = (scale : ℕ) × IsScale ratios scale × (2 ^ 60 < scale)
+
+-- There is an item for each graph, in order, whose fraction is small, and whose heights are potentials near 0.
+abbrev pub AreRated : {X : Type 0} → (X → Fraction) → (X → List ℤ) → List Digraph → List X → Type 0
+AreRated fraction heights [] [] = Unit {0}
+AreRated fraction heights [] (x ∷ items) = ⊥
+AreRated fraction heights (g ∷ graphs) [] = ⊥
+AreRated fraction heights (g ∷ graphs) (x ∷ items) = (IsSmall (fraction x) × AreNear g (heights x)) × AreRated fraction heights graphs items

@@ -1,0 +1,41 @@
+//! The scale and the rate of a set.
+ghost use Rattle.std.specs.Prelude.{◌≡◌, ◌^◌, ◌≤◌, All, MatchOption, length, map};
+ghost use Rattle.drt_model.specs.Utilisation.{IsScale};
+ghost use Rattle.drt_model.specs.Utilisation.{rate as rate_of};
+ghost use Rattle.drt_rates.specs.Rates.{IsSmall, IsTooFine};
+
+use crate::rated::Rated;
+use drt_num::lcm_within;
+
+const GREATEST_SCALE: u64 = 1 << 60;
+
+/// The scale of a set: the least common multiple of the denominators of its ratios. None where it exceeds 2^60. It takes
+/// no memory.
+pub fn scale<R: Rated>(ratios: &[R::Item]) -> Option<u64>
+    requires { All (λ x. IsSmall (R.fraction x)) ratios.now }
+    ensures { MatchOption result (IsTooFine (map R.fraction ratios.now)) (λ scale. IsScale (map R.fraction ratios.now) scale × (scale ≤ 2 ^ 60)) }
+{
+    let mut common: u64 = 1;
+    'ratios: for i in 0..ratios.len() {
+        let den = R::den(&ratios[i]);
+        let Some(next) = lcm_within(common as u128, den, GREATEST_SCALE as u128) else {
+            return None;
+        };
+        common = next as u64;
+    }
+    Some(common)
+}
+
+/// The rate of a set: the sum of its ratios, times the scale. It takes no memory.
+pub fn rate<R: Rated>(ratios: &[R::Item], scale: u64) -> u128
+    requires small { All (λ x. IsSmall (R.fraction x)) ratios.now }
+    requires few { length ratios.now ≤ 32 }
+    ensures { result ≡ rate_of scale (map R.fraction ratios.now) }
+{
+    let mut total: u128 = 0;
+    'ratios: for i in 0..ratios.len() {
+        let ratio = &ratios[i];
+        total += R::num(ratio) * (scale as u128 / R::den(ratio));
+    }
+    total
+}

@@ -1,0 +1,71 @@
+//! The scan of the times at which demand rises.
+ghost use Rattle.std.specs.Prelude.{◌≡◌, ◌++◌, IfOk};
+ghost use Rattle.drt_sweep.specs.DueWorks.{works_from, works_of};
+ghost use Rattle.drt_rates.specs.Demands.{AreFronts, IsFront, IsLeastExcess, due};
+
+use drt_graph::{Graph, Graphs};
+use drt_model::{FrontEntry, Memory, Row};
+use drt_sweep::{DueWork, first_excess};
+use std::alloc::Global;
+
+// The works of one front after those so far.
+fn add_front(
+    graph: &Graph,
+    task: u32,
+    front: &[FrontEntry],
+    bound: u64,
+    works: &mut Vec<DueWork>,
+) -> Result<(), Memory>
+    requires { IsFront graph.now bound front.now }
+    ensures { IfOk result (λ u. works.new.items ≡ works.old.items ++ works_from (due graph.now) (λ x. x.work) task front.now) }
+{
+    let _count = graph.vertex_count();
+    'entries: for i in 0..front.len() {
+        let entry = front[i];
+        works.push(DueWork {
+            due: entry.offset + graph.vertex(entry.vertex).deadline as u64,
+            task,
+            work: entry.work,
+        })?;
+    }
+    Ok(())
+}
+
+// The works of all fronts.
+fn works(
+    alloc: Global,
+    graphs: &Graphs,
+    fronts: &[Row<FrontEntry>],
+    bound: u64,
+) -> Result<Vec<DueWork>, Memory>
+    requires { AreFronts bound graphs.now fronts.now }
+    ensures { IfOk result (λ out. out.items ≡ works_of due (λ x. x.work) 0 graphs.now fronts.now) }
+{
+    let mut out = Vec::new(alloc);
+    'tasks: for i in 0..graphs.count() {
+        add_front(
+            graphs.graph(i),
+            i,
+            fronts[i as usize].as_slice(),
+            bound,
+            &mut out,
+        )?;
+    }
+    Ok(out)
+}
+
+/// The least time of at most `bound` ticks at which the tasks' demands over their fronts are together more than the time,
+/// or None where there is none. It looks only at the times at which some demand rises, in order.
+pub fn scan(
+    alloc: Global,
+    graphs: &Graphs,
+    fronts: &[Row<FrontEntry>],
+    bound: u64,
+) -> Result<Option<u64>, Memory>
+    requires fronts { AreFronts bound graphs.now fronts.now }
+    ensures { IfOk result (λ found. IsLeastExcess graphs.now fronts.now bound found) }
+{
+    let _count = graphs.count();
+    let works = works(alloc, graphs, fronts, bound)?;
+    Ok(first_excess(works))
+}
