@@ -1,4 +1,5 @@
 mod Enough
 mod Firsts
 mod Posed
+mod Texts
 mod Vertices

@@ -1,4 +1,4 @@
--- What is promised of `response` agrees. It stands on what is promised of `sp`: a no is the same.
+-- What is promised of `response` agrees. A no is that of `sp`.
 use Rattle.std.proofs.Common.{◌≡◌, ◌<◌, ◌⊎◌, ℕ, List, Result, Ok, Err, IfOk, inl, inr, refl, sym, subst, arith}
 use Rattle.drt_model.specs.Contents.{Contents}
 use Rattle.drt_model.specs.Limits.{IsTaskSet}
@@ -12,16 +12,15 @@ use Rattle.drt_command.specs.declared.report.Unmade.{Unmade}
 use Rattle.drt_command.specs.Rules.{AreLawful}
 use Rattle.drt_outcome.specs.declared.outcome.Trail.{Trail}
 use Rattle.drt_outcome.specs.declared.outcome.Trail.TheVariants as trails
-use Rattle.drt_response.specs.Answers.{AreResponses, IsUndecidedResponse}
+use Rattle.drt_response.specs.Answers.{AreResponses}
 use Rattle.drt_response.specs.Laws.{ResponseBudgetsSuffice}
 use Rattle.drt_response.specs.Text.{response_text}
 use Rattle.drt_response.specs.declared.answer.Response.{Response}
-use Rattle.drt_response.specs.declared.answer.ResponseTrail.{ResponseTrail}
 use Rattle.drt_sp.specs.Answers.{IsRefusal}
 use Rattle.drt_sp.specs.Evidence.{under_fixed}
 use Rattle.drt_top.specs.Dossiers.{evidence_status}
 use Rattle.drt_top.specs.TaskFiles.{IsAccepted}
-use Rattle.drt_top.specs.commands.Response.{IsResponseText, IsResponseUndecidedText, Responds, response_rules, response_trail}
+use Rattle.drt_top.specs.commands.Response.{IsResponseText, IsResponseUndecidedText, Responds, response_rules}
 use Rattle.drt_top.specs.commands.Sp.{IsSpNoText, SpEnds}
 use Rattle.drt_top.proofs.TaskFileLemmas.{accepted_one, accepted_well, fault_one, long_file}
 
@@ -44,36 +43,22 @@ done_responds bytes set budget responses accepted are (Err e) is = tt
 -- The answer of a no.
 no_is : (set : Contents) (budget : ℕ) (evidence : Evidence) → IsTaskSet set.version set.tasks → IsRefusal set evidence → IsInRange evidence
     → IsResponseAnswer set budget (evidence_status evidence) (text (under_fixed set evidence)) trails.Nothing
-no_is set budget (EdfYes ratios fronts) limits no range = absurd no
-no_is set budget (EdfNo releases miss) limits no range = absurd no
-no_is set budget (UtilisationOne ratios) limits no range = absurd no
-no_is set budget (FixedYes trees proofs) limits no range = absurd no
-no_is set budget (FixedNo releases miss) limits no range =
-    inr (inl (refl, record { releases = releases; miss = miss; no = no; is = record { stated = (limits, range); is = refl } }, refl))
-no_is set budget Undecided limits no range = absurd no
+no_is set budget (EdfYes ratios fronts) limits refused range = absurd refused
+no_is set budget (EdfNo releases miss) limits refused range = absurd refused
+no_is set budget (UtilisationOne ratios) limits refused range = absurd refused
+no_is set budget (FixedYes trees proofs) limits refused range = absurd refused
+no_is set budget (FixedNo releases miss) limits refused range =
+    inr (inl (refl, record { releases = releases; miss = miss; no = refused; is = record { stated = (limits, range); is = refl } }, refl))
+no_is set budget Undecided limits refused range = absurd refused
 
 -- It is the answer of the report that is made of the evidence.
 pub missed_responds : (bytes : List ℕ) (set : Contents) (budget : ℕ) (evidence : Evidence) → IsAccepted bytes set → IsRefusal set evidence
     → IsInRange evidence → (r : Result Report Unmade)
     → IfOk r (λ m. m ≡ record { status = evidence_status evidence; text = text (under_fixed set evidence); trail = trails.Nothing })
     → IfOk r (Responds budget bytes)
-missed_responds bytes set budget evidence accepted no range (Ok m) is =
-    subst (Responds budget bytes) (sym is) (record { set = set; accepted = accepted; answer = no_is set budget evidence accepted.reads.limits no range })
-missed_responds bytes set budget evidence accepted no range (Err e) is = tt
-
--- The answer of a spent budget is that of the report that is made of the trail.
-pub undecided_responds : (bytes : List ℕ) (set : Contents) (budget : ℕ) (spent : ResponseTrail) (trail : Trail) → IsAccepted bytes set
-    → IsUndecidedResponse set budget spent → trail ≡ response_trail spent → (r : Result Report Unmade)
-    → IfOk r (λ m. m ≡ record { status = 3; text = text (under_fixed set Undecided); trail = trail })
-    → IfOk r (Responds budget bytes)
-undecided_responds bytes set budget spent trail accepted cause shows (Ok m) is =
-    subst (Responds budget bytes) (sym is)
-    (record {
-      set = set;
-      accepted = accepted;
-      answer = inr (inr (refl, record { spent = spent; cause = cause; trail_is = shows; is = record { stated = (accepted.reads.limits, tt); is = refl } }));
-    })
-undecided_responds bytes set budget spent trail accepted cause shows (Err e) is = tt
+missed_responds bytes set budget evidence accepted refused range (Ok m) is =
+    subst (Responds budget bytes) (sym is) (record { set = set; accepted = accepted; answer = no_is set budget evidence accepted.reads.limits refused range })
+missed_responds bytes set budget evidence accepted refused range (Err e) is = tt
 
 answer_low : (set : Contents) (budget status : ℕ) (written : List ℕ) (trail : Trail) → IsResponseAnswer set budget status written trail → status < 4
 answer_low set budget status written trail (inl a) = omega (arith, a.0)
