@@ -11,7 +11,7 @@ use std::thread;
 use std::thread::Threads;
 
 // How often the second gate lets others go on before the first worker's first turn.
-const LOOKS: u32 = 1_000;
+const LOOKS: u32 = 30;
 
 /// The number of a task, of a vertex of it, and the vertex's response time, in ticks.
 pub(crate) type Ticks = (u32, u32, u64);

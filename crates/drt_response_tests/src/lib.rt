@@ -8,8 +8,8 @@ mod drawn_tests;
 #[cfg(test)]
 mod plain;
 #[cfg(test)]
-mod searches;
-#[cfg(test)]
 mod search_tests;
+#[cfg(test)]
+mod searches;
 #[cfg(test)]
 mod worked_tests;

@@ -42,6 +42,13 @@ fn are_chosen(deadline: u64, pool: &[Steps], chosen: &[u32]) -> bool
     true
 }
 
+// Whether the functions of these nodes go to the deadline.
+fn can_start(forest: &Forest, roots: &[u32], deadline: u32) -> bool
+    ensures { result ≡ true → AreChosen deadline forest.now.pool roots.now }
+{
+    are_chosen(deadline as u64, forest.all(), roots)
+}
+
 // Whether a time passes for each tuple of leaves below the roots, by the frontier's own search.
 fn all_pass<R: Threads + Wait + Sync>(
     rt: &R,
@@ -88,7 +95,7 @@ pub(crate) fn search<G: Gate, R: Threads + Wait + Sync>(
     if wcet < 1 || wcet > 1_000_000 || deadline < 1 || deadline > 1_000_000 || roots.len() > 31 {
         return Err("the terms are in range".into());
     }
-    if !are_chosen(deadline as u64, forest.all(), roots) {
+    if !can_start(forest, roots, deadline) {
         return Err("the functions go to the deadline".into());
     }
     if !all_pass(rt, alloc, forest, roots, wcet, deadline)? {

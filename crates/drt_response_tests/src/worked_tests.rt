@@ -139,11 +139,13 @@ fn is_spent_at<R: Threads + Wait + Sync>(
 ) -> Result<bool, Fail> {
     let answer = answer_to(rt, alloc, shapes, budget)?;
     Ok(match answer {
-        ResponseAnswer::Undecided(ResponseTrail::Search {
-            task,
-            vertex,
-            taken,
-        }) => (task, vertex) == at && are_rows(taken.as_slice(), expected),
+        ResponseAnswer::Undecided(
+            ResponseTrail::Search {
+                task,
+                vertex,
+                taken,
+            },
+        ) => (task, vertex) == at && are_rows(taken.as_slice(), expected),
         _ => false,
     })
 }
@@ -163,7 +165,10 @@ fn worked_sets_have_their_responses(rt: HostRuntime) -> Result<(), Fail> {
         (LONGEST, &[(0, 0, 1_000_000)]),
     ];
     for (text, ticks) in cases {
-        assert!(rt; is_answered(&rt, rt.alloc(), text, Some(ticks))?, "of {text}");
+        assert!(rt;
+            is_answered(&rt, rt.alloc(), text, Some(ticks))?,
+            "of {text}"
+        );
     }
     for text in [HALVES, ONCE_ABOVE_LATE] {
         assert!(rt; is_answered(&rt, rt.alloc(), text, None)?, "of {text}");
