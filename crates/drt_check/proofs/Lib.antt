@@ -15,7 +15,7 @@ pub mod Pasts
 pub mod Judged
 mod Bounds
 mod Lists
-mod Orders
+pub mod Orders
 mod Eachs
 mod Closings
 mod Rooms

@@ -9,4 +9,3 @@ pub mod UtilPromises
 pub mod CheckLemmas
 pub mod CheckPromises
 pub mod BenchLemmas
-pub mod FrontOrder
