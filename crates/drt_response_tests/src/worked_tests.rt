@@ -83,9 +83,9 @@ fn is_missed<R: Threads + Wait + Sync>(
 ) -> Result<bool, Fail> {
     let set = set_of(alloc, text)?;
     let answer = answer_of(rt, alloc, &set, 1, BUDGET, &OpenGate)?;
-    Ok(match answer {
+    Ok(match &answer {
         ResponseAnswer::Missed(Evidence::FixedNo { releases, miss }) => {
-            releases.as_slice() == expected && miss == missed
+            releases.as_slice() == expected && *miss == missed
         }
         _ => false,
     })
@@ -122,10 +122,7 @@ fn is_spent_before<R: Threads + Wait + Sync>(
     budget: u64,
 ) -> Result<bool, Fail> {
     let answer = answer_to(rt, alloc, shapes, budget)?;
-    Ok(match answer {
-        ResponseAnswer::Undecided(ResponseTrail::Fixed(_)) => true,
-        _ => false,
-    })
+    Ok(matches!(&answer, ResponseAnswer::Undecided(ResponseTrail::Fixed(_))))
 }
 
 // Whether the budget is spent in the search at this vertex of this task, on these combinations.
@@ -138,14 +135,14 @@ fn is_spent_at<R: Threads + Wait + Sync>(
     expected: &[&[u32]],
 ) -> Result<bool, Fail> {
     let answer = answer_to(rt, alloc, shapes, budget)?;
-    Ok(match answer {
+    Ok(match &answer {
         ResponseAnswer::Undecided(
             ResponseTrail::Search {
                 task,
                 vertex,
                 taken,
             },
-        ) => (task, vertex) == at && are_rows(taken.as_slice(), expected),
+        ) => (*task, *vertex) == at && are_rows(taken.as_slice(), expected),
         _ => false,
     })
 }

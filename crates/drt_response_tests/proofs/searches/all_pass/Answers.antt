@@ -9,7 +9,7 @@ use Rattle.drt_refine.specs.View.{setting_of, state_of}
 use Rattle.drt_response_tests.proofs.searches.all_pass.Goals as goal
 
 pub returns-in-Finished : goal.returns-in-Finished
-returns-in-Finished g c yes tuple below =
+returns-in-Finished g c answers tuple below =
     let f = c.args.forest.now in
     let v = c.in_ok-_frontier._frontier in
     let t : Setting = record { forest = f; roots = c.args.roots.now; wcet = c.args.wcet; deadline = c.args.deadline; budget = 1000 } in
