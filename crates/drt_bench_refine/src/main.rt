@@ -9,7 +9,7 @@ ghost use Rattle.std.specs.Prelude.{◌≡◌, ◌≤◌, ◌∷◌, []};
 ghost use Rattle.drt_steps.specs.Time.{AreChosen};
 
 use drt_model::Memory;
-use drt_pool::OpenGate;
+use drt_pool::EagerGate;
 use drt_refine::Frontier;
 use drt_shared_frontier::refine;
 use drt_tree::Forest;
@@ -52,7 +52,7 @@ fn steps<R: Threads + Wait + Sync>(
             deadline,
             BUDGET,
             workers,
-            &OpenGate,
+            &EagerGate,
         )?;
         frontier
     };

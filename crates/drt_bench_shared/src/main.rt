@@ -12,7 +12,7 @@ ghost use Rattle.std.specs.Prelude.{◌≤◌, IsTrue};
 use drt_demand::DemandLabel;
 use drt_graph::{Graph, check};
 use drt_model::{Edge, Name, Row, Task, Vertex, task_set};
-use drt_pool::OpenGate;
+use drt_pool::EagerGate;
 use drt_request::RequestLabel;
 use drt_search::{SharedLabel, search_together};
 use drt_table::Table;
@@ -104,7 +104,7 @@ fn search<L: SharedLabel, R: Threads + Wait + Sync>(
         return Ok(table.log().len());
     }
     let (table, _reply): (Table<L>, _) = search_together(
-        rt, alloc, graph, bound, BUDGET, workers, &OpenGate,
+        rt, alloc, graph, bound, BUDGET, workers, &EagerGate,
     )?;
     Ok(table.log().len())
 }

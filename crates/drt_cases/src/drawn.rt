@@ -2,25 +2,13 @@
 use crate::running::answer_to;
 use drt_drawn::{Draws, drawn_set};
 use drt_model::Row;
-use drt_pool::Gate;
+use drt_pool::EagerGate;
 use std::alloc::Global;
 use std::sync::Wait;
 use std::test::Fail;
 use std::thread::Threads;
 
 const DRAWN_SETS: u32 = 1000;
-
-// It lets each worker begin at once.
-#[derive(Drop)]
-pub(crate) struct Rush;
-
-impl Gate for Rush {
-    fn before(&self, _worker: u32, _turn: u64) {}
-
-    fn alone(&self) -> u64 {
-        0
-    }
-}
 
 // The status of a run over this text, where `check` has the same for what it writes.
 fn checked_status(
@@ -30,8 +18,8 @@ fn checked_status(
     text: &[u8],
 ) -> Result<Option<u8>, Fail> {
     let bytes = Row::from_vec(Vec::from_slice(alloc, text)?);
-    let (answer, dossier) = answer_to(rt, alloc, words, bytes, &Rush)?;
-    let (judgement, _line) = answer_to(rt, alloc, "check", dossier, &Rush)?;
+    let (answer, dossier) = answer_to(rt, alloc, words, bytes, &EagerGate)?;
+    let (judgement, _line) = answer_to(rt, alloc, "check", dossier, &EagerGate)?;
     if answer.status == judgement.status {
         Ok(Some(answer.status))
     } else {

@@ -1,5 +1,4 @@
 //! Runs by several workers.
-use crate::drawn::Rush;
 use crate::running::{answer_to, give, is_joined, perform_by};
 use drt_fixtures::texts::{
     BRANCHING, BRANCHING_LATE, ENGINE, FIFTHS_AND_SEVENTHS, HALVES, JUST_DONE, LATE, OVERLOADED,
@@ -180,7 +179,7 @@ fn have_status(
     let words = format!(in alloc; "{command} --workers {workers}")?;
     for _ in 0..RUNS {
         let bytes = Row::from_vec(Vec::from_slice(alloc, text.as_bytes())?);
-        let (outcome, _held) = answer_to(rt, alloc, words.as_str(), bytes, &Rush)?;
+        let (outcome, _held) = answer_to(rt, alloc, words.as_str(), bytes, &EagerGate)?;
         if outcome.status != status {
             return Ok(false);
         }

@@ -24,3 +24,15 @@ impl Gate for OpenGate {
         ALONE
     }
 }
+
+/// The gate that does nothing and leaves the caller no turn alone, so that all workers begin at once.
+#[derive(Clone, Copy, Debug)]
+pub struct EagerGate;
+
+impl Gate for EagerGate {
+    fn before(&self, _worker: u32, _turn: u64) {}
+
+    fn alone(&self) -> u64 {
+        0
+    }
+}

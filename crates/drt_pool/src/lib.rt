@@ -9,6 +9,6 @@ mod gate;
 mod run;
 mod work;
 
-pub use gate::{Gate, OpenGate};
+pub use gate::{EagerGate, Gate, OpenGate};
 pub use run::run_all;
 pub use work::{Turn, Work};

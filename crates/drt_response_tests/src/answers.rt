@@ -16,18 +16,6 @@ const LOOKS: u32 = 30;
 /// The number of a task, of a vertex of it, and the vertex's response time, in ticks.
 pub(crate) type Ticks = (u32, u32, u64);
 
-/// The gate that lets each worker begin at once.
-#[derive(Clone, Copy)]
-pub(crate) struct AllBegin;
-
-impl Gate for AllBegin {
-    fn before(&self, _worker: u32, _turn: u64) {}
-
-    fn alone(&self) -> u64 {
-        0
-    }
-}
-
 /// The gate that holds the first worker for a while.
 #[derive(Clone, Copy)]
 pub(crate) struct FirstIsLate;

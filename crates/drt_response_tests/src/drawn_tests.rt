@@ -1,10 +1,10 @@
 //! Drawn sets, answered by the analysis and by a plain program.
 
-use crate::answers::{AllBegin, Ticks, answer_of, is_answer};
+use crate::answers::{Ticks, answer_of, is_answer};
 use crate::plain::plain_ticks;
 use drt_drawn::{Draws, drawn_set};
 use drt_model::TaskSet;
-use drt_pool::{Gate, OpenGate};
+use drt_pool::{EagerGate, Gate, OpenGate};
 use std::alloc::Global;
 use std::sync::Wait;
 use std::test::Fail;
@@ -139,6 +139,6 @@ fn however_many_workers_there_are_the_ticks_are_the_same(rt: HostRuntime) -> Res
 
 #[test]
 fn the_ticks_are_the_same_where_all_workers_begin_together(rt: HostRuntime) -> Result<(), Fail> {
-    assert!(rt; are_answered_by_many(&rt, rt.alloc(), 5, 4, &AllBegin)?);
+    assert!(rt; are_answered_by_many(&rt, rt.alloc(), 5, 4, &EagerGate)?);
     Ok(())
 }

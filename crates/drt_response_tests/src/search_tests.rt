@@ -1,8 +1,8 @@
 //! Searches of worked forests. What is taken, and in which order, was worked out by hand.
 
-use crate::answers::{AllBegin, FirstIsLate};
+use crate::answers::FirstIsLate;
 use crate::searches::{Terms, is_reached, is_spent, search};
-use drt_pool::OpenGate;
+use drt_pool::{EagerGate, OpenGate};
 use drt_tree::Forest;
 use drt_worked_forests::{even_walks, three_walks};
 use std::alloc::Global;
@@ -96,7 +96,7 @@ fn all_reach<R: Threads + Wait + Sync>(
     leaves: &[u32],
 ) -> Result<bool, Fail> {
     for workers in [2u32, 4, 16] {
-        let found = search(rt, alloc, terms, workers, 1_000, &AllBegin)?;
+        let found = search(rt, alloc, terms, workers, 1_000, &EagerGate)?;
         if !is_reached(&found, ticks, leaves) {
             return Ok(false);
         }

@@ -18,9 +18,12 @@ use std::alloc::Global;
 use std::sync::Wait;
 use std::thread::Threads;
 
-/// The search of a graph's walks up to the bound, in ticks, with this budget of steps, by so many workers. What they leave over
-/// the caller drives to its end, as worker 0. The answer is that of a table that is started and driven. One worker shares its
-/// table with nobody, so it drives one without a lock, and the gate sees no turn of it.
+/// The search of a graph's walks up to the bound, in ticks, with this budget of steps. The answer is that of a table that is started
+/// and driven.
+///
+/// A step of a table is shorter than handing on its lock (`bench/shared`), so workers share a table only where the gate wants all of
+/// them to begin at once: where its `alone` is 0. What they leave over the caller drives to its end, as worker 0. Otherwise, and where
+/// there is one worker, the caller drives a table of its own without a lock, and the gate sees no turn of it.
 pub fn search_together<L: SharedLabel, G: Gate, R: Threads + Wait + Sync>(
     rt: &R,
     alloc: Global,
@@ -36,7 +39,7 @@ pub fn search_together<L: SharedLabel, G: Gate, R: Threads + Wait + Sync>(
     ensures setting { IfOk result (λ end. setting_of end.0 ≡ record { graph = graph.now; bound = bound; budget = budget }) }
     ensures stops { IfOk result (λ end. StopsAt L.algebra end.0 end.1) }
 {
-    if workers == 1 {
+    if workers == 1 || gate.alone() > 0 {
         let alone: Table<L> = Table::start(alloc, graph, bound, budget)?;
         return alone.drive(alloc, 0);
     }

@@ -63,10 +63,13 @@ fn turn_after(answer: FrontierAnswer) -> Turn {
     }
 }
 
-/// Works the frontier of a job of this wcet and deadline (in ticks) and of the trees with these roots: so many workers take
-/// combinations and settle them until there is none left, one has failed or the budget of steps is spent. The caller then goes on
-/// from what they left, if anything is left, and answers the frontier and where it came to an end: Finished, Failed or Spent. One
-/// worker shares its frontier with nobody, so it drives one without a lock, and the gate sees no turn of it.
+/// Works the frontier of a job of this wcet and deadline (in ticks) and of the trees with these roots, until there is no combination
+/// left, one has failed or the budget of steps is spent, and answers the frontier and where it came to an end: Finished, Failed or Spent.
+///
+/// A step of a frontier is shorter than handing on its lock (`bench/refine`), so workers share a frontier only where the gate wants all
+/// of them to begin at once: where its `alone` is 0. They take combinations and settle them, and the caller goes on from what they
+/// leave. Otherwise, and where there is one worker, the caller drives a frontier of its own without a lock, and the gate sees no turn
+/// of it.
 pub fn refine<G: Gate, R: Threads + Wait + Sync>(
     rt: &R,
     alloc: Global,
@@ -89,7 +92,7 @@ pub fn refine<G: Gate, R: Threads + Wait + Sync>(
     ensures eager { IfOk result (λ r. IsEager (setting_of forest.now r.0) r.0.log) }
     ensures stops { IfOk result (λ r. StopsAt (setting_of forest.now r.0) (state_of r.0) r.1) }
 {
-    if workers == 1 {
+    if workers == 1 || gate.alone() > 0 {
         return drive_alone(alloc, forest, roots, wcet, deadline, budget);
     }
     let (shared, passes) = SharedFrontier::start(
@@ -101,7 +104,7 @@ pub fn refine<G: Gate, R: Threads + Wait + Sync>(
     Ok((frontier, reply))
 }
 
-// The one worker drives a frontier of its own.
+// The caller drives a frontier of its own.
 fn drive_alone(
     alloc: Global,
     forest: &Forest,

@@ -1,7 +1,7 @@
 //! What workers find together, by one thread and by more.
 
 use crate::driver::{has_states, work};
-use drt_pool::{Gate, OpenGate};
+use drt_pool::{EagerGate, Gate, OpenGate};
 use drt_refine::{CombinationState, FrontierReply};
 use drt_worked_forests::{three_walks, two_walks};
 use std::sync::atomic::{AtomicBool, AtomicU64, Ordering};
@@ -52,7 +52,7 @@ fn however_many_workers_there_are_the_states_are_the_same(rt: HostRuntime) -> Re
     let alloc = rt.alloc();
     let (forest, root) = three_walks(alloc)?.expect(&rt, "a tree");
     for workers in [1u32, 2, 16] {
-        let (frontier, reply) = work(&rt, alloc, &forest, root, 5, 100, workers, &OpenGate)?;
+        let (frontier, reply) = work(&rt, alloc, &forest, root, 5, 100, workers, &EagerGate)?;
         assert!(rt;
             reply == FrontierReply::Finished && has_states(&frontier, &SETTLED),
             "with {workers} workers"

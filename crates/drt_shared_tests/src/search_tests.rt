@@ -5,7 +5,7 @@ ghost use Rattle.std.specs.Prelude.{◌≤◌};
 use drt_demand::DemandLabel;
 use drt_fixtures::{Shape, make_set};
 use drt_graph::check;
-use drt_pool::{Gate, OpenGate};
+use drt_pool::{EagerGate, Gate, OpenGate};
 use drt_search::search_together;
 use drt_table::{Table, TableReply};
 use std::alloc::Global;
@@ -69,16 +69,17 @@ fn has_ring(table: &Table<DemandLabel>, bound: u64) -> bool {
 }
 
 // Whether so many workers find the ring's walks up to the bound, in three steps for each.
-fn finds_ring<R: Threads + Wait + Sync>(
+fn finds_ring<G: Gate, R: Threads + Wait + Sync>(
     rt: &R,
     alloc: Global,
     bound: u64,
     workers: u32,
+    gate: &G,
 ) -> Result<bool, Fail>
     requires bound { bound ≤ 1000 }
     requires workers { (1 ≤ workers) × (workers ≤ 16) }
 {
-    let (table, reply) = search_ring(rt, alloc, bound, 1_000_000, workers, &OpenGate)?;
+    let (table, reply) = search_ring(rt, alloc, bound, 1_000_000, workers, gate)?;
     Ok(
         reply == TableReply::Finished
             && table.log().len() as u64 == bound.saturating_mul(18)
@@ -86,16 +87,19 @@ fn finds_ring<R: Threads + Wait + Sync>(
     )
 }
 
-// The first search is over before a second worker is begun, and the others aren't.
 #[test]
 fn any_number_of_workers_finds_the_same_labels(rt: HostRuntime) -> Result<(), Fail> {
     for bound in [5u64, 300, 1000] {
         for workers in [1u32, 2, 4, 16] {
             assert!(rt;
-                finds_ring(&rt, rt.alloc(), bound, workers)?,
+                finds_ring(&rt, rt.alloc(), bound, workers, &EagerGate)?,
                 "{workers} up to {bound}"
             );
         }
+        assert!(rt;
+            finds_ring(&rt, rt.alloc(), bound, 4, &OpenGate)?,
+            "one up to {bound}"
+        );
     }
     Ok(())
 }
@@ -110,7 +114,7 @@ fn is_spent<R: Threads + Wait + Sync>(
     requires budget { (1 ≤ budget) × (budget ≤ 1000000) }
     requires workers { (1 ≤ workers) × (workers ≤ 16) }
 {
-    let (table, reply) = search_ring(rt, alloc, 300, budget, workers, &OpenGate)?;
+    let (table, reply) = search_ring(rt, alloc, 300, budget, workers, &EagerGate)?;
     Ok(reply == TableReply::Spent && table.log().len() as u64 == budget && !table.finished())
 }
 

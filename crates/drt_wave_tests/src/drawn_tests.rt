@@ -1,11 +1,11 @@
 //! The fronts of drawn tasks, by tables of several workers and by a table that one worker drives.
 ghost use Rattle.std.specs.Prelude.{◌≤◌};
 
-use crate::gates::Beside;
 use drt_demand::DemandLabel;
 use drt_gen::generate;
 use drt_graph::{Graph, check};
 use drt_model::FrontEntry;
+use drt_pool::EagerGate;
 use drt_table::Table;
 use drt_wave::fill;
 use std::alloc::Global;
@@ -63,7 +63,7 @@ fn has_one_front<R: Threads + Wait + Sync>(
         if workers < 1 || workers > 16 {
             return Ok(false);
         }
-        let works = fill(rt, alloc, graph, BOUND, workers, &Beside)?;
+        let works = fill(rt, alloc, graph, BOUND, workers, &EagerGate)?;
         let front = works.front(alloc)?;
         if !is_front_of(front.as_slice(), &table) {
             return Ok(false);

@@ -1,9 +1,8 @@
 ghost use Rattle.std.specs.Prelude.{◌≤◌};
 
-use crate::gates::Beside;
 use drt_fixtures::{Shape, make_set};
 use drt_graph::check;
-use drt_pool::{Gate, OpenGate};
+use drt_pool::{EagerGate, Gate, OpenGate};
 use drt_wave::{DenseFront, fill};
 use std::alloc::Global;
 use std::sync::Wait;
@@ -65,7 +64,7 @@ fn has_front(alloc: Global, works: &DenseFront, wanted: &[(u32, u64, u64)]) -> R
 fn each_number_of_workers_finds_the_same_front(rt: HostRuntime) -> Result<(), Fail> {
     let wanted = [(0, 0, 1), (1, 0, 2), (2, 0, 1), (2, 1, 3), (2, 4, 4)];
     for workers in [1u32, 2, 4, 16] {
-        let works = works_by(&rt, rt.alloc(), THREE, 5, workers, &Beside)?;
+        let works = works_by(&rt, rt.alloc(), THREE, 5, workers, &EagerGate)?;
         assert!(rt; has_front(rt.alloc(), &works, &wanted)?);
         let works = works_by(&rt, rt.alloc(), THREE, 5, workers, &OpenGate)?;
         assert!(rt; has_front(rt.alloc(), &works, &wanted)?);
@@ -84,7 +83,7 @@ fn a_wide_wave_is_worked_by_all(rt: HostRuntime) -> Result<(), Fail> {
         (1, 20_000, 11),
     ];
     for workers in [1u32, 2, 4, 16] {
-        let works = works_by(&rt, rt.alloc(), FAR, 20_001, workers, &Beside)?;
+        let works = works_by(&rt, rt.alloc(), FAR, 20_001, workers, &EagerGate)?;
         assert!(rt; has_front(rt.alloc(), &works, &wanted)?);
         let works = works_by(&rt, rt.alloc(), FAR, 20_001, workers, &OpenGate)?;
         assert!(rt; has_front(rt.alloc(), &works, &wanted)?);
