@@ -1,5 +1,5 @@
 -- A seat is split for the workers of a wave, and joined after it.
-use Rattle.std.proofs.Common.{◌≡◌, ℕ, zero, suc, ◌+◌, ◌-◌, ◌*◌, ◌/◌, ◌%◌, ◌^◌, ◌<◌, ◌≤◌, max, List, [], ◌∷◌, ◌++◌, length, length-append, sym, refl, ap, ◌∙◌, subst, inl, inr, ⊎_elim, arith}
+use Rattle.std.proofs.Common.{◌≡◌, ℕ, ◌+◌, ◌-◌, ◌*◌, ◌/◌, ◌^◌, ◌<◌, ◌≤◌, List, [], ◌∷◌, ◌++◌, length, length-append, sym, refl, ap, ◌∙◌, subst, inr, ⊎_elim, arith}
 use Rattle.std.proofs.Math.Nat.{mod-le}
 use Rattle.atomic_table.specs.Table.{Me}
 use Rattle.atomic_table.specs.Seated.{TableId}
@@ -10,7 +10,7 @@ use Rattle.drt_wave.specs.declared.view.View.{View}
 use Rattle.drt_wave.specs.Net.{Net, Among}
 use Rattle.drt_wave.specs.Waves.{split_left, split_right, joined, IsExpanded, AllExpanded}
 use Rattle.drt_wave.specs.Cells.{net_of}
-use Rattle.drt_wave.specs.Seats.{IsAt, Draws, Turned}
+use Rattle.drt_wave.specs.Seats.{Draws, Turned}
 use Rattle.drt_wave.specs.Shifts.{IsAtWork, IsWorkers, AreDealt, GoesOn, HasWorked}
 use Rattle.drt_wave.proofs.Sums.{among-append, among_left, among_right}
 

@@ -4,6 +4,7 @@ pub mod Bests
 pub mod Steps
 pub mod Cells
 pub mod Working
+pub mod Following
 pub mod OpenWords
 pub mod Walks
 pub mod Kept

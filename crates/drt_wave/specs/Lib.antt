@@ -2,6 +2,7 @@ pub mod Net
 pub mod Waves
 pub mod Seats
 pub mod Cells
+pub mod Ways
 pub mod Greatest
 pub mod Dense
 pub mod Fronts

@@ -1,13 +1,15 @@
 //! What a worker does with a wave: it draws a block, and expands its cells.
-ghost use Rattle.std.specs.Prelude.{◌≡◌, ℕ, ◌+◌, ◌*◌, ◌<◌, ◌≤◌, ◌/◌, ◌%◌, false};
+ghost use Rattle.std.specs.Prelude.{◌≡◌, ℕ, ◌+◌, ◌*◌, ◌^◌, ◌<◌, ◌≤◌, ◌/◌, ◌%◌, false};
 ghost use Rattle.drt_model.specs.Digraph.{vertex_count, out_degree};
-ghost use Rattle.drt_wave.specs.Net.{Reached};
+ghost use Rattle.drt_wave.specs.Net.{Among, Reached};
 ghost use Rattle.drt_wave.specs.Waves.{IsExpanded, AllExpanded};
 ghost use Rattle.drt_wave.specs.Cells.{net_of, offsets, cell_at};
-ghost use Rattle.drt_wave.specs.Seats.{IsAt, Kept, Passed, PassedOn, IsPast, HasDrawn, Turned};
+ghost use Rattle.drt_wave.specs.Seats.{IsAt, Kept, Passed, IsPast, HasDrawn, Turned};
 ghost use Rattle.drt_wave.specs.Shifts.{HasWorked};
+ghost use Rattle.drt_wave.specs.Ways.{IsWayRow};
 
 use crate::table::{WaveSeat, WaveTable};
+use crate::ways::Way;
 
 // How many cells a block has, the last one of a wave aside.
 pub(crate) const BLOCK: u64 = 64;
@@ -22,26 +24,22 @@ fn cell(table: &WaveTable, vertex: u32, offset: u64) -> u32
     (vertex as u64 * (table.plan.bound + 1) + offset) as u32
 }
 
-// Passes the value of a cell on along edge number `k` out of its vertex.
-fn pass_one(table: &WaveTable, seat: &mut WaveSeat, vertex: u32, offset: u64, value: u64, k: u32)
+// Passes the value of a cell on along a way from its offset.
+fn pass_one(table: &WaveTable, seat: &mut WaveSeat, way: Way, offset: u64, value: u64)
     requires id { seat.old.table_id ≡ table.now.table.shared.table_id }
     requires seat { IsAt table.now.plan seat.old.me.0 }
-    requires vertex { vertex < vertex_count table.now.plan.graph }
-    requires offset { offset ≤ table.now.plan.bound }
-    requires value { Reached (net_of table.now.plan) (cell_at table.now.plan vertex offset) value }
-    requires edge { k < out_degree table.now.plan.graph vertex }
+    requires within { offset < way.end → way.cell + offset < (net_of table.now.plan).cells }
+    requires reached { offset < way.end → Reached (net_of table.now.plan) (way.cell + offset) (value + way.work) }
+    requires small { (net_of table.now.plan).cells ≤ 4194304 }
+    requires fits { value + way.work < 2 ^ 64 }
     ensures id { seat.new.table_id ≡ seat.old.table_id }
     ensures kept { Kept seat.old.me seat.new.me }
-    ensures passed { PassedOn table.now.plan seat.new.me.0 vertex offset value k }
+    ensures passed { offset < way.end → Among (way.cell + offset, value + way.work) seat.new.me.0.raised }
 {
-    let edge = table.plan.graph.out_edge(vertex, k);
-    let next = offset + edge.sep as u64;
-    let target = table.plan.graph.vertex(edge.to);
-    if next + target.deadline as u64 > table.plan.bound {
+    if offset >= way.end as u64 {
         return;
     }
-    let to = cell(table, edge.to, next);
-    table.raise(seat, to, value + target.wcet as u64);
+    table.raise(seat, way.cell + offset as u32, value + way.work as u64);
 }
 
 // Passes the value of a cell on along the edges out of its vertex.
@@ -55,9 +53,9 @@ fn pass_on(table: &WaveTable, seat: &mut WaveSeat, vertex: u32, offset: u64, val
     ensures kept { Kept seat.old.me seat.new.me }
     ensures passed { Passed table.now.plan seat.new.me.0 vertex offset value (out_degree table.now.plan.graph vertex) }
 {
-    let degree = table.plan.graph.out_degree(vertex);
-    'edges: for k in 0..degree {
-        pass_one(table, seat, vertex, offset, value, k);
+    let ways = table.ways_from(vertex);
+    'edges: for k in 0..ways.len() {
+        pass_one(table, seat, ways[k], offset, value);
     }
 }
 
@@ -117,6 +115,14 @@ fn expand_block(table: &WaveTable, seat: &mut WaveSeat, wave: u32, block: u64)
 }
 
 impl WaveTable {
+    // The ways out of a vertex.
+    fn ways_from(&self, vertex: u32) -> &[Way]
+        requires { vertex < vertex_count self.now.plan.graph }
+        ensures { IsWayRow self.now.plan vertex result.now }
+    {
+        self.ways.as_slice()[vertex as usize].as_slice()
+    }
+
     // How many offsets a wave has.
     pub(crate) fn offsets(&self, wave: u32) -> u64
         requires wave { wave < (net_of self.now.plan).waves }

@@ -18,6 +18,7 @@ mod sharing;
 mod table;
 mod view;
 mod walking;
+mod ways;
 mod works;
 
 pub use dense::DenseFront;

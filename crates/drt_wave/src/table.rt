@@ -5,15 +5,17 @@ ghost use Rattle.drt_wave.specs.Net.{Reached, IsBest};
 ghost use Rattle.drt_wave.specs.Waves.{fresh, split_left, split_right, joined, with_note, with_raise, AllDrawn, AllExpanded};
 ghost use Rattle.drt_wave.specs.Cells.{net_of, IsPlan};
 ghost use Rattle.drt_wave.specs.Seats.{IsAt, Draws};
+ghost use Rattle.drt_wave.specs.Ways.{AreWays};
 
 use crate::dense::DenseFront;
 use crate::opening::opening_words;
 use crate::plan::{Plan, make_plan};
 use crate::rule::{Claim, Cut, Glance, Glue, Raise, Rule};
 use crate::view::View;
+use crate::ways::{Way, make_ways};
 use atomic_table::{Seat, Table};
 use drt_graph::Graph;
-use drt_model::Memory;
+use drt_model::{Memory, Row};
 use std::alloc::Global;
 use std::snapshot::Snapshot;
 
@@ -28,12 +30,14 @@ pub type WaveSeat = Seat<(), View<Plan>>;
 pub struct WaveTable {
     pub plan: Plan,
     pub table: Table<(), View<Plan>, Snapshot<Plan>, Rule, Global>,
+    pub(crate) ways: Row<Row<Way>>,
     cells: usize,
     ghost planned: { IsPlan plan },
     ghost keyed: { table.shared.key.value ≡ plan },
     ghost counted: { cells ≡ (net_of plan).cells },
     ghost sized: { table.shared.table_id.words ≡ (net_of plan).cells + (net_of plan).waves },
     ghost no_slots: { table.shared.table_id.slots ≡ 0 },
+    ghost followed: { AreWays plan ways },
 }
 
 impl WaveTable {
@@ -47,10 +51,19 @@ impl WaveTable {
     {
         let plan = make_plan(alloc, graph, bound)?;
         let words = opening_words(alloc, &plan)?;
+        let ways = make_ways(alloc, &plan)?;
         let cells = (plan.graph.vertex_count() as u64 * (bound + 1)) as usize;
         let snapshot = Snapshot::of(&plan);
         let (table, seat) = Table::of_words(alloc, words.as_slice(), &snapshot)?;
-        Ok((WaveTable { plan, table, cells }, seat))
+        Ok((
+            WaveTable {
+                plan,
+                table,
+                ways,
+                cells,
+            },
+            seat,
+        ))
     }
 
     /// Draws the next number of a wave, which stands for a block of its cells.
@@ -129,6 +142,7 @@ impl WaveTable {
         let WaveTable {
             plan,
             table,
+            ways: _ways,
             cells: _,
         } = self;
         DenseFront {
