@@ -17,9 +17,11 @@ use std::alloc::Global;
 use std::sync::Wait;
 use std::thread::Threads;
 
-/// Decides whether a set with constrained deadlines is schedulable under fixed priorities. So many workers search and refine together,
-/// and the gate sees each of their turns. Each search of a task's walks and each refinement at a vertex ends after `budget` steps at the
-/// latest.
+/// Decides whether a set with constrained deadlines is schedulable under fixed priorities. So many workers search the walks of a task
+/// together, and the gate sees each of their turns. They prove the vertices of a task side by side, each vertex by one of them, and the
+/// gate sees none of these turns. Where its `alone` is 0 they prove one vertex after another together, and it sees these turns too.
+/// However many workers there are, the first vertex in file order that fails or spends its budget decides. Each search of a task's walks
+/// and each refinement at a vertex ends after `budget` steps at the latest.
 ///
 /// For each task, from the highest priority on, first each of its vertices is proved, in file order, against the trees of the tasks of
 /// higher priority. Then, unless it has the lowest priority, its walks are searched up to the greatest deadline of the set, for its own
@@ -61,7 +63,7 @@ pub fn analyse_fixed<G: Gate, R: Threads + Wait + Sync>(
     }
 }
 
-/// The same analysis, for whoever goes on with the trees of a set that is schedulable.
+/// The same analysis, by workers in the same way, for whoever goes on with the trees of a set that is schedulable.
 pub fn analyse_trees<G: Gate, R: Threads + Wait + Sync>(
     rt: &R,
     alloc: Global,

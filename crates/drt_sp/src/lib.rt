@@ -9,6 +9,7 @@
 
 mod analysis;
 mod answer;
+mod beside;
 mod deadlines;
 mod grown;
 pub mod laws;

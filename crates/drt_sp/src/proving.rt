@@ -6,10 +6,13 @@ ghost use Rattle.drt_refine.specs.Eager.{IsEager};
 ghost use Rattle.drt_refine.specs.Machine.{is_finished};
 ghost use Rattle.drt_refine.specs.Settled.{IsDone};
 ghost use Rattle.drt_refine.specs.View.{IsFrontier, setting_of, state_of};
+ghost use Rattle.drt_model.specs.Digraph.{vertex_count};
 ghost use Rattle.drt_sp.specs.Items.{AreItems, IsItemOf, IsVertexProof};
+ghost use Rattle.drt_sp.specs.Results.{CanProve, IsResult};
 ghost use Rattle.drt_steps.specs.Time.{AreChosen};
 
 use drt_evidence::Item;
+use drt_graph::Graph;
 use drt_model::{Memory, Row};
 use drt_pool::Gate;
 use drt_refine::{
@@ -66,6 +69,37 @@ pub(crate) fn prove_vertex<G: Gate, R: Threads + Wait + Sync>(
         FrontierReply::Passed => unreachable!(),
         FrontierReply::Halved(_, _) => unreachable!(),
     }
+}
+
+/// What becomes of the vertex of this number of a task's graph.
+pub(crate) fn prove_at<G: Gate, R: Threads + Wait + Sync>(
+    rt: &R,
+    alloc: Global,
+    forest: &Forest,
+    roots: &[u32],
+    graph: &Graph,
+    vertex: u32,
+    workers: u32,
+    budget: u64,
+    gate: &G,
+) -> Result<VertexProof, Memory>
+    requires can { CanProve forest.now roots.now graph.now budget }
+    requires vertex { vertex < vertex_count graph.now }
+    requires workers { (1 ≤ workers) × (workers ≤ 16) }
+    ensures { IfOk result (IsResult forest.now roots.now graph.now budget vertex) }
+{
+    let subject = graph.vertex(vertex);
+    prove_vertex(
+        rt,
+        alloc,
+        forest,
+        roots,
+        subject.wcet,
+        subject.deadline,
+        workers,
+        budget,
+        gate,
+    )
 }
 
 // The items of a finished frontier: those of a combination that was split are its own, then those of its left half, then
