@@ -4,28 +4,28 @@ use Rattle.std.specs.Prelude.{All, Err, IfOk, Ok, Result, Some, slice_get}
 use Rattle.std.specs.List.{AllByRecursion}
 use Rattle.std.proofs.lemmas.List.{length-map, length-take}
 use Rattle.drt_model.specs.declared.tasks.Task.{Task}
-use Rattle.drt_model.specs.Digraph.{Digraph, digraph_of}
+use Rattle.drt_model.specs.Digraph.{digraph_of}
 use Rattle.drt_model.specs.Limits.{IsTask}
 use Rattle.drt_evidence.specs.Proofs.{HasShape}
 use Rattle.drt_evidence.specs.Trees.{IsTree, by_priority, tree_graphs}
 use Rattle.drt_evidence.specs.declared.evidence.ProofClaim.{ProofClaim}
 use Rattle.drt_evidence.specs.declared.evidence.TreeClaim.{TreeClaim}
 use Rattle.drt_check_values.specs.declared.query.Query.{Query}
-use Rattle.drt_check_proofs.specs.Passing.{all_queries, value}
+use Rattle.drt_check_proofs.specs.Passing.{all_queries}
 use Rattle.drt_check_proofs.specs.Points.{IsTimely, Point, marks, points, query}
 use Rattle.drt_check_proofs.proofs.PointLaws.{marks_points, queries_points}
 use Rattle.drt_check_proofs.proofs.RoomLaws.{AreReady}
 use Rattle.drt_check_proofs.proofs.Withins.{points_short}
 
 -- The questions that were made are those of the points.
-pub asked_is : (tasks ts : List Task) (trees : List TreeClaim) (i : ℕ) (tree : TreeClaim) (proofs : List ProofClaim) (qs items : List Query) → qs ≡ items → items ≡ all_queries ts tree i proofs → ts ≡ tasks
-    → slice_get trees i ≡ Some tree → All (HasShape tasks trees) proofs → qs ≡ map (query i) (points tasks trees proofs)
+pub asked_is : (tasks ts : List Task) (trees : List TreeClaim) (i : ℕ) (tree : TreeClaim) (proofs : List ProofClaim) (qs items : List Query) → qs ≡ items → items ≡ all_queries ts tree i proofs
+    → ts ≡ tasks → slice_get trees i ≡ Some tree → All (HasShape tasks trees) proofs → qs ≡ map (query i) (points tasks trees proofs)
 asked_is tasks ts trees i tree proofs qs items e f same at shapes =
     e ∙ (f ∙ (ap (λ (us : List Task). all_queries us tree i proofs) same ∙ queries_points tasks trees i tree at proofs shapes))
 
--- There are as many values as points.
-pub as_many : (g : Digraph) (tree : TreeClaim) (i : ℕ) (ps : List Point) (qs : List Query) (values : List ℕ) → qs ≡ map (query i) ps → values ≡ map (value g tree) qs → length values ≡ length ps
-as_many g tree i ps qs values asked are = ap length (are ∙ ap (map (value g tree)) asked) ∙ (length-map (map (query i) ps) (value g tree) ∙ length-map ps (query i))
+-- There are as many questions as points.
+pub as_many : (i : ℕ) (ps : List Point) (qs : List Query) → qs ≡ map (query i) ps → length qs ≡ length ps
+as_many i ps qs asked = ap length asked ∙ length-map ps (query i)
 
 -- Points whose marks are in time are ready.
 pub ready_is : (version : ℕ) (tasks : List Task) (trees : List TreeClaim) (proofs : List ProofClaim) → All (HasShape tasks trees) proofs → All (IsTask version) tasks

@@ -10,7 +10,7 @@ use Rattle.drt_evidence.specs.Proofs.{sum_at}
 use Rattle.drt_evidence.specs.Trees.{IsTree}
 use Rattle.drt_evidence.specs.declared.evidence.TreeClaim.{TreeClaim}
 use Rattle.drt_check_values.specs.declared.query.Query.{Query}
-use Rattle.drt_check_proofs.specs.Passing.{value}
+use Rattle.drt_check_values.specs.Values.{AreLeft, AreWithin, value, values}
 use Rattle.drt_check_proofs.specs.Points.{AreRooms, IsPoint, IsTimely, Mark, Point, query, room, used}
 use Rattle.drt_check_proofs.proofs.Sums.{used_first, used_more, used_most}
 
@@ -42,30 +42,31 @@ rooms_first graphs trees ps rooms ready are = record {
   count = ap length are ∙ (length-map (map (λ p. p.mark) ps) room ∙ length-map ps (λ p. p.mark));
   left = λ k d l. (
       let p = get_or ps k d in
-      let here : get_or rooms k 0 ≡ room p.mark = ap (λ xs. get_or xs k 0) are ∙ (get_or-map room (map (λ p. p.mark) ps) k p.mark 0 (omega (arith, length-map ps (λ p. p.mark))) ∙ ap room (get_or-map (λ p. p.mark) ps k d p.mark l)) in
+      let at = get_or-map room (map (λ p. p.mark) ps) k p.mark 0 (omega (arith, length-map ps (λ p. p.mark))) in
+      let here : get_or rooms k 0 ≡ room p.mark = ap (λ xs. get_or xs k 0) are ∙ (at ∙ ap room (get_or-map (λ p. p.mark) ps k d p.mark l)) in
       let timely = (ready_at ps ready k d l).0 in
       omega (arith, here, timely.fits, used_first graphs trees p));
 }
 
 -- The values of the points' questions.
-values_at_point : (g : Digraph) (tree : TreeClaim) (i : ℕ) (ps : List Point) (qs : List Query) (values : List ℕ) → qs ≡ map (query i) ps → values ≡ map (value g tree) qs
-    → (k : ℕ) (d : Point) → k < length ps → (length values ≡ length ps) × (get_or values k 0 ≡ value g tree (query i (get_or ps k d)))
-values_at_point g tree i ps qs values asked are k d l =
-    let all : values ≡ map (value g tree) (map (query i) ps) = are ∙ ap (map (value g tree)) asked in
+values_at_point : (g : Digraph) (tree : TreeClaim) (i : ℕ) (ps : List Point) (qs : List Query) → qs ≡ map (query i) ps
+    → (k : ℕ) (d : Point) → k < length ps → (length (values g tree qs) ≡ length ps) × (get_or (values g tree qs) k 0 ≡ value g tree (query i (get_or ps k d)))
+values_at_point g tree i ps qs asked k d l =
     let long : length (map (query i) ps) ≡ length ps = length-map ps (query i) in (
-      ap length all ∙ (length-map (map (query i) ps) (value g tree) ∙ long),
-      ap (λ xs. get_or xs k 0) all ∙ (get_or-map (value g tree) (map (query i) ps) k (query i d) 0 (omega (arith, long)) ∙ ap (value g tree) (get_or-map (query i) ps k d (query i d) l)),
+      length-map qs (value g tree) ∙ (ap length asked ∙ long),
+      ap (λ (asks : List Query). get_or (values g tree asks) k 0) asked
+          ∙ (get_or-map (value g tree) (map (query i) ps) k (query i d) 0 (omega (arith, long)) ∙ ap (value g tree) (get_or-map (query i) ps k d (query i d) l)),
     )
 
 -- Where the values were taken, what is left is so at one place more.
-pub rooms_more : (graphs : List Digraph) (trees : List TreeClaim) (i : ℕ) (g : Digraph) (tree : TreeClaim) (ps : List Point) (qs : List Query) (values rooms next : List ℕ)
-    → slice_get graphs i ≡ Some g → slice_get trees i ≡ Some tree → IsTree tree → AreReady ps → qs ≡ map (query i) ps → values ≡ map (value g tree) qs → AreRooms graphs trees i ps rooms
-    → length next ≡ length rooms → ((k : ℕ) → k < length values → get_or next k 0 + get_or values k 0 ≡ get_or rooms k 0) → AreRooms graphs trees (i + 1) ps next
-rooms_more graphs trees i g tree ps qs values rooms next at_g at_tree is ready asked are so_far long taken = record {
+pub rooms_more : (graphs : List Digraph) (trees : List TreeClaim) (i : ℕ) (g : Digraph) (tree : TreeClaim) (ps : List Point) (qs : List Query) (rooms next : List ℕ)
+    → slice_get graphs i ≡ Some g → slice_get trees i ≡ Some tree → IsTree tree → AreReady ps → qs ≡ map (query i) ps → AreRooms graphs trees i ps rooms
+    → length next ≡ length rooms → AreLeft (values g tree qs) rooms next → AreRooms graphs trees (i + 1) ps next
+rooms_more graphs trees i g tree ps qs rooms next at_g at_tree is ready asked so_far long taken = record {
   count = long ∙ so_far.count;
   left = λ k d l. (
       let p = get_or ps k d in
-      let v = values_at_point g tree i ps qs values asked are k d l in
+      let v = values_at_point g tree i ps qs asked k d l in
       let step = used_more graphs trees i g tree p at_g at_tree is (ready_at ps ready k d l).1 in
       let before = so_far.left k d l in
       let here = taken k (omega (arith, v.0)) in
@@ -73,15 +74,15 @@ rooms_more graphs trees i g tree ps qs values rooms next at_g at_tree is ready a
 }
 
 -- Where all points pass, the values fit.
-pub values_fit : (graphs : List Digraph) (trees : List TreeClaim) (i : ℕ) (g : Digraph) (tree : TreeClaim) (ps : List Point) (qs : List Query) (values rooms : List ℕ)
-    → slice_get graphs i ≡ Some g → slice_get trees i ≡ Some tree → IsTree tree → AreReady ps → qs ≡ map (query i) ps → values ≡ map (value g tree) qs → AreRooms graphs trees i ps rooms
-    → AllByRecursion (IsPoint graphs trees) ps → (k : ℕ) → k < length values → get_or values k 0 ≤ get_or rooms k 0
-values_fit graphs trees i g tree ps qs values rooms at_g at_tree is ready asked are so_far all k m =
-    let many : length values ≡ length ps = ap length (are ∙ ap (map (value g tree)) asked) ∙ (length-map (map (query i) ps) (value g tree) ∙ length-map ps (query i)) in
+pub values_fit : (graphs : List Digraph) (trees : List TreeClaim) (i : ℕ) (g : Digraph) (tree : TreeClaim) (ps : List Point) (qs : List Query) (rooms : List ℕ)
+    → slice_get graphs i ≡ Some g → slice_get trees i ≡ Some tree → IsTree tree → AreReady ps → qs ≡ map (query i) ps → AreRooms graphs trees i ps rooms
+    → AllByRecursion (IsPoint graphs trees) ps → AreWithin (values g tree qs) rooms
+values_fit graphs trees i g tree ps qs rooms at_g at_tree is ready asked so_far all k m =
+    let many : length (values g tree qs) ≡ length ps = length-map qs (value g tree) ∙ (ap length asked ∙ length-map ps (query i)) in
     let l : k < length ps = omega (arith, many) in
     let d = no_point tt in
     let p = get_or ps k d in
-    let v = values_at_point g tree i ps qs values asked are k d l in
+    let v = values_at_point g tree i ps qs asked k d l in
     let step = used_more graphs trees i g tree p at_g at_tree is (ready_at ps ready k d l).1 in
     let passes : IsPoint graphs trees p = All-from_recursion (IsPoint graphs trees) ps all k d l in
     omega (arith, v.1, step, so_far.left k d l, used_most graphs trees (i + 1) p, passes.fits)

@@ -10,7 +10,7 @@ use Rattle.drt_evidence.specs.Proofs.{sum_at}
 use Rattle.drt_evidence.specs.Trees.{IsTree, asked, joined, node_values}
 use Rattle.drt_evidence.specs.declared.evidence.Pair.{Pair}
 use Rattle.drt_evidence.specs.declared.evidence.TreeClaim.{TreeClaim}
-use Rattle.drt_check_proofs.specs.Passing.{value}
+use Rattle.drt_check_values.specs.Values.{value}
 use Rattle.drt_check_proofs.specs.Points.{Point, query, query_in, used}
 
 -- The value of a node, if there is one.

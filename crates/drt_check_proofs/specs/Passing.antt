@@ -1,9 +1,8 @@
 -- Where the items that pass stand: their times, and their nodes at a place.
-use Rattle.std.specs.Prelude.{ℕ, min, nat_lt, if◌then◌else◌, Option, None, Some, List, [], ◌∷◌, ◌++◌, map, slice_get, slice_index_or}
+use Rattle.std.specs.Prelude.{ℕ, min, nat_lt, if◌then◌else◌, Option, None, Some, List, [], ◌∷◌, ◌++◌, map, slice_get}
 use Rattle.std.specs.List.{flat_map}
 use Rattle.drt_model.specs.declared.tasks.Task.{Task}
-use Rattle.drt_model.specs.Digraph.{Digraph}
-use Rattle.drt_evidence.specs.Trees.{higher_count, node_values, root}
+use Rattle.drt_evidence.specs.Trees.{higher_count, root}
 use Rattle.drt_evidence.specs.declared.evidence.Item.{Item}
 use Rattle.drt_evidence.specs.declared.evidence.Item.TheVariants.{Pass, Split}
 use Rattle.drt_evidence.specs.declared.evidence.ProofClaim.{ProofClaim}
@@ -50,7 +49,3 @@ queries_of tasks tree i proof = queries_in tasks tree i proof.items (slice_get t
 -- The questions of all proofs at a place.
 abbrev pub all_queries : List Task → TreeClaim → ℕ → List ProofClaim → List Query
 all_queries tasks tree i proofs = flat_map (queries_of tasks tree i) proofs
-
--- The value of the node at the time.
-abbrev pub value : Digraph → TreeClaim → Query → ℕ
-value g tree q = slice_index_or (node_values g tree q.time) q.node 0

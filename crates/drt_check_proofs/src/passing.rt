@@ -9,9 +9,9 @@ ghost use Rattle.drt_check_trees.specs.Order.{IsPriorityOrder};
 ghost use Rattle.drt_check_proofs.specs.Points.{AreRooms, IsPoint, IsTimely, marks, points};
 
 use crate::queries::place_queries;
-use crate::rooms::{add_rooms, take_values};
+use crate::rooms::add_rooms;
 use drt_check_trees::{greatest_deadline, tree_graph};
-use drt_check_values::values_at;
+use drt_check_values::take_values;
 use drt_evidence::{ProofClaim, TreeClaim};
 use drt_graph::Graphs;
 use drt_model::{Memory, TaskSet};
@@ -20,8 +20,8 @@ use std::alloc::Global;
 /// Whether each time at which an item of a proof passes passes: it is 1 or later, not past the deadline of the proof's vertex, and
 /// the execution time of the vertex and what the combination asks for before it fit into it.
 ///
-/// The values of each tree are asked for once, for all proofs. What is left of each time is kept between: 4 bytes for each item that
-/// passes, and 16 bytes beside them while a tree is asked.
+/// The values of each tree are asked for once, for all proofs, and none is kept. What is left of each time is kept between: 4 bytes
+/// for each item that passes, beside 8 for its question, and 4 more while a tree is asked.
 pub fn have_passing_times(
     alloc: Global,
     set: &TaskSet,
@@ -43,7 +43,15 @@ pub fn have_passing_times(
     if !add_rooms(set.tasks(), proofs, &mut rooms)? {
         return Ok(false);
     }
-    take_places(alloc, set, graphs, order, trees, proofs, &mut rooms)
+    take_places(
+        alloc,
+        set,
+        graphs,
+        order,
+        trees,
+        proofs,
+        rooms.as_mut_slice(),
+    )
 }
 
 // Room for the items that pass: a proof has one more of them than items that split.
@@ -63,7 +71,7 @@ fn take_places(
     order: &[u32],
     trees: &[TreeClaim],
     proofs: &[ProofClaim],
-    rooms: &mut Vec<u32>,
+    rooms: &mut [u32],
 ) -> Result<bool, Memory>
     requires graphs { graphs.now ≡ graphs_of set.now.tasks }
     requires order { IsPriorityOrder set.now.tasks order.now }
@@ -73,7 +81,7 @@ fn take_places(
     requires trees { All IsTree trees.now }
     requires proofs { All (HasShape set.now.tasks trees.now) proofs.now }
     requires timely { AllByRecursion IsTimely (marks set.now.tasks proofs.now) }
-    requires rooms { AreRooms (tree_graphs set.now.tasks trees.now) trees.now 0 (points set.now.tasks trees.now proofs.now) rooms.old.items }
+    requires rooms { AreRooms (tree_graphs set.now.tasks trees.now) trees.now 0 (points set.now.tasks trees.now proofs.now) rooms.old }
     ensures { IfOk result (λ have. IsTrue have ↔ AllByRecursion (IsPoint (tree_graphs set.now.tasks trees.now) trees.now) (points set.now.tasks trees.now proofs.now)) }
 {
     let tasks = set.tasks();
@@ -84,8 +92,7 @@ fn take_places(
         let tree = &trees[i];
         place_queries(tasks, tree, i, proofs, &mut nodes, &mut queries)?;
         let graph = tree_graph(set, graphs, order, trees, i);
-        let values = values_at(alloc, graph, tree, bound, queries.as_slice())?;
-        if !take_values(rooms, values.as_slice()) {
+        if !take_values(alloc, graph, tree, bound, queries.as_slice(), rooms)? {
             return Ok(false);
         }
     }

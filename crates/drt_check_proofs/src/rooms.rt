@@ -1,5 +1,5 @@
-//! What the times of proofs leave beside the execution times of their vertices, and the values of trees taken from it.
-ghost use Rattle.std.specs.Prelude.{◌≡◌, ℕ, ◌+◌, ◌<◌, ◌≤◌, ◌↔◌, ◌++◌, [], ◌∷◌, IfOk, IsTrue, length, map, slice_index, vec_len};
+//! What the times of proofs leave beside the execution times of their vertices.
+ghost use Rattle.std.specs.Prelude.{◌≡◌, ◌↔◌, ◌++◌, [], ◌∷◌, IfOk, IsTrue, map};
 ghost use Rattle.std.specs.List.{AllByRecursion};
 ghost use Rattle.drt_model.specs.Digraph.{digraph_of};
 ghost use Rattle.drt_model.specs.Walk.{deadline, wcet};
@@ -84,20 +84,4 @@ fn is_timely(wcet: u32, deadline: u32, time: u64) -> bool
     ensures { IsTrue result ↔ IsTimely (make_mark wcet deadline time) }
 {
     1 <= time && time <= deadline as u64 && wcet as u64 <= time
-}
-
-/// Takes each value from the room at its place, if each fits.
-pub(crate) fn take_values(rooms: &mut Vec<u32>, values: &[u64]) -> bool
-    requires { vec_len rooms.old ≡ length values.now }
-    ensures fits { IsTrue result ↔ ((k : ℕ) → k < length values.now → slice_index values.now k ≤ slice_index rooms.old.items k) }
-    ensures left { IsTrue result → (k : ℕ) → k < length values.now → slice_index rooms.new.items k + slice_index values.now k ≡ slice_index rooms.old.items k }
-    ensures count { vec_len rooms.new ≡ vec_len rooms.old }
-{
-    for k in 0..values.len() {
-        if values[k] > rooms[k] as u64 {
-            return false;
-        }
-        rooms[k] -= values[k] as u32;
-    }
-    true
 }

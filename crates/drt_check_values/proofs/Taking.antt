@@ -3,15 +3,18 @@ use Rattle.std.proofs.Common.{◌≡◌, ◌≢◌, ℕ, ◌+◌, ◌-◌, ◌<�
 use Rattle.std.proofs.Common.{refl, sym, ap, subst, arith, ◌∙◌}
 use Rattle.std.specs.Prelude.{◌&&◌, slice_range}
 use Rattle.std.specs.List.{range_with_len}
-use Rattle.std.proofs.lemmas.Bool.{cases_lt, cases_eq, eqb-true, eqb-false, lt-ltb, le-ltb}
+use Rattle.std.proofs.lemmas.Bool.{cases_lt, cases_eq, eqb-true, eqb-false, eq-eqb, ne_eqb, lt-ltb, le-ltb}
 use Rattle.std.proofs.lemmas.List.{map-id, ext_get_or, get_or-map, get_or-drop, get_or-replicate, length-set, length-map, length-drop, length-replicate, get_or-set_same, get_or-set_other}
 use Rattle.std.proofs.lemmas.List.FromFn.{map-range_with_len_more, length-range_with_len, length-map-range_with_len, get_or-range_with_len, get_or-map-range_with_len}
 use Rattle.std.proofs.lemmas.List.Elements.{All-from_get_or, All-more, All-head, All-tail, All-nil, All-weaker}
 use Rattle.std.proofs.lemmas.List.Sums.{sum_by-cons, sum_by_more, sum_by_more_le, sum_by-take-drop}
 use Rattle.std.proofs.lemmas.List.Sorted.{All-permutation, IsPermutation-sym}
+use Rattle.std.proofs.lemmas.Map.Keys.{IsDistinct-IsPermutation, IsDistinct-from_apart, apart_from_distinct}
+use Rattle.std.specs.List.{IsDistinct}
 use Rattle.drt_check_values.specs.declared.query.Query.{Query}
 use Rattle.drt_check_values.specs.declared.rises.Rise.{Rise}
 use Rattle.drt_check_values.specs.Rises.{added, risen}
+use Rattle.drt_check_values.specs.Values.{AreLeft, AreWithin}
 use Rattle.drt_check_values.specs.Sweeps.{AreReady, HasRun, IsInOrder, IsTaken, answer, heights, no_query, no_rise, time_of, total, totals, whole}
 
 totals_at : (rises : List Rise) (count p : ℕ) → p < count → get_or (totals rises count) p 0 ≡ total rises p
@@ -164,12 +167,13 @@ taken_later rises taken t u values l is = record {
 abbrev pub turn : List Query → List ℕ → ℕ → Query
 turn queries order j = get_or queries (get_or order j 0) no_query
 
--- After k turns.
-pub record IsSwept (queries : List Query) (order firsts sizes : List ℕ) (count : ℕ) (rises : List Rise) (k done : ℕ) (reached values : List ℕ) : Type 0 where
+-- After k turns, where the rooms were those before.
+pub record IsSwept (queries : List Query) (order firsts sizes : List ℕ) (count : ℕ) (rises : List Rise) (before : List ℕ) (k done : ℕ) (reached rooms : List ℕ) : Type 0 where
   pub width : length reached ≡ count
   pub taken : (j : ℕ) → k ≤ j → j < length order → IsTaken rises done (time_of queries (get_or order j 0)) reached
-  pub many : length values ≡ length queries
-  pub found : (j : ℕ) → j < k → j < length order → get_or values (get_or order j 0) 0 ≡ answer firsts sizes count rises (turn queries order j)
+  pub many : length rooms ≡ length before
+  pub left : (j : ℕ) → j < k → j < length order → get_or rooms (get_or order j 0) 0 + answer firsts sizes count rises (turn queries order j) ≡ get_or before (get_or order j 0) 0
+  pub same : (j : ℕ) → k ≤ j → j < length order → get_or rooms (get_or order j 0) 0 ≡ get_or before (get_or order j 0) 0
 
 all_range : (n : ℕ) → All (λ k. k < n) (range_with_len 0 n)
 all_range n = All-from_get_or (λ k. k < n) (range_with_len 0 n) 0 (λ i l. (let m : i < n = omega (arith, length-range_with_len 0 n) in omega (arith, get_or-range_with_len 0 n i 0 m)))
@@ -178,70 +182,118 @@ all_range n = All-from_get_or (λ k. k < n) (range_with_len 0 n) 0 (λ i l. (let
 pub turn_within : (queries : List Query) (order : List ℕ) → IsInOrder queries order → (j : ℕ) → j < length order → get_or order j 0 < length queries
 turn_within queries order is j l = All-permutation (λ k. k < length queries) (range_with_len 0 (length queries)) order is.all (all_range (length queries)) j 0 l
 
-pub swept_first : (queries : List Query) (order firsts sizes : List ℕ) (count : ℕ) (rises : List Rise) (reached values : List ℕ) → reached ≡ replicate count 0 → length values ≡ length queries
-    → IsSwept queries order firsts sizes count rises 0 0 reached values
-swept_first queries order firsts sizes count rises reached values e many = record {
+eqb_flips : (x y : ℕ) → eqb x y ≡ eqb y x
+eqb_flips x y = go (cases_eq x y)
+  where
+    go : (x ≡ y) ⊎ (x ≢ y) → eqb x y ≡ eqb y x
+    go (inl e) = eq-eqb x y e ∙ sym (eq-eqb y x (sym e))
+    go (inr differ) = ne_eqb x y differ ∙ sym (ne_eqb y x (λ e. differ (sym e)))
+
+-- No two turns have the same query.
+turn_once : (queries : List Query) (order : List ℕ) → IsInOrder queries order → (i j : ℕ) → i < j → j < length order → get_or order i 0 ≢ get_or order j 0
+turn_once queries order is i j l m = eqb-false (get_or order i 0) (get_or order j 0) (apart_from_distinct eqb order i j 0 once l m)
+  where
+    n : ℕ
+    n = length queries
+
+    apart : (i j d : ℕ) → i < j → j < length (range_with_len 0 n) → eqb (get_or (range_with_len 0 n) i d) (get_or (range_with_len 0 n) j d) ≡ false
+    apart i j d l m = ne_eqb (get_or (range_with_len 0 n) i d) (get_or (range_with_len 0 n) j d) (λ same. (
+        let k : j < n = omega (arith, m, length-range_with_len 0 n) in
+        omega (arith, same, get_or-range_with_len 0 n i d (omega arith), get_or-range_with_len 0 n j d k)))
+
+    once : IsDistinct eqb order
+    once = IsDistinct-IsPermutation eqb eqb_flips (range_with_len 0 n) order is.all (IsDistinct-from_apart eqb (range_with_len 0 n) apart)
+
+pub swept_first : (queries : List Query) (order firsts sizes : List ℕ) (count : ℕ) (rises : List Rise) (before reached : List ℕ) → reached ≡ replicate count 0
+    → IsSwept queries order firsts sizes count rises before 0 0 reached before
+swept_first queries order firsts sizes count rises before reached e = record {
   width = wide;
   taken = λ j l m. record {
     within = omega arith;
     early = All-nil (λ (r : Rise). r.offset < time_of queries (get_or order j 0));
     sums = e ∙ (totals_none count ∙ ap (totals []) (sym wide));
   };
-  many = many;
-  found = λ j l m. absurd (omega arith);
+  many = refl;
+  left = λ j l m. absurd (omega arith);
+  same = λ j l m. refl;
 }
   where
     wide : length reached ≡ count
     wide = ap length e ∙ length-replicate count 0
 
--- One turn more.
-pub swept_next : (queries : List Query) (order firsts sizes : List ℕ) (count : ℕ) (rises : List Rise) (k taken taken' value : ℕ) (reached reached' values : List ℕ)
-    → IsInOrder queries order → k < length order → AreReady count rises → IsSwept queries order firsts sizes count rises k taken reached values
+-- What is found at a turn is the answer to its query.
+pub answer_found : (queries : List Query) (order firsts sizes : List ℕ) (count : ℕ) (rises : List Rise) (before : List ℕ) (k taken taken' value : ℕ) (reached reached' rooms : List ℕ)
+    → AreReady count rises → IsSwept queries order firsts sizes count rises before k taken reached rooms
     → IsTaken rises taken' (time_of queries (get_or order k 0)) reached' → length reached' ≡ length reached
     → (taken' < length rises → time_of queries (get_or order k 0) ≤ (rise_of rises taken').offset)
     → (reached' ≡ heights rises count (time_of queries (get_or order k 0)) → value ≡ answer firsts sizes count rises (turn queries order k))
-    → IsSwept queries order firsts sizes count rises (k + 1) taken' reached' (set values (get_or order k 0) value)
-swept_next queries order firsts sizes count rises k taken taken' value reached reached' values is l ready swept new same late answers = record {
+    → value ≡ answer firsts sizes count rises (turn queries order k)
+answer_found queries order firsts sizes count rises before k taken taken' value reached reached' rooms ready swept new same late answers =
+    answers (all_early rises taken' (time_of queries (get_or order k 0)) count reached' ready new (sym (same ∙ swept.width)) late)
+
+-- One turn more, at which the answer is taken from its room.
+pub swept_next : (queries : List Query) (order firsts sizes : List ℕ) (count : ℕ) (rises : List Rise) (before : List ℕ) (k taken taken' value room : ℕ) (reached reached' rooms : List ℕ)
+    → IsInOrder queries order → length before ≡ length queries → k < length order → IsSwept queries order firsts sizes count rises before k taken reached rooms
+    → IsTaken rises taken' (time_of queries (get_or order k 0)) reached' → length reached' ≡ length reached
+    → value ≡ answer firsts sizes count rises (turn queries order k) → room + value ≡ get_or rooms (get_or order k 0) 0
+    → IsSwept queries order firsts sizes count rises before (k + 1) taken' reached' (set rooms (get_or order k 0) room)
+swept_next queries order firsts sizes count rises before k taken taken' value room reached reached' rooms is many l swept new same found spent = record {
   width = same ∙ swept.width;
   taken = λ j p q. taken_later rises taken' (time_of queries (get_or order k 0)) (time_of queries (get_or order j 0)) reached' (is.times k j 0 (omega arith) q) new;
-  many = length-set values (get_or order k 0) value ∙ swept.many;
-  found = λ j p q. go j p q (cases_eq (get_or order j 0) (get_or order k 0));
+  many = length-set rooms (get_or order k 0) room ∙ swept.many;
+  left = λ j p q. go j p q (cases_lt j k);
+  same = λ j p q. get_or-set_other rooms (get_or order k 0) (get_or order j 0) room 0 (λ e. turn_once queries order is k j (omega arith) q (sym e)) ∙ swept.same j (omega arith) q;
 }
   where
-    value_is : value ≡ answer firsts sizes count rises (turn queries order k)
-    value_is = answers (all_early rises taken' (time_of queries (get_or order k 0)) count reached' ready new (sym (same ∙ swept.width)) late)
+    go : (j : ℕ) → j < k + 1 → j < length order → (j < k) ⊎ (k ≤ j)
+        → get_or (set rooms (get_or order k 0) room) (get_or order j 0) 0 + answer firsts sizes count rises (turn queries order j) ≡ get_or before (get_or order j 0) 0
+    go j p q (inl less) =
+        let other = get_or-set_other rooms (get_or order k 0) (get_or order j 0) room 0 (turn_once queries order is j k less l) in
+        omega (arith, other, swept.left j less q)
+    go j p q (inr last) =
+        let e : j ≡ k = omega arith in
+        let inside : get_or order k 0 < length rooms = (let w = turn_within queries order is k l in omega (arith, w, swept.many, many)) in
+        let at = get_or-set_same rooms (get_or order k 0) room 0 inside in
+        let here : get_or (set rooms (get_or order k 0) room) (get_or order k 0) 0 + answer firsts sizes count rises (turn queries order k) ≡ get_or before (get_or order k 0) 0 =
+        omega (arith, at, found, spent, swept.same k (omega arith) l) in
+        rw e here
 
-    go : (j : ℕ) → j < k + 1 → j < length order → (get_or order j 0 ≡ get_or order k 0) ⊎ (get_or order j 0 ≢ get_or order k 0)
-        → get_or (set values (get_or order k 0) value) (get_or order j 0) 0 ≡ answer firsts sizes count rises (turn queries order j)
-    go j p q (inl e) =
-        rw e (get_or-set_same values (get_or order k 0) value 0 (let w = turn_within queries order is k l in omega (arith, w, swept.many)) ∙ value_is)
-    go j p q (inr differ) =
-        let less : j < k = earlier (cases_lt j k) in
-        get_or-set_other values (get_or order k 0) (get_or order j 0) value 0 differ ∙ swept.found j less q
-      where
-        earlier : (j < k) ⊎ (k ≤ j) → j < k
-        earlier (inl m) = m
-        earlier (inr m) = absurd (let e : j ≡ k = omega arith in differ (ap (λ n. get_or order n 0) e))
+-- Where an answer doesn't fit into its room, not all do.
+pub swept_stops : (queries : List Query) (order firsts sizes : List ℕ) (count : ℕ) (rises : List Rise) (before : List ℕ) (k taken value : ℕ) (reached rooms : List ℕ) → IsInOrder queries order
+    → k < length order → IsSwept queries order firsts sizes count rises before k taken reached rooms → value ≡ answer firsts sizes count rises (turn queries order k)
+    → AreWithin (map (answer firsts sizes count rises) queries) before → value ≤ get_or rooms (get_or order k 0) 0
+swept_stops queries order firsts sizes count rises before k taken value reached rooms is l swept found within =
+    let inside = turn_within queries order is k l in
+    let at = get_or-map (answer firsts sizes count rises) queries (get_or order k 0) no_query 0 inside in
+    let fits = within (get_or order k 0) (omega (arith, inside, length-map queries (answer firsts sizes count rises))) in
+    omega (arith, found, at, fits, swept.same k (omega arith) l)
 
--- After all turns each query has its answer.
-pub swept_all : (queries : List Query) (order firsts sizes : List ℕ) (count : ℕ) (rises : List Rise) (k taken : ℕ) (reached values : List ℕ) → IsInOrder queries order → length order ≤ k
-    → IsSwept queries order firsts sizes count rises k taken reached values → values ≡ map (answer firsts sizes count rises) queries
-swept_all queries order firsts sizes count rises k taken reached values is l swept =
-    ext_get_or 0 values (map (answer firsts sizes count rises) queries) (omega (arith, swept.many, length-map queries (answer firsts sizes count rises))) each
+-- After all turns each query's answer is taken from its room.
+pub swept_all : (queries : List Query) (order firsts sizes : List ℕ) (count : ℕ) (rises : List Rise) (before : List ℕ) (k taken : ℕ) (reached rooms : List ℕ) → IsInOrder queries order
+    → length order ≤ k → IsSwept queries order firsts sizes count rises before k taken reached rooms → AreLeft (map (answer firsts sizes count rises) queries) before rooms
+swept_all queries order firsts sizes count rises before k taken reached rooms is l swept n m =
+    omega (arith, found, get_or-map (answer firsts sizes count rises) queries n no_query 0 inside)
   where
-    turns : All (λ i. get_or values i 0 ≡ answer firsts sizes count rises (get_or queries i no_query)) order
-    turns = All-from_get_or (λ i. get_or values i 0 ≡ answer firsts sizes count rises (get_or queries i no_query)) order 0 (λ j m. swept.found j (omega arith) m)
+    Spent : ℕ → Type 0
+    Spent i = get_or rooms i 0 + answer firsts sizes count rises (get_or queries i no_query) ≡ get_or before i 0
 
-    all : All (λ i. get_or values i 0 ≡ answer firsts sizes count rises (get_or queries i no_query)) (range_with_len 0 (length queries))
-    all = All-permutation (λ i. get_or values i 0 ≡ answer firsts sizes count rises (get_or queries i no_query)) order (range_with_len 0 (length queries)) (IsPermutation-sym
-        (range_with_len 0 (length queries)) order is.all) turns
+    turns : All Spent order
+    turns = All-from_get_or Spent order 0 (λ j m. swept.left j (omega arith) m)
 
-    each : (n : ℕ) → n < length values → get_or values n 0 ≡ get_or (map (answer firsts sizes count rises) queries) n 0
-    each n m =
-        let inside : n < length queries = omega (arith, swept.many) in
+    all : All Spent (range_with_len 0 (length queries))
+    all = All-permutation Spent order (range_with_len 0 (length queries)) (IsPermutation-sym (range_with_len 0 (length queries)) order is.all) turns
+
+    inside : n < length queries
+    inside = omega (arith, m, length-map queries (answer firsts sizes count rises))
+
+    found : Spent n
+    found =
         let at : get_or (range_with_len 0 (length queries)) n 0 ≡ n = (let e = get_or-range_with_len 0 (length queries) n 0 inside in omega (arith, e)) in
-        let found = all n 0 (omega (arith, inside, length-range_with_len 0 (length queries))) in
-        subst (λ i. get_or values i 0 ≡ answer firsts sizes count rises (get_or queries i no_query)) at found ∙ sym (get_or-map (answer firsts sizes count rises) queries n no_query 0 inside)
+        subst Spent at (all n 0 (omega (arith, inside, length-range_with_len 0 (length queries))))
+
+-- What was taken fits.
+pub within_left : (values rooms left : List ℕ) → AreLeft values rooms left → AreWithin values rooms
+within_left values rooms left are k l = omega (arith, are k l)
 
 pub range_more : (n : ℕ) → range_with_len 0 (n + 1) ≡ range_with_len 0 n ++ n ∷ []
 range_more n =

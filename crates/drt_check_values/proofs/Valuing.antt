@@ -1,7 +1,6 @@
 -- What places have of the releases before a time, where these are the releases of a tree's walks, and the bound that it keeps.
-use Rattle.std.proofs.Common.{◌≡◌, ℕ, zero, suc, ◌+◌, ◌*◌, ◌<◌, ◌≤◌, Bool, true, false, cond, ltb, List, [], ◌∷◌, length, map, drop, take, All, get_or, ◌⊎◌, inl, inr, refl, sym, ap, arith, ◌∙◌}
+use Rattle.std.proofs.Common.{◌≡◌, ℕ, ◌+◌, ◌*◌, ◌<◌, ◌≤◌, Bool, true, false, cond, ltb, List, [], ◌∷◌, length, map, drop, take, All, get_or, ◌⊎◌, inl, inr, refl, sym, ap, arith, ◌∙◌}
 use Rattle.std.specs.List.Sorted.{IsPermutation, IsNonDecreasingBy}
-use Rattle.std.proofs.Math.Nat.{max-le}
 use Rattle.std.proofs.lemmas.Bool.{cases_lt}
 use Rattle.std.proofs.lemmas.List.{ext_get_or, get_or-map, get_or_past, length-map}
 use Rattle.std.proofs.lemmas.List.FromFn.{length-map-range_with_len, get_or-map-range_with_len}
@@ -17,11 +16,11 @@ use Rattle.drt_evidence.specs.Trees.{HasShortWalks, IsShortWalk, IsTree, asked, 
 use Rattle.drt_check_values.specs.declared.query.Query.{Query}
 use Rattle.drt_check_values.specs.declared.rises.Rise.{Rise}
 use Rattle.drt_check_values.specs.Greatest.{greatest}
-use Rattle.drt_check_values.specs.Leaves.{AreFirsts, AreSizes, leaf_order, leaves_below, node_count}
+use Rattle.drt_check_values.specs.Leaves.{AreFirsts, AreSizes, leaf_order, node_count}
 use Rattle.drt_check_values.specs.Rises.{AreRises, added, risen}
 use Rattle.drt_check_values.specs.Sweeps.{AreReady, HasRun, answer, heights, whole}
-use Rattle.drt_check_values.proofs.Halving.{greatest_none, greatest_cons}
-use Rattle.drt_check_values.proofs.Leaves.{asked_of, first_fits, node_value, order_count, value_found}
+use Rattle.drt_check_values.specs.Values.{value, values}
+use Rattle.drt_check_values.proofs.Leaves.{asked_of, first_fits, order_count, value_found}
 use Rattle.drt_check_values.proofs.Placing.{size_at, sizes_count}
 use Rattle.drt_check_values.proofs.Taking.{early_sum}
 
@@ -112,22 +111,15 @@ map_same {X} f h (x ∷ xs) all =
     let rest = map_same f h xs (All-tail (λ (y : X). f y ≡ h y) x xs all) in
     ap (λ y. y ∷ map f xs) one ∙ ap (λ ys. h x ∷ ys) rest
 
-pub answers_are : (g : Digraph) (tree : TreeClaim) → IsTree tree → (firsts sizes : List ℕ) (rises sorted : List Rise) (queries : List Query) → AreFirsts tree firsts
-    → AreSizes tree sizes → AreRises g tree rises
-    → IsPermutation rises sorted → All (λ q. q.node < node_count tree) queries
-    → map (answer firsts sizes (length tree.walks) sorted) queries ≡ map (λ q. get_or (node_values g tree q.time) q.node 0) queries
-answers_are g tree is firsts sizes rises sorted queries placed sized are same nodes =
-    map_same (answer firsts sizes (length tree.walks) sorted) (λ q. get_or (node_values g tree q.time) q.node 0) queries
-    (λ k d l. answer_is g tree is firsts sizes rises sorted (get_or queries k d) placed sized are same (nodes k d l))
-
--- So what the sweep gives are the values of the queries' nodes.
-pub answers_same : (g : Digraph) (tree : TreeClaim) → IsTree tree → (firsts sizes : List ℕ) (rises sorted swept : List Rise) (count : ℕ) (queries : List Query) (values : List ℕ)
+-- So what the sweep takes are the values of the queries' nodes.
+pub answers_same : (g : Digraph) (tree : TreeClaim) → IsTree tree → (firsts sizes : List ℕ) (rises sorted swept : List Rise) (count : ℕ) (queries : List Query)
     → AreFirsts tree firsts → AreSizes tree sizes → AreRises g tree rises → IsPermutation rises sorted → All (λ q. q.node < node_count tree) queries
-    → swept ≡ sorted → count ≡ length tree.walks → values ≡ map (answer firsts sizes count swept) queries
-    → values ≡ map (λ q. get_or (node_values g tree q.time) q.node 0) queries
-answers_same g tree is firsts sizes rises sorted swept count queries values placed sized are same nodes e f found =
-    found ∙ (ap (λ (rs : List Rise). map (answer firsts sizes count rs) queries) e
-    ∙ (ap (λ n. map (answer firsts sizes n sorted) queries) f ∙ answers_are g tree is firsts sizes rises sorted queries placed sized are same nodes))
+    → swept ≡ sorted → count ≡ length tree.walks → map (answer firsts sizes count swept) queries ≡ values g tree queries
+answers_same g tree is firsts sizes rises sorted swept count queries placed sized are same nodes e f =
+    ap (λ (rs : List Rise). map (answer firsts sizes count rs) queries) e
+    ∙ (ap (λ n. map (answer firsts sizes n sorted) queries) f
+    ∙ map_same (answer firsts sizes (length tree.walks) sorted) (value g tree) queries
+    (λ k d l. answer_is g tree is firsts sizes rises sorted (get_or queries k d) placed sized are same (nodes k d l)))
 
 -- The query's places are some of those that there are.
 pub has_runs : (tree : TreeClaim) → IsTree tree → (firsts sizes : List ℕ) (queries : List Query) → AreFirsts tree firsts → AreSizes tree sizes → All (λ q. q.node < node_count tree) queries
@@ -143,21 +135,3 @@ has_runs tree is firsts sizes queries placed sized nodes k d l = one (get_or que
           let o = order_count tree is in
           omega (arith, f, s, o));
     }
-
-greatest_most : (f : ℕ → ℕ) (m : ℕ) (xs : List ℕ) → ((w : ℕ) → f w ≤ m) → greatest (map f xs) ≤ m
-greatest_most f m [] most = (let e = greatest_none in omega (arith, e))
-greatest_most f m (x ∷ xs) most =
-    let e = greatest_cons (f x) (map f xs) in
-    let h = max-le (most x) (greatest_most f m xs most) in
-    omega (arith, e, h)
-
--- No value is more than 10^12.
-pub values_most : (g : Digraph) → IsSound g → (tree : TreeClaim) → IsTree tree → (bound : ℕ) → bound ≤ 1000000 → HasShortWalks bound g tree → (queries : List Query)
-    → All (λ q. q.node < node_count tree) queries → All (λ x. x ≤ 1000000000000) (map (λ q. get_or (node_values g tree q.time) q.node 0) queries)
-values_most g sound tree is bound few short [] nodes k d l = absurd (omega arith)
-values_most g sound tree is bound few short (q ∷ queries) nodes zero d l =
-    let v = node_value g tree is q.time q.node (nodes 0 q (omega arith)) in
-    let m = greatest_most (asked_of g tree q.time) 1000000000000 (leaves_below tree q.node) (walk_most g sound tree bound few short q.time) in
-    omega (arith, v, m)
-values_most g sound tree is bound few short (q ∷ queries) nodes (suc k) d l =
-    values_most g sound tree is bound few short queries (All-tail (λ (p : Query). p.node < node_count tree) q queries nodes) k d (omega arith)

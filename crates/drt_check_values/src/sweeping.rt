@@ -1,41 +1,61 @@
 //! The sweep over the times of queries, in order.
-ghost use Rattle.std.specs.Prelude.{◌≡◌, ◌+◌, ◌<◌, ◌≤◌, All, IfOk, length, map, slice_index_or, slice_range};
+ghost use Rattle.std.specs.Prelude.{◌≡◌, ◌+◌, ◌<◌, ◌≤◌, ◌↔◌, All, IfOk, IsTrue, length, map, slice_index_or, slice_range};
 ghost use Rattle.drt_check_values.specs.Greatest.{greatest};
 ghost use Rattle.drt_check_values.specs.Sweeps.{AreReady, HasRun, IsInOrder, IsTaken, answer, heights, no_rise, time_of};
+ghost use Rattle.drt_check_values.specs.Values.{AreLeft, AreWithin};
 
 use crate::greatest_values::GreatestValues;
 use crate::places::Places;
 use crate::query::Query;
 use crate::rises::Rise;
 use drt_model::Memory;
-use std::alloc::Global;
+use std::alloc::{AllocError, Global};
 
-/// For each query the greatest of what the releases add before its time to the places of its node, in the order of the queries.
-/// The queries are answered in the given order, which is one of their times, and each release is taken in once.
+/// Takes for each query, from the room at its place, the greatest of what the releases add before its time to the places of its
+/// node, and ends at the first that doesn't fit. The queries are answered in the given order, which is one of their times, and each
+/// release is taken in once.
 pub(crate) fn sweep(
     alloc: Global,
     queries: &[Query],
-    order: &[usize],
+    order: &[u32],
     places: &Places,
     rises: &[Rise],
     count: usize,
-) -> Result<Vec<u64>, Memory>
+    rooms: &mut [u32],
+) -> Result<bool, Memory>
     requires count { count ≤ 4294967295 }
     requires order { IsInOrder queries.now order.now }
     requires runs { All (HasRun places.now.firsts.items places.now.sizes.items count) queries.now }
     requires rises { AreReady count rises.now }
-    ensures { IfOk result (λ values. values.items ≡ map (answer places.now.firsts.items places.now.sizes.items count rises.now) queries.now) }
+    requires rooms { length rooms.old ≡ length queries.now }
+    ensures fits { IfOk result (λ fit. IsTrue fit ↔ AreWithin (map (answer places.now.firsts.items places.now.sizes.items count rises.now) queries.now) rooms.old) }
+    ensures left { IfOk result (λ fit. IsTrue fit → AreLeft (map (answer places.now.firsts.items places.now.sizes.items count rises.now) queries.now) rooms.old rooms.new) }
+    ensures count { length rooms.new ≡ length rooms.old }
 {
     let mut reached = GreatestValues::zeros(alloc, count)?;
-    let mut values = vec![in alloc; 0u64; queries.len()]?;
     let mut taken = 0;
     'turns: for k in 0..order.len() {
-        let index = order[k];
+        let index = order[k] as usize;
         let query = queries[index];
         taken = take_in(&mut reached, rises, taken, query.time);
-        values[index] = greatest_below(&reached, places, query.node);
+        let value = greatest_below(&reached, places, query.node);
+        if !take_value(&mut rooms[index], value) {
+            return Ok(false);
+        }
     }
-    Ok(values)
+    Ok(true)
+}
+
+// Takes a value from a room, if it fits.
+fn take_value(room: &mut u32, value: u64) -> bool
+    ensures fits { IsTrue result ↔ value ≤ room.old }
+    ensures left { IsTrue result → room.new + value ≡ room.old }
+{
+    if value > u64::from(*room) {
+        return false;
+    }
+    *room -= value as u32;
+    true
 }
 
 // Takes in the releases that come before a time, from the first that isn't taken in yet on, and says how many are then.
@@ -67,18 +87,21 @@ fn greatest_below(reached: &GreatestValues, places: &Places, node: u32) -> u64
     reached.greatest_in(first, first + size)
 }
 
-/// The numbers of the queries in order of their times.
-pub(crate) fn in_order(alloc: Global, queries: &[Query]) -> Result<Vec<usize>, Memory>
+/// The numbers of the queries in order of their times. More queries than numbers of 32 bits are want of memory.
+pub(crate) fn in_order(alloc: Global, queries: &[Query]) -> Result<Vec<u32>, Memory>
     ensures { IfOk result (λ order. IsInOrder queries.now order.items) }
 {
+    let Ok(count) = u32::try_from(queries.len()) else {
+        return Err(AllocError);
+    };
     let mut order = Vec::with_capacity(alloc, queries.len())?;
-    for k in 0..queries.len() {
+    for k in 0..count {
         order.push(k)?;
     }
     order.sort_unstable_by_key(
-        |k: &usize| -> u32
+        |k: &u32| -> u32
             ensures { result ≡ time_of queries.entry.now k.now }
-        { time_at(queries, *k) },
+        { time_at(queries, *k as usize) },
     );
     Ok(order)
 }

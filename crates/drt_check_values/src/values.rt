@@ -1,8 +1,9 @@
-//! The values of nodes at times.
-ghost use Rattle.std.specs.Prelude.{◌≡◌, ◌+◌, ◌^◌, ◌<◌, ◌≤◌, All, IfOk, length, map, slice_index_or};
+//! The values of nodes at times, taken from rooms.
+ghost use Rattle.std.specs.Prelude.{◌≡◌, ◌+◌, ◌<◌, ◌≤◌, ◌↔◌, All, IfOk, IsTrue, length};
 ghost use Rattle.drt_model.specs.Digraph.{IsSound};
 ghost use Rattle.drt_evidence.specs.Ranges.{IsInRangeTree};
-ghost use Rattle.drt_evidence.specs.Trees.{HasShortWalks, IsTree, node_values};
+ghost use Rattle.drt_evidence.specs.Trees.{HasShortWalks, IsTree};
+ghost use Rattle.drt_check_values.specs.Values.{AreLeft, AreWithin, values};
 
 use crate::places::places_of;
 use crate::query::Query;
@@ -13,25 +14,29 @@ use drt_graph::Graph;
 use drt_model::Memory;
 use std::alloc::Global;
 
-/// The value of each query's node at its time, in the order of the queries.
+/// Takes the value of each query's node at its time from the room at the query's place, and says whether each fits. The rooms are
+/// of use only where all fit.
 ///
 /// It takes time in proportion to the vertices of all walks and the queries, times a logarithm of their number, however deep the
 /// tree is, and nothing recurses. At its most it keeps 12 bytes for each vertex of a walk, some 32 for each walk with its pair, and
-/// 16 for each query.
-pub fn values_at(
+/// 4 for each query. More than 4,294,967,295 queries are want of memory.
+pub fn take_values(
     alloc: Global,
     graph: &Graph,
     tree: &TreeClaim,
     bound: u32,
     queries: &[Query],
-) -> Result<Vec<u64>, Memory>
+    rooms: &mut [u32],
+) -> Result<bool, Memory>
     requires bound { bound ≤ 1000000 }
     requires short { HasShortWalks bound graph.now tree.now }
     requires tree { IsTree tree.now }
     requires ranges { IsInRangeTree tree.now }
     requires nodes { All (λ q. q.node < length tree.now.walks + length tree.now.pairs) queries.now }
-    ensures values { IfOk result (λ values. values.items ≡ map (λ q. slice_index_or (node_values graph.now tree.now q.time) q.node 0) queries.now) }
-    ensures most { IfOk result (λ values. All (λ x. x ≤ 10 ^ 12) values.items) }
+    requires count { length rooms.old ≡ length queries.now }
+    ensures fits { IfOk result (λ fit. IsTrue fit ↔ AreWithin (values graph.now tree.now queries.now) rooms.old) }
+    ensures left { IfOk result (λ fit. IsTrue fit → AreLeft (values graph.now tree.now queries.now) rooms.old rooms.new) }
+    ensures count { length rooms.new ≡ length rooms.old }
 {
     keep_limits(graph);
     let places = places_of(alloc, tree)?;
@@ -39,15 +44,16 @@ pub fn values_at(
     put_in_order(&mut rises);
     let order = in_order(alloc, queries)?;
     let count = tree.walks.as_slice().len();
-    let values = sweep(
+    let fit = sweep(
         alloc,
         queries,
         order.as_slice(),
         &places,
         rises.as_slice(),
         count,
+        rooms,
     )?;
-    Ok(values)
+    Ok(fit)
 }
 
 // A graph keeps the limits. Nothing is to be done for it.

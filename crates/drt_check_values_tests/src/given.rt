@@ -1,8 +1,8 @@
 //! The worked task and tree.
-ghost use Rattle.std.specs.Prelude.{◌≡◌, ◌<◌, ◌∷◌, [], All, IfOk};
+ghost use Rattle.std.specs.Prelude.{◌≡◌, ◌<◌, ◌∷◌, [], All, IfOk, length};
 ghost use Rattle.drt_check_values_tests.specs.Worked.{graph, task, tree};
 
-use drt_check_values::{Query, values_at};
+use drt_check_values::{Query, take_values};
 use drt_evidence::{Pair, TreeClaim};
 use drt_graph::{Graphs, check};
 use drt_model::{Edge, Memory, Name, Row, Task, Vertex, task_set};
@@ -76,12 +76,14 @@ fn given_tree(alloc: Global) -> Result<TreeClaim, Memory>
     })
 }
 
-// What is answered to queries of the worked tree's nodes.
-pub(crate) fn answers(alloc: Global, queries: &[Query]) -> Result<Vec<u64>, Fail>
-    requires { All (λ q. q.node < 5) queries.now }
+// Whether the values of the worked tree's nodes fit into the rooms, and what they leave there.
+pub(crate) fn are_taken(alloc: Global, queries: &[Query], rooms: &mut [u32]) -> Result<bool, Fail>
+    requires nodes { All (λ q. q.node < 5) queries.now }
+    requires count { length rooms.old ≡ length queries.now }
+    ensures { length rooms.new ≡ length rooms.old }
 {
     let graphs = given_graphs(alloc)?;
     let tree = given_tree(alloc)?;
     let graph = graphs.graph(0);
-    Ok(values_at(alloc, graph, &tree, 5, queries)?)
+    Ok(take_values(alloc, graph, &tree, 5, queries, rooms)?)
 }

@@ -1,4 +1,4 @@
-//! Worked trees: what their nodes' values are, as the definitions compute them and as `values_at` answers.
+//! Worked trees: what their nodes' values are, as the definitions compute them and as `take_values` takes them.
 #![tactic(auto)]
 
 #[cfg(test)]

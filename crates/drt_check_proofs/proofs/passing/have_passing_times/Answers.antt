@@ -36,8 +36,8 @@ take_places-requires-clause-rooms c =
     let ready = ready_is c.args.set.now.version tasks trees proofs c.requires.proofs c.tasks.ensures.limits.each timely in
     let made : c.add_rooms.new.rooms.items ≡ map room (marks c.tasks.result.now proofs) =
     c.in_ok-add_rooms.ensures.rooms yes ∙ ap (λ xs. xs ++ map room (marks c.tasks.result.now proofs)) c.in_ok-rooms.ensures.items in
-    rooms_first (tree_graphs tasks trees) trees (points tasks trees proofs) c.add_rooms.new.rooms.items ready
-    (made ∙ (ap (λ (ts : List Task). map room (marks ts proofs)) c.tasks.ensures.tasks ∙ ap (map room) (marks_points tasks trees proofs c.requires.proofs)))
+    rooms_first (tree_graphs tasks trees) trees (points tasks trees proofs) c.as_mut_slice.result.now ready
+    (c.as_mut_slice.ensures.value ∙ (made ∙ (ap (λ (ts : List Task). map room (marks ts proofs)) c.tasks.ensures.tasks ∙ ap (map room) (marks_points tasks trees proofs c.requires.proofs))))
 
 pub returns : goal.returns
 returns c =

@@ -9,8 +9,8 @@ use Rattle.drt_check_proofs.proofs.RoomLaws.{each_at, rooms_last, rooms_more, va
 use Rattle.drt_check_proofs.proofs.Withins.{queries_within}
 use Rattle.drt_check_proofs.proofs.passing.take_places.Goals as goal
 
-pub values_at-requires-clause-short : goal.values_at-requires-clause-short
-values_at-requires-clause-short c =
+pub take_values-requires-clause-short : goal.take_values-requires-clause-short
+take_values-requires-clause-short c =
     let tasks = c.args.set.now.tasks in
     let trees = c.args.trees.now in
     let tree = c.index-trees-i.result in
@@ -19,14 +19,14 @@ values_at-requires-clause-short c =
     let short = each_at (HasShortWalks (greatest_deadline tasks)) (tree_graphs tasks trees) trees c.places.i g tree c.requires.walks c.tree_graph-graph.ensures.graph at in
     subst (λ b. HasShortWalks b g tree) (sym c.greatest_deadline-bound.ensures.value) short
 
-pub values_at-requires-clause-nodes : goal.values_at-requires-clause-nodes
-values_at-requires-clause-nodes c =
+pub take_values-requires-clause-nodes : goal.take_values-requires-clause-nodes
+take_values-requires-clause-nodes c =
     let tree = c.index-trees-i.result in
     let is = tree_is c.args.trees.now c.places.i tree c.requires.trees c.places-test.true c.index-trees-i.is in
     queries_within c.tasks-tasks.result.now tree c.places.i c.args.proofs.now c.as_slice.result.now is (c.as_slice.ensures.value ∙ c.in_ok-place_queries.ensures)
 
-pub take_values-requires : goal.take_values-requires
-take_values-requires c =
+pub take_values-requires-clause-count : goal.take_values-requires-clause-count
+take_values-requires-clause-count c =
     let tasks = c.args.set.now.tasks in
     let trees = c.args.trees.now in
     let proofs = c.args.proofs.now in
@@ -34,12 +34,10 @@ take_values-requires c =
     let at : slice_get trees c.places.i ≡ Some tree = slice_get_read trees (length trees) c.places.i tree refl c.places-test.true c.index-trees-i.is in
     let asked = asked_is tasks c.tasks-tasks.result.now trees c.places.i tree proofs c.as_slice.result.now c.place_queries.new.queries.items c.as_slice.ensures.value c.in_ok-place_queries.ensures
     c.tasks-tasks.ensures.tasks at c.requires.proofs in
-    let many = as_many c.tree_graph-graph.result.now tree c.places.i (points tasks trees proofs) c.as_slice.result.now c.as_slice-in-places.result.now asked
-    (c.as_slice-in-places.ensures.value ∙ c.in_ok-values.ensures.values) in
-    omega (arith, many, c.places.invariant.count, c.places.rooms.ok.0)
+    omega (arith, as_many c.places.i (points tasks trees proofs) c.as_slice.result.now asked, c.places.invariant.count)
 
-pub returns-then-not-take_values : goal.returns-then-not-take_values
-returns-then-not-take_values c =
+pub returns-then-not-branch : goal.returns-then-not-branch
+returns-then-not-branch c =
     let tasks = c.args.set.now.tasks in
     let trees = c.args.trees.now in
     let proofs = c.args.proofs.now in
@@ -50,9 +48,9 @@ returns-then-not-take_values c =
     c.tasks-tasks.ensures.tasks at c.requires.proofs in
     let is = tree_is trees c.places.i tree c.requires.trees c.places-test.true c.index-trees-i.is in
     let ready = ready_is c.args.set.now.version tasks trees proofs c.requires.proofs c.tasks-tasks.ensures.limits.each c.requires.timely in
-    let fit = values_fit (tree_graphs tasks trees) trees c.places.i g tree (points tasks trees proofs) c.as_slice.result.now c.as_slice-in-places.result.now c.places.rooms.items c.tree_graph-graph.ensures.graph at is ready
-    asked (c.as_slice-in-places.ensures.value ∙ c.in_ok-values.ensures.values) c.places.invariant in
-    (λ e. absurd (false≢true e), λ all. absurd (both_ways c.take_values.result c.if-not-take_values.true (c.take_values.ensures.fits.1 (fit all))))
+    let fit = values_fit (tree_graphs tasks trees) trees c.places.i g tree (points tasks trees proofs) c.as_slice.result.now c.places.rooms
+    c.tree_graph-graph.ensures.graph at is ready asked c.places.invariant in
+    (λ e. absurd (false≢true e), λ all. absurd (both_ways c.in_ok-take_values.field-0 c.if-not-branch.true (c.in_ok-take_values.ensures.fits.1 (fit all))))
 
 pub places-preserved : goal.places-preserved
 places-preserved c =
@@ -66,9 +64,8 @@ places-preserved c =
     c.tasks-tasks.ensures.tasks at c.requires.proofs in
     let is = tree_is trees c.places.i tree c.requires.trees c.places-test.true c.index-trees-i.is in
     let ready = ready_is c.args.set.now.version tasks trees proofs c.requires.proofs c.tasks-tasks.ensures.limits.each c.requires.timely in
-    rooms_more (tree_graphs tasks trees) trees c.places.i g tree (points tasks trees proofs) c.as_slice.result.now c.as_slice-in-places.result.now c.places.rooms.items c.take_values.new.rooms.items
-    c.tree_graph-graph.ensures.graph at is ready asked (c.as_slice-in-places.ensures.value ∙ c.in_ok-values.ensures.values) c.places.invariant
-    (omega (arith, c.take_values.ensures.count, c.places.rooms.ok.0, c.take_values.new.rooms.ok.0)) (c.take_values.ensures.left c.if-not-take_values.false)
+    rooms_more (tree_graphs tasks trees) trees c.places.i g tree (points tasks trees proofs) c.as_slice.result.now c.places.rooms c.take_values.new.rooms
+    c.tree_graph-graph.ensures.graph at is ready asked c.places.invariant c.take_values.ensures.count (c.in_ok-take_values.ensures.left c.if-not-branch.false)
 
 pub returns : goal.returns
 returns c =
@@ -76,4 +73,5 @@ returns c =
     let trees = c.args.trees.now in
     let proofs = c.args.proofs.now in
     let ready = ready_is c.args.set.now.version tasks trees proofs c.requires.proofs c.tasks-tasks.ensures.limits.each c.requires.timely in
-    (λ e. rooms_last (tree_graphs tasks trees) trees c.places.i (points tasks trees proofs) c.places.rooms.items (graphs_few tasks trees c.places.i c.places-test.false) ready c.places.invariant, λ all. refl)
+    let few = graphs_few tasks trees c.places.i c.places-test.false in
+    (λ e. rooms_last (tree_graphs tasks trees) trees c.places.i (points tasks trees proofs) c.places.rooms few ready c.places.invariant, λ all. refl)

@@ -5,10 +5,10 @@ use Rattle.drt_evidence.specs.declared.evidence.TreeClaim.{TreeClaim}
 use Rattle.drt_evidence.specs.Trees.{HasShortWalks}
 use Rattle.drt_check_values_tests.specs.Worked.{graph, tree}
 use Rattle.drt_check_values_tests.proofs.Claims.{is_short}
-use Rattle.drt_check_values_tests.proofs.given.answers.Goals as goal
+use Rattle.drt_check_values_tests.proofs.given.are_taken.Goals as goal
 
-pub values_at-requires-clause-short : goal.values_at-requires-clause-short
-values_at-requires-clause-short c =
+pub take_values-requires-clause-short : goal.take_values-requires-clause-short
+take_values-requires-clause-short c =
     let same = c.graph-graph.ensures.graph ∙ ap (λ (gs : List Digraph). graph_of gs 0) c.in_ok-graphs.ensures in
     let on_graph = subst (λ (g : Digraph). HasShortWalks 5 g tree) (sym same) is_short in
     subst (λ (t : TreeClaim). HasShortWalks 5 c.graph-graph.result.now t) (sym c.in_ok-tree.ensures) on_graph
