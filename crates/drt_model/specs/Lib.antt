@@ -7,6 +7,7 @@ pub mod Misses
 pub mod Constrained
 pub mod Digraph
 pub mod Walk
+pub mod FrontEntry
 pub mod Utilisation
 pub mod Potential
 pub mod RatioRules
