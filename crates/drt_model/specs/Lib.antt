@@ -6,6 +6,7 @@ pub mod Schedulable
 pub mod Misses
 pub mod Constrained
 pub mod Digraph
+pub mod Degrees
 pub mod Walk
 pub mod FrontEntry
 pub mod Utilisation
