@@ -23,3 +23,4 @@ mod Naming
 mod Accepted
 mod Rows
 mod Table
+mod Plain

@@ -1,5 +1,5 @@
 -- What holds of all, place by place.
-use Rattle.std.proofs.Common.{◌≡◌, ℕ, ◌+◌, ◌<◌, ◌≤◌, ◌⊎◌, inl, inr, List, [], ◌∷◌, All, length, get_or, drop, sym, arith, subst, ◌∙◌}
+use Rattle.std.proofs.Common.{◌≡◌, ℕ, ◌+◌, ◌<◌, ◌≤◌, ◌⊎◌, inl, inr, List, [], ◌∷◌, length, get_or, drop, sym, arith, subst, ◌∙◌}
 use Rattle.std.specs.Prelude.{◌↔◌}
 use Rattle.std.proofs.lemmas.Bool.{cases_lt}
 use Rattle.std.proofs.lemmas.List.{drop_all, get_or_default}
@@ -17,10 +17,6 @@ all_more P xs i x l is p below k d m = go (cases_lt k i)
         let e : k ≡ i = omega arith in
         let f : get_or xs i x ≡ get_or xs i d = get_or_default xs i x d l in
         subst (λ j. P (get_or xs j d)) (sym e) (subst (λ y. P y) (is ∙ f) p)
-
--- What holds of all holds of one.
-pub all_at : {X : Type 0} (P : X → Type 0) (xs : List X) (i : ℕ) (x : X) → i < length xs → x ≡ get_or xs i x → All P xs → P x
-all_at P xs i x l is all = subst (λ y. P y) (sym is) (all i x l)
 
 pub from_start : {A : Type 0} (R : Digraph → A → Type 0) (graphs : List Digraph) (xs : List A) → Each R graphs xs ↔ Each R (drop 0 graphs) (drop 0 xs)
 from_start R graphs xs = (λ each. each, λ each. each)

@@ -6,11 +6,20 @@ use Rattle.drt_evidence.specs.Rules.{Applies, Keeps, number_of}
 use Rattle.drt_evidence.specs.Statement.{Statement}
 use Rattle.drt_evidence.specs.declared.evidence.RatioClaim.{RatioClaim}
 use Rattle.drt_evidence.specs.declared.rule.Rule.{Rule}
+use Rattle.drt_evidence.specs.declared.rule.Rule.TheVariants.{ConstrainedDeadlines, KindOfPolicy, LegalReleases, LeastMiss}
 
 -- The rule applies, and those that apply and have smaller numbers are kept.
 pub record IsNext (s : Statement) (rule : Rule) : Type 0 where
   pub applies : Applies rule s.evidence
   pub before : (other : Rule) → Applies other s.evidence → number_of other < number_of rule → Keeps other s
+
+-- The rule speaks of the set, the policy and the releases alone, and of no graph.
+abbrev pub AsksForNoGraphs : Rule → Type 0
+AsksForNoGraphs ConstrainedDeadlines = Unit {0}
+AsksForNoGraphs KindOfPolicy = Unit {0}
+AsksForNoGraphs LegalReleases = Unit {0}
+AsksForNoGraphs LeastMiss = Unit {0}
+AsksForNoGraphs other = ⊥
 
 -- None is found where each rule that applies is kept, and else the first that isn't.
 abbrev pub IsDecided : Statement → Option Rule → Type 0

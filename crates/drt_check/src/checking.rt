@@ -1,18 +1,20 @@
 //! The check of a dossier.
-ghost use Rattle.std.specs.Prelude.{◌≡◌, ◌↔◌, ℕ, IfOk};
+ghost use Rattle.std.specs.Prelude.{◌≡◌, ◌↔◌, ℕ, IfOk, IsTrue, MatchOption};
+ghost use Rattle.std.specs.Option.{option_copied};
 ghost use Rattle.drt_model.specs.Constrained.{AreConstrained};
 ghost use Rattle.drt_evidence.specs.Claims.{graphs_of};
-ghost use Rattle.drt_evidence.specs.Rules.{Accepts, Rejects};
-ghost use Rattle.drt_check.specs.Deciding.{IsDecided};
+ghost use Rattle.drt_evidence.specs.Kinds.{HasReleases};
+ghost use Rattle.drt_evidence.specs.Rules.{Accepts, Keeps, Rejects};
+ghost use Rattle.drt_check.specs.Deciding.{IsDecided, IsNext};
 ghost use Rattle.drt_check.specs.Judging.{IsAcceptance, IsJudged, IsSound};
 ghost use Rattle.drt_check.specs.declared.judgement.Judgement.TheVariants.{Rejected};
 
 use crate::judgement::Judgement;
 use crate::laws::accepted_is_sound;
-use crate::parts::{claimed, is_undecided};
-use crate::rules::{RULES, applies, keeps};
+use crate::parts::{claimed, has_releases, is_undecided};
+use crate::rules::{RULES, applies, keeps, keeps_plainly};
 use drt_evidence::{Dossier, Rule};
-use drt_graph::{GraphError, Graphs};
+use drt_graph::{GraphError, Graphs, first_past};
 use drt_model::Memory;
 use std::alloc::Global;
 
@@ -37,32 +39,64 @@ pub fn check(alloc: Global, dossier: &Dossier) -> Result<Judgement, Memory>
     }
 }
 
-// The first rule that applies and isn't kept, if there is one.
+// The first rule that applies and isn't kept, if there is one. No rule on releases that miss asks for graphs, and none are made for them.
 fn first_broken(alloc: Global, dossier: &Dossier) -> Result<Option<Rule>, Memory>
     ensures { IfOk result (IsDecided dossier.now) }
 {
+    if has_releases(dossier) {
+        return first_broken_of_releases(alloc, dossier);
+    }
     match drt_graph::check(alloc, &dossier.set) {
-        Ok(graphs) => first_broken_of(alloc, &graphs, dossier),
+        Ok(graphs) => first_broken_of(alloc, Some(&graphs), dossier),
         Err(GraphError::DeadlinePastSeparation { .. }) => Ok(Some(Rule::ConstrainedDeadlines)),
         Err(GraphError::Memory) => Err(Memory),
     }
 }
 
-// The same where the graphs could be made, so that the deadlines are constrained.
+// The same where the evidence has releases.
+fn first_broken_of_releases(alloc: Global, dossier: &Dossier) -> Result<Option<Rule>, Memory>
+    requires { HasReleases dossier.now.evidence }
+    ensures { IfOk result (IsDecided dossier.now) }
+{
+    match first_past(dossier.set.tasks()) {
+        Some(_) => Ok(Some(Rule::ConstrainedDeadlines)),
+        None => first_broken_of(alloc, None, dossier),
+    }
+}
+
+// The same where the deadlines are constrained.
 fn first_broken_of(
     alloc: Global,
-    graphs: &Graphs,
+    graphs: Option<&Graphs>,
     dossier: &Dossier,
 ) -> Result<Option<Rule>, Memory>
-    requires graphs { graphs.now ≡ graphs_of dossier.now.set.tasks }
+    requires graphs { MatchOption (option_copied graphs) (HasReleases dossier.now.evidence) (λ made. made ≡ graphs_of dossier.now.set.tasks) }
     requires constrained { AreConstrained dossier.now.set.tasks }
     ensures { IfOk result (IsDecided dossier.now) }
 {
     'rules: for i in 0..RULES.len() {
         let rule = RULES[i];
-        if applies(rule, dossier) && !keeps(alloc, rule, graphs, dossier)? {
+        if applies(rule, dossier) && !is_kept(alloc, rule, graphs, dossier)? {
             return Ok(Some(rule));
         }
     }
     Ok(None)
+}
+
+// Whether the dossier keeps the rule, by the graphs where they were made.
+fn is_kept(
+    alloc: Global,
+    rule: Rule,
+    graphs: Option<&Graphs>,
+    dossier: &Dossier,
+) -> Result<bool, Memory>
+    requires graphs { MatchOption (option_copied graphs) (HasReleases dossier.now.evidence) (λ made. made ≡ graphs_of dossier.now.set.tasks) }
+    requires constrained { AreConstrained dossier.now.set.tasks }
+    requires next { IsNext dossier.now rule }
+    ensures { IfOk result (λ kept. IsTrue kept ↔ Keeps rule dossier.now) }
+{
+    match graphs {
+        Some(graphs) => keeps(alloc, rule, graphs, dossier),
+        None => keeps_plainly(alloc, rule, dossier),
+    }
 }

@@ -1,6 +1,6 @@
 //! What a dossier has, by the kind of its evidence.
 ghost use Rattle.std.specs.Prelude.{◌≡◌, ◌↔◌, All, IsTrue};
-ghost use Rattle.drt_evidence.specs.Kinds.{IsOfPolicy, fronts_of, miss_of, proofs_of, ratios_of, releases_of, trees_of};
+ghost use Rattle.drt_evidence.specs.Kinds.{HasReleases, IsOfPolicy, fronts_of, miss_of, proofs_of, ratios_of, releases_of, trees_of};
 ghost use Rattle.drt_evidence.specs.Ranges.{AreInRangeReleases, IsInRangeEntry, IsInRangeProof, IsInRangeRatio, IsInRangeTree};
 ghost use Rattle.drt_evidence.specs.declared.evidence.Evidence.TheVariants.{Undecided};
 ghost use Rattle.drt_check.specs.Judging.{claimed};
@@ -27,6 +27,16 @@ pub fn is_of_policy(dossier: &Dossier) -> bool
         Evidence::FixedYes { .. } | Evidence::FixedNo { .. } => dossier.policy == Policy::Fixed,
         Evidence::Undecided => true,
     }
+}
+
+/// Whether the evidence has releases that are to miss.
+pub fn has_releases(dossier: &Dossier) -> bool
+    ensures { IsTrue result ↔ HasReleases dossier.now.evidence }
+{
+    matches!(
+        &dossier.evidence,
+        Evidence::EdfNo { .. } | Evidence::FixedNo { .. }
+    )
 }
 
 /// The judgement of accepted evidence.

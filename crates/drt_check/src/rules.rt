@@ -4,11 +4,13 @@ ghost use Rattle.drt_model.specs.Constrained.{AreConstrained};
 ghost use Rattle.drt_evidence.specs.Claims.{graphs_of};
 ghost use Rattle.drt_evidence.specs.Rules.{Applies, HasClaimedUtilisation, Keeps};
 ghost use Rattle.drt_evidence.specs.declared.rule.Rule.TheVariants.{ClaimedUtilisation};
-ghost use Rattle.drt_check.specs.Deciding.{IsNext};
+ghost use Rattle.drt_check.specs.Deciding.{AsksForNoGraphs, IsNext};
 
 use crate::claimed::{ClaimRule, all_keep, are_lowest};
 use crate::fronts::{are_closed, are_in_order, have_openings, have_room};
-use crate::parts::{fronts_of, is_of_policy, miss_of, proofs_of, ratios_of, releases_of, trees_of};
+use crate::parts::{
+    fronts_of, has_releases, is_of_policy, miss_of, proofs_of, ratios_of, releases_of, trees_of,
+};
 use crate::releases::is_least_miss;
 use crate::utilisation::{horizon_of, is_below_one, is_fine, is_one, near_horizon};
 use drt_check_proofs::{have_passing_times, have_shapes, is_proof_per_vertex};
@@ -82,14 +84,12 @@ pub fn applies(rule: Rule, dossier: &Dossier) -> bool
         | Rule::ProofPerVertex
         | Rule::ProofShapes
         | Rule::PassingTimes => matches!(evidence, Evidence::FixedYes { .. }),
-        Rule::LegalReleases | Rule::LeastMiss => {
-            matches!(evidence, Evidence::EdfNo { .. } | Evidence::FixedNo { .. })
-        }
+        Rule::LegalReleases | Rule::LeastMiss => has_releases(dossier),
     }
 }
 
-/// Whether the dossier keeps the rule, where it keeps those that apply and have smaller numbers. The first was decided where the graphs were
-/// made.
+/// Whether the dossier keeps the rule, where it keeps those that apply and have smaller numbers. The first was decided
+/// before.
 pub fn keeps(alloc: Global, rule: Rule, graphs: &Graphs, dossier: &Dossier) -> Result<bool, Memory>
     requires graphs { graphs.now ≡ graphs_of dossier.now.set.tasks }
     requires constrained { AreConstrained dossier.now.set.tasks }
@@ -98,12 +98,11 @@ pub fn keeps(alloc: Global, rule: Rule, graphs: &Graphs, dossier: &Dossier) -> R
 {
     let ratios = ratios_of(dossier);
     let fronts = fronts_of(dossier);
-    let releases = releases_of(dossier);
     let trees = trees_of(dossier);
     let proofs = proofs_of(dossier);
     match rule {
-        Rule::ConstrainedDeadlines => Ok(true),
-        Rule::KindOfPolicy => Ok(is_of_policy(dossier)),
+        Rule::ConstrainedDeadlines | Rule::KindOfPolicy | Rule::LegalReleases | Rule::LeastMiss =>
+            keeps_plainly(alloc, rule, dossier),
         Rule::RatioPerTask => Ok(ratios.len() == graphs.count() as usize),
         Rule::LowestTerms => Ok(are_lowest(ratios)),
         Rule::PotentialPerVertex => Ok(all_keep(ClaimRule::Counted, graphs, ratios)),
@@ -117,14 +116,6 @@ pub fn keeps(alloc: Global, rule: Rule, graphs: &Graphs, dossier: &Dossier) -> R
         Rule::CoveredOpenings => Ok(have_openings(graphs, fronts, near_horizon(graphs, ratios))),
         Rule::CoveredExtensions => Ok(are_closed(graphs, fronts, near_horizon(graphs, ratios))),
         Rule::Room => have_room(alloc, graphs, fronts, near_horizon(graphs, ratios)),
-        Rule::LegalReleases => Ok(legal(&dossier.set, releases)),
-        Rule::LeastMiss => is_least_miss(
-            alloc,
-            &dossier.set,
-            dossier.policy,
-            releases,
-            miss_of(dossier),
-        ),
         Rule::TreePerHigherTask => Ok(is_tree_per_higher_task(&dossier.set, trees)),
         Rule::ShortWalks => {
             let order = priority_order(alloc, &dossier.set)?;
@@ -141,6 +132,28 @@ pub fn keeps(alloc: Global, rule: Rule, graphs: &Graphs, dossier: &Dossier) -> R
             let order = priority_order(alloc, &dossier.set)?;
             have_passing_times(alloc, &dossier.set, graphs, order.as_slice(), trees, proofs)
         }
+    }
+}
+
+/// The same of a rule that asks for no graphs.
+pub fn keeps_plainly(alloc: Global, rule: Rule, dossier: &Dossier) -> Result<bool, Memory>
+    requires constrained { AreConstrained dossier.now.set.tasks }
+    requires next { IsNext dossier.now rule }
+    requires plain { AsksForNoGraphs rule }
+    ensures { IfOk result (λ kept. IsTrue kept ↔ Keeps rule dossier.now) }
+{
+    let releases = releases_of(dossier);
+    match rule {
+        Rule::KindOfPolicy => Ok(is_of_policy(dossier)),
+        Rule::LegalReleases => Ok(legal(&dossier.set, releases)),
+        Rule::LeastMiss => is_least_miss(
+            alloc,
+            &dossier.set,
+            dossier.policy,
+            releases,
+            miss_of(dossier),
+        ),
+        _ => Ok(true),
     }
 }
 

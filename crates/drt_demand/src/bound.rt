@@ -2,7 +2,8 @@
 
 ghost use Rattle.std.specs.Prelude.{◌≡◌, ℕ, ◌<◌, ◌≤◌, ◌↔◌, All, IsTrue};
 ghost use Rattle.drt_model.specs.Digraph.{vertex_count};
-ghost use Rattle.drt_demand.specs.Dbf.{dbf_at, label_due};
+ghost use Rattle.drt_model.specs.FrontEntry.{due};
+ghost use Rattle.drt_demand.specs.Dbf.{dbf_at};
 
 use drt_graph::Graph;
 use drt_model::FrontEntry;
@@ -10,7 +11,7 @@ use drt_model::FrontEntry;
 /// Whether the last job of a label's walk is due at `t` or before, in ticks.
 pub fn is_due(graph: &Graph, label: FrontEntry, t: u64) -> bool
     requires { label.vertex < vertex_count graph.now }
-    ensures { IsTrue result ↔ (label_due graph.now label ≤ t) }
+    ensures { IsTrue result ↔ (due graph.now label ≤ t) }
 {
     let deadline = graph.vertex(label.vertex).deadline as u64;
     label.offset <= t && deadline <= t - label.offset

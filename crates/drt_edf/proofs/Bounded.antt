@@ -1,13 +1,13 @@
 -- How many steps the search of a graph's walks takes.
-use Rattle.std.proofs.Common.{◌≡◌, ℕ, zero, suc, ◌+◌, ◌*◌, ◌<◌, ◌≤◌, ◌⊎◌, inl, inr, false, List, [], ◌∷◌, ◌++◌, length, append_assoc, get_or, sym, ap, arith, ◌∙◌, mul-le-mul_left}
+use Rattle.std.proofs.Common.{◌≡◌, ℕ, suc, ◌+◌, ◌*◌, ◌<◌, ◌≤◌, ◌⊎◌, inl, inr, false, List, [], ◌∷◌, ◌++◌, length, append_assoc, sym, ap, arith, ◌∙◌, mul-le-mul_left}
 use Rattle.std.specs.Prelude.{IsTrue}
-use Rattle.std.proofs.Math.Nat.{le-max_left, le-max_right}
 use Rattle.std.proofs.lemmas.Bool.{cases_lt, leb-true}
 use Rattle.std.proofs.lemmas.List.{append-nil}
-use Rattle.drt_model.specs.declared.tasks.Edge.{Edge}
+use Rattle.drt_model.specs.Degrees.{most_out}
 use Rattle.drt_model.specs.Digraph.{Digraph, IsSound, vertex_count, out_degree, edge_of}
 use Rattle.drt_model.specs.Walk.{deadline}
 use Rattle.drt_model.specs.declared.front.FrontEntry.{FrontEntry}
+use Rattle.drt_model.proofs.MostOut.{most_least, most_row}
 use Rattle.drt_demand.specs.Demand.{demand_algebra}
 use Rattle.drt_demand.proofs.Comparable.{comparable}
 use Rattle.drt_table.specs.Machine.{Setting, State, step_of, opening_state, replay_from, IsRun, IsRunFrom, replay, is_finished, in_range}
@@ -16,7 +16,7 @@ use Rattle.drt_table.specs.Walk.{WalkTo, IsWalkLabel}
 use Rattle.drt_table.specs.Work.{IsBounded, IsDegree, IsShort, AreSlots, kept_count}
 use Rattle.drt_table.specs.declared.step.Entry.{Entry}
 use Rattle.drt_edf.specs.Bounded.{SearchesAreBounded}
-use Rattle.drt_edf.specs.Spent.{most_out, search_of, table_need}
+use Rattle.drt_edf.specs.Spent.{search_of, table_need}
 
 -- The label of an in-range walk to v is of v, which is a vertex, and is in range.
 pub label_of : (t : Setting) (v : ℕ) (before : List ℕ) (l : FrontEntry) → IsSound t.graph
@@ -68,22 +68,8 @@ slots_are t sound = record {
   alone = λ l m w x e. (let h = label_within t l sound w in let k = label_within t m sound x in let s = slot_same l.vertex m.vertex l.offset m.offset t.bound h.1 k.1 e in comparable l m s.0 s.1);
 }
 
-most_row : (rows : List (List Edge)) (v : ℕ) → length (get_or rows v []) ≤ most_out rows
-most_row [] zero = omega arith
-most_row [] (suc v) = omega arith
-most_row (row ∷ rows) zero = le-max_left (length row) (most_out rows)
-most_row (row ∷ rows) (suc v) =
-    let h = most_row rows v in
-    let m = le-max_right (length row) (most_out rows) in
-    omega (arith, h, m)
-
 pub most_row_of : (g : Digraph) (v : ℕ) → out_degree g v ≤ most_out g.out
 most_row_of g v = most_row g.out v
-
--- where no row is longer
-most_least : (rows : List (List Edge)) (m : ℕ) → ((v : ℕ) → v < length rows → length (get_or rows v []) ≤ m) → most_out rows ≤ m
-most_least [] m all = omega arith
-most_least (row ∷ rows) m all = let here = all 0 (omega arith) in let rest = most_least rows m (λ v lt. all (suc v) (omega arith)) in omega (arith, here, rest)
 
 pub most_of : (g : Digraph) (m : ℕ) → length g.out ≡ vertex_count g → ((v : ℕ) → v < vertex_count g → out_degree g v ≤ m) → most_out g.out ≤ m
 most_of g m rows all = most_least g.out m (λ v lt. all v (omega arith))

@@ -11,7 +11,7 @@ use Rattle.drt_graph.proofs.Paths.{work_none}
 use Rattle.drt_sweep.specs.Dues.{sum_due}
 use Rattle.drt_rates.specs.Demands.{demands}
 use Rattle.drt_horizon.specs.Laws.{IsDue, AreDue, efforts}
-use Rattle.drt_evidence.specs.Fronts.{due}
+use Rattle.drt_model.specs.FrontEntry.{due}
 use Rattle.drt_edf.specs.Walks.{IsWalkEntry}
 use Rattle.drt_edf.specs.LabelFronts.{IsLabelFront, AreLabelFronts}
 

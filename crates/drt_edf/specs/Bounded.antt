@@ -7,7 +7,8 @@ use Rattle.drt_table.specs.Node.{NodeOf}
 use Rattle.drt_table.specs.Machine.{State, IsRun, replay, is_finished}
 use Rattle.drt_table.specs.Work.{node_entries, kept_count}
 use Rattle.drt_table.specs.declared.step.Entry.{Entry}
-use Rattle.drt_edf.specs.Spent.{most_out, search_of, table_need}
+use Rattle.drt_model.specs.Degrees.{most_out}
+use Rattle.drt_edf.specs.Spent.{search_of, table_need}
 
 -- The state after a log of the search.
 abbrev pub after : Digraph → ℕ → ℕ → List Entry → State FrontEntry

@@ -3,12 +3,13 @@ use Rattle.std.specs.Prelude.{◌≡◌, ℕ, ◌+◌, ◌≤◌, ◌<◌, List,
 use Rattle.drt_model.specs.Digraph.{Digraph, vertex_count}
 use Rattle.drt_model.specs.Walk.{IsEdge, IsPath, gap, last_of, span, wcet, work}
 use Rattle.drt_model.specs.declared.front.FrontEntry.{FrontEntry}
-use Rattle.drt_demand.specs.Dbf.{dbf_at, label_due}
+use Rattle.drt_model.specs.FrontEntry.{due}
+use Rattle.drt_demand.specs.Dbf.{dbf_at}
 
 -- An entry that is due by t and has all the demand of t; none where that is 0.
 abbrev pub IsGreatestDue : Digraph → List FrontEntry → ℕ → Option FrontEntry → Type 0
 IsGreatestDue g front t None = dbf_at g front t ≡ 0
-IsGreatestDue g front t (Some e) = Contains front e × (label_due g e ≤ t) × (e.work ≡ dbf_at g front t)
+IsGreatestDue g front t (Some e) = Contains front e × (due g e ≤ t) × (e.work ≡ dbf_at g front t)
 
 -- An edge leads from the vertex of d to that of e, and a walk with the label d that goes on by it has the label e.
 pub record IsPrefix (g : Digraph) (d e : FrontEntry) : Type 0 where

@@ -1,7 +1,7 @@
 -- Where a budget is spent, and how much is enough.
-use Rattle.std.specs.Prelude.{◌≡◌, ℕ, ◌+◌, ◌*◌, ◌≤◌, ◌<◌, ◌^◌, false, max, List, [], ◌∷◌, length, All, Some, slice_get}
+use Rattle.std.specs.Prelude.{◌≡◌, ℕ, ◌+◌, ◌*◌, ◌≤◌, ◌<◌, ◌^◌, false, List, length, All, Some, slice_get}
 use Rattle.drt_model.specs.declared.tasks.Task.{Task}
-use Rattle.drt_model.specs.declared.tasks.Edge.{Edge}
+use Rattle.drt_model.specs.Degrees.{most_out}
 use Rattle.drt_model.specs.Digraph.{Digraph, vertex_count}
 use Rattle.drt_model.specs.Utilisation.{IsScale}
 use Rattle.drt_demand.specs.Demand.{demand_algebra}
@@ -15,11 +15,6 @@ use Rattle.drt_horizon.specs.Laws.{latest}
 use Rattle.drt_horizon.specs.declared.answers.Over.TheVariants.{Spent}
 use Rattle.drt_evidence.specs.Claims.{graphs_of}
 use Rattle.drt_edf.specs.Plans.{IsAboveOne, HasHorizon}
-
--- The greatest number of edges out of a vertex.
-abbrev pub most_out : List (List Edge) → ℕ
-most_out [] = 0
-most_out (row ∷ rows) = max (length row) (most_out rows)
 
 -- No search of a graph's walks up to the bound makes so many steps: vertices, times offsets, times what is done at one of them.
 abbrev pub table_need : Digraph → ℕ → ℕ

@@ -1,9 +1,10 @@
 //! Tasks whose walks are worked in a wave table.
 ghost use Rattle.std.specs.Prelude.{◌≡◌, ◌+◌, ◌*◌, ◌≤◌, ◌↔◌, IfOk, IsTrue};
+ghost use Rattle.drt_model.specs.Degrees.{most_out};
 ghost use Rattle.drt_model.specs.Digraph.{IsConstrainedGraph, vertex_count};
 ghost use Rattle.drt_evidence.specs.Ranges.{IsCounted};
 ghost use Rattle.drt_edf.specs.LabelFronts.{IsLabelFront};
-ghost use Rattle.drt_edf.specs.Spent.{HasWaveTable, most_out};
+ghost use Rattle.drt_edf.specs.Spent.{HasWaveTable};
 
 use drt_graph::Graph;
 use drt_model::{FrontEntry, Memory, Row};

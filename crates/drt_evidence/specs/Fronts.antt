@@ -1,15 +1,12 @@
 -- Claimed fronts: for each task labels that are to dominate the labels of all its walks within the horizon.
 use Rattle.std.specs.Prelude.{◌≡◌, ℕ, ◌+◌, ◌≤◌, ◌<◌, ◌⊎◌, List, All, Any}
 use Rattle.drt_model.specs.Digraph.{Digraph, vertex_count, out_degree, edge_of}
+use Rattle.drt_model.specs.FrontEntry.{due}
 use Rattle.drt_model.specs.Walk.{wcet, deadline}
 use Rattle.drt_model.specs.Legal.{AllNeighbours}
 use Rattle.drt_sweep.specs.Dues.{greatest_due, sum_due}
 use Rattle.drt_model.specs.declared.front.FrontEntry.{FrontEntry}
 use Rattle.drt_evidence.specs.Claims.{Each}
-
--- When the last job of an entry's walk is due: its offset and its vertex's deadline.
-abbrev pub due : Digraph → FrontEntry → ℕ
-due g e = e.offset + deadline g e.vertex
 
 -- The entry names a vertex, and its last job is due within the bound.
 abbrev pub IsWithin : Digraph → ℕ → FrontEntry → Type 0

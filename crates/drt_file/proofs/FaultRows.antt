@@ -3,7 +3,12 @@ use Rattle.std.proofs.Common.{◌≡◌, ℕ, List, [], ◌∷◌, ◌++◌, map
 use Rattle.std.specs.Prelude.{codes}
 use Rattle.std.specs.List.{flat_map}
 use Rattle.drt_file.specs.trusted.Cutting.{with_run, lines_after, is_blank, fields_after}
-use Rattle.drt_file.specs.trusted.Faults.{is_task, is_vertex, is_edge, is_priority, is_end, numbers_of, names_of, is_first, version_of, has_task, has_end, own_lines, lines_of_others, has_task_named, has_vertex_named, has_edge_between, others_have_priority, is_no_head, is_no_text, is_of_no_kind, has_wrong_length, has_no_number, is_out_of_range, has_no_name, is_task_again, is_vertex_again, names_no_vertex, is_edge_again, is_before_tasks, is_task_too_many, is_vertex_too_many, is_edge_too_many, is_second_priority, is_priority_again, table, is_of_tasks, is_tried, first_code, code_of, first_faulty, lines_of_task, first_without, text_table, first_place, fault_of}
+use Rattle.drt_file.specs.trusted.Faults.{is_task, is_vertex, is_edge, is_priority, is_end, numbers_of, names_of, is_first, version_of, has_task, has_end, own_lines}
+use Rattle.drt_file.specs.trusted.Faults.{lines_of_others, has_task_named, has_vertex_named, has_edge_between, others_have_priority, is_no_head, is_no_text}
+use Rattle.drt_file.specs.trusted.Faults.{is_of_no_kind, has_wrong_length, has_no_number, is_out_of_range, has_no_name, is_task_again, is_vertex_again, names_no_vertex}
+use Rattle.drt_file.specs.trusted.Faults.{is_edge_again, is_before_tasks, is_task_too_many, is_vertex_too_many, is_edge_too_many, is_second_priority, is_priority_again}
+use Rattle.drt_file.specs.trusted.Faults.{table, is_of_tasks, is_tried, first_code, code_of, first_faulty, lines_of_task, first_without, text_table, first_place}
+use Rattle.drt_file.specs.trusted.Faults.{fault_of}
 use Rattle.drt_file.specs.trusted.Line.{is_skipped, is_text}
 use Rattle.drt_file.specs.trusted.Words.{is_digit, is_name_byte, is_name, is_number, value_after}
 

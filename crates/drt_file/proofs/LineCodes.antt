@@ -9,9 +9,14 @@ use Rattle.drt_file.specs.declared.state.Kind.{Kind}
 use Rattle.drt_file.specs.declared.state.Kind.TheVariants as kinds
 use Rattle.drt_file.specs.trusted.Words.{is_name, is_number, value, task_word, vertex_word, edge_word, priority_word, end_word}
 use Rattle.drt_file.specs.trusted.Line.{is_in_range}
-use Rattle.drt_file.specs.trusted.Faults.{Fields, field, is_task, is_vertex, is_edge, is_priority, is_end, numbers_of, names_of, is_first, version_of, has_task, has_end, own_lines, has_task_named, has_vertex_named, has_edge_between, others_have_priority, is_no_head, is_no_text, is_of_no_kind, has_wrong_length, has_no_number, is_out_of_range, has_no_name, is_task_again, is_vertex_again, names_no_vertex, is_edge_again, is_before_tasks, is_task_too_many, is_vertex_too_many, is_edge_too_many, is_second_priority, is_priority_again, table, is_of_tasks, is_tried, first_code}
+use Rattle.drt_file.specs.trusted.Faults.{Fields, field, is_task, is_vertex, is_edge, is_priority, is_end, numbers_of, names_of, is_first, version_of, has_task, has_end}
+use Rattle.drt_file.specs.trusted.Faults.{own_lines, has_task_named, has_vertex_named, has_edge_between, others_have_priority, is_no_head, is_no_text, is_of_no_kind}
+use Rattle.drt_file.specs.trusted.Faults.{has_wrong_length, has_no_number, is_out_of_range, has_no_name, is_task_again, is_vertex_again, names_no_vertex, is_edge_again}
+use Rattle.drt_file.specs.trusted.Faults.{is_before_tasks, is_task_too_many, is_vertex_too_many, is_edge_too_many, is_second_priority, is_priority_again, table}
+use Rattle.drt_file.specs.trusted.Faults.{is_of_tasks, is_tried, first_code}
 use Rattle.drt_file.specs.internal.Kinds.{kind, first_word}
-use Rattle.drt_file.specs.internal.StateFaults.{first_of, has_vertex, place_of, has_edge, in_task, is_outside, in_some_task, task_count, has_priority, has_that_priority, task_fault, vertex_fault, edge_fault, priority_fault, end_fault, kind_fault}
+use Rattle.drt_file.specs.internal.StateFaults.{first_of, has_vertex, place_of, has_edge, in_task, is_outside, in_some_task, task_count, has_priority, has_that_priority}
+use Rattle.drt_file.specs.internal.StateFaults.{task_fault, vertex_fault, edge_fault, priority_fault, end_fault, kind_fault}
 use Rattle.drt_file.proofs.Shown.{Shown, ShownIn}
 
 -- What is known of a line that isn't the first, has no odd byte and stands above `end`.

@@ -1,8 +1,12 @@
 //! Task files of worked examples, in canonical text.
 
 /// An engine controller, a bus and a log.
-pub const ENGINE: &str =
-    "drt 1\ntask engine\nvertex slow 12 60\nvertex mid 8 30\nvertex fast 4 15\nedge slow slow 60\nedge slow mid 60\nedge mid slow 30\nedge mid mid 30\nedge mid fast 30\nedge fast fast 15\nedge fast mid 15\ntask can\nvertex c 10 50\nedge c c 50\ntask log\nvertex l 20 100\nedge l l 200\nend\n";
+pub const ENGINE: &str = "drt 1\n\
+    task engine\nvertex slow 12 60\nvertex mid 8 30\nvertex fast 4 15\n\
+    edge slow slow 60\nedge slow mid 60\nedge mid slow 30\nedge mid mid 30\nedge mid fast 30\nedge fast fast 15\nedge fast mid 15\n\
+    task can\nvertex c 10 50\nedge c c 50\n\
+    task log\nvertex l 20 100\nedge l l 200\n\
+    end\n";
 
 /// One task that asks for two of every five ticks.
 pub const PERIODIC: &str = "drt 1\ntask T\nvertex a 2 5\nedge a a 5\nend\n";

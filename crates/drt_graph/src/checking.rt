@@ -25,8 +25,9 @@ pub fn check(alloc: Global, set: &TaskSet) -> Result<Graphs, GraphError>
     }
 }
 
-// The task and the edge of the first edge whose separation is below the deadline of its source.
-fn first_past(tasks: &[Task]) -> Option<(u32, u32)>
+/// The numbers of the task and of the edge of the first edge whose separation is below the deadline of its source, in order of tasks and
+/// then of edges. There is none exactly where the deadlines are constrained, and no memory is taken.
+pub fn first_past(tasks: &[Task]) -> Option<(u32, u32)>
     requires tasks { length tasks.now ≤ 32 }
     requires edges { All (λ t. length t.edges ≤ 256) tasks.now }
     ensures { MatchOption result (AreConstrained tasks.now) (λ at. IsFirstPast tasks.now at.0 at.1) }

@@ -1,8 +1,8 @@
 //! The graphs of a task set whose deadlines are constrained.
 //!
 //! `check` is the one test that a set has to pass before any analysis: on each edge the deadline of the source is at
-//! most the separation. Its `Graphs` has one `Graph` a task, which lists the edges out of each vertex in file order.
-//! The layers above read graphs by `vertex_count`, `vertex`, `out_degree` and `out_edge`, and learn from
+//! most the separation; `first_past` is that test alone, and makes no graphs. `Graphs` has one `Graph` a task, which lists the
+//! edges out of each vertex in file order. The layers above read graphs by `vertex_count`, `vertex`, `out_degree` and `out_edge`, and learn from
 //! `vertex_count` and `Graphs::graph` what a graph keeps.
 //!
 //! `potentials_fit`, `is_closed` and `is_tight` test what a claimed ratio of a graph has to keep, over plain numbers and lists,
@@ -21,7 +21,7 @@ mod potentials;
 #[cfg(test)]
 mod tests;
 
-pub use checking::check;
+pub use checking::{check, first_past};
 pub use constants::constant;
 pub use cycles::{cycle_sums, is_closed, is_cycle, is_tight};
 pub use error::GraphError;

@@ -6,7 +6,8 @@ use Rattle.drt_model.specs.declared.front.FrontEntry.{FrontEntry}
 use Rattle.drt_sweep.specs.declared.due_work.DueWork.{DueWork}
 use Rattle.drt_sweep.specs.DueWorks.{IsFirstExcess, works_from, works_of}
 use Rattle.drt_sweep.proofs.Lists.{sums_same}
-use Rattle.drt_rates.specs.Demands.{IsFront, AreFronts, IsLeastExcess, due}
+use Rattle.drt_model.specs.FrontEntry.{due}
+use Rattle.drt_rates.specs.Demands.{IsFront, AreFronts, IsLeastExcess}
 
 all_cons : (bound : ℕ) (w : DueWork) (ws : List DueWork) → w.due ≤ bound → All (λ w. w.due ≤ bound) ws → All (λ w. w.due ≤ bound) (w ∷ ws)
 all_cons bound w ws one all zero d l = one

@@ -1,13 +1,9 @@
 -- The demands of a set over the fronts of its tasks.
-use Rattle.std.specs.Prelude.{ℕ, ◌+◌, ◌<◌, ◌≤◌, List, [], ◌∷◌, All, Option, Some, None}
+use Rattle.std.specs.Prelude.{ℕ, ◌<◌, ◌≤◌, List, [], ◌∷◌, All, Option, Some, None}
 use Rattle.drt_model.specs.Digraph.{Digraph, vertex_count}
-use Rattle.drt_model.specs.Walk.{deadline}
+use Rattle.drt_model.specs.FrontEntry.{due}
 use Rattle.drt_model.specs.declared.front.FrontEntry.{FrontEntry}
 use Rattle.drt_sweep.specs.Dues.{sum_due}
-
--- When the last job of an entry's walk is due: its offset and its vertex's deadline.
-abbrev pub due : Digraph → FrontEntry → ℕ
-due g x = x.offset + deadline g x.vertex
 
 -- Each entry of the list names a vertex of the graph, and its last job is due within the bound.
 abbrev pub IsFront : Digraph → ℕ → List FrontEntry → Type 0

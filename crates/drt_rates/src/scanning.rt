@@ -1,7 +1,8 @@
 //! The scan of the times at which demand rises.
 ghost use Rattle.std.specs.Prelude.{◌≡◌, ◌++◌, IfOk};
 ghost use Rattle.drt_sweep.specs.DueWorks.{works_from, works_of};
-ghost use Rattle.drt_rates.specs.Demands.{AreFronts, IsFront, IsLeastExcess, due};
+ghost use Rattle.drt_model.specs.FrontEntry.{due};
+ghost use Rattle.drt_rates.specs.Demands.{AreFronts, IsFront, IsLeastExcess};
 
 use drt_graph::{Graph, Graphs};
 use drt_model::{FrontEntry, Memory, Row};

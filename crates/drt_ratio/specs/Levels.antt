@@ -59,7 +59,9 @@ IsTrace g a b n v h (u ∷ vs) = IsPath g u vs × (last_of u vs ≡ v) × (lengt
 -- The list has the last vertices of a walk to v, from its end back to the vertex at, which stands at level k: what is left of the
 -- height of v at level n is the height of that vertex at level k.
 abbrev pub IsTrail : Digraph → ℕ → ℕ → List Level → ℕ → ℕ → ℕ → ℕ → List ℕ → Type 0
-IsTrail g a b levels n v k at items = (vs : List ℕ) × (items ≡ reverse (at ∷ vs)) × IsPath g at vs × (last_of at vs ≡ v) × (length vs + k ≤ n) × (b * work g vs + height (level_of levels k) at ≡ height (level_of levels n) v + a * span g at vs)
+IsTrail g a b levels n v k at items =
+    (vs : List ℕ) × (items ≡ reverse (at ∷ vs)) × IsPath g at vs × (last_of at vs ≡ v) × (length vs + k ≤ n)
+    × (b * work g vs + height (level_of levels k) at ≡ height (level_of levels n) v + a * span g at vs)
 
 -- Places i and j have the same number, and the places before j differ.
 pub record IsRepeat (xs : List ℕ) (i j : ℕ) : Type 0 where

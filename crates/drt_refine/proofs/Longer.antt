@@ -44,15 +44,21 @@ module _ (t : Setting) (budget : ℕ) (more : t.budget ≤ budget) where
         halved_same id place w c None = refl
         halved_same id place w c (Some p) = refl
 
-        at_same : (id place w : ℕ) (o : Option Combination) → halved_at (with_budget budget t) s (record { worker = w; step = Split id place }) id place o ≡ halved_at t s (record { worker = w; step = Split id place }) id place o
+        at_same : (id place w : ℕ) (o : Option Combination)
+            → halved_at (with_budget budget t) s (record { worker = w; step = Split id place }) id place o ≡ halved_at t s (record { worker = w; step = Split id place }) id place o
         at_same id place w None = refl
         at_same id place w (Some c) = child_same id place w c (slice_get c.nodes place)
           where
-            child_same : (id place w : ℕ) (c : Combination) (n : Option ℕ) → halved (with_budget budget t) s (record { worker = w; step = Split id place }) id place c.nodes (children_at (with_budget budget t) n) ≡ halved t s (record { worker = w; step = Split id place }) id place c.nodes (children_at t n)
+            child_same : (id place w : ℕ) (c : Combination) (n : Option ℕ)
+                → halved (with_budget budget t) s (record { worker = w; step = Split id place }) id place c.nodes (children_at (with_budget budget t) n)
+                ≡ halved t s (record { worker = w; step = Split id place }) id place c.nodes (children_at t n)
             child_same id place w c None = refl
             child_same id place w c (Some n) = halved_same id place w c (children t.forest n)
 
-        split_same : (id place w : ℕ) (o : Option Combination) (x : Outcome) → halved_at t s (record { worker = w; step = Split id place }) id place o ≡ x → (cond (is_full t s) (unchanged s Spent) x).state.log ≡ s.log ++ e ∷ [] → cond (is_full (with_budget budget t) s) (unchanged s Spent) (halved_at (with_budget budget t) s (record { worker = w; step = Split id place }) id place o) ≡ cond (is_full t s) (unchanged s Spent) x
+        split_same : (id place w : ℕ) (o : Option Combination) (x : Outcome) → halved_at t s (record { worker = w; step = Split id place }) id place o ≡ x
+            → (cond (is_full t s) (unchanged s Spent) x).state.log ≡ s.log ++ e ∷ []
+            → cond (is_full (with_budget budget t) s) (unchanged s Spent) (halved_at (with_budget budget t) s (record { worker = w; step = Split id place }) id place o)
+            ≡ cond (is_full t s) (unchanged s Spent) x
         split_same id place w o x h l = ap (λ y. cond (is_full (with_budget budget t) s) (unchanged s Spent) y) (at_same id place w o ∙ h) ∙ full_same (is_full t s) x refl l
     stepped_same w (Fail id) l = full_same (is_full t s) _ refl l
 

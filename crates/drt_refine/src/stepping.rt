@@ -130,7 +130,10 @@ impl Frontier {
         requires room { length self.old.log < self.old.budget }
         requires held { (c : Combination) × (slice_get self.old.combinations id ≡ Some c) × (is_taken c ≡ true) × (length c.nodes ≡ length self.old.roots) }
         requires none { first is_failed self.old.combinations ≡ None }
-        ensures new { (c : Combination) → slice_get self.old.combinations id ≡ Some c → self.new ≡ moved self.old (record { combinations = halves self.old.combinations id place (slice_set c.nodes place left) (slice_set c.nodes place right); log = self.old.log ++ record { worker = worker; step = Split id place } ∷ [] }) }
+        ensures new { (c : Combination) → slice_get self.old.combinations id ≡ Some c → self.new ≡ moved self.old (record {
+          combinations = halves self.old.combinations id place (slice_set c.nodes place left) (slice_set c.nodes place right);
+          log = self.old.log ++ record { worker = worker; step = Split id place } ∷ [];
+        }) }
         ensures reply { result ≡ Halved (length self.old.combinations) (length self.old.combinations + 1) }
     {
         let width = self.roots.len();

@@ -25,9 +25,12 @@ use drt_tree::every_forest;
 /// The function does nothing: its contract is a theorem.
 pub fn over_every_interleaving()
     ensures facts { (t : Setting) (log : _) → IsForest t.forest → AreChosen t.deadline t.forest.pool t.roots → IsRun t log → Facts t (replay t log).combinations }
-    ensures finished { (t : Setting) (log : _) → IsForest t.forest → AreChosen t.deadline t.forest.pool t.roots → IsRun t log → IsTrue (is_finished t (replay t log)) → (tuple : List ℕ) → AreBelow t.forest tuple t.roots → IsPassed t (replay t log).combinations tuple }
-    ensures failed { (t : Setting) (log : _) (id : ℕ) → IsForest t.forest → AreChosen t.deadline t.forest.pool t.roots → IsRun t log → first is_failed (replay t log).combinations ≡ Some id → (c : Combination) × (slice_get (replay t log).combinations id ≡ Some c) × IsHopeless t c.nodes }
-    ensures longer { (t : Setting) (log : _) (budget : ℕ) → IsRun t log → is_finished t (replay t log) ≡ false → first is_failed (replay t log).combinations ≡ None → t.budget ≤ budget → length log < budget → CanGoOn t budget log }
+    ensures finished { (t : Setting) (log : _) → IsForest t.forest → AreChosen t.deadline t.forest.pool t.roots → IsRun t log → IsTrue (is_finished t (replay t log))
+        → (tuple : List ℕ) → AreBelow t.forest tuple t.roots → IsPassed t (replay t log).combinations tuple }
+    ensures failed { (t : Setting) (log : _) (id : ℕ) → IsForest t.forest → AreChosen t.deadline t.forest.pool t.roots → IsRun t log
+        → first is_failed (replay t log).combinations ≡ Some id → (c : Combination) × (slice_get (replay t log).combinations id ≡ Some c) × IsHopeless t c.nodes }
+    ensures longer { (t : Setting) (log : _) (budget : ℕ) → IsRun t log → is_finished t (replay t log) ≡ false → first is_failed (replay t log).combinations ≡ None
+        → t.budget ≤ budget → length log < budget → CanGoOn t budget log }
     ensures short { (t : Setting) (log : _) → IsForest t.forest → IsRun t log → length log + 2 ≤ 4 * tuples t.forest t.roots }
 {
     every_forest();

@@ -1,18 +1,18 @@
 -- The search of a graph's walks takes few steps: a kept node for each walk at most, since one walk has one label.
-use Rattle.std.proofs.Common.{◌≡◌, inl, inr, ℕ, zero, suc, ◌+◌, ◌-◌, ◌*◌, ◌<◌, ◌≤◌, Bool, true, false, List, [], ◌∷◌, ◌++◌, length, map, reverse, get_or, Contains, refl, sym, ap}
+use Rattle.std.proofs.Common.{◌≡◌, inl, inr, ℕ, ◌+◌, ◌-◌, ◌*◌, ◌<◌, ◌≤◌, Bool, true, false, List, [], ◌∷◌, ◌++◌, length, map, reverse, get_or, Contains, refl, sym, ap}
 use Rattle.std.proofs.Common.{◌∙◌, subst, arith, append_assoc, mul-le-mul_left}
 use Rattle.std.specs.Prelude.{IsTrue, nat_le, ◌&&◌}
 use Rattle.std.specs.List.{position_or_len, range_with_len}
-use Rattle.std.proofs.Math.Nat.{le-max_left, le-max_right}
 use Rattle.std.proofs.lemmas.Bool.{cases_lt}
 use Rattle.std.proofs.lemmas.Bool.Decides.{nat_tests}
 use Rattle.std.proofs.lemmas.List.{append-nil, reverse-reverse}
 use Rattle.std.proofs.lemmas.List.FromFn.{length-map-range_with_len, get_or-map-range_with_len}
 use Rattle.std.proofs.lemmas.List.Sums.{fails_before_first, passes_at_first}
-use Rattle.drt_model.specs.declared.tasks.Edge.{Edge}
+use Rattle.drt_model.specs.Degrees.{most_out}
 use Rattle.drt_model.specs.Digraph.{Digraph, IsSound}
 use Rattle.drt_model.specs.RequestFunction.{request}
 use Rattle.drt_model.specs.Walk.{last_of, span}
+use Rattle.drt_model.proofs.MostOut.{most_row}
 use Rattle.drt_steps.specs.Values.{value_at}
 use Rattle.drt_request.specs.Laws.{request_laws}
 use Rattle.drt_request.specs.Request.{Request, request_algebra, dominates}
@@ -22,7 +22,7 @@ use Rattle.drt_table.specs.Walk.{IsWalkBack, IsWalkLabel}
 use Rattle.drt_table.specs.Work.{IsDegree, IsShort, AreSlots, kept_count}
 use Rattle.drt_table.specs.declared.step.Entry.{Entry}
 use Rattle.drt_evidence.specs.Trees.{IsShortWalk}
-use Rattle.drt_sp.specs.Needs.{HasAtMost, most_out}
+use Rattle.drt_sp.specs.Needs.{HasAtMost}
 use Rattle.drt_sp.specs.TreeClaims.{IsSpentSearch, search_of}
 use Rattle.drt_sp.proofs.FewWalks.{itself}
 use Rattle.drt_sp.proofs.RequestWalks.{same_labels, walk_short}
@@ -112,15 +112,6 @@ module _ (t : Setting) (sound : IsSound t.graph) where
         let e = ap (λ n. has_label t.graph t.bound m (get_or walks n [])) same in
         inl (one_walk t.graph t.bound (get_or walks (slot t.graph t.bound walks l) []) l m h (e ∙ k)));
   }
-
-most_row : (rows : List (List Edge)) (v : ℕ) → length (get_or rows v []) ≤ most_out rows
-most_row [] zero = omega arith
-most_row [] (suc v) = omega arith
-most_row (row ∷ rows) zero = le-max_left (length row) (most_out rows)
-most_row (row ∷ rows) (suc v) =
-    let h = most_row rows v in
-    let m = le-max_right (length row) (most_out rows) in
-    omega (arith, h, m)
 
 -- The log of the state after a run is the run.
 module _ (t : Setting) where

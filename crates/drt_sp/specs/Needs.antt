@@ -1,16 +1,11 @@
 -- How large a budget is enough, by the numbers of the tasks' walks. Nothing computes these numbers.
-use Rattle.std.specs.Prelude.{◌≡◌, ℕ, zero, suc, ◌+◌, ◌*◌, ◌<◌, ◌≤◌, nat_lt, if◌then◌else◌, max, Some, List, [], ◌∷◌, length, Contains, slice_get}
+use Rattle.std.specs.Prelude.{◌≡◌, ℕ, zero, suc, ◌+◌, ◌*◌, ◌<◌, ◌≤◌, nat_lt, if◌then◌else◌, Some, List, length, Contains, slice_get}
 use Rattle.drt_model.specs.declared.tasks.Task.{Task}
-use Rattle.drt_model.specs.declared.tasks.Edge.{Edge}
+use Rattle.drt_model.specs.Degrees.{most_out}
 use Rattle.drt_model.specs.Digraph.{Digraph}
 use Rattle.drt_busy.specs.Choice.{graph_at, task_at}
 use Rattle.drt_tree.specs.Tree.{Plain, leaves}
 use Rattle.drt_evidence.specs.Trees.{IsShortWalk, greatest_deadline}
-
--- The greatest number of edges out of a vertex.
-abbrev pub most_out : List (List Edge) → ℕ
-most_out [] = 0
-most_out (row ∷ rows) = max (length row) (most_out rows)
 
 -- No more than n walks of the graph span less than the bound: a list of n walks has each of them.
 abbrev pub HasAtMost : ℕ → Digraph → ℕ → Type 0

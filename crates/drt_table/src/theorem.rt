@@ -21,8 +21,11 @@ use drt_label::Label;
 pub fn over_every_interleaving<L: Label>()
     ensures facts { (t : Setting) (log : _) → IsSound t.graph → IsRun L.algebra t log → Facts L.algebra t (replay L.algebra t log).nodes }
     ensures order { (t : Setting) (log : _) → IsSound t.graph → IsRun L.algebra t log → Order L.algebra t (replay L.algebra t log).nodes }
-    ensures front { (t : Setting) (log : _) → IsSound t.graph → IsTrue (L.algebra.takes_bound t.bound) → IsRun L.algebra t log → IsTrue (is_finished L.algebra t (replay L.algebra t log)) → IsFront L.algebra t (replay L.algebra t log).nodes }
+    ensures front { (t : Setting) (log : _) → IsSound t.graph → IsTrue (L.algebra.takes_bound t.bound) → IsRun L.algebra t log → IsTrue (is_finished L.algebra t (replay L.algebra t log))
+        → IsFront L.algebra t (replay L.algebra t log).nodes }
     ensures bounded { (t : Setting) (log : _) → IsSound t.graph → IsTrue (L.algebra.takes_bound t.bound) → IsRun L.algebra t log → IsBounded (replay L.algebra t log) }
-    ensures short { (t : Setting) (log : _) (g : ℕ) → IsSound t.graph → IsTrue (L.algebra.takes_bound t.bound) → IsRun L.algebra t log → IsDegree L.algebra t g → IsShort L.algebra t g (replay L.algebra t log) }
-    ensures slots { (t : Setting) (log : _) (slot : L → ℕ) (many : ℕ) → IsSound t.graph → IsTrue (L.algebra.takes_bound t.bound) → IsRun L.algebra t log → AreSlots L.algebra t slot many → kept_count (replay L.algebra t log).nodes ≤ many }
+    ensures short { (t : Setting) (log : _) (g : ℕ) → IsSound t.graph → IsTrue (L.algebra.takes_bound t.bound) → IsRun L.algebra t log → IsDegree L.algebra t g
+        → IsShort L.algebra t g (replay L.algebra t log) }
+    ensures slots { (t : Setting) (log : _) (slot : L → ℕ) (many : ℕ) → IsSound t.graph → IsTrue (L.algebra.takes_bound t.bound) → IsRun L.algebra t log
+        → AreSlots L.algebra t slot many → kept_count (replay L.algebra t log).nodes ≤ many }
 {}

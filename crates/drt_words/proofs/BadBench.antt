@@ -1,11 +1,14 @@
 -- A list that gives the option of `bench` a value out of its range is refused, wherever in the list that stands. What a word that is no
 -- flag goes to is the number, where none stands yet, and nothing else.
-use Rattle.std.proofs.Common.{◌≡◌, ◌⊎◌, ◌++◌, ◌&&◌, ℕ, zero, suc, Bool, cond, eqb, true, false, List, [], ◌∷◌, Option, Some, None, codes, refl, sym, inl, inr, length, drop, fold, encode_utf8, slice_get, bytes_eq, chars, true≢false, lt-ltb, arith}
+use Rattle.std.proofs.Common.{◌≡◌, ◌⊎◌, ◌++◌, ◌&&◌, ℕ, zero, suc, Bool, cond, eqb, true, false, List, [], ◌∷◌, Option, Some, None, codes, refl, sym, inl, inr, length}
+use Rattle.std.proofs.Common.{drop, fold, encode_utf8, slice_get, bytes_eq, chars, true≢false, lt-ltb, arith}
 use Rattle.clap.proofs.OnLiterals.{clap_on_literals}
 use Rattle.clap.specs.Lexer.{long_of, short_of}
 use Rattle.clap.specs.ValueTests.{is_unsigned_in}
 use Rattle.clap.specs.Simple.{App, Shape, built, filled, names_of, new_shape, with_index}
-use Rattle.clap.specs.Walk.{Held, Outcome, Row, Rule, Step, Text, Waiting, Walk, bundle_step, plain, refused, idle, option, positional, next, trailing, subcommand, value, after_flag, after_step, arg_by_index, arg_by_long, bundle, bundle_met, is_multiple, is_pending, long_or_other, next_position, nothing_held, plain_word, positional_held, pushed, settled, short_or_plain, takes_several, to_positional, walk_from, walked, word_met}
+use Rattle.clap.specs.Walk.{Held, Outcome, Row, Rule, Step, Text, Waiting, Walk, bundle_step, plain, refused, idle, option, positional, next, trailing, subcommand, value}
+use Rattle.clap.specs.Walk.{after_flag, after_step, arg_by_index, arg_by_long, bundle, bundle_met, is_multiple, is_pending, long_or_other, next_position, nothing_held}
+use Rattle.clap.specs.Walk.{plain_word, positional_held, pushed, settled, short_or_plain, takes_several, to_positional, walk_from, walked, word_met}
 use Rattle.clap.specs.Faults.{entered_fault, fault_of, flag_word_fault, level_fault, long_fault, repeat_fault, settle_fault, step_fault, turn_fault, use_fault, walk_fault, word_fault}
 use Rattle.drt_words.specs.CommandLine.{drt_app, workers_rule, whole_rule}
 use Rattle.drt_words.specs.Meaning.{meaning_of}

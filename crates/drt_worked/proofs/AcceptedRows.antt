@@ -14,7 +14,8 @@ use Rattle.drt_model.specs.RatioRules.{FitPotentials}
 use Rattle.drt_model.specs.Utilisation.{Fraction, IsScale, rate}
 use Rattle.drt_model.specs.Walk.{sep_in, or_zero, work, span}
 use Rattle.drt_model.specs.declared.front.FrontEntry.{FrontEntry}
-use Rattle.drt_evidence.specs.Fronts.{HasOpenings, IsClosedFront, IsExtended, IsNextEntry, IsWithin, due, works_due}
+use Rattle.drt_model.specs.FrontEntry.{due}
+use Rattle.drt_evidence.specs.Fronts.{HasOpenings, IsClosedFront, IsExtended, IsNextEntry, IsWithin, works_due}
 use Rattle.drt_evidence.specs.Rules.{Accepts}
 use Rattle.drt_evidence.specs.declared.evidence.RatioClaim.{RatioClaim}
 use Rattle.drt_evidence.proofs.Accepting.{AreFrontClaims, AreRatioClaims, IsEdfYes, yes_accepted}

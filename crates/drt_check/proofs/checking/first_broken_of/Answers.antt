@@ -1,9 +1,9 @@
-use Rattle.std.proofs.Common.{◌≡◌, ◌+◌, ◌<◌, ◌≤◌, ◌⊎◌, inl, inr, true, false, sym, ◌∙◌, slice_index_or, subst, arith}
+use Rattle.std.proofs.Common.{◌≡◌, ◌+◌, ◌<◌, ◌≤◌, ◌⊎◌, inl, inr, true, false, sym, ◌∙◌, slice_index_or, subst, arith, rules}
 use Rattle.std.proofs.lemmas.Bool.{cases_lt}
 use Rattle.drt_evidence.specs.Rules.{Applies, Keeps}
 use Rattle.drt_evidence.specs.declared.rule.Rule.{Rule}
 use Rattle.drt_check.proofs.Table.{at_place, place, table}
-use Rattle.drt_check.proofs.checking.first_broken_of.Goals.{else-applies-via-then-applies+in_ok-keeps+else-not-branch, else-applies-via-else-applies}
+use Rattle.drt_check.proofs.checking.first_broken_of.Goals.{else-applies-via-then-applies+in_ok-is_kept+else-not-branch, else-applies-via-else-applies}
 use Rattle.drt_check.proofs.checking.first_broken_of.Goals as goal
 
 pub rules-preserved : goal.rules-preserved
@@ -11,8 +11,8 @@ rules-preserved c = λ rule a l. go rule a l (cases_lt (place rule) c.rules.i)
   where
     here : (rule : Rule) → Applies rule c.args.dossier.now.evidence → place rule ≡ c.rules.i → Keeps rule c.args.dossier.now
     here rule a e = elim c.else-applies.branch [
-      | else-applies-via-then-applies+in_ok-keeps+else-not-branch w ↦
-          let kept = rw w.in_ok-keeps.was at w.keeps.ensures in
+      | else-applies-via-then-applies+in_ok-is_kept+else-not-branch w ↦
+          let kept = rw w.in_ok-is_kept.was at w.is_kept.ensures in
           let same = subst (λ n. (d : Rule) → slice_index_or table n d ≡ rule) e (λ d. at_place d rule) in
           subst (λ r. Keeps r c.args.dossier.now) (same _) (kept.0 (grind (arith, w.if-not-branch.false)))
       | else-applies-via-else-applies w ↦
@@ -23,3 +23,8 @@ rules-preserved c = λ rule a l. go rule a l (cases_lt (place rule) c.rules.i)
     go : (rule : Rule) → Applies rule c.args.dossier.now.evidence → place rule < c.rules.i + 1 → (place rule < c.rules.i) ⊎ (c.rules.i ≤ place rule) → Keeps rule c.args.dossier.now
     go rule a l (inl before) = c.rules.invariant rule a before
     go rule a l (inr at) = here rule a (omega arith)
+
+pub returns-then-not-branch : goal.returns-then-not-branch
+returns-then-not-branch c =
+    let kept = rw c.in_ok-is_kept.was at c.is_kept.ensures in
+    (search rules, λ k. (let t = kept.1 k in grind (arith, c.if-not-branch.true)))

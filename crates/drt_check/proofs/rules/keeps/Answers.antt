@@ -4,7 +4,7 @@ use Rattle.drt_evidence.specs.Fronts.{HasOpenings, IsClosedFront}
 use Rattle.drt_evidence.specs.Kinds.{fronts_of, ratios_of}
 use Rattle.drt_evidence.specs.Statement.{Statement}
 use Rattle.drt_evidence.specs.declared.rule.Rule.TheVariants.{LowestTerms, PotentialPerVertex, FittingPotentials, ClosedCycles, TightCycles, NearHorizon}
-use Rattle.drt_evidence.specs.declared.rule.Rule.TheVariants.{OrderedFronts, CoveredOpenings, CoveredExtensions, Room, LegalReleases}
+use Rattle.drt_evidence.specs.declared.rule.Rule.TheVariants.{OrderedFronts, CoveredOpenings, CoveredExtensions, Room}
 use Rattle.drt_evidence.specs.declared.rule.Rule.TheVariants.{TreePerHigherTask, ShortWalks, CoveredWalks, TreeShapes, ProofShapes, PassingTimes}
 use Rattle.drt_check.specs.Deciding.{IsNext}
 use Rattle.drt_check.proofs.Rows.{counted, decides, decides_at, decides_near, decides_order, given, in_order, near}
@@ -92,12 +92,6 @@ have_room-requires c =
     let next = subst (λ r. IsNext c.args.dossier.now r) c.in-Room.is c.requires.next in
     let is = rw (c.ratios_of-ratios.ensures.value, c.requires.graphs) at c.near_horizon-in-Room.ensures in
     rw (c.fronts_of-fronts.ensures.value, c.requires.graphs) (in_order c.args.dossier.now Room next next.applies (omega arith) c.near_horizon-in-Room.result is)
-
-pub is_least_miss-requires-clause-legal : goal.is_least_miss-requires-clause-legal
-is_least_miss-requires-clause-legal c =
-    let next = subst (λ r. IsNext c.args.dossier.now r) c.in-LeastMiss.is c.requires.next in
-    let set = ap (λ (s : Statement). s.set) c.dossier.view_is in
-    rw (set, c.releases_of-releases.ensures.value) (next.before LegalReleases next.applies (omega arith))
 
 pub have_short_walks-requires-clause-per_task : goal.have_short_walks-requires-clause-per_task
 have_short_walks-requires-clause-per_task c =
@@ -195,12 +189,6 @@ returns-in-CoveredExtensions c =
     decides d c.args.rule CoveredExtensions c.are_closed.result c.in-CoveredExtensions.is
     (decides_at (graphs_of d.set.tasks) (ratios_of d.evidence) c.near_horizon-in-CoveredExtensions.result is
     (λ n. Each (IsClosedFront n) (graphs_of d.set.tasks) (fronts_of d.evidence)) c.are_closed.result each)
-
-pub returns-in-LeastMiss : goal.returns-in-LeastMiss
-returns-in-LeastMiss c =
-    let policy = ap (λ (s : Statement). s.policy) c.dossier.view_is in
-    let set = ap (λ (s : Statement). s.set) c.dossier.view_is in
-    rw c.in-LeastMiss.is (rw (policy, set, c.releases_of-releases.ensures.value, c.miss_of.ensures) at c.is_least_miss.ensures)
 
 pub returns-in-TreeShapes : goal.returns-in-TreeShapes
 returns-in-TreeShapes c = rw c.in-TreeShapes.is (rw c.trees_of-trees.ensures.value at c.are_trees.ensures)

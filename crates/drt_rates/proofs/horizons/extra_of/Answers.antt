@@ -1,8 +1,7 @@
 use Rattle.std.proofs.Common.{◌<◌, length, arith}
-use Rattle.std.proofs.lemmas.List.{drop_more, drop_all}
-use Rattle.drt_graph.specs.Graphs.{no_graph}
-use Rattle.drt_graph.proofs.Scales.{left_at, extra_cons, extra_none}
-use Rattle.drt_rates.proofs.Ratings.{rated_count}
+use Rattle.std.proofs.lemmas.List.{drop_all}
+use Rattle.drt_graph.proofs.Scales.{extra_cons, extra_none}
+use Rattle.drt_rates.proofs.Ratings.{next_rated, rated_count}
 use Rattle.drt_rates.proofs.horizons.extra_of.Goals as goal
 
 pub bounds-ratios-i : goal.bounds-ratios-i
@@ -11,32 +10,23 @@ bounds-ratios-i g c = omega (arith, c.tasks-test.true, c.count-i-end.ensures.cou
 pub extra_at-total-requires-clause-small : goal.extra_at-total-requires-clause-small
 extra_at-total-requires-clause-small g c =
     let l : c.tasks.i < length c.args.graphs.now = omega (arith, c.tasks-test.true, c.count-i-end.ensures.count) in
-    let m : c.tasks.i < length c.args.ratios.now = omega (arith, l, rated_count g.R.Rated.fraction g.R.Rated.heights c.args.graphs.now c.args.ratios.now c.requires.rated) in
-    let f = drop_more c.args.graphs.now c.tasks.i no_graph l in
-    let k = left_at c.args.ratios.now c.tasks.i c.index-ratios-i.result m c.index-ratios-i.is in
-    let rated = rw (f, k) at c.tasks.invariant.rated in
-    rated.0.0
+    let next = next_rated g.R.Rated.fraction g.R.Rated.heights c.args.graphs.now c.args.ratios.now c.tasks.i c.index-ratios-i.result c.requires.rated c.tasks.invariant.rated l c.index-ratios-i.is in
+    next.small
 
 pub extra_at-total-requires-clause-near : goal.extra_at-total-requires-clause-near
 extra_at-total-requires-clause-near g c =
     let l : c.tasks.i < length c.args.graphs.now = omega (arith, c.tasks-test.true, c.count-i-end.ensures.count) in
-    let m : c.tasks.i < length c.args.ratios.now = omega (arith, l, rated_count g.R.Rated.fraction g.R.Rated.heights c.args.graphs.now c.args.ratios.now c.requires.rated) in
-    let f = drop_more c.args.graphs.now c.tasks.i no_graph l in
-    let k = left_at c.args.ratios.now c.tasks.i c.index-ratios-i.result m c.index-ratios-i.is in
-    let rated = rw (f, k) at c.tasks.invariant.rated in
-    rw c.graph.ensures.graph rated.0.1
+    let next = next_rated g.R.Rated.fraction g.R.Rated.heights c.args.graphs.now c.args.ratios.now c.tasks.i c.index-ratios-i.result c.requires.rated c.tasks.invariant.rated l c.index-ratios-i.is in
+    rw c.graph.ensures.graph next.near
 
 pub tasks-preserved : goal.tasks-preserved
 tasks-preserved g c =
     let l : c.tasks.i < length c.args.graphs.now = omega (arith, c.tasks-test.true, c.count-i-end.ensures.count) in
-    let m : c.tasks.i < length c.args.ratios.now = omega (arith, l, rated_count g.R.Rated.fraction g.R.Rated.heights c.args.graphs.now c.args.ratios.now c.requires.rated) in
-    let f = drop_more c.args.graphs.now c.tasks.i no_graph l in
-    let k = left_at c.args.ratios.now c.tasks.i c.index-ratios-i.result m c.index-ratios-i.is in
-    let rated = rw (f, k) at c.tasks.invariant.rated in
-    let total = rw (f, k, extra_cons) at c.tasks.invariant.total in
+    let next = next_rated g.R.Rated.fraction g.R.Rated.heights c.args.graphs.now c.args.ratios.now c.tasks.i c.index-ratios-i.result c.requires.rated c.tasks.invariant.rated l c.index-ratios-i.is in
+    let total = rw (next.graph, next.item, extra_cons) at c.tasks.invariant.total in
     let value = rw c.graph.ensures.graph at c.extra_at-total.ensures.value in
     let most = c.extra_at-total.ensures.most in
-    record { rated = rated.1; total = omega (arith, total, value); most = omega (arith, c.tasks.invariant.most, most) }
+    record { rated = next.rest; total = omega (arith, total, value); most = omega (arith, c.tasks.invariant.most, most) }
 
 pub returns : goal.returns
 returns g c =

@@ -56,5 +56,8 @@ pub returns-in-Some-choose_place : goal.returns-in-Some-choose_place
 returns-in-Some-choose_place c x at =
     let same : c.combination-nodes.result.now ≡ x.nodes = some_if (slice_get c.args.self.now.combinations c.args.id) _ x c.combination-nodes.ensures at in
     let place : IsPlace c.args.forest.now c.combination-nodes.result.now (Some c.in-Some-choose_place.place) = subst (λ o. IsPlace c.args.forest.now c.combination-nodes.result.now o) c.in-Some-choose_place.is c.choose_place.ensures in
-    let none : NonePasses (setting_of c.args.forest.now c.args.self.now) c.combination-nodes.result.now = λ time p. c.in-None.ensures time (subst (λ (v : View). Passes v.wcet v.deadline c.all.result.now c.combination-nodes.result.now time) (sym c.self.view_is) (subst (λ (pool : List (List ℕ)). Passes c.args.self.now.wcet c.args.self.now.deadline pool c.combination-nodes.result.now time) (sym c.all.ensures.value) p)) in
+    let none : NonePasses (setting_of c.args.forest.now c.args.self.now) c.combination-nodes.result.now =
+    λ time p. c.in-None.ensures time
+    (subst (λ (v : View). Passes v.wcet v.deadline c.all.result.now c.combination-nodes.result.now time) (sym c.self.view_is)
+    (subst (λ (pool : List (List ℕ)). Passes c.args.self.now.wcet c.args.self.now.deadline pool c.combination-nodes.result.now time) (sym c.all.ensures.value) p)) in
     subst (λ (l : List ℕ). (c.args.id ≡ c.args.id) × NonePasses (setting_of c.args.forest.now c.args.self.now) l × IsPlace c.args.forest.now l (Some c.in-Some-choose_place.place)) same (refl, none, place)
