@@ -7,8 +7,6 @@
 
 mod bound;
 mod label;
-#[cfg(test)]
-mod tests;
 mod walks;
 
 pub use bound::{dbf, is_due};

@@ -18,8 +18,6 @@ mod error;
 mod graph;
 mod graphs;
 mod potentials;
-#[cfg(test)]
-mod tests;
 
 pub use checking::{check, first_past};
 pub use constants::constant;

@@ -1,4 +1,3 @@
 pub mod Claims
 pub mod Levels
 pub mod SetRatios
-pub mod Simple

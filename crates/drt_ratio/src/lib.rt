@@ -16,8 +16,6 @@ mod improving;
 mod levels;
 mod ratio_proof;
 mod set_ratios;
-#[cfg(test)]
-mod tests;
 mod traces;
 
 pub use checking::check_ratio;

@@ -1,6 +1,6 @@
 use Rattle.std.proofs.Common.{◌*◌, ◌<◌, arith}
 use Rattle.drt_ratio.proofs.Optima.{cross}
-use Rattle.drt_ratio.proofs.tests.enumeration.greater_of.Goals as goal
+use Rattle.drt_ratio_tests.proofs.enumeration.greater_of.Goals as goal
 
 pub returns-then-num-span-clause-keeps : goal.returns-then-num-span-clause-keeps
 returns-then-num-span-clause-keeps c =

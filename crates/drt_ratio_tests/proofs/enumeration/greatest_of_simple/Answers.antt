@@ -1,6 +1,6 @@
 use Rattle.std.proofs.Common.{arith}
-use Rattle.drt_ratio.proofs.Lists.{simple_short}
-use Rattle.drt_ratio.proofs.tests.enumeration.greatest_of_simple.Goals as goal
+use Rattle.drt_ratio_tests.proofs.Lists.{simple_short}
+use Rattle.drt_ratio_tests.proofs.enumeration.greatest_of_simple.Goals as goal
 
 pub returns : goal.returns
 returns c = record {

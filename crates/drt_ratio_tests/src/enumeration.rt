@@ -2,7 +2,7 @@
 ghost use Rattle.std.specs.Prelude.{◌≡◌, ◌<◌, ◌≤◌, ◌↔◌, ◌*◌, ◌⊎◌, ℕ, List, IfOk, IsTrue, length};
 ghost use Rattle.drt_model.specs.Digraph.{vertex_count};
 ghost use Rattle.drt_model.specs.Utilisation.{AreDistinct};
-ghost use Rattle.drt_ratio.specs.Simple.{IsAtMost, IsSimpleCycle, HasSimple, IsSimpleRatio, digits};
+ghost use Rattle.drt_ratio_tests.specs.Simple.{IsAtMost, IsSimpleCycle, HasSimple, IsSimpleRatio, digits};
 
 use drt_graph::{Graph, cycle_sums, is_cycle};
 use drt_model::Memory;

@@ -1,7 +1,7 @@
 use Rattle.std.proofs.Common.{ℕ, List, ◌<◌, ◌≤◌}
 use Rattle.drt_model.specs.Digraph.{vertex_count}
-use Rattle.drt_ratio.specs.Simple.{IsAtMost, IsSimpleCycle, HasSimple, digits}
-use Rattle.drt_ratio.proofs.tests.enumeration.greater_of_length.Given as goal
+use Rattle.drt_ratio_tests.specs.Simple.{IsAtMost, IsSimpleCycle, HasSimple, digits}
+use Rattle.drt_ratio_tests.proofs.enumeration.greater_of_length.Given as goal
 
 abbrev pub invariant-numbers : goal.invariant-numbers
 invariant-numbers l = record {

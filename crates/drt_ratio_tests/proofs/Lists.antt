@@ -6,7 +6,7 @@ use Rattle.std.proofs.lemmas.Nat.{mod-mul-add, div-mul-add}
 use Rattle.std.proofs.Math.Nat.{pow-zero, pow-succ', pow-le-pow_left, pow-le-pow_right, le_trans}
 use Rattle.drt_model.specs.Digraph.{Digraph, IsSound, vertex_count}
 use Rattle.drt_model.specs.Walk.{last_of, IsCycle}
-use Rattle.drt_ratio.specs.Simple.{digits, IsSimpleCycle}
+use Rattle.drt_ratio_tests.specs.Simple.{digits, IsSimpleCycle}
 use Rattle.drt_ratio.proofs.Loops.{path_below, few_distinct}
 
 -- What a ratio is at least, a greater one is at least.

@@ -1,6 +1,6 @@
 use Rattle.std.proofs.Common.{ℕ, List, ◌≤◌, length}
-use Rattle.drt_ratio.specs.Simple.{IsAtMost, IsSimpleCycle, HasSimple}
-use Rattle.drt_ratio.proofs.tests.enumeration.greatest_of_simple.Given as goal
+use Rattle.drt_ratio_tests.specs.Simple.{IsAtMost, IsSimpleCycle, HasSimple}
+use Rattle.drt_ratio_tests.proofs.enumeration.greatest_of_simple.Given as goal
 
 abbrev pub invariant-lengths : goal.invariant-lengths
 invariant-lengths l = record {

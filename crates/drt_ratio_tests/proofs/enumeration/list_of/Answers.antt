@@ -1,6 +1,6 @@
 use Rattle.std.proofs.Common.{arith}
-use Rattle.drt_ratio.proofs.Lists.{digits_step, digits_end}
-use Rattle.drt_ratio.proofs.tests.enumeration.list_of.Goals as goal
+use Rattle.drt_ratio_tests.proofs.Lists.{digits_step, digits_end}
+use Rattle.drt_ratio_tests.proofs.enumeration.list_of.Goals as goal
 
 pub places-preserved : goal.places-preserved
 places-preserved c =

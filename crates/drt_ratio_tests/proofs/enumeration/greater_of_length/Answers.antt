@@ -1,8 +1,8 @@
 use Rattle.std.proofs.Common.{◌≡◌, ◌^◌, ◌<◌, arith, below_more}
 use Rattle.drt_model.specs.Digraph.{vertex_count}
-use Rattle.drt_ratio.specs.Simple.{digits}
-use Rattle.drt_ratio.proofs.Lists.{digits_length, cycle_number, few_numbers}
-use Rattle.drt_ratio.proofs.tests.enumeration.greater_of_length.Goals as goal
+use Rattle.drt_ratio_tests.specs.Simple.{digits}
+use Rattle.drt_ratio_tests.proofs.Lists.{digits_length, cycle_number, few_numbers}
+use Rattle.drt_ratio_tests.proofs.enumeration.greater_of_length.Goals as goal
 
 pub pow-number-end-requires : goal.pow-number-end-requires
 pow-number-end-requires c = omega (arith, few_numbers c.vertex_count-count.result c.args.len (omega arith) c.requires.short)

@@ -1,9 +1,9 @@
 use Rattle.std.proofs.Common.{◌≡◌, ◌*◌, arith, inl, inr, rules}
 use Rattle.drt_model.specs.Walk.{work, cycle_span}
 use Rattle.drt_model.specs.Utilisation.{AreDistinct}
-use Rattle.drt_ratio.proofs.Lists.{passes}
+use Rattle.drt_ratio_tests.proofs.Lists.{passes}
 use Rattle.drt_ratio.proofs.Optima.{cycle_sums, has_ratio}
-use Rattle.drt_ratio.proofs.tests.enumeration.greater.Goals as goal
+use Rattle.drt_ratio_tests.proofs.enumeration.greater.Goals as goal
 
 pub greater_of-requires-clause-some : goal.greater_of-requires-clause-some
 greater_of-requires-clause-some c =

@@ -1,5 +1,5 @@
 use Rattle.std.proofs.Common.{◌≡◌, ℕ, ◌<◌, get_or}
-use Rattle.drt_ratio.proofs.tests.enumeration.are_distinct.Given as goal
+use Rattle.drt_ratio_tests.proofs.enumeration.are_distinct.Given as goal
 
 abbrev pub invariant-ends : goal.invariant-ends
 invariant-ends l = (p q : ℕ) → p < q → q < l.j → get_or l.xs p 0 ≡ get_or l.xs q 0 → ⊥

@@ -1,9 +1,11 @@
 ghost use Rattle.std.specs.Prelude.{IsTrue, ◌<◌, ◌≤◌, length};
 
-use crate::{DemandLabel, dbf};
+use drt_demand::{DemandLabel, dbf};
+use drt_fixtures::make_set;
+use drt_fixtures::shapes::RETURNING;
 use drt_graph::check;
 use drt_label::{Label, Memory};
-use drt_model::{Edge, FrontEntry, Name, Row, Task, Vertex, task_set};
+use drt_model::FrontEntry;
 use std::alloc::Global;
 use std::test::Fail;
 
@@ -54,51 +56,10 @@ fn labels_are_made_and_compared_through_the_trait(rt: HostRuntime) -> Result<(),
     Ok(())
 }
 
-fn vertex(alloc: Global, letter: u8, wcet: u32) -> Result<Vertex, Memory> {
-    Ok(Vertex {
-        name: Name::from_vec(Vec::from_slice(alloc, &[letter])?),
-        wcet,
-        deadline: 1,
-    })
-}
-
-// The task p(1,1), q(2,1), m(1,1) with the edges p-m 1, q-m 1 and m-m 3.
-fn task(alloc: Global) -> Result<Task, Memory> {
-    let mut vertices = Vec::new(alloc);
-    vertices.push(vertex(alloc, b'p', 1)?)?;
-    vertices.push(vertex(alloc, b'q', 2)?)?;
-    vertices.push(vertex(alloc, b'm', 1)?)?;
-    let edges = [
-        Edge {
-            from: 0,
-            to: 2,
-            sep: 1,
-        },
-        Edge {
-            from: 1,
-            to: 2,
-            sep: 1,
-        },
-        Edge {
-            from: 2,
-            to: 2,
-            sep: 3,
-        },
-    ];
-    Ok(Task {
-        name: Name::from_vec(Vec::from_slice(alloc, &[b'T'])?),
-        priority: 1,
-        vertices: Row::from_vec(vertices),
-        edges: Row::from_vec(Vec::from_slice(alloc, &edges)?),
-    })
-}
-
 #[test]
 fn the_demand_is_the_greatest_work_that_is_due_by_the_time(rt: HostRuntime) -> Result<(), Fail> {
     let alloc = rt.alloc();
-    let mut tasks = Vec::new(alloc);
-    tasks.push(task(alloc)?)?;
-    let set = task_set(1, Row::from_vec(tasks)).ok_or("within the limits")?;
+    let set = make_set(alloc, &[RETURNING])?.ok_or("within the limits")?;
     let graphs = check(alloc, &set).ok().ok_or("constrained")?;
     assert!(rt; graphs.count() == 1);
     let graph = graphs.graph(0);
