@@ -16,8 +16,8 @@ use std::sync::Wait;
 use std::thread::Threads;
 
 /// The exact worst response time of each vertex of a set with constrained deadlines that is schedulable under fixed priorities, in ticks,
-/// with releases that reach it; or the no of the analysis. So many workers search together, and the gate sees each of their turns.
-/// Each search of the analysis, and each worker's part of a search for a response time, ends after `budget` steps at the latest.
+/// with releases that reach it; or the no of the analysis. So many workers search together for a response, and the gate sees each of their
+/// turns; they take part in the analysis as there. Each search of the analysis, and each worker's part of a search for a response time, ends after `budget` steps at the latest.
 ///
 /// Source: Stigge and Yi, "Combinatorial Abstraction Refinement for Feasibility Analysis" (RTSS 2013).
 pub fn respond<G: Gate, R: Threads + Wait + Sync>(

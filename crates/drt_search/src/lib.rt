@@ -1,8 +1,8 @@
 //! Searches of a graph's walks by several workers.
 //!
-//! `search_together` starts a shared table with a pass for each worker, has the workers turn their passes, and drives what they
-//! left over to its end. Its answer is that of a table that one caller starts and drives, so the layers above use it in place
-//! of these two. A worker makes its labels where no lock is held.
+//! Where a gate wants several workers to begin at once, `search_together` starts a shared table with a pass for each, has them turn
+//! their passes, and drives what they left over to its end; else it drives a table alone. Its answer is that of a table that one
+//! caller starts and drives, so the layers above use it in place of these two. A worker makes its labels where no lock is held.
 #![tactic(auto)]
 
 mod search;

@@ -17,11 +17,10 @@ use std::alloc::Global;
 use std::sync::Wait;
 use std::thread::Threads;
 
-/// Decides whether a set with constrained deadlines is schedulable under fixed priorities. So many workers search the walks of a task
-/// together, and the gate sees each of their turns. They prove the vertices of a task side by side, each vertex by one of them, and the
-/// gate sees none of these turns. Where its `alone` is 0 they prove one vertex after another together, and it sees these turns too.
-/// However many workers there are, the first vertex in file order that fails or spends its budget decides. Each search of a task's walks
-/// and each refinement at a vertex ends after `budget` steps at the latest.
+/// Decides whether a set with constrained deadlines is schedulable under fixed priorities. So many workers prove the vertices of a task
+/// side by side, each vertex by one of them, and the gate sees none of these turns. Where its `alone` is 0 they share each search of a
+/// task's walks and each refinement at a vertex instead, and it sees each of their turns. However many workers there are, the first vertex
+/// in file order that fails or spends its budget decides. Each search and each refinement ends after `budget` steps at the latest.
 ///
 /// For each task, from the highest priority on, first each of its vertices is proved, in file order, against the trees of the tasks of
 /// higher priority. Then, unless it has the lowest priority, its walks are searched up to the greatest deadline of the set, for its own

@@ -32,7 +32,7 @@ use std::thread::Threads;
 /// fault; 5 the words are refused; 6 a read failed; 7 a write failed; 8 no memory was to be had; 9 the
 /// evidence of the dossier is rejected; 10 the dossier is refused with a fault.
 ///
-/// Where the source tells its bytes, the clauses speak of them. The gate sees each turn of the workers that search together; whatever
+/// Where the source tells its bytes, the clauses speak of them. The gate sees each turn of the workers that share a search; whatever
 /// their number and whatever the order of their steps, the clauses hold.
 pub fn run<S: Source, K: Sink, G: Gate, R: Threads + Wait + Sync>(
     rt: &R,
