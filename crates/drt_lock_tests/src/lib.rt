@@ -1,0 +1,7 @@
+//! Tests of the lock, round a machine that notes who stepped it.
+#![tactic(auto)]
+
+#[cfg(test)]
+mod tally;
+#[cfg(test)]
+mod tests;
