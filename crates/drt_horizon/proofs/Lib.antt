@@ -4,5 +4,4 @@ pub mod Horizons
 pub mod Multiples
 pub mod Overloads
 pub mod CycleTurnRows
-pub mod Fronts
 pub mod Walks

@@ -15,8 +15,6 @@ mod given;
 mod laws;
 mod plans;
 mod searching;
-#[cfg(test)]
-mod tests;
 
 pub use answers::{Beyond, Horizon, Over};
 pub use cycle_turns::CycleTurn;

@@ -2,8 +2,8 @@ use Rattle.std.proofs.Common.{◌<◌, length, arith}
 use Rattle.std.proofs.lemmas.List.{take_more}
 use Rattle.drt_graph.specs.Graphs.{no_graph, graph_of}
 use Rattle.drt_rates.specs.Demands.{IsFront}
-use Rattle.drt_horizon.proofs.Fronts.{fronts_push}
-use Rattle.drt_horizon.proofs.tests.fronts.Goals as goal
+use Rattle.drt_horizon_tests.proofs.Fronts.{fronts_push}
+use Rattle.drt_horizon_tests.proofs.tests.fronts.Goals as goal
 
 pub tasks-preserved : goal.tasks-preserved
 tasks-preserved c =

@@ -1,57 +1,33 @@
 ghost use Rattle.std.specs.Prelude.{◌≤◌, IfOk};
 ghost use Rattle.drt_rates.specs.Demands.{AreFronts, IsFront};
 
-use super::{Beyond, Horizon, Over, overload, plan, ratios, scan};
+use drt_fixtures::shapes::BRANCHING;
+use drt_fixtures::{Shape, make_set};
 use drt_graph::{Graph, Graphs, check};
-use drt_model::{Edge, FrontEntry, Memory, Name, Row, Task, Vertex, task_set};
+use drt_horizon::{Beyond, Horizon, Over, overload, plan, ratios, scan};
+use drt_model::{FrontEntry, Row};
 use std::alloc::Global;
 use std::test::Fail;
 
-// A task as its vertices' execution times and deadlines, and its edges' sources, targets and separations.
-type Shape<'a> = (&'a [(u32, u32)], &'a [(u32, u32, u32)]);
-
-fn name(alloc: Global, first: u8, number: usize) -> Result<Name, Memory> {
-    Ok(Name::from_vec(Vec::from_slice(alloc, &[first, b'a' + (number % 26) as u8])?))
-}
-
-fn task(alloc: Global, number: usize, shape: Shape<'_>) -> Result<Task, Memory> {
-    let mut vertices = Vec::new(alloc);
-    for (i, vertex) in shape.0.iter().enumerate() {
-        vertices.push(Vertex {
-            name: name(alloc, b'v', i)?,
-            wcet: vertex.0,
-            deadline: vertex.1,
-        })?;
-    }
-    let mut edges = Vec::new(alloc);
-    for edge in shape.1 {
-        edges.push(Edge {
-            from: edge.0,
-            to: edge.1,
-            sep: edge.2,
-        })?;
-    }
-    Ok(Task {
-        name: name(alloc, b'T', number)?,
-        priority: (number % 16) as u32 + 1,
-        vertices: Row::from_vec(vertices),
-        edges: Row::from_vec(edges),
-    })
-}
-
+// The graphs of a set of tasks of these shapes.
 fn graphs(alloc: Global, shapes: &[Shape<'_>]) -> Result<Graphs, Fail> {
-    let mut tasks = Vec::new(alloc);
-    for (i, shape) in shapes.iter().enumerate() {
-        tasks.push(task(alloc, i, *shape)?)?;
-    }
-    let set = task_set(1, Row::from_vec(tasks)).ok_or("within the limits")?;
+    let set = make_set(alloc, shapes)?.ok_or("within the limits")?;
     Ok(check(alloc, &set)?)
+}
+
+// Whether that is the plan of these tasks.
+fn is_planned(
+    alloc: Global,
+    shapes: &[Shape<'_>],
+    wanted: Result<Horizon, Beyond>,
+) -> Result<bool, Fail> {
+    let graphs = graphs(alloc, shapes)?;
+    let proofs = ratios(alloc, &graphs)?;
+    Ok(plan(&graphs, proofs.as_slice()) == wanted)
 }
 
 #[test]
 fn plans_by_hand(rt: HostRuntime) -> Result<(), Fail> {
-    let alloc = rt.alloc();
-    let branching: Shape<'_> = (&[(1, 2), (4, 6)], &[(0, 1, 2), (1, 0, 8), (0, 0, 5)]);
     let engine: Shape<'_> = (
         &[(12, 60), (8, 30), (4, 15)],
         &[
@@ -74,12 +50,12 @@ fn plans_by_hand(rt: HostRuntime) -> Result<(), Fail> {
         ),
         // 1/2 and 3/10: the scale is 10, the rate 8, the constants 28.
         (
-            &[branching, (&[(3, 4)], &[(0, 0, 10)])],
+            &[BRANCHING, (&[(3, 4)], &[(0, 0, 10)])],
             Ok(Horizon::Under { bound: 9 }),
         ),
         // 1/2 and 1/5: the rate is 7, the constants 22.
         (
-            &[branching, (&[(2, 4)], &[(0, 0, 10)])],
+            &[BRANCHING, (&[(2, 4)], &[(0, 0, 10)])],
             Ok(Horizon::Under { bound: 4 }),
         ),
         // 4/15, 1/5 and 1/10: the scale is 30, the rate 17, the constants 300.
@@ -116,34 +92,44 @@ fn plans_by_hand(rt: HostRuntime) -> Result<(), Fail> {
         ),
     ];
     for (shapes, wanted) in cases {
-        let graphs = graphs(alloc, shapes)?;
-        let proofs = ratios(alloc, &graphs)?;
-        assert_eq!(rt; plan(&graphs, proofs.as_slice()), wanted);
+        assert!(rt; is_planned(rt.alloc(), shapes, wanted)?);
     }
     Ok(())
 }
 
+// Whether that is the overload of these tasks, whose utilisation is above one, within a budget.
+fn is_overload(
+    alloc: Global,
+    shapes: &[Shape<'_>],
+    budget: u64,
+    wanted: Over,
+) -> Result<bool, Fail> {
+    if budget == 0 || budget > 1000000 {
+        return Err("a budget of 1 to 1000000".into());
+    }
+    let graphs = graphs(alloc, shapes)?;
+    let proofs = ratios(alloc, &graphs)?;
+    let Ok(Horizon::Over) = plan(&graphs, proofs.as_slice()) else {
+        return Err("above one".into());
+    };
+    Ok(overload(&graphs, proofs.as_slice(), budget) == wanted)
+}
+
 #[test]
 fn an_overload_is_found_at_its_step_time(rt: HostRuntime) -> Result<(), Fail> {
-    let alloc = rt.alloc();
     // The step times are 4, 5, 8, 10 and 12; at 12 three turns of 3 and two of 2 are 13.
     let shapes: [Shape<'_>; 3] = [
         (&[(3, 4)], &[(0, 0, 4)]),
         (&[(1, 1)], &[]),
         (&[(2, 5)], &[(0, 0, 5)]),
     ];
-    let graphs = graphs(alloc, &shapes)?;
-    let proofs = ratios(alloc, &graphs)?;
-    let Ok(Horizon::Over) = plan(&graphs, proofs.as_slice()) else {
-        return Err("above one".into());
-    };
     for (budget, wanted) in [
         (1, Over::Spent(4)),
         (4, Over::Spent(10)),
         (5, Over::Found(12)),
         (1000000, Over::Found(12)),
     ] {
-        assert_eq!(rt; overload(&graphs, proofs.as_slice(), budget), wanted);
+        assert!(rt; is_overload(rt.alloc(), &shapes, budget, wanted)?);
     }
     Ok(())
 }
@@ -198,10 +184,23 @@ fn fronts(
     Ok(Row::from_vec(fronts))
 }
 
+// The least time up to the bound at which these tasks have too much demand over such fronts.
+fn least_time(
+    alloc: Global,
+    shapes: &[Shape<'_>],
+    labels: &[(u32, u32, u64, u64)],
+    bound: u64,
+) -> Result<Option<u64>, Fail> {
+    if bound > 1000 {
+        return Err("a bound of at most 1000".into());
+    }
+    let graphs = graphs(alloc, shapes)?;
+    let fronts = fronts(alloc, &graphs, labels, bound)?;
+    Ok(scan(alloc, &graphs, fronts.as_slice(), bound)?)
+}
+
 #[test]
 fn the_least_time_with_too_much_demand_is_found(rt: HostRuntime) -> Result<(), Fail> {
-    let alloc = rt.alloc();
-    let branching: Shape<'_> = (&[(1, 2), (4, 6)], &[(0, 1, 2), (1, 0, 8), (0, 0, 5)]);
     let three: Shape<'_> = (&[(3, 4)], &[(0, 0, 10)]);
     let two: Shape<'_> = (&[(2, 4)], &[(0, 0, 10)]);
     let cases: [(&[Shape<'_>], &[(u32, u32, u64, u64)], u64, Option<u64>); 5] = [
@@ -209,7 +208,7 @@ fn the_least_time_with_too_much_demand_is_found(rt: HostRuntime) -> Result<(), F
         (&[(&[(6, 5)], &[])], &[(0, 0, 0, 6)], 5, Some(5)),
         // At 4 the work is 1 + 3, at 6 it is 4 + 3.
         (
-            &[branching, three],
+            &[BRANCHING, three],
             &[
                 (0, 1, 2, 5),
                 (0, 0, 5, 2),
@@ -222,7 +221,7 @@ fn the_least_time_with_too_much_demand_is_found(rt: HostRuntime) -> Result<(), F
         ),
         // At 6 the work is 4 + 2, which is not more than the time, and at 8 it is 5 + 2.
         (
-            &[branching, two],
+            &[BRANCHING, two],
             &[
                 (0, 1, 2, 5),
                 (0, 0, 5, 2),
@@ -234,16 +233,11 @@ fn the_least_time_with_too_much_demand_is_found(rt: HostRuntime) -> Result<(), F
             None,
         ),
         // Only the first labels are due by 4.
-        (&[branching, two], &[(0, 0, 0, 1), (1, 0, 0, 2)], 4, None),
-        (&[branching, two], &[], 0, None),
+        (&[BRANCHING, two], &[(0, 0, 0, 1), (1, 0, 0, 2)], 4, None),
+        (&[BRANCHING, two], &[], 0, None),
     ];
     for (shapes, labels, bound, wanted) in cases {
-        let graphs = graphs(alloc, shapes)?;
-        if bound > 1000 {
-            return Err("a bound of at most 1000".into());
-        }
-        let fronts = fronts(alloc, &graphs, labels, bound)?;
-        assert_eq!(rt; scan(alloc, &graphs, fronts.as_slice(), bound)?, wanted);
+        assert_eq!(rt; least_time(rt.alloc(), shapes, labels, bound)?, wanted);
     }
     Ok(())
 }
