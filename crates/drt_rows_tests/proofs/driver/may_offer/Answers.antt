@@ -1,8 +1,8 @@
 use Rattle.std.proofs.Common.{◌≡◌, ◌<◌, Some, rules, arith, sym, ap, ◌∙◌}
 use Rattle.std.proofs.lemmas.Bool.{ltb-true}
 use Rattle.drt_model.specs.Digraph.{out_degree}
-use Rattle.drt_rows.proofs.Conditions.{held_within, can_offer}
-use Rattle.drt_rows.proofs.driver.may_offer.Goals as goal
+use Rattle.drt_rows_tests.proofs.Conditions.{held_within, can_offer}
+use Rattle.drt_rows_tests.proofs.driver.may_offer.Goals as goal
 
 pub node-requires-after_bounds : goal.node-requires-after_bounds
 node-requires-after_bounds c κs = held_within c.args.table.now c.args.worker c.args.node (sym c.held_by.ensures ∙ (c.in-Some.is ∙ ap Some c.if-held-node.true))

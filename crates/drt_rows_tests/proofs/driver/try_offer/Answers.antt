@@ -3,8 +3,8 @@ use Rattle.std.specs.Prelude.{IfSome}
 use Rattle.drt_demand.specs.Demand.{demand_algebra}
 use Rattle.drt_table.specs.Machine.{Setting, extended}
 use Rattle.drt_table.specs.View.{setting_of}
-use Rattle.drt_rows.proofs.Conditions.{comes_extended}
-use Rattle.drt_rows.proofs.driver.try_offer.Goals as goal
+use Rattle.drt_rows_tests.proofs.Conditions.{comes_extended}
+use Rattle.drt_rows_tests.proofs.driver.try_offer.Goals as goal
 
 pub apply-requires-clause-comes : goal.apply-requires-clause-comes
 apply-requires-clause-comes c κs =

@@ -3,8 +3,8 @@ use Rattle.drt_demand.specs.Demand.{demand_algebra}
 use Rattle.drt_table.specs.KeptOrder.{left_from}
 use Rattle.drt_table.specs.View.{state_of}
 use Rattle.drt_table.proofs.KeptOrder.{less_left}
-use Rattle.drt_rows.proofs.Conditions.{first_next, later_next}
-use Rattle.drt_rows.proofs.tests.add_kept.Goals as goal
+use Rattle.drt_rows_tests.proofs.Conditions.{first_next, later_next}
+use Rattle.drt_rows_tests.proofs.tests.add_kept.Goals as goal
 
 pub nodes-init : goal.nodes-init
 nodes-init c = first_next c.args.table.now c.args.vertex c.first_kept-next.result c.first_kept-next.ensures

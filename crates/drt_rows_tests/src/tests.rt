@@ -3,11 +3,12 @@ ghost use Rattle.drt_model.specs.Digraph.{vertex_count};
 
 use crate::driver::try_step;
 use drt_demand::{DemandLabel, dbf};
+use drt_fixtures::make_set;
+use drt_fixtures::shapes::RETURNING;
 use drt_graph::{Graph, Graphs, check};
-use drt_model::{Edge, FrontEntry, Memory, Name, Row, Task, Vertex, task_set};
+use drt_model::{FrontEntry, Memory};
 use drt_table::{Entry, Node, NodeState, Table, TableReply, TableStep};
 use std::alloc::Global;
-use std::process::Abort;
 use std::test::Fail;
 
 // A call: the worker, its step, and the reply that is wanted.
@@ -23,86 +24,47 @@ const fn close(node: u32) -> TableStep {
     TableStep::Close { node }
 }
 
-fn vertex(alloc: Global, letter: u8, wcet: u32) -> Result<Vertex, Memory> {
-    Ok(Vertex {
-        name: Name::from_vec(Vec::from_slice(alloc, &[letter])?),
-        wcet,
-        deadline: 1,
-    })
-}
-
-// The task p(1,1), q(2,1), m(1,1) with the edges p-m 1, q-m 1 and m-m 3.
-fn task(alloc: Global) -> Result<Task, Memory> {
-    let mut vertices = Vec::new(alloc);
-    vertices.push(vertex(alloc, b'p', 1)?)?;
-    vertices.push(vertex(alloc, b'q', 2)?)?;
-    vertices.push(vertex(alloc, b'm', 1)?)?;
-    let edges = [
-        Edge {
-            from: 0,
-            to: 2,
-            sep: 1,
-        },
-        Edge {
-            from: 1,
-            to: 2,
-            sep: 1,
-        },
-        Edge {
-            from: 2,
-            to: 2,
-            sep: 3,
-        },
-    ];
-    Ok(Task {
-        name: Name::from_vec(Vec::from_slice(alloc, &[b'T'])?),
-        priority: 1,
-        vertices: Row::from_vec(vertices),
-        edges: Row::from_vec(Vec::from_slice(alloc, &edges)?),
-    })
-}
-
-// The task's graph alone.
+// The graph of the one task that both rows are of.
 fn graphs(alloc: Global) -> Result<Graphs, Fail> {
-    let mut tasks = Vec::new(alloc);
-    tasks.push(task(alloc)?)?;
-    let set = task_set(1, Row::from_vec(tasks)).ok_or("within the limits")?;
+    let set = make_set(alloc, &[RETURNING])?.ok_or("within the limits")?;
     Ok(check(alloc, &set).ok().ok_or("constrained")?)
 }
 
-// Makes the calls one after another, and compares each reply.
-fn make_calls(
-    rt: &impl Abort,
+// Makes the calls one after another, as long as each may be made and is answered as wanted, and says whether all are.
+fn are_answered(
     alloc: Global,
     graph: &Graph,
     table: &mut Table<DemandLabel>,
     calls: &[Call],
-) -> Result<(), Fail>
+) -> Result<bool, Memory>
     requires { graph.now ≡ table.old.graph }
     ensures { graph.now ≡ table.new.graph }
 {
-    'calls: for (worker, step, wanted) in calls.iter().copied() {
-        let reply = try_step(alloc, graph, table, worker, step)?.ok_or("it may make the step")?;
-        assert_eq!(rt; reply, wanted, "{step:?} of worker {worker}");
+    'calls: for i in 0..calls.len() {
+        let (worker, step, wanted) = calls[i];
+        if try_step(alloc, graph, table, worker, step)? != Some(wanted) {
+            return Ok(false);
+        }
     }
-    Ok(())
+    Ok(true)
 }
 
-// Tries the calls one after another, none of which may be made.
-fn make_none(
-    rt: &impl Abort,
+// Tries the calls one after another, and says whether none of them may be made.
+fn are_refused(
     alloc: Global,
     graph: &Graph,
     table: &mut Table<DemandLabel>,
     calls: &[(u32, TableStep)],
-) -> Result<(), Fail>
+) -> Result<bool, Memory>
     requires { graph.now ≡ table.old.graph }
 {
-    'calls: for (worker, step) in calls.iter().copied() {
-        let reply = try_step(alloc, graph, table, worker, step)?;
-        assert_eq!(rt; reply, None, "{step:?} of worker {worker}");
+    'calls: for i in 0..calls.len() {
+        let (worker, step) = calls[i];
+        if try_step(alloc, graph, table, worker, step)? != None {
+            return Ok(false);
+        }
     }
-    Ok(())
+    Ok(true)
 }
 
 // The kept nodes of a vertex after those so far.
@@ -145,22 +107,26 @@ fn state(table: &Table<DemandLabel>, id: u32) -> Option<(NodeState, Option<u32>)
     Some((node.state(), node.dropped_by()))
 }
 
-// The walk of a node.
-fn walk(alloc: Global, table: &Table<DemandLabel>, id: u32) -> Result<Row<u32>, Fail> {
+// Whether that is the walk of a node.
+fn has_walk(
+    alloc: Global,
+    table: &Table<DemandLabel>,
+    id: u32,
+    wanted: &[u32],
+) -> Result<bool, Memory> {
     if id as usize >= table.node_count() {
-        return Err("there is such a node".into());
+        return Ok(false);
     }
-    Ok(table.walk(alloc, id)?)
+    let walk = table.walk(alloc, id)?;
+    Ok(walk.as_slice() == wanted)
 }
 
-// The demand of a time over the labels of some nodes.
-fn demand(
+// The labels of some nodes.
+fn labels_of(
     alloc: Global,
-    graph: &Graph,
     table: &Table<DemandLabel>,
     nodes: &[u32],
-    t: u64,
-) -> Result<u64, Fail> {
+) -> Result<Vec<FrontEntry>, Fail> {
     let mut labels = Vec::new(alloc);
     for id in nodes.iter().copied() {
         let label = label(table, id).ok_or("there is such a node")?;
@@ -170,11 +136,22 @@ fn demand(
             work: label.work,
         })?;
     }
+    Ok(labels)
+}
+
+// Whether these labels have the demands of these times.
+fn have_demands(graph: &Graph, labels: &[FrontEntry], wanted: &[(u64, u64)]) -> bool {
     let count = graph.vertex_count();
     if !labels.iter().all(|x| x.vertex < count) {
-        return Err("each label is of a vertex".into());
+        return false;
     }
-    Ok(dbf(graph, labels.as_slice(), t))
+    for i in 0..wanted.len() {
+        let (t, demand) = wanted[i];
+        if dbf(graph, labels, t) != demand {
+            return false;
+        }
+    }
+    true
 }
 
 fn labelled(vertex: u32, offset: u64, work: u64) -> DemandLabel
@@ -188,18 +165,8 @@ fn labelled(vertex: u32, offset: u64, work: u64) -> DemandLabel
     }
 }
 
-// What both rows end with: the nodes as they stand, the log's length, a walk and a demand.
-fn compare_end(
-    rt: &impl Abort,
-    alloc: Global,
-    graph: &Graph,
-    table: &Table<DemandLabel>,
-) -> Result<(), Fail>
-    requires { graph.now ≡ table.now.graph }
-{
-    assert!(rt; table.finished());
-    assert_eq!(rt; table.log().len(), 15);
-    assert_eq!(rt; table.node_count(), 6);
+// Whether each node is done and has its label, where both rows end. Node 4 has dropped node 3.
+fn are_done(table: &Table<DemandLabel>) -> bool {
     let labels = [
         labelled(0, 0, 1),
         labelled(1, 0, 2),
@@ -209,30 +176,47 @@ fn compare_end(
         labelled(2, 4, 4),
     ];
     for (id, wanted) in labels.iter().copied().enumerate() {
-        assert_eq!(rt; label(table, id as u32), Some(wanted), "of node {id}");
         let dropped_by = if id == 3 { Some(4) } else { None };
-        assert_eq!(rt;
-            state(table, id as u32),
-            Some((NodeState::Done, dropped_by)),
-            "of node {id}"
-        );
+        if label(table, id as u32) != Some(wanted)
+            || state(table, id as u32) != Some((NodeState::Done, dropped_by))
+        {
+            return false;
+        }
+    }
+    true
+}
+
+// Whether the table has what both rows end with: the nodes as they stand, the log's length, a walk and the demands.
+fn is_end(alloc: Global, graph: &Graph, table: &Table<DemandLabel>) -> Result<bool, Fail>
+    requires { graph.now ≡ table.now.graph }
+{
+    if !table.finished() || table.log().len() != 15 || table.node_count() != 6 {
+        return Ok(false);
     }
     let kept = kept_nodes(alloc, graph, table)?;
-    assert_eq!(rt; kept.as_slice(), [0, 1, 5, 4, 2].as_slice());
-    assert_eq!(rt; walk(alloc, table, 5)?.as_slice(), [1, 2, 2].as_slice());
-    for (t, wanted) in [(0, 0), (1, 2), (2, 3), (4, 3), (5, 4), (100, 4)] {
-        assert_eq!(rt;
-            demand(alloc, graph, table, kept.as_slice(), t)?,
-            wanted,
-            "at {t}"
-        );
+    let labels = labels_of(alloc, table, kept.as_slice())?;
+    let demands = [(0, 0), (1, 2), (2, 3), (4, 3), (5, 4), (100, 4)];
+    Ok(
+        are_done(table)
+            && kept.as_slice() == [0, 1, 5, 4, 2].as_slice()
+            && has_walk(alloc, table, 5, &[1, 2, 2])?
+            && have_demands(graph, labels.as_slice(), &demands),
+    )
+}
+
+// Whether a new table answers all calls, and then has what both rows end with.
+fn ends(alloc: Global, calls: &[Call]) -> Result<bool, Fail> {
+    let graphs = graphs(alloc)?;
+    let graph = graphs.graph(0);
+    let mut table: Table<DemandLabel> = Table::start(alloc, graph, 5, 1000)?;
+    if table.finished() {
+        return Ok(false);
     }
-    Ok(())
+    Ok(are_answered(alloc, graph, &mut table, calls)? && is_end(alloc, graph, &table)?)
 }
 
 #[test]
 fn three_workers_step_one_table(rt: HostRuntime) -> Result<(), Fail> {
-    let alloc = rt.alloc();
     let calls = [
         (0, TAKE, TableReply::Taken(0)),
         (1, TAKE, TableReply::Taken(1)),
@@ -253,17 +237,34 @@ fn three_workers_step_one_table(rt: HostRuntime) -> Result<(), Fail> {
         (1, close(5), TableReply::Closed),
         (0, TAKE, TableReply::Finished),
     ];
+    assert!(rt; ends(rt.alloc(), calls.as_slice())?);
+    Ok(())
+}
+
+// Whether a new table answers the three lists of calls one after another. Node 3 waits after the first, and node 4 drops it in the second.
+fn ends_in_order(
+    alloc: Global,
+    before: &[Call],
+    after: &[Call],
+    rest: &[Call],
+) -> Result<bool, Fail> {
     let graphs = graphs(alloc)?;
     let graph = graphs.graph(0);
     let mut table: Table<DemandLabel> = Table::start(alloc, graph, 5, 1000)?;
-    assert!(rt; !table.finished());
-    make_calls(&rt, alloc, graph, &mut table, calls.as_slice())?;
-    compare_end(&rt, alloc, graph, &table)
+    Ok(
+        are_answered(alloc, graph, &mut table, before)?
+            && state(&table, 0) == Some((NodeState::Taken(0), None))
+            && state(&table, 3) == Some((NodeState::Pending, None))
+            && are_answered(alloc, graph, &mut table, after)?
+            && state(&table, 3) == Some((NodeState::Done, Some(4)))
+            && state(&table, 4) == Some((NodeState::Pending, None))
+            && are_answered(alloc, graph, &mut table, rest)?
+            && is_end(alloc, graph, &table)?,
+    )
 }
 
 #[test]
 fn one_worker_takes_the_nodes_in_order_of_offset(rt: HostRuntime) -> Result<(), Fail> {
-    let alloc = rt.alloc();
     let before = [
         (0, TAKE, TableReply::Taken(0)),
         (0, offer(0, 0), TableReply::Added(3)),
@@ -286,51 +287,56 @@ fn one_worker_takes_the_nodes_in_order_of_offset(rt: HostRuntime) -> Result<(), 
         (0, close(5), TableReply::Closed),
         (0, TAKE, TableReply::Finished),
     ];
+    assert!(rt;
+        ends_in_order(
+            rt.alloc(),
+            before.as_slice(),
+            after.as_slice(),
+            rest.as_slice()
+        )?
+    );
+    Ok(())
+}
+
+// Whether a new table with a budget of one answers the calls, and then isn't finished, with one entry in its log and node 0 still taken.
+fn is_spent(alloc: Global, calls: &[Call]) -> Result<bool, Fail> {
     let graphs = graphs(alloc)?;
     let graph = graphs.graph(0);
-    let mut table: Table<DemandLabel> = Table::start(alloc, graph, 5, 1000)?;
-    make_calls(&rt, alloc, graph, &mut table, before.as_slice())?;
-    // Node 3 waits when node 4 drops it.
-    assert_eq!(rt; state(&table, 0), Some((NodeState::Taken(0), None)));
-    assert_eq!(rt; state(&table, 3), Some((NodeState::Pending, None)));
-    make_calls(&rt, alloc, graph, &mut table, after.as_slice())?;
-    assert_eq!(rt; state(&table, 3), Some((NodeState::Done, Some(4))));
-    assert_eq!(rt; state(&table, 4), Some((NodeState::Pending, None)));
-    make_calls(&rt, alloc, graph, &mut table, rest.as_slice())?;
-    compare_end(&rt, alloc, graph, &table)
+    let mut table: Table<DemandLabel> = Table::start(alloc, graph, 5, 1)?;
+    Ok(
+        are_answered(alloc, graph, &mut table, calls)?
+            && !table.finished()
+            && table.log().len() == 1
+            && state(&table, 0) == Some((NodeState::Taken(0), None)),
+    )
 }
 
 #[test]
 fn a_budget_of_one_is_spent_after_one_take(rt: HostRuntime) -> Result<(), Fail> {
-    let alloc = rt.alloc();
     let calls = [
         (0, TAKE, TableReply::Taken(0)),
         (0, offer(0, 0), TableReply::Spent),
         (1, TAKE, TableReply::Spent),
     ];
+    assert!(rt; is_spent(rt.alloc(), calls.as_slice())?);
+    Ok(())
+}
+
+// Whether a new table makes none of the calls after the first one has taken node 0, and has one entry in its log.
+fn refuses(alloc: Global, calls: &[(u32, TableStep)]) -> Result<bool, Fail> {
     let graphs = graphs(alloc)?;
     let graph = graphs.graph(0);
-    let mut table: Table<DemandLabel> = Table::start(alloc, graph, 5, 1)?;
-    make_calls(&rt, alloc, graph, &mut table, calls.as_slice())?;
-    assert!(rt; !table.finished());
-    assert_eq!(rt; table.log().len(), 1);
-    assert_eq!(rt; state(&table, 0), Some((NodeState::Taken(0), None)));
-    Ok(())
+    let mut table: Table<DemandLabel> = Table::start(alloc, graph, 5, 1000)?;
+    let take = [(0, TAKE, TableReply::Taken(0))];
+    Ok(
+        are_answered(alloc, graph, &mut table, &take)?
+            && are_refused(alloc, graph, &mut table, calls)?
+            && table.log().len() == 1,
+    )
 }
 
 #[test]
 fn a_step_whose_conditions_do_not_hold_is_not_made(rt: HostRuntime) -> Result<(), Fail> {
-    let alloc = rt.alloc();
-    let graphs = graphs(alloc)?;
-    let graph = graphs.graph(0);
-    let mut table: Table<DemandLabel> = Table::start(alloc, graph, 5, 1000)?;
-    make_calls(
-        &rt,
-        alloc,
-        graph,
-        &mut table,
-        &[(0, TAKE, TableReply::Taken(0))],
-    )?;
     let refused = [
         // It holds node 0.
         (0, TAKE),
@@ -342,8 +348,7 @@ fn a_step_whose_conditions_do_not_hold_is_not_made(rt: HostRuntime) -> Result<()
         (0, offer(0, 1)),
         (0, close(0)),
     ];
-    make_none(&rt, alloc, graph, &mut table, refused.as_slice())?;
-    assert_eq!(rt; table.log().len(), 1);
+    assert!(rt; refuses(rt.alloc(), refused.as_slice())?);
     Ok(())
 }
 
