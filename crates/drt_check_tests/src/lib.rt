@@ -4,6 +4,8 @@
 #[cfg(test)]
 mod fixed_line_tests;
 #[cfg(test)]
+mod front_tests;
+#[cfg(test)]
 mod given;
 #[cfg(test)]
 mod line_tests;

@@ -3,6 +3,7 @@ use crate::given::{Claim, Entry, Job, dossier, no, one, yes};
 use drt_check::{Judgement, check};
 use drt_evidence::Evidence;
 use drt_fixtures::Shape;
+use drt_fixtures::shapes::BRANCHING;
 use drt_model::{Policy, Row};
 use std::alloc::Global;
 use std::test::Fail;
@@ -13,9 +14,6 @@ const FIXED: Policy = Policy::Fixed;
 
 // One job of two ticks every five.
 const TWO_OF_FIVE: Shape<'static> = (&[(2, 5)], &[(0, 0, 5)]);
-
-// Jobs of one tick and of four, of which the second may follow the first after two ticks.
-const BRANCHING: Shape<'static> = (&[(1, 2), (4, 6)], &[(0, 1, 2), (1, 0, 8), (0, 0, 5)]);
 
 const HALF: Claim<'static> = (1, 2, &[0, 1], &[0, 6]);
 

@@ -19,6 +19,4 @@ pub mod Overloads
 pub mod EvidenceKinds
 pub mod Gathered
 pub mod Decided
-pub mod PlainWorks
-pub mod EndingWorks
 pub mod WaveFronts

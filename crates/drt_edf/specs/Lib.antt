@@ -6,10 +6,7 @@ pub mod LabelFronts
 pub mod RatioClaims
 pub mod Searches
 pub mod Turns
-pub mod Nos
 pub mod Exclusions
 pub mod Falling
 pub mod DemandWalk
-pub mod Plain
 pub mod Bounded
-pub mod Ending

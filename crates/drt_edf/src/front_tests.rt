@@ -15,19 +15,23 @@ use std::test::Fail;
 // A task as its vertices' execution times and deadlines, and its edges' sources, targets and separations.
 type Shape<'a> = (&'a [(u32, u32)], &'a [(u32, u32, u32)]);
 
-fn name(alloc: Global, letter: u8) -> Result<Name, Memory> {
+fn make_name(alloc: Global, letter: u8) -> Result<Name, Memory> {
     Ok(Name::from_vec(Vec::from_slice(alloc, &[letter])?))
 }
 
-fn task(alloc: Global, shape: Shape<'_>) -> Result<Task, Memory> {
+fn make_vertices(alloc: Global, shape: Shape<'_>) -> Result<Row<Vertex>, Memory> {
     let mut vertices = Vec::new(alloc);
     for (i, vertex) in shape.0.iter().enumerate() {
         vertices.push(Vertex {
-            name: name(alloc, b'a' + (i % 26) as u8)?,
+            name: make_name(alloc, b'a' + (i % 26) as u8)?,
             wcet: vertex.0,
             deadline: vertex.1,
         })?;
     }
+    Ok(Row::from_vec(vertices))
+}
+
+fn make_edges(alloc: Global, shape: Shape<'_>) -> Result<Row<Edge>, Memory> {
     let mut edges = Vec::new(alloc);
     for edge in shape.1 {
         edges.push(Edge {
@@ -36,17 +40,17 @@ fn task(alloc: Global, shape: Shape<'_>) -> Result<Task, Memory> {
             sep: edge.2,
         })?;
     }
-    Ok(Task {
-        name: name(alloc, b'T')?,
-        priority: 1,
-        vertices: Row::from_vec(vertices),
-        edges: Row::from_vec(edges),
-    })
+    Ok(Row::from_vec(edges))
 }
 
-fn graphs(alloc: Global, shape: Shape<'_>) -> Result<Graphs, Fail> {
+fn make_graphs(alloc: Global, shape: Shape<'_>) -> Result<Graphs, Fail> {
     let mut tasks = Vec::new(alloc);
-    tasks.push(task(alloc, shape)?)?;
+    tasks.push(Task {
+        name: make_name(alloc, b'T')?,
+        priority: 1,
+        vertices: make_vertices(alloc, shape)?,
+        edges: make_edges(alloc, shape)?,
+    })?;
     let set = task_set(1, Row::from_vec(tasks)).ok_or("within the limits")?;
     Ok(check(alloc, &set)?)
 }
@@ -82,9 +86,25 @@ const RETURNING: Shape<'static> = (
 // The label that is found first at the last vertex is the later one.
 const LATER_FIRST: Shape<'static> = (&[(3, 1), (1, 1), (1, 1)], &[(0, 2, 4), (1, 2, 2)]);
 
+// Whether that is the front of the walks up to the bound.
+fn has_front(
+    alloc: Global,
+    shape: Shape<'_>,
+    bound: u64,
+    wanted: &[FrontEntry],
+) -> Result<bool, Fail> {
+    if bound > 1000 {
+        return Err("a bound of at most 1000".into());
+    }
+    let graphs = make_graphs(alloc, shape)?;
+    let graph = graphs.graph(0);
+    let table = searched(alloc, graph, bound)?;
+    let front = front_of(alloc, graph, &table)?;
+    Ok(front.as_slice() == wanted)
+}
+
 #[test]
 fn fronts_have_the_undominated_labels_in_order(rt: HostRuntime) -> Result<(), Fail> {
-    let alloc = rt.alloc();
     let returning = [
         label(0, 0, 1),
         label(1, 0, 2),
@@ -112,21 +132,26 @@ fn fronts_have_the_undominated_labels_in_order(rt: HostRuntime) -> Result<(), Fa
         (LATER_FIRST, 5, later_first.as_slice()),
     ];
     for (shape, bound, wanted) in cases {
-        if bound > 1000 {
-            return Err("a bound of at most 1000".into());
-        }
-        let graphs = graphs(alloc, shape)?;
-        let graph = graphs.graph(0);
-        let table = searched(alloc, graph, bound)?;
-        let front = front_of(alloc, graph, &table)?;
-        assert_eq!(rt; front.as_slice(), wanted);
+        assert!(rt;
+            has_front(rt.alloc(), shape, bound, wanted)?,
+            "up to {bound}"
+        );
     }
     Ok(())
 }
 
+// Whether that is the walk of the demand of a time, by the front up to 5.
+fn has_walk(alloc: Global, shape: Shape<'_>, t: u64, wanted: &[u32]) -> Result<bool, Fail> {
+    let graphs = make_graphs(alloc, shape)?;
+    let graph = graphs.graph(0);
+    let table = searched(alloc, graph, 5)?;
+    let front = front_of(alloc, graph, &table)?;
+    let walk = demand_walk(alloc, graph, front.as_slice(), t)?;
+    Ok(walk.as_slice() == wanted)
+}
+
 #[test]
 fn the_walk_of_a_time_has_all_of_its_demand(rt: HostRuntime) -> Result<(), Fail> {
-    let alloc = rt.alloc();
     let cases: [(Shape<'_>, u64, &[u32]); 9] = [
         (RETURNING, 0, &[]),
         (RETURNING, 1, &[1]),
@@ -141,12 +166,7 @@ fn the_walk_of_a_time_has_all_of_its_demand(rt: HostRuntime) -> Result<(), Fail>
         (LATER_FIRST, 5, &[0, 2]),
     ];
     for (shape, t, wanted) in cases {
-        let graphs = graphs(alloc, shape)?;
-        let graph = graphs.graph(0);
-        let table = searched(alloc, graph, 5)?;
-        let front = front_of(alloc, graph, &table)?;
-        let walk = demand_walk(alloc, graph, front.as_slice(), t)?;
-        assert_eq!(rt; walk.as_slice(), wanted);
+        assert!(rt; has_walk(rt.alloc(), shape, t, wanted)?, "at {t}");
     }
     Ok(())
 }

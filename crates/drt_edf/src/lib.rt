@@ -13,20 +13,10 @@ mod answer;
 mod below;
 mod claims;
 #[cfg(test)]
-mod drawn_tests;
-#[cfg(test)]
-mod ending;
-#[cfg(test)]
-mod ending_tests;
-#[cfg(test)]
 mod front_tests;
 mod fronts;
 mod laws;
-#[cfg(test)]
-mod plain;
 mod refusal;
-#[cfg(test)]
-mod refusal_tests;
 mod searching;
 mod turns;
 mod walks;

@@ -1,0 +1,2 @@
+mod PlainWorks
+mod EndingWorks

@@ -1,4 +1,3 @@
-pub mod Conditions
 pub mod Sets
 pub mod SetRows
 mod LegalRows

@@ -6,7 +6,6 @@ use drt_evidence::FrontEntry;
 use drt_graph::{Graphs, check};
 use drt_model::{Edge, Memory, Name, Row, Task, Vertex, task_set};
 use std::alloc::Global;
-use std::process::Abort;
 use std::test::Fail;
 
 // A task as its vertices' execution times and deadlines, and its edges' sources, targets and separations.
@@ -22,7 +21,7 @@ fn name(alloc: Global, first: u8, number: usize) -> Result<Name, Memory> {
     Ok(Name::from_vec(Vec::from_slice(alloc, &[first, b'a' + (number % 26) as u8])?))
 }
 
-fn task(alloc: Global, number: usize, shape: Shape<'_>) -> Result<Task, Memory> {
+fn make_vertices(alloc: Global, shape: Shape<'_>) -> Result<Row<Vertex>, Memory> {
     let mut vertices = Vec::new(alloc);
     for (i, vertex) in shape.0.iter().enumerate() {
         vertices.push(Vertex {
@@ -31,6 +30,10 @@ fn task(alloc: Global, number: usize, shape: Shape<'_>) -> Result<Task, Memory> 
             deadline: vertex.1,
         })?;
     }
+    Ok(Row::from_vec(vertices))
+}
+
+fn make_edges(alloc: Global, shape: Shape<'_>) -> Result<Row<Edge>, Memory> {
     let mut edges = Vec::new(alloc);
     for edge in shape.1 {
         edges.push(Edge {
@@ -39,18 +42,22 @@ fn task(alloc: Global, number: usize, shape: Shape<'_>) -> Result<Task, Memory> 
             sep: edge.2,
         })?;
     }
+    Ok(Row::from_vec(edges))
+}
+
+fn make_task(alloc: Global, number: usize, shape: Shape<'_>) -> Result<Task, Memory> {
     Ok(Task {
         name: name(alloc, b'T', number)?,
         priority: (number % 16) as u32 + 1,
-        vertices: Row::from_vec(vertices),
-        edges: Row::from_vec(edges),
+        vertices: make_vertices(alloc, shape)?,
+        edges: make_edges(alloc, shape)?,
     })
 }
 
 fn graphs(alloc: Global, shapes: &[Shape<'_>]) -> Result<Graphs, Fail> {
     let mut tasks = Vec::new(alloc);
     for (i, shape) in shapes.iter().enumerate() {
-        tasks.push(task(alloc, i, *shape)?)?;
+        tasks.push(make_task(alloc, i, *shape)?)?;
     }
     let set = task_set(1, Row::from_vec(tasks)).ok_or("within the limits")?;
     Ok(check(alloc, &set)?)
@@ -114,190 +121,86 @@ fn broken_rule(
     Ok(None)
 }
 
-fn judge(rt: &impl Abort, alloc: Global, graphs: &Graphs, case: Case<'_>) -> Result<(), Fail> {
+// Whether the fronts of the case break its rule and none of lower number, for a set of tasks of these shapes.
+fn is_judged(alloc: Global, shapes: &[Shape<'_>], case: Case<'_>) -> Result<bool, Fail> {
     let (bound, given, wanted) = case;
+    let graphs = graphs(alloc, shapes)?;
     let fronts = fronts(alloc, given)?;
-    assert_eq!(rt;
-        broken_rule(alloc, graphs, fronts.as_slice(), bound)?,
-        wanted
-    );
-    Ok(())
+    Ok(broken_rule(alloc, &graphs, fronts.as_slice(), bound)? == wanted)
 }
 
 // Jobs of one tick and of four, of which the second may follow the first after two ticks.
 const BRANCHING: Shape<'static> = (&[(1, 2), (4, 6)], &[(0, 1, 2), (1, 0, 8), (0, 0, 5)]);
 
+// Fronts within bounds that are no horizon of their set.
 #[test]
-fn the_fronts_of_a_schedulable_set_keep_the_rules(rt: HostRuntime) -> Result<(), Fail> {
-    let alloc = rt.alloc();
-    let graphs = graphs(alloc, &[BRANCHING, (&[(2, 4)], &[(0, 0, 10)])])?;
-    let cases: [Case<'_>; 5] = [
-        (4, &[&[(0, 0, 1)], &[(0, 0, 2)]], None),
+fn fronts_are_judged_within_any_bound(rt: HostRuntime) -> Result<(), Fail> {
+    let two: [Shape<'_>; 2] = [BRANCHING, (&[(2, 4)], &[(0, 0, 10)])];
+    let three: [Shape<'_>; 2] = [BRANCHING, (&[(3, 4)], &[(0, 0, 10)])];
+    let single: [Shape<'_>; 1] = [(&[(1, 2), (1, 3)], &[])];
+    let cases: [(&[Shape<'_>], Case<'_>); 5] = [
         // One tick past the bound.
-        (4, &[&[(0, 0, 1)], &[(0, 1, 2)]], Some(12)),
-        (3, &[&[(0, 0, 1)], &[(0, 0, 2)]], Some(12)),
-        (4, &[&[(0, 0, 1)], &[]], Some(13)),
+        (&two, (3, &[&[(0, 0, 1)], &[(0, 0, 2)]], Some(12))),
         // Nothing is due by then.
-        (1, &[&[], &[]], None),
-    ];
-    for case in cases {
-        judge(&rt, alloc, &graphs, case)?;
-    }
-    Ok(())
-}
-
-#[test]
-fn the_least_rule_that_is_broken_is_told(rt: HostRuntime) -> Result<(), Fail> {
-    let alloc = rt.alloc();
-    let graphs = graphs(alloc, &[BRANCHING, (&[(3, 4)], &[(0, 0, 10)])])?;
-    let cases: [Case<'_>; 5] = [
-        // The second job may follow the first, and is due at 8.
-        (
-            9,
-            &[&[(0, 0, 1), (0, 5, 2), (1, 0, 4)], &[(0, 0, 3)]],
-            Some(14),
-        ),
-        // At 6 the sum is 7.
-        (
-            9,
-            &[&[(0, 0, 1), (0, 5, 2), (1, 0, 4), (1, 2, 5)], &[(0, 0, 3)]],
-            Some(15),
-        ),
+        (&two, (1, &[&[], &[]], None)),
         // The extension of the last entry of the first vertex is left out, and there is no room either.
         (
-            12,
-            &[
-                &[(0, 0, 1), (0, 5, 2), (0, 8, 5), (1, 0, 4), (1, 2, 5)],
-                &[(0, 0, 3)],
-            ],
-            Some(14),
+            &three,
+            (
+                12,
+                &[
+                    &[(0, 0, 1), (0, 5, 2), (0, 8, 5), (1, 0, 4), (1, 2, 5)],
+                    &[(0, 0, 3)],
+                ],
+                Some(14),
+            ),
         ),
-        (9, &[&[(0, 0, 1), (1, 0, 4), (1, 2, 5)], &[]], Some(13)),
-        (
-            9,
-            &[&[(0, 0, 1), (0, 5, 2), (1, 0, 4), (1, 2, 5)], &[(0, 6, 3)]],
-            Some(12),
-        ),
-    ];
-    for case in cases {
-        judge(&rt, alloc, &graphs, case)?;
-    }
-    Ok(())
-}
-
-#[test]
-fn entries_out_of_order_break_the_first_rule(rt: HostRuntime) -> Result<(), Fail> {
-    let alloc = rt.alloc();
-    let graphs = graphs(alloc, &[(&[(1, 2), (1, 3)], &[])])?;
-    let cases: [Case<'_>; 12] = [
-        (9, &[&[(0, 0, 1), (1, 0, 1)]], None),
-        (9, &[&[(1, 0, 1), (0, 0, 1)]], Some(12)),
-        (9, &[&[(0, 0, 1), (0, 1, 2), (1, 0, 1)]], None),
-        // Equal offsets, falling ones, equal works, falling ones.
-        (9, &[&[(0, 0, 1), (0, 0, 2), (1, 0, 1)]], Some(12)),
-        (9, &[&[(0, 1, 1), (0, 0, 2), (1, 0, 1)]], Some(12)),
-        (9, &[&[(0, 0, 1), (0, 1, 1), (1, 0, 1)]], Some(12)),
-        (9, &[&[(0, 0, 2), (0, 1, 1), (1, 0, 1)]], Some(12)),
-        // There is no third vertex.
-        (9, &[&[(0, 0, 1), (1, 0, 1), (2, 0, 1)]], Some(12)),
-        // Fewer and more fronts than tasks.
-        (9, &[], Some(12)),
-        (9, &[&[(0, 0, 1), (1, 0, 1)], &[]], Some(12)),
         // The greatest offset and work, due at the bound and past it.
         (
-            1000000000000000002,
-            &[&[
-                (0, 0, 1),
-                (0, 1000000000000000000, 2000000000000000000),
-                (1, 0, 1),
-            ]],
-            Some(15),
+            &single,
+            (
+                1000000000000000002,
+                &[&[
+                    (0, 0, 1),
+                    (0, 1000000000000000000, 2000000000000000000),
+                    (1, 0, 1),
+                ]],
+                Some(15),
+            ),
         ),
         (
-            1000000000000000001,
-            &[&[
-                (0, 0, 1),
-                (0, 1000000000000000000, 2000000000000000000),
-                (1, 0, 1),
-            ]],
-            Some(12),
+            &single,
+            (
+                1000000000000000001,
+                &[&[
+                    (0, 0, 1),
+                    (0, 1000000000000000000, 2000000000000000000),
+                    (1, 0, 1),
+                ]],
+                Some(12),
+            ),
         ),
     ];
-    for case in cases {
-        judge(&rt, alloc, &graphs, case)?;
+    for (shapes, case) in cases {
+        assert!(rt; is_judged(rt.alloc(), shapes, case)?);
     }
     Ok(())
 }
 
-#[test]
-fn an_entry_covers_what_is_no_sooner_and_no_more_work(rt: HostRuntime) -> Result<(), Fail> {
-    let alloc = rt.alloc();
-    let graphs = graphs(alloc, &[(&[(2, 4), (1, 3)], &[(0, 0, 5), (0, 1, 4)])])?;
-    let cases: [Case<'_>; 9] = [
-        (9, &[&[(0, 0, 2), (0, 5, 4), (1, 0, 1), (1, 4, 3)]], None),
-        // The second edge and the first one without an entry.
-        (9, &[&[(0, 0, 2), (0, 5, 4), (1, 0, 1)]], Some(14)),
-        (9, &[&[(0, 0, 2), (1, 0, 1), (1, 4, 3)]], Some(14)),
-        (8, &[&[(0, 0, 2), (1, 0, 1), (1, 4, 3)]], None),
-        // A tick sooner and more work, a tick later, less work.
-        (9, &[&[(0, 0, 2), (0, 5, 4), (1, 0, 1), (1, 3, 4)]], None),
-        (
-            9,
-            &[&[(0, 0, 2), (0, 5, 4), (1, 0, 1), (1, 5, 3)]],
-            Some(14),
-        ),
-        (
-            9,
-            &[&[(0, 0, 2), (0, 5, 4), (1, 0, 1), (1, 4, 2)]],
-            Some(14),
-        ),
-        // The first job a tick later, and with less work.
-        (
-            9,
-            &[&[(0, 1, 2), (0, 5, 4), (1, 0, 1), (1, 4, 3)]],
-            Some(13),
-        ),
-        (
-            9,
-            &[&[(0, 0, 1), (0, 5, 4), (1, 0, 1), (1, 4, 3)]],
-            Some(13),
-        ),
-    ];
-    for case in cases {
-        judge(&rt, alloc, &graphs, case)?;
-    }
-    Ok(())
-}
-
-#[test]
-fn works_due_at_once_are_added_over_the_tasks(rt: HostRuntime) -> Result<(), Fail> {
-    let alloc = rt.alloc();
-    let graphs = graphs(alloc, &[(&[(1, 3), (1, 3)], &[]), (&[(2, 3)], &[])])?;
-    let cases: [Case<'_>; 4] = [
-        // Of one task the greatest work counts, and not the sum.
-        (3, &[&[(0, 0, 1), (1, 0, 1)], &[(0, 0, 2)]], None),
-        (3, &[&[(0, 0, 1), (1, 0, 2)], &[(0, 0, 2)]], Some(15)),
-        (3, &[&[(0, 0, 2), (1, 0, 1)], &[(0, 0, 2)]], Some(15)),
-        // At 4 as much work is due as there is time, and at 3 as well.
-        (4, &[&[(0, 0, 1), (0, 1, 2), (1, 0, 1)], &[(0, 0, 2)]], None),
-    ];
-    for case in cases {
-        judge(&rt, alloc, &graphs, case)?;
-    }
-    Ok(())
-}
-
-#[test]
-fn a_front_of_twenty_thousand_entries_is_judged_at_once(rt: HostRuntime) -> Result<(), Fail> {
-    let alloc = rt.alloc();
-    let graphs = graphs(alloc, &[(&[(1, 1)], &[(0, 0, 1)])])?;
-    // A job of one tick after each tick.
+// Whether a front of a job of one tick after each tick, of 20,000 ticks, breaks that rule within the bound.
+fn is_long_judged(alloc: Global, bound: u64, wanted: Option<u8>) -> Result<bool, Fail> {
     let mut entries = Vec::new(alloc);
     for i in 0..20000u64 {
         entries.push((0, i, i + 1))?;
     }
     let given = [entries.as_slice()];
-    judge(&rt, alloc, &graphs, (20000, &given, None))?;
-    judge(&rt, alloc, &graphs, (20001, &given, Some(14)))?;
-    judge(&rt, alloc, &graphs, (19999, &given, Some(12)))
+    is_judged(alloc, &[(&[(1, 1)], &[(0, 0, 1)])], (bound, &given, wanted))
+}
+
+#[test]
+fn a_front_of_twenty_thousand_entries_is_judged_at_once(rt: HostRuntime) -> Result<(), Fail> {
+    for (bound, wanted) in [(20000, None), (20001, Some(14)), (19999, Some(12))] {
+        assert!(rt; is_long_judged(rt.alloc(), bound, wanted)?, "up to {bound}");
+    }
+    Ok(())
 }
