@@ -1,15 +1,8 @@
 //! Answers of worked sets.
-ghost use Rattle.std.specs.Prelude.{IfOk};
-ghost use Rattle.drt_sp.specs.Answers.{IsAnswer};
-
-use drt_evidence::{Dossier, print};
-use drt_model::{Policy, TaskSet};
+use crate::answering::{has_dossier, trail_of};
 use drt_pool::OpenGate;
-use drt_sp::{FixedAnswer, FixedTrail, analyse_fixed};
 use std::alloc::Global;
-use std::sync::Wait;
 use std::test::Fail;
-use std::thread::Threads;
 
 // A task of two jobs, each of which comes again, above a task of one.
 const LOOPED: &str =
@@ -77,67 +70,6 @@ fn many_tasks_no(alloc: Global) -> Result<String, Fail> {
     Ok(body)
 }
 
-// The set of a text, and the answer to it.
-fn answer_to<R: Threads + Wait + Sync>(
-    rt: &R,
-    alloc: Global,
-    text: &str,
-    budget: u64,
-) -> Result<(TaskSet, FixedAnswer), Fail>
-    ensures { IfOk result (λ a. IsAnswer a.0 budget a.1) }
-{
-    if text.len() > 1_000_000 || budget < 1 || budget > 1_000_000 {
-        return Err("a worked set is short, and its budget is in range".into());
-    }
-    let set = drt_file::read(alloc, text.as_bytes())?;
-    let graphs = drt_graph::check(alloc, &set)?;
-    let answer = analyse_fixed(rt, alloc, &set, &graphs, 1, budget, &OpenGate)?;
-    Ok((set, answer))
-}
-
-// Whether the dossier of the answer has these lines behind the set, which is in canonical text.
-fn has_dossier<R: Threads + Wait + Sync>(
-    rt: &R,
-    alloc: Global,
-    text: &str,
-    body: &str,
-) -> Result<bool, Fail> {
-    let (set, answer) = answer_to(rt, alloc, text, 1000)?;
-    let FixedAnswer::Done(evidence) = answer else {
-        return Ok(false);
-    };
-    let dossier = Dossier {
-        policy: Policy::Fixed,
-        set,
-        evidence,
-    };
-    let written = print(alloc, &dossier)?;
-    let mut expected = Vec::new(alloc);
-    expected.extend_from_slice(b"drt-dossier 1\npolicy fixed\n")?;
-    expected.extend_from_slice(text.as_bytes())?;
-    expected.extend_from_slice(body.as_bytes())?;
-    Ok(written.as_slice() == expected.as_slice())
-}
-
-// The task, the vertex if there is one, and the number of steps at which a budget was spent.
-fn trail_of<R: Threads + Wait + Sync>(
-    rt: &R,
-    alloc: Global,
-    text: &str,
-    budget: u64,
-) -> Result<Option<(u32, Option<u32>, usize)>, Fail> {
-    let (_set, answer) = answer_to(rt, alloc, text, budget)?;
-    match answer {
-        FixedAnswer::Done(_) => Ok(None),
-        FixedAnswer::Undecided(FixedTrail::Table { task, log }) => {
-            Ok(Some((task, None, log.as_slice().len())))
-        }
-        FixedAnswer::Undecided(FixedTrail::Refine { task, vertex, log }) => {
-            Ok(Some((task, Some(vertex), log.as_slice().len())))
-        }
-    }
-}
-
 #[test]
 fn worked_sets_have_their_dossiers(rt: HostRuntime) -> Result<(), Fail> {
     let cases = [
@@ -147,7 +79,10 @@ fn worked_sets_have_their_dossiers(rt: HostRuntime) -> Result<(), Fail> {
         (TURNED, TURNED_YES),
     ];
     for (text, body) in cases {
-        assert!(rt; has_dossier(&rt, rt.alloc(), text, body)?, "of {text}");
+        assert!(rt;
+            has_dossier(&rt, rt.alloc(), text, body, 1, &OpenGate)?,
+            "of {text}"
+        );
     }
     Ok(())
 }
@@ -162,7 +97,7 @@ fn budgets_are_spent_in_a_search_or_a_refinement(rt: HostRuntime) -> Result<(), 
     ];
     for (text, budget, trail) in cases {
         assert!(rt;
-            trail_of(&rt, rt.alloc(), text, budget)? == trail,
+            trail_of(&rt, rt.alloc(), text, 1, budget, &OpenGate)? == trail,
             "of {budget} steps"
         );
     }
@@ -174,9 +109,9 @@ fn as_many_tasks_as_a_file_may_have(rt: HostRuntime) -> Result<(), Fail> {
     let alloc = rt.alloc();
     let just = many_tasks(alloc, 32)?;
     let yes = many_tasks_yes(alloc)?;
-    assert!(rt; has_dossier(&rt, alloc, just.as_str(), yes.as_str())?);
+    assert!(rt; has_dossier(&rt, alloc, just.as_str(), yes.as_str(), 1, &OpenGate)?);
     let late = many_tasks(alloc, 31)?;
     let no = many_tasks_no(alloc)?;
-    assert!(rt; has_dossier(&rt, alloc, late.as_str(), no.as_str())?);
+    assert!(rt; has_dossier(&rt, alloc, late.as_str(), no.as_str(), 1, &OpenGate)?);
     Ok(())
 }

@@ -1,7 +1,12 @@
-//! Tests of the analysis under fixed priorities: dossiers of worked sets, spent budgets, and drawn sets beside a plain program.
+//! Tests of the analysis under fixed priorities: dossiers of worked sets, spent budgets, drawn sets beside a plain program, and answers
+//! by several workers.
 #![tactic(auto)]
 
 #[cfg(test)]
 mod answer_tests;
+#[cfg(test)]
+mod answering;
+#[cfg(test)]
+mod beside_tests;
 #[cfg(test)]
 mod drawn_tests;

@@ -1,0 +1,148 @@
+//! Answers by so many workers, as bytes.
+ghost use Rattle.std.specs.Prelude.{ℕ, IfOk};
+ghost use Rattle.drt_sp.specs.Answers.{IsAnswer};
+
+use drt_drawn::{Draws, drawn_set};
+use drt_evidence::{Dossier, print};
+use drt_model::{Policy, TaskSet};
+use drt_pool::Gate;
+use drt_sp::{FixedAnswer, FixedTrail, analyse_fixed};
+use std::alloc::Global;
+use std::sync::Wait;
+use std::test::Fail;
+use std::thread::Threads;
+
+// A gate that does nothing, and leaves so many turns to the caller alone.
+#[derive(Clone, Copy, Debug)]
+pub(crate) struct Leaving {
+    pub(crate) alone: u64,
+}
+
+impl Gate for Leaving {
+    fn before(&self, _worker: u32, _turn: u64) {}
+
+    fn alone(&self) -> u64 {
+        self.alone
+    }
+}
+
+// Where a set comes from: a text, or the numbers that are drawn from this state on.
+#[derive(Clone, Copy, Debug)]
+pub(crate) enum Source<'a> {
+    Text(&'a str),
+    Drawn(u64),
+}
+
+fn make(alloc: Global, source: Source<'_>) -> Result<TaskSet, Fail> {
+    match source {
+        Source::Text(text) => {
+            if text.len() > 1_000_000 {
+                return Err("a worked set is short".into());
+            }
+            Ok(drt_file::read(alloc, text.as_bytes())?)
+        }
+        Source::Drawn(state) => {
+            let mut draws = Draws { state };
+            Ok(drawn_set(alloc, &mut draws)?.ok_or("within the limits")?)
+        }
+    }
+}
+
+// The answer to a set by so many workers.
+pub(crate) fn answer_to<G: Gate, R: Threads + Wait + Sync>(
+    rt: &R,
+    alloc: Global,
+    set: &TaskSet,
+    workers: u32,
+    budget: u64,
+    gate: &G,
+) -> Result<FixedAnswer, Fail>
+    ensures { IfOk result (IsAnswer set.now budget) }
+{
+    if workers < 1 || workers > 16 || budget < 1 || budget > 1_000_000 {
+        return Err("the workers and the budget are in range".into());
+    }
+    let graphs = drt_graph::check(alloc, set)?;
+    Ok(analyse_fixed(rt, alloc, set, &graphs, workers, budget, gate)?)
+}
+
+// The text of an answer: its dossier, or where and by which steps a budget was spent.
+fn text_of(alloc: Global, set: TaskSet, answer: FixedAnswer) -> Result<Vec<u8>, Fail>
+    requires { (budget : ℕ) × IsAnswer set budget answer }
+{
+    match answer {
+        FixedAnswer::Done(evidence) => {
+            let dossier = Dossier {
+                policy: Policy::Fixed,
+                set,
+                evidence,
+            };
+            Ok(print(alloc, &dossier)?.into_vec())
+        }
+        FixedAnswer::Undecided(trail) => spent_text(alloc, &trail),
+    }
+}
+
+fn spent_text(alloc: Global, trail: &FixedTrail) -> Result<Vec<u8>, Fail> {
+    let text = match trail {
+        FixedTrail::Table { task, log } => {
+            format!(in alloc; "table {task}: {} steps", log.as_slice().len())?
+        }
+        FixedTrail::Refine { task, vertex, log } => {
+            format!(in alloc; "refine {task} {vertex}: {:?}", log.as_slice())?
+        }
+    };
+    Ok(text.into_bytes())
+}
+
+// The text of the answer to a set by so many workers.
+pub(crate) fn written<G: Gate, R: Threads + Wait + Sync>(
+    rt: &R,
+    alloc: Global,
+    source: Source<'_>,
+    workers: u32,
+    budget: u64,
+    gate: &G,
+) -> Result<Vec<u8>, Fail> {
+    let set = make(alloc, source)?;
+    let answer = answer_to(rt, alloc, &set, workers, budget, gate)?;
+    text_of(alloc, set, answer)
+}
+
+// Whether the dossier of the answer has these lines behind the set, which is in canonical text.
+pub(crate) fn has_dossier<G: Gate, R: Threads + Wait + Sync>(
+    rt: &R,
+    alloc: Global,
+    text: &str,
+    body: &str,
+    workers: u32,
+    gate: &G,
+) -> Result<bool, Fail> {
+    let mut expected = Vec::new(alloc);
+    expected.extend_from_slice(b"drt-dossier 1\npolicy fixed\n")?;
+    expected.extend_from_slice(text.as_bytes())?;
+    expected.extend_from_slice(body.as_bytes())?;
+    let answer = written(rt, alloc, Source::Text(text), workers, 1000, gate)?;
+    Ok(answer.as_slice() == expected.as_slice())
+}
+
+// The task, the vertex if there is one, and the number of steps at which a budget was spent.
+pub(crate) fn trail_of<G: Gate, R: Threads + Wait + Sync>(
+    rt: &R,
+    alloc: Global,
+    text: &str,
+    workers: u32,
+    budget: u64,
+    gate: &G,
+) -> Result<Option<(u32, Option<u32>, usize)>, Fail> {
+    let set = make(alloc, Source::Text(text))?;
+    match answer_to(rt, alloc, &set, workers, budget, gate)? {
+        FixedAnswer::Done(_) => Ok(None),
+        FixedAnswer::Undecided(FixedTrail::Table { task, log }) => {
+            Ok(Some((task, None, log.as_slice().len())))
+        }
+        FixedAnswer::Undecided(FixedTrail::Refine { task, vertex, log }) => {
+            Ok(Some((task, Some(vertex), log.as_slice().len())))
+        }
+    }
+}

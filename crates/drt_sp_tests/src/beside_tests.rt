@@ -1,0 +1,185 @@
+//! Vertices of a task that several workers prove side by side.
+use crate::answering::{Leaving, Source, has_dossier, trail_of, written};
+use drt_fixtures::texts::{
+    ENGINE, HALVES, JUST_DONE, ONLY_TOGETHER, SECOND_LATE, SPLIT, TOO_LITTLE_ROOM,
+};
+use drt_pool::{Gate, OpenGate};
+use std::alloc::Global;
+use std::sync::Wait;
+use std::test::Fail;
+use std::thread::Threads;
+
+const DRAWN_SETS: u64 = 12;
+
+const WORKERS: [u32; 4] = [1, 2, 4, 16];
+
+// How many steps a vertex has before it is left to another worker. With 1 each is left, with 10 none of a worked set is.
+const ALONE: [u64; 4] = [1, 2, 4, 10];
+
+// Below a task whose job takes 3 ticks or 2, the first job needs six steps, of which the last finds that it is late behind the longer
+// one. The second one is late behind either, which four steps find.
+const TWO_LATE: &str =
+    "drt 1\ntask T1\nvertex x 3 5\nvertex y 2 4\ntask T2\nvertex z 2 4\nvertex w 3 4\nend\n";
+
+// Below a task of two jobs, each of which comes again, the first job passes by six steps. The second one is late behind two of the
+// shorter job.
+const SECOND_FAILS: &str =
+    "drt 1\ntask T1\nvertex x 3 5\nvertex y 2 4\nedge x x 20\nedge y y 4\ntask T2\nvertex z 2 5\nvertex w 3 5\nend\n";
+
+const SECOND_FAILS_NO: &str =
+    "evidence fixed-no\nreleases 3\nrelease 0 1 0 2\nrelease 0 1 4 2\nrelease 1 1 0 3\nmiss 1 0 5\nclose\n";
+
+// The same with jobs that all pass, the middle one by two steps.
+const ALL_PASS: &str =
+    "drt 1\ntask T1\nvertex x 3 5\nvertex y 2 4\nedge x x 20\nedge y y 4\ntask T2\nvertex z 2 5\nvertex u 1 5\nvertex v 2 5\nend\n";
+
+const ALL_PASS_YES: &str =
+    "evidence fixed-yes\ntrees 1\ntree 3\nwalk 1 1\nwalk 1 0\nwalk 2 1 1\npairs 2\npair 0 1\npair 3 2\nproofs 5\nproof 0 0 1 p3\nproof 0 1 1 p2\nproof 1 0 3 s0 p5 p4\nproof 1 1 1 p4\nproof 1 2 3 s0 p5 p4\nclose\n";
+
+// Whether several workers answer a set as one does.
+fn is_answered_as_by_one<G: Gate, R: Threads + Wait + Sync>(
+    rt: &R,
+    alloc: Global,
+    source: Source<'_>,
+    budget: u64,
+    gate: &G,
+) -> Result<bool, Fail> {
+    let one = written(rt, alloc, source, 1, budget, gate)?;
+    for workers in WORKERS {
+        let answer = written(rt, alloc, source, workers, budget, gate)?;
+        if answer.as_slice() != one.as_slice() {
+            return Ok(false);
+        }
+    }
+    Ok(true)
+}
+
+// The same, however much is left to the caller alone.
+fn is_answered_alike<R: Threads + Wait + Sync>(
+    rt: &R,
+    alloc: Global,
+    source: Source<'_>,
+    budget: u64,
+) -> Result<bool, Fail> {
+    for alone in ALONE {
+        if !is_answered_as_by_one(rt, alloc, source, budget, &Leaving { alone })? {
+            return Ok(false);
+        }
+    }
+    is_answered_as_by_one(rt, alloc, source, budget, &OpenGate)
+}
+
+// Whether the answer has this dossier, by each number of workers.
+fn has_dossier_by_all<R: Threads + Wait + Sync>(
+    rt: &R,
+    alloc: Global,
+    text: &str,
+    body: &str,
+    alone: u64,
+) -> Result<bool, Fail> {
+    for workers in WORKERS {
+        if !has_dossier(rt, alloc, text, body, workers, &Leaving { alone })? {
+            return Ok(false);
+        }
+    }
+    Ok(true)
+}
+
+// Whether the budget is spent there, by each number of workers.
+fn is_spent_by_all<R: Threads + Wait + Sync>(
+    rt: &R,
+    alloc: Global,
+    text: &str,
+    budget: u64,
+    alone: u64,
+    trail: Option<(u32, Option<u32>, usize)>,
+) -> Result<bool, Fail> {
+    for workers in WORKERS {
+        let spent = trail_of(rt, alloc, text, workers, budget, &Leaving { alone })?;
+        if spent != trail {
+            return Ok(false);
+        }
+    }
+    Ok(true)
+}
+
+#[test]
+fn worked_sets_are_answered_as_by_one_worker(rt: HostRuntime) -> Result<(), Fail> {
+    let texts = [
+        ENGINE,
+        HALVES,
+        JUST_DONE,
+        ONLY_TOGETHER,
+        SECOND_LATE,
+        SPLIT,
+        TOO_LITTLE_ROOM,
+        TWO_LATE,
+        SECOND_FAILS,
+        ALL_PASS,
+    ];
+    for text in texts {
+        assert!(rt;
+            is_answered_alike(&rt, rt.alloc(), Source::Text(text), 1000)?,
+            "of {text}"
+        );
+    }
+    Ok(())
+}
+
+#[test]
+fn drawn_sets_are_answered_as_by_one_worker(rt: HostRuntime) -> Result<(), Fail> {
+    for number in 0..DRAWN_SETS {
+        assert!(rt;
+            is_answered_alike(&rt, rt.alloc(), Source::Drawn(number), 1000)?,
+            "set {number}"
+        );
+    }
+    Ok(())
+}
+
+#[test]
+fn spent_budgets_of_drawn_sets_are_told_as_by_one_worker(rt: HostRuntime) -> Result<(), Fail> {
+    for number in 0..DRAWN_SETS {
+        let budget = number % 9 + 4;
+        assert!(rt;
+            is_answered_alike(&rt, rt.alloc(), Source::Drawn(number), budget)?,
+            "set {number}"
+        );
+    }
+    Ok(())
+}
+
+#[test]
+fn a_vertex_that_spends_its_budget_decides_before_one_that_fails(
+    rt: HostRuntime,
+) -> Result<(), Fail> {
+    for alone in ALONE {
+        assert!(rt;
+            is_spent_by_all(&rt, rt.alloc(), TWO_LATE, 5, alone, Some((1, Some(0), 5)))?,
+            "with {alone} steps alone"
+        );
+    }
+    Ok(())
+}
+
+#[test]
+fn a_vertex_that_fails_decides_after_ones_that_pass(rt: HostRuntime) -> Result<(), Fail> {
+    for alone in ALONE {
+        assert!(rt;
+            has_dossier_by_all(&rt, rt.alloc(), SECOND_FAILS, SECOND_FAILS_NO, alone)?,
+            "with {alone} steps alone"
+        );
+    }
+    Ok(())
+}
+
+#[test]
+fn proofs_stand_in_file_order(rt: HostRuntime) -> Result<(), Fail> {
+    for alone in ALONE {
+        assert!(rt;
+            has_dossier_by_all(&rt, rt.alloc(), ALL_PASS, ALL_PASS_YES, alone)?,
+            "with {alone} steps alone"
+        );
+    }
+    Ok(())
+}
