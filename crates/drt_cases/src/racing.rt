@@ -5,7 +5,7 @@ use drt_fixtures::texts::{
     PERIODIC, SPLIT, TOO_LITTLE_ROOM,
 };
 use drt_model::Row;
-use drt_pool::Gate;
+use drt_pool::{EagerGate, Gate};
 use drt_table::{Entry, TableStep};
 use drt_top::Trail;
 use std::alloc::Global;
