@@ -49,7 +49,8 @@ fn take_note(lock: &Lock<Tally>, seat: &mut TallySeat, number: u32) -> bool
     requires name { seat.old.table_id ≡ lock.now.name }
     requires machine { (y : Tally) × HoldsMachine y seat.old.me }
     ensures name { (seat.new.table_id ≡ seat.old.table_id) × (seat.new.me.0 ≡ seat.old.me.0) }
-    ensures machine { (y : Tally) → HoldsMachine y seat.old.me → (z : Tally) × HoldsMachine z seat.new.me × (z.start ≡ y.start) × MatchBool result (length z.notes.items ≡ length y.notes.items + 1) (length z.notes.items ≡ length y.notes.items) }
+    ensures machine { (y : Tally) → HoldsMachine y seat.old.me → (z : Tally) × HoldsMachine z seat.new.me × (z.start ≡ y.start)
+        × MatchBool result (length z.notes.items ≡ length y.notes.items + 1) (length z.notes.items ≡ length y.notes.items) }
 {
     let tally = seat.slot_mut(lock.slots(), 0);
     tally.note(number)
