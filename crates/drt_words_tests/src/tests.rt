@@ -1,4 +1,4 @@
-use super::*;
+use drt_words::{Meaning, WordsError, words_of};
 use std::alloc::Global;
 use std::test::Fail;
 
