@@ -2,7 +2,7 @@ use Rattle.std.proofs.Common.{◌≡◌, ℕ, ◌+◌, ◌*◌, ◌≤◌, ap, a
 use Rattle.std.specs.Prelude.{slice_index_or}
 use Rattle.drt_steps.specs.Values.{raise, value_at}
 use Rattle.drt_steps.proofs.Values.{flat_small, raised_small}
-use Rattle.drt_steps.proofs.tests.stairs.Goals as goal
+use Rattle.drt_steps_tests.proofs.tests.stairs.Goals as goal
 
 pub loop-offset-init : goal.loop-offset-init
 loop-offset-init c t =

@@ -1,7 +1,7 @@
 use Rattle.std.proofs.Common.{◌≡◌, ◌≤◌, ap, arith, replicate}
 use Rattle.drt_steps.specs.Values.{value_at}
 use Rattle.drt_steps.proofs.Values.{flat_small}
-use Rattle.drt_steps.proofs.tests.two_values.Goals as goal
+use Rattle.drt_steps_tests.proofs.tests.two_values.Goals as goal
 
 pub raise_after-requires : goal.raise_after-requires
 raise_after-requires c t late within =

@@ -2,7 +2,7 @@
 ghost use Rattle.std.specs.Prelude.{◌≡◌, ◌≤◌, length, true};
 ghost use Rattle.drt_steps.specs.Time.{AreChosen};
 
-use crate::{Steps, least_time};
+use drt_steps::{Steps, least_time};
 use std::alloc::{AllocError, Global};
 use std::cmp::Ordering;
 use std::process::Abort;
