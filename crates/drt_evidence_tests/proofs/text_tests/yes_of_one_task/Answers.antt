@@ -4,7 +4,7 @@ use Rattle.std.proofs.lemmas.List.Elements.{All-nil, All-cons}
 use Rattle.drt_model.specs.declared.front.FrontEntry.{FrontEntry}
 use Rattle.drt_evidence.specs.declared.evidence.RatioClaim.{RatioClaim}
 use Rattle.drt_evidence.specs.Ranges.{IsNumber, IsInRangeEntry, IsInRangeFront, IsInRangePotential, IsInRangeRatio}
-use Rattle.drt_evidence.proofs.tests.yes_of_one_task.Goals as goal
+use Rattle.drt_evidence_tests.proofs.text_tests.yes_of_one_task.Goals as goal
 
 zero_in_range : IsInRangePotential (pos 0)
 zero_in_range = (first_of (omega arith, search rules, grind arith), first_of (omega arith, search rules, grind arith))

@@ -2,17 +2,18 @@
 ghost use Rattle.std.specs.Prelude.{◌≡◌, ◌∷◌, [], IfOk};
 ghost use Rattle.drt_evidence.specs.Ranges.{IsInRange};
 
-use crate::evidence::{Dossier, Evidence, Item, Pair, ProofClaim, RatioClaim, TreeClaim};
-use crate::printing::{print, push_evidence};
+use crate::same::is_same;
+use crate::texts::dossier_below;
+use drt_evidence::{Dossier, Evidence, Item, Pair, ProofClaim, RatioClaim, TreeClaim, print};
 use drt_model::{FrontEntry, Memory, Miss, Policy, Release, Row, TaskSet};
 use std::alloc::Global;
 use std::test::Fail;
 
-fn row<T: Copy>(alloc: Global, list: &[T]) -> Result<Row<T>, Memory> {
+pub(crate) fn row<T: Copy>(alloc: Global, list: &[T]) -> Result<Row<T>, Memory> {
     Ok(Row::from_vec(Vec::from_slice(alloc, list)?))
 }
 
-fn one<T: Drop>(alloc: Global, item: T) -> Result<Row<T>, Memory>
+pub(crate) fn one<T: Drop>(alloc: Global, item: T) -> Result<Row<T>, Memory>
     ensures { IfOk result (λ row. row ≡ item ∷ []) }
 {
     let mut items = Vec::new(alloc);
@@ -20,13 +21,13 @@ fn one<T: Drop>(alloc: Global, item: T) -> Result<Row<T>, Memory>
     Ok(Row::from_vec(items))
 }
 
-fn none<T>(alloc: Global) -> Row<T>
+pub(crate) fn none<T>(alloc: Global) -> Row<T>
     ensures { result ≡ [] }
 {
     Row::from_vec(Vec::new(alloc))
 }
 
-fn ratio(
+pub(crate) fn ratio(
     alloc: Global,
     num: u64,
     den: u64,
@@ -41,7 +42,7 @@ fn ratio(
     })
 }
 
-fn release(task: u32, vertex: u32, time: u64, need: u64) -> Release {
+pub(crate) fn release(task: u32, vertex: u32, time: u64, need: u64) -> Release {
     Release {
         task,
         vertex,
@@ -50,7 +51,7 @@ fn release(task: u32, vertex: u32, time: u64, need: u64) -> Release {
     }
 }
 
-fn miss(task: u32, index: u32, deadline: u64) -> Miss {
+pub(crate) fn miss(task: u32, index: u32, deadline: u64) -> Miss {
     Miss {
         task,
         index,
@@ -58,7 +59,12 @@ fn miss(task: u32, index: u32, deadline: u64) -> Miss {
     }
 }
 
-fn proof(alloc: Global, task: u32, vertex: u32, items: &[Item]) -> Result<ProofClaim, Memory> {
+pub(crate) fn proof(
+    alloc: Global,
+    task: u32,
+    vertex: u32,
+    items: &[Item],
+) -> Result<ProofClaim, Memory> {
     Ok(ProofClaim {
         task,
         vertex,
@@ -88,11 +94,12 @@ fn three_proofs(alloc: Global) -> Result<Row<ProofClaim>, Memory> {
     Ok(Row::from_vec(proofs))
 }
 
-// What is written of evidence.
-fn written(alloc: Global, evidence: &Evidence) -> Result<Vec<u8>, Memory> {
-    let mut bytes = Vec::new(alloc);
-    push_evidence(&mut bytes, evidence)?;
-    Ok(bytes)
+// Whether evidence is written in these lines: they are read below a set as that evidence, and so printed.
+pub(crate) fn is_written(alloc: Global, evidence: &Evidence, lines: &[u8]) -> Result<bool, Fail> {
+    match dossier_below(alloc, lines)? {
+        Some(dossier) => Ok(is_same(&dossier.evidence, evidence)),
+        None => Ok(false),
+    }
 }
 
 // The ratio 2/5 of the cycle of vertex 0, and a front without a label.
@@ -167,8 +174,11 @@ fn a_label_has_its_vertex_its_offset_and_its_work(rt: HostRuntime) -> Result<(),
         fronts: one(alloc, row(alloc, &[small, greatest])?)?,
     };
     assert!(rt;
-        written(alloc, &evidence)?.as_slice()
-            == b"evidence edf-yes\nratios 0\nfronts 1\nfront 2\nlabel 0 5 2\nlabel 4294967295 1000000000000000000 2000000000000000000\nclose\n".as_slice()
+        is_written(
+            alloc,
+            &evidence,
+            b"evidence edf-yes\nratios 0\nfronts 1\nfront 2\nlabel 0 5 2\nlabel 4294967295 1000000000000000000 2000000000000000000\nclose\n",
+        )?
     );
     Ok(())
 }
@@ -180,8 +190,11 @@ fn a_potential_below_0_begins_with_a_minus(rt: HostRuntime) -> Result<(), Fail> 
     let ratios = one(alloc, ratio(alloc, 1, 1, &[0, 2, 1], &heights)?)?;
     let evidence = Evidence::UtilisationOne { ratios };
     assert!(rt;
-        written(alloc, &evidence)?.as_slice()
-            == b"evidence utilisation-one\nratios 1\nratio 1 1\ncycle 3 0 2 1\npotentials 4 0 -6 -10000000000000000 10000000000000000\nclose\n".as_slice()
+        is_written(
+            alloc,
+            &evidence,
+            b"evidence utilisation-one\nratios 1\nratio 1 1\ncycle 3 0 2 1\npotentials 4 0 -6 -10000000000000000 10000000000000000\nclose\n",
+        )?
     );
     Ok(())
 }
@@ -192,8 +205,11 @@ fn the_line_of_an_empty_list_ends_after_the_0(rt: HostRuntime) -> Result<(), Fai
     let ratios = one(alloc, ratio(alloc, 0, 1, &[], &[])?)?;
     let evidence = Evidence::UtilisationOne { ratios };
     assert!(rt;
-        written(alloc, &evidence)?.as_slice()
-            == b"evidence utilisation-one\nratios 1\nratio 0 1\ncycle 0\npotentials 0\nclose\n".as_slice()
+        is_written(
+            alloc,
+            &evidence,
+            b"evidence utilisation-one\nratios 1\nratio 0 1\ncycle 0\npotentials 0\nclose\n",
+        )?
     );
     Ok(())
 }
@@ -207,8 +223,11 @@ fn a_no_has_its_releases_in_their_order_and_then_the_miss(rt: HostRuntime) -> Re
         miss: miss(0, 7, 6),
     };
     assert!(rt;
-        written(alloc, &evidence)?.as_slice()
-            == b"evidence edf-no\nreleases 2\nrelease 0 1 0 4\nrelease 1 0 2 3\nmiss 0 7 6\nclose\n".as_slice()
+        is_written(
+            alloc,
+            &evidence,
+            b"evidence edf-no\nreleases 2\nrelease 0 1 0 4\nrelease 1 0 2 3\nmiss 0 7 6\nclose\n",
+        )?
     );
     Ok(())
 }
@@ -222,8 +241,11 @@ fn a_no_of_fixed_priorities_has_the_same_block(rt: HostRuntime) -> Result<(), Fa
         miss: miss(1, 0, 4),
     };
     assert!(rt;
-        written(alloc, &evidence)?.as_slice()
-            == b"evidence fixed-no\nreleases 2\nrelease 0 0 0 3\nrelease 1 0 0 2\nmiss 1 0 4\nclose\n".as_slice()
+        is_written(
+            alloc,
+            &evidence,
+            b"evidence fixed-no\nreleases 2\nrelease 0 0 0 3\nrelease 1 0 0 2\nmiss 1 0 4\nclose\n",
+        )?
     );
     Ok(())
 }
@@ -238,8 +260,11 @@ fn a_yes_of_fixed_priorities_has_its_trees_and_then_its_proofs(
         proofs: three_proofs(alloc)?,
     };
     assert!(rt;
-        written(alloc, &evidence)?.as_slice()
-            == b"evidence fixed-yes\ntrees 1\ntree 3\nwalk 1 1\nwalk 1 0\nwalk 2 1 1\npairs 2\npair 0 1\npair 3 2\nproofs 3\nproof 0 0 1 p3\nproof 0 1 1 p2\nproof 1 0 3 s0 p5 p4\nclose\n".as_slice()
+        is_written(
+            alloc,
+            &evidence,
+            b"evidence fixed-yes\ntrees 1\ntree 3\nwalk 1 1\nwalk 1 0\nwalk 2 1 1\npairs 2\npair 0 1\npair 3 2\nproofs 3\nproof 0 0 1 p3\nproof 0 1 1 p2\nproof 1 0 3 s0 p5 p4\nclose\n",
+        )?
     );
     Ok(())
 }
@@ -256,8 +281,11 @@ fn a_tree_and_a_proof_may_be_empty(rt: HostRuntime) -> Result<(), Fail> {
         proofs: one(alloc, proof(alloc, 0, 3, &[])?)?,
     };
     assert!(rt;
-        written(alloc, &evidence)?.as_slice()
-            == b"evidence fixed-yes\ntrees 1\ntree 0\npairs 0\nproofs 1\nproof 0 3 0\nclose\n".as_slice()
+        is_written(
+            alloc,
+            &evidence,
+            b"evidence fixed-yes\ntrees 1\ntree 0\npairs 0\nproofs 1\nproof 0 3 0\nclose\n",
+        )?
     );
     Ok(())
 }
