@@ -4,11 +4,11 @@ ghost use Rattle.std.specs.List.{All};
 ghost use Rattle.drt_tree.specs.Leaf.{leaves_of};
 ghost use Rattle.drt_tree.specs.Tree.{HaveOneBound};
 
-use crate::Forest;
 use drt_label::Label;
 use drt_model::Row;
 use drt_request::RequestLabel;
 use drt_steps::{Steps, least_time};
+use drt_tree::Forest;
 use std::alloc::{AllocError as Memory, Global};
 use std::process::Abort;
 use std::sync::Arc;

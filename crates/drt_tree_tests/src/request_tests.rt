@@ -1,8 +1,8 @@
 //! Labels that were worked by hand.
 ghost use Rattle.std.specs.Prelude.{◌≡◌, ◌≤◌, ◌<◌, length, IsTrue};
 
-use crate::RequestLabel;
 use drt_label::Label;
+use drt_request::RequestLabel;
 use drt_steps::Steps;
 use std::process::Abort;
 use std::test::Fail;

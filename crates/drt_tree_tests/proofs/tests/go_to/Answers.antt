@@ -2,7 +2,7 @@ use Rattle.std.proofs.Common.{◌≡◌, ◌<◌, ◌≤◌, length, refl, sym, 
 use Rattle.std.proofs.lemmas.Option.{slice_get_read}
 use Rattle.drt_request.specs.Request.{Request}
 use Rattle.drt_tree.proofs.Labels.{goes_more, go_one_bound}
-use Rattle.drt_tree.proofs.tests.go_to.Goals as goal
+use Rattle.drt_tree_tests.proofs.tests.go_to.Goals as goal
 
 pub loop-i-preserved : goal.loop-i-preserved
 loop-i-preserved c =

@@ -1,5 +1,5 @@
 use Rattle.std.proofs.Common.{◌≡◌, length, refl, ap, ◌∙◌, arith, eq-eqb}
-use Rattle.drt_request.proofs.tests.is_better.Goals as goal
+use Rattle.drt_tree_tests.proofs.request_tests.is_better.Goals as goal
 
 pub dominates-requires : goal.dominates-requires
 dominates-requires c =

@@ -1,7 +1,7 @@
 use Rattle.std.proofs.Common.{◌≡◌, ℕ, true, List, sym, subst, rules}
 use Rattle.drt_tree.specs.Leaf.{leaves_of}
 use Rattle.drt_tree.specs.Tree.{HaveOneBound}
-use Rattle.drt_tree.proofs.tests.tree.Goals as goal
+use Rattle.drt_tree_tests.proofs.tests.tree.Goals as goal
 
 pub add-requires-clause-bound : goal.add-requires-clause-bound
 add-requires-clause-bound g c =
