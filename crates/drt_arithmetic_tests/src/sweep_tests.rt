@@ -1,7 +1,7 @@
 ghost use Rattle.std.specs.Prelude.{IfOk};
 ghost use Rattle.drt_sweep.specs.DueWorks.{AreOfTasks};
 
-use super::{DueWork, first_excess};
+use drt_sweep::{DueWork, first_excess};
 use std::alloc::Global;
 use std::test::Fail;
 

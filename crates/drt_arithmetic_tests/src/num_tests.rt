@@ -1,4 +1,4 @@
-use super::{Ratio, gcd, lcm_within};
+use drt_num::{Ratio, gcd, lcm_within};
 use std::cmp::Ordering;
 
 #[test]

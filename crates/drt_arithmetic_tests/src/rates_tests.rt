@@ -1,6 +1,6 @@
 ghost use Rattle.std.specs.Prelude.{◌≡◌, ◌≤◌};
 
-use super::{Rated, rate, scale};
+use drt_rates::{Rated, rate, scale};
 
 // A ratio alone.
 #[derive(Drop)]
