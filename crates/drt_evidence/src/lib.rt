@@ -17,8 +17,6 @@ mod lines;
 mod printing;
 mod reading;
 mod rule;
-#[cfg(test)]
-mod tests;
 
 pub use drt_model::FrontEntry;
 pub use evidence::{Dossier, Evidence, Item, Pair, ProofClaim, RatioClaim, TreeClaim};

@@ -3,3 +3,11 @@
 
 #[cfg(test)]
 mod dossier_tests;
+#[cfg(test)]
+mod line_tests;
+#[cfg(test)]
+mod same;
+#[cfg(test)]
+mod text_tests;
+#[cfg(test)]
+mod texts;

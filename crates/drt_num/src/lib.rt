@@ -7,8 +7,6 @@
 
 mod multiples;
 mod ratio;
-#[cfg(test)]
-mod tests;
 
 pub use multiples::{gcd, lcm_within};
 pub use ratio::Ratio;

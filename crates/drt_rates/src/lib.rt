@@ -9,8 +9,6 @@ mod horizons;
 mod rated;
 mod scales;
 mod scanning;
-#[cfg(test)]
-mod tests;
 
 pub use horizons::horizon;
 pub use rated::Rated;

@@ -5,7 +5,5 @@
 #![tactic(auto)]
 
 mod label;
-#[cfg(test)]
-mod tests;
 
 pub use label::{RequestLabel, labels_of_walks};

@@ -8,8 +8,6 @@ mod jump;
 mod level;
 mod merge;
 mod steps;
-#[cfg(test)]
-mod tests;
 mod time;
 
 pub use steps::Steps;

@@ -8,8 +8,6 @@
 
 mod due_work;
 mod sweeping;
-#[cfg(test)]
-mod tests;
 
 pub use due_work::DueWork;
 pub use sweeping::first_excess;

@@ -13,6 +13,3 @@ pub use forest::Forest;
 pub use laws::every_forest;
 pub use leaf::Leaf;
 pub use node::Node;
-
-#[cfg(test)]
-mod tests;

@@ -10,8 +10,6 @@ mod command_line;
 pub mod meaning;
 mod number;
 pub mod search;
-#[cfg(test)]
-mod tests;
 pub mod word_laws;
 pub mod words;
 pub mod workers;

@@ -1,0 +1,94 @@
+use drt_words::{Meaning, WordsError, words_of};
+use std::alloc::Global;
+use std::test::Fail;
+
+// Whether these words mean `edf` with so many steps.
+fn means_edf(alloc: Global, words: &[&str], budget: u32) -> bool {
+    match words_of(alloc, words) {
+        Ok(Meaning::Edf { search }) => search.budget() == budget,
+        _ => false,
+    }
+}
+
+// Whether these words mean `response` with so many workers and so many steps.
+fn means_response(alloc: Global, words: &[&str], workers: u32, budget: u32) -> bool {
+    match words_of(alloc, words) {
+        Ok(Meaning::Response { search }) => {
+            search.workers() == workers && search.budget() == budget
+        }
+        _ => false,
+    }
+}
+
+// Whether these words mean `bench` with so many workers and this number.
+fn means_bench(alloc: Global, words: &[&str], count: u32, wanted: u64) -> bool {
+    match words_of(alloc, words) {
+        Ok(Meaning::Bench { workers, number }) => workers.count() == count && number == wanted,
+        _ => false,
+    }
+}
+
+// Whether these words are refused.
+fn are_refused(alloc: Global, words: &[&str]) -> bool {
+    matches!(words_of(alloc, words), Err(WordsError::Refused))
+}
+
+#[test]
+fn words_of_edf_mean_its_budget(rt: HostRuntime) -> Result<(), Fail> {
+    let cases = [
+        (["drt", "edf", "--budget=7"], 7),
+        (["drt", "edf", "--workers=16"], 100_000),
+        (["drt", "edf", "--budget=1000000"], 1_000_000),
+    ];
+    for (words, budget) in cases {
+        assert!(rt; means_edf(rt.alloc(), words.as_slice(), budget), "{budget}");
+    }
+    Ok(())
+}
+
+#[test]
+fn words_of_bench_mean_its_number(rt: HostRuntime) -> Result<(), Fail> {
+    let cases = [
+        (["drt", "bench", "--workers=16", "0"], 16, 0),
+        (
+            ["drt", "bench", "--workers=1", "18446744073709551615"],
+            1,
+            u64::MAX,
+        ),
+        (["drt", "bench", "7", "--workers=2"], 2, 7),
+    ];
+    for (words, count, number) in cases {
+        assert!(rt;
+            means_bench(rt.alloc(), words.as_slice(), count, number),
+            "{number}"
+        );
+    }
+    assert!(rt; means_bench(rt.alloc(), ["drt", "bench", "1"].as_slice(), 4, 1));
+    Ok(())
+}
+
+#[test]
+fn words_of_response_mean_its_workers_and_budget(rt: HostRuntime) -> Result<(), Fail> {
+    let words = ["drt", "response", "--workers", "2", "--budget", "7"];
+    assert!(rt; means_response(rt.alloc(), words.as_slice(), 2, 7));
+    Ok(())
+}
+
+#[test]
+fn words_out_of_range_are_refused(rt: HostRuntime) -> Result<(), Fail> {
+    let cases = [
+        ["drt", "sp", "--workers=0"],
+        ["drt", "sp", "--workers=17"],
+        ["drt", "sp", "--budget=1000001"],
+        ["drt", "edf", "--workers=-1"],
+        ["drt", "response", "--budget=0"],
+        ["drt", "upgrade", "--workers=2"],
+        ["drt", "help", "sp"],
+        ["drt", "bench", "18446744073709551616"],
+        ["drt", "bench", "--workers=2"],
+    ];
+    for words in cases {
+        assert!(rt; are_refused(rt.alloc(), words.as_slice()), "{words:?}");
+    }
+    Ok(())
+}
