@@ -8,8 +8,6 @@ mod forms;
 pub(crate) mod line_forms;
 pub(crate) mod list_lines;
 mod sets;
-#[cfg(test)]
-mod tests;
 pub(crate) mod text;
 
 pub use dossiers::read;
