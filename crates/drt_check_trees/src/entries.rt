@@ -49,8 +49,8 @@ fn order_of(entry: &Entry) -> u128
         + entry.digest as u128
 }
 
-/// Entries of walks that dominate all walks, in order. Walks of the same releases have one entry together, and a walk that the one
-/// before it in this order dominates has none.
+/// Entries of walks that dominate all walks, in order. A walk has none where the walk kept before it dominates it: so of walks of the
+/// same releases, which stand together by their digests, one is looked at and not all.
 pub(crate) fn entries_of(
     alloc: Global,
     graph: &Graph,
@@ -221,9 +221,9 @@ fn is_no_less(
     asks_no_less(graph, gaps, bound, walks[entry.number].as_slice(), other)
 }
 
-/// Whether a walk dominates this one, of this extent. It first tries the entry that dominated the last walk with this last vertex:
-/// walks that come one after another are often alike. Then, of those with its last vertex and at least its work, it looks at those
-/// with the least work first: where the walk itself is among them, it is found at once.
+/// Whether a walk dominates this one, of this extent. It first tries the entry that was found for the last walk to the same vertex,
+/// by the hint at that vertex: extensions that come one after another are often alike. Then, of those with its last vertex and at
+/// least its work, it looks at those with the least work first: where the walk itself is among them, it is found at once.
 pub(crate) fn has_above(
     graph: &Graph,
     gaps: &[u32],
