@@ -147,7 +147,7 @@ fn is_covering(alloc: Global, more: &[&[u32]], wanted: bool) -> Result<bool, Fai
 }
 
 #[test]
-fn of_walks_that_are_alike_one_is_enough_and_others_are_none_of_them(
+fn one_of_walks_that_are_alike_is_enough_and_each_that_crosses_is_needed(
     rt: HostRuntime,
 ) -> Result<(), Fail> {
     let (pmc, pmcc): (&[u32], &[u32]) = (&[0, 2, 4], &[0, 2, 4, 4]);
