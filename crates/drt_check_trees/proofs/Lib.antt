@@ -6,5 +6,7 @@ mod Shorts
 mod Asks
 mod Looks
 mod Ranks
+mod Domination
+mod Thinning
 mod Extending
 mod Rows

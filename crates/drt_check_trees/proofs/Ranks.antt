@@ -12,10 +12,11 @@ use Rattle.drt_graph.proofs.Edges.{target_of}
 use Rattle.drt_graph.proofs.Paths.{path_within, span_cons, work_cons, work_none}
 use Rattle.drt_evidence.specs.Trees.{IsShortWalk}
 use Rattle.drt_check_trees.specs.Asking.{AsksNoLess, IsWithin, asked_from, span_of}
-use Rattle.drt_check_trees.specs.Entries.{AreEntries, IsEntryOf, IsListed, IsOver, last_in, rank_of}
+use Rattle.drt_check_trees.specs.Entries.{AreEntries, IsEntryOf, IsListed, IsOver, last_in, order_of, rank_of}
 use Rattle.drt_check_trees.specs.Gaps.{gap_to}
 use Rattle.drt_check_trees.specs.declared.entries.Entry.{Entry}
 use Rattle.drt_check_trees.proofs.Asks.{asks_more, span_more}
+use Rattle.drt_check_trees.proofs.Domination.{over_self, over_trans}
 
 -- The last vertex of a list that isn't empty.
 at_last : (v : ℕ) (vs : List ℕ) → get_or (v ∷ vs) (length vs) 0 ≡ last_of v vs
@@ -75,6 +76,10 @@ module _ (bound : ℕ) (g : Digraph) where
   short_work [] is = absurd is
   short_work (u ∷ vs) is = (omega (arith, is.2), asks_all g (u ∷ vs) 0 bound (omega (arith, is.2)))
 
+  pub short_span : (walk : List ℕ) → IsShortWalk bound g walk → span_of g walk < bound
+  short_span [] is = absurd is
+  short_span (u ∷ vs) is = is.2
+
   pub over_of : (walk x : List ℕ) → IsShortWalk bound g walk → IsShortWalk bound g x → last_in x ≡ last_in walk → span_of g x ≤ span_of g walk → AsksNoLess bound g walk x
       → IsOver bound g walk x
   over_of [] x is is_x e l asks = is
@@ -117,6 +122,14 @@ short_small g sound bound walk b is =
     let c = w.few in
     omega (arith, a, c)
 
+-- A walk that dominates is that of an entry.
+pub entry_any : (bound : ℕ) (g : Digraph) (walks : List (List ℕ)) (walk : List ℕ) (entries : List Entry) → AreEntries bound g walks entries → (k : ℕ) (d : Entry) → k < length entries
+    → IsOver bound g walk (get_or walks (get_or entries k d).number []) → Any (IsOver bound g walk) walks
+entry_any bound g walks walk entries are k d l over =
+    let n : ℕ = (get_or entries k d).number in
+    let m = (are.each k d l).number in
+    (n, get_or walks (get_or entries k d).number [], m, get_or_default walks n (get_or walks (get_or entries k d).number []) [] m, over)
+
 -- The walk of an entry that spans no more and asks for no less dominates, where its rank is that of a walk with the same last vertex.
 module _ (bound : ℕ) (g : Digraph) (walks : List (List ℕ)) (short : All (IsShortWalk bound g) walks) (walk : List ℕ) (is : IsShortWalk bound g walk) where
   pub entry_short : (e : Entry) → IsEntryOf g walks e → IsShortWalk bound g (get_or walks e.number [])
@@ -144,14 +157,13 @@ module _ (bound : ℕ) (g : Digraph) (walks : List (List ℕ)) (short : All (IsS
     pub from : 1099511627776 * last_in walk ≤ entry.rank
     pub to : entry.rank ≤ rank_of (last_in walk) (work g walk)
 
-  pub over_entry : (entries : List Entry) → AreEntries g walks entries → Any (IsOver bound g walk) walks → HasOver entries
+  pub over_entry : (entries : List Entry) → AreEntries bound g walks entries → Any (IsOver bound g walk) walks → HasOver entries
   over_entry entries are (n, x, l, at, over) =
-      let found = are.every n l in
+      let found = are.every n x l in
       let e : Entry = found.1 in
-      let number : e.number ≡ n = found.4 in
       let of : IsEntryOf g walks e = subst (IsEntryOf g walks) found.3 (are.each found.0 e found.2) in
-      let same : get_or walks e.number [] ≡ x = ap (λ k. get_or walks k []) number ∙ (get_or_default walks n [] x l ∙ at) in
-      let over' : IsOver bound g walk (get_or walks e.number []) = subst (IsOver bound g walk) (sym same) over in
+      let over' : IsOver bound g walk (get_or walks e.number []) = over_trans g bound walk x (get_or walks e.number []) over
+      (subst (λ w. IsOver bound g w (get_or walks e.number [])) at found.4) in
       let more = over_work bound g walk (get_or walks e.number []) is (entry_short e of) over' in
       let ranks = rank_in (last_in walk) (work g walk) (last_in (get_or walks e.number [])) (work g (get_or walks e.number [])) (over_parts bound g walk (get_or walks e.number []) over').0 more in
       record {
@@ -164,16 +176,28 @@ module _ (bound : ℕ) (g : Digraph) (walks : List (List ℕ)) (short : All (IsS
         to = omega (arith, ranks.1, of.rank);
       }
 
+-- In order, entries are in order of rank.
+by_rank : (low high : Entry) → low.span < 4294967296 → low.digest < 4294967296 → high.span < 4294967296 → high.digest < 4294967296 → order_of low ≤ order_of high → low.rank ≤ high.rank
+by_rank low high a b c d le = omega arith
+
 -- Entries at their numbers, put in order.
-pub entries_sorted : (g : Digraph) (walks : List (List ℕ)) (listed entries : List Entry) → IsListed g walks listed (length walks) → IsPermutation listed entries
-    → IsNonDecreasingBy (λ e. e.rank) entries → AreEntries g walks entries
-entries_sorted g walks listed entries is permutation sorted = record {
-  each = All-permutation (IsEntryOf g walks) listed entries permutation (λ k d l. (is.each k d (omega (arith, l, is.long))).0);
-  every = λ n l.
-      let d : Entry = record { rank = 0; number = 0; span = 0 } in
-      let e : Entry = get_or listed n d in
-      let m : n < length listed = omega (arith, l, is.long) in
-      let at = Contains-permutation listed entries e permutation (n, m, get_or_default listed n e d m) in
-      (at.0, e, at.1, at.2, (is.each n d l).1);
-  sorted = sorted;
-}
+pub entries_sorted : (bound : ℕ) (g : Digraph) (walks : List (List ℕ)) (listed entries : List Entry) → bound ≤ 1000000 → All (IsShortWalk bound g) walks
+    → IsListed g walks listed (length walks) → IsPermutation listed entries → IsNonDecreasingBy order_of entries → AreEntries bound g walks entries
+entries_sorted bound g walks listed entries b short is permutation sorted =
+    let each : All (IsEntryOf g walks) entries = All-permutation (IsEntryOf g walks) listed entries permutation (λ k d l. (is.each k d (omega (arith, l, is.long))).0) in
+    let small : (k : ℕ) (d : Entry) → k < length entries → (get_or entries k d).span < 4294967296
+    = (λ k d l. (let of = each k d l in let s = short_span bound g (get_or walks (get_or entries k d).number []) (short (get_or entries k d).number [] of.number) in omega (arith, s, of.span, b))) in
+    record {
+      each = each;
+      every = λ n x l.
+          let d : Entry = record { rank = 0; number = 0; span = 0; digest = 0 } in
+          let e : Entry = get_or listed n d in
+          let m : n < length listed = omega (arith, l, is.long) in
+          let at = Contains-permutation listed entries e permutation (n, m, get_or_default listed n e d m) in
+          let number : e.number ≡ n = (is.each n d l).1 in
+          let same : get_or walks n x ≡ get_or walks e.number [] = get_or_default walks n x [] l ∙ ap (λ k. get_or walks k []) (sym number) in
+          (at.0, e, at.1, at.2, subst (λ w. IsOver bound g (get_or walks n x) w) same (over_self g bound (get_or walks n x) (short n x l)));
+      sorted = λ j k d l m.
+          let o : j < length entries = omega arith in
+          by_rank (get_or entries j d) (get_or entries k d) (small j d o) (each j d o).digest (small k d m) (each k d m).digest (sorted j k d l m);
+    }

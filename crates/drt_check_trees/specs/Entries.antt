@@ -17,22 +17,27 @@ last_in (u ∷ vs) = last_of u vs
 abbrev pub rank_of : ℕ → ℕ → ℕ
 rank_of last work = 1099511627776 * last + (1099511627775 - work)
 
--- The entry has the number of a walk, and that walk's rank and span.
+-- Where an entry stands among others: by rank, then by span, then by digest.
+abbrev pub order_of : Entry → ℕ
+order_of e = 18446744073709551616 * e.rank + 4294967296 * e.span + e.digest
+
+-- The entry has the number of a walk, and that walk's rank and span. Its digest may be any number of 32 bits.
 pub record IsEntryOf (g : Digraph) (walks : List (List ℕ)) (e : Entry) : Type 0 where
   pub number : e.number < length walks
   pub rank : e.rank ≡ rank_of (last_in (slice_index_or walks e.number [])) (work g (slice_index_or walks e.number []))
   pub span : e.span ≡ span_of g (slice_index_or walks e.number [])
-
--- There is an entry for each walk, and they are in order.
-pub record AreEntries (g : Digraph) (walks : List (List ℕ)) (entries : List Entry) : Type 0 where
-  pub each : All (IsEntryOf g walks) entries
-  pub every : (n : ℕ) → n < length walks → Any (λ e. e.number ≡ n) entries
-  pub sorted : IsNonDecreasingBy (λ e. e.rank) entries
+  pub digest : e.digest < 4294967296
 
 -- The second walk dominates the first.
 abbrev pub IsOver : ℕ → Digraph → List ℕ → List ℕ → Type 0
 IsOver bound g [] walk = ⊥
 IsOver bound g (u ∷ vs) walk = IsAbove bound g u vs walk
+
+-- The entries are of walks and in order, and each walk is dominated by that of an entry.
+pub record AreEntries (bound : ℕ) (g : Digraph) (walks : List (List ℕ)) (entries : List Entry) : Type 0 where
+  pub each : All (IsEntryOf g walks) entries
+  pub every : All (λ walk. Any (λ e. IsOver bound g walk (slice_index_or walks e.number [])) entries) walks
+  pub sorted : IsNonDecreasingBy (λ e. e.rank) entries
 
 -- There is an entry for each of the first walks, at their numbers.
 pub record IsListed (g : Digraph) (walks : List (List ℕ)) (entries : List Entry) (n : ℕ) : Type 0 where

@@ -55,7 +55,15 @@ fn covers(alloc: Global, graph: &Graph, bound: u32, tree: &TreeClaim) -> Result<
     let walks = tree.walks.as_slice();
     let gaps = gaps_of(alloc, graph)?;
     let entries = entries_of(alloc, graph, gaps.as_slice(), bound, walks)?;
-    if !has_openings(graph, gaps.as_slice(), bound, tree, entries.as_slice()) {
+    let mut hints = [0; 96];
+    if !has_openings(
+        graph,
+        gaps.as_slice(),
+        bound,
+        tree,
+        entries.as_slice(),
+        &mut hints,
+    ) {
         return Ok(false);
     }
     are_closed(
@@ -65,6 +73,7 @@ fn covers(alloc: Global, graph: &Graph, bound: u32, tree: &TreeClaim) -> Result<
         bound,
         tree,
         entries.as_slice(),
+        &mut hints,
     )
 }
 
@@ -75,12 +84,13 @@ fn has_openings(
     bound: u32,
     tree: &TreeClaim,
     entries: &[Entry],
+    hints: &mut [usize; 96],
 ) -> bool
     requires gaps { AreGaps graph.now gaps.now }
     requires from { 1 ≤ bound }
     requires to { bound ≤ 1000000 }
     requires short { HasShortWalks bound graph.now tree.now }
-    requires entries { AreEntries graph.now tree.now.walks entries.now }
+    requires entries { AreEntries bound graph.now tree.now.walks entries.now }
     ensures { IsTrue result ↔ HasOpeningWalks bound graph.now tree.now }
 {
     for v in 0..graph.vertex_count() {
@@ -95,6 +105,7 @@ fn has_openings(
             bound,
             tree.walks.as_slice(),
             entries,
+            hints,
             &opening,
             extent,
         ) {
@@ -104,7 +115,8 @@ fn has_openings(
     true
 }
 
-// Whether each walk's extensions are dominated, or span as much as the bound.
+// Whether each walk's extensions are dominated, or span as much as the bound. It looks at the walks of entries alone: the extensions
+// of a walk that another one dominates are dominated by those of the other one.
 fn are_closed(
     alloc: Global,
     graph: &Graph,
@@ -112,15 +124,16 @@ fn are_closed(
     bound: u32,
     tree: &TreeClaim,
     entries: &[Entry],
+    hints: &mut [usize; 96],
 ) -> Result<bool, Memory>
     requires gaps { AreGaps graph.now gaps.now }
     requires bound { bound ≤ 1000000 }
     requires short { HasShortWalks bound graph.now tree.now }
-    requires entries { AreEntries graph.now tree.now.walks entries.now }
+    requires entries { AreEntries bound graph.now tree.now.walks entries.now }
     ensures { IfOk result (λ closed. IsTrue closed ↔ All (IsClosedWalk bound graph.now tree.now) tree.now.walks) }
 {
     let walks = tree.walks.as_slice();
-    for i in 0..walks.len() {
+    for i in 0..entries.len() {
         if !is_closed(
             alloc,
             graph,
@@ -128,7 +141,8 @@ fn are_closed(
             bound,
             tree,
             entries,
-            walks[i].as_slice(),
+            hints,
+            walks[entries[i].number].as_slice(),
         )? {
             return Ok(false);
         }
@@ -144,12 +158,13 @@ fn is_closed(
     bound: u32,
     tree: &TreeClaim,
     entries: &[Entry],
+    hints: &mut [usize; 96],
     walk: &[u32],
 ) -> Result<bool, Memory>
     requires gaps { AreGaps graph.now gaps.now }
     requires bound { bound ≤ 1000000 }
     requires short { HasShortWalks bound graph.now tree.now }
-    requires entries { AreEntries graph.now tree.now.walks entries.now }
+    requires entries { AreEntries bound graph.now tree.now.walks entries.now }
     requires walk { IsShortWalk bound graph.now walk.now }
     ensures { IfOk result (λ closed. IsTrue closed ↔ IsClosedWalk bound graph.now tree.now walk.now) }
 {
@@ -157,7 +172,9 @@ fn is_closed(
     let last = last_in(walk);
     let extent = measure(graph, gaps, walk);
     for k in 0..graph.out_degree(last) {
-        if !is_extended(alloc, graph, gaps, bound, tree, entries, walk, extent, k)? {
+        if !is_extended(
+            alloc, graph, gaps, bound, tree, entries, hints, walk, extent, k,
+        )? {
             return Ok(false);
         }
     }
@@ -172,6 +189,7 @@ fn is_extended(
     bound: u32,
     tree: &TreeClaim,
     entries: &[Entry],
+    hints: &mut [usize; 96],
     walk: &[u32],
     extent: Extent,
     k: u32,
@@ -179,7 +197,7 @@ fn is_extended(
     requires gaps { AreGaps graph.now gaps.now }
     requires bound { bound ≤ 1000000 }
     requires short { HasShortWalks bound graph.now tree.now }
-    requires entries { AreEntries graph.now tree.now.walks entries.now }
+    requires entries { AreEntries bound graph.now tree.now.walks entries.now }
     requires walk { IsShortWalk bound graph.now walk.now }
     requires span { extent.span ≡ span_of graph.now walk.now }
     requires work { extent.work ≡ work graph.now walk.now }
@@ -200,6 +218,7 @@ fn is_extended(
         bound,
         tree.walks.as_slice(),
         entries,
+        hints,
         longer.as_slice(),
         Extent { span, work },
     ))

@@ -1,24 +1,26 @@
-//! The walks of a tree in order, and the search for one that dominates a given walk.
+//! Walks of a tree in order, as many as dominate all of its walks, and the search for one that dominates a given walk.
 ghost use Rattle.std.specs.Prelude.{◌≡◌, ℕ, ◌↔◌, ◌<◌, ◌≤◌, [], All, Any, IfOk, IsTrue, length, slice_index_or};
 ghost use Rattle.std.specs.List.Sorted.{IsNonDecreasingBy};
 ghost use Rattle.drt_model.specs.Walk.{work};
 ghost use Rattle.drt_evidence.specs.Trees.{IsShortWalk};
-ghost use Rattle.drt_check_trees.specs.Asking.{AsksNoLess, span_of};
-ghost use Rattle.drt_check_trees.specs.Entries.{AreEntries, IsEntryOf, IsListed, IsOver, last_in, rank_of};
+ghost use Rattle.drt_check_trees.specs.Asking.{AsksNoLess, IsWithin, span_of};
+ghost use Rattle.drt_check_trees.specs.Entries.{AreEntries, IsEntryOf, IsListed, IsOver, last_in, order_of, rank_of};
 ghost use Rattle.drt_check_trees.specs.Gaps.{AreGaps};
 ghost use Rattle.drt_check_trees.specs.declared.entries.Entry.{Entry};
 
 use crate::asking::{Extent, asks_no_less, measure};
+use crate::gaps::next_offset;
 use drt_graph::Graph;
 use drt_model::{Memory, Row};
 use std::alloc::Global;
 
-/// A walk by its number, with its span and its rank, by which walks are looked at.
+/// A walk by its number, with its span and its rank, by which walks are looked at, and a digest of its releases.
 #[derive(Clone, Copy)]
 pub struct Entry {
     pub rank: u64,
     pub number: usize,
-    pub span: u64,
+    pub span: u32,
+    pub digest: u32,
 }
 
 // The rank of a walk of this last vertex and work.
@@ -38,7 +40,17 @@ pub(crate) fn last_in(walk: &[u32]) -> u32
     walk[walk.len() - 1]
 }
 
-/// An entry for each walk, in order.
+// Where an entry stands among others: by rank, then by span, and then by digest, so that walks of the same releases stand together.
+fn order_of(entry: &Entry) -> u128
+    ensures { result ≡ order_of entry.now }
+{
+    18446744073709551616 * entry.rank as u128
+        + 4294967296 * entry.span as u128
+        + entry.digest as u128
+}
+
+/// Entries of walks that dominate all walks, in order. A walk has none where the walk kept before it dominates it: so of walks of the
+/// same releases, which stand together by their digests, one is looked at and not all.
 pub(crate) fn entries_of(
     alloc: Global,
     graph: &Graph,
@@ -49,15 +61,68 @@ pub(crate) fn entries_of(
     requires gaps { AreGaps graph.now gaps.now }
     requires bound { bound ≤ 1000000 }
     requires short { All (IsShortWalk bound graph.now) walks.now }
-    ensures { IfOk result (λ entries. AreEntries graph.now walks.now entries.items) }
+    ensures { IfOk result (λ entries. AreEntries bound graph.now walks.now entries.items) }
 {
     let mut entries = listed(alloc, graph, gaps, bound, walks)?;
     entries.sort_unstable_by_key(
-        |entry: &Entry| -> u64
-            ensures { result ≡ entry.now.rank }
-        { entry.rank },
+        |entry: &Entry| -> u128
+            ensures { result ≡ order_of entry.now }
+        { order_of(entry) },
     );
-    Ok(entries)
+    Ok(thinned(graph, gaps, bound, walks, entries))
+}
+
+// The entries without those whose walk the one kept before it dominates.
+fn thinned(
+    graph: &Graph,
+    gaps: &[u32],
+    bound: u32,
+    walks: &[Row<u32>],
+    all: Vec<Entry>,
+) -> Vec<Entry>
+    requires gaps { AreGaps graph.now gaps.now }
+    requires bound { bound ≤ 1000000 }
+    requires short { All (IsShortWalk bound graph.now) walks.now }
+    requires all { AreEntries bound graph.now walks.now all.items }
+    ensures { AreEntries bound graph.now walks.now result.items }
+{
+    let mut entries = all;
+    let mut kept = 1;
+    for i in 1..entries.len() {
+        let entry = entries[i];
+        let walk = walks[entry.number].as_slice();
+        let last = entries[kept - 1];
+        if !is_over(graph, gaps, bound, walks, last, walk, entry.span as u64) {
+            entries[kept] = entry;
+            kept += 1;
+        }
+    }
+    entries.truncate(kept);
+    entries
+}
+
+// Whether the walk of the entry dominates this one, of this span.
+fn is_over(
+    graph: &Graph,
+    gaps: &[u32],
+    bound: u32,
+    walks: &[Row<u32>],
+    entry: Entry,
+    walk: &[u32],
+    span: u64,
+) -> bool
+    requires gaps { AreGaps graph.now gaps.now }
+    requires bound { bound ≤ 1000000 }
+    requires short { All (IsShortWalk bound graph.now) walks.now }
+    requires entry { IsEntryOf graph.now walks.now entry }
+    requires walk { IsShortWalk bound graph.now walk.now }
+    requires span { span ≡ span_of graph.now walk.now }
+    ensures { IsTrue result ↔ IsOver bound graph.now walk.now (slice_index_or walks.now entry.number []) }
+{
+    if last_in(walks[entry.number].as_slice()) != last_in(walk) {
+        return false;
+    }
+    is_no_less(graph, gaps, bound, walks, entry, walk, span)
 }
 
 // An entry for each walk, by their numbers.
@@ -88,14 +153,38 @@ fn entry_of(graph: &Graph, gaps: &[u32], bound: u32, walk: &[u32], number: usize
     ensures number { result.number ≡ number }
     ensures rank { result.rank ≡ rank_of (last_in walk.now) (work graph.now walk.now) }
     ensures span { result.span ≡ span_of graph.now walk.now }
+    ensures digest { result.digest < 4294967296 }
 {
     let _count = graph.vertex_count();
     let extent = measure(graph, gaps, walk);
     Entry {
         rank: rank_of(last_in(walk), extent.work),
         number,
-        span: extent.span,
+        span: extent.span as u32,
+        digest: digest_of(graph, gaps, walk),
     }
+}
+
+// A number that walks of the same releases share, and that few others share with them.
+fn digest_of(graph: &Graph, gaps: &[u32], walk: &[u32]) -> u32
+    requires gaps { AreGaps graph.now gaps.now }
+    requires within { IsWithin graph.now walk.now }
+    ensures { result < 4294967296 }
+{
+    let _count = graph.vertex_count();
+    let mut digest = 2166136261;
+    for i in 0..walk.len() {
+        let gap = next_offset(graph, gaps, walk, i, 0) as u32;
+        digest = mixed(mixed(digest, graph.vertex(walk[i]).wcet), gap);
+    }
+    digest
+}
+
+// The digest with one more number mixed in (FNV-1a, by words).
+fn mixed(digest: u32, value: u32) -> u32
+    ensures { result < 4294967296 }
+{
+    (digest ^ value).wrapping_mul(16777619)
 }
 
 // How many entries stand before the first of this rank or a later one.
@@ -126,27 +215,29 @@ fn is_no_less(
     ensures { IsTrue result ↔ (entry.span ≤ span) × AsksNoLess bound graph.now other.now (slice_index_or walks.now entry.number []) }
 {
     let _count = graph.vertex_count();
-    if entry.span > span {
+    if entry.span as u64 > span {
         return false;
     }
     asks_no_less(graph, gaps, bound, walks[entry.number].as_slice(), other)
 }
 
-/// Whether a walk dominates this one, of this extent. Of those with its last vertex and at least its work it looks at those with the
-/// least work first: where the walk itself is among them, it is found at once.
+/// Whether a walk dominates this one, of this extent. It first tries the entry that was found for the last walk to the same vertex,
+/// by the hint at that vertex: extensions that come one after another are often alike. Then, of those with its last vertex and at
+/// least its work, it looks at those with the least work first: where the walk itself is among them, it is found at once.
 pub(crate) fn has_above(
     graph: &Graph,
     gaps: &[u32],
     bound: u32,
     walks: &[Row<u32>],
     entries: &[Entry],
+    hints: &mut [usize; 96],
     walk: &[u32],
     extent: Extent,
 ) -> bool
     requires gaps { AreGaps graph.now gaps.now }
     requires bound { bound ≤ 1000000 }
     requires short { All (IsShortWalk bound graph.now) walks.now }
-    requires entries { AreEntries graph.now walks.now entries.now }
+    requires entries { AreEntries bound graph.now walks.now entries.now }
     requires walk { IsShortWalk bound graph.now walk.now }
     requires span { extent.span ≡ span_of graph.now walk.now }
     requires work { extent.work ≡ work graph.now walk.now }
@@ -155,10 +246,18 @@ pub(crate) fn has_above(
     let _count = graph.vertex_count();
     let last = last_in(walk);
     let from = first_from(entries, 1099511627776 * last as u64);
-    let mut k = first_from(entries, rank_of(last, extent.work) + 1);
+    let to = first_from(entries, rank_of(last, extent.work) + 1);
+    let hint = hints[last as usize];
+    if hint < entries.len() {
+        if is_over(graph, gaps, bound, walks, entries[hint], walk, extent.span) {
+            return true;
+        }
+    }
+    let mut k = to;
     while k > from {
         k -= 1;
         if is_no_less(graph, gaps, bound, walks, entries[k], walk, extent.span) {
+            hints[last as usize] = k;
             return true;
         }
     }

@@ -61,9 +61,14 @@ fn broken(alloc: Global, set: &TaskSet, trees: &[TreeClaim]) -> Result<Option<u8
     Ok(None)
 }
 
-// Whether that is the least number of a rule of 16 to 18 that the trees of the worked set break.
-fn is_broken(alloc: Global, given: &[Given<'_>], wanted: Option<u8>) -> Result<bool, Fail> {
-    let set = make_set(alloc, &SHAPES)?.ok_or("within the limits")?;
+// Whether that is the least number of a rule of 16 to 18 that the trees of the set break.
+fn is_broken(
+    alloc: Global,
+    shapes: &[Shape<'_>],
+    given: &[Given<'_>],
+    wanted: Option<u8>,
+) -> Result<bool, Fail> {
+    let set = make_set(alloc, shapes)?.ok_or("within the limits")?;
     let trees = trees(alloc, given)?;
     Ok(broken(alloc, &set, trees.as_slice())? == wanted)
 }
@@ -85,7 +90,10 @@ fn the_least_rule_that_trees_break_is_told(rt: HostRuntime) -> Result<(), Fail> 
         (&[(&[&[1], &[1, 1], &[1, 1]], pairs)], Some(18)),
     ];
     for (given, wanted) in cases {
-        assert!(rt; is_broken(rt.alloc(), given, wanted)?, "of {wanted:?}");
+        assert!(rt;
+            is_broken(rt.alloc(), &SHAPES, given, wanted)?,
+            "of {wanted:?}"
+        );
     }
     Ok(())
 }
@@ -94,7 +102,113 @@ fn the_least_rule_that_trees_break_is_told(rt: HostRuntime) -> Result<(), Fail> 
 #[test]
 fn a_walk_that_spans_the_greatest_deadline_is_not_short(rt: HostRuntime) -> Result<(), Fail> {
     let alloc = rt.alloc();
-    assert!(rt; is_broken(alloc, &[(&[&[1], &[0], &[1, 1, 1]], &[])], Some(17))?);
+    assert!(rt;
+        is_broken(
+            alloc,
+            &SHAPES,
+            &[(&[&[1], &[0], &[1, 1, 1]], &[])],
+            Some(17)
+        )?
+    );
+    Ok(())
+}
+
+// Jobs p, q, m, n and c with the edges p-m 1, m-c 2, q-n 2, n-c 1 and c-c 1, and a job of two every ten. The greatest deadline is 5.
+// At 1 to 5 the walk pmc asks for 1 3 3 4 4, and qnc for 2 2 3 4 4, as mcc does; they end at c, span 3 and have 4 ticks of work.
+const CROSSING: [Shape<'static>; 2] = [
+    (
+        &[(1, 1), (2, 1), (2, 1), (1, 1), (1, 1)],
+        &[(0, 2, 1), (2, 4, 2), (1, 3, 2), (3, 4, 1), (4, 4, 1)],
+    ),
+    (&[(2, 5)], &[(0, 0, 10)]),
+];
+
+// The walks of one and of two vertices that nothing else dominates: p q m n c pm qn mc nc.
+type Start = [&'static [u32]; 9];
+
+const START: Start = [
+    &[0],
+    &[1],
+    &[2],
+    &[3],
+    &[4],
+    &[0, 2],
+    &[1, 3],
+    &[2, 4],
+    &[3, 4],
+];
+
+// Whether a tree of those walks and these keeps rule 18.
+fn is_covering(alloc: Global, more: &[&[u32]], wanted: bool) -> Result<bool, Fail> {
+    let mut walks = Vec::from_slice(alloc, &START)?;
+    walks.extend_from_slice(more)?;
+    let broken = if wanted { None } else { Some(18) };
+    is_broken(alloc, &CROSSING, &[(walks.as_slice(), &[])], broken)
+}
+
+#[test]
+fn one_of_walks_that_are_alike_is_enough_and_each_that_crosses_is_needed(
+    rt: HostRuntime,
+) -> Result<(), Fail> {
+    let (pmc, pmcc): (&[u32], &[u32]) = (&[0, 2, 4], &[0, 2, 4, 4]);
+    let (qnc, qncc): (&[u32], &[u32]) = (&[1, 3, 4], &[1, 3, 4, 4]);
+    let (mcc, mccc): (&[u32], &[u32]) = (&[2, 4, 4], &[2, 4, 4, 4]);
+    let cases: [(&[&[u32]], bool); 9] = [
+        (&[pmc, qnc, pmcc, qncc], true),
+        // mcc asks for as much as qnc, and mccc as qncc.
+        (&[mccc, mcc, pmcc, pmc], true),
+        (
+            &[qnc, pmc, qncc, pmc, mcc, qnc, mccc, pmcc, qnc, pmc, mcc],
+            true,
+        ),
+        // One that crosses is left out, among many of the others.
+        (&[qnc, pmcc, qncc], false),
+        (&[pmc, pmcc, qncc], false),
+        (&[pmc, qnc, pmcc], false),
+        (&[pmc, qnc, qncc], false),
+        (&[qnc, pmc, mcc, qnc, pmc, mcc, qncc, mccc, qncc], false),
+        (&[qnc, pmc, mcc, qnc, pmc, mcc, pmcc, pmcc], false),
+    ];
+    for (more, wanted) in cases {
+        assert!(rt; is_covering(rt.alloc(), more, wanted)?, "of {more:?}");
+    }
+    Ok(())
+}
+
+// Jobs a, b and c of a tick with the edges a-c 1, b-c 2 and c-c 2. At 1 to 5 ac asks for 1 2 2 2 2, and bc for 1 1 2 2 2.
+const GAPS: [Shape<'static>; 2] = [
+    (
+        &[(1, 1), (1, 1), (1, 1)],
+        &[(0, 2, 1), (1, 2, 2), (2, 2, 2)],
+    ),
+    (&[(2, 5)], &[(0, 0, 10)]),
+];
+
+#[test]
+fn walks_that_differ_in_a_separation_are_not_alike(rt: HostRuntime) -> Result<(), Fail> {
+    let cases: [(&[Given<'_>], Option<u8>); 4] = [
+        // ac is above bc and cc, and acc above what they go on to.
+        (&[(&[&[0], &[1], &[2], &[0, 2], &[0, 2, 2]], &[])], None),
+        (
+            &[(
+                &[&[1, 2], &[0], &[0, 2], &[1], &[1, 2], &[2], &[0, 2, 2]],
+                &[],
+            )],
+            None,
+        ),
+        // bc isn't above ac, nor bcc above acc.
+        (&[(&[&[0], &[1], &[2], &[1, 2], &[1, 2, 2]], &[])], Some(18)),
+        (
+            &[(&[&[0], &[1], &[2], &[1, 2], &[0, 2], &[1, 2, 2]], &[])],
+            Some(18),
+        ),
+    ];
+    for (given, wanted) in cases {
+        assert!(rt;
+            is_broken(rt.alloc(), &GAPS, given, wanted)?,
+            "of {wanted:?}"
+        );
+    }
     Ok(())
 }
 

@@ -9,3 +9,6 @@ pub rank_of-requires-clause-last : goal.rank_of-requires-clause-last
 rank_of-requires-clause-last c =
     let l = short_last c.args.graph.now c.vertex_count-count.ensures.sound c.args.bound c.args.walk.now c.requires.short in
     omega (arith, l, c.last_in.ensures, c.vertex_count-count.ensures.sound.few)
+
+pub digest_of-requires-clause-within : goal.digest_of-requires-clause-within
+digest_of-requires-clause-within c = short_within c.args.graph.now c.vertex_count-count.ensures.sound c.args.bound c.args.walk.now c.requires.bound c.requires.short
