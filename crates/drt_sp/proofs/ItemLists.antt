@@ -2,7 +2,8 @@
 use Rattle.std.proofs.Common.{◌≡◌, ℕ, ◌+◌, ◌≤◌, ◌<◌, Option, None, Some, List, [], ◌∷◌, ◌++◌, length, All, refl, sym, ap, ◌∙◌, subst, arith, append_assoc}
 use Rattle.std.specs.Prelude.{slice_get, slice_set}
 use Rattle.std.proofs.lemmas.List.{append-nil}
-use Rattle.std.proofs.lemmas.List.Elements.{All-push, All-nil}
+use Rattle.std.proofs.lemmas.List.Elements.{All-append, All-cons, All-push, All-nil}
+use Rattle.std.proofs.lemmas.Option.{slice_get_within}
 use Rattle.drt_worklist.proofs.Lists.{length_join}
 use Rattle.drt_tree.specs.Tree.{Plain}
 use Rattle.drt_evidence.specs.Ranges.{IsInRangeItem, IsNumber}
@@ -15,6 +16,8 @@ use Rattle.drt_refine.specs.declared.step.CombinationState.{CombinationState}
 use Rattle.drt_refine.specs.declared.step.CombinationState.TheVariants.{Pending, Taken, Passed as PassedAt, Split as SplitAt, Failed}
 use Rattle.drt_steps.specs.Time.{IsLeastTime}
 use Rattle.drt_sp.specs.Items.{AreItems, AreHalves, IsItemOf, none, pass, split}
+use Rattle.drt_sp.specs.Parts.{AreAdded, AreEndOf}
+use Rattle.drt_sp.proofs.Joining.{items_join}
 use Rattle.drt_sp.proofs.Visits.{IsVisit, top_within, visit_pass, visit_split, visit_start}
 
 abbrev nodes_of : Option Combination → List ℕ
@@ -39,25 +42,38 @@ has_nodes : (cs : List Combination) (id : ℕ) (nodes : List ℕ) → HasNodes c
 has_nodes cs id nodes h = ap nodes_of h.at ∙ h.are
 
 -- The items so far, and whatever items end the stack, end the roots.
-pub record IsReading (f : Plain) (wcet deadline : ℕ) (roots : List ℕ) (cs : List Combination) (items : List Item) (stack : List ℕ) : Type 0 where
+pub record IsRead (f : Plain) (wcet deadline : ℕ) (roots : List ℕ) (cs : List Combination) (items : List Item) (stack : List ℕ) : Type 0 where
   pub goes : (more : List Item) → AreItems f wcet deadline more (stacked cs stack []) → AreItems f wcet deadline (items ++ more) (roots ∷ [])
   pub in_range : All IsInRangeItem items
+
+-- The same where each combination that was visited has one item.
+pub record IsReading (f : Plain) (wcet deadline : ℕ) (roots : List ℕ) (cs : List Combination) (items : List Item) (stack : List ℕ) : Type 0 where
+  pub read : IsRead f wcet deadline roots cs items stack
   pub visit : IsVisit cs stack (length items)
 
-pub reading_start : (t : Setting) (cs : List Combination) → AreSettled t cs → 1 ≤ length cs → IsReading t.forest t.wcet t.deadline t.roots cs [] (0 ∷ [])
-reading_start t cs settled some = record {
+pub read_start : (t : Setting) (cs : List Combination) → AreSettled t cs → IsRead t.forest t.wcet t.deadline t.roots cs [] (0 ∷ [])
+read_start t cs settled = record {
   goes = λ more h. subst (λ (nodes : List ℕ). AreItems t.forest t.wcet t.deadline more (nodes ∷ [])) (has_nodes cs 0 t.roots settled.opening) h;
   in_range = All-nil IsInRangeItem;
-  visit = visit_start cs some;
 }
+
+pub read_end : (t : Setting) (cs : List Combination) (items : List Item) → IsRead t.forest t.wcet t.deadline t.roots cs items []
+    → AreItems t.forest t.wcet t.deadline items (t.roots ∷ [])
+read_end t cs items r = subst (λ (l : List Item). AreItems t.forest t.wcet t.deadline l (t.roots ∷ [])) (append-nil items) (r.goes [] none)
+
+pub reading_start : (t : Setting) (cs : List Combination) → AreSettled t cs → 1 ≤ length cs → IsReading t.forest t.wcet t.deadline t.roots cs [] (0 ∷ [])
+reading_start t cs settled some = record { read = read_start t cs settled; visit = visit_start cs some }
 
 pub reading_end : (t : Setting) (cs : List Combination) (items : List Item) → IsReading t.forest t.wcet t.deadline t.roots cs items []
     → AreItems t.forest t.wcet t.deadline items (t.roots ∷ [])
-reading_end t cs items r = subst (λ (l : List Item). AreItems t.forest t.wcet t.deadline l (t.roots ∷ [])) (append-nil items) (r.goes [] none)
+reading_end t cs items r = read_end t cs items r.read
 
 module _ (t : Setting) (cs : List Combination) (settled : AreSettled t cs) (items : List Item) (rest : List ℕ) (id : ℕ) (c : Combination) (at : slice_get cs id ≡ Some c) where
   abbrev Reads : List Item → List ℕ → Type 0
   Reads items stack = IsReading t.forest t.wcet t.deadline t.roots cs items stack
+
+  abbrev Read : List Item → List ℕ → Type 0
+  Read items stack = IsRead t.forest t.wcet t.deadline t.roots cs items stack
 
   abbrev Are : List Item → List (List ℕ) → Type 0
   Are items stack = AreItems t.forest t.wcet t.deadline items stack
@@ -69,21 +85,20 @@ module _ (t : Setting) (cs : List Combination) (settled : AreSettled t cs) (item
   on_top = sym (stacked_push cs rest id [] ∙ ap (λ (nodes : List ℕ). nodes ∷ stacked cs rest []) (ap nodes_of at))
 
   -- what ends the stack with this item first
-  with_item : Reads items (rest ++ id ∷ []) → (item : Item) (more : List Item) → Are (item ∷ more) (c.nodes ∷ stacked cs rest []) → Are ((items ++ item ∷ []) ++ more) (t.roots ∷ [])
+  with_item : Read items (rest ++ id ∷ []) → (item : Item) (more : List Item) → Are (item ∷ more) (c.nodes ∷ stacked cs rest []) → Are ((items ++ item ∷ []) ++ more) (t.roots ∷ [])
   with_item r item more h =
       subst (λ (l : List Item). Are l (t.roots ∷ [])) (sym (append_assoc items (item ∷ []) more)) (r.goes (item ∷ more) (subst (λ (s : List (List ℕ)). Are (item ∷ more) s) on_top h))
 
-  reading_pass : (time : ℕ) → t.deadline ≤ 1000000 → c.state ≡ PassedAt time → Reads items (rest ++ id ∷ []) → Reads (items ++ Pass time ∷ []) rest
-  reading_pass time small is r =
+  read_pass : (time : ℕ) → t.deadline ≤ 1000000 → c.state ≡ PassedAt time → Read items (rest ++ id ∷ []) → Read (items ++ Pass time ∷ []) rest
+  read_pass time small is r =
       let least : IsLeastTime t.wcet t.deadline t.forest.pool c.nodes time = subst (λ (s : CombinationState). IsSettled t cs id c.nodes s) is (settled.each id c at) in
       record {
         goes = λ more h. with_item r (Pass time) more (pass time more c.nodes (stacked cs rest []) least h);
         in_range = All-push IsInRangeItem items (Pass time) r.in_range (let le : time ≤ t.deadline = least.passes.to in omega (arith, small));
-        visit = subst (λ n. IsVisit cs rest n) (longer (Pass time)) (visit_pass cs rest id (length items) r.visit);
       }
 
-  reading_split : (place left right : ℕ) → IsNumber place → c.state ≡ SplitAt place left right → Reads items (rest ++ id ∷ []) → Reads (items ++ Split place ∷ []) (rest ++ right ∷ left ∷ [])
-  reading_split place left right number is r =
+  read_split : (place left right : ℕ) → IsNumber place → c.state ≡ SplitAt place left right → Read items (rest ++ id ∷ []) → Read (items ++ Split place ∷ []) (rest ++ right ∷ left ∷ [])
+  read_split place left right number is r =
       let into : IsSplitInto t cs id c.nodes place left right = subst (λ (s : CombinationState). IsSettled t cs id c.nodes s) is (settled.each id c at) in
       let l = slice_set c.nodes place into.pair.left in
       let h = slice_set c.nodes place into.pair.right in
@@ -97,8 +112,59 @@ module _ (t : Setting) (cs : List Combination) (settled : AreSettled t cs) (item
         goes =
             λ more g. with_item r (Split place) more (split place into.pair.left into.pair.right more c.nodes under into.none into.place_is halves (subst (λ (s : List (List ℕ)). Are more s) two g));
         in_range = All-push IsInRangeItem items (Split place) r.in_range number;
-        visit = subst (λ n. IsVisit cs (rest ++ right ∷ left ∷ []) n) (longer (Split place)) (visit_split cs rest id (length items) r.visit t settled c at place left right is);
       }
+
+  read_part : (added : List Item) → AreEndOf t.forest t.wcet t.deadline c.nodes added → Read items (rest ++ id ∷ []) → Read (items ++ added) rest
+  read_part added ends r = record {
+    goes = λ more h. subst (λ (l : List Item). Are l (t.roots ∷ [])) (sym (append_assoc items added more)) (r.goes (added ++ more)
+        (subst (λ (s : List (List ℕ)). Are (added ++ more) s) on_top (items_join t.forest t.wcet t.deadline added more (c.nodes ∷ []) (stacked cs rest []) ends.items_are h)));
+    in_range = All-append IsInRangeItem items added r.in_range ends.in_range;
+  }
+
+  read_by : (s : CombinationState) (added : List Item) (new : List ℕ) → t.deadline ≤ 1000000 → c.state ≡ s → AreAdded t.forest t.wcet t.deadline s c.nodes added rest new
+      → Read items (rest ++ id ∷ []) → Read (items ++ added) new
+  read_by Pending added new small is h r = subst (λ (s : List ℕ). Read (items ++ added) s) (sym h.1) (read_part added h.0 r)
+  read_by (Taken w) added new small is h r = subst (λ (s : List ℕ). Read (items ++ added) s) (sym h.1) (read_part added h.0 r)
+  read_by (PassedAt time) added new small is h r =
+      subst (λ (i : List Item). Read (items ++ i) new) (sym h.0) (subst (λ (s : List ℕ). Read (items ++ Pass time ∷ []) s) (sym h.1) (read_pass time small is r))
+  read_by (SplitAt place left right) added new small is h r =
+      subst (λ (i : List Item). Read (items ++ i) new) (sym h.0) (subst (λ (s : List ℕ). Read (items ++ Split place ∷ []) s) (sym h.2) (read_split place left right h.1 is r))
+  read_by Failed added new small is h r = elim h [ ]
+
+  -- the items of the topmost combination were added
+  pub read_more : (added : List Item) (new : List ℕ) → t.deadline ≤ 1000000 → AreAdded t.forest t.wcet t.deadline c.state c.nodes added rest new → Read items (rest ++ id ∷ [])
+      → Read (items ++ added) new
+  read_more added new small h r = read_by c.state added new small refl h r
+
+  within_by : (s : CombinationState) (added : List Item) (new : List ℕ) → c.state ≡ s → AreAdded t.forest t.wcet t.deadline s c.nodes added rest new → All (λ n. n < length cs) rest
+      → All (λ n. n < length cs) new
+  within_by Pending added new is h all = subst (λ (s : List ℕ). All (λ n. n < length cs) s) (sym h.1) all
+  within_by (Taken w) added new is h all = subst (λ (s : List ℕ). All (λ n. n < length cs) s) (sym h.1) all
+  within_by (PassedAt time) added new is h all = subst (λ (s : List ℕ). All (λ n. n < length cs) s) (sym h.1) all
+  within_by (SplitAt place left right) added new is h all =
+      let into : IsSplitInto t cs id c.nodes place left right = subst (λ (s : CombinationState). IsSettled t cs id c.nodes s) is (settled.each id c at) in
+      let l : left < length cs = slice_get_within cs left into.left_has.combination into.left_has.at in
+      let r : right < length cs = slice_get_within cs right into.right_has.combination into.right_has.at in
+      subst (λ (s : List ℕ). All (λ n. n < length cs) s) (sym h.2)
+      (All-append (λ n. n < length cs) rest (right ∷ left ∷ []) all
+      (All-cons (λ n. n < length cs) right (left ∷ []) r (All-cons (λ n. n < length cs) left [] l (All-nil (λ n. n < length cs)))))
+  within_by Failed added new is h all = elim h [ ]
+
+  -- what stands new on the stack are numbers of combinations
+  pub within_more : (added : List Item) (new : List ℕ) → AreAdded t.forest t.wcet t.deadline c.state c.nodes added rest new → All (λ n. n < length cs) rest → All (λ n. n < length cs) new
+  within_more added new h all = within_by c.state added new refl h all
+
+  reading_pass : (time : ℕ) → t.deadline ≤ 1000000 → c.state ≡ PassedAt time → Reads items (rest ++ id ∷ []) → Reads (items ++ Pass time ∷ []) rest
+  reading_pass time small is r = record {
+    read = read_pass time small is r.read;
+    visit = subst (λ n. IsVisit cs rest n) (longer (Pass time)) (visit_pass cs rest id (length items) r.visit);
+  }
+
+  reading_split : (place left right : ℕ) → IsNumber place → c.state ≡ SplitAt place left right → Reads items (rest ++ id ∷ []) → Reads (items ++ Split place ∷ []) (rest ++ right ∷ left ∷ [])
+  reading_split place left right number is r = record {
+    read = read_split place left right number is r.read;
+    visit = subst (λ n. IsVisit cs (rest ++ right ∷ left ∷ []) n) (longer (Split place)) (visit_split cs rest id (length items) r.visit t settled c at place left right is);
+  }
 
   reading_by : (s : CombinationState) (item : Item) (new : List ℕ) → t.deadline ≤ 1000000 → c.state ≡ s → IsItemOf s item rest new → Reads items (rest ++ id ∷ [])
       → Reads (items ++ item ∷ []) new

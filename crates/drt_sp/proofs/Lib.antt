@@ -14,6 +14,7 @@ pub mod Growth
 pub mod Refused
 pub mod FirstVertices
 pub mod Visits
+pub mod Joining
 pub mod ItemLists
 pub mod VertexProofs
 pub mod RequestWalks

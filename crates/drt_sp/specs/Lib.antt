@@ -8,6 +8,6 @@ pub mod Claims
 pub mod Answers
 pub mod Chosen
 pub mod Vertices
-pub mod Results
+pub mod Parts
 pub mod Progress
 pub mod Grown

@@ -9,11 +9,11 @@
 
 mod analysis;
 mod answer;
-mod beside;
 mod deadlines;
 mod grown;
 pub mod laws;
 mod order;
+mod parts;
 mod progress;
 mod proving;
 mod refusal;

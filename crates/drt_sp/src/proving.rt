@@ -6,13 +6,12 @@ ghost use Rattle.drt_refine.specs.Eager.{IsEager};
 ghost use Rattle.drt_refine.specs.Machine.{is_finished};
 ghost use Rattle.drt_refine.specs.Settled.{IsDone};
 ghost use Rattle.drt_refine.specs.View.{IsFrontier, setting_of, state_of};
-ghost use Rattle.drt_model.specs.Digraph.{vertex_count};
 ghost use Rattle.drt_sp.specs.Items.{AreItems, IsItemOf, IsVertexProof};
-ghost use Rattle.drt_sp.specs.Results.{CanProve, IsResult};
+ghost use Rattle.drt_sp.specs.Parts.{IsRefined};
 ghost use Rattle.drt_steps.specs.Time.{AreChosen};
 
+use crate::parts::prove_by_parts;
 use drt_evidence::Item;
-use drt_graph::Graph;
 use drt_model::{Memory, Row};
 use drt_pool::Gate;
 use drt_refine::{
@@ -34,8 +33,17 @@ pub(crate) enum VertexProof {
     Spent(Row<FrontierEntry>),
 }
 
+/// Where a refinement came to its end: the vertex passes or fails, as in `VertexProof`, or the budget was spent in this frontier.
+#[derive(Drop)]
+pub(crate) enum Refined {
+    Passes(Row<Item>),
+    Fails(Row<u32>),
+    Spent(Frontier),
+}
+
 /// Looks for a time that passes for a vertex of this wcet and deadline (in ticks), for each tuple of leaves below the roots,
-/// which are those of the trees of the tasks of higher priority. The budget is how many steps the frontier may make.
+/// which are those of the trees of the tasks of higher priority. The budget is how many steps the frontier may make. Several workers
+/// end parts of the frontier side by side, and the answer is that of one worker; where the gate's `alone` is 0 they share it.
 pub(crate) fn prove_vertex<G: Gate, R: Threads + Wait + Sync>(
     rt: &R,
     alloc: Global,
@@ -55,51 +63,80 @@ pub(crate) fn prove_vertex<G: Gate, R: Threads + Wait + Sync>(
     requires budget { (1 ≤ budget) × (budget ≤ 1000000) }
     ensures { IfOk result (IsVertexProof forest.now wcet deadline roots.now budget) }
 {
+    if workers == 1 || gate.alone() == 0 {
+        return prove_whole(
+            rt, alloc, forest, roots, wcet, deadline, workers, budget, gate,
+        );
+    }
+    prove_by_parts(
+        rt, alloc, forest, roots, wcet, deadline, workers, budget, gate,
+    )
+}
+
+/// The same by one frontier.
+pub(crate) fn prove_whole<G: Gate, R: Threads + Wait + Sync>(
+    rt: &R,
+    alloc: Global,
+    forest: &Forest,
+    roots: &[u32],
+    wcet: u32,
+    deadline: u32,
+    workers: u32,
+    budget: u64,
+    gate: &G,
+) -> Result<VertexProof, Memory>
+    requires few { length roots.now ≤ 31 }
+    requires roots { AreChosen deadline forest.now.pool roots.now }
+    requires wcet { (1 ≤ wcet) × (wcet ≤ 1000000) }
+    requires deadline { (1 ≤ deadline) × (deadline ≤ 1000000) }
+    requires workers { (1 ≤ workers) × (workers ≤ 16) }
+    requires budget { (1 ≤ budget) × (budget ≤ 1000000) }
+    ensures { IfOk result (IsVertexProof forest.now wcet deadline roots.now budget) }
+{
+    let refined = refine_vertex(
+        rt, alloc, forest, roots, wcet, deadline, workers, budget, gate,
+    )?;
+    match refined {
+        Refined::Passes(items) => Ok(VertexProof::Passes(items)),
+        Refined::Fails(tuple) => Ok(VertexProof::Fails(tuple)),
+        Refined::Spent(frontier) => Ok(VertexProof::Spent(Row::from_vec(frontier.into_log()))),
+    }
+}
+
+/// Works one frontier of a vertex until it is finished, a combination has failed or the budget of steps is spent.
+pub(crate) fn refine_vertex<G: Gate, R: Threads + Wait + Sync>(
+    rt: &R,
+    alloc: Global,
+    forest: &Forest,
+    roots: &[u32],
+    wcet: u32,
+    deadline: u32,
+    workers: u32,
+    budget: u64,
+    gate: &G,
+) -> Result<Refined, Memory>
+    requires few { length roots.now ≤ 31 }
+    requires roots { AreChosen deadline forest.now.pool roots.now }
+    requires wcet { (1 ≤ wcet) × (wcet ≤ 1000000) }
+    requires deadline { (1 ≤ deadline) × (deadline ≤ 1000000) }
+    requires workers { (1 ≤ workers) × (workers ≤ 16) }
+    requires budget { (1 ≤ budget) × (budget ≤ 1000000) }
+    ensures { IfOk result (IsRefined forest.now wcet deadline roots.now budget) }
+{
     over_every_interleaving();
     eager_settles();
     let (frontier, reply) = refine(
         rt, alloc, forest, roots, wcet, deadline, budget, workers, gate,
     )?;
     match reply {
-        FrontierReply::Finished => Ok(VertexProof::Passes(items_of(alloc, forest, &frontier)?)),
-        FrontierReply::Failed(id) => Ok(VertexProof::Fails(tuple_of(alloc, &frontier, id)?)),
-        FrontierReply::Spent => Ok(VertexProof::Spent(Row::from_vec(frontier.into_log()))),
+        FrontierReply::Finished => Ok(Refined::Passes(items_of(alloc, forest, &frontier)?)),
+        FrontierReply::Failed(id) => Ok(Refined::Fails(tuple_of(alloc, &frontier, id)?)),
+        FrontierReply::Spent => Ok(Refined::Spent(frontier)),
         FrontierReply::Taken(_) => unreachable!(),
         FrontierReply::Busy(_) => unreachable!(),
         FrontierReply::Passed => unreachable!(),
         FrontierReply::Halved(_, _) => unreachable!(),
     }
-}
-
-/// What becomes of the vertex of this number of a task's graph.
-pub(crate) fn prove_at<G: Gate, R: Threads + Wait + Sync>(
-    rt: &R,
-    alloc: Global,
-    forest: &Forest,
-    roots: &[u32],
-    graph: &Graph,
-    vertex: u32,
-    workers: u32,
-    budget: u64,
-    gate: &G,
-) -> Result<VertexProof, Memory>
-    requires can { CanProve forest.now roots.now graph.now budget }
-    requires vertex { vertex < vertex_count graph.now }
-    requires workers { (1 ≤ workers) × (workers ≤ 16) }
-    ensures { IfOk result (IsResult forest.now roots.now graph.now budget vertex) }
-{
-    let subject = graph.vertex(vertex);
-    prove_vertex(
-        rt,
-        alloc,
-        forest,
-        roots,
-        subject.wcet,
-        subject.deadline,
-        workers,
-        budget,
-        gate,
-    )
 }
 
 // The items of a finished frontier: those of a combination that was split are its own, then those of its left half, then

@@ -1,5 +1,5 @@
 -- The items so far end the stack, whose numbers are those of combinations that were not read yet.
-use Rattle.std.proofs.Common.{◌≡◌, ℕ, ◌+◌, ◌≤◌, ◌<◌, List, [], ◌∷◌, ◌++◌, length, refl, sym, ap, ◌∙◌, subst, arith, All, Some}
+use Rattle.std.proofs.Common.{◌≡◌, ℕ, ◌+◌, ◌≤◌, ◌<◌, List, [], ◌∷◌, ◌++◌, length, sym, ap, ◌∙◌, subst, arith, All, Some}
 use Rattle.std.specs.Prelude.{slice_get, IsTrue}
 use Rattle.std.proofs.lemmas.Option.{slice_get_within}
 use Rattle.drt_evidence.specs.Ranges.{IsInRangeItem}
@@ -9,14 +9,11 @@ use Rattle.drt_refine.specs.Machine.{State, is_finished}
 use Rattle.drt_refine.specs.Settled.{AreSettled}
 use Rattle.drt_refine.specs.View.{setting_of}
 use Rattle.drt_sp.specs.Items.{AreItems}
+use Rattle.drt_sp.proofs.Joining.{empty_of}
 use Rattle.drt_sp.proofs.ItemLists.{IsReading, reading_start, reading_end, reading_more, top}
 use Rattle.drt_sp.proofs.Visits.{visit_few}
 use Rattle.drt_worklist.proofs.Lists.{get_within, length_join}
 use Rattle.drt_sp.proofs.proving.items_of.Goals as goal
-
-empty_of : (xs : List ℕ) → length xs ≡ 0 → xs ≡ []
-empty_of [] h = refl
-empty_of (x ∷ xs) h = absurd (omega arith)
 
 pub loop-id-init : goal.loop-id-init
 loop-id-init c =
@@ -74,4 +71,4 @@ returns-clause-in_range c =
     let few : length c.loop-id.items.items + length c.loop-id.stack.items ≤ length c.args.frontier.now.combinations
     = visit_few c.args.frontier.now.combinations c.loop-id.stack.items (length c.loop-id.items.items) c.loop-id.invariant.visit in
     let n : length c.from_vec.result ≡ length c.loop-id.items.items = ap length c.from_vec.ensures in
-    (subst (λ (l : List Item). All IsInRangeItem l) (sym c.from_vec.ensures) c.loop-id.invariant.in_range, omega (arith, c.count.ensures))
+    (subst (λ (l : List Item). All IsInRangeItem l) (sym c.from_vec.ensures) c.loop-id.invariant.read.in_range, omega (arith, c.count.ensures))

@@ -9,7 +9,7 @@ use Rattle.drt_refine.specs.Settled.{AreSettled}
 use Rattle.drt_refine.specs.View.{setting_of, state_of}
 use Rattle.drt_sp.specs.Items.{refinement_of}
 use Rattle.drt_sp.proofs.VertexProofs.{proof_of, failure_of, failed_within}
-use Rattle.drt_sp.proofs.proving.prove_vertex.Goals as goal
+use Rattle.drt_sp.proofs.proving.refine_vertex.Goals as goal
 
 pub returns-in_ok-items_of-in-Finished : goal.returns-in_ok-items_of-in-Finished
 returns-in_ok-items_of-in-Finished g c =
