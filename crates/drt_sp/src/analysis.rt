@@ -17,10 +17,10 @@ use std::alloc::Global;
 use std::sync::Wait;
 use std::thread::Threads;
 
-/// Decides whether a set with constrained deadlines is schedulable under fixed priorities. So many workers prove the vertices of a task
-/// side by side, each vertex by one of them, and the gate sees none of these turns. Where its `alone` is 0 they share each search of a
-/// task's walks and each refinement at a vertex instead, and it sees each of their turns. However many workers there are, the first vertex
-/// in file order that fails or spends its budget decides. Each search and each refinement ends after `budget` steps at the latest.
+/// Decides whether a set with constrained deadlines is schedulable under fixed priorities. So many workers end the combinations of a
+/// vertex side by side, each those that it takes, and the gate sees none of these turns; the answer is that of one worker, to the byte.
+/// Where the gate's `alone` is 0 they share each search of a task's walks and each refinement at a vertex instead, and it sees each of
+/// their turns. Each search and each refinement ends after `budget` steps at the latest.
 ///
 /// For each task, from the highest priority on, first each of its vertices is proved, in file order, against the trees of the tasks of
 /// higher priority. Then, unless it has the lowest priority, its walks are searched up to the greatest deadline of the set, for its own
