@@ -22,8 +22,6 @@ use std::thread::Threads;
 
 mod adding;
 mod gathering;
-#[cfg(test)]
-mod tests;
 
 /// A task's tree: its first node and its root in the forest, and the tree as it is written.
 #[derive(Drop)]

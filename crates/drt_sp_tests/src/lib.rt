@@ -7,6 +7,6 @@ mod answer_tests;
 #[cfg(test)]
 mod answering;
 #[cfg(test)]
-mod beside_tests;
-#[cfg(test)]
 mod drawn_tests;
+#[cfg(test)]
+mod parts_tests;

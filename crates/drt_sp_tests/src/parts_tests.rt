@@ -1,4 +1,4 @@
-//! Vertices of a task that several workers prove side by side.
+//! Vertices whose combinations several workers end side by side.
 use crate::answering::{Leaving, Source, has_dossier, trail_of, written};
 use drt_fixtures::texts::{
     ENGINE, HALVES, JUST_DONE, ONLY_TOGETHER, SECOND_LATE, SPLIT, TOO_LITTLE_ROOM,
@@ -13,7 +13,7 @@ const DRAWN_SETS: u64 = 12;
 
 const WORKERS: [u32; 4] = [1, 2, 4, 16];
 
-// How many steps a vertex has before it is left to another worker. With 1 each is left, with 10 none of a worked set is.
+// How many steps a vertex has before its open combinations are left to workers. With 1 the first one is left, with 10 none of a worked set is.
 const ALONE: [u64; 4] = [1, 2, 4, 10];
 
 // Below a task whose job takes 3 ticks or 2, the first job needs six steps, of which the last finds that it is late behind the longer
