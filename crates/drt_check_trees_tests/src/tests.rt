@@ -123,54 +123,221 @@ const CROSSING: [Shape<'static>; 2] = [
     (&[(2, 5)], &[(0, 0, 10)]),
 ];
 
-// The walks of one and of two vertices that nothing else dominates: p q m n c pm qn mc nc.
-type Start = [&'static [u32]; 9];
-
-const START: Start = [
-    &[0],
-    &[1],
-    &[2],
-    &[3],
-    &[4],
-    &[0, 2],
-    &[1, 3],
-    &[2, 4],
-    &[3, 4],
-];
-
-// Whether a tree of those walks and these keeps rule 18.
-fn is_covering(alloc: Global, more: &[&[u32]], wanted: bool) -> Result<bool, Fail> {
-    let mut walks = Vec::from_slice(alloc, &START)?;
-    walks.extend_from_slice(more)?;
-    let broken = if wanted { None } else { Some(18) };
-    is_broken(alloc, &CROSSING, &[(walks.as_slice(), &[])], broken)
-}
-
+// Each tree begins with the walks of one and of two vertices that no others dominate: p q m n c pm qn mc nc.
 #[test]
 fn one_of_walks_that_are_alike_is_enough_and_each_that_crosses_is_needed(
     rt: HostRuntime,
 ) -> Result<(), Fail> {
-    let (pmc, pmcc): (&[u32], &[u32]) = (&[0, 2, 4], &[0, 2, 4, 4]);
-    let (qnc, qncc): (&[u32], &[u32]) = (&[1, 3, 4], &[1, 3, 4, 4]);
-    let (mcc, mccc): (&[u32], &[u32]) = (&[2, 4, 4], &[2, 4, 4, 4]);
-    let cases: [(&[&[u32]], bool); 9] = [
-        (&[pmc, qnc, pmcc, qncc], true),
-        // mcc asks for as much as qnc, and mccc as qncc.
-        (&[mccc, mcc, pmcc, pmc], true),
+    let cases: [(&[Given<'_>], Option<u8>); 9] = [
         (
-            &[qnc, pmc, qncc, pmc, mcc, qnc, mccc, pmcc, qnc, pmc, mcc],
-            true,
+            &[(
+                &[
+                    &[0],
+                    &[1],
+                    &[2],
+                    &[3],
+                    &[4],
+                    &[0, 2],
+                    &[1, 3],
+                    &[2, 4],
+                    &[3, 4],
+                    &[0, 2, 4],
+                    &[1, 3, 4],
+                    &[0, 2, 4, 4],
+                    &[1, 3, 4, 4],
+                ],
+                &[],
+            )],
+            None,
         ),
-        // One that crosses is left out, among many of the others.
-        (&[qnc, pmcc, qncc], false),
-        (&[pmc, pmcc, qncc], false),
-        (&[pmc, qnc, pmcc], false),
-        (&[pmc, qnc, qncc], false),
-        (&[qnc, pmc, mcc, qnc, pmc, mcc, qncc, mccc, qncc], false),
-        (&[qnc, pmc, mcc, qnc, pmc, mcc, pmcc, pmcc], false),
+        // mcc asks for as much as qnc, and mccc as qncc.
+        (
+            &[(
+                &[
+                    &[0],
+                    &[1],
+                    &[2],
+                    &[3],
+                    &[4],
+                    &[0, 2],
+                    &[1, 3],
+                    &[2, 4],
+                    &[3, 4],
+                    &[2, 4, 4, 4],
+                    &[2, 4, 4],
+                    &[0, 2, 4, 4],
+                    &[0, 2, 4],
+                ],
+                &[],
+            )],
+            None,
+        ),
+        (
+            &[(
+                &[
+                    &[0],
+                    &[1],
+                    &[2],
+                    &[3],
+                    &[4],
+                    &[0, 2],
+                    &[1, 3],
+                    &[2, 4],
+                    &[3, 4],
+                    &[1, 3, 4],
+                    &[0, 2, 4],
+                    &[1, 3, 4, 4],
+                    &[0, 2, 4],
+                    &[2, 4, 4],
+                    &[1, 3, 4],
+                    &[2, 4, 4, 4],
+                    &[0, 2, 4, 4],
+                    &[1, 3, 4],
+                    &[0, 2, 4],
+                    &[2, 4, 4],
+                ],
+                &[],
+            )],
+            None,
+        ),
+        // pmc, qnc, qncc and pmcc are left out in turn, and pmcc and qncc among many of the others.
+        (
+            &[(
+                &[
+                    &[0],
+                    &[1],
+                    &[2],
+                    &[3],
+                    &[4],
+                    &[0, 2],
+                    &[1, 3],
+                    &[2, 4],
+                    &[3, 4],
+                    &[1, 3, 4],
+                    &[0, 2, 4, 4],
+                    &[1, 3, 4, 4],
+                ],
+                &[],
+            )],
+            Some(18),
+        ),
+        (
+            &[(
+                &[
+                    &[0],
+                    &[1],
+                    &[2],
+                    &[3],
+                    &[4],
+                    &[0, 2],
+                    &[1, 3],
+                    &[2, 4],
+                    &[3, 4],
+                    &[0, 2, 4],
+                    &[0, 2, 4, 4],
+                    &[1, 3, 4, 4],
+                ],
+                &[],
+            )],
+            Some(18),
+        ),
+        (
+            &[(
+                &[
+                    &[0],
+                    &[1],
+                    &[2],
+                    &[3],
+                    &[4],
+                    &[0, 2],
+                    &[1, 3],
+                    &[2, 4],
+                    &[3, 4],
+                    &[0, 2, 4],
+                    &[1, 3, 4],
+                    &[0, 2, 4, 4],
+                ],
+                &[],
+            )],
+            Some(18),
+        ),
+        (
+            &[(
+                &[
+                    &[0],
+                    &[1],
+                    &[2],
+                    &[3],
+                    &[4],
+                    &[0, 2],
+                    &[1, 3],
+                    &[2, 4],
+                    &[3, 4],
+                    &[0, 2, 4],
+                    &[1, 3, 4],
+                    &[1, 3, 4, 4],
+                ],
+                &[],
+            )],
+            Some(18),
+        ),
+        (
+            &[(
+                &[
+                    &[0],
+                    &[1],
+                    &[2],
+                    &[3],
+                    &[4],
+                    &[0, 2],
+                    &[1, 3],
+                    &[2, 4],
+                    &[3, 4],
+                    &[1, 3, 4],
+                    &[0, 2, 4],
+                    &[2, 4, 4],
+                    &[1, 3, 4],
+                    &[0, 2, 4],
+                    &[2, 4, 4],
+                    &[1, 3, 4, 4],
+                    &[2, 4, 4, 4],
+                    &[1, 3, 4, 4],
+                ],
+                &[],
+            )],
+            Some(18),
+        ),
+        (
+            &[(
+                &[
+                    &[0],
+                    &[1],
+                    &[2],
+                    &[3],
+                    &[4],
+                    &[0, 2],
+                    &[1, 3],
+                    &[2, 4],
+                    &[3, 4],
+                    &[1, 3, 4],
+                    &[0, 2, 4],
+                    &[2, 4, 4],
+                    &[1, 3, 4],
+                    &[0, 2, 4],
+                    &[2, 4, 4],
+                    &[0, 2, 4, 4],
+                    &[0, 2, 4, 4],
+                ],
+                &[],
+            )],
+            Some(18),
+        ),
     ];
-    for (more, wanted) in cases {
-        assert!(rt; is_covering(rt.alloc(), more, wanted)?, "of {more:?}");
+    for (given, wanted) in cases {
+        assert!(rt;
+            is_broken(rt.alloc(), &CROSSING, given, wanted)?,
+            "of {wanted:?}"
+        );
     }
     Ok(())
 }
