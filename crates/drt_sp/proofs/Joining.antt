@@ -1,5 +1,5 @@
 -- The items of combinations on a stack, put together, and what they prove of the tuples below these.
-use Rattle.std.proofs.Common.{◌≡◌, ℕ, ◌≤◌, ◌⊎◌, List, Option, set, [], ◌∷◌, ◌++◌, All, Some, length, refl, inl, inr, sym, ap, subst, arith, ◌∙◌, append_assoc}
+use Rattle.std.proofs.Common.{◌≡◌, ℕ, ◌≤◌, List, Option, set, [], ◌∷◌, ◌++◌, All, Some, length, refl, inl, inr, sym, ap, subst, arith, ◌∙◌, append_assoc}
 use Rattle.std.specs.Prelude.{slice_get, slice_set}
 use Rattle.std.proofs.lemmas.List.{append-nil}
 use Rattle.std.proofs.lemmas.List.Elements.{All-cons, All-nil, All-pop, All-push}

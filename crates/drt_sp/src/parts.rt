@@ -245,7 +245,7 @@ fn end_combination(
         let Some(top) = stack.pop() else {
             return Ok(Some(Row::from_vec(items)));
         };
-        match take_next(alloc, forest, top.as_slice(), wcet, deadline, &mut stack)? {
+        match take_next(alloc, forest, top, wcet, deadline, &mut stack)? {
             Some(item) => items.push(item)?,
             None => return Ok(None),
         }
@@ -263,41 +263,43 @@ fn end_combination(
 fn take_next(
     alloc: Global,
     forest: &Forest,
-    nodes: &[u32],
+    nodes: Row<u32>,
     wcet: u32,
     deadline: u32,
     stack: &mut Vec<Row<u32>>,
 ) -> Result<Option<Item>, Memory>
-    requires can { CanEnd forest.now wcet deadline nodes.now }
+    requires can { CanEnd forest.now wcet deadline nodes }
     requires wcet { wcet ≤ 1000000 }
     requires deadline { deadline ≤ 1000000 }
-    ensures { IfOk result (λ some. IfSome some (IsNextItem forest.now wcet deadline nodes.now stack.old.items stack.new.items)) }
+    ensures { IfOk result (λ some. IfSome some (IsNextItem forest.now wcet deadline nodes stack.old.items stack.new.items)) }
 {
-    if let Some(time) = least_time(wcet as u64, deadline as u64, forest.all(), nodes) {
+    let combination = nodes.as_slice();
+    if let Some(time) = least_time(wcet as u64, deadline as u64, forest.all(), combination) {
         return Ok(Some(Item::Pass(time)));
     }
-    let Some(place) = choose_place(forest, nodes) else {
+    let Some(place) = choose_place(forest, combination) else {
         return Ok(None);
     };
-    let node = nodes[place as usize];
+    let node = combination[place as usize];
     match forest.children(node) {
         None => unreachable!(),
         Some((left, right)) => {
-            stack.push(with_node(alloc, nodes, place, right)?)?;
-            stack.push(with_node(alloc, nodes, place, left)?)?;
+            let other = Row::from_vec(Vec::from_slice(alloc, combination)?);
+            stack.push(with_node(other, place, right))?;
+            stack.push(with_node(nodes, place, left))?;
             Ok(Some(Item::Split(place)))
         }
     }
 }
 
 // The nodes with another one at a place.
-fn with_node(alloc: Global, nodes: &[u32], place: u32, node: u32) -> Result<Row<u32>, Memory>
-    requires { place < length nodes.now }
-    ensures { IfOk result (λ row. row ≡ slice_set nodes.now place node) }
+fn with_node(nodes: Row<u32>, place: u32, node: u32) -> Row<u32>
+    requires { place < length nodes }
+    ensures { result ≡ slice_set nodes place node }
 {
-    let mut row = Vec::from_slice(alloc, nodes)?;
-    row[place as usize] = node;
-    Ok(Row::from_vec(row))
+    let mut nodes = nodes.into_vec();
+    nodes[place as usize] = node;
+    Row::from_vec(nodes)
 }
 
 // A place for the part of each of so many combinations.
@@ -370,7 +372,7 @@ fn join_parts(
     ensures { IfOk result (λ some. IfSome some (λ items. AreEndOf forest.now frontier.now.wcet frontier.now.deadline frontier.now.roots items × IsCounted items)) }
 {
     eager_settles();
-    let mut items = Vec::new(alloc);
+    let mut items = Vec::with_capacity(alloc, room_for(parts.as_slice()))?;
     let mut stack = Vec::new(alloc);
     stack.push(0)?;
     for _ in 0..=frontier.count() {
@@ -382,6 +384,17 @@ fn join_parts(
         }
     }
     Ok(None)
+}
+
+// How many items there are at most: an item for each combination, and the parts.
+fn room_for(parts: &[Option<Row<Item>>]) -> usize {
+    let mut room = parts.len();
+    for part in parts {
+        if let Some(items) = part {
+            room = room.saturating_add(items.as_slice().len());
+        }
+    }
+    room
 }
 
 // The items, where one frontier makes them within the budget, by two steps each.

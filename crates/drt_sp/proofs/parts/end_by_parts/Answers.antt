@@ -1,10 +1,9 @@
 -- What can be ended, and what the parts prove.
-use Rattle.std.proofs.Common.{◌≡◌, ℕ, ◌≤◌, ◌<◌, All, List, Option, None, Some, length, refl, sym, ap, subst, arith, ◌∙◌}
-use Rattle.std.specs.Prelude.{IfSome, slice_get}
+use Rattle.std.proofs.Common.{ℕ, All, List, Option, None, Some, sym, subst, arith, ◌∙◌}
+use Rattle.std.specs.Prelude.{IfSome}
 use Rattle.std.proofs.lemmas.Option.{IfSome_then, get_or_from_slice_get, none-some, slice_get_within}
 use Rattle.std.proofs.lemmas.Result.{IfOk-weaker}
 use Rattle.drt_steps.specs.Time.{AreChosen}
-use Rattle.drt_refine.specs.Combination.{Combination}
 use Rattle.drt_refine.specs.Facts.{Facts}
 use Rattle.drt_refine.specs.Machine.{State}
 use Rattle.drt_refine.specs.View.{setting_of}

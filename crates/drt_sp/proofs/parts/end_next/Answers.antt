@@ -1,8 +1,7 @@
 -- One more part, which ends the combination that was taken.
-use Rattle.std.proofs.Common.{◌≡◌, ℕ, ◌<◌, ◌++◌, ◌∷◌, [], List, All, Some, length, sym, subst, arith}
-use Rattle.std.specs.Prelude.{slice_get, slice_index_or}
+use Rattle.std.proofs.Common.{ℕ, ◌<◌, List, All, length, sym, subst, arith}
+use Rattle.std.specs.Prelude.{slice_index_or}
 use Rattle.std.proofs.lemmas.List.Elements.{All-get_or, All-push}
-use Rattle.drt_refine.specs.Combination.{Combination}
 use Rattle.drt_sp.specs.Parts.{AreEndOf, IsEndOf, IsPart}
 use Rattle.drt_sp.specs.declared.parts.Part.{Part}
 use Rattle.drt_sp.proofs.parts.end_next.Goals as goal

@@ -25,7 +25,7 @@ loop-init c =
     let stack : c.push.new.self.items ≡ 0 ∷ [] = c.in_ok-push.ensures.items ∙ ap (λ (l : List ℕ). l ++ 0 ∷ []) c.new-stack.ensures.items in
     record {
       read =
-          subst (λ (l : List Item). IsRead t.forest t.wcet t.deadline t.roots cs l c.push.new.self.items) (sym c.new-items.ensures.items)
+          subst (λ (l : List Item). IsRead t.forest t.wcet t.deadline t.roots cs l c.push.new.self.items) (sym c.in_ok-items.ensures.items)
           (subst (λ (l : List ℕ). IsRead t.forest t.wcet t.deadline t.roots cs [] l) (sym stack) (read_start t cs settled));
       within = subst (λ (l : List ℕ). All (λ n. n < length cs) l) (sym stack) (All-cons (λ n. n < length cs) 0 [] some (All-nil (λ n. n < length cs)));
       parts = c.requires.parts;
