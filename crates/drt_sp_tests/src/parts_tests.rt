@@ -36,10 +36,10 @@ const ALL_PASS: &str =
 const ALL_PASS_YES: &str =
     "evidence fixed-yes\ntrees 1\ntree 3\nwalk 1 1\nwalk 1 0\nwalk 2 1 1\npairs 2\npair 0 1\npair 3 2\nproofs 5\nproof 0 0 1 p3\nproof 0 1 1 p2\nproof 1 0 3 s0 p5 p4\nproof 1 1 1 p4\nproof 1 2 3 s0 p5 p4\nclose\n";
 
-// Five tasks, as `bench/fixed split 5 6 50 8` draws them, but for the second job of the last one, whose proof has some 2,000 items here.
-// A frontier makes two steps for each.
+// Four of the tasks that `bench/fixed split 5 6 50 8` draws, with another second job in the last one: its proof has some 5,000 items,
+// for each of which a frontier makes two steps.
 const HARD: &str =
-    "drt 2\ntask t0\npriority 1\nvertex v0 15 226\nvertex v1 20 164\nvertex v2 23 98\nvertex v3 22 159\nvertex v4 10 168\nvertex v5 25 233\nedge v0 v1 253\nedge v1 v2 241\nedge v2 v3 226\nedge v3 v4 270\nedge v3 v5 240\nedge v4 v4 340\nedge v4 v5 367\nedge v5 v0 261\nedge v5 v4 249\nedge v5 v5 251\ntask t1\npriority 2\nvertex v0 39 559\nvertex v1 80 498\nvertex v2 82 620\nvertex v3 92 434\nvertex v4 97 563\nvertex v5 71 516\nedge v0 v1 1013\nedge v1 v2 572\nedge v1 v5 870\nedge v2 v3 711\nedge v3 v4 558\nedge v4 v5 878\nedge v5 v0 911\ntask t2\npriority 3\nvertex v0 89 1167\nvertex v1 142 588\nvertex v2 141 1007\nvertex v3 137 480\nvertex v4 108 676\nvertex v5 46 940\nedge v0 v1 1478\nedge v0 v2 1262\nedge v1 v0 1585\nedge v1 v1 1504\nedge v1 v2 980\nedge v2 v0 1501\nedge v2 v3 1279\nedge v2 v5 1089\nedge v3 v4 1688\nedge v3 v5 1121\nedge v4 v2 904\nedge v4 v4 1657\nedge v4 v5 1591\nedge v5 v0 1350\ntask t3\npriority 4\nvertex v0 72 1068\nvertex v1 126 1541\nvertex v2 185 1673\nvertex v3 214 980\nvertex v4 63 1188\nvertex v5 128 1241\nedge v0 v1 2278\nedge v1 v2 1676\nedge v2 v3 1860\nedge v3 v4 1427\nedge v4 v0 1215\nedge v4 v2 1358\nedge v4 v5 1319\nedge v5 v0 1821\ntask t4\npriority 5\nvertex v0 268 1750\nvertex v1 280 1085\nvertex v2 300 1971\nvertex v3 171 1559\nvertex v4 194 1834\nvertex v5 146 2030\nedge v0 v1 2003\nedge v1 v2 2396\nedge v2 v3 2138\nedge v3 v4 1748\nedge v4 v5 2977\nedge v5 v0 2441\nend\n";
+    "drt 2\ntask t0\npriority 1\nvertex v0 15 226\nvertex v1 20 164\nvertex v2 23 98\nvertex v3 22 159\nvertex v4 10 168\nvertex v5 25 233\nedge v0 v1 253\nedge v1 v2 241\nedge v2 v3 226\nedge v3 v4 270\nedge v3 v5 240\nedge v4 v4 340\nedge v4 v5 367\nedge v5 v0 261\nedge v5 v4 249\nedge v5 v5 251\ntask t2\npriority 3\nvertex v0 89 1167\nvertex v1 142 588\nvertex v2 141 1007\nvertex v3 137 480\nvertex v4 108 676\nvertex v5 46 940\nedge v0 v1 1478\nedge v0 v2 1262\nedge v1 v0 1585\nedge v1 v1 1504\nedge v1 v2 980\nedge v2 v0 1501\nedge v2 v3 1279\nedge v2 v5 1089\nedge v3 v4 1688\nedge v3 v5 1121\nedge v4 v2 904\nedge v4 v4 1657\nedge v4 v5 1591\nedge v5 v0 1350\ntask t3\npriority 4\nvertex v0 72 1068\nvertex v1 126 1541\nvertex v2 185 1673\nvertex v3 214 980\nvertex v4 63 1188\nvertex v5 128 1241\nedge v0 v1 2278\nedge v1 v2 1676\nedge v2 v3 1860\nedge v3 v4 1427\nedge v4 v0 1215\nedge v4 v2 1358\nedge v4 v5 1319\nedge v5 v0 1821\ntask t4\npriority 5\nvertex v0 268 1750\nvertex v1 456 990\nvertex v2 300 1971\nvertex v3 171 1559\nvertex v4 194 1834\nvertex v5 146 2030\nedge v0 v1 2003\nedge v1 v2 2396\nedge v2 v3 2138\nedge v3 v4 1748\nedge v4 v5 2977\nedge v5 v0 2441\nend\n";
 
 // Whether several workers answer a set as one does.
 fn is_answered_as_by_one<G: Gate, R: Threads + Wait + Sync>(
@@ -191,7 +191,7 @@ fn proofs_stand_in_file_order(rt: HostRuntime) -> Result<(), Fail> {
 
 #[test]
 fn a_hard_vertex_is_answered_as_by_one_worker(rt: HostRuntime) -> Result<(), Fail> {
-    for budget in [4_100, 4_281, 4_282, 10_000] {
+    for budget in [9_709, 9_710] {
         assert!(rt;
             is_answered_as_by_one(&rt, rt.alloc(), Source::Text(HARD), budget, &OpenGate)?,
             "within {budget} steps"
