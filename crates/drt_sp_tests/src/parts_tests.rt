@@ -38,8 +38,19 @@ const ALL_PASS_YES: &str =
 
 // Four of the tasks that `bench/fixed split 5 6 50 8` draws, with another second job in the last one: its proof has some 5,000 items,
 // for each of which a frontier makes two steps.
-const HARD: &str =
-    "drt 2\ntask t0\npriority 1\nvertex v0 15 226\nvertex v1 20 164\nvertex v2 23 98\nvertex v3 22 159\nvertex v4 10 168\nvertex v5 25 233\nedge v0 v1 253\nedge v1 v2 241\nedge v2 v3 226\nedge v3 v4 270\nedge v3 v5 240\nedge v4 v4 340\nedge v4 v5 367\nedge v5 v0 261\nedge v5 v4 249\nedge v5 v5 251\ntask t2\npriority 3\nvertex v0 89 1167\nvertex v1 142 588\nvertex v2 141 1007\nvertex v3 137 480\nvertex v4 108 676\nvertex v5 46 940\nedge v0 v1 1478\nedge v0 v2 1262\nedge v1 v0 1585\nedge v1 v1 1504\nedge v1 v2 980\nedge v2 v0 1501\nedge v2 v3 1279\nedge v2 v5 1089\nedge v3 v4 1688\nedge v3 v5 1121\nedge v4 v2 904\nedge v4 v4 1657\nedge v4 v5 1591\nedge v5 v0 1350\ntask t3\npriority 4\nvertex v0 72 1068\nvertex v1 126 1541\nvertex v2 185 1673\nvertex v3 214 980\nvertex v4 63 1188\nvertex v5 128 1241\nedge v0 v1 2278\nedge v1 v2 1676\nedge v2 v3 1860\nedge v3 v4 1427\nedge v4 v0 1215\nedge v4 v2 1358\nedge v4 v5 1319\nedge v5 v0 1821\ntask t4\npriority 5\nvertex v0 268 1750\nvertex v1 456 990\nvertex v2 300 1971\nvertex v3 171 1559\nvertex v4 194 1834\nvertex v5 146 2030\nedge v0 v1 2003\nedge v1 v2 2396\nedge v2 v3 2138\nedge v3 v4 1748\nedge v4 v5 2977\nedge v5 v0 2441\nend\n";
+const HARD: &str = "drt 2\n\
+    task t0\npriority 1\nvertex v0 15 226\nvertex v1 20 164\nvertex v2 23 98\nvertex v3 22 159\nvertex v4 10 168\nvertex v5 25 233\n\
+    edge v0 v1 253\nedge v1 v2 241\nedge v2 v3 226\nedge v3 v4 270\nedge v3 v5 240\nedge v4 v4 340\nedge v4 v5 367\nedge v5 v0 261\n\
+    edge v5 v4 249\nedge v5 v5 251\n\
+    task t2\npriority 3\nvertex v0 89 1167\nvertex v1 142 588\nvertex v2 141 1007\nvertex v3 137 480\nvertex v4 108 676\n\
+    vertex v5 46 940\nedge v0 v1 1478\nedge v0 v2 1262\nedge v1 v0 1585\nedge v1 v1 1504\nedge v1 v2 980\nedge v2 v0 1501\n\
+    edge v2 v3 1279\nedge v2 v5 1089\nedge v3 v4 1688\nedge v3 v5 1121\nedge v4 v2 904\nedge v4 v4 1657\nedge v4 v5 1591\n\
+    edge v5 v0 1350\n\
+    task t3\npriority 4\nvertex v0 72 1068\nvertex v1 126 1541\nvertex v2 185 1673\nvertex v3 214 980\nvertex v4 63 1188\n\
+    vertex v5 128 1241\nedge v0 v1 2278\nedge v1 v2 1676\nedge v2 v3 1860\nedge v3 v4 1427\nedge v4 v0 1215\nedge v4 v2 1358\n\
+    edge v4 v5 1319\nedge v5 v0 1821\n\
+    task t4\npriority 5\nvertex v0 268 1750\nvertex v1 456 990\nvertex v2 300 1971\nvertex v3 171 1559\nvertex v4 194 1834\n\
+    vertex v5 146 2030\nedge v0 v1 2003\nedge v1 v2 2396\nedge v2 v3 2138\nedge v3 v4 1748\nedge v4 v5 2977\nedge v5 v0 2441\nend\n";
 
 // Whether several workers answer a set as one does.
 fn is_answered_as_by_one<G: Gate, R: Threads + Wait + Sync>(
