@@ -123,220 +123,76 @@ const CROSSING: [Shape<'static>; 2] = [
     (&[(2, 5)], &[(0, 0, 10)]),
 ];
 
-// Each tree begins with the walks of one and of two vertices that no others dominate: p q m n c pm qn mc nc.
+// The letters of their vertices.
+const CROSSING_LETTERS: &[u8] = b"pqmnc";
+
+// The walk of a word, a letter for each vertex.
+fn walk_of(alloc: Global, letters: &[u8], word: &str) -> Result<Row<u32>, Fail> {
+    let mut walk = Vec::new(alloc);
+    for letter in word.bytes() {
+        match letters.iter().position(|other| *other == letter) {
+            Some(vertex) if vertex < 8 => walk.push(vertex as u32)?,
+            Some(_) | None => return Err("a letter of a vertex".into()),
+        }
+    }
+    Ok(Row::from_vec(walk))
+}
+
+// The walks of some words, without a pair.
+fn tree_of(alloc: Global, letters: &[u8], words: &str) -> Result<TreeClaim, Fail> {
+    let mut walks = Vec::new(alloc);
+    for word in words.split_whitespace() {
+        walks.push(walk_of(alloc, letters, word)?)?;
+    }
+    Ok(TreeClaim {
+        walks: Row::from_vec(walks),
+        pairs: Row::from_vec(Vec::new(alloc)),
+    })
+}
+
+// Whether a tree of these walks covers those of the first task.
+fn is_covered(
+    alloc: Global,
+    shapes: &[Shape<'_>],
+    letters: &[u8],
+    words: &str,
+) -> Result<bool, Fail> {
+    let set = make_set(alloc, shapes)?.ok_or("within the limits")?;
+    let mut trees = Vec::new(alloc);
+    trees.push(tree_of(alloc, letters, words)?)?;
+    let broken = broken(alloc, &set, trees.as_slice())?;
+    Ok(broken.is_none())
+}
+
+// Each tree has the walks of one and of two vertices that no others dominate, and then walks of three and four.
 #[test]
 fn one_of_walks_that_are_alike_is_enough_and_each_that_crosses_is_needed(
     rt: HostRuntime,
 ) -> Result<(), Fail> {
-    let cases: [(&[Given<'_>], Option<u8>); 9] = [
+    let cases = [
+        ("p q m n c pm qn mc nc pmc qnc pmcc qncc", true),
+        ("p q m n c pm qn mc nc mccc mcc pmcc pmc", true),
         (
-            &[(
-                &[
-                    &[0],
-                    &[1],
-                    &[2],
-                    &[3],
-                    &[4],
-                    &[0, 2],
-                    &[1, 3],
-                    &[2, 4],
-                    &[3, 4],
-                    &[0, 2, 4],
-                    &[1, 3, 4],
-                    &[0, 2, 4, 4],
-                    &[1, 3, 4, 4],
-                ],
-                &[],
-            )],
-            None,
+            "p q m n c pm qn mc nc qnc pmc qncc pmc mcc qnc mccc pmcc qnc pmc mcc",
+            true,
         ),
-        // mcc asks for as much as qnc, and mccc as qncc.
+        ("p q m n c pm qn mc nc qnc pmcc qncc", false),
+        ("p q m n c pm qn mc nc pmc pmcc qncc", false),
+        ("p q m n c pm qn mc nc pmc qnc pmcc", false),
+        ("p q m n c pm qn mc nc pmc qnc qncc", false),
         (
-            &[(
-                &[
-                    &[0],
-                    &[1],
-                    &[2],
-                    &[3],
-                    &[4],
-                    &[0, 2],
-                    &[1, 3],
-                    &[2, 4],
-                    &[3, 4],
-                    &[2, 4, 4, 4],
-                    &[2, 4, 4],
-                    &[0, 2, 4, 4],
-                    &[0, 2, 4],
-                ],
-                &[],
-            )],
-            None,
+            "p q m n c pm qn mc nc qnc pmc mcc qnc pmc mcc qncc mccc qncc",
+            false,
         ),
         (
-            &[(
-                &[
-                    &[0],
-                    &[1],
-                    &[2],
-                    &[3],
-                    &[4],
-                    &[0, 2],
-                    &[1, 3],
-                    &[2, 4],
-                    &[3, 4],
-                    &[1, 3, 4],
-                    &[0, 2, 4],
-                    &[1, 3, 4, 4],
-                    &[0, 2, 4],
-                    &[2, 4, 4],
-                    &[1, 3, 4],
-                    &[2, 4, 4, 4],
-                    &[0, 2, 4, 4],
-                    &[1, 3, 4],
-                    &[0, 2, 4],
-                    &[2, 4, 4],
-                ],
-                &[],
-            )],
-            None,
-        ),
-        // pmc, qnc, qncc and pmcc are left out in turn, and pmcc and qncc among many of the others.
-        (
-            &[(
-                &[
-                    &[0],
-                    &[1],
-                    &[2],
-                    &[3],
-                    &[4],
-                    &[0, 2],
-                    &[1, 3],
-                    &[2, 4],
-                    &[3, 4],
-                    &[1, 3, 4],
-                    &[0, 2, 4, 4],
-                    &[1, 3, 4, 4],
-                ],
-                &[],
-            )],
-            Some(18),
-        ),
-        (
-            &[(
-                &[
-                    &[0],
-                    &[1],
-                    &[2],
-                    &[3],
-                    &[4],
-                    &[0, 2],
-                    &[1, 3],
-                    &[2, 4],
-                    &[3, 4],
-                    &[0, 2, 4],
-                    &[0, 2, 4, 4],
-                    &[1, 3, 4, 4],
-                ],
-                &[],
-            )],
-            Some(18),
-        ),
-        (
-            &[(
-                &[
-                    &[0],
-                    &[1],
-                    &[2],
-                    &[3],
-                    &[4],
-                    &[0, 2],
-                    &[1, 3],
-                    &[2, 4],
-                    &[3, 4],
-                    &[0, 2, 4],
-                    &[1, 3, 4],
-                    &[0, 2, 4, 4],
-                ],
-                &[],
-            )],
-            Some(18),
-        ),
-        (
-            &[(
-                &[
-                    &[0],
-                    &[1],
-                    &[2],
-                    &[3],
-                    &[4],
-                    &[0, 2],
-                    &[1, 3],
-                    &[2, 4],
-                    &[3, 4],
-                    &[0, 2, 4],
-                    &[1, 3, 4],
-                    &[1, 3, 4, 4],
-                ],
-                &[],
-            )],
-            Some(18),
-        ),
-        (
-            &[(
-                &[
-                    &[0],
-                    &[1],
-                    &[2],
-                    &[3],
-                    &[4],
-                    &[0, 2],
-                    &[1, 3],
-                    &[2, 4],
-                    &[3, 4],
-                    &[1, 3, 4],
-                    &[0, 2, 4],
-                    &[2, 4, 4],
-                    &[1, 3, 4],
-                    &[0, 2, 4],
-                    &[2, 4, 4],
-                    &[1, 3, 4, 4],
-                    &[2, 4, 4, 4],
-                    &[1, 3, 4, 4],
-                ],
-                &[],
-            )],
-            Some(18),
-        ),
-        (
-            &[(
-                &[
-                    &[0],
-                    &[1],
-                    &[2],
-                    &[3],
-                    &[4],
-                    &[0, 2],
-                    &[1, 3],
-                    &[2, 4],
-                    &[3, 4],
-                    &[1, 3, 4],
-                    &[0, 2, 4],
-                    &[2, 4, 4],
-                    &[1, 3, 4],
-                    &[0, 2, 4],
-                    &[2, 4, 4],
-                    &[0, 2, 4, 4],
-                    &[0, 2, 4, 4],
-                ],
-                &[],
-            )],
-            Some(18),
+            "p q m n c pm qn mc nc qnc pmc mcc qnc pmc mcc pmcc pmcc",
+            false,
         ),
     ];
-    for (given, wanted) in cases {
+    for (words, wanted) in cases {
         assert!(rt;
-            is_broken(rt.alloc(), &CROSSING, given, wanted)?,
-            "of {wanted:?}"
+            is_covered(rt.alloc(), &CROSSING, CROSSING_LETTERS, words)? == wanted,
+            "by {words}"
         );
     }
     Ok(())
@@ -353,27 +209,18 @@ const GAPS: [Shape<'static>; 2] = [
 
 #[test]
 fn walks_that_differ_in_a_separation_are_not_alike(rt: HostRuntime) -> Result<(), Fail> {
-    let cases: [(&[Given<'_>], Option<u8>); 4] = [
+    let cases = [
         // ac is above bc and cc, and acc above what they go on to.
-        (&[(&[&[0], &[1], &[2], &[0, 2], &[0, 2, 2]], &[])], None),
-        (
-            &[(
-                &[&[1, 2], &[0], &[0, 2], &[1], &[1, 2], &[2], &[0, 2, 2]],
-                &[],
-            )],
-            None,
-        ),
+        ("a b c ac acc", true),
+        ("bc a ac b bc c acc", true),
         // bc isn't above ac, nor bcc above acc.
-        (&[(&[&[0], &[1], &[2], &[1, 2], &[1, 2, 2]], &[])], Some(18)),
-        (
-            &[(&[&[0], &[1], &[2], &[1, 2], &[0, 2], &[1, 2, 2]], &[])],
-            Some(18),
-        ),
+        ("a b c bc bcc", false),
+        ("a b c bc ac bcc", false),
     ];
-    for (given, wanted) in cases {
+    for (words, wanted) in cases {
         assert!(rt;
-            is_broken(rt.alloc(), &GAPS, given, wanted)?,
-            "of {wanted:?}"
+            is_covered(rt.alloc(), &GAPS, b"abc", words)? == wanted,
+            "by {words}"
         );
     }
     Ok(())
