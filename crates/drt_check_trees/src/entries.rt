@@ -221,9 +221,41 @@ fn is_no_less(
     asks_no_less(graph, gaps, bound, walks[entry.number].as_slice(), other)
 }
 
+// Whether there is an entry at this place whose walk dominates this one, of this span.
+fn is_over_at(
+    graph: &Graph,
+    gaps: &[u32],
+    bound: u32,
+    walks: &[Row<u32>],
+    entries: &[Entry],
+    place: usize,
+    walk: &[u32],
+    span: u64,
+) -> bool
+    requires gaps { AreGaps graph.now gaps.now }
+    requires bound { bound ≤ 1000000 }
+    requires short { All (IsShortWalk bound graph.now) walks.now }
+    requires entries { AreEntries bound graph.now walks.now entries.now }
+    requires walk { IsShortWalk bound graph.now walk.now }
+    requires span { span ≡ span_of graph.now walk.now }
+    ensures { IsTrue result → Any (IsOver bound graph.now walk.now) walks.now }
+{
+    place < entries.len() && is_over(graph, gaps, bound, walks, entries[place], walk, span)
+}
+
+// The place of the last entry that stands no later than this one. If a walk of the same releases is among those of a tree, the entry
+// there is its own, or it was left out for that one.
+fn last_until(entries: &[Entry], own: &Entry) -> usize {
+    let order = order_of(own);
+    entries
+        .partition_point(|entry| order_of(entry) <= order)
+        .saturating_sub(1)
+}
+
 /// Whether a walk dominates this one, of this extent. It first tries the entry that was found for the last walk to the same vertex,
-/// by the hint at that vertex: extensions that come one after another are often alike. Then, of those with its last vertex and at
-/// least its work, it looks at those with the least work first: where the walk itself is among them, it is found at once.
+/// by the hint at that vertex: extensions that come one after another are often alike. Then it tries the entry of a walk with the same
+/// releases, which is there where the walk itself is among the others. At last, of those with its last vertex and at least its work, it
+/// looks at those with the least work first.
 pub(crate) fn has_above(
     graph: &Graph,
     gaps: &[u32],
@@ -245,18 +277,35 @@ pub(crate) fn has_above(
 {
     let _count = graph.vertex_count();
     let last = last_in(walk);
-    let from = first_from(entries, 1099511627776 * last as u64);
-    let to = first_from(entries, rank_of(last, extent.work) + 1);
-    let hint = hints[last as usize];
-    if hint < entries.len() {
-        if is_over(graph, gaps, bound, walks, entries[hint], walk, extent.span) {
-            return true;
-        }
+    let span = extent.span;
+    if is_over_at(
+        graph,
+        gaps,
+        bound,
+        walks,
+        entries,
+        hints[last as usize],
+        walk,
+        span,
+    ) {
+        return true;
     }
-    let mut k = to;
+    let own = Entry {
+        rank: rank_of(last, extent.work),
+        number: 0,
+        span: span as u32,
+        digest: digest_of(graph, gaps, walk),
+    };
+    let alike = last_until(entries, &own);
+    if is_over_at(graph, gaps, bound, walks, entries, alike, walk, span) {
+        hints[last as usize] = alike;
+        return true;
+    }
+    let from = first_from(entries, 1099511627776 * last as u64);
+    let mut k = first_from(entries, own.rank + 1);
     while k > from {
         k -= 1;
-        if is_no_less(graph, gaps, bound, walks, entries[k], walk, extent.span) {
+        if is_no_less(graph, gaps, bound, walks, entries[k], walk, span) {
             hints[last as usize] = k;
             return true;
         }

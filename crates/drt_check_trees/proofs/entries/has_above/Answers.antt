@@ -5,7 +5,7 @@ use Rattle.drt_model.specs.Walk.{work}
 use Rattle.drt_check_trees.specs.Asking.{AsksNoLess}
 use Rattle.drt_check_trees.specs.Entries.{IsEntryOf, IsOver, last_in, rank_of}
 use Rattle.drt_check_trees.specs.declared.entries.Entry.{Entry}
-use Rattle.drt_check_trees.proofs.Ranks.{entry_any, entry_over, over_entry, over_parts, short_last, short_small}
+use Rattle.drt_check_trees.proofs.Ranks.{entry_over, over_entry, over_parts, short_last, short_small, short_within}
 use Rattle.drt_check_trees.proofs.entries.has_above.Goals as goal
 
 pub overflow_mul-last : goal.overflow_mul-last
@@ -23,8 +23,11 @@ rank_of-requires-clause-work c =
     let w = short_small c.args.graph.now c.vertex_count-count.ensures.sound c.args.bound c.args.walk.now c.requires.bound c.requires.walk in
     omega (arith, w, c.requires.work)
 
-pub overflow_add-rank_of : goal.overflow_add-rank_of
-overflow_add-rank_of c =
+pub digest_of-requires-clause-within : goal.digest_of-requires-clause-within
+digest_of-requires-clause-within c = short_within c.args.graph.now c.vertex_count-count.ensures.sound c.args.bound c.args.walk.now c.requires.bound c.requires.walk
+
+pub overflow_add-own : goal.overflow_add-own
+overflow_add-own c =
     let l = short_last c.args.graph.now c.vertex_count-count.ensures.sound c.args.bound c.args.walk.now c.requires.walk in
     omega (arith, l, c.last_in-last.ensures, c.vertex_count-count.ensures.sound.few, c.rank_of.ensures)
 
@@ -33,16 +36,15 @@ bounds-hints-last c =
     let l = short_last c.args.graph.now c.vertex_count-count.ensures.sound c.args.bound c.args.walk.now c.requires.walk in
     omega (arith, l, c.last_in-last.ensures, c.vertex_count-count.ensures.sound.few)
 
+pub bounds-hints-last-then-is_over_at-2 : goal.bounds-hints-last-then-is_over_at-2
+bounds-hints-last-then-is_over_at-2 c =
+    let l = short_last c.args.graph.now c.vertex_count-count.ensures.sound c.args.bound c.args.walk.now c.requires.walk in
+    omega (arith, l, c.last_in-last.ensures, c.vertex_count-count.ensures.sound.few)
+
 pub bounds-hints-last-then-is_no_less : goal.bounds-hints-last-then-is_no_less
 bounds-hints-last-then-is_no_less c =
     let l = short_last c.args.graph.now c.vertex_count-count.ensures.sound c.args.bound c.args.walk.now c.requires.walk in
     omega (arith, l, c.last_in-last.ensures, c.vertex_count-count.ensures.sound.few)
-
-pub returns-then-is_over : goal.returns-then-is_over
-returns-then-is_over c = (
-  λ t. entry_any c.args.bound c.args.graph.now c.args.walks.now c.args.walk.now c.args.entries.now c.requires.entries _ _ (omega arith) (c.is_over.ensures.0 c.if-is_over.true),
-  λ any. refl,
-)
 
 pub returns-then-is_no_less : goal.returns-then-is_no_less
 returns-then-is_no_less c =
@@ -51,10 +53,10 @@ returns-then-is_no_less c =
     let entries : List Entry = c.args.entries.now in
     let d : Entry = record { rank = 0; number = 0; span = 0; digest = 0 } in
     let e : Entry = get_or entries k d in
-    let l : k < length entries = omega (arith, c.loop-k-test.true, c.loop-k.invariant.0, c.first_from-to.ensures.within) in
+    let l : k < length entries = omega (arith, c.loop-k-test.true, c.loop-k.invariant.0, c.first_from-k.ensures.within) in
     let of : IsEntryOf g c.args.walks.now e = c.requires.entries.each k d l in
     let low : 1099511627776 * c.last_in-last.result ≤ e.rank = c.first_from-from.ensures.after k d (omega (arith, c.loop-k-test.true)) l in
-    let high : e.rank < c.rank_of.result + 1 = c.first_from-to.ensures.before k d (omega (arith, c.loop-k-test.true, c.loop-k.invariant.0)) in
+    let high : e.rank < c.rank_of.result + 1 = c.first_from-k.ensures.before k d (omega (arith, c.loop-k-test.true, c.loop-k.invariant.0)) in
     let from : 1099511627776 * last_in c.args.walk.now ≤ e.rank = omega (arith, low, c.last_in-last.ensures) in
     let to : e.rank ≤ rank_of (last_in c.args.walk.now) (work g c.args.walk.now) = omega (arith, high, c.rank_of.ensures, c.last_in-last.ensures, c.requires.work) in
     let both : (e.span ≤ c.args.extent.span) × AsksNoLess c.args.bound g c.args.walk.now (get_or c.args.walks.now e.number []) = c.is_no_less.ensures.0 c.if-is_no_less.true in (
@@ -69,7 +71,7 @@ loop-k-preserved c =
     let entries : List Entry = c.args.entries.now in
     let d : Entry = record { rank = 0; number = 0; span = 0; digest = 0 } in
     let e : Entry = get_or entries k d in
-    let l : k < length entries = omega (arith, c.loop-k-test.true, c.loop-k.invariant.0, c.first_from-to.ensures.within) in
+    let l : k < length entries = omega (arith, c.loop-k-test.true, c.loop-k.invariant.0, c.first_from-k.ensures.within) in
     let of : IsEntryOf g c.args.walks.now e = c.requires.entries.each k d l in
     let not : IsOver c.args.bound g c.args.walk.now (get_or c.args.walks.now e.number []) → ⊥
     = (λ over.
