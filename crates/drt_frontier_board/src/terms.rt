@@ -25,7 +25,8 @@ impl Terms {
     ghost use Rattle.std.specs.Prelude.{◌≡◌};
     ghost use Rattle.drt_refine.specs.View.{setting_of};
 
-    pub(crate) fn new(forest: &Forest, opening: &Frontier) -> Terms
+    /// Those of a frontier over the forest.
+    pub fn new(forest: &Forest, opening: &Frontier) -> Terms
         ensures { result ≡ setting_of forest.now opening.now }
     {
         Terms {

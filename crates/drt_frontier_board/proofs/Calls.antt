@@ -22,11 +22,11 @@ use Rattle.drt_refine.specs.declared.step.FrontierStep.{FrontierStep}
 use Rattle.drt_refine.specs.declared.step.FrontierStep.TheVariants.{Take, Pass, Split, Fail}
 use Rattle.drt_refine.proofs.Making.{Logs, same, adds, step_logs, frontier_facts}
 use Rattle.drt_refine.proofs.Settling.{settle_can, settle_eager, take_eager}
-use Rattle.drt_shared_frontier.specs.Board.{BoardOf, terms_of, CanMake, IsMade}
-use Rattle.drt_shared_frontier.specs.Finds.{HasCopy, IsFound, is_number, is_expected}
-use Rattle.drt_shared_frontier.specs.Replies.{logged_by, taken_by, IsReplyTo}
-use Rattle.drt_shared_frontier.specs.declared.answer.FrontierFound.{FrontierFound}
-use Rattle.drt_shared_frontier.proofs.Goes.{Goes, FailsHeld, goes}
+use Rattle.drt_frontier_board.specs.Board.{BoardOf, terms_of, CanMake, IsMade}
+use Rattle.drt_frontier_board.specs.Finds.{HasCopy, IsFound, is_number, is_expected}
+use Rattle.drt_frontier_board.specs.Replies.{logged_by, taken_by, IsReplyTo}
+use Rattle.drt_frontier_board.specs.declared.answer.FrontierFound.{FrontierFound}
+use Rattle.drt_frontier_board.proofs.Goes.{Goes, FailsHeld, goes}
 
 is_equal : (m n : ℕ) → (m == n) ≡ true → m ≡ n
 is_equal m n e = grind (arith, nat_tests)

@@ -4,9 +4,9 @@ use Rattle.drt_refine.specs.declared.step.FrontierReply.{FrontierReply}
 use Rattle.drt_refine.specs.declared.step.FrontierReply.TheVariants.{Taken, Busy, Finished, Passed, Halved, Failed, Spent}
 use Rattle.drt_refine.specs.declared.step.FrontierStep.{FrontierStep}
 use Rattle.drt_refine.specs.declared.step.FrontierStep.TheVariants.{Take, Pass, Split, Fail}
-use Rattle.drt_shared_frontier.specs.Finds.{is_number}
-use Rattle.drt_shared_frontier.specs.declared.answer.FrontierAnswer.{FrontierAnswer}
-use Rattle.drt_shared_frontier.specs.declared.answer.FrontierAnswer.TheVariants.{Step, Strange}
+use Rattle.drt_frontier_board.specs.Finds.{is_number}
+use Rattle.drt_frontier_board.specs.declared.answer.FrontierAnswer.{FrontierAnswer}
+use Rattle.drt_frontier_board.specs.declared.answer.FrontierAnswer.TheVariants.{Step, Strange}
 
 -- How many entries a reply adds to the log, where the worker held that combination. That one has failed is told once, by the step
 -- that is logged; each later step is told the same.

@@ -1,13 +1,13 @@
-//! The frontier behind the lock.
+//! The frontier that a lock guards.
 
 ghost use Rattle.std.specs.Prelude.{◌≡◌, ◌≢◌, ℕ, ◌<◌, MatchBool, Some, true, [], length};
 ghost use Rattle.drt_refine.specs.Eager.{IsEager};
 ghost use Rattle.drt_refine.specs.Facts.{AreInPlace};
 ghost use Rattle.drt_refine.specs.View.{IsFrontier};
-ghost use Rattle.drt_shared_frontier.specs.Board.{terms_of, CanMake, IsCall, IsMade, IsCopied};
-ghost use Rattle.drt_shared_frontier.specs.Finds.{IsFound, is_expected, is_number};
-ghost use Rattle.drt_shared_frontier.specs.Replies.{taken_by};
-ghost use Rattle.drt_shared_frontier.specs.declared.answer.FrontierFound.{FrontierFound as Found};
+ghost use Rattle.drt_frontier_board.specs.Board.{terms_of, CanMake, IsCall, IsMade, IsCopied};
+ghost use Rattle.drt_frontier_board.specs.Finds.{IsFound, is_expected, is_number};
+ghost use Rattle.drt_frontier_board.specs.Replies.{taken_by};
+ghost use Rattle.drt_frontier_board.specs.declared.answer.FrontierFound.{FrontierFound as Found};
 
 use crate::answer::{FrontierAnswer, FrontierFound};
 use crate::terms::Terms;
@@ -27,7 +27,7 @@ pub struct Board {
 impl Model for Board {
     ghost use Rattle.drt_refine.specs.Eager.{IsEager};
     ghost use Rattle.drt_refine.specs.View.{IsFrontier};
-    ghost use Rattle.drt_shared_frontier.specs.Board.{BoardOf, terms_of};
+    ghost use Rattle.drt_frontier_board.specs.Board.{BoardOf, terms_of};
 
     ghost Value = { BoardOf };
 
@@ -40,7 +40,7 @@ impl Guarded for Board {
     type Fixed = Terms;
 
     ghost use Rattle.std.specs.Prelude.{length};
-    ghost use Rattle.drt_shared_frontier.specs.Board.{terms_of};
+    ghost use Rattle.drt_frontier_board.specs.Board.{terms_of};
 
     ghost fixed = { λ b. terms_of b };
 
@@ -48,7 +48,8 @@ impl Guarded for Board {
 }
 
 impl Board {
-    pub(crate) fn new(forest: &Forest, frontier: Frontier) -> Board
+    /// A board of the forest and a frontier over it, of which no step was made.
+    pub fn new(forest: &Forest, frontier: Frontier) -> Board
         requires frontier { IsFrontier forest.now frontier }
         requires empty { frontier.log ≡ [] }
         ensures { result ≡ record { forest = forest.now; frontier = frontier } }
@@ -59,7 +60,8 @@ impl Board {
         }
     }
 
-    pub(crate) fn into_frontier(self) -> Frontier
+    /// The frontier, with the log of all steps that were made.
+    pub fn into_frontier(self) -> Frontier
         ensures frontier { result ≡ self.frontier }
         ensures run { IsFrontier self.forest result }
         ensures eager { IsEager (terms_of self) result.log }
@@ -70,7 +72,7 @@ impl Board {
     /// One call of a worker that holds what its pass says, with a copy of its nodes, and wants to make a step. It looks at the
     /// frontier, and makes the step where the frontier holds the same. Where it took a combination, the copy becomes that of its
     /// nodes.
-    pub(crate) fn call(
+    pub fn call(
         &mut self,
         forest: &Forest,
         worker: u32,
@@ -138,8 +140,8 @@ impl Board {
     }
 }
 
-// Whether the pass holds something and has a copy of these nodes.
-pub(crate) fn is_copy(held: Option<u32>, nodes: &[u32], its: &[u32]) -> bool
+/// Whether a worker that says it holds that, with a copy of nodes, holds something and has a copy of these nodes.
+pub fn is_copy(held: Option<u32>, nodes: &[u32], its: &[u32]) -> bool
     ensures { MatchBool result ((k : ℕ) × (held ≡ Some k) × (nodes.now ≡ its.now)) ((k : ℕ) → held ≡ Some k → nodes.now ≢ its.now) }
 {
     match held {
@@ -158,8 +160,8 @@ fn expects(held: Option<u32>, found: FrontierFound) -> bool
     }
 }
 
-// Whether the number is that one.
-pub(crate) fn is_number(id: u32, number: Option<u32>) -> bool
+/// Whether the number is that one.
+pub fn is_number(id: u32, number: Option<u32>) -> bool
     ensures { result ≡ is_number id number }
 {
     match number {

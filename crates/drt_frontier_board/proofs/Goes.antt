@@ -13,8 +13,8 @@ use Rattle.drt_refine.specs.declared.step.FrontierReply.{FrontierReply}
 use Rattle.drt_refine.specs.declared.step.FrontierReply.TheVariants.{Taken, Busy, Finished, Passed, Halved, Failed, Spent}
 use Rattle.drt_refine.specs.declared.step.FrontierStep.{FrontierStep}
 use Rattle.drt_refine.specs.declared.step.FrontierStep.TheVariants.{Take, Pass, Split, Fail}
-use Rattle.drt_shared_frontier.specs.Finds.{is_number}
-use Rattle.drt_shared_frontier.specs.Replies.{logged_by, taken_by, IsReplyTo}
+use Rattle.drt_frontier_board.specs.Finds.{is_number}
+use Rattle.drt_frontier_board.specs.Replies.{logged_by, taken_by, IsReplyTo}
 
 module _ (t : Setting) (s : State) (held : Option ℕ) where
   pub record Goes (step : FrontierStep) (o : Outcome) : Type 0 where

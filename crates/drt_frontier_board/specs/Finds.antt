@@ -2,9 +2,9 @@
 use Rattle.std.specs.Prelude.{◌≡◌, ℕ, ◌==◌, Bool, false, ◌&&◌, ◌↔◌, IsTrue, Option, None, Some, is_none, List, slice_get}
 use Rattle.drt_worklist.specs.Places.{first}
 use Rattle.drt_refine.specs.Combination.{Combination, is_held_by}
-use Rattle.drt_shared_frontier.specs.declared.answer.FrontierAnswer.{FrontierAnswer}
-use Rattle.drt_shared_frontier.specs.declared.answer.FrontierAnswer.TheVariants.{Step, Strange}
-use Rattle.drt_shared_frontier.specs.declared.answer.FrontierFound.{FrontierFound}
+use Rattle.drt_frontier_board.specs.declared.answer.FrontierAnswer.{FrontierAnswer}
+use Rattle.drt_frontier_board.specs.declared.answer.FrontierAnswer.TheVariants.{Step, Strange}
+use Rattle.drt_frontier_board.specs.declared.answer.FrontierFound.{FrontierFound}
 
 -- The combination that was found has the nodes that are the copy of what the pass holds.
 pub record HasCopy (combinations : List Combination) (at held : Option ℕ) (nodes : List ℕ) : Type 0 where
@@ -35,3 +35,8 @@ is_expected (Some id) f = is_number id f.held && f.same
 abbrev pub DiffersIfStrange : Option ℕ → FrontierAnswer → Type 0
 DiffersIfStrange held (Step r) = Unit {0}
 DiffersIfStrange held (Strange f) = is_expected held f ≡ false
+
+-- And it tells what is found, in a frontier of these combinations, for a worker that holds that with a copy of these nodes.
+abbrev pub TellsFound : List Combination → ℕ → Option ℕ → List ℕ → FrontierAnswer → Type 0
+TellsFound combinations w held nodes (Step r) = Unit {0}
+TellsFound combinations w held nodes (Strange f) = IsFound combinations w held nodes f
