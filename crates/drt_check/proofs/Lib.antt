@@ -3,7 +3,6 @@ pub mod SoundRatios
 pub mod SoundWalks
 pub mod SoundHorizon
 pub mod SoundFronts
-pub mod SoundRoom
 pub mod SoundYes
 pub mod SoundTrees
 pub mod SoundCovers
@@ -15,10 +14,6 @@ pub mod Pasts
 pub mod Judged
 mod Bounds
 mod Lists
-pub mod Orders
-mod Eachs
-mod Closings
-mod Rooms
 mod Naming
 mod Accepted
 mod Rows

@@ -18,10 +18,10 @@ use Rattle.drt_evidence.specs.declared.evidence.RatioClaim.{RatioClaim}
 use Rattle.drt_evidence.specs.declared.rule.Rule.{Rule}
 use Rattle.drt_evidence.specs.declared.rule.Rule.TheVariants.{RatioPerTask, FineScale, ClaimedUtilisation, NearHorizon, OrderedFronts}
 use Rattle.drt_check.specs.Deciding.{HaveHorizon, HaveNearHorizon, IsNext}
-use Rattle.drt_check.specs.FrontOrder.{AreInOrder}
+use Rattle.drt_check_fronts.specs.FrontOrder.{AreInOrder}
 use Rattle.drt_check.proofs.Accepted.{at_horizon}
 use Rattle.drt_graph.proofs.Scales.{scale_same}
-use Rattle.drt_check.proofs.Eachs.{each_count}
+use Rattle.drt_check_fronts.proofs.Eachs.{each_count}
 
 -- Evidence with fronts has ratios, and the utilisation that it claims is below one.
 ratios_too : (e : Evidence) → HasFronts e → HasRatios e

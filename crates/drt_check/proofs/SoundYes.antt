@@ -16,10 +16,10 @@ use Rattle.drt_evidence.specs.Fronts.{HasOpenings}
 use Rattle.drt_model.specs.declared.front.FrontEntry.{FrontEntry}
 use Rattle.drt_evidence.specs.declared.evidence.RatioClaim.{RatioClaim}
 use Rattle.drt_evidence.proofs.Accepting.{IsEdfYes}
-use Rattle.drt_check.proofs.Eachs.{each_count}
+use Rattle.drt_check_fronts.proofs.Eachs.{each_count}
 use Rattle.drt_check.proofs.SoundFronts.{all_within}
 use Rattle.drt_check.proofs.SoundHorizon.{within_horizon}
-use Rattle.drt_check.proofs.SoundRoom.{room_at}
+use Rattle.drt_check_fronts.proofs.SoundRoom.{room_at}
 
 -- Claimed ratios below one and fronts that are closed and have room within the horizon imply schedulability under EDF.
 pub yes_is_sound : DeadlinesDecide → (version : ℕ) (tasks : List Task) → IsTaskSet version tasks → AreConstrained tasks

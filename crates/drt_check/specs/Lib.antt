@@ -1,6 +1,5 @@
 pub mod Judging
 pub mod Laws
 pub mod Deciding
-pub mod FrontOrder
 pub mod Claimed
 pub mod Named

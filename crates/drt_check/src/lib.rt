@@ -6,7 +6,6 @@
 
 mod checking;
 mod claimed;
-mod fronts;
 mod judgement;
 mod laws;
 mod parts;

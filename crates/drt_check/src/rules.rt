@@ -7,12 +7,12 @@ ghost use Rattle.drt_evidence.specs.declared.rule.Rule.TheVariants.{ClaimedUtili
 ghost use Rattle.drt_check.specs.Deciding.{AsksForNoGraphs, IsNext};
 
 use crate::claimed::{ClaimRule, all_keep, are_lowest};
-use crate::fronts::{are_closed, are_in_order, have_openings, have_room};
 use crate::parts::{
     fronts_of, has_releases, is_of_policy, miss_of, proofs_of, ratios_of, releases_of, trees_of,
 };
 use crate::releases::is_least_miss;
 use crate::utilisation::{horizon_of, is_below_one, is_fine, is_one, near_horizon};
+use drt_check_fronts::{are_closed, are_in_order, have_openings, have_room};
 use drt_check_proofs::{have_passing_times, have_shapes, is_proof_per_vertex};
 use drt_check_trees::{
     are_trees, cover_walks, have_short_walks, is_tree_per_higher_task, priority_order,

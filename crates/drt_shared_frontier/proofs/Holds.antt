@@ -5,8 +5,8 @@ use Rattle.drt_refine.specs.Facts.{AreInPlace}
 use Rattle.drt_refine.specs.Machine.{Setting}
 use Rattle.drt_refine.specs.declared.step.FrontierStep.{FrontierStep}
 use Rattle.drt_refine.specs.declared.step.FrontierStep.TheVariants.{Take, Pass, Split, Fail}
-use Rattle.drt_shared_frontier.specs.Board.{CanMake}
-use Rattle.drt_shared_frontier.specs.Passes.{PassOf, SharedOf, IsNewPass, CanSettle}
+use Rattle.drt_frontier_board.specs.Board.{CanMake, CanSettle}
+use Rattle.drt_shared_frontier.specs.Passes.{PassOf, SharedOf, IsNewPass}
 use Rattle.drt_shared_frontier.specs.Shared.{IsFresh}
 
 -- a pass that may settle may make the step

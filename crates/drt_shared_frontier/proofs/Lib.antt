@@ -1,5 +1,3 @@
-pub mod Goes
-pub mod Calls
 pub mod Holds
 pub mod Places
 pub mod Sends

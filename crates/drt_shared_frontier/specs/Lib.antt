@@ -1,5 +1,2 @@
-pub mod Finds
-pub mod Replies
 pub mod Passes
-pub mod Board
 pub mod Shared

@@ -6,7 +6,7 @@ use Rattle.drt_lock.specs.declared.view.SeatView.{SeatView}
 use Rattle.drt_lock.specs.Seats.{Rests}
 use Rattle.drt_pool.specs.Turns.{EachPlace}
 use Rattle.drt_refine.specs.Machine.{Setting}
-use Rattle.drt_shared_frontier.specs.Board.{BoardOf}
+use Rattle.drt_frontier_board.specs.Board.{BoardOf}
 use Rattle.drt_shared_frontier.specs.Passes.{PassOf}
 
 -- The pass at that place, as it is given out.

@@ -7,17 +7,12 @@
 //! above uses, works a frontier so from its start to its end where a gate wants several workers to begin at once, and else drives one.
 #![tactic(auto)]
 
-mod answer;
-mod board;
 mod pass;
 mod passes;
 mod refinement;
 mod shared;
-mod terms;
-#[cfg(test)]
-mod tests;
 
-pub use answer::{FrontierAnswer, FrontierFound};
+pub use drt_frontier_board::{FrontierAnswer, FrontierFound};
 pub use pass::FrontierPass;
 pub use refinement::refine;
 pub use shared::SharedFrontier;

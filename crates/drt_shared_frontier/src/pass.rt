@@ -2,9 +2,8 @@
 
 ghost use Rattle.std.specs.Prelude.{◌≡◌, ℕ, Some};
 
-use crate::board::Board;
-use crate::terms::Terms;
 use atomic_table::Seat;
+use drt_frontier_board::{Board, Terms};
 use drt_lock::SeatView;
 use std::marker::Model;
 

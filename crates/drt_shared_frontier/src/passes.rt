@@ -8,10 +8,9 @@ ghost use Rattle.drt_refine.specs.View.{IsFrontier, setting_of};
 ghost use Rattle.drt_shared_frontier.specs.Shared.{IsFresh, AreOf};
 ghost use Rattle.drt_worklist.specs.Places.{total};
 
-use crate::board::Board;
 use crate::pass::FrontierPass;
-use crate::terms::Terms;
 use atomic_table::Seat;
+use drt_frontier_board::{Board, Terms};
 use drt_lock::{Lock, SeatView};
 use drt_model::Memory;
 use drt_refine::Frontier;

@@ -8,9 +8,9 @@ ghost use Rattle.drt_refine.specs.View.{IsFrontier, setting_of, state_of};
 ghost use Rattle.drt_steps.specs.Time.{AreChosen};
 ghost use Rattle.drt_shared_frontier.specs.Passes.{IsPassOf};
 
-use crate::answer::FrontierAnswer;
 use crate::pass::FrontierPass;
 use crate::shared::SharedFrontier;
+use drt_frontier_board::FrontierAnswer;
 use drt_model::{Memory, Row};
 use drt_pool::{Gate, Turn, Work, run_all};
 use drt_refine::{Frontier, FrontierReply};

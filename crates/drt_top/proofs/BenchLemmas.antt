@@ -30,7 +30,7 @@ use Rattle.drt_trails.specs.declared.EdfTrail.{EdfTrail}
 use Rattle.drt_trails.specs.declared.FixedTrail.{FixedTrail}
 use Rattle.drt_words.specs.Searches.{most_budget}
 use Rattle.drt_top.specs.commands.Bench.{AreCounts, EdfSays, FixedSays, HasCount}
-use Rattle.drt_check.proofs.Orders.{later}
+use Rattle.drt_check_fronts.proofs.Orders.{later}
 use Rattle.drt_top.proofs.EdfLemmas.{one_alone, one_near, other_near, undecided_other}
 
 -- No drawn set is too fine.

@@ -1,4 +1,4 @@
-use Rattle.drt_shared_frontier.proofs.Calls.{driven_eager}
+use Rattle.drt_frontier_board.proofs.Calls.{driven_eager}
 use Rattle.drt_shared_frontier.proofs.refinement.drive_alone.Goals as goal
 
 pub returns-clause-eager : goal.returns-clause-eager

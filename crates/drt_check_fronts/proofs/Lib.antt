@@ -1,0 +1,5 @@
+pub mod Eachs
+pub mod Orders
+pub mod SoundRoom
+mod Closings
+mod Rooms
