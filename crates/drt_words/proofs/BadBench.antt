@@ -7,7 +7,7 @@ use Rattle.clap.specs.Lexer.{long_of, short_of}
 use Rattle.clap.specs.ValueTests.{is_unsigned_in}
 use Rattle.clap.specs.Simple.{App, Shape, built, filled, names_of, new_shape, with_index}
 use Rattle.clap.specs.Walk.{Held, Outcome, Row, Rule, Step, Text, Waiting, Walk, bundle_step, plain, refused, idle, option, positional, next, trailing, subcommand, value}
-use Rattle.clap.specs.Walk.{after_flag, after_step, arg_by_index, arg_by_long, bundle, bundle_met, is_multiple, is_pending, long_or_other, next_position, nothing_held}
+use Rattle.clap.specs.Walk.{after_flag, after_step, arg_by_index, arg_by_long, bundle, bundle_met, is_pending, next_position, nothing_held}
 use Rattle.clap.specs.Walk.{plain_word, positional_held, pushed, settled, short_or_plain, takes_several, to_positional, walk_from, walked, word_met}
 use Rattle.clap.specs.Faults.{entered_fault, fault_of, flag_word_fault, level_fault, long_fault, repeat_fault, settle_fault, step_fault, turn_fault, use_fault, walk_fault, word_fault}
 use Rattle.drt_words.specs.CommandLine.{drt_app, workers_rule, whole_rule}

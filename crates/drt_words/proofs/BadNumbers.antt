@@ -1,11 +1,10 @@
 -- A list that gives an option of a search a value out of its range is refused, wherever in the list that stands.
-use Rattle.std.proofs.Common.{◌≡◌, ◌⊎◌, ◌++◌, ℕ, zero, suc, Bool, cond, true, false, List, [], ◌∷◌, Option, Some, None, codes, refl, sym, inl, inr, length, drop, fold, encode_utf8, slice_get, bytes_eq, chars, append_assoc, append-nil, ne_eqb, suc-ne-zero, true≢false}
+use Rattle.std.proofs.Common.{◌≡◌, ◌⊎◌, ◌++◌, ℕ, zero, suc, Bool, true, false, List, [], ◌∷◌, Option, Some, None, codes, refl, sym, inl, inr, length, drop, fold, encode_utf8, slice_get, bytes_eq, chars, true≢false}
 use Rattle.clap.proofs.OnLiterals.{clap_on_literals}
-use Rattle.clap.specs.Kinds.{Kinds, or_else}
 use Rattle.clap.specs.Lexer.{long_of, short_of}
 use Rattle.clap.specs.ValueTests.{is_unsigned_in}
 use Rattle.clap.specs.Simple.{App, Shape, built, filled, names_of, new_shape, with_index}
-use Rattle.clap.specs.Walk.{Held, Names, Outcome, Row, Rule, Step, Text, Waiting, Walk, bundle_step, done, waits, plain, refused, idle, option, positional, next, trailing, subcommand, value, after_flag, after_step, arg_by_long, bundle, bundle_met, is_empty, long_or_other, nothing_held, plain_word, settled, short_or_plain, walk_from, walked, word_met}
+use Rattle.clap.specs.Walk.{Held, Outcome, Row, Rule, Step, Text, Waiting, Walk, bundle_step, plain, refused, idle, option, positional, next, trailing, subcommand, value, after_flag, after_step, arg_by_long, bundle, bundle_met, nothing_held, plain_word, settled, short_or_plain, walk_from, walked, word_met}
 use Rattle.clap.specs.Faults.{entered_fault, fault_of, flag_word_fault, level_fault, long_fault, repeat_fault, settle_fault, step_fault, turn_fault, use_fault, walk_fault, word_fault}
 use Rattle.drt_words.specs.CommandLine.{drt_app, number_rule}
 use Rattle.drt_words.specs.Meaning.{meaning_of}

@@ -3,3 +3,5 @@ pub mod PlainLemmas
 pub mod BadNumbers
 mod WordWalks
 mod BadBench
+mod Entering
+mod PlainWalks
