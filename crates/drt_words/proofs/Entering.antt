@@ -10,6 +10,7 @@ use Rattle.drt_words.specs.Meaning.{meaning_at, meaning_of}
 use Rattle.drt_words.specs.Searches.{most_budget}
 use Rattle.drt_words.specs.Plain.{Searcher, for_edf, for_sp, for_response, searcher_word}
 use Rattle.drt_words.specs.declared.meaning.Meaning.{Meaning}
+use Rattle.drt_words.proofs.WordWalks.{Faulty, not_empty}
 
 -- ---- a walk that a command's name stopped
 
@@ -97,6 +98,10 @@ bench_enters = record { stops = refl; turns = refl; finds = refl; ends = refl }
 -- what a command below the top makes of these words
 abbrev pub meaning_below : Shape → List Text → Option Meaning
 meaning_below s words = cond (is_empty (level_fault s [] nothing_held words false [])) (meaning_at s.name (rows_after s.rules [] words)) None
+
+-- and where it refuses them, they mean nothing
+pub refused_below : (s : Shape) (words : List Text) → Faulty (level_fault s [] nothing_held words false []) → meaning_below s words ≡ None
+refused_below s words bad = rw (not_empty (level_fault s [] nothing_held words false []) bad) refl
 
 means_below : (command program : Text) (s : Shape) → Enters (built drt_app) command s → (words : List Text) → meaning_of (program ∷ command ∷ words) ≡ meaning_below s words
 means_below command program s e words =
