@@ -1,18 +1,17 @@
 -- A list that gives an option of a search a value out of its range is refused, wherever in the list that stands.
-use Rattle.std.proofs.Common.{◌≡◌, ◌⊎◌, ◌++◌, ℕ, zero, suc, Bool, cond, true, false, List, [], ◌∷◌, Option, Some, None, codes, refl, sym, inl, inr, length, drop, fold, encode_utf8, slice_get, bytes_eq, chars, append_assoc, append-nil, ne_eqb, suc-ne-zero, true≢false}
-use Rattle.clap.proofs.OnLiterals.{clap_on_literals}
-use Rattle.clap.specs.Kinds.{Kinds, or_else}
+use Rattle.std.proofs.Common.{◌≡◌, ◌⊎◌, ◌++◌, ℕ, Bool, true, false, List, [], ◌∷◌, Option, Some, None, codes, refl, sym, inl, inr, length, bytes_eq, true≢false}
 use Rattle.clap.specs.Lexer.{long_of, short_of}
 use Rattle.clap.specs.ValueTests.{is_unsigned_in}
-use Rattle.clap.specs.Simple.{App, Shape, built, filled, names_of, new_shape, with_index}
-use Rattle.clap.specs.Walk.{Held, Names, Outcome, Row, Rule, Step, Text, Waiting, Walk, bundle_step, done, waits, plain, refused, idle, option, positional, next, trailing, subcommand, value, after_flag, after_step, arg_by_long, bundle, bundle_met, is_empty, long_or_other, nothing_held, plain_word, settled, short_or_plain, walk_from, walked, word_met}
-use Rattle.clap.specs.Faults.{entered_fault, fault_of, flag_word_fault, level_fault, long_fault, repeat_fault, settle_fault, step_fault, turn_fault, use_fault, walk_fault, word_fault}
-use Rattle.drt_words.specs.CommandLine.{drt_app, number_rule}
+use Rattle.clap.specs.Walk.{Held, Outcome, Row, Rule, Step, Text, Waiting, Walk, idle, option, positional, next, value, after_flag, arg_by_long, bundle}
+use Rattle.clap.specs.Walk.{nothing_held, plain_word, settled, short_or_plain, walked, word_met}
+use Rattle.clap.specs.Faults.{long_fault, repeat_fault, settle_fault, step_fault, use_fault}
 use Rattle.drt_words.specs.Meaning.{meaning_of}
 use Rattle.drt_words.specs.Searches.{most_budget, most_workers}
-use Rattle.drt_words.specs.Plain.{Searcher, for_edf, for_sp, for_response, searcher_word, Spells, apart, joined, GivesBadNumber, bad_workers, bad_budget, bad_bench}
+use Rattle.drt_words.specs.Plain.{Searcher, searcher_word, Spells, apart, joined, GivesBadNumber, bad_workers, bad_budget, bad_bench}
 use Rattle.drt_words.proofs.BadBench.{bench_refuses}
-use Rattle.drt_words.proofs.WordWalks.{Faulty, or_first, or_second, not_empty, IsWithin, met_within, at, dashes, keeps}
+use Rattle.drt_words.proofs.BadWalks.{Fails, IsNoFlag, bundle_none, flag_first, goes, later, level_fails, now}
+use Rattle.drt_words.proofs.Entering.{budget_built, refused_below, search_leaf, search_means, workers_built}
+use Rattle.drt_words.proofs.WordWalks.{Faulty, or_first, or_second, at, dashes}
 
 -- ---- the two options
 
@@ -29,70 +28,12 @@ greatest for_workers = most_workers
 greatest for_budget = most_budget
 
 -- the options as built
-abbrev workers_rule : Rule
-workers_rule = with_index 1 (filled (number_rule (codes "workers") most_workers (codes "4")))
-
-abbrev budget_rule : Rule
-budget_rule = with_index 1 (filled (number_rule (codes "budget") most_budget (codes "100000")))
-
 abbrev option_rule : Number → Rule
-option_rule for_workers = workers_rule
-option_rule for_budget = budget_rule
+option_rule for_workers = workers_built
+option_rule for_budget = budget_built
 
 abbrev both : List Rule
-both = workers_rule ∷ budget_rule ∷ []
-
--- the command of a search, as built
-abbrev leaf : Searcher → Shape
-leaf k = record (new_shape (searcher_word k)) {
-  rules = both;
-  disable_help_flag = true;
-  disable_help_subcommand = true;
-  disable_version_flag = true;
-  is_built = true;
-}
-
--- ---- the walk of such a command
-
--- the words lead to a fault on the way or at the end
-abbrev Fails : Searcher → Walk → List Text → Type 0
-Fails k w words = Faulty (walk_fault (leaf k) [] w words) ⊎ Faulty (settle_fault both false (fold (walked both []) w words).held)
-
--- a walk after one more word
-record Goes (h : Held) (waiting : Waiting) (position : ℕ) (is_trailing : Bool) (word : Text) : Type 0 where
-  to_held : Held
-  to_waiting : Waiting
-  to_position : ℕ
-  to_trailing : Bool
-  is : walked both [] (at h waiting position is_trailing) word ≡ at to_held to_waiting to_position to_trailing
-
-goes : (h : Held) (waiting : Waiting) (position : ℕ) (is_trailing : Bool) (word : Text) → Goes h waiting position is_trailing word
-unfolding walked
-goes h waiting position is_trailing word =
-    let met = word_met both [] is_trailing waiting position word h in
-    step met.0 met.1 (met_within both is_trailing waiting position word h) refl
-  where
-    start : Walk
-    start = at h waiting position is_trailing
-
-    step : (g : Held) (s : Step) → IsWithin s → walked both [] start word ≡ after_step both word start g s → Goes h waiting position is_trailing word
-    step g (next w) in_it e = record { to_held = g; to_waiting = w; to_position = position; to_trailing = is_trailing; is = e }
-    step g (trailing p) in_it e = record { to_held = g; to_waiting = waiting; to_position = p; to_trailing = true; is = e }
-    step g (subcommand name) in_it e = absurd in_it
-    step g value in_it e = record { to_held = g; to_waiting = waiting; to_position = position; to_trailing = is_trailing; is = e }
-
--- a fault of the next word, or of those after it
-now : (k : Searcher) (w : Walk) (word : Text) (words : List Text) → Faulty (turn_fault (leaf k) [] w word) → Fails k w (word ∷ words)
-unfolding walk_fault
-now k w word words bad = inl (or_first _ _ bad)
-
-later : (k : Searcher) (w v : Walk) (word : Text) (words : List Text) → walked both [] w word ≡ v → Fails k v words → Fails k w (word ∷ words)
-unfolding walk_fault
-later k w v word words is fails = go (rw is fails)
-  where
-    go : Fails k (walked both [] w word) words → Fails k w (word ∷ words)
-    go (inl bad) = inl (or_second (turn_fault (leaf k) [] w word) _ bad)
-    go (inr bad) = inr bad
+both = workers_built ∷ budget_built ∷ []
 
 -- ---- a walk that holds an option whose values are refused
 
@@ -101,8 +42,8 @@ abbrev IsRefused : Held → Type 0
 IsRefused h = Faulty (settle_fault both false h)
 
 -- a word that no option takes is refused
-stray : (k : Searcher) (h : Held) (waiting : Waiting) (position : ℕ) (word : Text) (words : List Text) → Fails k (at h waiting position true) (word ∷ words)
-stray k h waiting position word words = now k (at h waiting position true) word words tt
+stray : (k : Searcher) (h : Held) (waiting : Waiting) (position : ℕ) (word : Text) (words : List Text) → Fails (search_leaf k) (at h waiting position true) (word ∷ words)
+stray k h waiting position word words = now (search_leaf k) (at h waiting position true) word words tt
 
 -- the option of a long name
 data Named (o : Option Rule) : Type 0 where
@@ -131,59 +72,37 @@ long_first name v h bad = go (arg_by_long both name) (named name)
     go o (unknown e) = rw e tt
     go o (known n e) = rw e (option_first n v h bad)
 
--- no option has a short name
-record IsNoFlag (h : Held) (o : Held × Outcome) : Type 0 where
-  held : o.0 ≡ h
-  outcome : (o.1 ≡ plain) ⊎ (o.1 ≡ refused)
-
-bundle_none : (n : ℕ) (flags : Text) (skip : ℕ) (h : Held) → IsNoFlag h (bundle_met both n flags skip plain h)
-unfolding bundle_met
-bundle_none zero flags skip h = record { held = refl; outcome = inl refl }
-bundle_none (suc n) flags skip h = step (bundle_none n) (slice_get (chars flags) 0) skip
-  where
-    step : ((rest : Text) (m : ℕ) (g : Held) → IsNoFlag g (bundle_met both n rest m plain g)) → (x : Option ℕ) (m : ℕ)
-        → IsNoFlag h (bundle_step both x flags m plain h (bundle_met both n))
-    step after None m = record { held = refl; outcome = inl refl }
-    step after (Some x) zero = record { held = refl; outcome = inr refl }
-    step after (Some x) (suc m) = after (drop (length (encode_utf8 x)) flags) m h
-
 -- such a word goes to no option where none waits
 quiet : (word : Text) (h : Held) (flags : Option Text) → (short_or_plain both idle word flags h).1 ≡ value
 quiet word h None = refl
-quiet word h (Some flags) = go (bundle both flags h) (bundle_none (length flags) flags h.skip (record h { skip = 0 }))
+quiet word h (Some flags) = go (bundle both flags h) (bundle_none both (λ x. refl) (length flags) flags h.skip (record h { skip = 0 }))
   where
     go : (o : Held × Outcome) → IsNoFlag (record h { skip = 0 }) o → (after_flag both idle word o.0 o.1).1 ≡ value
     go o none = elim none.outcome [ inl e ↦ rw e refl | inr e ↦ rw e refl ]
 
-step_stray : (k : Searcher) (position : ℕ) (h : Held) (s : Step) → s ≡ value → Faulty (step_fault (leaf k) position h s)
+step_stray : (k : Searcher) (position : ℕ) (h : Held) (s : Step) → s ≡ value → Faulty (step_fault (search_leaf k) position h s)
 step_stray k position h s e = rw e tt
 
 -- nothing takes a word that is no flag
 idle_stray : (k : Searcher) (h : Held) (position : ℕ) (word : Text) (words : List Text) → bytes_eq word dashes ≡ false → long_of word ≡ None
-    → Fails k (at h idle position false) (word ∷ words)
+    → Fails (search_leaf k) (at h idle position false) (word ∷ words)
 idle_stray k h position word words dash long =
     let met : (word_met both [] false idle position word h).1 ≡ value = rw (dash, long) (quiet word h (short_of word)) in
-    now k (at h idle position false) word words (or_second _ _ (step_stray k position (word_met both [] false idle position word h).0 _ met))
-
--- a word that begins with two dashes is read before anything else
-flag_first : (k : Searcher) (h : Held) (waiting : Waiting) (position : ℕ) (word : Text) (words : List Text) → bytes_eq word dashes ≡ false
-    → Faulty (flag_word_fault both false (long_of word) word h) → Fails k (at h waiting position false) (word ∷ words)
-flag_first k h idle position word words dash bad = now k (at h idle position false) word words (or_first (word_fault (leaf k) [] false idle word h) _ (rw dash bad))
-flag_first k h (option id) position word words dash bad = now k (at h (option id) position false) word words (or_first (word_fault (leaf k) [] false (option id) word h) _ (rw dash bad))
-flag_first k h positional position word words dash bad = now k (at h positional position false) word words (or_first (word_fault (leaf k) [] false positional word h) _ (rw dash bad))
+    now (search_leaf k) (at h idle position false) word words (or_second _ _ (step_stray k position (word_met both [] false idle position word h).0 _ met))
 
 -- whatever follows, what is held is refused
 stuck : (k : Searcher) (words : List Text) (h : Held) (waiting : Waiting) (position : ℕ) (is_trailing : Bool) → (is_trailing ≡ true) ⊎ (waiting ≡ idle) → IsRefused h
-    → Fails k (at h waiting position is_trailing) words
+    → Fails (search_leaf k) (at h waiting position is_trailing) words
 unfolding walked
 stuck k [] h waiting position is_trailing free bad = inr bad
 stuck k (word ∷ words) h waiting position true free bad = stray k h waiting position word words
 stuck k (word ∷ words) h waiting position false (inl e) bad = absurd (true≢false (sym e))
 stuck k (word ∷ words) h waiting position false (inr e) bad = rw e (go (stuck k words h idle position true (inl refl) bad) (bytes_eq word dashes) refl (long_of word) refl)
   where
-    go : Fails k (at h idle position true) words → (b : Bool) → bytes_eq word dashes ≡ b → (o : Option (Text × Option Text)) → long_of word ≡ o → Fails k (at h idle position false) (word ∷ words)
-    go after true dash o long = later k (at h idle position false) (at h idle position true) word words (rw dash refl) after
-    go after false dash (Some p) long = flag_first k h idle position word words dash (rw long (long_first p.0 p.1 h bad))
+    go : Fails (search_leaf k) (at h idle position true) words → (b : Bool) → bytes_eq word dashes ≡ b → (o : Option (Text × Option Text)) → long_of word ≡ o
+        → Fails (search_leaf k) (at h idle position false) (word ∷ words)
+    go after true dash o long = later (search_leaf k) (at h idle position false) (at h idle position true) word words (rw dash refl) after
+    go after false dash (Some p) long = flag_first (search_leaf k) h idle position word words dash (rw long (long_first p.0 p.1 h bad))
     go after false dash None long = idle_stray k h position word words dash long
 
 -- ---- an option with a value out of its range
@@ -215,7 +134,7 @@ plain_taken for_budget h text = record { to_held = _; is = refl; pending = refl 
 value_taken : (n : Number) (h : Held) (text : Text) (flags : Option Text) → Taken n text (short_or_plain both (option (option_name n)) text flags (awaiting n h))
 value_taken for_workers h text None = record { to_held = _; is = refl; pending = refl }
 value_taken for_budget h text None = record { to_held = _; is = refl; pending = refl }
-value_taken n h text (Some flags) = go (bundle both flags (awaiting n h)) (bundle_none (length flags) flags (awaiting n h).skip (record (awaiting n h) { skip = 0 }))
+value_taken n h text (Some flags) = go (bundle both flags (awaiting n h)) (bundle_none both (λ x. refl) (length flags) flags (awaiting n h).skip (record (awaiting n h) { skip = 0 }))
   where
     go : (o : Held × Outcome) → IsNoFlag (record (awaiting n h) { skip = 0 }) o → Taken n text (after_flag both (option (option_name n)) text o.0 o.1)
     go o none = elim none.outcome [
@@ -229,22 +148,22 @@ taken_refused for_budget text h bad e = rw e (use_refused for_budget text h.rows
 
 -- the value follows the option
 second : (k : Searcher) (n : Number) (text : Text) (back : List Text) (h : Held) (position : ℕ) → is_unsigned_in 1 (greatest n) text ≡ false
-    → Fails k (at (awaiting n h) (option (option_name n)) position false) (text ∷ back)
+    → Fails (search_leaf k) (at (awaiting n h) (option (option_name n)) position false) (text ∷ back)
 unfolding walked
 second k n text back h position bad = go (bytes_eq text dashes) refl (long_of text) refl
   where
     waits_for : Walk
     waits_for = at (awaiting n h) (option (option_name n)) position false
 
-    go : (b : Bool) → bytes_eq text dashes ≡ b → (o : Option (Text × Option Text)) → long_of text ≡ o → Fails k waits_for (text ∷ back)
+    go : (b : Bool) → bytes_eq text dashes ≡ b → (o : Option (Text × Option Text)) → long_of text ≡ o → Fails (search_leaf k) waits_for (text ∷ back)
     go true dash o long =
-        later k waits_for (at (awaiting n h) (option (option_name n)) position true) text back (rw dash refl)
+        later (search_leaf k) waits_for (at (awaiting n h) (option (option_name n)) position true) text back (rw dash refl)
         (stuck k back (awaiting n h) (option (option_name n)) position true (inl refl) (awaiting_refused n h))
     go false dash (Some p) long =
-        flag_first k (awaiting n h) (option (option_name n)) position text back dash (rw long (long_first p.0 p.1 (awaiting n h) (awaiting_refused n h)))
+        flag_first (search_leaf k) (awaiting n h) (option (option_name n)) position text back dash (rw long (long_first p.0 p.1 (awaiting n h) (awaiting_refused n h)))
     go false dash None long =
         let t = value_taken n h text (short_of text) in
-        later k waits_for (at t.to_held idle position false) text back (rw (dash, long, t.is) refl)
+        later (search_leaf k) waits_for (at t.to_held idle position false) text back (rw (dash, long, t.is) refl)
         (stuck k back t.to_held idle position false (inr refl) (taken_refused n text t.to_held bad t.pending))
 
 -- the option's own word
@@ -259,67 +178,33 @@ awaits for_budget h (option id) position = refl
 awaits for_budget h positional position = refl
 
 joined_refused : (k : Searcher) (n : Number) (text : Text) (back : List Text) (h : Held) (waiting : Waiting) (position : ℕ) → is_unsigned_in 1 (greatest n) text ≡ false
-    → Fails k (at h waiting position false) ((codes "--" ++ option_name n ++ codes "=" ++ text) ∷ back)
+    → Fails (search_leaf k) (at h waiting position false) ((codes "--" ++ option_name n ++ codes "=" ++ text) ∷ back)
 joined_refused k for_workers text back h waiting position bad =
-    flag_first k h waiting position _ back refl (or_second (settle_fault both false h) _ (use_refused for_workers text (settled both h).rows bad))
+    flag_first (search_leaf k) h waiting position _ back refl (or_second (settle_fault both false h) _ (use_refused for_workers text (settled both h).rows bad))
 joined_refused k for_budget text back h waiting position bad =
-    flag_first k h waiting position _ back refl (or_second (settle_fault both false h) _ (use_refused for_budget text (settled both h).rows bad))
+    flag_first (search_leaf k) h waiting position _ back refl (or_second (settle_fault both false h) _ (use_refused for_budget text (settled both h).rows bad))
 
 given : (k : Searcher) (n : Number) (text : Text) (words back : List Text) → is_unsigned_in 1 (greatest n) text ≡ false → Spells (option_name n) text words
-    → (h : Held) (waiting : Waiting) (position : ℕ) (is_trailing : Bool) → Fails k (at h waiting position is_trailing) (words ++ back)
+    → (h : Held) (waiting : Waiting) (position : ℕ) (is_trailing : Bool) → Fails (search_leaf k) (at h waiting position is_trailing) (words ++ back)
 given k n text words back bad apart h waiting position true = stray k h waiting position _ _
 given k n text words back bad joined h waiting position true = stray k h waiting position _ _
-given k n text words back bad apart h waiting position false = later k _ _ _ _ (awaits n h waiting position) (second k n text back h position bad)
+given k n text words back bad apart h waiting position false = later (search_leaf k) _ _ _ _ (awaits n h waiting position) (second k n text back h position bad)
 given k n text words back bad joined h waiting position false = joined_refused k n text back h waiting position bad
 
 anywhere : (k : Searcher) (n : Number) (text : Text) (words back : List Text) → is_unsigned_in 1 (greatest n) text ≡ false → Spells (option_name n) text words
-    → (front : List Text) (h : Held) (waiting : Waiting) (position : ℕ) (is_trailing : Bool) → Fails k (at h waiting position is_trailing) (front ++ words ++ back)
+    → (front : List Text) (h : Held) (waiting : Waiting) (position : ℕ) (is_trailing : Bool) → Fails (search_leaf k) (at h waiting position is_trailing) (front ++ words ++ back)
 anywhere k n text words back bad s [] h waiting position is_trailing = given k n text words back bad s h waiting position is_trailing
 anywhere k n text words back bad s (word ∷ front) h waiting position is_trailing =
-    let g = goes h waiting position is_trailing word in
-    later k _ _ word _ g.is (anywhere k n text words back bad s front g.to_held g.to_waiting g.to_position g.to_trailing)
+    let g = goes both h waiting position is_trailing word in
+    later (search_leaf k) _ _ word _ g.is (anywhere k n text words back bad s front g.to_held g.to_waiting g.to_place g.to_trailing)
 
 -- ---- the whole list
 
-level_fails : (k : Searcher) (words : List Text) → Fails k (walk_from nothing_held) words → Faulty (level_fault (leaf k) [] nothing_held words false [])
-level_fails k words (inl bad) = or_first _ _ bad
-level_fails k words (inr bad) = or_second _ _ (or_first _ _ bad)
-
--- the command as built, and its walk over the name of a search and these words
-abbrev whole : App
-whole = built drt_app
-
-abbrev entering : Searcher → List Text → Walk
-entering k words = fold (walked whole.top.rules (names_of whole)) (walked whole.top.rules (names_of whole) (walk_from nothing_held) (searcher_word k)) words
-
-enters : (k : Searcher) (words : List Text) → (entering k words).stopped ≡ Some (searcher_word k, words)
-unfolding clap_on_literals
-enters for_edf words = keeps whole.top.rules (names_of whole) words (walked whole.top.rules (names_of whole) (walk_from nothing_held) (codes "edf")) (codes "edf") [] refl
-enters for_sp words = keeps whole.top.rules (names_of whole) words (walked whole.top.rules (names_of whole) (walk_from nothing_held) (codes "sp")) (codes "sp") [] refl
-enters for_response words = keeps whole.top.rules (names_of whole) words (walked whole.top.rules (names_of whole) (walk_from nothing_held) (codes "response")) (codes "response") [] refl
-
-refused_below : (k : Searcher) (program : Text) (words : List Text) → Faulty (level_fault (leaf k) [] nothing_held words false [])
-    → meaning_of (program ∷ searcher_word k ∷ words) ≡ None
-unfolding clap_on_literals
-refused_below for_edf program words bad =
-    let faulty : Faulty (fault_of drt_app (program ∷ codes "edf" ∷ words)) =
-    or_second (walk_fault whole.top (names_of whole) (walk_from nothing_held) (codes "edf" ∷ words)) _
-    (or_first (entered_fault whole (entering for_edf words).stopped) _ (rw (enters for_edf words) bad)) in
-    rw (not_empty (fault_of drt_app (program ∷ codes "edf" ∷ words)) faulty) refl
-refused_below for_sp program words bad =
-    let faulty : Faulty (fault_of drt_app (program ∷ codes "sp" ∷ words)) =
-    or_second (walk_fault whole.top (names_of whole) (walk_from nothing_held) (codes "sp" ∷ words)) _
-    (or_first (entered_fault whole (entering for_sp words).stopped) _ (rw (enters for_sp words) bad)) in
-    rw (not_empty (fault_of drt_app (program ∷ codes "sp" ∷ words)) faulty) refl
-refused_below for_response program words bad =
-    let faulty : Faulty (fault_of drt_app (program ∷ codes "response" ∷ words)) =
-    or_second (walk_fault whole.top (names_of whole) (walk_from nothing_held) (codes "response" ∷ words)) _
-    (or_first (entered_fault whole (entering for_response words).stopped) _ (rw (enters for_response words) bad)) in
-    rw (not_empty (fault_of drt_app (program ∷ codes "response" ∷ words)) faulty) refl
-
 refuses : (k : Searcher) (n : Number) (program text : Text) (front words back : List Text) → is_unsigned_in 1 (greatest n) text ≡ false → Spells (option_name n) text words
     → meaning_of (program ∷ searcher_word k ∷ (front ++ words ++ back)) ≡ None
-refuses k n program text front words back bad s = refused_below k program _ (level_fails k _ (anywhere k n text words back bad s front nothing_held idle 1 false))
+refuses k n program text front words back bad s =
+    let fails = level_fails (search_leaf k) (front ++ words ++ back) (anywhere k n text words back bad s front nothing_held idle 1 false) in
+    rw (search_means k program (front ++ words ++ back)) (refused_below (search_leaf k) (front ++ words ++ back) fails)
 
 pub bad_means : (words : List (List ℕ)) → GivesBadNumber words → meaning_of words ≡ None
 bad_means words (bad_workers command program text front spelled back bad s) = refuses command for_workers program text front spelled back bad s

@@ -1,15 +1,25 @@
 -- What the command says of plain lists.
-use Rattle.std.proofs.Common.{◌≡◌, ◌<◌, ◌≤◌, ◌^◌, ℕ, List, [], ◌∷◌, ◌++◌, Some, true, false, codes, refl, arith, ap, length, lt-ltb, lit<, lit≤, ◌==◌}
+use Rattle.std.proofs.Common.{◌≡◌, ◌<◌, ◌≤◌, ◌^◌, ℕ, List, [], ◌∷◌, ◌++◌, Some, Bool, cond, ◌&&◌, true, false, codes, refl, arith, ap}
+use Rattle.std.proofs.Common.{append-nil, fold, length, lt-ltb, lit<, lit≤, ◌==◌}
 use Rattle.std.specs.Char.{digit_value}
 use Rattle.std.proofs.lemmas.Bool.{le-leb, ne_eqb}
 use Rattle.std.specs.Str.Parse.{digits_value, without_leading_plus}
 use Rattle.clap.proofs.OnLiterals.{clap_on_literals}
 use Rattle.clap.specs.ValueTests.{is_unsigned_in}
+use Rattle.clap.specs.Simple.{Shape}
+use Rattle.clap.specs.Walk.{Held, Row, Rule, Text, has_row, idle, is_pending, nothing_held, positional_held, pushed, settled, takes_several}
+use Rattle.clap.specs.Walk.{used, walk_from, walked, with_default}
+use Rattle.clap.specs.Faults.{settle_fault, turn_fault}
 use Rattle.drt_words.specs.Number.{number_in, whole_in}
 use Rattle.drt_words.specs.Searches.{most_budget, most_workers}
-use Rattle.drt_words.specs.Meaning.{meaning_of}
-use Rattle.drt_words.specs.Plain.{IsPlainNumber, BeginsPlain, Spells, apart, joined, PlainOptions, neither, workers, budget, workers_first, budget_first, IsPlain, plain_searcher, Searcher, for_edf, for_sp, for_response, searcher_word, searcher_meaning, plain_upgrade, plain_util, plain_check, plain_bench, IsPlainWhole, PlainWorkers, standard, given}
+use Rattle.drt_words.specs.Meaning.{meaning_at, meaning_of, search_at}
+use Rattle.drt_words.specs.Plain.{IsPlainNumber, BeginsPlain, Spells, PlainOptions, neither, workers, budget, workers_first, budget_first}
+use Rattle.drt_words.specs.Plain.{IsPlain, plain_searcher, Searcher, for_edf, for_sp, for_response, searcher_word, searcher_meaning}
+use Rattle.drt_words.specs.Plain.{plain_upgrade, plain_util, plain_check, plain_bench, IsPlainWhole, PlainWorkers, standard, given}
 use Rattle.drt_words.proofs.NumberLemmas.{digits_pass}
+use Rattle.drt_words.proofs.WordWalks.{at}
+use Rattle.drt_words.proofs.PlainWalks.{Settles, Ends, HasOption, after_option, below_ends, ends_here, last_fault, one_more}
+use Rattle.drt_words.proofs.Entering.{bench_leaf, bench_means, budget_built, meaning_below, number_built, search_leaf, search_means, workers_built}
 use Rattle.drt_words.specs.declared.meaning.Meaning.{Meaning}
 use Rattle.drt_words.specs.declared.meaning.Meaning.TheVariants.{Upgrade, Util, Check, Bench}
 
@@ -18,95 +28,6 @@ record Read (most : ℕ) (text : List ℕ) (n : ℕ) : Type 0 where
   plain : BeginsPlain text
   passes : is_unsigned_in 1 most text ≡ true
   number : number_in most text ≡ Some n
-
-module _ (program : List ℕ) where
-  one_workers : (k : Searcher) → (words : List (List ℕ)) (a : List ℕ) (m : ℕ) → Read most_workers a m → Spells (codes "workers") a words
-      → meaning_of (program ∷ searcher_word k ∷ words) ≡ Some (searcher_meaning k m 100000)
-  unfolding clap_on_literals
-  one_workers for_edf words a m r apart = rw (r.plain.no_dashes, r.plain.no_long, r.plain.no_short, r.passes, r.number) refl
-  one_workers for_sp words a m r apart = rw (r.plain.no_dashes, r.plain.no_long, r.plain.no_short, r.passes, r.number) refl
-  one_workers for_response words a m r apart = rw (r.plain.no_dashes, r.plain.no_long, r.plain.no_short, r.passes, r.number) refl
-  one_workers for_edf words a m r joined = rw (r.passes, r.number) refl
-  one_workers for_sp words a m r joined = rw (r.passes, r.number) refl
-  one_workers for_response words a m r joined = rw (r.passes, r.number) refl
-
-  one_budget : (k : Searcher) → (words : List (List ℕ)) (b : List ℕ) (n : ℕ) → Read most_budget b n → Spells (codes "budget") b words
-      → meaning_of (program ∷ searcher_word k ∷ words) ≡ Some (searcher_meaning k 4 n)
-  unfolding clap_on_literals
-  one_budget for_edf words b n r apart = rw (r.plain.no_dashes, r.plain.no_long, r.plain.no_short, r.passes, r.number) refl
-  one_budget for_sp words b n r apart = rw (r.plain.no_dashes, r.plain.no_long, r.plain.no_short, r.passes, r.number) refl
-  one_budget for_response words b n r apart = rw (r.plain.no_dashes, r.plain.no_long, r.plain.no_short, r.passes, r.number) refl
-  one_budget for_edf words b n r joined = rw (r.passes, r.number) refl
-  one_budget for_sp words b n r joined = rw (r.passes, r.number) refl
-  one_budget for_response words b n r joined = rw (r.passes, r.number) refl
-
-  first_workers_apart_apart : (k : Searcher) → (a b : List ℕ) (m n : ℕ) → Read most_workers a m → Read most_budget b n → meaning_of (program ∷ searcher_word k ∷ (codes "--workers") ∷ a ∷ (codes "--budget") ∷ b ∷ []) ≡ Some (searcher_meaning k m n)
-  unfolding clap_on_literals
-  first_workers_apart_apart for_edf a b m n r s = rw (r.plain.no_dashes, r.plain.no_long, r.plain.no_short) (rw (s.plain.no_dashes, s.plain.no_long, s.plain.no_short) (rw (r.passes, s.passes) (rw r.number (rw s.number refl))))
-  first_workers_apart_apart for_sp a b m n r s = rw (r.plain.no_dashes, r.plain.no_long, r.plain.no_short) (rw (s.plain.no_dashes, s.plain.no_long, s.plain.no_short) (rw (r.passes, s.passes) (rw r.number (rw s.number refl))))
-  first_workers_apart_apart for_response a b m n r s =
-      rw (r.plain.no_dashes, r.plain.no_long, r.plain.no_short) (rw (s.plain.no_dashes, s.plain.no_long, s.plain.no_short) (rw (r.passes, s.passes) (rw r.number (rw s.number refl))))
-
-  first_workers_apart_joined : (k : Searcher) → (a b : List ℕ) (m n : ℕ) → Read most_workers a m → Read most_budget b n → meaning_of (program ∷ searcher_word k ∷ (codes "--workers") ∷ a ∷ (codes "--budget=" ++ b) ∷ []) ≡ Some (searcher_meaning k m n)
-  unfolding clap_on_literals
-  first_workers_apart_joined for_edf a b m n r s = rw (r.plain.no_dashes, r.plain.no_long, r.plain.no_short) (rw (r.passes, s.passes) (rw r.number (rw s.number refl)))
-  first_workers_apart_joined for_sp a b m n r s = rw (r.plain.no_dashes, r.plain.no_long, r.plain.no_short) (rw (r.passes, s.passes) (rw r.number (rw s.number refl)))
-  first_workers_apart_joined for_response a b m n r s =
-      rw (r.plain.no_dashes, r.plain.no_long, r.plain.no_short) (rw (r.passes, s.passes) (rw r.number (rw s.number refl)))
-
-  first_workers_joined_apart : (k : Searcher) → (a b : List ℕ) (m n : ℕ) → Read most_workers a m → Read most_budget b n → meaning_of (program ∷ searcher_word k ∷ (codes "--workers=" ++ a) ∷ (codes "--budget") ∷ b ∷ []) ≡ Some (searcher_meaning k m n)
-  unfolding clap_on_literals
-  first_workers_joined_apart for_edf a b m n r s = rw (s.plain.no_dashes, s.plain.no_long, s.plain.no_short) (rw (r.passes, s.passes) (rw r.number (rw s.number refl)))
-  first_workers_joined_apart for_sp a b m n r s = rw (s.plain.no_dashes, s.plain.no_long, s.plain.no_short) (rw (r.passes, s.passes) (rw r.number (rw s.number refl)))
-  first_workers_joined_apart for_response a b m n r s =
-      rw (s.plain.no_dashes, s.plain.no_long, s.plain.no_short) (rw (r.passes, s.passes) (rw r.number (rw s.number refl)))
-
-  first_workers_joined_joined : (k : Searcher) → (a b : List ℕ) (m n : ℕ) → Read most_workers a m → Read most_budget b n → meaning_of (program ∷ searcher_word k ∷ (codes "--workers=" ++ a) ∷ (codes "--budget=" ++ b) ∷ []) ≡ Some (searcher_meaning k m n)
-  unfolding clap_on_literals
-  first_workers_joined_joined for_edf a b m n r s = rw (r.passes, s.passes) (rw r.number (rw s.number refl))
-  first_workers_joined_joined for_sp a b m n r s = rw (r.passes, s.passes) (rw r.number (rw s.number refl))
-  first_workers_joined_joined for_response a b m n r s = rw (r.passes, s.passes) (rw r.number (rw s.number refl))
-
-  first_budget_apart_apart : (k : Searcher) → (a b : List ℕ) (m n : ℕ) → Read most_workers a m → Read most_budget b n → meaning_of (program ∷ searcher_word k ∷ (codes "--budget") ∷ b ∷ (codes "--workers") ∷ a ∷ []) ≡ Some (searcher_meaning k m n)
-  unfolding clap_on_literals
-  first_budget_apart_apart for_edf a b m n r s = rw (s.plain.no_dashes, s.plain.no_long, s.plain.no_short) (rw (r.plain.no_dashes, r.plain.no_long, r.plain.no_short) (rw (r.passes, s.passes) (rw r.number (rw s.number refl))))
-  first_budget_apart_apart for_sp a b m n r s = rw (s.plain.no_dashes, s.plain.no_long, s.plain.no_short) (rw (r.plain.no_dashes, r.plain.no_long, r.plain.no_short) (rw (r.passes, s.passes) (rw r.number (rw s.number refl))))
-  first_budget_apart_apart for_response a b m n r s =
-      rw (s.plain.no_dashes, s.plain.no_long, s.plain.no_short) (rw (r.plain.no_dashes, r.plain.no_long, r.plain.no_short) (rw (r.passes, s.passes) (rw r.number (rw s.number refl))))
-
-  first_budget_apart_joined : (k : Searcher) → (a b : List ℕ) (m n : ℕ) → Read most_workers a m → Read most_budget b n → meaning_of (program ∷ searcher_word k ∷ (codes "--budget") ∷ b ∷ (codes "--workers=" ++ a) ∷ []) ≡ Some (searcher_meaning k m n)
-  unfolding clap_on_literals
-  first_budget_apart_joined for_edf a b m n r s = rw (s.plain.no_dashes, s.plain.no_long, s.plain.no_short) (rw (r.passes, s.passes) (rw r.number (rw s.number refl)))
-  first_budget_apart_joined for_sp a b m n r s = rw (s.plain.no_dashes, s.plain.no_long, s.plain.no_short) (rw (r.passes, s.passes) (rw r.number (rw s.number refl)))
-  first_budget_apart_joined for_response a b m n r s =
-      rw (s.plain.no_dashes, s.plain.no_long, s.plain.no_short) (rw (r.passes, s.passes) (rw r.number (rw s.number refl)))
-
-  first_budget_joined_apart : (k : Searcher) → (a b : List ℕ) (m n : ℕ) → Read most_workers a m → Read most_budget b n → meaning_of (program ∷ searcher_word k ∷ (codes "--budget=" ++ b) ∷ (codes "--workers") ∷ a ∷ []) ≡ Some (searcher_meaning k m n)
-  unfolding clap_on_literals
-  first_budget_joined_apart for_edf a b m n r s = rw (r.plain.no_dashes, r.plain.no_long, r.plain.no_short) (rw (r.passes, s.passes) (rw r.number (rw s.number refl)))
-  first_budget_joined_apart for_sp a b m n r s = rw (r.plain.no_dashes, r.plain.no_long, r.plain.no_short) (rw (r.passes, s.passes) (rw r.number (rw s.number refl)))
-  first_budget_joined_apart for_response a b m n r s =
-      rw (r.plain.no_dashes, r.plain.no_long, r.plain.no_short) (rw (r.passes, s.passes) (rw r.number (rw s.number refl)))
-
-  first_budget_joined_joined : (k : Searcher) → (a b : List ℕ) (m n : ℕ) → Read most_workers a m → Read most_budget b n → meaning_of (program ∷ searcher_word k ∷ (codes "--budget=" ++ b) ∷ (codes "--workers=" ++ a) ∷ []) ≡ Some (searcher_meaning k m n)
-  unfolding clap_on_literals
-  first_budget_joined_joined for_edf a b m n r s = rw (r.passes, s.passes) (rw r.number (rw s.number refl))
-  first_budget_joined_joined for_sp a b m n r s = rw (r.passes, s.passes) (rw r.number (rw s.number refl))
-  first_budget_joined_joined for_response a b m n r s = rw (r.passes, s.passes) (rw r.number (rw s.number refl))
-
-  first_workers : (k : Searcher) → (front back : List (List ℕ)) (a b : List ℕ) (m n : ℕ) → Read most_workers a m → Read most_budget b n
-      → Spells (codes "workers") a front → Spells (codes "budget") b back → meaning_of (program ∷ searcher_word k ∷ (front ++ back)) ≡ Some (searcher_meaning k m n)
-  first_workers k front back a b m n r s apart apart = first_workers_apart_apart k a b m n r s
-  first_workers k front back a b m n r s apart joined = first_workers_apart_joined k a b m n r s
-  first_workers k front back a b m n r s joined apart = first_workers_joined_apart k a b m n r s
-  first_workers k front back a b m n r s joined joined = first_workers_joined_joined k a b m n r s
-
-  first_budget : (k : Searcher) → (front back : List (List ℕ)) (a b : List ℕ) (m n : ℕ) → Read most_workers a m → Read most_budget b n
-      → Spells (codes "budget") b front → Spells (codes "workers") a back → meaning_of (program ∷ searcher_word k ∷ (front ++ back)) ≡ Some (searcher_meaning k m n)
-  first_budget k front back a b m n r s apart apart = first_budget_apart_apart k a b m n r s
-  first_budget k front back a b m n r s apart joined = first_budget_apart_joined k a b m n r s
-  first_budget k front back a b m n r s joined apart = first_budget_joined_apart k a b m n r s
-  first_budget k front back a b m n r s joined joined = first_budget_joined_joined k a b m n r s
 
 -- a plain number is what both readers find
 passes_of : (most n : ℕ) (text : List ℕ) → most < 2 ^ 64 → without_leading_plus text ≡ text → IsPlainNumber most text n → is_unsigned_in 1 most text ≡ true
@@ -141,15 +62,83 @@ read_of most n (d ∷ ds) fits p =
       number = number_is most n (d ∷ ds) e p;
     }
 
-options_mean : (k : Searcher) (program : List ℕ) (words : List (List ℕ)) (m n : ℕ) → PlainOptions words m n → meaning_of (program ∷ searcher_word k ∷ words) ≡ Some (searcher_meaning k m n)
-unfolding clap_on_literals
-options_mean for_edf program words m n neither = refl
-options_mean for_sp program words m n neither = refl
-options_mean for_response program words m n neither = refl
-options_mean c program words m n (workers ws a k p s) = one_workers program c ws a k (read_of most_workers k a (lit< tt) p) s
-options_mean c program words m n (budget ws b k p s) = one_budget program c ws b k (read_of most_budget k b (lit< tt) p) s
-options_mean c program words m n (workers_first front back a b k l p q s t) = first_workers program c front back a b k l (read_of most_workers k a (lit< tt) p) (read_of most_budget l b (lit< tt) q) s t
-options_mean c program words m n (budget_first front back a b k l p q s t) = first_budget program c front back a b k l (read_of most_workers k a (lit< tt) p) (read_of most_budget l b (lit< tt) q) s t
+-- ---- the commands that search
+
+abbrev both : List Rule
+both = workers_built ∷ budget_built ∷ []
+
+abbrev workers_used : List ℕ → List Row → List Row
+workers_used a = used workers_built (a ∷ [])
+
+abbrev budget_used : List ℕ → List Row → List Row
+budget_used b = used budget_built (b ∷ [])
+
+module _ (k : Searcher) where
+  abbrev leaf : Shape
+  leaf = search_leaf k
+
+  takes_workers : HasOption leaf (codes "workers") most_workers (codes "4")
+  takes_workers = record { by_long = refl; by_id = refl; own = refl; apart_plain = refl; apart_long = refl; joined_plain = λ text. refl; joined_long = λ text. refl }
+
+  takes_budget : HasOption leaf (codes "budget") most_budget (codes "100000")
+  takes_budget = record { by_long = refl; by_id = refl; own = refl; apart_plain = refl; apart_long = refl; joined_plain = λ text. refl; joined_long = λ text. refl }
+
+  -- the walk over one option, and over nothing
+  over_workers : (words back : List Text) (a : List ℕ) (m : ℕ) → Read most_workers a m → Spells (codes "workers") a words → (rows out : List Row) → has_row (codes "workers") rows ≡ false
+      → (h : Held) → Settles leaf rows h → ((g : Held) → Settles leaf (workers_used a rows) g → Ends leaf out (at g idle 1 false) back) → Ends leaf out (at h idle 1 false) (words ++ back)
+  over_workers words back a m r spelled rows out free h it after =
+      after_option leaf (codes "workers") most_workers (codes "4") takes_workers a r.passes rows free h it 1 words back spelled r.plain out after
+
+  over_budget : (words back : List Text) (b : List ℕ) (n : ℕ) → Read most_budget b n → Spells (codes "budget") b words
+      → (rows out : List Row) → has_row (codes "budget") rows ≡ false
+      → (h : Held) → Settles leaf rows h → ((g : Held) → Settles leaf (budget_used b rows) g → Ends leaf out (at g idle 1 false) back) → Ends leaf out (at h idle 1 false) (words ++ back)
+  over_budget words back b n r spelled rows out free h it after =
+      after_option leaf (codes "budget") most_budget (codes "100000") takes_budget b r.passes rows free h it 1 words back spelled r.plain out after
+
+  over : (rows : List Row) (g : Held) → Settles leaf rows g → Ends leaf rows (at g idle 1 false) []
+  over rows g it = ends_here leaf rows (at g idle 1 false) it
+
+  nothing : Settles leaf [] nothing_held
+  nothing = record { no_fault = refl; leaves = refl }
+
+  -- the name, and the numbers that the rows have, are the meaning
+  named : (rows : List Row) (m n : ℕ) → search_at rows ≡ Some (record { workers = m; budget = n }) → meaning_at (searcher_word k) rows ≡ Some (searcher_meaning k m n)
+  named rows m n e = go k
+    where
+      go : (k : Searcher) → meaning_at (searcher_word k) rows ≡ Some (searcher_meaning k m n)
+      go for_edf = rw e refl
+      go for_sp = rw e refl
+      go for_response = rw e refl
+
+  means : (rows : List Row) (words : List Text) (m n : ℕ) → Ends leaf rows (walk_from nothing_held) words → last_fault leaf rows ≡ []
+      → search_at (fold with_default rows both) ≡ Some (record { workers = m; budget = n }) → meaning_below leaf words ≡ Some (searcher_meaning k m n)
+  means rows words m n ends fine e = rw (below_ends leaf rows words ends fine) (named (fold with_default rows both) m n e)
+
+  options_mean : (words : List Text) (m n : ℕ) → PlainOptions words m n → meaning_below leaf words ≡ Some (searcher_meaning k m n)
+  unfolding clap_on_literals
+  options_mean words m n neither = means [] [] 4 100000 (over [] nothing_held nothing) refl refl
+  options_mean words m n (workers ws a l p s) =
+      let r = read_of most_workers l a (lit< tt) p in
+      let rows = workers_used a [] in
+      means rows ws l 100000 (rw append-nil at (over_workers ws [] a l r s [] rows refl nothing_held nothing (over rows))) refl (rw r.number refl)
+  options_mean words m n (budget ws b l p s) =
+      let r = read_of most_budget l b (lit< tt) p in
+      let rows = budget_used b [] in
+      means rows ws 4 l (rw append-nil at (over_budget ws [] b l r s [] rows refl nothing_held nothing (over rows))) refl (rw r.number refl)
+  options_mean words m n (workers_first front back a b i j p q s t) =
+      let r = read_of most_workers i a (lit< tt) p in
+      let u = read_of most_budget j b (lit< tt) q in
+      let rows = budget_used b (workers_used a []) in
+      means rows (front ++ back) i j
+      (over_workers front back a i r s [] rows refl nothing_held nothing
+      (λ g it. rw append-nil at (over_budget back [] b j u t (workers_used a []) rows refl g it (over rows)))) refl (rw (r.number, u.number) refl)
+  options_mean words m n (budget_first front back a b i j p q s t) =
+      let r = read_of most_workers i a (lit< tt) p in
+      let u = read_of most_budget j b (lit< tt) q in
+      let rows = workers_used a (budget_used b []) in
+      means rows (front ++ back) i j
+      (over_budget front back b j u s [] rows refl nothing_held nothing
+      (λ g it. rw append-nil at (over_workers back [] a i r t (budget_used b []) rows refl g it (over rows)))) refl (rw (r.number, u.number) refl)
 
 upgrade_means : (program : List ℕ) → meaning_of (program ∷ codes "upgrade" ∷ []) ≡ Some Upgrade
 unfolding clap_on_literals
@@ -184,26 +173,55 @@ whole_of n (d ∷ ds) p =
       number = rw (e, lt-ltb 0 (length (d ∷ ds)) p.digits.0, digits_pass (d ∷ ds) p.digits.1, lt-ltb v (2 ^ 64) small) (ap Some p.value);
     }
 
-module _ (program : List ℕ) where
-  bench_alone : (text : List ℕ) (n : ℕ) → ReadWhole text n → meaning_of (program ∷ codes "bench" ∷ text ∷ []) ≡ Some (Bench 4 n)
-  unfolding clap_on_literals
-  bench_alone text n r = rw (r.plain.no_dashes, r.plain.no_long, r.plain.no_short) (rw r.passes (rw r.number refl))
+-- ---- `bench`
 
-  bench_given : (words : List (List ℕ)) (a text : List ℕ) (m n : ℕ) → Read most_workers a m → ReadWhole text n → Spells (codes "workers") a words
-      → meaning_of (program ∷ codes "bench" ∷ (words ++ text ∷ [])) ≡ Some (Bench m n)
-  unfolding clap_on_literals
-  bench_given words a text m n r s apart =
-      rw (r.plain.no_dashes, r.plain.no_long, r.plain.no_short) (rw (s.plain.no_dashes, s.plain.no_long, s.plain.no_short) (rw (r.passes, s.passes) (rw r.number (rw s.number refl))))
-  bench_given words a text m n r s joined = rw (s.plain.no_dashes, s.plain.no_long, s.plain.no_short) (rw (r.passes, s.passes) (rw r.number (rw s.number refl)))
+takes_its_workers : HasOption bench_leaf (codes "workers") most_workers (codes "4")
+takes_its_workers = record { by_long = refl; by_id = refl; own = refl; apart_plain = refl; apart_long = refl; joined_plain = λ text. refl; joined_long = λ text. refl }
 
-bench_means : (program : List ℕ) (options : List (List ℕ)) (text : List ℕ) (m n : ℕ) → PlainWorkers options m → ReadWhole text n
-    → meaning_of (program ∷ codes "bench" ∷ (options ++ text ∷ [])) ≡ Some (Bench m n)
-bench_means program options text m n standard r = bench_alone program text n r
-bench_means program options text m n (given words a k p s) r = bench_given program words a text k n (read_of most_workers k a (lit< tt) p) r s
+-- the walk over the number
+module _ (text : List ℕ) (n : ℕ) (r : ReadWhole text n) (rows : List Row) (free : has_row (codes "number") rows ≡ false) (h : Held) (it : Settles bench_leaf rows h) where
+  turns : turn_fault bench_leaf [] (at h idle 1 false) text ≡ []
+  turns = rw (r.plain.no_dashes, r.plain.no_long, r.plain.no_short) (go (is_pending number_built h.pending))
+    where
+      go : (b : Bool) → cond (b && takes_several number_built) [] (settle_fault bench_leaf.rules false h) ≡ []
+      go true = it.no_fault
+      go false = it.no_fault
+
+  held : positional_held bench_leaf.rules number_built text h ≡ record (settled bench_leaf.rules h) { pending = Some (codes "number", text ∷ []) }
+  held = go (is_pending number_built h.pending)
+    where
+      go : (b : Bool) → pushed (codes "number") text (cond (b && takes_several number_built) h (settled bench_leaf.rules h)) ≡
+          record (settled bench_leaf.rules h) { pending = Some (codes "number", text ∷ []) }
+      go true = refl
+      go false = refl
+
+  walks : walked bench_leaf.rules [] (at h idle 1 false) text ≡ at (record (settled bench_leaf.rules h) { pending = Some (codes "number", text ∷ []) }) idle 2 false
+  unfolding walked
+  walks = rw (r.plain.no_dashes, r.plain.no_long, r.plain.no_short) (rw held refl)
+
+  settles : Settles bench_leaf (used number_built (text ∷ []) rows) (record (settled bench_leaf.rules h) { pending = Some (codes "number", text ∷ []) })
+  settles = record { no_fault = rw it.leaves (rw (free, r.passes) refl); leaves = rw it.leaves refl }
+
+  over_number : Ends bench_leaf (used number_built (text ∷ []) rows) (at h idle 1 false) (text ∷ [])
+  over_number = one_more bench_leaf _ _ _ _ _ turns walks (ends_here bench_leaf _ _ settles)
+
+pays : Settles bench_leaf [] nothing_held
+pays = record { no_fault = refl; leaves = refl }
+
+number_means : (options : List (List ℕ)) (text : List ℕ) (m n : ℕ) → PlainWorkers options m → ReadWhole text n → meaning_below bench_leaf (options ++ text ∷ []) ≡ Some (Bench m n)
+unfolding clap_on_literals
+number_means options text m n standard r = rw (below_ends bench_leaf _ (text ∷ []) (over_number text n r [] refl nothing_held pays) refl) (rw r.number refl)
+number_means options text m n (given words a l p s) r =
+    let u = read_of most_workers l a (lit< tt) p in
+    let rows = used number_built (text ∷ []) (workers_used a []) in
+    let ends : Ends bench_leaf rows (walk_from nothing_held) (words ++ text ∷ []) =
+    after_option bench_leaf (codes "workers") most_workers (codes "4") takes_its_workers a u.passes [] refl nothing_held pays 1 words (text ∷ []) s u.plain rows
+    (λ g it. over_number text n r (workers_used a []) refl g it) in
+    rw (below_ends bench_leaf rows (words ++ text ∷ []) ends refl) (rw (u.number, r.number) refl)
 
 pub plain_means : (words : List (List ℕ)) (meaning : Meaning) → IsPlain words meaning → meaning_of words ≡ Some meaning
-plain_means words meaning (plain_searcher program command options m n o) = options_mean command program options m n o
+plain_means words meaning (plain_searcher program command options m n o) = rw (search_means command program options) (options_mean command options m n o)
 plain_means words meaning (plain_upgrade program) = upgrade_means program
 plain_means words meaning (plain_util program) = util_means program
 plain_means words meaning (plain_check program) = check_means program
-plain_means words meaning (plain_bench program options text m n o p) = bench_means program options text m n o (whole_of n text p)
+plain_means words meaning (plain_bench program options text m n o p) = rw (bench_means program (options ++ text ∷ [])) (number_means options text m n o (whole_of n text p))

@@ -1,8 +1,9 @@
 -- What the walk of `clap` over any words keeps to, whatever the options.
-use Rattle.std.proofs.Common.{◌≡◌, ◌++◌, ℕ, Bool, cond, true, false, List, [], ◌∷◌, Option, Some, None, length, fold, refl, append_assoc, append-nil, ne_eqb, suc-ne-zero}
+use Rattle.std.proofs.Common.{◌≡◌, ℕ, Bool, cond, true, false, List, [], ◌∷◌, Option, Some, None, length, ne_eqb, suc-ne-zero}
 use Rattle.clap.specs.Kinds.{Kinds, or_else}
 use Rattle.clap.specs.Lexer.{long_of, short_of}
-use Rattle.clap.specs.Walk.{Held, Names, Outcome, Rule, Step, Text, Waiting, Walk, done, waits, plain, refused, idle, option, positional, next, trailing, subcommand, value, after_flag, bundle, is_empty, long_or_other, plain_word, short_or_plain, walked, word_met}
+use Rattle.clap.specs.Walk.{Held, Outcome, Rule, Step, Text, Waiting, Walk, done, waits, plain, refused, idle, option, positional, next, trailing}
+use Rattle.clap.specs.Walk.{subcommand, value, after_flag, bundle, is_empty, long_or_other, plain_word, short_or_plain, word_met}
 
 -- there is a fault
 abbrev pub Faulty : Kinds → Type 0
@@ -67,11 +68,3 @@ module _ (c : List Rule) where
   met_within false idle position word h = dash_within _ idle position word h
   met_within false (option id) position word h = dash_within _ (option id) position word h
   met_within false positional position word h = dash_within _ positional position word h
-
--- a walk that stopped keeps the words that follow
-pub keeps : (c : List Rule) (names : Names) (words : List Text) (w : Walk) (name : Text) (met : List Text) → w.stopped ≡ Some (name, met)
-    → (fold (walked c names) w words).stopped ≡ Some (name, met ++ words)
-unfolding walked
-keeps c names [] w name met e = rw (append-nil met) e
-keeps c names (word ∷ words) w name met e =
-    rw (← append_assoc met (word ∷ []) words) (keeps c names words (walked c names w word) name (met ++ word ∷ []) (rw e refl))
