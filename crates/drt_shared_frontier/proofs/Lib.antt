@@ -1,3 +1,3 @@
 pub mod Holds
-pub mod Places
+pub mod Totals
 pub mod Sends

@@ -1,6 +1,7 @@
 use Rattle.std.proofs.Common.{rules, ℕ, arith, ap, length, length-append, refl, ◌≡◌, ◌+◌, ◌∷◌, [], Some}
 use Rattle.drt_shared_frontier.specs.Passes.{PassOf}
-use Rattle.drt_shared_frontier.proofs.Places.{places_last, total_last}
+use Rattle.drt_pool.proofs.Places.{places_last}
+use Rattle.drt_shared_frontier.proofs.Totals.{total_last}
 use Rattle.drt_shared_frontier.proofs.passes.gather.Goals as goal
 
 pub loop-pass-preserved : goal.loop-pass-preserved
