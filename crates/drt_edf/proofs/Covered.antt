@@ -1,10 +1,10 @@
 -- What fronts of labels say of all walks that are due by a time within the bound.
-use Rattle.std.proofs.Common.{◌≡◌, ℕ, zero, suc, ◌+◌, ◌<◌, ◌≤◌, Bool, true, false, cond, List, [], ◌∷◌, length, get_or, refl, ap, arith}
+use Rattle.std.proofs.Common.{◌≡◌, ℕ, zero, suc, ◌+◌, ◌<◌, ◌≤◌, Bool, true, false, cond, List, [], ◌∷◌, length, get_or, ap, arith}
 use Rattle.std.specs.Prelude.{max, nat_le}
 use Rattle.std.proofs.Math.Nat.{le-max_left, le-max_right}
 use Rattle.std.proofs.lemmas.Bool.{le-leb}
-use Rattle.drt_model.specs.Digraph.{Digraph, vertex_count}
-use Rattle.drt_model.specs.Walk.{IsPath, last_of, work, span, deadline}
+use Rattle.drt_model.specs.Digraph.{Digraph}
+use Rattle.drt_model.specs.Walk.{last_of, work, deadline}
 use Rattle.drt_model.specs.declared.front.FrontEntry.{FrontEntry}
 use Rattle.drt_demand.specs.Dbf.{dbf_at}
 use Rattle.drt_graph.proofs.Paths.{work_none}
@@ -12,16 +12,8 @@ use Rattle.drt_sweep.specs.Dues.{sum_due}
 use Rattle.drt_rates.specs.Demands.{demands}
 use Rattle.drt_horizon.specs.Laws.{IsDue, AreDue, efforts}
 use Rattle.drt_model.specs.FrontEntry.{due}
-use Rattle.drt_edf.specs.Walks.{IsWalkEntry}
-use Rattle.drt_edf.specs.LabelFronts.{IsLabelFront, AreLabelFronts}
-
--- The label of a walk, as an entry.
-abbrev pub walk_entry : Digraph → ℕ → List ℕ → FrontEntry
-walk_entry g u vs = record { vertex = last_of u vs; offset = span g u vs; work = work g (u ∷ vs) }
-
--- It is one of a walk.
-pub walk_entry_is : (g : Digraph) (bound u : ℕ) (vs : List ℕ) → u < vertex_count g → IsPath g u vs → span g u vs + deadline g (last_of u vs) ≤ bound → IsWalkEntry g bound (walk_entry g u vs)
-walk_entry_is g bound u vs l path due = record { first = u; others = vs; is_vertex = l; path = path; vertex = refl; offset = refl; works = refl; within = due }
+use Rattle.drt_fronts.specs.LabelFronts.{IsLabelFront, AreLabelFronts}
+use Rattle.drt_fronts.proofs.WalkEntries.{walk_entry, walk_entry_is}
 
 most_here : (b : Bool) (w r n : ℕ) → b ≡ true → n ≤ w → n ≤ max (cond b w 0) r
 most_here true w r n e l = omega (arith, le-max_left w r)

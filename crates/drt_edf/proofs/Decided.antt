@@ -13,7 +13,7 @@ use Rattle.drt_table.specs.declared.step.Entry.{Entry}
 use Rattle.drt_evidence.specs.declared.evidence.Evidence.TheVariants.{EdfYes}
 use Rattle.drt_evidence.specs.Claims.{graphs_of}
 use Rattle.drt_evidence.specs.Ranges.{IsCounted, IsInRange, IsInRangeFront}
-use Rattle.drt_edf.specs.LabelFronts.{AreLabelFronts, AreDemandWalks}
+use Rattle.drt_fronts.specs.LabelFronts.{AreLabelFronts, AreDemandWalks}
 use Rattle.drt_edf.specs.RatioClaims.{claims_of}
 use Rattle.drt_edf.specs.Searches.{IsSpentSearch}
 use Rattle.drt_edf.specs.Spent.{IsSpentTable}

@@ -29,10 +29,11 @@ use Rattle.drt_evidence.specs.Fronts.{IsOrdered, HasOpenings, IsExtended, IsClos
 use Rattle.drt_evidence.specs.Ranges.{IsInRangeEntry}
 use Rattle.drt_evidence.proofs.Accepting.{AreFrontClaims, yes_accepted}
 use Rattle.drt_edf.specs.Answers.{IsExactYes}
-use Rattle.drt_edf.specs.LabelFronts.{IsLabelFront, AreLabelFronts}
+use Rattle.drt_fronts.specs.LabelFronts.{IsLabelFront, AreLabelFronts}
 use Rattle.drt_edf.specs.RatioClaims.{claims_of}
 use Rattle.drt_edf.specs.Walks.{IsWalkEntry, IsExactFront}
-use Rattle.drt_edf.proofs.Covered.{walk_entry, walk_entry_is, all_within}
+use Rattle.drt_fronts.proofs.WalkEntries.{walk_entry, walk_entry_is}
+use Rattle.drt_edf.proofs.Covered.{all_within}
 use Rattle.drt_edf.proofs.Planned.{claims_kept, claims_below, planned_below}
 use Rattle.drt_edf.proofs.RatioClaims.{head_of, tail_of}
 use Rattle.drt_edf.proofs.Suffixes.{listed, efforts_listed, due_listed}

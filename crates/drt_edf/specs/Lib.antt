@@ -2,11 +2,7 @@ pub mod Plans
 pub mod Walks
 pub mod Spent
 pub mod Answers
-pub mod LabelFronts
 pub mod RatioClaims
 pub mod Searches
 pub mod Turns
 pub mod Exclusions
-pub mod Falling
-pub mod DemandWalk
-pub mod Bounded

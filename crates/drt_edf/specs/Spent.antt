@@ -1,13 +1,12 @@
 -- Where a budget is spent, and how much is enough.
-use Rattle.std.specs.Prelude.{◌≡◌, ℕ, ◌+◌, ◌*◌, ◌≤◌, ◌<◌, ◌^◌, false, List, length, All, Some, slice_get}
+use Rattle.std.specs.Prelude.{◌≡◌, ℕ, ◌≤◌, ◌<◌, ◌^◌, false, List, length, All, Some, slice_get}
 use Rattle.drt_model.specs.declared.tasks.Task.{Task}
-use Rattle.drt_model.specs.Degrees.{most_out}
-use Rattle.drt_model.specs.Digraph.{Digraph, vertex_count}
+use Rattle.drt_model.specs.Digraph.{Digraph}
 use Rattle.drt_model.specs.Utilisation.{IsScale}
 use Rattle.drt_demand.specs.Demand.{demand_algebra}
 use Rattle.drt_ratio.specs.declared.ratio_proof.RatioProof.{RatioProof}
 use Rattle.drt_ratio.specs.SetRatios.{fractions_of}
-use Rattle.drt_table.specs.Machine.{Setting, IsRun, replay, is_finished}
+use Rattle.drt_table.specs.Machine.{IsRun, replay, is_finished}
 use Rattle.drt_table.specs.declared.step.Entry.{Entry}
 use Rattle.drt_horizon.specs.Given.{AreGiven}
 use Rattle.drt_horizon.specs.CycleTurns.{cycle_turns_of, IsOver}
@@ -15,19 +14,7 @@ use Rattle.drt_horizon.specs.Laws.{latest}
 use Rattle.drt_horizon.specs.declared.answers.Over.TheVariants.{Spent}
 use Rattle.drt_evidence.specs.Claims.{graphs_of}
 use Rattle.drt_edf.specs.Plans.{IsAboveOne, HasHorizon}
-
--- No search of a graph's walks up to the bound makes so many steps: vertices, times offsets, times what is done at one of them.
-abbrev pub table_need : Digraph → ℕ → ℕ
-table_need g bound = vertex_count g * (bound + 1) * (most_out g.out + 2)
-
--- The walks of the graph up to the bound are worked in a wave table: one cell for each vertex and offset, and no budget is spent. So it is
--- where the budget is enough for any search, and there are at most 2^22 cells.
-abbrev pub HasWaveTable : Digraph → ℕ → ℕ → Type 0
-HasWaveTable g bound budget = (vertex_count g * (bound + 1) ≤ 4194304) × (table_need g bound ≤ budget)
-
--- What a search of a graph's walks never changes.
-abbrev pub search_of : Digraph → ℕ → ℕ → Setting
-search_of g bound budget = record { graph = g; bound = bound; budget = budget }
+pub use Rattle.drt_fronts.specs.Needs.{table_need, HasWaveTable, search_of}
 
 -- The search of this task's walks spent the budget: the log is a run of that many steps which isn't finished, up to the horizon of
 -- a set whose utilisation is below one. So the budget is below what the search needs, and the task has no wave table.

@@ -6,15 +6,15 @@ ghost use Rattle.drt_horizon.specs.Plans.{IsPlan};
 ghost use Rattle.drt_evidence.specs.Claims.{graphs_of};
 ghost use Rattle.drt_evidence.specs.Ranges.{IsCounted, IsInRange};
 ghost use Rattle.drt_edf.specs.Answers.{IsAnswer, IsVerdict};
-ghost use Rattle.drt_edf.specs.LabelFronts.{AreDemandWalks, AreLabelFronts};
+ghost use Rattle.drt_fronts.specs.LabelFronts.{AreDemandWalks, AreLabelFronts};
 
 use crate::answer::EdfAnswer;
 use crate::claims::claims_of;
 use crate::refusal::refusal;
 use crate::searching::{Searched, searches};
-use crate::walks::demand_walk;
 use drt_busy::deadlines_decide;
 use drt_evidence::Evidence;
+use drt_fronts::demand_walk;
 use drt_graph::Graphs;
 use drt_horizon::{Horizon, horizon_holds, scan};
 use drt_model::{FrontEntry, Memory, Row, TaskSet};

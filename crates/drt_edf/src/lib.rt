@@ -12,18 +12,13 @@ mod analysis;
 mod answer;
 mod below;
 mod claims;
-#[cfg(test)]
-mod front_tests;
-mod fronts;
 mod laws;
 mod refusal;
 mod searching;
 mod turns;
-mod walks;
-mod waves;
 
 pub use analysis::analyse_edf;
 pub use answer::EdfAnswer;
+pub use drt_fronts::{has_wave_table, searches_are_bounded};
 pub use drt_trails::EdfTrail;
-pub use laws::{horizon_is_one, rates_are_one, searches_are_bounded};
-pub use waves::has_wave_table;
+pub use laws::{horizon_is_one, rates_are_one};

@@ -1,20 +1,12 @@
 //! The searches of the tasks' walks.
-ghost use Rattle.std.specs.Prelude.{◌≡◌, ◌≤◌, IfOk};
-ghost use Rattle.drt_model.specs.Digraph.{IsConstrainedGraph};
-ghost use Rattle.drt_edf.specs.Searches.{AreSearches, IsEnded};
-ghost use Rattle.drt_edf.specs.Spent.{search_of};
-ghost use Rattle.drt_table.specs.Drive.{StopsAt};
-ghost use Rattle.drt_table.specs.View.{setting_of};
-ghost use Rattle.drt_demand.specs.Demand.{demand_algebra};
+ghost use Rattle.std.specs.Prelude.{◌≤◌, IfOk};
+ghost use Rattle.drt_edf.specs.Searches.{AreSearches};
 
-use crate::fronts::front_of;
-use crate::waves::{has_wave_table, wave_front};
-use drt_demand::DemandLabel;
-use drt_graph::{Graph, Graphs};
+use drt_fronts::{Ended, search_task};
+use drt_graph::Graphs;
 use drt_model::{FrontEntry, Memory, Row};
 use drt_pool::Gate;
-use drt_search::search_together;
-use drt_table::{Entry, Table, TableReply, over_every_interleaving};
+use drt_table::Entry;
 use std::alloc::Global;
 use std::sync::Wait;
 use std::thread::Threads;
@@ -26,63 +18,6 @@ pub(crate) enum Searched {
     Finished(Row<Row<FrontEntry>>),
     /// The first that spent its budget, by its task and its steps.
     Spent { task: u32, log: Row<Entry> },
-}
-
-// The search of one graph's walks up to the bound by these workers, driven to its end.
-fn search<G: Gate, R: Threads + Wait + Sync>(
-    rt: &R,
-    alloc: Global,
-    graph: &Graph,
-    bound: u64,
-    workers: u32,
-    budget: u64,
-    gate: &G,
-) -> Result<(Table<DemandLabel>, TableReply), Memory>
-    requires bound { bound ≤ 1099511627776 }
-    requires workers { (1 ≤ workers) × (workers ≤ 16) }
-    requires some { 1 ≤ budget }
-    requires few { budget ≤ 1000000 }
-    ensures setting { IfOk result (λ end. setting_of end.0 ≡ search_of graph.now bound budget) }
-    ensures stops { IfOk result (λ end. StopsAt demand_algebra end.0 end.1) }
-{
-    search_together(rt, alloc, graph, bound, budget, workers, gate)
-}
-
-// How the search of one task's walks ended: with its front, or with the steps by which it spent its budget.
-#[derive(Drop)]
-pub(crate) enum Ended {
-    Front(Row<FrontEntry>),
-    Full(Row<Entry>),
-}
-
-// The search of one task's walks, in a wave table where it has one.
-fn search_task<G: Gate, R: Threads + Wait + Sync>(
-    rt: &R,
-    alloc: Global,
-    graph: &Graph,
-    bound: u64,
-    workers: u32,
-    budget: u64,
-    gate: &G,
-) -> Result<Ended, Memory>
-    requires constrained { IsConstrainedGraph graph.now }
-    requires bound { bound ≤ 1099511627776 }
-    requires workers { (1 ≤ workers) × (workers ≤ 16) }
-    requires some { 1 ≤ budget }
-    requires few { budget ≤ 1000000 }
-    ensures { IfOk result (IsEnded graph.now bound budget) }
-{
-    if has_wave_table(graph, bound, budget) {
-        let front = wave_front(rt, alloc, graph, bound, workers, gate)?;
-        return Ok(Ended::Front(front));
-    }
-    over_every_interleaving::<DemandLabel>();
-    let (table, _reply) = search(rt, alloc, graph, bound, workers, budget, gate)?;
-    if !table.finished() {
-        let log = Vec::from_slice(alloc, table.log())?;
-        return Ok(Ended::Full(Row::from_vec(log)));
-    }
-    Ok(Ended::Front(front_of(alloc, graph, &table)?))
 }
 
 /// The searches of the walks of all tasks up to the bound, in ticks, each with this budget of steps. Each gives its front, and

@@ -14,7 +14,7 @@ use Rattle.drt_table.specs.Machine.{extended}
 use Rattle.drt_table.specs.Walk.{WalkTo}
 use Rattle.drt_edf.specs.Spent.{search_of}
 use Rattle.drt_edf_tests.specs.Ending.{IsEnding, IsReached, IsGreatestAt, AreGreatestAt, IsAboveEdge, IsGreatestOver}
-use Rattle.drt_edf.proofs.Bounded.{label_of}
+use Rattle.drt_fronts.proofs.Bounded.{label_of}
 use Rattle.drt_edf_tests.proofs.PlainWorks.{place_same, in_table}
 
 le_true : (a b : ℕ) → a ≤ b → IsTrue (nat_le a b)

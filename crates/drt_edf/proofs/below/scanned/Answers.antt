@@ -10,7 +10,7 @@ use Rattle.drt_evidence.specs.Claims.{graphs_of}
 use Rattle.drt_evidence.specs.Ranges.{IsInRange}
 use Rattle.drt_evidence.specs.declared.evidence.Evidence.TheVariants.{EdfYes}
 use Rattle.drt_edf.specs.Answers.{IsExactYes}
-use Rattle.drt_edf.specs.LabelFronts.{AreDemandWalks, AreLabelFronts}
+use Rattle.drt_fronts.specs.LabelFronts.{AreDemandWalks, AreLabelFronts}
 use Rattle.drt_edf.proofs.Decided.{listed_walks, plan_near, yes_in_range}
 use Rattle.drt_edf.proofs.Gathered.{fronts_within, walks_work}
 use Rattle.drt_edf.proofs.Suffixes.{AreListed}

@@ -1,7 +1,7 @@
 -- The fronts so far are those of the graphs so far.
 use Rattle.std.proofs.Common.{take, All}
 use Rattle.drt_evidence.specs.Ranges.{IsCounted}
-use Rattle.drt_edf.specs.LabelFronts.{AreLabelFronts}
+use Rattle.drt_fronts.specs.LabelFronts.{AreLabelFronts}
 use Rattle.drt_edf.proofs.searching.searches.Given as goal
 
 abbrev pub invariant-tasks : goal.invariant-tasks

@@ -1,0 +1,10 @@
+pub mod Bounded
+pub mod Searched
+pub mod LabelWalks
+pub mod Falling
+pub mod FrontLists
+pub mod WalkEntries
+pub mod Prefixes
+pub mod Places
+pub mod DemandWalks
+pub mod WaveFronts

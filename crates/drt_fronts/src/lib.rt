@@ -1,0 +1,18 @@
+//! The front of one task's walks, and the walk of a label.
+//!
+//! Where the budget is enough for any search of the walks, and there are at most 2^22 cells, `search_task` works them in a wave table of
+//! `drt_wave`, and else in a table of `drt_table` whose steps the budget counts (`has_wave_table` tells which): the front is the same.
+//! `demand_walk` finds backwards over a front a walk that has all the demand of a time. The layer above has a front for each task.
+#![tactic(auto)]
+
+mod fronts;
+mod laws;
+mod search;
+mod walks;
+mod waves;
+
+pub use fronts::front_of;
+pub use laws::searches_are_bounded;
+pub use search::{Ended, search_task};
+pub use walks::demand_walk;
+pub use waves::{has_wave_table, wave_front};

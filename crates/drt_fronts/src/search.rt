@@ -1,0 +1,80 @@
+//! The search of a task's walks.
+ghost use Rattle.std.specs.Prelude.{◌≡◌, ◌≤◌, IfOk};
+ghost use Rattle.drt_model.specs.Digraph.{IsConstrainedGraph};
+ghost use Rattle.drt_fronts.specs.Ends.{IsEnded};
+ghost use Rattle.drt_fronts.specs.Needs.{search_of};
+ghost use Rattle.drt_table.specs.Drive.{StopsAt};
+ghost use Rattle.drt_table.specs.View.{setting_of};
+ghost use Rattle.drt_demand.specs.Demand.{demand_algebra};
+
+use crate::fronts::front_of;
+use crate::waves::{has_wave_table, wave_front};
+use drt_demand::DemandLabel;
+use drt_graph::Graph;
+use drt_model::{FrontEntry, Memory, Row};
+use drt_pool::Gate;
+use drt_search::search_together;
+use drt_table::{Entry, Table, TableReply, over_every_interleaving};
+use std::alloc::Global;
+use std::sync::Wait;
+use std::thread::Threads;
+
+// The search of one graph's walks up to the bound by these workers, driven to its end.
+fn search<G: Gate, R: Threads + Wait + Sync>(
+    rt: &R,
+    alloc: Global,
+    graph: &Graph,
+    bound: u64,
+    workers: u32,
+    budget: u64,
+    gate: &G,
+) -> Result<(Table<DemandLabel>, TableReply), Memory>
+    requires bound { bound ≤ 1099511627776 }
+    requires workers { (1 ≤ workers) × (workers ≤ 16) }
+    requires some { 1 ≤ budget }
+    requires few { budget ≤ 1000000 }
+    ensures setting { IfOk result (λ end. setting_of end.0 ≡ search_of graph.now bound budget) }
+    ensures stops { IfOk result (λ end. StopsAt demand_algebra end.0 end.1) }
+{
+    search_together(rt, alloc, graph, bound, budget, workers, gate)
+}
+
+/// How the search of one task's walks ended: with its front, or with the steps by which it spent its budget.
+#[derive(Drop)]
+pub enum Ended {
+    /// The front of the walks.
+    Front(Row<FrontEntry>),
+    /// As many steps as the budget has.
+    Full(Row<Entry>),
+}
+
+/// The search of one task's walks up to the bound, in ticks, by several workers: in a wave table where it has one, and else in a table
+/// whose steps the budget counts.
+pub fn search_task<G: Gate, R: Threads + Wait + Sync>(
+    rt: &R,
+    alloc: Global,
+    graph: &Graph,
+    bound: u64,
+    workers: u32,
+    budget: u64,
+    gate: &G,
+) -> Result<Ended, Memory>
+    requires constrained { IsConstrainedGraph graph.now }
+    requires bound { bound ≤ 1099511627776 }
+    requires workers { (1 ≤ workers) × (workers ≤ 16) }
+    requires some { 1 ≤ budget }
+    requires few { budget ≤ 1000000 }
+    ensures { IfOk result (IsEnded graph.now bound budget) }
+{
+    if has_wave_table(graph, bound, budget) {
+        let front = wave_front(rt, alloc, graph, bound, workers, gate)?;
+        return Ok(Ended::Front(front));
+    }
+    over_every_interleaving::<DemandLabel>();
+    let (table, _reply) = search(rt, alloc, graph, bound, workers, budget, gate)?;
+    if !table.finished() {
+        let log = Vec::from_slice(alloc, table.log())?;
+        return Ok(Ended::Full(Row::from_vec(log)));
+    }
+    Ok(Ended::Front(front_of(alloc, graph, &table)?))
+}

@@ -1,0 +1,64 @@
+//! Tasks whose walks are worked in a wave table.
+ghost use Rattle.std.specs.Prelude.{◌≡◌, ◌+◌, ◌*◌, ◌≤◌, ◌↔◌, IfOk, IsTrue};
+ghost use Rattle.drt_model.specs.Degrees.{most_out};
+ghost use Rattle.drt_model.specs.Digraph.{IsConstrainedGraph, vertex_count};
+ghost use Rattle.drt_evidence.specs.Ranges.{IsCounted};
+ghost use Rattle.drt_fronts.specs.LabelFronts.{IsLabelFront};
+ghost use Rattle.drt_fronts.specs.Needs.{HasWaveTable};
+
+use drt_graph::Graph;
+use drt_model::{FrontEntry, Memory, Row};
+use drt_pool::Gate;
+use drt_wave::fill;
+use std::alloc::Global;
+use std::sync::Wait;
+use std::thread::Threads;
+
+// The most cells of a wave table.
+const MOST_CELLS: u64 = 4_194_304;
+
+// The greatest number of edges out of a vertex.
+fn greatest_degree(graph: &Graph) -> u64
+    ensures { result ≡ most_out graph.now.out }
+{
+    let count = graph.vertex_count();
+    let mut most = 0;
+    'vertices: for v in 0..count {
+        most = most.max(u64::from(graph.out_degree(v)));
+    }
+    most
+}
+
+/// Whether the walks of a task up to the bound, in ticks, are worked in a wave table, in place of a table whose steps are counted: there
+/// are at most 4,194,304 cells, and the budget is enough for any search of these walks.
+pub fn has_wave_table(graph: &Graph, bound: u64, budget: u64) -> bool
+    requires { bound ≤ 1099511627776 }
+    ensures { IsTrue result ↔ HasWaveTable graph.now bound budget }
+{
+    let cells = u64::from(graph.vertex_count()) * (bound + 1);
+    if cells > MOST_CELLS {
+        return false;
+    }
+    cells * (greatest_degree(graph) + 2) <= budget
+}
+
+/// The front of a task's walks up to the bound, in ticks, worked by several workers in a wave table.
+pub fn wave_front<G: Gate, R: Threads + Wait + Sync>(
+    rt: &R,
+    alloc: Global,
+    graph: &Graph,
+    bound: u64,
+    workers: u32,
+    gate: &G,
+) -> Result<Row<FrontEntry>, Memory>
+    requires small { vertex_count graph.now * (bound + 1) ≤ 4194304 }
+    requires constrained { IsConstrainedGraph graph.now }
+    requires workers { (1 ≤ workers) × (workers ≤ 16) }
+    ensures front { IfOk result (IsLabelFront graph.now bound) }
+    ensures counted { IfOk result IsCounted }
+{
+    let _count = graph.vertex_count();
+    let works = fill(rt, alloc, graph, bound, workers, gate)?;
+    let front = works.front(alloc)?;
+    Ok(front)
+}
