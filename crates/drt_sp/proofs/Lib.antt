@@ -15,6 +15,7 @@ pub mod Refused
 pub mod FirstVertices
 pub mod Visits
 pub mod Joining
+pub mod Attempted
 pub mod ItemLists
 pub mod VertexProofs
 pub mod RequestWalks

@@ -9,5 +9,6 @@ pub mod Answers
 pub mod Chosen
 pub mod Vertices
 pub mod Parts
+pub mod Attempts
 pub mod Progress
 pub mod Grown

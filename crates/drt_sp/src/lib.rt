@@ -9,6 +9,7 @@
 
 mod analysis;
 mod answer;
+mod attempts;
 mod deadlines;
 mod grown;
 pub mod laws;
@@ -16,6 +17,7 @@ mod order;
 mod parts;
 mod progress;
 mod proving;
+mod race;
 mod refusal;
 mod releases;
 mod trees;

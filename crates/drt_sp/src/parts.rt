@@ -1,16 +1,23 @@
-//! A vertex that several workers prove: each ends combinations of its own.
-ghost use Rattle.std.specs.Prelude.{◌≡◌, ◌≤◌, ◌<◌, ◌++◌, ◌∷◌, [], ℕ, true, All, IfOk, IfSome, OnOk, List, None, Some, length, slice_get, slice_set};
-ghost use Rattle.drt_evidence.specs.Ranges.{IsCounted, IsInRangeItem};
+//! The vertices of a task, proved by several workers: each ends combinations of its own.
+ghost use Rattle.std.specs.Prelude.{◌≡◌, ◌≤◌, ◌<◌, ◌++◌, ℕ, true, All, IfOk, IfSome, OnOk, List, None, Some, length, slice_get, slice_set};
+ghost use Rattle.drt_evidence.specs.Ranges.{IsCounted};
 ghost use Rattle.drt_evidence.specs.declared.evidence.Item.{Item};
+ghost use Rattle.drt_model.specs.Digraph.{vertex_count};
+ghost use Rattle.drt_model.specs.Walk.{deadline};
 ghost use Rattle.drt_refine.specs.Combination.{Combination};
 ghost use Rattle.drt_refine.specs.Eager.{IsEager};
 ghost use Rattle.drt_refine.specs.View.{IsFrontier, setting_of};
-ghost use Rattle.drt_sp.specs.Items.{AreItems, IsProofOf, IsVertexProof};
-ghost use Rattle.drt_sp.specs.Parts.{AreAdded, AreEndOf, CanEnd, HasParts, IsNextItem, IsPart, upright};
+ghost use Rattle.drt_sp.specs.Attempts.{AreGiven, AreTables, AreWith, CanBeEnded, HaveParts, IsJob, IsPartOf};
+ghost use Rattle.drt_sp.specs.Parts.{AreAdded, AreEndOf, CanEnd, HasParts, IsNextItem};
+ghost use Rattle.drt_sp.specs.declared.proving.VertexProof.TheVariants.{Passes as PassesBy};
 ghost use Rattle.drt_steps.specs.Time.{AreChosen};
+ghost use Rattle.drt_tree.specs.Tree.{Plain};
 
-use crate::proving::{Refined, VertexProof, prove_whole, refine_vertex};
+use crate::attempts::{Attempt, Attempts, attempt_vertices};
+use crate::proving::VertexProof;
+use crate::race::Race;
 use drt_evidence::Item;
+use drt_graph::Graph;
 use drt_model::{Memory, Row};
 use drt_pool::Gate;
 use drt_refine::{
@@ -20,120 +27,120 @@ use drt_steps::least_time;
 use drt_tree::{Forest, every_forest};
 use std::alloc::Global;
 use std::sync::Wait;
-use std::sync::atomic::{AtomicU64, Ordering};
 use std::thread;
 use std::thread::{Threads, available_parallelism};
 
-// How many items a worker makes before it counts them where all workers see it.
-const COUNTED: usize = 1024;
-
-/// The items that end a combination of a frontier, by its number.
+/// The items that end a combination, by the place of its frontier among those that were spent, and by its number there.
 #[derive(Drop)]
 pub(crate) struct Part {
+    pub(crate) place: usize,
     pub(crate) id: u32,
     pub(crate) items: Row<Item>,
 }
 
-// What the workers of a vertex share: the number of the next combination, and how many items they made. Nothing is proved of either.
-#[derive(Drop)]
-struct Race {
-    next: AtomicU64,
-    made: AtomicU64,
-    most: u64,
+/// A combination that is to be ended, by the place of its frontier and by its number there.
+#[derive(Clone, Copy, Debug)]
+pub(crate) struct Job {
+    pub(crate) place: usize,
+    pub(crate) id: u32,
 }
 
-/// What becomes of a vertex, as `prove_vertex` says. First the caller refines it with as few steps as it takes to begin a thread. Where
-/// that is too little, workers end the combinations that are still open, each those that it takes, and the parts are put together. A
-/// combination has one proof, so it is the proof that one frontier gives. Where there is none within the budget, the caller works
-/// one frontier with the whole budget.
+/// What becomes of the first vertices of a task, as far as it is found side by side. First the caller attempts each vertex, in file
+/// order, with as few steps as it takes to begin threads. Where that is too little for some, workers end the combinations that are still
+/// open in their frontiers, each those that it takes, and the parts are put together. A combination has one proof, so it is the proof
+/// that one frontier gives. There is none for a vertex that has no proof within the budget, or of which a part is wanting.
 pub(crate) fn prove_by_parts<G: Gate, R: Threads + Wait + Sync>(
     rt: &R,
     alloc: Global,
     forest: &Forest,
     roots: &[u32],
-    wcet: u32,
-    deadline: u32,
+    graph: &Graph,
     workers: u32,
+    few: u64,
     budget: u64,
     gate: &G,
-) -> Result<VertexProof, Memory>
+) -> Result<Vec<Option<VertexProof>>, Memory>
     requires few { length roots.now ≤ 31 }
-    requires roots { AreChosen deadline forest.now.pool roots.now }
-    requires wcet { (1 ≤ wcet) × (wcet ≤ 1000000) }
-    requires deadline { (1 ≤ deadline) × (deadline ≤ 1000000) }
-    requires workers { (1 ≤ workers) × (workers ≤ 16) }
-    requires budget { (1 ≤ budget) × (budget ≤ 1000000) }
-    ensures { IfOk result (IsVertexProof forest.now wcet deadline roots.now budget) }
-{
-    let few = gate.alone().max(1);
-    if few < budget {
-        let refined = refine_vertex(rt, alloc, forest, roots, wcet, deadline, 1, few, gate)?;
-        match refined {
-            Refined::Passes(items) => return Ok(VertexProof::Passes(items)),
-            Refined::Fails(tuple) => return Ok(VertexProof::Fails(tuple)),
-            Refined::Spent(frontier) => {
-                let items = end_by_parts(
-                    rt, alloc, forest, &frontier, wcet, deadline, workers, budget,
-                )?;
-                if let Some(items) = items {
-                    return Ok(VertexProof::Passes(items));
-                }
-            }
-        }
-    }
-    prove_whole(rt, alloc, forest, roots, wcet, deadline, 1, budget, gate)
-}
-
-// The items of a vertex whose frontier is spent: workers end its open combinations, and each part comes to its place. None where a
-// combination fails, or as many items would take more steps than the budget.
-fn end_by_parts<R: Threads + Wait + Sync>(
-    rt: &R,
-    alloc: Global,
-    forest: &Forest,
-    frontier: &Frontier,
-    wcet: u32,
-    deadline: u32,
-    workers: u32,
-    budget: u64,
-) -> Result<Option<Row<Item>>, Memory>
-    requires frontier { IsFrontier forest.now frontier.now }
-    requires eager { IsEager (setting_of forest.now frontier.now) frontier.now.log }
-    requires wcet { (wcet ≡ frontier.now.wcet) × (wcet ≤ 1000000) }
-    requires deadline { (deadline ≡ frontier.now.deadline) × (deadline ≤ 1000000) }
-    requires few { length frontier.now.roots ≤ 31 }
+    requires roots { (v : ℕ) → v < vertex_count graph.now → AreChosen (deadline graph.now v) forest.now.pool roots.now }
+    requires steps { (1 ≤ few) × (few ≤ 1000000) }
     requires budget { budget ≤ 1000000 }
-    ensures { IfOk result (λ some. IfSome some (λ items. IsProofOf forest.now wcet deadline frontier.now.roots items × All IsInRangeItem items × IsCounted items)) }
+    ensures { IfOk result (λ proofs. AreGiven forest.now roots.now graph.now proofs.items) }
 {
     over_every_interleaving();
     every_forest();
-    let ids = open_combinations(alloc, frontier)?;
-    let lists = share(
-        rt,
-        alloc,
-        forest,
-        frontier,
-        ids.as_slice(),
-        wcet,
-        deadline,
-        workers,
-        budget,
-    )?;
-    let mut parts = no_parts(alloc, frontier.count())?;
-    put_lists(forest, frontier, lists, &mut parts)?;
-    join_parts(alloc, forest, frontier, &mut parts, budget)
-}
-
-// The numbers of the combinations that are open.
-fn open_combinations(alloc: Global, frontier: &Frontier) -> Result<Vec<u32>, Memory>
-    ensures { IfOk result (λ ids. All (λ id. id < length frontier.now.combinations) ids.items) }
-{
-    let mut ids = Vec::new(alloc);
-    for id in 0..frontier.count() {
-        if is_open(frontier.state(id)) {
-            ids.push(id)?;
+    let attempts = attempt_vertices(rt, alloc, forest, roots, graph, few, gate)?;
+    let Attempts {
+        mut proofs,
+        mut spent,
+    } = attempts;
+    let mut tables = end_attempts(rt, alloc, forest, spent.as_slice(), workers, budget)?;
+    while let Some(attempt) = spent.pop() {
+        let Some(parts) = tables.pop() else {
+            unreachable!();
+        };
+        if let Some(items) = join_parts(alloc, forest, &attempt.frontier, parts, budget)? {
+            put_proof(attempt.vertex, items, &mut proofs);
         }
     }
-    Ok(ids)
+    Ok(proofs)
+}
+
+// Puts a proof to its vertex.
+fn put_proof(vertex: u32, items: Row<Item>, proofs: &mut Vec<Option<VertexProof>>)
+    ensures { AreWith vertex (PassesBy items) proofs.old.items proofs.new.items }
+{
+    if let Some(proof) = proofs.get_mut(vertex as usize) {
+        *proof = Some(VertexProof::Passes(items));
+    }
+}
+
+// The parts that workers make of the combinations that are open in the frontiers of these attempts, a table for each of them.
+fn end_attempts<R: Threads + Wait + Sync>(
+    rt: &R,
+    alloc: Global,
+    forest: &Forest,
+    spent: &[Attempt],
+    workers: u32,
+    budget: u64,
+) -> Result<Vec<Vec<Option<Row<Item>>>>, Memory>
+    requires { All (CanBeEnded forest.now) spent.now }
+    ensures { IfOk result (λ tables. HaveParts forest.now spent.now tables.items) }
+{
+    let mut tables = no_tables(alloc, spent)?;
+    if spent.is_empty() {
+        return Ok(tables);
+    }
+    let jobs = open_jobs(alloc, spent)?;
+    let race = Race::start(alloc, spent.len(), budget / 2)?;
+    let lists = share(rt, alloc, forest, spent, jobs.as_slice(), workers, &race)?;
+    put_lists(forest, spent, lists, &mut tables)?;
+    Ok(tables)
+}
+
+// The combinations that are open in the frontiers of these attempts, in file order.
+fn open_jobs(alloc: Global, spent: &[Attempt]) -> Result<Vec<Job>, Memory>
+    ensures { IfOk result (λ jobs. All (IsJob spent.now) jobs.items) }
+{
+    let mut jobs = Vec::new(alloc);
+    for place in 0..spent.len() {
+        add_jobs(spent, place, &mut jobs)?;
+    }
+    Ok(jobs)
+}
+
+// Adds the combinations that are open in one frontier.
+fn add_jobs(spent: &[Attempt], place: usize, jobs: &mut Vec<Job>) -> Result<(), Memory>
+    requires place { place < length spent.now }
+    requires jobs { All (IsJob spent.now) jobs.old.items }
+    ensures { OnOk result (All (IsJob spent.now) jobs.new.items) }
+{
+    let frontier = &spent[place].frontier;
+    for id in 0..frontier.count() {
+        if is_open(frontier.state(id)) {
+            jobs.push(Job { place, id })?;
+        }
+    }
+    Ok(())
 }
 
 // Whether a combination is neither passed nor split nor failed.
@@ -152,30 +159,20 @@ fn share<R: Threads + Wait + Sync>(
     rt: &R,
     alloc: Global,
     forest: &Forest,
-    frontier: &Frontier,
-    ids: &[u32],
-    wcet: u32,
-    deadline: u32,
+    spent: &[Attempt],
+    jobs: &[Job],
     workers: u32,
-    budget: u64,
+    race: &Race,
 ) -> Result<Vec<Result<Vec<Part>, Memory>>, Memory>
-    requires can { (id : ℕ) (c : Combination) → slice_get frontier.now.combinations id ≡ Some c → CanEnd forest.now wcet deadline c.nodes }
-    requires wcet { (wcet ≡ frontier.now.wcet) × (wcet ≤ 1000000) }
-    requires deadline { (deadline ≡ frontier.now.deadline) × (deadline ≤ 1000000) }
-    requires ids { All (λ id. id < length frontier.now.combinations) ids.now }
-    ensures { IfOk result (λ lists. All (λ list. IfOk list (λ parts. All (IsPart forest.now frontier.now.wcet frontier.now.deadline frontier.now.combinations) parts.items)) lists.items) }
+    requires spent { All (CanBeEnded forest.now) spent.now }
+    requires jobs { All (IsJob spent.now) jobs.now }
+    ensures { IfOk result (λ lists. All (λ list. IfOk list (λ parts. All (IsPartOf forest.now spent.now) parts.items)) lists.items) }
 {
-    let race = Race {
-        next: AtomicU64::new(0),
-        made: AtomicU64::new(0),
-        most: budget / 2,
-    };
-    let shared = &race;
     let worker = move |_number: usize| -> Result<Vec<Part>, Memory>
-        requires { ((id : ℕ) (c : Combination) → slice_get frontier.now.combinations id ≡ Some c → CanEnd forest.now wcet deadline c.nodes) × (wcet ≡ frontier.now.wcet) × (wcet ≤ 1000000) × (deadline ≡ frontier.now.deadline) × (deadline ≤ 1000000) × All (λ id. id < length frontier.now.combinations) ids.now }
-        ensures { IfOk result (λ parts. All (IsPart forest.entry.now frontier.entry.now.wcet frontier.entry.now.deadline frontier.entry.now.combinations) parts.items) }
-    { end_next(alloc, forest, frontier, ids, wcet, deadline, shared) };
-    thread::map_indices(rt, alloc, worker_limit(rt, ids.len(), workers), &worker)
+        requires { All (CanBeEnded forest.now) spent.now × All (IsJob spent.now) jobs.now }
+        ensures { IfOk result (λ parts. All (IsPartOf forest.entry.now spent.entry.now) parts.items) }
+    { end_next(alloc, forest, spent, jobs, race) };
+    thread::map_indices(rt, alloc, worker_limit(rt, jobs.len(), workers), &worker)
 }
 
 // How many workers are begun for so many combinations.
@@ -187,35 +184,30 @@ fn worker_limit<R: Threads>(rt: &R, combinations: usize, workers: u32) -> usize 
     }
 }
 
-// One worker's part: it ends the next open combination until each was begun, or one has no end. Then no later one is begun.
+// One worker's part: it ends the next open combination until each was begun, or one has no end. Then none of that frontier or of a later
+// one is begun.
 fn end_next(
     alloc: Global,
     forest: &Forest,
-    frontier: &Frontier,
-    ids: &[u32],
-    wcet: u32,
-    deadline: u32,
+    spent: &[Attempt],
+    jobs: &[Job],
     race: &Race,
 ) -> Result<Vec<Part>, Memory>
-    requires can { (id : ℕ) (c : Combination) → slice_get frontier.now.combinations id ≡ Some c → CanEnd forest.now wcet deadline c.nodes }
-    requires wcet { (wcet ≡ frontier.now.wcet) × (wcet ≤ 1000000) }
-    requires deadline { (deadline ≡ frontier.now.deadline) × (deadline ≤ 1000000) }
-    requires ids { All (λ id. id < length frontier.now.combinations) ids.now }
-    ensures { IfOk result (λ parts. All (IsPart forest.now frontier.now.wcet frontier.now.deadline frontier.now.combinations) parts.items) }
+    requires spent { All (CanBeEnded forest.now) spent.now }
+    requires jobs { All (IsJob spent.now) jobs.now }
+    ensures { IfOk result (λ parts. All (IsPartOf forest.now spent.now) parts.items) }
 {
     let mut parts = Vec::new(alloc);
-    for _ in 0..ids.len() {
-        let place = race.next.fetch_add(1, Ordering::SeqCst);
-        if place >= ids.len() as u64 {
+    for _ in 0..jobs.len() {
+        let number = race.take_next();
+        if number >= jobs.len() as u64 {
             return Ok(parts);
         }
-        let id = ids[place as usize];
-        let nodes = frontier.combination(id);
-        match end_combination(alloc, forest, nodes, wcet, deadline, race)? {
-            Some(items) => parts.push(Part { id, items })?,
+        let job = jobs[number as usize];
+        match end_job(alloc, forest, spent, job, race)? {
+            Some(part) => parts.push(part)?,
             None => {
-                race.next.store(ids.len() as u64, Ordering::SeqCst);
-                race.made.store(race.most, Ordering::SeqCst);
+                race.give_up(job.place);
                 return Ok(parts);
             }
         }
@@ -223,14 +215,47 @@ fn end_next(
     Ok(parts)
 }
 
+// Ends a combination. None where it has no end, or where its frontier or one before it is wanting.
+fn end_job(
+    alloc: Global,
+    forest: &Forest,
+    spent: &[Attempt],
+    job: Job,
+    race: &Race,
+) -> Result<Option<Part>, Memory>
+    requires spent { All (CanBeEnded forest.now) spent.now }
+    requires job { IsJob spent.now job }
+    ensures { IfOk result (λ some. IfSome some (IsPartOf forest.now spent.now)) }
+{
+    let Job { place, id } = job;
+    if !race.goes_on(place) {
+        return Ok(None);
+    }
+    let attempt = &spent[place];
+    let nodes = attempt.frontier.combination(id);
+    match end_combination(
+        alloc,
+        forest,
+        nodes,
+        attempt.wcet,
+        attempt.deadline,
+        place,
+        race,
+    )? {
+        Some(items) => Ok(Some(Part { place, id, items })),
+        None => Ok(None),
+    }
+}
+
 // The items that end a combination: its own, then those of its left half, then those of its right half. None where a combination
-// below it fails, or the workers made more items than they may.
+// below it fails, or where its frontier, at this place, or one before it is wanting.
 fn end_combination(
     alloc: Global,
     forest: &Forest,
     nodes: &[u32],
     wcet: u32,
     deadline: u32,
+    place: usize,
     race: &Race,
 ) -> Result<Option<Row<Item>>, Memory>
     requires can { CanEnd forest.now wcet deadline nodes.now }
@@ -241,7 +266,7 @@ fn end_combination(
     let mut items = Vec::new(alloc);
     let mut stack = Vec::new(alloc);
     stack.push(Row::from_vec(Vec::from_slice(alloc, nodes)?))?;
-    for _ in 0..race.most {
+    for _ in 0..race.most() {
         let Some(top) = stack.pop() else {
             return Ok(Some(Row::from_vec(items)));
         };
@@ -249,9 +274,7 @@ fn end_combination(
             Some(item) => items.push(item)?,
             None => return Ok(None),
         }
-        if items.len() % COUNTED == 0
-            && race.made.fetch_add(COUNTED as u64, Ordering::SeqCst) >= race.most
-        {
+        if !race.may_go_on(place, items.len()) {
             return Ok(None);
         }
     }
@@ -302,6 +325,18 @@ fn with_node(nodes: Row<u32>, place: u32, node: u32) -> Row<u32>
     Row::from_vec(nodes)
 }
 
+// A table for each of the attempts, with a place for the part of each combination.
+fn no_tables(alloc: Global, spent: &[Attempt]) -> Result<Vec<Vec<Option<Row<Item>>>>, Memory>
+    ensures count { IfOk result (λ tables. length tables.items ≡ length spent.now) }
+    ensures none { IfOk result (λ tables. (f : Plain) → AreTables f spent.now tables.items) }
+{
+    let mut tables = Vec::with_capacity(alloc, spent.len())?;
+    for place in 0..spent.len() {
+        tables.push(no_parts(alloc, spent[place].frontier.count())?)?;
+    }
+    Ok(tables)
+}
+
 // A place for the part of each of so many combinations.
 fn no_parts(alloc: Global, count: u32) -> Result<Vec<Option<Row<Item>>>, Memory>
     ensures count { IfOk result (λ parts. length parts.items ≡ count) }
@@ -317,16 +352,16 @@ fn no_parts(alloc: Global, count: u32) -> Result<Vec<Option<Row<Item>>>, Memory>
 // Puts the parts of all workers to their places.
 fn put_lists(
     forest: &Forest,
-    frontier: &Frontier,
+    spent: &[Attempt],
     mut lists: Vec<Result<Vec<Part>, Memory>>,
-    parts: &mut Vec<Option<Row<Item>>>,
+    tables: &mut Vec<Vec<Option<Row<Item>>>>,
 ) -> Result<(), Memory>
-    requires lists { All (λ list. IfOk list (λ made. All (IsPart forest.now frontier.now.wcet frontier.now.deadline frontier.now.combinations) made.items)) lists.items }
-    requires parts { HasParts forest.now frontier.now.wcet frontier.now.deadline frontier.now.combinations parts.old.items }
-    ensures { OnOk result (HasParts forest.now frontier.now.wcet frontier.now.deadline frontier.now.combinations parts.new.items) }
+    requires lists { All (λ list. IfOk list (λ made. All (IsPartOf forest.now spent.now) made.items)) lists.items }
+    requires tables { HaveParts forest.now spent.now tables.old.items }
+    ensures { OnOk result (HaveParts forest.now spent.now tables.new.items) }
 {
     while let Some(list) = lists.pop() {
-        put_all(forest, frontier, list?, parts);
+        put_all(forest, spent, list?, tables);
     }
     Ok(())
 }
@@ -334,25 +369,28 @@ fn put_lists(
 // Puts the parts of one worker to their places.
 fn put_all(
     forest: &Forest,
-    frontier: &Frontier,
+    spent: &[Attempt],
     mut list: Vec<Part>,
-    parts: &mut Vec<Option<Row<Item>>>,
+    tables: &mut Vec<Vec<Option<Row<Item>>>>,
 )
-    requires list { All (IsPart forest.now frontier.now.wcet frontier.now.deadline frontier.now.combinations) list.items }
-    requires parts { HasParts forest.now frontier.now.wcet frontier.now.deadline frontier.now.combinations parts.old.items }
-    ensures { HasParts forest.now frontier.now.wcet frontier.now.deadline frontier.now.combinations parts.new.items }
+    requires list { All (IsPartOf forest.now spent.now) list.items }
+    requires tables { HaveParts forest.now spent.now tables.old.items }
+    ensures { HaveParts forest.now spent.now tables.new.items }
 {
     while let Some(part) = list.pop() {
-        put(part, parts);
+        put(forest, spent, part, tables);
     }
 }
 
-fn put(part: Part, parts: &mut Vec<Option<Row<Item>>>)
-    requires { part.id < length parts.old.items }
-    ensures { parts.new.items ≡ slice_set parts.old.items part.id (Some part.items) }
+// Puts a part to its place.
+fn put(forest: &Forest, spent: &[Attempt], part: Part, tables: &mut Vec<Vec<Option<Row<Item>>>>)
+    requires part { IsPartOf forest.now spent.now part }
+    requires tables { HaveParts forest.now spent.now tables.old.items }
+    ensures { HaveParts forest.now spent.now tables.new.items }
 {
-    let Part { id, items } = part;
-    parts[id as usize] = Some(items);
+    let Part { place, id, items } = part;
+    let table = &mut tables[place];
+    table[id as usize] = Some(items);
 }
 
 // The items of all combinations in order, from the first one on. None where a part is wanting, or one frontier doesn't make them within the
@@ -361,13 +399,13 @@ fn join_parts(
     alloc: Global,
     forest: &Forest,
     frontier: &Frontier,
-    parts: &mut Vec<Option<Row<Item>>>,
+    mut parts: Vec<Option<Row<Item>>>,
     budget: u64,
 ) -> Result<Option<Row<Item>>, Memory>
     requires frontier { IsFrontier forest.now frontier.now }
     requires eager { IsEager (setting_of forest.now frontier.now) frontier.now.log }
     requires deadline { frontier.now.deadline ≤ 1000000 }
-    requires parts { HasParts forest.now frontier.now.wcet frontier.now.deadline frontier.now.combinations parts.old.items }
+    requires parts { HasParts forest.now frontier.now.wcet frontier.now.deadline frontier.now.combinations parts.items }
     requires budget { budget ≤ 1000000 }
     ensures { IfOk result (λ some. IfSome some (λ items. AreEndOf forest.now frontier.now.wcet frontier.now.deadline frontier.now.roots items × IsCounted items)) }
 {
@@ -379,7 +417,7 @@ fn join_parts(
         let Some(id) = stack.pop() else {
             return Ok(within_budget(items, budget));
         };
-        if !add_items(forest, frontier, id, parts, &mut stack, &mut items)? {
+        if !add_items(forest, frontier, id, &mut parts, &mut stack, &mut items)? {
             return Ok(None);
         }
     }
@@ -447,21 +485,21 @@ fn add_part(
     ensures count { length parts.new.items ≡ length parts.old.items }
     ensures added { IfOk result (λ is. is ≡ true → (part : List Item) × (slice_get parts.old.items id ≡ Some (Some part)) × (items.new.items ≡ items.old.items ++ part)) }
 {
-    let Some(part) = take_part(id, parts) else {
+    let Some(part) = take_at(id, parts) else {
         return Ok(false);
     };
     items.extend_from_slice(part.as_slice())?;
     Ok(true)
 }
 
-// Takes a part from its place, if there is one.
-fn take_part(id: u32, parts: &mut Vec<Option<Row<Item>>>) -> Option<Row<Item>>
-    ensures taken { (part : List Item) → result ≡ Some part → slice_get parts.old.items id ≡ Some (Some part) }
-    ensures left { (k : ℕ) (part : List Item) → slice_get parts.new.items k ≡ Some (Some part) → slice_get parts.old.items k ≡ Some (Some part) }
-    ensures count { length parts.new.items ≡ length parts.old.items }
+/// Takes what is at a place, if there is something.
+pub(crate) fn take_at<T>(place: u32, places: &mut Vec<Option<T>>) -> Option<T>
+    ensures taken { (item : T) → result ≡ Some item → slice_get places.old.items place ≡ Some (Some item) }
+    ensures left { (k : ℕ) (item : T) → slice_get places.new.items k ≡ Some (Some item) → slice_get places.old.items k ≡ Some (Some item) }
+    ensures count { length places.new.items ≡ length places.old.items }
 {
-    match parts.get_mut(id as usize) {
+    match places.get_mut(place as usize) {
         None => None,
-        Some(place) => place.take(),
+        Some(item) => item.take(),
     }
 }

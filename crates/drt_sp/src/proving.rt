@@ -10,7 +10,6 @@ ghost use Rattle.drt_sp.specs.Items.{AreItems, IsItemOf, IsVertexProof};
 ghost use Rattle.drt_sp.specs.Parts.{IsRefined};
 ghost use Rattle.drt_steps.specs.Time.{AreChosen};
 
-use crate::parts::prove_by_parts;
 use drt_evidence::Item;
 use drt_model::{Memory, Row};
 use drt_pool::Gate;
@@ -42,39 +41,9 @@ pub(crate) enum Refined {
 }
 
 /// Looks for a time that passes for a vertex of this wcet and deadline (in ticks), for each tuple of leaves below the roots,
-/// which are those of the trees of the tasks of higher priority. The budget is how many steps the frontier may make. Several workers
-/// end parts of the frontier side by side, and the answer is that of one worker; where the gate's `alone` is 0 they share it.
+/// which are those of the trees of the tasks of higher priority. The budget is how many steps the one frontier may make. Where the
+/// gate's `alone` is 0 several workers share it.
 pub(crate) fn prove_vertex<G: Gate, R: Threads + Wait + Sync>(
-    rt: &R,
-    alloc: Global,
-    forest: &Forest,
-    roots: &[u32],
-    wcet: u32,
-    deadline: u32,
-    workers: u32,
-    budget: u64,
-    gate: &G,
-) -> Result<VertexProof, Memory>
-    requires few { length roots.now ≤ 31 }
-    requires roots { AreChosen deadline forest.now.pool roots.now }
-    requires wcet { (1 ≤ wcet) × (wcet ≤ 1000000) }
-    requires deadline { (1 ≤ deadline) × (deadline ≤ 1000000) }
-    requires workers { (1 ≤ workers) × (workers ≤ 16) }
-    requires budget { (1 ≤ budget) × (budget ≤ 1000000) }
-    ensures { IfOk result (IsVertexProof forest.now wcet deadline roots.now budget) }
-{
-    if workers == 1 || gate.alone() == 0 {
-        return prove_whole(
-            rt, alloc, forest, roots, wcet, deadline, workers, budget, gate,
-        );
-    }
-    prove_by_parts(
-        rt, alloc, forest, roots, wcet, deadline, workers, budget, gate,
-    )
-}
-
-/// The same by one frontier.
-pub(crate) fn prove_whole<G: Gate, R: Threads + Wait + Sync>(
     rt: &R,
     alloc: Global,
     forest: &Forest,

@@ -1,10 +1,13 @@
 //! The vertices of one task.
-ghost use Rattle.std.specs.Prelude.{◌≡◌, ℕ, ◌≤◌, ◌<◌, length, IfOk};
+ghost use Rattle.std.specs.Prelude.{◌≡◌, ℕ, ◌≤◌, ◌<◌, length, IfOk, IfSome};
 ghost use Rattle.drt_model.specs.Digraph.{vertex_count};
 ghost use Rattle.drt_model.specs.Walk.{deadline};
 ghost use Rattle.drt_steps.specs.Time.{AreChosen};
+ghost use Rattle.drt_sp.specs.Attempts.{AreGiven};
+ghost use Rattle.drt_sp.specs.Items.{IsVertexProof};
 ghost use Rattle.drt_sp.specs.Vertices.{IsOutcome};
 
+use crate::parts::{prove_by_parts, take_at};
 use crate::proving::{VertexProof, prove_vertex};
 use drt_evidence::ProofClaim;
 use drt_graph::Graph;
@@ -34,6 +37,8 @@ pub(crate) enum TaskProofs {
 }
 
 /// Proves the vertices of a task, by its graph, in file order, against the trees with these roots, each with this budget of steps.
+/// Several workers end the combinations of all vertices side by side, and the answer is that of one worker; where the gate's `alone` is 0
+/// they share each frontier.
 pub(crate) fn prove_vertices<G: Gate, R: Threads + Wait + Sync>(
     rt: &R,
     alloc: Global,
@@ -51,14 +56,16 @@ pub(crate) fn prove_vertices<G: Gate, R: Threads + Wait + Sync>(
     requires budget { (1 ≤ budget) × (budget ≤ 1000000) }
     ensures { IfOk result (λ proofs. IsOutcome forest.now roots.now graph.now task budget proofs) }
 {
+    let mut found = prove_ahead(rt, alloc, forest, roots, graph, workers, budget, gate)?;
     let mut proofs = Vec::new(alloc);
     'vertices: for vertex in 0..graph.vertex_count() {
         let subject = graph.vertex(vertex);
-        match prove_vertex(
+        match take_or_prove(
             rt,
             alloc,
             forest,
             roots,
+            take_at(vertex, &mut found),
             subject.wcet,
             subject.deadline,
             workers,
@@ -75,4 +82,57 @@ pub(crate) fn prove_vertices<G: Gate, R: Threads + Wait + Sync>(
         }
     }
     Ok(TaskProofs::Passed(Row::from_vec(proofs)))
+}
+
+// What becomes of vertices, where several workers find it side by side; of no vertex otherwise.
+fn prove_ahead<G: Gate, R: Threads + Wait + Sync>(
+    rt: &R,
+    alloc: Global,
+    forest: &Forest,
+    roots: &[u32],
+    graph: &Graph,
+    workers: u32,
+    budget: u64,
+    gate: &G,
+) -> Result<Vec<Option<VertexProof>>, Memory>
+    requires few { length roots.now ≤ 31 }
+    requires roots { (v : ℕ) → v < vertex_count graph.now → AreChosen (deadline graph.now v) forest.now.pool roots.now }
+    requires budget { budget ≤ 1000000 }
+    ensures { IfOk result (λ found. AreGiven forest.now roots.now graph.now found.items) }
+{
+    let few = gate.alone();
+    if workers == 1 || few == 0 || few >= budget {
+        return Ok(Vec::new(alloc));
+    }
+    prove_by_parts(rt, alloc, forest, roots, graph, workers, few, budget, gate)
+}
+
+// What becomes of a vertex: what was found ahead, or else what one frontier gives.
+fn take_or_prove<G: Gate, R: Threads + Wait + Sync>(
+    rt: &R,
+    alloc: Global,
+    forest: &Forest,
+    roots: &[u32],
+    found: Option<VertexProof>,
+    wcet: u32,
+    deadline: u32,
+    workers: u32,
+    budget: u64,
+    gate: &G,
+) -> Result<VertexProof, Memory>
+    requires few { length roots.now ≤ 31 }
+    requires roots { AreChosen deadline forest.now.pool roots.now }
+    requires found { IfSome found (IsVertexProof forest.now wcet deadline roots.now budget) }
+    requires wcet { (1 ≤ wcet) × (wcet ≤ 1000000) }
+    requires deadline { (1 ≤ deadline) × (deadline ≤ 1000000) }
+    requires workers { (1 ≤ workers) × (workers ≤ 16) }
+    requires budget { (1 ≤ budget) × (budget ≤ 1000000) }
+    ensures { IfOk result (IsVertexProof forest.now wcet deadline roots.now budget) }
+{
+    match found {
+        Some(proof) => Ok(proof),
+        None => prove_vertex(
+            rt, alloc, forest, roots, wcet, deadline, workers, budget, gate,
+        ),
+    }
 }

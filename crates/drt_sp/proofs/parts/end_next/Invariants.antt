@@ -1,6 +1,6 @@
 use Rattle.std.proofs.Common.{All}
-use Rattle.drt_sp.specs.Parts.{IsPart}
+use Rattle.drt_sp.specs.Attempts.{IsPartOf}
 use Rattle.drt_sp.proofs.parts.end_next.Given as goal
 
 abbrev pub invariant-loop : goal.invariant-loop
-invariant-loop l = All (IsPart l.forest l.frontier.wcet l.frontier.deadline l.frontier.combinations) l.parts.items
+invariant-loop l = All (IsPartOf l.forest l.spent) l.parts.items

@@ -1,0 +1,74 @@
+//! The caller's attempts at the vertices of a task, before other workers are begun.
+ghost use Rattle.std.specs.Prelude.{ℕ, ◌≤◌, ◌<◌, All, IfOk, OnOk, length};
+ghost use Rattle.drt_model.specs.Digraph.{vertex_count};
+ghost use Rattle.drt_model.specs.Walk.{deadline};
+ghost use Rattle.drt_sp.specs.Attempts.{AreGiven, IsAttempt};
+ghost use Rattle.drt_steps.specs.Time.{AreChosen};
+
+use crate::proving::{Refined, VertexProof, refine_vertex};
+use drt_graph::Graph;
+use drt_model::Memory;
+use drt_pool::Gate;
+use drt_refine::Frontier;
+use drt_tree::Forest;
+use std::alloc::Global;
+use std::sync::Wait;
+use std::thread::Threads;
+
+/// An attempt at a vertex that spent its steps: the vertex, its wcet and deadline (in ticks), and the frontier that the steps made.
+#[derive(Drop)]
+pub(crate) struct Attempt {
+    pub(crate) vertex: u32,
+    pub(crate) wcet: u32,
+    pub(crate) deadline: u32,
+    pub(crate) frontier: Frontier,
+}
+
+/// What came of the attempts at the first vertices of a task: for each what becomes of it, or none where its steps were spent; and those
+/// attempts, in file order.
+#[derive(Drop)]
+pub(crate) struct Attempts {
+    pub(crate) proofs: Vec<Option<VertexProof>>,
+    pub(crate) spent: Vec<Attempt>,
+}
+
+/// Refines each vertex of a task, by its graph, in file order, with so few steps. The first one that fails is the last.
+pub(crate) fn attempt_vertices<G: Gate, R: Threads + Wait + Sync>(
+    rt: &R,
+    alloc: Global,
+    forest: &Forest,
+    roots: &[u32],
+    graph: &Graph,
+    few: u64,
+    gate: &G,
+) -> Result<Attempts, Memory>
+    requires few { length roots.now ≤ 31 }
+    requires roots { (v : ℕ) → v < vertex_count graph.now → AreChosen (deadline graph.now v) forest.now.pool roots.now }
+    requires steps { (1 ≤ few) × (few ≤ 1000000) }
+    ensures proofs { IfOk result (λ attempts. AreGiven forest.now roots.now graph.now attempts.proofs.items) }
+    ensures spent { IfOk result (λ attempts. All (IsAttempt forest.now roots.now graph.now few) attempts.spent.items) }
+{
+    let mut proofs = Vec::new(alloc);
+    let mut spent = Vec::new(alloc);
+    for vertex in 0..graph.vertex_count() {
+        let subject = graph.vertex(vertex);
+        let (wcet, deadline) = (subject.wcet, subject.deadline);
+        match refine_vertex(rt, alloc, forest, roots, wcet, deadline, 1, few, gate)? {
+            Refined::Passes(items) => proofs.push(Some(VertexProof::Passes(items)))?,
+            Refined::Fails(tuple) => {
+                proofs.push(Some(VertexProof::Fails(tuple)))?;
+                return Ok(Attempts { proofs, spent });
+            }
+            Refined::Spent(frontier) => {
+                proofs.push(None)?;
+                spent.push(Attempt {
+                    vertex,
+                    wcet,
+                    deadline,
+                    frontier,
+                })?;
+            }
+        }
+    }
+    Ok(Attempts { proofs, spent })
+}
