@@ -1,8 +1,12 @@
 -- What a command is once one more argument is added to it.
-use Rattle.std.proofs.Common.{◌≡◌, false, ap, ◌∙◌, refl}
-use Rattle.clap.specs.Words.{AddsArg, App, Rule, app_of, rule_of, with_rule}
+use Rattle.std.proofs.Common.{◌≡◌, Bor, ℕ, [], ◌∷◌, Some, false, ap, ◌∙◌, refl}
+use Rattle.clap.specs.declared.builder.texts.Texts.TheVariants.{One}
+use Rattle.clap.specs.Words.{AddsArg, App, Rule, Text, app_of, new_rule, rule_of, with_rule}
 use Rattle.clap.specs.declared.builder.arg.Arg.{Arg}
 use Rattle.clap.specs.declared.builder.command.Command.{Command}
+use Rattle.clap.specs.declared.builder.ArgAction.TheVariants.{Set}
+use Rattle.clap.specs.declared.builder.ValueParser.TheVariants as vp
+use Rattle.drt_words.specs.CommandLine.{number_rule}
 use Rattle.clap.specs.declared.builder.command.Command.TheViews.{out-Command}
 
 module _ (old new : Command) (a : Arg) (adds : AddsArg old a new) (local : a.global ≡ false) where
@@ -11,3 +15,21 @@ module _ (old new : Command) (a : Arg) (adds : AddsArg old a new) (local : a.glo
 
   pub stays_local : (out-Command old).has_globals ≡ false → (out-Command new).has_globals ≡ false
   stays_local e = adds.globals ∙ rw (e, local) refl
+
+-- an option of one number, setting by setting
+module _ (name standard : Bor Text) (most : ℕ) (start named acting parsing whole : Arg) (long : named ≡ record start { long = Some name }) (action : acting ≡ record named { action = Some Set })
+    (others : parsing ≡ record acting { value_parser = parsing.value_parser }) (parser : parsing.value_parser ≡ Some (vp.Unsigned 1 most))
+    (defaults : whole ≡ record parsing { default_vals = One standard }) where
+  settings : whole ≡ record start { long = Some name; action = Some Set; value_parser = Some (vp.Unsigned 1 most); default_vals = One standard }
+  settings =
+      let acts : acting ≡ record start { long = Some name; action = Some Set } = action ∙ ap {A = Arg} (λ a. record a { action = Some Set }) long in
+      let parses : parsing ≡ record acting { value_parser = Some (vp.Unsigned 1 most) } = others ∙ ap (λ p. record acting { value_parser = p }) parser in
+      defaults ∙ ap {A = Arg} (λ a. record a { default_vals = One standard }) (parses ∙ ap {A = Arg} (λ a. record a { value_parser = Some (vp.Unsigned 1 most) }) acts)
+
+  pub option_rule : rule_of start ≡ new_rule name.now → rule_of whole ≡ number_rule name.now most standard.now
+  option_rule fresh =
+      let makes : Rule → Rule = λ r. record r { long = Some name.now; action = Some Set; parser = Some (vp.Unsigned 1 most); defaults = standard.now ∷ [] } in
+      ap rule_of settings ∙ ap makes fresh
+
+  pub option_local : start.global ≡ false → whole.global ≡ false
+  option_local local = ap {A = Arg} (λ a. a.global) settings ∙ local
