@@ -154,9 +154,9 @@ tables_pop f spent tables a table have =
 -- a part comes to its place in the table of its attempt
 pub tables_put : (f : Plain) (spent : List Attempt) (tables new : List Table) (part : Part) (table own : Table) → HaveParts f spent tables → IsPartOf f spent part
     → slice_get tables part.place ≡ Some table → own.items ≡ slice_set table.items part.id (Some part.items) → new ≡ slice_set tables part.place own → HaveParts f spent new
-tables_put f spent tables new part table own have is tat e same = record {
+tables_put f spent tables new part table own have is tat e same = let IsEnded : Attempt → Table → Type 0 = λ a its. HasParts f a.wcet a.deadline a.frontier.combinations its.items in record {
   count = ap length same ∙ (length_set tables part.place own ∙ have.count);
-  are = λ place a its at nat. elim (set_at tables part.place own place its (ap (λ l. slice_get l place) (sym same) ∙ nat)) as (λ _. HasParts f a.wcet a.deadline a.frontier.combinations its.items) [
+  are = λ place a its at nat. elim (set_at tables part.place own place its (sym (ap (λ l. slice_get l place) same) ∙ nat)) as (λ _. IsEnded a its) [
     | inl here ↦ (
         let mine : slice_get spent part.place ≡ Some a = ap (λ n. slice_get spent n) (sym here.0) ∙ at in
         let has : HasParts f a.wcet a.deadline a.frontier.combinations table.items = have.are part.place a table mine tat in
@@ -180,10 +180,11 @@ pub record HasLast (f : Plain) (roots : List ℕ) (g : Digraph) (few : ℕ) (spe
   pub attempt : IsAttempt f roots g few a
   pub parts : HasParts f a.frontier.wcet a.frontier.deadline a.frontier.combinations table.items
 
-pub last_of : (f : Plain) (roots : List ℕ) (g : Digraph) (few : ℕ) (all spent : List Attempt) (both tables : List Table) (a : Attempt) (table : Table) → all ≡ spent ++ a ∷ [] → both ≡ tables ++ table ∷ []
-    → All (IsAttempt f roots g few) all → HaveParts f all both → HasLast f roots g few spent tables a table
+pub last_of : (f : Plain) (roots : List ℕ) (g : Digraph) (few : ℕ) (all spent : List Attempt) (both tables : List Table) (a : Attempt) (table : Table)
+    → all ≡ spent ++ a ∷ [] → both ≡ tables ++ table ∷ [] → All (IsAttempt f roots g few) all → HaveParts f all both → HasLast f roots g few spent tables a table
 last_of f roots g few all spent both tables a table same tables_same each have =
     let two : All (IsAttempt f roots g few) spent × IsAttempt f roots g few a = All-pop (IsAttempt f roots g few) all spent (Some a) same each in
-    let parted : HaveParts f (spent ++ a ∷ []) (tables ++ table ∷ []) = subst (λ (l : List Attempt). HaveParts f l (tables ++ table ∷ [])) same (subst (λ (l : List Table). HaveParts f all l) tables_same have) in
+    let parted : HaveParts f (spent ++ a ∷ []) (tables ++ table ∷ []) =
+    subst (λ (l : List Attempt). HaveParts f l (tables ++ table ∷ [])) same (subst (λ (l : List Table). HaveParts f all l) tables_same have) in
     let popped = tables_pop f spent tables a table parted in
     record { each = two.0; have = popped.0; attempt = two.1; parts = own_parts f roots g few a two.1 table.items popped.1 }

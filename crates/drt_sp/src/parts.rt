@@ -4,11 +4,10 @@ ghost use Rattle.drt_evidence.specs.Ranges.{IsCounted};
 ghost use Rattle.drt_evidence.specs.declared.evidence.Item.{Item};
 ghost use Rattle.drt_model.specs.Digraph.{vertex_count};
 ghost use Rattle.drt_model.specs.Walk.{deadline};
-ghost use Rattle.drt_refine.specs.Combination.{Combination};
 ghost use Rattle.drt_refine.specs.Eager.{IsEager};
 ghost use Rattle.drt_refine.specs.View.{IsFrontier, setting_of};
 ghost use Rattle.drt_sp.specs.Attempts.{AreGiven, AreTables, AreWith, CanBeEnded, HaveParts, IsJob, IsPartOf};
-ghost use Rattle.drt_sp.specs.Parts.{AreAdded, AreEndOf, CanEnd, HasParts, IsNextItem};
+ghost use Rattle.drt_sp.specs.Parts.{AreAddedFor, AreEndOf, CanEnd, HasParts, IsNextItem};
 ghost use Rattle.drt_sp.specs.declared.proving.VertexProof.TheVariants.{Passes as PassesBy};
 ghost use Rattle.drt_steps.specs.Time.{AreChosen};
 ghost use Rattle.drt_tree.specs.Tree.{Plain};
@@ -459,7 +458,7 @@ fn add_items(
     requires within { id < length frontier.now.combinations }
     requires parts { HasParts forest.now frontier.now.wcet frontier.now.deadline frontier.now.combinations parts.old.items }
     ensures parts { HasParts forest.now frontier.now.wcet frontier.now.deadline frontier.now.combinations parts.new.items }
-    ensures added { IfOk result (λ is. is ≡ true → (added : List Item) × (items.new.items ≡ items.old.items ++ added) × ((c : Combination) → slice_get frontier.now.combinations id ≡ Some c → AreAdded forest.now frontier.now.wcet frontier.now.deadline c.state c.nodes added stack.old.items stack.new.items)) }
+    ensures added { IfOk result (λ is. is ≡ true → AreAddedFor forest.now frontier.now.wcet frontier.now.deadline frontier.now.combinations id items.old.items items.new.items stack.old.items stack.new.items) }
 {
     match frontier.state(id) {
         CombinationState::Passed(time) => items.push(Item::Pass(time))?,

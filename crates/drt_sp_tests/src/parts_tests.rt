@@ -1,4 +1,4 @@
-//! Vertices whose combinations several workers end side by side.
+//! Tasks whose vertices' combinations several workers end side by side.
 use crate::answering::{Leaving, Source, has_dossier, trail_of, written};
 use drt_fixtures::texts::{
     ENGINE, HALVES, JUST_DONE, ONLY_TOGETHER, SECOND_LATE, SPLIT, TOO_LITTLE_ROOM,
@@ -29,6 +29,10 @@ const SECOND_FAILS: &str =
 const SECOND_FAILS_NO: &str =
     "evidence fixed-no\nreleases 3\nrelease 0 1 0 2\nrelease 0 1 4 2\nrelease 1 1 0 3\nmiss 1 0 5\nclose\n";
 
+// The same with a third job, which passes as the first one does. Each needs six steps.
+const MIDDLE_FAILS: &str =
+    "drt 1\ntask T1\nvertex x 3 5\nvertex y 2 4\nedge x x 20\nedge y y 4\ntask T2\nvertex z 2 5\nvertex w 3 5\nvertex v 2 5\nend\n";
+
 // The same with jobs that all pass, the middle one by two steps.
 const ALL_PASS: &str =
     "drt 1\ntask T1\nvertex x 3 5\nvertex y 2 4\nedge x x 20\nedge y y 4\ntask T2\nvertex z 2 5\nvertex u 1 5\nvertex v 2 5\nend\n";
@@ -36,8 +40,11 @@ const ALL_PASS: &str =
 const ALL_PASS_YES: &str =
     "evidence fixed-yes\ntrees 1\ntree 3\nwalk 1 1\nwalk 1 0\nwalk 2 1 1\npairs 2\npair 0 1\npair 3 2\nproofs 5\nproof 0 0 1 p3\nproof 0 1 1 p2\nproof 1 0 3 s0 p5 p4\nproof 1 1 1 p4\nproof 1 2 3 s0 p5 p4\nclose\n";
 
-// Four of the tasks that `bench/fixed split 5 6 50 8` draws, with another second job in the last one: its proof has some 5,000 items,
-// for each of which a frontier makes two steps.
+// The same with the easy one first. Each of the others needs six steps.
+const MIDDLE_SPENT: &str =
+    "drt 1\ntask T1\nvertex x 3 5\nvertex y 2 4\nedge x x 20\nedge y y 4\ntask T2\nvertex u 1 5\nvertex z 2 5\nvertex v 2 5\nend\n";
+
+// Three of the tasks that `bench/fixed split 5 6 50 8` draws, and the head of a fourth.
 const HARD: &str = "drt 2\n\
     task t0\npriority 1\nvertex v0 15 226\nvertex v1 20 164\nvertex v2 23 98\nvertex v3 22 159\nvertex v4 10 168\nvertex v5 25 233\n\
     edge v0 v1 253\nedge v1 v2 241\nedge v2 v3 226\nedge v3 v4 270\nedge v3 v5 240\nedge v4 v4 340\nedge v4 v5 367\nedge v5 v0 261\n\
@@ -49,8 +56,14 @@ const HARD: &str = "drt 2\n\
     task t3\npriority 4\nvertex v0 72 1068\nvertex v1 126 1541\nvertex v2 185 1673\nvertex v3 214 980\nvertex v4 63 1188\n\
     vertex v5 128 1241\nedge v0 v1 2278\nedge v1 v2 1676\nedge v2 v3 1860\nedge v3 v4 1427\nedge v4 v0 1215\nedge v4 v2 1358\n\
     edge v4 v5 1319\nedge v5 v0 1821\n\
-    task t4\npriority 5\nvertex v0 268 1750\nvertex v1 456 990\nvertex v2 300 1971\nvertex v3 171 1559\nvertex v4 194 1834\n\
-    vertex v5 146 2030\nedge v0 v1 2003\nedge v1 v2 2396\nedge v2 v3 2138\nedge v3 v4 1748\nedge v4 v5 2977\nedge v5 v0 2441\nend\n";
+    task t4\npriority 5\n";
+
+// The edges of the fourth.
+const HARD_EDGES: &str =
+    "edge v0 v1 2003\nedge v1 v2 2396\nedge v2 v3 2138\nedge v3 v4 1748\nedge v4 v5 2977\nedge v5 v0 2441\nend\n";
+
+// Its jobs, with another second one than is drawn: its proof has some 5,000 items, for each of which a frontier makes two steps.
+const SECOND_HARD: &str = "vertex v0 268 1750\nvertex v1 456 990\nvertex v2 300 1971\nvertex v3 171 1559\nvertex v4 194 1834\nvertex v5 146 2030\n";
 
 // Whether several workers answer a set as one does.
 fn is_answered_as_by_one<G: Gate, R: Threads + Wait + Sync>(
@@ -101,6 +114,21 @@ fn has_dossier_by_all<R: Threads + Wait + Sync>(
     Ok(true)
 }
 
+// The same, however much is left to the caller alone.
+fn has_dossier_always<R: Threads + Wait + Sync>(
+    rt: &R,
+    alloc: Global,
+    text: &str,
+    body: &str,
+) -> Result<bool, Fail> {
+    for alone in ALONE {
+        if !has_dossier_by_all(rt, alloc, text, body, alone)? {
+            return Ok(false);
+        }
+    }
+    Ok(true)
+}
+
 // Whether the budget is spent there, by each number of workers.
 fn is_spent_by_all<R: Threads + Wait + Sync>(
     rt: &R,
@@ -119,6 +147,22 @@ fn is_spent_by_all<R: Threads + Wait + Sync>(
     Ok(true)
 }
 
+// The same, however much is left to the caller alone.
+fn is_spent_always<R: Threads + Wait + Sync>(
+    rt: &R,
+    alloc: Global,
+    text: &str,
+    budget: u64,
+    trail: Option<(u32, Option<u32>, usize)>,
+) -> Result<bool, Fail> {
+    for alone in ALONE {
+        if !is_spent_by_all(rt, alloc, text, budget, alone, trail)? {
+            return Ok(false);
+        }
+    }
+    Ok(true)
+}
+
 #[test]
 fn worked_sets_are_answered_as_by_one_worker(rt: HostRuntime) -> Result<(), Fail> {
     let texts = [
@@ -131,6 +175,8 @@ fn worked_sets_are_answered_as_by_one_worker(rt: HostRuntime) -> Result<(), Fail
         TOO_LITTLE_ROOM,
         TWO_LATE,
         SECOND_FAILS,
+        MIDDLE_FAILS,
+        MIDDLE_SPENT,
         ALL_PASS,
     ];
     for text in texts {
@@ -166,24 +212,23 @@ fn spent_budgets_of_drawn_sets_are_told_as_by_one_worker(rt: HostRuntime) -> Res
 }
 
 #[test]
-fn a_vertex_that_spends_its_budget_decides_before_one_that_fails(
-    rt: HostRuntime,
-) -> Result<(), Fail> {
-    for alone in ALONE {
+fn the_first_vertex_that_spends_its_budget_decides(rt: HostRuntime) -> Result<(), Fail> {
+    let cases = [(TWO_LATE, 0), (MIDDLE_SPENT, 1)];
+    for (text, vertex) in cases {
         assert!(rt;
-            is_spent_by_all(&rt, rt.alloc(), TWO_LATE, 5, alone, Some((1, Some(0), 5)))?,
-            "with {alone} steps alone"
+            is_spent_always(&rt, rt.alloc(), text, 5, Some((1, Some(vertex), 5)))?,
+            "of {text}"
         );
     }
     Ok(())
 }
 
 #[test]
-fn a_vertex_that_fails_decides_after_ones_that_pass(rt: HostRuntime) -> Result<(), Fail> {
-    for alone in ALONE {
+fn the_first_vertex_that_fails_decides(rt: HostRuntime) -> Result<(), Fail> {
+    for text in [SECOND_FAILS, MIDDLE_FAILS] {
         assert!(rt;
-            has_dossier_by_all(&rt, rt.alloc(), SECOND_FAILS, SECOND_FAILS_NO, alone)?,
-            "with {alone} steps alone"
+            has_dossier_always(&rt, rt.alloc(), text, SECOND_FAILS_NO)?,
+            "of {text}"
         );
     }
     Ok(())
@@ -191,21 +236,48 @@ fn a_vertex_that_fails_decides_after_ones_that_pass(rt: HostRuntime) -> Result<(
 
 #[test]
 fn proofs_stand_in_file_order(rt: HostRuntime) -> Result<(), Fail> {
-    for alone in ALONE {
-        assert!(rt;
-            has_dossier_by_all(&rt, rt.alloc(), ALL_PASS, ALL_PASS_YES, alone)?,
-            "with {alone} steps alone"
-        );
-    }
+    assert!(rt;
+        has_dossier_always(&rt, rt.alloc(), ALL_PASS, ALL_PASS_YES)?,
+        "of {ALL_PASS}"
+    );
     Ok(())
 }
 
+// Whether a text has these words in it.
+fn has_words(text: &[u8], words: &[u8]) -> bool {
+    for start in 0..text.len() {
+        if text[start..].starts_with(words) {
+            return true;
+        }
+    }
+    false
+}
+
+// Whether several workers answer the hard tasks with these jobs as one does, in these words.
+fn is_hard_answered_as_by_one<R: Threads + Wait + Sync>(
+    rt: &R,
+    alloc: Global,
+    jobs: &str,
+    budget: u64,
+    words: &str,
+) -> Result<bool, Fail> {
+    let text = format!(in alloc; "{HARD}{jobs}{HARD_EDGES}")?;
+    let source = Source::Text(text.as_str());
+    let one = written(rt, alloc, source, 1, budget, &OpenGate)?;
+    Ok(has_words(one.as_slice(), words.as_bytes())
+        && is_answered_as_by_one(rt, alloc, source, budget, &OpenGate)?)
+}
+
 #[test]
-fn a_hard_vertex_is_answered_as_by_one_worker(rt: HostRuntime) -> Result<(), Fail> {
-    for budget in [9_709, 9_710] {
+fn hard_vertices_are_answered_as_by_one_worker(rt: HostRuntime) -> Result<(), Fail> {
+    let cases = [
+        (SECOND_HARD, 9_709, "refine 3 1: "),
+        (SECOND_HARD, 9_710, "evidence fixed-yes"),
+    ];
+    for (jobs, budget, words) in cases {
         assert!(rt;
-            is_answered_as_by_one(&rt, rt.alloc(), Source::Text(HARD), budget, &OpenGate)?,
-            "within {budget} steps"
+            is_hard_answered_as_by_one(&rt, rt.alloc(), jobs, budget, words)?,
+            "within {budget} steps, of {jobs}"
         );
     }
     Ok(())
