@@ -86,6 +86,24 @@ const MIDDLE_HARDER: &str =
 const MIDDLE_TOO_LONG: &str =
     "vertex v0 268 1750\nvertex v1 456 990\nvertex v2 300 1971\nvertex v3 500 990\nvertex v4 456 990\nvertex v5 146 2030\n";
 
+// Whether each number of workers gives this text for a set.
+fn is_answered_by_all<G: Gate, R: Threads + Wait + Sync>(
+    rt: &R,
+    alloc: Global,
+    source: Source<'_>,
+    budget: u64,
+    gate: &G,
+    text: &[u8],
+) -> Result<bool, Fail> {
+    for workers in WORKERS {
+        let answer = written(rt, alloc, source, workers, budget, gate)?;
+        if answer.as_slice() != text {
+            return Ok(false);
+        }
+    }
+    Ok(true)
+}
+
 // Whether several workers answer a set as one does.
 fn is_answered_as_by_one<G: Gate, R: Threads + Wait + Sync>(
     rt: &R,
@@ -95,13 +113,7 @@ fn is_answered_as_by_one<G: Gate, R: Threads + Wait + Sync>(
     gate: &G,
 ) -> Result<bool, Fail> {
     let one = written(rt, alloc, source, 1, budget, gate)?;
-    for workers in WORKERS {
-        let answer = written(rt, alloc, source, workers, budget, gate)?;
-        if answer.as_slice() != one.as_slice() {
-            return Ok(false);
-        }
-    }
-    Ok(true)
+    is_answered_by_all(rt, alloc, source, budget, gate, one.as_slice())
 }
 
 // The same, however much is left to the caller alone.
@@ -293,7 +305,7 @@ fn is_hard_answered_as_by_one<R: Threads + Wait + Sync>(
     let one = written(rt, alloc, source, 1, budget, &OpenGate)?;
     Ok(
         has_words(one.as_slice(), words.as_bytes())
-            && is_answered_as_by_one(rt, alloc, source, budget, &OpenGate)?,
+            && is_answered_by_all(rt, alloc, source, budget, &OpenGate, one.as_slice())?,
     )
 }
 
@@ -302,10 +314,21 @@ fn hard_vertices_are_answered_as_by_one_worker(rt: HostRuntime) -> Result<(), Fa
     let cases = [
         (SECOND_HARD, 9_709, "refine 3 1: "),
         (SECOND_HARD, 9_710, "evidence fixed-yes"),
-        (THREE_HARD, 9_709, "refine 3 1: "),
         (THREE_HARD, 9_710, "evidence fixed-yes"),
+    ];
+    for (jobs, budget, words) in cases {
+        assert!(rt;
+            is_hard_answered_as_by_one(&rt, rt.alloc(), jobs, budget, words)?,
+            "within {budget} steps, of {jobs}"
+        );
+    }
+    Ok(())
+}
+
+#[test]
+fn a_hard_vertex_decides_among_others(rt: HostRuntime) -> Result<(), Fail> {
+    let cases = [
         (MIDDLE_HARDER, 9_710, "refine 3 3: "),
-        (MIDDLE_TOO_LONG, 9_710, "refine 3 3: "),
         (MIDDLE_TOO_LONG, 100_000, "miss 3 0 990"),
     ];
     for (jobs, budget, words) in cases {
