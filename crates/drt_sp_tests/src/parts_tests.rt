@@ -14,12 +14,16 @@ const DRAWN_SETS: u64 = 12;
 const WORKERS: [u32; 4] = [1, 2, 4, 16];
 
 // How many steps a vertex has before its open combinations are left to workers. With 1 the first one is left, with 10 none of a worked set is.
-const ALONE: [u64; 4] = [1, 2, 4, 10];
+const ALONE: [u64; 5] = [1, 2, 4, 8, 10];
 
 // Below a task whose job takes 3 ticks or 2, the first job needs six steps, of which the last finds that it is late behind the longer
 // one. The second one is late behind either, which four steps find.
 const TWO_LATE: &str =
     "drt 1\ntask T1\nvertex x 3 5\nvertex y 2 4\ntask T2\nvertex z 2 4\nvertex w 3 4\nend\n";
+
+// The same with a job before them that passes by two steps.
+const MIDDLE_LATE: &str =
+    "drt 1\ntask T1\nvertex x 3 5\nvertex y 2 4\ntask T2\nvertex u 1 4\nvertex z 2 4\nvertex w 3 4\nend\n";
 
 // Below a task of two jobs, each of which comes again, the first job passes by six steps. The second one is late behind two of the
 // shorter job.
@@ -33,16 +37,20 @@ const SECOND_FAILS_NO: &str =
 const MIDDLE_FAILS: &str =
     "drt 1\ntask T1\nvertex x 3 5\nvertex y 2 4\nedge x x 20\nedge y y 4\ntask T2\nvertex z 2 5\nvertex w 3 5\nvertex v 2 5\nend\n";
 
-// The same with jobs that all pass, the middle one by two steps.
+// Below a task whose longer job comes again sooner the first job passes by ten steps: the root is split, and so is the pair of the walks of
+// two jobs. The second one is late behind two of the shorter job, which eight steps find.
+const SECOND_FAILS_SOONER: &str =
+    "drt 1\ntask T1\nvertex x 3 5\nvertex y 2 4\nedge x x 6\nedge y y 4\ntask T2\nvertex z 2 5\nvertex w 3 6\nvertex v 1 7\nend\n";
+
+const SECOND_FAILS_SOONER_NO: &str =
+    "evidence fixed-no\nreleases 3\nrelease 0 1 0 2\nrelease 0 1 4 2\nrelease 1 1 0 3\nmiss 1 0 6\nclose\n";
+
+// Below the task before that one, jobs that all pass, the middle one by two steps.
 const ALL_PASS: &str =
     "drt 1\ntask T1\nvertex x 3 5\nvertex y 2 4\nedge x x 20\nedge y y 4\ntask T2\nvertex z 2 5\nvertex u 1 5\nvertex v 2 5\nend\n";
 
 const ALL_PASS_YES: &str =
     "evidence fixed-yes\ntrees 1\ntree 3\nwalk 1 1\nwalk 1 0\nwalk 2 1 1\npairs 2\npair 0 1\npair 3 2\nproofs 5\nproof 0 0 1 p3\nproof 0 1 1 p2\nproof 1 0 3 s0 p5 p4\nproof 1 1 1 p4\nproof 1 2 3 s0 p5 p4\nclose\n";
-
-// The same with the easy one first. Each of the others needs six steps.
-const MIDDLE_SPENT: &str =
-    "drt 1\ntask T1\nvertex x 3 5\nvertex y 2 4\nedge x x 20\nedge y y 4\ntask T2\nvertex u 1 5\nvertex z 2 5\nvertex v 2 5\nend\n";
 
 // Three of the tasks that `bench/fixed split 5 6 50 8` draws, and the head of a fourth.
 const HARD: &str = "drt 2\n\
@@ -63,7 +71,38 @@ const HARD_EDGES: &str =
     "edge v0 v1 2003\nedge v1 v2 2396\nedge v2 v3 2138\nedge v3 v4 1748\nedge v4 v5 2977\nedge v5 v0 2441\nend\n";
 
 // Its jobs, with another second one than is drawn: its proof has some 5,000 items, for each of which a frontier makes two steps.
-const SECOND_HARD: &str = "vertex v0 268 1750\nvertex v1 456 990\nvertex v2 300 1971\nvertex v3 171 1559\nvertex v4 194 1834\nvertex v5 146 2030\n";
+const SECOND_HARD: &str =
+    "vertex v0 268 1750\nvertex v1 456 990\nvertex v2 300 1971\nvertex v3 171 1559\nvertex v4 194 1834\nvertex v5 146 2030\n";
+
+// Three of the jobs are such. The greatest deadline stays, by which all walks are searched.
+const THREE_HARD: &str =
+    "vertex v0 268 1750\nvertex v1 456 990\nvertex v2 300 1971\nvertex v3 456 990\nvertex v4 456 990\nvertex v5 146 2030\n";
+
+// The middle one of the three has a proof of some 7,000 items.
+const MIDDLE_HARDER: &str =
+    "vertex v0 268 1750\nvertex v1 456 990\nvertex v2 300 1971\nvertex v3 460 990\nvertex v4 456 990\nvertex v5 146 2030\n";
+
+// It is late for some walks, which some 41,000 steps find.
+const MIDDLE_TOO_LONG: &str =
+    "vertex v0 268 1750\nvertex v1 456 990\nvertex v2 300 1971\nvertex v3 500 990\nvertex v4 456 990\nvertex v5 146 2030\n";
+
+// Whether each number of workers gives this text for a set.
+fn is_answered_by_all<G: Gate, R: Threads + Wait + Sync>(
+    rt: &R,
+    alloc: Global,
+    source: Source<'_>,
+    budget: u64,
+    gate: &G,
+    text: &[u8],
+) -> Result<bool, Fail> {
+    for workers in WORKERS {
+        let answer = written(rt, alloc, source, workers, budget, gate)?;
+        if answer.as_slice() != text {
+            return Ok(false);
+        }
+    }
+    Ok(true)
+}
 
 // Whether several workers answer a set as one does.
 fn is_answered_as_by_one<G: Gate, R: Threads + Wait + Sync>(
@@ -74,13 +113,7 @@ fn is_answered_as_by_one<G: Gate, R: Threads + Wait + Sync>(
     gate: &G,
 ) -> Result<bool, Fail> {
     let one = written(rt, alloc, source, 1, budget, gate)?;
-    for workers in WORKERS {
-        let answer = written(rt, alloc, source, workers, budget, gate)?;
-        if answer.as_slice() != one.as_slice() {
-            return Ok(false);
-        }
-    }
-    Ok(true)
+    is_answered_by_all(rt, alloc, source, budget, gate, one.as_slice())
 }
 
 // The same, however much is left to the caller alone.
@@ -176,7 +209,8 @@ fn worked_sets_are_answered_as_by_one_worker(rt: HostRuntime) -> Result<(), Fail
         TWO_LATE,
         SECOND_FAILS,
         MIDDLE_FAILS,
-        MIDDLE_SPENT,
+        SECOND_FAILS_SOONER,
+        MIDDLE_LATE,
         ALL_PASS,
     ];
     for text in texts {
@@ -213,7 +247,7 @@ fn spent_budgets_of_drawn_sets_are_told_as_by_one_worker(rt: HostRuntime) -> Res
 
 #[test]
 fn the_first_vertex_that_spends_its_budget_decides(rt: HostRuntime) -> Result<(), Fail> {
-    let cases = [(TWO_LATE, 0), (MIDDLE_SPENT, 1)];
+    let cases = [(TWO_LATE, 0), (MIDDLE_LATE, 1)];
     for (text, vertex) in cases {
         assert!(rt;
             is_spent_always(&rt, rt.alloc(), text, 5, Some((1, Some(vertex), 5)))?,
@@ -225,9 +259,14 @@ fn the_first_vertex_that_spends_its_budget_decides(rt: HostRuntime) -> Result<()
 
 #[test]
 fn the_first_vertex_that_fails_decides(rt: HostRuntime) -> Result<(), Fail> {
-    for text in [SECOND_FAILS, MIDDLE_FAILS] {
+    let cases = [
+        (SECOND_FAILS, SECOND_FAILS_NO),
+        (MIDDLE_FAILS, SECOND_FAILS_NO),
+        (SECOND_FAILS_SOONER, SECOND_FAILS_SOONER_NO),
+    ];
+    for (text, body) in cases {
         assert!(rt;
-            has_dossier_always(&rt, rt.alloc(), text, SECOND_FAILS_NO)?,
+            has_dossier_always(&rt, rt.alloc(), text, body)?,
             "of {text}"
         );
     }
@@ -264,8 +303,10 @@ fn is_hard_answered_as_by_one<R: Threads + Wait + Sync>(
     let text = format!(in alloc; "{HARD}{jobs}{HARD_EDGES}")?;
     let source = Source::Text(text.as_str());
     let one = written(rt, alloc, source, 1, budget, &OpenGate)?;
-    Ok(has_words(one.as_slice(), words.as_bytes())
-        && is_answered_as_by_one(rt, alloc, source, budget, &OpenGate)?)
+    Ok(
+        has_words(one.as_slice(), words.as_bytes())
+            && is_answered_by_all(rt, alloc, source, budget, &OpenGate, one.as_slice())?,
+    )
 }
 
 #[test]
@@ -273,6 +314,22 @@ fn hard_vertices_are_answered_as_by_one_worker(rt: HostRuntime) -> Result<(), Fa
     let cases = [
         (SECOND_HARD, 9_709, "refine 3 1: "),
         (SECOND_HARD, 9_710, "evidence fixed-yes"),
+        (THREE_HARD, 9_710, "evidence fixed-yes"),
+    ];
+    for (jobs, budget, words) in cases {
+        assert!(rt;
+            is_hard_answered_as_by_one(&rt, rt.alloc(), jobs, budget, words)?,
+            "within {budget} steps, of {jobs}"
+        );
+    }
+    Ok(())
+}
+
+#[test]
+fn a_hard_vertex_decides_among_others(rt: HostRuntime) -> Result<(), Fail> {
+    let cases = [
+        (MIDDLE_HARDER, 9_710, "refine 3 3: "),
+        (MIDDLE_TOO_LONG, 100_000, "miss 3 0 990"),
     ];
     for (jobs, budget, words) in cases {
         assert!(rt;
