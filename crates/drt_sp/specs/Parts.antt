@@ -71,11 +71,12 @@ module _ (f : Plain) (wcet deadline : ℕ) where
     abbrev pub IsPart : Part → Type 0
     IsPart part = (part.id < length combinations) × IsEndOf part.id part.items
 
-    -- Some items were added to the old ones for the combination of that number, which changed the stack.
-    abbrev pub AreAddedFor : ℕ → List Item → List Item → List ℕ → List ℕ → Type 0
-    AreAddedFor id old new before after = (added : List Item) × (new ≡ old ++ added) × ((c : Combination) → slice_get combinations id ≡ Some c → AreAdded c.state c.nodes added before after)
-
     -- There is a place for each combination, and what is there, if anything, ends it.
     pub record HasParts (parts : List (Option (List Item))) : Type 0 where
       pub count : length parts ≡ length combinations
       pub are : (id : ℕ) (items : List Item) → slice_get parts id ≡ Some (Some items) → IsEndOf id items
+
+-- Some items were added to the old ones for the combination of that number of a frontier, which changed the stack.
+abbrev pub AreAddedFor : Plain → View → ℕ → List Item → List Item → List ℕ → List ℕ → Type 0
+AreAddedFor f v id old new before after =
+    (added : List Item) × (new ≡ old ++ added) × ((c : Combination) → slice_get v.combinations id ≡ Some c → AreAdded f v.wcet v.deadline c.state c.nodes added before after)

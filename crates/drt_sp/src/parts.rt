@@ -458,7 +458,7 @@ fn add_items(
     requires within { id < length frontier.now.combinations }
     requires parts { HasParts forest.now frontier.now.wcet frontier.now.deadline frontier.now.combinations parts.old.items }
     ensures parts { HasParts forest.now frontier.now.wcet frontier.now.deadline frontier.now.combinations parts.new.items }
-    ensures added { IfOk result (λ is. is ≡ true → AreAddedFor forest.now frontier.now.wcet frontier.now.deadline frontier.now.combinations id items.old.items items.new.items stack.old.items stack.new.items) }
+    ensures added { IfOk result (λ is. is ≡ true → AreAddedFor forest.now frontier.now id items.old.items items.new.items stack.old.items stack.new.items) }
 {
     match frontier.state(id) {
         CombinationState::Passed(time) => items.push(Item::Pass(time))?,
