@@ -1,5 +1,5 @@
 //! The caller's attempts at the vertices of a task, before other workers are begun.
-ghost use Rattle.std.specs.Prelude.{ℕ, ◌≤◌, ◌<◌, All, IfOk, OnOk, length};
+ghost use Rattle.std.specs.Prelude.{◌≡◌, ℕ, ◌≤◌, ◌<◌, All, IfOk, OnOk, length};
 ghost use Rattle.drt_model.specs.Digraph.{vertex_count};
 ghost use Rattle.drt_model.specs.Walk.{deadline};
 ghost use Rattle.drt_sp.specs.Attempts.{AreGiven, IsAttempt};
@@ -25,32 +25,43 @@ pub(crate) struct Attempt {
 }
 
 /// What came of the attempts at the first vertices of a task: for each what becomes of it, or none where its steps were spent; and those
-/// attempts, in file order.
+/// of these attempts whose steps were spent, in file order.
 #[derive(Drop)]
 pub(crate) struct Attempts {
     pub(crate) proofs: Vec<Option<VertexProof>>,
     pub(crate) spent: Vec<Attempt>,
 }
 
-/// Refines each vertex of a task, by its graph, in file order, with so few steps. The first one that fails is the last.
+/// Refines the vertices of a task, by its graph, in file order from this one on, with so few steps each: what becomes of those before
+/// it is given. The first one that fails is the last. From the first one on whose steps are spent, which may yet fail, there are at most
+/// `most`: those behind it may be attempted in vain.
 pub(crate) fn attempt_vertices<G: Gate, R: Threads + Wait + Sync>(
     rt: &R,
     alloc: Global,
     forest: &Forest,
     roots: &[u32],
     graph: &Graph,
+    from: u32,
+    given: Vec<Option<VertexProof>>,
+    most: usize,
     few: u64,
     gate: &G,
 ) -> Result<Attempts, Memory>
     requires few { length roots.now ≤ 31 }
     requires roots { (v : ℕ) → v < vertex_count graph.now → AreChosen (deadline graph.now v) forest.now.pool roots.now }
+    requires from { length given.items ≡ from }
+    requires given { AreGiven forest.now roots.now graph.now given.items }
     requires steps { (1 ≤ few) × (few ≤ 1000000) }
     ensures proofs { IfOk result (λ attempts. AreGiven forest.now roots.now graph.now attempts.proofs.items) }
     ensures spent { IfOk result (λ attempts. All (IsAttempt forest.now roots.now graph.now few) attempts.spent.items) }
 {
-    let mut proofs = Vec::new(alloc);
+    let mut proofs = given;
     let mut spent = Vec::new(alloc);
-    for vertex in 0..graph.vertex_count() {
+    let mut left = most;
+    for vertex in from..graph.vertex_count() {
+        if left == 0 {
+            return Ok(Attempts { proofs, spent });
+        }
         let subject = graph.vertex(vertex);
         let (wcet, deadline) = (subject.wcet, subject.deadline);
         match refine_vertex(rt, alloc, forest, roots, wcet, deadline, 1, few, gate)? {
@@ -69,6 +80,16 @@ pub(crate) fn attempt_vertices<G: Gate, R: Threads + Wait + Sync>(
                 })?;
             }
         }
+        left = left_after(left, spent.as_slice());
     }
     Ok(Attempts { proofs, spent })
+}
+
+// How many vertices are left after one more: it counts where it, or one before it, spent its steps.
+fn left_after(left: usize, spent: &[Attempt]) -> usize {
+    if spent.is_empty() {
+        left
+    } else {
+        left.saturating_sub(1)
+    }
 }

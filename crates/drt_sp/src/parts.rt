@@ -1,5 +1,5 @@
 //! The vertices of a task, proved by several workers: each ends combinations of its own.
-ghost use Rattle.std.specs.Prelude.{◌≡◌, ◌≤◌, ◌<◌, ◌++◌, ℕ, true, All, IfOk, IfSome, OnOk, List, None, Some, length, slice_get, slice_set};
+ghost use Rattle.std.specs.Prelude.{[], ◌≡◌, ◌≤◌, ◌<◌, ◌++◌, ℕ, true, All, IfOk, IfSome, OnOk, List, None, Some, length, slice_get, slice_set};
 ghost use Rattle.drt_evidence.specs.Ranges.{IsCounted};
 ghost use Rattle.drt_evidence.specs.declared.evidence.Item.{Item};
 ghost use Rattle.drt_model.specs.Digraph.{vertex_count};
@@ -44,34 +44,66 @@ pub(crate) struct Job {
     pub(crate) id: u32,
 }
 
-/// What becomes of the first vertices of a task, as far as it is found side by side. First the caller attempts each vertex, in file
+/// What is found of a task's vertices ahead of their turn: what becomes of the first ones, or none where that isn't found; and how many
+/// spent their attempts.
+#[derive(Drop)]
+pub(crate) struct Ahead {
+    pub(crate) found: Vec<Option<VertexProof>>,
+    hard: usize,
+}
+
+impl Ahead {
+    /// Nothing is found.
+    pub(crate) fn nothing(alloc: Global) -> Ahead
+        ensures { result.found.items ≡ [] }
+    {
+        Ahead {
+            found: Vec::new(alloc),
+            hard: 0,
+        }
+    }
+}
+
+/// What becomes of some vertices of a task from this one on, as far as it is found side by side. First the caller attempts them, in file
 /// order, with as few steps as it takes to begin threads. Where that is too little for some, workers end the combinations that are still
 /// open in their frontiers, each those that it takes, and the parts are put together. A combination has one proof, so it is the proof
 /// that one frontier gives. There is none for a vertex that has no proof within the budget, or of which a part is wanting.
+///
+/// From a vertex on that spends its attempt the task may end there, and what is done of those behind it is in vain. So there are no more
+/// of these than vertices that spent theirs and passed: that costs no more than they did.
 pub(crate) fn prove_by_parts<G: Gate, R: Threads + Wait + Sync>(
     rt: &R,
     alloc: Global,
     forest: &Forest,
     roots: &[u32],
     graph: &Graph,
+    from: u32,
+    ahead: Ahead,
     workers: u32,
     few: u64,
     budget: u64,
     gate: &G,
-) -> Result<Vec<Option<VertexProof>>, Memory>
+) -> Result<Ahead, Memory>
     requires few { length roots.now ≤ 31 }
     requires roots { (v : ℕ) → v < vertex_count graph.now → AreChosen (deadline graph.now v) forest.now.pool roots.now }
+    requires from { length ahead.found.items ≡ from }
+    requires given { AreGiven forest.now roots.now graph.now ahead.found.items }
     requires steps { (1 ≤ few) × (few ≤ 1000000) }
     requires budget { budget ≤ 1000000 }
-    ensures { IfOk result (λ proofs. AreGiven forest.now roots.now graph.now proofs.items) }
+    ensures { IfOk result (λ more. AreGiven forest.now roots.now graph.now more.found.items) }
 {
     over_every_interleaving();
     every_forest();
-    let attempts = attempt_vertices(rt, alloc, forest, roots, graph, few, gate)?;
+    let Ahead { found, hard } = ahead;
+    let most = hard.saturating_add(1);
+    let attempts = attempt_vertices(
+        rt, alloc, forest, roots, graph, from, found, most, few, gate,
+    )?;
     let Attempts {
         mut proofs,
         mut spent,
     } = attempts;
+    let hard = hard.saturating_add(spent.len());
     let mut tables = end_attempts(rt, alloc, forest, spent.as_slice(), workers, budget)?;
     while let Some(attempt) = spent.pop() {
         let Some(parts) = tables.pop() else {
@@ -81,7 +113,10 @@ pub(crate) fn prove_by_parts<G: Gate, R: Threads + Wait + Sync>(
             put_proof(attempt.vertex, items, &mut proofs);
         }
     }
-    Ok(proofs)
+    Ok(Ahead {
+        found: proofs,
+        hard,
+    })
 }
 
 // Puts a proof to its vertex.

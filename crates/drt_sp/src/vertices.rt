@@ -7,7 +7,7 @@ ghost use Rattle.drt_sp.specs.Attempts.{AreGiven};
 ghost use Rattle.drt_sp.specs.Items.{IsVertexProof};
 ghost use Rattle.drt_sp.specs.Vertices.{IsOutcome};
 
-use crate::parts::{prove_by_parts, take_at};
+use crate::parts::{Ahead, prove_by_parts, take_at};
 use crate::proving::{VertexProof, prove_vertex};
 use drt_evidence::ProofClaim;
 use drt_graph::Graph;
@@ -56,16 +56,21 @@ pub(crate) fn prove_vertices<G: Gate, R: Threads + Wait + Sync>(
     requires budget { (1 ≤ budget) × (budget ≤ 1000000) }
     ensures { IfOk result (λ proofs. IsOutcome forest.now roots.now graph.now task budget proofs) }
 {
-    let mut found = prove_ahead(rt, alloc, forest, roots, graph, workers, budget, gate)?;
+    let mut ahead = Ahead::nothing(alloc);
     let mut proofs = Vec::new(alloc);
     'vertices: for vertex in 0..graph.vertex_count() {
+        if vertex as usize == ahead.found.len() {
+            ahead = prove_ahead(
+                rt, alloc, forest, roots, graph, vertex, ahead, workers, budget, gate,
+            )?;
+        }
         let subject = graph.vertex(vertex);
         match take_or_prove(
             rt,
             alloc,
             forest,
             roots,
-            take_at(vertex, &mut found),
+            take_at(vertex, &mut ahead.found),
             subject.wcet,
             subject.deadline,
             workers,
@@ -84,27 +89,33 @@ pub(crate) fn prove_vertices<G: Gate, R: Threads + Wait + Sync>(
     Ok(TaskProofs::Passed(Row::from_vec(proofs)))
 }
 
-// What becomes of vertices, where several workers find it side by side; of no vertex otherwise.
+// What becomes of some more vertices, from this one on, where several workers find it side by side; of no more otherwise.
 fn prove_ahead<G: Gate, R: Threads + Wait + Sync>(
     rt: &R,
     alloc: Global,
     forest: &Forest,
     roots: &[u32],
     graph: &Graph,
+    from: u32,
+    ahead: Ahead,
     workers: u32,
     budget: u64,
     gate: &G,
-) -> Result<Vec<Option<VertexProof>>, Memory>
+) -> Result<Ahead, Memory>
     requires few { length roots.now ≤ 31 }
     requires roots { (v : ℕ) → v < vertex_count graph.now → AreChosen (deadline graph.now v) forest.now.pool roots.now }
+    requires from { length ahead.found.items ≡ from }
+    requires given { AreGiven forest.now roots.now graph.now ahead.found.items }
     requires budget { budget ≤ 1000000 }
-    ensures { IfOk result (λ found. AreGiven forest.now roots.now graph.now found.items) }
+    ensures { IfOk result (λ more. AreGiven forest.now roots.now graph.now more.found.items) }
 {
     let few = gate.alone();
     if workers == 1 || few == 0 || few >= budget {
-        return Ok(Vec::new(alloc));
+        return Ok(ahead);
     }
-    prove_by_parts(rt, alloc, forest, roots, graph, workers, few, budget, gate)
+    prove_by_parts(
+        rt, alloc, forest, roots, graph, from, ahead, workers, few, budget, gate,
+    )
 }
 
 // What becomes of a vertex: what was found ahead, or else what one frontier gives.

@@ -1,6 +1,8 @@
 use Rattle.std.proofs.Common.{◌<◌, ◌≤◌, arith}
 use Rattle.drt_model.specs.Digraph.{vertex_count}
 use Rattle.drt_sp.proofs.FirstVertices.{proofs_more, stop_at}
+use Rattle.drt_sp.specs.Attempts.{AreGiven}
+use Rattle.drt_sp.proofs.vertices.prove_vertices.Goals.{then-vertex-len+in_ok-ahead, else-vertex-len}
 use Rattle.drt_sp.proofs.vertices.prove_vertices.Goals as goal
 
 pub take_or_prove-requires-clause-roots : goal.take_or_prove-requires-clause-roots
@@ -30,7 +32,11 @@ vertices-preserved g c =
     let few : c.args.task ≤ 4294967295 = omega (arith, c.ranges.task.fits) in
     let is = rw (c.in-Passes.is, c.vertex-subject.ensures) at c.in_ok-items.ensures in
     let more = proofs_more f roots graph c.args.task v c.vertices.proofs.items c.in-Passes.items c.vertex_count-vertex-end.ensures.sound few l c.vertices.invariant.proofs is.0 is.1 is.2 in
+    let given : AreGiven f roots graph c.if-vertex-len.ahead.found.items = elim c.if-vertex-len.branch as (λ _. AreGiven f roots graph c.if-vertex-len.ahead.found.items) [
+      | then-vertex-len+in_ok-ahead w ↦ rw w.ahead-is w.in_ok-ahead.ensures
+      | else-vertex-len w ↦ rw w.ahead-is c.vertices.invariant.found
+    ] in
     record {
       proofs = rw c.in_ok-push-in-Passes.ensures.items more;
-      found = λ k proof at. c.vertices.invariant.found k proof (c.take_at.ensures.left k proof at);
+      found = λ k proof at. given k proof (c.take_at.ensures.left k proof at);
     }

@@ -6,5 +6,5 @@ use Rattle.drt_sp.proofs.vertices.prove_vertices.Given as goal
 abbrev pub invariant-vertices : goal.invariant-vertices
 invariant-vertices g l = record {
   proofs : AreVertexProofs l.forest l.roots l.graph l.task l.vertex l.proofs.items;
-  found : AreGiven l.forest l.roots l.graph l.found.items;
+  found : AreGiven l.forest l.roots l.graph l.ahead.found.items;
 }
