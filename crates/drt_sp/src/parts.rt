@@ -29,8 +29,9 @@ use std::sync::Wait;
 use std::thread;
 use std::thread::{Threads, available_parallelism};
 
-// How many vertices are attempted together at first, where their attempts are spent: to begin threads takes about as long.
-const TOGETHER: usize = 4;
+// How many vertices are attempted together at first, where their attempts are spent: together that takes about two milliseconds, and to
+// begin threads up to five.
+const TOGETHER: usize = 8;
 
 /// The items that end a combination, by the place of its frontier among those that were spent, and by its number there.
 #[derive(Drop)]
@@ -72,7 +73,7 @@ impl Ahead {
 /// open in their frontiers, each those that it takes, and the parts are put together. A combination has one proof, so it is the proof
 /// that one frontier gives. There is none for a vertex that has no proof within the budget, or of which a part is wanting.
 ///
-/// From a vertex on that spends its attempt the task may end there, and what is done of those behind it is in vain. So these are three
+/// From a vertex on that spends its attempt the task may end there, and what is done of those behind it is in vain. So these are seven
 /// at most, and one more for each vertex that spent its attempt before and passed: that costs no more than they did.
 pub(crate) fn prove_by_parts<G: Gate, R: Threads + Wait + Sync>(
     rt: &R,
