@@ -90,11 +90,13 @@ fn fronts_are_judged_within_any_bound(rt: HostRuntime) -> Result<(), Fail> {
     let two: [Shape<'_>; 2] = [BRANCHING, (&[(2, 4)], &[(0, 0, 10)])];
     let three: [Shape<'_>; 2] = [BRANCHING, (&[(3, 4)], &[(0, 0, 10)])];
     let single: [Shape<'_>; 1] = [(&[(1, 2), (1, 3)], &[])];
-    let cases: [(&[Shape<'_>], Case<'_>); 5] = [
+    let cases: [(&[Shape<'_>], Case<'_>); 6] = [
         // One tick past the bound.
         (&two, (3, &[&[(0, 0, 1)], &[(0, 0, 2)]], Some(12))),
         // Nothing is due by then.
         (&two, (1, &[&[], &[]], None)),
+        // The first job of the first task is due after two ticks.
+        (&two, (3, &[&[], &[]], Some(13))),
         // The extension of the last entry of the first vertex is left out, and there is no room either.
         (
             &three,
