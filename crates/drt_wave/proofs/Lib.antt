@@ -10,3 +10,4 @@ pub mod Walks
 pub mod Kept
 pub mod Tails
 pub mod Dealing
+pub mod Rows

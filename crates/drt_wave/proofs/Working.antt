@@ -124,27 +124,30 @@ module _ (p : Plan) where
       )
 
 module _ {S F : Type 0} (g : Net) where
-  expanded_kept : (m n : Me S (View F)) (c : ℕ) → Kept m n → IsExpanded g m.0 c → IsExpanded g n.0 c
+  pub expanded_kept : (m n : Me S (View F)) (c : ℕ) → Kept m n → IsExpanded g m.0 c → IsExpanded g n.0 c
   expanded_kept m n c k e = (e.0, k.notes e.0 e.1, e.2, e.3, λ ne t w a. k.raised t (e.0.value + w) (e.4 ne t w a))
+
+  -- a number was drawn, and nothing else done
+  pub drawn_turned : (m n : Me S (View F)) (j r : ℕ) → Draws g j r m.0 n.0 → n.1 ≡ m.1 → Turned m n
+  drawn_turned m n j r d slots = record {
+    fixed = ap (λ v. v.fixed) d.3;
+    parts = ap (λ v. v.parts) d.3;
+    known = subst (λ v. m.0.known ≤ v.known) (sym d.3) d.4;
+    slots = slots;
+    draws = λ a b at. subst (λ v. Among (a, b) v.draws) (sym d.3) (inr at);
+  }
 
   -- a number past the end of the wave was drawn
   pub turned_past : (m n : Me S (View F)) (j r : ℕ) → Draws g j r m.0 n.0 → n.1 ≡ m.1 → AllExpanded g m.0 → g.size j ≤ r * 64 → AllExpanded g n.0 × IsPast g j n.0 × Turned m n
   turned_past m n j r d slots all past =
-      let t : ℕ = d.0 in let low : r ≤ t = subst (λ z. z ≤ t) (sym d.2) (mod-le t (2 ^ 64)) in
-      let drawn : (a b : ℕ) → Among (a, b) m.0.draws → Among (a, b) n.0.draws = λ a b at. subst (λ v. Among (a, b) v.draws) (sym d.3) (inr at) in (
+      let t : ℕ = d.0 in let low : r ≤ t = subst (λ z. z ≤ t) (sym d.2) (mod-le t (2 ^ 64)) in (
         subst (AllExpanded g) (sym d.3) (λ a b lt at. ⊎_elim
             (λ (e : (j, t) ≡ (a, b / 64)).
             let q : ℕ = b / 64 in let same : t ≡ q = ap (λ (q : ℕ × ℕ). q.1) e in let lt' : b < g.size j = subst (λ z. b < g.size z) (sym (ap (λ (q : ℕ × ℕ). q.0) e)) lt in
             let split : q * 64 + b % 64 ≡ b = div-add-mod' b 64 in absurd (omega arith))
             (λ (old : Among (a, b / 64) m.0.draws). all a b lt old) at),
         (t, subst (λ v. Among (j, t) v.draws) (sym d.3) (inl refl), omega arith),
-        record {
-          fixed = ap (λ v. v.fixed) d.3;
-          parts = ap (λ v. v.parts) d.3;
-          known = subst (λ v. m.0.known ≤ v.known) (sym d.3) d.4;
-          slots = slots;
-          draws = drawn;
-        },
+        drawn_turned m n j r d slots,
       )
 
   -- a number within the wave was drawn, and the cells of its block were expanded
@@ -230,6 +233,15 @@ module _ {S F : Type 0} where
     known = omega arith;
     slots = q.slots ∙ p.slots;
     draws = λ j k a. q.draws j k (p.draws j k a);
+  }
+
+  pub turned_kept : (m n : Me S (View F)) → Kept m n → Turned m n
+  turned_kept m n k = record {
+    fixed = k.fixed;
+    parts = k.parts;
+    known = (let same = k.known in omega arith);
+    slots = k.slots;
+    draws = λ i j a. subst (λ l. Among (i, j) l) (sym k.draws) a;
   }
 
   pub turned_at : (f : F) (m n : Me S (View F)) → Turned m n → IsAt f m.0 → IsAt f n.0

@@ -9,3 +9,4 @@ pub mod Fronts
 pub mod Gathered
 pub mod Backwards
 pub mod Shifts
+pub mod Rows

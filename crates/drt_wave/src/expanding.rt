@@ -92,7 +92,7 @@ fn next_place(row: u32, column: u64, width: u64) -> (u32, u64)
 }
 
 // Expands the cells of a block.
-fn expand_block(table: &WaveTable, seat: &mut WaveSeat, wave: u32, block: u64)
+pub(crate) fn expand_block(table: &WaveTable, seat: &mut WaveSeat, wave: u32, block: u64)
     requires id { seat.old.table_id ≡ table.now.table.shared.table_id }
     requires seat { IsAt table.now.plan seat.old.me.0 }
     requires wave { wave < (net_of table.now.plan).waves }

@@ -15,7 +15,7 @@ use drt_model::Memory;
 use drt_pool::Gate;
 use std::alloc::Global;
 use std::sync::Wait;
-use std::thread::Threads;
+use std::thread::{Threads, available_parallelism};
 
 // A later wave of fewer cells is worked by the caller alone: to begin other workers costs more than they gain there.
 const WIDE: u64 = 16_384;
@@ -72,7 +72,7 @@ pub fn dense_front(alloc: Global, graph: &Graph, bound: u64) -> Result<DenseFron
     Ok(table.close(seat))
 }
 
-// Works the next wave: the first one by all workers, and a later one by all where it is wide, else by the caller.
+// Works the next wave: the first one by all workers, and a later one by all where it is wide, else by the caller. A worker is the caller.
 fn next_wave<G: Gate, R: Threads + Wait + Sync>(
     rt: &R,
     alloc: Global,
@@ -91,12 +91,12 @@ fn next_wave<G: Gate, R: Threads + Wait + Sync>(
     ensures on { GoesOn seat.old.me seat.new.me }
     ensures worked { IfOk result (λ u. HasWorked table.now.plan wave seat.new.me) }
 {
-    if wave > 0 && table.wave_size(wave) < WIDE {
+    let is_first = wave == 0;
+    if workers == 1 || (!is_first && table.wave_size(wave) < WIDE) {
         work_wave(table, seat, wave);
         return Ok(());
     }
-    let alone = if wave == 0 { u64::MAX } else { 1 };
-    let gate = BlockGate { gate, alone };
+    let gate = BlockGate { gate, is_first };
     share_wave(rt, alloc, table, seat, wave, workers, &gate)
 }
 
@@ -124,7 +124,23 @@ fn share_all<G: Gate, R: Threads + Wait + Sync>(
     Ok(())
 }
 
-/// The greatest works of a graph's walks up to a bound in ticks: a table that several workers work to its end.
+// How many of the workers share waves: no more than there are processors, or all where the gate may wait for another worker. A table whose
+// waves are narrow asks for no processors, since no later wave of it is shared.
+fn worker_limit<G: Gate, R: Threads>(rt: &R, table: &WaveTable, workers: u32, gate: &G) -> u32
+    requires { (1 ≤ workers) × (workers ≤ 16) }
+    ensures { (1 ≤ result) × (result ≤ workers) }
+{
+    if gate.alone() == 0 || table.wave_size(0) < WIDE {
+        return workers;
+    }
+    match available_parallelism(rt) {
+        Ok(processors) => processors.get().min(workers as usize) as u32,
+        Err(_) => 1,
+    }
+}
+
+/// The greatest works of a graph's walks up to a bound in ticks: a table that several workers work to its end. No more begin than there are
+/// processors, but where the gate may wait for another worker.
 pub fn fill<G: Gate, R: Threads + Wait + Sync>(
     rt: &R,
     alloc: Global,
@@ -140,6 +156,7 @@ pub fn fill<G: Gate, R: Threads + Wait + Sync>(
 {
     let (table, mut seat) = WaveTable::start(alloc, graph, bound)?;
     let waves = (table.plan.bound / table.plan.span + 1) as u32;
+    let workers = worker_limit(rt, &table, workers, gate);
     share_all(rt, alloc, &table, &mut seat, waves, workers, gate)?;
     Ok(table.close(seat))
 }

@@ -8,6 +8,7 @@
 #![tactic(auto)]
 
 mod dense;
+mod drawing;
 mod expanding;
 mod filling;
 mod gathering;

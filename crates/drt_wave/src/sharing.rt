@@ -5,7 +5,8 @@ ghost use Rattle.drt_wave.specs.Cells.{net_of};
 ghost use Rattle.drt_wave.specs.Seats.{IsPast};
 ghost use Rattle.drt_wave.specs.Shifts.{IsAtWork, IsWorkers, AreDealt, GoesOn, HasWorked};
 
-use crate::expanding::{BLOCK, turn as turn_seat};
+use crate::drawing::{ROW, turn_some};
+use crate::expanding::BLOCK;
 use crate::filling::work_wave;
 use crate::table::{WaveSeat, WaveTable};
 use drt_model::Memory;
@@ -29,19 +30,19 @@ impl Work for Shift<'_> {
     ghost ended = { λ shift place seat. IsPast (net_of shift.table.now.plan) shift.wave seat.me.0 };
 
     fn turn<R: Wait>(&self, _rt: &R, seat: &mut WaveSeat) -> Turn {
-        if turn_seat(self.table, seat, self.wave) {
+        if turn_some(self.table, seat, self.wave) {
             return Turn::More;
         }
         Turn::Stop
     }
 }
 
-/// The gate of a wave. Before another worker is begun the caller has at most so many turns alone, and fewer turns than the gate leaves it,
-/// since a turn here expands a block of cells.
+/// The gate of a wave. A turn here expands some blocks of cells, so the caller has fewer turns alone than the gate leaves it. In a later wave
+/// it has none: all workers begin at once.
 #[derive(Drop)]
 pub(crate) struct BlockGate<'a, G: Gate> {
     pub(crate) gate: &'a G,
-    pub(crate) alone: u64,
+    pub(crate) is_first: bool,
 }
 
 impl<G: Gate> Gate for BlockGate<'_, G> {
@@ -51,10 +52,10 @@ impl<G: Gate> Gate for BlockGate<'_, G> {
 
     fn alone(&self) -> u64 {
         let turns = self.gate.alone();
-        if turns == 0 {
+        if turns == 0 || !self.is_first {
             return 0;
         }
-        (turns / BLOCK).max(1).min(self.alone)
+        (turns / (BLOCK * ROW as u64)).max(1)
     }
 }
 

@@ -1,0 +1,20 @@
+use Rattle.std.proofs.Common.{◌≢◌, arith, sym, subst}
+use Rattle.std.proofs.lemmas.Bool.{eqb-false}
+use Rattle.drt_wave.specs.Net.{Among}
+use Rattle.drt_wave.specs.Cells.{net_of}
+use Rattle.drt_wave.proofs.Working.{turned_more, turned_kept}
+use Rattle.drt_wave.proofs.Rows.{but_all}
+use Rattle.drt_wave.proofs.drawing.turn_some.Goals as goal
+
+pub returns-clause-turned : goal.returns-clause-turned
+returns-clause-turned c = turned_more _ _ _ c.draw_row-count.ensures.turned (turned_kept _ _ c.expand_row.ensures.kept)
+
+pub returns-clause-all : goal.returns-clause-all
+returns-clause-all c = but_all
+    (net_of c.args.table.now.plan) _ _ c.args.wave c.draw_row-count.result _ c.draw_row-count.ensures.others c.expand_row.ensures.kept c.expand_row.ensures.expanded
+
+pub returns-clause-past : goal.returns-clause-past
+returns-clause-past c = λ no.
+    let short : c.draw_row-count.result ≢ 16 = eqb-false c.draw_row-count.result 16 no in
+    let past = c.draw_row-count.ensures.past (omega (arith, c.draw_row-count.ensures.count, short)) in
+    (past.0, subst (λ l. Among (c.args.wave, past.0) l) (sym c.expand_row.ensures.kept.draws) past.1, past.2)
