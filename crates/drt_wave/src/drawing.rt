@@ -9,7 +9,7 @@ use crate::expanding::expand_block;
 use crate::table::{WaveSeat, WaveTable};
 
 // So many blocks are drawn in a row, since blocks next to one another are then one worker's: lines of memory don't go back and forth.
-pub(crate) const ROW: usize = 16;
+const ROW: usize = 16;
 
 // Draws blocks of a wave until the row is full or a number is past the wave's end, and says how many are drawn.
 fn draw_row(table: &WaveTable, seat: &mut WaveSeat, wave: u32, row: &mut [u64; ROW]) -> usize

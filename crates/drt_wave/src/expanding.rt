@@ -12,7 +12,7 @@ use crate::table::{WaveSeat, WaveTable};
 use crate::ways::Way;
 
 // How many cells a block has, the last one of a wave aside.
-pub(crate) const BLOCK: u64 = 64;
+const BLOCK: u64 = 64;
 
 // The cell of a vertex and an offset.
 fn cell(table: &WaveTable, vertex: u32, offset: u64) -> u32

@@ -1,5 +1,5 @@
 //! A whole table, worked by one seat or by several workers.
-ghost use Rattle.std.specs.Prelude.{◌≡◌, ℕ, ◌+◌, ◌*◌, ◌<◌, ◌≤◌, IfOk};
+ghost use Rattle.std.specs.Prelude.{◌≡◌, ℕ, ◌+◌, ◌*◌, ◌^◌, ◌<◌, ◌≤◌, IfOk};
 ghost use Rattle.drt_model.specs.Digraph.{vertex_count};
 ghost use Rattle.drt_wave.specs.Waves.{AllDrawn, AllExpanded};
 ghost use Rattle.drt_wave.specs.Cells.{net_of};
@@ -8,7 +8,7 @@ ghost use Rattle.drt_wave.specs.Shifts.{IsAtWork, GoesOn, HasWorked};
 
 use crate::dense::DenseFront;
 use crate::expanding::turn;
-use crate::sharing::{BlockGate, share_wave};
+use crate::sharing::{WaveGate, share_wave};
 use crate::table::{WaveSeat, WaveTable};
 use drt_graph::Graph;
 use drt_model::Memory;
@@ -17,7 +17,7 @@ use std::alloc::Global;
 use std::sync::Wait;
 use std::thread::{Threads, available_parallelism};
 
-// A later wave of fewer cells is worked by the caller alone: to begin other workers costs more than they gain there.
+// A later wave of fewer cells with some work is worked by the caller alone: to begin other workers costs more than they gain there.
 const WIDE: u64 = 16_384;
 
 /// Works a wave to its end, or what is left of it, by the seat that has every part. The last turn is past the end, and by it the seat knows
@@ -72,7 +72,45 @@ pub fn dense_front(alloc: Global, graph: &Graph, bound: u64) -> Result<DenseFron
     Ok(table.close(seat))
 }
 
-// Works the next wave: the first one by all workers, and a later one by all where it is wide, else by the caller. A worker is the caller.
+// How many edges the graph has.
+fn edge_count(table: &WaveTable) -> u64
+    ensures { result ≤ 96 * 2 ^ 32 }
+{
+    let mut count = 0;
+    'vertices: for v in 0..table.plan.graph.vertex_count() {
+        count += table.plan.graph.out_degree(v) as u64;
+    }
+    count
+}
+
+// Whether so many cells of a wave may have some work. A walk that ends in it has no more edges than there are waves before it, and no more
+// cells have some work than there are such walks, which is counted as if each vertex had equally many edges.
+fn has_walks(table: &WaveTable, wave: u32) -> bool {
+    let vertices = table.plan.graph.vertex_count() as u64;
+    let edges = edge_count(table);
+    let mut walks = vertices;
+    'edges: for _edge in 0..wave {
+        if walks >= WIDE {
+            return true;
+        }
+        walks = vertices + walks * edges / vertices;
+    }
+    walks >= WIDE
+}
+
+// Whether all workers work a wave. Where the gate may wait for another worker they work the first wave and each one of many cells, else
+// each one of many cells with some work.
+fn is_shared<G: Gate>(table: &WaveTable, wave: u32, workers: u32, gate: &G) -> bool
+    requires { wave < (net_of table.now.plan).waves }
+{
+    let is_wide = table.wave_size(wave) >= WIDE;
+    if gate.alone() == 0 {
+        return wave == 0 || is_wide;
+    }
+    workers > 1 && is_wide && has_walks(table, wave)
+}
+
+// Works the next wave, by all workers or by the caller.
 fn next_wave<G: Gate, R: Threads + Wait + Sync>(
     rt: &R,
     alloc: Global,
@@ -91,12 +129,11 @@ fn next_wave<G: Gate, R: Threads + Wait + Sync>(
     ensures on { GoesOn seat.old.me seat.new.me }
     ensures worked { IfOk result (λ u. HasWorked table.now.plan wave seat.new.me) }
 {
-    let is_first = wave == 0;
-    if workers == 1 || (!is_first && table.wave_size(wave) < WIDE) {
+    if !is_shared(table, wave, workers, gate) {
         work_wave(table, seat, wave);
         return Ok(());
     }
-    let gate = BlockGate { gate, is_first };
+    let gate = WaveGate { gate };
     share_wave(rt, alloc, table, seat, wave, workers, &gate)
 }
 
@@ -124,8 +161,8 @@ fn share_all<G: Gate, R: Threads + Wait + Sync>(
     Ok(())
 }
 
-// How many of the workers share waves: no more than there are processors, or all where the gate may wait for another worker. A table whose
-// waves are narrow asks for no processors, since no later wave of it is shared.
+// How many workers share waves: no more than there are processors, or all where the gate may wait for another worker. Nor is it asked how
+// many processors there are where no wave is shared.
 fn worker_limit<G: Gate, R: Threads>(rt: &R, table: &WaveTable, workers: u32, gate: &G) -> u32
     requires { (1 ≤ workers) × (workers ≤ 16) }
     ensures { (1 ≤ result) × (result ≤ workers) }

@@ -5,8 +5,7 @@ ghost use Rattle.drt_wave.specs.Cells.{net_of};
 ghost use Rattle.drt_wave.specs.Seats.{IsPast};
 ghost use Rattle.drt_wave.specs.Shifts.{IsAtWork, IsWorkers, AreDealt, GoesOn, HasWorked};
 
-use crate::drawing::{ROW, turn_some};
-use crate::expanding::BLOCK;
+use crate::drawing::turn_some;
 use crate::filling::work_wave;
 use crate::table::{WaveSeat, WaveTable};
 use drt_model::Memory;
@@ -37,25 +36,19 @@ impl Work for Shift<'_> {
     }
 }
 
-/// The gate of a wave. A turn here expands some blocks of cells, so the caller has fewer turns alone than the gate leaves it. In a later wave
-/// it has none: all workers begin at once.
+/// The gate of a shared wave, in which the caller has no turn alone: all workers begin at once.
 #[derive(Drop)]
-pub(crate) struct BlockGate<'a, G: Gate> {
+pub(crate) struct WaveGate<'a, G: Gate> {
     pub(crate) gate: &'a G,
-    pub(crate) is_first: bool,
 }
 
-impl<G: Gate> Gate for BlockGate<'_, G> {
+impl<G: Gate> Gate for WaveGate<'_, G> {
     fn before(&self, worker: u32, turn: u64) {
         self.gate.before(worker, turn);
     }
 
     fn alone(&self) -> u64 {
-        let turns = self.gate.alone();
-        if turns == 0 || !self.is_first {
-            return 0;
-        }
-        (turns / (BLOCK * ROW as u64)).max(1)
+        0
     }
 }
 
