@@ -17,7 +17,7 @@ use std::alloc::Global;
 use std::sync::Wait;
 use std::thread::{Threads, available_parallelism};
 
-// A later wave of fewer cells with some work is worked by the caller alone: to begin other workers costs more than they gain there.
+// A wave of fewer cells with some work is worked by the caller alone: to begin other workers costs more than they gain there.
 const WIDE: u64 = 16_384;
 
 /// Works a wave to its end, or what is left of it, by the seat that has every part. The last turn is past the end, and by it the seat knows
@@ -83,8 +83,8 @@ fn edge_count(table: &WaveTable) -> u64
     count
 }
 
-// Whether so many cells of a wave may have some work. A walk that ends in it has no more edges than there are waves before it, and no more
-// cells have some work than there are such walks, which is counted as if each vertex had equally many edges.
+// Whether as many cells of a wave as make it wide may have some work. A walk that ends in it has no more edges than there are waves before
+// it, and no more cells have some work than there are such walks. They are counted as if each vertex had equally many edges.
 fn has_walks(table: &WaveTable, wave: u32) -> bool {
     let vertices = table.plan.graph.vertex_count() as u64;
     let edges = edge_count(table);
@@ -161,8 +161,8 @@ fn share_all<G: Gate, R: Threads + Wait + Sync>(
     Ok(())
 }
 
-// How many workers share waves: no more than there are processors, or all where the gate may wait for another worker. Nor is it asked how
-// many processors there are where no wave is shared.
+// How many workers share waves: no more than there are processors, or all where the gate may wait for another worker. How many processors
+// there are is asked once, and not at all where no wave is wide.
 fn worker_limit<G: Gate, R: Threads>(rt: &R, table: &WaveTable, workers: u32, gate: &G) -> u32
     requires { (1 ≤ workers) × (workers ≤ 16) }
     ensures { (1 ≤ result) × (result ≤ workers) }
