@@ -310,13 +310,16 @@ fn end_combination(
     ensures { IfOk result (λ some. IfSome some (AreEndOf forest.now wcet deadline nodes.now)) }
 {
     let mut items = Vec::new(alloc);
+    let mut spare = Vec::new(alloc);
     let mut stack = Vec::new(alloc);
     stack.push(Row::from_vec(Vec::from_slice(alloc, nodes)?))?;
     for _ in 0..race.most() {
         let Some(top) = stack.pop() else {
             return Ok(Some(Row::from_vec(items)));
         };
-        match take_next(alloc, forest, top, wcet, deadline, &mut stack)? {
+        match take_next(
+            alloc, forest, top, wcet, deadline, &mut stack, &mut spare,
+        )? {
             Some(item) => items.push(item)?,
             None => return Ok(None),
         }
@@ -328,7 +331,7 @@ fn end_combination(
 }
 
 // The item of a combination: the least time that passes, or the widest place where none does. Then its halves come on the stack, the
-// left one on top. None where it fails.
+// left one on top; the row of one that passes is spare then. None where it fails.
 fn take_next(
     alloc: Global,
     forest: &Forest,
@@ -336,6 +339,7 @@ fn take_next(
     wcet: u32,
     deadline: u32,
     stack: &mut Vec<Row<u32>>,
+    spare: &mut Vec<Row<u32>>,
 ) -> Result<Option<Item>, Memory>
     requires can { CanEnd forest.now wcet deadline nodes }
     requires wcet { wcet ≤ 1000000 }
@@ -344,6 +348,7 @@ fn take_next(
 {
     let combination = nodes.as_slice();
     if let Some(time) = least_time(wcet as u64, deadline as u64, forest.all(), combination) {
+        spare.push(nodes)?;
         return Ok(Some(Item::Pass(time)));
     }
     let Some(place) = choose_place(forest, combination) else {
@@ -353,12 +358,25 @@ fn take_next(
     match forest.children(node) {
         None => unreachable!(),
         Some((left, right)) => {
-            let other = Row::from_vec(Vec::from_slice(alloc, combination)?);
+            let other = copy_of(alloc, combination, spare)?;
             stack.push(with_node(other, place, right))?;
             stack.push(with_node(nodes, place, left))?;
             Ok(Some(Item::Split(place)))
         }
     }
+}
+
+// The nodes again, in the room of a spare row where there is one.
+fn copy_of(alloc: Global, nodes: &[u32], spare: &mut Vec<Row<u32>>) -> Result<Row<u32>, Memory>
+    ensures { IfOk result (λ row. row ≡ nodes.now) }
+{
+    let mut copy = match spare.pop() {
+        None => Vec::new(alloc),
+        Some(row) => row.into_vec(),
+    };
+    copy.clear();
+    copy.extend_from_slice(nodes)?;
+    Ok(Row::from_vec(copy))
 }
 
 // The nodes with another one at a place.
