@@ -16,6 +16,7 @@ pub mod FirstVertices
 pub mod Visits
 pub mod Joining
 pub mod Attempted
+pub mod Joined
 pub mod ItemLists
 pub mod VertexProofs
 pub mod RequestWalks

@@ -10,5 +10,6 @@ pub mod Chosen
 pub mod Vertices
 pub mod Parts
 pub mod Attempts
+pub mod Joints
 pub mod Progress
 pub mod Grown

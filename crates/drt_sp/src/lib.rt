@@ -12,6 +12,7 @@ mod answer;
 mod attempts;
 mod deadlines;
 mod grown;
+mod joints;
 pub mod laws;
 mod order;
 mod parts;

@@ -1,27 +1,22 @@
 //! The vertices of a task, proved by several workers: each ends combinations of its own.
-ghost use Rattle.std.specs.Prelude.{[], ◌≡◌, ◌≤◌, ◌<◌, ◌++◌, ℕ, true, All, IfOk, IfSome, OnOk, List, None, Some, length, slice_get, slice_set};
-ghost use Rattle.drt_evidence.specs.Ranges.{IsCounted};
-ghost use Rattle.drt_evidence.specs.declared.evidence.Item.{Item};
+ghost use Rattle.std.specs.Prelude.{[], ◌≡◌, ◌≤◌, ◌<◌, ℕ, All, IfOk, IfSome, OnOk, None, length, slice_set};
 ghost use Rattle.drt_model.specs.Digraph.{vertex_count};
 ghost use Rattle.drt_model.specs.Walk.{deadline};
-ghost use Rattle.drt_refine.specs.Eager.{IsEager};
-ghost use Rattle.drt_refine.specs.View.{IsFrontier, setting_of};
 ghost use Rattle.drt_sp.specs.Attempts.{AreGiven, AreTables, AreWith, CanBeEnded, HaveParts, IsJob, IsPartOf};
-ghost use Rattle.drt_sp.specs.Parts.{AreAddedFor, AreEndOf, CanEnd, HasParts, IsNextItem};
+ghost use Rattle.drt_sp.specs.Parts.{AreEndOf, CanEnd, IsNextItem};
 ghost use Rattle.drt_sp.specs.declared.proving.VertexProof.TheVariants.{Passes as PassesBy};
 ghost use Rattle.drt_steps.specs.Time.{AreChosen};
 ghost use Rattle.drt_tree.specs.Tree.{Plain};
 
 use crate::attempts::{Attempt, Attempts, attempt_vertices};
+use crate::joints::{Joint, join_all};
 use crate::proving::VertexProof;
 use crate::race::Race;
 use drt_evidence::Item;
 use drt_graph::Graph;
 use drt_model::{Memory, Row};
 use drt_pool::Gate;
-use drt_refine::{
-    CombinationState, Frontier, choose_place, eager_settles, over_every_interleaving,
-};
+use drt_refine::{CombinationState, choose_place, over_every_interleaving};
 use drt_steps::least_time;
 use drt_tree::{Forest, every_forest};
 use std::alloc::Global;
@@ -109,11 +104,24 @@ pub(crate) fn prove_by_parts<G: Gate, R: Threads + Wait + Sync>(
     } = attempts;
     let hard = hard.saturating_add(spent.len());
     let mut tables = end_attempts(rt, alloc, forest, spent.as_slice(), workers, budget)?;
+    let mut joints = Vec::with_capacity(alloc, spent.len())?;
     while let Some(attempt) = spent.pop() {
         let Some(parts) = tables.pop() else {
             unreachable!();
         };
-        if let Some(items) = join_parts(alloc, forest, &attempt.frontier, parts, budget)? {
+        joints.push(Joint::of(attempt, parts))?;
+    }
+    join_all(
+        rt,
+        alloc,
+        forest,
+        joints.as_mut_slice(),
+        workers,
+        budget,
+    );
+    while let Some(joint) = joints.pop() {
+        let Joint { attempt, items, .. } = joint;
+        if let Some(items) = items? {
             put_proof(attempt.vertex, items, &mut proofs);
         }
     }
@@ -213,9 +221,9 @@ fn share<R: Threads + Wait + Sync>(
     thread::map_indices(rt, alloc, worker_limit(rt, jobs.len(), workers), &worker)
 }
 
-// How many workers are begun for so many combinations.
-fn worker_limit<R: Threads>(rt: &R, combinations: usize, workers: u32) -> usize {
-    let most = combinations.min(workers as usize);
+/// How many workers are begun for so many pieces of work.
+pub(crate) fn worker_limit<R: Threads>(rt: &R, pieces: usize, workers: u32) -> usize {
+    let most = pieces.min(workers as usize);
     match available_parallelism(rt) {
         Ok(processors) => most.min(processors.get()),
         Err(_) => most.min(1),
@@ -302,13 +310,16 @@ fn end_combination(
     ensures { IfOk result (λ some. IfSome some (AreEndOf forest.now wcet deadline nodes.now)) }
 {
     let mut items = Vec::new(alloc);
+    let mut spare = Vec::new(alloc);
     let mut stack = Vec::new(alloc);
     stack.push(Row::from_vec(Vec::from_slice(alloc, nodes)?))?;
     for _ in 0..race.most() {
         let Some(top) = stack.pop() else {
             return Ok(Some(Row::from_vec(items)));
         };
-        match take_next(alloc, forest, top, wcet, deadline, &mut stack)? {
+        match take_next(
+            alloc, forest, top, wcet, deadline, &mut stack, &mut spare,
+        )? {
             Some(item) => items.push(item)?,
             None => return Ok(None),
         }
@@ -320,7 +331,7 @@ fn end_combination(
 }
 
 // The item of a combination: the least time that passes, or the widest place where none does. Then its halves come on the stack, the
-// left one on top. None where it fails.
+// left one on top; the row of one that passes is spare then. None where it fails.
 fn take_next(
     alloc: Global,
     forest: &Forest,
@@ -328,6 +339,7 @@ fn take_next(
     wcet: u32,
     deadline: u32,
     stack: &mut Vec<Row<u32>>,
+    spare: &mut Vec<Row<u32>>,
 ) -> Result<Option<Item>, Memory>
     requires can { CanEnd forest.now wcet deadline nodes }
     requires wcet { wcet ≤ 1000000 }
@@ -336,6 +348,7 @@ fn take_next(
 {
     let combination = nodes.as_slice();
     if let Some(time) = least_time(wcet as u64, deadline as u64, forest.all(), combination) {
+        spare.push(nodes)?;
         return Ok(Some(Item::Pass(time)));
     }
     let Some(place) = choose_place(forest, combination) else {
@@ -345,12 +358,25 @@ fn take_next(
     match forest.children(node) {
         None => unreachable!(),
         Some((left, right)) => {
-            let other = Row::from_vec(Vec::from_slice(alloc, combination)?);
+            let other = copy_of(alloc, combination, spare)?;
             stack.push(with_node(other, place, right))?;
             stack.push(with_node(nodes, place, left))?;
             Ok(Some(Item::Split(place)))
         }
     }
+}
+
+// The nodes again, in the room of a spare row where there is one.
+fn copy_of(alloc: Global, nodes: &[u32], spare: &mut Vec<Row<u32>>) -> Result<Row<u32>, Memory>
+    ensures { IfOk result (λ row. row ≡ nodes.now) }
+{
+    let mut copy = match spare.pop() {
+        None => Vec::new(alloc),
+        Some(row) => row.into_vec(),
+    };
+    copy.clear();
+    copy.extend_from_slice(nodes)?;
+    Ok(Row::from_vec(copy))
 }
 
 // The nodes with another one at a place.
@@ -429,115 +455,4 @@ fn put(forest: &Forest, spent: &[Attempt], part: Part, tables: &mut Vec<Vec<Opti
     let Part { place, id, items } = part;
     let table = &mut tables[place];
     table[id as usize] = Some(items);
-}
-
-// The items of all combinations in order, from the first one on. None where a part is wanting, or one frontier doesn't make them within the
-// budget.
-fn join_parts(
-    alloc: Global,
-    forest: &Forest,
-    frontier: &Frontier,
-    mut parts: Vec<Option<Row<Item>>>,
-    budget: u64,
-) -> Result<Option<Row<Item>>, Memory>
-    requires frontier { IsFrontier forest.now frontier.now }
-    requires eager { IsEager (setting_of forest.now frontier.now) frontier.now.log }
-    requires deadline { frontier.now.deadline ≤ 1000000 }
-    requires parts { HasParts forest.now frontier.now.wcet frontier.now.deadline frontier.now.combinations parts.items }
-    requires budget { budget ≤ 1000000 }
-    ensures { IfOk result (λ some. IfSome some (λ items. AreEndOf forest.now frontier.now.wcet frontier.now.deadline frontier.now.roots items × IsCounted items)) }
-{
-    eager_settles();
-    let mut items = Vec::with_capacity(alloc, room_for(parts.as_slice()))?;
-    let mut stack = Vec::new(alloc);
-    stack.push(0)?;
-    for _ in 0..=frontier.count() {
-        let Some(id) = stack.pop() else {
-            return Ok(within_budget(items, budget));
-        };
-        if !add_items(forest, frontier, id, &mut parts, &mut stack, &mut items)? {
-            return Ok(None);
-        }
-    }
-    Ok(None)
-}
-
-// How many items there are at most: an item for each combination, and the parts.
-fn room_for(parts: &[Option<Row<Item>>]) -> usize {
-    let mut room = parts.len();
-    for part in parts {
-        if let Some(items) = part {
-            room = room.saturating_add(items.as_slice().len());
-        }
-    }
-    room
-}
-
-// The items, where one frontier makes them within the budget, by two steps each.
-fn within_budget(items: Vec<Item>, budget: u64) -> Option<Row<Item>>
-    requires { budget ≤ 1000000 }
-    ensures { IfSome result (λ row. (row ≡ items.items) × IsCounted row) }
-{
-    if 2 * items.len() as u64 > budget {
-        return None;
-    }
-    Some(Row::from_vec(items))
-}
-
-// Adds the items of a combination: its own where it passed or was split, and then its halves come on the stack, the left one on top;
-// its part where it is open. False where there is no part of it.
-fn add_items(
-    forest: &Forest,
-    frontier: &Frontier,
-    id: u32,
-    parts: &mut Vec<Option<Row<Item>>>,
-    stack: &mut Vec<u32>,
-    items: &mut Vec<Item>,
-) -> Result<bool, Memory>
-    requires within { id < length frontier.now.combinations }
-    requires parts { HasParts forest.now frontier.now.wcet frontier.now.deadline frontier.now.combinations parts.old.items }
-    ensures parts { HasParts forest.now frontier.now.wcet frontier.now.deadline frontier.now.combinations parts.new.items }
-    ensures added { IfOk result (λ is. is ≡ true → AreAddedFor forest.now frontier.now id items.old.items items.new.items stack.old.items stack.new.items) }
-{
-    match frontier.state(id) {
-        CombinationState::Passed(time) => items.push(Item::Pass(time))?,
-        CombinationState::Split { place, left, right } => {
-            stack.push(right)?;
-            stack.push(left)?;
-            items.push(Item::Split(place))?;
-        }
-        CombinationState::Pending => return add_part(id, parts, items),
-        CombinationState::Taken(_) => return add_part(id, parts, items),
-        CombinationState::Failed => return Ok(false),
-    }
-    Ok(true)
-}
-
-// Adds the part of a combination, if there is one.
-fn add_part(
-    id: u32,
-    parts: &mut Vec<Option<Row<Item>>>,
-    items: &mut Vec<Item>,
-) -> Result<bool, Memory>
-    ensures left { (k : ℕ) (part : List Item) → slice_get parts.new.items k ≡ Some (Some part) → slice_get parts.old.items k ≡ Some (Some part) }
-    ensures count { length parts.new.items ≡ length parts.old.items }
-    ensures added { IfOk result (λ is. is ≡ true → (part : List Item) × (slice_get parts.old.items id ≡ Some (Some part)) × (items.new.items ≡ items.old.items ++ part)) }
-{
-    let Some(part) = take_at(id, parts) else {
-        return Ok(false);
-    };
-    items.extend_from_slice(part.as_slice())?;
-    Ok(true)
-}
-
-/// Takes what is at a place, if there is something.
-pub(crate) fn take_at<T>(place: u32, places: &mut Vec<Option<T>>) -> Option<T>
-    ensures taken { (item : T) → result ≡ Some item → slice_get places.old.items place ≡ Some (Some item) }
-    ensures left { (k : ℕ) (item : T) → slice_get places.new.items k ≡ Some (Some item) → slice_get places.old.items k ≡ Some (Some item) }
-    ensures count { length places.new.items ≡ length places.old.items }
-{
-    match places.get_mut(place as usize) {
-        None => None,
-        Some(item) => item.take(),
-    }
 }

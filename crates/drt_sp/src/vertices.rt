@@ -7,7 +7,8 @@ ghost use Rattle.drt_sp.specs.Attempts.{AreGiven};
 ghost use Rattle.drt_sp.specs.Items.{IsVertexProof};
 ghost use Rattle.drt_sp.specs.Vertices.{IsOutcome};
 
-use crate::parts::{Ahead, prove_by_parts, take_at};
+use crate::joints::take_at;
+use crate::parts::{Ahead, prove_by_parts};
 use crate::proving::{VertexProof, prove_vertex};
 use drt_evidence::ProofClaim;
 use drt_graph::Graph;

@@ -43,7 +43,7 @@ pub with_node-requires : goal.with_node-requires
 with_node-requires c =
     let w = c.in-Some-choose_place.ensures.0 in
     let lt = slice_get_within c.as_slice-combination.result.now c.in-Some-choose_place.place w.node w.at in
-    let same : length c.from_vec-other.result ≡ length c.as_slice-combination.result.now = ap length c.from_vec-other.ensures ∙ ap length c.in_ok-from_slice-in-Some-children.ensures.items in
+    let same : length c.in_ok-other-in-Some-children.other ≡ length c.as_slice-combination.result.now = ap length c.in_ok-other-in-Some-children.ensures in
     omega arith
 
 pub with_node-requires-in-Some-children : goal.with_node-requires-in-Some-children
@@ -65,10 +65,10 @@ returns c =
     let within : place < length nodes = slice_get_within nodes place h.0.node h.0.at in
     let pair : children f h.0.node ≡ Some (c.in-Some-children.left, c.in-Some-children.right) = ap (λ (n : ℕ). children f n) (sym e) ∙ sym c.in-Some-children.ensures.value in
     let hopeless = rw same at (rw c.all.ensures.value at (rw c.in_default.is at c.least_time.ensures)) in
-    let copy : c.from_vec-other.result ≡ nodes = c.from_vec-other.ensures ∙ (c.in_ok-from_slice-in-Some-children.ensures.items ∙ same) in
+    let copy : c.in_ok-other-in-Some-children.other ≡ nodes = c.in_ok-other-in-Some-children.ensures ∙ same in
     let high : c.with_node.result ≡ slice_set nodes place c.in-Some-children.right = c.with_node.ensures ∙ ap (λ (l : List ℕ). slice_set l place c.in-Some-children.right) copy in
     let right = c.in_ok-push-in-Some-children.ensures.items ∙ ap (λ (x : List ℕ). c.args.stack.now.items ++ x ∷ []) high in
-    let left = c.in_ok-push-in-Some-children-2.ensures.items ∙ ap (λ (x : List ℕ). c.push.new.self.items ++ x ∷ []) c.with_node-in-Some-children.ensures in
+    let left = c.in_ok-push-in-Some-children-2.ensures.items ∙ ap (λ (x : List ℕ). c.push-in-Some-children.new.self.items ++ x ∷ []) c.with_node-in-Some-children.ensures in
     let stack = left ∙ ap (λ (l : List (List ℕ)). l ++ slice_set nodes place c.in-Some-children.left ∷ []) right in
-    next_split f c.args.wcet c.args.deadline nodes place h.0.node c.in-Some-children.left c.in-Some-children.right c.args.stack.now.items c.push-in-Some-children.new.self.items
+    next_split f c.args.wcet c.args.deadline nodes place h.0.node c.in-Some-children.left c.in-Some-children.right c.args.stack.now.items c.push-in-Some-children-2.new.self.items
     c.all.ensures.forest c.requires.can hopeless h h.0.at pair (omega (arith, within, c.requires.can.few)) stack

@@ -1,5 +1,5 @@
 use Rattle.std.proofs.Common.{◌∙◌}
-use Rattle.drt_sp.proofs.parts.add_items.Goals as goal
+use Rattle.drt_sp.proofs.joints.add_items.Goals as goal
 
 pub returns-in-Pending-clause-parts : goal.returns-in-Pending-clause-parts
 returns-in-Pending-clause-parts c = record {

@@ -1,5 +1,5 @@
 -- The items so far, and whatever ends the stack, end the roots.
-use Rattle.std.proofs.Common.{◌≡◌, ℕ, ◌<◌, List, [], ◌∷◌, ◌++◌, All, Some, length, sym, ap, subst, arith, ◌∙◌}
+use Rattle.std.proofs.Common.{◌≡◌, ℕ, ◌<◌, List, [], ◌∷◌, ◌++◌, All, Option, Some, length, sym, ap, subst, arith, ◌∙◌}
 use Rattle.std.specs.Prelude.{slice_get}
 use Rattle.std.proofs.lemmas.List.Elements.{All-pop, All-cons, All-nil}
 use Rattle.std.proofs.lemmas.Option.{slice_get_within}
@@ -10,10 +10,11 @@ use Rattle.drt_refine.specs.Machine.{State}
 use Rattle.drt_refine.specs.Settled.{AreSettled}
 use Rattle.drt_refine.specs.View.{setting_of}
 use Rattle.std.proofs.lemmas.Option.{IfSome_then}
-use Rattle.drt_sp.specs.Parts.{AreAdded, AreEndOf}
+use Rattle.drt_sp.specs.Parts.{AreAdded, AreEndOf, HasParts}
 use Rattle.drt_sp.proofs.Joining.{empty_of}
 use Rattle.drt_sp.proofs.ItemLists.{IsRead, read_end, read_more, read_start, within_more}
-use Rattle.drt_sp.proofs.parts.join_parts.Goals as goal
+use Rattle.drt_sp.proofs.joints.join_parts.Goals.{else-loop-test, then-loop-test+in-Some+in_ok-add_items+else-not-branch+else-counter-end}
+use Rattle.drt_sp.proofs.joints.join_parts.Goals as goal
 
 pub loop-init : goal.loop-init
 loop-init c =
@@ -31,8 +32,20 @@ loop-init c =
       parts = c.requires.parts;
     }
 
-pub returns-in_default : goal.returns-in_default
-returns-in_default c =
+pub returns-clause-parts : goal.returns-clause-parts
+returns-clause-parts c =
+    let v = c.args.frontier.now in
+    let Have : List (Option (List Item)) → Type 0 = HasParts c.args.forest.now v.wcet v.deadline v.combinations in
+    elim c.loop-test.branch as (λ _. Have c.loop-test.parts.items) [
+      | else-loop-test w ↦ rw w.parts-is c.loop.invariant.parts
+      | then-loop-test+in-Some+in_ok-add_items+else-not-branch+else-counter-end w ↦ rw w.parts-is w.add_items.ensures.parts
+    ]
+
+pub returns-in_default-clause-parts : goal.returns-in_default-clause-parts
+returns-in_default-clause-parts c = c.loop.invariant.parts
+
+pub returns-in_default-clause-items : goal.returns-in_default-clause-items
+returns-in_default-clause-items c =
     let f = c.args.forest.now in
     let t = setting_of f c.args.frontier.now in
     let cs = c.args.frontier.now.combinations in

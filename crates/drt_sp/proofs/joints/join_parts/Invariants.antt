@@ -2,7 +2,7 @@
 use Rattle.std.proofs.Common.{◌<◌, All, length}
 use Rattle.drt_sp.specs.Parts.{HasParts}
 use Rattle.drt_sp.proofs.ItemLists.{IsRead}
-use Rattle.drt_sp.proofs.parts.join_parts.Given as goal
+use Rattle.drt_sp.proofs.joints.join_parts.Given as goal
 
 abbrev pub invariant-loop : goal.invariant-loop
 invariant-loop l = record {

@@ -1,0 +1,22 @@
+-- Attempts whose parts are put together.
+use Rattle.std.specs.Prelude.{◌≡◌, ℕ, ◌<◌, ◌≤◌, List, length, slice_index_or, IfOk, IfSome}
+use Rattle.drt_evidence.specs.Ranges.{IsCounted}
+use Rattle.drt_refine.specs.Eager.{IsEager}
+use Rattle.drt_refine.specs.View.{IsFrontier, setting_of}
+use Rattle.drt_sp.specs.Parts.{AreEndOf, HasParts}
+use Rattle.drt_sp.specs.declared.joints.Joint.{Joint}
+use Rattle.drt_tree.specs.Tree.{Plain}
+
+module _ (f : Plain) where
+  -- The parts, where there are some, end combinations of the attempt's frontier, and the items, where there are some, end its roots.
+  pub record IsJoint (j : Joint) : Type 0 where
+    pub frontier : IsFrontier f j.attempt.frontier
+    pub eager : IsEager (setting_of f j.attempt.frontier) j.attempt.frontier.log
+    pub deadline : j.attempt.frontier.deadline ≤ 1000000
+    pub parts : HasParts f j.attempt.frontier.wcet j.attempt.frontier.deadline j.attempt.frontier.combinations j.parts.items
+    pub items : IfOk j.items (λ some. IfSome some (λ items. AreEndOf f j.attempt.frontier.wcet j.attempt.frontier.deadline j.attempt.frontier.roots items × IsCounted items))
+
+-- There are as many, and the attempt at each place is the same.
+pub record KeepAttempts (old new : List Joint) : Type 0 where
+  pub count : length new ≡ length old
+  pub same : (i : ℕ) (d : Joint) → i < length old → (slice_index_or new i d).attempt ≡ (slice_index_or old i d).attempt
