@@ -111,14 +111,7 @@ pub(crate) fn prove_by_parts<G: Gate, R: Threads + Wait + Sync>(
         };
         joints.push(Joint::of(attempt, parts))?;
     }
-    join_all(
-        rt,
-        alloc,
-        forest,
-        joints.as_mut_slice(),
-        workers,
-        budget,
-    );
+    join_all(rt, alloc, forest, joints.as_mut_slice(), workers, budget);
     while let Some(joint) = joints.pop() {
         let Joint { attempt, items, .. } = joint;
         if let Some(items) = items? {
@@ -317,9 +310,7 @@ fn end_combination(
         let Some(top) = stack.pop() else {
             return Ok(Some(Row::from_vec(items)));
         };
-        match take_next(
-            alloc, forest, top, wcet, deadline, &mut stack, &mut spare,
-        )? {
+        match take_next(alloc, forest, top, wcet, deadline, &mut stack, &mut spare)? {
             Some(item) => items.push(item)?,
             None => return Ok(None),
         }

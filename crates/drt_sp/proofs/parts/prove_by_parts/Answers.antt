@@ -24,7 +24,6 @@ end_attempts-requires-after_bounds g c κs within =
     let can : (a : Attempt) → Is a → CanBeEnded f a = λ a is. can_be_ended f c.args.roots.now c.args.graph.now few a is c.over_every_interleaving.ensures.facts in
     subst (λ (l : List Attempt). All (CanBeEnded f) l) (sym c.as_slice.ensures.value) (All-weaker Is (CanBeEnded f) can c.in_ok-attempts.attempts.spent.items c.in_ok-attempts.ensures.spent)
 
-
 pub loop-attempt-preserved : goal.loop-attempt-preserved
 loop-attempt-preserved g c =
     let f = c.args.forest.now in
