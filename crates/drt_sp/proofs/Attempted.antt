@@ -56,12 +56,12 @@ module _ (f : Plain) (roots : List ℕ) (g : Digraph) where
   ]
 
   -- What is known after the attempts at the first n vertices.
-  pub record AreAttempted (few n : ℕ) (proofs : List (Option VertexProof)) (spent : List Attempt) : Type 0 where
+  pub record AreAttempted (n : ℕ) (proofs : List (Option VertexProof)) (spent : List Attempt) : Type 0 where
     pub count : length proofs ≡ n
     pub given : AreGiven f roots g proofs
-    pub each : All (IsAttempt f roots g few) spent
+    pub each : All (IsAttempt f roots g) spent
 
-  module _ (few n : ℕ) (proofs : List (Option VertexProof)) (spent : List Attempt) (h : AreAttempted few n proofs spent) where
+  module _ (n : ℕ) (proofs : List (Option VertexProof)) (spent : List Attempt) (h : AreAttempted n proofs spent) where
     longer : (one : Option VertexProof) → length (proofs ++ one ∷ []) ≡ n + 1
     longer one = let e : length (proofs ++ one ∷ []) ≡ length proofs + 1 = length_join proofs (one ∷ []) in omega (arith, h.count)
 
@@ -70,20 +70,20 @@ module _ (f : Plain) (roots : List ℕ) (g : Digraph) where
         subst (λ (p : VertexProof). IsFound (length proofs) p) (same_Some proof other same) (subst (λ (k : ℕ). IsFound k proof) (sym h.count) is))
 
     pub attempt_passes : (items : List Item) → IsProofOf f (wcet g n) (deadline g n) roots items → All IsInRangeItem items → IsCounted items
-        → AreAttempted few (n + 1) (proofs ++ Some (PassesBy items) ∷ []) spent
+        → AreAttempted (n + 1) (proofs ++ Some (PassesBy items) ∷ []) spent
     attempt_passes items is each counted = record { count = longer (Some (PassesBy items)); given = found (PassesBy items) (λ budget. (is, each, counted)); each = h.each }
 
     pub attempt_fails : (tuple : List ℕ) → IsFailure f (wcet g n) (deadline g n) roots tuple → AreGiven f roots g (proofs ++ Some (FailsAt tuple) ∷ [])
     attempt_fails tuple is = found (FailsAt tuple) (λ budget. is)
 
-    pub attempt_spends : (a : Attempt) → IsAttempt f roots g few a → AreAttempted few (n + 1) (proofs ++ None ∷ []) (spent ++ a ∷ [])
+    pub attempt_spends : (a : Attempt) → IsAttempt f roots g a → AreAttempted (n + 1) (proofs ++ None ∷ []) (spent ++ a ∷ [])
     attempt_spends a is = record {
       count = longer None;
       given = given_push proofs None h.given (λ proof same. absurd (none-some proof same));
-      each = All-push (IsAttempt f roots g few) spent a h.each is;
+      each = All-push (IsAttempt f roots g) spent a h.each is;
     }
 
-  module _ (few : ℕ) (a : Attempt) (h : IsAttempt f roots g few a) where
+  module _ (a : Attempt) (h : IsAttempt f roots g a) where
     roots_are : a.frontier.roots ≡ roots
     roots_are = ap (λ (t : Setting). t.roots) h.spent.setting
 
@@ -174,17 +174,17 @@ part_within f spent tables part table have is tat =
     omega (arith, has.count, (is.ends a.0 a.1).0)
 
 -- The last attempt with its table, and the others.
-pub record HasLast (f : Plain) (roots : List ℕ) (g : Digraph) (few : ℕ) (spent : List Attempt) (tables : List Table) (a : Attempt) (table : Table) : Type 0 where
-  pub each : All (IsAttempt f roots g few) spent
+pub record HasLast (f : Plain) (roots : List ℕ) (g : Digraph) (spent : List Attempt) (tables : List Table) (a : Attempt) (table : Table) : Type 0 where
+  pub each : All (IsAttempt f roots g) spent
   pub have : HaveParts f spent tables
-  pub attempt : IsAttempt f roots g few a
+  pub attempt : IsAttempt f roots g a
   pub parts : HasParts f a.frontier.wcet a.frontier.deadline a.frontier.combinations table.items
 
-pub last_of : (f : Plain) (roots : List ℕ) (g : Digraph) (few : ℕ) (all spent : List Attempt) (both tables : List Table) (a : Attempt) (table : Table)
-    → all ≡ spent ++ a ∷ [] → both ≡ tables ++ table ∷ [] → All (IsAttempt f roots g few) all → HaveParts f all both → HasLast f roots g few spent tables a table
-last_of f roots g few all spent both tables a table same tables_same each have =
-    let two : All (IsAttempt f roots g few) spent × IsAttempt f roots g few a = All-pop (IsAttempt f roots g few) all spent (Some a) same each in
+pub last_of : (f : Plain) (roots : List ℕ) (g : Digraph) (all spent : List Attempt) (both tables : List Table) (a : Attempt) (table : Table)
+    → all ≡ spent ++ a ∷ [] → both ≡ tables ++ table ∷ [] → All (IsAttempt f roots g) all → HaveParts f all both → HasLast f roots g spent tables a table
+last_of f roots g all spent both tables a table same tables_same each have =
+    let two : All (IsAttempt f roots g) spent × IsAttempt f roots g a = All-pop (IsAttempt f roots g) all spent (Some a) same each in
     let parted : HaveParts f (spent ++ a ∷ []) (tables ++ table ∷ []) =
     subst (λ (l : List Attempt). HaveParts f l (tables ++ table ∷ [])) same (subst (λ (l : List Table). HaveParts f all l) tables_same have) in
     let popped = tables_pop f spent tables a table parted in
-    record { each = two.0; have = popped.0; attempt = two.1; parts = own_parts f roots g few a two.1 table.items popped.1 }
+    record { each = two.0; have = popped.0; attempt = two.1; parts = own_parts f roots g a two.1 table.items popped.1 }

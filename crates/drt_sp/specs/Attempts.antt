@@ -14,15 +14,16 @@ use Rattle.drt_sp.specs.declared.parts.Part.{Part}
 use Rattle.drt_sp.specs.declared.proving.VertexProof.{VertexProof}
 
 module _ (f : Plain) (roots : List ℕ) (g : Digraph) where
-  -- The attempt at a vertex of the graph spent so many steps in a frontier of its job and these roots.
-  pub record IsAttempt (few : ℕ) (a : Attempt) : Type 0 where
+  -- The attempt at a vertex of the graph spent some number of steps in a frontier of its job and these roots.
+  pub record IsAttempt (a : Attempt) : Type 0 where
+    pub steps : ℕ
     pub vertex : a.vertex < vertex_count g
     pub wcet_is : a.wcet ≡ wcet g a.vertex
     pub deadline_is : a.deadline ≡ deadline g a.vertex
     pub wcet_small : a.wcet ≤ 1000000
     pub deadline_small : a.deadline ≤ 1000000
     pub few_roots : length roots ≤ 31
-    pub spent : IsSpentFrontier f a.wcet a.deadline roots few a.frontier
+    pub spent : IsSpentFrontier f a.wcet a.deadline roots steps a.frontier
 
   -- Where something is given for a vertex, it becomes that, whatever the budget.
   abbrev pub AreGiven : List (Option VertexProof) → Type 0

@@ -15,6 +15,9 @@ use std::alloc::Global;
 use std::sync::Wait;
 use std::thread::Threads;
 
+// How many times fewer steps the attempts have behind one that spent its steps.
+const FEWER: u64 = 4;
+
 /// An attempt at a vertex that spent its steps: the vertex, its wcet and deadline (in ticks), and the frontier that the steps made.
 #[derive(Drop)]
 pub(crate) struct Attempt {
@@ -32,8 +35,8 @@ pub(crate) struct Attempts {
     pub(crate) spent: Vec<Attempt>,
 }
 
-/// Refines the vertices of a task, by its graph, in file order from this one on, with so few steps each: what becomes of those before
-/// it is given. The first one that fails is the last. From the first one on whose steps are spent, which may yet fail, there are at most
+/// Refines the vertices of a task, by its graph, in file order from this one on, with so few steps each, and with fewer behind one that
+/// spent them: what becomes of those before it is given. The first one that fails is the last. From the first one on whose steps are spent, which may yet fail, there are at most
 /// `most`: those behind it may be attempted in vain.
 pub(crate) fn attempt_vertices<G: Gate, R: Threads + Wait + Sync>(
     rt: &R,
@@ -53,7 +56,7 @@ pub(crate) fn attempt_vertices<G: Gate, R: Threads + Wait + Sync>(
     requires given { AreGiven forest.now roots.now graph.now given.items }
     requires steps { (1 ≤ few) × (few ≤ 1000000) }
     ensures proofs { IfOk result (λ attempts. AreGiven forest.now roots.now graph.now attempts.proofs.items) }
-    ensures spent { IfOk result (λ attempts. All (IsAttempt forest.now roots.now graph.now few) attempts.spent.items) }
+    ensures spent { IfOk result (λ attempts. All (IsAttempt forest.now roots.now graph.now) attempts.spent.items) }
 {
     let mut proofs = given;
     let mut spent = Vec::new(alloc);
@@ -64,7 +67,8 @@ pub(crate) fn attempt_vertices<G: Gate, R: Threads + Wait + Sync>(
         }
         let subject = graph.vertex(vertex);
         let (wcet, deadline) = (subject.wcet, subject.deadline);
-        match refine_vertex(rt, alloc, forest, roots, wcet, deadline, 1, few, gate)? {
+        let steps = steps_of(few, spent.as_slice());
+        match refine_vertex(rt, alloc, forest, roots, wcet, deadline, 1, steps, gate)? {
             Refined::Passes(items) => proofs.push(Some(VertexProof::Passes(items)))?,
             Refined::Fails(tuple) => {
                 proofs.push(Some(VertexProof::Fails(tuple)))?;
@@ -83,6 +87,19 @@ pub(crate) fn attempt_vertices<G: Gate, R: Threads + Wait + Sync>(
         left = left_after(left, spent.as_slice());
     }
     Ok(Attempts { proofs, spent })
+}
+
+// How many steps the next attempt has: workers are begun for one that spent its steps, so the attempts behind it need only open
+// combinations for them.
+fn steps_of(few: u64, spent: &[Attempt]) -> u64
+    requires { 1 ≤ few }
+    ensures { (1 ≤ result) × (result ≤ few) }
+{
+    if spent.is_empty() {
+        few
+    } else {
+        (few / FEWER).max(1)
+    }
 }
 
 // How many vertices are left after one more: it counts where it, or one before it, spent its steps.

@@ -1,5 +1,5 @@
 -- The parts of the last attempt are put together.
-use Rattle.std.proofs.Common.{◌≡◌, List, All, rules, sym, subst}
+use Rattle.std.proofs.Common.{List, All, rules, sym, subst}
 use Rattle.std.specs.Prelude.{IfSome}
 use Rattle.std.proofs.lemmas.List.Elements.{All-push, All-weaker}
 use Rattle.std.proofs.lemmas.Result.{IfOk-at_ok}
@@ -19,9 +19,8 @@ use Rattle.drt_sp.proofs.parts.prove_by_parts.Goals as goal
 pub end_attempts-requires-after_bounds : goal.end_attempts-requires-after_bounds
 end_attempts-requires-after_bounds g c κs within =
     let f = c.args.forest.now in
-    let few = c.args.few in
-    let Is : Attempt → Type 0 = IsAttempt f c.args.roots.now c.args.graph.now few in
-    let can : (a : Attempt) → Is a → CanBeEnded f a = λ a is. can_be_ended f c.args.roots.now c.args.graph.now few a is c.over_every_interleaving.ensures.facts in
+    let Is : Attempt → Type 0 = IsAttempt f c.args.roots.now c.args.graph.now in
+    let can : (a : Attempt) → Is a → CanBeEnded f a = λ a is. can_be_ended f c.args.roots.now c.args.graph.now a is c.over_every_interleaving.ensures.facts in
     subst (λ (l : List Attempt). All (CanBeEnded f) l) (sym c.as_slice.ensures.value) (All-weaker Is (CanBeEnded f) can c.in_ok-attempts.attempts.spent.items c.in_ok-attempts.ensures.spent)
 
 pub loop-attempt-preserved : goal.loop-attempt-preserved
@@ -29,20 +28,19 @@ loop-attempt-preserved g c =
     let f = c.args.forest.now in
     let roots = c.args.roots.now in
     let graph = c.args.graph.now in
-    let few = c.args.few in
     let inv = c.loop-attempt.invariant in
     let joint = c.of.result in
-    let last = last_of f roots graph few c.loop-attempt.spent.items c.pop.new.self.items c.loop-attempt.tables.items c.pop-in-Some.new.self.items c.in-Some.attempt c.in-Some-pop.parts
+    let last = last_of f roots graph c.loop-attempt.spent.items c.pop.new.self.items c.loop-attempt.tables.items c.pop-in-Some.new.self.items c.in-Some.attempt c.in-Some-pop.parts
     c.in-Some.ensures.items c.in-Some-pop.ensures.items inv.each inv.tables in
     let is : IsJoint f joint
-    = joint_of f roots graph few c.in-Some.attempt c.in-Some-pop.parts joint last.attempt last.parts c.of.ensures.attempt c.of.ensures.parts c.of.ensures.items in
-    let own : IsAttempt f roots graph few joint.attempt = subst (IsAttempt f roots graph few) (sym c.of.ensures.attempt) last.attempt in
+    = joint_of f roots graph c.in-Some.attempt c.in-Some-pop.parts joint last.attempt last.parts c.of.ensures.attempt c.of.ensures.parts c.of.ensures.items in
+    let own : IsAttempt f roots graph joint.attempt = subst (IsAttempt f roots graph) (sym c.of.ensures.attempt) last.attempt in
     record {
       each = last.each;
       tables = last.have;
       joints = subst (All (IsJoint f)) (sym c.in_ok-push.ensures.items) (All-push (IsJoint f) c.loop-attempt.joints.items joint inv.joints is);
-      attempts = subst (AreAttempts f roots graph few) (sym c.in_ok-push.ensures.items)
-          (All-push (λ (j : Joint). IsAttempt f roots graph few j.attempt) c.loop-attempt.joints.items joint inv.attempts own);
+      attempts = subst (AreAttempts f roots graph) (sym c.in_ok-push.ensures.items)
+          (All-push (λ (j : Joint). IsAttempt f roots graph j.attempt) c.loop-attempt.joints.items joint inv.attempts own);
     }
 
 pub loop-joint-init : goal.loop-joint-init
@@ -50,14 +48,13 @@ loop-joint-init g c =
     let f = c.args.forest.now in
     let roots = c.args.roots.now in
     let graph = c.args.graph.now in
-    let few = c.args.few in
     let old = c.loop-attempt.joints.items in
     let new = c.join_all.new.joints in
     let whole = written_whole new old c.loop-attempt.joints.len (search rules) (search rules) in
-    let before : AreAttempts f roots graph few c.as_mut_slice.result.now = subst (AreAttempts f roots graph few) (sym c.as_mut_slice.ensures.value) c.loop-attempt.invariant.attempts in
+    let before : AreAttempts f roots graph c.as_mut_slice.result.now = subst (AreAttempts f roots graph) (sym c.as_mut_slice.ensures.value) c.loop-attempt.invariant.attempts in
     record {
       joints = subst (All (IsJoint f)) (sym whole) c.join_all.ensures.joints;
-      attempts = subst (AreAttempts f roots graph few) (sym whole) (attempts_kept f roots graph few c.as_mut_slice.result.now new c.join_all.ensures.attempts before);
+      attempts = subst (AreAttempts f roots graph) (sym whole) (attempts_kept f roots graph c.as_mut_slice.result.now new c.join_all.ensures.attempts before);
       given = c.in_ok-attempts.ensures.proofs;
     }
 
@@ -66,13 +63,12 @@ loop-joint-preserved g c =
     let f = c.args.forest.now in
     let roots = c.args.roots.now in
     let graph = c.args.graph.now in
-    let few = c.args.few in
     let joint = c.in-Some-pop-2.joint in
     let a = joint.attempt in
     let v = a.frontier in
     let proofs = c.loop-joint.proofs.items in
     let given = c.loop-joint.invariant.given in
-    let last = last_joint f roots graph few c.loop-joint.joints.items c.pop-in-loop-joint.new.self.items joint c.in-Some-pop-2.ensures.items c.loop-joint.invariant.joints c.loop-joint.invariant.attempts in
+    let last = last_joint f roots graph c.loop-joint.joints.items c.pop-in-loop-joint.new.self.items joint c.in-Some-pop-2.ensures.items c.loop-joint.invariant.joints c.loop-joint.invariant.attempts in
     let above : AreAbove f = λ leaf n t under. c.every_forest.ensures.below f leaf n t last.attempt.spent.frontier.forest under in
     let AreWhole : List Item → Type 0 = λ items. AreEndOf f v.wcet v.deadline v.roots items × IsCounted items in
     let made : IfSome c.in_ok-items.field-0 AreWhole = IfOk-at_ok (λ some. IfSome some AreWhole) c.in_ok-items.was last.joint.items in
@@ -83,7 +79,7 @@ loop-joint-preserved g c =
         | in-Some-2 w ↦ (
             let items = w.in-Some-2.items in
             let is = rw w.in-Some-2.is at made in
-            let passes = parts_pass f roots graph few a last.attempt items above is.0 is.1 in
+            let passes = parts_pass f roots graph a last.attempt items above is.0 is.1 in
             rw w.proofs-is (given_with f roots graph a.vertex (PassesBy items) proofs w.put_proof.new.proofs.items given w.put_proof.ensures passes))
         | in_default-2 w ↦ rw w.proofs-is given
       ];

@@ -7,10 +7,10 @@ use Rattle.drt_sp.proofs.parts.prove_by_parts.Given as goal
 
 abbrev pub invariant-loop-attempt : goal.invariant-loop-attempt
 invariant-loop-attempt g l = record {
-  each : All (IsAttempt l.forest l.roots l.graph l.few) l.spent.items;
+  each : All (IsAttempt l.forest l.roots l.graph) l.spent.items;
   tables : HaveParts l.forest l.spent.items l.tables.items;
   joints : All (IsJoint l.forest) l.joints.items;
-  attempts : AreAttempts l.forest l.roots l.graph l.few l.joints.items;
+  attempts : AreAttempts l.forest l.roots l.graph l.joints.items;
 }
 
 abbrev pub decreases-loop-attempt : goal.decreases-loop-attempt
@@ -19,7 +19,7 @@ decreases-loop-attempt g l = length l.spent.items
 abbrev pub invariant-loop-joint : goal.invariant-loop-joint
 invariant-loop-joint g l = record {
   joints : All (IsJoint l.forest) l.joints.items;
-  attempts : AreAttempts l.forest l.roots l.graph l.few l.joints.items;
+  attempts : AreAttempts l.forest l.roots l.graph l.joints.items;
   given : AreGiven l.forest l.roots l.graph l.proofs.items;
 }
 
