@@ -8,12 +8,14 @@
 #![tactic(auto)]
 
 mod dense;
+mod desk;
 mod drawing;
 mod expanding;
 mod filling;
 mod gathering;
 mod opening;
 mod plan;
+mod relay;
 mod rule;
 mod sharing;
 mod table;
