@@ -125,7 +125,7 @@ impl<'a> Desk<'a> {
         self.work_unshared();
     }
 
-    /// The seat, where it has all parts and every wave is worked. It works those that are left.
+    /// The seat, once every wave is worked. Where all parts are back it works those that are left, and where one is out, None.
     pub(crate) fn into_seat(self) -> Option<WaveSeat>
         ensures id { IfSome result (λ seat. seat.table_id ≡ self.entry.table.shared.table_id) }
         ensures drawn { IfSome result (λ seat. AllDrawn (net_of self.entry.plan) seat.me.0) }
@@ -135,7 +135,7 @@ impl<'a> Desk<'a> {
         'waves: for _wave in desk.wave..desk.waves {
             desk.work_open();
         }
-        if desk.parts < PARTS || desk.wave < desk.waves {
+        if desk.wave < desk.waves {
             return None;
         }
         Some(desk.owner)

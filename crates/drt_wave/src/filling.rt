@@ -16,8 +16,8 @@ use std::alloc::Global;
 use std::sync::Wait;
 use std::thread::{Threads, available_parallelism};
 
-// A wave of fewer cells with some work is worked by the caller alone: to begin other workers costs more than they gain there.
-const WIDE: u64 = 16_384;
+// A wave of fewer cells with some work is worked by one worker: to share it costs more than the others gain there.
+const WIDE: u64 = 8_192;
 
 /// Works a wave to its end, or what is left of it, by the seat that has every part. The last turn is past the end, and by it the seat knows
 /// the wave as final.
