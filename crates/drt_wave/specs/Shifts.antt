@@ -1,9 +1,10 @@
 -- What a seat is between the turns of a wave, and what of a table is worked.
-use Rattle.std.specs.Prelude.{◌≡◌, ℕ, ◌*◌, ◌/◌, ◌<◌, ◌≤◌, List, []}
+use Rattle.std.specs.Prelude.{◌≡◌, ℕ, ◌*◌, ◌/◌, ◌<◌, ◌≤◌, []}
 use Rattle.atomic_table.specs.Table.{Me}
 use Rattle.atomic_table.specs.Seated.{TableId}
 use Rattle.atomic_table.specs.declared.shared.Seat.{Seat}
 use Rattle.drt_wave.specs.declared.plan.Plan.{Plan}
+use Rattle.drt_wave.specs.declared.table.WaveTable.{WaveTable}
 use Rattle.drt_wave.specs.declared.view.View.{View}
 use Rattle.drt_wave.specs.Net.{Net, Among}
 use Rattle.drt_wave.specs.Waves.{AllExpanded}
@@ -29,6 +30,10 @@ module _ {S : Type 0} where
 -- The seat is of the table, has one part, and works wave j.
 abbrev pub IsWorkers : TableId → Plan → ℕ → Seat (Unit {0}) (View Plan) → Type 0
 IsWorkers id p j seat = (seat.table_id ≡ id) × IsAtWork p j 1 seat.me
+
+-- The wave is one of the table's, and the seat is a worker's in it.
+abbrev pub IsShift : WaveTable → ℕ → Seat (Unit {0}) (View Plan) → Type 0
+IsShift t j seat = (j < (net_of t.plan).waves) × IsWorkers t.table.shared.table_id t.plan j seat
 
 -- The seat drew each block of the waves below wave j.
 abbrev pub HasDrawnBelow : {F : Type 0} → Net → ℕ → View F → Type 0

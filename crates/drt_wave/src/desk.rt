@@ -1,7 +1,7 @@
 //! What the workers of a table take their seats from.
 ghost use Rattle.std.specs.Prelude.{◌≡◌, ◌<◌, ◌≤◌, IfSome};
 ghost use Rattle.drt_wave.specs.Cells.{net_of};
-ghost use Rattle.drt_wave.specs.Shifts.{IsAtWork, IsWorkers};
+ghost use Rattle.drt_wave.specs.Shifts.{IsAtWork, IsShift};
 ghost use Rattle.drt_wave.specs.Waves.{AllDrawn, AllExpanded};
 
 use crate::filling::{Crew, is_shared, work_wave};
@@ -87,7 +87,7 @@ impl<'a> Desk<'a> {
     /// A seat for the open wave, where that is `next` or a later one and there is a part to spare.
     pub(crate) fn take(&mut self, next: u64) -> Option<Shift>
         ensures kept { self.new ≡ self.old }
-        ensures shift { IfSome result (λ shift. (shift.wave < (net_of self.old.plan).waves) × IsWorkers self.old.table.shared.table_id self.old.plan shift.wave shift.seat) }
+        ensures shift { IfSome result (λ shift. IsShift self.old shift.wave shift.seat) }
     {
         if self.wave >= self.waves || (self.wave as u64) < next || self.parts <= 1 {
             return None;
@@ -106,7 +106,7 @@ impl<'a> Desk<'a> {
 
     /// Takes a worker's seat in. Where all parts are back already, which can't be, the seat is dropped.
     pub(crate) fn give_back(&mut self, shift: Shift)
-        requires { IsWorkers self.old.table.shared.table_id self.old.plan shift.wave shift.seat }
+        requires { IsShift self.old shift.wave shift.seat }
         ensures { self.new ≡ self.old }
     {
         if self.parts >= PARTS {

@@ -1,8 +1,7 @@
 //! What the workers of a table share.
-ghost use Rattle.std.specs.Prelude.{◌≡◌, ◌<◌, IfSome};
+ghost use Rattle.std.specs.Prelude.{◌≡◌, IfSome};
 ghost use Rattle.drt_lock.specs.Seats.{HoldsMachine, Rests};
-ghost use Rattle.drt_wave.specs.Cells.{net_of};
-ghost use Rattle.drt_wave.specs.Shifts.{IsWorkers};
+ghost use Rattle.drt_wave.specs.Shifts.{IsShift};
 
 use crate::desk::{Desk, Shift};
 use crate::drawing::turn_some;
@@ -44,7 +43,7 @@ impl<'a> Work for Relay<'a> {
     type Pass = Hand<'a>;
 
     ghost fits = { λ relay place hand. (hand.lock_seat.table_id ≡ relay.lock.name) × Rests relay.lock.fixed 1 0 hand.lock_seat.me
-        × IfSome hand.held (λ shift. (shift.wave < (net_of relay.table.now.plan).waves) × IsWorkers relay.table.now.table.shared.table_id relay.table.now.plan shift.wave shift.seat) };
+        × IfSome hand.held (λ shift. IsShift relay.table.now shift.wave shift.seat) };
 
     ghost ended = { λ relay place hand. Unit {0} };
 
@@ -65,11 +64,10 @@ impl<'a> Relay<'a> {
     fn work<R: Wait>(&self, rt: &R, hand: &mut Hand<'a>, shift: Shift)
         requires name { hand.old.lock_seat.table_id ≡ self.now.lock.name }
         requires seat { Rests self.now.lock.fixed 1 0 hand.old.lock_seat.me }
-        requires wave { shift.wave < (net_of self.now.table.now.plan).waves }
-        requires shift { IsWorkers self.now.table.now.table.shared.table_id self.now.table.now.plan shift.wave shift.seat }
+        requires shift { IsShift self.now.table.now shift.wave shift.seat }
         ensures name { hand.new.lock_seat.table_id ≡ self.now.lock.name }
         ensures seat { Rests self.now.lock.fixed 1 0 hand.new.lock_seat.me }
-        ensures held { IfSome hand.new.held (λ s. (s.wave < (net_of self.now.table.now.plan).waves) × IsWorkers self.now.table.now.table.shared.table_id self.now.table.now.plan s.wave s.seat) }
+        ensures held { IfSome hand.new.held (λ s. IsShift self.now.table.now s.wave s.seat) }
     {
         let mut shift = shift;
         if turn_some(self.table, &mut shift.seat, shift.wave) {
@@ -85,7 +83,7 @@ impl<'a> Relay<'a> {
     fn hand_in<R: Wait>(&self, rt: &R, seat: &mut LockSeat<'a>, shift: Shift)
         requires name { seat.old.table_id ≡ self.now.lock.name }
         requires seat { Rests self.now.lock.fixed 1 0 seat.old.me }
-        requires shift { IsWorkers self.now.table.now.table.shared.table_id self.now.table.now.plan shift.wave shift.seat }
+        requires shift { IsShift self.now.table.now shift.wave shift.seat }
         ensures name { seat.new.table_id ≡ self.now.lock.name }
         ensures seat { Rests self.now.lock.fixed 1 0 seat.new.me }
     {
@@ -99,7 +97,7 @@ impl<'a> Relay<'a> {
     fn give_back(&self, seat: &mut LockSeat<'a>, shift: Shift) -> u64
         requires name { seat.old.table_id ≡ self.now.lock.name }
         requires desk { HoldsMachine self.now.lock.fixed seat.old.me }
-        requires shift { IsWorkers self.now.lock.fixed.table.shared.table_id self.now.lock.fixed.plan shift.wave shift.seat }
+        requires shift { IsShift self.now.lock.fixed shift.wave shift.seat }
         ensures name { seat.new.table_id ≡ seat.old.table_id }
         ensures me { seat.new.me ≡ seat.old.me }
     {
@@ -115,7 +113,7 @@ impl<'a> Relay<'a> {
         requires seat { Rests self.now.lock.fixed 1 0 hand.old.lock_seat.me }
         ensures name { hand.new.lock_seat.table_id ≡ self.now.lock.name }
         ensures seat { Rests self.now.lock.fixed 1 0 hand.new.lock_seat.me }
-        ensures held { IfSome hand.new.held (λ s. (s.wave < (net_of self.now.table.now.plan).waves) × IsWorkers self.now.table.now.table.shared.table_id self.now.table.now.plan s.wave s.seat) }
+        ensures held { IfSome hand.new.held (λ s. IsShift self.now.table.now s.wave s.seat) }
     {
         hand.held = None;
         if !self.is_open(hand.next) {
@@ -134,7 +132,7 @@ impl<'a> Relay<'a> {
         requires desk { HoldsMachine self.now.lock.fixed seat.old.me }
         ensures name { seat.new.table_id ≡ seat.old.table_id }
         ensures me { seat.new.me ≡ seat.old.me }
-        ensures shift { IfSome result.1 (λ s. (s.wave < (net_of self.now.lock.fixed.plan).waves) × IsWorkers self.now.lock.fixed.table.shared.table_id self.now.lock.fixed.plan s.wave s.seat) }
+        ensures shift { IfSome result.1 (λ s. IsShift self.now.lock.fixed s.wave s.seat) }
     {
         let desk = seat.slot_mut(self.lock.slots(), 0);
         let shift = desk.take(next);

@@ -1,4 +1,4 @@
-use Rattle.std.proofs.Common.{◌≡◌, ◌∙◌, arith, subst}
+use Rattle.std.proofs.Common.{◌∙◌, arith, subst}
 use Rattle.drt_wave.specs.declared.table.WaveTable.{WaveTable}
 use Rattle.drt_wave.specs.Cells.{net_of}
 use Rattle.drt_wave.specs.Waves.{AllDrawn, AllExpanded}
