@@ -1,18 +1,18 @@
--- A seat is split for the workers of a wave, and joined after it.
-use Rattle.std.proofs.Common.{◌≡◌, ℕ, ◌+◌, ◌-◌, ◌*◌, ◌/◌, ◌^◌, ◌<◌, ◌≤◌, List, [], ◌∷◌, ◌++◌, length, length-append, sym, refl, ap, ◌∙◌, subst, inr, ⊎_elim, arith}
+-- Seats are split off for workers and joined again, and the owner goes on from wave to wave.
+use Rattle.std.proofs.Common.{◌≡◌, ℕ, ◌+◌, ◌*◌, ◌/◌, ◌^◌, ◌<◌, ◌≤◌, [], sym, refl, ◌∙◌, subst, inr, ⊎_elim, arith}
 use Rattle.std.proofs.Math.Nat.{mod-le}
 use Rattle.atomic_table.specs.Table.{Me}
 use Rattle.atomic_table.specs.Seated.{TableId}
 use Rattle.atomic_table.specs.declared.shared.Seat.{Seat}
-use Rattle.drt_pool.proofs.Places.{places_last, places_push}
 use Rattle.drt_wave.specs.declared.plan.Plan.{Plan}
 use Rattle.drt_wave.specs.declared.view.View.{View}
 use Rattle.drt_wave.specs.Net.{Net, Among}
 use Rattle.drt_wave.specs.Waves.{split_left, split_right, joined, IsExpanded, AllExpanded}
 use Rattle.drt_wave.specs.Cells.{net_of}
-use Rattle.drt_wave.specs.Seats.{Draws, Turned}
-use Rattle.drt_wave.specs.Shifts.{IsAtWork, IsWorkers, AreDealt, GoesOn, HasWorked}
+use Rattle.drt_wave.specs.Seats.{Draws, HasDrawn, Turned}
+use Rattle.drt_wave.specs.Shifts.{IsAtWork, IsWorkers, IsOwner, HasWorked}
 use Rattle.drt_wave.proofs.Sums.{among-append, among_left, among_right}
+use Rattle.drt_wave.proofs.Working.{waves_more}
 
 module _ {F : Type 0} (g : Net) where
   expanded_left : (v w : View F) (c : ℕ) → IsExpanded g w c → IsExpanded g (joined v w) c
@@ -26,30 +26,8 @@ module _ {F : Type 0} (g : Net) where
       (λ (l : Among (j, n / 64) w.draws). expanded_left v w (g.cell j n) (q j n lt l))
       (λ (r : Among (j, n / 64) v.draws). expanded_right v w (g.cell j n) (p j n lt r)) (among-append (j, n / 64) w.draws v.draws a)
 
-module _ {S : Type 0} where
-  pub on_refl : (m : Me S (View Plan)) → GoesOn m m
-  on_refl m = record { known = omega arith; draws = λ j k a. a }
-
-  pub on_more : (m n o : Me S (View Plan)) → GoesOn m n → GoesOn n o → GoesOn m o
-  on_more m n o p q = record {
-    known = (let a = p.known in let b = q.known in omega arith);
-    draws = λ j k a. q.draws j k (p.draws j k a);
-  }
-
-  pub on_turned : (m n : Me S (View Plan)) → Turned m n → GoesOn m n
-  on_turned m n t = record { known = t.known; draws = t.draws }
-
-  pub on_split : (m n : Me S (View Plan)) → n ≡ (split_left m.0, m.1) → GoesOn m n
-  on_split m n e = subst (GoesOn m) (sym e) record { known = omega arith; draws = λ j k a. a }
-
-  pub on_joined : (m w n : Me S (View Plan)) → n ≡ (joined m.0 w.0, m.1) → GoesOn m n
-  on_joined m w n e = subst (GoesOn m) (sym e) record {
-    known = omega arith;
-    draws = λ j k a. among_right (j, k) w.0.draws m.0.draws a;
-  }
-
 module _ {S : Type 0} (p : Plan) (j : ℕ) where
-  pub work_left : (a b : ℕ) (m n : Me S (View Plan)) → IsAtWork p j a m → a ≡ b + 1 → 0 < b → n ≡ (split_left m.0, m.1) → IsAtWork p j b n
+  work_left : (a b : ℕ) (m n : Me S (View Plan)) → IsAtWork p j a m → a ≡ b + 1 → 0 < b → n ≡ (split_left m.0, m.1) → IsAtWork p j b n
   work_left a b m n h is some e = let parts = h.parts in subst (IsAtWork p j b) (sym e) record {
     at = (h.at.0, omega arith);
     parts = omega arith;
@@ -58,7 +36,7 @@ module _ {S : Type 0} (p : Plan) (j : ℕ) where
     slots = h.slots;
   }
 
-  pub work_right : (a : ℕ) (m n : Me S (View Plan)) → IsAtWork p j a m → n ≡ (split_right m.0, []) → IsAtWork p j 1 n
+  work_right : (a : ℕ) (m n : Me S (View Plan)) → IsAtWork p j a m → n ≡ (split_right m.0, []) → IsAtWork p j 1 n
   work_right a m n h e = subst (IsAtWork p j 1) (sym e) record {
     at = (h.at.0, omega arith);
     parts = refl;
@@ -67,8 +45,9 @@ module _ {S : Type 0} (p : Plan) (j : ℕ) where
     slots = refl;
   }
 
-  pub work_joined : (a b : ℕ) (m w n : Me S (View Plan)) → IsAtWork p j a m → IsAtWork p j b w → n ≡ (joined m.0 w.0, m.1) → IsAtWork p j (a + b) n
-  work_joined a b m w n h k e =
+  -- the other seat may have worked another wave
+  work_joined : (i a b : ℕ) (m w n : Me S (View Plan)) → IsAtWork p j a m → IsAtWork p i b w → n ≡ (joined m.0 w.0, m.1) → IsAtWork p j (a + b) n
+  work_joined i a b m w n h k e =
       let one = h.parts in let two = k.parts in let known = h.known in let some = h.at.1 in subst (IsAtWork p j (a + b)) (sym e) record {
         at = (h.at.0, omega arith);
         parts = omega arith;
@@ -86,9 +65,9 @@ module _ {S : Type 0} (p : Plan) (j : ℕ) where
     slots = t.slots ∙ h.slots;
   }
 
-  -- the wave is final for the seat that worked it
-  pub work_next : (a : ℕ) (m : Me S (View Plan)) → IsAtWork p j a m → HasWorked p j m → IsAtWork p (j + 1) a m
-  work_next a m h w = let known = w.known in record {
+  -- the next wave, once this one is known as final
+  work_next : (a : ℕ) (m : Me S (View Plan)) → IsAtWork p j a m → j < m.0.known → IsAtWork p (j + 1) a m
+  work_next a m h known = record {
     at = h.at;
     parts = h.parts;
     known = omega arith;
@@ -108,55 +87,68 @@ module _ {S : Type 0} (p : Plan) (j : ℕ) where
         known = subst (λ v. j < v.known) (sym d.3) (d.5 whole known all ended);
       }
 
-module _ (id : TableId) (p : Plan) (j : ℕ) where
+module _ (id : TableId) (p : Plan) where
   abbrev WaveSeat : Type 0
   WaveSeat = Seat (Unit {0}) (View Plan)
 
-  -- no seat is dealt yet
-  pub dealt_none : (owner : WaveSeat) (seats : List WaveSeat) → seats ≡ [] → owner.table_id ≡ id → IsAtWork p j 1024 owner.me → AreDealt id p j owner seats
-  dealt_none owner seats none e h = subst (AreDealt id p j owner) (sym none) record {
+  -- no wave is worked yet
+  pub owner_first : (waves : ℕ) (seat : WaveSeat) → seat.table_id ≡ id → IsAtWork p 0 1024 seat.me → waves ≡ (net_of p).waves → IsOwner id p 0 1024 waves seat
+  owner_first waves seat e work are = record {
+    id_is = e;
+    work = work;
     few = omega arith;
-    parts = 1024;
-    sum = refl;
-    is_owner = (e, h);
-    each = λ k d lt. absurd (omega arith);
+    waves_are = are;
+    within = omega arith;
+    drawn = λ i n lt few. absurd (omega arith);
   }
 
-  -- the owner's seat alone changes to one that is the same
-  pub dealt_kept : (owner new : WaveSeat) (seats : List WaveSeat) → new.table_id ≡ owner.table_id → new.me ≡ owner.me → AreDealt id p j owner seats → AreDealt id p j new seats
-  dealt_kept owner new seats e same d = record {
-    few = d.few;
-    parts = d.parts;
-    sum = d.sum;
-    is_owner = (e ∙ d.is_owner.0, subst (IsAtWork p j d.parts) (sym same) d.is_owner.1);
-    each = d.each;
+  -- the seat is the same
+  pub owner_kept : (j a waves : ℕ) (old new : WaveSeat) → IsOwner id p j a waves old → new.table_id ≡ old.table_id → new.me ≡ old.me → IsOwner id p j a waves new
+  owner_kept j a waves old new o e same = record {
+    id_is = e ∙ o.id_is;
+    work = subst (IsAtWork p j a) (sym same) o.work;
+    few = o.few;
+    waves_are = o.waves_are;
+    within = o.within;
+    drawn = λ i n lt fits. subst (λ (m : Me (Unit {0}) (View Plan)). Among (i, n / 64) m.0.draws) (sym same) (o.drawn i n lt fits);
   }
 
-  pub dealt_more : (owner new seat : WaveSeat) (seats more : List WaveSeat) → new.table_id ≡ owner.table_id → new.me ≡ (split_left owner.me.0, owner.me.1)
-      → seat.table_id ≡ owner.table_id → seat.me ≡ (split_right owner.me.0, []) → more ≡ seats ++ seat ∷ [] → length seats < 16 → AreDealt id p j owner seats → AreDealt id p j new more
-  dealt_more owner new seat seats more e left es right is lt d =
-      let longer : length more ≡ length seats + 1 = ap length is ∙ length-append seats (seat ∷ []) in let sum = d.sum in
-      record {
-        few = omega arith;
-        parts = d.parts - 1;
-        sum = omega arith;
-        is_owner = (e ∙ d.is_owner.0, work_left p j d.parts (d.parts - 1) owner.me new.me d.is_owner.1 (omega arith) (omega arith) left);
-        each = places_push (IsWorkers id p j) seats more seat is d.each (es ∙ d.is_owner.0, work_right p j d.parts owner.me seat.me d.is_owner.1 right);
-      }
+  -- a seat is split off
+  pub owner_left : (j a b waves : ℕ) (old new : WaveSeat) → IsOwner id p j a waves old → a ≡ b + 1 → 0 < b → new.table_id ≡ old.table_id → new.me ≡ (split_left old.me.0, old.me.1)
+      → IsOwner id p j b waves new
+  owner_left j a b waves old new o is some e left = let few = o.few in record {
+    id_is = e ∙ o.id_is;
+    work = work_left p j a b old.me new.me o.work is some left;
+    few = omega arith;
+    waves_are = o.waves_are;
+    within = o.within;
+    drawn = λ i n lt fits. subst (λ (m : Me (Unit {0}) (View Plan)). Among (i, n / 64) m.0.draws) (sym left) (o.drawn i n lt fits);
+  }
 
-  pub dealt_less : (owner new seat : WaveSeat) (seats less : List WaveSeat) → seats ≡ less ++ seat ∷ [] → new.table_id ≡ owner.table_id → new.me ≡ (joined owner.me.0 seat.me.0, owner.me.1)
-      → AreDealt id p j owner seats → AreDealt id p j new less
-  dealt_less owner new seat seats less is e joins d =
-      let longer : length seats ≡ length less + 1 = ap length is ∙ length-append less (seat ∷ []) in let sum = d.sum in let few = d.few in
-      let last = places_last (IsWorkers id p j) less seats seat is d.each in
-      record {
-        few = omega arith;
-        parts = d.parts + 1;
-        sum = omega arith;
-        is_owner = (e ∙ d.is_owner.0, work_joined p j d.parts 1 owner.me seat.me new.me d.is_owner.1 last.1.1 joins);
-        each = last.0;
-      }
+  -- and is a worker's
+  pub worker_right : (j a waves : ℕ) (old new : WaveSeat) → IsOwner id p j a waves old → new.table_id ≡ old.table_id → new.me ≡ (split_right old.me.0, []) → IsWorkers id p j new
+  worker_right j a waves old new o e right = (e ∙ o.id_is, work_right p j a old.me new.me o.work right)
 
-  -- all seats are joined
-  pub dealt_all : (owner : WaveSeat) (seats : List WaveSeat) → length seats ≡ 0 → AreDealt id p j owner seats → IsAtWork p j 1024 owner.me
-  dealt_all owner seats none d = let sum = d.sum in let whole : d.parts ≡ 1024 = omega arith in subst (λ n. IsAtWork p j n owner.me) whole d.is_owner.1
+  -- a worker's seat is joined
+  pub owner_joined : (j i a waves : ℕ) (old other new : WaveSeat) → IsOwner id p j a waves old → IsWorkers id p i other → a < 1024 → new.table_id ≡ old.table_id
+      → new.me ≡ (joined old.me.0 other.me.0, old.me.1) → IsOwner id p j (a + 1) waves new
+  owner_joined j i a waves old other new o w lt e joins = record {
+    id_is = e ∙ o.id_is;
+    work = work_joined p j i a 1 old.me other.me new.me o.work w.1 joins;
+    few = omega arith;
+    waves_are = o.waves_are;
+    within = o.within;
+    drawn = λ k n ltk fits. subst (λ (m : Me (Unit {0}) (View Plan)). Among (k, n / 64) m.0.draws) (sym joins) (among_right (k, n / 64) other.me.0.draws old.me.0.draws (o.drawn k n ltk fits));
+  }
+
+  -- the whole seat has worked the open wave, and the next one is open
+  pub owner_next : (j a waves : ℕ) (old new : WaveSeat) → IsOwner id p j a waves old → j < waves → new.table_id ≡ old.table_id → Turned old.me new.me → AllExpanded (net_of p) new.me.0
+      → (b : ℕ) → HasDrawn j b new.me.0 → (net_of p).size j ≤ b * 64 → j < new.me.0.known → IsOwner id p (j + 1) a waves new
+  owner_next j a waves old new o lt e turned all b has ended known = record {
+    id_is = e ∙ o.id_is;
+    work = work_next p j a new.me (work_turned p j a old.me new.me o.work turned all) known;
+    few = o.few;
+    waves_are = o.waves_are;
+    within = omega arith;
+    drawn = waves_more (net_of p) old.me.0 new.me.0 j turned.draws o.drawn b has ended;
+  }

@@ -1,12 +1,12 @@
--- What a seat is between the turns of a wave.
-use Rattle.std.specs.Prelude.{◌≡◌, ℕ, ◌+◌, ◌*◌, ◌<◌, ◌≤◌, List, [], length}
+-- What a seat is between the turns of a wave, and what of a table is worked.
+use Rattle.std.specs.Prelude.{◌≡◌, ℕ, ◌*◌, ◌/◌, ◌<◌, ◌≤◌, []}
 use Rattle.atomic_table.specs.Table.{Me}
 use Rattle.atomic_table.specs.Seated.{TableId}
 use Rattle.atomic_table.specs.declared.shared.Seat.{Seat}
-use Rattle.drt_pool.specs.Turns.{EachPlace}
 use Rattle.drt_wave.specs.declared.plan.Plan.{Plan}
+use Rattle.drt_wave.specs.declared.table.WaveTable.{WaveTable}
 use Rattle.drt_wave.specs.declared.view.View.{View}
-use Rattle.drt_wave.specs.Net.{Among}
+use Rattle.drt_wave.specs.Net.{Net, Among}
 use Rattle.drt_wave.specs.Waves.{AllExpanded}
 use Rattle.drt_wave.specs.Cells.{net_of}
 use Rattle.drt_wave.specs.Seats.{IsAt, HasDrawn}
@@ -20,11 +20,6 @@ module _ {S : Type 0} where
     pub all : AllExpanded (net_of p) m.0
     pub slots : m.1 ≡ []
 
-  -- The seat knows no less than before, and has all that it drew.
-  pub record GoesOn (m n : Me S (View Plan)) : Type 0 where
-    pub known : m.0.known ≤ n.0.known
-    pub draws : (j k : ℕ) → Among (j, k) m.0.draws → Among (j, k) n.0.draws
-
   -- The seat drew wave j to its end, and knows it as final.
   pub record HasWorked (p : Plan) (j : ℕ) (m : Me S (View Plan)) : Type 0 where
     pub blocks : ℕ
@@ -36,10 +31,19 @@ module _ {S : Type 0} where
 abbrev pub IsWorkers : TableId → Plan → ℕ → Seat (Unit {0}) (View Plan) → Type 0
 IsWorkers id p j seat = (seat.table_id ≡ id) × IsAtWork p j 1 seat.me
 
--- The seats of the workers and the owner's have all parts together, and all work wave j.
-pub record AreDealt (id : TableId) (p : Plan) (j : ℕ) (owner : Seat (Unit {0}) (View Plan)) (seats : List (Seat (Unit {0}) (View Plan))) : Type 0 where
-  pub few : length seats ≤ 16
-  pub parts : ℕ
-  pub sum : parts + length seats ≡ 1024
-  pub is_owner : (owner.table_id ≡ id) × IsAtWork p j parts owner.me
-  pub each : EachPlace (λ place seat. IsWorkers id p j seat) seats
+-- The wave is one of the table's, and the seat is a worker's in it.
+abbrev pub IsShift : WaveTable → ℕ → Seat (Unit {0}) (View Plan) → Type 0
+IsShift t j seat = (j < (net_of t.plan).waves) × IsWorkers t.table.shared.table_id t.plan j seat
+
+-- The seat drew each block of the waves below wave j.
+abbrev pub HasDrawnBelow : {F : Type 0} → Net → ℕ → View F → Type 0
+HasDrawnBelow g j v = (i n : ℕ) → i < j → n < g.size i → Among (i, n / 64) v.draws
+
+-- The seat is of the table and has so many parts. All waves below wave j are worked, and wave j is open, or none where they are all worked.
+pub record IsOwner (id : TableId) (p : Plan) (j count waves : ℕ) (seat : Seat (Unit {0}) (View Plan)) : Type 0 where
+  pub id_is : seat.table_id ≡ id
+  pub work : IsAtWork p j count seat.me
+  pub few : count ≤ 1024
+  pub waves_are : waves ≡ (net_of p).waves
+  pub within : j ≤ waves
+  pub drawn : HasDrawnBelow (net_of p) j seat.me.0

@@ -4,11 +4,10 @@ ghost use Rattle.drt_model.specs.Digraph.{vertex_count};
 ghost use Rattle.drt_wave.specs.Waves.{AllDrawn, AllExpanded};
 ghost use Rattle.drt_wave.specs.Cells.{net_of};
 ghost use Rattle.drt_wave.specs.Seats.{IsAt, HasDrawn, Turned};
-ghost use Rattle.drt_wave.specs.Shifts.{IsAtWork, GoesOn, HasWorked};
 
 use crate::dense::DenseFront;
 use crate::expanding::turn;
-use crate::sharing::{WaveGate, share_wave};
+use crate::sharing::share_table;
 use crate::table::{WaveSeat, WaveTable};
 use drt_graph::Graph;
 use drt_model::Memory;
@@ -17,8 +16,8 @@ use std::alloc::Global;
 use std::sync::Wait;
 use std::thread::{Threads, available_parallelism};
 
-// A wave of fewer cells with some work is worked by the caller alone: to begin other workers costs more than they gain there.
-const WIDE: u64 = 16_384;
+// A wave of fewer cells with some work is worked by one worker: to share it costs more than the others gain there.
+const WIDE: u64 = 8_192;
 
 /// Works a wave to its end, or what is left of it, by the seat that has every part. The last turn is past the end, and by it the seat knows
 /// the wave as final.
@@ -98,67 +97,25 @@ fn has_walks(table: &WaveTable, wave: u32) -> bool {
     walks >= WIDE
 }
 
-// Whether all workers work a wave. Where the gate may wait for another worker they work the first wave and each one of many cells, else
-// each one of many cells with some work.
-fn is_shared<G: Gate>(table: &WaveTable, wave: u32, workers: u32, gate: &G) -> bool
+/// The workers of a table.
+#[derive(Clone, Copy)]
+pub(crate) struct Crew {
+    /// How many there are.
+    pub(crate) count: u32,
+    /// Whether all begin at once, since the gate may wait for another worker.
+    pub(crate) begins_at_once: bool,
+}
+
+/// Whether all workers work a wave. Where they begin at once they work the first wave and each one of many cells, else each one of many
+/// cells with some work.
+pub(crate) fn is_shared(table: &WaveTable, wave: u32, crew: Crew) -> bool
     requires { wave < (net_of table.now.plan).waves }
 {
     let is_wide = table.wave_size(wave) >= WIDE;
-    if gate.alone() == 0 {
-        return wave == 0 || is_wide;
+    if crew.begins_at_once {
+        return crew.count > 1 && (wave == 0 || is_wide);
     }
-    workers > 1 && is_wide && has_walks(table, wave)
-}
-
-// Works the next wave, by all workers or by the caller.
-fn next_wave<G: Gate, R: Threads + Wait + Sync>(
-    rt: &R,
-    alloc: Global,
-    table: &WaveTable,
-    seat: &mut WaveSeat,
-    wave: u32,
-    workers: u32,
-    gate: &G,
-) -> Result<(), Memory>
-    requires id { seat.old.table_id ≡ table.now.table.shared.table_id }
-    requires seat { IsAtWork table.now.plan wave 1024 seat.old.me }
-    requires wave { wave < (net_of table.now.plan).waves }
-    requires workers { workers ≤ 16 }
-    ensures id { seat.new.table_id ≡ table.now.table.shared.table_id }
-    ensures whole { IsAtWork table.now.plan wave 1024 seat.new.me }
-    ensures on { GoesOn seat.old.me seat.new.me }
-    ensures worked { IfOk result (λ u. HasWorked table.now.plan wave seat.new.me) }
-{
-    if !is_shared(table, wave, workers, gate) {
-        work_wave(table, seat, wave);
-        return Ok(());
-    }
-    let gate = WaveGate { gate };
-    share_wave(rt, alloc, table, seat, wave, workers, &gate)
-}
-
-// Works all waves, in order.
-fn share_all<G: Gate, R: Threads + Wait + Sync>(
-    rt: &R,
-    alloc: Global,
-    table: &WaveTable,
-    seat: &mut WaveSeat,
-    count: u32,
-    workers: u32,
-    gate: &G,
-) -> Result<(), Memory>
-    requires id { seat.old.table_id ≡ table.now.table.shared.table_id }
-    requires seat { IsAtWork table.now.plan 0 1024 seat.old.me }
-    requires count { count ≡ (net_of table.now.plan).waves }
-    requires workers { workers ≤ 16 }
-    ensures id { seat.new.table_id ≡ table.now.table.shared.table_id }
-    ensures drawn { IfOk result (λ u. AllDrawn (net_of table.now.plan) seat.new.me.0) }
-    ensures all { AllExpanded (net_of table.now.plan) seat.new.me.0 }
-{
-    'waves: for wave in 0..count {
-        next_wave(rt, alloc, table, seat, wave, workers, gate)?;
-    }
-    Ok(())
+    crew.count > 1 && is_wide && has_walks(table, wave)
 }
 
 // How many workers share waves: no more than there are processors, or all where the gate may wait for another worker. How many processors
@@ -191,9 +148,12 @@ pub fn fill<G: Gate, R: Threads + Wait + Sync>(
     ensures graph { IfOk result (λ front. front.plan.graph ≡ graph.now) }
     ensures bound { IfOk result (λ front. front.plan.bound ≡ bound) }
 {
-    let (table, mut seat) = WaveTable::start(alloc, graph, bound)?;
+    let (table, owner) = WaveTable::start(alloc, graph, bound)?;
     let waves = (table.plan.bound / table.plan.span + 1) as u32;
     let workers = worker_limit(rt, &table, workers, gate);
-    share_all(rt, alloc, &table, &mut seat, waves, workers, gate)?;
-    Ok(table.close(seat))
+    match share_table(rt, alloc, &table, owner, waves, workers, gate)? {
+        Some(seat) => Ok(table.close(seat)),
+        // A part is still out, which can't be: the table is given up, and one seat works another.
+        None => dense_front(alloc, graph, bound),
+    }
 }

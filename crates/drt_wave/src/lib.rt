@@ -3,17 +3,19 @@
 //! A table has one cell for each vertex of a task's graph and each offset up to a bound: the greatest work of the walks that end at
 //! that vertex with that span. The cells are worked in waves of offsets. A seat draws blocks of a wave by `claim`, reads a cell by
 //! `glance`, and makes a later cell at least a work by `raise`. No call waits, and in whatever order the steps of several seats fall,
-//! `close` gives the greatest works, as a `DenseFront`. The layer above uses `fill`, which works a table by 1 to 16 workers, or
-//! `dense_front`, which works it by one seat.
+//! `close` gives the greatest works, as a `DenseFront`. The layer above uses `fill`, which works a table by 1 to 16 workers, who take
+//! their seats wave by wave under a lock, or `dense_front`, which works it by one seat.
 #![tactic(auto)]
 
 mod dense;
+mod desk;
 mod drawing;
 mod expanding;
 mod filling;
 mod gathering;
 mod opening;
 mod plan;
+mod relay;
 mod rule;
 mod sharing;
 mod table;

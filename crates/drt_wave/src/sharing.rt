@@ -1,45 +1,28 @@
-//! Waves that several workers share.
-ghost use Rattle.std.specs.Prelude.{◌≡◌, ◌<◌, ◌≤◌, [], length, vec_capacity, IfOk};
+//! Tables that several workers share.
+ghost use Rattle.std.specs.Prelude.{◌≡◌, ◌+◌, ◌<◌, ◌≤◌, [], length, vec_capacity, IfOk, IfSome, None};
+ghost use Rattle.drt_lock.specs.Seats.{Rests};
 ghost use Rattle.drt_pool.specs.Turns.{EachPlace};
 ghost use Rattle.drt_wave.specs.Cells.{net_of};
-ghost use Rattle.drt_wave.specs.Seats.{IsPast};
-ghost use Rattle.drt_wave.specs.Shifts.{IsAtWork, IsWorkers, AreDealt, GoesOn, HasWorked};
+ghost use Rattle.drt_wave.specs.Shifts.{IsAtWork};
+ghost use Rattle.drt_wave.specs.Waves.{AllDrawn, AllExpanded};
 
-use crate::drawing::turn_some;
-use crate::filling::work_wave;
+use crate::desk::Desk;
+use crate::filling::Crew;
+use crate::relay::{Hand, LockSeat, Relay};
 use crate::table::{WaveSeat, WaveTable};
+use drt_lock::Lock;
 use drt_model::Memory;
-use drt_pool::{Gate, Turn, Work, run_all};
+use drt_pool::{Gate, run_all};
 use std::alloc::Global;
+use std::snapshot::Snapshot;
 use std::sync::Wait;
+use std::sync::atomic::AtomicU64;
 use std::thread::Threads;
 
-// What the workers of a wave share.
+/// The gate of a shared table, in which the caller has no turn alone: all workers begin at once.
 #[derive(Drop)]
-struct Shift<'a> {
-    table: &'a WaveTable,
-    wave: u32,
-}
-
-impl Work for Shift<'_> {
-    type Pass = WaveSeat;
-
-    ghost fits = { λ shift place seat. (shift.wave < (net_of shift.table.now.plan).waves) × IsWorkers shift.table.now.table.shared.table_id shift.table.now.plan shift.wave seat };
-
-    ghost ended = { λ shift place seat. IsPast (net_of shift.table.now.plan) shift.wave seat.me.0 };
-
-    fn turn<R: Wait>(&self, _rt: &R, seat: &mut WaveSeat) -> Turn {
-        if turn_some(self.table, seat, self.wave) {
-            return Turn::More;
-        }
-        Turn::Stop
-    }
-}
-
-/// The gate of a shared wave, in which the caller has no turn alone: all workers begin at once.
-#[derive(Drop)]
-pub(crate) struct WaveGate<'a, G: Gate> {
-    pub(crate) gate: &'a G,
+struct WaveGate<'a, G: Gate> {
+    gate: &'a G,
 }
 
 impl<G: Gate> Gate for WaveGate<'_, G> {
@@ -52,91 +35,96 @@ impl<G: Gate> Gate for WaveGate<'_, G> {
     }
 }
 
-// Splits a seat off for each worker.
-fn deal(
-    table: &WaveTable,
-    owner: &mut WaveSeat,
-    seats: &mut Vec<WaveSeat>,
-    wave: u32,
-    workers: u32,
-) -> Result<(), Memory>
-    requires dealt { AreDealt table.now.table.shared.table_id table.now.plan wave owner.old seats.old.items }
-    requires none { seats.old.items ≡ [] }
-    requires workers { (workers ≤ 16) × (workers ≤ vec_capacity seats.old) }
-    ensures dealt { AreDealt table.now.table.shared.table_id table.now.plan wave owner.new seats.new.items }
-    ensures on { GoesOn owner.old.me owner.new.me }
-    ensures count { IfOk result (λ u. length seats.new.items ≡ workers) }
+// Gives out so many hands, one part of the lock's seat to each.
+fn deal<'a>(lock: &Lock<Desk<'a>>, owner: &mut LockSeat<'a>, hands: &mut Vec<Hand<'a>>, count: u32)
+    requires name { owner.old.table_id ≡ lock.now.name }
+    requires owner { (count ≤ 16) × Rests lock.now.fixed 1024 0 owner.old.me }
+    requires room { (hands.old.items ≡ []) × (count ≤ vec_capacity hands.old) }
+    ensures name { owner.new.table_id ≡ lock.now.name }
+    ensures owner { (owner.new.me.0.parts + count ≡ 1024) × Rests lock.now.fixed owner.new.me.0.parts 0 owner.new.me }
+    ensures count { length hands.new.items ≡ count }
+    ensures each { EachPlace (λ place hand. (hand.lock_seat.table_id ≡ lock.now.name) × Rests lock.now.fixed 1 0 hand.lock_seat.me × (hand.held ≡ None)) hands.new.items }
 {
-    'seats: for _seat in 0..workers {
-        let seat = table.split(owner)?;
-        seats.push_reserved(seat);
-    }
-    Ok(())
-}
-
-// Takes in the seats of all workers.
-fn gather(table: &WaveTable, owner: &mut WaveSeat, seats: Vec<WaveSeat>, wave: u32)
-    requires dealt { AreDealt table.now.table.shared.table_id table.now.plan wave owner.old seats.items }
-    ensures id { owner.new.table_id ≡ table.now.table.shared.table_id }
-    ensures whole { IsAtWork table.now.plan wave 1024 owner.new.me }
-    ensures on { GoesOn owner.old.me owner.new.me }
-{
-    let mut left = seats;
-    'seats: while let Some(seat) = left.pop() {
-        table.join(owner, seat);
+    'hands: for _hand in 0..count {
+        let lock_seat = lock.split(owner);
+        hands.push_reserved(Hand {
+            lock_seat,
+            held: None,
+            next: 0,
+        });
     }
 }
 
-// Turns the seats of all workers until each has drawn a number past the wave's end.
-fn turn_seats<G: Gate, R: Threads + Wait + Sync>(
+// Takes the parts of the hands together, and has the desk again.
+fn gather<'a>(lock: Lock<Desk<'a>>, owner: LockSeat<'a>, hands: Vec<Hand<'a>>) -> Desk<'a>
+    requires name { owner.table_id ≡ lock.name }
+    requires owner { (0 < owner.me.0.parts) × (owner.me.0.parts + length hands.items ≡ 1024) × Rests lock.fixed owner.me.0.parts 0 owner.me }
+    requires each { EachPlace (λ place hand. (hand.lock_seat.table_id ≡ lock.name) × Rests lock.fixed 1 0 hand.lock_seat.me) hands.items }
+    ensures { result ≡ lock.entry.fixed }
+{
+    let mut owner = owner;
+    let mut hands = hands;
+    'hands: while let Some(hand) = hands.pop() {
+        let Hand { lock_seat, .. } = hand;
+        lock.join(&mut owner, lock_seat);
+    }
+    lock.close(owner)
+}
+
+// Works the waves of a desk by several workers, which begin once. Each takes a seat for a wave and gives it back at the wave's end.
+fn work_desk<'a, G: Gate, R: Threads + Wait + Sync>(
     rt: &R,
-    table: &WaveTable,
-    owner: &WaveSeat,
-    seats: &mut Vec<WaveSeat>,
-    wave: u32,
+    alloc: Global,
+    table: &'a WaveTable,
+    desk: Desk<'a>,
+    workers: u32,
     gate: &G,
-)
-    requires wave { wave < (net_of table.now.plan).waves }
-    requires dealt { AreDealt table.now.table.shared.table_id table.now.plan wave owner.now seats.old.items }
-    ensures dealt { AreDealt table.now.table.shared.table_id table.now.plan wave owner.now seats.new.items }
-    ensures past { EachPlace (λ place seat. IsPast (net_of table.now.plan) wave seat.me.0) seats.new.items }
+) -> Result<Desk<'a>, Memory>
+    requires desk { desk ≡ table.now }
+    requires workers { workers ≤ 16 }
+    ensures { IfOk result (λ worked. worked ≡ table.now) }
 {
-    let shift = Shift { table, wave };
-    run_all(rt, &shift, seats.as_mut_slice(), gate);
+    let open = desk.open_wave() as u64;
+    let mut hands = Vec::with_capacity(alloc, workers as usize)?;
+    let (lock, mut owner) = Lock::new(alloc, desk, Snapshot::of(table))?;
+    deal(&lock, &mut owner, &mut hands, workers);
+    let relay = Relay {
+        table,
+        lock,
+        open: AtomicU64::new(open),
+    };
+    run_all(rt, &relay, hands.as_mut_slice(), &WaveGate { gate });
+    let Relay { lock, .. } = relay;
+    Ok(gather(lock, owner, hands))
 }
 
-/// Works a wave to its end by several workers, each with a seat that is split off before and joined after. The whole seat then works
-/// what they left, which is one claim past the wave's end, and by it knows the wave as final. Where there is no memory for a seat the others
-/// are joined again.
-pub(crate) fn share_wave<G: Gate, R: Threads + Wait + Sync>(
+/// Works a table to its end by several workers, and answers the seat that has taken in what all did. None where a part is still out,
+/// which can't be.
+pub(crate) fn share_table<G: Gate, R: Threads + Wait + Sync>(
     rt: &R,
     alloc: Global,
     table: &WaveTable,
-    owner: &mut WaveSeat,
-    wave: u32,
+    owner: WaveSeat,
+    waves: u32,
     workers: u32,
     gate: &G,
-) -> Result<(), Memory>
-    requires id { owner.old.table_id ≡ table.now.table.shared.table_id }
-    requires owner { IsAtWork table.now.plan wave 1024 owner.old.me }
-    requires wave { wave < (net_of table.now.plan).waves }
+) -> Result<Option<WaveSeat>, Memory>
+    requires id { owner.table_id ≡ table.now.table.shared.table_id }
+    requires owner { IsAtWork table.now.plan 0 1024 owner.me }
+    requires waves { waves ≡ (net_of table.now.plan).waves }
     requires workers { workers ≤ 16 }
-    ensures id { owner.new.table_id ≡ table.now.table.shared.table_id }
-    ensures whole { IsAtWork table.now.plan wave 1024 owner.new.me }
-    ensures on { GoesOn owner.old.me owner.new.me }
-    ensures worked { IfOk result (λ u. HasWorked table.now.plan wave owner.new.me) }
+    ensures id { IfOk result (λ o. IfSome o (λ seat. seat.table_id ≡ table.now.table.shared.table_id)) }
+    ensures drawn { IfOk result (λ o. IfSome o (λ seat. AllDrawn (net_of table.now.plan) seat.me.0)) }
+    ensures expanded { IfOk result (λ o. IfSome o (λ seat. AllExpanded (net_of table.now.plan) seat.me.0)) }
 {
-    let mut seats = Vec::with_capacity(alloc, workers as usize)?;
-    match deal(table, owner, &mut seats, wave, workers) {
-        Ok(()) => {
-            turn_seats(rt, table, owner, &mut seats, wave, gate);
-            gather(table, owner, seats, wave);
-            work_wave(table, owner, wave);
-            Ok(())
-        }
-        Err(error) => {
-            gather(table, owner, seats, wave);
-            Err(error)
-        }
+    let crew = Crew {
+        count: workers,
+        begins_at_once: gate.alone() == 0,
+    };
+    let desk = Desk::open(table, owner, waves, crew);
+    if desk.is_done() {
+        return Ok(desk.into_seat());
     }
+    let desk = work_desk(rt, alloc, table, desk, workers, gate)?;
+    Ok(desk.into_seat())
 }

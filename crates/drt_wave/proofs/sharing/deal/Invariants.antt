@@ -1,8 +1,13 @@
--- So many seats are dealt, and the owner's has the other parts.
-use Rattle.std.proofs.Common.{◌≡◌, ◌≤◌, length, vec_capacity}
-use Rattle.drt_wave.specs.Shifts.{AreDealt, GoesOn}
+-- So many hands are given out, and the owner's seat has the other parts.
+use Rattle.std.proofs.Common.{◌≡◌, ◌+◌, ◌≤◌, None, length, vec_capacity}
+use Rattle.drt_lock.specs.Seats.{Rests}
+use Rattle.drt_pool.specs.Turns.{EachPlace}
 use Rattle.drt_wave.proofs.sharing.deal.Given as goal
 
-abbrev pub invariant-seats : goal.invariant-seats
-invariant-seats l = AreDealt l.table.table.shared.table_id l.table.plan l.wave l.owner l.seats.items × GoesOn l.fn.owner.me l.owner.me
-    × (length l.seats.items ≡ l._seat) × (l.workers ≤ vec_capacity l.seats)
+abbrev pub invariant-hands : goal.invariant-hands
+invariant-hands l = record {
+  name : l.owner.table_id ≡ l.lock.name;
+  owner : (l.owner.me.0.parts + l._hand ≡ 1024) × Rests l.lock.fixed l.owner.me.0.parts 0 l.owner.me;
+  count : (length l.hands.items ≡ l._hand) × (l.count ≤ vec_capacity l.hands);
+  each : EachPlace (λ place hand. (hand.lock_seat.table_id ≡ l.lock.name) × Rests l.lock.fixed 1 0 hand.lock_seat.me × (hand.held ≡ None)) l.hands.items;
+}

@@ -1,10 +1,15 @@
--- The seats that are left are dealt, and the owner's has the other parts.
-use Rattle.std.proofs.Common.{length}
-use Rattle.drt_wave.specs.Shifts.{AreDealt, GoesOn}
+-- The hands that are left have a part each, and the owner's seat has the others.
+use Rattle.std.proofs.Common.{◌≡◌, ◌+◌, ◌<◌, length}
+use Rattle.drt_lock.specs.Seats.{Rests}
+use Rattle.drt_pool.specs.Turns.{EachPlace}
 use Rattle.drt_wave.proofs.sharing.gather.Given as goal
 
-abbrev pub invariant-seats : goal.invariant-seats
-invariant-seats l = AreDealt l.table.table.shared.table_id l.table.plan l.wave l.owner l.left.items × GoesOn l.fn.owner.me l.owner.me
+abbrev pub invariant-hands : goal.invariant-hands
+invariant-hands l = record {
+  name : l.owner.table_id ≡ l.lock.name;
+  owner : (0 < l.owner.me.0.parts) × (l.owner.me.0.parts + length l.hands.items ≡ 1024) × Rests l.lock.fixed l.owner.me.0.parts 0 l.owner.me;
+  each : EachPlace (λ place hand. (hand.lock_seat.table_id ≡ l.lock.name) × Rests l.lock.fixed 1 0 hand.lock_seat.me) l.hands.items;
+}
 
-abbrev pub decreases-seats : goal.decreases-seats
-decreases-seats l = length l.left.items
+abbrev pub decreases-hands : goal.decreases-hands
+decreases-hands l = length l.hands.items

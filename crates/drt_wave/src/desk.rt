@@ -1,0 +1,166 @@
+//! What the workers of a table take their seats from.
+ghost use Rattle.std.specs.Prelude.{◌≡◌, ◌<◌, ◌≤◌, IfSome};
+ghost use Rattle.drt_wave.specs.Cells.{net_of};
+ghost use Rattle.drt_wave.specs.Shifts.{IsAtWork, IsShift};
+ghost use Rattle.drt_wave.specs.Waves.{AllDrawn, AllExpanded};
+
+use crate::filling::{Crew, is_shared, work_wave};
+use crate::table::{WaveSeat, WaveTable};
+use drt_lock::Guarded;
+use std::marker::Model;
+
+/// The parts of a seat that has every part of the table.
+const PARTS: u64 = 1024;
+
+/// What a worker takes for a wave: the wave, and a seat of one part to work it with.
+#[derive(Drop)]
+pub(crate) struct Shift {
+    pub(crate) wave: u32,
+    pub(crate) seat: WaveSeat,
+}
+
+/// A table that is worked wave by wave, with the seat that has what no worker holds. Contracts see it as the table.
+///
+/// The waves before the open one are worked. A wave is known as final once all parts are back.
+#[derive(Drop)]
+pub(crate) struct Desk<'a> {
+    table: &'a WaveTable,
+    owner: WaveSeat,
+    // How many parts the owner's seat has.
+    parts: u64,
+    // The wave that is open, or how many there are where all are worked.
+    wave: u32,
+    waves: u32,
+    crew: Crew,
+}
+
+impl<'a> Model for Desk<'a> {
+    ghost use Rattle.drt_wave.specs.Shifts.{IsOwner};
+    ghost use Rattle.drt_wave.specs.declared.table.WaveTable.{WaveTable};
+
+    ghost Value = { WaveTable };
+
+    ghost view = { λ d. d.table.now };
+
+    ghost invariant = { λ d. IsOwner d.table.now.table.shared.table_id d.table.now.plan d.wave d.parts d.waves d.owner };
+}
+
+impl<'a> Guarded for Desk<'a> {
+    type Fixed = WaveTable;
+
+    ghost fixed = { λ d. d };
+
+    // Nothing is logged.
+    ghost entries = { λ d. 0 };
+}
+
+impl<'a> Desk<'a> {
+    /// A table whose waves before the first one that is shared are worked.
+    pub(crate) fn open(table: &'a WaveTable, owner: WaveSeat, waves: u32, crew: Crew) -> Desk<'a>
+        requires id { owner.table_id ≡ table.now.table.shared.table_id }
+        requires owner { IsAtWork table.now.plan 0 1024 owner.me }
+        requires waves { waves ≡ (net_of table.now.plan).waves }
+        ensures { result ≡ table.now }
+    {
+        let mut desk = Desk {
+            table,
+            owner,
+            parts: PARTS,
+            wave: 0,
+            waves,
+            crew,
+        };
+        desk.work_unshared();
+        desk
+    }
+
+    /// The wave that is open, or how many there are where all are worked.
+    pub(crate) fn open_wave(&self) -> u32 {
+        self.wave
+    }
+
+    /// Whether all waves are worked.
+    pub(crate) fn is_done(&self) -> bool {
+        self.wave >= self.waves
+    }
+
+    /// A seat for the open wave, where that is `next` or a later one and there is a part to spare.
+    pub(crate) fn take(&mut self, next: u64) -> Option<Shift>
+        ensures kept { self.new ≡ self.old }
+        ensures shift { IfSome result (λ shift. IsShift self.old shift.wave shift.seat) }
+    {
+        if self.wave >= self.waves || (self.wave as u64) < next || self.parts <= 1 {
+            return None;
+        }
+        match self.table.split(&mut self.owner) {
+            Ok(seat) => {
+                self.parts -= 1;
+                Some(Shift {
+                    wave: self.wave,
+                    seat,
+                })
+            }
+            Err(_) => None,
+        }
+    }
+
+    /// Takes a worker's seat in. Where all parts are back already, which can't be, the seat is dropped.
+    pub(crate) fn give_back(&mut self, shift: Shift)
+        requires { IsShift self.old shift.wave shift.seat }
+        ensures { self.new ≡ self.old }
+    {
+        if self.parts >= PARTS {
+            return;
+        }
+        self.table.join(&mut self.owner, shift.seat);
+        self.parts += 1;
+    }
+
+    /// Where all parts are back: works what is left of the open wave, which is one claim past its end where workers worked it, and by that
+    /// knows the wave as final. It goes on so over each later wave that is not shared.
+    pub(crate) fn work_on(&mut self)
+        ensures { self.new ≡ self.old }
+    {
+        self.work_open();
+        self.work_unshared();
+    }
+
+    /// The seat, once every wave is worked. Where all parts are back it works those that are left, and where one is out, None.
+    pub(crate) fn into_seat(self) -> Option<WaveSeat>
+        ensures id { IfSome result (λ seat. seat.table_id ≡ self.entry.table.shared.table_id) }
+        ensures drawn { IfSome result (λ seat. AllDrawn (net_of self.entry.plan) seat.me.0) }
+        ensures expanded { IfSome result (λ seat. AllExpanded (net_of self.entry.plan) seat.me.0) }
+    {
+        let mut desk = self;
+        'waves: for _wave in desk.wave..desk.waves {
+            desk.work_open();
+        }
+        if desk.wave < desk.waves {
+            return None;
+        }
+        Some(desk.owner)
+    }
+
+    // Works the waves from the open one on that are not shared, where all parts are back.
+    fn work_unshared(&mut self)
+        ensures { self.new ≡ self.old }
+    {
+        'waves: for _wave in self.wave..self.waves {
+            if self.wave >= self.waves || is_shared(self.table, self.wave, self.crew) {
+                return;
+            }
+            self.work_open();
+        }
+    }
+
+    // Where all parts are back and there is an open wave: works what is left of it, and opens the next one.
+    fn work_open(&mut self)
+        ensures { self.new ≡ self.old }
+    {
+        if self.parts < PARTS || self.wave >= self.waves {
+            return;
+        }
+        work_wave(self.table, &mut self.owner, self.wave);
+        self.wave += 1;
+    }
+}

@@ -1,0 +1,153 @@
+//! What the workers of a table share.
+ghost use Rattle.std.specs.Prelude.{◌≡◌, IfSome};
+ghost use Rattle.drt_lock.specs.Seats.{HoldsMachine, Rests};
+ghost use Rattle.drt_wave.specs.Shifts.{IsShift};
+
+use crate::desk::{Desk, Shift};
+use crate::drawing::turn_some;
+use crate::table::WaveTable;
+use atomic_table::Seat;
+use crossbeam_utils::Backoff;
+use drt_lock::{Lock, SeatView};
+use drt_pool::{Turn, Work};
+use std::sync::Wait;
+use std::sync::atomic::{AtomicU64, Ordering};
+
+/// How often a turn looks whether the next wave is open.
+const LOOKS: u32 = 64;
+
+/// The seat by which a worker has the lock.
+pub(crate) type LockSeat<'a> = Seat<Desk<'a>, SeatView<WaveTable>>;
+
+/// A table, and the desk where its workers take their seats.
+#[derive(Drop)]
+pub(crate) struct Relay<'a> {
+    pub(crate) table: &'a WaveTable,
+    pub(crate) lock: Lock<Desk<'a>>,
+    /// The wave that is open. It is there only so that who waits for a wave needn't take the lock.
+    pub(crate) open: AtomicU64,
+    ghost of_table: { lock.fixed ≡ table.now },
+}
+
+/// What a worker has.
+#[derive(Drop)]
+pub(crate) struct Hand<'a> {
+    pub(crate) lock_seat: LockSeat<'a>,
+    /// The wave that it works, with a seat.
+    pub(crate) held: Option<Shift>,
+    /// The first wave that it may work.
+    pub(crate) next: u64,
+}
+
+impl<'a> Work for Relay<'a> {
+    type Pass = Hand<'a>;
+
+    ghost fits = { λ relay place hand. (hand.lock_seat.table_id ≡ relay.lock.name) × Rests relay.lock.fixed 1 0 hand.lock_seat.me
+        × IfSome hand.held (λ shift. IsShift relay.table.now shift.wave shift.seat) };
+
+    ghost ended = { λ relay place hand. Unit {0} };
+
+    // A turn draws blocks for the seat in hand, or waits for a seat.
+    fn turn<R: Wait>(&self, rt: &R, hand: &mut Hand<'a>) -> Turn {
+        match hand.held.take() {
+            Some(shift) => {
+                self.work(rt, hand, shift);
+                Turn::More
+            }
+            None => self.seek(rt, hand),
+        }
+    }
+}
+
+impl<'a> Relay<'a> {
+    // Draws blocks of the wave and works them. Where a number is past the wave's end the seat is given back.
+    fn work<R: Wait>(&self, rt: &R, hand: &mut Hand<'a>, shift: Shift)
+        requires name { hand.old.lock_seat.table_id ≡ self.now.lock.name }
+        requires seat { Rests self.now.lock.fixed 1 0 hand.old.lock_seat.me }
+        requires shift { IsShift self.now.table.now shift.wave shift.seat }
+        ensures name { hand.new.lock_seat.table_id ≡ self.now.lock.name }
+        ensures seat { Rests self.now.lock.fixed 1 0 hand.new.lock_seat.me }
+        ensures held { IfSome hand.new.held (λ s. IsShift self.now.table.now s.wave s.seat) }
+    {
+        let mut shift = shift;
+        if turn_some(self.table, &mut shift.seat, shift.wave) {
+            hand.held = Some(shift);
+            return;
+        }
+        hand.next = shift.wave as u64 + 1;
+        hand.held = None;
+        self.hand_in(rt, &mut hand.lock_seat, shift);
+    }
+
+    // Gives a seat back under the lock.
+    fn hand_in<R: Wait>(&self, rt: &R, seat: &mut LockSeat<'a>, shift: Shift)
+        requires name { seat.old.table_id ≡ self.now.lock.name }
+        requires seat { Rests self.now.lock.fixed 1 0 seat.old.me }
+        requires shift { IsShift self.now.table.now shift.wave shift.seat }
+        ensures name { seat.new.table_id ≡ self.now.lock.name }
+        ensures seat { Rests self.now.lock.fixed 1 0 seat.new.me }
+    {
+        self.lock.enter(rt, seat);
+        let open = self.give_back(seat, shift);
+        self.open.store(open, Ordering::SeqCst);
+        self.lock.leave(seat);
+    }
+
+    // Gives a seat back to the desk that is out with the lock's seat. Who finds all parts back there works on. Answers the wave that is open then.
+    fn give_back(&self, seat: &mut LockSeat<'a>, shift: Shift) -> u64
+        requires name { seat.old.table_id ≡ self.now.lock.name }
+        requires desk { HoldsMachine self.now.lock.fixed seat.old.me }
+        requires shift { IsShift self.now.lock.fixed shift.wave shift.seat }
+        ensures name { seat.new.table_id ≡ seat.old.table_id }
+        ensures me { seat.new.me ≡ seat.old.me }
+    {
+        let desk = seat.slot_mut(self.lock.slots(), 0);
+        desk.give_back(shift);
+        desk.work_on();
+        desk.open_wave() as u64
+    }
+
+    // Waits for a wave, and takes a seat for it. Stop where all waves are worked.
+    fn seek<R: Wait>(&self, rt: &R, hand: &mut Hand<'a>) -> Turn
+        requires name { hand.old.lock_seat.table_id ≡ self.now.lock.name }
+        requires seat { Rests self.now.lock.fixed 1 0 hand.old.lock_seat.me }
+        ensures name { hand.new.lock_seat.table_id ≡ self.now.lock.name }
+        ensures seat { Rests self.now.lock.fixed 1 0 hand.new.lock_seat.me }
+        ensures held { IfSome hand.new.held (λ s. IsShift self.now.table.now s.wave s.seat) }
+    {
+        hand.held = None;
+        if !self.is_open(hand.next) {
+            return Turn::More;
+        }
+        self.lock.enter(rt, &mut hand.lock_seat);
+        let (is_done, shift) = self.take(&mut hand.lock_seat, hand.next);
+        self.lock.leave(&mut hand.lock_seat);
+        hand.held = shift;
+        if is_done { Turn::Stop } else { Turn::More }
+    }
+
+    // Takes a seat from the desk that is out with the lock's seat, and says whether all waves are worked.
+    fn take(&self, seat: &mut LockSeat<'a>, next: u64) -> (bool, Option<Shift>)
+        requires name { seat.old.table_id ≡ self.now.lock.name }
+        requires desk { HoldsMachine self.now.lock.fixed seat.old.me }
+        ensures name { seat.new.table_id ≡ seat.old.table_id }
+        ensures me { seat.new.me ≡ seat.old.me }
+        ensures shift { IfSome result.1 (λ s. IsShift self.now.lock.fixed s.wave s.seat) }
+    {
+        let desk = seat.slot_mut(self.lock.slots(), 0);
+        let shift = desk.take(next);
+        (desk.is_done(), shift)
+    }
+
+    // Waits a while until the wave is open, and says whether it is.
+    fn is_open(&self, wave: u64) -> bool {
+        let backoff = Backoff::new();
+        for _look in 0..LOOKS {
+            if self.open.load(Ordering::SeqCst) >= wave {
+                return true;
+            }
+            backoff.snooze();
+        }
+        false
+    }
+}
