@@ -1,5 +1,5 @@
 -- Seats are split off for workers and joined again, and the owner goes on from wave to wave.
-use Rattle.std.proofs.Common.{◌≡◌, ℕ, ◌+◌, ◌*◌, ◌/◌, ◌^◌, ◌<◌, ◌≤◌, [], sym, refl, ◌∙◌, subst, inr, ⊎_elim, arith}
+use Rattle.std.proofs.Common.{◌≡◌, ℕ, ◌+◌, ◌*◌, ◌/◌, ◌^◌, ◌<◌, ◌≤◌, sym, ◌∙◌, subst, inr, ⊎_elim, arith}
 use Rattle.std.proofs.Math.Nat.{mod-le}
 use Rattle.atomic_table.specs.Table.{Me}
 use Rattle.atomic_table.specs.Seated.{TableId}
@@ -7,7 +7,7 @@ use Rattle.atomic_table.specs.declared.shared.Seat.{Seat}
 use Rattle.drt_wave.specs.declared.plan.Plan.{Plan}
 use Rattle.drt_wave.specs.declared.view.View.{View}
 use Rattle.drt_wave.specs.Net.{Net, Among}
-use Rattle.drt_wave.specs.Waves.{split_left, split_right, joined, IsExpanded, AllExpanded}
+use Rattle.drt_wave.specs.Waves.{split_left, joined, IsExpanded, AllExpanded}
 use Rattle.drt_wave.specs.Cells.{net_of}
 use Rattle.drt_wave.specs.Seats.{Draws, HasDrawn, Turned}
 use Rattle.drt_wave.specs.Shifts.{IsAtWork, IsWorkers, IsOwner, HasWorked}
@@ -34,15 +34,6 @@ module _ {S : Type 0} (p : Plan) (j : ℕ) where
     known = h.known;
     all = h.all;
     slots = h.slots;
-  }
-
-  work_right : (a : ℕ) (m n : Me S (View Plan)) → IsAtWork p j a m → n ≡ (split_right m.0, []) → IsAtWork p j 1 n
-  work_right a m n h e = subst (IsAtWork p j 1) (sym e) record {
-    at = (h.at.0, omega arith);
-    parts = refl;
-    known = h.known;
-    all = λ i k lt at. absurd at;
-    slots = refl;
   }
 
   -- the other seat may have worked another wave
@@ -91,17 +82,6 @@ module _ (id : TableId) (p : Plan) where
   abbrev WaveSeat : Type 0
   WaveSeat = Seat (Unit {0}) (View Plan)
 
-  -- no wave is worked yet
-  pub owner_first : (waves : ℕ) (seat : WaveSeat) → seat.table_id ≡ id → IsAtWork p 0 1024 seat.me → waves ≡ (net_of p).waves → IsOwner id p 0 1024 waves seat
-  owner_first waves seat e work are = record {
-    id_is = e;
-    work = work;
-    few = omega arith;
-    waves_are = are;
-    within = omega arith;
-    drawn = λ i n lt few. absurd (omega arith);
-  }
-
   -- the seat is the same
   pub owner_kept : (j a waves : ℕ) (old new : WaveSeat) → IsOwner id p j a waves old → new.table_id ≡ old.table_id → new.me ≡ old.me → IsOwner id p j a waves new
   owner_kept j a waves old new o e same = record {
@@ -124,10 +104,6 @@ module _ (id : TableId) (p : Plan) where
     within = o.within;
     drawn = λ i n lt fits. subst (λ (m : Me (Unit {0}) (View Plan)). Among (i, n / 64) m.0.draws) (sym left) (o.drawn i n lt fits);
   }
-
-  -- and is a worker's
-  pub worker_right : (j a waves : ℕ) (old new : WaveSeat) → IsOwner id p j a waves old → new.table_id ≡ old.table_id → new.me ≡ (split_right old.me.0, []) → IsWorkers id p j new
-  worker_right j a waves old new o e right = (e ∙ o.id_is, work_right p j a old.me new.me o.work right)
 
   -- a worker's seat is joined
   pub owner_joined : (j i a waves : ℕ) (old other new : WaveSeat) → IsOwner id p j a waves old → IsWorkers id p i other → a < 1024 → new.table_id ≡ old.table_id
