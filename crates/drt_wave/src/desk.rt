@@ -1,5 +1,5 @@
 //! What the workers of a table take their seats from.
-ghost use Rattle.std.specs.Prelude.{◌≡◌, ◌<◌, ◌≤◌, IfSome};
+ghost use Rattle.std.specs.Prelude.{◌≡◌, IfSome};
 ghost use Rattle.drt_wave.specs.Cells.{net_of};
 ghost use Rattle.drt_wave.specs.Shifts.{IsAtWork, IsShift};
 ghost use Rattle.drt_wave.specs.Waves.{AllDrawn, AllExpanded};

@@ -89,11 +89,13 @@ impl<'a> Relay<'a> {
     {
         self.lock.enter(rt, seat);
         let open = self.give_back(seat, shift);
+        // Told before the lock is left, so that it never falls back to an earlier wave.
         self.open.store(open, Ordering::SeqCst);
         self.lock.leave(seat);
     }
 
-    // Gives a seat back to the desk that is out with the lock's seat. Who finds all parts back there works on. Answers the wave that is open then.
+    // Gives a seat back to the desk that is out with the lock's seat. Who finds all parts back there works on. Answers the wave that is
+    // open then.
     fn give_back(&self, seat: &mut LockSeat<'a>, shift: Shift) -> u64
         requires name { seat.old.table_id ≡ self.now.lock.name }
         requires desk { HoldsMachine self.now.lock.fixed seat.old.me }
