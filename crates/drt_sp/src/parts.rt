@@ -24,8 +24,8 @@ use std::sync::Wait;
 use std::thread;
 use std::thread::{Threads, available_parallelism};
 
-// How many vertices are attempted together at first, where their attempts are spent: together that takes about two milliseconds, and to
-// begin threads up to five.
+// How many vertices are attempted together at first, where their attempts are spent: together that takes about a millisecond, and to begin
+// threads up to five.
 const TOGETHER: usize = 8;
 
 /// The items that end a combination, by the place of its frontier among those that were spent, and by its number there.
