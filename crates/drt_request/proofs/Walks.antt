@@ -57,7 +57,7 @@ unfolding value_at
 raised_value k w xs t from to =
     at_raised k w xs (t - 1) (omega arith) ∙ ap (λ z. slice_index xs (t - 1) + cond (nat_lt k z) w 0) (let e : (t - 1) + 1 ≡ t = omega arith in e)
 
-at_flat : (n v i : ℕ) → i < n → slice_index (replicate n v) i ≡ v
+pub at_flat : (n v i : ℕ) → i < n → slice_index (replicate n v) i ≡ v
 at_flat zero v i lt = absurd (omega arith)
 at_flat (suc n) v zero lt = refl
 at_flat (suc n) v (suc i) lt = at_flat n v i (omega arith)

@@ -18,17 +18,21 @@ use std::sync::Arc;
 pub struct RequestLabel {
     vertex: u32,
     offset: u64,
+    // The value at the bound, which tells most labels apart without a look at their functions.
+    total: u64,
     steps: Arc<Steps>,
 }
 
 impl Model for RequestLabel {
+    ghost use Rattle.std.specs.Prelude.{◌≡◌, length};
+    ghost use Rattle.drt_steps.specs.Values.{value_at};
     ghost use Rattle.drt_request.specs.Request.{Request, IsWithinLimits};
 
     ghost Value = { Request };
 
     ghost view = { λ s. record { vertex = s.vertex; offset = s.offset; values = s.steps.value } };
 
-    ghost invariant = { λ s. IsWithinLimits s.offset s.steps.value };
+    ghost invariant = { λ s. IsWithinLimits s.offset s.steps.value × (s.total ≡ value_at s.steps.value (length s.steps.value)) };
 }
 
 impl RequestLabel {
@@ -51,6 +55,7 @@ impl Label for RequestLabel {
         Ok(RequestLabel {
             vertex: number,
             offset: 0,
+            total: wcet as u64,
             steps: Arc::new(alloc, Steps::flat(alloc, bound, wcet as u64)?)?,
         })
     }
@@ -67,6 +72,7 @@ impl Label for RequestLabel {
         Ok(RequestLabel {
             vertex: target,
             offset,
+            total: steps.at(steps.bound()),
             steps: Arc::new(alloc, steps)?,
         })
     }
@@ -79,6 +85,7 @@ impl Label for RequestLabel {
         RequestLabel {
             vertex: self.vertex,
             offset: self.offset,
+            total: self.total,
             steps: spare,
         }
     }
@@ -96,6 +103,9 @@ impl Label for RequestLabel {
     }
 
     fn dominates(&self, other: &Self) -> bool {
+        if self.total < other.total {
+            return false;
+        }
         self.vertex == other.vertex
             && self.offset <= other.offset
             && self.steps.covers(&other.steps)

@@ -1,4 +1,5 @@
 pub mod Jumps
+pub mod Marked
 pub mod Merging
 pub mod Covering
 pub mod Kept

@@ -1,6 +1,7 @@
 -- What the code keeps of a function: a base, and rises that come after given times.
-use Rattle.std.specs.Prelude.{ℕ, suc, zero, ◌≡◌, ◌+◌, ◌-◌, ◌≤◌, ◌<◌, max, nat_lt, nat_le, cond, Some, List, [], ◌∷◌, ◌++◌, length, slice_get, slice_index_or}
+use Rattle.std.specs.Prelude.{ℕ, suc, zero, ◌≡◌, ◌+◌, ◌-◌, ◌*◌, ◌/◌, ◌≤◌, ◌<◌, max, nat_lt, nat_le, cond, Some, List, [], ◌∷◌, ◌++◌, length, slice_get, slice_index, slice_index_or}
 use Rattle.drt_steps.specs.declared.jump.Jump.{Jump}
+use Rattle.drt_steps.specs.Values.{value_at}
 
 -- The rises before the time t.
 abbrev pub risen : List Jump → ℕ → ℕ
@@ -48,6 +49,10 @@ levels base (j ∷ js) = (base + j.rise) ∷ levels (base + j.rise) js
 pub record IsKept (bound base : ℕ) (jumps : List Jump) (values : List ℕ) : Type 0 where
   pub kept : AreKept bound base jumps
   pub levels_are : values ≡ levels base jumps
+
+-- The values xs at the bound and at seven times before it, each an eighth of the bound before the last.
+pub record AreMarks (bound : ℕ) (xs marks : List ℕ) : Type 0 where
+  pub are : (k : ℕ) → k < 8 → slice_index marks k ≡ value_at xs (bound - k * (bound / 8))
 
 -- A place among the jumps, or at their end, whose jump in front comes before the time t.
 pub record IsReached (jumps : List Jump) (t place : ℕ) : Type 0 where

@@ -68,7 +68,7 @@ pub fn level_since(jumps: &[Jump], t: u64) -> u64
 pub fn placed(alloc: Global, jumps: &[Jump], new: Jump) -> Result<Vec<Jump>, AllocError>
     ensures { IfOk result (λ v. v.items ≡ up_to new.after jumps.now ++ new ∷ past new.after jumps.now) }
 {
-    let mut all = Vec::new(alloc);
+    let mut all = Vec::with_capacity(alloc, jumps.len() + 1)?;
     for jump in jumps {
         if jump.after <= new.after {
             all.push(*jump)?;

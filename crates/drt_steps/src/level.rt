@@ -10,7 +10,7 @@ pub fn levels(alloc: Global, base: u64, jumps: &[Jump]) -> Result<Vec<u64>, Allo
     requires { base + total jumps.now ≤ 1000000000000 }
     ensures { IfOk result (λ v. v.items ≡ levels base jumps.now) }
 {
-    let mut all = Vec::new(alloc);
+    let mut all = Vec::with_capacity(alloc, jumps.len())?;
     let mut level = base;
     for jump in jumps {
         level += jump.rise;

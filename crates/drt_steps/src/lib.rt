@@ -6,6 +6,7 @@
 
 mod jump;
 mod level;
+mod marks;
 mod merge;
 mod steps;
 mod time;

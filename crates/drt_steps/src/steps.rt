@@ -7,6 +7,7 @@ ghost use Rattle.drt_steps.specs.Jumps.{values, AreKept};
 
 use crate::jump::{Jump, level_since, place_from, place_of, placed};
 use crate::level::{level_after, levels};
+use crate::marks::{MARKS, marks};
 use crate::merge::{merged, stays_above};
 use std::alloc::{AllocError, Global};
 use std::cmp::Ordering;
@@ -20,17 +21,18 @@ pub struct Steps {
     base: u64,
     jumps: Vec<Jump>,
     levels: Vec<u64>,
+    marks: [u64; MARKS],
 }
 
 impl Model for Steps {
     ghost use Rattle.std.specs.Prelude.{List, ℕ};
-    ghost use Rattle.drt_steps.specs.Jumps.{values, IsKept};
+    ghost use Rattle.drt_steps.specs.Jumps.{values, IsKept, AreMarks};
 
     ghost Value = { List ℕ };
 
     ghost view = { λ s. values s.bound s.base s.jumps.items };
 
-    ghost invariant = { λ s. IsKept s.bound s.base s.jumps.items s.levels.items };
+    ghost invariant = { λ s. IsKept s.bound s.base s.jumps.items s.levels.items × AreMarks s.bound (values s.bound s.base s.jumps.items) s.marks };
 }
 
 impl Steps {
@@ -45,11 +47,13 @@ impl Steps {
         ensures { IfOk result (λ s. s ≡ values bound base jumps.items) }
     {
         let levels = levels(alloc, base, &jumps)?;
+        let marks = marks(bound, base, &jumps, &levels);
         Ok(Steps {
             bound,
             base,
             jumps,
             levels,
+            marks,
         })
     }
 
@@ -65,6 +69,7 @@ impl Steps {
             base: value,
             jumps: Vec::new(alloc),
             levels: Vec::new(alloc),
+            marks: [value; MARKS],
         })
     }
 
@@ -77,6 +82,7 @@ impl Steps {
             base: self.base,
             jumps: Vec::from_slice(alloc, &self.jumps)?,
             levels: Vec::from_slice(alloc, &self.levels)?,
+            marks: self.marks,
         })
     }
 
@@ -145,27 +151,17 @@ impl Steps {
         stays_above(self.base, &self.jumps, other.base, &other.jumps)
     }
 
-    // Whether the function's value is less at the bound, or at one of three times that part the times before it.
+    // Whether the function's value is less at one of the times whose values are ready.
     fn is_seen_below(&self, other: &Steps) -> bool
         requires { length self.now ≡ length other.now }
         ensures { result ≡ true → covers self.now other.now ≡ false }
     {
-        let bound = self.bound();
-        let quarter = bound / 4;
-        self.is_below_at(other, bound)
-            || self.is_below_at(other, bound - quarter)
-            || self.is_below_at(other, bound - 2 * quarter)
-            || self.is_below_at(other, bound - 3 * quarter)
-    }
-
-    // Whether the function's value at the time `t` is less.
-    fn is_below_at(&self, other: &Steps, t: u64) -> bool
-        requires from { 1 ≤ t }
-        requires to { t ≤ length self.now }
-        requires same { length self.now ≡ length other.now }
-        ensures { result ≡ true → covers self.now other.now ≡ false }
-    {
-        self.at(t) < other.at(t)
+        'marks: for k in 0..MARKS {
+            if self.marks[k] < other.marks[k] {
+                return true;
+            }
+        }
+        false
     }
 
     /// The function whose value at each time is the greater one of two.

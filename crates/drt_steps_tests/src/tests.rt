@@ -131,6 +131,23 @@ fn a_function_that_is_less_at_one_time_does_not_cover(rt: HostRuntime) -> Result
     Ok(())
 }
 
+// Of two functions that rise once, one tick apart, the earlier one is greater at just one time. So each time of each bound decides a pair.
+#[test]
+fn each_time_can_decide_who_covers(rt: HostRuntime) -> Result<(), Fail> {
+    let alloc = rt.alloc();
+    for bound in 1..=20 {
+        for time in 1..=bound {
+            let early = two_values(alloc, bound, 1, time - 1, 5)?;
+            let late = two_values(alloc, bound, 1, time, 5)?;
+            assert_eq!(rt; early.bound(), late.bound());
+            assert!(rt; early.covers(&late));
+            assert!(rt; !late.covers(&early));
+            assert!(rt; late.covers(&late));
+        }
+    }
+    Ok(())
+}
+
 #[test]
 fn with_none_ahead_the_least_time_is_the_wcet(rt: HostRuntime) -> Result<(), Fail> {
     assert_eq!(rt; least(&rt, 0, 3, &[], &[]), Some(1));

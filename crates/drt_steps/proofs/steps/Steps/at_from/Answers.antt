@@ -5,16 +5,16 @@ use Rattle.drt_steps.proofs.steps.Steps.at_from.Goals as goal
 
 pub level_after-requires : goal.level_after-requires
 level_after-requires c =
-    place_within c.self.inside.bound c.self.inside.base c.self.inside.jumps.items c.self.inside.levels.items c.deref.result.now c.deref-2.result.now c.args.t c.place_from.result c.self.invariant c.deref.ensures.value c.deref-2.ensures.value c.place_from.ensures
+    place_within c.self.inside.bound c.self.inside.base c.self.inside.jumps.items c.self.inside.levels.items c.deref.result.now c.deref-2.result.now c.args.t c.place_from.result c.self.invariant.0 c.deref.ensures.value c.deref-2.ensures.value c.place_from.ensures
 
 pub returns-clause-value : goal.returns-clause-value
 returns-clause-value c =
-    c.level_after.ensures ∙ value_seen c.self.inside.bound c.self.inside.base c.self.inside.jumps.items c.self.inside.levels.items c.args.self.now c.deref.result.now c.deref-2.result.now c.args.t c.place_from.result c.self.view_is c.self.invariant c.requires.from c.requires.to c.deref.ensures.value c.deref-2.ensures.value c.place_from.ensures
+    c.level_after.ensures ∙ value_seen c.self.inside.bound c.self.inside.base c.self.inside.jumps.items c.self.inside.levels.items c.args.self.now c.deref.result.now c.deref-2.result.now c.args.t c.place_from.result c.self.view_is c.self.invariant.0 c.requires.from c.requires.to c.deref.ensures.value c.deref-2.ensures.value c.place_from.ensures
 
 pub returns-clause-small : goal.returns-clause-small
 returns-clause-small c =
     let e : c.level_after.result ≡ value_at c.args.self.now c.args.t = returns-clause-value c in
-    let small : value_at c.args.self.now c.args.t ≤ 1000000000000 = value_small c.self.inside.bound c.self.inside.base c.self.inside.jumps.items c.args.self.now c.args.t c.self.view_is c.self.invariant.kept c.requires.from c.requires.to in
+    let small : value_at c.args.self.now c.args.t ≤ 1000000000000 = value_small c.self.inside.bound c.self.inside.base c.self.inside.jumps.items c.args.self.now c.args.t c.self.view_is c.self.invariant.0.kept c.requires.from c.requires.to in
     omega arith
 
 pub returns-clause-rises : goal.returns-clause-rises

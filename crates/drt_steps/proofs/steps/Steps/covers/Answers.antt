@@ -18,7 +18,7 @@ returns c =
     let no : c.stays_above.result ≡ false → (s : ℕ) × IsBelowAt p own q other s =
     subst (λ (xs : List Jump). c.stays_above.result ≡ false → (s : ℕ) × IsBelowAt p xs q other s) c.deref.ensures.value
     (subst (λ (ys : List Jump). c.stays_above.result ≡ false → (s : ℕ) × IsBelowAt p c.deref.result.now q ys s) c.deref-2.ensures.value c.stays_above.ensures.below) in
-    covers_is c.stays_above.result c.self.inside.bound c.other.inside.bound p q own other same c.self.invariant.kept.from c.other.invariant.kept.below yes no
+    covers_is c.stays_above.result c.self.inside.bound c.other.inside.bound p q own other same c.self.invariant.0.kept.from c.other.invariant.0.kept.below yes no
     ∙ (ap (λ xs. covers xs (values c.other.inside.bound q other)) c.self.view_is ∙ ap (λ ys. covers c.args.self.now ys) c.other.view_is)
 
 pub returns-then-is_seen_below : goal.returns-then-is_seen_below

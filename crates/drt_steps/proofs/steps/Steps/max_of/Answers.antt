@@ -14,7 +14,7 @@ from_jumps-requires c =
     let most : List Jump = c.in_ok-jumps.jumps.items in
     let same : c.a.inside.bound ≡ c.b.inside.bound = long c.a.inside.bound p own c.args.a.now c.a.view_is ∙ (c.requires ∙ sym (long c.b.inside.bound q other c.args.b.now c.b.view_is)) in
     let h : AreMost p own q other most = most_along p q c.deref.result.now own c.deref-2.result.now other most c.deref.ensures.value c.deref-2.ensures.value c.in_ok-jumps.ensures in
-    subst (λ (z : ℕ). AreKept c.a.inside.bound z most) (sym c.max.ensures) (most_kept c.a.inside.bound c.b.inside.bound p q own other most same c.a.invariant.kept c.b.invariant.kept h)
+    subst (λ (z : ℕ). AreKept c.a.inside.bound z most) (sym c.max.ensures) (most_kept c.a.inside.bound c.b.inside.bound p q own other most same c.a.invariant.0.kept c.b.invariant.0.kept h)
 
 pub returns : goal.returns
 returns c =

@@ -17,11 +17,11 @@ from_jumps-requires c =
     let n : ℕ = c.self.inside.bound in
     let js : List Jump = c.self.inside.jumps.items in
     let is : n ≡ length c.args.self.now = long n c.self.inside.base js c.args.self.now c.self.view_is in
-    let t : value_at c.args.self.now n ≡ c.self.inside.base + total js = top n c.self.inside.base js c.args.self.now c.self.view_is c.self.invariant.kept in
-    let from : 1 ≤ n = c.self.invariant.kept.from in
+    let t : value_at c.args.self.now n ≡ c.self.inside.base + total js = top n c.self.inside.base js c.args.self.now c.self.view_is c.self.invariant.0.kept in
+    let from : 1 ≤ n = c.self.invariant.0.kept.from in
     let small : value_at c.args.self.now n + c.args.work ≤ 1000000000000 = c.requires n (omega (arith, c.if-offset-eq0.true)) (omega arith) in
     let e : js ≡ c.in_ok-jumps.jumps.items = sym (c.in_ok-jumps.ensures.items ∙ c.deref.ensures.value) in
-    subst (λ (ks : List Jump). AreKept n (c.self.inside.base + c.args.work) ks) e (base_kept n c.self.inside.base c.args.work js c.self.invariant.kept (omega arith))
+    subst (λ (ks : List Jump). AreKept n (c.self.inside.base + c.args.work) ks) e (base_kept n c.self.inside.base c.args.work js c.self.invariant.0.kept (omega arith))
 
 pub returns-then-offset-eq0 : goal.returns-then-offset-eq0
 returns-then-offset-eq0 c =
@@ -39,11 +39,11 @@ from_jumps-requires-2 c =
     let js : List Jump = c.self.inside.jumps.items in
     let new : Jump = record { after = c.args.offset; rise = c.args.work } in
     let is : n ≡ length c.args.self.now = long n c.self.inside.base js c.args.self.now c.self.view_is in
-    let t : value_at c.args.self.now n ≡ c.self.inside.base + total js = top n c.self.inside.base js c.args.self.now c.self.view_is c.self.invariant.kept in
+    let t : value_at c.args.self.now n ≡ c.self.inside.base + total js = top n c.self.inside.base js c.args.self.now c.self.view_is c.self.invariant.0.kept in
     let lt : c.args.offset < n = c.if-offset-self.false in
     let small : value_at c.args.self.now n + c.args.work ≤ 1000000000000 = c.requires n lt (omega arith) in
     let e : c.in_ok-jumps-2.jumps.items ≡ up_to c.args.offset js ++ new ∷ past c.args.offset js = c.in_ok-jumps-2.ensures ∙ ap (λ ks. up_to c.args.offset ks ++ new ∷ past c.args.offset ks) c.deref-2.ensures.value in
-    subst (λ (ks : List Jump). AreKept n c.self.inside.base ks) (sym e) (placed_kept n c.self.inside.base js new c.self.invariant.kept (omega arith) (omega (arith, c.if-offset-eq0.false)) lt)
+    subst (λ (ks : List Jump). AreKept n c.self.inside.base ks) (sym e) (placed_kept n c.self.inside.base js new c.self.invariant.0.kept (omega arith) (omega (arith, c.if-offset-eq0.false)) lt)
 
 pub returns : goal.returns
 returns c =

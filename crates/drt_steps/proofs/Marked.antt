@@ -1,0 +1,45 @@
+-- Values that are ready.
+use Rattle.std.proofs.Common.{◌≡◌, ℕ, suc, zero, ◌+◌, ◌-◌, ◌*◌, ◌/◌, ◌<◌, ◌≤◌, false, List, length, refl, sym, ap, ◌∙◌, subst, arith, slice_index, slice_set, replicate}
+use Rattle.std.proofs.lemmas.List.{get_or-set_same, get_or-set_other}
+use Rattle.std.proofs.Math.Nat.{mul-le-mul_right}
+use mathlib.Core.Logic.{dite}
+use native.Mathlib.Decide.{dec_lt}
+use Rattle.drt_steps.specs.Values.{covers, value_at}
+use Rattle.drt_steps.specs.Jumps.{AreMarks}
+use Rattle.drt_steps.proofs.Covering.{below_at}
+
+-- an eighth, seven times, is less than the whole
+pub mark_within : (n k : ℕ) → 1 ≤ n → k < 8 → (1 ≤ n - k * (n / 8)) × (k * (n / 8) < n)
+mark_within n k from lt =
+    let q : k * (n / 8) ≤ 7 * (n / 8) = mul-le-mul_right (n / 8) (let h : k ≤ 7 = omega (arith, lt) in h) in
+    (omega (arith, from, q), omega (arith, from, q))
+
+-- where one of them is less, the function doesn't cover the other one
+pub mark_below : (n m : ℕ) (xs ys marks others : List ℕ) (k : ℕ) → AreMarks n xs marks → AreMarks m ys others → n ≡ m → n ≡ length xs → 1 ≤ n → k < 8 → slice_index marks k < slice_index others k → covers xs ys ≡ false
+mark_below n m xs ys marks others k a b e l from lt less =
+    let w = mark_within n k from lt in
+    let own : slice_index marks k ≡ value_at xs (n - k * (n / 8)) = a.are k lt in
+    let theirs : slice_index others k ≡ value_at ys (n - k * (n / 8)) = b.are k lt ∙ ap (λ z. value_at ys (z - k * (z / 8))) (sym e) in
+    below_at xs ys (n - k * (n / 8)) w.0 (omega (arith, w.1, l)) (omega (arith, own, theirs, less))
+
+-- one more of some values in their places
+pub marks_more : (marks : List ℕ) (k x : ℕ) (f : ℕ → ℕ) → k < length marks → ((i : ℕ) → i < k → slice_index marks i ≡ f i) → x ≡ f k
+    → (i : ℕ) → i < k + 1 → slice_index (slice_set marks k x) i ≡ f i
+marks_more marks k x f room before now i lt = dite (dec_lt i k)
+    (λ l. get_or-set_other marks k i x 0 (λ e. absurd (omega arith)) ∙ before i l)
+    (λ nl.
+    let same : i ≡ k = omega arith in
+    subst (λ z. slice_index (slice_set marks k x) z ≡ f z) (sym same) (get_or-set_same marks k x 0 room ∙ now))
+
+at_flat : (n v i : ℕ) → i < n → slice_index (replicate n v) i ≡ v
+at_flat zero v i lt = absurd (omega arith)
+at_flat (suc n) v zero lt = refl
+at_flat (suc n) v (suc i) lt = at_flat n v i (omega (arith, lt))
+
+flat_at : (n v t : ℕ) → 1 ≤ t → t ≤ n → value_at (replicate n v) t ≡ v
+unfolding value_at
+flat_at n v t from to = at_flat n v (t - 1) (omega (arith, from, to))
+
+-- those of a function with one value
+pub flat_marks : (n v : ℕ) → 1 ≤ n → AreMarks n (replicate n v) (replicate 8 v)
+flat_marks n v from = record { are = λ k lt. let w = mark_within n k from lt in at_flat 8 v k lt ∙ sym (flat_at n v (n - k * (n / 8)) w.0 (omega (arith, w.1))) }
