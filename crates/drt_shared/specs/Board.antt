@@ -15,6 +15,7 @@ use Rattle.drt_shared.specs.declared.pass.Holding.{Holding}
 use Rattle.drt_shared.specs.declared.reply.Move.{Move}
 use Rattle.drt_shared.specs.declared.reply.Move.TheVariants.{Take, Offer, Close}
 use Rattle.drt_shared.specs.declared.reply.SharedReply.{SharedReply}
+use Rattle.drt_shared.specs.declared.reply.SharedReply.TheVariants.{Step, Halted, Strange}
 
 module _ {L : Type 0} where
   -- Each pending node has its spare.
@@ -93,3 +94,9 @@ pub record IsCall {L : Type 0} (a : Algebra L) (old new : View L) (o : Option (H
   pub comes : ForReply (λ r. ComesTaken r taken) reply
   pub held : AreHeld a (setting_of old) taken
   pub next : ForReply (λ r. CanCount a (setting_of old) r o) reply
+
+-- Where the search is halted, or what was found differs, the table is as it was.
+abbrev pub StaysUnlessStepped : {L : Type 0} → SharedReply → View L → View L → Type 0
+StaysUnlessStepped (Step r) old new = Unit {0}
+StaysUnlessStepped Halted old new = new ≡ old
+StaysUnlessStepped (Strange f) old new = new ≡ old

@@ -47,3 +47,9 @@ abbrev pub DiffersIfStrange : {L : Type 0} → Option (Holding L) → SharedRepl
 DiffersIfStrange o (Step r) = Unit {0}
 DiffersIfStrange o Halted = Unit {0}
 DiffersIfStrange o (Strange f) = is_expected o f ≡ false
+
+-- And it tells what is found among these nodes for a worker whose pass holds that.
+abbrev pub TellsFound : {L : Type 0} → Algebra L → List (NodeOf L) → ℕ → Option (Holding L) → SharedReply → Type 0
+TellsFound a nodes w o (Step r) = Unit {0}
+TellsFound a nodes w o Halted = Unit {0}
+TellsFound a nodes w o (Strange f) = f ≡ found_for a nodes w o

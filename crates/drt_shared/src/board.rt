@@ -1,15 +1,15 @@
 //! The table behind the lock.
 
-ghost use Rattle.std.specs.Prelude.{◌≡◌, ℕ, ◌≤◌, IfOk, IsTrue, Option, Some, None, true, []};
+ghost use Rattle.std.specs.Prelude.{◌≡◌, ◌↔◌, ℕ, ◌≤◌, IfOk, IsTrue, Option, Some, None, true, []};
 ghost use Rattle.drt_table.specs.Node.{is_held_by};
 ghost use Rattle.drt_table.specs.Taking.{taken_node};
 ghost use Rattle.drt_table.specs.View.{IsTable, setting_of, state_of, CanApply, ComesWith};
 ghost use Rattle.drt_worklist.specs.Places.{first};
-ghost use Rattle.drt_shared.specs.Board.{CanMove, CanHandOut, IsCall, IsLogged};
-ghost use Rattle.drt_shared.specs.Finds.{found_for, is_label_of, is_expected, is_number};
+ghost use Rattle.drt_shared.specs.Board.{CanMove, CanHandOut, IsCall, IsLogged, StaysUnlessStepped};
+ghost use Rattle.drt_shared.specs.Finds.{found_for, is_label_of, is_expected, is_number, TellsFound};
 ghost use Rattle.drt_shared.specs.Passes.{AreHeld, IsLabel};
 ghost use Rattle.drt_shared.specs.declared.reply.Move.TheVariants.{Take, Offer, Close};
-ghost use Rattle.drt_shared.specs.declared.reply.SharedReply.TheVariants.{Step};
+ghost use Rattle.drt_shared.specs.declared.reply.SharedReply.TheVariants.{Step, Halted};
 
 use crate::pass::Holding;
 use crate::reply::{Found, Move, SharedReply};
@@ -84,7 +84,10 @@ impl<L: Label> Board<L> {
     ) -> (SharedReply, Option<Holding<L>>)
         requires held { AreHeld L.algebra (setting_of self.old) holding.now }
         requires can { CanMove L.algebra (setting_of self.old) holding.now wanted }
-        ensures { IsCall L.algebra self.old self.new holding.now wanted result.0 result.1 }
+        ensures call { IsCall L.algebra self.old self.new holding.now wanted result.0 result.1 }
+        ensures stays { StaysUnlessStepped result.0 self.old self.new }
+        ensures found { TellsFound L.algebra (state_of self.old).nodes worker holding.now result.0 }
+        ensures halted { IsTrue is_halted ↔ result.0 ≡ Halted }
     {
         keeps_its_run(&self.table);
         if is_halted {

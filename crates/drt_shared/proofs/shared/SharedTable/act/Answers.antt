@@ -12,7 +12,7 @@ pub returns-clause-machine : goal.returns-clause-machine
 returns-clause-machine g c m held =
     let same = held_is _ _ _ held c.slot_mut-board.ensures.value in
     let n = c.call.new.self in
-    (n, ap (λ l. (0, n) ∷ rest l) held, subst (λ v. IsCall g.L.Label.algebra v n c.args.holding.now c.args.wanted c.call.result.0 c.call.result.1) same c.call.ensures)
+    (n, ap (λ l. (0, n) ∷ rest l) held, subst (λ v. IsCall g.L.Label.algebra v n c.args.holding.now c.args.wanted c.call.result.0 c.call.result.1) same c.call.ensures.call)
 
 pub call-requires-clause-can : goal.call-requires-clause-can
 call-requires-clause-can g c κs within =
