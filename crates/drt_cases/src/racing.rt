@@ -1,8 +1,9 @@
 //! Runs by several workers.
 use crate::running::{answer_to, give, is_joined, perform_by};
 use drt_fixtures::texts::{
-    BRANCHING, BRANCHING_LATE, ENGINE, FIFTHS_AND_SEVENTHS, HALVES, JUST_DONE, LATE, OVERLOADED,
-    PERIODIC, SPLIT, TOO_LITTLE_ROOM,
+    BRANCHING, BRANCHING_LATE, ENGINE, FIFTHS_AND_SEVENTHS, FULL, HALVES, JUST_DONE, LATE, LONGEST,
+    LOWER_FIRST, OVERLOADED, PERIODIC, SEVENTHS_ABOVE_FIFTHS, SPLIT, TIGHT, TOO_FAR, TOO_FINE,
+    TOO_LITTLE_ROOM,
 };
 use drt_model::Row;
 use drt_pool::{EagerGate, Gate};
@@ -192,20 +193,34 @@ fn the_verdict_is_that_of_any_number_of_workers(rt: HostRuntime) -> Result<(), F
     let cases = [
         ("edf", PERIODIC, 0u8),
         ("edf", LATE, 1),
+        ("edf", TIGHT, 0),
         ("edf", HALVES, 2),
         ("edf", FIFTHS_AND_SEVENTHS, 0),
         ("edf", BRANCHING_LATE, 1),
         ("edf", BRANCHING, 0),
         ("edf", OVERLOADED, 1),
+        ("edf", FULL, 2),
+        // The set is schedulable under fixed priorities, so it is under EDF.
+        ("edf", SPLIT, 0),
         ("edf", ENGINE, 0),
+        ("edf", LONGEST, 0),
+        ("edf", TOO_FINE, 4),
+        ("edf", TOO_FAR, 4),
         ("sp", PERIODIC, 0),
         ("sp", LATE, 1),
+        ("sp", TIGHT, 0),
         ("sp", HALVES, 1),
         ("sp", FIFTHS_AND_SEVENTHS, 1),
+        ("sp", FULL, 0),
         ("sp", SPLIT, 0),
         ("sp", JUST_DONE, 0),
         ("sp", TOO_LITTLE_ROOM, 1),
         ("sp", ENGINE, 0),
+        ("sp", LONGEST, 0),
+        ("sp", TOO_FINE, 1),
+        ("sp", TOO_FAR, 1),
+        ("sp", SEVENTHS_ABOVE_FIFTHS, 1),
+        ("sp", LOWER_FIRST, 0),
     ];
     for (command, text, status) in cases {
         for workers in [1u32, 2, 4, 16] {
