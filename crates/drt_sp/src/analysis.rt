@@ -18,7 +18,7 @@ use std::sync::Wait;
 use std::thread::Threads;
 
 /// Decides whether a set with constrained deadlines is schedulable under fixed priorities. So many workers end the combinations of a
-/// task's vertices side by side, each those that it takes, and the gate sees none of these turns; the answer is that of one worker, to the
+/// task's vertices side by side, each those that it takes, and the gate sees each of these turns; the answer is that of one worker, to the
 /// byte.
 /// Where the gate's `alone` is 0 they share each search of a task's walks and each refinement at a vertex instead, and it sees each of
 /// their turns. Each search and each refinement ends after `budget` steps at the latest.

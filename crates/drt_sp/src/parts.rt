@@ -70,6 +70,8 @@ impl Ahead {
 ///
 /// From a vertex on that spends its attempt the task may end there, and what is done of those behind it is in vain. So these are seven
 /// at most, and one more for each vertex that spent its attempt before and passed: that costs no more than they did.
+///
+/// The gate sees each turn in which a worker takes a combination, and none of the attempts.
 pub(crate) fn prove_by_parts<G: Gate, R: Threads + Wait + Sync>(
     rt: &R,
     alloc: Global,
@@ -103,7 +105,7 @@ pub(crate) fn prove_by_parts<G: Gate, R: Threads + Wait + Sync>(
         mut spent,
     } = attempts;
     let hard = hard.saturating_add(spent.len());
-    let mut tables = end_attempts(rt, alloc, forest, spent.as_slice(), workers, budget)?;
+    let mut tables = end_attempts(rt, alloc, forest, spent.as_slice(), workers, budget, gate)?;
     let mut joints = Vec::with_capacity(alloc, spent.len())?;
     while let Some(attempt) = spent.pop() {
         let Some(parts) = tables.pop() else {
@@ -133,14 +135,16 @@ fn put_proof(vertex: u32, items: Row<Item>, proofs: &mut Vec<Option<VertexProof>
     }
 }
 
-// The parts that workers make of the combinations that are open in the frontiers of these attempts, a table for each of them.
-fn end_attempts<R: Threads + Wait + Sync>(
+// The parts that workers make of the combinations that are open in the frontiers of these attempts, a table for each of them. The gate
+// sees each turn of theirs.
+fn end_attempts<G: Gate, R: Threads + Wait + Sync>(
     rt: &R,
     alloc: Global,
     forest: &Forest,
     spent: &[Attempt],
     workers: u32,
     budget: u64,
+    gate: &G,
 ) -> Result<Vec<Vec<Option<Row<Item>>>>, Memory>
     requires { All (CanBeEnded forest.now) spent.now }
     ensures { IfOk result (λ tables. HaveParts forest.now spent.now tables.items) }
@@ -151,7 +155,16 @@ fn end_attempts<R: Threads + Wait + Sync>(
     }
     let jobs = open_jobs(alloc, spent)?;
     let race = Race::start(alloc, spent.len(), budget / 2)?;
-    let lists = share(rt, alloc, forest, spent, jobs.as_slice(), workers, &race)?;
+    let lists = share(
+        rt,
+        alloc,
+        forest,
+        spent,
+        jobs.as_slice(),
+        workers,
+        &race,
+        gate,
+    )?;
     put_lists(forest, spent, lists, &mut tables)?;
     Ok(tables)
 }
@@ -193,8 +206,8 @@ fn is_open(state: CombinationState) -> bool {
     }
 }
 
-// Shares combinations among workers. Each list has the parts that a worker made.
-fn share<R: Threads + Wait + Sync>(
+// Shares combinations among workers. Each list has the parts that a worker made. The gate sees each turn of theirs.
+fn share<G: Gate, R: Threads + Wait + Sync>(
     rt: &R,
     alloc: Global,
     forest: &Forest,
@@ -202,15 +215,16 @@ fn share<R: Threads + Wait + Sync>(
     jobs: &[Job],
     workers: u32,
     race: &Race,
+    gate: &G,
 ) -> Result<Vec<Result<Vec<Part>, Memory>>, Memory>
     requires spent { All (CanBeEnded forest.now) spent.now }
     requires jobs { All (IsJob spent.now) jobs.now }
     ensures { IfOk result (λ lists. All (λ list. IfOk list (λ parts. All (IsPartOf forest.now spent.now) parts.items)) lists.items) }
 {
-    let worker = move |_number: usize| -> Result<Vec<Part>, Memory>
+    let worker = move |number: usize| -> Result<Vec<Part>, Memory>
         requires { All (CanBeEnded forest.now) spent.now × All (IsJob spent.now) jobs.now }
         ensures { IfOk result (λ parts. All (IsPartOf forest.entry.now spent.entry.now) parts.items) }
-    { end_next(alloc, forest, spent, jobs, race) };
+    { end_next(alloc, forest, spent, jobs, race, number, gate) };
     thread::map_indices(rt, alloc, worker_limit(rt, jobs.len(), workers), &worker)
 }
 
@@ -224,20 +238,23 @@ pub(crate) fn worker_limit<R: Threads>(rt: &R, pieces: usize, workers: u32) -> u
 }
 
 // One worker's part: it ends the next open combination until each was begun, or one has no end. Then none of that frontier or of a later
-// one is begun.
-fn end_next(
+// one is begun. The gate sees each turn before its combination is taken.
+fn end_next<G: Gate>(
     alloc: Global,
     forest: &Forest,
     spent: &[Attempt],
     jobs: &[Job],
     race: &Race,
+    worker: usize,
+    gate: &G,
 ) -> Result<Vec<Part>, Memory>
     requires spent { All (CanBeEnded forest.now) spent.now }
     requires jobs { All (IsJob spent.now) jobs.now }
     ensures { IfOk result (λ parts. All (IsPartOf forest.now spent.now) parts.items) }
 {
     let mut parts = Vec::new(alloc);
-    for _ in 0..jobs.len() {
+    for turn in 0..jobs.len() {
+        gate.before(worker.min(u32::MAX as usize) as u32, turn as u64);
         let number = race.take_next();
         if number >= jobs.len() as u64 {
             return Ok(parts);

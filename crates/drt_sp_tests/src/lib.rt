@@ -9,4 +9,6 @@ mod answering;
 #[cfg(test)]
 mod drawn_tests;
 #[cfg(test)]
+mod meeting_tests;
+#[cfg(test)]
 mod parts_tests;

@@ -27,7 +27,7 @@ const MIDDLE_LATE: &str =
 
 // Below a task of two jobs, each of which comes again, the first job passes by six steps. The second one is late behind two of the
 // shorter job.
-const SECOND_FAILS: &str =
+pub(crate) const SECOND_FAILS: &str =
     "drt 1\ntask T1\nvertex x 3 5\nvertex y 2 4\nedge x x 20\nedge y y 4\ntask T2\nvertex z 2 5\nvertex w 3 5\nend\n";
 
 const SECOND_FAILS_NO: &str =
@@ -46,7 +46,7 @@ const SECOND_FAILS_SOONER_NO: &str =
     "evidence fixed-no\nreleases 3\nrelease 0 1 0 2\nrelease 0 1 4 2\nrelease 1 1 0 3\nmiss 1 0 6\nclose\n";
 
 // Below the task before that one, jobs that all pass, the middle one by two steps.
-const ALL_PASS: &str =
+pub(crate) const ALL_PASS: &str =
     "drt 1\ntask T1\nvertex x 3 5\nvertex y 2 4\nedge x x 20\nedge y y 4\ntask T2\nvertex z 2 5\nvertex u 1 5\nvertex v 2 5\nend\n";
 
 const ALL_PASS_YES: &str =
