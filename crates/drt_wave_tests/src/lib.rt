@@ -5,7 +5,6 @@
 #[cfg(test)]
 mod drawn_tests;
 #[cfg(test)]
-#[cfg(test)]
 mod seat_tests;
 #[cfg(test)]
 mod sharing_tests;
