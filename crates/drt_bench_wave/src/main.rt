@@ -1,9 +1,10 @@
-//! How fast a dense table of greatest works is worked by some workers, and beside it a driven table of the same walks.
+//! How fast a dense table of greatest works is worked by some workers, and beside it a driven or a shared table of the same walks.
 //!
 //! The arguments are a number of vertices, a number of edges, the least separation, the number of separations from it on that edges draw
-//! from, a bound in ticks, how often the table is worked anew, and a number of workers; without them 6, 6, 1, 1, 50, 1 and 1. With no worker
-//! the table is a driven one, with a budget of 1,000,000 steps. In a ring with separations of 1 each vertex has one walk for each offset below
-//! the bound, of more work than those before, so there are 300 labels. The answer has no times in it: `bench/wave` takes them from outside.
+//! from, a bound in ticks, how often the table is worked anew, a number of workers, and 1 for a shared table in place of a dense one; without
+//! them 6, 6, 1, 1, 50, 1, 1 and 0. With no worker the table is a driven one. A driven and a shared table have a budget of 1,000,000 steps. In a
+//! ring with separations of 1 each vertex has one walk for each offset below the bound, of more work than those before, so there are 300
+//! labels. The answer has no times in it: `bench/wave` takes them from outside.
 #![tactic(auto)]
 
 ghost use Rattle.std.specs.Prelude.{◌+◌, ◌*◌, ◌≤◌};
@@ -12,13 +13,17 @@ ghost use Rattle.drt_model.specs.Digraph.{vertex_count};
 use drt_demand::DemandLabel;
 use drt_graph::{Graph, check};
 use drt_model::{Edge, Name, Row, Task, Vertex, task_set};
-use drt_pool::OpenGate;
+use drt_pool::{EagerGate, OpenGate};
+use drt_search::search_together;
 use drt_table::{Table, TableReply};
 use drt_wave::fill;
 use std::alloc::{AllocError, Global};
 use std::env;
 use std::sync::Wait;
 use std::thread::Threads;
+
+/// The most steps of a driven or a shared table.
+const BUDGET: u64 = 1_000_000;
 
 #[derive(Drop)]
 struct Draws {
@@ -107,8 +112,30 @@ fn drive_again(alloc: Global, graph: &Graph, bound: u64, times: u32) -> Result<u
 {
     let mut steps = 0;
     'times: for _time in 0..times {
-        let table: Table<DemandLabel> = Table::start(alloc, graph, bound, 1_000_000)?;
+        let table: Table<DemandLabel> = Table::start(alloc, graph, bound, BUDGET)?;
         let (table, _reply): (Table<DemandLabel>, TableReply) = table.drive(alloc, 0)?;
+        steps = table.log().len();
+    }
+    Ok(steps)
+}
+
+// Has the workers search a shared table as often as is said, and gives the number of steps.
+fn share_again<R: Threads + Wait + Sync>(
+    rt: &R,
+    alloc: Global,
+    graph: &Graph,
+    bound: u64,
+    times: u32,
+    workers: u32,
+) -> Result<usize, AllocError>
+    requires bound { bound ≤ 1000000 }
+    requires workers { (1 ≤ workers) × (workers ≤ 16) }
+{
+    let mut steps = 0;
+    'times: for _time in 0..times {
+        let (table, _reply): (Table<DemandLabel>, TableReply) = search_together(
+            rt, alloc, graph, bound, BUDGET, workers, &EagerGate,
+        )?;
         steps = table.log().len();
     }
     Ok(steps)
@@ -122,6 +149,7 @@ fn labels<R: Threads + Wait + Sync>(
     bound: u64,
     times: u32,
     workers: u32,
+    is_shared: bool,
 ) -> anyhow::Result<usize>
     requires bound { bound ≤ 1000000 }
     requires workers { workers ≤ 16 }
@@ -139,6 +167,9 @@ fn labels<R: Threads + Wait + Sync>(
     }
     if workers == 0 {
         return Ok(drive_again(alloc, graph, bound, times)?);
+    }
+    if is_shared {
+        return Ok(share_again(rt, alloc, graph, bound, times, workers)?);
     }
     Ok(work_again(rt, alloc, graph, bound, times, workers)?)
 }
@@ -162,10 +193,15 @@ fn main(rt: HostRuntime) -> anyhow::Result<()> {
     let bound = number(arguments.next(), 50).min(1_000_000);
     let times = number(arguments.next(), 1);
     let workers = number(arguments.next(), 1).min(16);
+    let is_shared = number(arguments.next(), 0) == 1;
     let mut draws = Draws { state: 1 };
     let task = task(alloc, &mut draws, count, edge_count, least, range)?;
-    let kept = labels(&rt, alloc, task, bound as u64, times, workers)?;
-    let unit = if workers == 0 { "steps" } else { "labels" };
+    let kept = labels(&rt, alloc, task, bound as u64, times, workers, is_shared)?;
+    let unit = if workers == 0 || is_shared {
+        "steps"
+    } else {
+        "labels"
+    };
     println!(rt;
         "{} vertices, {} edges, separations from {}, a bound of {}: {} {}",
         count, edge_count, least, bound, kept, unit

@@ -1,8 +1,11 @@
-ghost use Rattle.std.specs.Prelude.{◌≤◌};
+ghost use Rattle.std.specs.Prelude.{◌≡◌, ◌≤◌};
+ghost use Rattle.drt_wave.specs.Cells.{net_of};
+ghost use Rattle.drt_wave.specs.Seats.{IsAt};
+ghost use Rattle.drt_wave.specs.Waves.{AllExpanded};
 
 use drt_fixtures::{Shape, make_set};
 use drt_graph::check;
-use drt_wave::{DenseFront, dense_front};
+use drt_wave::{DenseFront, WaveSeat, WaveTable, dense_front, work_wave};
 use std::alloc::Global;
 use std::test::Fail;
 
@@ -35,6 +38,40 @@ fn works_of(alloc: Global, shape: Shape<'_>, bound: u64) -> Result<DenseFront, F
         return Err("few cells".into());
     }
     Ok(dense_front(alloc, graph, bound)?)
+}
+
+// Works the first waves of a table, in order, by the seat that has every part.
+fn work_waves(table: &WaveTable, seat: &mut WaveSeat, count: u32)
+    requires id { seat.old.table_id ≡ table.now.table.shared.table_id }
+    requires seat { IsAt table.now.plan seat.old.me.0 }
+    requires whole { seat.old.me.0.parts ≡ 1024 }
+    requires count { count ≤ (net_of table.now.plan).waves }
+    requires all { AllExpanded (net_of table.now.plan) seat.old.me.0 }
+    ensures id { seat.new.table_id ≡ seat.old.table_id }
+    ensures seat { IsAt table.now.plan seat.new.me.0 }
+{
+    'waves: for wave in 0..count {
+        work_wave(table, seat, wave);
+    }
+}
+
+// Of the table of the first graph up to 5: how many cells and how many waves it has, and the work in the cell of a number once all waves are
+// worked.
+fn read_worked(alloc: Global, cell: u32) -> Result<(u64, u64, u64), Fail> {
+    let set = make_set(alloc, &[THREE])?.ok_or("within the limits")?;
+    let graphs = check(alloc, &set).ok().ok_or("constrained")?;
+    if graphs.count() == 0 {
+        return Err("a task".into());
+    }
+    let graph = graphs.graph(0);
+    let cells = graph.vertex_count() as u64 * 6;
+    if cells > 18 || cell as u64 >= cells {
+        return Err("a cell of three vertices".into());
+    }
+    let (table, mut seat) = WaveTable::start(alloc, graph, 5)?;
+    let waves = table.plan.bound / table.plan.span + 1;
+    work_waves(&table, &mut seat, waves as u32);
+    Ok((cells, waves, table.glance(&mut seat, cell)))
 }
 
 // The work that is wanted of a vertex and an offset, 0 where none is named.
@@ -118,6 +155,13 @@ fn each_cell_has_the_greatest_work(rt: HostRuntime) -> Result<(), Fail> {
         (2, 4, 4),
     ];
     assert!(rt; has_works(&works, &wanted));
+    Ok(())
+}
+
+#[test]
+fn a_cell_has_the_number_of_its_vertex_and_offset(rt: HostRuntime) -> Result<(), Fail> {
+    let (cells, waves, work) = read_worked(rt.alloc(), 16)?;
+    assert!(rt; cells == 18 && waves == 6 && work == 4);
     Ok(())
 }
 
