@@ -7,6 +7,8 @@
 
 ghost use Rattle.std.specs.Prelude.{◌<◌, ◌≤◌};
 
+use drt_bench_input::number;
+use drt_drawn::Draws;
 use drt_graph::check;
 use drt_model::{Edge, Name, Row, Task, Vertex, task_set};
 use drt_num::Ratio;
@@ -14,24 +16,8 @@ use drt_ratio::greatest;
 use std::alloc::{AllocError, Global};
 use std::env;
 
-#[derive(Drop)]
-struct Draws {
-    state: u64,
-}
-
-impl Draws {
-    // A time from 1 to 1,000,000 ticks, by a linear congruential generator.
-    fn time(&mut self) -> u32
-        ensures at_least_one { 1 ≤ result }
-        ensures at_most_a_million { result ≤ 1000000 }
-    {
-        self.state = self
-            .state
-            .wrapping_mul(6364136223846793005)
-            .wrapping_add(1442695040888963407);
-        ((self.state >> 33) % 1_000_000) as u32 + 1
-    }
-}
+/// The longest time that is drawn, in ticks.
+const LONGEST: u32 = 1_000_000;
 
 // What the graphs are.
 #[derive(Drop, Clone, Copy)]
@@ -58,7 +44,7 @@ fn wcet(kind: Kind, draws: &mut Draws, v: u32) -> u32
     ensures at_most_a_million { result ≤ 1000000 }
 {
     match kind {
-        Kind::Drawn => draws.time(),
+        Kind::Drawn => draws.below(LONGEST) + 1,
         Kind::Rising => 1,
         Kind::Halving => halved(v),
     }
@@ -77,7 +63,7 @@ fn edge(kind: Kind, draws: &mut Draws, count: u32, k: u32) -> Edge
         Kind::Drawn => Edge {
             from,
             to: (k + 1 + round) % count,
-            sep: draws.time(),
+            sep: draws.below(LONGEST) + 1,
         },
         Kind::Rising => Edge {
             from,
@@ -160,14 +146,6 @@ fn kind_of(argument: Option<String>) -> Kind {
             _ => Kind::Drawn,
         },
         None => Kind::Drawn,
-    }
-}
-
-// The number at this place of the arguments, or the other number.
-fn number(argument: Option<String>, other: u32) -> u32 {
-    match argument {
-        Some(text) => text.as_str().parse::<u32>().unwrap_or(other),
-        None => other,
     }
 }
 

@@ -8,6 +8,7 @@
 ghost use Rattle.std.specs.Prelude.{◌≡◌, ◌≤◌, ◌∷◌, []};
 ghost use Rattle.drt_steps.specs.Time.{AreChosen};
 
+use drt_bench_input::number;
 use drt_model::Memory;
 use drt_pool::EagerGate;
 use drt_refine::Frontier;
@@ -86,14 +87,6 @@ fn all_steps<R: Threads + Wait + Sync>(
         made = made.saturating_add(more as u64);
     }
     Ok(made)
-}
-
-// The number at this place of the arguments, or the other number.
-fn number(argument: Option<String>, other: u32) -> u32 {
-    match argument {
-        Some(text) => text.as_str().parse::<u32>().unwrap_or(other),
-        None => other,
-    }
 }
 
 fn main(rt: HostRuntime) -> anyhow::Result<()> {

@@ -9,9 +9,10 @@
 
 ghost use Rattle.std.specs.Prelude.{◌≤◌, IsTrue};
 
+use drt_bench_input::{RingTimes, number, ring};
 use drt_demand::DemandLabel;
 use drt_graph::{Graph, check};
-use drt_model::{Edge, Name, Row, Task, Vertex, task_set};
+use drt_model::{Row, task_set};
 use drt_pool::EagerGate;
 use drt_request::RequestLabel;
 use drt_search::{SharedLabel, search_together};
@@ -26,66 +27,6 @@ const BUDGET: u64 = 1_000_000;
 
 /// The most workers.
 const WORKERS: u32 = 16;
-
-#[derive(Drop)]
-struct Draws {
-    state: u64,
-}
-
-impl Draws {
-    // A time from 1 to `longest` ticks, by a linear congruential generator.
-    fn time(&mut self, longest: u32) -> u32
-        requires some { 1 ≤ longest }
-        requires at_most { longest ≤ 1000000 }
-        ensures at_least_one { 1 ≤ result }
-        ensures at_most_longest { result ≤ longest }
-    {
-        self.state = self
-            .state
-            .wrapping_mul(6364136223846793005)
-            .wrapping_add(1442695040888963407);
-        ((self.state >> 33) % longest as u64) as u32 + 1
-    }
-}
-
-// A task of a ring through all vertices and, beyond its edges, of chords one further each time round.
-fn task(
-    alloc: Global,
-    draws: &mut Draws,
-    count: u32,
-    edge_count: u32,
-    longest: u32,
-) -> Result<Task, AllocError>
-    requires some { 1 ≤ count }
-    requires few { count ≤ 96 }
-    requires edges { edge_count ≤ 256 }
-    requires least { 1 ≤ longest }
-    requires at_most { longest ≤ 1000000 }
-{
-    let mut vertices = Vec::new(alloc);
-    for v in 0..count {
-        let name = [b'a' + (v / 26) as u8, b'a' + (v % 26) as u8];
-        vertices.push(Vertex {
-            name: Name::from_vec(Vec::from_slice(alloc, &name)?),
-            wcet: draws.time(1_000_000),
-            deadline: 1,
-        })?;
-    }
-    let mut edges = Vec::new(alloc);
-    for k in 0..edge_count {
-        edges.push(Edge {
-            from: k % count,
-            to: (k + 1 + k / count) % count,
-            sep: draws.time(longest),
-        })?;
-    }
-    Ok(Task {
-        name: Name::from_vec(Vec::from_slice(alloc, b"T")?),
-        priority: 1,
-        vertices: Row::from_vec(vertices),
-        edges: Row::from_vec(edges),
-    })
-}
 
 // The number of steps of one search, by so many workers, or driven where there are none.
 fn search<L: SharedLabel, R: Threads + Wait + Sync>(
@@ -128,14 +69,6 @@ fn search_again<L: SharedLabel, R: Threads + Wait + Sync>(
     Ok(steps)
 }
 
-// The number at this place of the arguments, or the other number.
-fn number(argument: Option<String>, other: u32) -> u32 {
-    match argument {
-        Some(text) => text.as_str().parse::<u32>().unwrap_or(other),
-        None => other,
-    }
-}
-
 fn main(rt: HostRuntime) -> anyhow::Result<()> {
     let alloc = rt.alloc();
     let mut arguments = env::args(&rt)?;
@@ -147,8 +80,12 @@ fn main(rt: HostRuntime) -> anyhow::Result<()> {
     let workers = number(arguments.next(), 4).min(WORKERS);
     let kind = number(arguments.next(), 0);
     let times = number(arguments.next(), 1);
-    let mut draws = Draws { state: 1 };
-    let task = task(alloc, &mut draws, count, edge_count, longest)?;
+    let times_drawn = RingTimes {
+        longest_wcet: 1_000_000,
+        least_separation: 1,
+        separations: longest,
+    };
+    let task = ring(alloc, count, edge_count, times_drawn)?;
     let mut tasks = Vec::new(alloc);
     tasks.push(task)?;
     let Some(set) = task_set(2, Row::from_vec(tasks)) else {

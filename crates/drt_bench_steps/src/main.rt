@@ -9,6 +9,7 @@
 ghost use Rattle.std.specs.Prelude.{◌≡◌, ◌≤◌, length, true};
 ghost use Rattle.drt_steps.specs.Time.{AreChosen};
 
+use drt_bench_input::number;
 use drt_steps::{Steps, least_time};
 use std::alloc::{AllocError, Global};
 use std::env;
@@ -73,14 +74,6 @@ fn least(pool: &[Steps], chosen: &[u32]) -> u64 {
         return 0;
     }
     least_time(2, 1_000_000, pool, chosen).unwrap_or(0)
-}
-
-// The number at this place of the arguments, or the other number.
-fn number(argument: Option<String>, other: u32) -> u32 {
-    match argument {
-        Some(text) => text.as_str().parse::<u32>().unwrap_or(other),
-        None => other,
-    }
 }
 
 fn main(rt: HostRuntime) -> anyhow::Result<()> {

@@ -8,72 +8,13 @@
 
 ghost use Rattle.std.specs.Prelude.{◌≤◌};
 
+use drt_bench_input::{RingTimes, number, ring};
 use drt_demand::DemandLabel;
 use drt_graph::check;
-use drt_model::{Edge, Name, Row, Task, Vertex, task_set};
+use drt_model::{Row, Task, task_set};
 use drt_table::{Table, TableReply};
-use std::alloc::{AllocError, Global};
+use std::alloc::Global;
 use std::env;
-
-#[derive(Drop)]
-struct Draws {
-    state: u64,
-}
-
-impl Draws {
-    // A time from 1 to `longest` ticks, by a linear congruential generator.
-    fn time(&mut self, longest: u32) -> u32
-        requires some { 1 ≤ longest }
-        requires at_most { longest ≤ 1000000 }
-        ensures at_least_one { 1 ≤ result }
-        ensures at_most_longest { result ≤ longest }
-    {
-        self.state = self
-            .state
-            .wrapping_mul(6364136223846793005)
-            .wrapping_add(1442695040888963407);
-        ((self.state >> 33) % longest as u64) as u32 + 1
-    }
-}
-
-// A task of a ring through all vertices and, beyond its edges, of chords one further each time round.
-fn task(
-    alloc: Global,
-    draws: &mut Draws,
-    count: u32,
-    edge_count: u32,
-    longest: u32,
-) -> Result<Task, AllocError>
-    requires some { 1 ≤ count }
-    requires few { count ≤ 96 }
-    requires edges { edge_count ≤ 256 }
-    requires least { 1 ≤ longest }
-    requires at_most { longest ≤ 1000000 }
-{
-    let mut vertices = Vec::new(alloc);
-    for v in 0..count {
-        let name = [b'a' + (v / 26) as u8, b'a' + (v % 26) as u8];
-        vertices.push(Vertex {
-            name: Name::from_vec(Vec::from_slice(alloc, &name)?),
-            wcet: draws.time(1_000_000),
-            deadline: 1,
-        })?;
-    }
-    let mut edges = Vec::new(alloc);
-    for k in 0..edge_count {
-        edges.push(Edge {
-            from: k % count,
-            to: (k + 1 + k / count) % count,
-            sep: draws.time(longest),
-        })?;
-    }
-    Ok(Task {
-        name: Name::from_vec(Vec::from_slice(alloc, b"T")?),
-        priority: 1,
-        vertices: Row::from_vec(vertices),
-        edges: Row::from_vec(edges),
-    })
-}
 
 // The number of steps of a table that is driven to its end or to its budget of 1,000,000; 0 where the numbers make no graph.
 fn steps(alloc: Global, task: Task, bound: u64) -> anyhow::Result<usize>
@@ -91,14 +32,6 @@ fn steps(alloc: Global, task: Task, bound: u64) -> anyhow::Result<usize>
     Ok(table.log().len())
 }
 
-// The number at this place of the arguments, or the other number.
-fn number(argument: Option<String>, other: u32) -> u32 {
-    match argument {
-        Some(text) => text.as_str().parse::<u32>().unwrap_or(other),
-        None => other,
-    }
-}
-
 fn main(rt: HostRuntime) -> anyhow::Result<()> {
     let alloc = rt.alloc();
     let mut arguments = env::args(&rt)?;
@@ -107,8 +40,12 @@ fn main(rt: HostRuntime) -> anyhow::Result<()> {
     let edge_count = number(arguments.next(), 6).min(256);
     let longest = number(arguments.next(), 1).clamp(1, 1_000_000);
     let bound = number(arguments.next(), 50).min(1_000_000);
-    let mut draws = Draws { state: 1 };
-    let task = task(alloc, &mut draws, count, edge_count, longest)?;
+    let times = RingTimes {
+        longest_wcet: 1_000_000,
+        least_separation: 1,
+        separations: longest,
+    };
+    let task = ring(alloc, count, edge_count, times)?;
     let made = steps(alloc, task, bound as u64)?;
     println!(rt;
         "{} vertices, {} edges, a bound of {}: {} steps",

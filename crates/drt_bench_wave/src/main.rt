@@ -10,9 +10,10 @@
 ghost use Rattle.std.specs.Prelude.{◌+◌, ◌*◌, ◌≤◌};
 ghost use Rattle.drt_model.specs.Digraph.{vertex_count};
 
+use drt_bench_input::{RingTimes, number, ring};
 use drt_demand::DemandLabel;
 use drt_graph::{Graph, check};
-use drt_model::{Edge, Name, Row, Task, Vertex, task_set};
+use drt_model::{Row, Task, task_set};
 use drt_pool::{EagerGate, OpenGate};
 use drt_search::search_together;
 use drt_table::{Table, TableReply};
@@ -24,68 +25,6 @@ use std::thread::Threads;
 
 /// The most steps of a driven or a shared table.
 const BUDGET: u64 = 1_000_000;
-
-#[derive(Drop)]
-struct Draws {
-    state: u64,
-}
-
-impl Draws {
-    // A time from 1 to `longest` ticks, by a linear congruential generator.
-    fn time(&mut self, longest: u32) -> u32
-        requires some { 1 ≤ longest }
-        requires at_most { longest ≤ 1000000 }
-        ensures at_least_one { 1 ≤ result }
-        ensures at_most_longest { result ≤ longest }
-    {
-        self.state = self
-            .state
-            .wrapping_mul(6364136223846793005)
-            .wrapping_add(1442695040888963407);
-        ((self.state >> 33) % longest as u64) as u32 + 1
-    }
-}
-
-// A task of a ring through all vertices and, beyond its edges, of chords one further each time round.
-fn task(
-    alloc: Global,
-    draws: &mut Draws,
-    count: u32,
-    edge_count: u32,
-    least: u32,
-    range: u32,
-) -> Result<Task, AllocError>
-    requires some { 1 ≤ count }
-    requires few { count ≤ 96 }
-    requires edges { edge_count ≤ 256 }
-    requires least { 1 ≤ least }
-    requires range { 1 ≤ range }
-    requires at_most { least + range ≤ 1000000 }
-{
-    let mut vertices = Vec::new(alloc);
-    for v in 0..count {
-        let name = [b'a' + (v / 26) as u8, b'a' + (v % 26) as u8];
-        vertices.push(Vertex {
-            name: Name::from_vec(Vec::from_slice(alloc, &name)?),
-            wcet: draws.time(100),
-            deadline: 1,
-        })?;
-    }
-    let mut edges = Vec::new(alloc);
-    for k in 0..edge_count {
-        edges.push(Edge {
-            from: k % count,
-            to: (k + 1 + k / count) % count,
-            sep: least - 1 + draws.time(range),
-        })?;
-    }
-    Ok(Task {
-        name: Name::from_vec(Vec::from_slice(alloc, b"T")?),
-        priority: 1,
-        vertices: Row::from_vec(vertices),
-        edges: Row::from_vec(edges),
-    })
-}
 
 // Works a table as often as is said, and gives the number of labels that no other label covers.
 fn work_again<R: Threads + Wait + Sync>(
@@ -174,14 +113,6 @@ fn labels<R: Threads + Wait + Sync>(
     Ok(work_again(rt, alloc, graph, bound, times, workers)?)
 }
 
-// The number at this place of the arguments, or the other number.
-fn number(argument: Option<String>, other: u32) -> u32 {
-    match argument {
-        Some(text) => text.as_str().parse::<u32>().unwrap_or(other),
-        None => other,
-    }
-}
-
 fn main(rt: HostRuntime) -> anyhow::Result<()> {
     let alloc = rt.alloc();
     let mut arguments = env::args(&rt)?;
@@ -194,8 +125,12 @@ fn main(rt: HostRuntime) -> anyhow::Result<()> {
     let times = number(arguments.next(), 1);
     let workers = number(arguments.next(), 1).min(16);
     let is_shared = number(arguments.next(), 0) == 1;
-    let mut draws = Draws { state: 1 };
-    let task = task(alloc, &mut draws, count, edge_count, least, range)?;
+    let times_drawn = RingTimes {
+        longest_wcet: 100,
+        least_separation: least,
+        separations: range,
+    };
+    let task = ring(alloc, count, edge_count, times_drawn)?;
     let kept = labels(&rt, alloc, task, bound as u64, times, workers, is_shared)?;
     let unit = if workers == 0 || is_shared {
         "steps"

@@ -5,67 +5,15 @@ use drt_fixtures::texts::{
     LOWER_FIRST, OVERLOADED, PERIODIC, SEVENTHS_ABOVE_FIFTHS, SPLIT, TIGHT, TOO_FAR, TOO_FINE,
     TOO_LITTLE_ROOM,
 };
+use drt_meeting::Meeting;
 use drt_model::Row;
-use drt_pool::{EagerGate, Gate};
+use drt_pool::EagerGate;
 use drt_table::{Entry, TableStep};
 use drt_top::Trail;
 use std::alloc::Global;
 use std::sync::Wait;
-use std::sync::atomic::{AtomicBool, AtomicU64, Ordering};
 use std::test::Fail;
-use std::thread;
 use std::thread::Threads;
-
-const LOOKS: u32 = 1_000_000;
-
-// It holds the turn of one number of each of two workers until the other has come to its own as often.
-#[derive(Drop)]
-struct Meeting {
-    turn: u64,
-    come: [AtomicU64; 2],
-    is_missed: AtomicBool,
-}
-
-impl Meeting {
-    fn at(turn: u64) -> Meeting {
-        Meeting {
-            turn,
-            come: [AtomicU64::new(0), AtomicU64::new(0)],
-            is_missed: AtomicBool::new(false),
-        }
-    }
-
-    // How often each worker came, where both came as often and none waited in vain, and else 0.
-    fn times_met(&self) -> u64 {
-        let first = self.come[0].load(Ordering::SeqCst);
-        let second = self.come[1].load(Ordering::SeqCst);
-        if self.is_missed.load(Ordering::SeqCst) || first != second {
-            return 0;
-        }
-        first
-    }
-}
-
-impl Gate for Meeting {
-    fn before(&self, worker: u32, turn: u64) {
-        if turn != self.turn || worker > 1 {
-            return;
-        }
-        let place = worker as usize;
-        let times = self.come[place].fetch_add(1, Ordering::SeqCst);
-        for _ in 0..LOOKS {
-            if self.come[1 - place].load(Ordering::SeqCst) > times {
-                return;
-            }
-            thread::yield_now();
-        }
-        self.is_missed.store(true, Ordering::SeqCst);
-    }
-
-    fn alone(&self) -> u64 {
-        0
-    }
-}
 
 // Whether the set is answered so by two workers that begin together.
 fn is_answered_together(
@@ -188,47 +136,78 @@ fn have_status(
     Ok(true)
 }
 
-#[test]
-fn the_verdict_is_that_of_any_number_of_workers(rt: HostRuntime) -> Result<(), Fail> {
-    let cases = [
-        ("edf", PERIODIC, 0u8),
-        ("edf", LATE, 1),
-        ("edf", TIGHT, 0),
-        ("edf", HALVES, 2),
-        ("edf", FIFTHS_AND_SEVENTHS, 0),
-        ("edf", BRANCHING_LATE, 1),
-        ("edf", BRANCHING, 0),
-        ("edf", OVERLOADED, 1),
-        ("edf", FULL, 2),
-        // The set is schedulable under fixed priorities, so it is under EDF.
-        ("edf", SPLIT, 0),
-        ("edf", ENGINE, 0),
-        ("edf", LONGEST, 0),
-        ("edf", TOO_FINE, 4),
-        ("edf", TOO_FAR, 4),
-        ("sp", PERIODIC, 0),
-        ("sp", LATE, 1),
-        ("sp", TIGHT, 0),
-        ("sp", HALVES, 1),
-        ("sp", FIFTHS_AND_SEVENTHS, 1),
-        ("sp", FULL, 0),
-        ("sp", SPLIT, 0),
-        ("sp", JUST_DONE, 0),
-        ("sp", TOO_LITTLE_ROOM, 1),
-        ("sp", ENGINE, 0),
-        ("sp", LONGEST, 0),
-        ("sp", TOO_FINE, 1),
-        ("sp", TOO_FAR, 1),
-        ("sp", SEVENTHS_ABOVE_FIFTHS, 1),
-        ("sp", LOWER_FIRST, 0),
-    ];
-    for (command, text, status) in cases {
-        for workers in [1u32, 2, 4, 16] {
-            assert!(rt;
-                have_status(&rt, rt.alloc(), command, workers, text, status)?,
-                "{command} by {workers} of {text}"
-            );
+// Whether each set has its status by any number of workers.
+fn have_statuses(
+    rt: &(impl Threads + Wait + Sync),
+    alloc: Global,
+    command: &str,
+    text: &str,
+    status: u8,
+) -> Result<bool, Fail> {
+    for workers in [1u32, 2, 4, 16] {
+        if !have_status(rt, alloc, command, workers, text, status)? {
+            return Ok(false);
         }
+    }
+    Ok(true)
+}
+
+// The set of `SPLIT` is schedulable under fixed priorities, so it is under EDF.
+const EDF: [(&str, u8); 14] = [
+    (PERIODIC, 0),
+    (LATE, 1),
+    (TIGHT, 0),
+    (HALVES, 2),
+    (FIFTHS_AND_SEVENTHS, 0),
+    (BRANCHING_LATE, 1),
+    (BRANCHING, 0),
+    (OVERLOADED, 1),
+    (FULL, 2),
+    (SPLIT, 0),
+    (ENGINE, 0),
+    (LONGEST, 0),
+    (TOO_FINE, 4),
+    (TOO_FAR, 4),
+];
+
+const FIXED: [(&str, u8); 15] = [
+    (PERIODIC, 0),
+    (LATE, 1),
+    (TIGHT, 0),
+    (HALVES, 1),
+    (FIFTHS_AND_SEVENTHS, 1),
+    (FULL, 0),
+    (SPLIT, 0),
+    (JUST_DONE, 0),
+    (TOO_LITTLE_ROOM, 1),
+    (ENGINE, 0),
+    (LONGEST, 0),
+    (TOO_FINE, 1),
+    (TOO_FAR, 1),
+    (SEVENTHS_ABOVE_FIFTHS, 1),
+    (LOWER_FIRST, 0),
+];
+
+#[test]
+fn the_verdict_under_edf_is_that_of_any_number_of_workers(rt: HostRuntime) -> Result<(), Fail> {
+    for (text, status) in EDF {
+        assert!(rt;
+            have_statuses(&rt, rt.alloc(), "edf", text, status)?,
+            "{text}"
+        );
+    }
+    Ok(())
+}
+
+#[test]
+fn the_verdict_under_fixed_priorities_is_that_of_any_number_of_workers(
+    rt: HostRuntime,
+) -> Result<(), Fail> {
+    for (text, status) in FIXED {
+        assert!(rt;
+            have_statuses(&rt, rt.alloc(), "sp", text, status)?,
+            "{text}"
+        );
     }
     Ok(())
 }

@@ -2,12 +2,10 @@
 
 ghost use Rattle.std.specs.Prelude.{◌≡◌, ℕ};
 
+use drt_meeting::Meeting;
 use drt_pool::{Gate, OpenGate, Turn, Work, run_all};
 use std::sync::Wait;
 use std::sync::atomic::{AtomicBool, AtomicU64, Ordering};
-use std::thread;
-
-const LOOKS: u32 = 1_000_000;
 
 // A pass is the number of turns that are left before the one that stops.
 struct Countdown;
@@ -71,33 +69,6 @@ impl Gate for Recorder {
     }
 }
 
-// It holds the first turn of each of two workers until the other has come to its own.
-#[derive(Drop)]
-struct Meeting {
-    come: AtomicU64,
-    is_missed: AtomicBool,
-}
-
-impl Gate for Meeting {
-    fn before(&self, _worker: u32, turn: u64) {
-        if turn > 0 {
-            return;
-        }
-        self.come.fetch_add(1, Ordering::SeqCst);
-        for _ in 0..LOOKS {
-            if self.come.load(Ordering::SeqCst) == 2 {
-                return;
-            }
-            thread::yield_now();
-        }
-        self.is_missed.store(true, Ordering::SeqCst);
-    }
-
-    fn alone(&self) -> u64 {
-        0
-    }
-}
-
 #[test]
 fn each_pass_is_turned_until_it_stops_however_long_the_caller_is_alone(rt: HostRuntime) {
     for alone in [0u64, 1, 3, 4, 5, 6, 4_000] {
@@ -125,11 +96,8 @@ fn the_open_gate_turns_short_and_long_passes(rt: HostRuntime) {
 
 #[test]
 fn two_workers_turn_at_the_same_time(rt: HostRuntime) {
-    let gate = Meeting {
-        come: AtomicU64::new(0),
-        is_missed: AtomicBool::new(false),
-    };
+    let gate = Meeting::at(0);
     let mut passes = [5u64, 6];
     run_all(&rt, &Countdown, &mut passes, &gate);
-    assert!(rt; passes == [0, 0] && !gate.is_missed.load(Ordering::SeqCst));
+    assert!(rt; passes == [0, 0] && gate.times_met() == 1);
 }

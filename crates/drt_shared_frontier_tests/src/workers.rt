@@ -1,41 +1,11 @@
 //! What workers find together, by one thread and by more.
 
 use crate::driver::{has_states, work};
-use drt_pool::{EagerGate, Gate, OpenGate};
+use drt_meeting::Meeting;
+use drt_pool::{EagerGate, OpenGate};
 use drt_refine::{CombinationState, FrontierReply};
 use drt_worked_forests::{three_walks, two_walks};
-use std::sync::atomic::{AtomicBool, AtomicU64, Ordering};
 use std::test::Fail;
-use std::thread;
-
-const LOOKS: u32 = 1_000_000;
-
-// It holds the first turn of each of two workers until the other has come to its own.
-#[derive(Drop)]
-struct Meeting {
-    come: AtomicU64,
-    is_missed: AtomicBool,
-}
-
-impl Gate for Meeting {
-    fn before(&self, _worker: u32, turn: u64) {
-        if turn > 0 {
-            return;
-        }
-        self.come.fetch_add(1, Ordering::SeqCst);
-        for _ in 0..LOOKS {
-            if self.come.load(Ordering::SeqCst) == 2 {
-                return;
-            }
-            thread::yield_now();
-        }
-        self.is_missed.store(true, Ordering::SeqCst);
-    }
-
-    fn alone(&self) -> u64 {
-        0
-    }
-}
 
 const SETTLED: [CombinationState; 3] = [
     CombinationState::Split {
@@ -78,13 +48,10 @@ fn six_steps_find_the_walk_that_is_too_much_and_five_are_too_few(
 fn two_threads_refine_the_combinations_at_the_same_time(rt: HostRuntime) -> Result<(), Fail> {
     let alloc = rt.alloc();
     let (forest, root) = three_walks(alloc)?.expect(&rt, "a tree");
-    let gate = Meeting {
-        come: AtomicU64::new(0),
-        is_missed: AtomicBool::new(false),
-    };
+    let gate = Meeting::at(0);
     let (frontier, reply) = work(&rt, alloc, &forest, root, 5, 100, 2, &gate)?;
     assert_eq!(rt; reply, FrontierReply::Finished);
     assert!(rt; has_states(&frontier, &SETTLED));
-    assert!(rt; !gate.is_missed.load(Ordering::SeqCst));
+    assert_eq!(rt; gate.times_met(), 1);
     Ok(())
 }

@@ -5,17 +5,14 @@ ghost use Rattle.std.specs.Prelude.{◌≤◌};
 use drt_demand::DemandLabel;
 use drt_fixtures::{Shape, make_set};
 use drt_graph::check;
+use drt_meeting::Meeting;
 use drt_pool::{EagerGate, Gate, OpenGate};
 use drt_search::search_together;
 use drt_table::{Table, TableReply};
 use std::alloc::Global;
 use std::sync::Wait;
-use std::sync::atomic::{AtomicBool, AtomicU64, Ordering};
 use std::test::Fail;
-use std::thread;
 use std::thread::Threads;
-
-const LOOKS: u32 = 1_000_000;
 
 // A ring of six vertices (1,1) with separations of 1: the walk of k + 1 vertices that ends at one of them has the offset k and the
 // work k + 1, and no other walk ends there with that offset.
@@ -132,41 +129,11 @@ fn a_budget_is_spent_by_any_number_of_workers(rt: HostRuntime) -> Result<(), Fai
     Ok(())
 }
 
-// It holds the first turn of each of two workers until the other has come to its own.
-#[derive(Drop)]
-struct Meeting {
-    come: AtomicU64,
-    is_missed: AtomicBool,
-}
-
-impl Gate for Meeting {
-    fn before(&self, _worker: u32, turn: u64) {
-        if turn > 0 {
-            return;
-        }
-        self.come.fetch_add(1, Ordering::SeqCst);
-        for _ in 0..LOOKS {
-            if self.come.load(Ordering::SeqCst) == 2 {
-                return;
-            }
-            thread::yield_now();
-        }
-        self.is_missed.store(true, Ordering::SeqCst);
-    }
-
-    fn alone(&self) -> u64 {
-        0
-    }
-}
-
 #[test]
 fn two_workers_search_at_the_same_time(rt: HostRuntime) -> Result<(), Fail> {
-    let gate = Meeting {
-        come: AtomicU64::new(0),
-        is_missed: AtomicBool::new(false),
-    };
+    let gate = Meeting::at(0);
     let (table, reply) = search_ring(&rt, rt.alloc(), 5, 1_000, 2, &gate)?;
     assert!(rt; reply == TableReply::Finished && has_ring(&table, 5));
-    assert!(rt; gate.come.load(Ordering::SeqCst) == 2 && !gate.is_missed.load(Ordering::SeqCst));
+    assert!(rt; gate.times_met() == 1);
     Ok(())
 }
