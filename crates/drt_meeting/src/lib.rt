@@ -1,6 +1,8 @@
 //! A gate for tests, at which two workers meet.
 #![tactic(auto)]
 
+ghost use Rattle.std.specs.Prelude.{◌≡◌};
+
 use drt_pool::Gate;
 use std::sync::atomic::{AtomicBool, AtomicU64, Ordering};
 use std::thread;
@@ -19,16 +21,22 @@ pub struct Meeting {
 
 impl Meeting {
     /// One that holds turns of that number, and leaves the caller none alone.
-    pub fn at(turn: u64) -> Meeting {
+    pub fn at(turn: u64) -> Meeting
+        ensures { (result.alone ≡ 0) × (result.turn ≡ turn) }
+    {
         Meeting::new(0, turn)
     }
 
     /// One that holds first turns, and leaves so many turns to the caller alone.
-    pub fn behind(alone: u64) -> Meeting {
+    pub fn behind(alone: u64) -> Meeting
+        ensures { (result.alone ≡ alone) × (result.turn ≡ 0) }
+    {
         Meeting::new(alone, 0)
     }
 
-    fn new(alone: u64, turn: u64) -> Meeting {
+    fn new(alone: u64, turn: u64) -> Meeting
+        ensures { (result.alone ≡ alone) × (result.turn ≡ turn) }
+    {
         Meeting {
             alone,
             turn,
