@@ -26,12 +26,12 @@ entry v s x = record { vertex = v; offset = s; work = x }
 same_entry : (d e : FrontEntry) → d.vertex ≡ e.vertex → d.offset ≡ e.offset → d.work ≡ e.work → d ≡ e
 same_entry d e p q r = λ i. record { vertex = p i; offset = q i; work = r i }
 
-module _ (d : Dense) (plan : IsPlan d.plan) (best : AreBest d.plan d.cells) where
+module _ (d : Dense) (plan : IsPlan d.plan) (best : AreBest d.plan d.columns) where
   abbrev IsLabel : FrontEntry → Type 0
   IsLabel = IsRangeEntry d.plan.graph d.plan.bound
 
   greatest : (v s : ℕ) → v < vertex_count d.plan.graph → s ≤ d.plan.bound → IsGreatestWork d.plan.graph d.plan.bound v s (work_at d v s)
-  greatest v s ltv le = greatest_at d.plan d.cells plan best v s ltv le
+  greatest v s ltv le = greatest_at d.plan d.columns plan best v s ltv le
 
   -- What is kept is not covered by another label.
   kept_alone : (e : FrontEntry) → IsKept d e → IsNonDominated IsLabel e

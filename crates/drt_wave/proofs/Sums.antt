@@ -1,13 +1,15 @@
 -- Sums and maxima over a list of views, of which a step changes one, and lists by what stands in them.
 use Rattle.std.proofs.Common.{◌≡◌, ℕ, zero, suc, ◌+◌, ◌<◌, ◌≤◌, ◌≢◌, ◌⊎◌, max, List, [], ◌∷◌, ◌++◌}
-use Rattle.std.proofs.Common.{length, set, sym, refl, ap, inl, inr, ⊎_elim, arith, subst, eq-eqb, ne_eqb, if◌then◌else◌, ◌==◌, ◌&&◌}
+use Rattle.std.proofs.Common.{length, get_or, set, sym, refl, ap, inl, inr, ⊎_elim, arith, subst, eq-eqb, ne_eqb, if◌then◌else◌, ◌==◌, ◌&&◌}
 use Rattle.std.proofs.lemmas.Bool.Decides.{nat_tests}
 use mathlib.Core.Logic.{dite}
 use mathlib.Core.Option.{some, some-injective, some-ne-none}
 use native.Mathlib.Decide.{dec_le, ℕ_discrete}
 use lib.ListN.{get_elem?}
 use Rattle.drt_wave.specs.Net.{Among}
-use Rattle.drt_wave.specs.Waves.{total, greatest, times, most}
+use Rattle.drt_wave.specs.Sums.{total, greatest}
+use Rattle.drt_wave.specs.Claims.{times}
+use Rattle.drt_wave.specs.Lanes.{most}
 
 module _ {A : Type 0} (g : A → ℕ) where
   pub total-append : (l m : List A) → total g (l ++ m) ≡ total g l + total g m
@@ -86,7 +88,7 @@ module _ {A : Type 0} where
   among_right x [] m h = h
   among_right x (y ∷ ys) m h = inr (among_right x ys m h)
 
--- a contribution to cell c
+-- a contribution at offset c
 abbrev at_cell : ℕ → ℕ × ℕ → ℕ
 at_cell c r = if r.0 == c then r.1 else 0
 
@@ -150,3 +152,8 @@ pub at_inside : {A : Type 0} (l : List A) (i : ℕ) (a : A) → get_elem? l i �
 at_inside [] i a e = absurd (some-ne-none a (sym e))
 at_inside (x ∷ xs) zero a e = omega arith
 at_inside (x ∷ xs) (suc i) a e = omega (arith, at_inside xs i a e)
+
+pub word_is : (ws : List ℕ) (i x : ℕ) → get_elem? ws i ≡ some x → get_or ws i 0 ≡ x
+word_is [] i x e = absurd (some-ne-none x (sym e))
+word_is (y ∷ ys) zero x e = some-injective y x e
+word_is (y ∷ ys) (suc i) x e = word_is ys i x e

@@ -12,7 +12,7 @@ use Rattle.drt_wave.specs.Dense.{Dense, AreBest, work_at}
 use Rattle.drt_wave.specs.Greatest.{IsInRange, IsWalkTo}
 use Rattle.drt_wave.specs.Backwards.{IsStep}
 use Rattle.drt_wave.proofs.Bests.{positive}
-use Rattle.drt_wave.proofs.Cells.{to_walk, of_walk, cell_lt, cell_vertex, cell_offset}
+use Rattle.drt_wave.proofs.Cells.{to_walk, of_walk, cell_vertex, cell_offset}
 use Rattle.drt_wave.proofs.Working.{reach_more}
 use Rattle.drt_wave.proofs.Walks.{greatest_at}
 use Rattle.drt_wave.proofs.Kept.{cell_due}
@@ -42,7 +42,7 @@ pub record IsAtCell (d : Dense) (at left : ℕ) : Type 0 where
   pub offset : left ≤ d.plan.bound
   pub some : 0 < work_at d at left
 
-module _ (d : Dense) (plan : IsPlan d.plan) (best : AreBest d.plan d.cells) where
+module _ (d : Dense) (plan : IsPlan d.plan) (best : AreBest d.plan d.columns) where
   pub tail_first : (v s : ℕ) (found : List ℕ) → IsAtCell d v s → found ≡ v ∷ [] → IsTail d v s v s found
   tail_first v s found cell is =
       let none = span_none d.plan.graph v in let no_work = work_none d.plan.graph in
@@ -82,7 +82,7 @@ module _ (d : Dense) (plan : IsPlan d.plan) (best : AreBest d.plan d.cells) wher
   single_cell : (v : ℕ) → IsAtCell d v 0 → work_at d v 0 ≡ wcet d.plan.graph v
   single_cell v cell =
       let some = cell.some in
-      let h = (greatest_at d.plan d.cells plan best v 0 cell.vertex (omega arith)).0 (λ z. absurd (omega arith)) in
+      let h = (greatest_at d.plan d.columns plan best v 0 cell.vertex (omega arith)).0 (λ z. absurd (omega arith)) in
       let is = h.2 in
       sym is.works ∙ (single_work d.plan.graph plan.sound h.0 h.1 is.path is.offset ∙ ap (wcet d.plan.graph) is.vertex)
 
@@ -109,7 +109,7 @@ module _ (d : Dense) (plan : IsPlan d.plan) (best : AreBest d.plan d.cells) wher
   pub has_step : (v s : ℕ) → IsAtCell d v s → 0 < s → (u : ℕ) × (r : ℕ) × IsStep d u r v s
   has_step v s cell later =
       let p = d.plan in let some = cell.some in
-      let is : IsBest (net_of p) (cell_at p v s) (work_at d v s) = best (cell_at p v s) (cell_lt p v s cell.vertex cell.offset) in
+      let is : IsBest (net_of p) (cell_at p v s) (work_at d v s) = best v s cell.vertex cell.offset in
       let r = is.0 (λ z. absurd (omega arith)) in
       let walk = to_walk p r.0 (cell_at p v s) (work_at d v s) r.1 in
       go walk.0 (subst (λ (q : ℕ × ℕ). WalkTo p q.0 walk.0 q.1 (work_at d v s)) (λ i. (cell_vertex p v s cell.offset i, cell_offset p v s cell.offset i)) walk.1)
@@ -121,13 +121,13 @@ module _ (d : Dense) (plan : IsPlan d.plan) (best : AreBest d.plan d.cells) wher
           let off = w.6 in let works = w.7 in let due = w.8 in
           let was = of_walk p plan u before r y w.3 in
           let some = positive (net_of p) was.2.0 (cell_at p u r) y was.2.1 in
-          let here : IsBest (net_of p) (cell_at p u r) (work_at d u r) = best (cell_at p u r) (cell_lt p u r was.1 was.0) in
+          let here : IsBest (net_of p) (cell_at p u r) (work_at d u r) = best u r was.1 was.0 in
           let le : y ≤ work_at d u r = here.1 y was.2 in
           let fits : r + e.sep + deadline g e.to ≤ p.bound = let same : deadline g e.to ≡ deadline g v = ap (deadline g) w.5 in omega (arith, off, due, same) in
           let on : Reached (net_of p) (cell_at p e.to (r + e.sep)) (work_at d u r + wcet g e.to) = reach_more p u r k (work_at d u r) was.1 was.0 w.4 fits (here.0 (λ z. absurd (omega arith))) in
           let to : Reached (net_of p) (cell_at p v s) (work_at d u r + wcet g v) = subst (λ (q : ℕ × ℕ). Reached (net_of p) (cell_at p q.0 q.1)
           (work_at d u r + wcet g q.0)) (λ i. (w.5 i, sym off i)) on in
-          let is : IsBest (net_of p) (cell_at p v s) (work_at d v s) = best (cell_at p v s) (cell_lt p v s cell.vertex cell.offset) in
+          let is : IsBest (net_of p) (cell_at p v s) (work_at d v s) = best v s cell.vertex cell.offset in
           let ge = is.1 (work_at d u r + wcet g v) to in
           let named : sep g u v ≡ Some e.sep = subst (λ z. sep g u z ≡ Some e.sep) w.5 (sep_of_edge g plan.sound u k was.1 w.4) in
           let edge = gap_of g u v e.sep named in let gaps = edge.0 in (

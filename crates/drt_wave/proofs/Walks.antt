@@ -1,5 +1,6 @@
 -- The works that reach a cell are those of the graph's walks in range.
 use Rattle.std.proofs.Common.{◌≡◌, ℕ, ◌+◌, ◌<◌, ◌≤◌, List, [], ◌∷◌, ◌++◌, Some, refl, sym, ap, subst, arith, slice_index}
+use Rattle.std.specs.Prelude.{slice_index_or}
 use Rattle.drt_model.specs.declared.tasks.Edge.{Edge}
 use Rattle.drt_model.specs.Digraph.{Digraph, vertex_count, edge_of}
 use Rattle.drt_model.specs.Walk.{wcet, deadline, gap, sep, IsEdge, IsPath, last_of, work, span}
@@ -10,7 +11,7 @@ use Rattle.drt_wave.specs.Net.{IsBest}
 use Rattle.drt_wave.specs.Cells.{cell_at, net_of, IsPlan, WalkTo}
 use Rattle.drt_wave.specs.Dense.{AreBest}
 use Rattle.drt_wave.specs.Greatest.{IsInRange, HasWalk, IsGreatestWork}
-use Rattle.drt_wave.proofs.Cells.{to_walk, of_walk, cell_lt, cell_vertex, cell_offset}
+use Rattle.drt_wave.proofs.Cells.{to_walk, of_walk, cell_vertex, cell_offset}
 
 -- A walk in range that goes on to a vertex that is due within the bound is in range.
 range_more : (g : Digraph) (bound s u v : ℕ) (vs : List ℕ) → IsInRange g bound s u vs → s + span g u vs + gap g (last_of u vs) v + deadline g v ≤ bound → IsInRange g bound s u (vs ++ v ∷ [])
@@ -97,10 +98,11 @@ has_bounds p plan v s x walk =
     (at.1, at.0, omega (arith, some, w1, works))
 
 -- What a cell holds is the greatest work of the walks that end there.
-pub greatest_at : (p : Plan) (cells : List ℕ) → IsPlan p → AreBest p cells → (v s : ℕ) → v < vertex_count p.graph → s ≤ p.bound → IsGreatestWork p.graph p.bound v s (slice_index cells (cell_at p v s))
-greatest_at p cells plan best v s ltv le =
-    let c : ℕ = cell_at p v s in let x : ℕ = slice_index cells c in
-    let is : IsBest (net_of p) c x = best c (cell_lt p v s ltv le) in (
+pub greatest_at : (p : Plan) (columns : List (List ℕ)) → IsPlan p → AreBest p columns → (v s : ℕ) → v < vertex_count p.graph → s ≤ p.bound
+    → IsGreatestWork p.graph p.bound v s (slice_index (slice_index_or columns v []) s)
+greatest_at p columns plan best v s ltv le =
+    let c : ℕ = cell_at p v s in let x : ℕ = slice_index (slice_index_or columns v []) s in
+    let is : IsBest (net_of p) c x = best v s ltv le in (
       (λ ne.
           let r = is.0 ne in let walk = to_walk p r.0 c x r.1 in
           let at : WalkTo p v walk.0 s x = subst (λ (q : ℕ × ℕ). WalkTo p q.0 walk.0 q.1 x) (λ i. (cell_vertex p v s le i, cell_offset p v s le i)) walk.1 in

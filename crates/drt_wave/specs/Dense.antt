@@ -1,18 +1,23 @@
 -- The cells of a table that was worked to its end.
-use Rattle.std.specs.Prelude.{ℕ, ◌<◌, List, slice_index}
+use Rattle.std.specs.Prelude.{◌≡◌, ℕ, ◌<◌, ◌≤◌, List, [], length, slice_index, slice_index_or}
+use Rattle.drt_model.specs.Digraph.{vertex_count}
 use Rattle.drt_wave.specs.declared.plan.Plan.{Plan}
 use Rattle.drt_wave.specs.Net.{IsBest}
-use Rattle.drt_wave.specs.Cells.{cell_at, net_of}
+use Rattle.drt_wave.specs.Cells.{cell_at, net_of, width}
 
--- What the table is of, and its cells.
+-- What the table is of, and the cells of each vertex.
 pub record Dense : Type 0 where
   pub plan : Plan
-  pub cells : List ℕ
+  pub columns : List (List ℕ)
 
 -- Each cell holds the greatest work that reaches it.
-abbrev pub AreBest : Plan → List ℕ → Type 0
-AreBest p cells = (c : ℕ) → c < (net_of p).cells → IsBest (net_of p) c (slice_index cells c)
+abbrev pub AreBest : Plan → List (List ℕ) → Type 0
+AreBest p columns = (v s : ℕ) → v < vertex_count p.graph → s ≤ p.bound → IsBest (net_of p) (cell_at p v s) (slice_index (slice_index_or columns v []) s)
+
+-- There is a list for each vertex, with as many cells as there are offsets.
+abbrev pub AreWhole : Plan → List (List ℕ) → Type 0
+AreWhole p columns = (length columns ≡ vertex_count p.graph) × ((v : ℕ) → v < length columns → length (slice_index_or columns v []) ≡ width p)
 
 -- What the cell of a vertex and an offset holds.
 abbrev pub work_at : Dense → ℕ → ℕ → ℕ
-work_at d v s = slice_index d.cells (cell_at d.plan v s)
+work_at d v s = slice_index (slice_index_or d.columns v []) s

@@ -1,5 +1,11 @@
 pub mod Net
-pub mod Waves
+pub mod Sums
+pub mod Claims
+pub mod Lanes
+pub mod Keys
+pub mod Lane
+pub mod Tables
+pub mod Openers
 pub mod Seats
 pub mod Cells
 pub mod Ways

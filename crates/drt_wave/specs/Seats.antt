@@ -1,68 +1,114 @@
--- What a seat is before and after a step.
-use Rattle.std.specs.Prelude.{◌≡◌, ℕ, ◌+◌, ◌*◌, ◌<◌, ◌≤◌, ◌%◌, ◌/◌, ◌^◌, List, length, slice_index, Some}
-use Rattle.atomic_table.specs.Table.{Me}
+-- What a worker's seat is before and after a step.
+use Rattle.std.specs.Prelude.{◌≡◌, ◌≢◌, ◌⊎◌, ℕ, ◌+◌, ◌*◌, ◌<◌, ◌≤◌, ◌%◌, ◌/◌, ◌^◌, List, [], length, vec_capacity}
+use mathlib.Core.Option.{some}
+use lib.ListN.{get_elem?}
 use Rattle.drt_model.specs.Digraph.{edge_of}
 use Rattle.drt_model.specs.Walk.{wcet, deadline}
 use Rattle.drt_wave.specs.declared.plan.Plan.{Plan}
-use Rattle.drt_wave.specs.declared.view.Note.{Note}
-use Rattle.drt_wave.specs.Cells.{net_of, cell_at, width}
-use Rattle.drt_wave.specs.Net.{Net, Among}
-use Rattle.drt_wave.specs.Waves.{with_draw, AllExpanded}
-use Rattle.drt_wave.specs.declared.view.View.{View}
+use Rattle.drt_wave.specs.declared.lane.Lane.{Lane}
+use Rattle.drt_wave.specs.declared.seat.WaveSeat.{WaveSeat}
+use Rattle.drt_wave.specs.declared.table.WaveTable.{WaveTable}
+use Rattle.drt_wave.specs.Net.{Net, Among, IsBest}
+use Rattle.drt_wave.specs.Cells.{net_of, width}
+use Rattle.drt_wave.specs.Lane.{LaneSeat, IsLaneSeat, IsClaimSeat}
 
-module _ {F : Type 0} where
-  -- it knows the fixed value and has some part
-  abbrev pub IsAt : F → View F → Type 0
-  IsAt key v = (v.fixed ≡ Some key) × (0 < v.parts)
+-- its parts of 1,024
+abbrev pub parts_of : WaveSeat → ℕ
+parts_of s = s.claims.me.0.parts
 
-  -- Number t of wave j was drawn, which is above those of the wave that the seat drew before, and r told of it. The seat with
-  -- every part has drawn all numbers below it; where it also has expanded all that it drew and knows the earlier waves as final, it knows the wave as final once it is drawn to its end
-  abbrev pub Draws : Net → ℕ → ℕ → View F → View F → Type 0
-  Draws g j r v w = (t : ℕ) × (known : ℕ) × (r ≡ t % 2 ^ 64) × (w ≡ with_draw v j t known) × (v.known ≤ known)
-      × (v.parts ≡ 1024 → j ≤ v.known → AllExpanded g v → g.size j ≤ t * 64 → j < known)
-      × (v.parts ≡ 1024 → (k : ℕ) → k < t → Among (j, k) v.draws)
-      × ((k : ℕ) → Among (j, k) v.draws → k < t)
+-- each wave and number that it drew
+abbrev pub draws_of : WaveSeat → List (ℕ × ℕ)
+draws_of s = s.claims.me.0.draws
 
-module _ {S F : Type 0} where
-  -- the seat contributed and noted something, and did nothing else
-  pub record Kept (m n : Me S (View F)) : Type 0 where
-    pub fixed : n.0.fixed ≡ m.0.fixed
-    pub parts : n.0.parts ≡ m.0.parts
-    pub draws : n.0.draws ≡ m.0.draws
-    pub known : n.0.known ≡ m.0.known
-    pub slots : n.1 ≡ m.1
-    pub raised : (c x : ℕ) → Among (c, x) m.0.raised → Among (c, x) n.0.raised
-    pub notes : (o : Note) → Among o m.0.notes → Among o n.0.notes
+-- it contributed work x to the cell of vertex v at offset o
+abbrev pub HasRaised : WaveSeat → ℕ → ℕ → ℕ → Type 0
+HasRaised s v o x = (y : LaneSeat) × (get_elem? s.lanes.items v ≡ some y) × Among (o, x) y.me.0.raised
 
-module _ {F : Type 0} where
+-- the waves below wave k are known as final, and wave k too
+abbrev pub KnowsTo : ℕ → WaveSeat → Type 0
+KnowsTo k s = (v : ℕ) (y : LaneSeat) → get_elem? s.lanes.items v ≡ some y → y.me.0.known ≡ k
+
+-- It is of the table: it has a seat of the claim words and one of each lane, with as many parts.
+pub record IsOf (t : WaveTable) (s : WaveSeat) : Type 0 where
+  pub claims : IsClaimSeat t.claims s.claims
+  pub count : length s.lanes.items ≡ length t.lanes
+  pub room : length t.lanes ≤ vec_capacity s.lanes
+  pub lane : (v : ℕ) (l : Lane) (y : LaneSeat) → get_elem? t.lanes v ≡ some l → get_elem? s.lanes.items v ≡ some y → IsLaneSeat l y × (y.me.0.parts ≡ parts_of s)
+
+-- It contributed something, and did nothing else.
+pub record Kept (s n : WaveSeat) : Type 0 where
+  pub parts : parts_of n ≡ parts_of s
+  pub draws : draws_of n ≡ draws_of s
+  pub known : (k : ℕ) → KnowsTo k s → KnowsTo k n
+  pub raised : (v o x : ℕ) → HasRaised s v o x → HasRaised n v o x
+
+-- It went on with its wave.
+pub record Turned (s n : WaveSeat) : Type 0 where
+  pub parts : parts_of n ≡ parts_of s
+  pub draws : (j k : ℕ) → Among (j, k) (draws_of s) → Among (j, k) (draws_of n)
+  pub known : (k : ℕ) → KnowsTo k s → KnowsTo k n
+  pub raised : (v o x : ℕ) → HasRaised s v o x → HasRaised n v o x
+
+-- One part of it went to another seat.
+pub record IsCut (s left right : WaveSeat) : Type 0 where
+  pub parts : parts_of left + 1 ≡ parts_of s
+  pub draws : draws_of left ≡ draws_of s
+  pub known : (k : ℕ) → KnowsTo k s → KnowsTo k left
+  pub raised : (v o x : ℕ) → HasRaised s v o x → HasRaised left v o x
+  pub right_parts : parts_of right ≡ 1
+  pub right_draws : draws_of right ≡ []
+  pub right_known : (k : ℕ) → KnowsTo k s → KnowsTo k right
+
+-- It took in another seat.
+pub record IsGlued (s other n : WaveSeat) : Type 0 where
+  pub parts : parts_of n ≡ parts_of s + parts_of other
+  pub draws : (j k : ℕ) → Among (j, k) (draws_of s) → Among (j, k) (draws_of n)
+  pub other_draws : (j k : ℕ) → Among (j, k) (draws_of other) → Among (j, k) (draws_of n)
+  pub no_more : (j k : ℕ) → Among (j, k) (draws_of n) → Among (j, k) (draws_of other) ⊎ Among (j, k) (draws_of s)
+  pub known : (k : ℕ) → KnowsTo k s → KnowsTo k n
+  pub raised : (v o x : ℕ) → HasRaised s v o x → HasRaised n v o x
+  pub other_raised : (v o x : ℕ) → HasRaised other v o x → HasRaised n v o x
+
+-- Number t of wave j was drawn, which is above those of the wave that the seat drew before, and r told of it. The seat with every part has drawn
+-- all numbers below it.
+pub record HasClaimed (j r : ℕ) (s n : WaveSeat) : Type 0 where
+  pub number : ℕ
+  pub told : r ≡ number % 2 ^ 64
+  pub drawn : Among (j, number) (draws_of n)
+  pub whole : parts_of s ≡ 1024 → (k : ℕ) → k < number → Among (j, k) (draws_of s)
+  pub above : (k : ℕ) → Among (j, k) (draws_of s) → k < number
+  pub no_more : (i k : ℕ) → Among (i, k) (draws_of n) → ((i ≡ j) × (k ≡ number)) ⊎ Among (i, k) (draws_of s)
+
+module _ (p : Plan) where
+  -- The cell has its greatest work, and the seat passed that on along each arc.
+  abbrev pub IsExpanded : WaveSeat → ℕ → Type 0
+  IsExpanded s c = (x : ℕ) × IsBest (net_of p) c x × (x ≢ 0 → (t w : ℕ) → Among (t, w) ((net_of p).arcs c) → HasRaised s (t / width p) (t % width p) (x + w))
+
+  -- Each cell of a block that the seat drew is expanded. A block has 64 cells, the last one of a wave what is left.
+  abbrev pub AllExpanded : WaveSeat → Type 0
+  AllExpanded s = (j n : ℕ) → n < (net_of p).size j → Among (j, n / 64) (draws_of s) → IsExpanded s ((net_of p).cell j n)
+
+  -- Each cell up to wave j is expanded.
+  abbrev pub ExpandedTo : ℕ → WaveSeat → Type 0
+  ExpandedTo j s = (c : ℕ) → c < (net_of p).cells → (net_of p).wave c ≤ j → IsExpanded s c
+
   -- work x of vertex u at offset s was passed on along out-edge k, where its target is in range
-  abbrev pub PassedOn : Plan → View F → ℕ → ℕ → ℕ → ℕ → Type 0
-  PassedOn p v u s x k = s + (edge_of p.graph u k).sep + deadline p.graph (edge_of p.graph u k).to ≤ p.bound
-      → Among (cell_at p (edge_of p.graph u k).to (s + (edge_of p.graph u k).sep), x + wcet p.graph (edge_of p.graph u k).to) v.raised
+  abbrev pub PassedOn : WaveSeat → ℕ → ℕ → ℕ → ℕ → Type 0
+  PassedOn n u s x k = s + (edge_of p.graph u k).sep + deadline p.graph (edge_of p.graph u k).to ≤ p.bound
+      → HasRaised n (edge_of p.graph u k).to (s + (edge_of p.graph u k).sep) (x + wcet p.graph (edge_of p.graph u k).to)
 
   -- it was so along the first n out-edges
-  abbrev pub Passed : Plan → View F → ℕ → ℕ → ℕ → ℕ → Type 0
-  Passed p v u s x n = (k : ℕ) → k < n → PassedOn p v u s x k
+  abbrev pub Passed : WaveSeat → ℕ → ℕ → ℕ → ℕ → Type 0
+  Passed v u s x n = (k : ℕ) → k < n → PassedOn v u s x k
 
-  -- the seat drew a number past the end of wave j
-  abbrev pub IsPast : Net → ℕ → View F → Type 0
-  IsPast g j v = (t : ℕ) × Among (j, t) v.draws × (g.size j ≤ t * 64)
+-- the seat drew a number past the end of wave j
+abbrev pub IsPast : Net → ℕ → WaveSeat → Type 0
+IsPast g j s = (t : ℕ) × Among (j, t) (draws_of s) × (g.size j ≤ t * 64)
 
-  -- the seat drew the first b numbers of wave j
-  abbrev pub HasDrawn : ℕ → ℕ → View F → Type 0
-  HasDrawn j b v = (k : ℕ) → k < b → Among (j, k) v.draws
+-- the seat drew the first b numbers of wave j
+abbrev pub HasDrawn : ℕ → ℕ → WaveSeat → Type 0
+HasDrawn j b s = (k : ℕ) → k < b → Among (j, k) (draws_of s)
 
-module _ {S F : Type 0} where
-  -- the seat went on with its wave, and knows no less
-  pub record Turned (m n : Me S (View F)) : Type 0 where
-    pub fixed : n.0.fixed ≡ m.0.fixed
-    pub parts : n.0.parts ≡ m.0.parts
-    pub known : m.0.known ≤ n.0.known
-    pub slots : n.1 ≡ m.1
-    pub draws : (j k : ℕ) → Among (j, k) m.0.draws → Among (j, k) n.0.draws
-
--- the words of a table in which the cells of the first n vertices are open, and all others are 0
-pub record Opened (p : Plan) (n : ℕ) (ws : List ℕ) : Type 0 where
-  pub wide : length ws ≡ (net_of p).cells + (net_of p).waves
-  pub open_cells : (c : ℕ) → c < (net_of p).cells → c / width p < n → slice_index ws c ≡ (net_of p).opens c
-  pub others : (c : ℕ) → n ≤ c / width p → slice_index ws c ≡ 0
+-- the seat drew each block of the waves below wave j
+abbrev pub HasDrawnBelow : Net → ℕ → WaveSeat → Type 0
+HasDrawnBelow g j s = (i n : ℕ) → i < j → n < g.size i → Among (i, n / 64) (draws_of s)

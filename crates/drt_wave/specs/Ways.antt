@@ -5,16 +5,17 @@ use Rattle.drt_model.specs.Digraph.{vertex_count, out_degree, edge_of}
 use Rattle.drt_model.specs.Walk.{wcet, deadline}
 use Rattle.drt_wave.specs.declared.plan.Plan.{Plan}
 use Rattle.drt_wave.specs.declared.ways.Way.{Way}
-use Rattle.drt_wave.specs.Cells.{cell_at, width}
+use Rattle.drt_wave.specs.Cells.{width}
 
 -- what stands for a way past the last one
 abbrev pub no_way : Way
-no_way = record { end = 0; cell = 0; work = 0 }
+no_way = record { end = 0; vertex = 0; gap = 0; work = 0 }
 
 -- The way is that of the edge: below its end the second job is due within the bound.
 pub record IsWay (p : Plan) (e : Edge) (y : Way) : Type 0 where
   pub end : y.end ≡ width p - (e.sep + deadline p.graph e.to)
-  pub cell : y.cell ≡ cell_at p e.to e.sep
+  pub vertex : y.vertex ≡ e.to
+  pub gap : y.gap ≡ e.sep
   pub work : y.work ≡ wcet p.graph e.to
 
 -- They are the ways of the edges out of vertex u.

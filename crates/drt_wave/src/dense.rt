@@ -1,35 +1,24 @@
 //! A table that was worked to its end.
 
+use crate::column::Column;
 use crate::plan::Plan;
-use atomic_table::Closed;
-use std::alloc::Global;
+use drt_model::Row;
 use std::marker::Model;
 
-/// The greatest works of a graph's walks, by vertex and offset. Contracts see it as its plan and its cells.
+/// The greatest works of a graph's walks, by vertex and offset. Contracts see it as its plan and the cells of each vertex.
+#[derive(Drop)]
 pub struct DenseFront {
     pub(crate) plan: Plan,
-    pub(crate) closed: Closed<(), Global>,
+    pub(crate) columns: Row<Column>,
 }
 
 impl Model for DenseFront {
-    ghost use Rattle.std.specs.Prelude.{◌≡◌, ◌+◌};
-    ghost use Rattle.std.specs.Mem.Slots.{slots_items, slots_len, IsFull};
-    ghost use Rattle.drt_wave.specs.Cells.{net_of, IsPlan};
-    ghost use Rattle.drt_wave.specs.Dense.{Dense, AreBest};
+    ghost use Rattle.drt_wave.specs.Cells.{IsPlan};
+    ghost use Rattle.drt_wave.specs.Dense.{Dense, AreBest, AreWhole};
 
     ghost Value = { Dense };
 
-    ghost view = { λ d. record { plan = d.plan; cells = slots_items d.closed.words } };
+    ghost view = { λ d. record { plan = d.plan; columns = d.columns } };
 
-    ghost invariant = { λ d. IsPlan d.plan × (slots_len d.closed.words ≡ (net_of d.plan).cells + (net_of d.plan).waves) × (slots_len d.closed.slots ≡ 0) × IsFull d.closed.words × AreBest d.plan (slots_items d.closed.words) };
-}
-
-impl Drop for DenseFront {
-    fn drop(self) {
-        let DenseFront {
-            plan: _plan,
-            closed,
-        } = self;
-        closed.free();
-    }
+    ghost invariant = { λ d. IsPlan d.plan × AreWhole d.plan d.columns × AreBest d.plan d.columns };
 }

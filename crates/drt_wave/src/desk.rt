@@ -1,11 +1,13 @@
 //! What the workers of a table take their seats from.
-ghost use Rattle.std.specs.Prelude.{◌≡◌, IfSome};
+ghost use Rattle.std.specs.Prelude.{◌≡◌, ◌≤◌, [], length, vec_capacity, IfOk, IfErr, IfSome};
 ghost use Rattle.drt_wave.specs.Cells.{net_of};
 ghost use Rattle.drt_wave.specs.Shifts.{IsAtWork, IsShift};
-ghost use Rattle.drt_wave.specs.Waves.{AllDrawn, AllExpanded};
+ghost use Rattle.drt_wave.specs.Seats.{draws_of, KnowsTo, IsOf};
 
 use crate::filling::{Crew, is_shared, work_wave};
-use crate::table::{WaveSeat, WaveTable};
+use crate::lane::LaneSeat;
+use crate::seat::WaveSeat;
+use crate::table::WaveTable;
 use drt_lock::Guarded;
 use std::marker::Model;
 
@@ -42,7 +44,7 @@ impl<'a> Model for Desk<'a> {
 
     ghost view = { λ d. d.table.now };
 
-    ghost invariant = { λ d. IsOwner d.table.now.table.shared.table_id d.table.now.plan d.wave d.parts d.waves d.owner };
+    ghost invariant = { λ d. IsOwner d.table.now d.wave d.parts d.waves d.owner };
 }
 
 impl<'a> Guarded for Desk<'a> {
@@ -57,8 +59,8 @@ impl<'a> Guarded for Desk<'a> {
 impl<'a> Desk<'a> {
     /// A table whose waves before the first one that is shared are worked.
     pub(crate) fn open(table: &'a WaveTable, owner: WaveSeat, waves: u32, crew: Crew) -> Desk<'a>
-        requires id { owner.table_id ≡ table.now.table.shared.table_id }
-        requires owner { IsAtWork table.now.plan 0 1024 owner.me }
+        requires owner { IsAtWork table.now 0 1024 owner }
+        requires draws { draws_of owner ≡ [] }
         requires waves { waves ≡ (net_of table.now.plan).waves }
         ensures { result ≡ table.now }
     {
@@ -84,40 +86,40 @@ impl<'a> Desk<'a> {
         self.wave >= self.waves
     }
 
-    /// A seat for the open wave, where that is `next` or a later one and there is a part to spare.
-    pub(crate) fn take(&mut self, next: u64) -> Option<Shift>
+    /// A seat for the open wave, where that is `next` or a later one and there is a part to spare, and else the room for it back.
+    pub(crate) fn take(&mut self, next: u64, room: Vec<LaneSeat>) -> Result<Shift, Vec<LaneSeat>>
+        requires room { (room.items ≡ []) × (length self.old.lanes ≤ vec_capacity room) }
         ensures kept { self.new ≡ self.old }
-        ensures shift { IfSome result (λ shift. IsShift self.old shift.wave shift.seat) }
+        ensures shift { IfOk result (λ shift. IsShift self.old shift.wave shift.seat) }
+        ensures room { IfErr result (λ back. (back.items ≡ []) × (length self.old.lanes ≤ vec_capacity back)) }
     {
         if self.wave >= self.waves || (self.wave as u64) < next || self.parts <= 1 {
-            return None;
+            return Err(room);
         }
-        match self.table.split(&mut self.owner) {
-            Ok(seat) => {
-                self.parts -= 1;
-                Some(Shift {
-                    wave: self.wave,
-                    seat,
-                })
-            }
-            Err(_) => None,
-        }
+        let seat = self.table.split_into(&mut self.owner, room);
+        self.parts -= 1;
+        Ok(Shift {
+            wave: self.wave,
+            seat,
+        })
     }
 
-    /// Takes a worker's seat in. Where all parts are back already, which can't be, the seat is dropped.
-    pub(crate) fn give_back(&mut self, shift: Shift)
+    /// Takes a worker's seat in, and gives the room of it back. Where all parts are back already, which can't be, the seat is dropped.
+    pub(crate) fn give_back(&mut self, shift: Shift) -> Option<Vec<LaneSeat>>
         requires { IsShift self.old shift.wave shift.seat }
-        ensures { self.new ≡ self.old }
+        ensures kept { self.new ≡ self.old }
+        ensures room { IfSome result (λ room. (room.items ≡ []) × (length self.old.lanes ≤ vec_capacity room)) }
     {
         if self.parts >= PARTS {
-            return;
+            return None;
         }
-        self.table.join(&mut self.owner, shift.seat);
+        let room = self.table.join_back(&mut self.owner, shift.seat);
         self.parts += 1;
+        Some(room)
     }
 
-    /// Where all parts are back: works what is left of the open wave, which is one claim past its end where workers worked it, and by that
-    /// knows the wave as final. It goes on so over each later wave that is not shared.
+    /// Where all parts are back: works what is left of the open wave, which is one claim past its end where workers worked it, and then knows
+    /// the next wave as final. It goes on so over each later wave that is not shared.
     pub(crate) fn work_on(&mut self)
         ensures { self.new ≡ self.old }
     {
@@ -127,9 +129,8 @@ impl<'a> Desk<'a> {
 
     /// The seat, once every wave is worked. Where all parts are back it works those that are left, and where one is out, None.
     pub(crate) fn into_seat(self) -> Option<WaveSeat>
-        ensures id { IfSome result (λ seat. seat.table_id ≡ self.entry.table.shared.table_id) }
-        ensures drawn { IfSome result (λ seat. AllDrawn (net_of self.entry.plan) seat.me.0) }
-        ensures expanded { IfSome result (λ seat. AllExpanded (net_of self.entry.plan) seat.me.0) }
+        ensures seat { IfSome result (λ seat. IsOf self.entry seat) }
+        ensures known { IfSome result (λ seat. KnowsTo (net_of self.entry.plan).waves seat) }
     {
         let mut desk = self;
         'waves: for _wave in desk.wave..desk.waves {

@@ -1,57 +1,53 @@
 //! What a worker does with a wave: it draws a block, and expands its cells.
 ghost use Rattle.std.specs.Prelude.{◌≡◌, ℕ, ◌+◌, ◌*◌, ◌^◌, ◌<◌, ◌≤◌, ◌/◌, ◌%◌, false};
 ghost use Rattle.drt_model.specs.Digraph.{vertex_count, out_degree};
-ghost use Rattle.drt_wave.specs.Net.{Among, Reached};
-ghost use Rattle.drt_wave.specs.Waves.{IsExpanded, AllExpanded};
+ghost use Rattle.drt_wave.specs.Net.{Reached};
 ghost use Rattle.drt_wave.specs.Cells.{net_of, offsets, cell_at};
-ghost use Rattle.drt_wave.specs.Seats.{IsAt, Kept, Passed, IsPast, HasDrawn, Turned};
+ghost use Rattle.drt_wave.specs.Seats.{parts_of, KnowsTo, HasRaised, IsOf, IsExpanded, AllExpanded, Kept, Passed, IsPast, HasDrawn, Turned};
 ghost use Rattle.drt_wave.specs.Shifts.{HasWorked};
 ghost use Rattle.drt_wave.specs.Ways.{IsWayRow};
 
-use crate::table::{WaveSeat, WaveTable};
+use crate::seat::WaveSeat;
+use crate::table::WaveTable;
 use crate::ways::Way;
 
 // How many cells a block has, the last one of a wave aside.
 const BLOCK: u64 = 64;
 
-// The cell of a vertex and an offset.
-fn cell(table: &WaveTable, vertex: u32, offset: u64) -> u32
-    requires vertex { vertex < vertex_count table.now.plan.graph }
-    requires offset { offset ≤ table.now.plan.bound }
-    ensures value { result ≡ cell_at table.now.plan vertex offset }
-    ensures within { result < (net_of table.now.plan).cells }
-{
-    (vertex as u64 * (table.plan.bound + 1) + offset) as u32
-}
-
 // Passes the value of a cell on along a way from its offset.
 fn pass_one(table: &WaveTable, seat: &mut WaveSeat, way: Way, offset: u64, value: u64)
-    requires id { seat.old.table_id ≡ table.now.table.shared.table_id }
-    requires seat { IsAt table.now.plan seat.old.me.0 }
-    requires within { offset < way.end → way.cell + offset < (net_of table.now.plan).cells }
-    requires reached { offset < way.end → Reached (net_of table.now.plan) (way.cell + offset) (value + way.work) }
-    requires small { (net_of table.now.plan).cells ≤ 4194304 }
+    requires seat { IsOf table.now seat.old }
+    requires parts { 0 < parts_of seat.old }
+    requires vertex { way.vertex < vertex_count table.now.plan.graph }
+    requires within { offset < way.end → way.gap + offset ≤ table.now.plan.bound }
+    requires reached { offset < way.end → Reached (net_of table.now.plan) (cell_at table.now.plan way.vertex (way.gap + offset)) (value + way.work) }
+    requires small { table.now.plan.bound < 4194304 }
     requires fits { value + way.work < 2 ^ 64 }
-    ensures id { seat.new.table_id ≡ seat.old.table_id }
-    ensures kept { Kept seat.old.me seat.new.me }
-    ensures passed { offset < way.end → Among (way.cell + offset, value + way.work) seat.new.me.0.raised }
+    ensures seat { IsOf table.now seat.new }
+    ensures kept { Kept seat.old seat.new }
+    ensures passed { offset < way.end → HasRaised seat.new way.vertex (way.gap + offset) (value + way.work) }
 {
     if offset >= way.end as u64 {
         return;
     }
-    table.raise(seat, way.cell + offset as u32, value + way.work as u64);
+    table.raise_at(
+        seat,
+        way.vertex,
+        way.gap as u64 + offset,
+        value + way.work as u64,
+    );
 }
 
 // Passes the value of a cell on along the edges out of its vertex.
 fn pass_on(table: &WaveTable, seat: &mut WaveSeat, vertex: u32, offset: u64, value: u64)
-    requires id { seat.old.table_id ≡ table.now.table.shared.table_id }
-    requires seat { IsAt table.now.plan seat.old.me.0 }
+    requires seat { IsOf table.now seat.old }
+    requires parts { 0 < parts_of seat.old }
     requires vertex { vertex < vertex_count table.now.plan.graph }
     requires offset { offset ≤ table.now.plan.bound }
     requires value { Reached (net_of table.now.plan) (cell_at table.now.plan vertex offset) value }
-    ensures id { seat.new.table_id ≡ seat.old.table_id }
-    ensures kept { Kept seat.old.me seat.new.me }
-    ensures passed { Passed table.now.plan seat.new.me.0 vertex offset value (out_degree table.now.plan.graph vertex) }
+    ensures seat { IsOf table.now seat.new }
+    ensures kept { Kept seat.old seat.new }
+    ensures passed { Passed table.now.plan seat.new vertex offset value (out_degree table.now.plan.graph vertex) }
 {
     let ways = table.ways_from(vertex);
     'edges: for k in 0..ways.len() {
@@ -61,17 +57,16 @@ fn pass_on(table: &WaveTable, seat: &mut WaveSeat, vertex: u32, offset: u64, val
 
 // Reads a cell, and passes its value on. A cell of 0 costs this look alone.
 fn expand(table: &WaveTable, seat: &mut WaveSeat, vertex: u32, offset: u64)
-    requires id { seat.old.table_id ≡ table.now.table.shared.table_id }
-    requires seat { IsAt table.now.plan seat.old.me.0 }
+    requires seat { IsOf table.now seat.old }
+    requires parts { 0 < parts_of seat.old }
     requires vertex { vertex < vertex_count table.now.plan.graph }
     requires offset { offset ≤ table.now.plan.bound }
-    requires known { offset / table.now.plan.span ≤ seat.old.me.0.known }
-    ensures id { seat.new.table_id ≡ seat.old.table_id }
-    ensures kept { Kept seat.old.me seat.new.me }
-    ensures expanded { IsExpanded (net_of table.now.plan) seat.new.me.0 (cell_at table.now.plan vertex offset) }
+    requires known { KnowsTo (offset / table.now.plan.span) seat.old }
+    ensures seat { IsOf table.now seat.new }
+    ensures kept { Kept seat.old seat.new }
+    ensures expanded { IsExpanded table.now.plan seat.new (cell_at table.now.plan vertex offset) }
 {
-    let from = cell(table, vertex, offset);
-    let value = table.glance(seat, from);
+    let value = table.glance_at(seat, vertex, offset);
     if value == 0 {
         return;
     }
@@ -93,14 +88,14 @@ fn next_place(row: u32, column: u64, width: u64) -> (u32, u64)
 
 // Expands the cells of a block.
 pub(crate) fn expand_block(table: &WaveTable, seat: &mut WaveSeat, wave: u32, block: u64)
-    requires id { seat.old.table_id ≡ table.now.table.shared.table_id }
-    requires seat { IsAt table.now.plan seat.old.me.0 }
+    requires seat { IsOf table.now seat.old }
+    requires parts { 0 < parts_of seat.old }
     requires wave { wave < (net_of table.now.plan).waves }
-    requires known { wave ≤ seat.old.me.0.known }
+    requires known { KnowsTo wave seat.old }
     requires block { block * 64 < (net_of table.now.plan).size wave }
-    ensures id { seat.new.table_id ≡ seat.old.table_id }
-    ensures kept { Kept seat.old.me seat.new.me }
-    ensures expanded { (n : ℕ) → n < (net_of table.now.plan).size wave → n / 64 ≡ block → IsExpanded (net_of table.now.plan) seat.new.me.0 ((net_of table.now.plan).cell wave n) }
+    ensures seat { IsOf table.now seat.new }
+    ensures kept { Kept seat.old seat.new }
+    ensures expanded { (n : ℕ) → n < (net_of table.now.plan).size wave → n / 64 ≡ block → IsExpanded table.now.plan seat.new ((net_of table.now.plan).cell wave n) }
 {
     let first = wave as u64 * table.plan.span;
     let width = table.offsets(wave);
@@ -157,18 +152,17 @@ impl WaveTable {
 
 /// Draws the next block of a wave, and expands its cells. False where the number is past the wave's end.
 pub fn turn(table: &WaveTable, seat: &mut WaveSeat, wave: u32) -> bool
-    requires id { seat.old.table_id ≡ table.now.table.shared.table_id }
-    requires seat { IsAt table.now.plan seat.old.me.0 }
+    requires seat { IsOf table.now seat.old }
+    requires parts { 0 < parts_of seat.old }
     requires wave { wave < (net_of table.now.plan).waves }
-    requires known { wave ≤ seat.old.me.0.known }
-    requires all { AllExpanded (net_of table.now.plan) seat.old.me.0 }
-    ensures id { seat.new.table_id ≡ seat.old.table_id }
-    ensures turned { Turned seat.old.me seat.new.me }
-    ensures all { AllExpanded (net_of table.now.plan) seat.new.me.0 }
-    ensures past { result ≡ false → IsPast (net_of table.now.plan) wave seat.new.me.0 }
-    ensures drawn { (b : ℕ) → seat.old.me.0.parts ≡ 1024 → HasDrawn wave b seat.old.me.0 → HasDrawn wave (b + 1) seat.new.me.0 }
-    ensures ended { (b : ℕ) → seat.old.me.0.parts ≡ 1024 → HasDrawn wave b seat.old.me.0 → (net_of table.now.plan).size wave ≤ b * 64 → wave < seat.new.me.0.known }
-    ensures worked { result ≡ false → seat.old.me.0.parts ≡ 1024 → HasWorked table.now.plan wave seat.new.me }
+    requires known { KnowsTo wave seat.old }
+    requires all { AllExpanded table.now.plan seat.old }
+    ensures seat { IsOf table.now seat.new }
+    ensures turned { Turned seat.old seat.new }
+    ensures all { AllExpanded table.now.plan seat.new }
+    ensures past { result ≡ false → IsPast (net_of table.now.plan) wave seat.new }
+    ensures drawn { (b : ℕ) → parts_of seat.old ≡ 1024 → HasDrawn wave b seat.old → HasDrawn wave (b + 1) seat.new }
+    ensures worked { result ≡ false → parts_of seat.old ≡ 1024 → HasWorked table.now wave seat.new }
 {
     let blocks = table.block_count(wave);
     let block = table.claim(seat, wave);

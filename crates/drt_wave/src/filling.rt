@@ -1,14 +1,19 @@
 //! A whole table, worked by one seat or by several workers.
-ghost use Rattle.std.specs.Prelude.{◌≡◌, ℕ, ◌+◌, ◌*◌, ◌^◌, ◌<◌, ◌≤◌, IfOk};
+ghost use Rattle.std.specs.Prelude.{◌≡◌, ◌+◌, ◌*◌, ◌^◌, ◌<◌, ◌≤◌, [], length, IfOk};
 ghost use Rattle.drt_model.specs.Digraph.{vertex_count};
-ghost use Rattle.drt_wave.specs.Waves.{AllDrawn, AllExpanded};
-ghost use Rattle.drt_wave.specs.Cells.{net_of};
-ghost use Rattle.drt_wave.specs.Seats.{IsAt, HasDrawn, Turned};
+ghost use Rattle.drt_wave.specs.Cells.{net_of, IsPlan};
+ghost use Rattle.drt_wave.specs.Seats.{parts_of, draws_of, KnowsTo, IsOf, AllExpanded, HasDrawnBelow, Turned};
+ghost use Rattle.drt_wave.specs.Shifts.{HasWorked};
+ghost use Rattle.drt_wave.specs.Tables.{AreOpened};
 
 use crate::dense::DenseFront;
 use crate::expanding::turn;
+use crate::lane::{Lane, LaneSeat};
+use crate::opening::{open_all, open_together};
+use crate::plan::{Plan, make_plan};
+use crate::seat::WaveSeat;
 use crate::sharing::share_table;
-use crate::table::{WaveSeat, WaveTable};
+use crate::table::WaveTable;
 use drt_graph::Graph;
 use drt_model::Memory;
 use drt_pool::Gate;
@@ -19,20 +24,41 @@ use std::thread::{Threads, available_parallelism};
 // A wave of fewer cells with some work is worked by one worker: to share it costs more than the others gain there.
 const WIDE: u64 = 8_192;
 
-/// Works a wave to its end, or what is left of it, by the seat that has every part. The last turn is past the end, and by it the seat knows
-/// the wave as final.
+// A wave of fewer cells is worked by one worker where few of them may have some work.
+const VAST: u64 = 65_536;
+
+// A table of fewer cells is opened by one worker.
+const LARGE: u64 = 131_072;
+
+/// Works a wave to its end, or what is left of it, by the seat that has every part, which then knows the next wave as final.
 pub fn work_wave(table: &WaveTable, seat: &mut WaveSeat, wave: u32)
-    requires id { seat.old.table_id ≡ table.now.table.shared.table_id }
-    requires seat { IsAt table.now.plan seat.old.me.0 }
-    requires whole { seat.old.me.0.parts ≡ 1024 }
+    requires seat { IsOf table.now seat.old }
+    requires whole { parts_of seat.old ≡ 1024 }
     requires wave { wave < (net_of table.now.plan).waves }
-    requires known { wave ≤ seat.old.me.0.known }
-    requires all { AllExpanded (net_of table.now.plan) seat.old.me.0 }
-    ensures id { seat.new.table_id ≡ seat.old.table_id }
-    ensures turned { Turned seat.old.me seat.new.me }
-    ensures all { AllExpanded (net_of table.now.plan) seat.new.me.0 }
-    ensures drawn { (b : ℕ) × (HasDrawn wave b seat.new.me.0) × ((net_of table.now.plan).size wave ≤ b * 64) }
-    ensures known { wave < seat.new.me.0.known }
+    requires known { KnowsTo wave seat.old }
+    requires all { AllExpanded table.now.plan seat.old }
+    requires drawn { HasDrawnBelow (net_of table.now.plan) wave seat.old }
+    ensures seat { IsOf table.now seat.new }
+    ensures whole { parts_of seat.new ≡ 1024 }
+    ensures all { AllExpanded table.now.plan seat.new }
+    ensures drawn { HasDrawnBelow (net_of table.now.plan) (wave + 1) seat.new }
+    ensures known { KnowsTo (wave + 1) seat.new }
+{
+    draw_wave(table, seat, wave);
+    table.settle(seat, wave);
+}
+
+// Draws all blocks of a wave, or what is left of them, and expands their cells. The last number is past the end.
+fn draw_wave(table: &WaveTable, seat: &mut WaveSeat, wave: u32)
+    requires seat { IsOf table.now seat.old }
+    requires whole { parts_of seat.old ≡ 1024 }
+    requires wave { wave < (net_of table.now.plan).waves }
+    requires known { KnowsTo wave seat.old }
+    requires all { AllExpanded table.now.plan seat.old }
+    ensures seat { IsOf table.now seat.new }
+    ensures turned { Turned seat.old seat.new }
+    ensures all { AllExpanded table.now.plan seat.new }
+    ensures worked { HasWorked table.now wave seat.new }
 {
     let blocks = table.block_count(wave);
     'turns: for _block in 0..blocks {
@@ -45,14 +71,13 @@ pub fn work_wave(table: &WaveTable, seat: &mut WaveSeat, wave: u32)
 
 // Works all waves, in order.
 fn work_all(table: &WaveTable, seat: &mut WaveSeat, count: u32)
-    requires id { seat.old.table_id ≡ table.now.table.shared.table_id }
-    requires seat { IsAt table.now.plan seat.old.me.0 }
-    requires whole { seat.old.me.0.parts ≡ 1024 }
+    requires seat { IsOf table.now seat.old }
+    requires whole { parts_of seat.old ≡ 1024 }
     requires count { count ≡ (net_of table.now.plan).waves }
-    requires all { AllExpanded (net_of table.now.plan) seat.old.me.0 }
-    ensures id { seat.new.table_id ≡ seat.old.table_id }
-    ensures drawn { AllDrawn (net_of table.now.plan) seat.new.me.0 }
-    ensures all { AllExpanded (net_of table.now.plan) seat.new.me.0 }
+    requires known { KnowsTo 0 seat.old }
+    requires draws { draws_of seat.old ≡ [] }
+    ensures seat { IsOf table.now seat.new }
+    ensures known { KnowsTo count seat.new }
 {
     'waves: for wave in 0..count {
         work_wave(table, seat, wave);
@@ -68,7 +93,7 @@ pub fn dense_front(alloc: Global, graph: &Graph, bound: u64) -> Result<DenseFron
     let (table, mut seat) = WaveTable::start(alloc, graph, bound)?;
     let waves = (table.plan.bound / table.plan.span + 1) as u32;
     work_all(&table, &mut seat, waves);
-    Ok(table.close(seat))
+    table.close(alloc, seat)
 }
 
 // How many edges the graph has.
@@ -107,7 +132,7 @@ pub(crate) struct Crew {
 }
 
 /// Whether all workers work a wave. Where they begin at once they work the first wave and each one of many cells, else each one of many
-/// cells with some work.
+/// cells with some work, and each one of so many that to look at them takes long enough.
 pub(crate) fn is_shared(table: &WaveTable, wave: u32, crew: Crew) -> bool
     requires { wave < (net_of table.now.plan).waves }
 {
@@ -115,22 +140,42 @@ pub(crate) fn is_shared(table: &WaveTable, wave: u32, crew: Crew) -> bool
     if crew.begins_at_once {
         return crew.count > 1 && (wave == 0 || is_wide);
     }
-    crew.count > 1 && is_wide && has_walks(table, wave)
+    crew.count > 1 && is_wide && (table.wave_size(wave) >= VAST || has_walks(table, wave))
 }
 
-// How many workers share waves: no more than there are processors, or all where the gate may wait for another worker. How many processors
-// there are is asked once, and not at all where no wave is wide.
-fn worker_limit<G: Gate, R: Threads>(rt: &R, table: &WaveTable, workers: u32, gate: &G) -> u32
-    requires { (1 ≤ workers) × (workers ≤ 16) }
+// How many workers work a table: no more than there are processors, or all where the gate may wait for another worker. How many processors
+// there are is asked once, and not at all where a table is small.
+fn worker_limit<G: Gate, R: Threads>(rt: &R, plan: &Plan, workers: u32, gate: &G) -> u32
+    requires workers { (1 ≤ workers) × (workers ≤ 16) }
+    requires small { vertex_count plan.now.graph * (plan.now.bound + 1) ≤ 4194304 }
     ensures { (1 ≤ result) × (result ≤ workers) }
 {
-    if gate.alone() == 0 || table.wave_size(0) < WIDE {
+    if gate.alone() == 0 || plan.cell_count() < WIDE {
         return workers;
     }
     match available_parallelism(rt) {
         Ok(processors) => processors.get().min(workers as usize) as u32,
         Err(_) => 1,
     }
+}
+
+// The lanes of a plan, opened side by side where there are many cells, or where the gate may wait for another worker.
+fn open_lanes<G: Gate, R: Threads + Wait + Sync>(
+    rt: &R,
+    alloc: Global,
+    plan: &Plan,
+    workers: u32,
+    gate: &G,
+) -> Result<(Vec<Lane>, Vec<LaneSeat>), Memory>
+    requires planned { IsPlan plan.now }
+    requires workers { (1 ≤ workers) × (workers ≤ 16) }
+    ensures count { IfOk result (λ r. length r.0.items ≡ vertex_count plan.now.graph) }
+    ensures opened { IfOk result (λ r. AreOpened plan.now 0 r.0.items r.1.items) }
+{
+    if workers > 1 && (gate.alone() == 0 || plan.cell_count() >= LARGE) {
+        return open_together(rt, alloc, plan, workers);
+    }
+    open_all(alloc, plan)
 }
 
 /// The greatest works of a graph's walks up to a bound in ticks: a table that several workers work to its end. No more begin than there are
@@ -148,11 +193,13 @@ pub fn fill<G: Gate, R: Threads + Wait + Sync>(
     ensures graph { IfOk result (λ front. front.plan.graph ≡ graph.now) }
     ensures bound { IfOk result (λ front. front.plan.bound ≡ bound) }
 {
-    let (table, owner) = WaveTable::start(alloc, graph, bound)?;
+    let plan = make_plan(alloc, graph, bound)?;
+    let workers = worker_limit(rt, &plan, workers, gate);
+    let (lanes, seats) = open_lanes(rt, alloc, &plan, workers, gate)?;
+    let (table, owner) = WaveTable::of_lanes(alloc, plan, lanes, seats)?;
     let waves = (table.plan.bound / table.plan.span + 1) as u32;
-    let workers = worker_limit(rt, &table, workers, gate);
     match share_table(rt, alloc, &table, owner, waves, workers, gate)? {
-        Some(seat) => Ok(table.close(seat)),
+        Some(seat) => table.close(alloc, seat),
         // A part is still out, which can't be: the table is given up, and one seat works another.
         None => dense_front(alloc, graph, bound),
     }

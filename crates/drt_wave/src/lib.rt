@@ -7,16 +7,21 @@
 //! their seats wave by wave under a lock, or `dense_front`, which works it by one seat.
 #![tactic(auto)]
 
+mod claims;
+mod column;
 mod dense;
 mod desk;
 mod drawing;
 mod expanding;
 mod filling;
 mod gathering;
+mod lane;
+mod numbered;
 mod opening;
 mod plan;
 mod relay;
 mod rule;
+mod seat;
 mod sharing;
 mod table;
 mod view;
@@ -28,5 +33,5 @@ pub use dense::DenseFront;
 pub use expanding::turn;
 pub use filling::{dense_front, fill, work_wave};
 pub use plan::Plan;
-pub use table::{WaveSeat, WaveTable};
-pub use view::{Note, View};
+pub use seat::WaveSeat;
+pub use table::WaveTable;

@@ -60,3 +60,13 @@ pub(crate) fn make_plan(alloc: Global, graph: &Graph, bound: u64) -> Result<Plan
     let graph = graph.copy(alloc)?;
     Ok(Plan { graph, bound, span })
 }
+
+impl Plan {
+    /// How many cells there are.
+    pub(crate) fn cell_count(&self) -> u64
+        requires small { vertex_count self.now.graph * (self.now.bound + 1) ≤ 4194304 }
+        ensures { result ≡ vertex_count self.now.graph * (self.now.bound + 1) }
+    {
+        self.graph.vertex_count() as u64 * (self.bound + 1)
+    }
+}

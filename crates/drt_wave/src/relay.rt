@@ -1,10 +1,11 @@
 //! What the workers of a table share.
-ghost use Rattle.std.specs.Prelude.{◌≡◌, IfSome};
+ghost use Rattle.std.specs.Prelude.{◌≡◌, ◌≤◌, [], length, vec_capacity, IfOk, IfErr, IfSome};
 ghost use Rattle.drt_lock.specs.Seats.{HoldsMachine, Rests};
 ghost use Rattle.drt_wave.specs.Shifts.{IsShift};
 
 use crate::desk::{Desk, Shift};
 use crate::drawing::turn_some;
+use crate::lane::LaneSeat;
 use crate::table::WaveTable;
 use atomic_table::Seat;
 use crossbeam_utils::Backoff;
@@ -35,6 +36,8 @@ pub(crate) struct Hand<'a> {
     pub(crate) lock_seat: LockSeat<'a>,
     /// The wave that it works, with a seat.
     pub(crate) held: Option<Shift>,
+    /// Room for a seat, where it has none.
+    pub(crate) room: Option<Vec<LaneSeat>>,
     /// The first wave that it may work.
     pub(crate) next: u64,
 }
@@ -43,7 +46,8 @@ impl<'a> Work for Relay<'a> {
     type Pass = Hand<'a>;
 
     ghost fits = { λ relay place hand. (hand.lock_seat.table_id ≡ relay.lock.name) × Rests relay.lock.fixed 1 0 hand.lock_seat.me
-        × IfSome hand.held (λ shift. IsShift relay.table.now shift.wave shift.seat) };
+        × IfSome hand.held (λ shift. IsShift relay.table.now shift.wave shift.seat)
+        × IfSome hand.room (λ room. (room.items ≡ []) × (length relay.table.now.lanes ≤ vec_capacity room)) };
 
     ghost ended = { λ relay place hand. Unit {0} };
 
@@ -65,9 +69,11 @@ impl<'a> Relay<'a> {
         requires name { hand.old.lock_seat.table_id ≡ self.now.lock.name }
         requires seat { Rests self.now.lock.fixed 1 0 hand.old.lock_seat.me }
         requires shift { IsShift self.now.table.now shift.wave shift.seat }
+        requires room { IfSome hand.old.room (λ room. (room.items ≡ []) × (length self.now.table.now.lanes ≤ vec_capacity room)) }
         ensures name { hand.new.lock_seat.table_id ≡ self.now.lock.name }
         ensures seat { Rests self.now.lock.fixed 1 0 hand.new.lock_seat.me }
         ensures held { IfSome hand.new.held (λ s. IsShift self.now.table.now s.wave s.seat) }
+        ensures room { IfSome hand.new.room (λ room. (room.items ≡ []) × (length self.now.table.now.lanes ≤ vec_capacity room)) }
     {
         let mut shift = shift;
         if turn_some(self.table, &mut shift.seat, shift.wave) {
@@ -76,69 +82,93 @@ impl<'a> Relay<'a> {
         }
         hand.next = shift.wave as u64 + 1;
         hand.held = None;
-        self.hand_in(rt, &mut hand.lock_seat, shift);
+        hand.room = self.hand_in(rt, &mut hand.lock_seat, shift);
     }
 
-    // Gives a seat back under the lock.
-    fn hand_in<R: Wait>(&self, rt: &R, seat: &mut LockSeat<'a>, shift: Shift)
+    // Gives a seat back under the lock, and has the room of it.
+    fn hand_in<R: Wait>(
+        &self,
+        rt: &R,
+        seat: &mut LockSeat<'a>,
+        shift: Shift,
+    ) -> Option<Vec<LaneSeat>>
         requires name { seat.old.table_id ≡ self.now.lock.name }
         requires seat { Rests self.now.lock.fixed 1 0 seat.old.me }
         requires shift { IsShift self.now.table.now shift.wave shift.seat }
         ensures name { seat.new.table_id ≡ self.now.lock.name }
         ensures seat { Rests self.now.lock.fixed 1 0 seat.new.me }
+        ensures room { IfSome result (λ room. (room.items ≡ []) × (length self.now.table.now.lanes ≤ vec_capacity room)) }
     {
         self.lock.enter(rt, seat);
-        let open = self.give_back(seat, shift);
+        let (room, open) = self.give_back(seat, shift);
         // Told before the lock is left, so that it never falls back to an earlier wave.
         self.open.store(open, Ordering::SeqCst);
         self.lock.leave(seat);
+        room
     }
 
     // Gives a seat back to the desk that is out with the lock's seat. Who finds all parts back there works on. Answers the wave that is
     // open then.
-    fn give_back(&self, seat: &mut LockSeat<'a>, shift: Shift) -> u64
+    fn give_back(&self, seat: &mut LockSeat<'a>, shift: Shift) -> (Option<Vec<LaneSeat>>, u64)
         requires name { seat.old.table_id ≡ self.now.lock.name }
         requires desk { HoldsMachine self.now.lock.fixed seat.old.me }
         requires shift { IsShift self.now.lock.fixed shift.wave shift.seat }
         ensures name { seat.new.table_id ≡ seat.old.table_id }
         ensures me { seat.new.me ≡ seat.old.me }
+        ensures room { IfSome result.0 (λ room. (room.items ≡ []) × (length self.now.lock.fixed.lanes ≤ vec_capacity room)) }
     {
         let desk = seat.slot_mut(self.lock.slots(), 0);
-        desk.give_back(shift);
+        let room = desk.give_back(shift);
         desk.work_on();
-        desk.open_wave() as u64
+        (room, desk.open_wave() as u64)
     }
 
     // Waits for a wave, and takes a seat for it. Stop where all waves are worked.
     fn seek<R: Wait>(&self, rt: &R, hand: &mut Hand<'a>) -> Turn
         requires name { hand.old.lock_seat.table_id ≡ self.now.lock.name }
         requires seat { Rests self.now.lock.fixed 1 0 hand.old.lock_seat.me }
+        requires room { IfSome hand.old.room (λ room. (room.items ≡ []) × (length self.now.table.now.lanes ≤ vec_capacity room)) }
         ensures name { hand.new.lock_seat.table_id ≡ self.now.lock.name }
         ensures seat { Rests self.now.lock.fixed 1 0 hand.new.lock_seat.me }
         ensures held { IfSome hand.new.held (λ s. IsShift self.now.table.now s.wave s.seat) }
+        ensures room { IfSome hand.new.room (λ room. (room.items ≡ []) × (length self.now.table.now.lanes ≤ vec_capacity room)) }
     {
         hand.held = None;
         if !self.is_open(hand.next) {
             return Turn::More;
         }
+        // A worker without a seat has room for one.
+        let Some(room) = hand.room.take() else {
+            return Turn::Stop;
+        };
         self.lock.enter(rt, &mut hand.lock_seat);
-        let (is_done, shift) = self.take(&mut hand.lock_seat, hand.next);
+        let (is_done, taken) = self.take(&mut hand.lock_seat, hand.next, room);
         self.lock.leave(&mut hand.lock_seat);
-        hand.held = shift;
+        match taken {
+            Ok(shift) => hand.held = Some(shift),
+            Err(room) => hand.room = Some(room),
+        }
         if is_done { Turn::Stop } else { Turn::More }
     }
 
-    // Takes a seat from the desk that is out with the lock's seat, and says whether all waves are worked.
-    fn take(&self, seat: &mut LockSeat<'a>, next: u64) -> (bool, Option<Shift>)
+    // Takes a seat from the desk that is out with the lock's seat, or has the room for it back, and says whether all waves are worked.
+    fn take(
+        &self,
+        seat: &mut LockSeat<'a>,
+        next: u64,
+        room: Vec<LaneSeat>,
+    ) -> (bool, Result<Shift, Vec<LaneSeat>>)
         requires name { seat.old.table_id ≡ self.now.lock.name }
         requires desk { HoldsMachine self.now.lock.fixed seat.old.me }
+        requires room { (room.items ≡ []) × (length self.now.lock.fixed.lanes ≤ vec_capacity room) }
         ensures name { seat.new.table_id ≡ seat.old.table_id }
         ensures me { seat.new.me ≡ seat.old.me }
-        ensures shift { IfSome result.1 (λ s. IsShift self.now.lock.fixed s.wave s.seat) }
+        ensures shift { IfOk result.1 (λ s. IsShift self.now.lock.fixed s.wave s.seat) }
+        ensures room { IfErr result.1 (λ back. (back.items ≡ []) × (length self.now.lock.fixed.lanes ≤ vec_capacity back)) }
     {
         let desk = seat.slot_mut(self.lock.slots(), 0);
-        let shift = desk.take(next);
-        (desk.is_done(), shift)
+        let taken = desk.take(next, room);
+        (desk.is_done(), taken)
     }
 
     // Waits a while until the wave is open, and says whether it is.

@@ -4,12 +4,13 @@ ghost use Rattle.drt_lock.specs.Seats.{Rests};
 ghost use Rattle.drt_pool.specs.Turns.{EachPlace};
 ghost use Rattle.drt_wave.specs.Cells.{net_of};
 ghost use Rattle.drt_wave.specs.Shifts.{IsAtWork};
-ghost use Rattle.drt_wave.specs.Waves.{AllDrawn, AllExpanded};
+ghost use Rattle.drt_wave.specs.Seats.{draws_of, KnowsTo, IsOf};
 
 use crate::desk::Desk;
 use crate::filling::Crew;
 use crate::relay::{Hand, LockSeat, Relay};
-use crate::table::{WaveSeat, WaveTable};
+use crate::seat::WaveSeat;
+use crate::table::WaveTable;
 use drt_lock::Lock;
 use drt_model::Memory;
 use drt_pool::{Gate, run_all};
@@ -35,24 +36,34 @@ impl<G: Gate> Gate for WaveGate<'_, G> {
     }
 }
 
-// Gives out so many hands, one part of the lock's seat to each.
-fn deal<'a>(lock: &Lock<Desk<'a>>, owner: &mut LockSeat<'a>, hands: &mut Vec<Hand<'a>>, count: u32)
+// Gives out so many hands, one part of the lock's seat and room for a seat of the table to each.
+fn deal<'a>(
+    alloc: Global,
+    table: &WaveTable,
+    lock: &Lock<Desk<'a>>,
+    owner: &mut LockSeat<'a>,
+    hands: &mut Vec<Hand<'a>>,
+    count: u32,
+) -> Result<(), Memory>
     requires name { owner.old.table_id ≡ lock.now.name }
     requires owner { (count ≤ 16) × Rests lock.now.fixed 1024 0 owner.old.me }
     requires room { (hands.old.items ≡ []) × (count ≤ vec_capacity hands.old) }
-    ensures name { owner.new.table_id ≡ lock.now.name }
-    ensures owner { (owner.new.me.0.parts + count ≡ 1024) × Rests lock.now.fixed owner.new.me.0.parts 0 owner.new.me }
-    ensures count { length hands.new.items ≡ count }
-    ensures each { EachPlace (λ place hand. (hand.lock_seat.table_id ≡ lock.now.name) × Rests lock.now.fixed 1 0 hand.lock_seat.me × (hand.held ≡ None)) hands.new.items }
+    ensures name { IfOk result (λ u. owner.new.table_id ≡ lock.now.name) }
+    ensures owner { IfOk result (λ u. (owner.new.me.0.parts + count ≡ 1024) × Rests lock.now.fixed owner.new.me.0.parts 0 owner.new.me) }
+    ensures count { IfOk result (λ u. length hands.new.items ≡ count) }
+    ensures each { IfOk result (λ u. EachPlace (λ place hand. (hand.lock_seat.table_id ≡ lock.now.name) × Rests lock.now.fixed 1 0 hand.lock_seat.me × (hand.held ≡ None) × IfSome hand.room (λ room. (room.items ≡ []) × (length table.now.lanes ≤ vec_capacity room))) hands.new.items) }
 {
     'hands: for _hand in 0..count {
+        let room = table.room(alloc)?;
         let lock_seat = lock.split(owner);
         hands.push_reserved(Hand {
             lock_seat,
             held: None,
+            room: Some(room),
             next: 0,
         });
     }
+    Ok(())
 }
 
 // Takes the parts of the hands together, and has the desk again.
@@ -87,7 +98,7 @@ fn work_desk<'a, G: Gate, R: Threads + Wait + Sync>(
     let open = desk.open_wave() as u64;
     let mut hands = Vec::with_capacity(alloc, workers as usize)?;
     let (lock, mut owner) = Lock::new(alloc, desk, Snapshot::of(table))?;
-    deal(&lock, &mut owner, &mut hands, workers);
+    deal(alloc, table, &lock, &mut owner, &mut hands, workers)?;
     let relay = Relay {
         table,
         lock,
@@ -109,13 +120,12 @@ pub(crate) fn share_table<G: Gate, R: Threads + Wait + Sync>(
     workers: u32,
     gate: &G,
 ) -> Result<Option<WaveSeat>, Memory>
-    requires id { owner.table_id ≡ table.now.table.shared.table_id }
-    requires owner { IsAtWork table.now.plan 0 1024 owner.me }
+    requires owner { IsAtWork table.now 0 1024 owner }
+    requires draws { draws_of owner ≡ [] }
     requires waves { waves ≡ (net_of table.now.plan).waves }
     requires workers { workers ≤ 16 }
-    ensures id { IfOk result (λ o. IfSome o (λ seat. seat.table_id ≡ table.now.table.shared.table_id)) }
-    ensures drawn { IfOk result (λ o. IfSome o (λ seat. AllDrawn (net_of table.now.plan) seat.me.0)) }
-    ensures expanded { IfOk result (λ o. IfSome o (λ seat. AllExpanded (net_of table.now.plan) seat.me.0)) }
+    ensures seat { IfOk result (λ o. IfSome o (λ seat. IsOf table.now seat)) }
+    ensures known { IfOk result (λ o. IfSome o (λ seat. KnowsTo (net_of table.now.plan).waves seat)) }
 {
     let crew = Crew {
         count: workers,

@@ -1,153 +1,244 @@
 //! The table. Each step is taken by a seat, and none waits.
-ghost use Rattle.std.specs.Prelude.{◌≡◌, ◌≢◌, ℕ, ◌+◌, ◌*◌, ◌<◌, ◌≤◌, [], IfOk, IfErr};
+ghost use Rattle.std.specs.Prelude.{◌≡◌, ◌≢◌, ℕ, ◌+◌, ◌*◌, ◌/◌, ◌<◌, ◌≤◌, [], length, vec_capacity, IfOk, IfErr};
 ghost use Rattle.drt_model.specs.Digraph.{vertex_count};
-ghost use Rattle.drt_wave.specs.Net.{Reached, IsBest};
-ghost use Rattle.drt_wave.specs.Waves.{fresh, split_left, split_right, joined, with_note, with_raise, AllDrawn, AllExpanded};
-ghost use Rattle.drt_wave.specs.Cells.{net_of, IsPlan};
-ghost use Rattle.drt_wave.specs.Seats.{IsAt, Draws};
+ghost use Rattle.drt_wave.specs.Net.{Among, Reached, IsBest};
+ghost use Rattle.drt_wave.specs.Cells.{net_of, cell_at, IsPlan};
+ghost use Rattle.drt_wave.specs.Tables.{AreLanes, AreOpened};
 ghost use Rattle.drt_wave.specs.Ways.{AreWays};
 
+use crate::claims::Claims;
+use crate::column::Column;
 use crate::dense::DenseFront;
-use crate::opening::opening_words;
+use crate::lane::{Lane, LaneSeat};
+use crate::opening::open_all;
 use crate::plan::{Plan, make_plan};
-use crate::rule::{Claim, Cut, Glance, Glue, Raise, Rule};
-use crate::view::View;
+use crate::seat::WaveSeat;
 use crate::ways::{Way, make_ways};
-use atomic_table::{Seat, Table};
 use drt_graph::Graph;
 use drt_model::{Memory, Row};
 use std::alloc::Global;
-use std::snapshot::Snapshot;
-
-/// What a worker takes steps with. It has no bytes: its view is what the worker did and knows.
-pub type WaveSeat = Seat<(), View<Plan>>;
 
 /// A table that is being worked: one cell for each vertex and offset, and one claim word for each wave.
 ///
-/// The cell of vertex `v` and offset `s` has the number `v * (bound + 1) + s`. A wave spans as many offsets as the plan says. Its
-/// cells, in order of their numbers, stand in blocks of 64, the last block with what is left.
+/// The cells of a vertex are its lane, by offset: a row of words of its own, so that several workers may open them side by side. A wave spans
+/// as many offsets as the plan says. Its cells, in order of vertices and then of offsets, stand in blocks of 64, the last block with what is
+/// left.
 #[derive(Drop)]
 pub struct WaveTable {
     pub plan: Plan,
-    pub table: Table<(), View<Plan>, Snapshot<Plan>, Rule, Global>,
+    pub(crate) claims: Claims,
+    pub(crate) lanes: Row<Lane>,
     pub(crate) ways: Row<Row<Way>>,
-    cells: usize,
     ghost planned: { IsPlan plan },
-    ghost keyed: { table.shared.key.value ≡ plan },
-    ghost counted: { cells ≡ (net_of plan).cells },
-    ghost sized: { table.shared.table_id.words ≡ (net_of plan).cells + (net_of plan).waves },
-    ghost no_slots: { table.shared.table_id.slots ≡ 0 },
+    ghost claimed: { claims.table.shared.table_id.words ≡ (net_of plan).waves },
+    ghost laned: { AreLanes plan lanes },
     ghost followed: { AreWays plan ways },
 }
 
 impl WaveTable {
+    ghost use Rattle.drt_wave.specs.Seats.{parts_of, draws_of, HasRaised, KnowsTo, IsOf, Kept, IsCut, IsGlued, HasClaimed, ExpandedTo};
+
     /// A table of the graph's walks up to a bound in ticks, with the seat that has every part.
     pub fn start(alloc: Global, graph: &Graph, bound: u64) -> Result<(WaveTable, WaveSeat), Memory>
         requires small { vertex_count graph.now * (bound + 1) ≤ 4194304 }
         ensures graph { IfOk result (λ r. r.0.plan.graph ≡ graph.now) }
         ensures bound { IfOk result (λ r. r.0.plan.bound ≡ bound) }
-        ensures id { IfOk result (λ r. r.1.table_id ≡ r.0.table.shared.table_id) }
-        ensures seat { IfOk result (λ r. r.1.me ≡ (fresh r.0.plan 1024, [])) }
+        ensures seat { IfOk result (λ r. IsOf r.0 r.1) }
+        ensures parts { IfOk result (λ r. parts_of r.1 ≡ 1024) }
+        ensures draws { IfOk result (λ r. draws_of r.1 ≡ []) }
+        ensures known { IfOk result (λ r. KnowsTo 0 r.1) }
     {
         let plan = make_plan(alloc, graph, bound)?;
-        let words = opening_words(alloc, &plan)?;
+        let (lanes, seats) = open_all(alloc, &plan)?;
+        WaveTable::of_lanes(alloc, plan, lanes, seats)
+    }
+
+    /// A table of a plan whose lanes are open.
+    pub(crate) fn of_lanes(
+        alloc: Global,
+        plan: Plan,
+        lanes: Vec<Lane>,
+        seats: Vec<LaneSeat>,
+    ) -> Result<(WaveTable, WaveSeat), Memory>
+        requires planned { IsPlan plan }
+        requires count { length lanes.items ≡ vertex_count plan.graph }
+        requires opened { AreOpened plan 0 lanes.items seats.items }
+        ensures plan { IfOk result (λ r. r.0.plan ≡ plan) }
+        ensures seat { IfOk result (λ r. IsOf r.0 r.1) }
+        ensures parts { IfOk result (λ r. parts_of r.1 ≡ 1024) }
+        ensures draws { IfOk result (λ r. draws_of r.1 ≡ []) }
+        ensures known { IfOk result (λ r. KnowsTo 0 r.1) }
+    {
         let ways = make_ways(alloc, &plan)?;
-        let cells = (plan.graph.vertex_count() as u64 * (bound + 1)) as usize;
-        let snapshot = Snapshot::of(&plan);
-        let (table, seat) = Table::of_words(alloc, words.as_slice(), &snapshot)?;
-        Ok((
-            WaveTable {
-                plan,
-                table,
-                ways,
-                cells,
-            },
-            seat,
-        ))
+        let waves = (plan.bound / plan.span + 1) as u32;
+        let (claims, claim_seat) = Claims::start(alloc, waves)?;
+        let table = WaveTable {
+            plan,
+            claims,
+            lanes: Row::from_vec(lanes),
+            ways,
+        };
+        let seat = WaveSeat {
+            claims: claim_seat,
+            lanes: seats,
+        };
+        Ok((table, seat))
     }
 
     /// Draws the next number of a wave, which stands for a block of its cells.
     pub fn claim(&self, seat: &mut WaveSeat, wave: u32) -> u64
-        requires id { seat.old.table_id ≡ self.now.table.shared.table_id }
-        requires seat { IsAt self.now.plan seat.old.me.0 }
+        requires seat { IsOf self.now seat.old }
+        requires parts { 0 < parts_of seat.old }
         requires wave { wave < (net_of self.now.plan).waves }
-        ensures id { seat.new.table_id ≡ seat.old.table_id }
-        ensures drawn { Draws (net_of self.now.plan) wave result seat.old.me.0 seat.new.me.0 }
-        ensures slots { seat.new.me.1 ≡ seat.old.me.1 }
+        ensures seat { IsOf self.now seat.new }
+        ensures parts { parts_of seat.new ≡ parts_of seat.old }
+        ensures claimed { HasClaimed wave result seat.old seat.new }
+        ensures draws { (j k : ℕ) → Among (j, k) (draws_of seat.old) → Among (j, k) (draws_of seat.new) }
+        ensures lanes { seat.new.lanes ≡ seat.old.lanes }
     {
-        self.table
-            .shared
-            .fetch_add::<Claim>(seat, self.cells + wave as usize, 1)
+        self.claims.claim(&mut seat.claims, wave)
     }
 
-    /// Makes a cell at least `work`, which is that of a walk that ends at the cell's vertex and offset.
-    pub fn raise(&self, seat: &mut WaveSeat, cell: u32, work: u64)
-        requires id { seat.old.table_id ≡ self.now.table.shared.table_id }
-        requires seat { IsAt self.now.plan seat.old.me.0 }
-        requires cell { cell < (net_of self.now.plan).cells }
-        requires work { Reached (net_of self.now.plan) cell work }
-        ensures id { seat.new.table_id ≡ seat.old.table_id }
-        ensures seat { seat.new.me ≡ (with_raise seat.old.me.0 cell work, seat.old.me.1) }
+    /// Makes the cell of a vertex and an offset at least `work`, which is that of a walk that ends there.
+    pub(crate) fn raise_at(&self, seat: &mut WaveSeat, vertex: u32, offset: u64, work: u64)
+        requires seat { IsOf self.now seat.old }
+        requires parts { 0 < parts_of seat.old }
+        requires vertex { vertex < vertex_count self.now.plan.graph }
+        requires offset { offset ≤ self.now.plan.bound }
+        requires work { Reached (net_of self.now.plan) (cell_at self.now.plan vertex offset) work }
+        ensures seat { IsOf self.now seat.new }
+        ensures kept { Kept seat.old seat.new }
+        ensures raised { HasRaised seat.new vertex offset work }
     {
-        self.table
-            .shared
-            .fetch_max::<Raise>(seat, cell as usize, work);
+        let lane = &self.lanes.as_slice()[vertex as usize];
+        lane.raise(&mut seat.lanes[vertex as usize], offset, work);
     }
 
-    /// Reads a cell.
-    pub fn glance(&self, seat: &mut WaveSeat, cell: u32) -> u64
-        requires id { seat.old.table_id ≡ self.now.table.shared.table_id }
-        requires seat { IsAt self.now.plan seat.old.me.0 }
-        requires cell { cell < (net_of self.now.plan).cells }
-        ensures id { seat.new.table_id ≡ seat.old.table_id }
-        ensures seat { seat.new.me ≡ (with_note seat.old.me.0 cell result, seat.old.me.1) }
-        ensures reached { result ≢ 0 → Reached (net_of self.now.plan) cell result }
-        ensures best { (net_of self.now.plan).wave cell ≤ seat.old.me.0.known → IsBest (net_of self.now.plan) cell result }
+    /// Reads the cell of a vertex and an offset.
+    pub(crate) fn glance_at(&self, seat: &mut WaveSeat, vertex: u32, offset: u64) -> u64
+        requires seat { IsOf self.now seat.old }
+        requires vertex { vertex < vertex_count self.now.plan.graph }
+        requires offset { offset ≤ self.now.plan.bound }
+        ensures seat { IsOf self.now seat.new }
+        ensures kept { Kept seat.old seat.new }
+        ensures reached { result ≢ 0 → Reached (net_of self.now.plan) (cell_at self.now.plan vertex offset) result }
+        ensures best { (k : ℕ) → KnowsTo k seat.old → offset / self.now.plan.span ≤ k → IsBest (net_of self.now.plan) (cell_at self.now.plan vertex offset) result }
     {
-        self.table.shared.load::<Glance>(seat, cell as usize)
+        let lane = &self.lanes.as_slice()[vertex as usize];
+        lane.glance(&mut seat.lanes[vertex as usize], offset)
     }
 
-    /// A seat with one of the parts, for another worker. Where there is no memory the seat has all its parts still.
-    pub fn split(&self, seat: &mut WaveSeat) -> Result<WaveSeat, Memory>
-        requires id { seat.old.table_id ≡ self.now.table.shared.table_id }
-        requires parts { 1 < seat.old.me.0.parts }
-        ensures id { seat.new.table_id ≡ seat.old.table_id }
-        ensures seat { IfOk result (λ new. seat.new.me ≡ (split_left seat.old.me.0, seat.old.me.1)) }
-        ensures kept { IfErr result (λ e. seat.new.me ≡ seat.old.me) }
-        ensures new_id { IfOk result (λ new. new.table_id ≡ seat.old.table_id) }
-        ensures new { IfOk result (λ new. new.me ≡ (split_right seat.old.me.0, [])) }
+    /// By a look at each lane the seat that has every part, and expanded each cell up to a wave, knows the next wave as final too.
+    pub fn settle(&self, seat: &mut WaveSeat, wave: u32)
+        requires seat { IsOf self.now seat.old }
+        requires parts { parts_of seat.old ≡ 1024 }
+        requires known { KnowsTo wave seat.old }
+        requires expanded { ExpandedTo self.now.plan wave seat.old }
+        ensures seat { IsOf self.now seat.new }
+        ensures claims { seat.new.claims ≡ seat.old.claims }
+        ensures raised { (v o x : ℕ) → HasRaised seat.old v o x → HasRaised seat.new v o x }
+        ensures known { KnowsTo (wave + 1) seat.new }
     {
-        Ok(self.table.shared.split_seat::<Cut>(seat))
+        let lanes = self.lanes.as_slice();
+        'lanes: for v in 0..lanes.len() {
+            lanes[v].settle(&mut seat.lanes[v]);
+        }
+    }
+
+    /// Room for a seat that is split off. The seats have no bytes, but it is asked for before a lock is taken.
+    pub(crate) fn room(&self, alloc: Global) -> Result<Vec<LaneSeat>, Memory>
+        ensures { IfOk result (λ room. (room.items ≡ []) × (length self.now.lanes ≤ vec_capacity room)) }
+    {
+        Ok(Vec::with_capacity(alloc, self.lanes.as_slice().len())?)
+    }
+
+    /// A seat with one of the parts, for another worker.
+    pub fn split(&self, alloc: Global, seat: &mut WaveSeat) -> Result<WaveSeat, Memory>
+        requires seat { IsOf self.now seat.old }
+        requires parts { 1 < parts_of seat.old }
+        ensures cut { IfOk result (λ new. IsOf self.now seat.new × IsOf self.now new × IsCut seat.old seat.new new) }
+        ensures kept { IfErr result (λ e. seat.new ≡ seat.old) }
+    {
+        let room = self.room(alloc)?;
+        Ok(self.split_into(seat, room))
+    }
+
+    /// The same, into room that was asked for before.
+    pub(crate) fn split_into(&self, seat: &mut WaveSeat, room: Vec<LaneSeat>) -> WaveSeat
+        requires seat { IsOf self.now seat.old }
+        requires parts { 1 < parts_of seat.old }
+        requires room { (room.items ≡ []) × (length self.now.lanes ≤ vec_capacity room) }
+        ensures seat { IsOf self.now seat.new }
+        ensures new { IsOf self.now result }
+        ensures cut { IsCut seat.old seat.new result }
+    {
+        let lanes = self.lanes.as_slice();
+        let mut cut = room;
+        'lanes: for v in 0..lanes.len() {
+            cut.push_reserved(lanes[v].split(&mut seat.lanes[v]));
+        }
+        WaveSeat {
+            claims: self.claims.split(&mut seat.claims),
+            lanes: cut,
+        }
     }
 
     /// Takes in another seat.
     pub fn join(&self, seat: &mut WaveSeat, other: WaveSeat)
-        requires id { seat.old.table_id ≡ self.now.table.shared.table_id }
-        requires other_id { other.table_id ≡ self.now.table.shared.table_id }
-        requires parts { 0 < seat.old.me.0.parts }
-        requires other { other.me.1 ≡ [] }
-        ensures id { seat.new.table_id ≡ seat.old.table_id }
-        ensures seat { seat.new.me ≡ (joined seat.old.me.0 other.me.0, seat.old.me.1) }
+        requires seat { IsOf self.now seat.old }
+        requires other { IsOf self.now other }
+        requires parts { 0 < parts_of seat.old }
+        ensures seat { IsOf self.now seat.new }
+        ensures glued { IsGlued seat.old other seat.new }
     {
-        self.table.shared.join_seat::<Glue>(seat, other);
+        let _room = self.join_back(seat, other);
     }
 
-    /// The greatest works. The seat has taken in what all workers did: every wave was claimed to its end.
-    pub fn close(self, seat: WaveSeat) -> DenseFront
-        requires id { seat.table_id ≡ self.table.shared.table_id }
-        requires drawn { AllDrawn (net_of self.plan) seat.me.0 }
-        requires expanded { AllExpanded (net_of self.plan) seat.me.0 }
-        ensures { result.plan ≡ self.plan }
+    /// Takes in another seat, and gives its room back.
+    pub(crate) fn join_back(&self, seat: &mut WaveSeat, other: WaveSeat) -> Vec<LaneSeat>
+        requires seat { IsOf self.now seat.old }
+        requires other { IsOf self.now other }
+        requires parts { 0 < parts_of seat.old }
+        ensures seat { IsOf self.now seat.new }
+        ensures glued { IsGlued seat.old other seat.new }
+        ensures room { (result.items ≡ []) × (length self.now.lanes ≤ vec_capacity result) }
     {
-        let WaveTable {
-            plan,
-            table,
-            ways: _ways,
-            cells: _,
-        } = self;
-        DenseFront {
-            plan,
-            closed: table.close_with(seat),
+        let lanes = self.lanes.as_slice();
+        let WaveSeat {
+            claims,
+            lanes: mut others,
+        } = other;
+        self.claims.join(&mut seat.claims, claims);
+        'lanes: while let Some(lane_seat) = others.pop() {
+            let v = others.len();
+            lanes[v].join(&mut seat.lanes[v], lane_seat);
         }
+        others
+    }
+
+    /// The greatest works. The seat knows every wave as final.
+    pub fn close(self, alloc: Global, seat: WaveSeat) -> Result<DenseFront, Memory>
+        requires seat { IsOf self seat }
+        requires known { (k : ℕ) × KnowsTo k seat × ((net_of self.plan).waves ≤ k + 1) }
+        ensures { IfOk result (λ front. front.plan ≡ self.plan) }
+    {
+        let WaveTable { plan, lanes, .. } = self;
+        let WaveSeat {
+            lanes: mut seats,
+            ..
+        } = seat;
+        let mut lanes = lanes.into_vec();
+        let mut columns: Vec<Column> = Vec::with_capacity(alloc, lanes.len())?;
+        'lanes: while let Some(lane) = lanes.pop() {
+            let Some(lane_seat) = seats.pop() else {
+                unreachable!()
+            };
+            columns.push_reserved(lane.close(lane_seat));
+        }
+        columns.reverse();
+        Ok(DenseFront {
+            plan,
+            columns: Row::from_vec(columns),
+        })
     }
 }

@@ -8,12 +8,13 @@ use crate::plan::Plan;
 use drt_model::{Memory, Row};
 use std::alloc::Global;
 
-/// An edge from the offsets of its first vertex to the cells of its second one: offset `s` below `end` leads to the cell
-/// `cell + s` and adds `work` there, and from `end` on the second job isn't due within the bound.
+/// An edge from the offsets of its first vertex to those of its second one: offset `s` below `end` leads to offset `gap + s` of `vertex`
+/// and adds `work` there, and from `end` on the second job isn't due within the bound.
 #[derive(Clone, Copy, Debug, Drop)]
 pub(crate) struct Way {
     pub(crate) end: u32,
-    pub(crate) cell: u32,
+    pub(crate) vertex: u32,
+    pub(crate) gap: u32,
     pub(crate) work: u32,
 }
 
@@ -30,7 +31,8 @@ fn make_way(plan: &Plan, vertex: u32, k: u32) -> Way
     let taken = edge.sep as u64 + target.deadline as u64;
     Way {
         end: width.saturating_sub(taken) as u32,
-        cell: (edge.to as u64 * width + edge.sep as u64) as u32,
+        vertex: edge.to,
+        gap: edge.sep,
         work: target.wcet,
     }
 }

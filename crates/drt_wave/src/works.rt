@@ -2,7 +2,7 @@
 ghost use Rattle.std.specs.Prelude.{◌≡◌, ◌+◌, ◌<◌, ◌≤◌};
 ghost use Rattle.drt_model.specs.Digraph.{vertex_count};
 ghost use Rattle.drt_wave.specs.Cells.{IsPlan};
-ghost use Rattle.drt_wave.specs.Dense.{AreBest, work_at};
+ghost use Rattle.drt_wave.specs.Dense.{AreBest, AreWhole, work_at};
 ghost use Rattle.drt_wave.specs.Greatest.{IsGreatestWork};
 
 use crate::dense::DenseFront;
@@ -12,7 +12,8 @@ impl DenseFront {
     // What a finished table keeps: each cell holds the greatest work that reaches it.
     pub(crate) fn keeps_best(&self)
         ensures planned { IsPlan self.now.plan }
-        ensures best { AreBest self.now.plan self.now.cells }
+        ensures whole { AreWhole self.now.plan self.now.columns }
+        ensures best { AreBest self.now.plan self.now.columns }
     {
         let _plan = &self.plan;
     }
@@ -44,8 +45,7 @@ impl DenseFront {
         requires offset { offset ≤ self.now.plan.bound }
         ensures { result ≡ work_at self.now vertex offset }
     {
-        self.closed
-            .word((vertex as u64 * (self.plan.bound + 1) + offset) as usize)
+        self.columns.as_slice()[vertex as usize].work(offset)
     }
 
     /// The greatest work of the walks in range of the bound that end at a vertex and whose separations sum to the offset, and 0 where

@@ -1,5 +1,5 @@
-ghost use Rattle.std.specs.Prelude.{◌≡◌, [], IfOk};
-ghost use Rattle.drt_wave.specs.Waves.{fresh};
+ghost use Rattle.std.specs.Prelude.{◌≡◌, IfOk};
+ghost use Rattle.drt_wave.specs.Seats.{parts_of, IsOf};
 
 use drt_fixtures::{Shape, make_set};
 use drt_graph::check;
@@ -15,8 +15,8 @@ const THREE: Shape<'static> = (
 
 // The table of its walks up to 5, and the first seat.
 fn first_seat(alloc: Global) -> Result<(WaveTable, WaveSeat), Fail>
-    ensures id { IfOk result (λ r. r.1.table_id ≡ r.0.table.shared.table_id) }
-    ensures seat { IfOk result (λ r. r.1.me ≡ (fresh r.0.plan 1024, [])) }
+    ensures seat { IfOk result (λ r. IsOf r.0 r.1) }
+    ensures parts { IfOk result (λ r. parts_of r.1 ≡ 1024) }
 {
     let set = make_set(alloc, &[THREE])?.ok_or("within the limits")?;
     let graphs = check(alloc, &set).ok().ok_or("constrained")?;
@@ -40,7 +40,7 @@ fn a_wave_has_as_many_offsets_as_the_least_separation(rt: HostRuntime) -> Result
 #[test]
 fn two_seats_draw_different_numbers(rt: HostRuntime) -> Result<(), Fail> {
     let (table, mut seat) = first_seat(rt.alloc())?;
-    let mut other = table.split(&mut seat)?;
+    let mut other = table.split(rt.alloc(), &mut seat)?;
     let first = table.claim(&mut seat, 0);
     let second = table.claim(&mut other, 0);
     let third = table.claim(&mut seat, 0);

@@ -1,7 +1,6 @@
-ghost use Rattle.std.specs.Prelude.{◌≡◌, ◌≤◌};
+ghost use Rattle.std.specs.Prelude.{◌≡◌, ◌≤◌, []};
 ghost use Rattle.drt_wave.specs.Cells.{net_of};
-ghost use Rattle.drt_wave.specs.Seats.{IsAt};
-ghost use Rattle.drt_wave.specs.Waves.{AllExpanded};
+ghost use Rattle.drt_wave.specs.Seats.{parts_of, draws_of, KnowsTo, IsOf};
 
 use drt_fixtures::{Shape, make_set};
 use drt_graph::check;
@@ -42,13 +41,12 @@ fn works_of(alloc: Global, shape: Shape<'_>, bound: u64) -> Result<DenseFront, F
 
 // Works the first waves of a table, in order, by the seat that has every part.
 fn work_waves(table: &WaveTable, seat: &mut WaveSeat, count: u32)
-    requires id { seat.old.table_id ≡ table.now.table.shared.table_id }
-    requires seat { IsAt table.now.plan seat.old.me.0 }
-    requires whole { seat.old.me.0.parts ≡ 1024 }
+    requires seat { IsOf table.now seat.old }
+    requires whole { parts_of seat.old ≡ 1024 }
     requires count { count ≤ (net_of table.now.plan).waves }
-    requires all { AllExpanded (net_of table.now.plan) seat.old.me.0 }
-    ensures id { seat.new.table_id ≡ seat.old.table_id }
-    ensures seat { IsAt table.now.plan seat.new.me.0 }
+    requires draws { draws_of seat.old ≡ [] }
+    requires known { KnowsTo 0 seat.old }
+    ensures seat { IsOf table.now seat.new }
 {
     'waves: for wave in 0..count {
         work_wave(table, seat, wave);

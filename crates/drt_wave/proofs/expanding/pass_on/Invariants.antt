@@ -1,6 +1,6 @@
-use Rattle.std.proofs.Common.{◌≡◌}
-use Rattle.drt_wave.specs.Seats.{Kept, Passed}
+-- The value is passed on along the edges so far.
+use Rattle.drt_wave.specs.Seats.{IsOf, Kept, Passed}
 use Rattle.drt_wave.proofs.expanding.pass_on.Given as goal
 
 abbrev pub invariant-edges : goal.invariant-edges
-invariant-edges l = (l.seat.table_id ≡ l.fn.seat.table_id) × Kept l.fn.seat.me l.seat.me × Passed l.table.plan l.seat.me.0 l.vertex l.offset l.value l.k
+invariant-edges l = IsOf l.table l.seat × Kept l.fn.seat l.seat × Passed l.table.plan l.seat l.vertex l.offset l.value l.k

@@ -1,9 +1,8 @@
--- The waves so far are known as final, and all that was drawn is expanded.
-use Rattle.std.proofs.Common.{◌≡◌, ◌≤◌}
-use Rattle.drt_wave.specs.Waves.{AllExpanded}
+-- The waves so far are drawn to their ends and known as final, and all that was drawn is expanded.
+use Rattle.std.proofs.Common.{◌≡◌}
 use Rattle.drt_wave.specs.Cells.{net_of}
-use Rattle.drt_wave.specs.Seats.{Turned}
+use Rattle.drt_wave.specs.Seats.{parts_of, KnowsTo, IsOf, AllExpanded, HasDrawnBelow}
 use Rattle.drt_wave_tests.proofs.work_tests.work_waves.Given as goal
 
 abbrev pub invariant-waves : goal.invariant-waves
-invariant-waves l = (l.seat.table_id ≡ l.fn.seat.table_id) × Turned l.fn.seat.me l.seat.me × AllExpanded (net_of l.table.plan) l.seat.me.0 × (l.wave ≤ l.seat.me.0.known)
+invariant-waves l = IsOf l.table l.seat × (parts_of l.seat ≡ 1024) × AllExpanded l.table.plan l.seat × KnowsTo l.wave l.seat × HasDrawnBelow (net_of l.table.plan) l.wave l.seat

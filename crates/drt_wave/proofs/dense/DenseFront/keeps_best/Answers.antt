@@ -3,4 +3,4 @@ use Rattle.drt_wave.specs.Dense.{AreBest}
 use Rattle.drt_wave.proofs.dense.DenseFront.keeps_best.Goals as goal
 
 pub returns-clause-best : goal.returns-clause-best
-returns-clause-best c = subst (λ d. AreBest d.plan d.cells) c.self.view_is c.self.invariant.4
+returns-clause-best c = subst (λ d. AreBest d.plan d.columns) c.self.view_is c.self.invariant.2

@@ -8,7 +8,7 @@ pub steps-init : goal.steps-init
 steps-init c =
     let d = c.args.self.now in let plan = c.keeps_best.ensures.planned in let best = c.keeps_best.ensures.best in
     let h = c.requires.some in
-    let le = (greatest_at d.plan d.cells plan best c.args.vertex c.args.offset c.requires.vertex c.requires.offset).1 h.0 h.1 in
+    let le = (greatest_at d.plan d.columns plan best c.args.vertex c.args.offset c.requires.vertex c.requires.offset).1 h.0 h.1 in
     let some = (has_bounds d.plan plan c.args.vertex c.args.offset h.0 h.1).2 in
     let cell : IsAtCell d c.args.vertex c.args.offset = record { vertex = c.requires.vertex; offset = c.requires.offset; some = omega (arith, le, some) } in (
       cell,
@@ -32,6 +32,6 @@ returns c =
     let inv = c.steps.invariant in
     let none : c.steps.left ≡ 0 = omega (arith, c.steps-test.false) in (
       work_at d c.args.vertex c.args.offset,
-      greatest_at d.plan d.cells plan best c.args.vertex c.args.offset c.requires.vertex c.requires.offset,
+      greatest_at d.plan d.columns plan best c.args.vertex c.args.offset c.requires.vertex c.requires.offset,
       tail_whole d plan best c.args.vertex c.args.offset c.steps.at c.steps.left c.steps.walk.items c.from_vec.result none inv.0 inv.1 (c.from_vec.ensures ∙ c.reverse.ensures.items),
     )

@@ -1,0 +1,212 @@
+-- Steps of one seat of a lane among those of a table, and a loop that settles them all.
+use Rattle.std.proofs.Common.{◌≡◌, ◌≢◌, ℕ, zero, suc, ◌+◌, ◌/◌, ◌<◌, ◌≤◌, List, [], ◌∷◌}
+use Rattle.std.proofs.Common.{length, get_or, set, sym, refl, ap, ◌∙◌, subst, ⊎_elim, length-set, arith}
+use Rattle.std.specs.Prelude.{vec_capacity}
+use Rattle.std.specs.Vec.{with_item}
+use mathlib.Core.Logic.{dite}
+use mathlib.Core.Option.{some, some-injective}
+use native.Mathlib.Decide.{ℕ_discrete}
+use lib.ListN.{get_elem?}
+use Rattle.atomic_table.proofs.Lists.{at_set, at_index, set_here, set_else}
+use Rattle.drt_model.specs.Digraph.{vertex_count}
+use Rattle.drt_wave.specs.declared.plan.Plan.{Plan}
+use Rattle.drt_wave.specs.declared.view.LaneKey.{LaneKey}
+use Rattle.drt_wave.specs.declared.view.LaneView.{LaneView}
+use Rattle.drt_wave.specs.declared.lane.Lane.{Lane}
+use Rattle.drt_wave.specs.declared.seat.WaveSeat.{WaveSeat}
+use Rattle.drt_wave.specs.declared.table.WaveTable.{WaveTable}
+use Rattle.drt_wave.specs.Net.{Net, Among, IsBest}
+use Rattle.drt_wave.specs.Cells.{net_of, cell_at, width}
+use Rattle.drt_wave.specs.Keys.{lane_net, lane_first, lane_count}
+use Rattle.drt_wave.specs.Lanes.{Settled, lane_settled}
+use Rattle.drt_wave.specs.Lane.{LaneSeat, IsLane, IsLaneSeat, IsClaimSeat}
+use Rattle.drt_wave.specs.Seats.{parts_of, HasRaised, KnowsTo, IsOf, Kept, ExpandedTo}
+use Rattle.drt_wave.proofs.Cells.{cell_vertex, cell_offset}
+use Rattle.drt_wave.proofs.Sums.{at_inside}
+
+pub at_there : {A : Type 0} (l : List A) (i : ℕ) → i < length l → (a : A) × (get_elem? l i ≡ some a)
+at_there [] i lt = absurd (omega arith)
+at_there (x ∷ xs) zero lt = (x, refl)
+at_there (x ∷ xs) (suc i) lt = at_there xs i (omega arith)
+
+-- what holds of a cell of the plan holds of it as a cell of the lane, and the other way round
+module _ (F : Net → ℕ → Type 0) (p : Plan) (v o : ℕ) (l : Lane) (is : IsLane p v l) where
+  pub to_lane : F (net_of p) (cell_at p v o) → F (lane_net l.table.shared.key) (lane_first l.table.shared.key + o)
+  to_lane h = subst (λ (q : Plan × ℕ). F (net_of q.0) (cell_at q.0 q.1 o)) (λ i. (sym is.plan i, sym is.vertex i)) h
+
+  pub of_lane : F (lane_net l.table.shared.key) (lane_first l.table.shared.key + o) → F (net_of p) (cell_at p v o)
+  of_lane h = subst (λ (q : Plan × ℕ). F (net_of q.0) (cell_at q.0 q.1 o)) (λ i. (is.plan i, is.vertex i)) h
+
+-- the lane and the seat that were read at v are those of vertex v
+pub record Found (t : WaveTable) (s : WaveSeat) (v : ℕ) (l : Lane) (y : LaneSeat) : Type 0 where
+  pub at_lane : get_elem? t.lanes v ≡ some l
+  pub at_seat : get_elem? s.lanes.items v ≡ some y
+  pub lane : IsLane t.plan v l
+  pub sits : IsLaneSeat l y
+  pub parts : y.me.0.parts ≡ parts_of s
+
+pub vertex_inside : (t : WaveTable) (v : ℕ) → v < vertex_count t.plan.graph → v < length t.lanes
+vertex_inside t v lt = subst (λ n. v < n) (sym t.laned.count) lt
+
+found_at : (t : WaveTable) (s : WaveSeat) (v : ℕ) (l : Lane) (y : LaneSeat) → IsOf t s → get_elem? t.lanes v ≡ some l → get_elem? s.lanes.items v ≡ some y → Found t s v l y
+found_at t s v l y is at_l at_y = let h = is.lane v l y at_l at_y in record { at_lane = at_l; at_seat = at_y; lane = t.laned.each v l at_l; sits = h.0; parts = h.1 }
+
+lane_read : (t : WaveTable) (v : ℕ) (l : Lane) (xs : List Lane) → v < length t.lanes → xs ≡ t.lanes → l ≡ get_or xs v l → get_elem? t.lanes v ≡ some l
+lane_read t v l xs lt same is = at_index t.lanes v l lt (subst (λ ys. l ≡ get_or ys v l) same is)
+
+pub found : (t : WaveTable) (s : WaveSeat) (v : ℕ) (l : Lane) (y : LaneSeat) (xs : List Lane) → IsOf t s → v < length t.lanes → xs ≡ t.lanes → l ≡ get_or xs v l → y ≡ get_or s.lanes.items v y
+    → Found t s v l y
+found t s v l y xs is lt same is_l is_y =
+    found_at t s v l y is (lane_read t v l xs lt same is_l) (at_index s.lanes.items v y (omega (arith, lt, is.count)) is_y)
+
+-- the cell is of a wave that the seat knows
+pub low_wave : (p : Plan) (s : WaveSeat) (v o k : ℕ) (l : Lane) (y : LaneSeat) → IsLane p v l → get_elem? s.lanes.items v ≡ some y → o ≤ p.bound → KnowsTo k s → o / p.span ≤ k
+    → (lane_net l.table.shared.key).wave (lane_first l.table.shared.key + o) ≤ y.me.0.known
+low_wave p s v o k l y is at_y le known low =
+    let n : ℕ = y.me.0.known in
+    to_lane (λ g c. g.wave c ≤ n) p v o l is (subst (λ r. r / p.span ≤ n) (sym (cell_offset p v o le)) (subst (λ j. o / p.span ≤ j) (sym (known v y at_y)) low))
+
+-- the seat after the one of lane v became n
+abbrev pub with_seat : WaveSeat → ℕ → LaneSeat → WaveSeat
+with_seat s v n = record { claims = s.claims; lanes = with_item s.lanes v n }
+
+pub with_is_of : (t : WaveTable) (s : WaveSeat) (v : ℕ) (l : Lane) (y n : LaneSeat) → IsOf t s → get_elem? t.lanes v ≡ some l → get_elem? s.lanes.items v ≡ some y
+    → IsLaneSeat l n → n.me.0.parts ≡ y.me.0.parts → IsOf t (with_seat s v n)
+with_is_of t s v l y n is at_l at_y sits parts = record {
+  claims = is.claims;
+  count = length-set s.lanes.items v n ∙ is.count;
+  room = is.room;
+  lane = λ i k u at_k at_u. ⊎_elim
+      (λ (e : (i ≡ v) × (n ≡ u)).
+      let same : l ≡ k = some-injective l k (sym at_l ∙ ap (get_elem? t.lanes) (sym e.0) ∙ at_k) in (
+        subst (λ (q : Lane × LaneSeat). IsLaneSeat q.0 q.1) (λ j. (same j, e.1 j)) sits,
+        ap (λ (z : LaneSeat). z.me.0.parts) (sym e.1) ∙ parts ∙ (is.lane v l y at_l at_y).1,
+      ))
+      (λ (e : (i ≢ v) × (get_elem? s.lanes.items i ≡ some u)). is.lane i k u at_k e.1)
+      (at_set s.lanes.items v i n u at_u);
+}
+
+module _ (s : WaveSeat) (v : ℕ) (y n : LaneSeat) (at_y : get_elem? s.lanes.items v ≡ some y) where
+  here : get_elem? (set s.lanes.items v n) v ≡ some n
+  here = set_here s.lanes.items v n (at_inside s.lanes.items v y at_y)
+
+  pub with_kept : n.me.0.known ≡ y.me.0.known → ((o x : ℕ) → Among (o, x) y.me.0.raised → Among (o, x) n.me.0.raised) → Kept s (with_seat s v n)
+  with_kept known raised = record {
+    parts = refl;
+    draws = refl;
+    known = λ k h i u at_u. ⊎_elim
+        (λ (e : (i ≡ v) × (n ≡ u)). ap (λ (z : LaneSeat). z.me.0.known) (sym e.1) ∙ known ∙ h v y at_y)
+        (λ (e : (i ≢ v) × (get_elem? s.lanes.items i ≡ some u)). h i u e.1)
+        (at_set s.lanes.items v i n u at_u);
+    raised = λ i o x h. dite (ℕ_discrete i v)
+        (λ e.
+        let was : h.0 ≡ y = some-injective h.0 y (sym h.1 ∙ ap (get_elem? s.lanes.items) e ∙ at_y) in
+        (n, ap (get_elem? (set s.lanes.items v n)) e ∙ here, raised o x (subst (λ (z : LaneSeat). Among (o, x) z.me.0.raised) was h.2)))
+        (λ ne. (h.0, set_else s.lanes.items v i n ne ∙ h.1, h.2));
+  }
+
+  pub with_raised : (o x : ℕ) → Among (o, x) n.me.0.raised → HasRaised (with_seat s v n) v o x
+  with_raised o x a = (n, here, a)
+
+-- The seat of lane v passed on what the cells of its known waves have for the lane.
+abbrev Settles : Plan → ℕ → LaneView LaneKey → Type 0
+Settles p v w = (b : ℕ) → b < (net_of p).cells → (net_of p).wave b ≤ w.known
+    → (x : ℕ) × IsBest (net_of p) b x × (x ≢ 0 → (o a : ℕ) → o < width p → Among (cell_at p v o, a) ((net_of p).arcs b) → Among (o, x + a) w.raised)
+
+settles : (p : Plan) (s : WaveSeat) (k v : ℕ) (y : LaneSeat) → get_elem? s.lanes.items v ≡ some y → KnowsTo k s → ExpandedTo p k s → Settles p v y.me.0
+settles p s k v y at_y known expanded b lt low =
+    let e = expanded b lt (subst (λ j. (net_of p).wave b ≤ j) (known v y at_y) low) in (
+      e.0,
+      e.1,
+      λ some_work o a lto arc.
+          let le : o ≤ p.bound = omega arith in
+          let r : HasRaised s v o (e.0 + a) = subst (λ (q : ℕ × ℕ). HasRaised s q.0 q.1 (e.0 + a)) (λ i. (cell_vertex p v o le i, cell_offset p v o le i)) (e.2 some_work (cell_at p v o) a arc) in
+          let is : r.0 ≡ y = some-injective r.0 y (sym r.1 ∙ at_y) in
+          subst (λ (z : LaneSeat). Among (o, e.0 + a) z.me.0.raised) is r.2,
+    )
+
+pub settled_at : (p : Plan) (s : WaveSeat) (k v : ℕ) (l : Lane) (y : LaneSeat) → IsLane p v l → get_elem? s.lanes.items v ≡ some y → KnowsTo k s → ExpandedTo p k s
+    → Settled lane_net lane_first lane_count l.table.shared.key y.me.0
+settled_at p s k v l y is at_y known expanded =
+    subst (λ (q : Plan × ℕ). Settles q.0 q.1 y.me.0) (λ i. (sym is.plan i, sym is.vertex i)) (settles p s k v y at_y known expanded)
+
+-- From s to n the seats of the first k lanes settled, and the others stand as they did.
+pub record AreSettled (t : WaveTable) (s n : WaveSeat) (k : ℕ) : Type 0 where
+  pub claims : n.claims ≡ s.claims
+  pub room : vec_capacity n.lanes ≡ vec_capacity s.lanes
+  pub count : length n.lanes.items ≡ length s.lanes.items
+  pub done : (i : ℕ) (l : Lane) (y u : LaneSeat) → i < k → get_elem? t.lanes i ≡ some l → get_elem? s.lanes.items i ≡ some y → get_elem? n.lanes.items i ≡ some u
+      → IsLaneSeat l u × (u.me.0 ≡ lane_settled y.me.0)
+  pub left : (i : ℕ) → k ≤ i → get_elem? n.lanes.items i ≡ get_elem? s.lanes.items i
+
+-- what was read at the next lane
+pub next_found : (t : WaveTable) (s n : WaveSeat) (v : ℕ) (l : Lane) (y : LaneSeat) (xs : List Lane) → IsOf t s → AreSettled t s n v → v < length xs → xs ≡ t.lanes → l ≡ get_or xs v l
+    → y ≡ get_or n.lanes.items v y → Found t s v l y × (get_elem? n.lanes.items v ≡ some y)
+next_found t s n v l y xs is h ltx same is_l is_y =
+    let lt : v < length t.lanes = subst (λ ys. v < length ys) same ltx in
+    let at_y : get_elem? n.lanes.items v ≡ some y = at_index n.lanes.items v y (omega (arith, lt, is.count, h.count)) is_y in
+    (found_at t s v l y is (lane_read t v l xs lt same is_l) (sym (h.left v (omega arith)) ∙ at_y), at_y)
+
+pub all_settled : (t : WaveTable) (s n : WaveSeat) (k : ℕ) (xs : List Lane) → AreSettled t s n k → xs ≡ t.lanes → k ≤ length xs → length xs ≤ k → AreSettled t s n (length t.lanes)
+all_settled t s n k xs h same le ge = let e : length xs ≡ length t.lanes = ap length same in let is : k ≡ length t.lanes = omega arith in subst (λ j. AreSettled t s n j) is h
+
+pub none_settled : (t : WaveTable) (s : WaveSeat) → AreSettled t s s 0
+none_settled t s = record {
+  claims = refl;
+  room = refl;
+  count = refl;
+  done = λ i l y u lt at_l at_y at_u. absurd (omega arith);
+  left = λ i le. refl;
+}
+
+pub one_settled : (t : WaveTable) (s n : WaveSeat) (k : ℕ) (l : Lane) (y u : LaneSeat) → AreSettled t s n k → get_elem? t.lanes k ≡ some l → get_elem? n.lanes.items k ≡ some y
+    → IsLaneSeat l u → u.me.0 ≡ lane_settled y.me.0 → AreSettled t s (with_seat n k u) (k + 1)
+one_settled t s n k l y u h at_l at_y sits is = record {
+  claims = h.claims;
+  room = h.room;
+  count = length-set n.lanes.items k u ∙ h.count;
+  done = λ i m a b lt at_m at_a at_b. ⊎_elim
+      (λ (e : (i ≡ k) × (u ≡ b)).
+      let lanes : l ≡ m = some-injective l m (sym at_l ∙ ap (get_elem? t.lanes) (sym e.0) ∙ at_m) in
+      let seats : y ≡ a = some-injective y a (sym at_y ∙ h.left k (omega arith) ∙ ap (get_elem? s.lanes.items) (sym e.0) ∙ at_a) in (
+        subst (λ (q : Lane × LaneSeat). IsLaneSeat q.0 q.1) (λ j. (lanes j, e.1 j)) sits,
+        ap (λ (z : LaneSeat). z.me.0) (sym e.1) ∙ is ∙ ap (λ (z : LaneSeat). lane_settled z.me.0) seats,
+      ))
+      (λ (e : (i ≢ k) × (get_elem? n.lanes.items i ≡ some b)). let ne = e.0 in h.done i m a b (omega (arith, lt, ne)) at_m at_a e.1)
+      (at_set n.lanes.items k i u b at_b);
+  left = λ i le. set_else n.lanes.items k i u (λ e. omega arith) ∙ h.left i (omega arith);
+}
+
+module _ (t : WaveTable) (s n : WaveSeat) (is : IsOf t s) (h : AreSettled t s n (length t.lanes)) where
+  -- what a seat of the lane at i is
+  settled : (i : ℕ) (l : Lane) (u : LaneSeat) → get_elem? t.lanes i ≡ some l → get_elem? n.lanes.items i ≡ some u
+      → (y : LaneSeat) × (get_elem? s.lanes.items i ≡ some y) × IsLaneSeat l u × (u.me.0 ≡ lane_settled y.me.0)
+  settled i l u at_l at_u =
+      let inside : i < length t.lanes = at_inside t.lanes i l at_l in
+      let y = at_there s.lanes.items i (omega (arith, inside, is.count)) in
+      let d = h.done i l y.0 u inside at_l y.1 at_u in (y.0, y.1, d.0, d.1)
+
+  pub all_is_of : IsOf t n
+  all_is_of = record {
+    claims = subst (λ c. IsClaimSeat t.claims c) (sym h.claims) is.claims;
+    count = h.count ∙ is.count;
+    room = subst (λ c. length t.lanes ≤ c) (sym h.room) is.room;
+    lane = λ i l u at_l at_u.
+        let d = settled i l u at_l at_u in
+        (d.2, ap (λ (w : LaneView LaneKey). w.parts) d.3 ∙ (is.lane i l d.0 at_l d.1).1 ∙ ap (λ c. c.me.0.parts) (sym h.claims));
+  }
+
+  pub all_known : (k : ℕ) → KnowsTo k s → KnowsTo (k + 1) n
+  all_known k known i u at_u =
+      let inside = at_inside n.lanes.items i u at_u in
+      let l = at_there t.lanes i (omega (arith, inside, h.count, is.count)) in
+      let d = settled i l.0 u l.1 at_u in
+      ap (λ (w : LaneView LaneKey). w.known) d.3 ∙ ap (λ x. x + 1) (known i d.0 d.1)
+
+  pub all_raised : (i o x : ℕ) → HasRaised s i o x → HasRaised n i o x
+  all_raised i o x r =
+      let inside = at_inside s.lanes.items i r.0 r.1 in
+      let l = at_there t.lanes i (omega (arith, inside, is.count)) in
+      let u = at_there n.lanes.items i (omega (arith, inside, h.count)) in
+      let d = h.done i l.0 r.0 u.0 (omega (arith, inside, is.count)) l.1 r.1 u.1 in
+      (u.0, u.1, subst (λ rs. Among (o, x) rs) (sym (ap (λ (w : LaneView LaneKey). w.raised) d.1)) r.2)

@@ -1,0 +1,13 @@
+use Rattle.std.proofs.Common.{rules, ap, ◌∙◌, ◌+◌, sym, subst, length, length-append}
+use Rattle.drt_pool.specs.Turns.{EachPlace}
+use Rattle.drt_wave.specs.Openers.{IsOpener}
+use Rattle.drt_wave.proofs.OpenedLanes.{each_more}
+use Rattle.drt_wave.proofs.opening.openers.Goals as goal
+
+pub workers-preserved : goal.workers-preserved
+workers-preserved c =
+    let inv = c.workers.invariant in let old = c.workers.openers.items in record {
+      count = ap length c.push_reserved.ensures.items ∙ (length-append old _ ∙ ap (λ n. n + 1) inv.count);
+      room = search (rules, inv.room);
+      each = subst (EachPlace (λ place opener. IsOpener c.args.plan.now opener)) (sym c.push_reserved.ensures.items) (each_more (λ place opener. IsOpener c.args.plan.now opener) old _ inv.each c.in_ok-opener.ensures);
+    }

@@ -1,0 +1,66 @@
+use Rattle.std.proofs.Common.{◌≡◌, length, refl, sym, ap, ◌∙◌, subst, arith}
+use Rattle.atomic_table.proofs.Lists.{at_index}
+use Rattle.drt_wave.specs.Lane.{ClaimSeat, IsClaimSeat}
+use Rattle.drt_wave.proofs.Parting.{read_at, glue_none, glue_last, glue_more, of_glued, is_glued}
+use Rattle.drt_wave.proofs.table.WaveTable.join_back.Goals as goal
+
+pub lanes-init : goal.lanes-init
+lanes-init c =
+    let t = c.args.self.now in let s = c.args.seat.now in let o = c.args.other in
+    record { claims = refl; room = refl; other_room = refl; glue = glue_none t.lanes s.lanes.items o.lanes.items c.requires.seat.count c.requires.other.count }
+
+pub join-requires-in-Some-clause-seat : goal.join-requires-in-Some-clause-seat
+join-requires-in-Some-clause-seat c =
+    let t = c.args.self.now in let s = c.args.seat.now in let v = c.len-v.result in let y = c.index_mut.result.now in let g = c.lanes.invariant.glue in
+    let at : v ≡ length c.pop.new.self.items = omega (arith, c.len-v.ensures, c.pop.new.self.ok.0) in
+    let p = glue_last t.lanes s.lanes.items c.args.other.lanes.items _ _ _ v c.in-Some.lane_seat g c.in-Some.ensures.items at in
+    let el = read_at t.lanes _ v c.index-lanes-v.result c.as_slice-lanes.ensures p.1 c.index-lanes-v.is in
+    let ey = at_index c.lanes.seat.lanes.items v y p.2 c.index_mut.ensures.value in
+    (c.requires.seat.lane v _ y el (sym p.4 ∙ ey)).0
+
+pub join-requires-in-Some-clause-other : goal.join-requires-in-Some-clause-other
+join-requires-in-Some-clause-other c =
+    let t = c.args.self.now in let s = c.args.seat.now in let v = c.len-v.result in let g = c.lanes.invariant.glue in
+    let at : v ≡ length c.pop.new.self.items = omega (arith, c.len-v.ensures, c.pop.new.self.ok.0) in
+    let p = glue_last t.lanes s.lanes.items c.args.other.lanes.items _ _ _ v c.in-Some.lane_seat g c.in-Some.ensures.items at in
+    let el = read_at t.lanes _ v c.index-lanes-v.result c.as_slice-lanes.ensures p.1 c.index-lanes-v.is in
+    (c.requires.other.lane v _ c.in-Some.lane_seat el p.3).0
+
+pub join-requires-in-Some-clause-parts : goal.join-requires-in-Some-clause-parts
+join-requires-in-Some-clause-parts c =
+    let t = c.args.self.now in let s = c.args.seat.now in let v = c.len-v.result in let y = c.index_mut.result.now in let g = c.lanes.invariant.glue in
+    let at : v ≡ length c.pop.new.self.items = omega (arith, c.len-v.ensures, c.pop.new.self.ok.0) in
+    let p = glue_last t.lanes s.lanes.items c.args.other.lanes.items _ _ _ v c.in-Some.lane_seat g c.in-Some.ensures.items at in
+    let el = read_at t.lanes _ v c.index-lanes-v.result c.as_slice-lanes.ensures p.1 c.index-lanes-v.is in
+    let ey = at_index c.lanes.seat.lanes.items v y p.2 c.index_mut.ensures.value in
+    let parts = (c.requires.seat.lane v _ y el (sym p.4 ∙ ey)).1 in omega (arith, parts, c.requires.parts)
+
+pub lanes-preserved : goal.lanes-preserved
+lanes-preserved c =
+    let t = c.args.self.now in let s = c.args.seat.now in let v = c.len-v.result in let y = c.index_mut.result.now in let g = c.lanes.invariant.glue in
+    let at : v ≡ length c.pop.new.self.items = omega (arith, c.len-v.ensures, c.pop.new.self.ok.0) in
+    let p = glue_last t.lanes s.lanes.items c.args.other.lanes.items _ _ _ v c.in-Some.lane_seat g c.in-Some.ensures.items at in
+    let el = read_at t.lanes _ v c.index-lanes-v.result c.as_slice-lanes.ensures p.1 c.index-lanes-v.is in
+    let ey = at_index c.lanes.seat.lanes.items v y p.2 c.index_mut.ensures.value in
+    let inv = c.lanes.invariant in let e = c.join-in-Some.ensures in
+    record {
+      claims = inv.claims;
+      room = inv.room;
+      other_room = c.pop.ensures.capacity ∙ inv.other_room;
+      glue = glue_more t.lanes s.lanes.items c.args.other.lanes.items _ _ _ v _ y c.in-Some.lane_seat _ g c.in-Some.ensures.items at el ey (e.seat, e.joined);
+    }
+
+pub returns-clause-seat : goal.returns-clause-seat
+returns-clause-seat c =
+    let t = c.args.self.now in let inv = c.lanes.invariant in let of = c.requires.seat in
+    let none : length c.lanes.others.items ≡ 0 = omega (arith, c.in_default.ensures.cases.0, c.lanes.others.ok.0) in
+    of_glued t c.args.seat.now of c.args.other c.lanes.seat c.requires.other c.lanes.others.items none inv.glue
+    (subst (IsClaimSeat t.claims) (sym inv.claims) c.join.ensures.seat)
+    (ap (λ (q : ClaimSeat). q.me.0) inv.claims ∙ c.join.ensures.joined) (omega (arith, of.room, inv.room))
+
+pub returns-clause-glued : goal.returns-clause-glued
+returns-clause-glued c =
+    let t = c.args.self.now in let inv = c.lanes.invariant in
+    let none : length c.lanes.others.items ≡ 0 = omega (arith, c.in_default.ensures.cases.0, c.lanes.others.ok.0) in
+    is_glued t c.args.seat.now c.requires.seat c.args.other c.lanes.seat c.requires.other c.lanes.others.items none inv.glue
+    (ap (λ (q : ClaimSeat). q.me.0) inv.claims ∙ c.join.ensures.joined)

@@ -1,0 +1,73 @@
+-- The rule of a lane. Its words are the cells of one vertex, by offset.
+use Rattle.std.specs.Prelude.{◌≡◌, ◌≢◌, ℕ, ◌+◌, ◌-◌, ◌<◌, ◌≤◌, max, ◌==◌, if◌then◌else◌, List, [], ◌∷◌, ◌++◌, length, slice_index, Some, None}
+use mathlib.Core.Option.{some}
+use lib.ListN.{get_elem?}
+use Rattle.atomic_table.specs.Table.{State, Me, Step}
+use Rattle.drt_wave.specs.declared.view.LaneView.{LaneView}
+use Rattle.drt_wave.specs.Net.{Net, IsNet, Among, Reached, IsBest}
+use Rattle.drt_wave.specs.Sums.{total, greatest}
+
+-- the greatest contribution at offset o
+abbrev pub most : ℕ → List (ℕ × ℕ) → ℕ
+most o raised = greatest (λ r. if r.0 == o then r.1 else 0) raised
+
+module _ {F : Type 0} where
+  abbrev pub fresh_lane : F → ℕ → LaneView F
+  fresh_lane f parts = record { fixed = Some f; parts = parts; raised = []; known = 0 }
+
+  abbrev pub spent_lane : LaneView F
+  spent_lane = record { fixed = None; parts = 0; raised = []; known = 0 }
+
+  abbrev pub lane_left : LaneView F → LaneView F
+  lane_left v = record { fixed = v.fixed; parts = v.parts - 1; raised = v.raised; known = v.known }
+
+  abbrev pub lane_right : LaneView F → LaneView F
+  lane_right v = record { fixed = v.fixed; parts = 1; raised = []; known = v.known }
+
+  abbrev pub lane_joined : LaneView F → LaneView F → LaneView F
+  lane_joined v w = record { fixed = v.fixed; parts = v.parts + w.parts; raised = w.raised ++ v.raised; known = v.known }
+
+  abbrev pub lane_raised : LaneView F → ℕ → ℕ → LaneView F
+  lane_raised v o x = record { fixed = v.fixed; parts = v.parts; raised = (o, x) ∷ v.raised; known = v.known }
+
+  abbrev pub lane_settled : LaneView F → LaneView F
+  lane_settled v = record { fixed = v.fixed; parts = v.parts; raised = v.raised; known = v.known + 1 }
+
+-- A lane has so many cells of a net, from its first one on.
+module _ {F : Type 0} (net : F → Net) (first count : F → ℕ) where
+  -- Each cell of a wave up to the one that is known has its greatest work, and the seat passed that on along each arc into the lane.
+  abbrev pub Settled : F → LaneView F → Type 0
+  Settled key v = (b : ℕ) → b < (net key).cells → (net key).wave b ≤ v.known
+      → (x : ℕ) × IsBest (net key) b x × (x ≢ 0 → (o w : ℕ) → o < count key → Among (first key + o, w) ((net key).arcs b) → Among (o, x + w) v.raised)
+
+  pub record Knows (key : F) (ws : List ℕ) (v : LaneView F) : Type 0 where
+    -- a seat with no part has contributed nothing
+    pub idle : v.parts ≡ 0 → v.raised ≡ []
+    pub same : (f : F) → v.fixed ≡ Some f → f ≡ key
+    pub reached : (o x : ℕ) → Among (o, x) v.raised → Reached (net key) (first key + o) x
+    pub final : (o : ℕ) → o < count key → (net key).wave (first key + o) ≤ v.known → IsBest (net key) (first key + o) (slice_index ws o)
+
+  pub record InLane {S : Type 0} (key : F) (s : State S (LaneView F)) : Type 0 where
+    pub lawful : IsNet (net key)
+    pub wide : length s.words ≡ count key
+    pub within : first key + count key ≤ (net key).cells
+    pub parts : total (λ v. v.parts) s.views ≡ 1024
+    pub cell : (o : ℕ) → o < count key → slice_index s.words o ≡ max ((net key).opens (first key + o)) (greatest (λ v. most o v.raised) s.views)
+    pub each : (i : ℕ) (v : LaneView F) → get_elem? s.views i ≡ some v → Knows key s.words v
+
+-- what a step tells: of the step, the seat before, the number found and the seat after
+abbrev pub Said : Type 0 → Type 0 → Type 1
+Said S F = Step S → Me S (LaneView F) → ℕ → Me S (LaneView F) → Type 0
+
+module _ {S F : Type 0} (net : F → Net) (first : F → ℕ) where
+  abbrev pub glanced : Said S F
+  glanced st m r n = (n ≡ m)
+      × ((f : F) → m.0.fixed ≡ Some f → (r ≢ 0 → Reached (net f) (first f + st.word) r) × ((net f).wave (first f + st.word) ≤ m.0.known → IsBest (net f) (first f + st.word) r))
+
+-- A work was contributed to a cell.
+abbrev pub raises : {S F : Type 0} → Said S F
+raises st m r n = n ≡ (lane_raised m.0 st.word st.first, m.1)
+
+-- One more wave is known as final.
+abbrev pub settles : {S F : Type 0} → Said S F
+settles st m r n = n ≡ (lane_settled m.0, m.1)
