@@ -1,27 +1,21 @@
 -- Each kind of step keeps the rule of the claim words.
 use Rattle.std.proofs.Common.{◌≡◌, ◌≢◌, ◌==◌, ℕ, zero, suc, ◌+◌, ◌%◌, ◌^◌, ◌<◌, List, [], ◌∷◌, ◌++◌}
-use Rattle.std.proofs.Common.{length, get_or, set, replicate, sym, refl, ap, ◌∙◌, subst, ⊎_elim, arith, if◌then◌else◌, eq-eqb, ne_eqb, length-set, get_or-set_same, get_or-set_other}
+use Rattle.std.proofs.Common.{length, get_or, set, replicate, sym, refl, ap, ◌∙◌, subst, ⊎_elim, arith, if◌then◌else◌, eq-eqb, ne_eqb, length-set}
 use Rattle.std.proofs.Math.Nat.{add-mod}
 use mathlib.Core.Logic.{dite}
 use mathlib.Core.Option.{some, none, some-ne-none}
 use native.Mathlib.Decide.{ℕ_discrete, dec_lt}
 use lib.ListN.{get_elem?}
 use Rattle.atomic_table.specs.Table.{State, Me, step, keeps, Allows, Splits, Joins, opening}
-use Rattle.atomic_table.proofs.Lists.{at_set, at_snoc}
+use Rattle.atomic_table.proofs.Lists.{at_snoc}
 use Rattle.drt_wave.specs.Net.{Among}
 use Rattle.drt_wave.specs.Sums.{total}
 use Rattle.drt_wave.specs.Claims.{times, fresh_claims, spent_claims, claims_left, claims_right, claims_joined, with_draw, InClaims, claimed}
 use Rattle.drt_wave.specs.declared.view.ClaimView.{ClaimView}
-use Rattle.drt_wave.proofs.Sums.{total-append, total-set, total-one, term_le, among_times, times_among, times_more, times-append}
+use Rattle.drt_wave.proofs.Sums.{total-append, total-set, total-one, term_le, among_times, times_among, times_more, times-append, all_set, word_here, word_there}
 
 mod-succ : (a : ℕ) → (a % 2 ^ 64 + 1) % 2 ^ 64 ≡ (a + 1) % 2 ^ 64
 mod-succ a = sym (add-mod a 1 (2 ^ 64))
-
-here : (ws : List ℕ) (i x : ℕ) → i < length ws → get_or (set ws i x) i 0 ≡ x
-here ws i x h = get_or-set_same ws i x 0 h
-
-there : (ws : List ℕ) (i j x : ℕ) → j ≢ i → get_or (set ws i x) j 0 ≡ get_or ws j 0
-there ws i j x n = get_or-set_other ws i j x 0 n
 
 -- one more number of wave j is drawn
 abbrev bump : (ℕ → ℕ) → ℕ → ℕ → ℕ
@@ -37,11 +31,6 @@ bump_else drawn j i ne = ap (λ b. if b then drawn i + 1 else drawn i) (ne_eqb i
 same_draws : (views : List ClaimView) (id : ℕ) (v w : ClaimView) (j k : ℕ) → get_elem? views id ≡ some v → w.draws ≡ v.draws
     → total (λ u. times j k u.draws) (set views id w) ≡ total (λ u. times j k u.draws) views
 same_draws views id v w j k me e = let same : times j k w.draws ≡ times j k v.draws = ap (times j k) e in omega (arith, total-set (λ (u : ClaimView). times j k u.draws) views id v w me)
-
--- the fact of each view, where one of them changes
-all_set : (P : ClaimView → Type 0) (views : List ClaimView) (id : ℕ) (w : ClaimView) → P w → ((j : ℕ) (u : ClaimView) → get_elem? views j ≡ some u → P u)
-    → (j : ℕ) (u : ClaimView) → get_elem? (set views id w) j ≡ some u → P u
-all_set P views id w mine others j u e = ⊎_elim (λ (x : (j ≡ id) × (w ≡ u)). subst P x.1 mine) (λ (x : (j ≢ id) × (get_elem? views j ≡ some u)). others j u x.1) (at_set views id j w u e)
 
 -- a seat with no part has drawn nothing
 abbrev IsIdle : ClaimView → Type 0
@@ -79,9 +68,9 @@ module _ {S : Type 0} (waves : ℕ) where
         drawn = bump h.drawn j;
         parts = omega (arith, h.parts, total-set (λ (u : ClaimView). u.parts) s.views id v w me);
         claims = λ a lta. dite (ℕ_discrete a j)
-            (λ e. ap (λ b. get_or ws b 0) e ∙ here s.words j ((n + 1) % 2 ^ 64) inside ∙ ap (λ (x : ℕ). (x + 1) % 2 ^ 64) (h.claims j ltj) ∙ mod-succ t
+            (λ e. ap (λ b. get_or ws b 0) e ∙ word_here s.words j ((n + 1) % 2 ^ 64) inside ∙ ap (λ (x : ℕ). (x + 1) % 2 ^ 64) (h.claims j ltj) ∙ mod-succ t
             ∙ ap (λ x. x % 2 ^ 64) (sym (bump_same h.drawn j j refl)) ∙ ap (λ b. bump h.drawn j b % 2 ^ 64) (sym e))
-            (λ ne. there s.words j a _ ne ∙ h.claims a lta ∙ ap (λ x. x % 2 ^ 64) (sym (bump_else h.drawn j a ne)));
+            (λ ne. word_there s.words j a _ ne ∙ h.claims a lta ∙ ap (λ x. x % 2 ^ 64) (sym (bump_else h.drawn j a ne)));
         once = λ a b lt. dite (ℕ_discrete a j)
             (λ e. let up = bump_same h.drawn j a e in let same : h.drawn a ≡ t = ap h.drawn e in dite (ℕ_discrete b t)
             (λ f. omega (arith, total-set (drawn_of a b) s.views id v w me, (times_more a b j t v.draws).0 (sym e, sym f), h.never a b (omega arith)))

@@ -1,35 +1,25 @@
 -- Each kind of step keeps the rule of a lane.
 use Rattle.std.proofs.Common.{◌≡◌, ◌≢◌, ℕ, zero, suc, ◌+◌, ◌<◌, ◌≤◌, max, List, [], ◌∷◌}
-use Rattle.std.proofs.Common.{length, get_or, set, sym, refl, ap, ◌∙◌, subst, ⊎_elim, arith, length-set, get_or-set_same, get_or-set_other}
+use Rattle.std.proofs.Common.{length, get_or, set, sym, refl, ap, ◌∙◌, subst, ⊎_elim, arith, length-set}
 use mathlib.Core.Logic.{dite}
 use mathlib.Core.Option.{some, none, some-ne-none}
 use native.Mathlib.Decide.{ℕ_discrete, dec_le}
 use lib.ListN.{get_elem?}
 use lib.Seq.{set-get_or}
 use Rattle.atomic_table.specs.Table.{State, Me, step, keeps, Allows, Splits, Joins, opening, Final, Seen}
-use Rattle.atomic_table.proofs.Lists.{at_set, at_snoc, set_here, set_else}
+use Rattle.atomic_table.proofs.Lists.{at_snoc, set_here, set_else}
 use Rattle.drt_wave.specs.Net.{Net, IsNet, Among, Reaches, Reached, IsBest}
 use Rattle.drt_wave.specs.Sums.{greatest}
 use Rattle.drt_wave.specs.Lanes.{most, fresh_lane, spent_lane, lane_left, lane_right, lane_joined, lane_raised, lane_settled, Settled, Knows, InLane, glanced, raises, settles}
 use Rattle.drt_wave.specs.declared.view.LaneView.{LaneView}
-use Rattle.drt_wave.proofs.Sums.{total-append, total-set, greatest-append, greatest-set, greatest-drop, greatest_term, greatest_at, among-append, most_more, most-append, most_among, among_most, at_inside}
+use Rattle.drt_wave.proofs.Sums.{total-append, total-set, greatest-append, greatest-set, greatest-drop, greatest_term, greatest_at, among-append, most_more, most-append, most_among, among_most, at_inside, all_set, word_here, word_there}
 use Rattle.drt_wave.proofs.Bests.{positive}
-
-here : (ws : List ℕ) (i x : ℕ) → i < length ws → get_or (set ws i x) i 0 ≡ x
-here ws i x h = get_or-set_same ws i x 0 h
-
-there : (ws : List ℕ) (i j x : ℕ) → j ≢ i → get_or (set ws i x) j 0 ≡ get_or ws j 0
-there ws i j x n = get_or-set_other ws i j x 0 n
 
 -- what holds of a pair's numbers holds of those of an equal one
 same_pair : (P : ℕ → ℕ → Type 0) (o x d y : ℕ) → P o x → ◌≡◌ {A = ℕ × ℕ} (o, x) (d, y) → P d y
 same_pair P o x d y holds e = subst (λ (q : ℕ × ℕ). P q.0 q.1) e holds
 
 module _ {F : Type 0} where
-  all_set : (P : LaneView F → Type 0) (views : List (LaneView F)) (id : ℕ) (w : LaneView F) → P w → ((j : ℕ) (u : LaneView F) → get_elem? views j ≡ some u → P u)
-      → (j : ℕ) (u : LaneView F) → get_elem? (set views id w) j ≡ some u → P u
-  all_set P views id w mine others j u e = ⊎_elim (λ (x : (j ≡ id) × (w ≡ u)). subst P x.1 mine) (λ (x : (j ≢ id) × (get_elem? views j ≡ some u)). others j u x.1) (at_set views id j w u e)
-
   -- where a seat contributes nothing
   same_raised : (views : List (LaneView F)) (id : ℕ) (v w : LaneView F) (o : ℕ) → get_elem? views id ≡ some v → w.raised ≡ v.raised
       → greatest (λ u. most o u.raised) (set views id w) ≡ greatest (λ u. most o u.raised) views
@@ -111,18 +101,18 @@ module _ {S F : Type 0} (net : F → Net) (first count : F → ℕ) (key : F) wh
       let inside : o < length s.words = omega (arith, h.wide, lt) in
       let most_of : ℕ → LaneView F → ℕ = λ d u. most d u.raised in
       let grows : Grows net first count key s.words ws = λ d ltd best. dite (ℕ_discrete d o)
-      (λ e. let now : get_or ws d 0 ≡ max n x = ap (λ i. get_or ws i 0) e ∙ here s.words o (max n x) inside in let old : get_or s.words d 0 ≡ n = ap (λ i. get_or s.words i 0) e in
+      (λ e. let now : get_or ws d 0 ≡ max n x = ap (λ i. get_or ws i 0) e ∙ word_here s.words o (max n x) inside in let old : get_or s.words d 0 ≡ n = ap (λ i. get_or s.words i 0) e in
       let le = best.1 x (subst (λ i. Reached g (first key + i) x) (sym e) reached) in omega arith)
-      (λ ne. there s.words o d (max n x) ne) in (
+      (λ ne. word_there s.words o d (max n x) ne) in (
         w,
         keeps,
         tt,
         moved s h id v w ws me refl (length-set s.words o _)
             (λ d ltd. let more = most_more d o x v.raised in dite (ℕ_discrete d o)
-            (λ e. let now : get_or ws d 0 ≡ max n x = ap (λ i. get_or ws i 0) e ∙ here s.words o (max n x) inside in let old : get_or s.words d 0 ≡ n = ap (λ i. get_or s.words i 0) e in
+            (λ e. let now : get_or ws d 0 ≡ max n x = ap (λ i. get_or ws i 0) e ∙ word_here s.words o (max n x) inside in let old : get_or s.words d 0 ≡ n = ap (λ i. get_or s.words i 0) e in
             omega (arith, h.cell d ltd, greatest-set (most_of d) s.views id x v w me (more.0 e)))
             (λ ne. let same : most_of d w ≡ max (most_of d v) 0 = omega (arith, more.1 ne) in
-            omega (arith, there s.words o d (max n x) ne, h.cell d ltd, greatest-set (most_of d) s.views id 0 v w me same)))
+            omega (arith, word_there s.words o d (max n x) ne, h.cell d ltd, greatest-set (most_of d) s.views id 0 v w me same)))
             grows
             record {
               idle = λ none. absurd (omega arith);

@@ -1,6 +1,6 @@
 -- Seats that are split, joined and closed lane by lane.
 use Rattle.std.proofs.Common.{◌≡◌, ◌≢◌, ◌⊎◌, ℕ, zero, suc, ◌+◌, ◌-◌, ◌<◌, ◌≤◌, List, [], ◌∷◌, ◌++◌, length, get_or, set, reverse}
-use Rattle.std.proofs.Common.{length-append, refl, sym, ap, ◌∙◌, subst, inl, inr, ⊎_elim, arith}
+use Rattle.std.proofs.Common.{length-append, refl, sym, ap, ◌∙◌, subst, ⊎_elim, arith}
 use Rattle.std.specs.Prelude.{slice_index, vec_capacity}
 use Rattle.std.proofs.lemmas.List.{length-set, length-reverse, reverse-append}
 use mathlib.Core.Option.{some, some-injective, some-ne-none}
@@ -19,24 +19,10 @@ use Rattle.drt_wave.specs.Lanes.{lane_left, lane_right, lane_joined}
 use Rattle.drt_wave.specs.Claims.{claims_left, claims_right, claims_joined}
 use Rattle.drt_wave.specs.Dense.{AreBest, AreWhole}
 use Rattle.drt_wave.specs.Seats.{parts_of, draws_of, IsOf, IsCut, IsGlued}
-use Rattle.drt_wave.proofs.Sums.{at_inside, among-append, among_left, among_right}
+use Rattle.drt_wave.proofs.Sums.{at_inside, at_there, at_end, among-append, among_left, among_right}
 use Rattle.drt_wave.proofs.Cells.{is_net, cell_lt}
 
 module _ {A : Type 0} where
-  pub there : (l : List A) (i : ℕ) → i < length l → (a : A) × (get_elem? l i ≡ some a)
-  there [] i h = absurd (omega arith)
-  there (x ∷ xs) zero h = (x, refl)
-  there (x ∷ xs) (suc i) h = there xs i (omega arith)
-
-  -- what stands in a longer list
-  pub at_end : (l : List A) (a b : A) (j : ℕ) → get_elem? (l ++ a ∷ []) j ≡ some b → ((j < length l) × (get_elem? l j ≡ some b)) ⊎ ((j ≡ length l) × (a ≡ b))
-  at_end [] a b zero e = inr (refl, some-injective a b e)
-  at_end [] a b (suc j) e = absurd (some-ne-none b (sym e))
-  at_end (x ∷ xs) a b zero e = inl (omega arith, e)
-  at_end (x ∷ xs) a b (suc j) e = ⊎_elim
-      (λ (t : (j < length xs) × (get_elem? xs j ≡ some b)). let lt = t.0 in inl (omega arith, t.1))
-      (λ (t : (j ≡ length xs) × (a ≡ b)). inr (ap suc t.0, t.1)) (at_end xs a b j e)
-
   pub at_before : (l m : List A) (i : ℕ) → i < length l → get_elem? (l ++ m) i ≡ get_elem? l i
   at_before [] m i h = absurd (omega arith)
   at_before (x ∷ xs) m zero h = refl
@@ -155,7 +141,7 @@ module _ (t : WaveTable) (s : WaveSeat) (of : IsOf t s) where
 
   -- the lane and its seat
   pub lane_there : (v : ℕ) → v < length t.lanes → both_at v
-  lane_there v lt = let l = there t.lanes v lt in let y = there s.lanes.items v (omega (arith, of.count)) in (l.0, y.0, l.1, y.1)
+  lane_there v lt = let l = at_there t.lanes v lt in let y = at_there s.lanes.items v (omega (arith, of.count)) in (l.0, y.0, l.1, y.1)
 
   module _ (left right : WaveSeat) (cut : Cutting t.lanes s.lanes.items left.lanes.items right.lanes.items (length t.lanes)) where
     pub of_left : IsClaimSeat t.claims left.claims → left.claims.me.0 ≡ claims_left s.claims.me.0 → length t.lanes ≤ vec_capacity left.lanes → IsOf t left
@@ -164,7 +150,7 @@ module _ (t : WaveTable) (s : WaveSeat) (of : IsOf t s) where
       count = cut.count;
       room = room;
       lane = λ v l n el en.
-          let lt = at_inside t.lanes v l el in let y = (there s.lanes.items v (omega (arith, of.count))) in
+          let lt = at_inside t.lanes v l el in let y = (at_there s.lanes.items v (omega (arith, of.count))) in
           let p = cut.left v l y.0 n lt el y.1 en in
           (p.0, ap (λ m. m.parts) p.1 ∙ ap (λ k. k - 1) (of.lane v l y.0 el y.1).1 ∙ sym (ap (λ m. m.parts) is));
     }
@@ -175,7 +161,7 @@ module _ (t : WaveTable) (s : WaveSeat) (of : IsOf t s) where
       count = cut.cut_count;
       room = room;
       lane = λ v l n el en.
-          let lt = at_inside t.lanes v l el in let y = (there s.lanes.items v (omega (arith, of.count))) in
+          let lt = at_inside t.lanes v l el in let y = (at_there s.lanes.items v (omega (arith, of.count))) in
           let p = cut.right v l y.0 n el y.1 en in
           (p.0, ap (λ m. m.parts) p.1 ∙ sym (ap (λ m. m.parts) is));
     }
@@ -189,7 +175,7 @@ module _ (t : WaveTable) (s : WaveSeat) (of : IsOf t s) where
           ap (λ m. m.known) (cut.left v b.0 b.1 n (at_inside t.lanes v b.0 b.2) b.2 b.3 en).1 ∙ knows v b.1 b.3;
       raised = λ v o x has.
           let lt = at_inside s.lanes.items v has.0 has.1 in
-          let l = there t.lanes v (omega (arith, of.count)) in let n = there left.lanes.items v (omega (arith, of.count, cut.count)) in
+          let l = at_there t.lanes v (omega (arith, of.count)) in let n = at_there left.lanes.items v (omega (arith, of.count, cut.count)) in
           (n.0, n.1, subst (Among (o, x)) (sym (ap (λ m. m.raised) (cut.left v l.0 has.0 n.0 (at_inside t.lanes v l.0 l.1) l.1 has.1 n.1).1)) has.2);
       right_parts = ap (λ m. m.parts) is_right;
       right_draws = ap (λ m. m.draws) is_right;
@@ -202,8 +188,8 @@ module _ (t : WaveTable) (s : WaveSeat) (of : IsOf t s) where
     at_done : (v : ℕ) → v < length t.lanes → (l : Lane) × (y : LaneSeat) × (z : LaneSeat) × (u : LaneSeat)
         × (get_elem? t.lanes v ≡ some l) × (get_elem? s.lanes.items v ≡ some y) × (get_elem? other.lanes.items v ≡ some z) × (get_elem? n.lanes.items v ≡ some u) × IsBoth l y z u
     at_done v lt =
-        let l = there t.lanes v lt in let y = there s.lanes.items v (omega (arith, of.count)) in
-        let z = there other.lanes.items v (omega (arith, of_other.count)) in let u = there n.lanes.items v (omega (arith, glue.count)) in
+        let l = at_there t.lanes v lt in let y = at_there s.lanes.items v (omega (arith, of.count)) in
+        let z = at_there other.lanes.items v (omega (arith, of_other.count)) in let u = at_there n.lanes.items v (omega (arith, glue.count)) in
         (l.0, y.0, z.0, u.0, l.1, y.1, z.1, u.1, glue.done v l.0 y.0 z.0 u.0 (omega (arith, none)) l.1 y.1 z.1 u.1)
 
     pub of_glued : IsClaimSeat t.claims n.claims → n.claims.me.0 ≡ claims_joined s.claims.me.0 other.claims.me.0 → length t.lanes ≤ vec_capacity n.lanes → IsOf t n
@@ -213,7 +199,7 @@ module _ (t : WaveTable) (s : WaveSeat) (of : IsOf t s) where
       room = room;
       lane = λ v l u el eu.
           let lt = at_inside t.lanes v l el in
-          let y = there s.lanes.items v (omega (arith, of.count)) in let z = there other.lanes.items v (omega (arith, of_other.count)) in
+          let y = at_there s.lanes.items v (omega (arith, of.count)) in let z = at_there other.lanes.items v (omega (arith, of_other.count)) in
           let p = glue.done v l y.0 z.0 u (omega (arith, none)) el y.1 z.1 eu in
           let e1 = ap (λ m. m.parts) p.1 in let e2 = (of.lane v l y.0 el y.1).1 in let e3 = (of_other.lane v l z.0 el z.1).1 in let e4 = ap (λ m. m.parts) is in
           (p.0, omega (arith, e1, e2, e3, e4));
@@ -304,7 +290,7 @@ module _ (p : Plan) where
       let n = g.count in let len : length all ≡ length columns = ap length is ∙ length-reverse columns in
       let whole : length all ≡ vertex_count p.graph = omega (arith, n, none, count, len) in
       let col : (v : ℕ) → v < length all → IsColumn p v (get_or all v []) = λ v lt.
-      let c = there all v lt in
+      let c = at_there all v lt in
       let r : IsColumn p (length left + v) c.0 = g.column v c.0 (ap (λ (xs : List (List ℕ)). get_elem? xs v) (sym is) ∙ c.1) in
       subst (λ (q : ℕ × List ℕ). IsColumn p q.0 q.1) (λ i. ((let e : length left + v ≡ v = omega (arith, none) in e) i, sym (or_is all v c.0 [] c.1) i)) r in
       ((whole, λ v lt. (col v lt).0), λ v s ltv le. (col v (omega (arith, whole))).1 s (omega arith))

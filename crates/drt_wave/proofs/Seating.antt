@@ -1,5 +1,5 @@
 -- Steps of one seat of a lane among those of a table, and a loop that settles them all.
-use Rattle.std.proofs.Common.{◌≡◌, ◌≢◌, ℕ, zero, suc, ◌+◌, ◌/◌, ◌<◌, ◌≤◌, List, [], ◌∷◌}
+use Rattle.std.proofs.Common.{◌≡◌, ◌≢◌, ℕ, ◌+◌, ◌/◌, ◌<◌, ◌≤◌, List}
 use Rattle.std.proofs.Common.{length, get_or, set, sym, refl, ap, ◌∙◌, subst, ⊎_elim, length-set, arith}
 use Rattle.std.specs.Prelude.{vec_capacity}
 use Rattle.std.specs.Vec.{with_item}
@@ -22,12 +22,7 @@ use Rattle.drt_wave.specs.Lanes.{Settled, lane_settled}
 use Rattle.drt_wave.specs.Lane.{LaneSeat, IsLane, IsLaneSeat, IsClaimSeat}
 use Rattle.drt_wave.specs.Seats.{parts_of, HasRaised, KnowsTo, IsOf, Kept, ExpandedTo}
 use Rattle.drt_wave.proofs.Cells.{cell_vertex, cell_offset}
-use Rattle.drt_wave.proofs.Sums.{at_inside}
-
-pub at_there : {A : Type 0} (l : List A) (i : ℕ) → i < length l → (a : A) × (get_elem? l i ≡ some a)
-at_there [] i lt = absurd (omega arith)
-at_there (x ∷ xs) zero lt = (x, refl)
-at_there (x ∷ xs) (suc i) lt = at_there xs i (omega arith)
+use Rattle.drt_wave.proofs.Sums.{at_inside, at_there}
 
 -- what holds of a cell of the plan holds of it as a cell of the lane, and the other way round
 module _ (F : Net → ℕ → Type 0) (p : Plan) (v o : ℕ) (l : Lane) (is : IsLane p v l) where

@@ -1,11 +1,12 @@
 -- Sums and maxima over a list of views, of which a step changes one, and lists by what stands in them.
 use Rattle.std.proofs.Common.{◌≡◌, ℕ, zero, suc, ◌+◌, ◌<◌, ◌≤◌, ◌≢◌, ◌⊎◌, max, List, [], ◌∷◌, ◌++◌}
-use Rattle.std.proofs.Common.{length, get_or, set, sym, refl, ap, inl, inr, ⊎_elim, arith, subst, eq-eqb, ne_eqb, if◌then◌else◌, ◌==◌, ◌&&◌}
+use Rattle.std.proofs.Common.{length, get_or, set, sym, refl, ap, inl, inr, ⊎_elim, arith, subst, eq-eqb, ne_eqb, get_or-set_same, get_or-set_other, if◌then◌else◌, ◌==◌, ◌&&◌}
 use Rattle.std.proofs.lemmas.Bool.Decides.{nat_tests}
 use mathlib.Core.Logic.{dite}
 use mathlib.Core.Option.{some, some-injective, some-ne-none}
 use native.Mathlib.Decide.{dec_le, ℕ_discrete}
 use lib.ListN.{get_elem?}
+use Rattle.atomic_table.proofs.Lists.{at_set}
 use Rattle.drt_wave.specs.Net.{Among}
 use Rattle.drt_wave.specs.Sums.{total, greatest}
 use Rattle.drt_wave.specs.Claims.{times}
@@ -148,12 +149,37 @@ times-append j k l m = total-append (hits j k) l m
 pub most-append : (c : ℕ) (l m : List (ℕ × ℕ)) → most c (l ++ m) ≡ max (most c l) (most c m)
 most-append c l m = greatest-append (at_cell c) l m
 
-pub at_inside : {A : Type 0} (l : List A) (i : ℕ) (a : A) → get_elem? l i ≡ some a → i < length l
-at_inside [] i a e = absurd (some-ne-none a (sym e))
-at_inside (x ∷ xs) zero a e = omega arith
-at_inside (x ∷ xs) (suc i) a e = omega (arith, at_inside xs i a e)
+module _ {A : Type 0} where
+  pub at_inside : (l : List A) (i : ℕ) (a : A) → get_elem? l i ≡ some a → i < length l
+  at_inside [] i a e = absurd (some-ne-none a (sym e))
+  at_inside (x ∷ xs) zero a e = omega arith
+  at_inside (x ∷ xs) (suc i) a e = omega (arith, at_inside xs i a e)
+
+  pub at_there : (l : List A) (i : ℕ) → i < length l → (a : A) × (get_elem? l i ≡ some a)
+  at_there [] i lt = absurd (omega arith)
+  at_there (x ∷ xs) zero lt = (x, refl)
+  at_there (x ∷ xs) (suc i) lt = at_there xs i (omega arith)
+
+  -- what stands in a list that is one longer
+  pub at_end : (l : List A) (a b : A) (j : ℕ) → get_elem? (l ++ a ∷ []) j ≡ some b → ((j < length l) × (get_elem? l j ≡ some b)) ⊎ ((j ≡ length l) × (a ≡ b))
+  at_end [] a b zero e = inr (refl, some-injective a b e)
+  at_end [] a b (suc j) e = absurd (some-ne-none b (sym e))
+  at_end (x ∷ xs) a b zero e = inl (omega arith, e)
+  at_end (x ∷ xs) a b (suc j) e = ⊎_elim
+      (λ (t : (j < length xs) × (get_elem? xs j ≡ some b)). let lt = t.0 in inl (omega arith, t.1))
+      (λ (t : (j ≡ length xs) × (a ≡ b)). inr (ap suc t.0, t.1)) (at_end xs a b j e)
+
+  -- the fact of each element, where one of them changes
+  pub all_set : (P : A → Type 0) (l : List A) (id : ℕ) (w : A) → P w → ((j : ℕ) (u : A) → get_elem? l j ≡ some u → P u) → (j : ℕ) (u : A) → get_elem? (set l id w) j ≡ some u → P u
+  all_set P l id w mine others j u e = ⊎_elim (λ (x : (j ≡ id) × (w ≡ u)). subst P x.1 mine) (λ (x : (j ≢ id) × (get_elem? l j ≡ some u)). others j u x.1) (at_set l id j w u e)
 
 pub word_is : (ws : List ℕ) (i x : ℕ) → get_elem? ws i ≡ some x → get_or ws i 0 ≡ x
 word_is [] i x e = absurd (some-ne-none x (sym e))
 word_is (y ∷ ys) zero x e = some-injective y x e
 word_is (y ∷ ys) (suc i) x e = word_is ys i x e
+
+pub word_here : (ws : List ℕ) (i x : ℕ) → i < length ws → get_or (set ws i x) i 0 ≡ x
+word_here ws i x h = get_or-set_same ws i x 0 h
+
+pub word_there : (ws : List ℕ) (i j x : ℕ) → j ≢ i → get_or (set ws i x) j 0 ≡ get_or ws j 0
+word_there ws i j x n = get_or-set_other ws i j x 0 n

@@ -11,21 +11,27 @@ use Rattle.drt_wave.specs.Sums.{total}
 abbrev pub times : ℕ → ℕ → List (ℕ × ℕ) → ℕ
 times j k draws = total (λ d. if (d.0 == j) && (d.1 == k) then 1 else 0) draws
 
+-- a seat that has so many parts and drew nothing
 abbrev pub fresh_claims : ℕ → ClaimView
 fresh_claims parts = record { parts = parts; draws = [] }
 
+-- a seat that was joined to another one
 abbrev pub spent_claims : ClaimView
 spent_claims = record { parts = 0; draws = [] }
 
+-- what is left of a seat of which one part is split off
 abbrev pub claims_left : ClaimView → ClaimView
 claims_left v = record { parts = v.parts - 1; draws = v.draws }
 
+-- the part that is split off
 abbrev pub claims_right : ClaimView → ClaimView
 claims_right v = record { parts = 1; draws = [] }
 
+-- a seat that took in another one
 abbrev pub claims_joined : ClaimView → ClaimView → ClaimView
 claims_joined v w = record { parts = v.parts + w.parts; draws = w.draws ++ v.draws }
 
+-- a seat that drew number t of wave j
 abbrev pub with_draw : ClaimView → ℕ → ℕ → ClaimView
 with_draw v j t = record { parts = v.parts; draws = (j, t) ∷ v.draws }
 

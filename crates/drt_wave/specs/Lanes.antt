@@ -12,24 +12,31 @@ abbrev pub most : ℕ → List (ℕ × ℕ) → ℕ
 most o raised = greatest (λ r. if r.0 == o then r.1 else 0) raised
 
 module _ {F : Type 0} where
+  -- a seat that has so many parts and did nothing
   abbrev pub fresh_lane : F → ℕ → LaneView F
   fresh_lane f parts = record { fixed = Some f; parts = parts; raised = []; known = 0 }
 
+  -- a seat that was joined to another one
   abbrev pub spent_lane : LaneView F
   spent_lane = record { fixed = None; parts = 0; raised = []; known = 0 }
 
+  -- what is left of a seat of which one part is split off
   abbrev pub lane_left : LaneView F → LaneView F
   lane_left v = record { fixed = v.fixed; parts = v.parts - 1; raised = v.raised; known = v.known }
 
+  -- the part that is split off, which knows the same waves
   abbrev pub lane_right : LaneView F → LaneView F
   lane_right v = record { fixed = v.fixed; parts = 1; raised = []; known = v.known }
 
+  -- a seat that took in another one
   abbrev pub lane_joined : LaneView F → LaneView F → LaneView F
   lane_joined v w = record { fixed = v.fixed; parts = v.parts + w.parts; raised = w.raised ++ v.raised; known = v.known }
 
+  -- a seat that contributed work x at offset o
   abbrev pub lane_raised : LaneView F → ℕ → ℕ → LaneView F
   lane_raised v o x = record { fixed = v.fixed; parts = v.parts; raised = (o, x) ∷ v.raised; known = v.known }
 
+  -- a seat that knows one more wave as final
   abbrev pub lane_settled : LaneView F → LaneView F
   lane_settled v = record { fixed = v.fixed; parts = v.parts; raised = v.raised; known = v.known + 1 }
 

@@ -1,5 +1,5 @@
 -- What those have opened who open lanes side by side.
-use Rattle.std.specs.Prelude.{◌≡◌, ℕ, List, Option, Some, length}
+use Rattle.std.specs.Prelude.{◌≡◌, ℕ, ◌<◌, List, Option, Some, length}
 use mathlib.Core.Option.{some}
 use lib.ListN.{get_elem?}
 use Rattle.drt_model.specs.Digraph.{vertex_count}
@@ -15,7 +15,7 @@ pub record HasLanes (p : Plan) (places : List (Option (Lane × LaneSeat))) : Typ
   pub count : length places ≡ vertex_count p.graph
   pub lane : (v : ℕ) (l : Lane) (y : LaneSeat) → get_elem? places v ≡ some (Some (l, y)) → IsLane p v l × IsLaneSeat l y × (y.me.0 ≡ fresh_lane l.table.shared.key 1024)
 
--- The worker has words to open lanes from, and places for lanes.
+-- The worker has words to open lanes from, where it has any, and places for lanes.
 pub record IsOpener (p : Plan) (o : Opener) : Type 0 where
-  pub blank : IsBlank p o.words.items
+  pub blank : 0 < length o.words.items → IsBlank p o.words.items
   pub lanes : HasLanes p o.places.items

@@ -1,5 +1,5 @@
 -- What a worker's seat is before and after a step.
-use Rattle.std.specs.Prelude.{◌≡◌, ◌≢◌, ◌⊎◌, ℕ, ◌+◌, ◌*◌, ◌<◌, ◌≤◌, ◌%◌, ◌/◌, ◌^◌, List, [], length, vec_capacity}
+use Rattle.std.specs.Prelude.{◌≡◌, ◌≢◌, ◌⊎◌, ℕ, ◌+◌, ◌*◌, ◌<◌, ◌≤◌, ◌%◌, ◌/◌, ◌^◌, List, [], length, Vec, vec_capacity}
 use mathlib.Core.Option.{some}
 use lib.ListN.{get_elem?}
 use Rattle.drt_model.specs.Digraph.{edge_of}
@@ -34,6 +34,10 @@ pub record IsOf (t : WaveTable) (s : WaveSeat) : Type 0 where
   pub count : length s.lanes.items ≡ length t.lanes
   pub room : length t.lanes ≤ vec_capacity s.lanes
   pub lane : (v : ℕ) (l : Lane) (y : LaneSeat) → get_elem? t.lanes v ≡ some l → get_elem? s.lanes.items v ≡ some y → IsLaneSeat l y × (y.me.0.parts ≡ parts_of s)
+
+-- It has no element, and room for one of each lane.
+abbrev pub IsRoom : {A : Type 0} → WaveTable → Vec LaneSeat A → Type 0
+IsRoom t room = (room.items ≡ []) × (length t.lanes ≤ vec_capacity room)
 
 -- It contributed something, and did nothing else.
 pub record Kept (s n : WaveSeat) : Type 0 where

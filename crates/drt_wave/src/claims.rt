@@ -1,5 +1,5 @@
 //! The claim words: one for each wave, from which workers draw the numbers of its blocks.
-ghost use Rattle.std.specs.Prelude.{◌≡◌, ◌<◌, [], IfOk};
+ghost use Rattle.std.specs.Prelude.{◌≡◌, ◌<◌, IfOk};
 ghost use Rattle.drt_wave.specs.Claims.{Draws, fresh_claims, claims_left, claims_right, claims_joined};
 
 use crate::rule::{Claim, ClaimRule, Cut, Glue};

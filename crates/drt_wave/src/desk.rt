@@ -1,8 +1,8 @@
 //! What the workers of a table take their seats from.
-ghost use Rattle.std.specs.Prelude.{◌≡◌, ◌≤◌, [], length, vec_capacity, IfOk, IfErr, IfSome};
+ghost use Rattle.std.specs.Prelude.{◌≡◌, [], IfOk, IfErr, IfSome};
 ghost use Rattle.drt_wave.specs.Cells.{net_of};
 ghost use Rattle.drt_wave.specs.Shifts.{IsAtWork, IsShift};
-ghost use Rattle.drt_wave.specs.Seats.{draws_of, KnowsTo, IsOf};
+ghost use Rattle.drt_wave.specs.Seats.{draws_of, KnowsTo, IsOf, IsRoom};
 
 use crate::filling::{Crew, is_shared, work_wave};
 use crate::lane::LaneSeat;
@@ -88,10 +88,10 @@ impl<'a> Desk<'a> {
 
     /// A seat for the open wave, where that is `next` or a later one and there is a part to spare, and else the room for it back.
     pub(crate) fn take(&mut self, next: u64, room: Vec<LaneSeat>) -> Result<Shift, Vec<LaneSeat>>
-        requires room { (room.items ≡ []) × (length self.old.lanes ≤ vec_capacity room) }
+        requires room { IsRoom self.old room }
         ensures kept { self.new ≡ self.old }
         ensures shift { IfOk result (λ shift. IsShift self.old shift.wave shift.seat) }
-        ensures room { IfErr result (λ back. (back.items ≡ []) × (length self.old.lanes ≤ vec_capacity back)) }
+        ensures room { IfErr result (λ back. IsRoom self.old back) }
     {
         if self.wave >= self.waves || (self.wave as u64) < next || self.parts <= 1 {
             return Err(room);
@@ -108,7 +108,7 @@ impl<'a> Desk<'a> {
     pub(crate) fn give_back(&mut self, shift: Shift) -> Option<Vec<LaneSeat>>
         requires { IsShift self.old shift.wave shift.seat }
         ensures kept { self.new ≡ self.old }
-        ensures room { IfSome result (λ room. (room.items ≡ []) × (length self.old.lanes ≤ vec_capacity room)) }
+        ensures room { IfSome result (λ room. IsRoom self.old room) }
     {
         if self.parts >= PARTS {
             return None;

@@ -1,5 +1,5 @@
 //! The front of a finished table.
-ghost use Rattle.std.specs.Prelude.{◌≡◌, ◌+◌, ◌*◌, ◌<◌, ◌≤◌, length, IfOk};
+ghost use Rattle.std.specs.Prelude.{◌+◌, ◌*◌, ◌<◌, ◌≤◌, length, IfOk};
 ghost use Rattle.drt_model.specs.Digraph.{IsConstrainedGraph, vertex_count};
 ghost use Rattle.drt_model.specs.Legal.{AllNeighbours};
 ghost use Rattle.drt_wave.specs.Fronts.{IsRangeEntry, IsWalkEntry, IsFrontOf, IsExactFront, CoversAll, IsNextEntry};

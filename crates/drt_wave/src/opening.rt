@@ -3,7 +3,7 @@ ghost use Rattle.std.specs.Prelude.{◌≡◌, ◌<◌, ◌≤◌, length, IfOk}
 ghost use Rattle.drt_model.specs.Digraph.{vertex_count};
 ghost use Rattle.drt_pool.specs.Turns.{EachPlace};
 ghost use Rattle.drt_wave.specs.Cells.{IsPlan};
-ghost use Rattle.drt_wave.specs.Tables.{AreOpened, IsBlank};
+ghost use Rattle.drt_wave.specs.Tables.{AreOpened};
 ghost use Rattle.drt_wave.specs.Openers.{IsOpener, HasLanes};
 ghost use Rattle.drt_wave.specs.Lane.{IsLane, IsLaneSeat};
 ghost use Rattle.drt_wave.specs.Lanes.{fresh_lane};
@@ -23,7 +23,7 @@ type Opened = (Lane, LaneSeat);
 /// What a worker opened: a place for each vertex, with its lane where this worker opened it.
 #[derive(Drop)]
 pub(crate) struct Opener {
-    // What lanes open from.
+    // What lanes open from. None before the first lane, so that who opens none takes no memory for them.
     pub(crate) words: Vec<u64>,
     pub(crate) places: Vec<Option<(Lane, LaneSeat)>>,
 }
@@ -74,29 +74,79 @@ fn empty_places(alloc: Global, plan: &Plan) -> Result<Vec<Option<Opened>>, Memor
 impl Opener {
     // One that opened no lane.
     fn start(alloc: Global, plan: &Plan) -> Result<Opener, Memory>
-        requires planned { IsPlan plan.now }
         ensures { IfOk result (IsOpener plan.now) }
     {
         Ok(Opener {
-            words: vec![in alloc; 0u64; (plan.bound + 1) as usize]?,
+            words: Vec::new(alloc),
             places: empty_places(alloc, plan)?,
         })
     }
 
-    // Opens the lane of a vertex. False where memory ran out.
+    // Opens the lane of a vertex.
+    fn make(&mut self, alloc: Global, plan: &Plan, vertex: u32) -> Result<Opened, Memory>
+        requires planned { IsPlan plan.now }
+        requires vertex { vertex < vertex_count plan.now.graph }
+        requires opener { IsOpener plan.now self.old }
+        ensures opener { IsOpener plan.now self.new }
+        ensures lane { IfOk result (λ r. IsLane plan.now vertex r.0) }
+        ensures seat { IfOk result (λ r. IsLaneSeat r.0 r.1) }
+        ensures fresh { IfOk result (λ r. r.1.me.0 ≡ fresh_lane r.0.table.shared.key 1024) }
+    {
+        if self.words.is_empty() {
+            self.words = vec![in alloc; 0u64; (plan.bound + 1) as usize]?;
+        }
+        Lane::open(alloc, plan, vertex, self.words.as_mut_slice())
+    }
+
+    // Opens the lane of a vertex and puts it in its place. False where memory ran out.
     fn open(&mut self, alloc: Global, plan: &Plan, vertex: u32) -> bool
         requires planned { IsPlan plan.now }
         requires vertex { vertex < vertex_count plan.now.graph }
         requires opener { IsOpener plan.now self.old }
         ensures { IsOpener plan.now self.new }
     {
-        match Lane::open(alloc, plan, vertex, self.words.as_mut_slice()) {
+        match self.make(alloc, plan, vertex) {
             Ok(opened) => {
                 self.places[vertex as usize] = Some(opened);
                 true
             }
             Err(_) => false,
         }
+    }
+
+    // The lane of a vertex, opened here where it isn't in its place.
+    fn lane_at(&mut self, alloc: Global, plan: &Plan, vertex: u32) -> Result<Opened, Memory>
+        requires planned { IsPlan plan.now }
+        requires vertex { vertex < vertex_count plan.now.graph }
+        requires opener { IsOpener plan.now self.old }
+        ensures opener { IsOpener plan.now self.new }
+        ensures lane { IfOk result (λ r. IsLane plan.now vertex r.0) }
+        ensures seat { IfOk result (λ r. IsLaneSeat r.0 r.1) }
+        ensures fresh { IfOk result (λ r. r.1.me.0 ≡ fresh_lane r.0.table.shared.key 1024) }
+    {
+        match self.places[vertex as usize].take() {
+            Some(opened) => Ok(opened),
+            None => self.make(alloc, plan, vertex),
+        }
+    }
+
+    // The lanes in order of vertices. Those that nobody opened are opened here.
+    fn in_order(self, alloc: Global, plan: &Plan) -> Result<(Vec<Lane>, Vec<LaneSeat>), Memory>
+        requires planned { IsPlan plan.now }
+        requires opener { IsOpener plan.now self }
+        ensures count { IfOk result (λ r. length r.0.items ≡ vertex_count plan.now.graph) }
+        ensures opened { IfOk result (λ r. AreOpened plan.now 0 r.0.items r.1.items) }
+    {
+        let count = plan.graph.vertex_count();
+        let mut opener = self;
+        let mut lanes = Vec::with_capacity(alloc, count as usize)?;
+        let mut seats = Vec::with_capacity(alloc, count as usize)?;
+        'vertices: for vertex in 0..count {
+            let (lane, seat) = opener.lane_at(alloc, plan, vertex)?;
+            lanes.push_reserved(lane);
+            seats.push_reserved(seat);
+        }
+        Ok((lanes, seats))
     }
 }
 
@@ -106,21 +156,11 @@ pub(crate) fn open_all(alloc: Global, plan: &Plan) -> Result<(Vec<Lane>, Vec<Lan
     ensures count { IfOk result (λ r. length r.0.items ≡ vertex_count plan.now.graph) }
     ensures opened { IfOk result (λ r. AreOpened plan.now 0 r.0.items r.1.items) }
 {
-    let count = plan.graph.vertex_count();
-    let mut words = vec![in alloc; 0u64; (plan.bound + 1) as usize]?;
-    let mut lanes = Vec::with_capacity(alloc, count as usize)?;
-    let mut seats = Vec::with_capacity(alloc, count as usize)?;
-    'vertices: for vertex in 0..count {
-        let (lane, seat) = Lane::open(alloc, plan, vertex, words.as_mut_slice())?;
-        lanes.push_reserved(lane);
-        seats.push_reserved(seat);
-    }
-    Ok((lanes, seats))
+    Opener::start(alloc, plan)?.in_order(alloc, plan)
 }
 
 // One for each worker, of whom none opened a lane.
 fn openers(alloc: Global, plan: &Plan, workers: u32) -> Result<Vec<Opener>, Memory>
-    requires planned { IsPlan plan.now }
     ensures count { IfOk result (λ openers. length openers.items ≡ workers) }
     ensures each { IfOk result (λ openers. EachPlace (λ place opener. IsOpener plan.now opener) openers.items) }
 {
@@ -148,57 +188,6 @@ fn put_in(plan: &Plan, places: &mut Vec<Option<Opened>>, opener: Opener)
     }
 }
 
-// The lane of a vertex, opened here where nobody opened it.
-fn lane_at(
-    alloc: Global,
-    plan: &Plan,
-    places: &mut Vec<Option<Opened>>,
-    words: &mut Vec<u64>,
-    vertex: u32,
-) -> Result<Opened, Memory>
-    requires planned { IsPlan plan.now }
-    requires vertex { vertex < vertex_count plan.now.graph }
-    requires places { HasLanes plan.now places.old.items }
-    requires blank { IsBlank plan.now words.old.items }
-    ensures places { HasLanes plan.now places.new.items }
-    ensures blank { IsBlank plan.now words.new.items }
-    ensures lane { IfOk result (λ r. IsLane plan.now vertex r.0) }
-    ensures seat { IfOk result (λ r. IsLaneSeat r.0 r.1) }
-    ensures fresh { IfOk result (λ r. r.1.me.0 ≡ fresh_lane r.0.table.shared.key 1024) }
-{
-    match places[vertex as usize].take() {
-        Some(opened) => Ok(opened),
-        None => {
-            let opened = Lane::open(alloc, plan, vertex, words.as_mut_slice())?;
-            Ok(opened)
-        }
-    }
-}
-
-// The lanes in order of vertices.
-fn in_order(
-    alloc: Global,
-    plan: &Plan,
-    places: Vec<Option<Opened>>,
-) -> Result<(Vec<Lane>, Vec<LaneSeat>), Memory>
-    requires planned { IsPlan plan.now }
-    requires places { HasLanes plan.now places.items }
-    ensures count { IfOk result (λ r. length r.0.items ≡ vertex_count plan.now.graph) }
-    ensures opened { IfOk result (λ r. AreOpened plan.now 0 r.0.items r.1.items) }
-{
-    let count = plan.graph.vertex_count();
-    let mut places = places;
-    let mut words = vec![in alloc; 0u64; (plan.bound + 1) as usize]?;
-    let mut lanes = Vec::with_capacity(alloc, count as usize)?;
-    let mut seats = Vec::with_capacity(alloc, count as usize)?;
-    'vertices: for vertex in 0..count {
-        let (lane, seat) = lane_at(alloc, plan, &mut places, &mut words, vertex)?;
-        lanes.push_reserved(lane);
-        seats.push_reserved(seat);
-    }
-    Ok((lanes, seats))
-}
-
 // Puts what the workers opened together.
 fn gather(
     alloc: Global,
@@ -210,11 +199,11 @@ fn gather(
     ensures count { IfOk result (λ r. length r.0.items ≡ vertex_count plan.now.graph) }
     ensures opened { IfOk result (λ r. AreOpened plan.now 0 r.0.items r.1.items) }
 {
-    let mut places = empty_places(alloc, plan)?;
+    let mut all = Opener::start(alloc, plan)?;
     'openers: for opener in openers {
-        put_in(plan, &mut places, opener);
+        put_in(plan, &mut all.places, opener);
     }
-    in_order(alloc, plan, places)
+    all.in_order(alloc, plan)
 }
 
 /// The same, opened by several workers side by side. They begin at once, and a table's gate doesn't see their turns.

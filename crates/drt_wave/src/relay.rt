@@ -1,7 +1,8 @@
 //! What the workers of a table share.
-ghost use Rattle.std.specs.Prelude.{◌≡◌, ◌≤◌, [], length, vec_capacity, IfOk, IfErr, IfSome};
+ghost use Rattle.std.specs.Prelude.{◌≡◌, IfOk, IfErr, IfSome};
 ghost use Rattle.drt_lock.specs.Seats.{HoldsMachine, Rests};
 ghost use Rattle.drt_wave.specs.Shifts.{IsShift};
+ghost use Rattle.drt_wave.specs.Seats.{IsRoom};
 
 use crate::desk::{Desk, Shift};
 use crate::drawing::turn_some;
@@ -47,7 +48,7 @@ impl<'a> Work for Relay<'a> {
 
     ghost fits = { λ relay place hand. (hand.lock_seat.table_id ≡ relay.lock.name) × Rests relay.lock.fixed 1 0 hand.lock_seat.me
         × IfSome hand.held (λ shift. IsShift relay.table.now shift.wave shift.seat)
-        × IfSome hand.room (λ room. (room.items ≡ []) × (length relay.table.now.lanes ≤ vec_capacity room)) };
+        × IfSome hand.room (λ room. IsRoom relay.table.now room) };
 
     ghost ended = { λ relay place hand. Unit {0} };
 
@@ -69,11 +70,11 @@ impl<'a> Relay<'a> {
         requires name { hand.old.lock_seat.table_id ≡ self.now.lock.name }
         requires seat { Rests self.now.lock.fixed 1 0 hand.old.lock_seat.me }
         requires shift { IsShift self.now.table.now shift.wave shift.seat }
-        requires room { IfSome hand.old.room (λ room. (room.items ≡ []) × (length self.now.table.now.lanes ≤ vec_capacity room)) }
+        requires room { IfSome hand.old.room (λ room. IsRoom self.now.table.now room) }
         ensures name { hand.new.lock_seat.table_id ≡ self.now.lock.name }
         ensures seat { Rests self.now.lock.fixed 1 0 hand.new.lock_seat.me }
         ensures held { IfSome hand.new.held (λ s. IsShift self.now.table.now s.wave s.seat) }
-        ensures room { IfSome hand.new.room (λ room. (room.items ≡ []) × (length self.now.table.now.lanes ≤ vec_capacity room)) }
+        ensures room { IfSome hand.new.room (λ room. IsRoom self.now.table.now room) }
     {
         let mut shift = shift;
         if turn_some(self.table, &mut shift.seat, shift.wave) {
@@ -97,7 +98,7 @@ impl<'a> Relay<'a> {
         requires shift { IsShift self.now.table.now shift.wave shift.seat }
         ensures name { seat.new.table_id ≡ self.now.lock.name }
         ensures seat { Rests self.now.lock.fixed 1 0 seat.new.me }
-        ensures room { IfSome result (λ room. (room.items ≡ []) × (length self.now.table.now.lanes ≤ vec_capacity room)) }
+        ensures room { IfSome result (λ room. IsRoom self.now.table.now room) }
     {
         self.lock.enter(rt, seat);
         let (room, open) = self.give_back(seat, shift);
@@ -115,7 +116,7 @@ impl<'a> Relay<'a> {
         requires shift { IsShift self.now.lock.fixed shift.wave shift.seat }
         ensures name { seat.new.table_id ≡ seat.old.table_id }
         ensures me { seat.new.me ≡ seat.old.me }
-        ensures room { IfSome result.0 (λ room. (room.items ≡ []) × (length self.now.lock.fixed.lanes ≤ vec_capacity room)) }
+        ensures room { IfSome result.0 (λ room. IsRoom self.now.lock.fixed room) }
     {
         let desk = seat.slot_mut(self.lock.slots(), 0);
         let room = desk.give_back(shift);
@@ -127,11 +128,11 @@ impl<'a> Relay<'a> {
     fn seek<R: Wait>(&self, rt: &R, hand: &mut Hand<'a>) -> Turn
         requires name { hand.old.lock_seat.table_id ≡ self.now.lock.name }
         requires seat { Rests self.now.lock.fixed 1 0 hand.old.lock_seat.me }
-        requires room { IfSome hand.old.room (λ room. (room.items ≡ []) × (length self.now.table.now.lanes ≤ vec_capacity room)) }
+        requires room { IfSome hand.old.room (λ room. IsRoom self.now.table.now room) }
         ensures name { hand.new.lock_seat.table_id ≡ self.now.lock.name }
         ensures seat { Rests self.now.lock.fixed 1 0 hand.new.lock_seat.me }
         ensures held { IfSome hand.new.held (λ s. IsShift self.now.table.now s.wave s.seat) }
-        ensures room { IfSome hand.new.room (λ room. (room.items ≡ []) × (length self.now.table.now.lanes ≤ vec_capacity room)) }
+        ensures room { IfSome hand.new.room (λ room. IsRoom self.now.table.now room) }
     {
         hand.held = None;
         if !self.is_open(hand.next) {
@@ -160,11 +161,11 @@ impl<'a> Relay<'a> {
     ) -> (bool, Result<Shift, Vec<LaneSeat>>)
         requires name { seat.old.table_id ≡ self.now.lock.name }
         requires desk { HoldsMachine self.now.lock.fixed seat.old.me }
-        requires room { (room.items ≡ []) × (length self.now.lock.fixed.lanes ≤ vec_capacity room) }
+        requires room { IsRoom self.now.lock.fixed room }
         ensures name { seat.new.table_id ≡ seat.old.table_id }
         ensures me { seat.new.me ≡ seat.old.me }
         ensures shift { IfOk result.1 (λ s. IsShift self.now.lock.fixed s.wave s.seat) }
-        ensures room { IfErr result.1 (λ back. (back.items ≡ []) × (length self.now.lock.fixed.lanes ≤ vec_capacity back)) }
+        ensures room { IfErr result.1 (λ back. IsRoom self.now.lock.fixed back) }
     {
         let desk = seat.slot_mut(self.lock.slots(), 0);
         let taken = desk.take(next, room);

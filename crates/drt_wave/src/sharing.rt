@@ -4,7 +4,7 @@ ghost use Rattle.drt_lock.specs.Seats.{Rests};
 ghost use Rattle.drt_pool.specs.Turns.{EachPlace};
 ghost use Rattle.drt_wave.specs.Cells.{net_of};
 ghost use Rattle.drt_wave.specs.Shifts.{IsAtWork};
-ghost use Rattle.drt_wave.specs.Seats.{draws_of, KnowsTo, IsOf};
+ghost use Rattle.drt_wave.specs.Seats.{draws_of, KnowsTo, IsOf, IsRoom};
 
 use crate::desk::Desk;
 use crate::filling::Crew;
@@ -51,7 +51,7 @@ fn deal<'a>(
     ensures name { IfOk result (λ u. owner.new.table_id ≡ lock.now.name) }
     ensures owner { IfOk result (λ u. (owner.new.me.0.parts + count ≡ 1024) × Rests lock.now.fixed owner.new.me.0.parts 0 owner.new.me) }
     ensures count { IfOk result (λ u. length hands.new.items ≡ count) }
-    ensures each { IfOk result (λ u. EachPlace (λ place hand. (hand.lock_seat.table_id ≡ lock.now.name) × Rests lock.now.fixed 1 0 hand.lock_seat.me × (hand.held ≡ None) × IfSome hand.room (λ room. (room.items ≡ []) × (length table.now.lanes ≤ vec_capacity room))) hands.new.items) }
+    ensures each { IfOk result (λ u. EachPlace (λ place hand. (hand.lock_seat.table_id ≡ lock.now.name) × Rests lock.now.fixed 1 0 hand.lock_seat.me × (hand.held ≡ None) × IfSome hand.room (λ room. IsRoom table.now room)) hands.new.items) }
 {
     'hands: for _hand in 0..count {
         let room = table.room(alloc)?;

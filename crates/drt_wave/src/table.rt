@@ -1,5 +1,5 @@
 //! The table. Each step is taken by a seat, and none waits.
-ghost use Rattle.std.specs.Prelude.{◌≡◌, ◌≢◌, ℕ, ◌+◌, ◌*◌, ◌/◌, ◌<◌, ◌≤◌, [], length, vec_capacity, IfOk, IfErr};
+ghost use Rattle.std.specs.Prelude.{◌≡◌, ◌≢◌, ℕ, ◌+◌, ◌*◌, ◌/◌, ◌<◌, ◌≤◌, [], length, IfOk, IfErr};
 ghost use Rattle.drt_model.specs.Digraph.{vertex_count};
 ghost use Rattle.drt_wave.specs.Net.{Among, Reached, IsBest};
 ghost use Rattle.drt_wave.specs.Cells.{net_of, cell_at, IsPlan};
@@ -36,7 +36,7 @@ pub struct WaveTable {
 }
 
 impl WaveTable {
-    ghost use Rattle.drt_wave.specs.Seats.{parts_of, draws_of, HasRaised, KnowsTo, IsOf, Kept, IsCut, IsGlued, HasClaimed, ExpandedTo};
+    ghost use Rattle.drt_wave.specs.Seats.{parts_of, draws_of, HasRaised, KnowsTo, IsOf, IsRoom, Kept, IsCut, IsGlued, HasClaimed, ExpandedTo};
 
     /// A table of the graph's walks up to a bound in ticks, with the seat that has every part.
     pub fn start(alloc: Global, graph: &Graph, bound: u64) -> Result<(WaveTable, WaveSeat), Memory>
@@ -147,7 +147,7 @@ impl WaveTable {
 
     /// Room for a seat that is split off. The seats have no bytes, but it is asked for before a lock is taken.
     pub(crate) fn room(&self, alloc: Global) -> Result<Vec<LaneSeat>, Memory>
-        ensures { IfOk result (λ room. (room.items ≡ []) × (length self.now.lanes ≤ vec_capacity room)) }
+        ensures { IfOk result (λ room. IsRoom self.now room) }
     {
         Ok(Vec::with_capacity(alloc, self.lanes.as_slice().len())?)
     }
@@ -167,7 +167,7 @@ impl WaveTable {
     pub(crate) fn split_into(&self, seat: &mut WaveSeat, room: Vec<LaneSeat>) -> WaveSeat
         requires seat { IsOf self.now seat.old }
         requires parts { 1 < parts_of seat.old }
-        requires room { (room.items ≡ []) × (length self.now.lanes ≤ vec_capacity room) }
+        requires room { IsRoom self.now room }
         ensures seat { IsOf self.now seat.new }
         ensures new { IsOf self.now result }
         ensures cut { IsCut seat.old seat.new result }
@@ -201,7 +201,7 @@ impl WaveTable {
         requires parts { 0 < parts_of seat.old }
         ensures seat { IsOf self.now seat.new }
         ensures glued { IsGlued seat.old other seat.new }
-        ensures room { (result.items ≡ []) × (length self.now.lanes ≤ vec_capacity result) }
+        ensures room { IsRoom self.now result }
     {
         let lanes = self.lanes.as_slice();
         let WaveSeat {

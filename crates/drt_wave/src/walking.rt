@@ -1,5 +1,5 @@
 //! A walk with the greatest work of a cell, found backwards.
-ghost use Rattle.std.specs.Prelude.{◌≡◌, ℕ, ◌+◌, ◌<◌, ◌≤◌, IfOk};
+ghost use Rattle.std.specs.Prelude.{ℕ, ◌<◌, ◌≤◌, IfOk};
 ghost use Rattle.drt_model.specs.Digraph.{vertex_count};
 ghost use Rattle.drt_wave.specs.Dense.{work_at};
 ghost use Rattle.drt_wave.specs.Greatest.{HasWalk, IsGreatestWork, IsWalkTo};

@@ -1,7 +1,6 @@
-use Rattle.std.proofs.Common.{rules, ap, ◌∙◌, ◌+◌, sym, subst, length, length-append}
-use Rattle.drt_pool.specs.Turns.{EachPlace}
+use Rattle.std.proofs.Common.{rules, ap, ◌∙◌, ◌+◌, length, length-append}
+use Rattle.drt_pool.proofs.Places.{places_push}
 use Rattle.drt_wave.specs.Openers.{IsOpener}
-use Rattle.drt_wave.proofs.OpenedLanes.{each_more}
 use Rattle.drt_wave.proofs.opening.openers.Goals as goal
 
 pub workers-preserved : goal.workers-preserved
@@ -9,5 +8,5 @@ workers-preserved c =
     let inv = c.workers.invariant in let old = c.workers.openers.items in record {
       count = ap length c.push_reserved.ensures.items ∙ (length-append old _ ∙ ap (λ n. n + 1) inv.count);
       room = search (rules, inv.room);
-      each = subst (EachPlace (λ place opener. IsOpener c.args.plan.now opener)) (sym c.push_reserved.ensures.items) (each_more (λ place opener. IsOpener c.args.plan.now opener) old _ inv.each c.in_ok-opener.ensures);
+      each = places_push (λ opener. IsOpener c.args.plan.now opener) old _ _ c.push_reserved.ensures.items inv.each c.in_ok-opener.ensures;
     }

@@ -3,7 +3,7 @@ use mathlib.Core.Option.{some}
 use lib.ListN.{get_elem?}
 use Rattle.drt_wave.specs.declared.lane.Lane.{Lane}
 use Rattle.drt_wave.specs.Lane.{IsLane}
-use Rattle.drt_wave.proofs.Parting.{there}
+use Rattle.drt_wave.proofs.Sums.{at_there}
 use Rattle.drt_wave.proofs.Sums.{at_inside}
 use Rattle.drt_wave.proofs.table.WaveTable.of_lanes.Goals as goal
 
@@ -31,5 +31,5 @@ returns-clause-seat c =
 pub returns-clause-known : goal.returns-clause-known
 returns-clause-known c = λ v y at.
     let o = c.requires.opened in
-    let l = there c.args.lanes.items v (omega (arith, o.count, at_inside c.args.seats.items v y at)) in
+    let l = at_there c.args.lanes.items v (omega (arith, o.count, at_inside c.args.seats.items v y at)) in
     ap (λ m. m.known) (o.seat v l.0 y l.1 at).1
