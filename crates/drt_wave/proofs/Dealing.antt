@@ -1,28 +1,19 @@
 -- Seats are split off for workers and joined again, and the owner goes on from wave to wave.
-use Rattle.std.proofs.Common.{◌≡◌, ℕ, ◌+◌, ◌/◌, ◌%◌, ◌<◌, ◌≤◌, sym, ◌∙◌, subst, ⊎_elim, arith}
+use Rattle.std.proofs.Common.{◌≡◌, ℕ, ◌+◌, ◌/◌, ◌<◌, ◌≤◌, sym, ◌∙◌, subst, ⊎_elim, arith}
 use Rattle.drt_wave.specs.declared.plan.Plan.{Plan}
 use Rattle.drt_wave.specs.declared.seat.WaveSeat.{WaveSeat}
 use Rattle.drt_wave.specs.declared.table.WaveTable.{WaveTable}
 use Rattle.drt_wave.specs.Net.{Among}
-use Rattle.drt_wave.specs.Cells.{net_of, width}
-use Rattle.drt_wave.specs.Seats.{parts_of, draws_of, HasRaised, KnowsTo, IsOf, Turned, IsCut, IsGlued, IsExpanded, AllExpanded, HasDrawnBelow}
+use Rattle.drt_wave.specs.Cells.{net_of}
+use Rattle.drt_wave.specs.Seats.{parts_of, draws_of, KnowsTo, IsOf, Turned, IsCut, IsGlued, AllExpanded, HasDrawnBelow}
 use Rattle.drt_wave.specs.Shifts.{IsShift, IsOwner}
+use Rattle.drt_wave.proofs.Going.{expanded_on, all_on, all_none}
 
 module _ (p : Plan) where
-  -- A cell stays expanded where the seat still has contributed what it had.
-  expanded_still : (s n : WaveSeat) (c : ℕ) → ((v o x : ℕ) → HasRaised s v o x → HasRaised n v o x) → IsExpanded p s c → IsExpanded p n c
-  expanded_still s n c raised e = (e.0, e.1, λ ne t w a. raised (t / width p) (t % width p) (e.0 + w) (e.2 ne t w a))
-
-  expanded_left : (s left right : WaveSeat) → IsCut s left right → AllExpanded p s → AllExpanded p left
-  expanded_left s left right cut all j n lt a = expanded_still s left ((net_of p).cell j n) cut.raised (all j n lt (subst (Among (j, n / 64)) cut.draws a))
-
-  expanded_right : (s left right : WaveSeat) → IsCut s left right → AllExpanded p right
-  expanded_right s left right cut j n lt a = absurd (subst (Among (j, n / 64)) cut.right_draws a)
-
   expanded_glued : (s other n : WaveSeat) → IsGlued s other n → AllExpanded p s → AllExpanded p other → AllExpanded p n
   expanded_glued s other n glued all others j k lt a = ⊎_elim
-      (λ (l : Among (j, k / 64) (draws_of other)). expanded_still other n ((net_of p).cell j k) glued.other_raised (others j k lt l))
-      (λ (r : Among (j, k / 64) (draws_of s)). expanded_still s n ((net_of p).cell j k) glued.raised (all j k lt r))
+      (λ (l : Among (j, k / 64) (draws_of other)). expanded_on p other n ((net_of p).cell j k) glued.other_raised (others j k lt l))
+      (λ (r : Among (j, k / 64) (draws_of s)). expanded_on p s n ((net_of p).cell j k) glued.raised (all j k lt r))
       (glued.no_more j (k / 64) a)
 
 module _ (t : WaveTable) (j : ℕ) where
@@ -42,7 +33,7 @@ module _ (t : WaveTable) (j a waves : ℕ) where
   -- A seat is split off.
   pub owner_left : (b : ℕ) (s left right : WaveSeat) → IsOwner t j a waves s → a ≡ b + 1 → 0 < b → IsOf t left → IsCut s left right → IsOwner t j b waves left
   owner_left b s left right o is some of cut = let few = o.few in let was = o.work.parts in let parts = cut.parts in record {
-    work = record { of = of; parts = omega arith; known = cut.known j o.work.known; all = expanded_left t.plan s left right cut o.work.all };
+    work = record { of = of; parts = omega arith; known = cut.known j o.work.known; all = all_on t.plan s left cut.draws cut.raised o.work.all };
     some = some;
     few = omega arith;
     waves_are = o.waves_are;
@@ -58,7 +49,7 @@ module _ (t : WaveTable) (j a waves : ℕ) where
       of = of;
       parts = cut.right_parts;
       known = cut.right_known j o.work.known;
-      all = expanded_right t.plan s left right cut;
+      all = all_none t.plan right cut.right_draws;
     },
   )
 

@@ -10,9 +10,10 @@ use Rattle.atomic_table.specs.Table.{State, Me, step, keeps, Allows, Splits, Joi
 use Rattle.atomic_table.proofs.Lists.{at_snoc, set_here, set_else}
 use Rattle.drt_wave.specs.Net.{Net, IsNet, Among, Reaches, Reached, IsBest}
 use Rattle.drt_wave.specs.Sums.{greatest}
-use Rattle.drt_wave.specs.Lanes.{most, fresh_lane, spent_lane, lane_left, lane_right, lane_joined, lane_raised, lane_settled, Settled, Knows, InLane, glanced, raises, settles}
+use Rattle.drt_wave.specs.Lanes.{most, fresh_lane, spent_lane, lane_left, lane_right, lane_joined, lane_raised, lane_settled, Settled, Knows, IsRead, InLane, glanced, raises, settles}
 use Rattle.drt_wave.specs.declared.view.LaneView.{LaneView}
-use Rattle.drt_wave.proofs.Sums.{total-append, total-set, greatest-append, greatest-set, greatest-drop, greatest_term, greatest_at, among-append, most_more, most-append, most_among, among_most, at_inside, all_set, word_here, word_there}
+use Rattle.drt_wave.proofs.Sums.{total-append, total-set, greatest-append, greatest-set, greatest-drop, greatest_term, greatest_at, among-append}
+use Rattle.drt_wave.proofs.Sums.{most_more, most-append, most_among, among_most, at_inside, all_set, word_here, word_there}
 use Rattle.drt_wave.proofs.Bests.{positive}
 
 -- what holds of a pair's numbers holds of those of an equal one
@@ -34,6 +35,7 @@ module _ {F : Type 0} (net : F → Net) (first count : F → ℕ) (key : F) wher
 
   knows_later : (old new : List ℕ) (v : LaneView F) → Grows old new → Knows net first count key old v → Knows net first count key new v
   knows_later old new v grows k = record {
+    some = k.some;
     idle = k.idle;
     same = k.same;
     reached = k.reached;
@@ -115,6 +117,7 @@ module _ {S F : Type 0} (net : F → Net) (first count : F → ℕ) (key : F) wh
             omega (arith, word_there s.words o d (max n x) ne, h.cell d ltd, greatest-set (most_of d) s.views id 0 v w me same)))
             grows
             record {
+              some = λ _ _. part;
               idle = λ none. absurd (omega arith);
               same = k.same;
               reached = λ d y a. ⊎_elim (same_pair (λ i z. Reached g (first key + i) z) o x d y reached) (k.reached d y) a;
@@ -139,8 +142,13 @@ module _ {S F : Type 0} (net : F → Net) (first count : F → ℕ) (key : F) wh
         looked s h id o v v me refl refl k,
         (
           refl,
-          λ f e. subst (λ f. (n ≢ 0 → Reached (net f) (first f + o) n) × ((net f).wave (first f + o) ≤ v.known → IsBest (net f) (first f + o) n)) (sym (k.same f e))
-              (cell_reached s h o lt, λ low. k.final o lt low),
+          λ f e. subst (λ f. IsRead net first f v o n) (sym (k.same f e))
+              record {
+                opened = omega (arith, h.cell o lt);
+                own = λ x a. contribution_le s h id v o x me lt a;
+                reached = cell_reached s h o lt;
+                best = λ low. k.final o lt low;
+              },
         ),
       )
 
@@ -151,6 +159,7 @@ module _ {S F : Type 0} (net : F → Net) (first count : F → ℕ) (key : F) wh
         keeps,
         tt,
         looked s h id o v w me refl refl record {
+          some = k.some;
           idle = k.idle;
           same = k.same;
           reached = k.reached;
@@ -165,6 +174,7 @@ module _ {S F : Type 0} (net : F → Net) (first count : F → ℕ) (key : F) wh
       let most_of : ℕ → LaneView F → ℕ = λ d u. most d u.raised in
       let knows : (i : ℕ) (u : LaneView F) → get_elem? vs i ≡ some u → Knows net first count key s.words u = all_set (λ u. Knows net first count key s.words u) s.views id l
       record {
+        some = λ _ _. omega (arith, two);
         idle = λ none. absurd (omega arith);
         same = k.same;
         reached = k.reached;
@@ -180,6 +190,7 @@ module _ {S F : Type 0} (net : F → Net) (first count : F → ℕ) (key : F) wh
         each = λ i u at. ⊎_elim (λ (was : get_elem? vs i ≡ some u). knows i u was)
             (λ (e : r ≡ u). subst (Knows net first count key s.words) e
             record {
+              some = λ _ _. omega arith;
               idle = λ _. refl;
               same = k.same;
               reached = λ o x a. absurd a;
@@ -208,6 +219,7 @@ module _ {S F : Type 0} (net : F → Net) (first count : F → ℕ) (key : F) wh
             omega (arith, h.cell d ltd, grown, dropped, greatest_term (most_of d) s.views other w was);
         each = all_set (λ u. Knows net first count key s.words u) vs other e
             record {
+              some = λ f no. cc;
               idle = λ _. refl;
               same = λ f no. cc;
               reached = λ o x a. absurd a;
@@ -215,6 +227,7 @@ module _ {S F : Type 0} (net : F → Net) (first count : F → ℕ) (key : F) wh
             }
             (all_set (λ u. Knows net first count key s.words u) s.views id b
             record {
+              some = λ _ _. omega (arith, part);
               idle = λ none. absurd (omega arith);
               same = k.same;
               reached = λ o x a. ⊎_elim (λ (p : Among (o, x) w.raised). kw.reached o x p) (λ (q : Among (o, x) v.raised). k.reached o x q) (among-append (o, x) w.raised v.raised a);
@@ -235,6 +248,7 @@ module _ {S F : Type 0} (net : F → Net) (first count : F → ℕ) (key : F) wh
     each = λ i v at. ⊎_elim (λ (x : get_elem? [] i ≡ some v). absurd (some-ne-none v (sym x)))
         (λ (e : first_view ≡ v). subst (Knows net first count key ws) e
         record {
+          some = λ _ _. omega arith;
           idle = λ _. refl;
           same = λ f e. cc;
           reached = λ o x a. absurd a;

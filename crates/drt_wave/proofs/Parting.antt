@@ -1,6 +1,6 @@
 -- Seats that are split, joined and closed lane by lane.
 use Rattle.std.proofs.Common.{◌≡◌, ◌≢◌, ◌⊎◌, ℕ, zero, suc, ◌+◌, ◌-◌, ◌<◌, ◌≤◌, List, [], ◌∷◌, ◌++◌, length, get_or, set, reverse}
-use Rattle.std.proofs.Common.{length-append, refl, sym, ap, ◌∙◌, subst, ⊎_elim, arith}
+use Rattle.std.proofs.Common.{length-append, refl, sym, ap, ◌∙◌, subst, inl, inr, ⊎_elim, arith}
 use Rattle.std.specs.Prelude.{slice_index, vec_capacity}
 use Rattle.std.proofs.lemmas.List.{length-set, length-reverse, reverse-append}
 use mathlib.Core.Option.{some, some-injective, some-ne-none}
@@ -21,6 +21,7 @@ use Rattle.drt_wave.specs.Dense.{AreBest, AreWhole}
 use Rattle.drt_wave.specs.Seats.{parts_of, draws_of, IsOf, IsCut, IsGlued}
 use Rattle.drt_wave.proofs.Sums.{at_inside, at_there, at_end, among-append, among_left, among_right}
 use Rattle.drt_wave.proofs.Cells.{is_net, cell_lt}
+use Rattle.drt_wave.proofs.Seating.{Found, found_at, lane_read}
 
 module _ {A : Type 0} where
   pub at_before : (l m : List A) (i : ℕ) → i < length l → get_elem? (l ++ m) i ≡ get_elem? l i
@@ -36,9 +37,6 @@ module _ {A : Type 0} where
   or_is [] i a d e = absurd (some-ne-none a (sym e))
   or_is (x ∷ xs) zero a d e = some-injective x a e
   or_is (x ∷ xs) (suc i) a d e = or_is xs i a d e
-
-  pub read_at : (l m : List A) (i : ℕ) (a : A) → m ≡ l → i < length l → a ≡ get_or m i a → get_elem? l i ≡ some a
-  read_at l m i a e lt is = at_index l i a lt (is ∙ ap (λ (xs : List A). get_or xs i a) e)
 
   pub at_same : (l : List A) (i j : ℕ) (a b : A) → i ≡ j → get_elem? l i ≡ some a → get_elem? l j ≡ some b → a ≡ b
   at_same l i j a b e p q = some-injective a b (sym p ∙ ap (get_elem? l) e ∙ q)
@@ -177,8 +175,14 @@ module _ (t : WaveTable) (s : WaveSeat) (of : IsOf t s) where
           let lt = at_inside s.lanes.items v has.0 has.1 in
           let l = at_there t.lanes v (omega (arith, of.count)) in let n = at_there left.lanes.items v (omega (arith, of.count, cut.count)) in
           (n.0, n.1, subst (Among (o, x)) (sym (ap (λ m. m.raised) (cut.left v l.0 has.0 n.0 (at_inside t.lanes v l.0 l.1) l.1 has.1 n.1).1)) has.2);
+      same = λ v o x has.
+          let b = lane_there v (omega (arith, cut.count, at_inside left.lanes.items v has.0 has.1)) in
+          (b.1, b.3, subst (Among (o, x)) (ap (λ m. m.raised) (cut.left v b.0 b.1 has.0 (at_inside t.lanes v b.0 b.2) b.2 b.3 has.1).1) has.2);
       right_parts = ap (λ m. m.parts) is_right;
       right_draws = ap (λ m. m.draws) is_right;
+      right_raised = λ v o x has.
+          let b = lane_there v (omega (arith, cut.cut_count, at_inside right.lanes.items v has.0 has.1)) in
+          subst (Among (o, x)) (ap (λ m. m.raised) (cut.right v b.0 b.1 has.0 b.2 b.3 has.1).1) has.2;
       right_known = λ k knows v n en.
           let b = lane_there v (omega (arith, cut.cut_count, at_inside right.lanes.items v n en)) in
           ap (λ m. m.known) (cut.right v b.0 b.1 n b.2 b.3 en).1 ∙ knows v b.1 b.3;
@@ -224,7 +228,34 @@ module _ (t : WaveTable) (s : WaveSeat) (of : IsOf t s) where
               let d = at_done v (omega (arith, of_other.count, at_inside other.lanes.items v has.0 has.1)) in
               let a = subst (λ (w : LaneSeat). Among (o, x) w.me.0.raised) (at_same other.lanes.items v v has.0 d.2 refl has.1 d.6) has.2 in
               (d.3, d.7, subst (Among (o, x)) (sym (ap (λ m. m.raised) d.8.1)) (among_left (o, x) d.2.me.0.raised d.1.me.0.raised a));
+          only = λ v o x has.
+              let d = at_done v (omega (arith, glue.count, at_inside n.lanes.items v has.0 has.1)) in
+              let a = subst (λ (w : LaneSeat). Among (o, x) w.me.0.raised) (at_same n.lanes.items v v has.0 d.3 refl has.1 d.7) has.2 in
+              ⊎_elim (λ (p : Among (o, x) d.2.me.0.raised). inl (d.2, d.6, p)) (λ (q : Among (o, x) d.1.me.0.raised). inr (d.1, d.5, q))
+              (among-append (o, x) d.2.me.0.raised d.1.me.0.raised (subst (Among (o, x)) (ap (λ m. m.raised) d.8.1) a));
         }
+
+-- what was read at the next place where seats are split
+pub next_cut : (t : WaveTable) (s : WaveSeat) (news cut : List LaneSeat) (v : ℕ) (l : Lane) (y : LaneSeat) (xs : List Lane) → IsOf t s → Cutting t.lanes s.lanes.items news cut v
+    → v < length xs → xs ≡ t.lanes → l ≡ get_or xs v l → y ≡ get_or news v y → Found t s v l y × (get_elem? news v ≡ some y)
+next_cut t s news cut v l y xs of c ltx same is_l is_y =
+    let lt : v < length t.lanes = subst (λ (ys : List Lane). v < length ys) same ltx in
+    let at_y : get_elem? news v ≡ some y = at_index news v y (omega (arith, lt, c.count)) is_y in
+    (found_at t s v l y of (lane_read t v l xs lt same is_l) (sym (c.rest v (omega arith)) ∙ at_y), at_y)
+
+pub all_cut : (t : WaveTable) (olds news cut : List LaneSeat) (v : ℕ) (xs : List Lane) → Cutting t.lanes olds news cut v → xs ≡ t.lanes → v ≤ length xs → length xs ≤ v
+    → Cutting t.lanes olds news cut (length t.lanes)
+all_cut t olds news cut v xs c same le ge =
+    let e : length xs ≡ length t.lanes = ap length same in let is : v ≡ length t.lanes = omega arith in subst (Cutting t.lanes olds news cut) is c
+
+-- what was read at the next place where seats are joined
+pub next_glued : (t : WaveTable) (s other : WaveSeat) (news others more : List LaneSeat) (v : ℕ) (l : Lane) (y z : LaneSeat) (xs : List Lane) → IsOf t s
+    → Gluing t.lanes s.lanes.items other.lanes.items news others → others ≡ more ++ z ∷ [] → v ≡ length more → xs ≡ t.lanes → l ≡ get_or xs v l → y ≡ get_or news v y
+    → Found t s v l y × (get_elem? news v ≡ some y) × (get_elem? other.lanes.items v ≡ some z)
+next_glued t s other news others more v l y z xs of g is at same is_l is_y =
+    let p = glue_last t.lanes s.lanes.items other.lanes.items news others more v z g is at in
+    let at_y : get_elem? news v ≡ some y = at_index news v y p.2 is_y in
+    (found_at t s v l y of (lane_read t v l xs p.1 same is_l) (sym p.4 ∙ at_y), at_y, p.3)
 
 -- The cells of a vertex have their greatest works.
 abbrev pub IsColumn : Plan → ℕ → List ℕ → Type 0

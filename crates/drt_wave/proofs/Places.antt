@@ -24,14 +24,14 @@ pub empty_more : (ps : List Place) → AreEmpty ps → AreEmpty (ps ++ None ∷ 
 empty_more ps empty v q at = ⊎_elim (λ (old : get_elem? ps v ≡ some q). empty v q old) (λ (new : None ≡ q). sym new) (at_snoc ps None q v at)
 
 -- what a place says to be its own
-abbrev IsTrue : Plan → ℕ → Place → Type 0
-IsTrue p v None = Unit {0}
-IsTrue p v (Some r) = IsLane p v r.0 × IsLaneSeat r.0 r.1 × (r.1.me.0 ≡ fresh_lane r.0.table.shared.key 1024)
+abbrev IsPlaced : Plan → ℕ → Place → Type 0
+IsPlaced p v None = Unit {0}
+IsPlaced p v (Some r) = IsLane p v r.0 × IsLaneSeat r.0 r.1 × (r.1.me.0 ≡ fresh_lane r.0.table.shared.key 1024)
 
 pub has_empty : (p : Plan) (ps : List Place) → length ps ≡ vertex_count p.graph → AreEmpty ps → HasLanes p ps
 has_empty p ps count empty = record {
   count = count;
-  lane = λ v l y at. subst (IsTrue p v) (sym (empty v (Some (l, y)) at)) tt;
+  lane = λ v l y at. subst (IsPlaced p v) (sym (empty v (Some (l, y)) at)) tt;
 }
 
 -- one place is filled
@@ -40,7 +40,7 @@ pub has_filled : (p : Plan) (ps : List Place) (v : ℕ) (r : Lane × LaneSeat) �
 has_filled p ps v r has lane seat fresh = record {
   count = length-set ps v (Some r) ∙ has.count;
   lane = λ i l y at. ⊎_elim
-      (λ (x : (i ≡ v) × (Some r ≡ Some (l, y))). subst (λ (q : ℕ × Place). IsTrue p q.0 q.1) (λ k. (sym x.0 k, x.1 k)) (lane, seat, fresh))
+      (λ (x : (i ≡ v) × (Some r ≡ Some (l, y))). subst (λ (q : ℕ × Place). IsPlaced p q.0 q.1) (λ k. (sym x.0 k, x.1 k)) (lane, seat, fresh))
       (λ (x : (i ≢ v) × (get_elem? ps i ≡ some (Some (l, y)))). has.lane i l y x.1)
       (at_set ps v i (Some r) (Some (l, y)) at);
 }
@@ -50,7 +50,7 @@ pub has_emptied : (p : Plan) (ps : List Place) (v : ℕ) → HasLanes p ps → H
 has_emptied p ps v has = record {
   count = length-set ps v None ∙ has.count;
   lane = λ i l y at. ⊎_elim
-      (λ (x : (i ≡ v) × (None ≡ Some (l, y))). subst (IsTrue p i) x.1 tt)
+      (λ (x : (i ≡ v) × (None ≡ Some (l, y))). subst (IsPlaced p i) x.1 tt)
       (λ (x : (i ≢ v) × (get_elem? ps i ≡ some (Some (l, y)))). has.lane i l y x.1)
       (at_set ps v i None (Some (l, y)) at);
 }
@@ -67,7 +67,7 @@ pub has_put : (p : Plan) (ps os : List Place) (v : ℕ) (o : Place) → HasLanes
 has_put p ps os v o all others at = record {
   count = length-set ps v o ∙ all.count;
   lane = λ i l y e. ⊎_elim
-      (λ (t : (i ≡ v) × (o ≡ Some (l, y))). subst (λ k. IsTrue p k (Some (l, y))) (sym t.0) (others.lane v l y (at ∙ ap some t.1)))
+      (λ (t : (i ≡ v) × (o ≡ Some (l, y))). subst (λ k. IsPlaced p k (Some (l, y))) (sym t.0) (others.lane v l y (at ∙ ap some t.1)))
       (λ (t : (i ≢ v) × (get_elem? ps i ≡ some (Some (l, y)))). all.lane i l y t.1)
       (at_set ps v i o (Some (l, y)) e);
 }

@@ -1,6 +1,6 @@
 -- Steps of one seat of a lane among those of a table, and a loop that settles them all.
-use Rattle.std.proofs.Common.{◌≡◌, ◌≢◌, ℕ, ◌+◌, ◌/◌, ◌<◌, ◌≤◌, List}
-use Rattle.std.proofs.Common.{length, get_or, set, sym, refl, ap, ◌∙◌, subst, ⊎_elim, length-set, arith}
+use Rattle.std.proofs.Common.{◌≡◌, ◌≢◌, ◌⊎◌, ℕ, ◌+◌, ◌/◌, ◌<◌, ◌≤◌, List, ◌∷◌}
+use Rattle.std.proofs.Common.{length, get_or, set, sym, refl, ap, ◌∙◌, subst, inl, inr, ⊎_elim, length-set, arith}
 use Rattle.std.specs.Prelude.{vec_capacity}
 use Rattle.std.specs.Vec.{with_item}
 use mathlib.Core.Logic.{dite}
@@ -20,7 +20,7 @@ use Rattle.drt_wave.specs.Cells.{net_of, cell_at, width}
 use Rattle.drt_wave.specs.Keys.{lane_net, lane_first, lane_count}
 use Rattle.drt_wave.specs.Lanes.{Settled, lane_settled}
 use Rattle.drt_wave.specs.Lane.{LaneSeat, IsLane, IsLaneSeat, IsClaimSeat}
-use Rattle.drt_wave.specs.Seats.{parts_of, HasRaised, KnowsTo, IsOf, Kept, ExpandedTo}
+use Rattle.drt_wave.specs.Seats.{parts_of, HasRaised, HasNoMore, KnowsTo, IsOf, Kept, ExpandedTo}
 use Rattle.drt_wave.proofs.Cells.{cell_vertex, cell_offset}
 use Rattle.drt_wave.proofs.Sums.{at_inside, at_there}
 
@@ -43,10 +43,10 @@ pub record Found (t : WaveTable) (s : WaveSeat) (v : ℕ) (l : Lane) (y : LaneSe
 pub vertex_inside : (t : WaveTable) (v : ℕ) → v < vertex_count t.plan.graph → v < length t.lanes
 vertex_inside t v lt = subst (λ n. v < n) (sym t.laned.count) lt
 
-found_at : (t : WaveTable) (s : WaveSeat) (v : ℕ) (l : Lane) (y : LaneSeat) → IsOf t s → get_elem? t.lanes v ≡ some l → get_elem? s.lanes.items v ≡ some y → Found t s v l y
+pub found_at : (t : WaveTable) (s : WaveSeat) (v : ℕ) (l : Lane) (y : LaneSeat) → IsOf t s → get_elem? t.lanes v ≡ some l → get_elem? s.lanes.items v ≡ some y → Found t s v l y
 found_at t s v l y is at_l at_y = let h = is.lane v l y at_l at_y in record { at_lane = at_l; at_seat = at_y; lane = t.laned.each v l at_l; sits = h.0; parts = h.1 }
 
-lane_read : (t : WaveTable) (v : ℕ) (l : Lane) (xs : List Lane) → v < length t.lanes → xs ≡ t.lanes → l ≡ get_or xs v l → get_elem? t.lanes v ≡ some l
+pub lane_read : (t : WaveTable) (v : ℕ) (l : Lane) (xs : List Lane) → v < length t.lanes → xs ≡ t.lanes → l ≡ get_or xs v l → get_elem? t.lanes v ≡ some l
 lane_read t v l xs lt same is = at_index t.lanes v l lt (subst (λ ys. l ≡ get_or ys v l) same is)
 
 pub found : (t : WaveTable) (s : WaveSeat) (v : ℕ) (l : Lane) (y : LaneSeat) (xs : List Lane) → IsOf t s → v < length t.lanes → xs ≡ t.lanes → l ≡ get_or xs v l → y ≡ get_or s.lanes.items v y
@@ -102,6 +102,34 @@ module _ (s : WaveSeat) (v : ℕ) (y n : LaneSeat) (at_y : get_elem? s.lanes.ite
 
   pub with_raised : (o x : ℕ) → Among (o, x) n.me.0.raised → HasRaised (with_seat s v n) v o x
   with_raised o x a = (n, here, a)
+
+  -- what the seat of lane v contributed
+  pub raised_here : (o x : ℕ) → HasRaised s v o x → Among (o, x) y.me.0.raised
+  raised_here o x r = subst (λ (z : LaneSeat). Among (o, x) z.me.0.raised) (some-injective r.0 y (sym r.1 ∙ at_y)) r.2
+
+  -- a contribution was there before, or is one of the seat of lane v
+  pub with_only : (i o x : ℕ) → HasRaised (with_seat s v n) i o x → ((i ≡ v) × Among (o, x) n.me.0.raised) ⊎ HasRaised s i o x
+  with_only i o x r = ⊎_elim
+      (λ (e : (i ≡ v) × (n ≡ r.0)). inl (e.0, subst (λ (z : LaneSeat). Among (o, x) z.me.0.raised) (sym e.1) r.2))
+      (λ (e : (i ≢ v) × (get_elem? s.lanes.items i ≡ some r.0)). inr (r.0, e.1, r.2))
+      (at_set s.lanes.items v i n r.0 r.1)
+
+  -- the seat of lane v contributed work w at offset p, and nothing else
+  pub only_this : (p w : ℕ) → n.me.0.raised ≡ (p, w) ∷ y.me.0.raised → (i o x : ℕ) → HasRaised (with_seat s v n) i o x
+      → ((i ≡ v) × (o ≡ p) × (x ≡ w)) ⊎ HasRaised s i o x
+  only_this p w is i o x r = ⊎_elim
+      (λ (e : (i ≡ v) × Among (o, x) n.me.0.raised). ⊎_elim
+      (λ (q : (p, w) ≡ (o, x)). inl (e.0, sym (ap (λ (z : ℕ × ℕ). z.0) q), sym (ap (λ (z : ℕ × ℕ). z.1) q)))
+      (λ (a : Among (o, x) y.me.0.raised). inr (y, ap (get_elem? s.lanes.items) e.0 ∙ at_y, a))
+      (subst (Among (o, x)) is e.1))
+      (λ (was : HasRaised s i o x). inr was)
+      (with_only i o x r)
+
+  pub with_same : ((o x : ℕ) → Among (o, x) n.me.0.raised → Among (o, x) y.me.0.raised) → HasNoMore s (with_seat s v n)
+  with_same back i o x r = ⊎_elim
+      (λ (e : (i ≡ v) × Among (o, x) n.me.0.raised). (y, ap (get_elem? s.lanes.items) e.0 ∙ at_y, back o x e.1))
+      (λ (was : HasRaised s i o x). was)
+      (with_only i o x r)
 
 -- The seat of lane v passed on what the cells of its known waves have for the lane.
 abbrev Settles : Plan → ℕ → LaneView LaneKey → Type 0
@@ -205,3 +233,10 @@ module _ (t : WaveTable) (s n : WaveSeat) (is : IsOf t s) (h : AreSettled t s n 
       let u = at_there n.lanes.items i (omega (arith, inside, h.count)) in
       let d = h.done i l.0 r.0 u.0 (omega (arith, inside, is.count)) l.1 r.1 u.1 in
       (u.0, u.1, subst (λ rs. Among (o, x) rs) (sym (ap (λ (w : LaneView LaneKey). w.raised) d.1)) r.2)
+
+  pub all_same : HasNoMore s n
+  all_same i o x r =
+      let inside = at_inside n.lanes.items i r.0 r.1 in
+      let l = at_there t.lanes i (omega (arith, inside, h.count, is.count)) in
+      let d = settled i l.0 r.0 l.1 r.1 in
+      (d.0, d.1, subst (λ rs. Among (o, x) rs) (ap (λ (w : LaneView LaneKey). w.raised) d.3) r.2)

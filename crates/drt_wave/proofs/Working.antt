@@ -89,7 +89,3 @@ blocks_cover n = let q : ℕ = (n + 63) / 64 in let split : q * 64 + (n + 63) % 
 
 pub block_begins : (n b : ℕ) → b < (n + 63) / 64 → b * 64 < n
 block_begins n b lt = let q : ℕ = (n + 63) / 64 in let split : q * 64 + (n + 63) % 64 ≡ n + 63 = div-add-mod' (n + 63) 64 in omega arith
-
--- a number of a block lies behind the block's first cell, and not past its last
-pub in_block : (n b : ℕ) → n / 64 ≡ b → (b * 64 ≤ n) × (n < b * 64 + 64)
-in_block n b is = let q : ℕ = n / 64 in let split : q * 64 + n % 64 ≡ n = div-add-mod' n 64 in let low : n % 64 < 64 = mod-lt n (omega arith) in (omega arith, omega arith)

@@ -35,12 +35,15 @@ net_of p = record {
   arcs = λ c. arcs_from p (c % width p) (out_edges p.graph (c / width p));
 }
 
--- The graph is sound, each separation is at least the span, which is more than 0, and there are at most 2^22 cells.
+-- The graph is sound, there are at most 2^22 cells, and the span, which is more than 0, is the least separation, or all offsets where that is less:
+-- the greatest number that is at most each separation and at most how many offsets there are.
 pub record IsPlan (p : Plan) : Type 0 where
   pub sound : IsSound p.graph
   pub small : vertex_count p.graph * width p ≤ 4194304
   pub some : 0 < p.span
   pub apart : (v k : ℕ) → v < vertex_count p.graph → k < out_degree p.graph v → p.span ≤ (edge_of p.graph v k).sep
+  pub within : p.span ≤ width p
+  pub greatest : (n : ℕ) → n ≤ width p → ((v k : ℕ) → v < vertex_count p.graph → k < out_degree p.graph v → n ≤ (edge_of p.graph v k).sep) → n ≤ p.span
 
 -- The vertices of the list, the last first, and then v are a walk, the sum of its separations is s, that of its execution times is x, and each of its prefixes is in range
 abbrev pub WalkTo : Plan → ℕ → List ℕ → ℕ → ℕ → Type 0

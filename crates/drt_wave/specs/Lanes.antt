@@ -47,13 +47,18 @@ module _ {F : Type 0} (net : F → Net) (first count : F → ℕ) where
   Settled key v = (b : ℕ) → b < (net key).cells → (net key).wave b ≤ v.known
       → (x : ℕ) × IsBest (net key) b x × (x ≢ 0 → (o w : ℕ) → o < count key → Among (first key + o, w) ((net key).arcs b) → Among (o, x + w) v.raised)
 
+  -- What a seat did and knows is true of the words.
   pub record Knows (key : F) (ws : List ℕ) (v : LaneView F) : Type 0 where
+    -- a seat that was not joined to another one has a part
+    pub some : (f : F) → v.fixed ≡ Some f → 0 < v.parts
     -- a seat with no part has contributed nothing
     pub idle : v.parts ≡ 0 → v.raised ≡ []
     pub same : (f : F) → v.fixed ≡ Some f → f ≡ key
     pub reached : (o x : ℕ) → Among (o, x) v.raised → Reached (net key) (first key + o) x
     pub final : (o : ℕ) → o < count key → (net key).wave (first key + o) ≤ v.known → IsBest (net key) (first key + o) (slice_index ws o)
 
+  -- The rule: the seats have 1,024 parts together, each word is the greatest of what its cell opened with and what all seats contributed to it,
+  -- and what each seat knows is true.
   pub record InLane {S : Type 0} (key : F) (s : State S (LaneView F)) : Type 0 where
     pub lawful : IsNet (net key)
     pub wide : length s.words ≡ count key
@@ -66,10 +71,19 @@ module _ {F : Type 0} (net : F → Net) (first count : F → ℕ) where
 abbrev pub Said : Type 0 → Type 0 → Type 1
 Said S F = Step S → Me S (LaneView F) → ℕ → Me S (LaneView F) → Type 0
 
+module _ {F : Type 0} (net : F → Net) (first : F → ℕ) where
+  -- Number r, which was read at offset o, is no less than what the cell opened with and what the seat contributed to it, where it isn't 0 the work
+  -- of a chain, and where the cell's wave is known the greatest one.
+  pub record IsRead (key : F) (v : LaneView F) (o r : ℕ) : Type 0 where
+    pub opened : (net key).opens (first key + o) ≤ r
+    pub own : (x : ℕ) → Among (o, x) v.raised → x ≤ r
+    pub reached : r ≢ 0 → Reached (net key) (first key + o) r
+    pub best : (net key).wave (first key + o) ≤ v.known → IsBest (net key) (first key + o) r
+
 module _ {S F : Type 0} (net : F → Net) (first : F → ℕ) where
+  -- A cell was read, and nothing else done.
   abbrev pub glanced : Said S F
-  glanced st m r n = (n ≡ m)
-      × ((f : F) → m.0.fixed ≡ Some f → (r ≢ 0 → Reached (net f) (first f + st.word) r) × ((net f).wave (first f + st.word) ≤ m.0.known → IsBest (net f) (first f + st.word) r))
+  glanced st m r n = (n ≡ m) × ((f : F) → m.0.fixed ≡ Some f → IsRead net first f m.0 st.word r)
 
 -- A work was contributed to a cell.
 abbrev pub raises : {S F : Type 0} → Said S F

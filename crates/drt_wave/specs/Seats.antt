@@ -24,7 +24,7 @@ draws_of s = s.claims.me.0.draws
 abbrev pub HasRaised : WaveSeat → ℕ → ℕ → ℕ → Type 0
 HasRaised s v o x = (y : LaneSeat) × (get_elem? s.lanes.items v ≡ some y) × Among (o, x) y.me.0.raised
 
--- the waves below wave k are known as final, and wave k too
+-- it knows the waves up to wave k as final, and no others
 abbrev pub KnowsTo : ℕ → WaveSeat → Type 0
 KnowsTo k s = (v : ℕ) (y : LaneSeat) → get_elem? s.lanes.items v ≡ some y → y.me.0.known ≡ k
 
@@ -39,7 +39,11 @@ pub record IsOf (t : WaveTable) (s : WaveSeat) : Type 0 where
 abbrev pub IsRoom : {A : Type 0} → WaveTable → Vec LaneSeat A → Type 0
 IsRoom t room = (room.items ≡ []) × (length t.lanes ≤ vec_capacity room)
 
--- It contributed something, and did nothing else.
+-- from s to n it contributed nothing
+abbrev pub HasNoMore : WaveSeat → WaveSeat → Type 0
+HasNoMore s n = (v o x : ℕ) → HasRaised n v o x → HasRaised s v o x
+
+-- It contributed something, or nothing, and did nothing else.
 pub record Kept (s n : WaveSeat) : Type 0 where
   pub parts : parts_of n ≡ parts_of s
   pub draws : draws_of n ≡ draws_of s
@@ -59,8 +63,10 @@ pub record IsCut (s left right : WaveSeat) : Type 0 where
   pub draws : draws_of left ≡ draws_of s
   pub known : (k : ℕ) → KnowsTo k s → KnowsTo k left
   pub raised : (v o x : ℕ) → HasRaised s v o x → HasRaised left v o x
+  pub same : HasNoMore s left
   pub right_parts : parts_of right ≡ 1
   pub right_draws : draws_of right ≡ []
+  pub right_raised : (v o x : ℕ) → HasRaised right v o x → ⊥
   pub right_known : (k : ℕ) → KnowsTo k s → KnowsTo k right
 
 -- It took in another seat.
@@ -72,6 +78,7 @@ pub record IsGlued (s other n : WaveSeat) : Type 0 where
   pub known : (k : ℕ) → KnowsTo k s → KnowsTo k n
   pub raised : (v o x : ℕ) → HasRaised s v o x → HasRaised n v o x
   pub other_raised : (v o x : ℕ) → HasRaised other v o x → HasRaised n v o x
+  pub only : (v o x : ℕ) → HasRaised n v o x → HasRaised other v o x ⊎ HasRaised s v o x
 
 -- Number t of wave j was drawn, which is above those of the wave that the seat drew before, and r told of it. The seat with every part has drawn
 -- all numbers below it.

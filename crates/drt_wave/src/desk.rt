@@ -4,10 +4,11 @@ ghost use Rattle.drt_wave.specs.Cells.{net_of};
 ghost use Rattle.drt_wave.specs.Shifts.{IsAtWork, IsShift};
 ghost use Rattle.drt_wave.specs.Seats.{draws_of, KnowsTo, IsOf, IsRoom};
 
-use crate::filling::{Crew, is_shared, work_wave};
+use crate::crew::{Crew, is_shared};
 use crate::lane::LaneSeat;
 use crate::seat::WaveSeat;
 use crate::table::WaveTable;
+use crate::waves::work_wave;
 use drt_lock::Guarded;
 use std::marker::Model;
 
@@ -58,10 +59,9 @@ impl<'a> Guarded for Desk<'a> {
 
 impl<'a> Desk<'a> {
     /// A table whose waves before the first one that is shared are worked.
-    pub(crate) fn open(table: &'a WaveTable, owner: WaveSeat, waves: u32, crew: Crew) -> Desk<'a>
+    pub(crate) fn open(table: &'a WaveTable, owner: WaveSeat, crew: Crew) -> Desk<'a>
         requires owner { IsAtWork table.now 0 1024 owner }
         requires draws { draws_of owner ≡ [] }
-        requires waves { waves ≡ (net_of table.now.plan).waves }
         ensures { result ≡ table.now }
     {
         let mut desk = Desk {
@@ -69,7 +69,7 @@ impl<'a> Desk<'a> {
             owner,
             parts: PARTS,
             wave: 0,
-            waves,
+            waves: table.plan.wave_count(),
             crew,
         };
         desk.work_unshared();

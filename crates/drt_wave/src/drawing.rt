@@ -45,7 +45,8 @@ fn expand_row(table: &WaveTable, seat: &mut WaveSeat, wave: u32, row: &[u64; ROW
     requires within { (k : ℕ) → k < count → slice_index row.now k * 64 < (net_of table.now.plan).size wave }
     ensures seat { IsOf table.now seat.new }
     ensures kept { Kept seat.old seat.new }
-    ensures expanded { (k n : ℕ) → k < count → n < (net_of table.now.plan).size wave → n / 64 ≡ slice_index row.now k → IsExpanded table.now.plan seat.new ((net_of table.now.plan).cell wave n) }
+    ensures expanded { (k n : ℕ) → k < count → n < (net_of table.now.plan).size wave → n / 64 ≡ slice_index row.now k
+        → IsExpanded table.now.plan seat.new ((net_of table.now.plan).cell wave n) }
 {
     'drawn: for k in 0..count {
         expand_block(table, seat, wave, row[k]);

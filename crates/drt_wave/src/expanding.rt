@@ -128,7 +128,7 @@ impl WaveTable {
         ensures bound { self.now.plan.bound < 4194304 }
     {
         let first = wave as u64 * self.plan.span;
-        self.plan.span.min(self.plan.bound + 1 - first)
+        self.plan.span.min(self.plan.width() - first)
     }
 
     // How many cells a wave has.
@@ -151,7 +151,7 @@ impl WaveTable {
 }
 
 /// Draws the next block of a wave, and expands its cells. False where the number is past the wave's end.
-pub fn turn(table: &WaveTable, seat: &mut WaveSeat, wave: u32) -> bool
+pub(crate) fn turn(table: &WaveTable, seat: &mut WaveSeat, wave: u32) -> bool
     requires seat { IsOf table.now seat.old }
     requires parts { 0 < parts_of seat.old }
     requires wave { wave < (net_of table.now.plan).waves }

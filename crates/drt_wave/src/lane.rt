@@ -1,10 +1,10 @@
 //! The cells of one vertex, one for each offset, on words that threads share without a lock.
-ghost use Rattle.std.specs.Prelude.{◌≡◌, ◌≢◌, ℕ, ◌+◌, ◌<◌, ◌≤◌, length, slice_index, IfOk};
+ghost use Rattle.std.specs.Prelude.{◌≡◌, ℕ, ◌+◌, ◌<◌, ◌≤◌, length, slice_index, IfOk};
 ghost use Rattle.drt_model.specs.Digraph.{vertex_count};
-ghost use Rattle.drt_wave.specs.Net.{Reached, IsBest};
+ghost use Rattle.drt_wave.specs.Net.{Reached};
 ghost use Rattle.drt_wave.specs.Cells.{IsPlan, width};
 ghost use Rattle.drt_wave.specs.Keys.{lane_net, lane_first, lane_count};
-ghost use Rattle.drt_wave.specs.Lanes.{Settled, fresh_lane, lane_left, lane_right, lane_joined, lane_raised, lane_settled};
+ghost use Rattle.drt_wave.specs.Lanes.{Settled, IsRead, fresh_lane, lane_left, lane_right, lane_joined, lane_raised, lane_settled};
 
 use crate::column::Column;
 use crate::plan::Plan;
@@ -82,8 +82,7 @@ impl Lane {
         requires offset { offset < self.now.table.shared.table_id.words }
         ensures seat { IsLaneSeat self.now seat.new }
         ensures same { seat.new.me.0 ≡ seat.old.me.0 }
-        ensures reached { result ≢ 0 → Reached (lane_net self.now.table.shared.key) (lane_first self.now.table.shared.key + offset) result }
-        ensures best { (lane_net self.now.table.shared.key).wave (lane_first self.now.table.shared.key + offset) ≤ seat.old.me.0.known → IsBest (lane_net self.now.table.shared.key) (lane_first self.now.table.shared.key + offset) result }
+        ensures read { IsRead lane_net lane_first self.now.table.shared.key seat.old.me.0 offset result }
     {
         self.table.shared.load::<Glance>(seat, offset as usize)
     }

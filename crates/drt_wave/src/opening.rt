@@ -9,7 +9,7 @@ ghost use Rattle.drt_wave.specs.Lane.{IsLane, IsLaneSeat};
 ghost use Rattle.drt_wave.specs.Lanes.{fresh_lane};
 
 use crate::lane::{Lane, LaneSeat};
-use crate::plan::Plan;
+use crate::plan::{Plan, keeps_its_bounds};
 use drt_model::Memory;
 use drt_pool::{EagerGate, Turn, Work, run_all};
 use std::alloc::Global;
@@ -25,7 +25,7 @@ type Opened = (Lane, LaneSeat);
 pub(crate) struct Opener {
     // What lanes open from. None before the first lane, so that who opens none takes no memory for them.
     pub(crate) words: Vec<u64>,
-    pub(crate) places: Vec<Option<(Lane, LaneSeat)>>,
+    pub(crate) places: Vec<Option<Opened>>,
 }
 
 /// What those who open lanes share.
@@ -93,7 +93,7 @@ impl Opener {
         ensures fresh { IfOk result (λ r. r.1.me.0 ≡ fresh_lane r.0.table.shared.key 1024) }
     {
         if self.words.is_empty() {
-            self.words = vec![in alloc; 0u64; (plan.bound + 1) as usize]?;
+            self.words = vec![in alloc; 0u64; plan.width() as usize]?;
         }
         Lane::open(alloc, plan, vertex, self.words.as_mut_slice())
     }
@@ -160,7 +160,7 @@ pub(crate) fn open_all(alloc: Global, plan: &Plan) -> Result<(Vec<Lane>, Vec<Lan
 }
 
 // One for each worker, of whom none opened a lane.
-fn openers(alloc: Global, plan: &Plan, workers: u32) -> Result<Vec<Opener>, Memory>
+fn start_openers(alloc: Global, plan: &Plan, workers: u32) -> Result<Vec<Opener>, Memory>
     ensures count { IfOk result (λ openers. length openers.items ≡ workers) }
     ensures each { IfOk result (λ openers. EachPlace (λ place opener. IsOpener plan.now opener) openers.items) }
 {
@@ -178,7 +178,7 @@ fn put_in(plan: &Plan, places: &mut Vec<Option<Opened>>, opener: Opener)
     requires opener { IsOpener plan.now opener }
     ensures { HasLanes plan.now places.new.items }
 {
-    let _count = plan.graph.vertex_count();
+    keeps_its_bounds(&plan.graph);
     let mut opener = opener;
     'places: for v in 0..places.len() {
         match opener.places[v].take() {
@@ -189,7 +189,7 @@ fn put_in(plan: &Plan, places: &mut Vec<Option<Opened>>, opener: Opener)
 }
 
 // Puts what the workers opened together.
-fn gather(
+fn collect_lanes(
     alloc: Global,
     plan: &Plan,
     openers: Vec<Opener>,
@@ -218,12 +218,12 @@ pub(crate) fn open_together<R: Threads + Wait + Sync>(
     ensures count { IfOk result (λ r. length r.0.items ≡ vertex_count plan.now.graph) }
     ensures opened { IfOk result (λ r. AreOpened plan.now 0 r.0.items r.1.items) }
 {
-    let mut openers = openers(alloc, plan, workers)?;
+    let mut openers = start_openers(alloc, plan, workers)?;
     let opening = Opening {
         alloc,
         plan,
         next: AtomicU64::new(0),
     };
     run_all(rt, &opening, openers.as_mut_slice(), &EagerGate);
-    gather(alloc, plan, openers)
+    collect_lanes(alloc, plan, openers)
 }

@@ -1,7 +1,7 @@
 //! What a table is of.
 ghost use Rattle.std.specs.Prelude.{◌≡◌, ℕ, ◌+◌, ◌*◌, ◌<◌, ◌≤◌, IfOk};
-ghost use Rattle.drt_model.specs.Digraph.{vertex_count, out_degree, edge_of};
-ghost use Rattle.drt_wave.specs.Cells.{IsPlan};
+ghost use Rattle.drt_model.specs.Digraph.{IsSound, vertex_count, out_degree, edge_of};
+ghost use Rattle.drt_wave.specs.Cells.{IsPlan, net_of, width};
 
 use drt_graph::Graph;
 use drt_model::Memory;
@@ -16,6 +16,13 @@ pub struct Plan {
     pub span: u64,
 }
 
+/// The times of a graph are in range, and it has some vertices with few edges each. It does nothing.
+pub(crate) fn keeps_its_bounds(graph: &Graph)
+    ensures { IsSound graph.now }
+{
+    graph.vertex_count();
+}
+
 // The least of the separations out of a vertex and `most`.
 fn least_out(graph: &Graph, v: u32, most: u64) -> u64
     requires vertex { v < vertex_count graph.now }
@@ -23,8 +30,9 @@ fn least_out(graph: &Graph, v: u32, most: u64) -> u64
     ensures some { 0 < result }
     ensures within { result ≤ most }
     ensures apart { (k : ℕ) → k < out_degree graph.now v → result ≤ (edge_of graph.now v k).sep }
+    ensures greatest { (n : ℕ) → n ≤ most → ((k : ℕ) → k < out_degree graph.now v → n ≤ (edge_of graph.now v k).sep) → n ≤ result }
 {
-    let _count = graph.vertex_count();
+    keeps_its_bounds(graph);
     let degree = graph.out_degree(v);
     let mut least = most;
     'edges: for k in 0..degree {
@@ -39,6 +47,7 @@ fn least_separation(graph: &Graph, most: u64) -> u64
     ensures some { 0 < result }
     ensures within { result ≤ most }
     ensures apart { (v k : ℕ) → v < vertex_count graph.now → k < out_degree graph.now v → result ≤ (edge_of graph.now v k).sep }
+    ensures greatest { (n : ℕ) → n ≤ most → ((v k : ℕ) → v < vertex_count graph.now → k < out_degree graph.now v → n ≤ (edge_of graph.now v k).sep) → n ≤ result }
 {
     let count = graph.vertex_count();
     let mut least = most;
@@ -55,18 +64,35 @@ pub(crate) fn make_plan(alloc: Global, graph: &Graph, bound: u64) -> Result<Plan
     ensures bound { IfOk result (λ plan. plan.bound ≡ bound) }
     ensures planned { IfOk result (λ plan. IsPlan plan) }
 {
-    let _count = graph.vertex_count();
+    keeps_its_bounds(graph);
     let span = least_separation(graph, bound + 1);
     let graph = graph.copy(alloc)?;
     Ok(Plan { graph, bound, span })
 }
 
 impl Plan {
+    /// How many offsets there are.
+    pub(crate) fn width(&self) -> u64
+        requires small { vertex_count self.now.graph * (self.now.bound + 1) ≤ 4194304 }
+        ensures { result ≡ width self.now }
+    {
+        keeps_its_bounds(&self.graph);
+        self.bound + 1
+    }
+
+    /// How many waves there are.
+    pub(crate) fn wave_count(&self) -> u32
+        requires planned { IsPlan self.now }
+        ensures { result ≡ (net_of self.now).waves }
+    {
+        (self.bound / self.span + 1) as u32
+    }
+
     /// How many cells there are.
     pub(crate) fn cell_count(&self) -> u64
         requires small { vertex_count self.now.graph * (self.now.bound + 1) ≤ 4194304 }
         ensures { result ≡ vertex_count self.now.graph * (self.now.bound + 1) }
     {
-        self.graph.vertex_count() as u64 * (self.bound + 1)
+        self.graph.vertex_count() as u64 * self.width()
     }
 }

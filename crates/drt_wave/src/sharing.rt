@@ -6,8 +6,8 @@ ghost use Rattle.drt_wave.specs.Cells.{net_of};
 ghost use Rattle.drt_wave.specs.Shifts.{IsAtWork};
 ghost use Rattle.drt_wave.specs.Seats.{draws_of, KnowsTo, IsOf, IsRoom};
 
+use crate::crew::Crew;
 use crate::desk::Desk;
-use crate::filling::Crew;
 use crate::relay::{Hand, LockSeat, Relay};
 use crate::seat::WaveSeat;
 use crate::table::WaveTable;
@@ -51,7 +51,8 @@ fn deal<'a>(
     ensures name { IfOk result (λ u. owner.new.table_id ≡ lock.now.name) }
     ensures owner { IfOk result (λ u. (owner.new.me.0.parts + count ≡ 1024) × Rests lock.now.fixed owner.new.me.0.parts 0 owner.new.me) }
     ensures count { IfOk result (λ u. length hands.new.items ≡ count) }
-    ensures each { IfOk result (λ u. EachPlace (λ place hand. (hand.lock_seat.table_id ≡ lock.now.name) × Rests lock.now.fixed 1 0 hand.lock_seat.me × (hand.held ≡ None) × IfSome hand.room (λ room. IsRoom table.now room)) hands.new.items) }
+    ensures each { IfOk result (λ u. EachPlace (λ place hand. (hand.lock_seat.table_id ≡ lock.now.name) × Rests lock.now.fixed 1 0 hand.lock_seat.me
+        × (hand.held ≡ None) × IfSome hand.room (λ room. IsRoom table.now room)) hands.new.items) }
 {
     'hands: for _hand in 0..count {
         let room = table.room(alloc)?;
@@ -116,13 +117,11 @@ pub(crate) fn share_table<G: Gate, R: Threads + Wait + Sync>(
     alloc: Global,
     table: &WaveTable,
     owner: WaveSeat,
-    waves: u32,
     workers: u32,
     gate: &G,
 ) -> Result<Option<WaveSeat>, Memory>
     requires owner { IsAtWork table.now 0 1024 owner }
     requires draws { draws_of owner ≡ [] }
-    requires waves { waves ≡ (net_of table.now.plan).waves }
     requires workers { workers ≤ 16 }
     ensures seat { IfOk result (λ o. IfSome o (λ seat. IsOf table.now seat)) }
     ensures known { IfOk result (λ o. IfSome o (λ seat. KnowsTo (net_of table.now.plan).waves seat)) }
@@ -131,7 +130,7 @@ pub(crate) fn share_table<G: Gate, R: Threads + Wait + Sync>(
         count: workers,
         begins_at_once: gate.alone() == 0,
     };
-    let desk = Desk::open(table, owner, waves, crew);
+    let desk = Desk::open(table, owner, crew);
     if desk.is_done() {
         return Ok(desk.into_seat());
     }

@@ -1,7 +1,7 @@
 //! The table. Each step is taken by a seat, and none waits.
-ghost use Rattle.std.specs.Prelude.{◌≡◌, ◌≢◌, ℕ, ◌+◌, ◌*◌, ◌/◌, ◌<◌, ◌≤◌, [], length, IfOk, IfErr};
+ghost use Rattle.std.specs.Prelude.{◌≡◌, ◌≢◌, ℕ, ◌+◌, ◌*◌, ◌/◌, ◌<◌, ◌≤◌, ◌⊎◌, [], length, IfOk, IfErr};
 ghost use Rattle.drt_model.specs.Digraph.{vertex_count};
-ghost use Rattle.drt_wave.specs.Net.{Among, Reached, IsBest};
+ghost use Rattle.drt_wave.specs.Net.{Reached, IsBest};
 ghost use Rattle.drt_wave.specs.Cells.{net_of, cell_at, IsPlan};
 ghost use Rattle.drt_wave.specs.Tables.{AreLanes, AreOpened};
 ghost use Rattle.drt_wave.specs.Ways.{AreWays};
@@ -36,7 +36,7 @@ pub struct WaveTable {
 }
 
 impl WaveTable {
-    ghost use Rattle.drt_wave.specs.Seats.{parts_of, draws_of, HasRaised, KnowsTo, IsOf, IsRoom, Kept, IsCut, IsGlued, HasClaimed, ExpandedTo};
+    ghost use Rattle.drt_wave.specs.Seats.{parts_of, draws_of, HasRaised, HasNoMore, KnowsTo, IsOf, IsRoom, Kept, Turned, IsCut, IsGlued, HasClaimed, ExpandedTo};
 
     /// A table of the graph's walks up to a bound in ticks, with the seat that has every part.
     pub fn start(alloc: Global, graph: &Graph, bound: u64) -> Result<(WaveTable, WaveSeat), Memory>
@@ -46,6 +46,7 @@ impl WaveTable {
         ensures seat { IfOk result (λ r. IsOf r.0 r.1) }
         ensures parts { IfOk result (λ r. parts_of r.1 ≡ 1024) }
         ensures draws { IfOk result (λ r. draws_of r.1 ≡ []) }
+        ensures raised { IfOk result (λ r. (v o x : ℕ) → HasRaised r.1 v o x → ⊥) }
         ensures known { IfOk result (λ r. KnowsTo 0 r.1) }
     {
         let plan = make_plan(alloc, graph, bound)?;
@@ -67,10 +68,11 @@ impl WaveTable {
         ensures seat { IfOk result (λ r. IsOf r.0 r.1) }
         ensures parts { IfOk result (λ r. parts_of r.1 ≡ 1024) }
         ensures draws { IfOk result (λ r. draws_of r.1 ≡ []) }
+        ensures raised { IfOk result (λ r. (v o x : ℕ) → HasRaised r.1 v o x → ⊥) }
         ensures known { IfOk result (λ r. KnowsTo 0 r.1) }
     {
         let ways = make_ways(alloc, &plan)?;
-        let waves = (plan.bound / plan.span + 1) as u32;
+        let waves = plan.wave_count();
         let (claims, claim_seat) = Claims::start(alloc, waves)?;
         let table = WaveTable {
             plan,
@@ -91,10 +93,9 @@ impl WaveTable {
         requires parts { 0 < parts_of seat.old }
         requires wave { wave < (net_of self.now.plan).waves }
         ensures seat { IsOf self.now seat.new }
-        ensures parts { parts_of seat.new ≡ parts_of seat.old }
         ensures claimed { HasClaimed wave result seat.old seat.new }
-        ensures draws { (j k : ℕ) → Among (j, k) (draws_of seat.old) → Among (j, k) (draws_of seat.new) }
-        ensures lanes { seat.new.lanes ≡ seat.old.lanes }
+        ensures turned { Turned seat.old seat.new }
+        ensures same { HasNoMore seat.old seat.new }
     {
         self.claims.claim(&mut seat.claims, wave)
     }
@@ -109,6 +110,7 @@ impl WaveTable {
         ensures seat { IsOf self.now seat.new }
         ensures kept { Kept seat.old seat.new }
         ensures raised { HasRaised seat.new vertex offset work }
+        ensures only { (v o x : ℕ) → HasRaised seat.new v o x → ((v ≡ vertex) × (o ≡ offset) × (x ≡ work)) ⊎ HasRaised seat.old v o x }
     {
         let lane = &self.lanes.as_slice()[vertex as usize];
         lane.raise(&mut seat.lanes[vertex as usize], offset, work);
@@ -121,6 +123,9 @@ impl WaveTable {
         requires offset { offset ≤ self.now.plan.bound }
         ensures seat { IsOf self.now seat.new }
         ensures kept { Kept seat.old seat.new }
+        ensures same { HasNoMore seat.old seat.new }
+        ensures opened { (net_of self.now.plan).opens (cell_at self.now.plan vertex offset) ≤ result }
+        ensures own { (x : ℕ) → HasRaised seat.old vertex offset x → x ≤ result }
         ensures reached { result ≢ 0 → Reached (net_of self.now.plan) (cell_at self.now.plan vertex offset) result }
         ensures best { (k : ℕ) → KnowsTo k seat.old → offset / self.now.plan.span ≤ k → IsBest (net_of self.now.plan) (cell_at self.now.plan vertex offset) result }
     {
@@ -129,15 +134,16 @@ impl WaveTable {
     }
 
     /// By a look at each lane the seat that has every part, and expanded each cell up to a wave, knows the next wave as final too.
-    pub fn settle(&self, seat: &mut WaveSeat, wave: u32)
+    pub fn settle(&self, seat: &mut WaveSeat)
         requires seat { IsOf self.now seat.old }
         requires parts { parts_of seat.old ≡ 1024 }
-        requires known { KnowsTo wave seat.old }
-        requires expanded { ExpandedTo self.now.plan wave seat.old }
+        requires expanded { (k : ℕ) × KnowsTo k seat.old × ExpandedTo self.now.plan k seat.old }
         ensures seat { IsOf self.now seat.new }
-        ensures claims { seat.new.claims ≡ seat.old.claims }
+        ensures parts { parts_of seat.new ≡ parts_of seat.old }
+        ensures draws { draws_of seat.new ≡ draws_of seat.old }
         ensures raised { (v o x : ℕ) → HasRaised seat.old v o x → HasRaised seat.new v o x }
-        ensures known { KnowsTo (wave + 1) seat.new }
+        ensures same { HasNoMore seat.old seat.new }
+        ensures known { (k : ℕ) → KnowsTo k seat.old → KnowsTo (k + 1) seat.new }
     {
         let lanes = self.lanes.as_slice();
         'lanes: for v in 0..lanes.len() {

@@ -27,7 +27,7 @@ fn make_way(plan: &Plan, vertex: u32, k: u32) -> Way
 {
     let edge = plan.graph.out_edge(vertex, k);
     let target = plan.graph.vertex(edge.to);
-    let width = plan.bound + 1;
+    let width = plan.width();
     let taken = edge.sep as u64 + target.deadline as u64;
     Way {
         end: width.saturating_sub(taken) as u32,

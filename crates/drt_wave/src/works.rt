@@ -36,7 +36,7 @@ impl DenseFront {
     pub(crate) fn width(&self) -> u64
         ensures { result ≡ self.now.plan.bound + 1 }
     {
-        self.plan.bound + 1
+        self.plan.width()
     }
 
     // The cell of a vertex and an offset.

@@ -8,8 +8,5 @@ load-requires c =
     let t = c.args.self.now.table in
     (c.requires.seat.id, c.requires.offset, glances lane_net lane_first lane_count t.shared.key _ _ _ _ (subst (λ n. c.args.offset < n) c.args.self.now.counted c.requires.offset))
 
-pub returns-clause-reached : goal.returns-clause-reached
-returns-clause-reached c = (c.load.ensures.2.1 c.args.self.now.table.shared.key c.requires.seat.fixed).0
-
-pub returns-clause-best : goal.returns-clause-best
-returns-clause-best c = (c.load.ensures.2.1 c.args.self.now.table.shared.key c.requires.seat.fixed).1
+pub returns-clause-read : goal.returns-clause-read
+returns-clause-read c = c.load.ensures.2.1 c.args.self.now.table.shared.key c.requires.seat.fixed

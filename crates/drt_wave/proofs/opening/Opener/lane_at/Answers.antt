@@ -13,14 +13,17 @@ returns-in-Some-clause-opener c =
 pub returns-in-Some-clause-lane : goal.returns-in-Some-clause-lane
 returns-in-Some-clause-lane c =
     let r =
-    place_read c.args.plan.now c.args.self.now.places.items c.args.vertex c.index_mut.result.now c.in-Some.opened c.requires.opener.lanes c.requires.vertex c.index_mut.ensures.value (sym c.take.ensures.value ∙ c.in-Some.is) in r.0
+    place_read c.args.plan.now c.args.self.now.places.items c.args.vertex c.index_mut.result.now c.in-Some.opened
+    c.requires.opener.lanes c.requires.vertex c.index_mut.ensures.value (sym c.take.ensures.value ∙ c.in-Some.is) in r.0
 
 pub returns-in-Some-clause-seat : goal.returns-in-Some-clause-seat
 returns-in-Some-clause-seat c =
     let r =
-    place_read c.args.plan.now c.args.self.now.places.items c.args.vertex c.index_mut.result.now c.in-Some.opened c.requires.opener.lanes c.requires.vertex c.index_mut.ensures.value (sym c.take.ensures.value ∙ c.in-Some.is) in r.1
+    place_read c.args.plan.now c.args.self.now.places.items c.args.vertex c.index_mut.result.now c.in-Some.opened
+    c.requires.opener.lanes c.requires.vertex c.index_mut.ensures.value (sym c.take.ensures.value ∙ c.in-Some.is) in r.1
 
 pub returns-in-Some-clause-fresh : goal.returns-in-Some-clause-fresh
 returns-in-Some-clause-fresh c =
     let r =
-    place_read c.args.plan.now c.args.self.now.places.items c.args.vertex c.index_mut.result.now c.in-Some.opened c.requires.opener.lanes c.requires.vertex c.index_mut.ensures.value (sym c.take.ensures.value ∙ c.in-Some.is) in r.2
+    place_read c.args.plan.now c.args.self.now.places.items c.args.vertex c.index_mut.result.now c.in-Some.opened
+    c.requires.opener.lanes c.requires.vertex c.index_mut.ensures.value (sym c.take.ensures.value ∙ c.in-Some.is) in r.2

@@ -1,7 +1,6 @@
-use Rattle.std.proofs.Common.{◌≡◌, length, refl, sym, ap, ◌∙◌, subst, arith}
-use Rattle.atomic_table.proofs.Lists.{at_index}
+use Rattle.std.proofs.Common.{◌≡◌, ◌<◌, length, refl, sym, ap, ◌∙◌, subst, arith}
 use Rattle.drt_wave.specs.Lane.{ClaimSeat, IsClaimSeat}
-use Rattle.drt_wave.proofs.Parting.{read_at, glue_none, glue_last, glue_more, of_glued, is_glued}
+use Rattle.drt_wave.proofs.Parting.{glue_none, next_glued, glue_more, of_glued, is_glued}
 use Rattle.drt_wave.proofs.table.WaveTable.join_back.Goals as goal
 
 pub lanes-init : goal.lanes-init
@@ -11,43 +10,37 @@ lanes-init c =
 
 pub join-requires-in-Some-clause-seat : goal.join-requires-in-Some-clause-seat
 join-requires-in-Some-clause-seat c =
-    let t = c.args.self.now in let s = c.args.seat.now in let v = c.len-v.result in let y = c.index_mut.result.now in let g = c.lanes.invariant.glue in
-    let at : v ≡ length c.pop.new.self.items = omega (arith, c.len-v.ensures, c.pop.new.self.ok.0) in
-    let p = glue_last t.lanes s.lanes.items c.args.other.lanes.items _ _ _ v c.in-Some.lane_seat g c.in-Some.ensures.items at in
-    let el = read_at t.lanes _ v c.index-lanes-v.result c.as_slice-lanes.ensures p.1 c.index-lanes-v.is in
-    let ey = at_index c.lanes.seat.lanes.items v y p.2 c.index_mut.ensures.value in
-    (c.requires.seat.lane v _ y el (sym p.4 ∙ ey)).0
+    let at : c.len-v.result ≡ length c.pop.new.self.items = omega (arith, c.len-v.ensures, c.pop.new.self.ok.0) in
+    let f = next_glued c.args.self.now c.args.seat.now c.args.other _ _ _ c.len-v.result c.index-lanes-v.result c.index_mut.result.now c.in-Some.lane_seat c.as_slice-lanes.result.now
+    c.requires.seat c.lanes.invariant.glue c.in-Some.ensures.items at c.as_slice-lanes.ensures c.index-lanes-v.is c.index_mut.ensures.value in
+    f.0.sits
 
 pub join-requires-in-Some-clause-other : goal.join-requires-in-Some-clause-other
 join-requires-in-Some-clause-other c =
-    let t = c.args.self.now in let s = c.args.seat.now in let v = c.len-v.result in let g = c.lanes.invariant.glue in
-    let at : v ≡ length c.pop.new.self.items = omega (arith, c.len-v.ensures, c.pop.new.self.ok.0) in
-    let p = glue_last t.lanes s.lanes.items c.args.other.lanes.items _ _ _ v c.in-Some.lane_seat g c.in-Some.ensures.items at in
-    let el = read_at t.lanes _ v c.index-lanes-v.result c.as_slice-lanes.ensures p.1 c.index-lanes-v.is in
-    (c.requires.other.lane v _ c.in-Some.lane_seat el p.3).0
+    let at : c.len-v.result ≡ length c.pop.new.self.items = omega (arith, c.len-v.ensures, c.pop.new.self.ok.0) in
+    let f = next_glued c.args.self.now c.args.seat.now c.args.other _ _ _ c.len-v.result c.index-lanes-v.result c.index_mut.result.now c.in-Some.lane_seat c.as_slice-lanes.result.now
+    c.requires.seat c.lanes.invariant.glue c.in-Some.ensures.items at c.as_slice-lanes.ensures c.index-lanes-v.is c.index_mut.ensures.value in
+    (c.requires.other.lane c.len-v.result c.index-lanes-v.result c.in-Some.lane_seat f.0.at_lane f.2).0
 
 pub join-requires-in-Some-clause-parts : goal.join-requires-in-Some-clause-parts
 join-requires-in-Some-clause-parts c =
-    let t = c.args.self.now in let s = c.args.seat.now in let v = c.len-v.result in let y = c.index_mut.result.now in let g = c.lanes.invariant.glue in
-    let at : v ≡ length c.pop.new.self.items = omega (arith, c.len-v.ensures, c.pop.new.self.ok.0) in
-    let p = glue_last t.lanes s.lanes.items c.args.other.lanes.items _ _ _ v c.in-Some.lane_seat g c.in-Some.ensures.items at in
-    let el = read_at t.lanes _ v c.index-lanes-v.result c.as_slice-lanes.ensures p.1 c.index-lanes-v.is in
-    let ey = at_index c.lanes.seat.lanes.items v y p.2 c.index_mut.ensures.value in
-    let parts = (c.requires.seat.lane v _ y el (sym p.4 ∙ ey)).1 in omega (arith, parts, c.requires.parts)
+    let at : c.len-v.result ≡ length c.pop.new.self.items = omega (arith, c.len-v.ensures, c.pop.new.self.ok.0) in
+    let f = next_glued c.args.self.now c.args.seat.now c.args.other _ _ _ c.len-v.result c.index-lanes-v.result c.index_mut.result.now c.in-Some.lane_seat c.as_slice-lanes.result.now
+    c.requires.seat c.lanes.invariant.glue c.in-Some.ensures.items at c.as_slice-lanes.ensures c.index-lanes-v.is c.index_mut.ensures.value in
+    subst (λ n. 0 < n) (sym f.0.parts) c.requires.parts
 
 pub lanes-preserved : goal.lanes-preserved
 lanes-preserved c =
-    let t = c.args.self.now in let s = c.args.seat.now in let v = c.len-v.result in let y = c.index_mut.result.now in let g = c.lanes.invariant.glue in
-    let at : v ≡ length c.pop.new.self.items = omega (arith, c.len-v.ensures, c.pop.new.self.ok.0) in
-    let p = glue_last t.lanes s.lanes.items c.args.other.lanes.items _ _ _ v c.in-Some.lane_seat g c.in-Some.ensures.items at in
-    let el = read_at t.lanes _ v c.index-lanes-v.result c.as_slice-lanes.ensures p.1 c.index-lanes-v.is in
-    let ey = at_index c.lanes.seat.lanes.items v y p.2 c.index_mut.ensures.value in
+    let at : c.len-v.result ≡ length c.pop.new.self.items = omega (arith, c.len-v.ensures, c.pop.new.self.ok.0) in
+    let f = next_glued c.args.self.now c.args.seat.now c.args.other _ _ _ c.len-v.result c.index-lanes-v.result c.index_mut.result.now c.in-Some.lane_seat c.as_slice-lanes.result.now
+    c.requires.seat c.lanes.invariant.glue c.in-Some.ensures.items at c.as_slice-lanes.ensures c.index-lanes-v.is c.index_mut.ensures.value in
     let inv = c.lanes.invariant in let e = c.join-in-Some.ensures in
     record {
       claims = inv.claims;
       room = inv.room;
       other_room = c.pop.ensures.capacity ∙ inv.other_room;
-      glue = glue_more t.lanes s.lanes.items c.args.other.lanes.items _ _ _ v _ y c.in-Some.lane_seat _ g c.in-Some.ensures.items at el ey (e.seat, e.joined);
+      glue = glue_more c.args.self.now.lanes c.args.seat.now.lanes.items c.args.other.lanes.items _ _ _ c.len-v.result _ _ c.in-Some.lane_seat _ inv.glue c.in-Some.ensures.items at
+          f.0.at_lane f.1 (e.seat, e.joined);
     }
 
 pub returns-clause-seat : goal.returns-clause-seat

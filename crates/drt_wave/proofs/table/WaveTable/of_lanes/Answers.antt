@@ -3,8 +3,8 @@ use mathlib.Core.Option.{some}
 use lib.ListN.{get_elem?}
 use Rattle.drt_wave.specs.declared.lane.Lane.{Lane}
 use Rattle.drt_wave.specs.Lane.{IsLane}
-use Rattle.drt_wave.proofs.Sums.{at_there}
-use Rattle.drt_wave.proofs.Sums.{at_inside}
+use Rattle.drt_wave.specs.Net.{Among}
+use Rattle.drt_wave.proofs.Sums.{at_inside, at_there}
 use Rattle.drt_wave.proofs.table.WaveTable.of_lanes.Goals as goal
 
 pub invariant_of-table-clause-laned : goal.invariant_of-table-clause-laned
@@ -27,6 +27,12 @@ returns-clause-seat c =
           let el' : get_elem? c.args.lanes.items v ≡ some l = sym (ap (λ (xs : List Lane). get_elem? xs v) e) ∙ el in
           let s = o.seat v l y el' ey in (s.0, ap (λ m. m.parts) s.1 ∙ sym (ap (λ m. m.parts) f.fresh));
     }
+
+pub returns-clause-raised : goal.returns-clause-raised
+returns-clause-raised c = λ v off x has.
+    let o = c.requires.opened in
+    let l = at_there c.args.lanes.items v (omega (arith, o.count, at_inside c.args.seats.items v has.0 has.1)) in
+    subst (Among (off, x)) (ap (λ m. m.raised) (o.seat v l.0 has.0 l.1 has.1).1) has.2
 
 pub returns-clause-known : goal.returns-clause-known
 returns-clause-known c = λ v y at.

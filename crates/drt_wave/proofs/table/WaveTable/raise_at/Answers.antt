@@ -2,7 +2,7 @@ use Rattle.std.proofs.Common.{◌<◌, sym, ap, refl, subst, inl, inr, arith}
 use Rattle.drt_wave.specs.declared.view.LaneKey.{LaneKey}
 use Rattle.drt_wave.specs.declared.view.LaneView.{LaneView}
 use Rattle.drt_wave.specs.Net.{Among, Reached}
-use Rattle.drt_wave.proofs.Seating.{found, vertex_inside, to_lane, with_is_of, with_kept, with_raised}
+use Rattle.drt_wave.proofs.Seating.{found, vertex_inside, to_lane, with_is_of, with_kept, with_raised, only_this}
 use Rattle.drt_wave.proofs.table.WaveTable.raise_at.Goals as goal
 
 pub raise-requires-clause-seat : goal.raise-requires-clause-seat
@@ -42,6 +42,13 @@ returns-clause-kept c =
     (vertex_inside c.args.self.now c.args.vertex c.requires.vertex) c.as_slice.ensures c.index-as_slice-vertex.is c.index_mut.ensures.value in
     with_kept c.args.seat.now c.args.vertex c.index_mut.result.now c.raise.new.seat f.at_seat (ap (λ (w : LaneView LaneKey). w.known) c.raise.ensures.raised)
     (λ o x a. subst (λ (w : LaneView LaneKey). Among (o, x) w.raised) (sym c.raise.ensures.raised) (inr a))
+
+pub returns-clause-only : goal.returns-clause-only
+returns-clause-only c =
+    let f = found c.args.self.now c.args.seat.now c.args.vertex c.index-as_slice-vertex.result c.index_mut.result.now c.as_slice.result.now c.requires.seat
+    (vertex_inside c.args.self.now c.args.vertex c.requires.vertex) c.as_slice.ensures c.index-as_slice-vertex.is c.index_mut.ensures.value in
+    λ v o x r. only_this c.args.seat.now c.args.vertex c.index_mut.result.now c.raise.new.seat f.at_seat c.args.offset c.args.work
+    (ap (λ (w : LaneView LaneKey). w.raised) c.raise.ensures.raised) v o x r
 
 pub returns-clause-raised : goal.returns-clause-raised
 returns-clause-raised c =

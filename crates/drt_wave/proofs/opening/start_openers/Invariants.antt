@@ -2,7 +2,7 @@
 use Rattle.std.proofs.Common.{◌≡◌, ◌≤◌, length, vec_capacity}
 use Rattle.drt_pool.specs.Turns.{EachPlace}
 use Rattle.drt_wave.specs.Openers.{IsOpener}
-use Rattle.drt_wave.proofs.opening.openers.Given as goal
+use Rattle.drt_wave.proofs.opening.start_openers.Given as goal
 
 abbrev pub invariant-workers : goal.invariant-workers
 invariant-workers l = record {

@@ -1,7 +1,7 @@
 use Rattle.std.proofs.Common.{rules, ap, ◌∙◌, ◌+◌, length, length-append}
 use Rattle.drt_pool.proofs.Places.{places_push}
 use Rattle.drt_wave.specs.Openers.{IsOpener}
-use Rattle.drt_wave.proofs.opening.openers.Goals as goal
+use Rattle.drt_wave.proofs.opening.start_openers.Goals as goal
 
 pub workers-preserved : goal.workers-preserved
 workers-preserved c =

@@ -1,6 +1,6 @@
 use Rattle.std.proofs.Common.{rules, ◌∙◌, ◌+◌, ◌<◌, sym, subst, arith}
 use Rattle.drt_wave.proofs.Going.{turned_refl, turned_more, turned_some}
-use Rattle.drt_wave.proofs.filling.draw_wave.Goals as goal
+use Rattle.drt_wave.proofs.waves.draw_wave.Goals as goal
 
 pub turns-init : goal.turns-init
 turns-init c = (c.requires.seat, turned_refl _, c.requires.all, λ k lt. absurd (omega arith))

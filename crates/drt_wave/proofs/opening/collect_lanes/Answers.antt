@@ -4,7 +4,7 @@ use Rattle.std.proofs.lemmas.Iterator.Adapters.{YieldsList-from_vec}
 use Rattle.std.proofs.lemmas.Iterator.Consumers.{YieldsList-turn}
 use Rattle.drt_wave.specs.declared.opening.Opener.{Opener}
 use Rattle.drt_wave.specs.Openers.{IsOpener}
-use Rattle.drt_wave.proofs.opening.gather.Goals as goal
+use Rattle.drt_wave.proofs.opening.collect_lanes.Goals as goal
 
 pub put_in-requires-clause-opener : goal.put_in-requires-clause-opener
 put_in-requires-clause-opener c =
