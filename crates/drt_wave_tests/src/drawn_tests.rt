@@ -1,5 +1,8 @@
 //! The fronts of drawn tasks, by wave tables and by shared tables of as many workers.
+ghost use Rattle.std.specs.Prelude.{◌+◌, ◌*◌, ◌≤◌};
+ghost use Rattle.drt_model.specs.Digraph.{vertex_count};
 
+use crate::graphs::has_few_cells;
 use crate::tables::{finished_table, is_front_of};
 use drt_gen::generate;
 use drt_graph::{Graph, check};
@@ -10,23 +13,25 @@ use std::sync::Wait;
 use std::test::Fail;
 use std::thread::Threads;
 
-const BOUND: u64 = 400;
+// More than three times the longest period that a task draws, so that there are several waves, and walks of several edges.
+const BOUND: u64 = 2_000;
 
 // Whether a graph has one front by a wave table and by a shared table, each of 1, 2, 4 and 16 workers.
 fn has_one_front<R: Threads + Wait + Sync>(
     rt: &R,
     alloc: Global,
     graph: &Graph,
-) -> Result<bool, Fail> {
-    if graph.vertex_count() as u64 * (BOUND + 1) > 4_194_304 {
-        return Ok(false);
-    }
+    bound: u64,
+) -> Result<bool, Fail>
+    requires few { vertex_count graph.now * (bound + 1) ≤ 4194304 }
+    requires bound { bound ≤ 1000000 }
+{
     for workers in [1u32, 2, 4, 16] {
         if workers < 1 || workers > 16 {
             return Ok(false);
         }
-        let table = finished_table(rt, alloc, graph, BOUND, workers)?;
-        let works = fill(rt, alloc, graph, BOUND, workers, &EagerGate)?;
+        let table = finished_table(rt, alloc, graph, bound, workers)?;
+        let works = fill(rt, alloc, graph, bound, workers, &EagerGate)?;
         let front = works.front(alloc)?;
         if !is_front_of(front.as_slice(), &table) {
             return Ok(false);
@@ -35,19 +40,24 @@ fn has_one_front<R: Threads + Wait + Sync>(
     Ok(true)
 }
 
-#[test]
-fn drawn_tasks_have_the_front_of_a_shared_table(rt: HostRuntime) -> Result<(), Fail> {
-    let alloc = rt.alloc();
-    let mut tasks: u32 = 0;
-    for number in 0..17u64 {
-        let set = generate(alloc, number)?;
-        let graphs = check(alloc, &set).ok().ok_or("constrained")?;
-        for task in 0..graphs.count() {
-            let same = has_one_front(&rt, alloc, graphs.graph(task))?;
-            assert!(rt; same, "task {task} of set {number}");
-            tasks = tasks.saturating_add(1);
+// How many of the tasks of the set of a number have one front, up to the first one that hasn't.
+fn count_same<R: Threads + Wait + Sync>(rt: &R, alloc: Global, number: u64) -> Result<u32, Fail> {
+    let set = generate(alloc, number)?;
+    let graphs = check(alloc, &set).ok().ok_or("constrained")?;
+    for task in 0..graphs.count() {
+        let graph = graphs.graph(task);
+        if !has_few_cells(graph, BOUND) || !has_one_front(rt, alloc, graph, BOUND)? {
+            return Ok(task);
         }
     }
-    assert_eq!(rt; tasks, 204);
+    Ok(graphs.count())
+}
+
+// Each set has 12 tasks, so these are 204.
+#[test]
+fn drawn_tasks_have_the_front_of_a_shared_table(rt: HostRuntime) -> Result<(), Fail> {
+    for number in 0..17u64 {
+        assert_eq!(rt; count_same(&rt, rt.alloc(), number)?, 12, "set {number}");
+    }
     Ok(())
 }

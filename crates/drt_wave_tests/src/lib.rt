@@ -5,6 +5,10 @@
 #[cfg(test)]
 mod drawn_tests;
 #[cfg(test)]
+mod graphs;
+#[cfg(test)]
+mod relief;
+#[cfg(test)]
 mod seat_tests;
 #[cfg(test)]
 mod sharing_tests;

@@ -1,45 +1,36 @@
-ghost use Rattle.std.specs.Prelude.{◌≡◌, IfOk};
+ghost use Rattle.std.specs.Prelude.{◌≡◌, ◌<◌};
 ghost use Rattle.drt_wave.specs.Seats.{parts_of, IsOf};
 
-use drt_fixtures::{Shape, make_set};
-use drt_graph::check;
+use crate::graphs::{PAIR, read_cell, start_table};
+use drt_fixtures::Shape;
+use drt_fixtures::shapes::RETURNING;
 use drt_wave::{WaveSeat, WaveTable};
 use std::alloc::Global;
 use std::test::Fail;
 
-// The vertices p(1,1), q(2,1), m(1,1) with the edges p-m 1, q-m 1 and m-m 3.
-const THREE: Shape<'static> = (
-    &[(1, 1), (2, 1), (1, 1)],
-    &[(0, 2, 1), (1, 2, 1), (2, 2, 3)],
-);
-
-// The table of its walks up to 5, and the first seat.
-fn first_seat(alloc: Global) -> Result<(WaveTable, WaveSeat), Fail>
-    ensures seat { IfOk result (λ r. IsOf r.0 r.1) }
-    ensures parts { IfOk result (λ r. parts_of r.1 ≡ 1024) }
-{
-    let set = make_set(alloc, &[THREE])?.ok_or("within the limits")?;
-    let graphs = check(alloc, &set).ok().ok_or("constrained")?;
-    if graphs.count() == 0 {
-        return Err("a task".into());
-    }
-    let graph = graphs.graph(0);
-    if graph.vertex_count() > 3 {
-        return Err("three vertices".into());
-    }
-    Ok(WaveTable::start(alloc, graph, 5)?)
+// How many offsets a wave of a shape's table up to a bound spans.
+fn read_span(alloc: Global, shape: Shape<'_>, bound: u64) -> Result<u64, Fail> {
+    let (table, _seat) = start_table(alloc, shape, bound)?;
+    Ok(table.plan.span)
 }
 
 #[test]
 fn a_wave_has_as_many_offsets_as_the_least_separation(rt: HostRuntime) -> Result<(), Fail> {
-    let (table, _seat) = first_seat(rt.alloc())?;
-    assert_eq!(rt; table.plan.span, 1);
+    // Without an edge it has all 101 of them.
+    let cases: [(Shape<'_>, u64, u64); 3] = [
+        (PAIR, 150, 70),
+        (RETURNING, 5, 1),
+        ((&[(3, 2)], &[]), 100, 101),
+    ];
+    for (shape, bound, span) in cases {
+        assert_eq!(rt; read_span(rt.alloc(), shape, bound)?, span, "up to {bound}");
+    }
     Ok(())
 }
 
 #[test]
 fn two_seats_draw_different_numbers(rt: HostRuntime) -> Result<(), Fail> {
-    let (table, mut seat) = first_seat(rt.alloc())?;
+    let (table, mut seat) = start_table(rt.alloc(), RETURNING, 5)?;
     let mut other = table.split(rt.alloc(), &mut seat)?;
     let first = table.claim(&mut seat, 0);
     let second = table.claim(&mut other, 0);
@@ -49,10 +40,101 @@ fn two_seats_draw_different_numbers(rt: HostRuntime) -> Result<(), Fail> {
     Ok(())
 }
 
+// The numbers that two seats draw, and the one that the seat draws that both are joined into.
+fn draw_and_join(alloc: Global) -> Result<(u64, u64, u64), Fail> {
+    let (table, mut seat) = start_table(alloc, RETURNING, 5)?;
+    let mut other = table.split(alloc, &mut seat)?;
+    let first = table.claim(&mut seat, 0);
+    let second = table.claim(&mut other, 0);
+    table.join(&mut seat, other);
+    let third = table.claim(&mut seat, 0);
+    Ok((first, second, third))
+}
+
+#[test]
+fn the_numbers_of_two_seats_go_on_after_they_are_joined(rt: HostRuntime) -> Result<(), Fail> {
+    let (first, second, third) = draw_and_join(rt.alloc())?;
+    assert!(rt; first == 0 && second == 1 && third == 2);
+    Ok(())
+}
+
+// The first four numbers of the first wave of the pair's table.
+fn draw_four(alloc: Global) -> Result<[u64; 4], Fail> {
+    let (table, mut seat) = start_table(alloc, PAIR, 150)?;
+    let first = table.claim(&mut seat, 0);
+    let second = table.claim(&mut seat, 0);
+    let third = table.claim(&mut seat, 0);
+    let fourth = table.claim(&mut seat, 0);
+    Ok([first, second, third, fourth])
+}
+
+// The first wave has 140 cells, so three blocks of up to 64.
+#[test]
+fn a_number_past_the_end_is_no_less_than_the_number_of_blocks(rt: HostRuntime) -> Result<(), Fail> {
+    let drawn = draw_four(rt.alloc())?;
+    assert!(rt; drawn[0] == 0 && drawn[1] == 1 && drawn[2] == 2 && drawn[3] >= 3);
+    Ok(())
+}
+
+// The work in a cell of a table that was just started, of the walks up to 5.
+fn read_open(alloc: Global, cell: u32) -> Result<u64, Fail> {
+    let (table, mut seat) = start_table(alloc, RETURNING, 5)?;
+    read_cell(&table, &mut seat, cell)
+}
+
 #[test]
 fn a_cell_opens_with_the_execution_time(rt: HostRuntime) -> Result<(), Fail> {
-    let (table, mut seat) = first_seat(rt.alloc())?;
-    let open = table.glance(&mut seat, 0);
-    assert_eq!(rt; open, 1);
+    // A vertex has 6 cells. The cells at offset 0 of p(1,1) and q(2,1), and the one of p at offset 1.
+    for (cell, work) in [(0u32, 1u64), (6, 2), (1, 0)] {
+        assert_eq!(rt; read_open(rt.alloc(), cell)?, work, "cell {cell}");
+    }
+    Ok(())
+}
+
+// Raises the cell in which the walk over an edge out of a vertex ends to that walk's work, and says which cell and what work.
+fn raise_walk(
+    table: &WaveTable,
+    seat: &mut WaveSeat,
+    from: u32,
+    number: u32,
+) -> Result<(u64, u64), Fail>
+    requires seat { IsOf table.now seat.old }
+    requires parts { 0 < parts_of seat.old }
+    ensures seat { IsOf table.now seat.new }
+    ensures parts { parts_of seat.new ≡ parts_of seat.old }
+{
+    let graph = &table.plan.graph;
+    let count = graph.vertex_count();
+    if from >= count || number >= graph.out_degree(from) {
+        return Err("an edge of the graph".into());
+    }
+    let edge = graph.out_edge(from, number);
+    let offset = edge.sep as u64;
+    let first = graph.vertex(from);
+    let last = graph.vertex(edge.to);
+    let bound = table.plan.bound;
+    if first.deadline as u64 > bound || offset + last.deadline as u64 > bound {
+        return Err("within the bound".into());
+    }
+    let cell = edge.to as u64 * (bound + 1) + offset;
+    let work = first.wcet as u64 + last.wcet as u64;
+    table.raise(seat, cell as u32, work);
+    Ok((cell, work))
+}
+
+// What is raised and then read in cell 13, first for the walk q m, and then for the walk p m.
+fn raise_two(alloc: Global) -> Result<[(u64, u64, u64); 2], Fail> {
+    let (table, mut seat) = start_table(alloc, RETURNING, 5)?;
+    let (cell, work) = raise_walk(&table, &mut seat, 1, 0)?;
+    let by_q = (cell, work, read_cell(&table, &mut seat, 13)?);
+    let (cell, work) = raise_walk(&table, &mut seat, 0, 0)?;
+    let by_p = (cell, work, read_cell(&table, &mut seat, 13)?);
+    Ok([by_q, by_p])
+}
+
+// Both walks end in m, which is vertex 2, at offset 1. The work of q m is 2 + 1, and that of p m is 1 + 1.
+#[test]
+fn a_raised_cell_keeps_the_greater_work(rt: HostRuntime) -> Result<(), Fail> {
+    assert!(rt; raise_two(rt.alloc())? == [(13, 3, 3), (13, 2, 3)]);
     Ok(())
 }

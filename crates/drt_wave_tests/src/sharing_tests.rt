@@ -1,7 +1,8 @@
-ghost use Rattle.std.specs.Prelude.{◌≤◌};
-
-use drt_fixtures::{Shape, make_set};
-use drt_graph::check;
+use crate::graphs::make_graph;
+use crate::relief::Relief;
+use crate::tables::has_front;
+use drt_fixtures::Shape;
+use drt_fixtures::shapes::RETURNING;
 use drt_pool::{EagerGate, Gate, OpenGate};
 use drt_wave::{DenseFront, fill};
 use std::alloc::Global;
@@ -9,14 +10,18 @@ use std::sync::Wait;
 use std::test::Fail;
 use std::thread::Threads;
 
-// The vertices p(1,1), q(2,1), m(1,1) with the edges p-m 1, q-m 1 and m-m 3.
-const THREE: Shape<'static> = (
-    &[(1, 1), (2, 1), (1, 1)],
-    &[(0, 2, 1), (1, 2, 1), (2, 2, 3)],
-);
-
-// The vertices a(1,1), b(5,1) with edges of 10,000 there and back: each of its waves has 20,000 cells.
+// The vertices a(1,1), b(5,1) with edges of 10,000 there and back: each of its waves but the last has 20,000 cells.
 const FAR: Shape<'static> = (&[(1, 1), (5, 1)], &[(0, 1, 10_000), (1, 0, 10_000)]);
+
+// The front of its walks up to 20,001, by their last vertices: that of a, b a, a b a, b, a b and b a b.
+const FAR_FRONT: [(u32, u64, u64); 6] = [
+    (0, 0, 1),
+    (0, 10_000, 6),
+    (0, 20_000, 7),
+    (1, 0, 5),
+    (1, 10_000, 6),
+    (1, 20_000, 11),
+];
 
 // The works of a graph of this shape up to the bound, by so many workers.
 fn works_by<G: Gate, R: Threads + Wait + Sync>(
@@ -26,67 +31,59 @@ fn works_by<G: Gate, R: Threads + Wait + Sync>(
     bound: u64,
     workers: u32,
     gate: &G,
-) -> Result<DenseFront, Fail>
-    requires { bound ≤ 1000000 }
-{
-    let set = make_set(alloc, &[shape])?.ok_or("within the limits")?;
-    let graphs = check(alloc, &set).ok().ok_or("constrained")?;
-    if graphs.count() == 0 {
-        return Err("a task".into());
-    }
-    let graph = graphs.graph(0);
-    if graph.vertex_count() as u64 * (bound + 1) > 4_194_304 {
-        return Err("few cells".into());
-    }
+) -> Result<DenseFront, Fail> {
+    let graph = make_graph(alloc, shape, bound)?;
     if workers < 1 || workers > 16 {
         return Err("1 to 16 workers".into());
     }
-    Ok(fill(rt, alloc, graph, bound, workers, gate)?)
-}
-
-// Whether the front is the one wanted.
-fn has_front(alloc: Global, works: &DenseFront, wanted: &[(u32, u64, u64)]) -> Result<bool, Fail> {
-    let front = works.front(alloc)?;
-    let entries = front.as_slice();
-    if entries.len() != wanted.len() {
-        return Ok(false);
-    }
-    for i in 0..entries.len() {
-        let found = (entries[i].vertex, entries[i].offset, entries[i].work);
-        if found != wanted[i] {
-            return Ok(false);
-        }
-    }
-    Ok(true)
+    Ok(fill(rt, alloc, &graph, bound, workers, gate)?)
 }
 
 #[test]
 fn each_number_of_workers_finds_the_same_front(rt: HostRuntime) -> Result<(), Fail> {
     let wanted = [(0, 0, 1), (1, 0, 2), (2, 0, 1), (2, 1, 3), (2, 4, 4)];
     for workers in [1u32, 2, 4, 16] {
-        let works = works_by(&rt, rt.alloc(), THREE, 5, workers, &EagerGate)?;
+        let works = works_by(&rt, rt.alloc(), RETURNING, 5, workers, &EagerGate)?;
         assert!(rt; has_front(rt.alloc(), &works, &wanted)?);
-        let works = works_by(&rt, rt.alloc(), THREE, 5, workers, &OpenGate)?;
+        let works = works_by(&rt, rt.alloc(), RETURNING, 5, workers, &OpenGate)?;
         assert!(rt; has_front(rt.alloc(), &works, &wanted)?);
     }
     Ok(())
 }
 
 #[test]
-fn a_wide_wave_is_worked_by_all(rt: HostRuntime) -> Result<(), Fail> {
-    let wanted = [
-        (0, 0, 1),
-        (0, 10_000, 6),
-        (0, 20_000, 7),
-        (1, 0, 5),
-        (1, 10_000, 6),
-        (1, 20_000, 11),
-    ];
+fn each_number_of_workers_finds_the_same_front_of_wide_waves(rt: HostRuntime) -> Result<(), Fail> {
     for workers in [1u32, 2, 4, 16] {
         let works = works_by(&rt, rt.alloc(), FAR, 20_001, workers, &EagerGate)?;
-        assert!(rt; has_front(rt.alloc(), &works, &wanted)?);
+        assert!(rt; has_front(rt.alloc(), &works, &FAR_FRONT)?);
         let works = works_by(&rt, rt.alloc(), FAR, 20_001, workers, &OpenGate)?;
-        assert!(rt; has_front(rt.alloc(), &works, &wanted)?);
+        assert!(rt; has_front(rt.alloc(), &works, &FAR_FRONT)?);
     }
+    Ok(())
+}
+
+// How many turns the first of two workers has in all, where the second one begins once the first has worked a row of blocks of the second wave,
+// and the first one then waits until the second has worked all the others. None where one of the two waits in vain or the front is wrong.
+//
+// A wave of 20,000 cells has 313 blocks. By a turn a worker takes a seat for the wave that is open, or draws a row of up to 16 blocks and works
+// them; where it finds no more it gives the seat back. So the first worker takes a seat in turn 0, works 19 whole rows in the turns up to 19, and
+// the 9 blocks that are left in turn 20. In turn 21 it takes a seat for the second wave, in turn 22 it works a row, and before turn 23 it waits.
+// The second worker takes a seat for that wave in its turn 0, works 18 whole rows in the turns up to 18, and the 9 blocks that are left in turn
+// 19. Before its turn 20 the first one goes on, in turn 24 only once the second has given its seat back too.
+fn turns_with_relief<R: Threads + Wait + Sync>(rt: &R, alloc: Global) -> Result<Option<u64>, Fail> {
+    let gate = Relief::at(23, 20);
+    let works = works_by(rt, alloc, FAR, 20_001, 2, &gate)?;
+    if !has_front(alloc, &works, &FAR_FRONT)? {
+        return Ok(None);
+    }
+    Ok(gate.first_turns())
+}
+
+// The first worker finds no block left in turn 23, in which the last wave is worked too, since that one is too small to be shared. It stops in
+// turn 24, its 25th. Had the second worker worked no block of the second wave, the first one would have had 21 turns in that wave too, and 43 in
+// all. Were the second wave not shared, it would have had 22.
+#[test]
+fn a_second_worker_works_the_rest_of_a_later_wave(rt: HostRuntime) -> Result<(), Fail> {
+    assert_eq!(rt; turns_with_relief(&rt, rt.alloc())?, Some(25));
     Ok(())
 }

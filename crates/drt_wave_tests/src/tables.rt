@@ -1,4 +1,4 @@
-//! Tables of labels, beside which tests hold fronts of wave tables.
+//! What tests hold fronts of wave tables beside: the entries that are wanted, and tables of labels.
 ghost use Rattle.std.specs.Prelude.{◌≤◌};
 
 use drt_demand::DemandLabel;
@@ -7,6 +7,7 @@ use drt_model::FrontEntry;
 use drt_pool::EagerGate;
 use drt_search::search_together;
 use drt_table::{Table, TableReply};
+use drt_wave::DenseFront;
 use std::alloc::Global;
 use std::sync::Wait;
 use std::test::Fail;
@@ -54,4 +55,24 @@ pub(crate) fn is_front_of(front: &[FrontEntry], table: &Table<DemandLabel>) -> b
         }
     }
     kept == front.len()
+}
+
+/// Whether the front is the one wanted.
+pub(crate) fn has_front(
+    alloc: Global,
+    works: &DenseFront,
+    wanted: &[(u32, u64, u64)],
+) -> Result<bool, Fail> {
+    let front = works.front(alloc)?;
+    let entries = front.as_slice();
+    if entries.len() != wanted.len() {
+        return Ok(false);
+    }
+    for i in 0..entries.len() {
+        let found = (entries[i].vertex, entries[i].offset, entries[i].work);
+        if found != wanted[i] {
+            return Ok(false);
+        }
+    }
+    Ok(true)
 }

@@ -1,16 +1,18 @@
-//! Drawn tasks with many waves of 8,192 cells and more, which several workers share.
-ghost use Rattle.std.specs.Prelude.{◌<◌, ◌≤◌};
+//! Drawn tasks with many waves of 8,192 cells and more.
+ghost use Rattle.std.specs.Prelude.{◌+◌, ◌*◌, ◌≤◌, IfOk};
+ghost use Rattle.drt_model.specs.Digraph.{vertex_count};
 
+use crate::graphs::make_graph;
 use crate::tables::{finished_table, is_front_of};
 use drt_drawn::Draws;
-use drt_fixtures::make_set;
-use drt_graph::{Graph, check};
+use drt_graph::Graph;
+use drt_meeting::Meeting;
 use drt_pool::{EagerGate, Gate, OpenGate};
 use drt_wave::{DenseFront, dense_front, fill};
 use std::alloc::Global;
 use std::sync::Wait;
 use std::test::Fail;
-use std::thread::Threads;
+use std::thread::{Threads, available_parallelism};
 
 // No separation is less. So each wave has at least 12,000 cells, since there are 12 vertices.
 const LEAST: u32 = 1_000;
@@ -71,16 +73,16 @@ fn is_same_by_all<G: Gate, R: Threads + Wait + Sync>(
     alloc: Global,
     graph: &Graph,
     alone: &DenseFront,
+    bound: u64,
     gate: &G,
-) -> Result<bool, Fail> {
-    if graph.vertex_count() as u64 * (BOUND + 1) > 4_194_304 {
-        return Ok(false);
-    }
+) -> Result<bool, Fail>
+    requires few { vertex_count graph.now * (bound + 1) ≤ 4194304 }
+{
     for workers in [2u32, 4, 16] {
         if workers < 1 || workers > 16 {
             return Ok(false);
         }
-        let works = fill(rt, alloc, graph, BOUND, workers, gate)?;
+        let works = fill(rt, alloc, graph, bound, workers, gate)?;
         if !is_same(&works, alone) {
             return Ok(false);
         }
@@ -93,43 +95,70 @@ fn has_one_table<R: Threads + Wait + Sync>(
     rt: &R,
     alloc: Global,
     graph: &Graph,
-) -> Result<bool, Fail> {
-    if graph.vertex_count() as u64 * (BOUND + 1) > 4_194_304 {
-        return Ok(false);
-    }
-    let alone = dense_front(alloc, graph, BOUND)?;
-    let table = finished_table(rt, alloc, graph, BOUND, 1)?;
+    bound: u64,
+) -> Result<bool, Fail>
+    requires few { vertex_count graph.now * (bound + 1) ≤ 4194304 }
+    requires bound { bound ≤ 1000000 }
+{
+    let alone = dense_front(alloc, graph, bound)?;
+    let table = finished_table(rt, alloc, graph, bound, 1)?;
     let front = alone.front(alloc)?;
     if !is_front_of(front.as_slice(), &table) {
         return Ok(false);
     }
-    let eager = is_same_by_all(rt, alloc, graph, &alone, &EagerGate)?;
-    let open = is_same_by_all(rt, alloc, graph, &alone, &OpenGate)?;
+    let eager = is_same_by_all(rt, alloc, graph, &alone, bound, &EagerGate)?;
+    let open = is_same_by_all(rt, alloc, graph, &alone, bound, &OpenGate)?;
     Ok(eager && open)
 }
 
-// The same for the task that is drawn from this number.
+// The graph that is drawn from this number, which has few enough cells up to a bound.
+fn draw_graph(alloc: Global, number: u64, bound: u64) -> Result<Graph, Fail>
+    ensures { IfOk result (λ graph. vertex_count graph * (bound + 1) ≤ 4194304) }
+{
+    let mut draws = Draws { state: number };
+    let vertices = draw_vertices(&mut draws);
+    let edges = draw_edges(&mut draws);
+    make_graph(alloc, (&vertices, &edges), bound)
+}
+
+// Whether the graph that is drawn from this number has one table.
 fn has_one_table_of<R: Threads + Wait + Sync>(
     rt: &R,
     alloc: Global,
     number: u64,
 ) -> Result<bool, Fail> {
-    let mut draws = Draws { state: number };
-    let vertices = draw_vertices(&mut draws);
-    let edges = draw_edges(&mut draws);
-    let set = make_set(alloc, &[(&vertices, &edges)])?.ok_or("within the limits")?;
-    let graphs = check(alloc, &set).ok().ok_or("constrained")?;
-    if graphs.count() == 0 {
-        return Ok(false);
-    }
-    has_one_table(rt, alloc, graphs.graph(0))
+    let graph = draw_graph(alloc, number, BOUND)?;
+    has_one_table(rt, alloc, &graph, BOUND)
 }
 
 #[test]
-fn later_waves_of_many_cells_are_shared(rt: HostRuntime) -> Result<(), Fail> {
+fn any_number_of_workers_finds_the_works_of_wide_waves(rt: HostRuntime) -> Result<(), Fail> {
     for number in 0..4u64 {
         let same = has_one_table_of(&rt, rt.alloc(), number)?;
         assert!(rt; same, "the task of number {number}");
     }
+    Ok(())
+}
+
+// How often two workers of a drawn task's table meet before their first turns, under a gate that leaves the caller a turn alone. There no
+// worker begins before the first wave that is shared, which is the seventh, as with the open gate.
+fn meetings_of<R: Threads + Wait + Sync>(rt: &R, alloc: Global, number: u64) -> Result<u64, Fail> {
+    let gate = Meeting::behind(1);
+    let graph = draw_graph(alloc, number, BOUND)?;
+    let _works = fill(rt, alloc, &graph, BOUND, 2, &gate)?;
+    Ok(gate.times_met())
+}
+
+// No more workers begin than there are processors.
+#[test]
+fn two_workers_begin_with_a_later_wave_where_there_are_two_processors(
+    rt: HostRuntime,
+) -> Result<(), Fail> {
+    let wanted = if available_parallelism(&rt)?.get() > 1 {
+        1
+    } else {
+        0
+    };
+    assert_eq!(rt; meetings_of(&rt, rt.alloc(), 0)?, wanted);
     Ok(())
 }

@@ -1,21 +1,14 @@
-ghost use Rattle.std.specs.Prelude.{◌≡◌, ◌≤◌, []};
+ghost use Rattle.std.specs.Prelude.{◌≡◌, ◌≤◌, [], IfOk};
 ghost use Rattle.drt_wave.specs.Cells.{net_of};
 ghost use Rattle.drt_wave.specs.Seats.{parts_of, draws_of, KnowsTo, IsOf};
 
-use drt_fixtures::{Shape, make_set};
-use drt_graph::check;
+use crate::graphs::{PAIR, make_graph, read_cell, start_table};
+use crate::tables::has_front;
+use drt_fixtures::Shape;
+use drt_fixtures::shapes::RETURNING;
 use drt_wave::{DenseFront, WaveSeat, WaveTable, dense_front, work_wave};
 use std::alloc::Global;
 use std::test::Fail;
-
-// The vertices p(1,1), q(2,1), m(1,1) with the edges p-m 1, q-m 1 and m-m 3.
-const THREE: Shape<'static> = (
-    &[(1, 1), (2, 1), (1, 1)],
-    &[(0, 2, 1), (1, 2, 1), (2, 2, 3)],
-);
-
-// The vertices a(1,1), b(5,1) with edges of 70 there and back: each of its waves has 140 cells, which is more than a block.
-const PAIR: Shape<'static> = (&[(1, 1), (5, 1)], &[(0, 1, 70), (1, 0, 70)]);
 
 // A vertex and a greater one that lies behind it by a separation of 2, and has more work by a detour of 5.
 const DETOUR: Shape<'static> = (
@@ -24,19 +17,9 @@ const DETOUR: Shape<'static> = (
 );
 
 // The works of a graph of this shape up to the bound.
-fn works_of(alloc: Global, shape: Shape<'_>, bound: u64) -> Result<DenseFront, Fail>
-    requires { bound ≤ 1000 }
-{
-    let set = make_set(alloc, &[shape])?.ok_or("within the limits")?;
-    let graphs = check(alloc, &set).ok().ok_or("constrained")?;
-    if graphs.count() == 0 {
-        return Err("a task".into());
-    }
-    let graph = graphs.graph(0);
-    if graph.vertex_count() as u64 * (bound + 1) > 4_194_304 {
-        return Err("few cells".into());
-    }
-    Ok(dense_front(alloc, graph, bound)?)
+fn works_of(alloc: Global, shape: Shape<'_>, bound: u64) -> Result<DenseFront, Fail> {
+    let graph = make_graph(alloc, shape, bound)?;
+    Ok(dense_front(alloc, &graph, bound)?)
 }
 
 // Works the first waves of a table, in order, by the seat that has every part.
@@ -47,29 +30,35 @@ fn work_waves(table: &WaveTable, seat: &mut WaveSeat, count: u32)
     requires draws { draws_of seat.old ≡ [] }
     requires known { KnowsTo 0 seat.old }
     ensures seat { IsOf table.now seat.new }
+    ensures known { KnowsTo count seat.new }
 {
     'waves: for wave in 0..count {
         work_wave(table, seat, wave);
     }
 }
 
-// Of the table of the first graph up to 5: how many cells and how many waves it has, and the work in the cell of a number once all waves are
-// worked.
-fn read_worked(alloc: Global, cell: u32) -> Result<(u64, u64, u64), Fail> {
-    let set = make_set(alloc, &[THREE])?.ok_or("within the limits")?;
-    let graphs = check(alloc, &set).ok().ok_or("constrained")?;
-    if graphs.count() == 0 {
-        return Err("a task".into());
-    }
-    let graph = graphs.graph(0);
-    let cells = graph.vertex_count() as u64 * 6;
-    if cells > 18 || cell as u64 >= cells {
-        return Err("a cell of three vertices".into());
-    }
-    let (table, mut seat) = WaveTable::start(alloc, graph, 5)?;
+// A table of a shape's walks up to a bound, worked by the seat that has every part.
+fn work_table(alloc: Global, shape: Shape<'_>, bound: u64) -> Result<(WaveTable, WaveSeat), Fail>
+    ensures seat { IfOk result (λ r. IsOf r.0 r.1) }
+    ensures known { IfOk result (λ r. KnowsTo (net_of r.0.plan).waves r.1) }
+{
+    let (table, mut seat) = start_table(alloc, shape, bound)?;
     let waves = table.plan.bound / table.plan.span + 1;
     work_waves(&table, &mut seat, waves as u32);
-    Ok((cells, waves, table.glance(&mut seat, cell)))
+    Ok((table, seat))
+}
+
+// How many offsets a wave of the table of the walks up to 5 spans, and the work in a cell once all waves are worked.
+fn read_worked(alloc: Global, cell: u32) -> Result<(u64, u64), Fail> {
+    let (table, mut seat) = work_table(alloc, RETURNING, 5)?;
+    let work = read_cell(&table, &mut seat, cell)?;
+    Ok((table.plan.span, work))
+}
+
+// The works of a table that was worked and then closed.
+fn close_worked(alloc: Global, shape: Shape<'_>, bound: u64) -> Result<DenseFront, Fail> {
+    let (table, seat) = work_table(alloc, shape, bound)?;
+    Ok(table.close(alloc, seat)?)
 }
 
 // The work that is wanted of a vertex and an offset, 0 where none is named.
@@ -107,22 +96,6 @@ fn has_works(works: &DenseFront, wanted: &[(u32, u64, u64)]) -> bool {
     true
 }
 
-// Whether the front is the one wanted.
-fn has_front(alloc: Global, works: &DenseFront, wanted: &[(u32, u64, u64)]) -> Result<bool, Fail> {
-    let front = works.front(alloc)?;
-    let entries = front.as_slice();
-    if entries.len() != wanted.len() {
-        return Ok(false);
-    }
-    for i in 0..entries.len() {
-        let found = (entries[i].vertex, entries[i].offset, entries[i].work);
-        if found != wanted[i] {
-            return Ok(false);
-        }
-    }
-    Ok(true)
-}
-
 // Whether the walk of a vertex and an offset is the one wanted.
 fn has_walk(
     alloc: Global,
@@ -143,7 +116,7 @@ fn has_walk(
 
 #[test]
 fn each_cell_has_the_greatest_work(rt: HostRuntime) -> Result<(), Fail> {
-    let works = works_of(rt.alloc(), THREE, 5)?;
+    let works = works_of(rt.alloc(), RETURNING, 5)?;
     let wanted = [
         (0, 0, 1),
         (1, 0, 2),
@@ -158,8 +131,25 @@ fn each_cell_has_the_greatest_work(rt: HostRuntime) -> Result<(), Fail> {
 
 #[test]
 fn a_cell_has_the_number_of_its_vertex_and_offset(rt: HostRuntime) -> Result<(), Fail> {
-    let (cells, waves, work) = read_worked(rt.alloc(), 16)?;
-    assert!(rt; cells == 18 && waves == 6 && work == 4);
+    // A vertex has 6 cells: these are of m, which is vertex 2, at the offsets 1, 3, 4 and 5.
+    for (cell, work) in [(13u32, 3u64), (15, 2), (16, 4), (17, 0)] {
+        assert!(rt; read_worked(rt.alloc(), cell)? == (1, work), "cell {cell}");
+    }
+    Ok(())
+}
+
+#[test]
+fn a_worked_table_closes_with_the_greatest_works(rt: HostRuntime) -> Result<(), Fail> {
+    let works = close_worked(rt.alloc(), RETURNING, 5)?;
+    let wanted = [
+        (0, 0, 1),
+        (1, 0, 2),
+        (2, 0, 1),
+        (2, 1, 3),
+        (2, 3, 2),
+        (2, 4, 4),
+    ];
+    assert!(rt; has_works(&works, &wanted));
     Ok(())
 }
 
@@ -167,7 +157,7 @@ fn a_cell_has_the_number_of_its_vertex_and_offset(rt: HostRuntime) -> Result<(),
 fn the_front_leaves_out_a_label_with_less_work_than_an_earlier_one(
     rt: HostRuntime,
 ) -> Result<(), Fail> {
-    let works = works_of(rt.alloc(), THREE, 5)?;
+    let works = works_of(rt.alloc(), RETURNING, 5)?;
     let wanted = [(0, 0, 1), (1, 0, 2), (2, 0, 1), (2, 1, 3), (2, 4, 4)];
     assert!(rt; has_front(rt.alloc(), &works, &wanted)?);
     Ok(())
@@ -175,7 +165,7 @@ fn the_front_leaves_out_a_label_with_less_work_than_an_earlier_one(
 
 #[test]
 fn a_walk_is_found_backwards(rt: HostRuntime) -> Result<(), Fail> {
-    let works = works_of(rt.alloc(), THREE, 5)?;
+    let works = works_of(rt.alloc(), RETURNING, 5)?;
     assert!(rt; has_walk(rt.alloc(), &works, 2, 4, &[1, 2, 2])?);
     let alone = has_walk(rt.alloc(), &works, 1, 0, &[1])?;
     assert!(rt; alone);
@@ -235,7 +225,7 @@ fn a_detour_with_more_work_is_no_shorter_walk(rt: HostRuntime) -> Result<(), Fai
 
 #[test]
 fn nothing_is_due_by_time_0(rt: HostRuntime) -> Result<(), Fail> {
-    let works = works_of(rt.alloc(), THREE, 0)?;
+    let works = works_of(rt.alloc(), RETURNING, 0)?;
     assert!(rt; has_works(&works, &[]) && has_front(rt.alloc(), &works, &[])?);
     Ok(())
 }

@@ -1,4 +1,5 @@
-use Rattle.std.proofs.Common.{arith}
+use Rattle.std.proofs.Common.{◌≡◌, arith, subst}
+use Rattle.drt_wave.specs.Seats.{KnowsTo}
 use Rattle.drt_wave.proofs.Going.{all_none}
 use Rattle.drt_wave_tests.proofs.work_tests.work_waves.Goals as goal
 
@@ -13,3 +14,8 @@ waves-init c = (
 
 pub waves-preserved : goal.waves-preserved
 waves-preserved c = let w = c.work_wave.ensures in (w.seat, w.whole, w.all, w.known, w.drawn)
+
+pub returns-clause-known : goal.returns-clause-known
+returns-clause-known c =
+    let done : c.waves.wave ≡ c.args.count = omega arith in
+    subst (λ k. KnowsTo k c.waves.seat) done c.waves.invariant.3

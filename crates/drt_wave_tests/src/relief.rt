@@ -1,0 +1,80 @@
+//! A gate at which one worker waits while another one works in its place.
+
+use drt_pool::Gate;
+use std::sync::atomic::{AtomicBool, AtomicU64, Ordering};
+use std::thread;
+
+/// How often a worker looks for the other one before it gives up.
+const LOOKS: u32 = 1_000_000;
+
+/// It holds the first turn of the second worker until the first worker has come to a turn of some number, in which that one then waits until
+/// the second has come to a turn of another number, and so in each turn after it until the second has come one turn further.
+#[derive(Drop)]
+pub(crate) struct Relief {
+    // The turn in which the first worker waits, and the one of the second worker until which it does.
+    wait: u64,
+    until: u64,
+    // How many turns each of the two has come to.
+    come: [AtomicU64; 2],
+    is_missed: AtomicBool,
+}
+
+impl Relief {
+    /// One that holds the turn of number `wait` of the first worker until the second one has come to its turn of number `until`, and each later one
+    /// until the second has come as much further.
+    pub(crate) fn at(wait: u64, until: u64) -> Relief {
+        Relief {
+            wait,
+            until,
+            come: [AtomicU64::new(0), AtomicU64::new(0)],
+            is_missed: AtomicBool::new(false),
+        }
+    }
+
+    /// How many turns the first worker came to, where neither gave up.
+    pub(crate) fn first_turns(&self) -> Option<u64> {
+        if self.is_missed.load(Ordering::SeqCst) {
+            return None;
+        }
+        Some(self.come[0].load(Ordering::SeqCst))
+    }
+
+    // Waits until the worker of this place has come to the turn.
+    fn wait_for(&self, place: usize, turn: u64) {
+        for _ in 0..LOOKS {
+            if self.has_come(place, turn) || self.is_missed.load(Ordering::SeqCst) {
+                return;
+            }
+            thread::yield_now();
+        }
+        self.is_missed.store(true, Ordering::SeqCst);
+    }
+
+    // Whether the worker of this place has come to the turn.
+    fn has_come(&self, place: usize, turn: u64) -> bool {
+        match self.come.get(place) {
+            Some(come) => come.load(Ordering::SeqCst) > turn,
+            None => false,
+        }
+    }
+}
+
+impl Gate for Relief {
+    fn before(&self, worker: u32, turn: u64) {
+        if worker > 1 {
+            return;
+        }
+        self.come[worker as usize].fetch_add(1, Ordering::SeqCst);
+        if worker == 0 && turn >= self.wait {
+            self.wait_for(1, self.until.saturating_add(turn - self.wait));
+        }
+        if worker == 1 && turn == 0 {
+            self.wait_for(0, self.wait);
+        }
+    }
+
+    // The caller has no turn alone, so that both begin at once.
+    fn alone(&self) -> u64 {
+        0
+    }
+}
