@@ -8,7 +8,7 @@ use std::thread;
 const LOOKS: u32 = 1_000_000;
 
 /// It holds the first turn of the second worker until the first worker has come to a turn of some number, in which that one then waits until
-/// the second has come to a turn of another number, and so in each turn after it until the second has come one turn further.
+/// the second has come to a turn of another number.
 #[derive(Drop)]
 pub(crate) struct Relief {
     // The turn in which the first worker waits, and the one of the second worker until which it does.
@@ -20,8 +20,7 @@ pub(crate) struct Relief {
 }
 
 impl Relief {
-    /// One that holds the turn of number `wait` of the first worker until the second one has come to its turn of number `until`, and each later one
-    /// until the second has come as much further.
+    /// One that holds the turn of number `wait` of the first worker, until the second one has come to its turn of number `until`.
     pub(crate) fn at(wait: u64, until: u64) -> Relief {
         Relief {
             wait,
@@ -42,7 +41,7 @@ impl Relief {
     // Waits until the worker of this place has come to the turn.
     fn wait_for(&self, place: usize, turn: u64) {
         for _ in 0..LOOKS {
-            if self.has_come(place, turn) || self.is_missed.load(Ordering::SeqCst) {
+            if self.has_come(place, turn) {
                 return;
             }
             thread::yield_now();
@@ -65,8 +64,8 @@ impl Gate for Relief {
             return;
         }
         self.come[worker as usize].fetch_add(1, Ordering::SeqCst);
-        if worker == 0 && turn >= self.wait {
-            self.wait_for(1, self.until.saturating_add(turn - self.wait));
+        if worker == 0 && turn == self.wait {
+            self.wait_for(1, self.until);
         }
         if worker == 1 && turn == 0 {
             self.wait_for(0, self.wait);

@@ -69,7 +69,7 @@ fn each_number_of_workers_finds_the_same_front_of_wide_waves(rt: HostRuntime) ->
 // them; where it finds no more it gives the seat back. So the first worker takes a seat in turn 0, works 19 whole rows in the turns up to 19, and
 // the 9 blocks that are left in turn 20. In turn 21 it takes a seat for the second wave, in turn 22 it works a row, and before turn 23 it waits.
 // The second worker takes a seat for that wave in its turn 0, works 18 whole rows in the turns up to 18, and the 9 blocks that are left in turn
-// 19. Before its turn 20 the first one goes on, in turn 24 only once the second has given its seat back too.
+// 19. Before its turn 20 the first one goes on.
 fn turns_with_relief<R: Threads + Wait + Sync>(rt: &R, alloc: Global) -> Result<Option<u64>, Fail> {
     let gate = Relief::at(23, 20);
     let works = works_by(rt, alloc, FAR, 20_001, 2, &gate)?;
