@@ -70,7 +70,7 @@ pub drawn_turned : (s n : WaveSeat) → parts_of n ≡ parts_of s → ((j k : �
 drawn_turned s n parts draws lanes = record {
   parts = parts;
   draws = draws;
-  known = λ k h. subst (λ l. (v : ℕ) (y : LaneSeat) → get_elem? l.items v ≡ some y → y.me.0.known ≡ k) (sym lanes) h;
+  known = λ k h. subst (λ l. (v : ℕ) (y : LaneSeat) → get_elem? l.items v ≡ some y → k ≤ y.me.0.known) (sym lanes) h;
   raised = λ v o x h. subst (λ l. (y : LaneSeat) × (get_elem? l.items v ≡ some y) × Among (o, x) y.me.0.raised) (sym lanes) h;
 }
 

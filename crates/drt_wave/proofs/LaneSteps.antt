@@ -10,7 +10,7 @@ use Rattle.atomic_table.specs.Table.{State, Me, step, keeps, Allows, Splits, Joi
 use Rattle.atomic_table.proofs.Lists.{at_snoc, set_here, set_else}
 use Rattle.drt_wave.specs.Net.{Net, IsNet, Among, Reaches, Reached, IsBest}
 use Rattle.drt_wave.specs.Sums.{greatest}
-use Rattle.drt_wave.specs.Lanes.{most, fresh_lane, spent_lane, lane_left, lane_right, lane_joined, lane_raised, lane_settled, Settled, Knows, IsRead, InLane, glanced, raises, settles}
+use Rattle.drt_wave.specs.Lanes.{most, fresh_lane, spent_lane, lane_left, lane_right, lane_joined, lane_raised, lane_knowing, Settled, Knows, IsRead, InLane, glanced, raises, settles}
 use Rattle.drt_wave.specs.declared.view.LaneView.{LaneView}
 use Rattle.drt_wave.proofs.Sums.{total-append, total-set, greatest-append, greatest-set, greatest-drop, greatest_term, greatest_at, among-append}
 use Rattle.drt_wave.proofs.Sums.{most_more, most-append, most_among, among_most, at_inside, all_set, word_here, word_there}
@@ -66,9 +66,9 @@ module _ {S F : Type 0} (net : F → Net) (first count : F → ℕ) (key : F) wh
         omega (arith, h.cell o lt, greatest_term most_of s.views i v at, among_most o x v.raised a)
 
     -- where a seat passed on all that a cell gets, the cell has its greatest work
-    settled_best : (i : ℕ) (v : LaneView F) (o : ℕ) → get_elem? s.views i ≡ some v → o < count key → Settled net first count key v
-        → (net key).wave (first key + o) ≤ v.known + 1 → IsBest (net key) (first key + o) (get_or s.words o 0)
-    settled_best i v o at lt settled low = (cell_reached o lt, λ y r. least y r.0 r.1) where
+    settled_best : (i : ℕ) (v : LaneView F) (o j : ℕ) → get_elem? s.views i ≡ some v → o < count key → Settled net first count key v j
+        → (net key).wave (first key + o) ≤ j + 1 → IsBest (net key) (first key + o) (get_or s.words o 0)
+    settled_best i v o j at lt settled low = (cell_reached o lt, λ y r. least y r.0 r.1) where
       least : (y n : ℕ) → Reaches (net key) n (first key + o) y → y ≤ get_or s.words o 0
       least y zero r = omega (arith, h.cell o lt, r.2)
       least y (suc n) r =
@@ -152,9 +152,11 @@ module _ {S F : Type 0} (net : F → Net) (first count : F → ℕ) (key : F) wh
         ),
       )
 
-  pub settles_one : (slots id o : ℕ) (m : Me S (LaneView F)) → m.0.parts ≡ 1024 → Settled net first count key m.0 → Allows Holds slots id m o (λ n. n) (settles (step slots o 0 0 none) m)
-  settles_one slots id o m whole settled s h long me small =
-      let v : LaneView F = m.0 in let w : LaneView F = lane_settled v in let k = h.each id v me in (
+  pub settles_one : (slots id o : ℕ) (m : Me S (LaneView F)) → o < count key → Settled net first count key m.0 ((net key).wave (first key + o))
+      → Allows Holds slots id m o (λ n. n) (settles net first (step slots o 0 0 none) m)
+  settles_one slots id o m lt settled s h long me small =
+      let v : LaneView F = m.0 in let j : ℕ = (net key).wave (first key + o) in let n : ℕ = max v.known (j + 1) in let w : LaneView F = lane_knowing v n in
+      let k = h.each id v me in (
         w,
         keeps,
         tt,
@@ -163,9 +165,11 @@ module _ {S F : Type 0} (net : F → Net) (first count : F → ℕ) (key : F) wh
           idle = k.idle;
           same = k.same;
           reached = k.reached;
-          final = λ d ltd low. settled_best s h id v d me ltd settled low;
+          final = λ d ltd low. dite (dec_le ((net key).wave (first key + d)) v.known)
+              (λ le. k.final d ltd le)
+              (λ nle. settled_best s h id v d j me ltd settled (omega arith));
         },
-        refl,
+        (n, refl, omega arith, λ f e. subst (λ f. (net f).wave (first f + o) + 1 ≤ n) (sym (k.same f e)) (omega arith)),
       )
 
   pub splits : (id : ℕ) (v : LaneView F) → 1 < v.parts → Splits Holds id v (lane_left v) (lane_right v)
@@ -231,7 +235,7 @@ module _ {S F : Type 0} (net : F → Net) (first count : F → ℕ) (key : F) wh
               idle = λ none. absurd (omega arith);
               same = k.same;
               reached = λ o x a. ⊎_elim (λ (p : Among (o, x) w.raised). kw.reached o x p) (λ (q : Among (o, x) v.raised). k.reached o x q) (among-append (o, x) w.raised v.raised a);
-              final = k.final;
+              final = λ o lt low. dite (dec_le ((net key).wave (first key + o)) v.known) (λ le. k.final o lt le) (λ nle. kw.final o lt (omega arith));
             }
             h.each);
       }

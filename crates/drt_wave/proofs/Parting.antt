@@ -170,7 +170,7 @@ module _ (t : WaveTable) (s : WaveSeat) (of : IsOf t s) where
       draws = ap (λ m. m.draws) is_left;
       known = λ k knows v n en.
           let b = lane_there v (omega (arith, cut.count, at_inside left.lanes.items v n en)) in
-          ap (λ m. m.known) (cut.left v b.0 b.1 n (at_inside t.lanes v b.0 b.2) b.2 b.3 en).1 ∙ knows v b.1 b.3;
+          let same = ap (λ m. m.known) (cut.left v b.0 b.1 n (at_inside t.lanes v b.0 b.2) b.2 b.3 en).1 in let h = knows v b.1 b.3 in omega (arith, same, h);
       raised = λ v o x has.
           let lt = at_inside s.lanes.items v has.0 has.1 in
           let l = at_there t.lanes v (omega (arith, of.count)) in let n = at_there left.lanes.items v (omega (arith, of.count, cut.count)) in
@@ -185,7 +185,7 @@ module _ (t : WaveTable) (s : WaveSeat) (of : IsOf t s) where
           subst (Among (o, x)) (ap (λ m. m.raised) (cut.right v b.0 b.1 has.0 b.2 b.3 has.1).1) has.2;
       right_known = λ k knows v n en.
           let b = lane_there v (omega (arith, cut.cut_count, at_inside right.lanes.items v n en)) in
-          ap (λ m. m.known) (cut.right v b.0 b.1 n b.2 b.3 en).1 ∙ knows v b.1 b.3;
+          let same = ap (λ m. m.known) (cut.right v b.0 b.1 n b.2 b.3 en).1 in let h = knows v b.1 b.3 in omega (arith, same, h);
     }
 
   module _ (other n : WaveSeat) (of_other : IsOf t other) (others : List LaneSeat) (none : length others ≡ 0) (glue : Gluing t.lanes s.lanes.items other.lanes.items n.lanes.items others) where
@@ -219,7 +219,12 @@ module _ (t : WaveTable) (s : WaveSeat) (of : IsOf t s) where
           no_more = λ j k a. among-append (j, k) (draws_of other) (draws_of s) (subst (Among (j, k)) draws a);
           known = λ k knows v u eu.
               let d = at_done v (omega (arith, glue.count, at_inside n.lanes.items v u eu)) in
-              ap (λ (w : LaneSeat). w.me.0.known) (at_same n.lanes.items v v u d.3 refl eu d.7) ∙ ap (λ m. m.known) d.8.1 ∙ knows v d.1 d.5;
+              let same = ap (λ (w : LaneSeat). w.me.0.known) (at_same n.lanes.items v v u d.3 refl eu d.7) in let both = ap (λ m. m.known) d.8.1 in
+              let h = knows v d.1 d.5 in omega (arith, same, both, h);
+          other_known = λ k knows v u eu.
+              let d = at_done v (omega (arith, glue.count, at_inside n.lanes.items v u eu)) in
+              let same = ap (λ (w : LaneSeat). w.me.0.known) (at_same n.lanes.items v v u d.3 refl eu d.7) in let both = ap (λ m. m.known) d.8.1 in
+              let h = knows v d.2 d.6 in omega (arith, same, both, h);
           raised = λ v o x has.
               let d = at_done v (omega (arith, of.count, at_inside s.lanes.items v has.0 has.1)) in
               let a = subst (λ (w : LaneSeat). Among (o, x) w.me.0.raised) (at_same s.lanes.items v v has.0 d.1 refl has.1 d.5) has.2 in
@@ -270,7 +275,7 @@ pub record Closing (p : Plan) (lanes left : List Lane) (seats more : List LaneSe
   pub column : (k : ℕ) (c : List ℕ) → get_elem? (reverse columns) k ≡ some c → IsColumn p (length left + k) c
 
 module _ (p : Plan) where
-  pub lane_known : IsPlan p → (v : ℕ) (l : Lane) (k known : ℕ) → IsLane p v l → v < vertex_count p.graph → known ≡ k → (net_of p).waves ≤ k + 1
+  pub lane_known : IsPlan p → (v : ℕ) (l : Lane) (k known : ℕ) → IsLane p v l → v < vertex_count p.graph → k ≤ known → (net_of p).waves ≤ k + 1
       → (o : ℕ) → o < l.table.shared.table_id.words → (lane_net l.table.shared.key).wave (lane_first l.table.shared.key + o) ≤ known
   lane_known plan v l k known is lt e all o inside =
       let in_bound : o < width p = subst (λ n. o < n) is.words inside in

@@ -1,8 +1,9 @@
 -- Steps of one seat of a lane among those of a table, and a loop that settles them all.
-use Rattle.std.proofs.Common.{◌≡◌, ◌≢◌, ◌⊎◌, ℕ, ◌+◌, ◌/◌, ◌<◌, ◌≤◌, List, ◌∷◌}
+use Rattle.std.proofs.Common.{◌≡◌, ◌≢◌, ◌⊎◌, ℕ, ◌+◌, ◌/◌, ◌<◌, ◌≤◌, List, ◌∷◌, ◌*◌}
 use Rattle.std.proofs.Common.{length, get_or, set, sym, refl, ap, ◌∙◌, subst, inl, inr, ⊎_elim, length-set, arith}
 use Rattle.std.specs.Prelude.{vec_capacity}
 use Rattle.std.specs.Vec.{with_item}
+use Rattle.std.proofs.lemmas.Nat.{div-mul-add}
 use mathlib.Core.Logic.{dite}
 use mathlib.Core.Option.{some, some-injective}
 use native.Mathlib.Decide.{ℕ_discrete}
@@ -16,9 +17,9 @@ use Rattle.drt_wave.specs.declared.lane.Lane.{Lane}
 use Rattle.drt_wave.specs.declared.seat.WaveSeat.{WaveSeat}
 use Rattle.drt_wave.specs.declared.table.WaveTable.{WaveTable}
 use Rattle.drt_wave.specs.Net.{Net, Among, IsBest}
-use Rattle.drt_wave.specs.Cells.{net_of, cell_at, width}
+use Rattle.drt_wave.specs.Cells.{net_of, cell_at, width, IsPlan}
 use Rattle.drt_wave.specs.Keys.{lane_net, lane_first, lane_count}
-use Rattle.drt_wave.specs.Lanes.{Settled, lane_settled}
+use Rattle.drt_wave.specs.Lanes.{Settled, Learns}
 use Rattle.drt_wave.specs.Lane.{LaneSeat, IsLane, IsLaneSeat, IsClaimSeat}
 use Rattle.drt_wave.specs.Seats.{parts_of, HasRaised, HasNoMore, KnowsTo, IsOf, Kept, ExpandedTo}
 use Rattle.drt_wave.proofs.Cells.{cell_vertex, cell_offset}
@@ -59,7 +60,7 @@ pub low_wave : (p : Plan) (s : WaveSeat) (v o k : ℕ) (l : Lane) (y : LaneSeat)
     → (lane_net l.table.shared.key).wave (lane_first l.table.shared.key + o) ≤ y.me.0.known
 low_wave p s v o k l y is at_y le known low =
     let n : ℕ = y.me.0.known in
-    to_lane (λ g c. g.wave c ≤ n) p v o l is (subst (λ r. r / p.span ≤ n) (sym (cell_offset p v o le)) (subst (λ j. o / p.span ≤ j) (sym (known v y at_y)) low))
+    to_lane (λ g c. g.wave c ≤ n) p v o l is (subst (λ r. r / p.span ≤ n) (sym (cell_offset p v o le)) (let h = known v y at_y in omega (arith, low, h)))
 
 -- the seat after the one of lane v became n
 abbrev pub with_seat : WaveSeat → ℕ → LaneSeat → WaveSeat
@@ -90,7 +91,7 @@ module _ (s : WaveSeat) (v : ℕ) (y n : LaneSeat) (at_y : get_elem? s.lanes.ite
     parts = refl;
     draws = refl;
     known = λ k h i u at_u. ⊎_elim
-        (λ (e : (i ≡ v) × (n ≡ u)). ap (λ (z : LaneSeat). z.me.0.known) (sym e.1) ∙ known ∙ h v y at_y)
+        (λ (e : (i ≡ v) × (n ≡ u)). subst (λ (z : LaneSeat). k ≤ z.me.0.known) e.1 (subst (λ m. k ≤ m) (sym known) (h v y at_y)))
         (λ (e : (i ≢ v) × (get_elem? s.lanes.items i ≡ some u)). h i u e.1)
         (at_set s.lanes.items v i n u at_u);
     raised = λ i o x h. dite (ℕ_discrete i v)
@@ -131,14 +132,14 @@ module _ (s : WaveSeat) (v : ℕ) (y n : LaneSeat) (at_y : get_elem? s.lanes.ite
       (λ (was : HasRaised s i o x). was)
       (with_only i o x r)
 
--- The seat of lane v passed on what the cells of its known waves have for the lane.
-abbrev Settles : Plan → ℕ → LaneView LaneKey → Type 0
-Settles p v w = (b : ℕ) → b < (net_of p).cells → (net_of p).wave b ≤ w.known
+-- The seat of lane v passed on what the cells up to wave j have for the lane.
+abbrev Settles : Plan → ℕ → LaneView LaneKey → ℕ → Type 0
+Settles p v w j = (b : ℕ) → b < (net_of p).cells → (net_of p).wave b ≤ j
     → (x : ℕ) × IsBest (net_of p) b x × (x ≢ 0 → (o a : ℕ) → o < width p → Among (cell_at p v o, a) ((net_of p).arcs b) → Among (o, x + a) w.raised)
 
-settles : (p : Plan) (s : WaveSeat) (k v : ℕ) (y : LaneSeat) → get_elem? s.lanes.items v ≡ some y → KnowsTo k s → ExpandedTo p k s → Settles p v y.me.0
-settles p s k v y at_y known expanded b lt low =
-    let e = expanded b lt (subst (λ j. (net_of p).wave b ≤ j) (known v y at_y) low) in (
+settles : (p : Plan) (s : WaveSeat) (j v : ℕ) (y : LaneSeat) → get_elem? s.lanes.items v ≡ some y → ExpandedTo p j s → Settles p v y.me.0 j
+settles p s j v y at_y expanded b lt low =
+    let e = expanded b lt low in (
       e.0,
       e.1,
       λ some_work o a lto arc.
@@ -148,33 +149,40 @@ settles p s k v y at_y known expanded b lt low =
           subst (λ (z : LaneSeat). Among (o, e.0 + a) z.me.0.raised) is r.2,
     )
 
-pub settled_at : (p : Plan) (s : WaveSeat) (k v : ℕ) (l : Lane) (y : LaneSeat) → IsLane p v l → get_elem? s.lanes.items v ≡ some y → KnowsTo k s → ExpandedTo p k s
-    → Settled lane_net lane_first lane_count l.table.shared.key y.me.0
-settled_at p s k v l y is at_y known expanded =
-    subst (λ (q : Plan × ℕ). Settles q.0 q.1 y.me.0) (λ i. (sym is.plan i, sym is.vertex i)) (settles p s k v y at_y known expanded)
+-- the wave of a lane's cell at the first offset of wave j
+pub first_wave : (p : Plan) (v j o : ℕ) (l : Lane) → IsPlan p → IsLane p v l → o ≤ p.bound → o ≡ j * p.span → (lane_net l.table.shared.key).wave (lane_first l.table.shared.key + o) ≡ j
+first_wave p v j o l plan is le first =
+    let m : ℕ = j * p.span in let begun : o ≡ j * p.span + 0 = omega (arith, first) in
+    to_lane (λ g c. g.wave c ≡ j) p v o l is (ap (λ r. r / p.span) (cell_offset p v o le ∙ begun) ∙ div-mul-add j p.span 0 plan.some)
 
--- From s to n the seats of the first k lanes settled, and the others stand as they did.
-pub record AreSettled (t : WaveTable) (s n : WaveSeat) (k : ℕ) : Type 0 where
+pub settled_at : (p : Plan) (s : WaveSeat) (j v o : ℕ) (l : Lane) (y : LaneSeat) → IsPlan p → IsLane p v l → get_elem? s.lanes.items v ≡ some y → o ≤ p.bound → o ≡ j * p.span → ExpandedTo p j s
+    → Settled lane_net lane_first lane_count l.table.shared.key y.me.0 ((lane_net l.table.shared.key).wave (lane_first l.table.shared.key + o))
+settled_at p s j v o l y plan is at_y le first expanded =
+    subst (Settled lane_net lane_first lane_count l.table.shared.key y.me.0) (sym (first_wave p v j o l plan is le first))
+    (subst (λ (q : Plan × ℕ). Settles q.0 q.1 y.me.0 j) (λ i. (sym is.plan i, sym is.vertex i)) (settles p s j v y at_y expanded))
+
+-- From s to n the seats of the first k lanes got to know wave j + 1, and the others stand as they did.
+pub record AreSettled (t : WaveTable) (j : ℕ) (s n : WaveSeat) (k : ℕ) : Type 0 where
   pub claims : n.claims ≡ s.claims
   pub room : vec_capacity n.lanes ≡ vec_capacity s.lanes
   pub count : length n.lanes.items ≡ length s.lanes.items
   pub done : (i : ℕ) (l : Lane) (y u : LaneSeat) → i < k → get_elem? t.lanes i ≡ some l → get_elem? s.lanes.items i ≡ some y → get_elem? n.lanes.items i ≡ some u
-      → IsLaneSeat l u × (u.me.0 ≡ lane_settled y.me.0)
+      → IsLaneSeat l u × Learns (j + 1) y.me.0 u.me.0
   pub left : (i : ℕ) → k ≤ i → get_elem? n.lanes.items i ≡ get_elem? s.lanes.items i
 
 -- what was read at the next lane
-pub next_found : (t : WaveTable) (s n : WaveSeat) (v : ℕ) (l : Lane) (y : LaneSeat) (xs : List Lane) → IsOf t s → AreSettled t s n v → v < length xs → xs ≡ t.lanes → l ≡ get_or xs v l
+pub next_found : (t : WaveTable) (j : ℕ) (s n : WaveSeat) (v : ℕ) (l : Lane) (y : LaneSeat) (xs : List Lane) → IsOf t s → AreSettled t j s n v → v < length xs → xs ≡ t.lanes → l ≡ get_or xs v l
     → y ≡ get_or n.lanes.items v y → Found t s v l y × (get_elem? n.lanes.items v ≡ some y)
-next_found t s n v l y xs is h ltx same is_l is_y =
+next_found t j s n v l y xs is h ltx same is_l is_y =
     let lt : v < length t.lanes = subst (λ ys. v < length ys) same ltx in
     let at_y : get_elem? n.lanes.items v ≡ some y = at_index n.lanes.items v y (omega (arith, lt, is.count, h.count)) is_y in
     (found_at t s v l y is (lane_read t v l xs lt same is_l) (sym (h.left v (omega arith)) ∙ at_y), at_y)
 
-pub all_settled : (t : WaveTable) (s n : WaveSeat) (k : ℕ) (xs : List Lane) → AreSettled t s n k → xs ≡ t.lanes → k ≤ length xs → length xs ≤ k → AreSettled t s n (length t.lanes)
-all_settled t s n k xs h same le ge = let e : length xs ≡ length t.lanes = ap length same in let is : k ≡ length t.lanes = omega arith in subst (λ j. AreSettled t s n j) is h
+pub all_settled : (t : WaveTable) (j : ℕ) (s n : WaveSeat) (k : ℕ) (xs : List Lane) → AreSettled t j s n k → xs ≡ t.lanes → k ≤ length xs → length xs ≤ k → AreSettled t j s n (length t.lanes)
+all_settled t j s n k xs h same le ge = let e : length xs ≡ length t.lanes = ap length same in let is : k ≡ length t.lanes = omega arith in subst (λ i. AreSettled t j s n i) is h
 
-pub none_settled : (t : WaveTable) (s : WaveSeat) → AreSettled t s s 0
-none_settled t s = record {
+pub none_settled : (t : WaveTable) (j : ℕ) (s : WaveSeat) → AreSettled t j s s 0
+none_settled t j s = record {
   claims = refl;
   room = refl;
   count = refl;
@@ -182,9 +190,9 @@ none_settled t s = record {
   left = λ i le. refl;
 }
 
-pub one_settled : (t : WaveTable) (s n : WaveSeat) (k : ℕ) (l : Lane) (y u : LaneSeat) → AreSettled t s n k → get_elem? t.lanes k ≡ some l → get_elem? n.lanes.items k ≡ some y
-    → IsLaneSeat l u → u.me.0 ≡ lane_settled y.me.0 → AreSettled t s (with_seat n k u) (k + 1)
-one_settled t s n k l y u h at_l at_y sits is = record {
+pub one_settled : (t : WaveTable) (j : ℕ) (s n : WaveSeat) (k : ℕ) (l : Lane) (y u : LaneSeat) → AreSettled t j s n k → get_elem? t.lanes k ≡ some l → get_elem? n.lanes.items k ≡ some y
+    → IsLaneSeat l u → Learns (j + 1) y.me.0 u.me.0 → AreSettled t j s (with_seat n k u) (k + 1)
+one_settled t j s n k l y u h at_l at_y sits learned = record {
   claims = h.claims;
   room = h.room;
   count = length-set n.lanes.items k u ∙ h.count;
@@ -192,18 +200,18 @@ one_settled t s n k l y u h at_l at_y sits is = record {
       (λ (e : (i ≡ k) × (u ≡ b)).
       let lanes : l ≡ m = some-injective l m (sym at_l ∙ ap (get_elem? t.lanes) (sym e.0) ∙ at_m) in
       let seats : y ≡ a = some-injective y a (sym at_y ∙ h.left k (omega arith) ∙ ap (get_elem? s.lanes.items) (sym e.0) ∙ at_a) in (
-        subst (λ (q : Lane × LaneSeat). IsLaneSeat q.0 q.1) (λ j. (lanes j, e.1 j)) sits,
-        ap (λ (z : LaneSeat). z.me.0) (sym e.1) ∙ is ∙ ap (λ (z : LaneSeat). lane_settled z.me.0) seats,
+        subst (λ (q : Lane × LaneSeat). IsLaneSeat q.0 q.1) (λ z. (lanes z, e.1 z)) sits,
+        subst (λ (q : LaneSeat × LaneSeat). Learns (j + 1) q.0.me.0 q.1.me.0) (λ z. (seats z, e.1 z)) learned,
       ))
       (λ (e : (i ≢ k) × (get_elem? n.lanes.items i ≡ some b)). let ne = e.0 in h.done i m a b (omega (arith, lt, ne)) at_m at_a e.1)
       (at_set n.lanes.items k i u b at_b);
   left = λ i le. set_else n.lanes.items k i u (λ e. omega arith) ∙ h.left i (omega arith);
 }
 
-module _ (t : WaveTable) (s n : WaveSeat) (is : IsOf t s) (h : AreSettled t s n (length t.lanes)) where
+module _ (t : WaveTable) (j : ℕ) (s n : WaveSeat) (is : IsOf t s) (h : AreSettled t j s n (length t.lanes)) where
   -- what a seat of the lane at i is
   settled : (i : ℕ) (l : Lane) (u : LaneSeat) → get_elem? t.lanes i ≡ some l → get_elem? n.lanes.items i ≡ some u
-      → (y : LaneSeat) × (get_elem? s.lanes.items i ≡ some y) × IsLaneSeat l u × (u.me.0 ≡ lane_settled y.me.0)
+      → (y : LaneSeat) × (get_elem? s.lanes.items i ≡ some y) × IsLaneSeat l u × Learns (j + 1) y.me.0 u.me.0
   settled i l u at_l at_u =
       let inside : i < length t.lanes = at_inside t.lanes i l at_l in
       let y = at_there s.lanes.items i (omega (arith, inside, is.count)) in
@@ -216,15 +224,23 @@ module _ (t : WaveTable) (s n : WaveSeat) (is : IsOf t s) (h : AreSettled t s n 
     room = subst (λ c. length t.lanes ≤ c) (sym h.room) is.room;
     lane = λ i l u at_l at_u.
         let d = settled i l u at_l at_u in
-        (d.2, ap (λ (w : LaneView LaneKey). w.parts) d.3 ∙ (is.lane i l d.0 at_l d.1).1 ∙ ap (λ c. c.me.0.parts) (sym h.claims));
+        (d.2, ap (λ (w : LaneView LaneKey). w.parts) d.3.1 ∙ (is.lane i l d.0 at_l d.1).1 ∙ ap (λ c. c.me.0.parts) (sym h.claims));
   }
 
-  pub all_known : (k : ℕ) → KnowsTo k s → KnowsTo (k + 1) n
-  all_known k known i u at_u =
+  pub all_known : KnowsTo (j + 1) n
+  all_known i u at_u =
       let inside = at_inside n.lanes.items i u at_u in
       let l = at_there t.lanes i (omega (arith, inside, h.count, is.count)) in
       let d = settled i l.0 u l.1 at_u in
-      ap (λ (w : LaneView LaneKey). w.known) d.3 ∙ ap (λ x. x + 1) (known i d.0 d.1)
+      subst (λ (w : LaneView LaneKey). j + 1 ≤ w.known) (sym d.3.1) d.3.3
+
+  pub all_still : (k : ℕ) → KnowsTo k s → KnowsTo k n
+  all_still k known i u at_u =
+      let inside = at_inside n.lanes.items i u at_u in
+      let l = at_there t.lanes i (omega (arith, inside, h.count, is.count)) in
+      let d = settled i l.0 u l.1 at_u in let was = known i d.0 d.1 in let more = d.3.2 in
+      let le : k ≤ d.3.0 = omega (arith, was, more) in
+      subst (λ (w : LaneView LaneKey). k ≤ w.known) (sym d.3.1) le
 
   pub all_raised : (i o x : ℕ) → HasRaised s i o x → HasRaised n i o x
   all_raised i o x r =
@@ -232,11 +248,11 @@ module _ (t : WaveTable) (s n : WaveSeat) (is : IsOf t s) (h : AreSettled t s n 
       let l = at_there t.lanes i (omega (arith, inside, is.count)) in
       let u = at_there n.lanes.items i (omega (arith, inside, h.count)) in
       let d = h.done i l.0 r.0 u.0 (omega (arith, inside, is.count)) l.1 r.1 u.1 in
-      (u.0, u.1, subst (λ rs. Among (o, x) rs) (sym (ap (λ (w : LaneView LaneKey). w.raised) d.1)) r.2)
+      (u.0, u.1, subst (λ rs. Among (o, x) rs) (sym (ap (λ (w : LaneView LaneKey). w.raised) d.1.1)) r.2)
 
   pub all_same : HasNoMore s n
   all_same i o x r =
       let inside = at_inside n.lanes.items i r.0 r.1 in
       let l = at_there t.lanes i (omega (arith, inside, h.count, is.count)) in
       let d = settled i l.0 r.0 l.1 r.1 in
-      (d.0, d.1, subst (λ rs. Among (o, x) rs) (ap (λ (w : LaneView LaneKey). w.raised) d.3) r.2)
+      (d.0, d.1, subst (λ rs. Among (o, x) rs) (ap (λ (w : LaneView LaneKey). w.raised) d.3.1) r.2)

@@ -30,21 +30,25 @@ module _ {F : Type 0} where
 
   -- a seat that took in another one
   abbrev pub lane_joined : LaneView F → LaneView F → LaneView F
-  lane_joined v w = record { fixed = v.fixed; parts = v.parts + w.parts; raised = w.raised ++ v.raised; known = v.known }
+  lane_joined v w = record { fixed = v.fixed; parts = v.parts + w.parts; raised = w.raised ++ v.raised; known = max v.known w.known }
 
   -- a seat that contributed work x at offset o
   abbrev pub lane_raised : LaneView F → ℕ → ℕ → LaneView F
   lane_raised v o x = record { fixed = v.fixed; parts = v.parts; raised = (o, x) ∷ v.raised; known = v.known }
 
-  -- a seat that knows one more wave as final
-  abbrev pub lane_settled : LaneView F → LaneView F
-  lane_settled v = record { fixed = v.fixed; parts = v.parts; raised = v.raised; known = v.known + 1 }
+  -- a seat that knows the waves up to wave k as final
+  abbrev pub lane_knowing : LaneView F → ℕ → LaneView F
+  lane_knowing v k = record { fixed = v.fixed; parts = v.parts; raised = v.raised; known = k }
+
+  -- from v to w the seat got to know the waves up to wave j as final, and did nothing else
+  abbrev pub Learns : ℕ → LaneView F → LaneView F → Type 0
+  Learns j v w = (k : ℕ) × (w ≡ lane_knowing v k) × (v.known ≤ k) × (j ≤ k)
 
 -- A lane has so many cells of a net, from its first one on.
 module _ {F : Type 0} (net : F → Net) (first count : F → ℕ) where
-  -- Each cell of a wave up to the one that is known has its greatest work, and the seat passed that on along each arc into the lane.
-  abbrev pub Settled : F → LaneView F → Type 0
-  Settled key v = (b : ℕ) → b < (net key).cells → (net key).wave b ≤ v.known
+  -- Each cell up to wave j has its greatest work, and the seat passed that on along each arc into the lane.
+  abbrev pub Settled : F → LaneView F → ℕ → Type 0
+  Settled key v j = (b : ℕ) → b < (net key).cells → (net key).wave b ≤ j
       → (x : ℕ) × IsBest (net key) b x × (x ≢ 0 → (o w : ℕ) → o < count key → Among (first key + o, w) ((net key).arcs b) → Among (o, x + w) v.raised)
 
   -- What a seat did and knows is true of the words.
@@ -85,10 +89,10 @@ module _ {S F : Type 0} (net : F → Net) (first : F → ℕ) where
   abbrev pub glanced : Said S F
   glanced st m r n = (n ≡ m) × ((f : F) → m.0.fixed ≡ Some f → IsRead net first f m.0 st.word r)
 
+  -- The wave behind that of the cell is known as final too, and nothing else done.
+  abbrev pub settles : Said S F
+  settles st m r n = (k : ℕ) × (n ≡ (lane_knowing m.0 k, m.1)) × (m.0.known ≤ k) × ((f : F) → m.0.fixed ≡ Some f → (net f).wave (first f + st.word) + 1 ≤ k)
+
 -- A work was contributed to a cell.
 abbrev pub raises : {S F : Type 0} → Said S F
 raises st m r n = n ≡ (lane_raised m.0 st.word st.first, m.1)
-
--- One more wave is known as final.
-abbrev pub settles : {S F : Type 0} → Said S F
-settles st m r n = n ≡ (lane_settled m.0, m.1)

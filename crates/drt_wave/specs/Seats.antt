@@ -24,9 +24,9 @@ draws_of s = s.claims.me.0.draws
 abbrev pub HasRaised : WaveSeat → ℕ → ℕ → ℕ → Type 0
 HasRaised s v o x = (y : LaneSeat) × (get_elem? s.lanes.items v ≡ some y) × Among (o, x) y.me.0.raised
 
--- it knows the waves up to wave k as final, and no others
+-- it knows the waves up to wave k as final
 abbrev pub KnowsTo : ℕ → WaveSeat → Type 0
-KnowsTo k s = (v : ℕ) (y : LaneSeat) → get_elem? s.lanes.items v ≡ some y → y.me.0.known ≡ k
+KnowsTo k s = (v : ℕ) (y : LaneSeat) → get_elem? s.lanes.items v ≡ some y → k ≤ y.me.0.known
 
 -- It is of the table: it has a seat of the claim words and one of each lane, with as many parts.
 pub record IsOf (t : WaveTable) (s : WaveSeat) : Type 0 where
@@ -76,6 +76,7 @@ pub record IsGlued (s other n : WaveSeat) : Type 0 where
   pub other_draws : (j k : ℕ) → Among (j, k) (draws_of other) → Among (j, k) (draws_of n)
   pub no_more : (j k : ℕ) → Among (j, k) (draws_of n) → Among (j, k) (draws_of other) ⊎ Among (j, k) (draws_of s)
   pub known : (k : ℕ) → KnowsTo k s → KnowsTo k n
+  pub other_known : (k : ℕ) → KnowsTo k other → KnowsTo k n
   pub raised : (v o x : ℕ) → HasRaised s v o x → HasRaised n v o x
   pub other_raised : (v o x : ℕ) → HasRaised other v o x → HasRaised n v o x
   pub only : (v o x : ℕ) → HasRaised n v o x → HasRaised other v o x ⊎ HasRaised s v o x

@@ -118,6 +118,15 @@ impl WaveTable {
         self.ways.as_slice()[vertex as usize].as_slice()
     }
 
+    // The first offset of a wave.
+    pub(crate) fn first_offset(&self, wave: u32) -> u64
+        requires wave { wave < (net_of self.now.plan).waves }
+        ensures value { result ≡ wave * self.now.plan.span }
+        ensures within { result ≤ self.now.plan.bound }
+    {
+        wave as u64 * self.plan.span
+    }
+
     // How many offsets a wave has.
     pub(crate) fn offsets(&self, wave: u32) -> u64
         requires wave { wave < (net_of self.now.plan).waves }

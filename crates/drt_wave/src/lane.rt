@@ -4,7 +4,7 @@ ghost use Rattle.drt_model.specs.Digraph.{vertex_count};
 ghost use Rattle.drt_wave.specs.Net.{Reached};
 ghost use Rattle.drt_wave.specs.Cells.{IsPlan, width};
 ghost use Rattle.drt_wave.specs.Keys.{lane_net, lane_first, lane_count};
-ghost use Rattle.drt_wave.specs.Lanes.{Settled, IsRead, fresh_lane, lane_left, lane_right, lane_joined, lane_raised, lane_settled};
+ghost use Rattle.drt_wave.specs.Lanes.{Settled, IsRead, fresh_lane, lane_left, lane_right, lane_joined, lane_raised, Learns};
 
 use crate::column::Column;
 use crate::plan::Plan;
@@ -87,15 +87,15 @@ impl Lane {
         self.table.shared.load::<Glance>(seat, offset as usize)
     }
 
-    /// By this step the seat that has every part, and passed on all that the next wave's cells get here, knows that wave as final too.
-    pub(crate) fn settle(&self, seat: &mut LaneSeat)
+    /// By a look at the cell of an offset a seat that passed on all that the cells of the next wave get here knows that wave as final too.
+    pub(crate) fn settle(&self, seat: &mut LaneSeat, offset: u64)
         requires seat { IsLaneSeat self.now seat.old }
-        requires whole { seat.old.me.0.parts ≡ 1024 }
-        requires settled { Settled lane_net lane_first lane_count self.now.table.shared.key seat.old.me.0 }
+        requires offset { offset < self.now.table.shared.table_id.words }
+        requires settled { Settled lane_net lane_first lane_count self.now.table.shared.key seat.old.me.0 ((lane_net self.now.table.shared.key).wave (lane_first self.now.table.shared.key + offset)) }
         ensures seat { IsLaneSeat self.now seat.new }
-        ensures settled { seat.new.me.0 ≡ lane_settled seat.old.me.0 }
+        ensures learned { Learns ((lane_net self.now.table.shared.key).wave (lane_first self.now.table.shared.key + offset) + 1) seat.old.me.0 seat.new.me.0 }
     {
-        let _first = self.table.shared.load::<Settle>(seat, 0);
+        self.table.shared.load::<Settle>(seat, offset as usize);
     }
 
     /// A seat with one of the parts.

@@ -38,11 +38,11 @@ impl<S> Play<S, LaneView<LaneKey>> for Glance {
     ghost then = { glanced lane_net lane_first };
 }
 
-/// A lane is looked at by the seat that has every part and was told of all that its cells of the next wave get.
+/// A lane is looked at by a seat that passed on all that its cells of the next wave get.
 pub struct Settle;
 
-impl<S, F> Play<S, LaneView<F>> for Settle {
-    ghost then = { settles };
+impl<S> Play<S, LaneView<LaneKey>> for Settle {
+    ghost then = { settles lane_net lane_first };
 }
 
 /// A cell is made at least a work.

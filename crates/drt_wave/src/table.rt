@@ -133,21 +133,23 @@ impl WaveTable {
         lane.glance(&mut seat.lanes[vertex as usize], offset)
     }
 
-    /// By a look at each lane the seat that has every part, and expanded each cell up to a wave, knows the next wave as final too.
-    pub fn settle(&self, seat: &mut WaveSeat)
+    /// By a look at each lane a seat that expanded each cell up to a wave knows the next wave as final too.
+    pub fn settle(&self, seat: &mut WaveSeat, wave: u32)
         requires seat { IsOf self.now seat.old }
-        requires parts { parts_of seat.old ≡ 1024 }
-        requires expanded { (k : ℕ) × KnowsTo k seat.old × ExpandedTo self.now.plan k seat.old }
+        requires wave { wave < (net_of self.now.plan).waves }
+        requires expanded { ExpandedTo self.now.plan wave seat.old }
         ensures seat { IsOf self.now seat.new }
         ensures parts { parts_of seat.new ≡ parts_of seat.old }
         ensures draws { draws_of seat.new ≡ draws_of seat.old }
         ensures raised { (v o x : ℕ) → HasRaised seat.old v o x → HasRaised seat.new v o x }
         ensures same { HasNoMore seat.old seat.new }
-        ensures known { (k : ℕ) → KnowsTo k seat.old → KnowsTo (k + 1) seat.new }
+        ensures kept { (k : ℕ) → KnowsTo k seat.old → KnowsTo k seat.new }
+        ensures known { KnowsTo (wave + 1) seat.new }
     {
+        let first = self.first_offset(wave);
         let lanes = self.lanes.as_slice();
         'lanes: for v in 0..lanes.len() {
-            lanes[v].settle(&mut seat.lanes[v]);
+            lanes[v].settle(&mut seat.lanes[v], first);
         }
     }
 

@@ -23,7 +23,7 @@ pub fn work_wave(table: &WaveTable, seat: &mut WaveSeat, wave: u32)
     ensures known { KnowsTo (wave + 1) seat.new }
 {
     draw_wave(table, seat, wave);
-    table.settle(seat);
+    table.settle(seat, wave);
 }
 
 // Draws all blocks of a wave, or what is left of them, and expands their cells. The last number is past the end.

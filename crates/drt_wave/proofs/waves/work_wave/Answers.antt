@@ -3,16 +3,10 @@ use Rattle.drt_wave.specs.Cells.{net_of}
 use Rattle.drt_wave.proofs.Going.{waves_more, expanded_to, all_on, below_on}
 use Rattle.drt_wave.proofs.waves.work_wave.Goals as goal
 
-pub settle-requires-clause-parts : goal.settle-requires-clause-parts
-settle-requires-clause-parts c = c.draw_wave.ensures.turned.parts ∙ c.requires.whole
-
 pub settle-requires-clause-expanded : goal.settle-requires-clause-expanded
 settle-requires-clause-expanded c =
-    let t = c.args.table.now in let d = c.draw_wave.ensures in (
-      c.args.wave,
-      d.turned.known c.args.wave c.requires.known,
-      expanded_to t.plan t.planned c.draw_wave.new.seat c.args.wave d.all (waves_more t _ _ c.args.wave d.turned c.requires.drawn d.worked),
-    )
+    let t = c.args.table.now in let d = c.draw_wave.ensures in
+    expanded_to t.plan t.planned c.draw_wave.new.seat c.args.wave d.all (waves_more t _ _ c.args.wave d.turned c.requires.drawn d.worked)
 
 pub returns-clause-whole : goal.returns-clause-whole
 returns-clause-whole c = c.settle.ensures.parts ∙ (c.draw_wave.ensures.turned.parts ∙ c.requires.whole)
@@ -26,6 +20,3 @@ returns-clause-drawn c =
     let t = c.args.table.now in let d = c.draw_wave.ensures in
     below_on (net_of t.plan) c.draw_wave.new.seat c.settle.new.seat (c.args.wave + 1) c.settle.ensures.draws
     (waves_more t _ _ c.args.wave d.turned c.requires.drawn d.worked)
-
-pub returns-clause-known : goal.returns-clause-known
-returns-clause-known c = c.settle.ensures.known c.args.wave (c.draw_wave.ensures.turned.known c.args.wave c.requires.known)
