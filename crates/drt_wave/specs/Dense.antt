@@ -1,9 +1,17 @@
 -- The cells of a table that was worked to its end.
-use Rattle.std.specs.Prelude.{◌≡◌, ℕ, ◌<◌, ◌≤◌, List, [], length, slice_index, slice_index_or}
+use Rattle.std.specs.Prelude.{◌≡◌, ℕ, ◌<◌, ◌≤◌, List, [], length, slice_index, slice_index_or, Option, Some, None}
+use Rattle.std.specs.Mem.Slots.{slots_items}
+use Rattle.std.specs.declared.alloc.Global.{Global}
+use Rattle.atomic_table.specs.declared.owned.Closed.{Closed}
 use Rattle.drt_model.specs.Digraph.{vertex_count}
 use Rattle.drt_wave.specs.declared.plan.Plan.{Plan}
 use Rattle.drt_wave.specs.Net.{IsBest}
 use Rattle.drt_wave.specs.Cells.{cell_at, net_of, width}
+
+-- the words of a lane's table that is closed, and none where there is no table
+abbrev pub cells_of : Option (Closed (Unit {0}) Global) → List ℕ
+cells_of None = []
+cells_of (Some closed) = slots_items closed.words
 
 -- What the table is of, and the cells of each vertex.
 pub record Dense : Type 0 where

@@ -5,20 +5,22 @@ use atomic_table::Closed;
 use std::alloc::Global;
 use std::marker::Model;
 
-/// The greatest works of the walks that end at a vertex, by offset. Contracts see it as the list.
+/// The greatest works of the walks that end at a vertex, by offset. Contracts see it as the list. The default has no cell.
+#[derive(Default)]
 pub(crate) struct Column {
-    pub(crate) closed: Closed<(), Global>,
+    pub(crate) closed: Option<Closed<(), Global>>,
 }
 
 impl Model for Column {
-    ghost use Rattle.std.specs.Prelude.{◌≡◌, ℕ, List};
-    ghost use Rattle.std.specs.Mem.Slots.{slots_items, slots_len, IsFull};
+    ghost use Rattle.std.specs.Prelude.{◌≡◌, ℕ, List, IfSome};
+    ghost use Rattle.std.specs.Mem.Slots.{slots_len, IsFull};
+    ghost use Rattle.drt_wave.specs.Dense.{cells_of};
 
     ghost Value = { List ℕ };
 
-    ghost view = { λ d. slots_items d.closed.words };
+    ghost view = { λ d. cells_of d.closed };
 
-    ghost invariant = { λ d. (slots_len d.closed.slots ≡ 0) × IsFull d.closed.words };
+    ghost invariant = { λ d. IfSome d.closed (λ closed. (slots_len closed.slots ≡ 0) × IsFull closed.words) };
 }
 
 impl Column {
@@ -27,13 +29,18 @@ impl Column {
         requires { offset < length self.now }
         ensures { result ≡ slice_index self.now offset }
     {
-        self.closed.word(offset as usize)
+        let Some(closed) = &self.closed else {
+            unreachable!()
+        };
+        closed.word(offset as usize)
     }
 }
 
 impl Drop for Column {
     fn drop(self) {
         let Column { closed } = self;
-        closed.free();
+        if let Some(closed) = closed {
+            closed.free();
+        }
     }
 }

@@ -2,14 +2,18 @@
 
 use crate::column::Column;
 use crate::plan::Plan;
-use drt_model::Row;
+use arrayvec::ArrayVec;
 use std::marker::Model;
 
-/// The greatest works of a graph's walks, by vertex and offset. Contracts see it as its plan and the cells of each vertex.
+// The most vertices of a graph.
+const MOST_VERTICES: usize = 96;
+
+/// The greatest works of a graph's walks, by vertex and offset. Contracts see it as its plan and the cells of each vertex. There is a place for
+/// as many vertices as a graph may have, so to close a table takes no memory.
 #[derive(Drop)]
 pub struct DenseFront {
     pub(crate) plan: Plan,
-    pub(crate) columns: Row<Column>,
+    pub(crate) columns: ArrayVec<Column, MOST_VERTICES>,
 }
 
 impl Model for DenseFront {
@@ -18,7 +22,7 @@ impl Model for DenseFront {
 
     ghost Value = { Dense };
 
-    ghost view = { λ d. record { plan = d.plan; columns = d.columns } };
+    ghost view = { λ d. record { plan = d.plan; columns = d.columns.items } };
 
-    ghost invariant = { λ d. IsPlan d.plan × AreWhole d.plan d.columns × AreBest d.plan d.columns };
+    ghost invariant = { λ d. IsPlan d.plan × AreWhole d.plan d.columns.items × AreBest d.plan d.columns.items };
 }

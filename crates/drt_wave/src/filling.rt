@@ -47,7 +47,7 @@ pub fn dense_front(alloc: Global, graph: &Graph, bound: u64) -> Result<DenseFron
 {
     let (table, mut seat) = WaveTable::start(alloc, graph, bound)?;
     work_all(&table, &mut seat, table.plan.wave_count());
-    table.close(alloc, seat)
+    Ok(table.close(seat))
 }
 
 // The lanes of a plan, opened side by side where there are many cells, or where the gate may wait for another worker.
@@ -89,7 +89,7 @@ pub fn fill<G: Gate, R: Threads + Wait + Sync>(
     let (lanes, seats) = open_lanes(rt, alloc, &plan, workers, gate)?;
     let (table, owner) = WaveTable::of_lanes(alloc, plan, lanes, seats)?;
     match share_table(rt, alloc, &table, owner, workers, gate)? {
-        Some(seat) => table.close(alloc, seat),
+        Some(seat) => Ok(table.close(seat)),
         // A part is still out, which can't be: the table is given up, and one seat works another.
         None => dense_front(alloc, graph, bound),
     }

@@ -130,7 +130,7 @@ impl Lane {
     {
         let Lane { table } = self;
         Column {
-            closed: table.close_with(seat),
+            closed: Some(table.close_with(seat)),
         }
     }
 }

@@ -7,13 +7,13 @@ ghost use Rattle.drt_wave.specs.Tables.{AreLanes, AreOpened};
 ghost use Rattle.drt_wave.specs.Ways.{AreWays};
 
 use crate::claims::Claims;
-use crate::column::Column;
 use crate::dense::DenseFront;
 use crate::lane::{Lane, LaneSeat};
 use crate::opening::open_all;
-use crate::plan::{Plan, make_plan};
+use crate::plan::{Plan, keeps_its_bounds, make_plan};
 use crate::seat::WaveSeat;
 use crate::ways::{Way, make_ways};
+use arrayvec::ArrayVec;
 use drt_graph::Graph;
 use drt_model::{Memory, Row};
 use std::alloc::Global;
@@ -225,28 +225,26 @@ impl WaveTable {
     }
 
     /// The greatest works. The seat knows every wave as final.
-    pub fn close(self, alloc: Global, seat: WaveSeat) -> Result<DenseFront, Memory>
+    pub fn close(self, seat: WaveSeat) -> DenseFront
         requires seat { IsOf self seat }
         requires known { (k : ℕ) × KnowsTo k seat × ((net_of self.plan).waves ≤ k + 1) }
-        ensures { IfOk result (λ front. front.plan ≡ self.plan) }
+        ensures { result.plan ≡ self.plan }
     {
         let WaveTable { plan, lanes, .. } = self;
         let WaveSeat {
             lanes: mut seats,
             ..
         } = seat;
+        keeps_its_bounds(&plan.graph);
         let mut lanes = lanes.into_vec();
-        let mut columns: Vec<Column> = Vec::with_capacity(alloc, lanes.len())?;
+        let mut columns = ArrayVec::new();
         'lanes: while let Some(lane) = lanes.pop() {
             let Some(lane_seat) = seats.pop() else {
                 unreachable!()
             };
-            columns.push_reserved(lane.close(lane_seat));
+            columns.push(lane.close(lane_seat));
         }
-        columns.reverse();
-        Ok(DenseFront {
-            plan,
-            columns: Row::from_vec(columns),
-        })
+        columns.as_mut_slice().reverse();
+        DenseFront { plan, columns }
     }
 }
