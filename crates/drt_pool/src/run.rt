@@ -1,6 +1,7 @@
 //! Turning all passes.
 
-ghost use Rattle.std.specs.Prelude.{◌≡◌, ℕ, ◌<◌, ◌≤◌, length, IfNone, is_none, true};
+ghost use Rattle.std.specs.Prelude.{◌≡◌, ℕ, ◌+◌, ◌<◌, ◌≤◌, length, IfNone, is_none, true};
+ghost use denote.Param.Send.{IsSync, IsSend};
 ghost use Rattle.drt_pool.specs.Turns.{AtPlace, EachPlace};
 
 use crate::gate::Gate;
@@ -82,20 +83,105 @@ fn turn_beside<W: Work, G: Gate, R: Threads + Wait + Sync>(
     gate: &G,
     turned: u64,
 )
+    requires some { 0 < length passes.old }
     requires count { length passes.old ≤ 16 }
     requires fits { EachPlace (W.fits work.now) passes.old }
     ensures count { length passes.new ≡ length passes.old }
     ensures fits { EachPlace (W.fits work.now) passes.new }
     ensures ended { EachPlace (W.ended work.now) passes.new }
 {
-    let worker = move |place: usize, pass: &mut W::Pass|
-        requires { (place < 16) × W.fits work.now place pass.now }
-        ensures { W.fits work.entry.now place pass.exit.now × W.ended work.entry.now place pass.exit.now }
-    {
+    let size = passes.len().div_ceil(worker_limit(rt, turned));
+    turn_groups(rt, work, gate, turned, 0, size, passes);
+}
+
+// Turns the passes from place `base` on. The caller begins all workers itself, each for the last `size` passes of those that have none, and
+// turns the first ones: a worker that had to begin others would begin them late where it has to wait for a processor.
+#[cycle(groups)]
+fn turn_groups<W: Work, G: Gate, R: Threads + Wait + Sync>(
+    rt: &R,
+    work: &W,
+    gate: &G,
+    turned: u64,
+    base: usize,
+    size: usize,
+    passes: &mut [W::Pass],
+)
+    requires size { 0 < size }
+    requires places { base + length passes.old ≤ 16 }
+    requires fits { EachPlace (λ i pass. W.fits work.now (base + i) pass) passes.old }
+    ensures count { length passes.new ≡ length passes.old }
+    ensures fits { EachPlace (λ i pass. W.fits work.now (base + i) pass) passes.new }
+    ensures ended { EachPlace (λ i pass. W.ended work.now (base + i) pass) passes.new }
+{
+    if passes.len() <= size {
+        turn_group(rt, work, gate, turned, base, passes);
+        return;
+    }
+    let mid = passes.len() - size;
+    let (first, last) = passes.split_at_mut(mid);
+    turn_both(rt, work, gate, turned, base, size, first, base + mid, last);
+}
+
+// Turns the last passes in a new thread, or last where none can be had, and those before them in this one.
+#[cycle(groups)]
+fn turn_both<W: Work, G: Gate, R: Threads + Wait + Sync>(
+    rt: &R,
+    work: &W,
+    gate: &G,
+    turned: u64,
+    base: usize,
+    size: usize,
+    first: &mut [W::Pass],
+    up: usize,
+    last: &mut [W::Pass],
+)
+    requires size { 0 < size }
+    requires first_places { base + length first.old ≤ 16 }
+    requires last_places { up + length last.old ≤ 16 }
+    requires first_fits { EachPlace (λ i pass. W.fits work.now (base + i) pass) first.old }
+    requires last_fits { EachPlace (λ i pass. W.fits work.now (up + i) pass) last.old }
+    ensures first_count { length first.new ≡ length first.old }
+    ensures first_fits { EachPlace (λ i pass. W.fits work.now (base + i) pass) first.new }
+    ensures first_ended { EachPlace (λ i pass. W.ended work.now (base + i) pass) first.new }
+    ensures last_count { length last.new ≡ length last.old }
+    ensures last_fits { EachPlace (λ i pass. W.fits work.now (up + i) pass) last.new }
+    ensures last_ended { EachPlace (λ i pass. W.ended work.now (up + i) pass) last.new }
+{
+    let mut here = ||
+        requires { IsSync R.row × IsSync W.row × IsSync G.row × IsSend W.Pass.row × (0 < size) × (base + length first.now ≤ 16)
+            × EachPlace (λ i pass. W.fits work.now (base + i) pass) first.now }
+        ensures { (length first.exit.now ≡ length first.entry.now) × EachPlace (λ i pass. W.fits work.entry.now (base + i) pass) first.exit.now
+            × EachPlace (λ i pass. W.ended work.entry.now (base + i) pass) first.exit.now }
+    { turn_groups(rt, work, gate, turned, base, size, first) };
+    let mut beside = ||
+        requires { IsSync R.row × IsSync W.row × IsSync G.row × IsSend W.Pass.row × (up + length last.now ≤ 16)
+            × EachPlace (λ i pass. W.fits work.now (up + i) pass) last.now }
+        ensures { (length last.exit.now ≡ length last.entry.now) × EachPlace (λ i pass. W.fits work.entry.now (up + i) pass) last.exit.now
+            × EachPlace (λ i pass. W.ended work.entry.now (up + i) pass) last.exit.now }
+    { turn_group(rt, work, gate, turned, up, last) };
+    thread::join_mut(rt, &mut beside, &mut here);
+}
+
+// Turns the passes from place `base` on, one after another.
+fn turn_group<W: Work, G: Gate, R: Wait>(
+    rt: &R,
+    work: &W,
+    gate: &G,
+    turned: u64,
+    base: usize,
+    passes: &mut [W::Pass],
+)
+    requires places { base + length passes.old ≤ 16 }
+    requires fits { EachPlace (λ i pass. W.fits work.now (base + i) pass) passes.old }
+    ensures count { length passes.new ≡ length passes.old }
+    ensures fits { EachPlace (λ i pass. W.fits work.now (base + i) pass) passes.new }
+    ensures ended { EachPlace (λ i pass. W.ended work.now (base + i) pass) passes.new }
+{
+    for i in 0..passes.len() {
+        let place = base + i;
         let from = if place == 0 { turned } else { 0 };
-        turn_all(rt, work, pass, gate, place, from)
-    };
-    thread::for_each_mut(rt, passes, worker_limit(rt, turned), &worker);
+        turn_all(rt, work, &mut passes[i], gate, place, from);
+    }
 }
 
 // How many workers may be begun: as many as there are processors, or one for each pass where the gate may wait for another
