@@ -15,7 +15,7 @@ const MOST: usize = 16;
 
 /// Turns each pass until it answers Stop. The caller turns the first pass alone for as many turns as the gate leaves it.
 /// Where it stops within them the caller turns the others too, one after another; else the passes are shared among workers, no
-/// more than there are processors, of which the caller is one. Where no thread can be had the caller does its work.
+/// more than there are processors, and the caller waits for them. Where no thread can be had the caller does its work.
 pub fn run_all<W: Work, G: Gate, R: Threads + Wait + Sync>(
     rt: &R,
     work: &W,
@@ -75,7 +75,7 @@ fn turn_others<W: Work, G: Gate, R: Wait>(rt: &R, work: &W, passes: &mut [W::Pas
     }
 }
 
-// Turns all passes, each by a worker of its own where there are as many. The first one was turned so many times.
+// Turns all passes, each by a worker of its own where there may be as many. The first one was turned so many times.
 fn turn_beside<W: Work, G: Gate, R: Threads + Wait + Sync>(
     rt: &R,
     work: &W,
@@ -91,96 +91,96 @@ fn turn_beside<W: Work, G: Gate, R: Threads + Wait + Sync>(
     ensures ended { EachPlace (W.ended work.now) passes.new }
 {
     let size = passes.len().div_ceil(worker_limit(rt, turned));
-    turn_groups(rt, work, gate, turned, 0, size, passes);
+    if passes.len() <= size {
+        turn_group(rt, work, gate, turned, 0, passes);
+        return;
+    }
+    turn_groups(rt, work, gate, turned, size, passes);
 }
 
-// Turns the passes from place `base` on. The caller begins all workers itself, each for the last `size` passes of those that have none, and
-// turns the first ones: a worker that had to begin others would begin them late where it has to wait for a processor.
+// Turns passes, each `size` of them by a worker of their own, from the last on. The caller begins all workers and then waits for them: a new
+// thread may be put on the processor of who began it, and there it waits for as long as that one works.
 #[cycle(groups)]
 fn turn_groups<W: Work, G: Gate, R: Threads + Wait + Sync>(
     rt: &R,
     work: &W,
     gate: &G,
     turned: u64,
-    base: usize,
     size: usize,
     passes: &mut [W::Pass],
 )
     requires size { 0 < size }
-    requires places { base + length passes.old ≤ 16 }
-    requires fits { EachPlace (λ i pass. W.fits work.now (base + i) pass) passes.old }
+    requires count { length passes.old ≤ 16 }
+    requires fits { EachPlace (W.fits work.now) passes.old }
     ensures count { length passes.new ≡ length passes.old }
-    ensures fits { EachPlace (λ i pass. W.fits work.now (base + i) pass) passes.new }
-    ensures ended { EachPlace (λ i pass. W.ended work.now (base + i) pass) passes.new }
+    ensures fits { EachPlace (W.fits work.now) passes.new }
+    ensures ended { EachPlace (W.ended work.now) passes.new }
 {
-    if passes.len() <= size {
-        turn_group(rt, work, gate, turned, base, passes);
-        return;
+    if !passes.is_empty() {
+        let from = passes.len().saturating_sub(size);
+        let (first, last) = passes.split_at_mut(from);
+        turn_both(rt, work, gate, turned, size, first, from, last);
     }
-    let mid = passes.len() - size;
-    let (first, last) = passes.split_at_mut(mid);
-    turn_both(rt, work, gate, turned, base, size, first, base + mid, last);
 }
 
-// Turns the last passes in a new thread, or last where none can be had, and those before them in this one.
+// Turns the last passes in a new thread, or last where none can be had, and meanwhile those before them.
 #[cycle(groups)]
 fn turn_both<W: Work, G: Gate, R: Threads + Wait + Sync>(
     rt: &R,
     work: &W,
     gate: &G,
     turned: u64,
-    base: usize,
     size: usize,
     first: &mut [W::Pass],
-    up: usize,
+    from: usize,
     last: &mut [W::Pass],
 )
     requires size { 0 < size }
-    requires first_places { base + length first.old ≤ 16 }
-    requires last_places { up + length last.old ≤ 16 }
-    requires first_fits { EachPlace (λ i pass. W.fits work.now (base + i) pass) first.old }
-    requires last_fits { EachPlace (λ i pass. W.fits work.now (up + i) pass) last.old }
+    requires first_count { length first.old ≤ 16 }
+    requires last_places { from + length last.old ≤ 16 }
+    requires first_fits { EachPlace (W.fits work.now) first.old }
+    requires last_fits { EachPlace (λ i pass. W.fits work.now (from + i) pass) last.old }
     ensures first_count { length first.new ≡ length first.old }
-    ensures first_fits { EachPlace (λ i pass. W.fits work.now (base + i) pass) first.new }
-    ensures first_ended { EachPlace (λ i pass. W.ended work.now (base + i) pass) first.new }
+    ensures first_fits { EachPlace (W.fits work.now) first.new }
+    ensures first_ended { EachPlace (W.ended work.now) first.new }
     ensures last_count { length last.new ≡ length last.old }
-    ensures last_fits { EachPlace (λ i pass. W.fits work.now (up + i) pass) last.new }
-    ensures last_ended { EachPlace (λ i pass. W.ended work.now (up + i) pass) last.new }
+    ensures last_fits { EachPlace (λ i pass. W.fits work.now (from + i) pass) last.new }
+    ensures last_ended { EachPlace (λ i pass. W.ended work.now (from + i) pass) last.new }
 {
     let mut here = ||
-        requires { IsSync R.row × IsSync W.row × IsSync G.row × IsSend W.Pass.row × (0 < size) × (base + length first.now ≤ 16)
-            × EachPlace (λ i pass. W.fits work.now (base + i) pass) first.now }
-        ensures { (length first.exit.now ≡ length first.entry.now) × EachPlace (λ i pass. W.fits work.entry.now (base + i) pass) first.exit.now
-            × EachPlace (λ i pass. W.ended work.entry.now (base + i) pass) first.exit.now }
-    { turn_groups(rt, work, gate, turned, base, size, first) };
+        requires { IsSync R.row × IsSync W.row × IsSync G.row × IsSend W.Pass.row × (0 < size) × (length first.now ≤ 16)
+            × EachPlace (W.fits work.now) first.now }
+        ensures { (length first.exit.now ≡ length first.entry.now) × EachPlace (W.fits work.entry.now) first.exit.now
+            × EachPlace (W.ended work.entry.now) first.exit.now }
+    { turn_groups(rt, work, gate, turned, size, first) };
     let mut beside = ||
-        requires { IsSync R.row × IsSync W.row × IsSync G.row × IsSend W.Pass.row × (up + length last.now ≤ 16)
-            × EachPlace (λ i pass. W.fits work.now (up + i) pass) last.now }
-        ensures { (length last.exit.now ≡ length last.entry.now) × EachPlace (λ i pass. W.fits work.entry.now (up + i) pass) last.exit.now
-            × EachPlace (λ i pass. W.ended work.entry.now (up + i) pass) last.exit.now }
-    { turn_group(rt, work, gate, turned, up, last) };
+        requires { IsSync R.row × IsSync W.row × IsSync G.row × IsSend W.Pass.row × (from + length last.now ≤ 16)
+            × EachPlace (λ i pass. W.fits work.now (from + i) pass) last.now }
+        ensures { (length last.exit.now ≡ length last.entry.now) × EachPlace (λ i pass. W.fits work.entry.now (from + i) pass) last.exit.now
+            × EachPlace (λ i pass. W.ended work.entry.now (from + i) pass) last.exit.now }
+    { turn_group(rt, work, gate, turned, from, last) };
     thread::join_mut(rt, &mut beside, &mut here);
 }
 
-// Turns the passes from place `base` on, one after another.
+// Turns passes that begin at place `from`, one after another.
 fn turn_group<W: Work, G: Gate, R: Wait>(
     rt: &R,
     work: &W,
     gate: &G,
     turned: u64,
-    base: usize,
+    from: usize,
     passes: &mut [W::Pass],
 )
-    requires places { base + length passes.old ≤ 16 }
-    requires fits { EachPlace (λ i pass. W.fits work.now (base + i) pass) passes.old }
+    requires places { from + length passes.old ≤ 16 }
+    requires fits { EachPlace (λ i pass. W.fits work.now (from + i) pass) passes.old }
     ensures count { length passes.new ≡ length passes.old }
-    ensures fits { EachPlace (λ i pass. W.fits work.now (base + i) pass) passes.new }
-    ensures ended { EachPlace (λ i pass. W.ended work.now (base + i) pass) passes.new }
+    ensures fits { EachPlace (λ i pass. W.fits work.now (from + i) pass) passes.new }
+    ensures ended { EachPlace (λ i pass. W.ended work.now (from + i) pass) passes.new }
 {
     for i in 0..passes.len() {
-        let place = base + i;
-        let from = if place == 0 { turned } else { 0 };
-        turn_all(rt, work, &mut passes[i], gate, place, from);
+        let place = from + i;
+        let turns = if place == 0 { turned } else { 0 };
+        turn_all(rt, work, &mut passes[i], gate, place, turns);
     }
 }
 

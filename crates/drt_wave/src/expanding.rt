@@ -97,7 +97,7 @@ pub(crate) fn expand_block(table: &WaveTable, seat: &mut WaveSeat, wave: u32, bl
     ensures kept { Kept seat.old seat.new }
     ensures expanded { (n : ℕ) → n < (net_of table.now.plan).size wave → n / 64 ≡ block → IsExpanded table.now.plan seat.new ((net_of table.now.plan).cell wave n) }
 {
-    let first = wave as u64 * table.plan.span;
+    let first = table.first_offset(wave);
     let width = table.offsets(wave);
     let begin = block * BLOCK;
     let end = (begin + BLOCK).min(table.wave_size(wave));
@@ -136,7 +136,7 @@ impl WaveTable {
         ensures first { wave * self.now.plan.span ≤ self.now.plan.bound }
         ensures bound { self.now.plan.bound < 4194304 }
     {
-        let first = wave as u64 * self.plan.span;
+        let first = self.first_offset(wave);
         self.plan.span.min(self.plan.width() - first)
     }
 

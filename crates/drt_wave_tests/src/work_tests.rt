@@ -58,7 +58,7 @@ fn read_worked(alloc: Global, cell: u32) -> Result<(u64, u64), Fail> {
 // The works of a table that was worked and then closed.
 fn close_worked(alloc: Global, shape: Shape<'_>, bound: u64) -> Result<DenseFront, Fail> {
     let (table, seat) = work_table(alloc, shape, bound)?;
-    Ok(table.close(alloc, seat)?)
+    Ok(table.close(seat))
 }
 
 // The work that is wanted of a vertex and an offset, 0 where none is named.

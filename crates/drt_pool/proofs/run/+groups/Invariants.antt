@@ -1,4 +1,5 @@
-use Rattle.std.proofs.Common.{ℕ, ◌+◌, ◌*◌, length}
+-- A call has fewer passes than the one before it.
+use Rattle.std.proofs.Common.{◌+◌, ◌*◌, length}
 use Rattle.drt_pool.proofs.run.+groups.Given as goal
 
 abbrev pub decreases-turn_groups : goal.decreases-turn_groups
