@@ -5,7 +5,7 @@ ghost use Rattle.drt_wave.specs.Cells.{net_of, IsPlan};
 ghost use Rattle.drt_wave.specs.Seats.{parts_of, draws_of, KnowsTo, IsOf};
 ghost use Rattle.drt_wave.specs.Tables.{AreOpened};
 
-use crate::crew::worker_limit;
+use crate::crew::{LARGE, worker_limit};
 use crate::dense::DenseFront;
 use crate::lane::{Lane, LaneSeat};
 use crate::opening::{open_all, open_together};
@@ -20,9 +20,6 @@ use drt_pool::Gate;
 use std::alloc::Global;
 use std::sync::Wait;
 use std::thread::Threads;
-
-// A table of fewer cells is opened by one worker.
-const LARGE: u64 = 131_072;
 
 // Works all waves, in order.
 fn work_all(table: &WaveTable, seat: &mut WaveSeat, count: u32)

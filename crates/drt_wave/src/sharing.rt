@@ -126,10 +126,7 @@ pub(crate) fn share_table<G: Gate, R: Threads + Wait + Sync>(
     ensures seat { IfOk result (λ o. IfSome o (λ seat. IsOf table.now seat)) }
     ensures known { IfOk result (λ o. IfSome o (λ seat. KnowsTo (net_of table.now.plan).waves seat)) }
 {
-    let crew = Crew {
-        count: workers,
-        begins_at_once: gate.alone() == 0,
-    };
+    let crew = Crew::new(&table.plan, workers, gate);
     let desk = Desk::open(table, owner, crew);
     if desk.is_done() {
         return Ok(desk.into_seat());
