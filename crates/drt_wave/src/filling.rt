@@ -5,7 +5,7 @@ ghost use Rattle.drt_wave.specs.Cells.{net_of, IsPlan};
 ghost use Rattle.drt_wave.specs.Seats.{parts_of, draws_of, KnowsTo, IsOf};
 ghost use Rattle.drt_wave.specs.Tables.{AreOpened};
 
-use crate::crew::{LARGE, worker_limit};
+use crate::crew::{Crew, LARGE};
 use crate::dense::DenseFront;
 use crate::lane::{Lane, LaneSeat};
 use crate::opening::{open_all, open_together};
@@ -48,20 +48,19 @@ pub fn dense_front(alloc: Global, graph: &Graph, bound: u64) -> Result<DenseFron
 }
 
 // The lanes of a plan, opened side by side where there are many cells, or where the gate may wait for another worker.
-fn open_lanes<G: Gate, R: Threads + Wait + Sync>(
+fn open_lanes<R: Threads + Wait + Sync>(
     rt: &R,
     alloc: Global,
     plan: &Plan,
-    workers: u32,
-    gate: &G,
+    crew: Crew,
 ) -> Result<(Vec<Lane>, Vec<LaneSeat>), Memory>
     requires planned { IsPlan plan.now }
-    requires workers { (1 ≤ workers) × (workers ≤ 16) }
+    requires crew { crew.count ≤ 16 }
     ensures count { IfOk result (λ r. length r.0.items ≡ vertex_count plan.now.graph) }
     ensures opened { IfOk result (λ r. AreOpened plan.now 0 r.0.items r.1.items) }
 {
-    if workers > 1 && (gate.alone() == 0 || plan.cell_count() >= LARGE) {
-        return open_together(rt, alloc, plan, workers);
+    if crew.count > 1 && (crew.begins_at_once || plan.cell_count() >= LARGE) {
+        return open_together(rt, alloc, plan, crew.count);
     }
     open_all(alloc, plan)
 }
@@ -82,10 +81,10 @@ pub fn fill<G: Gate, R: Threads + Wait + Sync>(
     ensures bound { IfOk result (λ front. front.plan.bound ≡ bound) }
 {
     let plan = make_plan(alloc, graph, bound)?;
-    let workers = worker_limit(rt, &plan, workers, gate);
-    let (lanes, seats) = open_lanes(rt, alloc, &plan, workers, gate)?;
+    let crew = Crew::new(rt, &plan, workers, gate);
+    let (lanes, seats) = open_lanes(rt, alloc, &plan, crew)?;
     let (table, owner) = WaveTable::of_lanes(alloc, plan, lanes, seats)?;
-    match share_table(rt, alloc, &table, owner, workers, gate)? {
+    match share_table(rt, alloc, &table, owner, crew, gate)? {
         Some(seat) => Ok(table.close(seat)),
         // A part is still out, which can't be: the table is given up, and one seat works another.
         None => dense_front(alloc, graph, bound),

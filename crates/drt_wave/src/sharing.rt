@@ -117,20 +117,19 @@ pub(crate) fn share_table<G: Gate, R: Threads + Wait + Sync>(
     alloc: Global,
     table: &WaveTable,
     owner: WaveSeat,
-    workers: u32,
+    crew: Crew,
     gate: &G,
 ) -> Result<Option<WaveSeat>, Memory>
     requires owner { IsAtWork table.now 0 1024 owner }
     requires draws { draws_of owner ≡ [] }
-    requires workers { workers ≤ 16 }
+    requires crew { crew.count ≤ 16 }
     ensures seat { IfOk result (λ o. IfSome o (λ seat. IsOf table.now seat)) }
     ensures known { IfOk result (λ o. IfSome o (λ seat. KnowsTo (net_of table.now.plan).waves seat)) }
 {
-    let crew = Crew::new(&table.plan, workers, gate);
     let desk = Desk::open(table, owner, crew);
     if desk.is_done() {
         return Ok(desk.into_seat());
     }
-    let desk = work_desk(rt, alloc, table, desk, workers, gate)?;
+    let desk = work_desk(rt, alloc, table, desk, crew.count, gate)?;
     Ok(desk.into_seat())
 }

@@ -142,10 +142,15 @@ fn any_number_of_workers_finds_the_works_of_wide_waves(rt: HostRuntime) -> Resul
 
 // How often two workers of a drawn task's table meet before their first turns, under a gate that leaves the caller a turn alone. There no
 // worker begins before the first wave that is shared, which is the seventh, as with the open gate.
-fn meetings_of<R: Threads + Wait + Sync>(rt: &R, alloc: Global, number: u64) -> Result<u64, Fail> {
+fn meetings_of<R: Threads + Wait + Sync>(
+    rt: &R,
+    alloc: Global,
+    number: u64,
+    bound: u64,
+) -> Result<u64, Fail> {
     let gate = Meeting::behind(1);
-    let graph = draw_graph(alloc, number, BOUND)?;
-    let _works = fill(rt, alloc, &graph, BOUND, 2, &gate)?;
+    let graph = draw_graph(alloc, number, bound)?;
+    let _works = fill(rt, alloc, &graph, bound, 2, &gate)?;
     Ok(gate.times_met())
 }
 
@@ -159,6 +164,13 @@ fn two_workers_begin_with_a_later_wave_where_there_are_two_processors(
     } else {
         0
     };
-    assert_eq!(rt; meetings_of(&rt, rt.alloc(), 0)?, wanted);
+    assert_eq!(rt; meetings_of(&rt, rt.alloc(), 0, BOUND)?, wanted);
+    Ok(())
+}
+
+// Up to this bound there are 99,996 cells, and fewer than 30,000 of them from the seventh wave on.
+#[test]
+fn one_worker_works_a_table_of_which_little_would_be_shared(rt: HostRuntime) -> Result<(), Fail> {
+    assert_eq!(rt; meetings_of(&rt, rt.alloc(), 0, 8_332)?, 0);
     Ok(())
 }
