@@ -45,7 +45,7 @@ impl Crew {
     {
         let (walks_from, reached) = reach(plan);
         let begins_at_once = gate.alone() == 0;
-        let count = if begins_at_once {
+        let count = if begins_at_once || workers == 1 {
             workers
         } else if is_worth_workers(plan, reached) {
             worker_limit(rt, workers)
