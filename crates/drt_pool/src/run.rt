@@ -1,6 +1,6 @@
 //! Turning all passes.
 
-ghost use Rattle.std.specs.Prelude.{◌≡◌, ℕ, ◌+◌, ◌<◌, ◌≤◌, length, IfNone, is_none, true};
+ghost use Rattle.std.specs.Prelude.{◌≡◌, ◌+◌, ◌<◌, ◌≤◌, length, true};
 ghost use denote.Param.Send.{IsSync, IsSend};
 ghost use Rattle.drt_pool.specs.Turns.{AtPlace, EachPlace};
 
@@ -14,8 +14,9 @@ use std::thread::{Threads, available_parallelism};
 const MOST: usize = 16;
 
 /// Turns each pass until it answers Stop. The caller turns the first pass alone for as many turns as the gate leaves it.
-/// Where it stops within them the caller turns the others too, one after another; else the passes are shared among workers, no
-/// more than there are processors, and the caller waits for them. Where no thread can be had the caller does its work.
+/// Where it stops within them the caller turns the others too, one after another; else the passes are shared among workers, and
+/// the caller waits for them. There are no more workers than processors, or one for each pass where the gate leaves the caller no
+/// turn alone. Where one worker would turn all passes, the caller does; where no thread can be had, it does that worker's work.
 pub fn run_all<W: Work, G: Gate, R: Threads + Wait + Sync>(
     rt: &R,
     work: &W,
