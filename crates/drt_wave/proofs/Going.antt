@@ -159,13 +159,21 @@ drawn_more s n j r b d turned whole has k lt =
     (λ (e : k ≡ t). subst (λ z. Among (j, z) (draws_of n)) (sym e) d.drawn)
     (λ ne. turned.draws j k (d.whole whole k (omega arith)))
 
--- it has drawn the whole wave where the number is past the end
-pub worked_past : (table : WaveTable) (s n : WaveSeat) (j r : ℕ) → HasClaimed j r s n → Turned s n → parts_of s ≡ 1024 → (net_of table.plan).size j ≤ r * 64 → HasWorked table j n
-worked_past table s n j r d turned whole past =
+-- it had drawn the whole wave where the number is past the end
+worked_before : (table : WaveTable) (s n : WaveSeat) (j r : ℕ) → HasClaimed j r s n → parts_of s ≡ 1024 → (net_of table.plan).size j ≤ r * 64 → HasWorked table j s
+worked_before table s n j r d whole past =
     let t : ℕ = d.number in let low : r ≤ t = told_low s n j r d in record {
       blocks = t;
-      drawn = λ k lt. turned.draws j k (d.whole whole k lt);
+      drawn = d.whole whole;
       ended = omega arith;
+    }
+
+pub worked_past : (table : WaveTable) (s n : WaveSeat) (j r : ℕ) → HasClaimed j r s n → Turned s n → parts_of s ≡ 1024 → (net_of table.plan).size j ≤ r * 64 → HasWorked table j n
+worked_past table s n j r d turned whole past =
+    let w = worked_before table s n j r d whole past in record {
+      blocks = w.blocks;
+      drawn = λ k lt. turned.draws j k (w.drawn k lt);
+      ended = w.ended;
     }
 
 -- the waves so far were drawn to their ends, and the next one too
@@ -177,5 +185,14 @@ waves_more table s n j turned before worked i k lt few = dite (dec_lt i j)
     let few' : k < (net_of table.plan).size j = subst (λ z. k < (net_of table.plan).size z) same few in
     subst (λ z. Among (z, k / 64) (draws_of n)) (sym same) (worked.drawn (k / 64) (div_below k 64 worked.blocks (omega arith) (omega arith))))
 
+pub below_turned : (g : Net) (s n : WaveSeat) (j : ℕ) → Turned s n → HasDrawnBelow g j s → HasDrawnBelow g j n
+below_turned g s n j turned before i k lt few = turned.draws i (k / 64) (before i k lt few)
+
 pub below_on : (g : Net) (s n : WaveSeat) (j : ℕ) → draws_of n ≡ draws_of s → HasDrawnBelow g j s → HasDrawnBelow g j n
 below_on g s n j draws before i k lt few = subst (λ l. Among (i, k / 64) l) (sym draws) (before i k lt few)
+
+-- where the seat with every part drew a number past the end of a wave, each cell up to that wave was expanded
+pub past_expanded : (table : WaveTable) (s n : WaveSeat) (j r : ℕ) → HasClaimed j r s n → parts_of s ≡ 1024 → (net_of table.plan).size j ≤ r * 64 → AllExpanded table.plan s
+    → HasDrawnBelow (net_of table.plan) j s → ExpandedTo table.plan j s
+past_expanded table s n j r d whole past all before =
+    expanded_to table.plan table.planned s j all (waves_more table s s j (turned_refl s) before (worked_before table s n j r d whole past))

@@ -1,6 +1,6 @@
 -- Each kind of step keeps the rule of a lane.
 use Rattle.std.proofs.Common.{◌≡◌, ◌≢◌, ℕ, zero, suc, ◌+◌, ◌<◌, ◌≤◌, max, List, [], ◌∷◌}
-use Rattle.std.proofs.Common.{length, get_or, set, sym, refl, ap, ◌∙◌, subst, ⊎_elim, arith, length-set}
+use Rattle.std.proofs.Common.{length, get_or, set, sym, refl, ap, ◌∙◌, subst, inl, inr, ◌⊎◌, ⊎_elim, arith, length-set}
 use mathlib.Core.Logic.{dite}
 use mathlib.Core.Option.{some, none, some-ne-none}
 use native.Mathlib.Decide.{ℕ_discrete, dec_le}
@@ -10,11 +10,11 @@ use Rattle.atomic_table.specs.Table.{State, Me, step, keeps, Allows, Splits, Joi
 use Rattle.atomic_table.proofs.Lists.{at_snoc, set_here, set_else}
 use Rattle.drt_wave.specs.Net.{Net, IsNet, Among, Reaches, Reached, IsBest}
 use Rattle.drt_wave.specs.Sums.{greatest}
-use Rattle.drt_wave.specs.Lanes.{most, fresh_lane, spent_lane, lane_left, lane_right, lane_joined, lane_raised, lane_knowing, Settled, Knows, IsRead, InLane, glanced, raises, settles}
+use Rattle.drt_wave.specs.Lanes.{most, fresh_lane, spent_lane, lane_left, lane_right, lane_joined, lane_raised, lane_knowing, Settled, Knows, IsRead, InLane, glanced, raises}
 use Rattle.drt_wave.specs.declared.view.LaneView.{LaneView}
 use Rattle.drt_wave.proofs.Sums.{total-append, total-set, greatest-append, greatest-set, greatest-drop, greatest_term, greatest_at, among-append}
 use Rattle.drt_wave.proofs.Sums.{most_more, most-append, most_among, among_most, at_inside, all_set, word_here, word_there}
-use Rattle.drt_wave.proofs.Bests.{positive}
+use Rattle.drt_wave.proofs.Bests.{positive, best_of, best_same}
 
 -- what holds of a pair's numbers holds of those of an equal one
 same_pair : (P : ℕ → ℕ → Type 0) (o x d y : ℕ) → P o x → ◌≡◌ {A = ℕ × ℕ} (o, x) (d, y) → P d y
@@ -32,6 +32,10 @@ module _ {F : Type 0} (net : F → Net) (first count : F → ℕ) (key : F) wher
   -- words grow, and not beyond their greatest work
   abbrev Grows : List ℕ → List ℕ → Type 0
   Grows old new = (o : ℕ) → o < count key → IsBest (net key) (first key + o) (get_or old o 0) → get_or new o 0 ≡ get_or old o 0
+
+  -- each word of the first n whose cell is of a wave up to j is final
+  abbrev AreBest : List ℕ → ℕ → ℕ → Type 0
+  AreBest ws j n = (o : ℕ) → o < n → (net key).wave (first key + o) ≤ j → IsBest (net key) (first key + o) (get_or ws o 0)
 
   knows_later : (old new : List ℕ) (v : LaneView F) → Grows old new → Knows net first count key old v → Knows net first count key new v
   knows_later old new v grows k = record {
@@ -133,43 +137,70 @@ module _ {S F : Type 0} (net : F → Net) (first count : F → ℕ) (key : F) wh
       subst (λ ws. Holds record { words = ws; homes = s.homes; views = set s.views id w }) (sym (set-get_or s.words o 0))
       (moved s h id v w s.words me parts refl (λ d ltd. omega (arith, h.cell d ltd, same_raised s.views id v w d me raised)) (λ d ltd best. refl) mine)
 
-  pub glances : (slots id o : ℕ) (m : Me S (LaneView F)) → o < count key → Allows Holds slots id m o (λ n. n) (glanced net first (step slots o 0 0 none) m)
-  glances slots id o m lt s h long me small =
-      let v : LaneView F = m.0 in let n : ℕ = get_or s.words o 0 in let k = h.each id v me in (
-        v,
-        keeps,
-        tt,
-        looked s h id o v v me refl refl k,
-        (
-          refl,
-          λ f e. subst (λ f. IsRead net first f v o n) (sym (k.same f e))
-              record {
-                opened = omega (arith, h.cell o lt);
-                own = λ x a. contribution_le s h id v o x me lt a;
-                reached = cell_reached s h o lt;
-                best = λ low. k.final o lt low;
-              },
-        ),
-      )
+  -- whether they are
+  are_best : (s : State S (LaneView F)) → Holds s → (j n : ℕ) → n ≤ count key → AreBest net first count key s.words j n ⊎ (AreBest net first count key s.words j n → ⊥)
+  are_best s h j zero le = inl (λ o lt low. absurd (omega arith))
+  are_best s h j (suc n) le = ⊎_elim
+      (λ (yes : AreBest net first count key s.words j n). dite (dec_le ((net key).wave (first key + n)) j)
+          (λ low.
+          let b = best_of (net key) h.lawful (first key + n) (omega (arith, h.within)) in
+          dite (ℕ_discrete (get_or s.words n 0) b.0)
+          (λ e. inl (λ o lt low'. dite (ℕ_discrete o n)
+              (λ same. subst (λ i. IsBest (net key) (first key + i) (get_or s.words i 0)) (sym same) (subst (IsBest (net key) (first key + n)) (sym e) b.1))
+              (λ ne. yes o (omega (arith, ne)) low')))
+          (λ ne. inr (λ all. ne (best_same (net key) (first key + n) (get_or s.words n 0) b.0 (all n (omega arith) low) b.1))))
+          (λ high. inl (λ o lt low'. dite (ℕ_discrete o n)
+              (λ same. absurd (high (subst (λ i. (net key).wave (first key + i) ≤ j) same low')))
+              (λ ne. yes o (omega (arith, ne)) low'))))
+      (λ (no : AreBest net first count key s.words j n → ⊥). inr (λ all. no (λ o lt low. all o (omega arith) low)))
+      (are_best s h j n (omega arith))
 
-  pub settles_one : (slots id o : ℕ) (m : Me S (LaneView F)) → o < count key → Settled net first count key m.0 ((net key).wave (first key + o))
-      → Allows Holds slots id m o (λ n. n) (settles net first (step slots o 0 0 none) m)
-  settles_one slots id o m lt settled s h long me small =
-      let v : LaneView F = m.0 in let j : ℕ = (net key).wave (first key + o) in let n : ℕ = max v.known (j + 1) in let w : LaneView F = lane_knowing v n in
-      let k = h.each id v me in (
-        w,
-        keeps,
-        tt,
-        looked s h id o v w me refl refl record {
+  -- What a seat knows after it read a cell of wave j: also wave j + 1, where that is final.
+  learns : (s : State S (LaneView F)) (h : Holds s) (id j : ℕ) (v : LaneView F) → get_elem? s.views id ≡ some v
+      → (k : ℕ) × Knows net first count key s.words (lane_knowing v k) × (v.known ≤ k) × (Settled net first count key v j → j + 1 ≤ k)
+  learns s h id j v me =
+      let k = h.each id v me in
+      ⊎_elim
+      (λ (yes : AreBest net first count key s.words (j + 1) (count key)). (
+        max v.known (j + 1),
+        record {
           some = k.some;
           idle = k.idle;
           same = k.same;
           reached = k.reached;
-          final = λ d ltd low. dite (dec_le ((net key).wave (first key + d)) v.known)
-              (λ le. k.final d ltd le)
-              (λ nle. settled_best s h id v d j me ltd settled (omega arith));
+          final = λ o lt low. dite (dec_le ((net key).wave (first key + o)) v.known) (λ le. k.final o lt le) (λ nle. yes o lt (omega arith));
         },
-        (n, refl, omega arith, λ f e. subst (λ f. (net f).wave (first f + o) + 1 ≤ n) (sym (k.same f e)) (omega arith)),
+        omega arith,
+        λ _. omega arith,
+      ))
+      (λ (no : AreBest net first count key s.words (j + 1) (count key) → ⊥). (
+        v.known,
+        record { some = k.some; idle = k.idle; same = k.same; reached = k.reached; final = k.final },
+        omega arith,
+        λ settled. absurd (no (λ o lt low. settled_best s h id v o j me lt settled low)),
+      ))
+      (are_best s h (j + 1) (count key) (omega arith))
+
+  pub glances : (slots id o : ℕ) (m : Me S (LaneView F)) → o < count key → Allows Holds slots id m o (λ n. n) (glanced net first count (step slots o 0 0 none) m)
+  glances slots id o m lt s h long me small =
+      let v : LaneView F = m.0 in let j : ℕ = (net key).wave (first key + o) in let n : ℕ = get_or s.words o 0 in let k = h.each id v me in
+      let knows = learns s h id j v me in let a : ℕ = knows.0 in let w : LaneView F = lane_knowing v a in
+      let read : IsRead net first key v o n = record {
+        opened = omega (arith, h.cell o lt);
+        own = λ x c. contribution_le s h id v o x me lt c;
+        reached = cell_reached s h o lt;
+        best = λ low. k.final o lt low;
+      } in (
+        w,
+        keeps,
+        tt,
+        looked s h id o v w me refl refl knows.1,
+        (
+          a,
+          refl,
+          knows.2,
+          λ f e. subst (λ f. IsRead net first f v o n × (Settled net first count f v ((net f).wave (first f + o)) → (net f).wave (first f + o) + 1 ≤ a)) (sym (k.same f e)) (read, knows.3),
+        ),
       )
 
   pub splits : (id : ℕ) (v : LaneView F) → 1 < v.parts → Splits Holds id v (lane_left v) (lane_right v)

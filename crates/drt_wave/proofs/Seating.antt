@@ -1,4 +1,4 @@
--- Steps of one seat of a lane among those of a table, and a loop that settles them all.
+-- Steps of one seat of a lane among those of a table, and a loop that looks at each lane.
 use Rattle.std.proofs.Common.{◌≡◌, ◌≢◌, ◌⊎◌, ℕ, ◌+◌, ◌/◌, ◌<◌, ◌≤◌, List, ◌∷◌, ◌*◌}
 use Rattle.std.proofs.Common.{length, get_or, set, sym, refl, ap, ◌∙◌, subst, inl, inr, ⊎_elim, length-set, arith}
 use Rattle.std.specs.Prelude.{vec_capacity}
@@ -86,12 +86,12 @@ module _ (s : WaveSeat) (v : ℕ) (y n : LaneSeat) (at_y : get_elem? s.lanes.ite
   here : get_elem? (set s.lanes.items v n) v ≡ some n
   here = set_here s.lanes.items v n (at_inside s.lanes.items v y at_y)
 
-  pub with_kept : n.me.0.known ≡ y.me.0.known → ((o x : ℕ) → Among (o, x) y.me.0.raised → Among (o, x) n.me.0.raised) → Kept s (with_seat s v n)
+  pub with_kept : y.me.0.known ≤ n.me.0.known → ((o x : ℕ) → Among (o, x) y.me.0.raised → Among (o, x) n.me.0.raised) → Kept s (with_seat s v n)
   with_kept known raised = record {
     parts = refl;
     draws = refl;
     known = λ k h i u at_u. ⊎_elim
-        (λ (e : (i ≡ v) × (n ≡ u)). subst (λ (z : LaneSeat). k ≤ z.me.0.known) e.1 (subst (λ m. k ≤ m) (sym known) (h v y at_y)))
+        (λ (e : (i ≡ v) × (n ≡ u)). let was = h v y at_y in let le : k ≤ n.me.0.known = omega (arith, was, known) in subst (λ (z : LaneSeat). k ≤ z.me.0.known) e.1 le)
         (λ (e : (i ≢ v) × (get_elem? s.lanes.items i ≡ some u)). h i u e.1)
         (at_set s.lanes.items v i n u at_u);
     raised = λ i o x h. dite (ℕ_discrete i v)
@@ -161,28 +161,29 @@ settled_at p s j v o l y plan is at_y le first expanded =
     subst (Settled lane_net lane_first lane_count l.table.shared.key y.me.0) (sym (first_wave p v j o l plan is le first))
     (subst (λ (q : Plan × ℕ). Settles q.0 q.1 y.me.0 j) (λ i. (sym is.plan i, sym is.vertex i)) (settles p s j v y at_y expanded))
 
--- From s to n the seats of the first k lanes got to know wave j + 1, and the others stand as they did.
-pub record AreSettled (t : WaveTable) (j : ℕ) (s n : WaveSeat) (k : ℕ) : Type 0 where
+-- From s to n the seats of the first k lanes learnt something, which is of wave j + 1 where each cell up to wave j is expanded, and the others stand as
+-- they did.
+pub record HaveLooked (t : WaveTable) (j : ℕ) (s n : WaveSeat) (k : ℕ) : Type 0 where
   pub claims : n.claims ≡ s.claims
   pub room : vec_capacity n.lanes ≡ vec_capacity s.lanes
   pub count : length n.lanes.items ≡ length s.lanes.items
   pub done : (i : ℕ) (l : Lane) (y u : LaneSeat) → i < k → get_elem? t.lanes i ≡ some l → get_elem? s.lanes.items i ≡ some y → get_elem? n.lanes.items i ≡ some u
-      → IsLaneSeat l u × Learns (j + 1) y.me.0 u.me.0
+      → IsLaneSeat l u × Learns y.me.0 u.me.0 × (ExpandedTo t.plan j s → j + 1 ≤ u.me.0.known)
   pub left : (i : ℕ) → k ≤ i → get_elem? n.lanes.items i ≡ get_elem? s.lanes.items i
 
 -- what was read at the next lane
-pub next_found : (t : WaveTable) (j : ℕ) (s n : WaveSeat) (v : ℕ) (l : Lane) (y : LaneSeat) (xs : List Lane) → IsOf t s → AreSettled t j s n v → v < length xs → xs ≡ t.lanes → l ≡ get_or xs v l
+pub next_found : (t : WaveTable) (j : ℕ) (s n : WaveSeat) (v : ℕ) (l : Lane) (y : LaneSeat) (xs : List Lane) → IsOf t s → HaveLooked t j s n v → v < length xs → xs ≡ t.lanes → l ≡ get_or xs v l
     → y ≡ get_or n.lanes.items v y → Found t s v l y × (get_elem? n.lanes.items v ≡ some y)
 next_found t j s n v l y xs is h ltx same is_l is_y =
     let lt : v < length t.lanes = subst (λ ys. v < length ys) same ltx in
     let at_y : get_elem? n.lanes.items v ≡ some y = at_index n.lanes.items v y (omega (arith, lt, is.count, h.count)) is_y in
     (found_at t s v l y is (lane_read t v l xs lt same is_l) (sym (h.left v (omega arith)) ∙ at_y), at_y)
 
-pub all_settled : (t : WaveTable) (j : ℕ) (s n : WaveSeat) (k : ℕ) (xs : List Lane) → AreSettled t j s n k → xs ≡ t.lanes → k ≤ length xs → length xs ≤ k → AreSettled t j s n (length t.lanes)
-all_settled t j s n k xs h same le ge = let e : length xs ≡ length t.lanes = ap length same in let is : k ≡ length t.lanes = omega arith in subst (λ i. AreSettled t j s n i) is h
+pub all_looked : (t : WaveTable) (j : ℕ) (s n : WaveSeat) (k : ℕ) (xs : List Lane) → HaveLooked t j s n k → xs ≡ t.lanes → k ≤ length xs → length xs ≤ k → HaveLooked t j s n (length t.lanes)
+all_looked t j s n k xs h same le ge = let e : length xs ≡ length t.lanes = ap length same in let is : k ≡ length t.lanes = omega arith in subst (λ i. HaveLooked t j s n i) is h
 
-pub none_settled : (t : WaveTable) (j : ℕ) (s : WaveSeat) → AreSettled t j s s 0
-none_settled t j s = record {
+pub none_looked : (t : WaveTable) (j : ℕ) (s : WaveSeat) → HaveLooked t j s s 0
+none_looked t j s = record {
   claims = refl;
   room = refl;
   count = refl;
@@ -190,9 +191,9 @@ none_settled t j s = record {
   left = λ i le. refl;
 }
 
-pub one_settled : (t : WaveTable) (j : ℕ) (s n : WaveSeat) (k : ℕ) (l : Lane) (y u : LaneSeat) → AreSettled t j s n k → get_elem? t.lanes k ≡ some l → get_elem? n.lanes.items k ≡ some y
-    → IsLaneSeat l u → Learns (j + 1) y.me.0 u.me.0 → AreSettled t j s (with_seat n k u) (k + 1)
-one_settled t j s n k l y u h at_l at_y sits learned = record {
+pub one_looked : (t : WaveTable) (j : ℕ) (s n : WaveSeat) (k : ℕ) (l : Lane) (y u : LaneSeat) → HaveLooked t j s n k → get_elem? t.lanes k ≡ some l → get_elem? n.lanes.items k ≡ some y
+    → IsLaneSeat l u → Learns y.me.0 u.me.0 → (ExpandedTo t.plan j s → j + 1 ≤ u.me.0.known) → HaveLooked t j s (with_seat n k u) (k + 1)
+one_looked t j s n k l y u h at_l at_y sits learned final = record {
   claims = h.claims;
   room = h.room;
   count = length-set n.lanes.items k u ∙ h.count;
@@ -201,21 +202,22 @@ one_settled t j s n k l y u h at_l at_y sits learned = record {
       let lanes : l ≡ m = some-injective l m (sym at_l ∙ ap (get_elem? t.lanes) (sym e.0) ∙ at_m) in
       let seats : y ≡ a = some-injective y a (sym at_y ∙ h.left k (omega arith) ∙ ap (get_elem? s.lanes.items) (sym e.0) ∙ at_a) in (
         subst (λ (q : Lane × LaneSeat). IsLaneSeat q.0 q.1) (λ z. (lanes z, e.1 z)) sits,
-        subst (λ (q : LaneSeat × LaneSeat). Learns (j + 1) q.0.me.0 q.1.me.0) (λ z. (seats z, e.1 z)) learned,
+        subst (λ (q : LaneSeat × LaneSeat). Learns q.0.me.0 q.1.me.0) (λ z. (seats z, e.1 z)) learned,
+        λ expanded. subst (λ (z : LaneSeat). j + 1 ≤ z.me.0.known) e.1 (final expanded),
       ))
       (λ (e : (i ≢ k) × (get_elem? n.lanes.items i ≡ some b)). let ne = e.0 in h.done i m a b (omega (arith, lt, ne)) at_m at_a e.1)
       (at_set n.lanes.items k i u b at_b);
   left = λ i le. set_else n.lanes.items k i u (λ e. omega arith) ∙ h.left i (omega arith);
 }
 
-module _ (t : WaveTable) (j : ℕ) (s n : WaveSeat) (is : IsOf t s) (h : AreSettled t j s n (length t.lanes)) where
+module _ (t : WaveTable) (j : ℕ) (s n : WaveSeat) (is : IsOf t s) (h : HaveLooked t j s n (length t.lanes)) where
   -- what a seat of the lane at i is
-  settled : (i : ℕ) (l : Lane) (u : LaneSeat) → get_elem? t.lanes i ≡ some l → get_elem? n.lanes.items i ≡ some u
-      → (y : LaneSeat) × (get_elem? s.lanes.items i ≡ some y) × IsLaneSeat l u × Learns (j + 1) y.me.0 u.me.0
-  settled i l u at_l at_u =
+  looked : (i : ℕ) (l : Lane) (u : LaneSeat) → get_elem? t.lanes i ≡ some l → get_elem? n.lanes.items i ≡ some u
+      → (y : LaneSeat) × (get_elem? s.lanes.items i ≡ some y) × IsLaneSeat l u × Learns y.me.0 u.me.0 × (ExpandedTo t.plan j s → j + 1 ≤ u.me.0.known)
+  looked i l u at_l at_u =
       let inside : i < length t.lanes = at_inside t.lanes i l at_l in
       let y = at_there s.lanes.items i (omega (arith, inside, is.count)) in
-      let d = h.done i l y.0 u inside at_l y.1 at_u in (y.0, y.1, d.0, d.1)
+      let d = h.done i l y.0 u inside at_l y.1 at_u in (y.0, y.1, d.0, d.1, d.2)
 
   pub all_is_of : IsOf t n
   all_is_of = record {
@@ -223,36 +225,37 @@ module _ (t : WaveTable) (j : ℕ) (s n : WaveSeat) (is : IsOf t s) (h : AreSett
     count = h.count ∙ is.count;
     room = subst (λ c. length t.lanes ≤ c) (sym h.room) is.room;
     lane = λ i l u at_l at_u.
-        let d = settled i l u at_l at_u in
+        let d = looked i l u at_l at_u in
         (d.2, ap (λ (w : LaneView LaneKey). w.parts) d.3.1 ∙ (is.lane i l d.0 at_l d.1).1 ∙ ap (λ c. c.me.0.parts) (sym h.claims));
   }
 
-  pub all_known : KnowsTo (j + 1) n
-  all_known i u at_u =
+  pub all_known : ExpandedTo t.plan j s → KnowsTo (j + 1) n
+  all_known expanded i u at_u =
       let inside = at_inside n.lanes.items i u at_u in
       let l = at_there t.lanes i (omega (arith, inside, h.count, is.count)) in
-      let d = settled i l.0 u l.1 at_u in
-      subst (λ (w : LaneView LaneKey). j + 1 ≤ w.known) (sym d.3.1) d.3.3
+      let d = looked i l.0 u l.1 at_u in d.4 expanded
 
-  pub all_still : (k : ℕ) → KnowsTo k s → KnowsTo k n
-  all_still k known i u at_u =
-      let inside = at_inside n.lanes.items i u at_u in
-      let l = at_there t.lanes i (omega (arith, inside, h.count, is.count)) in
-      let d = settled i l.0 u l.1 at_u in let was = known i d.0 d.1 in let more = d.3.2 in
-      let le : k ≤ d.3.0 = omega (arith, was, more) in
-      subst (λ (w : LaneView LaneKey). k ≤ w.known) (sym d.3.1) le
-
-  pub all_raised : (i o x : ℕ) → HasRaised s i o x → HasRaised n i o x
-  all_raised i o x r =
-      let inside = at_inside s.lanes.items i r.0 r.1 in
-      let l = at_there t.lanes i (omega (arith, inside, is.count)) in
-      let u = at_there n.lanes.items i (omega (arith, inside, h.count)) in
-      let d = h.done i l.0 r.0 u.0 (omega (arith, inside, is.count)) l.1 r.1 u.1 in
-      (u.0, u.1, subst (λ rs. Among (o, x) rs) (sym (ap (λ (w : LaneView LaneKey). w.raised) d.1.1)) r.2)
+  pub all_kept : Kept s n
+  all_kept = record {
+    parts = ap (λ c. c.me.0.parts) h.claims;
+    draws = ap (λ c. c.me.0.draws) h.claims;
+    known = λ k known i u at_u.
+        let inside = at_inside n.lanes.items i u at_u in
+        let l = at_there t.lanes i (omega (arith, inside, h.count, is.count)) in
+        let d = looked i l.0 u l.1 at_u in let was = known i d.0 d.1 in let more = d.3.2 in
+        let le : k ≤ d.3.0 = omega (arith, was, more) in
+        subst (λ (w : LaneView LaneKey). k ≤ w.known) (sym d.3.1) le;
+    raised = λ i o x r.
+        let inside = at_inside s.lanes.items i r.0 r.1 in
+        let l = at_there t.lanes i (omega (arith, inside, is.count)) in
+        let u = at_there n.lanes.items i (omega (arith, inside, h.count)) in
+        let d = h.done i l.0 r.0 u.0 (omega (arith, inside, is.count)) l.1 r.1 u.1 in
+        (u.0, u.1, subst (λ rs. Among (o, x) rs) (sym (ap (λ (w : LaneView LaneKey). w.raised) d.1.1)) r.2);
+  }
 
   pub all_same : HasNoMore s n
   all_same i o x r =
       let inside = at_inside n.lanes.items i r.0 r.1 in
       let l = at_there t.lanes i (omega (arith, inside, h.count, is.count)) in
-      let d = settled i l.0 r.0 l.1 r.1 in
+      let d = looked i l.0 r.0 l.1 r.1 in
       (d.0, d.1, subst (λ rs. Among (o, x) rs) (ap (λ (w : LaneView LaneKey). w.raised) d.3.1) r.2)

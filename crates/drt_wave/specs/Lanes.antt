@@ -40,9 +40,9 @@ module _ {F : Type 0} where
   abbrev pub lane_knowing : LaneView F → ℕ → LaneView F
   lane_knowing v k = record { fixed = v.fixed; parts = v.parts; raised = v.raised; known = k }
 
-  -- from v to w the seat got to know the waves up to wave j as final, and did nothing else
-  abbrev pub Learns : ℕ → LaneView F → LaneView F → Type 0
-  Learns j v w = (k : ℕ) × (w ≡ lane_knowing v k) × (v.known ≤ k) × (j ≤ k)
+  -- from v to w the seat got to know some waves as final, or none, and did nothing else
+  abbrev pub Learns : LaneView F → LaneView F → Type 0
+  Learns v w = (k : ℕ) × (w ≡ lane_knowing v k) × (v.known ≤ k)
 
 -- A lane has so many cells of a net, from its first one on.
 module _ {F : Type 0} (net : F → Net) (first count : F → ℕ) where
@@ -84,14 +84,13 @@ module _ {F : Type 0} (net : F → Net) (first : F → ℕ) where
     pub reached : r ≢ 0 → Reached (net key) (first key + o) r
     pub best : (net key).wave (first key + o) ≤ v.known → IsBest (net key) (first key + o) r
 
-module _ {S F : Type 0} (net : F → Net) (first : F → ℕ) where
-  -- A cell was read, and nothing else done.
+module _ {S F : Type 0} (net : F → Net) (first count : F → ℕ) where
+  -- A cell was read, and nothing else done. A seat that passed on all that the cells up to that cell's wave have for the lane knows the next wave as
+  -- final too.
   abbrev pub glanced : Said S F
-  glanced st m r n = (n ≡ m) × ((f : F) → m.0.fixed ≡ Some f → IsRead net first f m.0 st.word r)
-
-  -- The wave behind that of the cell is known as final too, and nothing else done.
-  abbrev pub settles : Said S F
-  settles st m r n = (k : ℕ) × (n ≡ (lane_knowing m.0 k, m.1)) × (m.0.known ≤ k) × ((f : F) → m.0.fixed ≡ Some f → (net f).wave (first f + st.word) + 1 ≤ k)
+  glanced st m r n = (k : ℕ) × (n ≡ (lane_knowing m.0 k, m.1)) × (m.0.known ≤ k)
+      × ((f : F) → m.0.fixed ≡ Some f → IsRead net first f m.0 st.word r
+      × (Settled net first count f m.0 ((net f).wave (first f + st.word)) → (net f).wave (first f + st.word) + 1 ≤ k))
 
 -- A work was contributed to a cell.
 abbrev pub raises : {S F : Type 0} → Said S F

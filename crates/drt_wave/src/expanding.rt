@@ -2,17 +2,15 @@
 ghost use Rattle.std.specs.Prelude.{◌≡◌, ℕ, ◌+◌, ◌*◌, ◌^◌, ◌<◌, ◌≤◌, ◌/◌, ◌%◌, false};
 ghost use Rattle.drt_model.specs.Digraph.{vertex_count, out_degree};
 ghost use Rattle.drt_wave.specs.Net.{Reached};
-ghost use Rattle.drt_wave.specs.Cells.{net_of, offsets, cell_at};
-ghost use Rattle.drt_wave.specs.Seats.{parts_of, KnowsTo, HasRaised, IsOf, IsExpanded, AllExpanded, Kept, Passed, IsPast, HasDrawn, Turned};
+ghost use Rattle.drt_wave.specs.Cells.{net_of, cell_at};
+ghost use Rattle.drt_wave.specs.Seats.{parts_of, KnowsTo, HasRaised, IsOf, IsExpanded, AllExpanded, Kept, Passed, IsPast, HasDrawn, HasDrawnBelow, Turned};
 ghost use Rattle.drt_wave.specs.Shifts.{HasWorked};
 ghost use Rattle.drt_wave.specs.Ways.{IsWayRow};
 
+use crate::layout::BLOCK;
 use crate::seat::WaveSeat;
 use crate::table::WaveTable;
 use crate::ways::Way;
-
-// How many cells a block has, the last one of a wave aside.
-const BLOCK: u64 = 64;
 
 // Passes the value of a cell on along a way from its offset.
 fn pass_one(table: &WaveTable, seat: &mut WaveSeat, way: Way, offset: u64, value: u64)
@@ -117,46 +115,6 @@ impl WaveTable {
     {
         self.ways.as_slice()[vertex as usize].as_slice()
     }
-
-    // The first offset of a wave.
-    pub(crate) fn first_offset(&self, wave: u32) -> u64
-        requires wave { wave < (net_of self.now.plan).waves }
-        ensures value { result ≡ wave * self.now.plan.span }
-        ensures within { result ≤ self.now.plan.bound }
-    {
-        wave as u64 * self.plan.span
-    }
-
-    // How many offsets a wave has.
-    pub(crate) fn offsets(&self, wave: u32) -> u64
-        requires wave { wave < (net_of self.now.plan).waves }
-        ensures value { result ≡ offsets self.now.plan wave }
-        ensures some { 0 < result }
-        ensures few { result ≤ 4194304 }
-        ensures first { wave * self.now.plan.span ≤ self.now.plan.bound }
-        ensures bound { self.now.plan.bound < 4194304 }
-    {
-        let first = self.first_offset(wave);
-        self.plan.span.min(self.plan.width() - first)
-    }
-
-    // How many cells a wave has.
-    pub(crate) fn wave_size(&self, wave: u32) -> u64
-        requires wave { wave < (net_of self.now.plan).waves }
-        ensures value { result ≡ (net_of self.now.plan).size wave }
-        ensures small { result ≤ 4194304 }
-    {
-        self.plan.graph.vertex_count() as u64 * self.offsets(wave)
-    }
-
-    // How many blocks a wave has.
-    pub(crate) fn block_count(&self, wave: u32) -> u64
-        requires wave { wave < (net_of self.now.plan).waves }
-        ensures covers { (net_of self.now.plan).size wave ≤ result * 64 }
-        ensures begins { (b : ℕ) → b < result → b * 64 < (net_of self.now.plan).size wave }
-    {
-        (self.wave_size(wave) + (BLOCK - 1)) / BLOCK
-    }
 }
 
 /// Draws the next block of a wave, and expands its cells. False where the number is past the wave's end.
@@ -172,6 +130,7 @@ pub(crate) fn turn(table: &WaveTable, seat: &mut WaveSeat, wave: u32) -> bool
     ensures past { result ≡ false → IsPast (net_of table.now.plan) wave seat.new }
     ensures drawn { (b : ℕ) → parts_of seat.old ≡ 1024 → HasDrawn wave b seat.old → HasDrawn wave (b + 1) seat.new }
     ensures worked { result ≡ false → parts_of seat.old ≡ 1024 → HasWorked table.now wave seat.new }
+    ensures known { result ≡ false → parts_of seat.old ≡ 1024 → HasDrawnBelow (net_of table.now.plan) wave seat.old → KnowsTo (wave + 1) seat.new }
 {
     let blocks = table.block_count(wave);
     let block = table.claim(seat, wave);

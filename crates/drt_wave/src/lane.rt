@@ -8,7 +8,7 @@ ghost use Rattle.drt_wave.specs.Lanes.{Settled, IsRead, fresh_lane, lane_left, l
 
 use crate::column::Column;
 use crate::plan::Plan;
-use crate::rule::{Cut, Glance, Glue, LaneRule, Raise, Settle};
+use crate::rule::{Cut, Glance, Glue, LaneRule, Raise};
 use crate::view::{LaneKey, LaneView};
 use atomic_table::{Seat, Table};
 use drt_model::Memory;
@@ -76,26 +76,18 @@ impl Lane {
             .fetch_max::<Raise>(seat, offset as usize, work);
     }
 
-    /// Reads the cell at an offset.
+    /// Reads the cell at an offset. A seat that passed on all that the cells up to that cell's wave have for the lane knows the next wave as
+    /// final then.
     pub(crate) fn glance(&self, seat: &mut LaneSeat, offset: u64) -> u64
         requires seat { IsLaneSeat self.now seat.old }
         requires offset { offset < self.now.table.shared.table_id.words }
         ensures seat { IsLaneSeat self.now seat.new }
-        ensures same { seat.new.me.0 ≡ seat.old.me.0 }
+        ensures learned { Learns seat.old.me.0 seat.new.me.0 }
         ensures read { IsRead lane_net lane_first self.now.table.shared.key seat.old.me.0 offset result }
+        ensures settled { Settled lane_net lane_first lane_count self.now.table.shared.key seat.old.me.0 ((lane_net self.now.table.shared.key).wave (lane_first self.now.table.shared.key + offset))
+            → (lane_net self.now.table.shared.key).wave (lane_first self.now.table.shared.key + offset) + 1 ≤ seat.new.me.0.known }
     {
         self.table.shared.load::<Glance>(seat, offset as usize)
-    }
-
-    /// By a look at the cell of an offset a seat that passed on all that the cells of the next wave get here knows that wave as final too.
-    pub(crate) fn settle(&self, seat: &mut LaneSeat, offset: u64)
-        requires seat { IsLaneSeat self.now seat.old }
-        requires offset { offset < self.now.table.shared.table_id.words }
-        requires settled { Settled lane_net lane_first lane_count self.now.table.shared.key seat.old.me.0 ((lane_net self.now.table.shared.key).wave (lane_first self.now.table.shared.key + offset)) }
-        ensures seat { IsLaneSeat self.now seat.new }
-        ensures learned { Learns ((lane_net self.now.table.shared.key).wave (lane_first self.now.table.shared.key + offset) + 1) seat.old.me.0 seat.new.me.0 }
-    {
-        self.table.shared.load::<Settle>(seat, offset as usize);
     }
 
     /// A seat with one of the parts.

@@ -21,6 +21,7 @@ mod expanding;
 mod filling;
 mod gathering;
 mod lane;
+mod layout;
 mod numbered;
 mod opening;
 mod plan;

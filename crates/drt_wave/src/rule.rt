@@ -1,6 +1,6 @@
-//! The rules of a lane and of the claim words, and their kinds of step.
+//! The rules of a lane and of the claim words, and the five kinds of step.
 ghost use Rattle.drt_wave.specs.Claims.{InClaims, fresh_claims, spent_claims, claims_left, claims_right, claims_joined, claimed};
-ghost use Rattle.drt_wave.specs.Lanes.{InLane, fresh_lane, spent_lane, lane_left, lane_right, lane_joined, glanced, raises, settles};
+ghost use Rattle.drt_wave.specs.Lanes.{InLane, fresh_lane, spent_lane, lane_left, lane_right, lane_joined, glanced, raises};
 ghost use Rattle.drt_wave.specs.Keys.{lane_net, lane_first, lane_count};
 
 use crate::view::{ClaimView, LaneKey, LaneView};
@@ -35,14 +35,7 @@ impl<S> Play<S, ClaimView> for Claim {
 pub struct Glance;
 
 impl<S> Play<S, LaneView<LaneKey>> for Glance {
-    ghost then = { glanced lane_net lane_first };
-}
-
-/// A lane is looked at by a seat that passed on all that its cells of the next wave get.
-pub struct Settle;
-
-impl<S> Play<S, LaneView<LaneKey>> for Settle {
-    ghost then = { settles lane_net lane_first };
+    ghost then = { glanced lane_net lane_first lane_count };
 }
 
 /// A cell is made at least a work.

@@ -87,7 +87,9 @@ impl WaveTable {
         Ok((table, seat))
     }
 
-    /// Draws the next number of a wave, which stands for a block of its cells.
+    /// Draws the next number of a wave, which stands for a block of its cells. Past the wave's end the seat also reads a cell of each lane:
+    /// where it expanded each cell up to that wave, as the seat that has every part does by expanding what it draws, it knows the next wave as
+    /// final then.
     pub fn claim(&self, seat: &mut WaveSeat, wave: u32) -> u64
         requires seat { IsOf self.now seat.old }
         requires parts { 0 < parts_of seat.old }
@@ -96,8 +98,13 @@ impl WaveTable {
         ensures claimed { HasClaimed wave result seat.old seat.new }
         ensures turned { Turned seat.old seat.new }
         ensures same { HasNoMore seat.old seat.new }
+        ensures known { (net_of self.now.plan).size wave ≤ result * 64 → ExpandedTo self.now.plan wave seat.old → KnowsTo (wave + 1) seat.new }
     {
-        self.claims.claim(&mut seat.claims, wave)
+        let number = self.claims.claim(&mut seat.claims, wave);
+        if number >= self.block_count(wave) {
+            self.look_along(seat, wave);
+        }
+        number
     }
 
     /// Makes the cell of a vertex and an offset at least `work`, which is that of a walk that ends there.
@@ -133,23 +140,19 @@ impl WaveTable {
         lane.glance(&mut seat.lanes[vertex as usize], offset)
     }
 
-    /// By a look at each lane a seat that expanded each cell up to a wave knows the next wave as final too.
-    pub fn settle(&self, seat: &mut WaveSeat, wave: u32)
+    /// Reads the first cell of a wave in each lane. A seat that expanded each cell up to the wave knows the next one as final then.
+    pub(crate) fn look_along(&self, seat: &mut WaveSeat, wave: u32)
         requires seat { IsOf self.now seat.old }
         requires wave { wave < (net_of self.now.plan).waves }
-        requires expanded { ExpandedTo self.now.plan wave seat.old }
         ensures seat { IsOf self.now seat.new }
-        ensures parts { parts_of seat.new ≡ parts_of seat.old }
-        ensures draws { draws_of seat.new ≡ draws_of seat.old }
-        ensures raised { (v o x : ℕ) → HasRaised seat.old v o x → HasRaised seat.new v o x }
+        ensures kept { Kept seat.old seat.new }
         ensures same { HasNoMore seat.old seat.new }
-        ensures kept { (k : ℕ) → KnowsTo k seat.old → KnowsTo k seat.new }
-        ensures known { KnowsTo (wave + 1) seat.new }
+        ensures known { ExpandedTo self.now.plan wave seat.old → KnowsTo (wave + 1) seat.new }
     {
         let first = self.first_offset(wave);
         let lanes = self.lanes.as_slice();
         'lanes: for v in 0..lanes.len() {
-            lanes[v].settle(&mut seat.lanes[v], first);
+            lanes[v].glance(&mut seat.lanes[v], first);
         }
     }
 

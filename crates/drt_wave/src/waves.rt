@@ -1,5 +1,5 @@
 //! A wave, worked to its end by one seat.
-ghost use Rattle.std.specs.Prelude.{◌≡◌, ◌+◌, ◌<◌};
+ghost use Rattle.std.specs.Prelude.{◌≡◌, ◌+◌, ◌<◌, true};
 ghost use Rattle.drt_wave.specs.Cells.{net_of};
 ghost use Rattle.drt_wave.specs.Seats.{parts_of, KnowsTo, IsOf, AllExpanded, HasDrawnBelow, Turned};
 ghost use Rattle.drt_wave.specs.Shifts.{HasWorked};
@@ -22,27 +22,31 @@ pub fn work_wave(table: &WaveTable, seat: &mut WaveSeat, wave: u32)
     ensures drawn { HasDrawnBelow (net_of table.now.plan) (wave + 1) seat.new }
     ensures known { KnowsTo (wave + 1) seat.new }
 {
-    draw_wave(table, seat, wave);
-    table.settle(seat, wave);
+    if !draw_wave(table, seat, wave) {
+        table.look_along(seat, wave);
+    }
 }
 
-// Draws all blocks of a wave, or what is left of them, and expands their cells. The last number is past the end.
-fn draw_wave(table: &WaveTable, seat: &mut WaveSeat, wave: u32)
+// Draws all blocks of a wave, or what is left of them, and expands their cells. The last number is past the end. True where it was told so, as it
+// is but after 2^64 draws, for a number is told modulo 2^64: then the seat knows the next wave as final.
+fn draw_wave(table: &WaveTable, seat: &mut WaveSeat, wave: u32) -> bool
     requires seat { IsOf table.now seat.old }
     requires whole { parts_of seat.old ≡ 1024 }
     requires wave { wave < (net_of table.now.plan).waves }
     requires known { KnowsTo wave seat.old }
     requires all { AllExpanded table.now.plan seat.old }
+    requires drawn { HasDrawnBelow (net_of table.now.plan) wave seat.old }
     ensures seat { IsOf table.now seat.new }
     ensures turned { Turned seat.old seat.new }
     ensures all { AllExpanded table.now.plan seat.new }
     ensures worked { HasWorked table.now wave seat.new }
+    ensures known { result ≡ true → KnowsTo (wave + 1) seat.new }
 {
     let blocks = table.block_count(wave);
     'turns: for _block in 0..blocks {
         if !turn(table, seat, wave) {
-            return;
+            return true;
         }
     }
-    turn(table, seat, wave);
+    !turn(table, seat, wave)
 }

@@ -3,7 +3,7 @@ use Rattle.drt_wave.specs.Net.{Among}
 use Rattle.drt_wave.specs.Cells.{net_of}
 use Rattle.drt_wave.specs.Seats.{Turned}
 use Rattle.drt_wave.proofs.Working.{size_small}
-use Rattle.drt_wave.proofs.Going.{turned_more, turned_kept, all_past, past_drawn, all_drawn, drawn_more, worked_past}
+use Rattle.drt_wave.proofs.Going.{turned_more, turned_kept, all_past, past_drawn, all_drawn, drawn_more, worked_past, past_expanded}
 use Rattle.drt_wave.proofs.expanding.turn.Goals as goal
 
 pub returns-then-block-blocks-clause-turned : goal.returns-then-block-blocks-clause-turned
@@ -30,6 +30,12 @@ returns-then-block-blocks-clause-worked c = λ _ whole.
     let t = c.args.table.now in let d = c.claim-block.ensures in
     let past : (net_of t.plan).size c.args.wave ≤ c.claim-block.result * 64 = omega (arith, c.block_count-blocks.ensures.covers, c.if-block-blocks.true) in
     worked_past t _ _ c.args.wave c.claim-block.result d.claimed d.turned whole past
+
+pub returns-then-block-blocks-clause-known : goal.returns-then-block-blocks-clause-known
+returns-then-block-blocks-clause-known c = λ _ whole before.
+    let t = c.args.table.now in let d = c.claim-block.ensures in
+    let past : (net_of t.plan).size c.args.wave ≤ c.claim-block.result * 64 = omega (arith, c.block_count-blocks.ensures.covers, c.if-block-blocks.true) in
+    d.known past (past_expanded t _ _ c.args.wave c.claim-block.result d.claimed whole past c.requires.all before)
 
 pub expand_block-requires-clause-parts : goal.expand_block-requires-clause-parts
 expand_block-requires-clause-parts c = subst (λ n. 0 < n) (sym c.claim-block.ensures.turned.parts) c.requires.parts

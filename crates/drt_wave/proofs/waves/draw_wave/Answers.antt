@@ -1,5 +1,6 @@
 use Rattle.std.proofs.Common.{rules, ◌∙◌, ◌+◌, ◌<◌, sym, subst, arith}
-use Rattle.drt_wave.proofs.Going.{turned_refl, turned_more, turned_some}
+use Rattle.drt_wave.specs.Cells.{net_of}
+use Rattle.drt_wave.proofs.Going.{turned_refl, turned_more, turned_some, below_turned}
 use Rattle.drt_wave.proofs.waves.draw_wave.Goals as goal
 
 pub turns-init : goal.turns-init
@@ -40,3 +41,13 @@ returns-then-not-turn-clause-turned c = turned_more _ _ _ c.turns.invariant.1 c.
 
 pub returns-then-not-turn-clause-worked : goal.returns-then-not-turn-clause-worked
 returns-then-not-turn-clause-worked c = c.turn.ensures.worked (search rules) (c.turns.invariant.1.parts ∙ c.requires.whole)
+
+pub returns-then-not-turn-clause-known : goal.returns-then-not-turn-clause-known
+returns-then-not-turn-clause-known c = λ _.
+    let t = c.args.table.now in let i = c.turns.invariant in
+    c.turn.ensures.known (search rules) (i.1.parts ∙ c.requires.whole) (below_turned (net_of t.plan) _ _ c.args.wave i.1 c.requires.drawn)
+
+pub returns-clause-known : goal.returns-clause-known
+returns-clause-known c = λ told.
+    let t = c.args.table.now in let i = c.turns.invariant in
+    c.turn-2.ensures.known (search (rules, told)) (i.1.parts ∙ c.requires.whole) (below_turned (net_of t.plan) _ _ c.args.wave i.1 c.requires.drawn)

@@ -22,20 +22,20 @@ returns-clause-seat c =
     let f = found c.args.self.now c.args.seat.now c.args.vertex c.index-as_slice-vertex.result c.index_mut.result.now c.as_slice.result.now c.requires.seat
     (vertex_inside c.args.self.now c.args.vertex c.requires.vertex) c.as_slice.ensures c.index-as_slice-vertex.is c.index_mut.ensures.value in
     with_is_of c.args.self.now c.args.seat.now c.args.vertex c.index-as_slice-vertex.result c.index_mut.result.now c.glance.new.seat c.requires.seat f.at_lane f.at_seat c.glance.ensures.seat
-    (ap (λ (w : LaneView LaneKey). w.parts) c.glance.ensures.same)
+    (ap (λ (w : LaneView LaneKey). w.parts) c.glance.ensures.learned.1)
 
 pub returns-clause-kept : goal.returns-clause-kept
 returns-clause-kept c =
     let f = found c.args.self.now c.args.seat.now c.args.vertex c.index-as_slice-vertex.result c.index_mut.result.now c.as_slice.result.now c.requires.seat
     (vertex_inside c.args.self.now c.args.vertex c.requires.vertex) c.as_slice.ensures c.index-as_slice-vertex.is c.index_mut.ensures.value in
-    with_kept c.args.seat.now c.args.vertex c.index_mut.result.now c.glance.new.seat f.at_seat (ap (λ (w : LaneView LaneKey). w.known) c.glance.ensures.same)
-    (λ o x a. subst (λ (w : LaneView LaneKey). Among (o, x) w.raised) (sym c.glance.ensures.same) a)
+    with_kept c.args.seat.now c.args.vertex c.index_mut.result.now c.glance.new.seat f.at_seat (subst (λ (w : LaneView LaneKey). c.index_mut.result.now.me.0.known ≤ w.known) (sym c.glance.ensures.learned.1) c.glance.ensures.learned.2)
+    (λ o x a. subst (λ (w : LaneView LaneKey). Among (o, x) w.raised) (sym c.glance.ensures.learned.1) a)
 
 pub returns-clause-same : goal.returns-clause-same
 returns-clause-same c =
     let f = found c.args.self.now c.args.seat.now c.args.vertex c.index-as_slice-vertex.result c.index_mut.result.now c.as_slice.result.now c.requires.seat
     (vertex_inside c.args.self.now c.args.vertex c.requires.vertex) c.as_slice.ensures c.index-as_slice-vertex.is c.index_mut.ensures.value in
-    with_same c.args.seat.now c.args.vertex c.index_mut.result.now c.glance.new.seat f.at_seat (λ o x a. subst (λ (w : LaneView LaneKey). Among (o, x) w.raised) c.glance.ensures.same a)
+    with_same c.args.seat.now c.args.vertex c.index_mut.result.now c.glance.new.seat f.at_seat (λ o x a. subst (λ (w : LaneView LaneKey). Among (o, x) w.raised) c.glance.ensures.learned.1 a)
 
 pub returns-clause-opened : goal.returns-clause-opened
 returns-clause-opened c =

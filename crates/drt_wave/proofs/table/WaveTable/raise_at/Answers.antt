@@ -1,4 +1,4 @@
-use Rattle.std.proofs.Common.{◌<◌, sym, ap, refl, subst, inl, inr, arith}
+use Rattle.std.proofs.Common.{◌<◌, ◌≤◌, sym, ap, refl, subst, inl, inr, arith}
 use Rattle.drt_wave.specs.declared.view.LaneKey.{LaneKey}
 use Rattle.drt_wave.specs.declared.view.LaneView.{LaneView}
 use Rattle.drt_wave.specs.Net.{Among, Reached}
@@ -40,7 +40,8 @@ pub returns-clause-kept : goal.returns-clause-kept
 returns-clause-kept c =
     let f = found c.args.self.now c.args.seat.now c.args.vertex c.index-as_slice-vertex.result c.index_mut.result.now c.as_slice.result.now c.requires.seat
     (vertex_inside c.args.self.now c.args.vertex c.requires.vertex) c.as_slice.ensures c.index-as_slice-vertex.is c.index_mut.ensures.value in
-    with_kept c.args.seat.now c.args.vertex c.index_mut.result.now c.raise.new.seat f.at_seat (ap (λ (w : LaneView LaneKey). w.known) c.raise.ensures.raised)
+    with_kept c.args.seat.now c.args.vertex c.index_mut.result.now c.raise.new.seat f.at_seat
+    (subst (λ (w : LaneView LaneKey). c.index_mut.result.now.me.0.known ≤ w.known) (sym c.raise.ensures.raised) (omega arith))
     (λ o x a. subst (λ (w : LaneView LaneKey). Among (o, x) w.raised) (sym c.raise.ensures.raised) (inr a))
 
 pub returns-clause-only : goal.returns-clause-only
