@@ -5,9 +5,9 @@ use Rattle.drt_wave.specs.declared.seat.WaveSeat.{WaveSeat}
 use Rattle.drt_wave.specs.declared.table.WaveTable.{WaveTable}
 use Rattle.drt_wave.specs.Net.{Among}
 use Rattle.drt_wave.specs.Cells.{net_of}
-use Rattle.drt_wave.specs.Seats.{parts_of, draws_of, KnowsTo, IsOf, Turned, IsCut, IsGlued, AllExpanded, HasDrawnBelow}
+use Rattle.drt_wave.specs.Seats.{parts_of, draws_of, KnowsTo, IsOf, Kept, Turned, IsCut, IsGlued, AllExpanded, HasDrawnBelow}
 use Rattle.drt_wave.specs.Shifts.{IsShift, IsOwner}
-use Rattle.drt_wave.proofs.Going.{expanded_on, all_on, all_none}
+use Rattle.drt_wave.proofs.Going.{expanded_on, all_on, all_none, below_on}
 
 module _ (p : Plan) where
   expanded_glued : (s other n : WaveSeat) → IsGlued s other n → AllExpanded p s → AllExpanded p other → AllExpanded p n
@@ -76,6 +76,17 @@ module _ (t : WaveTable) (j a waves : ℕ) where
     waves_are = o.waves_are;
     within = omega arith;
     drawn = drawn;
+  }
+
+  -- The seat has read some cells.
+  pub owner_kept : (s n : WaveSeat) → IsOwner t j a waves s → IsOf t n → Kept s n → IsOwner t j a waves n
+  owner_kept s n o of kept = record {
+    work = record { of = of; parts = kept.parts ∙ o.work.parts; known = kept.known j o.work.known; all = all_on t.plan s n kept.draws kept.raised o.work.all };
+    some = o.some;
+    few = o.few;
+    waves_are = o.waves_are;
+    within = o.within;
+    drawn = below_on (net_of t.plan) s n j kept.draws o.drawn;
   }
 
   -- Where no wave is left the seat knows the last one as final.

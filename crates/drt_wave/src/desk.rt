@@ -35,6 +35,8 @@ pub(crate) struct Desk<'a> {
     wave: u32,
     waves: u32,
     crew: Crew,
+    // Whether the workers have begun.
+    has_begun: bool,
 }
 
 impl<'a> Model for Desk<'a> {
@@ -71,8 +73,10 @@ impl<'a> Desk<'a> {
             wave: 0,
             waves: table.plan.wave_count(),
             crew,
+            has_begun: false,
         };
         desk.work_unshared();
+        desk.has_begun = true;
         desk
     }
 
@@ -147,7 +151,7 @@ impl<'a> Desk<'a> {
         ensures { self.new ≡ self.old }
     {
         'waves: for _wave in self.wave..self.waves {
-            if self.wave >= self.waves || is_shared(self.table, self.wave, self.crew) {
+            if self.parts < PARTS || self.wave >= self.waves || self.is_shared() {
                 return;
             }
             self.work_open();
@@ -163,5 +167,19 @@ impl<'a> Desk<'a> {
         }
         work_wave(self.table, &mut self.owner, self.wave);
         self.wave += 1;
+    }
+
+    // Whether the open wave is shared, or there is none.
+    fn is_shared(&mut self) -> bool
+        ensures { self.new ≡ self.old }
+    {
+        self.wave >= self.waves
+            || is_shared(
+                self.table,
+                &mut self.owner,
+                self.wave,
+                self.crew,
+                self.has_begun,
+            )
     }
 }

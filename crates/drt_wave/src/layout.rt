@@ -47,4 +47,12 @@ impl WaveTable {
     {
         (self.wave_size(wave) + (BLOCK - 1)) / BLOCK
     }
+
+    /// How many cells a wave and those after it have.
+    pub(crate) fn cells_from(&self, wave: u32) -> u64
+        requires wave { wave < (net_of self.now.plan).waves }
+        ensures { result ≤ 4194304 }
+    {
+        self.plan.graph.vertex_count() as u64 * (self.plan.width() - self.first_offset(wave))
+    }
 }
