@@ -9,15 +9,15 @@ use crate::table::WaveTable;
 use drt_pool::Gate;
 use std::thread::{Threads, available_parallelism};
 
-// A load is the time that a wave takes one worker, in the time of a cell with some work.
+// The load of a wave is how long it takes one worker, in the time that a cell with some work takes.
 
-// The load that handing a wave out to workers and taking it back is worth.
-const HANDING: u64 = 1_536;
+// What it takes to hand a wave out to workers and to have it back, as a load.
+const HANDING: u64 = 1_024;
 
-// The load that must be spared for workers to begin beside the caller: twice what it takes them.
+// What workers must spare the caller for them to begin, as a load: twice what it takes them to.
 const BEGINNING: u64 = 16_384;
 
-// So many cells without work take as long as one with some.
+// So many cells without any work take as long as one that has some.
 const EMPTY: u64 = 8;
 
 // Workers that begin at once share each wave of as many cells.
@@ -26,11 +26,11 @@ const WIDE: u64 = 8_192;
 /// A table of fewer cells is opened by one worker.
 pub(crate) const LARGE: u64 = 262_144;
 
-// How many cells of a wave are looked at for its load.
+// How many cells of a wave are looked at to tell its load.
 const LOOKS: u64 = 64;
 
-// 2^32, and its golden section. The places that are looked at are fractions of a wave, the multiples of the golden section: they keep no step
-// with what repeats in the wave.
+// 2^32, and its golden section. The cells that are looked at stand at the multiples of the golden section in a wave, as fractions of it, so that
+// they keep no step with what repeats in it.
 const WHOLE: u64 = 4_294_967_296;
 const GOLDEN: u64 = 2_654_435_769;
 
@@ -45,7 +45,7 @@ pub(crate) struct Crew {
 
 impl Crew {
     /// The workers of a table where `workers` may begin: all of them where the gate may wait for another worker, else no more than there are
-    /// processors, and one where the table is too small for more.
+    /// processors, and one where the table has too few cells for more, or its waves have, and it has fewer than several workers open.
     pub(crate) fn new<G: Gate, R: Threads>(rt: &R, plan: &Plan, workers: u32, gate: &G) -> Crew
         requires workers { (1 ≤ workers) × (workers ≤ 16) }
         requires planned { IsPlan plan.now }
@@ -66,7 +66,7 @@ impl Crew {
     }
 }
 
-// Whether a table is opened by several workers, or might have waves that are worth them, if all its cells had some work.
+// Whether a table is opened by several workers, or might have waves that are worth them if all its cells had some work.
 fn may_be_worth_workers(plan: &Plan) -> bool
     requires { IsPlan plan.now }
 {
@@ -85,9 +85,9 @@ fn worker_limit<R: Threads>(rt: &R, workers: u32) -> u32
     }
 }
 
-/// Whether all workers work a wave, the next one to be worked. Where they begin at once they work the first wave and each one of many cells,
-/// else each one of which the others spare the caller more than handing it out takes, once that is enough, in this wave and those after it if
-/// they are like it, for them to begin.
+/// Whether all workers work a wave, whose cells are final. Where they begin at once they work the first wave and each one of many cells. Else
+/// they work each one of which they spare the caller more than it takes to hand it out; and as long as they haven't begun, only where that is
+/// enough for them to begin, if the waves after this one are as it is.
 pub(crate) fn is_shared(
     table: &WaveTable,
     seat: &mut WaveSeat,
@@ -114,7 +114,7 @@ pub(crate) fn is_shared(
     spared > 0 && (has_begun || spared * table.cells_from(wave) / size >= BEGINNING)
 }
 
-// What so many workers spare of a wave's load, beyond what handing it out takes.
+// What so many workers spare one of them of a wave of this load, beyond what it takes to hand it out.
 fn spared_of(load: u64, count: u32) -> u64
     requires { 1 ≤ count }
     ensures { result ≤ load }
@@ -122,7 +122,7 @@ fn spared_of(load: u64, count: u32) -> u64
     (load - load / count as u64).saturating_sub(HANDING)
 }
 
-// The load of a wave whose cells are final. It is told by a look at some of them.
+// The load of a wave whose cells are final, told by a look at some of them.
 fn load_of(table: &WaveTable, seat: &mut WaveSeat, wave: u32) -> u64
     requires seat { IsOf table.now seat.old }
     requires wave { wave < (net_of table.now.plan).waves }

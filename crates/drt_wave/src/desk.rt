@@ -35,7 +35,7 @@ pub(crate) struct Desk<'a> {
     wave: u32,
     waves: u32,
     crew: Crew,
-    // Whether the workers have begun.
+    // Whether the workers have begun, as they do with the first wave that is shared.
     has_begun: bool,
 }
 
@@ -169,7 +169,7 @@ impl<'a> Desk<'a> {
         self.wave += 1;
     }
 
-    // Whether the open wave is shared, or there is none.
+    // Whether the open wave is shared, or all are worked.
     fn is_shared(&mut self) -> bool
         ensures { self.new ≡ self.old }
     {

@@ -1,14 +1,15 @@
 //! Dense tables of greatest works on words that threads share without a lock.
 //!
 //! A table has one cell for each vertex of a task's graph and each offset up to a bound: the greatest work of the walks that end at
-//! that vertex with that span. The cells are worked in waves of offsets. A seat draws blocks of a wave by `claim`, reads a cell by
-//! `glance`, and makes a later cell at least a work by `raise`. None of these calls waits, and in whatever order the steps of several
-//! seats fall, `close` gives the greatest works, as a `DenseFront`. The layer above uses `fill`, which works a table by 1 to 16 workers,
-//! who take their seats wave by wave under a lock, or `dense_front`, which works it by one seat.
+//! that vertex with that span. The cells are worked in waves of offsets. There are five kinds of step on its words: a seat draws a block of a
+//! wave by `claim`, reads a cell by `glance`, makes a later cell at least a work by `raise`, and parts with some of it by `split`, to be whole
+//! again by `join`. None of them waits. The seat that has every part and expanded what it drew knows the next wave as final by a claim past
+//! the wave's end, and in whatever order the steps of several seats fall, `close` gives the greatest works, as a `DenseFront`.
 //!
-//! Where several workers share a table, a desk is the state under the lock (the seat that has the parts that no worker has, and the open
-//! wave), a relay what the workers share, a hand what one worker has, a shift a seat with its wave, and a crew the number of workers and how
-//! they begin.
+//! The layer above uses `fill`, which works a table by 1 to 16 workers, or `dense_front`, which works it by one seat. Workers take a seat for
+//! each wave that they share, and give it back, under a lock, and wait for the next one. A desk is the state under that lock (the seat that
+//! has the parts that no worker has, and the open wave), a relay what the workers share, a hand what one worker has, a shift a seat with its
+//! wave, and a crew the number of workers and whether all begin at once.
 #![tactic(auto)]
 
 mod claims;
