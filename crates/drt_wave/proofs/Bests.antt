@@ -51,8 +51,7 @@ module _ (g : Net) (lawful : IsNet g) where
       (λ some_arc.
       let from = q.1.0 some_work in
       let here : Reached g c (z + w) = (suc from.0, (n, z, w, lt, from.1, most_among c (g.arcs n) some_arc, refl)) in
-      let less : (y : ℕ) → Comes n c y → y ≤ max x (z + w) = λ y r. let le = (small y r).0 in omega arith in
-      (
+      let less : (y : ℕ) → Comes n c y → y ≤ max x (z + w) = λ y r. let le = (small y r).0 in omega arith in (
         max x (z + w),
         most_more n c x (max x (z + w)) is (omega arith)
             (λ ne. dite (dec_le (z + w) x)

@@ -142,16 +142,16 @@ module _ {S F : Type 0} (net : F → Net) (first count : F → ℕ) (key : F) wh
   are_best s h j zero le = inl (λ o lt low. absurd (omega arith))
   are_best s h j (suc n) le = ⊎_elim
       (λ (yes : AreBest net first count key s.words j n). dite (dec_le ((net key).wave (first key + n)) j)
-          (λ low.
-          let b = best_of (net key) h.lawful (first key + n) (omega (arith, h.within)) in
-          dite (ℕ_discrete (get_or s.words n 0) b.0)
-          (λ e. inl (λ o lt low'. dite (ℕ_discrete o n)
-              (λ same. subst (λ i. IsBest (net key) (first key + i) (get_or s.words i 0)) (sym same) (subst (IsBest (net key) (first key + n)) (sym e) b.1))
-              (λ ne. yes o (omega (arith, ne)) low')))
-          (λ ne. inr (λ all. ne (best_same (net key) (first key + n) (get_or s.words n 0) b.0 (all n (omega arith) low) b.1))))
-          (λ high. inl (λ o lt low'. dite (ℕ_discrete o n)
-              (λ same. absurd (high (subst (λ i. (net key).wave (first key + i) ≤ j) same low')))
-              (λ ne. yes o (omega (arith, ne)) low'))))
+      (λ low.
+      let b = best_of (net key) h.lawful (first key + n) (omega (arith, h.within)) in
+      dite (ℕ_discrete (get_or s.words n 0) b.0)
+      (λ e. inl (λ o lt low'. dite (ℕ_discrete o n)
+      (λ same. subst (λ i. IsBest (net key) (first key + i) (get_or s.words i 0)) (sym same) (subst (IsBest (net key) (first key + n)) (sym e) b.1))
+      (λ ne. yes o (omega (arith, ne)) low')))
+      (λ ne. inr (λ all. ne (best_same (net key) (first key + n) (get_or s.words n 0) b.0 (all n (omega arith) low) b.1))))
+      (λ high. inl (λ o lt low'. dite (ℕ_discrete o n)
+      (λ same. absurd (high (subst (λ i. (net key).wave (first key + i) ≤ j) same low')))
+      (λ ne. yes o (omega (arith, ne)) low'))))
       (λ (no : AreBest net first count key s.words j n → ⊥). inr (λ all. no (λ o lt low. all o (omega arith) low)))
       (are_best s h j n (omega arith))
 

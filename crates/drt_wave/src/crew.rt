@@ -32,6 +32,7 @@ const LOOKS: u64 = 64;
 // 2^32, and its golden section. The cells that are looked at stand at the multiples of the golden section in a wave, as fractions of it, so that
 // they keep no step with what repeats in it.
 const WHOLE: u64 = 4_294_967_296;
+
 const GOLDEN: u64 = 2_654_435_769;
 
 /// The workers of a table.
