@@ -24,7 +24,7 @@ const EMPTY: u64 = 8;
 const WIDE: u64 = 8_192;
 
 /// A table of fewer cells is opened by one worker.
-pub(crate) const LARGE: u64 = 262_144;
+pub(crate) const LARGE: u64 = 524_288;
 
 // How many cells of a wave are looked at to tell its load.
 const LOOKS: u64 = 64;
