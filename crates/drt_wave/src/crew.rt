@@ -1,5 +1,5 @@
 //! How many workers a table has, and which waves they share.
-ghost use Rattle.std.specs.Prelude.{◌*◌, ◌+◌, ◌<◌, ◌≤◌};
+ghost use Rattle.std.specs.Prelude.{◌≡◌, ◌<◌, ◌≤◌};
 ghost use Rattle.drt_wave.specs.Cells.{net_of, IsPlan};
 ghost use Rattle.drt_wave.specs.Seats.{IsOf, Kept};
 
@@ -14,8 +14,8 @@ use std::thread::{Threads, available_parallelism};
 // What it takes to hand a wave out to workers and to have it back, as a load.
 const HANDING: u64 = 1_024;
 
-// What workers must spare the caller for them to begin, as a load: twice what it takes them to.
-const BEGINNING: u64 = 16_384;
+// What workers must spare the caller for them to begin, as a load: over twice what it takes them to.
+const BEGINNING: u64 = 20_480;
 
 // So many cells without any work take as long as one that has some.
 const EMPTY: u64 = 8;
@@ -23,66 +23,69 @@ const EMPTY: u64 = 8;
 // Workers that begin at once share each wave of as many cells.
 const WIDE: u64 = 8_192;
 
-/// A table of fewer cells is opened by one worker.
-pub(crate) const LARGE: u64 = 524_288;
+// A table of fewer cells is opened by one worker.
+const LARGE: u64 = 524_288;
 
 // How many cells of a wave are looked at to tell its load.
 const LOOKS: u64 = 64;
 
-// 2^32, and its golden section. The cells that are looked at stand at the multiples of the golden section in a wave, as fractions of it, so that
-// they keep no step with what repeats in it.
+// A wave, as a whole of which its cells stand at fractions: 2^32.
 const WHOLE: u64 = 4_294_967_296;
 
+// Its golden section. The cells that are looked at stand at multiples of it, so that they keep no step with what repeats in the wave.
 const GOLDEN: u64 = 2_654_435_769;
 
 /// The workers of a table.
 #[derive(Clone, Copy)]
 pub(crate) struct Crew {
-    /// How many there are.
+    /// How many there may be.
     pub(crate) count: u32,
     /// Whether all begin at once, since the gate may wait for another worker.
     pub(crate) begins_at_once: bool,
 }
 
 impl Crew {
-    /// The workers of a table where `workers` may begin: all of them where the gate may wait for another worker, else no more than there are
-    /// processors, and one where the table has too few cells for more, or its waves have, and it has fewer than several workers open.
-    pub(crate) fn new<G: Gate, R: Threads>(rt: &R, plan: &Plan, workers: u32, gate: &G) -> Crew
-        requires workers { (1 ≤ workers) × (workers ≤ 16) }
-        requires planned { IsPlan plan.now }
-        ensures { (1 ≤ result.count) × (result.count ≤ workers) }
+    /// So many workers under a gate.
+    pub(crate) fn new<G: Gate>(workers: u32, gate: &G) -> Crew
+        ensures { result.count ≡ workers }
     {
-        let begins_at_once = gate.alone() == 0;
-        let count = if begins_at_once || workers == 1 {
-            workers
-        } else if may_be_worth_workers(plan) {
-            worker_limit(rt, workers)
-        } else {
-            1
+        Crew {
+            count: workers,
+            begins_at_once: gate.alone() == 0,
+        }
+    }
+
+    /// Those that begin: all where the gate may wait for another worker, else no more than there are processors. To ask for that takes as long
+    /// as to work a thousand cells.
+    pub(crate) fn limited<R: Threads>(self, rt: &R) -> Crew
+        requires some { 1 ≤ self.count }
+        ensures some { 1 ≤ result.count }
+        ensures most { result.count ≤ self.count }
+    {
+        if self.begins_at_once {
+            return self;
+        }
+        let count = match available_parallelism(rt) {
+            Ok(processors) => processors.get().min(self.count as usize) as u32,
+            Err(_) => 1,
         };
         Crew {
             count,
-            begins_at_once,
+            begins_at_once: false,
         }
     }
-}
 
-// Whether a table is opened by several workers, or might have waves that are worth them if all its cells had some work.
-fn may_be_worth_workers(plan: &Plan) -> bool
-    requires { IsPlan plan.now }
-{
-    let cells = plan.cell_count();
-    cells >= LARGE || (cells >= BEGINNING && plan.wave_size() >= HANDING)
-}
-
-// So many workers, or fewer where there are fewer processors.
-fn worker_limit<R: Threads>(rt: &R, workers: u32) -> u32
-    requires { (1 ≤ workers) × (workers ≤ 16) }
-    ensures { (1 ≤ result) × (result ≤ workers) }
-{
-    match available_parallelism(rt) {
-        Ok(processors) => processors.get().min(workers as usize) as u32,
-        Err(_) => 1,
+    /// How many of them open a table.
+    pub(crate) fn openers<R: Threads>(self, rt: &R, plan: &Plan) -> u32
+        requires some { 1 ≤ self.count }
+        requires planned { IsPlan plan.now }
+        ensures { result ≤ self.count }
+    {
+        if self.begins_at_once || plan.cell_count() >= LARGE {
+            self.limited(rt).count
+        } else {
+            1
+        }
     }
 }
 
@@ -108,11 +111,12 @@ pub(crate) fn is_shared(
     if crew.begins_at_once {
         return wave == 0 || size >= WIDE;
     }
-    if size < HANDING {
+    let left = table.cells_from(wave);
+    if size < HANDING || (left < BEGINNING && !has_begun) {
         return false;
     }
     let spared = spared_of(load_of(table, seat, wave), crew.count);
-    spared > 0 && (has_begun || spared * table.cells_from(wave) / size >= BEGINNING)
+    spared > 0 && (has_begun || spared * left / size >= BEGINNING)
 }
 
 // What so many workers spare one of them of a wave of this load, beyond what it takes to hand it out.

@@ -76,8 +76,15 @@ impl<'a> Desk<'a> {
             has_begun: false,
         };
         desk.work_unshared();
-        desk.has_begun = true;
         desk
+    }
+
+    /// These workers begin.
+    pub(crate) fn begin(&mut self, crew: Crew)
+        ensures { self.new ≡ self.old }
+    {
+        self.crew = crew;
+        self.has_begun = true;
     }
 
     /// The wave that is open, or how many there are where all are worked.

@@ -5,7 +5,7 @@ ghost use Rattle.drt_wave.specs.Cells.{net_of, IsPlan};
 ghost use Rattle.drt_wave.specs.Seats.{parts_of, draws_of, KnowsTo, IsOf};
 ghost use Rattle.drt_wave.specs.Tables.{AreOpened};
 
-use crate::crew::{Crew, LARGE};
+use crate::crew::Crew;
 use crate::dense::DenseFront;
 use crate::lane::{Lane, LaneSeat};
 use crate::opening::{open_all, open_together};
@@ -47,7 +47,7 @@ pub fn dense_front(alloc: Global, graph: &Graph, bound: u64) -> Result<DenseFron
     Ok(table.close(seat))
 }
 
-// The lanes of a plan, opened side by side where there are many cells, or where the gate may wait for another worker.
+// The lanes of a plan, opened side by side where several workers open them.
 fn open_lanes<R: Threads + Wait + Sync>(
     rt: &R,
     alloc: Global,
@@ -55,12 +55,13 @@ fn open_lanes<R: Threads + Wait + Sync>(
     crew: Crew,
 ) -> Result<(Vec<Lane>, Vec<LaneSeat>), Memory>
     requires planned { IsPlan plan.now }
-    requires crew { crew.count ≤ 16 }
+    requires crew { (1 ≤ crew.count) × (crew.count ≤ 16) }
     ensures count { IfOk result (λ r. length r.0.items ≡ vertex_count plan.now.graph) }
     ensures opened { IfOk result (λ r. AreOpened plan.now 0 r.0.items r.1.items) }
 {
-    if crew.count > 1 && (crew.begins_at_once || plan.cell_count() >= LARGE) {
-        return open_together(rt, alloc, plan, crew.count);
+    let openers = crew.openers(rt, plan);
+    if openers > 1 {
+        return open_together(rt, alloc, plan, openers);
     }
     open_all(alloc, plan)
 }
@@ -81,7 +82,7 @@ pub fn fill<G: Gate, R: Threads + Wait + Sync>(
     ensures bound { IfOk result (λ front. front.plan.bound ≡ bound) }
 {
     let plan = make_plan(alloc, graph, bound)?;
-    let crew = Crew::new(rt, &plan, workers, gate);
+    let crew = Crew::new(workers, gate);
     let (lanes, seats) = open_lanes(rt, alloc, &plan, crew)?;
     let (table, owner) = WaveTable::of_lanes(alloc, plan, lanes, seats)?;
     match share_table(rt, alloc, &table, owner, crew, gate)? {

@@ -88,15 +88,6 @@ impl Plan {
         (self.bound / self.span + 1) as u32
     }
 
-    /// How many cells the first wave has. None has more, and the last one alone may have fewer.
-    pub(crate) fn wave_size(&self) -> u64
-        requires planned { IsPlan self.now }
-        ensures { result ≤ 4194304 }
-    {
-        keeps_its_bounds(&self.graph);
-        self.graph.vertex_count() as u64 * self.span
-    }
-
     /// How many cells there are.
     pub(crate) fn cell_count(&self) -> u64
         requires small { vertex_count self.now.graph * (self.now.bound + 1) ≤ 4194304 }

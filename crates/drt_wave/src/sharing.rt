@@ -122,14 +122,16 @@ pub(crate) fn share_table<G: Gate, R: Threads + Wait + Sync>(
 ) -> Result<Option<WaveSeat>, Memory>
     requires owner { IsAtWork table.now 0 1024 owner }
     requires draws { draws_of owner ≡ [] }
-    requires crew { crew.count ≤ 16 }
+    requires crew { (1 ≤ crew.count) × (crew.count ≤ 16) }
     ensures seat { IfOk result (λ o. IfSome o (λ seat. IsOf table.now seat)) }
     ensures known { IfOk result (λ o. IfSome o (λ seat. KnowsTo (net_of table.now.plan).waves seat)) }
 {
-    let desk = Desk::open(table, owner, crew);
+    let mut desk = Desk::open(table, owner, crew);
     if desk.is_done() {
         return Ok(desk.into_seat());
     }
+    let crew = crew.limited(rt);
+    desk.begin(crew);
     let desk = work_desk(rt, alloc, table, desk, crew.count, gate)?;
     Ok(desk.into_seat())
 }

@@ -17,8 +17,9 @@ use std::thread::{Threads, available_parallelism};
 // No separation is less. So each wave has at least 12,000 cells, since there are 12 vertices.
 const LEAST: u32 = 1_000;
 
-// A wave spans fewer than 2,000 offsets, so there are at least nine, of which eight are whole. Each vertex has three edges, so there are
-// 13,116 walks of at most six edges, and from the seventh wave on the open gate shares each whole wave too.
+// A wave spans fewer than 2,000 offsets, so there are at least nine, of which eight are whole. Each vertex has three edges, so walks are ever
+// more: of the task of number 0 more than half of the cells have some work from the tenth of sixteen whole waves on, and the open gate shares such
+// waves too.
 const BOUND: u64 = 16_665;
 
 // A drawn task's vertices, as execution times and deadlines.
@@ -141,7 +142,7 @@ fn any_number_of_workers_finds_the_works_of_wide_waves(rt: HostRuntime) -> Resul
 }
 
 // How often two workers of a drawn task's table meet before their first turns, under a gate that leaves the caller a turn alone. There no
-// worker begins before the first wave that is shared, which is the seventh, as with the open gate.
+// worker begins before the first wave that is worth it, as with the open gate.
 fn meetings_of<R: Threads + Wait + Sync>(
     rt: &R,
     alloc: Global,
@@ -168,7 +169,7 @@ fn two_workers_begin_with_a_later_wave_where_there_are_two_processors(
     Ok(())
 }
 
-// Up to this bound there are 99,996 cells, and fewer than 30,000 of them from the seventh wave on.
+// Up to this bound there are 99,996 cells, of which 3,272 have some work.
 #[test]
 fn one_worker_works_a_table_of_which_little_would_be_shared(rt: HostRuntime) -> Result<(), Fail> {
     assert_eq!(rt; meetings_of(&rt, rt.alloc(), 0, 8_332)?, 0);
