@@ -81,7 +81,7 @@ impl Crew {
         requires planned { IsPlan plan.now }
         ensures { result ≤ self.count }
     {
-        if self.begins_at_once || plan.cell_count() >= LARGE {
+        if self.begins_at_once || (self.count > 1 && plan.cell_count() >= LARGE) {
             self.limited(rt).count
         } else {
             1
