@@ -1,6 +1,6 @@
 //! The lock. Each step is taken by a seat.
 
-ghost use Rattle.std.specs.Prelude.{◌≡◌, ℕ, ◌+◌, ◌-◌, ◌^◌, ◌<◌, ◌≤◌, IfOk, MatchBool};
+ghost use Rattle.std.specs.Prelude.{◌≡◌, ℕ, ◌+◌, ◌-◌, ◌^◌, ◌<◌, ◌≤◌, IfOk, IfSome, IfNone, MatchBool};
 ghost use Rattle.drt_lock.specs.Seats.{Knows, IsAtWork, Rests, HoldsMachine};
 ghost use Rattle.drt_lock.specs.Rule.{with_grip};
 ghost use Rattle.drt_lock.specs.declared.view.Grip.TheVariants.{Away, Locked};
@@ -100,6 +100,23 @@ impl<M: Guarded + Drop> Lock<M> {
     {
         self.grab(rt, seat);
         self.table.shared.load::<Take<M>>(seat, LOGGED)
+    }
+
+    /// Takes the machine out where the lock is free, and doesn't wait where it isn't. Answers the length of its log, or None where another seat has
+    /// the lock.
+    pub fn try_enter(&self, seat: &mut Seat<M, SeatView<M::Fixed>>) -> Option<u64>
+        requires name { seat.old.table_id ≡ self.now.name }
+        requires seat { (0 < seat.old.me.0.parts) × Rests self.now.fixed seat.old.me.0.parts seat.old.me.0.count seat.old.me }
+        ensures name { seat.new.table_id ≡ self.now.name }
+        ensures knows { IfSome result (λ read. Knows self.now.fixed seat.old.me.0.parts seat.old.me.0.count seat.new.me.0) }
+        ensures work { IfSome result (λ read. IsAtWork seat.new.me.0 × (seat.new.me.0.read ≡ read) × (seat.old.me.0.count ≤ read)) }
+        ensures machine { IfSome result (λ read. (y : M) × HoldsMachine y seat.new.me × (M.fixed y ≡ self.now.fixed) × (M.entries y ≡ read)) }
+        ensures left { IfNone result (seat.new.me ≡ seat.old.me) }
+    {
+        if !self.try_grab(seat) {
+            return None;
+        }
+        Some(self.table.shared.load::<Take<M>>(seat, LOGGED))
     }
 
     // Takes the lock if it is free. It looks first, so a thread that waits only reads.

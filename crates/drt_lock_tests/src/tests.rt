@@ -113,3 +113,26 @@ fn two_seats_step_in_turn(rt: HostRuntime) -> Result<(), Fail> {
     assert!(rt; tally.notes.as_slice() == [1, 2, 2, 1].as_slice());
     Ok(())
 }
+
+// Whether a seat that tries gets the lock once another one has left it. An error where that one doesn't get the free lock, or the seat gets the
+// lock while that one has it.
+fn enters_after_another(alloc: Global) -> Result<bool, Fail> {
+    let (lock, mut first) = begin(alloc)?;
+    let mut second = lock.split(&mut first);
+    let Some(_noted) = lock.try_enter(&mut first) else {
+        return Err("the lock is free".into());
+    };
+    match lock.try_enter(&mut second) {
+        Some(_noted) => Err("the lock is another's".into()),
+        None => {
+            lock.leave(&mut first);
+            Ok(lock.try_enter(&mut second).is_some())
+        }
+    }
+}
+
+#[test]
+fn a_seat_enters_a_lock_only_where_it_is_free(rt: HostRuntime) -> Result<(), Fail> {
+    assert!(rt; enters_after_another(rt.alloc())?);
+    Ok(())
+}

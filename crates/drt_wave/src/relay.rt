@@ -14,6 +14,7 @@ use drt_lock::{Lock, SeatView};
 use drt_pool::{Turn, Work};
 use std::sync::Wait;
 use std::sync::atomic::{AtomicU64, Ordering};
+use std::thread;
 
 /// How often a turn looks whether the next wave is open.
 const LOOKS: u32 = 64;
@@ -52,21 +53,21 @@ impl<'a> Work for Relay<'a> {
 
     ghost ended = { λ relay place hand. Unit {0} };
 
-    // A turn draws blocks for the seat in hand, or waits for a seat.
-    fn turn<R: Wait>(&self, rt: &R, hand: &mut Hand<'a>) -> Turn {
+    // A turn draws blocks for the seat in hand, or looks for a seat. None waits: where the lock is another's, the next turn tries again.
+    fn turn<R: Wait>(&self, _rt: &R, hand: &mut Hand<'a>) -> Turn {
         match hand.held.take() {
             Some(shift) => {
-                self.work(rt, hand, shift);
+                self.work(hand, shift);
                 Turn::More
             }
-            None => self.seek(rt, hand),
+            None => self.seek(hand),
         }
     }
 }
 
 impl<'a> Relay<'a> {
     // Draws blocks of the wave and works them. Where a number is past the wave's end the seat is given back.
-    fn work<R: Wait>(&self, rt: &R, hand: &mut Hand<'a>, shift: Shift)
+    fn work(&self, hand: &mut Hand<'a>, shift: Shift)
         requires name { hand.old.lock_seat.table_id ≡ self.now.lock.name }
         requires seat { Rests self.now.lock.fixed 1 0 hand.old.lock_seat.me }
         requires shift { IsShift self.now.table.now shift.wave shift.seat }
@@ -81,31 +82,33 @@ impl<'a> Relay<'a> {
             hand.held = Some(shift);
             return;
         }
-        hand.next = shift.wave as u64 + 1;
-        hand.held = None;
-        hand.room = self.hand_in(rt, &mut hand.lock_seat, shift);
+        self.hand_in(hand, shift);
     }
 
-    // Gives a seat back under the lock, and has the room of it.
-    fn hand_in<R: Wait>(
-        &self,
-        rt: &R,
-        seat: &mut LockSeat<'a>,
-        shift: Shift,
-    ) -> Option<Vec<LaneSeat>>
-        requires name { seat.old.table_id ≡ self.now.lock.name }
-        requires seat { Rests self.now.lock.fixed 1 0 seat.old.me }
+    // Gives a seat back under the lock, and has the room of it. Where the lock is another's the seat stays in hand.
+    fn hand_in(&self, hand: &mut Hand<'a>, shift: Shift)
+        requires name { hand.old.lock_seat.table_id ≡ self.now.lock.name }
+        requires seat { Rests self.now.lock.fixed 1 0 hand.old.lock_seat.me }
         requires shift { IsShift self.now.table.now shift.wave shift.seat }
-        ensures name { seat.new.table_id ≡ self.now.lock.name }
-        ensures seat { Rests self.now.lock.fixed 1 0 seat.new.me }
-        ensures room { IfSome result (λ room. IsRoom self.now.table.now room) }
+        requires room { IfSome hand.old.room (λ room. IsRoom self.now.table.now room) }
+        ensures name { hand.new.lock_seat.table_id ≡ self.now.lock.name }
+        ensures seat { Rests self.now.lock.fixed 1 0 hand.new.lock_seat.me }
+        ensures held { IfSome hand.new.held (λ s. IsShift self.now.table.now s.wave s.seat) }
+        ensures room { IfSome hand.new.room (λ room. IsRoom self.now.table.now room) }
     {
-        self.lock.enter(rt, seat);
-        let (room, open) = self.give_back(seat, shift);
+        let Some(_entries) = self.lock.try_enter(&mut hand.lock_seat) else {
+            thread::yield_now();
+            hand.held = Some(shift);
+            return;
+        };
+        let next = shift.wave as u64 + 1;
+        let (room, open) = self.give_back(&mut hand.lock_seat, shift);
         // Told before the lock is left, so that it never falls back to an earlier wave.
         self.open.store(open, Ordering::SeqCst);
-        self.lock.leave(seat);
-        room
+        self.lock.leave(&mut hand.lock_seat);
+        hand.next = next;
+        hand.held = None;
+        hand.room = room;
     }
 
     // Gives a seat back to the desk that is out with the lock's seat. Who finds all parts back there works on. Answers the wave that is
@@ -124,8 +127,8 @@ impl<'a> Relay<'a> {
         (room, desk.open_wave() as u64)
     }
 
-    // Waits for a wave, and takes a seat for it. Stop where all waves are worked.
-    fn seek<R: Wait>(&self, rt: &R, hand: &mut Hand<'a>) -> Turn
+    // Looks for the next wave, and takes a seat for it. Stop where all waves are worked.
+    fn seek(&self, hand: &mut Hand<'a>) -> Turn
         requires name { hand.old.lock_seat.table_id ≡ self.now.lock.name }
         requires seat { Rests self.now.lock.fixed 1 0 hand.old.lock_seat.me }
         requires room { IfSome hand.old.room (λ room. IsRoom self.now.table.now room) }
@@ -142,7 +145,11 @@ impl<'a> Relay<'a> {
         let Some(room) = hand.room.take() else {
             return Turn::Stop;
         };
-        self.lock.enter(rt, &mut hand.lock_seat);
+        let Some(_entries) = self.lock.try_enter(&mut hand.lock_seat) else {
+            thread::yield_now();
+            hand.room = Some(room);
+            return Turn::More;
+        };
         let (is_done, taken) = self.take(&mut hand.lock_seat, hand.next, room);
         self.lock.leave(&mut hand.lock_seat);
         match taken {
@@ -172,7 +179,7 @@ impl<'a> Relay<'a> {
         (desk.is_done(), taken)
     }
 
-    // Waits a while until the wave is open, and says whether it is.
+    // Looks for a while whether the wave is open.
     fn is_open(&self, wave: u64) -> bool {
         let backoff = Backoff::new();
         for _look in 0..LOOKS {
