@@ -12,10 +12,10 @@ use std::thread::{Threads, available_parallelism};
 // The load of a wave is how long it takes one worker, in the time that a cell with some work takes.
 
 // What it takes to hand a wave out to workers and to have it back, as a load.
-const HANDING: u64 = 1_024;
+const HANDING: u64 = 512;
 
 // What workers must spare the caller for them to begin, as a load: over twice what it takes them to.
-const BEGINNING: u64 = 20_480;
+const BEGINNING: u64 = 16_384;
 
 // So many cells without any work take as long as one that has some.
 const EMPTY: u64 = 8;
@@ -55,37 +55,32 @@ impl Crew {
         }
     }
 
-    /// Those that begin: all where the gate may wait for another worker, else no more than there are processors. To ask for that takes as long
-    /// as to work a thousand cells.
-    pub(crate) fn limited<R: Threads>(self, rt: &R) -> Crew
+    /// How many of them open a table: all where they begin at once, and else several only where the table is large, no more than there are
+    /// processors. To ask for that takes as long as to work a thousand cells.
+    pub(crate) fn openers<R: Threads>(self, rt: &R, plan: &Plan) -> u32
+        requires planned { IsPlan plan.now }
         requires some { 1 ≤ self.count }
-        ensures some { 1 ≤ result.count }
-        ensures most { result.count ≤ self.count }
+        ensures { result ≤ self.count }
     {
         if self.begins_at_once {
-            return self;
+            return self.count;
         }
-        let count = match available_parallelism(rt) {
+        if self.count <= 1 || plan.cell_count() < LARGE {
+            return 1;
+        }
+        match available_parallelism(rt) {
             Ok(processors) => processors.get().min(self.count as usize) as u32,
             Err(_) => 1,
-        };
-        Crew {
-            count,
-            begins_at_once: false,
         }
     }
 
-    /// How many of them open a table.
-    pub(crate) fn openers<R: Threads>(self, rt: &R, plan: &Plan) -> u32
-        requires some { 1 ≤ self.count }
-        requires planned { IsPlan plan.now }
-        ensures { result ≤ self.count }
+    // Whether it is worth it to share so many waves of this load: the workers spare one of them more of each than it takes to hand it out, and of
+    // all together enough for them to begin.
+    fn gains(self, load: u64, waves: u64) -> bool
+        requires { 1 ≤ self.count }
     {
-        if self.begins_at_once || (self.count > 1 && plan.cell_count() >= LARGE) {
-            self.limited(rt).count
-        } else {
-            1
-        }
+        let spared = (load - load / self.count as u64).saturating_sub(HANDING);
+        spared > 0 && spared.saturating_mul(waves) >= BEGINNING
     }
 }
 
@@ -111,20 +106,17 @@ pub(crate) fn is_shared(
     if crew.begins_at_once {
         return wave == 0 || size >= WIDE;
     }
-    let left = table.cells_from(wave);
-    if size < HANDING || (left < BEGINNING && !has_begun) {
-        return false;
+    // So many waves as it is are left; where workers have begun any number will do.
+    let waves = if has_begun {
+        u64::MAX
+    } else {
+        table.cells_from(wave) / size.max(1)
+    };
+    // Where that is told by its size alone no cell is looked at.
+    if crew.gains(size / EMPTY, waves) {
+        return true;
     }
-    let spared = spared_of(load_of(table, seat, wave), crew.count);
-    spared > 0 && (has_begun || spared * left / size >= BEGINNING)
-}
-
-// What so many workers spare one of them of a wave of this load, beyond what it takes to hand it out.
-fn spared_of(load: u64, count: u32) -> u64
-    requires { 1 ≤ count }
-    ensures { result ≤ load }
-{
-    (load - load / count as u64).saturating_sub(HANDING)
+    crew.gains(size, waves) && crew.gains(load_of(table, seat, wave), waves)
 }
 
 // The load of a wave whose cells are final, told by a look at some of them.

@@ -5,6 +5,7 @@ ghost use Rattle.drt_wave.specs.Shifts.{IsAtWork, IsShift};
 ghost use Rattle.drt_wave.specs.Seats.{draws_of, KnowsTo, IsOf, IsRoom};
 
 use crate::crew::{Crew, is_shared};
+use crate::drawing::turn_count;
 use crate::lane::LaneSeat;
 use crate::seat::WaveSeat;
 use crate::table::WaveTable;
@@ -35,7 +36,7 @@ pub(crate) struct Desk<'a> {
     wave: u32,
     waves: u32,
     crew: Crew,
-    // Whether the workers have begun, as they do with the first wave that is shared.
+    // Whether a wave was shared before this one: workers begin with the first one that is.
     has_begun: bool,
 }
 
@@ -60,13 +61,13 @@ impl<'a> Guarded for Desk<'a> {
 }
 
 impl<'a> Desk<'a> {
-    /// A table whose waves before the first one that is shared are worked.
+    /// A table of which no wave is worked.
     pub(crate) fn open(table: &'a WaveTable, owner: WaveSeat, crew: Crew) -> Desk<'a>
         requires owner { IsAtWork table.now 0 1024 owner }
         requires draws { draws_of owner ≡ [] }
         ensures { result ≡ table.now }
     {
-        let mut desk = Desk {
+        Desk {
             table,
             owner,
             parts: PARTS,
@@ -74,17 +75,22 @@ impl<'a> Desk<'a> {
             waves: table.plan.wave_count(),
             crew,
             has_begun: false,
-        };
-        desk.work_unshared();
-        desk
+        }
     }
 
-    /// These workers begin.
-    pub(crate) fn begin(&mut self, crew: Crew)
+    /// How many turns the caller has before other workers begin, as long as no wave is worked: none where all begin at once, one where they begin
+    /// with the first wave, in which the caller takes a seat for it, and else as many as it takes the caller to work that wave, and after it those
+    /// up to the first one that is shared, for which it takes a seat then.
+    pub(crate) fn turns_alone(&mut self) -> u64
         ensures { self.new ≡ self.old }
     {
-        self.crew = crew;
-        self.has_begun = true;
+        if self.crew.begins_at_once {
+            return 0;
+        }
+        if self.is_shared() {
+            return 1;
+        }
+        turn_count(self.table, 0) + 2
     }
 
     /// The wave that is open, or how many there are where all are worked.
@@ -180,13 +186,17 @@ impl<'a> Desk<'a> {
     fn is_shared(&mut self) -> bool
         ensures { self.new ≡ self.old }
     {
-        self.wave >= self.waves
-            || is_shared(
-                self.table,
-                &mut self.owner,
-                self.wave,
-                self.crew,
-                self.has_begun,
-            )
+        if self.wave >= self.waves {
+            return true;
+        }
+        let shared = is_shared(
+            self.table,
+            &mut self.owner,
+            self.wave,
+            self.crew,
+            self.has_begun,
+        );
+        self.has_begun = self.has_begun || shared;
+        shared
     }
 }

@@ -44,6 +44,7 @@ impl WaveTable {
         requires wave { wave < (net_of self.now.plan).waves }
         ensures covers { (net_of self.now.plan).size wave ≤ result * 64 }
         ensures begins { (b : ℕ) → b < result → b * 64 < (net_of self.now.plan).size wave }
+        ensures few { result ≤ 65536 }
     {
         (self.wave_size(wave) + (BLOCK - 1)) / BLOCK
     }

@@ -6,10 +6,11 @@
 //! again by `join`. None of them waits. The seat that has every part and expanded what it drew knows the next wave as final by a claim past
 //! the wave's end, and in whatever order the steps of several seats fall, `close` gives the greatest works, as a `DenseFront`.
 //!
-//! The layer above uses `fill`, which works a table by 1 to 16 workers, or `dense_front`, which works it by one seat. Workers take a seat for
-//! each wave that they share, and give it back, under a lock, and wait for the next one. A desk is the state under that lock (the seat that
-//! has the parts that no worker has, and the open wave), a relay what the workers share, a hand what one worker has, a shift a seat with its
-//! wave, and a crew the number of workers and whether all begin at once.
+//! The layer above uses `fill`, which works a table by 1 to 16 workers, or `dense_front`, which works it by one seat. All waves are worked in
+//! one run of the workers, the first one by the caller alone where it is small. Workers take a seat for each wave that they share, and give it
+//! back, under a lock, and look turn by turn whether the next one is open. A desk is the state under that lock (the seat that has the parts that
+//! no worker has, and the open wave), a relay what the workers share, a hand what one worker has, a shift a seat with its wave, and a crew the
+//! number of workers and whether all begin at once.
 #![tactic(auto)]
 
 mod claims;

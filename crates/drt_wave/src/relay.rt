@@ -27,7 +27,7 @@ pub(crate) type LockSeat<'a> = Seat<Desk<'a>, SeatView<WaveTable>>;
 pub(crate) struct Relay<'a> {
     pub(crate) table: &'a WaveTable,
     pub(crate) lock: Lock<Desk<'a>>,
-    /// The wave that is open. It is there only so that who waits for a wave needn't take the lock.
+    /// The wave that is open. It is there only so that who looks for a wave needn't take the lock.
     pub(crate) open: AtomicU64,
     ghost of_table: { lock.fixed ≡ table.now },
 }

@@ -20,10 +20,11 @@ use std::sync::Wait;
 use std::sync::atomic::AtomicU64;
 use std::thread::Threads;
 
-/// The gate of a shared table, in which the caller has no turn alone: all workers begin at once.
+/// The gate of a table, which has its own number of turns for the caller alone.
 #[derive(Drop)]
 struct WaveGate<'a, G: Gate> {
     gate: &'a G,
+    alone: u64,
 }
 
 impl<G: Gate> Gate for WaveGate<'_, G> {
@@ -32,7 +33,7 @@ impl<G: Gate> Gate for WaveGate<'_, G> {
     }
 
     fn alone(&self) -> u64 {
-        0
+        self.alone
     }
 }
 
@@ -105,7 +106,7 @@ fn work_desk<'a, G: Gate, R: Threads + Wait + Sync>(
         lock,
         open: AtomicU64::new(open),
     };
-    run_all(rt, &relay, hands.as_mut_slice(), &WaveGate { gate });
+    run_all(rt, &relay, hands.as_mut_slice(), gate);
     let Relay { lock, .. } = relay;
     Ok(gather(lock, owner, hands))
 }
@@ -127,11 +128,10 @@ pub(crate) fn share_table<G: Gate, R: Threads + Wait + Sync>(
     ensures known { IfOk result (λ o. IfSome o (λ seat. KnowsTo (net_of table.now.plan).waves seat)) }
 {
     let mut desk = Desk::open(table, owner, crew);
-    if desk.is_done() {
-        return Ok(desk.into_seat());
-    }
-    let crew = crew.limited(rt);
-    desk.begin(crew);
-    let desk = work_desk(rt, alloc, table, desk, crew.count, gate)?;
+    let gate = WaveGate {
+        gate,
+        alone: desk.turns_alone(),
+    };
+    let desk = work_desk(rt, alloc, table, desk, crew.count, &gate)?;
     Ok(desk.into_seat())
 }

@@ -107,6 +107,19 @@ impl WaveTable {
         number
     }
 
+    /// The same, but no cell is read past the wave's end.
+    pub(crate) fn draw(&self, seat: &mut WaveSeat, wave: u32) -> u64
+        requires seat { IsOf self.now seat.old }
+        requires parts { 0 < parts_of seat.old }
+        requires wave { wave < (net_of self.now.plan).waves }
+        ensures seat { IsOf self.now seat.new }
+        ensures claimed { HasClaimed wave result seat.old seat.new }
+        ensures turned { Turned seat.old seat.new }
+        ensures same { HasNoMore seat.old seat.new }
+    {
+        self.claims.claim(&mut seat.claims, wave)
+    }
+
     /// Makes the cell of a vertex and an offset at least `work`, which is that of a walk that ends there.
     pub(crate) fn raise_at(&self, seat: &mut WaveSeat, vertex: u32, offset: u64, work: u64)
         requires seat { IsOf self.now seat.old }

@@ -7,6 +7,7 @@ use drt_pool::{EagerGate, Gate, OpenGate};
 use drt_wave::{DenseFront, fill};
 use std::alloc::Global;
 use std::sync::Wait;
+use std::sync::atomic::{AtomicU64, Ordering};
 use std::test::Fail;
 use std::thread::Threads;
 
@@ -65,13 +66,13 @@ fn each_number_of_workers_finds_the_same_front_of_wide_waves(rt: HostRuntime) ->
 // How many turns the first of two workers has in all, where the second one begins once the first has worked a row of blocks of the second wave,
 // and the first one then waits until the second has worked all the others. None where one of the two waits in vain or the front is wrong.
 //
-// A wave of 20,000 cells has 313 blocks. By a turn a worker takes a seat for the wave that is open, or draws a row of up to 16 blocks and works
-// them; where it finds no more it gives the seat back. So the first worker takes a seat in turn 0, works 19 whole rows in the turns up to 19, and
-// the 9 blocks that are left in turn 20. In turn 21 it takes a seat for the second wave, in turn 22 it works a row, and before turn 23 it waits.
-// The second worker takes a seat for that wave in its turn 0, works 18 whole rows in the turns up to 18, and the 9 blocks that are left in turn
-// 19. Before its turn 20 the first one goes on.
+// A wave of 20,000 cells has 313 blocks. By a turn a worker takes a seat for the wave that is open, or draws a row of up to 8 blocks and works
+// them; where it finds no more it gives the seat back. So the first worker takes a seat in turn 0, works 39 whole rows in the turns up to 39, and
+// the block that is left in turn 40. In turn 41 it takes a seat for the second wave, in turn 42 it works a row, and before turn 43 it waits. The
+// second worker takes a seat for that wave in its turn 0, works 38 whole rows in the turns up to 38, and the block that is left in turn 39.
+// Before its turn 40 the first one goes on.
 fn turns_with_relief<R: Threads + Wait + Sync>(rt: &R, alloc: Global) -> Result<Option<u64>, Fail> {
-    let gate = Relief::at(23, 20);
+    let gate = Relief::at(43, 40);
     let works = works_by(rt, alloc, FAR, 20_001, 2, &gate)?;
     if !has_front(alloc, &works, &FAR_FRONT)? {
         return Ok(None);
@@ -79,11 +80,55 @@ fn turns_with_relief<R: Threads + Wait + Sync>(rt: &R, alloc: Global) -> Result<
     Ok(gate.first_turns())
 }
 
-// The first worker finds no block left in turn 23, in which the last wave is worked too, since that one is too small to be shared. It stops in
-// turn 24, its 25th. Had the second worker worked no block of the second wave, the first one would have had 21 turns in that wave too, and 43 in
-// all. Were the second wave not shared, it would have had 22.
+// The first worker finds no block left in turn 43, in which the last wave is worked too, since that one is too small to be shared. It stops in
+// turn 44, its 45th. Had the second worker worked no block of the second wave, the first one would have had 41 turns in that wave too, and 83 in
+// all. Were the second wave not shared, it would have had 42.
 #[test]
 fn a_second_worker_works_the_rest_of_a_later_wave(rt: HostRuntime) -> Result<(), Fail> {
-    assert_eq!(rt; turns_with_relief(&rt, rt.alloc())?, Some(25));
+    assert_eq!(rt; turns_with_relief(&rt, rt.alloc())?, Some(45));
+    Ok(())
+}
+
+// A gate that counts the turns of each of two workers, and leaves the caller some turn alone.
+#[derive(Drop)]
+struct Counts {
+    turns: [AtomicU64; 2],
+}
+
+impl Gate for Counts {
+    fn before(&self, worker: u32, _turn: u64) {
+        if worker < 2 {
+            self.turns[worker as usize].fetch_add(1, Ordering::SeqCst);
+        }
+    }
+
+    fn alone(&self) -> u64 {
+        1
+    }
+}
+
+// How many turns each of two workers has for the table of a shape that is too small to be shared.
+fn turns_of<R: Threads + Wait + Sync>(
+    rt: &R,
+    alloc: Global,
+    shape: Shape<'_>,
+    bound: u64,
+) -> Result<[u64; 2], Fail> {
+    let gate = Counts {
+        turns: [AtomicU64::new(0), AtomicU64::new(0)],
+    };
+    let _works = works_by(rt, alloc, shape, bound, 2, &gate)?;
+    let first = gate.turns[0].load(Ordering::SeqCst);
+    let second = gate.turns[1].load(Ordering::SeqCst);
+    Ok([first, second])
+}
+
+// Six waves of three cells: in its first turn the caller takes a seat for the first wave, in its second it works that wave and then all others,
+// and in its third it finds that all are worked. A wave of 20,000 cells takes it forty turns in place of one. The other worker finds all worked
+// in its only turn.
+#[test]
+fn the_first_wave_is_worked_in_turns_as_later_ones_are(rt: HostRuntime) -> Result<(), Fail> {
+    assert_eq!(rt; turns_of(&rt, rt.alloc(), RETURNING, 5)?, [3, 1]);
+    assert_eq!(rt; turns_of(&rt, rt.alloc(), FAR, 20_001)?, [42, 1]);
     Ok(())
 }

@@ -141,15 +141,34 @@ fn any_number_of_workers_finds_the_works_of_wide_waves(rt: HostRuntime) -> Resul
     Ok(())
 }
 
-// How often two workers of a drawn task's table meet before their first turns, under a gate that leaves the caller a turn alone. There no
-// worker begins before the first wave that is worth it, as with the open gate.
+// A gate at which two workers meet, and which leaves the caller some turn alone. There no worker begins before the first wave that is worth it,
+// as with the open gate.
+#[derive(Drop)]
+struct LaterMeeting {
+    meeting: Meeting,
+}
+
+impl Gate for LaterMeeting {
+    fn before(&self, worker: u32, turn: u64) {
+        self.meeting.before(worker, turn);
+    }
+
+    fn alone(&self) -> u64 {
+        1
+    }
+}
+
+// How often two workers of a drawn task's table meet before turn 60. A wave has fewer than 24,000 cells, which are 47 turns of one worker, so the
+// caller has worked the first wave by then.
 fn meetings_of<R: Threads + Wait + Sync>(
     rt: &R,
     alloc: Global,
     number: u64,
     bound: u64,
 ) -> Result<u64, Fail> {
-    let gate = Meeting::behind(1);
+    let gate = LaterMeeting {
+        meeting: Meeting::at(60),
+    };
     let graph = draw_graph(alloc, number, bound)?;
     let _works = fill(rt, alloc, &graph, bound, 2, &gate)?;
     Ok(gate.times_met())

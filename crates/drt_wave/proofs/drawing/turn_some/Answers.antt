@@ -20,6 +20,6 @@ returns-clause-all c = but_all
 
 pub returns-clause-past : goal.returns-clause-past
 returns-clause-past c = λ no.
-    let short : c.draw_row-count.result ≢ 16 = eqb-false c.draw_row-count.result 16 no in
+    let short : c.draw_row-count.result ≢ 8 = eqb-false c.draw_row-count.result 8 no in
     let past = c.draw_row-count.ensures.past (omega (arith, c.draw_row-count.ensures.count, short)) in
     (past.0, subst (λ l. Among (c.args.wave, past.0) l) (sym c.expand_row.ensures.kept.draws) past.1, past.2)

@@ -1,20 +1,13 @@
-use Rattle.std.proofs.Common.{subst}
+use Rattle.std.proofs.Common.{◌∙◌, subst}
 use Rattle.std.specs.Prelude.{IfSome}
 use Rattle.drt_wave.specs.declared.table.WaveTable.{WaveTable}
 use Rattle.drt_wave.specs.Cells.{net_of}
 use Rattle.drt_wave.specs.Seats.{KnowsTo, IsOf}
 use Rattle.drt_wave.proofs.sharing.share_table.Goals as goal
 
-pub returns-then-is_done-clause-seat : goal.returns-then-is_done-clause-seat
-returns-then-is_done-clause-seat g c = subst (λ (t : WaveTable). IfSome c.into_seat.result (λ seat. IsOf t seat)) c.open-desk.ensures c.into_seat.ensures.seat
-
-pub returns-then-is_done-clause-known : goal.returns-then-is_done-clause-known
-returns-then-is_done-clause-known g c =
-    subst (λ (t : WaveTable). IfSome c.into_seat.result (λ seat. KnowsTo (net_of t.plan).waves seat)) c.open-desk.ensures c.into_seat.ensures.known
-
 pub returns-clause-seat : goal.returns-clause-seat
-returns-clause-seat g c = subst (λ (t : WaveTable). IfSome c.into_seat-2.result (λ seat. IsOf t seat)) c.in_ok-desk.ensures c.into_seat-2.ensures.seat
+returns-clause-seat g c = subst (λ (t : WaveTable). IfSome c.into_seat.result (λ seat. IsOf t seat)) c.in_ok-desk.ensures c.into_seat.ensures.seat
 
 pub returns-clause-known : goal.returns-clause-known
 returns-clause-known g c =
-    subst (λ (t : WaveTable). IfSome c.into_seat-2.result (λ seat. KnowsTo (net_of t.plan).waves seat)) c.in_ok-desk.ensures c.into_seat-2.ensures.known
+    subst (λ (t : WaveTable). IfSome c.into_seat.result (λ seat. KnowsTo (net_of t.plan).waves seat)) c.in_ok-desk.ensures c.into_seat.ensures.known
