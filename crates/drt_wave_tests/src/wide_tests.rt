@@ -171,7 +171,7 @@ fn meetings_of<R: Threads + Wait + Sync>(
     };
     let graph = draw_graph(alloc, number, bound)?;
     let _works = fill(rt, alloc, &graph, bound, 2, &gate)?;
-    Ok(gate.times_met())
+    Ok(gate.meeting.times_met())
 }
 
 // No more workers begin than there are processors.
