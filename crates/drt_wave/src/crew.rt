@@ -15,7 +15,7 @@ use std::thread::{Threads, available_parallelism};
 const HANDING: u64 = 512;
 
 // What workers must spare the caller for them to begin, as a load: over twice what it takes them to.
-const BEGINNING: u64 = 16_384;
+const BEGINNING: u64 = 20_480;
 
 // So many cells without any work take as long as one that has some.
 const EMPTY: u64 = 8;
