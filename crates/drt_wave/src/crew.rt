@@ -55,8 +55,9 @@ impl Crew {
         }
     }
 
-    /// How many of them open a table: all where they begin at once, and else several only where the table is large, no more than there are
-    /// processors. To ask for that takes as long as to work a thousand cells.
+    /// How many of them open a table: all where they begin at once, and else several only where the table is large and its waves may be shared, no
+    /// more than there are processors. (Cells that others opened come slowly to one who works them alone.) To ask how many processors there are takes
+    /// as long as to work a thousand cells.
     pub(crate) fn openers<R: Threads>(self, rt: &R, plan: &Plan) -> u32
         requires planned { IsPlan plan.now }
         requires some { 1 ≤ self.count }
@@ -65,7 +66,9 @@ impl Crew {
         if self.begins_at_once {
             return self.count;
         }
-        if self.count <= 1 || plan.cell_count() < LARGE {
+        let cells = plan.cell_count();
+        let waves = u64::from(plan.wave_count());
+        if self.count <= 1 || cells < LARGE || !self.gains(cells / waves, waves) {
             return 1;
         }
         match available_parallelism(rt) {
@@ -105,6 +108,10 @@ pub(crate) fn is_shared(
     let size = table.wave_size(wave);
     if crew.begins_at_once {
         return wave == 0 || size >= WIDE;
+    }
+    // The quickest test comes first, since there may be many narrow waves.
+    if size <= HANDING {
+        return false;
     }
     // So many waves as it is are left; where workers have begun any number will do.
     let waves = if has_begun {
