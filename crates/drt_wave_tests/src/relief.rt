@@ -11,6 +11,8 @@ const LOOKS: u32 = 1_000_000;
 /// the second has come to a turn of another number.
 #[derive(Drop)]
 pub(crate) struct Relief {
+    // How many turns it leaves the caller alone.
+    alone: u64,
     // The turn in which the first worker waits, and the one of the second worker until which it does.
     wait: u64,
     until: u64,
@@ -20,9 +22,20 @@ pub(crate) struct Relief {
 }
 
 impl Relief {
-    /// One that holds the turn of number `wait` of the first worker, until the second one has come to its turn of number `until`.
+    /// One that holds the turn of number `wait` of the first worker, until the second one has come to its turn of number `until`. The caller has no
+    /// turn alone, so that both begin at once.
     pub(crate) fn at(wait: u64, until: u64) -> Relief {
+        Relief::new(0, wait, until)
+    }
+
+    /// One that holds the turn of number `wait` of the first worker until the second one comes to its first. The caller has some turn alone.
+    pub(crate) fn behind(wait: u64) -> Relief {
+        Relief::new(1, wait, 0)
+    }
+
+    fn new(alone: u64, wait: u64, until: u64) -> Relief {
         Relief {
+            alone,
             wait,
             until,
             come: [AtomicU64::new(0), AtomicU64::new(0)],
@@ -72,8 +85,7 @@ impl Gate for Relief {
         }
     }
 
-    // The caller has no turn alone, so that both begin at once.
     fn alone(&self) -> u64 {
-        0
+        self.alone
     }
 }

@@ -3,12 +3,12 @@ ghost use Rattle.std.specs.Prelude.{◌+◌, ◌*◌, ◌≤◌, IfOk};
 ghost use Rattle.drt_model.specs.Digraph.{vertex_count};
 
 use crate::graphs::make_graph;
+use crate::relief::Relief;
 use crate::tables::{finished_table, is_front_of};
 use drt_drawn::Draws;
 use drt_graph::Graph;
-use drt_meeting::Meeting;
 use drt_pool::{EagerGate, Gate, OpenGate};
-use drt_wave::{DenseFront, dense_front, fill};
+use drt_wave::{DenseFront, WaveTable, dense_front, fill};
 use std::alloc::Global;
 use std::sync::Wait;
 use std::test::Fail;
@@ -141,37 +141,24 @@ fn any_number_of_workers_finds_the_works_of_wide_waves(rt: HostRuntime) -> Resul
     Ok(())
 }
 
-// A gate at which two workers meet, and which leaves the caller some turn alone. There no worker begins before the first wave that is worth it,
-// as with the open gate.
-#[derive(Drop)]
-struct LaterMeeting {
-    meeting: Meeting,
-}
-
-impl Gate for LaterMeeting {
-    fn before(&self, worker: u32, turn: u64) {
-        self.meeting.before(worker, turn);
-    }
-
-    fn alone(&self) -> u64 {
-        1
-    }
-}
-
-// How often two workers of a drawn task's table meet before turn 60. A wave has fewer than 24,000 cells, which are 47 turns of one worker, so the
-// caller has worked the first wave by then.
-fn meetings_of<R: Threads + Wait + Sync>(
+// Whether a second worker begins with a later wave of a drawn task's table, under a gate that leaves the caller some turn alone, as the open gate
+// does.
+//
+// In its first turn the caller takes a seat for the first wave, and by each one after it works a row of 8 blocks. In the turn in which it finds
+// fewer it works that wave and those after it, up to the first one that is worth it for workers to begin, and in the next turn it takes a seat for
+// that one. So the others begin with its turn after these.
+fn begins_later<R: Threads + Wait + Sync>(
     rt: &R,
     alloc: Global,
     number: u64,
     bound: u64,
-) -> Result<u64, Fail> {
-    let gate = LaterMeeting {
-        meeting: Meeting::at(60),
-    };
+) -> Result<bool, Fail> {
     let graph = draw_graph(alloc, number, bound)?;
+    let (table, _seat) = WaveTable::start(alloc, &graph, bound)?;
+    let blocks = table.plan.span.saturating_mul(12).div_ceil(64);
+    let gate = Relief::behind(blocks / 8 + 3);
     let _works = fill(rt, alloc, &graph, bound, 2, &gate)?;
-    Ok(gate.meeting.times_met())
+    Ok(gate.first_turns().is_some())
 }
 
 // No more workers begin than there are processors.
@@ -179,18 +166,14 @@ fn meetings_of<R: Threads + Wait + Sync>(
 fn two_workers_begin_with_a_later_wave_where_there_are_two_processors(
     rt: HostRuntime,
 ) -> Result<(), Fail> {
-    let wanted = if available_parallelism(&rt)?.get() > 1 {
-        1
-    } else {
-        0
-    };
-    assert_eq!(rt; meetings_of(&rt, rt.alloc(), 0, BOUND)?, wanted);
+    let wanted = available_parallelism(&rt)?.get() > 1;
+    assert_eq!(rt; begins_later(&rt, rt.alloc(), 0, BOUND)?, wanted);
     Ok(())
 }
 
 // Up to this bound there are 99,996 cells, of which 3,272 have some work.
 #[test]
 fn one_worker_works_a_table_of_which_little_would_be_shared(rt: HostRuntime) -> Result<(), Fail> {
-    assert_eq!(rt; meetings_of(&rt, rt.alloc(), 0, 8_332)?, 0);
+    assert!(rt; !begins_later(&rt, rt.alloc(), 0, 8_332)?);
     Ok(())
 }
