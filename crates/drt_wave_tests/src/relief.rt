@@ -7,12 +7,12 @@ use std::thread;
 /// How often a worker looks for the other one before it gives up.
 const LOOKS: u32 = 1_000_000;
 
-/// It holds the first turn of the second worker until the first worker has come to a turn of some number, in which that one then waits until
-/// the second has come to a turn of another number.
+/// It holds a turn of some number of the first worker until the second worker has come to a turn of another number. It may hold the first turn of
+/// the second worker until the first one has come to its turn, too.
 #[derive(Drop)]
 pub(crate) struct Relief {
-    // How many turns it leaves the caller alone.
-    alone: u64,
+    // Whether it holds both workers. Then the caller has no turn alone, so that both begin at once.
+    holds_both: bool,
     // The turn in which the first worker waits, and the one of the second worker until which it does.
     wait: u64,
     until: u64,
@@ -22,20 +22,19 @@ pub(crate) struct Relief {
 }
 
 impl Relief {
-    /// One that holds the turn of number `wait` of the first worker, until the second one has come to its turn of number `until`. The caller has no
-    /// turn alone, so that both begin at once.
+    /// One that holds both workers: the first in its turn of number `wait`, until the second has come to its turn of number `until`.
     pub(crate) fn at(wait: u64, until: u64) -> Relief {
-        Relief::new(0, wait, until)
+        Relief::new(true, wait, until)
     }
 
-    /// One that holds the turn of number `wait` of the first worker until the second one comes to its first. The caller has some turn alone.
+    /// One that holds the first worker alone, in its turn of number `wait`, until the second comes to its first turn. The caller has some turn alone.
     pub(crate) fn behind(wait: u64) -> Relief {
-        Relief::new(1, wait, 0)
+        Relief::new(false, wait, 0)
     }
 
-    fn new(alone: u64, wait: u64, until: u64) -> Relief {
+    fn new(holds_both: bool, wait: u64, until: u64) -> Relief {
         Relief {
-            alone,
+            holds_both,
             wait,
             until,
             come: [AtomicU64::new(0), AtomicU64::new(0)],
@@ -80,12 +79,12 @@ impl Gate for Relief {
         if worker == 0 && turn == self.wait {
             self.wait_for(1, self.until);
         }
-        if worker == 1 && turn == 0 {
+        if worker == 1 && turn == 0 && self.holds_both {
             self.wait_for(0, self.wait);
         }
     }
 
     fn alone(&self) -> u64 {
-        self.alone
+        if self.holds_both { 0 } else { 1 }
     }
 }

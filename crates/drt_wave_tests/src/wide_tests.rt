@@ -156,9 +156,13 @@ fn begins_later<R: Threads + Wait + Sync>(
     let graph = draw_graph(alloc, number, bound)?;
     let (table, _seat) = WaveTable::start(alloc, &graph, bound)?;
     let blocks = table.plan.span.saturating_mul(12).div_ceil(64);
-    let gate = Relief::behind(blocks / 8 + 3);
+    let turn = blocks / 8 + 3;
+    let gate = Relief::behind(turn);
     let _works = fill(rt, alloc, &graph, bound, 2, &gate)?;
-    Ok(gate.first_turns().is_some())
+    Ok(match gate.first_turns() {
+        Some(turns) => turns > turn,
+        None => false,
+    })
 }
 
 // No more workers begin than there are processors.
