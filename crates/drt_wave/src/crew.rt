@@ -26,8 +26,13 @@ const WIDE: u64 = 8_192;
 // A table of fewer cells is opened by one worker.
 const LARGE: u64 = 524_288;
 
-// How many cells of a wave are looked at to tell its load.
-const LOOKS: u64 = 64;
+// How many cells of a wave are looked at to tell its load, and how many once more where workers would begin with it.
+const FEW: u64 = 16;
+
+const MANY: u64 = 64;
+
+// After a look in vain as many waves go by without one as an eighth of those before.
+const PAUSE: u32 = 8;
 
 // A wave, as a whole of which its cells stand at fractions: 2^32.
 const WHOLE: u64 = 4_294_967_296;
@@ -87,63 +92,121 @@ impl Crew {
     }
 }
 
-/// Whether all workers work a wave, whose cells are final. Where they begin at once they work the first wave and each one of many cells. Else
-/// they work each one of which they spare the caller more than it takes to hand it out; and as long as they haven't begun, only where that is
-/// enough for them to begin, if the waves after this one are as it is.
-pub(crate) fn is_shared(
-    table: &WaveTable,
-    seat: &mut WaveSeat,
-    wave: u32,
+/// Which waves of a table its crew shares.
+#[derive(Drop)]
+pub(crate) struct Sharing {
     crew: Crew,
+    // Whether a wave was shared: workers begin with the first one that is.
     has_begun: bool,
-) -> bool
-    requires seat { IsOf table.now seat.old }
-    requires wave { wave < (net_of table.now.plan).waves }
-    ensures seat { IsOf table.now seat.new }
-    ensures kept { Kept seat.old seat.new }
-{
-    if crew.count <= 1 {
-        return false;
-    }
-    let size = table.wave_size(wave);
-    if crew.begins_at_once {
-        return wave == 0 || size >= WIDE;
-    }
-    // The quickest test comes first, since there may be many narrow waves.
-    if size <= HANDING {
-        return false;
-    }
-    // So many waves as it is are left; where workers have begun any number will do.
-    let waves = if has_begun {
-        u64::MAX
-    } else {
-        table.cells_from(wave) / size.max(1)
-    };
-    // Where that is told by its size alone no cell is looked at.
-    if crew.gains(size / EMPTY, waves) {
-        return true;
-    }
-    crew.gains(size, waves) && crew.gains(load_of(table, seat, wave), waves)
+    // The wave from which on cells are looked at again.
+    next_look: u32,
 }
 
-// The load of a wave whose cells are final, told by a look at some of them.
-fn load_of(table: &WaveTable, seat: &mut WaveSeat, wave: u32) -> u64
+impl Sharing {
+    /// Of a table of which no wave is worked.
+    pub(crate) fn new(crew: Crew) -> Sharing {
+        Sharing {
+            crew,
+            has_begun: false,
+            next_look: 0,
+        }
+    }
+
+    /// Whether all workers begin at once.
+    pub(crate) fn begins_at_once(&self) -> bool {
+        self.crew.begins_at_once
+    }
+
+    /// Whether all workers work a wave, whose cells are final. Where they begin at once they work the first wave and each one of many cells. Else
+    /// they work each one of which they spare the caller more than it takes to hand it out; and as long as they haven't begun, only where that is
+    /// enough for them to begin, if the waves after this one are as it is.
+    pub(crate) fn shares(&mut self, table: &WaveTable, seat: &mut WaveSeat, wave: u32) -> bool
+        requires seat { IsOf table.now seat.old }
+        requires wave { wave < (net_of table.now.plan).waves }
+        ensures seat { IsOf table.now seat.new }
+        ensures kept { Kept seat.old seat.new }
+    {
+        if self.crew.count <= 1 {
+            return false;
+        }
+        let size = table.wave_size(wave);
+        if self.crew.begins_at_once {
+            return wave == 0 || size >= WIDE;
+        }
+        // The quickest test comes first, since there may be many narrow waves.
+        if size <= HANDING {
+            return false;
+        }
+        let pays = self.pays(table, seat, wave, size);
+        self.has_begun = self.has_begun || pays;
+        pays
+    }
+
+    // Whether it is worth it to share a wave of this size.
+    fn pays(&mut self, table: &WaveTable, seat: &mut WaveSeat, wave: u32, size: u64) -> bool
+        requires seat { IsOf table.now seat.old }
+        requires wave { wave < (net_of table.now.plan).waves }
+        requires some { 1 ≤ self.old.crew.count }
+        ensures seat { IsOf table.now seat.new }
+        ensures kept { Kept seat.old seat.new }
+    {
+        // So many waves as it is are left; where workers have begun any number will do.
+        let waves = if self.has_begun {
+            u64::MAX
+        } else {
+            table.cells_from(wave) / size.max(1)
+        };
+        // Where that is told by its size alone no cell is looked at.
+        if self.crew.gains(size / EMPTY, waves) {
+            return true;
+        }
+        if wave < self.next_look || !self.crew.gains(size, waves) {
+            return false;
+        }
+        let pays = self.is_loaded(table, seat, wave, waves);
+        if !pays && !self.has_begun {
+            self.next_look = wave.saturating_add(wave / PAUSE + 1);
+        }
+        pays
+    }
+
+    // Whether it is worth it to share a wave by the load that its cells tell. Before workers begin, which they do once, more cells have to tell it.
+    fn is_loaded(&self, table: &WaveTable, seat: &mut WaveSeat, wave: u32, waves: u64) -> bool
+        requires seat { IsOf table.now seat.old }
+        requires wave { wave < (net_of table.now.plan).waves }
+        requires some { 1 ≤ self.now.crew.count }
+        ensures seat { IsOf table.now seat.new }
+        ensures kept { Kept seat.old seat.new }
+    {
+        if !self.crew.gains(load_of(table, seat, wave, FEW), waves) {
+            return false;
+        }
+        if self.has_begun {
+            return true;
+        }
+        self.crew.gains(load_of(table, seat, wave, MANY), waves)
+    }
+}
+
+// The load of a wave whose cells are final, told by so many looks.
+fn load_of(table: &WaveTable, seat: &mut WaveSeat, wave: u32, looks: u64) -> u64
     requires seat { IsOf table.now seat.old }
     requires wave { wave < (net_of table.now.plan).waves }
+    requires looks { (1 ≤ looks) × (looks ≤ 64) }
     ensures seat { IsOf table.now seat.new }
     ensures kept { Kept seat.old seat.new }
-    ensures load { result ≤ 4194304 }
 {
     let size = table.wave_size(wave);
     let width = table.offsets(wave);
     let first = table.first_offset(wave);
     let mut full = 0;
-    'looks: for look in 0..LOOKS {
-        let number = look * GOLDEN % WHOLE * size / WHOLE;
+    // Not at the first cell, which has some work in the first wave of each table.
+    'looks: for look in 0..looks {
+        let number = (look + 1) * GOLDEN % WHOLE * size / WHOLE;
         let vertex = (number / width) as u32;
         if table.glance_at(seat, vertex, first + number % width) > 0 {
             full += 1;
         }
     }
-    (full * size + (LOOKS - full) * size / EMPTY) / LOOKS
+    (full * size + (looks - full) * size / EMPTY) / looks
 }

@@ -4,7 +4,7 @@ ghost use Rattle.drt_wave.specs.Cells.{net_of};
 ghost use Rattle.drt_wave.specs.Shifts.{IsAtWork, IsShift};
 ghost use Rattle.drt_wave.specs.Seats.{draws_of, KnowsTo, IsOf, IsRoom};
 
-use crate::crew::{Crew, is_shared};
+use crate::crew::{Crew, Sharing};
 use crate::drawing::turn_count;
 use crate::lane::LaneSeat;
 use crate::seat::WaveSeat;
@@ -35,9 +35,7 @@ pub(crate) struct Desk<'a> {
     // The wave that is open, or how many there are where all are worked.
     wave: u32,
     waves: u32,
-    crew: Crew,
-    // Whether a wave was shared before this one: workers begin with the first one that is.
-    has_begun: bool,
+    sharing: Sharing,
 }
 
 impl<'a> Model for Desk<'a> {
@@ -73,8 +71,7 @@ impl<'a> Desk<'a> {
             parts: PARTS,
             wave: 0,
             waves: table.plan.wave_count(),
-            crew,
-            has_begun: false,
+            sharing: Sharing::new(crew),
         }
     }
 
@@ -84,7 +81,7 @@ impl<'a> Desk<'a> {
     pub(crate) fn turns_alone(&mut self) -> u64
         ensures { self.new ≡ self.old }
     {
-        if self.crew.begins_at_once {
+        if self.sharing.begins_at_once() {
             return 0;
         }
         if self.is_shared() {
@@ -189,14 +186,6 @@ impl<'a> Desk<'a> {
         if self.wave >= self.waves {
             return true;
         }
-        let shared = is_shared(
-            self.table,
-            &mut self.owner,
-            self.wave,
-            self.crew,
-            self.has_begun,
-        );
-        self.has_begun = self.has_begun || shared;
-        shared
+        self.sharing.shares(self.table, &mut self.owner, self.wave)
     }
 }

@@ -4,8 +4,8 @@ use drt_pool::Gate;
 use std::sync::atomic::{AtomicBool, AtomicU64, Ordering};
 use std::thread;
 
-/// How often a worker looks for the other one before it gives up.
-const LOOKS: u32 = 1_000_000;
+/// How often a worker looks for the other one, where that comes, before it gives up.
+pub(crate) const PATIENCE: u32 = 1_000_000;
 
 /// It holds a turn of some number of the first worker until the second worker has come to a turn of another number. It may hold the first turn of
 /// the second worker until the first one has come to its turn, too.
@@ -16,6 +16,8 @@ pub(crate) struct Relief {
     // The turn in which the first worker waits, and the one of the second worker until which it does.
     wait: u64,
     until: u64,
+    // How often a worker looks for the other one before it gives up.
+    looks: u32,
     // How many turns each of the two has come to.
     come: [AtomicU64; 2],
     is_missed: AtomicBool,
@@ -24,19 +26,21 @@ pub(crate) struct Relief {
 impl Relief {
     /// One that holds both workers: the first in its turn of number `wait`, until the second has come to its turn of number `until`.
     pub(crate) fn at(wait: u64, until: u64) -> Relief {
-        Relief::new(true, wait, until)
+        Relief::new(true, wait, until, PATIENCE)
     }
 
-    /// One that holds the first worker alone, in its turn of number `wait`, until the second comes to its first turn. The caller has some turn alone.
-    pub(crate) fn behind(wait: u64) -> Relief {
-        Relief::new(false, wait, 0)
+    /// One that holds the first worker alone, in its turn of number `wait`, until the second comes to its first turn, for so many looks. The caller
+    /// has some turn alone.
+    pub(crate) fn behind(wait: u64, looks: u32) -> Relief {
+        Relief::new(false, wait, 0, looks)
     }
 
-    fn new(holds_both: bool, wait: u64, until: u64) -> Relief {
+    fn new(holds_both: bool, wait: u64, until: u64, looks: u32) -> Relief {
         Relief {
             holds_both,
             wait,
             until,
+            looks,
             come: [AtomicU64::new(0), AtomicU64::new(0)],
             is_missed: AtomicBool::new(false),
         }
@@ -52,7 +56,7 @@ impl Relief {
 
     // Waits until the worker of this place has come to the turn.
     fn wait_for(&self, place: usize, turn: u64) {
-        for _ in 0..LOOKS {
+        for _ in 0..self.looks {
             if self.has_come(place, turn) {
                 return;
             }

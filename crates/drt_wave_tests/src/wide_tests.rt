@@ -3,7 +3,7 @@ ghost use Rattle.std.specs.Prelude.{◌+◌, ◌*◌, ◌≤◌, IfOk};
 ghost use Rattle.drt_model.specs.Digraph.{vertex_count};
 
 use crate::graphs::make_graph;
-use crate::relief::Relief;
+use crate::relief::{PATIENCE, Relief};
 use crate::tables::{finished_table, is_front_of};
 use drt_drawn::Draws;
 use drt_graph::Graph;
@@ -141,8 +141,43 @@ fn any_number_of_workers_finds_the_works_of_wide_waves(rt: HostRuntime) -> Resul
     Ok(())
 }
 
-// Whether a second worker begins with a later wave of a drawn task's table, under a gate that leaves the caller some turn alone, as the open gate
-// does.
+// How often the caller looks for a second worker that mustn't come: for far longer than it takes to begin one.
+const VAIN: u32 = 20_000;
+
+// Whether a second worker begins before the caller is done with its turn of this number, for which the gate waits so many looks. The gate leaves the
+// caller some turn alone, as the open gate does.
+fn begins_by<R: Threads + Wait + Sync>(
+    rt: &R,
+    alloc: Global,
+    graph: &Graph,
+    bound: u64,
+    turn: u64,
+    looks: u32,
+) -> Result<bool, Fail>
+    requires few { vertex_count graph.now * (bound + 1) ≤ 4194304 }
+{
+    let gate = Relief::behind(turn, looks);
+    let _works = fill(rt, alloc, graph, bound, 2, &gate)?;
+    Ok(match gate.first_turns() {
+        Some(turns) => turns > turn,
+        None => false,
+    })
+}
+
+// Whether a second worker begins with the first wave of a drawn task's table. The caller takes a seat for it in its first turn, and the others begin
+// with its second one.
+fn begins_first<R: Threads + Wait + Sync>(
+    rt: &R,
+    alloc: Global,
+    number: u64,
+    bound: u64,
+    looks: u32,
+) -> Result<bool, Fail> {
+    let graph = draw_graph(alloc, number, bound)?;
+    begins_by(rt, alloc, &graph, bound, 1, looks)
+}
+
+// Whether a second worker begins with a later wave of a drawn task's table.
 //
 // In its first turn the caller takes a seat for the first wave, and by each one after it works a row of 8 blocks. In the turn in which it finds
 // fewer it works that wave and those after it, up to the first one that is worth it for workers to begin, and in the next turn it takes a seat for
@@ -156,28 +191,25 @@ fn begins_later<R: Threads + Wait + Sync>(
     let graph = draw_graph(alloc, number, bound)?;
     let (table, _seat) = WaveTable::start(alloc, &graph, bound)?;
     let blocks = table.plan.span.saturating_mul(12).div_ceil(64);
-    let turn = blocks / 8 + 3;
-    let gate = Relief::behind(turn);
-    let _works = fill(rt, alloc, &graph, bound, 2, &gate)?;
-    Ok(match gate.first_turns() {
-        Some(turns) => turns > turn,
-        None => false,
-    })
+    begins_by(rt, alloc, &graph, bound, blocks / 8 + 3, PATIENCE)
 }
 
-// No more workers begin than there are processors.
+// No more workers begin than there are processors. Up to the greater bound there are 1,999,992 cells, in so many waves of at least 12,000 that their
+// size alone tells that the first one is worth it.
 #[test]
-fn two_workers_begin_with_a_later_wave_where_there_are_two_processors(
-    rt: HostRuntime,
-) -> Result<(), Fail> {
+fn two_workers_begin_where_there_are_two_processors(rt: HostRuntime) -> Result<(), Fail> {
     let wanted = available_parallelism(&rt)?.get() > 1;
-    assert_eq!(rt; begins_later(&rt, rt.alloc(), 0, BOUND)?, wanted);
+    let alloc = rt.alloc();
+    assert_eq!(rt; begins_first(&rt, alloc, 0, 166_665, PATIENCE)?, wanted);
+    assert!(rt; !begins_first(&rt, alloc, 0, BOUND, VAIN)?);
+    assert_eq!(rt; begins_later(&rt, alloc, 0, BOUND)?, wanted);
     Ok(())
 }
 
 // Up to this bound there are 99,996 cells, of which 3,272 have some work.
 #[test]
 fn one_worker_works_a_table_of_which_little_would_be_shared(rt: HostRuntime) -> Result<(), Fail> {
+    assert!(rt; !begins_first(&rt, rt.alloc(), 0, 8_332, VAIN)?);
     assert!(rt; !begins_later(&rt, rt.alloc(), 0, 8_332)?);
     Ok(())
 }
