@@ -181,11 +181,7 @@ fn begins_first<R: Threads + Wait + Sync>(
 // In its first turn the caller takes a seat for the first wave, and by each one after it works a row of 8 blocks. In the turn in which it finds
 // fewer it works that wave and those after it, up to the first one that is worth it for workers to begin, and in the next turn it takes a seat for
 // that one. So the others begin with its turn after these.
-fn begins_later<R: Threads + Wait + Sync>(
-    rt: &R,
-    alloc: Global,
-    bound: u64,
-) -> Result<bool, Fail> {
+fn begins_later<R: Threads + Wait + Sync>(rt: &R, alloc: Global, bound: u64) -> Result<bool, Fail> {
     let graph = draw_graph(alloc, 0, bound)?;
     let (table, _seat) = WaveTable::start(alloc, &graph, bound)?;
     let blocks = table.plan.span.saturating_mul(12).div_ceil(64);
