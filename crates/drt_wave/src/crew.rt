@@ -195,6 +195,7 @@ fn load_of(table: &WaveTable, seat: &mut WaveSeat, wave: u32, looks: u64) -> u64
     requires looks { (1 ≤ looks) × (looks ≤ 64) }
     ensures seat { IsOf table.now seat.new }
     ensures kept { Kept seat.old seat.new }
+    ensures load { result ≤ 4194304 }
 {
     let size = table.wave_size(wave);
     let width = table.offsets(wave);

@@ -164,31 +164,25 @@ fn begins_by<R: Threads + Wait + Sync>(
     })
 }
 
-// Whether a second worker begins with the first wave of a drawn task's table. The caller takes a seat for it in its first turn, and the others begin
-// with its second one.
+// Whether a second worker begins with the first wave of the table of the task of number 0. The caller takes a seat for it in its first turn, and
+// the others begin with its second one.
 fn begins_first<R: Threads + Wait + Sync>(
     rt: &R,
     alloc: Global,
-    number: u64,
     bound: u64,
     looks: u32,
 ) -> Result<bool, Fail> {
-    let graph = draw_graph(alloc, number, bound)?;
+    let graph = draw_graph(alloc, 0, bound)?;
     begins_by(rt, alloc, &graph, bound, 1, looks)
 }
 
-// Whether a second worker begins with a later wave of a drawn task's table.
+// Whether a second worker begins with a later wave of the table of the task of number 0.
 //
 // In its first turn the caller takes a seat for the first wave, and by each one after it works a row of 8 blocks. In the turn in which it finds
 // fewer it works that wave and those after it, up to the first one that is worth it for workers to begin, and in the next turn it takes a seat for
 // that one. So the others begin with its turn after these.
-fn begins_later<R: Threads + Wait + Sync>(
-    rt: &R,
-    alloc: Global,
-    number: u64,
-    bound: u64,
-) -> Result<bool, Fail> {
-    let graph = draw_graph(alloc, number, bound)?;
+fn begins_later<R: Threads + Wait + Sync>(rt: &R, alloc: Global, bound: u64) -> Result<bool, Fail> {
+    let graph = draw_graph(alloc, 0, bound)?;
     let (table, _seat) = WaveTable::start(alloc, &graph, bound)?;
     let blocks = table.plan.span.saturating_mul(12).div_ceil(64);
     begins_by(rt, alloc, &graph, bound, blocks / 8 + 3, PATIENCE)
@@ -200,16 +194,16 @@ fn begins_later<R: Threads + Wait + Sync>(
 fn two_workers_begin_where_there_are_two_processors(rt: HostRuntime) -> Result<(), Fail> {
     let wanted = available_parallelism(&rt)?.get() > 1;
     let alloc = rt.alloc();
-    assert_eq!(rt; begins_first(&rt, alloc, 0, 166_665, PATIENCE)?, wanted);
-    assert!(rt; !begins_first(&rt, alloc, 0, BOUND, VAIN)?);
-    assert_eq!(rt; begins_later(&rt, alloc, 0, BOUND)?, wanted);
+    assert_eq!(rt; begins_first(&rt, alloc, 166_665, PATIENCE)?, wanted);
+    assert!(rt; !begins_first(&rt, alloc, BOUND, VAIN)?);
+    assert_eq!(rt; begins_later(&rt, alloc, BOUND)?, wanted);
     Ok(())
 }
 
 // Up to this bound there are 99,996 cells, of which 3,272 have some work.
 #[test]
 fn one_worker_works_a_table_of_which_little_would_be_shared(rt: HostRuntime) -> Result<(), Fail> {
-    assert!(rt; !begins_first(&rt, rt.alloc(), 0, 8_332, VAIN)?);
-    assert!(rt; !begins_later(&rt, rt.alloc(), 0, 8_332)?);
+    assert!(rt; !begins_first(&rt, rt.alloc(), 8_332, VAIN)?);
+    assert!(rt; !begins_later(&rt, rt.alloc(), 8_332)?);
     Ok(())
 }
