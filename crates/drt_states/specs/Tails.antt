@@ -1,6 +1,7 @@
 -- Claimed tails: for each vertex of a task a function that bounds what walks that start there ask for. A list of jumps stands for the
 -- function whose value before t is the work of its last jump with an offset below t.
-use Rattle.std.specs.Prelude.{◌≡◌, ℕ, ◌+◌, ◌<◌, ◌≤◌, max, nat_lt, if◌then◌else◌, List, [], ◌∷◌, length, slice_index_or, All}
+use Rattle.std.specs.Prelude.{◌≡◌, ℕ, ◌+◌, ◌<◌, ◌≤◌, max, nat_lt, if◌then◌else◌, List, [], ◌∷◌, length, map, slice_index_or, All}
+use Rattle.std.specs.List.{AllZip}
 use Rattle.drt_model.specs.Digraph.{Digraph, vertex_count, out_degree, edge_of}
 use Rattle.drt_model.specs.Legal.{AllNeighbours}
 use Rattle.drt_model.specs.Walk.{wcet}
@@ -52,3 +53,17 @@ IsAboveJump bound g tail u k j =
 pub record BoundsWalks (bound : ℕ) (g : Digraph) (tail : TailClaim) : Type 0 where
   pub openings : (u : ℕ) → u < vertex_count g → wcet g u ≤ (slice_index_or (curve_of tail u) 0 no_jump).work
   pub extensions : (u k : ℕ) → u < vertex_count g → k < out_degree g u → All (IsAboveJump bound g tail u k) (curve_of tail (edge_of g u k).to)
+
+-- A task that has tasks of lower priority, at its place among those of higher priority: its graph, and the greatest deadline of the
+-- tasks of lower priority. A tail of the task is looked at up to that bound.
+pub record Place : Type 0 where
+  pub graph : Digraph
+  pub bound : ℕ
+
+-- The graphs of some places.
+abbrev pub graphs_of : List Place → List Digraph
+graphs_of places = map (λ p. p.graph) places
+
+-- There is a tail for each place, and R holds of its bound, its graph and the tail.
+abbrev pub EachTail : (ℕ → Digraph → TailClaim → Type 0) → List Place → List TailClaim → Type 0
+EachTail R places tails = AllZip (λ p tail. R p.bound p.graph tail) places tails
