@@ -11,3 +11,4 @@ mod PotentialRows
 mod FrontRows
 mod NeedsRows
 mod TreeRows
+mod StateRows
