@@ -1,15 +1,15 @@
 -- The tails of a task bound what its walks ask for.
-use Rattle.std.proofs.Common.{◌≡◌, ℕ, zero, suc, ◌+◌, ◌-◌, ◌<◌, ◌≤◌, ◌⊎◌, inl, inr, Bool, true, false, eqb, List, [], ◌∷◌, Some, length, get_or, refl, sym, ap, ◌∙◌, subst, arith}
+use Rattle.std.proofs.Common.{◌≡◌, ℕ, suc, ◌+◌, ◌-◌, ◌<◌, ◌≤◌, ◌⊎◌, inl, inr, Bool, true, false, eqb, List, [], ◌∷◌, Some, length, get_or, refl, ap, ◌∙◌, subst, arith}
 use Rattle.std.proofs.lemmas.Bool.{cases_lt, eqb-true}
 use Rattle.drt_model.specs.declared.tasks.Edge.{Edge}
-use Rattle.drt_model.specs.Digraph.{Digraph, IsSound, edge_of, no_edge, out_degree, out_edges, vertex_count}
+use Rattle.drt_model.specs.Digraph.{Digraph, IsSound, edge_of, no_edge, out_edges, vertex_count}
 use Rattle.drt_model.specs.RequestFunction.{request}
 use Rattle.drt_model.specs.Walk.{IsEdge, IsPath, gap, sep_in, wcet}
 use Rattle.drt_states.specs.declared.claims.Jump.{Jump}
 use Rattle.drt_states.specs.declared.claims.TailClaim.{TailClaim}
 use Rattle.drt_states.specs.Tails.{BoundsWalks, IsCurve, IsTail, curve_of, no_jump, value_before}
 use Rattle.drt_states_laws.specs.Laws.{TailsBound}
-use Rattle.drt_states_laws.proofs.Curves.{IsJumpBefore, value_first, value_grows, value_jump}
+use Rattle.drt_states_laws.proofs.Curves.{value_first, value_grows, value_jump}
 use Rattle.drt_states_laws.proofs.Requests.{request_last, request_next, request_none}
 
 -- An edge of the list leads to v, with this separation.

@@ -1,5 +1,5 @@
 -- Which states stand for the children of a state: for each vertex, or for each edge whose target comes before the deadline.
-use Rattle.std.proofs.Common.{◌≡◌, ℕ, zero, suc, ◌+◌, ◌<◌, ◌≤◌, ◌⊎◌, inl, inr, Bool, true, false, Some, None, List, [], ◌∷◌, length, get_or, map, filter, refl, sym, ap, ◌∙◌, subst, arith}
+use Rattle.std.proofs.Common.{◌≡◌, ℕ, zero, suc, ◌<◌, ◌≤◌, ◌⊎◌, inl, inr, Bool, true, false, Some, None, List, [], ◌∷◌, length, get_or, map, filter, refl, subst, arith}
 use Rattle.std.specs.Prelude.{IsSomeAnd, Option, slice_get}
 use Rattle.std.specs.List.{AllZip, range_with_len}
 use Rattle.std.proofs.lemmas.Bool.{cases_Bool}
@@ -8,7 +8,7 @@ use Rattle.drt_model.specs.declared.tasks.Edge.{Edge}
 use Rattle.drt_model.specs.Digraph.{no_edge}
 use Rattle.drt_model.proofs.Neighbours.{filter-no, filter-yes}
 use Rattle.drt_states.specs.declared.claims.StateClaim.{StateClaim}
-use Rattle.drt_states.specs.States.{Child, Dominates, NamesAbove}
+use Rattle.drt_states.specs.States.{Child, NamesAbove}
 
 -- A state of the list.
 pub record IsStateAt (states : List StateClaim) (k : ℕ) (P : StateClaim → Type 0) : Type 0 where

@@ -1,8 +1,7 @@
 -- Futures of walks: of a place that a state names, the vertices that its walk goes on to from there; of any other place, its walk. What
 -- they ask for, and how it changes with the entries of the state.
-use Rattle.std.proofs.Common.{◌≡◌, ℕ, zero, suc, ◌+◌, ◌-◌, ◌<◌, ◌≤◌, ◌⊎◌, inl, inr, None, Some, List, [], ◌∷◌, length, get_or, refl, sym, ap, subst, arith}
+use Rattle.std.proofs.Common.{◌≡◌, ℕ, zero, suc, ◌+◌, ◌-◌, ◌<◌, ◌≤◌, None, Some, List, [], ◌∷◌, length, get_or, refl, sym, ap, subst, arith}
 use Rattle.std.specs.Prelude.{Option}
-use Rattle.std.specs.List.{AllZip}
 use Rattle.drt_model.specs.Digraph.{Digraph}
 use Rattle.drt_model.specs.RequestFunction.{request}
 use Rattle.drt_busy.specs.Choice.{IsWalk, request_of}
@@ -79,8 +78,8 @@ above_futures i [] above entries [] are futures = tt
 above_futures i [] above entries (vs ∷ rest) are futures = absurd futures
 above_futures i (p ∷ places) above entries [] are futures = absurd futures
 above_futures i (p ∷ places) above entries (vs ∷ rest) are futures = (
-    above_future p.graph (entry_at above i) (entry_at entries i) vs (are i (omega arith)) futures.0,
-    above_futures (i + 1) places above entries rest (above_from i above entries are) futures.1,
+  above_future p.graph (entry_at above i) (entry_at entries i) vs (are i (omega arith)) futures.0,
+  above_futures (i + 1) places above entries rest (above_from i above entries are) futures.1,
 )
 
 -- They ask for no less there.
@@ -144,12 +143,12 @@ change_here : (i : ℕ) (p : Place) (places : List Place) (entries others : List
     → Changed i (p ∷ places) entries others (vs ∷ futures) n extra
 unfolding futures_asked
 change_here i p places entries others vs ws futures n extra differ are is more = record {
-    changed = ws ∷ futures;
-    are = (is, above_futures (i + 1) places others entries futures above are.1);
-    more = λ t l.
-        (let first = more t l in
-        let rest = above_more (i + 1) places others entries futures t above in
-        omega (arith, first, rest));
+  changed = ws ∷ futures;
+  are = (is, above_futures (i + 1) places others entries futures above are.1);
+  more = λ t l.
+      (let first = more t l in
+      let rest = above_more (i + 1) places others entries futures t above in
+      omega (arith, first, rest));
 }
   where
     above : AreAbove (i + 1) others entries
@@ -160,12 +159,12 @@ change_later : (i : ℕ) (p : Place) (places : List Place) (entries others : Lis
     → Changed (i + 1) places entries others futures n extra → Changed i (p ∷ places) entries others (vs ∷ futures) n extra
 unfolding futures_asked
 change_later i p places entries others vs futures n extra same are later = record {
-    changed = vs ∷ later.changed;
-    are = (subst (λ o. IsFuture p.graph o vs) (sym same) are.0, later.are);
-    more = λ t l.
-        (let rest = later.more t l in
-        let here : future_asked p.graph (entry_at others i) vs t ≡ future_asked p.graph (entry_at entries i) vs t = ap (λ o. future_asked p.graph o vs t) same in
-        omega (arith, rest, here));
+  changed = vs ∷ later.changed;
+  are = (subst (λ o. IsFuture p.graph o vs) (sym same) are.0, later.are);
+  more = λ t l.
+      (let rest = later.more t l in
+      let here : future_asked p.graph (entry_at others i) vs t ≡ future_asked p.graph (entry_at entries i) vs t = ap (λ o. future_asked p.graph o vs t) same in
+      omega (arith, rest, here));
 }
 
 -- Futures with another one at the place of number i + k.

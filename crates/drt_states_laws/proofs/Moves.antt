@@ -1,23 +1,26 @@
 -- Where a walk goes on to: to its first vertex, or by its next edge, or by some edge where the next one comes too late to count.
-use Rattle.std.proofs.Common.{◌≡◌, ℕ, zero, suc, ◌+◌, ◌-◌, ◌<◌, ◌≤◌, ◌⊎◌, inl, inr, List, [], ◌∷◌, refl, sym, ap, ◌∙◌, subst, arith}
+use Rattle.std.proofs.Common.{◌≡◌, ℕ, ◌+◌, ◌-◌, ◌<◌, ◌≤◌, ◌⊎◌, inl, inr, List, [], ◌∷◌, sym, ap, ◌∙◌, subst, arith}
 use Rattle.std.proofs.lemmas.Bool.{cases_lt}
 use Rattle.drt_model.specs.Digraph.{Digraph, IsSound, edge_of, out_degree, vertex_count}
 use Rattle.drt_model.specs.RequestFunction.{request}
-use Rattle.drt_model.specs.Walk.{IsPath, gap, wcet}
+use Rattle.drt_model.specs.Walk.{gap, wcet}
 use Rattle.drt_busy.specs.Choice.{IsWalk, request_of}
 use Rattle.drt_states_laws.proofs.Bound.{edge_between, target_within}
-use Rattle.drt_states_laws.proofs.Requests.{request_last, request_next, request_none}
+use Rattle.drt_states_laws.proofs.Requests.{request_grows, request_last, request_next, request_none}
 
--- A walk that begins with a vertex and asks for no less.
+-- A walk that begins with a vertex and asks for no less where that is released at offset 0.
 pub record Begun (g : Digraph) (vs : List ℕ) : Type 0 where
   pub first : ℕ
   pub rest : List ℕ
   pub walk : IsWalk g (first ∷ rest)
-  pub more : (t : ℕ) → request_of g vs t ≤ request g first rest t
+  pub more : (t : ℕ) → request_of g vs t ≤ request g first rest (t - 0)
 
 pub begin : (g : Digraph) → IsSound g → (vs : List ℕ) → IsWalk g vs → Begun g vs
 begin g sound [] walk = record { first = 0; rest = []; walk = (sound.some, tt); more = λ t. omega arith }
-begin g sound (u ∷ vs) walk = record { first = u; rest = vs; walk = walk; more = λ t. omega arith }
+begin g sound (u ∷ vs) walk = record { first = u; rest = vs; walk = walk; more = more }
+  where
+    more : (t : ℕ) → request g u vs t ≤ request g u vs (t - 0)
+    more t = request_grows g u vs t (t - 0) (omega arith)
 
 -- An edge out of u whose target comes before the deadline where u is released at an offset, and a walk that begins with its target: after
 -- u it asks up to n for no less.
@@ -33,12 +36,12 @@ pub record Moved (g : Digraph) (deadline n offset u : ℕ) (vs : List ℕ) : Typ
 move_late : (g : Digraph) → IsSound g → (deadline n offset u : ℕ) (vs : List ℕ) (k : ℕ) → u < vertex_count g → k < out_degree g u
     → offset + (edge_of g u k).sep < deadline → ((t : ℕ) → t ≤ n → request g u vs (t - offset) ≤ wcet g u) → Moved g deadline n offset u vs
 move_late g sound deadline n offset u vs k l here early more = record {
-    number = k;
-    here = here;
-    early = early;
-    rest = [];
-    walk = (sound.to u k l here, tt);
-    more = λ t to. (let most = more t to in omega (arith, most));
+  number = k;
+  here = here;
+  early = early;
+  rest = [];
+  walk = (sound.to u k l here, tt);
+  more = λ t to. (let most = more t to in omega (arith, most));
 }
 
 -- The next edge, where its target comes before the deadline.
