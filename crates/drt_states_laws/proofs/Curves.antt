@@ -12,7 +12,7 @@ Grows known [] = Unit {0}
 Grows known (j ∷ jumps) = (known ≤ j.work) × Grows j.work jumps
 
 -- The second jump comes later, with more work.
-abbrev IsRise : Jump → Jump → Type 0
+abbrev pub IsRise : Jump → Jump → Type 0
 IsRise a b = (a.offset < b.offset) × (a.work < b.work)
 
 grows_from : (j : Jump) (jumps : List Jump) → AllNeighbours IsRise (j ∷ jumps) → Grows j.work jumps

@@ -7,3 +7,4 @@ pub mod Children
 pub mod Passes
 pub mod Moves
 pub mod Descent
+pub mod Rows
