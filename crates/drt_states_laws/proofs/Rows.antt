@@ -225,16 +225,25 @@ single (suc (suc zero)) j (suc k) l m n = absurd (omega arith)
 single (suc (suc (suc zero))) j k l m n = absurd (omega arith)
 single (suc (suc (suc (suc v)))) j k l m n = absurd (omega arith)
 
+time_1 : IsTime 1
+time_1 = (omega arith, omega arith)
+
+time_2 : IsTime 2
+time_2 = (omega arith, omega arith)
+
+time_3 : IsTime 3
+time_3 = (omega arith, omega arith)
+
 sound : IsSound graph
 sound = record {
   some = omega arith;
   few = omega arith;
   rows = refl;
-  wcet = each_vertex (λ v. IsTime (vertex_of graph v).wcet) (omega arith, omega arith) (omega arith, omega arith) (omega arith, omega arith) (omega arith, omega arith);
-  deadline = each_vertex (λ v. IsTime (vertex_of graph v).deadline) (omega arith, omega arith) (omega arith, omega arith) (omega arith, omega arith) (omega arith, omega arith);
+  wcet = each_vertex (λ v. IsTime (vertex_of graph v).wcet) time_1 time_3 time_1 time_3;
+  deadline = each_vertex (λ v. IsTime (vertex_of graph v).deadline) time_2 time_2 time_2 time_2;
   degree = each_vertex (λ v. out_degree graph v ≤ 256) (omega arith) (omega arith) (omega arith) (omega arith);
   from = each_edge (λ v k. (edge_of graph v k).from ≡ v) refl refl refl;
-  sep = each_edge (λ v k. IsTime (edge_of graph v k).sep) (omega arith, omega arith) (omega arith, omega arith) (omega arith, omega arith);
+  sep = each_edge (λ v k. IsTime (edge_of graph v k).sep) time_2 time_2 time_3;
   to = each_edge (λ v k. (edge_of graph v k).to < 4) (omega arith) (omega arith) (omega arith);
   single = single;
 }
