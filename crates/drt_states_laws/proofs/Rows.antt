@@ -16,7 +16,8 @@ use Rattle.drt_states.specs.declared.claims.StateEnd.{StateEnd}
 use Rattle.drt_states.specs.declared.claims.StateEnd.TheVariants.{Passes, Splits}
 use Rattle.drt_states.specs.declared.claims.StateEntry.{StateEntry}
 use Rattle.drt_states.specs.declared.claims.TailClaim.{TailClaim}
-use Rattle.drt_states.specs.States.{AreStates, Dominates, HasRoomAt, HaveDominatedChildren, HavePassingTimes, IsEntry, IsPassing, IsSplit, IsSplitting, IsState, asked_before, asked_from, entry_at, with_entry}
+use Rattle.drt_states.specs.States.{AreStates, Dominates, HasRoomAt, HaveDominatedChildren, HavePassingTimes, IsEntry, IsPassing, IsSplit, IsSplitting, IsState}
+use Rattle.drt_states.specs.States.{asked_before, asked_from, entry_at, with_entry}
 use Rattle.drt_states.specs.Tails.{BoundsWalks, IsAboveJump, IsCurve, IsTail, Place, curve_of, greatest_before, last_work, no_jump}
 use Rattle.drt_states_laws.specs.Laws.{AreWalksOf, asked_together}
 use Rattle.drt_states_laws.proofs.Curves.{IsRise}
