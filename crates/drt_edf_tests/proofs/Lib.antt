@@ -1,2 +1,5 @@
-mod PlainWorks
 mod EndingWorks
+mod Fronts
+mod Lists
+mod PlainWorks
+mod Small

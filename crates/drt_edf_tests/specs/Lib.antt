@@ -1,2 +1,3 @@
-pub mod Plain
 pub mod Ending
+pub mod Plain
+pub mod Simple

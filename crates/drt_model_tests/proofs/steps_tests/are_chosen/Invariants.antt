@@ -1,0 +1,6 @@
+use Rattle.std.proofs.Common.{take}
+use Rattle.drt_steps.specs.Time.{AreChosen}
+use Rattle.drt_model_tests.proofs.steps_tests.are_chosen.Given as goal
+
+abbrev pub invariant-loop-k : goal.invariant-loop-k
+invariant-loop-k l = AreChosen l.deadline l.pool (take l.k-index l.chosen)

@@ -1,7 +1,0 @@
-use Rattle.std.proofs.Common.{arith}
-use Rattle.drt_ratio_tests.proofs.Small.{small_push}
-use Rattle.drt_ratio_tests.proofs.tests.sum_of.Goals as goal
-
-pub ratios-preserved : goal.ratios-preserved
-ratios-preserved c =
-    rw c.in_ok-push.ensures.items (small_push _ _ c.ratios.invariant (omega (arith, c.ratio.ensures.num)) (omega (arith, c.ratio.ensures.den)))

@@ -1,5 +1,0 @@
-//! Lines by hand.
-#![tactic(auto)]
-
-#[cfg(test)]
-mod lines;
