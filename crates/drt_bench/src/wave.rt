@@ -1,16 +1,14 @@
 //! How fast a dense table of greatest works is worked by some workers, and beside it a driven or a shared table of the same walks.
 //!
-//! The arguments are a number of vertices, a number of edges, the least separation, the number of separations from it on that edges draw
-//! from, a bound in ticks, how often the table is worked anew, a number of workers, and 1 for a shared table in place of a dense one; without
-//! them 6, 6, 1, 1, 50, 1, 1 and 0. With no worker the table is a driven one. A driven and a shared table have a budget of 1,000,000 steps. In a
-//! ring with separations of 1 each vertex has one walk for each offset below the bound, of more work than those before, so there are 300
-//! labels. The answer has no times in it: `bench/wave` takes them from outside.
-#![tactic(auto)]
-
+//! The arguments after the subject are a number of vertices, a number of edges, the least separation, the number of separations from it on
+//! that edges draw from, a bound in ticks, how often the table is worked anew, a number of workers, and 1 for a shared table in place of a
+//! dense one; without them 6, 6, 1, 1, 50, 1, 1 and 0. With no worker the table is a driven one. A driven and a shared table have a budget
+//! of 1,000,000 steps. In a ring with separations of 1 each vertex has one walk for each offset below the bound, of more work than those
+//! before, so there are 300 labels. The answer has no times in it: `bench/wave` takes them from outside.
 ghost use Rattle.std.specs.Prelude.{◌+◌, ◌*◌, ◌≤◌};
 ghost use Rattle.drt_model.specs.Digraph.{vertex_count};
 
-use drt_bench_input::{RingTimes, number, ring};
+use crate::input::{RingTimes, number, ring};
 use drt_demand::DemandLabel;
 use drt_graph::{Graph, check};
 use drt_model::{Row, Task, task_set};
@@ -19,7 +17,7 @@ use drt_search::search_together;
 use drt_table::{Table, TableReply};
 use drt_wave::fill;
 use std::alloc::{AllocError, Global};
-use std::env;
+use std::env::Args;
 use std::sync::Wait;
 use std::thread::Threads;
 
@@ -113,10 +111,12 @@ fn labels<R: Threads + Wait + Sync>(
     Ok(work_again(rt, alloc, graph, bound, times, workers)?)
 }
 
-fn main(rt: HostRuntime) -> anyhow::Result<()> {
-    let alloc = rt.alloc();
-    let mut arguments = env::args(&rt)?;
-    let _program = arguments.next();
+/// Runs the subject with these arguments, and writes what it comes to.
+pub fn run<R: Print + Threads + Wait + Sync>(
+    rt: &R,
+    alloc: Global,
+    mut arguments: Args,
+) -> anyhow::Result<()> {
     let count = number(arguments.next(), 6).clamp(1, 96);
     let edge_count = number(arguments.next(), 6).min(256);
     let least = number(arguments.next(), 1).clamp(1, 500_000);
@@ -131,7 +131,7 @@ fn main(rt: HostRuntime) -> anyhow::Result<()> {
         separations: range,
     };
     let task = ring(alloc, count, edge_count, times_drawn)?;
-    let kept = labels(&rt, alloc, task, bound as u64, times, workers, is_shared)?;
+    let kept = labels(rt, alloc, task, bound as u64, times, workers, is_shared)?;
     let unit = if workers == 0 || is_shared {
         "steps"
     } else {

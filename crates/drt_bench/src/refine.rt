@@ -1,14 +1,12 @@
 //! How fast a frontier is refined.
 //!
-//! The arguments are a number of walks, a number of workers and a number of rounds; without them 100, 1 and 1. With no worker the
-//! frontier is driven by its one owner, without the lock. All combinations are split down to the walks, so each round has four steps
-//! for each walk, but for two. The answer has no times in it: `bench/refine` takes them from outside.
-#![tactic(auto)]
-
+//! The arguments after the subject are a number of walks, a number of workers and a number of rounds; without them 100, 1 and 1. With no
+//! worker the frontier is driven by its one owner, without the lock. All combinations are split down to the walks, so each round has four
+//! steps for each walk, but for two. The answer has no times in it: `bench/refine` takes them from outside.
 ghost use Rattle.std.specs.Prelude.{◌≡◌, ◌≤◌, ◌∷◌, []};
 ghost use Rattle.drt_steps.specs.Time.{AreChosen};
 
-use drt_bench_input::number;
+use crate::input::number;
 use drt_model::Memory;
 use drt_pool::EagerGate;
 use drt_refine::Frontier;
@@ -16,7 +14,7 @@ use drt_shared_frontier::refine;
 use drt_tree::Forest;
 use drt_worked_forests::windows;
 use std::alloc::Global;
-use std::env;
+use std::env::Args;
 use std::sync::Wait;
 use std::thread::Threads;
 
@@ -89,14 +87,16 @@ fn all_steps<R: Threads + Wait + Sync>(
     Ok(made)
 }
 
-fn main(rt: HostRuntime) -> anyhow::Result<()> {
-    let alloc = rt.alloc();
-    let mut arguments = env::args(&rt)?;
-    let _program = arguments.next();
+/// Runs the subject with these arguments, and writes what it comes to.
+pub fn run<R: Print + Threads + Wait + Sync>(
+    rt: &R,
+    alloc: Global,
+    mut arguments: Args,
+) -> anyhow::Result<()> {
     let walks = number(arguments.next(), 100).clamp(1, 50_000);
     let workers = number(arguments.next(), 1).min(16);
     let rounds = number(arguments.next(), 1);
-    let made = all_steps(&rt, alloc, walks, workers, rounds)?;
+    let made = all_steps(rt, alloc, walks, workers, rounds)?;
     println!(rt;
         "{} walks, {} workers, {} rounds: {} steps",
         walks, workers, rounds, made

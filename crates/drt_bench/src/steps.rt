@@ -1,18 +1,16 @@
 //! How fast request functions are: the greater of two, and the least time over up to 31, again and again.
 //!
-//! The arguments are a call (`max_of` or `least_time`), a number of functions, a number of rises of each function and a
-//! number of calls; without them `least_time`, 2, 3 and 1. The functions rise in turn, one at each tick, so that the
-//! greater of two rises with each of them, and the least time comes by each rise of each function. The answer has no
-//! times in it: `bench/steps` takes them from outside.
-#![tactic(auto)]
-
+//! The arguments after the subject are a call (`max_of` or `least_time`), a number of functions, a number of rises of each function and a
+//! number of calls; without them `least_time`, 2, 3 and 1. The functions rise in turn, one at each tick, so that the greater of two rises
+//! with each of them, and the least time comes by each rise of each function. The answer has no times in it: `bench/steps` takes them from
+//! outside.
 ghost use Rattle.std.specs.Prelude.{◌≡◌, ◌≤◌, length, true};
 ghost use Rattle.drt_steps.specs.Time.{AreChosen};
 
-use drt_bench_input::number;
+use crate::input::number;
 use drt_steps::{Steps, least_time};
 use std::alloc::{AllocError, Global};
-use std::env;
+use std::env::Args;
 
 // The function that rises by 1 after the time `first` and then each `separation` ticks.
 fn function(
@@ -76,10 +74,8 @@ fn least(pool: &[Steps], chosen: &[u32]) -> u64 {
     least_time(2, 1_000_000, pool, chosen).unwrap_or(0)
 }
 
-fn main(rt: HostRuntime) -> anyhow::Result<()> {
-    let alloc = rt.alloc();
-    let mut arguments = env::args(&rt)?;
-    let _program = arguments.next();
+/// Runs the subject with these arguments, and writes what it comes to.
+pub fn run(rt: &impl Print, alloc: Global, mut arguments: Args) -> anyhow::Result<()> {
     let greater = match arguments.next() {
         Some(call) => call.as_str() == "max_of",
         None => false,

@@ -1,20 +1,18 @@
 //! How fast the greatest ratio is found: graphs of a chosen size, one after another.
 //!
-//! The arguments are a number of vertices, a number of edges and a number of graphs; without them 6, 12 and 3. A fourth
-//! one says what the graphs are: `drawn`, or near ties that are `rising` or `halving`. The graphs are the same in each run.
-//! The answer has no times in it: `bench/ratio` takes them from outside.
-#![tactic(auto)]
-
+//! The arguments after the subject are a number of vertices, a number of edges and a number of graphs; without them 6, 12 and 3. A fourth
+//! one says what the graphs are: `drawn`, or near ties that are `rising` or `halving`. The graphs are the same in each run. The answer has
+//! no times in it: `bench/ratio` takes them from outside.
 ghost use Rattle.std.specs.Prelude.{◌<◌, ◌≤◌};
 
-use drt_bench_input::number;
+use crate::input::number;
 use drt_drawn::Draws;
 use drt_graph::check;
 use drt_model::{Edge, Name, Row, Task, Vertex, task_set};
 use drt_num::Ratio;
 use drt_ratio::greatest;
 use std::alloc::{AllocError, Global};
-use std::env;
+use std::env::Args;
 
 /// The longest time that is drawn, in ticks.
 const LONGEST: u32 = 1_000_000;
@@ -149,10 +147,8 @@ fn kind_of(argument: Option<String>) -> Kind {
     }
 }
 
-fn main(rt: HostRuntime) -> anyhow::Result<()> {
-    let alloc = rt.alloc();
-    let mut arguments = env::args(&rt)?;
-    let _program = arguments.next();
+/// Runs the subject with these arguments, and writes what it comes to.
+pub fn run(rt: &impl Print, alloc: Global, mut arguments: Args) -> anyhow::Result<()> {
     let count = number(arguments.next(), 6).clamp(1, 96);
     let edge_count = number(arguments.next(), 12).min(256);
     let graph_count = number(arguments.next(), 3);

@@ -1,9 +1,17 @@
-//! Rings with chords.
+//! What the subjects share: the numbers among the program's arguments, and rings with chords.
 ghost use Rattle.std.specs.Prelude.{◌+◌, ◌≤◌};
 
 use drt_drawn::Draws;
 use drt_model::{Edge, Name, Row, Task, Vertex};
 use std::alloc::{AllocError, Global};
+
+/// The number that an argument is, or the other number.
+pub fn number(argument: Option<String>, other: u32) -> u32 {
+    match argument {
+        Some(text) => text.as_str().parse::<u32>().unwrap_or(other),
+        None => other,
+    }
+}
 
 /// The times that are drawn for a ring, in ticks: execution times from 1 on, and separations of so many lengths from the least one on.
 #[derive(Clone, Copy)]

@@ -1,15 +1,13 @@
 //! How fast several workers search one table to its end.
 //!
-//! The arguments are a number of vertices, a number of edges, the longest separation, a bound, both in ticks, a number of
-//! workers, 1 for request labels in place of demand labels, and how often the search is made; without them 6, 6, 1, 50, 4, 0
-//! and 1. With 0 workers the table is driven by the caller alone. The graph is the same in each run. With as many edges as
-//! vertices and separations of 1 there is one node for each vertex and each offset, none drops another, and each takes three
-//! steps. The answer has no times in it: `bench/shared` takes them from outside.
-#![tactic(auto)]
-
+//! The arguments after the subject are a number of vertices, a number of edges, the longest separation, a bound, both in ticks, a number of
+//! workers, 1 for request labels in place of demand labels, and how often the search is made; without them 6, 6, 1, 50, 4, 0 and 1. With 0
+//! workers the table is driven by the caller alone. The graph is the same in each run. With as many edges as vertices and separations of 1
+//! there is one node for each vertex and each offset, none drops another, and each takes three steps. The answer has no times in it:
+//! `bench/shared` takes them from outside.
 ghost use Rattle.std.specs.Prelude.{◌≤◌, IsTrue};
 
-use drt_bench_input::{RingTimes, number, ring};
+use crate::input::{RingTimes, number, ring};
 use drt_demand::DemandLabel;
 use drt_graph::{Graph, check};
 use drt_model::{Row, task_set};
@@ -18,7 +16,7 @@ use drt_request::RequestLabel;
 use drt_search::{SharedLabel, search_together};
 use drt_table::Table;
 use std::alloc::{AllocError, Global};
-use std::env;
+use std::env::Args;
 use std::sync::Wait;
 use std::thread::Threads;
 
@@ -69,10 +67,12 @@ fn search_again<L: SharedLabel, R: Threads + Wait + Sync>(
     Ok(steps)
 }
 
-fn main(rt: HostRuntime) -> anyhow::Result<()> {
-    let alloc = rt.alloc();
-    let mut arguments = env::args(&rt)?;
-    let _program = arguments.next();
+/// Runs the subject with these arguments, and writes what it comes to.
+pub fn run<R: Print + Threads + Wait + Sync>(
+    rt: &R,
+    alloc: Global,
+    mut arguments: Args,
+) -> anyhow::Result<()> {
     let count = number(arguments.next(), 6).clamp(1, 96);
     let edge_count = number(arguments.next(), 6).min(256);
     let longest = number(arguments.next(), 1).clamp(1, 1_000_000);
@@ -95,9 +95,9 @@ fn main(rt: HostRuntime) -> anyhow::Result<()> {
     let _count = graphs.count();
     let graph = graphs.graph(0);
     let steps = if kind == 1 {
-        search_again::<RequestLabel, HostRuntime>(&rt, alloc, graph, bound, workers, times)?
+        search_again::<RequestLabel, R>(rt, alloc, graph, bound, workers, times)?
     } else {
-        search_again::<DemandLabel, HostRuntime>(&rt, alloc, graph, bound, workers, times)?
+        search_again::<DemandLabel, R>(rt, alloc, graph, bound, workers, times)?
     };
     println!(rt;
         "{} vertices, {} edges, a bound of {}, {} workers: {} steps",

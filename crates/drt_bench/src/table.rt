@@ -1,20 +1,18 @@
 //! How fast a table of demand labels is driven to its end.
 //!
-//! The arguments are a number of vertices, a number of edges, the longest separation and a bound, both in ticks; without
-//! them 6, 6, 1 and 50. The graph is the same in each run. With as many edges as vertices and separations of 1 there is
-//! one node for each vertex and each offset, none drops another, and each takes three steps. The answer has no times in
-//! it: `bench/table` takes them from outside.
-#![tactic(auto)]
-
+//! The arguments after the subject are a number of vertices, a number of edges, the longest separation and a bound, both in ticks; without
+//! them 6, 6, 1 and 50. The graph is the same in each run. With as many edges as vertices and separations of 1 there is one node for each
+//! vertex and each offset, none drops another, and each takes three steps. The answer has no times in it: `bench/table` takes them from
+//! outside.
 ghost use Rattle.std.specs.Prelude.{◌≤◌};
 
-use drt_bench_input::{RingTimes, number, ring};
+use crate::input::{RingTimes, number, ring};
 use drt_demand::DemandLabel;
 use drt_graph::check;
 use drt_model::{Row, Task, task_set};
 use drt_table::{Table, TableReply};
 use std::alloc::Global;
-use std::env;
+use std::env::Args;
 
 // The number of steps of a table that is driven to its end or to its budget of 1,000,000; 0 where the numbers make no graph.
 fn steps(alloc: Global, task: Task, bound: u64) -> anyhow::Result<usize>
@@ -32,10 +30,8 @@ fn steps(alloc: Global, task: Task, bound: u64) -> anyhow::Result<usize>
     Ok(table.log().len())
 }
 
-fn main(rt: HostRuntime) -> anyhow::Result<()> {
-    let alloc = rt.alloc();
-    let mut arguments = env::args(&rt)?;
-    let _program = arguments.next();
+/// Runs the subject with these arguments, and writes what it comes to.
+pub fn run(rt: &impl Print, alloc: Global, mut arguments: Args) -> anyhow::Result<()> {
     let count = number(arguments.next(), 6).clamp(1, 96);
     let edge_count = number(arguments.next(), 6).min(256);
     let longest = number(arguments.next(), 1).clamp(1, 1_000_000);

@@ -1,7 +1,7 @@
 use Rattle.std.proofs.Common.{◌≡◌, ℕ, ◌+◌, ◌*◌, ◌≤◌, ap, arith, replicate}
 use Rattle.drt_steps.specs.Values.{raise, value_at}
 use Rattle.drt_steps.proofs.Values.{flat_small, raised_small}
-use Rattle.drt_bench_steps.proofs.function.Goals as goal
+use Rattle.drt_bench.proofs.steps.function.Goals as goal
 
 pub loop-i-init : goal.loop-i-init
 loop-i-init c t =

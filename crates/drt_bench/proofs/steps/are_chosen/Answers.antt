@@ -4,7 +4,7 @@ use Rattle.std.proofs.lemmas.Option.{slice_get_read, slice_get-get_or, get_or_fr
 use Rattle.drt_steps.specs.Time.{AreChosen}
 use Rattle.drt_steps.proofs.Jumps.{take_all}
 use Rattle.drt_steps.proofs.Times.{chosen_more}
-use Rattle.drt_bench_steps.proofs.are_chosen.Goals as goal
+use Rattle.drt_bench.proofs.steps.are_chosen.Goals as goal
 
 pub loop-k-preserved : goal.loop-k-preserved
 loop-k-preserved c =
