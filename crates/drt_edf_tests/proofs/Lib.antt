@@ -1,5 +1,5 @@
-mod EndingWorks
-mod Fronts
-mod Lists
 mod PlainWorks
+mod EndingWorks
+mod Lists
 mod Small
+mod Fronts

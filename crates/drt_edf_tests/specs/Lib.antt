@@ -1,3 +1,3 @@
-pub mod Ending
 pub mod Plain
+pub mod Ending
 pub mod Simple
