@@ -1,24 +1,14 @@
-//! Whole runs of the program's top call, as cases: words and input beside status, fault, output and
-//! notice, all worked out by hand.
+//! What only a call of the program's top shows of a run: trails, sources and sinks that fail, the adapters over std, and
+//! workers that begin together. Whole runs, with all that they write, are the lines of `examples/cases`.
 #![tactic(auto)]
 
 #[cfg(test)]
-mod adapters;
-#[cfg(test)]
-mod bench;
-#[cfg(test)]
-mod check;
-#[cfg(test)]
 mod drawn;
 #[cfg(test)]
-mod edf;
-#[cfg(test)]
-mod fixed;
+mod failing;
 #[cfg(test)]
 mod racing;
 #[cfg(test)]
 mod running;
 #[cfg(test)]
-mod util;
-#[cfg(test)]
-mod words;
+mod trails;

@@ -1,12 +1,11 @@
 //! Runs by several workers.
-use crate::running::{answer_to, give, is_joined, perform_by};
+use crate::running::{answer_to, status_of, writes};
 use drt_fixtures::texts::{
     BRANCHING, BRANCHING_LATE, ENGINE, FIFTHS_AND_SEVENTHS, FULL, HALVES, JUST_DONE, LATE, LONGEST,
     LOWER_FIRST, OVERLOADED, PERIODIC, SEVENTHS_ABOVE_FIFTHS, SPLIT, TIGHT, TOO_FAR, TOO_FINE,
     TOO_LITTLE_ROOM,
 };
 use drt_meeting::Meeting;
-use drt_model::Row;
 use drt_pool::EagerGate;
 use drt_table::{Entry, TableStep};
 use drt_top::Trail;
@@ -15,28 +14,28 @@ use std::sync::Wait;
 use std::test::Fail;
 use std::thread::Threads;
 
+// The dossier of the branching set that is late.
+const DOSSIER: &str =
+    "drt-dossier 1\npolicy edf\ndrt 1\ntask T1\nvertex a 1 2\nvertex b 4 6\nedge a b 2\nedge b a 8\nedge a a 5\ntask T2\nvertex c 3 4\nedge c c 10\nend\nevidence edf-no\nreleases 2\nrelease 0 1 0 4\nrelease 1 0 0 3\nmiss 0 0 6\nclose\n";
+
 // Whether the set is answered so by two workers that begin together.
-fn is_answered_together(
-    rt: &(impl Threads + Wait + Sync),
-    alloc: Global,
-    text: &str,
-    status: u8,
-    pieces: &[&str],
-) -> Result<bool, Fail> {
+fn is_answered_together(rt: &(impl Threads + Wait + Sync), alloc: Global) -> Result<bool, Fail> {
     let gate = Meeting::at(0);
-    let input = [text];
-    let given = give("edf --workers 2", input.as_slice());
-    let (outcome, held) = perform_by(rt, alloc, given, &gate)?;
-    Ok(outcome.status == status && is_joined(held.as_slice(), pieces) && gate.times_met() > 0)
+    let is_written = writes(
+        rt,
+        alloc,
+        "edf --workers 2",
+        BRANCHING_LATE,
+        &gate,
+        1,
+        DOSSIER,
+    )?;
+    Ok(is_written && gate.times_met() > 0)
 }
 
 #[test]
 fn two_workers_begin_a_search_together(rt: HostRuntime) -> Result<(), Fail> {
-    let head = "drt-dossier 1\npolicy edf\n";
-    let evidence =
-        "evidence edf-no\nreleases 2\nrelease 0 1 0 4\nrelease 1 0 0 3\nmiss 0 0 6\nclose\n";
-    let pieces = [head, BRANCHING_LATE, evidence];
-    assert!(rt; is_answered_together(&rt, rt.alloc(), BRANCHING_LATE, 1, pieces.as_slice())?);
+    assert!(rt; is_answered_together(&rt, rt.alloc())?);
     Ok(())
 }
 
@@ -79,9 +78,8 @@ fn is_log_of_both(trail: &Trail) -> bool {
 // Whether two workers that wait for one another before their third turns spend a budget of four steps together.
 fn is_spent_together(rt: &(impl Threads + Wait + Sync), alloc: Global) -> Result<bool, Fail> {
     let gate = Meeting::at(2);
-    let input = [BRANCHING_LATE];
-    let given = give("edf --workers 2 --budget 4", input.as_slice());
-    let (outcome, _held) = perform_by(rt, alloc, given, &gate)?;
+    let words = "edf --workers 2 --budget 4";
+    let (outcome, _held) = answer_to(rt, alloc, words, BRANCHING_LATE.as_bytes(), &gate)?;
     let are_logged = is_log_of_both(&outcome.trail);
     Ok(outcome.status == 3 && are_logged && gate.times_met() > 0)
 }
@@ -100,10 +98,8 @@ fn is_refined_together(
     searches: u64,
 ) -> Result<bool, Fail> {
     let gate = Meeting::at(0);
-    let input = [text];
-    let given = give("sp --workers 2", input.as_slice());
-    let (outcome, _held) = perform_by(rt, alloc, given, &gate)?;
-    Ok(outcome.status == 0 && gate.times_met() == searches)
+    let status = status_of(rt, alloc, "sp --workers 2", text, &gate)?;
+    Ok(status == 0 && gate.times_met() == searches)
 }
 
 // The first task has two combinations to refine, one for each vertex, and a table; the second has one to refine.
@@ -116,41 +112,49 @@ fn two_workers_begin_each_search_together(rt: HostRuntime) -> Result<(), Fail> {
 // How often each run is made again.
 const RUNS: u32 = 100;
 
-// Whether each of a hundred runs of the command by so many workers, which are begun at once, has that status.
+// Whether each of a hundred runs of these words by workers that are begun at once has that status.
 fn have_status(
     rt: &(impl Threads + Wait + Sync),
     alloc: Global,
-    command: &str,
-    workers: u32,
+    words: &str,
     text: &str,
     status: u8,
 ) -> Result<bool, Fail> {
-    let words = format!(in alloc; "{command} --workers {workers}")?;
+    let mut have = true;
     for _ in 0..RUNS {
-        let bytes = Row::from_vec(Vec::from_slice(alloc, text.as_bytes())?);
-        let (outcome, _held) = answer_to(rt, alloc, words.as_str(), bytes, &EagerGate)?;
-        if outcome.status != status {
-            return Ok(false);
-        }
+        have = have && status_of(rt, alloc, words, text, &EagerGate)? == status;
     }
-    Ok(true)
+    Ok(have)
 }
 
-// Whether the set has that status in each of a hundred runs by 1, 2, 4 and 16 workers.
+// Whether the set has that status in each of a hundred runs of each of these words.
 fn have_statuses(
     rt: &(impl Threads + Wait + Sync),
     alloc: Global,
-    command: &str,
+    commands: [&str; 4],
     text: &str,
     status: u8,
 ) -> Result<bool, Fail> {
-    for workers in [1u32, 2, 4, 16] {
-        if !have_status(rt, alloc, command, workers, text, status)? {
-            return Ok(false);
-        }
+    let mut have = true;
+    for words in commands {
+        have = have && have_status(rt, alloc, words, text, status)?;
     }
-    Ok(true)
+    Ok(have)
 }
+
+const EDF_WORDS: [&str; 4] = [
+    "edf --workers 1",
+    "edf --workers 2",
+    "edf --workers 4",
+    "edf --workers 16",
+];
+
+const FIXED_WORDS: [&str; 4] = [
+    "sp --workers 1",
+    "sp --workers 2",
+    "sp --workers 4",
+    "sp --workers 16",
+];
 
 // The set of `SPLIT` is schedulable under fixed priorities, so it is under EDF.
 const EDF: [(&str, u8); 14] = [
@@ -192,7 +196,7 @@ const FIXED: [(&str, u8); 15] = [
 fn the_verdict_under_edf_is_that_of_any_number_of_workers(rt: HostRuntime) -> Result<(), Fail> {
     for (text, status) in EDF {
         assert!(rt;
-            have_statuses(&rt, rt.alloc(), "edf", text, status)?,
+            have_statuses(&rt, rt.alloc(), EDF_WORDS, text, status)?,
             "{text}"
         );
     }
@@ -205,7 +209,7 @@ fn the_verdict_under_fixed_priorities_is_that_of_any_number_of_workers(
 ) -> Result<(), Fail> {
     for (text, status) in FIXED {
         assert!(rt;
-            have_statuses(&rt, rt.alloc(), "sp", text, status)?,
+            have_statuses(&rt, rt.alloc(), FIXED_WORDS, text, status)?,
             "{text}"
         );
     }

@@ -1,4 +1,4 @@
-//! Tests of what the words of the command line mean, and of those that are refused.
+//! Tests of what the words of the command line mean. Those that are refused are lines of `examples/cases`.
 #![tactic(auto)]
 
 #[cfg(test)]

@@ -1,0 +1,15 @@
+drt-dossier 1
+policy fixed
+drt 1
+task T1
+vertex a 2 4
+task T2
+vertex b 3 4
+edge b b 8
+end
+evidence fixed-no
+releases 2
+release 0 0 0 2
+release 1 0 0 3
+miss 1 0 4
+close

@@ -1,0 +1,9 @@
+drt-dossier 1
+policy fixed
+drt 1
+task T
+vertex a 2 5
+edge a a 5
+end
+evidence undecided
+close

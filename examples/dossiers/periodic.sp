@@ -1,0 +1,12 @@
+drt-dossier 1
+policy fixed
+drt 1
+task T
+vertex a 2 5
+edge a a 5
+end
+evidence fixed-yes
+trees 0
+proofs 1
+proof 0 0 1 p2
+close
