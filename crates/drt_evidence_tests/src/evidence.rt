@@ -89,22 +89,32 @@ pub(crate) fn is_claim(
         && claim.potentials.as_slice() == heights
 }
 
-// Whether these lines are a utilisation of one with one ratio, of that cycle and with those potentials.
+// Whether evidence is a utilisation of one with one ratio, of that cycle and with those potentials.
+fn is_one_ratio(
+    evidence: &Evidence,
+    (num, den): (u64, u64),
+    cycle: &[u32],
+    heights: &[i64],
+) -> bool {
+    match evidence {
+        Evidence::UtilisationOne { ratios } => match ratios.as_slice() {
+            [claim] => is_claim(claim, num, den, cycle, heights),
+            _ => false,
+        },
+        _ => false,
+    }
+}
+
+// Whether these lines are such a utilisation.
 fn has_ratio(
     alloc: Global,
     lines: &[u8],
-    (num, den): (u64, u64),
+    ratio: (u64, u64),
     cycle: &[u32],
     heights: &[i64],
 ) -> Result<bool, Fail> {
     match dossier_below(alloc, lines)? {
-        Some(dossier) => match &dossier.evidence {
-            Evidence::UtilisationOne { ratios } => match ratios.as_slice() {
-                [claim] => Ok(is_claim(claim, num, den, cycle, heights)),
-                _ => Ok(false),
-            },
-            _ => Ok(false),
-        },
+        Some(dossier) => Ok(is_one_ratio(&dossier.evidence, ratio, cycle, heights)),
         None => Ok(false),
     }
 }
@@ -156,16 +166,21 @@ fn a_ratio_has_its_cycle_and_its_potentials(rt: HostRuntime) -> Result<(), Fail>
     Ok(())
 }
 
-// Whether these lines are a yes with one front, of those labels, and no ratio.
+// Whether evidence is a yes with one front, of those labels, and no ratio.
+fn is_one_front(evidence: &Evidence, labels: &[FrontEntry]) -> bool {
+    match evidence {
+        Evidence::EdfYes { ratios, fronts } => match fronts.as_slice() {
+            [front] => ratios.as_slice().is_empty() && front.as_slice() == labels,
+            _ => false,
+        },
+        _ => false,
+    }
+}
+
+// Whether these lines are such a yes.
 fn has_labels(alloc: Global, lines: &[u8], labels: &[FrontEntry]) -> Result<bool, Fail> {
     match dossier_below(alloc, lines)? {
-        Some(dossier) => match &dossier.evidence {
-            Evidence::EdfYes { ratios, fronts } => match fronts.as_slice() {
-                [front] => Ok(ratios.as_slice().is_empty() && front.as_slice() == labels),
-                _ => Ok(false),
-            },
-            _ => Ok(false),
-        },
+        Some(dossier) => Ok(is_one_front(&dossier.evidence, labels)),
         None => Ok(false),
     }
 }
@@ -303,16 +318,21 @@ fn is_tree(own: &TreeClaim, walks: &[&[u32]], pairs: &[Pair]) -> bool {
     are_walks(own.walks.as_slice(), walks) && own.pairs.as_slice() == pairs
 }
 
-// Whether these lines are a yes of fixed priorities with one tree, of those walks and pairs.
+// Whether evidence is a yes of fixed priorities with one tree, of those walks and pairs.
+fn is_one_tree(evidence: &Evidence, walks: &[&[u32]], pairs: &[Pair]) -> bool {
+    match evidence {
+        Evidence::FixedYes { trees, .. } => match trees.as_slice() {
+            [tree] => is_tree(tree, walks, pairs),
+            _ => false,
+        },
+        _ => false,
+    }
+}
+
+// Whether these lines are such a yes.
 fn has_tree(alloc: Global, lines: &[u8], walks: &[&[u32]], pairs: &[Pair]) -> Result<bool, Fail> {
     match dossier_below(alloc, lines)? {
-        Some(dossier) => match &dossier.evidence {
-            Evidence::FixedYes { trees, .. } => match trees.as_slice() {
-                [tree] => Ok(is_tree(tree, walks, pairs)),
-                _ => Ok(false),
-            },
-            _ => Ok(false),
-        },
+        Some(dossier) => Ok(is_one_tree(&dossier.evidence, walks, pairs)),
         None => Ok(false),
     }
 }
@@ -362,15 +382,20 @@ fn are_proofs(own: &[ProofClaim], wanted: &[Proof]) -> bool {
     true
 }
 
-// Whether these lines are a yes of fixed priorities with so many trees and those proofs.
+// Whether evidence is a yes of fixed priorities with so many trees and those proofs.
+fn is_proved_by(evidence: &Evidence, count: usize, wanted: &[Proof]) -> bool {
+    match evidence {
+        Evidence::FixedYes { trees, proofs } => {
+            trees.as_slice().len() == count && are_proofs(proofs.as_slice(), wanted)
+        }
+        _ => false,
+    }
+}
+
+// Whether these lines are such a yes.
 fn has_proofs(alloc: Global, lines: &[u8], count: usize, wanted: &[Proof]) -> Result<bool, Fail> {
     match dossier_below(alloc, lines)? {
-        Some(dossier) => match &dossier.evidence {
-            Evidence::FixedYes { trees, proofs } => {
-                Ok(trees.as_slice().len() == count && are_proofs(proofs.as_slice(), wanted))
-            }
-            _ => Ok(false),
-        },
+        Some(dossier) => Ok(is_proved_by(&dossier.evidence, count, wanted)),
         None => Ok(false),
     }
 }
