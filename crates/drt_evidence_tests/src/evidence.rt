@@ -318,11 +318,11 @@ fn is_tree(own: &TreeClaim, walks: &[&[u32]], pairs: &[Pair]) -> bool {
     are_walks(own.walks.as_slice(), walks) && own.pairs.as_slice() == pairs
 }
 
-// Whether evidence is a yes of fixed priorities with one tree, of those walks and pairs.
-fn is_one_tree(evidence: &Evidence, walks: &[&[u32]], pairs: &[Pair]) -> bool {
+// Whether evidence is a yes of fixed priorities with one tree, of those walks and pairs, and so many proofs.
+fn is_one_tree(evidence: &Evidence, walks: &[&[u32]], pairs: &[Pair], count: usize) -> bool {
     match evidence {
-        Evidence::FixedYes { trees, .. } => match trees.as_slice() {
-            [tree] => is_tree(tree, walks, pairs),
+        Evidence::FixedYes { trees, proofs } => match trees.as_slice() {
+            [tree] => proofs.as_slice().len() == count && is_tree(tree, walks, pairs),
             _ => false,
         },
         _ => false,
@@ -330,9 +330,15 @@ fn is_one_tree(evidence: &Evidence, walks: &[&[u32]], pairs: &[Pair]) -> bool {
 }
 
 // Whether these lines are such a yes.
-fn has_tree(alloc: Global, lines: &[u8], walks: &[&[u32]], pairs: &[Pair]) -> Result<bool, Fail> {
+fn has_tree(
+    alloc: Global,
+    lines: &[u8],
+    walks: &[&[u32]],
+    pairs: &[Pair],
+    count: usize,
+) -> Result<bool, Fail> {
     match dossier_below(alloc, lines)? {
-        Some(dossier) => Ok(is_one_tree(&dossier.evidence, walks, pairs)),
+        Some(dossier) => Ok(is_one_tree(&dossier.evidence, walks, pairs, count)),
         None => Ok(false),
     }
 }
@@ -352,50 +358,65 @@ fn a_tree_has_its_walks_and_then_its_pairs(rt: HostRuntime) -> Result<(), Fail> 
     let walks = [[1].as_slice(), [0].as_slice(), [1, 1].as_slice()];
     let pairs = [first, second];
     let cases = [
-        (TREE_AND_PROOFS, walks.as_slice(), pairs.as_slice()),
-        (EMPTY_TREE_AND_PROOF, [].as_slice(), [].as_slice()),
+        (TREE_AND_PROOFS, walks.as_slice(), pairs.as_slice(), 3),
+        (EMPTY_TREE_AND_PROOF, [].as_slice(), [].as_slice(), 1),
         (
             b"evidence fixed-yes\ntrees 1\ntree 0\npairs 1\npair 3 2\nproofs 0\nclose\n",
             [].as_slice(),
             &pairs[1..],
+            0,
         ),
     ];
-    for (lines, walks, pairs) in cases {
-        assert!(rt; has_tree(rt.alloc(), lines, walks, pairs)?);
+    for (lines, walks, pairs, count) in cases {
+        assert!(rt; has_tree(rt.alloc(), lines, walks, pairs, count)?);
     }
     Ok(())
 }
 
-// A proof: its task, its vertex and its items.
-type Proof<'a> = (u32, u32, &'a [Item]);
-
-fn are_proofs(own: &[ProofClaim], wanted: &[Proof]) -> bool {
-    if own.len() != wanted.len() {
+// Whether a proof of this place has this task, vertex and items.
+fn is_proof(
+    proofs: &[ProofClaim],
+    place: usize,
+    (task, vertex): (u32, u32),
+    items: &[Item],
+) -> bool {
+    if place >= proofs.len() {
         return false;
     }
-    for i in 0..own.len() {
-        let (task, vertex, items) = wanted[i];
-        if own[i].task != task || own[i].vertex != vertex || own[i].items.as_slice() != items {
-            return false;
-        }
-    }
-    true
+    proofs[place].task == task
+        && proofs[place].vertex == vertex
+        && proofs[place].items.as_slice() == items
 }
 
-// Whether evidence is a yes of fixed priorities with so many trees and those proofs.
-fn is_proved_by(evidence: &Evidence, count: usize, wanted: &[Proof]) -> bool {
+// Whether evidence is a yes of fixed priorities with so many trees and proofs, and that proof at this place.
+fn is_proved_by(
+    evidence: &Evidence,
+    (all_trees, all_proofs): (usize, usize),
+    place: usize,
+    of: (u32, u32),
+    items: &[Item],
+) -> bool {
     match evidence {
         Evidence::FixedYes { trees, proofs } => {
-            trees.as_slice().len() == count && are_proofs(proofs.as_slice(), wanted)
+            trees.as_slice().len() == all_trees
+                && proofs.as_slice().len() == all_proofs
+                && is_proof(proofs.as_slice(), place, of, items)
         }
         _ => false,
     }
 }
 
 // Whether these lines are such a yes.
-fn has_proofs(alloc: Global, lines: &[u8], count: usize, wanted: &[Proof]) -> Result<bool, Fail> {
+fn has_proof(
+    alloc: Global,
+    lines: &[u8],
+    counts: (usize, usize),
+    place: usize,
+    of: (u32, u32),
+    items: &[Item],
+) -> Result<bool, Fail> {
     match dossier_below(alloc, lines)? {
-        Some(dossier) => Ok(is_proved_by(&dossier.evidence, count, wanted)),
+        Some(dossier) => Ok(is_proved_by(&dossier.evidence, counts, place, of, items)),
         None => Ok(false),
     }
 }
@@ -407,39 +428,47 @@ fn a_proof_has_its_items_behind_their_count(rt: HostRuntime) -> Result<(), Fail>
         Item::Pass(1_000_000_000_000_000_000),
         Item::Split(4_294_967_295),
     ];
-    let proofs = [
-        (0, 0, [Item::Pass(3)].as_slice()),
-        (0, 1, [Item::Pass(2)].as_slice()),
-        (1, 0, three.as_slice()),
-    ];
-    let empty = [(0, 3, [].as_slice())];
-    let long = [(0, 3, greatest.as_slice())];
     let cases = [
-        (TREE_AND_PROOFS, 1, proofs.as_slice()),
-        (EMPTY_TREE_AND_PROOF, 1, empty.as_slice()),
         (
-            b"evidence fixed-yes\ntrees 1\ntree 0\npairs 1\npair 3 2\nproofs 0\nclose\n",
-            1,
-            [].as_slice(),
+            TREE_AND_PROOFS,
+            (1, 3),
+            0,
+            (0, 0),
+            [Item::Pass(3)].as_slice(),
         ),
         (
+            TREE_AND_PROOFS,
+            (1, 3),
+            1,
+            (0, 1),
+            [Item::Pass(2)].as_slice(),
+        ),
+        (TREE_AND_PROOFS, (1, 3), 2, (1, 0), three.as_slice()),
+        (EMPTY_TREE_AND_PROOF, (1, 1), 0, (0, 3), [].as_slice()),
+        (
             b"evidence fixed-yes\ntrees 0\nproofs 1\nproof 1 0 3 s0 p5 p4\nclose\n",
+            (0, 1),
             0,
-            &proofs[2..],
+            (1, 0),
+            three.as_slice(),
         ),
         (
             b"evidence fixed-yes\ntrees 0\nproofs 1\nproof 0 3 0\nclose\n",
+            (0, 1),
             0,
-            empty.as_slice(),
+            (0, 3),
+            [].as_slice(),
         ),
         (
             b"evidence fixed-yes\ntrees 0\nproofs 1\nproof 0 3 2 p1000000000000000000 s4294967295\nclose\n",
+            (0, 1),
             0,
-            long.as_slice(),
+            (0, 3),
+            greatest.as_slice(),
         ),
     ];
-    for (lines, count, proofs) in cases {
-        assert!(rt; has_proofs(rt.alloc(), lines, count, proofs)?);
+    for (lines, counts, place, of, items) in cases {
+        assert!(rt; has_proof(rt.alloc(), lines, counts, place, of, items)?);
     }
     Ok(())
 }
