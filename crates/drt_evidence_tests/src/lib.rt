@@ -1,13 +1,7 @@
-//! Tests of the texts of dossiers: read back, and where others stop being one.
+//! Tests of the values that texts of dossiers are read as. Texts that are none stand in `examples/cases`.
 #![tactic(auto)]
 
 #[cfg(test)]
-mod dossier_tests;
-#[cfg(test)]
-mod line_tests;
-#[cfg(test)]
-mod same;
-#[cfg(test)]
-mod text_tests;
+mod evidence;
 #[cfg(test)]
 mod texts;

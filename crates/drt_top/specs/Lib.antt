@@ -1,3 +1,1 @@
-pub mod TaskFiles
-pub mod Dossiers
 pub mod commands

@@ -1,21 +1,14 @@
 -- What is promised of each command.
-pub mod Edf
-pub mod Sp
-pub mod Upgrade
-pub mod Util
-pub mod Check
-pub mod Bench
-pub mod Response
 use Rattle.drt_command.specs.Rules.{Rules}
 use Rattle.drt_words.specs.declared.meaning.Meaning.{Meaning}
 use Rattle.drt_words.specs.declared.meaning.Meaning.TheVariants as means
-use Rattle.drt_top.specs.commands.Edf.{edf_rules}
-use Rattle.drt_top.specs.commands.Sp.{sp_rules}
-use Rattle.drt_top.specs.commands.Upgrade.{upgrade_rules}
-use Rattle.drt_top.specs.commands.Util.{util_rules}
-use Rattle.drt_top.specs.commands.Check.{check_rules}
-use Rattle.drt_top.specs.commands.Bench.{bench_rules}
-use Rattle.drt_top.specs.commands.Response.{response_rules}
+use Rattle.drt_command_edf.specs.Edf.{edf_rules}
+use Rattle.drt_command_sp.specs.Sp.{sp_rules}
+use Rattle.drt_command_upgrade.specs.Upgrade.{upgrade_rules}
+use Rattle.drt_command_util.specs.Util.{util_rules}
+use Rattle.drt_command_check.specs.Check.{check_rules}
+use Rattle.drt_command_bench.specs.Bench.{bench_rules}
+use Rattle.drt_command_response.specs.Response.{response_rules}
 
 -- The promises of the command that the words mean.
 abbrev pub rules_of : Meaning → Rules

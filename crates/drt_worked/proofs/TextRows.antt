@@ -6,7 +6,7 @@ use Rattle.drt_model.specs.Contents.{Contents}
 use Rattle.drt_model.specs.Utilisation.{Fraction}
 use Rattle.drt_model.specs.declared.tasks.Task.{Task}
 use Rattle.drt_file.specs.trusted.Canonical.{written, written_line, name_at, priority_lines, body_lines, task_lines, set_lines, canonical}
-use Rattle.drt_top.specs.commands.Util.{util_lines}
+use Rattle.drt_command_util.specs.Util.{util_lines}
 use Rattle.drt_sp.specs.Evidence.{under_fixed}
 use Rattle.drt_evidence.specs.Statement.{Statement}
 use Rattle.drt_evidence.specs.Text.{text}

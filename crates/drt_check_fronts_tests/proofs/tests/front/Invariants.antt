@@ -1,7 +1,0 @@
--- The entries so far are in range.
-use Rattle.std.proofs.Common.{All}
-use Rattle.drt_evidence.specs.Ranges.{IsInRangeEntry}
-use Rattle.drt_check_fronts_tests.proofs.tests.front.Given as goal
-
-abbrev pub invariant-entries : goal.invariant-entries
-invariant-entries l = All IsInRangeEntry l.front.items

@@ -1,7 +1,0 @@
--- The fronts so far have entries in range.
-use Rattle.std.proofs.Common.{All}
-use Rattle.drt_evidence.specs.Ranges.{IsInRangeEntry}
-use Rattle.drt_check_fronts_tests.proofs.tests.fronts.Given as goal
-
-abbrev pub invariant-tasks : goal.invariant-tasks
-invariant-tasks l = All (All IsInRangeEntry) l.fronts.items

@@ -1,0 +1,266 @@
+//! `bench`: both answers to the drawn set of a number, in one line.
+ghost use Rattle.std.specs.Prelude.{◌≡◌, ◌≢◌, ◌≤◌, [], IfErr, IfOk, length, map};
+ghost use Rattle.drt_model.specs.Constrained.{AreConstrained};
+ghost use Rattle.drt_model.specs.Limits.{IsTaskSet};
+ghost use Rattle.drt_evidence.specs.Claims.{graphs_of};
+ghost use Rattle.drt_edf.specs.Plans.{AreTooFine};
+ghost use Rattle.drt_gen.specs.Generated.{generated};
+ghost use Rattle.drt_words.specs.Searches.{most_workers};
+ghost use Rattle.drt_summary.specs.declared.summary.EdfVerdict.{EdfVerdict};
+ghost use Rattle.drt_io.specs.Causes.{Rose};
+ghost use Rattle.drt_command.specs.declared.input.Input.{Input};
+ghost use Rattle.drt_command.specs.Inputs.{IsWithin};
+ghost use Rattle.drt_command.specs.Rules.{IsCause};
+ghost use Rattle.drt_command.specs.Runs.{IsRun};
+ghost use Rattle.drt_command_bench.specs.Bench.{AreCounts, Benches, EdfSays, FixedSays, bench_rules};
+
+use drt_command::{Input, Promised, Report, Unmade, finish, read_input, stop_reading};
+use drt_edf::{EdfAnswer, EdfTrail, analyse_edf};
+use drt_evidence::Evidence;
+use drt_gen::{deadlines_are_constrained, generate, sets_keep_limits};
+use drt_gen_scale::scales_are_small;
+use drt_graph::{GraphError, Graphs, check};
+use drt_horizon::Beyond;
+use drt_io::{Sink, Source};
+use drt_model::{FrontEntry, Memory, Row, TaskSet};
+use drt_outcome::Outcome;
+use drt_outcome::outcome::{Trail, YES};
+use drt_pool::Gate;
+use drt_sp::{FixedAnswer, FixedTrail, analyse_fixed};
+use drt_summary::{EdfVerdict, FixedVerdict, Summary, print};
+use drt_words::{MOST_BUDGET, Workers};
+use std::alloc::Global;
+use std::sync::Wait;
+use std::thread::Threads;
+
+/// The command `bench`.
+#[derive(Debug, Drop)]
+pub struct Bench {
+    pub workers: Workers,
+    pub number: u64,
+}
+
+impl Promised for Bench {
+    ghost rules = { λ c. bench_rules c.number };
+
+    fn laws(&self) {}
+}
+
+/// Runs `bench`: its input is read, workers make its text, and it is written.
+pub fn conduct<S: Source, K: Sink, G: Gate, R: Threads + Wait + Sync>(
+    rt: &R,
+    alloc: Global,
+    command: &Bench,
+    source: &mut S,
+    sink: &mut K,
+    gate: &G,
+) -> Outcome
+    ensures run { IsRun (bench_rules command.now.number) (S.left source.old) (Rose (S.faults source.old) (S.faults source.new)) (Rose (K.faults sink.old) (K.faults sink.new)) (K.held sink.old) (K.held sink.new) result }
+    ensures unwritten { 4 ≤ result.status → result.status ≢ 7 → sink.new ≡ sink.old }
+    ensures unread { (bench_rules command.now.number).input ≡ Input.Nothing → source.new ≡ source.old }
+{
+    match read_input(alloc, Input::Nothing, source) {
+        Ok(bytes) => {
+            let made = make(rt, alloc, command, bytes.as_slice(), gate);
+            finish(command, bytes.as_slice(), made, sink)
+        }
+        Err(stop) => stop_reading(command, stop),
+    }
+}
+
+// What it makes of its input.
+fn make<G: Gate, R: Threads + Wait + Sync>(
+    rt: &R,
+    alloc: Global,
+    command: &Bench,
+    _bytes: &[u8],
+    gate: &G,
+) -> Result<Report, Unmade>
+    requires { IsWithin (bench_rules command.now.number).input _bytes.now }
+    ensures makes { IfOk result ((bench_rules command.now.number).makes _bytes.now) }
+    ensures unmade { IfErr result (IsCause (bench_rules command.now.number).refuses _bytes.now) }
+{
+    sets_keep_limits();
+    deadlines_are_constrained();
+    scales_are_small();
+    let set = generate(alloc, command.number)?;
+    let graphs = make_graphs(alloc, &set)?;
+    let workers = command.workers.count();
+    let edf = decide_edf(rt, alloc, &set, &graphs, workers, gate)?;
+    let fixed = decide_fixed(rt, alloc, &set, &graphs, workers, gate)?;
+    Ok(summarise(alloc, command.number, edf, fixed)?)
+}
+
+// What was found under EDF: the verdict, how many labels each front has, and the trail of a spent budget.
+#[derive(Drop)]
+struct EdfFinding {
+    verdict: EdfVerdict,
+    kept: Row<u64>,
+    trail: Option<EdfTrail>,
+}
+
+// What was found under fixed priorities: the verdict, and the trail of a spent budget.
+#[derive(Drop)]
+struct FixedFinding {
+    verdict: FixedVerdict,
+    trail: Option<FixedTrail>,
+}
+
+// The graphs of a set with constrained deadlines.
+fn make_graphs(alloc: Global, set: &TaskSet) -> Result<Graphs, Memory>
+    requires { AreConstrained set.now.tasks }
+    ensures { IfOk result (λ graphs. graphs ≡ graphs_of set.now.tasks) }
+{
+    match check(alloc, set) {
+        Ok(graphs) => Ok(graphs),
+        Err(GraphError::DeadlinePastSeparation { .. }) => unreachable!(),
+        Err(GraphError::Memory) => Err(Memory),
+    }
+}
+
+// The answer under EDF.
+fn decide_edf<G: Gate, R: Threads + Wait + Sync>(
+    rt: &R,
+    alloc: Global,
+    set: &TaskSet,
+    graphs: &Graphs,
+    workers: u32,
+    gate: &G,
+) -> Result<EdfFinding, Memory>
+    requires limits { IsTaskSet 1 set.now.tasks }
+    requires constrained { AreConstrained set.now.tasks }
+    requires fine { ¬ AreTooFine set.now.tasks }
+    requires graphs { graphs.now ≡ graphs_of set.now.tasks }
+    requires workers { (1 ≤ workers) × (workers ≤ most_workers) }
+    ensures says { IfOk result (λ f. EdfSays set.now.tasks f.verdict f.trail) }
+    ensures counts { IfOk result (λ f. f.verdict ≡ EdfVerdict.Yes → AreCounts set.now.tasks f.kept) }
+    ensures no_counts { IfOk result (λ f. f.verdict ≢ EdfVerdict.Yes → f.kept ≡ []) }
+{
+    match analyse_edf(
+        rt,
+        alloc,
+        set,
+        graphs,
+        workers,
+        u64::from(MOST_BUDGET),
+        gate,
+    )? {
+        EdfAnswer::Done(Evidence::EdfYes { ratios: _, fronts }) => Ok(EdfFinding {
+            verdict: EdfVerdict::Yes,
+            kept: count_labels(alloc, fronts.as_slice())?,
+            trail: None,
+        }),
+        EdfAnswer::Done(Evidence::EdfNo { .. }) => Ok(without_fronts(alloc, EdfVerdict::No, None)),
+        EdfAnswer::Done(Evidence::UtilisationOne { .. }) => Ok(without_fronts(
+            alloc,
+            EdfVerdict::One,
+            None,
+        )),
+        EdfAnswer::Done(
+            Evidence::FixedYes { .. } | Evidence::FixedNo { .. } | Evidence::Undecided,
+        ) => unreachable!(),
+        EdfAnswer::Beyond(Beyond::TooFar) => Ok(without_fronts(alloc, EdfVerdict::Beyond, None)),
+        EdfAnswer::Beyond(Beyond::TooFine) => unreachable!(),
+        EdfAnswer::Undecided(trail) => Ok(without_fronts(
+            alloc,
+            EdfVerdict::Undecided,
+            Some(trail),
+        )),
+    }
+}
+
+// What was found where there are no fronts.
+fn without_fronts(alloc: Global, verdict: EdfVerdict, trail: Option<EdfTrail>) -> EdfFinding
+    ensures { result ≡ record { verdict = verdict; kept = []; trail = trail } }
+{
+    EdfFinding {
+        verdict,
+        kept: Row::from_vec(Vec::new(alloc)),
+        trail,
+    }
+}
+
+// How many labels each front has.
+fn count_labels(alloc: Global, fronts: &[Row<FrontEntry>]) -> Result<Row<u64>, Memory>
+    ensures { IfOk result (λ kept. kept ≡ map length fronts.now) }
+{
+    let mut kept = Vec::new(alloc);
+    'fronts: for i in 0..fronts.len() {
+        kept.push(fronts[i].as_slice().len() as u64)?;
+    }
+    Ok(Row::from_vec(kept))
+}
+
+// The answer under fixed priorities.
+fn decide_fixed<G: Gate, R: Threads + Wait + Sync>(
+    rt: &R,
+    alloc: Global,
+    set: &TaskSet,
+    graphs: &Graphs,
+    workers: u32,
+    gate: &G,
+) -> Result<FixedFinding, Memory>
+    requires constrained { AreConstrained set.now.tasks }
+    requires graphs { graphs.now ≡ graphs_of set.now.tasks }
+    requires workers { (1 ≤ workers) × (workers ≤ most_workers) }
+    ensures { IfOk result (λ f. FixedSays set.now f.verdict f.trail) }
+{
+    match analyse_fixed(
+        rt,
+        alloc,
+        set,
+        graphs,
+        workers,
+        u64::from(MOST_BUDGET),
+        gate,
+    )? {
+        FixedAnswer::Done(Evidence::FixedYes { .. }) => Ok(FixedFinding {
+            verdict: FixedVerdict::Yes,
+            trail: None,
+        }),
+        FixedAnswer::Done(Evidence::FixedNo { .. }) => Ok(FixedFinding {
+            verdict: FixedVerdict::No,
+            trail: None,
+        }),
+        FixedAnswer::Done(
+            Evidence::EdfYes { .. }
+            | Evidence::EdfNo { .. }
+            | Evidence::UtilisationOne { .. }
+            | Evidence::Undecided,
+        ) => unreachable!(),
+        FixedAnswer::Undecided(trail) => Ok(FixedFinding {
+            verdict: FixedVerdict::Undecided,
+            trail: Some(trail),
+        }),
+    }
+}
+
+// The line of what was found for the set of a number, and the trails.
+fn summarise(
+    alloc: Global,
+    number: u64,
+    edf: EdfFinding,
+    fixed: FixedFinding,
+) -> Result<Report, Memory>
+    requires edf { EdfSays (generated number).tasks edf.verdict edf.trail }
+    requires counts { edf.verdict ≡ EdfVerdict.Yes → AreCounts (generated number).tasks edf.kept }
+    requires no_counts { edf.verdict ≢ EdfVerdict.Yes → edf.kept ≡ [] }
+    requires fixed { FixedSays (generated number) fixed.verdict fixed.trail }
+    ensures { IfOk result (Benches number) }
+{
+    let summary = Summary {
+        edf: edf.verdict,
+        fixed: fixed.verdict,
+        kept: edf.kept,
+        number,
+    };
+    let text = print(alloc, &summary)?;
+    Ok(Report {
+        status: YES,
+        text,
+        trail: Trail::Bench {
+            edf: edf.trail,
+            fixed: fixed.trail,
+        },
+    })
+}

@@ -1,0 +1,6 @@
+//! The command `check`: a dossier, judged. Its promises stand in specs/Check.antt.
+#![tactic(auto)]
+
+mod command;
+
+pub use command::Check;

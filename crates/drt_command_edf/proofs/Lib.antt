@@ -1,0 +1,2 @@
+pub mod EdfLemmas
+pub mod EdfPromises

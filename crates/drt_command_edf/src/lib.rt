@@ -1,0 +1,6 @@
+//! The command `edf`: the answer under EDF. Its promises stand in specs/Edf.antt.
+#![tactic(auto)]
+
+mod command;
+
+pub use command::{Edf, conduct};

@@ -1,0 +1,2 @@
+pub mod TaskFiles
+pub mod Dossiers

@@ -1,0 +1,141 @@
+//! `response`: the greatest response time of each vertex under fixed priorities, with releases that reach it.
+ghost use Rattle.std.specs.Prelude.{◌≡◌, ◌≢◌, ◌≤◌, IfErr, IfOk, map};
+ghost use Rattle.drt_model.specs.Digraph.{digraph_of};
+ghost use Rattle.drt_io.specs.Causes.{Rose};
+ghost use Rattle.drt_command.specs.declared.input.Input.{Input};
+ghost use Rattle.drt_command.specs.Inputs.{IsWithin};
+ghost use Rattle.drt_command.specs.Rules.{IsCause};
+ghost use Rattle.drt_command.specs.Runs.{IsRun};
+ghost use Rattle.drt_response.specs.Text.{response_text};
+ghost use Rattle.drt_command_response.specs.Response.{Responds, response_rules, response_trail};
+ghost use Rattle.drt_command_files.specs.TaskFiles.{IsAccepted};
+
+use drt_command::{Promised, Report, Unmade, finish, read_input, stop_reading};
+use drt_command_files::{file_input, make_report, read_set};
+use drt_evidence::Evidence;
+use drt_file::laws::texts_read_as_one_set;
+use drt_graph::Graphs;
+use drt_io::{Sink, Source};
+use drt_model::{Policy, TaskSet};
+use drt_outcome::Outcome;
+use drt_outcome::outcome::{Trail, YES};
+use drt_pool::Gate;
+use drt_response::{
+    Response, ResponseAnswer, ResponseTrail, budgets_suffice_for_responses, print, respond,
+};
+use drt_words::Search;
+use std::alloc::Global;
+use std::sync::Wait;
+use std::thread::Threads;
+
+/// The command `response`.
+#[derive(Debug, Drop)]
+pub struct Responses {
+    pub search: Search,
+}
+
+impl Promised for Responses {
+    ghost rules = { λ c. response_rules c.search.budget };
+
+    fn laws(&self) {
+        texts_read_as_one_set();
+        budgets_suffice_for_responses();
+    }
+}
+
+/// Runs `response`: its input is read, workers make its text, and it is written.
+pub fn conduct<S: Source, K: Sink, G: Gate, R: Threads + Wait + Sync>(
+    rt: &R,
+    alloc: Global,
+    command: &Responses,
+    source: &mut S,
+    sink: &mut K,
+    gate: &G,
+) -> Outcome
+    ensures run { IsRun (response_rules command.now.search.budget) (S.left source.old) (Rose (S.faults source.old) (S.faults source.new)) (Rose (K.faults sink.old) (K.faults sink.new)) (K.held sink.old) (K.held sink.new) result }
+    ensures unwritten { 4 ≤ result.status → result.status ≢ 7 → sink.new ≡ sink.old }
+    ensures unread { (response_rules command.now.search.budget).input ≡ Input.Nothing → source.new ≡ source.old }
+{
+    match read_input(alloc, file_input(), source) {
+        Ok(bytes) => {
+            let made = make(rt, alloc, command, bytes.as_slice(), gate);
+            finish(command, bytes.as_slice(), made, sink)
+        }
+        Err(stop) => stop_reading(command, stop),
+    }
+}
+
+// What it makes of its input.
+fn make<G: Gate, R: Threads + Wait + Sync>(
+    rt: &R,
+    alloc: Global,
+    command: &Responses,
+    bytes: &[u8],
+    gate: &G,
+) -> Result<Report, Unmade>
+    requires { IsWithin (response_rules command.now.search.budget).input bytes.now }
+    ensures makes { IfOk result ((response_rules command.now.search.budget).makes bytes.now) }
+    ensures unmade { IfErr result (IsCause (response_rules command.now.search.budget).refuses bytes.now) }
+{
+    let (set, graphs) = read_set(alloc, bytes)?;
+    answer(rt, alloc, bytes, set, &graphs, &command.search, gate)
+}
+
+// The answer to an accepted set, by so many workers and with a budget of steps for each search.
+fn answer<G: Gate, R: Threads + Wait + Sync>(
+    rt: &R,
+    alloc: Global,
+    bytes: &[u8],
+    set: TaskSet,
+    graphs: &Graphs,
+    search: &Search,
+    gate: &G,
+) -> Result<Report, Unmade>
+    requires accepted { IsAccepted bytes.now set }
+    requires graphs { graphs.now ≡ map digraph_of set.tasks }
+    ensures responds { IfOk result (Responds search.now.budget bytes.now) }
+    ensures unmade { IfErr result (λ e. e ≡ Unmade.Memory) }
+{
+    let budget = u64::from(search.budget());
+    match respond(rt, alloc, &set, graphs, search.workers(), budget, gate) {
+        Ok(ResponseAnswer::Done(responses)) => print_responses(alloc, responses.as_slice()),
+        Ok(ResponseAnswer::Missed(evidence)) => {
+            make_report(alloc, Policy::Fixed, set, evidence, Trail::Nothing)
+        }
+        Ok(ResponseAnswer::Undecided(trail)) => make_report(
+            alloc,
+            Policy::Fixed,
+            set,
+            Evidence::Undecided,
+            make_trail(trail),
+        ),
+        Err(_) => Err(Unmade::Memory),
+    }
+}
+
+// The report of these responses.
+fn print_responses(alloc: Global, responses: &[Response]) -> Result<Report, Unmade>
+    ensures report { IfOk result (λ m. m ≡ record { status = 0; text = response_text responses.now; trail = Trail.Nothing }) }
+    ensures unmade { IfErr result (λ e. e ≡ Unmade.Memory) }
+{
+    let text = print(alloc, responses)?;
+    Ok(Report::new(YES, text))
+}
+
+// The trail of a spent budget.
+fn make_trail(trail: ResponseTrail) -> Trail
+    ensures { result ≡ response_trail trail }
+{
+    match trail {
+        ResponseTrail::Fixed(spent) => drt_command_sp::make_trail(spent),
+        ResponseTrail::Search {
+            task,
+            vertex,
+            taken,
+        } => Trail::Response {
+            task,
+            vertex,
+            taken,
+        },
+    }
+}

@@ -1,0 +1,79 @@
+-- What is promised of `sp` agrees.
+use Rattle.std.proofs.Common.{◌≡◌, ◌<◌, ◌⊎◌, ℕ, List, Result, Ok, Err, IfOk, inl, inr, refl, sym, subst, arith}
+use Rattle.drt_model.specs.Contents.{Contents}
+use Rattle.drt_model.specs.Limits.{IsTaskSet}
+use Rattle.drt_file.specs.trusted.Laws.{TextsReadAsOneSet}
+use Rattle.drt_evidence.specs.Ranges.{IsInRange}
+use Rattle.drt_evidence.specs.Text.{text}
+use Rattle.drt_evidence.specs.declared.evidence.Evidence.{Evidence}
+use Rattle.drt_evidence.specs.declared.evidence.Evidence.TheVariants.{EdfYes, EdfNo, UtilisationOne, FixedYes, FixedNo, Undecided}
+use Rattle.drt_command.specs.declared.report.Report.{Report}
+use Rattle.drt_command.specs.declared.report.Unmade.{Unmade}
+use Rattle.drt_command.specs.Rules.{AreLawful}
+use Rattle.drt_outcome.specs.declared.fault.Fault.{Fault}
+use Rattle.drt_outcome.specs.declared.outcome.Trail.{Trail}
+use Rattle.drt_outcome.specs.declared.outcome.Trail.TheVariants as trails
+use Rattle.drt_outcome.specs.Stops.{fault_status}
+use Rattle.drt_sp.specs.Answers.{IsUndecided, IsVerdict}
+use Rattle.drt_sp.specs.Evidence.{under_fixed}
+use Rattle.drt_sp.specs.Laws.{BudgetsSuffice}
+use Rattle.drt_trails.specs.declared.FixedTrail.{FixedTrail}
+use Rattle.drt_command_files.specs.Dossiers.{evidence_status}
+use Rattle.drt_command_files.specs.TaskFiles.{IsAccepted, IsFileFault}
+use Rattle.drt_command_sp.specs.Sp.{Analyses, IsSpNoText, IsSpUndecidedText, IsSpYesText, SpEnds, sp_rules, trail_of}
+use Rattle.drt_command_files.proofs.TaskFileLemmas.{accepted_one, accepted_well, fault_one, long_file}
+
+-- The answer, by its parts.
+abbrev pub IsSpAnswer : Contents → ℕ → ℕ → List ℕ → Trail → Type 0
+IsSpAnswer set budget status written trail =
+    ((status ≡ 0) × IsSpYesText set written × (trail ≡ trails.Nothing))
+    ⊎ (((status ≡ 1) × IsSpNoText set written × (trail ≡ trails.Nothing))
+    ⊎ ((status ≡ 3) × IsSpUndecidedText set budget written trail))
+
+-- The answer of evidence.
+answer_is : (set : Contents) (budget : ℕ) (evidence : Evidence) → IsTaskSet set.version set.tasks → IsVerdict set evidence → IsInRange evidence
+    → IsSpAnswer set budget (evidence_status evidence) (text (under_fixed set evidence)) trails.Nothing
+answer_is set budget (EdfYes ratios fronts) limits verdict range = absurd verdict
+answer_is set budget (EdfNo releases miss) limits verdict range = absurd verdict
+answer_is set budget (UtilisationOne ratios) limits verdict range = absurd verdict
+answer_is set budget (FixedYes trees proofs) limits verdict range =
+    inl (refl, record { trees = trees; proofs = proofs; yes = verdict; is = record { stated = (limits, range); is = refl } }, refl)
+answer_is set budget (FixedNo releases miss) limits verdict range =
+    inr (inl (refl, record { releases = releases; miss = miss; no = verdict; is = record { stated = (limits, range); is = refl } }, refl))
+answer_is set budget Undecided limits verdict range = absurd verdict
+
+-- It is the answer of the report that is made of the evidence.
+pub done_analyses : (bytes : List ℕ) (set : Contents) (budget : ℕ) (evidence : Evidence) → IsAccepted bytes set → IsVerdict set evidence
+    → IsInRange evidence → (r : Result Report Unmade)
+    → IfOk r (λ m. m ≡ record { status = evidence_status evidence; text = text (under_fixed set evidence); trail = trails.Nothing })
+    → IfOk r (Analyses budget bytes)
+done_analyses bytes set budget evidence accepted verdict range (Ok m) is =
+    subst (Analyses budget bytes) (sym is) (record { set = set; accepted = accepted; answer = answer_is set budget evidence accepted.reads.limits verdict range })
+done_analyses bytes set budget evidence accepted verdict range (Err e) is = tt
+
+-- The answer of a spent budget.
+pub undecided_is : (set : Contents) (budget : ℕ) (spent : FixedTrail) → IsTaskSet set.version set.tasks → IsUndecided set budget spent
+    → IsSpAnswer set budget 3 (text (under_fixed set Undecided)) (trail_of spent)
+undecided_is set budget spent limits cause = inr (inr (refl, record { spent = spent; cause = cause; trail_is = refl; is = record { stated = (limits, tt); is = refl } }))
+
+answer_low : (set : Contents) (budget status : ℕ) (written : List ℕ) (trail : Trail) → IsSpAnswer set budget status written trail → status < 4
+answer_low set budget status written trail (inl a) = omega (arith, a.0)
+answer_low set budget status written trail (inr (inl a)) = omega (arith, a.0)
+answer_low set budget status written trail (inr (inr a)) = omega (arith, a.0)
+
+module _ (law : TextsReadAsOneSet) (suffice : BudgetsSuffice) (b : ℕ) where
+  answer_ends : (set : Contents) → IsTaskSet set.version set.tasks → (status : ℕ) (written : List ℕ) (trail : Trail) → IsSpAnswer set b status written trail → SpEnds set b status
+  answer_ends set limits status written trail (inl a) = λ enough. inl (a.0, a.1.yes.schedulable)
+  answer_ends set limits status written trail (inr (inl a)) = λ enough. inr (a.0, a.1.no.not_schedulable)
+  answer_ends set limits status written trail (inr (inr a)) = λ enough. absurd (suffice set b a.1.spent limits a.1.cause enough)
+
+  pub sp_lawful : AreLawful (sp_rules b)
+  sp_lawful = record {
+    low = λ bytes m d. answer_low d.set b m.status m.text m.trail d.answer;
+    apart = λ bytes m f d h. accepted_well law bytes d.set f d.accepted h;
+    one_fault = λ bytes f g h k. fault_one law bytes f g h k;
+    longer = λ bytes f h. long_file bytes f h;
+    made_ends = λ bytes m d set a.
+        answer_ends set a.reads.limits m.status m.text m.trail (subst (λ s. IsSpAnswer s b m.status m.text m.trail) (accepted_one law bytes d.set set d.accepted a) d.answer);
+    refused_ends = λ bytes f h set a. absurd (accepted_well law bytes set f a h);
+  }

@@ -1,0 +1,72 @@
+-- `sp`: what it writes, what it refuses, and with which status it ends.
+use Rattle.std.specs.Prelude.{◌≡◌, ℕ, ◌⊎◌, List}
+use Rattle.drt_model.specs.Contents.{Contents}
+use Rattle.drt_model.specs.declared.jobs.Policy.TheVariants.{Fixed}
+use Rattle.drt_model.specs.declared.jobs.Release.{Release}
+use Rattle.drt_model.specs.declared.jobs.Miss.{Miss}
+use Rattle.drt_model.specs.Schedulable.{Schedulable}
+use Rattle.drt_evidence.specs.Reading.{IsTextOf}
+use Rattle.drt_evidence.specs.declared.evidence.Evidence.TheVariants.{FixedYes, FixedNo, Undecided}
+use Rattle.drt_evidence.specs.declared.evidence.ProofClaim.{ProofClaim}
+use Rattle.drt_evidence.specs.declared.evidence.TreeClaim.{TreeClaim}
+use Rattle.drt_outcome.specs.declared.outcome.Trail.{Trail}
+use Rattle.drt_outcome.specs.declared.outcome.Trail.TheVariants as trails
+use Rattle.drt_command.specs.declared.report.Report.{Report}
+use Rattle.drt_command.specs.Rules.{Rules}
+use Rattle.drt_sp.specs.Answers.{IsExactYes, IsMissed, IsUndecided}
+use Rattle.drt_sp.specs.Evidence.{under_fixed}
+use Rattle.drt_sp.specs.Needs.{IsEnough}
+use Rattle.drt_trails.specs.declared.FixedTrail.{FixedTrail}
+use Rattle.drt_trails.specs.declared.FixedTrail.TheVariants.{Table, Refine}
+use Rattle.drt_command_files.specs.TaskFiles.{IsAccepted, IsFileFault, file_input}
+
+-- The text is a yes: the set is schedulable under fixed priorities, and the evidence is accepted.
+pub record IsSpYesText (set : Contents) (written : List ℕ) : Type 0 where
+  pub trees : List TreeClaim
+  pub proofs : List ProofClaim
+  pub yes : IsExactYes set trees proofs
+  pub is : IsTextOf (under_fixed set (FixedYes trees proofs)) written
+
+-- The text is a no: the set isn't schedulable under fixed priorities, the releases written are legal, and the job named misses its
+-- deadline.
+pub record IsSpNoText (set : Contents) (written : List ℕ) : Type 0 where
+  pub releases : List Release
+  pub miss : Miss
+  pub no : IsMissed set releases miss
+  pub is : IsTextOf (under_fixed set (FixedNo releases miss)) written
+
+-- The trail of a spent budget.
+abbrev pub trail_of : FixedTrail → Trail
+trail_of (Table task log) = trails.Table task log
+trail_of (Refine task vertex log) = trails.Refine task vertex log
+
+-- The text is that nothing is decided, and the trail shows that the budget was spent.
+pub record IsSpUndecidedText (set : Contents) (budget : ℕ) (written : List ℕ) (trail : Trail) : Type 0 where
+  pub spent : FixedTrail
+  pub cause : IsUndecided set budget spent
+  pub trail_is : trail ≡ trail_of spent
+  pub is : IsTextOf (under_fixed set Undecided) written
+
+-- `sp`: the bytes are an accepted file, and the text is the dossier of its answer. A yes has the status 0, a no 1 and a spent budget 3; only
+-- the last has a trail.
+pub record Analyses (budget : ℕ) (bytes : List ℕ) (made : Report) : Type 0 where
+  pub set : Contents
+  pub accepted : IsAccepted bytes set
+  pub answer :
+      ((made.status ≡ 0) × IsSpYesText set made.text × (made.trail ≡ trails.Nothing))
+      ⊎ (((made.status ≡ 1) × IsSpNoText set made.text × (made.trail ≡ trails.Nothing))
+      ⊎ ((made.status ≡ 3) × IsSpUndecidedText set budget made.text made.trail))
+
+-- The status of `sp` at an accepted set where nothing fails and the budget is enough for each search: 0 only where the set is schedulable
+-- under fixed priorities, 1 only where it isn't, and one of these.
+abbrev pub SpEnds : Contents → ℕ → ℕ → Type 0
+SpEnds set budget status = IsEnough set.tasks budget → ((status ≡ 0) × Schedulable set.tasks Fixed) ⊎ ((status ≡ 1) × ¬ Schedulable set.tasks Fixed)
+
+-- What is promised of `sp` with this budget.
+abbrev pub sp_rules : ℕ → Rules
+sp_rules budget = record {
+  input = file_input;
+  makes = Analyses budget;
+  refuses = IsFileFault;
+  ends = λ bytes status. (set : Contents) → IsAccepted bytes set → SpEnds set budget status;
+}

@@ -1,0 +1,120 @@
+//! `sp`: the answer under fixed priorities, and its dossier.
+ghost use Rattle.std.specs.Prelude.{◌≡◌, ◌≢◌, ◌≤◌, IfErr, IfOk, map};
+ghost use Rattle.drt_model.specs.Digraph.{digraph_of};
+ghost use Rattle.drt_io.specs.Causes.{Rose};
+ghost use Rattle.drt_command.specs.declared.input.Input.{Input};
+ghost use Rattle.drt_command.specs.Inputs.{IsWithin};
+ghost use Rattle.drt_command.specs.Rules.{IsCause};
+ghost use Rattle.drt_command.specs.Runs.{IsRun};
+ghost use Rattle.drt_command_sp.specs.Sp.{Analyses, sp_rules, trail_of};
+ghost use Rattle.drt_command_files.specs.TaskFiles.{IsAccepted};
+
+use drt_command::{Promised, Report, Unmade, finish, read_input, stop_reading};
+use drt_command_files::{file_input, make_report, read_set};
+use drt_evidence::Evidence;
+use drt_file::laws::texts_read_as_one_set;
+use drt_graph::Graphs;
+use drt_io::{Sink, Source};
+use drt_model::{Policy, TaskSet};
+use drt_outcome::Outcome;
+use drt_outcome::outcome::Trail;
+use drt_pool::Gate;
+use drt_sp::{FixedAnswer, FixedTrail, analyse_fixed, budgets_suffice};
+use drt_words::Search;
+use std::alloc::Global;
+use std::sync::Wait;
+use std::thread::Threads;
+
+/// The command `sp`.
+#[derive(Debug, Drop)]
+pub struct Sp {
+    pub search: Search,
+}
+
+impl Promised for Sp {
+    ghost rules = { λ c. sp_rules c.search.budget };
+
+    fn laws(&self) {
+        texts_read_as_one_set();
+        budgets_suffice();
+    }
+}
+
+/// Runs `sp`: its input is read, workers make its text, and it is written.
+pub fn conduct<S: Source, K: Sink, G: Gate, R: Threads + Wait + Sync>(
+    rt: &R,
+    alloc: Global,
+    command: &Sp,
+    source: &mut S,
+    sink: &mut K,
+    gate: &G,
+) -> Outcome
+    ensures run { IsRun (sp_rules command.now.search.budget) (S.left source.old) (Rose (S.faults source.old) (S.faults source.new)) (Rose (K.faults sink.old) (K.faults sink.new)) (K.held sink.old) (K.held sink.new) result }
+    ensures unwritten { 4 ≤ result.status → result.status ≢ 7 → sink.new ≡ sink.old }
+    ensures unread { (sp_rules command.now.search.budget).input ≡ Input.Nothing → source.new ≡ source.old }
+{
+    match read_input(alloc, file_input(), source) {
+        Ok(bytes) => {
+            let made = make(rt, alloc, command, bytes.as_slice(), gate);
+            finish(command, bytes.as_slice(), made, sink)
+        }
+        Err(stop) => stop_reading(command, stop),
+    }
+}
+
+// What it makes of its input.
+fn make<G: Gate, R: Threads + Wait + Sync>(
+    rt: &R,
+    alloc: Global,
+    command: &Sp,
+    bytes: &[u8],
+    gate: &G,
+) -> Result<Report, Unmade>
+    requires { IsWithin (sp_rules command.now.search.budget).input bytes.now }
+    ensures makes { IfOk result ((sp_rules command.now.search.budget).makes bytes.now) }
+    ensures unmade { IfErr result (IsCause (sp_rules command.now.search.budget).refuses bytes.now) }
+{
+    let (set, graphs) = read_set(alloc, bytes)?;
+    analyse(rt, alloc, bytes, set, &graphs, &command.search, gate)
+}
+
+// The answer to an accepted set, by so many workers and with a budget of steps for each search.
+fn analyse<G: Gate, R: Threads + Wait + Sync>(
+    rt: &R,
+    alloc: Global,
+    bytes: &[u8],
+    set: TaskSet,
+    graphs: &Graphs,
+    search: &Search,
+    gate: &G,
+) -> Result<Report, Unmade>
+    requires accepted { IsAccepted bytes.now set }
+    requires graphs { graphs.now ≡ map digraph_of set.tasks }
+    ensures analyses { IfOk result (Analyses search.now.budget bytes.now) }
+    ensures unmade { IfErr result (λ e. e ≡ Unmade.Memory) }
+{
+    let budget = u64::from(search.budget());
+    match analyse_fixed(rt, alloc, &set, graphs, search.workers(), budget, gate) {
+        Ok(FixedAnswer::Done(evidence)) => {
+            make_report(alloc, Policy::Fixed, set, evidence, Trail::Nothing)
+        }
+        Ok(FixedAnswer::Undecided(trail)) => make_report(
+            alloc,
+            Policy::Fixed,
+            set,
+            Evidence::Undecided,
+            make_trail(trail),
+        ),
+        Err(_) => Err(Unmade::Memory),
+    }
+}
+
+/// The trail of a spent budget.
+pub fn make_trail(trail: FixedTrail) -> Trail
+    ensures { result ≡ trail_of trail }
+{
+    match trail {
+        FixedTrail::Table { task, log } => Trail::Table { task, log },
+        FixedTrail::Refine { task, vertex, log } => Trail::Refine { task, vertex, log },
+    }
+}

@@ -1,0 +1,2 @@
+pub mod UtilLemmas
+pub mod UtilPromises

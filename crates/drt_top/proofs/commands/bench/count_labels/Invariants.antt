@@ -1,6 +1,0 @@
--- The counts so far are those of the fronts so far.
-use Rattle.std.proofs.Common.{◌≡◌, length, map, take}
-use Rattle.drt_top.proofs.commands.bench.count_labels.Given as goal
-
-abbrev pub invariant-fronts : goal.invariant-fronts
-invariant-fronts l = l.kept.items ≡ map length (take l.i l.fronts)

@@ -1,6 +1,0 @@
--- What is promised of `upgrade` agrees.
-use Rattle.drt_top.proofs.UpgradePromises.{upgrade_lawful}
-use Rattle.drt_top.proofs.commands.upgrade.UpgradeCommand.laws.Goals as goal
-
-pub returns : goal.returns
-returns c = upgrade_lawful c.texts_read_as_one_set.ensures

@@ -1,6 +1,0 @@
--- What is promised of `util` agrees.
-use Rattle.drt_top.proofs.UtilPromises.{util_lawful}
-use Rattle.drt_top.proofs.commands.util.UtilCommand.laws.Goals as goal
-
-pub returns : goal.returns
-returns c = util_lawful c.texts_read_as_one_set.ensures

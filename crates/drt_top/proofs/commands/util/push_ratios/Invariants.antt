@@ -1,9 +1,0 @@
--- What is written and what is left of the lines are the whole.
-use Rattle.std.proofs.Common.{◌≡◌, ◌++◌, drop}
-use Rattle.drt_file.specs.trusted.Canonical.{written}
-use Rattle.drt_ratio.specs.SetRatios.{fractions_of}
-use Rattle.drt_top.specs.commands.Util.{ratio_lines}
-use Rattle.drt_top.proofs.commands.util.push_ratios.Given as goal
-
-abbrev pub invariant-tasks : goal.invariant-tasks
-invariant-tasks l = l.text.items ++ written (ratio_lines (drop l.i l.tasks) (fractions_of (drop l.i l.proofs))) ≡ l.initial.text.items ++ written (ratio_lines l.tasks (fractions_of l.proofs))
