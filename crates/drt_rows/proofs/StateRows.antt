@@ -34,11 +34,11 @@ abbrev tail : TailClaim
 tail =
     record {
       curves =
-        (jump 0 1 ∷ jump 2 4 ∷ jump 5 5 ∷ [])
-        ∷ (jump 0 3 ∷ [])
-        ∷ (jump 0 1 ∷ jump 3 4 ∷ [])
-        ∷ (jump 0 3 ∷ [])
-        ∷ [];
+          (jump 0 1 ∷ jump 2 4 ∷ jump 5 5 ∷ [])
+          ∷ (jump 0 3 ∷ [])
+          ∷ (jump 0 1 ∷ jump 3 4 ∷ [])
+          ∷ (jump 0 3 ∷ [])
+          ∷ [];
     }
 
 abbrev times : List ℕ
