@@ -98,7 +98,7 @@ fn is_kept(
     cycle: &[u32],
     potentials: &[i64],
 ) -> Result<bool, Fail> {
-    let graphs = graphs(alloc, (&[(2, 1)], &[(0, 0, 5)]))?;
+    let graphs = graphs(alloc, &[(&[(2, 1)], &[(0, 0, 5)])])?;
     if graphs.count() != 1 {
         return Err("one task".into());
     }
