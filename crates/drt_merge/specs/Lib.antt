@@ -1,0 +1,5 @@
+pub mod Marks
+pub mod Arcs
+pub mod Offers
+pub mod Merging
+pub mod Gathered

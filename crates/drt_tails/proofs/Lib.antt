@@ -1,0 +1,4 @@
+pub mod TurnedEdges
+pub mod Reversed
+pub mod Curves
+pub mod TailFronts

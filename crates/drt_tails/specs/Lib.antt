@@ -1,0 +1,3 @@
+pub mod Attained
+pub mod Turned
+pub mod Cut
