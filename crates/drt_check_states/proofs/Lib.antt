@@ -1,2 +1,6 @@
-pub mod Values
+pub mod Cuts
 pub mod Items
+pub mod Moves
+pub mod Splits
+pub mod Values
+pub mod Zips
