@@ -1,4 +1,4 @@
-use Rattle.std.proofs.Common.{◌<◌, arith, refl}
+use Rattle.std.proofs.Common.{arith, refl}
 use Rattle.drt_states.specs.States.{IsEntryAbove}
 use Rattle.drt_check_states.proofs.Zips.{zip_all}
 use Rattle.drt_check_states.proofs.children.are_above.Goals as goal

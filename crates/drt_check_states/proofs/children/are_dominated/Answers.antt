@@ -1,4 +1,4 @@
-use Rattle.std.proofs.Common.{◌≡◌, ◌+◌, ◌<◌, List, All, length, get_or, arith, refl, subst, sym}
+use Rattle.std.proofs.Common.{◌≡◌, ◌+◌, ◌<◌, List, All, get_or, arith, refl, subst, sym}
 use Rattle.std.specs.Prelude.{Some, None}
 use Rattle.drt_model.specs.Digraph.{vertex_count}
 use Rattle.drt_states.specs.States.{entry_at}

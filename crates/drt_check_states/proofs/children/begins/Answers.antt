@@ -1,4 +1,4 @@
-use Rattle.std.proofs.Common.{◌≡◌, ℕ, ◌<◌, get_or, length, arith, refl, subst, sym}
+use Rattle.std.proofs.Common.{ℕ, get_or, arith, refl, subst, sym}
 use Rattle.std.proofs.lemmas.List.FromFn.{length-map-range_with_len}
 use Rattle.drt_model.specs.Digraph.{vertex_count}
 use Rattle.drt_states.specs.States.{Child, NamesAbove, child_at}

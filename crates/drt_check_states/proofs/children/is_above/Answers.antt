@@ -1,4 +1,4 @@
-use Rattle.std.proofs.Common.{◌≡◌, ◌+◌, ◌-◌, ◌<◌, List, drop, length, take, arith, subst, sym}
+use Rattle.std.proofs.Common.{◌+◌, ◌-◌, ◌<◌, List, drop, length, take, arith, subst, sym}
 use Rattle.std.specs.List.{AllZip}
 use Rattle.drt_states.specs.States.{IsEntryAbove}
 use Rattle.drt_states.specs.declared.claims.StateEntry.{StateEntry}

@@ -1,7 +1,7 @@
-use Rattle.std.proofs.Common.{◌≡◌, ◌+◌, ◌<◌, ◌≤◌, length, get_or, true, false, arith, refl, subst, sym}
+use Rattle.std.proofs.Common.{◌≡◌, ◌+◌, length, get_or, true, false, arith, subst, sym}
 use Rattle.std.specs.Prelude.{nat_lt}
 use Rattle.std.proofs.lemmas.Bool.{eqb-true, le-ltb, lt-ltb}
-use Rattle.drt_model.specs.Digraph.{no_edge, out_edges, vertex_of}
+use Rattle.drt_model.specs.Digraph.{no_edge, out_edges}
 use Rattle.drt_model.specs.declared.tasks.Vertex.{Vertex}
 use Rattle.drt_states.specs.States.{NamesAbove, child_at}
 use Rattle.drt_check_states.proofs.Cuts.{equal}

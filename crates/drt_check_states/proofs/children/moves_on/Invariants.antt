@@ -1,5 +1,5 @@
 -- The edges so far stand against the numbers so far.
-use Rattle.std.proofs.Common.{◌+◌, ◌<◌}
+use Rattle.std.proofs.Common.{◌+◌}
 use Rattle.std.specs.Prelude.{nat_lt}
 use Rattle.drt_model.specs.Digraph.{out_edges}
 use Rattle.drt_model.specs.Walk.{wcet}
