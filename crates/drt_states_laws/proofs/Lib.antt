@@ -1,0 +1,10 @@
+pub mod Curves
+pub mod Requests
+pub mod Bound
+pub mod Futures
+pub mod Entries
+pub mod Children
+pub mod Passes
+pub mod Moves
+pub mod Descent
+pub mod Rows
