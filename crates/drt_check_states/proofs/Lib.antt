@@ -1,2 +1,7 @@
-pub mod Values
+pub mod Cuts
 pub mod Items
+pub mod Moves
+pub mod Splits
+pub mod Sums
+pub mod Values
+pub mod Zips

@@ -1,11 +1,12 @@
 -- The value of a rising function, by how many of its jumps come before t.
-use Rattle.std.proofs.Common.{◌≡◌, ℕ, zero, suc, ◌+◌, ◌-◌, ◌<◌, ◌≤◌, ◌⊎◌, inl, inr, All, List, [], ◌∷◌, length, get_or, refl, sym, ap, ◌∙◌, arith, subst}
+use Rattle.std.proofs.Common.{◌≡◌, ℕ, zero, suc, ◌+◌, ◌-◌, ◌<◌, ◌≤◌, ◌⊎◌, inl, inr, All, List, [], ◌∷◌, length, get_or, refl, sym, ap, ◌∙◌, arith}
 use Rattle.std.specs.Prelude.{nat_lt}
 use Rattle.std.proofs.lemmas.List.{get_or_default}
 use Rattle.std.proofs.lemmas.Bool.{cases_lt, lt-ltb, le-ltb, cond-true, cond-false}
 use Rattle.drt_states.specs.Tails.{last_work, value_before}
 use Rattle.drt_states.specs.declared.claims.Jump.{Jump}
 use Rattle.drt_check_states.specs.Curves.{IsOver, IsRising}
+use Rattle.drt_check_states.proofs.Items.{ascending_to}
 
 -- The jumps before the first number come before t, and those from the second one on don't.
 pub record IsCut (jumps : List Jump) (t from to : ℕ) : Type 0 where
@@ -48,18 +49,9 @@ value_last jumps t from to d is some l =
     let f : work_of 0 jumps (suc (from - 1)) ≡ (get_or jumps (from - 1) d).work = work_of-last 0 jumps (from - 1) d m in
     sym (cut 0 jumps t (suc (from - 1)) (omega arith) (λ i b h. is.before i b (omega arith)) (λ i b h k. is.after i b (omega arith) k) ∙ f)
 
--- Jumps rise from each to all after it.
-pub rising_to : (jumps : List Jump) → IsRising jumps → (i k : ℕ) (d : Jump) → i + k < length jumps → (get_or jumps i d).offset ≤ (get_or jumps (i + k) d).offset
-rising_to jumps is i zero d l = ap-le (omega arith)
-  where
-    ap-le : i ≡ i + 0 → (get_or jumps i d).offset ≤ (get_or jumps (i + 0) d).offset
-    ap-le e = subst (λ n. (get_or jumps i d).offset ≤ (get_or jumps n d).offset) e (omega arith)
-rising_to jumps is i (suc k) d l =
-    let e : i + k + 1 ≡ i + suc k = omega arith in
-    let step : (get_or jumps (i + k) d).offset < (get_or jumps (i + k + 1) d).offset = (is (i + k) d (omega arith)).0 in
-    let step' : (get_or jumps (i + k) d).offset < (get_or jumps (i + suc k) d).offset = subst (λ n. (get_or jumps (i + k) d).offset < (get_or jumps n d).offset) e step in
-    let so_far = rising_to jumps is i k d (omega arith) in
-    omega (arith, so_far, step')
+-- The offsets rise from each to all after it.
+pub rising_to : (jumps : List Jump) → IsRising jumps → (i k : ℕ) (d : Jump) → i ≤ k → k < length jumps → (get_or jumps i d).offset ≤ (get_or jumps k d).offset
+rising_to jumps is i k d l m = ascending_to (λ (j : Jump). j.offset) jumps (λ n e h. (is n e h).0) i k d l m
 
 -- Where a jump in between comes before t, so do those before it; where it doesn't, neither do those after it.
 pub cut_up : (jumps : List Jump) (t from to middle : ℕ) (d : Jump) → IsRising jumps → IsCut jumps t from to → middle < to → (get_or jumps middle d).offset < t
@@ -68,9 +60,7 @@ cut_up jumps t from to middle d is c m below = record {
   ordered = omega arith;
   within = c.within;
   before = λ i b h.
-      let e : i + (middle - i) ≡ middle = omega arith in
-      let f : (get_or jumps i b).offset ≤ (get_or jumps (i + (middle - i)) b).offset = rising_to jumps is i (middle - i) b (omega (arith, c.within)) in
-      let g : (get_or jumps i b).offset ≤ (get_or jumps middle b).offset = subst (λ n. (get_or jumps i b).offset ≤ (get_or jumps n b).offset) e f in
+      let g : (get_or jumps i b).offset ≤ (get_or jumps middle b).offset = rising_to jumps is i middle b (omega arith) (omega (arith, c.within)) in
       let same : get_or jumps middle b ≡ get_or jumps middle d = get_or_default jumps middle b d (omega (arith, c.within)) in
       omega (arith, g, ap (λ (j : Jump). j.offset) same, below);
   after = c.after;
@@ -83,9 +73,7 @@ cut_down jumps t from to middle d is c n m past = record {
   within = omega (arith, c.within);
   before = c.before;
   after = λ i b h l.
-      let e : middle + (i - middle) ≡ i = omega arith in
-      let f : (get_or jumps middle b).offset ≤ (get_or jumps (middle + (i - middle)) b).offset = rising_to jumps is middle (i - middle) b (omega arith) in
-      let g : (get_or jumps middle b).offset ≤ (get_or jumps i b).offset = subst (λ n. (get_or jumps middle b).offset ≤ (get_or jumps n b).offset) e f in
+      let g : (get_or jumps middle b).offset ≤ (get_or jumps i b).offset = rising_to jumps is middle i b h l in
       let same : get_or jumps middle b ≡ get_or jumps middle d = get_or_default jumps middle b d (omega arith) in
       omega (arith, g, ap (λ (j : Jump). j.offset) same, past);
 }
@@ -98,8 +86,6 @@ past_all bound wcet sep own other i e is l past so_far k d m = go (cases_lt k i)
     go : (k < i) ⊎ (i ≤ k) → IsOver bound wcet sep own (get_or other k d)
     go (inl q) = so_far k d q
     go (inr q) = λ below.
-        let e1 : i + (k - i) ≡ k = omega arith in
-        let f : (get_or other i d).offset ≤ (get_or other (i + (k - i)) d).offset = rising_to other is i (k - i) d (omega arith) in
-        let g : (get_or other i d).offset ≤ (get_or other k d).offset = subst (λ n. (get_or other i d).offset ≤ (get_or other n d).offset) e1 f in
+        let g : (get_or other i d).offset ≤ (get_or other k d).offset = rising_to other is i k d q m in
         let same : get_or other i d ≡ get_or other i e = get_or_default other i d e l in
         absurd (omega (arith, g, ap (λ (j : Jump). j.offset) same, past, below))

@@ -15,6 +15,10 @@ IsRise a b = (a.offset < b.offset) × (a.work < b.work)
 abbrev pub IsRising : List Jump → Type 0
 IsRising jumps = AllNeighbours IsRise jumps
 
+-- The functions of the tail rise.
+abbrev pub HasRisingCurves : TailClaim → Type 0
+HasRisingCurves tail = All IsRising tail.curves
+
 -- The function of u begins with the execution time of u or more.
 abbrev pub IsOpened : Digraph → TailClaim → ℕ → Type 0
 IsOpened g tail u = wcet g u ≤ (slice_index_or (curve_of tail u) 0 no_jump).work

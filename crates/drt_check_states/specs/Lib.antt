@@ -1,2 +1,3 @@
+pub mod Children
 pub mod Curves
 pub mod Places

@@ -16,3 +16,7 @@ graphs_at graphs order = map (λ k. graph_of graphs k) order
 -- The places of the entries ascend.
 abbrev pub AreInOrder : List StateEntry → Type 0
 AreInOrder entries = AllNeighbours (λ a b. a.place < b.place) entries
+
+-- What stands for an entry past the last one.
+abbrev pub no_entry : StateEntry
+no_entry = record { place = 0; vertex = 0; offset = 0 }
