@@ -74,7 +74,8 @@ added g deadline graphs pool longer made m p chosen functions walks = record {
   each = rw walks (walks_more graphs pool.walks.items g made.walk.items p.each is_walk);
   chosen = rw (chosen, functions) (chosen_more deadline pool.functions.items made.label.values pool.chosen.items long p.chosen);
   sums = λ t from to.
-      let a : sum_at (pool.functions.items ++ made.label.values ∷ []) (pool.chosen.items ++ length pool.functions.items ∷ []) t ≡ sum_at pool.functions.items pool.chosen.items t + value_at made.label.values t
+      let a : sum_at (pool.functions.items ++ made.label.values ∷ []) (pool.chosen.items ++ length pool.functions.items ∷ []) t
+      ≡ sum_at pool.functions.items pool.chosen.items t + value_at made.label.values t
       = sum_more deadline pool.functions.items made.label.values pool.chosen.items t p.chosen in
       let b : asked_together (graphs ++ g ∷ []) (pool.walks.items ++ made.walk.items ∷ []) t ≡ asked_together graphs pool.walks.items t + request_of g made.walk.items t
       = asked_more graphs pool.walks.items g made.walk.items t p.each in
