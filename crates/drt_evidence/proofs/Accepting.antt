@@ -15,10 +15,11 @@ use Rattle.drt_evidence.specs.Claims.{HaveTightCycles, IsFine, HaveUtilisationBe
 use Rattle.drt_evidence.specs.Fronts.{IsOrdered, HasOpenings, IsClosedFront, HaveRoom}
 use Rattle.drt_evidence.specs.Proofs.{IsProofPerVertex, HasShape, HasPassingTimes}
 use Rattle.drt_evidence.specs.Rules.{Accepts, Applies, Keeps}
+use Rattle.drt_evidence.specs.Searches.{HasDominatedChildren, HasPassingStates, HasStatesOver, IsSearchPerVertex, places_of}
 use Rattle.drt_evidence.specs.Statement.{Statement}
 use Rattle.drt_evidence.specs.Trees.{CoversWalks, HasShortWalks, IsTree, IsTreePerHigherTask, greatest_deadline, tree_graphs}
 use Rattle.drt_evidence.specs.declared.evidence.Evidence.{Evidence}
-use Rattle.drt_evidence.specs.declared.evidence.Evidence.TheVariants.{EdfYes, EdfNo, UtilisationOne, FixedYes, FixedNo}
+use Rattle.drt_evidence.specs.declared.evidence.Evidence.TheVariants.{EdfYes, EdfNo, UtilisationOne, FixedYes, FixedStates, FixedNo}
 use Rattle.drt_model.specs.declared.front.FrontEntry.{FrontEntry}
 use Rattle.drt_evidence.specs.declared.evidence.ProofClaim.{ProofClaim}
 use Rattle.drt_evidence.specs.declared.evidence.RatioClaim.{RatioClaim}
@@ -28,6 +29,10 @@ use Rattle.drt_evidence.specs.declared.rule.Rule.TheVariants.{ConstrainedDeadlin
 use Rattle.drt_evidence.specs.declared.rule.Rule.TheVariants.{ClosedCycles, TightCycles, FineScale, ClaimedUtilisation, NearHorizon, OrderedFronts}
 use Rattle.drt_evidence.specs.declared.rule.Rule.TheVariants.{CoveredOpenings, CoveredExtensions, Room, LegalReleases, LeastMiss}
 use Rattle.drt_evidence.specs.declared.rule.Rule.TheVariants.{TreePerHigherTask, ShortWalks, CoveredWalks, TreeShapes, ProofPerVertex, ProofShapes, PassingTimes}
+use Rattle.drt_evidence.specs.declared.rule.Rule.TheVariants.{RisingTails, BoundingTails, SearchPerVertex, SearchStates, PassingStates, DominatedChildren}
+use Rattle.drt_states.specs.Tails.{BoundsWalks, EachTail, IsTail}
+use Rattle.drt_states.specs.declared.claims.SearchClaim.{SearchClaim}
+use Rattle.drt_states.specs.declared.claims.TailClaim.{TailClaim}
 
 -- A set under a policy with this evidence.
 abbrev pub statement : Policy → Contents → Evidence → Statement
@@ -77,6 +82,15 @@ pub record IsFixedYes (tasks : List Task) (trees : List TreeClaim) (proofs : Lis
   pub per_vertex : IsProofPerVertex tasks proofs
   pub shapes : All (HasShape tasks trees) proofs
   pub times : All (HasPassingTimes tasks (tree_graphs tasks trees) trees) proofs
+
+-- What the rules from 25 on ask of a yes by tails and states.
+pub record IsFixedStates (tasks : List Task) (tails : List TailClaim) (searches : List SearchClaim) : Type 0 where
+  pub rising : EachTail IsTail (places_of tasks) tails
+  pub bounding : EachTail BoundsWalks (places_of tasks) tails
+  pub per_vertex : IsSearchPerVertex tasks searches
+  pub states : All (HasStatesOver tasks) searches
+  pub passing : All (HasPassingStates tasks tails) searches
+  pub children : All (HasDominatedChildren tasks) searches
 
 -- What they ask of a no.
 pub record IsRefutation (policy : Policy) (tasks : List Task) (releases : List Release) (miss : Miss) : Type 0 where
@@ -157,4 +171,19 @@ fixed_yes_accepted set trees proofs constrained is = record { claims = λ e. abs
     keeps ProofPerVertex a = is.per_vertex
     keeps ProofShapes a = is.shapes
     keeps PassingTimes a = is.times
+    keeps other a = absurd a
+
+pub fixed_states_accepted : (set : Contents) (tails : List TailClaim) (searches : List SearchClaim) → AreConstrained set.tasks → IsFixedStates set.tasks tails searches
+    → Accepts (statement Fixed set (FixedStates tails searches))
+fixed_states_accepted set tails searches constrained is = record { claims = λ e. absurd (cc); keeps = keeps }
+  where
+    keeps : (rule : Rule) → Applies rule (FixedStates tails searches) → Keeps rule (statement Fixed set (FixedStates tails searches))
+    keeps ConstrainedDeadlines a = constrained
+    keeps KindOfPolicy a = refl
+    keeps RisingTails a = is.rising
+    keeps BoundingTails a = is.bounding
+    keeps SearchPerVertex a = is.per_vertex
+    keeps SearchStates a = is.states
+    keeps PassingStates a = is.passing
+    keeps DominatedChildren a = is.children
     keeps other a = absurd a

@@ -5,11 +5,13 @@ use Rattle.drt_model.specs.declared.jobs.Policy.{Policy}
 use Rattle.drt_model.specs.declared.jobs.Policy.TheVariants.{Edf, Fixed}
 use Rattle.drt_model.specs.declared.jobs.Release.{Release}
 use Rattle.drt_evidence.specs.declared.evidence.Evidence.{Evidence}
-use Rattle.drt_evidence.specs.declared.evidence.Evidence.TheVariants.{EdfYes, EdfNo, UtilisationOne, FixedYes, FixedNo, Undecided}
+use Rattle.drt_evidence.specs.declared.evidence.Evidence.TheVariants.{EdfYes, EdfNo, UtilisationOne, FixedYes, FixedStates, FixedNo, Undecided}
 use Rattle.drt_model.specs.declared.front.FrontEntry.{FrontEntry}
 use Rattle.drt_evidence.specs.declared.evidence.ProofClaim.{ProofClaim}
 use Rattle.drt_evidence.specs.declared.evidence.RatioClaim.{RatioClaim}
 use Rattle.drt_evidence.specs.declared.evidence.TreeClaim.{TreeClaim}
+use Rattle.drt_states.specs.declared.claims.SearchClaim.{SearchClaim}
+use Rattle.drt_states.specs.declared.claims.TailClaim.{TailClaim}
 
 -- The kind of the evidence is one of the policy's.
 abbrev pub IsOfPolicy : Policy → Evidence → Type 0
@@ -17,6 +19,7 @@ IsOfPolicy policy (EdfYes ratios fronts) = policy ≡ Edf
 IsOfPolicy policy (EdfNo releases miss) = policy ≡ Edf
 IsOfPolicy policy (UtilisationOne ratios) = policy ≡ Edf
 IsOfPolicy policy (FixedYes trees proofs) = policy ≡ Fixed
+IsOfPolicy policy (FixedStates tails searches) = policy ≡ Fixed
 IsOfPolicy policy (FixedNo releases miss) = policy ≡ Fixed
 IsOfPolicy policy Undecided = Unit {0}
 
@@ -41,6 +44,11 @@ HasReleases other = ⊥
 abbrev pub HasTrees : Evidence → Type 0
 HasTrees (FixedYes trees proofs) = Unit {0}
 HasTrees other = ⊥
+
+-- The evidence has states: it is a yes of fixed priorities by tails and states.
+abbrev pub HasStates : Evidence → Type 0
+HasStates (FixedStates tails searches) = Unit {0}
+HasStates other = ⊥
 
 -- The ratios of evidence that has some.
 abbrev pub ratios_of : Evidence → List RatioClaim
@@ -74,3 +82,13 @@ trees_of other = []
 abbrev pub proofs_of : Evidence → List ProofClaim
 proofs_of (FixedYes trees proofs) = proofs
 proofs_of other = []
+
+-- The tails of evidence that has some.
+abbrev pub tails_of : Evidence → List TailClaim
+tails_of (FixedStates tails searches) = tails
+tails_of other = []
+
+-- The searches of evidence that has tails.
+abbrev pub searches_of : Evidence → List SearchClaim
+searches_of (FixedStates tails searches) = searches
+searches_of other = []

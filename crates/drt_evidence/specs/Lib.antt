@@ -7,6 +7,7 @@ pub mod Fronts
 pub mod Kinds
 pub mod Trees
 pub mod Proofs
+pub mod Searches
 pub mod Rules
 pub mod Rates
 pub mod Reading

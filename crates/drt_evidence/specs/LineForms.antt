@@ -83,6 +83,7 @@ kind_keyword kinds.EdfYes = codes "edf-yes"
 kind_keyword kinds.EdfNo = codes "edf-no"
 kind_keyword kinds.UtilisationOne = codes "utilisation-one"
 kind_keyword kinds.FixedYes = codes "fixed-yes"
+kind_keyword kinds.FixedStates = codes "fixed-states"
 kind_keyword kinds.FixedNo = codes "fixed-no"
 kind_keyword kinds.Undecided = codes "undecided"
 
@@ -96,6 +97,7 @@ kind_of (evidence.EdfYes ratios fronts) = kinds.EdfYes
 kind_of (evidence.EdfNo releases miss) = kinds.EdfNo
 kind_of (evidence.UtilisationOne ratios) = kinds.UtilisationOne
 kind_of (evidence.FixedYes trees proofs) = kinds.FixedYes
+kind_of (evidence.FixedStates tails searches) = kinds.FixedStates
 kind_of (evidence.FixedNo releases miss) = kinds.FixedNo
 kind_of evidence.Undecided = kinds.Undecided
 

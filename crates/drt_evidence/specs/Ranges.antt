@@ -3,7 +3,7 @@ use Rattle.std.specs.Prelude.{ℕ, ◌≤◌, ℤ, pos, negsuc, ◌≤ℤ◌, Li
 use Rattle.drt_model.specs.declared.jobs.Release.{Release}
 use Rattle.drt_model.specs.declared.jobs.Miss.{Miss}
 use Rattle.drt_evidence.specs.declared.evidence.Evidence.{Evidence}
-use Rattle.drt_evidence.specs.declared.evidence.Evidence.TheVariants.{EdfYes, EdfNo, UtilisationOne, FixedYes, FixedNo, Undecided}
+use Rattle.drt_evidence.specs.declared.evidence.Evidence.TheVariants.{EdfYes, EdfNo, UtilisationOne, FixedYes, FixedStates, FixedNo, Undecided}
 use Rattle.drt_model.specs.declared.front.FrontEntry.{FrontEntry}
 use Rattle.drt_evidence.specs.declared.evidence.Item.{Item}
 use Rattle.drt_evidence.specs.declared.evidence.Item.TheVariants.{Pass, Split}
@@ -11,6 +11,13 @@ use Rattle.drt_evidence.specs.declared.evidence.Pair.{Pair}
 use Rattle.drt_evidence.specs.declared.evidence.ProofClaim.{ProofClaim}
 use Rattle.drt_evidence.specs.declared.evidence.RatioClaim.{RatioClaim}
 use Rattle.drt_evidence.specs.declared.evidence.TreeClaim.{TreeClaim}
+use Rattle.drt_states.specs.declared.claims.Jump.{Jump}
+use Rattle.drt_states.specs.declared.claims.SearchClaim.{SearchClaim}
+use Rattle.drt_states.specs.declared.claims.StateClaim.{StateClaim}
+use Rattle.drt_states.specs.declared.claims.StateEnd.{StateEnd}
+use Rattle.drt_states.specs.declared.claims.StateEnd.TheVariants.{Passes, Splits}
+use Rattle.drt_states.specs.declared.claims.StateEntry.{StateEntry}
+use Rattle.drt_states.specs.declared.claims.TailClaim.{TailClaim}
 
 -- A number of a vertex, a task, a job or a place, or a count, is at most 4,294,967,295.
 abbrev pub IsNumber : ℕ → Type 0
@@ -95,11 +102,53 @@ pub record IsInRangeProof (p : ProofClaim) : Type 0 where
   pub items : All IsInRangeItem p.items
   pub counted : IsCounted p.items
 
+-- A work of a jump or of a state is at most 2·10^18 ticks.
+abbrev pub IsWork : ℕ → Type 0
+IsWork w = w ≤ 2000000000000000000
+
+-- A jump has an offset and a work.
+abbrev pub IsInRangeJump : Jump → Type 0
+IsInRangeJump j = IsTick j.offset × IsWork j.work
+
+-- Jumps are counted.
+abbrev pub IsInRangeCurve : List Jump → Type 0
+IsInRangeCurve jumps = All IsInRangeJump jumps × IsCounted jumps
+
+-- A tail has lists of jumps, and they are counted.
+abbrev pub IsInRangeTail : TailClaim → Type 0
+IsInRangeTail t = All IsInRangeCurve t.curves × IsCounted t.curves
+
+-- An entry of a state has numbers of a place and a vertex, and an offset.
+pub record IsInRangeStateEntry (e : StateEntry) : Type 0 where
+  pub place : IsNumber e.place
+  pub vertex : IsNumber e.vertex
+  pub offset : IsTick e.offset
+
+-- A state ends with a time, or with the numbers of a place and of states. How many these are isn't said.
+abbrev pub IsInRangeEnd : StateEnd → Type 0
+IsInRangeEnd (Passes t) = IsTick t
+IsInRangeEnd (Splits place children) = IsNumber place × All IsNumber children
+
+-- A state has entries, which are counted, a work, and an end.
+pub record IsInRangeState (s : StateClaim) : Type 0 where
+  pub entries : All IsInRangeStateEntry s.entries
+  pub counted : IsCounted s.entries
+  pub work : IsWork s.work
+  pub end : IsInRangeEnd s.end
+
+-- A search has numbers of a task and a vertex, and its states are counted.
+pub record IsInRangeSearch (s : SearchClaim) : Type 0 where
+  pub task : IsNumber s.task
+  pub vertex : IsNumber s.vertex
+  pub states : All IsInRangeState s.states
+  pub counted : IsCounted s.states
+
 -- The numbers of each kind of evidence are in range.
 abbrev pub IsInRange : Evidence → Type 0
 IsInRange (EdfYes ratios fronts) = (All IsInRangeRatio ratios × IsCounted ratios) × (All IsInRangeFront fronts × IsCounted fronts)
 IsInRange (EdfNo releases miss) = AreInRangeReleases releases miss
 IsInRange (UtilisationOne ratios) = All IsInRangeRatio ratios × IsCounted ratios
 IsInRange (FixedYes trees proofs) = (All IsInRangeTree trees × IsCounted trees) × (All IsInRangeProof proofs × IsCounted proofs)
+IsInRange (FixedStates tails searches) = (All IsInRangeTail tails × IsCounted tails) × (All IsInRangeSearch searches × IsCounted searches)
 IsInRange (FixedNo releases miss) = AreInRangeReleases releases miss
 IsInRange Undecided = Unit {0}

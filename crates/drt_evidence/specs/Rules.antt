@@ -8,8 +8,10 @@ use Rattle.drt_model.specs.Schedulable.{jobs_of}
 use Rattle.drt_evidence.specs.Claims.{graphs_of, Each, IsClaimPerTask, AreLowest, HavePotentials, HaveFittingPotentials, HaveClosedCycles}
 use Rattle.drt_evidence.specs.Claims.{HaveTightCycles, IsFine, HaveUtilisationBelowOne, HaveUtilisationOne, IsHorizon}
 use Rattle.drt_evidence.specs.Fronts.{IsOrdered, HasOpenings, IsClosedFront, HaveRoom}
-use Rattle.drt_evidence.specs.Kinds.{IsOfPolicy, HasRatios, HasFronts, HasReleases, HasTrees, ratios_of, fronts_of, releases_of, miss_of, trees_of, proofs_of}
+use Rattle.drt_evidence.specs.Kinds.{IsOfPolicy, HasRatios, HasFronts, HasReleases, HasStates, HasTrees, ratios_of, fronts_of, releases_of, miss_of, trees_of, proofs_of}
+use Rattle.drt_evidence.specs.Kinds.{tails_of, searches_of}
 use Rattle.drt_evidence.specs.Proofs.{IsProofPerVertex, HasShape, HasPassingTimes}
+use Rattle.drt_evidence.specs.Searches.{HasDominatedChildren, HasPassingStates, HasStatesOver, IsSearchPerVertex, places_of}
 use Rattle.drt_evidence.specs.Statement.{Statement}
 use Rattle.drt_evidence.specs.Trees.{CoversWalks, HasShortWalks, IsTree, IsTreePerHigherTask, greatest_deadline, tree_graphs}
 use Rattle.drt_evidence.specs.declared.evidence.Evidence.{Evidence}
@@ -19,6 +21,8 @@ use Rattle.drt_evidence.specs.declared.rule.Rule.{Rule}
 use Rattle.drt_evidence.specs.declared.rule.Rule.TheVariants.{ConstrainedDeadlines, KindOfPolicy, RatioPerTask, LowestTerms, PotentialPerVertex, FittingPotentials}
 use Rattle.drt_evidence.specs.declared.rule.Rule.TheVariants.{ClosedCycles, TightCycles, FineScale, ClaimedUtilisation, NearHorizon, OrderedFronts, CoveredOpenings, CoveredExtensions, Room}
 use Rattle.drt_evidence.specs.declared.rule.Rule.TheVariants.{TreePerHigherTask, ShortWalks, CoveredWalks, TreeShapes, ProofPerVertex, ProofShapes, PassingTimes, LegalReleases, LeastMiss}
+use Rattle.drt_evidence.specs.declared.rule.Rule.TheVariants.{RisingTails, BoundingTails, SearchPerVertex, SearchStates, PassingStates, DominatedChildren}
+use Rattle.drt_states.specs.Tails.{BoundsWalks, EachTail, IsTail}
 
 -- The number by which a rule is told.
 abbrev pub number_of : Rule → ℕ
@@ -46,6 +50,12 @@ number_of ProofShapes = 21
 number_of PassingTimes = 22
 number_of LegalReleases = 23
 number_of LeastMiss = 24
+number_of RisingTails = 25
+number_of BoundingTails = 26
+number_of SearchPerVertex = 27
+number_of SearchStates = 28
+number_of PassingStates = 29
+number_of DominatedChildren = 30
 
 -- The rule applies to the kind of the evidence.
 abbrev pub Applies : Rule → Evidence → Type 0
@@ -73,6 +83,12 @@ Applies ProofShapes e = HasTrees e
 Applies PassingTimes e = HasTrees e
 Applies LegalReleases e = HasReleases e
 Applies LeastMiss e = HasReleases e
+Applies RisingTails e = HasStates e
+Applies BoundingTails e = HasStates e
+Applies SearchPerVertex e = HasStates e
+Applies SearchStates e = HasStates e
+Applies PassingStates e = HasStates e
+Applies DominatedChildren e = HasStates e
 
 -- The utilisation of the claimed ratios is below one for a yes, and one for a claim of that.
 abbrev pub HasClaimedUtilisation : Evidence → Type 0
@@ -115,6 +131,12 @@ Keeps ProofShapes s = All (HasShape s.set.tasks (trees_of s.evidence)) (proofs_o
 Keeps PassingTimes s = All (HasPassingTimes s.set.tasks (tree_graphs s.set.tasks (trees_of s.evidence)) (trees_of s.evidence)) (proofs_of s.evidence)
 Keeps LegalReleases s = IsLegal s.set.tasks (releases_of s.evidence)
 Keeps LeastMiss s = IsLeastMiss s.policy (jobs_of s.set.tasks (releases_of s.evidence)) (miss_of s.evidence)
+Keeps RisingTails s = EachTail IsTail (places_of s.set.tasks) (tails_of s.evidence)
+Keeps BoundingTails s = EachTail BoundsWalks (places_of s.set.tasks) (tails_of s.evidence)
+Keeps SearchPerVertex s = IsSearchPerVertex s.set.tasks (searches_of s.evidence)
+Keeps SearchStates s = All (HasStatesOver s.set.tasks) (searches_of s.evidence)
+Keeps PassingStates s = All (HasPassingStates s.set.tasks (tails_of s.evidence)) (searches_of s.evidence)
+Keeps DominatedChildren s = All (HasDominatedChildren s.set.tasks) (searches_of s.evidence)
 
 -- A statement is accepted where something is claimed and each rule that applies is kept.
 pub record Accepts (s : Statement) : Type 0 where

@@ -9,7 +9,7 @@ use Rattle.drt_model.specs.declared.jobs.Miss.{Miss}
 use Rattle.drt_file.specs.trusted.Canonical.{canonical, written}
 use Rattle.drt_evidence.specs.Statement.{Statement}
 use Rattle.drt_evidence.specs.declared.evidence.Evidence.{Evidence}
-use Rattle.drt_evidence.specs.declared.evidence.Evidence.TheVariants.{EdfYes, EdfNo, UtilisationOne, FixedYes, FixedNo, Undecided}
+use Rattle.drt_evidence.specs.declared.evidence.Evidence.TheVariants.{EdfYes, EdfNo, UtilisationOne, FixedYes, FixedStates, FixedNo, Undecided}
 use Rattle.drt_model.specs.declared.front.FrontEntry.{FrontEntry}
 use Rattle.drt_evidence.specs.declared.evidence.Item.{Item}
 use Rattle.drt_evidence.specs.declared.evidence.Item.TheVariants.{Pass, Split}
@@ -17,6 +17,13 @@ use Rattle.drt_evidence.specs.declared.evidence.Pair.{Pair}
 use Rattle.drt_evidence.specs.declared.evidence.ProofClaim.{ProofClaim}
 use Rattle.drt_evidence.specs.declared.evidence.RatioClaim.{RatioClaim}
 use Rattle.drt_evidence.specs.declared.evidence.TreeClaim.{TreeClaim}
+use Rattle.drt_states.specs.declared.claims.Jump.{Jump}
+use Rattle.drt_states.specs.declared.claims.SearchClaim.{SearchClaim}
+use Rattle.drt_states.specs.declared.claims.StateClaim.{StateClaim}
+use Rattle.drt_states.specs.declared.claims.StateEnd.{StateEnd}
+use Rattle.drt_states.specs.declared.claims.StateEnd.TheVariants.{Passes, Splits}
+use Rattle.drt_states.specs.declared.claims.StateEntry.{StateEntry}
+use Rattle.drt_states.specs.declared.claims.TailClaim.{TailClaim}
 
 -- A line of one keyword: it has no further field.
 abbrev pub word_line : List ℕ → List (List ℕ)
@@ -100,12 +107,51 @@ proof_line p = codes "proof" ∷ decimal p.task ∷ decimal p.vertex ∷ decimal
 abbrev pub proof_block : List ProofClaim → List (List (List ℕ))
 proof_block proofs = count_line (codes "proofs") (length proofs) ∷ map proof_line proofs
 
+-- The fields of a jump: its offset and its work.
+abbrev pub jump_fields : Jump → List (List ℕ)
+jump_fields j = decimal j.offset ∷ decimal j.work ∷ []
+
+-- The line of a vertex of a tail: how many jumps, and the fields of each.
+abbrev pub curve_line : List Jump → List (List ℕ)
+curve_line jumps = codes "jumps" ∷ decimal (length jumps) ∷ flat_map jump_fields jumps
+
+-- The lines of a tail: how many vertices, and the line of each.
+abbrev pub tail_lines : TailClaim → List (List (List ℕ))
+tail_lines t = count_line (codes "tail") (length t.curves) ∷ map curve_line t.curves
+
+-- The tail block: how many tails, and the lines of each.
+abbrev pub tail_block : List TailClaim → List (List (List ℕ))
+tail_block tails = count_line (codes "tails") (length tails) ∷ flat_map tail_lines tails
+
+-- The fields of an entry of a state: its place, its vertex and its offset.
+abbrev pub state_entry_fields : StateEntry → List (List ℕ)
+state_entry_fields e = decimal e.place ∷ decimal e.vertex ∷ decimal e.offset ∷ []
+
+-- The fields of the end of a state: `p` and the time at which the vertex has room; or `s` and the place that is split, and the
+-- numbers of states, as many as there are.
+abbrev pub end_fields : StateEnd → List (List ℕ)
+end_fields (Passes t) = (codes "p" ++ decimal t) ∷ []
+end_fields (Splits place children) = (codes "s" ++ decimal place) ∷ map decimal children
+
+-- The line of a state: how many entries, the fields of each, its work, and its end.
+abbrev pub state_line : StateClaim → List (List ℕ)
+state_line s = codes "state" ∷ decimal (length s.entries) ∷ (flat_map state_entry_fields s.entries ++ decimal s.work ∷ end_fields s.end)
+
+-- The lines of a search: its task, its vertex, how many states, and the line of each.
+abbrev pub search_lines : SearchClaim → List (List (List ℕ))
+search_lines s = (codes "search" ∷ decimal s.task ∷ decimal s.vertex ∷ decimal (length s.states) ∷ []) ∷ map state_line s.states
+
+-- The search block: how many searches, and the lines of each.
+abbrev pub search_block : List SearchClaim → List (List (List ℕ))
+search_block searches = count_line (codes "searches") (length searches) ∷ flat_map search_lines searches
+
 -- The keyword of each kind of evidence.
 abbrev pub kind_word : Evidence → List ℕ
 kind_word (EdfYes ratios fronts) = codes "edf-yes"
 kind_word (EdfNo releases miss) = codes "edf-no"
 kind_word (UtilisationOne ratios) = codes "utilisation-one"
 kind_word (FixedYes trees proofs) = codes "fixed-yes"
+kind_word (FixedStates tails searches) = codes "fixed-states"
 kind_word (FixedNo releases miss) = codes "fixed-no"
 kind_word Undecided = codes "undecided"
 
@@ -115,6 +161,7 @@ body_lines (EdfYes ratios fronts) = ratio_block ratios ++ front_block fronts
 body_lines (EdfNo releases miss) = release_block releases miss
 body_lines (UtilisationOne ratios) = ratio_block ratios
 body_lines (FixedYes trees proofs) = tree_block trees ++ proof_block proofs
+body_lines (FixedStates tails searches) = tail_block tails ++ search_block searches
 body_lines (FixedNo releases miss) = release_block releases miss
 body_lines Undecided = []
 

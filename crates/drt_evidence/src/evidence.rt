@@ -1,5 +1,6 @@
 //! What a dossier claims of a task set.
 use drt_model::{FrontEntry, Miss, Policy, Release, Row, TaskSet};
+use drt_states::{SearchClaim, TailClaim};
 use std::marker::Model;
 
 /// The ratio `num / den` of a task's cycles, execution time per tick, with a cycle that has it and a potential for each vertex.
@@ -67,6 +68,11 @@ pub enum Evidence {
     FixedYes {
         trees: Row<TreeClaim>,
         proofs: Row<ProofClaim>,
+    },
+    /// The set is schedulable under fixed priorities: by tails of its tasks, and states over them for each vertex.
+    FixedStates {
+        tails: Row<TailClaim>,
+        searches: Row<SearchClaim>,
     },
     /// The set isn't schedulable under fixed priorities: the named job of these releases misses.
     FixedNo {

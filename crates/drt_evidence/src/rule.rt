@@ -53,6 +53,18 @@ pub enum Rule {
     LegalReleases,
     /// The named job misses, and none that misses has an earlier deadline.
     LeastMiss,
+    /// There is one tail fewer than tasks, with rising jumps below the bound for each vertex.
+    RisingTails,
+    /// The tails bound what walks ask for.
+    BoundingTails,
+    /// There is one search per vertex, in order.
+    SearchPerVertex,
+    /// Each search begins with the empty state, and its states name vertices at places that ascend.
+    SearchStates,
+    /// Each time at which a state passes does so.
+    PassingStates,
+    /// Each state that splits has children, and states that dominate them.
+    DominatedChildren,
 }
 
 impl Rule {
@@ -85,6 +97,12 @@ impl Rule {
             Rule::PassingTimes => 22,
             Rule::LegalReleases => 23,
             Rule::LeastMiss => 24,
+            Rule::RisingTails => 25,
+            Rule::BoundingTails => 26,
+            Rule::SearchPerVertex => 27,
+            Rule::SearchStates => 28,
+            Rule::PassingStates => 29,
+            Rule::DominatedChildren => 30,
         }
     }
 }

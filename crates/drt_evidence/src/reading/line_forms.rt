@@ -20,6 +20,7 @@ pub enum KindOfEvidence {
     EdfNo,
     UtilisationOne,
     FixedYes,
+    FixedStates,
     FixedNo,
     Undecided,
 }
