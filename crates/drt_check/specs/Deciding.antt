@@ -7,6 +7,7 @@ use Rattle.drt_evidence.specs.Statement.{Statement}
 use Rattle.drt_evidence.specs.declared.evidence.RatioClaim.{RatioClaim}
 use Rattle.drt_evidence.specs.declared.rule.Rule.{Rule}
 use Rattle.drt_evidence.specs.declared.rule.Rule.TheVariants.{ConstrainedDeadlines, KindOfPolicy, LegalReleases, LeastMiss}
+use Rattle.drt_evidence.specs.declared.rule.Rule.TheVariants.{RisingTails, BoundingTails, SearchPerVertex, SearchStates, PassingStates, DominatedChildren}
 
 -- The rule applies, and those that apply and have smaller numbers are kept.
 pub record IsNext (s : Statement) (rule : Rule) : Type 0 where
@@ -20,6 +21,16 @@ AsksForNoGraphs KindOfPolicy = Unit {0}
 AsksForNoGraphs LegalReleases = Unit {0}
 AsksForNoGraphs LeastMiss = Unit {0}
 AsksForNoGraphs other = ⊥
+
+-- The rule speaks of tails and states.
+abbrev pub IsOnStates : Rule → Type 0
+IsOnStates RisingTails = Unit {0}
+IsOnStates BoundingTails = Unit {0}
+IsOnStates SearchPerVertex = Unit {0}
+IsOnStates SearchStates = Unit {0}
+IsOnStates PassingStates = Unit {0}
+IsOnStates DominatedChildren = Unit {0}
+IsOnStates other = ⊥
 
 -- None is found where each rule that applies is kept, and else the first that isn't.
 abbrev pub IsDecided : Statement → Option Rule → Type 0

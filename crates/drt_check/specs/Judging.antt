@@ -5,7 +5,7 @@ use Rattle.drt_evidence.specs.Statement.{Statement}
 use Rattle.drt_evidence.specs.Rates.{IsAtOne}
 use Rattle.drt_evidence.specs.Rules.{Accepts, Rejects}
 use Rattle.drt_evidence.specs.declared.evidence.Evidence.{Evidence}
-use Rattle.drt_evidence.specs.declared.evidence.Evidence.TheVariants.{EdfYes, EdfNo, UtilisationOne, FixedYes, FixedNo, Undecided}
+use Rattle.drt_evidence.specs.declared.evidence.Evidence.TheVariants.{EdfYes, EdfNo, UtilisationOne, FixedYes, FixedStates, FixedNo, Undecided}
 use Rattle.drt_check.specs.declared.judgement.Judgement.{Judgement}
 use Rattle.drt_check.specs.declared.judgement.Judgement.TheVariants as judgements
 
@@ -15,6 +15,7 @@ claimed (EdfYes ratios fronts) = judgements.Schedulable
 claimed (EdfNo releases miss) = judgements.Unschedulable
 claimed (UtilisationOne ratios) = judgements.UtilisationOne
 claimed (FixedYes trees proofs) = judgements.Schedulable
+claimed (FixedStates tails searches) = judgements.Schedulable
 claimed (FixedNo releases miss) = judgements.Unschedulable
 claimed Undecided = judgements.NothingToCheck
 

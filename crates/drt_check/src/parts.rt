@@ -1,6 +1,6 @@
 //! What a dossier has, by the kind of its evidence.
 ghost use Rattle.std.specs.Prelude.{◌≡◌, ◌↔◌, All, IsTrue};
-ghost use Rattle.drt_evidence.specs.Kinds.{HasReleases, IsOfPolicy, fronts_of, miss_of, proofs_of, ratios_of, releases_of, trees_of};
+ghost use Rattle.drt_evidence.specs.Kinds.{HasReleases, IsOfPolicy, fronts_of, miss_of, proofs_of, ratios_of, releases_of, searches_of, tails_of, trees_of};
 ghost use Rattle.drt_evidence.specs.Ranges.{AreInRangeReleases, IsInRangeEntry, IsInRangeProof, IsInRangeRatio, IsInRangeTree};
 ghost use Rattle.drt_evidence.specs.declared.evidence.Evidence.TheVariants.{Undecided};
 ghost use Rattle.drt_check.specs.Judging.{claimed};
@@ -8,6 +8,7 @@ ghost use Rattle.drt_check.specs.Judging.{claimed};
 use crate::judgement::Judgement;
 use drt_evidence::{Dossier, Evidence, FrontEntry, ProofClaim, RatioClaim, TreeClaim};
 use drt_model::{Miss, Policy, Release, Row};
+use drt_states::{SearchClaim, TailClaim};
 
 /// Whether nothing is claimed.
 pub fn is_undecided(dossier: &Dossier) -> bool
@@ -24,7 +25,9 @@ pub fn is_of_policy(dossier: &Dossier) -> bool
         Evidence::EdfYes { .. } | Evidence::EdfNo { .. } | Evidence::UtilisationOne { .. } => {
             dossier.policy == Policy::Edf
         }
-        Evidence::FixedYes { .. } | Evidence::FixedNo { .. } => dossier.policy == Policy::Fixed,
+        Evidence::FixedYes { .. } | Evidence::FixedStates { .. } | Evidence::FixedNo { .. } => {
+            dossier.policy == Policy::Fixed
+        }
         Evidence::Undecided => true,
     }
 }
@@ -44,7 +47,9 @@ pub fn claimed(dossier: &Dossier) -> Judgement
     ensures { result ≡ claimed dossier.now.evidence }
 {
     match &dossier.evidence {
-        Evidence::EdfYes { .. } | Evidence::FixedYes { .. } => Judgement::Schedulable,
+        Evidence::EdfYes { .. } | Evidence::FixedYes { .. } | Evidence::FixedStates { .. } => {
+            Judgement::Schedulable
+        }
         Evidence::EdfNo { .. } | Evidence::FixedNo { .. } => Judgement::Unschedulable,
         Evidence::UtilisationOne { .. } => Judgement::UtilisationOne,
         Evidence::Undecided => Judgement::NothingToCheck,
@@ -119,6 +124,26 @@ pub fn proofs_of(dossier: &Dossier) -> &[ProofClaim]
 {
     match &dossier.evidence {
         Evidence::FixedYes { proofs, .. } => proofs.as_slice(),
+        _ => &[],
+    }
+}
+
+/// The claimed tails, and none where the evidence has none.
+pub fn tails_of(dossier: &Dossier) -> &[TailClaim]
+    ensures { result.now ≡ tails_of dossier.now.evidence }
+{
+    match &dossier.evidence {
+        Evidence::FixedStates { tails, .. } => tails.as_slice(),
+        _ => &[],
+    }
+}
+
+/// The claimed searches, and none where the evidence has none.
+pub fn searches_of(dossier: &Dossier) -> &[SearchClaim]
+    ensures { result.now ≡ searches_of dossier.now.evidence }
+{
+    match &dossier.evidence {
+        Evidence::FixedStates { searches, .. } => searches.as_slice(),
         _ => &[],
     }
 }

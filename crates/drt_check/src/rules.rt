@@ -4,16 +4,21 @@ ghost use Rattle.drt_model.specs.Constrained.{AreConstrained};
 ghost use Rattle.drt_evidence.specs.Claims.{graphs_of};
 ghost use Rattle.drt_evidence.specs.Rules.{Applies, HasClaimedUtilisation, Keeps};
 ghost use Rattle.drt_evidence.specs.declared.rule.Rule.TheVariants.{ClaimedUtilisation};
-ghost use Rattle.drt_check.specs.Deciding.{AsksForNoGraphs, IsNext};
+ghost use Rattle.drt_check.specs.Deciding.{AsksForNoGraphs, IsNext, IsOnStates};
 
 use crate::claimed::{ClaimRule, all_keep, are_lowest};
 use crate::parts::{
-    fronts_of, has_releases, is_of_policy, miss_of, proofs_of, ratios_of, releases_of, trees_of,
+    fronts_of, has_releases, is_of_policy, miss_of, proofs_of, ratios_of, releases_of, searches_of,
+    tails_of, trees_of,
 };
 use crate::releases::is_least_miss;
 use crate::utilisation::{horizon_of, is_below_one, is_fine, is_one, near_horizon};
 use drt_check_fronts::{are_closed, are_in_order, have_openings, have_room};
 use drt_check_proofs::{have_passing_times, have_shapes, is_proof_per_vertex};
+use drt_check_searches::{
+    bound_walks, has_rising_tails, have_dominated_splits, have_passing_states, have_states,
+    is_search_per_vertex,
+};
 use drt_check_trees::{
     are_trees, cover_walks, have_short_walks, is_tree_per_higher_task, priority_order,
 };
@@ -25,7 +30,7 @@ use std::alloc::Global;
 const GREATEST_HORIZON: u128 = 1 << 40;
 
 /// The rules in the order of their numbers.
-pub const RULES: [Rule; 24] = [
+pub const RULES: [Rule; 30] = [
     Rule::ConstrainedDeadlines,
     Rule::KindOfPolicy,
     Rule::RatioPerTask,
@@ -50,6 +55,12 @@ pub const RULES: [Rule; 24] = [
     Rule::PassingTimes,
     Rule::LegalReleases,
     Rule::LeastMiss,
+    Rule::RisingTails,
+    Rule::BoundingTails,
+    Rule::SearchPerVertex,
+    Rule::SearchStates,
+    Rule::PassingStates,
+    Rule::DominatedChildren,
 ];
 
 /// Whether the rule applies to the kind of the dossier's evidence.
@@ -85,6 +96,12 @@ pub fn applies(rule: Rule, dossier: &Dossier) -> bool
         | Rule::ProofShapes
         | Rule::PassingTimes => matches!(evidence, Evidence::FixedYes { .. }),
         Rule::LegalReleases | Rule::LeastMiss => has_releases(dossier),
+        Rule::RisingTails
+        | Rule::BoundingTails
+        | Rule::SearchPerVertex
+        | Rule::SearchStates
+        | Rule::PassingStates
+        | Rule::DominatedChildren => matches!(evidence, Evidence::FixedStates { .. }),
     }
 }
 
@@ -132,6 +149,41 @@ pub fn keeps(alloc: Global, rule: Rule, graphs: &Graphs, dossier: &Dossier) -> R
             let order = priority_order(alloc, &dossier.set)?;
             have_passing_times(alloc, &dossier.set, graphs, order.as_slice(), trees, proofs)
         }
+        Rule::RisingTails
+        | Rule::BoundingTails
+        | Rule::SearchPerVertex
+        | Rule::SearchStates
+        | Rule::PassingStates
+        | Rule::DominatedChildren => keeps_of_states(alloc, rule, graphs, dossier),
+    }
+}
+
+// The same of a rule on tails and states.
+fn keeps_of_states(
+    alloc: Global,
+    rule: Rule,
+    graphs: &Graphs,
+    dossier: &Dossier,
+) -> Result<bool, Memory>
+    requires graphs { graphs.now ≡ graphs_of dossier.now.set.tasks }
+    requires constrained { AreConstrained dossier.now.set.tasks }
+    requires next { IsNext dossier.now rule }
+    requires states { IsOnStates rule }
+    ensures { IfOk result (λ kept. IsTrue kept ↔ Keeps rule dossier.now) }
+{
+    let set = &dossier.set;
+    let tails = tails_of(dossier);
+    let searches = searches_of(dossier);
+    let order = priority_order(alloc, set)?;
+    let order = order.as_slice();
+    match rule {
+        Rule::RisingTails => Ok(has_rising_tails(set, graphs, order, tails)),
+        Rule::BoundingTails => Ok(bound_walks(set, graphs, order, tails)),
+        Rule::SearchPerVertex => Ok(is_search_per_vertex(set, searches)),
+        Rule::SearchStates => Ok(have_states(set, graphs, order, searches)),
+        Rule::PassingStates => have_passing_states(alloc, set, graphs, order, tails, searches),
+        Rule::DominatedChildren => Ok(have_dominated_splits(set, graphs, order, searches)),
+        _ => Ok(true),
     }
 }
 

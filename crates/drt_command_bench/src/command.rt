@@ -157,7 +157,10 @@ fn decide_edf<G: Gate, R: Threads + Wait + Sync>(
             None,
         )),
         EdfAnswer::Done(
-            Evidence::FixedYes { .. } | Evidence::FixedNo { .. } | Evidence::Undecided,
+            Evidence::FixedYes { .. }
+            | Evidence::FixedStates { .. }
+            | Evidence::FixedNo { .. }
+            | Evidence::Undecided,
         ) => unreachable!(),
         EdfAnswer::Beyond(Beyond::TooFar) => Ok(without_fronts(alloc, EdfVerdict::Beyond, None)),
         EdfAnswer::Beyond(Beyond::TooFine) => unreachable!(),
@@ -226,6 +229,7 @@ fn decide_fixed<G: Gate, R: Threads + Wait + Sync>(
             Evidence::EdfYes { .. }
             | Evidence::EdfNo { .. }
             | Evidence::UtilisationOne { .. }
+            | Evidence::FixedStates { .. }
             | Evidence::Undecided,
         ) => unreachable!(),
         FixedAnswer::Undecided(trail) => Ok(FixedFinding {

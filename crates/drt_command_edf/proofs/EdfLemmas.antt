@@ -15,7 +15,7 @@ use Rattle.drt_evidence.specs.Claims.{graphs_of}
 use Rattle.drt_evidence.specs.Ranges.{IsInRange}
 use Rattle.drt_evidence.specs.Text.{text}
 use Rattle.drt_evidence.specs.declared.evidence.Evidence.{Evidence}
-use Rattle.drt_evidence.specs.declared.evidence.Evidence.TheVariants.{EdfYes, EdfNo, UtilisationOne, FixedYes, FixedNo, Undecided}
+use Rattle.drt_evidence.specs.declared.evidence.Evidence.TheVariants.{EdfYes, EdfNo, UtilisationOne, FixedYes, FixedStates, FixedNo, Undecided}
 use Rattle.drt_edf.specs.Answers.{IsBeyond, IsVerdict, IsOther, IsPlanned, IsUndecided}
 use Rattle.drt_evidence.specs.Rates.{IsAtOne, Rates}
 use Rattle.drt_edf.specs.Spent.{IsEnough, table_need}
@@ -184,6 +184,7 @@ answer_is set budget (UtilisationOne ratios) limits constrained done planned ran
       refl,
     )))
 answer_is set budget (FixedYes trees proofs) limits constrained done planned range = absurd done
+answer_is set budget (FixedStates tails searches) limits constrained done planned range = absurd done
 answer_is set budget (FixedNo releases miss) limits constrained done planned range = absurd done
 answer_is set budget Undecided limits constrained done planned range = absurd done
 

@@ -42,7 +42,7 @@ fn status_of(evidence: &Evidence) -> u8
     ensures { result ≡ evidence_status evidence.now }
 {
     match evidence {
-        Evidence::EdfYes { .. } | Evidence::FixedYes { .. } => YES,
+        Evidence::EdfYes { .. } | Evidence::FixedYes { .. } | Evidence::FixedStates { .. } => YES,
         Evidence::EdfNo { .. } | Evidence::FixedNo { .. } => NO,
         Evidence::UtilisationOne { .. } => ONE,
         Evidence::Undecided => UNDECIDED,

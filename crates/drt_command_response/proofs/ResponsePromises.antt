@@ -6,7 +6,7 @@ use Rattle.drt_file.specs.trusted.Laws.{TextsReadAsOneSet}
 use Rattle.drt_evidence.specs.Ranges.{IsInRange}
 use Rattle.drt_evidence.specs.Text.{text}
 use Rattle.drt_evidence.specs.declared.evidence.Evidence.{Evidence}
-use Rattle.drt_evidence.specs.declared.evidence.Evidence.TheVariants.{EdfYes, EdfNo, UtilisationOne, FixedYes, FixedNo, Undecided}
+use Rattle.drt_evidence.specs.declared.evidence.Evidence.TheVariants.{EdfYes, EdfNo, UtilisationOne, FixedYes, FixedStates, FixedNo, Undecided}
 use Rattle.drt_command.specs.declared.report.Report.{Report}
 use Rattle.drt_command.specs.declared.report.Unmade.{Unmade}
 use Rattle.drt_command.specs.Rules.{AreLawful}
@@ -47,8 +47,9 @@ no_is set budget (EdfYes ratios fronts) limits refused range = absurd refused
 no_is set budget (EdfNo releases miss) limits refused range = absurd refused
 no_is set budget (UtilisationOne ratios) limits refused range = absurd refused
 no_is set budget (FixedYes trees proofs) limits refused range = absurd refused
+no_is set budget (FixedStates tails searches) limits refused range = absurd refused
 no_is set budget (FixedNo releases miss) limits refused range =
-    inr (inl (refl, record { releases = releases; miss = miss; no = refused; is = record { stated = (limits, range); is = refl } }, refl))
+    inr (inl (refl, record { releases = releases; miss = miss; no = record { not_schedulable = refused.not_schedulable; accepted = refused.accepted }; is = record { stated = (limits, range); is = refl } }, refl))
 no_is set budget Undecided limits refused range = absurd refused
 
 -- It is the answer of the report that is made of the evidence.

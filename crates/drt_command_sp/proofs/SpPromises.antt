@@ -1,12 +1,12 @@
 -- What is promised of `sp` agrees.
-use Rattle.std.proofs.Common.{◌≡◌, ◌<◌, ◌⊎◌, ℕ, List, Result, Ok, Err, IfOk, inl, inr, refl, sym, subst, arith}
+use Rattle.std.proofs.Common.{◌≡◌, ◌<◌, ◌⊎◌, ℕ, List, Option, Result, Ok, Err, IfOk, inl, inr, refl, ap, sym, subst, arith}
 use Rattle.drt_model.specs.Contents.{Contents}
 use Rattle.drt_model.specs.Limits.{IsTaskSet}
 use Rattle.drt_file.specs.trusted.Laws.{TextsReadAsOneSet}
 use Rattle.drt_evidence.specs.Ranges.{IsInRange}
 use Rattle.drt_evidence.specs.Text.{text}
 use Rattle.drt_evidence.specs.declared.evidence.Evidence.{Evidence}
-use Rattle.drt_evidence.specs.declared.evidence.Evidence.TheVariants.{EdfYes, EdfNo, UtilisationOne, FixedYes, FixedNo, Undecided}
+use Rattle.drt_evidence.specs.declared.evidence.Evidence.TheVariants.{EdfYes, EdfNo, UtilisationOne, FixedYes, FixedStates, FixedNo, Undecided}
 use Rattle.drt_command.specs.declared.report.Report.{Report}
 use Rattle.drt_command.specs.declared.report.Unmade.{Unmade}
 use Rattle.drt_command.specs.Rules.{AreLawful}
@@ -14,13 +14,13 @@ use Rattle.drt_outcome.specs.declared.fault.Fault.{Fault}
 use Rattle.drt_outcome.specs.declared.outcome.Trail.{Trail}
 use Rattle.drt_outcome.specs.declared.outcome.Trail.TheVariants as trails
 use Rattle.drt_outcome.specs.Stops.{fault_status}
-use Rattle.drt_sp.specs.Answers.{IsUndecided, IsVerdict}
+use Rattle.drt_fixed.specs.Answers.{IsSaid}
 use Rattle.drt_sp.specs.Evidence.{under_fixed}
 use Rattle.drt_sp.specs.Laws.{BudgetsSuffice}
 use Rattle.drt_trails.specs.declared.FixedTrail.{FixedTrail}
 use Rattle.drt_command_files.specs.Dossiers.{evidence_status}
 use Rattle.drt_command_files.specs.TaskFiles.{IsAccepted, IsFileFault}
-use Rattle.drt_command_sp.specs.Sp.{Analyses, IsSpNoText, IsSpUndecidedText, IsSpYesText, SpEnds, sp_rules, trail_of}
+use Rattle.drt_command_sp.specs.Sp.{Analyses, IsSpNoText, IsSpUndecidedText, IsSpYesText, SpEnds, sp_rules, trail_after}
 use Rattle.drt_command_files.proofs.TaskFileLemmas.{accepted_one, accepted_well, fault_one, long_file}
 
 -- The answer, by its parts.
@@ -30,31 +30,31 @@ IsSpAnswer set budget status written trail =
     ⊎ (((status ≡ 1) × IsSpNoText set written × (trail ≡ trails.Nothing))
     ⊎ ((status ≡ 3) × IsSpUndecidedText set budget written trail))
 
--- The answer of evidence.
-answer_is : (set : Contents) (budget : ℕ) (evidence : Evidence) → IsTaskSet set.version set.tasks → IsVerdict set evidence → IsInRange evidence
-    → IsSpAnswer set budget (evidence_status evidence) (text (under_fixed set evidence)) trails.Nothing
-answer_is set budget (EdfYes ratios fronts) limits verdict range = absurd verdict
-answer_is set budget (EdfNo releases miss) limits verdict range = absurd verdict
-answer_is set budget (UtilisationOne ratios) limits verdict range = absurd verdict
-answer_is set budget (FixedYes trees proofs) limits verdict range =
-    inl (refl, record { trees = trees; proofs = proofs; yes = verdict; is = record { stated = (limits, range); is = refl } }, refl)
-answer_is set budget (FixedNo releases miss) limits verdict range =
-    inr (inl (refl, record { releases = releases; miss = miss; no = verdict; is = record { stated = (limits, range); is = refl } }, refl))
-answer_is set budget Undecided limits verdict range = absurd verdict
+-- The answer of what is said with evidence and a trail.
+answer_is : (set : Contents) (budget : ℕ) (evidence : Evidence) (trail : Option FixedTrail) → IsTaskSet set.version set.tasks
+    → IsSaid set budget evidence trail → IsInRange evidence
+    → IsSpAnswer set budget (evidence_status evidence) (text (under_fixed set evidence)) (trail_after trail)
+answer_is set budget (EdfYes ratios fronts) trail limits said range = absurd said
+answer_is set budget (EdfNo releases miss) trail limits said range = absurd said
+answer_is set budget (UtilisationOne ratios) trail limits said range = absurd said
+answer_is set budget (FixedYes trees proofs) trail limits said range =
+    inl (refl, record { evidence = FixedYes trees proofs; yes = said.1; is = record { stated = (limits, range); is = refl } }, ap trail_after said.0)
+answer_is set budget (FixedStates tails searches) trail limits said range =
+    inl (refl, record { evidence = FixedStates tails searches; yes = said.1; is = record { stated = (limits, range); is = refl } }, ap trail_after said.0)
+answer_is set budget (FixedNo releases miss) trail limits said range =
+    inr (inl (refl, record { releases = releases; miss = miss; no = said.1; is = record { stated = (limits, range); is = refl } }, ap trail_after said.0))
+answer_is set budget Undecided trail limits said range =
+    inr (inr (refl, record { spent = said.0; cause = said.2; trail_is = ap trail_after said.1; is = record { stated = (limits, range); is = refl } }))
 
--- It is the answer of the report that is made of the evidence.
-pub done_analyses : (bytes : List ℕ) (set : Contents) (budget : ℕ) (evidence : Evidence) → IsAccepted bytes set → IsVerdict set evidence
-    → IsInRange evidence → (r : Result Report Unmade)
-    → IfOk r (λ m. m ≡ record { status = evidence_status evidence; text = text (under_fixed set evidence); trail = trails.Nothing })
+-- It is the answer of the report that is made of them.
+pub analysed : (bytes : List ℕ) (set : Contents) (budget : ℕ) (evidence : Evidence) (trail : Option FixedTrail) → IsAccepted bytes set
+    → IsSaid set budget evidence trail → IsInRange evidence → (r : Result Report Unmade)
+    → IfOk r (λ m. m ≡ record { status = evidence_status evidence; text = text (under_fixed set evidence); trail = trail_after trail })
     → IfOk r (Analyses budget bytes)
-done_analyses bytes set budget evidence accepted verdict range (Ok m) is =
-    subst (Analyses budget bytes) (sym is) (record { set = set; accepted = accepted; answer = answer_is set budget evidence accepted.reads.limits verdict range })
-done_analyses bytes set budget evidence accepted verdict range (Err e) is = tt
-
--- The answer of a spent budget.
-pub undecided_is : (set : Contents) (budget : ℕ) (spent : FixedTrail) → IsTaskSet set.version set.tasks → IsUndecided set budget spent
-    → IsSpAnswer set budget 3 (text (under_fixed set Undecided)) (trail_of spent)
-undecided_is set budget spent limits cause = inr (inr (refl, record { spent = spent; cause = cause; trail_is = refl; is = record { stated = (limits, tt); is = refl } }))
+analysed bytes set budget evidence trail accepted said range (Ok m) is =
+    subst (Analyses budget bytes) (sym is)
+    (record { set = set; accepted = accepted; answer = answer_is set budget evidence trail accepted.reads.limits said range })
+analysed bytes set budget evidence trail accepted said range (Err e) is = tt
 
 answer_low : (set : Contents) (budget status : ℕ) (written : List ℕ) (trail : Trail) → IsSpAnswer set budget status written trail → status < 4
 answer_low set budget status written trail (inl a) = omega (arith, a.0)

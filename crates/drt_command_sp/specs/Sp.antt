@@ -1,19 +1,19 @@
 -- `sp`: what it writes, what it refuses, and with which status it ends.
-use Rattle.std.specs.Prelude.{◌≡◌, ℕ, ◌⊎◌, List}
+use Rattle.std.specs.Prelude.{◌≡◌, ℕ, ◌⊎◌, List, None, Option, Some}
 use Rattle.drt_model.specs.Contents.{Contents}
 use Rattle.drt_model.specs.declared.jobs.Policy.TheVariants.{Fixed}
 use Rattle.drt_model.specs.declared.jobs.Release.{Release}
 use Rattle.drt_model.specs.declared.jobs.Miss.{Miss}
 use Rattle.drt_model.specs.Schedulable.{Schedulable}
 use Rattle.drt_evidence.specs.Reading.{IsTextOf}
-use Rattle.drt_evidence.specs.declared.evidence.Evidence.TheVariants.{FixedYes, FixedNo, Undecided}
-use Rattle.drt_evidence.specs.declared.evidence.ProofClaim.{ProofClaim}
-use Rattle.drt_evidence.specs.declared.evidence.TreeClaim.{TreeClaim}
+use Rattle.drt_evidence.specs.declared.evidence.Evidence.{Evidence}
+use Rattle.drt_evidence.specs.declared.evidence.Evidence.TheVariants.{FixedNo, Undecided}
 use Rattle.drt_outcome.specs.declared.outcome.Trail.{Trail}
 use Rattle.drt_outcome.specs.declared.outcome.Trail.TheVariants as trails
 use Rattle.drt_command.specs.declared.report.Report.{Report}
 use Rattle.drt_command.specs.Rules.{Rules}
-use Rattle.drt_sp.specs.Answers.{IsExactYes, IsMissed, IsUndecided}
+use Rattle.drt_fixed.specs.Answers.{IsNo, IsYes}
+use Rattle.drt_sp.specs.Answers.{IsUndecided}
 use Rattle.drt_sp.specs.Evidence.{under_fixed}
 use Rattle.drt_sp.specs.Needs.{IsEnough}
 use Rattle.drt_trails.specs.declared.FixedTrail.{FixedTrail}
@@ -22,23 +22,27 @@ use Rattle.drt_command_files.specs.TaskFiles.{IsAccepted, IsFileFault, file_inpu
 
 -- The text is a yes: the set is schedulable under fixed priorities, and the evidence is accepted.
 pub record IsSpYesText (set : Contents) (written : List ℕ) : Type 0 where
-  pub trees : List TreeClaim
-  pub proofs : List ProofClaim
-  pub yes : IsExactYes set trees proofs
-  pub is : IsTextOf (under_fixed set (FixedYes trees proofs)) written
+  pub evidence : Evidence
+  pub yes : IsYes set evidence
+  pub is : IsTextOf (under_fixed set evidence) written
 
 -- The text is a no: the set isn't schedulable under fixed priorities, the releases written are legal, and the job named misses its
 -- deadline.
 pub record IsSpNoText (set : Contents) (written : List ℕ) : Type 0 where
   pub releases : List Release
   pub miss : Miss
-  pub no : IsMissed set releases miss
+  pub no : IsNo set releases miss
   pub is : IsTextOf (under_fixed set (FixedNo releases miss)) written
 
 -- The trail of a spent budget.
 abbrev pub trail_of : FixedTrail → Trail
 trail_of (Table task log) = trails.Table task log
 trail_of (Refine task vertex log) = trails.Refine task vertex log
+
+-- The trail of an answer: that of a spent budget, where one was spent.
+abbrev pub trail_after : Option FixedTrail → Trail
+trail_after None = trails.Nothing
+trail_after (Some spent) = trail_of spent
 
 -- The text is that nothing is decided, and the trail shows that the budget was spent.
 pub record IsSpUndecidedText (set : Contents) (budget : ℕ) (written : List ℕ) (trail : Trail) : Type 0 where

@@ -11,15 +11,17 @@ ghost use Rattle.drt_command_files.specs.TaskFiles.{IsAccepted};
 
 use drt_command::{Promised, Report, Unmade, finish, read_input, stop_reading};
 use drt_command_files::{file_input, make_report, read_set};
-use drt_evidence::Evidence;
+use drt_evidence::Dossier;
 use drt_file::laws::texts_read_as_one_set;
+use drt_fixed::{Analysed, analyse_fixed};
 use drt_graph::Graphs;
 use drt_io::{Sink, Source};
 use drt_model::{Policy, TaskSet};
 use drt_outcome::Outcome;
 use drt_outcome::outcome::Trail;
 use drt_pool::Gate;
-use drt_sp::{FixedAnswer, FixedTrail, analyse_fixed, budgets_suffice};
+use drt_sp::budgets_suffice;
+use drt_trails::FixedTrail;
 use drt_words::Search;
 use std::alloc::Global;
 use std::sync::Wait;
@@ -94,19 +96,28 @@ fn analyse<G: Gate, R: Threads + Wait + Sync>(
     ensures unmade { IfErr result (λ e. e ≡ Unmade.Memory) }
 {
     let budget = u64::from(search.budget());
-    match analyse_fixed(rt, alloc, &set, graphs, search.workers(), budget, gate) {
-        Ok(FixedAnswer::Done(evidence)) => {
-            make_report(alloc, Policy::Fixed, set, evidence, Trail::Nothing)
-        }
-        Ok(FixedAnswer::Undecided(trail)) => make_report(
-            alloc,
-            Policy::Fixed,
-            set,
-            Evidence::Undecided,
-            make_trail(trail),
-        ),
+    match analyse_fixed(rt, alloc, set, graphs, search.workers(), budget, gate) {
+        Ok(Analysed { dossier, trail }) => report_of(alloc, dossier, trail),
         Err(_) => Err(Unmade::Memory),
     }
+}
+
+// The report of an answer: its dossier under fixed priorities, and the trail of a spent budget.
+fn report_of(
+    alloc: Global,
+    dossier: Dossier,
+    trail: Option<FixedTrail>,
+) -> Result<Report, Unmade>
+    requires policy { dossier.policy ≡ Fixed }
+    ensures report { IfOk result (λ m. m ≡ record { status = evidence_status dossier.evidence; text = text dossier; trail = trail_after trail }) }
+    ensures unmade { IfErr result (λ e. e ≡ Unmade.Memory) }
+{
+    let trail = match trail {
+        Some(spent) => make_trail(spent),
+        None => Trail::Nothing,
+    };
+    let Dossier { set, evidence, .. } = dossier;
+    make_report(alloc, Policy::Fixed, set, evidence, trail)
 }
 
 /// The trail of a spent budget.

@@ -2,7 +2,7 @@
 use Rattle.std.proofs.Common.{List}
 use Rattle.drt_model.specs.declared.tasks.Task.{Task}
 use Rattle.drt_evidence.specs.declared.evidence.Evidence.{Evidence}
-use Rattle.drt_evidence.specs.declared.evidence.Evidence.TheVariants.{EdfYes, EdfNo, UtilisationOne, FixedYes, FixedNo, Undecided}
+use Rattle.drt_evidence.specs.declared.evidence.Evidence.TheVariants.{EdfYes, EdfNo, UtilisationOne, FixedYes, FixedStates, FixedNo, Undecided}
 use Rattle.drt_edf.specs.Answers.{IsVerdict, IsOther, IsPlanned}
 
 -- A yes or a no where the utilisation isn't one.
@@ -11,5 +11,6 @@ planned_other tasks (EdfYes ratios fronts) other done = other
 planned_other tasks (EdfNo releases miss) other done = other
 planned_other tasks (UtilisationOne ratios) other done = done.at_one
 planned_other tasks (FixedYes trees proofs) other done = absurd done
+planned_other tasks (FixedStates tails searches) other done = absurd done
 planned_other tasks (FixedNo releases miss) other done = absurd done
 planned_other tasks Undecided other done = absurd done

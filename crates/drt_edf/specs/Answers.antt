@@ -14,7 +14,7 @@ use Rattle.drt_evidence.specs.Claims.{graphs_of, Each, IsHorizon}
 use Rattle.drt_evidence.specs.Ranges.{IsInRange}
 use Rattle.drt_evidence.specs.Rules.{Accepts}
 use Rattle.drt_evidence.specs.declared.evidence.Evidence.{Evidence}
-use Rattle.drt_evidence.specs.declared.evidence.Evidence.TheVariants.{EdfYes, EdfNo, UtilisationOne, FixedYes, FixedNo, Undecided}
+use Rattle.drt_evidence.specs.declared.evidence.Evidence.TheVariants.{EdfYes, EdfNo, UtilisationOne, FixedYes, FixedStates, FixedNo, Undecided}
 use Rattle.drt_model.specs.declared.front.FrontEntry.{FrontEntry}
 use Rattle.drt_evidence.specs.declared.evidence.RatioClaim.{RatioClaim}
 use Rattle.drt_evidence.specs.Rates.{IsAtOne}
@@ -61,6 +61,7 @@ IsVerdict tasks (EdfYes ratios fronts) = IsExactYes tasks ratios fronts
 IsVerdict tasks (EdfNo releases miss) = IsMissed tasks releases miss
 IsVerdict tasks (UtilisationOne ratios) = IsOnlyOne tasks ratios
 IsVerdict tasks (FixedYes trees proofs) = ⊥
+IsVerdict tasks (FixedStates tails searches) = ⊥
 IsVerdict tasks (FixedNo releases miss) = ⊥
 IsVerdict tasks Undecided = ⊥
 
@@ -74,6 +75,7 @@ IsPlanned tasks (EdfYes ratios fronts) = IsOther tasks
 IsPlanned tasks (EdfNo releases miss) = IsOther tasks
 IsPlanned tasks (UtilisationOne ratios) = IsAtOne tasks
 IsPlanned tasks (FixedYes trees proofs) = ⊥
+IsPlanned tasks (FixedStates tails searches) = ⊥
 IsPlanned tasks (FixedNo releases miss) = ⊥
 IsPlanned tasks Undecided = ⊥
 

@@ -7,7 +7,7 @@ use Rattle.drt_busy.specs.Decide.{TimesDecide}
 use Rattle.drt_tree.specs.Tree.{IsForest}
 use Rattle.drt_evidence.specs.Trees.{greatest_deadline}
 use Rattle.drt_evidence.specs.declared.evidence.Evidence.{Evidence}
-use Rattle.drt_evidence.specs.declared.evidence.Evidence.TheVariants.{EdfYes, EdfNo, UtilisationOne, FixedYes, FixedNo, Undecided}
+use Rattle.drt_evidence.specs.declared.evidence.Evidence.TheVariants.{EdfYes, EdfNo, UtilisationOne, FixedYes, FixedStates, FixedNo, Undecided}
 use Rattle.drt_sp.specs.Answers.{IsAnswer, IsEnding, IsRefusal, IsVerdict}
 use Rattle.drt_sp.specs.Grown.{AreProvedTrees}
 use Rattle.drt_sp.specs.Progress.{IsComplete}
@@ -22,6 +22,7 @@ refusal_verdict set (EdfYes ratios fronts) is = absurd is
 refusal_verdict set (EdfNo releases miss) is = absurd is
 refusal_verdict set (UtilisationOne ratios) is = absurd is
 refusal_verdict set (FixedYes trees proofs) is = absurd is
+refusal_verdict set (FixedStates tails searches) is = absurd is
 refusal_verdict set (FixedNo releases miss) is = is
 refusal_verdict set Undecided is = absurd is
 

@@ -21,7 +21,7 @@ use Rattle.drt_evidence.specs.Ranges.{IsInRange}
 use Rattle.drt_evidence.specs.Rules.{Accepts}
 use Rattle.drt_evidence.specs.Trees.{greatest_deadline, tree_graphs}
 use Rattle.drt_evidence.specs.declared.evidence.Evidence.{Evidence}
-use Rattle.drt_evidence.specs.declared.evidence.Evidence.TheVariants.{EdfYes, EdfNo, UtilisationOne, FixedYes, FixedNo, Undecided}
+use Rattle.drt_evidence.specs.declared.evidence.Evidence.TheVariants.{EdfYes, EdfNo, UtilisationOne, FixedYes, FixedStates, FixedNo, Undecided}
 use Rattle.drt_evidence.specs.declared.evidence.ProofClaim.{ProofClaim}
 use Rattle.drt_evidence.specs.declared.evidence.TreeClaim.{TreeClaim}
 use Rattle.drt_sp.specs.Claims.{IsEagerProof}
@@ -98,6 +98,7 @@ IsRefusal set (EdfYes ratios fronts) = ⊥
 IsRefusal set (EdfNo releases miss) = ⊥
 IsRefusal set (UtilisationOne ratios) = ⊥
 IsRefusal set (FixedYes trees proofs) = ⊥
+IsRefusal set (FixedStates tails searches) = ⊥
 IsRefusal set (FixedNo releases miss) = IsMissed set releases miss
 IsRefusal set Undecided = ⊥
 
@@ -107,6 +108,7 @@ IsVerdict set (EdfYes ratios fronts) = ⊥
 IsVerdict set (EdfNo releases miss) = ⊥
 IsVerdict set (UtilisationOne ratios) = ⊥
 IsVerdict set (FixedYes trees proofs) = IsExactYes set trees proofs
+IsVerdict set (FixedStates tails searches) = ⊥
 IsVerdict set (FixedNo releases miss) = IsMissed set releases miss
 IsVerdict set Undecided = ⊥
 

@@ -1,3 +1,4 @@
+pub mod Answers
 pub mod Walks
 pub mod Trials
 pub mod Misses

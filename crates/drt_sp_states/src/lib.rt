@@ -1,10 +1,20 @@
-//! The search of states of one vertex under fixed priorities: so far the trial of walks.
+//! The search of states of one vertex under fixed priorities.
 //!
-//! `try_walks` tries walks of the tasks of higher priority, one of each, beside a job. That they leave it no time up to its deadline is
-//! proved where it is answered; of the other answers nothing is promised.
+//! `search_states` looks for states that show that the vertex meets its deadline, or for walks of the tasks of higher priority for
+//! which it doesn't. Nothing is relied on of how it finds them: a yes is given only where the deciders of `drt_check_states` accept
+//! its states, a no only where no time passes for its walks.
 #![tactic(auto)]
 
+mod curves;
+mod ends;
+mod idle;
+mod places;
+mod search;
+mod stepping;
+mod tables;
+mod tails;
 mod trials;
+mod trying;
 mod walks;
 
-pub use trials::{Pool, Trial, try_walks};
+pub use search::{Searched, search_states};

@@ -13,7 +13,7 @@ use std::alloc::Global;
 
 /// Walks, one of each place, and what they ask for: the functions, and their numbers in order.
 #[derive(Drop)]
-pub struct Pool {
+pub(crate) struct Pool {
     pub walks: Vec<Row<u32>>,
     pub functions: Vec<Steps>,
     pub chosen: Vec<u32>,
@@ -21,7 +21,7 @@ pub struct Pool {
 
 /// What walks do to a job.
 #[derive(Drop)]
-pub enum Trial {
+pub(crate) enum Trial {
     /// No time up to the deadline passes for these walks.
     Misses(Row<Row<u32>>),
     /// The least time that passes, in ticks.
@@ -31,7 +31,7 @@ pub enum Trial {
 }
 
 /// What the walks do to a job of this execution time.
-pub fn try_walks(
+pub(crate) fn try_walks(
     alloc: Global,
     graphs: &Graphs,
     order: &[u32],
@@ -64,9 +64,9 @@ fn pool_walks(
     walks: &[Row<u32>],
 ) -> Result<Option<Pool>, Memory>
     requires order { AreTasks graphs.now order.now }
+    requires few { length order.now ≤ 31 }
     requires some { 1 ≤ deadline }
     requires most { deadline ≤ 1000000 }
-    requires few { length order.now ≤ 31 }
     ensures { IfOk result (λ r. IfSome r (ArePooled deadline (graphs_at graphs.now order.now))) }
 {
     if walks.len() != order.len() {

@@ -1,0 +1,46 @@
+-- What the answer under fixed priorities says.
+use Rattle.std.specs.Prelude.{◌≡◌, ℕ, ◌⊎◌, List, Option, Some, None}
+use Rattle.drt_model.specs.Contents.{Contents}
+use Rattle.drt_model.specs.declared.jobs.Miss.{Miss}
+use Rattle.drt_model.specs.declared.jobs.Policy.TheVariants.{Fixed}
+use Rattle.drt_model.specs.declared.jobs.Release.{Release}
+use Rattle.drt_model.specs.Schedulable.{Schedulable}
+use Rattle.drt_evidence.specs.Kinds.{HasStates, HasTrees}
+use Rattle.drt_evidence.specs.Ranges.{IsInRange}
+use Rattle.drt_evidence.specs.Rules.{Accepts}
+use Rattle.drt_evidence.specs.declared.evidence.Evidence.{Evidence}
+use Rattle.drt_evidence.specs.declared.evidence.Evidence.TheVariants.{FixedYes, FixedStates, FixedNo, Undecided}
+use Rattle.drt_evidence.specs.declared.evidence.ProofClaim.{ProofClaim}
+use Rattle.drt_evidence.specs.declared.evidence.TreeClaim.{TreeClaim}
+use Rattle.drt_sp.specs.Answers.{IsExactYes, IsUndecided}
+use Rattle.drt_sp.specs.Evidence.{under_fixed}
+use Rattle.drt_trails.specs.declared.FixedTrail.{FixedTrail}
+use Rattle.drt_fixed.specs.declared.analysis.Analysed.{Analysed}
+
+-- A yes: the set is schedulable, and the evidence, which has trees or states, is accepted. Trees and their proofs are exact.
+pub record IsYes (set : Contents) (evidence : Evidence) : Type 0 where
+  pub schedulable : Schedulable set.tasks Fixed
+  pub accepted : Accepts (under_fixed set evidence)
+  pub kind : HasTrees evidence ⊎ HasStates evidence
+  pub exact : (trees : List TreeClaim) (proofs : List ProofClaim) → evidence ≡ FixedYes trees proofs → IsExactYes set trees proofs
+
+-- A no: the set isn't schedulable, and the evidence is accepted: the releases are legal, and the named job misses.
+pub record IsNo (set : Contents) (releases : List Release) (miss : Miss) : Type 0 where
+  pub not_schedulable : ¬ Schedulable set.tasks Fixed
+  pub accepted : Accepts (under_fixed set (FixedNo releases miss))
+
+-- What is said with evidence and the trail of a spent budget: a yes or a no without a trail; or that nothing is decided, and the trail
+-- shows why.
+abbrev pub IsSaid : Contents → ℕ → Evidence → Option FixedTrail → Type 0
+IsSaid set budget (FixedYes trees proofs) trail = (trail ≡ None) × IsYes set (FixedYes trees proofs)
+IsSaid set budget (FixedStates tails searches) trail = (trail ≡ None) × IsYes set (FixedStates tails searches)
+IsSaid set budget (FixedNo releases miss) trail = (trail ≡ None) × IsNo set releases miss
+IsSaid set budget Undecided trail = (spent : FixedTrail) × (trail ≡ Some spent) × IsUndecided set budget spent
+IsSaid set budget other trail = ⊥
+
+-- The answer is the dossier of the set under fixed priorities with evidence in range, and says this.
+pub record IsAnalysed (set : Contents) (budget : ℕ) (answer : Analysed) : Type 0 where
+  pub evidence : Evidence
+  pub dossier_is : answer.dossier ≡ under_fixed set evidence
+  pub in_range : IsInRange evidence
+  pub says : IsSaid set budget evidence answer.trail

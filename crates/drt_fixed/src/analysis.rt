@@ -1,0 +1,121 @@
+//! The analysis.
+ghost use Rattle.std.specs.Prelude.{◌≡◌, ◌≤◌, ◌×◌, IfOk, IfSome};
+ghost use Rattle.drt_model.specs.Constrained.{AreConstrained};
+ghost use Rattle.drt_evidence.specs.Claims.{graphs_of};
+ghost use Rattle.drt_fixed.specs.Answers.{IsAnalysed, IsAccepted};
+
+use crate::ranges::is_in_range;
+use crate::searching::find_by_states;
+use drt_check::{Judgement, check};
+use drt_evidence::{Dossier, Evidence};
+use drt_graph::Graphs;
+use drt_model::{Memory, Policy, TaskSet};
+use drt_pool::Gate;
+use drt_sp::{FixedAnswer, FixedTrail};
+use std::alloc::Global;
+use std::sync::Wait;
+use std::thread::Threads;
+
+// How many steps each table and each frontier has before tails and states are tried.
+const ALLOWANCE: u64 = 4_096;
+
+/// What the analysis of a set under fixed priorities found: its dossier, and the trail of a spent budget where nothing is decided.
+#[derive(Drop)]
+pub struct Analysed {
+    pub dossier: Dossier,
+    pub trail: Option<FixedTrail>,
+}
+
+/// Decides whether a set with constrained deadlines is schedulable under fixed priorities.
+///
+/// First each table and each frontier of `drt_sp` has the budget or 4,096 steps, whichever is less. Where that is spent, the states of
+/// each vertex are searched, with the budget for each. Where that finds nothing, tables and frontiers have the budget.
+pub fn analyse_fixed<G: Gate, R: Threads + Wait + Sync>(
+    rt: &R,
+    alloc: Global,
+    set: TaskSet,
+    graphs: &Graphs,
+    workers: u32,
+    budget: u64,
+    gate: &G,
+) -> Result<Analysed, Memory>
+    requires constrained { AreConstrained set.tasks }
+    requires graphs { graphs.now ≡ graphs_of set.tasks }
+    requires workers { (1 ≤ workers) × (workers ≤ 16) }
+    requires some { 1 ≤ budget }
+    requires few { budget ≤ 1000000 }
+    ensures { IfOk result (IsAnalysed set budget) }
+{
+    let allowance = budget.min(ALLOWANCE);
+    match drt_sp::analyse_fixed(rt, alloc, &set, graphs, workers, allowance, gate)? {
+        FixedAnswer::Done(evidence) => return Ok(decided(set, evidence)),
+        FixedAnswer::Undecided(_) => {}
+    }
+    let set = match decide_by_states(alloc, set, graphs, budget)? {
+        ByStates::Accepted(dossier) => {
+            return Ok(Analysed {
+                dossier,
+                trail: None,
+            });
+        }
+        ByStates::Nothing(set) => set,
+    };
+    match drt_sp::analyse_fixed(rt, alloc, &set, graphs, workers, budget, gate)? {
+        FixedAnswer::Done(evidence) => Ok(decided(set, evidence)),
+        FixedAnswer::Undecided(trail) => Ok(undecided(set, trail)),
+    }
+}
+
+// What tails and states give.
+#[derive(Drop)]
+enum ByStates {
+    // An accepted yes or no.
+    Accepted(Dossier),
+    // Nothing: the set.
+    Nothing(TaskSet),
+}
+
+// The answer by tails and states, where the checker accepts one.
+fn decide_by_states(
+    alloc: Global,
+    set: TaskSet,
+    graphs: &Graphs,
+    budget: u64,
+) -> Result<ByStates, Memory> {
+    let Some(evidence) = find_by_states(alloc, &set, graphs, budget)? else {
+        return Ok(ByStates::Nothing(set));
+    };
+    if !is_in_range(&evidence) {
+        return Ok(ByStates::Nothing(set));
+    }
+    let dossier = dossier_of(set, evidence);
+    match check(alloc, &dossier)? {
+        Judgement::Schedulable | Judgement::Unschedulable => Ok(ByStates::Accepted(dossier)),
+        _ => Ok(ByStates::Nothing(dossier.set)),
+    }
+}
+
+// The answer with this evidence.
+fn decided(set: TaskSet, evidence: Evidence) -> Analysed {
+    Analysed {
+        dossier: dossier_of(set, evidence),
+        trail: None,
+    }
+}
+
+// That nothing is decided, and why.
+fn undecided(set: TaskSet, trail: FixedTrail) -> Analysed {
+    Analysed {
+        dossier: dossier_of(set, Evidence::Undecided),
+        trail: Some(trail),
+    }
+}
+
+// The dossier of a set under fixed priorities with this evidence.
+fn dossier_of(set: TaskSet, evidence: Evidence) -> Dossier {
+    Dossier {
+        policy: Policy::Fixed,
+        set,
+        evidence,
+    }
+}

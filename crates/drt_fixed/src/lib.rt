@@ -1,0 +1,14 @@
+//! The answer to a task set under fixed priorities.
+//!
+//! `analyse_fixed` first goes by the trees of `drt_sp` with few steps, so that small sets have a small answer. Where these are spent it goes by
+//! tails and states, which looks only as deep as the answer needs; and where that finds none, by trees with the whole budget. An answer by
+//! tails and states is given only where the checker accepts it, so nothing is relied on of how it is found.
+#![tactic(auto)]
+
+mod analysis;
+mod ranges;
+mod releases;
+mod searching;
+mod tails;
+
+pub use analysis::{Analysed, analyse_fixed};

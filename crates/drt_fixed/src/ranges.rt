@@ -1,0 +1,123 @@
+//! Whether the numbers of evidence are in range.
+ghost use Rattle.std.specs.Prelude.{◌↔◌, All, IsTrue};
+ghost use Rattle.drt_evidence.specs.Ranges.{IsInRange, IsInRangeCurve, IsInRangeEnd, IsInRangeJump, IsInRangeRelease, IsInRangeSearch, IsInRangeState, IsInRangeStateEntry, IsInRangeTail};
+
+use drt_evidence::Evidence;
+use drt_model::{Release, Row};
+use drt_states::{Jump, SearchClaim, StateClaim, StateEnd, StateEntry, TailClaim};
+
+// The greatest count of a list.
+const MOST_ITEMS: usize = 4_294_967_295;
+// The greatest offset, time or need, in ticks.
+const MOST_TICKS: u64 = 1_000_000_000_000_000_000;
+// The greatest work, in ticks.
+const MOST_WORK: u64 = 2_000_000_000_000_000_000;
+
+/// Whether this is evidence by tails and states or of a no, with its numbers in range.
+pub(crate) fn is_in_range(evidence: &Evidence) -> bool
+    ensures { IsTrue result → IsInRange evidence.now }
+{
+    match evidence {
+        Evidence::FixedStates { tails, searches } => {
+            let (tails, searches) = (tails.as_slice(), searches.as_slice());
+            tails.len() <= MOST_ITEMS
+                && searches.len() <= MOST_ITEMS
+                && all_tails(tails)
+                && all_searches(searches)
+        }
+        Evidence::FixedNo { releases, miss } => {
+            let releases = releases.as_slice();
+            releases.len() <= MOST_ITEMS && all_releases(releases) && miss.deadline <= MOST_TICKS
+        }
+        _ => false,
+    }
+}
+
+fn all_tails(tails: &[TailClaim]) -> bool
+    ensures { IsTrue result ↔ All IsInRangeTail tails.now }
+{
+    tails.iter().all(is_tail)
+}
+
+fn is_tail(tail: &TailClaim) -> bool
+    ensures { IsTrue result ↔ IsInRangeTail tail.now }
+{
+    let curves = tail.curves.as_slice();
+    curves.len() <= MOST_ITEMS && all_curves(curves)
+}
+
+fn all_curves(curves: &[Row<Jump>]) -> bool
+    ensures { IsTrue result ↔ All IsInRangeCurve curves.now }
+{
+    curves.iter().all(is_curve)
+}
+
+fn is_curve(curve: &Row<Jump>) -> bool
+    ensures { IsTrue result ↔ IsInRangeCurve curve.now }
+{
+    let jumps = curve.as_slice();
+    jumps.len() <= MOST_ITEMS && all_jumps(jumps)
+}
+
+fn all_jumps(jumps: &[Jump]) -> bool
+    ensures { IsTrue result ↔ All IsInRangeJump jumps.now }
+{
+    jumps
+        .iter()
+        .all(|jump| jump.offset <= MOST_TICKS && jump.work <= MOST_WORK)
+}
+
+fn all_searches(searches: &[SearchClaim]) -> bool
+    ensures { IsTrue result ↔ All IsInRangeSearch searches.now }
+{
+    searches.iter().all(is_search)
+}
+
+fn is_search(search: &SearchClaim) -> bool
+    ensures { IsTrue result ↔ IsInRangeSearch search.now }
+{
+    let states = search.states.as_slice();
+    states.len() <= MOST_ITEMS && all_states(states)
+}
+
+fn all_states(states: &[StateClaim]) -> bool
+    ensures { IsTrue result ↔ All IsInRangeState states.now }
+{
+    states.iter().all(is_state)
+}
+
+fn is_state(state: &StateClaim) -> bool
+    ensures { IsTrue result ↔ IsInRangeState state.now }
+{
+    let entries = state.entries.as_slice();
+    state.work <= MOST_WORK && entries.len() <= MOST_ITEMS && all_entries(entries) && is_end(&state.end)
+}
+
+fn all_entries(entries: &[StateEntry]) -> bool
+    ensures { IsTrue result ↔ All IsInRangeStateEntry entries.now }
+{
+    entries.iter().all(is_entry)
+}
+
+fn is_entry(entry: &StateEntry) -> bool
+    ensures { IsTrue result ↔ IsInRangeStateEntry entry.now }
+{
+    entry.offset <= MOST_TICKS
+}
+
+fn is_end(end: &StateEnd) -> bool
+    ensures { IsTrue result ↔ IsInRangeEnd end.now }
+{
+    match end {
+        StateEnd::Passes(time) => *time <= MOST_TICKS,
+        StateEnd::Splits { .. } => true,
+    }
+}
+
+fn all_releases(releases: &[Release]) -> bool
+    ensures { IsTrue result ↔ All IsInRangeRelease releases.now }
+{
+    releases
+        .iter()
+        .all(|release| release.time <= MOST_TICKS && release.need <= MOST_TICKS)
+}

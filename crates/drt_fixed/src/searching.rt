@@ -1,0 +1,103 @@
+//! The searches of all vertices.
+use crate::releases::{Subject, refusal};
+use crate::tails::find_tails;
+use drt_check_states::find_crests;
+use drt_check_trees::priority_order;
+use drt_evidence::Evidence;
+use drt_graph::Graphs;
+use drt_model::{Jump, Memory, Row, TaskSet};
+use drt_sp_states::{Searched, search_states};
+use drt_states::{SearchClaim, TailClaim};
+use std::alloc::Global;
+
+// What the searches of all vertices are over: the graphs, the tasks in order of priority, the tails of all but the last one with their
+// greatest values, and the budget of states for each vertex.
+#[derive(Clone, Copy)]
+struct Given<'a> {
+    graphs: &'a Graphs,
+    order: &'a [u32],
+    tails: &'a [TailClaim],
+    crests: &'a [Row<Jump>],
+    budget: u64,
+}
+
+// What the searches of a task's vertices find.
+#[derive(Drop)]
+enum Found {
+    // States for each vertex.
+    Searches(Vec<SearchClaim>),
+    // A no.
+    Refusal(Evidence),
+    // Nothing.
+    Nothing,
+}
+
+/// The evidence of a yes by tails and states, or of a no, where one is found with this budget of states for each vertex.
+pub(crate) fn find_by_states(
+    alloc: Global,
+    set: &TaskSet,
+    graphs: &Graphs,
+    budget: u64,
+) -> Result<Option<Evidence>, Memory> {
+    let order = priority_order(alloc, set)?;
+    let Some(tails) = find_tails(alloc, graphs, order.as_slice())? else {
+        return Ok(None);
+    };
+    let crests = find_crests(alloc, &tails)?;
+    let given = Given {
+        graphs,
+        order: order.as_slice(),
+        tails: &tails,
+        crests: crests.as_slice(),
+        budget,
+    };
+    match search_all(alloc, given)? {
+        Found::Searches(searches) => Ok(Some(Evidence::FixedStates {
+            tails: Row::from_vec(tails),
+            searches: Row::from_vec(searches),
+        })),
+        Found::Refusal(evidence) => Ok(Some(evidence)),
+        Found::Nothing => Ok(None),
+    }
+}
+
+// The searches of all vertices, in order of tasks; the first vertex that fails, in order of priority, gives a no.
+fn search_all(alloc: Global, given: Given<'_>) -> Result<Found, Memory> {
+    let mut all = Vec::new(alloc);
+    for place in 0..given.order.len() {
+        match search_task(alloc, given, place)? {
+            Found::Searches(mut searches) => all.append(&mut searches)?,
+            found => return Ok(found),
+        }
+    }
+    all.sort_by_key(|search: &SearchClaim| (search.task, search.vertex))?;
+    Ok(Found::Searches(all))
+}
+
+// The searches of the vertices of the task at a place.
+fn search_task(alloc: Global, given: Given<'_>, place: usize) -> Result<Found, Memory> {
+    let task = given.order[place];
+    let graph = given.graphs.graph(task);
+    let mut searches = Vec::new(alloc);
+    for vertex in 0..graph.vertex_count() {
+        let subject = Subject {
+            task,
+            vertex,
+            deadline: graph.vertex(vertex).deadline,
+        };
+        match search_vertex(alloc, given, place, subject, graph.vertex(vertex).wcet)? {
+            Searched::Passes(states) => searches.push(SearchClaim {
+                task,
+                vertex,
+                states,
+            })?,
+            Searched::Misses(walks) => {
+                let higher = &given.order[..place];
+                let evidence = refusal(alloc, given.graphs, higher, walks.as_slice(), subject)?;
+                return Ok(Found::Refusal(evidence));
+            }
+            Searched::Spent => return Ok(Found::Nothing),
+        }
+    }
+    Ok(Found::Searches(searches))
+}

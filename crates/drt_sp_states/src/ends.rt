@@ -1,0 +1,109 @@
+//! The states of a table as claims.
+use crate::tables::{End, Standing, State, Table};
+use drt_model::{Memory, Row};
+use drt_states::{StateClaim, StateEnd, StateEntry};
+use std::alloc::Global;
+
+/// The states that aren't dropped, in order. Where a child is dropped, the state that dominates it stands for it. None where nothing is
+/// done at some state.
+pub(crate) fn make_claims(alloc: Global, table: &Table) -> Result<Option<Vec<StateClaim>>, Memory> {
+    let numbers = kept_numbers(alloc, table)?;
+    let mut claims = Vec::new(alloc);
+    for state in &table.states {
+        if is_kept(state) {
+            let Some(claim) = claim_of(alloc, table, numbers.as_slice(), state)? else {
+                return Ok(None);
+            };
+            claims.push(claim)?;
+        }
+    }
+    Ok(Some(claims))
+}
+
+fn is_kept(state: &State) -> bool {
+    match state.end {
+        End::Dropped(_) => false,
+        _ => true,
+    }
+}
+
+// For each state how many states before it are kept.
+fn kept_numbers(alloc: Global, table: &Table) -> Result<Vec<u32>, Memory> {
+    let mut numbers = Vec::with_capacity(alloc, table.states.len())?;
+    let mut next: u32 = 0;
+    for state in &table.states {
+        numbers.push(next)?;
+        if is_kept(state) {
+            next = next.saturating_add(1);
+        }
+    }
+    Ok(numbers)
+}
+
+fn claim_of(
+    alloc: Global,
+    table: &Table,
+    numbers: &[u32],
+    state: &State,
+) -> Result<Option<StateClaim>, Memory> {
+    let end = match &state.end {
+        End::Passes(time) => StateEnd::Passes(*time),
+        End::Splits { place, children } => {
+            let Some(children) = renumber(alloc, table, numbers, children.as_slice())? else {
+                return Ok(None);
+            };
+            StateEnd::Splits {
+                place: *place,
+                children: Row::from_vec(children),
+            }
+        }
+        _ => return Ok(None),
+    };
+    Ok(Some(StateClaim {
+        entries: Row::from_vec(make_entries(alloc, state.entries.as_slice())?),
+        work: state.work,
+        end,
+    }))
+}
+
+fn make_entries(alloc: Global, standings: &[Standing]) -> Result<Vec<StateEntry>, Memory> {
+    let mut entries = Vec::with_capacity(alloc, standings.len())?;
+    for standing in standings {
+        entries.push(StateEntry {
+            place: standing.place,
+            vertex: standing.vertex,
+            offset: standing.offset,
+        })?;
+    }
+    Ok(entries)
+}
+
+// The numbers that the children have among the kept states.
+fn renumber(
+    alloc: Global,
+    table: &Table,
+    numbers: &[u32],
+    children: &[u32],
+) -> Result<Option<Vec<u32>>, Memory> {
+    let mut all = Vec::with_capacity(alloc, children.len())?;
+    for child in children {
+        match numbers.get(standing_for(table, *child) as usize) {
+            Some(number) => all.push(*number)?,
+            None => return Ok(None),
+        }
+    }
+    Ok(Some(all))
+}
+
+// The state that stands for one: the one that dominates it where it is dropped, else itself.
+fn standing_for(table: &Table, number: u32) -> u32 {
+    match table.states.get(number as usize) {
+        Some(
+            State {
+                end: End::Dropped(above),
+                ..
+            },
+        ) => *above,
+        _ => number,
+    }
+}

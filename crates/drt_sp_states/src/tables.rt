@@ -1,0 +1,243 @@
+//! The table of states of a search.
+use crate::places::{Gaps, least_gap};
+use drt_model::Memory;
+use std::alloc::Global;
+use std::cmp::Reverse;
+use std::collections::{BTreeMap, BinaryHeap};
+
+// How many earlier states with equal vertices a state is compared with.
+const LOOK_BACK: u32 = 32;
+
+/// Where the walk of a place stands, in an order for look-ups.
+#[derive(Debug, Clone, Copy, PartialEq, Eq, PartialOrd, Ord)]
+pub(crate) struct Standing {
+    pub place: u32,
+    pub vertex: u32,
+    pub offset: u64,
+}
+
+/// What is done at a state.
+#[derive(Drop)]
+pub(crate) enum End {
+    /// Nothing so far.
+    Open,
+    /// It passes at this time.
+    Passes(u64),
+    /// It is split at this place; the numbers of its children.
+    Splits { place: u32, children: Vec<u32> },
+    /// An earlier state dominates it.
+    Dropped(u32),
+}
+
+/// The state from which another one comes, and the place at which that was split.
+#[derive(Clone, Copy)]
+pub(crate) struct Origin {
+    pub parent: u32,
+    pub place: u32,
+}
+
+/// A combination of walks.
+#[derive(Drop)]
+pub(crate) struct State {
+    /// Where walks stand, in order of the places.
+    pub entries: Vec<Standing>,
+    /// The work of the vertices before, in ticks.
+    pub work: u64,
+    pub origin: Option<Origin>,
+    /// The state of equal vertices that was taken before it.
+    pub before: Option<u32>,
+    pub end: End,
+}
+
+/// The states of a search, and those that wait, in order of the sum of their offsets and least separations.
+#[derive(Drop)]
+pub(crate) struct Table {
+    pub states: Vec<State>,
+    numbers: BTreeMap<Vec<Standing>, u32>,
+    latest: BTreeMap<Vec<(u32, u32)>, u32>,
+    queue: BinaryHeap<Reverse<(u64, u32)>>,
+}
+
+/// A table of the state without entries.
+pub(crate) fn open_table(alloc: Global) -> Result<Table, Memory> {
+    let mut table = Table {
+        states: Vec::new(alloc),
+        numbers: BTreeMap::new(alloc),
+        latest: BTreeMap::new(alloc),
+        queue: BinaryHeap::new(alloc),
+    };
+    let _first = add_state(alloc, &mut table, Vec::new(alloc), 0, None, 0)?;
+    Ok(table)
+}
+
+/// The number of a new state; none where there are too many.
+fn add_state(
+    alloc: Global,
+    table: &mut Table,
+    entries: Vec<Standing>,
+    work: u64,
+    origin: Option<Origin>,
+    rank: u64,
+) -> Result<Option<u32>, Memory> {
+    let Ok(number) = u32::try_from(table.states.len()) else {
+        return Ok(None);
+    };
+    let key = Vec::from_slice(alloc, entries.as_slice())?;
+    table.states.push(State {
+        entries,
+        work,
+        origin,
+        before: None,
+        end: End::Open,
+    })?;
+    table.numbers.insert(key, number)?;
+    table.queue.push(Reverse((rank, number)))?;
+    Ok(Some(number))
+}
+
+/// The number of the state of these entries, which has this work or more from now on. None where there are too many states.
+pub(crate) fn offer(
+    alloc: Global,
+    table: &mut Table,
+    gaps: &[Gaps],
+    entries: Vec<Standing>,
+    work: u64,
+    origin: Origin,
+) -> Result<Option<u32>, Memory> {
+    match table.number_of(&entries) {
+        Some(number) => {
+            raise_work(table, number, work, origin);
+            Ok(Some(number))
+        }
+        None => {
+            let rank = rank_of(gaps, entries.as_slice());
+            add_state(alloc, table, entries, work, Some(origin), rank)
+        }
+    }
+}
+
+// The sum of the offsets and of the least separations of their places.
+fn rank_of(gaps: &[Gaps], entries: &[Standing]) -> u64 {
+    let mut rank: u64 = 0;
+    for entry in entries {
+        rank = rank
+            .saturating_add(entry.offset)
+            .saturating_add(least_gap(gaps, entry.place));
+    }
+    rank
+}
+
+// Gives the state this work where it has less.
+fn raise_work(table: &mut Table, number: u32, work: u64, origin: Origin) {
+    if let Some(state) = table.states.get_mut(number as usize) {
+        if state.work < work {
+            state.work = work;
+            state.origin = Some(origin);
+        }
+    }
+}
+
+impl Table {
+    /// The number of the state of these entries, if there is one.
+    fn number_of(&self, entries: &[Standing]) -> Option<u32> {
+        self.numbers.get(entries).copied()
+    }
+
+    /// Whether no state waits.
+    pub(crate) fn is_done(&self) -> bool {
+        self.queue.is_empty()
+    }
+
+    /// Takes the first one of the states that wait.
+    pub(crate) fn take(&mut self) -> Option<u32> {
+        match self.queue.pop() {
+            Some(Reverse((_, number))) => Some(number),
+            None => None,
+        }
+    }
+
+    /// Says what is done at a state.
+    pub(crate) fn set_end(&mut self, number: u32, end: End) {
+        if let Some(state) = self.states.get_mut(number as usize) {
+            state.end = end;
+        }
+    }
+
+    // Says which state of equal vertices was taken before.
+    fn set_before(&mut self, number: u32, before: Option<u32>) {
+        if let Some(state) = self.states.get_mut(number as usize) {
+            state.before = before;
+        }
+    }
+
+    // The last state of these places and vertices that was taken.
+    fn latest_of(&self, vertices: &[(u32, u32)]) -> Option<u32> {
+        self.latest.get(vertices).copied()
+    }
+
+    // The places and vertices of a state.
+    fn vertices_at(&self, alloc: Global, number: u32) -> Result<Vec<(u32, u32)>, Memory> {
+        match self.states.get(number as usize) {
+            Some(state) => vertices_of(alloc, &state.entries),
+            None => Ok(Vec::new(alloc)),
+        }
+    }
+
+    // The last of some states, each with the number of one before it, that dominates the state.
+    fn dominating(&self, number: u32, from: Option<u32>) -> Option<u32> {
+        let state = self.states.get(number as usize)?;
+        let mut next = from;
+        for _look in 0..LOOK_BACK {
+            let number = next?;
+            let other = self.states.get(number as usize)?;
+            if dominates(other, state) {
+                return Some(number);
+            }
+            next = other.before;
+        }
+        None
+    }
+}
+
+/// Puts the state behind those of equal vertices. Where an earlier one dominates it, it is dropped. Whether it stays.
+pub(crate) fn place_state(alloc: Global, table: &mut Table, number: u32) -> Result<bool, Memory> {
+    let vertices = table.vertices_at(alloc, number)?;
+    let before = table.latest_of(&vertices);
+    match table.dominating(number, before) {
+        Some(above) => {
+            table.set_end(number, End::Dropped(above));
+            Ok(false)
+        }
+        None => {
+            table.set_before(number, before);
+            table.latest.insert(vertices, number)?;
+            Ok(true)
+        }
+    }
+}
+
+// The places and vertices of some entries.
+fn vertices_of(alloc: Global, entries: &[Standing]) -> Result<Vec<(u32, u32)>, Memory> {
+    let mut vertices = Vec::with_capacity(alloc, entries.len())?;
+    for entry in entries {
+        vertices.push((entry.place, entry.vertex))?;
+    }
+    Ok(vertices)
+}
+
+// Whether a state dominates another one of equal vertices.
+fn dominates(own: &State, other: &State) -> bool {
+    own.work >= other.work && are_no_later(own.entries.as_slice(), other.entries.as_slice())
+}
+
+fn are_no_later(own: &[Standing], other: &[Standing]) -> bool {
+    if own.len() != other.len() {
+        return false;
+    }
+    for i in 0..own.len() {
+        if own[i].offset > other[i].offset {
+            return false;
+        }
+    }
+    true
+}

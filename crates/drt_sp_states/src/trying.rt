@@ -1,0 +1,104 @@
+//! The walks of a state's trial, and what is done where they leave the job time.
+use crate::idle::{Idle, is_active, top_before};
+use crate::places::Subject;
+use crate::stepping::entry_at;
+use crate::tables::Table;
+use crate::tails::{add_attaining, greatest_walk};
+use crate::trials::Pool;
+use drt_model::{Memory, Row};
+use std::alloc::Global;
+
+/// The walks of a state's trial, one of each place: those of its entries, going on by walks that attain the tails at the deadline, and a
+/// walk that attains the greatest value of its tail where a place has no entry. None where one isn't found.
+pub(crate) fn walks_of(
+    alloc: Global,
+    subject: Subject<'_>,
+    table: &Table,
+    number: u32,
+) -> Result<Option<Vec<Row<u32>>>, Memory> {
+    let mut walks = Vec::new(alloc);
+    for place in 0..subject.order.len() {
+        let Ok(place) = u32::try_from(place) else {
+            return Ok(None);
+        };
+        let Some(walk) = walk_of(alloc, subject, table, number, place)? else {
+            return Ok(None);
+        };
+        walks.push(Row::from_vec(walk))?;
+    }
+    Ok(Some(walks))
+}
+
+// The walk of one place.
+fn walk_of(
+    alloc: Global,
+    subject: Subject<'_>,
+    table: &Table,
+    number: u32,
+    place: u32,
+) -> Result<Option<Vec<u32>>, Memory> {
+    let deadline = subject.deadline as u64;
+    let Some(state) = table.states.get(number as usize) else {
+        return Ok(None);
+    };
+    let Some(entry) = entry_at(state.entries.as_slice(), place) else {
+        return greatest_walk(alloc, subject, place, deadline);
+    };
+    let Some(left) = deadline.checked_sub(entry.offset) else {
+        return Ok(None);
+    };
+    let mut walk = walk_to(alloc, table, number, place)?;
+    if add_attaining(subject, place, entry.vertex, left, &mut walk)? {
+        Ok(Some(walk))
+    } else {
+        Ok(None)
+    }
+}
+
+// The vertices of the walk of a place up to where it stands, from the states that the state comes from.
+fn walk_to(alloc: Global, table: &Table, number: u32, place: u32) -> Result<Vec<u32>, Memory> {
+    let mut walk = Vec::new(alloc);
+    let mut at = number;
+    for _step in 0..table.states.len() {
+        let Some(state) = table.states.get(at as usize) else {
+            break;
+        };
+        let Some(origin) = state.origin else {
+            break;
+        };
+        if origin.place == place {
+            if let Some(entry) = entry_at(state.entries.as_slice(), place) {
+                walk.push(entry.vertex)?;
+            }
+        }
+        at = origin.parent;
+    }
+    walk.reverse();
+    Ok(walk)
+}
+
+/// The place that isn't active whose tail asks before the time for the most more than its walk of the trial, if one asks for more.
+pub(crate) fn place_to_activate(idle: &Idle, pool: &Pool, time: u64) -> Option<u32> {
+    let mut most = 0;
+    let mut place: Option<u32> = None;
+    for i in 0..idle.active.len() {
+        let gap = gap_at(idle, pool, i, time);
+        if !is_active(&idle.active, i) && gap > most {
+            most = gap;
+            place = u32::try_from(i).ok();
+        }
+    }
+    place
+}
+
+// How much more the tail of a place asks for before the time than its walk of the trial.
+fn gap_at(idle: &Idle, pool: &Pool, place: usize, time: u64) -> u64 {
+    if place >= pool.functions.len() {
+        return 0;
+    }
+    let function = &pool.functions[place];
+    if time == 0 || time > function.bound() {
+        return 0;
+    }
+    top_before(idle, place, time).saturating_sub(function.at(time))
+}

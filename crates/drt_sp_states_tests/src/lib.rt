@@ -1,0 +1,5 @@
+//! Tests of the search of states: worked sets that pass, that miss, and whose states are split.
+#![tactic(auto)]
+
+#[cfg(test)]
+mod tests;
