@@ -6,6 +6,7 @@ use Rattle.std.proofs.lemmas.List.{append-nil, append_cancel_left, map_push}
 use Rattle.std.proofs.lemmas.List.Concat.{flat_map-append}
 use Rattle.std.proofs.lemmas.List.Elements.{All-nil, All-head, All-tail, All-push}
 use Rattle.drt_file.proofs.Digits.{decimal_field}
+use Rattle.drt_evidence.specs.Cuts.{left}
 use Rattle.drt_evidence.specs.Fields.{behind}
 use Rattle.drt_evidence.specs.Ranges.{IsNumber}
 use Rattle.drt_evidence.specs.LineForms.{HasNoSpace, IsFieldForm, IsForm, IsNoForm, IsLineOf, IsNoLine, spaced, pair_form, AreBoth, IsAny, itself, list_form, AreCounted}
@@ -208,10 +209,6 @@ pub line_found : {A : Type 0} {word : List ℕ} {form : A → List ℕ} {In : A 
     → (line rest : List ℕ) (o : Option A) → line ≡ word ++ 32 ∷ rest → MatchOption o (IsNoForm form In rest) (λ x. IsForm form In rest x) → MatchOption o (IsNoLine fields In line) (λ x. IsLineOf fields In line x)
 line_found {A} {word} {form} {In} {fields} shape line rest None opens not = line_broken shape line rest opens not
 line_found {A} {word} {form} {In} {fields} shape line rest (Some x) opens is = line_is shape line rest x x opens is refl
-
--- What is left of a line behind a field.
-abbrev pub left : Option (Bor (List ℕ)) → List ℕ
-left rest = spaced (option_map (λ r. r.now) rest)
 
 -- As a loop finds one item more, one that is none, and no further.
 pub loop_more : {A : Type 0} (f : A → List ℕ) (P : A → Type 0) → IsFieldForm f P → (all field : List ℕ) (rest others : Option (Bor (List ℕ))) (bytes : Bor (List ℕ)) (found now : List A) (x : A)

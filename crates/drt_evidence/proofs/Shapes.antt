@@ -12,7 +12,7 @@ use Rattle.drt_evidence.specs.declared.evidence.Pair.{Pair}
 use Rattle.drt_evidence.specs.declared.evidence.ProofClaim.{ProofClaim}
 use Rattle.drt_evidence.specs.declared.reading.line_forms.WrittenRatio.{WrittenRatio}
 use Rattle.drt_evidence.specs.Fields.{behind}
-use Rattle.drt_evidence.specs.Ranges.{IsNumber, IsTick, IsInRangeEntry, IsInRangeItem, IsInRangeMiss, IsInRangePair, IsInRangePotential, IsInRangeProof, IsInRangeRelease}
+use Rattle.drt_evidence.specs.Ranges.{IsNumber, IsTick, IsWork, IsInRangeEntry, IsInRangeItem, IsInRangeMiss, IsInRangePair, IsInRangePotential, IsInRangeProof, IsInRangeRelease}
 use Rattle.drt_evidence.specs.Text.{count_line, entry_line, item_field, miss_line, pair_line, proof_line, release_line}
 use Rattle.drt_evidence.specs.LineForms.{AreBoth, AreCounted, IsForm, IsNoForm, IsInRangeWritten, list_form, numbers_line, pair_form, potentials_line, written_ratio_line}
 use Rattle.drt_evidence.proofs.Joins.{join_behind}
@@ -68,10 +68,6 @@ pair_shape = record { fields_are = λ y. refl; ranges = λ y r. r; back = λ y r
 
     one : (x y : Pair) → ◌≡◌ {A = ℕ × ℕ} (y.left, y.right) (x.left, x.right) → y ≡ x
     one x y e = ap build e
-
--- A work is at most 2·10^18 ticks.
-abbrev pub IsWork : ℕ → Type 0
-IsWork n = n ≤ 2000000000000000000
 
 pub entry_shape : IsShape (codes "label") (pair_form decimal (pair_form decimal decimal)) (AreBoth IsNumber (AreBoth IsTick IsWork)) entry_line IsInRangeEntry
     (λ (e : FrontEntry). (e.vertex, (e.offset, e.work)))

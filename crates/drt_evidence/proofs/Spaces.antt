@@ -6,6 +6,7 @@ use Rattle.std.proofs.lemmas.List.{append-nil, append_cancel_left}
 use Rattle.std.proofs.lemmas.Grind.{take_at_read}
 use Rattle.drt_file.proofs.Snoc.{every_push}
 use Rattle.drt_file.proofs.Again.{IsField}
+use Rattle.drt_evidence.specs.Cuts.{IsSpaced}
 use Rattle.drt_evidence.specs.Fields.{behind}
 use Rattle.drt_evidence.specs.LineForms.{HasNoSpace, spaced}
 
@@ -21,21 +22,16 @@ high_bytes (b ∷ word) are = ((λ e. absurd (omega (arith, e, are.0))), high_by
 pub field_no_space : (word : List ℕ) → IsField word → HasNoSpace word
 field_no_space word is = high_bytes word is.bytes
 
--- Nothing, or bytes that begin with a space.
-abbrev pub IsBehind : List ℕ → Type 0
-IsBehind [] = Unit {0}
-IsBehind (b ∷ bs) = b ≡ 32
-
-pub spaced_behind : (o : Option (List ℕ)) → IsBehind (spaced o)
+pub spaced_behind : (o : Option (List ℕ)) → IsSpaced (spaced o)
 spaced_behind None = tt
 spaced_behind (Some rest) = refl
 
-pub fields_behind : (fields : List (List ℕ)) → IsBehind (behind fields)
+pub fields_behind : (fields : List (List ℕ)) → IsSpaced (behind fields)
 fields_behind [] = tt
 fields_behind (w ∷ ws) = refl
 
 -- Two ways to cut off a first field are one.
-pub cut_same : (xs ys us ws : List ℕ) → HasNoSpace xs → HasNoSpace ys → IsBehind us → IsBehind ws → xs ++ us ≡ ys ++ ws → (xs ≡ ys) × (us ≡ ws)
+pub cut_same : (xs ys us ws : List ℕ) → HasNoSpace xs → HasNoSpace ys → IsSpaced us → IsSpaced ws → xs ++ us ≡ ys ++ ws → (xs ≡ ys) × (us ≡ ws)
 cut_same [] [] us ws nx ny bu bw e = (refl, e)
 cut_same [] (y ∷ ys) [] ws nx ny bu bw e = cc
 cut_same [] (y ∷ ys) (u ∷ us) ws nx ny bu bw e = let same : u ≡ y = cc in absurd (ny.0 (sym same ∙ bu))

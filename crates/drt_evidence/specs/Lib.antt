@@ -12,6 +12,7 @@ pub mod Rules
 pub mod Rates
 pub mod Reading
 pub mod LineForms
+pub mod Cuts
 pub mod Blocks
 pub mod Some
 pub mod Laws

@@ -6,13 +6,14 @@ use Rattle.std.specs.Fmt.{signed_decimal}
 use Rattle.drt_file.specs.trusted.Words.{is_digit}
 use Rattle.drt_model.specs.declared.jobs.Policy.{Policy}
 use Rattle.drt_evidence.specs.Fields.{behind}
-use Rattle.drt_evidence.specs.Ranges.{IsCounted}
+use Rattle.drt_evidence.specs.Ranges.{IsCounted, IsNumber}
 use Rattle.drt_evidence.specs.Text.{list_line, policy_word}
 use Rattle.drt_evidence.specs.declared.evidence.Evidence.{Evidence}
 use Rattle.drt_evidence.specs.declared.evidence.Evidence.TheVariants as evidence
 use Rattle.drt_evidence.specs.declared.reading.line_forms.KindOfEvidence.{KindOfEvidence}
 use Rattle.drt_evidence.specs.declared.reading.line_forms.KindOfEvidence.TheVariants as kinds
 use Rattle.drt_evidence.specs.declared.reading.line_forms.WrittenRatio.{WrittenRatio}
+use Rattle.drt_evidence.specs.declared.reading.line_forms.WrittenSearch.{WrittenSearch}
 
 -- The bytes are the form of x, which is in range, and of no other value in range.
 pub record IsForm {A : Type 0} (form : A → List ℕ) (In : A → Type 0) (bytes : List ℕ) (x : A) : Type 0 where
@@ -110,6 +111,16 @@ pub record IsInRangeWritten (r : WrittenRatio) : Type 0 where
   pub num : r.num ≤ 1000000000
   pub some : 1 ≤ r.den
   pub den : r.den ≤ 1000000000
+
+-- The first line of a search: its task, its vertex, and how many states.
+abbrev pub written_search_line : WrittenSearch → List (List ℕ)
+written_search_line s = codes "search" ∷ decimal s.task ∷ decimal s.vertex ∷ decimal s.count ∷ []
+
+-- The first line of a search has numbers of a task and a vertex, and such a count.
+pub record IsInRangeWrittenSearch (s : WrittenSearch) : Type 0 where
+  pub task : IsNumber s.task
+  pub vertex : IsNumber s.vertex
+  pub count : IsNumber s.count
 
 -- The line of a list of numbers.
 abbrev pub numbers_line : List ℕ → List ℕ → List (List ℕ)

@@ -1,13 +1,21 @@
 -- Some value in range of each kind that has a block.
 use Rattle.std.specs.Prelude.{ℕ, List, []}
 use Rattle.drt_model.specs.declared.jobs.Release.{Release}
-use Rattle.drt_evidence.specs.Ranges.{IsInRangeEntry, IsInRangeFront, IsInRangePair, IsInRangeProof, IsInRangeRatio, IsInRangeRelease, IsInRangeTree, IsInRangeWalk}
+use Rattle.drt_evidence.specs.Ranges.{IsInRangeCurve, IsInRangeEntry, IsInRangeFront, IsInRangePair, IsInRangeProof, IsInRangeRatio, IsInRangeRelease}
+use Rattle.drt_evidence.specs.Ranges.{IsInRangeSearch, IsInRangeState, IsInRangeTail, IsInRangeTree, IsInRangeWalk}
+use Rattle.drt_evidence.specs.Cuts.{IsSpaced, entry_form, jump_form}
 use Rattle.drt_model.specs.declared.front.FrontEntry.{FrontEntry}
 use Rattle.drt_evidence.specs.declared.evidence.Pair.{Pair}
 use Rattle.drt_evidence.specs.declared.evidence.ProofClaim.{ProofClaim}
 use Rattle.drt_evidence.specs.declared.evidence.RatioClaim.{RatioClaim}
 use Rattle.drt_evidence.specs.declared.evidence.TreeClaim.{TreeClaim}
-use Rattle.std.proofs.Common.{lit≤}
+use Rattle.drt_states.specs.declared.claims.Jump.{Jump}
+use Rattle.drt_states.specs.declared.claims.SearchClaim.{SearchClaim}
+use Rattle.drt_states.specs.declared.claims.StateClaim.{StateClaim}
+use Rattle.drt_states.specs.declared.claims.StateEnd.TheVariants.{Passes}
+use Rattle.drt_states.specs.declared.claims.StateEntry.{StateEntry}
+use Rattle.drt_states.specs.declared.claims.TailClaim.{TailClaim}
+use Rattle.std.proofs.Common.{lit≤, refl, ◌++◌}
 use Rattle.std.proofs.lemmas.List.Elements.{All-nil}
 
 pub some_entry : (x : FrontEntry) × IsInRangeEntry x
@@ -42,3 +50,25 @@ some_proof = (
   record { task = 0; vertex = 0; items = [] },
   record { task = lit≤ tt; vertex = lit≤ tt; items = All-nil _; counted = lit≤ tt },
 )
+
+pub some_curve : (x : List Jump) × IsInRangeCurve x
+some_curve = ([], (All-nil _, lit≤ tt))
+
+pub some_tail : (x : TailClaim) × IsInRangeTail x
+some_tail = (record { curves = [] }, (All-nil _, lit≤ tt))
+
+pub some_state : (x : StateClaim) × IsInRangeState x
+some_state = (record { entries = []; work = 0; end = Passes 0 }, record { entries = All-nil _; counted = lit≤ tt; work = lit≤ tt; end = lit≤ tt })
+
+pub some_search : (x : SearchClaim) × IsInRangeSearch x
+some_search = (
+  record { task = 0; vertex = 0; states = [] },
+  record { task = lit≤ tt; vertex = lit≤ tt; states = All-nil _; counted = lit≤ tt },
+)
+
+-- The fields of a jump and of an entry begin with a space.
+pub jump_spaced : (j : Jump) (t : List ℕ) → IsSpaced (jump_form j ++ t)
+jump_spaced j t = refl
+
+pub entry_spaced : (e : StateEntry) (t : List ℕ) → IsSpaced (entry_form e ++ t)
+entry_spaced e t = refl

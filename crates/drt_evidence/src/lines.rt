@@ -38,7 +38,7 @@ pub(crate) fn push_signed(text: &mut Vec<u8>, word: &[u8], numbers: &[i64]) -> R
 }
 
 // Adds the keyword and the count of a line of a list.
-fn push_opening(text: &mut Vec<u8>, word: &[u8], count: usize) -> Result<(), Memory>
+pub(crate) fn push_opening(text: &mut Vec<u8>, word: &[u8], count: usize) -> Result<(), Memory>
     ensures { OnOk result (text.new.items ≡ text.old.items ++ (word.now ++ behind (decimal count ∷ []))) }
 {
     let mut number = Buffer::new();
@@ -47,7 +47,7 @@ fn push_opening(text: &mut Vec<u8>, word: &[u8], count: usize) -> Result<(), Mem
 }
 
 // Adds numbers, each with a space before it.
-fn push_each_number(text: &mut Vec<u8>, numbers: &[u32]) -> Result<(), Memory>
+pub(crate) fn push_each_number(text: &mut Vec<u8>, numbers: &[u32]) -> Result<(), Memory>
     ensures { OnOk result (text.new.items ≡ text.old.items ++ behind (map decimal numbers.now)) }
 {
     let mut buffer = Buffer::new();

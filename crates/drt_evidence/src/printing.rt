@@ -7,6 +7,8 @@ mod fronts;
 mod proofs;
 mod ratios;
 mod releases;
+mod searches;
+mod tails;
 mod trees;
 
 use crate::evidence::{Dossier, Evidence};
@@ -17,7 +19,9 @@ use proofs::push_proofs;
 use ratios::push_ratios;
 pub use releases::push_release_lines;
 use releases::push_releases;
+use searches::push_searches;
 use std::alloc::Global;
+use tails::push_tails;
 use trees::push_trees;
 
 /// The one text of a dossier, in bytes: fields parted by one space, lines ended by LF, numbers without leading zeros.
@@ -68,6 +72,7 @@ fn kind_of(evidence: &Evidence) -> &'static [u8]
         Evidence::EdfNo { .. } => b"edf-no",
         Evidence::UtilisationOne { .. } => b"utilisation-one",
         Evidence::FixedYes { .. } => b"fixed-yes",
+        Evidence::FixedStates { .. } => b"fixed-states",
         Evidence::FixedNo { .. } => b"fixed-no",
         Evidence::Undecided => b"undecided",
     }
@@ -89,6 +94,10 @@ fn push_body(bytes: &mut Vec<u8>, evidence: &Evidence) -> Result<(), Memory>
         Evidence::FixedYes { trees, proofs } => {
             push_trees(bytes, trees.as_slice())?;
             push_proofs(bytes, proofs.as_slice())
+        }
+        Evidence::FixedStates { tails, searches } => {
+            push_tails(bytes, tails.as_slice())?;
+            push_searches(bytes, searches.as_slice())
         }
         Evidence::Undecided => Ok(()),
     }

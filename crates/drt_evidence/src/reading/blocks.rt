@@ -2,17 +2,20 @@
 ghost use Rattle.std.specs.Prelude.{ℕ, List, IfOk, IfErr};
 ghost use Rattle.drt_file.specs.trusted.Canonical.{written, written_line};
 ghost use Rattle.drt_evidence.specs.Blocks.{IsStop, ReadsBlock};
-ghost use Rattle.drt_evidence.specs.Ranges.{IsInRangeEntry, IsInRangeFront, IsInRangePair, IsInRangeProof, IsInRangeRatio, IsInRangeRelease, IsInRangeTree, IsInRangeWalk};
-ghost use Rattle.drt_evidence.specs.Some.{some_entry, some_front, some_pair, some_proof, some_ratio, some_release, some_tree, some_walk};
-ghost use Rattle.drt_evidence.specs.Text.{entry_line, front_lines, pair_line, proof_line, ratio_lines, release_line, tree_lines, walk_line};
+ghost use Rattle.drt_evidence.specs.Ranges.{IsInRangeCurve, IsInRangeEntry, IsInRangeFront, IsInRangePair, IsInRangeProof, IsInRangeRatio, IsInRangeRelease};
+ghost use Rattle.drt_evidence.specs.Ranges.{IsInRangeSearch, IsInRangeState, IsInRangeTail, IsInRangeTree, IsInRangeWalk};
+ghost use Rattle.drt_evidence.specs.Some.{some_curve, some_entry, some_front, some_pair, some_proof, some_ratio, some_release, some_search, some_state, some_tail, some_tree, some_walk};
+ghost use Rattle.drt_evidence.specs.Text.{curve_line, entry_line, front_lines, pair_line, proof_line, ratio_lines, release_line, search_lines, state_line, tail_lines, tree_lines, walk_line};
 
 use crate::evidence::{Pair, ProofClaim, RatioClaim, TreeClaim};
-use crate::reading::block::{Block, read_counted};
+use crate::reading::block::{Block, read_counted, read_each};
 use crate::reading::forms::{
-    read_entry, read_numbers, read_pair, read_potentials, read_proof, read_ratio_line, read_release,
+    read_entry, read_jumps, read_numbers, read_pair, read_potentials, read_proof, read_ratio_line,
+    read_release, read_search_line, read_state,
 };
 use crate::reading::text::{Stop, Text};
 use drt_model::{FrontEntry, Release, Row};
+use drt_states::{Jump, SearchClaim, StateClaim, TailClaim};
 use std::alloc::Global;
 
 // A ratio, its cycle and its potentials.
@@ -142,5 +145,76 @@ impl Block for ProofClaim {
 
     fn read(alloc: Global, text: &mut Text) -> Result<ProofClaim, Stop> {
         read_proof(alloc, text)
+    }
+}
+
+impl Block for Row<Jump> {
+    ghost block = { λ c. written_line (curve_line c) };
+
+    ghost is_stated = { IsInRangeCurve };
+
+    ghost some = { some_curve };
+
+    fn read(alloc: Global, text: &mut Text) -> Result<Row<Jump>, Stop> {
+        read_jumps(alloc, text)
+    }
+}
+
+// A tail: how many vertices, and the line of each.
+fn read_tail(alloc: Global, text: &mut Text) -> Result<TailClaim, Stop>
+    ensures read { IfOk result (λ x. ReadsBlock (λ t. written (tail_lines t)) IsInRangeTail text.old.rest.now x text.new.rest.now) }
+    ensures stops { IfErr result (IsStop (λ t. written (tail_lines t)) IsInRangeTail text.old.rest.now) }
+{
+    let curves = read_counted(alloc, text, b"tail")?;
+    Ok(TailClaim { curves })
+}
+
+impl Block for TailClaim {
+    ghost block = { λ t. written (tail_lines t) };
+
+    ghost is_stated = { IsInRangeTail };
+
+    ghost some = { some_tail };
+
+    fn read(alloc: Global, text: &mut Text) -> Result<TailClaim, Stop> {
+        read_tail(alloc, text)
+    }
+}
+
+impl Block for StateClaim {
+    ghost block = { λ s. written_line (state_line s) };
+
+    ghost is_stated = { IsInRangeState };
+
+    ghost some = { some_state };
+
+    fn read(alloc: Global, text: &mut Text) -> Result<StateClaim, Stop> {
+        read_state(alloc, text)
+    }
+}
+
+// A search: its task, its vertex, how many states, and the line of each.
+fn read_search(alloc: Global, text: &mut Text) -> Result<SearchClaim, Stop>
+    ensures read { IfOk result (λ x. ReadsBlock (λ s. written (search_lines s)) IsInRangeSearch text.old.rest.now x text.new.rest.now) }
+    ensures stops { IfErr result (IsStop (λ s. written (search_lines s)) IsInRangeSearch text.old.rest.now) }
+{
+    let opening = read_search_line(text)?;
+    let states = read_each(alloc, text, opening.count)?;
+    Ok(SearchClaim {
+        task: opening.task,
+        vertex: opening.vertex,
+        states: Row::from_vec(states),
+    })
+}
+
+impl Block for SearchClaim {
+    ghost block = { λ s. written (search_lines s) };
+
+    ghost is_stated = { IsInRangeSearch };
+
+    ghost some = { some_search };
+
+    fn read(alloc: Global, text: &mut Text) -> Result<SearchClaim, Stop> {
+        read_search(alloc, text)
     }
 }

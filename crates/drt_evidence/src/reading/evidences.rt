@@ -2,10 +2,10 @@
 ghost use Rattle.std.specs.Prelude.{ℕ, List, IfOk, IfErr};
 ghost use Rattle.drt_file.specs.trusted.Canonical.{written};
 ghost use Rattle.drt_evidence.specs.Blocks.{AreNamed, IsOfKind, IsStop, ReadsBlock, named_block};
-ghost use Rattle.drt_evidence.specs.declared.reading.line_forms.KindOfEvidence.TheVariants.{EdfYes, FixedYes};
+ghost use Rattle.drt_evidence.specs.declared.reading.line_forms.KindOfEvidence.TheVariants.{EdfYes, FixedStates, FixedYes};
 ghost use Rattle.drt_evidence.specs.LineForms.{AreCounted};
-ghost use Rattle.drt_evidence.specs.Ranges.{IsInRange, IsInRangeFront, IsInRangeProof, IsInRangeRatio, IsInRangeTree};
-ghost use Rattle.drt_evidence.specs.Text.{body_lines, evidence_lines, front_block, proof_block, ratio_block, tree_block};
+ghost use Rattle.drt_evidence.specs.Ranges.{IsInRange, IsInRangeFront, IsInRangeProof, IsInRangeRatio, IsInRangeSearch, IsInRangeTail, IsInRangeTree};
+ghost use Rattle.drt_evidence.specs.Text.{body_lines, evidence_lines, front_block, proof_block, ratio_block, search_block, tail_block, tree_block};
 
 use crate::evidence::{Evidence, ProofClaim, RatioClaim, TreeClaim};
 use crate::reading::block::read_counted;
@@ -13,6 +13,7 @@ use crate::reading::forms::{read_kind, read_last, read_miss};
 use crate::reading::line_forms::KindOfEvidence;
 use crate::reading::text::{Stop, Text};
 use drt_model::{FrontEntry, Miss, Release, Row};
+use drt_states::{SearchClaim, TailClaim};
 use std::alloc::Global;
 
 // How many ratios, and the lines of each.
@@ -47,6 +48,22 @@ fn read_proofs(alloc: Global, text: &mut Text) -> Result<Row<ProofClaim>, Stop>
     read_counted(alloc, text, b"proofs")
 }
 
+// How many tails, and the lines of each.
+fn read_tails(alloc: Global, text: &mut Text) -> Result<Row<TailClaim>, Stop>
+    ensures read { IfOk result (λ x. ReadsBlock (λ ts. written (tail_block ts)) (AreCounted IsInRangeTail) text.old.rest.now x text.new.rest.now) }
+    ensures stops { IfErr result (IsStop (λ ts. written (tail_block ts)) (AreCounted IsInRangeTail) text.old.rest.now) }
+{
+    read_counted(alloc, text, b"tails")
+}
+
+// How many searches, and the lines of each.
+fn read_searches(alloc: Global, text: &mut Text) -> Result<Row<SearchClaim>, Stop>
+    ensures read { IfOk result (λ x. ReadsBlock (λ ss. written (search_block ss)) (AreCounted IsInRangeSearch) text.old.rest.now x text.new.rest.now) }
+    ensures stops { IfErr result (IsStop (λ ss. written (search_block ss)) (AreCounted IsInRangeSearch) text.old.rest.now) }
+{
+    read_counted(alloc, text, b"searches")
+}
+
 // How many releases, the line of each, and that of the miss.
 fn read_releases(alloc: Global, text: &mut Text) -> Result<(Row<Release>, Miss), Stop>
     ensures read { IfOk result (λ x. ReadsBlock named_block AreNamed text.old.rest.now x text.new.rest.now) }
@@ -77,6 +94,16 @@ fn read_fixed_yes(alloc: Global, text: &mut Text) -> Result<Evidence, Stop>
     Ok(Evidence::FixedYes { trees, proofs })
 }
 
+// The evidence of a yes under fixed priorities by tails and states.
+fn read_fixed_states(alloc: Global, text: &mut Text) -> Result<Evidence, Stop>
+    ensures read { IfOk result (λ x. ReadsBlock (λ e. written (body_lines e)) (IsOfKind FixedStates) text.old.rest.now x text.new.rest.now) }
+    ensures stops { IfErr result (IsStop (λ e. written (body_lines e)) (IsOfKind FixedStates) text.old.rest.now) }
+{
+    let tails = read_tails(alloc, text)?;
+    let searches = read_searches(alloc, text)?;
+    Ok(Evidence::FixedStates { tails, searches })
+}
+
 // The blocks of a kind of evidence.
 fn read_body(alloc: Global, text: &mut Text, kind: KindOfEvidence) -> Result<Evidence, Stop>
     ensures read { IfOk result (λ x. ReadsBlock (λ e. written (body_lines e)) (IsOfKind kind) text.old.rest.now x text.new.rest.now) }
@@ -93,6 +120,7 @@ fn read_body(alloc: Global, text: &mut Text, kind: KindOfEvidence) -> Result<Evi
             Ok(Evidence::UtilisationOne { ratios })
         }
         KindOfEvidence::FixedYes => read_fixed_yes(alloc, text),
+        KindOfEvidence::FixedStates => read_fixed_states(alloc, text),
         KindOfEvidence::FixedNo => {
             let (releases, miss) = read_releases(alloc, text)?;
             Ok(Evidence::FixedNo { releases, miss })

@@ -6,18 +6,20 @@ ghost use Rattle.drt_file.specs.trusted.Canonical.{written_line};
 ghost use Rattle.drt_file.specs.trusted.Cutting.{HasNoFeed};
 ghost use Rattle.drt_evidence.specs.Blocks.{IsStop, ReadsBlock, close_block, first_block};
 ghost use Rattle.drt_evidence.specs.declared.reading.text.Stop.TheVariants.{Fault};
-ghost use Rattle.drt_evidence.specs.LineForms.{AreCounted, IsAny, IsInRangeWritten, kind_line, numbers_line, policy_line, potentials_line, written_ratio_line};
-ghost use Rattle.drt_evidence.specs.Ranges.{IsInRangeEntry, IsInRangeMiss, IsInRangePair, IsInRangePotential, IsInRangeProof, IsInRangeRelease, IsNumber};
-ghost use Rattle.drt_evidence.specs.Text.{count_line, entry_line, miss_line, pair_line, proof_line, release_line};
+ghost use Rattle.drt_evidence.specs.LineForms.{AreCounted, IsAny, IsInRangeWritten, IsInRangeWrittenSearch, kind_line, numbers_line, policy_line, potentials_line, written_ratio_line, written_search_line};
+ghost use Rattle.drt_evidence.specs.Ranges.{IsInRangeCurve, IsInRangeEntry, IsInRangeMiss, IsInRangePair, IsInRangePotential, IsInRangeProof, IsInRangeRelease, IsInRangeState, IsNumber};
+ghost use Rattle.drt_evidence.specs.Text.{count_line, curve_line, entry_line, miss_line, pair_line, proof_line, release_line, state_line};
 
 use crate::evidence::{Pair, ProofClaim};
 use crate::reading::line_forms::{
-    KindOfEvidence, WrittenRatio, count_of, entry_of, is_first_line, is_last_line, kind_of,
-    miss_of, pair_of, policy_of, ratio_of, release_of,
+    KindOfEvidence, WrittenRatio, WrittenSearch, count_of, entry_of, is_first_line, is_last_line,
+    kind_of, miss_of, pair_of, policy_of, ratio_of, release_of, search_of,
 };
 use crate::reading::list_lines::{numbers_of, potentials_of, proof_of};
+use crate::reading::state_lines::{jumps_of, state_of};
 use crate::reading::text::{Stop, Text, first_line, refused};
 use drt_model::{FrontEntry, Miss, Policy, Release, Row};
+use drt_states::{Jump, StateClaim};
 use std::alloc::Global;
 
 // What was found in the first line of a text, which goes on with the others; or the refusal of that line, where nothing was found.
@@ -154,4 +156,33 @@ pub(crate) fn read_proof(alloc: Global, text: &mut Text) -> Result<ProofClaim, S
     let (line, others) = first_line(text.rest)?;
     let found = proof_of(alloc, line)?;
     taken(text, others, found)
+}
+
+// The line of a vertex of a tail.
+pub(crate) fn read_jumps(alloc: Global, text: &mut Text) -> Result<Row<Jump>, Stop>
+    ensures read { IfOk result (λ x. ReadsBlock (λ y. written_line (curve_line y)) IsInRangeCurve text.old.rest.now x text.new.rest.now) }
+    ensures stops { IfErr result (IsStop (λ y. written_line (curve_line y)) IsInRangeCurve text.old.rest.now) }
+{
+    let (line, others) = first_line(text.rest)?;
+    let found = jumps_of(alloc, line)?;
+    taken(text, others, found)
+}
+
+// The line of a state.
+pub(crate) fn read_state(alloc: Global, text: &mut Text) -> Result<StateClaim, Stop>
+    ensures read { IfOk result (λ x. ReadsBlock (λ y. written_line (state_line y)) IsInRangeState text.old.rest.now x text.new.rest.now) }
+    ensures stops { IfErr result (IsStop (λ y. written_line (state_line y)) IsInRangeState text.old.rest.now) }
+{
+    let (line, others) = first_line(text.rest)?;
+    let found = state_of(alloc, line)?;
+    taken(text, others, found)
+}
+
+// The first line of a search.
+pub(crate) fn read_search_line(text: &mut Text) -> Result<WrittenSearch, Stop>
+    ensures read { IfOk result (λ x. ReadsBlock (λ y. written_line (written_search_line y)) IsInRangeWrittenSearch text.old.rest.now x text.new.rest.now) }
+    ensures stops { IfErr result (IsStop (λ y. written_line (written_search_line y)) IsInRangeWrittenSearch text.old.rest.now) }
+{
+    let (line, others) = first_line(text.rest)?;
+    taken(text, others, search_of(line))
 }

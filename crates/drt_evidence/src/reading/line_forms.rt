@@ -3,7 +3,7 @@
 //! Each function is given a line without its LF, and answers with the value that the line says, or with `None` where it says none.
 ghost use Rattle.std.specs.Prelude.{◌≡◌, ◌<◌, ◌≤◌, ◌↔◌, ◌∷◌, [], IsTrue, codes, decimal, MatchOption};
 ghost use Rattle.std.specs.List.{join_with_byte};
-ghost use Rattle.drt_evidence.specs.LineForms.{AreBoth, IsAny, IsForm, IsInRangeWritten, IsLineOf, IsNoForm, IsNoLine, kind_line, pair_form, policy_line, written_ratio_line};
+ghost use Rattle.drt_evidence.specs.LineForms.{AreBoth, IsAny, IsForm, IsInRangeWritten, IsInRangeWrittenSearch, IsLineOf, IsNoForm, IsNoLine, kind_line, pair_form, policy_line, written_ratio_line, written_search_line};
 ghost use Rattle.drt_evidence.specs.Ranges.{IsInRangeEntry, IsInRangeMiss, IsInRangePair, IsInRangeRelease, IsNumber, IsTick};
 ghost use Rattle.drt_evidence.specs.Text.{count_line, entry_line, miss_line, pair_line, release_line, word_line};
 
@@ -30,6 +30,14 @@ pub enum KindOfEvidence {
 pub struct WrittenRatio {
     pub num: u64,
     pub den: u64,
+}
+
+/// The task and the vertex of a search, and how many states it has.
+#[derive(Debug, Clone, Copy, PartialEq, Eq)]
+pub struct WrittenSearch {
+    pub task: u32,
+    pub vertex: u32,
+    pub count: u32,
 }
 
 // Whether the line is the first one of a dossier.
@@ -71,6 +79,8 @@ pub(crate) fn kind_of(line: &[u8]) -> Option<KindOfEvidence>
         Some(KindOfEvidence::UtilisationOne)
     } else if line == b"evidence fixed-yes".as_slice() {
         Some(KindOfEvidence::FixedYes)
+    } else if line == b"evidence fixed-states".as_slice() {
+        Some(KindOfEvidence::FixedStates)
     } else if line == b"evidence fixed-no".as_slice() {
         Some(KindOfEvidence::FixedNo)
     } else if line == b"evidence undecided".as_slice() {
@@ -183,5 +193,18 @@ pub(crate) fn release_of(line: &[u8]) -> Option<Release>
         vertex: vertex as u32,
         time,
         need,
+    })
+}
+
+// The task, the vertex and the count that the first line of a search says.
+pub(crate) fn search_of(line: &[u8]) -> Option<WrittenSearch>
+    ensures { MatchOption result (IsNoLine written_search_line IsInRangeWrittenSearch line.now) (IsLineOf written_search_line IsInRangeWrittenSearch line.now) }
+{
+    let rest = behind_word(line, b"search")?;
+    let (task, (vertex, count)) = three_of(rest, MOST_NUMBER, MOST_NUMBER, MOST_NUMBER)?;
+    Some(WrittenSearch {
+        task: task as u32,
+        vertex: vertex as u32,
+        count: count as u32,
     })
 }

@@ -14,7 +14,7 @@ use drt_model::{Memory, Row};
 use std::alloc::Global;
 
 // The values that the fields behind a space are, of which so many are awaited.
-fn values_behind<F: Field>(
+pub(crate) fn values_behind<F: Field>(
     alloc: Global,
     rest: Option<&[u8]>,
     awaited: usize,

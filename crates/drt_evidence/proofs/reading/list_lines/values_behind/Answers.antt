@@ -1,4 +1,5 @@
-use Rattle.drt_evidence.proofs.Forms.{left, loop_more, loop_broken, loop_done}
+use Rattle.drt_evidence.specs.Cuts.{left}
+use Rattle.drt_evidence.proofs.Forms.{loop_more, loop_broken, loop_done}
 use Rattle.drt_evidence.proofs.reading.list_lines.values_behind.Goals as goal
 
 pub returns-in-None : goal.returns-in-None

@@ -1,5 +1,6 @@
 use Rattle.std.proofs.Common.{length}
-use Rattle.drt_evidence.proofs.Forms.{IsBegun, left}
+use Rattle.drt_evidence.specs.Cuts.{left}
+use Rattle.drt_evidence.proofs.Forms.{IsBegun}
 use Rattle.drt_evidence.proofs.reading.list_lines.values_behind.Given as goal
 
 abbrev pub invariant-fields : goal.invariant-fields
