@@ -181,7 +181,7 @@ fn keeps_of_states(
         Rule::BoundingTails => Ok(bound_walks(set, graphs, order, tails)),
         Rule::SearchPerVertex => Ok(is_search_per_vertex(set, searches)),
         Rule::SearchStates => Ok(have_states(set, graphs, order, searches)),
-        Rule::PassingStates => have_passing_states(alloc, set, graphs, order, tails, searches),
+        Rule::PassingStates => have_passing_states(alloc, set, tails, searches),
         Rule::DominatedChildren => Ok(have_dominated_splits(set, graphs, order, searches)),
         _ => Ok(true),
     }

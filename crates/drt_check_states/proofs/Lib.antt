@@ -1,5 +1,7 @@
 pub mod Cuts
 pub mod Items
+pub mod Joins
+pub mod Jumps
 pub mod Moves
 pub mod Splits
 pub mod Sums

@@ -1,3 +1,4 @@
 pub mod Children
+pub mod Crests
 pub mod Curves
 pub mod Places

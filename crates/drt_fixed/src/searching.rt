@@ -5,9 +5,9 @@ use drt_check_states::find_crests;
 use drt_check_trees::priority_order;
 use drt_evidence::Evidence;
 use drt_graph::Graphs;
-use drt_model::{Jump, Memory, Row, TaskSet};
+use drt_model::{Memory, Row, TaskSet};
 use drt_sp_states::{Searched, search_states};
-use drt_states::{SearchClaim, TailClaim};
+use drt_states::{Jump, SearchClaim, TailClaim};
 use std::alloc::Global;
 
 // What the searches of all vertices are over: the graphs, the tasks in order of priority, the tails of all but the last one with their
@@ -85,7 +85,7 @@ fn search_task(alloc: Global, given: Given<'_>, place: usize) -> Result<Found, M
             vertex,
             deadline: graph.vertex(vertex).deadline,
         };
-        match search_vertex(alloc, given, place, subject, graph.vertex(vertex).wcet)? {
+        match search_vertex(alloc, given, place, graph.vertex(vertex).wcet, subject.deadline)? {
             Searched::Passes(states) => searches.push(SearchClaim {
                 task,
                 vertex,
@@ -100,4 +100,23 @@ fn search_task(alloc: Global, given: Given<'_>, place: usize) -> Result<Found, M
         }
     }
     Ok(Found::Searches(searches))
+}
+
+// The search of a vertex of the task at a place, of this execution time and deadline.
+fn search_vertex(
+    alloc: Global,
+    given: Given<'_>,
+    place: usize,
+    wcet: u32,
+    deadline: u32,
+) -> Result<Searched, Memory> {
+    search_states(
+        alloc,
+        given.graphs,
+        &given.order[..place],
+        &given.tails[..place],
+        wcet,
+        deadline,
+        given.budget,
+    )
 }

@@ -12,10 +12,10 @@ use crate::stepping::{least_passing, place_to_split, split};
 use crate::tables::{End, Table, open_table, place_state};
 use crate::trials::{Pool, Trial, try_walks};
 use crate::trying::{place_to_activate, walks_of};
-use drt_check_states::{are_states, have_dominated_children, have_passing_times};
+use drt_check_states::{are_states, find_crests, have_dominated_children, have_passing_times};
 use drt_graph::Graphs;
 use drt_model::{Memory, Row};
-use drt_states::{StateClaim, TailClaim};
+use drt_states::{Jump, StateClaim, TailClaim};
 use std::alloc::Global;
 
 /// What a search finds.
@@ -98,7 +98,8 @@ pub fn search_states(
             let Some(states) = make_claims(alloc, &search.table)? else {
                 return Ok(Searched::Spent);
             };
-            return Ok(certify(graphs, order, tails, wcet, deadline, states));
+            let crests = find_crests(alloc, tails)?;
+            return Ok(certify(graphs, order, tails, crests.as_slice(), wcet, deadline, states));
         }
     }
     Ok(Searched::Spent)
@@ -161,6 +162,7 @@ fn certify(
     graphs: &Graphs,
     order: &[u32],
     tails: &[TailClaim],
+    crests: &[Row<Jump>],
     wcet: u32,
     deadline: u32,
     states: Vec<StateClaim>,
@@ -172,7 +174,7 @@ fn certify(
     if !are_states(graphs, order, &states) {
         return Searched::Spent;
     }
-    if have_passing_times(tails, deadline, wcet, &states)
+    if have_passing_times(tails, crests, deadline, wcet, &states)
         && have_dominated_children(graphs, order, deadline, &states)
     {
         Searched::Passes(Row::from_vec(states))
