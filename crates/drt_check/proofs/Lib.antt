@@ -8,7 +8,9 @@ pub mod SoundTrees
 pub mod SoundCovers
 pub mod SoundOrder
 pub mod SoundProofs
+pub mod SoundTimes
 pub mod SoundFixed
+pub mod SoundStates
 pub mod Sound
 pub mod Pasts
 pub mod Judged

@@ -9,6 +9,7 @@ use Rattle.drt_evidence.specs.declared.evidence.Evidence.{Evidence}
 use Rattle.drt_evidence.specs.declared.evidence.Evidence.TheVariants.{EdfYes, EdfNo, UtilisationOne, FixedYes, FixedNo, Undecided}
 use Rattle.drt_evidence.specs.declared.rule.Rule.TheVariants.{ConstrainedDeadlines, KindOfPolicy, LeastMiss, LegalReleases}
 use Rattle.drt_evidence.proofs.Accepting.{statement}
+use Rattle.drt_states_laws.specs.Laws.{StatesPass}
 use Rattle.drt_check.specs.Judging.{IsSound, claimed}
 use Rattle.drt_check.specs.Laws.{AcceptedIsSound}
 use Rattle.drt_check.proofs.Accepted.{fixed_kept, one_kept, yes_kept}
@@ -17,8 +18,8 @@ use Rattle.drt_check.proofs.SoundNo.{no_is_sound}
 use Rattle.drt_check.proofs.SoundRatios.{one_is_sound}
 use Rattle.drt_check.proofs.SoundYes.{yes_is_sound}
 
-pub accepted_is_sound : DeadlinesDecide → TimesDecide → AcceptedIsSound
-accepted_is_sound deadlines times s stated accepts = by_kind s.policy s.evidence accepts
+pub accepted_is_sound : DeadlinesDecide → TimesDecide → StatesPass → AcceptedIsSound
+accepted_is_sound deadlines times pass s stated accepts = by_kind s.policy s.evidence accepts
   where
     by_kind : (policy : Policy) (evidence : Evidence) → Accepts (statement policy s.set evidence) → IsSound (statement policy s.set evidence) (claimed evidence)
     by_kind policy (EdfYes ratios fronts) is =

@@ -1,95 +1,28 @@
 -- A yes of fixed priorities: trees that cover all walks, and proofs that pass, leave a time for each vertex whatever the walks.
-use Rattle.std.proofs.Common.{◌≡◌, ℕ, zero, suc, ◌+◌, ◌<◌, ◌≤◌, inl, Some, List, [], ◌∷◌, ◌++◌, length, map, take, refl, sym, ap, ◌∙◌, subst, arith}
-use Rattle.std.specs.Prelude.{All, Contains, slice_get, slice_index_or}
-use Rattle.std.specs.List.{range_with_len}
-use Rattle.std.proofs.lemmas.List.{get_or-map, length-map}
-use Rattle.std.proofs.lemmas.List.Elements.{Contains-append_left, Contains-append_right}
-use Rattle.std.proofs.lemmas.List.FromFn.{get_or-map-range_with_len, length-map-range_with_len}
+use Rattle.std.proofs.Common.{◌≡◌, ℕ, ◌<◌, ◌≤◌, inl, Some, List, [], length, map, take, refl, sym, ap, ◌∙◌, subst, arith}
+use Rattle.std.specs.Prelude.{All, slice_get, slice_index_or}
 use Rattle.std.proofs.lemmas.Option.{slice_get-get_or}
 use Rattle.drt_model.specs.declared.tasks.Task.{Task}
-use Rattle.drt_model.specs.declared.tasks.Vertex.{Vertex}
 use Rattle.drt_model.specs.declared.jobs.Policy.TheVariants.{Fixed}
 use Rattle.drt_model.specs.Constrained.{AreConstrained}
-use Rattle.drt_model.specs.Digraph.{Digraph, digraph_of, no_vertex, vertex_count}
+use Rattle.drt_model.specs.Digraph.{Digraph, digraph_of, vertex_count}
 use Rattle.drt_model.specs.Limits.{IsTaskSet}
 use Rattle.drt_model.specs.Schedulable.{Schedulable}
-use Rattle.drt_model.specs.Walk.{deadline, wcet}
-use Rattle.drt_busy.specs.Choice.{AreWalks, graph_at, no_task, requests, task_at}
+use Rattle.drt_busy.specs.Choice.{AreWalks, graph_at, no_task, task_at}
 use Rattle.drt_busy.specs.Decide.{TimesDecide}
 use Rattle.drt_evidence.specs.Claims.{Each}
-use Rattle.drt_evidence.specs.Proofs.{IsPassed, IsProofPerVertex, after_all, opening, passes, subjects_from}
-use Rattle.drt_evidence.specs.Trees.{CoversWalks, greatest_deadline, higher_count, latest_deadline, root, tree_graphs}
+use Rattle.drt_evidence.specs.Proofs.{IsPassed, after_all, opening, passes}
+use Rattle.drt_evidence.specs.Trees.{CoversWalks, greatest_deadline, higher_count, root, tree_graphs}
 use Rattle.drt_evidence.specs.declared.evidence.ProofClaim.{ProofClaim}
 use Rattle.drt_evidence.specs.declared.evidence.TreeClaim.{TreeClaim}
 use Rattle.drt_evidence.proofs.Accepting.{IsFixedYes}
 use Rattle.drt_check.proofs.SoundOrder.{Walked, higher_below, ordered, ordered_tasks, ordered_walked, requests_first, tasks_of, walked}
 use Rattle.drt_check.proofs.SoundProofs.{have_leaves, leaves_at, leaves_most, stack_passes}
-
-latest_bounds : (vertices : List Vertex) (v : ℕ) (d : Vertex) → v < length vertices → (slice_index_or vertices v d).deadline ≤ latest_deadline vertices
-unfolding latest_deadline
-latest_bounds [] v d l = absurd (omega arith)
-latest_bounds (x ∷ vertices) zero d l = omega arith
-latest_bounds (x ∷ vertices) (suc v) d l = omega (arith, latest_bounds vertices v d (omega arith))
-
-greatest_bounds : (tasks : List Task) (k : ℕ) (d : Task) → k < length tasks → latest_deadline (slice_index_or tasks k d).vertices ≤ greatest_deadline tasks
-unfolding greatest_deadline
-greatest_bounds [] k d l = absurd (omega arith)
-greatest_bounds (t ∷ tasks) zero d l = omega arith
-greatest_bounds (t ∷ tasks) (suc k) d l = omega (arith, greatest_bounds tasks k d (omega arith))
-
--- Each deadline of a vertex is at most the greatest one.
-deadline_near : (tasks : List Task) (k v : ℕ) → k < length tasks → v < vertex_count (graph_at tasks k) → deadline (graph_at tasks k) v ≤ greatest_deadline tasks
-deadline_near tasks k v l m = omega (arith, latest_bounds (task_at tasks k).vertices v no_vertex m, greatest_bounds tasks k no_task l)
-
--- The numbers of a task and a vertex of it.
-abbrev subject : ℕ → ℕ → ℕ × ℕ
-subject k v = (k, v)
-
--- The numbers of a task and each of its vertices.
-abbrev subjects : ℕ → ℕ → List (ℕ × ℕ)
-subjects k count = map (subject k) (range_with_len 0 count)
-
-subject_here : (k count v : ℕ) → v < count → Contains (subjects k count) (subject k v)
-subject_here k count v l =
-    (v, (let e = length-map-range_with_len (subject k) 0 count in omega (arith, e, l)), get_or-map-range_with_len (subject k) 0 count v v (subject k v) l (omega arith))
-
--- Each vertex of each task is a subject.
-subject_of : (first : ℕ) (tasks : List Task) (k v : ℕ) → k < length tasks → v < length (task_at tasks k).vertices
-    → Contains (subjects_from first tasks) (subject (first + k) v)
-unfolding subjects_from
-subject_of first [] k v l m = absurd (omega (arith, l))
-subject_of first (t ∷ tasks) zero v l m =
-    let e : first ≡ first + 0 = omega arith in
-    let here = Contains-append_left (subjects first (length t.vertices)) (subjects_from (first + 1) tasks) (subject first v) (subject_here first (length t.vertices) v m) in
-    subst (λ n. Contains (subjects first (length t.vertices) ++ subjects_from (first + 1) tasks) (subject n v)) e here
-subject_of first (t ∷ tasks) (suc k) v l m =
-    let e : (first + 1) + k ≡ first + suc k = omega arith in
-    let later = subject_of (first + 1) tasks k v (omega (arith, l)) m in
-    let there = Contains-append_right (subjects first (length t.vertices)) (subjects_from (first + 1) tasks) (subject (first + 1 + k) v) later in
-    subst (λ n. Contains (subjects first (length t.vertices) ++ subjects_from (first + 1) tasks) (subject n v)) e there
+use Rattle.drt_check.proofs.SoundTimes.{HasTime, claim_of, deadline_near}
 
 -- What stands for a proof past the last one.
 no_proof : ProofClaim
 no_proof = record { task = 0; vertex = 0; items = [] }
-
--- The place of the proof of a vertex.
-record HasProof (proofs : List ProofClaim) (k v : ℕ) : Type 0 where
-  pub place : ℕ
-  pub here : place < length proofs
-  pub task_is : (slice_index_or proofs place no_proof).task ≡ k
-  pub vertex_is : (slice_index_or proofs place no_proof).vertex ≡ v
-
-has_proof : (tasks : List Task) (proofs : List ProofClaim) → IsProofPerVertex tasks proofs
-    → (k v : ℕ) → k < length tasks → v < length (task_at tasks k).vertices → HasProof proofs k v
-has_proof tasks proofs per k v l m =
-    let named : ProofClaim → ℕ × ℕ = λ p. (p.task, p.vertex) in
-    let e : 0 + k ≡ k = omega arith in
-    let has : Contains (subjects_from 0 tasks) (subject k v) = subst (λ n. Contains (subjects_from 0 tasks) (subject n v)) e (subject_of 0 tasks k v l m) in
-    let at : Contains (map named proofs) (subject k v) = subst (λ xs. Contains xs (subject k v)) (sym per) has in
-    let long = length-map proofs named in
-    let inside : at.0 < length proofs = let b = at.1 in omega (arith, b, long) in
-    let same : named (slice_index_or proofs at.0 no_proof) ≡ subject k v = sym (get_or-map named proofs at.0 no_proof (subject k v) inside) ∙ at.2 in
-    record { place = at.0; here = inside; task_is = ap (λ x. x.0) same; vertex_is = ap (λ x. x.1) same }
 
 -- What a proof of the vertex begins with.
 abbrev start : List Task → List TreeClaim → ℕ → List (List ℕ)
@@ -108,21 +41,17 @@ record IsProved (tasks : List Task) (trees : List TreeClaim) (k v : ℕ) : Type 
 is_proved : (tasks : List Task) (trees : List TreeClaim) (proofs : List ProofClaim) → IsFixedYes tasks trees proofs
     → (k v : ℕ) → k < length tasks → v < vertex_count (graph_at tasks k) → IsProved tasks trees k v
 is_proved tasks trees proofs is k v l m =
-    let has = has_proof tasks proofs is.per_vertex k v l m in
+    let has = claim_of (λ (p : ProofClaim). (p.task, p.vertex)) tasks proofs no_proof is.per_vertex k v l m in
     let proof : ProofClaim = slice_index_or proofs has.place no_proof in
-    let at : slice_get tasks proof.task ≡ Some (task_at tasks k) = ap (λ n. slice_get tasks n) has.task_is ∙ slice_get-get_or tasks k no_task l in
+    let task_is : proof.task ≡ k = ap (λ x. x.0) has.names_it in
+    let vertex_is : proof.vertex ≡ v = ap (λ x. x.1) has.names_it in
+    let at : slice_get tasks proof.task ≡ Some (task_at tasks k) = ap (λ n. slice_get tasks n) task_is ∙ slice_get-get_or tasks k no_task l in
     let passed = is.times has.place no_proof has.here (task_at tasks k) at in
     record {
       proof = proof;
       ends = is.shapes has.place no_proof has.here (task_at tasks k) at;
-      passed = subst (λ u. All (Passes tasks trees k u) (passes trees proof.items (Some (start tasks trees k)))) has.vertex_is passed;
+      passed = subst (λ u. All (Passes tasks trees k u) (passes trees proof.items (Some (start tasks trees k)))) vertex_is passed;
     }
-
--- A time up to the vertex's deadline has room for it and for what the walks of the tasks of higher priority ask for.
-abbrev HasTime : List Task → (ℕ → List ℕ) → ℕ → ℕ → Type 0
-HasTime tasks walks k v =
-    (t : ℕ) × (1 ≤ t) × (t ≤ deadline (graph_at tasks k) v)
-    × (wcet (graph_at tasks k) v + requests tasks walks (task_at tasks k).priority (length tasks) t ≤ t)
 
 -- Whatever the walks, there is such a time: their leaves are below the roots, so that an item passes for them.
 has_time : (tasks : List Task) (trees : List TreeClaim) (proofs : List ProofClaim) → IsFixedYes tasks trees proofs

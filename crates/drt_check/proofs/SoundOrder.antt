@@ -1,7 +1,9 @@
 -- What walks of the tasks of higher priority ask for, as a sum over the first tasks in order of priority.
-use Rattle.std.proofs.Common.{◌≡◌, ℕ, zero, suc, ◌+◌, ◌<◌, ◌≤◌, Bool, true, false, cond, List, [], ◌∷◌, length, map, refl, sym, ap, ◌∙◌, arith}
-use Rattle.std.specs.Prelude.{if◌then◌else◌, nat_lt}
+use Rattle.std.proofs.Common.{◌≡◌, ℕ, zero, suc, ◌+◌, ◌<◌, ◌≤◌, Bool, true, false, cond, List, [], ◌∷◌, length, map, take, refl, sym, ap, ◌∙◌, subst, arith}
+use Rattle.std.specs.Prelude.{All, if◌then◌else◌, nat_lt}
+use Rattle.std.specs.List.{AllByRecursion}
 use Rattle.std.proofs.lemmas.Bool.{le-ltb, ltb-false, ltb-true}
+use Rattle.std.proofs.lemmas.List.Elements.{All-head, All-tail}
 use Rattle.std.proofs.lemmas.List.Sums.{sum_by-cons}
 use Rattle.drt_model.specs.declared.tasks.Task.{Task}
 use Rattle.drt_model.specs.Digraph.{digraph_of}
@@ -46,26 +48,34 @@ unfolding walked ordered by_priority
 ordered_tasks [] walks = refl
 ordered_tasks (t ∷ tasks) walks = put_tasks (t, walks 0) (ordered (walked tasks (λ k. walks (suc k)))) ∙ ap (placed t) (ordered_tasks tasks (λ k. walks (suc k)))
 
--- Each has a walk of its task.
-abbrev pub AreWalked : List Walked → Type 0
-AreWalked [] = Unit {0}
-AreWalked (x ∷ xs) = IsWalk (digraph_of x.0) x.1 × AreWalked xs
-
-put_walked : (x : Walked) (ys : List Walked) → IsWalk (digraph_of x.0) x.1 → AreWalked ys → AreWalked (put x ys)
+-- What holds of a task with its walk and of all others, holds of all.
+put_all : (P : Walked → Type 0) (x : Walked) (ys : List Walked) → P x → AllByRecursion P ys → AllByRecursion P (put x ys)
 unfolding put
-put_walked x [] is are = (is, tt)
-put_walked x (y ∷ ys) is are = go (nat_lt x.0.priority y.0.priority) (put_walked x ys is are.1)
+put_all P x [] is are = (is, tt)
+put_all P x (y ∷ ys) is are = go (nat_lt x.0.priority y.0.priority) (put_all P x ys is are.1)
   where
-    go : (b : Bool) → AreWalked (put x ys) → AreWalked (cond b (x ∷ y ∷ ys) (y ∷ put x ys))
+    go : (b : Bool) → AllByRecursion P (put x ys) → AllByRecursion P (cond b (x ∷ y ∷ ys) (y ∷ put x ys))
     go true later = (is, are)
     go false later = (are.0, later)
+
+-- What holds of each task, holds in order of priority.
+pub ordered_all : (P : Task → Type 0) (tasks : List Task) (walks : ℕ → List ℕ) → All P tasks → AllByRecursion (λ x. P x.0) (ordered (walked tasks walks))
+unfolding walked ordered
+ordered_all P [] walks are = tt
+ordered_all P (t ∷ tasks) walks are =
+    let later = ordered_all P tasks (λ k. walks (suc k)) (All-tail P t tasks are) in
+    put_all (λ x. P x.0) (t, walks 0) (ordered (walked tasks (λ k. walks (suc k)))) (All-head P t tasks are) later
+
+-- Each has a walk of its task.
+abbrev pub AreWalked : List Walked → Type 0
+AreWalked xs = AllByRecursion (λ x. IsWalk (digraph_of x.0) x.1) xs
 
 pub ordered_walked : (tasks : List Task) (walks : ℕ → List ℕ) → AreWalks tasks walks → AreWalked (ordered (walked tasks walks))
 unfolding walked ordered
 ordered_walked [] walks are = tt
 ordered_walked (t ∷ tasks) walks are =
     let later = ordered_walked tasks (λ k. walks (suc k)) (λ k l. are (suc k) (omega (arith, l))) in
-    put_walked (t, walks 0) (ordered (walked tasks (λ k. walks (suc k)))) (are 0 (omega arith)) later
+    put_all (λ x. IsWalk (digraph_of x.0) x.1) (t, walks 0) (ordered (walked tasks (λ k. walks (suc k)))) (are 0 (omega arith)) later
 
 -- What a walk asks for before t.
 abbrev pub asks : ℕ → Walked → ℕ
@@ -204,6 +214,31 @@ first_total p t (x ∷ xs) are = go (nat_lt x.0.priority p) refl (first_total p 
         let n : zero ≡ 0 + count_above p xs = omega (arith, none.1) in
         let a : 0 + total_above p t xs ≡ 0 = omega (arith, none.0) in
         a ∙ ap (λ k. total_first t k (x ∷ xs)) n
+
+-- The first ones are of higher priority.
+abbrev pub AreAbove : ℕ → List Walked → Type 0
+AreAbove p xs = AllByRecursion (λ x. x.0.priority < p) xs
+
+first_above : (p : ℕ) (xs : List Walked) → AreOrdered xs → AreAbove p (take (count_above p xs) xs)
+unfolding count_above
+first_above p [] are = tt
+first_above p (x ∷ xs) are = go (nat_lt x.0.priority p) refl (first_above p xs are.1)
+  where
+    go : (b : Bool) → nat_lt x.0.priority p ≡ b → AreAbove p (take (count_above p xs) xs) → AreAbove p (take (cond b 1 0 + count_above p xs) (x ∷ xs))
+    go true high later =
+        let n : suc (count_above p xs) ≡ 1 + count_above p xs = omega arith in
+        subst (λ k. AreAbove p (take k (x ∷ xs))) n (ltb-true x.0.priority p high, later)
+    go false high later =
+        let l = ltb-false x.0.priority p high in
+        let none = late_none p 0 xs (late_weaker p x.0.priority xs l are.0) in
+        let n : zero ≡ 0 + count_above p xs = omega (arith, none.1) in
+        subst (λ k. AreAbove p (take k (x ∷ xs))) n tt
+
+-- As many as are of higher priority than p, in order of priority, are.
+pub higher_first : (tasks : List Task) (walks : ℕ → List ℕ) (p : ℕ) → AreAbove p (take (higher_count tasks p) (ordered (walked tasks walks)))
+higher_first tasks walks p =
+    let xs : List Walked = ordered (walked tasks walks) in
+    subst (λ n. AreAbove p (take n xs)) (sym (count_is p tasks walks)) (first_above p xs (are_ordered (walked tasks walks)))
 
 -- What the walks of the tasks of higher priority than p ask for is what the first ones in order of priority ask for.
 pub requests_first : (tasks : List Task) (walks : ℕ → List ℕ) (p t : ℕ)

@@ -2,6 +2,7 @@
 ghost use Rattle.drt_check.specs.Laws.{AcceptedIsSound, JudgedOnce};
 
 use drt_busy::{deadlines_decide, times_decide};
+use drt_states_laws::states_pass;
 
 /// Where the evidence is accepted, what it claims holds, whoever made the dossier: legal releases with a job that misses refute
 /// schedulability; ratios that keep their rules are those of the tasks; closed fronts with room within the horizon imply
@@ -12,6 +13,7 @@ pub fn accepted_is_sound()
 {
     deadlines_decide();
     times_decide();
+    states_pass();
 }
 
 /// A statement has one judgement, so that none is both accepted and rejected, nor rejected with two numbers.

@@ -15,7 +15,10 @@ use Rattle.drt_evidence.specs.declared.evidence.TreeClaim.{TreeClaim}
 use Rattle.drt_sp.specs.Answers.{IsExactYes, IsUndecided}
 use Rattle.drt_sp.specs.Evidence.{under_fixed}
 use Rattle.drt_trails.specs.declared.FixedTrail.{FixedTrail}
+use Rattle.drt_evidence.specs.Statement.{Statement}
 use Rattle.drt_fixed.specs.declared.analysis.Analysed.{Analysed}
+use Rattle.drt_fixed.specs.declared.analysis.ByStates.{ByStates}
+use Rattle.drt_fixed.specs.declared.analysis.ByStates.TheVariants.{Decided, Nothing}
 
 -- A yes: the set is schedulable, and the evidence, which has trees or states, is accepted. Trees and their proofs are exact.
 pub record IsYes (set : Contents) (evidence : Evidence) : Type 0 where
@@ -37,6 +40,24 @@ IsSaid set budget (FixedStates tails searches) trail = (trail ≡ None) × IsYes
 IsSaid set budget (FixedNo releases miss) trail = (trail ≡ None) × IsNo set releases miss
 IsSaid set budget Undecided trail = (spent : FixedTrail) × (trail ≡ Some spent) × IsUndecided set budget spent
 IsSaid set budget other trail = ⊥
+
+-- The evidence is of a kind that states give.
+abbrev pub IsOfStates : Evidence → Type 0
+IsOfStates (FixedStates tails searches) = Unit {0}
+IsOfStates (FixedNo releases miss) = Unit {0}
+IsOfStates other = ⊥
+
+-- The dossier is that of the set under fixed priorities with evidence in range, which is a yes or a no.
+pub record IsDecision (set : Contents) (dossier : Statement) : Type 0 where
+  pub evidence : Evidence
+  pub dossier_is : dossier ≡ under_fixed set evidence
+  pub in_range : IsInRange evidence
+  pub says : (budget : ℕ) → IsSaid set budget evidence None
+
+-- What tails and states give: a dossier that is decided, or nothing and the set as it was.
+abbrev pub IsByStates : Contents → ByStates → Type 0
+IsByStates set (Decided dossier) = IsDecision set dossier
+IsByStates set (Nothing same) = same ≡ set
 
 -- The answer is the dossier of the set under fixed priorities with evidence in range, and says this.
 pub record IsAnalysed (set : Contents) (budget : ℕ) (answer : Analysed) : Type 0 where

@@ -1,8 +1,11 @@
 //! The analysis.
-ghost use Rattle.std.specs.Prelude.{◌≡◌, ◌≤◌, ◌×◌, IfOk, IfSome};
+ghost use Rattle.std.specs.Prelude.{◌≡◌, ℕ, ◌≤◌, IfOk};
 ghost use Rattle.drt_model.specs.Constrained.{AreConstrained};
 ghost use Rattle.drt_evidence.specs.Claims.{graphs_of};
-ghost use Rattle.drt_fixed.specs.Answers.{IsAnalysed, IsAccepted};
+ghost use Rattle.drt_evidence.specs.Ranges.{IsInRange};
+ghost use Rattle.drt_sp.specs.Answers.{IsUndecided, IsVerdict};
+ghost use Rattle.drt_sp.specs.Evidence.{under_fixed};
+ghost use Rattle.drt_fixed.specs.Answers.{IsAnalysed, IsByStates};
 
 use crate::ranges::is_in_range;
 use crate::searching::find_by_states;
@@ -52,7 +55,7 @@ pub fn analyse_fixed<G: Gate, R: Threads + Wait + Sync>(
         FixedAnswer::Undecided(_) => {}
     }
     let set = match decide_by_states(alloc, set, graphs, budget)? {
-        ByStates::Accepted(dossier) => {
+        ByStates::Decided(dossier) => {
             return Ok(Analysed {
                 dossier,
                 trail: None,
@@ -69,9 +72,9 @@ pub fn analyse_fixed<G: Gate, R: Threads + Wait + Sync>(
 // What tails and states give.
 #[derive(Drop)]
 enum ByStates {
-    // An accepted yes or no.
-    Accepted(Dossier),
-    // Nothing: the set.
+    // A yes or a no that the checker accepts.
+    Decided(Dossier),
+    // Nothing: the set as it was.
     Nothing(TaskSet),
 }
 
@@ -81,7 +84,11 @@ fn decide_by_states(
     set: TaskSet,
     graphs: &Graphs,
     budget: u64,
-) -> Result<ByStates, Memory> {
+) -> Result<ByStates, Memory>
+    requires constrained { AreConstrained set.tasks }
+    requires graphs { graphs.now ≡ graphs_of set.tasks }
+    ensures { IfOk result (IsByStates set) }
+{
     let Some(evidence) = find_by_states(alloc, &set, graphs, budget)? else {
         return Ok(ByStates::Nothing(set));
     };
@@ -90,13 +97,17 @@ fn decide_by_states(
     }
     let dossier = dossier_of(set, evidence);
     match check(alloc, &dossier)? {
-        Judgement::Schedulable | Judgement::Unschedulable => Ok(ByStates::Accepted(dossier)),
+        Judgement::Schedulable | Judgement::Unschedulable => Ok(ByStates::Decided(dossier)),
         _ => Ok(ByStates::Nothing(dossier.set)),
     }
 }
 
 // The answer with this evidence.
-fn decided(set: TaskSet, evidence: Evidence) -> Analysed {
+fn decided(set: TaskSet, evidence: Evidence) -> Analysed
+    requires verdict { IsVerdict set evidence }
+    requires in_range { IsInRange evidence }
+    ensures { (budget : ℕ) → IsAnalysed set budget result }
+{
     Analysed {
         dossier: dossier_of(set, evidence),
         trail: None,
@@ -104,7 +115,9 @@ fn decided(set: TaskSet, evidence: Evidence) -> Analysed {
 }
 
 // That nothing is decided, and why.
-fn undecided(set: TaskSet, trail: FixedTrail) -> Analysed {
+fn undecided(set: TaskSet, trail: FixedTrail) -> Analysed
+    ensures { (budget : ℕ) → IsUndecided set budget trail → IsAnalysed set budget result }
+{
     Analysed {
         dossier: dossier_of(set, Evidence::Undecided),
         trail: Some(trail),
@@ -112,7 +125,10 @@ fn undecided(set: TaskSet, trail: FixedTrail) -> Analysed {
 }
 
 // The dossier of a set under fixed priorities with this evidence.
-fn dossier_of(set: TaskSet, evidence: Evidence) -> Dossier {
+fn dossier_of(set: TaskSet, evidence: Evidence) -> Dossier
+    requires { IsInRange evidence }
+    ensures { result ≡ under_fixed set evidence }
+{
     Dossier {
         policy: Policy::Fixed,
         set,

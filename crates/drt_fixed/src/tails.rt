@@ -1,4 +1,8 @@
 //! The tails of the tasks that have tasks of lower priority.
+ghost use Rattle.std.specs.Prelude.{◌<◌, All, IfOk, IfSome, length};
+ghost use Rattle.drt_check_states.specs.Curves.{HasRisingCurves};
+ghost use Rattle.drt_check_states.specs.Places.{AreTasks};
+
 use drt_graph::{Graph, Graphs};
 use drt_model::Memory;
 use drt_states::TailClaim;
@@ -16,11 +20,14 @@ pub(crate) fn find_tails(
     alloc: Global,
     graphs: &Graphs,
     order: &[u32],
-) -> Result<Option<Vec<TailClaim>>, Memory> {
+) -> Result<Option<Vec<TailClaim>>, Memory>
+    requires { AreTasks graphs.now order.now }
+    ensures { IfOk result (λ r. IfSome r (λ tails. All HasRisingCurves tails.items)) }
+{
     let bounds = find_bounds(alloc, graphs, order)?;
     let mut tails = Vec::with_capacity(alloc, bounds.len())?;
-    for place in 0..bounds.len() {
-        match tail_at(alloc, graphs, order[place], bounds[place])? {
+    for (task, bound) in order.iter().zip(bounds.iter()) {
+        match tail_at(alloc, graphs, *task, *bound)? {
             Some(tail) => tails.push(tail)?,
             None => return Ok(None),
         }
@@ -29,7 +36,15 @@ pub(crate) fn find_tails(
 }
 
 // The tail of a task up to the bound.
-fn tail_at(alloc: Global, graphs: &Graphs, task: u32, bound: u32) -> Result<Option<TailClaim>, Memory> {
+fn tail_at(
+    alloc: Global,
+    graphs: &Graphs,
+    task: u32,
+    bound: u32,
+) -> Result<Option<TailClaim>, Memory>
+    requires { task < length graphs.now }
+    ensures { IfOk result (λ r. IfSome r HasRisingCurves) }
+{
     if bound == 0 || bound > MOST_DEADLINE {
         return Ok(None);
     }
@@ -37,7 +52,9 @@ fn tail_at(alloc: Global, graphs: &Graphs, task: u32, bound: u32) -> Result<Opti
 }
 
 // For each place but the last one the greatest deadline of the tasks behind it.
-fn find_bounds(alloc: Global, graphs: &Graphs, order: &[u32]) -> Result<Vec<u32>, Memory> {
+fn find_bounds(alloc: Global, graphs: &Graphs, order: &[u32]) -> Result<Vec<u32>, Memory>
+    requires { AreTasks graphs.now order.now }
+{
     let mut bounds = Vec::with_capacity(alloc, order.len())?;
     let mut bound = 0;
     for task in order.iter().rev() {
