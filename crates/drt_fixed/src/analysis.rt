@@ -69,17 +69,17 @@ pub fn analyse_fixed<G: Gate, R: Threads + Wait + Sync>(
     }
 }
 
-// What tails and states give.
+/// What tails and states give.
 #[derive(Drop)]
-enum ByStates {
-    // A yes or a no that the checker accepts.
+pub enum ByStates {
+    /// A yes or a no that the checker accepts.
     Decided(Dossier),
-    // Nothing: the set as it was.
+    /// Nothing: the set as it was.
     Nothing(TaskSet),
 }
 
-// The answer by tails and states, where the checker accepts one.
-fn decide_by_states(
+/// The answer by tails and states, where one is found with this budget of states for each vertex and the checker accepts it.
+pub fn decide_by_states(
     alloc: Global,
     set: TaskSet,
     graphs: &Graphs,

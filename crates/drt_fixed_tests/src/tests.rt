@@ -1,0 +1,109 @@
+use drt_drawn::{Draws, drawn_set};
+use drt_evidence::{Dossier, Evidence};
+use drt_fixed::{Analysed, ByStates, analyse_fixed, decide_by_states};
+use drt_fixtures::{Shape, make_set};
+use drt_graph::{Graphs, check};
+use drt_model::TaskSet;
+use drt_pool::OpenGate;
+use drt_sp_plain::is_schedulable;
+use std::alloc::Global;
+use std::sync::Wait;
+use std::test::Fail;
+use std::thread::Threads;
+
+const DRAWN_SETS: u32 = 200;
+
+const BUDGET: u64 = 1_000_000;
+
+// An engine in two modes and three periodic tasks of 5 to 100 ms, in ticks of a microsecond: 60 % of the processor.
+const AUTOMOTIVE: [Shape<'static>; 4] = [
+    (&[(900, 5_000)], &[(0, 0, 5_000)]),
+    (
+        &[(2_000, 10_000), (1_200, 10_000)],
+        &[(0, 0, 20_000), (0, 1, 10_000), (1, 0, 20_000), (1, 1, 10_000)],
+    ),
+    (&[(4_000, 20_000)], &[(0, 0, 20_000)]),
+    (&[(10_000, 100_000)], &[(0, 0, 100_000)]),
+];
+
+// What an answer claims.
+#[derive(Debug, Clone, Copy, PartialEq, Eq)]
+enum Claim {
+    YesByTrees,
+    YesByStates,
+    No,
+    Nothing,
+}
+
+fn claim_of(dossier: &Dossier) -> Claim {
+    match &dossier.evidence {
+        Evidence::FixedYes { .. } => Claim::YesByTrees,
+        Evidence::FixedStates { .. } => Claim::YesByStates,
+        Evidence::FixedNo { .. } => Claim::No,
+        _ => Claim::Nothing,
+    }
+}
+
+fn graphs_of(alloc: Global, set: &TaskSet) -> Result<Graphs, Fail> {
+    match check(alloc, set) {
+        Ok(graphs) => Ok(graphs),
+        Err(_) => Err("constrained deadlines".into()),
+    }
+}
+
+// What tails and states say of a set.
+fn claim_by_states(alloc: Global, set: TaskSet) -> Result<Claim, Fail> {
+    let graphs = graphs_of(alloc, &set)?;
+    match decide_by_states(alloc, set, &graphs, BUDGET)? {
+        ByStates::Decided(dossier) => Ok(claim_of(&dossier)),
+        ByStates::Nothing(_) => Ok(Claim::Nothing),
+    }
+}
+
+// What a plain program says of a drawn set, and what tails and states say.
+fn drawn_claims(alloc: Global, draws: &mut Draws) -> Result<(bool, Claim), Fail> {
+    let set = drawn_set(alloc, draws)?.ok_or("within the limits")?;
+    let graphs = graphs_of(alloc, &set)?;
+    let plain = is_schedulable(alloc, &set, &graphs)?;
+    Ok((plain, claim_by_states(alloc, set)?))
+}
+
+// What the whole analysis says of the set of these shapes.
+fn claim_on<R: Threads + Wait + Sync>(
+    rt: &R,
+    alloc: Global,
+    shapes: &[Shape<'_>],
+) -> Result<Claim, Fail> {
+    let set = make_set(alloc, shapes)?.ok_or("within the limits")?;
+    let graphs = graphs_of(alloc, &set)?;
+    let Analysed { dossier, .. } = analyse_fixed(rt, alloc, set, &graphs, 1, BUDGET, &OpenGate)?;
+    Ok(claim_of(&dossier))
+}
+
+#[test]
+fn drawn_sets_are_decided_by_states_as_by_a_plain_program(rt: HostRuntime) -> Result<(), Fail> {
+    let mut draws = Draws { state: 1 };
+    for number in 0..DRAWN_SETS {
+        let (plain, claim) = drawn_claims(rt.alloc(), &mut draws)?;
+        let wanted = if plain { Claim::YesByStates } else { Claim::No };
+        assert_eq!(rt; claim, wanted, "set {number}");
+    }
+    Ok(())
+}
+
+#[test]
+fn a_small_set_is_answered_by_trees_and_an_automotive_one_by_states(
+    rt: HostRuntime,
+) -> Result<(), Fail> {
+    let small: [Shape<'_>; 2] = [(&[(1, 4)], &[(0, 0, 4)]), (&[(3, 4)], &[])];
+    let late: [Shape<'_>; 2] = [(&[(1, 4)], &[(0, 0, 4)]), (&[(4, 4)], &[])];
+    let cases: [(&[Shape<'_>], Claim); 3] = [
+        (&small, Claim::YesByTrees),
+        (&late, Claim::No),
+        (&AUTOMOTIVE, Claim::YesByStates),
+    ];
+    for (shapes, claim) in cases {
+        assert_eq!(rt; claim_on(&rt, rt.alloc(), shapes)?, claim);
+    }
+    Ok(())
+}
