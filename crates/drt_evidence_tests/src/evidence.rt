@@ -2,6 +2,7 @@
 use crate::texts::dossier_below;
 use drt_evidence::{Evidence, Item, Pair, ProofClaim, RatioClaim, TreeClaim};
 use drt_model::{FrontEntry, Miss, Release, Row};
+use drt_states::{Jump, StateClaim, StateEnd, StateEntry};
 use std::alloc::Global;
 use std::test::Fail;
 
@@ -12,6 +13,7 @@ enum Kind {
     EdfNo,
     UtilisationOne,
     FixedYes,
+    FixedStates,
     FixedNo,
     Undecided,
 }
@@ -30,6 +32,11 @@ fn is_bare(evidence: &Evidence, kind: Kind) -> bool {
         }
         Evidence::FixedYes { trees, proofs } => {
             kind == Kind::FixedYes && trees.as_slice().is_empty() && proofs.as_slice().is_empty()
+        }
+        Evidence::FixedStates { tails, searches } => {
+            kind == Kind::FixedStates
+                && tails.as_slice().is_empty()
+                && searches.as_slice().is_empty()
         }
         Evidence::FixedNo { releases, .. } => {
             kind == Kind::FixedNo && releases.as_slice().is_empty()
@@ -63,6 +70,10 @@ fn a_kind_is_named_by_its_keyword(rt: HostRuntime) -> Result<(), Fail> {
         (
             b"evidence fixed-yes\ntrees 0\nproofs 0\nclose\n",
             Kind::FixedYes,
+        ),
+        (
+            b"evidence fixed-states\ntails 0\nsearches 0\nclose\n",
+            Kind::FixedStates,
         ),
         (
             b"evidence fixed-no\nreleases 0\nmiss 0 0 0\nclose\n",
@@ -469,6 +480,155 @@ fn a_proof_has_its_items_behind_their_count(rt: HostRuntime) -> Result<(), Fail>
     ];
     for (lines, counts, place, of, items) in cases {
         assert!(rt; has_proof(rt.alloc(), lines, counts, place, of, items)?);
+    }
+    Ok(())
+}
+
+// Whether evidence is by tails and states, with one tail of one function, of those jumps.
+fn has_jumps(alloc: Global, lines: &[u8], jumps: &[Jump]) -> Result<bool, Fail> {
+    let Some(dossier) = dossier_below(alloc, lines)? else {
+        return Ok(false);
+    };
+    match &dossier.evidence {
+        Evidence::FixedStates { tails, .. } => match tails.as_slice() {
+            [tail] => match tail.curves.as_slice() {
+                [curve] => Ok(curve.as_slice() == jumps),
+                _ => Ok(false),
+            },
+            _ => Ok(false),
+        },
+        _ => Ok(false),
+    }
+}
+
+#[test]
+fn a_tail_has_its_jumps_behind_their_count(rt: HostRuntime) -> Result<(), Fail> {
+    let two = [
+        Jump { offset: 0, work: 2 },
+        Jump {
+            offset: 1_000_000_000_000_000_000,
+            work: 2_000_000_000_000_000_000,
+        },
+    ];
+    let cases = [
+        (
+            b"evidence fixed-states\ntails 1\ntail 1\njumps 2 0 2 1000000000000000000 2000000000000000000\nsearches 0\nclose\n".as_slice(),
+            two.as_slice(),
+        ),
+        (
+            b"evidence fixed-states\ntails 1\ntail 1\njumps 1 0 2\nsearches 0\nclose\n",
+            &two[..1],
+        ),
+        (
+            b"evidence fixed-states\ntails 1\ntail 1\njumps 0\nsearches 0\nclose\n",
+            &[],
+        ),
+    ];
+    for (lines, jumps) in cases {
+        assert!(rt; has_jumps(rt.alloc(), lines, jumps)?);
+    }
+    Ok(())
+}
+
+// What a state is to have: its entries, its work, the time at which it passes, or the place and the numbers of its children.
+#[derive(Clone, Copy)]
+struct Wanted<'a> {
+    entries: &'a [StateEntry],
+    work: u64,
+    time: Option<u64>,
+    place: u32,
+    children: &'a [u32],
+}
+
+fn is_state(state: &StateClaim, wanted: Wanted<'_>) -> bool {
+    let ends = match &state.end {
+        StateEnd::Passes(time) => wanted.time == Some(*time),
+        StateEnd::Splits { place, children } => {
+            wanted.time.is_none()
+                && *place == wanted.place
+                && children.as_slice() == wanted.children
+        }
+    };
+    ends && state.entries.as_slice() == wanted.entries && state.work == wanted.work
+}
+
+// Whether evidence is by tails and states, with one search, of this task and vertex, whose last one of so many states is this.
+fn has_state(
+    alloc: Global,
+    lines: &[u8],
+    count: usize,
+    wanted: Wanted<'_>,
+) -> Result<bool, Fail> {
+    let Some(dossier) = dossier_below(alloc, lines)? else {
+        return Ok(false);
+    };
+    let Evidence::FixedStates { searches, .. } = &dossier.evidence else {
+        return Ok(false);
+    };
+    let [search] = searches.as_slice() else {
+        return Ok(false);
+    };
+    let states = search.states.as_slice();
+    if states.is_empty() || search.task != 7 || search.vertex != 8 {
+        return Ok(false);
+    }
+    Ok(states.len() == count && is_state(&states[states.len() - 1], wanted))
+}
+
+#[test]
+fn a_state_has_its_entries_its_work_and_its_end(rt: HostRuntime) -> Result<(), Fail> {
+    let entries = [
+        StateEntry {
+            place: 0,
+            vertex: 3,
+            offset: 1_000_000_000_000_000_000,
+        },
+        StateEntry {
+            place: 4_294_967_295,
+            vertex: 4_294_967_295,
+            offset: 0,
+        },
+    ];
+    let passing = Wanted {
+        entries: &[],
+        work: 0,
+        time: Some(6),
+        place: 0,
+        children: &[],
+    };
+    let split = Wanted {
+        entries: &entries,
+        work: 2_000_000_000_000_000_000,
+        time: None,
+        place: 4_294_967_295,
+        children: &[1, 4_294_967_295],
+    };
+    let childless = Wanted {
+        entries: &entries[..1],
+        work: 5,
+        time: None,
+        place: 2,
+        children: &[],
+    };
+    let cases = [
+        (
+            b"evidence fixed-states\ntails 0\nsearches 1\nsearch 7 8 1\nstate 0 0 p6\nclose\n".as_slice(),
+            1,
+            passing,
+        ),
+        (
+            b"evidence fixed-states\ntails 0\nsearches 1\nsearch 7 8 2\nstate 0 0 p6\nstate 2 0 3 1000000000000000000 4294967295 4294967295 0 2000000000000000000 s4294967295 1 4294967295\nclose\n",
+            2,
+            split,
+        ),
+        (
+            b"evidence fixed-states\ntails 0\nsearches 1\nsearch 7 8 1\nstate 1 0 3 1000000000000000000 5 s2\nclose\n",
+            1,
+            childless,
+        ),
+    ];
+    for (lines, count, wanted) in cases {
+        assert!(rt; has_state(rt.alloc(), lines, count, wanted)?);
     }
     Ok(())
 }

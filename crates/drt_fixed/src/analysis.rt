@@ -31,8 +31,9 @@ pub struct Analysed {
 
 /// Decides whether a set with constrained deadlines is schedulable under fixed priorities.
 ///
-/// First each table and each frontier of `drt_sp` has the budget or 4,096 steps, whichever is less. Where that is spent, the states of
-/// each vertex are searched, with the budget for each. Where that finds nothing, tables and frontiers have the budget.
+/// First each table and each frontier of `drt_sp` has the budget or 4,096 steps, whichever is less. Where these are spent and the budget
+/// is greater, the states of each vertex are searched, with the budget for each; and where that finds nothing, tables and frontiers have
+/// the whole budget.
 pub fn analyse_fixed<G: Gate, R: Threads + Wait + Sync>(
     rt: &R,
     alloc: Global,
@@ -52,6 +53,7 @@ pub fn analyse_fixed<G: Gate, R: Threads + Wait + Sync>(
     let allowance = budget.min(ALLOWANCE);
     match drt_sp::analyse_fixed(rt, alloc, &set, graphs, workers, allowance, gate)? {
         FixedAnswer::Done(evidence) => return Ok(decided(set, evidence)),
+        FixedAnswer::Undecided(trail) if budget <= ALLOWANCE => return Ok(undecided(set, trail)),
         FixedAnswer::Undecided(_) => {}
     }
     let set = match decide_by_states(alloc, set, graphs, budget)? {
