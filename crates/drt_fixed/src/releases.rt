@@ -1,12 +1,15 @@
 //! The releases of a no.
+ghost use Rattle.std.specs.Prelude.{◌<◌, IfOk, length};
+ghost use Rattle.drt_fixed.specs.Answers.{IsOfStates};
+
 use drt_evidence::Evidence;
 use drt_graph::{Graph, Graphs};
 use drt_model::{Memory, Miss, Release, Row};
 use std::alloc::Global;
 
-/// A vertex of a task, by their numbers.
+/// A vertex of a task, by their numbers, and its deadline in ticks.
 #[derive(Clone, Copy)]
-pub(crate) struct Subject {
+pub(crate) struct VertexAt {
     pub task: u32,
     pub vertex: u32,
     pub deadline: u32,
@@ -19,22 +22,24 @@ pub(crate) fn refusal(
     graphs: &Graphs,
     order: &[u32],
     walks: &[Row<u32>],
-    subject: Subject,
-) -> Result<Evidence, Memory> {
+    at: VertexAt,
+) -> Result<Evidence, Memory>
+    ensures { IfOk result IsOfStates }
+{
     let mut releases = Vec::new(alloc);
     for task in 0..graphs.count() {
-        if task == subject.task {
-            releases.push(release_of(graphs.graph(task), task, subject.vertex, 0))?;
+        if task == at.task {
+            releases.push(release_of(graphs.graph(task), task, at.vertex, 0))?;
         } else if let Some(walk) = walk_of(order, walks, task) {
-            add_releases(graphs.graph(task), task, walk, u64::from(subject.deadline), &mut releases)?;
+            add_releases(graphs.graph(task), task, walk, u64::from(at.deadline), &mut releases)?;
         }
     }
     Ok(Evidence::FixedNo {
         releases: Row::from_vec(releases),
         miss: Miss {
-            task: subject.task,
+            task: at.task,
             index: 0,
-            deadline: u64::from(subject.deadline),
+            deadline: u64::from(at.deadline),
         },
     })
 }

@@ -1,14 +1,25 @@
 //! The searches of all vertices.
-use crate::releases::{Subject, refusal};
+ghost use Rattle.std.specs.Prelude.{◌≡◌, ◌≤◌, ◌<◌, IfOk, IfSome, length};
+ghost use Rattle.drt_model.specs.Constrained.{AreConstrained};
+ghost use Rattle.drt_evidence.specs.Claims.{graphs_of};
+ghost use Rattle.drt_fixed.specs.Answers.{IsOfStates};
+ghost use Rattle.drt_fixed.specs.Searching.{IsFound, IsGiven};
+
+use crate::releases::{VertexAt, refusal};
 use crate::tails::find_tails;
 use drt_check_states::find_crests;
 use drt_check_trees::priority_order;
 use drt_evidence::Evidence;
 use drt_graph::Graphs;
 use drt_model::{Memory, Row, TaskSet};
-use drt_sp_states::{Searched, search_states};
+use drt_sp_states::{Searched, Subject, search_states};
 use drt_states::{Jump, SearchClaim, TailClaim};
 use std::alloc::Global;
+
+// The most tasks of higher priority.
+const MOST_HIGHER: usize = 31;
+// The greatest execution time and the greatest deadline, in ticks.
+const MOST_TICKS: u32 = 1_000_000;
 
 // What the searches of all vertices are over: the graphs, the tasks in order of priority, the tails of all but the last one with their
 // greatest values, and the budget of states for each vertex.
@@ -38,7 +49,10 @@ pub(crate) fn find_by_states(
     set: &TaskSet,
     graphs: &Graphs,
     budget: u64,
-) -> Result<Option<Evidence>, Memory> {
+) -> Result<Option<Evidence>, Memory>
+    requires { graphs.now ≡ graphs_of set.now.tasks }
+    ensures { IfOk result (λ found. IfSome found IsOfStates) }
+{
     let order = priority_order(alloc, set)?;
     let Some(tails) = find_tails(alloc, graphs, order.as_slice())? else {
         return Ok(None);
@@ -62,7 +76,10 @@ pub(crate) fn find_by_states(
 }
 
 // The searches of all vertices, in order of tasks; the first vertex that fails, in order of priority, gives a no.
-fn search_all(alloc: Global, given: Given<'_>) -> Result<Found, Memory> {
+fn search_all(alloc: Global, given: Given<'_>) -> Result<Found, Memory>
+    requires { IsGiven given }
+    ensures { IfOk result IsFound }
+{
     let mut all = Vec::new(alloc);
     for place in 0..given.order.len() {
         match search_task(alloc, given, place)? {
@@ -75,17 +92,21 @@ fn search_all(alloc: Global, given: Given<'_>) -> Result<Found, Memory> {
 }
 
 // The searches of the vertices of the task at a place.
-fn search_task(alloc: Global, given: Given<'_>, place: usize) -> Result<Found, Memory> {
+fn search_task(alloc: Global, given: Given<'_>, place: usize) -> Result<Found, Memory>
+    requires given { IsGiven given }
+    requires place { place < length given.order.now }
+    ensures { IfOk result IsFound }
+{
     let task = given.order[place];
     let graph = given.graphs.graph(task);
     let mut searches = Vec::new(alloc);
     for vertex in 0..graph.vertex_count() {
-        let subject = Subject {
+        let at = VertexAt {
             task,
             vertex,
             deadline: graph.vertex(vertex).deadline,
         };
-        match search_vertex(alloc, given, place, graph.vertex(vertex).wcet, subject.deadline)? {
+        match search_vertex(alloc, given, place, graph.vertex(vertex).wcet, at.deadline)? {
             Searched::Passes(states) => searches.push(SearchClaim {
                 task,
                 vertex,
@@ -93,7 +114,7 @@ fn search_task(alloc: Global, given: Given<'_>, place: usize) -> Result<Found, M
             })?,
             Searched::Misses(walks) => {
                 let higher = &given.order[..place];
-                let evidence = refusal(alloc, given.graphs, higher, walks.as_slice(), subject)?;
+                let evidence = refusal(alloc, given.graphs, higher, walks.as_slice(), at)?;
                 return Ok(Found::Refusal(evidence));
             }
             Searched::Spent => return Ok(Found::Nothing),
@@ -102,21 +123,28 @@ fn search_task(alloc: Global, given: Given<'_>, place: usize) -> Result<Found, M
     Ok(Found::Searches(searches))
 }
 
-// The search of a vertex of the task at a place, of this execution time and deadline.
+// The search of a vertex of the task at a place, of this execution time and deadline, which are within the limits of a set.
 fn search_vertex(
     alloc: Global,
     given: Given<'_>,
     place: usize,
     wcet: u32,
     deadline: u32,
-) -> Result<Searched, Memory> {
-    search_states(
-        alloc,
-        given.graphs,
-        &given.order[..place],
-        &given.tails[..place],
+) -> Result<Searched, Memory>
+    requires given { IsGiven given }
+    requires place { place < length given.order.now }
+{
+    let is_within = wcet <= MOST_TICKS && 1 <= deadline && deadline <= MOST_TICKS;
+    if place > given.tails.len() || place > MOST_HIGHER || !is_within {
+        return Ok(Searched::Spent);
+    }
+    let subject = Subject {
+        graphs: given.graphs,
+        order: &given.order[..place],
+        tails: &given.tails[..place],
+        crests: &given.crests[..place],
         wcet,
         deadline,
-        given.budget,
-    )
+    };
+    search_states(alloc, subject, given.budget)
 }
