@@ -7,7 +7,7 @@ use Rattle.drt_model.specs.declared.jobs.Policy.{Policy}
 use Rattle.drt_evidence.specs.Claims.{graphs_of, Each, fractions, potentials, IsHorizon}
 use Rattle.drt_evidence.specs.Fronts.{HasOpenings, IsClosedFront, IsOrdered}
 use Rattle.drt_evidence.specs.Rules.{Accepts}
-use Rattle.drt_evidence.specs.declared.evidence.Evidence.TheVariants.{EdfYes, FixedYes, UtilisationOne}
+use Rattle.drt_evidence.specs.declared.evidence.Evidence.TheVariants.{EdfYes, FixedStates, FixedYes, UtilisationOne}
 use Rattle.drt_model.specs.declared.front.FrontEntry.{FrontEntry}
 use Rattle.drt_evidence.specs.declared.evidence.ProofClaim.{ProofClaim}
 use Rattle.drt_evidence.specs.declared.evidence.RatioClaim.{RatioClaim}
@@ -15,8 +15,11 @@ use Rattle.drt_evidence.specs.declared.evidence.TreeClaim.{TreeClaim}
 use Rattle.drt_evidence.specs.declared.rule.Rule.TheVariants.{RatioPerTask, LowestTerms, PotentialPerVertex, FittingPotentials, ClosedCycles, TightCycles}
 use Rattle.drt_evidence.specs.declared.rule.Rule.TheVariants.{FineScale, ClaimedUtilisation, NearHorizon, OrderedFronts, CoveredOpenings, CoveredExtensions, Room}
 use Rattle.drt_evidence.specs.declared.rule.Rule.TheVariants.{TreePerHigherTask, ShortWalks, CoveredWalks, TreeShapes, ProofPerVertex, ProofShapes, PassingTimes}
-use Rattle.drt_evidence.proofs.Accepting.{IsEdfYes, IsFixedYes, IsUtilisationOne, statement}
+use Rattle.drt_evidence.specs.declared.rule.Rule.TheVariants.{RisingTails, BoundingTails, SearchPerVertex, SearchStates, PassingStates, DominatedChildren}
+use Rattle.drt_evidence.proofs.Accepting.{IsEdfYes, IsFixedStates, IsFixedYes, IsUtilisationOne, statement}
 use Rattle.drt_graph.proofs.Scales.{scale_same}
+use Rattle.drt_states.specs.declared.claims.SearchClaim.{SearchClaim}
+use Rattle.drt_states.specs.declared.claims.TailClaim.{TailClaim}
 
 -- There is one horizon.
 pub horizon_same : (graphs : List Digraph) (ratios : List RatioClaim) (b c : ℕ) → IsHorizon graphs ratios b → IsHorizon graphs ratios c → b ≡ c
@@ -84,4 +87,16 @@ fixed_kept policy set trees proofs is = record {
   per_vertex = is.keeps ProofPerVertex tt;
   shapes = is.keeps ProofShapes tt;
   times = is.keeps PassingTimes tt;
+}
+
+-- A yes of fixed priorities by tails and states.
+pub states_kept : (policy : Policy) (set : Contents) (tails : List TailClaim) (searches : List SearchClaim)
+    → Accepts (statement policy set (FixedStates tails searches)) → IsFixedStates set.tasks tails searches
+states_kept policy set tails searches is = record {
+  rising = is.keeps RisingTails tt;
+  bounding = is.keeps BoundingTails tt;
+  per_vertex = is.keeps SearchPerVertex tt;
+  states = is.keeps SearchStates tt;
+  passing = is.keeps PassingStates tt;
+  children = is.keeps DominatedChildren tt;
 }

@@ -6,16 +6,17 @@ use Rattle.drt_model.specs.declared.jobs.Policy.{Policy}
 use Rattle.drt_model.specs.declared.jobs.Policy.TheVariants.{Edf, Fixed}
 use Rattle.drt_evidence.specs.Rules.{Accepts}
 use Rattle.drt_evidence.specs.declared.evidence.Evidence.{Evidence}
-use Rattle.drt_evidence.specs.declared.evidence.Evidence.TheVariants.{EdfYes, EdfNo, UtilisationOne, FixedYes, FixedNo, Undecided}
+use Rattle.drt_evidence.specs.declared.evidence.Evidence.TheVariants.{EdfYes, EdfNo, UtilisationOne, FixedYes, FixedStates, FixedNo, Undecided}
 use Rattle.drt_evidence.specs.declared.rule.Rule.TheVariants.{ConstrainedDeadlines, KindOfPolicy, LeastMiss, LegalReleases}
 use Rattle.drt_evidence.proofs.Accepting.{statement}
 use Rattle.drt_states_laws.specs.Laws.{StatesPass}
 use Rattle.drt_check.specs.Judging.{IsSound, claimed}
 use Rattle.drt_check.specs.Laws.{AcceptedIsSound}
-use Rattle.drt_check.proofs.Accepted.{fixed_kept, one_kept, yes_kept}
+use Rattle.drt_check.proofs.Accepted.{fixed_kept, one_kept, states_kept, yes_kept}
 use Rattle.drt_check.proofs.SoundFixed.{fixed_is_sound}
 use Rattle.drt_check.proofs.SoundNo.{no_is_sound}
 use Rattle.drt_check.proofs.SoundRatios.{one_is_sound}
+use Rattle.drt_check.proofs.SoundStates.{states_are_sound}
 use Rattle.drt_check.proofs.SoundYes.{yes_is_sound}
 
 pub accepted_is_sound : DeadlinesDecide → TimesDecide → StatesPass → AcceptedIsSound
@@ -32,5 +33,10 @@ accepted_is_sound deadlines times pass s stated accepts = by_kind s.policy s.evi
         let fixed : policy ≡ Fixed = is.keeps KindOfPolicy tt in
         subst (λ p. Schedulable s.set.tasks p) (sym fixed)
         (fixed_is_sound times s.set.version s.set.tasks stated.0 (is.keeps ConstrainedDeadlines tt) trees proofs (fixed_kept policy s.set trees proofs is))
+    by_kind policy (FixedStates tails searches) is =
+        let fixed : policy ≡ Fixed = is.keeps KindOfPolicy tt in
+        let constrained = is.keeps ConstrainedDeadlines tt in
+        subst (λ p. Schedulable s.set.tasks p) (sym fixed)
+        (states_are_sound times pass s.set.version s.set.tasks stated.0 constrained tails searches (states_kept policy s.set tails searches is))
     by_kind policy (FixedNo releases miss) is = no_is_sound policy s.set.tasks releases miss (is.keeps LegalReleases tt) (is.keeps LeastMiss tt)
     by_kind policy Undecided is = tt

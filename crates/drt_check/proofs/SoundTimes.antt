@@ -1,6 +1,6 @@
 -- The times that the soundness of fixed priorities looks for: one for each vertex of each task, up to the vertex's deadline. A claim
 -- stands for each vertex, and deadlines are at most the greatest ones.
-use Rattle.std.proofs.Common.{◌≡◌, ℕ, zero, suc, ◌+◌, ◌<◌, ◌≤◌, Bool, true, false, cond, List, [], ◌∷◌, ◌++◌, length, map, get_or, sym, ap, ◌∙◌, subst, arith}
+use Rattle.std.proofs.Common.{◌≡◌, ℕ, zero, suc, ◌+◌, ◌<◌, ◌≤◌, Bool, true, false, cond, List, [], ◌∷◌, ◌++◌, length, map, get_or, sym, ◌∙◌, subst, arith}
 use Rattle.std.specs.Prelude.{Contains, filter, nat_lt, slice_index_or}
 use Rattle.std.specs.List.{range_with_len}
 use Rattle.std.proofs.lemmas.Bool.{lt-ltb}

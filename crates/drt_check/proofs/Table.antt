@@ -5,6 +5,7 @@ use Rattle.drt_evidence.specs.declared.rule.Rule.TheVariants.{ConstrainedDeadlin
 use Rattle.drt_evidence.specs.declared.rule.Rule.TheVariants.{ClosedCycles, TightCycles, FineScale, ClaimedUtilisation, NearHorizon, OrderedFronts}
 use Rattle.drt_evidence.specs.declared.rule.Rule.TheVariants.{CoveredOpenings, CoveredExtensions, Room, LegalReleases, LeastMiss}
 use Rattle.drt_evidence.specs.declared.rule.Rule.TheVariants.{TreePerHigherTask, ShortWalks, CoveredWalks, TreeShapes, ProofPerVertex, ProofShapes, PassingTimes}
+use Rattle.drt_evidence.specs.declared.rule.Rule.TheVariants.{RisingTails, BoundingTails, SearchPerVertex, SearchStates, PassingStates, DominatedChildren}
 
 -- The place of a rule.
 abbrev pub place : Rule → ℕ
@@ -32,6 +33,12 @@ place ProofShapes = 20
 place PassingTimes = 21
 place LegalReleases = 22
 place LeastMiss = 23
+place RisingTails = 24
+place BoundingTails = 25
+place SearchPerVertex = 26
+place SearchStates = 27
+place PassingStates = 28
+place DominatedChildren = 29
 
 -- The table.
 abbrev pub table : List Rule
@@ -39,7 +46,8 @@ table =
     ConstrainedDeadlines ∷ KindOfPolicy ∷ RatioPerTask ∷ LowestTerms ∷ PotentialPerVertex ∷ FittingPotentials ∷
     ClosedCycles ∷ TightCycles ∷ FineScale ∷ ClaimedUtilisation ∷ NearHorizon ∷ OrderedFronts ∷
     CoveredOpenings ∷ CoveredExtensions ∷ Room ∷ TreePerHigherTask ∷ ShortWalks ∷ CoveredWalks ∷
-    TreeShapes ∷ ProofPerVertex ∷ ProofShapes ∷ PassingTimes ∷ LegalReleases ∷ LeastMiss ∷ []
+    TreeShapes ∷ ProofPerVertex ∷ ProofShapes ∷ PassingTimes ∷ LegalReleases ∷ LeastMiss ∷
+    RisingTails ∷ BoundingTails ∷ SearchPerVertex ∷ SearchStates ∷ PassingStates ∷ DominatedChildren ∷ []
 
 -- A rule stands at its place.
 pub at_place : (d rule : Rule) → slice_index_or table (place rule) d ≡ rule
@@ -67,3 +75,9 @@ at_place d ProofShapes = refl
 at_place d PassingTimes = refl
 at_place d LegalReleases = refl
 at_place d LeastMiss = refl
+at_place d RisingTails = refl
+at_place d BoundingTails = refl
+at_place d SearchPerVertex = refl
+at_place d SearchStates = refl
+at_place d PassingStates = refl
+at_place d DominatedChildren = refl
