@@ -1,4 +1,5 @@
 pub mod Answers
+pub mod Subjects
 pub mod Walks
 pub mod Trials
 pub mod Misses

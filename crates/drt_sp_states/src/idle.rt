@@ -1,124 +1,130 @@
-//! The greatest values of the tails of places, and their sum over the places that aren't active.
+//! What the places ask for at which no walk stands, and the room that they leave.
 use crate::curves::value_before;
-use crate::places::{Subject, curves_at};
-use drt_model::{Memory, Row};
+use crate::places::{Subject, crest_at, place_count};
+use drt_model::Memory;
 use drt_states::Jump;
 use std::alloc::Global;
 
-/// What places without an entry ask for at most: the greatest value of each tail, which places are active, and the sum of the greatest
-/// values of those that aren't.
+/// Times at which the job and the places that aren't active leave more room than at all times before. They ask for the same
+/// throughout.
+#[derive(Drop, Clone, Copy)]
+pub(crate) struct Room {
+    pub from: u64,
+    pub to: u64,
+    pub asked: u64,
+}
+
+/// Which places are active, in order, and the room that the others leave.
 #[derive(Drop)]
 pub(crate) struct Idle {
-    pub active: Vec<bool>,
-    tops: Vec<Vec<Jump>>,
-    sum: Vec<Jump>,
+    pub active: Vec<u32>,
+    /// Made where a place becomes active. Nearly every vertex is decided before, at its first state.
+    pub rooms: Option<Vec<Room>>,
 }
 
 /// No place is active.
-pub(crate) fn open_idle(alloc: Global, subject: Subject<'_>) -> Result<Idle, Memory> {
-    let mut tops = Vec::with_capacity(alloc, subject.order.len())?;
-    let mut active = Vec::with_capacity(alloc, subject.order.len())?;
-    for place in 0..subject.order.len() {
-        tops.push(top_of(alloc, curves_at(subject, place))?)?;
-        active.push(false)?;
+pub(crate) fn open_idle(alloc: Global) -> Idle {
+    Idle {
+        active: Vec::new(alloc),
+        rooms: None,
     }
-    let sum = join_idle(alloc, &tops, &active)?;
-    Ok(Idle { active, tops, sum })
 }
 
 /// Makes a place active.
-pub(crate) fn activate(alloc: Global, idle: &mut Idle, place: u32) -> Result<(), Memory> {
-    if let Some(active) = idle.active.get_mut(place as usize) {
-        *active = true;
-    }
-    idle.sum = join_idle(alloc, &idle.tops, &idle.active)?;
+pub(crate) fn activate(
+    alloc: Global,
+    subject: Subject<'_>,
+    idle: &mut Idle,
+    place: u32,
+) -> Result<(), Memory> {
+    idle.active.push(place)?;
+    idle.active.sort()?;
+    let rooms = find_rooms(alloc, subject, &idle.active)?;
+    idle.rooms = Some(rooms);
     Ok(())
-}
-
-/// What the places that aren't active ask for before `t` at most.
-pub(crate) fn idle_before(idle: &Idle, t: u64) -> u64 {
-    value_before(&idle.sum, t)
-}
-
-/// The greatest value of a place before `t`.
-pub(crate) fn top_before(idle: &Idle, place: usize, t: u64) -> u64 {
-    match idle.tops.get(place) {
-        Some(top) => value_before(top.as_slice(), t),
-        None => 0,
-    }
-}
-
-// The jumps of the greatest value of some functions.
-fn top_of(alloc: Global, curves: &[Row<Jump>]) -> Result<Vec<Jump>, Memory> {
-    let jumps = all_jumps(alloc, curves)?;
-    let mut top = Vec::new(alloc);
-    let mut most: u64 = 0;
-    for (offset, work) in &jumps {
-        if *work > most {
-            top.push(Jump {
-                offset: *offset,
-                work: *work,
-            })?;
-            most = *work;
-        }
-    }
-    Ok(top)
-}
-
-// The jumps of some functions, by offset.
-fn all_jumps(alloc: Global, curves: &[Row<Jump>]) -> Result<Vec<(u64, u64)>, Memory> {
-    let mut jumps = Vec::new(alloc);
-    for curve in curves {
-        add_jumps(curve.as_slice(), &mut jumps)?;
-    }
-    jumps.sort()?;
-    Ok(jumps)
-}
-
-fn add_jumps(curve: &[Jump], jumps: &mut Vec<(u64, u64)>) -> Result<(), Memory> {
-    for jump in curve {
-        jumps.push((jump.offset, jump.work))?;
-    }
-    Ok(())
-}
-
-// The jumps of the sum of the greatest values of the places that aren't active.
-fn join_idle(alloc: Global, tops: &[Vec<Jump>], active: &[bool]) -> Result<Vec<Jump>, Memory> {
-    let mut rises = Vec::new(alloc);
-    for place in 0..tops.len() {
-        if !is_active(active, place) {
-            add_rises(tops[place].as_slice(), &mut rises)?;
-        }
-    }
-    rises.sort()?;
-    sum_up(alloc, &rises)
 }
 
 /// Whether the place is active.
-pub(crate) fn is_active(active: &[bool], place: usize) -> bool {
-    place < active.len() && active[place]
+pub(crate) fn is_active(active: &[u32], place: u32) -> bool {
+    for other in active {
+        if *other == place {
+            return true;
+        }
+    }
+    false
 }
 
-// Adds the offsets and the rises of the jumps of a function.
-fn add_rises(jumps: &[Jump], rises: &mut Vec<(u64, u64)>) -> Result<(), Memory> {
+/// What all places ask for before `t` at most.
+pub(crate) fn crests_before(subject: Subject<'_>, t: u64) -> u64 {
+    let mut sum: u64 = 0;
+    for crest in subject.crests {
+        sum = sum.saturating_add(value_before(crest.as_slice(), t));
+    }
+    sum
+}
+
+// The room that the places that aren't active leave up to the deadline, in order of time.
+fn find_rooms(alloc: Global, subject: Subject<'_>, active: &[u32]) -> Result<Vec<Room>, Memory> {
+    let rises = find_rises(alloc, subject, active)?;
+    rooms_between(alloc, subject, &rises)
+}
+
+// The offsets and the rises of the greatest values of the places that aren't active, up to the deadline.
+fn find_rises(
+    alloc: Global,
+    subject: Subject<'_>,
+    active: &[u32],
+) -> Result<Vec<(u64, u64)>, Memory> {
+    let mut rises = Vec::new(alloc);
+    for place in 0..place_count(subject) {
+        if !is_active(active, place) {
+            add_rises(
+                crest_at(subject, place),
+                subject.deadline as u64,
+                &mut rises,
+            )?;
+        }
+    }
+    rises.sort()?;
+    Ok(rises)
+}
+
+// Adds the offsets and the rises of the jumps of a function that come before the deadline.
+fn add_rises(jumps: &[Jump], deadline: u64, rises: &mut Vec<(u64, u64)>) -> Result<(), Memory> {
     let mut before: u64 = 0;
     for jump in jumps {
+        if jump.offset >= deadline {
+            break;
+        }
         rises.push((jump.offset, jump.work.saturating_sub(before)))?;
         before = jump.work;
     }
     Ok(())
 }
 
-// The jumps of the function that rises so. Some may have equal offsets; the last of these counts.
-fn sum_up(alloc: Global, rises: &[(u64, u64)]) -> Result<Vec<Jump>, Memory> {
-    let mut jumps = Vec::with_capacity(alloc, rises.len())?;
-    let mut work: u64 = 0;
+// The room between rises. A state asks for something at each time, so that it takes room of 1 at least.
+fn rooms_between(
+    alloc: Global,
+    subject: Subject<'_>,
+    rises: &[(u64, u64)],
+) -> Result<Vec<Room>, Memory> {
+    let mut rooms = Vec::new(alloc);
+    let mut asked = subject.wcet as u64;
+    let mut more: u64 = 1;
     for (offset, rise) in rises {
-        work = work.saturating_add(*rise);
-        jumps.push(Jump {
-            offset: *offset,
-            work,
-        })?;
+        more = add_room(asked, more, *offset, &mut rooms)?;
+        asked = asked.saturating_add(*rise);
     }
-    Ok(jumps)
+    let _more = add_room(asked, more, subject.deadline as u64, &mut rooms)?;
+    Ok(rooms)
+}
+
+// Adds the times up to `to` that leave room of `more`, where this much is asked for before them. The least room above theirs.
+fn add_room(asked: u64, more: u64, to: u64, rooms: &mut Vec<Room>) -> Result<u64, Memory> {
+    let from = asked.saturating_add(more);
+    if from > to {
+        return Ok(more);
+    }
+    rooms.push(Room { from, to, asked })?;
+    Ok(to.saturating_sub(asked).saturating_add(1))
 }

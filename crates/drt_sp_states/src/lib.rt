@@ -17,4 +17,5 @@ mod trials;
 mod trying;
 mod walks;
 
+pub use places::Subject;
 pub use search::{Searched, search_states};

@@ -4,14 +4,21 @@ use drt_model::{Memory, Row};
 use drt_states::{Jump, TailClaim};
 use std::alloc::Global;
 
-/// What a search is over: a job of this execution time, the times up to the deadline, and the tasks of higher priority with their tails.
+/// What a search is over: a job of this execution time, the times up to the deadline, and the tasks of higher priority with their tails
+/// and the greatest values of these.
 #[derive(Clone, Copy)]
-pub(crate) struct Subject<'a> {
+pub struct Subject<'a> {
     pub graphs: &'a Graphs,
     pub order: &'a [u32],
     pub tails: &'a [TailClaim],
+    pub crests: &'a [Row<Jump>],
     pub wcet: u32,
     pub deadline: u32,
+}
+
+/// How many places there are.
+pub(crate) fn place_count(subject: Subject<'_>) -> u32 {
+    u32::try_from(subject.order.len()).unwrap_or(0)
 }
 
 /// The graph of the task at a place.
@@ -28,16 +35,24 @@ pub(crate) fn graph_at<'a>(subject: Subject<'a>, place: u32) -> Option<&'a Graph
 }
 
 /// The functions of the tail at a place.
-pub(crate) fn curves_at<'a>(subject: Subject<'a>, place: usize) -> &'a [Row<Jump>] {
-    match subject.tails.get(place) {
+pub(crate) fn curves_at<'a>(subject: Subject<'a>, place: u32) -> &'a [Row<Jump>] {
+    match subject.tails.get(place as usize) {
         Some(tail) => tail.curves.as_slice(),
+        None => &[],
+    }
+}
+
+/// The greatest value of the tail at a place.
+pub(crate) fn crest_at<'a>(subject: Subject<'a>, place: u32) -> &'a [Jump] {
+    match subject.crests.get(place as usize) {
+        Some(crest) => crest.as_slice(),
         None => &[],
     }
 }
 
 /// The function of a vertex of the task at a place. There are no jumps where there is no such vertex.
 pub(crate) fn curve_at<'a>(subject: Subject<'a>, place: u32, vertex: u32) -> &'a [Jump] {
-    match curves_at(subject, place as usize).get(vertex as usize) {
+    match curves_at(subject, place).get(vertex as usize) {
         Some(curve) => curve.as_slice(),
         None => &[],
     }

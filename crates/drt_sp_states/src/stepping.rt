@@ -1,19 +1,18 @@
 //! Steps of a search: what is done at a state that is taken.
 use crate::curves::value_before;
-use crate::idle::{Idle, idle_before, is_active, top_before};
-use crate::places::{Gaps, Subject, curve_at, gap_after, graph_at};
-use crate::tables::{End, Origin, Standing, State, Table, offer};
+use crate::idle::{Idle, Room, crests_before};
+use crate::places::{Gaps, Subject, crest_at, curve_at, gap_after, graph_at};
+use crate::tables::{End, Origin, Standing, State, Table, Turn, entry_at, offer};
 use drt_graph::Graph;
 use drt_model::Memory;
 use std::alloc::Global;
 
-// The most that a state asks for before `t`. A sum past 2^64 is 2^64 - 1, which is past each deadline.
-fn asked_before(subject: Subject<'_>, idle: &Idle, state: &State, t: u64) -> u64 {
+// What a state asks for before `t` at most, beside the places that aren't active. A sum past 2^64 is 2^64 - 1, which is past each deadline.
+fn asked_before(subject: Subject<'_>, active: &[u32], state: &State, t: u64) -> u64 {
     state
         .work
-        .saturating_add(idle_before(idle, t))
         .saturating_add(entries_before(subject, &state.entries, t))
-        .saturating_add(tops_before(idle, &state.entries, t))
+        .saturating_add(begun_before(subject, active, &state.entries, t))
 }
 
 // What the entries ask for before `t` at most.
@@ -29,11 +28,11 @@ fn entries_before(subject: Subject<'_>, entries: &[Standing], t: u64) -> u64 {
 }
 
 // What the active places without an entry ask for before `t` at most.
-fn tops_before(idle: &Idle, entries: &[Standing], t: u64) -> u64 {
+fn begun_before(subject: Subject<'_>, active: &[u32], entries: &[Standing], t: u64) -> u64 {
     let mut sum: u64 = 0;
-    for place in 0..idle.active.len() {
-        if is_active(&idle.active, place) && entry_at(entries, place as u32).is_none() {
-            sum = sum.saturating_add(top_before(idle, place, t));
+    for place in active {
+        if entry_at(entries, *place).is_none() {
+            sum = sum.saturating_add(value_before(crest_at(subject, *place), t));
         }
     }
     sum
@@ -41,9 +40,18 @@ fn tops_before(idle: &Idle, entries: &[Standing], t: u64) -> u64 {
 
 /// The least time up to the deadline that passes for the state, if there is one.
 pub(crate) fn least_passing(subject: Subject<'_>, idle: &Idle, state: &State) -> Option<u64> {
-    let mut t = (subject.wcet as u64).saturating_add(state.work).max(1);
-    while t <= subject.deadline as u64 {
-        let sum = (subject.wcet as u64).saturating_add(asked_before(subject, idle, state, t));
+    match &idle.rooms {
+        None => first_passing(subject),
+        Some(rooms) => passing_in(subject, &idle.active, rooms, state),
+    }
+}
+
+// The least time that passes for the state without entries and work.
+fn first_passing(subject: Subject<'_>) -> Option<u64> {
+    let wcet = subject.wcet as u64;
+    let mut t = wcet.max(1);
+    'times: while t <= subject.deadline as u64 {
+        let sum = wcet.saturating_add(crests_before(subject, t));
         if sum <= t {
             return Some(t);
         }
@@ -52,12 +60,44 @@ pub(crate) fn least_passing(subject: Subject<'_>, idle: &Idle, state: &State) ->
     None
 }
 
-/// The entry at a place, if there is one.
-pub(crate) fn entry_at(entries: &[Standing], place: u32) -> Option<Standing> {
-    for entry in entries {
-        if entry.place == place {
-            return Some(*entry);
+// The least time that passes for a state. What a state asks for never falls, so that it is a time that leaves more room than all before.
+fn passing_in(
+    subject: Subject<'_>,
+    active: &[u32],
+    rooms: &[Room],
+    state: &State,
+) -> Option<u64> {
+    for k in first_room(rooms, state)..rooms.len() {
+        let time = passing_within(subject, active, rooms[k], state);
+        if time.is_some() {
+            return time;
         }
+    }
+    None
+}
+
+// The number of the first room with times that aren't known to fail, and with room for the work.
+fn first_room(rooms: &[Room], state: &State) -> usize {
+    let work = state.work;
+    let failed = state.failed;
+    rooms.partition_point(|room| room.to <= failed || room.to.saturating_sub(room.asked) < work)
+}
+
+fn passing_within(
+    subject: Subject<'_>,
+    active: &[u32],
+    room: Room,
+    state: &State,
+) -> Option<u64> {
+    let mut t = room.from.max(state.failed.saturating_add(1));
+    'times: while t <= room.to {
+        let sum = room
+            .asked
+            .saturating_add(asked_before(subject, active, state, t));
+        if sum <= t {
+            return Some(t);
+        }
+        t = sum;
     }
     None
 }
@@ -67,12 +107,12 @@ pub(crate) fn entry_at(entries: &[Standing], place: u32) -> Option<Standing> {
 pub(crate) fn place_to_split(
     subject: Subject<'_>,
     gaps: &[Gaps],
-    active: &[bool],
+    active: &[u32],
     entries: &[Standing],
 ) -> Option<u32> {
-    for place in 0..active.len() {
-        if active[place] && entry_at(entries, place as u32).is_none() {
-            return Some(place as u32);
+    for place in active {
+        if entry_at(entries, *place).is_none() {
+            return Some(*place);
         }
     }
     next_to_move(subject, gaps, entries)
@@ -83,15 +123,21 @@ fn next_to_move(subject: Subject<'_>, gaps: &[Gaps], entries: &[Standing]) -> Op
     let mut least = subject.deadline as u64;
     let mut first: Option<u32> = None;
     for entry in entries {
-        if let Some(gap) = gap_after(gaps, entry.place, entry.vertex) {
-            let next = entry.offset.saturating_add(gap as u64);
-            if next < least {
-                least = next;
-                first = Some(entry.place);
-            }
+        let next = next_release(gaps, *entry);
+        if next < least {
+            least = next;
+            first = Some(entry.place);
         }
     }
     first
+}
+
+// The offset before which the walk of the entry has no further release.
+fn next_release(gaps: &[Gaps], entry: Standing) -> u64 {
+    match gap_after(gaps, entry.place, entry.vertex) {
+        Some(gap) => entry.offset.saturating_add(gap as u64),
+        None => u64::MAX,
+    }
 }
 
 /// Splits a state at a place. Whether it could be.
@@ -103,34 +149,15 @@ pub(crate) fn split(
     number: u32,
     place: u32,
 ) -> Result<bool, Memory> {
-    let Some(graph) = graph_at(subject, place) else {
-        return Ok(false);
+    let origin = Origin {
+        parent: number,
+        place,
     };
-    let Some(state) = table.states.get(number as usize) else {
-        return Ok(false);
-    };
-    let entries = Vec::from_slice(alloc, state.entries.as_slice())?;
-    let parts = Parts {
-        entries: entries.as_slice(),
-        work: state.work,
-        origin: Origin {
-            parent: number,
-            place,
-        },
-    };
-    let Some(children) = make_children(alloc, subject, gaps, table, graph, parts)? else {
+    let Some(children) = make_children(alloc, subject, gaps, table, origin)? else {
         return Ok(false);
     };
     table.set_end(number, End::Splits { place, children });
     Ok(true)
-}
-
-// A state that is split: its entries and its work, its number and the place.
-#[derive(Clone, Copy)]
-struct Parts<'a> {
-    entries: &'a [Standing],
-    work: u64,
-    origin: Origin,
 }
 
 // The numbers of the children of a state.
@@ -139,12 +166,14 @@ fn make_children(
     subject: Subject<'_>,
     gaps: &[Gaps],
     table: &mut Table,
-    graph: &Graph,
-    parts: Parts<'_>,
+    origin: Origin,
 ) -> Result<Option<Vec<u32>>, Memory> {
-    match entry_at(parts.entries, parts.origin.place) {
-        None => begin_walks(alloc, gaps, table, graph, parts),
-        Some(entry) => move_on(alloc, subject, gaps, table, graph, parts, entry),
+    let Some(graph) = graph_at(subject, origin.place) else {
+        return Ok(None);
+    };
+    match table.entry_of(origin) {
+        None => begin_walks(alloc, gaps, table, graph, origin),
+        Some(entry) => move_on(alloc, subject, gaps, table, graph, origin, entry),
     }
 }
 
@@ -154,18 +183,21 @@ fn begin_walks(
     gaps: &[Gaps],
     table: &mut Table,
     graph: &Graph,
-    parts: Parts<'_>,
+    origin: Origin,
 ) -> Result<Option<Vec<u32>>, Memory> {
     let mut children = Vec::new(alloc);
     for vertex in 0..graph.vertex_count() {
         let entry = Standing {
-            place: parts.origin.place,
+            place: origin.place,
             vertex,
             offset: 0,
         };
-        let entries = with_entry(alloc, parts.entries, entry)?;
-        let child = offer(alloc, table, gaps, entries, parts.work, parts.origin)?;
-        let Some(child) = child else {
+        let turn = Turn {
+            entry,
+            work: 0,
+            failed: 0,
+        };
+        let Some(child) = offer(alloc, table, gaps, origin, turn)? else {
             return Ok(None);
         };
         children.push(child)?;
@@ -180,18 +212,14 @@ fn move_on(
     gaps: &[Gaps],
     table: &mut Table,
     graph: &Graph,
-    parts: Parts<'_>,
+    origin: Origin,
     from: Standing,
 ) -> Result<Option<Vec<u32>>, Memory> {
     if from.vertex >= graph.vertex_count() {
         return Ok(None);
     }
-    let Some(work) = parts
-        .work
-        .checked_add(graph.vertex(from.vertex).wcet as u64)
-    else {
-        return Ok(None);
-    };
+    let work = graph.vertex(from.vertex).wcet;
+    let failed = next_release(gaps, from);
     let mut children = Vec::new(alloc);
     for k in 0..graph.out_degree(from.vertex) {
         let edge = *graph.out_edge(from.vertex, k);
@@ -202,35 +230,16 @@ fn move_on(
                 vertex: edge.to,
                 offset,
             };
-            let entries = with_entry(alloc, parts.entries, entry)?;
-            let Some(child) = offer(alloc, table, gaps, entries, work, parts.origin)? else {
+            let turn = Turn {
+                entry,
+                work,
+                failed,
+            };
+            let Some(child) = offer(alloc, table, gaps, origin, turn)? else {
                 return Ok(None);
             };
             children.push(child)?;
         }
     }
     Ok(Some(children))
-}
-
-// The entries with this one at its place, in order of the places.
-fn with_entry(
-    alloc: Global,
-    entries: &[Standing],
-    entry: Standing,
-) -> Result<Vec<Standing>, Memory> {
-    let mut all = Vec::with_capacity(alloc, entries.len())?;
-    let mut is_put = false;
-    for other in entries {
-        if !is_put && other.place >= entry.place {
-            all.push(entry)?;
-            is_put = true;
-        }
-        if other.place != entry.place {
-            all.push(*other)?;
-        }
-    }
-    if !is_put {
-        all.push(entry)?;
-    }
-    Ok(all)
 }

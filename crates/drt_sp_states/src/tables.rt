@@ -44,6 +44,8 @@ pub(crate) struct State {
     /// The work of the vertices before, in ticks.
     pub work: u64,
     pub origin: Option<Origin>,
+    /// No time up to this one passes, since none did for the states from which it comes.
+    pub failed: u64,
     /// The state of equal vertices that was taken before it.
     pub before: Option<u32>,
     pub end: End,
@@ -66,54 +68,119 @@ pub(crate) fn open_table(alloc: Global) -> Result<Table, Memory> {
         latest: BTreeMap::new(alloc),
         queue: BinaryHeap::new(alloc),
     };
-    let _first = add_state(alloc, &mut table, Vec::new(alloc), 0, None, 0)?;
+    let first = State {
+        entries: Vec::new(alloc),
+        work: 0,
+        origin: None,
+        failed: 0,
+        before: None,
+        end: End::Open,
+    };
+    let _first = add_state(alloc, &mut table, first, 0)?;
     Ok(table)
 }
 
-/// The number of a new state; none where there are too many.
+// The number of a new state; none where there are too many.
 fn add_state(
     alloc: Global,
     table: &mut Table,
-    entries: Vec<Standing>,
-    work: u64,
-    origin: Option<Origin>,
+    state: State,
     rank: u64,
 ) -> Result<Option<u32>, Memory> {
     let Ok(number) = u32::try_from(table.states.len()) else {
         return Ok(None);
     };
-    let key = Vec::from_slice(alloc, entries.as_slice())?;
-    table.states.push(State {
-        entries,
-        work,
-        origin,
-        before: None,
-        end: End::Open,
-    })?;
+    let key = Vec::from_slice(alloc, state.entries.as_slice())?;
+    table.states.push(state)?;
     table.numbers.insert(key, number)?;
     table.queue.push(Reverse((rank, number)))?;
     Ok(Some(number))
 }
 
-/// The number of the state of these entries, which has this work or more from now on. None where there are too many states.
+/// How a walk of a state goes on: where it stands, the work of the vertex before, and a time up to which none passes after it.
+#[derive(Clone, Copy)]
+pub(crate) struct Turn {
+    pub entry: Standing,
+    pub work: u32,
+    pub failed: u64,
+}
+
+/// The number of the child of a state where its walk goes on so. None where there are too many states.
 pub(crate) fn offer(
     alloc: Global,
     table: &mut Table,
     gaps: &[Gaps],
-    entries: Vec<Standing>,
-    work: u64,
     origin: Origin,
+    turn: Turn,
 ) -> Result<Option<u32>, Memory> {
-    match table.number_of(&entries) {
+    let Some(child) = make_child(alloc, table, origin, turn)? else {
+        return Ok(None);
+    };
+    match table.number_of(&child.entries) {
         Some(number) => {
-            raise_work(table, number, work, origin);
+            raise(table, number, &child);
             Ok(Some(number))
         }
         None => {
-            let rank = rank_of(gaps, entries.as_slice());
-            add_state(alloc, table, entries, work, Some(origin), rank)
+            let rank = rank_of(gaps, &child.entries);
+            add_state(alloc, table, child, rank)
         }
     }
+}
+
+fn make_child(
+    alloc: Global,
+    table: &Table,
+    origin: Origin,
+    turn: Turn,
+) -> Result<Option<State>, Memory> {
+    let Some(state) = table.states.get(origin.parent as usize) else {
+        return Ok(None);
+    };
+    let Some(work) = state.work.checked_add(turn.work as u64) else {
+        return Ok(None);
+    };
+    Ok(Some(State {
+        entries: with_entry(alloc, &state.entries, turn.entry)?,
+        work,
+        origin: Some(origin),
+        failed: turn.failed,
+        before: None,
+        end: End::Open,
+    }))
+}
+
+// The entries with this one at its place, in order of the places.
+fn with_entry(
+    alloc: Global,
+    entries: &[Standing],
+    entry: Standing,
+) -> Result<Vec<Standing>, Memory> {
+    let mut all = Vec::with_capacity(alloc, entries.len())?;
+    let mut is_put = false;
+    for other in entries {
+        if !is_put && other.place >= entry.place {
+            all.push(entry)?;
+            is_put = true;
+        }
+        if other.place != entry.place {
+            all.push(*other)?;
+        }
+    }
+    if !is_put {
+        all.push(entry)?;
+    }
+    Ok(all)
+}
+
+/// The entry at a place, if there is one.
+pub(crate) fn entry_at(entries: &[Standing], place: u32) -> Option<Standing> {
+    for entry in entries {
+        if entry.place == place {
+            return Some(*entry);
+        }
+    }
+    None
 }
 
 // The sum of the offsets and of the least separations of their places.
@@ -127,12 +194,13 @@ fn rank_of(gaps: &[Gaps], entries: &[Standing]) -> u64 {
     rank
 }
 
-// Gives the state this work where it has less.
-fn raise_work(table: &mut Table, number: u32, work: u64, origin: Origin) {
+// Gives the state the child's work where it has less. What failed for the child fails for it.
+fn raise(table: &mut Table, number: u32, child: &State) {
     if let Some(state) = table.states.get_mut(number as usize) {
-        if state.work < work {
-            state.work = work;
-            state.origin = Some(origin);
+        state.failed = state.failed.max(child.failed);
+        if state.work < child.work {
+            state.work = child.work;
+            state.origin = child.origin;
         }
     }
 }
@@ -141,6 +209,12 @@ impl Table {
     /// The number of the state of these entries, if there is one.
     fn number_of(&self, entries: &[Standing]) -> Option<u32> {
         self.numbers.get(entries).copied()
+    }
+
+    /// The entry of a state at the place at which it is split, if there is one.
+    pub(crate) fn entry_of(&self, origin: Origin) -> Option<Standing> {
+        let state = self.states.get(origin.parent as usize)?;
+        entry_at(&state.entries, origin.place)
     }
 
     /// Whether no state waits.

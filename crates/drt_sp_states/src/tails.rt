@@ -68,7 +68,7 @@ pub(crate) fn greatest_walk(
     place: u32,
     t: u64,
 ) -> Result<Option<Vec<u32>>, Memory> {
-    let first = greatest_at(curves_at(subject, place as usize), t);
+    let first = greatest_at(curves_at(subject, place), t);
     let Ok(first) = u32::try_from(first) else {
         return Ok(None);
     };

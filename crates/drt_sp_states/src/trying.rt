@@ -1,8 +1,8 @@
 //! The walks of a state's trial, and what is done where they leave the job time.
-use crate::idle::{Idle, is_active, top_before};
-use crate::places::Subject;
-use crate::stepping::entry_at;
-use crate::tables::Table;
+use crate::curves::value_before;
+use crate::idle::is_active;
+use crate::places::{Subject, crest_at, place_count};
+use crate::tables::{Table, entry_at};
 use crate::tails::{add_attaining, greatest_walk};
 use crate::trials::Pool;
 use drt_model::{Memory, Row};
@@ -17,10 +17,7 @@ pub(crate) fn walks_of(
     number: u32,
 ) -> Result<Option<Vec<Row<u32>>>, Memory> {
     let mut walks = Vec::new(alloc);
-    for place in 0..subject.order.len() {
-        let Ok(place) = u32::try_from(place) else {
-            return Ok(None);
-        };
+    for place in 0..place_count(subject) {
         let Some(walk) = walk_of(alloc, subject, table, number, place)? else {
             return Ok(None);
         };
@@ -78,27 +75,31 @@ fn walk_to(alloc: Global, table: &Table, number: u32, place: u32) -> Result<Vec<
 }
 
 /// The place that isn't active whose tail asks before the time for the most more than its walk of the trial, if one asks for more.
-pub(crate) fn place_to_activate(idle: &Idle, pool: &Pool, time: u64) -> Option<u32> {
+pub(crate) fn place_to_activate(
+    subject: Subject<'_>,
+    active: &[u32],
+    pool: &Pool,
+    time: u64,
+) -> Option<u32> {
     let mut most = 0;
     let mut place: Option<u32> = None;
-    for i in 0..idle.active.len() {
-        let gap = gap_at(idle, pool, i, time);
-        if !is_active(&idle.active, i) && gap > most {
+    for other in 0..place_count(subject) {
+        let gap = gap_at(subject, pool, other, time);
+        if !is_active(active, other) && gap > most {
             most = gap;
-            place = u32::try_from(i).ok();
+            place = Some(other);
         }
     }
     place
 }
 
 // How much more the tail of a place asks for before the time than its walk of the trial.
-fn gap_at(idle: &Idle, pool: &Pool, place: usize, time: u64) -> u64 {
-    if place >= pool.functions.len() {
+fn gap_at(subject: Subject<'_>, pool: &Pool, place: u32, time: u64) -> u64 {
+    let Some(function) = pool.functions.get(place as usize) else {
         return 0;
-    }
-    let function = &pool.functions[place];
+    };
     if time == 0 || time > function.bound() {
         return 0;
     }
-    top_before(idle, place, time).saturating_sub(function.at(time))
+    value_before(crest_at(subject, place), time).saturating_sub(function.at(time))
 }

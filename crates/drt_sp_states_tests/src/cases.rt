@@ -1,0 +1,237 @@
+//! Searches of the vertex of the last task of a set, and what they find.
+ghost use Rattle.std.specs.Prelude.{◌≤◌, ◌<◌, IfOk, IfSome, IsTrue, length};
+ghost use Rattle.std.specs.List.{All};
+ghost use Rattle.drt_check_states.specs.Curves.{HasRisingCurves};
+ghost use Rattle.drt_check_states.specs.Places.{AreTasks};
+
+use drt_check_states::find_crests;
+use drt_fixtures::{Shape, make_set};
+use drt_graph::{Graph, Graphs, check};
+use drt_model::{Memory, Row};
+use drt_sp_states::{Searched, Subject, search_states};
+use drt_states::{StateClaim, StateEnd, StateEntry, TailClaim};
+use drt_tails::find_tail;
+use std::alloc::Global;
+use std::test::Fail;
+
+/// A set whose last task has one vertex, the greatest time that its tails reach to, and the budget of a search.
+#[derive(Clone, Copy)]
+pub(crate) struct Case<'a> {
+    pub shapes: &'a [Shape<'a>],
+    pub bound: u64,
+    pub budget: u64,
+}
+
+/// How a state ends.
+#[derive(Clone, Copy)]
+pub(crate) enum End<'a> {
+    Passes(u64),
+    Splits(u32, &'a [u32]),
+}
+
+/// A state: its entries (place, vertex, offset), its work and its end.
+pub(crate) type State<'a> = (&'a [(u32, u32, u64)], u64, End<'a>);
+
+/// Whether the search finds these states.
+pub(crate) fn finds_states(
+    alloc: Global,
+    case: Case<'_>,
+    wanted: &[State<'_>],
+) -> Result<bool, Fail> {
+    match find(alloc, case)? {
+        Searched::Passes(states) => Ok(are_states(states.as_slice(), wanted)),
+        _ => Ok(false),
+    }
+}
+
+/// Whether the search finds these walks.
+pub(crate) fn finds_walks(
+    alloc: Global,
+    case: Case<'_>,
+    wanted: &[&[u32]],
+) -> Result<bool, Fail> {
+    match find(alloc, case)? {
+        Searched::Misses(walks) => Ok(are_walks(walks.as_slice(), wanted)),
+        _ => Ok(false),
+    }
+}
+
+/// Whether the search spends its budget.
+pub(crate) fn is_spent(alloc: Global, case: Case<'_>) -> Result<bool, Fail> {
+    match find(alloc, case)? {
+        Searched::Spent => Ok(true),
+        _ => Ok(false),
+    }
+}
+
+// What the search of the vertex of the last task finds.
+fn find(alloc: Global, case: Case<'_>) -> Result<Searched, Fail> {
+    let set = make_set(alloc, case.shapes)?.ok_or("within the limits")?;
+    let graphs = check(alloc, &set)?;
+    match search_last(alloc, &graphs, case.bound, case.budget)? {
+        Some(found) => Ok(found),
+        None => Err("a task without tail".into()),
+    }
+}
+
+// What the search of vertex 0 of the last task finds. None where there is none, or a task before it has no tail up to the bound.
+fn search_last(
+    alloc: Global,
+    graphs: &Graphs,
+    bound: u64,
+    budget: u64,
+) -> Result<Option<Searched>, Memory> {
+    let count = graphs.count();
+    if count < 1 || count > 4 || graphs.graph(count - 1).vertex_count() < 1 {
+        return Ok(None);
+    }
+    let vertex = graphs.graph(count - 1).vertex(0);
+    let (wcet, deadline) = (vertex.wcet, vertex.deadline);
+    let order = &HIGHER[..count as usize - 1];
+    if !are_within(wcet, deadline, bound) || !are_tasks(graphs, order) {
+        return Ok(None);
+    }
+    search_vertex(alloc, graphs, order, wcet, deadline, bound, budget)
+}
+
+// The numbers of the first three tasks.
+const HIGHER: [u32; 3] = [0, 1, 2];
+
+fn are_within(wcet: u32, deadline: u32, bound: u64) -> bool
+    ensures wcet { IsTrue result → wcet ≤ 1000000 }
+    ensures some { IsTrue result → 1 ≤ deadline }
+    ensures deadline { IsTrue result → deadline ≤ 1000000 }
+    ensures from { IsTrue result → 1 ≤ bound }
+    ensures to { IsTrue result → bound ≤ 1000000 }
+{
+    wcet <= 1000000 && 1 <= deadline && deadline <= 1000000 && 1 <= bound && bound <= 1000000
+}
+
+// Whether the numbers are those of tasks.
+fn are_tasks(graphs: &Graphs, order: &[u32]) -> bool
+    ensures { IsTrue result → AreTasks graphs.now order.now }
+{
+    for task in order {
+        if *task >= graphs.count() {
+            return false;
+        }
+    }
+    true
+}
+
+fn search_vertex(
+    alloc: Global,
+    graphs: &Graphs,
+    order: &[u32],
+    wcet: u32,
+    deadline: u32,
+    bound: u64,
+    budget: u64,
+) -> Result<Option<Searched>, Memory>
+    requires order { AreTasks graphs.now order.now }
+    requires few { length order.now ≤ 31 }
+    requires wcet { wcet ≤ 1000000 }
+    requires some { 1 ≤ deadline }
+    requires most { deadline ≤ 1000000 }
+    requires from { 1 ≤ bound }
+    requires to { bound ≤ 1000000 }
+{
+    match find_tails(alloc, graphs, order, bound)? {
+        Some(tails) => {
+            let crests = find_crests(alloc, &tails)?;
+            let subject = Subject {
+                graphs,
+                order,
+                tails: &tails,
+                crests: crests.as_slice(),
+                wcet,
+                deadline,
+            };
+            let found = search_states(alloc, subject, budget)?;
+            Ok(Some(found))
+        }
+        None => Ok(None),
+    }
+}
+
+// The tails of these tasks up to the bound. None where a task has none.
+fn find_tails(
+    alloc: Global,
+    graphs: &Graphs,
+    order: &[u32],
+    bound: u64,
+) -> Result<Option<Vec<TailClaim>>, Memory>
+    requires order { AreTasks graphs.now order.now }
+    requires from { 1 ≤ bound }
+    requires to { bound ≤ 1000000 }
+    ensures { IfOk result (λ r. IfSome r (λ tails. All HasRisingCurves tails.items)) }
+{
+    let mut tails = Vec::new(alloc);
+    for i in 0..order.len() {
+        let Some(tail) = find_rising(alloc, graphs.graph(order[i]), bound)? else {
+            return Ok(None);
+        };
+        tails.push(tail)?;
+    }
+    Ok(Some(tails))
+}
+
+fn find_rising(alloc: Global, graph: &Graph, bound: u64) -> Result<Option<TailClaim>, Memory>
+    requires from { 1 ≤ bound }
+    requires to { bound ≤ 1000000 }
+    ensures { IfOk result (λ r. IfSome r HasRisingCurves) }
+{
+    find_tail(alloc, graph, bound, 1000000)
+}
+
+fn are_states(states: &[StateClaim], wanted: &[State<'_>]) -> bool {
+    if states.len() != wanted.len() {
+        return false;
+    }
+    for i in 0..states.len() {
+        if !is_state(&states[i], wanted[i]) {
+            return false;
+        }
+    }
+    true
+}
+
+fn is_state(state: &StateClaim, wanted: State<'_>) -> bool {
+    let (entries, work, end) = wanted;
+    state.work == work && are_entries(state.entries.as_slice(), entries) && is_end(&state.end, end)
+}
+
+fn are_entries(entries: &[StateEntry], wanted: &[(u32, u32, u64)]) -> bool {
+    if entries.len() != wanted.len() {
+        return false;
+    }
+    for i in 0..entries.len() {
+        let entry = entries[i];
+        if (entry.place, entry.vertex, entry.offset) != wanted[i] {
+            return false;
+        }
+    }
+    true
+}
+
+fn is_end(end: &StateEnd, wanted: End<'_>) -> bool {
+    match (end, wanted) {
+        (StateEnd::Passes(time), End::Passes(wanted)) => *time == wanted,
+        (StateEnd::Splits { place, children }, End::Splits(at, numbers)) => {
+            *place == at && children.as_slice() == numbers
+        }
+        _ => false,
+    }
+}
+
+fn are_walks(walks: &[Row<u32>], wanted: &[&[u32]]) -> bool {
+    if walks.len() != wanted.len() {
+        return false;
+    }
+    for i in 0..walks.len() {
+        if walks[i].as_slice() != wanted[i] {
+            return false;
+        }
+    }
+    true
+}
