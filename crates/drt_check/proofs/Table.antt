@@ -1,11 +1,17 @@
 -- The places of the rules in their table, in the order of their numbers.
-use Rattle.std.proofs.Common.{◌≡◌, ℕ, List, [], ◌∷◌, slice_index_or, refl}
+use Rattle.std.proofs.Common.{◌≡◌, ℕ, ◌+◌, ◌<◌, List, [], ◌∷◌, map, slice_index_or, refl, sym, ap, ◌∙◌, arith}
+use Rattle.std.specs.List.{range_with_len}
+use Rattle.std.proofs.lemmas.List.{get_or-map}
+use Rattle.std.proofs.lemmas.List.FromFn.{get_or-range_with_len}
+use Rattle.drt_evidence.specs.Rules.{Applies, Keeps, number_of}
+use Rattle.drt_evidence.specs.Statement.{Statement}
 use Rattle.drt_evidence.specs.declared.rule.Rule.{Rule}
 use Rattle.drt_evidence.specs.declared.rule.Rule.TheVariants.{ConstrainedDeadlines, KindOfPolicy, RatioPerTask, LowestTerms, PotentialPerVertex, FittingPotentials}
 use Rattle.drt_evidence.specs.declared.rule.Rule.TheVariants.{ClosedCycles, TightCycles, FineScale, ClaimedUtilisation, NearHorizon, OrderedFronts}
 use Rattle.drt_evidence.specs.declared.rule.Rule.TheVariants.{CoveredOpenings, CoveredExtensions, Room, LegalReleases, LeastMiss}
 use Rattle.drt_evidence.specs.declared.rule.Rule.TheVariants.{TreePerHigherTask, ShortWalks, CoveredWalks, TreeShapes, ProofPerVertex, ProofShapes, PassingTimes}
 use Rattle.drt_evidence.specs.declared.rule.Rule.TheVariants.{RisingTails, BoundingTails, SearchPerVertex, SearchStates, PassingStates, DominatedChildren}
+use Rattle.drt_check.specs.Deciding.{IsNext}
 
 -- The place of a rule.
 abbrev pub place : Rule → ℕ
@@ -81,3 +87,50 @@ at_place d SearchPerVertex = refl
 at_place d SearchStates = refl
 at_place d PassingStates = refl
 at_place d DominatedChildren = refl
+
+-- Its number is one more.
+number_is : (rule : Rule) → number_of rule ≡ place rule + 1
+number_is ConstrainedDeadlines = refl
+number_is KindOfPolicy = refl
+number_is RatioPerTask = refl
+number_is LowestTerms = refl
+number_is PotentialPerVertex = refl
+number_is FittingPotentials = refl
+number_is ClosedCycles = refl
+number_is TightCycles = refl
+number_is FineScale = refl
+number_is ClaimedUtilisation = refl
+number_is NearHorizon = refl
+number_is OrderedFronts = refl
+number_is CoveredOpenings = refl
+number_is CoveredExtensions = refl
+number_is Room = refl
+number_is TreePerHigherTask = refl
+number_is ShortWalks = refl
+number_is CoveredWalks = refl
+number_is TreeShapes = refl
+number_is ProofPerVertex = refl
+number_is ProofShapes = refl
+number_is PassingTimes = refl
+number_is LegalReleases = refl
+number_is LeastMiss = refl
+number_is RisingTails = refl
+number_is BoundingTails = refl
+number_is SearchPerVertex = refl
+number_is SearchStates = refl
+number_is PassingStates = refl
+number_is DominatedChildren = refl
+
+numbers : map number_of table ≡ range_with_len 1 30
+numbers = refl
+
+number_at : (i : ℕ) (d : Rule) → i < 30 → number_of (slice_index_or table i d) ≡ 1 + i
+number_at i d l = sym (get_or-map number_of table i d 0 l) ∙ (ap (λ ns. slice_index_or ns i 0) numbers ∙ get_or-range_with_len 1 30 i 0 l)
+
+-- Where the rule at a place applies, and those before it are kept as far as they apply, it is the next one.
+pub next_at : (s : Statement) (i : ℕ) (d : Rule) → i < 30 → Applies (slice_index_or table i d) s.evidence
+    → ((rule : Rule) → Applies rule s.evidence → place rule < i → Keeps rule s) → IsNext s (slice_index_or table i d)
+next_at s i d l applies before = record {
+  applies = applies;
+  before = λ rule a m. before rule a (let n = number_at i d l in let k = number_is rule in omega (arith, m, n, k));
+}

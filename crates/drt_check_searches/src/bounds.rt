@@ -11,9 +11,10 @@ pub(crate) fn lower_deadline(tasks: &[Task], priority: u32) -> u32
 {
     let mut greatest = 0;
     for task in tasks {
-        if priority < task.priority {
-            greatest = larger(greatest, latest_deadline(task.vertices.as_slice()));
+        if task.priority <= priority {
+            continue;
         }
+        greatest = larger(greatest, latest_deadline(task.vertices.as_slice()));
     }
     greatest
 }

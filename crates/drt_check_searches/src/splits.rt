@@ -32,12 +32,7 @@ pub fn have_dominated_splits(
     true
 }
 
-fn has_dominated_splits(
-    set: &TaskSet,
-    graphs: &Graphs,
-    order: &[u32],
-    search: &SearchClaim,
-) -> bool
+fn has_dominated_splits(set: &TaskSet, graphs: &Graphs, order: &[u32], search: &SearchClaim) -> bool
     requires graphs { graphs.now ≡ graphs_of set.now.tasks }
     requires order { IsPriorityOrder set.now.tasks order.now }
     requires states { HasStatesOver set.now.tasks search.now }

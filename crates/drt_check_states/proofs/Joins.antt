@@ -1,9 +1,12 @@
 -- The greater value of two functions, jump by jump, and the greatest one of several.
-use Rattle.std.proofs.Common.{◌≡◌, ℕ, zero, suc, ◌+◌, ◌-◌, ◌<◌, ◌≤◌, max, All, List, [], ◌∷◌, ◌++◌, length, get_or, take, drop, refl, sym, ap, subst, ◌∙◌, arith}
-use Rattle.std.proofs.lemmas.List.{get_or_default, take_all, take-append-drop}
+use Rattle.std.proofs.Common.{◌≡◌, ℕ, ◌+◌, ◌<◌, ◌≤◌, ◌⊎◌, inl, inr, max, List, [], ◌∷◌, ◌++◌, length, get_or, take, drop, refl, sym, ap, subst, ◌∙◌, arith}
+use Rattle.std.proofs.Math.Seq.{get_or-append_seam}
+use Rattle.std.proofs.lemmas.Bool.{cases_lt}
+use Rattle.std.proofs.lemmas.List.{get_or_append_left, get_or_default, take_all, take-append-drop}
 use Rattle.drt_states.specs.Tails.{greatest_before, last_work, no_jump, value_before}
 use Rattle.drt_states.specs.declared.claims.Jump.{Jump}
-use Rattle.drt_check_states.specs.Crests.{AreUpTo, HasJump, IsGreatest, IsJoin}
+use Rattle.drt_states.specs.declared.claims.TailClaim.{TailClaim}
+use Rattle.drt_check_states.specs.Crests.{AreUpTo, HasJump, IsCrest, IsGreatest, IsJoin}
 use Rattle.drt_check_states.specs.Curves.{IsRising}
 use Rattle.drt_check_states.proofs.Jumps.{up_more, value_more}
 
@@ -103,3 +106,26 @@ greatest_both curves n a b joined front back is = record {
       let e = ap (λ (cs : List (List Jump)). greatest_before cs t) (take-append-drop n curves) in
       omega (arith, is.value t, front.greatest t, back.greatest t, greatest_parts (take n curves) (drop n curves) t, e);
 }
+
+-- The greatest value of one more tail.
+pub crest_of : (tail : TailClaim) (curves : List (List Jump)) (crest joined : List Jump) → curves ≡ tail.curves → crest ≡ joined → IsGreatest curves joined → IsCrest tail crest
+crest_of tail curves crest joined e f is = record {
+  rising = subst IsRising (sym f) is.rising;
+  greatest = λ t. ap (λ (js : List Jump). value_before js t) f ∙ (is.greatest t ∙ ap (λ (cs : List (List Jump)). greatest_before cs t) e);
+}
+
+pub crests_more : (tails : List TailClaim) (crests new : List (List Jump)) (i : ℕ) (x : TailClaim) (crest : List Jump) → length crests ≡ i → i < length tails → x ≡ get_or tails i x
+    → IsCrest x crest → new ≡ crests ++ crest ∷ [] → ((k : ℕ) (d : TailClaim) (e : List Jump) → k < i → IsCrest (get_or tails k d) (get_or crests k e))
+    → (k : ℕ) (d : TailClaim) (e : List Jump) → k < i + 1 → IsCrest (get_or tails k d) (get_or new k e)
+crests_more tails crests new i x crest long l at is made so_far k d e m = go (cases_lt k i)
+  where
+    go : (k < i) ⊎ (i ≤ k) → IsCrest (get_or tails k d) (get_or new k e)
+    go (inl q) =
+        let same : get_or new k e ≡ get_or crests k e = ap (λ (cs : List (List Jump)). get_or cs k e) made ∙ get_or_append_left crests (crest ∷ []) e k (omega (arith, long, q)) in
+        subst (λ (js : List Jump). IsCrest (get_or tails k d) js) (sym same) (so_far k d e q)
+    go (inr q) =
+        let here : k ≡ i = omega arith in
+        let tail : get_or tails k d ≡ x = ap (λ (n : ℕ). get_or tails n d) here ∙ (get_or_default tails i d x l ∙ sym at) in
+        let put : get_or new k e ≡ get_or (crests ++ crest ∷ []) k e = ap (λ (cs : List (List Jump)). get_or cs k e) made in
+        let last : get_or new k e ≡ crest = put ∙ (ap (λ (n : ℕ). get_or (crests ++ crest ∷ []) n e) (here ∙ sym long) ∙ get_or-append_seam crests crest [] e) in
+        subst (λ (js : List Jump). IsCrest (get_or tails k d) js) (sym last) (subst (λ (y : TailClaim). IsCrest y crest) (sym tail) is)

@@ -47,11 +47,13 @@ rising_behind xs x is last n d l = go (cases_lt (n + 1) (length xs))
   where
     long : n + 1 < length xs + 1
     long = omega (arith, l, long_behind xs x)
+
     go : (n + 1 < length xs) ⊎ (length xs ≤ n + 1) → IsRise (get_or (xs ++ x ∷ []) n d) (get_or (xs ++ x ∷ []) (n + 1) d)
     go (inl m) = rise_by _ _ (get_or xs n d) (get_or xs (n + 1) d) (before_seam xs x d n (omega arith)) (before_seam xs x d (n + 1) m) (is n d m)
     go (inr m) =
         let e : n ≡ length xs - 1 = omega (arith, long) in
-        rise_by _ _ (get_or xs (length xs - 1) d) x (before_seam xs x d n (omega (arith, long)) ∙ ap (λ (i : ℕ). get_or xs i d) e) (at_seam xs x d (n + 1) (omega (arith, long))) (last d (omega (arith, long)))
+        let same : get_or (xs ++ x ∷ []) n d ≡ get_or xs (length xs - 1) d = before_seam xs x d n (omega (arith, long)) ∙ ap (λ (i : ℕ). get_or xs i d) e in
+        rise_by _ _ (get_or xs (length xs - 1) d) x same (at_seam xs x d (n + 1) (omega (arith, long))) (last d (omega (arith, long)))
 
 -- A list that rises does so without its last jump, which rises above the one before it, and goes at least as high as each.
 rising_front : (xs : List Jump) (x : Jump) → IsRising (xs ++ x ∷ []) → IsRising xs
@@ -104,6 +106,7 @@ jump_behind xs x is up last = record { rising = rises; last = up_behind x.offset
   where
     rises : IsRising (xs ++ x ∷ [])
     rises = rising_behind xs x is last
+
     go : (t : ℕ) → (x.offset < t) ⊎ (t ≤ x.offset) → value_before (xs ++ x ∷ []) t ≡ max (value_before xs t) (value_before (x ∷ []) t)
     go t (inl l) = let m : value_before xs t ≤ x.work = last_most 0 x.work xs t (omega arith) (works_under xs x rises) in omega (arith, value_past xs x t l, value_one x t l, m)
     go t (inr l) = omega (arith, value_short xs x t l, value_not x t l)
@@ -119,6 +122,7 @@ jump_over xs l x is up far less = record {
   where
     same : l.offset ≤ x.offset
     same = up_last x.offset xs l up
+
     go : (t : ℕ) → (x.offset < t) ⊎ (t ≤ x.offset) → value_before (xs ++ x ∷ []) t ≡ max (value_before (xs ++ l ∷ []) t) (value_before (x ∷ []) t)
     go t (inl m) = omega (arith, value_past xs x t m, value_past xs l t (omega (arith, m, same)), value_one x t m, less)
     go t (inr m) = omega (arith, value_short xs x t m, value_short xs l t (omega (arith, m, far)), value_not x t m)
@@ -129,6 +133,7 @@ jump_under xs l x is up low = record { rising = is; last = up; value = λ t. go 
   where
     same : l.offset ≤ x.offset
     same = up_last x.offset xs l up
+
     go : (t : ℕ) → (x.offset < t) ⊎ (t ≤ x.offset) → value_before (xs ++ l ∷ []) t ≡ max (value_before (xs ++ l ∷ []) t) (value_before (x ∷ []) t)
     go t (inl m) = omega (arith, value_past xs l t (omega (arith, m, same)), value_one x t m, low)
     go t (inr m) = omega (arith, value_not x t m)
@@ -159,3 +164,21 @@ value_more xs n t d is l =
     let rises : IsRising (take n xs ++ x ∷ []) = subst IsRising more (rising_take xs (n + 1) is) in
     let has = jump_behind (take n xs) x (rising_take xs n is) (up_take xs n d is l) (λ e some. rise_last (take n xs) x e rises some) in
     ap (λ (js : List Jump). value_before js t) more ∙ has.value t
+
+-- A jump behind one that it rises above.
+pub jump_past : (xs : List Jump) (l x : Jump) → IsRising (xs ++ l ∷ []) → AreUpTo x.offset (xs ++ l ∷ []) → l.offset < x.offset → l.work < x.work
+    → HasJump (xs ++ l ∷ []) x ((xs ++ l ∷ []) ++ x ∷ [])
+jump_past xs l x is up far high =
+    jump_behind (xs ++ l ∷ []) x is up (λ d some.
+    let e : get_or (xs ++ l ∷ []) (length (xs ++ l ∷ []) - 1) d ≡ l = at_seam xs l d (length (xs ++ l ∷ []) - 1) (omega (arith, long_behind xs l)) in
+    rise_by _ x l x e refl (far, high))
+
+-- A jump behind none.
+pub jump_first : (old xs new : List Jump) (x : Jump) → length old ≡ 0 → length xs ≡ 0 → new ≡ xs ++ x ∷ [] → HasJump old x new
+jump_first [] [] new x e f is = subst (HasJump [] x) (sym is) (jump_behind [] x (λ n d l. absurd (omega arith)) (λ k d l. absurd (omega arith)) (λ d some. absurd (omega arith)))
+jump_first [] (y ∷ xs) new x e f is = absurd (omega arith)
+jump_first (y ∷ old) xs new x e f is = absurd (omega arith)
+
+-- The same of lists that are equal.
+pub has_by : (old new old' new' : List Jump) (x : Jump) → old ≡ old' → new ≡ new' → HasJump old' x new' → HasJump old x new
+has_by old new old' new' x e f has = subst (λ (js : List Jump). HasJump js x new) (sym e) (subst (λ (js : List Jump). HasJump old' x js) (sym f) has)

@@ -1,7 +1,7 @@
 -- The greatest values of tails as lists of jumps, and how they are joined.
-use Rattle.std.specs.Prelude.{◌≡◌, ℕ, ◌<◌, ◌≤◌, max, List, [], ◌∷◌, All, length, slice_index_or}
+use Rattle.std.specs.Prelude.{◌≡◌, ℕ, ◌≤◌, max, List, [], ◌∷◌, All}
 use Rattle.std.specs.List.{AllZip}
-use Rattle.drt_states.specs.Tails.{greatest_before, no_jump, value_before}
+use Rattle.drt_states.specs.Tails.{greatest_before, value_before}
 use Rattle.drt_states.specs.declared.claims.Jump.{Jump}
 use Rattle.drt_states.specs.declared.claims.TailClaim.{TailClaim}
 use Rattle.drt_check_states.specs.Curves.{IsRising}

@@ -1,5 +1,5 @@
 //! The greatest values of tails, each as one list of jumps.
-ghost use Rattle.std.specs.Prelude.{◌≡◌, ◌+◌, ◌<◌, ◌≤◌, All, IfOk, IsTrue, false, length, slice_index_or};
+ghost use Rattle.std.specs.Prelude.{◌≡◌, ◌<◌, ◌≤◌, ◌⊎◌, All, IfOk, IsTrue, false, length, slice_index_or};
 ghost use Rattle.drt_states.specs.Tails.{no_jump};
 ghost use Rattle.drt_check_states.specs.Crests.{AreCrests, AreUpTo, HasJump, IsGreatest, IsJoin};
 ghost use Rattle.drt_check_states.specs.Curves.{HasRisingCurves, IsRising};

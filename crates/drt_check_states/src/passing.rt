@@ -74,7 +74,13 @@ fn has_room_at(
     if room < state.work {
         return false;
     }
-    fits(tails, crests, state.entries.as_slice(), t, room - state.work)
+    fits(
+        tails,
+        crests,
+        state.entries.as_slice(),
+        t,
+        room - state.work,
+    )
 }
 
 // Whether what the places ask for before the time adds up to at most the room.
@@ -111,13 +117,7 @@ fn crest_at<'a>(tails: &[TailClaim], crests: &'a [Row<Jump>], place: usize) -> &
 }
 
 // The most that the walk at the place asks for before the time.
-fn asked_at(
-    tail: &TailClaim,
-    crest: &[Jump],
-    entries: &[StateEntry],
-    place: usize,
-    t: u64,
-) -> u64
+fn asked_at(tail: &TailClaim, crest: &[Jump], entries: &[StateEntry], place: usize, t: u64) -> u64
     requires rising { HasRisingCurves tail.now }
     requires crest { IsCrest tail.now crest.now }
     ensures { result ≡ asked_of tail.now (entry_at entries.now place) t }

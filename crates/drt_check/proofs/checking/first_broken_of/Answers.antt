@@ -1,8 +1,8 @@
-use Rattle.std.proofs.Common.{◌≡◌, ◌+◌, ◌<◌, ◌≤◌, ◌⊎◌, inl, inr, true, false, sym, ◌∙◌, slice_index_or, subst, arith, rules}
+use Rattle.std.proofs.Common.{◌≡◌, ◌+◌, ◌<◌, ◌≤◌, ◌⊎◌, inl, inr, true, false, sym, ◌∙◌, slice_index_or, subst, arith}
 use Rattle.std.proofs.lemmas.Bool.{cases_lt}
 use Rattle.drt_evidence.specs.Rules.{Applies, Keeps}
 use Rattle.drt_evidence.specs.declared.rule.Rule.{Rule}
-use Rattle.drt_check.proofs.Table.{at_place, place, table}
+use Rattle.drt_check.proofs.Table.{at_place, next_at, place, table}
 use Rattle.drt_check.proofs.checking.first_broken_of.Goals.{else-applies-via-then-applies+in_ok-is_kept+else-not-branch, else-applies-via-else-applies}
 use Rattle.drt_check.proofs.checking.first_broken_of.Goals as goal
 
@@ -24,7 +24,11 @@ rules-preserved c = λ rule a l. go rule a l (cases_lt (place rule) c.rules.i)
     go rule a l (inl before) = c.rules.invariant rule a before
     go rule a l (inr at) = here rule a (omega arith)
 
+pub is_kept-requires-clause-next : goal.is_kept-requires-clause-next
+is_kept-requires-clause-next c = next_at c.args.dossier.now c.rules.i _ (omega (arith, c.rules-test.true)) (c.applies.ensures.0 c.if-applies.true) c.rules.invariant
+
 pub returns-then-not-branch : goal.returns-then-not-branch
 returns-then-not-branch c =
     let kept = rw c.in_ok-is_kept.was at c.is_kept.ensures in
-    (search rules, λ k. (let t = kept.1 k in grind (arith, c.if-not-branch.true)))
+    let next = next_at c.args.dossier.now c.rules.i _ (omega (arith, c.rules-test.true)) (c.applies.ensures.0 c.if-applies.true) c.rules.invariant in
+    (next, λ k. (let t = kept.1 k in grind (arith, c.if-not-branch.true)))

@@ -1,10 +1,16 @@
 use Rattle.std.proofs.Common.{arith, refl, subst, sym}
+use Rattle.drt_states.specs.declared.claims.TailClaim.{TailClaim}
+use Rattle.drt_check_states.specs.Crests.{IsCrest}
 use Rattle.drt_check_states.specs.Curves.{HasRisingCurves}
 use Rattle.drt_check_states.proofs.Sums.{asked_end, asked_more}
 use Rattle.drt_check_states.proofs.passing.fits.Goals as goal
 
-pub asked_at-asked-requires : goal.asked_at-asked-requires
-asked_at-asked-requires c = subst HasRisingCurves (sym c.index-tails-i.is) (c.requires c.loop-i.i c.index-tails-i.result c.loop-i-test.true)
+pub asked_at-asked-requires-clause-rising : goal.asked_at-asked-requires-clause-rising
+asked_at-asked-requires-clause-rising c = subst HasRisingCurves (sym c.index-tails-i.is) (c.requires.rising c.loop-i.i c.index-tails-i.result c.loop-i-test.true)
+
+pub asked_at-asked-requires-clause-crest : goal.asked_at-asked-requires-clause-crest
+asked_at-asked-requires-clause-crest c =
+    subst (λ (x : TailClaim). IsCrest x c.crest_at-crest.result.now) (sym c.index-tails-i.is) (c.crest_at-crest.ensures c.index-tails-i.result)
 
 pub returns-then-left-asked : goal.returns-then-left-asked
 returns-then-left-asked c =

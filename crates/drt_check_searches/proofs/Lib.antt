@@ -1,0 +1,4 @@
+mod Eachs
+mod Lowers
+mod Orders
+mod TaskSearches

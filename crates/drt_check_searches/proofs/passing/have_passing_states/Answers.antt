@@ -1,0 +1,6 @@
+use Rattle.drt_evidence.specs.Searches.{places_of}
+use Rattle.drt_check_states.proofs.Sums.{tails_rise}
+use Rattle.drt_check_searches.proofs.passing.have_passing_states.Goals as goal
+
+pub find_crests-requires : goal.find_crests-requires
+find_crests-requires c = tails_rise (places_of c.args.set.now.tasks) c.args.tails.now c.requires.tails
