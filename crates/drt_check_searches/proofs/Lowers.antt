@@ -3,16 +3,7 @@ use Rattle.std.proofs.Common.{◌≡◌, ℕ, ◌+◌, ◌<◌, ◌≤◌, max, 
 use Rattle.std.proofs.lemmas.Bool.{cond-false, cond-true}
 use Rattle.std.proofs.lemmas.List.{drop_all, drop_more}
 use Rattle.drt_model.specs.declared.tasks.Task.{Task}
-use Rattle.drt_model.specs.declared.tasks.Vertex.{Vertex}
 use Rattle.drt_evidence.specs.Trees.{greatest_deadline, latest_deadline}
-
-pub latest_more : (vertices : List Vertex) (i : ℕ) (d : Vertex) → i < length vertices → latest_deadline (drop i vertices) ≡ max (get_or vertices i d).deadline (latest_deadline (drop (i + 1) vertices))
-unfolding latest_deadline
-latest_more vertices i d l = ap latest_deadline (drop_more vertices i d l)
-
-pub latest_end : (vertices : List Vertex) (i : ℕ) → length vertices ≤ i → latest_deadline (drop i vertices) ≡ 0
-unfolding latest_deadline
-latest_end vertices i l = ap latest_deadline (drop_all i vertices l)
 
 -- One more task that the test takes, and one that it doesn't.
 pub lower_more : (p : Task → Bool) (tasks : List Task) (i : ℕ) (t : Task) → i < length tasks → t ≡ get_or tasks i t → p t ≡ true

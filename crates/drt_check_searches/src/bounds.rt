@@ -1,9 +1,9 @@
 //! The greatest deadlines of tasks of lower priority.
 ghost use Rattle.std.specs.Prelude.{◌≡◌, max};
 ghost use Rattle.drt_evidence.specs.Searches.{lower_deadline};
-ghost use Rattle.drt_evidence.specs.Trees.{latest_deadline};
 
-use drt_model::{Task, Vertex};
+use drt_check_trees::latest_deadline;
+use drt_model::Task;
 
 /// The greatest relative deadline of the tasks of lower priority than the number stands for, in ticks. It is 0 where there are none.
 pub(crate) fn lower_deadline(tasks: &[Task], priority: u32) -> u32
@@ -17,17 +17,6 @@ pub(crate) fn lower_deadline(tasks: &[Task], priority: u32) -> u32
         greatest = larger(greatest, latest_deadline(task.vertices.as_slice()));
     }
     greatest
-}
-
-// The greatest relative deadline of some vertices.
-fn latest_deadline(vertices: &[Vertex]) -> u32
-    ensures { result ≡ latest_deadline vertices.now }
-{
-    let mut latest = 0;
-    for vertex in vertices {
-        latest = larger(latest, vertex.deadline);
-    }
-    latest
 }
 
 // The larger of two numbers.

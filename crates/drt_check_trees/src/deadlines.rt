@@ -17,8 +17,8 @@ pub fn greatest_deadline(set: &TaskSet) -> u32
     greatest
 }
 
-// The greatest relative deadline of some vertices.
-fn latest_deadline(vertices: &[Vertex]) -> u32
+/// The greatest relative deadline of some vertices, in ticks. It is 0 where there are none.
+pub fn latest_deadline(vertices: &[Vertex]) -> u32
     ensures { result ≡ latest_deadline vertices.now }
 {
     let mut latest = 0;

@@ -17,7 +17,7 @@ mod short;
 
 pub use counts::is_tree_per_higher_task;
 pub use covering::cover_walks;
-pub use deadlines::greatest_deadline;
+pub use deadlines::{greatest_deadline, latest_deadline};
 pub use order::{priority_order, tree_graph};
 pub use shapes::are_trees;
 pub use short::have_short_walks;
