@@ -5,7 +5,7 @@
 //! states of one search.
 //!
 //! The checker above uses `has_rising_tails`, `bound_walks`, `is_search_per_vertex`, `have_states`, `have_passing_states` and
-//! `have_dominated_splits`, in this order. It stands on no crate of the search. All but one take no memory.
+//! `have_dominated_splits`, in this order. It stands on no crate of the search. Only `have_passing_states` takes memory.
 #![tactic(auto)]
 
 mod bounds;
