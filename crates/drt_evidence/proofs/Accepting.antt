@@ -1,5 +1,5 @@
 -- When evidence of each kind is accepted: what its rules ask, as a record of its kind, is enough.
-use Rattle.std.proofs.Common.{◌≡◌, ℕ, ◌≤◌, ◌^◌, List, All, refl}
+use Rattle.std.proofs.Common.{ℕ, ◌≤◌, ◌^◌, List, All, refl}
 use Rattle.drt_model.specs.Constrained.{AreConstrained}
 use Rattle.drt_model.specs.Contents.{Contents}
 use Rattle.drt_model.specs.Legal.{IsLegal}

@@ -134,20 +134,20 @@ pub stop_as : {X : Type 0} {T U : X → List ℕ} {D : X → Type 0} {bytes : Li
 stop_as {D = D} {bytes = bytes} {e = e} same i = subst (λ W. IsStop W D bytes e) same i
 
 -- Blocks one after another.
-empty_list : {X : Type 0} (xs : List X) → length xs ≡ 0 → xs ≡ []
+pub empty_list : {X : Type 0} (xs : List X) → length xs ≡ 0 → xs ≡ []
 empty_list [] e = refl
 empty_list (x ∷ xs) e = absurd (omega (arith, e))
 
 -- A list of more than n values, cut behind the first n.
-record CutAt {X : Type 0} (D : X → Type 0) (n : ℕ) (ys : List X) : Type 0 where
-  front : List X
-  here : X
-  more : List X
-  are : ys ≡ front ++ here ∷ more
-  fronts : AreSoMany n D front
-  is : D here
+pub record CutAt {X : Type 0} (D : X → Type 0) (n : ℕ) (ys : List X) : Type 0 where
+  pub front : List X
+  pub here : X
+  pub more : List X
+  pub are : ys ≡ front ++ here ∷ more
+  pub fronts : AreSoMany n D front
+  pub is : D here
 
-cut_at : {X : Type 0} (D : X → Type 0) (n : ℕ) (ys : List X) → n < length ys → AllByRecursion D ys → CutAt D n ys
+pub cut_at : {X : Type 0} (D : X → Type 0) (n : ℕ) (ys : List X) → n < length ys → AllByRecursion D ys → CutAt D n ys
 cut_at D n [] lt are = absurd (omega (arith, lt))
 cut_at D zero (y ∷ ys) lt are = record { front = []; here = y; more = ys; are = refl; fronts = (tt, refl); is = are.0 }
 cut_at D (suc n) (y ∷ ys) lt are =
@@ -179,7 +179,7 @@ peel {T = T} {D = D} {n = n} {xs = xs} r ys s t lt are e =
       goes = append_cancel_left (in_turn T xs) s (T c.here ++ behind) (e ∙ split ∙ ap (λ l. in_turn T l ++ (T c.here ++ behind)) same);
     }
 
-turn_push : {X : Type 0} (T : X → List ℕ) (xs : List X) (x : X) → in_turn T (xs ++ x ∷ []) ≡ in_turn T xs ++ T x
+pub turn_push : {X : Type 0} (T : X → List ℕ) (xs : List X) (x : X) → in_turn T (xs ++ x ∷ []) ≡ in_turn T xs ++ T x
 turn_push T xs x = flat_map-append T xs (x ∷ []) ∙ ap (λ t. in_turn T xs ++ t) (append-nil (T x))
 
 pub each_none : {X : Type 0} (T : X → List ℕ) (D : X → Type 0) (bytes : List ℕ) → ReadsBlock (in_turn T) (AreSoMany 0 D) bytes [] bytes

@@ -5,6 +5,8 @@ pub mod LineFeeds
 pub mod Numerals
 pub mod Shapes
 pub mod Spaces
+pub mod Cuts
+pub mod Claims
 pub mod Blocks
 pub mod Leaves
 pub mod Plain

@@ -1,7 +1,7 @@
 -- Each line's fields are runs of bytes above the space, so no line has a LF.
 use Rattle.std.proofs.Common.{ℕ, suc, ◌≤◌, List, [], ◌∷◌, length, map, All, subst, sym, arith, rules}
 use Rattle.std.specs.Prelude.{ℤ, pos, negsuc, codes, decimal}
-use Rattle.std.specs.List.{AllByRecursion, join_with_byte}
+use Rattle.std.specs.List.{AllByRecursion, flat_map, join_with_byte}
 use Rattle.std.specs.Fmt.{signed_decimal}
 use Rattle.std.proofs.lemmas.List.{length-map}
 use Rattle.std.proofs.lemmas.List.Elements.{All-head, All-tail}
@@ -10,7 +10,7 @@ use Rattle.drt_model.specs.declared.jobs.Policy.TheVariants as policies
 use Rattle.drt_model.specs.declared.jobs.Release.{Release}
 use Rattle.drt_model.specs.declared.jobs.Miss.{Miss}
 use Rattle.drt_file.specs.trusted.Cutting.{HasNoFeed}
-use Rattle.drt_file.proofs.Again.{IsField, joined_no_feed}
+use Rattle.drt_file.proofs.Again.{IsField, all_of_both, joined_no_feed}
 use Rattle.drt_file.proofs.Digits.{decimal_field}
 use Rattle.drt_model.specs.declared.front.FrontEntry.{FrontEntry}
 use Rattle.drt_evidence.specs.declared.evidence.Item.{Item}
@@ -20,9 +20,18 @@ use Rattle.drt_evidence.specs.declared.evidence.ProofClaim.{ProofClaim}
 use Rattle.drt_evidence.specs.declared.reading.line_forms.KindOfEvidence.{KindOfEvidence}
 use Rattle.drt_evidence.specs.declared.reading.line_forms.KindOfEvidence.TheVariants as kinds
 use Rattle.drt_evidence.specs.declared.reading.line_forms.WrittenRatio.{WrittenRatio}
+use Rattle.drt_evidence.specs.declared.reading.line_forms.WrittenSearch.{WrittenSearch}
+use Rattle.drt_states.specs.declared.claims.Jump.{Jump}
+use Rattle.drt_states.specs.declared.claims.StateClaim.{StateClaim}
+use Rattle.drt_states.specs.declared.claims.StateEnd.{StateEnd}
+use Rattle.drt_states.specs.declared.claims.StateEnd.TheVariants.{Passes, Splits}
+use Rattle.drt_states.specs.declared.claims.StateEntry.{StateEntry}
 use Rattle.drt_evidence.specs.Ranges.{IsNumber, IsInRangeEntry, IsInRangeItem, IsInRangeMiss, IsInRangePair, IsInRangePotential, IsInRangeProof, IsInRangeRelease}
-use Rattle.drt_evidence.specs.Text.{count_line, entry_line, item_field, miss_line, pair_line, policy_word, proof_line, release_line, word_line}
-use Rattle.drt_evidence.specs.LineForms.{AreCounted, IsInRangeWritten, kind_keyword, kind_line, numbers_line, policy_line, potentials_line, written_ratio_line}
+use Rattle.drt_evidence.specs.Ranges.{IsInRangeCurve, IsInRangeEnd, IsInRangeJump, IsInRangeState, IsInRangeStateEntry}
+use Rattle.drt_evidence.specs.Text.{count_line, curve_line, end_fields, entry_line, item_field, jump_fields, miss_line, pair_line, policy_word, proof_line, release_line}
+use Rattle.drt_evidence.specs.Text.{state_entry_fields, state_line, word_line}
+use Rattle.drt_evidence.specs.LineForms.{AreCounted, IsInRangeWritten, IsInRangeWrittenSearch, kind_keyword, kind_line}
+use Rattle.drt_evidence.specs.LineForms.{numbers_line, policy_line, potentials_line, written_ratio_line, written_search_line}
 use Rattle.drt_evidence.proofs.Numerals.{range_above, range_below}
 
 -- Each field of a line is a run of bytes above the space.
@@ -76,6 +85,7 @@ kind_field kinds.EdfYes = record { has_byte = omega arith; bytes = search rules 
 kind_field kinds.EdfNo = record { has_byte = omega arith; bytes = search rules }
 kind_field kinds.UtilisationOne = record { has_byte = omega arith; bytes = search rules }
 kind_field kinds.FixedYes = record { has_byte = omega arith; bytes = search rules }
+kind_field kinds.FixedStates = record { has_byte = omega arith; bytes = search rules }
 kind_field kinds.FixedNo = record { has_byte = omega arith; bytes = search rules }
 kind_field kinds.Undecided = record { has_byte = omega arith; bytes = search rules }
 
@@ -137,5 +147,47 @@ proof_fields p range = (
       number p.vertex (omega (arith, range.vertex)),
       (number (length p.items) (omega (arith, range.counted)), each_field item_field IsInRangeItem item_is_field p.items range.items),
     ),
+  ),
+)
+
+pub search_fields : (s : WrittenSearch) → IsInRangeWrittenSearch s → AreFields (written_search_line s)
+search_fields s range = (
+  record { has_byte = omega arith; bytes = search rules },
+  (number s.task (omega (arith, range.task)), (number s.vertex (omega (arith, range.vertex)), (number s.count (omega (arith, range.count)), tt))),
+)
+
+-- The fields of each value of a list.
+all_fields : {A : Type 0} (f : A → List (List ℕ)) (P : A → Type 0) → ((x : A) → P x → AreFields (f x)) → (xs : List A) → All P xs → AreFields (flat_map f xs)
+all_fields f P fields [] are = tt
+all_fields f P fields (x ∷ xs) are =
+    all_of_both IsField (f x) (flat_map f xs) (fields x (All-head P x xs are)) (all_fields f P fields xs (All-tail P x xs are))
+
+fields_of_jump : (j : Jump) → IsInRangeJump j → AreFields (jump_fields j)
+fields_of_jump j range = (number j.offset (omega (arith, range.0)), (number j.work range.1, tt))
+
+pub curve_fields : (jumps : List Jump) → IsInRangeCurve jumps → AreFields (curve_line jumps)
+curve_fields jumps range = (
+  record { has_byte = omega arith; bytes = search rules },
+  (number (length jumps) (omega (arith, range.1)), all_fields jump_fields IsInRangeJump fields_of_jump jumps range.0),
+)
+
+fields_of_entry : (e : StateEntry) → IsInRangeStateEntry e → AreFields (state_entry_fields e)
+fields_of_entry e range =
+    (number e.place (omega (arith, range.place)), (number e.vertex (omega (arith, range.vertex)), (number e.offset (omega (arith, range.offset)), tt)))
+
+fields_of_end : (e : StateEnd) → IsInRangeEnd e → AreFields (end_fields e)
+fields_of_end (Passes t) range = (byte_before 112 (decimal t) (omega arith) (number t (omega (arith, range))), tt)
+fields_of_end (Splits p children) range = (
+  byte_before 115 (decimal p) (omega arith) (number p (omega (arith, range.0))),
+  each_field decimal IsNumber (λ n le. number n (omega (arith, le))) children range.1,
+)
+
+pub state_fields : (s : StateClaim) → IsInRangeState s → AreFields (state_line s)
+state_fields s range = (
+  record { has_byte = omega arith; bytes = search rules },
+  (
+    number (length s.entries) (omega (arith, range.counted)),
+    all_of_both IsField (flat_map state_entry_fields s.entries) (decimal s.work ∷ end_fields s.end)
+        (all_fields state_entry_fields IsInRangeStateEntry fields_of_entry s.entries range.entries) (number s.work range.work, fields_of_end s.end range.end),
   ),
 )

@@ -9,13 +9,15 @@ use Rattle.drt_file.specs.trusted.Cutting.{HasNoFeed}
 use Rattle.drt_file.proofs.Again.{all_of_both}
 use Rattle.drt_file.proofs.Digits.{decimal_field}
 use Rattle.drt_file.proofs.Snoc.{every_map, every_weaker}
-use Rattle.drt_evidence.specs.LineForms.{AreCounted, IsAny, IsInRangeWritten, kind_line, numbers_line, policy_line, potentials_line, written_ratio_line}
-use Rattle.drt_evidence.specs.Ranges.{IsInRangeEntry, IsInRangeMiss, IsInRangePair, IsInRangePotential, IsInRangeProof, IsInRangeRelease, IsNumber}
-use Rattle.drt_evidence.specs.Some.{some_entry, some_pair, some_proof, some_release, some_walk}
-use Rattle.drt_evidence.specs.Text.{count_line, entry_line, miss_line, pair_line, proof_line, release_line, word_line}
+use Rattle.drt_evidence.specs.LineForms.{AreCounted, IsAny, IsInRangeWritten, IsInRangeWrittenSearch, kind_line}
+use Rattle.drt_evidence.specs.LineForms.{numbers_line, policy_line, potentials_line, written_ratio_line, written_search_line}
+use Rattle.drt_evidence.specs.Ranges.{IsInRangeCurve, IsInRangeEntry, IsInRangeMiss, IsInRangePair, IsInRangePotential, IsInRangeProof, IsInRangeRelease, IsInRangeState, IsNumber}
+use Rattle.drt_evidence.specs.Some.{some_curve, some_entry, some_pair, some_proof, some_release, some_state, some_walk}
+use Rattle.drt_evidence.specs.Text.{count_line, curve_line, entry_line, miss_line, pair_line, proof_line, release_line, state_line, word_line}
 use Rattle.drt_evidence.specs.declared.reading.line_forms.KindOfEvidence.TheVariants as kinds
 use Rattle.drt_evidence.proofs.Leaves.{IsLine, plain_word, word_kind}
-use Rattle.drt_evidence.proofs.LineFeeds.{entry_fields, kind_fields, miss_fields, no_feed, pair_fields, policy_fields, potentials_fields, proof_fields, ratio_fields, release_fields}
+use Rattle.drt_evidence.proofs.LineFeeds.{curve_fields, entry_fields, kind_fields, miss_fields, no_feed, pair_fields, policy_fields, potentials_fields, proof_fields}
+use Rattle.drt_evidence.proofs.LineFeeds.{ratio_fields, release_fields, search_fields, state_fields}
 
 high_plain : (word : List ℕ) → AllByRecursion (λ b. 33 ≤ b) word → HasNoFeed word
 high_plain [] are = tt
@@ -94,3 +96,16 @@ potentials_kind = record {
 
 pub proof_kind : IsLine proof_line IsInRangeProof
 proof_kind = record { value = some_proof.0; value_in = some_proof.1; no_feed = λ p is. no_feed (proof_line p) (proof_fields p is) }
+
+pub curve_kind : IsLine curve_line IsInRangeCurve
+curve_kind = record { value = some_curve.0; value_in = some_curve.1; no_feed = λ c is. no_feed (curve_line c) (curve_fields c is) }
+
+pub state_kind : IsLine state_line IsInRangeState
+state_kind = record { value = some_state.0; value_in = some_state.1; no_feed = λ s is. no_feed (state_line s) (state_fields s is) }
+
+pub search_kind : IsLine written_search_line IsInRangeWrittenSearch
+search_kind = record {
+  value = record { task = 0; vertex = 0; count = 0 };
+  value_in = record { task = lit≤ tt; vertex = lit≤ tt; count = lit≤ tt };
+  no_feed = λ s is. no_feed (written_search_line s) (search_fields s is);
+}

@@ -3,25 +3,34 @@ use Rattle.std.proofs.Common.{◌≡◌, ℕ, List, [], ◌∷◌, ◌++◌, len
 use Rattle.std.specs.Prelude.{ℤ, codes}
 use Rattle.std.specs.List.{flat_map}
 use Rattle.std.proofs.Math.Path.{fun_ext}
-use Rattle.std.proofs.lemmas.List.{append-nil}
-use Rattle.std.proofs.lemmas.List.Elements.{All-nil}
+use Rattle.std.proofs.Math.ListN.{replicate}
+use Rattle.std.proofs.lemmas.List.{append-nil, length-replicate}
+use Rattle.std.proofs.lemmas.List.Elements.{All-from_recursion, All-nil, All-replicate, recursion_from_All}
 use Rattle.drt_model.specs.declared.jobs.Policy.TheVariants as policies
 use Rattle.drt_model.specs.declared.jobs.Release.{Release}
 use Rattle.drt_model.specs.declared.jobs.Miss.{Miss}
 use Rattle.drt_file.specs.trusted.Canonical.{written, written_line}
-use Rattle.drt_evidence.specs.Blocks.{AreNamed, Named, ReadsBlock, IsStop, named_block, counted, first_block, close_block, IsOfKind}
-use Rattle.drt_evidence.specs.LineForms.{AreCounted, IsAny, IsInRangeWritten, kind_keyword, kind_line, kind_of, numbers_line, policy_line, potentials_line, written_ratio_line}
+use Rattle.drt_evidence.specs.Blocks.{AreNamed, AreSoMany, Named, in_turn, ReadsBlock, IsStop, named_block, counted, first_block, close_block, IsOfKind}
+use Rattle.drt_evidence.specs.LineForms.{AreCounted, IsAny, IsInRangeWritten, IsInRangeWrittenSearch, kind_keyword, kind_line, kind_of, numbers_line, policy_line}
+use Rattle.drt_evidence.specs.LineForms.{potentials_line, written_ratio_line, written_search_line}
 use Rattle.drt_evidence.specs.Ranges.{AreInRangeReleases, IsInRange, IsInRangeFront, IsInRangeMiss, IsInRangePair, IsInRangePotential, IsInRangeProof, IsInRangeRatio, IsInRangeRelease, IsInRangeTree, IsInRangeWalk, IsNumber}
+use Rattle.drt_evidence.specs.Ranges.{IsInRangeCurve, IsInRangeSearch, IsInRangeState, IsInRangeTail}
+use Rattle.drt_evidence.specs.Some.{some_state}
 use Rattle.drt_evidence.specs.Text.{body_lines, count_line, evidence_lines, kind_word, word_line, entry_line, front_block, front_lines, head_lines, miss_line, pair_line, proof_block, proof_line, ratio_block, ratio_lines, release_block, release_line, tree_block, tree_lines, walk_line}
+use Rattle.drt_evidence.specs.Text.{curve_line, search_block, search_lines, state_line, tail_block, tail_lines}
 use Rattle.drt_evidence.specs.declared.evidence.Evidence.{Evidence}
-use Rattle.drt_evidence.specs.declared.evidence.Evidence.TheVariants.{EdfYes, EdfNo, UtilisationOne, FixedYes, FixedNo, Undecided}
+use Rattle.drt_evidence.specs.declared.evidence.Evidence.TheVariants.{EdfYes, EdfNo, UtilisationOne, FixedYes, FixedStates, FixedNo, Undecided}
 use Rattle.drt_model.specs.declared.front.FrontEntry.{FrontEntry}
 use Rattle.drt_evidence.specs.declared.evidence.ProofClaim.{ProofClaim}
 use Rattle.drt_evidence.specs.declared.evidence.RatioClaim.{RatioClaim}
 use Rattle.drt_evidence.specs.declared.evidence.TreeClaim.{TreeClaim}
 use Rattle.drt_evidence.specs.declared.reading.line_forms.KindOfEvidence.{KindOfEvidence}
 use Rattle.drt_evidence.specs.declared.reading.line_forms.KindOfEvidence.TheVariants as kinds
+use Rattle.drt_evidence.specs.declared.reading.line_forms.WrittenSearch.{WrittenSearch}
 use Rattle.drt_evidence.specs.declared.reading.text.Stop.{Stop}
+use Rattle.drt_states.specs.declared.claims.SearchClaim.{SearchClaim}
+use Rattle.drt_states.specs.declared.claims.StateClaim.{StateClaim}
+use Rattle.drt_states.specs.declared.claims.TailClaim.{TailClaim}
 use Rattle.drt_evidence.proofs.Blocks.{At, start, next, done, stop}
 use Rattle.drt_evidence.proofs.Parts.{Two, One, written_map, written_flat, written_both}
 
@@ -47,18 +56,24 @@ trees_same = counted_blocks (codes "trees") tree_lines
 pub proofs_same : counted (codes "proofs") (λ p. written_line (proof_line p)) ≡ (λ ps. written (proof_block ps))
 proofs_same = counted_lines (codes "proofs") proof_line
 
+pub tails_same : counted (codes "tails") (λ t. written (tail_lines t)) ≡ (λ ts. written (tail_block ts))
+tails_same = counted_blocks (codes "tails") tail_lines
+
+pub searches_same : counted (codes "searches") (λ s. written (search_lines s)) ≡ (λ ss. written (search_block ss))
+searches_same = counted_blocks (codes "searches") search_lines
+
 -- A ratio is its numerator and denominator, and behind these its cycle and its potentials.
-abbrev pub Tail : Type 0
-Tail = List ℕ × List ℤ
+abbrev pub RatioRest : Type 0
+RatioRest = List ℕ × List ℤ
 
-abbrev pub tail_block : Tail → List ℕ
-tail_block t = written_line (numbers_line (codes "cycle") t.0) ++ written_line (potentials_line t.1)
+abbrev pub ratio_rest : RatioRest → List ℕ
+ratio_rest t = written_line (numbers_line (codes "cycle") t.0) ++ written_line (potentials_line t.1)
 
-abbrev pub IsTail : Tail → Type 0
-IsTail t = AreCounted IsNumber t.0 × AreCounted IsInRangePotential t.1
+abbrev pub IsRatioRest : RatioRest → Type 0
+IsRatioRest t = AreCounted IsNumber t.0 × AreCounted IsInRangePotential t.1
 
-abbrev pub tail_parts : Two tail_block IsTail (λ y. written_line (numbers_line (codes "cycle") y)) (AreCounted IsNumber) (λ y. written_line (potentials_line y)) (AreCounted IsInRangePotential)
-tail_parts = record {
+abbrev pub ratio_rest_parts : Two ratio_rest IsRatioRest (λ y. written_line (numbers_line (codes "cycle") y)) (AreCounted IsNumber) (λ y. written_line (potentials_line y)) (AreCounted IsInRangePotential)
+ratio_rest_parts = record {
   first = λ t. t.0;
   second = λ t. t.1;
   make = λ v w. (v, w);
@@ -73,7 +88,7 @@ tail_parts = record {
   other_is = (All-nil IsInRangePotential, lit≤ tt);
 }
 
-abbrev pub ratio_parts : Two (λ c. written (ratio_lines c)) IsInRangeRatio (λ y. written_line (written_ratio_line y)) IsInRangeWritten tail_block IsTail
+abbrev pub ratio_parts : Two (λ c. written (ratio_lines c)) IsInRangeRatio (λ y. written_line (written_ratio_line y)) IsInRangeWritten ratio_rest IsRatioRest
 ratio_parts = record {
   first = λ c. record { num = c.num; den = c.den };
   second = λ c. (c.cycle, c.potentials);
@@ -111,6 +126,92 @@ tree_parts = record {
   other = [];
   other_is = (All-nil IsInRangePair, lit≤ tt);
 }
+
+-- A tail is the lines of its vertices.
+abbrev pub tail_part : One (λ t. written (tail_lines t)) IsInRangeTail (counted (codes "tail") (λ c. written_line (curve_line c))) (AreCounted IsInRangeCurve)
+tail_part = record {
+  part = λ t. t.curves;
+  make = λ cs. record { curves = cs };
+  part_is = λ t is. is;
+  block_is = λ t is. ap (λ w. written_line (count_line (codes "tail") (length t.curves)) ++ w) (written_map curve_line t.curves);
+  made = λ t is. refl;
+  make_is = λ cs is. is;
+  make_part = λ cs is. refl;
+}
+
+-- The block of a state.
+abbrev pub one_state : StateClaim → List ℕ
+one_state s = written_line (state_line s)
+
+-- The block of what the first line of a search says.
+abbrev pub opening_block : WrittenSearch → List ℕ
+opening_block w = written_line (written_search_line w)
+
+-- What the first line of a search says, and the states below it.
+abbrev pub opening_of : SearchClaim → WrittenSearch
+opening_of s = record { task = s.task; vertex = s.vertex; count = length s.states }
+
+pub search_parts : (s : SearchClaim) → IsInRangeSearch s → IsInRangeWrittenSearch (opening_of s) × (written (search_lines s) ≡ opening_block (opening_of s) ++ in_turn one_state s.states)
+search_parts s is = (
+  record { task = is.task; vertex = is.vertex; count = is.counted },
+  ap (λ w. opening_block (opening_of s) ++ w) (written_map state_line s.states),
+)
+
+-- The first line of a search with another count.
+abbrev counted_as : WrittenSearch → ℕ → WrittenSearch
+counted_as w n = record { task = w.task; vertex = w.vertex; count = n }
+
+-- A search with so many states, the same one each time.
+some_states : (w : WrittenSearch) → IsInRangeWrittenSearch w → (s : SearchClaim) × IsInRangeSearch s × (opening_of s ≡ w)
+some_states w is =
+    let states = replicate w.count some_state.0 in
+    let size : length states ≡ w.count = length-replicate w.count some_state.0 in (
+      record { task = w.task; vertex = w.vertex; states = states },
+      record {
+        task = is.task;
+        vertex = is.vertex;
+        states = All-replicate IsInRangeState w.count some_state.0 some_state.1;
+        counted = subst IsNumber (sym size) is.count;
+      },
+      ap (counted_as w) size,
+    )
+
+pub search_unopened : {bytes : List ℕ} {e : Stop} → IsStop opening_block IsInRangeWrittenSearch bytes e → IsStop (λ s. written (search_lines s)) IsInRangeSearch bytes e
+search_unopened {bytes} i =
+    stop opening_of (λ s. in_turn one_state s.states) search_parts some_states (start (λ s. written (search_lines s)) IsInRangeSearch bytes) i
+
+search_at : {bytes mid : List ℕ} {w : WrittenSearch} → ReadsBlock opening_block IsInRangeWrittenSearch bytes w mid
+    → At (λ s. written (search_lines s)) IsInRangeSearch (λ s. IsInRangeSearch s × (opening_of s ≡ w)) (λ s. in_turn one_state s.states) bytes mid
+search_at {bytes} r = next opening_of (λ s. in_turn one_state s.states) search_parts (start (λ s. written (search_lines s)) IsInRangeSearch bytes) r
+
+-- The states of a search with that first line.
+states_of : (w : WrittenSearch) (s : SearchClaim) → IsInRangeSearch s × (opening_of s ≡ w) → AreSoMany w.count IsInRangeState s.states × (in_turn one_state s.states ≡ in_turn one_state s.states ++ [])
+states_of w s is = (
+  (recursion_from_All IsInRangeState s.states is.0.states, ap (λ (o : WrittenSearch). o.count) is.1),
+  sym (append-nil (in_turn one_state s.states)),
+)
+
+abbrev pub search_with : WrittenSearch → List StateClaim → SearchClaim
+search_with w xs = record { task = w.task; vertex = w.vertex; states = xs }
+
+search_made : (w : WrittenSearch) → IsInRangeWrittenSearch w → (xs : List StateClaim) → AreSoMany w.count IsInRangeState xs
+    → IsInRangeSearch (search_with w xs) × (opening_of (search_with w xs) ≡ w)
+search_made w is xs are = (
+  record { task = is.task; vertex = is.vertex; states = All-from_recursion IsInRangeState xs are.0; counted = subst IsNumber (sym are.1) is.count },
+  ap (counted_as w) are.1,
+)
+
+pub search_stopped : {bytes mid : List ℕ} {w : WrittenSearch} {e : Stop} → ReadsBlock opening_block IsInRangeWrittenSearch bytes w mid
+    → IsStop (in_turn one_state) (AreSoMany w.count IsInRangeState) mid e → IsStop (λ s. written (search_lines s)) IsInRangeSearch bytes e
+search_stopped {w = w} r i =
+    stop (λ (s : SearchClaim). s.states) (λ s. []) (states_of w) (λ xs are. (search_with w xs, search_made w r.is xs are, refl)) (search_at r) i
+
+pub search_read : {bytes mid rest : List ℕ} {w : WrittenSearch} {xs : List StateClaim} → ReadsBlock opening_block IsInRangeWrittenSearch bytes w mid
+    → ReadsBlock (in_turn one_state) (AreSoMany w.count IsInRangeState) mid xs rest → ReadsBlock (λ s. written (search_lines s)) IsInRangeSearch bytes (search_with w xs) rest
+search_read {w = w} {xs = xs} r q =
+    done (next (λ (s : SearchClaim). s.states) (λ s. []) (states_of w) (search_at r) q)
+    (search_with w xs) (search_made w r.is xs q.is, refl) refl
+    (λ y is. ap (λ (o : WrittenSearch). search_with o y.states) is.0.1 ∙ ap (λ ss. search_with w ss) is.1)
 
 -- Releases and the miss of one of their jobs.
 abbrev pub release_parts : Two named_block AreNamed (counted (codes "releases") (λ r. written_line (release_line r))) (AreCounted IsInRangeRelease)
@@ -158,6 +259,7 @@ only_edf_yes P p (EdfYes r f) is = p r f
 only_edf_yes P p (EdfNo r m) is = absurd (cc)
 only_edf_yes P p (UtilisationOne r) is = absurd (cc)
 only_edf_yes P p (FixedYes t q) is = absurd (cc)
+only_edf_yes P p (FixedStates t q) is = absurd (cc)
 only_edf_yes P p (FixedNo r m) is = absurd (cc)
 only_edf_yes P p Undecided is = absurd (cc)
 
@@ -166,6 +268,7 @@ only_edf_no P p (EdfYes r f) is = absurd (cc)
 only_edf_no P p (EdfNo r m) is = p r m
 only_edf_no P p (UtilisationOne r) is = absurd (cc)
 only_edf_no P p (FixedYes t q) is = absurd (cc)
+only_edf_no P p (FixedStates t q) is = absurd (cc)
 only_edf_no P p (FixedNo r m) is = absurd (cc)
 only_edf_no P p Undecided is = absurd (cc)
 
@@ -174,6 +277,7 @@ only_one P p (EdfYes r f) is = absurd (cc)
 only_one P p (EdfNo r m) is = absurd (cc)
 only_one P p (UtilisationOne r) is = p r
 only_one P p (FixedYes t q) is = absurd (cc)
+only_one P p (FixedStates t q) is = absurd (cc)
 only_one P p (FixedNo r m) is = absurd (cc)
 only_one P p Undecided is = absurd (cc)
 
@@ -182,14 +286,25 @@ only_fixed_yes P p (EdfYes r f) is = absurd (cc)
 only_fixed_yes P p (EdfNo r m) is = absurd (cc)
 only_fixed_yes P p (UtilisationOne r) is = absurd (cc)
 only_fixed_yes P p (FixedYes t q) is = p t q
+only_fixed_yes P p (FixedStates t q) is = absurd (cc)
 only_fixed_yes P p (FixedNo r m) is = absurd (cc)
 only_fixed_yes P p Undecided is = absurd (cc)
+
+pub only_fixed_states : (P : Evidence → Type 0) → ((t : List TailClaim) (q : List SearchClaim) → P (FixedStates t q)) → (e : Evidence) → kind_of e ≡ kinds.FixedStates → P e
+only_fixed_states P p (EdfYes r f) is = absurd (cc)
+only_fixed_states P p (EdfNo r m) is = absurd (cc)
+only_fixed_states P p (UtilisationOne r) is = absurd (cc)
+only_fixed_states P p (FixedYes t q) is = absurd (cc)
+only_fixed_states P p (FixedStates t q) is = p t q
+only_fixed_states P p (FixedNo r m) is = absurd (cc)
+only_fixed_states P p Undecided is = absurd (cc)
 
 pub only_fixed_no : (P : Evidence → Type 0) → ((r : List Release) (m : Miss) → P (FixedNo r m)) → (e : Evidence) → kind_of e ≡ kinds.FixedNo → P e
 only_fixed_no P p (EdfYes r f) is = absurd (cc)
 only_fixed_no P p (EdfNo r m) is = absurd (cc)
 only_fixed_no P p (UtilisationOne r) is = absurd (cc)
 only_fixed_no P p (FixedYes t q) is = absurd (cc)
+only_fixed_no P p (FixedStates t q) is = absurd (cc)
 only_fixed_no P p (FixedNo r m) is = p r m
 only_fixed_no P p Undecided is = absurd (cc)
 
@@ -198,6 +313,7 @@ only_undecided P p (EdfYes r f) is = absurd (cc)
 only_undecided P p (EdfNo r m) is = absurd (cc)
 only_undecided P p (UtilisationOne r) is = absurd (cc)
 only_undecided P p (FixedYes t q) is = absurd (cc)
+only_undecided P p (FixedStates t q) is = absurd (cc)
 only_undecided P p (FixedNo r m) is = absurd (cc)
 only_undecided P p Undecided is = p
 
@@ -206,6 +322,7 @@ ratios_of (EdfYes r f) = r
 ratios_of (EdfNo r m) = []
 ratios_of (UtilisationOne r) = r
 ratios_of (FixedYes t q) = []
+ratios_of (FixedStates t q) = []
 ratios_of (FixedNo r m) = []
 ratios_of Undecided = []
 
@@ -214,6 +331,7 @@ fronts_of (EdfYes r f) = f
 fronts_of (EdfNo r m) = []
 fronts_of (UtilisationOne r) = []
 fronts_of (FixedYes t q) = []
+fronts_of (FixedStates t q) = []
 fronts_of (FixedNo r m) = []
 fronts_of Undecided = []
 
@@ -222,6 +340,7 @@ trees_of (EdfYes r f) = []
 trees_of (EdfNo r m) = []
 trees_of (UtilisationOne r) = []
 trees_of (FixedYes t q) = t
+trees_of (FixedStates t q) = []
 trees_of (FixedNo r m) = []
 trees_of Undecided = []
 
@@ -230,8 +349,27 @@ proofs_of (EdfYes r f) = []
 proofs_of (EdfNo r m) = []
 proofs_of (UtilisationOne r) = []
 proofs_of (FixedYes t q) = q
+proofs_of (FixedStates t q) = []
 proofs_of (FixedNo r m) = []
 proofs_of Undecided = []
+
+abbrev pub tails_of : Evidence → List TailClaim
+tails_of (EdfYes r f) = []
+tails_of (EdfNo r m) = []
+tails_of (UtilisationOne r) = []
+tails_of (FixedYes t q) = []
+tails_of (FixedStates t q) = t
+tails_of (FixedNo r m) = []
+tails_of Undecided = []
+
+abbrev pub searches_of : Evidence → List SearchClaim
+searches_of (EdfYes r f) = []
+searches_of (EdfNo r m) = []
+searches_of (UtilisationOne r) = []
+searches_of (FixedYes t q) = []
+searches_of (FixedStates t q) = q
+searches_of (FixedNo r m) = []
+searches_of Undecided = []
 
 abbrev no_job : Named
 no_job = ([], record { task = 0; index = 0; deadline = 0 })
@@ -241,6 +379,7 @@ named_of (EdfYes r f) = no_job
 named_of (EdfNo r m) = (r, m)
 named_of (UtilisationOne r) = no_job
 named_of (FixedYes t q) = no_job
+named_of (FixedStates t q) = no_job
 named_of (FixedNo r m) = (r, m)
 named_of Undecided = no_job
 
@@ -274,6 +413,25 @@ fixed_yes_parts = record {
   make_second = λ t q i j. refl;
   other = [];
   other_is = (All-nil IsInRangeProof, lit≤ tt);
+}
+
+abbrev pub fixed_states_parts : Two (λ e. written (body_lines e)) (IsOfKind kinds.FixedStates) (λ ts. written (tail_block ts)) (AreCounted IsInRangeTail)
+    (λ ss. written (search_block ss)) (AreCounted IsInRangeSearch)
+fixed_states_parts = record {
+  first = tails_of;
+  second = searches_of;
+  make = λ t q. FixedStates t q;
+  first_is = λ e is. only_fixed_states (λ x. IsInRange x → AreCounted IsInRangeTail (tails_of x)) (λ t q i. i.0) e is.1 is.0;
+  second_is = λ e is. only_fixed_states (λ x. IsInRange x → AreCounted IsInRangeSearch (searches_of x)) (λ t q i. i.1) e is.1 is.0;
+  block_is = λ e is.
+      only_fixed_states (λ x. written (body_lines x) ≡ written (tail_block (tails_of x)) ++ written (search_block (searches_of x)))
+      (λ t q. written_both (tail_block t) (search_block q)) e is.1;
+  made = λ e is. only_fixed_states (λ x. x ≡ FixedStates (tails_of x) (searches_of x)) (λ t q. refl) e is.1;
+  make_is = λ t q i j. ((i, j), refl);
+  make_first = λ t q i j. refl;
+  make_second = λ t q i j. refl;
+  other = [];
+  other_is = (All-nil IsInRangeSearch, lit≤ tt);
 }
 
 abbrev pub edf_no_part : One (λ e. written (body_lines e)) (IsOfKind kinds.EdfNo) named_block AreNamed
@@ -320,6 +478,7 @@ keyword_is (EdfYes r f) = refl
 keyword_is (EdfNo r m) = refl
 keyword_is (UtilisationOne r) = refl
 keyword_is (FixedYes t q) = refl
+keyword_is (FixedStates t q) = refl
 keyword_is (FixedNo r m) = refl
 keyword_is Undecided = refl
 
@@ -338,6 +497,7 @@ some_of kinds.EdfYes is = (EdfYes [] [], ((All-nil IsInRangeRatio, lit≤ tt), (
 some_of kinds.EdfNo is = (EdfNo [] (record { task = 0; index = 0; deadline = 0 }), record { each = All-nil IsInRangeRelease; counted = lit≤ tt; named = record { task = lit≤ tt; index = lit≤ tt; deadline = lit≤ tt } }, refl)
 some_of kinds.UtilisationOne is = (UtilisationOne [], (All-nil IsInRangeRatio, lit≤ tt), refl)
 some_of kinds.FixedYes is = (FixedYes [] [], ((All-nil IsInRangeTree, lit≤ tt), (All-nil IsInRangeProof, lit≤ tt)), refl)
+some_of kinds.FixedStates is = (FixedStates [] [], ((All-nil IsInRangeTail, lit≤ tt), (All-nil IsInRangeSearch, lit≤ tt)), refl)
 some_of kinds.FixedNo is = (FixedNo [] (record { task = 0; index = 0; deadline = 0 }), record { each = All-nil IsInRangeRelease; counted = lit≤ tt; named = record { task = lit≤ tt; index = lit≤ tt; deadline = lit≤ tt } }, refl)
 some_of kinds.Undecided is = (Undecided, tt, refl)
 

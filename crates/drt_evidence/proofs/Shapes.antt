@@ -1,8 +1,9 @@
 -- The shape of each line: its keyword, and the form of what stands behind it.
-use Rattle.std.proofs.Common.{◌≡◌, ◌≢◌, ℕ, ◌≤◌, List, ◌∷◌, ◌++◌, length, map, refl, ap, ◌∙◌, arith}
+use Rattle.std.proofs.Common.{◌≡◌, ◌≢◌, ℕ, ◌≤◌, List, ◌∷◌, ◌++◌, length, map, refl, sym, ap, ◌∙◌, append_assoc, arith}
 use Rattle.std.specs.Prelude.{codes, decimal}
-use Rattle.std.specs.List.{join_with_byte}
+use Rattle.std.specs.List.{flat_map, join_with_byte}
 use Rattle.std.specs.Fmt.{signed_decimal}
+use Rattle.std.proofs.lemmas.Grind.{flat_map-append}
 use Rattle.std.proofs.lemmas.List.{length-map}
 use Rattle.drt_model.specs.declared.jobs.Release.{Release}
 use Rattle.drt_model.specs.declared.jobs.Miss.{Miss}
@@ -11,10 +12,16 @@ use Rattle.drt_evidence.specs.declared.evidence.Item.{Item}
 use Rattle.drt_evidence.specs.declared.evidence.Pair.{Pair}
 use Rattle.drt_evidence.specs.declared.evidence.ProofClaim.{ProofClaim}
 use Rattle.drt_evidence.specs.declared.reading.line_forms.WrittenRatio.{WrittenRatio}
+use Rattle.drt_evidence.specs.declared.reading.line_forms.WrittenSearch.{WrittenSearch}
+use Rattle.drt_states.specs.declared.claims.StateClaim.{StateClaim}
+use Rattle.drt_evidence.specs.Cuts.{AreStateParts, StateParts, entry_form, jump_form}
 use Rattle.drt_evidence.specs.Fields.{behind}
 use Rattle.drt_evidence.specs.Ranges.{IsNumber, IsTick, IsWork, IsInRangeEntry, IsInRangeItem, IsInRangeMiss, IsInRangePair, IsInRangePotential, IsInRangeProof, IsInRangeRelease}
-use Rattle.drt_evidence.specs.Text.{count_line, entry_line, item_field, miss_line, pair_line, proof_line, release_line}
-use Rattle.drt_evidence.specs.LineForms.{AreBoth, AreCounted, IsForm, IsNoForm, IsInRangeWritten, list_form, numbers_line, pair_form, potentials_line, written_ratio_line}
+use Rattle.drt_evidence.specs.Ranges.{IsInRangeCurve, IsInRangeState}
+use Rattle.drt_evidence.specs.Text.{count_line, curve_line, end_fields, entry_line, item_field, jump_fields, miss_line, pair_line, proof_line, release_line, state_entry_fields, state_line}
+use Rattle.drt_evidence.specs.LineForms.{AreBoth, AreCounted, IsForm, IsNoForm, IsInRangeWritten, IsInRangeWrittenSearch, list_form, numbers_line, pair_form}
+use Rattle.drt_evidence.specs.LineForms.{potentials_line, written_ratio_line, written_search_line}
+use Rattle.drt_evidence.proofs.Claims.{behind_flat, work_and_end}
 use Rattle.drt_evidence.proofs.Joins.{join_behind}
 use Rattle.drt_evidence.proofs.Forms.{IsShape}
 
@@ -138,3 +145,62 @@ proof_shape = record {
 
     one : (x y : ProofClaim) → ◌≡◌ {A = ℕ × (ℕ × List Item)} (y.task, (y.vertex, y.items)) (x.task, (x.vertex, x.items)) → y ≡ x
     one x y e = ap build e
+
+-- The first line of a search.
+pub search_shape : IsShape (codes "search") (pair_form decimal (pair_form decimal decimal)) (AreBoth IsNumber (AreBoth IsNumber IsNumber))
+    written_search_line IsInRangeWrittenSearch (λ (s : WrittenSearch). (s.task, (s.vertex, s.count)))
+search_shape = record {
+  fields_are = λ y. refl;
+  ranges = λ y r. (r.task, (r.vertex, r.count));
+  back = λ y r. record { task = r.0; vertex = r.1.0; count = r.1.1 };
+  one = one;
+}
+  where
+    build : ℕ × (ℕ × ℕ) → WrittenSearch
+    build t = record { task = t.0; vertex = t.1.0; count = t.1.1 }
+
+    one : (x y : WrittenSearch) → ◌≡◌ {A = ℕ × (ℕ × ℕ)} (y.task, (y.vertex, y.count)) (x.task, (x.vertex, x.count)) → y ≡ x
+    one x y e = ap build e
+
+-- Counted values without the space before them.
+abbrev pub bare_list : {A : Type 0} → (A → List ℕ) → List A → List ℕ
+bare_list f xs = decimal (length xs) ++ flat_map f xs
+
+-- The line of a vertex of a tail.
+pub curve_shape : IsShape (codes "jumps") (bare_list jump_form) IsInRangeCurve curve_line IsInRangeCurve (λ jumps. jumps)
+curve_shape = record {
+  fields_are = λ y.
+      ap (λ t. codes "jumps" ++ 32 ∷ t)
+      (join_behind (decimal (length y)) (flat_map jump_fields y) ∙ ap (λ t. decimal (length y) ++ t) (behind_flat jump_fields y));
+  ranges = λ y r. r;
+  back = λ y r. r;
+  one = λ x y e. e;
+}
+
+-- The parts of a state without the space before them.
+abbrev pub bare_state : StateParts → List ℕ
+bare_state p = bare_list entry_form p.0 ++ work_and_end p.1
+
+pub state_shape : IsShape (codes "state") bare_state AreStateParts state_line IsInRangeState (λ (s : StateClaim). (s.entries, (s.work, s.end)))
+state_shape = record {
+  fields_are = fields_are;
+  ranges = λ y r. ((r.entries, r.counted), (r.work, r.end));
+  back = λ y r. record { entries = r.0.0; counted = r.0.1; work = r.1.0; end = r.1.1 };
+  one = one;
+}
+  where
+    build : StateParts → StateClaim
+    build t = record { entries = t.0; work = t.1.0; end = t.1.1 }
+
+    one : (x y : StateClaim) → ◌≡◌ {A = StateParts} (y.entries, (y.work, y.end)) (x.entries, (x.work, x.end)) → y ≡ x
+    one x y e = ap build e
+
+    fields_are : (y : StateClaim) → join_with_byte 32 (state_line y) ≡ codes "state" ++ 32 ∷ bare_state (y.entries, (y.work, y.end))
+    fields_are y =
+        let count = decimal (length y.entries) in
+        let standing = flat_map state_entry_fields y.entries in
+        let asked = decimal y.work ∷ end_fields y.end in
+        ap (λ t. codes "state" ++ 32 ∷ t)
+        (join_behind count (standing ++ asked)
+        ∙ ap (λ t. count ++ t) (flat_map-append (λ field. 32 ∷ field) standing asked ∙ ap (λ t. t ++ behind asked) (behind_flat state_entry_fields y.entries))
+        ∙ sym (append_assoc count (flat_map entry_form y.entries) (behind asked)))

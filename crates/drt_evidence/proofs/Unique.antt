@@ -5,8 +5,8 @@ use Rattle.std.specs.Fmt.{signed_decimal}
 use Rattle.std.specs.List.{AllByRecursion, join_with_byte}
 use Rattle.std.proofs.lemmas.Fmt.{signed_decimal_injective}
 use Rattle.std.specs.Int.Signed.{mag}
-use Rattle.std.proofs.lemmas.List.{append_cancel_left}
-use Rattle.std.proofs.lemmas.List.Elements.{All-head, All-tail, recursion_from_All}
+use Rattle.std.proofs.lemmas.List.{append-nil, append_cancel_left}
+use Rattle.std.proofs.lemmas.List.Elements.{All-head, All-nil, All-tail, recursion_from_All}
 use Rattle.drt_model.specs.declared.jobs.Policy.{Policy}
 use Rattle.drt_model.specs.declared.jobs.Policy.TheVariants as policies
 use Rattle.drt_file.specs.trusted.Canonical.{canonical, written, written_line}
@@ -15,25 +15,41 @@ use Rattle.drt_file.proofs.Digits.{value_decimal}
 use Rattle.drt_file.proofs.Feeds.{line_same}
 use Rattle.drt_file.proofs.Fronts.{one_front}
 use Rattle.drt_evidence.specs.Blocks.{AreNamed, IsOfKind, IsSet, close_block, counted, in_turn, named_block}
+use Rattle.drt_evidence.specs.Cuts.{AreStateParts, IsSpaced, counted_form, end_form, entry_form, join_form, jump_form, spaced_form, state_form}
 use Rattle.drt_evidence.specs.Fields.{behind}
-use Rattle.drt_evidence.specs.LineForms.{AreBoth, AreCounted, IsAny, IsFieldForm, kind_line, IsInRangeWritten, kind_of, list_form, numbers_line, pair_form, policy_line, potentials_line, written_ratio_line}
+use Rattle.drt_evidence.specs.LineForms.{AreBoth, AreCounted, IsAny, IsFieldForm, kind_line, IsInRangeWritten, IsInRangeWrittenSearch, itself, kind_of, list_form}
+use Rattle.drt_evidence.specs.LineForms.{numbers_line, pair_form, policy_line, potentials_line, written_ratio_line}
 use Rattle.drt_evidence.specs.Ranges.{IsInRange, IsInRangeEntry, IsInRangeFront, IsInRangeItem, IsInRangeMiss, IsInRangePair, IsInRangePotential, IsInRangeProof, IsInRangeRatio, IsInRangeRelease, IsInRangeTree, IsInRangeWalk, IsNumber, IsTick}
+use Rattle.drt_evidence.specs.Ranges.{IsInRangeCurve, IsInRangeEnd, IsInRangeJump, IsInRangeSearch, IsInRangeState, IsInRangeStateEntry, IsInRangeTail, IsWork}
 use Rattle.drt_evidence.specs.Reading.{IsStated, IsTextOf}
+use Rattle.drt_evidence.specs.Some.{entry_spaced, jump_spaced}
 use Rattle.drt_evidence.specs.Statement.{Statement}
 use Rattle.drt_evidence.specs.Text.{body_lines, count_line, entry_line, evidence_lines, front_block, front_lines, head_lines, item_field, miss_line, pair_line, proof_block, proof_line, ratio_block, ratio_lines, release_line, text, tree_block, tree_lines, walk_line}
+use Rattle.drt_evidence.specs.Text.{curve_line, search_block, search_lines, tail_block, tail_lines}
 use Rattle.drt_evidence.specs.declared.evidence.Evidence.{Evidence}
 use Rattle.drt_evidence.specs.declared.evidence.Evidence.TheVariants.{Undecided}
+use Rattle.drt_evidence.specs.declared.evidence.Item.{Item}
 use Rattle.drt_evidence.specs.declared.evidence.Item.TheVariants.{Pass, Split}
 use Rattle.drt_evidence.specs.declared.reading.line_forms.KindOfEvidence.{KindOfEvidence}
 use Rattle.drt_evidence.specs.declared.reading.line_forms.KindOfEvidence.TheVariants as kinds
+use Rattle.drt_evidence.specs.declared.reading.line_forms.WrittenSearch.{WrittenSearch}
+use Rattle.drt_states.specs.declared.claims.SearchClaim.{SearchClaim}
+use Rattle.drt_states.specs.declared.claims.StateEnd.{StateEnd}
+use Rattle.drt_states.specs.declared.claims.StateEnd.TheVariants.{Passes, Splits}
+use Rattle.drt_evidence.proofs.Claims.{end_opened, end_split, entry_made, item_in_range, item_of, jump_made, number_form, numbers_form, numbers_of, one_number, two_numbers, work_and_end}
+use Rattle.drt_evidence.proofs.Cuts.{IsMade, IsOpened, turn_opened}
 use Rattle.drt_evidence.proofs.Forms.{IsShape, bounded_no_space, number_no_space}
 use Rattle.drt_evidence.proofs.Leaves.{IsLine, is_plain, plain_word}
 use Rattle.drt_evidence.proofs.Numerals.{item_no_space, potential_no_space, range_above, range_below}
 use Rattle.drt_evidence.proofs.Parts.{One, Two}
-use Rattle.drt_evidence.proofs.Plain.{count_kind, entry_kind, kind_kind, miss_kind, numbers_kind, pair_kind, policy_kind, potentials_kind, proof_kind, ratio_kind, release_kind}
-use Rattle.drt_evidence.proofs.Records.{edf_no_part, edf_yes_parts, fixed_no_part, fixed_yes_parts, front_same, fronts_same, head_parts, kind_parts, one_part, only_undecided, proofs_same, ratio_parts, ratios_same, release_parts, tail_parts, tree_parts, trees_same}
+use Rattle.drt_evidence.proofs.Plain.{count_kind, curve_kind, entry_kind, kind_kind, miss_kind, numbers_kind, pair_kind, policy_kind, potentials_kind, proof_kind}
+use Rattle.drt_evidence.proofs.Plain.{ratio_kind, release_kind, search_kind, state_kind}
+use Rattle.drt_evidence.proofs.Records.{edf_no_part, edf_yes_parts, fixed_no_part, fixed_states_parts, fixed_yes_parts, front_same, fronts_same, head_parts, kind_parts}
+use Rattle.drt_evidence.proofs.Records.{one_part, only_undecided, proofs_same, ratio_parts, ratios_same, release_parts, ratio_rest_parts, tree_parts, trees_same}
+use Rattle.drt_evidence.proofs.Records.{one_state, opening_block, opening_of, search_parts, search_with, searches_same, tail_part, tails_same}
 use Rattle.drt_evidence.proofs.Dossiers.{below_parts, dossier_parts}
-use Rattle.drt_evidence.proofs.Shapes.{count_shape, entry_shape, miss_shape, AreParts, numbers_shape, pair_shape, potentials_shape, proof_shape, ratio_shape, release_shape}
+use Rattle.drt_evidence.proofs.Shapes.{bare_list, bare_state, count_shape, curve_shape, entry_shape, miss_shape, AreParts, numbers_shape, pair_shape, potentials_shape}
+use Rattle.drt_evidence.proofs.Shapes.{proof_shape, ratio_shape, release_shape, search_shape, state_shape}
 use Rattle.drt_evidence.proofs.Spaces.{cut_same, fields_behind}
 
 -- Two values with one form are one.
@@ -91,6 +107,60 @@ item_tells (Pass x) (Pass y) ix iy e = let tail : decimal x ≡ decimal y = cc i
 item_tells (Split x) (Split y) ix iy e = let tail : decimal x ≡ decimal y = cc in ap Split (number_tells x y ix iy tail)
 item_tells (Pass x) (Split y) ix iy e = let wrong : ◌≡◌ {A = ℕ} 112 115 = cc in absurd (omega (arith, wrong))
 item_tells (Split x) (Pass y) ix iy e = let wrong : ◌≡◌ {A = ℕ} 115 112 = cc in absurd (omega (arith, wrong))
+
+-- Forms at the front of what is left of a line.
+abbrev pub TellsCut : {A : Type 0} → (A → List ℕ) → (A → Type 0) → Type 0
+TellsCut {A} f P = Tells (join_form f itself) (AreBoth P IsSpaced)
+
+one_tells : {A : Type 0} (f : A → List ℕ) (P : A → Type 0) → IsFieldForm f P → Tells f P → TellsCut (spaced_form f) P
+one_tells f P none one (x, s) (y, t) ix iy e =
+    let tail : f x ++ s ≡ f y ++ t = cc in
+    let r = cut_same (f x) (f y) s t (none x ix.0) (none y iy.0) ix.1 iy.1 tail in
+    ap (λ a. (a, t)) (one x y ix.0 iy.0 r.0) ∙ ap (λ b. (x, b)) (sym r.1)
+
+join_tells : {A B : Type 0} (f : A → List ℕ) (P : A → Type 0) (g : B → List ℕ) (Q : B → Type 0) → ((y : B) → Q y → IsSpaced (g y)) → TellsCut f P → Tells g Q
+    → Tells (join_form f g) (AreBoth P Q)
+join_tells {A} f P g Q opened first second (x, u) (y, v) ix iy e =
+    let same = first (x, g u) (y, g v) (ix.0, opened u ix.1) (iy.0, opened v iy.1) e in
+    ap (λ (p : A × List ℕ). (p.0, v)) same ∙ ap (λ w. (x, w)) (second u v ix.1 iy.1 (sym (ap (λ (p : A × List ℕ). p.1) same)))
+
+made_tells : {A T : Type 0} {form : T → List ℕ} {In : T → Type 0} {f : A → List ℕ} {P : A → Type 0} {parts : A → T} → IsMade form In f P parts → Tells form In → Tells f P
+made_tells {A} {T} {form} {In} {f} {P} {parts} made one x y ix iy e =
+    made.one x y (one (parts x) (parts y) (made.ranges x ix) (made.ranges y iy) (sym (made.form_is x) ∙ e ∙ made.form_is y))
+
+ended_tells : {A : Type 0} (f : A → List ℕ) (P : A → Type 0) → TellsCut f P → Tells f P
+ended_tells {A} f P one x y ix iy e =
+    ap (λ (p : A × List ℕ). p.0) (one (x, []) (y, []) (ix, tt) (iy, tt) (append-nil (f x) ∙ e ∙ sym (append-nil (f y))))
+
+bare_tells : {A : Type 0} (f : A → List ℕ) (P : A → Type 0) → Tells (spaced_form f) P → Tells f P
+bare_tells f P one x y ix iy e = one x y ix iy (ap (λ t. 32 ∷ t) e)
+
+turn_tells : {A : Type 0} (f : A → List ℕ) (P : A → Type 0) → IsOpened f → TellsCut f P → (xs ys : List A) (s t : List ℕ) → length xs ≡ length ys → AllByRecursion P xs → AllByRecursion P ys
+    → IsSpaced s → IsSpaced t → in_turn f xs ++ s ≡ in_turn f ys ++ t → (ys ≡ xs) × (t ≡ s)
+turn_tells f P opened one [] [] s t size ix iy bs bt e = (refl, sym e)
+turn_tells f P opened one [] (y ∷ ys) s t size ix iy bs bt e = absurd (omega (arith, size))
+turn_tells f P opened one (x ∷ xs) [] s t size ix iy bs bt e = absurd (omega (arith, size))
+turn_tells {A} f P opened one (x ∷ xs) (y ∷ ys) s t size ix iy bs bt e =
+    let cut : f x ++ (in_turn f xs ++ s) ≡ f y ++ (in_turn f ys ++ t) = sym (append_assoc (f x) (in_turn f xs) s) ∙ e ∙ append_assoc (f y) (in_turn f ys) t in
+    let same = one (x, in_turn f xs ++ s) (y, in_turn f ys ++ t) (ix.0, turn_opened f opened xs s bs) (iy.0, turn_opened f opened ys t bt) cut in
+    let first : y ≡ x = ap (λ (p : A × List ℕ). p.0) same in
+    let tail : in_turn f xs ++ s ≡ in_turn f ys ++ t = sym (ap (λ (p : A × List ℕ). p.1) same) in
+    let r = turn_tells f P opened one xs ys s t (omega (arith, size)) ix.1 iy.1 bs bt tail in
+    (ap (λ z. z ∷ ys) first ∙ ap (λ zs. x ∷ zs) r.0, r.1)
+
+-- Two pairs are one where both their parts are.
+both_same : {A B : Type 0} {x y : A} {s t : B} → (y ≡ x) × (t ≡ s) → ◌≡◌ {A = A × B} (y, t) (x, s)
+both_same {x = x} {t = t} (first, second) = ap (λ a. (a, t)) first ∙ ap (λ b. (x, b)) second
+
+counted_tells : {A : Type 0} (f : A → List ℕ) (P : A → Type 0) → IsOpened f → TellsCut f P → TellsCut (counted_form f) (AreCounted P)
+counted_tells {A} f P opened one (xs, s) (ys, t) ix iy e =
+    let count = λ (zs : List A). 32 ∷ decimal (length zs) in
+    let cut : count xs ++ (in_turn f xs ++ s) ≡ count ys ++ (in_turn f ys ++ t) = sym (append_assoc (count xs) (in_turn f xs) s) ∙ e ∙ append_assoc (count ys) (in_turn f ys) t in
+    let same = one_tells decimal IsNumber number_no_space number_tells (length xs, in_turn f xs ++ s) (length ys, in_turn f ys ++ t)
+    (ix.0.1, turn_opened f opened xs s ix.1) (iy.0.1, turn_opened f opened ys t iy.1) cut in
+    let size : length xs ≡ length ys = sym (ap (λ (p : ℕ × List ℕ). p.0) same) in
+    let tail : in_turn f xs ++ s ≡ in_turn f ys ++ t = sym (ap (λ (p : ℕ × List ℕ). p.1) same) in
+    both_same (turn_tells f P opened one xs ys s t size (recursion_from_All P xs ix.0.0) (recursion_from_All P ys iy.0.0) ix.1 iy.1 tail)
 
 -- A line.
 line_alone : {A : Type 0} (fields : A → List (List ℕ)) (In : A → Type 0) → IsLine fields In → Tells (λ x. join_with_byte 32 (fields x)) In → Alone (λ x. written_line (fields x)) In
@@ -192,6 +262,63 @@ proof_alone =
     (pair_tells decimal IsNumber (pair_form decimal (list_form item_field)) (AreBoth IsNumber (AreCounted IsInRangeItem)) number_no_space number_tells
     (pair_tells decimal IsNumber (list_form item_field) (AreCounted IsInRangeItem) number_no_space number_tells (list_tells item_field IsInRangeItem item_no_space item_tells)))
 
+-- The lines of tails and searches.
+cut_number_tells : TellsCut (spaced_form decimal) IsNumber
+cut_number_tells = one_tells decimal IsNumber number_no_space number_tells
+
+cut_tick_tells : TellsCut (spaced_form decimal) IsTick
+cut_tick_tells = one_tells decimal IsTick tick_no_space tick_tells
+
+cut_work_tells : TellsCut (spaced_form decimal) IsWork
+cut_work_tells = one_tells decimal IsWork (bounded_no_space 2000000000000000000 (omega arith)) (decimal_tells 2000000000000000000 (omega arith))
+
+jump_tells : TellsCut jump_form IsInRangeJump
+jump_tells = made_tells jump_made (join_tells number_form IsTick one_number (AreBoth IsWork IsSpaced) (λ y is. refl) cut_tick_tells cut_work_tells)
+
+entry_tells : TellsCut entry_form IsInRangeStateEntry
+entry_tells =
+    made_tells entry_made
+    (join_tells number_form IsNumber two_numbers (AreBoth IsNumber (AreBoth IsTick IsSpaced)) (λ y is. refl) cut_number_tells
+    (join_tells number_form IsNumber one_number (AreBoth IsTick IsSpaced) (λ y is. refl) cut_number_tells cut_tick_tells))
+
+one_end : (x y : StateEnd) → item_of y ≡ item_of x → numbers_of y ≡ numbers_of x → y ≡ x
+one_end (Passes a) (Passes b) e f = let same : b ≡ a = cc in ap Passes same
+one_end (Passes a) (Splits q ds) e f = absurd (cc)
+one_end (Splits p cs) (Passes b) e f = absurd (cc)
+one_end (Splits p cs) (Splits q ds) e f = let same : q ≡ p = cc in ap (λ r. Splits r ds) same ∙ ap (λ ns. Splits p ns) f
+
+numbers_in_range : (e : StateEnd) → IsInRangeEnd e → All IsNumber (numbers_of e)
+numbers_in_range (Passes t) is = All-nil IsNumber
+numbers_in_range (Splits place children) is = is.1
+
+end_tells : Tells end_form IsInRangeEnd
+end_tells x y ix iy e =
+    let cut : join_form (spaced_form item_field) numbers_form (item_of x, numbers_of x) ≡ join_form (spaced_form item_field) numbers_form (item_of y, numbers_of y)
+    = sym (end_split x) ∙ e ∙ end_split y in
+    let same = one_tells item_field IsInRangeItem item_no_space item_tells (item_of x, numbers_form (numbers_of x)) (item_of y, numbers_form (numbers_of y))
+    (item_in_range x ix, fields_behind (map decimal (numbers_of x))) (item_in_range y iy, fields_behind (map decimal (numbers_of y))) cut in
+    one_end x y (ap (λ (p : Item × List ℕ). p.0) same)
+    (each_tells decimal IsNumber number_no_space number_tells (numbers_of x) (numbers_of y) (numbers_in_range x ix) (numbers_in_range y iy) (sym (ap (λ (p : Item × List ℕ). p.1) same)))
+
+curve_alone : Alone (λ c. written_line (curve_line c)) IsInRangeCurve
+curve_alone =
+    shape_alone curve_shape curve_kind
+    (bare_tells (bare_list jump_form) IsInRangeCurve (ended_tells (counted_form jump_form) IsInRangeCurve (counted_tells jump_form IsInRangeJump jump_spaced jump_tells)))
+
+state_tells : Tells state_form AreStateParts
+state_tells =
+    join_tells (counted_form entry_form) (AreCounted IsInRangeStateEntry) work_and_end (AreBoth IsWork IsInRangeEnd) (λ y is. refl)
+    (counted_tells entry_form IsInRangeStateEntry entry_spaced entry_tells) (join_tells (spaced_form decimal) IsWork end_form IsInRangeEnd end_opened cut_work_tells end_tells)
+
+state_alone : Alone one_state IsInRangeState
+state_alone = shape_alone state_shape state_kind (bare_tells bare_state AreStateParts state_tells)
+
+opening_alone : Alone opening_block IsInRangeWrittenSearch
+opening_alone =
+    shape_alone search_shape search_kind
+    (pair_tells decimal IsNumber (pair_form decimal decimal) (AreBoth IsNumber IsNumber) number_no_space number_tells
+    (pair_tells decimal IsNumber decimal IsNumber number_no_space number_tells number_tells))
+
 ratio_tells : Tells (pair_form decimal decimal) AreParts
 ratio_tells x y ix iy e =
     let r = cut_same (decimal x.0) (decimal y.0) (32 ∷ decimal x.1) (32 ∷ decimal y.1) (part_no_space x.0 ix.0) (part_no_space y.0 iy.0) refl refl e in
@@ -209,7 +336,7 @@ word_count : (word : List ℕ) → is_plain word ≡ true → IsLine (count_line
 word_count word is = count_kind word (plain_word word is)
 
 ratio_alone : Alone (λ c. written (ratio_lines c)) IsInRangeRatio
-ratio_alone = two_alone ratio_parts fraction_alone (two_alone tail_parts (numbers_alone (codes "cycle") (numbers_kind (codes "cycle") (plain_word (codes "cycle") refl))) potentials_alone)
+ratio_alone = two_alone ratio_parts fraction_alone (two_alone ratio_rest_parts (numbers_alone (codes "cycle") (numbers_kind (codes "cycle") (plain_word (codes "cycle") refl))) potentials_alone)
 
 alone_as : {X : Type 0} {T U : X → List ℕ} {D : X → Type 0} → T ≡ U → Alone T D → Alone U D
 alone_as {X} {T} {U} {D} same alone = subst (λ (W : X → List ℕ). Alone W D) same alone
@@ -224,6 +351,30 @@ tree_alone : Alone (λ t. written (tree_lines t)) IsInRangeTree
 tree_alone =
     two_alone tree_parts (counted_alone (codes "tree") (λ w. written_line (walk_line w)) IsInRangeWalk (word_count (codes "tree") refl) walk_alone)
     (counted_alone (codes "pairs") (λ p. written_line (pair_line p)) IsInRangePair (word_count (codes "pairs") refl) pair_alone)
+
+tail_alone : Alone (λ t. written (tail_lines t)) IsInRangeTail
+tail_alone = one_alone tail_part (counted_alone (codes "tail") (λ c. written_line (curve_line c)) IsInRangeCurve (word_count (codes "tail") refl) curve_alone)
+
+search_alone : Alone (λ s. written (search_lines s)) IsInRangeSearch
+search_alone x y s t ix iy e =
+    let below = λ (z : SearchClaim). in_turn one_state z.states in
+    let cut : opening_block (opening_of x) ++ (below x ++ s) ≡ opening_block (opening_of y) ++ (below y ++ t)
+    = sym (append_assoc (opening_block (opening_of x)) (below x) s) ∙ ap (λ w. w ++ s) (sym (search_parts x ix).1) ∙ e ∙ ap (λ w. w ++ t) (search_parts y iy).1
+    ∙ append_assoc (opening_block (opening_of y)) (below y) t in
+    let first : opening_of y ≡ opening_of x
+    = opening_alone (opening_of x) (opening_of y) (below x ++ s) (below y ++ t) (search_parts x ix).0 (search_parts y iy).0 cut in
+    let tail : below x ++ s ≡ below y ++ t
+    = append_cancel_left (opening_block (opening_of x)) (below x ++ s) (below y ++ t) (cut ∙ ap (λ o. opening_block o ++ (below y ++ t)) first) in
+    let size : length x.states ≡ length y.states = sym (ap (λ (o : WrittenSearch). o.count) first) in
+    let states : y.states ≡ x.states
+    = turn_alone one_state IsInRangeState state_alone x.states y.states s t size (recursion_from_All IsInRangeState x.states ix.states) (recursion_from_All IsInRangeState y.states iy.states) tail in
+    ap (λ (o : WrittenSearch). search_with o y.states) first ∙ ap (λ zs. search_with (opening_of x) zs) states
+
+tails_alone : Alone (λ ts. written (tail_block ts)) (AreCounted IsInRangeTail)
+tails_alone = alone_as tails_same (counted_alone (codes "tails") (λ t. written (tail_lines t)) IsInRangeTail (word_count (codes "tails") refl) tail_alone)
+
+searches_alone : Alone (λ ss. written (search_block ss)) (AreCounted IsInRangeSearch)
+searches_alone = alone_as searches_same (counted_alone (codes "searches") (λ s. written (search_lines s)) IsInRangeSearch (word_count (codes "searches") refl) search_alone)
 
 ratios_alone : Alone (λ rs. written (ratio_block rs)) (AreCounted IsInRangeRatio)
 ratios_alone = alone_as ratios_same (counted_alone (codes "ratios") (λ c. written (ratio_lines c)) IsInRangeRatio (word_count (codes "ratios") refl) ratio_alone)
@@ -245,6 +396,7 @@ body_alone kinds.EdfYes = two_alone edf_yes_parts ratios_alone fronts_alone
 body_alone kinds.EdfNo = one_alone edf_no_part named_alone
 body_alone kinds.UtilisationOne = one_alone one_part ratios_alone
 body_alone kinds.FixedYes = two_alone fixed_yes_parts trees_alone proofs_alone
+body_alone kinds.FixedStates = two_alone fixed_states_parts tails_alone searches_alone
 body_alone kinds.FixedNo = one_alone fixed_no_part named_alone
 body_alone kinds.Undecided = λ x y s t ix iy e. only_undecided (λ z. z ≡ x) (sym (only_undecided (λ z. z ≡ Undecided) refl x ix.1)) y iy.1
 
@@ -257,36 +409,49 @@ kind_tells kinds.EdfYes kinds.EdfYes ix iy e = refl
 kind_tells kinds.EdfYes kinds.EdfNo ix iy e = let wrong : ◌≡◌ {A = ℕ} 16101 15101 = ap mark e in absurd (omega (arith, wrong))
 kind_tells kinds.EdfYes kinds.UtilisationOne ix iy e = let wrong : ◌≡◌ {A = ℕ} 16101 24117 = ap mark e in absurd (omega (arith, wrong))
 kind_tells kinds.EdfYes kinds.FixedYes ix iy e = let wrong : ◌≡◌ {A = ℕ} 16101 18102 = ap mark e in absurd (omega (arith, wrong))
+kind_tells kinds.EdfYes kinds.FixedStates ix iy e = let wrong : ◌≡◌ {A = ℕ} 16101 21102 = ap mark e in absurd (omega (arith, wrong))
 kind_tells kinds.EdfYes kinds.FixedNo ix iy e = let wrong : ◌≡◌ {A = ℕ} 16101 17102 = ap mark e in absurd (omega (arith, wrong))
 kind_tells kinds.EdfYes kinds.Undecided ix iy e = let wrong : ◌≡◌ {A = ℕ} 16101 18117 = ap mark e in absurd (omega (arith, wrong))
 kind_tells kinds.EdfNo kinds.EdfYes ix iy e = let wrong : ◌≡◌ {A = ℕ} 15101 16101 = ap mark e in absurd (omega (arith, wrong))
 kind_tells kinds.EdfNo kinds.EdfNo ix iy e = refl
 kind_tells kinds.EdfNo kinds.UtilisationOne ix iy e = let wrong : ◌≡◌ {A = ℕ} 15101 24117 = ap mark e in absurd (omega (arith, wrong))
 kind_tells kinds.EdfNo kinds.FixedYes ix iy e = let wrong : ◌≡◌ {A = ℕ} 15101 18102 = ap mark e in absurd (omega (arith, wrong))
+kind_tells kinds.EdfNo kinds.FixedStates ix iy e = let wrong : ◌≡◌ {A = ℕ} 15101 21102 = ap mark e in absurd (omega (arith, wrong))
 kind_tells kinds.EdfNo kinds.FixedNo ix iy e = let wrong : ◌≡◌ {A = ℕ} 15101 17102 = ap mark e in absurd (omega (arith, wrong))
 kind_tells kinds.EdfNo kinds.Undecided ix iy e = let wrong : ◌≡◌ {A = ℕ} 15101 18117 = ap mark e in absurd (omega (arith, wrong))
 kind_tells kinds.UtilisationOne kinds.EdfYes ix iy e = let wrong : ◌≡◌ {A = ℕ} 24117 16101 = ap mark e in absurd (omega (arith, wrong))
 kind_tells kinds.UtilisationOne kinds.EdfNo ix iy e = let wrong : ◌≡◌ {A = ℕ} 24117 15101 = ap mark e in absurd (omega (arith, wrong))
 kind_tells kinds.UtilisationOne kinds.UtilisationOne ix iy e = refl
 kind_tells kinds.UtilisationOne kinds.FixedYes ix iy e = let wrong : ◌≡◌ {A = ℕ} 24117 18102 = ap mark e in absurd (omega (arith, wrong))
+kind_tells kinds.UtilisationOne kinds.FixedStates ix iy e = let wrong : ◌≡◌ {A = ℕ} 24117 21102 = ap mark e in absurd (omega (arith, wrong))
 kind_tells kinds.UtilisationOne kinds.FixedNo ix iy e = let wrong : ◌≡◌ {A = ℕ} 24117 17102 = ap mark e in absurd (omega (arith, wrong))
 kind_tells kinds.UtilisationOne kinds.Undecided ix iy e = let wrong : ◌≡◌ {A = ℕ} 24117 18117 = ap mark e in absurd (omega (arith, wrong))
 kind_tells kinds.FixedYes kinds.EdfYes ix iy e = let wrong : ◌≡◌ {A = ℕ} 18102 16101 = ap mark e in absurd (omega (arith, wrong))
 kind_tells kinds.FixedYes kinds.EdfNo ix iy e = let wrong : ◌≡◌ {A = ℕ} 18102 15101 = ap mark e in absurd (omega (arith, wrong))
 kind_tells kinds.FixedYes kinds.UtilisationOne ix iy e = let wrong : ◌≡◌ {A = ℕ} 18102 24117 = ap mark e in absurd (omega (arith, wrong))
 kind_tells kinds.FixedYes kinds.FixedYes ix iy e = refl
+kind_tells kinds.FixedYes kinds.FixedStates ix iy e = let wrong : ◌≡◌ {A = ℕ} 18102 21102 = ap mark e in absurd (omega (arith, wrong))
 kind_tells kinds.FixedYes kinds.FixedNo ix iy e = let wrong : ◌≡◌ {A = ℕ} 18102 17102 = ap mark e in absurd (omega (arith, wrong))
 kind_tells kinds.FixedYes kinds.Undecided ix iy e = let wrong : ◌≡◌ {A = ℕ} 18102 18117 = ap mark e in absurd (omega (arith, wrong))
+kind_tells kinds.FixedStates kinds.EdfYes ix iy e = let wrong : ◌≡◌ {A = ℕ} 21102 16101 = ap mark e in absurd (omega (arith, wrong))
+kind_tells kinds.FixedStates kinds.EdfNo ix iy e = let wrong : ◌≡◌ {A = ℕ} 21102 15101 = ap mark e in absurd (omega (arith, wrong))
+kind_tells kinds.FixedStates kinds.UtilisationOne ix iy e = let wrong : ◌≡◌ {A = ℕ} 21102 24117 = ap mark e in absurd (omega (arith, wrong))
+kind_tells kinds.FixedStates kinds.FixedYes ix iy e = let wrong : ◌≡◌ {A = ℕ} 21102 18102 = ap mark e in absurd (omega (arith, wrong))
+kind_tells kinds.FixedStates kinds.FixedStates ix iy e = refl
+kind_tells kinds.FixedStates kinds.FixedNo ix iy e = let wrong : ◌≡◌ {A = ℕ} 21102 17102 = ap mark e in absurd (omega (arith, wrong))
+kind_tells kinds.FixedStates kinds.Undecided ix iy e = let wrong : ◌≡◌ {A = ℕ} 21102 18117 = ap mark e in absurd (omega (arith, wrong))
 kind_tells kinds.FixedNo kinds.EdfYes ix iy e = let wrong : ◌≡◌ {A = ℕ} 17102 16101 = ap mark e in absurd (omega (arith, wrong))
 kind_tells kinds.FixedNo kinds.EdfNo ix iy e = let wrong : ◌≡◌ {A = ℕ} 17102 15101 = ap mark e in absurd (omega (arith, wrong))
 kind_tells kinds.FixedNo kinds.UtilisationOne ix iy e = let wrong : ◌≡◌ {A = ℕ} 17102 24117 = ap mark e in absurd (omega (arith, wrong))
 kind_tells kinds.FixedNo kinds.FixedYes ix iy e = let wrong : ◌≡◌ {A = ℕ} 17102 18102 = ap mark e in absurd (omega (arith, wrong))
+kind_tells kinds.FixedNo kinds.FixedStates ix iy e = let wrong : ◌≡◌ {A = ℕ} 17102 21102 = ap mark e in absurd (omega (arith, wrong))
 kind_tells kinds.FixedNo kinds.FixedNo ix iy e = refl
 kind_tells kinds.FixedNo kinds.Undecided ix iy e = let wrong : ◌≡◌ {A = ℕ} 17102 18117 = ap mark e in absurd (omega (arith, wrong))
 kind_tells kinds.Undecided kinds.EdfYes ix iy e = let wrong : ◌≡◌ {A = ℕ} 18117 16101 = ap mark e in absurd (omega (arith, wrong))
 kind_tells kinds.Undecided kinds.EdfNo ix iy e = let wrong : ◌≡◌ {A = ℕ} 18117 15101 = ap mark e in absurd (omega (arith, wrong))
 kind_tells kinds.Undecided kinds.UtilisationOne ix iy e = let wrong : ◌≡◌ {A = ℕ} 18117 24117 = ap mark e in absurd (omega (arith, wrong))
 kind_tells kinds.Undecided kinds.FixedYes ix iy e = let wrong : ◌≡◌ {A = ℕ} 18117 18102 = ap mark e in absurd (omega (arith, wrong))
+kind_tells kinds.Undecided kinds.FixedStates ix iy e = let wrong : ◌≡◌ {A = ℕ} 18117 21102 = ap mark e in absurd (omega (arith, wrong))
 kind_tells kinds.Undecided kinds.FixedNo ix iy e = let wrong : ◌≡◌ {A = ℕ} 18117 17102 = ap mark e in absurd (omega (arith, wrong))
 kind_tells kinds.Undecided kinds.Undecided ix iy e = refl
 

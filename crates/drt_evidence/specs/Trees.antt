@@ -6,7 +6,6 @@ use Rattle.drt_model.specs.declared.tasks.Vertex.{Vertex}
 use Rattle.drt_model.specs.Digraph.{Digraph, digraph_of, vertex_count, out_degree, edge_of}
 use Rattle.drt_model.specs.RequestFunction.{request}
 use Rattle.drt_model.specs.Walk.{IsPath, last_of, span}
-use Rattle.drt_evidence.specs.Claims.{Each}
 use Rattle.drt_evidence.specs.declared.evidence.Pair.{Pair}
 use Rattle.drt_evidence.specs.declared.evidence.TreeClaim.{TreeClaim}
 

@@ -27,7 +27,11 @@ pub(crate) trait Block: Sized + Drop {
 }
 
 // So many blocks, one after another.
-pub(crate) fn read_each<B: Block>(alloc: Global, text: &mut Text, count: u32) -> Result<Vec<B>, Stop>
+pub(crate) fn read_each<B: Block>(
+    alloc: Global,
+    text: &mut Text,
+    count: u32,
+) -> Result<Vec<B>, Stop>
     ensures read { IfOk result (λ xs. ReadsBlock (in_turn B.block) (AreSoMany count B.is_stated) text.old.rest.now xs.items text.new.rest.now) }
     ensures stops { IfErr result (IsStop (in_turn B.block) (AreSoMany count B.is_stated) text.old.rest.now) }
 {

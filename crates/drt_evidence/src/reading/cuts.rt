@@ -10,7 +10,7 @@ ghost use Rattle.drt_evidence.specs.Ranges.{IsInRangeJump, IsInRangeStateEntry};
 ghost use Rattle.drt_evidence.specs.Some.{entry_spaced, jump_spaced};
 
 use crate::reading::fields::{Field, MOST_TICKS, MOST_WORK, cut_field, number_of};
-use drt_model::Memory;
+use drt_model::{Memory, Row};
 use drt_states::{Jump, StateEntry};
 use std::alloc::Global;
 
@@ -147,14 +147,17 @@ fn room_for(rest: Option<&[u8]>, count: usize) -> usize {
 pub(crate) fn cut_list<G: Group>(
     alloc: Global,
     rest: Option<&[u8]>,
-) -> Result<Option<(Vec<G>, Option<&[u8]>)>, Memory>
+) -> Result<Option<(Row<G>, Option<&[u8]>)>, Memory>
     ensures { IfOk result (λ found. MatchOption found
         (IsNoCut (counted_form G.form) (AreCounted G.is_stated) (left rest.entry))
-        (λ p. IsCut (counted_form G.form) (AreCounted G.is_stated) (left rest.entry) p.0.items (left p.1))) }
+        (λ p. IsCut (counted_form G.form) (AreCounted G.is_stated) (left rest.entry) p.0 (left p.1))) }
 {
     let (count, rest) = match cut_one::<u32>(rest) {
         Some(parts) => parts,
         None => return Ok(None),
     };
-    cut_each(alloc, rest, count)
+    match cut_each(alloc, rest, count)? {
+        Some((found, others)) => Ok(Some((Row::from_vec(found), others))),
+        None => Ok(None),
+    }
 }

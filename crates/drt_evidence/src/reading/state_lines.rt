@@ -1,7 +1,7 @@
 //! Lines of tails and of states: how many jumps or entries, the fields of each, and what stands behind them.
 //!
 //! Each function is given a line without its LF, or what is left of one.
-ghost use Rattle.std.specs.Prelude.{decimal, IfOk, MatchOption};
+ghost use Rattle.std.specs.Prelude.{◌≡◌, decimal, IfOk, MatchOption};
 ghost use Rattle.drt_evidence.specs.Cuts.{AreStateParts, end_form, join_form, left, spaced_form, state_form};
 ghost use Rattle.drt_evidence.specs.LineForms.{AreBoth, IsForm, IsLineOf, IsNoForm, IsNoLine};
 ghost use Rattle.drt_evidence.specs.Ranges.{IsInRangeCurve, IsInRangeEnd, IsInRangeState, IsWork};
@@ -23,10 +23,13 @@ pub(crate) fn jumps_of(alloc: Global, line: &[u8]) -> Result<Option<Row<Jump>>, 
         Some(rest) => rest,
         None => return Ok(None),
     };
-    match cut_list(alloc, Some(rest))? {
-        Some((jumps, None)) => Ok(Some(Row::from_vec(jumps))),
-        Some((_, Some(_))) => Ok(None),
-        None => Ok(None),
+    let (jumps, others) = match cut_list(alloc, Some(rest))? {
+        Some(parts) => parts,
+        None => return Ok(None),
+    };
+    match others {
+        Some(_) => Ok(None),
+        None => Ok(Some(jumps)),
     }
 }
 
@@ -68,10 +71,10 @@ fn work_and_end(alloc: Global, rest: Option<&[u8]>) -> Result<Option<(u64, State
 fn parts_of_state(
     alloc: Global,
     rest: Option<&[u8]>,
-) -> Result<Option<(Vec<StateEntry>, (u64, StateEnd))>, Memory>
+) -> Result<Option<(Row<StateEntry>, (u64, StateEnd))>, Memory>
     ensures { IfOk result (λ found. MatchOption found
         (IsNoForm state_form AreStateParts (left rest.entry))
-        (λ p. IsForm state_form AreStateParts (left rest.entry) (p.0.items, p.1))) }
+        (IsForm state_form AreStateParts (left rest.entry))) }
 {
     let (entries, rest) = match cut_list(alloc, rest)? {
         Some(parts) => parts,
@@ -83,6 +86,14 @@ fn parts_of_state(
     }
 }
 
+// The state of these parts.
+fn state_with(parts: (Row<StateEntry>, (u64, StateEnd))) -> StateClaim
+    ensures { result ≡ record { entries = parts.0; work = parts.1.0; end = parts.1.1 } }
+{
+    let (entries, (work, end)) = parts;
+    StateClaim { entries, work, end }
+}
+
 // The state that the line says.
 pub(crate) fn state_of(alloc: Global, line: &[u8]) -> Result<Option<StateClaim>, Memory>
     ensures { IfOk result (λ found. MatchOption found (IsNoLine state_line IsInRangeState line.now) (IsLineOf state_line IsInRangeState line.now)) }
@@ -92,11 +103,7 @@ pub(crate) fn state_of(alloc: Global, line: &[u8]) -> Result<Option<StateClaim>,
         None => return Ok(None),
     };
     match parts_of_state(alloc, Some(rest))? {
-        Some((entries, (work, end))) => Ok(Some(StateClaim {
-            entries: Row::from_vec(entries),
-            work,
-            end,
-        })),
+        Some(parts) => Ok(Some(state_with(parts))),
         None => Ok(None),
     }
 }

@@ -35,3 +35,9 @@ returns-in-FixedYes-clause-stops c = rw c.in-FixedYes.is c.read_fixed_yes.ensure
 
 pub returns-in-Undecided-clause-read : goal.returns-in-Undecided-clause-read
 returns-in-Undecided-clause-read c = kind_read c.in-Undecided.is (undecided_read c.args.text.now.rest.now)
+
+pub returns-in-FixedStates-clause-read : goal.returns-in-FixedStates-clause-read
+returns-in-FixedStates-clause-read c = rw c.in-FixedStates.is c.read_fixed_states.ensures.read
+
+pub returns-in-FixedStates-clause-stops : goal.returns-in-FixedStates-clause-stops
+returns-in-FixedStates-clause-stops c = rw c.in-FixedStates.is c.read_fixed_states.ensures.stops
