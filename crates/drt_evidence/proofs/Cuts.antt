@@ -126,7 +126,7 @@ pub goes_on : {A : Type 0} (f : A → List ℕ) (P : A → Type 0) (all : List �
     → rest ≡ Some more → IsNoForm f P all
 goes_on f P all x rest more is here = not_ended f P all more.now x (subst (λ o. IsCut f P all x (left o)) here is)
 
--- So many values, one after another.
+-- A number of values, one behind another.
 pub turn_opened : {A : Type 0} (f : A → List ℕ) → IsOpened f → (xs : List A) (t : List ℕ) → IsSpaced t → IsSpaced (in_turn f xs ++ t)
 turn_opened f opened [] t is = is
 turn_opened f opened (x ∷ xs) t is = subst IsSpaced (sym (append_assoc (f x) (in_turn f xs) t)) (opened x (in_turn f xs ++ t))

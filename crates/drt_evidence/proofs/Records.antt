@@ -72,7 +72,8 @@ ratio_rest t = written_line (numbers_line (codes "cycle") t.0) ++ written_line (
 abbrev pub IsRatioRest : RatioRest → Type 0
 IsRatioRest t = AreCounted IsNumber t.0 × AreCounted IsInRangePotential t.1
 
-abbrev pub ratio_rest_parts : Two ratio_rest IsRatioRest (λ y. written_line (numbers_line (codes "cycle") y)) (AreCounted IsNumber) (λ y. written_line (potentials_line y)) (AreCounted IsInRangePotential)
+abbrev pub ratio_rest_parts : Two ratio_rest IsRatioRest (λ y. written_line (numbers_line (codes "cycle") y)) (AreCounted IsNumber)
+    (λ y. written_line (potentials_line y)) (AreCounted IsInRangePotential)
 ratio_rest_parts = record {
   first = λ t. t.0;
   second = λ t. t.1;
@@ -161,7 +162,7 @@ search_parts s is = (
 abbrev counted_as : WrittenSearch → ℕ → WrittenSearch
 counted_as w n = record { task = w.task; vertex = w.vertex; count = n }
 
--- A search with so many states, the same one each time.
+-- A search with that first line, and one state again and again.
 some_states : (w : WrittenSearch) → IsInRangeWrittenSearch w → (s : SearchClaim) × IsInRangeSearch s × (opening_of s ≡ w)
 some_states w is =
     let states = replicate w.count some_state.0 in

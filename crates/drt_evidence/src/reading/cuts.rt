@@ -26,7 +26,7 @@ pub(crate) fn cut_one<F: Field>(rest: Option<&[u8]>) -> Option<(F, Option<&[u8]>
     Some((value, others))
 }
 
-// A number, at most so great.
+// A number up to a greatest one.
 pub(crate) fn cut_number(rest: Option<&[u8]>, most: u64) -> Option<(u64, Option<&[u8]>)>
     requires { most < 18446744073709551615 }
     ensures { MatchOption result
@@ -110,7 +110,7 @@ impl Group for StateEntry {
     }
 }
 
-// So many values.
+// A number of values, one behind another. A count that no line can hold is found out at the end of the line.
 fn cut_each<G: Group>(
     alloc: Global,
     rest: Option<&[u8]>,

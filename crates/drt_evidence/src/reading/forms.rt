@@ -6,7 +6,8 @@ ghost use Rattle.drt_file.specs.trusted.Canonical.{written_line};
 ghost use Rattle.drt_file.specs.trusted.Cutting.{HasNoFeed};
 ghost use Rattle.drt_evidence.specs.Blocks.{IsStop, ReadsBlock, close_block, first_block};
 ghost use Rattle.drt_evidence.specs.declared.reading.text.Stop.TheVariants.{Fault};
-ghost use Rattle.drt_evidence.specs.LineForms.{AreCounted, IsAny, IsInRangeWritten, IsInRangeWrittenSearch, kind_line, numbers_line, policy_line, potentials_line, written_ratio_line, written_search_line};
+ghost use Rattle.drt_evidence.specs.LineForms.{AreCounted, IsAny, IsInRangeWritten, IsInRangeWrittenSearch, kind_line};
+ghost use Rattle.drt_evidence.specs.LineForms.{numbers_line, policy_line, potentials_line, written_ratio_line, written_search_line};
 ghost use Rattle.drt_evidence.specs.Ranges.{IsInRangeCurve, IsInRangeEntry, IsInRangeMiss, IsInRangePair, IsInRangePotential, IsInRangeProof, IsInRangeRelease, IsInRangeState, IsNumber};
 ghost use Rattle.drt_evidence.specs.Text.{count_line, curve_line, entry_line, miss_line, pair_line, proof_line, release_line, state_line};
 

@@ -3,7 +3,8 @@
 //! Each function is given a line without its LF, and answers with the value that the line says, or with `None` where it says none.
 ghost use Rattle.std.specs.Prelude.{◌≡◌, ◌<◌, ◌≤◌, ◌↔◌, ◌∷◌, [], IsTrue, codes, decimal, MatchOption};
 ghost use Rattle.std.specs.List.{join_with_byte};
-ghost use Rattle.drt_evidence.specs.LineForms.{AreBoth, IsAny, IsForm, IsInRangeWritten, IsInRangeWrittenSearch, IsLineOf, IsNoForm, IsNoLine, kind_line, pair_form, policy_line, written_ratio_line, written_search_line};
+ghost use Rattle.drt_evidence.specs.LineForms.{AreBoth, IsAny, IsForm, IsInRangeWritten, IsInRangeWrittenSearch, IsLineOf, IsNoForm};
+ghost use Rattle.drt_evidence.specs.LineForms.{IsNoLine, kind_line, pair_form, policy_line, written_ratio_line, written_search_line};
 ghost use Rattle.drt_evidence.specs.Ranges.{IsInRangeEntry, IsInRangeMiss, IsInRangePair, IsInRangeRelease, IsNumber, IsTick};
 ghost use Rattle.drt_evidence.specs.Text.{count_line, entry_line, miss_line, pair_line, release_line, word_line};
 
