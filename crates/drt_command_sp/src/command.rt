@@ -103,11 +103,7 @@ fn analyse<G: Gate, R: Threads + Wait + Sync>(
 }
 
 // The report of an answer: its dossier under fixed priorities, and the trail of a spent budget.
-fn report_of(
-    alloc: Global,
-    dossier: Dossier,
-    trail: Option<FixedTrail>,
-) -> Result<Report, Unmade>
+fn report_of(alloc: Global, dossier: Dossier, trail: Option<FixedTrail>) -> Result<Report, Unmade>
     requires policy { dossier.policy ≡ Fixed }
     ensures report { IfOk result (λ m. m ≡ record { status = evidence_status dossier.evidence; text = text dossier; trail = trail_after trail }) }
     ensures unmade { IfErr result (λ e. e ≡ Unmade.Memory) }

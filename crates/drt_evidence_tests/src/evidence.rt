@@ -553,12 +553,7 @@ fn is_state(state: &StateClaim, wanted: Wanted<'_>) -> bool {
 }
 
 // Whether evidence is by tails and states, with one search, of this task and vertex, whose last one of so many states is this.
-fn has_state(
-    alloc: Global,
-    lines: &[u8],
-    count: usize,
-    wanted: Wanted<'_>,
-) -> Result<bool, Fail> {
+fn has_state(alloc: Global, lines: &[u8], count: usize, wanted: Wanted<'_>) -> Result<bool, Fail> {
     let Some(dossier) = dossier_below(alloc, lines)? else {
         return Ok(false);
     };

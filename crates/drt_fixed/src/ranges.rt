@@ -90,7 +90,10 @@ fn is_state(state: &StateClaim) -> bool
     ensures { IsTrue result ↔ IsInRangeState state.now }
 {
     let entries = state.entries.as_slice();
-    state.work <= MOST_WORK && entries.len() <= MOST_ITEMS && all_entries(entries) && is_end(&state.end)
+    state.work <= MOST_WORK
+        && entries.len() <= MOST_ITEMS
+        && all_entries(entries)
+        && is_end(&state.end)
 }
 
 fn all_entries(entries: &[StateEntry]) -> bool
@@ -117,7 +120,5 @@ fn is_end(end: &StateEnd) -> bool
 fn all_releases(releases: &[Release]) -> bool
     ensures { IsTrue result ↔ All IsInRangeRelease releases.now }
 {
-    releases
-        .iter()
-        .all(|release| release.time <= MOST_TICKS && release.need <= MOST_TICKS)
+    releases.iter().all(|release| release.time <= MOST_TICKS && release.need <= MOST_TICKS)
 }

@@ -31,7 +31,13 @@ pub(crate) fn refusal(
         if task == at.task {
             releases.push(release_of(graphs.graph(task), task, at.vertex, 0))?;
         } else if let Some(walk) = walk_of(order, walks, task) {
-            add_releases(graphs.graph(task), task, walk, u64::from(at.deadline), &mut releases)?;
+            add_releases(
+                graphs.graph(task),
+                task,
+                walk,
+                u64::from(at.deadline),
+                &mut releases,
+            )?;
         }
     }
     Ok(Evidence::FixedNo {

@@ -141,11 +141,7 @@ fn split_state(
 }
 
 // What the search answers where no state waits.
-fn end_of(
-    alloc: Global,
-    subject: Subject<'_>,
-    table: &Table,
-) -> Result<Option<Searched>, Memory>
+fn end_of(alloc: Global, subject: Subject<'_>, table: &Table) -> Result<Option<Searched>, Memory>
     requires { IsSubject subject }
     ensures { IfOk result (λ r. IfSome r (IsAnswerTo subject.entry)) }
 {
@@ -167,7 +163,13 @@ fn certify(subject: Subject<'_>, states: Vec<StateClaim>) -> Searched
     let order = subject.order;
     let deadline = subject.deadline;
     if are_states(graphs, order, &states)
-        && have_passing_times(subject.tails, subject.crests, deadline, subject.wcet, &states)
+        && have_passing_times(
+            subject.tails,
+            subject.crests,
+            deadline,
+            subject.wcet,
+            &states,
+        )
         && have_dominated_children(graphs, order, deadline, &states)
     {
         Searched::Passes(Row::from_vec(states))

@@ -61,12 +61,7 @@ fn first_passing(subject: Subject<'_>) -> Option<u64> {
 }
 
 // The least time that passes for a state. What a state asks for never falls, so that it is a time that leaves more room than all before.
-fn passing_in(
-    subject: Subject<'_>,
-    active: &[u32],
-    rooms: &[Room],
-    state: &State,
-) -> Option<u64> {
+fn passing_in(subject: Subject<'_>, active: &[u32], rooms: &[Room], state: &State) -> Option<u64> {
     for k in first_room(rooms, state)..rooms.len() {
         let time = passing_within(subject, active, rooms[k], state);
         if time.is_some() {
@@ -83,12 +78,7 @@ fn first_room(rooms: &[Room], state: &State) -> usize {
     rooms.partition_point(|room| room.to <= failed || room.to.saturating_sub(room.asked) < work)
 }
 
-fn passing_within(
-    subject: Subject<'_>,
-    active: &[u32],
-    room: Room,
-    state: &State,
-) -> Option<u64> {
+fn passing_within(subject: Subject<'_>, active: &[u32], room: Room, state: &State) -> Option<u64> {
     let mut t = room.from.max(state.failed.saturating_add(1));
     'times: while t <= room.to {
         let sum = room

@@ -45,11 +45,7 @@ pub(crate) fn finds_states(
 }
 
 /// Whether the search finds these walks.
-pub(crate) fn finds_walks(
-    alloc: Global,
-    case: Case<'_>,
-    wanted: &[&[u32]],
-) -> Result<bool, Fail> {
+pub(crate) fn finds_walks(alloc: Global, case: Case<'_>, wanted: &[&[u32]]) -> Result<bool, Fail> {
     match find(alloc, case)? {
         Searched::Misses(walks) => Ok(are_walks(walks.as_slice(), wanted)),
         _ => Ok(false),

@@ -11,10 +11,12 @@ const FORK: Shape<'static> = (
     &[(0, 1, 2), (0, 2, 2), (2, 3, 3)],
 );
 
-
 const UNDER_RING: Shape<'static> = (&[(3, 10)], &[(0, 0, 10)]);
+
 const UNDER_FORK: Shape<'static> = (&[(2, 6)], &[(0, 0, 6)]);
+
 const LONGER: Shape<'static> = (&[(3, 6)], &[(0, 0, 6)]);
+
 const LAST: Shape<'static> = (&[(1, 9)], &[(0, 0, 9)]);
 
 #[test]
