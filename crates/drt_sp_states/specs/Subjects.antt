@@ -1,5 +1,5 @@
 -- What holds of the subject of a search, and what is said of answers to it.
-use Rattle.std.specs.Prelude.{ℕ, ◌≤◌, List, length}
+use Rattle.std.specs.Prelude.{◌≤◌, length}
 use Rattle.std.specs.List.{All}
 use Rattle.drt_check_states.specs.Crests.{AreCrests}
 use Rattle.drt_check_states.specs.Curves.{HasRisingCurves}

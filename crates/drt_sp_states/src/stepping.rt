@@ -60,36 +60,28 @@ fn first_passing(subject: Subject<'_>) -> Option<u64> {
     None
 }
 
-// The least time that passes for a state. What a state asks for never falls, so that it is a time that leaves more room than all before.
+// The least time that passes for a state: what the state asks for before it fits into the room there. As it never falls, a time with less
+// room than is asked for before an earlier one is passed over. Each step but the last asks for more.
 fn passing_in(subject: Subject<'_>, active: &[u32], rooms: &[Room], state: &State) -> Option<u64> {
-    for k in first_room(rooms, state)..rooms.len() {
-        let time = passing_within(subject, active, rooms[k], state);
-        if time.is_some() {
-            return time;
-        }
-    }
-    None
-}
-
-// The number of the first room with times that aren't known to fail, and with room for the work.
-fn first_room(rooms: &[Room], state: &State) -> usize {
-    let work = state.work;
-    let failed = state.failed;
-    rooms.partition_point(|room| room.to <= failed || room.to.saturating_sub(room.asked) < work)
-}
-
-fn passing_within(subject: Subject<'_>, active: &[u32], room: Room, state: &State) -> Option<u64> {
-    let mut t = room.from.max(state.failed.saturating_add(1));
-    'times: while t <= room.to {
-        let sum = room
-            .asked
-            .saturating_add(asked_before(subject, active, state, t));
-        if sum <= t {
+    let mut t = state.failed.saturating_add(1);
+    let mut asked = state.work;
+    for _step in 0..subject.deadline {
+        t = next_time(rooms, t, asked)?;
+        let more = asked_before(subject, active, state, t);
+        if more <= asked {
             return Some(t);
         }
-        t = sum;
+        asked = more;
     }
     None
+}
+
+// The least time from `t` on that leaves this much room, if there is one.
+fn next_time(rooms: &[Room], t: u64, need: u64) -> Option<u64> {
+    let first = rooms.partition_point(|room| room.to < t
+        || room.to.saturating_sub(room.asked) < need);
+    let room = rooms.get(first)?;
+    Some(t.max(room.from).max(room.asked.saturating_add(need)))
 }
 
 /// The place at which a state is split: the least active one without an entry, else that of the entry with the least next release,
