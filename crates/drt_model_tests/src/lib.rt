@@ -4,6 +4,8 @@
 #[cfg(test)]
 mod graph_tests;
 #[cfg(test)]
+mod looped;
+#[cfg(test)]
 mod machine;
 #[cfg(test)]
 mod num_tests;

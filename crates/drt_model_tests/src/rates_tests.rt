@@ -3,7 +3,7 @@ ghost use Rattle.std.specs.Prelude.{◌≡◌, ◌≤◌};
 use drt_rates::{Rated, rate, scale};
 
 // A ratio alone.
-#[derive(Drop)]
+#[derive(Clone, Copy)]
 struct Given {
     num: u32,
     den: u32,
@@ -41,25 +41,36 @@ fn fraction(num: u32, den: u32) -> Given
     }
 }
 
-#[test]
-fn scales_and_rates_by_hand(rt: HostRuntime) {
-    // 14 + 20 of 35.
+// Whether 2/5 and 4/7 make 14 + 20 of 35.
+fn are_primes_rated() -> bool {
     let two = [fraction(2, 5), fraction(4, 7)];
-    assert_eq!(rt; scale::<Given>(&two), Some(35));
-    assert_eq!(rt; rate::<Given>(&two, 35), 34);
-    // 5 + 3 of 10.
-    let lowest = [fraction(1, 2), fraction(3, 10)];
-    assert_eq!(rt; scale::<Given>(&lowest), Some(10));
-    assert_eq!(rt; rate::<Given>(&lowest, 10), 8);
-    // The least common multiple of 4 and 6 is 12.
-    let shared = [fraction(1, 4), fraction(1, 6)];
-    assert_eq!(rt; scale::<Given>(&shared), Some(12));
-    // The least common multiple is 499997000005499997000000, above 2^60.
+    scale::<Given>(&two) == Some(35) && rate::<Given>(&two, 35) == 34
+}
+
+// Whether 1/2 and 3/10 make 5 + 3 of 10.
+fn are_tenths_rated() -> bool {
+    let two = [fraction(1, 2), fraction(3, 10)];
+    scale::<Given>(&two) == Some(10) && rate::<Given>(&two, 10) == 8
+}
+
+// Whether the scale of 1/4 and 1/6 is 12, the least common multiple of 4 and 6.
+fn is_shared_least() -> bool {
+    scale::<Given>(&[fraction(1, 4), fraction(1, 6)]) == Some(12)
+}
+
+// Whether there is no scale where the least common multiple is 499997000005499997000000, above 2^60.
+fn is_fine_refused() -> bool {
     let fine = [
         fraction(1, 1000000),
         fraction(1, 999999),
         fraction(1, 999998),
         fraction(1, 999997),
     ];
-    assert_eq!(rt; scale::<Given>(&fine), None);
+    scale::<Given>(&fine) == None
+}
+
+#[test]
+fn scales_and_rates_by_hand(rt: HostRuntime) {
+    assert!(rt; are_primes_rated() && are_tenths_rated());
+    assert!(rt; is_shared_least() && is_fine_refused());
 }

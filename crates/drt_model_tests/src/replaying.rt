@@ -1,35 +1,11 @@
 //! Worked replays, and replays beside the plain tick machine.
 ghost use Rattle.std.specs.Prelude.{◌≡◌, ◌≤◌, ◌<◌, ◌^◌, length};
 
-use drt_fixtures::make_looped;
-use drt_model::{
-    Job, Memory, Miss, Policy, Release, Row, Task, TaskSet, legal, plain_trace, task_set,
-};
+use crate::looped::looped_set;
+use drt_model::{Job, Miss, Policy, Release, legal, plain_trace};
 use drt_replay::Board;
 use std::alloc::Global;
 use std::test::Fail;
-
-// Such a task: its priority, its execution time, and its deadline and separation.
-fn looped(alloc: Global, name: &[u8], task: (u32, u32, u32)) -> Result<Task, Memory> {
-    make_looped(alloc, name, task.0, task.1, task.2)
-}
-
-fn one_task(alloc: Global, task: (u32, u32, u32)) -> Result<Option<TaskSet>, Memory> {
-    let mut tasks = Vec::new(alloc);
-    tasks.push(looped(alloc, b"T", task)?)?;
-    Ok(task_set(1, Row::from_vec(tasks)))
-}
-
-fn two_tasks(
-    alloc: Global,
-    first: (u32, u32, u32),
-    second: (u32, u32, u32),
-) -> Result<Option<TaskSet>, Memory> {
-    let mut tasks = Vec::new(alloc);
-    tasks.push(looped(alloc, b"a", first)?)?;
-    tasks.push(looped(alloc, b"b", second)?)?;
-    Ok(task_set(2, Row::from_vec(tasks)))
-}
 
 // A release of a task: its time and its need.
 fn at(release: (u32, u32, u32)) -> Release
@@ -120,7 +96,7 @@ fn expected(miss: Option<(u32, u32, u32)>, t: u64) -> Option<Miss> {
 
 // Whether a replay shows at each tick what the plain machine does; a case by hand has its first miss as well.
 fn replays(alloc: Global, case: Case, by_hand: bool) -> Result<bool, Fail> {
-    let set = two_tasks(alloc, case.first, case.second)?.ok_or("past the limits")?;
+    let set = looped_set(alloc, 2, &[case.first, case.second])?.ok_or("past the limits")?;
     let [x, y, z] = case.releases;
     let releases = [at(x), at(y), at(z)];
     let jobs = [job(case, x), job(case, y), job(case, z)];
@@ -278,9 +254,9 @@ fn a_thousand_drawn_lists_are_replayed_as_by_the_plain_machine(
     Ok(())
 }
 
-#[test]
-fn a_release_at_ten_to_the_fifteen_is_replayed_at_once(rt: HostRuntime) -> Result<(), Fail> {
-    let set = one_task(rt.alloc(), (1, 2, 5))?.ok_or("past the limits")?;
+// Whether the second of two releases of a task is far off, and the board at once shows when both are done.
+fn is_replayed_at_once(alloc: Global) -> Result<bool, Fail> {
+    let set = looped_set(alloc, 1, &[(1, 2, 5)])?.ok_or("past the limits")?;
     let first = Release {
         task: 0,
         vertex: 0,
@@ -294,13 +270,25 @@ fn a_release_at_ten_to_the_fifteen_is_replayed_at_once(rt: HostRuntime) -> Resul
         need: 2,
     };
     let releases = [first, far];
-    assert!(rt; legal(&set, &releases));
-    let mut board = Board::start(rt.alloc(), &set, Policy::Edf, &releases)?;
+    if !legal(&set, &releases) {
+        return Ok(false);
+    }
+    let mut board = Board::start(alloc, &set, Policy::Edf, &releases)?;
     board.run_until(1);
-    assert_eq!(rt; board.finish_time(0, 0), None);
+    let before = board.finish_time(0, 0);
     board.run_until(1_000_000_000_000_002);
-    assert_eq!(rt; board.finish_time(0, 0), Some(2));
-    assert_eq!(rt; board.finish_time(0, 1), Some(1_000_000_000_000_002));
-    assert_eq!(rt; board.first_miss(), None);
+    let near_end = board.finish_time(0, 0);
+    let far_end = board.finish_time(0, 1);
+    Ok(
+        before == None
+            && near_end == Some(2)
+            && far_end == Some(1_000_000_000_000_002)
+            && board.first_miss() == None,
+    )
+}
+
+#[test]
+fn a_release_at_ten_to_the_fifteen_is_replayed_at_once(rt: HostRuntime) -> Result<(), Fail> {
+    assert!(rt; is_replayed_at_once(rt.alloc())?);
     Ok(())
 }

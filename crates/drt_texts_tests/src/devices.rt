@@ -5,12 +5,18 @@ use std::alloc::Global;
 use std::test::Fail;
 
 // The bytes 0, 1, 2, ..
-fn counting(alloc: Global, count: u8) -> Result<Row<u8>, Memory> {
-    let mut bytes = Vec::new(alloc);
-    for i in 0..count {
-        bytes.push(i)?;
-    }
-    Ok(Row::from_vec(bytes))
+const BYTES: [u8; 24] = [
+    0, 1, 2, 3, 4, 5, 6, 7, 8, 9, 10, 11, 12, 13, 14, 15, 16, 17, 18, 19, 20, 21, 22, 23,
+];
+
+// So many of them.
+fn counting(count: usize) -> &'static [u8] {
+    &BYTES[..count.min(24)]
+}
+
+// A row of so many of them.
+fn counted(alloc: Global, count: usize) -> Result<Row<u8>, Memory> {
+    Ok(Row::from_vec(Vec::from_slice(alloc, counting(count))?))
 }
 
 fn numbers(alloc: Global, number: u64) -> Result<Row<u64>, Memory> {
@@ -20,11 +26,11 @@ fn numbers(alloc: Global, number: u64) -> Result<Row<u64>, Memory> {
 // How reading so many bytes by pieces ends, where the read of this number fails: with how many bytes.
 fn reading(
     alloc: Global,
-    count: u8,
+    count: usize,
     failing: u64,
     limit: u64,
 ) -> Result<Result<usize, ReadEnd>, Memory> {
-    let mut source = MemorySource::new(counting(alloc, count)?, 7, numbers(alloc, failing)?);
+    let mut source = MemorySource::new(counted(alloc, count)?, 7, numbers(alloc, failing)?);
     Ok(read_all(alloc, &mut source, limit).map(|all| all.as_slice().len()))
 }
 
@@ -32,7 +38,7 @@ fn reading(
 #[test]
 fn reading_ends_at_the_limit_and_at_a_failing_read(rt: HostRuntime) -> Result<(), Fail> {
     let cases = [
-        (10u8, 0u64, 10u64, Ok(10usize)),
+        (10usize, 0u64, 10u64, Ok(10usize)),
         (11, 0, 10, Err(ReadEnd::TooLong)),
         (24, 1, 100, Err(ReadEnd::Failed)),
         (24, 2, 100, Err(ReadEnd::Failed)),
@@ -56,11 +62,11 @@ fn is_written(
     room: usize,
     failing: u64,
     is_whole: bool,
-    held: u8,
+    held: usize,
 ) -> Result<bool, Fail> {
     let mut sink = MemorySink::new(alloc, room, 7, numbers(alloc, failing)?)?;
-    let found = write_all(&mut sink, counting(alloc, 24)?.as_slice());
-    Ok(found.is_ok() == is_whole && sink.bytes() == counting(alloc, held)?.as_slice())
+    let found = write_all(&mut sink, &BYTES);
+    Ok(found.is_ok() == is_whole && sink.bytes() == counting(held))
 }
 
 #[test]
@@ -68,7 +74,7 @@ fn a_failing_write_and_a_full_room_leave_the_pieces_before_them(
     rt: HostRuntime,
 ) -> Result<(), Fail> {
     let cases = [
-        (100usize, 1u64, false, 0u8),
+        (100usize, 1u64, false, 0usize),
         (100, 2, false, 7),
         (100, 3, false, 14),
         (100, 4, false, 21),
@@ -86,11 +92,11 @@ fn a_failing_write_and_a_full_room_leave_the_pieces_before_them(
 
 // Whether a sure sink with room for 10 bytes takes 24 from a sure source, and holds the first 10.
 fn is_sure(alloc: Global) -> Result<bool, Fail> {
-    let mut source = SureSource::new(counting(alloc, 24)?);
+    let mut source = SureSource::new(counted(alloc, 24)?);
     let all = read_all(alloc, &mut source, 24).ok().ok_or("read")?;
     let mut sink = SureSink::with_room(alloc, 10)?;
     let found = write_all(&mut sink, all.as_slice());
-    Ok(found.is_ok() && sink.bytes() == counting(alloc, 10)?.as_slice())
+    Ok(found.is_ok() && sink.bytes() == counting(10))
 }
 
 #[test]

@@ -2,18 +2,26 @@ use drt_words::{Meaning, words_of};
 use std::alloc::Global;
 use std::test::Fail;
 
+// What these words mean, if anything.
+fn meaning_of(alloc: Global, words: &[&str]) -> Option<Meaning> {
+    match words_of(alloc, words) {
+        Ok(meaning) => Some(meaning),
+        Err(_) => None,
+    }
+}
+
 // Whether these words mean `edf` with so many steps.
 fn means_edf(alloc: Global, words: &[&str], budget: u32) -> bool {
-    match words_of(alloc, words) {
-        Ok(Meaning::Edf { search }) => search.budget() == budget,
+    match meaning_of(alloc, words) {
+        Some(Meaning::Edf { search }) => search.budget() == budget,
         _ => false,
     }
 }
 
 // Whether these words mean `response` with so many workers and so many steps.
 fn means_response(alloc: Global, words: &[&str], workers: u32, budget: u32) -> bool {
-    match words_of(alloc, words) {
-        Ok(Meaning::Response { search }) => {
+    match meaning_of(alloc, words) {
+        Some(Meaning::Response { search }) => {
             search.workers() == workers && search.budget() == budget
         }
         _ => false,
@@ -22,8 +30,8 @@ fn means_response(alloc: Global, words: &[&str], workers: u32, budget: u32) -> b
 
 // Whether these words mean `bench` with so many workers and this number.
 fn means_bench(alloc: Global, words: &[&str], count: u32, wanted: u64) -> bool {
-    match words_of(alloc, words) {
-        Ok(Meaning::Bench { workers, number }) => workers.count() == count && number == wanted,
+    match meaning_of(alloc, words) {
+        Some(Meaning::Bench { workers, number }) => workers.count() == count && number == wanted,
         _ => false,
     }
 }
