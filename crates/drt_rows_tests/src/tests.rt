@@ -1,11 +1,11 @@
-ghost use Rattle.std.specs.Prelude.{◌≡◌, ◌<◌, ◌≤◌};
+ghost use Rattle.std.specs.Prelude.{◌≡◌, ◌<◌, ◌≤◌, IfOk};
 ghost use Rattle.drt_model.specs.Digraph.{vertex_count};
 
 use crate::driver::try_step;
 use drt_demand::{DemandLabel, dbf};
 use drt_fixtures::make_set;
 use drt_fixtures::shapes::RETURNING;
-use drt_graph::{Graph, Graphs, check};
+use drt_graph::{Graph, check};
 use drt_model::{FrontEntry, Memory};
 use drt_table::{Entry, Node, NodeState, Table, TableReply, TableStep};
 use std::alloc::Global;
@@ -16,18 +16,21 @@ type Call = (u32, TableStep, TableReply);
 
 const TAKE: TableStep = TableStep::Take;
 
-const fn offer(node: u32, edge: u32) -> TableStep {
-    TableStep::Offer { node, edge }
-}
-
-const fn close(node: u32) -> TableStep {
-    TableStep::Close { node }
-}
-
 // The graph of the one task that both rows are of.
-fn graphs(alloc: Global) -> Result<Graphs, Fail> {
+fn make_graph(alloc: Global) -> Result<Graph, Fail> {
     let set = make_set(alloc, &[RETURNING])?.ok_or("within the limits")?;
-    Ok(check(alloc, &set).ok().ok_or("constrained")?)
+    let graphs = check(alloc, &set).ok().ok_or("constrained")?;
+    Ok(graphs.graph(0).copy(alloc)?)
+}
+
+// The graph, and a new table of its walks up to 5.
+fn start_table(alloc: Global, budget: u64) -> Result<(Graph, Table<DemandLabel>), Fail>
+    requires budget { (1 ≤ budget) × (budget ≤ 1000000) }
+    ensures { IfOk result (λ r. r.0 ≡ r.1.graph) }
+{
+    let graph = make_graph(alloc)?;
+    let table: Table<DemandLabel> = Table::start(alloc, &graph, 5, budget)?;
+    Ok((graph, table))
 }
 
 // Makes the calls one after another, as long as each may be made and is answered as wanted, and says whether all are.
@@ -186,6 +189,17 @@ fn are_done(table: &Table<DemandLabel>) -> bool {
     true
 }
 
+// Whether the kept nodes are those of both rows' end, with the demands of their labels.
+fn has_end_front(alloc: Global, graph: &Graph, table: &Table<DemandLabel>) -> Result<bool, Fail>
+    requires { graph.now ≡ table.now.graph }
+{
+    let kept = kept_nodes(alloc, graph, table)?;
+    let labels = labels_of(alloc, table, kept.as_slice())?;
+    let demands = [(0, 0), (1, 2), (2, 3), (4, 3), (5, 4), (100, 4)];
+    let are_kept = kept.as_slice() == [0, 1, 5, 4, 2].as_slice();
+    Ok(are_kept && have_demands(graph, labels.as_slice(), &demands))
+}
+
 // Whether the table has what both rows end with: the nodes as they stand, the log's length, a walk and the demands.
 fn is_end(alloc: Global, graph: &Graph, table: &Table<DemandLabel>) -> Result<bool, Fail>
     requires { graph.now ≡ table.now.graph }
@@ -193,169 +207,203 @@ fn is_end(alloc: Global, graph: &Graph, table: &Table<DemandLabel>) -> Result<bo
     if !table.finished() || table.log().len() != 15 || table.node_count() != 6 {
         return Ok(false);
     }
-    let kept = kept_nodes(alloc, graph, table)?;
-    let labels = labels_of(alloc, table, kept.as_slice())?;
-    let demands = [(0, 0), (1, 2), (2, 3), (4, 3), (5, 4), (100, 4)];
     Ok(
         are_done(table)
-            && kept.as_slice() == [0, 1, 5, 4, 2].as_slice()
             && has_walk(alloc, table, 5, &[1, 2, 2])?
-            && have_demands(graph, labels.as_slice(), &demands),
+            && has_end_front(alloc, graph, table)?,
     )
 }
 
 // Whether a new table answers all calls, and then has what both rows end with.
 fn ends(alloc: Global, calls: &[Call]) -> Result<bool, Fail> {
-    let graphs = graphs(alloc)?;
-    let graph = graphs.graph(0);
-    let mut table: Table<DemandLabel> = Table::start(alloc, graph, 5, 1000)?;
+    let (graph, mut table) = start_table(alloc, 1000)?;
     if table.finished() {
         return Ok(false);
     }
-    Ok(are_answered(alloc, graph, &mut table, calls)? && is_end(alloc, graph, &table)?)
+    let are_so = are_answered(alloc, &graph, &mut table, calls)?;
+    Ok(are_so && is_end(alloc, &graph, &table)?)
 }
+
+const THREE: [Call; 18] = [
+    (0, TAKE, TableReply::Taken(0)),
+    (1, TAKE, TableReply::Taken(1)),
+    (
+        0,
+        TableStep::Offer { node: 0, edge: 0 },
+        TableReply::Added(3),
+    ),
+    (0, TableStep::Close { node: 0 }, TableReply::Closed),
+    (2, TAKE, TableReply::Taken(2)),
+    (0, TAKE, TableReply::Busy(1)),
+    (
+        1,
+        TableStep::Offer { node: 1, edge: 0 },
+        TableReply::Added(4),
+    ),
+    (1, TableStep::Close { node: 1 }, TableReply::Closed),
+    (
+        2,
+        TableStep::Offer { node: 2, edge: 0 },
+        TableReply::Dominated(4),
+    ),
+    (2, TableStep::Close { node: 2 }, TableReply::Closed),
+    (0, TAKE, TableReply::Taken(4)),
+    (1, TAKE, TableReply::Busy(4)),
+    (
+        0,
+        TableStep::Offer { node: 4, edge: 0 },
+        TableReply::Added(5),
+    ),
+    (0, TableStep::Close { node: 4 }, TableReply::Closed),
+    (1, TAKE, TableReply::Taken(5)),
+    (
+        1,
+        TableStep::Offer { node: 5, edge: 0 },
+        TableReply::OutOfRange,
+    ),
+    (1, TableStep::Close { node: 5 }, TableReply::Closed),
+    (0, TAKE, TableReply::Finished),
+];
 
 #[test]
 fn three_workers_step_one_table(rt: HostRuntime) -> Result<(), Fail> {
-    let calls = [
-        (0, TAKE, TableReply::Taken(0)),
-        (1, TAKE, TableReply::Taken(1)),
-        (0, offer(0, 0), TableReply::Added(3)),
-        (0, close(0), TableReply::Closed),
-        (2, TAKE, TableReply::Taken(2)),
-        (0, TAKE, TableReply::Busy(1)),
-        (1, offer(1, 0), TableReply::Added(4)),
-        (1, close(1), TableReply::Closed),
-        (2, offer(2, 0), TableReply::Dominated(4)),
-        (2, close(2), TableReply::Closed),
-        (0, TAKE, TableReply::Taken(4)),
-        (1, TAKE, TableReply::Busy(4)),
-        (0, offer(4, 0), TableReply::Added(5)),
-        (0, close(4), TableReply::Closed),
-        (1, TAKE, TableReply::Taken(5)),
-        (1, offer(5, 0), TableReply::OutOfRange),
-        (1, close(5), TableReply::Closed),
-        (0, TAKE, TableReply::Finished),
-    ];
-    assert!(rt; ends(rt.alloc(), calls.as_slice())?);
+    assert!(rt; ends(rt.alloc(), &THREE)?);
     Ok(())
 }
 
-// Whether a new table answers the three lists of calls one after another. Node 3 waits after the first, and node 4 drops it in the second.
-fn ends_in_order(
+const BEFORE: [Call; 2] = [
+    (0, TAKE, TableReply::Taken(0)),
+    (
+        0,
+        TableStep::Offer { node: 0, edge: 0 },
+        TableReply::Added(3),
+    ),
+];
+
+const AFTER: [Call; 3] = [
+    (0, TableStep::Close { node: 0 }, TableReply::Closed),
+    (0, TAKE, TableReply::Taken(1)),
+    (
+        0,
+        TableStep::Offer { node: 1, edge: 0 },
+        TableReply::Added(4),
+    ),
+];
+
+const REST: [Call; 11] = [
+    (0, TableStep::Close { node: 1 }, TableReply::Closed),
+    (0, TAKE, TableReply::Taken(2)),
+    (
+        0,
+        TableStep::Offer { node: 2, edge: 0 },
+        TableReply::Dominated(4),
+    ),
+    (0, TableStep::Close { node: 2 }, TableReply::Closed),
+    (0, TAKE, TableReply::Taken(4)),
+    (
+        0,
+        TableStep::Offer { node: 4, edge: 0 },
+        TableReply::Added(5),
+    ),
+    (0, TableStep::Close { node: 4 }, TableReply::Closed),
+    (0, TAKE, TableReply::Taken(5)),
+    (
+        0,
+        TableStep::Offer { node: 5, edge: 0 },
+        TableReply::OutOfRange,
+    ),
+    (0, TableStep::Close { node: 5 }, TableReply::Closed),
+    (0, TAKE, TableReply::Finished),
+];
+
+// Whether the table answers the three lists of calls one after another. Node 3 waits after the first, and node 4 drops it in the second.
+fn are_answered_in_order(
     alloc: Global,
-    before: &[Call],
-    after: &[Call],
-    rest: &[Call],
-) -> Result<bool, Fail> {
-    let graphs = graphs(alloc)?;
-    let graph = graphs.graph(0);
-    let mut table: Table<DemandLabel> = Table::start(alloc, graph, 5, 1000)?;
-    Ok(
-        are_answered(alloc, graph, &mut table, before)?
-            && state(&table, 0) == Some((NodeState::Taken(0), None))
-            && state(&table, 3) == Some((NodeState::Pending, None))
-            && are_answered(alloc, graph, &mut table, after)?
-            && state(&table, 3) == Some((NodeState::Done, Some(4)))
-            && state(&table, 4) == Some((NodeState::Pending, None))
-            && are_answered(alloc, graph, &mut table, rest)?
-            && is_end(alloc, graph, &table)?,
-    )
+    graph: &Graph,
+    table: &mut Table<DemandLabel>,
+) -> Result<bool, Memory>
+    requires { graph.now ≡ table.old.graph }
+    ensures { graph.now ≡ table.new.graph }
+{
+    let are_before = are_answered(alloc, graph, table, &BEFORE)?
+        && state(table, 0) == Some((NodeState::Taken(0), None))
+        && state(table, 3) == Some((NodeState::Pending, None));
+    let are_after = are_answered(alloc, graph, table, &AFTER)?
+        && state(table, 3) == Some((NodeState::Done, Some(4)))
+        && state(table, 4) == Some((NodeState::Pending, None));
+    if !are_before || !are_after {
+        return Ok(false);
+    }
+    are_answered(alloc, graph, table, &REST)
+}
+
+// Whether a new table does, and then has what both rows end with.
+fn ends_in_order(alloc: Global) -> Result<bool, Fail> {
+    let (graph, mut table) = start_table(alloc, 1000)?;
+    let are_so = are_answered_in_order(alloc, &graph, &mut table)?;
+    Ok(are_so && is_end(alloc, &graph, &table)?)
 }
 
 #[test]
 fn one_worker_takes_the_nodes_in_order_of_offset(rt: HostRuntime) -> Result<(), Fail> {
-    let before = [
-        (0, TAKE, TableReply::Taken(0)),
-        (0, offer(0, 0), TableReply::Added(3)),
-    ];
-    let after = [
-        (0, close(0), TableReply::Closed),
-        (0, TAKE, TableReply::Taken(1)),
-        (0, offer(1, 0), TableReply::Added(4)),
-    ];
-    let rest = [
-        (0, close(1), TableReply::Closed),
-        (0, TAKE, TableReply::Taken(2)),
-        (0, offer(2, 0), TableReply::Dominated(4)),
-        (0, close(2), TableReply::Closed),
-        (0, TAKE, TableReply::Taken(4)),
-        (0, offer(4, 0), TableReply::Added(5)),
-        (0, close(4), TableReply::Closed),
-        (0, TAKE, TableReply::Taken(5)),
-        (0, offer(5, 0), TableReply::OutOfRange),
-        (0, close(5), TableReply::Closed),
-        (0, TAKE, TableReply::Finished),
-    ];
-    assert!(rt;
-        ends_in_order(
-            rt.alloc(),
-            before.as_slice(),
-            after.as_slice(),
-            rest.as_slice()
-        )?
-    );
+    assert!(rt; ends_in_order(rt.alloc())?);
     Ok(())
 }
 
 // Whether a new table with a budget of one answers the calls, and then isn't finished, with one entry in its log and node 0 still taken.
 fn is_spent(alloc: Global, calls: &[Call]) -> Result<bool, Fail> {
-    let graphs = graphs(alloc)?;
-    let graph = graphs.graph(0);
-    let mut table: Table<DemandLabel> = Table::start(alloc, graph, 5, 1)?;
-    Ok(
-        are_answered(alloc, graph, &mut table, calls)?
-            && !table.finished()
-            && table.log().len() == 1
-            && state(&table, 0) == Some((NodeState::Taken(0), None)),
-    )
+    let (graph, mut table) = start_table(alloc, 1)?;
+    let are_so = are_answered(alloc, &graph, &mut table, calls)?;
+    let is_logged = !table.finished() && table.log().len() == 1;
+    Ok(are_so && is_logged && state(&table, 0) == Some((NodeState::Taken(0), None)))
 }
+
+const SPENT: [Call; 3] = [
+    (0, TAKE, TableReply::Taken(0)),
+    (0, TableStep::Offer { node: 0, edge: 0 }, TableReply::Spent),
+    (1, TAKE, TableReply::Spent),
+];
 
 #[test]
 fn a_budget_of_one_is_spent_after_one_take(rt: HostRuntime) -> Result<(), Fail> {
-    let calls = [
-        (0, TAKE, TableReply::Taken(0)),
-        (0, offer(0, 0), TableReply::Spent),
-        (1, TAKE, TableReply::Spent),
-    ];
-    assert!(rt; is_spent(rt.alloc(), calls.as_slice())?);
+    assert!(rt; is_spent(rt.alloc(), &SPENT)?);
     Ok(())
 }
 
 // Whether a new table makes none of the calls after the first one has taken node 0, and has one entry in its log.
 fn refuses(alloc: Global, calls: &[(u32, TableStep)]) -> Result<bool, Fail> {
-    let graphs = graphs(alloc)?;
-    let graph = graphs.graph(0);
-    let mut table: Table<DemandLabel> = Table::start(alloc, graph, 5, 1000)?;
-    let take = [(0, TAKE, TableReply::Taken(0))];
-    Ok(
-        are_answered(alloc, graph, &mut table, &take)?
-            && are_refused(alloc, graph, &mut table, calls)?
-            && table.log().len() == 1,
-    )
+    let (graph, mut table) = start_table(alloc, 1000)?;
+    let is_taken = are_answered(
+        alloc,
+        &graph,
+        &mut table,
+        &[(0, TAKE, TableReply::Taken(0))],
+    )?;
+    let are_refused = are_refused(alloc, &graph, &mut table, calls)?;
+    Ok(is_taken && are_refused && table.log().len() == 1)
 }
+
+const REFUSED: [(u32, TableStep); 6] = [
+    // It holds node 0.
+    (0, TAKE),
+    // It holds another node, or none.
+    (0, TableStep::Offer { node: 1, edge: 0 }),
+    (1, TableStep::Offer { node: 0, edge: 0 }),
+    (1, TableStep::Close { node: 0 }),
+    // Edge 0 is the next one, and isn't offered yet.
+    (0, TableStep::Offer { node: 0, edge: 1 }),
+    (0, TableStep::Close { node: 0 }),
+];
 
 #[test]
 fn a_step_whose_conditions_do_not_hold_is_not_made(rt: HostRuntime) -> Result<(), Fail> {
-    let refused = [
-        // It holds node 0.
-        (0, TAKE),
-        // It holds another node, or none.
-        (0, offer(1, 0)),
-        (1, offer(0, 0)),
-        (1, close(0)),
-        // Edge 0 is the next one, and isn't offered yet.
-        (0, offer(0, 1)),
-        (0, close(0)),
-    ];
-    assert!(rt; refuses(rt.alloc(), refused.as_slice())?);
+    assert!(rt; refuses(rt.alloc(), &REFUSED)?);
     Ok(())
 }
 
 // With its link of 8 bytes in the list of its vertex a node of a demand table takes 56 bytes.
 #[test]
 fn a_node_takes_48_bytes_and_an_entry_of_the_log_16(rt: HostRuntime) {
-    assert_eq!(rt; size_of::<Node<DemandLabel>>(), 48);
-    assert_eq!(rt; size_of::<Option<u32>>(), 8);
-    assert!(rt; size_of::<Entry>() <= 16);
+    assert!(rt; size_of::<Node<DemandLabel>>() == 48);
+    assert!(rt; size_of::<Option<u32>>() == 8 && size_of::<Entry>() <= 16);
 }
