@@ -1,9 +1,9 @@
 //! Whether the numbers of evidence are in range.
 ghost use Rattle.std.specs.Prelude.{◌↔◌, All, IsTrue};
-ghost use Rattle.drt_evidence.specs.Ranges.{IsInRange, IsInRangeCurve, IsInRangeEnd, IsInRangeJump, IsInRangeRelease, IsInRangeSearch, IsInRangeState, IsInRangeStateEntry, IsInRangeTail};
+ghost use Rattle.drt_evidence.specs.Ranges.{IsInRange, IsInRangeCurve, IsInRangeEnd, IsInRangeJump, IsInRangeMiss, IsInRangeRelease, IsInRangeSearch, IsInRangeState, IsInRangeStateEntry, IsInRangeTail, IsNumber};
 
 use drt_evidence::Evidence;
-use drt_model::{Release, Row};
+use drt_model::{Miss, Release, Row};
 use drt_states::{Jump, SearchClaim, StateClaim, StateEnd, StateEntry, TailClaim};
 
 // The greatest count of a list.
@@ -27,7 +27,7 @@ pub(crate) fn is_in_range(evidence: &Evidence) -> bool
         }
         Evidence::FixedNo { releases, miss } => {
             let releases = releases.as_slice();
-            releases.len() <= MOST_ITEMS && all_releases(releases) && miss.deadline <= MOST_TICKS
+            releases.len() <= MOST_ITEMS && all_releases(releases) && is_miss(*miss)
         }
         _ => false,
     }
@@ -77,7 +77,7 @@ fn is_search(search: &SearchClaim) -> bool
     ensures { IsTrue result ↔ IsInRangeSearch search.now }
 {
     let states = search.states.as_slice();
-    states.len() <= MOST_ITEMS && all_states(states)
+    are_numbers(search.task, search.vertex) && states.len() <= MOST_ITEMS && all_states(states)
 }
 
 fn all_states(states: &[StateClaim]) -> bool
@@ -105,7 +105,7 @@ fn all_entries(entries: &[StateEntry]) -> bool
 fn is_entry(entry: &StateEntry) -> bool
     ensures { IsTrue result ↔ IsInRangeStateEntry entry.now }
 {
-    entry.offset <= MOST_TICKS
+    are_numbers(entry.place, entry.vertex) && entry.offset <= MOST_TICKS
 }
 
 fn is_end(end: &StateEnd) -> bool
@@ -113,12 +113,49 @@ fn is_end(end: &StateEnd) -> bool
 {
     match end {
         StateEnd::Passes(time) => *time <= MOST_TICKS,
-        StateEnd::Splits { .. } => true,
+        StateEnd::Splits { place, children } => {
+            is_number(*place) && all_numbers(children.as_slice())
+        }
     }
 }
 
 fn all_releases(releases: &[Release]) -> bool
     ensures { IsTrue result ↔ All IsInRangeRelease releases.now }
 {
-    releases.iter().all(|release| release.time <= MOST_TICKS && release.need <= MOST_TICKS)
+    releases.iter().all(is_release)
+}
+
+fn is_release(release: &Release) -> bool
+    ensures { IsTrue result ↔ IsInRangeRelease release.now }
+{
+    are_numbers(release.task, release.vertex)
+        && release.time <= MOST_TICKS
+        && release.need <= MOST_TICKS
+}
+
+fn is_miss(miss: Miss) -> bool
+    ensures { IsTrue result → IsInRangeMiss miss }
+{
+    are_numbers(miss.task, miss.index) && miss.deadline <= MOST_TICKS
+}
+
+fn all_numbers(numbers: &[u32]) -> bool
+    ensures { IsTrue result ↔ All IsNumber numbers.now }
+{
+    numbers.iter().all(|number| is_number(*number))
+}
+
+// Each number of 32 bits is one of a text.
+fn is_number(number: u32) -> bool
+    ensures value { IsTrue result }
+    ensures number { IsNumber number }
+{
+    number <= u32::MAX
+}
+
+fn are_numbers(first: u32, second: u32) -> bool
+    ensures value { IsTrue result }
+    ensures numbers { IsNumber first × IsNumber second }
+{
+    is_number(first) && is_number(second)
 }

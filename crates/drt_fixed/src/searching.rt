@@ -135,7 +135,8 @@ fn search_vertex(
     requires place { place < length given.order.now }
 {
     let is_within = wcet <= MOST_TICKS && 1 <= deadline && deadline <= MOST_TICKS;
-    if place > given.tails.len() || place > MOST_HIGHER || !is_within {
+    let is_there = place <= given.tails.len() && place <= given.crests.len();
+    if !is_there || place > MOST_HIGHER || !is_within {
         return Ok(Searched::Spent);
     }
     let subject = Subject {

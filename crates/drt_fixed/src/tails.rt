@@ -25,17 +25,18 @@ pub(crate) fn find_tails(
     ensures { IfOk result (λ r. IfSome r (λ tails. All HasRisingCurves tails.items)) }
 {
     let bounds = find_bounds(alloc, graphs, order)?;
-    let mut tails = Vec::with_capacity(alloc, bounds.len())?;
-    for (task, bound) in order.iter().zip(bounds.iter()) {
-        match tail_at(alloc, graphs, *task, *bound)? {
-            Some(tail) => tails.push(tail)?,
-            None => return Ok(None),
-        }
+    let mut tails = Vec::new(alloc);
+    for i in 0..order.len().saturating_sub(1) {
+        let bound = bounds.get(i).copied().unwrap_or(0);
+        let Some(tail) = tail_at(alloc, graphs, order[i], bound)? else {
+            return Ok(None);
+        };
+        tails.push(tail)?;
     }
     Ok(Some(tails))
 }
 
-// The tail of a task up to the bound.
+// The tail of a task up to the bound. None where no task is of lower priority.
 fn tail_at(
     alloc: Global,
     graphs: &Graphs,
@@ -51,7 +52,7 @@ fn tail_at(
     find_tail(alloc, graphs.graph(task), u64::from(bound), MOST_STEPS)
 }
 
-// For each place but the last one the greatest deadline of the tasks behind it.
+// For each place the greatest deadline of the tasks behind it, 0 for the last one.
 fn find_bounds(alloc: Global, graphs: &Graphs, order: &[u32]) -> Result<Vec<u32>, Memory>
     requires { AreTasks graphs.now order.now }
 {
@@ -62,7 +63,6 @@ fn find_bounds(alloc: Global, graphs: &Graphs, order: &[u32]) -> Result<Vec<u32>
         bound = bound.max(latest_deadline(graphs.graph(*task)));
     }
     bounds.reverse();
-    bounds.pop();
     Ok(bounds)
 }
 
