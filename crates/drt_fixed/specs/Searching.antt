@@ -1,12 +1,11 @@
 -- What the searches of all vertices are given, and what they find.
 use Rattle.std.specs.List.{All}
-use Rattle.drt_evidence.specs.declared.evidence.Evidence.{Evidence}
 use Rattle.drt_check_states.specs.Crests.{AreCrests}
 use Rattle.drt_check_states.specs.Curves.{HasRisingCurves}
 use Rattle.drt_check_states.specs.Places.{AreTasks}
 use Rattle.drt_fixed.specs.Answers.{IsOfStates}
 use Rattle.drt_fixed.specs.declared.searching.Found.{Found}
-use Rattle.drt_fixed.specs.declared.searching.Found.TheVariants.{Searches, Refusal, Nothing}
+use Rattle.drt_fixed.specs.declared.searching.Found.TheVariants.{Refusal}
 use Rattle.drt_fixed.specs.declared.searching.Given.{Given}
 
 -- The order has numbers of tasks that have a graph, the tails rise, and the crests are theirs.

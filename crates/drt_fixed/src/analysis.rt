@@ -99,7 +99,8 @@ pub fn decide_by_states(
     }
     let dossier = dossier_of(set, evidence);
     match check(alloc, &dossier)? {
-        Judgement::Schedulable | Judgement::Unschedulable => Ok(ByStates::Decided(dossier)),
+        Judgement::Schedulable => Ok(ByStates::Decided(dossier)),
+        Judgement::Unschedulable => Ok(ByStates::Decided(dossier)),
         _ => Ok(ByStates::Nothing(dossier.set)),
     }
 }

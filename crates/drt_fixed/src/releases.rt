@@ -71,7 +71,7 @@ fn add_releases(
     let mut time: u64 = 0;
     for i in 0..walk.len() {
         if i > 0 {
-            match graph.separation(walk[i - 1], walk[i]) {
+            match gap_between(graph, walk[i - 1], walk[i]) {
                 Some(gap) => time = time.saturating_add(u64::from(gap)),
                 None => return Ok(()),
             }
@@ -82,6 +82,14 @@ fn add_releases(
         releases.push(release_of(graph, task, walk[i], time))?;
     }
     Ok(())
+}
+
+// The separation of the edge from one vertex to another, where there is one.
+fn gap_between(graph: &Graph, from: u32, to: u32) -> Option<u32> {
+    if from >= graph.vertex_count() {
+        return None;
+    }
+    graph.separation(from, to)
 }
 
 // The release of a vertex at this time, with its whole execution time.

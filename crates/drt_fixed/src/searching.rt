@@ -1,7 +1,9 @@
 //! The searches of all vertices.
-ghost use Rattle.std.specs.Prelude.{◌≡◌, ◌≤◌, ◌<◌, IfOk, IfSome, length};
+ghost use Rattle.std.specs.Prelude.{◌≡◌, ◌<◌, ◌↔◌, All, IfOk, IfSome, IsTrue, length};
 ghost use Rattle.drt_model.specs.Constrained.{AreConstrained};
 ghost use Rattle.drt_evidence.specs.Claims.{graphs_of};
+ghost use Rattle.drt_check_states.specs.Curves.{HasRisingCurves};
+ghost use Rattle.drt_check_states.specs.Places.{AreTasks};
 ghost use Rattle.drt_fixed.specs.Answers.{IsOfStates};
 ghost use Rattle.drt_fixed.specs.Searching.{IsFound, IsGiven};
 
@@ -54,13 +56,40 @@ pub(crate) fn find_by_states(
     ensures { IfOk result (λ found. IfSome found IsOfStates) }
 {
     let order = priority_order(alloc, set)?;
-    let Some(tails) = find_tails(alloc, graphs, order.as_slice())? else {
+    let order = order.as_slice();
+    if !are_tasks(graphs, order) {
         return Ok(None);
-    };
+    }
+    match find_tails(alloc, graphs, order)? {
+        Some(tails) => find_over(alloc, graphs, order, tails, budget),
+        None => Ok(None),
+    }
+}
+
+// Whether the numbers are those of tasks.
+fn are_tasks(graphs: &Graphs, order: &[u32]) -> bool
+    ensures { IsTrue result ↔ AreTasks graphs.now order.now }
+{
+    let count = graphs.count();
+    order.iter().all(|task| *task < count)
+}
+
+// The evidence over these tails of the tasks, which stand in order of priority.
+fn find_over(
+    alloc: Global,
+    graphs: &Graphs,
+    order: &[u32],
+    tails: Vec<TailClaim>,
+    budget: u64,
+) -> Result<Option<Evidence>, Memory>
+    requires order { AreTasks graphs.now order.now }
+    requires tails { All HasRisingCurves tails.items }
+    ensures { IfOk result (λ found. IfSome found IsOfStates) }
+{
     let crests = find_crests(alloc, &tails)?;
     let given = Given {
         graphs,
-        order: order.as_slice(),
+        order,
         tails: &tails,
         crests: crests.as_slice(),
         budget,
@@ -134,9 +163,10 @@ fn search_vertex(
     requires given { IsGiven given }
     requires place { place < length given.order.now }
 {
-    let is_within = wcet <= MOST_TICKS && 1 <= deadline && deadline <= MOST_TICKS;
-    let is_there = place <= given.tails.len() && place <= given.crests.len();
-    if !is_there || place > MOST_HIGHER || !is_within {
+    if place > given.tails.len() || place > given.crests.len() || place > MOST_HIGHER {
+        return Ok(Searched::Spent);
+    }
+    if wcet > MOST_TICKS || deadline == 0 || deadline > MOST_TICKS {
         return Ok(Searched::Spent);
     }
     let subject = Subject {

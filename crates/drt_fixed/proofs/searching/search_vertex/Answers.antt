@@ -1,16 +1,18 @@
-use Rattle.std.proofs.Common.{arith}
+use Rattle.std.proofs.Common.{◌<◌, length, arith}
+use Rattle.std.proofs.lemmas.Grind.{common_steps}
 use Rattle.std.proofs.lemmas.List.Elements.{All-take}
 use Rattle.drt_check_states.specs.Crests.{IsCrest}
+use Rattle.drt_check_states.specs.Curves.{HasRisingCurves}
 use Rattle.drt_fixed.proofs.Prefixes.{zip_take}
 use Rattle.drt_fixed.proofs.searching.search_vertex.Goals as goal
 
 pub search_states-requires : goal.search_states-requires
 search_states-requires c = record {
-  order = All-take _ c.args.place c.args.given.order.now c.requires.given.order;
-  tails = All-take _ c.args.place c.args.given.tails.now c.requires.given.tails;
+  order = All-take (λ k. k < length c.args.given.graphs.now) c.args.place c.args.given.order.now c.requires.given.order;
+  tails = All-take HasRisingCurves c.args.place c.args.given.tails.now c.requires.given.tails;
   crests = zip_take IsCrest c.args.place c.args.given.tails.now c.args.given.crests.now c.requires.given.crests;
-  few = cc;
-  wcet = cc;
-  some = cc;
-  most = cc;
+  few = grind (arith, common_steps);
+  wcet = grind (arith, common_steps);
+  some = grind (arith, common_steps);
+  most = grind (arith, common_steps);
 }

@@ -1,0 +1,44 @@
+-- What the checker accepts is decided.
+use Rattle.std.proofs.Common.{inr, refl}
+use Rattle.drt_model.specs.Contents.{Contents}
+use Rattle.drt_model.specs.Schedulable.{Schedulable}
+use Rattle.drt_model.specs.declared.jobs.Policy.TheVariants.{Fixed}
+use Rattle.drt_evidence.specs.Ranges.{IsInRange}
+use Rattle.drt_evidence.specs.declared.evidence.Evidence.{Evidence}
+use Rattle.drt_evidence.specs.declared.evidence.Evidence.TheVariants.{EdfYes, EdfNo, UtilisationOne, FixedYes, FixedStates, FixedNo, Undecided}
+use Rattle.drt_check.specs.Judging.{IsClaimed}
+use Rattle.drt_check.specs.declared.judgement.Judgement.TheVariants as judgements
+use Rattle.drt_sp.specs.Evidence.{under_fixed}
+use Rattle.drt_fixed.specs.Answers.{IsDecision, IsOfStates}
+
+-- A yes.
+pub yes_decided : (set : Contents) (evidence : Evidence) → IsOfStates evidence → IsInRange evidence → IsClaimed (under_fixed set evidence) judgements.Schedulable
+    → Schedulable set.tasks Fixed → IsDecision set (under_fixed set evidence)
+yes_decided set (EdfYes ratios fronts) kind range claimed is = absurd kind
+yes_decided set (EdfNo releases miss) kind range claimed is = absurd kind
+yes_decided set (UtilisationOne ratios) kind range claimed is = absurd kind
+yes_decided set (FixedYes trees proofs) kind range claimed is = absurd kind
+yes_decided set (FixedStates tails searches) kind range claimed is = record {
+  evidence = FixedStates tails searches;
+  dossier_is = refl;
+  in_range = range;
+  says = λ budget. (refl, record { schedulable = is; accepted = claimed.0; kind = inr tt; exact = λ trees proofs e. absurd (cc) });
+}
+yes_decided set (FixedNo releases miss) kind range claimed is = let e = claimed.1 in absurd (cc)
+yes_decided set Undecided kind range claimed is = absurd kind
+
+-- A no.
+pub no_decided : (set : Contents) (evidence : Evidence) → IsOfStates evidence → IsInRange evidence → IsClaimed (under_fixed set evidence) judgements.Unschedulable
+    → ¬ Schedulable set.tasks Fixed → IsDecision set (under_fixed set evidence)
+no_decided set (EdfYes ratios fronts) kind range claimed not = absurd kind
+no_decided set (EdfNo releases miss) kind range claimed not = absurd kind
+no_decided set (UtilisationOne ratios) kind range claimed not = absurd kind
+no_decided set (FixedYes trees proofs) kind range claimed not = absurd kind
+no_decided set (FixedStates tails searches) kind range claimed not = let e = claimed.1 in absurd (cc)
+no_decided set (FixedNo releases miss) kind range claimed not = record {
+  evidence = FixedNo releases miss;
+  dossier_is = refl;
+  in_range = range;
+  says = λ budget. (refl, record { not_schedulable = not; accepted = claimed.0 });
+}
+no_decided set Undecided kind range claimed not = absurd kind
