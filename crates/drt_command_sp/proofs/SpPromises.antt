@@ -10,16 +10,14 @@ use Rattle.drt_evidence.specs.declared.evidence.Evidence.TheVariants.{EdfYes, Ed
 use Rattle.drt_command.specs.declared.report.Report.{Report}
 use Rattle.drt_command.specs.declared.report.Unmade.{Unmade}
 use Rattle.drt_command.specs.Rules.{AreLawful}
-use Rattle.drt_outcome.specs.declared.fault.Fault.{Fault}
 use Rattle.drt_outcome.specs.declared.outcome.Trail.{Trail}
 use Rattle.drt_outcome.specs.declared.outcome.Trail.TheVariants as trails
-use Rattle.drt_outcome.specs.Stops.{fault_status}
 use Rattle.drt_fixed.specs.Answers.{IsSaid}
 use Rattle.drt_sp.specs.Evidence.{under_fixed}
 use Rattle.drt_sp.specs.Laws.{BudgetsSuffice}
 use Rattle.drt_trails.specs.declared.FixedTrail.{FixedTrail}
 use Rattle.drt_command_files.specs.Dossiers.{evidence_status}
-use Rattle.drt_command_files.specs.TaskFiles.{IsAccepted, IsFileFault}
+use Rattle.drt_command_files.specs.TaskFiles.{IsAccepted}
 use Rattle.drt_command_sp.specs.Sp.{Analyses, IsSpNoText, IsSpUndecidedText, IsSpYesText, SpEnds, sp_rules, trail_after}
 use Rattle.drt_command_files.proofs.TaskFileLemmas.{accepted_one, accepted_well, fault_one, long_file}
 

@@ -6,7 +6,10 @@ ghost use Rattle.drt_command.specs.declared.input.Input.{Input};
 ghost use Rattle.drt_command.specs.Inputs.{IsWithin};
 ghost use Rattle.drt_command.specs.Rules.{IsCause};
 ghost use Rattle.drt_command.specs.Runs.{IsRun};
-ghost use Rattle.drt_command_sp.specs.Sp.{Analyses, sp_rules, trail_of};
+ghost use Rattle.drt_model.specs.declared.jobs.Policy.TheVariants.{Fixed};
+ghost use Rattle.drt_evidence.specs.Text.{text};
+ghost use Rattle.drt_command_files.specs.Dossiers.{evidence_status};
+ghost use Rattle.drt_command_sp.specs.Sp.{Analyses, sp_rules, trail_after, trail_of};
 ghost use Rattle.drt_command_files.specs.TaskFiles.{IsAccepted};
 
 use drt_command::{Promised, Report, Unmade, finish, read_input, stop_reading};
