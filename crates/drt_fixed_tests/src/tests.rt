@@ -1,3 +1,8 @@
+//! Small sets answered by tails and states, and which of trees and states answers a set.
+ghost use Rattle.std.specs.Prelude.{◌≡◌, IfOk};
+ghost use Rattle.drt_model.specs.Constrained.{AreConstrained};
+ghost use Rattle.drt_evidence.specs.Claims.{graphs_of};
+
 use drt_drawn::{Draws, drawn_set};
 use drt_evidence::{Dossier, Evidence};
 use drt_fixed::{Analysed, ByStates, analyse_fixed, decide_by_states};
@@ -49,7 +54,11 @@ fn claim_of(dossier: &Dossier) -> Claim {
     }
 }
 
-fn graphs_of(alloc: Global, set: &TaskSet) -> Result<Graphs, Fail> {
+// The graphs of a set, where its deadlines are constrained.
+fn make_graphs(alloc: Global, set: &TaskSet) -> Result<Graphs, Fail>
+    ensures constrained { IfOk result (λ graphs. AreConstrained set.now.tasks) }
+    ensures graphs { IfOk result (λ graphs. graphs ≡ graphs_of set.now.tasks) }
+{
     match check(alloc, set) {
         Ok(graphs) => Ok(graphs),
         Err(_) => Err("constrained deadlines".into()),
@@ -58,7 +67,7 @@ fn graphs_of(alloc: Global, set: &TaskSet) -> Result<Graphs, Fail> {
 
 // What tails and states say of a set.
 fn claim_by_states(alloc: Global, set: TaskSet) -> Result<Claim, Fail> {
-    let graphs = graphs_of(alloc, &set)?;
+    let graphs = make_graphs(alloc, &set)?;
     match decide_by_states(alloc, set, &graphs, BUDGET)? {
         ByStates::Decided(dossier) => Ok(claim_of(&dossier)),
         ByStates::Nothing(_) => Ok(Claim::Nothing),
@@ -68,7 +77,7 @@ fn claim_by_states(alloc: Global, set: TaskSet) -> Result<Claim, Fail> {
 // What a plain program says of a drawn set, and what tails and states say.
 fn drawn_claims(alloc: Global, draws: &mut Draws) -> Result<(bool, Claim), Fail> {
     let set = drawn_set(alloc, draws)?.ok_or("within the limits")?;
-    let graphs = graphs_of(alloc, &set)?;
+    let graphs = make_graphs(alloc, &set)?;
     let plain = is_schedulable(alloc, &set, &graphs)?;
     Ok((plain, claim_by_states(alloc, set)?))
 }
@@ -80,7 +89,7 @@ fn claim_on<R: Threads + Wait + Sync>(
     shapes: &[Shape<'_>],
 ) -> Result<Claim, Fail> {
     let set = make_set(alloc, shapes)?.ok_or("within the limits")?;
-    let graphs = graphs_of(alloc, &set)?;
+    let graphs = make_graphs(alloc, &set)?;
     let Analysed { dossier, .. } = analyse_fixed(rt, alloc, set, &graphs, 1, BUDGET, &OpenGate)?;
     Ok(claim_of(&dossier))
 }
