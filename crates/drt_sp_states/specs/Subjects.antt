@@ -4,9 +4,10 @@ use Rattle.std.specs.List.{All}
 use Rattle.drt_check_states.specs.Crests.{AreCrests}
 use Rattle.drt_check_states.specs.Curves.{HasRisingCurves}
 use Rattle.drt_check_states.specs.Places.{AreTasks, graphs_at}
-use Rattle.drt_sp_states.specs.Answers.{IsAnswer}
+use Rattle.drt_sp_states.specs.Answers.{IsAnswer, IsResponse}
 use Rattle.drt_sp_states.specs.Trials.{IsTrial}
 use Rattle.drt_sp_states.specs.declared.places.Subject.{Subject}
+use Rattle.drt_sp_states.specs.declared.response.Responded.{Responded}
 use Rattle.drt_sp_states.specs.declared.search.Searched.{Searched}
 use Rattle.drt_sp_states.specs.declared.trials.Trial.{Trial}
 
@@ -27,3 +28,7 @@ IsAnswerTo s answer = IsAnswer (graphs_at s.graphs.now s.order.now) s.tails.now 
 -- What is said of a trial of the subject.
 abbrev pub IsTrialOf : Subject → Trial → Type 0
 IsTrialOf s trial = IsTrial (graphs_at s.graphs.now s.order.now) s.wcet s.deadline trial
+
+-- What is said of the greatest response of a subject.
+abbrev pub IsResponseTo : Subject → Responded → Type 0
+IsResponseTo s answer = IsResponse (graphs_at s.graphs.now s.order.now) s.tails.now s.wcet s.deadline answer

@@ -9,6 +9,7 @@ mod curves;
 mod ends;
 mod idle;
 mod places;
+mod response;
 mod search;
 mod stepping;
 mod tables;
@@ -18,4 +19,5 @@ mod trying;
 mod walks;
 
 pub use places::Subject;
+pub use response::{Responded, search_response};
 pub use search::{Searched, search_states};
