@@ -1,4 +1,5 @@
 -- What the searches of all vertices are given, and what they find.
+use Rattle.std.specs.Prelude.{◌≤◌}
 use Rattle.std.specs.List.{All}
 use Rattle.drt_check_states.specs.Crests.{AreCrests}
 use Rattle.drt_check_states.specs.Curves.{HasRisingCurves}
@@ -8,11 +9,12 @@ use Rattle.drt_fixed.specs.declared.searching.Found.{Found}
 use Rattle.drt_fixed.specs.declared.searching.Found.TheVariants.{Refusal}
 use Rattle.drt_fixed.specs.declared.searching.Given.{Given}
 
--- The order has numbers of tasks that have a graph, the tails rise, and the crests are theirs.
+-- The order has numbers of tasks that have a graph, the tails rise, the crests are theirs, and there are 1 to 16 workers.
 pub record IsGiven (g : Given) : Type 0 where
   pub order : AreTasks g.graphs.now g.order.now
   pub tails : All HasRisingCurves g.tails.now
   pub crests : AreCrests g.tails.now g.crests.now
+  pub workers : (1 ≤ g.effort.workers) × (g.effort.workers ≤ 16)
 
 -- A no that is found is one.
 abbrev pub IsFound : Found → Type 0

@@ -56,7 +56,7 @@ pub fn analyse_fixed<G: Gate, R: Threads + Wait + Sync>(
         FixedAnswer::Undecided(trail) if budget <= ALLOWANCE => return Ok(undecided(set, trail)),
         FixedAnswer::Undecided(_) => {}
     }
-    let set = match decide_by_states(alloc, set, graphs, budget)? {
+    let set = match decide_by_states(rt, alloc, set, graphs, workers, budget, gate)? {
         ByStates::Decided(dossier) => {
             return Ok(Analysed {
                 dossier,
@@ -81,17 +81,21 @@ pub enum ByStates {
 }
 
 /// The answer by tails and states, where one is found with this budget of states for each vertex and the checker accepts it.
-pub fn decide_by_states(
+pub fn decide_by_states<G: Gate, R: Threads + Wait + Sync>(
+    rt: &R,
     alloc: Global,
     set: TaskSet,
     graphs: &Graphs,
+    workers: u32,
     budget: u64,
+    gate: &G,
 ) -> Result<ByStates, Memory>
     requires constrained { AreConstrained set.tasks }
     requires graphs { graphs.now ≡ graphs_of set.tasks }
+    requires workers { (1 ≤ workers) × (workers ≤ 16) }
     ensures { IfOk result (IsByStates set) }
 {
-    let Some(evidence) = find_by_states(alloc, &set, graphs, budget)? else {
+    let Some(evidence) = find_by_states(rt, alloc, &set, graphs, workers, budget, gate)? else {
         return Ok(ByStates::Nothing(set));
     };
     if !is_in_range(&evidence) {

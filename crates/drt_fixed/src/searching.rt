@@ -1,5 +1,5 @@
 //! The searches of all vertices.
-ghost use Rattle.std.specs.Prelude.{◌≡◌, ◌<◌, ◌↔◌, All, IfOk, IfSome, IsTrue, length};
+ghost use Rattle.std.specs.Prelude.{◌≡◌, ◌<◌, ◌≤◌, ◌↔◌, All, IfOk, IfSome, IsTrue, length};
 ghost use Rattle.drt_model.specs.Constrained.{AreConstrained};
 ghost use Rattle.drt_evidence.specs.Claims.{graphs_of};
 ghost use Rattle.drt_check_states.specs.Curves.{HasRisingCurves};
@@ -14,24 +14,33 @@ use drt_check_trees::priority_order;
 use drt_evidence::Evidence;
 use drt_graph::Graphs;
 use drt_model::{Memory, Row, TaskSet};
+use drt_pool::Gate;
 use drt_sp_states::{Searched, Subject, search_states};
 use drt_states::{Jump, SearchClaim, TailClaim};
 use std::alloc::Global;
+use std::sync::Wait;
+use std::thread::Threads;
 
 // The most tasks of higher priority.
 const MOST_HIGHER: usize = 31;
 // The greatest execution time and the greatest deadline, in ticks.
 const MOST_TICKS: u32 = 1_000_000;
 
+// How many workers take part in the search of a vertex, and how many states it takes at most.
+#[derive(Clone, Copy)]
+struct Effort {
+    effort: Effort,
+}
+
 // What the searches of all vertices are over: the graphs, the tasks in order of priority, the tails of all but the last one with their
-// greatest values, and the budget of states for each vertex.
+// greatest values, and the effort for each vertex.
 #[derive(Clone, Copy)]
 struct Given<'a> {
     graphs: &'a Graphs,
     order: &'a [u32],
     tails: &'a [TailClaim],
     crests: &'a [Row<Jump>],
-    budget: u64,
+    effort: Effort,
 }
 
 // What the searches of a task's vertices find.
@@ -46,22 +55,27 @@ enum Found {
 }
 
 /// The evidence of a yes by tails and states, or of a no, where one is found with this budget of states for each vertex.
-pub(crate) fn find_by_states(
+pub(crate) fn find_by_states<G: Gate, R: Threads + Wait + Sync>(
+    rt: &R,
     alloc: Global,
     set: &TaskSet,
     graphs: &Graphs,
+    workers: u32,
     budget: u64,
+    gate: &G,
 ) -> Result<Option<Evidence>, Memory>
-    requires { graphs.now ≡ graphs_of set.now.tasks }
+    requires graphs { graphs.now ≡ graphs_of set.now.tasks }
+    requires workers { (1 ≤ workers) × (workers ≤ 16) }
     ensures { IfOk result (λ found. IfSome found IsOfStates) }
 {
+    let effort = Effort { workers, budget };
     let order = priority_order(alloc, set)?;
     let order = order.as_slice();
     if !are_tasks(graphs, order) {
         return Ok(None);
     }
     match find_tails(alloc, graphs, order)? {
-        Some(tails) => find_over(alloc, graphs, order, tails, budget),
+        Some(tails) => find_over(rt, alloc, graphs, order, tails, effort, gate),
         None => Ok(None),
     }
 }
@@ -75,15 +89,18 @@ fn are_tasks(graphs: &Graphs, order: &[u32]) -> bool
 }
 
 // The evidence over these tails of the tasks, which stand in order of priority.
-fn find_over(
+fn find_over<G: Gate, R: Threads + Wait + Sync>(
+    rt: &R,
     alloc: Global,
     graphs: &Graphs,
     order: &[u32],
     tails: Vec<TailClaim>,
-    budget: u64,
+    effort: Effort,
+    gate: &G,
 ) -> Result<Option<Evidence>, Memory>
     requires order { AreTasks graphs.now order.now }
     requires tails { All HasRisingCurves tails.items }
+    requires workers { (1 ≤ effort.workers) × (effort.workers ≤ 16) }
     ensures { IfOk result (λ found. IfSome found IsOfStates) }
 {
     let crests = find_crests(alloc, &tails)?;
@@ -92,9 +109,9 @@ fn find_over(
         order,
         tails: &tails,
         crests: crests.as_slice(),
-        budget,
+        effort,
     };
-    match search_all(alloc, given)? {
+    match search_all(rt, alloc, given, gate)? {
         Found::Searches(searches) => Ok(Some(Evidence::FixedStates {
             tails: Row::from_vec(tails),
             searches: Row::from_vec(searches),
@@ -105,13 +122,18 @@ fn find_over(
 }
 
 // The searches of all vertices, in order of tasks; the first vertex that fails, in order of priority, gives a no.
-fn search_all(alloc: Global, given: Given<'_>) -> Result<Found, Memory>
+fn search_all<G: Gate, R: Threads + Wait + Sync>(
+    rt: &R,
+    alloc: Global,
+    given: Given<'_>,
+    gate: &G,
+) -> Result<Found, Memory>
     requires { IsGiven given }
     ensures { IfOk result IsFound }
 {
     let mut all = Vec::new(alloc);
     for place in 0..given.order.len() {
-        match search_task(alloc, given, place)? {
+        match search_task(rt, alloc, given, place, gate)? {
             Found::Searches(mut searches) => all.append(&mut searches)?,
             found => return Ok(found),
         }
@@ -121,7 +143,13 @@ fn search_all(alloc: Global, given: Given<'_>) -> Result<Found, Memory>
 }
 
 // The searches of the vertices of the task at a place.
-fn search_task(alloc: Global, given: Given<'_>, place: usize) -> Result<Found, Memory>
+fn search_task<G: Gate, R: Threads + Wait + Sync>(
+    rt: &R,
+    alloc: Global,
+    given: Given<'_>,
+    place: usize,
+    gate: &G,
+) -> Result<Found, Memory>
     requires given { IsGiven given }
     requires place { place < length given.order.now }
     ensures { IfOk result IsFound }
@@ -135,7 +163,8 @@ fn search_task(alloc: Global, given: Given<'_>, place: usize) -> Result<Found, M
             vertex,
             deadline: graph.vertex(vertex).deadline,
         };
-        match search_vertex(alloc, given, place, graph.vertex(vertex).wcet, at.deadline)? {
+        let wcet = graph.vertex(vertex).wcet;
+        match search_vertex(rt, alloc, given, place, wcet, at.deadline, gate)? {
             Searched::Passes(states) => searches.push(SearchClaim {
                 task,
                 vertex,
@@ -153,12 +182,14 @@ fn search_task(alloc: Global, given: Given<'_>, place: usize) -> Result<Found, M
 }
 
 // The search of a vertex of the task at a place, of this execution time and deadline, which are within the limits of a set.
-fn search_vertex(
+fn search_vertex<G: Gate, R: Threads + Wait + Sync>(
+    rt: &R,
     alloc: Global,
     given: Given<'_>,
     place: usize,
     wcet: u32,
     deadline: u32,
+    gate: &G,
 ) -> Result<Searched, Memory>
     requires given { IsGiven given }
     requires place { place < length given.order.now }
@@ -177,5 +208,12 @@ fn search_vertex(
         wcet,
         deadline,
     };
-    search_states(alloc, subject, given.budget)
+    search_states(
+        rt,
+        alloc,
+        subject,
+        given.effort.workers,
+        given.effort.budget,
+        gate,
+    )
 }

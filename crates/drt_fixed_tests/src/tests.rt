@@ -1,22 +1,25 @@
 //! Small sets answered by tails and states, and which of trees and states answers a set.
-ghost use Rattle.std.specs.Prelude.{◌≡◌, IfOk};
+ghost use Rattle.std.specs.Prelude.{◌≡◌, ◌≤◌, IfOk};
 ghost use Rattle.drt_model.specs.Constrained.{AreConstrained};
 ghost use Rattle.drt_evidence.specs.Claims.{graphs_of};
 
 use drt_drawn::{Draws, drawn_set};
-use drt_evidence::{Dossier, Evidence};
+use drt_evidence::{Dossier, Evidence, print};
 use drt_fixed::{Analysed, ByStates, analyse_fixed, decide_by_states};
 use drt_fixtures::{Shape, make_set};
 use drt_graph::{Graphs, check};
-use drt_model::TaskSet;
-use drt_pool::OpenGate;
+use drt_model::{Row, TaskSet};
+use drt_pool::{EagerGate, OpenGate};
 use drt_sp_plain::is_schedulable;
 use std::alloc::Global;
 use std::sync::Wait;
 use std::test::Fail;
 use std::thread::Threads;
 
-const DRAWN_SETS: u32 = 200;
+const DRAWN_SETS: u32 = 1_000;
+
+// Numbers of workers beside one.
+const SEVERAL: [u32; 3] = [2, 4, 16];
 
 const BUDGET: u64 = 1_000_000;
 
@@ -67,21 +70,51 @@ fn make_graphs(alloc: Global, set: &TaskSet) -> Result<Graphs, Fail>
     }
 }
 
-// What tails and states say of a set.
-fn claim_by_states(alloc: Global, set: TaskSet) -> Result<Claim, Fail> {
+// What tails and states say of a set by so many workers: the claim and the text of its dossier, which is empty where they say nothing.
+fn answer_by_states<R: Threads + Wait + Sync>(
+    rt: &R,
+    alloc: Global,
+    set: TaskSet,
+    workers: u32,
+) -> Result<(Claim, Row<u8>), Fail>
+    requires { (1 ≤ workers) × (workers ≤ 16) }
+{
     let graphs = make_graphs(alloc, &set)?;
-    match decide_by_states(alloc, set, &graphs, BUDGET)? {
-        ByStates::Decided(dossier) => Ok(claim_of(&dossier)),
-        ByStates::Nothing(_) => Ok(Claim::Nothing),
+    match decide_by_states(rt, alloc, set, &graphs, workers, BUDGET, &EagerGate)? {
+        ByStates::Decided(dossier) => Ok((claim_of(&dossier), print(alloc, &dossier)?)),
+        ByStates::Nothing(_) => Ok((Claim::Nothing, Row::from_vec(Vec::new(alloc)))),
     }
 }
 
-// What a plain program says of a drawn set, and what tails and states say.
-fn drawn_claims(alloc: Global, draws: &mut Draws) -> Result<(bool, Claim), Fail> {
+// What a plain program says of a set, as a claim by states.
+fn plain_claim(alloc: Global, set: &TaskSet) -> Result<Claim, Fail> {
+    let graphs = make_graphs(alloc, set)?;
+    if is_schedulable(alloc, set, &graphs)? {
+        Ok(Claim::YesByStates)
+    } else {
+        Ok(Claim::No)
+    }
+}
+
+// Whether tails and states say of a drawn set what a plain program says, and by several workers the same as by one.
+fn is_decided_alike<R: Threads + Wait + Sync>(
+    rt: &R,
+    alloc: Global,
+    draws: &mut Draws,
+) -> Result<bool, Fail> {
+    let start = draws.state;
     let set = drawn_set(alloc, draws)?.ok_or("within the limits")?;
-    let graphs = make_graphs(alloc, &set)?;
-    let plain = is_schedulable(alloc, &set, &graphs)?;
-    Ok((plain, claim_by_states(alloc, set)?))
+    let wanted = plain_claim(alloc, &set)?;
+    let (claim, text) = answer_by_states(rt, alloc, set, 1)?;
+    for workers in SEVERAL {
+        let mut again = Draws { state: start };
+        let set = drawn_set(alloc, &mut again)?.ok_or("within the limits")?;
+        let (_, other) = answer_by_states(rt, alloc, set, workers)?;
+        if other.as_slice() != text.as_slice() {
+            return Ok(false);
+        }
+    }
+    Ok(claim == wanted)
 }
 
 // What the whole analysis says of the set of these shapes.
@@ -100,9 +133,10 @@ fn claim_on<R: Threads + Wait + Sync>(
 fn drawn_sets_are_decided_by_states_as_by_a_plain_program(rt: HostRuntime) -> Result<(), Fail> {
     let mut draws = Draws { state: 1 };
     for number in 0..DRAWN_SETS {
-        let (plain, claim) = drawn_claims(rt.alloc(), &mut draws)?;
-        let wanted = if plain { Claim::YesByStates } else { Claim::No };
-        assert_eq!(rt; claim, wanted, "set {number}");
+        assert!(rt;
+            is_decided_alike(&rt, rt.alloc(), &mut draws)?,
+            "set {number}"
+        );
     }
     Ok(())
 }

@@ -1,2 +1,3 @@
 pub mod Labelled
 pub mod Pooled
+pub mod Responses

@@ -8,9 +8,9 @@ use Rattle.drt_graph.specs.Graphs.{graph_of, no_graph}
 use Rattle.drt_model.specs.Digraph.{Digraph}
 use Rattle.drt_busy.specs.Choice.{IsWalk, request_of}
 use Rattle.drt_states_laws.specs.Laws.{asked_together}
-use Rattle.drt_steps.specs.Time.{AreChosen, Passes, sum_at}
+use Rattle.drt_steps.specs.Time.{AreChosen, IsLeastTime, Passes, sum_at}
 use Rattle.drt_steps.specs.Values.{value_at}
-use Rattle.drt_sp_states.specs.Misses.{AreMissing}
+use Rattle.drt_sp_states.specs.Misses.{AreMissing, AreReaching}
 use Rattle.drt_sp_states.specs.Trials.{ArePooled}
 use Rattle.drt_sp_states.specs.Walks.{IsMade}
 use Rattle.drt_sp_states.specs.declared.trials.Pool.{Pool}
@@ -98,6 +98,26 @@ missing graphs wcet deadline pool p none = record {
   none = λ t from to.
       let s : sum_at pool.functions.items pool.chosen.items t ≡ asked_together graphs pool.walks.items t = p.sums t from to in
       let no : wcet + sum_at pool.functions.items pool.chosen.items t ≤ t → ⊥ = λ h. none t (record { from = from; to = to; passes = h }) in
+      omega arith;
+}
+
+-- The least time that passes for the functions is the least one for the walks.
+pub reaching : (graphs : List Digraph) (wcet deadline time : ℕ) (pool : Pool) → ArePooled deadline graphs pool
+    → IsLeastTime wcet deadline pool.functions.items pool.chosen.items time → AreReaching graphs wcet deadline time pool.walks.items
+reaching graphs wcet deadline time pool p is = record {
+  each = p.each;
+  some = is.passes.from;
+  most = is.passes.to;
+  fits =
+      let s : sum_at pool.functions.items pool.chosen.items time ≡ asked_together graphs pool.walks.items time = p.sums time is.passes.from is.passes.to in
+      let h : wcet + sum_at pool.functions.items pool.chosen.items time ≤ time = is.passes.passes in
+      omega arith;
+  none = λ t from before.
+      let end : time ≤ deadline = is.passes.to in
+      let to : t ≤ deadline = omega arith in
+      let s : sum_at pool.functions.items pool.chosen.items t ≡ asked_together graphs pool.walks.items t = p.sums t from to in
+      let no : wcet + sum_at pool.functions.items pool.chosen.items t ≤ t → ⊥ =
+      λ h. let late : time ≤ t = is.least t (record { from = from; to = to; passes = h }) in absurd (omega arith) in
       omega arith;
 }
 

@@ -3,3 +3,4 @@ pub mod Subjects
 pub mod Walks
 pub mod Trials
 pub mod Misses
+pub mod Reaching

@@ -1,8 +1,27 @@
-//! The states of a table as claims.
+//! The states of a table as claims, and whether these are accepted.
+ghost use Rattle.std.specs.Prelude.{IsTrue};
+ghost use Rattle.drt_check_states.specs.Places.{graphs_at};
+ghost use Rattle.drt_states.specs.States.{AreStates, HaveDominatedChildren, HavePassingTimes};
+ghost use Rattle.drt_sp_states.specs.Subjects.{IsSubject};
+
+use crate::places::Subject;
 use crate::tables::{End, Standing, State, Table};
+use drt_check_states::{are_states, have_dominated_children, have_passing_times};
 use drt_model::{Memory, Row};
 use drt_states::{StateClaim, StateEnd, StateEntry};
 use std::alloc::Global;
+
+/// Whether the deciders accept the states, with times up to a bound.
+pub(crate) fn are_accepted(subject: Subject<'_>, bound: u32, states: &[StateClaim]) -> bool
+    requires { IsSubject subject }
+    ensures states { IsTrue result → AreStates (graphs_at subject.entry.graphs.now subject.entry.order.now) states.now }
+    ensures times { IsTrue result → HavePassingTimes bound subject.entry.wcet subject.entry.tails.now states.now }
+    ensures children { IsTrue result → HaveDominatedChildren (graphs_at subject.entry.graphs.now subject.entry.order.now) subject.entry.deadline states.now }
+{
+    are_states(subject.graphs, subject.order, states)
+        && have_passing_times(subject.tails, subject.crests, bound, subject.wcet, states)
+        && have_dominated_children(subject.graphs, subject.order, subject.deadline, states)
+}
 
 /// The states that aren't dropped, in order. Where a child is dropped, the state that dominates it stands for it. None where nothing is
 /// done at some state.

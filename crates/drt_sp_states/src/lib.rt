@@ -8,6 +8,7 @@
 mod curves;
 mod ends;
 mod idle;
+mod looking;
 mod places;
 mod response;
 mod search;
@@ -17,6 +18,8 @@ mod tails;
 mod trials;
 mod trying;
 mod walks;
+mod waves;
+mod workers;
 
 pub use places::Subject;
 pub use response::{Responded, search_response};

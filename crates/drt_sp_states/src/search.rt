@@ -1,18 +1,21 @@
 //! The search of the states of one vertex.
-ghost use Rattle.std.specs.Prelude.{◌≤◌, IfOk, IfSome, length};
-ghost use Rattle.drt_sp_states.specs.Subjects.{IsAnswerTo, IsSubject, IsTrialOf};
+ghost use Rattle.std.specs.Prelude.{◌≤◌, IfOk, IfSome};
+ghost use Rattle.drt_sp_states.specs.Subjects.{IsAnswerTo, IsSubject};
 
-use crate::ends::make_claims;
-use crate::idle::{Idle, activate, open_idle};
-use crate::places::{Gaps, Subject, find_gaps};
-use crate::stepping::{least_passing, place_to_split, split};
-use crate::tables::{End, Table, open_table, place_state};
-use crate::trials::{Pool, Trial, try_walks};
-use crate::trying::{place_to_activate, walks_of};
-use drt_check_states::{are_states, have_dominated_children, have_passing_times};
+use crate::ends::{are_accepted, make_claims};
+use crate::looking::{Aim, Found};
+use crate::places::Subject;
+use crate::tables::Table;
+use crate::trials::Trial;
+use crate::trying::find_trial;
+use crate::waves::{Search, Wave, open_search, put_wave, take_wave, widen};
+use crate::workers::Crew;
 use drt_model::{Memory, Row};
+use drt_pool::Gate;
 use drt_states::StateClaim;
 use std::alloc::Global;
+use std::sync::Wait;
+use std::thread::Threads;
 
 /// What a search finds.
 #[derive(Drop)]
@@ -25,119 +28,64 @@ pub enum Searched {
     Spent,
 }
 
-// A search: the separations, which places are active, and the table.
-#[derive(Drop)]
-struct Search {
-    gaps: Vec<Gaps>,
-    idle: Idle,
-    table: Table,
-}
-
-// What is done with the state that is taken.
-#[derive(Drop, Clone, Copy)]
-enum Step {
-    /// It passes, is split or is dropped.
-    Goes,
-    /// It neither passes nor can be split.
-    Stops(u32),
-    /// It can't be looked at.
-    Fails,
-}
-
-/// Searches the states of a vertex. It takes as many states as the budget says, over all its tables.
-pub fn search_states(alloc: Global, subject: Subject<'_>, budget: u64) -> Result<Searched, Memory>
-    requires { IsSubject subject }
+/// Searches the states of a vertex by waves, which workers look at side by side. It takes as many states as the budget says, over all its
+/// tables. The answer doesn't depend on the workers.
+pub fn search_states<G: Gate, R: Threads + Wait + Sync>(
+    rt: &R,
+    alloc: Global,
+    subject: Subject<'_>,
+    workers: u32,
+    budget: u64,
+    gate: &G,
+) -> Result<Searched, Memory>
+    requires subject { IsSubject subject }
+    requires workers { (1 ≤ workers) × (workers ≤ 16) }
     ensures { IfOk result (IsAnswerTo subject.entry) }
 {
+    let crew = Crew { rt, workers, gate };
     let mut search = open_search(alloc, subject)?;
-    for _taken in 0..budget {
-        if let Some(answer) = take_turn(alloc, subject, &mut search)? {
+    let mut left = budget;
+    for _wave in 0..budget {
+        let wave = take_wave(&crew, alloc, subject, Aim::Deadline, &mut search, left)?;
+        left = left.saturating_sub(wave.taken);
+        if let Some(answer) = go_on(alloc, subject, &mut search, wave)? {
             return Ok(answer);
+        }
+        if left == 0 {
+            break;
         }
     }
     Ok(Searched::Spent)
 }
 
-// A search with no active place.
-fn open_search(alloc: Global, subject: Subject<'_>) -> Result<Search, Memory> {
-    Ok(Search {
-        gaps: find_gaps(alloc, subject)?,
-        idle: open_idle(alloc),
-        table: open_table(alloc)?,
-    })
-}
-
-// Takes a state. An answer where the search ends with it.
-fn take_turn(
+// Goes on by what is found of a wave: by the trial of the first state at which the search stops, if there is one. An answer where the search
+// ends with it.
+fn go_on(
     alloc: Global,
     subject: Subject<'_>,
     search: &mut Search,
+    wave: Wave,
 ) -> Result<Option<Searched>, Memory>
     requires { IsSubject subject }
     ensures { IfOk result (λ r. IfSome r (IsAnswerTo subject.entry)) }
 {
-    match take_state(alloc, subject, search)? {
-        Step::Goes => end_of(alloc, subject, &search.table),
-        Step::Stops(number) => try_state(alloc, subject, search, number),
-        Step::Fails => Ok(Some(Searched::Spent)),
-    }
-}
-
-// Takes a state, and looks for a time that passes for it, or splits it.
-fn take_state(alloc: Global, subject: Subject<'_>, search: &mut Search) -> Result<Step, Memory> {
-    let Some(number) = search.table.take() else {
-        return Ok(Step::Fails);
-    };
-    if !place_state(alloc, &mut search.table, number)? {
-        return Ok(Step::Goes);
-    }
-    match look_at(subject, search, number) {
-        Look::Passes(time) => {
-            search.table.set_end(number, End::Passes(time));
-            Ok(Step::Goes)
+    match first_stop(&wave.found) {
+        Some(number) => try_state(alloc, subject, search, number),
+        None => {
+            put_wave(alloc, Aim::Deadline, search, wave)?;
+            end_of(alloc, subject, &search.table)
         }
-        Look::Splits(place) => split_state(alloc, subject, search, number, place),
-        Look::Stops => Ok(Step::Stops(number)),
     }
 }
 
-// What is to be done at a state.
-#[derive(Drop, Clone, Copy)]
-enum Look {
-    /// It passes at this time.
-    Passes(u64),
-    /// It is split at this place.
-    Splits(u32),
-    /// Neither.
-    Stops,
-}
-
-fn look_at(subject: Subject<'_>, search: &Search, number: u32) -> Look {
-    let Some(state) = search.table.states.get(number as usize) else {
-        return Look::Stops;
-    };
-    if let Some(time) = least_passing(subject, &search.idle, state) {
-        return Look::Passes(time);
+// The number of the first state at which the search stops.
+fn first_stop(all: &[Found]) -> Option<u32> {
+    for found in all {
+        if found.is_stopped() {
+            return Some(found.number);
+        }
     }
-    match place_to_split(subject, &search.gaps, &search.idle.active, &state.entries) {
-        Some(place) => Look::Splits(place),
-        None => Look::Stops,
-    }
-}
-
-fn split_state(
-    alloc: Global,
-    subject: Subject<'_>,
-    search: &mut Search,
-    number: u32,
-    place: u32,
-) -> Result<Step, Memory> {
-    let gaps = search.gaps.as_slice();
-    if split(alloc, subject, gaps, &mut search.table, number, place)? {
-        Ok(Step::Goes)
-    } else {
-        Ok(Step::Fails)
-    }
+    None
 }
 
 // What the search answers where no state waits.
@@ -154,24 +102,12 @@ fn end_of(alloc: Global, subject: Subject<'_>, table: &Table) -> Result<Option<S
     }
 }
 
-// A yes by these states, where the deciders accept them.
+// A yes by these states, where they are accepted.
 fn certify(subject: Subject<'_>, states: Vec<StateClaim>) -> Searched
     requires { IsSubject subject }
     ensures { IsAnswerTo subject.entry result }
 {
-    let graphs = subject.graphs;
-    let order = subject.order;
-    let deadline = subject.deadline;
-    if are_states(graphs, order, &states)
-        && have_passing_times(
-            subject.tails,
-            subject.crests,
-            deadline,
-            subject.wcet,
-            &states,
-        )
-        && have_dominated_children(graphs, order, deadline, &states)
-    {
+    if are_accepted(subject, subject.deadline, &states) {
         Searched::Passes(Row::from_vec(states))
     } else {
         Searched::Spent
@@ -188,54 +124,21 @@ fn try_state(
     requires { IsSubject subject }
     ensures { IfOk result (λ r. IfSome r (IsAnswerTo subject.entry)) }
 {
-    match find_trial(alloc, subject, &search.table, number)? {
+    match find_trial(
+        alloc,
+        subject,
+        &search.table,
+        number,
+        subject.deadline as u64,
+    )? {
         Trial::Misses(walks) => Ok(Some(Searched::Misses(walks))),
         Trial::Broken => Ok(Some(Searched::Spent)),
         Trial::Passes { time, pool } => {
-            if widen(alloc, subject, search, &pool, time)? {
+            if widen(alloc, subject, search, &pool.functions, time)? {
                 Ok(None)
             } else {
                 Ok(Some(Searched::Spent))
             }
         }
     }
-}
-
-// The trial of a state.
-fn find_trial(
-    alloc: Global,
-    subject: Subject<'_>,
-    table: &Table,
-    number: u32,
-) -> Result<Trial, Memory>
-    requires { IsSubject subject }
-    ensures { IfOk result (IsTrialOf subject.entry) }
-{
-    match walks_of(alloc, subject, table, number)? {
-        Some(walks) => try_walks(
-            alloc,
-            subject.graphs,
-            subject.order,
-            subject.wcet,
-            subject.deadline,
-            &walks,
-        ),
-        None => Ok(Trial::Broken),
-    }
-}
-
-// Makes a further place active and begins the table anew. Whether there is such a place.
-fn widen(
-    alloc: Global,
-    subject: Subject<'_>,
-    search: &mut Search,
-    pool: &Pool,
-    time: u64,
-) -> Result<bool, Memory> {
-    let Some(place) = place_to_activate(subject, &search.idle.active, pool, time) else {
-        return Ok(false);
-    };
-    activate(alloc, subject, &mut search.idle, place)?;
-    search.table = open_table(alloc)?;
-    Ok(true)
 }

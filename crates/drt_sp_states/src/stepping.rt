@@ -1,8 +1,8 @@
-//! Steps of a search: what is done at a state that is taken.
+//! The least time that passes for a state, and its children where it is split.
 use crate::curves::value_before;
 use crate::idle::{Idle, Room, crests_before};
 use crate::places::{Gaps, Subject, crest_at, curve_at, gap_after, graph_at};
-use crate::tables::{End, Origin, Standing, State, Table, Turn, entry_at, offer};
+use crate::tables::{Origin, Standing, State, Turn, entry_at, make_child};
 use drt_graph::Graph;
 use drt_model::Memory;
 use std::alloc::Global;
@@ -46,8 +46,8 @@ pub(crate) fn least_passing(subject: Subject<'_>, idle: &Idle, state: &State) ->
     }
 }
 
-// The least time that passes for the state without entries and work.
-fn first_passing(subject: Subject<'_>) -> Option<u64> {
+/// The least time up to the deadline that passes for the state without entries and work, if there is one.
+pub(crate) fn first_passing(subject: Subject<'_>) -> Option<u64> {
     let wcet = subject.wcet as u64;
     let mut t = wcet.max(1);
     'times: while t <= subject.deadline as u64 {
@@ -85,24 +85,24 @@ fn next_time(rooms: &[Room], t: u64, need: u64) -> Option<u64> {
 }
 
 /// The place at which a state is split: the least active one without an entry, else that of the entry with the least next release,
-/// where this is before the deadline.
+/// where this is before a time.
 pub(crate) fn place_to_split(
-    subject: Subject<'_>,
     gaps: &[Gaps],
     active: &[u32],
     entries: &[Standing],
+    until: u64,
 ) -> Option<u32> {
     for place in active {
         if entry_at(entries, *place).is_none() {
             return Some(*place);
         }
     }
-    next_to_move(subject, gaps, entries)
+    next_to_move(gaps, entries, until)
 }
 
-// The place of the entry with the least next release, where this is before the deadline.
-fn next_to_move(subject: Subject<'_>, gaps: &[Gaps], entries: &[Standing]) -> Option<u32> {
-    let mut least = subject.deadline as u64;
+// The place of the entry with the least next release, where this is before a time.
+fn next_to_move(gaps: &[Gaps], entries: &[Standing], until: u64) -> Option<u32> {
+    let mut least = until;
     let mut first: Option<u32> = None;
     for entry in entries {
         let next = next_release(gaps, *entry);
@@ -122,51 +122,33 @@ fn next_release(gaps: &[Gaps], entry: Standing) -> u64 {
     }
 }
 
-/// Splits a state at a place. Whether it could be.
-pub(crate) fn split(
+/// The children of a state that is split at a place, in order.
+pub(crate) fn make_children(
     alloc: Global,
     subject: Subject<'_>,
     gaps: &[Gaps],
-    table: &mut Table,
-    number: u32,
-    place: u32,
-) -> Result<bool, Memory> {
-    let origin = Origin {
-        parent: number,
-        place,
-    };
-    let Some(children) = make_children(alloc, subject, gaps, table, origin)? else {
-        return Ok(false);
-    };
-    table.set_end(number, End::Splits { place, children });
-    Ok(true)
-}
-
-// The numbers of the children of a state.
-fn make_children(
-    alloc: Global,
-    subject: Subject<'_>,
-    gaps: &[Gaps],
-    table: &mut Table,
+    state: &State,
     origin: Origin,
-) -> Result<Option<Vec<u32>>, Memory> {
+) -> Result<Vec<State>, Memory> {
     let Some(graph) = graph_at(subject, origin.place) else {
-        return Ok(None);
+        return Ok(Vec::new(alloc));
     };
-    match table.entry_of(origin) {
-        None => begin_walks(alloc, gaps, table, graph, origin),
-        Some(entry) => move_on(alloc, subject, gaps, table, graph, origin, entry),
+    match entry_at(&state.entries, origin.place) {
+        None => begin_walks(alloc, graph, state, origin),
+        Some(from) => {
+            let failed = next_release(gaps, from);
+            move_on(alloc, subject, graph, state, origin, from, failed)
+        }
     }
 }
 
 // The children that begin at each vertex.
 fn begin_walks(
     alloc: Global,
-    gaps: &[Gaps],
-    table: &mut Table,
     graph: &Graph,
+    state: &State,
     origin: Origin,
-) -> Result<Option<Vec<u32>>, Memory> {
+) -> Result<Vec<State>, Memory> {
     let mut children = Vec::new(alloc);
     for vertex in 0..graph.vertex_count() {
         let entry = Standing {
@@ -179,30 +161,27 @@ fn begin_walks(
             work: 0,
             failed: 0,
         };
-        let Some(child) = offer(alloc, table, gaps, origin, turn)? else {
-            return Ok(None);
-        };
-        children.push(child)?;
+        children.push(make_child(alloc, state, origin, turn)?)?;
     }
-    Ok(Some(children))
+    Ok(children)
 }
 
-// The children that move on by an edge out of the entry's vertex, with a release before the deadline.
+// The children that move on by an edge out of the entry's vertex, with a release before the deadline. No time up to `failed` passes for
+// them.
 fn move_on(
     alloc: Global,
     subject: Subject<'_>,
-    gaps: &[Gaps],
-    table: &mut Table,
     graph: &Graph,
+    state: &State,
     origin: Origin,
     from: Standing,
-) -> Result<Option<Vec<u32>>, Memory> {
+    failed: u64,
+) -> Result<Vec<State>, Memory> {
+    let mut children = Vec::new(alloc);
     if from.vertex >= graph.vertex_count() {
-        return Ok(None);
+        return Ok(children);
     }
     let work = graph.vertex(from.vertex).wcet;
-    let failed = next_release(gaps, from);
-    let mut children = Vec::new(alloc);
     for k in 0..graph.out_degree(from.vertex) {
         let edge = *graph.out_edge(from.vertex, k);
         let offset = from.offset.saturating_add(edge.sep as u64);
@@ -217,11 +196,8 @@ fn move_on(
                 work,
                 failed,
             };
-            let Some(child) = offer(alloc, table, gaps, origin, turn)? else {
-                return Ok(None);
-            };
-            children.push(child)?;
+            children.push(make_child(alloc, state, origin, turn)?)?;
         }
     }
-    Ok(Some(children))
+    Ok(children)
 }

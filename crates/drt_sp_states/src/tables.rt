@@ -51,7 +51,8 @@ pub(crate) struct State {
     pub end: End,
 }
 
-/// The states of a search, and those that wait, in order of the sum of their offsets and least separations.
+/// The states of a search, and those that wait, in order of their ranks and then of their numbers. The rank of a state is the sum of its
+/// offsets and of the least separations of their places.
 #[derive(Drop)]
 pub(crate) struct Table {
     pub states: Vec<State>,
@@ -105,17 +106,30 @@ pub(crate) struct Turn {
     pub failed: u64,
 }
 
-/// The number of the child of a state where its walk goes on so. None where there are too many states.
+/// The child of a state where its walk goes on so. It stands in no table.
+pub(crate) fn make_child(
+    alloc: Global,
+    state: &State,
+    origin: Origin,
+    turn: Turn,
+) -> Result<State, Memory> {
+    Ok(State {
+        entries: with_entry(alloc, &state.entries, turn.entry)?,
+        work: state.work.saturating_add(turn.work as u64),
+        origin: Some(origin),
+        failed: turn.failed,
+        before: None,
+        end: End::Open,
+    })
+}
+
+/// The number of a child in the table. None where there are too many states.
 pub(crate) fn offer(
     alloc: Global,
     table: &mut Table,
     gaps: &[Gaps],
-    origin: Origin,
-    turn: Turn,
+    child: State,
 ) -> Result<Option<u32>, Memory> {
-    let Some(child) = make_child(alloc, table, origin, turn)? else {
-        return Ok(None);
-    };
     match table.number_of(&child.entries) {
         Some(number) => {
             raise(table, number, &child);
@@ -126,28 +140,6 @@ pub(crate) fn offer(
             add_state(alloc, table, child, rank)
         }
     }
-}
-
-fn make_child(
-    alloc: Global,
-    table: &Table,
-    origin: Origin,
-    turn: Turn,
-) -> Result<Option<State>, Memory> {
-    let Some(state) = table.states.get(origin.parent as usize) else {
-        return Ok(None);
-    };
-    let Some(work) = state.work.checked_add(turn.work as u64) else {
-        return Ok(None);
-    };
-    Ok(Some(State {
-        entries: with_entry(alloc, &state.entries, turn.entry)?,
-        work,
-        origin: Some(origin),
-        failed: turn.failed,
-        before: None,
-        end: End::Open,
-    }))
 }
 
 // The entries with this one at its place, in order of the places.
@@ -183,7 +175,6 @@ pub(crate) fn entry_at(entries: &[Standing], place: u32) -> Option<Standing> {
     None
 }
 
-// The sum of the offsets and of the least separations of their places.
 fn rank_of(gaps: &[Gaps], entries: &[Standing]) -> u64 {
     let mut rank: u64 = 0;
     for entry in entries {
@@ -211,19 +202,24 @@ impl Table {
         self.numbers.get(entries).copied()
     }
 
-    /// The entry of a state at the place at which it is split, if there is one.
-    pub(crate) fn entry_of(&self, origin: Origin) -> Option<Standing> {
-        let state = self.states.get(origin.parent as usize)?;
-        entry_at(&state.entries, origin.place)
-    }
-
     /// Whether no state waits.
     pub(crate) fn is_done(&self) -> bool {
         self.queue.is_empty()
     }
 
-    /// Takes the first one of the states that wait.
-    pub(crate) fn take(&mut self) -> Option<u32> {
+    /// The rank of the first one of the states that wait, if one does.
+    pub(crate) fn next_rank(&self) -> Option<u64> {
+        match self.queue.peek() {
+            Some(Reverse((rank, _))) => Some(*rank),
+            None => None,
+        }
+    }
+
+    /// Takes the first one of the states that wait, where its rank is below this.
+    pub(crate) fn take_below(&mut self, end: u64) -> Option<u32> {
+        if self.next_rank()? >= end {
+            return None;
+        }
         match self.queue.pop() {
             Some(Reverse((_, number))) => Some(number),
             None => None,

@@ -1,24 +1,53 @@
-//! The walks of a state's trial, and what is done where they leave the job time.
+//! The trial of a state, and what is done where its walks leave the job time.
+ghost use Rattle.std.specs.Prelude.{IfOk};
+ghost use Rattle.drt_sp_states.specs.Subjects.{IsSubject, IsTrialOf};
+
 use crate::curves::value_before;
 use crate::idle::is_active;
 use crate::places::{Subject, crest_at, place_count};
 use crate::tables::{Table, entry_at};
 use crate::tails::{add_attaining, greatest_walk};
-use crate::trials::Pool;
+use crate::trials::{Trial, try_walks};
 use drt_model::{Memory, Row};
+use drt_steps::Steps;
 use std::alloc::Global;
 
-/// The walks of a state's trial, one of each place: those of its entries, going on by walks that attain the tails at the deadline, and a
-/// walk that attains the greatest value of its tail where a place has no entry. None where one isn't found.
-pub(crate) fn walks_of(
+/// The trial of a state: its walks, which ask for as much before a time as the state, beside the job.
+pub(crate) fn find_trial(
     alloc: Global,
     subject: Subject<'_>,
     table: &Table,
     number: u32,
+    time: u64,
+) -> Result<Trial, Memory>
+    requires { IsSubject subject }
+    ensures { IfOk result (IsTrialOf subject.entry) }
+{
+    match walks_of(alloc, subject, table, number, time)? {
+        Some(walks) => try_walks(
+            alloc,
+            subject.graphs,
+            subject.order,
+            subject.wcet,
+            subject.deadline,
+            &walks,
+        ),
+        None => Ok(Trial::Broken),
+    }
+}
+
+// The walks of a state's trial, one of each place: those of its entries, going on by walks that attain the tails at the time, and a walk that
+// attains the greatest value of its tail there where a place has no entry. None where one isn't found.
+fn walks_of(
+    alloc: Global,
+    subject: Subject<'_>,
+    table: &Table,
+    number: u32,
+    time: u64,
 ) -> Result<Option<Vec<Row<u32>>>, Memory> {
     let mut walks = Vec::new(alloc);
     for place in 0..place_count(subject) {
-        let Some(walk) = walk_of(alloc, subject, table, number, place)? else {
+        let Some(walk) = walk_of(alloc, subject, table, number, place, time)? else {
             return Ok(None);
         };
         walks.push(Row::from_vec(walk))?;
@@ -33,19 +62,17 @@ fn walk_of(
     table: &Table,
     number: u32,
     place: u32,
+    time: u64,
 ) -> Result<Option<Vec<u32>>, Memory> {
-    let deadline = subject.deadline as u64;
     let Some(state) = table.states.get(number as usize) else {
         return Ok(None);
     };
     let Some(entry) = entry_at(state.entries.as_slice(), place) else {
-        return greatest_walk(alloc, subject, place, deadline);
+        return greatest_walk(alloc, subject, place, time);
     };
-    let Some(left) = deadline.checked_sub(entry.offset) else {
-        return Ok(None);
-    };
+    let left = time.saturating_sub(entry.offset);
     let mut walk = walk_to(alloc, table, number, place)?;
-    if add_attaining(subject, place, entry.vertex, left, &mut walk)? {
+    if left == 0 || add_attaining(subject, place, entry.vertex, left, &mut walk)? {
         Ok(Some(walk))
     } else {
         Ok(None)
@@ -78,13 +105,13 @@ fn walk_to(alloc: Global, table: &Table, number: u32, place: u32) -> Result<Vec<
 pub(crate) fn place_to_activate(
     subject: Subject<'_>,
     active: &[u32],
-    pool: &Pool,
+    functions: &[Steps],
     time: u64,
 ) -> Option<u32> {
     let mut most = 0;
     let mut place: Option<u32> = None;
     for other in 0..place_count(subject) {
-        let gap = gap_at(subject, pool, other, time);
+        let gap = gap_at(subject, functions, other, time);
         if !is_active(active, other) && gap > most {
             most = gap;
             place = Some(other);
@@ -94,8 +121,8 @@ pub(crate) fn place_to_activate(
 }
 
 // How much more the tail of a place asks for before the time than its walk of the trial.
-fn gap_at(subject: Subject<'_>, pool: &Pool, place: u32, time: u64) -> u64 {
-    let Some(function) = pool.functions.get(place as usize) else {
+fn gap_at(subject: Subject<'_>, functions: &[Steps], place: u32, time: u64) -> u64 {
+    let Some(function) = functions.get(place as usize) else {
         return 0;
     };
     if time == 0 || time > function.bound() {

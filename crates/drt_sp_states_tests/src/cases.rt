@@ -8,11 +8,14 @@ use drt_check_states::find_crests;
 use drt_fixtures::{Shape, make_set};
 use drt_graph::{Graph, Graphs, check};
 use drt_model::{Memory, Row};
-use drt_sp_states::{Searched, Subject, search_states};
+use drt_pool::OpenGate;
+use drt_sp_states::{Responded, Searched, Subject, search_response, search_states};
 use drt_states::{StateClaim, StateEnd, StateEntry, TailClaim};
 use drt_tails::find_tail;
 use std::alloc::Global;
+use std::sync::Wait;
 use std::test::Fail;
+use std::thread::Threads;
 
 /// A set whose last task has one vertex, the greatest time that its tails reach to, and the budget of a search.
 #[derive(Clone, Copy)]
@@ -33,50 +36,80 @@ pub(crate) enum End<'a> {
 pub(crate) type State<'a> = (&'a [(u32, u32, u64)], u64, End<'a>);
 
 /// Whether the search finds these states.
-pub(crate) fn finds_states(
+pub(crate) fn finds_states<R: Threads + Wait + Sync>(
+    rt: &R,
     alloc: Global,
     case: Case<'_>,
     wanted: &[State<'_>],
 ) -> Result<bool, Fail> {
-    match find(alloc, case)? {
+    match find(rt, alloc, case)?.searched {
         Searched::Passes(states) => Ok(are_states(states.as_slice(), wanted)),
         _ => Ok(false),
     }
 }
 
 /// Whether the search finds these walks.
-pub(crate) fn finds_walks(alloc: Global, case: Case<'_>, wanted: &[&[u32]]) -> Result<bool, Fail> {
-    match find(alloc, case)? {
+pub(crate) fn finds_walks<R: Threads + Wait + Sync>(
+    rt: &R,
+    alloc: Global,
+    case: Case<'_>,
+    wanted: &[&[u32]],
+) -> Result<bool, Fail> {
+    match find(rt, alloc, case)?.searched {
         Searched::Misses(walks) => Ok(are_walks(walks.as_slice(), wanted)),
         _ => Ok(false),
     }
 }
 
 /// Whether the search spends its budget.
-pub(crate) fn is_spent(alloc: Global, case: Case<'_>) -> Result<bool, Fail> {
-    match find(alloc, case)? {
+pub(crate) fn is_spent<R: Threads + Wait + Sync>(
+    rt: &R,
+    alloc: Global,
+    case: Case<'_>,
+) -> Result<bool, Fail> {
+    match find(rt, alloc, case)?.searched {
         Searched::Spent => Ok(true),
         _ => Ok(false),
     }
 }
 
-// What the search of the vertex of the last task finds.
-fn find(alloc: Global, case: Case<'_>) -> Result<Searched, Fail> {
+/// The greatest response that is found, with walks that reach it. None where the search finds none.
+pub(crate) fn find_response<R: Threads + Wait + Sync>(
+    rt: &R,
+    alloc: Global,
+    case: Case<'_>,
+) -> Result<Option<u64>, Fail> {
+    match find(rt, alloc, case)?.responded {
+        Responded::Reached { ticks, .. } => Ok(Some(ticks)),
+        Responded::Spent => Ok(None),
+    }
+}
+
+// What the searches of the vertex of the last task find.
+#[derive(Drop)]
+struct Findings {
+    searched: Searched,
+    responded: Responded,
+}
+
+// What the searches of the vertex of the last task find.
+fn find<R: Threads + Wait + Sync>(rt: &R, alloc: Global, case: Case<'_>) -> Result<Findings, Fail> {
     let set = make_set(alloc, case.shapes)?.ok_or("within the limits")?;
     let graphs = check(alloc, &set)?;
-    match search_last(alloc, &graphs, case.bound, case.budget)? {
+    match search_last(rt, alloc, &graphs, case.bound, case.budget)? {
         Some(found) => Ok(found),
         None => Err("a task without tail".into()),
     }
 }
 
-// What the search of vertex 0 of the last task finds. None where there is none, or a task before it has no tail up to the bound.
-fn search_last(
+// What the searches of vertex 0 of the last task find. None where there is none, or a task before it has no tail up to the bound.
+fn search_last<R: Threads + Wait + Sync>(
+    rt: &R,
     alloc: Global,
     graphs: &Graphs,
     bound: u64,
     budget: u64,
-) -> Result<Option<Searched>, Memory> {
+) -> Result<Option<Findings>, Memory> {
     let count = graphs.count();
     if count < 1 || count > 4 || graphs.graph(count - 1).vertex_count() < 1 {
         return Ok(None);
@@ -87,7 +120,7 @@ fn search_last(
     if !are_within(wcet, deadline, bound) || !are_tasks(graphs, order) {
         return Ok(None);
     }
-    search_vertex(alloc, graphs, order, wcet, deadline, bound, budget)
+    search_vertex(rt, alloc, graphs, order, wcet, deadline, bound, budget)
 }
 
 // The numbers of the first three tasks.
@@ -115,7 +148,8 @@ fn are_tasks(graphs: &Graphs, order: &[u32]) -> bool
     true
 }
 
-fn search_vertex(
+fn search_vertex<R: Threads + Wait + Sync>(
+    rt: &R,
     alloc: Global,
     graphs: &Graphs,
     order: &[u32],
@@ -123,7 +157,7 @@ fn search_vertex(
     deadline: u32,
     bound: u64,
     budget: u64,
-) -> Result<Option<Searched>, Memory>
+) -> Result<Option<Findings>, Memory>
     requires order { AreTasks graphs.now order.now }
     requires few { length order.now ≤ 31 }
     requires wcet { wcet ≤ 1000000 }
@@ -143,8 +177,10 @@ fn search_vertex(
                 wcet,
                 deadline,
             };
-            let found = search_states(alloc, subject, budget)?;
-            Ok(Some(found))
+            Ok(Some(Findings {
+                searched: search_states(rt, alloc, subject, 1, budget, &OpenGate)?,
+                responded: search_response(rt, alloc, subject, 1, budget, &OpenGate)?,
+            }))
         }
         None => Ok(None),
     }

@@ -1,4 +1,4 @@
-use crate::cases::{Case, End, State, finds_states, finds_walks, is_spent};
+use crate::cases::{Case, End, State, find_response, finds_states, finds_walks, is_spent};
 use drt_fixtures::Shape;
 use std::test::Fail;
 
@@ -16,6 +16,14 @@ const UNDER_RING: Shape<'static> = (&[(3, 10)], &[(0, 0, 10)]);
 const UNDER_FORK: Shape<'static> = (&[(2, 6)], &[(0, 0, 6)]);
 
 const LONGER: Shape<'static> = (&[(3, 6)], &[(0, 0, 6)]);
+
+// The vertices p, q and s: p goes on to s, and q and s go on to themselves.
+const MODES: Shape<'static> = (
+    &[(4, 15), (3, 9), (2, 9)],
+    &[(0, 2, 15), (2, 2, 9), (1, 1, 9)],
+);
+
+const UNDER_MODES: Shape<'static> = (&[(4, 27)], &[(0, 0, 27)]);
 
 const LAST: Shape<'static> = (&[(1, 9)], &[(0, 0, 9)]);
 
@@ -55,7 +63,7 @@ fn states_are_split_until_each_passes(rt: HostRuntime) -> Result<(), Fail> {
             bound,
             budget: 100,
         };
-        assert!(rt; finds_states(alloc, case, wanted)?, "up to {bound}");
+        assert!(rt; finds_states(&rt, alloc, case, wanted)?, "up to {bound}");
     }
     Ok(())
 }
@@ -69,7 +77,7 @@ fn walks_that_leave_no_room_are_a_miss(rt: HostRuntime) -> Result<(), Fail> {
         bound: 6,
         budget: 100,
     };
-    assert!(rt; finds_walks(rt.alloc(), case, &[&[0, 1]])?);
+    assert!(rt; finds_walks(&rt, rt.alloc(), case, &[&[0, 1]])?);
     Ok(())
 }
 
@@ -81,6 +89,31 @@ fn a_spent_budget_is_no_answer(rt: HostRuntime) -> Result<(), Fail> {
         bound: 6,
         budget: 7,
     };
-    assert!(rt; is_spent(rt.alloc(), case)?);
+    assert!(rt; is_spent(&rt, rt.alloc(), case)?);
+    Ok(())
+}
+
+// Under the ring the walk a b asks for 2 and 3 past 4, so that 3 are done at 6; under the fork u a for 1 and 4 past 2, so that 2 are done at
+// 6. Under the modes 4 are done at 8 by p, which asks for 4, and at 7 by q. With no task above a job of 4 is done at 4.
+#[test]
+fn the_greatest_response_is_reached_by_walks(rt: HostRuntime) -> Result<(), Fail> {
+    let cases: [(&[Shape<'_>], u64, u64); 4] = [
+        (&[RING, UNDER_RING], 10, 6),
+        (&[FORK, UNDER_FORK], 6, 6),
+        (&[MODES, UNDER_MODES], 27, 8),
+        (&[UNDER_MODES], 27, 4),
+    ];
+    for (shapes, bound, ticks) in cases {
+        let case = Case {
+            shapes,
+            bound,
+            budget: 100,
+        };
+        assert_eq!(rt;
+            find_response(&rt, rt.alloc(), case)?,
+            Some(ticks),
+            "up to {bound}"
+        );
+    }
     Ok(())
 }
