@@ -19,8 +19,8 @@ use std::alloc::Global;
 use std::sync::Wait;
 use std::thread::Threads;
 
-// How many steps each table and each frontier has before tails and states are tried.
-const ALLOWANCE: u64 = 4_096;
+/// How many steps each table and each frontier has before tails and states are tried.
+pub const ALLOWANCE: u64 = 4_096;
 
 /// What the analysis of a set under fixed priorities found: its dossier, and the trail of a spent budget where nothing is decided.
 #[derive(Drop)]

@@ -11,4 +11,4 @@ mod releases;
 mod searching;
 mod tails;
 
-pub use analysis::{Analysed, ByStates, analyse_fixed, decide_by_states};
+pub use analysis::{ALLOWANCE, Analysed, ByStates, analyse_fixed, decide_by_states};

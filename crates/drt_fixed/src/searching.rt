@@ -29,7 +29,8 @@ const MOST_TICKS: u32 = 1_000_000;
 // How many workers take part in the search of a vertex, and how many states it takes at most.
 #[derive(Clone, Copy)]
 struct Effort {
-    effort: Effort,
+    workers: u32,
+    budget: u64,
 }
 
 // What the searches of all vertices are over: the graphs, the tasks in order of priority, the tails of all but the last one with their
