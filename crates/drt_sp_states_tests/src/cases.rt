@@ -8,7 +8,7 @@ use drt_check_states::find_crests;
 use drt_fixtures::{Shape, make_set};
 use drt_graph::{Graph, Graphs, check};
 use drt_model::{Memory, Row};
-use drt_pool::OpenGate;
+use drt_pool::EagerGate;
 use drt_sp_states::{Responded, Searched, Subject, search_response, search_states};
 use drt_states::{StateClaim, StateEnd, StateEntry, TailClaim};
 use drt_tails::find_tail;
@@ -42,7 +42,7 @@ pub(crate) fn finds_states<R: Threads + Wait + Sync>(
     case: Case<'_>,
     wanted: &[State<'_>],
 ) -> Result<bool, Fail> {
-    match find(rt, alloc, case)?.searched {
+    match find_searched(rt, alloc, case)? {
         Searched::Passes(states) => Ok(are_states(states.as_slice(), wanted)),
         _ => Ok(false),
     }
@@ -55,7 +55,7 @@ pub(crate) fn finds_walks<R: Threads + Wait + Sync>(
     case: Case<'_>,
     wanted: &[&[u32]],
 ) -> Result<bool, Fail> {
-    match find(rt, alloc, case)?.searched {
+    match find_searched(rt, alloc, case)? {
         Searched::Misses(walks) => Ok(are_walks(walks.as_slice(), wanted)),
         _ => Ok(false),
     }
@@ -67,22 +67,33 @@ pub(crate) fn is_spent<R: Threads + Wait + Sync>(
     alloc: Global,
     case: Case<'_>,
 ) -> Result<bool, Fail> {
-    match find(rt, alloc, case)?.searched {
+    match find_searched(rt, alloc, case)? {
         Searched::Spent => Ok(true),
         _ => Ok(false),
     }
 }
 
-/// The greatest response that is found, with walks that reach it. None where the search finds none.
+/// The greatest response that is found, in ticks. None where the search finds none.
 pub(crate) fn find_response<R: Threads + Wait + Sync>(
     rt: &R,
     alloc: Global,
     case: Case<'_>,
 ) -> Result<Option<u64>, Fail> {
-    match find(rt, alloc, case)?.responded {
+    let Findings { responded, .. } = find(rt, alloc, case, 1)?;
+    match responded {
         Responded::Reached { ticks, .. } => Ok(Some(ticks)),
         Responded::Spent => Ok(None),
     }
+}
+
+// What the search of states of the vertex of the last task finds.
+fn find_searched<R: Threads + Wait + Sync>(
+    rt: &R,
+    alloc: Global,
+    case: Case<'_>,
+) -> Result<Searched, Fail> {
+    let Findings { searched, .. } = find(rt, alloc, case, 1)?;
+    Ok(searched)
 }
 
 // What the searches of the vertex of the last task find.
@@ -92,11 +103,35 @@ struct Findings {
     responded: Responded,
 }
 
-// What the searches of the vertex of the last task find.
-fn find<R: Threads + Wait + Sync>(rt: &R, alloc: Global, case: Case<'_>) -> Result<Findings, Fail> {
+/// Whether the searches find the same by so many workers as by one.
+pub(crate) fn find_alike<R: Threads + Wait + Sync>(
+    rt: &R,
+    alloc: Global,
+    case: Case<'_>,
+    workers: u32,
+) -> Result<bool, Fail>
+    requires { (1 ≤ workers) × (workers ≤ 16) }
+{
+    let alone = find(rt, alloc, case, 1)?;
+    let together = find(rt, alloc, case, workers)?;
+    Ok(
+        is_same_search(&alone.searched, &together.searched)
+            && is_same_response(&alone.responded, &together.responded),
+    )
+}
+
+// What the searches of the vertex of the last task find by so many workers.
+fn find<R: Threads + Wait + Sync>(
+    rt: &R,
+    alloc: Global,
+    case: Case<'_>,
+    workers: u32,
+) -> Result<Findings, Fail>
+    requires { (1 ≤ workers) × (workers ≤ 16) }
+{
     let set = make_set(alloc, case.shapes)?.ok_or("within the limits")?;
     let graphs = check(alloc, &set)?;
-    match search_last(rt, alloc, &graphs, case.bound, case.budget)? {
+    match search_last(rt, alloc, &graphs, case.bound, workers, case.budget)? {
         Some(found) => Ok(found),
         None => Err("a task without tail".into()),
     }
@@ -108,8 +143,11 @@ fn search_last<R: Threads + Wait + Sync>(
     alloc: Global,
     graphs: &Graphs,
     bound: u64,
+    workers: u32,
     budget: u64,
-) -> Result<Option<Findings>, Memory> {
+) -> Result<Option<Findings>, Memory>
+    requires { (1 ≤ workers) × (workers ≤ 16) }
+{
     let count = graphs.count();
     if count < 1 || count > 4 || graphs.graph(count - 1).vertex_count() < 1 {
         return Ok(None);
@@ -120,7 +158,9 @@ fn search_last<R: Threads + Wait + Sync>(
     if !are_within(wcet, deadline, bound) || !are_tasks(graphs, order) {
         return Ok(None);
     }
-    search_vertex(rt, alloc, graphs, order, wcet, deadline, bound, budget)
+    search_vertex(
+        rt, alloc, graphs, order, wcet, deadline, bound, workers, budget,
+    )
 }
 
 // The numbers of the first three tasks.
@@ -156,6 +196,7 @@ fn search_vertex<R: Threads + Wait + Sync>(
     wcet: u32,
     deadline: u32,
     bound: u64,
+    workers: u32,
     budget: u64,
 ) -> Result<Option<Findings>, Memory>
     requires order { AreTasks graphs.now order.now }
@@ -165,6 +206,7 @@ fn search_vertex<R: Threads + Wait + Sync>(
     requires most { deadline ≤ 1000000 }
     requires from { 1 ≤ bound }
     requires to { bound ≤ 1000000 }
+    requires workers { (1 ≤ workers) × (workers ≤ 16) }
 {
     match find_tails(alloc, graphs, order, bound)? {
         Some(tails) => {
@@ -178,8 +220,8 @@ fn search_vertex<R: Threads + Wait + Sync>(
                 deadline,
             };
             Ok(Some(Findings {
-                searched: search_states(rt, alloc, subject, 1, budget, &OpenGate)?,
-                responded: search_response(rt, alloc, subject, 1, budget, &OpenGate)?,
+                searched: search_states(rt, alloc, subject, workers, budget, &EagerGate)?,
+                responded: search_response(rt, alloc, subject, workers, budget, &EagerGate)?,
             }))
         }
         None => Ok(None),
@@ -262,6 +304,76 @@ fn are_walks(walks: &[Row<u32>], wanted: &[&[u32]]) -> bool {
     }
     for i in 0..walks.len() {
         if walks[i].as_slice() != wanted[i] {
+            return false;
+        }
+    }
+    true
+}
+
+fn is_same_search(one: &Searched, other: &Searched) -> bool {
+    match (one, other) {
+        (Searched::Passes(one), Searched::Passes(other)) => {
+            are_same_states(one.as_slice(), other.as_slice())
+        }
+        (Searched::Misses(one), Searched::Misses(other)) => {
+            are_same_walks(one.as_slice(), other.as_slice())
+        }
+        _ => false,
+    }
+}
+
+fn is_same_response(one: &Responded, other: &Responded) -> bool {
+    match (one, other) {
+        (
+            Responded::Reached { ticks, walks },
+            Responded::Reached {
+                ticks: number,
+                walks: others,
+            },
+        ) => *ticks == *number && are_same_walks(walks.as_slice(), others.as_slice()),
+        (Responded::Spent, Responded::Spent) => true,
+        _ => false,
+    }
+}
+
+fn are_same_states(some: &[StateClaim], others: &[StateClaim]) -> bool {
+    if some.len() != others.len() {
+        return false;
+    }
+    for i in 0..some.len() {
+        if !is_same_state(&some[i], &others[i]) {
+            return false;
+        }
+    }
+    true
+}
+
+fn is_same_state(one: &StateClaim, other: &StateClaim) -> bool {
+    one.work == other.work
+        && one.entries.as_slice() == other.entries.as_slice()
+        && is_same_end(&one.end, &other.end)
+}
+
+fn is_same_end(one: &StateEnd, other: &StateEnd) -> bool {
+    match (one, other) {
+        (StateEnd::Passes(time), StateEnd::Passes(other)) => *time == *other,
+        (
+            StateEnd::Splits { place, children },
+            StateEnd::Splits {
+                place: at,
+                children: numbers,
+            },
+        ) => *place == *at && children.as_slice() == numbers.as_slice(),
+        _ => false,
+    }
+}
+
+fn are_same_walks(some: &[Row<u32>], others: &[Row<u32>]) -> bool {
+    if some.len() != others.len() {
+        return false;
+    }
+    for i in 0..some.len() {
+        if some[i].as_slice() != others[i].as_slice() {
             return false;
         }
     }

@@ -1,4 +1,6 @@
-use crate::cases::{Case, End, State, find_response, finds_states, finds_walks, is_spent};
+use crate::cases::{
+    Case, End, State, find_alike, find_response, finds_states, finds_walks, is_spent,
+};
 use drt_fixtures::Shape;
 use std::test::Fail;
 
@@ -24,6 +26,47 @@ const MODES: Shape<'static> = (
 );
 
 const UNDER_MODES: Shape<'static> = (&[(4, 27)], &[(0, 0, 27)]);
+
+// Vertices that go on to themselves. Under three such tasks, nearly all of their combinations are looked at together.
+const LOOPS: Shape<'static> = (
+    &[
+        (3, 17),
+        (1, 9),
+        (6, 24),
+        (2, 8),
+        (6, 30),
+        (5, 25),
+        (5, 22),
+        (5, 24),
+        (3, 15),
+    ],
+    &[
+        (0, 0, 17),
+        (1, 1, 9),
+        (2, 2, 24),
+        (3, 3, 8),
+        (4, 4, 30),
+        (5, 5, 25),
+        (6, 6, 22),
+        (7, 7, 24),
+        (8, 8, 15),
+    ],
+);
+
+const LATE_LOOPS: Shape<'static> = (
+    &[(4, 22), (4, 18), (6, 28), (6, 24), (4, 19), (1, 8), (6, 29)],
+    &[
+        (0, 0, 22),
+        (1, 1, 18),
+        (2, 2, 28),
+        (3, 3, 24),
+        (4, 4, 19),
+        (5, 5, 8),
+        (6, 6, 29),
+    ],
+);
+
+const UNDER_LOOPS: Shape<'static> = (&[(5, 27)], &[(0, 0, 27)]);
 
 const LAST: Shape<'static> = (&[(1, 9)], &[(0, 0, 9)]);
 
@@ -94,25 +137,50 @@ fn a_spent_budget_is_no_answer(rt: HostRuntime) -> Result<(), Fail> {
 }
 
 // Under the ring the walk a b asks for 2 and 3 past 4, so that 3 are done at 6; under the fork u a for 1 and 4 past 2, so that 2 are done at
-// 6. Under the modes 4 are done at 8 by p, which asks for 4, and at 7 by q. With no task above a job of 4 is done at 4.
+// 6. Under the modes 4 are done at 8 by p, which asks for 4, and at 7 by q. With no task above a job of 4 is done at 4. Under the loops 5 are
+// done at 23, by two walks that ask for 6 up to 24 and one that asks for 3 and 6 past 17.
 #[test]
 fn the_greatest_response_is_reached_by_walks(rt: HostRuntime) -> Result<(), Fail> {
-    let cases: [(&[Shape<'_>], u64, u64); 4] = [
+    let cases: [(&[Shape<'_>], u64, u64); 5] = [
         (&[RING, UNDER_RING], 10, 6),
         (&[FORK, UNDER_FORK], 6, 6),
         (&[MODES, UNDER_MODES], 27, 8),
         (&[UNDER_MODES], 27, 4),
+        (&[LOOPS, LOOPS, LOOPS, UNDER_LOOPS], 27, 23),
     ];
     for (shapes, bound, ticks) in cases {
         let case = Case {
             shapes,
             bound,
-            budget: 100,
+            budget: 1_000,
         };
         assert_eq!(rt;
             find_response(&rt, rt.alloc(), case)?,
             Some(ticks),
             "up to {bound}"
+        );
+    }
+    Ok(())
+}
+
+// Up to 216 and 245 states are taken together. The first set passes, the second one misses.
+#[test]
+fn several_workers_find_what_one_finds(rt: HostRuntime) -> Result<(), Fail> {
+    let cases: [([Shape<'_>; 4], u32); 4] = [
+        ([LOOPS, LOOPS, LOOPS, UNDER_LOOPS], 2),
+        ([LOOPS, LOOPS, LOOPS, UNDER_LOOPS], 16),
+        ([LATE_LOOPS, LATE_LOOPS, LATE_LOOPS, UNDER_LOOPS], 2),
+        ([LATE_LOOPS, LATE_LOOPS, LATE_LOOPS, UNDER_LOOPS], 16),
+    ];
+    for (shapes, workers) in &cases {
+        let case = Case {
+            shapes: shapes.as_slice(),
+            bound: 27,
+            budget: 10_000,
+        };
+        assert!(rt;
+            find_alike(&rt, rt.alloc(), case, *workers)?,
+            "by {workers} workers"
         );
     }
     Ok(())
