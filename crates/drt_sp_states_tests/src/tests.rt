@@ -138,7 +138,7 @@ fn a_spent_budget_is_no_answer(rt: HostRuntime) -> Result<(), Fail> {
 
 // Under the ring the walk a b asks for 2 and 3 past 4, so that 3 are done at 6; under the fork u a for 1 and 4 past 2, so that 2 are done at
 // 6. Under the modes 4 are done at 8 by p, which asks for 4, and at 7 by q. With no task above a job of 4 is done at 4. Under the loops 5 are
-// done at 23, by two walks that ask for 6 up to 24 and one that asks for 3 and 6 past 17.
+// done at 23, by three walks that ask for 6 up to 24.
 #[test]
 fn the_greatest_response_is_reached_by_walks(rt: HostRuntime) -> Result<(), Fail> {
     let cases: [(&[Shape<'_>], u64, u64); 5] = [

@@ -5,7 +5,7 @@ use Rattle.drt_fixed.proofs.Decisions.{no_decided, yes_decided}
 use Rattle.drt_fixed.proofs.analysis.decide_by_states.Goals as goal
 
 pub returns-in-Schedulable : goal.returns-in-Schedulable
-returns-in-Schedulable c =
+returns-in-Schedulable g c =
     let kind = rw c.in-Some.is at c.in_ok-evidence.ensures in
     let range = c.is_in_range.ensures c.if-not-is_in_range.false in
     let judged = rw (c.in-Schedulable.is, c.dossier_of-dossier.ensures) at c.in_ok-check.ensures.judged in
@@ -13,7 +13,7 @@ returns-in-Schedulable c =
     subst (λ (d : Statement). IsDecision c.args.set d) (sym c.dossier_of-dossier.ensures) (yes_decided c.args.set c.in-Some.evidence kind range judged sound)
 
 pub returns-in-Unschedulable : goal.returns-in-Unschedulable
-returns-in-Unschedulable c =
+returns-in-Unschedulable g c =
     let kind = rw c.in-Some.is at c.in_ok-evidence.ensures in
     let range = c.is_in_range.ensures c.if-not-is_in_range.false in
     let judged = rw (c.in-Unschedulable.is, c.dossier_of-dossier.ensures) at c.in_ok-check.ensures.judged in
