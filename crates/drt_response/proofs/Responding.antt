@@ -1,0 +1,73 @@
+-- A greatest response by states: no walks need more time, and the walks found reach it.
+use Rattle.std.proofs.Common.{inl, inr, ◌≡◌, ℕ, ◌+◌, ◌<◌, ◌≤◌, List, length, take, sym, subst, arith}
+use Rattle.std.specs.List.{AllZip}
+use Rattle.std.proofs.lemmas.Bool.{cases_lt}
+use Rattle.drt_model.specs.declared.tasks.Task.{Task}
+use Rattle.drt_model.specs.declared.jobs.Policy.TheVariants.{Fixed}
+use Rattle.drt_model.specs.Constrained.{AreConstrained}
+use Rattle.drt_model.specs.Digraph.{vertex_count}
+use Rattle.drt_model.specs.Limits.{IsTaskSet}
+use Rattle.drt_model.specs.Schedulable.{Schedulable}
+use Rattle.drt_model.specs.Walk.{deadline, wcet}
+use Rattle.drt_busy.specs.Choice.{AreWalks, graph_at, task_at}
+use Rattle.drt_busy.specs.Response.{FitsWithin, IsGreatestFit, IsGreatestResponse, IsLeastFit, MeetsDeadlines, ReleasesReach, ResponseDecides, reaching}
+use Rattle.drt_states.specs.declared.claims.TailClaim.{TailClaim}
+use Rattle.drt_states.specs.States.{AreStates, HaveDominatedChildren}
+use Rattle.drt_states.specs.Tails.{BoundsWalks, EachTail, IsTail, graphs_of}
+use Rattle.drt_states_laws.specs.Laws.{StatesPass}
+use Rattle.drt_choices.specs.Laws.{AreReaching}
+use Rattle.drt_evidence.specs.Searches.{higher_places, higher_tails, places_of}
+use Rattle.drt_evidence.specs.Trees.{higher_count}
+use Rattle.drt_check.proofs.SoundOrder.{Walked, ordered, ordered_walked, walked}
+use Rattle.drt_fixed.proofs.Prefixes.{zip_take}
+use Rattle.drt_sp_states.specs.Answers.{AreWorst}
+use Rattle.drt_response.specs.Tails.{HaveTails}
+use Rattle.drt_response.specs.Placed.{placed_walk}
+use Rattle.drt_response.proofs.Higher.{first_walks, higher, higher_are, higher_near, higher_sound, places_in, requests_together, walks_in}
+use Rattle.drt_response.proofs.Placed.{placed_are_walks, placed_asked}
+
+module _ (version : ℕ) (tasks : List Task) (limits : IsTaskSet version tasks) (tails : List TailClaim) (have : HaveTails tasks tails)
+    (k v : ℕ) (task : k < length tasks) (vertex : v < vertex_count (graph_at tasks k)) (ticks : ℕ) (walks : List (List ℕ))
+    (worst : AreWorst (graphs_of (higher_places tasks (task_at tasks k))) (higher_tails tasks tails (task_at tasks k)) (wcet (graph_at tasks k) v) (deadline (graph_at tasks k) v) ticks walks) where
+  -- Whatever the walks, some time up to the number has room.
+  most : StatesPass → (others : ℕ → List ℕ) → AreWalks tasks others → FitsWithin tasks others k v ticks
+  most pass others are =
+      let n : ℕ = higher_count tasks (task_at tasks k).priority in
+      let xs : List Walked = ordered (walked tasks others) in
+      let first : List Walked = higher tasks others k in
+      let same = higher_are tasks others k task in
+      let rising = subst (λ ps. EachTail IsTail ps (take n tails)) same (zip_take (λ q tail. IsTail q.bound q.graph tail) n (places_of tasks) tails have.rising) in
+      let bounding = subst (λ ps. EachTail BoundsWalks ps (take n tails)) same (zip_take (λ q tail. BoundsWalks q.bound q.graph tail) n (places_of tasks) tails have.bounding) in
+      let states = subst (λ ps. AreStates (graphs_of ps) worst.states) same worst.are in
+      let children = subst (λ ps. HaveDominatedChildren (graphs_of ps) worst.bound worst.states) same worst.children in
+      let found = pass (places_in tasks first) (take n tails) (wcet (graph_at tasks k) v) worst.bound ticks worst.states
+      (higher_sound version tasks limits others k) (higher_near tasks others k v worst.bound task vertex worst.near) rising bounding states worst.within worst.times children
+      (walks_in first) (first_walks tasks n xs (ordered_walked tasks others are)) in
+      let t : ℕ = found.0 in
+      let fits = found.3 in
+      (t, found.1, found.2, omega (arith, fits, requests_together tasks others k t))
+
+  pub are_walks : AreWalks tasks (placed_walk tasks walks)
+  are_walks = placed_are_walks version tasks limits k task walks worst.each
+
+  -- The number is the least time that has room for the walks found.
+  least : IsLeastFit tasks (placed_walk tasks walks) k v ticks
+  least =
+      let asked = placed_asked version tasks limits k task walks worst.each in
+      record {
+        from = worst.some;
+        fits = omega (arith, worst.fits, asked ticks);
+        least = λ t one fits. elim (cases_lt t ticks) [
+          | inl lt ↦ (let before = worst.none t one lt in absurd (omega (arith, before, fits, asked t)))
+          | inr le ↦ le
+        ];
+      }
+
+  -- It is the greatest response, and their releases reach it.
+  pub states_respond : StatesPass → ResponseDecides → ReleasesReach → AreConstrained tasks → Schedulable tasks Fixed
+      → IsGreatestResponse tasks k v ticks × AreReaching tasks k v ticks (reaching tasks (placed_walk tasks walks) k v ticks)
+  states_respond pass decides reach constrained schedulable =
+      let meets : MeetsDeadlines tasks k = λ rs legal j here of. schedulable rs legal j here in
+      let fit : IsGreatestFit tasks k v ticks = record { walks = placed_walk tasks walks; are = are_walks; least = least; most = most pass } in
+      let (legal, (job, here, finish)) = reach version tasks limits constrained k v task vertex meets (placed_walk tasks walks) are_walks ticks least in
+      ((decides version tasks limits constrained k v task vertex meets ticks).1 fit, record { legal = legal; job = job; here = here; finish = finish })

@@ -1,0 +1,10 @@
+-- Walks of the tasks of higher priority in a list, in order of priority.
+use Rattle.std.specs.Prelude.{ℕ, List}
+use Rattle.drt_model.specs.declared.tasks.Task.{Task}
+use Rattle.drt_busy.specs.Choice.{task_at}
+use Rattle.drt_evidence.specs.Trees.{higher_count}
+use Rattle.drt_releases.specs.Walks.{walk_at}
+
+-- The walk of task k: it stands at the place that is the number of the tasks of higher priority. No walk past the end of the list.
+abbrev pub placed_walk : List Task → List (List ℕ) → ℕ → List ℕ
+placed_walk tasks walks k = walk_at walks (higher_count tasks (task_at tasks k).priority)
