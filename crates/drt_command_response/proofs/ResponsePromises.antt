@@ -3,20 +3,18 @@ use Rattle.std.proofs.Common.{◌≡◌, ◌<◌, ◌⊎◌, ℕ, List, Result, 
 use Rattle.drt_model.specs.Contents.{Contents}
 use Rattle.drt_model.specs.Limits.{IsTaskSet}
 use Rattle.drt_file.specs.trusted.Laws.{TextsReadAsOneSet}
-use Rattle.drt_evidence.specs.Ranges.{IsInRange}
 use Rattle.drt_evidence.specs.Text.{text}
-use Rattle.drt_evidence.specs.declared.evidence.Evidence.{Evidence}
-use Rattle.drt_evidence.specs.declared.evidence.Evidence.TheVariants.{EdfYes, EdfNo, UtilisationOne, FixedYes, FixedStates, FixedNo, Undecided}
+use Rattle.drt_evidence.specs.Statement.{Statement}
+use Rattle.drt_evidence.specs.declared.evidence.Evidence.TheVariants.{FixedNo}
 use Rattle.drt_command.specs.declared.report.Report.{Report}
 use Rattle.drt_command.specs.declared.report.Unmade.{Unmade}
 use Rattle.drt_command.specs.Rules.{AreLawful}
 use Rattle.drt_outcome.specs.declared.outcome.Trail.{Trail}
 use Rattle.drt_outcome.specs.declared.outcome.Trail.TheVariants as trails
-use Rattle.drt_response.specs.Answers.{AreResponses}
+use Rattle.drt_response.specs.Answers.{AreResponses, IsRefused}
 use Rattle.drt_response.specs.Laws.{ResponseBudgetsSuffice}
 use Rattle.drt_response.specs.Text.{response_text}
 use Rattle.drt_response.specs.declared.answer.Response.{Response}
-use Rattle.drt_sp.specs.Answers.{IsRefusal}
 use Rattle.drt_sp.specs.Evidence.{under_fixed}
 use Rattle.drt_command_files.specs.Dossiers.{evidence_status}
 use Rattle.drt_command_files.specs.TaskFiles.{IsAccepted}
@@ -40,26 +38,20 @@ done_responds bytes set budget responses accepted are (Ok m) is =
     (record { set = set; accepted = accepted; answer = inl (refl, record { responses = responses; are = are; text_is = refl }, refl) })
 done_responds bytes set budget responses accepted are (Err e) is = tt
 
--- The answer of a no.
-no_is : (set : Contents) (budget : ℕ) (evidence : Evidence) → IsTaskSet set.version set.tasks → IsRefusal set evidence → IsInRange evidence
-    → IsResponseAnswer set budget (evidence_status evidence) (text (under_fixed set evidence)) trails.Nothing
-no_is set budget (EdfYes ratios fronts) limits refused range = absurd refused
-no_is set budget (EdfNo releases miss) limits refused range = absurd refused
-no_is set budget (UtilisationOne ratios) limits refused range = absurd refused
-no_is set budget (FixedYes trees proofs) limits refused range = absurd refused
-no_is set budget (FixedStates tails searches) limits refused range = absurd refused
-no_is set budget (FixedNo releases miss) limits refused range =
-    inr (inl (refl, record { releases = releases; miss = miss; no = record { not_schedulable = refused.not_schedulable; accepted = refused.accepted }; is = record { stated = (limits, range); is = refl } }, refl))
-no_is set budget Undecided limits refused range = absurd refused
-
--- It is the answer of the report that is made of the evidence.
-pub missed_responds : (bytes : List ℕ) (set : Contents) (budget : ℕ) (evidence : Evidence) → IsAccepted bytes set → IsRefusal set evidence
-    → IsInRange evidence → (r : Result Report Unmade)
-    → IfOk r (λ m. m ≡ record { status = evidence_status evidence; text = text (under_fixed set evidence); trail = trails.Nothing })
+-- The answer of a no is that of the report that is made of its dossier.
+pub missed_responds : (bytes : List ℕ) (set : Contents) (budget : ℕ) (dossier : Statement) → IsAccepted bytes set → IsRefused set dossier
+    → (r : Result Report Unmade) → IfOk r (λ m. m ≡ record { status = evidence_status dossier.evidence; text = text dossier; trail = trails.Nothing })
     → IfOk r (Responds budget bytes)
-missed_responds bytes set budget evidence accepted refused range (Ok m) is =
-    subst (Responds budget bytes) (sym is) (record { set = set; accepted = accepted; answer = no_is set budget evidence accepted.reads.limits refused range })
-missed_responds bytes set budget evidence accepted refused range (Err e) is = tt
+missed_responds bytes set budget dossier accepted refused (Ok m) is =
+    let no : IsSpNoText set (text (under_fixed set (FixedNo refused.releases refused.miss))) = record {
+      releases = refused.releases;
+      miss = refused.miss;
+      no = refused.no;
+      is = record { stated = (accepted.reads.limits, refused.in_range); is = refl };
+    } in
+    let made : m ≡ record { status = 1; text = text (under_fixed set (FixedNo refused.releases refused.miss)); trail = trails.Nothing } = rw refused.dossier_is at is in
+    subst (Responds budget bytes) (sym made) (record { set = set; accepted = accepted; answer = inr (inl (refl, no, refl)) })
+missed_responds bytes set budget dossier accepted refused (Err e) is = tt
 
 answer_low : (set : Contents) (budget status : ℕ) (written : List ℕ) (trail : Trail) → IsResponseAnswer set budget status written trail → status < 4
 answer_low set budget status written trail (inl a) = omega (arith, a.0)

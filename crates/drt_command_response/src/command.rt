@@ -6,13 +6,16 @@ ghost use Rattle.drt_command.specs.declared.input.Input.{Input};
 ghost use Rattle.drt_command.specs.Inputs.{IsWithin};
 ghost use Rattle.drt_command.specs.Rules.{IsCause};
 ghost use Rattle.drt_command.specs.Runs.{IsRun};
+ghost use Rattle.drt_model.specs.declared.jobs.Policy.TheVariants.{Fixed};
+ghost use Rattle.drt_evidence.specs.Text.{text};
+ghost use Rattle.drt_command_files.specs.Dossiers.{evidence_status};
 ghost use Rattle.drt_response.specs.Text.{response_text};
 ghost use Rattle.drt_command_response.specs.Response.{Responds, response_rules, response_trail};
 ghost use Rattle.drt_command_files.specs.TaskFiles.{IsAccepted};
 
 use drt_command::{Promised, Report, Unmade, finish, read_input, stop_reading};
 use drt_command_files::{file_input, make_report, read_set};
-use drt_evidence::Evidence;
+use drt_evidence::{Dossier, Evidence};
 use drt_file::laws::texts_read_as_one_set;
 use drt_graph::Graphs;
 use drt_io::{Sink, Source};
@@ -97,12 +100,10 @@ fn answer<G: Gate, R: Threads + Wait + Sync>(
     ensures unmade { IfErr result (λ e. e ≡ Unmade.Memory) }
 {
     let budget = u64::from(search.budget());
-    match respond(rt, alloc, &set, graphs, search.workers(), budget, gate) {
+    match respond(rt, alloc, set, graphs, search.workers(), budget, gate) {
         Ok(ResponseAnswer::Done(responses)) => print_responses(alloc, responses.as_slice()),
-        Ok(ResponseAnswer::Missed(evidence)) => {
-            make_report(alloc, Policy::Fixed, set, evidence, Trail::Nothing)
-        }
-        Ok(ResponseAnswer::Undecided(trail)) => make_report(
+        Ok(ResponseAnswer::Missed(dossier)) => refusal_of(alloc, dossier),
+        Ok(ResponseAnswer::Undecided { set, trail }) => make_report(
             alloc,
             Policy::Fixed,
             set,
@@ -111,6 +112,16 @@ fn answer<G: Gate, R: Threads + Wait + Sync>(
         ),
         Err(_) => Err(Unmade::Memory),
     }
+}
+
+// The report of a no: its dossier under fixed priorities.
+fn refusal_of(alloc: Global, dossier: Dossier) -> Result<Report, Unmade>
+    requires policy { dossier.policy ≡ Fixed }
+    ensures report { IfOk result (λ m. m ≡ record { status = evidence_status dossier.evidence; text = text dossier; trail = Trail.Nothing }) }
+    ensures unmade { IfErr result (λ e. e ≡ Unmade.Memory) }
+{
+    let Dossier { set, evidence, .. } = dossier;
+    make_report(alloc, Policy::Fixed, set, evidence, Trail::Nothing)
 }
 
 // The report of these responses.

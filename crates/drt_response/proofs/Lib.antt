@@ -1,5 +1,14 @@
+mod Cuts
+mod Due
 mod Enough
 mod Firsts
+mod Higher
+mod Orders
+mod Placed
+mod Places
 mod Posed
+mod Refusals
+mod Rises
 mod Texts
 mod Vertices
+mod Worst

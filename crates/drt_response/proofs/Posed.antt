@@ -10,7 +10,8 @@ use Rattle.drt_busy.specs.Choice.{graph_at}
 use Rattle.drt_busy.specs.Decide.{TimesSufficeForTask}
 use Rattle.drt_steps.specs.Time.{AreChosen, Passes}
 use Rattle.drt_refine.specs.Below.{AreBelow}
-use Rattle.drt_choices.specs.Choices.{VertexPasses}
+use Rattle.drt_choices.specs.Choices.{VertexPasses, chosen as chosen_of}
+use Rattle.drt_choices.proofs.Chosen.{chosen_walks}
 use Rattle.drt_choices.specs.Laws.{IsGreatestTime, IsPosed, LeavesRespond, WalksPass, leaf_releases}
 use Rattle.drt_evidence.specs.Trees.{greatest_deadline}
 use Rattle.drt_sp.specs.Answers.{IsReached, IsTupleFor}
@@ -23,6 +24,7 @@ use Rattle.drt_sp.proofs.Yes.{few_tasks}
 use Rattle.drt_worst.specs.Splitting.{IsGreatest, search_for}
 use Rattle.drt_response.specs.Answers.{IsResponseOf}
 use Rattle.drt_response.specs.declared.answer.Response.{Response}
+use Rattle.drt_response.proofs.Cuts.{reaching_leaves}
 use Rattle.drt_response.proofs.Firsts.{get_first, length_first, nodes_first, trees_first}
 
 module _ (set : Contents) (trees : ProvedTrees) (are : AreProvedTrees set trees) (m k : ℕ) (at : slice_get trees.order m ≡ Some k) where
@@ -89,10 +91,8 @@ module _ (set : Contents) (trees : ProvedTrees) (are : AreProvedTrees set trees)
         let made : IsResponseOf set (record { task = k; vertex = v; ticks = ticks; releases = leaf_releases set.tasks trees.forest trees.order tuple k v ticks }) = record {
           greatest = shown;
           reaching = reaching;
-          order = trees.order;
-          forest = trees.forest;
-          tuple = tuple;
-          leaves = tuple_for tuple is.reached.below;
-          releases_are = refl;
+          walks = chosen_of set.tasks trees.forest ticks trees.order tuple;
+          are = chosen_walks set.tasks trees.forest ticks (greatest_deadline set.tasks) trees.order (take m trees.roots) tuple posed.trees is.reached.below;
+          releases_are = reaching_leaves set.tasks trees.forest ticks trees.order tuple k v;
         } in
         rw (task_is, vertex_is, ticks_are, releases_are) made

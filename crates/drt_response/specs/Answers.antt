@@ -6,12 +6,18 @@ use Rattle.drt_model.specs.declared.tasks.Task.{Task}
 use Rattle.drt_model.specs.Digraph.{vertex_count}
 use Rattle.drt_model.specs.Schedulable.{Schedulable}
 use Rattle.drt_model.specs.Walk.{deadline, wcet}
-use Rattle.drt_busy.specs.Choice.{graph_at}
-use Rattle.drt_busy.specs.Response.{IsGreatestResponse}
+use Rattle.drt_model.specs.declared.jobs.Miss.{Miss}
+use Rattle.drt_model.specs.declared.jobs.Release.{Release}
+use Rattle.drt_busy.specs.Choice.{AreWalks, graph_at}
+use Rattle.drt_busy.specs.Response.{IsGreatestResponse, reaching as reaching_walks}
 use Rattle.drt_tree.specs.Tree.{Plain}
-use Rattle.drt_choices.specs.Laws.{AreReaching, leaf_releases}
+use Rattle.drt_choices.specs.Laws.{AreReaching}
 use Rattle.drt_evidence.specs.Ranges.{IsInRange}
-use Rattle.drt_sp.specs.Answers.{IsReached, IsRefusal, IsTupleFor, IsUndecided}
+use Rattle.drt_evidence.specs.Statement.{Statement}
+use Rattle.drt_evidence.specs.declared.evidence.Evidence.TheVariants.{FixedNo}
+use Rattle.drt_fixed.specs.Answers.{IsNo}
+use Rattle.drt_sp.specs.Answers.{IsReached, IsRefusal, IsUndecided}
+use Rattle.drt_sp.specs.Evidence.{under_fixed}
 use Rattle.drt_sp.specs.Vertices.{subjects}
 use Rattle.drt_worst.specs.Splitting.{search_for}
 use Rattle.drt_worst.specs.Spent.{IsSpent}
@@ -20,20 +26,26 @@ use Rattle.drt_response.specs.declared.answer.ResponseAnswer.{ResponseAnswer}
 use Rattle.drt_response.specs.declared.answer.ResponseAnswer.TheVariants.{Done, Missed, Undecided}
 use Rattle.drt_response.specs.declared.answer.ResponseTrail.{ResponseTrail}
 use Rattle.drt_response.specs.declared.answer.ResponseTrail.TheVariants.{Fixed as FixedTrailOf, Search}
+use Rattle.drt_response.specs.declared.by_states.StatesResponse.{StatesResponse}
+use Rattle.drt_response.specs.declared.by_states.StatesResponse.TheVariants as states
+use Rattle.drt_response.specs.declared.by_trees.TreesResponse.{TreesResponse}
+use Rattle.drt_response.specs.declared.by_trees.TreesResponse.TheVariants as trees
 use Rattle.drt_response.specs.declared.vertex.VertexResponse.{VertexResponse}
 use Rattle.drt_response.specs.declared.vertex.VertexResponse.TheVariants as outcomes
 
--- The number of ticks is the greatest response of the vertex. The releases are legal, in order of tasks, and reach it: they are those of
--- the walks of a tuple of leaves, from time 0 and with offsets below that number, each with its worst case, and the job of the vertex at 0,
+-- The number of ticks is the greatest response of the vertex. The releases are legal, in order of tasks, and reach it: they are those of a walk
+-- of each task of higher priority, from time 0 and with offsets below that number, each with its worst case, and the job of the vertex at 0,
 -- which finishes after exactly so many ticks.
 pub record IsResponseOf (set : Contents) (r : Response) : Type 0 where
   pub greatest : IsGreatestResponse set.tasks r.task r.vertex r.ticks
   pub reaching : AreReaching set.tasks r.task r.vertex r.ticks r.releases
-  pub order : List ℕ
-  pub forest : Plain
-  pub tuple : List ℕ
-  pub leaves : IsTupleFor set order forest r.task r.vertex tuple
-  pub releases_are : r.releases ≡ leaf_releases set.tasks forest order tuple r.task r.vertex r.ticks
+  pub walks : ℕ → List ℕ
+  pub are : AreWalks set.tasks walks
+  pub releases_are : r.releases ≡ reaching_walks set.tasks walks r.task r.vertex r.ticks
+
+-- It is the response of vertex v of task k.
+abbrev pub IsResponseOfVertex : Contents → ℕ → ℕ → Response → Type 0
+IsResponseOfVertex set k v r = (r.task ≡ k) × (r.vertex ≡ v) × IsResponseOf set r
 
 -- The search at a vertex that the analysis reached spent the budget.
 pub record IsSpentSearch (set : Contents) (budget k v : ℕ) (taken : List (List ℕ)) : Type 0 where
@@ -68,13 +80,33 @@ pub record AreResponses (set : Contents) (responses : List Response) : Type 0 wh
   pub are : map respondent responses ≡ vertices_of set.tasks (length set.tasks)
   pub each : All (IsResponseOf set) responses
 
--- What each answer says, with a budget.
+-- The dossier of a no: that of the set under fixed priorities with evidence in range.
+pub record IsRefused (set : Contents) (dossier : Statement) : Type 0 where
+  pub releases : List Release
+  pub miss : Miss
+  pub dossier_is : dossier ≡ under_fixed set (FixedNo releases miss)
+  pub in_range : IsInRange (FixedNo releases miss)
+  pub no : IsNo set releases miss
+
+-- What each answer says, with a budget. Where nothing is decided, the set comes back.
 abbrev pub IsResponseAnswer : Contents → ℕ → ResponseAnswer → Type 0
 IsResponseAnswer set budget (Done responses) = AreResponses set responses
-IsResponseAnswer set budget (Missed evidence) = IsRefusal set evidence × IsInRange evidence
-IsResponseAnswer set budget (Undecided trail) = IsUndecidedResponse set budget trail
+IsResponseAnswer set budget (Missed dossier) = IsRefused set dossier
+IsResponseAnswer set budget (Undecided same trail) = (same ≡ set) × IsUndecidedResponse set budget trail
+
+-- What trees say, with a budget.
+abbrev pub IsTreesResponse : Contents → ℕ → TreesResponse → Type 0
+IsTreesResponse set budget (trees.Done responses) = AreResponses set responses
+IsTreesResponse set budget (trees.Missed evidence) = IsRefusal set evidence × IsInRange evidence
+IsTreesResponse set budget (trees.Undecided trail) = IsUndecidedResponse set budget trail
+
+-- What tails and states say: nothing leaves the set as it was.
+abbrev pub IsStatesResponse : Contents → StatesResponse → Type 0
+IsStatesResponse set (states.Done responses) = AreResponses set responses
+IsStatesResponse set (states.Missed dossier) = IsRefused set dossier
+IsStatesResponse set (states.Nothing same) = same ≡ set
 
 -- What came of vertex v of task k.
 abbrev pub IsVertexResponse : Contents → ℕ → ℕ → ℕ → VertexResponse → Type 0
-IsVertexResponse set budget k v (outcomes.Reached r) = (r.task ≡ k) × (r.vertex ≡ v) × IsResponseOf set r
+IsVertexResponse set budget k v (outcomes.Reached r) = IsResponseOfVertex set k v r
 IsVertexResponse set budget k v (outcomes.Spent taken) = IsSpentSearch set budget k v taken

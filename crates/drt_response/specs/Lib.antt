@@ -1,3 +1,6 @@
 pub mod Answers
 pub mod Laws
+pub mod Placed
+pub mod Subjects
+pub mod Tails
 pub mod Text

@@ -1,7 +1,7 @@
 //! The answers.
 
-use drt_evidence::Evidence;
-use drt_model::{Release, Row};
+use drt_evidence::Dossier;
+use drt_model::{Release, Row, TaskSet};
 use drt_trails::FixedTrail;
 
 /// The greatest response time of a vertex, in ticks, and releases that reach it: the job of the vertex at time 0, and those of a walk of
@@ -31,8 +31,8 @@ pub enum ResponseTrail {
 pub enum ResponseAnswer {
     /// The set is schedulable, with a response for each vertex of each task, in order of the file.
     Done(Row<Response>),
-    /// The set isn't schedulable, with the evidence.
-    Missed(Evidence),
-    /// A budget was spent before there was an answer.
-    Undecided(ResponseTrail),
+    /// The set isn't schedulable, with its dossier.
+    Missed(Dossier),
+    /// A budget was spent before there was an answer, with the set as it was.
+    Undecided { set: TaskSet, trail: ResponseTrail },
 }

@@ -1,18 +1,22 @@
 //! Exact worst response times under fixed priorities.
 //!
-//! `respond` runs the analysis under fixed priorities. Where the set is schedulable, it searches the trees of that analysis for the
-//! greatest response time of each vertex, and shows releases that reach it. The layer above uses the one contract of `respond`, and
-//! `print`, which writes responses as text. `budgets_suffice_for_responses` says that a budget that is enough for the analysis is
-//! enough here.
+//! `respond` looks for the greatest response time of each vertex, and shows releases that reach it: first by the trees of `drt_sp` with few
+//! steps, so that small sets have a small answer, then by tails and states, then by trees with the whole budget. The layer above uses the
+//! one contract of `respond`, and `print`, which writes responses as text. `budgets_suffice_for_responses` says that a budget that is enough
+//! for the analysis is enough here.
 #![tactic(auto)]
 
 mod answer;
+mod by_states;
+mod by_trees;
 mod laws;
-mod responses;
+mod reaching;
+mod responding;
+mod subjects;
 mod text;
 mod vertex;
 
 pub use answer::{Response, ResponseAnswer, ResponseTrail};
 pub use laws::budgets_suffice_for_responses;
-pub use responses::respond;
+pub use responding::respond;
 pub use text::print;

@@ -14,8 +14,6 @@ returns-in-Ok-Done-clause-responds g c =
 pub returns-in-Ok-Missed-clause-responds : goal.returns-in-Ok-Missed-clause-responds
 returns-in-Ok-Missed-clause-responds g c =
     let is : c.from-budget.result ≡ c.args.search.now.budget = c.from-budget.ensures ∙ c.budget.ensures.is in
-    let found : IsResponseAnswer c.args.set c.from-budget.result (Missed c.in-Ok-Missed.evidence) = rw c.in-Ok-Missed.field-0-is at c.in-Ok-Missed.ensures in
-    let answer : IsResponseAnswer c.args.set c.args.search.now.budget (Missed c.in-Ok-Missed.evidence)
-    = subst (λ (n : ℕ). IsResponseAnswer c.args.set n (Missed c.in-Ok-Missed.evidence)) is found in
-    missed_responds c.args.bytes.now c.args.set c.args.search.now.budget c.in-Ok-Missed.evidence c.requires.accepted answer.0 answer.1
-    c.make_report.result c.make_report.ensures.report
+    let found : IsResponseAnswer c.args.set c.from-budget.result (Missed c.in-Ok-Missed.dossier) = rw c.in-Ok-Missed.field-0-is at c.in-Ok-Missed.ensures in
+    missed_responds c.args.bytes.now c.args.set c.args.search.now.budget c.in-Ok-Missed.dossier c.requires.accepted found
+    c.refusal_of.result c.refusal_of.ensures.report

@@ -4,7 +4,7 @@ use Rattle.drt_model.specs.Digraph.{digraph_of}
 use Rattle.drt_response.specs.Answers.{AreResponses, AreResponsesTo}
 use Rattle.drt_response.specs.declared.answer.Response.{Response}
 use Rattle.drt_response.proofs.Vertices.{all_responses, no_responses}
-use Rattle.drt_response.proofs.responses.respond_all.Goals as goal
+use Rattle.drt_response.proofs.by_trees.respond_all.Goals as goal
 
 pub tasks-init : goal.tasks-init
 tasks-init g c = subst (λ (rs : List Response). AreResponsesTo c.args.set.now 0 0 rs) (sym c.new-responses.ensures.items) (no_responses c.args.set.now)

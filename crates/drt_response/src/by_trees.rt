@@ -1,12 +1,13 @@
-//! The greatest response times of all vertices.
+//! The greatest response times of all vertices, by trees alone.
 ghost use Rattle.std.specs.Prelude.{◌≡◌, ◌+◌, ◌≤◌, ◌<◌, length, IfOk, MatchOption};
 ghost use Rattle.drt_model.specs.Constrained.{AreConstrained};
 ghost use Rattle.drt_evidence.specs.Claims.{graphs_of};
 ghost use Rattle.drt_sp.specs.Grown.{AreProvedTrees};
-ghost use Rattle.drt_response.specs.Answers.{AreResponsesTo, IsResponseAnswer, IsUndecidedResponse};
+ghost use Rattle.drt_response.specs.Answers.{AreResponsesTo, IsTreesResponse, IsUndecidedResponse};
 
-use crate::answer::{Response, ResponseAnswer, ResponseTrail};
+use crate::answer::{Response, ResponseTrail};
 use crate::vertex::{VertexResponse, respond_vertex};
+use drt_evidence::Evidence;
 use drt_graph::Graphs;
 use drt_model::{Memory, Row, TaskSet};
 use drt_pool::Gate;
@@ -15,12 +16,24 @@ use std::alloc::Global;
 use std::sync::Wait;
 use std::thread::Threads;
 
+/// What trees say of a set.
+#[derive(Drop)]
+pub(crate) enum TreesResponse {
+    /// The set is schedulable, with a response for each vertex of each task, in order of the file.
+    Done(Row<Response>),
+    /// The set isn't schedulable, with the evidence.
+    Missed(Evidence),
+    /// A budget was spent before there was an answer.
+    Undecided(ResponseTrail),
+}
+
 /// The exact worst response time of each vertex of a set with constrained deadlines that is schedulable under fixed priorities, in ticks,
 /// with releases that reach it; or the no of the analysis. So many workers search together for a response, and the gate sees each of their
-/// turns; they take part in the analysis as there. Each search of the analysis, and each worker's part of a search for a response time, ends after `budget` steps at the latest.
+/// turns; they take part in the analysis as there. Each search of the analysis, and each worker's part of a search for a response time, ends
+/// after `budget` steps at the latest.
 ///
 /// Source: Stigge and Yi, "Combinatorial Abstraction Refinement for Feasibility Analysis" (RTSS 2013).
-pub fn respond<G: Gate, R: Threads + Wait + Sync>(
+pub(crate) fn respond_by_trees<G: Gate, R: Threads + Wait + Sync>(
     rt: &R,
     alloc: Global,
     set: &TaskSet,
@@ -28,18 +41,18 @@ pub fn respond<G: Gate, R: Threads + Wait + Sync>(
     workers: u32,
     budget: u64,
     gate: &G,
-) -> Result<ResponseAnswer, Memory>
+) -> Result<TreesResponse, Memory>
     requires constrained { AreConstrained set.now.tasks }
     requires graphs { graphs.now ≡ graphs_of set.now.tasks }
     requires workers { (1 ≤ workers) × (workers ≤ 16) }
     requires some { 1 ≤ budget }
     requires few { budget ≤ 1000000 }
-    ensures { IfOk result (IsResponseAnswer set.now budget) }
+    ensures { IfOk result (IsTreesResponse set.now budget) }
 {
     match analyse_trees(rt, alloc, set, graphs, workers, budget, gate)? {
-        TreesAnswer::Missed(evidence) => Ok(ResponseAnswer::Missed(evidence)),
+        TreesAnswer::Missed(evidence) => Ok(TreesResponse::Missed(evidence)),
         TreesAnswer::Undecided(trail) => {
-            Ok(ResponseAnswer::Undecided(ResponseTrail::Fixed(trail)))
+            Ok(TreesResponse::Undecided(ResponseTrail::Fixed(trail)))
         }
         TreesAnswer::Proved(trees) => {
             respond_all(rt, alloc, set, graphs, &trees, workers, budget, gate)
@@ -57,13 +70,13 @@ fn respond_all<G: Gate, R: Threads + Wait + Sync>(
     workers: u32,
     budget: u64,
     gate: &G,
-) -> Result<ResponseAnswer, Memory>
+) -> Result<TreesResponse, Memory>
     requires constrained { AreConstrained set.now.tasks }
     requires graphs { graphs.now ≡ graphs_of set.now.tasks }
     requires trees { AreProvedTrees set.now trees.now }
     requires workers { (1 ≤ workers) × (workers ≤ 16) }
     requires budget { (1 ≤ budget) × (budget ≤ 1000000) }
-    ensures { IfOk result (IsResponseAnswer set.now budget) }
+    ensures { IfOk result (IsTreesResponse set.now budget) }
 {
     let mut responses = Vec::new(alloc);
     'tasks: for task in 0..graphs.count() {
@@ -79,10 +92,10 @@ fn respond_all<G: Gate, R: Threads + Wait + Sync>(
             gate,
             &mut responses,
         )? {
-            return Ok(ResponseAnswer::Undecided(trail));
+            return Ok(TreesResponse::Undecided(trail));
         }
     }
-    Ok(ResponseAnswer::Done(Row::from_vec(responses)))
+    Ok(TreesResponse::Done(Row::from_vec(responses)))
 }
 
 // Adds the responses of the vertices of a task to those of the tasks before it. A trail ends it.

@@ -6,7 +6,7 @@ use Rattle.drt_graph.specs.Graphs.{graph_of}
 use Rattle.drt_busy.specs.Choice.{graph_at}
 use Rattle.drt_releases.proofs.Walks.{graph_same}
 use Rattle.drt_response.proofs.Vertices.{responses_more, responses_next}
-use Rattle.drt_response.proofs.responses.respond_task.Goals as goal
+use Rattle.drt_response.proofs.by_trees.respond_task.Goals as goal
 
 pub graph-graph-requires : goal.graph-graph-requires
 graph-graph-requires g c = omega (arith, c.requires.task, ap length c.requires.graphs, length-map c.args.set.now.tasks digraph_of)

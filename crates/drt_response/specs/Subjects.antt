@@ -1,0 +1,41 @@
+-- What the searches of all vertices are given, and the subject of each.
+use Rattle.std.specs.Prelude.{◌≡◌, ℕ, List}
+use Rattle.drt_model.specs.declared.jobs.Policy.TheVariants.{Fixed}
+use Rattle.drt_model.specs.Constrained.{AreConstrained}
+use Rattle.drt_model.specs.Schedulable.{Schedulable}
+use Rattle.drt_model.specs.Walk.{deadline, wcet}
+use Rattle.drt_busy.specs.Choice.{graph_at, task_at}
+use Rattle.drt_states.specs.Tails.{graphs_of as place_graphs}
+use Rattle.drt_check_states.specs.Crests.{AreCrests}
+use Rattle.drt_check_states.specs.Places.{graphs_at}
+use Rattle.drt_check_trees.specs.Order.{IsPriorityOrder}
+use Rattle.drt_evidence.specs.Claims.{graphs_of}
+use Rattle.drt_evidence.specs.Searches.{higher_places, higher_tails}
+use Rattle.drt_sp_states.specs.Answers.{AreWorst}
+use Rattle.drt_sp_states.specs.declared.places.Subject.{Subject}
+use Rattle.drt_response.specs.Tails.{HaveTails}
+use Rattle.drt_response.specs.declared.subjects.Given.{Given}
+use Rattle.drt_response.specs.declared.subjects.VertexAt.{VertexAt}
+
+-- The set is schedulable and has constrained deadlines, the graphs and the order of priority are its own, the tails bound its walks, and the
+-- crests are theirs.
+pub record IsGiven (g : Given) : Type 0 where
+  pub constrained : AreConstrained g.set.now.tasks
+  pub schedulable : Schedulable g.set.now.tasks Fixed
+  pub graphs : g.graphs.now ≡ graphs_of g.set.now.tasks
+  pub order : IsPriorityOrder g.set.now.tasks g.order.now
+  pub tails : HaveTails g.set.now.tasks g.tails.now
+  pub crests : AreCrests g.tails.now g.crests.now
+
+-- The subject has the graphs and the tails of the tasks of higher priority, and the numbers of the vertex.
+pub record IsSubjectOf (g : Given) (at : VertexAt) (s : Subject) : Type 0 where
+  pub graphs : graphs_at s.graphs.now s.order.now ≡ place_graphs (higher_places g.set.now.tasks (task_at g.set.now.tasks at.task))
+  pub tails : s.tails.now ≡ higher_tails g.set.now.tasks g.tails.now (task_at g.set.now.tasks at.task)
+  pub wcet : s.wcet ≡ wcet (graph_at g.set.now.tasks at.task) at.vertex
+  pub deadline : s.deadline ≡ deadline (graph_at g.set.now.tasks at.task) at.vertex
+
+-- Walks of the tasks of higher priority reach the number at the vertex, and none reach more.
+abbrev pub AreWorstAt : Given → VertexAt → ℕ → List (List ℕ) → Type 0
+AreWorstAt g at ticks walks =
+    AreWorst (place_graphs (higher_places g.set.now.tasks (task_at g.set.now.tasks at.task))) (higher_tails g.set.now.tasks g.tails.now (task_at g.set.now.tasks at.task))
+    (wcet (graph_at g.set.now.tasks at.task) at.vertex) (deadline (graph_at g.set.now.tasks at.task) at.vertex) ticks walks

@@ -1,0 +1,233 @@
+//! The greatest response times of all vertices, by tails and states.
+ghost use Rattle.std.specs.Prelude.{◌≡◌, ◌+◌, ◌≤◌, ◌<◌, IfOk, IfSome, IsTrue, length};
+ghost use Rattle.drt_model.specs.declared.jobs.Policy.TheVariants.{Fixed};
+ghost use Rattle.drt_model.specs.Constrained.{AreConstrained};
+ghost use Rattle.drt_model.specs.Digraph.{vertex_count};
+ghost use Rattle.drt_model.specs.Schedulable.{Schedulable};
+ghost use Rattle.drt_busy.specs.Choice.{graph_at};
+ghost use Rattle.drt_evidence.specs.Claims.{graphs_of};
+ghost use Rattle.drt_fixed.specs.Answers.{IsDecision};
+ghost use Rattle.drt_response.specs.Answers.{AreResponses, AreResponsesTo, IsResponseOfVertex, IsStatesResponse};
+ghost use Rattle.drt_response.specs.Subjects.{AreWorstAt, IsGiven};
+ghost use Rattle.drt_response.specs.Tails.{HaveTails};
+
+use crate::answer::Response;
+use crate::reaching::{FirstJob, reaching_releases};
+use crate::subjects::{Given, VertexAt, subject_of};
+use drt_busy::{releases_reach, response_decides};
+use drt_check_states::find_crests;
+use drt_check_trees::priority_order;
+use drt_evidence::{Dossier, Evidence};
+use drt_fixed::{ByStates, decide_by_states};
+use drt_graph::Graphs;
+use drt_model::{Memory, Row, TaskSet};
+use drt_pool::Gate;
+use drt_sp_states::{Responded, search_response};
+use drt_states::TailClaim;
+use drt_states_laws::states_pass;
+use std::alloc::Global;
+use std::sync::Wait;
+use std::thread::Threads;
+
+/// What tails and states say of a set.
+#[derive(Drop)]
+pub(crate) enum StatesResponse {
+    /// The set is schedulable, with a response for each vertex of each task, in order of the file.
+    Done(Row<Response>),
+    /// The set isn't schedulable, with its dossier.
+    Missed(Dossier),
+    /// Nothing: the set as it was.
+    Nothing(TaskSet),
+}
+
+// Who searches, and for how many states each: so many workers, whose turns the gate sees.
+#[derive(Drop)]
+struct Effort<'a, G, R> {
+    rt: &'a R,
+    alloc: Global,
+    workers: u32,
+    budget: u64,
+    gate: &'a G,
+}
+
+/// What tails and states say of a set with constrained deadlines, with this budget of states for each vertex.
+pub(crate) fn respond_by_states<G: Gate, R: Threads + Wait + Sync>(
+    rt: &R,
+    alloc: Global,
+    set: TaskSet,
+    graphs: &Graphs,
+    workers: u32,
+    budget: u64,
+    gate: &G,
+) -> Result<StatesResponse, Memory>
+    requires constrained { AreConstrained set.tasks }
+    requires graphs { graphs.now ≡ graphs_of set.tasks }
+    requires workers { (1 ≤ workers) × (workers ≤ 16) }
+    ensures { IfOk result (IsStatesResponse set) }
+{
+    let effort = Effort {
+        rt,
+        alloc,
+        workers,
+        budget,
+        gate,
+    };
+    match decide_by_states(alloc, set, graphs, budget)? {
+        ByStates::Decided(dossier) => respond_decided(&effort, dossier, graphs),
+        ByStates::Nothing(set) => Ok(StatesResponse::Nothing(set)),
+    }
+}
+
+// What they say of a set that is decided.
+fn respond_decided<G: Gate, R: Threads + Wait + Sync>(
+    effort: &Effort<'_, G, R>,
+    dossier: Dossier,
+    graphs: &Graphs,
+) -> Result<StatesResponse, Memory>
+    requires constrained { AreConstrained dossier.set.tasks }
+    requires graphs { graphs.now ≡ graphs_of dossier.set.tasks }
+    requires workers { (1 ≤ effort.now.workers) × (effort.now.workers ≤ 16) }
+    requires decision { IsDecision dossier.set dossier }
+    ensures { IfOk result (IsStatesResponse dossier.set) }
+{
+    let found = match &dossier.evidence {
+        Evidence::FixedStates { tails, .. } => {
+            respond_over(effort, &dossier.set, graphs, tails.as_slice())?
+        }
+        Evidence::FixedNo { .. } => return Ok(StatesResponse::Missed(dossier)),
+        _ => None,
+    };
+    match found {
+        Some(responses) => Ok(StatesResponse::Done(responses)),
+        None => Ok(StatesResponse::Nothing(dossier.set)),
+    }
+}
+
+// The responses of a schedulable set over these tails; none where a search finds nothing.
+fn respond_over<G: Gate, R: Threads + Wait + Sync>(
+    effort: &Effort<'_, G, R>,
+    set: &TaskSet,
+    graphs: &Graphs,
+    tails: &[TailClaim],
+) -> Result<Option<Row<Response>>, Memory>
+    requires constrained { AreConstrained set.now.tasks }
+    requires graphs { graphs.now ≡ graphs_of set.now.tasks }
+    requires workers { (1 ≤ effort.now.workers) × (effort.now.workers ≤ 16) }
+    requires schedulable { Schedulable set.now.tasks Fixed }
+    requires tails { HaveTails set.now.tasks tails.now }
+    ensures { IfOk result (λ found. IfSome found (AreResponses set.now)) }
+{
+    let order = priority_order(effort.alloc, set)?;
+    let crests = find_crests(effort.alloc, tails)?;
+    let given = Given {
+        set,
+        graphs,
+        order: order.as_slice(),
+        tails,
+        crests: crests.as_slice(),
+    };
+    respond_all(effort, given)
+}
+
+// The responses of all vertices.
+fn respond_all<G: Gate, R: Threads + Wait + Sync>(
+    effort: &Effort<'_, G, R>,
+    given: Given<'_>,
+) -> Result<Option<Row<Response>>, Memory>
+    requires workers { (1 ≤ effort.now.workers) × (effort.now.workers ≤ 16) }
+    requires given { IsGiven given }
+    ensures { IfOk result (λ found. IfSome found (AreResponses given.entry.set.now)) }
+{
+    let mut responses = Vec::new(effort.alloc);
+    'tasks: for task in 0..given.graphs.count() {
+        if !respond_task(effort, given, task, &mut responses)? {
+            return Ok(None);
+        }
+    }
+    Ok(Some(Row::from_vec(responses)))
+}
+
+// Adds the responses of the vertices of a task to those of the tasks before it. It answers whether all are found.
+fn respond_task<G: Gate, R: Threads + Wait + Sync>(
+    effort: &Effort<'_, G, R>,
+    given: Given<'_>,
+    task: u32,
+    responses: &mut Vec<Response>,
+) -> Result<bool, Memory>
+    requires workers { (1 ≤ effort.now.workers) × (effort.now.workers ≤ 16) }
+    requires given { IsGiven given }
+    requires task { task < length given.set.now.tasks }
+    requires before { AreResponsesTo given.set.now task 0 responses.old.items }
+    ensures { IfOk result (λ all. IsTrue all → AreResponsesTo given.entry.set.now (task + 1) 0 responses.new.items) }
+{
+    let graph = given.graphs.graph(task);
+    'vertices: for vertex in 0..graph.vertex_count() {
+        match respond_vertex(effort, given, task, vertex)? {
+            Some(response) => responses.push(response)?,
+            None => return Ok(false),
+        }
+    }
+    Ok(true)
+}
+
+// The response of a vertex of a task, where its search finds one.
+fn respond_vertex<G: Gate, R: Threads + Wait + Sync>(
+    effort: &Effort<'_, G, R>,
+    given: Given<'_>,
+    task: u32,
+    vertex: u32,
+) -> Result<Option<Response>, Memory>
+    requires workers { (1 ≤ effort.now.workers) × (effort.now.workers ≤ 16) }
+    requires given { IsGiven given }
+    requires task { task < length given.set.now.tasks }
+    requires vertex { vertex < vertex_count (graph_at given.set.now.tasks task) }
+    ensures { IfOk result (λ found. IfSome found (IsResponseOfVertex given.entry.set.now task vertex)) }
+{
+    let at = VertexAt { task, vertex };
+    let subject = subject_of(given, at);
+    let found = search_response(
+        effort.rt,
+        effort.alloc,
+        subject,
+        effort.workers,
+        effort.budget,
+        effort.gate,
+    )?;
+    match found {
+        Responded::Spent => Ok(None),
+        Responded::Reached { ticks, walks } => {
+            let response = response_of(effort.alloc, given, at, ticks, walks.as_slice())?;
+            Ok(Some(response))
+        }
+    }
+}
+
+// The response of a vertex whose search ends with so many ticks and these walks.
+fn response_of(
+    alloc: Global,
+    given: Given<'_>,
+    at: VertexAt,
+    ticks: u64,
+    walks: &[Row<u32>],
+) -> Result<Response, Memory>
+    requires given { IsGiven given }
+    requires task { at.task < length given.set.now.tasks }
+    requires vertex { at.vertex < vertex_count (graph_at given.set.now.tasks at.task) }
+    requires worst { AreWorstAt given at ticks walks.now }
+    ensures { IfOk result (IsResponseOfVertex given.entry.set.now at.task at.vertex) }
+{
+    states_pass();
+    response_decides();
+    releases_reach();
+    let job = FirstJob {
+        at,
+        finish: ticks as u32,
+    };
+    let releases = reaching_releases(alloc, given.set, given.graphs, walks, job)?;
+    Ok(Response {
+        task: at.task,
+        vertex: at.vertex,
+        ticks,
+        releases,
+    })
+}

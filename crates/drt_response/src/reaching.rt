@@ -1,0 +1,135 @@
+//! The releases that reach a response time.
+ghost use Rattle.std.specs.Prelude.{◌≡◌, ◌≤◌, ◌<◌, ℕ, IfOk, length};
+ghost use Rattle.drt_model.specs.Digraph.{vertex_count};
+ghost use Rattle.drt_busy.specs.Choice.{AreWalks, IsWalk, graph_at};
+ghost use Rattle.drt_busy.specs.Response.{reaching};
+ghost use Rattle.drt_choices.specs.Choices.{cut};
+ghost use Rattle.drt_evidence.specs.Claims.{graphs_of};
+ghost use Rattle.drt_releases.specs.Walks.{walk_at};
+ghost use Rattle.drt_response.specs.Placed.{job_walk, placed_walk};
+
+use crate::subjects::{VertexAt, higher_count};
+use drt_graph::{Graph, Graphs};
+use drt_model::{Memory, Release, Row, TaskSet};
+use drt_releases::all_releases;
+use std::alloc::Global;
+
+// Each walk's offsets are below the finish, and its last job's deadline is at most as much later. Both are at most 1,000,000 ticks.
+const LAST_DEADLINE: u64 = 2_000_000;
+
+/// The job of a vertex that is released at 0, and when it finishes, in ticks.
+#[derive(Clone, Copy)]
+pub(crate) struct FirstJob {
+    pub at: VertexAt,
+    pub finish: u32,
+}
+
+/// The releases of walks of the tasks of higher priority, the walk at each place that of the task there, from time 0 and before the job
+/// finishes, and one of the vertex at 0, in order of tasks. Each needs its whole execution time.
+pub(crate) fn reaching_releases(
+    alloc: Global,
+    set: &TaskSet,
+    graphs: &Graphs,
+    walks: &[Row<u32>],
+    job: FirstJob,
+) -> Result<Row<Release>, Memory>
+    requires graphs { graphs.now ≡ graphs_of set.now.tasks }
+    requires walks { AreWalks set.now.tasks (placed_walk set.now.tasks walks.now) }
+    requires task { job.at.task < length set.now.tasks }
+    requires vertex { job.at.vertex < vertex_count (graph_at set.now.tasks job.at.task) }
+    requires finish { job.finish ≤ 1000000 }
+    ensures { IfOk result (λ releases. releases ≡ reaching set.now.tasks (placed_walk set.now.tasks walks.now) job.at.task job.at.vertex job.finish) }
+{
+    let _count = graphs.count();
+    let chosen = job_walks(alloc, set, graphs, walks, job)?;
+    let releases = all_releases(alloc, graphs, chosen.as_slice(), LAST_DEADLINE)?;
+    Ok(Row::from_vec(releases))
+}
+
+// A walk for each task: for those of higher priority than the job's the one at its place, cut where the job finishes, and the vertex alone
+// for the job's task.
+fn job_walks(
+    alloc: Global,
+    set: &TaskSet,
+    graphs: &Graphs,
+    walks: &[Row<u32>],
+    job: FirstJob,
+) -> Result<Vec<Row<u32>>, Memory>
+    requires graphs { graphs.now ≡ graphs_of set.now.tasks }
+    requires walks { AreWalks set.now.tasks (placed_walk set.now.tasks walks.now) }
+    requires task { job.at.task < length set.now.tasks }
+    ensures count { IfOk result (λ chosen. length chosen.items ≡ length set.now.tasks) }
+    ensures each { IfOk result (λ chosen. (k : ℕ) → k < length set.now.tasks → walk_at chosen.items k ≡ job_walk set.now.tasks walks.now job.at.task job.at.vertex job.finish k) }
+{
+    let mut chosen = Vec::new(alloc);
+    'tasks: for k in 0..graphs.count() {
+        chosen.push(job_walk(alloc, set, graphs, walks, job, k)?)?;
+    }
+    Ok(chosen)
+}
+
+// The walk of one task among them.
+fn job_walk(
+    alloc: Global,
+    set: &TaskSet,
+    graphs: &Graphs,
+    walks: &[Row<u32>],
+    job: FirstJob,
+    k: u32,
+) -> Result<Row<u32>, Memory>
+    requires graphs { graphs.now ≡ graphs_of set.now.tasks }
+    requires walks { AreWalks set.now.tasks (placed_walk set.now.tasks walks.now) }
+    requires task { job.at.task < length set.now.tasks }
+    requires here { k < length set.now.tasks }
+    ensures { IfOk result (λ walk. walk ≡ job_walk set.now.tasks walks.now job.at.task job.at.vertex job.finish k) }
+{
+    let tasks = set.tasks();
+    let priority = tasks[k as usize].priority;
+    if priority < tasks[job.at.task as usize].priority {
+        let walk = walk_of(walks, higher_count(tasks, priority));
+        return cut_walk(alloc, graphs.graph(k), job.finish, walk);
+    }
+    let mut walk = Vec::new(alloc);
+    if k == job.at.task {
+        walk.push(job.at.vertex)?;
+    }
+    Ok(Row::from_vec(walk))
+}
+
+// The walk at a place; no walk past the last one.
+fn walk_of(walks: &[Row<u32>], place: usize) -> &[u32]
+    ensures { result.now ≡ walk_at walks.now place }
+{
+    match walks.get(place) {
+        Some(walk) => walk.as_slice(),
+        None => &[],
+    }
+}
+
+// A walk as far as the offsets of its releases are below `end`, in ticks.
+fn cut_walk(alloc: Global, graph: &Graph, end: u32, walk: &[u32]) -> Result<Row<u32>, Memory>
+    requires walk { IsWalk graph.now walk.now }
+    ensures { IfOk result (λ row. row ≡ cut graph.now end walk.now) }
+{
+    let _count = graph.vertex_count();
+    let mut kept = Vec::new(alloc);
+    if walk.is_empty() {
+        return Ok(Row::from_vec(kept));
+    }
+    let mut vertex = walk[0];
+    let mut offset: u64 = 0;
+    kept.push(vertex)?;
+    'steps: for i in 1..walk.len() {
+        let next = walk[i];
+        let Some(gap) = graph.separation(vertex, next) else {
+            unreachable!();
+        };
+        offset += u64::from(gap);
+        if offset >= u64::from(end) {
+            return Ok(Row::from_vec(kept));
+        }
+        kept.push(next)?;
+        vertex = next;
+    }
+    Ok(Row::from_vec(kept))
+}
