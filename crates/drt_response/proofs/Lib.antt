@@ -1,4 +1,5 @@
 mod Cuts
+mod Decided
 mod Due
 mod Enough
 mod Firsts

@@ -1,15 +1,18 @@
 -- A greatest response by states: no walks need more time, and the walks found reach it.
-use Rattle.std.proofs.Common.{inl, inr, ◌≡◌, ℕ, ◌+◌, ◌<◌, ◌≤◌, List, length, take, sym, subst, arith}
+use Rattle.std.proofs.Common.{inl, inr, ◌≡◌, ℕ, ◌+◌, ◌<◌, ◌≤◌, List, length, take, sym, ap, ◌∙◌, subst, arith}
 use Rattle.std.specs.List.{AllZip}
 use Rattle.std.proofs.lemmas.Bool.{cases_lt}
 use Rattle.drt_model.specs.declared.tasks.Task.{Task}
 use Rattle.drt_model.specs.declared.jobs.Policy.TheVariants.{Fixed}
+use Rattle.drt_model.specs.declared.jobs.Release.{Release}
 use Rattle.drt_model.specs.Constrained.{AreConstrained}
-use Rattle.drt_model.specs.Digraph.{vertex_count}
+use Rattle.drt_model.specs.Contents.{Contents}
+use Rattle.drt_model.specs.Digraph.{IsSound, vertex_count}
 use Rattle.drt_model.specs.Limits.{IsTaskSet}
 use Rattle.drt_model.specs.Schedulable.{Schedulable}
 use Rattle.drt_model.specs.Walk.{deadline, wcet}
-use Rattle.drt_busy.specs.Choice.{AreWalks, graph_at, task_at}
+use Rattle.drt_graph.proofs.Soundness.{all_sound}
+use Rattle.drt_busy.specs.Choice.{AreWalks, graph_at, no_task, task_at}
 use Rattle.drt_busy.specs.Response.{FitsWithin, IsGreatestFit, IsGreatestResponse, IsLeastFit, MeetsDeadlines, ReleasesReach, ResponseDecides, reaching}
 use Rattle.drt_states.specs.declared.claims.TailClaim.{TailClaim}
 use Rattle.drt_states.specs.States.{AreStates, HaveDominatedChildren}
@@ -22,6 +25,7 @@ use Rattle.drt_check.proofs.SoundOrder.{Walked, ordered, ordered_walked, walked}
 use Rattle.drt_fixed.proofs.Prefixes.{zip_take}
 use Rattle.drt_sp_states.specs.Answers.{AreWorst}
 use Rattle.drt_response.specs.Tails.{HaveTails}
+use Rattle.drt_response.specs.Answers.{IsResponseOf}
 use Rattle.drt_response.specs.Placed.{placed_walk}
 use Rattle.drt_response.proofs.Higher.{first_walks, higher, higher_are, higher_near, higher_sound, places_in, requests_together, walks_in}
 use Rattle.drt_response.proofs.Placed.{placed_are_walks, placed_asked}
@@ -71,3 +75,25 @@ module _ (version : ℕ) (tasks : List Task) (limits : IsTaskSet version tasks) 
       let fit : IsGreatestFit tasks k v ticks = record { walks = placed_walk tasks walks; are = are_walks; least = least; most = most pass } in
       let (legal, (job, here, finish)) = reach version tasks limits constrained k v task vertex meets (placed_walk tasks walks) are_walks ticks least in
       ((decides version tasks limits constrained k v task vertex meets ticks).1 fit, record { legal = legal; job = job; here = here; finish = finish })
+
+  -- The number is within the limits of a deadline.
+  pub ticks_most : ticks ≤ 1000000
+  ticks_most =
+      let sound : IsSound (graph_at tasks k) = all_sound version tasks limits k no_task task in
+      omega (arith, worst.within, worst.near, (sound.deadline v vertex).1)
+
+  -- With these releases it is the response of the vertex.
+  pub response_is : StatesPass → ResponseDecides → ReleasesReach → AreConstrained tasks → Schedulable tasks Fixed
+      → (set : Contents) (n : ℕ) (releases : List Release) → tasks ≡ set.tasks → n ≡ ticks → releases ≡ reaching tasks (placed_walk tasks walks) k v n
+      → IsResponseOf set (record { task = k; vertex = v; ticks = ticks; releases = releases })
+  response_is pass decides reach constrained schedulable set n releases same is are =
+      let releases_are : releases ≡ reaching tasks (placed_walk tasks walks) k v ticks = are ∙ ap (λ (m : ℕ). reaching tasks (placed_walk tasks walks) k v m) is in
+      let shown = states_respond pass decides reach constrained schedulable in
+      let reached : AreReaching tasks k v ticks releases = subst (λ (rs : List Release). AreReaching tasks k v ticks rs) (sym releases_are) shown.1 in
+      record {
+        greatest = subst (λ (ts : List Task). IsGreatestResponse ts k v ticks) same shown.0;
+        reaching = subst (λ (ts : List Task). AreReaching ts k v ticks releases) same reached;
+        walks = placed_walk tasks walks;
+        are = subst (λ (ts : List Task). AreWalks ts (placed_walk tasks walks)) same are_walks;
+        releases_are = releases_are ∙ ap (λ (ts : List Task). reaching ts (placed_walk tasks walks) k v ticks) same;
+      }

@@ -219,6 +219,7 @@ fn response_of(
     states_pass();
     response_decides();
     releases_reach();
+    let _tasks = given.set.tasks();
     let job = FirstJob {
         at,
         finish: ticks as u32,

@@ -39,7 +39,7 @@ impl Gate for FirstIsLate {
 pub(crate) fn answer_of<G: Gate, R: Threads + Wait + Sync>(
     rt: &R,
     alloc: Global,
-    set: &TaskSet,
+    set: TaskSet,
     workers: u32,
     budget: u64,
     gate: &G,
@@ -47,7 +47,7 @@ pub(crate) fn answer_of<G: Gate, R: Threads + Wait + Sync>(
     if workers < 1 || workers > 16 || budget < 1 || budget > 1_000_000 {
         return Err("the workers and the budget are in range".into());
     }
-    let Ok(graphs) = check(alloc, set) else {
+    let Ok(graphs) = check(alloc, &set) else {
         return Err("the deadlines are constrained".into());
     };
     Ok(respond(rt, alloc, set, &graphs, workers, budget, gate)?)
@@ -97,6 +97,6 @@ pub(crate) fn is_answer(answer: &ResponseAnswer, ticks: Option<&[Ticks]>) -> boo
             None => false,
         },
         ResponseAnswer::Missed(_) => ticks.is_none(),
-        ResponseAnswer::Undecided(_) => false,
+        ResponseAnswer::Undecided { .. } => false,
     }
 }

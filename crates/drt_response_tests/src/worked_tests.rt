@@ -43,7 +43,7 @@ fn is_answered<R: Threads + Wait + Sync>(
     ticks: Option<&[Ticks]>,
 ) -> Result<bool, Fail> {
     let set = set_of(alloc, text)?;
-    let answer = answer_of(rt, alloc, &set, 1, BUDGET, &OpenGate)?;
+    let answer = answer_of(rt, alloc, set, 1, BUDGET, &OpenGate)?;
     Ok(is_answer(&answer, ticks))
 }
 
@@ -66,7 +66,7 @@ fn is_reached_by<G: Gate, R: Threads + Wait + Sync>(
     gate: &G,
 ) -> Result<bool, Fail> {
     let set = set_of(alloc, text)?;
-    let answer = answer_of(rt, alloc, &set, workers, BUDGET, gate)?;
+    let answer = answer_of(rt, alloc, set, workers, BUDGET, gate)?;
     Ok(match answer {
         ResponseAnswer::Done(responses) => has_releases(responses.as_slice(), place, releases),
         _ => false,
@@ -82,11 +82,14 @@ fn is_missed<R: Threads + Wait + Sync>(
     missed: Miss,
 ) -> Result<bool, Fail> {
     let set = set_of(alloc, text)?;
-    let answer = answer_of(rt, alloc, &set, 1, BUDGET, &OpenGate)?;
+    let answer = answer_of(rt, alloc, set, 1, BUDGET, &OpenGate)?;
     Ok(match &answer {
-        ResponseAnswer::Missed(Evidence::FixedNo { releases, miss }) => {
-            releases.as_slice() == expected && *miss == missed
-        }
+        ResponseAnswer::Missed(dossier) => match &dossier.evidence {
+            Evidence::FixedNo { releases, miss } => {
+                releases.as_slice() == expected && *miss == missed
+            }
+            _ => false,
+        },
         _ => false,
     })
 }
@@ -99,7 +102,7 @@ fn answer_to<R: Threads + Wait + Sync>(
     budget: u64,
 ) -> Result<ResponseAnswer, Fail> {
     let set = make_set(alloc, shapes)?.ok_or("within the limits")?;
-    answer_of(rt, alloc, &set, 1, budget, &OpenGate)
+    answer_of(rt, alloc, set, 1, budget, &OpenGate)
 }
 
 // Whether the set of the shapes has these responses; none where it is a no.
@@ -122,7 +125,10 @@ fn is_spent_before<R: Threads + Wait + Sync>(
     budget: u64,
 ) -> Result<bool, Fail> {
     let answer = answer_to(rt, alloc, shapes, budget)?;
-    Ok(matches!(&answer, ResponseAnswer::Undecided(ResponseTrail::Fixed(_))))
+    Ok(match &answer {
+        ResponseAnswer::Undecided { trail, .. } => matches!(trail, ResponseTrail::Fixed(_)),
+        _ => false,
+    })
 }
 
 // Whether the budget is spent in the search at this vertex of this task, on these combinations.
@@ -136,13 +142,14 @@ fn is_spent_at<R: Threads + Wait + Sync>(
 ) -> Result<bool, Fail> {
     let answer = answer_to(rt, alloc, shapes, budget)?;
     Ok(match &answer {
-        ResponseAnswer::Undecided(
-            ResponseTrail::Search {
+        ResponseAnswer::Undecided {
+            trail: ResponseTrail::Search {
                 task,
                 vertex,
                 taken,
             },
-        ) => (*task, *vertex) == at && are_rows(taken.as_slice(), expected),
+            ..
+        } => (*task, *vertex) == at && are_rows(taken.as_slice(), expected),
         _ => false,
     })
 }
