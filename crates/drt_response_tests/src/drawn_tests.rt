@@ -19,7 +19,7 @@ const BUDGET: u64 = 1_000_000;
 fn is_answered<G: Gate, R: Threads + Wait + Sync>(
     rt: &R,
     alloc: Global,
-    set: &TaskSet,
+    set: TaskSet,
     ticks: &Option<Vec<Ticks>>,
     workers: u32,
     gate: &G,
@@ -39,8 +39,22 @@ fn drawn_by_one<R: Threads + Wait + Sync>(
 ) -> Result<(bool, bool), Fail> {
     let set = drawn_set(alloc, draws)?.ok_or("within the limits")?;
     let ticks = plain_ticks(alloc, &set)?;
-    let same = is_answered(rt, alloc, &set, &ticks, 1, &OpenGate)?;
+    let same = is_answered(rt, alloc, set, &ticks, 1, &OpenGate)?;
     Ok((ticks.is_some(), same))
+}
+
+// Whether so many workers answer the set that is drawn from this state so.
+fn is_drawn_answered<G: Gate, R: Threads + Wait + Sync>(
+    rt: &R,
+    alloc: Global,
+    state: u64,
+    ticks: &Option<Vec<Ticks>>,
+    workers: u32,
+    gate: &G,
+) -> Result<bool, Fail> {
+    let mut draws = Draws { state };
+    let set = drawn_set(alloc, &mut draws)?.ok_or("within the limits")?;
+    is_answered(rt, alloc, set, ticks, workers, gate)
 }
 
 // The same by 2, 4 and 16 workers, for a set that is schedulable. Of another one nothing is asked.
@@ -50,13 +64,14 @@ fn drawn_by_many<G: Gate, R: Threads + Wait + Sync>(
     draws: &mut Draws,
     gate: &G,
 ) -> Result<(bool, bool), Fail> {
+    let state = draws.state;
     let set = drawn_set(alloc, draws)?.ok_or("within the limits")?;
     let ticks = plain_ticks(alloc, &set)?;
     if ticks.is_none() {
         return Ok((false, true));
     }
     for workers in [2u32, 4, 16] {
-        if !is_answered(rt, alloc, &set, &ticks, workers, gate)? {
+        if !is_drawn_answered(rt, alloc, state, &ticks, workers, gate)? {
             return Ok((true, false));
         }
     }
