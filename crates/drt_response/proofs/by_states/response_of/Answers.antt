@@ -8,26 +8,26 @@ use Rattle.drt_response.proofs.by_states.response_of.Goals as goal
 pub overflow_cast-job : goal.overflow_cast-job
 overflow_cast-job c =
     let set : Contents = c.args.given.set.now in
-    let limits = c.tasks-_tasks.ensures.limits in
+    let limits = c.tasks-tasks.ensures.limits in
     let most = ticks_most set.version set.tasks limits c.args.given.tails.now c.requires.given.tails c.args.at.task c.args.at.vertex c.requires.task c.requires.vertex c.args.ticks c.args.walks.now c.requires.worst in
     grind (arith, common_steps, most)
 
 pub reaching_releases-requires-clause-walks : goal.reaching_releases-requires-clause-walks
 reaching_releases-requires-clause-walks c =
     let set : Contents = c.args.given.set.now in
-    let limits = c.tasks-_tasks.ensures.limits in
+    let limits = c.tasks-tasks.ensures.limits in
     are_walks set.version set.tasks limits c.args.given.tails.now c.requires.given.tails c.args.at.task c.args.at.vertex c.requires.task c.requires.vertex c.args.ticks c.args.walks.now c.requires.worst
 
 pub reaching_releases-requires-clause-finish : goal.reaching_releases-requires-clause-finish
 reaching_releases-requires-clause-finish c =
     let set : Contents = c.args.given.set.now in
-    let limits = c.tasks-_tasks.ensures.limits in
+    let limits = c.tasks-tasks.ensures.limits in
     ticks_most set.version set.tasks limits c.args.given.tails.now c.requires.given.tails c.args.at.task c.args.at.vertex c.requires.task c.requires.vertex c.args.ticks c.args.walks.now c.requires.worst
 
 pub returns : goal.returns
 returns c =
     let set : Contents = c.args.given.set.now in
-    let limits = c.tasks-_tasks.ensures.limits in (
+    let limits = c.tasks-tasks.ensures.limits in (
       refl,
       refl,
       response_is set.version set.tasks limits c.args.given.tails.now c.requires.given.tails c.args.at.task c.args.at.vertex c.requires.task c.requires.vertex c.args.ticks c.args.walks.now c.requires.worst
