@@ -31,7 +31,7 @@ use std::thread::Threads;
 
 /// What tails and states say of a set.
 #[derive(Drop)]
-pub(crate) enum StatesResponse {
+pub enum StatesResponse {
     /// The set is schedulable, with a response for each vertex of each task, in order of the file.
     Done(Row<Response>),
     /// The set isn't schedulable, with its dossier.
@@ -51,7 +51,7 @@ struct Effort<'a, G, R> {
 }
 
 /// What tails and states say of a set with constrained deadlines, with this budget of states for each vertex.
-pub(crate) fn respond_by_states<G: Gate, R: Threads + Wait + Sync>(
+pub fn respond_by_states<G: Gate, R: Threads + Wait + Sync>(
     rt: &R,
     alloc: Global,
     set: TaskSet,
@@ -72,7 +72,7 @@ pub(crate) fn respond_by_states<G: Gate, R: Threads + Wait + Sync>(
         budget,
         gate,
     };
-    match decide_by_states(alloc, set, graphs, budget)? {
+    match decide_by_states(rt, alloc, set, graphs, workers, budget, gate)? {
         ByStates::Decided(dossier) => respond_decided(&effort, dossier, graphs),
         ByStates::Nothing(set) => Ok(StatesResponse::Nothing(set)),
     }

@@ -17,6 +17,7 @@ mod text;
 mod vertex;
 
 pub use answer::{Response, ResponseAnswer, ResponseTrail};
+pub use by_states::{StatesResponse, respond_by_states};
 pub use laws::budgets_suffice_for_responses;
 pub use responding::respond;
 pub use text::print;

@@ -12,4 +12,6 @@ mod search_tests;
 #[cfg(test)]
 mod searches;
 #[cfg(test)]
+mod states_tests;
+#[cfg(test)]
 mod worked_tests;
