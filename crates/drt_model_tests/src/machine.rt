@@ -34,9 +34,11 @@ const SETS: [(u8, u32, u32, bool); 9] = [
 
 #[test]
 fn version_one_takes_its_priorities_from_the_order(rt: HostRuntime) -> Result<(), Fail> {
-    for (version, first, second, fits) in SETS {
-        let is_so = is_set(rt.alloc(), version, first, second)? == fits;
-        assert!(rt; is_so, "{version} {first} {second}");
+    for (i, (version, first, second, fits)) in SETS.iter().enumerate() {
+        assert!(rt;
+            is_set(rt.alloc(), *version, *first, *second)? == *fits,
+            "set {i}"
+        );
     }
     Ok(())
 }
@@ -57,16 +59,16 @@ fn release(given: Numbers) -> Release {
 
 const LAST: Numbers = (1, 0, 0, 3);
 
-const RELEASES: [([Numbers; 3], bool); 9] = [
-    ([(0, 0, 0, 2), (0, 0, 4, 2), LAST], true),
-    ([(0, 0, 7, 1), (0, 0, 900, 2), LAST], true),
-    ([(0, 0, 0, 2), (0, 0, 3, 2), LAST], false),
-    ([(0, 0, 0, 0), (0, 0, 4, 2), LAST], false),
-    ([(0, 0, 0, 3), (0, 0, 4, 2), LAST], false),
-    ([(0, 1, 0, 2), (0, 0, 4, 2), LAST], false),
-    ([(0, 0, 0, 2), LAST, (0, 0, 4, 2)], false),
-    ([(0, 0, 0, 2), (2, 0, 4, 2), LAST], false),
-    ([(0, 0, 9, 2), (0, 0, 4, 2), LAST], false),
+const RELEASES: [(&'static [Numbers; 3], bool); 9] = [
+    (&[(0, 0, 0, 2), (0, 0, 4, 2), LAST], true),
+    (&[(0, 0, 7, 1), (0, 0, 900, 2), LAST], true),
+    (&[(0, 0, 0, 2), (0, 0, 3, 2), LAST], false),
+    (&[(0, 0, 0, 0), (0, 0, 4, 2), LAST], false),
+    (&[(0, 0, 0, 3), (0, 0, 4, 2), LAST], false),
+    (&[(0, 1, 0, 2), (0, 0, 4, 2), LAST], false),
+    (&[(0, 0, 0, 2), LAST, (0, 0, 4, 2)], false),
+    (&[(0, 0, 0, 2), (2, 0, 4, 2), LAST], false),
+    (&[(0, 0, 9, 2), (0, 0, 4, 2), LAST], false),
 ];
 
 // Whether three releases are legal.
@@ -120,11 +122,11 @@ const TIED: [JobNumbers; 3] = [(0, 9, 0, 5, 2), (1, 3, 0, 5, 1), (1, 3, 2, 7, 1)
 
 const LATE: [JobNumbers; 3] = [(0, 1, 1, 3, 3), (0, 1, 5, 9, 1), (1, 2, 9, 10, 1)];
 
-const TRACES: [(Policy, [JobNumbers; 3], [Option<u32>; 8]); 6] = [
+const TRACES: [(Policy, &'static [JobNumbers; 3], &'static [Option<u32>; 8]); 6] = [
     (
         Policy::Fixed,
-        TWO_TASKS,
-        [
+        &TWO_TASKS,
+        &[
             Some(0),
             Some(0),
             Some(2),
@@ -137,8 +139,8 @@ const TRACES: [(Policy, [JobNumbers; 3], [Option<u32>; 8]); 6] = [
     ),
     (
         Policy::Edf,
-        TWO_TASKS,
-        [
+        &TWO_TASKS,
+        &[
             Some(0),
             Some(0),
             Some(2),
@@ -151,23 +153,23 @@ const TRACES: [(Policy, [JobNumbers; 3], [Option<u32>; 8]); 6] = [
     ),
     (
         Policy::Edf,
-        TIED,
-        [Some(0), Some(0), Some(1), Some(2), None, None, None, None],
+        &TIED,
+        &[Some(0), Some(0), Some(1), Some(2), None, None, None, None],
     ),
     (
         Policy::Fixed,
-        TIED,
-        [Some(1), Some(0), Some(2), Some(0), None, None, None, None],
+        &TIED,
+        &[Some(1), Some(0), Some(2), Some(0), None, None, None, None],
     ),
     (
         Policy::Fixed,
-        LATE,
-        [None, Some(0), Some(0), Some(0), None, Some(1), None, None],
+        &LATE,
+        &[None, Some(0), Some(0), Some(0), None, Some(1), None, None],
     ),
     (
         Policy::Edf,
-        LATE,
-        [None, Some(0), Some(0), Some(0), None, Some(1), None, None],
+        &LATE,
+        &[None, Some(0), Some(0), Some(0), None, Some(1), None, None],
     ),
 ];
 

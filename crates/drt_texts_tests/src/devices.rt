@@ -23,15 +23,19 @@ fn numbers(alloc: Global, number: u64) -> Result<Row<u64>, Memory> {
     Ok(Row::from_vec(Vec::from_slice(alloc, &[number])?))
 }
 
-// How reading so many bytes by pieces ends, where the read of this number fails: with how many bytes.
-fn reading(
+// Whether reading so many bytes by pieces, where the read of this number fails, ends so: with how many bytes, or why not.
+fn is_read(
     alloc: Global,
     count: usize,
     failing: u64,
     limit: u64,
-) -> Result<Result<usize, ReadEnd>, Memory> {
+    wanted: Result<usize, ReadEnd>,
+) -> Result<bool, Memory> {
     let mut source = MemorySource::new(counted(alloc, count)?, 7, numbers(alloc, failing)?);
-    Ok(read_all(alloc, &mut source, limit).map(|all| all.as_slice().len()))
+    match read_all(alloc, &mut source, limit) {
+        Ok(all) => Ok(wanted == Ok(all.as_slice().len())),
+        Err(end) => Ok(wanted == Err(end)),
+    }
 }
 
 // 24 bytes in pieces of 7 are four reads and one that finds the end.
@@ -49,7 +53,7 @@ fn reading_ends_at_the_limit_and_at_a_failing_read(rt: HostRuntime) -> Result<()
     ];
     for (count, failing, limit, wanted) in cases {
         assert!(rt;
-            reading(rt.alloc(), count, failing, limit)? == wanted,
+            is_read(rt.alloc(), count, failing, limit, wanted)?,
             "{count} bytes, read {failing}"
         );
     }

@@ -5,17 +5,21 @@ use std::alloc::Global;
 use std::test::Fail;
 
 fn has_seps_of_400_or_800(task: &Task) -> bool {
-    task.edges
-        .as_slice()
-        .iter()
-        .all(|edge| edge.sep == 400 || edge.sep == 800)
+    for edge in task.edges.as_slice() {
+        if edge.sep != 400 && edge.sep != 800 {
+            return false;
+        }
+    }
+    true
 }
 
 fn has_deadlines_from_201_to_400(task: &Task) -> bool {
-    task.vertices
-        .as_slice()
-        .iter()
-        .all(|vertex| vertex.deadline >= 201 && vertex.deadline <= 400)
+    for vertex in task.vertices.as_slice() {
+        if vertex.deadline < 201 || vertex.deadline > 400 {
+            return false;
+        }
+    }
+    true
 }
 
 fn is_vertex(vertex: &Vertex, name: &[u8], wcet: u32, deadline: u32) -> bool {
@@ -62,12 +66,16 @@ fn begins_with_its_edges(task: &Task) -> bool {
 
 // Vertex 9 draws 10, the next on the ring, so that it has one edge.
 fn leaves_out_a_second_edge_to_the_next(task: &Task) -> bool {
-    task.edges
-        .as_slice()
-        .iter()
-        .filter(|edge| edge.from == 9)
-        .count()
-        == 1
+    let mut has_one = false;
+    for edge in task.edges.as_slice() {
+        if edge.from == 9 {
+            if has_one {
+                return false;
+            }
+            has_one = true;
+        }
+    }
+    has_one
 }
 
 // What is expected of the first task, and whether it holds.
@@ -96,17 +104,21 @@ fn the_first_task_of_one_is_drawn_by_its_draws(rt: HostRuntime) -> Result<(), Fa
     Ok(())
 }
 
-// Whether the set of a number has 12 tasks of 12 vertices each, with 12 to 24 edges.
+// Whether each of these tasks has 12 vertices, and 12 to 24 edges.
+fn are_shaped(tasks: &[Task]) -> bool {
+    for task in tasks {
+        let edges = task.edges.as_slice().len();
+        if task.vertices.as_slice().len() != 12 || edges < 12 || edges > 24 {
+            return false;
+        }
+    }
+    true
+}
+
+// Whether the set of a number has 12 tasks of that shape.
 fn is_shaped(alloc: Global, number: u64) -> Result<bool, Memory> {
     let set = generate(alloc, number)?;
-    let tasks = set.tasks();
-    Ok(
-        tasks.len() == 12
-            && tasks.iter().all(|task| {
-                let edges = task.edges.as_slice().len();
-                task.vertices.as_slice().len() == 12 && edges >= 12 && edges <= 24
-            }),
-    )
+    Ok(set.tasks().len() == 12 && are_shaped(set.tasks()))
 }
 
 #[test]

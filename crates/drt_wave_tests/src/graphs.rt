@@ -4,7 +4,7 @@ ghost use Rattle.drt_model.specs.Digraph.{vertex_count};
 ghost use Rattle.drt_wave.specs.Seats.{parts_of, draws_of, KnowsTo, IsOf};
 
 use drt_fixtures::{Shape, make_set};
-use drt_graph::{Graph, check};
+use drt_graph::{Graph, Graphs, check};
 use drt_wave::{WaveSeat, WaveTable};
 use std::alloc::Global;
 use std::test::Fail;
@@ -19,16 +19,26 @@ pub(crate) fn has_few_cells(graph: &Graph, bound: u64) -> bool
     bound < 4_194_304 && graph.vertex_count() as u64 * (bound + 1) <= 4_194_304
 }
 
+// The graphs of the set of one shape.
+fn graphs_of(alloc: Global, shape: Shape<'_>) -> Result<Graphs, Fail> {
+    let set = make_set(alloc, &[shape])?.ok_or("within the limits")?;
+    Ok(check(alloc, &set).ok().ok_or("constrained")?)
+}
+
+// A copy of the first one.
+fn copy_first(alloc: Global, shape: Shape<'_>) -> Result<Graph, Fail> {
+    let graphs = graphs_of(alloc, shape)?;
+    if graphs.count() == 0 {
+        return Err("a task".into());
+    }
+    Ok(graphs.graph(0).copy(alloc)?)
+}
+
 /// The graph of a shape, which has few enough cells up to a bound.
 pub(crate) fn make_graph(alloc: Global, shape: Shape<'_>, bound: u64) -> Result<Graph, Fail>
     ensures { IfOk result (λ graph. vertex_count graph * (bound + 1) ≤ 4194304) }
 {
-    let set = make_set(alloc, &[shape])?.ok_or("within the limits")?;
-    let graphs = check(alloc, &set).ok().ok_or("constrained")?;
-    if graphs.count() == 0 {
-        return Err("a task".into());
-    }
-    let graph = graphs.graph(0).copy(alloc)?;
+    let graph = copy_first(alloc, shape)?;
     if !has_few_cells(&graph, bound) {
         return Err("few cells".into());
     }

@@ -1,4 +1,4 @@
-ghost use Rattle.std.specs.Prelude.{◌≡◌, ◌<◌};
+ghost use Rattle.std.specs.Prelude.{◌≡◌, ◌<◌, IfOk};
 ghost use Rattle.drt_wave.specs.Seats.{parts_of, IsOf};
 
 use crate::graphs::{PAIR, read_cell, start_table};
@@ -23,48 +23,72 @@ fn a_wave_has_as_many_offsets_as_the_least_separation(rt: HostRuntime) -> Result
         ((&[(3, 2)], &[]), 100, 101),
     ];
     for (shape, bound, span) in cases {
-        assert_eq!(rt; read_span(rt.alloc(), shape, bound)?, span, "up to {bound}");
+        assert!(rt;
+            read_span(rt.alloc(), shape, bound)? == span,
+            "up to {bound}"
+        );
     }
     Ok(())
 }
 
+// A wave table of the walks up to 5, and two seats of it.
+fn start_two(alloc: Global) -> Result<(WaveTable, WaveSeat, WaveSeat), Fail>
+    ensures seats { IfOk result (λ r. IsOf r.0 r.1 × IsOf r.0 r.2) }
+    ensures parts { IfOk result (λ r. (0 < parts_of r.1) × (0 < parts_of r.2)) }
+{
+    let (table, mut seat) = start_table(alloc, RETURNING, 5)?;
+    let other = table.split(alloc, &mut seat)?;
+    Ok((table, seat, other))
+}
+
+// The next number of the first wave that a seat draws.
+fn draw(table: &WaveTable, seat: &mut WaveSeat) -> u64
+    requires seat { IsOf table.now seat.old }
+    requires parts { 0 < parts_of seat.old }
+    ensures seat { IsOf table.now seat.new }
+    ensures parts { parts_of seat.new ≡ parts_of seat.old }
+{
+    table.claim(seat, 0)
+}
+
+// The numbers that a seat, another one, and the first one again draw.
+fn draw_in_turn(alloc: Global) -> Result<[u64; 3], Fail> {
+    let (table, mut seat, mut other) = start_two(alloc)?;
+    let first = draw(&table, &mut seat);
+    let second = draw(&table, &mut other);
+    let third = draw(&table, &mut seat);
+    Ok([first, second, third])
+}
+
 #[test]
 fn two_seats_draw_different_numbers(rt: HostRuntime) -> Result<(), Fail> {
-    let (table, mut seat) = start_table(rt.alloc(), RETURNING, 5)?;
-    let mut other = table.split(rt.alloc(), &mut seat)?;
-    let first = table.claim(&mut seat, 0);
-    let second = table.claim(&mut other, 0);
-    let third = table.claim(&mut seat, 0);
-    assert!(rt; first == 0 && second == 1 && third == 2);
-    table.join(&mut seat, other);
+    assert!(rt; draw_in_turn(rt.alloc())? == [0, 1, 2]);
     Ok(())
 }
 
 // The numbers that two seats draw, and the one that the seat draws that both are joined into.
-fn draw_and_join(alloc: Global) -> Result<(u64, u64, u64), Fail> {
-    let (table, mut seat) = start_table(alloc, RETURNING, 5)?;
-    let mut other = table.split(alloc, &mut seat)?;
-    let first = table.claim(&mut seat, 0);
-    let second = table.claim(&mut other, 0);
+fn draw_and_join(alloc: Global) -> Result<[u64; 3], Fail> {
+    let (table, mut seat, mut other) = start_two(alloc)?;
+    let first = draw(&table, &mut seat);
+    let second = draw(&table, &mut other);
     table.join(&mut seat, other);
-    let third = table.claim(&mut seat, 0);
-    Ok((first, second, third))
+    let third = draw(&table, &mut seat);
+    Ok([first, second, third])
 }
 
 #[test]
 fn the_numbers_of_two_seats_go_on_after_they_are_joined(rt: HostRuntime) -> Result<(), Fail> {
-    let (first, second, third) = draw_and_join(rt.alloc())?;
-    assert!(rt; first == 0 && second == 1 && third == 2);
+    assert!(rt; draw_and_join(rt.alloc())? == [0, 1, 2]);
     Ok(())
 }
 
 // The first four numbers of the first wave of the pair's table.
 fn draw_four(alloc: Global) -> Result<[u64; 4], Fail> {
     let (table, mut seat) = start_table(alloc, PAIR, 150)?;
-    let first = table.claim(&mut seat, 0);
-    let second = table.claim(&mut seat, 0);
-    let third = table.claim(&mut seat, 0);
-    let fourth = table.claim(&mut seat, 0);
+    let first = draw(&table, &mut seat);
+    let second = draw(&table, &mut seat);
+    let third = draw(&table, &mut seat);
+    let fourth = draw(&table, &mut seat);
     Ok([first, second, third, fourth])
 }
 
@@ -86,7 +110,7 @@ fn read_open(alloc: Global, cell: u32) -> Result<u64, Fail> {
 fn a_cell_opens_with_the_execution_time(rt: HostRuntime) -> Result<(), Fail> {
     // A vertex has 6 cells. The cells at offset 0 of p(1,1) and q(2,1), and the one of p at offset 1.
     for (cell, work) in [(0u32, 1u64), (6, 2), (1, 0)] {
-        assert_eq!(rt; read_open(rt.alloc(), cell)?, work, "cell {cell}");
+        assert!(rt; read_open(rt.alloc(), cell)? == work, "cell {cell}");
     }
     Ok(())
 }

@@ -24,6 +24,26 @@ const FAR_FRONT: [(u32, u64, u64); 6] = [
     (1, 20_000, 11),
 ];
 
+// A shape, and the front of its walks up to a bound.
+struct Case {
+    shape: Shape<'static>,
+    bound: u64,
+    front: &'static [(u32, u64, u64)],
+}
+
+const CASES: [Case; 2] = [
+    Case {
+        shape: RETURNING,
+        bound: 5,
+        front: &[(0, 0, 1), (1, 0, 2), (2, 0, 1), (2, 1, 3), (2, 4, 4)],
+    },
+    Case {
+        shape: FAR,
+        bound: 20_001,
+        front: &FAR_FRONT,
+    },
+];
+
 // The works of a graph of this shape up to the bound, by so many workers.
 fn works_by<G: Gate, R: Threads + Wait + Sync>(
     rt: &R,
@@ -40,25 +60,39 @@ fn works_by<G: Gate, R: Threads + Wait + Sync>(
     Ok(fill(rt, alloc, &graph, bound, workers, gate)?)
 }
 
-#[test]
-fn each_number_of_workers_finds_the_same_front(rt: HostRuntime) -> Result<(), Fail> {
-    let wanted = [(0, 0, 1), (1, 0, 2), (2, 0, 1), (2, 1, 3), (2, 4, 4)];
-    for workers in [1u32, 2, 4, 16] {
-        let works = works_by(&rt, rt.alloc(), RETURNING, 5, workers, &EagerGate)?;
-        assert!(rt; has_front(rt.alloc(), &works, &wanted)?);
-        let works = works_by(&rt, rt.alloc(), RETURNING, 5, workers, &OpenGate)?;
-        assert!(rt; has_front(rt.alloc(), &works, &wanted)?);
-    }
-    Ok(())
+// Whether so many workers find this front by that gate.
+fn finds<G: Gate, R: Threads + Wait + Sync>(
+    rt: &R,
+    alloc: Global,
+    case: &Case,
+    workers: u32,
+    gate: &G,
+) -> Result<bool, Fail> {
+    let works = works_by(rt, alloc, case.shape, case.bound, workers, gate)?;
+    has_front(alloc, &works, case.front)
+}
+
+// Whether so many workers find this front by the eager gate and by the open one.
+fn finds_by_both<R: Threads + Wait + Sync>(
+    rt: &R,
+    alloc: Global,
+    case: &Case,
+    workers: u32,
+) -> Result<bool, Fail> {
+    Ok(finds(rt, alloc, case, workers, &EagerGate)? && finds(rt, alloc, case, workers, &OpenGate)?)
 }
 
 #[test]
-fn each_number_of_workers_finds_the_same_front_of_wide_waves(rt: HostRuntime) -> Result<(), Fail> {
-    for workers in [1u32, 2, 4, 16] {
-        let works = works_by(&rt, rt.alloc(), FAR, 20_001, workers, &EagerGate)?;
-        assert!(rt; has_front(rt.alloc(), &works, &FAR_FRONT)?);
-        let works = works_by(&rt, rt.alloc(), FAR, 20_001, workers, &OpenGate)?;
-        assert!(rt; has_front(rt.alloc(), &works, &FAR_FRONT)?);
+fn each_number_of_workers_finds_the_same_front_also_of_wide_waves(
+    rt: HostRuntime,
+) -> Result<(), Fail> {
+    for (i, case) in CASES.iter().enumerate() {
+        for workers in [1u32, 2, 4, 16] {
+            assert!(rt;
+                finds_by_both(&rt, rt.alloc(), case, workers)?,
+                "case {i} by {workers}"
+            );
+        }
     }
     Ok(())
 }
@@ -85,7 +119,7 @@ fn turns_with_relief<R: Threads + Wait + Sync>(rt: &R, alloc: Global) -> Result<
 // all. Were the second wave not shared, it would have had 42.
 #[test]
 fn a_second_worker_works_the_rest_of_a_later_wave(rt: HostRuntime) -> Result<(), Fail> {
-    assert_eq!(rt; turns_with_relief(&rt, rt.alloc())?, Some(45));
+    assert!(rt; turns_with_relief(&rt, rt.alloc())? == Some(45));
     Ok(())
 }
 
@@ -128,7 +162,8 @@ fn turns_of<R: Threads + Wait + Sync>(
 // in its only turn.
 #[test]
 fn the_first_wave_is_worked_in_turns_as_later_ones_are(rt: HostRuntime) -> Result<(), Fail> {
-    assert_eq!(rt; turns_of(&rt, rt.alloc(), RETURNING, 5)?, [3, 1]);
-    assert_eq!(rt; turns_of(&rt, rt.alloc(), FAR, 20_001)?, [42, 1]);
+    let small = turns_of(&rt, rt.alloc(), RETURNING, 5)?;
+    let wide = turns_of(&rt, rt.alloc(), FAR, 20_001)?;
+    assert!(rt; small == [3, 1] && wide == [42, 1]);
     Ok(())
 }

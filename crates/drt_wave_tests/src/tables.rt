@@ -57,6 +57,20 @@ pub(crate) fn is_front_of(front: &[FrontEntry], table: &Table<DemandLabel>) -> b
     kept == front.len()
 }
 
+// Whether the entries are those wanted.
+fn are_entries(entries: &[FrontEntry], wanted: &[(u32, u64, u64)]) -> bool {
+    if entries.len() != wanted.len() {
+        return false;
+    }
+    for i in 0..entries.len() {
+        let found = (entries[i].vertex, entries[i].offset, entries[i].work);
+        if found != wanted[i] {
+            return false;
+        }
+    }
+    true
+}
+
 /// Whether the front is the one wanted.
 pub(crate) fn has_front(
     alloc: Global,
@@ -64,15 +78,5 @@ pub(crate) fn has_front(
     wanted: &[(u32, u64, u64)],
 ) -> Result<bool, Fail> {
     let front = works.front(alloc)?;
-    let entries = front.as_slice();
-    if entries.len() != wanted.len() {
-        return Ok(false);
-    }
-    for i in 0..entries.len() {
-        let found = (entries[i].vertex, entries[i].offset, entries[i].work);
-        if found != wanted[i] {
-            return Ok(false);
-        }
-    }
-    Ok(true)
+    Ok(are_entries(front.as_slice(), wanted))
 }

@@ -68,27 +68,58 @@ fn is_same(works: &DenseFront, others: &DenseFront) -> bool {
     true
 }
 
-// Whether 2, 4 and 16 workers find in each cell what one seat finds there.
-fn is_same_by_all<G: Gate, R: Threads + Wait + Sync>(
+// Whether so many workers find in each cell what one seat finds there.
+fn is_same_by<G: Gate, R: Threads + Wait + Sync>(
     rt: &R,
     alloc: Global,
     graph: &Graph,
     alone: &DenseFront,
     bound: u64,
+    workers: u32,
     gate: &G,
 ) -> Result<bool, Fail>
     requires few { vertex_count graph.now * (bound + 1) ≤ 4194304 }
 {
+    if workers < 1 || workers > 16 {
+        return Ok(false);
+    }
+    let works = fill(rt, alloc, graph, bound, workers, gate)?;
+    Ok(is_same(&works, alone))
+}
+
+// Whether 2, 4 and 16 workers find in each cell what one seat finds there, by the eager gate and by the open one.
+fn is_same_by_all<R: Threads + Wait + Sync>(
+    rt: &R,
+    alloc: Global,
+    graph: &Graph,
+    alone: &DenseFront,
+    bound: u64,
+) -> Result<bool, Fail>
+    requires few { vertex_count graph.now * (bound + 1) ≤ 4194304 }
+{
     for workers in [2u32, 4, 16] {
-        if workers < 1 || workers > 16 {
-            return Ok(false);
-        }
-        let works = fill(rt, alloc, graph, bound, workers, gate)?;
-        if !is_same(&works, alone) {
+        let same = is_same_by(rt, alloc, graph, alone, bound, workers, &EagerGate)?
+            && is_same_by(rt, alloc, graph, alone, bound, workers, &OpenGate)?;
+        if !same {
             return Ok(false);
         }
     }
     Ok(true)
+}
+
+// Whether the works have the front of a driven table of the same graph and bound.
+fn has_driven_front<R: Threads + Wait + Sync>(
+    rt: &R,
+    alloc: Global,
+    graph: &Graph,
+    works: &DenseFront,
+    bound: u64,
+) -> Result<bool, Fail>
+    requires bound { bound ≤ 1000000 }
+{
+    let table = finished_table(rt, alloc, graph, bound, 1)?;
+    let front = works.front(alloc)?;
+    Ok(is_front_of(front.as_slice(), &table))
 }
 
 // Whether a graph's table that one seat works has the front of a driven table, and each cell of tables by 2, 4 and 16 workers.
@@ -102,14 +133,10 @@ fn has_one_table<R: Threads + Wait + Sync>(
     requires bound { bound ≤ 1000000 }
 {
     let alone = dense_front(alloc, graph, bound)?;
-    let table = finished_table(rt, alloc, graph, bound, 1)?;
-    let front = alone.front(alloc)?;
-    if !is_front_of(front.as_slice(), &table) {
-        return Ok(false);
-    }
-    let eager = is_same_by_all(rt, alloc, graph, &alone, bound, &EagerGate)?;
-    let open = is_same_by_all(rt, alloc, graph, &alone, bound, &OpenGate)?;
-    Ok(eager && open)
+    Ok(
+        has_driven_front(rt, alloc, graph, &alone, bound)?
+            && is_same_by_all(rt, alloc, graph, &alone, bound)?,
+    )
 }
 
 // The graph that is drawn from this number, which has few enough cells up to a bound.
@@ -194,16 +221,18 @@ fn begins_later<R: Threads + Wait + Sync>(rt: &R, alloc: Global, bound: u64) -> 
 fn two_workers_begin_where_there_are_two_processors(rt: HostRuntime) -> Result<(), Fail> {
     let wanted = available_parallelism(&rt)?.get() > 1;
     let alloc = rt.alloc();
-    assert_eq!(rt; begins_first(&rt, alloc, 166_665, PATIENCE)?, wanted);
-    assert!(rt; !begins_first(&rt, alloc, BOUND, VAIN)?);
-    assert_eq!(rt; begins_later(&rt, alloc, BOUND)?, wanted);
+    let first = begins_first(&rt, alloc, 166_665, PATIENCE)?;
+    let small = begins_first(&rt, alloc, BOUND, VAIN)?;
+    let later = begins_later(&rt, alloc, BOUND)?;
+    assert!(rt; first == wanted && !small && later == wanted);
     Ok(())
 }
 
 // Up to this bound there are 99,996 cells, of which 3,272 have some work.
 #[test]
 fn one_worker_works_a_table_of_which_little_would_be_shared(rt: HostRuntime) -> Result<(), Fail> {
-    assert!(rt; !begins_first(&rt, rt.alloc(), 8_332, VAIN)?);
-    assert!(rt; !begins_later(&rt, rt.alloc(), 8_332)?);
+    let first = begins_first(&rt, rt.alloc(), 8_332, VAIN)?;
+    let later = begins_later(&rt, rt.alloc(), 8_332)?;
+    assert!(rt; !first && !later);
     Ok(())
 }

@@ -16,6 +16,34 @@ const DETOUR: Shape<'static> = (
     &[(0, 2, 2), (0, 1, 2), (1, 2, 3)],
 );
 
+// The works of the walks of RETURNING up to 5.
+const RETURNING_WORKS: [(u32, u64, u64); 6] = [
+    (0, 0, 1),
+    (1, 0, 2),
+    (2, 0, 1),
+    (2, 1, 3),
+    (2, 3, 2),
+    (2, 4, 4),
+];
+
+// The works of the walks of PAIR up to 150, of which none dominates another.
+const PAIR_WORKS: [(u32, u64, u64); 6] = [
+    (0, 0, 1),
+    (0, 70, 6),
+    (0, 140, 7),
+    (1, 0, 5),
+    (1, 70, 6),
+    (1, 140, 11),
+];
+
+// A shape, a bound, and the works or the front of its walks up to that.
+struct Case {
+    shape: Shape<'static>,
+    bound: u64,
+    wanted: &'static [(u32, u64, u64)],
+    shows: &'static str,
+}
+
 // The works of a graph of this shape up to the bound.
 fn works_of(alloc: Global, shape: Shape<'_>, bound: u64) -> Result<DenseFront, Fail> {
     let graph = make_graph(alloc, shape, bound)?;
@@ -97,7 +125,7 @@ fn has_works(works: &DenseFront, wanted: &[(u32, u64, u64)]) -> bool {
 }
 
 // Whether the walk of a vertex and an offset is the one wanted.
-fn has_walk(
+fn is_walk(
     alloc: Global,
     works: &DenseFront,
     vertex: u32,
@@ -115,21 +143,6 @@ fn has_walk(
 }
 
 #[test]
-fn each_cell_has_the_greatest_work(rt: HostRuntime) -> Result<(), Fail> {
-    let works = works_of(rt.alloc(), RETURNING, 5)?;
-    let wanted = [
-        (0, 0, 1),
-        (1, 0, 2),
-        (2, 0, 1),
-        (2, 1, 3),
-        (2, 3, 2),
-        (2, 4, 4),
-    ];
-    assert!(rt; has_works(&works, &wanted));
-    Ok(())
-}
-
-#[test]
 fn a_cell_has_the_number_of_its_vertex_and_offset(rt: HostRuntime) -> Result<(), Fail> {
     // A vertex has 6 cells: these are of m, which is vertex 2, at the offsets 1, 3, 4 and 5.
     for (cell, work) in [(13u32, 3u64), (15, 2), (16, 4), (17, 0)] {
@@ -138,101 +151,153 @@ fn a_cell_has_the_number_of_its_vertex_and_offset(rt: HostRuntime) -> Result<(),
     Ok(())
 }
 
+// Whether a table that is worked and then closed has these works.
+fn closes_with(
+    alloc: Global,
+    shape: Shape<'_>,
+    bound: u64,
+    wanted: &[(u32, u64, u64)],
+) -> Result<bool, Fail> {
+    let works = close_worked(alloc, shape, bound)?;
+    Ok(has_works(&works, wanted))
+}
+
 #[test]
 fn a_worked_table_closes_with_the_greatest_works(rt: HostRuntime) -> Result<(), Fail> {
-    let works = close_worked(rt.alloc(), RETURNING, 5)?;
-    let wanted = [
-        (0, 0, 1),
-        (1, 0, 2),
-        (2, 0, 1),
-        (2, 1, 3),
-        (2, 3, 2),
-        (2, 4, 4),
-    ];
-    assert!(rt; has_works(&works, &wanted));
+    assert!(rt; closes_with(rt.alloc(), RETURNING, 5, &RETURNING_WORKS)?);
     Ok(())
 }
+
+// Whether the works of a case are those wanted.
+fn has_works_of(alloc: Global, case: &Case) -> Result<bool, Fail> {
+    let works = works_of(alloc, case.shape, case.bound)?;
+    Ok(has_works(&works, case.wanted))
+}
+
+const WORKS: [Case; 5] = [
+    Case {
+        shape: RETURNING,
+        bound: 5,
+        wanted: &RETURNING_WORKS,
+        shows: "each cell has the greatest work",
+    },
+    Case {
+        shape: PAIR,
+        bound: 150,
+        wanted: &PAIR_WORKS,
+        shows: "a wave of several blocks is worked to its end",
+    },
+    Case {
+        shape: DETOUR,
+        bound: 6,
+        wanted: &[
+            (0, 0, 1),
+            (1, 0, 4),
+            (1, 2, 5),
+            (2, 0, 9),
+            (2, 2, 10),
+            (2, 3, 13),
+        ],
+        shows: "the last job is due within the bound",
+    },
+    Case {
+        shape: RETURNING,
+        bound: 0,
+        wanted: &[],
+        shows: "nothing is due by time 0",
+    },
+    Case {
+        shape: (&[(3, 2)], &[]),
+        bound: 100,
+        wanted: &[(0, 0, 3)],
+        shows: "without an edge there is one wave",
+    },
+];
+
+#[test]
+fn each_cell_has_the_greatest_work(rt: HostRuntime) -> Result<(), Fail> {
+    for case in &WORKS {
+        let shows = case.shows;
+        assert!(rt; has_works_of(rt.alloc(), case)?, "{shows}");
+    }
+    Ok(())
+}
+
+// Whether the front of a case is the one wanted.
+fn has_front_of(alloc: Global, case: &Case) -> Result<bool, Fail> {
+    let works = works_of(alloc, case.shape, case.bound)?;
+    has_front(alloc, &works, case.wanted)
+}
+
+const FRONTS: [Case; 4] = [
+    Case {
+        shape: RETURNING,
+        bound: 5,
+        wanted: &[(0, 0, 1), (1, 0, 2), (2, 0, 1), (2, 1, 3), (2, 4, 4)],
+        shows: "a label with less work than an earlier one is left out",
+    },
+    Case {
+        shape: PAIR,
+        bound: 150,
+        wanted: &PAIR_WORKS,
+        shows: "a wave of several blocks is worked to its end",
+    },
+    Case {
+        shape: DETOUR,
+        bound: 7,
+        wanted: &[
+            (0, 0, 1),
+            (1, 0, 4),
+            (1, 2, 5),
+            (2, 0, 9),
+            (2, 2, 10),
+            (2, 3, 13),
+            (2, 5, 14),
+        ],
+        shows: "a detour with more work is no shorter walk",
+    },
+    Case {
+        shape: RETURNING,
+        bound: 0,
+        wanted: &[],
+        shows: "nothing is due by time 0",
+    },
+];
 
 #[test]
 fn the_front_leaves_out_a_label_with_less_work_than_an_earlier_one(
     rt: HostRuntime,
 ) -> Result<(), Fail> {
-    let works = works_of(rt.alloc(), RETURNING, 5)?;
-    let wanted = [(0, 0, 1), (1, 0, 2), (2, 0, 1), (2, 1, 3), (2, 4, 4)];
-    assert!(rt; has_front(rt.alloc(), &works, &wanted)?);
+    for case in &FRONTS {
+        let shows = case.shows;
+        assert!(rt; has_front_of(rt.alloc(), case)?, "{shows}");
+    }
     Ok(())
+}
+
+// A shape and a bound, and a vertex, an offset and the walk with the greatest work to them.
+type Found = (Shape<'static>, u64, u32, u64, &'static [u32]);
+
+// The last two: there is a walk by a detour, with more work and later.
+const WALKS: [Found; 5] = [
+    (RETURNING, 5, 2, 4, &[1, 2, 2]),
+    (RETURNING, 5, 1, 0, &[1]),
+    (PAIR, 150, 1, 140, &[1, 0, 1]),
+    (DETOUR, 7, 2, 2, &[0, 2]),
+    (DETOUR, 7, 2, 5, &[0, 1, 2]),
+];
+
+// Whether the walk is found.
+fn finds_walk(alloc: Global, found: Found) -> Result<bool, Fail> {
+    let (shape, bound, vertex, offset, walk) = found;
+    let works = works_of(alloc, shape, bound)?;
+    is_walk(alloc, &works, vertex, offset, walk)
 }
 
 #[test]
 fn a_walk_is_found_backwards(rt: HostRuntime) -> Result<(), Fail> {
-    let works = works_of(rt.alloc(), RETURNING, 5)?;
-    assert!(rt; has_walk(rt.alloc(), &works, 2, 4, &[1, 2, 2])?);
-    let alone = has_walk(rt.alloc(), &works, 1, 0, &[1])?;
-    assert!(rt; alone);
-    Ok(())
-}
-
-#[test]
-fn a_wave_of_several_blocks_is_worked_to_its_end(rt: HostRuntime) -> Result<(), Fail> {
-    let works = works_of(rt.alloc(), PAIR, 150)?;
-    let wanted = [
-        (0, 0, 1),
-        (0, 70, 6),
-        (0, 140, 7),
-        (1, 0, 5),
-        (1, 70, 6),
-        (1, 140, 11),
-    ];
-    let kept = has_works(&works, &wanted) && has_front(rt.alloc(), &works, &wanted)?;
-    assert!(rt; kept);
-    assert!(rt; has_walk(rt.alloc(), &works, 1, 140, &[1, 0, 1])?);
-    Ok(())
-}
-
-#[test]
-fn the_last_job_is_due_within_the_bound(rt: HostRuntime) -> Result<(), Fail> {
-    let works = works_of(rt.alloc(), DETOUR, 6)?;
-    let wanted = [
-        (0, 0, 1),
-        (1, 0, 4),
-        (1, 2, 5),
-        (2, 0, 9),
-        (2, 2, 10),
-        (2, 3, 13),
-    ];
-    assert!(rt; has_works(&works, &wanted));
-    Ok(())
-}
-
-#[test]
-fn a_detour_with_more_work_is_no_shorter_walk(rt: HostRuntime) -> Result<(), Fail> {
-    let works = works_of(rt.alloc(), DETOUR, 7)?;
-    let wanted = [
-        (0, 0, 1),
-        (1, 0, 4),
-        (1, 2, 5),
-        (2, 0, 9),
-        (2, 2, 10),
-        (2, 3, 13),
-        (2, 5, 14),
-    ];
-    assert!(rt; has_front(rt.alloc(), &works, &wanted)?);
-    let direct = has_walk(rt.alloc(), &works, 2, 2, &[0, 2])?;
-    assert!(rt; direct);
-    assert!(rt; has_walk(rt.alloc(), &works, 2, 5, &[0, 1, 2])?);
-    Ok(())
-}
-
-#[test]
-fn nothing_is_due_by_time_0(rt: HostRuntime) -> Result<(), Fail> {
-    let works = works_of(rt.alloc(), RETURNING, 0)?;
-    assert!(rt; has_works(&works, &[]) && has_front(rt.alloc(), &works, &[])?);
-    Ok(())
-}
-
-#[test]
-fn without_an_edge_there_is_one_wave(rt: HostRuntime) -> Result<(), Fail> {
-    let works = works_of(rt.alloc(), (&[(3, 2)], &[]), 100)?;
-    assert!(rt; has_works(&works, &[(0, 0, 3)]));
+    for (i, found) in WALKS.iter().enumerate() {
+        assert!(rt; finds_walk(rt.alloc(), *found)?, "walk {i}");
+    }
     Ok(())
 }

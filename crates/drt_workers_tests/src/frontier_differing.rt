@@ -4,10 +4,12 @@ ghost use Rattle.std.specs.Prelude.{◌≡◌, ◌≤◌, length};
 ghost use Rattle.drt_frontier_board.specs.Board.{terms_of};
 ghost use Rattle.drt_refine.specs.Facts.{AreInPlace};
 
+use crate::frontier_driver::has_log;
 use drt_frontier_board::{Board, FrontierAnswer, FrontierFound, is_copy};
-use drt_refine::{Frontier, FrontierEntry, FrontierReply, FrontierStep};
+use drt_refine::{Frontier, FrontierReply, FrontierStep};
 use drt_steps::least_time;
 use drt_tree::Forest;
+use std::alloc::Global;
 use std::test::Fail;
 
 // The wcet and the deadline of the job, in ticks.
@@ -15,29 +17,8 @@ const WCET: u32 = 2;
 
 const DEADLINE: u32 = 5;
 
-// What a worker says before its call, and what it is answered.
-#[derive(Clone, Copy, Debug)]
-struct Case {
-    worker: u32,
-    held: Option<u32>,
-    answer: FrontierAnswer,
-}
-
-const fn step(held: Option<u32>, reply: FrontierReply) -> Case {
-    Case {
-        worker: 0,
-        held,
-        answer: FrontierAnswer::Step(reply),
-    }
-}
-
-const fn strange(worker: u32, held: Option<u32>, found: Option<u32>, same: bool) -> Case {
-    Case {
-        worker,
-        held,
-        answer: FrontierAnswer::Strange(FrontierFound { held: found, same }),
-    }
-}
+// A worker, the combination that it says it holds, and what it is answered.
+type Case = (u32, Option<u32>, FrontierAnswer);
 
 // The call of a worker that says so: it takes a combination, or lets the one that it says it holds pass. None where no time passes.
 fn call(
@@ -71,45 +52,73 @@ fn follow(board: &mut Board, forest: &Forest, nodes: &mut Vec<u32>, cases: &[Cas
     ensures terms { terms_of board.new ≡ terms_of board.old }
 {
     for i in 0..cases.len() {
-        let case = cases[i];
-        if call(board, forest, nodes, case.worker, case.held) != Some(case.answer) {
+        let (worker, held, answer) = cases[i];
+        if call(board, forest, nodes, worker, held) != Some(answer) {
             return i;
         }
     }
     cases.len()
 }
 
-// The job has no task ahead of it, and its one combination no nodes. What a worker says is compared with the frontier at each call.
-#[test]
-fn a_pass_that_differs_changes_nothing(rt: HostRuntime) -> Result<(), Fail> {
-    let alloc = rt.alloc();
+const CASES: [Case; 7] = [
+    (0, None, FrontierAnswer::Step(FrontierReply::Taken(0))),
+    (
+        0,
+        None,
+        FrontierAnswer::Strange(FrontierFound {
+            held: Some(0),
+            same: false,
+        }),
+    ),
+    (
+        0,
+        Some(7),
+        FrontierAnswer::Strange(FrontierFound {
+            held: Some(0),
+            same: true,
+        }),
+    ),
+    (
+        3,
+        Some(0),
+        FrontierAnswer::Strange(FrontierFound {
+            held: None,
+            same: false,
+        }),
+    ),
+    (0, Some(0), FrontierAnswer::Step(FrontierReply::Passed)),
+    (
+        0,
+        Some(0),
+        FrontierAnswer::Strange(FrontierFound {
+            held: None,
+            same: false,
+        }),
+    ),
+    (0, None, FrontierAnswer::Step(FrontierReply::Finished)),
+];
+
+const LOG: [(u32, FrontierStep); 2] = [
+    (0, FrontierStep::Take),
+    (0, FrontierStep::Pass { id: 0, time: 2 }),
+];
+
+// Whether the cases are answered as they are to be, and the log then has the two steps alone. The job has no task ahead of it, and its one
+// combination no nodes.
+fn are_followed(alloc: Global) -> Result<bool, Fail> {
     let forest = Forest::empty(alloc);
     let frontier = Frontier::start(alloc, &forest, &[], WCET, DEADLINE, 10)?;
     let mut board = Board::new(&forest, frontier);
     let mut nodes = Vec::new(alloc);
-    let cases = [
-        step(None, FrontierReply::Taken(0)),
-        strange(0, None, Some(0), false),
-        strange(0, Some(7), Some(0), true),
-        strange(3, Some(0), None, false),
-        step(Some(0), FrontierReply::Passed),
-        strange(0, Some(0), None, false),
-        step(None, FrontierReply::Finished),
-    ];
-    let followed = follow(&mut board, &forest, &mut nodes, &cases);
-    assert_eq!(rt; followed, cases.len());
+    let followed = follow(&mut board, &forest, &mut nodes, &CASES);
     let frontier = board.into_frontier();
-    let log = [
-        FrontierEntry {
-            worker: 0,
-            step: FrontierStep::Take,
-        },
-        FrontierEntry {
-            worker: 0,
-            step: FrontierStep::Pass { id: 0, time: 2 },
-        },
-    ];
-    assert!(rt; frontier.log() == log.as_slice());
+    Ok(followed == CASES.len() && has_log(&frontier, &LOG))
+}
+
+// What a worker says is compared with the frontier at each call.
+#[test]
+fn a_pass_that_differs_changes_nothing(rt: HostRuntime) -> Result<(), Fail> {
+    assert!(rt; are_followed(rt.alloc())?);
     Ok(())
 }
 

@@ -20,16 +20,7 @@ use std::thread::Threads;
 const WCET: u32 = 2;
 
 // A turn: the place of the pass, the step that it makes, and the frontier's reply.
-#[derive(Clone, Copy, Debug)]
-pub(crate) struct Play {
-    pub(crate) place: usize,
-    pub(crate) step: FrontierStep,
-    pub(crate) reply: FrontierReply,
-}
-
-pub(crate) const fn make_play(place: usize, step: FrontierStep, reply: FrontierReply) -> Play {
-    Play { place, step, reply }
-}
+pub(crate) type Play = (usize, FrontierStep, FrontierReply);
 
 // The shared frontier of one tree, and so many passes.
 pub(crate) fn share(
@@ -151,12 +142,12 @@ fn play_all<R: Wait>(
     ensures passes { EachPlace (λ place p. IsPassOf shared.now p) passes.new }
 {
     for i in 0..plays.len() {
-        let play = plays[i];
-        if play.place >= passes.len() {
+        let (place, wanted, reply) = plays[i];
+        if place >= passes.len() {
             return i;
         }
-        let (step, answer) = turn(rt, shared, forest, &mut passes[play.place]);
-        if step != play.step || answer != FrontierAnswer::Step(play.reply) {
+        let (step, answer) = turn(rt, shared, forest, &mut passes[place]);
+        if step != wanted || answer != FrontierAnswer::Step(reply) {
             return i;
         }
     }
@@ -193,6 +184,21 @@ pub(crate) fn has_states(frontier: &Frontier, states: &[CombinationState]) -> bo
     }
     for id in 0..frontier.count() {
         if frontier.state(id) != states[id as usize] {
+            return false;
+        }
+    }
+    true
+}
+
+// Whether the log has these workers' steps.
+pub(crate) fn has_log(frontier: &Frontier, wanted: &[(u32, FrontierStep)]) -> bool {
+    let log = frontier.log();
+    if log.len() != wanted.len() {
+        return false;
+    }
+    for i in 0..log.len() {
+        let entry = log[i];
+        if entry.worker != wanted[i].0 || entry.step != wanted[i].1 {
             return false;
         }
     }

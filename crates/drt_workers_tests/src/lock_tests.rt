@@ -79,15 +79,25 @@ fn times(tally: &Tally, number: u32) -> usize {
         .count()
 }
 
+// What the machine noted of two workers in threads.
+fn note_both<R: Threads + Wait + Sync>(rt: &R, alloc: Global) -> Result<Tally, Fail> {
+    let (lock, mut first) = begin(alloc)?;
+    let second = lock.split(&mut first);
+    let (mut first, second) = step_both(rt, &lock, first, second);
+    lock.join(&mut first, second);
+    Ok(lock.close(first))
+}
+
+// Whether it noted so many steps of each, and no others.
+fn has_noted_both<R: Threads + Wait + Sync>(rt: &R, alloc: Global) -> Result<bool, Fail> {
+    let tally = note_both(rt, alloc)?;
+    let are_all = tally.notes.len() == 2 * STEPS;
+    Ok(are_all && times(&tally, 1) == STEPS && times(&tally, 2) == STEPS)
+}
+
 #[test]
 fn two_threads_step_as_often_as_each_of_them_does(rt: HostRuntime) -> Result<(), Fail> {
-    let (lock, mut first) = begin(rt.alloc())?;
-    let second = lock.split(&mut first);
-    let (mut first, second) = step_both(&rt, &lock, first, second);
-    lock.join(&mut first, second);
-    let tally = lock.close(first);
-    assert!(rt; times(&tally, 1) == STEPS && times(&tally, 2) == STEPS);
-    assert!(rt; tally.notes.len() == 2 * STEPS);
+    assert!(rt; has_noted_both(&rt, rt.alloc())?);
     Ok(())
 }
 
@@ -98,19 +108,30 @@ fn what_is_kept_is_given_back(rt: HostRuntime) -> Result<(), Fail> {
     Ok(())
 }
 
+// What the machine noted of two seats in turn, and how many notes there were before each step.
+fn note_in_turn<R: Wait>(rt: &R, alloc: Global) -> Result<(Tally, [u64; 4]), Fail> {
+    let (lock, mut first) = begin(alloc)?;
+    let mut second = lock.split(&mut first);
+    let before = [
+        step(rt, &lock, &mut first, 1),
+        step(rt, &lock, &mut second, 2),
+        step(rt, &lock, &mut second, 2),
+        step(rt, &lock, &mut first, 1),
+    ];
+    lock.join(&mut first, second);
+    Ok((lock.close(first), before))
+}
+
+// Whether each of two seats' steps was noted, in order.
+fn has_noted_in_turn<R: Wait>(rt: &R, alloc: Global) -> Result<bool, Fail> {
+    let (tally, before) = note_in_turn(rt, alloc)?;
+    let are_noted = tally.notes.as_slice() == [1, 2, 2, 1].as_slice();
+    Ok(are_noted && before == [0, 1, 2, 3] && tally.start == START)
+}
+
 #[test]
 fn two_seats_step_in_turn(rt: HostRuntime) -> Result<(), Fail> {
-    let (lock, mut first) = begin(rt.alloc())?;
-    let mut second = lock.split(&mut first);
-    let mut noted = [9u64; 4];
-    noted[0] = step(&rt, &lock, &mut first, 1);
-    noted[1] = step(&rt, &lock, &mut second, 2);
-    noted[2] = step(&rt, &lock, &mut second, 2);
-    noted[3] = step(&rt, &lock, &mut first, 1);
-    lock.join(&mut first, second);
-    let tally = lock.close(first);
-    assert!(rt; noted == [0, 1, 2, 3] && tally.start == START);
-    assert!(rt; tally.notes.as_slice() == [1, 2, 2, 1].as_slice());
+    assert!(rt; has_noted_in_turn(&rt, rt.alloc())?);
     Ok(())
 }
 

@@ -4,7 +4,7 @@ ghost use Rattle.std.specs.Prelude.{◌≤◌};
 
 use drt_demand::DemandLabel;
 use drt_fixtures::{Shape, make_set};
-use drt_graph::check;
+use drt_graph::{Graphs, check};
 use drt_meeting::Meeting;
 use drt_pool::{EagerGate, Gate, OpenGate};
 use drt_search::search_together;
@@ -28,6 +28,11 @@ const RING: Shape<'static> = (
     ],
 );
 
+fn graphs_of_ring(alloc: Global) -> Result<Graphs, Fail> {
+    let set = make_set(alloc, &[RING])?.ok_or("within the limits")?;
+    Ok(check(alloc, &set).ok().ok_or("constrained")?)
+}
+
 // The search of the ring's walks up to the bound.
 fn search_ring<G: Gate, R: Threads + Wait + Sync>(
     rt: &R,
@@ -41,11 +46,7 @@ fn search_ring<G: Gate, R: Threads + Wait + Sync>(
     requires budget { (1 ≤ budget) × (budget ≤ 1000000) }
     requires workers { (1 ≤ workers) × (workers ≤ 16) }
 {
-    let set = make_set(alloc, &[RING])?.ok_or("within the limits")?;
-    let graphs = check(alloc, &set).ok().ok_or("constrained")?;
-    if graphs.count() == 0 {
-        return Err("a task".into());
-    }
+    let graphs = graphs_of_ring(alloc)?;
     Ok(search_together(rt, alloc, graphs.graph(0), bound, budget, workers, gate)?)
 }
 
@@ -132,8 +133,6 @@ fn a_budget_is_spent_by_any_number_of_workers(rt: HostRuntime) -> Result<(), Fai
 #[test]
 fn two_workers_search_at_the_same_time(rt: HostRuntime) -> Result<(), Fail> {
     let gate = Meeting::at(0);
-    let (table, reply) = search_ring(&rt, rt.alloc(), 5, 1_000, 2, &gate)?;
-    assert!(rt; reply == TableReply::Finished && has_ring(&table, 5));
-    assert!(rt; gate.times_met() == 1);
+    assert!(rt; finds_ring(&rt, rt.alloc(), 5, 2, &gate)? && gate.times_met() == 1);
     Ok(())
 }

@@ -1,13 +1,14 @@
 //! Turns of passes, all in one thread.
 
-ghost use Rattle.std.specs.Prelude.{◌≡◌, ◌≤◌, length};
+ghost use Rattle.std.specs.Prelude.{◌≡◌, ◌≤◌, IfOk, length};
 ghost use Rattle.drt_demand.specs.Demand.{demand_algebra};
 ghost use Rattle.drt_pool.specs.Turns.{EachPlace};
 ghost use Rattle.drt_shared.specs.Passes.{IsPassOf};
 
 use drt_demand::DemandLabel;
-use drt_fixtures::{Shape, make_set};
-use drt_graph::{Graph, Graphs, check};
+use drt_fixtures::make_set;
+use drt_fixtures::shapes::RETURNING;
+use drt_graph::{Graph, check};
 use drt_model::Row;
 use drt_pool::Turn;
 use drt_search::{drive_on, take_turn};
@@ -17,13 +18,7 @@ use std::alloc::Global;
 use std::sync::Wait;
 use std::test::Fail;
 
-// The vertices p(1,1), q(2,1), m(1,1) with the edges p-m 1, q-m 1 and m-m 3.
-const THREE: Shape<'static> = (
-    &[(1, 1), (2, 1), (1, 1)],
-    &[(0, 2, 1), (1, 2, 1), (2, 2, 3)],
-);
-
-// The turns of three workers on its table up to 5, with their replies.
+// The turns of three workers on the table of RETURNING up to 5, with their replies.
 const TURNS: [(usize, TableReply); 18] = [
     (0, TableReply::Taken(0)),
     (1, TableReply::Taken(1)),
@@ -45,9 +40,26 @@ const TURNS: [(usize, TableReply); 18] = [
     (0, TableReply::Finished),
 ];
 
-fn graphs_of_three(alloc: Global) -> Result<Graphs, Fail> {
-    let set = make_set(alloc, &[THREE])?.ok_or("within the limits")?;
-    Ok(check(alloc, &set).ok().ok_or("constrained")?)
+// The graph of RETURNING.
+fn make_graph(alloc: Global) -> Result<Graph, Fail> {
+    let set = make_set(alloc, &[RETURNING])?.ok_or("within the limits")?;
+    let graphs = check(alloc, &set).ok().ok_or("constrained")?;
+    Ok(graphs.graph(0).copy(alloc)?)
+}
+
+// The graph, and a shared table of its walks up to 5, with so many passes.
+fn start_table(
+    alloc: Global,
+    passes: u32,
+) -> Result<(Graph, SharedTable<DemandLabel>, Row<Pass<DemandLabel>>), Fail>
+    requires passes { (1 ≤ passes) × (passes ≤ 16) }
+    ensures graph { IfOk result (λ r. r.0 ≡ r.1.setting.graph) }
+    ensures count { IfOk result (λ r. (r.1.passes ≡ passes) × (length r.2 ≡ passes)) }
+    ensures passes { IfOk result (λ r. EachPlace (λ place p. IsPassOf demand_algebra r.1 p) r.2) }
+{
+    let graph = make_graph(alloc)?;
+    let (shared, passes) = SharedTable::start(alloc, &graph, 5, 1000, passes)?;
+    Ok((graph, shared, passes))
 }
 
 // Makes the turn of a worker, and says whether it has that reply, and is the worker's last only where it should be.
@@ -153,20 +165,19 @@ fn are_kept_but(table: &Table<DemandLabel>, count: usize, dropped: &[(usize, u32
     true
 }
 
+// Whether three workers' turns have their replies, and the table then is what it is to be.
+fn is_stepped<R: Wait>(rt: &R, alloc: Global) -> Result<bool, Fail> {
+    let (graph, shared, passes) = start_table(alloc, 3)?;
+    let (are_so, passes) = play(rt, alloc, &graph, &shared, passes, &TURNS);
+    let are_counted = have_counts(passes.as_slice(), &[6, 6, 3]);
+    let end = shared.finish(passes);
+    let is_ended = !end.halted && end.table.finished() && end.table.log().len() == 15;
+    Ok(are_so && are_counted && is_ended && are_kept_but(&end.table, 6, &[(3, 4)]))
+}
+
 #[test]
 fn three_workers_step_one_shared_table(rt: HostRuntime) -> Result<(), Fail> {
-    let alloc = rt.alloc();
-    let graphs = graphs_of_three(alloc)?;
-    if graphs.count() == 0 {
-        return Err("a task".into());
-    }
-    let graph = graphs.graph(0);
-    let (shared, passes) = SharedTable::start(alloc, graph, 5, 1000, 3)?;
-    let (are_so, passes) = play(&rt, alloc, graph, &shared, passes, &TURNS);
-    assert!(rt; are_so && have_counts(passes.as_slice(), &[6, 6, 3]));
-    let end = shared.finish(passes);
-    assert!(rt; !end.halted && end.table.finished() && end.table.log().len() == 15);
-    assert!(rt; are_kept_but(&end.table, 6, &[(3, 4)]));
+    assert!(rt; is_stepped(&rt, rt.alloc())?);
     Ok(())
 }
 
@@ -252,50 +263,45 @@ fn play_halted<R: Wait>(
     (are_halted, Row::from_vec(passes))
 }
 
+// Whether a halted search makes no more steps than one take.
+fn is_halted<R: Wait>(rt: &R, alloc: Global) -> Result<bool, Fail> {
+    let (graph, shared, passes) = start_table(alloc, 2)?;
+    let (are_halted, passes) = play_halted(rt, alloc, &graph, &shared, passes);
+    let end = shared.finish(passes);
+    Ok(are_halted && end.halted && end.table.log().len() == 1)
+}
+
 #[test]
 fn a_halted_search_makes_no_more_steps(rt: HostRuntime) -> Result<(), Fail> {
-    let alloc = rt.alloc();
-    let graphs = graphs_of_three(alloc)?;
-    if graphs.count() == 0 {
-        return Err("a task".into());
-    }
-    let graph = graphs.graph(0);
-    let (shared, passes) = SharedTable::start(alloc, graph, 5, 1000, 2)?;
-    let (are_halted, passes) = play_halted(&rt, alloc, graph, &shared, passes);
-    let end = shared.finish(passes);
-    assert!(rt; are_halted);
-    assert!(rt; end.halted && end.table.log().len() == 1);
+    assert!(rt; is_halted(&rt, rt.alloc())?);
     Ok(())
+}
+
+// Whether no table is driven on from passes of which one halted the search.
+fn is_refused(alloc: Global) -> Result<bool, Fail> {
+    let (_graph, shared, passes) = start_table(alloc, 2)?;
+    let mut passes = passes.into_vec();
+    halt_by(&shared, passes.as_mut_slice(), 1);
+    Ok(drive_on(alloc, shared, Row::from_vec(passes)).is_err())
 }
 
 #[test]
 fn a_halted_search_ends_as_want_of_memory(rt: HostRuntime) -> Result<(), Fail> {
-    let alloc = rt.alloc();
-    let graphs = graphs_of_three(alloc)?;
-    if graphs.count() == 0 {
-        return Err("a task".into());
-    }
-    let graph = graphs.graph(0);
-    let (shared, passes) = SharedTable::start(alloc, graph, 5, 1000, 2)?;
-    let mut passes = passes.into_vec();
-    halt_by(&shared, passes.as_mut_slice(), 1);
-    assert!(rt; drive_on(alloc, shared, Row::from_vec(passes)).is_err());
+    assert!(rt; is_refused(rt.alloc())?);
     Ok(())
+}
+
+// Whether a table that three workers left after seven turns is driven to its end.
+fn is_driven<R: Wait>(rt: &R, alloc: Global) -> Result<bool, Fail> {
+    let (graph, shared, passes) = start_table(alloc, 3)?;
+    let (are_so, passes) = play(rt, alloc, &graph, &shared, passes, &TURNS[..7]);
+    let (table, reply) = drive_on(alloc, shared, passes)?;
+    let is_ended = reply == TableReply::Finished && table.log().len() == 15;
+    Ok(are_so && is_ended && are_kept_but(&table, 6, &[(3, 4)]))
 }
 
 #[test]
 fn what_the_workers_left_over_is_driven(rt: HostRuntime) -> Result<(), Fail> {
-    let alloc = rt.alloc();
-    let graphs = graphs_of_three(alloc)?;
-    if graphs.count() == 0 {
-        return Err("a task".into());
-    }
-    let graph = graphs.graph(0);
-    let (shared, passes) = SharedTable::start(alloc, graph, 5, 1000, 3)?;
-    let (are_so, passes) = play(&rt, alloc, graph, &shared, passes, &TURNS[..7]);
-    assert!(rt; are_so);
-    let (table, reply) = drive_on(alloc, shared, passes)?;
-    assert!(rt; reply == TableReply::Finished && table.log().len() == 15);
-    assert!(rt; are_kept_but(&table, 6, &[(3, 4)]));
+    assert!(rt; is_driven(&rt, rt.alloc())?);
     Ok(())
 }
