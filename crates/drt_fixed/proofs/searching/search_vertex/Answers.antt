@@ -3,19 +3,18 @@ use Rattle.std.proofs.lemmas.Grind.{common_steps}
 use Rattle.std.proofs.lemmas.List.Elements.{All-take}
 use Rattle.drt_check_states.specs.Crests.{IsCrest}
 use Rattle.drt_check_states.specs.Curves.{HasRisingCurves}
+use Rattle.drt_sp_states.specs.Subjects.{IsSubject}
 use Rattle.drt_fixed.proofs.Prefixes.{zip_take}
 use Rattle.drt_fixed.proofs.searching.search_vertex.Goals as goal
 
-pub search_states-requires : goal.search_states-requires
-search_states-requires g c = record {
-  subject = record {
-    order = All-take (λ k. k < length c.args.given.graphs.now) c.args.place c.args.given.order.now c.requires.given.order;
-    tails = All-take HasRisingCurves c.args.place c.args.given.tails.now c.requires.given.tails;
-    crests = zip_take IsCrest c.args.place c.args.given.tails.now c.args.given.crests.now c.requires.given.crests;
-    few = grind (arith, common_steps);
-    wcet = grind (arith, common_steps);
-    some = grind (arith, common_steps);
-    most = grind (arith, common_steps);
-  };
-  workers = c.requires.given.workers;
-}
+pub search_states-requires-clause-subject : goal.search_states-requires-clause-subject
+search_states-requires-clause-subject g c =
+    record {
+      order = All-take (λ k. k < length c.args.given.graphs.now) c.args.place c.args.given.order.now c.requires.given.order;
+      tails = All-take HasRisingCurves c.args.place c.args.given.tails.now c.requires.given.tails;
+      crests = zip_take IsCrest c.args.place c.args.given.tails.now c.args.given.crests.now c.requires.given.crests;
+      few = grind (arith, common_steps);
+      wcet = grind (arith, common_steps);
+      some = grind (arith, common_steps);
+      most = grind (arith, common_steps);
+    }
