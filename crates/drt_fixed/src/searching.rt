@@ -5,6 +5,7 @@ ghost use Rattle.drt_evidence.specs.Claims.{graphs_of};
 ghost use Rattle.drt_check_states.specs.Curves.{HasRisingCurves};
 ghost use Rattle.drt_check_states.specs.Places.{AreTasks};
 ghost use Rattle.drt_fixed.specs.Answers.{IsOfStates};
+ghost use Rattle.drt_sp_states.specs.Subjects.{IsSubject};
 ghost use Rattle.drt_fixed.specs.Searching.{IsFound, IsGiven};
 
 use crate::releases::{VertexAt, refusal};
@@ -195,26 +196,31 @@ fn search_vertex<G: Gate, R: Threads + Wait + Sync>(
     requires given { IsGiven given }
     requires place { place < length given.order.now }
 {
+    let Effort { workers, budget } = given.effort;
+    match subject_at(given, place, wcet, deadline) {
+        Some(subject) => search_states(rt, alloc, subject, workers, budget, gate),
+        None => Ok(Searched::Spent),
+    }
+}
+
+// What the search of a vertex of the task at a place is over. None where a number is past the limits of a set, which none is.
+fn subject_at<'a>(given: Given<'a>, place: usize, wcet: u32, deadline: u32) -> Option<Subject<'a>>
+    requires given { IsGiven given }
+    requires place { place < length given.order.now }
+    ensures { IfSome result IsSubject }
+{
     if place > given.tails.len() || place > given.crests.len() || place > MOST_HIGHER {
-        return Ok(Searched::Spent);
+        return None;
     }
     if wcet > MOST_TICKS || deadline == 0 || deadline > MOST_TICKS {
-        return Ok(Searched::Spent);
+        return None;
     }
-    let subject = Subject {
+    Some(Subject {
         graphs: given.graphs,
         order: &given.order[..place],
         tails: &given.tails[..place],
         crests: &given.crests[..place],
         wcet,
         deadline,
-    };
-    search_states(
-        rt,
-        alloc,
-        subject,
-        given.effort.workers,
-        given.effort.budget,
-        gate,
-    )
+    })
 }

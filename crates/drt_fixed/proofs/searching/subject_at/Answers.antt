@@ -1,0 +1,20 @@
+-- The first places of what all searches are given.
+use Rattle.std.proofs.Common.{◌<◌, length, arith}
+use Rattle.std.proofs.lemmas.Grind.{common_steps}
+use Rattle.std.proofs.lemmas.List.Elements.{All-take}
+use Rattle.drt_check_states.specs.Crests.{IsCrest}
+use Rattle.drt_check_states.specs.Curves.{HasRisingCurves}
+use Rattle.drt_sp_states.specs.Subjects.{IsSubject}
+use Rattle.drt_fixed.proofs.Prefixes.{zip_take}
+use Rattle.drt_fixed.proofs.searching.subject_at.Goals as goal
+
+pub returns : goal.returns
+returns c = record {
+  order = All-take (λ k. k < length c.args.given.graphs.now) c.args.place c.args.given.order.now c.requires.given.order;
+  tails = All-take HasRisingCurves c.args.place c.args.given.tails.now c.requires.given.tails;
+  crests = zip_take IsCrest c.args.place c.args.given.tails.now c.args.given.crests.now c.requires.given.crests;
+  few = grind (arith, common_steps);
+  wcet = grind (arith, common_steps);
+  some = grind (arith, common_steps);
+  most = grind (arith, common_steps);
+}
