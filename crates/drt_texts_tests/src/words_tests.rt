@@ -1,4 +1,4 @@
-use drt_words::{Meaning, words_of};
+use drt_words::{Meaning, Spot, words_of};
 use std::alloc::Global;
 use std::test::Fail;
 
@@ -12,7 +12,8 @@ fn meaning_of(alloc: Global, words: &[&str]) -> Option<Meaning> {
 
 // Whether these words mean `edf` with so many steps.
 fn means_edf(alloc: Global, words: &[&str], budget: u32) -> bool {
-    match meaning_of(alloc, words) {
+    let meaning = meaning_of(alloc, words);
+    match &meaning {
         Some(Meaning::Edf { search }) => search.budget() == budget,
         _ => false,
     }
@@ -20,7 +21,8 @@ fn means_edf(alloc: Global, words: &[&str], budget: u32) -> bool {
 
 // Whether these words mean `response` with so many workers and so many steps.
 fn means_response(alloc: Global, words: &[&str], workers: u32, budget: u32) -> bool {
-    match meaning_of(alloc, words) {
+    let meaning = meaning_of(alloc, words);
+    match &meaning {
         Some(Meaning::Response { search }) => {
             search.workers() == workers && search.budget() == budget
         }
@@ -30,8 +32,40 @@ fn means_response(alloc: Global, words: &[&str], workers: u32, budget: u32) -> b
 
 // Whether these words mean `bench` with so many workers and this number.
 fn means_bench(alloc: Global, words: &[&str], count: u32, wanted: u64) -> bool {
-    match meaning_of(alloc, words) {
-        Some(Meaning::Bench { workers, number }) => workers.count() == count && number == wanted,
+    let meaning = meaning_of(alloc, words);
+    match &meaning {
+        Some(Meaning::Bench { workers, number }) => workers.count() == count && *number == wanted,
+        _ => false,
+    }
+}
+
+// Whether these words mean `convert`.
+fn means_convert(alloc: Global, words: &[&str]) -> bool {
+    let meaning = meaning_of(alloc, words);
+    matches!(&meaning, Some(Meaning::Convert))
+}
+
+// Whether these are the names of this vertex, or both are missing.
+fn names_vertex(vertex: &Option<Spot>, names: Option<(&str, &str)>) -> bool {
+    match (vertex, names) {
+        (None, None) => true,
+        (Some(spot), Some((task, name))) => {
+            spot.task.as_slice() == task.as_bytes() && spot.vertex.as_slice() == name.as_bytes()
+        }
+        _ => false,
+    }
+}
+
+// Whether these words mean `timeline` with this flag and these names.
+fn means_timeline(
+    alloc: Global,
+    words: &[&str],
+    picture: bool,
+    names: Option<(&str, &str)>,
+) -> bool {
+    let meaning = meaning_of(alloc, words);
+    match &meaning {
+        Some(Meaning::Timeline { svg, vertex }) => *svg == picture && names_vertex(vertex, names),
         _ => false,
     }
 }
@@ -74,5 +108,31 @@ fn words_of_bench_mean_its_number(rt: HostRuntime) -> Result<(), Fail> {
 fn words_of_response_mean_its_workers_and_budget(rt: HostRuntime) -> Result<(), Fail> {
     let words = ["drt", "response", "--workers", "2", "--budget", "7"];
     assert!(rt; means_response(rt.alloc(), words.as_slice(), 2, 7));
+    Ok(())
+}
+
+#[test]
+fn words_of_convert_mean_it(rt: HostRuntime) -> Result<(), Fail> {
+    assert!(rt; means_convert(rt.alloc(), ["drt", "convert"].as_slice()));
+    Ok(())
+}
+
+#[test]
+fn words_of_timeline_mean_its_picture_and_its_vertex(rt: HostRuntime) -> Result<(), Fail> {
+    let one = ["drt", "timeline"];
+    let picture = ["drt", "timeline", "--svg"];
+    let named = ["drt", "timeline", "--vertex", "engine", "mid"];
+    let front = ["drt", "timeline", "--svg", "--vertex", "t", ""];
+    let back = ["drt", "timeline", "--vertex", "-", "t=1", "--svg"];
+    let cases: [(&[&str], bool, Option<(&str, &str)>); 5] = [
+        (one.as_slice(), false, None),
+        (picture.as_slice(), true, None),
+        (named.as_slice(), false, Some(("engine", "mid"))),
+        (front.as_slice(), true, Some(("t", ""))),
+        (back.as_slice(), true, Some(("-", "t=1"))),
+    ];
+    for (words, svg, names) in cases {
+        assert!(rt; means_timeline(rt.alloc(), words, svg, names), "{words:?}");
+    }
     Ok(())
 }

@@ -5,7 +5,7 @@ use Rattle.clap.specs.Kinds.{Kinds, or_else}
 use Rattle.clap.specs.Simple.{App, Shape, built, entered, filled, label_of, names_of, new_shape, rows_at, subcommand_of, with_index}
 use Rattle.clap.specs.Walk.{Names, Rule, Text, Walk, answers_to, idle, is_empty, nothing_held, rows_after, walk_from, walked, with_default}
 use Rattle.clap.specs.Faults.{built_fault, check_fault, defaults_fault, level_fault, turn_fault, walk_fault}
-use Rattle.drt_words.specs.CommandLine.{drt_app, workers_rule, number_rule, whole_rule}
+use Rattle.drt_words.specs.CommandLine.{drt_app, flag_rule, workers_rule, number_rule, pair_rule, whole_rule}
 use Rattle.drt_words.specs.Meaning.{meaning_at, meaning_of}
 use Rattle.drt_words.specs.Searches.{most_budget}
 use Rattle.drt_words.specs.Plain.{Searcher, for_edf, for_sp, for_response, searcher_word}
@@ -68,6 +68,12 @@ budget_built = with_index 1 (filled (number_rule (codes "budget") most_budget (c
 abbrev pub number_built : Rule
 number_built = with_index 1 (filled (whole_rule (codes "number")))
 
+abbrev pub svg_built : Rule
+svg_built = with_index 1 (filled (flag_rule (codes "svg")))
+
+abbrev pub vertex_built : Rule
+vertex_built = with_index 1 (filled (pair_rule (codes "vertex")))
+
 abbrev pub leaf : Text → List Rule → Shape
 leaf name rules = record (new_shape name) {
   rules = rules;
@@ -83,6 +89,9 @@ search_leaf k = leaf (searcher_word k) (workers_built ∷ budget_built ∷ [])
 abbrev pub bench_leaf : Shape
 bench_leaf = leaf (codes "bench") (workers_built ∷ number_built ∷ [])
 
+abbrev pub timeline_leaf : Shape
+timeline_leaf = leaf (codes "timeline") (svg_built ∷ vertex_built ∷ [])
+
 search_enters : (k : Searcher) → Enters (built drt_app) (searcher_word k) (search_leaf k)
 unfolding clap_on_literals
 search_enters for_edf = record { stops = refl; turns = refl; finds = refl; ends = refl }
@@ -92,6 +101,10 @@ search_enters for_response = record { stops = refl; turns = refl; finds = refl; 
 bench_enters : Enters (built drt_app) (codes "bench") bench_leaf
 unfolding clap_on_literals
 bench_enters = record { stops = refl; turns = refl; finds = refl; ends = refl }
+
+timeline_enters : Enters (built drt_app) (codes "timeline") timeline_leaf
+unfolding clap_on_literals
+timeline_enters = record { stops = refl; turns = refl; finds = refl; ends = refl }
 
 -- ---- what the words mean
 
@@ -113,3 +126,6 @@ search_means k program words = means_below (searcher_word k) program (search_lea
 
 pub bench_means : (program : Text) (words : List Text) → meaning_of (program ∷ codes "bench" ∷ words) ≡ meaning_below bench_leaf words
 bench_means program words = means_below (codes "bench") program bench_leaf bench_enters words
+
+pub timeline_means : (program : Text) (words : List Text) → meaning_of (program ∷ codes "timeline" ∷ words) ≡ meaning_below timeline_leaf words
+timeline_means program words = means_below (codes "timeline") program timeline_leaf timeline_enters words

@@ -15,13 +15,14 @@ use Rattle.drt_words.specs.Searches.{most_budget, most_workers}
 use Rattle.drt_words.specs.Meaning.{meaning_at, meaning_of, search_at}
 use Rattle.drt_words.specs.Plain.{IsPlainNumber, BeginsPlain, Spells, PlainOptions, neither, workers, budget, workers_first, budget_first}
 use Rattle.drt_words.specs.Plain.{IsPlain, plain_searcher, Searcher, for_edf, for_sp, for_response, searcher_word, searcher_meaning}
-use Rattle.drt_words.specs.Plain.{plain_upgrade, plain_util, plain_check, plain_bench, IsPlainWhole, PlainWorkers, standard, given}
+use Rattle.drt_words.specs.Plain.{plain_upgrade, plain_util, plain_check, plain_bench, plain_convert, plain_timeline, plain_timeline_back, IsPlainWhole, PlainWorkers, standard, given}
 use Rattle.drt_words.proofs.NumberLemmas.{digits_pass}
 use Rattle.drt_words.proofs.WordWalks.{at}
+use Rattle.drt_words.proofs.PlainTimelines.{back_means, front_means}
 use Rattle.drt_words.proofs.PlainWalks.{Settles, Ends, HasOption, after_option, below_ends, ends_here, last_fault, one_more}
 use Rattle.drt_words.proofs.Entering.{bench_leaf, bench_means, budget_built, meaning_below, number_built, search_leaf, search_means, workers_built}
 use Rattle.drt_words.specs.declared.meaning.Meaning.{Meaning}
-use Rattle.drt_words.specs.declared.meaning.Meaning.TheVariants.{Upgrade, Util, Check, Bench}
+use Rattle.drt_words.specs.declared.meaning.Meaning.TheVariants.{Upgrade, Util, Check, Bench, Convert}
 
 -- what clap and the reader find at a plain number
 record Read (most : ℕ) (text : List ℕ) (n : ℕ) : Type 0 where
@@ -152,6 +153,10 @@ check_means : (program : List ℕ) → meaning_of (program ∷ codes "check" ∷
 unfolding clap_on_literals
 check_means program = refl
 
+convert_means : (program : List ℕ) → meaning_of (program ∷ codes "convert" ∷ []) ≡ Some Convert
+unfolding clap_on_literals
+convert_means program = refl
+
 -- What clap and the reader find at a plain number of 64 bits.
 record ReadWhole (text : List ℕ) (n : ℕ) : Type 0 where
   plain : BeginsPlain text
@@ -224,4 +229,7 @@ plain_means words meaning (plain_searcher program command options m n o) = rw (s
 plain_means words meaning (plain_upgrade program) = upgrade_means program
 plain_means words meaning (plain_util program) = util_means program
 plain_means words meaning (plain_check program) = check_means program
+plain_means words meaning (plain_convert program) = convert_means program
+plain_means words meaning (plain_timeline program flags spots svg vertex f s) = front_means program flags spots svg vertex f s
+plain_means words meaning (plain_timeline_back program flags spots svg vertex f s) = back_means program flags spots svg vertex f s
 plain_means words meaning (plain_bench program options text m n o p) = rw (bench_means program (options ++ text ∷ [])) (number_means options text m n o (whole_of n text p))

@@ -1,7 +1,7 @@
 -- The command line, as clap's clauses see it.
 use Rattle.std.specs.Prelude.{ℕ, [], ◌∷◌, Some, true, codes}
 use Rattle.clap.specs.Words.{App, Rule, Shape, Text, new_app, new_rule, with_rule, with_subcommand}
-use Rattle.clap.specs.declared.builder.ArgAction.TheVariants.{Set}
+use Rattle.clap.specs.declared.builder.ArgAction.TheVariants.{Set, SetTrue}
 use Rattle.clap.specs.declared.builder.ValueParser.TheVariants as vp
 use Rattle.drt_words.specs.Searches.{most_budget, most_workers}
 
@@ -60,8 +60,28 @@ bench_app = with_rule (with_rule (new_app (codes "bench")) workers_rule) (whole_
 abbrev pub with_bench : App → App
 with_bench top = with_subcommand top bench_app.top
 
--- The whole command line: the commands `edf`, `sp`, `upgrade`, `util`, `check`, `bench` and `response`.
+-- An option without a value: it is given or not.
+abbrev pub flag_rule : Text → Rule
+flag_rule name = record (new_rule name) { long = Some name; action = Some SetTrue }
+
+-- An option of two words.
+abbrev pub pair_rule : Text → Rule
+pair_rule name = record (new_rule name) {
+  long = Some name;
+  action = Some Set;
+  range = Some (record { start_inclusive = 2; end_inclusive = 2 });
+}
+
+-- The command `timeline` has the flag for a picture and the option for a vertex, of its two names.
+abbrev pub timeline_app : App
+timeline_app = with_rule (with_rule (new_app (codes "timeline")) (flag_rule (codes "svg"))) (pair_rule (codes "vertex"))
+
+-- The command line with `timeline` too.
+abbrev pub with_timeline : App → App
+with_timeline top = with_subcommand top timeline_app.top
+
+-- The whole command line: the commands `edf`, `sp`, `upgrade`, `util`, `check`, `bench`, `response`, `convert` and `timeline`.
 abbrev pub drt_app : App
 drt_app =
-    with_search (with_bench (with_plain (with_plain (with_plain (with_search (with_search (bare_app (new_app (codes "drt")))
-    (codes "edf")) (codes "sp")) (codes "upgrade")) (codes "util")) (codes "check"))) (codes "response")
+    with_timeline (with_plain (with_search (with_bench (with_plain (with_plain (with_plain (with_search (with_search (bare_app (new_app (codes "drt")))
+    (codes "edf")) (codes "sp")) (codes "upgrade")) (codes "util")) (codes "check"))) (codes "response")) (codes "convert"))

@@ -1,12 +1,14 @@
 -- Plain lists of words, and lists that must be refused.
-use Rattle.std.specs.Prelude.{◌≡◌, ◌≢◌, ◌≤◌, ◌<◌, ◌^◌, ℕ, List, [], ◌∷◌, ◌++◌, codes, length, false, None, slice_index}
+use Rattle.std.specs.Prelude.{◌≡◌, ◌≢◌, ◌≤◌, ◌<◌, ◌^◌, ℕ, List, [], ◌∷◌, ◌++◌, codes, length, slice_index}
+use Rattle.std.specs.Prelude.{Bool, true, false, Option, Some, None}
 use Rattle.std.specs.Str.{bytes_eq}
 use Rattle.std.specs.Str.Parse.{IsNumeral, digits_value}
 use Rattle.clap.specs.Lexer.{long_of, short_of}
 use Rattle.clap.specs.ValueTests.{is_unsigned_in}
 use Rattle.drt_words.specs.Searches.{most_budget, most_workers}
 use Rattle.drt_words.specs.declared.meaning.Meaning.{Meaning}
-use Rattle.drt_words.specs.declared.meaning.Meaning.TheVariants.{Edf, Sp, Upgrade, Util, Check, Bench, Response}
+use Rattle.drt_words.specs.declared.meaning.Meaning.TheVariants.{Edf, Sp, Upgrade, Util, Check, Bench, Response, Convert, Timeline}
+use Rattle.drt_words.specs.declared.spot.Spot.{Spot}
 
 -- The text is a number from 1 to `most` in decimal digits without leading zeros.
 pub record IsPlainNumber (most : ℕ) (text : List ℕ) (n : ℕ) : Type 0 where
@@ -61,20 +63,37 @@ pub data PlainWorkers : List (List ℕ) → ℕ → Type 0 where
   standard : PlainWorkers [] 4
   given : (words : List (List ℕ)) (a : List ℕ) (m : ℕ) → IsPlainNumber most_workers a m → Spells (codes "workers") a words → PlainWorkers words m
 
--- A plain list: a program name, a command, then that command's options, and behind them the number of `bench`.
-pub data IsPlain : List (List ℕ) → Meaning → Type 0 where
-  plain_searcher : (program : List ℕ) (command : Searcher) (options : List (List ℕ)) (m n : ℕ) → PlainOptions options m n → IsPlain (program ∷ searcher_word command ∷ options) (searcher_meaning command m n)
-  plain_upgrade : (program : List ℕ) → IsPlain (program ∷ codes "upgrade" ∷ []) Upgrade
-  plain_util : (program : List ℕ) → IsPlain (program ∷ codes "util" ∷ []) Util
-  plain_check : (program : List ℕ) → IsPlain (program ∷ codes "check" ∷ []) Check
-  plain_bench : (program : List ℕ) (options : List (List ℕ)) (text : List ℕ) (m n : ℕ) → PlainWorkers options m → IsPlainWhole text n
-      → IsPlain (program ∷ codes "bench" ∷ (options ++ text ∷ [])) (Bench m n)
-
 -- The word isn't `--` and doesn't read as a flag.
 pub record BeginsPlain (text : List ℕ) : Type 0 where
   pub no_dashes : bytes_eq text (codes "--") ≡ false
   pub no_long : long_of text ≡ None
   pub no_short : short_of text ≡ None
+
+-- The flag of `timeline`, given or not.
+pub data PlainFlag : List (List ℕ) → Bool → Type 0 where
+  svg_absent : PlainFlag [] false
+  svg_given : PlainFlag (codes "--svg" ∷ []) true
+
+-- The option of `timeline`, with the two names that it gives or none. Neither name reads as a flag.
+pub data PlainSpot : List (List ℕ) → Option Spot → Type 0 where
+  vertex_absent : PlainSpot [] None
+  vertex_given : (task vertex : List ℕ) → BeginsPlain task → BeginsPlain vertex
+      → PlainSpot (codes "--vertex" ∷ task ∷ vertex ∷ []) (Some (record { task = task; vertex = vertex }))
+
+-- A plain list: a program name, a command, then that command's options, each at most once and in any order, and behind them the number of `bench`.
+pub data IsPlain : List (List ℕ) → Meaning → Type 0 where
+  plain_searcher : (program : List ℕ) (command : Searcher) (options : List (List ℕ)) (m n : ℕ) → PlainOptions options m n
+      → IsPlain (program ∷ searcher_word command ∷ options) (searcher_meaning command m n)
+  plain_upgrade : (program : List ℕ) → IsPlain (program ∷ codes "upgrade" ∷ []) Upgrade
+  plain_util : (program : List ℕ) → IsPlain (program ∷ codes "util" ∷ []) Util
+  plain_check : (program : List ℕ) → IsPlain (program ∷ codes "check" ∷ []) Check
+  plain_bench : (program : List ℕ) (options : List (List ℕ)) (text : List ℕ) (m n : ℕ) → PlainWorkers options m → IsPlainWhole text n
+      → IsPlain (program ∷ codes "bench" ∷ (options ++ text ∷ [])) (Bench m n)
+  plain_convert : (program : List ℕ) → IsPlain (program ∷ codes "convert" ∷ []) Convert
+  plain_timeline : (program : List ℕ) (flags spots : List (List ℕ)) (svg : Bool) (vertex : Option Spot) → PlainFlag flags svg → PlainSpot spots vertex
+      → IsPlain (program ∷ codes "timeline" ∷ (flags ++ spots)) (Timeline svg vertex)
+  plain_timeline_back : (program : List ℕ) (flags spots : List (List ℕ)) (svg : Bool) (vertex : Option Spot) → PlainFlag flags svg → PlainSpot spots vertex
+      → IsPlain (program ∷ codes "timeline" ∷ (spots ++ flags)) (Timeline svg vertex)
 
 -- The list gives an option of a command that searches, or of `bench`, a value that is no number in its range, whatever stands before it and after it.
 pub data GivesBadNumber : List (List ℕ) → Type 0 where

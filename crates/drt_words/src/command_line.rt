@@ -2,7 +2,8 @@
 ghost use Rattle.std.specs.Prelude.{◌≡◌, IfOk, false, codes};
 ghost use Rattle.clap.specs.Words.{app_of, new_app, rule_of};
 ghost use Rattle.clap.specs.declared.builder.Command.TheViews.{out-Command};
-ghost use Rattle.drt_words.specs.CommandLine.{bare_app, bench_app, drt_app, number_rule, search_app, whole_rule, with_bench, with_plain, with_search, workers_rule};
+ghost use Rattle.drt_words.specs.CommandLine.{bare_app, bench_app, drt_app, flag_rule, number_rule, pair_rule, search_app, timeline_app, whole_rule};
+ghost use Rattle.drt_words.specs.CommandLine.{with_bench, with_plain, with_search, with_timeline, workers_rule};
 
 use crate::search::{MOST_BUDGET, MOST_WORKERS};
 use clap::builder::ValueParser;
@@ -40,6 +41,25 @@ fn whole_word<'a>(alloc: Global, name: &'a str) -> Arg<'a>
         .required(true)
 }
 
+// An option without a value.
+fn flag_option<'a>(alloc: Global, name: &'a str) -> Arg<'a>
+    ensures rule { rule_of result ≡ flag_rule name.entry.now }
+    ensures local { result.global ≡ false }
+{
+    Arg::new(alloc, name).long(name).action(ArgAction::SetTrue)
+}
+
+// An option of two words.
+fn pair_option<'a>(alloc: Global, name: &'a str) -> Arg<'a>
+    ensures rule { rule_of result ≡ pair_rule name.entry.now }
+    ensures local { result.global ≡ false }
+{
+    Arg::new(alloc, name)
+        .long(name)
+        .action(ArgAction::Set)
+        .num_args(2)
+}
+
 // A command that searches: with the options for workers and budget.
 fn search<'a>(alloc: Global, name: &'a str) -> Result<Command<'a>, AllocError>
     ensures app { IfOk result (λ c. app_of c ≡ search_app name.entry.now) }
@@ -57,6 +77,15 @@ fn bench<'a>(alloc: Global) -> Result<Command<'a>, AllocError>
 {
     let command = Command::new(alloc, "bench").arg(workers_option(alloc))?;
     command.arg(whole_word(alloc, "number"))
+}
+
+// The command `timeline`: with the flag for a picture and the option for a vertex.
+fn timeline<'a>(alloc: Global) -> Result<Command<'a>, AllocError>
+    ensures app { IfOk result (λ c. app_of c ≡ timeline_app) }
+    ensures local { IfOk result (λ c. (out-Command c).has_globals ≡ false) }
+{
+    let command = Command::new(alloc, "timeline").arg(flag_option(alloc, "svg"))?;
+    command.arg(pair_option(alloc, "vertex"))
 }
 
 // The command line that has no command yet: help, version and the help subcommand are off, and a subcommand is required.
@@ -91,6 +120,13 @@ fn add_bench<'a>(alloc: Global, top: Command<'a>) -> Result<Command<'a>, AllocEr
     top.subcommand(bench(alloc)?)
 }
 
+// The command line with `timeline` too.
+fn add_timeline<'a>(alloc: Global, top: Command<'a>) -> Result<Command<'a>, AllocError>
+    ensures { IfOk result (λ c. app_of c ≡ with_timeline (app_of top.entry)) }
+{
+    top.subcommand(timeline(alloc)?)
+}
+
 // The whole command line.
 pub(crate) fn drt<'a>(alloc: Global) -> Result<Command<'a>, AllocError>
     ensures { IfOk result (λ c. app_of c ≡ drt_app) }
@@ -102,5 +138,7 @@ pub(crate) fn drt<'a>(alloc: Global) -> Result<Command<'a>, AllocError>
     let util = add_plain(alloc, upgrade, "util")?;
     let check = add_plain(alloc, util, "check")?;
     let bench = add_bench(alloc, check)?;
-    add_search(alloc, bench, "response")
+    let response = add_search(alloc, bench, "response")?;
+    let convert = add_plain(alloc, response, "convert")?;
+    add_timeline(alloc, convert)
 }

@@ -1,5 +1,6 @@
 //! What a list of words asks for.
 use crate::search::Search;
+use crate::spot::Spot;
 use crate::workers::Workers;
 
 /// What a list of words asks for.
@@ -19,4 +20,8 @@ pub enum Meaning {
     Bench { workers: Workers, number: u64 },
     /// The greatest response time of each vertex, with releases that reach it.
     Response { search: Search },
+    /// A file of sporadic and multiframe tasks, as a task file.
+    Convert,
+    /// Who runs when: in the releases of a dossier or, where a vertex is named, in those of its response. As a picture, or as a text.
+    Timeline { svg: bool, vertex: Option<Spot> },
 }

@@ -23,7 +23,8 @@ pub fn unknown_command()
     ensures { (program text : List ℕ) (rest : List (List ℕ)) → BeginsPlain text
         → bytes_eq (codes "edf") text ≡ false → bytes_eq (codes "sp") text ≡ false → bytes_eq (codes "upgrade") text ≡ false
         → bytes_eq (codes "util") text ≡ false → bytes_eq (codes "check") text ≡ false → bytes_eq (codes "bench") text ≡ false
-        → bytes_eq (codes "response") text ≡ false
+        → bytes_eq (codes "response") text ≡ false → bytes_eq (codes "convert") text ≡ false
+        → bytes_eq (codes "timeline") text ≡ false
         → meaning_of (program ∷ text ∷ rest) ≡ None }
 {}
 
@@ -37,4 +38,9 @@ pub fn plain_words()
 /// whatever stands before it and after it.
 pub fn bad_numbers()
     ensures { (words : List (List ℕ)) → GivesBadNumber words → meaning_of words ≡ None }
+{}
+
+/// A list that names the task of a vertex alone means nothing.
+pub fn one_name()
+    ensures { (program task : List ℕ) → BeginsPlain task → meaning_of (program ∷ codes "timeline" ∷ codes "--vertex" ∷ task ∷ []) ≡ None }
 {}

@@ -2,15 +2,17 @@
 ghost use Rattle.std.specs.Prelude.{◌≡◌, ◌≢◌, ◌≤◌, IfOk, IfSome, MatchResult, List, ℕ, None, Some, map, [], ◌∷◌, codes};
 ghost use Rattle.clap.specs.Words.{subcommand_of, subcommand_rows_of, fault_of, rows_of, found_of};
 ghost use Rattle.drt_words.specs.CommandLine.{drt_app};
-ghost use Rattle.drt_words.specs.Meaning.{bench_at, meaning_at, meaning_of, number_at, search_at, whole_at};
+ghost use Rattle.drt_words.specs.Meaning.{bench_at, flag_at, meaning_at, meaning_of, number_at, search_at, spot_at, timeline_at, whole_at};
 
 use crate::command_line::drt;
 use crate::meaning::Meaning;
 use crate::number::{number_of, whole_of};
 use crate::search::{MOST_BUDGET, MOST_WORKERS, Search};
+use crate::spot::Spot;
 use crate::workers::Workers;
 use clap::ArgMatches;
 use clap::error::ErrorKind;
+use drt_model::{Memory, Name};
 use std::alloc::{AllocError, Global};
 use std::convert::AsStr;
 
@@ -82,33 +84,92 @@ fn bench_in(matches: &ArgMatches) -> Option<Meaning>
     })
 }
 
-// What a command of this name asks for with these options.
-fn meaning_in(name: &str, matches: &ArgMatches) -> Option<Meaning>
-    ensures { result ≡ meaning_at name.now (rows_of (found_of matches.now)) }
+// Whether a flag is given.
+fn flag(matches: &ArgMatches, name: &str) -> bool
+    ensures { result ≡ flag_at name.now (rows_of (found_of matches.now)) }
 {
-    if name == "edf" {
-        let search = search_in(matches)?;
-        Some(Meaning::Edf { search })
-    } else if name == "sp" {
-        let search = search_in(matches)?;
-        Some(Meaning::Sp { search })
-    } else if name == "upgrade" {
-        Some(Meaning::Upgrade)
-    } else if name == "util" {
-        Some(Meaning::Util)
-    } else if name == "check" {
-        Some(Meaning::Check)
-    } else if name == "bench" {
-        bench_in(matches)
-    } else if name == "response" {
-        let search = search_in(matches)?;
-        Some(Meaning::Response { search })
-    } else {
-        None
+    match matches.get_str(name) {
+        Some(text) => text == "true",
+        None => false,
     }
 }
 
-/// What the words mean, or that they mean nothing.
+// The name that a word is.
+fn name_of(alloc: Global, text: &str) -> Result<Name, Memory>
+    ensures { IfOk result (λ name. name ≡ text.now) }
+{
+    Ok(Name::from_vec(Vec::from_slice(alloc, text.as_bytes())?))
+}
+
+// The vertex of these two names.
+fn spot_of(alloc: Global, task: &str, vertex: &str) -> Result<Spot, Memory>
+    ensures { IfOk result (λ spot. spot ≡ record { task = task.now; vertex = vertex.now }) }
+{
+    Ok(Spot {
+        task: name_of(alloc, task)?,
+        vertex: name_of(alloc, vertex)?,
+    })
+}
+
+// The vertex that an option of two words names, where it is given.
+fn spot_in(alloc: Global, matches: &ArgMatches) -> Result<Option<Spot>, WordsError>
+    ensures spot { IfOk result (λ spot. spot_at (rows_of (found_of matches.now)) ≡ Some spot) }
+    ensures refused { result ≡ Err WordsError.Refused → spot_at (rows_of (found_of matches.now)) ≡ None }
+{
+    let Some(names) = matches.get_strs("vertex") else {
+        return Ok(None);
+    };
+    if names.len() != 2 {
+        return Err(WordsError::Refused);
+    }
+    match spot_of(alloc, names[0], names[1]) {
+        Ok(spot) => Ok(Some(spot)),
+        Err(_) => Err(WordsError::Memory),
+    }
+}
+
+// What `timeline` asks for.
+fn timeline_in(alloc: Global, matches: &ArgMatches) -> Result<Meaning, WordsError>
+    ensures meaning { IfOk result (λ m. timeline_at (rows_of (found_of matches.now)) ≡ Some m) }
+    ensures refused { result ≡ Err WordsError.Refused → timeline_at (rows_of (found_of matches.now)) ≡ None }
+{
+    let svg = flag(matches, "svg");
+    let vertex = spot_in(alloc, matches)?;
+    Ok(Meaning::Timeline { svg, vertex })
+}
+
+// What a command of this name asks for with these options.
+fn meaning_in(alloc: Global, name: &str, matches: &ArgMatches) -> Result<Meaning, WordsError>
+    ensures meaning { IfOk result (λ m. meaning_at name.now (rows_of (found_of matches.now)) ≡ Some m) }
+    ensures refused { result ≡ Err WordsError.Refused → meaning_at name.now (rows_of (found_of matches.now)) ≡ None }
+{
+    if name == "edf" {
+        let search = search_in(matches).ok_or(WordsError::Refused)?;
+        Ok(Meaning::Edf { search })
+    } else if name == "sp" {
+        let search = search_in(matches).ok_or(WordsError::Refused)?;
+        Ok(Meaning::Sp { search })
+    } else if name == "upgrade" {
+        Ok(Meaning::Upgrade)
+    } else if name == "util" {
+        Ok(Meaning::Util)
+    } else if name == "check" {
+        Ok(Meaning::Check)
+    } else if name == "bench" {
+        bench_in(matches).ok_or(WordsError::Refused)
+    } else if name == "response" {
+        let search = search_in(matches).ok_or(WordsError::Refused)?;
+        Ok(Meaning::Response { search })
+    } else if name == "convert" {
+        Ok(Meaning::Convert)
+    } else if name == "timeline" {
+        timeline_in(alloc, matches)
+    } else {
+        Err(WordsError::Refused)
+    }
+}
+
+/// What the words mean, or that they mean nothing. Names are copied, so this takes memory.
 pub fn words_of<'a, S: AsStr>(alloc: Global, words: &'a [S]) -> Result<Meaning, WordsError>
     ensures meaning { IfOk result (λ m. meaning_of (map S.text words.entry.now) ≡ Some m) }
     ensures refused { result ≡ Err WordsError.Refused → meaning_of (map S.text words.entry.now) ≡ None }
@@ -120,8 +181,5 @@ pub fn words_of<'a, S: AsStr>(alloc: Global, words: &'a [S]) -> Result<Meaning, 
     let Some((name, inner)) = matches.subcommand() else {
         return Err(WordsError::Refused);
     };
-    match meaning_in(name, inner) {
-        Some(meaning) => Ok(meaning),
-        None => Err(WordsError::Refused),
-    }
+    meaning_in(alloc, name, inner)
 }

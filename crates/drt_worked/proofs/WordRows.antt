@@ -1,8 +1,8 @@
 -- What worked lists of words mean.
-use Rattle.std.proofs.Common.{◌≡◌, [], ◌∷◌, Some, None, codes, refl}
+use Rattle.std.proofs.Common.{◌≡◌, [], ◌∷◌, Some, None, true, false, codes, refl}
 use Rattle.clap.proofs.OnLiterals.{clap_on_literals}
 use Rattle.drt_words.specs.Meaning.{meaning_of}
-use Rattle.drt_words.specs.declared.meaning.Meaning.TheVariants.{Edf, Sp, Check}
+use Rattle.drt_words.specs.declared.meaning.Meaning.TheVariants.{Edf, Sp, Check, Convert, Timeline}
 
 -- Four workers and a budget of 100,000 stand by default.
 pub edf_alone : meaning_of (codes "drt" ∷ codes "edf" ∷ []) ≡ Some (Edf (record { workers = 4; budget = 100000 }))
@@ -21,7 +21,21 @@ pub check_alone : meaning_of (codes "drt" ∷ codes "check" ∷ []) ≡ Some Che
 unfolding clap_on_literals
 check_alone = refl
 
--- No command, an unknown one, and numbers out of range have no meaning.
+pub convert_alone : meaning_of (codes "drt" ∷ codes "convert" ∷ []) ≡ Some Convert
+unfolding clap_on_literals
+convert_alone = refl
+
+-- A timeline is a text of a dossier by default.
+pub timeline_alone : meaning_of (codes "drt" ∷ codes "timeline" ∷ []) ≡ Some (Timeline false None)
+unfolding clap_on_literals
+timeline_alone = refl
+
+pub timeline_of_a_vertex : meaning_of (codes "drt" ∷ codes "timeline" ∷ codes "--svg" ∷ codes "--vertex" ∷ codes "T" ∷ codes "a" ∷ [])
+    ≡ Some (Timeline true (Some (record { task = codes "T"; vertex = codes "a" })))
+unfolding clap_on_literals
+timeline_of_a_vertex = refl
+
+-- No command, an unknown one, numbers out of range, and one name in place of two have no meaning.
 pub no_command : meaning_of (codes "drt" ∷ []) ≡ None
 unfolding clap_on_literals
 no_command = refl
@@ -41,3 +55,7 @@ too_many_workers = refl
 pub too_great_a_budget : meaning_of (codes "drt" ∷ codes "edf" ∷ codes "--budget" ∷ codes "1000001" ∷ []) ≡ None
 unfolding clap_on_literals
 too_great_a_budget = refl
+
+pub one_name : meaning_of (codes "drt" ∷ codes "timeline" ∷ codes "--vertex" ∷ codes "T" ∷ []) ≡ None
+unfolding clap_on_literals
+one_name = refl

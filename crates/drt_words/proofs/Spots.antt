@@ -1,0 +1,19 @@
+-- The two names that an option was given.
+use Rattle.std.proofs.Common.{◌≡◌, List, [], ◌∷◌, Some, None, arith, length, map, refl}
+use Rattle.std.specs.Borrow.{Bor}
+use Rattle.std.specs.Prelude.{get_or}
+use Rattle.clap.specs.Walk.{Text}
+use Rattle.drt_words.specs.Meaning.{spot_by}
+
+pub two_names : (names : List (Bor Text)) (none : Bor Text) → length names ≡ 2
+    → spot_by (Some (map (λ name. name.now) names)) ≡ Some (Some (record { task = (get_or names 0 none).now; vertex = (get_or names 1 none).now }))
+two_names [] none e = absurd (omega (arith, e))
+two_names (task ∷ []) none e = absurd (omega (arith, e))
+two_names (task ∷ vertex ∷ []) none e = refl
+two_names (task ∷ vertex ∷ more ∷ names) none e = absurd (omega (arith, e))
+
+pub other_names : (names : List (Bor Text)) → (length names ≡ 2 → ⊥) → spot_by (Some (map (λ name. name.now) names)) ≡ None
+other_names [] other = refl
+other_names (task ∷ []) other = refl
+other_names (task ∷ vertex ∷ []) other = absurd (other refl)
+other_names (task ∷ vertex ∷ more ∷ names) other = refl
