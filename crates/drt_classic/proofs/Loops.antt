@@ -1,0 +1,54 @@
+-- The digraphs of tasks, built one after the other as a loop does.
+use Rattle.std.proofs.Common.{◌≡◌, ℕ, zero, suc, ◌+◌, ◌<◌, ◌≤◌, List, [], ◌∷◌, ◌++◌, length, map, drop, get_or, refl, sym, ap, ◌∙◌, arith, append_assoc}
+use Rattle.std.specs.List.{range_with_len}
+use Rattle.std.proofs.lemmas.List.{at_drop_more, at_drop_all, append-nil}
+use Rattle.drt_model.specs.declared.tasks.Vertex.{Vertex}
+use Rattle.drt_model.specs.declared.tasks.Edge.{Edge}
+use Rattle.drt_model.specs.declared.tasks.Task.{Task}
+use Rattle.drt_classic.specs.declared.classic.Frame.{Frame}
+use Rattle.drt_classic.specs.declared.classic.Classic.{Classic}
+use Rattle.drt_classic.specs.Digraphs.{vertex_name, vertices_from, edges_from, digraph_of, tasks_from}
+
+range_from : (a n j : ℕ) → a + n ≡ j → range_with_len a (suc n) ≡ range_with_len a n ++ j ∷ []
+range_from a zero j e = let z : a ≡ j = omega (arith, e) in ap (λ k. k ∷ []) z
+range_from a (suc n) j e = ap (λ l. a ∷ l) (range_from (a + 1) n j (omega (arith, e)))
+
+-- The numbers below the next one.
+pub range_more : (n : ℕ) → range_with_len 0 (n + 1) ≡ range_with_len 0 n ++ n ∷ []
+range_more n = let z : n + 1 ≡ suc n = omega arith in ap (range_with_len 0) z ∙ range_from 0 n n (omega arith)
+
+-- Some items, then another and the rest.
+behind : {X : Type 0} (done : List X) (x : X) (rest all total : List X) → all ≡ x ∷ rest → done ++ all ≡ total → (done ++ x ∷ []) ++ rest ≡ total
+behind done x rest all total e so_far = append_assoc done (x ∷ []) rest ∙ ap (λ l. done ++ l) (sym e) ∙ so_far
+
+pub vertices_more : (done : List Vertex) (frames : List Frame) (i : ℕ) (f : Frame) (total : List Vertex) → i < length frames → done ++ vertices_from i (drop i frames) ≡ total
+    → (done ++ record { name = vertex_name i; wcet = (get_or frames i f).wcet; deadline = (get_or frames i f).deadline } ∷ []) ++ vertices_from (i + 1) (drop (i + 1) frames) ≡ total
+unfolding vertices_from
+vertices_more done frames i f total lt so_far =
+    behind done _ (vertices_from (i + 1) (drop (i + 1) frames)) (vertices_from i (drop i frames)) total (at_drop_more (vertices_from i) frames i f lt) so_far
+
+pub vertices_all : (done : List Vertex) (frames : List Frame) (i : ℕ) (total : List Vertex) → length frames ≤ i → done ++ vertices_from i (drop i frames) ≡ total → done ≡ total
+unfolding vertices_from
+vertices_all done frames i total le so_far = sym (append-nil done) ∙ ap (λ l. done ++ l) (sym (at_drop_all (vertices_from i) frames i le)) ∙ so_far
+
+pub edges_more : (after : ℕ → List ℕ) (done : List Edge) (frames : List Frame) (i : ℕ) (f : Frame) (total : List Edge) → i < length frames → done ++ edges_from after i (drop i frames) ≡ total
+    → (done ++ map (λ j. record { from = i; to = j; sep = (get_or frames i f).sep }) (after i)) ++ edges_from after (i + 1) (drop (i + 1) frames) ≡ total
+unfolding edges_from
+edges_more after done frames i f total lt so_far =
+    append_assoc done (map (λ j. record { from = i; to = j; sep = (get_or frames i f).sep }) (after i)) (edges_from after (i + 1) (drop (i + 1) frames))
+    ∙ ap (λ l. done ++ l) (sym (at_drop_more (edges_from after i) frames i f lt)) ∙ so_far
+
+pub edges_all : (after : ℕ → List ℕ) (done : List Edge) (frames : List Frame) (i : ℕ) (total : List Edge) → length frames ≤ i → done ++ edges_from after i (drop i frames) ≡ total → done ≡ total
+unfolding edges_from
+edges_all after done frames i total le so_far = sym (append-nil done) ∙ ap (λ l. done ++ l) (sym (at_drop_all (edges_from after i) frames i le)) ∙ so_far
+
+pub tasks_more : (done : List Task) (ts : List Classic) (i : ℕ) (t : Classic) (total : List Task) → i < length ts → t ≡ get_or ts i t → done ++ tasks_from (i + 1) (drop i ts) ≡ total
+    → (done ++ digraph_of (i + 1) t ∷ []) ++ tasks_from (i + 1 + 1) (drop (i + 1) ts) ≡ total
+unfolding tasks_from
+tasks_more done ts i t total lt is so_far =
+    behind done (digraph_of (i + 1) t) (tasks_from (i + 1 + 1) (drop (i + 1) ts)) (tasks_from (i + 1) (drop i ts)) total
+    (at_drop_more (tasks_from (i + 1)) ts i t lt ∙ ap (λ u. tasks_from (i + 1) (u ∷ drop (i + 1) ts)) (sym is)) so_far
+
+pub tasks_all : (done : List Task) (ts : List Classic) (i : ℕ) (total : List Task) → length ts ≤ i → done ++ tasks_from (i + 1) (drop i ts) ≡ total → done ≡ total
+unfolding tasks_from
+tasks_all done ts i total le so_far = sym (append-nil done) ∙ ap (λ l. done ++ l) (sym (at_drop_all (tasks_from (i + 1)) ts i le)) ∙ so_far

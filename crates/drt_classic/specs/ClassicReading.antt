@@ -1,0 +1,83 @@
+-- Which texts read as which classic sets, and the fault of every other.
+use Rattle.std.specs.Prelude.{◌≡◌, ℕ, List, [], ◌∷◌, ◌++◌, map, Some}
+use Rattle.std.specs.List.{AllZip, flat_map}
+use Rattle.drt_file.specs.trusted.Line.{said}
+use Rattle.drt_file.specs.trusted.Reading.{Means}
+use Rattle.drt_classic.specs.declared.classic.Frame.{Frame}
+use Rattle.drt_classic.specs.declared.classic.Classic.{Classic}
+use Rattle.drt_classic.specs.declared.classic.Classic.TheVariants.{Sporadic, Multiframe, Cyclic, Free}
+use Rattle.drt_classic.specs.declared.state.Line.{Line}
+use Rattle.drt_classic.specs.declared.state.Line.TheVariants as saying
+use Rattle.drt_classic.specs.declared.fault.ClassicError.{ClassicError}
+use Rattle.drt_classic.specs.declared.fault.ClassicError.TheVariants as errors
+use Rattle.drt_classic.specs.ClassicLimits.{IsClassicSet}
+use Rattle.drt_classic.specs.ClassicWords.{head_line, sporadic_word, multiframe_word, gmf_word, noncyclic_word, frame_word, end_word}
+use Rattle.drt_classic.specs.ClassicFaults.{fault_of}
+
+-- The lines of a task: its own line, and for a `gmf` or `noncyclic`, whose own line says no frame, a line for each frame.
+abbrev pub lines_of_task : Classic → List Line
+lines_of_task (Sporadic name frame) = saying.Task (Sporadic name frame) ∷ []
+lines_of_task (Multiframe name deadline period wcets) = saying.Task (Multiframe name deadline period wcets) ∷ []
+lines_of_task (Cyclic name frames) = saying.Task (Cyclic name []) ∷ map saying.Frame frames
+lines_of_task (Free name frames) = saying.Task (Free name []) ∷ map saying.Frame frames
+
+-- The lines of tasks, in order, and `end`.
+abbrev pub lines_of : List Classic → List Line
+lines_of tasks = flat_map lines_of_task tasks ++ saying.End ∷ []
+
+-- Three fields mean the times of a frame.
+abbrev pub MeanFrame : List ℕ → List ℕ → List ℕ → Frame → Type 0
+MeanFrame wcet deadline sep f = Means wcet f.wcet × Means deadline f.deadline × Means sep f.sep
+
+-- A line is `sporadic NAME WCET DEADLINE PERIOD`.
+pub record SaysSporadic (words : List (List ℕ)) (name : List ℕ) (f : Frame) : Type 0 where
+  pub wcet : List ℕ
+  pub deadline : List ℕ
+  pub period : List ℕ
+  pub spelled : words ≡ sporadic_word ∷ name ∷ wcet ∷ deadline ∷ period ∷ []
+  pub times : MeanFrame wcet deadline period f
+
+-- A line is `multiframe NAME DEADLINE PERIOD WCET1 .. WCETK`.
+pub record SaysMultiframe (words : List (List ℕ)) (name : List ℕ) (deadline period : ℕ) (wcets : List ℕ) : Type 0 where
+  pub first : List ℕ
+  pub second : List ℕ
+  pub others : List (List ℕ)
+  pub spelled : words ≡ multiframe_word ∷ name ∷ first ∷ second ∷ others
+  pub deadline_is : Means first deadline
+  pub period_is : Means second period
+  pub wcets_are : AllZip Means others wcets
+
+-- A line is `frame WCET DEADLINE SEPARATION`.
+pub record SaysFrame (words : List (List ℕ)) (f : Frame) : Type 0 where
+  pub wcet : List ℕ
+  pub deadline : List ℕ
+  pub sep : List ℕ
+  pub spelled : words ≡ frame_word ∷ wcet ∷ deadline ∷ sep ∷ []
+  pub times : MeanFrame wcet deadline sep f
+
+-- The fields of a line are this line: a task of each kind, a frame, or `end`.
+abbrev pub Says : List (List ℕ) → Line → Type 0
+Says words (saying.Task (Sporadic name frame)) = SaysSporadic words name frame
+Says words (saying.Task (Multiframe name deadline period wcets)) = SaysMultiframe words name deadline period wcets
+Says words (saying.Task (Cyclic name frames)) = (words ≡ gmf_word ∷ name ∷ []) × (frames ≡ [])
+Says words (saying.Task (Free name frames)) = (words ≡ noncyclic_word ∷ name ∷ []) × (frames ≡ [])
+Says words (saying.Frame f) = SaysFrame words f
+Says words saying.End = words ≡ end_word ∷ []
+
+-- A text reads as a set that keeps the limits where the fields of its lines that aren't skipped are `drt-classic 1` and, line by line,
+-- the lines of the set's tasks and `end`.
+pub record Reads (bytes : List ℕ) (tasks : List Classic) : Type 0 where
+  pub limits : IsClassicSet tasks
+  pub below : List (List (List ℕ))
+  pub spelled : said bytes ≡ head_line ∷ below
+  pub lines : AllZip Says below (lines_of tasks)
+
+-- A text has this fault: it is the one that the tables of codes give (ClassicFaults.antt), and the text reads as no set.
+pub record HasFault (bytes : List ℕ) (line code : ℕ) : Type 0 where
+  pub first : fault_of bytes ≡ Some (line, code)
+  pub reads_as_none : (tasks : List Classic) → ¬ Reads bytes tasks
+
+-- Why a text isn't read: it has that fault, or memory ran out.
+abbrev pub IsCauseOf : List ℕ → ClassicError → Type 0
+IsCauseOf bytes (errors.Fault f) = HasFault bytes f.line f.code
+IsCauseOf bytes errors.Memory = Unit {0}

@@ -1,0 +1,9 @@
+pub mod Classics
+pub mod ClassicLimits
+pub mod ClassicLegal
+pub mod Digraphs
+pub mod ClassicWords
+pub mod ClassicReading
+pub mod ClassicFaults
+pub mod ClassicLaws
+pub mod Gives

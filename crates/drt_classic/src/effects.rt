@@ -1,0 +1,90 @@
+//! What a line without a fault adds to what the lines above leave.
+ghost use Rattle.std.specs.Prelude.{◌≡◌, IfOk, option_map};
+ghost use Rattle.drt_classic.specs.ClassicFaults.{add_frame, after_line, opening, with_frame, with_last};
+
+use crate::classic::{Classic, Frame};
+use crate::state::{Draft, Line, State, pushed};
+use drt_model::{Memory, Row};
+use std::alloc::Global;
+
+/// The state below the first line.
+pub fn open(alloc: Global) -> State
+    ensures { result ≡ opening }
+{
+    State {
+        closed: Row::from_vec(Vec::new(alloc)),
+        last: None,
+        ended: false,
+    }
+}
+
+/// The tasks that are done, with the last one behind them.
+#[tactic(auto, unfolding(crate::specs::ClassicFaults::with_last))]
+pub fn close(closed: Row<Draft>, last: Option<Draft>) -> Result<Row<Draft>, Memory>
+    ensures { IfOk result (λ ds. ds ≡ with_last closed last) }
+{
+    match last {
+        Some(draft) => pushed(closed, draft),
+        None => Ok(closed),
+    }
+}
+
+// The task with one frame more.
+#[tactic(auto, unfolding(crate::specs::ClassicFaults::with_frame))]
+fn with_frame(frame: Frame, task: Classic) -> Result<Classic, Memory>
+    ensures { IfOk result (λ t. t ≡ with_frame frame task) }
+{
+    match task {
+        Classic::Cyclic { name, frames } => Ok(Classic::Cyclic {
+            name,
+            frames: pushed(frames, frame)?,
+        }),
+        Classic::Free { name, frames } => Ok(Classic::Free {
+            name,
+            frames: pushed(frames, frame)?,
+        }),
+        other => Ok(other),
+    }
+}
+
+#[tactic(auto, unfolding(crate::specs::ClassicFaults::add_frame))]
+fn frame_added(frame: Frame, last: Option<Draft>) -> Result<Option<Draft>, Memory>
+    ensures { IfOk result (λ d. d ≡ option_map (add_frame frame) last) }
+{
+    match last {
+        Some(Draft { line, task }) => Ok(Some(Draft {
+            line,
+            task: with_frame(frame, task)?,
+        })),
+        None => Ok(None),
+    }
+}
+
+/// The state below a line that says this.
+#[tactic(auto, unfolding(crate::specs::ClassicFaults::after_line))]
+pub fn after(n: u32, s: State, line: Line) -> Result<State, Memory>
+    ensures { IfOk result (λ t. t ≡ after_line n s line) }
+{
+    let State {
+        closed,
+        last,
+        ended,
+    } = s;
+    match line {
+        Line::Task(task) => Ok(State {
+            closed: close(closed, last)?,
+            last: Some(Draft { line: n, task }),
+            ended,
+        }),
+        Line::Frame(frame) => Ok(State {
+            closed,
+            last: frame_added(frame, last)?,
+            ended,
+        }),
+        Line::End => Ok(State {
+            closed,
+            last,
+            ended: true,
+        }),
+    }
+}

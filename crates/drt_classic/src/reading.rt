@@ -1,0 +1,102 @@
+//! Reading a classic file: once over its bytes, line by line, down to the first fault.
+ghost use Rattle.std.specs.Prelude.{◌≡◌, ◌≤◌, None, Some, length, map, IfOk, IfErr};
+ghost use Rattle.drt_file.specs.trusted.Cutting.{lines};
+ghost use Rattle.drt_classic.specs.ClassicFaults.{line_step, read_text, step, steps};
+ghost use Rattle.drt_classic.specs.ClassicReading.{Reads, IsCauseOf};
+ghost use Rattle.drt_classic.specs.Gives.{Gives};
+
+use crate::classic::{Classic, ClassicSet};
+use crate::codes::NO_HEAD;
+use crate::effects::{after, open};
+use crate::fault::{ClassicError, ClassicFault};
+use crate::finishing::finish;
+use crate::line::{head, skipped};
+use crate::parsing::parse_line;
+use crate::state::State;
+use drt_file::cutting::{cut_line, fields_of};
+use drt_model::Row;
+use std::alloc::Global;
+
+// What a line that isn't skipped leaves, or its fault.
+#[tactic(auto, unfolding(crate::specs::ClassicFaults::line_step, crate::specs::ClassicFaults::unless))]
+fn line_step(
+    alloc: Global,
+    n: u32,
+    above: Option<State>,
+    line: &[u8],
+    words: &[&[u8]],
+) -> Result<Option<State>, ClassicError>
+    ensures { Gives result (line_step n above line.now (map (λ w. w.now) words.now)) }
+{
+    match above {
+        None => {
+            if head(words) {
+                Ok(Some(open(alloc)))
+            } else {
+                Err(ClassicError::Fault(ClassicFault {
+                    line: n,
+                    code: NO_HEAD,
+                }))
+            }
+        }
+        Some(s) => {
+            let said = parse_line(alloc, n, &s, line, words)?;
+            Ok(Some(after(n, s, said)?))
+        }
+    }
+}
+
+#[tactic(auto, unfolding(crate::specs::ClassicFaults::step))]
+fn step(
+    alloc: Global,
+    n: u32,
+    above: Option<State>,
+    line: &[u8],
+) -> Result<Option<State>, ClassicError>
+    ensures { Gives result (step n above line.now) }
+{
+    let words = fields_of(alloc, line)?;
+    if skipped(words.as_slice()) {
+        return Ok(above);
+    }
+    line_step(alloc, n, above, line, words.as_slice())
+}
+
+fn all_lines(alloc: Global, text: &[u8]) -> Result<(u32, Option<State>), ClassicError>
+    requires { length text.now ≤ 1073741824 }
+    ensures { Gives result (steps 1 None (lines text.now)) }
+{
+    let mut n: u32 = 1;
+    let mut above = None;
+    let mut rest = text;
+    'lines: while !rest.is_empty() {
+        let (line, others) = cut_line(rest);
+        above = step(alloc, n, above, line)?;
+        n += 1;
+        rest = others;
+    }
+    Ok((n, above))
+}
+
+// The tasks that a text says, or its fault.
+#[tactic(auto, unfolding(crate::specs::ClassicFaults::read_text))]
+fn tasks_of(alloc: Global, bytes: &[u8]) -> Result<Row<Classic>, ClassicError>
+    requires { length bytes.now ≤ 1073741824 }
+    ensures { Gives result (read_text bytes.now) }
+{
+    let (n, above) = all_lines(alloc, bytes)?;
+    finish(alloc, n, above)
+}
+
+/// The classic set that a file says, or the line and the code of its first fault.
+///
+/// It goes once over the bytes. A name is compared with those of the tasks above, of which there are at
+/// most 16.
+pub fn read(alloc: Global, bytes: &[u8]) -> Result<ClassicSet, ClassicError>
+    requires { length bytes.now ≤ 1073741824 }
+    ensures read { IfOk result (λ set. Reads bytes.now set) }
+    ensures fault { IfErr result (IsCauseOf bytes.now) }
+{
+    let tasks = tasks_of(alloc, bytes)?;
+    Ok(ClassicSet { tasks })
+}

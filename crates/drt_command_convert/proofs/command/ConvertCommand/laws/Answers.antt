@@ -1,0 +1,6 @@
+-- What is promised of `convert` agrees.
+use Rattle.drt_command_convert.proofs.ConvertPromises.{convert_lawful}
+use Rattle.drt_command_convert.proofs.command.ConvertCommand.laws.Goals as goal
+
+pub returns : goal.returns
+returns c = convert_lawful
