@@ -13,8 +13,8 @@ use Rattle.drt_outcome.specs.declared.outcome.Trail.{Trail}
 use Rattle.drt_outcome.specs.declared.outcome.Trail.TheVariants as trails
 use Rattle.drt_response.specs.Answers.{AreResponses, IsRefused}
 use Rattle.drt_response.specs.Laws.{ResponseBudgetsSuffice}
-use Rattle.drt_response.specs.Text.{response_text}
-use Rattle.drt_response.specs.declared.answer.Response.{Response}
+use Rattle.drt_responses.specs.Text.{response_text}
+use Rattle.drt_responses.specs.declared.response.Response.{Response}
 use Rattle.drt_sp.specs.Evidence.{under_fixed}
 use Rattle.drt_command_files.specs.Dossiers.{evidence_status}
 use Rattle.drt_command_files.specs.TaskFiles.{IsAccepted}

@@ -8,8 +8,8 @@ use Rattle.drt_outcome.specs.declared.outcome.Trail.TheVariants as trails
 use Rattle.drt_command.specs.declared.report.Report.{Report}
 use Rattle.drt_command.specs.Rules.{Rules}
 use Rattle.drt_response.specs.Answers.{AreResponses, IsUndecidedResponse}
-use Rattle.drt_response.specs.Text.{response_text}
-use Rattle.drt_response.specs.declared.answer.Response.{Response}
+use Rattle.drt_responses.specs.Text.{response_text}
+use Rattle.drt_responses.specs.declared.response.Response.{Response}
 use Rattle.drt_response.specs.declared.answer.ResponseTrail.{ResponseTrail}
 use Rattle.drt_response.specs.declared.answer.ResponseTrail.TheVariants.{Fixed, Search}
 use Rattle.drt_sp.specs.Evidence.{under_fixed}

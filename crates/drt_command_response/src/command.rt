@@ -9,7 +9,7 @@ ghost use Rattle.drt_command.specs.Runs.{IsRun};
 ghost use Rattle.drt_model.specs.declared.jobs.Policy.TheVariants.{Fixed};
 ghost use Rattle.drt_evidence.specs.Text.{text};
 ghost use Rattle.drt_command_files.specs.Dossiers.{evidence_status};
-ghost use Rattle.drt_response.specs.Text.{response_text};
+ghost use Rattle.drt_responses.specs.Text.{response_text};
 ghost use Rattle.drt_command_response.specs.Response.{Responds, response_rules, response_trail};
 ghost use Rattle.drt_command_files.specs.TaskFiles.{IsAccepted};
 

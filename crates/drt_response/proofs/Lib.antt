@@ -10,6 +10,5 @@ mod Places
 mod Posed
 mod Refusals
 mod Rises
-mod Texts
 mod Vertices
 mod Worst

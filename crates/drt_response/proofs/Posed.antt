@@ -23,7 +23,7 @@ use Rattle.drt_sp.proofs.Passing.{higher_meet, nodes_chosen, task_below}
 use Rattle.drt_sp.proofs.Yes.{few_tasks}
 use Rattle.drt_worst.specs.Splitting.{IsGreatest, search_for}
 use Rattle.drt_response.specs.Answers.{IsResponseOf}
-use Rattle.drt_response.specs.declared.answer.Response.{Response}
+use Rattle.drt_responses.specs.declared.response.Response.{Response}
 use Rattle.drt_response.proofs.Cuts.{reaching_leaves}
 use Rattle.drt_response.proofs.Firsts.{get_first, length_first, nodes_first, trees_first}
 

@@ -10,7 +10,7 @@ use Rattle.drt_model.specs.Schedulable.{Schedulable}
 use Rattle.drt_busy.specs.Choice.{graph_at}
 use Rattle.drt_sp.specs.Vertices.{subjects}
 use Rattle.drt_response.specs.Answers.{AreResponses, AreResponsesTo, IsResponseOf, respondent, vertices_of}
-use Rattle.drt_response.specs.declared.answer.Response.{Response}
+use Rattle.drt_responses.specs.declared.response.Response.{Response}
 
 module _ (set : Contents) where
   pub no_responses : AreResponsesTo set 0 0 []

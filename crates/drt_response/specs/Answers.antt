@@ -21,7 +21,7 @@ use Rattle.drt_sp.specs.Evidence.{under_fixed}
 use Rattle.drt_sp.specs.Vertices.{subjects}
 use Rattle.drt_worst.specs.Splitting.{search_for}
 use Rattle.drt_worst.specs.Spent.{IsSpent}
-use Rattle.drt_response.specs.declared.answer.Response.{Response}
+use Rattle.drt_responses.specs.declared.response.Response.{Response}
 use Rattle.drt_response.specs.declared.answer.ResponseAnswer.{ResponseAnswer}
 use Rattle.drt_response.specs.declared.answer.ResponseAnswer.TheVariants.{Done, Missed, Undecided}
 use Rattle.drt_response.specs.declared.answer.ResponseTrail.{ResponseTrail}

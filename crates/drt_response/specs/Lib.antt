@@ -3,4 +3,3 @@ pub mod Laws
 pub mod Placed
 pub mod Subjects
 pub mod Tails
-pub mod Text

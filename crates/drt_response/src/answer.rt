@@ -1,18 +1,9 @@
 //! The answers.
 
 use drt_evidence::Dossier;
-use drt_model::{Release, Row, TaskSet};
+use drt_model::{Row, TaskSet};
+use drt_responses::Response;
 use drt_trails::FixedTrail;
-
-/// The greatest response time of a vertex, in ticks, and releases that reach it: the job of the vertex at time 0, and those of a walk of
-/// each task of higher priority from time 0, as far as they come before that job finishes. They stand in order of tasks.
-#[derive(Drop)]
-pub struct Response {
-    pub task: u32,
-    pub vertex: u32,
-    pub ticks: u64,
-    pub releases: Row<Release>,
-}
 
 /// Where a budget was spent: in the analysis, or in the search at this vertex of this task, with the combinations that one worker took,
 /// in their order.

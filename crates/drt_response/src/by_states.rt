@@ -11,7 +11,6 @@ ghost use Rattle.drt_response.specs.Answers.{AreResponses, AreResponsesTo, IsRes
 ghost use Rattle.drt_response.specs.Subjects.{AreWorstAt, IsGiven};
 ghost use Rattle.drt_response.specs.Tails.{HaveTails};
 
-use crate::answer::Response;
 use crate::reaching::{FirstJob, reaching_releases};
 use crate::subjects::{Given, VertexAt, subject_of};
 use drt_busy::{releases_reach, response_decides};
@@ -22,6 +21,7 @@ use drt_fixed::{ByStates, decide_by_states};
 use drt_graph::Graphs;
 use drt_model::{Memory, Row, TaskSet};
 use drt_pool::Gate;
+use drt_responses::Response;
 use drt_sp_states::{Responded, search_response};
 use drt_states::TailClaim;
 use drt_states_laws::states_pass;

@@ -5,12 +5,13 @@ ghost use Rattle.drt_evidence.specs.Claims.{graphs_of};
 ghost use Rattle.drt_sp.specs.Grown.{AreProvedTrees};
 ghost use Rattle.drt_response.specs.Answers.{AreResponsesTo, IsTreesResponse, IsUndecidedResponse};
 
-use crate::answer::{Response, ResponseTrail};
+use crate::answer::ResponseTrail;
 use crate::vertex::{VertexResponse, respond_vertex};
 use drt_evidence::Evidence;
 use drt_graph::Graphs;
 use drt_model::{Memory, Row, TaskSet};
 use drt_pool::Gate;
+use drt_responses::Response;
 use drt_sp::{ProvedTrees, TreesAnswer, analyse_trees};
 use std::alloc::Global;
 use std::sync::Wait;

@@ -7,12 +7,12 @@ ghost use Rattle.drt_evidence.specs.Claims.{graphs_of};
 ghost use Rattle.drt_sp.specs.Grown.{AreProvedTrees};
 ghost use Rattle.drt_response.specs.Answers.{IsVertexResponse};
 
-use crate::answer::Response;
 use drt_busy::times_suffice_for_task;
 use drt_choices::{leaves_respond, walks_pass};
 use drt_graph::Graphs;
 use drt_model::{Memory, Row, TaskSet};
 use drt_pool::Gate;
+use drt_responses::Response;
 use drt_sp::{ProvedTrees, VertexTuple, leaf_releases};
 use drt_worst::{Worst, worst};
 use std::alloc::Global;

@@ -2,7 +2,7 @@ use Rattle.std.proofs.Common.{◌≡◌, List, length, ap, arith, sym, subst}
 use Rattle.std.proofs.lemmas.List.{length-map}
 use Rattle.drt_model.specs.Digraph.{digraph_of}
 use Rattle.drt_response.specs.Answers.{AreResponses, AreResponsesTo}
-use Rattle.drt_response.specs.declared.answer.Response.{Response}
+use Rattle.drt_responses.specs.declared.response.Response.{Response}
 use Rattle.drt_response.proofs.Vertices.{all_responses, no_responses}
 use Rattle.drt_response.proofs.by_trees.respond_all.Goals as goal
 

@@ -11,7 +11,7 @@ use Rattle.drt_sp.specs.declared.grown.ProvedTrees.{ProvedTrees}
 use Rattle.drt_sp.proofs.Orders.{order_place}
 use Rattle.drt_sp.proofs.Passing.{at_place}
 use Rattle.drt_worst.specs.Splitting.{IsGreatest, Search, search_for}
-use Rattle.drt_response.specs.declared.answer.Response.{Response}
+use Rattle.drt_responses.specs.declared.response.Response.{Response}
 use Rattle.drt_response.proofs.Posed.{at_most_31, chosen, few_first, reached, response, tuple_for, tuples_pass}
 use Rattle.drt_response.proofs.vertex.respond_vertex.Goals as goal
 

@@ -3,7 +3,7 @@ use Rattle.std.specs.Prelude.{ℕ, List, [], ◌∷◌, ◌++◌, codes, decimal
 use Rattle.std.specs.List.{flat_map}
 use Rattle.drt_file.specs.trusted.Canonical.{written}
 use Rattle.drt_evidence.specs.Text.{release_lines}
-use Rattle.drt_response.specs.declared.answer.Response.{Response}
+use Rattle.drt_responses.specs.declared.response.Response.{Response}
 
 -- The line of a response: its task, its vertex and its ticks.
 abbrev pub response_line : Response → List (List ℕ)

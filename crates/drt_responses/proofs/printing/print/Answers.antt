@@ -2,9 +2,9 @@
 use Rattle.std.proofs.Common.{[], ◌∷◌, ◌∙◌}
 use Rattle.std.specs.Prelude.{codes}
 use Rattle.std.specs.List.{flat_map}
-use Rattle.drt_response.specs.Text.{response_lines}
-use Rattle.drt_response.proofs.Texts.{framed}
-use Rattle.drt_response.proofs.text.print.Goals as goal
+use Rattle.drt_responses.specs.Text.{response_lines}
+use Rattle.drt_responses.proofs.Texts.{framed}
+use Rattle.drt_responses.proofs.printing.print.Goals as goal
 
 pub returns : goal.returns
 returns c =

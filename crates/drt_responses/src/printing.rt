@@ -1,10 +1,10 @@
-//! The text of the responses of a set.
+//! The text of responses, printed.
 ghost use Rattle.std.specs.Prelude.{◌≡◌, ◌++◌, IfOk, OnOk};
 ghost use Rattle.std.specs.List.{flat_map};
 ghost use Rattle.drt_file.specs.trusted.Canonical.{written, written_line};
-ghost use Rattle.drt_response.specs.Text.{response_line, response_lines, response_text};
+ghost use Rattle.drt_responses.specs.Text.{response_line, response_lines, response_text};
 
-use crate::answer::Response;
+use crate::response::Response;
 use drt_evidence::push_release_lines;
 use drt_file::push_line;
 use drt_model::{Memory, Row};

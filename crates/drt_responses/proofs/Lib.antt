@@ -1,0 +1,6 @@
+mod Texts
+mod Numbers
+mod Stopping
+mod Headings
+mod Rows
+mod Whole

@@ -1,0 +1,16 @@
+-- The ranges of the numbers in responses.
+use Rattle.std.specs.Prelude.{◌≤◌, List, All}
+use Rattle.drt_evidence.specs.Ranges.{IsCounted, IsInRangeRelease, IsNumber}
+use Rattle.drt_responses.specs.declared.response.Response.{Response}
+
+-- A response has numbers of a task and a vertex, ticks of 64 bits, and releases, which are counted and in range.
+pub record IsInRangeResponse (r : Response) : Type 0 where
+  pub task : IsNumber r.task
+  pub vertex : IsNumber r.vertex
+  pub ticks : r.ticks ≤ 18446744073709551615
+  pub releases : All IsInRangeRelease r.releases
+  pub counted : IsCounted r.releases
+
+-- Each of the responses is in range.
+abbrev pub AreInRange : List Response → Type 0
+AreInRange responses = All IsInRangeResponse responses
