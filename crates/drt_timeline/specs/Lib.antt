@@ -1,0 +1,11 @@
+pub mod Spans
+pub mod Events
+pub mod Queue
+pub mod Arrivals
+pub mod Sweep
+pub mod Joining
+pub mod Gathering
+pub mod Timeline
+pub mod Text
+pub mod Names
+pub mod Printing
