@@ -1,0 +1,6 @@
+pub mod ScaleLemmas
+pub mod Orders
+pub mod PartLemmas
+pub mod EventLemmas
+pub mod LayoutLemmas
+pub mod PageLemmas
