@@ -1,0 +1,7 @@
+mod DrawingLemmas
+mod NoLemmas
+mod ReachedLemmas
+mod ResponseLemmas
+mod ResponsePromises
+mod SpotLemmas
+mod TimelinePromises
