@@ -1,12 +1,14 @@
 //! The front of one task's walks, and the walk of a label.
 //!
 //! Where the budget is enough for any search of the walks, and there are at most 2^22 cells, `search_task` works them in a wave table of
-//! `drt_wave`, and else in a table of `drt_table` whose steps the budget counts (`has_wave_table` tells which): the front is the same.
+//! `drt_wave` (`has_wave_table` tells). Else it merges the lists of the vertices by `drt_merge`, and where their labels count more steps
+//! than the budget has, it drives a table of `drt_table`, whose log shows the spent budget. The front is the same.
 //! `demand_walk` finds backwards over a front a walk that has all the demand of a time. The layer above has a front for each task.
 #![tactic(auto)]
 
 mod fronts;
 mod laws;
+mod merged;
 mod search;
 mod walks;
 mod waves;

@@ -8,6 +8,7 @@ ghost use Rattle.drt_table.specs.View.{setting_of};
 ghost use Rattle.drt_demand.specs.Demand.{demand_algebra};
 
 use crate::fronts::front_of;
+use crate::merged::merged_front;
 use crate::waves::{has_wave_table, wave_front};
 use drt_demand::DemandLabel;
 use drt_graph::Graph;
@@ -48,8 +49,8 @@ pub enum Ended {
     Full(Row<Entry>),
 }
 
-/// The search of one task's walks up to the bound, in ticks, by several workers: in a wave table where it has one, and else in a table
-/// whose steps the budget counts.
+/// The search of one task's walks up to the bound, in ticks, by several workers: in a wave table where it has one; else by
+/// merging, and where the budget is too little for that, in a table whose steps the budget counts.
 pub fn search_task<G: Gate, R: Threads + Wait + Sync>(
     rt: &R,
     alloc: Global,
@@ -69,6 +70,10 @@ pub fn search_task<G: Gate, R: Threads + Wait + Sync>(
     if has_wave_table(graph, bound, budget) {
         let front = wave_front(rt, alloc, graph, bound, workers, gate)?;
         return Ok(Ended::Front(front));
+    }
+    match merged_front(alloc, graph, bound, budget)? {
+        Some(front) => return Ok(Ended::Front(front)),
+        None => (),
     }
     over_every_interleaving::<DemandLabel>();
     let (table, _reply) = search(rt, alloc, graph, bound, workers, budget, gate)?;

@@ -1,0 +1,28 @@
+//! Tasks whose walks are merged.
+ghost use Rattle.std.specs.Prelude.{◌≤◌, IfOk, IfSome};
+ghost use Rattle.drt_model.specs.Digraph.{IsConstrainedGraph};
+ghost use Rattle.drt_evidence.specs.Ranges.{IsCounted};
+ghost use Rattle.drt_fronts.specs.LabelFronts.{IsLabelFront};
+
+use drt_graph::Graph;
+use drt_model::{FrontEntry, Memory, Row};
+use std::alloc::Global;
+
+/// The front of a task's walks up to the bound, in ticks, merged from the lists of its vertices. None where its labels count more steps
+/// than the budget has, as the steps of a table that finds them would.
+pub fn merged_front(
+    alloc: Global,
+    graph: &Graph,
+    bound: u64,
+    budget: u64,
+) -> Result<Option<Row<FrontEntry>>, Memory>
+    requires constrained { IsConstrainedGraph graph.now }
+    requires bound { bound ≤ 1099511627776 }
+    requires few { budget ≤ 1000000 }
+    ensures front { IfOk result (λ r. IfSome r (IsLabelFront graph.now bound)) }
+    ensures counted { IfOk result (λ r. IfSome r IsCounted) }
+{
+    let _count = graph.vertex_count();
+    let merged = drt_merge::merged_front(alloc, graph, bound, budget)?;
+    Ok(merged)
+}
