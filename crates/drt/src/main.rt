@@ -1,6 +1,7 @@
 //! The program `drt`: the adapters over standard input and output, and one run.
 #![tactic(auto)]
 
+use drt_advice::advise;
 use drt_io::{FromRead, FromWrite, write_all};
 use drt_pool::OpenGate;
 use drt_top::{notice, run};
@@ -26,9 +27,13 @@ fn main(rt: HostRuntime) -> ExitCode {
         &mut sink,
         &OpenGate,
     );
+    // There is nowhere else to say that standard error takes no more.
+    let mut said = FromWrite::new(rt.stderr());
     if let Ok(line) = notice(rt.alloc(), &outcome) {
-        // There is nowhere else to say that standard error takes no more.
-        let _ = write_all(&mut FromWrite::new(rt.stderr()), line.as_slice());
+        let _ = write_all(&mut said, line.as_slice());
+    }
+    if let Ok(line) = advise(rt.alloc(), &outcome) {
+        let _ = write_all(&mut said, line.as_slice());
     }
     ExitCode::from(outcome.status)
 }
