@@ -12,21 +12,25 @@ ghost use Rattle.drt_top.specs.commands.{rules_of};
 use drt_command::conduct;
 use drt_command_bench::{self as bench, Bench};
 use drt_command_check::Check;
+use drt_command_convert::Convert;
 use drt_command_edf::{self as edf, Edf};
 use drt_command_response::{self as response, Responses};
 use drt_command_sp::{self as sp, Sp};
+use drt_command_timeline::{ResponseTimeline, Timeline};
 use drt_command_upgrade::Upgrade;
 use drt_command_util::Util;
 use drt_io::{Sink, Source};
+use drt_model::Row;
 use drt_outcome::{Fault, Outcome, Stop, Trail, outcome_of};
 use drt_pool::Gate;
-use drt_words::{Meaning, WordsError, words_of};
+use drt_words::{Meaning, Spot, WordsError, words_of};
 use std::alloc::Global;
 use std::sync::Wait;
 use std::thread::Threads;
 
-/// Runs the command that the words name: it reads a task file from the source, for `check` a dossier and for `bench` nothing, and
-/// writes what the command makes of it to the sink. Statuses: 0 done, and for `edf`, `sp`, `response` and `check` the
+/// Runs the command that the words name: it reads a task file from the source, for `convert` a classic file, for `check` and `timeline` a
+/// dossier (`timeline` of a vertex: a task file with its responses behind it) and for `bench` nothing, and writes what the command makes
+/// of it to the sink. Statuses: 0 done, and for `edf`, `sp`, `response` and `check` the
 /// set is schedulable; 1 for these it isn't; 2 for `edf` and `check` the utilisation is one; 3 for `edf`, `sp` and `response`
 /// a budget was spent, with the trail, and for `check` there is nothing to check; 4 the file is refused with a
 /// fault; 5 the words are refused; 6 a read failed; 7 a write failed; 8 no memory was to be had; 9 the
@@ -106,5 +110,18 @@ fn dispatch<S: Source, K: Sink, G: Gate, R: Threads + Wait + Sync>(
         Meaning::Response { search } => {
             response::conduct(rt, alloc, &Responses { search }, source, sink, gate)
         }
+        Meaning::Convert => conduct(alloc, &Convert, source, sink),
+        Meaning::Timeline { svg, vertex } => match vertex {
+            None => conduct(alloc, &Timeline { svg }, source, sink),
+            Some(spot) => {
+                let Spot { task, vertex } = spot;
+                let command = ResponseTimeline {
+                    svg,
+                    task: Row::from_vec(task.into_vec()),
+                    vertex: Row::from_vec(vertex.into_vec()),
+                };
+                conduct(alloc, &command, source, sink)
+            }
+        },
     }
 }
