@@ -1,5 +1,2 @@
-mod PlainWorks
-mod EndingWorks
-mod Lists
 mod Small
 mod Fronts

@@ -1,9 +1,7 @@
 //! The ratios of small graphs.
 ghost use Rattle.std.specs.Prelude.{◌≤◌};
 
-use crate::enumeration::greatest_of_simple;
 use crate::horizon_tests::graphs;
-use drt_drawn::Draws;
 use drt_fixtures::Shape;
 use drt_graph::Graph;
 use drt_model::{Memory, Row};
@@ -174,73 +172,5 @@ fn utilisations_by_hand(rt: HostRuntime) -> Result<(), Fail> {
     for (ratios, sum) in cases {
         assert_eq!(rt; sum_of(rt.alloc(), ratios)?, sum);
     }
-    Ok(())
-}
-
-// Vertices of 1 to 9 ticks.
-fn drawn_vertices(alloc: Global, draws: &mut Draws, count: u32) -> Result<Vec<(u32, u32)>, Memory> {
-    let mut vertices = Vec::new(alloc);
-    for _vertex in 0..count {
-        vertices.push((draws.below(9) + 1, 1))?;
-    }
-    Ok(vertices)
-}
-
-// About one in three of the possible edges, with separations of 1 to 9 ticks.
-fn drawn_edges(alloc: Global, draws: &mut Draws, count: u32) -> Result<Vec<(u32, u32, u32)>, Memory>
-    requires { count ≤ 5 }
-{
-    let mut edges = Vec::new(alloc);
-    for pair in 0..count * count {
-        if draws.below(3) == 0 {
-            edges.push((pair / count, pair % count, draws.below(9) + 1))?;
-        }
-    }
-    Ok(edges)
-}
-
-// A ratio as its numerator and its denominator.
-type Pair = (u128, u128);
-
-// The ratio of a task as the search finds it, and as that of its simple cycles.
-fn ratios_of(alloc: Global, shape: Shape<'_>) -> Result<(Pair, Pair), Fail> {
-    let graphs = graphs(alloc, &[shape])?;
-    if graphs.count() != 1 {
-        return Err("one task".into());
-    }
-    let graph = graphs.graph(0);
-    if graph.vertex_count() > 5 {
-        return Err("few vertices".into());
-    }
-    let simple = greatest_of_simple(alloc, graph)?;
-    let proof = greatest(alloc, graph)?;
-    Ok((
-        (proof.ratio.num(), proof.ratio.den()),
-        (simple.num(), simple.den()),
-    ))
-}
-
-// Both of a task of 2 to 5 vertices.
-fn drawn_ratios(alloc: Global, draws: &mut Draws) -> Result<(Pair, Pair), Fail> {
-    let count = draws.below(4) + 2;
-    let vertices = drawn_vertices(alloc, draws, count)?;
-    let edges = drawn_edges(alloc, draws, count)?;
-    ratios_of(alloc, (vertices.as_slice(), edges.as_slice()))
-}
-
-#[test]
-fn ratios_of_drawn_graphs_are_those_of_their_simple_cycles(rt: HostRuntime) -> Result<(), Fail> {
-    let mut draws = Draws { state: 1 };
-    let mut without_cycles: u32 = 0;
-    for number in 0..200u32 {
-        let (found, simple) = drawn_ratios(rt.alloc(), &mut draws)?;
-        assert_eq!(rt; found, simple, "graph {number}");
-        if simple.0 == 0 {
-            without_cycles = without_cycles.saturating_add(1);
-        }
-    }
-    // Some graphs have cycles and some have none.
-    assert!(rt; without_cycles > 0);
-    assert!(rt; without_cycles < 100);
     Ok(())
 }

@@ -10,7 +10,6 @@ use drt_fixtures::{Shape, make_set};
 use drt_graph::{Graphs, check};
 use drt_model::{Row, TaskSet};
 use drt_pool::{EagerGate, OpenGate};
-use drt_sp_plain::is_schedulable;
 use std::alloc::Global;
 use std::sync::Wait;
 use std::test::Fail;
@@ -86,25 +85,33 @@ fn answer_by_states<R: Threads + Wait + Sync>(
     }
 }
 
-// What a plain program says of a set, as a claim by states.
-fn plain_claim(alloc: Global, set: &TaskSet) -> Result<Claim, Fail> {
-    let graphs = make_graphs(alloc, set)?;
-    if is_schedulable(alloc, set, &graphs)? {
-        Ok(Claim::YesByStates)
-    } else {
-        Ok(Claim::No)
-    }
+// What the whole analysis, whose verdict is proved, says of a set, as a claim by states.
+fn proved_claim<R: Threads + Wait + Sync>(
+    rt: &R,
+    alloc: Global,
+    set: TaskSet,
+) -> Result<Claim, Fail> {
+    let graphs = make_graphs(alloc, &set)?;
+    let Analysed { dossier, .. } = analyse_fixed(rt, alloc, set, &graphs, 1, BUDGET, &OpenGate)?;
+    Ok(match claim_of(&dossier) {
+        Claim::YesByTrees => Claim::YesByStates,
+        claim => claim,
+    })
 }
 
-// Whether tails and states say of a drawn set what a plain program says, and by several workers the same as by one.
+// Whether tails and states say of a drawn set what the whole analysis says, and by several workers the same as by one.
 fn is_decided_alike<R: Threads + Wait + Sync>(
     rt: &R,
     alloc: Global,
     draws: &mut Draws,
 ) -> Result<bool, Fail> {
     let start = draws.state;
-    let set = drawn_set(alloc, draws)?.ok_or("within the limits")?;
-    let wanted = plain_claim(alloc, &set)?;
+    let wanted = proved_claim(
+        rt,
+        alloc,
+        drawn_set(alloc, draws)?.ok_or("within the limits")?,
+    )?;
+    let set = drawn_set(alloc, &mut Draws { state: start })?.ok_or("within the limits")?;
     let (claim, text) = answer_by_states(rt, alloc, set, 1)?;
     for workers in SEVERAL {
         let mut again = Draws { state: start };
@@ -114,7 +121,7 @@ fn is_decided_alike<R: Threads + Wait + Sync>(
             return Ok(false);
         }
     }
-    Ok(claim == wanted)
+    Ok(claim == wanted && claim != Claim::Nothing)
 }
 
 // What the whole analysis says of the set of these shapes.
@@ -130,7 +137,7 @@ fn claim_on<R: Threads + Wait + Sync>(
 }
 
 #[test]
-fn drawn_sets_are_decided_by_states_as_by_a_plain_program(rt: HostRuntime) -> Result<(), Fail> {
+fn drawn_sets_are_decided_by_states_as_by_the_whole_analysis(rt: HostRuntime) -> Result<(), Fail> {
     let mut draws = Draws { state: 1 };
     for number in 0..DRAWN_SETS {
         assert!(rt;

@@ -1,12 +1,9 @@
-//! Tests of exact worst response times: worked sets, drawn sets beside a plain program, and searches of worked forests.
+//! Tests of exact worst response times: worked sets, drawn sets by states and by several workers, and searches of worked forests. Drawn sets are
+//! compared with a plain reading by `examples/drawn`.
 #![tactic(auto)]
 
 #[cfg(test)]
 mod answers;
-#[cfg(test)]
-mod drawn_tests;
-#[cfg(test)]
-mod plain;
 #[cfg(test)]
 mod search_tests;
 #[cfg(test)]

@@ -1,12 +1,11 @@
-//! Drawn sets, answered by tails and states alone and by a plain program.
+//! Drawn sets, answered by tails and states alone, and by several workers, as one worker answers by trees, whose numbers are proved.
 
-use crate::answers::{Ticks, end_before_finish, have_ticks};
-use crate::plain::plain_ticks;
+use crate::answers::{Ticks, answer_of, end_before_finish, have_ticks, is_answer};
 use drt_drawn::{Draws, drawn_set};
 use drt_graph::check;
 use drt_model::TaskSet;
 use drt_pool::EagerGate;
-use drt_response::{StatesResponse, respond_by_states};
+use drt_response::{ResponseAnswer, StatesResponse, respond_by_states};
 use std::alloc::Global;
 use std::sync::Wait;
 use std::test::Fail;
@@ -15,6 +14,25 @@ use std::thread::Threads;
 const DRAWN_SETS: u32 = 250;
 
 const BUDGET: u64 = 1_000_000;
+
+// The response of each vertex of each task, in order, as one worker answers; none where the set isn't schedulable.
+fn ticks_of<R: Threads + Wait + Sync>(
+    rt: &R,
+    alloc: Global,
+    set: TaskSet,
+) -> Result<Option<Vec<Ticks>>, Fail> {
+    match answer_of(rt, alloc, set, 1, BUDGET, &EagerGate)? {
+        ResponseAnswer::Done(responses) => {
+            let mut ticks = Vec::new(alloc);
+            for response in responses.as_slice() {
+                ticks.push((response.task, response.vertex, response.ticks))?;
+            }
+            Ok(Some(ticks))
+        }
+        ResponseAnswer::Missed(_) => Ok(None),
+        ResponseAnswer::Undecided { .. } => Err("the budget is enough".into()),
+    }
+}
 
 // What tails and states say of a set by so many workers.
 fn states_of<R: Threads + Wait + Sync>(
@@ -32,7 +50,7 @@ fn states_of<R: Threads + Wait + Sync>(
     Ok(respond_by_states(rt, alloc, set, &graphs, workers, BUDGET, &EagerGate)?)
 }
 
-// Whether these are the responses of the plain program, with releases before each finish, or both say no.
+// Whether these are the responses, with releases before each finish, or both say no.
 fn are_those(states: &StatesResponse, ticks: &Option<Vec<Ticks>>) -> bool {
     match states {
         StatesResponse::Done(responses) => match ticks {
@@ -47,19 +65,38 @@ fn are_those(states: &StatesResponse, ticks: &Option<Vec<Ticks>>) -> bool {
     }
 }
 
-// Whether 1, 2, 4 and 16 workers say of the next drawn set what the plain program does.
-fn is_answered_by_states<R: Threads + Wait + Sync>(
+// Whether so many workers say of the set that is drawn from this state, by trees and by states alone, what one does.
+fn is_answered_by<R: Threads + Wait + Sync>(
+    rt: &R,
+    alloc: Global,
+    state: u64,
+    workers: u32,
+    ticks: &Option<Vec<Ticks>>,
+) -> Result<bool, Fail> {
+    let mut draws = Draws { state };
+    let set = drawn_set(alloc, &mut draws)?.ok_or("within the limits")?;
+    let by_states = are_those(&states_of(rt, alloc, set, workers)?, ticks);
+    let mut again = Draws { state };
+    let set = drawn_set(alloc, &mut again)?.ok_or("within the limits")?;
+    let answer = answer_of(rt, alloc, set, workers, BUDGET, &EagerGate)?;
+    let by_trees = match ticks {
+        Some(ticks) => is_answer(&answer, Some(ticks.as_slice())),
+        None => is_answer(&answer, None),
+    };
+    Ok(by_states && by_trees)
+}
+
+// Whether 1, 2, 4 and 16 workers say of the next drawn set what one does.
+fn is_answered_alike<R: Threads + Wait + Sync>(
     rt: &R,
     alloc: Global,
     draws: &mut Draws,
 ) -> Result<bool, Fail> {
     let first = draws.state;
     let set = drawn_set(alloc, draws)?.ok_or("within the limits")?;
-    let ticks = plain_ticks(alloc, &set)?;
+    let ticks = ticks_of(rt, alloc, set)?;
     for workers in [1u32, 2, 4, 16] {
-        let mut again = Draws { state: first };
-        let set = drawn_set(alloc, &mut again)?.ok_or("within the limits")?;
-        if !are_those(&states_of(rt, alloc, set, workers)?, &ticks) {
+        if !is_answered_by(rt, alloc, first, workers, &ticks)? {
             return Ok(false);
         }
     }
@@ -67,11 +104,11 @@ fn is_answered_by_states<R: Threads + Wait + Sync>(
 }
 
 #[test]
-fn drawn_sets_respond_by_states_as_a_plain_program_says(rt: HostRuntime) -> Result<(), Fail> {
+fn drawn_sets_respond_alike_by_states_and_by_several_workers(rt: HostRuntime) -> Result<(), Fail> {
     let mut draws = Draws { state: 6 };
     for number in 0..DRAWN_SETS {
         assert!(rt;
-            is_answered_by_states(&rt, rt.alloc(), &mut draws)?,
+            is_answered_alike(&rt, rt.alloc(), &mut draws)?,
             "set {number}"
         );
     }

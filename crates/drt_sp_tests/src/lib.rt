@@ -1,14 +1,12 @@
 //! Tests of what the analysis under fixed priorities stands on: trees of request functions, their labels, and worked rows of frontiers,
-//! as the definitions compute them and as real frontiers answer. And of the analysis itself: dossiers of worked sets, spent budgets, drawn
-//! sets beside a plain program, and answers by several workers.
+//! as the definitions compute them and as real frontiers answer. And of the analysis itself: dossiers of worked sets, spent budgets,
+//! and answers by several workers. Drawn sets are compared with a plain reading by `examples/drawn`.
 #![tactic(auto)]
 
 #[cfg(test)]
 mod answer_tests;
 #[cfg(test)]
 mod answering;
-#[cfg(test)]
-mod drawn_tests;
 #[cfg(test)]
 mod meeting_tests;
 #[cfg(test)]
@@ -20,6 +18,8 @@ mod refine_rows;
 mod refine_tests;
 #[cfg(test)]
 mod request_tests;
+#[cfg(test)]
+mod tick_tests;
 #[cfg(test)]
 mod tree_tests;
 #[cfg(test)]

@@ -1,3 +1,0 @@
-pub mod Lists
-pub mod AskedWalks
-pub mod Choices
