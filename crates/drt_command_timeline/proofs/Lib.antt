@@ -1,4 +1,3 @@
-mod DrawingLemmas
 mod NoLemmas
 mod ReachedLemmas
 mod ResponseLemmas

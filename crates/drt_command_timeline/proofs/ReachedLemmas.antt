@@ -78,7 +78,8 @@ pub unfinished : (policy : Policy) (jobs : List Job) (j n : ℕ) → done policy
 unfinished policy jobs j n few f = let e = f.reached in omega (arith, few, e)
 
 -- The finish that a board says is that of the first job, or isn't.
-pub finish_said : (tasks : List Task) (releases : List Release) (task ticks time : ℕ) → ((j : ℕ) → IsJob (jobs_of tasks releases) task 0 j → IsFinishSoFar Fixed (jobs_of tasks releases) ticks j (Some time))
+pub finish_said : (tasks : List Task) (releases : List Release) (task ticks time : ℕ) →
+    ((j : ℕ) → IsJob (jobs_of tasks releases) task 0 j → IsFinishSoFar Fixed (jobs_of tasks releases) ticks j (Some time))
     → (v j : ℕ) → IsStart task v releases j → IsTrue (time == ticks) ↔ IsFinish Fixed (jobs_of tasks releases) j ticks
 finish_said tasks releases task ticks time f v j s =
     let said = f j (start_job tasks releases task v j s) in

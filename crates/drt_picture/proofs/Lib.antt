@@ -4,3 +4,4 @@ pub mod PartLemmas
 pub mod EventLemmas
 pub mod LayoutLemmas
 pub mod PageLemmas
+pub mod ReachLemmas

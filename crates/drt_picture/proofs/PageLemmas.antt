@@ -13,6 +13,7 @@ use Rattle.drt_picture.specs.declared.bars.Arrow.{Arrow}
 use Rattle.drt_picture.specs.declared.layout.Layout.{Layout}
 use Rattle.drt_picture.specs.Layout.{IsArrow, IsBar, IsCutMark, IsEventOf, IsLayout, IsSpanOf, IsTick, arrow_of, bar_of, from_of}
 use Rattle.drt_picture.specs.Moments.{IsCut, IsPart, IsWithin, moments_of}
+use Rattle.drt_picture.specs.Reach.{Reach}
 use Rattle.drt_picture.specs.Scale.{IsScale}
 use Rattle.drt_picture.proofs.Orders.{neighbours_drop}
 use Rattle.drt_picture.proofs.LayoutLemmas.{all_within, arrows_in_order, bars_in_order, each_arrow, each_bar, from_in_time, from_least}
@@ -48,6 +49,7 @@ pub record IsMade (tasks : List Task) (releases : List Release) (spans : List Sp
   pub shown : All (λ e. l.from ≤ e.time) (drop l.early events)
   pub scale : IsScale l.scale
   pub until_is : l.scale.until ≡ until
+  pub reach : Reach l.from until l.scale.parts
   pub each_part : All (IsPart until) l.scale.parts
   pub parts : AllNeighbours (IsCut (moments_of (drop l.hidden spans) (drop l.early events) until)) l.scale.parts
   pub bars : l.bars ≡ map (bar_of l.scale releases) (drop l.hidden spans)
@@ -70,6 +72,7 @@ laid_out tasks releases spans events until l legal given made =
       shown = made.shown;
       scale = made.scale;
       until_is = made.until_is;
+      reach = made.reach;
       each_part = made.each_part;
       parts = made.parts;
       bars = made.bars;

@@ -1,5 +1,5 @@
 -- The parts of time that a picture shows, as a walk over what happens makes them.
-use Rattle.std.proofs.Common.{◌≡◌, ℕ, ◌+◌, ◌-◌, ◌/◌, ◌<◌, ◌≤◌, ◌⊎◌, inl, inr, List, [], ◌∷◌}
+use Rattle.std.proofs.Common.{refl, ◌≡◌, ℕ, ◌+◌, ◌-◌, ◌/◌, ◌<◌, ◌≤◌, ◌⊎◌, inl, inr, List, [], ◌∷◌}
 use Rattle.std.proofs.Common.{◌++◌, length, get_or, max, subst, sym, arith, length-append, IsPermutation}
 use Rattle.std.specs.Prelude.{All}
 use Rattle.std.specs.List.Sorted.{IsNonDecreasingBy}
@@ -13,28 +13,31 @@ use Rattle.drt_picture.specs.declared.moments.Moment.{Moment}
 use Rattle.drt_picture.specs.declared.scale.Part.{Part}
 use Rattle.drt_picture.specs.Moments.{IsClear, IsCut, IsPart, IsWithin}
 use Rattle.drt_picture.proofs.Orders.{neighbours_push, neighbours_weaker}
+use Rattle.drt_picture.proofs.ReachLemmas.{BeginsAt, begins_more}
 
 -- The part that isn't closed yet, as far as a cut before it tells it.
 abbrev pub open_at : ℕ → Part
 open_at start = record { start = start; end = start }
 
 -- After i moments: they end by `reached`, and there are cuts between the parts so far and between the last of them and the open one.
-pub record IsSoFar (moments : List Moment) (until i start reached : ℕ) (parts : List Part) : Type 0 where
+pub record IsSoFar (moments : List Moment) (from until i start reached : ℕ) (parts : List Part) : Type 0 where
   pub passed : (k : ℕ) (d : Moment) → k < i → (get_or moments k d).end ≤ reached
   pub in_time : reached ≤ until
   pub started : start ≤ reached
   pub few : length parts ≤ 16
   pub each : All (IsPart until) parts
+  pub begins : BeginsAt from start parts
   pub cuts : AllNeighbours (IsCut moments) parts
   pub last : (k : ℕ) (d : Part) → k + 1 ≡ length parts → IsCut moments (get_or parts k d) (open_at start)
 
-pub so_far_none : (moments : List Moment) (until from : ℕ) → from ≤ until → IsSoFar moments until 0 from from []
+pub so_far_none : (moments : List Moment) (until from : ℕ) → from ≤ until → IsSoFar moments from until 0 from from []
 so_far_none moments until from h = record {
   passed = λ k d l. absurd (omega arith);
   in_time = h;
   started = omega arith;
   few = omega arith;
   each = All-nil (IsPart until);
+  begins = refl;
   cuts = AllNeighbours-nil (IsCut moments);
   last = λ k d e. absurd (omega arith);
 }
@@ -51,13 +54,14 @@ passed_more moments i reached m is passed k d l = go (cases_lt k i)
 
 -- The next moment comes soon.
 pub so_far_more : (moments : List Moment) (from until i start reached : ℕ) (parts : List Part) (m : Moment) → ((d : Moment) → m ≡ get_or moments i d)
-    → IsWithin from until m → IsSoFar moments until i start reached parts → IsSoFar moments until (i + 1) start (max reached m.end) parts
+    → IsWithin from until m → IsSoFar moments from until i start reached parts → IsSoFar moments from until (i + 1) start (max reached m.end) parts
 so_far_more moments from until i start reached parts m is within h = record {
   passed = passed_more moments i reached m is h.passed;
   in_time = omega (arith, within.in_time, h.in_time);
   started = omega (arith, h.started);
   few = h.few;
   each = h.each;
+  begins = h.begins;
   cuts = h.cuts;
   last = h.last;
 }
@@ -65,8 +69,8 @@ so_far_more moments from until i start reached parts m is within h = record {
 -- The next moment is far.
 pub so_far_cut : (moments : List Moment) (from until i start reached longest : ℕ) (parts : List Part) (m : Moment) → ((d : Moment) → m ≡ get_or moments i d)
     → i < length moments → IsNonDecreasingBy (λ m. m.start) moments → IsWithin from until m → length parts < 16 → reached + longest < m.start
-    → IsSoFar moments until i start reached parts
-    → IsSoFar moments until (i + 1) (m.start - longest / 2) (max reached m.end) (parts ++ record { start = start; end = reached + longest / 2 } ∷ [])
+    → IsSoFar moments from until i start reached parts
+    → IsSoFar moments from until (i + 1) (m.start - longest / 2) (max reached m.end) (parts ++ record { start = start; end = reached + longest / 2 } ∷ [])
 so_far_cut moments from until i start reached longest parts m is here order within few far h =
     let half : longest / 2 + longest / 2 ≤ longest = omega arith in
     record {
@@ -76,6 +80,7 @@ so_far_cut moments from until i start reached longest parts m is here order with
       few = omega (arith, length-append parts (record { start = start; end = reached + longest / 2 } ∷ []));
       each = All-push (IsPart until) parts (record { start = start; end = reached + longest / 2 }) h.each
           (record { ordered = omega (arith, h.started); in_time = omega (arith, within.some, within.in_time) });
+      begins = begins_more from start (reached + longest / 2) (m.start - longest / 2) parts h.begins;
       cuts = neighbours_push (IsCut moments) parts (record { start = start; end = reached + longest / 2 }) h.cuts h.last;
       last = λ k d e. last k d (omega (arith, length-append parts (record { start = start; end = reached + longest / 2 } ∷ [])));
     }
@@ -96,9 +101,9 @@ so_far_cut moments from until i start reached longest parts m is here order with
     last k d e = rw (e, get_or-append_seam parts (record { start = start; end = reached + longest / 2 }) [] d) (omega arith, clear)
 
 -- Behind the last moment the open part is closed.
-pub so_far_all : (moments : List Moment) (until i start reached : ℕ) (parts : List Part) → IsSoFar moments until i start reached parts
+pub so_far_all : (moments : List Moment) (from until i start reached : ℕ) (parts : List Part) → IsSoFar moments from until i start reached parts
     → AllNeighbours (IsCut moments) (parts ++ record { start = start; end = until } ∷ [])
-so_far_all moments until i start reached parts h = neighbours_push (IsCut moments) parts (record { start = start; end = until }) h.cuts h.last
+so_far_all moments from until i start reached parts h = neighbours_push (IsCut moments) parts (record { start = start; end = until }) h.cuts h.last
 
 -- A cut between parts is the same for the same moments in another order.
 pub cuts_of_all : (all moments : List Moment) (parts : List Part) → IsPermutation all moments → AllNeighbours (IsCut moments) parts → AllNeighbours (IsCut all) parts

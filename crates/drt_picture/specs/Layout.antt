@@ -12,6 +12,7 @@ use Rattle.drt_picture.specs.declared.bars.Arrow.{Arrow}
 use Rattle.drt_picture.specs.declared.layout.Layout.{Layout}
 use Rattle.drt_picture.specs.declared.scale.Scale.{Scale}
 use Rattle.drt_picture.specs.Moments.{IsCut, IsPart, moments_of}
+use Rattle.drt_picture.specs.Reach.{Reach}
 use Rattle.drt_picture.specs.Scale.{IsInArea, IsScale, x_of}
 
 -- The span has ticks, all of them before `until`, and its job is one of so many.
@@ -90,6 +91,7 @@ pub record IsLayout (tasks : List Task) (releases : List Release) (spans : List 
   pub shown : All (λ e. l.from ≤ e.time) (drop l.early events)
   pub scale : IsScale l.scale
   pub until_is : l.scale.until ≡ until
+  pub reach : Reach l.from until l.scale.parts
   pub each_part : All (IsPart until) l.scale.parts
   pub parts : AllNeighbours (IsCut (moments_of (drop l.hidden spans) (drop l.early events) until)) l.scale.parts
   pub bars : l.bars ≡ map (bar_of l.scale releases) (drop l.hidden spans)

@@ -1,3 +1,4 @@
 pub mod Moments
 pub mod Scale
 pub mod Layout
+pub mod Reach

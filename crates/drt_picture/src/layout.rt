@@ -3,6 +3,7 @@ ghost use Rattle.std.specs.Prelude.{◌≡◌, ◌+◌, ◌*◌, ◌^◌, ◌<�
 ghost use Rattle.drt_model.specs.Legal.{AllNeighbours, IsLegal};
 ghost use Rattle.drt_timeline.specs.Spans.{IsNext};
 ghost use Rattle.drt_picture.specs.Layout.{IsEventOf, IsLayout, IsSpanOf, from_of, start_of};
+ghost use Rattle.drt_picture.specs.Reach.{Reach};
 ghost use Rattle.drt_picture.specs.Moments.{IsCut, IsPart, IsWithin, moments_of};
 ghost use Rattle.drt_picture.specs.Scale.{IsScale};
 
@@ -149,6 +150,7 @@ fn scale_of(
     requires ahead { from ≤ until }
     ensures scale { IfOk result (λ scale. IsScale scale) }
     ensures until_is { IfOk result (λ scale. scale.until ≡ until) }
+    ensures reach { IfOk result (λ scale. Reach from until scale.parts) }
     ensures each { IfOk result (λ scale. All (IsPart until) scale.parts) }
     ensures cuts { IfOk result (λ scale. AllNeighbours (IsCut (moments_of spans.now events.now until)) scale.parts) }
 {

@@ -2,6 +2,7 @@
 ghost use Rattle.std.specs.Prelude.{◌≡◌, ◌↔◌, ◌+◌, ◌^◌, ◌<◌, ◌≤◌, ◌++◌, All, IsTrue, IfOk, OnOk, IsPermutation, length, map};
 ghost use Rattle.std.specs.List.Sorted.{IsNonDecreasingBy};
 ghost use Rattle.drt_model.specs.Legal.{AllNeighbours};
+ghost use Rattle.drt_picture.specs.Reach.{Reach};
 ghost use Rattle.drt_picture.specs.Moments.{IsCut, IsPart, IsWithin, moment_of_event, moment_of_span, moments_of};
 
 use crate::scale::{MOST_CUTS, Part};
@@ -85,6 +86,7 @@ fn push_events(moments: &mut Vec<Moment>, events: &[Event]) -> Result<(), Memory
 }
 
 /// The parts of time that the picture shows, from `from` to `until`: all but the long stretches in which nothing happens.
+#[tactic(auto, using(crate::proofs::ReachLemmas::reach_all))]
 pub fn parts_of(
     alloc: Global,
     moments: &[Moment],
@@ -96,6 +98,7 @@ pub fn parts_of(
     requires in_time { until ≤ 2 ^ 62 }
     requires ahead { from ≤ until }
     ensures few { IfOk result (λ parts. length parts.items ≤ 17) }
+    ensures reach { IfOk result (λ parts. Reach from until parts.items) }
     ensures each { IfOk result (λ parts. All (IsPart until) parts.items) }
     ensures cuts { IfOk result (λ parts. AllNeighbours (IsCut moments.now) parts.items) }
 {

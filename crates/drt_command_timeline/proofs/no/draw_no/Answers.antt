@@ -7,7 +7,8 @@ use Rattle.drt_command_timeline.proofs.no.draw_no.Goals as goal
 pub draw-requires : goal.draw-requires
 draw-requires c =
     let d = c.dossier.inside in
-    let known = known_no c.args.bytes.now c.args.dossier.now (record { policy = d.policy; set = d.set; evidence = d.evidence }) c.args.judgement c.requires (sym c.dossier.view_is) c.in_default.not-Rejected c.in-Some.ensures.0 in
+    let known = known_no c.args.bytes.now c.args.dossier.now (record { policy = d.policy; set = d.set; evidence = d.evidence }) c.args.judgement c.requires (sym c.dossier.view_is)
+    c.in_default.not-Rejected c.in-Some.ensures.0 in
     let same = c.in-Some.ensures.1 in
     let count = ap length same in
     let counted = known.1.counted in

@@ -8,7 +8,8 @@ returns-in_err-k c =
 pub returns-in_err-v : goal.returns-in_err-v
 returns-in_err-v c =
     rw c.from_residual-in_err-v.ensures
-    (λ l v s. no_vertex_spot c.args.set.now.tasks c.args.task.now c.args.vertex.now c.in_ok-k.k c.in_ok-k.of.now (rw c.tasks.ensures.tasks at c.in_ok-k.ensures) (rw c.as_slice.ensures at c.in_err-v.ensures) l v s)
+    (λ l v s. no_vertex_spot c.args.set.now.tasks c.args.task.now c.args.vertex.now c.in_ok-k.k c.in_ok-k.of.now (rw c.tasks.ensures.tasks at c.in_ok-k.ensures)
+    (rw c.as_slice.ensures at c.in_err-v.ensures) l v s)
 
 pub returns : goal.returns
 returns c = record {

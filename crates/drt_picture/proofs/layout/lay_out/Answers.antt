@@ -87,6 +87,7 @@ returns c =
       shown = c.count_before-early.ensures.later;
       scale = c.in_ok-scale.ensures.scale;
       until_is = c.in_ok-scale.ensures.until_is;
+      reach = c.in_ok-scale.ensures.reach;
       each_part = c.in_ok-scale.ensures.each;
       parts = parts;
       bars = c.from_vec.ensures ∙ c.in_ok-bars.ensures ∙ ap (λ (ss : List Span). map (bar_of scale releases) ss) spans_are;
