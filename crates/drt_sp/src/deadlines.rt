@@ -5,7 +5,7 @@ ghost use Rattle.drt_evidence.specs.Trees.{greatest_deadline, latest_deadline};
 use drt_model::{TaskSet, Vertex};
 
 /// The greatest relative deadline of the set, in ticks.
-pub(crate) fn greatest_deadline(set: &TaskSet) -> u64
+pub fn greatest_deadline(set: &TaskSet) -> u64
     ensures value { result ≡ greatest_deadline set.now.tasks }
     ensures some { 1 ≤ result }
     ensures most { result ≤ 1000000 }

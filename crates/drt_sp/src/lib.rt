@@ -5,6 +5,8 @@
 //! `drt_evidence`, and each other answer its cause. The layer above uses the one contract of `analyse_fixed`.
 //!
 //! `budgets_suffice` says how large a budget is enough, by the numbers of the tasks' walks.
+//!
+//! Its parts are there for whoever analyses one task alone: `priority_order`, `search_tree` and `prove_vertices`.
 #![tactic(auto)]
 
 mod analysis;
@@ -27,8 +29,12 @@ mod walks;
 
 pub use analysis::{analyse_fixed, analyse_trees};
 pub use answer::FixedAnswer;
+pub use deadlines::greatest_deadline;
 pub use drt_trails::FixedTrail;
 pub use grown::{ProvedTrees, TreesAnswer};
 pub use laws::budgets_suffice;
+pub use order::priority_order;
 pub use releases::leaf_releases;
+pub use trees::{TaskTree, TreeSearch, search_tree};
+pub use vertices::{TaskProofs, prove_vertices};
 pub use walks::VertexTuple;

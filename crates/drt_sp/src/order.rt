@@ -7,7 +7,7 @@ use drt_model::{Memory, Task, TaskSet};
 use std::alloc::Global;
 
 /// The numbers of the tasks in order of priority, the highest (the least number) first.
-pub(crate) fn priority_order(alloc: Global, set: &TaskSet) -> Result<Vec<u32>, Memory>
+pub fn priority_order(alloc: Global, set: &TaskSet) -> Result<Vec<u32>, Memory>
     ensures { IfOk result (λ order. IsOrder set.now.tasks order.items) }
 {
     let tasks = set.tasks();

@@ -25,15 +25,15 @@ mod gathering;
 
 /// A task's tree: its first node and its root in the forest, and the tree as it is written.
 #[derive(Drop)]
-pub(crate) struct TaskTree {
-    pub(crate) low: u32,
-    pub(crate) top: u32,
-    pub(crate) claim: TreeClaim,
+pub struct TaskTree {
+    pub low: u32,
+    pub top: u32,
+    pub claim: TreeClaim,
 }
 
 /// How the search of a task's walks ended.
 #[derive(Drop)]
-pub(crate) enum TreeSearch {
+pub enum TreeSearch {
     /// It is finished, and this is the tree of the walks that it found.
     Tree(TaskTree),
     /// It spent its budget by these steps.
@@ -63,7 +63,7 @@ fn search<G: Gate, R: Threads + Wait + Sync>(
 
 /// Searches the walks of a task's graph up to the bound, in ticks, with this budget of steps, and puts the tree of those that no
 /// other one dominates into the forest. After want of memory the forest may have that tree or not.
-pub(crate) fn search_tree<G: Gate, R: Threads + Wait + Sync>(
+pub fn search_tree<G: Gate, R: Threads + Wait + Sync>(
     rt: &R,
     alloc: Global,
     graph: &Graph,

@@ -22,7 +22,7 @@ use std::thread::Threads;
 
 /// What came of a task's vertices.
 #[derive(Drop)]
-pub(crate) enum TaskProofs {
+pub enum TaskProofs {
     /// Each passes, with these proofs, in file order.
     Passed(Row<ProofClaim>),
     /// Those before this vertex pass, and it fails for this tuple of leaves.
@@ -40,7 +40,7 @@ pub(crate) enum TaskProofs {
 /// Proves the vertices of a task, by its graph, in file order, against the trees with these roots, each with this budget of steps.
 /// Several workers end the combinations of all vertices side by side, and the answer is that of one worker; where the gate's `alone` is 0
 /// they share each frontier.
-pub(crate) fn prove_vertices<G: Gate, R: Threads + Wait + Sync>(
+pub fn prove_vertices<G: Gate, R: Threads + Wait + Sync>(
     rt: &R,
     alloc: Global,
     forest: &Forest,
