@@ -1,7 +1,7 @@
 -- What the program says of an outcome below its notice.
 use Rattle.std.specs.Prelude.{ℕ, List, [], ◌∷◌, ◌++◌, ◌==◌, if◌then◌else◌, codes, decimal}
 use Rattle.drt_outcome.specs.declared.fault.Fault.{Fault}
-use Rattle.drt_outcome.specs.declared.fault.Fault.TheVariants.{Nothing, File, Edge, Limit, Rule, Dossier}
+use Rattle.drt_outcome.specs.declared.fault.Fault.TheVariants.{Nothing, File, Edge, Limit, Probe, Rule, Dossier}
 use Rattle.drt_outcome.specs.declared.outcome.Outcome.{Outcome}
 use Rattle.drt_outcome.specs.declared.outcome.Trail.{Trail}
 use Rattle.drt_outcome.specs.declared.outcome.Trail.TheVariants as trails
@@ -13,6 +13,7 @@ fault_sentence Nothing = []
 fault_sentence (File line code) = file_sentence code
 fault_sentence (Edge task edge) = file_sentence 20
 fault_sentence (Limit code) = file_sentence code
+fault_sentence (Probe add code) = codes "with " ++ decimal add ++ codes " more ticks of this vertex: " ++ file_sentence code
 fault_sentence (Rule number) = rule_sentence number ++ codes ": don't trust this evidence, and analyse the set again"
 fault_sentence (Dossier line code) = dossier_sentence code
 
@@ -35,6 +36,7 @@ trail_sentence (trails.Table task log) = spent_at (codes "undecided: the search 
 trail_sentence (trails.Refine task vertex log) = spent_in (codes "undecided: the refinement for vertex ") vertex task
 trail_sentence (trails.Overload last) = spent_at (codes "undecided: the search for an overload, at time ") last
 trail_sentence (trails.Bench edf fixed) = []
+trail_sentence (trails.Assign higher task vertex log) = spent_in (codes "undecided: with the other open tasks above it, the refinement for vertex ") vertex task
 trail_sentence (trails.Response task vertex taken) = spent_in (codes "undecided: the search for the response of vertex ") vertex task
 
 -- The sentence of an outcome; an answer has none.
@@ -42,7 +44,7 @@ abbrev pub sentence_of : Outcome → List ℕ
 sentence_of o =
     if o.status == 3 then trail_sentence o.trail
     else if o.status == 4 then fault_sentence o.fault
-    else if o.status == 5 then codes "write: drt edf, sp, response, check, timeline, util, upgrade, convert or bench, with --workers N (1 to 16) and --budget N (1 to 1,000,000) where the command has them (man ./docs/drt.1)"
+    else if o.status == 5 then codes "write: drt edf, sp, response, assign, margin, check, timeline, util, upgrade, convert or bench, with --workers N (1 to 16) and --budget N (1 to 1,000,000) where the command has them (man ./docs/drt.1)"
     else if o.status == 6 then codes "standard input can't be read: is it a file?"
     else if o.status == 7 then codes "standard output takes no more: what it holds is cut"
     else if o.status == 8 then codes "the analysis needs more memory than there is: give fewer steps with --budget, or fewer workers with --workers"

@@ -47,7 +47,7 @@ fn sentence_of(alloc: Global, outcome: &Outcome) -> Result<Vec<u8>, Memory>
             return fault_sentence(alloc, outcome.fault);
         }
         WORDS_REFUSED =>
-            b"write: drt edf, sp, response, check, timeline, util, upgrade, convert or bench, with --workers N (1 to 16) and --budget N (1 to 1,000,000) where the command has them (man ./docs/drt.1)".as_slice(),
+            b"write: drt edf, sp, response, assign, margin, check, timeline, util, upgrade, convert or bench, with --workers N (1 to 16) and --budget N (1 to 1,000,000) where the command has them (man ./docs/drt.1)".as_slice(),
         READ_FAILED => b"standard input can't be read: is it a file?".as_slice(),
         WRITE_FAILED => b"standard output takes no more: what it holds is cut".as_slice(),
         OUT_OF_MEMORY =>
@@ -65,10 +65,22 @@ fn fault_sentence(alloc: Global, fault: Fault) -> Result<Vec<u8>, Memory>
         Fault::Nothing => "",
         Fault::File { code, .. } | Fault::Limit { code } => file_sentence(code),
         Fault::Edge { .. } => file_sentence(DEADLINE_PAST_SEPARATION),
+        Fault::Probe { add, code } => return probe_sentence(alloc, add, code),
         Fault::Rule { number } => return broken_sentence(alloc, number),
         Fault::Dossier { code, .. } => dossier_sentence(code),
     };
     Ok(Vec::from_slice(alloc, text.as_bytes())?)
+}
+
+// The sentence of a limit that the set passes with so many ticks more.
+fn probe_sentence(alloc: Global, add: u32, code: u8) -> Result<Vec<u8>, Memory>
+    ensures { IfOk result (λ text. text.items ≡ fault_sentence (Fault.Probe add code)) }
+{
+    let mut text = Vec::new(alloc);
+    push(&mut text, b"with ", u64::from(add))?;
+    text.extend_from_slice(b" more ticks of this vertex: ")?;
+    text.extend_from_slice(file_sentence(code).as_bytes())?;
+    Ok(text)
 }
 
 // The sentence of a rule that is broken.
@@ -103,6 +115,12 @@ fn trail_sentence(alloc: Global, trail: &Trail) -> Result<Vec<u8>, Memory>
         Trail::Refine { task, vertex, .. } => spent_in(
             alloc,
             b"undecided: the refinement for vertex ",
+            *vertex,
+            *task,
+        ),
+        Trail::Assign { task, vertex, .. } => spent_in(
+            alloc,
+            b"undecided: with the other open tasks above it, the refinement for vertex ",
             *vertex,
             *task,
         ),

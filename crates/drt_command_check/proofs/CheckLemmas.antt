@@ -12,7 +12,7 @@ use Rattle.drt_command_check.specs.Check.{CheckEnds, Checks, IsDossierFault, jud
 use Rattle.drt_command.specs.declared.report.Report.{Report}
 use Rattle.drt_outcome.specs.Stops.{fault_status}
 use Rattle.drt_outcome.specs.declared.fault.Fault.{Fault}
-use Rattle.drt_outcome.specs.declared.fault.Fault.TheVariants.{Nothing, File, Edge, Limit, Rule, Dossier}
+use Rattle.drt_outcome.specs.declared.fault.Fault.TheVariants.{Nothing, File, Edge, Limit, Probe, Rule, Dossier}
 
 -- A fault has one line.
 line_one : (bytes : List ℕ) (l m c d : ℕ) → HasDossierFault bytes l c → HasDossierFault bytes m d → l ≡ m
@@ -47,10 +47,12 @@ dossier_fault_one bytes Nothing g h k = absurd h
 dossier_fault_one bytes (File l c) g h k = absurd h
 dossier_fault_one bytes (Edge t e) g h k = absurd h
 dossier_fault_one bytes (Limit c) g h k = absurd h
+dossier_fault_one bytes (Probe n c) g h k = absurd h
 dossier_fault_one bytes (Rule m) Nothing h k = absurd k
 dossier_fault_one bytes (Rule m) (File l c) h k = absurd k
 dossier_fault_one bytes (Rule m) (Edge t e) h k = absurd k
 dossier_fault_one bytes (Rule m) (Limit c) h k = absurd k
+dossier_fault_one bytes (Rule m) (Probe n c) h k = absurd k
 dossier_fault_one bytes (Rule m) (Rule n) h k =
     let e = k.dossier.only h.statement h.dossier.is in
     let same = judged_once k.statement (judgements.Rejected m) (judgements.Rejected n) (subst (λ s. IsJudged s (judgements.Rejected m)) e h.judged) k.judged in
@@ -61,6 +63,7 @@ dossier_fault_one bytes (Dossier l c) Nothing h k = absurd k
 dossier_fault_one bytes (Dossier l c) (File m d) h k = absurd k
 dossier_fault_one bytes (Dossier l c) (Edge t e) h k = absurd k
 dossier_fault_one bytes (Dossier l c) (Limit d) h k = absurd k
+dossier_fault_one bytes (Dossier l c) (Probe n d) h k = absurd k
 dossier_fault_one bytes (Dossier l c) (Rule n) (inl big) k = absurd (omega (arith, big.0, k.dossier.small))
 dossier_fault_one bytes (Dossier l c) (Rule n) (inr lacks) k = absurd (lacks.none k.statement k.dossier.is)
 dossier_fault_one bytes (Dossier l c) (Dossier m d) (inl big) (inl more) = ap (λ n. Dossier n c) (big.1 ∙ sym more.1) ∙ ap (Dossier m) (big.2 ∙ sym more.2)
@@ -81,6 +84,7 @@ judged_well law bytes made Nothing m h = h
 judged_well law bytes made (File l c) m h = h
 judged_well law bytes made (Edge t e) m h = h
 judged_well law bytes made (Limit c) m h = h
+judged_well law bytes made (Probe n c) m h = h
 judged_well law bytes made (Rule n) m h =
     let e = m.of.dossier.only h.statement h.dossier.is in
     not_rejected law m.of.statement m.judgement n m.of.judged (omega (arith, m.status_is, m.not_rejected)) (subst (λ s. IsJudged s (judgements.Rejected n)) e h.judged)
@@ -99,6 +103,7 @@ rejected_ends bytes Nothing h s is small = absurd h
 rejected_ends bytes (File l c) h s is small = absurd h
 rejected_ends bytes (Edge t e) h s is small = absurd h
 rejected_ends bytes (Limit c) h s is small = absurd h
+rejected_ends bytes (Probe n c) h s is small = absurd h
 rejected_ends bytes (Rule n) h s is small =
     let e = sym (h.dossier.only s is) in
     (judgements.Rejected n, subst (λ t. IsJudged t (judgements.Rejected n)) e h.judged, tt, refl)

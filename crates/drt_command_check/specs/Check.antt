@@ -6,7 +6,7 @@ use Rattle.drt_check.specs.Judging.{IsJudged, IsSound}
 use Rattle.drt_check.specs.declared.judgement.Judgement.{Judgement}
 use Rattle.drt_check.specs.declared.judgement.Judgement.TheVariants as judgements
 use Rattle.drt_outcome.specs.declared.fault.Fault.{Fault}
-use Rattle.drt_outcome.specs.declared.fault.Fault.TheVariants.{Nothing, File, Edge, Limit, Rule, Dossier}
+use Rattle.drt_outcome.specs.declared.fault.Fault.TheVariants.{Nothing, File, Edge, Limit, Probe, Rule, Dossier}
 use Rattle.drt_outcome.specs.declared.outcome.Trail.TheVariants as trails
 use Rattle.drt_command.specs.declared.input.Input.{Input}
 use Rattle.drt_command.specs.declared.input.Input.TheVariants.{AtMost}
@@ -74,6 +74,7 @@ IsDossierFault bytes Nothing = ⊥
 IsDossierFault bytes (File line code) = ⊥
 IsDossierFault bytes (Edge task edge) = ⊥
 IsDossierFault bytes (Limit code) = ⊥
+IsDossierFault bytes (Probe add code) = ⊥
 IsDossierFault bytes (Rule number) = IsRejected bytes number
 IsDossierFault bytes (Dossier line code) = ((most_dossier_bytes < length bytes) × (line ≡ 0) × (code ≡ 4)) ⊎ IsNoDossier bytes line code
 

@@ -7,7 +7,7 @@ use Rattle.drt_command.specs.Inputs.{IsLonger}
 use Rattle.drt_command.specs.Rules.{AreLawful}
 use Rattle.drt_command_files.specs.TaskFiles.{file_input}
 use Rattle.drt_outcome.specs.declared.fault.Fault.{Fault}
-use Rattle.drt_outcome.specs.declared.fault.Fault.TheVariants.{Nothing, File, Edge, Limit, Rule, Dossier}
+use Rattle.drt_outcome.specs.declared.fault.Fault.TheVariants.{Nothing, File, Edge, Limit, Probe, Rule, Dossier}
 use Rattle.drt_command_convert.specs.Convert.{IsClassicFile, IsClassicFault, convert_rules}
 
 same_place : (l c m d : ℕ) → l ≡ m → c ≡ d → File l c ≡ File m d
@@ -23,6 +23,7 @@ reads_well : (bytes : List ℕ) (tasks : List Classic) (f : Fault) → IsClassic
 reads_well bytes tasks Nothing a h = h
 reads_well bytes tasks (Edge t e) a h = h
 reads_well bytes tasks (Limit c) a h = h
+reads_well bytes tasks (Probe n c) a h = h
 reads_well bytes tasks (Rule n) a h = h
 reads_well bytes tasks (Dossier l c) a h = h
 reads_well bytes tasks (File l c) a (inl big) = omega (arith, a.small, big.0)
@@ -33,11 +34,13 @@ fault_one : (bytes : List ℕ) (f g : Fault) → IsClassicFault bytes f → IsCl
 fault_one bytes Nothing g h k = absurd h
 fault_one bytes (Edge t e) g h k = absurd h
 fault_one bytes (Limit c) g h k = absurd h
+fault_one bytes (Probe n c) g h k = absurd h
 fault_one bytes (Rule n) g h k = absurd h
 fault_one bytes (Dossier l c) g h k = absurd h
 fault_one bytes (File l c) Nothing h k = absurd k
 fault_one bytes (File l c) (Edge t e) h k = absurd k
 fault_one bytes (File l c) (Limit d) h k = absurd k
+fault_one bytes (File l c) (Probe n d) h k = absurd k
 fault_one bytes (File l c) (Rule n) h k = absurd k
 fault_one bytes (File l c) (Dossier m d) h k = absurd k
 fault_one bytes (File l c) (File m d) (inl big) (inl more) = same_place l c m d (big.1 ∙ sym more.1) (big.2 ∙ sym more.2)

@@ -6,7 +6,7 @@ use Rattle.drt_classic.specs.declared.classic.Classic.{Classic}
 use Rattle.drt_classic.specs.ClassicReading.{Reads, HasFault}
 use Rattle.drt_classic.specs.Digraphs.{digraphs_of}
 use Rattle.drt_outcome.specs.declared.fault.Fault.{Fault}
-use Rattle.drt_outcome.specs.declared.fault.Fault.TheVariants.{Nothing, File, Edge, Limit, Rule, Dossier}
+use Rattle.drt_outcome.specs.declared.fault.Fault.TheVariants.{Nothing, File, Edge, Limit, Probe, Rule, Dossier}
 use Rattle.drt_outcome.specs.declared.outcome.Trail.TheVariants as trails
 use Rattle.drt_command.specs.declared.report.Report.{Report}
 use Rattle.drt_command.specs.Rules.{Rules}
@@ -23,6 +23,7 @@ IsClassicFault bytes Nothing = ⊥
 IsClassicFault bytes (File line code) = ((most_bytes < length bytes) × (line ≡ 0) × (code ≡ 23)) ⊎ ((length bytes ≤ most_bytes) × HasFault bytes line code)
 IsClassicFault bytes (Edge task edge) = ⊥
 IsClassicFault bytes (Limit code) = ⊥
+IsClassicFault bytes (Probe add code) = ⊥
 IsClassicFault bytes (Rule number) = ⊥
 IsClassicFault bytes (Dossier line code) = ⊥
 

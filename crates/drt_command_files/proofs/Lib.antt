@@ -1,1 +1,2 @@
 pub mod TaskFileLemmas
+pub mod SpotLemmas

@@ -11,7 +11,7 @@ use Rattle.drt_file.specs.trusted.Laws.{TextsReadAsOneSet}
 use Rattle.drt_file.specs.trusted.Reading.{HasFault}
 use Rattle.drt_graph.specs.Past.{IsFirstPast, IsFirstPastEdge}
 use Rattle.drt_outcome.specs.declared.fault.Fault.{Fault}
-use Rattle.drt_outcome.specs.declared.fault.Fault.TheVariants.{Nothing, File, Edge, Limit, Rule, Dossier}
+use Rattle.drt_outcome.specs.declared.fault.Fault.TheVariants.{Nothing, File, Edge, Limit, Probe, Rule, Dossier}
 use Rattle.drt_command.specs.Inputs.{IsLonger}
 use Rattle.drt_command_files.specs.TaskFiles.{IsAccepted, IsFileFault, file_input}
 use Rattle.drt_check.proofs.Pasts.{clash, edge_past, past_breaks}
@@ -81,6 +81,7 @@ same_text bytes l c m d h k =
 pub accepted_well : TextsReadAsOneSet → (bytes : List ℕ) (set : Contents) (f : Fault) → IsAccepted bytes set → IsFileFault bytes f → ⊥
 accepted_well law bytes set Nothing a h = h
 accepted_well law bytes set (Limit c) a h = h
+accepted_well law bytes set (Probe n c) a h = h
 accepted_well law bytes set (Rule n) a h = h
 accepted_well law bytes set (Dossier l c) a h = h
 accepted_well law bytes set (File l c) a (inl big) = omega (arith, a.small, big.0)
@@ -92,10 +93,12 @@ accepted_well law bytes set (Edge t e) a h =
 pub fault_one : TextsReadAsOneSet → (bytes : List ℕ) (f g : Fault) → IsFileFault bytes f → IsFileFault bytes g → f ≡ g
 fault_one law bytes Nothing g h k = absurd h
 fault_one law bytes (Limit c) g h k = absurd h
+fault_one law bytes (Probe n c) g h k = absurd h
 fault_one law bytes (Rule n) g h k = absurd h
 fault_one law bytes (Dossier l c) g h k = absurd h
 fault_one law bytes (File l c) Nothing h k = absurd k
 fault_one law bytes (File l c) (Limit d) h k = absurd k
+fault_one law bytes (File l c) (Probe n d) h k = absurd k
 fault_one law bytes (File l c) (Rule n) h k = absurd k
 fault_one law bytes (File l c) (Dossier m d) h k = absurd k
 fault_one law bytes (File l c) (File m d) (inl big) (inl more) = same_place l c m d (big.1 ∙ sym more.1) (big.2 ∙ sym more.2)
@@ -106,6 +109,7 @@ fault_one law bytes (File l c) (Edge t e) (inl big) k = absurd (omega (arith, bi
 fault_one law bytes (File l c) (Edge t e) (inr text) k = absurd (text.1.reads_as_none k.set k.reads)
 fault_one law bytes (Edge t e) Nothing h k = absurd k
 fault_one law bytes (Edge t e) (Limit d) h k = absurd k
+fault_one law bytes (Edge t e) (Probe n d) h k = absurd k
 fault_one law bytes (Edge t e) (Rule n) h k = absurd k
 fault_one law bytes (Edge t e) (Dossier m d) h k = absurd k
 fault_one law bytes (Edge t e) (File l c) h (inl big) = absurd (omega (arith, big.0, h.small))

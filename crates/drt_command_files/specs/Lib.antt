@@ -1,2 +1,3 @@
 pub mod TaskFiles
 pub mod Dossiers
+pub mod Spots

@@ -7,7 +7,7 @@ use Rattle.drt_graph.specs.Past.{IsFirstPast}
 use Rattle.drt_command.specs.declared.input.Input.{Input}
 use Rattle.drt_command.specs.declared.input.Input.TheVariants.{AtMost}
 use Rattle.drt_outcome.specs.declared.fault.Fault.{Fault}
-use Rattle.drt_outcome.specs.declared.fault.Fault.TheVariants.{Nothing, File, Edge, Limit, Rule, Dossier}
+use Rattle.drt_outcome.specs.declared.fault.Fault.TheVariants.{Nothing, File, Edge, Limit, Probe, Rule, Dossier}
 
 -- A task file has at most so many bytes.
 abbrev pub most_bytes : ℕ
@@ -32,6 +32,7 @@ IsFileFault bytes Nothing = ⊥
 IsFileFault bytes (File line code) = ((most_bytes < length bytes) × (line ≡ 0) × (code ≡ 23)) ⊎ ((length bytes ≤ most_bytes) × HasFault bytes line code)
 IsFileFault bytes (Edge task edge) = IsPastIn bytes task edge
 IsFileFault bytes (Limit code) = ⊥
+IsFileFault bytes (Probe add code) = ⊥
 IsFileFault bytes (Rule number) = ⊥
 IsFileFault bytes (Dossier line code) = ⊥
 

@@ -1,6 +1,6 @@
+mod InputLemmas
 mod NoLemmas
 mod ReachedLemmas
 mod ResponseLemmas
 mod ResponsePromises
-mod SpotLemmas
 mod TimelinePromises

@@ -18,9 +18,10 @@ use Rattle.drt_responses.specs.declared.response.Response.{Response}
 use Rattle.drt_command_timeline.specs.Inputs.{IsCutAt, IsInput}
 use Rattle.drt_command_timeline.specs.Drawn.{IsDrawn}
 use Rattle.drt_command_timeline.specs.Reached.{IsReached}
-use Rattle.drt_command_timeline.specs.Response.{DrawsIn, DrawsResponse, IsFaultIn, IsResponseFault, IsTextFault, IsUnreached, NamesNone, response_of}
-use Rattle.drt_command_timeline.specs.Spots.{IsSpot}
-use Rattle.drt_command_timeline.proofs.SpotLemmas.{rest_all}
+use Rattle.drt_command_timeline.specs.Response.{DrawsIn, DrawsResponse, IsFaultIn, IsResponseFault, IsTextFault, IsUnreached, response_of}
+use Rattle.drt_command_files.specs.Spots.{NamesNone}
+use Rattle.drt_command_files.specs.Spots.{IsSpot}
+use Rattle.drt_command_timeline.proofs.InputLemmas.{rest_all}
 
 -- An error that is passed on.
 pub passed : {T : Type 0} (P : Unmade → Type 0) (r : Result T Unmade) (e : Unmade) → IsErrAnd r (λ y. y ≡ e) → P e → IfErr r P

@@ -13,8 +13,9 @@ use Rattle.drt_responses.specs.Reading.{HasTextFault, IsTextOf}
 use Rattle.drt_responses.specs.declared.response.Response.{Response}
 use Rattle.drt_command_timeline.specs.Inputs.{IsInput}
 use Rattle.drt_command_timeline.specs.Response.{HasNoSpot, IsFaultOfFile, IsFaultOfText, IsNotReached, IsResponseFault, IsShown, IsUnreached, response_of, response_timeline_rules}
-use Rattle.drt_command_timeline.specs.Spots.{IsSpot}
-use Rattle.drt_command_timeline.proofs.SpotLemmas.{input_one, spot_one}
+use Rattle.drt_command_files.specs.Spots.{IsSpot}
+use Rattle.drt_command_files.proofs.SpotLemmas.{spot_one}
+use Rattle.drt_command_timeline.proofs.InputLemmas.{input_one}
 
 too_long : (bytes file text : List ℕ) → most_dossier_bytes < length bytes → IsInput bytes file text → ⊥
 too_long bytes file text big input = let small = input.small in omega (arith, big, small)

@@ -13,7 +13,7 @@ use Rattle.drt_command_check.specs.Check.{Checks, IsDossierFault, IsJudgementOf,
 use Rattle.drt_command_check.proofs.CheckLemmas.{dossier_fault_one, judged_well}
 use Rattle.drt_outcome.specs.Stops.{fault_status}
 use Rattle.drt_outcome.specs.declared.fault.Fault.{Fault}
-use Rattle.drt_outcome.specs.declared.fault.Fault.TheVariants.{Nothing, File, Edge, Limit, Rule, Dossier}
+use Rattle.drt_outcome.specs.declared.fault.Fault.TheVariants.{Nothing, File, Edge, Limit, Probe, Rule, Dossier}
 use Rattle.drt_outcome.specs.declared.outcome.Trail.TheVariants as trails
 use Rattle.drt_command_timeline.specs.Timeline.{DrawsNo, IsTimelineFault, TimelineEnds, timeline_rules, timeline_status}
 
@@ -70,6 +70,7 @@ refused_ends bytes Nothing h s is small = absurd h
 refused_ends bytes (File l c) h s is small = absurd h
 refused_ends bytes (Edge t e) h s is small = absurd h
 refused_ends bytes (Limit c) h s is small = absurd h
+refused_ends bytes (Probe n c) h s is small = absurd h
 refused_ends bytes (Rule n) h s is small =
     let e = sym (h.dossier.only s is) in
     (judgements.Rejected n, subst (λ t. IsJudged t (judgements.Rejected n)) e h.judged, tt, refl)

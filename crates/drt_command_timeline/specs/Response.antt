@@ -16,15 +16,11 @@ use Rattle.drt_responses.specs.declared.response.Response.{Response}
 use Rattle.drt_command_timeline.specs.Drawn.{IsDrawn}
 use Rattle.drt_command_timeline.specs.Inputs.{IsInput}
 use Rattle.drt_command_timeline.specs.Reached.{IsReached}
-use Rattle.drt_command_timeline.specs.Spots.{IsSpot}
+use Rattle.drt_command_files.specs.Spots.{IsSpot, NamesNone}
 
 -- The first of the responses that is of this vertex of this task.
 abbrev pub response_of : ℕ → ℕ → List Response → Option Response
 response_of k v responses = find (λ r. r.task == k && r.vertex == v) responses
-
--- No vertex of a task has these names.
-abbrev pub NamesNone : List ℕ → List ℕ → List Task → Type 0
-NamesNone task vertex tasks = (k v : ℕ) → ¬ IsSpot tasks task vertex k v
 
 -- Of these responses, this is that of the named vertex, and it is reached.
 pub record IsShownIn (task vertex : List ℕ) (tasks : List Task) (responses : List Response) (r : Response) : Type 0 where

@@ -10,7 +10,6 @@ mod inputs;
 mod no;
 mod reached;
 mod response;
-mod spots;
 
 pub use no::{NO_RELEASES, Timeline};
-pub use response::{NO_RESPONSES, NO_SPOT, REACHED_RESPONSE, ResponseTimeline};
+pub use response::{NO_RESPONSES, REACHED_RESPONSE, ResponseTimeline};

@@ -15,21 +15,17 @@ use crate::drawing::draw;
 use crate::inputs::cut_at;
 use crate::no::MOST_BYTES;
 use crate::reached::{is_reached, response_of};
-use crate::spots::spot_of;
 use drt_command::{Command, Input, Report, Unmade};
-use drt_command_files::read_set;
+use drt_command_files::{read_set, spot_of};
 use drt_file::laws::texts_read_as_one_set;
 use drt_model::{Policy, Row, TaskSet};
-use drt_outcome::fault::{DOSSIER_TOO_LONG, Fault, TOO_LONG};
+use drt_outcome::fault::{DOSSIER_TOO_LONG, Fault, NO_SUCH_VERTEX, TOO_LONG};
 use drt_outcome::outcome::{Trail, YES};
 use drt_responses::{Response, ResponseError};
 use std::alloc::Global;
 
 /// The code of bytes that are no text of responses.
 pub const NO_RESPONSES: u8 = 6;
-
-/// The code of names that no task has, or no vertex of it.
-pub const NO_SPOT: u8 = 27;
 
 /// The rule that a response is reached by its releases.
 pub const REACHED_RESPONSE: u8 = 31;
@@ -124,7 +120,7 @@ fn draw_named(
 {
     let (task, vertex) = match spot_of(set, command.task.as_slice(), command.vertex.as_slice()) {
         Some(spot) => spot,
-        None => return Err(Unmade::Refused(Fault::Limit { code: NO_SPOT })),
+        None => return Err(Unmade::Refused(Fault::Limit { code: NO_SUCH_VERTEX })),
     };
     match response_of(responses, task, vertex) {
         Some(response) => draw_response(alloc, command.svg, set, response),

@@ -1,7 +1,7 @@
 -- What the program says of an outcome on standard error.
 use Rattle.std.specs.Prelude.{ℕ, List, [], ◌++◌, ◌==◌, ◌||◌, if◌then◌else◌, codes, decimal}
 use Rattle.drt_outcome.specs.declared.fault.Fault.{Fault}
-use Rattle.drt_outcome.specs.declared.fault.Fault.TheVariants.{Nothing, File, Edge, Limit, Rule, Dossier}
+use Rattle.drt_outcome.specs.declared.fault.Fault.TheVariants.{Nothing, File, Edge, Limit, Probe, Rule, Dossier}
 
 -- The line of a refused input: where its fault is, and its code. A separation below a deadline has code 20.
 abbrev pub fault_notice : Fault → List ℕ
@@ -9,6 +9,7 @@ fault_notice Nothing = []
 fault_notice (File line code) = codes "drt: line " ++ decimal line ++ codes ": fault " ++ decimal code ++ codes "\n"
 fault_notice (Edge task edge) = codes "drt: task " ++ decimal task ++ codes ": edge " ++ decimal edge ++ codes ": fault 20\n"
 fault_notice (Limit code) = codes "drt: fault " ++ decimal code ++ codes "\n"
+fault_notice (Probe add code) = codes "drt: add " ++ decimal add ++ codes ": fault " ++ decimal code ++ codes "\n"
 fault_notice (Rule number) = codes "drt: evidence rejected by rule " ++ decimal number ++ codes "\n"
 fault_notice (Dossier line code) = codes "drt: dossier line " ++ decimal line ++ codes ": fault " ++ decimal code ++ codes "\n"
 

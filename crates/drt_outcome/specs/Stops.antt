@@ -17,6 +17,7 @@ fault_status faults.Nothing = 4
 fault_status (faults.File line code) = 4
 fault_status (faults.Edge task edge) = 4
 fault_status (faults.Limit code) = 4
+fault_status (faults.Probe add code) = 4
 fault_status (faults.Rule number) = 9
 fault_status (faults.Dossier line code) = 10
 

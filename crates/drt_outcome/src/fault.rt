@@ -15,6 +15,8 @@ pub enum Fault {
     Edge { task: u32, edge: u32 },
     /// The analysis has a limit that the set passes.
     Limit { code: u8 },
+    /// The analysis has a limit that the set passes with so many ticks added to an execution time.
+    Probe { add: u32, code: u8 },
     /// The evidence of the dossier breaks rules, of which this is the least number.
     Rule { number: u8 },
     /// The dossier has the fault of this code at this line, counted from 1, or at line 0 a fault of the whole dossier.
@@ -33,14 +35,19 @@ pub const SCALE_TOO_FINE: u8 = 21;
 /// The code of a set whose horizon exceeds 2^40.
 pub const HORIZON_TOO_FAR: u8 = 22;
 
+/// The code of a task or a vertex that the set doesn't have.
+pub const NO_SUCH_VERTEX: u8 = 27;
+
 /// The status of an input with this fault.
 pub fn fault_status(fault: Fault) -> u8
     ensures { result ≡ fault_status fault }
 {
     match fault {
-        Fault::Nothing | Fault::File { .. } | Fault::Edge { .. } | Fault::Limit { .. } => {
-            FILE_REFUSED
-        }
+        Fault::Nothing
+        | Fault::File { .. }
+        | Fault::Edge { .. }
+        | Fault::Limit { .. }
+        | Fault::Probe { .. } => FILE_REFUSED,
         Fault::Rule { .. } => EVIDENCE_REJECTED,
         Fault::Dossier { .. } => DOSSIER_REFUSED,
     }

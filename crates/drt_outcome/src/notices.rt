@@ -50,6 +50,11 @@ fn fault_notice(alloc: Global, fault: Fault) -> Result<Row<u8>, Memory>
             push(&mut text, b"drt: fault ", u32::from(code))?;
             text.push(b'\n')?;
         }
+        Fault::Probe { add, code } => {
+            push(&mut text, b"drt: add ", add)?;
+            push(&mut text, b": fault ", u32::from(code))?;
+            text.push(b'\n')?;
+        }
         Fault::Rule { number } => {
             push(
                 &mut text,

@@ -45,6 +45,13 @@ pub enum Trail {
         vertex: u32,
         taken: Row<Row<u32>>,
     },
+    /// The refinement at this vertex of this task, with these tasks and no others of higher priority, spent it, by the steps of this log.
+    Assign {
+        higher: Row<u32>,
+        task: u32,
+        vertex: u32,
+        log: Row<FrontierEntry>,
+    },
 }
 
 /// The schedulable set's status.

@@ -1,6 +1,6 @@
 use Rattle.std.proofs.Common.{◌≡◌, ◌-◌, ◌⊎◌, inl, inr, arith, refl, sym, ◌∙◌}
 use Rattle.std.specs.Prelude.{slice_index}
-use Rattle.drt_command_timeline.proofs.SpotLemmas.{no_marker, rest_all}
+use Rattle.drt_command_timeline.proofs.InputLemmas.{no_marker, rest_all}
 use Rattle.drt_command_timeline.proofs.inputs.begins_at.Goals as goal
 use Rattle.drt_command_timeline.proofs.inputs.begins_at.Goals.{else-at-gt0-via-then-at-gt0+else-bytes-at-ne10, else-at-gt0-via-else-at-gt0}
 

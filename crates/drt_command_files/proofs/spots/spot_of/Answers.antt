@@ -1,5 +1,5 @@
-use Rattle.drt_command_timeline.proofs.SpotLemmas.{no_task_spot, no_vertex_spot}
-use Rattle.drt_command_timeline.proofs.spots.spot_of.Goals as goal
+use Rattle.drt_command_files.proofs.SpotLemmas.{no_task_spot, no_vertex_spot}
+use Rattle.drt_command_files.proofs.spots.spot_of.Goals as goal
 
 pub returns-in_err-k : goal.returns-in_err-k
 returns-in_err-k c =

@@ -2,13 +2,13 @@
 ghost use Rattle.std.specs.Prelude.{ℕ, MatchOption};
 ghost use Rattle.drt_model.specs.declared.tasks.Task.{Task};
 ghost use Rattle.drt_model.specs.declared.tasks.Vertex.{Vertex};
-ghost use Rattle.drt_command_timeline.specs.Spots.{IsNamed, IsSpot};
+ghost use Rattle.drt_command_files.specs.Spots.{IsNamed, IsSpot, NamesNone};
 
 use drt_model::{Task, TaskSet, Vertex};
 
-// The places of the task and the vertex with these names.
-pub(crate) fn spot_of(set: &TaskSet, task: &[u8], vertex: &[u8]) -> Option<(usize, usize)>
-    ensures { MatchOption result ((k v : ℕ) → ¬ IsSpot set.now.tasks task.now vertex.now k v) (λ p. IsSpot set.now.tasks task.now vertex.now p.0 p.1) }
+/// The places of the task and the vertex with these names.
+pub fn spot_of(set: &TaskSet, task: &[u8], vertex: &[u8]) -> Option<(usize, usize)>
+    ensures { MatchOption result (NamesNone task.now vertex.now set.now.tasks) (λ p. IsSpot set.now.tasks task.now vertex.now p.0 p.1) }
 {
     let (k, of) = task_named(set.tasks(), task)?;
     let v = vertex_named(of.vertices.as_slice(), vertex)?;

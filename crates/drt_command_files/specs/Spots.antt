@@ -15,3 +15,7 @@ pub record IsSpot (tasks : List Task) (task vertex : List ℕ) (k v : ℕ) : Typ
   pub task_is : IsNamed (λ t. t.name) tasks task k of
   pub at : Vertex
   pub vertex_is : IsNamed (λ w. w.name) of.vertices vertex v at
+
+-- No vertex of a task has these names.
+abbrev pub NamesNone : List ℕ → List ℕ → List Task → Type 0
+NamesNone task vertex tasks = (k v : ℕ) → ¬ IsSpot tasks task vertex k v

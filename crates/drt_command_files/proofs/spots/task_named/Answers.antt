@@ -1,8 +1,8 @@
 use Rattle.std.proofs.Common.{◌≡◌, ◌≤◌, Some, arith, length, rules, slice_get}
 use Rattle.std.proofs.lemmas.Option.{slice_get-get_or}
 use Rattle.drt_model.specs.declared.tasks.Task.{Task}
-use Rattle.drt_command_timeline.proofs.SpotLemmas.{named_here, named_none, none_more}
-use Rattle.drt_command_timeline.proofs.spots.task_named.Goals as goal
+use Rattle.drt_command_files.proofs.SpotLemmas.{named_here, named_none, none_more}
+use Rattle.drt_command_files.proofs.spots.task_named.Goals as goal
 
 pub returns-then-eq : goal.returns-then-eq
 returns-then-eq c =
