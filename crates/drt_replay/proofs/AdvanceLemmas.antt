@@ -1,5 +1,5 @@
 -- One event: what was kept before it is kept after it.
-use Rattle.std.proofs.Common.{◌≡◌, ℕ, ◌+◌, ◌-◌, ◌<◌, ◌≤◌, cond, eqb, [], List, length, get_or, set, All, Option, Some, None, subst, arith}
+use Rattle.std.proofs.Common.{◌≡◌, ℕ, ◌+◌, ◌-◌, ◌<◌, ◌≤◌, cond, eqb, [], List, length, get_or, set, All, Some, None, subst, arith}
 use Rattle.drt_model.specs.declared.jobs.Job.{Job}
 use Rattle.drt_model.specs.declared.jobs.Policy.{Policy}
 use Rattle.drt_model.specs.Trace.{job_at, pick}
@@ -7,7 +7,7 @@ use Rattle.drt_replay.specs.Queue.{Held}
 use Rattle.drt_replay.specs.Board.{IsLeft, AreFinishes}
 use Rattle.drt_replay.specs.declared.stretch.Stretch.{Stretch}
 use Rattle.drt_replay.specs.Events.{AreLater, IsCleared, IsFirstLeft, IsFrom, IsMoved, IsQueued}
-use Rattle.drt_replay.proofs.EventLemmas.{IsCalm, calm_up_to, jump_left, jump_finishes, idle_left, idle_finishes}
+use Rattle.drt_replay.proofs.EventLemmas.{IsCalm, calm_up_to, runs_through, idle_through, jump_left, jump_finishes, idle_left, idle_finishes}
 use Rattle.drt_replay.proofs.BoardLemmas.{picked_in_range}
 use Rattle.drt_replay.proofs.PickLemmas.{queued_moved, queued_cleared, first_pick, no_pick, calm_before, queued_later, queued_idle}
 
@@ -37,6 +37,9 @@ module _ (policy : Policy) (jobs : List Job) (now : ℕ) (lefts : List ℕ) (sho
           pub run_left : IsLeft policy jobs (now + count) (set lefts j (get_or lefts j 0 - count))
           run_left = jump_left policy jobs now lefts shown j count runs (calm count in_time) some enough
 
+          pub run_picks : (i : ℕ) → now ≤ i → i < now + count → pick policy jobs i ≡ Some j
+          run_picks i from until = runs_through policy jobs now j runs count (calm count in_time) (omega (arith, run_here, shown.as_many, shown.each j (omega (arith, run_here, shown.as_many)))) i from until
+
           pub run_finishes : (ends : List ℕ) → AreFinishes policy jobs now lefts ends
               → AreFinishes policy jobs (now + count) (set lefts j (get_or lefts j 0 - count)) (cond (eqb (get_or lefts j 0) count) (set ends j (now + count)) ends)
           run_finishes ends ok = jump_finishes policy jobs now lefts shown j count runs (calm count in_time) some enough ends ok
@@ -51,6 +54,9 @@ module _ (policy : Policy) (jobs : List Job) (now : ℕ) (lefts : List ℕ) (sho
 
         distance : now + (next - now) ≡ next
         distance = omega arith
+
+        pub rest_picks : (i : ℕ) → now ≤ i → i < next → pick policy jobs i ≡ None
+        rest_picks i from until = idle_through policy jobs now (next - now) idle (calm (next - now) (omega arith)) i from (omega arith)
 
         pub rest_left : IsLeft policy jobs next lefts
         rest_left = subst (λ n. IsLeft policy jobs n lefts) distance (idle_left policy jobs now lefts shown (next - now) idle (calm (next - now) (omega arith)))

@@ -1,5 +1,5 @@
 -- Many ticks at once: while nothing is released and the running job isn't done, it runs on.
-use Rattle.std.proofs.Common.{inl, inr, ◌≡◌, ℕ, zero, suc, ◌+◌, ◌-◌, ◌<◌, ◌≤◌, List, length, get_or, set, cond, Option, Some, None, refl, sym, ◌∙◌, subst, arith, eqb}
+use Rattle.std.proofs.Common.{inl, inr, ◌≡◌, ℕ, zero, suc, ◌+◌, ◌-◌, ◌<◌, ◌≤◌, List, length, get_or, set, cond, Some, None, refl, sym, ◌∙◌, subst, arith, eqb}
 use Rattle.std.proofs.lemmas.Bool.{cases_eq, cases_lt, eq-eqb, ne_eqb}
 use Rattle.std.proofs.lemmas.List.{get_or-set_same, get_or-set_other, length-set}
 use Rattle.drt_model.specs.declared.jobs.Job.{Job}
@@ -7,7 +7,7 @@ use Rattle.drt_model.specs.declared.jobs.Policy.{Policy}
 use Rattle.drt_model.specs.Trace.{job_at, pick, done, IsFinish}
 use Rattle.drt_model.proofs.MachineLemmas.{pick_pending, in_range, done-picked, done-other, done-idle, done_mono_le}
 use Rattle.drt_model.proofs.Unique.{pick_stays, idle_stays}
-use Rattle.drt_replay.specs.Board.{IsLeft, AreFinishes, IsFinishSoFar}
+use Rattle.drt_replay.specs.Board.{IsLeft, AreFinishes}
 
 -- nothing is released after n and before n + m
 pub record IsCalm (jobs : List Job) (n m : ℕ) : Type 0 where
@@ -27,6 +27,12 @@ module _ (policy : Policy) (jobs : List Job) (n : ℕ) where
         let s : n + suc i ≡ suc (n + i) = omega arith in
         let next = pick_stays policy jobs (n + i) j p (omega arith) (λ k l t. omega (arith, c.calm k l (omega arith))) in
         rw s (next, omega (arith, done-picked policy jobs (n + i) j p))
+
+    -- job j runs at each of these ticks
+    pub runs_through : (i : ℕ) → n ≤ i → i < n + m → pick policy jobs i ≡ Some j
+    runs_through i from before =
+        let at : n + (i - n) ≡ i = omega arith in
+        subst (λ x. pick policy jobs x ≡ Some j) at (stays (i - n) (omega arith)).0
 
     runs_at : (i : ℕ) → i ≤ m → done policy jobs j (n + i) ≡ done policy jobs j n + i
     runs_at zero h = (let z : n + zero ≡ n = omega arith in rw z (omega arith))
@@ -51,6 +57,12 @@ module _ (policy : Policy) (jobs : List Job) (n : ℕ) where
   idle_on m e c (suc i) h =
       let s : n + suc i ≡ suc (n + i) = omega arith in
       rw s (idle_stays policy jobs (n + i) (idle_on m e c i (omega arith)) (λ k l t. omega (arith, c.calm k l (omega arith))))
+
+  -- the machine is idle at each of these ticks
+  pub idle_through : (m : ℕ) → pick policy jobs n ≡ None → IsCalm jobs n m → (i : ℕ) → n ≤ i → i < n + m → pick policy jobs i ≡ None
+  idle_through m e c i from before =
+      let at : n + (i - n) ≡ i = omega arith in
+      subst (λ x. pick policy jobs x ≡ None) at (idle_on m e c (i - n) (omega arith))
 
   pub idle_done : (m : ℕ) → pick policy jobs n ≡ None → IsCalm jobs n m → (k : ℕ) (i : ℕ) → i ≤ m → done policy jobs k (n + i) ≡ done policy jobs k n
   idle_done m e c k zero h = (let z : n + zero ≡ n = omega arith in rw z refl)

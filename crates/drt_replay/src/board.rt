@@ -3,6 +3,7 @@ ghost use Rattle.std.specs.Prelude.{◌≡◌, ℕ, ◌+◌, ◌^◌, ◌<◌, �
 ghost use Rattle.drt_model.specs.Legal.{IsLegal};
 ghost use Rattle.drt_model.specs.Misses.{IsJob, IsLeastMiss};
 ghost use Rattle.drt_model.specs.Schedulable.{jobs_of};
+ghost use Rattle.drt_model.specs.Trace.{job_at, pick};
 
 use crate::events::advance;
 use crate::jobs::Jobs;
@@ -10,7 +11,7 @@ use crate::late::{earlier, index_of, is_late, place_of};
 use crate::made::{all_waiting, no_finishes};
 use crate::queue::Queue;
 use crate::stretch::Stretch;
-use drt_model::{Memory, Miss, Policy, Release, TaskSet};
+use drt_model::{Job, Memory, Miss, Policy, Release, TaskSet};
 use std::alloc::Global;
 use std::marker::Model;
 
@@ -76,18 +77,20 @@ impl<'a> Board<'a> {
         ensures { self.new ≡ record self.old { ticks = t } }
     {
         while self.ticks < t {
-            self.run_to_event(t);
+            let _ = self.run_to_change(t);
         }
     }
 
-    // Runs ticks up to the next event, at most until `t` have run.
-    fn run_to_event(&mut self, t: u64)
+    /// Runs ticks up to the next event, at most until `t` have run, and says what ran in them: the place of one job, or none
+    /// where the processor is idle. An event is a release, a finish of the running job, or tick `t`.
+    pub fn run_to_change(&mut self, t: u64) -> Option<usize>
         requires { self.old.ticks < t }
         ensures kept { self.new ≡ record self.old { ticks = self.new.ticks } }
         ensures forward { self.old.ticks < self.new.ticks }
         ensures in_time { self.new.ticks ≤ t }
+        ensures ran { (i : ℕ) → self.old.ticks ≤ i → i < self.new.ticks → pick self.old.policy self.old.jobs i ≡ result }
     {
-        self.ticks = advance(
+        let run = advance(
             self.policy,
             &self.jobs,
             &mut self.left,
@@ -97,6 +100,30 @@ impl<'a> Board<'a> {
             self.ticks,
             t,
         );
+        self.ticks = run.until;
+        run.job
+    }
+
+    /// How many ticks have run.
+    pub fn ticks(&self) -> u64
+        ensures { result ≡ self.now.ticks }
+    {
+        self.ticks
+    }
+
+    /// How many jobs there are.
+    pub fn count(&self) -> usize
+        ensures { result ≡ length self.now.jobs }
+    {
+        self.jobs.count()
+    }
+
+    /// The job at a place.
+    pub fn job(&self, j: usize) -> Job
+        requires { j < length self.now.jobs }
+        ensures { result ≡ job_at self.now.jobs j }
+    {
+        self.jobs.job(j)
     }
 
     /// The first miss among the deadlines that have come: that of least deadline, then of least task, then of
@@ -123,8 +150,8 @@ impl<'a> Board<'a> {
         self.finish_at(place_of(&self.jobs, task, index))
     }
 
-    // After how many ticks the job at a place had its need; none while it lacks ticks.
-    fn finish_at(&self, j: usize) -> Option<u64>
+    /// After how many ticks the job at a place had its need; none while it lacks ticks.
+    pub fn finish_at(&self, j: usize) -> Option<u64>
         requires { j < length self.now.jobs }
         ensures { IsFinishSoFar self.now.policy self.now.jobs self.now.ticks j result }
     {

@@ -1,7 +1,7 @@
 //! From event to event: many ticks at once.
 ghost use Rattle.std.specs.Prelude.{◌≡◌, ℕ, ◌+◌, ◌-◌, ◌^◌, ◌<◌, ◌≤◌, ◌==◌, if◌then◌else◌, [], All, MatchOption, length, slice_index, slice_set};
 ghost use Rattle.std.specs.Bool.{MatchBool};
-ghost use Rattle.drt_model.specs.Trace.{job_at};
+ghost use Rattle.drt_model.specs.Trace.{job_at, pick};
 ghost use Rattle.drt_replay.specs.Board.{IsLeft, AreFinishes};
 ghost use Rattle.drt_replay.specs.Events.{AreLater, IsCleared, IsFirstLeft, IsFrom, IsLater, IsMoved, IsQueued, IsReady, IsReleased, IsStretch, count_of, ready_key};
 
@@ -10,7 +10,14 @@ use crate::queue::{Key, Queue};
 use crate::stretch::Stretch;
 use drt_model::Policy;
 
-/// Runs ticks up to the next event, at most until `t` have run, and says how many have.
+/// A run of the processor on one job, or its rest: until so many ticks have run.
+#[derive(Debug, Clone, Copy, PartialEq, Eq)]
+pub struct Run {
+    pub until: u64,
+    pub job: Option<usize>,
+}
+
+/// Runs ticks up to the next event, at most until `t` have run: the place of the job that had them, and none where the processor is idle.
 pub fn advance(
     policy: Policy,
     jobs: &Jobs,
@@ -20,26 +27,33 @@ pub fn advance(
     ready: &mut Queue,
     ticks: u64,
     t: u64,
-) -> u64
+) -> Run
     requires ahead { ticks < t }
     requires needs { (j : ℕ) → j < length jobs.now → 1 ≤ (job_at jobs.now j).need }
     requires left { IsLeft policy jobs.now ticks left.old }
     requires finishes { AreFinishes policy jobs.now ticks left.old finishes.old }
     requires queued { IsQueued policy jobs.now ticks left.old waiting.old ready.old }
-    ensures forward { ticks < result }
-    ensures in_time { result ≤ t }
-    ensures left { IsLeft policy jobs.now result left.new }
-    ensures finishes { AreFinishes policy jobs.now result left.new finishes.new }
-    ensures queued { IsQueued policy jobs.now result left.new waiting.new ready.new }
+    ensures forward { ticks < result.until }
+    ensures in_time { result.until ≤ t }
+    ensures ran { (i : ℕ) → ticks ≤ i → i < result.until → pick policy jobs.now i ≡ result.job }
+    ensures left { IsLeft policy jobs.now result.until left.new }
+    ensures finishes { AreFinishes policy jobs.now result.until left.new finishes.new }
+    ensures queued { IsQueued policy jobs.now result.until left.new waiting.new ready.new }
 {
     release(policy, jobs, waiting, ready, ticks);
     let next = next_release(jobs, waiting, ticks, t);
     match first_ready(ready, left) {
         Some(j) => {
             let count = run_job(left, finishes, j, ticks, next);
-            ticks + count
+            Run {
+                until: ticks + count,
+                job: Some(j),
+            }
         }
-        None => next,
+        None => Run {
+            until: next,
+            job: None,
+        },
     }
 }
 

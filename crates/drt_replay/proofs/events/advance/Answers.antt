@@ -1,7 +1,7 @@
 use Rattle.std.proofs.Common.{◌+◌, sym, subst, arith}
 use Rattle.drt_replay.specs.Board.{IsLeft, AreFinishes}
 use Rattle.drt_replay.specs.Events.{IsQueued}
-use Rattle.drt_replay.proofs.AdvanceLemmas.{ready_here, run_here, run_left, run_finishes, run_queued, rest_left, rest_finishes, rest_queued}
+use Rattle.drt_replay.proofs.AdvanceLemmas.{ready_here, run_here, run_picks, run_left, run_finishes, run_queued, rest_picks, rest_left, rest_finishes, rest_queued}
 use Rattle.drt_replay.proofs.events.advance.Goals as goal
 
 pub first_ready-requires : goal.first_ready-requires
@@ -26,6 +26,14 @@ run_job-count-requires-clause-in_finishes c =
 
 pub run_job-count-requires-clause-some_left : goal.run_job-count-requires-clause-some_left
 run_job-count-requires-clause-some_left c = c.in-Some.ensures.found.some_left
+
+pub returns-in-Some-clause-ran : goal.returns-in-Some-clause-ran
+returns-in-Some-clause-ran c =
+    run_picks c.args.policy c.args.jobs.now c.args.ticks c.args.left.now c.requires.left c.args.waiting.now c.args.ready.now
+    c.release.new.waiting c.release.new.ready c.requires.queued c.release.ensures.moved c.release.ensures.later
+    c.first_ready.new.ready c.in-Some.ensures.cleared c.requires.needs c.next_release-next.result
+    c.next_release-next.ensures.calm c.in-Some.j c.in-Some.ensures.found c.run_job-count.result c.run_job-count.ensures.some
+    c.run_job-count.ensures.in_time c.run_job-count.ensures.at_most
 
 pub returns-in-Some-clause-left : goal.returns-in-Some-clause-left
 returns-in-Some-clause-left c =
@@ -54,6 +62,13 @@ returns-in-Some-clause-queued c =
     c.first_ready.new.ready c.in-Some.ensures.cleared c.requires.needs c.next_release-next.result
     c.next_release-next.ensures.calm c.in-Some.j c.in-Some.ensures.found c.run_job-count.result c.run_job-count.ensures.some
     c.run_job-count.ensures.in_time c.run_job-count.ensures.at_most)
+
+pub returns-in-None-clause-ran : goal.returns-in-None-clause-ran
+returns-in-None-clause-ran c =
+    rest_picks c.args.policy c.args.jobs.now c.args.ticks c.args.left.now c.requires.left c.args.waiting.now c.args.ready.now
+    c.release.new.waiting c.release.new.ready c.requires.queued c.release.ensures.moved c.release.ensures.later
+    c.first_ready.new.ready c.in-None.ensures.cleared c.requires.needs c.next_release-next.result
+    c.next_release-next.ensures.calm c.in-None.ensures.found c.next_release-next.ensures.later
 
 pub returns-in-None-clause-left : goal.returns-in-None-clause-left
 returns-in-None-clause-left c =

@@ -1,9 +1,9 @@
 use Rattle.std.proofs.Common.{inl, inr, ◌<◌, length, set, arith, subst, sym}
 use Rattle.std.proofs.lemmas.Bool.{cases_eq}
 use Rattle.std.proofs.lemmas.List.{get_or-set_same, get_or-set_other}
-use Rattle.std.proofs.lemmas.List.Elements.{All-from_get_or, All-get_or}
-use Rattle.drt_replay.specs.Events.{IsLater, IsStretch, stretch_at}
-use Rattle.drt_replay.proofs.Stretches.{moved_none, moved_more, room_for, no_stretch}
+use Rattle.std.proofs.lemmas.List.Elements.{All-from_get_or}
+use Rattle.drt_replay.specs.Events.{IsLater, stretch_at}
+use Rattle.drt_replay.proofs.Stretches.{moved_none, moved_more, no_stretch}
 use Rattle.drt_replay.proofs.events.release.Goals as goal
 
 pub loop-i-init : goal.loop-i-init

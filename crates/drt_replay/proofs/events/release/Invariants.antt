@@ -1,4 +1,4 @@
-use Rattle.std.proofs.Common.{ℕ, ◌<◌, ◌≡◌, length, get_or}
+use Rattle.std.proofs.Common.{ℕ, ◌<◌}
 use Rattle.drt_replay.specs.Events.{IsLater, IsMoved, stretch_at}
 use Rattle.drt_replay.proofs.events.release.Given as goal
 

@@ -1,4 +1,4 @@
-use Rattle.std.proofs.Common.{◌≤◌, ◌-◌}
+use Rattle.std.proofs.Common.{◌-◌}
 use Rattle.drt_replay.specs.Events.{IsReleased}
 use Rattle.drt_replay.proofs.events.release_from.Given as goal
 

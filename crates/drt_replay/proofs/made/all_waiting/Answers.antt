@@ -1,5 +1,5 @@
 use Rattle.std.proofs.Common.{arith}
-use Rattle.drt_replay.proofs.Stretches.{waiting_none, waiting_more}
+use Rattle.drt_replay.proofs.Stretches.{waiting_more}
 use Rattle.drt_replay.proofs.made.all_waiting.Goals as goal
 
 pub loop-next-preserved : goal.loop-next-preserved

@@ -1,4 +1,4 @@
-use Rattle.std.proofs.Common.{◌≤◌, ◌-◌, length}
+use Rattle.std.proofs.Common.{◌≤◌, ◌-◌}
 use Rattle.drt_replay.specs.Events.{AreWaiting}
 use Rattle.drt_replay.proofs.made.all_waiting.Given as goal
 

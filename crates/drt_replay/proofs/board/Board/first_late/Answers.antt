@@ -1,9 +1,7 @@
-use Rattle.std.proofs.Common.{◌≡◌, ℕ, ◌+◌, ◌<◌, ◌↔◌, IsTrue, MatchOption, length, get_or, sym, ◌∙◌, subst, arith, None}
-use Rattle.std.proofs.lemmas.List.{get_or_read}
+use Rattle.std.proofs.Common.{◌≡◌, ℕ, ◌+◌, ◌<◌, ◌↔◌, IsTrue, MatchOption, length, sym, ◌∙◌, subst, arith}
 use Rattle.std.proofs.lemmas.Option.{same_Some}
 use Rattle.std.proofs.lemmas.Bool.{both_ways}
-use Rattle.drt_model.specs.Trace.{job_at}
-use Rattle.drt_replay.specs.Board.{Shown, IsFinishSoFar, IsLateBy, IsLate, IsEarlier, IsFirstLate}
+use Rattle.drt_replay.specs.Board.{Shown, IsFinishSoFar, IsLateBy, IsLate, IsFirstLate}
 use Rattle.drt_replay.proofs.LateLemmas.{FirstBelow, below-more, below-late, below-all}
 use Rattle.drt_replay.proofs.board.Board.first_late.Goals as goal
 use Rattle.drt_replay.proofs.board.Board.first_late.Goals.{then-is_late, else-is_late}

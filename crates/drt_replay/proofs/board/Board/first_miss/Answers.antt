@@ -1,8 +1,6 @@
-use Rattle.std.proofs.Common.{◌≡◌, sym, ap, ◌∙◌, subst}
-use Rattle.std.proofs.lemmas.List.{get_or_read}
-use Rattle.drt_model.specs.declared.jobs.Job.{Job}
+use Rattle.std.proofs.Common.{◌≡◌, sym, ap, subst}
 use Rattle.drt_model.specs.declared.jobs.Miss.{Miss}
-use Rattle.drt_model.specs.Misses.{IsLeastMiss, index_of}
+use Rattle.drt_model.specs.Misses.{IsLeastMiss}
 use Rattle.drt_replay.specs.Board.{Shown, IsFirstMiss, IsFirstLate}
 use Rattle.drt_replay.proofs.LateLemmas.{first_miss_if, least_if, miss_parts}
 use Rattle.drt_replay.proofs.board.Board.first_miss.Goals as goal

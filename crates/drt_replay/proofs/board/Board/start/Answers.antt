@@ -1,13 +1,12 @@
-use Rattle.std.proofs.Common.{◌≡◌, ℕ, ◌<◌, ◌≤◌, replicate, Option, List, length, sym, ap, ◌∙◌, subst, arith, None}
+use Rattle.std.proofs.Common.{◌≡◌, ℕ, ◌<◌, ◌≤◌, List, length, sym, subst, arith}
 use Rattle.drt_model.specs.declared.jobs.Job.{Job}
 use Rattle.drt_model.specs.Legal.{IsLegal}
 use Rattle.drt_model.specs.Trace.{job_at}
 use Rattle.drt_model.specs.Schedulable.{jobs_of}
-use Rattle.drt_replay.specs.Board.{needs_of}
 use Rattle.drt_model.proofs.JobLemmas.{need_positive, length-jobs_of}
 use Rattle.drt_model.proofs.LegalLemmas.{allowed_if_legal}
 use Rattle.drt_replay.proofs.BoardLemmas.{left-start, finishes-start}
-use Rattle.drt_replay.specs.Events.{AreWaiting, IsQueued}
+use Rattle.drt_replay.specs.Events.{IsQueued}
 use Rattle.drt_replay.proofs.Stretches.{queued-start}
 use Rattle.drt_replay.proofs.board.Board.start.Goals as goal
 
