@@ -1,0 +1,178 @@
+//! `assign`: priorities that make a set schedulable under fixed priorities.
+ghost use Rattle.std.specs.Prelude.{◌≡◌, ◌≢◌, ◌≤◌, ℕ, IfErr, IfOk, map};
+ghost use Rattle.drt_model.specs.Contents.{Contents};
+ghost use Rattle.drt_model.specs.Digraph.{digraph_of};
+ghost use Rattle.drt_io.specs.Causes.{Rose};
+ghost use Rattle.drt_command.specs.declared.input.Input.{Input};
+ghost use Rattle.drt_command.specs.Inputs.{IsWithin};
+ghost use Rattle.drt_command.specs.Rules.{IsCause};
+ghost use Rattle.drt_command.specs.Runs.{IsRun};
+ghost use Rattle.drt_model.specs.declared.jobs.Policy.TheVariants.{Fixed};
+ghost use Rattle.drt_assign.specs.Answers.{IsAssigned};
+ghost use Rattle.drt_evidence.specs.Ranges.{IsInRange};
+ghost use Rattle.drt_evidence.specs.Text.{text};
+ghost use Rattle.drt_evidence.specs.declared.evidence.Evidence.TheVariants.{Undecided};
+ghost use Rattle.drt_sp.specs.Evidence.{under_fixed};
+ghost use Rattle.drt_command_files.specs.Dossiers.{evidence_status};
+ghost use Rattle.drt_command_files.specs.TaskFiles.{IsAccepted};
+ghost use Rattle.drt_command_assign.specs.Assign.{assign_rules};
+ghost use Rattle.drt_command_assign.specs.Besides.{attempt_trail, report_of};
+ghost use Rattle.drt_command_assign.specs.Text.{no_order_text};
+
+use crate::text::print_stuck;
+use drt_assign::{AssignAnswer, Stuck, assign, budgets_suffice_for_assign};
+use drt_command::{Promised, Report, Unmade, finish, read_input, stop_reading};
+use drt_command_files::{file_input, make_report, read_set};
+use drt_evidence::{Dossier, Evidence};
+use drt_file::laws::texts_read_as_one_set;
+use drt_graph::Graphs;
+use drt_io::{Sink, Source};
+use drt_model::{Policy, Row, TaskSet};
+use drt_outcome::Outcome;
+use drt_outcome::outcome::{NO, Trail};
+use drt_pool::Gate;
+use drt_trails::FixedTrail;
+use drt_words::Search;
+use std::alloc::Global;
+use std::sync::Wait;
+use std::thread::Threads;
+
+/// The command `assign`.
+#[derive(Debug, Drop)]
+pub struct Assign {
+    pub search: Search,
+}
+
+impl Promised for Assign {
+    ghost rules = { λ c. assign_rules c.search.budget };
+
+    fn laws(&self) {
+        texts_read_as_one_set();
+        budgets_suffice_for_assign();
+    }
+}
+
+/// Runs `assign`: its input is read, workers make its text, and it is written.
+pub fn conduct<S: Source, K: Sink, G: Gate, R: Threads + Wait + Sync>(
+    rt: &R,
+    alloc: Global,
+    command: &Assign,
+    source: &mut S,
+    sink: &mut K,
+    gate: &G,
+) -> Outcome
+    ensures run { IsRun (assign_rules command.now.search.budget) (S.left source.old) (Rose (S.faults source.old) (S.faults source.new)) (Rose (K.faults sink.old) (K.faults sink.new)) (K.held sink.old) (K.held sink.new) result }
+    ensures unwritten { 4 ≤ result.status → result.status ≢ 7 → sink.new ≡ sink.old }
+    ensures unread { (assign_rules command.now.search.budget).input ≡ Input.Nothing → source.new ≡ source.old }
+{
+    match read_input(alloc, file_input(), source) {
+        Ok(bytes) => {
+            let made = make(rt, alloc, command, bytes.as_slice(), gate);
+            finish(command, bytes.as_slice(), made, sink)
+        }
+        Err(stop) => stop_reading(command, stop),
+    }
+}
+
+// What it makes of its input.
+fn make<G: Gate, R: Threads + Wait + Sync>(
+    rt: &R,
+    alloc: Global,
+    command: &Assign,
+    bytes: &[u8],
+    gate: &G,
+) -> Result<Report, Unmade>
+    requires { IsWithin (assign_rules command.now.search.budget).input bytes.now }
+    ensures makes { IfOk result ((assign_rules command.now.search.budget).makes bytes.now) }
+    ensures unmade { IfErr result (IsCause (assign_rules command.now.search.budget).refuses bytes.now) }
+{
+    let (set, graphs) = read_set(alloc, bytes)?;
+    answer(rt, alloc, bytes, set, &graphs, &command.search, gate)
+}
+
+// The answer to an accepted set, by so many workers and with a budget of steps for each search.
+fn answer<G: Gate, R: Threads + Wait + Sync>(
+    rt: &R,
+    alloc: Global,
+    bytes: &[u8],
+    set: TaskSet,
+    graphs: &Graphs,
+    search: &Search,
+    gate: &G,
+) -> Result<Report, Unmade>
+    requires accepted { IsAccepted bytes.now set }
+    requires graphs { graphs.now ≡ map digraph_of set.tasks }
+    ensures assigns { IfOk result ((assign_rules search.now.budget).makes bytes.now) }
+    ensures unmade { IfErr result (λ e. e ≡ Unmade.Memory) }
+{
+    let budget = u64::from(search.budget());
+    match assign(rt, alloc, set, graphs, search.workers(), budget, gate) {
+        Ok(answer) => report_of(alloc, answer),
+        Err(_) => Err(Unmade::Memory),
+    }
+}
+
+// The report of an answer.
+fn report_of(alloc: Global, answer: AssignAnswer) -> Result<Report, Unmade>
+    requires { (budget : ℕ) × (set : Contents) × IsAssigned set budget answer }
+    ensures report { IfOk result (λ m. m ≡ report_of answer) }
+    ensures unmade { IfErr result (λ e. e ≡ Unmade.Memory) }
+{
+    match answer {
+        AssignAnswer::Done(dossier) => dossier_report(alloc, dossier),
+        AssignAnswer::NoOrder { set, stuck } => stuck_report(alloc, &set, stuck.as_slice()),
+        AssignAnswer::Undecided {
+            set,
+            higher,
+            task: _,
+            trail,
+        } => open_report(alloc, set, attempt_trail(higher, trail)),
+        AssignAnswer::Unproved { set, trail } => {
+            open_report(alloc, set, drt_command_sp::make_trail(trail))
+        }
+    }
+}
+
+// The report of a set with the priorities that were found: its dossier, which is a yes.
+fn dossier_report(alloc: Global, dossier: Dossier) -> Result<Report, Unmade>
+    requires policy { dossier.policy ≡ Fixed }
+    requires yes { evidence_status dossier.evidence ≡ 0 }
+    requires in_range { IsInRange dossier.evidence }
+    ensures report { IfOk result (λ m. m ≡ record { status = 0; text = text dossier; trail = Trail.Nothing }) }
+    ensures unmade { IfErr result (λ e. e ≡ Unmade.Memory) }
+{
+    let Dossier { set, evidence, .. } = dossier;
+    make_report(alloc, Policy::Fixed, set, evidence, Trail::Nothing)
+}
+
+// The report of a set for which there are no priorities.
+fn stuck_report(alloc: Global, set: &TaskSet, stuck: &[Stuck]) -> Result<Report, Unmade>
+    ensures report { IfOk result (λ m. m ≡ record { status = 1; text = no_order_text set.now stuck.now; trail = Trail.Nothing }) }
+    ensures unmade { IfErr result (λ e. e ≡ Unmade.Memory) }
+{
+    let text = print_stuck(alloc, set, stuck)?;
+    Ok(Report::new(NO, text))
+}
+
+// The report that nothing is decided of a set, with the trail of a spent budget.
+fn open_report(alloc: Global, set: TaskSet, trail: Trail) -> Result<Report, Unmade>
+    ensures report { IfOk result (λ m. m ≡ record { status = 3; text = text (under_fixed set Undecided); trail = trail }) }
+    ensures unmade { IfErr result (λ e. e ≡ Unmade.Memory) }
+{
+    make_report(alloc, Policy::Fixed, set, Evidence::Undecided, trail)
+}
+
+// The trail of a budget that was spent at a task under these others.
+fn attempt_trail(higher: Row<u32>, trail: FixedTrail) -> Trail
+    ensures { result ≡ attempt_trail higher trail }
+{
+    match trail {
+        FixedTrail::Table { task, log } => Trail::Table { task, log },
+        FixedTrail::Refine { task, vertex, log } => Trail::Assign {
+            higher,
+            task,
+            vertex,
+            log,
+        },
+    }
+}
