@@ -5,7 +5,7 @@ use Rattle.drt_io.specs.Writing.{Grows}
 use Rattle.drt_command.specs.declared.input.Input.{Input}
 use Rattle.drt_command.specs.declared.input.Input.TheVariants as inputs
 use Rattle.drt_outcome.specs.declared.fault.Fault.{Fault}
-use Rattle.drt_outcome.specs.declared.fault.Fault.TheVariants.{Nothing, File, Edge, Limit, Rule, Dossier}
+use Rattle.drt_outcome.specs.declared.fault.Fault.TheVariants.{Nothing, File, Edge, Limit, Probe, Rule, Dossier}
 use Rattle.drt_command.specs.declared.report.Report.{Report}
 use Rattle.drt_outcome.specs.declared.stop.Stop.{Stop}
 use Rattle.drt_outcome.specs.declared.stop.Stop.TheVariants.{Words, Read, Write, Memory, Refused}
@@ -43,6 +43,7 @@ fault_known Nothing = (4, lit< tt, refl)
 fault_known (File l c) = (4, lit< tt, refl)
 fault_known (Edge t e) = (4, lit< tt, refl)
 fault_known (Limit c) = (4, lit< tt, refl)
+fault_known (Probe a c) = (4, lit< tt, refl)
 fault_known (Rule n) = (9, lit< tt, refl)
 fault_known (Dossier l c) = (10, lit< tt, refl)
 
@@ -64,6 +65,7 @@ fault_refusal Nothing = inl refl
 fault_refusal (File l c) = inl refl
 fault_refusal (Edge t e) = inl refl
 fault_refusal (Limit c) = inl refl
+fault_refusal (Probe a c) = inl refl
 fault_refusal (Rule n) = inr (inl refl)
 fault_refusal (Dossier l c) = inr (inr refl)
 

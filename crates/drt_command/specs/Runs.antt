@@ -28,10 +28,10 @@ pub record IsCutShort (r : Rules) (bytes : List ℕ) (old new : Option (List ℕ
   pub makes : r.makes bytes made
   pub written : GrowsByPrefix old new made.text
 
--- Memory ran out, or the status is one that the command must end with, and an input that it refuses has its fault and the status of that.
+-- Memory ran out, or the status is one that the command must end with; and where the input has a fault, that one is told with its status.
 pub record IsComplete (r : Rules) (bytes : List ℕ) (status : ℕ) (fault : Fault) : Type 0 where
   pub ends : (status ≡ 8) ⊎ r.ends bytes status
-  pub refused : (f : Fault) → r.refuses bytes f → (status ≡ 8) ⊎ ((status ≡ fault_status f) × (fault ≡ f))
+  pub refused : (f : Fault) → r.faults bytes f → (status ≡ 8) ⊎ ((status ≡ fault_status f) × (fault ≡ f))
 
 -- Why the input isn't had whole: a read failed, or it is too long. Want of memory is free.
 abbrev pub IsReadCause : Type 0 → Input → Option (List ℕ) → Stop → Type 0

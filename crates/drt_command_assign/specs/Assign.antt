@@ -19,5 +19,6 @@ assign_rules budget = record {
   input = file_input;
   makes = λ bytes made. Verdict bytes made × Besides budget bytes made;
   refuses = IsFileFault;
+  faults = IsFileFault;
   ends = λ bytes status. (set : Contents) → IsAccepted bytes set → AssignEnds set budget status;
 }

@@ -79,5 +79,6 @@ bench_rules number = record {
   input = Nothing;
   makes = λ bytes. Benches number;
   refuses = λ bytes fault. ⊥;
+  faults = λ bytes fault. ⊥;
   ends = λ bytes status. status ≡ 0;
 }

@@ -92,5 +92,6 @@ check_rules = record {
   input = dossier_input;
   makes = Checks;
   refuses = IsDossierFault;
+  faults = IsDossierFault;
   ends = λ bytes status. (s : Statement) → IsTextOf s bytes → length bytes ≤ most_dossier_bytes → CheckEnds s status;
 }

@@ -42,5 +42,6 @@ convert_rules = record {
   input = file_input;
   makes = Converts;
   refuses = IsClassicFault;
+  faults = IsClassicFault;
   ends = λ bytes status. (tasks : List Classic) → IsClassicFile bytes tasks → status ≡ 0;
 }

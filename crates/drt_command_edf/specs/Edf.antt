@@ -110,5 +110,6 @@ edf_rules budget = record {
   input = file_input;
   makes = Decides budget;
   refuses = λ bytes fault. IsFileFault bytes fault ⊎ IsOutOfReach bytes fault;
+  faults = λ bytes fault. IsFileFault bytes fault ⊎ IsOutOfReach bytes fault;
   ends = λ bytes status. (set : Contents) → IsAccepted bytes set → EdfEnds set budget status;
 }

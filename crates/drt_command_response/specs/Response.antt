@@ -50,5 +50,6 @@ response_rules budget = record {
   input = file_input;
   makes = Responds budget;
   refuses = IsFileFault;
+  faults = IsFileFault;
   ends = λ bytes status. (set : Contents) → IsAccepted bytes set → SpEnds set budget status;
 }

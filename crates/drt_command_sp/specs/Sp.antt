@@ -72,5 +72,6 @@ sp_rules budget = record {
   input = file_input;
   makes = Analyses budget;
   refuses = IsFileFault;
+  faults = IsFileFault;
   ends = λ bytes status. (set : Contents) → IsAccepted bytes set → SpEnds set budget status;
 }

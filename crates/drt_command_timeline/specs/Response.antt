@@ -131,5 +131,6 @@ response_timeline_rules svg task vertex = record {
   input = dossier_input;
   makes = DrawsResponse svg task vertex;
   refuses = IsResponseFault task vertex;
+  faults = IsResponseFault task vertex;
   ends = λ bytes status. (set : Contents) (r : Response) → IsShown task vertex bytes set r → status ≡ 0;
 }

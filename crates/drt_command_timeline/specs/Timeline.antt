@@ -60,5 +60,6 @@ timeline_rules svg = record {
   input = dossier_input;
   makes = DrawsNo svg;
   refuses = IsTimelineFault;
+  faults = IsTimelineFault;
   ends = λ bytes status. (s : Statement) → IsTextOf s bytes → length bytes ≤ most_dossier_bytes → TimelineEnds s status;
 }

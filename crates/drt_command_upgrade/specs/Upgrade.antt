@@ -21,5 +21,6 @@ upgrade_rules = record {
   input = file_input;
   makes = Upgrades;
   refuses = IsFileFault;
+  faults = IsFileFault;
   ends = λ bytes status. (set : Contents) → IsAccepted bytes set → status ≡ 0;
 }

@@ -72,5 +72,6 @@ util_rules = record {
   input = file_input;
   makes = Utilises;
   refuses = λ bytes fault. IsFileFault bytes fault ⊎ IsTooFineFile bytes fault;
+  faults = λ bytes fault. IsFileFault bytes fault ⊎ IsTooFineFile bytes fault;
   ends = λ bytes status. (set : Contents) → IsAccepted bytes set → (status ≡ 0) ⊎ ((status ≡ 4) × IsTooFineSet set);
 }
