@@ -20,5 +20,6 @@ assign_rules budget = record {
   makes = λ bytes made. Verdict bytes made × Besides budget bytes made;
   refuses = IsFileFault;
   faults = IsFileFault;
+  faults = IsFileFault;
   ends = λ bytes status. (set : Contents) → IsAccepted bytes set → AssignEnds set budget status;
 }

@@ -5,7 +5,7 @@ use Rattle.drt_model.specs.Contents.{Contents}
 use Rattle.drt_evidence.specs.Text.{text}
 use Rattle.drt_evidence.specs.declared.evidence.Evidence.TheVariants.{Undecided}
 use Rattle.drt_sp.specs.Evidence.{under_fixed}
-use Rattle.drt_assign.specs.Answers.{IsAssigned}
+use Rattle.drt_assign.specs.Assign.{IsAssigned}
 use Rattle.drt_assign.specs.declared.answer.AssignAnswer.{AssignAnswer}
 use Rattle.drt_assign.specs.declared.answer.AssignAnswer.TheVariants as answers
 use Rattle.drt_trails.specs.declared.FixedTrail.{FixedTrail}

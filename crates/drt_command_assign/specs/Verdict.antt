@@ -8,14 +8,11 @@ use Rattle.drt_evidence.specs.Reading.{IsTextOf}
 use Rattle.drt_evidence.specs.declared.evidence.Evidence.{Evidence}
 use Rattle.drt_evidence.specs.declared.evidence.Evidence.TheVariants.{Undecided}
 use Rattle.drt_sp.specs.Evidence.{under_fixed}
+use Rattle.drt_assign.specs.Assign.{with_priorities}
 use Rattle.drt_assign.specs.declared.answer.Stuck.{Stuck}
 use Rattle.drt_command.specs.declared.report.Report.{Report}
 use Rattle.drt_command_files.specs.TaskFiles.{IsAccepted}
 use Rattle.drt_command_assign.specs.Text.{no_order_text}
-
--- The set as one of version 2 with these priorities.
-abbrev pub with_priorities : Contents → List ℕ → Contents
-with_priorities set priorities = record { version = 2; tasks = prioritised set.tasks priorities }
 
 -- The text is the dossier of the set with distinct priorities under which it is schedulable.
 pub record IsOrderText (set : Contents) (written : List ℕ) : Type 0 where
@@ -23,7 +20,7 @@ pub record IsOrderText (set : Contents) (written : List ℕ) : Type 0 where
   pub are : ArePriorities (length set.tasks) priorities
   pub schedulable : Schedulable (prioritised set.tasks priorities) Fixed
   pub evidence : Evidence
-  pub is : IsTextOf (under_fixed (with_priorities set priorities) evidence) written
+  pub is : IsTextOf (under_fixed (with_priorities set.tasks priorities) evidence) written
 
 -- No priorities make the set schedulable, and the text names tasks that are stuck.
 pub record IsNoOrderText (set : Contents) (written : List ℕ) : Type 0 where

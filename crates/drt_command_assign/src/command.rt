@@ -8,7 +8,7 @@ ghost use Rattle.drt_command.specs.Inputs.{IsWithin};
 ghost use Rattle.drt_command.specs.Rules.{IsCause};
 ghost use Rattle.drt_command.specs.Runs.{IsRun};
 ghost use Rattle.drt_model.specs.declared.jobs.Policy.TheVariants.{Fixed};
-ghost use Rattle.drt_assign.specs.Answers.{IsAssigned};
+ghost use Rattle.drt_assign.specs.Assign.{IsAssigned};
 ghost use Rattle.drt_evidence.specs.Ranges.{IsInRange};
 ghost use Rattle.drt_evidence.specs.Text.{text};
 ghost use Rattle.drt_evidence.specs.declared.evidence.Evidence.TheVariants.{Undecided};
@@ -31,6 +31,7 @@ use drt_model::{Policy, Row, TaskSet};
 use drt_outcome::Outcome;
 use drt_outcome::outcome::{NO, Trail};
 use drt_pool::Gate;
+use drt_priorities::priorities_keep_limits;
 use drt_trails::FixedTrail;
 use drt_words::Search;
 use std::alloc::Global;
@@ -105,6 +106,7 @@ fn answer<G: Gate, R: Threads + Wait + Sync>(
     ensures assigns { IfOk result ((assign_rules search.now.budget).makes bytes.now) }
     ensures unmade { IfErr result (λ e. e ≡ Unmade.Memory) }
 {
+    priorities_keep_limits();
     let budget = u64::from(search.budget());
     match assign(rt, alloc, set, graphs, search.workers(), budget, gate) {
         Ok(answer) => report_of(alloc, answer),

@@ -111,8 +111,8 @@ fn decide<G: Gate, R: Threads + Wait + Sync>(
     }
 }
 
-// The trail of a spent budget.
-fn make_trail(trail: EdfTrail) -> Trail
+/// The trail of a spent budget.
+pub fn make_trail(trail: EdfTrail) -> Trail
     ensures { result ≡ trail_of trail }
 {
     match trail {
@@ -125,9 +125,17 @@ fn make_trail(trail: EdfTrail) -> Trail
 fn refuse(beyond: Beyond) -> Unmade
     ensures { result ≡ Unmade.Refused (Fault.Limit (beyond_code beyond)) }
 {
-    let code = match beyond {
+    Unmade::Refused(Fault::Limit {
+        code: code_of(beyond),
+    })
+}
+
+/// The code of numbers that are out of reach.
+pub fn code_of(beyond: Beyond) -> u8
+    ensures { result ≡ beyond_code beyond }
+{
+    match beyond {
         Beyond::TooFine => SCALE_TOO_FINE,
         Beyond::TooFar => HORIZON_TOO_FAR,
-    };
-    Unmade::Refused(Fault::Limit { code })
+    }
 }

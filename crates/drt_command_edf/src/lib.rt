@@ -3,4 +3,4 @@
 
 mod command;
 
-pub use command::{Edf, conduct};
+pub use command::{Edf, code_of, conduct, make_trail};

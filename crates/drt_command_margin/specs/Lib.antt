@@ -1,0 +1,4 @@
+pub mod Text
+pub mod Verdict
+pub mod Besides
+pub mod Margin

@@ -1,0 +1,176 @@
+//! `margin`: how much the execution time of a vertex can grow.
+ghost use Rattle.std.specs.Prelude.{◌≡◌, ◌≢◌, ◌≤◌, IfErr, IfOk};
+ghost use Rattle.drt_io.specs.Causes.{Rose};
+ghost use Rattle.drt_command.specs.declared.input.Input.{Input};
+ghost use Rattle.drt_command.specs.Inputs.{IsWithin};
+ghost use Rattle.drt_command.specs.Rules.{IsCause};
+ghost use Rattle.drt_command.specs.Runs.{IsRun};
+ghost use Rattle.drt_command_edf.specs.Edf.{beyond_code};
+ghost use Rattle.drt_command_files.specs.Spots.{IsSpot};
+ghost use Rattle.drt_command_files.specs.TaskFiles.{IsAccepted};
+ghost use Rattle.drt_margin.specs.Answers.{IsMarginAnswer};
+ghost use Rattle.drt_margin.specs.Margin.{IsVertexOf};
+ghost use Rattle.drt_command_margin.specs.Besides.{IsReportOf, margin_trail};
+ghost use Rattle.drt_command_margin.specs.Margin.{margin_rules, policy_of};
+
+use crate::spot::Spot;
+use crate::text::print_margin;
+use drt_command::{Promised, Report, Unmade, finish, read_input, stop_reading};
+use drt_command_files::{file_input, make_report, read_set, spot_of};
+use drt_evidence::Evidence;
+use drt_file::laws::texts_read_as_one_set;
+use drt_horizon::Beyond;
+use drt_io::{Sink, Source};
+use drt_margin::{MarginAnswer, MarginTrail, margin, with_more};
+use drt_model::{Policy, Row, TaskSet};
+use drt_outcome::Outcome;
+use drt_outcome::fault::{Fault, NO_SUCH_VERTEX};
+use drt_outcome::outcome::{Trail, YES};
+use drt_pool::Gate;
+use drt_words::Search;
+use std::alloc::Global;
+use std::sync::Wait;
+use std::thread::Threads;
+
+/// The command `margin` of the vertex with these names, under fixed priorities or EDF.
+#[derive(Debug, Drop)]
+pub struct Margin {
+    pub fixed: bool,
+    pub task: Row<u8>,
+    pub vertex: Row<u8>,
+    pub search: Search,
+}
+
+impl Promised for Margin {
+    ghost rules = { λ c. margin_rules c.fixed c.task c.vertex c.search.budget };
+
+    fn laws(&self) {
+        texts_read_as_one_set();
+    }
+}
+
+/// Runs `margin`: its input is read, workers make its text, and it is written.
+pub fn conduct<S: Source, K: Sink, G: Gate, R: Threads + Wait + Sync>(
+    rt: &R,
+    alloc: Global,
+    command: &Margin,
+    source: &mut S,
+    sink: &mut K,
+    gate: &G,
+) -> Outcome
+    ensures run { IsRun (margin_rules command.now.fixed command.now.task command.now.vertex command.now.search.budget) (S.left source.old) (Rose (S.faults source.old) (S.faults source.new)) (Rose (K.faults sink.old) (K.faults sink.new)) (K.held sink.old) (K.held sink.new) result }
+    ensures unwritten { 4 ≤ result.status → result.status ≢ 7 → sink.new ≡ sink.old }
+    ensures unread { (margin_rules command.now.fixed command.now.task command.now.vertex command.now.search.budget).input ≡ Input.Nothing → source.new ≡ source.old }
+{
+    match read_input(alloc, file_input(), source) {
+        Ok(bytes) => {
+            let made = make(rt, alloc, command, bytes.as_slice(), gate);
+            finish(command, bytes.as_slice(), made, sink)
+        }
+        Err(stop) => stop_reading(command, stop),
+    }
+}
+
+// What it makes of its input.
+fn make<G: Gate, R: Threads + Wait + Sync>(
+    rt: &R,
+    alloc: Global,
+    command: &Margin,
+    bytes: &[u8],
+    gate: &G,
+) -> Result<Report, Unmade>
+    requires { IsWithin (margin_rules command.now.fixed command.now.task command.now.vertex command.now.search.budget).input bytes.now }
+    ensures makes { IfOk result ((margin_rules command.now.fixed command.now.task command.now.vertex command.now.search.budget).makes bytes.now) }
+    ensures unmade { IfErr result (IsCause (margin_rules command.now.fixed command.now.task command.now.vertex command.now.search.budget).refuses bytes.now) }
+{
+    let (set, _graphs) = read_set(alloc, bytes)?;
+    match spot_in(&set, command) {
+        Some(spot) => answer(rt, alloc, command, bytes, set, spot, gate),
+        None => Err(Unmade::Refused(Fault::Limit {
+            code: NO_SUCH_VERTEX,
+        })),
+    }
+}
+
+// The vertex that the command names, with its policy.
+fn spot_in(set: &TaskSet, command: &Margin) -> Option<Spot> {
+    let (task, vertex) = spot_of(set, command.task.as_slice(), command.vertex.as_slice())?;
+    let policy = if command.fixed {
+        Policy::Fixed
+    } else {
+        Policy::Edf
+    };
+    Some(Spot {
+        policy,
+        task: task as u32,
+        vertex: vertex as u32,
+    })
+}
+
+// The answer about the vertex of an accepted set.
+fn answer<G: Gate, R: Threads + Wait + Sync>(
+    rt: &R,
+    alloc: Global,
+    command: &Margin,
+    bytes: &[u8],
+    set: TaskSet,
+    spot: Spot,
+    gate: &G,
+) -> Result<Report, Unmade>
+{
+    let (workers, budget) = (command.search.workers(), u64::from(command.search.budget()));
+    match margin(
+        rt,
+        alloc,
+        set,
+        spot.policy,
+        spot.task,
+        spot.vertex,
+        workers,
+        budget,
+        gate,
+    ) {
+        Ok((set, answer)) => report_of(alloc, set, spot, answer),
+        Err(_) => Err(Unmade::Memory),
+    }
+}
+
+// The report of an answer.
+fn report_of(
+    alloc: Global,
+    set: TaskSet,
+    spot: Spot,
+    answer: MarginAnswer,
+) -> Result<Report, Unmade>
+{
+    match answer {
+        MarginAnswer::Found { add, within, next } => {
+            let text = print_margin(alloc, set, spot, add, within, next)?;
+            Ok(Report::new(YES, text))
+        }
+        MarginAnswer::AtZero(evidence) => {
+            make_report(alloc, spot.policy, set, evidence, Trail::Nothing)
+        }
+        MarginAnswer::Beyond { add, beyond } => Err(Unmade::Refused(Fault::Probe {
+            add,
+            code: drt_command_edf::code_of(beyond),
+        })),
+        MarginAnswer::Undecided { add, trail } => make_report(
+            alloc,
+            spot.policy,
+            with_more(alloc, set, spot.task, spot.vertex, add),
+            Evidence::Undecided,
+            make_trail(trail),
+        ),
+    }
+}
+
+// The trail of a spent budget.
+fn make_trail(trail: MarginTrail) -> Trail
+    ensures { result ≡ margin_trail trail }
+{
+    match trail {
+        MarginTrail::Edf(trail) => drt_command_edf::make_trail(trail),
+        MarginTrail::Fixed(trail) => drt_command_sp::make_trail(trail),
+    }
+}
