@@ -3,9 +3,9 @@ use Rattle.std.proofs.Common.{◌≡◌, ◌⊎◌, ℕ, zero, suc, Bool, true, 
 use Rattle.clap.specs.Lexer.{long_of}
 use Rattle.clap.specs.Simple.{Shape}
 use Rattle.clap.specs.Walk.{Held, Outcome, Rule, Step, Text, Waiting, Walk, bundle_step, plain, refused, idle, option, positional, next, trailing, subcommand, value}
-use Rattle.clap.specs.Walk.{after_step, arg_by_index, arg_by_short, bundle_met, nothing_held, to_positional, walk_from, walked, word_met}
+use Rattle.clap.specs.Walk.{after_step, arg_by_index, arg_by_short, bundle_met, nothing_held, takes_several, to_positional, walk_from, walked, word_met}
 use Rattle.clap.specs.Faults.{flag_word_fault, level_fault, settle_fault, turn_fault, walk_fault, word_fault}
-use Rattle.drt_words.proofs.WordWalks.{Faulty, or_first, or_second, IsWithin, met_within, at, dashes}
+use Rattle.drt_words.proofs.WordWalks.{Faulty, or_first, or_second, IsOpen, IsWithin, met_open, met_within, at, dashes}
 
 -- ---- a walk after one more word
 
@@ -34,6 +34,39 @@ goes c h waiting place is_trailing word =
     step g (trailing p) in_it e = record { to_held = g; to_waiting = waiting; to_place = p; to_trailing = true; is = e }
     step g (subcommand named) in_it e = absurd in_it
     step g value in_it e = placed g (arg_by_index c place) e
+
+-- ---- where each word of a place is one text, only `--` says that no flag follows
+
+-- the argument of a place, if any, takes one text, and ends no flags
+pub data Placed (o : Option Rule) : Type 0 where
+  nowhere : o ≡ None → Placed o
+  somewhere : (a : Rule) → o ≡ Some a → takes_several a ≡ false → a.trailing_var_arg ≡ false → Placed o
+
+pub record Stays (c : List Rule) (h : Held) (waiting : Waiting) (place : ℕ) (word : Text) : Type 0 where
+  pub to_held : Held
+  pub to_waiting : Waiting
+  pub to_place : ℕ
+  pub is : walked c [] (at h waiting place false) word ≡ at to_held to_waiting to_place false
+
+pub stays : (c : List Rule) → ((place : ℕ) → Placed (arg_by_index c place)) → (h : Held) (waiting : Waiting) (place : ℕ) (word : Text) → bytes_eq word dashes ≡ false
+    → Stays c h waiting place word
+unfolding walked
+stays c places h waiting place word dash =
+    let met = word_met c [] false waiting place word h in
+    step met.0 met.1 (met_open c waiting place word h dash) refl
+  where
+    start : Walk
+    start = at h waiting place false
+
+    placed : (g : Held) → Placed (arg_by_index c place) → walked c [] start word ≡ to_positional c (arg_by_index c place) word start g → Stays c h waiting place word
+    placed g (nowhere f) e = record { to_held = g; to_waiting = waiting; to_place = place; is = rw f at e }
+    placed g (somewhere a f single tail) e = record { to_held = _; to_waiting = _; to_place = _; is = rw (f, tail) at e }
+
+    step : (g : Held) (s : Step) → IsOpen s → walked c [] start word ≡ after_step c word start g s → Stays c h waiting place word
+    step g (next w) is_open e = record { to_held = g; to_waiting = w; to_place = place; is = e }
+    step g (trailing p) is_open e = absurd is_open
+    step g (subcommand named) is_open e = absurd is_open
+    step g value is_open e = placed g (places place) e
 
 -- ---- where nothing has a short name, a word of one dash is no flag
 

@@ -5,10 +5,9 @@ use Rattle.clap.specs.Kinds.{Kinds, or_else}
 use Rattle.clap.specs.Simple.{App, Shape, built, entered, filled, label_of, names_of, new_shape, rows_at, subcommand_of, with_index}
 use Rattle.clap.specs.Walk.{Names, Rule, Text, Walk, answers_to, idle, is_empty, nothing_held, rows_after, walk_from, walked, with_default}
 use Rattle.clap.specs.Faults.{built_fault, check_fault, defaults_fault, level_fault, turn_fault, walk_fault}
-use Rattle.drt_words.specs.CommandLine.{drt_app, flag_rule, workers_rule, number_rule, pair_rule, whole_rule}
+use Rattle.drt_words.specs.CommandLine.{drt_app, flag_rule, workers_rule, budget_rule, name_rule, pair_rule, whole_rule}
 use Rattle.drt_words.specs.Meaning.{meaning_at, meaning_of}
-use Rattle.drt_words.specs.Searches.{most_budget}
-use Rattle.drt_words.specs.Plain.{Searcher, for_edf, for_sp, for_response, searcher_word}
+use Rattle.drt_words.specs.Plain.{Searcher, for_edf, for_sp, for_response, for_assign, searcher_word}
 use Rattle.drt_words.specs.declared.meaning.Meaning.{Meaning}
 use Rattle.drt_words.proofs.WordWalks.{Faulty, not_empty}
 
@@ -63,7 +62,7 @@ abbrev pub workers_built : Rule
 workers_built = with_index 1 (filled workers_rule)
 
 abbrev pub budget_built : Rule
-budget_built = with_index 1 (filled (number_rule (codes "budget") most_budget (codes "100000")))
+budget_built = with_index 1 (filled budget_rule)
 
 abbrev pub number_built : Rule
 number_built = with_index 1 (filled (whole_rule (codes "number")))
@@ -73,6 +72,16 @@ svg_built = with_index 1 (filled (flag_rule (codes "svg")))
 
 abbrev pub vertex_built : Rule
 vertex_built = with_index 1 (filled (pair_rule (codes "vertex")))
+
+abbrev pub fixed_built : Rule
+fixed_built = with_index 1 (filled (flag_rule (codes "fixed")))
+
+-- the words of two names
+abbrev pub first_name_built : Rule
+first_name_built = with_index 1 (filled (name_rule (codes "task")))
+
+abbrev pub second_name_built : Rule
+second_name_built = with_index 2 (filled (name_rule (codes "vertex")))
 
 abbrev pub leaf : Text → List Rule → Shape
 leaf name rules = record (new_shape name) {
@@ -92,11 +101,15 @@ bench_leaf = leaf (codes "bench") (workers_built ∷ number_built ∷ [])
 abbrev pub timeline_leaf : Shape
 timeline_leaf = leaf (codes "timeline") (svg_built ∷ vertex_built ∷ [])
 
+abbrev pub margin_leaf : Shape
+margin_leaf = leaf (codes "margin") (fixed_built ∷ workers_built ∷ budget_built ∷ first_name_built ∷ second_name_built ∷ [])
+
 search_enters : (k : Searcher) → Enters (built drt_app) (searcher_word k) (search_leaf k)
 unfolding clap_on_literals
 search_enters for_edf = record { stops = refl; turns = refl; finds = refl; ends = refl }
 search_enters for_sp = record { stops = refl; turns = refl; finds = refl; ends = refl }
 search_enters for_response = record { stops = refl; turns = refl; finds = refl; ends = refl }
+search_enters for_assign = record { stops = refl; turns = refl; finds = refl; ends = refl }
 
 bench_enters : Enters (built drt_app) (codes "bench") bench_leaf
 unfolding clap_on_literals
@@ -105,6 +118,10 @@ bench_enters = record { stops = refl; turns = refl; finds = refl; ends = refl }
 timeline_enters : Enters (built drt_app) (codes "timeline") timeline_leaf
 unfolding clap_on_literals
 timeline_enters = record { stops = refl; turns = refl; finds = refl; ends = refl }
+
+margin_enters : Enters (built drt_app) (codes "margin") margin_leaf
+unfolding clap_on_literals
+margin_enters = record { stops = refl; turns = refl; finds = refl; ends = refl }
 
 -- ---- what the words mean
 
@@ -129,3 +146,6 @@ bench_means program words = means_below (codes "bench") program bench_leaf bench
 
 pub timeline_means : (program : Text) (words : List Text) → meaning_of (program ∷ codes "timeline" ∷ words) ≡ meaning_below timeline_leaf words
 timeline_means program words = means_below (codes "timeline") program timeline_leaf timeline_enters words
+
+pub margin_means : (program : Text) (words : List Text) → meaning_of (program ∷ codes "margin" ∷ words) ≡ meaning_below margin_leaf words
+margin_means program words = means_below (codes "margin") program margin_leaf margin_enters words

@@ -4,9 +4,12 @@ pub mod BadNumbers
 pub mod PlainTimelines
 mod WordWalks
 mod BadWalks
-mod BadBench
+mod BadOptions
 mod Building
 mod Entering
+mod Options
+mod PlainMargins
+mod PlainSearches
 mod PlainWalks
 mod Readiness
 mod Spots

@@ -1,5 +1,5 @@
 -- What the walk of `clap` over any words keeps to, whatever the options.
-use Rattle.std.proofs.Common.{◌≡◌, ℕ, Bool, cond, true, false, List, [], ◌∷◌, Option, Some, None, length, ne_eqb, suc-ne-zero}
+use Rattle.std.proofs.Common.{◌≡◌, ℕ, Bool, cond, true, false, List, [], ◌∷◌, Option, Some, None, length, ne_eqb, suc-ne-zero, bytes_eq}
 use Rattle.clap.specs.Kinds.{Kinds, or_else}
 use Rattle.clap.specs.Lexer.{long_of, short_of}
 use Rattle.clap.specs.Walk.{Held, Outcome, Rule, Step, Text, Waiting, Walk, done, waits, plain, refused, idle, option, positional, next, trailing}
@@ -37,30 +37,43 @@ IsWithin (trailing position) = Unit {0}
 IsWithin (subcommand name) = ⊥
 IsWithin value = Unit {0}
 
+-- nor does it say that all that follows is no flag
+abbrev pub IsOpen : Step → Type 0
+IsOpen (next waiting) = Unit {0}
+IsOpen (trailing position) = ⊥
+IsOpen (subcommand name) = ⊥
+IsOpen value = Unit {0}
+
+open_within : (s : Step) → IsOpen s → IsWithin s
+open_within (next waiting) h = tt
+open_within (trailing position) h = tt
+open_within (subcommand name) h = h
+open_within value h = tt
+
 module _ (c : List Rule) where
-  plain_within : (waiting : Waiting) (word : Text) (h : Held) → IsWithin (plain_word c waiting word h).1
-  plain_within idle word h = tt
-  plain_within (option id) word h = tt
-  plain_within positional word h = tt
+  plain_open : (waiting : Waiting) (word : Text) (h : Held) → IsOpen (plain_word c waiting word h).1
+  plain_open idle word h = tt
+  plain_open (option id) word h = tt
+  plain_open positional word h = tt
 
-  flag_within : (waiting : Waiting) (word : Text) (h : Held) (o : Outcome) → IsWithin (after_flag c waiting word h o).1
-  flag_within waiting word h done = tt
-  flag_within waiting word h (waits id) = tt
-  flag_within waiting word h plain = plain_within waiting word h
-  flag_within waiting word h refused = plain_within waiting word h
+  flag_open : (waiting : Waiting) (word : Text) (h : Held) (o : Outcome) → IsOpen (after_flag c waiting word h o).1
+  flag_open waiting word h done = tt
+  flag_open waiting word h (waits id) = tt
+  flag_open waiting word h plain = plain_open waiting word h
+  flag_open waiting word h refused = plain_open waiting word h
 
-  short_within : (waiting : Waiting) (word : Text) (flags : Option Text) (h : Held) → IsWithin (short_or_plain c waiting word flags h).1
-  short_within waiting word (Some flags) h = flag_within waiting word (bundle c flags h).0 (bundle c flags h).1
-  short_within waiting word None h = plain_within waiting word h
+  short_open : (waiting : Waiting) (word : Text) (flags : Option Text) (h : Held) → IsOpen (short_or_plain c waiting word flags h).1
+  short_open waiting word (Some flags) h = flag_open waiting word (bundle c flags h).0 (bundle c flags h).1
+  short_open waiting word None h = plain_open waiting word h
 
-  long_within : (waiting : Waiting) (word : Text) (name : Option (Text × Option Text)) (h : Held) → IsWithin (long_or_other c waiting word name h).1
-  long_within waiting word (Some p) h = flag_within waiting word _ _
-  long_within waiting word None h = short_within waiting word (short_of word) h
+  long_open : (waiting : Waiting) (word : Text) (name : Option (Text × Option Text)) (h : Held) → IsOpen (long_or_other c waiting word name h).1
+  long_open waiting word (Some p) h = flag_open waiting word _ _
+  long_open waiting word None h = short_open waiting word (short_of word) h
 
   dash_within : (b : Bool) (waiting : Waiting) (position : ℕ) (word : Text) (h : Held)
       → IsWithin (cond b (h, trailing position) (long_or_other c waiting word (long_of word) h)).1
   dash_within true waiting position word h = tt
-  dash_within false waiting position word h = long_within waiting word (long_of word) h
+  dash_within false waiting position word h = open_within _ (long_open waiting word (long_of word) h)
 
   pub met_within : (is_trailing : Bool) (waiting : Waiting) (position : ℕ) (word : Text) (h : Held)
       → IsWithin (word_met c [] is_trailing waiting position word h).1
@@ -68,3 +81,10 @@ module _ (c : List Rule) where
   met_within false idle position word h = dash_within _ idle position word h
   met_within false (option id) position word h = dash_within _ (option id) position word h
   met_within false positional position word h = dash_within _ positional position word h
+
+  -- a word other than `--` is no such step
+  pub met_open : (waiting : Waiting) (position : ℕ) (word : Text) (h : Held) → bytes_eq word dashes ≡ false
+      → IsOpen (word_met c [] false waiting position word h).1
+  met_open idle position word h dash = rw dash (long_open idle word (long_of word) h)
+  met_open (option id) position word h dash = rw dash (long_open (option id) word (long_of word) h)
+  met_open positional position word h dash = rw dash (long_open positional word (long_of word) h)

@@ -18,10 +18,13 @@ number_rule name most standard = record (new_rule name) {
 abbrev pub workers_rule : Rule
 workers_rule = number_rule (codes "workers") most_workers (codes "4")
 
+-- The option for the budget, 100,000 by default.
+abbrev pub budget_rule : Rule
+budget_rule = number_rule (codes "budget") most_budget (codes "100000")
+
 -- A command that searches has the options for workers and budget.
 abbrev pub search_app : Text → App
-search_app name = with_rule (with_rule (new_app name) workers_rule)
-    (number_rule (codes "budget") most_budget (codes "100000"))
+search_app name = with_rule (with_rule (new_app name) workers_rule) budget_rule
 
 -- Help, version and the help subcommand are off, and a subcommand is required.
 abbrev pub bare_top : Shape → Shape
@@ -80,8 +83,25 @@ timeline_app = with_rule (with_rule (new_app (codes "timeline")) (flag_rule (cod
 abbrev pub with_timeline : App → App
 with_timeline top = with_subcommand top timeline_app.top
 
--- The whole command line: the commands `edf`, `sp`, `upgrade`, `util`, `check`, `bench`, `response`, `convert` and `timeline`.
+-- A word that must stand: any text.
+abbrev pub name_rule : Text → Rule
+name_rule name = record (new_rule name) { action = Some Set; required = true }
+
+-- The options of `margin`: the flag for fixed priorities, and those of a search.
+abbrev pub margin_options_app : App
+margin_options_app = with_rule (with_rule (with_rule (new_app (codes "margin")) (flag_rule (codes "fixed"))) workers_rule) budget_rule
+
+-- The command `margin` has these options, and the words of two names.
+abbrev pub margin_app : App
+margin_app = with_rule (with_rule margin_options_app (name_rule (codes "task"))) (name_rule (codes "vertex"))
+
+-- The command line with `margin` too.
+abbrev pub with_margin : App → App
+with_margin top = with_subcommand top margin_app.top
+
+-- The whole command line: the commands `edf`, `sp`, `upgrade`, `util`, `check`, `bench`, `response`, `convert`, `timeline`, `assign` and `margin`.
 abbrev pub drt_app : App
 drt_app =
-    with_timeline (with_plain (with_search (with_bench (with_plain (with_plain (with_plain (with_search (with_search (bare_app (new_app (codes "drt")))
-    (codes "edf")) (codes "sp")) (codes "upgrade")) (codes "util")) (codes "check"))) (codes "response")) (codes "convert"))
+    with_margin (with_search (with_timeline (with_plain (with_search (with_bench
+    (with_plain (with_plain (with_plain (with_search (with_search (bare_app (new_app (codes "drt")))
+    (codes "edf")) (codes "sp")) (codes "upgrade")) (codes "util")) (codes "check"))) (codes "response")) (codes "convert"))) (codes "assign"))

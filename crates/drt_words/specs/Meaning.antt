@@ -10,6 +10,7 @@ use Rattle.drt_words.specs.Number.{number_in, whole_in}
 use Rattle.drt_words.specs.Searches.{Numbers, most_budget, most_workers}
 use Rattle.drt_words.specs.declared.meaning.Meaning.{Meaning}
 use Rattle.drt_words.specs.declared.meaning.Meaning.TheVariants.{Edf, Sp, Upgrade, Util, Check, Bench, Response, Convert, Timeline}
+use Rattle.drt_words.specs.declared.meaning.Meaning.TheVariants.{Assign, Margin}
 use Rattle.drt_words.specs.declared.spot.Spot.{Spot}
 
 -- The number of an option that is there, or stands by default.
@@ -49,6 +50,16 @@ spot_at rows = spot_by (all_of (codes "vertex") rows)
 abbrev pub timeline_at : List Row → Option Meaning
 timeline_at rows = option_map (λ vertex. Timeline (flag_at (codes "svg") rows) vertex) (spot_at rows)
 
+-- The vertex that two words name.
+abbrev pub named_at : List Row → Option Spot
+named_at rows = option_and_then (λ task. option_map (λ vertex. record { task = task; vertex = vertex })
+    (first_of (codes "vertex") rows)) (first_of (codes "task") rows)
+
+-- What `margin` asks for, by its search, its flag and its two names.
+abbrev pub margin_at : List Row → Option Meaning
+margin_at rows = option_and_then (λ search. option_map (λ spot. Margin (flag_at (codes "fixed") rows) spot search)
+    (named_at rows)) (search_at rows)
+
 -- What a command of this name asks for with these options.
 abbrev pub meaning_at : Text → List Row → Option Meaning
 meaning_at name rows =
@@ -60,7 +71,9 @@ meaning_at name rows =
     else (if bytes_eq name (codes "bench") then bench_at rows
     else (if bytes_eq name (codes "response") then option_map Response (search_at rows)
     else (if bytes_eq name (codes "convert") then Some Convert
-    else (if bytes_eq name (codes "timeline") then timeline_at rows else None))))))))
+    else (if bytes_eq name (codes "timeline") then timeline_at rows
+    else (if bytes_eq name (codes "assign") then option_map Assign (search_at rows)
+    else (if bytes_eq name (codes "margin") then margin_at rows else None))))))))))
 
 -- What a list of words means: what clap's command states of the words, where it refuses none of them.
 abbrev pub meaning_of : List Text → Option Meaning

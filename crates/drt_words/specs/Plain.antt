@@ -1,6 +1,7 @@
 -- Plain lists of words, and lists that must be refused.
 use Rattle.std.specs.Prelude.{◌≡◌, ◌≢◌, ◌≤◌, ◌<◌, ◌^◌, ℕ, List, [], ◌∷◌, ◌++◌, codes, length, slice_index}
 use Rattle.std.specs.Prelude.{Bool, true, false, Option, Some, None}
+use Rattle.std.specs.List.{list_any}
 use Rattle.std.specs.Str.{bytes_eq}
 use Rattle.std.specs.Str.Parse.{IsNumeral, digits_value}
 use Rattle.clap.specs.Lexer.{long_of, short_of}
@@ -8,6 +9,7 @@ use Rattle.clap.specs.ValueTests.{is_unsigned_in}
 use Rattle.drt_words.specs.Searches.{most_budget, most_workers}
 use Rattle.drt_words.specs.declared.meaning.Meaning.{Meaning}
 use Rattle.drt_words.specs.declared.meaning.Meaning.TheVariants.{Edf, Sp, Upgrade, Util, Check, Bench, Response, Convert, Timeline}
+use Rattle.drt_words.specs.declared.meaning.Meaning.TheVariants.{Assign, Margin}
 use Rattle.drt_words.specs.declared.spot.Spot.{Spot}
 
 -- The text is a number from 1 to `most` in decimal digits without leading zeros.
@@ -45,18 +47,21 @@ pub data Searcher : Type 0 where
   for_edf : Searcher
   for_sp : Searcher
   for_response : Searcher
+  for_assign : Searcher
 
 -- The name of such a command.
 abbrev pub searcher_word : Searcher → List ℕ
 searcher_word for_edf = codes "edf"
 searcher_word for_sp = codes "sp"
 searcher_word for_response = codes "response"
+searcher_word for_assign = codes "assign"
 
 -- What it means with workers and a budget.
 abbrev pub searcher_meaning : Searcher → ℕ → ℕ → Meaning
 searcher_meaning for_edf m n = Edf (record { workers = m; budget = n })
 searcher_meaning for_sp m n = Sp (record { workers = m; budget = n })
 searcher_meaning for_response m n = Response (record { workers = m; budget = n })
+searcher_meaning for_assign m n = Assign (record { workers = m; budget = n })
 
 -- The option of `bench`, with the number that it gives or the default.
 pub data PlainWorkers : List (List ℕ) → ℕ → Type 0 where
@@ -69,10 +74,10 @@ pub record BeginsPlain (text : List ℕ) : Type 0 where
   pub no_long : long_of text ≡ None
   pub no_short : short_of text ≡ None
 
--- The flag of `timeline`, given or not.
-pub data PlainFlag : List (List ℕ) → Bool → Type 0 where
-  svg_absent : PlainFlag [] false
-  svg_given : PlainFlag (codes "--svg" ∷ []) true
+-- A flag of this name, given or not.
+pub data PlainFlag (name : List ℕ) : List (List ℕ) → Bool → Type 0 where
+  flag_absent : PlainFlag name [] false
+  flag_given : PlainFlag name ((codes "--" ++ name) ∷ []) true
 
 -- The option of `timeline`, with the two names that it gives or none. Neither name reads as a flag.
 pub data PlainSpot : List (List ℕ) → Option Spot → Type 0 where
@@ -80,7 +85,13 @@ pub data PlainSpot : List (List ℕ) → Option Spot → Type 0 where
   vertex_given : (task vertex : List ℕ) → BeginsPlain task → BeginsPlain vertex
       → PlainSpot (codes "--vertex" ∷ task ∷ vertex ∷ []) (Some (record { task = task; vertex = vertex }))
 
--- A plain list: a program name, a command, then that command's options, each at most once and in any order, and behind them the number of `bench`.
+-- The two names of `margin`. Neither reads as a flag, or they stand behind `--`, where a name may be any text.
+pub data PlainNames : List (List ℕ) → Spot → Type 0 where
+  names_alone : (task vertex : List ℕ) → BeginsPlain task → BeginsPlain vertex → PlainNames (task ∷ vertex ∷ []) (record { task = task; vertex = vertex })
+  names_behind : (task vertex : List ℕ) → PlainNames (codes "--" ∷ task ∷ vertex ∷ []) (record { task = task; vertex = vertex })
+
+-- A plain list: a program name, a command, then that command's options, each at most once and in any order, and behind them the number of `bench`
+-- or the names of `margin`. These names may also stand before the options.
 pub data IsPlain : List (List ℕ) → Meaning → Type 0 where
   plain_searcher : (program : List ℕ) (command : Searcher) (options : List (List ℕ)) (m n : ℕ) → PlainOptions options m n
       → IsPlain (program ∷ searcher_word command ∷ options) (searcher_meaning command m n)
@@ -90,12 +101,30 @@ pub data IsPlain : List (List ℕ) → Meaning → Type 0 where
   plain_bench : (program : List ℕ) (options : List (List ℕ)) (text : List ℕ) (m n : ℕ) → PlainWorkers options m → IsPlainWhole text n
       → IsPlain (program ∷ codes "bench" ∷ (options ++ text ∷ [])) (Bench m n)
   plain_convert : (program : List ℕ) → IsPlain (program ∷ codes "convert" ∷ []) Convert
-  plain_timeline : (program : List ℕ) (flags spots : List (List ℕ)) (svg : Bool) (vertex : Option Spot) → PlainFlag flags svg → PlainSpot spots vertex
+  plain_timeline : (program : List ℕ) (flags spots : List (List ℕ)) (svg : Bool) (vertex : Option Spot) → PlainFlag (codes "svg") flags svg → PlainSpot spots vertex
       → IsPlain (program ∷ codes "timeline" ∷ (flags ++ spots)) (Timeline svg vertex)
-  plain_timeline_back : (program : List ℕ) (flags spots : List (List ℕ)) (svg : Bool) (vertex : Option Spot) → PlainFlag flags svg → PlainSpot spots vertex
+  plain_timeline_back : (program : List ℕ) (flags spots : List (List ℕ)) (svg : Bool) (vertex : Option Spot) → PlainFlag (codes "svg") flags svg → PlainSpot spots vertex
       → IsPlain (program ∷ codes "timeline" ∷ (spots ++ flags)) (Timeline svg vertex)
+  plain_margin : (program : List ℕ) (flags options names : List (List ℕ)) (fixed : Bool) (m n : ℕ) (spot : Spot)
+      → PlainFlag (codes "fixed") flags fixed → PlainOptions options m n → PlainNames names spot
+      → IsPlain (program ∷ codes "margin" ∷ (flags ++ (options ++ names))) (Margin fixed spot (record { workers = m; budget = n }))
+  plain_margin_back : (program task vertex : List ℕ) (flags options : List (List ℕ)) (fixed : Bool) (m n : ℕ) → BeginsPlain task → BeginsPlain vertex
+      → PlainFlag (codes "fixed") flags fixed → PlainOptions options m n
+      → IsPlain (program ∷ codes "margin" ∷ task ∷ vertex ∷ (flags ++ options)) (Margin fixed (record { task = task; vertex = vertex }) (record { workers = m; budget = n }))
 
--- The list gives an option of a command that searches, or of `bench`, a value that is no number in its range, whatever stands before it and after it.
+-- A plain list of `margin`, but with one name or none.
+pub data MissesNames : List (List ℕ) → Type 0 where
+  no_name : (program : List ℕ) (flags options : List (List ℕ)) (fixed : Bool) (m n : ℕ) → PlainFlag (codes "fixed") flags fixed → PlainOptions options m n
+      → MissesNames (program ∷ codes "margin" ∷ (flags ++ options))
+  one_name : (program name : List ℕ) (flags options : List (List ℕ)) (fixed : Bool) (m n : ℕ) → PlainFlag (codes "fixed") flags fixed → PlainOptions options m n
+      → BeginsPlain name → MissesNames (program ∷ codes "margin" ∷ (flags ++ (options ++ name ∷ [])))
+
+-- No word is `--`.
+abbrev pub HaveNoDashes : List (List ℕ) → Type 0
+HaveNoDashes words = list_any (λ word. bytes_eq word (codes "--")) words ≡ false
+
+-- The list gives an option of a command that searches, of `bench` or of `margin` a value that is no number in its range, whatever stands before it and
+-- after it. In a list of `margin` no `--` may stand before it: what follows a `--` is a name.
 pub data GivesBadNumber : List (List ℕ) → Type 0 where
   bad_workers : (command : Searcher) (program text : List ℕ) (front words back : List (List ℕ)) → is_unsigned_in 1 most_workers text ≡ false
       → Spells (codes "workers") text words → GivesBadNumber (program ∷ searcher_word command ∷ (front ++ words ++ back))
@@ -103,3 +132,7 @@ pub data GivesBadNumber : List (List ℕ) → Type 0 where
       → Spells (codes "budget") text words → GivesBadNumber (program ∷ searcher_word command ∷ (front ++ words ++ back))
   bad_bench : (program text : List ℕ) (front words back : List (List ℕ)) → is_unsigned_in 1 most_workers text ≡ false
       → Spells (codes "workers") text words → GivesBadNumber (program ∷ codes "bench" ∷ (front ++ words ++ back))
+  bad_margin_workers : (program text : List ℕ) (front words back : List (List ℕ)) → HaveNoDashes front → is_unsigned_in 1 most_workers text ≡ false
+      → Spells (codes "workers") text words → GivesBadNumber (program ∷ codes "margin" ∷ (front ++ words ++ back))
+  bad_margin_budget : (program text : List ℕ) (front words back : List (List ℕ)) → HaveNoDashes front → is_unsigned_in 1 most_budget text ≡ false
+      → Spells (codes "budget") text words → GivesBadNumber (program ∷ codes "margin" ∷ (front ++ words ++ back))

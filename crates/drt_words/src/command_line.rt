@@ -2,8 +2,8 @@
 ghost use Rattle.std.specs.Prelude.{◌≡◌, IfOk, false, codes};
 ghost use Rattle.clap.specs.Words.{app_of, new_app, rule_of};
 ghost use Rattle.clap.specs.declared.builder.Command.TheViews.{out-Command};
-ghost use Rattle.drt_words.specs.CommandLine.{bare_app, bench_app, drt_app, flag_rule, number_rule, pair_rule, search_app, timeline_app, whole_rule};
-ghost use Rattle.drt_words.specs.CommandLine.{with_bench, with_plain, with_search, with_timeline, workers_rule};
+ghost use Rattle.drt_words.specs.CommandLine.{bare_app, bench_app, budget_rule, drt_app, flag_rule, margin_app, margin_options_app, name_rule, number_rule, pair_rule};
+ghost use Rattle.drt_words.specs.CommandLine.{search_app, timeline_app, whole_rule, with_bench, with_margin, with_plain, with_search, with_timeline, workers_rule};
 
 use crate::search::{MOST_BUDGET, MOST_WORKERS};
 use clap::builder::ValueParser;
@@ -28,6 +28,14 @@ fn workers_option<'a>(alloc: Global) -> Arg<'a>
     ensures local { result.global ≡ false }
 {
     number_option(alloc, "workers", u64::from(MOST_WORKERS), "4")
+}
+
+// The option for the budget.
+fn budget_option<'a>(alloc: Global) -> Arg<'a>
+    ensures rule { rule_of result ≡ budget_rule }
+    ensures local { result.global ≡ false }
+{
+    number_option(alloc, "budget", u64::from(MOST_BUDGET), "100000")
 }
 
 // A word of one whole number of 64 bits, which must stand.
@@ -60,14 +68,21 @@ fn pair_option<'a>(alloc: Global, name: &'a str) -> Arg<'a>
         .num_args(2)
 }
 
+// A word of any text, which must stand.
+fn name_word<'a>(alloc: Global, name: &'a str) -> Arg<'a>
+    ensures rule { rule_of result ≡ name_rule name.entry.now }
+    ensures local { result.global ≡ false }
+{
+    Arg::new(alloc, name).action(ArgAction::Set).required(true)
+}
+
 // A command that searches: with the options for workers and budget.
 fn search<'a>(alloc: Global, name: &'a str) -> Result<Command<'a>, AllocError>
     ensures app { IfOk result (λ c. app_of c ≡ search_app name.entry.now) }
     ensures local { IfOk result (λ c. (out-Command c).has_globals ≡ false) }
 {
-    let budget = number_option(alloc, "budget", u64::from(MOST_BUDGET), "100000");
     let command = Command::new(alloc, name).arg(workers_option(alloc))?;
-    command.arg(budget)
+    command.arg(budget_option(alloc))
 }
 
 // The command `bench`: with the option for workers and the word of a number.
@@ -86,6 +101,26 @@ fn timeline<'a>(alloc: Global) -> Result<Command<'a>, AllocError>
 {
     let command = Command::new(alloc, "timeline").arg(flag_option(alloc, "svg"))?;
     command.arg(pair_option(alloc, "vertex"))
+}
+
+// The options of `margin`: the flag for fixed priorities, and those for workers and budget.
+fn margin_options<'a>(alloc: Global) -> Result<Command<'a>, AllocError>
+    ensures app { IfOk result (λ c. app_of c ≡ margin_options_app) }
+    ensures local { IfOk result (λ c. (out-Command c).has_globals ≡ false) }
+{
+    let command = Command::new(alloc, "margin").arg(flag_option(alloc, "fixed"))?;
+    let more = command.arg(workers_option(alloc))?;
+    more.arg(budget_option(alloc))
+}
+
+// The command `margin`: with its options, and the words of two names.
+fn margin<'a>(alloc: Global) -> Result<Command<'a>, AllocError>
+    ensures app { IfOk result (λ c. app_of c ≡ margin_app) }
+    ensures local { IfOk result (λ c. (out-Command c).has_globals ≡ false) }
+{
+    let options = margin_options(alloc)?;
+    let command = options.arg(name_word(alloc, "task"))?;
+    command.arg(name_word(alloc, "vertex"))
 }
 
 // The command line that has no command yet: help, version and the help subcommand are off, and a subcommand is required.
@@ -127,6 +162,13 @@ fn add_timeline<'a>(alloc: Global, top: Command<'a>) -> Result<Command<'a>, Allo
     top.subcommand(timeline(alloc)?)
 }
 
+// The command line with `margin` too.
+fn add_margin<'a>(alloc: Global, top: Command<'a>) -> Result<Command<'a>, AllocError>
+    ensures { IfOk result (λ c. app_of c ≡ with_margin (app_of top.entry)) }
+{
+    top.subcommand(margin(alloc)?)
+}
+
 // The whole command line.
 pub(crate) fn drt<'a>(alloc: Global) -> Result<Command<'a>, AllocError>
     ensures { IfOk result (λ c. app_of c ≡ drt_app) }
@@ -140,5 +182,7 @@ pub(crate) fn drt<'a>(alloc: Global) -> Result<Command<'a>, AllocError>
     let bench = add_bench(alloc, check)?;
     let response = add_search(alloc, bench, "response")?;
     let convert = add_plain(alloc, response, "convert")?;
-    add_timeline(alloc, convert)
+    let timeline = add_timeline(alloc, convert)?;
+    let assign = add_search(alloc, timeline, "assign")?;
+    add_margin(alloc, assign)
 }

@@ -7,9 +7,13 @@ use crate::workers::Workers;
 #[derive(Debug, Drop)]
 pub enum Meaning {
     /// The answer under EDF.
-    Edf { search: Search },
+    Edf {
+        search: Search,
+    },
     /// The answer under fixed priorities.
-    Sp { search: Search },
+    Sp {
+        search: Search,
+    },
     /// The task file as one of version 2.
     Upgrade,
     /// The ratio of each task, and the utilisation.
@@ -17,11 +21,29 @@ pub enum Meaning {
     /// The checker's judgement of a dossier.
     Check,
     /// Both answers to the drawn set of a number.
-    Bench { workers: Workers, number: u64 },
+    Bench {
+        workers: Workers,
+        number: u64,
+    },
     /// The greatest response time of each vertex, with releases that reach it.
-    Response { search: Search },
+    Response {
+        search: Search,
+    },
     /// A file of sporadic and multiframe tasks, as a task file.
     Convert,
     /// Who runs when: in the releases of a dossier or, where a vertex is named, in those of its response. As a picture, or as a text.
-    Timeline { svg: bool, vertex: Option<Spot> },
+    Timeline {
+        svg: bool,
+        vertex: Option<Spot>,
+    },
+    /// Priorities under which each task meets its deadlines.
+    Assign {
+        search: Search,
+    },
+    /// By how much the worst-case execution time of a vertex can grow: under fixed priorities, or under EDF.
+    Margin {
+        fixed: bool,
+        spot: Spot,
+        search: Search,
+    },
 }

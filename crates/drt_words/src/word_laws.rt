@@ -1,7 +1,7 @@
 //! Laws of the meaning: what plain lists mean, and which lists are refused.
 ghost use Rattle.std.specs.Prelude.{◌≡◌, ◌==◌, ◌∷◌, [], List, ℕ, None, Some, codes, false};
 ghost use Rattle.std.specs.Str.{bytes_eq};
-ghost use Rattle.drt_words.specs.Plain.{BeginsPlain, IsPlain, GivesBadNumber};
+ghost use Rattle.drt_words.specs.Plain.{BeginsPlain, IsPlain, GivesBadNumber, MissesNames};
 ghost use Rattle.drt_words.specs.Meaning.{meaning_of};
 
 use crate::meaning::Meaning;
@@ -24,7 +24,7 @@ pub fn unknown_command()
         → bytes_eq (codes "edf") text ≡ false → bytes_eq (codes "sp") text ≡ false → bytes_eq (codes "upgrade") text ≡ false
         → bytes_eq (codes "util") text ≡ false → bytes_eq (codes "check") text ≡ false → bytes_eq (codes "bench") text ≡ false
         → bytes_eq (codes "response") text ≡ false → bytes_eq (codes "convert") text ≡ false
-        → bytes_eq (codes "timeline") text ≡ false
+        → bytes_eq (codes "timeline") text ≡ false → bytes_eq (codes "assign") text ≡ false → bytes_eq (codes "margin") text ≡ false
         → meaning_of (program ∷ text ∷ rest) ≡ None }
 {}
 
@@ -34,8 +34,8 @@ pub fn plain_words()
     ensures first { (d : ℕ) (ds : List ℕ) → (d == 45) ≡ false → BeginsPlain (d ∷ ds) }
 {}
 
-/// A list that gives an option of `edf`, `sp`, `response` or `bench` a value that is no number in its range means nothing,
-/// whatever stands before it and after it.
+/// A list that gives an option of `edf`, `sp`, `response`, `assign`, `bench` or `margin` a value that is no number in its range means
+/// nothing, whatever stands before it and after it. In a list of `margin` no `--` may stand before it: what follows a `--` is a name.
 pub fn bad_numbers()
     ensures { (words : List (List ℕ)) → GivesBadNumber words → meaning_of words ≡ None }
 {}
@@ -43,4 +43,9 @@ pub fn bad_numbers()
 /// A list that names the task of a vertex alone means nothing.
 pub fn one_name()
     ensures { (program task : List ℕ) → BeginsPlain task → meaning_of (program ∷ codes "timeline" ∷ codes "--vertex" ∷ task ∷ []) ≡ None }
+{}
+
+/// A plain list of `margin` with one name or none means nothing.
+pub fn missing_names()
+    ensures { (words : List (List ℕ)) → MissesNames words → meaning_of words ≡ None }
 {}

@@ -2,7 +2,7 @@
 ghost use Rattle.std.specs.Prelude.{◌≡◌, ◌≢◌, ◌≤◌, IfOk, IfSome, MatchResult, List, ℕ, None, Some, map, [], ◌∷◌, codes};
 ghost use Rattle.clap.specs.Words.{subcommand_of, subcommand_rows_of, fault_of, rows_of, found_of};
 ghost use Rattle.drt_words.specs.CommandLine.{drt_app};
-ghost use Rattle.drt_words.specs.Meaning.{bench_at, flag_at, meaning_at, meaning_of, number_at, search_at, spot_at, timeline_at, whole_at};
+ghost use Rattle.drt_words.specs.Meaning.{bench_at, flag_at, margin_at, meaning_at, meaning_of, named_at, number_at, search_at, spot_at, timeline_at, whole_at};
 
 use crate::command_line::drt;
 use crate::meaning::Meaning;
@@ -138,6 +138,38 @@ fn timeline_in(alloc: Global, matches: &ArgMatches) -> Result<Meaning, WordsErro
     Ok(Meaning::Timeline { svg, vertex })
 }
 
+// The vertex that two words name.
+fn named_in(alloc: Global, matches: &ArgMatches) -> Result<Spot, WordsError>
+    ensures spot { IfOk result (λ spot. named_at (rows_of (found_of matches.now)) ≡ Some spot) }
+    ensures refused { result ≡ Err WordsError.Refused → named_at (rows_of (found_of matches.now)) ≡ None }
+{
+    let Some(task) = matches.get_str("task") else {
+        return Err(WordsError::Refused);
+    };
+    let Some(vertex) = matches.get_str("vertex") else {
+        return Err(WordsError::Refused);
+    };
+    match spot_of(alloc, task, vertex) {
+        Ok(spot) => Ok(spot),
+        Err(_) => Err(WordsError::Memory),
+    }
+}
+
+// What `margin` asks for.
+fn margin_in(alloc: Global, matches: &ArgMatches) -> Result<Meaning, WordsError>
+    ensures meaning { IfOk result (λ m. margin_at (rows_of (found_of matches.now)) ≡ Some m) }
+    ensures refused { result ≡ Err WordsError.Refused → margin_at (rows_of (found_of matches.now)) ≡ None }
+{
+    let search = search_in(matches).ok_or(WordsError::Refused)?;
+    let fixed = flag(matches, "fixed");
+    let spot = named_in(alloc, matches)?;
+    Ok(Meaning::Margin {
+        fixed,
+        spot,
+        search,
+    })
+}
+
 // What a command of this name asks for with these options.
 fn meaning_in(alloc: Global, name: &str, matches: &ArgMatches) -> Result<Meaning, WordsError>
     ensures meaning { IfOk result (λ m. meaning_at name.now (rows_of (found_of matches.now)) ≡ Some m) }
@@ -164,6 +196,11 @@ fn meaning_in(alloc: Global, name: &str, matches: &ArgMatches) -> Result<Meaning
         Ok(Meaning::Convert)
     } else if name == "timeline" {
         timeline_in(alloc, matches)
+    } else if name == "assign" {
+        let search = search_in(matches).ok_or(WordsError::Refused)?;
+        Ok(Meaning::Assign { search })
+    } else if name == "margin" {
+        margin_in(alloc, matches)
     } else {
         Err(WordsError::Refused)
     }

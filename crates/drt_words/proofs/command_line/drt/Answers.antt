@@ -2,7 +2,7 @@
 use Rattle.std.proofs.Common.{◌≡◌, ap, ◌∙◌, codes}
 use Rattle.std.proofs.lemmas.Result.{IfOk-weaker}
 use Rattle.clap.specs.Words.{app_of}
-use Rattle.drt_words.specs.CommandLine.{drt_app, with_bench, with_plain, with_search, with_timeline}
+use Rattle.drt_words.specs.CommandLine.{drt_app, with_bench, with_margin, with_plain, with_search, with_timeline}
 use Rattle.drt_words.proofs.command_line.drt.Goals as goal
 
 pub returns : goal.returns
@@ -12,5 +12,7 @@ returns c =
     let bench = c.in_ok-bench.ensures ∙ ap with_bench (c.in_ok-check.ensures ∙ ap (λ a. with_plain a (codes "check")) util) in
     let response = c.in_ok-response.ensures ∙ ap (λ a. with_search a (codes "response")) bench in
     let convert = c.in_ok-convert.ensures ∙ ap (λ a. with_plain a (codes "convert")) response in
-    IfOk-weaker c.add_timeline.result (λ x. app_of x ≡ with_timeline (app_of c.in_ok-convert.convert)) (λ x. app_of x ≡ drt_app)
-    (λ x e. e ∙ ap with_timeline convert) c.add_timeline.ensures
+    let timeline = c.in_ok-timeline.ensures ∙ ap with_timeline convert in
+    let assign = c.in_ok-assign.ensures ∙ ap (λ a. with_search a (codes "assign")) timeline in
+    IfOk-weaker c.add_margin.result (λ x. app_of x ≡ with_margin (app_of c.in_ok-assign.assign)) (λ x. app_of x ≡ drt_app)
+    (λ x e. e ∙ ap with_margin assign) c.add_margin.ensures
