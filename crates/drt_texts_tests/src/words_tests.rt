@@ -1,4 +1,4 @@
-use drt_words::{Meaning, Spot, words_of};
+use drt_words::{Meaning, Search, Spot, words_of};
 use std::alloc::Global;
 use std::test::Fail;
 
@@ -19,13 +19,25 @@ fn means_edf(alloc: Global, words: &[&str], budget: u32) -> bool {
     }
 }
 
+// Whether these are the numbers of this search.
+fn has_numbers(search: &Search, workers: u32, budget: u32) -> bool {
+    search.workers() == workers && search.budget() == budget
+}
+
 // Whether these words mean `response` with so many workers and so many steps.
 fn means_response(alloc: Global, words: &[&str], workers: u32, budget: u32) -> bool {
     let meaning = meaning_of(alloc, words);
     match &meaning {
-        Some(Meaning::Response { search }) => {
-            search.workers() == workers && search.budget() == budget
-        }
+        Some(Meaning::Response { search }) => has_numbers(search, workers, budget),
+        _ => false,
+    }
+}
+
+// Whether these words mean `assign` with so many workers and so many steps.
+fn means_assign(alloc: Global, words: &[&str], workers: u32, budget: u32) -> bool {
+    let meaning = meaning_of(alloc, words);
+    match &meaning {
+        Some(Meaning::Assign { search }) => has_numbers(search, workers, budget),
         _ => false,
     }
 }
@@ -45,13 +57,16 @@ fn means_convert(alloc: Global, words: &[&str]) -> bool {
     matches!(&meaning, Some(Meaning::Convert))
 }
 
+// Whether these are the names of this vertex.
+fn has_names(spot: &Spot, task: &str, vertex: &str) -> bool {
+    spot.task.as_slice() == task.as_bytes() && spot.vertex.as_slice() == vertex.as_bytes()
+}
+
 // Whether these are the names of this vertex, or both are missing.
 fn names_vertex(vertex: &Option<Spot>, names: Option<(&str, &str)>) -> bool {
     match (vertex, names) {
         (None, None) => true,
-        (Some(spot), Some((task, name))) => {
-            spot.task.as_slice() == task.as_bytes() && spot.vertex.as_slice() == name.as_bytes()
-        }
+        (Some(spot), Some((task, name))) => has_names(spot, task, name),
         _ => false,
     }
 }
@@ -66,6 +81,31 @@ fn means_timeline(
     let meaning = meaning_of(alloc, words);
     match &meaning {
         Some(Meaning::Timeline { svg, vertex }) => *svg == picture && names_vertex(vertex, names),
+        _ => false,
+    }
+}
+
+// Whether these words mean `margin` with this flag, these names, and so many workers and so many steps.
+fn means_margin(
+    alloc: Global,
+    words: &[&str],
+    flag: bool,
+    names: (&str, &str),
+    numbers: (u32, u32),
+) -> bool {
+    let meaning = meaning_of(alloc, words);
+    match &meaning {
+        Some(
+            Meaning::Margin {
+                fixed,
+                spot,
+                search,
+            },
+        ) => {
+            *fixed == flag
+                && has_names(spot, names.0, names.1)
+                && has_numbers(search, numbers.0, numbers.1)
+        }
         _ => false,
     }
 }
@@ -112,6 +152,20 @@ fn words_of_response_mean_its_workers_and_budget(rt: HostRuntime) -> Result<(), 
 }
 
 #[test]
+fn words_of_assign_mean_its_workers_and_budget(rt: HostRuntime) -> Result<(), Fail> {
+    let one = ["drt", "assign"];
+    let apart = ["drt", "assign", "--budget", "7", "--workers", "16"];
+    let cases: [(&[&str], u32, u32); 2] = [(one.as_slice(), 4, 100_000), (apart.as_slice(), 16, 7)];
+    for (words, workers, budget) in cases {
+        assert!(rt;
+            means_assign(rt.alloc(), words, workers, budget),
+            "{words:?}"
+        );
+    }
+    Ok(())
+}
+
+#[test]
 fn words_of_convert_mean_it(rt: HostRuntime) -> Result<(), Fail> {
     assert!(rt; means_convert(rt.alloc(), ["drt", "convert"].as_slice()));
     Ok(())
@@ -133,6 +187,41 @@ fn words_of_timeline_mean_its_picture_and_its_vertex(rt: HostRuntime) -> Result<
     ];
     for (words, svg, names) in cases {
         assert!(rt; means_timeline(rt.alloc(), words, svg, names), "{words:?}");
+    }
+    Ok(())
+}
+
+#[test]
+fn words_of_margin_mean_its_names_and_its_search(rt: HostRuntime) -> Result<(), Fail> {
+    let bare = ["drt", "margin", "engine", "mid"];
+    let front = [
+        "drt",
+        "margin",
+        "--fixed",
+        "--workers=2",
+        "--budget",
+        "7",
+        "t",
+        "",
+    ];
+    let back = ["drt", "margin", "-", "t=1", "--budget=1000000", "--fixed"];
+    let behind = ["drt", "margin", "--", "--fixed", "--workers=0"];
+    let cases: [(&[&str], bool, (&str, &str), (u32, u32)); 4] = [
+        (bare.as_slice(), false, ("engine", "mid"), (4, 100_000)),
+        (front.as_slice(), true, ("t", ""), (2, 7)),
+        (back.as_slice(), true, ("-", "t=1"), (4, 1_000_000)),
+        (
+            behind.as_slice(),
+            false,
+            ("--fixed", "--workers=0"),
+            (4, 100_000),
+        ),
+    ];
+    for (words, fixed, names, numbers) in cases {
+        assert!(rt;
+            means_margin(rt.alloc(), words, fixed, names, numbers),
+            "{words:?}"
+        );
     }
     Ok(())
 }
