@@ -11,6 +11,8 @@ use Rattle.drt_command_check.specs.Check.{check_rules}
 use Rattle.drt_command_bench.specs.Bench.{bench_rules}
 use Rattle.drt_command_response.specs.Response.{response_rules}
 use Rattle.drt_command_convert.specs.Convert.{convert_rules}
+use Rattle.drt_command_assign.specs.Assign.{assign_rules}
+use Rattle.drt_command_margin.specs.Margin.{margin_rules}
 use Rattle.drt_command_timeline.specs.Timeline.{timeline_rules}
 use Rattle.drt_command_timeline.specs.Response.{response_timeline_rules}
 
@@ -24,5 +26,7 @@ rules_of means.Check = check_rules
 rules_of (means.Bench workers number) = bench_rules number
 rules_of (means.Response search) = response_rules search.budget
 rules_of means.Convert = convert_rules
+rules_of (means.Assign search) = assign_rules search.budget
+rules_of (means.Margin fixed spot search) = margin_rules fixed spot.task spot.vertex search.budget
 rules_of (means.Timeline svg None) = timeline_rules svg
 rules_of (means.Timeline svg (Some spot)) = response_timeline_rules svg spot.task spot.vertex

@@ -10,10 +10,12 @@ ghost use Rattle.drt_words.specs.Meaning.{meaning_of};
 ghost use Rattle.drt_top.specs.commands.{rules_of};
 
 use drt_command::conduct;
+use drt_command_assign::{self as assign, Assign};
 use drt_command_bench::{self as bench, Bench};
 use drt_command_check::Check;
 use drt_command_convert::Convert;
 use drt_command_edf::{self as edf, Edf};
+use drt_command_margin::{self as margin, Margin};
 use drt_command_response::{self as response, Responses};
 use drt_command_sp::{self as sp, Sp};
 use drt_command_timeline::{ResponseTimeline, Timeline};
@@ -31,7 +33,8 @@ use std::thread::Threads;
 /// Runs the command that the words name: it reads a task file from the source, for `convert` a classic file, for `check` and `timeline` a
 /// dossier (`timeline` of a vertex: a task file with its responses behind it) and for `bench` nothing, and writes what the command makes
 /// of it to the sink. Statuses: 0 done, and for `edf`, `sp`, `response` and `check` the
-/// set is schedulable; 1 for these it isn't; 2 for `edf` and `check` the utilisation is one; 3 for `edf`, `sp` and `response`
+/// set is schedulable; 1 for these it isn't, for `assign` no priorities make it so, for `margin` it isn't as it is, and for `timeline` a no is
+/// shown; 2 for `edf`, `margin` and `check` the utilisation is one; 3 for `edf`, `sp`, `response`, `assign` and `margin`
 /// a budget was spent, with the trail, and for `check` there is nothing to check; 4 the file is refused with a
 /// fault; 5 the words are refused; 6 a read failed; 7 a write failed; 8 no memory was to be had; 9 the
 /// evidence of the dossier is rejected; 10 the dossier is refused with a fault.
@@ -111,6 +114,23 @@ fn dispatch<S: Source, K: Sink, G: Gate, R: Threads + Wait + Sync>(
             response::conduct(rt, alloc, &Responses { search }, source, sink, gate)
         }
         Meaning::Convert => conduct(alloc, &Convert, source, sink),
+        Meaning::Assign { search } => {
+            assign::conduct(rt, alloc, &Assign { search }, source, sink, gate)
+        }
+        Meaning::Margin {
+            fixed,
+            spot,
+            search,
+        } => {
+            let Spot { task, vertex } = spot;
+            let command = Margin {
+                fixed,
+                task: Row::from_vec(task.into_vec()),
+                vertex: Row::from_vec(vertex.into_vec()),
+                search,
+            };
+            margin::conduct(rt, alloc, &command, source, sink, gate)
+        }
         Meaning::Timeline { svg, vertex } => match vertex {
             None => conduct(alloc, &Timeline { svg }, source, sink),
             Some(spot) => {
