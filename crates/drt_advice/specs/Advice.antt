@@ -36,7 +36,7 @@ trail_sentence (trails.Table task log) = spent_at (codes "undecided: the search 
 trail_sentence (trails.Refine task vertex log) = spent_in (codes "undecided: the refinement for vertex ") vertex task
 trail_sentence (trails.Overload last) = spent_at (codes "undecided: the search for an overload, at time ") last
 trail_sentence (trails.Bench edf fixed) = []
-trail_sentence (trails.Assign higher task vertex log) = spent_in (codes "undecided: with the other open tasks above it, the refinement for vertex ") vertex task
+trail_sentence (trails.Assign higher task vertex log) = spent_in (codes "undecided: the refinement below the other open tasks for vertex ") vertex task
 trail_sentence (trails.Response task vertex taken) = spent_in (codes "undecided: the search for the response of vertex ") vertex task
 
 -- The sentence of an outcome; an answer has none.

@@ -120,7 +120,7 @@ fn trail_sentence(alloc: Global, trail: &Trail) -> Result<Vec<u8>, Memory>
         ),
         Trail::Assign { task, vertex, .. } => spent_in(
             alloc,
-            b"undecided: with the other open tasks above it, the refinement for vertex ",
+            b"undecided: the refinement below the other open tasks for vertex ",
             *vertex,
             *task,
         ),
