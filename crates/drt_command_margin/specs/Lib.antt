@@ -2,3 +2,4 @@ pub mod Text
 pub mod Verdict
 pub mod Besides
 pub mod Margin
+pub mod Steps

@@ -1,17 +1,17 @@
 //! `margin`: how much the execution time of a vertex can grow.
-ghost use Rattle.std.specs.Prelude.{◌≡◌, ◌≢◌, ◌≤◌, IfErr, IfOk};
+ghost use Rattle.std.specs.Prelude.{◌≡◌, ◌≢◌, ◌≤◌, ℕ, IfErr, IfOk, MatchOption};
 ghost use Rattle.drt_io.specs.Causes.{Rose};
 ghost use Rattle.drt_command.specs.declared.input.Input.{Input};
 ghost use Rattle.drt_command.specs.Inputs.{IsWithin};
 ghost use Rattle.drt_command.specs.Rules.{IsCause};
 ghost use Rattle.drt_command.specs.Runs.{IsRun};
-ghost use Rattle.drt_command_edf.specs.Edf.{beyond_code};
-ghost use Rattle.drt_command_files.specs.Spots.{IsSpot};
+ghost use Rattle.drt_command_files.specs.Spots.{NamesNone};
 ghost use Rattle.drt_command_files.specs.TaskFiles.{IsAccepted};
 ghost use Rattle.drt_margin.specs.Answers.{IsMarginAnswer};
 ghost use Rattle.drt_margin.specs.Margin.{IsVertexOf};
 ghost use Rattle.drt_command_margin.specs.Besides.{IsReportOf, margin_trail};
-ghost use Rattle.drt_command_margin.specs.Margin.{margin_rules, policy_of};
+ghost use Rattle.drt_command_margin.specs.Margin.{IsProbed, margin_rules, policy_of};
+ghost use Rattle.drt_command_margin.specs.Steps.{IsProbeCause, IsSpotOf};
 
 use crate::spot::Spot;
 use crate::text::print_margin;
@@ -93,7 +93,9 @@ fn make<G: Gate, R: Threads + Wait + Sync>(
 }
 
 // The vertex that the command names, with its policy.
-fn spot_in(set: &TaskSet, command: &Margin) -> Option<Spot> {
+fn spot_in(set: &TaskSet, command: &Margin) -> Option<Spot>
+    ensures { MatchOption result (NamesNone command.now.task command.now.vertex set.now.tasks) (IsSpotOf set.now command.now) }
+{
     let (task, vertex) = spot_of(set, command.task.as_slice(), command.vertex.as_slice())?;
     let policy = if command.fixed {
         Policy::Fixed
@@ -117,6 +119,10 @@ fn answer<G: Gate, R: Threads + Wait + Sync>(
     spot: Spot,
     gate: &G,
 ) -> Result<Report, Unmade>
+    requires accepted { IsAccepted bytes.now set }
+    requires spot { IsSpotOf set command.now spot }
+    ensures makes { IfOk result ((margin_rules command.now.fixed command.now.task command.now.vertex command.now.search.budget).makes bytes.now) }
+    ensures unmade { IfErr result (IsCause (IsProbed (policy_of command.now.fixed) command.now.task command.now.vertex) bytes.now) }
 {
     let (workers, budget) = (command.search.workers(), u64::from(command.search.budget()));
     match margin(
@@ -142,6 +148,10 @@ fn report_of(
     spot: Spot,
     answer: MarginAnswer,
 ) -> Result<Report, Unmade>
+    requires vertex { IsVertexOf set.tasks spot.task spot.vertex }
+    requires answer { (budget : ℕ) × IsMarginAnswer set spot.policy spot.task spot.vertex budget answer }
+    ensures report { IfOk result (IsReportOf spot.policy set spot.task spot.vertex answer) }
+    ensures unmade { IfErr result (IsProbeCause answer) }
 {
     match answer {
         MarginAnswer::Found { add, within, next } => {
