@@ -1,1 +1,3 @@
 pub mod Task
+pub mod Trees
+pub mod Laws

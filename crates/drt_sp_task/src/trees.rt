@@ -1,0 +1,103 @@
+//! The trees of the tasks of higher priority.
+ghost use Rattle.std.specs.Prelude.{◌≡◌, ℕ, ◌+◌, ◌<◌, ◌≤◌, Some, slice_get, length, IfOk, MatchOption};
+ghost use Rattle.drt_sp_task.specs.Trees.{AreTreesUpTo, IsGiven, IsGrown, IsSpentAt};
+
+use crate::effort::{Effort, Given};
+use drt_model::Memory;
+use drt_pool::Gate;
+use drt_sp::{TreeSearch, greatest_deadline, search_tree};
+use drt_trails::FixedTrail;
+use drt_tree::Forest;
+use std::sync::Wait;
+use std::thread::Threads;
+
+/// Trees that stand for the walks of tasks, by their roots in one forest, in order of priority.
+#[derive(Drop)]
+pub(crate) struct HigherTrees {
+    pub(crate) forest: Forest,
+    pub(crate) roots: Vec<u32>,
+}
+
+/// How the searches of the walks of all tasks of higher priority end.
+#[derive(Drop)]
+pub(crate) enum Grown {
+    /// Each is finished, and these are the trees.
+    Trees(HigherTrees),
+    /// One spent its budget.
+    Spent(FixedTrail),
+}
+
+/// The trees of the tasks of higher priority than this one.
+pub(crate) fn grow_trees<G: Gate, R: Threads + Wait + Sync>(
+    effort: &Effort<'_, G, R>,
+    given: Given<'_>,
+    task: u32,
+) -> Result<Grown, Memory>
+    requires workers { (1 ≤ effort.now.workers) × (effort.now.workers ≤ 16) }
+    requires budget { (1 ≤ effort.now.budget) × (effort.now.budget ≤ 1000000) }
+    requires given { IsGiven given }
+    requires task { task < length given.set.now.tasks }
+    ensures { IfOk result (IsGrown given.entry effort.now.budget task) }
+{
+    let _tasks = given.set.tasks();
+    let mut trees = HigherTrees {
+        forest: Forest::empty(effort.alloc),
+        roots: Vec::new(effort.alloc),
+    };
+    let end = place_of(given.order, task);
+    'places: for place in 0..end {
+        if let Some(trail) = add_tree(effort, given, place, &mut trees)? {
+            return Ok(Grown::Spent(trail));
+        }
+    }
+    Ok(Grown::Trees(trees))
+}
+
+// The place of a task in the order.
+fn place_of(order: &[u32], task: u32) -> usize
+    requires { (i : ℕ) × (slice_get order.now i ≡ Some task) }
+    ensures { slice_get order.now result ≡ Some task }
+{
+    'places: for i in 0..order.len() {
+        if order[i] == task {
+            return i;
+        }
+    }
+    unreachable!()
+}
+
+// Adds the tree of the task at this place of the order to those of the tasks before it. A trail ends the analysis.
+fn add_tree<G: Gate, R: Threads + Wait + Sync>(
+    effort: &Effort<'_, G, R>,
+    given: Given<'_>,
+    place: usize,
+    trees: &mut HigherTrees,
+) -> Result<Option<FixedTrail>, Memory>
+    requires workers { (1 ≤ effort.now.workers) × (effort.now.workers ≤ 16) }
+    requires budget { (1 ≤ effort.now.budget) × (effort.now.budget ≤ 1000000) }
+    requires given { IsGiven given }
+    requires here { place < length given.order.now }
+    requires before { AreTreesUpTo given place trees.old }
+    ensures { IfOk result (λ trail. MatchOption trail (AreTreesUpTo given.entry (place + 1) trees.new) (IsSpentAt given.entry effort.now.budget place)) }
+{
+    let _tasks = given.set.tasks();
+    let _count = given.graphs.count();
+    trees.forest.show_sound();
+    let task = given.order[place];
+    match search_tree(
+        effort.rt,
+        effort.alloc,
+        given.graphs.graph(task),
+        greatest_deadline(given.set),
+        effort.workers,
+        effort.budget,
+        effort.gate,
+        &mut trees.forest,
+    )? {
+        TreeSearch::Tree(tree) => {
+            trees.roots.push(tree.top)?;
+            Ok(None)
+        }
+        TreeSearch::Spent(log) => Ok(Some(FixedTrail::Table { task, log })),
+    }
+}
