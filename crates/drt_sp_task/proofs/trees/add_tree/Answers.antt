@@ -45,5 +45,6 @@ returns-in-Spent g c =
     let at : slice_get order place ≡ Some k = at_place tasks order c.requires.given.order place c.requires.here in
     let below : k < length tasks = order_below tasks order c.requires.given.order place c.requires.here in
     let graph : c.graph.result.now ≡ graph_at tasks k = graph_here given c.requires.given k below c.graph.result.now c.graph.ensures.graph in
-    let spent : IsSpentSearch (graph_at tasks k) (greatest_deadline tasks) c.args.effort.now.budget c.in-Spent.log = rw (c.in-Spent.is, graph, c.greatest_deadline.ensures.value) at c.in_ok-tree.ensures in
+    let spent : IsSpentSearch (graph_at tasks k) (greatest_deadline tasks) c.args.effort.now.budget c.in-Spent.log
+    = rw (c.in-Spent.is, graph, c.greatest_deadline.ensures.value) at c.in_ok-tree.ensures in
     (at, spent)
