@@ -1,5 +1,5 @@
 -- What the trees of the tasks of higher priority say of the task: where its analysis stands at a vertex, and what ends it.
-use Rattle.std.proofs.Common.{◌≡◌, ℕ, ◌+◌, ◌<◌, ◌≤◌, List, [], ◌∷◌, ◌++◌, length, get_or, refl, sym, ap, ◌∙◌, subst, arith}
+use Rattle.std.proofs.Common.{◌≡◌, ℕ, ◌+◌, ◌<◌, ◌≤◌, List, [], ◌∷◌, ◌++◌, length, refl, sym, ap, ◌∙◌, subst, arith}
 use Rattle.std.specs.Prelude.{Some, slice_get}
 use Rattle.std.proofs.lemmas.List.{length-map}
 use Rattle.std.proofs.lemmas.Option.{get_or_from_slice_get, slice_get_within}
@@ -20,13 +20,11 @@ use Rattle.drt_evidence.specs.declared.evidence.ProofClaim.{ProofClaim}
 use Rattle.drt_releases.proofs.Walks.{graph_same}
 use Rattle.drt_trails.specs.declared.FixedTrail.{FixedTrail}
 use Rattle.drt_trails.specs.declared.FixedTrail.TheVariants.{Table, Refine}
-use Rattle.drt_sp.specs.Answers.{IsTupleFor}
 use Rattle.drt_sp.specs.Items.{IsFailure, IsSpentRefinement}
 use Rattle.drt_sp.specs.Progress.{AreGrown}
 use Rattle.drt_sp.specs.TaskTrees.{IsTaskTree}
 use Rattle.drt_sp.specs.Vertices.{AreVertexProofs, IsStop, TuplesPass}
 use Rattle.drt_sp.specs.declared.trees.TaskTree.{TaskTree}
-use Rattle.drt_sp.specs.declared.walks.VertexTuple.{VertexTuple}
 use Rattle.drt_sp.proofs.Growth.{grown_more, none_grown}
 use Rattle.drt_sp.proofs.Orders.{order_count, order_place, order_rises}
 use Rattle.drt_sp.proofs.Passing.{at_place, chosen_at, claimed_nodes, posed_at, proofs_pass, task_below, vertex_passes}

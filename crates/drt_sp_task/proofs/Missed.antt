@@ -5,7 +5,6 @@ use Rattle.std.specs.Prelude.{Some, slice_get}
 use Rattle.std.proofs.lemmas.Bool.{cases_eq, cases_lt}
 use Rattle.std.proofs.lemmas.List.{get_or_default}
 use Rattle.drt_model.specs.declared.jobs.Miss.{Miss}
-use Rattle.drt_model.specs.declared.jobs.Policy.TheVariants.{Fixed}
 use Rattle.drt_model.specs.declared.jobs.Release.{Release}
 use Rattle.drt_model.specs.declared.tasks.Task.{Task}
 use Rattle.drt_model.specs.Constrained.{AreConstrained}
@@ -14,7 +13,7 @@ use Rattle.drt_model.specs.Legal.{IsLegal}
 use Rattle.drt_model.specs.Limits.{IsTaskSet}
 use Rattle.drt_model.specs.Misses.{miss_of}
 use Rattle.drt_model.specs.Schedulable.{job_of, jobs_of, priority_of}
-use Rattle.drt_model.specs.Trace.{Misses, job_at}
+use Rattle.drt_model.specs.Trace.{job_at}
 use Rattle.drt_model.specs.Walk.{deadline, wcet}
 use Rattle.drt_model.proofs.JobLemmas.{job_at-jobs_of, no_release}
 use Rattle.drt_busy.specs.Choice.{AreWalks, graph_at, requests, task_at}
@@ -23,9 +22,8 @@ use Rattle.drt_busy.specs.WalkReleases.{release_at, with_job}
 use Rattle.drt_busy.proofs.EdfWalks.{deadline_here}
 use Rattle.drt_busy.proofs.FixedWalks.{priority_here}
 use Rattle.drt_tree.specs.Tree.{Plain}
-use Rattle.drt_refine.specs.Below.{AreBelow}
-use Rattle.drt_choices.specs.Choices.{IsOrder, chosen}
-use Rattle.drt_choices.specs.Laws.{IsPosed, no_releases}
+use Rattle.drt_choices.specs.Choices.{chosen}
+use Rattle.drt_choices.specs.Laws.{no_releases}
 use Rattle.drt_choices.proofs.Asked.{requests_asked}
 use Rattle.drt_choices.proofs.Chosen.{below_length, chosen_asked, chosen_walks}
 use Rattle.drt_choices.proofs.Members.{first_job, is_higher, job_releases, of_walks}

@@ -1,7 +1,6 @@
-use Rattle.std.proofs.Common.{◌<◌, length, arith}
+use Rattle.std.proofs.Common.{arith}
 use Rattle.std.proofs.lemmas.Option.{slice_get_within}
 use Rattle.drt_sp_task.specs.Trees.{IsSpentAt}
-use Rattle.drt_sp_task.specs.declared.effort.Given.{Given}
 use Rattle.drt_sp_task.proofs.Above.{none_yet, spent_above, task_place}
 use Rattle.drt_sp_task.proofs.trees.grow_trees.Goals as goal
 
