@@ -1,5 +1,5 @@
 -- The events of jobs are all that happen, each once.
-use Rattle.std.proofs.Common.{inl, inr, ◌⊎◌, ◌≡◌, ℕ, zero, suc, ◌+◌, ◌<◌, ◌≤◌, Bool, true, false, ◌&&◌, ◌||◌, cond, eqb, ltb, leb, List, [], ◌∷◌, ◌++◌, length, get_or, All, Contains, IsPermutation, Option, Some, None, refl, sym, ap, ◌∙◌, subst, arith, add-one}
+use Rattle.std.proofs.Common.{inl, inr, ◌⊎◌, ◌≡◌, ℕ, ◌+◌, ◌<◌, ◌≤◌, Bool, true, false, ◌&&◌, ◌||◌, eqb, ltb, List, [], ◌∷◌, ◌++◌, length, get_or, All, Contains, IsPermutation, Option, Some, None, refl, sym, ap, ◌∙◌, subst, arith}
 use Rattle.std.specs.List.{IsDistinct}
 use Rattle.std.specs.List.Sorted.{IsSortedByKey}
 use Rattle.std.specs.declared.cmp.Ordering.{Ordering}
@@ -13,12 +13,12 @@ use Rattle.drt_model.specs.declared.jobs.Job.{Job}
 use Rattle.drt_model.specs.declared.jobs.Policy.{Policy}
 use Rattle.drt_model.specs.Trace.{job_at, done, Misses, IsFinish}
 use Rattle.drt_model.proofs.MachineLemmas.{done_mono_le, done-le-need}
-use Rattle.drt_replay.specs.Board.{IsLeft, AreFinishes, IsFinishSoFar}
+use Rattle.drt_replay.specs.Board.{IsFinishSoFar}
 use Rattle.drt_timeline.specs.declared.event.Event.{Event}
 use Rattle.drt_timeline.specs.declared.event.Mark.{Mark}
 use Rattle.drt_timeline.specs.declared.event.Mark.TheVariants.{Finish, Deadline, Miss, Release}
 use Rattle.drt_timeline.specs.Events.{AreEvents, Happens, IsBefore, IsEvent, mark_rank}
-use Rattle.drt_timeline.specs.Gathering.{deadline_events, deadline_mark, events_below, finish_events, finish_of, job_events, order_cmp, order_of, release_events}
+use Rattle.drt_timeline.specs.Gathering.{deadline_events, deadline_mark, finish_events, job_events, order_cmp, order_of, release_events}
 
 -- Two events are of one kind and of one job.
 abbrev pub same_kind : Event → Event → Bool
@@ -198,43 +198,45 @@ module _ (policy : Policy) (jobs : List Job) (until j : ℕ) (finish : Option �
             (subst (λ x. Contains (job_events j (job_at jobs j) finish until) (record { time = (job_at jobs j).deadline; mark = x; job = j })) e (has_deadline j (job_at jobs j) finish until (omega (arith, h.0))))
       ]
 
--- the events of all jobs
-module _ (policy : Policy) (jobs : List Job) (until : ℕ) (lefts ends : List ℕ) (left : IsLeft policy jobs until lefts) (finishes : AreFinishes policy jobs until lefts ends) where
-  so_far : (j : ℕ) → j < length jobs → IsFinishSoFar policy jobs until j (finish_of lefts ends j)
-  so_far j h = elim (cases_eq (get_or lefts j 0) 0) [
-    | inl z ↦ rw (eq-eqb (get_or lefts j 0) 0 z) (finishes.each j h z)
-    | inr ne ↦ rw (ne_eqb (get_or lefts j 0) 0 ne) (omega (arith, left.each j h, ne))
-  ]
+-- The events of the first n jobs, each once.
+pub record AreEventsBelow (policy : Policy) (jobs : List Job) (until n : ℕ) (events : List Event) : Type 0 where
+  pub each : All (IsEvent policy jobs until) events
+  pub has : (e : Event) → e.job < n → IsEvent policy jobs until e → Contains events e
+  pub below : All (λ e. e.job < n) events
+  pub distinct : IsDistinct same_kind events
 
-  all_each : (n : ℕ) → n ≤ length jobs → All (IsEvent policy jobs until) (events_below jobs lefts ends until n)
-  unfolding events_below
-  all_each zero h = All-nil (IsEvent policy jobs until)
-  all_each (suc j) h = All-append (IsEvent policy jobs until) (events_below jobs lefts ends until j) (job_events j (job_at jobs j) (finish_of lefts ends j) until)
-      (all_each j (omega arith)) (job_each policy jobs until j (finish_of lefts ends j) (so_far j (omega arith)) (omega arith))
+-- of no job
+pub events_none : (policy : Policy) (jobs : List Job) (until : ℕ) → AreEventsBelow policy jobs until 0 []
+events_none policy jobs until = record {
+  each = All-nil (IsEvent policy jobs until);
+  has = λ e l is. absurd (omega arith);
+  below = All-nil (λ e. e.job < 0);
+  distinct = no_double;
+}
 
-  all_has : (n : ℕ) → n ≤ length jobs → (e : Event) → e.job < n → IsEvent policy jobs until e → Contains (events_below jobs lefts ends until n) e
-  unfolding events_below
-  all_has zero h e l is = absurd (omega arith)
-  all_has (suc j) h e l is = elim (cases_eq e.job j) [
-    | inr ne ↦ Contains-append_left (events_below jobs lefts ends until j) (job_events j (job_at jobs j) (finish_of lefts ends j) until) e (all_has j (omega arith) e (omega (arith, ne)) is)
-    | inl same ↦ Contains-append_right (events_below jobs lefts ends until j) (job_events j (job_at jobs j) (finish_of lefts ends j) until) e
-        (subst (λ x. Contains (job_events x (job_at jobs x) (finish_of lefts ends x) until) e) same
-        (job_has policy jobs until e.job (finish_of lefts ends e.job) (so_far e.job is.here) e.mark e.time is.in_time is.happens))
-  ]
-
-  all_below : (n : ℕ) → All (λ e. e.job < n) (events_below jobs lefts ends until n)
-  unfolding events_below
-  all_below zero = All-nil (λ e. e.job < 0)
-  all_below (suc j) = All-append (λ e. e.job < suc j) (events_below jobs lefts ends until j) (job_events j (job_at jobs j) (finish_of lefts ends j) until)
-      (All-weaker (λ e. e.job < j) (λ e. e.job < suc j) (λ e h. omega arith) (events_below jobs lefts ends until j) (all_below j))
-      (job_all j (job_at jobs j) (finish_of lefts ends j) until (λ e. e.job < suc j) (λ n e. omega arith) (λ by. omega arith) (λ by. omega arith))
-
-  all_distinct : (n : ℕ) → IsDistinct same_kind (events_below jobs lefts ends until n)
-  unfolding events_below
-  all_distinct zero = no_double
-  all_distinct (suc j) = distinct_append (λ e. e.job < j) (λ e. e.job ≡ j) (λ e f p q. other_job e f (λ s. omega (arith, p, q, s))) (events_below jobs lefts ends until j) (job_events j (job_at jobs j) (finish_of lefts ends j) until)
-      (all_below j) (job_all j (job_at jobs j) (finish_of lefts ends j) until (λ e. e.job ≡ j) (λ n e. refl) (λ by. refl) (λ by. refl))
-      (all_distinct j) (job_distinct j (job_at jobs j) (finish_of lefts ends j) until)
+-- of one more job
+pub events_more : (policy : Policy) (jobs : List Job) (until j : ℕ) → j < length jobs → (finish : Option ℕ) → IsFinishSoFar policy jobs until j finish
+    → (events : List Event) → AreEventsBelow policy jobs until j events → AreEventsBelow policy jobs until (j + 1) (events ++ job_events j (job_at jobs j) finish until)
+events_more policy jobs until j here finish ok events are =
+    let job = job_at jobs j in
+    let more = job_events j job finish until in
+    record {
+      each = All-append (IsEvent policy jobs until) events more are.each (job_each policy jobs until j finish ok here);
+      has = λ e l is. elim (cases_eq e.job j) [
+        | inr ne ↦ Contains-append_left events more e (are.has e (omega (arith, ne)) is)
+        | inl same ↦ Contains-append_right events more e (has_own e same is)
+      ];
+      below = All-append (λ e. e.job < j + 1) events more (All-weaker (λ e. e.job < j) (λ e. e.job < j + 1) (λ e h. omega arith) events are.below)
+          (job_all j job finish until (λ e. e.job < j + 1) (λ n e. omega arith) (λ by. omega arith) (λ by. omega arith));
+      distinct = distinct_append (λ e. e.job < j) (λ e. e.job ≡ j) (λ e f p q. other_job e f (λ s. omega (arith, p, q, s))) events more
+          are.below (job_all j job finish until (λ e. e.job ≡ j) (λ n e. refl) (λ by. refl) (λ by. refl))
+          are.distinct (job_distinct j job finish until);
+    } where
+      has_own : (e : Event) → e.job ≡ j → IsEvent policy jobs until e → Contains (job_events j (job_at jobs j) finish until) e
+      has_own e same is =
+          let happens : Happens policy jobs e.mark j e.time = subst (λ k. Happens policy jobs e.mark k e.time) same is.happens in
+          subst (λ k. Contains (job_events j (job_at jobs j) finish until) (record { time = e.time; mark = e.mark; job = k })) (sym same)
+          (job_has policy jobs until j finish ok e.mark e.time is.in_time happens)
 
 -- one number of a comparison
 is_lt-then : (a b : ℕ) (rest : Ordering) → is_lt (ordering_then (nat_cmp a b) rest) ≡ (ltb a b || (eqb a b && is_lt rest))
@@ -280,25 +282,14 @@ in_order_if e f h apart =
     (λ kind h2. last_in_order e f kind (last_less f.job e.job h2) apart))
 
 -- the sorted events are all that happen, in order
-module _ (policy : Policy) (jobs : List Job) (until : ℕ) (lefts ends : List ℕ) (left : IsLeft policy jobs until lefts) (finishes : AreFinishes policy jobs until lefts ends)
-    (old new : List Event) (gathered : old ≡ events_below jobs lefts ends until (length jobs)) (moved : IsPermutation old new) (sorted : IsSortedByKey order_of order_cmp new) where
+module _ (policy : Policy) (jobs : List Job) (until : ℕ) (old new : List Event) (gathered : AreEventsBelow policy jobs until (length jobs) old)
+    (moved : IsPermutation old new) (sorted : IsSortedByKey order_of order_cmp new) where
   distinct_new : IsDistinct same_kind new
-  distinct_new = IsDistinct-IsPermutation same_kind same_kind-sym old new moved (subst (IsDistinct same_kind) (sym gathered) (all_distinct policy jobs until lefts ends left finishes (length jobs)))
+  distinct_new = IsDistinct-IsPermutation same_kind same_kind-sym old new moved gathered.distinct
 
   pub all_events : AreEvents policy jobs until new
   all_events = record {
-    each = All-permutation (IsEvent policy jobs until) old new moved (subst (All (IsEvent policy jobs until)) (sym gathered) (all_each policy jobs until lefts ends left finishes (length jobs) (omega arith)));
-    all = λ e is. Contains-permutation old new e moved (subst (λ xs. Contains xs e) (sym gathered) (all_has policy jobs until lefts ends left finishes (length jobs) (omega arith) e is.here is));
+    each = All-permutation (IsEvent policy jobs until) old new moved gathered.each;
+    all = λ e is. Contains-permutation old new e moved (gathered.has e is.here is);
     in_order = λ i d h. in_order_if (get_or new i d) (get_or new (i + 1) d) (sorted i d (omega arith) h) (apart_from_distinct same_kind new i (i + 1) d distinct_new (omega arith) h);
   }
-
--- of no job
-pub events_below-none : (jobs : List Job) (lefts ends : List ℕ) (until : ℕ) → events_below jobs lefts ends until 0 ≡ []
-unfolding events_below
-events_below-none jobs lefts ends until = refl
-
--- the events of one more job
-pub events_below-more : (jobs : List Job) (lefts ends : List ℕ) (until j : ℕ) (job : Job) (finish : Option ℕ) → job ≡ job_at jobs j → finish ≡ finish_of lefts ends j
-    → events_below jobs lefts ends until j ++ job_events j job finish until ≡ events_below jobs lefts ends until (j + 1)
-unfolding events_below
-events_below-more jobs lefts ends until j job finish e f = rw add-one (rw (e, f) refl)

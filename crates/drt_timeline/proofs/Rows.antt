@@ -1,7 +1,6 @@
 -- A worked timeline, computed: what a reader can check by hand.
 use Rattle.std.proofs.Common.{◌≡◌, List, [], ◌∷◌, refl, Some, None}
 use Rattle.std.specs.Prelude.{codes, decimal}
-use Rattle.drt_model.specs.declared.jobs.Job.{Job}
 use Rattle.drt_model.specs.declared.jobs.Policy.TheVariants.{Edf}
 use Rattle.drt_model.specs.declared.jobs.Release.{Release}
 use Rattle.drt_model.specs.declared.tasks.Task.{Task}

@@ -1,5 +1,5 @@
 -- The spans stay those of the ticks so far when a stretch of ticks comes behind them.
-use Rattle.std.proofs.Common.{inl, inr, ◌⊎◌, ◌≡◌, ℕ, suc, ◌+◌, ◌-◌, ◌<◌, ◌≤◌, List, [], ◌∷◌, ◌++◌, length, get_or, set, All, Any, Option, Some, None, refl, sym, ap, ◌∙◌, subst, arith}
+use Rattle.std.proofs.Common.{inl, inr, ◌≡◌, ℕ, ◌+◌, ◌<◌, ◌≤◌, List, [], ◌∷◌, ◌++◌, length, get_or, set, All, Any, Some, None, refl, sym, ap, ◌∙◌, subst, arith}
 use Rattle.std.proofs.lemmas.Bool.{cases_eq, cases_lt}
 use Rattle.std.proofs.lemmas.List.{get_or-set_same, get_or-set_other, length-set, length_push, get_or_default, get_or_append_left}
 use Rattle.std.proofs.Math.Seq.{get_or-append_seam}
@@ -10,7 +10,7 @@ use Rattle.drt_model.specs.Legal.{AllNeighbours}
 use Rattle.drt_model.specs.Trace.{pick}
 use Rattle.drt_timeline.specs.declared.span.Span.{Span}
 use Rattle.drt_timeline.specs.Spans.{IsSpan, IsIn, IsNext, AreSpans}
-use Rattle.drt_timeline.specs.Joining.{Adjoins, IsAdded, IsGrown, IsJoined, span_at}
+use Rattle.drt_timeline.specs.Joining.{Adjoins, IsGrown, span_at}
 
 -- neighbours, read with one default
 neighbours_at : {X : Type 0} (R : X → X → Type 0) (xs : List X) (e : X) → ((i : ℕ) → i + 1 < length xs → R (get_or xs i e) (get_or xs (i + 1) e)) → AllNeighbours R xs

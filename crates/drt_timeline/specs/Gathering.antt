@@ -1,17 +1,12 @@
 -- The events of jobs, job by job, by when each job finishes.
-use Rattle.std.specs.Prelude.{◌≡◌, ℕ, zero, suc, ◌==◌, ◌&&◌, nat_le, nat_lt, if◌then◌else◌, Bool, List, [], ◌∷◌, ◌++◌, Option, Some, None, slice_index}
+use Rattle.std.specs.Prelude.{ℕ, nat_le, nat_lt, if◌then◌else◌, List, [], ◌∷◌, ◌++◌, Option, Some, None}
 use Rattle.std.specs.declared.cmp.Ordering.{Ordering}
 use Rattle.std.specs.Ordering.{nat_cmp, ordering_then}
 use Rattle.drt_model.specs.declared.jobs.Job.{Job}
-use Rattle.drt_model.specs.Trace.{job_at}
 use Rattle.drt_timeline.specs.declared.event.Event.{Event}
 use Rattle.drt_timeline.specs.Events.{mark_rank}
 use Rattle.drt_timeline.specs.declared.event.Mark.{Mark}
 use Rattle.drt_timeline.specs.declared.event.Mark.TheVariants.{Finish, Deadline, Miss, Release}
-
--- When the job at place j finished, by what is left of each need and the finishes; none where something is left.
-abbrev pub finish_of : List ℕ → List ℕ → ℕ → Option ℕ
-finish_of lefts ends j = if slice_index lefts j == 0 then Some (slice_index ends j) else None
 
 -- What a deadline is by when the job finishes: missed where it finishes later or not yet.
 abbrev pub deadline_mark : Job → Option ℕ → Mark
@@ -34,11 +29,6 @@ release_events j job until = if nat_le job.time until then record { time = job.t
 -- The events of the job at place j.
 unfoldable pub job_events : ℕ → Job → Option ℕ → ℕ → List Event
 job_events j job finish until = finish_events j finish ++ (deadline_events j job finish until ++ release_events j job until)
-
--- The events of the first so many jobs.
-unfoldable pub events_below : List Job → List ℕ → List ℕ → ℕ → ℕ → List Event
-events_below jobs lefts ends until zero = []
-events_below jobs lefts ends until (suc j) = events_below jobs lefts ends until j ++ job_events j (job_at jobs j) (finish_of lefts ends j) until
 
 -- What events are sorted by: the time, the rank of the mark, and the job's place.
 abbrev pub order_of : Event → ℕ × ℕ × ℕ

@@ -1,8 +1,5 @@
 pub mod Spans
 pub mod Events
-pub mod Queue
-pub mod Arrivals
-pub mod Sweep
 pub mod Joining
 pub mod Gathering
 pub mod Timeline

@@ -1,30 +1,21 @@
 //! The events of jobs.
-ghost use Rattle.std.specs.Prelude.{◌≡◌, ◌++◌, ◌<◌, IfOk, OnOk, length};
-ghost use Rattle.drt_model.specs.declared.jobs.Policy.{Policy};
-ghost use Rattle.drt_replay.specs.Board.{AreFinishes, IsLeft};
+ghost use Rattle.std.specs.Prelude.{◌≡◌, ◌++◌, IfOk, OnOk};
 ghost use Rattle.drt_timeline.specs.Events.{AreEvents};
-ghost use Rattle.drt_timeline.specs.Gathering.{deadline_events, deadline_mark, events_below, finish_events, finish_of, job_events, order_of, release_events};
+ghost use Rattle.drt_timeline.specs.Gathering.{deadline_events, deadline_mark, finish_events, job_events, order_of, release_events};
 
 use crate::event::{Event, Mark};
 use drt_model::{Job, Memory};
+use drt_replay::Board;
 use std::alloc::Global;
 
-/// The events of jobs not after `until`, in order, by what is left of each need and the finishes of the jobs with nothing left, after
-/// `until` ticks.
-pub fn events_of(
-    alloc: Global,
-    jobs: &[Job],
-    left: &[u64],
-    finishes: &[u64],
-    until: u64,
-) -> Result<Vec<Event>, Memory>
-    requires left { length left.now ≡ length jobs.now }
-    requires finishes { length finishes.now ≡ length jobs.now }
-    ensures { IfOk result (λ events. (policy : Policy) → IsLeft policy jobs.now until left.now → AreFinishes policy jobs.now until left.now finishes.now → AreEvents policy jobs.now until events.items) }
+/// The events of the jobs of a board up to now, in order.
+pub fn events_of(alloc: Global, board: &Board) -> Result<Vec<Event>, Memory>
+    ensures { IfOk result (λ events. AreEvents board.now.policy board.now.jobs board.now.ticks events.items) }
 {
+    let until = board.ticks();
     let mut events = Vec::new(alloc);
-    for j in 0..jobs.len() {
-        push_events(&mut events, j, jobs[j], finish_of(left, finishes, j), until)?;
+    for j in 0..board.count() {
+        push_events(&mut events, j, board.job(j), board.finish_at(j), until)?;
     }
     events.sort_unstable_by_key(
         |event: &Event| -> (u64, u8, usize)
@@ -45,19 +36,6 @@ fn order_of(event: &Event) -> (u64, u8, usize)
         Mark::Release => 3,
     };
     (event.time, mark, event.job)
-}
-
-// When the job at a place finished; none where something is left of its need.
-fn finish_of(left: &[u64], finishes: &[u64], j: usize) -> Option<u64>
-    requires left { j < length left.now }
-    requires finishes { j < length finishes.now }
-    ensures { result ≡ finish_of left.now finishes.now j }
-{
-    if left[j] == 0 {
-        Some(finishes[j])
-    } else {
-        None
-    }
 }
 
 // Adds the events of a job not after `until`, by when it finished.

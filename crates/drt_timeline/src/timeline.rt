@@ -6,10 +6,10 @@ ghost use Rattle.drt_timeline.specs.Timeline.{IsTimeline};
 
 use crate::event::Event;
 use crate::gathering::events_of;
-use crate::jobs::jobs_of;
+use crate::running::spans_of;
 use crate::span::Span;
-use crate::sweep::swept;
 use drt_model::{Memory, Policy, Release, Row, TaskSet};
+use drt_replay::Board;
 use std::alloc::Global;
 
 /// The spans and the events of a replay.
@@ -30,21 +30,16 @@ pub fn timeline_of(
 ) -> Result<Timeline, Memory>
     requires legal { IsLegal set.now.tasks releases.now }
     requires times { All (λ r. r.time ≤ 10 ^ 18) releases.now }
+    requires few { length releases.now < 2 ^ 32 }
     ensures timeline { IfOk result (IsTimeline policy (jobs_of set.now.tasks releases.now) until) }
     ensures spans_here { IfOk result (λ timeline. All (λ s. s.job < length releases.now) timeline.spans) }
     ensures events_here { IfOk result (λ timeline. All (λ e. e.job < length releases.now) timeline.events) }
 {
-    let jobs = jobs_of(alloc, set.tasks(), releases)?;
-    let sweep = swept(alloc, policy, jobs.as_slice(), until)?;
-    let events = events_of(
-        alloc,
-        jobs.as_slice(),
-        sweep.left.as_slice(),
-        sweep.finishes.as_slice(),
-        until,
-    )?;
+    let mut board = Board::start(alloc, set, policy, releases)?;
+    let spans = spans_of(alloc, &mut board, until)?;
+    let events = events_of(alloc, &board)?;
     Ok(Timeline {
-        spans: Row::from_vec(sweep.spans),
+        spans: Row::from_vec(spans),
         events: Row::from_vec(events),
     })
 }

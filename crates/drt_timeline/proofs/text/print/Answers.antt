@@ -1,5 +1,5 @@
 -- The text is that of the timeline.
-use Rattle.std.proofs.Common.{◌≡◌, [], ◌∷◌, ◌++◌, List, ap, ◌∙◌}
+use Rattle.std.proofs.Common.{◌≡◌, [], ◌∷◌, ◌++◌, ap, ◌∙◌}
 use Rattle.std.specs.Prelude.{codes}
 use Rattle.drt_file.specs.trusted.Canonical.{written}
 use Rattle.drt_timeline.specs.Names.{Named}

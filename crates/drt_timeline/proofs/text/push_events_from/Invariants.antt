@@ -1,5 +1,5 @@
 -- The events so far are printed, and the others are left.
-use Rattle.std.proofs.Common.{◌≡◌, ◌++◌, ◌≤◌, drop}
+use Rattle.std.proofs.Common.{◌≡◌, ◌++◌, drop}
 use Rattle.drt_file.specs.trusted.Canonical.{written}
 use Rattle.drt_timeline.specs.Text.{event_lines}
 use Rattle.drt_timeline.proofs.text.push_events_from.Given as goal

@@ -1,5 +1,5 @@
 -- One more event is printed, until none is left up to the time.
-use Rattle.std.proofs.Common.{◌≡◌, ◌<◌, ◌≤◌, ◌+◌, length, arith}
+use Rattle.std.proofs.Common.{arith}
 use Rattle.drt_timeline.proofs.PrintLemmas.{after_end, after_step, until_end, until_step}
 use Rattle.drt_timeline.proofs.text.push_events_until.Goals as goal
 
