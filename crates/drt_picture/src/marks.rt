@@ -142,7 +142,7 @@ pub fn print_arrows(svg: &mut Svg, picture: &Picture, arrows: &[Arrow]) -> Resul
     svg.raw(b"</g>\n")
 }
 
-/// Writes the arrows of misses, and at the first one what its job lacks.
+/// Writes the arrows of misses, and at the first one how late its job finishes.
 pub fn print_misses(svg: &mut Svg, arrows: &[Arrow], late: Option<u64>) -> Result<(), Memory> {
     for arrow in arrows {
         if arrow.event.mark == Mark::Miss {
@@ -150,7 +150,7 @@ pub fn print_misses(svg: &mut Svg, arrows: &[Arrow], late: Option<u64>) -> Resul
         }
     }
     match arrows.iter().find(|arrow| arrow.event.mark == Mark::Miss) {
-        Some(arrow) => print_lack(svg, *arrow, late),
+        Some(arrow) => print_lateness(svg, *arrow, late),
         None => Ok(()),
     }
 }
@@ -178,8 +178,8 @@ fn print_miss(svg: &mut Svg, arrow: Arrow) -> Result<(), Memory> {
     svg.raw(b"l-6 -10h12z\"/></g>\n")
 }
 
-// What the job of a miss lacks, above its arrow, at the side where there is more room.
-fn print_lack(svg: &mut Svg, arrow: Arrow, late: Option<u64>) -> Result<(), Memory> {
+// How late the job of a miss finishes, above its arrow, at the side where there is more room.
+fn print_lateness(svg: &mut Svg, arrow: Arrow, late: Option<u64>) -> Result<(), Memory> {
     let x = u64::from(arrow.x);
     let y = base_of(u64::from(arrow.row)) - ARROW_LENGTH - 20;
     svg.raw(
@@ -192,10 +192,10 @@ fn print_lack(svg: &mut Svg, arrow: Arrow, late: Option<u64>) -> Result<(), Memo
     }
     svg.place(b" y", y)?;
     match late {
-        Some(lack) => {
-            svg.raw(b">missed: lacks ")?;
-            svg.grouped(lack)?;
-            svg.raw(if lack == 1 {
+        Some(ticks) => {
+            svg.raw(b">late by ")?;
+            svg.grouped(ticks)?;
+            svg.raw(if ticks == 1 {
                 b" tick".as_slice()
             } else {
                 b" ticks".as_slice()

@@ -16,8 +16,8 @@ use std::alloc::Global;
 // From where a row begins down to the line that its bars stand on.
 const BASE: u32 = 440;
 
-/// The page as SVG. It names the policy, and at the first miss how many ticks of its need the job lacks at its deadline, where `late`
-/// says it. The releases are those of the layout.
+/// The page as SVG. It names the policy, and at the first miss how many ticks after its deadline the job finishes, where `late` says it.
+/// The releases are those of the layout.
 pub fn print(
     alloc: Global,
     set: &TaskSet,
