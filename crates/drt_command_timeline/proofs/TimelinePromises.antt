@@ -44,9 +44,9 @@ apart law svg bytes m f d (inr h) =
     let same = d.no.no.dossier.only none.of.statement none.of.dossier.is in
     let j : none.judgement ≡ judgements.Unschedulable
     = law d.no.statement none.judgement judgements.Unschedulable (subst (λ s. IsJudged s none.judgement) same none.of.judged) d.no.no.judged in
-    let zero : timeline_status none.judgement ≡ 0 = ap timeline_status j in
+    let one : timeline_status none.judgement ≡ 1 = ap timeline_status j in
     let ten = none.none in
-    omega (arith, zero, ten)
+    omega (arith, one, ten)
 
 -- A dossier has one fault.
 one_fault : JudgedOnce → (bytes : List ℕ) (f g : Fault) → IsTimelineFault bytes f → IsTimelineFault bytes g → f ≡ g

@@ -17,7 +17,7 @@ use Rattle.drt_command_timeline.specs.Drawn.{IsDrawn}
 -- The status of each judgement: a no is drawn, rejected evidence breaks a rule, and the others have no releases to draw.
 abbrev pub timeline_status : Judgement → ℕ
 timeline_status judgements.Schedulable = 10
-timeline_status judgements.Unschedulable = 0
+timeline_status judgements.Unschedulable = 1
 timeline_status judgements.UtilisationOne = 10
 timeline_status judgements.NothingToCheck = 10
 timeline_status (judgements.Rejected number) = 9
@@ -34,10 +34,10 @@ pub record IsDrawnNo (svg : Bool) (bytes text : List ℕ) : Type 0 where
   pub no : IsJudgedDossier bytes statement judgements.Unschedulable
   pub drawn : IsDrawn svg statement.set.tasks statement.policy (releases_of statement.evidence) (miss_of statement.evidence).deadline text
 
--- `timeline` of a dossier: its no is drawn, with status 0 and without a trail.
+-- `timeline` of a dossier: its no is drawn, with status 1, as `check` has, and without a trail.
 pub record DrawsNo (svg : Bool) (bytes : List ℕ) (made : Report) : Type 0 where
   pub no : IsDrawnNo svg bytes made.text
-  pub status_is : made.status ≡ 0
+  pub status_is : made.status ≡ 1
   pub trail : made.trail ≡ trails.Nothing
 
 -- The bytes are a dossier without releases: a yes, a utilisation of one, or one where nothing is claimed.

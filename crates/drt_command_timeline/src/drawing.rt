@@ -1,11 +1,11 @@
 //! Drawing the replay of releases.
-ghost use Rattle.std.specs.Prelude.{◌^◌, ◌<◌, ◌≤◌, All, IfOk, length};
+ghost use Rattle.std.specs.Prelude.{◌≢◌, ◌^◌, ◌<◌, ◌≤◌, ℕ, All, IfOk, MatchOption, length};
 ghost use Rattle.drt_model.specs.Legal.{IsLegal};
-ghost use Rattle.drt_command_timeline.specs.Drawn.{IsDrawn};
+ghost use Rattle.drt_command_timeline.specs.Drawn.{IsDrawn, IsFirstMiss, event_at};
 
 use drt_model::{Memory, Policy, Release, Row, TaskSet};
 use drt_picture::lay_out;
-use drt_timeline::{Event, Mark, Span, timeline_of};
+use drt_timeline::{Event, Mark, lateness_of, timeline_of};
 use std::alloc::Global;
 
 // The replay of releases up to a tick, as text, or as a picture.
@@ -30,27 +30,21 @@ pub(crate) fn draw(
     let spans = timeline.spans.as_slice();
     let events = timeline.events.as_slice();
     let layout = lay_out(alloc, set, releases, spans, events, until)?;
-    let late = lacking(releases, spans, events);
+    let late = match first_miss(events) {
+        Some(job) => Some(lateness_of(alloc, set, policy, releases, job)?),
+        None => None,
+    };
     drt_picture::print(alloc, set, policy, releases, late, &layout)
 }
 
-// How many ticks of its need the first job that misses lacks at its deadline, where one does.
-fn lacking(releases: &[Release], spans: &[Span], events: &[Event]) -> Option<u64> {
-    let job = first_miss(events)?;
-    let mut left = releases.get(job)?.need;
-    for span in spans {
-        if span.job == job {
-            left = left.saturating_sub(span.end.saturating_sub(span.start));
-        }
-    }
-    Some(left)
-}
-
-// The first job that misses.
-fn first_miss(events: &[Event]) -> Option<usize> {
-    for event in events {
-        if event.mark == Mark::Miss {
-            return Some(event.job);
+// The job of the first miss among events.
+fn first_miss(events: &[Event]) -> Option<usize>
+    ensures { MatchOption result ((i : ℕ) → i < length events.now → (event_at events.now i).mark ≢ Mark.Miss) (IsFirstMiss events.now) }
+{
+    for i in 0..events.len() {
+        match events[i].mark {
+            Mark::Miss => return Some(events[i].job),
+            _ => {}
         }
     }
     None

@@ -11,7 +11,7 @@ use drt_command::{Command, Input, Report, Unmade};
 use drt_evidence::{Dossier, DossierError, DossierFault, Evidence};
 use drt_model::Release;
 use drt_outcome::fault::{DOSSIER_TOO_LONG, Fault};
-use drt_outcome::outcome::YES;
+use drt_outcome::outcome::NO;
 use std::alloc::Global;
 
 /// The most bytes of an input.
@@ -85,7 +85,7 @@ fn draw_no(
     match releases_in(&dossier.evidence) {
         Some((releases, until)) => {
             let text = draw(alloc, svg, &dossier.set, dossier.policy, releases, until)?;
-            Ok(Report::new(YES, text))
+            Ok(Report::new(NO, text))
         }
         None => Err(Unmade::Refused(Fault::Dossier {
             line: 0,
