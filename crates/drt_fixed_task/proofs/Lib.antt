@@ -1,0 +1,8 @@
+pub mod Cuts
+pub mod Due
+pub mod HigherTasks
+pub mod Lists
+pub mod Passing
+pub mod Placed
+pub mod Refused
+pub mod Vertices

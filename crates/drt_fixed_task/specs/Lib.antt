@@ -1,0 +1,5 @@
+pub mod Answers
+pub mod Higher
+pub mod Subjects
+pub mod Tails
+pub mod Walks

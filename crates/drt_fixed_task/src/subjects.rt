@@ -1,0 +1,43 @@
+//! The subject of the search of a vertex.
+ghost use Rattle.std.specs.Prelude.{◌<◌};
+ghost use Rattle.drt_model.specs.Digraph.{vertex_count};
+ghost use Rattle.drt_busy.specs.Choice.{graph_at};
+ghost use Rattle.drt_sp_states.specs.Subjects.{IsSubject};
+ghost use Rattle.drt_fixed_task.specs.Subjects.{IsGiven, IsSubjectOf};
+
+use drt_graph::Graphs;
+use drt_model::{Row, TaskSet};
+use drt_sp_states::Subject;
+use drt_states::{Jump, TailClaim};
+
+/// What the searches of the vertices of a task are over: the set and its graphs, the task, those of higher priority in order of the file, and
+/// their tails up to a bound with the greatest values of these.
+#[derive(Clone, Copy)]
+pub(crate) struct Given<'a> {
+    pub set: &'a TaskSet,
+    pub graphs: &'a Graphs,
+    pub task: u32,
+    pub higher: &'a [u32],
+    pub bound: u32,
+    pub tails: &'a [TailClaim],
+    pub crests: &'a [Row<Jump>],
+}
+
+/// The subject of the search of a vertex of the task: the tasks of higher priority, and the job of the vertex.
+pub(crate) fn subject_of<'a>(given: Given<'a>, vertex: u32) -> Subject<'a>
+    requires given { IsGiven given }
+    requires vertex { vertex < vertex_count (graph_at given.set.now.tasks given.task) }
+    ensures subject { IsSubject result }
+    ensures is { IsSubjectOf given.entry vertex result }
+{
+    let _tasks = given.set.tasks();
+    let job = given.graphs.graph(given.task).vertex(vertex);
+    Subject {
+        graphs: given.graphs,
+        order: given.higher,
+        tails: given.tails,
+        crests: given.crests,
+        wcet: job.wcet,
+        deadline: job.deadline,
+    }
+}
