@@ -23,6 +23,10 @@ use Rattle.drt_command_assign.specs.Text.{no_order_text}
 use Rattle.drt_command_assign.specs.Verdict.{IsNoOrderText, IsOpenText, IsOrderText, Verdict}
 use Rattle.drt_command_files.proofs.TaskFileLemmas.{accepted_one, accepted_well, fault_one, long_file}
 
+-- What the verdict says of a status and a text.
+abbrev IsVerdict : Contents → ℕ → List ℕ → Type 0
+IsVerdict set status written = ((status ≡ 0) × IsOrderText set written) ⊎ (((status ≡ 1) × IsNoOrderText set written) ⊎ ((status ≡ 3) × IsOpenText written))
+
 -- The text that nothing is decided of a set within its limits.
 open_text : (set : Contents) → IsTaskSet set.version set.tasks → IsOpenText (text (under_fixed set Undecided))
 open_text set limits = record { tried = set; is = record { stated = (limits, tt); is = refl } }
@@ -52,8 +56,7 @@ module _ (keeps : PrioritiesKeepLimits) (bytes : List ℕ) (set : Contents) (bud
       record {
         set = set;
         accepted = accepted;
-        answer = subst (λ s. ((1 ≡ 0) × IsOrderText set (no_order_text s stuck)) ⊎ (((1 ≡ 1) × IsNoOrderText set (no_order_text s stuck)) ⊎ ((1 ≡ 3) × IsOpenText (no_order_text s stuck))))
-            (sym a.same_is) (inr (inl (refl, record { none = a.none; stuck = stuck; is = refl })));
+        answer = subst (λ s. IsVerdict set 1 (no_order_text s stuck)) (sym a.same_is) (inr (inl (refl, record { none = a.none; stuck = stuck; is = refl })));
       }
   verdict (answers.Undecided same higher task trail) a =
       record { set = set; accepted = accepted; answer = inr (inr (refl, open_text same (subst (λ (s : Contents). IsTaskSet s.version s.tasks) (sym a.same_is) accepted.reads.limits))) }

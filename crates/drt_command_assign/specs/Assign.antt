@@ -20,6 +20,5 @@ assign_rules budget = record {
   makes = λ bytes made. Verdict bytes made × Besides budget bytes made;
   refuses = IsFileFault;
   faults = IsFileFault;
-  faults = IsFileFault;
   ends = λ bytes status. (set : Contents) → IsAccepted bytes set → AssignEnds set budget status;
 }
