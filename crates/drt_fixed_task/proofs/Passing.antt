@@ -1,5 +1,5 @@
 -- A vertex whose states keep the rules of a search passes for all walks.
-use Rattle.std.proofs.Common.{◌≡◌, ℕ, ◌+◌, ◌<◌, ◌≤◌, List, [], ◌∷◌, length, map, refl, sym, ap, ◌∙◌, subst, arith}
+use Rattle.std.proofs.Common.{◌≡◌, ℕ, ◌+◌, ◌≤◌, List, [], ◌∷◌, length, map, refl, sym, ap, subst, arith}
 use Rattle.std.specs.List.{All, AllByRecursion, AllZip}
 use Rattle.std.proofs.lemmas.List.Elements.{All-from_recursion, All-map, recursion_from_All}
 use Rattle.drt_model.specs.declared.tasks.Task.{Task}
@@ -7,14 +7,14 @@ use Rattle.drt_model.specs.Digraph.{Digraph, IsSound}
 use Rattle.drt_model.specs.Limits.{IsTaskSet}
 use Rattle.drt_model.specs.Walk.{deadline, wcet}
 use Rattle.drt_graph.proofs.Soundness.{all_sound}
-use Rattle.drt_busy.specs.Choice.{AreWalks, IsWalk, graph_at, no_task, task_at}
+use Rattle.drt_busy.specs.Choice.{IsWalk, graph_at, no_task, task_at}
 use Rattle.drt_states.specs.declared.claims.StateClaim.{StateClaim}
 use Rattle.drt_states.specs.declared.claims.TailClaim.{TailClaim}
 use Rattle.drt_states.specs.States.{AreStates, HaveDominatedChildren, HavePassingTimes}
 use Rattle.drt_states.specs.Tails.{BoundsWalks, EachTail, IsTail, Place, graphs_of}
 use Rattle.drt_states_laws.specs.Laws.{AreWalksOf, StatesPass, asked_together}
 use Rattle.drt_choices.specs.Choices.{VertexPasses}
-use Rattle.drt_fixed_task.specs.Higher.{higher_before, higher_tasks}
+use Rattle.drt_fixed_task.specs.Higher.{higher_tasks}
 use Rattle.drt_fixed_task.specs.Tails.{AreTails}
 use Rattle.drt_fixed_task.proofs.HigherTasks.{asked_is, higher_all}
 use Rattle.drt_fixed_task.proofs.Lists.{each_zip}

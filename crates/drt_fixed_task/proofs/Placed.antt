@@ -1,6 +1,6 @@
 -- Walks of the tasks of higher priority in a list are walks of the tasks, and ask for what the list does.
 use Rattle.std.proofs.Common.{inl, inr, ◌≡◌, ℕ, zero, suc, ◌+◌, ◌<◌, ◌≤◌, true, ltb, List, [], ◌∷◌, ◌++◌, length, map, take, get_or, Contains, refl, sym, ap, ◌∙◌, subst, arith}
-use Rattle.std.specs.List.{All, AllByRecursion, AllZip}
+use Rattle.std.specs.List.{All, AllZip}
 use Rattle.std.proofs.lemmas.Bool.{cases_Bool, cases_eq}
 use Rattle.std.proofs.lemmas.List.{length-append, length-map, map-append, take_all, take_more}
 use Rattle.std.proofs.lemmas.List.Elements.{All-contains, All-from_recursion, Contains-append_left, Contains-push, recursion_from_All}
@@ -9,10 +9,10 @@ use Rattle.drt_model.specs.Digraph.{Digraph}
 use Rattle.drt_graph.specs.Graphs.{graph_of}
 use Rattle.drt_busy.specs.Choice.{AreWalks, IsWalk, graph_at, requests, task_at}
 use Rattle.drt_evidence.specs.Claims.{graphs_of}
-use Rattle.drt_check_states.specs.Places.{AreTasks, graphs_at}
+use Rattle.drt_check_states.specs.Places.{graphs_at}
 use Rattle.drt_states_laws.specs.Laws.{asked_together}
 use Rattle.drt_releases.proofs.Walks.{graph_same}
-use Rattle.drt_fixed_task.specs.Higher.{higher_before, higher_tasks, placed_walk}
+use Rattle.drt_fixed_task.specs.Higher.{higher_before, placed_walk}
 use Rattle.drt_fixed_task.proofs.HigherTasks.{asked_is, higher_all, higher_no, higher_yes}
 use Rattle.drt_fixed_task.proofs.Lists.{map_same, zip_each, zip_long}
 

@@ -1,7 +1,7 @@
 -- A time passes at one vertex more, and where it does at each, no job of the task misses.
-use Rattle.std.proofs.Common.{◌≡◌, ℕ, ◌<◌, List, ap, below_more, arith, ◌∙◌}
+use Rattle.std.proofs.Common.{◌≡◌, ℕ, List, ap, below_more, arith, ◌∙◌}
 use Rattle.drt_model.specs.Contents.{Contents}
-use Rattle.drt_model.specs.Digraph.{vertex_count}
+use Rattle.drt_model.specs.Digraph.{Digraph, vertex_count}
 use Rattle.drt_graph.specs.Graphs.{graph_of}
 use Rattle.drt_busy.specs.Choice.{graph_at}
 use Rattle.drt_releases.proofs.Walks.{graph_same}
@@ -19,7 +19,10 @@ returns g c =
     let set : Contents = c.args.given.set.now in
     let given = c.requires.given in
     let k : ℕ = c.args.given.task in
-    let graph : c.graph-graph.result.now ≡ graph_at set.tasks k = c.graph-graph.ensures.graph ∙ (ap (λ gs. graph_of gs k) given.graphs ∙ graph_same set.tasks k given.task) in
+    let own : Digraph = graph_of c.args.given.graphs.now k in
+    let same : own ≡ graph_at set.tasks k = ap (λ (gs : List Digraph). graph_of gs k) given.graphs ∙ graph_same set.tasks k given.task in
+    let first : c.graph-graph.result.now ≡ own = c.graph-graph.ensures.graph in
+    let graph : c.graph-graph.result.now ≡ graph_at set.tasks k = ◌∙◌ {b = own} first same in
     let passes : TaskPasses set.tasks k
     = λ v l. c.vertices.invariant v (omega (arith, l, ap (λ x. vertex_count x) graph, c.vertices-test.false, c.vertex_count-vertex-end.ensures.count)) in
     record { meets = c.times_suffice_for_task.ensures set.version set.tasks c.tasks-tasks.ensures.limits given.constrained k passes; passes = passes }

@@ -1,5 +1,5 @@
 -- One walk more.
-use Rattle.std.proofs.Common.{◌≡◌, suc, ◌+◌, ◌<◌, ◌≤◌, true, false, ltb, List, [], ◌∷◌, ◌++◌, ℕ, length, get_or, sym, ap, subst, arith, ◌∙◌}
+use Rattle.std.proofs.Common.{◌≡◌, suc, ◌+◌, true, false, ltb, List, [], ◌∷◌, ℕ, length, get_or, sym, ap, arith, ◌∙◌}
 use Rattle.std.proofs.Math.Numerals.{add-one}
 use Rattle.std.proofs.lemmas.List.{length-append}
 use Rattle.drt_model.specs.declared.tasks.Task.{Task}

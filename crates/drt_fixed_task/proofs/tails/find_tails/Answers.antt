@@ -1,4 +1,4 @@
-use Rattle.std.proofs.Common.{◌≡◌, ◌<◌, ℕ, length, sym, subst, arith}
+use Rattle.std.proofs.Common.{◌≡◌, ℕ, subst, arith}
 use Rattle.drt_states.specs.Tails.{BoundsWalks, IsTail}
 use Rattle.drt_fixed_task.proofs.Vertices.{tails_next}
 use Rattle.drt_fixed_task.proofs.tails.find_tails.Goals as goal
