@@ -13,11 +13,7 @@ use itoa::Buffer;
 use std::alloc::Global;
 
 /// The text of a set that no order makes schedulable, in bytes: the set, and for each stuck task its releases and its miss.
-pub(crate) fn print_stuck(
-    alloc: Global,
-    set: &TaskSet,
-    stuck: &[Stuck],
-) -> Result<Row<u8>, Memory>
+pub(crate) fn print_stuck(alloc: Global, set: &TaskSet, stuck: &[Stuck]) -> Result<Row<u8>, Memory>
     ensures { IfOk result (λ text. text ≡ no_order_text set.now stuck.now) }
 {
     let mut text = Vec::new(alloc);

@@ -1,5 +1,5 @@
 //! The text of a margin.
-ghost use Rattle.std.specs.Prelude.{◌≡◌, ◌×◌, ◌+◌, ◌++◌, ◌≤◌, IfOk, OnOk};
+ghost use Rattle.std.specs.Prelude.{◌≡◌, ◌+◌, ◌++◌, ◌≤◌, IfOk, OnOk};
 ghost use Rattle.drt_file.specs.trusted.Canonical.{written};
 ghost use Rattle.drt_evidence.specs.Ranges.{IsInRange};
 ghost use Rattle.drt_evidence.specs.Text.{text};
