@@ -1,0 +1,69 @@
+-- The steps of the rule, as the parts of `assign` see them.
+use Rattle.std.specs.Prelude.{◌≡◌, ℕ, ◌<◌, ◌≤◌, List, length, slice_index}
+use Rattle.drt_model.specs.declared.tasks.Task.{Task}
+use Rattle.drt_model.specs.Constrained.{AreConstrained}
+use Rattle.drt_model.specs.Contents.{Contents}
+use Rattle.drt_model.specs.Digraph.{Digraph}
+use Rattle.drt_model.specs.Limits.{IsTaskSet}
+use Rattle.drt_evidence.specs.Claims.{graphs_of}
+use Rattle.drt_priorities.specs.Priorities.{prioritised}
+use Rattle.drt_sp.specs.Answers.{IsUndecided}
+use Rattle.drt_sp_task.specs.Task.{IsTaskAnswer}
+use Rattle.drt_sp_task.specs.declared.answer.TaskAnswer.{TaskAnswer}
+use Rattle.drt_assign.specs.Assign.{AreStuck, IsEndSpent, IsEndStuck, IsSpentAt, IsYesOf, with_priorities}
+use Rattle.drt_assign.specs.Rule.{AreRanks, FollowRule, IsFirst, IsTrial}
+use Rattle.drt_assign.specs.declared.answer.AssignAnswer.{AssignAnswer}
+use Rattle.drt_assign.specs.declared.answer.AssignAnswer.TheVariants as answers
+use Rattle.drt_assign.specs.declared.ranking.Ranking.{Ranking}
+use Rattle.drt_assign.specs.declared.ranking.Ranking.TheVariants as rankings
+use Rattle.drt_assign.specs.declared.rounds.Round.{Round}
+use Rattle.drt_assign.specs.declared.rounds.Round.TheVariants as rounds
+
+-- What stays over all steps: the tasks of the file keep the limits of a version and have constrained deadlines; the graphs are theirs;
+-- there are priorities for all of them, and so many workers and steps.
+pub record IsCourse (tasks : List Task) (graphs : List Digraph) (old : List ℕ) (workers budget : ℕ) : Type 0 where
+  pub version : ℕ
+  pub limits : IsTaskSet version tasks
+  pub constrained : AreConstrained tasks
+  pub graphs_are : graphs ≡ graphs_of tasks
+  pub as_many : length old ≡ length tasks
+  pub workers_some : 1 ≤ workers
+  pub workers_few : workers ≤ 16
+  pub budget_some : 1 ≤ budget
+  pub budget_few : budget ≤ 1000000
+
+-- With their old priorities the tasks of the set are those of the file.
+abbrev pub IsOf : List Task → List ℕ → Contents → Type 0
+IsOf tasks old set = prioritised set.tasks old ≡ tasks
+
+-- Task k was tried: the set has priorities for it, and the answer is said of the task in that set.
+pub record IsTried (tasks : List Task) (ranks : List ℕ) (m k budget : ℕ) (set : Contents) (answer : TaskAnswer) : Type 0 where
+  pub priorities : List ℕ
+  pub trial : IsTrial ranks m k priorities
+  pub set_is : set ≡ with_priorities tasks priorities
+  pub says : IsTaskAnswer set budget k answer
+
+-- An open task that has the rank m by the rule.
+pub record IsNext (tasks : List Task) (ranks : List ℕ) (m k : ℕ) : Type 0 where
+  pub task : k < length tasks
+  pub is_open : slice_index ranks k ≡ 0
+  pub first : IsFirst tasks ranks m k
+
+-- What a round says, with m open tasks; the set has the tasks of the file, but for their priorities.
+abbrev pub IsRound : List Task → List ℕ → List ℕ → ℕ → ℕ → Round → Type 0
+IsRound tasks old ranks m budget (rounds.Found set k) = IsOf tasks old set × IsNext tasks ranks m k
+IsRound tasks old ranks m budget (rounds.AllStuck set stuck) = IsOf tasks old set × AreStuck tasks ranks m stuck
+IsRound tasks old ranks m budget (rounds.Spent set k trail) = IsOf tasks old set × IsSpentAt tasks ranks m budget k trail
+
+-- What the rounds say together: each task has a rank by the rule, or a round ended the search.
+abbrev pub IsRanking : List Task → List ℕ → ℕ → Ranking → Type 0
+IsRanking tasks old budget (rankings.Whole set ranks) = IsOf tasks old set × AreRanks (length tasks) 0 ranks × FollowRule tasks ranks
+IsRanking tasks old budget (rankings.AllStuck set stuck) = IsOf tasks old set × IsEndStuck tasks stuck
+IsRanking tasks old budget (rankings.Spent set higher k trail) = IsOf tasks old set × IsEndSpent tasks budget higher k trail
+
+-- What the analysis of a schedulable set says.
+abbrev pub IsAnalysis : Contents → ℕ → AssignAnswer → Type 0
+IsAnalysis set budget (answers.Done dossier) = IsYesOf set dossier
+IsAnalysis set budget (answers.Unproved same trail) = (same ≡ set) × IsUndecided set budget trail
+IsAnalysis set budget (answers.NoOrder same stuck) = ⊥
+IsAnalysis set budget (answers.Undecided same higher task trail) = ⊥

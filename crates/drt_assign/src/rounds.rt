@@ -1,0 +1,120 @@
+//! One round of Audsley's rule: which open task passes under the other ones.
+ghost use Rattle.std.specs.Prelude.{◌≡◌, ◌<◌, IfOk, length, slice_index};
+ghost use Rattle.drt_priorities.specs.Priorities.{prioritised};
+ghost use Rattle.drt_assign.specs.Rule.{AreRanks};
+ghost use Rattle.drt_assign.specs.Steps.{IsCourse, IsRound, IsTried};
+
+use crate::answer::Stuck;
+use crate::trial::trial_priorities;
+use drt_fixed_task::decide_task;
+use drt_graph::Graphs;
+use drt_model::{Memory, Row, TaskSet};
+use drt_pool::Gate;
+use drt_priorities::prioritise;
+use drt_sp_task::TaskAnswer;
+use drt_trails::FixedTrail;
+use std::alloc::Global;
+use std::sync::Wait;
+use std::thread::Threads;
+
+/// What stays over all rounds: the graphs of the tasks and the priorities that they have in the file; and who decides of a task, and with
+/// how many steps.
+#[derive(Drop)]
+pub(crate) struct Course<'a, G, R> {
+    pub(crate) rt: &'a R,
+    pub(crate) alloc: Global,
+    pub(crate) graphs: &'a Graphs,
+    pub(crate) old: &'a [u32],
+    pub(crate) workers: u32,
+    pub(crate) budget: u64,
+    pub(crate) gate: &'a G,
+}
+
+/// How a round ends. The set comes back with some priorities.
+#[derive(Drop)]
+pub(crate) enum Round {
+    /// This task, the first in order of the file, meets its deadlines under the other open ones.
+    Found {
+        set: TaskSet,
+        task: u32,
+    },
+    /// No open task does.
+    AllStuck {
+        set: TaskSet,
+        stuck: Row<Stuck>,
+    },
+    /// A budget was spent at this task.
+    Spent {
+        set: TaskSet,
+        task: u32,
+        trail: FixedTrail,
+    },
+}
+
+/// Tries the open tasks, of which there are `open_count`, in order of the file, until one meets its deadlines under the other open ones.
+pub(crate) fn find_next<G: Gate, R: Threads + Wait + Sync>(
+    course: &Course<'_, G, R>,
+    set: TaskSet,
+    ranks: &[u32],
+    open_count: u32,
+) -> Result<Round, Memory>
+    requires course { IsCourse (prioritised set.tasks course.now.old.now) course.now.graphs.now course.now.old.now course.now.workers course.now.budget }
+    requires ranks { AreRanks (length set.tasks) open_count ranks.now }
+    ensures { IfOk result (IsRound (prioritised set.tasks course.now.old.now) course.now.old.now ranks.now open_count course.now.budget) }
+{
+    let mut set = set;
+    let mut stuck = Vec::new(course.alloc);
+    'tasks: for k in 0..ranks.len() {
+        if ranks[k] == 0 {
+            let task = k as u32;
+            let (tried, answer) = try_task(course, set, ranks, open_count, task)?;
+            match answer {
+                TaskAnswer::Meets => return Ok(Round::Found { set: tried, task }),
+                TaskAnswer::Undecided(trail) => {
+                    return Ok(Round::Spent {
+                        set: tried,
+                        task,
+                        trail,
+                    });
+                }
+                TaskAnswer::Misses { releases, miss } => {
+                    stuck.push(Stuck { releases, miss })?;
+                    set = tried;
+                }
+            }
+        }
+    }
+    Ok(Round::AllStuck {
+        set,
+        stuck: Row::from_vec(stuck),
+    })
+}
+
+// Decides whether an open task meets its deadlines under the other open ones, in the set with priorities for that.
+fn try_task<G: Gate, R: Threads + Wait + Sync>(
+    course: &Course<'_, G, R>,
+    set: TaskSet,
+    ranks: &[u32],
+    open_count: u32,
+    task: u32,
+) -> Result<(TaskSet, TaskAnswer), Memory>
+    requires course { IsCourse (prioritised set.tasks course.now.old.now) course.now.graphs.now course.now.old.now course.now.workers course.now.budget }
+    requires ranks { AreRanks (length set.tasks) open_count ranks.now }
+    requires task { task < length ranks.now }
+    requires is_open { slice_index ranks.now task ≡ 0 }
+    ensures { IfOk result (λ r. IsTried (prioritised set.tasks course.now.old.now) ranks.now open_count task course.now.budget r.0 r.1) }
+{
+    let priorities = trial_priorities(course.alloc, ranks, open_count, task)?;
+    let set = prioritise(set, 2, &priorities);
+    let answer = decide_task(
+        course.rt,
+        course.alloc,
+        &set,
+        course.graphs,
+        task,
+        course.workers,
+        course.budget,
+        course.gate,
+    )?;
+    Ok((set, answer))
+}
