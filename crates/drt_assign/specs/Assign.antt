@@ -55,7 +55,7 @@ pub record IsMissing (tasks : List Task) (priorities : List ℕ) (stuck : Stuck)
 -- The priorities give each of some tasks another than k a lower number, so that k has the lowest priority among them.
 pub record IsLowest (count : ℕ) (lowest : List ℕ) (k : ℕ) (priorities : List ℕ) : Type 0 where
   pub are : ArePriorities count priorities
-  pub lowest : (j : ℕ) → Contains lowest j → j ≢ k → slice_index priorities j < slice_index priorities k
+  pub others : (j : ℕ) → Contains lowest j → j ≢ k → slice_index priorities j < slice_index priorities k
 
 -- Of some tasks, one is stuck: it misses where it has the lowest priority among them. The releases are legal, only those tasks release, and
 -- the named job, which is of that task, misses.

@@ -11,11 +11,13 @@ use crate::answer::AssignAnswer;
 use crate::ranking::{Ranking, rank_all};
 use crate::rounds::Course;
 use drt_busy::times_decide;
+use drt_evidence::Dossier;
 use drt_fixed::{Analysed, analyse_fixed};
 use drt_graph::Graphs;
 use drt_model::{Memory, Task, TaskSet};
 use drt_pool::Gate;
 use drt_priorities::prioritise;
+use drt_trails::FixedTrail;
 use std::alloc::Global;
 use std::sync::Wait;
 use std::thread::Threads;
@@ -108,9 +110,16 @@ fn analyse_order<G: Gate, R: Threads + Wait + Sync>(
     )?;
     match trail {
         None => Ok(AssignAnswer::Done(dossier)),
-        Some(trail) => Ok(AssignAnswer::Unproved {
-            set: dossier.set,
-            trail,
-        }),
+        Some(trail) => Ok(unproved(dossier, trail)),
+    }
+}
+
+// That the set of this dossier has an order, and why it isn't proved.
+fn unproved(dossier: Dossier, trail: FixedTrail) -> AssignAnswer
+    ensures { result ≡ AssignAnswer.Unproved dossier.set trail }
+{
+    AssignAnswer::Unproved {
+        set: dossier.set,
+        trail,
     }
 }
