@@ -5,3 +5,4 @@ pub mod Trials
 pub mod Ranks
 pub mod Tried
 pub mod Needs
+pub mod Ends

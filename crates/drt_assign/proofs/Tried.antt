@@ -2,7 +2,9 @@
 use Rattle.std.proofs.Common.{◌≡◌, ◌≢◌, ◌⊎◌, ℕ, zero, suc, ◌+◌, ◌-◌, ◌<◌, ◌≤◌, Bool, true, false, cond, eqb, List, [], ◌∷◌, ◌++◌, length, map, get_or, All, Contains, Some, refl, sym, ap, ◌∙◌, subst, arith, inl, inr}
 use Rattle.std.specs.Prelude.{filter, option_map, slice_get, unwrap_or}
 use Rattle.std.specs.List.{range_with_len}
-use Rattle.std.proofs.lemmas.Bool.{cases_eq}
+use Rattle.std.proofs.lemmas.Bool.{cases_eq, eq-eqb, ne_eqb}
+use Rattle.std.proofs.lemmas.List.{map_push}
+use Rattle.std.proofs.lemmas.List.Elements.{All-nil, All-push}
 use Rattle.drt_model.specs.declared.jobs.Miss.{Miss}
 use Rattle.drt_model.specs.declared.jobs.Release.{Release}
 use Rattle.drt_model.specs.declared.tasks.Task.{Task}
@@ -16,14 +18,17 @@ use Rattle.drt_evidence.specs.Claims.{graphs_of}
 use Rattle.drt_busy.specs.Choice.{no_task, task_at}
 use Rattle.drt_priorities.specs.Priorities.{ArePriorities, prioritised}
 use Rattle.drt_priorities.proofs.Prioritised.{get_or-prioritised, graphs_stay, keep_constraints, keep_legality, keep_limits, length-prioritised, prioritised_twice}
-use Rattle.drt_sp_task.specs.Task.{IsMeeting, IsTaskMiss}
-use Rattle.drt_assign.specs.Assign.{AreStuck, IsStuck, with_priorities}
+use Rattle.drt_trails.specs.declared.FixedTrail.{FixedTrail}
+use Rattle.drt_sp_task.specs.Task.{IsMeeting, IsTaskMiss, IsUndecidedTask}
+use Rattle.drt_sp_task.specs.declared.answer.TaskAnswer.{TaskAnswer}
+use Rattle.drt_sp_task.specs.declared.answer.TaskAnswer.TheVariants as answers
+use Rattle.drt_assign.specs.Assign.{AreStuck, IsSpentAt, IsStuck, with_priorities}
 use Rattle.drt_assign.specs.Rule.{AreRanks, IsFirst, IsTrial, PassesUnder, is_other, open_tasks}
-use Rattle.drt_assign.specs.Steps.{IsCourse, IsOf}
+use Rattle.drt_assign.specs.Steps.{IsCourse, IsNext, IsOf, IsTried}
 use Rattle.drt_assign.specs.declared.answer.Stuck.{Stuck}
 use Rattle.drt_assign.proofs.Orders.{rank_above}
 use Rattle.drt_assign.proofs.Passing.{above_in, passes_from_under, passes_under_fewer, under_from_passes}
-use Rattle.drt_assign.proofs.Ranges.{in_open_is, is_in_open}
+use Rattle.drt_assign.proofs.Ranges.{filter_more_in, filter_more_out, in_open_is, is_in_open}
 use Rattle.drt_assign.proofs.Trials.{above_is_other, other_is_above}
 
 -- The priority of a release's task.
@@ -130,3 +135,80 @@ pub record IsSoFar (tasks : List Task) (old ranks : List ℕ) (m i : ℕ) (set :
   pub tasks_are : map (λ (s : Stuck). s.miss.task) stuck ≡ filter (λ j. eqb (get_or ranks j 0) 0) (range_with_len 0 i)
   pub each : All (IsStuck tasks (open_tasks ranks)) stuck
   pub fail : (u : ℕ) → u < i → get_or ranks u 0 ≡ 0 → PassesUnder tasks (is_other ranks m u) u → ⊥
+
+pub so_far_none : (tasks : List Task) (old ranks : List ℕ) (m : ℕ) (set : Contents) → IsOf tasks old set → IsSoFar tasks old ranks m 0 set []
+so_far_none tasks old ranks m set same =
+    record { same = same; tasks_are = refl; each = All-nil (IsStuck tasks (open_tasks ranks)); fail = λ u l. absurd (omega arith) }
+
+module _ (tasks : List Task) (old ranks : List ℕ) (m budget : ℕ) (many : length old ≡ length tasks) (own : prioritised tasks old ≡ tasks) (are : AreRanks (length tasks) m ranks)
+    (k : ℕ) (l : k < length tasks) (set : Contents) (stuck : List Stuck) (so_far : IsSoFar tasks old ranks m k set stuck) where
+  -- A task that has a rank is passed over.
+  pub so_far_over : get_or ranks k 0 ≢ 0 → IsSoFar tasks old ranks m (k + 1) set stuck
+  so_far_over ne = record {
+    same = so_far.same;
+    tasks_are = so_far.tasks_are ∙ sym (filter_more_out (λ j. eqb (get_or ranks j 0) 0) k (ne_eqb (get_or ranks k 0) 0 ne));
+    each = so_far.each;
+    fail = λ u h e. elim (cases_eq u k) [
+      | inl s ↦ absurd (ne (ap (λ n. get_or ranks n 0) (sym s) ∙ e))
+      | inr apart ↦ so_far.fail u (omega arith) e
+    ];
+  }
+
+  module _ (e : get_or ranks k 0 ≡ 0) (tried : Contents) where
+    same_after : (answer : TaskAnswer) → IsTried tasks ranks m k budget tried answer → IsOf tasks old tried
+    same_after answer is = of_trial tasks old is.priorities tried many own is.set_is
+
+    pub so_far_stuck : (releases : List Release) (miss : Miss) → IsTried tasks ranks m k budget tried (answers.Misses releases miss)
+        → IsSoFar tasks old ranks m (k + 1) tried (stuck ++ record { releases = releases; miss = miss } ∷ [])
+    so_far_stuck releases miss is = record {
+      same = same_after (answers.Misses releases miss) is;
+      tasks_are = map_push (λ (s : Stuck). s.miss.task) stuck one ∙ (ap (λ (xs : List ℕ). xs ++ miss.task ∷ []) so_far.tasks_are
+          ∙ (ap (λ (n : ℕ). filter (λ j. eqb (get_or ranks j 0) 0) (range_with_len 0 k) ++ n ∷ []) missing.of_task
+          ∙ sym (filter_more_in (λ j. eqb (get_or ranks j 0) 0) k (eq-eqb (get_or ranks k 0) 0 e))));
+      each = All-push (IsStuck tasks (open_tasks ranks)) stuck one so_far.each (miss_is_stuck tasks m ranks is.priorities are k l e is.trial releases miss missing);
+      fail = λ u h z. elim (cases_eq u k) [
+        | inl s ↦ subst (λ n. PassesUnder tasks (is_other ranks m n) n → ⊥) (sym s) (miss_fails tasks m ranks is.priorities are k l e is.trial releases miss missing)
+        | inr apart ↦ so_far.fail u (omega arith) z
+      ];
+    }
+      where
+        one : Stuck
+        one = record { releases = releases; miss = miss }
+
+        missing : IsTaskMiss (prioritised tasks is.priorities) k releases miss
+        missing = subst (λ (s : Contents). IsTaskMiss s.tasks k releases miss) is.set_is is.says
+
+    pub found : IsTried tasks ranks m k budget tried answers.Meets → IsOf tasks old tried × IsNext tasks ranks m k
+    found is =
+        (same_after answers.Meets is, record {
+          task = l;
+          is_open = e;
+          first = record {
+            passes = meets_passes tasks m ranks is.priorities are k l e is.trial (subst (λ (s : Contents). IsMeeting s.tasks k) is.set_is is.says);
+            first = λ u h low. elim (cases_eq (get_or ranks u 0) 0) [
+              | inl z ↦ so_far.fail u h z
+              | inr some ↦ absurd (omega (arith, low, rank_above (length tasks) m ranks are u (omega arith) (omega arith)))
+            ];
+          };
+        })
+
+    pub spent_at : (trail : FixedTrail) → IsTried tasks ranks m k budget tried (answers.Undecided trail) → IsOf tasks old tried × IsSpentAt tasks ranks m budget k trail
+    spent_at trail is =
+        (same_after (answers.Undecided trail) is, record {
+          task = l;
+          is_open = e;
+          earlier = so_far.fail;
+          priorities = is.priorities;
+          trial = is.trial;
+          spent = subst (λ (s : Contents). IsUndecidedTask s budget k trail) is.set_is is.says;
+        })
+
+-- At the end all open tasks are stuck.
+pub so_far_all : (tasks : List Task) (old ranks : List ℕ) (m i : ℕ) (set : Contents) (stuck : List Stuck) → AreRanks (length tasks) m ranks → i ≡ length ranks
+    → IsSoFar tasks old ranks m i set stuck → IsOf tasks old set × AreStuck tasks ranks m stuck
+so_far_all tasks old ranks m i set stuck are all so_far =
+    (so_far.same, record {
+      tasks_are = subst (λ (n : ℕ). map (λ (s : Stuck). s.miss.task) stuck ≡ filter (λ j. eqb (get_or ranks j 0) 0) (range_with_len 0 n)) all so_far.tasks_are;
+      each = so_far.each;
+      fail = λ u h e. so_far.fail u (omega (arith, all, are.as_many)) e;
+    })

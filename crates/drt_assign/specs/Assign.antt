@@ -79,6 +79,7 @@ pub record IsEndStuck (tasks : List Task) (stuck : List Stuck) : Type 0 where
   pub open_count : ℕ
   pub are : AreRanks (length tasks) open_count ranks
   pub rule : FollowRule tasks ranks
+  pub left : 1 ≤ open_count
   pub some : 1 ≤ length stuck
   pub stuck_are : AreStuck tasks ranks open_count stuck
 

@@ -48,4 +48,9 @@ decide_task-requires-clause-task g c κs within =
     omega (arith, c.requires.task, c.requires.ranks.as_many, made.as_many, length-prioritised tasks old)
 
 pub returns : goal.returns
-returns g c = ?
+returns g c =
+    let tasks : List Task = c.args.set.tasks in
+    let old : List ℕ = c.args.course.now.old.now in
+    let ps : List ℕ = c.in_ok-priorities.priorities.items in
+    let is = tried_is tasks old ps c.deref.result.now c.prioritise-set.result c.prioritise-set.ensures c.deref.ensures.value (c.in_ok-priorities.ensures.are.as_many ∙ c.requires.ranks.as_many) in
+    record { priorities = ps; trial = c.in_ok-priorities.ensures; set_is = is; says = c.in_ok-answer.ensures }

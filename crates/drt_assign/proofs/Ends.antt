@@ -1,0 +1,103 @@
+-- How `assign` begins and ends.
+use Rattle.std.proofs.Common.{◌≡◌, ℕ, suc, ◌+◌, ◌-◌, ◌<◌, ◌≤◌, List, length, map, get_or, refl, sym, ap, ◌∙◌, subst, arith}
+use Rattle.std.proofs.lemmas.List.{length-map}
+use Rattle.drt_model.specs.declared.jobs.Policy.TheVariants.{Fixed}
+use Rattle.drt_model.specs.declared.tasks.Task.{Task}
+use Rattle.drt_model.specs.Constrained.{AreConstrained}
+use Rattle.drt_model.specs.Contents.{Contents}
+use Rattle.drt_model.specs.Digraph.{Digraph}
+use Rattle.drt_model.specs.Limits.{IsTaskSet}
+use Rattle.drt_model.specs.Schedulable.{Schedulable}
+use Rattle.drt_busy.specs.Decide.{TimesDecide}
+use Rattle.drt_evidence.specs.Claims.{graphs_of}
+use Rattle.drt_priorities.specs.Priorities.{ArePriorities, OrderExists, prioritised}
+use Rattle.drt_priorities.proofs.Prioritised.{graphs_stay, keep_constraints, keep_limits, length-prioritised, prioritised_same, prioritised_twice}
+use Rattle.drt_sp.specs.Answers.{IsUndecided}
+use Rattle.drt_assign.specs.Assign.{AreByRule, AreStuck, IsAssigned, IsEndSpent, IsEndStuck, IsYesOf, with_priorities}
+use Rattle.drt_assign.specs.Rule.{AreRanks, FollowRule, open_tasks}
+use Rattle.drt_assign.specs.Steps.{IsAnalysis, IsCourse, IsOf}
+use Rattle.drt_assign.specs.declared.answer.AssignAnswer.{AssignAnswer}
+use Rattle.drt_assign.specs.declared.answer.AssignAnswer.TheVariants as answers
+use Rattle.drt_assign.specs.declared.answer.Stuck.{Stuck}
+use Rattle.drt_assign.proofs.Orders.{at_most_32, no_order, ranked_is_schedulable, ranks_are_priorities, some_open}
+use Rattle.drt_assign.proofs.Ranges.{is_in_open}
+
+-- With the priorities that the tasks have they are the tasks of the file.
+pub same_tasks : (tasks : List Task) (old : List ℕ) → old ≡ map (λ (t : Task). t.priority) tasks → prioritised tasks old ≡ tasks
+same_tasks tasks old e = ap (prioritised tasks) e ∙ prioritised_same tasks
+
+pub course_of : (version : ℕ) (tasks : List Task) (graphs : List Digraph) (old : List ℕ) (workers budget : ℕ) → old ≡ map (λ (t : Task). t.priority) tasks
+    → IsTaskSet version tasks → AreConstrained tasks → graphs ≡ graphs_of tasks → 1 ≤ workers → workers ≤ 16 → 1 ≤ budget → budget ≤ 1000000
+    → IsCourse (prioritised tasks old) graphs old workers budget
+course_of version tasks graphs old workers budget e limits constrained are a b c d = subst (λ (ts : List Task). IsCourse ts graphs old workers budget) (sym (same_tasks tasks old e)) (record {
+  version = version;
+  limits = limits;
+  constrained = constrained;
+  graphs_are = are;
+  as_many = ap length e ∙ length-map tasks (λ (t : Task). t.priority);
+  workers_some = a;
+  workers_few = b;
+  budget_some = c;
+  budget_few = d;
+})
+
+-- Where at least one task is open and all open ones are stuck, the rule ends.
+pub end_stuck : (tasks : List Task) (ranks : List ℕ) (m : ℕ) (stuck : List Stuck) → AreRanks (length tasks) m ranks → FollowRule tasks ranks → 1 ≤ m → AreStuck tasks ranks m stuck
+    → IsEndStuck tasks stuck
+end_stuck tasks ranks m stuck are rule left is = record {
+  ranks = ranks;
+  open_count = m;
+  are = are;
+  rule = rule;
+  left = left;
+  some = some;
+  stuck_are = is;
+}
+  where
+    some : 1 ≤ length stuck
+    some =
+        let one = some_open ranks (omega (arith, are.open_ones)) in
+        let place = is_in_open ranks one.0 one.1 one.2 in
+        omega (arith, place.1, ap length is.tasks_are, length-map stuck (λ (s : Stuck). s.miss.task))
+
+-- A set that has the tasks of the file, given priorities.
+pub given : (tasks : List Task) (old ps : List ℕ) (set : Contents) → IsOf tasks old set → length ps ≡ length tasks → prioritised set.tasks ps ≡ prioritised tasks ps
+given tasks old ps set of e =
+    let long : length ps ≡ length set.tasks = omega (arith, e, ap length of, length-prioritised set.tasks old) in
+    sym (prioritised_twice set.tasks old ps long) ∙ ap (λ (ts : List Task). prioritised ts ps) of
+
+pub as_many_in : (tasks : List Task) (old : List ℕ) (set : Contents) → IsOf tasks old set → length tasks ≡ length set.tasks
+as_many_in tasks old set of = omega (arith, ap length of, length-prioritised set.tasks old)
+
+module _ (decide : TimesDecide) (version : ℕ) (tasks : List Task) (limits : IsTaskSet version tasks) (constrained : AreConstrained tasks) where
+  pub none : (stuck : List Stuck) → IsEndStuck tasks stuck → OrderExists tasks → ⊥
+  none stuck is = no_order decide version tasks limits constrained is.ranks is.open_count is.are is.left is.stuck_are.fail
+
+  module _ (ranks : List ℕ) (are : AreRanks (length tasks) 0 ranks) (rule : FollowRule tasks ranks) where
+    pub whole : ArePriorities (length tasks) ranks
+    whole = (ranks_are_priorities (length tasks) ranks are (at_most_32 version tasks limits)).1
+
+    pub by_rule : AreByRule tasks ranks
+    by_rule = record { are = whole; ranks = are; rule = rule }
+
+    pub whole_limits : IsTaskSet 2 (prioritised tasks ranks)
+    whole_limits = keep_limits version tasks ranks limits whole
+
+    pub whole_constrained : AreConstrained (prioritised tasks ranks)
+    whole_constrained = (keep_constraints tasks ranks).1 constrained
+
+    pub whole_schedulable : Schedulable (prioritised tasks ranks) Fixed
+    whole_schedulable = ranked_is_schedulable decide version tasks limits constrained ranks are rule
+
+    -- What the analysis of the set with the order says.
+    pub whole_assigned : (budget : ℕ) (set : Contents) → set ≡ with_priorities tasks ranks → (answer : AssignAnswer) → IsAnalysis set budget answer → IsAssigned (record { version = version; tasks = tasks }) budget answer
+    whole_assigned budget set e (answers.Done dossier) is = record { priorities = ranks; by_rule = by_rule; proved = subst (λ (s : Contents). IsYesOf s dossier) e is }
+    whole_assigned budget set e (answers.Unproved ordered trail) is = record {
+      priorities = ranks;
+      by_rule = by_rule;
+      ordered_is = is.0 ∙ e;
+      spent = subst (λ (s : Contents). IsUndecided s budget trail) (sym is.0) is.1;
+      exists = record { priorities = ranks; are = whole; schedulable = whole_schedulable };
+    }
+    whole_assigned budget set e (answers.NoOrder same stuck) is = absurd is
+    whole_assigned budget set e (answers.Undecided same higher task trail) is = absurd is
