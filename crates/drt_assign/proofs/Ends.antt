@@ -1,5 +1,6 @@
 -- How `assign` begins and ends.
 use Rattle.std.proofs.Common.{◌≡◌, ℕ, suc, ◌+◌, ◌-◌, ◌<◌, ◌≤◌, List, length, map, get_or, refl, sym, ap, ◌∙◌, subst, arith}
+use Rattle.std.specs.Prelude.{AllocError, Err, IfOk, Ok, Result}
 use Rattle.std.proofs.lemmas.List.{length-map}
 use Rattle.drt_model.specs.declared.jobs.Policy.TheVariants.{Fixed}
 use Rattle.drt_model.specs.declared.tasks.Task.{Task}
@@ -15,10 +16,11 @@ use Rattle.drt_priorities.proofs.Prioritised.{graphs_stay, keep_constraints, kee
 use Rattle.drt_sp.specs.Answers.{IsUndecided}
 use Rattle.drt_assign.specs.Assign.{AreByRule, AreStuck, IsAssigned, IsEndSpent, IsEndStuck, IsYesOf, with_priorities}
 use Rattle.drt_assign.specs.Rule.{AreRanks, FollowRule, open_tasks}
-use Rattle.drt_assign.specs.Steps.{IsAnalysis, IsCourse, IsOf}
+use Rattle.drt_assign.specs.Steps.{IsAnalysis, IsCourse, IsOf, IsRanking}
 use Rattle.drt_assign.specs.declared.answer.AssignAnswer.{AssignAnswer}
 use Rattle.drt_assign.specs.declared.answer.AssignAnswer.TheVariants as answers
 use Rattle.drt_assign.specs.declared.answer.Stuck.{Stuck}
+use Rattle.drt_assign.specs.declared.ranking.Ranking.{Ranking}
 use Rattle.drt_assign.proofs.Orders.{at_most_32, no_order, ranked_is_schedulable, ranks_are_priorities, some_open}
 use Rattle.drt_assign.proofs.Ranges.{is_in_open}
 
@@ -101,3 +103,36 @@ module _ (decide : TimesDecide) (version : ℕ) (tasks : List Task) (limits : Is
     }
     whole_assigned budget set e (answers.NoOrder same stuck) is = absurd is
     whole_assigned budget set e (answers.Undecided same higher task trail) is = absurd is
+
+abbrev made : ℕ → List Task → Contents
+made version tasks = record { version = version; tasks = tasks }
+
+-- The priorities of the file, as they were read.
+pub old_is : (xs ys : List ℕ) (read tasks : List Task) → xs ≡ ys → ys ≡ map (λ (t : Task). t.priority) read → read ≡ tasks → xs ≡ map (λ (t : Task). t.priority) tasks
+old_is xs ys read tasks e f h = e ∙ (f ∙ ap (map (λ (t : Task). t.priority)) h)
+
+-- What the rounds say, said of the tasks of the file.
+pub ranking_of : (tasks : List Task) (old : List ℕ) (budget : ℕ) (r s : Ranking) → old ≡ map (λ (t : Task). t.priority) tasks → r ≡ s → IsRanking (prioritised tasks old) old budget r → IsRanking tasks old budget s
+ranking_of tasks old budget r s e h is =
+    subst (λ (x : Ranking). IsRanking tasks old budget x) h (subst (λ (ts : List Task). IsRanking ts old budget r) (same_tasks tasks old e) is)
+
+-- The set with the order.
+pub ordered_is : (tasks : List Task) (old ranks qs : List ℕ) (set ordered : Contents) → IsOf tasks old set → length ranks ≡ length tasks → qs ≡ ranks
+    → ordered ≡ record { version = 2; tasks = prioritised set.tasks qs } → ordered ≡ with_priorities tasks ranks
+ordered_is tasks old ranks qs set ordered of n q e = e ∙ (ap (λ (xs : List ℕ). made 2 (prioritised set.tasks xs)) q ∙ ap (made 2) (given tasks old ranks set of n))
+
+-- The set as it was.
+pub restored : (set tried back : Contents) (version : ℕ) (old qs : List ℕ) → version ≡ set.version → qs ≡ old → IsOf set.tasks old tried
+    → back ≡ record { version = version; tasks = prioritised tried.tasks qs } → back ≡ set
+restored set tried back version old qs v q of e =
+    e ∙ (ap (λ (xs : List ℕ). made version (prioritised tried.tasks xs)) q ∙ (ap (made version) of ∙ ap (λ (n : ℕ). made n set.tasks) v))
+
+pub restored_limits : (set tried : Contents) (version : ℕ) (old qs : List ℕ) → version ≡ set.version → qs ≡ old → IsOf set.tasks old tried → IsTaskSet set.version set.tasks
+    → IsTaskSet version (prioritised tried.tasks qs)
+restored_limits set tried version old qs v q of limits =
+    subst (λ (s : Contents). IsTaskSet s.version s.tasks) (sym (restored set tried (made version (prioritised tried.tasks qs)) version old qs v q of refl)) limits
+
+-- What follows from each answer follows from an answer, if there is one.
+pub for_answer : (P Q : AssignAnswer → Type 0) (r : Result AssignAnswer AllocError) → ((a : AssignAnswer) → P a → Q a) → IfOk r P → IfOk r Q
+for_answer P Q (Ok a) f h = f a h
+for_answer P Q (Err e) f h = tt
