@@ -1,6 +1,6 @@
 -- How `assign` begins and ends.
-use Rattle.std.proofs.Common.{◌≡◌, ℕ, suc, ◌+◌, ◌-◌, ◌<◌, ◌≤◌, List, length, map, get_or, refl, sym, ap, ◌∙◌, subst, arith}
-use Rattle.std.specs.Prelude.{AllocError, Err, IfOk, Ok, Result}
+use Rattle.std.proofs.Common.{◌≡◌, ℕ, ◌≤◌, List, length, map, refl, sym, ap, ◌∙◌, subst, arith}
+use Rattle.std.specs.Prelude.{Err, IfOk, Ok, Result}
 use Rattle.std.proofs.lemmas.List.{length-map}
 use Rattle.drt_model.specs.declared.jobs.Policy.TheVariants.{Fixed}
 use Rattle.drt_model.specs.declared.tasks.Task.{Task}
@@ -12,10 +12,10 @@ use Rattle.drt_model.specs.Schedulable.{Schedulable}
 use Rattle.drt_busy.specs.Decide.{TimesDecide}
 use Rattle.drt_evidence.specs.Claims.{graphs_of}
 use Rattle.drt_priorities.specs.Priorities.{ArePriorities, OrderExists, prioritised}
-use Rattle.drt_priorities.proofs.Prioritised.{graphs_stay, keep_constraints, keep_limits, length-prioritised, prioritised_same, prioritised_twice}
+use Rattle.drt_priorities.proofs.Prioritised.{keep_constraints, keep_limits, length-prioritised, prioritised_same, prioritised_twice}
 use Rattle.drt_sp.specs.Answers.{IsUndecided}
-use Rattle.drt_assign.specs.Assign.{AreByRule, AreStuck, IsAssigned, IsEndSpent, IsEndStuck, IsYesOf, with_priorities}
-use Rattle.drt_assign.specs.Rule.{AreRanks, FollowRule, open_tasks}
+use Rattle.drt_assign.specs.Assign.{AreByRule, AreStuck, IsAssigned, IsEndStuck, IsYesOf, with_priorities}
+use Rattle.drt_assign.specs.Rule.{AreRanks, FollowRule}
 use Rattle.drt_assign.specs.Steps.{IsAnalysis, IsCourse, IsOf, IsRanking}
 use Rattle.drt_assign.specs.declared.answer.AssignAnswer.{AssignAnswer}
 use Rattle.drt_assign.specs.declared.answer.AssignAnswer.TheVariants as answers
@@ -133,6 +133,6 @@ restored_limits set tried version old qs v q of limits =
     subst (λ (s : Contents). IsTaskSet s.version s.tasks) (sym (restored set tried (made version (prioritised tried.tasks qs)) version old qs v q of refl)) limits
 
 -- What follows from each answer follows from an answer, if there is one.
-pub for_answer : (P Q : AssignAnswer → Type 0) (r : Result AssignAnswer AllocError) → ((a : AssignAnswer) → P a → Q a) → IfOk r P → IfOk r Q
+pub for_answer : {E : Type 0} (P Q : AssignAnswer → Type 0) (r : Result AssignAnswer E) → ((a : AssignAnswer) → P a → Q a) → IfOk r P → IfOk r Q
 for_answer P Q (Ok a) f h = f a h
 for_answer P Q (Err e) f h = tt

@@ -1,5 +1,5 @@
 -- A budget that is enough for orders is enough under all priorities, and so no analysis spends it.
-use Rattle.std.proofs.Common.{◌≡◌, ℕ, zero, suc, ◌+◌, ◌*◌, ◌<◌, ◌≤◌, Bool, true, false, cond, ltb, max, List, [], ◌∷◌, length, Contains, refl, sym, ap, ◌∙◌, subst, arith, inl, inr}
+use Rattle.std.proofs.Common.{◌≡◌, ℕ, zero, suc, ◌+◌, ◌*◌, ◌<◌, ◌≤◌, cond, ltb, max, List, [], ◌∷◌, length, refl, sym, ap, subst, arith, inl, inr}
 use Rattle.std.proofs.Math.Nat.{mul-le-mul}
 use Rattle.std.proofs.lemmas.Bool.{cases_Bool}
 use Rattle.drt_model.specs.declared.tasks.Task.{Task}
@@ -17,8 +17,8 @@ use Rattle.drt_sp.specs.Laws.{BudgetsSuffice}
 use Rattle.drt_sp.specs.Needs.{HasAtMost, IsEnough, product_above}
 use Rattle.drt_sp.proofs.GreatestDeadline.{greatest_some}
 use Rattle.drt_sp_task.specs.Laws.{TaskBudgetsSuffice}
-use Rattle.drt_assign.specs.Assign.{IsAssigned, with_priorities}
-use Rattle.drt_assign.specs.Laws.{AssignBudgetsSuffice, IsDecided}
+use Rattle.drt_assign.specs.Assign.{with_priorities}
+use Rattle.drt_assign.specs.Laws.{AssignBudgetsSuffice}
 use Rattle.drt_assign.specs.Needs.{IsEnoughForOrders, product_of}
 use Rattle.drt_assign.specs.declared.answer.AssignAnswer.TheVariants as answers
 
@@ -81,7 +81,7 @@ assign_suffices law of_task set budget (answers.Undecided same higher task trail
     let at = is.ended.spent in
     let are : ArePriorities (length set.tasks) at.priorities = subst (λ n. ArePriorities n at.priorities) is.ended.are.as_many at.trial.are in
     of_task (with_priorities set.tasks at.priorities) task budget trail (limits_under set.version set.tasks limits budget enough at.priorities are) at.spent
-        (enough_under set.version set.tasks limits budget enough at.priorities) (omega (arith, at.task, length-prioritised set.tasks at.priorities))
+    (enough_under set.version set.tasks limits budget enough at.priorities) (omega (arith, at.task, length-prioritised set.tasks at.priorities))
 assign_suffices law of_task set budget (answers.Unproved ordered trail) limits is enough =
     law (with_priorities set.tasks is.priorities) budget trail (limits_under set.version set.tasks limits budget enough is.priorities is.by_rule.are)
-        (subst (λ (s : Contents). IsUndecided s budget trail) is.ordered_is is.spent) (enough_under set.version set.tasks limits budget enough is.priorities)
+    (subst (λ (s : Contents). IsUndecided s budget trail) is.ordered_is is.spent) (enough_under set.version set.tasks limits budget enough is.priorities)

@@ -1,6 +1,6 @@
 -- What the rule says of orders: with a rank for each task there is one, and where no open task passes there is none.
-use Rattle.std.proofs.Common.{◌≡◌, ◌≢◌, ◌⊎◌, ℕ, zero, suc, ◌+◌, ◌<◌, ◌≤◌, Bool, true, false, cond, eqb, ltb, leb, not, List, [], ◌∷◌, length, get_or, count_by, All, refl, sym, ap, ◌∙◌, subst, arith, inl, inr}
-use Rattle.std.proofs.lemmas.Bool.{cases_Bool, cases_eq, cases_lt, cases_order, eq-eqb, eqb-true, le-leb, leb-true, lt-ltb, le-ltb, ltb-true, ltb-false, ne_eqb}
+use Rattle.std.proofs.Common.{◌≡◌, ◌≢◌, ◌⊎◌, ℕ, zero, suc, ◌+◌, ◌<◌, ◌≤◌, Bool, true, false, cond, eqb, leb, List, [], ◌∷◌, length, get_or, count_by, refl, sym, ap, ◌∙◌, subst, arith, inl, inr}
+use Rattle.std.proofs.lemmas.Bool.{cases_Bool, cases_eq, cases_lt, cases_order, eq-eqb, eqb-true, le-leb, leb-true, lt-ltb, ltb-true, ne_eqb}
 use Rattle.std.proofs.lemmas.List.{get_or_default}
 use Rattle.std.proofs.lemmas.List.Elements.{All-from_get_or}
 use Rattle.std.proofs.lemmas.List.Sums.{sum_by-cons}
@@ -12,7 +12,7 @@ use Rattle.drt_model.specs.Schedulable.{Schedulable}
 use Rattle.drt_busy.specs.Decide.{TimesDecide}
 use Rattle.drt_priorities.specs.Priorities.{ArePriorities, OrderExists, prioritised}
 use Rattle.drt_priorities.proofs.Prioritised.{keep_constraints, keep_limits, length-prioritised}
-use Rattle.drt_assign.specs.Rule.{AreRanks, FollowRule, IsFirst, IsTrial, PassesUnder, is_other}
+use Rattle.drt_assign.specs.Rule.{AreRanks, FollowRule, PassesUnder, is_other}
 use Rattle.drt_assign.proofs.Passing.{above_in, passes_from_under, passes_under_fewer, under_from_passes}
 
 -- Who is another of rank at most m.

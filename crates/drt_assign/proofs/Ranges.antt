@@ -1,10 +1,10 @@
 -- The open tasks as a list.
-use Rattle.std.proofs.Common.{◌≡◌, ◌≢◌, ℕ, zero, suc, ◌+◌, ◌<◌, ◌≤◌, Bool, true, false, cond, eqb, not, ◌&&◌, List, [], ◌∷◌, ◌++◌, length, map, get_or, Contains, refl, sym, ap, ◌∙◌, subst, arith, inl, inr}
+use Rattle.std.proofs.Common.{◌≡◌, ℕ, zero, suc, ◌+◌, ◌<◌, Bool, true, false, cond, eqb, List, [], ◌∷◌, ◌++◌, length, get_or, Contains, sym, ap, ◌∙◌, subst, arith, inl, inr}
 use Rattle.std.specs.Prelude.{filter}
 use Rattle.std.specs.List.{range_with_len}
 use Rattle.std.proofs.lemmas.Bool.{cases_Bool, eq-eqb, eqb-true}
 use Rattle.std.proofs.lemmas.List.{append-nil, map-id}
-use Rattle.std.proofs.lemmas.List.Elements.{All-contains, Contains-get_or, Contains-push_cases, Contains-append_left, Contains-push, filter-append, filter_passes}
+use Rattle.std.proofs.lemmas.List.Elements.{All-contains, filter-append, filter_passes}
 use Rattle.std.proofs.lemmas.List.FromFn.{get_or-range_with_len, length-range_with_len, map-range_with_len_more}
 use Rattle.drt_assign.specs.Rule.{open_tasks}
 
@@ -50,7 +50,7 @@ filter_contains p (y ∷ ys) x c = elim (cases_Bool (p y)) [
 pub is_in_open : (ranks : List ℕ) (k : ℕ) → k < length ranks → get_or ranks k 0 ≡ 0 → Contains (open_tasks ranks) k
 is_in_open ranks k l e =
     contains_filter (λ j. eqb (get_or ranks j 0) 0) (range_with_len 0 (length ranks)) k
-        (k, omega (arith, length-range_with_len 0 (length ranks)), omega (arith, get_or-range_with_len 0 (length ranks) k k l)) (eq-eqb (get_or ranks k 0) 0 e)
+    (k, omega (arith, length-range_with_len 0 (length ranks)), omega (arith, get_or-range_with_len 0 (length ranks) k k l)) (eq-eqb (get_or ranks k 0) 0 e)
 
 pub in_open_is : (ranks : List ℕ) (k : ℕ) → Contains (open_tasks ranks) k → (k < length ranks) × (get_or ranks k 0 ≡ 0)
 in_open_is ranks k c =
@@ -59,5 +59,5 @@ in_open_is ranks k c =
     let l : at.0 < length ranks = omega (arith, at.1, n) in
     let same = get_or-range_with_len 0 (length ranks) at.0 k l in
     let passes : eqb (get_or ranks k 0) 0 ≡ true =
-        All-contains (λ j. eqb (get_or ranks j 0) 0 ≡ true) (open_tasks ranks) k (filter_passes (λ j. eqb (get_or ranks j 0) 0) (range_with_len 0 (length ranks))) c in
+    All-contains (λ j. eqb (get_or ranks j 0) 0 ≡ true) (open_tasks ranks) k (filter_passes (λ j. eqb (get_or ranks j 0) 0) (range_with_len 0 (length ranks))) c in
     (omega (arith, l, same, at.2), eqb-true (get_or ranks k 0) 0 passes)

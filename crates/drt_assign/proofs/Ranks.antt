@@ -1,12 +1,12 @@
 -- The ranks before the first round, and after one.
-use Rattle.std.proofs.Common.{◌≡◌, ◌≢◌, ◌⊎◌, ℕ, zero, suc, ◌+◌, ◌-◌, ◌<◌, ◌≤◌, Bool, true, false, cond, eqb, leb, not, ◌&&◌, List, [], ◌∷◌, length, replicate, set, get_or, count_by, All, refl, sym, ap, ◌∙◌, subst, arith, inl, inr}
-use Rattle.std.proofs.lemmas.Bool.{cases_eq, eq-eqb, ne_eqb, le-leb}
+use Rattle.std.proofs.Common.{◌≡◌, ◌≢◌, ◌⊎◌, ℕ, zero, suc, ◌+◌, ◌-◌, ◌<◌, ◌≤◌, Bool, true, cond, eqb, List, length, replicate, set, get_or, count_by, refl, sym, ap, ◌∙◌, subst, arith, inl, inr}
+use Rattle.std.proofs.lemmas.Bool.{cases_eq, eq-eqb, ne_eqb}
 use Rattle.std.proofs.lemmas.List.{get_or-replicate, get_or-set_other, get_or-set_same, get_or_default, length-replicate, length-set}
 use Rattle.std.proofs.lemmas.List.Elements.{All-from_get_or}
 use Rattle.std.proofs.lemmas.List.Sums.{count_by-le-length, sum_by-cons, sum_by-set}
 use Rattle.drt_model.specs.declared.tasks.Task.{Task}
-use Rattle.drt_assign.specs.Rule.{AreRanks, FollowRule, IsFirst, PassesUnder, is_other}
-use Rattle.drt_assign.proofs.Orders.{other_apart, other_of, rank_above, rank_of_other, ranks_apart}
+use Rattle.drt_assign.specs.Rule.{AreRanks, FollowRule, IsFirst, is_other}
+use Rattle.drt_assign.proofs.Orders.{other_apart, other_of, rank_above, rank_of_other}
 use Rattle.drt_assign.proofs.Passing.{passes_under_fewer}
 
 all_open : (n : ℕ) → count_by (λ r. eqb r 0) (replicate n 0) ≡ n

@@ -1,5 +1,5 @@
 -- What a trial says of the task that is tried, and the rounds.
-use Rattle.std.proofs.Common.{◌≡◌, ◌≢◌, ◌⊎◌, ℕ, zero, suc, ◌+◌, ◌-◌, ◌<◌, ◌≤◌, Bool, true, false, cond, eqb, List, [], ◌∷◌, ◌++◌, length, map, get_or, All, Contains, Some, refl, sym, ap, ◌∙◌, subst, arith, inl, inr}
+use Rattle.std.proofs.Common.{◌≡◌, ◌≢◌, ℕ, zero, suc, ◌+◌, ◌<◌, ◌≤◌, eqb, List, [], ◌∷◌, ◌++◌, length, map, get_or, All, Contains, refl, sym, ap, ◌∙◌, subst, arith, inl, inr}
 use Rattle.std.specs.Prelude.{filter, option_map, slice_get, unwrap_or}
 use Rattle.std.specs.List.{range_with_len}
 use Rattle.std.proofs.lemmas.Bool.{cases_eq, eq-eqb, ne_eqb}
@@ -23,7 +23,7 @@ use Rattle.drt_sp_task.specs.Task.{IsMeeting, IsTaskMiss, IsUndecidedTask}
 use Rattle.drt_sp_task.specs.declared.answer.TaskAnswer.{TaskAnswer}
 use Rattle.drt_sp_task.specs.declared.answer.TaskAnswer.TheVariants as answers
 use Rattle.drt_assign.specs.Assign.{AreStuck, IsSpentAt, IsStuck, with_priorities}
-use Rattle.drt_assign.specs.Rule.{AreRanks, IsFirst, IsTrial, PassesUnder, is_other, open_tasks}
+use Rattle.drt_assign.specs.Rule.{AreRanks, IsTrial, PassesUnder, is_other, open_tasks}
 use Rattle.drt_assign.specs.Steps.{IsCourse, IsNext, IsOf, IsTried}
 use Rattle.drt_assign.specs.declared.answer.Stuck.{Stuck}
 use Rattle.drt_assign.proofs.Orders.{rank_above}
@@ -127,7 +127,7 @@ pub tried_ready : (tasks : List Task) (graphs : List Digraph) (old : List ℕ) (
 tried_ready tasks graphs old workers budget course ranks m k are ps trial set e =
     let long : length ranks ≡ length (prioritised tasks old) = are.as_many ∙ sym (length-prioritised tasks old) in
     subst (λ (s : Contents). IsReady (prioritised tasks old) graphs s) (sym e)
-        (ready (prioritised tasks old) graphs old workers budget course ps (subst (λ (n : ℕ). ArePriorities n ps) long trial.are))
+    (ready (prioritised tasks old) graphs old workers budget course ps (subst (λ (n : ℕ). ArePriorities n ps) long trial.are))
 
 -- The round up to the i-th task: the set has the tasks of the file, and each open task before is stuck.
 pub record IsSoFar (tasks : List Task) (old ranks : List ℕ) (m i : ℕ) (set : Contents) (stuck : List Stuck) : Type 0 where
@@ -179,36 +179,42 @@ module _ (tasks : List Task) (old ranks : List ℕ) (m budget : ℕ) (many : len
         missing = subst (λ (s : Contents). IsTaskMiss s.tasks k releases miss) is.set_is is.says
 
     pub found : IsTried tasks ranks m k budget tried answers.Meets → IsOf tasks old tried × IsNext tasks ranks m k
-    found is =
-        (same_after answers.Meets is, record {
-          task = l;
-          is_open = e;
-          first = record {
-            passes = meets_passes tasks m ranks is.priorities are k l e is.trial (subst (λ (s : Contents). IsMeeting s.tasks k) is.set_is is.says);
-            first = λ u h low. elim (cases_eq (get_or ranks u 0) 0) [
-              | inl z ↦ so_far.fail u h z
-              | inr some ↦ absurd (omega (arith, low, rank_above (length tasks) m ranks are u (omega arith) (omega arith)))
-            ];
-          };
-        })
+    found is = (
+      same_after answers.Meets is,
+      record {
+        task = l;
+        is_open = e;
+        first = record {
+          passes = meets_passes tasks m ranks is.priorities are k l e is.trial (subst (λ (s : Contents). IsMeeting s.tasks k) is.set_is is.says);
+          first = λ u h low. elim (cases_eq (get_or ranks u 0) 0) [
+            | inl z ↦ so_far.fail u h z
+            | inr some ↦ absurd (omega (arith, low, rank_above (length tasks) m ranks are u (omega arith) (omega arith)))
+          ];
+        };
+      },
+    )
 
     pub spent_at : (trail : FixedTrail) → IsTried tasks ranks m k budget tried (answers.Undecided trail) → IsOf tasks old tried × IsSpentAt tasks ranks m budget k trail
-    spent_at trail is =
-        (same_after (answers.Undecided trail) is, record {
-          task = l;
-          is_open = e;
-          earlier = so_far.fail;
-          priorities = is.priorities;
-          trial = is.trial;
-          spent = subst (λ (s : Contents). IsUndecidedTask s budget k trail) is.set_is is.says;
-        })
+    spent_at trail is = (
+      same_after (answers.Undecided trail) is,
+      record {
+        task = l;
+        is_open = e;
+        earlier = so_far.fail;
+        priorities = is.priorities;
+        trial = is.trial;
+        spent = subst (λ (s : Contents). IsUndecidedTask s budget k trail) is.set_is is.says;
+      },
+    )
 
 -- At the end all open tasks are stuck.
 pub so_far_all : (tasks : List Task) (old ranks : List ℕ) (m i : ℕ) (set : Contents) (stuck : List Stuck) → AreRanks (length tasks) m ranks → i ≡ length ranks
     → IsSoFar tasks old ranks m i set stuck → IsOf tasks old set × AreStuck tasks ranks m stuck
-so_far_all tasks old ranks m i set stuck are all so_far =
-    (so_far.same, record {
-      tasks_are = subst (λ (n : ℕ). map (λ (s : Stuck). s.miss.task) stuck ≡ filter (λ j. eqb (get_or ranks j 0) 0) (range_with_len 0 n)) all so_far.tasks_are;
-      each = so_far.each;
-      fail = λ u h e. so_far.fail u (omega (arith, all, are.as_many)) e;
-    })
+so_far_all tasks old ranks m i set stuck are all so_far = (
+  so_far.same,
+  record {
+    tasks_are = subst (λ (n : ℕ). map (λ (s : Stuck). s.miss.task) stuck ≡ filter (λ j. eqb (get_or ranks j 0) 0) (range_with_len 0 n)) all so_far.tasks_are;
+    each = so_far.each;
+    fail = λ u h e. so_far.fail u (omega (arith, all, are.as_many)) e;
+  },
+)

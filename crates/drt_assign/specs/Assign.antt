@@ -1,7 +1,6 @@
 -- What each answer of `assign` says.
 use Rattle.std.specs.Prelude.{◌≡◌, ◌≢◌, ℕ, ◌<◌, ◌≤◌, List, length, map, All, Contains, slice_index}
 use Rattle.drt_model.specs.declared.jobs.Policy.TheVariants.{Fixed}
-use Rattle.drt_model.specs.declared.jobs.Release.{Release}
 use Rattle.drt_model.specs.declared.tasks.Task.{Task}
 use Rattle.drt_model.specs.Contents.{Contents}
 use Rattle.drt_model.specs.Legal.{IsLegal}

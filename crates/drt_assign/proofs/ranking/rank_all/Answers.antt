@@ -1,4 +1,4 @@
-use Rattle.std.proofs.Common.{◌≡◌, ℕ, List, length, sym, subst, arith}
+use Rattle.std.proofs.Common.{◌≡◌, ℕ, List, length, sym, subst}
 use Rattle.drt_model.specs.declared.tasks.Task.{Task}
 use Rattle.drt_priorities.specs.Priorities.{prioritised}
 use Rattle.drt_assign.specs.Rule.{AreRanks}
@@ -14,14 +14,14 @@ round_of : (tasks before : List Task) (old ranks known : List ℕ) (m budget : �
     → IsRound before old ranks m budget r → IsRound tasks old known m budget s
 round_of tasks before old ranks known m budget r s e f h is =
     subst (λ (x : Round). IsRound tasks old known m budget x) h
-        (subst (λ (xs : List ℕ). IsRound tasks old xs m budget r) f (subst (λ (ts : List Task). IsRound ts old ranks m budget r) e is))
+    (subst (λ (xs : List ℕ). IsRound tasks old xs m budget r) f (subst (λ (ts : List Task). IsRound ts old ranks m budget r) e is))
 
 pub find_next-requires-clause-ranks : goal.find_next-requires-clause-ranks
 find_next-requires-clause-ranks g c κs within =
     let old : List ℕ = c.args.course.now.old.now in
     let tasks : List Task = prioritised c.args.set.tasks old in
     subst (λ (xs : List ℕ). AreRanks (length c.rounds.set.tasks) c.rounds.open_count xs) (sym c.deref.ensures.value)
-        (subst (λ (n : ℕ). AreRanks n c.rounds.open_count c.rounds.ranks.items) (as_many_in tasks old c.rounds.set c.rounds.invariant.0) c.rounds.invariant.1)
+    (subst (λ (n : ℕ). AreRanks n c.rounds.open_count c.rounds.ranks.items) (as_many_in tasks old c.rounds.set c.rounds.invariant.0) c.rounds.invariant.1)
 
 pub rounds-preserved : goal.rounds-preserved
 rounds-preserved g c =
@@ -30,10 +30,11 @@ rounds-preserved g c =
     let ranks : List ℕ = c.rounds.ranks.items in
     let m : ℕ = c.rounds.open_count in
     let said = round_of tasks (prioritised c.rounds.set.tasks old) old c.deref.result.now ranks m c.args.course.now.budget c.in_ok-tried.field-0 (rounds.Found c.in-Found.tried c.in-Found.task)
-        c.rounds.invariant.0 c.deref.ensures.value c.in-Found.is c.in_ok-tried.ensures in
-    (said.0,
-     ranks_after tasks m ranks c.rounds.invariant.1 c.in-Found.task said.1.task said.1.is_open c.rounds-test.true,
-     rule_after tasks m ranks c.rounds.invariant.1 c.in-Found.task said.1.task said.1.is_open c.rounds-test.true c.rounds.invariant.2 said.1.first)
+    c.rounds.invariant.0 c.deref.ensures.value c.in-Found.is c.in_ok-tried.ensures in (
+      said.0,
+      ranks_after tasks m ranks c.rounds.invariant.1 c.in-Found.task said.1.task said.1.is_open c.rounds-test.true,
+      rule_after tasks m ranks c.rounds.invariant.1 c.in-Found.task said.1.task said.1.is_open c.rounds-test.true c.rounds.invariant.2 said.1.first,
+    )
 
 pub returns-in-AllStuck : goal.returns-in-AllStuck
 returns-in-AllStuck g c =
@@ -42,5 +43,5 @@ returns-in-AllStuck g c =
     let ranks : List ℕ = c.rounds.ranks.items in
     let m : ℕ = c.rounds.open_count in
     let said = round_of tasks (prioritised c.rounds.set.tasks old) old c.deref.result.now ranks m c.args.course.now.budget c.in_ok-tried.field-0 (rounds.AllStuck c.in-AllStuck.tried c.in-AllStuck.stuck)
-        c.rounds.invariant.0 c.deref.ensures.value c.in-AllStuck.is c.in_ok-tried.ensures in
+    c.rounds.invariant.0 c.deref.ensures.value c.in-AllStuck.is c.in_ok-tried.ensures in
     (said.0, end_stuck tasks ranks m c.in-AllStuck.stuck c.rounds.invariant.1 c.rounds.invariant.2 c.rounds-test.true said.1)

@@ -1,8 +1,6 @@
-use Rattle.std.proofs.Common.{◌≡◌, ℕ, List, length, refl, sym, subst, ◌∙◌, arith}
+use Rattle.std.proofs.Common.{ℕ, List, refl, ◌∙◌, arith}
 use Rattle.drt_model.specs.Contents.{Contents}
-use Rattle.drt_model.specs.Limits.{IsTaskSet}
 use Rattle.drt_model.specs.declared.tasks.Task.{Task}
-use Rattle.drt_priorities.specs.Priorities.{prioritised}
 use Rattle.drt_priorities.proofs.Prioritised.{length-prioritised}
 use Rattle.drt_assign.specs.Assign.{with_priorities}
 use Rattle.drt_assign.proofs.Tried.{tried_is, tried_ready}
@@ -17,7 +15,7 @@ prioritise-set-requires-clause-limits g c =
     let set : Contents = with_priorities tasks qs in
     let is = tried_is tasks old ps qs set refl c.deref.ensures.value (c.in_ok-priorities.ensures.are.as_many ∙ c.requires.ranks.as_many) in
     (tried_ready tasks c.args.course.now.graphs.now old c.args.course.now.workers c.args.course.now.budget c.requires.course c.args.ranks.now c.args.open_count c.args.task c.requires.ranks ps
-        c.in_ok-priorities.ensures set is).limits
+    c.in_ok-priorities.ensures set is).limits
 
 pub decide_task-requires-clause-constrained : goal.decide_task-requires-clause-constrained
 decide_task-requires-clause-constrained g c κs within =
@@ -26,7 +24,7 @@ decide_task-requires-clause-constrained g c κs within =
     let ps : List ℕ = c.in_ok-priorities.priorities.items in
     let is = tried_is tasks old ps c.deref.result.now c.prioritise-set.result c.prioritise-set.ensures c.deref.ensures.value (c.in_ok-priorities.ensures.are.as_many ∙ c.requires.ranks.as_many) in
     (tried_ready tasks c.args.course.now.graphs.now old c.args.course.now.workers c.args.course.now.budget c.requires.course c.args.ranks.now c.args.open_count c.args.task c.requires.ranks ps
-        c.in_ok-priorities.ensures c.prioritise-set.result is).constrained
+    c.in_ok-priorities.ensures c.prioritise-set.result is).constrained
 
 pub decide_task-requires-clause-graphs : goal.decide_task-requires-clause-graphs
 decide_task-requires-clause-graphs g c κs within =
@@ -35,7 +33,7 @@ decide_task-requires-clause-graphs g c κs within =
     let ps : List ℕ = c.in_ok-priorities.priorities.items in
     let is = tried_is tasks old ps c.deref.result.now c.prioritise-set.result c.prioritise-set.ensures c.deref.ensures.value (c.in_ok-priorities.ensures.are.as_many ∙ c.requires.ranks.as_many) in
     (tried_ready tasks c.args.course.now.graphs.now old c.args.course.now.workers c.args.course.now.budget c.requires.course c.args.ranks.now c.args.open_count c.args.task c.requires.ranks ps
-        c.in_ok-priorities.ensures c.prioritise-set.result is).graphs_are
+    c.in_ok-priorities.ensures c.prioritise-set.result is).graphs_are
 
 pub decide_task-requires-clause-task : goal.decide_task-requires-clause-task
 decide_task-requires-clause-task g c κs within =
@@ -44,7 +42,7 @@ decide_task-requires-clause-task g c κs within =
     let ps : List ℕ = c.in_ok-priorities.priorities.items in
     let is = tried_is tasks old ps c.deref.result.now c.prioritise-set.result c.prioritise-set.ensures c.deref.ensures.value (c.in_ok-priorities.ensures.are.as_many ∙ c.requires.ranks.as_many) in
     let made = tried_ready tasks c.args.course.now.graphs.now old c.args.course.now.workers c.args.course.now.budget c.requires.course c.args.ranks.now c.args.open_count c.args.task c.requires.ranks ps
-        c.in_ok-priorities.ensures c.prioritise-set.result is in
+    c.in_ok-priorities.ensures c.prioritise-set.result is in
     omega (arith, c.requires.task, c.requires.ranks.as_many, made.as_many, length-prioritised tasks old)
 
 pub returns : goal.returns

@@ -1,4 +1,4 @@
-use Rattle.std.proofs.Common.{◌≡◌, ◌≢◌, ℕ, ◌++◌, ◌∷◌, [], false, List, get_or, ap, sym, subst, ◌∙◌, arith}
+use Rattle.std.proofs.Common.{◌≡◌, ℕ, ◌++◌, ◌∷◌, [], false, List, ap, sym, subst, ◌∙◌}
 use Rattle.drt_assign.proofs.Ranges.{filter_more_in, filter_more_out}
 use Rattle.drt_assign.proofs.Trials.{is_beside, is_beside_own, is_beside_ranked, is_beside_true}
 use Rattle.drt_assign.proofs.trial.other_open.Goals as goal
