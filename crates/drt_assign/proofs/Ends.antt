@@ -92,7 +92,11 @@ module _ (decide : TimesDecide) (version : ℕ) (tasks : List Task) (limits : Is
     whole_schedulable = ranked_is_schedulable decide version tasks limits constrained ranks are rule
 
     -- What the analysis of the set with the order says.
-    pub whole_assigned : (budget : ℕ) (set : Contents) → set ≡ with_priorities tasks ranks → (answer : AssignAnswer) → IsAnalysis set budget answer → IsAssigned (record { version = version; tasks = tasks }) budget answer
+    pub whole_assigned : (budget : ℕ) (set : Contents) → set ≡ with_priorities tasks ranks → (answer : AssignAnswer) → IsAnalysis set budget answer → IsAssigned (record {
+      version =
+          version;
+      tasks = tasks;
+    }) budget answer
     whole_assigned budget set e (answers.Done dossier) is = record { priorities = ranks; by_rule = by_rule; proved = subst (λ (s : Contents). IsYesOf s dossier) e is }
     whole_assigned budget set e (answers.Unproved ordered trail) is = record {
       priorities = ranks;
@@ -112,7 +116,8 @@ pub old_is : (xs ys : List ℕ) (read tasks : List Task) → xs ≡ ys → ys �
 old_is xs ys read tasks e f h = e ∙ (f ∙ ap (map (λ (t : Task). t.priority)) h)
 
 -- What the rounds say, said of the tasks of the file.
-pub ranking_of : (tasks : List Task) (old : List ℕ) (budget : ℕ) (r s : Ranking) → old ≡ map (λ (t : Task). t.priority) tasks → r ≡ s → IsRanking (prioritised tasks old) old budget r → IsRanking tasks old budget s
+pub ranking_of : (tasks : List Task) (old : List ℕ) (budget : ℕ) (r s : Ranking) → old ≡ map (λ (t : Task). t.priority) tasks → r ≡ s → IsRanking (prioritised tasks old) old budget r →
+    IsRanking tasks old budget s
 ranking_of tasks old budget r s e h is =
     subst (λ (x : Ranking). IsRanking tasks old budget x) h (subst (λ (ts : List Task). IsRanking ts old budget r) (same_tasks tasks old e) is)
 

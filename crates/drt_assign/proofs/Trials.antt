@@ -83,17 +83,21 @@ module _ (ranks : List ℕ) (m k : ℕ) where
               | inl same ↦ (let here : is_beside ranks k i ≡ false = subst (λ n. is_beside ranks k n ≡ false) (sym same) is_beside_own in
                   let low = le-ltb k i (omega arith) in
                   let high = lt-ltb k (suc i) (omega arith) in
-                  let before' : beside ranks k i + 0 ≡ count_by (λ r. eqb r 0) (take i ranks) = subst (λ (b : Bool). beside ranks k i + cond b 1 0 ≡ count_by (λ r. eqb r 0) (take i ranks)) low before in
-                  rw (here, high) (let c : count_by (λ r. eqb r 0) (take (suc i) ranks) ≡ count_by (λ r. eqb r 0) (take i ranks) + 1 = subst (λ n. count_by (λ r. eqb r 0) (take n ranks) ≡ count_by (λ r. eqb r 0) (take i ranks) + 1) (sym more) counted in omega (arith, before', c)))
+                  let before' : beside ranks k i + 0 ≡ count_by (λ r. eqb r 0) (take i ranks) = subst (λ (b : Bool). beside ranks k i + cond b 1 0 ≡ count_by (λ r. eqb r 0) (take i
+                  ranks)) low before in
+                  rw (here, high) (let c : count_by (λ r. eqb r 0) (take (suc i) ranks) ≡ count_by (λ r. eqb r 0) (take i ranks) + 1 = subst (λ n. count_by (λ r. eqb r 0) (take n
+                  ranks) ≡ count_by (λ r. eqb r 0) (take i ranks) + 1) (sym more) counted in omega (arith, before', c)))
               | inr ne ↦ (let here = is_beside_true i f ne in
                   let same_test : ltb k (suc i) ≡ ltb k i = beyond i ne in
-                  rw (here, same_test) (let c : count_by (λ r. eqb r 0) (take (suc i) ranks) ≡ count_by (λ r. eqb r 0) (take i ranks) + 1 = subst (λ n. count_by (λ r. eqb r 0) (take n ranks) ≡ count_by (λ r. eqb r 0) (take i ranks) + 1) (sym more) counted in omega (arith, before, c)))
+                  rw (here, same_test) (let c : count_by (λ r. eqb r 0) (take (suc i) ranks) ≡ count_by (λ r. eqb r 0) (take i ranks) + 1 = subst (λ n. count_by (λ r. eqb r 0) (take n
+                  ranks) ≡ count_by (λ r. eqb r 0) (take i ranks) + 1) (sym more) counted in omega (arith, before, c)))
             ])
         | inr ranked ↦ (let counted = count_by_more_no (λ r. eqb r 0) ranks i 0 (omega arith) (ne_eqb (get_or ranks i 0) 0 ranked) in
             let ne : i ≢ k = λ s. ranked (ap (λ n. get_or ranks n 0) s ∙ e) in
             let here = is_beside_ranked i ranked in
             let same_test : ltb k (suc i) ≡ ltb k i = beyond i ne in
-            rw (here, same_test) (let c : count_by (λ r. eqb r 0) (take (suc i) ranks) ≡ count_by (λ r. eqb r 0) (take i ranks) = subst (λ n. count_by (λ r. eqb r 0) (take n ranks) ≡ count_by (λ r. eqb r 0) (take i ranks)) (sym more) counted in omega (arith, before, c)))
+            rw (here, same_test) (let c : count_by (λ r. eqb r 0) (take (suc i) ranks) ≡ count_by (λ r. eqb r 0) (take i ranks) = subst (λ n. count_by (λ r. eqb r 0) (take n ranks) ≡
+            count_by (λ r. eqb r 0) (take i ranks)) (sym more) counted in omega (arith, before, c)))
       ]
     where
       beyond : (i : ℕ) → i ≢ k → ltb k (suc i) ≡ ltb k i
@@ -109,7 +113,8 @@ module _ (n m : ℕ) (ranks : List ℕ) (few : n ≤ 32) (are : AreRanks n m ran
       let all = beside_and_own ranks m k e n (omega (arith, are.as_many)) in
       let whole = take_all n ranks (omega (arith, are.as_many)) in
       let high = lt-ltb k n l in
-      let all' : beside ranks k n + cond true 1 0 ≡ count_by (λ r. eqb r 0) ranks = subst (λ (b : Bool). beside ranks k n + cond b 1 0 ≡ count_by (λ r. eqb r 0) ranks) high (all ∙ ap (count_by (λ r. eqb r 0)) whole) in
+      let all' : beside ranks k n + cond true 1 0 ≡ count_by (λ r. eqb r 0) ranks = subst (λ (b : Bool). beside ranks k n + cond b 1 0 ≡ count_by (λ r. eqb r 0) ranks) high (all ∙ ap
+      (count_by (λ r. eqb r 0)) whole) in
       omega (arith, all', are.open_ones)
 
   below_own : (j : ℕ) → j < n → get_or ranks j 0 ≡ 0 → j ≢ k → trial_at ranks m k j < m
@@ -185,7 +190,15 @@ module _ (n m : ℕ) (ranks : List ℕ) (few : n ≤ 32) (are : AreRanks n m ran
   is_trial ps is = record {
     are = record {
       as_many = omega (arith, long, are.as_many);
-      each = All-from_get_or IsPriority ps 0 (λ i h. (omega (arith, at i (omega (arith, long)), some i (omega (arith, long))), omega (arith, at i (omega (arith, long)), most i (omega (arith, long)))));
+      each = All-from_get_or IsPriority ps 0 (λ i h. (
+        omega (arith, at i (omega (arith, long)), some i (omega (arith, long))),
+        omega (
+          arith,
+          at i (omega (arith, long)),
+          most i (omega
+              (arith, long)),
+        ),
+      ));
       distinct = λ i j d before h same. apart_rising i j before (omega (arith, long))
           (sym (at i (omega (arith, long))) ∙ (get_or_default ps i 0 d (omega arith) ∙ (same ∙ (get_or_default ps j d 0 h ∙ at j (omega (arith, long))))));
     };

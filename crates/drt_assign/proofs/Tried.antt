@@ -79,7 +79,16 @@ module _ (tasks : List Task) (m : ℕ) (ranks ps : List ℕ) (are : AreRanks (le
           let own : (task_at (prioritised tasks ps) k).priority ≡ get_or ps k 0 = ap (λ (u : Task). u.priority) (get_or-prioritised tasks ps k no_task 0 as_many l) in
           elim (cases_eq (get_or ranks j 0) 0) [
             | inl z ↦ is_in_open ranks j (omega (arith, known, are.as_many)) z
-            | inr some ↦ absurd (omega (arith, high, number, own, trial.own, trial.ranked j (omega (arith, known, are.as_many)) (omega arith), rank_above (length tasks) m ranks are j known (omega arith)))
+            | inr some ↦ absurd (omega (
+              arith,
+              high,
+              number,
+              own,
+              trial.own,
+              trial.ranked j (omega (arith, known, are.as_many)) (omega arith),
+              rank_above (length tasks) m ranks are j
+                  known (omega arith),
+            ))
           ]
 
       lowest : (j : ℕ) → Contains (open_tasks ranks) j → j ≢ miss.task → get_or ps j 0 < get_or ps miss.task 0

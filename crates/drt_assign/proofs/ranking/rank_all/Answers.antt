@@ -42,6 +42,7 @@ returns-in-AllStuck g c =
     let tasks : List Task = prioritised c.args.set.tasks old in
     let ranks : List ℕ = c.rounds.ranks.items in
     let m : ℕ = c.rounds.open_count in
-    let said = round_of tasks (prioritised c.rounds.set.tasks old) old c.deref.result.now ranks m c.args.course.now.budget c.in_ok-tried.field-0 (rounds.AllStuck c.in-AllStuck.tried c.in-AllStuck.stuck)
+    let said = round_of tasks (prioritised c.rounds.set.tasks old) old c.deref.result.now ranks m c.args.course.now.budget c.in_ok-tried.field-0 (rounds.AllStuck c.in-AllStuck.tried
+    c.in-AllStuck.stuck)
     c.rounds.invariant.0 c.deref.ensures.value c.in-AllStuck.is c.in_ok-tried.ensures in
     (said.0, end_stuck tasks ranks m c.in-AllStuck.stuck c.rounds.invariant.1 c.rounds.invariant.2 c.rounds-test.true said.1)

@@ -37,7 +37,8 @@ returns-in-Meets g c =
     let l : c.tasks.k < length tasks = omega (arith, c.tasks-test.true, are.as_many) in
     let own = of_self before old (c.requires.course.as_many ∙ length-prioritised before old) in
     found tasks old c.args.ranks.now c.args.open_count c.args.course.now.budget c.requires.course.as_many own are c.tasks.k l c.tasks.set c.tasks.stuck.items c.tasks.invariant
-    c.if-ranks-k-eq0.true c.in_ok-tried.tried (tried_of tasks _ c.args.ranks.now c.args.open_count c.tasks.k c.args.course.now.budget c.in_ok-tried.tried _ _ c.tasks.invariant.same c.in-Meets.is c.in_ok-tried.ensures)
+    c.if-ranks-k-eq0.true c.in_ok-tried.tried (tried_of tasks _ c.args.ranks.now c.args.open_count c.tasks.k c.args.course.now.budget c.in_ok-tried.tried _ _ c.tasks.invariant.same
+    c.in-Meets.is c.in_ok-tried.ensures)
 
 pub returns-in-Undecided : goal.returns-in-Undecided
 returns-in-Undecided g c =
@@ -63,12 +64,14 @@ tasks-preserved g c =
     let l : k < length tasks = omega (arith, c.tasks-test.true, are.as_many) in
     let own = of_self before old (c.requires.course.as_many ∙ length-prioritised before old) in
     elim c.if-ranks-k-eq0.branch [
-      | then-ranks-k-eq0+in_ok-tried+in-Misses+in_ok-push-in-Misses w ↦ (let next = so_far_stuck tasks old ranks m c.args.course.now.budget c.requires.course.as_many own are k l c.tasks.set c.tasks.stuck.items c.tasks.invariant
+      | then-ranks-k-eq0+in_ok-tried+in-Misses+in_ok-push-in-Misses w ↦ (let next = so_far_stuck tasks old ranks m c.args.course.now.budget c.requires.course.as_many own are k l
+          c.tasks.set c.tasks.stuck.items c.tasks.invariant
           w.if-ranks-k-eq0.true w.in_ok-tried.tried w.in-Misses.releases w.in-Misses.miss
           (tried_of tasks _ ranks m k c.args.course.now.budget w.in_ok-tried.tried _ _ c.tasks.invariant.same w.in-Misses.is w.in_ok-tried.ensures) in
           subst (λ (s : Contents). IsSoFar tasks old ranks m (k + 1) s c.if-ranks-k-eq0.stuck.items) (sym w.set-is)
           (subst (λ (xs : List Stuck). IsSoFar tasks old ranks m (k + 1) w.in_ok-tried.tried xs) (sym (ap (λ v. v.items) w.stuck-is ∙ w.in_ok-push-in-Misses.ensures.items)) next))
-      | else-ranks-k-eq0 w ↦ (let next = so_far_over tasks old ranks m c.args.course.now.budget c.requires.course.as_many own are k l c.tasks.set c.tasks.stuck.items c.tasks.invariant w.if-ranks-k-eq0.false in
+      | else-ranks-k-eq0 w ↦ (let next = so_far_over tasks old ranks m c.args.course.now.budget c.requires.course.as_many own are k l c.tasks.set c.tasks.stuck.items c.tasks.invariant
+          w.if-ranks-k-eq0.false in
           subst (λ (s : Contents). IsSoFar tasks old ranks m (k + 1) s c.if-ranks-k-eq0.stuck.items) (sym w.set-is)
           (subst (λ (xs : List Stuck). IsSoFar tasks old ranks m (k + 1) c.tasks.set xs) (sym (ap (λ v. v.items) w.stuck-is)) next))
     ]

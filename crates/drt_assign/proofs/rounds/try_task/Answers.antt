@@ -41,7 +41,8 @@ decide_task-requires-clause-task g c κs within =
     let old : List ℕ = c.args.course.now.old.now in
     let ps : List ℕ = c.in_ok-priorities.priorities.items in
     let is = tried_is tasks old ps c.deref.result.now c.prioritise-set.result c.prioritise-set.ensures c.deref.ensures.value (c.in_ok-priorities.ensures.are.as_many ∙ c.requires.ranks.as_many) in
-    let made = tried_ready tasks c.args.course.now.graphs.now old c.args.course.now.workers c.args.course.now.budget c.requires.course c.args.ranks.now c.args.open_count c.args.task c.requires.ranks ps
+    let made = tried_ready tasks c.args.course.now.graphs.now old c.args.course.now.workers c.args.course.now.budget c.requires.course c.args.ranks.now c.args.open_count c.args.task
+    c.requires.ranks ps
     c.in_ok-priorities.ensures c.prioritise-set.result is in
     omega (arith, c.requires.task, c.requires.ranks.as_many, made.as_many, length-prioritised tasks old)
 
