@@ -1,0 +1,4 @@
+pub mod Timed
+pub mod Limits
+pub mod Milder
+pub mod Deciding

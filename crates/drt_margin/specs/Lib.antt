@@ -1,0 +1,3 @@
+pub mod Margin
+pub mod Answers
+pub mod Steps

@@ -1,0 +1,67 @@
+-- What `margin` knows on its way.
+use Rattle.std.specs.Prelude.{◌≡◌, ℕ, ◌+◌, ◌-◌, ◌<◌, ◌≤◌, IfSome}
+use Rattle.drt_model.specs.Contents.{Contents}
+use Rattle.drt_model.specs.Constrained.{AreConstrained}
+use Rattle.drt_model.specs.Limits.{IsTaskSet}
+use Rattle.drt_model.specs.declared.jobs.Policy.{Policy}
+use Rattle.drt_model.specs.declared.jobs.Policy.TheVariants.{Edf}
+use Rattle.drt_edf.specs.Answers.{IsBeyond}
+use Rattle.drt_margin.specs.Answers.{IsMarginAnswer, IsNext, IsOtherFor, IsSpentUnder, IsYesFor}
+use Rattle.drt_margin.specs.Margin.{Halves, IsVertexOf, IsWithin, deadline_at, plus_set, wcet_at}
+use Rattle.drt_margin.specs.declared.answer.Next.TheVariants.{Shown}
+use Rattle.drt_margin.specs.declared.asking.Finding.{Finding}
+use Rattle.drt_margin.specs.declared.asking.Finding.TheVariants as findings
+use Rattle.drt_margin.specs.declared.asking.Question.{Question}
+use Rattle.drt_margin.specs.declared.halving.Room.{Room}
+use Rattle.drt_margin.specs.declared.halving.Half.{Half}
+use Rattle.drt_margin.specs.declared.halving.Half.TheVariants as halves
+use Rattle.drt_margin.specs.declared.halving.Last.{Last}
+use Rattle.drt_margin.specs.declared.halving.Last.TheVariants as lasts
+
+-- The question can be asked of the set: its deadlines are constrained, and the vertex is there.
+pub record IsAsked (set : Contents) (q : Question) : Type 0 where
+  pub constrained : AreConstrained set.tasks
+  pub vertex : IsVertexOf set.tasks q.task q.vertex
+
+-- What the analysis of a set under the policy found.
+abbrev pub IsFinding : Policy → Contents → ℕ → Finding → Type 0
+IsFinding policy set budget (findings.Yes evidence) = IsYesFor policy set evidence
+IsFinding policy set budget (findings.Other evidence) = IsOtherFor policy set evidence
+IsFinding policy set budget (findings.Beyond beyond) = (policy ≡ Edf) × IsBeyond set.tasks beyond
+IsFinding policy set budget (findings.Undecided trail) = IsSpentUnder policy set budget trail
+
+-- Neither this number is within nor a greater one.
+abbrev pub ArePast : Contents → Policy → ℕ → ℕ → ℕ → Type 0
+ArePast set policy k v c = (m : ℕ) → c ≤ m → ¬ IsWithin set policy k v m
+
+-- A pair that halving goes through: the lower number is within, with its evidence, and the higher one isn't, with its evidence if it was
+-- tried.
+pub record IsRoom (set : Contents) (policy : Policy) (k v : ℕ) (room : Room) : Type 0 where
+  pub order : room.low < room.high
+  pub most : room.high ≤ 1000000
+  pub limit : wcet_at set.tasks k v + room.high ≤ 1000001
+  pub halves : Halves set policy k v room.low room.high
+  pub is_in : IsWithin set policy k v room.low
+  pub first : IsWithin set policy k v 0
+  pub past : ArePast set policy k v room.high
+  pub yes : IsYesFor policy (plus_set set k v room.low) room.within
+  pub shown : IfSome room.past (λ evidence. IsNext set policy k v room.high (Shown evidence))
+
+-- What one analysis makes of a pair: the next pair, whose numbers are nearer, or the answer.
+abbrev pub IsHalf : Contents → Policy → ℕ → ℕ → ℕ → ℕ → Half → Type 0
+IsHalf set policy k v budget apart (halves.Open room) = IsRoom set policy k v room × (room.high - room.low < apart)
+IsHalf set policy k v budget apart (halves.Ended answer) = IsMarginAnswer set policy k v budget answer
+
+-- The least number that isn't within: the higher one of a pair whose numbers are next to each other.
+pub record IsLeast (set : Contents) (policy : Policy) (k v high : ℕ) : Type 0 where
+  pub low : ℕ
+  pub halves : Halves set policy k v low high
+  pub near : high - low ≤ 1
+  pub first : IsWithin set policy k v 0
+  pub past : ArePast set policy k v high
+  pub limit : wcet_at set.tasks k v + high ≤ 1000001
+
+-- What is shown of it, or the answer.
+abbrev pub IsLast : Contents → Policy → ℕ → ℕ → ℕ → ℕ → Last → Type 0
+IsLast set policy k v budget high (lasts.Next next) = IsNext set policy k v high next
+IsLast set policy k v budget high (lasts.Ended answer) = IsMarginAnswer set policy k v budget answer

@@ -1,0 +1,176 @@
+//! One set, asked of the analysis of its policy.
+ghost use Rattle.std.specs.Prelude.{◌≡◌, ℕ, ◌+◌, ◌≤◌, ◌↔◌, IfOk, IsTrue};
+ghost use Rattle.drt_model.specs.Constrained.{AreConstrained};
+ghost use Rattle.drt_model.specs.Contents.{Contents};
+ghost use Rattle.drt_model.specs.declared.jobs.Policy.{Policy};
+ghost use Rattle.drt_model.specs.declared.jobs.Policy.TheVariants as policies;
+ghost use Rattle.drt_evidence.specs.Claims.{graphs_of};
+ghost use Rattle.drt_margin.specs.Margin.{plus_set, wcet_at};
+ghost use Rattle.drt_evidence.specs.Ranges.{IsInRange};
+ghost use Rattle.drt_margin.specs.Answers.{IsAffirmative, IsVerdictUnder};
+ghost use Rattle.drt_margin.specs.Steps.{IsAsked, IsFinding};
+
+use crate::answer::MarginTrail;
+use crate::times::{with_less, with_more};
+use drt_edf::{EdfAnswer, analyse_edf};
+use drt_evidence::{Dossier, Evidence};
+use drt_fixed::{Analysed, analyse_fixed};
+use drt_graph::{GraphError, Graphs, check};
+use drt_horizon::Beyond;
+use drt_model::{Memory, Policy, TaskSet};
+use drt_pool::Gate;
+use std::alloc::Global;
+use std::sync::Wait;
+use std::thread::Threads;
+
+/// What is asked of sets: for which vertex of which task they are changed, under which policy they are analysed, by how many workers, and
+/// with which budget.
+#[derive(Clone, Copy, Drop)]
+pub struct Question {
+    pub policy: Policy,
+    pub task: u32,
+    pub vertex: u32,
+    pub workers: u32,
+    pub budget: u64,
+    ghost some_workers: { 1 ≤ workers },
+    ghost few_workers: { workers ≤ 16 },
+    ghost some_budget: { 1 ≤ budget },
+    ghost few_budget: { budget ≤ 1000000 },
+}
+
+/// What the analysis of one set found.
+#[derive(Drop)]
+pub enum Finding {
+    /// The set is schedulable and, under EDF, its utilisation is below one.
+    Yes(Evidence),
+    /// It isn't.
+    Other(Evidence),
+    /// Under EDF, its numbers are out of reach.
+    Beyond(Beyond),
+    /// A budget was spent.
+    Undecided(MarginTrail),
+}
+
+/// What is found of the set with so many ticks more, and the set as it was.
+pub fn ask<G: Gate, R: Threads + Wait + Sync>(
+    rt: &R,
+    alloc: Global,
+    set: TaskSet,
+    question: Question,
+    add: u32,
+    gate: &G,
+) -> Result<(TaskSet, Finding), Memory>
+    requires asked { IsAsked set question }
+    requires limit { wcet_at set.tasks question.task question.vertex + add ≤ 1000000 }
+    ensures same { IfOk result (λ r. r.0 ≡ set) }
+    ensures finding { IfOk result (λ r. IsFinding question.policy (plus_set set question.task question.vertex add) question.budget r.1) }
+{
+    let more = with_more(alloc, set, question.task, question.vertex, add);
+    let (more, finding) = analyse(rt, alloc, more, question, gate)?;
+    let set = with_less(alloc, more, question.task, question.vertex, add);
+    Ok((set, finding))
+}
+
+// What is found of the set, and the set.
+fn analyse<G: Gate, R: Threads + Wait + Sync>(
+    rt: &R,
+    alloc: Global,
+    set: TaskSet,
+    question: Question,
+    gate: &G,
+) -> Result<(TaskSet, Finding), Memory>
+    requires { AreConstrained set.tasks }
+    ensures same { IfOk result (λ r. r.0 ≡ set) }
+    ensures finding { IfOk result (λ r. IsFinding question.policy set question.budget r.1) }
+{
+    let graphs = make_graphs(alloc, &set)?;
+    match question.policy {
+        Policy::Edf => {
+            let finding = analyse_by_edf(rt, alloc, &set, &graphs, question, gate)?;
+            Ok((set, finding))
+        }
+        Policy::Fixed => analyse_by_priorities(rt, alloc, set, &graphs, question, gate),
+    }
+}
+
+// What is found under EDF.
+fn analyse_by_edf<G: Gate, R: Threads + Wait + Sync>(
+    rt: &R,
+    alloc: Global,
+    set: &TaskSet,
+    graphs: &Graphs,
+    question: Question,
+    gate: &G,
+) -> Result<Finding, Memory>
+    requires constrained { AreConstrained set.now.tasks }
+    requires graphs { graphs.now ≡ graphs_of set.now.tasks }
+    ensures { IfOk result (IsFinding policies.Edf set.now question.budget) }
+{
+    let (workers, budget) = (question.workers, question.budget);
+    match analyse_edf(rt, alloc, set, graphs, workers, budget, gate)? {
+        EdfAnswer::Done(evidence) => Ok(decided(evidence)),
+        EdfAnswer::Beyond(beyond) => Ok(Finding::Beyond(beyond)),
+        EdfAnswer::Undecided(trail) => Ok(Finding::Undecided(MarginTrail::Edf(trail))),
+    }
+}
+
+// What is found under fixed priorities, and the set.
+fn analyse_by_priorities<G: Gate, R: Threads + Wait + Sync>(
+    rt: &R,
+    alloc: Global,
+    set: TaskSet,
+    graphs: &Graphs,
+    question: Question,
+    gate: &G,
+) -> Result<(TaskSet, Finding), Memory>
+    requires constrained { AreConstrained set.tasks }
+    requires graphs { graphs.now ≡ graphs_of set.tasks }
+    ensures same { IfOk result (λ r. r.0 ≡ set) }
+    ensures finding { IfOk result (λ r. IsFinding policies.Fixed set question.budget r.1) }
+{
+    let (workers, budget) = (question.workers, question.budget);
+    let Analysed { dossier, trail } = analyse_fixed(rt, alloc, set, graphs, workers, budget, gate)?;
+    let Dossier { set, evidence, .. } = dossier;
+    match trail {
+        Some(spent) => Ok((set, Finding::Undecided(MarginTrail::Fixed(spent)))),
+        None => Ok((set, decided(evidence))),
+    }
+}
+
+// A yes, or another kind of evidence.
+fn decided(evidence: Evidence) -> Finding
+    ensures { (policy : Policy) (set : Contents) (budget : ℕ) → IsVerdictUnder policy set evidence → IsInRange evidence → IsFinding policy set budget result }
+{
+    if is_affirmative(&evidence) {
+        Finding::Yes(evidence)
+    } else {
+        Finding::Other(evidence)
+    }
+}
+
+// Whether the evidence is a yes.
+fn is_affirmative(evidence: &Evidence) -> bool
+    ensures { IsTrue result ↔ IsAffirmative evidence.now }
+{
+    match evidence {
+        Evidence::EdfYes { .. } => true,
+        Evidence::EdfNo { .. } => false,
+        Evidence::UtilisationOne { .. } => false,
+        Evidence::FixedYes { .. } => true,
+        Evidence::FixedStates { .. } => true,
+        Evidence::FixedNo { .. } => false,
+        Evidence::Undecided => false,
+    }
+}
+
+// The graphs of a set with constrained deadlines.
+fn make_graphs(alloc: Global, set: &TaskSet) -> Result<Graphs, Memory>
+    requires { AreConstrained set.now.tasks }
+    ensures { IfOk result (λ graphs. graphs ≡ graphs_of set.now.tasks) }
+{
+    match check(alloc, set) {
+        Ok(graphs) => Ok(graphs),
+        Err(GraphError::DeadlinePastSeparation { .. }) => unreachable!(),
+        Err(GraphError::Memory) => Err(Memory),
+    }
+}

@@ -1,0 +1,193 @@
+//! The room between a number that is within and one that isn't, halved.
+ghost use Rattle.std.specs.Prelude.{◌≡◌, ◌-◌, ◌≤◌, ◌<◌, ◌⊎◌, IfOk};
+ghost use Rattle.drt_margin.specs.Margin.{Halves, plus_set};
+ghost use Rattle.drt_margin.specs.Answers.{IsMarginAnswer, IsYesFor};
+ghost use Rattle.drt_margin.specs.Steps.{IsAsked, IsHalf, IsLast, IsLeast, IsRoom};
+
+use crate::answer::{MarginAnswer, Next};
+use crate::asking::{Finding, Question, ask};
+use crate::times::{deadline_of, wcet_of};
+use drt_evidence::Evidence;
+use drt_model::{Memory, TaskSet};
+use drt_pool::Gate;
+use std::alloc::Global;
+use std::sync::Wait;
+use std::thread::Threads;
+
+/// The longest execution time, in ticks.
+const LONGEST: u32 = 1_000_000;
+
+/// A number that is within, with the evidence of the set with it, and a greater one that isn't, with the evidence where it was tried.
+#[derive(Drop)]
+pub struct Room {
+    pub low: u32,
+    pub high: u32,
+    pub within: Evidence,
+    pub past: Option<Evidence>,
+}
+
+/// What one analysis makes of a room.
+#[derive(Drop)]
+pub enum Half {
+    /// A smaller one.
+    Open(Room),
+    /// The answer.
+    Ended(MarginAnswer),
+}
+
+/// What is shown of the least number that isn't within.
+#[derive(Drop)]
+pub enum Last {
+    /// This.
+    Next(Next),
+    /// Nothing: the answer.
+    Ended(MarginAnswer),
+}
+
+/// The answer for a set that is a yes as it is, and the set.
+pub fn halve<G: Gate, R: Threads + Wait + Sync>(
+    rt: &R,
+    alloc: Global,
+    set: TaskSet,
+    question: Question,
+    evidence: Evidence,
+    gate: &G,
+) -> Result<(TaskSet, MarginAnswer), Memory>
+    requires asked { IsAsked set question }
+    requires yes { IsYesFor question.policy (plus_set set question.task question.vertex 0) evidence }
+    ensures same { IfOk result (λ r. r.0 ≡ set) }
+    ensures answer { IfOk result (λ r. IsMarginAnswer set question.policy question.task question.vertex question.budget r.1) }
+{
+    let mut set = set;
+    let mut room = open(&set, question, evidence);
+    while room.high - room.low > 1 {
+        let (same, half) = narrow(rt, alloc, set, question, room, gate)?;
+        set = same;
+        match half {
+            Half::Open(smaller) => room = smaller,
+            Half::Ended(answer) => return Ok((set, answer)),
+        }
+    }
+    close(rt, alloc, set, question, room, gate)
+}
+
+// The room at first: up to the least number that the deadline doesn't hold.
+fn open(set: &TaskSet, question: Question, evidence: Evidence) -> Room
+    requires asked { IsAsked set.now question }
+    requires yes { IsYesFor question.policy (plus_set set.now question.task question.vertex 0) evidence }
+    ensures { IsRoom set.now question.policy question.task question.vertex result }
+{
+    let wcet = wcet_of(set, question.task, question.vertex);
+    let deadline = deadline_of(set, question.task, question.vertex);
+    Room {
+        low: 0,
+        high: deadline - wcet + 1,
+        within: evidence,
+        past: None,
+    }
+}
+
+// What the analysis of the set with the number in the middle makes of a room, and the set.
+fn narrow<G: Gate, R: Threads + Wait + Sync>(
+    rt: &R,
+    alloc: Global,
+    set: TaskSet,
+    question: Question,
+    room: Room,
+    gate: &G,
+) -> Result<(TaskSet, Half), Memory>
+    requires asked { IsAsked set question }
+    requires room { IsRoom set question.policy question.task question.vertex room }
+    requires wide { 1 < room.high - room.low }
+    ensures same { IfOk result (λ r. r.0 ≡ set) }
+    ensures half { IfOk result (λ r. IsHalf set question.policy question.task question.vertex question.budget (room.high - room.low) r.1) }
+{
+    let Room {
+        low,
+        high,
+        within,
+        past,
+    } = room;
+    let add = (low + high) / 2;
+    let (set, finding) = ask(rt, alloc, set, question, add, gate)?;
+    let half = match finding {
+        Finding::Yes(evidence) => Half::Open(Room {
+            low: add,
+            high,
+            within: evidence,
+            past,
+        }),
+        Finding::Other(evidence) => Half::Open(Room {
+            low,
+            high: add,
+            within,
+            past: Some(evidence),
+        }),
+        Finding::Beyond(beyond) => Half::Ended(MarginAnswer::Beyond { add, beyond }),
+        Finding::Undecided(trail) => Half::Ended(MarginAnswer::Undecided { add, trail }),
+    };
+    Ok((set, half))
+}
+
+// The answer for two numbers that are next to each other, and the set.
+fn close<G: Gate, R: Threads + Wait + Sync>(
+    rt: &R,
+    alloc: Global,
+    set: TaskSet,
+    question: Question,
+    room: Room,
+    gate: &G,
+) -> Result<(TaskSet, MarginAnswer), Memory>
+    requires asked { IsAsked set question }
+    requires room { IsRoom set question.policy question.task question.vertex room }
+    requires narrow { room.high - room.low ≤ 1 }
+    ensures same { IfOk result (λ r. r.0 ≡ set) }
+    ensures answer { IfOk result (λ r. IsMarginAnswer set question.policy question.task question.vertex question.budget r.1) }
+{
+    let Room {
+        low,
+        high,
+        within,
+        past,
+    } = room;
+    let (set, last) = match past {
+        Some(evidence) => (set, Last::Next(Next::Shown(evidence))),
+        None => try_last(rt, alloc, set, question, high, gate)?,
+    };
+    let answer = match last {
+        Last::Next(next) => MarginAnswer::Found {
+            add: low,
+            within,
+            next,
+        },
+        Last::Ended(answer) => answer,
+    };
+    Ok((set, answer))
+}
+
+// What is shown of the set with the least number that isn't within, and the set.
+fn try_last<G: Gate, R: Threads + Wait + Sync>(
+    rt: &R,
+    alloc: Global,
+    set: TaskSet,
+    question: Question,
+    high: u32,
+    gate: &G,
+) -> Result<(TaskSet, Last), Memory>
+    requires asked { IsAsked set question }
+    requires least { IsLeast set question.policy question.task question.vertex high }
+    ensures same { IfOk result (λ r. r.0 ≡ set) }
+    ensures last { IfOk result (λ r. IsLast set question.policy question.task question.vertex question.budget high r.1) }
+{
+    if wcet_of(&set, question.task, question.vertex) + high > LONGEST {
+        return Ok((set, Last::Next(Next::Limit)));
+    }
+    let (set, finding) = ask(rt, alloc, set, question, high, gate)?;
+    let last = match finding {
+        Finding::Yes(_) => unreachable!(),
+        Finding::Other(evidence) => Last::Next(Next::Shown(evidence)),
+        Finding::Beyond(beyond) => Last::Ended(MarginAnswer::Beyond { add: high, beyond }),
+        Finding::Undecided(trail) => Last::Ended(MarginAnswer::Undecided { add: high, trail }),
+    };
+    Ok((set, last))
+}
