@@ -2,3 +2,4 @@ pub mod Timed
 pub mod Limits
 pub mod Milder
 pub mod Deciding
+pub mod Utilisations

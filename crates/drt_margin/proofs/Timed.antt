@@ -1,5 +1,5 @@
 -- What a changed execution time leaves as it is, and that a second change undoes the first.
-use Rattle.std.proofs.Common.{◌≡◌, ℕ, zero, suc, ◌+◌, ◌<◌, ◌≤◌, List, [], ◌∷◌, length, map, get_or, set, ◌⊎◌, inl, inr, refl, sym, ap, subst, ◌∙◌, arith}
+use Rattle.std.proofs.Common.{◌≡◌, ℕ, zero, suc, ◌+◌, ◌-◌, ◌<◌, ◌≤◌, List, [], ◌∷◌, length, map, get_or, set, ◌⊎◌, inl, inr, refl, sym, ap, subst, ◌∙◌, arith}
 use Rattle.std.specs.Prelude.{◌≢◌}
 use Rattle.std.specs.List.{range_with_len}
 use Rattle.std.proofs.lemmas.Bool.{cases_eq, cases_lt}
@@ -9,7 +9,8 @@ use Rattle.drt_model.specs.Walk.{deadline, wcet}
 use Rattle.drt_model.specs.declared.tasks.Task.{Task}
 use Rattle.drt_model.specs.declared.tasks.Vertex.{Vertex}
 use Rattle.drt_busy.specs.Choice.{graph_at, no_task, task_at}
-use Rattle.drt_margin.specs.Margin.{deadline_at, plus, timed, timed_task, timed_tasks, wcet_at}
+use Rattle.drt_model.specs.Contents.{Contents}
+use Rattle.drt_margin.specs.Margin.{IsVertexOf, deadline_at, plus, plus_set, timed, timed_set, timed_task, timed_tasks, wcet_at}
 
 -- A second item at a place stands alone.
 pub set_twice : {A : Type 0} (xs : List A) (i : ℕ) (x y : A) → set (set xs i x) i y ≡ set xs i y
@@ -84,3 +85,21 @@ pub plus_none : (tasks : List Task) (k v : ℕ) → plus tasks k v 0 ≡ tasks
 plus_none tasks k v =
     let e : wcet_at tasks k v + 0 ≡ wcet_at tasks k v = omega arith in
     ap (timed_tasks tasks k v) e ∙ timed_same tasks k v
+
+-- The vertex of the tasks with another execution time is one of the tasks.
+pub vertex_before : (tasks : List Task) (k v e : ℕ) → IsVertexOf (timed_tasks tasks k v e) k v → IsVertexOf tasks k v
+vertex_before tasks k v e (l, m) =
+    let here : k < length tasks = omega (arith, timed_length tasks k v e) in
+    (here, omega (arith, ap (λ (t : Task). length t.vertices) (timed_there tasks k v e here), timed_vertices (task_at tasks k) v e))
+
+-- So many ticks less than S + c is S.
+pub less_again : (set before : Contents) (k v c : ℕ) → IsVertexOf set.tasks k v → set ≡ plus_set before k v c → timed_set set k v (wcet_at set.tasks k v - c) ≡ before
+less_again set before k v c is e =
+    let e_before = wcet_at before.tasks k v + c in
+    let there = vertex_before before.tasks k v e_before (subst (λ (s : Contents). IsVertexOf s.tasks k v) e is) in
+    let time : wcet_at set.tasks k v ≡ e_before = ap (λ (s : Contents). wcet_at s.tasks k v) e ∙ timed_wcet before.tasks k v e_before there.0 there.1 in
+    let less : wcet_at set.tasks k v - c ≡ wcet_at before.tasks k v = omega arith in
+    let back : timed_tasks (plus before.tasks k v c) k v (wcet_at before.tasks k v) ≡ before.tasks = plus_timed before.tasks k v e_before there.0 there.1 in
+    ap (λ (n : ℕ). timed_set set k v n) less
+    ∙ ap (λ (s : Contents). timed_set s k v (wcet_at before.tasks k v)) e
+    ∙ ap (λ (ts : List Task). record { version = before.version; tasks = ts }) back

@@ -37,13 +37,9 @@ pub fn with_wcet(alloc: Global, set: TaskSet, task: u32, vertex: u32, wcet: u32)
     requires time { IsTime wcet }
     ensures { result ≡ timed_set set task vertex wcet }
 {
-    let (version, tasks) = set.into_parts();
-    let mut items = tasks.into_vec();
-    time_tasks(alloc, items.as_mut_slice(), task, vertex, wcet);
-    TaskSet {
-        version,
-        tasks: Row::from_vec(items),
-    }
+    let (version, old) = set.into_parts();
+    let tasks = time_row(alloc, old, task, vertex, wcet);
+    TaskSet { version, tasks }
 }
 
 /// The set with so many ticks more of the vertex. It takes no memory.
@@ -64,6 +60,16 @@ pub fn with_less(alloc: Global, set: TaskSet, task: u32, vertex: u32, less: u32)
 {
     let wcet = wcet_of(&set, task, vertex);
     with_wcet(alloc, set, task, vertex, wcet - less)
+}
+
+// The tasks with this execution time of the vertex.
+fn time_row(alloc: Global, tasks: Row<Task>, task: u32, vertex: u32, wcet: u32) -> Row<Task>
+    requires { IsVertexOf tasks task vertex }
+    ensures { result ≡ timed_tasks tasks task vertex wcet }
+{
+    let mut items = tasks.into_vec();
+    time_tasks(alloc, items.as_mut_slice(), task, vertex, wcet);
+    Row::from_vec(items)
 }
 
 // Gives the vertex this execution time.
