@@ -3,3 +3,4 @@ pub mod Limits
 pub mod Milder
 pub mod Deciding
 pub mod Utilisations
+pub mod Within

@@ -1,3 +1,4 @@
 pub mod Margin
+pub mod Past
 pub mod Answers
 pub mod Steps

@@ -8,6 +8,7 @@ use Rattle.drt_model.specs.declared.jobs.Policy.TheVariants.{Edf}
 use Rattle.drt_edf.specs.Answers.{IsBeyond}
 use Rattle.drt_margin.specs.Answers.{IsMarginAnswer, IsNext, IsOtherFor, IsSpentUnder, IsYesFor}
 use Rattle.drt_margin.specs.Margin.{Halves, IsVertexOf, IsWithin, deadline_at, plus_set, wcet_at}
+use Rattle.drt_margin.specs.Past.{ArePast}
 use Rattle.drt_margin.specs.declared.answer.Next.TheVariants.{Shown}
 use Rattle.drt_margin.specs.declared.asking.Finding.{Finding}
 use Rattle.drt_margin.specs.declared.asking.Finding.TheVariants as findings
@@ -29,10 +30,6 @@ IsFinding policy set budget (findings.Yes evidence) = IsYesFor policy set eviden
 IsFinding policy set budget (findings.Other evidence) = IsOtherFor policy set evidence
 IsFinding policy set budget (findings.Beyond beyond) = (policy ≡ Edf) × IsBeyond set.tasks beyond
 IsFinding policy set budget (findings.Undecided trail) = IsSpentUnder policy set budget trail
-
--- Neither this number is within nor a greater one.
-abbrev pub ArePast : Contents → Policy → ℕ → ℕ → ℕ → Type 0
-ArePast set policy k v c = (m : ℕ) → c ≤ m → ¬ IsWithin set policy k v m
 
 -- A pair that halving goes through: the lower number is within, with its evidence, and the higher one isn't, with its evidence if it was
 -- tried.
