@@ -4,3 +4,6 @@ pub mod Milder
 pub mod Deciding
 pub mod Utilisations
 pub mod Within
+pub mod Candidates
+pub mod Closed
+pub mod Ratios

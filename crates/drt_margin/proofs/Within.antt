@@ -26,10 +26,6 @@ use Rattle.drt_margin.proofs.Utilisations.{below_less, rate_less}
 pub graphs_sound : (version : ℕ) (tasks : List Task) → IsTaskSet version tasks → All IsSound (graphs_of tasks)
 graphs_sound version tasks is = All-map IsSound digraph_of tasks (all_sound version tasks is)
 
--- A rate that is the scale isn't below it, whichever rates of the tasks are looked at.
-pub not_both : (tasks : List Task) → All IsSound (graphs_of tasks) → AreMilder tasks tasks → (r : Rates tasks) → r.scale ≤ rate r.scale r.ratios → ¬ IsBelowOne tasks
-not_both tasks sound m r above (s, below) = let l = below_less tasks tasks m sound r s below in absurd (omega arith)
-
 -- A set with constrained deadlines, and a vertex of it.
 pub record IsSubject (set : Contents) (k v : ℕ) : Type 0 where
   pub limits : IsTaskSet set.version set.tasks
