@@ -7,3 +7,5 @@ pub mod Within
 pub mod Candidates
 pub mod Closed
 pub mod Ratios
+pub mod Verdicts
+pub mod Rooms

@@ -14,11 +14,12 @@ use Rattle.drt_model.specs.declared.tasks.Task.{Task}
 use Rattle.drt_graph.proofs.Soundness.{all_sound}
 use Rattle.drt_evidence.specs.Claims.{graphs_of}
 use Rattle.drt_evidence.specs.Rates.{Rates}
-use Rattle.drt_margin.specs.Margin.{IsBelowOne, IsMargin, IsVertexOf, IsWithin, deadline_at, plus, plus_set, timed_tasks, wcet_at}
+use Rattle.drt_margin.specs.Margin.{IsBelowOne, IsMargin, IsVertexOf, IsWithin, SmallerIsWithin, deadline_at, plus, plus_set, timed_tasks, wcet_at}
 use Rattle.drt_margin.specs.Past.{ArePast}
 use Rattle.drt_margin.proofs.Deciding.{IsGiven, done_in_time, milder_schedulable}
 use Rattle.drt_margin.proofs.Limits.{plus_kept, plus_most, timed_constrained}
 use Rattle.drt_margin.proofs.Milder.{AreMilder, timed_milder}
+use Rattle.drt_margin.proofs.Ratios.{rates_exist}
 use Rattle.drt_margin.proofs.Timed.{plus_none, timed_deadline, timed_wcet, timed_within, timed_length}
 use Rattle.drt_margin.proofs.Utilisations.{below_less, rate_less}
 
@@ -97,3 +98,9 @@ module _ (set : Contents) (k v : ℕ) (s : IsSubject set k v) where
         let r = rates edf in
         (r, below_less (plus set.tasks k v m) (plus set.tasks k v c) (plus_milder m c l) (graphs_sound set.version (plus set.tasks k v m) (plus_limits m c l is.limits)) r below.0 below.1));
   }
+
+-- So a smaller number than one within is within.
+pub all_smaller : SmallerIsWithin
+all_smaller set policy k v c m limits constrained vertex is l =
+    let s : IsSubject set k v = record { limits = limits; constrained = constrained; vertex = vertex } in
+    smaller set k v s policy c m l is (λ edf. rates_exist (plus set.tasks k v m) (graphs_sound set.version (plus set.tasks k v m) (plus_limits set k v s m c l is.limits)))

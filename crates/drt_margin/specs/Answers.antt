@@ -73,7 +73,7 @@ pub record IsFound (set : Contents) (policy : Policy) (k v add : ℕ) (within : 
   pub margin : IsMargin set policy k v add
   pub limit : wcet_at set.tasks k v + add ≤ 1000000
   pub yes : IsYesFor policy (plus_set set k v add) within
-  pub next : IsNext set policy k v (add + 1) next
+  pub shows : IsNext set policy k v (add + 1) next
 
 -- The number was tried, and S with it is within the limits.
 pub record IsReached (set : Contents) (policy : Policy) (k v add : ℕ) : Type 0 where
@@ -84,7 +84,7 @@ pub record IsReached (set : Contents) (policy : Policy) (k v add : ℕ) : Type 0
 pub record IsBeyondAt (set : Contents) (policy : Policy) (k v add : ℕ) (beyond : Beyond) : Type 0 where
   pub edf : policy ≡ Edf
   pub reached : IsReached set policy k v add
-  pub beyond : IsBeyond (plus set.tasks k v add) beyond
+  pub out_of_reach : IsBeyond (plus set.tasks k v add) beyond
 
 -- The analysis of S with a number that was tried spent the budget.
 pub record IsSpentAt (set : Contents) (policy : Policy) (k v budget add : ℕ) (trail : MarginTrail) : Type 0 where

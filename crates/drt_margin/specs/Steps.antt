@@ -12,15 +12,16 @@ use Rattle.drt_margin.specs.Past.{ArePast}
 use Rattle.drt_margin.specs.declared.answer.Next.TheVariants.{Shown}
 use Rattle.drt_margin.specs.declared.asking.Finding.{Finding}
 use Rattle.drt_margin.specs.declared.asking.Finding.TheVariants as findings
-use Rattle.drt_margin.specs.declared.asking.Question.{Question}
+use Rattle.drt_margin.specs.declared.question.Question.{Question}
 use Rattle.drt_margin.specs.declared.halving.Room.{Room}
 use Rattle.drt_margin.specs.declared.halving.Half.{Half}
 use Rattle.drt_margin.specs.declared.halving.Half.TheVariants as halves
 use Rattle.drt_margin.specs.declared.halving.Last.{Last}
 use Rattle.drt_margin.specs.declared.halving.Last.TheVariants as lasts
 
--- The question can be asked of the set: its deadlines are constrained, and the vertex is there.
+-- The question can be asked of the set: it keeps its limits, its deadlines are constrained, and the vertex is there.
 pub record IsAsked (set : Contents) (q : Question) : Type 0 where
+  pub limits : IsTaskSet set.version set.tasks
   pub constrained : AreConstrained set.tasks
   pub vertex : IsVertexOf set.tasks q.task q.vertex
 

@@ -11,6 +11,7 @@ ghost use Rattle.drt_margin.specs.Answers.{IsAffirmative, IsVerdictUnder};
 ghost use Rattle.drt_margin.specs.Steps.{IsAsked, IsFinding};
 
 use crate::answer::MarginTrail;
+use crate::question::Question;
 use crate::times::{with_less, with_more};
 use drt_edf::{EdfAnswer, analyse_edf};
 use drt_evidence::{Dossier, Evidence};
@@ -22,21 +23,6 @@ use drt_pool::Gate;
 use std::alloc::Global;
 use std::sync::Wait;
 use std::thread::Threads;
-
-/// What is asked of sets: for which vertex of which task they are changed, under which policy they are analysed, by how many workers, and
-/// with which budget.
-#[derive(Clone, Copy, Drop)]
-pub struct Question {
-    pub policy: Policy,
-    pub task: u32,
-    pub vertex: u32,
-    pub workers: u32,
-    pub budget: u64,
-    ghost some_workers: { 1 ≤ workers },
-    ghost few_workers: { workers ≤ 16 },
-    ghost some_budget: { 1 ≤ budget },
-    ghost few_budget: { budget ≤ 1000000 },
-}
 
 /// What the analysis of one set found.
 #[derive(Drop)]

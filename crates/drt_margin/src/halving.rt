@@ -5,7 +5,8 @@ ghost use Rattle.drt_margin.specs.Answers.{IsMarginAnswer, IsYesFor};
 ghost use Rattle.drt_margin.specs.Steps.{IsAsked, IsHalf, IsLast, IsLeast, IsRoom};
 
 use crate::answer::{MarginAnswer, Next};
-use crate::asking::{Finding, Question, ask};
+use crate::asking::{Finding, ask};
+use crate::question::Question;
 use crate::times::{deadline_of, wcet_of};
 use drt_evidence::Evidence;
 use drt_model::{Memory, TaskSet};

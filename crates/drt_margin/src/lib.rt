@@ -11,6 +11,7 @@ mod asking;
 mod halving;
 mod laws;
 mod margins;
+mod question;
 mod times;
 
 pub use answer::{MarginAnswer, MarginTrail, Next};

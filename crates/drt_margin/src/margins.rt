@@ -5,8 +5,10 @@ ghost use Rattle.drt_margin.specs.Margin.{IsVertexOf};
 ghost use Rattle.drt_margin.specs.Answers.{IsMarginAnswer};
 
 use crate::answer::MarginAnswer;
-use crate::asking::{Finding, Question, ask};
+use crate::asking::{Finding, ask};
 use crate::halving::halve;
+use crate::question::Question;
+use crate::times::keep_limits;
 use drt_model::{Memory, Policy, TaskSet};
 use drt_pool::Gate;
 use std::alloc::Global;
@@ -37,6 +39,7 @@ pub fn margin<G: Gate, R: Threads + Wait + Sync>(
     ensures same { IfOk result (λ r. r.0 ≡ set) }
     ensures answer { IfOk result (λ r. IsMarginAnswer set policy task vertex budget r.1) }
 {
+    keep_limits(&set);
     let question = Question {
         policy,
         task,

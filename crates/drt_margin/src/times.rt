@@ -2,12 +2,19 @@
 ghost use Rattle.std.specs.Prelude.{◌≡◌, ◌+◌, ◌-◌, ◌<◌, ◌≤◌, length, slice_index_or, slice_set};
 ghost use Rattle.drt_model.specs.Contents.{Contents};
 ghost use Rattle.drt_model.specs.Digraph.{no_vertex};
-ghost use Rattle.drt_model.specs.Limits.{IsTime};
+ghost use Rattle.drt_model.specs.Limits.{IsTaskSet, IsTime};
 ghost use Rattle.drt_margin.specs.Margin.{IsVertexOf, deadline_at, plus_set, timed, timed_set, timed_task, timed_tasks, wcet_at};
 
 use drt_model::{Row, Task, TaskSet, Vertex};
 use std::alloc::Global;
 use std::mem;
+
+/// Does nothing: a set keeps its limits.
+pub(crate) fn keep_limits(set: &TaskSet)
+    ensures { IsTaskSet set.now.version set.now.tasks }
+{
+    let _version = set.version();
+}
 
 /// The execution time of this vertex of this task, in ticks.
 pub fn wcet_of(set: &TaskSet, task: u32, vertex: u32) -> u32
