@@ -9,15 +9,20 @@ use Rattle.drt_horizon.specs.declared.answers.Beyond.{Beyond}
 use Rattle.drt_margin.specs.Answers.{IsBeyondAt, IsFound, IsNext, IsOtherFor, IsReached, IsSpentAt, IsSpentUnder, IsYesFor}
 use Rattle.drt_margin.specs.Margin.{Halves, IsTried, IsWithin, between, deadline_at, last, lowers, middle, opens, plus, plus_set, raises, wcet_at}
 use Rattle.drt_margin.specs.Past.{ArePast}
-use Rattle.drt_margin.specs.Steps.{IsLeast, IsRoom}
+use Rattle.drt_margin.specs.Steps.{IsAsked, IsLeast, IsRoom}
 use Rattle.drt_margin.specs.declared.answer.MarginTrail.{MarginTrail}
 use Rattle.drt_margin.specs.declared.answer.Next.{Next}
 use Rattle.drt_margin.specs.declared.answer.Next.TheVariants.{Limit, Shown}
 use Rattle.drt_margin.specs.declared.halving.Room.{Room}
+use Rattle.drt_margin.specs.declared.question.Question.{Question}
 use Rattle.drt_margin.proofs.Limits.{wcet_most}
 use Rattle.drt_margin.proofs.Timed.{plus_none}
 use Rattle.drt_margin.proofs.Verdicts.{other_past, yes_within}
 use Rattle.drt_margin.proofs.Within.{IsSubject, margin_is, opens_in_time, past_deadline}
+
+-- A set of which the question can be asked is a subject.
+pub asked_subject : (set : Contents) (q : Question) → IsAsked set q → IsSubject set q.task q.vertex
+asked_subject set q is = record { limits = is.limits; constrained = is.constrained; vertex = is.vertex }
 
 -- S + 0 is S.
 pub none_more : (set : Contents) (k v : ℕ) → plus_set set k v 0 ≡ set

@@ -59,17 +59,17 @@ pub fn halve<G: Gate, R: Threads + Wait + Sync>(
     ensures same { IfOk result (λ r. r.0 ≡ set) }
     ensures answer { IfOk result (λ r. IsMarginAnswer set question.policy question.task question.vertex question.budget r.1) }
 {
-    let mut set = set;
     let mut room = open(&set, question, evidence);
-    while room.high - room.low > 1 {
-        let (same, half) = narrow(rt, alloc, set, question, room, gate)?;
-        set = same;
+    let mut current = set;
+    'halving: while room.high - room.low > 1 {
+        let (same, half) = narrow(rt, alloc, current, question, room, gate)?;
+        current = same;
         match half {
             Half::Open(smaller) => room = smaller,
-            Half::Ended(answer) => return Ok((set, answer)),
+            Half::Ended(answer) => return Ok((current, answer)),
         }
     }
-    close(rt, alloc, set, question, room, gate)
+    close(rt, alloc, current, question, room, gate)
 }
 
 // The room at first: up to the least number that the deadline doesn't hold.
