@@ -6,13 +6,15 @@ use Rattle.drt_model.specs.declared.jobs.Policy.TheVariants.{Edf}
 use Rattle.drt_edf.specs.Answers.{IsBeyond}
 use Rattle.drt_evidence.specs.declared.evidence.Evidence.{Evidence}
 use Rattle.drt_horizon.specs.declared.answers.Beyond.{Beyond}
-use Rattle.drt_margin.specs.Answers.{IsBeyondAt, IsFound, IsNext, IsOtherFor, IsReached, IsSpentAt, IsSpentUnder, IsYesFor}
+use Rattle.drt_margin.specs.Answers.{IsFound, IsMarginAnswer, IsNext, IsOtherFor, IsReached, IsYesFor}
 use Rattle.drt_margin.specs.Margin.{Halves, IsTried, IsWithin, between, deadline_at, last, lowers, middle, opens, plus, plus_set, raises, wcet_at}
 use Rattle.drt_margin.specs.Past.{ArePast}
-use Rattle.drt_margin.specs.Steps.{IsAsked, IsLeast, IsRoom}
+use Rattle.drt_margin.specs.Steps.{IsAsked, IsLast, IsLeast, IsRoom, answer_of}
 use Rattle.drt_margin.specs.declared.answer.MarginTrail.{MarginTrail}
 use Rattle.drt_margin.specs.declared.answer.Next.{Next}
 use Rattle.drt_margin.specs.declared.answer.Next.TheVariants.{Limit, Shown}
+use Rattle.drt_margin.specs.declared.halving.Last.{Last}
+use Rattle.drt_margin.specs.declared.halving.Last.TheVariants as lasts
 use Rattle.drt_margin.specs.declared.halving.Room.{Room}
 use Rattle.drt_margin.specs.declared.question.Question.{Question}
 use Rattle.drt_margin.proofs.Limits.{wcet_most}
@@ -123,3 +125,9 @@ module _ (set : Contents) (policy : Policy) (k v : ℕ) (s : IsSubject set k v) 
 -- The least number that isn't within is tried where the limits allow.
 pub least_reached : (set : Contents) (policy : Policy) (k v high : ℕ) → IsLeast set policy k v high → wcet_at set.tasks k v + high ≤ 1000000 → IsReached set policy k v high
 least_reached set policy k v high is few = record { tried = last is.low high is.first is.halves is.near few; limit = few }
+
+-- What is shown of the number after the margin makes the answer.
+pub room_answered : (set : Contents) (policy : Policy) (k v budget : ℕ) → IsSubject set k v → (room : Room) → IsRoom set policy k v room → room.high - room.low ≤ 1 → (shown : Last)
+    → IsLast set policy k v budget room.high shown → IsMarginAnswer set policy k v budget (answer_of room.low room.within shown)
+room_answered set policy k v budget s room is near (lasts.Next next) shows = room_found set policy k v s room is near next shows
+room_answered set policy k v budget s room is near (lasts.Ended answer) says = says

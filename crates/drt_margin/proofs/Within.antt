@@ -17,7 +17,7 @@ use Rattle.drt_evidence.specs.Rates.{Rates}
 use Rattle.drt_margin.specs.Margin.{IsBelowOne, IsMargin, IsVertexOf, IsWithin, SmallerIsWithin, deadline_at, plus, plus_set, timed_tasks, wcet_at}
 use Rattle.drt_margin.specs.Past.{ArePast}
 use Rattle.drt_margin.proofs.Deciding.{IsGiven, done_in_time, milder_schedulable}
-use Rattle.drt_margin.proofs.Limits.{plus_kept, plus_most, timed_constrained}
+use Rattle.drt_margin.proofs.Limits.{plus_kept, plus_most, timed_constrained, wcet_most}
 use Rattle.drt_margin.proofs.Milder.{AreMilder, timed_milder}
 use Rattle.drt_margin.proofs.Ratios.{rates_exist}
 use Rattle.drt_margin.proofs.Timed.{plus_none, timed_deadline, timed_wcet, timed_within, timed_length}
@@ -37,6 +37,18 @@ module _ (set : Contents) (k v : ℕ) (s : IsSubject set k v) where
   -- S + c has constrained deadlines.
   pub plus_constrained : (c : ℕ) → AreConstrained (plus set.tasks k v c)
   plus_constrained c = timed_constrained set.tasks k v (wcet_at set.tasks k v + c) s.constrained s.vertex.0 s.vertex.1
+
+  -- S + c has the vertex.
+  pub plus_vertex : (c : ℕ) → IsVertexOf (plus set.tasks k v c) k v
+  plus_vertex c =
+      let e = wcet_at set.tasks k v + c in
+      (omega (arith, timed_length set.tasks k v e, s.vertex.0), timed_within set.tasks k v e s.vertex.0 s.vertex.1)
+
+  -- With an execution time above c.
+  pub plus_above : (c : ℕ) → c < wcet_at (plus set.tasks k v c) k v
+  plus_above c =
+      let some = (wcet_most set.version set.tasks k v s.limits s.vertex.0 s.vertex.1).0 in
+      omega (arith, timed_wcet set.tasks k v (wcet_at set.tasks k v + c) s.vertex.0 s.vertex.1)
 
   -- S + m is milder than S + c for a smaller m.
   pub plus_milder : (m c : ℕ) → m ≤ c → AreMilder (plus set.tasks k v m) (plus set.tasks k v c)
@@ -69,7 +81,7 @@ module _ (set : Contents) (k v : ℕ) (s : IsSubject set k v) where
   past_deadline policy c over m l is =
       let e = wcet_at set.tasks k v + m in
       let done = done_in_time (plus set.tasks k v m) k v (omega (arith, timed_length set.tasks k v e, s.vertex.0)) (timed_within set.tasks k v e s.vertex.0 s.vertex.1) set.version
-          (record { limits = is.limits; constrained = plus_constrained m }) policy is.schedulable in
+      (record { limits = is.limits; constrained = plus_constrained m }) policy is.schedulable in
       omega (arith, done, timed_wcet set.tasks k v e s.vertex.0 s.vertex.1, timed_deadline set.tasks k v e s.vertex.0 s.vertex.1)
 
   -- Where 0 is within, the vertex is done by its deadline.

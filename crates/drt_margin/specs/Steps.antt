@@ -9,6 +9,9 @@ use Rattle.drt_edf.specs.Answers.{IsBeyond}
 use Rattle.drt_margin.specs.Answers.{IsMarginAnswer, IsNext, IsOtherFor, IsSpentUnder, IsYesFor}
 use Rattle.drt_margin.specs.Margin.{Halves, IsVertexOf, IsWithin, deadline_at, plus_set, wcet_at}
 use Rattle.drt_margin.specs.Past.{ArePast}
+use Rattle.drt_evidence.specs.declared.evidence.Evidence.{Evidence}
+use Rattle.drt_margin.specs.declared.answer.MarginAnswer.{MarginAnswer}
+use Rattle.drt_margin.specs.declared.answer.MarginAnswer.TheVariants.{Found}
 use Rattle.drt_margin.specs.declared.answer.Next.TheVariants.{Shown}
 use Rattle.drt_margin.specs.declared.asking.Finding.{Finding}
 use Rattle.drt_margin.specs.declared.asking.Finding.TheVariants as findings
@@ -63,3 +66,8 @@ pub record IsLeast (set : Contents) (policy : Policy) (k v high : ℕ) : Type 0 
 abbrev pub IsLast : Contents → Policy → ℕ → ℕ → ℕ → ℕ → Last → Type 0
 IsLast set policy k v budget high (lasts.Next next) = IsNext set policy k v high next
 IsLast set policy k v budget high (lasts.Ended answer) = IsMarginAnswer set policy k v budget answer
+
+-- The answer: the margin with what is shown of the number after it, or the one that came instead.
+abbrev pub answer_of : ℕ → Evidence → Last → MarginAnswer
+answer_of low within (lasts.Next next) = Found low within next
+answer_of low within (lasts.Ended answer) = answer

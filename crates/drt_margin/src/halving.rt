@@ -2,7 +2,7 @@
 ghost use Rattle.std.specs.Prelude.{◌≡◌, ◌-◌, ◌≤◌, ◌<◌, ◌⊎◌, IfOk};
 ghost use Rattle.drt_margin.specs.Margin.{Halves, plus_set};
 ghost use Rattle.drt_margin.specs.Answers.{IsMarginAnswer, IsYesFor};
-ghost use Rattle.drt_margin.specs.Steps.{IsAsked, IsHalf, IsLast, IsLeast, IsRoom};
+ghost use Rattle.drt_margin.specs.Steps.{IsAsked, IsHalf, IsLast, IsLeast, IsRoom, answer_of};
 
 use crate::answer::{MarginAnswer, Next};
 use crate::asking::{Finding, ask};
@@ -103,31 +103,51 @@ fn narrow<G: Gate, R: Threads + Wait + Sync>(
     ensures same { IfOk result (λ r. r.0 ≡ set) }
     ensures half { IfOk result (λ r. IsHalf set question.policy question.task question.vertex question.budget (room.high - room.low) r.1) }
 {
-    let Room {
-        low,
-        high,
-        within,
-        past,
-    } = room;
-    let add = (low + high) / 2;
+    let add = (room.low + room.high) / 2;
     let (set, finding) = ask(rt, alloc, set, question, add, gate)?;
-    let half = match finding {
-        Finding::Yes(evidence) => Half::Open(Room {
-            low: add,
-            high,
-            within: evidence,
-            past,
-        }),
-        Finding::Other(evidence) => Half::Open(Room {
-            low,
-            high: add,
-            within,
-            past: Some(evidence),
-        }),
-        Finding::Beyond(beyond) => Half::Ended(MarginAnswer::Beyond { add, beyond }),
-        Finding::Undecided(trail) => Half::Ended(MarginAnswer::Undecided { add, trail }),
-    };
-    Ok((set, half))
+    match finding {
+        Finding::Yes(evidence) => Ok((set, Half::Open(raise(room, add, evidence)))),
+        Finding::Other(evidence) => Ok((set, Half::Open(lower(room, add, evidence)))),
+        Finding::Beyond(beyond) => {
+            let answer = MarginAnswer::Beyond { add, beyond };
+            Ok((set, leave(room, answer)))
+        }
+        Finding::Undecided(trail) => {
+            let answer = MarginAnswer::Undecided { add, trail };
+            Ok((set, leave(room, answer)))
+        }
+    }
+}
+
+// The room with a greater lower number.
+fn raise(room: Room, add: u32, evidence: Evidence) -> Room
+    ensures { result ≡ record { low = add; high = room.high; within = evidence; past = room.past } }
+{
+    Room {
+        low: add,
+        high: room.high,
+        within: evidence,
+        past: room.past,
+    }
+}
+
+// The room with a lesser higher number.
+fn lower(room: Room, add: u32, evidence: Evidence) -> Room
+    ensures { result ≡ record { low = room.low; high = add; within = room.within; past = Some evidence } }
+{
+    Room {
+        low: room.low,
+        high: add,
+        within: room.within,
+        past: Some(evidence),
+    }
+}
+
+// The answer, without the room.
+fn leave(_room: Room, answer: MarginAnswer) -> Half
+    ensures { result ≡ Half.Ended answer }
+{
+    Half::Ended(answer)
 }
 
 // The answer for two numbers that are next to each other, and the set.
@@ -151,19 +171,30 @@ fn close<G: Gate, R: Threads + Wait + Sync>(
         within,
         past,
     } = room;
-    let (set, last) = match past {
-        Some(evidence) => (set, Last::Next(Next::Shown(evidence))),
-        None => try_last(rt, alloc, set, question, high, gate)?,
-    };
-    let answer = match last {
+    match past {
+        Some(evidence) => {
+            let last = Last::Next(Next::Shown(evidence));
+            Ok((set, answer_with(low, within, last)))
+        }
+        None => {
+            let (set, last) = try_last(rt, alloc, set, question, high, gate)?;
+            Ok((set, answer_with(low, within, last)))
+        }
+    }
+}
+
+// The margin with what is shown of the number after it, or the answer.
+fn answer_with(low: u32, within: Evidence, last: Last) -> MarginAnswer
+    ensures { result ≡ answer_of low within last }
+{
+    match last {
         Last::Next(next) => MarginAnswer::Found {
             add: low,
             within,
             next,
         },
         Last::Ended(answer) => answer,
-    };
-    Ok((set, answer))
+    }
 }
 
 // What is shown of the set with the least number that isn't within, and the set.
@@ -184,11 +215,16 @@ fn try_last<G: Gate, R: Threads + Wait + Sync>(
         return Ok((set, Last::Next(Next::Limit)));
     }
     let (set, finding) = ask(rt, alloc, set, question, high, gate)?;
-    let last = match finding {
+    match finding {
         Finding::Yes(_) => unreachable!(),
-        Finding::Other(evidence) => Last::Next(Next::Shown(evidence)),
-        Finding::Beyond(beyond) => Last::Ended(MarginAnswer::Beyond { add: high, beyond }),
-        Finding::Undecided(trail) => Last::Ended(MarginAnswer::Undecided { add: high, trail }),
-    };
-    Ok((set, last))
+        Finding::Other(evidence) => Ok((set, Last::Next(Next::Shown(evidence)))),
+        Finding::Beyond(beyond) => {
+            let answer = MarginAnswer::Beyond { add: high, beyond };
+            Ok((set, Last::Ended(answer)))
+        }
+        Finding::Undecided(trail) => {
+            let answer = MarginAnswer::Undecided { add: high, trail };
+            Ok((set, Last::Ended(answer)))
+        }
+    }
 }

@@ -12,8 +12,7 @@ use Rattle.drt_margin.proofs.asking.analyse_by_priorities.Goals as goal
 pub returns-in-None-clause-finding : goal.returns-in-None-clause-finding
 returns-in-None-clause-finding g c =
     let analysed = c.in_ok-dossier.ensures in
-    let here : c.in_ok-dossier.dossier ≡ c.in_ok-dossier.field-0.dossier = (let e = c.in_ok-dossier.dossier-is in cc) in
-    let same : c.dossier.inside.evidence ≡ analysed.evidence = ap (λ (s : Statement). s.evidence) (c.dossier.view_is ∙ here ∙ analysed.dossier_is) in
+    let same : c.dossier.inside.evidence ≡ analysed.evidence = ap (λ (s : Statement). s.evidence) (c.dossier.view_is ∙ analysed.dossier_is) in
     let none : c.in_ok-dossier.field-0.trail ≡ None = (let e = c.in_ok-dossier.trail-is in let f = c.in-None.is in cc) in
     let says : IsSaid c.args.set c.args.question.budget analysed.evidence None = subst (λ (t : Option FixedTrail). IsSaid c.args.set c.args.question.budget analysed.evidence t) none analysed.says in
     let verdict = said_decided c.args.set c.args.question.budget analysed.evidence says in

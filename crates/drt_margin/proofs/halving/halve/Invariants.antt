@@ -3,7 +3,7 @@ use Rattle.drt_margin.specs.Steps.{IsRoom}
 use Rattle.drt_margin.proofs.halving.halve.Given as goal
 
 abbrev pub invariant-halving : goal.invariant-halving
-invariant-halving l = (l.current ≡ l.initial.current) × IsRoom l.initial.current l.question.policy l.question.task l.question.vertex l.room
+invariant-halving g l = (l.current ≡ l.initial.current) × IsRoom l.initial.current l.question.policy l.question.task l.question.vertex l.room
 
 abbrev pub decreases-halving : goal.decreases-halving
-decreases-halving l = l.room.high - l.room.low
+decreases-halving g l = l.room.high - l.room.low
