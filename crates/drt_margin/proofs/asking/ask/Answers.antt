@@ -9,7 +9,7 @@ use Rattle.drt_margin.proofs.asking.ask.Goals as goal
 pub analyse-requires-after_bounds : goal.analyse-requires-after_bounds
 analyse-requires-after_bounds g c =
     let q = c.args.question in
-    subst (λ (s : Contents). AreConstrained s.tasks) (sym c.with_more-more.ensures) (plus_constrained c.args.set q.task q.vertex (asked_subject c.args.set q c.requires.asked) c.args.add)
+    λ κs bounds. subst (λ (s : Contents). AreConstrained s.tasks) (sym c.with_more-more.ensures) (plus_constrained c.args.set q.task q.vertex (asked_subject c.args.set q c.requires.asked) c.args.add)
 
 pub with_less-set-requires-clause-vertex : goal.with_less-set-requires-clause-vertex
 with_less-set-requires-clause-vertex g c =
