@@ -13,15 +13,15 @@ use std::alloc::Global;
 use std::sync::Wait;
 use std::thread::Threads;
 
-// How many steps each table and each frontier has before tails and states are tried.
+// A budget of at most so many steps is one for trees alone.
 const ALLOWANCE: u64 = 4_096;
 
 /// Decides whether a task of a set with constrained deadlines meets its deadlines under its priority, whatever the tasks of lower priority
 /// do.
 ///
-/// First each table and each frontier has the budget or 4,096 steps, whichever is less. Where these are spent and the budget is greater, the
-/// states of each vertex of the task are searched, with the budget for each; and where that says nothing, tables and frontiers have the
-/// whole budget, and what they say stands.
+/// With a budget of more than 4,096 first the states of each vertex of the task are searched, with the budget for each: an answer has no
+/// evidence to be kept small, and states are quicker. Where that says nothing, and with a smaller budget at once, tables and frontiers have
+/// the whole budget, and what they say stands.
 pub fn decide_task<G: Gate, R: Threads + Wait + Sync>(
     rt: &R,
     alloc: Global,
@@ -42,13 +42,6 @@ pub fn decide_task<G: Gate, R: Threads + Wait + Sync>(
 {
     if budget <= ALLOWANCE {
         return analyse_task(rt, alloc, set, graphs, task, workers, budget, gate);
-    }
-    match analyse_task(rt, alloc, set, graphs, task, workers, ALLOWANCE, gate)? {
-        TaskAnswer::Meets => return Ok(TaskAnswer::Meets),
-        TaskAnswer::Misses { releases, miss } => {
-            return Ok(TaskAnswer::Misses { releases, miss });
-        }
-        TaskAnswer::Undecided(_) => {}
     }
     let effort = Effort {
         rt,
