@@ -120,7 +120,9 @@ fn draw_named(
 {
     let (task, vertex) = match spot_of(set, command.task.as_slice(), command.vertex.as_slice()) {
         Some(spot) => spot,
-        None => return Err(Unmade::Refused(Fault::Limit { code: NO_SUCH_VERTEX })),
+        None => return Err(Unmade::Refused(Fault::Limit {
+            code: NO_SUCH_VERTEX,
+        })),
     };
     match response_of(responses, task, vertex) {
         Some(response) => draw_response(alloc, command.svg, set, response),
