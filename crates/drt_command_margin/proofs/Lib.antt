@@ -1,1 +1,3 @@
+mod Joined
 mod MarginPromises
+mod Spots

@@ -63,13 +63,20 @@ verdict policy set k v budget (answers.Undecided add trail) a m is =
     subst (λ (x : Report). IsVerdict policy set k v x.status x.text) (sym is) (inr (inr (inr refl)))
 
 -- The report of an answer is as promised.
-pub made_by : (policy : Policy) (task vertex bytes : List ℕ) (set : Contents) (k v budget : ℕ) → IsAccepted bytes set → IsSpot set.tasks task vertex k v
+made_by : (policy : Policy) (task vertex bytes : List ℕ) (set : Contents) (k v budget : ℕ) → IsAccepted bytes set → IsSpot set.tasks task vertex k v
     → (answer : MarginAnswer) → IsMarginAnswer set policy k v budget answer → (m : Report) → IsReportOf policy set k v answer m
     → Verdict policy task vertex bytes m × Besides policy task vertex budget bytes m
 made_by policy task vertex bytes set k v budget accepted spot answer a m is = (
   record { set = set; accepted = accepted; k = k; v = v; spot = spot; answer = verdict policy set k v budget answer a m is },
   record { set = set; accepted = accepted; k = k; v = v; spot = spot; answer = answer; are = a; is = is },
 )
+
+-- So is what becomes of it, a report or an end without one.
+pub made_of : (policy : Policy) (task vertex bytes : List ℕ) (set : Contents) (k v budget : ℕ) → IsAccepted bytes set → IsSpot set.tasks task vertex k v
+    → (answer : MarginAnswer) → IsMarginAnswer set policy k v budget answer → (r : Result Report Unmade) → IfOk r (IsReportOf policy set k v answer)
+    → IfOk r (λ m. Verdict policy task vertex bytes m × Besides policy task vertex budget bytes m)
+made_of policy task vertex bytes set k v budget accepted spot answer a (Ok m) is = made_by policy task vertex bytes set k v budget accepted spot answer a m is
+made_of policy task vertex bytes set k v budget accepted spot answer a (Err e) is = tt
 
 verdict_low : (policy : Policy) (task vertex bytes : List ℕ) (m : Report) → Verdict policy task vertex bytes m → m.status < 4
 verdict_low policy task vertex bytes m d = elim d.answer [

@@ -1,5 +1,5 @@
 -- What `margin` knows on its way.
-use Rattle.std.specs.Prelude.{◌≡◌, ℕ}
+use Rattle.std.specs.Prelude.{◌≡◌}
 use Rattle.drt_model.specs.Contents.{Contents}
 use Rattle.drt_margin.specs.Margin.{IsVertexOf}
 use Rattle.drt_margin.specs.declared.answer.MarginAnswer.{MarginAnswer}

@@ -19,9 +19,13 @@ abbrev pub next_text : Policy → Contents → ℕ → ℕ → ℕ → Next → 
 next_text policy set k v add (Shown evidence) = text (with_evidence policy set k v add evidence)
 next_text policy set k v add Limit = written (word_line (codes "limit") ∷ [])
 
+-- The line of the number.
+abbrev pub add_line : ℕ → List (List ℕ)
+add_line add = codes "add" ∷ decimal add ∷ []
+
 -- The lines above the first dossier.
 abbrev pub head_lines : ℕ → List (List (List ℕ))
-head_lines add = (codes "drt-margin" ∷ codes "1" ∷ []) ∷ (codes "add" ∷ decimal add ∷ []) ∷ word_line (codes "within") ∷ []
+head_lines add = (codes "drt-margin" ∷ codes "1" ∷ []) ∷ add_line add ∷ word_line (codes "within") ∷ []
 
 -- The text of a margin: its number, the dossier of the set with it, and what is shown of the set with one tick more.
 abbrev pub margin_text : Policy → Contents → ℕ → ℕ → ℕ → Evidence → Next → List ℕ

@@ -7,6 +7,7 @@ ghost use Rattle.drt_command.specs.Rules.{IsCause};
 ghost use Rattle.drt_command.specs.Runs.{IsRun};
 ghost use Rattle.drt_command_files.specs.Spots.{NamesNone};
 ghost use Rattle.drt_command_files.specs.TaskFiles.{IsAccepted};
+ghost use Rattle.drt_model.specs.Limits.{IsTaskSet};
 ghost use Rattle.drt_margin.specs.Answers.{IsMarginAnswer};
 ghost use Rattle.drt_margin.specs.Margin.{IsVertexOf};
 ghost use Rattle.drt_command_margin.specs.Besides.{IsReportOf, margin_trail};
@@ -97,6 +98,7 @@ fn spot_in(set: &TaskSet, command: &Margin) -> Option<Spot>
     ensures { MatchOption result (NamesNone command.now.task command.now.vertex set.now.tasks) (IsSpotOf set.now command.now) }
 {
     let (task, vertex) = spot_of(set, command.task.as_slice(), command.vertex.as_slice())?;
+    keep_limits(set);
     let policy = if command.fixed {
         Policy::Fixed
     } else {
@@ -107,6 +109,13 @@ fn spot_in(set: &TaskSet, command: &Margin) -> Option<Spot>
         task: task as u32,
         vertex: vertex as u32,
     })
+}
+
+// Does nothing: a set keeps its limits.
+fn keep_limits(set: &TaskSet)
+    ensures { IsTaskSet set.now.version set.now.tasks }
+{
+    let _version = set.version();
 }
 
 // The answer about the vertex of an accepted set.
@@ -124,7 +133,7 @@ fn answer<G: Gate, R: Threads + Wait + Sync>(
     ensures makes { IfOk result ((margin_rules command.now.fixed command.now.task command.now.vertex command.now.search.budget).makes bytes.now) }
     ensures unmade { IfErr result (IsCause (IsProbed (policy_of command.now.fixed) command.now.task command.now.vertex) bytes.now) }
 {
-    let (workers, budget) = (command.search.workers(), u64::from(command.search.budget()));
+    let budget = u64::from(command.search.budget());
     match margin(
         rt,
         alloc,
@@ -132,7 +141,7 @@ fn answer<G: Gate, R: Threads + Wait + Sync>(
         spot.policy,
         spot.task,
         spot.vertex,
-        workers,
+        command.search.workers(),
         budget,
         gate,
     ) {

@@ -1,16 +1,16 @@
 //! The text of a margin.
 ghost use Rattle.std.specs.Prelude.{◌≡◌, ◌+◌, ◌++◌, ◌≤◌, IfOk, OnOk};
-ghost use Rattle.drt_file.specs.trusted.Canonical.{written};
+ghost use Rattle.drt_file.specs.trusted.Canonical.{written_line};
 ghost use Rattle.drt_evidence.specs.Ranges.{IsInRange};
 ghost use Rattle.drt_evidence.specs.Text.{text};
 ghost use Rattle.drt_margin.specs.Answers.{IsFound, IsNext};
 ghost use Rattle.drt_margin.specs.Margin.{IsVertexOf, wcet_at};
-ghost use Rattle.drt_command_margin.specs.Text.{head_lines, margin_text, next_text, with_evidence};
+ghost use Rattle.drt_command_margin.specs.Text.{add_line, margin_text, next_text, with_evidence};
 
 use crate::spot::Spot;
 use drt_evidence::{Dossier, Evidence};
 use drt_file::push_line;
-use drt_margin::{Next, with_less, with_more};
+use drt_margin::{Next, wcet_of, with_more, with_wcet};
 use drt_model::{Memory, Row, TaskSet};
 use itoa::Buffer;
 use std::alloc::Global;
@@ -29,7 +29,9 @@ pub(crate) fn print_margin(
     ensures { IfOk result (λ bytes. bytes ≡ margin_text spot.policy set spot.task spot.vertex add within next) }
 {
     let mut bytes = Vec::new(alloc);
-    push_head(&mut bytes, add)?;
+    push_line(&mut bytes, &[b"drt-margin".as_slice(), b"1"])?;
+    push_add(&mut bytes, add)?;
+    push_line(&mut bytes, &[b"within".as_slice()])?;
     let set = push_dossier(alloc, &mut bytes, set, spot, add, within)?;
     push_line(&mut bytes, &[b"next".as_slice()])?;
     push_next(alloc, &mut bytes, set, spot, add + 1, next)?;
@@ -37,14 +39,12 @@ pub(crate) fn print_margin(
     Ok(Row::from_vec(bytes))
 }
 
-// Adds the lines above the first dossier.
-fn push_head(bytes: &mut Vec<u8>, add: u32) -> Result<(), Memory>
-    ensures { OnOk result (bytes.new.items ≡ bytes.old.items ++ written (head_lines add)) }
+// Adds the line of the number.
+fn push_add(bytes: &mut Vec<u8>, add: u32) -> Result<(), Memory>
+    ensures { OnOk result (bytes.new.items ≡ bytes.old.items ++ written_line (add_line add)) }
 {
     let mut buffer = Buffer::new();
-    push_line(bytes, &[b"drt-margin".as_slice(), b"1"])?;
-    push_line(bytes, &[b"add".as_slice(), buffer.format(add).as_bytes()])?;
-    push_line(bytes, &[b"within".as_slice()])
+    push_line(bytes, &[b"add".as_slice(), buffer.format(add).as_bytes()])
 }
 
 // Adds what is shown of the set with so many ticks more: a dossier, or that the limits forbid it.
@@ -84,6 +84,7 @@ fn push_dossier(
     ensures same { IfOk result (λ same. same ≡ set) }
     ensures bytes { OnOk result (bytes.new.items ≡ bytes.old.items ++ text (with_evidence spot.policy set spot.task spot.vertex add evidence)) }
 {
+    let wcet = wcet_of(&set, spot.task, spot.vertex);
     let dossier = Dossier {
         policy: spot.policy,
         set: with_more(alloc, set, spot.task, spot.vertex, add),
@@ -92,5 +93,5 @@ fn push_dossier(
     let text = drt_evidence::print(alloc, &dossier)?;
     bytes.extend_from_slice(text.as_slice())?;
     let Dossier { set, .. } = dossier;
-    Ok(with_less(alloc, set, spot.task, spot.vertex, add))
+    Ok(with_wcet(alloc, set, spot.task, spot.vertex, wcet))
 }
