@@ -76,10 +76,25 @@ fn fault_sentence(alloc: Global, fault: Fault) -> Result<Vec<u8>, Memory>
 fn probe_sentence(alloc: Global, add: u32, code: u8) -> Result<Vec<u8>, Memory>
     ensures { IfOk result (λ text. text.items ≡ fault_sentence (Fault.Probe add code)) }
 {
+    let after = b" more ticks of this vertex: ";
+    let limit = file_sentence(code);
+    around(alloc, b"with ", u64::from(add), after, limit.as_bytes())
+}
+
+// A number with texts around it.
+fn around(
+    alloc: Global,
+    before: &[u8],
+    number: u64,
+    after: &[u8],
+    last: &[u8],
+) -> Result<Vec<u8>, Memory>
+    ensures { IfOk result (λ text. text.items ≡ before.now ++ decimal number ++ after.now ++ last.now) }
+{
     let mut text = Vec::new(alloc);
-    push(&mut text, b"with ", u64::from(add))?;
-    text.extend_from_slice(b" more ticks of this vertex: ")?;
-    text.extend_from_slice(file_sentence(code).as_bytes())?;
+    push(&mut text, before, number)?;
+    text.extend_from_slice(after)?;
+    text.extend_from_slice(last)?;
     Ok(text)
 }
 
