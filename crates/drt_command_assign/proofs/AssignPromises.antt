@@ -1,13 +1,11 @@
 -- What is promised of `assign` agrees, and each answer keeps it.
 use Rattle.std.proofs.Common.{◌≡◌, ◌<◌, ◌⊎◌, ℕ, List, Result, Ok, Err, IfOk, inl, inr, refl, ap, sym, subst, arith, ◌∙◌}
 use Rattle.drt_model.specs.Contents.{Contents}
-use Rattle.drt_model.specs.Limits.{IsTaskSet}
 use Rattle.drt_file.specs.trusted.Laws.{TextsReadAsOneSet}
 use Rattle.drt_priorities.specs.Laws.{PrioritiesKeepLimits}
 use Rattle.drt_priorities.specs.Priorities.{OrderExists}
 use Rattle.drt_evidence.specs.Reading.{IsTextOf}
 use Rattle.drt_evidence.specs.Text.{text}
-use Rattle.drt_evidence.specs.declared.evidence.Evidence.TheVariants.{Undecided}
 use Rattle.drt_sp.specs.Evidence.{under_fixed}
 use Rattle.drt_assign.specs.Assign.{IsAssigned, with_priorities}
 use Rattle.drt_assign.specs.Laws.{AssignBudgetsSuffice, IsDecided}
@@ -19,17 +17,13 @@ use Rattle.drt_command.specs.Rules.{AreLawful}
 use Rattle.drt_command_files.specs.TaskFiles.{IsAccepted}
 use Rattle.drt_command_assign.specs.Assign.{AssignEnds, assign_rules}
 use Rattle.drt_command_assign.specs.Besides.{Besides, report_of}
-use Rattle.drt_command_assign.specs.Text.{no_order_text}
-use Rattle.drt_command_assign.specs.Verdict.{IsNoOrderText, IsOpenText, IsOrderText, Verdict}
+use Rattle.drt_command_assign.specs.Verdict.{IsOrderText, Verdict}
+use Rattle.drt_command_files.proofs.Abouts.{about_of}
 use Rattle.drt_command_files.proofs.TaskFileLemmas.{accepted_one, accepted_well, fault_one, long_file}
 
 -- What the verdict says of a status and a text.
 abbrev IsVerdict : Contents → ℕ → List ℕ → Type 0
-IsVerdict set status written = ((status ≡ 0) × IsOrderText set written) ⊎ (((status ≡ 1) × IsNoOrderText set written) ⊎ ((status ≡ 3) × IsOpenText written))
-
--- The text that nothing is decided of a set within its limits.
-open_text : (set : Contents) → IsTaskSet set.version set.tasks → IsOpenText (text (under_fixed set Undecided))
-open_text set limits = record { tried = set; is = record { stated = (limits, tt); is = refl } }
+IsVerdict set status written = ((status ≡ 0) × IsOrderText set written) ⊎ (((status ≡ 1) × ¬ OrderExists set.tasks) ⊎ (status ≡ 3))
 
 module _ (keeps : PrioritiesKeepLimits) (bytes : List ℕ) (set : Contents) (budget : ℕ) (accepted : IsAccepted bytes set) where
   -- The verdict of the report of an answer.
@@ -46,9 +40,9 @@ module _ (keeps : PrioritiesKeepLimits) (bytes : List ℕ) (set : Contents) (bud
             priorities = a.priorities;
             are = a.by_rule.are;
             schedulable = a.proved.yes.schedulable;
-            evidence = a.proved.evidence;
-            is = subst (λ d. IsTextOf (under_fixed ordered a.proved.evidence) (text d)) (sym a.proved.dossier_is)
-                (record { stated = (limits, a.proved.in_range); is = refl });
+            about = about_of (under_fixed ordered a.proved.evidence) (text dossier)
+                (subst (λ d. IsTextOf (under_fixed ordered a.proved.evidence) (text d)) (sym a.proved.dossier_is)
+                (record { stated = (limits, a.proved.in_range); is = refl }));
           },
         );
       }
@@ -56,13 +50,11 @@ module _ (keeps : PrioritiesKeepLimits) (bytes : List ℕ) (set : Contents) (bud
       record {
         set = set;
         accepted = accepted;
-        answer = subst (λ s. IsVerdict set 1 (no_order_text s stuck)) (sym a.same_is) (inr (inl (refl, record { none = a.none; stuck = stuck; is = refl })));
+        answer = inr (inl (refl, a.none));
       }
   verdict (answers.Undecided same higher task trail) a =
-      record { set = set; accepted = accepted; answer = inr (inr (refl, open_text same (subst (λ (s : Contents). IsTaskSet s.version s.tasks) (sym a.same_is) accepted.reads.limits))) }
-  verdict (answers.Unproved ordered trail) a =
-      let limits = keeps set.version set.tasks a.priorities accepted.reads.limits a.by_rule.are in
-      record { set = set; accepted = accepted; answer = inr (inr (refl, open_text ordered (subst (λ (s : Contents). IsTaskSet s.version s.tasks) (sym a.ordered_is) limits))) }
+      record { set = set; accepted = accepted; answer = inr (inr refl) }
+  verdict (answers.Unproved ordered trail) a = record { set = set; accepted = accepted; answer = inr (inr refl) }
 
   -- The report of an answer is as promised.
   pub made_by : (answer : AssignAnswer) → IsAssigned set budget answer → (r : Result Report Unmade) → IfOk r (λ m. m ≡ report_of answer)
@@ -73,7 +65,7 @@ module _ (keeps : PrioritiesKeepLimits) (bytes : List ℕ) (set : Contents) (bud
   made_by answer a (Err e) is = tt
 
 verdict_low : (bytes : List ℕ) (m : Report) → Verdict bytes m → m.status < 4
-verdict_low bytes m d = elim d.answer [ inl a ↦ omega (arith, a.0) | inr (inl a) ↦ omega (arith, a.0) | inr (inr a) ↦ omega (arith, a.0) ]
+verdict_low bytes m d = elim d.answer [ inl a ↦ omega (arith, a.0) | inr (inl a) ↦ omega (arith, a.0) | inr (inr e) ↦ omega (arith, e) ]
 
 -- The status of an answer that decides.
 ends_by : (set : Contents) (budget : ℕ) (answer : AssignAnswer) → IsAssigned set budget answer → IsDecided answer

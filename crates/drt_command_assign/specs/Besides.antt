@@ -1,5 +1,5 @@
--- What stands besides the verdict of `assign`: that the priorities are those of Audsley's rule, that evidence is accepted, what the stuck tasks
--- release, and the trail of a spent budget.
+-- What stands besides the verdict of `assign`: that the priorities are those of Audsley's rule, that evidence is accepted, the whole text with what
+-- the stuck tasks release, and the trail of a spent budget.
 use Rattle.std.specs.Prelude.{ℕ, List, ◌≡◌}
 use Rattle.drt_model.specs.Contents.{Contents}
 use Rattle.drt_evidence.specs.Text.{text}
@@ -14,7 +14,7 @@ use Rattle.drt_outcome.specs.declared.outcome.Trail.{Trail}
 use Rattle.drt_outcome.specs.declared.outcome.Trail.TheVariants as trails
 use Rattle.drt_command.specs.declared.report.Report.{Report}
 use Rattle.drt_command_files.specs.TaskFiles.{IsAccepted}
-use Rattle.drt_command_sp.specs.Sp.{trail_of}
+use Rattle.drt_command_sp.specs.Besides.{trail_of}
 use Rattle.drt_command_assign.specs.Text.{no_order_text}
 
 -- The trail of a budget that was spent at a task under these others.

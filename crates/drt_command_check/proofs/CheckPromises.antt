@@ -13,10 +13,10 @@ long_dossier bytes f h = subst (IsDossierFault bytes) (sym h.1) (inl (h.0, refl,
 
 pub check_lawful : JudgedOnce → AreLawful check_rules
 check_lawful rules = record {
-  low = λ bytes m d. d.not_rejected;
-  apart = λ bytes m f d h. judged_well rules bytes m f d h;
+  low = λ bytes m d. d.1.not_rejected;
+  apart = λ bytes m f d h. judged_well rules bytes m f d.1 h;
   one_fault = dossier_fault_one;
   longer = long_dossier;
-  made_ends = λ bytes m d s is small. judged_ends bytes m d s is;
+  made_ends = λ bytes m d s is small. judged_ends bytes m d.1 s is;
   refused_ends = rejected_ends;
 }

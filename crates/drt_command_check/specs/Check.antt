@@ -1,4 +1,4 @@
--- `check`: what it says of a dossier, what it refuses, and with which status it ends.
+-- What is promised of `check`: what it says of a dossier, what it refuses, and with which status it ends.
 use Rattle.std.specs.Prelude.{◌≡◌, ℕ, ◌≤◌, ◌<◌, ◌⊎◌, List, [], codes, length}
 use Rattle.drt_evidence.specs.Reading.{HasDossierFault, IsTextOf}
 use Rattle.drt_evidence.specs.Statement.{Statement}
@@ -12,6 +12,7 @@ use Rattle.drt_command.specs.declared.input.Input.{Input}
 use Rattle.drt_command.specs.declared.input.Input.TheVariants.{AtMost}
 use Rattle.drt_command.specs.declared.report.Report.{Report}
 use Rattle.drt_command.specs.Rules.{Rules}
+use Rattle.drt_command_check.specs.Verdict.{Verdict}
 
 -- A dossier that is checked has at most so many bytes.
 abbrev pub most_dossier_bytes : ℕ
@@ -46,7 +47,7 @@ pub record IsJudgementOf (bytes : List ℕ) (judgement : Judgement) : Type 0 whe
   pub judged : IsJudged statement judgement
   pub sound : IsSound statement judgement
 
--- `check`: the bytes are a dossier, and the status and the text are those of its judgement.
+-- What stands besides the verdict: the bytes are the text of a dossier, and the status and the text are those of its judgement.
 pub record Checks (bytes : List ℕ) (made : Report) : Type 0 where
   pub judgement : Judgement
   pub of : IsJudgementOf bytes judgement
@@ -90,7 +91,7 @@ dossier_input = AtMost most_dossier_bytes (Dossier 0 4)
 abbrev pub check_rules : Rules
 check_rules = record {
   input = dossier_input;
-  makes = Checks;
+  makes = λ bytes made. Verdict bytes made × Checks bytes made;
   refuses = IsDossierFault;
   faults = IsDossierFault;
   ends = λ bytes status. (s : Statement) → IsTextOf s bytes → length bytes ≤ most_dossier_bytes → CheckEnds s status;

@@ -26,7 +26,8 @@ use Rattle.drt_command_files.specs.Dossiers.{evidence_status}
 use Rattle.drt_command.specs.declared.report.Report.{Report}
 use Rattle.drt_command.specs.declared.report.Unmade.{Unmade}
 use Rattle.drt_command_files.specs.TaskFiles.{IsAccepted}
-use Rattle.drt_command_edf.specs.Edf.{Decides, EdfEnds, IsEdfNoText, IsEdfYesText, IsOneText, IsUndecidedText, trail_of, under_edf}
+use Rattle.drt_command_edf.specs.Besides.{Besides, IsEdfNoText, IsEdfYesText, IsOneText, IsUndecidedText, trail_of, under_edf}
+use Rattle.drt_command_edf.specs.Edf.{EdfEnds}
 use Rattle.drt_outcome.specs.declared.outcome.Trail.{Trail}
 use Rattle.drt_outcome.specs.declared.outcome.Trail.TheVariants as trails
 
@@ -192,9 +193,9 @@ answer_is set budget Undecided limits constrained done planned range = absurd do
 pub done_decides : (bytes : List ℕ) (set : Contents) (budget : ℕ) (evidence : Evidence) → IsAccepted bytes set → IsVerdict set.tasks evidence → IsPlanned set.tasks evidence
     → IsInRange evidence → (r : Result Report Unmade)
     → IfOk r (λ m. m ≡ record { status = evidence_status evidence; text = text (under_edf set evidence); trail = trails.Nothing })
-    → IfOk r (Decides budget bytes)
+    → IfOk r (Besides budget bytes)
 done_decides bytes set budget evidence accepted done planned range (Ok m) is =
-    subst (Decides budget bytes) (sym is)
+    subst (Besides budget bytes) (sym is)
     (record { set = set; accepted = accepted; answer = answer_is set budget evidence accepted.reads.limits accepted.constrained done planned range })
 done_decides bytes set budget evidence accepted done planned range (Err e) is = tt
 

@@ -9,7 +9,8 @@ use Rattle.drt_outcome.specs.declared.fault.Fault.{Fault}
 use Rattle.drt_outcome.specs.declared.fault.Fault.TheVariants.{Limit}
 use Rattle.drt_outcome.specs.Stops.{fault_status}
 use Rattle.drt_command_files.specs.TaskFiles.{IsAccepted, IsFileFault}
-use Rattle.drt_command_edf.specs.Edf.{Decides, EdfEnds, IsOutOfReach, beyond_code, edf_rules}
+use Rattle.drt_command_edf.specs.Besides.{Besides}
+use Rattle.drt_command_edf.specs.Edf.{EdfEnds, IsOutOfReach, beyond_code, edf_rules}
 use Rattle.drt_command_files.proofs.TaskFileLemmas.{accepted_one, accepted_well, fault_one, long_file}
 use Rattle.drt_command_edf.proofs.EdfLemmas.{IsEdfAnswer, answer_ends, answer_low, answer_near, beyond_ends, beyond_one}
 
@@ -21,7 +22,7 @@ reach_one law bytes f g h k =
     h.is ∙ ap (λ x. Limit (beyond_code x)) b ∙ sym k.is
 
 module _ (law : TextsReadAsOneSet) (b : ℕ) where
-  edf_apart : (bytes : List ℕ) (m : Report) (f : Fault) → Decides b bytes m → IsFileFault bytes f ⊎ IsOutOfReach bytes f → ⊥
+  edf_apart : (bytes : List ℕ) (m : Report) (f : Fault) → Besides b bytes m → IsFileFault bytes f ⊎ IsOutOfReach bytes f → ⊥
   edf_apart bytes m f d (inl h) = accepted_well law bytes d.set f d.accepted h
   edf_apart bytes m f d (inr h) =
       answer_near d.set d.accepted.reads.limits b m.status m.text m.trail h.beyond d.answer
@@ -41,11 +42,11 @@ module _ (law : TextsReadAsOneSet) (b : ℕ) where
 
   pub edf_lawful : AreLawful (edf_rules b)
   edf_lawful = record {
-    low = λ bytes m d. answer_low d.set b m.status m.text m.trail d.answer;
-    apart = edf_apart;
+    low = λ bytes m d. answer_low d.1.set b m.status m.text m.trail d.1.answer;
+    apart = λ bytes m f d. edf_apart bytes m f d.1;
     one_fault = edf_one;
     longer = λ bytes f h. inl (long_file bytes f h);
     made_ends = λ bytes m d set a.
-        answer_ends set a.reads.limits b m.status m.text m.trail (subst (λ s. IsEdfAnswer s b m.status m.text m.trail) (accepted_one law bytes d.set set d.accepted a) d.answer);
+        answer_ends set a.reads.limits b m.status m.text m.trail (subst (λ s. IsEdfAnswer s b m.status m.text m.trail) (accepted_one law bytes d.1.set set d.1.accepted a) d.1.answer);
     refused_ends = edf_refused;
   }

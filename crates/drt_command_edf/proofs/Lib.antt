@@ -1,2 +1,3 @@
 pub mod EdfLemmas
 pub mod EdfPromises
+mod EdfVerdict

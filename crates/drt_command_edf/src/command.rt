@@ -6,7 +6,8 @@ ghost use Rattle.drt_command.specs.declared.input.Input.{Input};
 ghost use Rattle.drt_command.specs.Inputs.{IsWithin};
 ghost use Rattle.drt_command.specs.Rules.{IsCause};
 ghost use Rattle.drt_command.specs.Runs.{IsRun};
-ghost use Rattle.drt_command_edf.specs.Edf.{Decides, IsOutOfReach, beyond_code, edf_rules, trail_of};
+ghost use Rattle.drt_command_edf.specs.Besides.{Besides, trail_of};
+ghost use Rattle.drt_command_edf.specs.Edf.{IsOutOfReach, beyond_code, edf_rules};
 ghost use Rattle.drt_command_files.specs.TaskFiles.{IsAccepted};
 
 use drt_command::{Promised, Report, Unmade, finish, read_input, stop_reading};
@@ -91,7 +92,7 @@ fn decide<G: Gate, R: Threads + Wait + Sync>(
 ) -> Result<Report, Unmade>
     requires accepted { IsAccepted bytes.now set }
     requires graphs { graphs.now ≡ map digraph_of set.tasks }
-    ensures decides { IfOk result (Decides search.now.budget bytes.now) }
+    ensures decides { IfOk result (Besides search.now.budget bytes.now) }
     ensures unmade { IfErr result (IsCause IsOutOfReach bytes.now) }
 {
     let budget = u64::from(search.budget());

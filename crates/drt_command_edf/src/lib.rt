@@ -1,4 +1,5 @@
-//! The command `edf`: the answer under EDF. Its promises stand in specs/Edf.antt.
+//! The command `edf`: the answer under EDF. Its verdict is `SetVerdict` of drt_command_files; what stands
+//! besides is in specs/Besides.antt, what it refuses and how it ends in specs/Edf.antt.
 #![tactic(auto)]
 
 mod command;

@@ -1,2 +1,3 @@
 pub mod TaskFileLemmas
 pub mod SpotLemmas
+pub mod Abouts

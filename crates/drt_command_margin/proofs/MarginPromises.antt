@@ -55,7 +55,7 @@ verdict : (policy : Policy) (set : Contents) (k v budget : ℕ) (answer : Margin
     → (m : Report) → IsReportOf policy set k v answer m → IsVerdict policy set k v m.status m.text
 verdict policy set k v budget (answers.Found add within next) a m is =
     subst (λ (x : Report). IsVerdict policy set k v x.status x.text) (sym is)
-    (inl (refl, record { add = add; margin = a.margin; within = within; next = next; is = refl }))
+    (inl (refl, record { add = add; margin = a.margin; rest = _; is = refl }))
 verdict policy set k v budget (answers.AtZero evidence) a m is =
     subst (λ (x : Report). IsVerdict policy set k v x.status x.text) (sym is) (at_zero policy set k v _ evidence a)
 verdict policy set k v budget (answers.Beyond add beyond) a m is = absurd is

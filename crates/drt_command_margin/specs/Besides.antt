@@ -12,12 +12,12 @@ use Rattle.drt_margin.specs.declared.answer.MarginTrail.TheVariants as spent
 use Rattle.drt_outcome.specs.declared.outcome.Trail.{Trail}
 use Rattle.drt_outcome.specs.declared.outcome.Trail.TheVariants as trails
 use Rattle.drt_command.specs.declared.report.Report.{Report}
-use Rattle.drt_command_edf.specs.Edf as edf
+use Rattle.drt_command_edf.specs.Besides as edf
 use Rattle.drt_command_files.specs.Dossiers.{evidence_status}
 use Rattle.drt_command_files.specs.Spots.{IsSpot}
 use Rattle.drt_command_files.specs.TaskFiles.{IsAccepted}
 use Rattle.drt_command_margin.specs.Text.{margin_text, with_evidence}
-use Rattle.drt_command_sp.specs.Sp as sp
+use Rattle.drt_command_sp.specs.Besides as sp
 
 -- The trail of a spent budget.
 abbrev pub margin_trail : MarginTrail → Trail

@@ -1,27 +1,25 @@
 -- The verdict of `margin`: the greatest number of ticks by which the execution time of the named vertex can grow.
-use Rattle.std.specs.Prelude.{◌≡◌, ℕ, ◌⊎◌, List}
+use Rattle.std.specs.Prelude.{◌≡◌, ℕ, ◌⊎◌, List, ◌++◌}
 use Rattle.drt_model.specs.Contents.{Contents}
 use Rattle.drt_model.specs.declared.jobs.Policy.{Policy}
 use Rattle.drt_model.specs.declared.jobs.Policy.TheVariants.{Edf}
 use Rattle.drt_model.specs.Schedulable.{Schedulable}
 use Rattle.drt_evidence.specs.Rates.{IsAtOne}
-use Rattle.drt_evidence.specs.declared.evidence.Evidence.{Evidence}
+use Rattle.drt_file.specs.trusted.Canonical.{written}
 use Rattle.drt_margin.specs.Margin.{IsMargin}
-use Rattle.drt_margin.specs.declared.answer.Next.{Next}
 use Rattle.drt_command.specs.declared.report.Report.{Report}
 use Rattle.drt_command_files.specs.Spots.{IsSpot}
 use Rattle.drt_command_files.specs.TaskFiles.{IsAccepted}
-use Rattle.drt_command_margin.specs.Text.{margin_text}
+use Rattle.drt_command_margin.specs.Text.{head_lines}
 
--- The text has the margin of vertex v of task k.
-pub record IsMarginText (policy : Policy) (set : Contents) (k v : ℕ) (written : List ℕ) : Type 0 where
+-- The first lines of the text say the margin of vertex v of task k.
+pub record IsMarginText (policy : Policy) (set : Contents) (k v : ℕ) (text : List ℕ) : Type 0 where
   pub add : ℕ
   pub margin : IsMargin set policy k v add
-  pub within : Evidence
-  pub next : Next
-  pub is : written ≡ margin_text policy set k v add within next
+  pub rest : List ℕ
+  pub is : text ≡ written (head_lines add) ++ rest
 
--- The bytes are an accepted file, and a vertex of its set has the names. At status 0 the text has its margin under the policy; at 1 the set
+-- The bytes are an accepted file, and a vertex of its set has the names. At status 0 the text says its margin under the policy; at 1 the set
 -- isn't schedulable as it is; at 2 the policy is EDF and the utilisation is one; at 3 nothing is decided.
 pub record Verdict (policy : Policy) (task vertex bytes : List ℕ) (made : Report) : Type 0 where
   pub set : Contents

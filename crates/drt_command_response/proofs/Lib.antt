@@ -1,1 +1,2 @@
 pub mod ResponsePromises
+mod ResponseVerdict

@@ -18,8 +18,10 @@ use Rattle.drt_responses.specs.declared.response.Response.{Response}
 use Rattle.drt_sp.specs.Evidence.{under_fixed}
 use Rattle.drt_command_files.specs.Dossiers.{evidence_status}
 use Rattle.drt_command_files.specs.TaskFiles.{IsAccepted}
-use Rattle.drt_command_response.specs.Response.{IsResponseText, IsResponseUndecidedText, Responds, response_rules}
-use Rattle.drt_command_sp.specs.Sp.{IsSpNoText, SpEnds}
+use Rattle.drt_command_response.specs.Besides.{Besides, IsResponseText, IsResponseUndecidedText}
+use Rattle.drt_command_response.specs.Response.{response_rules}
+use Rattle.drt_command_sp.specs.Besides.{IsSpNoText}
+use Rattle.drt_command_sp.specs.Sp.{SpEnds}
 use Rattle.drt_command_files.proofs.TaskFileLemmas.{accepted_one, accepted_well, fault_one, long_file}
 
 -- The answer, by its parts.
@@ -32,16 +34,16 @@ IsResponseAnswer set budget status written trail =
 -- The answer of the responses is that of the report that is made of them.
 pub done_responds : (bytes : List ℕ) (set : Contents) (budget : ℕ) (responses : List Response) → IsAccepted bytes set → AreResponses set responses
     → (r : Result Report Unmade) → IfOk r (λ m. m ≡ record { status = 0; text = response_text responses; trail = trails.Nothing })
-    → IfOk r (Responds budget bytes)
+    → IfOk r (Besides budget bytes)
 done_responds bytes set budget responses accepted are (Ok m) is =
-    subst (Responds budget bytes) (sym is)
+    subst (Besides budget bytes) (sym is)
     (record { set = set; accepted = accepted; answer = inl (refl, record { responses = responses; are = are; text_is = refl }, refl) })
 done_responds bytes set budget responses accepted are (Err e) is = tt
 
 -- The answer of a no is that of the report that is made of its dossier.
 pub missed_responds : (bytes : List ℕ) (set : Contents) (budget : ℕ) (dossier : Statement) → IsAccepted bytes set → IsRefused set dossier
     → (r : Result Report Unmade) → IfOk r (λ m. m ≡ record { status = evidence_status dossier.evidence; text = text dossier; trail = trails.Nothing })
-    → IfOk r (Responds budget bytes)
+    → IfOk r (Besides budget bytes)
 missed_responds bytes set budget dossier accepted refused (Ok m) is =
     let no : IsSpNoText set (text (under_fixed set (FixedNo refused.releases refused.miss))) = record {
       releases = refused.releases;
@@ -50,7 +52,7 @@ missed_responds bytes set budget dossier accepted refused (Ok m) is =
       is = record { stated = (accepted.reads.limits, refused.in_range); is = refl };
     } in
     let made : m ≡ record { status = 1; text = text (under_fixed set (FixedNo refused.releases refused.miss)); trail = trails.Nothing } = rw refused.dossier_is at is in
-    subst (Responds budget bytes) (sym made) (record { set = set; accepted = accepted; answer = inr (inl (refl, no, refl)) })
+    subst (Besides budget bytes) (sym made) (record { set = set; accepted = accepted; answer = inr (inl (refl, no, refl)) })
 missed_responds bytes set budget dossier accepted refused (Err e) is = tt
 
 answer_low : (set : Contents) (budget status : ℕ) (written : List ℕ) (trail : Trail) → IsResponseAnswer set budget status written trail → status < 4
@@ -68,12 +70,12 @@ module _ (law : TextsReadAsOneSet) (suffice : ResponseBudgetsSuffice) (b : ℕ) 
   -- What is made, what is refused and with which status it ends agree.
   pub response_lawful : AreLawful (response_rules b)
   response_lawful = record {
-    low = λ bytes m d. answer_low d.set b m.status m.text m.trail d.answer;
-    apart = λ bytes m f d h. accepted_well law bytes d.set f d.accepted h;
+    low = λ bytes m d. answer_low d.1.set b m.status m.text m.trail d.1.answer;
+    apart = λ bytes m f d h. accepted_well law bytes d.1.set f d.1.accepted h;
     one_fault = λ bytes f g h k. fault_one law bytes f g h k;
     longer = λ bytes f h. long_file bytes f h;
     made_ends = λ bytes m d set a.
         answer_ends set a.reads.limits m.status m.text m.trail
-        (subst (λ s. IsResponseAnswer s b m.status m.text m.trail) (accepted_one law bytes d.set set d.accepted a) d.answer);
+        (subst (λ s. IsResponseAnswer s b m.status m.text m.trail) (accepted_one law bytes d.1.set set d.1.accepted a) d.1.answer);
     refused_ends = λ bytes f h set a. absurd (accepted_well law bytes set f a h);
   }

@@ -10,7 +10,8 @@ ghost use Rattle.drt_model.specs.declared.jobs.Policy.TheVariants.{Fixed};
 ghost use Rattle.drt_evidence.specs.Text.{text};
 ghost use Rattle.drt_command_files.specs.Dossiers.{evidence_status};
 ghost use Rattle.drt_responses.specs.Text.{response_text};
-ghost use Rattle.drt_command_response.specs.Response.{Responds, response_rules, response_trail};
+ghost use Rattle.drt_command_response.specs.Besides.{Besides, response_trail};
+ghost use Rattle.drt_command_response.specs.Response.{response_rules};
 ghost use Rattle.drt_command_files.specs.TaskFiles.{IsAccepted};
 
 use drt_command::{Promised, Report, Unmade, finish, read_input, stop_reading};
@@ -96,7 +97,7 @@ fn answer<G: Gate, R: Threads + Wait + Sync>(
 ) -> Result<Report, Unmade>
     requires accepted { IsAccepted bytes.now set }
     requires graphs { graphs.now ≡ map digraph_of set.tasks }
-    ensures responds { IfOk result (Responds search.now.budget bytes.now) }
+    ensures responds { IfOk result (Besides search.now.budget bytes.now) }
     ensures unmade { IfErr result (λ e. e ≡ Unmade.Memory) }
 {
     let budget = u64::from(search.budget());

@@ -1,1 +1,2 @@
 pub mod SpPromises
+mod SpVerdict

@@ -18,7 +18,8 @@ use Rattle.drt_sp.specs.Laws.{BudgetsSuffice}
 use Rattle.drt_trails.specs.declared.FixedTrail.{FixedTrail}
 use Rattle.drt_command_files.specs.Dossiers.{evidence_status}
 use Rattle.drt_command_files.specs.TaskFiles.{IsAccepted}
-use Rattle.drt_command_sp.specs.Sp.{Analyses, IsSpNoText, IsSpUndecidedText, IsSpYesText, SpEnds, sp_rules, trail_after}
+use Rattle.drt_command_sp.specs.Besides.{Besides, IsSpNoText, IsSpUndecidedText, IsSpYesText, trail_after}
+use Rattle.drt_command_sp.specs.Sp.{SpEnds, sp_rules}
 use Rattle.drt_command_files.proofs.TaskFileLemmas.{accepted_one, accepted_well, fault_one, long_file}
 
 -- The answer, by its parts.
@@ -48,9 +49,9 @@ answer_is set budget Undecided trail limits said range =
 pub analysed : (bytes : List ℕ) (set : Contents) (budget : ℕ) (evidence : Evidence) (trail : Option FixedTrail) → IsAccepted bytes set
     → IsSaid set budget evidence trail → IsInRange evidence → (r : Result Report Unmade)
     → IfOk r (λ m. m ≡ record { status = evidence_status evidence; text = text (under_fixed set evidence); trail = trail_after trail })
-    → IfOk r (Analyses budget bytes)
+    → IfOk r (Besides budget bytes)
 analysed bytes set budget evidence trail accepted said range (Ok m) is =
-    subst (Analyses budget bytes) (sym is)
+    subst (Besides budget bytes) (sym is)
     (record { set = set; accepted = accepted; answer = answer_is set budget evidence trail accepted.reads.limits said range })
 analysed bytes set budget evidence trail accepted said range (Err e) is = tt
 
@@ -67,11 +68,11 @@ module _ (law : TextsReadAsOneSet) (suffice : BudgetsSuffice) (b : ℕ) where
 
   pub sp_lawful : AreLawful (sp_rules b)
   sp_lawful = record {
-    low = λ bytes m d. answer_low d.set b m.status m.text m.trail d.answer;
-    apart = λ bytes m f d h. accepted_well law bytes d.set f d.accepted h;
+    low = λ bytes m d. answer_low d.1.set b m.status m.text m.trail d.1.answer;
+    apart = λ bytes m f d h. accepted_well law bytes d.1.set f d.1.accepted h;
     one_fault = λ bytes f g h k. fault_one law bytes f g h k;
     longer = λ bytes f h. long_file bytes f h;
     made_ends = λ bytes m d set a.
-        answer_ends set a.reads.limits m.status m.text m.trail (subst (λ s. IsSpAnswer s b m.status m.text m.trail) (accepted_one law bytes d.set set d.accepted a) d.answer);
+        answer_ends set a.reads.limits m.status m.text m.trail (subst (λ s. IsSpAnswer s b m.status m.text m.trail) (accepted_one law bytes d.1.set set d.1.accepted a) d.1.answer);
     refused_ends = λ bytes f h set a. absurd (accepted_well law bytes set f a h);
   }

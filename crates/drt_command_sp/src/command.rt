@@ -9,7 +9,8 @@ ghost use Rattle.drt_command.specs.Runs.{IsRun};
 ghost use Rattle.drt_model.specs.declared.jobs.Policy.TheVariants.{Fixed};
 ghost use Rattle.drt_evidence.specs.Text.{text};
 ghost use Rattle.drt_command_files.specs.Dossiers.{evidence_status};
-ghost use Rattle.drt_command_sp.specs.Sp.{Analyses, sp_rules, trail_after, trail_of};
+ghost use Rattle.drt_command_sp.specs.Besides.{Besides, trail_after, trail_of};
+ghost use Rattle.drt_command_sp.specs.Sp.{sp_rules};
 ghost use Rattle.drt_command_files.specs.TaskFiles.{IsAccepted};
 
 use drt_command::{Promised, Report, Unmade, finish, read_input, stop_reading};
@@ -95,7 +96,7 @@ fn analyse<G: Gate, R: Threads + Wait + Sync>(
 ) -> Result<Report, Unmade>
     requires accepted { IsAccepted bytes.now set }
     requires graphs { graphs.now ≡ map digraph_of set.tasks }
-    ensures analyses { IfOk result (Analyses search.now.budget bytes.now) }
+    ensures analyses { IfOk result (Besides search.now.budget bytes.now) }
     ensures unmade { IfErr result (λ e. e ≡ Unmade.Memory) }
 {
     let budget = u64::from(search.budget());

@@ -1,4 +1,5 @@
-//! The command `sp`: the answer under fixed priorities. Its promises stand in specs/Sp.antt.
+//! The command `sp`: the answer under fixed priorities. Its verdict is `SetVerdict` of drt_command_files; what
+//! stands besides is in specs/Besides.antt, what it refuses and how it ends in specs/Sp.antt.
 #![tactic(auto)]
 
 mod command;

@@ -1,0 +1,46 @@
+-- What is written is the verdict.
+use Rattle.std.proofs.Common.{◌≡◌, ◌⊎◌, ℕ, List, All, Result, Ok, Err, IfOk, inl, inr}
+use Rattle.std.proofs.lemmas.List.Elements.{All-weaker}
+use Rattle.drt_model.specs.Contents.{Contents}
+use Rattle.drt_model.specs.Schedulable.{Schedulable}
+use Rattle.drt_model.specs.declared.jobs.Policy.TheVariants.{Fixed}
+use Rattle.drt_busy.specs.Response.{IsGreatestResponse}
+use Rattle.drt_evidence.specs.declared.evidence.Evidence.TheVariants.{FixedNo, Undecided}
+use Rattle.drt_response.specs.Answers.{IsResponseOf}
+use Rattle.drt_outcome.specs.declared.outcome.Trail.{Trail}
+use Rattle.drt_command.specs.declared.report.Report.{Report}
+use Rattle.drt_command.specs.declared.report.Unmade.{Unmade}
+use Rattle.drt_command_files.specs.Verdicts.{IsAbout}
+use Rattle.drt_command_files.proofs.Abouts.{about_of}
+use Rattle.drt_sp.specs.Evidence.{under_fixed}
+use Rattle.drt_command_response.specs.Besides.{Besides, IsResponseText}
+use Rattle.drt_command_response.specs.Verdict.{IsGreatestText, Verdict}
+use Rattle.drt_command_response.specs.Response.{response_rules}
+use Rattle.drt_command_response.proofs.ResponsePromises.{IsResponseAnswer}
+
+greatest_of : (set : Contents) (written : List ℕ) → IsResponseText set written → IsGreatestText set written
+greatest_of set written t = record {
+  schedulable = t.are.schedulable;
+  responses = t.responses;
+  are = t.are.are;
+  greatest = All-weaker (IsResponseOf set) (λ r. IsGreatestResponse set.tasks r.task r.vertex r.ticks) (λ r is. is.greatest) t.responses t.are.each;
+  is = t.text_is;
+}
+
+-- What the status says.
+abbrev Says : Contents → ℕ → List ℕ → Type 0
+Says set status written =
+    ((status ≡ 0) × IsGreatestText set written)
+    ⊎ (((status ≡ 1) × IsAbout Fixed set written × ¬ Schedulable set.tasks Fixed)
+    ⊎ ((status ≡ 3) × IsAbout Fixed set written))
+
+says : (set : Contents) (budget status : ℕ) (written : List ℕ) (trail : Trail) → IsResponseAnswer set budget status written trail → Says set status written
+says set budget status written trail (inl a) = inl (a.0, greatest_of set written a.1)
+says set budget status written trail (inr (inl a)) =
+    inr (inl (a.0, about_of (under_fixed set (FixedNo a.1.releases a.1.miss)) written a.1.is, a.1.no.not_schedulable))
+says set budget status written trail (inr (inr a)) = inr (inr (a.0, about_of (under_fixed set Undecided) written a.1.is))
+
+-- What stands besides has its verdict.
+pub with_verdict : (budget : ℕ) (bytes : List ℕ) (r : Result Report Unmade) → IfOk r (Besides budget bytes) → IfOk r ((response_rules budget).makes bytes)
+with_verdict budget bytes (Ok m) d = (record { set = d.set; accepted = d.accepted; answer = says d.set budget m.status m.text m.trail d.answer }, d)
+with_verdict budget bytes (Err e) d = tt
