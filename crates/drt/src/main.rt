@@ -3,8 +3,11 @@
 
 use drt_advice::advise;
 use drt_io::{FromRead, FromWrite, write_all};
+use drt_outcome::outcome::OUT_OF_MEMORY;
+use drt_outcome::{Stop, outcome_of};
 use drt_pool::OpenGate;
 use drt_top::{notice, run};
+use std::io::ErrorKind;
 use std::process::ExitCode;
 use std::rt::Env;
 use std::{env, io};
@@ -13,24 +16,33 @@ use std::{env, io};
 const NO_WORDS: u8 = 11;
 
 fn main(rt: HostRuntime) -> ExitCode {
-    let words = match words_of(&rt) {
-        Ok(words) => words,
+    let outcome = match words_of(&rt) {
+        Ok(words) => {
+            let mut source = FromRead::new(rt.stdin().lock());
+            let mut sink = FromWrite::new(rt.stdout());
+            run(
+                &rt,
+                rt.alloc(),
+                words.as_slice(),
+                &mut source,
+                &mut sink,
+                &OpenGate,
+            )
+        }
+        Err(error) if error.kind() == ErrorKind::OutOfMemory => outcome_of(Stop::Memory),
         Err(_) => return ExitCode::from(NO_WORDS),
     };
-    let mut source = FromRead::new(rt.stdin().lock());
-    let mut sink = FromWrite::new(rt.stdout());
-    let outcome = run(
-        &rt,
-        rt.alloc(),
-        words.as_slice(),
-        &mut source,
-        &mut sink,
-        &OpenGate,
-    );
     // There is nowhere else to say that standard error takes no more.
     let mut said = FromWrite::new(rt.stderr());
-    if let Ok(line) = notice(rt.alloc(), &outcome) {
-        let _ = write_all(&mut said, line.as_slice());
+    match notice(rt.alloc(), &outcome) {
+        Ok(line) => {
+            let _ = write_all(&mut said, line.as_slice());
+        }
+        Err(_) => {
+            if outcome.status == OUT_OF_MEMORY {
+                let _ = write_all(&mut said, b"drt: out of memory\n");
+            }
+        }
     }
     if let Ok(line) = advise(rt.alloc(), &outcome) {
         let _ = write_all(&mut said, line.as_slice());

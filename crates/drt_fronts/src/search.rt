@@ -14,30 +14,26 @@ use drt_demand::DemandLabel;
 use drt_graph::Graph;
 use drt_model::{FrontEntry, Memory, Row};
 use drt_pool::Gate;
-use drt_search::search_together;
 use drt_table::{Entry, Table, TableReply, over_every_interleaving};
 use std::alloc::Global;
 use std::sync::Wait;
 use std::thread::Threads;
 
-// The search of one graph's walks up to the bound by these workers, driven to its end.
-fn search<G: Gate, R: Threads + Wait + Sync>(
-    rt: &R,
+// The search of one graph's walks up to the bound, driven to its end. Its steps are shorter than handing on a lock, so one worker makes them.
+fn search(
     alloc: Global,
     graph: &Graph,
     bound: u64,
-    workers: u32,
     budget: u64,
-    gate: &G,
 ) -> Result<(Table<DemandLabel>, TableReply), Memory>
     requires bound { bound ≤ 1099511627776 }
-    requires workers { (1 ≤ workers) × (workers ≤ 16) }
     requires some { 1 ≤ budget }
     requires few { budget ≤ 1000000 }
     ensures setting { IfOk result (λ end. setting_of end.0 ≡ search_of graph.now bound budget) }
     ensures stops { IfOk result (λ end. StopsAt demand_algebra end.0 end.1) }
 {
-    search_together(rt, alloc, graph, bound, budget, workers, gate)
+    let table: Table<DemandLabel> = Table::start(alloc, graph, bound, budget)?;
+    table.drive(alloc, 0)
 }
 
 /// How the search of one task's walks ended: with its front, or with the steps by which it spent its budget.
@@ -49,7 +45,7 @@ pub enum Ended {
     Full(Row<Entry>),
 }
 
-/// The search of one task's walks up to the bound, in ticks, by several workers: in a wave table where it has one; else by
+/// The search of one task's walks up to the bound, in ticks: in a wave table, by several workers, where it has one; else by one worker, by
 /// merging, and where the budget is too little for that, in a table whose steps the budget counts.
 pub fn search_task<G: Gate, R: Threads + Wait + Sync>(
     rt: &R,
@@ -76,7 +72,7 @@ pub fn search_task<G: Gate, R: Threads + Wait + Sync>(
         None => (),
     }
     over_every_interleaving::<DemandLabel>();
-    let (table, _reply) = search(rt, alloc, graph, bound, workers, budget, gate)?;
+    let (table, _reply) = search(alloc, graph, bound, budget)?;
     if !table.finished() {
         let log = Vec::from_slice(alloc, table.log())?;
         return Ok(Ended::Full(Row::from_vec(log)));
