@@ -2,16 +2,23 @@
 use Rattle.std.specs.Prelude.{ℕ, List, [], ◌∷◌, ◌++◌, ◌==◌, if◌then◌else◌, codes, decimal}
 use Rattle.drt_outcome.specs.declared.fault.Fault.{Fault}
 use Rattle.drt_outcome.specs.declared.fault.Fault.TheVariants.{Nothing, File, Edge, Limit, Probe, Rule, Dossier}
+use Rattle.drt_outcome.specs.declared.fault.PastEdge.{PastEdge}
 use Rattle.drt_outcome.specs.declared.outcome.Outcome.{Outcome}
 use Rattle.drt_outcome.specs.declared.outcome.Trail.{Trail}
 use Rattle.drt_outcome.specs.declared.outcome.Trail.TheVariants as trails
 use Rattle.drt_advice.specs.Sentences.{file_sentence, dossier_sentence, rule_sentence}
 
+-- An edge and its numbers by their names, and what helps.
+abbrev pub edge_sentence : PastEdge → List ℕ
+edge_sentence past =
+    codes "edge " ++ past.from ++ codes " " ++ past.to ++ codes " of task " ++ past.task ++ codes " has separation " ++ decimal past.separation
+    ++ codes ", below the deadline " ++ decimal past.deadline ++ codes " of " ++ past.from ++ codes ": raise the separation or lower the deadline"
+
 -- What is wrong with a refused input.
 abbrev pub fault_sentence : Fault → List ℕ
 fault_sentence Nothing = []
 fault_sentence (File line code) = file_sentence code
-fault_sentence (Edge task edge) = file_sentence 20
+fault_sentence (Edge task edge past) = edge_sentence past
 fault_sentence (Limit code) = file_sentence code
 fault_sentence (Probe add code) = codes "with " ++ decimal add ++ codes " more ticks of this vertex: " ++ file_sentence code
 fault_sentence (Rule number) = rule_sentence number ++ codes ": don't trust this evidence, and analyse the set again"

@@ -1,7 +1,7 @@
 -- The sentences: what is wrong, and what to do. An unknown code has none.
 use Rattle.std.specs.Prelude.{ℕ, List, [], ◌==◌, if◌then◌else◌, codes}
 
--- What is wrong with a task file, by its code.
+-- What is wrong with a task file, by its code. That of code 20 has names, and is none of these.
 abbrev pub file_sentence : ℕ → List ℕ
 file_sentence code =
     if code == 1 then codes "the first line must be 'drt 1' or 'drt 2': write it above the first task"
@@ -23,7 +23,6 @@ file_sentence code =
     else if code == 17 then codes "this task has no vertex: write at least one below it"
     else if code == 18 then codes "the file doesn't end with 'end': it may be cut"
     else if code == 19 then codes "a line stands after 'end': only blank lines and comments may"
-    else if code == 20 then codes "the separation of this edge is below the deadline of its source: raise the separation or lower the deadline (tasks and edges count from 0)"
     else if code == 21 then codes "the utilisations of the tasks have no common scale up to 2^60: round separations to multiples of a common tick"
     else if code == 22 then codes "the utilisation is so close to one that the horizon is above 2^40 ticks: lower an execution time or raise a separation"
     else if code == 23 then codes "the file has more than 1,048,576 bytes"

@@ -1,6 +1,6 @@
 //! The line below the notice.
 ghost use Rattle.std.specs.Prelude.{◌≡◌, ◌++◌, IfOk, List, ℕ, OnOk, decimal, string_bytes};
-ghost use Rattle.drt_advice.specs.Advice.{advice_of, fault_sentence, line_of, more_steps, sentence_of, spent_at, spent_in, trail_sentence};
+ghost use Rattle.drt_advice.specs.Advice.{advice_of, edge_sentence, fault_sentence, line_of, more_steps, sentence_of, spent_at, spent_in, trail_sentence};
 
 use crate::sentences::{dossier_sentence, file_sentence, rule_sentence};
 use drt_model::{Memory, Row};
@@ -8,12 +8,9 @@ use drt_outcome::outcome::{
     DOSSIER_REFUSED, EVIDENCE_REJECTED, FILE_REFUSED, OUT_OF_MEMORY, READ_FAILED, UNDECIDED,
     WORDS_REFUSED, WRITE_FAILED,
 };
-use drt_outcome::{Fault, Outcome, Trail};
+use drt_outcome::{Fault, Outcome, PastEdge, Trail};
 use itoa::Buffer;
 use std::alloc::Global;
-
-// The code of an edge whose separation is below the deadline of its source.
-const DEADLINE_PAST_SEPARATION: u8 = 20;
 
 /// The line that the program says below its notice, with its LF: what is wrong in a plain sentence, and what to do. It is empty where
 /// there is an answer.
@@ -44,7 +41,7 @@ fn sentence_of(alloc: Global, outcome: &Outcome) -> Result<Vec<u8>, Memory>
     let text = match outcome.status {
         UNDECIDED => return trail_sentence(alloc, &outcome.trail),
         FILE_REFUSED | EVIDENCE_REJECTED | DOSSIER_REFUSED => {
-            return fault_sentence(alloc, outcome.fault);
+            return fault_sentence(alloc, &outcome.fault);
         }
         WORDS_REFUSED =>
             b"write: drt edf, sp, response, assign, margin, check, timeline, util, upgrade, convert or bench, with --workers N (1 to 16) and --budget N (1 to 1,000,000) where the command has them (man ./docs/drt.1)".as_slice(),
@@ -58,18 +55,38 @@ fn sentence_of(alloc: Global, outcome: &Outcome) -> Result<Vec<u8>, Memory>
 }
 
 // The sentence of a fault.
-fn fault_sentence(alloc: Global, fault: Fault) -> Result<Vec<u8>, Memory>
-    ensures { IfOk result (λ text. text.items ≡ fault_sentence fault) }
+fn fault_sentence(alloc: Global, fault: &Fault) -> Result<Vec<u8>, Memory>
+    ensures { IfOk result (λ text. text.items ≡ fault_sentence fault.now) }
 {
     let text = match fault {
         Fault::Nothing => "",
-        Fault::File { code, .. } | Fault::Limit { code } => file_sentence(code),
-        Fault::Edge { .. } => file_sentence(DEADLINE_PAST_SEPARATION),
-        Fault::Probe { add, code } => return probe_sentence(alloc, add, code),
-        Fault::Rule { number } => return broken_sentence(alloc, number),
-        Fault::Dossier { code, .. } => dossier_sentence(code),
+        Fault::File { code, .. } | Fault::Limit { code } => file_sentence(*code),
+        Fault::Edge { past, .. } => return edge_sentence(alloc, past),
+        Fault::Probe { add, code } => return probe_sentence(alloc, *add, *code),
+        Fault::Rule { number } => return broken_sentence(alloc, *number),
+        Fault::Dossier { code, .. } => dossier_sentence(*code),
     };
     Ok(Vec::from_slice(alloc, text.as_bytes())?)
+}
+
+// The sentence of an edge whose separation is below the deadline of its source.
+fn edge_sentence(alloc: Global, past: &PastEdge) -> Result<Vec<u8>, Memory>
+    ensures { IfOk result (λ text. text.items ≡ edge_sentence past.now) }
+{
+    let from = past.from.as_slice();
+    let mut text = Vec::new(alloc);
+    push_name(&mut text, b"edge ", from)?;
+    push_name(&mut text, b" ", past.to.as_slice())?;
+    push_name(&mut text, b" of task ", past.task.as_slice())?;
+    push(&mut text, b" has separation ", u64::from(past.separation))?;
+    push(
+        &mut text,
+        b", below the deadline ",
+        u64::from(past.deadline),
+    )?;
+    push_name(&mut text, b" of ", from)?;
+    text.extend_from_slice(b": raise the separation or lower the deadline")?;
+    Ok(text)
 }
 
 // The sentence of a limit that the set passes with so many ticks more.
@@ -176,6 +193,15 @@ fn push_more_steps(text: &mut Vec<u8>) -> Result<(), Memory>
     text.extend_from_slice(
         b" spent its budget: give more with --budget (at most 1,000,000), or make the set simpler",
     )?;
+    Ok(())
+}
+
+// Adds some text and a name behind it.
+fn push_name(text: &mut Vec<u8>, before: &[u8], name: &[u8]) -> Result<(), Memory>
+    ensures { OnOk result (text.new.items ≡ text.old.items ++ before.now ++ name.now) }
+{
+    text.extend_from_slice(before)?;
+    text.extend_from_slice(name)?;
     Ok(())
 }
 

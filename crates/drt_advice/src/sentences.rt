@@ -2,7 +2,7 @@
 ghost use Rattle.std.specs.Prelude.{◌≡◌};
 ghost use Rattle.drt_advice.specs.Sentences.{dossier_sentence, file_sentence, rule_sentence};
 
-/// What is wrong with a task file, by its code.
+/// What is wrong with a task file, by its code. That of code 20 has names, and is none of these.
 pub fn file_sentence(code: u8) -> &'static str
     ensures { result.now ≡ file_sentence code }
 {
@@ -33,8 +33,6 @@ pub fn file_sentence(code: u8) -> &'static str
         17 => "this task has no vertex: write at least one below it",
         18 => "the file doesn't end with 'end': it may be cut",
         19 => "a line stands after 'end': only blank lines and comments may",
-        20 =>
-            "the separation of this edge is below the deadline of its source: raise the separation or lower the deadline (tasks and edges count from 0)",
         21 =>
             "the utilisations of the tasks have no common scale up to 2^60: round separations to multiples of a common tick",
         22 =>

@@ -41,7 +41,7 @@ low_known (suc (suc (suc (suc n)))) h = absurd (omega arith)
 fault_known : (f : Fault) → IsStatus (fault_status f)
 fault_known Nothing = (4, lit< tt, refl)
 fault_known (File l c) = (4, lit< tt, refl)
-fault_known (Edge t e) = (4, lit< tt, refl)
+fault_known (Edge t e p) = (4, lit< tt, refl)
 fault_known (Limit c) = (4, lit< tt, refl)
 fault_known (Probe a c) = (4, lit< tt, refl)
 fault_known (Rule n) = (9, lit< tt, refl)
@@ -63,7 +63,7 @@ memory_complete r left = some_input r.input left (λ b. IsComplete r b 8 Nothing
 fault_refusal : (f : Fault) → IsRefusal (fault_status f)
 fault_refusal Nothing = inl refl
 fault_refusal (File l c) = inl refl
-fault_refusal (Edge t e) = inl refl
+fault_refusal (Edge t e p) = inl refl
 fault_refusal (Limit c) = inl refl
 fault_refusal (Probe a c) = inl refl
 fault_refusal (Rule n) = inr (inl refl)

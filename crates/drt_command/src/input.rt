@@ -2,7 +2,7 @@
 use drt_outcome::Fault;
 
 /// What a command reads.
-#[derive(Debug, Clone, Copy, PartialEq, Eq)]
+#[derive(Debug, Drop)]
 pub enum Input {
     /// Nothing at all.
     Nothing,

@@ -27,7 +27,7 @@ impl Report {
 }
 
 /// Why a command makes nothing of its input.
-#[derive(Debug, Clone, Copy, PartialEq, Eq)]
+#[derive(Debug, Drop)]
 pub enum Unmade {
     /// No memory was to be had.
     Memory,

@@ -73,7 +73,7 @@ pub record IsNoDossier (bytes : List ℕ) (line code : ℕ) : Type 0 where
 abbrev pub IsDossierFault : List ℕ → Fault → Type 0
 IsDossierFault bytes Nothing = ⊥
 IsDossierFault bytes (File line code) = ⊥
-IsDossierFault bytes (Edge task edge) = ⊥
+IsDossierFault bytes (Edge task edge past) = ⊥
 IsDossierFault bytes (Limit code) = ⊥
 IsDossierFault bytes (Probe add code) = ⊥
 IsDossierFault bytes (Rule number) = IsRejected bytes number

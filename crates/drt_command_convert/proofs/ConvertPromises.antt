@@ -21,7 +21,7 @@ same_text bytes l c m d h k =
 -- A file that reads as a set has no fault.
 reads_well : (bytes : List ℕ) (tasks : List Classic) (f : Fault) → IsClassicFile bytes tasks → IsClassicFault bytes f → ⊥
 reads_well bytes tasks Nothing a h = h
-reads_well bytes tasks (Edge t e) a h = h
+reads_well bytes tasks (Edge t e p) a h = h
 reads_well bytes tasks (Limit c) a h = h
 reads_well bytes tasks (Probe n c) a h = h
 reads_well bytes tasks (Rule n) a h = h
@@ -32,13 +32,13 @@ reads_well bytes tasks (File l c) a (inr text) = text.1.reads_as_none tasks a.re
 -- A file has one fault.
 fault_one : (bytes : List ℕ) (f g : Fault) → IsClassicFault bytes f → IsClassicFault bytes g → f ≡ g
 fault_one bytes Nothing g h k = absurd h
-fault_one bytes (Edge t e) g h k = absurd h
+fault_one bytes (Edge t e p) g h k = absurd h
 fault_one bytes (Limit c) g h k = absurd h
 fault_one bytes (Probe n c) g h k = absurd h
 fault_one bytes (Rule n) g h k = absurd h
 fault_one bytes (Dossier l c) g h k = absurd h
 fault_one bytes (File l c) Nothing h k = absurd k
-fault_one bytes (File l c) (Edge t e) h k = absurd k
+fault_one bytes (File l c) (Edge t e p) h k = absurd k
 fault_one bytes (File l c) (Limit d) h k = absurd k
 fault_one bytes (File l c) (Probe n d) h k = absurd k
 fault_one bytes (File l c) (Rule n) h k = absurd k

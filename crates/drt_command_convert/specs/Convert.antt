@@ -21,7 +21,7 @@ pub record IsClassicFile (bytes : List ℕ) (tasks : List Classic) : Type 0 wher
 abbrev pub IsClassicFault : List ℕ → Fault → Type 0
 IsClassicFault bytes Nothing = ⊥
 IsClassicFault bytes (File line code) = ((most_bytes < length bytes) × (line ≡ 0) × (code ≡ 23)) ⊎ ((length bytes ≤ most_bytes) × HasFault bytes line code)
-IsClassicFault bytes (Edge task edge) = ⊥
+IsClassicFault bytes (Edge task edge past) = ⊥
 IsClassicFault bytes (Limit code) = ⊥
 IsClassicFault bytes (Probe add code) = ⊥
 IsClassicFault bytes (Rule number) = ⊥

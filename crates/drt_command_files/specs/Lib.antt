@@ -1,3 +1,4 @@
+pub mod Edges
 pub mod TaskFiles
 pub mod Dossiers
 pub mod Spots

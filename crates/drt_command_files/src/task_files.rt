@@ -3,13 +3,15 @@ ghost use Rattle.std.specs.Prelude.{◌≡◌, ◌≤◌, IfErr, IfOk, length, m
 ghost use Rattle.drt_file.specs.trusted.Reading.{Reads};
 ghost use Rattle.drt_model.specs.Digraph.{digraph_of};
 ghost use Rattle.drt_command.specs.Rules.{IsCause};
+ghost use Rattle.drt_graph.specs.Past.{IsFirstPast};
+ghost use Rattle.drt_command_files.specs.Edges.{Describes};
 ghost use Rattle.drt_command_files.specs.TaskFiles.{IsAccepted, IsFileFault, file_input, most_bytes};
 
 use drt_command::{Input, Unmade};
 use drt_file::{FileError, FileFault};
 use drt_graph::{GraphError, Graphs};
-use drt_model::TaskSet;
-use drt_outcome::fault::{Fault, TOO_LONG};
+use drt_model::{Memory, Name, TaskSet};
+use drt_outcome::fault::{Fault, PastEdge, TOO_LONG};
 use std::alloc::Global;
 
 // The most bytes that a task file has.
@@ -55,8 +57,37 @@ fn check_deadlines(alloc: Global, bytes: &[u8], set: TaskSet) -> Result<(TaskSet
     match drt_graph::check(alloc, &set) {
         Ok(graphs) => Ok((set, graphs)),
         Err(GraphError::DeadlinePastSeparation { task, edge }) => {
-            Err(Unmade::Refused(Fault::Edge { task, edge }))
+            let past = describe(alloc, &set, task, edge)?;
+            Err(Unmade::Refused(Fault::Edge { task, edge, past }))
         }
         Err(GraphError::Memory) => Err(Unmade::Memory),
     }
+}
+
+// The names and the numbers of an edge whose separation is below the deadline of its source.
+fn describe(alloc: Global, set: &TaskSet, task: u32, edge: u32) -> Result<PastEdge, Memory>
+    requires { IsFirstPast set.now.tasks task edge }
+    ensures { IfOk result (λ past. Describes set.now.tasks task edge past) }
+{
+    let of = &set.tasks()[task as usize];
+    let at = of.edges.as_slice()[edge as usize];
+    let source = &of.vertices.as_slice()[at.from as usize];
+    let target = &of.vertices.as_slice()[at.to as usize];
+    let task = copy_name(alloc, &of.name)?;
+    let from = copy_name(alloc, &source.name)?;
+    let to = copy_name(alloc, &target.name)?;
+    Ok(PastEdge {
+        task,
+        from,
+        to,
+        separation: at.sep,
+        deadline: source.deadline,
+    })
+}
+
+// A copy of a name.
+fn copy_name(alloc: Global, name: &Name) -> Result<Name, Memory>
+    ensures { IfOk result (λ copy. copy ≡ name.now) }
+{
+    Ok(Name::from_vec(Vec::from_slice(alloc, name.as_slice())?))
 }

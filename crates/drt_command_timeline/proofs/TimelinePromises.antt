@@ -68,7 +68,7 @@ ends_by bytes j status of same s is =
 refused_ends : (bytes : List ℕ) (f : Fault) → IsDossierFault bytes f → (s : Statement) → IsTextOf s bytes → length bytes ≤ most_dossier_bytes → TimelineEnds s (fault_status f)
 refused_ends bytes Nothing h s is small = absurd h
 refused_ends bytes (File l c) h s is small = absurd h
-refused_ends bytes (Edge t e) h s is small = absurd h
+refused_ends bytes (Edge t e p) h s is small = absurd h
 refused_ends bytes (Limit c) h s is small = absurd h
 refused_ends bytes (Probe n c) h s is small = absurd h
 refused_ends bytes (Rule n) h s is small =

@@ -7,7 +7,7 @@ use Rattle.drt_outcome.specs.declared.fault.Fault.TheVariants.{Nothing, File, Ed
 abbrev pub fault_notice : Fault → List ℕ
 fault_notice Nothing = []
 fault_notice (File line code) = codes "drt: line " ++ decimal line ++ codes ": fault " ++ decimal code ++ codes "\n"
-fault_notice (Edge task edge) = codes "drt: task " ++ decimal task ++ codes ": edge " ++ decimal edge ++ codes ": fault 20\n"
+fault_notice (Edge task edge past) = codes "drt: task " ++ decimal task ++ codes ": edge " ++ decimal edge ++ codes ": fault 20\n"
 fault_notice (Limit code) = codes "drt: fault " ++ decimal code ++ codes "\n"
 fault_notice (Probe add code) = codes "drt: add " ++ decimal add ++ codes ": fault " ++ decimal code ++ codes "\n"
 fault_notice (Rule number) = codes "drt: evidence rejected by rule " ++ decimal number ++ codes "\n"

@@ -15,7 +15,7 @@ without_fault status = record { status = status; trail = trails.Nothing; fault =
 abbrev pub fault_status : Fault → ℕ
 fault_status faults.Nothing = 4
 fault_status (faults.File line code) = 4
-fault_status (faults.Edge task edge) = 4
+fault_status (faults.Edge task edge past) = 4
 fault_status (faults.Limit code) = 4
 fault_status (faults.Probe add code) = 4
 fault_status (faults.Rule number) = 9

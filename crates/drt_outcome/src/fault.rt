@@ -3,24 +3,53 @@ ghost use Rattle.std.specs.Prelude.{◌≡◌};
 ghost use Rattle.drt_outcome.specs.Stops.{fault_status};
 
 use crate::outcome::{DOSSIER_REFUSED, EVIDENCE_REJECTED, FILE_REFUSED};
+use drt_model::Name;
 
 /// Why an input is refused.
-#[derive(Debug, Clone, Copy, PartialEq, Eq)]
+#[derive(Debug, Drop)]
 pub enum Fault {
     /// It isn't.
     Nothing,
     /// The fault of this code at this line, counted from 1, or at line 0 a fault of the whole file.
-    File { line: u32, code: u8 },
-    /// The separation of this edge of this task is below the deadline of its source.
-    Edge { task: u32, edge: u32 },
+    File {
+        line: u32,
+        code: u8,
+    },
+    /// The separation of this edge of this task is below the deadline of its source. Tasks and edges count from 0.
+    Edge {
+        task: u32,
+        edge: u32,
+        past: PastEdge,
+    },
     /// The analysis has a limit that the set passes.
-    Limit { code: u8 },
+    Limit {
+        code: u8,
+    },
     /// The analysis has a limit that the set passes with so many ticks added to an execution time.
-    Probe { add: u32, code: u8 },
+    Probe {
+        add: u32,
+        code: u8,
+    },
     /// The evidence of the dossier breaks rules, of which this is the least number.
-    Rule { number: u8 },
+    Rule {
+        number: u8,
+    },
     /// The dossier has the fault of this code at this line, counted from 1, or at line 0 a fault of the whole dossier.
-    Dossier { line: u32, code: u8 },
+    Dossier {
+        line: u32,
+        code: u8,
+    },
+}
+
+/// An edge whose separation is below the deadline of its source: the names of its task and of its two vertices, its separation and the
+/// deadline of its source, in ticks.
+#[derive(Debug, Drop)]
+pub struct PastEdge {
+    pub task: Name,
+    pub from: Name,
+    pub to: Name,
+    pub separation: u32,
+    pub deadline: u32,
 }
 
 /// The code of a file that is too long.
@@ -39,8 +68,8 @@ pub const HORIZON_TOO_FAR: u8 = 22;
 pub const NO_SUCH_VERTEX: u8 = 27;
 
 /// The status of an input with this fault.
-pub fn fault_status(fault: Fault) -> u8
-    ensures { result ≡ fault_status fault }
+pub fn fault_status(fault: &Fault) -> u8
+    ensures { result ≡ fault_status fault.now }
 {
     match fault {
         Fault::Nothing

@@ -9,7 +9,7 @@ pub mod notices;
 pub mod outcome;
 pub mod stop;
 
-pub use fault::{Fault, fault_status};
+pub use fault::{Fault, PastEdge, fault_status};
 pub use notices::notice;
 pub use outcome::{Outcome, Trail};
 pub use stop::{Stop, outcome_of};

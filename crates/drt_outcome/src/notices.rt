@@ -18,7 +18,7 @@ pub fn notice(alloc: Global, outcome: &Outcome) -> Result<Row<u8>, Memory>
 {
     let text = match outcome.status {
         FILE_REFUSED | EVIDENCE_REJECTED | DOSSIER_REFUSED => {
-            return fault_notice(alloc, outcome.fault);
+            return fault_notice(alloc, &outcome.fault);
         }
         WORDS_REFUSED => b"drt: words refused\n".as_slice(),
         READ_FAILED => b"drt: read failed\n".as_slice(),
@@ -30,42 +30,42 @@ pub fn notice(alloc: Global, outcome: &Outcome) -> Result<Row<u8>, Memory>
 }
 
 // The line of a refused input.
-fn fault_notice(alloc: Global, fault: Fault) -> Result<Row<u8>, Memory>
-    ensures { IfOk result (λ text. text ≡ fault_notice fault) }
+fn fault_notice(alloc: Global, fault: &Fault) -> Result<Row<u8>, Memory>
+    ensures { IfOk result (λ text. text ≡ fault_notice fault.now) }
 {
     let mut text = Vec::new(alloc);
     match fault {
         Fault::Nothing => {}
         Fault::File { line, code } => {
-            push(&mut text, b"drt: line ", line)?;
-            push(&mut text, b": fault ", u32::from(code))?;
+            push(&mut text, b"drt: line ", *line)?;
+            push(&mut text, b": fault ", u32::from(*code))?;
             text.push(b'\n')?;
         }
-        Fault::Edge { task, edge } => {
-            push(&mut text, b"drt: task ", task)?;
-            push(&mut text, b": edge ", edge)?;
+        Fault::Edge { task, edge, .. } => {
+            push(&mut text, b"drt: task ", *task)?;
+            push(&mut text, b": edge ", *edge)?;
             text.extend_from_slice(b": fault 20\n")?;
         }
         Fault::Limit { code } => {
-            push(&mut text, b"drt: fault ", u32::from(code))?;
+            push(&mut text, b"drt: fault ", u32::from(*code))?;
             text.push(b'\n')?;
         }
         Fault::Probe { add, code } => {
-            push(&mut text, b"drt: add ", add)?;
-            push(&mut text, b": fault ", u32::from(code))?;
+            push(&mut text, b"drt: add ", *add)?;
+            push(&mut text, b": fault ", u32::from(*code))?;
             text.push(b'\n')?;
         }
         Fault::Rule { number } => {
             push(
                 &mut text,
                 b"drt: evidence rejected by rule ",
-                u32::from(number),
+                u32::from(*number),
             )?;
             text.push(b'\n')?;
         }
         Fault::Dossier { line, code } => {
-            push(&mut text, b"drt: dossier line ", line)?;
-            push(&mut text, b": fault ", u32::from(code))?;
+            push(&mut text, b"drt: dossier line ", *line)?;
+            push(&mut text, b": fault ", u32::from(*code))?;
             text.push(b'\n')?;
         }
     }

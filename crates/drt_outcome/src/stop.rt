@@ -6,7 +6,7 @@ use crate::fault::{Fault, fault_status};
 use crate::outcome::{OUT_OF_MEMORY, Outcome, READ_FAILED, Trail, WORDS_REFUSED, WRITE_FAILED};
 
 /// Why a run stops before its answer is written.
-#[derive(Debug, Clone, Copy, PartialEq, Eq)]
+#[derive(Debug, Drop)]
 pub enum Stop {
     /// The words are refused.
     Words,
@@ -30,7 +30,7 @@ pub fn outcome_of(stop: Stop) -> Outcome
         Stop::Write => without_fault(WRITE_FAILED),
         Stop::Memory => without_fault(OUT_OF_MEMORY),
         Stop::Refused(fault) => Outcome {
-            status: fault_status(fault),
+            status: fault_status(&fault),
             trail: Trail::Nothing,
             fault,
         },
