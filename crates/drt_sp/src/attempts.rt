@@ -8,12 +8,9 @@ ghost use Rattle.drt_steps.specs.Time.{AreChosen};
 use crate::proving::{Refined, VertexProof, refine_vertex};
 use drt_graph::Graph;
 use drt_model::Memory;
-use drt_pool::Gate;
 use drt_refine::Frontier;
 use drt_tree::Forest;
 use std::alloc::Global;
-use std::sync::Wait;
-use std::thread::Threads;
 
 // How many times fewer steps the attempts have behind one that spent its steps.
 const FEWER: u64 = 4;
@@ -38,8 +35,7 @@ pub(crate) struct Attempts {
 /// Refines the vertices of a task, by its graph, in file order from this one on, with so few steps each, and with fewer behind one that
 /// spent them: what becomes of those before it is given. The first one that fails is the last. From the first one on whose steps are spent, which may yet fail, there are at most
 /// `most`: those behind it may be attempted in vain.
-pub(crate) fn attempt_vertices<G: Gate, R: Threads + Wait + Sync>(
-    rt: &R,
+pub(crate) fn attempt_vertices(
     alloc: Global,
     forest: &Forest,
     roots: &[u32],
@@ -48,7 +44,6 @@ pub(crate) fn attempt_vertices<G: Gate, R: Threads + Wait + Sync>(
     given: Vec<Option<VertexProof>>,
     most: usize,
     few: u64,
-    gate: &G,
 ) -> Result<Attempts, Memory>
     requires few { length roots.now ≤ 31 }
     requires roots { (v : ℕ) → v < vertex_count graph.now → AreChosen (deadline graph.now v) forest.now.pool roots.now }
@@ -68,7 +63,7 @@ pub(crate) fn attempt_vertices<G: Gate, R: Threads + Wait + Sync>(
         let subject = graph.vertex(vertex);
         let (wcet, deadline) = (subject.wcet, subject.deadline);
         let steps = steps_of(few, spent.as_slice());
-        match refine_vertex(rt, alloc, forest, roots, wcet, deadline, 1, steps, gate)? {
+        match refine_vertex(alloc, forest, roots, wcet, deadline, steps)? {
             Refined::Passes(items) => proofs.push(Some(VertexProof::Passes(items)))?,
             Refined::Fails(tuple) => {
                 proofs.push(Some(VertexProof::Fails(tuple)))?;

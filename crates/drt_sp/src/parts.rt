@@ -97,9 +97,7 @@ pub(crate) fn prove_by_parts<G: Gate, R: Threads + Wait + Sync>(
     every_forest();
     let Ahead { found, hard } = ahead;
     let most = hard.saturating_add(TOGETHER);
-    let attempts = attempt_vertices(
-        rt, alloc, forest, roots, graph, from, found, most, few, gate,
-    )?;
+    let attempts = attempt_vertices(alloc, forest, roots, graph, from, found, most, few)?;
     let Attempts {
         mut proofs,
         mut spent,

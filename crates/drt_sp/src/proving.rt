@@ -2,6 +2,7 @@
 ghost use Rattle.std.specs.Prelude.{◌≡◌, ◌≤◌, ◌<◌, ◌∷◌, [], All, IfOk, IsTrue, Some, length, slice_get};
 ghost use Rattle.drt_evidence.specs.Ranges.{IsCounted, IsInRangeItem};
 ghost use Rattle.drt_refine.specs.Combination.{Combination};
+ghost use Rattle.drt_refine.specs.Drive.{StopsAt};
 ghost use Rattle.drt_refine.specs.Eager.{IsEager};
 ghost use Rattle.drt_refine.specs.Machine.{is_finished};
 ghost use Rattle.drt_refine.specs.Settled.{IsDone};
@@ -12,16 +13,15 @@ ghost use Rattle.drt_steps.specs.Time.{AreChosen};
 
 use drt_evidence::Item;
 use drt_model::{Memory, Row};
-use drt_pool::Gate;
 use drt_refine::{
     CombinationState, Frontier, FrontierEntry, FrontierReply, eager_settles,
     over_every_interleaving,
 };
-use drt_shared_frontier::refine;
 use drt_tree::Forest;
 use std::alloc::Global;
-use std::sync::Wait;
-use std::thread::Threads;
+
+// The number of the one worker that drives a frontier.
+const WORKER: u32 = 0;
 
 /// What becomes of a vertex: it passes, by the items of its proof; it fails at a tuple of leaves, one for each root; or the
 /// budget was spent after the steps of this log.
@@ -41,30 +41,23 @@ pub(crate) enum Refined {
 }
 
 /// Looks for a time that passes for a vertex of this wcet and deadline (in ticks), for each tuple of leaves below the roots,
-/// which are those of the trees of the tasks of higher priority. The budget is how many steps the one frontier may make. Where the
-/// gate's `alone` is 0 several workers share it.
-pub(crate) fn prove_vertex<G: Gate, R: Threads + Wait + Sync>(
-    rt: &R,
+/// which are those of the trees of the tasks of higher priority. The budget is how many steps the one frontier may make.
+pub(crate) fn prove_vertex(
     alloc: Global,
     forest: &Forest,
     roots: &[u32],
     wcet: u32,
     deadline: u32,
-    workers: u32,
     budget: u64,
-    gate: &G,
 ) -> Result<VertexProof, Memory>
     requires few { length roots.now ≤ 31 }
     requires roots { AreChosen deadline forest.now.pool roots.now }
     requires wcet { (1 ≤ wcet) × (wcet ≤ 1000000) }
     requires deadline { (1 ≤ deadline) × (deadline ≤ 1000000) }
-    requires workers { (1 ≤ workers) × (workers ≤ 16) }
     requires budget { (1 ≤ budget) × (budget ≤ 1000000) }
     ensures { IfOk result (IsVertexProof forest.now wcet deadline roots.now budget) }
 {
-    let refined = refine_vertex(
-        rt, alloc, forest, roots, wcet, deadline, workers, budget, gate,
-    )?;
+    let refined = refine_vertex(alloc, forest, roots, wcet, deadline, budget)?;
     match refined {
         Refined::Passes(items) => Ok(VertexProof::Passes(items)),
         Refined::Fails(tuple) => Ok(VertexProof::Fails(tuple)),
@@ -72,31 +65,49 @@ pub(crate) fn prove_vertex<G: Gate, R: Threads + Wait + Sync>(
     }
 }
 
-/// Works one frontier of a vertex until it is finished, a combination has failed or the budget of steps is spent.
-pub(crate) fn refine_vertex<G: Gate, R: Threads + Wait + Sync>(
-    rt: &R,
+// Drives a frontier from its start to its end. Its steps are shorter than handing on a lock, so one worker makes them.
+fn drive_frontier(
     alloc: Global,
     forest: &Forest,
     roots: &[u32],
     wcet: u32,
     deadline: u32,
-    workers: u32,
     budget: u64,
-    gate: &G,
+) -> Result<(Frontier, FrontierReply), Memory>
+    requires few { length roots.now ≤ 31 }
+    requires roots { AreChosen deadline forest.now.pool roots.now }
+    requires wcet { (1 ≤ wcet) × (wcet ≤ 1000000) }
+    requires deadline { (1 ≤ deadline) × (deadline ≤ 1000000) }
+    requires budget { (1 ≤ budget) × (budget ≤ 1000000) }
+    ensures setting { IfOk result (λ r. setting_of forest.now r.0 ≡ record { forest = forest.now; roots = roots.now; wcet = wcet; deadline = deadline; budget = budget }) }
+    ensures frontier { IfOk result (λ r. IsFrontier forest.now r.0) }
+    ensures eager { IfOk result (λ r. IsEager (setting_of forest.now r.0) r.0.log) }
+    ensures stops { IfOk result (λ r. StopsAt (setting_of forest.now r.0) (state_of r.0) r.1) }
+{
+    let mut frontier = Frontier::start(alloc, forest, roots, wcet, deadline, budget)?;
+    let reply = frontier.drive(forest, WORKER);
+    Ok((frontier, reply))
+}
+
+/// Works one frontier of a vertex until it is finished, a combination has failed or the budget of steps is spent.
+pub(crate) fn refine_vertex(
+    alloc: Global,
+    forest: &Forest,
+    roots: &[u32],
+    wcet: u32,
+    deadline: u32,
+    budget: u64,
 ) -> Result<Refined, Memory>
     requires few { length roots.now ≤ 31 }
     requires roots { AreChosen deadline forest.now.pool roots.now }
     requires wcet { (1 ≤ wcet) × (wcet ≤ 1000000) }
     requires deadline { (1 ≤ deadline) × (deadline ≤ 1000000) }
-    requires workers { (1 ≤ workers) × (workers ≤ 16) }
     requires budget { (1 ≤ budget) × (budget ≤ 1000000) }
     ensures { IfOk result (IsRefined forest.now wcet deadline roots.now budget) }
 {
     over_every_interleaving();
     eager_settles();
-    let (frontier, reply) = refine(
-        rt, alloc, forest, roots, wcet, deadline, budget, workers, gate,
-    )?;
+    let (frontier, reply) = drive_frontier(alloc, forest, roots, wcet, deadline, budget)?;
     match reply {
         FrontierReply::Finished => Ok(Refined::Passes(items_of(alloc, forest, &frontier)?)),
         FrontierReply::Failed(id) => Ok(Refined::Fails(tuple_of(alloc, &frontier, id)?)),

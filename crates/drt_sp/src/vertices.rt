@@ -67,16 +67,13 @@ pub fn prove_vertices<G: Gate, R: Threads + Wait + Sync>(
         }
         let subject = graph.vertex(vertex);
         match take_or_prove(
-            rt,
             alloc,
             forest,
             roots,
             take_at(vertex, &mut ahead.found),
             subject.wcet,
             subject.deadline,
-            workers,
             budget,
-            gate,
         )? {
             VertexProof::Passes(items) => proofs.push(ProofClaim {
                 task,
@@ -120,31 +117,25 @@ fn prove_ahead<G: Gate, R: Threads + Wait + Sync>(
 }
 
 // What becomes of a vertex: what was found ahead, or else what one frontier gives.
-fn take_or_prove<G: Gate, R: Threads + Wait + Sync>(
-    rt: &R,
+fn take_or_prove(
     alloc: Global,
     forest: &Forest,
     roots: &[u32],
     found: Option<VertexProof>,
     wcet: u32,
     deadline: u32,
-    workers: u32,
     budget: u64,
-    gate: &G,
 ) -> Result<VertexProof, Memory>
     requires few { length roots.now ≤ 31 }
     requires roots { AreChosen deadline forest.now.pool roots.now }
     requires found { IfSome found (IsVertexProof forest.now wcet deadline roots.now budget) }
     requires wcet { (1 ≤ wcet) × (wcet ≤ 1000000) }
     requires deadline { (1 ≤ deadline) × (deadline ≤ 1000000) }
-    requires workers { (1 ≤ workers) × (workers ≤ 16) }
     requires budget { (1 ≤ budget) × (budget ≤ 1000000) }
     ensures { IfOk result (IsVertexProof forest.now wcet deadline roots.now budget) }
 {
     match found {
         Some(proof) => Ok(proof),
-        None => prove_vertex(
-            rt, alloc, forest, roots, wcet, deadline, workers, budget, gate,
-        ),
+        None => prove_vertex(alloc, forest, roots, wcet, deadline, budget),
     }
 }
