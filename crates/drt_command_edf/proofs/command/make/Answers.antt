@@ -1,0 +1,6 @@
+-- What is made has its verdict.
+use Rattle.drt_command_edf.proofs.EdfVerdict.{with_verdict}
+use Rattle.drt_command_edf.proofs.command.make.Goals as goal
+
+pub returns-clause-makes : goal.returns-clause-makes
+returns-clause-makes g c = with_verdict c.args.command.now.search.budget c.args.bytes.now c.decide.result c.decide.ensures.decides
