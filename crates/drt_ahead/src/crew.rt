@@ -5,6 +5,7 @@ use std::thread::{Threads, available_parallelism};
 
 /// Who works: so many workers at most, whose jobs the gate sees before they begin, each by the number of its worker, from 0, and by its
 /// own, from 0.
+#[derive(Drop)]
 pub struct Crew<'a, G, R> {
     pub rt: &'a R,
     pub alloc: Global,

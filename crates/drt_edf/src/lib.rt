@@ -13,6 +13,7 @@ mod answer;
 mod below;
 mod claims;
 mod laws;
+mod reckoning;
 mod refusal;
 mod searching;
 mod turns;

@@ -54,12 +54,7 @@ fn steps_of(steps: &[u64], task: u32) -> u64 {
 }
 
 // The steps that the search of each task is reckoned to take.
-fn reckon_all(
-    alloc: Global,
-    graphs: &Graphs,
-    bound: u64,
-    budget: u64,
-) -> Result<Vec<u64>, Memory>
+fn reckon_all(alloc: Global, graphs: &Graphs, bound: u64, budget: u64) -> Result<Vec<u64>, Memory>
     requires { bound ≤ 1099511627776 }
 {
     let mut steps = Vec::new(alloc);
