@@ -1,5 +1,5 @@
 -- The searches of the tasks' walks.
-use Rattle.std.specs.Prelude.{◌≡◌, ℕ, List, All, Some, slice_get}
+use Rattle.std.specs.Prelude.{◌≡◌, ℕ, List, All, IfSome, Option, Some, slice_get}
 use Rattle.drt_model.specs.Digraph.{Digraph}
 use Rattle.drt_table.specs.declared.step.Entry.{Entry}
 use Rattle.drt_edf.specs.declared.searching.Searched.{Searched}
@@ -17,6 +17,10 @@ IsSpentSearch graphs bound budget task log = (graph : Digraph) × (slice_get gra
 -- This is how the search of the graph of number `task` ends.
 abbrev pub IsEndOf : List Digraph → ℕ → ℕ → ℕ → Ended → Type 0
 IsEndOf graphs bound budget task end = IsEnded (graph_of graphs task) bound budget end
+
+-- This is how it ends, if anything is found of it.
+abbrev pub AreEndsOf : List Digraph → ℕ → ℕ → ℕ → Option Ended → Type 0
+AreEndsOf graphs bound budget task end = IfSome end (IsEndOf graphs bound budget task)
 
 -- How the searches ended: with a front for each graph, or in the first that spent its budget.
 abbrev pub AreSearches : List Digraph → ℕ → ℕ → Searched → Type 0

@@ -1,7 +1,7 @@
 //! The searches of the tasks' walks.
-ghost use Rattle.std.specs.Prelude.{◌≡◌, ◌<◌, ◌≤◌, IfOk, IfSome, length};
+ghost use Rattle.std.specs.Prelude.{◌<◌, ◌≤◌, IfOk, length};
 ghost use Rattle.drt_ahead.specs.Found.{AreThere};
-ghost use Rattle.drt_edf.specs.Searches.{AreSearches, IsEndOf};
+ghost use Rattle.drt_edf.specs.Searches.{AreEndsOf, AreSearches, IsEndOf};
 
 use crate::reckoning::begin_order;
 use drt_ahead::{Crew, look_ahead, take_found};
@@ -49,16 +49,43 @@ pub(crate) fn searches<G: Gate, R: Threads + Wait + Sync>(
     let mut found = search_ahead(&crew, graphs, bound, budget)?;
     let mut fronts = Vec::new(alloc);
     'tasks: for task in 0..graphs.count() {
-        let ended = match take_found(&mut found, task) {
-            Some(Some(ended)) => ended,
-            _ => search_task(rt, alloc, graphs.graph(task), bound, workers, budget, gate)?,
-        };
-        match ended {
+        match end_of(&crew, graphs, bound, budget, task, &mut found)? {
             Ended::Front(front) => fronts.push(front)?,
             Ended::Full(log) => return Ok(Searched::Spent { task, log }),
         }
     }
     Ok(Searched::Finished(Row::from_vec(fronts)))
+}
+
+// How the search of a task ends: as workers found ahead, or else it is searched now.
+fn end_of<G: Gate, R: Threads + Wait + Sync>(
+    crew: &Crew<'_, G, R>,
+    graphs: &Graphs,
+    bound: u64,
+    budget: u64,
+    task: u32,
+    found: &mut Vec<Option<Option<Ended>>>,
+) -> Result<Ended, Memory>
+    requires task { task < length graphs.now }
+    requires bound { bound ≤ 1099511627776 }
+    requires workers { (1 ≤ crew.now.workers) × (crew.now.workers ≤ 16) }
+    requires some { 1 ≤ budget }
+    requires few { budget ≤ 1000000 }
+    requires found { AreThere (AreEndsOf graphs.now bound budget) found.old.items }
+    ensures end { IfOk result (IsEndOf graphs.now bound budget task) }
+    ensures found { AreThere (AreEndsOf graphs.now bound budget) found.new.items }
+{
+    if let Some(Some(end)) = take_found(found, task) {
+        return Ok(end);
+    }
+    let Crew {
+        rt,
+        alloc,
+        workers,
+        gate,
+    } = *crew;
+    let graph = graphs.graph(task);
+    search_task(rt, alloc, graph, bound, workers, budget, gate)
 }
 
 // What workers find of the searches ahead: each does whole searches of tasks that have no wave table, alone, until one spent its budget.
@@ -71,7 +98,7 @@ fn search_ahead<G: Gate, R: Threads + Wait + Sync>(
     requires bound { bound ≤ 1099511627776 }
     requires some { 1 ≤ budget }
     requires few { budget ≤ 1000000 }
-    ensures { IfOk result (λ found. AreThere (λ task end. IfSome end (IsEndOf graphs.now bound budget task)) found.items) }
+    ensures { IfOk result (λ found. AreThere (AreEndsOf graphs.now bound budget) found.items) }
 {
     if crew.workers < 2 {
         return Ok(Vec::new(crew.alloc));
@@ -80,7 +107,7 @@ fn search_ahead<G: Gate, R: Threads + Wait + Sync>(
     let Crew { rt, alloc, .. } = *crew;
     let search = |task: u32| -> Result<Option<Ended>, Memory>
         requires { (task < length graphs.now) × (bound ≤ 1099511627776) × (1 ≤ budget) × (budget ≤ 1000000) }
-        ensures { IfOk result (λ end. IfSome end (IsEndOf graphs.entry.now bound budget task)) }
+        ensures { IfOk result (AreEndsOf graphs.entry.now bound budget task) }
     { search_alone(rt, alloc, graphs, task, bound, budget) };
     look_ahead(crew, order.as_slice(), search, is_spent)
 }
@@ -98,7 +125,7 @@ fn search_alone<R: Threads + Wait + Sync>(
     requires bound { bound ≤ 1099511627776 }
     requires some { 1 ≤ budget }
     requires few { budget ≤ 1000000 }
-    ensures { IfOk result (λ end. IfSome end (IsEndOf graphs.now bound budget task)) }
+    ensures { IfOk result (AreEndsOf graphs.now bound budget task) }
 {
     let graph = graphs.graph(task);
     if has_wave_table(graph, bound, budget) {
