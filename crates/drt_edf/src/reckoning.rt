@@ -7,42 +7,55 @@ use drt_graph::{Graph, Graphs};
 use drt_model::Memory;
 use std::alloc::Global;
 
-// What another worker has to have to do, in steps: to begin a thread costs about as much.
+// What another worker must have to do, in steps: to begin a thread costs about as much.
 const THREAD_STEPS: u64 = 20_000;
 
-/// The tasks in the order in which workers that look ahead begin them: the longest first, by a reckoning. None where all beside the longest
-/// are too short for another worker.
-pub(crate) fn begin_order(
+// The most workers that there are.
+const MOST: u64 = 16;
+
+/// The steps that the search of each task is reckoned to take.
+pub(crate) fn reckon_all(
     alloc: Global,
     graphs: &Graphs,
     bound: u64,
     budget: u64,
-) -> Result<Vec<u32>, Memory>
+) -> Result<Vec<u64>, Memory>
     requires { bound ≤ 1099511627776 }
+{
+    let mut steps = Vec::new(alloc);
+    'tasks: for task in 0..graphs.count() {
+        steps.push(reckon(graphs.graph(task), bound, budget))?;
+    }
+    Ok(steps)
+}
+
+/// How many of these workers have enough to do: one search each at least, and beside the longest as many steps as a thread's start is worth.
+pub(crate) fn busy_workers(steps: &[u64], workers: u32) -> u32 {
+    let mut searches = 0u32;
+    let mut sum = 0u64;
+    let mut most = 0;
+    for few in steps {
+        if *few > 0 {
+            searches = searches.saturating_add(1);
+        }
+        sum = sum.saturating_add(*few);
+        most = most.max(*few);
+    }
+    let others = (sum - most) / THREAD_STEPS;
+    workers.min(searches).min(1 + others.min(MOST) as u32)
+}
+
+/// All tasks in the order in which their searches are begun: the longest first.
+pub(crate) fn begin_order(alloc: Global, graphs: &Graphs, steps: &[u64]) -> Result<Vec<u32>, Memory>
     ensures few { IfOk result (λ order. length order.items ≤ length graphs.now) }
     ensures places { IfOk result (λ order. All (λ i. i < length order.items) order.items) }
 {
-    let steps = reckon_all(alloc, graphs, bound, budget)?;
-    if !is_worth_it(steps.as_slice()) {
-        return Ok(Vec::new(alloc));
-    }
     let mut order = Vec::new(alloc);
     'tasks: for task in 0..graphs.count() {
         order.push(task)?;
     }
-    order.sort_by_key(|task: &u32| u64::MAX - steps_of(&steps, *task))?;
+    order.sort_by_key(|task: &u32| u64::MAX - steps_of(steps, *task))?;
     Ok(order)
-}
-
-// Whether the tasks beside the longest have enough to do for another worker.
-fn is_worth_it(steps: &[u64]) -> bool {
-    let mut sum = 0u64;
-    let mut most = 0;
-    for few in steps {
-        sum = sum.saturating_add(*few);
-        most = most.max(*few);
-    }
-    sum - most >= THREAD_STEPS
 }
 
 // The steps that were reckoned for a task, and 0 past the last one.
@@ -51,17 +64,6 @@ fn steps_of(steps: &[u64], task: u32) -> u64 {
         Some(few) => *few,
         None => 0,
     }
-}
-
-// The steps that the search of each task is reckoned to take.
-fn reckon_all(alloc: Global, graphs: &Graphs, bound: u64, budget: u64) -> Result<Vec<u64>, Memory>
-    requires { bound ≤ 1099511627776 }
-{
-    let mut steps = Vec::new(alloc);
-    'tasks: for task in 0..graphs.count() {
-        steps.push(reckon(graphs.graph(task), bound, budget))?;
-    }
-    Ok(steps)
 }
 
 // The steps that the search of a task is reckoned to take: each vertex comes as often as the bound has room for the least separation, and
@@ -80,7 +82,9 @@ fn reckon(graph: &Graph, bound: u64, budget: u64) -> u64
     }
     let times = bound / u64::from(least.max(1)) + 1;
     let labels = times.saturating_mul(u64::from(graph.vertex_count()));
-    labels.saturating_mul(u64::from(most_out) + 2).min(budget)
+    labels
+        .saturating_mul(u64::from(most_out).saturating_add(2))
+        .min(budget)
 }
 
 // The least separation of the edges out of a vertex, and the greatest number where there is none.

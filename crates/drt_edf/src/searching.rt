@@ -3,7 +3,7 @@ ghost use Rattle.std.specs.Prelude.{◌<◌, ◌≤◌, IfOk, length};
 ghost use Rattle.drt_ahead.specs.Found.{AreThere};
 ghost use Rattle.drt_edf.specs.Searches.{AreEndsOf, AreSearches, IsEndOf};
 
-use crate::reckoning::begin_order;
+use crate::reckoning::{begin_order, busy_workers, reckon_all};
 use drt_ahead::{Crew, look_ahead, take_found};
 use drt_fronts::{Ended, has_wave_table, search_task};
 use drt_graph::Graphs;
@@ -24,7 +24,7 @@ pub(crate) enum Searched {
 }
 
 /// The searches of the walks of all tasks up to the bound, in ticks, each with this budget of steps. Each gives its front. Workers look
-/// ahead for the tasks that have no wave table, where that is worth it; the other searches are done in order of tasks.
+/// ahead for the tasks that have no wave table, where several have enough to do; the other searches are done in order of tasks.
 pub(crate) fn searches<G: Gate, R: Threads + Wait + Sync>(
     rt: &R,
     alloc: Global,
@@ -100,16 +100,29 @@ fn search_ahead<G: Gate, R: Threads + Wait + Sync>(
     requires few { budget ≤ 1000000 }
     ensures { IfOk result (λ found. AreThere (AreEndsOf graphs.now bound budget) found.items) }
 {
-    if crew.workers < 2 {
-        return Ok(Vec::new(crew.alloc));
+    let Crew {
+        rt,
+        alloc,
+        workers,
+        gate,
+    } = *crew;
+    let steps = reckon_all(alloc, graphs, bound, budget)?;
+    let workers = busy_workers(steps.as_slice(), workers);
+    if workers < 2 {
+        return Ok(Vec::new(alloc));
     }
-    let order = begin_order(crew.alloc, graphs, bound, budget)?;
-    let Crew { rt, alloc, .. } = *crew;
+    let order = begin_order(alloc, graphs, steps.as_slice())?;
+    let busy = Crew {
+        rt,
+        alloc,
+        workers,
+        gate,
+    };
     let search = |task: u32| -> Result<Option<Ended>, Memory>
         requires { (task < length graphs.now) × (bound ≤ 1099511627776) × (1 ≤ budget) × (budget ≤ 1000000) }
         ensures { IfOk result (AreEndsOf graphs.entry.now bound budget task) }
     { search_alone(rt, alloc, graphs, task, bound, budget) };
-    look_ahead(crew, order.as_slice(), search, is_spent)
+    look_ahead(&busy, order.as_slice(), search, is_spent)
 }
 
 // The search of a task by one worker. None where the task has a wave table, which all workers share.
