@@ -1,5 +1,5 @@
 -- The sorted list has the same tasks.
-use Rattle.std.proofs.Common.{◌≡◌, ◌<◌, ◌∙◌, List, ℕ, All, arith, length, subst, sym}
+use Rattle.std.proofs.Common.{◌≡◌, ◌<◌, List, ℕ, All, arith, length, subst}
 use Rattle.std.proofs.lemmas.List.Sorted.{All-permutation, length_permutation}
 use Rattle.drt_edf.proofs.reckoning.begin_order.Goals as goal
 
