@@ -1,16 +1,26 @@
 -- The searches of the tasks' walks.
-use Rattle.std.specs.Prelude.{◌≡◌, ℕ, List, All, Some, slice_get}
+use Rattle.std.specs.Prelude.{◌≡◌, ℕ, List, All, IfSome, Option, Some, slice_get}
 use Rattle.drt_model.specs.Digraph.{Digraph}
 use Rattle.drt_table.specs.declared.step.Entry.{Entry}
 use Rattle.drt_edf.specs.declared.searching.Searched.{Searched}
 use Rattle.drt_edf.specs.declared.searching.Searched.TheVariants.{Finished, Spent}
 use Rattle.drt_evidence.specs.Ranges.{IsCounted}
-use Rattle.drt_fronts.specs.Ends.{IsFull}
+use Rattle.drt_graph.specs.Graphs.{graph_of}
+use Rattle.drt_fronts.specs.Ends.{IsEnded, IsFull}
+use Rattle.drt_fronts.specs.declared.search.Ended.{Ended}
 use Rattle.drt_fronts.specs.LabelFronts.{AreLabelFronts}
 
 -- The search of the graph of number `task` spent the budget, by the steps of the log.
 abbrev pub IsSpentSearch : List Digraph → ℕ → ℕ → ℕ → List Entry → Type 0
 IsSpentSearch graphs bound budget task log = (graph : Digraph) × (slice_get graphs task ≡ Some graph) × IsFull graph bound budget log
+
+-- This is how the search of the graph of number `task` ends.
+abbrev pub IsEndOf : List Digraph → ℕ → ℕ → ℕ → Ended → Type 0
+IsEndOf graphs bound budget task end = IsEnded (graph_of graphs task) bound budget end
+
+-- This is how it ends, if anything is found of it.
+abbrev pub AreEndsOf : List Digraph → ℕ → ℕ → ℕ → Option Ended → Type 0
+AreEndsOf graphs bound budget task end = IfSome end (IsEndOf graphs bound budget task)
 
 -- How the searches ended: with a front for each graph, or in the first that spent its budget.
 abbrev pub AreSearches : List Digraph → ℕ → ℕ → Searched → Type 0

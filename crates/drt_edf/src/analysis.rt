@@ -17,9 +17,10 @@ use std::alloc::Global;
 use std::sync::Wait;
 use std::thread::Threads;
 
-/// Decides whether a set with constrained deadlines is schedulable under EDF. So many workers fill the wave table of a task together; a
-/// task that has none is searched by one of them, or by all where the gate's `alone` is 0. The gate sees each turn of workers that share a
-/// table. Each search ends after `budget` steps at the latest.
+/// Decides whether a set with constrained deadlines is schedulable under EDF. So many workers fill the wave table of a task together. Tasks
+/// that have none are searched side by side, each by one worker, the longest first, where a reckoning finds several long ones; a single one is
+/// searched by one worker, or by all where the gate's `alone` is 0. The gate sees each turn of workers that share a table, and each search that
+/// a worker begins ahead. Each search ends after `budget` steps at the latest.
 ///
 /// First come the ratios of all tasks, then the plan. A utilisation of one is told apart, with the ratios as evidence. Above one
 /// the whole turns of the cycles are searched for a step time with more work than time. Below one each task's walks are searched

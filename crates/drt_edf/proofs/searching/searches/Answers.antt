@@ -4,30 +4,26 @@ use Rattle.std.proofs.lemmas.List.Elements.{All-push}
 use Rattle.std.proofs.lemmas.Option.{slice_get-get_or}
 use Rattle.drt_graph.specs.Graphs.{no_graph, graph_of}
 use Rattle.drt_evidence.specs.Ranges.{IsCounted}
-use Rattle.drt_fronts.specs.LabelFronts.{IsLabelFront, AreLabelFronts}
-use Rattle.drt_fronts.specs.Ends.{IsEnded, IsFull}
+use Rattle.drt_fronts.specs.LabelFronts.{AreLabelFronts}
+use Rattle.drt_edf.specs.Searches.{IsEndOf}
 use Rattle.drt_edf.proofs.Gathered.{fronts_push}
 use Rattle.drt_edf.proofs.searching.searches.Goals as goal
 
 pub returns-in-Full : goal.returns-in-Full
 returns-in-Full g c =
     let l : c.tasks.task < length c.args.graphs.now = omega (arith, c.tasks-test.true, c.count-task-end.ensures.count) in
-    let full = subst (IsEnded c.graph-graph.result.now c.args.bound c.args.budget) c.in-Full.is c.in_ok-front.ensures in (
-      graph_of c.args.graphs.now c.tasks.task,
-      slice_get-get_or c.args.graphs.now c.tasks.task no_graph l,
-      subst (λ g. IsFull g c.args.bound c.args.budget c.in-Full.log) c.graph-graph.ensures.graph full,
-    )
+    let full = subst (IsEndOf c.args.graphs.now c.args.bound c.args.budget c.tasks.task) c.in-Full.is c.in_ok-front.ensures.end in
+    (graph_of c.args.graphs.now c.tasks.task, slice_get-get_or c.args.graphs.now c.tasks.task no_graph l, full)
 
 pub tasks-preserved : goal.tasks-preserved
 tasks-preserved g c =
     let l : c.tasks.task < length c.args.graphs.now = omega (arith, c.tasks-test.true, c.count-task-end.ensures.count) in
     let f = take_more c.args.graphs.now c.tasks.task no_graph l in
-    let ended = subst (IsEnded c.graph-graph.result.now c.args.bound c.args.budget) c.in-Front.is c.in_ok-front.ensures in
-    let is : IsLabelFront (graph_of c.args.graphs.now c.tasks.task) c.args.bound c.in-Front.front =
-    subst (λ g. IsLabelFront g c.args.bound c.in-Front.front) c.graph-graph.ensures.graph ended.0 in
+    let ended = subst (IsEndOf c.args.graphs.now c.args.bound c.args.budget c.tasks.task) c.in-Front.is c.in_ok-front.ensures.end in
     record {
-      fronts = rw (f, c.in_ok-push-in-Front.ensures.items) (fronts_push _ _ _ _ _ c.tasks.invariant.fronts is);
+      fronts = rw (f, c.in_ok-push-in-Front.ensures.items) (fronts_push _ _ _ _ _ c.tasks.invariant.fronts ended.0);
       counted = rw c.in_ok-push-in-Front.ensures.items (All-push IsCounted _ _ c.tasks.invariant.counted ended.1);
+      found = c.in_ok-front.ensures.found;
     }
 
 pub returns : goal.returns
