@@ -26,7 +26,7 @@ use Rattle.drt_sp.proofs.Rising.{all_contains, contains_cases, contains_first, c
 in_range : (n k : ℕ) → k < n → Contains (range_with_len 0 n) k
 in_range n k l = (k, omega (arith, length-range_with_len 0 n), omega (arith, get_or-range_with_len 0 n k k l))
 
-all_range : (n : ℕ) → All (λ k. k < n) (range_with_len 0 n)
+pub all_range : (n : ℕ) → All (λ k. k < n) (range_with_len 0 n)
 all_range n = All-from_get_or (λ k. k < n) (range_with_len 0 n) 0 (λ i l. (let m : i < n = omega (arith, length-range_with_len 0 n) in omega (arith, get_or-range_with_len 0 n i 0 m)))
 
 module _ (tasks : List Task) (order : List ℕ) (is : IsOrder tasks order) where

@@ -1,6 +1,7 @@
 -- How a search of a graph's walks ends, and the leaves that it gives.
 use Rattle.std.proofs.Common.{◌≡◌, ℕ, suc, ◌+◌, ◌≤◌, inl, inr, true, false, Option, None, Some, List, [], ◌∷◌, ◌++◌, All, length, refl, sym, ap, ◌∙◌, subst, arith}
 use Rattle.std.specs.Prelude.{is_none, is_some, option_map, slice_get}
+use Rattle.std.specs.declared.alloc.Global.{Global}
 use Rattle.std.specs.declared.sync.Arc.{Arc}
 use Rattle.std.proofs.lemmas.List.{length-map}
 use Rattle.std.proofs.lemmas.Option.{slice_get-map}
@@ -19,7 +20,9 @@ use Rattle.drt_tree.specs.Tree.{HaveOneBound}
 use Rattle.drt_tree.specs.declared.leaf.Leaf.{Leaf}
 use Rattle.drt_tree.proofs.Trees.{length-leaves_of}
 use Rattle.drt_sp.specs.TaskTrees.{AreWalkLeaves, IsWalkLeaf}
+use Rattle.drt_sp.specs.Searches.{AreLeavesOf}
 use Rattle.drt_sp.specs.TreeClaims.{search_of}
+use Rattle.drt_sp.specs.declared.trees.gathering.Leaves.{Leaves}
 use Rattle.drt_sp.proofs.TreeLeaves.{AreGathered, walk_leaves}
 
 module _ (g : Digraph) (bound budget : ℕ) (v : View Request) (setting : setting_of v ≡ search_of g bound budget) (is : IsTable request_algebra v) where
@@ -54,17 +57,27 @@ pub record AreLent {Z : Type 0} (g : Digraph) (bound : ℕ) (labels : List (Arc 
   pub some : 1 ≤ length labels
   pub few : length labels ≤ 1000096
 
-pub lent_leaves : {Z : Type 0} (g : Digraph) (bound budget : ℕ) (v : View Request) → setting_of v ≡ search_of g bound budget → IsTable request_algebra v → 1 ≤ bound → budget ≤ 1000000
-    → (kept : List (Arc Request Z)) (found : List (List ℕ)) → length kept ≡ length found → length kept ≤ length v.nodes
-    → AreWalkLeaves v.bound v.graph (leaves_of kept found)
-    → (labels : List (Arc Request Z)) (walks : List (List ℕ)) → labels ≡ kept → walks ≡ found → AreLent g bound labels walks
-lent_leaves g bound budget v setting is from to kept found same few are labels walks p q =
-    let sound = search_sound g bound budget v setting is in
-    let leaves : AreWalkLeaves bound g (leaves_of kept found) = search_leaves g bound budget v setting is (leaves_of kept found) are in
-    let n : length (leaves_of kept found) ≡ length kept = length-leaves_of kept found same in
-    let some = some_leaves g bound (leaves_of kept found) sound from leaves in
+-- The leaves that a finished search of the graph gives are those of its tree.
+pub searched_leaves : (g : Digraph) (bound budget : ℕ) (v : View Request) → setting_of v ≡ search_of g bound budget → IsTable request_algebra v → budget ≤ 1000000
+    → (leaves : Leaves) → length leaves.labels.items ≡ length leaves.walks.items → length leaves.labels.items ≤ length v.nodes
+    → AreWalkLeaves v.bound v.graph (leaves_of leaves.labels.items leaves.walks.items) → AreLeavesOf g bound leaves
+searched_leaves g bound budget v setting is to leaves same few are =
     let most = search_few g bound budget v setting is to in
-    rw (p, q) (record { sound = sound; leaves = leaves; counted = n; some = omega (arith, n, some); few = omega (arith, few, most) })
+    record {
+      sound = search_sound g bound budget v setting is;
+      same = same;
+      few = omega (arith, few, most);
+      leaves_are = search_leaves g bound budget v setting is (leaves_of leaves.labels.items leaves.walks.items) are;
+    }
+
+pub lent_leaves : (g : Digraph) (bound : ℕ) (leaves : Leaves) → AreLeavesOf g bound leaves → 1 ≤ bound
+    → (labels : List (Arc Request Global)) (walks : List (List ℕ)) → labels ≡ leaves.labels.items → walks ≡ leaves.walks.items → AreLent g bound labels walks
+lent_leaves g bound leaves are from labels walks p q =
+    let kept = leaves.labels.items in
+    let found = leaves.walks.items in
+    let n : length (leaves_of kept found) ≡ length kept = length-leaves_of kept found are.same in
+    let some = some_leaves g bound (leaves_of kept found) are.sound from are.leaves_are in
+    rw (p, q) (record { sound = are.sound; leaves = are.leaves_are; counted = n; some = omega (arith, n, some); few = are.few })
 
 -- The leaves have the bound, as the functions of the forest have.
 pub one_bound : (g : Digraph) (bound : ℕ) (pool : List (List ℕ)) (ls : List Leaf) → All (λ xs. length xs ≡ bound) pool → AreWalkLeaves bound g ls → HaveOneBound pool ls

@@ -4,6 +4,7 @@ pub mod Needs
 pub mod Laws
 pub mod Items
 pub mod TaskTrees
+pub mod Searches
 pub mod Claims
 pub mod Answers
 pub mod Chosen

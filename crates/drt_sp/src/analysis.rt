@@ -6,7 +6,9 @@ ghost use Rattle.drt_sp.specs.Answers.{IsAnswer};
 ghost use Rattle.drt_sp.specs.Grown.{IsOutcome, IsTreesAnswer};
 ghost use Rattle.drt_sp.specs.Progress.{IsGiven};
 
+use crate::ahead::{EndsAhead, search_ahead};
 use crate::answer::FixedAnswer;
+use crate::deadlines::greatest_deadline;
 use crate::grown::{Outcome, ProvedTrees, TreesAnswer};
 use crate::order::priority_order;
 use crate::progress::Progress;
@@ -117,14 +119,20 @@ fn analyse<G: Gate, R: Threads + Wait + Sync>(
     let _tasks = set.tasks();
     let mut progress = Progress::start(alloc, set, order)?;
     let last = order.len() - 1;
+    let bound = greatest_deadline(set);
+    let mut ahead = EndsAhead::nothing(alloc);
     'places: for place in 0..last {
         if let Some(answer) = progress.prove_task(
             rt, alloc, set, graphs, order, place, workers, budget, gate,
         )? {
             return Ok(Outcome::Ended(answer));
         }
+        ahead = search_ahead(
+            rt, alloc, graphs, order, place, bound, workers, budget, gate, ahead,
+        )?;
+        let found = ahead.take(place);
         if let Some(answer) = progress.add_tree(
-            rt, alloc, set, graphs, order, place, workers, budget, gate,
+            rt, alloc, set, graphs, order, place, found, workers, budget, gate,
         )? {
             return Ok(Outcome::Ended(answer));
         }

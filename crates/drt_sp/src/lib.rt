@@ -9,6 +9,7 @@
 //! Its parts are there for whoever analyses one task alone: `priority_order`, `search_tree` and `prove_vertices`.
 #![tactic(auto)]
 
+mod ahead;
 mod analysis;
 mod answer;
 mod attempts;

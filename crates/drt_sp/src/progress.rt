@@ -1,15 +1,17 @@
 //! How far an analysis has come.
-ghost use Rattle.std.specs.Prelude.{◌≡◌, ℕ, ◌+◌, ◌<◌, ◌≤◌, List, length, IfOk, MatchOption};
+ghost use Rattle.std.specs.Prelude.{◌≡◌, ℕ, ◌+◌, ◌<◌, ◌≤◌, List, length, IfOk, IfSome, MatchOption};
 ghost use Rattle.std.specs.List.{flat_map};
 ghost use Rattle.drt_model.specs.Constrained.{AreConstrained};
 ghost use Rattle.drt_evidence.specs.Ranges.{IsInRange};
+ghost use Rattle.drt_evidence.specs.Trees.{greatest_deadline};
 ghost use Rattle.drt_sp.specs.Answers.{IsEnding, IsVerdict};
 ghost use Rattle.drt_sp.specs.Progress.{AreGrown, AreProved, IsComplete, IsGiven};
+ghost use Rattle.drt_sp.specs.Searches.{IsEndAt};
 
 use crate::answer::FixedAnswer;
 use crate::deadlines::greatest_deadline;
 use crate::refusal::refusal;
-use crate::trees::{TreeSearch, search_tree};
+use crate::trees::{SearchEnd, TreeSearch, plant_tree};
 use crate::vertices::{TaskProofs, prove_vertices};
 use crate::walks::VertexTuple;
 use drt_busy::{times_decide, times_suffice_for_task};
@@ -113,8 +115,8 @@ impl Progress {
         }
     }
 
-    /// Searches the walks of the task at this place of the order, which isn't the last one, and adds their tree. An answer ends the
-    /// analysis.
+    /// Searches the walks of the task at this place of the order, which isn't the last one, where the end of that search wasn't found
+    /// before, and adds their tree. An answer ends the analysis.
     pub(crate) fn add_tree<G: Gate, R: Threads + Wait + Sync>(
         &mut self,
         rt: &R,
@@ -123,6 +125,7 @@ impl Progress {
         graphs: &Graphs,
         order: &[u32],
         place: usize,
+        found: Option<SearchEnd>,
         workers: u32,
         budget: u64,
         gate: &G,
@@ -130,6 +133,7 @@ impl Progress {
         requires given { IsGiven set.now graphs.now order.now budget }
         requires workers { (1 ≤ workers) × (workers ≤ 16) }
         requires here { place + 1 < length order.now }
+        requires found { IfSome found (IsEndAt graphs.now order.now (greatest_deadline set.now.tasks) budget place) }
         requires grown { AreGrown set.now.tasks order.now place self.old.forest self.old.roots.items self.old.trees.items }
         requires proved { AreProved set.now.tasks order.now (place + 1) self.old.trees.items self.old.proofs.items }
         ensures grown { IfOk result (λ answer. MatchOption answer (AreGrown set.now.tasks order.now (place + 1) self.new.forest self.new.roots.items self.new.trees.items) (IsEnding set.now budget)) }
@@ -142,11 +146,12 @@ impl Progress {
         let task = order[place];
         let graph = graphs.graph(task);
         let bound = greatest_deadline(set);
-        match search_tree(
+        match plant_tree(
             rt,
             alloc,
             graph,
             bound,
+            found,
             workers,
             budget,
             gate,

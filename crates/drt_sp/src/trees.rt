@@ -1,12 +1,14 @@
 //! The tree of a task's walks: from its graph to the forest and to the dossier.
-ghost use Rattle.std.specs.Prelude.{◌≡◌, ◌+◌, ◌*◌, ◌≤◌, All, IfOk, length};
+ghost use Rattle.std.specs.Prelude.{◌≡◌, ◌+◌, ◌*◌, ◌≤◌, All, IfOk, IfSome, length};
 ghost use Rattle.drt_request.specs.Request.{request_algebra};
 ghost use Rattle.drt_table.specs.Drive.{StopsAt};
 ghost use Rattle.drt_table.specs.View.{setting_of};
 ghost use Rattle.drt_sp.specs.TreeClaims.{search_of};
+ghost use Rattle.drt_sp.specs.Searches.{IsSearchEnd};
 ghost use Rattle.drt_sp.specs.TaskTrees.{IsTreeSearch};
 
 use crate::trees::adding::add_tree;
+pub(crate) use crate::trees::gathering::Leaves;
 use crate::trees::gathering::gather;
 use drt_evidence::TreeClaim;
 use drt_graph::Graph;
@@ -61,6 +63,103 @@ fn search<G: Gate, R: Threads + Wait + Sync>(
     search_together(rt, alloc, graph, bound, budget, workers, gate)
 }
 
+/// How a search of a task's walks ended, before a tree is made of it.
+#[derive(Drop)]
+pub(crate) enum SearchEnd {
+    /// It is finished, and these are the leaves of the tree to be.
+    Finished(Leaves),
+    /// It spent its budget by these steps.
+    Spent(Row<Entry>),
+}
+
+/// Searches the walks of a task's graph up to the bound, in ticks, with this budget of steps, for the leaves of its tree.
+pub(crate) fn search_leaves<G: Gate, R: Threads + Wait + Sync>(
+    rt: &R,
+    alloc: Global,
+    graph: &Graph,
+    bound: u64,
+    workers: u32,
+    budget: u64,
+    gate: &G,
+) -> Result<SearchEnd, Memory>
+    requires from { 1 ≤ bound }
+    requires to { bound ≤ 1000000 }
+    requires workers { (1 ≤ workers) × (workers ≤ 16) }
+    requires some { 1 ≤ budget }
+    requires few { budget ≤ 1000000 }
+    ensures { IfOk result (IsSearchEnd graph.now bound budget) }
+{
+    let (table, _reply) = search(rt, alloc, graph, bound, workers, budget, gate)?;
+    if !table.finished() {
+        let log = Vec::from_slice(alloc, table.log())?;
+        return Ok(SearchEnd::Spent(Row::from_vec(log)));
+    }
+    let leaves = gather(alloc, table)?;
+    Ok(SearchEnd::Finished(leaves))
+}
+
+// How the search of a graph's walks ends: as it was found before, or else as it does now.
+fn take_or_search<G: Gate, R: Threads + Wait + Sync>(
+    rt: &R,
+    alloc: Global,
+    graph: &Graph,
+    bound: u64,
+    found: Option<SearchEnd>,
+    workers: u32,
+    budget: u64,
+    gate: &G,
+) -> Result<SearchEnd, Memory>
+    requires from { 1 ≤ bound }
+    requires to { bound ≤ 1000000 }
+    requires found { IfSome found (IsSearchEnd graph.now bound budget) }
+    requires workers { (1 ≤ workers) × (workers ≤ 16) }
+    requires some { 1 ≤ budget }
+    requires few { budget ≤ 1000000 }
+    ensures { IfOk result (IsSearchEnd graph.now bound budget) }
+{
+    match found {
+        Some(end) => Ok(end),
+        None => search_leaves(rt, alloc, graph, bound, workers, budget, gate),
+    }
+}
+
+/// Does what `search_tree` does. Where the end of the search was found before, it isn't searched again.
+pub(crate) fn plant_tree<G: Gate, R: Threads + Wait + Sync>(
+    rt: &R,
+    alloc: Global,
+    graph: &Graph,
+    bound: u64,
+    found: Option<SearchEnd>,
+    workers: u32,
+    budget: u64,
+    gate: &G,
+    forest: &mut Forest,
+) -> Result<TreeSearch, Memory>
+    requires from { 1 ≤ bound }
+    requires to { bound ≤ 1000000 }
+    requires found { IfSome found (IsSearchEnd graph.now bound budget) }
+    requires workers { (1 ≤ workers) × (workers ≤ 16) }
+    requires some { 1 ≤ budget }
+    requires few { budget ≤ 1000000 }
+    requires functions { All (λ xs. length xs ≡ bound) forest.old.pool }
+    requires room { length forest.old.nodes + 2 * (1000000 + 96) ≤ 4294967295 }
+    ensures { IfOk result (IsTreeSearch graph.now bound budget forest.old forest.new) }
+{
+    let end = take_or_search(rt, alloc, graph, bound, found, workers, budget, gate)?;
+    match end {
+        SearchEnd::Finished(leaves) => {
+            let tree = add_tree(
+                alloc,
+                leaves.labels.as_slice(),
+                leaves.walks.as_slice(),
+                forest,
+            )?;
+            Ok(TreeSearch::Tree(tree))
+        }
+        SearchEnd::Spent(log) => Ok(TreeSearch::Spent(log)),
+    }
+}
+
 /// Searches the walks of a task's graph up to the bound, in ticks, with this budget of steps, and puts the tree of those that no
 /// other one dominates into the forest. After want of memory the forest may have that tree or not.
 pub fn search_tree<G: Gate, R: Threads + Wait + Sync>(
@@ -82,17 +181,5 @@ pub fn search_tree<G: Gate, R: Threads + Wait + Sync>(
     requires room { length forest.old.nodes + 2 * (1000000 + 96) ≤ 4294967295 }
     ensures { IfOk result (IsTreeSearch graph.now bound budget forest.old forest.new) }
 {
-    let (table, _reply) = search(rt, alloc, graph, bound, workers, budget, gate)?;
-    if !table.finished() {
-        let log = Vec::from_slice(alloc, table.log())?;
-        return Ok(TreeSearch::Spent(Row::from_vec(log)));
-    }
-    let leaves = gather(alloc, table)?;
-    let tree = add_tree(
-        alloc,
-        leaves.labels.as_slice(),
-        leaves.walks.as_slice(),
-        forest,
-    )?;
-    Ok(TreeSearch::Tree(tree))
+    plant_tree(rt, alloc, graph, bound, None, workers, budget, gate, forest)
 }

@@ -19,6 +19,8 @@ mod refine_tests;
 #[cfg(test)]
 mod request_tests;
 #[cfg(test)]
+mod table_tests;
+#[cfg(test)]
 mod tick_tests;
 #[cfg(test)]
 mod tree_tests;

@@ -1,6 +1,7 @@
-//! Workers that end the combinations of a task's vertices at the same time.
+//! Workers that end the combinations of a task's vertices, or search the tables of two tasks, at the same time.
 use crate::answering::{Leaving, Source, written};
 use crate::parts_tests::{ALL_PASS, SECOND_FAILS};
+use crate::table_tests::TWO_TABLES;
 use drt_meeting::Meeting;
 use std::alloc::Global;
 use std::sync::Wait;
@@ -20,11 +21,12 @@ fn is_answered_together<R: Threads + Wait + Sync>(
     rt: &R,
     alloc: Global,
     source: Source<'_>,
+    budget: u64,
     alone: u64,
 ) -> Result<bool, Fail> {
-    let one = written(rt, alloc, source, 1, 1000, &Leaving { alone })?;
+    let one = written(rt, alloc, source, 1, budget, &Leaving { alone })?;
     let gate = Meeting::behind(alone);
-    let both = written(rt, alloc, source, 2, 1000, &gate)?;
+    let both = written(rt, alloc, source, 2, budget, &gate)?;
     Ok(both.as_slice() == one.as_slice() && (gate.times_met() > 0 || !has_two_processors(rt)))
 }
 
@@ -34,8 +36,20 @@ fn is_answered_together<R: Threads + Wait + Sync>(
 fn two_workers_end_combinations_at_the_same_time(rt: HostRuntime) -> Result<(), Fail> {
     for text in [ALL_PASS, SECOND_FAILS] {
         assert!(rt;
-            is_answered_together(&rt, rt.alloc(), Source::Text(text), 4)?,
+            is_answered_together(&rt, rt.alloc(), Source::Text(text), 1000, 4)?,
             "of {text}"
+        );
+    }
+    Ok(())
+}
+
+// The second worker comes to the second task's table while the first one is at the first task's, which spends a step less than it needs.
+#[test]
+fn two_workers_search_tables_at_the_same_time(rt: HostRuntime) -> Result<(), Fail> {
+    for budget in [1_049, 1_050] {
+        assert!(rt;
+            is_answered_together(&rt, rt.alloc(), Source::Text(TWO_TABLES), budget, 4)?,
+            "of {budget} steps"
         );
     }
     Ok(())

@@ -105,7 +105,7 @@ fn is_answered_by_all<G: Gate, R: Threads + Wait + Sync>(
 }
 
 // Whether several workers answer a set as one does.
-fn is_answered_as_by_one<G: Gate, R: Threads + Wait + Sync>(
+pub(crate) fn is_answered_as_by_one<G: Gate, R: Threads + Wait + Sync>(
     rt: &R,
     alloc: Global,
     source: Source<'_>,
@@ -163,7 +163,7 @@ fn has_dossier_always<R: Threads + Wait + Sync>(
 }
 
 // Whether the budget is spent there, by each number of workers.
-fn is_spent_by_all<R: Threads + Wait + Sync>(
+pub(crate) fn is_spent_by_all<R: Threads + Wait + Sync>(
     rt: &R,
     alloc: Global,
     text: &str,

@@ -25,8 +25,8 @@ graph-graph-requires g c =
     let order : List ℕ = c.args.order.now in
     omega (arith, order_below tasks order c.requires.given.order_is c.args.place (omega (arith, c.requires.here)), ap length c.requires.given.graphs_are, length-map tasks digraph_of)
 
-pub search_tree-requires-clause-room : goal.search_tree-requires-clause-room
-search_tree-requires-clause-room g c =
+pub plant_tree-requires-clause-room : goal.plant_tree-requires-clause-room
+plant_tree-requires-clause-room g c =
     let set = c.args.set.now in
     let tasks : List Task = set.tasks in
     let order : List ℕ = c.args.order.now in
@@ -38,6 +38,9 @@ search_tree-requires-clause-room g c =
     let trees : List TreeClaim = c.args.self.now.trees.items in
     let limits : IsTaskSet set.version tasks = c.tasks-tasks.ensures.limits in
     omega (arith, c.requires.grown.few, c.requires.here, order_count tasks order is, few_tasks set.version tasks limits)
+
+pub plant_tree-requires-clause-found : goal.plant_tree-requires-clause-found
+plant_tree-requires-clause-found g c κs within = rw (c.graph-graph.ensures.graph, c.greatest_deadline-bound.ensures.value) c.requires.found
 
 pub returns-in_ok-push-in-Tree-2-clause-grown : goal.returns-in_ok-push-in-Tree-2-clause-grown
 returns-in_ok-push-in-Tree-2-clause-grown g c =
@@ -55,10 +58,10 @@ returns-in_ok-push-in-Tree-2-clause-grown g c =
     let at : slice_get order place ≡ Some k = at_place tasks order is place l in
     let below : k < length tasks = order_below tasks order is place l in
     let graph : c.graph-graph.result.now ≡ graph_at tasks k = c.graph-graph.ensures.graph ∙ (ap (λ gs. graph_of gs k) c.requires.given.graphs_are ∙ graph_same tasks k below) in
-    let t : IsTaskTree (graph_at tasks k) (greatest_deadline tasks) f c.search_tree.new.forest c.in-Tree.tree
+    let t : IsTaskTree (graph_at tasks k) (greatest_deadline tasks) f c.plant_tree.new.forest c.in-Tree.tree
     = rw (c.in-Tree.is, graph, c.greatest_deadline-bound.ensures.value) at c.in_ok-tree.ensures in
     rw (c.in_ok-push-in-Tree.ensures.items, c.in_ok-push-in-Tree-2.ensures.items)
-    (grown_more tasks order place k at f c.search_tree.new.forest roots trees c.requires.grown c.show_sound.ensures t.grows t.functions t.room
+    (grown_more tasks order place k at f c.plant_tree.new.forest roots trees c.requires.grown c.show_sound.ensures t.grows t.functions t.room
     c.in-Tree.tree.low c.in-Tree.tree.top c.in-Tree.tree.claim t.stands t.count t.claim t.rules t.range)
 
 pub returns-in_ok-push-in-Tree-2-clause-proved : goal.returns-in_ok-push-in-Tree-2-clause-proved

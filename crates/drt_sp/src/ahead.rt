@@ -1,0 +1,272 @@
+//! Searches of several tasks' walks, side by side and ahead of their turn.
+ghost use Rattle.std.specs.Prelude.{[], ◌≡◌, ℕ, ◌+◌, ◌<◌, ◌≤◌, All, IfOk, IfSome, List, length};
+ghost use Rattle.drt_model.specs.Digraph.{Digraph};
+ghost use Rattle.drt_sp.specs.Searches.{AreEndsAhead, IsEndAt};
+
+use crate::trees::{SearchEnd, search_leaves};
+use drt_ahead::{Crew, look_ahead};
+use drt_graph::{Graph, Graphs};
+use drt_model::Memory;
+use drt_pool::Gate;
+use std::alloc::Global;
+use std::sync::Wait;
+use std::thread::Threads;
+
+/// How many steps a search must be reckoned to take before it is worth a worker: to begin one costs about as much as some hundred steps.
+const WORTH: u64 = 1_000;
+
+/// As many tasks as a set may have.
+const MOST_TASKS: usize = 32;
+
+/// What was found ahead: how the searches at some places of the order end, from this place on; or nothing where that isn't known.
+#[derive(Drop)]
+pub(crate) struct EndsAhead {
+    pub(crate) from: usize,
+    pub(crate) found: Vec<Option<SearchEnd>>,
+}
+
+impl EndsAhead {
+    /// Nothing is found.
+    pub(crate) fn nothing(alloc: Global) -> EndsAhead
+        ensures { result.found.items ≡ [] }
+    {
+        EndsAhead {
+            from: 0,
+            found: Vec::new(alloc),
+        }
+    }
+
+    // Whether nothing was looked for at this place or at a later one.
+    fn ends_before(&self, place: usize) -> bool {
+        place.saturating_sub(self.from) >= self.found.len()
+    }
+
+    /// Takes what was found at a place.
+    pub(crate) fn take(&mut self, place: usize) -> Option<SearchEnd>
+        ensures taken { (gs : List Digraph) (order : List ℕ) (bound budget : ℕ) → AreEndsAhead gs order bound budget self.old → IfSome result (IsEndAt gs order bound budget place) }
+        ensures left { (gs : List Digraph) (order : List ℕ) (bound budget : ℕ) → AreEndsAhead gs order bound budget self.old → AreEndsAhead gs order bound budget self.new }
+    {
+        if place < self.from {
+            return None;
+        }
+        match self.found.get_mut(place - self.from) {
+            None => None,
+            Some(end) => end.take(),
+        }
+    }
+}
+
+/// How a search may be reckoned to go: its steps, and how much they cost, one against another.
+#[derive(Clone, Copy, Debug)]
+struct Reckoning {
+    steps: u64,
+    cost: u64,
+}
+
+/// Searches the walks of the tasks from this place of the order on ahead of their turn, each by one worker, the dearest first; but not
+/// those of the last task, which has no tree. What was found before is kept where it goes on to this place.
+///
+/// The first time there are as many searches as workers: so what is done for nothing, where the analysis ends early, is done beside a search
+/// that one worker makes too. After that there are all that are left. None are made where fewer than two of them are reckoned to be long;
+/// the caller goes on by itself then. A search that spends its budget ends the analysis, so none behind it is begun.
+///
+/// A worker's table is dropped when its search ends; its leaves are kept until their tree is made, or the steps that spent the budget. So
+/// what is in memory at once is the labels that the searches of all tasks keep, and a table for each worker.
+pub(crate) fn search_ahead<G: Gate, R: Threads + Wait + Sync>(
+    rt: &R,
+    alloc: Global,
+    graphs: &Graphs,
+    order: &[u32],
+    place: usize,
+    bound: u64,
+    workers: u32,
+    budget: u64,
+    gate: &G,
+    ahead: EndsAhead,
+) -> Result<EndsAhead, Memory>
+    requires tasks { All (λ k. k < length graphs.now) order.now }
+    requires here { place + 1 < length order.now }
+    requires bound { (1 ≤ bound) × (bound ≤ 1000000) }
+    requires budget { (1 ≤ budget) × (budget ≤ 1000000) }
+    requires ahead { AreEndsAhead graphs.now order.now bound budget ahead }
+    ensures { IfOk result (AreEndsAhead graphs.now order.now bound budget) }
+{
+    if workers < 2 || gate.alone() == 0 || !ahead.ends_before(place) {
+        return Ok(ahead);
+    }
+    let most = if ahead.found.is_empty() {
+        workers as usize
+    } else {
+        MOST_TASKS
+    };
+    let count = most.min(MOST_TASKS).min(order.len() - 1 - place);
+    let reckonings = reckon_all(alloc, graphs, order, place, count, bound, budget)?;
+    if !are_worth(reckonings.as_slice()) {
+        return Ok(ahead);
+    }
+    let begun = dearest_first(alloc, count as u32, reckonings.as_slice())?;
+    search_all(
+        rt,
+        alloc,
+        graphs,
+        order,
+        place,
+        bound,
+        begun.as_slice(),
+        workers,
+        budget,
+        gate,
+    )
+}
+
+// Searches the walks of the tasks at so many places from this one on, as workers get to them in this order.
+fn search_all<G: Gate, R: Threads + Wait + Sync>(
+    rt: &R,
+    alloc: Global,
+    graphs: &Graphs,
+    order: &[u32],
+    from: usize,
+    bound: u64,
+    begun: &[u32],
+    workers: u32,
+    budget: u64,
+    gate: &G,
+) -> Result<EndsAhead, Memory>
+    requires tasks { All (λ k. k < length graphs.now) order.now }
+    requires here { from + length begun.now ≤ length order.now }
+    requires bound { (1 ≤ bound) × (bound ≤ 1000000) }
+    requires budget { (1 ≤ budget) × (budget ≤ 1000000) }
+    requires begun { All (λ i. i < length begun.now) begun.now }
+    ensures { IfOk result (AreEndsAhead graphs.now order.now bound budget) }
+{
+    let search = move |number: u32| -> Result<SearchEnd, Memory>
+        requires { All (λ k. k < length graphs.now) order.now × (from + number < length order.now) × (1 ≤ bound) × (bound ≤ 1000000) × (1 ≤ budget) × (budget ≤ 1000000) }
+        ensures { IfOk result (IsEndAt graphs.entry.now order.entry.now bound budget (from + number)) }
+    {
+        search_at(
+            rt,
+            alloc,
+            graphs,
+            order,
+            from + number as usize,
+            bound,
+            budget,
+            gate,
+        )
+    };
+    let crew = Crew {
+        rt,
+        alloc,
+        workers,
+        gate,
+    };
+    let found = look_ahead(&crew, begun, search, is_spent)?;
+    Ok(EndsAhead { from, found })
+}
+
+// Searches the walks of the task at a place of the order, by one worker.
+fn search_at<G: Gate, R: Threads + Wait + Sync>(
+    rt: &R,
+    alloc: Global,
+    graphs: &Graphs,
+    order: &[u32],
+    place: usize,
+    bound: u64,
+    budget: u64,
+    gate: &G,
+) -> Result<SearchEnd, Memory>
+    requires tasks { All (λ k. k < length graphs.now) order.now }
+    requires here { place < length order.now }
+    requires bound { (1 ≤ bound) × (bound ≤ 1000000) }
+    requires budget { (1 ≤ budget) × (budget ≤ 1000000) }
+    ensures { IfOk result (IsEndAt graphs.now order.now bound budget place) }
+{
+    let graph = graphs.graph(order[place]);
+    search_leaves(rt, alloc, graph, bound, 1, budget, gate)
+}
+
+// Whether a search spent its budget: the analysis ends there at the latest.
+fn is_spent(end: &SearchEnd) -> bool {
+    match end {
+        SearchEnd::Finished(_) => false,
+        SearchEnd::Spent(_) => true,
+    }
+}
+
+// Reckons the searches of the tasks at so many places of the order from this one on.
+fn reckon_all(
+    alloc: Global,
+    graphs: &Graphs,
+    order: &[u32],
+    place: usize,
+    count: usize,
+    bound: u64,
+    budget: u64,
+) -> Result<Vec<Reckoning>, Memory>
+    requires tasks { All (λ k. k < length graphs.now) order.now }
+    requires within { place + count ≤ length order.now }
+{
+    let mut all = Vec::new(alloc);
+    for number in 0..count {
+        let graph = graphs.graph(order[place + number]);
+        all.push(reckon(graph, bound, budget))?;
+    }
+    Ok(all)
+}
+
+// Reckons the search of a graph's walks: as if each vertex had one label in each least separation, until the bound comes or the budget is spent.
+// A step is the dearer the longer the walks are, since each label has the whole function of its own.
+fn reckon(graph: &Graph, bound: u64, budget: u64) -> Reckoning {
+    let mut sep = bound.max(1);
+    let mut degree = 0;
+    for vertex in 0..graph.vertex_count() {
+        degree = degree.max(graph.out_degree(vertex));
+        sep = sep.min(least_separation(graph, vertex, sep));
+    }
+    let round = u64::from(graph.vertex_count()).saturating_mul(u64::from(degree).saturating_add(2));
+    let length = (bound / sep.max(1))
+        .min(budget / round.max(1))
+        .saturating_add(1);
+    let steps = round.saturating_mul(length);
+    Reckoning {
+        steps,
+        cost: steps.saturating_mul(length),
+    }
+}
+
+// The least separation of the edges out of a vertex, or this number where none is less.
+fn least_separation(graph: &Graph, vertex: u32, most: u64) -> u64
+    requires { vertex < length graph.now.vertices }
+{
+    let mut least = most;
+    for k in 0..graph.out_degree(vertex) {
+        least = least.min(u64::from(graph.out_edge(vertex, k).sep));
+    }
+    least
+}
+
+// Whether two searches at least are long.
+fn are_worth(reckonings: &[Reckoning]) -> bool {
+    reckonings.iter().filter(|it| it.steps >= WORTH).count() >= 2
+}
+
+// The numbers of so many searches, the dearest first.
+fn dearest_first(alloc: Global, count: u32, reckonings: &[Reckoning]) -> Result<Vec<u32>, Memory>
+    ensures count { IfOk result (λ begun. length begun.items ≡ count) }
+    ensures places { IfOk result (λ begun. All (λ i. i < count) begun.items) }
+{
+    let mut begun = Vec::new(alloc);
+    for number in 0..count {
+        begun.push(number)?;
+    }
+    begun.sort_by_key(|number: &u32| -> u64 { cheapness(reckonings, *number) })?;
+    Ok(begun)
+}
+
+// The greater the cheaper the search of this number is.
+fn cheapness(reckonings: &[Reckoning], number: u32) -> u64 {
+    match reckonings.get(number as usize) {
+        None => u64::MAX,
+        Some(it) => u64::MAX.saturating_sub(it.cost),
+    }
+}
