@@ -91,7 +91,7 @@ pub(crate) fn search_ahead<G: Gate, R: Threads + Wait + Sync>(
     requires ahead { AreEndsAhead graphs.now order.now bound budget ahead }
     ensures { IfOk result (AreEndsAhead graphs.now order.now bound budget) }
 {
-    if workers < 2 || gate.alone() == 0 || !ahead.ends_before(place) {
+    if workers < 2 || !ahead.ends_before(place) {
         return Ok(ahead);
     }
     let most = if ahead.found.is_empty() {
@@ -142,18 +142,7 @@ fn search_all<G: Gate, R: Threads + Wait + Sync>(
     let search = move |number: u32| -> Result<SearchEnd, Memory>
         requires { All (λ k. k < length graphs.now) order.now × (from + number < length order.now) × (1 ≤ bound) × (bound ≤ 1000000) × (1 ≤ budget) × (budget ≤ 1000000) }
         ensures { IfOk result (IsEndAt graphs.entry.now order.entry.now bound budget (from + number)) }
-    {
-        search_at(
-            rt,
-            alloc,
-            graphs,
-            order,
-            from + number as usize,
-            bound,
-            budget,
-            gate,
-        )
-    };
+    { search_at(alloc, graphs, order, from + number as usize, bound, budget) };
     let crew = Crew {
         rt,
         alloc,
@@ -165,15 +154,13 @@ fn search_all<G: Gate, R: Threads + Wait + Sync>(
 }
 
 // Searches the walks of the task at a place of the order, by one worker.
-fn search_at<G: Gate, R: Threads + Wait + Sync>(
-    rt: &R,
+fn search_at(
     alloc: Global,
     graphs: &Graphs,
     order: &[u32],
     place: usize,
     bound: u64,
     budget: u64,
-    gate: &G,
 ) -> Result<SearchEnd, Memory>
     requires tasks { All (λ k. k < length graphs.now) order.now }
     requires here { place < length order.now }
@@ -182,7 +169,7 @@ fn search_at<G: Gate, R: Threads + Wait + Sync>(
     ensures { IfOk result (IsEndAt graphs.now order.now bound budget place) }
 {
     let graph = graphs.graph(order[place]);
-    search_leaves(rt, alloc, graph, bound, 1, budget, gate)
+    search_leaves(alloc, graph, bound, budget)
 }
 
 // Whether a search spent its budget: the analysis ends there at the latest.

@@ -22,8 +22,8 @@ use std::thread::Threads;
 /// Decides whether a set with constrained deadlines is schedulable under fixed priorities. So many workers end the combinations of a
 /// task's vertices side by side, each those that it takes, and the gate sees each of these turns; the answer is that of one worker, to the
 /// byte.
-/// Where the gate's `alone` is 0 they share each search of a task's walks and each refinement at a vertex instead, and it sees each of
-/// their turns. Each search and each refinement ends after `budget` steps at the latest.
+/// The walks of several tasks are searched side by side, each by one worker, and the gate sees each of these searches before it begins. Each search and each refinement ends after
+/// `budget` steps at the latest.
 ///
 /// For each task, from the highest priority on, first each of its vertices is proved, in file order, against the trees of the tasks of
 /// higher priority. Then, unless it has the lowest priority, its walks are searched up to the greatest deadline of the set, for its own
@@ -131,9 +131,7 @@ fn analyse<G: Gate, R: Threads + Wait + Sync>(
             rt, alloc, graphs, order, place, bound, workers, budget, gate, ahead,
         )?;
         let found = ahead.take(place);
-        if let Some(answer) = progress.add_tree(
-            rt, alloc, set, graphs, order, place, found, workers, budget, gate,
-        )? {
+        if let Some(answer) = progress.add_tree(alloc, set, graphs, order, place, found, budget)? {
             return Ok(Outcome::Ended(answer));
         }
     }

@@ -117,21 +117,17 @@ impl Progress {
 
     /// Searches the walks of the task at this place of the order, which isn't the last one, where the end of that search wasn't found
     /// before, and adds their tree. An answer ends the analysis.
-    pub(crate) fn add_tree<G: Gate, R: Threads + Wait + Sync>(
+    pub(crate) fn add_tree(
         &mut self,
-        rt: &R,
         alloc: Global,
         set: &TaskSet,
         graphs: &Graphs,
         order: &[u32],
         place: usize,
         found: Option<SearchEnd>,
-        workers: u32,
         budget: u64,
-        gate: &G,
     ) -> Result<Option<FixedAnswer>, Memory>
         requires given { IsGiven set.now graphs.now order.now budget }
-        requires workers { (1 ≤ workers) × (workers ≤ 16) }
         requires here { place + 1 < length order.now }
         requires found { IfSome found (IsEndAt graphs.now order.now (greatest_deadline set.now.tasks) budget place) }
         requires grown { AreGrown set.now.tasks order.now place self.old.forest self.old.roots.items self.old.trees.items }
@@ -146,17 +142,7 @@ impl Progress {
         let task = order[place];
         let graph = graphs.graph(task);
         let bound = greatest_deadline(set);
-        match plant_tree(
-            rt,
-            alloc,
-            graph,
-            bound,
-            found,
-            workers,
-            budget,
-            gate,
-            &mut self.forest,
-        )? {
+        match plant_tree(alloc, graph, bound, found, budget, &mut self.forest)? {
             TreeSearch::Tree(tree) => {
                 self.roots.push(tree.top)?;
                 self.trees.push(tree.claim)?;

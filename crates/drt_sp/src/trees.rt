@@ -13,14 +13,10 @@ use crate::trees::gathering::gather;
 use drt_evidence::TreeClaim;
 use drt_graph::Graph;
 use drt_model::{Memory, Row};
-use drt_pool::Gate;
 use drt_request::RequestLabel;
-use drt_search::search_together;
 use drt_table::{Entry, Table, TableReply};
 use drt_tree::Forest;
 use std::alloc::Global;
-use std::sync::Wait;
-use std::thread::Threads;
 
 mod adding;
 mod gathering;
@@ -42,25 +38,22 @@ pub enum TreeSearch {
     Spent(Row<Entry>),
 }
 
-// The search of a graph's walks up to the bound by these workers, driven to its end.
-fn search<G: Gate, R: Threads + Wait + Sync>(
-    rt: &R,
+// The search of a graph's walks up to the bound, driven to its end. Sharing its table costs more than it gives, so one worker makes its steps.
+fn search(
     alloc: Global,
     graph: &Graph,
     bound: u64,
-    workers: u32,
     budget: u64,
-    gate: &G,
 ) -> Result<(Table<RequestLabel>, TableReply), Memory>
     requires from { 1 ≤ bound }
     requires to { bound ≤ 1000000 }
-    requires workers { (1 ≤ workers) × (workers ≤ 16) }
     requires some { 1 ≤ budget }
     requires few { budget ≤ 1000000 }
     ensures setting { IfOk result (λ end. setting_of end.0 ≡ search_of graph.now bound budget) }
     ensures stops { IfOk result (λ end. StopsAt request_algebra end.0 end.1) }
 {
-    search_together(rt, alloc, graph, bound, budget, workers, gate)
+    let table: Table<RequestLabel> = Table::start(alloc, graph, bound, budget)?;
+    table.drive(alloc, 0)
 }
 
 /// How a search of a task's walks ended, before a tree is made of it.
@@ -73,23 +66,19 @@ pub(crate) enum SearchEnd {
 }
 
 /// Searches the walks of a task's graph up to the bound, in ticks, with this budget of steps, for the leaves of its tree.
-pub(crate) fn search_leaves<G: Gate, R: Threads + Wait + Sync>(
-    rt: &R,
+pub(crate) fn search_leaves(
     alloc: Global,
     graph: &Graph,
     bound: u64,
-    workers: u32,
     budget: u64,
-    gate: &G,
 ) -> Result<SearchEnd, Memory>
     requires from { 1 ≤ bound }
     requires to { bound ≤ 1000000 }
-    requires workers { (1 ≤ workers) × (workers ≤ 16) }
     requires some { 1 ≤ budget }
     requires few { budget ≤ 1000000 }
     ensures { IfOk result (IsSearchEnd graph.now bound budget) }
 {
-    let (table, _reply) = search(rt, alloc, graph, bound, workers, budget, gate)?;
+    let (table, _reply) = search(alloc, graph, bound, budget)?;
     if !table.finished() {
         let log = Vec::from_slice(alloc, table.log())?;
         return Ok(SearchEnd::Spent(Row::from_vec(log)));
@@ -99,53 +88,45 @@ pub(crate) fn search_leaves<G: Gate, R: Threads + Wait + Sync>(
 }
 
 // How the search of a graph's walks ends: as it was found before, or else as it does now.
-fn take_or_search<G: Gate, R: Threads + Wait + Sync>(
-    rt: &R,
+fn take_or_search(
     alloc: Global,
     graph: &Graph,
     bound: u64,
     found: Option<SearchEnd>,
-    workers: u32,
     budget: u64,
-    gate: &G,
 ) -> Result<SearchEnd, Memory>
     requires from { 1 ≤ bound }
     requires to { bound ≤ 1000000 }
     requires found { IfSome found (IsSearchEnd graph.now bound budget) }
-    requires workers { (1 ≤ workers) × (workers ≤ 16) }
     requires some { 1 ≤ budget }
     requires few { budget ≤ 1000000 }
     ensures { IfOk result (IsSearchEnd graph.now bound budget) }
 {
     match found {
         Some(end) => Ok(end),
-        None => search_leaves(rt, alloc, graph, bound, workers, budget, gate),
+        None => search_leaves(alloc, graph, bound, budget),
     }
 }
 
 /// Does what `search_tree` does. Where the end of the search was found before, it isn't searched again.
-pub(crate) fn plant_tree<G: Gate, R: Threads + Wait + Sync>(
-    rt: &R,
+pub(crate) fn plant_tree(
     alloc: Global,
     graph: &Graph,
     bound: u64,
     found: Option<SearchEnd>,
-    workers: u32,
     budget: u64,
-    gate: &G,
     forest: &mut Forest,
 ) -> Result<TreeSearch, Memory>
     requires from { 1 ≤ bound }
     requires to { bound ≤ 1000000 }
     requires found { IfSome found (IsSearchEnd graph.now bound budget) }
-    requires workers { (1 ≤ workers) × (workers ≤ 16) }
     requires some { 1 ≤ budget }
     requires few { budget ≤ 1000000 }
     requires functions { All (λ xs. length xs ≡ bound) forest.old.pool }
     requires room { length forest.old.nodes + 2 * (1000000 + 96) ≤ 4294967295 }
     ensures { IfOk result (IsTreeSearch graph.now bound budget forest.old forest.new) }
 {
-    let end = take_or_search(rt, alloc, graph, bound, found, workers, budget, gate)?;
+    let end = take_or_search(alloc, graph, bound, found, budget)?;
     match end {
         SearchEnd::Finished(leaves) => {
             let tree = add_tree(
@@ -162,24 +143,20 @@ pub(crate) fn plant_tree<G: Gate, R: Threads + Wait + Sync>(
 
 /// Searches the walks of a task's graph up to the bound, in ticks, with this budget of steps, and puts the tree of those that no
 /// other one dominates into the forest. After want of memory the forest may have that tree or not.
-pub fn search_tree<G: Gate, R: Threads + Wait + Sync>(
-    rt: &R,
+pub fn search_tree(
     alloc: Global,
     graph: &Graph,
     bound: u64,
-    workers: u32,
     budget: u64,
-    gate: &G,
     forest: &mut Forest,
 ) -> Result<TreeSearch, Memory>
     requires from { 1 ≤ bound }
     requires to { bound ≤ 1000000 }
-    requires workers { (1 ≤ workers) × (workers ≤ 16) }
     requires some { 1 ≤ budget }
     requires few { budget ≤ 1000000 }
     requires functions { All (λ xs. length xs ≡ bound) forest.old.pool }
     requires room { length forest.old.nodes + 2 * (1000000 + 96) ≤ 4294967295 }
     ensures { IfOk result (IsTreeSearch graph.now bound budget forest.old forest.new) }
 {
-    plant_tree(rt, alloc, graph, bound, None, workers, budget, gate, forest)
+    plant_tree(alloc, graph, bound, None, budget, forest)
 }

@@ -85,13 +85,10 @@ fn add_tree<G: Gate, R: Threads + Wait + Sync>(
     trees.forest.show_sound();
     let task = given.order[place];
     match search_tree(
-        effort.rt,
         effort.alloc,
         given.graphs.graph(task),
         greatest_deadline(given.set),
-        effort.workers,
         effort.budget,
-        effort.gate,
         &mut trees.forest,
     )? {
         TreeSearch::Tree(tree) => {

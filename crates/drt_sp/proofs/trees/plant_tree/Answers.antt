@@ -8,24 +8,24 @@ use Rattle.drt_sp.proofs.TreeSearches.{AreLent, lent_leaves, one_bound}
 use Rattle.drt_sp.proofs.trees.plant_tree.Goals as goal
 
 -- The leaves of the search are lent.
-lent : (g : _) (c : goal.After-add_tree-arg-1 g) → AreLent c.args.graph.now c.args.bound c.as_slice.result.now c.as_slice-in-Finished.result.now
-lent g c =
+lent : (c : goal.After-add_tree-arg-1) → AreLent c.args.graph.now c.args.bound c.as_slice.result.now c.as_slice-in-Finished.result.now
+lent c =
     let are : AreLeavesOf c.args.graph.now c.args.bound c.in-Finished.leaves = rw c.in-Finished.is at c.in_ok-end.ensures in
     lent_leaves c.args.graph.now c.args.bound c.in-Finished.leaves are c.requires.from c.as_slice.result.now c.as_slice-in-Finished.result.now c.as_slice.ensures.value c.as_slice-in-Finished.ensures.value
 
 pub add_tree-requires-clause-some : goal.add_tree-requires-clause-some
-add_tree-requires-clause-some g c = (lent g c).some
+add_tree-requires-clause-some c = (lent c).some
 
 pub add_tree-requires-clause-bound : goal.add_tree-requires-clause-bound
-add_tree-requires-clause-bound g c =
+add_tree-requires-clause-bound c =
     let ls : List Leaf = leaves_of c.as_slice.result.now c.as_slice-in-Finished.result.now in
-    one_bound c.args.graph.now c.args.bound c.args.forest.now.pool ls c.requires.functions (lent g c).leaves
+    one_bound c.args.graph.now c.args.bound c.args.forest.now.pool ls c.requires.functions (lent c).leaves
 
 pub add_tree-requires-clause-room : goal.add_tree-requires-clause-room
-add_tree-requires-clause-room g c = let few = (lent g c).few in omega (arith, few, c.requires.room)
+add_tree-requires-clause-room c = let few = (lent c).few in omega (arith, few, c.requires.room)
 
 pub returns-in_ok-tree-in-Finished : goal.returns-in_ok-tree-in-Finished
-returns-in_ok-tree-in-Finished g c =
+returns-in_ok-tree-in-Finished c =
     let labels = c.as_slice.result.now in
     let walks = c.as_slice-in-Finished.result.now in
     let are : AreLeavesOf c.args.graph.now c.args.bound c.in-Finished.leaves = rw c.in-Finished.is at c.in_ok-end.ensures in

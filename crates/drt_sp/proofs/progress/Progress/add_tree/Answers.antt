@@ -20,13 +20,13 @@ use Rattle.drt_sp.proofs.Yes.{few_tasks}
 use Rattle.drt_sp.proofs.progress.Progress.add_tree.Goals as goal
 
 pub graph-graph-requires : goal.graph-graph-requires
-graph-graph-requires g c =
+graph-graph-requires c =
     let tasks : List Task = c.args.set.now.tasks in
     let order : List ℕ = c.args.order.now in
     omega (arith, order_below tasks order c.requires.given.order_is c.args.place (omega (arith, c.requires.here)), ap length c.requires.given.graphs_are, length-map tasks digraph_of)
 
 pub plant_tree-requires-clause-room : goal.plant_tree-requires-clause-room
-plant_tree-requires-clause-room g c =
+plant_tree-requires-clause-room c =
     let set = c.args.set.now in
     let tasks : List Task = set.tasks in
     let order : List ℕ = c.args.order.now in
@@ -40,10 +40,10 @@ plant_tree-requires-clause-room g c =
     omega (arith, c.requires.grown.few, c.requires.here, order_count tasks order is, few_tasks set.version tasks limits)
 
 pub plant_tree-requires-clause-found : goal.plant_tree-requires-clause-found
-plant_tree-requires-clause-found g c κs within = rw (c.graph-graph.ensures.graph, c.greatest_deadline-bound.ensures.value) c.requires.found
+plant_tree-requires-clause-found c κs within = rw (c.graph-graph.ensures.graph, c.greatest_deadline-bound.ensures.value) c.requires.found
 
 pub returns-in_ok-push-in-Tree-2-clause-grown : goal.returns-in_ok-push-in-Tree-2-clause-grown
-returns-in_ok-push-in-Tree-2-clause-grown g c =
+returns-in_ok-push-in-Tree-2-clause-grown c =
     let set = c.args.set.now in
     let tasks : List Task = set.tasks in
     let order : List ℕ = c.args.order.now in
@@ -65,7 +65,7 @@ returns-in_ok-push-in-Tree-2-clause-grown g c =
     c.in-Tree.tree.low c.in-Tree.tree.top c.in-Tree.tree.claim t.stands t.count t.claim t.rules t.range)
 
 pub returns-in_ok-push-in-Tree-2-clause-proved : goal.returns-in_ok-push-in-Tree-2-clause-proved
-returns-in_ok-push-in-Tree-2-clause-proved g c =
+returns-in_ok-push-in-Tree-2-clause-proved c =
     let set = c.args.set.now in
     let tasks : List Task = set.tasks in
     let order : List ℕ = c.args.order.now in
@@ -81,7 +81,7 @@ returns-in_ok-push-in-Tree-2-clause-proved g c =
     rw c.in_ok-push-in-Tree-2.ensures.items (proved_kept tasks order (place + 1) trees c.in-Tree.tree.claim c.args.self.now.proofs.items (omega (arith, count)) c.requires.proved)
 
 pub returns-in-Spent-clause-grown : goal.returns-in-Spent-clause-grown
-returns-in-Spent-clause-grown g c =
+returns-in-Spent-clause-grown c =
     let set = c.args.set.now in
     let tasks : List Task = set.tasks in
     let order : List ℕ = c.args.order.now in
