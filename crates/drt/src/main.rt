@@ -37,15 +37,15 @@ fn main(rt: HostRuntime) -> ExitCode {
     match notice(rt.alloc(), &outcome) {
         Ok(line) => {
             let _ = write_all(&mut said, line.as_slice());
+            if let Ok(sentence) = advise(rt.alloc(), &outcome) {
+                let _ = write_all(&mut said, sentence.as_slice());
+            }
         }
         Err(_) => {
             if outcome.status == OUT_OF_MEMORY {
                 let _ = write_all(&mut said, b"drt: out of memory\n");
             }
         }
-    }
-    if let Ok(line) = advise(rt.alloc(), &outcome) {
-        let _ = write_all(&mut said, line.as_slice());
     }
     ExitCode::from(outcome.status)
 }

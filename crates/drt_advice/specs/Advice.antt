@@ -51,7 +51,7 @@ abbrev pub sentence_of : Outcome → List ℕ
 sentence_of o =
     if o.status == 3 then trail_sentence o.trail
     else if o.status == 4 then fault_sentence o.fault
-    else if o.status == 5 then codes "write: drt edf, sp, response, assign, margin, check, timeline, util, upgrade, convert or bench, with --workers N (1 to 16) and --budget N (1 to 1,000,000) where the command has them (man ./docs/drt.1)"
+    else if o.status == 5 then codes "write: drt edf, sp, response, assign, margin, check, timeline, util, upgrade, convert or bench, with --workers N (1 to 16) and --budget N (1 to 1,000,000) where the command has them; the file comes on standard input, as in drt edf < FILE (man ./docs/drt.1)"
     else if o.status == 6 then codes "standard input can't be read: is it a file?"
     else if o.status == 7 then codes "standard output takes no more: what it holds is cut"
     else if o.status == 8 then codes "the analysis needs more memory than there is: give fewer steps with --budget, or fewer workers with --workers"

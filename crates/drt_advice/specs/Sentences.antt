@@ -51,7 +51,7 @@ file_sentence code =
 -- What is wrong with a dossier, by its code.
 abbrev pub dossier_sentence : ℕ → List ℕ
 dossier_sentence code =
-    if code == 1 then codes "no dossier goes on with this line: look for two blanks, a blank at its end, a number with a leading zero or out of range, a count that isn't that of its lines"
+    if code == 1 then codes "no dossier goes on with this line: look for two blanks, a blank at its end, a number with a leading zero or out of range, a count that isn't that of its lines; a task file is read by the other commands"
     else if code == 2 then codes "the dossier ends before this line, or within it: it is cut, so write it again"
     else if code == 3 then codes "bytes follow a whole dossier: a dossier is a file of its own"
     else if code == 4 then codes "the dossier has more than 1,073,741,824 bytes"

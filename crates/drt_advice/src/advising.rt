@@ -44,7 +44,7 @@ fn sentence_of(alloc: Global, outcome: &Outcome) -> Result<Vec<u8>, Memory>
             return fault_sentence(alloc, &outcome.fault);
         }
         WORDS_REFUSED =>
-            b"write: drt edf, sp, response, assign, margin, check, timeline, util, upgrade, convert or bench, with --workers N (1 to 16) and --budget N (1 to 1,000,000) where the command has them (man ./docs/drt.1)".as_slice(),
+            b"write: drt edf, sp, response, assign, margin, check, timeline, util, upgrade, convert or bench, with --workers N (1 to 16) and --budget N (1 to 1,000,000) where the command has them; the file comes on standard input, as in drt edf < FILE (man ./docs/drt.1)".as_slice(),
         READ_FAILED => b"standard input can't be read: is it a file?".as_slice(),
         WRITE_FAILED => b"standard output takes no more: what it holds is cut".as_slice(),
         OUT_OF_MEMORY =>

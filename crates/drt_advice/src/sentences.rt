@@ -73,7 +73,7 @@ pub fn dossier_sentence(code: u8) -> &'static str
 {
     match code {
         1 =>
-            "no dossier goes on with this line: look for two blanks, a blank at its end, a number with a leading zero or out of range, a count that isn't that of its lines",
+            "no dossier goes on with this line: look for two blanks, a blank at its end, a number with a leading zero or out of range, a count that isn't that of its lines; a task file is read by the other commands",
         2 => "the dossier ends before this line, or within it: it is cut, so write it again",
         3 => "bytes follow a whole dossier: a dossier is a file of its own",
         4 => "the dossier has more than 1,073,741,824 bytes",
