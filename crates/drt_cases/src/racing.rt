@@ -1,5 +1,5 @@
 //! Runs by several workers.
-use crate::running::{answer_to, status_of, writes};
+use crate::running::{status_of, writes};
 use drt_fixtures::texts::{
     BRANCHING, BRANCHING_LATE, ENGINE, FIFTHS_AND_SEVENTHS, FULL, HALVES, JUST_DONE, LATE, LONGEST,
     LOWER_FIRST, OVERLOADED, PERIODIC, SEVENTHS_ABOVE_FIFTHS, SPLIT, TIGHT, TOO_FAR, TOO_FINE,
@@ -7,8 +7,6 @@ use drt_fixtures::texts::{
 };
 use drt_meeting::Meeting;
 use drt_pool::EagerGate;
-use drt_table::{Entry, TableStep};
-use drt_top::Trail;
 use std::alloc::Global;
 use std::sync::Wait;
 use std::test::Fail;
@@ -39,73 +37,20 @@ fn two_workers_begin_a_search_together(rt: HostRuntime) -> Result<(), Fail> {
     Ok(())
 }
 
-// Whether the entries from some place on have an offer of the first edge of that node by the worker.
-fn has_offer(log: &[Entry], from: usize, worker: u32, node: u32) -> bool {
-    for i in from..log.len() {
-        if log[i].worker == worker && log[i].step == (TableStep::Offer { node, edge: 0 }) {
-            return true;
-        }
-    }
-    false
-}
+// Two tasks whose walks take some thousand steps each up to the deadline of a third one.
+const TWO_TABLES: &str =
+    "drt 1\ntask a\nvertex x 1 100\nedge x x 100\ntask b\nvertex y 1 101\nedge y y 101\ntask c\nvertex z 1 34000\nend\n";
 
-// Whether the log has one Take of each of two workers, and behind it an offer of the first edge of the node that it took. The
-// first Take gave node 0, and the second one node 1.
-fn took_and_offered(log: &[Entry]) -> bool {
-    let mut taken = 0u32;
-    let mut takers = [0u32; 2];
-    for i in 0..log.len() {
-        if log[i].step == TableStep::Take {
-            let worker = log[i].worker;
-            if taken > 1 || worker > 1 || !has_offer(log, i, worker, taken) {
-                return false;
-            }
-            takers[worker as usize] = takers[worker as usize].saturating_add(1);
-            taken += 1;
-        }
-    }
-    log.len() == 4 && takers == [1, 1]
-}
-
-// Whether the trail is such a log of the first task.
-fn is_log_of_both(trail: &Trail) -> bool {
-    match trail {
-        Trail::Table { task, log } => *task == 0 && took_and_offered(log.as_slice()),
-        _ => false,
-    }
-}
-
-// Whether two workers that wait for one another before their third turns spend a budget of four steps together.
-fn is_spent_together(rt: &(impl Threads + Wait + Sync), alloc: Global) -> Result<bool, Fail> {
-    let gate = Meeting::at(2);
-    let words = "edf --workers 2 --budget 4";
-    let (outcome, _held) = answer_to(rt, alloc, words, BRANCHING_LATE.as_bytes(), &gate)?;
-    let are_logged = is_log_of_both(&outcome.trail);
-    Ok(outcome.status == 3 && are_logged && gate.times_met() > 0)
-}
-
-#[test]
-fn two_workers_spend_a_budget_together(rt: HostRuntime) -> Result<(), Fail> {
-    assert!(rt; is_spent_together(&rt, rt.alloc())?);
-    Ok(())
-}
-
-// Whether a set is schedulable under fixed priorities by two workers that begin each of so many searches together.
-fn is_refined_together(
-    rt: &(impl Threads + Wait + Sync),
-    alloc: Global,
-    text: &str,
-    searches: u64,
-) -> Result<bool, Fail> {
+// Whether the walks of two tasks are searched by two workers at the same time, under fixed priorities.
+fn are_searched_together(rt: &(impl Threads + Wait + Sync), alloc: Global) -> Result<bool, Fail> {
     let gate = Meeting::at(0);
-    let status = status_of(rt, alloc, "sp --workers 2", text, &gate)?;
-    Ok(status == 0 && gate.times_met() == searches)
+    let status = status_of(rt, alloc, "sp --workers 2", TWO_TABLES, &gate)?;
+    Ok(status == 0 && gate.times_met() > 0)
 }
 
-// The first task has two combinations to refine, one for each vertex, and a table; the second has one to refine.
 #[test]
-fn two_workers_begin_each_search_together(rt: HostRuntime) -> Result<(), Fail> {
-    assert!(rt; is_refined_together(&rt, rt.alloc(), SPLIT, 4)?);
+fn two_workers_search_two_tasks_together(rt: HostRuntime) -> Result<(), Fail> {
+    assert!(rt; are_searched_together(&rt, rt.alloc())?);
     Ok(())
 }
 

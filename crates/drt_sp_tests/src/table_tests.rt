@@ -31,6 +31,8 @@ fn tables_side_by_side_are_spent_as_by_one_worker(rt: HostRuntime) -> Result<(),
 
 #[test]
 fn tables_side_by_side_give_the_dossier_of_one_worker(rt: HostRuntime) -> Result<(), Fail> {
-    assert!(rt; is_answered_as_by_one(&rt, rt.alloc(), Source::Text(TWO_TABLES), 2_000, &OpenGate)?);
+    assert!(rt;
+        is_answered_as_by_one(&rt, rt.alloc(), Source::Text(TWO_TABLES), 2_000, &OpenGate)?
+    );
     Ok(())
 }
