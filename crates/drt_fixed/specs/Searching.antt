@@ -1,5 +1,5 @@
 -- What the searches of all vertices are given, and what they find.
-use Rattle.std.specs.Prelude.{◌≤◌}
+use Rattle.std.specs.Prelude.{◌<◌, length}
 use Rattle.std.specs.List.{All}
 use Rattle.drt_check_states.specs.Crests.{AreCrests}
 use Rattle.drt_check_states.specs.Curves.{HasRisingCurves}
@@ -7,14 +7,18 @@ use Rattle.drt_check_states.specs.Places.{AreTasks}
 use Rattle.drt_fixed.specs.Answers.{IsOfStates}
 use Rattle.drt_fixed.specs.declared.searching.Found.{Found}
 use Rattle.drt_fixed.specs.declared.searching.Found.TheVariants.{Refusal}
-use Rattle.drt_fixed.specs.declared.searching.Given.{Given}
+use Rattle.drt_fixed.specs.declared.vertices.Given.{Given}
+use Rattle.drt_fixed.specs.declared.vertices.PlacedVertex.{PlacedVertex}
 
--- The order has numbers of tasks that have a graph, the tails rise, the crests are theirs, and there are 1 to 16 workers.
+-- The order has numbers of tasks that have a graph, the tails rise, and the crests are theirs.
 pub record IsGiven (g : Given) : Type 0 where
   pub order : AreTasks g.graphs.now g.order.now
   pub tails : All HasRisingCurves g.tails.now
   pub crests : AreCrests g.tails.now g.crests.now
-  pub workers : (1 ≤ g.effort.workers) × (g.effort.workers ≤ 16)
+
+-- The vertex stands at a place of the order.
+abbrev pub IsPlaced : Given → PlacedVertex → Type 0
+IsPlaced g v = v.place < length g.order.now
 
 -- A no that is found is one.
 abbrev pub IsFound : Found → Type 0

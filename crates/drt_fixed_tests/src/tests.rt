@@ -8,8 +8,9 @@ use drt_evidence::{Dossier, Evidence, print};
 use drt_fixed::{Analysed, ByStates, analyse_fixed, decide_by_states};
 use drt_fixtures::{Shape, make_set};
 use drt_graph::{Graphs, check};
+use drt_meeting::Meeting;
 use drt_model::{Row, TaskSet};
-use drt_pool::{EagerGate, OpenGate};
+use drt_pool::{EagerGate, Gate, OpenGate};
 use std::alloc::Global;
 use std::sync::Wait;
 use std::test::Fail;
@@ -38,6 +39,12 @@ const AUTOMOTIVE: [Shape<'static>; 2] = [
         ],
     ),
     (&[(100_000, 1_000_000)], &[(0, 0, 1_000_000)]),
+];
+
+// A task above one of two vertices: one tail, and the searches of three vertices.
+const TWO_VERTICES: [Shape<'static>; 2] = [
+    (&[(1, 4)], &[(0, 0, 4)]),
+    (&[(1, 8), (2, 9)], &[(0, 1, 9), (1, 0, 9)]),
 ];
 
 // What an answer claims.
@@ -70,16 +77,17 @@ fn make_graphs(alloc: Global, set: &TaskSet) -> Result<Graphs, Fail>
 }
 
 // What tails and states say of a set by so many workers: the claim and the text of its dossier, which is empty where they say nothing.
-fn answer_by_states<R: Threads + Wait + Sync>(
+fn answer_by_states<G: Gate, R: Threads + Wait + Sync>(
     rt: &R,
     alloc: Global,
     set: TaskSet,
     workers: u32,
+    gate: &G,
 ) -> Result<(Claim, Row<u8>), Fail>
     requires { (1 ≤ workers) × (workers ≤ 16) }
 {
     let graphs = make_graphs(alloc, &set)?;
-    match decide_by_states(rt, alloc, set, &graphs, workers, BUDGET, &EagerGate)? {
+    match decide_by_states(rt, alloc, set, &graphs, workers, BUDGET, gate)? {
         ByStates::Decided(dossier) => Ok((claim_of(&dossier), print(alloc, &dossier)?)),
         ByStates::Nothing(_) => Ok((Claim::Nothing, Row::from_vec(Vec::new(alloc)))),
     }
@@ -112,11 +120,11 @@ fn is_decided_alike<R: Threads + Wait + Sync>(
         drawn_set(alloc, draws)?.ok_or("within the limits")?,
     )?;
     let set = drawn_set(alloc, &mut Draws { state: start })?.ok_or("within the limits")?;
-    let (claim, text) = answer_by_states(rt, alloc, set, 1)?;
+    let (claim, text) = answer_by_states(rt, alloc, set, 1, &EagerGate)?;
     for workers in SEVERAL {
         let mut again = Draws { state: start };
         let set = drawn_set(alloc, &mut again)?.ok_or("within the limits")?;
-        let (_, other) = answer_by_states(rt, alloc, set, workers)?;
+        let (_, other) = answer_by_states(rt, alloc, set, workers, &EagerGate)?;
         if other.as_slice() != text.as_slice() {
             return Ok(false);
         }
@@ -134,6 +142,38 @@ fn claim_on<R: Threads + Wait + Sync>(
     let graphs = make_graphs(alloc, &set)?;
     let Analysed { dossier, .. } = analyse_fixed(rt, alloc, set, &graphs, 1, BUDGET, &OpenGate)?;
     Ok(claim_of(&dossier))
+}
+
+// The text of what tails and states say of the set of these shapes.
+fn text_on<G: Gate, R: Threads + Wait + Sync>(
+    rt: &R,
+    alloc: Global,
+    shapes: &[Shape<'_>],
+    workers: u32,
+    gate: &G,
+) -> Result<Row<u8>, Fail>
+    requires { (1 ≤ workers) × (workers ≤ 16) }
+{
+    let set = make_set(alloc, shapes)?.ok_or("within the limits")?;
+    let (_, text) = answer_by_states(rt, alloc, set, workers, gate)?;
+    Ok(text)
+}
+
+// Whether several workers say of the set of these shapes by tails and states what one does, with threads at once or where it is worth it.
+fn is_said_alike<R: Threads + Wait + Sync>(
+    rt: &R,
+    alloc: Global,
+    shapes: &[Shape<'_>],
+) -> Result<bool, Fail> {
+    let text = text_on(rt, alloc, shapes, 1, &OpenGate)?;
+    for workers in SEVERAL {
+        let eager = text_on(rt, alloc, shapes, workers, &EagerGate)?;
+        let open = text_on(rt, alloc, shapes, workers, &OpenGate)?;
+        if eager.as_slice() != text.as_slice() || open.as_slice() != text.as_slice() {
+            return Ok(false);
+        }
+    }
+    Ok(!text.as_slice().is_empty())
 }
 
 #[test]
@@ -162,5 +202,23 @@ fn a_small_set_is_answered_by_trees_and_an_automotive_one_by_states(
     for (shapes, claim) in cases {
         assert_eq!(rt; claim_on(&rt, rt.alloc(), shapes)?, claim);
     }
+    Ok(())
+}
+
+#[test]
+fn several_workers_write_what_one_writes(rt: HostRuntime) -> Result<(), Fail> {
+    let cases: [&[Shape<'_>]; 2] = [&AUTOMOTIVE, &TWO_VERTICES];
+    for shapes in cases {
+        assert!(rt; is_said_alike(&rt, rt.alloc(), shapes)?);
+    }
+    Ok(())
+}
+
+#[test]
+fn two_workers_search_two_vertices_at_once(rt: HostRuntime) -> Result<(), Fail> {
+    let meeting = Meeting::at(0);
+    let text = text_on(&rt, rt.alloc(), &TWO_VERTICES, 2, &meeting)?;
+    assert!(rt; !text.as_slice().is_empty());
+    assert_eq!(rt; meeting.times_met(), 1);
     Ok(())
 }

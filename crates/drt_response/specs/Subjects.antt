@@ -1,9 +1,11 @@
 -- What the searches of all vertices are given, and the subject of each.
-use Rattle.std.specs.Prelude.{◌≡◌, ℕ, List}
+use Rattle.std.specs.Prelude.{◌≡◌, ◌<◌, ℕ, IfSome, List, Option, length}
 use Rattle.drt_model.specs.declared.jobs.Policy.TheVariants.{Fixed}
 use Rattle.drt_model.specs.Constrained.{AreConstrained}
+use Rattle.drt_model.specs.Digraph.{vertex_count}
 use Rattle.drt_model.specs.Schedulable.{Schedulable}
 use Rattle.drt_model.specs.Walk.{deadline, wcet}
+use Rattle.drt_ahead.specs.Found.{AreThere}
 use Rattle.drt_busy.specs.Choice.{graph_at, task_at}
 use Rattle.drt_states.specs.Tails.{graphs_of as place_graphs}
 use Rattle.drt_check_states.specs.Crests.{AreCrests}
@@ -13,6 +15,8 @@ use Rattle.drt_evidence.specs.Claims.{graphs_of}
 use Rattle.drt_evidence.specs.Searches.{higher_places, higher_tails}
 use Rattle.drt_sp_states.specs.Answers.{AreWorst}
 use Rattle.drt_sp_states.specs.declared.places.Subject.{Subject}
+use Rattle.drt_responses.specs.declared.response.Response.{Response}
+use Rattle.drt_response.specs.Answers.{IsResponseOf}
 use Rattle.drt_response.specs.Tails.{HaveTails}
 use Rattle.drt_response.specs.declared.subjects.Given.{Given}
 use Rattle.drt_response.specs.declared.subjects.VertexAt.{VertexAt}
@@ -39,3 +43,11 @@ abbrev pub AreWorstAt : Given → VertexAt → ℕ → List (List ℕ) → Type 
 AreWorstAt g at ticks walks =
     AreWorst (place_graphs (higher_places g.set.now.tasks (task_at g.set.now.tasks at.task))) (higher_tails g.set.now.tasks g.tails.now (task_at g.set.now.tasks at.task))
     (wcet (graph_at g.set.now.tasks at.task) at.vertex) (deadline (graph_at g.set.now.tasks at.task) at.vertex) ticks walks
+
+-- It is a vertex of a task of the set.
+abbrev pub IsVertexAt : Given → VertexAt → Type 0
+IsVertexAt g at = (at.task < length g.set.now.tasks) × (at.vertex < vertex_count (graph_at g.set.now.tasks at.task))
+
+-- Each response that is found is one of the set's.
+abbrev pub AreFound : Given → List (Option (Option Response)) → Type 0
+AreFound g found = AreThere (λ i response. IfSome response (IsResponseOf g.set.now)) found

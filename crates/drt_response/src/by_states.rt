@@ -8,9 +8,10 @@ ghost use Rattle.drt_busy.specs.Choice.{graph_at};
 ghost use Rattle.drt_evidence.specs.Claims.{graphs_of};
 ghost use Rattle.drt_fixed.specs.Answers.{IsDecision};
 ghost use Rattle.drt_response.specs.Answers.{AreResponses, AreResponsesTo, IsResponseOfVertex, IsStatesResponse};
-ghost use Rattle.drt_response.specs.Subjects.{AreWorstAt, IsGiven};
+ghost use Rattle.drt_response.specs.Subjects.{AreFound, AreWorstAt, IsGiven};
 ghost use Rattle.drt_response.specs.Tails.{HaveTails};
 
+use crate::ahead::{respond_ahead, take_response};
 use crate::reaching::{FirstJob, reaching_releases};
 use crate::subjects::{Given, VertexAt, subject_of};
 use drt_busy::{releases_reach, response_decides};
@@ -23,7 +24,7 @@ use drt_model::{Memory, Row, TaskSet};
 use drt_pool::Gate;
 use drt_responses::Response;
 use drt_sp_states::{Responded, search_response};
-use drt_states::TailClaim;
+use drt_states::{SearchClaim, TailClaim};
 use drt_states_laws::states_pass;
 use std::alloc::Global;
 use std::sync::Wait;
@@ -40,14 +41,14 @@ pub enum StatesResponse {
     Nothing(TaskSet),
 }
 
-// Who searches, and for how many states each: so many workers, whose turns the gate sees.
+/// Who searches, and for how many states each: so many workers, whose turns the gate sees.
 #[derive(Drop)]
-struct Effort<'a, G, R> {
-    rt: &'a R,
-    alloc: Global,
-    workers: u32,
-    budget: u64,
-    gate: &'a G,
+pub(crate) struct Effort<'a, G, R> {
+    pub rt: &'a R,
+    pub alloc: Global,
+    pub workers: u32,
+    pub budget: u64,
+    pub gate: &'a G,
 }
 
 /// What tails and states say of a set with constrained deadlines, with this budget of states for each vertex.
@@ -91,8 +92,9 @@ fn respond_decided<G: Gate, R: Threads + Wait + Sync>(
     ensures { IfOk result (IsStatesResponse dossier.set) }
 {
     let found = match &dossier.evidence {
-        Evidence::FixedStates { tails, .. } => {
-            respond_over(effort, &dossier.set, graphs, tails.as_slice())?
+        Evidence::FixedStates { tails, searches } => {
+            let searches = searches.as_slice();
+            respond_over(effort, &dossier.set, graphs, tails.as_slice(), searches)?
         }
         Evidence::FixedNo { .. } => return Ok(StatesResponse::Missed(dossier)),
         _ => None,
@@ -103,12 +105,14 @@ fn respond_decided<G: Gate, R: Threads + Wait + Sync>(
     }
 }
 
-// The responses of a schedulable set over these tails; none where a search finds nothing.
+// The responses of a schedulable set over these tails; none where a search finds nothing. The searches of the analysis tell how long those
+// of the responses are.
 fn respond_over<G: Gate, R: Threads + Wait + Sync>(
     effort: &Effort<'_, G, R>,
     set: &TaskSet,
     graphs: &Graphs,
     tails: &[TailClaim],
+    searches: &[SearchClaim],
 ) -> Result<Option<Row<Response>>, Memory>
     requires constrained { AreConstrained set.now.tasks }
     requires graphs { graphs.now ≡ graphs_of set.now.tasks }
@@ -126,21 +130,23 @@ fn respond_over<G: Gate, R: Threads + Wait + Sync>(
         tails,
         crests: crests.as_slice(),
     };
-    respond_all(effort, given)
+    respond_all(effort, given, searches)
 }
 
 // The responses of all vertices.
 fn respond_all<G: Gate, R: Threads + Wait + Sync>(
     effort: &Effort<'_, G, R>,
     given: Given<'_>,
+    searches: &[SearchClaim],
 ) -> Result<Option<Row<Response>>, Memory>
     requires workers { (1 ≤ effort.now.workers) × (effort.now.workers ≤ 16) }
     requires given { IsGiven given }
     ensures { IfOk result (λ found. IfSome found (AreResponses given.entry.set.now)) }
 {
+    let mut ahead = respond_ahead(effort, given, searches)?;
     let mut responses = Vec::new(effort.alloc);
     'tasks: for task in 0..given.graphs.count() {
-        if !respond_task(effort, given, task, &mut responses)? {
+        if !respond_task(effort, given, task, &mut ahead, &mut responses)? {
             return Ok(None);
         }
     }
@@ -152,17 +158,21 @@ fn respond_task<G: Gate, R: Threads + Wait + Sync>(
     effort: &Effort<'_, G, R>,
     given: Given<'_>,
     task: u32,
+    ahead: &mut Vec<Option<Option<Response>>>,
     responses: &mut Vec<Response>,
 ) -> Result<bool, Memory>
     requires workers { (1 ≤ effort.now.workers) × (effort.now.workers ≤ 16) }
     requires given { IsGiven given }
     requires task { task < length given.set.now.tasks }
+    requires ahead { AreFound given ahead.old.items }
     requires before { AreResponsesTo given.set.now task 0 responses.old.items }
-    ensures { IfOk result (λ all. IsTrue all → AreResponsesTo given.entry.set.now (task + 1) 0 responses.new.items) }
+    ensures ahead { IfOk result (λ all. AreFound given.entry ahead.new.items) }
+    ensures responses { IfOk result (λ all. IsTrue all → AreResponsesTo given.entry.set.now (task + 1) 0 responses.new.items) }
 {
     let graph = given.graphs.graph(task);
     'vertices: for vertex in 0..graph.vertex_count() {
-        match respond_vertex(effort, given, task, vertex)? {
+        let at = VertexAt { task, vertex };
+        match next_response(effort, given, at, responses.len(), ahead)? {
             Some(response) => responses.push(response)?,
             None => return Ok(false),
         }
@@ -170,20 +180,40 @@ fn respond_task<G: Gate, R: Threads + Wait + Sync>(
     Ok(true)
 }
 
-// The response of a vertex of a task, where its search finds one.
-fn respond_vertex<G: Gate, R: Threads + Wait + Sync>(
+// The response of the vertex of this number: what is found ahead, or else what all workers find together.
+fn next_response<G: Gate, R: Threads + Wait + Sync>(
     effort: &Effort<'_, G, R>,
     given: Given<'_>,
-    task: u32,
-    vertex: u32,
+    at: VertexAt,
+    number: usize,
+    ahead: &mut Vec<Option<Option<Response>>>,
 ) -> Result<Option<Response>, Memory>
     requires workers { (1 ≤ effort.now.workers) × (effort.now.workers ≤ 16) }
     requires given { IsGiven given }
-    requires task { task < length given.set.now.tasks }
-    requires vertex { vertex < vertex_count (graph_at given.set.now.tasks task) }
-    ensures { IfOk result (λ found. IfSome found (IsResponseOfVertex given.entry.set.now task vertex)) }
+    requires task { at.task < length given.set.now.tasks }
+    requires vertex { at.vertex < vertex_count (graph_at given.set.now.tasks at.task) }
+    requires ahead { AreFound given ahead.old.items }
+    ensures ahead { IfOk result (λ found. AreFound given.entry ahead.new.items) }
+    ensures response { IfOk result (λ found. IfSome found (IsResponseOfVertex given.entry.set.now at.task at.vertex)) }
 {
-    let at = VertexAt { task, vertex };
+    match take_response(given, at, number, ahead) {
+        Some(response) => Ok(Some(response)),
+        None => respond_vertex(effort, given, at),
+    }
+}
+
+/// The response of a vertex of a task, where its search finds one.
+pub(crate) fn respond_vertex<G: Gate, R: Threads + Wait + Sync>(
+    effort: &Effort<'_, G, R>,
+    given: Given<'_>,
+    at: VertexAt,
+) -> Result<Option<Response>, Memory>
+    requires workers { (1 ≤ effort.now.workers) × (effort.now.workers ≤ 16) }
+    requires given { IsGiven given }
+    requires task { at.task < length given.set.now.tasks }
+    requires vertex { at.vertex < vertex_count (graph_at given.set.now.tasks at.task) }
+    ensures { IfOk result (λ found. IfSome found (IsResponseOfVertex given.entry.set.now at.task at.vertex)) }
+{
     let subject = subject_of(given, at);
     let found = search_response(
         effort.rt,

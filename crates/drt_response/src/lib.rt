@@ -6,6 +6,7 @@
 //! and `print`, which writes responses as text, are those of `drt_responses`.
 #![tactic(auto)]
 
+mod ahead;
 mod answer;
 mod by_states;
 mod by_trees;

@@ -2,9 +2,11 @@
 
 use crate::answers::{Ticks, answer_of, end_before_finish, have_ticks, is_answer};
 use drt_drawn::{Draws, drawn_set};
+use drt_fixtures::{Shape, make_set};
 use drt_graph::check;
+use drt_meeting::Meeting;
 use drt_model::TaskSet;
-use drt_pool::EagerGate;
+use drt_pool::{EagerGate, Gate};
 use drt_response::{ResponseAnswer, StatesResponse, respond_by_states};
 use std::alloc::Global;
 use std::sync::Wait;
@@ -14,6 +16,12 @@ use std::thread::Threads;
 const DRAWN_SETS: u32 = 250;
 
 const BUDGET: u64 = 1_000_000;
+
+// A task above one of two vertices: one tail, and the searches of three vertices.
+const TWO_VERTICES: [Shape<'static>; 2] = [
+    (&[(1, 4)], &[(0, 0, 4)]),
+    (&[(1, 8), (2, 9)], &[(0, 1, 9), (1, 0, 9)]),
+];
 
 // The response of each vertex of each task, in order, as one worker answers; none where the set isn't schedulable.
 fn ticks_of<R: Threads + Wait + Sync>(
@@ -35,11 +43,12 @@ fn ticks_of<R: Threads + Wait + Sync>(
 }
 
 // What tails and states say of a set by so many workers.
-fn states_of<R: Threads + Wait + Sync>(
+fn states_of<G: Gate, R: Threads + Wait + Sync>(
     rt: &R,
     alloc: Global,
     set: TaskSet,
     workers: u32,
+    gate: &G,
 ) -> Result<StatesResponse, Fail> {
     if workers < 1 || workers > 16 {
         return Err("the workers are in range".into());
@@ -47,7 +56,7 @@ fn states_of<R: Threads + Wait + Sync>(
     let Ok(graphs) = check(alloc, &set) else {
         return Err("the deadlines are constrained".into());
     };
-    Ok(respond_by_states(rt, alloc, set, &graphs, workers, BUDGET, &EagerGate)?)
+    Ok(respond_by_states(rt, alloc, set, &graphs, workers, BUDGET, gate)?)
 }
 
 // Whether these are the responses, with releases before each finish, or both say no.
@@ -75,7 +84,7 @@ fn is_answered_by<R: Threads + Wait + Sync>(
 ) -> Result<bool, Fail> {
     let mut draws = Draws { state };
     let set = drawn_set(alloc, &mut draws)?.ok_or("within the limits")?;
-    let by_states = are_those(&states_of(rt, alloc, set, workers)?, ticks);
+    let by_states = are_those(&states_of(rt, alloc, set, workers, &EagerGate)?, ticks);
     let mut again = Draws { state };
     let set = drawn_set(alloc, &mut again)?.ok_or("within the limits")?;
     let answer = answer_of(rt, alloc, set, workers, BUDGET, &EagerGate)?;
@@ -112,5 +121,20 @@ fn drawn_sets_respond_alike_by_states_and_by_several_workers(rt: HostRuntime) ->
             "set {number}"
         );
     }
+    Ok(())
+}
+
+// They meet once in the searches of the analysis, and once in those of the responses.
+#[test]
+fn two_workers_search_two_vertices_at_once(rt: HostRuntime) -> Result<(), Fail> {
+    let meeting = Meeting::at(0);
+    let set = make_set(rt.alloc(), &TWO_VERTICES)?.ok_or("within the limits")?;
+    let states = states_of(&rt, rt.alloc(), set, 2, &meeting)?;
+    let mut ticks = Vec::new(rt.alloc());
+    for response in [(0, 0, 1), (1, 0, 2), (1, 1, 3)] {
+        ticks.push(response)?;
+    }
+    assert!(rt; are_those(&states, &Some(ticks)));
+    assert_eq!(rt; meeting.times_met(), 2);
     Ok(())
 }

@@ -11,8 +11,8 @@ use Rattle.drt_response.proofs.by_states.respond_task.Goals as goal
 pub graph-graph-requires : goal.graph-graph-requires
 graph-graph-requires g c = omega (arith, c.requires.task, ap length c.requires.given.graphs, length-map c.args.given.set.now.tasks digraph_of)
 
-pub respond_vertex-requires-clause-vertex : goal.respond_vertex-requires-clause-vertex
-respond_vertex-requires-clause-vertex g c =
+pub next_response-requires-clause-vertex : goal.next_response-requires-clause-vertex
+next_response-requires-clause-vertex g c =
     let tasks : List Task = c.args.given.set.now.tasks in
     let k = c.args.task in
     let graph : c.graph-graph.result.now ≡ graph_at tasks k = c.graph-graph.ensures.graph ∙ (ap (λ gs. graph_of gs k) c.requires.given.graphs ∙ graph_same tasks k c.requires.task) in
@@ -20,14 +20,15 @@ respond_vertex-requires-clause-vertex g c =
 
 pub vertices-preserved : goal.vertices-preserved
 vertices-preserved g c =
-    let is = rw c.in-Some.is at c.in_ok-response.ensures in
-    rw c.in_ok-push-in-Some.ensures.items (responses_more c.args.given.set.now c.args.task c.vertices.vertex c.vertices.responses.items c.in-Some.response c.vertices.invariant is.0 is.1 is.2)
+    let is = rw c.in-Some.is at c.in_ok-response.ensures.response in
+    let more = responses_more c.args.given.set.now c.args.task c.vertices.vertex c.vertices.responses.items c.in-Some.response c.vertices.invariant.0 is.0 is.1 is.2 in
+    (rw c.in_ok-push-in-Some.ensures.items more, c.in_ok-response.ensures.ahead)
 
-pub returns : goal.returns
-returns g c =
+pub returns-clause-responses : goal.returns-clause-responses
+returns-clause-responses g c =
     let tasks : List Task = c.args.given.set.now.tasks in
     let k = c.args.task in
     let graph : c.graph-graph.result.now ≡ graph_at tasks k = c.graph-graph.ensures.graph ∙ (ap (λ gs. graph_of gs k) c.requires.given.graphs ∙ graph_same tasks k c.requires.task) in
     let all : c.vertices.vertex ≡ vertex_count (graph_at tasks k)
     = omega (arith, c.vertices-test.false, c.vertices.auto.vertex-end, c.vertex_count-vertex-end.ensures.count, ap (λ x. vertex_count x) graph) in
-    λ done. responses_next c.args.given.set.now k c.vertices.vertex c.vertices.responses.items c.vertices.invariant all
+    λ done. responses_next c.args.given.set.now k c.vertices.vertex c.vertices.responses.items c.vertices.invariant.0 all

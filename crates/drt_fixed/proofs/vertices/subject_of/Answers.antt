@@ -6,13 +6,13 @@ use Rattle.drt_check_states.specs.Crests.{IsCrest}
 use Rattle.drt_check_states.specs.Curves.{HasRisingCurves}
 use Rattle.drt_sp_states.specs.Subjects.{IsSubject}
 use Rattle.drt_fixed.proofs.Prefixes.{zip_take}
-use Rattle.drt_fixed.proofs.searching.subject_at.Goals as goal
+use Rattle.drt_fixed.proofs.vertices.subject_of.Goals as goal
 
 pub returns : goal.returns
 returns c = record {
-  order = All-take (λ k. k < length c.args.given.graphs.now) c.args.place c.args.given.order.now c.requires.given.order;
-  tails = All-take HasRisingCurves c.args.place c.args.given.tails.now c.requires.given.tails;
-  crests = zip_take IsCrest c.args.place c.args.given.tails.now c.args.given.crests.now c.requires.given.crests;
+  order = All-take (λ k. k < length c.args.given.graphs.now) c.args.vertex.place c.args.given.order.now c.requires.given.order;
+  tails = All-take HasRisingCurves c.args.vertex.place c.args.given.tails.now c.requires.given.tails;
+  crests = zip_take IsCrest c.args.vertex.place c.args.given.tails.now c.args.given.crests.now c.requires.given.crests;
   few = grind (arith, common_steps);
   wcet = grind (arith, common_steps);
   some = grind (arith, common_steps);

@@ -1,0 +1,12 @@
+-- What is left of what was found where one place is taken out.
+use Rattle.std.proofs.Common.{◌≡◌, ◌≢◌, ℕ, List, Option, None, Some, eqb, sym, subst, ap, ◌∙◌, inl, inr}
+use Rattle.std.specs.Prelude.{slice_index_or}
+use Rattle.std.proofs.lemmas.Bool.Decides.{eqb_tells}
+use Rattle.drt_ahead.specs.Found.{AreThere}
+
+pub rest_there : {X : Type 0} (P : ℕ → X → Type 0) (place : ℕ) (old new : List (Option X)) → AreThere P old → slice_index_or new place None ≡ None
+    → ((i : ℕ) → i ≢ place → slice_index_or new i None ≡ slice_index_or old i None) → AreThere P new
+rest_there P place old new there gone others i x e = elim (eqb_tells i place) [
+  | inl same ↦ (let none : slice_index_or new i None ≡ None = subst (λ j. slice_index_or new j None ≡ None) (sym same.1) gone in absurd (cc))
+  | inr other ↦ there i x (sym (others i other.1) ∙ e)
+]

@@ -1,0 +1,125 @@
+//! The vertices to be searched, and the search of each.
+ghost use Rattle.std.specs.Prelude.{◌<◌, ◌≤◌, All, IfOk, IfSome, length};
+ghost use Rattle.drt_sp_states.specs.Subjects.{IsSubject};
+ghost use Rattle.drt_fixed.specs.Searching.{IsGiven, IsPlaced};
+
+use crate::releases::VertexAt;
+use drt_ahead::Crew;
+use drt_graph::Graphs;
+use drt_model::{Memory, Row};
+use drt_pool::Gate;
+use drt_sp_states::{Searched, Subject, search_states};
+use drt_states::{Jump, TailClaim};
+use std::alloc::Global;
+use std::sync::Wait;
+use std::thread::Threads;
+
+// The most tasks of higher priority.
+const MOST_HIGHER: usize = 31;
+// The greatest execution time and the greatest deadline, in ticks.
+const MOST_TICKS: u32 = 1_000_000;
+
+/// What the searches of all vertices are over: the graphs, the tasks in order of priority, the tails of all but the last one with their
+/// greatest values, and how many states each search takes at most.
+#[derive(Clone, Copy)]
+pub(crate) struct Given<'a> {
+    pub graphs: &'a Graphs,
+    pub order: &'a [u32],
+    pub tails: &'a [TailClaim],
+    pub crests: &'a [Row<Jump>],
+    pub budget: u64,
+}
+
+/// A vertex of the task at a place of the order, and its execution time in ticks.
+#[derive(Clone, Copy)]
+pub(crate) struct PlacedVertex {
+    pub place: usize,
+    pub at: VertexAt,
+    pub wcet: u32,
+}
+
+/// The vertices of all tasks, in order of priority.
+pub(crate) fn list_vertices(alloc: Global, given: Given<'_>) -> Result<Vec<PlacedVertex>, Memory>
+    requires { IsGiven given }
+    ensures { IfOk result (λ vertices. All (IsPlaced given.entry) vertices.items) }
+{
+    let mut vertices = Vec::new(alloc);
+    for place in 0..given.order.len() {
+        add_vertices(given, place, &mut vertices)?;
+    }
+    Ok(vertices)
+}
+
+// Adds the vertices of the task at a place.
+fn add_vertices(
+    given: Given<'_>,
+    place: usize,
+    vertices: &mut Vec<PlacedVertex>,
+) -> Result<(), Memory>
+    requires given { IsGiven given }
+    requires place { place < length given.order.now }
+    requires before { All (IsPlaced given) vertices.old.items }
+    ensures { IfOk result (λ done. All (IsPlaced given.entry) vertices.new.items) }
+{
+    let task = given.order[place];
+    let graph = given.graphs.graph(task);
+    for vertex in 0..graph.vertex_count() {
+        let job = graph.vertex(vertex);
+        vertices.push(PlacedVertex {
+            place,
+            at: VertexAt {
+                task,
+                vertex,
+                deadline: job.deadline,
+            },
+            wcet: job.wcet,
+        })?;
+    }
+    Ok(())
+}
+
+/// The search of a vertex, which is within the limits of a set, by so many states at most.
+pub(crate) fn search_vertex<G: Gate, R: Threads + Wait + Sync>(
+    crew: &Crew<'_, G, R>,
+    given: Given<'_>,
+    vertex: PlacedVertex,
+    most: u64,
+) -> Result<Searched, Memory>
+    requires workers { (1 ≤ crew.now.workers) × (crew.now.workers ≤ 16) }
+    requires given { IsGiven given }
+    requires vertex { IsPlaced given vertex }
+{
+    let Crew {
+        rt,
+        alloc,
+        workers,
+        gate,
+    } = *crew;
+    match subject_of(given, vertex) {
+        Some(subject) => search_states(rt, alloc, subject, workers, most, gate),
+        None => Ok(Searched::Spent),
+    }
+}
+
+// What the search of a vertex is over. None where a number is past the limits of a set, which none is.
+fn subject_of<'a>(given: Given<'a>, vertex: PlacedVertex) -> Option<Subject<'a>>
+    requires given { IsGiven given }
+    requires vertex { IsPlaced given vertex }
+    ensures { IfSome result IsSubject }
+{
+    let PlacedVertex { place, at, wcet } = vertex;
+    if place > given.tails.len() || place > given.crests.len() || place > MOST_HIGHER {
+        return None;
+    }
+    if wcet > MOST_TICKS || at.deadline == 0 || at.deadline > MOST_TICKS {
+        return None;
+    }
+    Some(Subject {
+        graphs: given.graphs,
+        order: &given.order[..place],
+        tails: &given.tails[..place],
+        crests: &given.crests[..place],
+        wcet,
+        deadline: at.deadline,
+    })
+}

@@ -1,0 +1,155 @@
+//! Responses that workers find ahead.
+ghost use Rattle.std.specs.Prelude.{◌<◌, ◌≤◌, All, IfOk, IfSome, length};
+ghost use denote.Param.Send.{IsSync};
+ghost use Rattle.drt_response.specs.Answers.{IsResponseOf, IsResponseOfVertex};
+ghost use Rattle.drt_response.specs.Subjects.{AreFound, IsGiven, IsVertexAt};
+
+use crate::by_states::{Effort, respond_vertex};
+use crate::subjects::{Given, VertexAt};
+use drt_ahead::{Crew, look_ahead, take_found};
+use drt_fixed::{largest_first, shared_size};
+use drt_model::Memory;
+use drt_pool::Gate;
+use drt_responses::Response;
+use drt_states::SearchClaim;
+use std::alloc::Global;
+use std::sync::Wait;
+use std::thread::Threads;
+
+// How many states it is worth threads to share.
+const ENOUGH: u64 = 500;
+// How many states a search ahead takes at most, for it may be made for nothing. What takes more is searched by all workers together.
+const MOST_AHEAD: u64 = 16_384;
+
+/// The responses that workers find side by side, each by one of them, where the searches of the analysis tell that it is worth it: those of
+/// the most states first. Each stands at the number of its vertex, in order of the file. A search that finds none is the last one.
+pub(crate) fn respond_ahead<G: Gate, R: Threads + Wait + Sync>(
+    effort: &Effort<'_, G, R>,
+    given: Given<'_>,
+    searches: &[SearchClaim],
+) -> Result<Vec<Option<Option<Response>>>, Memory>
+    requires given { IsGiven given }
+    ensures { IfOk result (λ found. AreFound given.entry found.items) }
+{
+    let alloc = effort.alloc;
+    let sizes = count_states(alloc, searches)?;
+    let vertices = list_vertices(alloc, given)?;
+    let enough = effort.gate.alone().min(ENOUGH);
+    if shared_size(&sizes) < enough || sizes.len() != vertices.len() {
+        return Ok(Vec::new(alloc));
+    }
+    let first = largest_first(alloc, &sizes)?;
+    find_ahead(effort, given, &vertices, &first)
+}
+
+// The responses of vertices that workers find, begun in this order.
+fn find_ahead<G: Gate, R: Threads + Wait + Sync>(
+    effort: &Effort<'_, G, R>,
+    given: Given<'_>,
+    vertices: &[VertexAt],
+    order: &[u32],
+) -> Result<Vec<Option<Option<Response>>>, Memory>
+    requires given { IsGiven given }
+    requires vertices { All (IsVertexAt given) vertices.now }
+    requires order { All (λ i. i < length order.now) order.now }
+    requires most { length order.now ≤ length vertices.now }
+    ensures { IfOk result (λ found. AreFound given.entry found.items) }
+{
+    let Effort {
+        rt,
+        alloc,
+        workers,
+        gate,
+        ..
+    } = *effort;
+    let budget = effort.budget.min(MOST_AHEAD);
+    let crew = Crew {
+        rt,
+        alloc,
+        workers,
+        gate,
+    };
+    let job = move |place: u32| -> Result<Option<Response>, Memory>
+        requires { IsSync R.row × IsSync G.row × IsGiven given × All (IsVertexAt given) vertices.now × (place < length vertices.now) }
+        ensures { IfOk result (λ found. IfSome found (IsResponseOf given.entry.set.now)) }
+    {
+        let alone = Effort {
+            rt,
+            alloc,
+            workers: 1,
+            budget,
+            gate,
+        };
+        respond_vertex(&alone, given, vertices[place as usize])
+    };
+    look_ahead(&crew, order, job, is_none)
+}
+
+fn is_none(response: &Option<Response>) -> bool {
+    response.is_none()
+}
+
+/// Takes the response that is found at a place, where it is one of this vertex.
+pub(crate) fn take_response(
+    given: Given<'_>,
+    at: VertexAt,
+    place: usize,
+    ahead: &mut Vec<Option<Option<Response>>>,
+) -> Option<Response>
+    requires { AreFound given ahead.old.items }
+    ensures ahead { AreFound given.entry ahead.new.items }
+    ensures response { IfSome result (IsResponseOfVertex given.entry.set.now at.task at.vertex) }
+{
+    match u32::try_from(place) {
+        Ok(place) => of_vertex(given, at, take_found(ahead, place)),
+        Err(_) => None,
+    }
+}
+
+// The response that is found, where it is one of this vertex.
+fn of_vertex(given: Given<'_>, at: VertexAt, found: Option<Option<Response>>) -> Option<Response>
+    requires { IfSome found (λ response. IfSome response (IsResponseOf given.set.now)) }
+    ensures { IfSome result (IsResponseOfVertex given.entry.set.now at.task at.vertex) }
+{
+    match found {
+        Some(Some(response)) if response.task == at.task && response.vertex == at.vertex => {
+            Some(response)
+        }
+        _ => None,
+    }
+}
+
+// The vertices of all tasks, in order of the file.
+fn list_vertices(alloc: Global, given: Given<'_>) -> Result<Vec<VertexAt>, Memory>
+    requires { IsGiven given }
+    ensures { IfOk result (λ vertices. All (IsVertexAt given.entry) vertices.items) }
+{
+    let mut vertices = Vec::new(alloc);
+    'tasks: for task in 0..given.graphs.count() {
+        add_vertices(given, task, &mut vertices)?;
+    }
+    Ok(vertices)
+}
+
+// Adds the vertices of a task.
+fn add_vertices(given: Given<'_>, task: u32, vertices: &mut Vec<VertexAt>) -> Result<(), Memory>
+    requires given { IsGiven given }
+    requires task { task < length given.set.now.tasks }
+    requires before { All (IsVertexAt given) vertices.old.items }
+    ensures { IfOk result (λ done. All (IsVertexAt given.entry) vertices.new.items) }
+{
+    let graph = given.graphs.graph(task);
+    'vertices: for vertex in 0..graph.vertex_count() {
+        vertices.push(VertexAt { task, vertex })?;
+    }
+    Ok(())
+}
+
+// How many states each search has.
+fn count_states(alloc: Global, searches: &[SearchClaim]) -> Result<Vec<u64>, Memory> {
+    let mut counts = Vec::with_capacity(alloc, searches.len())?;
+    for search in searches {
+        counts.push(search.states.as_slice().len() as u64)?;
+    }
+    Ok(counts)
+}
