@@ -10,18 +10,18 @@ use Rattle.drt_sp.proofs.attempts.attempt_vertices.Goals.{in-Passes+in_ok-push-i
 use Rattle.drt_sp.proofs.attempts.attempt_vertices.Goals as goal
 
 pub refine_vertex-requires-clause-roots : goal.refine_vertex-requires-clause-roots
-refine_vertex-requires-clause-roots g c κs within =
+refine_vertex-requires-clause-roots c κs within =
     let l : c.loop-vertex.vertex < vertex_count c.args.graph.now = omega (arith, c.loop-vertex-test.true, c.vertex_count-vertex-end.ensures.count) in
     rw c.vertex-subject.ensures (c.requires.roots c.loop-vertex.vertex l)
 
 pub returns-in-Fails-clause-proofs : goal.returns-in-Fails-clause-proofs
-returns-in-Fails-clause-proofs g c =
+returns-in-Fails-clause-proofs c =
     let is = rw (c.in-Fails.is, c.vertex-subject.ensures) at c.in_ok-items.ensures in
     rw c.in_ok-push-in-Fails.ensures.items
     (attempt_fails c.args.forest.now c.args.roots.now c.args.graph.now c.loop-vertex.vertex c.loop-vertex.proofs.items c.loop-vertex.spent.items c.loop-vertex.invariant c.in-Fails.tuple is)
 
 pub loop-vertex-preserved : goal.loop-vertex-preserved
-loop-vertex-preserved g c =
+loop-vertex-preserved c =
     let f = c.args.forest.now in
     let roots = c.args.roots.now in
     let n = c.loop-vertex.vertex in

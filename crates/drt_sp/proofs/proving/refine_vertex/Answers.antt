@@ -12,7 +12,7 @@ use Rattle.drt_sp.proofs.VertexProofs.{proof_of, failure_of, failed_within}
 use Rattle.drt_sp.proofs.proving.refine_vertex.Goals as goal
 
 pub returns-in_ok-items_of-in-Finished : goal.returns-in_ok-items_of-in-Finished
-returns-in_ok-items_of-in-Finished g c =
+returns-in_ok-items_of-in-Finished c =
     let f = c.args.forest.now in
     let v = c.in_ok-frontier.frontier in
     let t = refinement_of f c.args.roots.now c.args.wcet c.args.deadline c.args.budget in
@@ -27,13 +27,13 @@ returns-in_ok-items_of-in-Finished g c =
     )
 
 pub tuple_of-requires : goal.tuple_of-requires
-tuple_of-requires g c =
+tuple_of-requires c =
     let f = c.args.forest.now in
     let v = c.in_ok-frontier.frontier in
     failed_within v.combinations c.in-Failed.id (subst (λ r. StopsAt (setting_of f v) (state_of v) r) c.in-Failed.is c.in_ok-frontier.ensures.stops)
 
 pub returns-in_ok-tuple_of-in-Failed : goal.returns-in_ok-tuple_of-in-Failed
-returns-in_ok-tuple_of-in-Failed g c =
+returns-in_ok-tuple_of-in-Failed c =
     let f = c.args.forest.now in
     let v = c.in_ok-frontier.frontier in
     let s = setting_of f v in
