@@ -1,5 +1,6 @@
 //! Looking ahead.
 ghost use Rattle.std.specs.Prelude.{◌≡◌, ◌<◌, ℕ, All, IfOk, Ok, length};
+ghost use denote.Param.Send.{IsSync, IsSend};
 ghost use Rattle.drt_ahead.specs.Found.{AreThere, AreAnswers};
 
 use crate::crew::{Crew, worker_count};
@@ -7,7 +8,6 @@ use crate::found::{Answer, empty_places, put_answer};
 use crate::line::Line;
 use drt_model::Memory;
 use drt_pool::Gate;
-use std::alloc::Global;
 use std::thread;
 use std::thread::Threads;
 
@@ -33,15 +33,17 @@ pub fn look_ahead<
     if workers < 2 {
         return Ok(found);
     }
-    let mut lists = share(crew, order, &job, &is_last, workers)?;
+    let mut lists = begin_workers(crew, order, &job, &is_last, &Line::start(), workers)?;
     while let Some(list) = lists.pop() {
         put_answers(&job, list, &mut found);
     }
     Ok(found)
 }
 
-// Shares the jobs among so many workers. Each list has the answers that one of them found.
-fn share<
+// Begins so many workers, the last one first, and gives a list of what each of them found. The caller begins all of them and then waits for
+// them: a new thread may be put on the processor of who began it, and there it waits for as long as that one works.
+#[cycle(workers)]
+fn begin_workers<
     X: Send + Drop,
     F: Fn(u32) -> Result<X, Memory> + Sync,
     L: Fn(&X) -> bool + Sync,
@@ -52,6 +54,7 @@ fn share<
     order: &[u32],
     job: &F,
     is_last: &L,
+    line: &Line,
     workers: usize,
 ) -> Result<Vec<Vec<Answer<X>>>, Memory>
     requires places { All (λ i. i < length order.now) order.now }
@@ -59,28 +62,32 @@ fn share<
     requires ends { L.IsAlwaysCallable is_last.now }
     ensures { IfOk result (λ lists. All (λ list. AreAnswers (λ i x. F.post job.now i (Ok x)) list.items) lists.items) }
 {
-    let Crew {
-        rt,
-        alloc,
-        gate,
-        ..
-    } = *crew;
-    let line = &Line::start();
-    let worker = move |number: usize| -> Vec<Answer<X>>
+    if workers == 0 {
+        return Ok(Vec::new(crew.alloc));
+    }
+    let number = workers - 1;
+    let beside = move || -> Vec<Answer<X>>
         requires { All (λ i. i < length order.now) order.now × ((i : ℕ) → i < length order.now → F.pre job.now i) × L.IsAlwaysCallable is_last.now }
         ensures { AreAnswers (λ i x. F.post job.entry.now i (Ok x)) result.items }
-    { answer_jobs(alloc, order, job, is_last, line, gate, number) };
-    thread::map_indices(rt, alloc, workers, &worker)
+    { answer_jobs(crew, order, job, is_last, line, number) };
+    let others = move || -> Result<Vec<Vec<Answer<X>>>, Memory>
+        requires { IsSync R.row × IsSync F.row × IsSync L.row × IsSync G.row × IsSend X.row × All (λ i. i < length order.now) order.now
+            × ((i : ℕ) → i < length order.now → F.pre job.now i) × L.IsAlwaysCallable is_last.now }
+        ensures { IfOk result (λ lists. All (λ list. AreAnswers (λ i x. F.post job.entry.now i (Ok x)) list.items) lists.items) }
+    { begin_workers(crew, order, job, is_last, line, number) };
+    let (list, lists) = thread::join(crew.rt, beside, others);
+    let mut lists = lists?;
+    lists.push(list)?;
+    Ok(lists)
 }
 
 // One worker's part: it does the next job that is asked for until there is none, or memory is wanting.
-fn answer_jobs<X: Drop, F: Fn(u32) -> Result<X, Memory>, L: Fn(&X) -> bool, G: Gate>(
-    alloc: Global,
+fn answer_jobs<X: Drop, F: Fn(u32) -> Result<X, Memory>, L: Fn(&X) -> bool, G: Gate, R>(
+    crew: &Crew<'_, G, R>,
     order: &[u32],
     job: &F,
     is_last: &L,
     line: &Line,
-    gate: &G,
     worker: usize,
 ) -> Vec<Answer<X>>
     requires places { All (λ i. i < length order.now) order.now }
@@ -88,12 +95,13 @@ fn answer_jobs<X: Drop, F: Fn(u32) -> Result<X, Memory>, L: Fn(&X) -> bool, G: G
     requires ends { L.IsAlwaysCallable is_last.now }
     ensures { AreAnswers (λ i x. F.post job.now i (Ok x)) result.items }
 {
-    let mut answers = Vec::new(alloc);
+    let mut answers = Vec::new(crew.alloc);
     for turn in 0..order.len() {
         let Some(place) = line.take_next(order) else {
             return answers;
         };
-        gate.before(worker.min(u32::MAX as usize) as u32, turn as u64);
+        crew.gate
+            .before(worker.min(u32::MAX as usize) as u32, turn as u64);
         let Ok(value) = job(place) else {
             return answers;
         };

@@ -1,5 +1,6 @@
 //! Tests of what the analysis under EDF stands on, by hand: demand, ratios of cycles, horizons, fronts. And of the analysis itself: which kind
-//! of table a task has, worked noes, and that two tasks are searched at the same time. Drawn sets and large fronts are compared with a plain reading by `examples/drawn`.
+//! of table a task has, worked noes, and that two tasks are searched at the same time. Drawn sets and large fronts are compared with a plain
+//! reading by `examples/drawn`.
 #![tactic(auto)]
 
 #[cfg(test)]
