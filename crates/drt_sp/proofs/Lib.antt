@@ -29,3 +29,4 @@ pub mod TaskTrees
 pub mod TreeSearches
 pub mod Translated
 mod Ended
+mod EndsAhead

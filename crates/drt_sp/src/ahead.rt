@@ -1,10 +1,10 @@
 //! Searches of several tasks' walks, side by side and ahead of their turn.
-ghost use Rattle.std.specs.Prelude.{[], ◌≡◌, ℕ, ◌+◌, ◌<◌, ◌≤◌, All, IfOk, IfSome, List, length};
+ghost use Rattle.std.specs.Prelude.{◌≡◌, ℕ, ◌+◌, ◌<◌, ◌≤◌, All, IfOk, IfSome, List, length};
 ghost use Rattle.drt_model.specs.Digraph.{Digraph};
 ghost use Rattle.drt_sp.specs.Searches.{AreEndsAhead, IsEndAt};
 
 use crate::trees::{SearchEnd, search_leaves};
-use drt_ahead::{Crew, look_ahead};
+use drt_ahead::{Crew, look_ahead, take_found};
 use drt_graph::{Graph, Graphs};
 use drt_model::Memory;
 use drt_pool::Gate;
@@ -28,7 +28,7 @@ pub(crate) struct EndsAhead {
 impl EndsAhead {
     /// Nothing is found.
     pub(crate) fn nothing(alloc: Global) -> EndsAhead
-        ensures { result.found.items ≡ [] }
+        ensures { (gs : List Digraph) (order : List ℕ) (bound budget : ℕ) → AreEndsAhead gs order bound budget result }
     {
         EndsAhead {
             from: 0,
@@ -46,13 +46,8 @@ impl EndsAhead {
         ensures taken { (gs : List Digraph) (order : List ℕ) (bound budget : ℕ) → AreEndsAhead gs order bound budget self.old → IfSome result (IsEndAt gs order bound budget place) }
         ensures left { (gs : List Digraph) (order : List ℕ) (bound budget : ℕ) → AreEndsAhead gs order bound budget self.old → AreEndsAhead gs order bound budget self.new }
     {
-        if place < self.from {
-            return None;
-        }
-        match self.found.get_mut(place - self.from) {
-            None => None,
-            Some(end) => end.take(),
-        }
+        let number = u32::try_from(place.checked_sub(self.from)?).ok()?;
+        take_found(&mut self.found, number)
     }
 }
 

@@ -1,12 +1,27 @@
-use Rattle.std.proofs.Common.{◌≡◌, ◌+◌, ◌-◌, ℕ, List, length, subst, arith}
+use Rattle.std.proofs.Common.{◌≡◌, ◌<◌, ◌+◌, ◌-◌, ℕ, List, length, ap, subst, arith}
+use Rattle.std.specs.Prelude.{IfSome}
+use Rattle.std.proofs.lemmas.List.{length-map}
+use Rattle.std.proofs.lemmas.List.Elements.{All-from_get_or}
+use Rattle.drt_model.specs.Digraph.{digraph_of}
 use Rattle.drt_model.specs.declared.tasks.Task.{Task}
 use Rattle.drt_choices.specs.Choices.{IsOrder}
 use Rattle.drt_sp.specs.Progress.{AreGrown, AreProved}
-use Rattle.drt_sp.proofs.Orders.{order_count}
+use Rattle.drt_sp.specs.Searches.{IsEndAt}
+use Rattle.drt_sp.proofs.Orders.{order_below, order_count}
 use Rattle.drt_sp.proofs.analysis.analyse.Goals as goal
 
 pub overflow_sub-last : goal.overflow_sub-last
 overflow_sub-last g c = omega (arith, order_count c.args.set.now.tasks c.args.order.now c.requires.given.order_is, c.tasks-tasks.ensures.limits.has_task)
+
+pub search_ahead-requires-clause-tasks : goal.search_ahead-requires-clause-tasks
+search_ahead-requires-clause-tasks g c κs within =
+    All-from_get_or (λ k. k < length c.args.graphs.now) c.args.order.now 0 (λ i l.
+    (let b = order_below c.args.set.now.tasks c.args.order.now c.requires.given.order_is i l in omega (arith, b, ap length c.requires.given.graphs_are, length-map c.args.set.now.tasks digraph_of)))
+
+pub add_tree-requires-clause-found : goal.add_tree-requires-clause-found
+add_tree-requires-clause-found g c =
+    subst (λ b. IfSome c.take-found.result (IsEndAt c.args.graphs.now c.args.order.now b c.args.budget c.places.place)) c.greatest_deadline-bound.ensures.value
+    (c.take-found.ensures.taken c.args.graphs.now c.args.order.now c.greatest_deadline-bound.result c.args.budget c.in_ok-ahead.ensures)
 
 pub prove_task-requires-2-clause-here : goal.prove_task-requires-2-clause-here
 prove_task-requires-2-clause-here g c = omega (arith, order_count c.args.set.now.tasks c.args.order.now c.requires.given.order_is, c.tasks-tasks.ensures.limits.has_task)

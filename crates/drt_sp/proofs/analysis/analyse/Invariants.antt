@@ -1,5 +1,4 @@
 -- The tasks at the places so far have their trees and their proofs, and what was found ahead are ends of searches.
-use Rattle.drt_evidence.specs.Trees.{greatest_deadline}
 use Rattle.drt_sp.specs.Progress.{AreGrown, AreProved}
 use Rattle.drt_sp.specs.Searches.{AreEndsAhead}
 use Rattle.drt_sp.proofs.analysis.analyse.Given as goal
@@ -8,5 +7,5 @@ abbrev pub invariant-places : goal.invariant-places
 invariant-places g l = record {
   grown : AreGrown l.set.tasks l.order l.place l.progress.forest l.progress.roots.items l.progress.trees.items;
   proved : AreProved l.set.tasks l.order l.place l.progress.trees.items l.progress.proofs.items;
-  ahead : AreEndsAhead l.graphs l.order (greatest_deadline l.set.tasks) l.budget l.ahead;
+  ahead : AreEndsAhead l.graphs l.order l.bound l.budget l.ahead;
 }

@@ -10,7 +10,7 @@ use Rattle.drt_sp.proofs.attempts.attempt_vertices.Goals.{in-Passes+in_ok-push-i
 use Rattle.drt_sp.proofs.attempts.attempt_vertices.Goals as goal
 
 pub refine_vertex-requires-clause-roots : goal.refine_vertex-requires-clause-roots
-refine_vertex-requires-clause-roots c κs within =
+refine_vertex-requires-clause-roots c =
     let l : c.loop-vertex.vertex < vertex_count c.args.graph.now = omega (arith, c.loop-vertex-test.true, c.vertex_count-vertex-end.ensures.count) in
     rw c.vertex-subject.ensures (c.requires.roots c.loop-vertex.vertex l)
 

@@ -6,7 +6,7 @@ use Rattle.drt_sp.proofs.vertices.prove_vertices.Goals.{then-vertex-len+in_ok-ah
 use Rattle.drt_sp.proofs.vertices.prove_vertices.Goals as goal
 
 pub take_or_prove-requires-clause-roots : goal.take_or_prove-requires-clause-roots
-take_or_prove-requires-clause-roots g c κs within =
+take_or_prove-requires-clause-roots g c =
     let l : c.vertices.vertex < vertex_count c.args.graph.now = omega (arith, c.vertices-test.true, c.vertex_count-vertex-end.ensures.count) in
     rw c.vertex-subject.ensures (c.requires.roots c.vertices.vertex l)
 

@@ -17,7 +17,7 @@ graph-requires g c =
     graph_within given c.requires.given (get_or given.order.now c.args.place 0) (order_below given.set.now.tasks given.order.now c.requires.given.order c.args.place c.requires.here)
 
 pub search_tree-requires-clause-room : goal.search_tree-requires-clause-room
-search_tree-requires-clause-room g c κs within =
+search_tree-requires-clause-room g c =
     omega (arith, room_more c.args.given c.requires.given c.tasks-tasks.ensures.limits c.args.place c.args.trees.now c.requires.here c.requires.before)
 
 pub returns-in_ok-push-in-Tree : goal.returns-in_ok-push-in-Tree

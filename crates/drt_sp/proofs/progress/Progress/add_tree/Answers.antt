@@ -40,7 +40,7 @@ plant_tree-requires-clause-room c =
     omega (arith, c.requires.grown.few, c.requires.here, order_count tasks order is, few_tasks set.version tasks limits)
 
 pub plant_tree-requires-clause-found : goal.plant_tree-requires-clause-found
-plant_tree-requires-clause-found c κs within = rw (c.graph-graph.ensures.graph, c.greatest_deadline-bound.ensures.value) c.requires.found
+plant_tree-requires-clause-found c = rw (c.graph-graph.ensures.graph, c.greatest_deadline-bound.ensures.value) c.requires.found
 
 pub returns-in_ok-push-in-Tree-2-clause-grown : goal.returns-in_ok-push-in-Tree-2-clause-grown
 returns-in_ok-push-in-Tree-2-clause-grown c =
