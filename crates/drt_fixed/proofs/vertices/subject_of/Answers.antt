@@ -4,7 +4,6 @@ use Rattle.std.proofs.lemmas.Grind.{common_steps}
 use Rattle.std.proofs.lemmas.List.Elements.{All-take}
 use Rattle.drt_check_states.specs.Crests.{IsCrest}
 use Rattle.drt_check_states.specs.Curves.{HasRisingCurves}
-use Rattle.drt_sp_states.specs.Subjects.{IsSubject}
 use Rattle.drt_fixed.proofs.Prefixes.{zip_take}
 use Rattle.drt_fixed.proofs.vertices.subject_of.Goals as goal
 
