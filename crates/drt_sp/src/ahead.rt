@@ -46,8 +46,13 @@ impl EndsAhead {
         ensures taken { (gs : List Digraph) (order : List ℕ) (bound budget : ℕ) → AreEndsAhead gs order bound budget self.old → IfSome result (IsEndAt gs order bound budget place) }
         ensures left { (gs : List Digraph) (order : List ℕ) (bound budget : ℕ) → AreEndsAhead gs order bound budget self.old → AreEndsAhead gs order bound budget self.new }
     {
-        let number = u32::try_from(place.checked_sub(self.from)?).ok()?;
-        take_found(&mut self.found, number)
+        if place < self.from {
+            return None;
+        }
+        match u32::try_from(place - self.from) {
+            Ok(number) => take_found(&mut self.found, number),
+            Err(_) => None,
+        }
     }
 }
 
