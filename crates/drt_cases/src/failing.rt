@@ -70,7 +70,7 @@ fn ends(
     let said = notice(alloc, &outcome)?;
     Ok(
         outcome.status == status
-            && matches!(outcome.fault, Fault::Nothing)
+            && matches!(&outcome.fault, Fault::Nothing)
             && sink.bytes() == written.as_bytes()
             && said.as_slice() == line.as_bytes(),
     )

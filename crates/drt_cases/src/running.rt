@@ -83,7 +83,7 @@ pub(crate) fn writes<G: Gate>(
     let (outcome, held) = answer_to(rt, alloc, words, text.as_bytes(), gate)?;
     Ok(
         outcome.status == status
-            && matches!(outcome.fault, Fault::Nothing)
+            && matches!(&outcome.fault, Fault::Nothing)
             && held.as_slice() == written.as_bytes(),
     )
 }
