@@ -1,5 +1,5 @@
 -- The steps of the rule, as the parts of `assign` see them.
-use Rattle.std.specs.Prelude.{◌≡◌, ℕ, ◌<◌, ◌≤◌, List, length, slice_index}
+use Rattle.std.specs.Prelude.{◌≡◌, ℕ, ◌<◌, ◌≤◌, List, None, Some, All, length, slice_index, slice_index_or}
 use Rattle.drt_model.specs.declared.tasks.Task.{Task}
 use Rattle.drt_model.specs.Constrained.{AreConstrained}
 use Rattle.drt_model.specs.Contents.{Contents}
@@ -12,6 +12,7 @@ use Rattle.drt_sp_task.specs.Task.{IsTaskAnswer}
 use Rattle.drt_sp_task.specs.declared.answer.TaskAnswer.{TaskAnswer}
 use Rattle.drt_assign.specs.Assign.{AreStuck, IsEndSpent, IsEndStuck, IsSpentAt, IsYesOf, with_priorities}
 use Rattle.drt_assign.specs.Rule.{AreRanks, FollowRule, IsFirst, IsTrial}
+use Rattle.drt_assign.specs.declared.ahead.Ahead.{Ahead}
 use Rattle.drt_assign.specs.declared.answer.AssignAnswer.{AssignAnswer}
 use Rattle.drt_assign.specs.declared.answer.AssignAnswer.TheVariants as answers
 use Rattle.drt_assign.specs.declared.ranking.Ranking.{Ranking}
@@ -42,6 +43,15 @@ pub record IsTried (tasks : List Task) (ranks : List ℕ) (m k budget : ℕ) (se
   pub trial : IsTrial ranks m k priorities
   pub set_is : set ≡ with_priorities tasks priorities
   pub says : IsTaskAnswer set budget k answer
+
+-- These are open tasks.
+abbrev pub AreOpen : List ℕ → List ℕ → Type 0
+AreOpen ranks ks = All (λ k. (k < length ranks) × (slice_index ranks k ≡ 0)) ks
+
+-- What was found ahead is said of the task at its place.
+abbrev pub AreAhead : List Task → List ℕ → ℕ → ℕ → Ahead → Type 0
+AreAhead tasks ranks m budget ahead =
+    (i : ℕ) (r : Contents × TaskAnswer) → slice_index_or ahead.found.items i None ≡ Some r → IsTried tasks ranks m (slice_index ahead.tasks.items i) budget r.0 r.1
 
 -- An open task that has the rank m by the rule.
 pub record IsNext (tasks : List Task) (ranks : List ℕ) (m k : ℕ) : Type 0 where

@@ -5,6 +5,7 @@
 //! answers. The layer above uses the one contract of `assign`. `budgets_suffice_for_assign` says how large a budget is enough.
 #![tactic(auto)]
 
+mod ahead;
 mod answer;
 mod assigning;
 mod laws;

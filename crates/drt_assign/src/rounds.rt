@@ -4,6 +4,7 @@ ghost use Rattle.drt_priorities.specs.Priorities.{prioritised};
 ghost use Rattle.drt_assign.specs.Rule.{AreRanks};
 ghost use Rattle.drt_assign.specs.Steps.{IsCourse, IsRound, IsTried};
 
+use crate::ahead::{look_further, nothing_ahead, take_or_try};
 use crate::answer::Stuck;
 use crate::trial::trial_priorities;
 use drt_fixed_task::decide_task;
@@ -52,6 +53,9 @@ pub(crate) enum Round {
 }
 
 /// Tries the open tasks, of which there are `open_count`, in order of the file, until one meets its deadlines under the other open ones.
+///
+/// The first one is tried by all workers. Where it misses, and the set isn't small, the next ones are tried side by side, one by each worker,
+/// and so on. So at most as many tasks are tried for nothing as there are workers, less one.
 pub(crate) fn find_next<G: Gate, R: Threads + Wait + Sync>(
     course: &Course<'_, G, R>,
     set: TaskSet,
@@ -64,10 +68,12 @@ pub(crate) fn find_next<G: Gate, R: Threads + Wait + Sync>(
 {
     let mut set = set;
     let mut stuck = Vec::new(course.alloc);
+    let mut ahead = nothing_ahead(course.alloc);
     'tasks: for k in 0..ranks.len() {
         if ranks[k] == 0 {
             let task = k as u32;
-            let (tried, answer) = try_task(course, set, ranks, open_count, task)?;
+            ahead = look_further(course, &set, ranks, open_count, task, &stuck, ahead)?;
+            let (tried, answer) = take_or_try(course, set, ranks, open_count, task, &mut ahead)?;
             match answer {
                 TaskAnswer::Meets => return Ok(Round::Found { set: tried, task }),
                 TaskAnswer::Undecided(trail) => {
@@ -90,8 +96,8 @@ pub(crate) fn find_next<G: Gate, R: Threads + Wait + Sync>(
     })
 }
 
-// Decides whether an open task meets its deadlines under the other open ones, in the set with priorities for that.
-fn try_task<G: Gate, R: Threads + Wait + Sync>(
+/// Decides whether an open task meets its deadlines under the other open ones, in the set with priorities for that.
+pub(crate) fn try_task<G: Gate, R: Threads + Wait + Sync>(
     course: &Course<'_, G, R>,
     set: TaskSet,
     ranks: &[u32],
