@@ -11,6 +11,9 @@ use std::thread::Threads;
 
 const DRAWN_SETS: u32 = 1000;
 
+// So many are asked for priorities and margins.
+const SOME_SETS: u32 = 200;
+
 // The statuses of a run over this text and of `check` over what it writes.
 fn statuses_of(
     rt: &(impl Threads + Wait + Sync),
@@ -93,6 +96,70 @@ fn drawn_sets_are_answered_alike_by_one_worker_and_by_four(rt: HostRuntime) -> R
         ("sp --workers 1", "sp --workers 4"),
     ] {
         assert!(rt; are_answered_alike(&rt, rt.alloc(), words)?, "{}", words.0);
+    }
+    Ok(())
+}
+
+// Whether these words write the same for a text, by workers that are begun at once.
+fn write_alike(
+    rt: &(impl Threads + Wait + Sync),
+    alloc: Global,
+    commands: [&str; 4],
+    text: &[u8],
+) -> Result<bool, Fail> {
+    let wanted = write_for(rt, alloc, commands[0], text, &EagerGate)?;
+    let mut alike = true;
+    for words in commands {
+        let written = write_for(rt, alloc, words, text, &EagerGate)?;
+        alike = alike && written.as_slice() == wanted.as_slice();
+    }
+    Ok(alike)
+}
+
+// Whether these words write the same for each of some drawn sets.
+fn are_written_alike(
+    rt: &(impl Threads + Wait + Sync),
+    alloc: Global,
+    commands: [&str; 4],
+) -> Result<bool, Fail> {
+    let mut draws = Draws { state: 30 };
+    let mut alike = true;
+    for _ in 0..SOME_SETS {
+        let text = draw_text(alloc, &mut draws)?;
+        alike = alike && write_alike(rt, alloc, commands, text.as_slice())?;
+    }
+    Ok(alike)
+}
+
+#[test]
+fn priorities_and_margins_of_drawn_sets_are_those_of_one_worker(
+    rt: HostRuntime,
+) -> Result<(), Fail> {
+    for commands in [
+        [
+            "assign --workers 1",
+            "assign --workers 2",
+            "assign --workers 4",
+            "assign --workers 16",
+        ],
+        [
+            "margin T0 v0 --workers 1",
+            "margin T0 v0 --workers 2",
+            "margin T0 v0 --workers 4",
+            "margin T0 v0 --workers 16",
+        ],
+        [
+            "margin --fixed T1 v0 --workers 1",
+            "margin --fixed T1 v0 --workers 2",
+            "margin --fixed T1 v0 --workers 4",
+            "margin --fixed T1 v0 --workers 16",
+        ],
+    ] {
+        assert!(rt;
+            are_written_alike(&rt, rt.alloc(), commands)?,
+            "{}",
+            commands[0]
+        );
     }
     Ok(())
 }
