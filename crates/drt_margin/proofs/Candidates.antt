@@ -1,9 +1,9 @@
 -- Of finitely many lists, one that is a cycle with the greatest ratio, or none is a cycle.
-use Rattle.std.proofs.Common.{◌≡◌, ℕ, zero, suc, ◌+◌, ◌*◌, ◌<◌, ◌≤◌, List, [], ◌∷◌, ◌++◌, length, get_or, Option, Some, None, ◌⊎◌, inl, inr, refl, sym, ap, subst, ◌∙◌, arith, append_assoc, mul-le-mul_left}
-use Rattle.std.proofs.lemmas.Bool.{cases_eq, cases_lt}
+use Rattle.std.proofs.Common.{◌≡◌, ℕ, zero, suc, ◌*◌, ◌<◌, ◌≤◌, List, [], ◌∷◌, ◌++◌, length, get_or, Option, Some, None, ◌⊎◌, inl, inr, refl, sym, subst, ◌∙◌, arith, append_assoc, mul-le-mul_left}
+use Rattle.std.proofs.lemmas.Bool.{cases_lt}
 use Rattle.std.proofs.Math.Nat.{le_of_mul-le-mul_left}
 use Rattle.drt_model.specs.Digraph.{Digraph, IsSound, vertex_count}
-use Rattle.drt_model.specs.Walk.{IsCycle, IsEdge, IsPath, cycle_span, gap, last_of, sep, work}
+use Rattle.drt_model.specs.Walk.{IsCycle, IsEdge, IsPath, cycle_span, last_of, sep, work}
 use Rattle.drt_graph.proofs.Gaps.{edge_some}
 use Rattle.drt_ratio.proofs.Optima.{cycle_sums}
 

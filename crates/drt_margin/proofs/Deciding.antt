@@ -1,11 +1,11 @@
 -- A set with milder tasks than a schedulable one is schedulable, and a vertex of a schedulable one is done by its deadline.
-use Rattle.std.proofs.Common.{◌≡◌, ℕ, zero, suc, ◌+◌, ◌<◌, ◌≤◌, Bool, true, false, cond, eqb, List, [], ◌∷◌, length, ◌⊎◌, inl, inr, refl, sym, ap, subst, ◌∙◌, arith}
+use Rattle.std.proofs.Common.{◌≡◌, ℕ, zero, suc, ◌+◌, ◌<◌, ◌≤◌, cond, eqb, List, [], ◌∷◌, length, ◌⊎◌, inl, inr, refl, sym, ap, ◌∙◌, arith}
 use Rattle.std.proofs.lemmas.Bool.{cases_eq, cases_lt, eq-eqb, ne_eqb}
 use Rattle.drt_model.specs.Constrained.{AreConstrained}
 use Rattle.drt_model.specs.Digraph.{vertex_count}
 use Rattle.drt_model.specs.Limits.{IsTaskSet}
 use Rattle.drt_model.specs.Schedulable.{Schedulable}
-use Rattle.drt_model.specs.Walk.{deadline, span, wcet, work}
+use Rattle.drt_model.specs.Walk.{span, wcet, work}
 use Rattle.drt_model.specs.declared.jobs.Policy.{Policy}
 use Rattle.drt_model.specs.declared.jobs.Policy.TheVariants.{Edf, Fixed}
 use Rattle.drt_model.specs.declared.tasks.Task.{Task}

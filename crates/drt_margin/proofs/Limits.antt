@@ -8,7 +8,7 @@ use Rattle.std.proofs.lemmas.List.Elements.{All-set}
 use Rattle.std.proofs.lemmas.Option.{get_or_from_slice_get, slice_get_within, slice_get-get_or, slice_get_past}
 use Rattle.drt_model.specs.Constrained.{AreConstrained, IsConstrainedEdge}
 use Rattle.drt_model.specs.Digraph.{no_vertex, vertex_count}
-use Rattle.drt_model.specs.Limits.{AreInOrder, IsEdgeAmong, IsTask, IsTaskSet, IsTime, IsVertex, most_vertices}
+use Rattle.drt_model.specs.Limits.{IsEdgeAmong, IsTask, IsTaskSet, IsTime, IsVertex}
 use Rattle.drt_model.specs.declared.tasks.Edge.{Edge}
 use Rattle.drt_model.specs.declared.tasks.Task.{Task}
 use Rattle.drt_model.specs.declared.tasks.Vertex.{Vertex}

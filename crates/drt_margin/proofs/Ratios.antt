@@ -1,5 +1,5 @@
 -- Each graph has a ratio, and tasks have rates.
-use Rattle.std.proofs.Common.{◌≡◌, ℕ, zero, suc, ◌+◌, ◌*◌, ◌/◌, ◌<◌, ◌≤◌, List, [], ◌∷◌, ◌++◌, All, length, map, get_or, ◌⊎◌, inl, inr, refl, sym, ap, subst, ◌∙◌, arith, mul-le-mul_left}
+use Rattle.std.proofs.Common.{◌≡◌, ℕ, suc, ◌+◌, ◌*◌, ◌/◌, ◌≤◌, List, [], ◌∷◌, All, length, inl, inr, refl, arith}
 use Rattle.std.specs.Int.{IsGcd}
 use Rattle.std.proofs.Math.Nat.{le_of_mul-le-mul_left, mul-div_cancel'}
 use Rattle.std.proofs.lemmas.Nat.Gcd.{IsGcd-from_zero, IsGcd-swap}
@@ -7,7 +7,7 @@ use Rattle.drt_num.proofs.CommonMultiples.{lcm_exists}
 use Rattle.drt_num.proofs.Divisors.{gcd_exists, gcd_positive}
 use Rattle.drt_num.proofs.Fractions.{lowest_terms, part_positive, same_value}
 use Rattle.drt_model.specs.Digraph.{Digraph, IsSound, vertex_count}
-use Rattle.drt_model.specs.Utilisation.{AreRatios, BoundsCycles, Fraction, IsRatio, IsScale}
+use Rattle.drt_model.specs.Utilisation.{AreRatios, Fraction, IsRatio, IsScale}
 use Rattle.drt_model.specs.Walk.{IsCycle, cycle_span, last_of, span, work}
 use Rattle.drt_model.specs.declared.tasks.Task.{Task}
 use Rattle.drt_graph.proofs.Paths.{path_cycle}

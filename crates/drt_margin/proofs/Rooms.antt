@@ -1,18 +1,12 @@
 -- A room between a number that is within and one that isn't: how it opens, gets smaller, and what it gives at last.
-use Rattle.std.proofs.Common.{◌≡◌, ℕ, ◌+◌, ◌-◌, ◌/◌, ◌<◌, ◌≤◌, Option, Some, None, IfSome, refl, sym, ap, subst, ◌∙◌, arith}
+use Rattle.std.proofs.Common.{◌≡◌, ℕ, ◌+◌, ◌-◌, ◌<◌, ◌≤◌, Some, None, ap, subst, arith}
 use Rattle.drt_model.specs.Contents.{Contents}
 use Rattle.drt_model.specs.declared.jobs.Policy.{Policy}
-use Rattle.drt_model.specs.declared.jobs.Policy.TheVariants.{Edf}
-use Rattle.drt_edf.specs.Answers.{IsBeyond}
 use Rattle.drt_evidence.specs.declared.evidence.Evidence.{Evidence}
-use Rattle.drt_horizon.specs.declared.answers.Beyond.{Beyond}
 use Rattle.drt_margin.specs.Answers.{IsFound, IsMarginAnswer, IsNext, IsOtherFor, IsReached, IsYesFor}
-use Rattle.drt_margin.specs.Margin.{Halves, IsTried, IsWithin, between, deadline_at, last, lowers, middle, opens, plus, plus_set, raises, wcet_at}
-use Rattle.drt_margin.specs.Past.{ArePast}
+use Rattle.drt_margin.specs.Margin.{IsWithin, between, deadline_at, last, lowers, middle, opens, plus_set, raises, wcet_at}
 use Rattle.drt_margin.specs.Steps.{IsAsked, IsLast, IsLeast, IsRoom, answer_of}
-use Rattle.drt_margin.specs.declared.answer.MarginTrail.{MarginTrail}
 use Rattle.drt_margin.specs.declared.answer.Next.{Next}
-use Rattle.drt_margin.specs.declared.answer.Next.TheVariants.{Limit, Shown}
 use Rattle.drt_margin.specs.declared.halving.Last.{Last}
 use Rattle.drt_margin.specs.declared.halving.Last.TheVariants as lasts
 use Rattle.drt_margin.specs.declared.halving.Room.{Room}

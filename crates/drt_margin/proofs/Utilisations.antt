@@ -1,10 +1,10 @@
 -- The utilisation of milder tasks is no greater.
-use Rattle.std.proofs.Common.{◌≡◌, ℕ, zero, suc, ◌+◌, ◌*◌, ◌/◌, ◌<◌, ◌≤◌, List, [], ◌∷◌, All, length, map, get_or, ◌⊎◌, inl, inr, refl, sym, ap, subst, ◌∙◌, arith, mul-le-mul_left}
+use Rattle.std.proofs.Common.{◌≡◌, ℕ, suc, ◌+◌, ◌*◌, ◌/◌, ◌<◌, ◌≤◌, List, [], ◌∷◌, All, length, ◌⊎◌, inl, inr, refl, ap, arith, mul-le-mul_left}
 use Rattle.std.specs.Int.{◌∣◌}
 use Rattle.std.proofs.lemmas.Bool.{cases_lt}
 use Rattle.std.proofs.Math.Nat.{le_of_mul-le-mul_left, mul-div_cancel'}
-use Rattle.drt_model.specs.Digraph.{Digraph, IsSound, digraph_of}
-use Rattle.drt_model.specs.Utilisation.{AreRatios, BoundsCycles, EachDivides, Fraction, HasRatio, IsRatio, rate}
+use Rattle.drt_model.specs.Digraph.{Digraph, IsSound}
+use Rattle.drt_model.specs.Utilisation.{AreRatios, EachDivides, Fraction, HasRatio, IsRatio, rate}
 use Rattle.drt_model.specs.Walk.{IsCycle, cycle_span, work}
 use Rattle.drt_model.specs.declared.tasks.Task.{Task}
 use Rattle.drt_busy.specs.Choice.{graph_at}

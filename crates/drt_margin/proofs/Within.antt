@@ -1,27 +1,27 @@
 -- Which numbers are within: no number past one that isn't, and each below one that is.
-use Rattle.std.proofs.Common.{◌≡◌, ℕ, zero, suc, ◌+◌, ◌-◌, ◌<◌, ◌≤◌, List, All, length, map, ◌⊎◌, inl, inr, refl, sym, ap, subst, ◌∙◌, arith}
+use Rattle.std.proofs.Common.{◌≡◌, ℕ, ◌+◌, ◌-◌, ◌<◌, ◌≤◌, List, All, ◌⊎◌, inl, inr, refl, arith}
 use Rattle.std.proofs.lemmas.Bool.{cases_lt}
 use Rattle.std.proofs.lemmas.List.Elements.{All-map}
 use Rattle.drt_model.specs.Constrained.{AreConstrained}
 use Rattle.drt_model.specs.Contents.{Contents}
-use Rattle.drt_model.specs.Digraph.{IsSound, digraph_of, vertex_count}
+use Rattle.drt_model.specs.Digraph.{IsSound, digraph_of}
 use Rattle.drt_model.specs.Limits.{IsTaskSet}
 use Rattle.drt_model.specs.Schedulable.{Schedulable}
 use Rattle.drt_model.specs.Utilisation.{rate}
 use Rattle.drt_model.specs.declared.jobs.Policy.{Policy}
-use Rattle.drt_model.specs.declared.jobs.Policy.TheVariants.{Edf, Fixed}
+use Rattle.drt_model.specs.declared.jobs.Policy.TheVariants.{Edf}
 use Rattle.drt_model.specs.declared.tasks.Task.{Task}
 use Rattle.drt_graph.proofs.Soundness.{all_sound}
 use Rattle.drt_evidence.specs.Claims.{graphs_of}
 use Rattle.drt_evidence.specs.Rates.{Rates}
-use Rattle.drt_margin.specs.Margin.{IsBelowOne, IsMargin, IsVertexOf, IsWithin, SmallerIsWithin, deadline_at, plus, plus_set, timed_tasks, wcet_at}
+use Rattle.drt_margin.specs.Margin.{IsMargin, IsVertexOf, IsWithin, SmallerIsWithin, deadline_at, plus, wcet_at}
 use Rattle.drt_margin.specs.Past.{ArePast}
-use Rattle.drt_margin.proofs.Deciding.{IsGiven, done_in_time, milder_schedulable}
+use Rattle.drt_margin.proofs.Deciding.{done_in_time, milder_schedulable}
 use Rattle.drt_margin.proofs.Limits.{plus_kept, plus_most, timed_constrained, wcet_most}
 use Rattle.drt_margin.proofs.Milder.{AreMilder, timed_milder}
 use Rattle.drt_margin.proofs.Ratios.{rates_exist}
-use Rattle.drt_margin.proofs.Timed.{plus_none, timed_deadline, timed_wcet, timed_within, timed_length}
-use Rattle.drt_margin.proofs.Utilisations.{below_less, rate_less}
+use Rattle.drt_margin.proofs.Timed.{timed_deadline, timed_wcet, timed_within, timed_length}
+use Rattle.drt_margin.proofs.Utilisations.{below_less}
 
 -- The graphs of a set are sound.
 pub graphs_sound : (version : ℕ) (tasks : List Task) → IsTaskSet version tasks → All IsSound (graphs_of tasks)

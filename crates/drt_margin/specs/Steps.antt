@@ -1,5 +1,5 @@
 -- What `margin` knows on its way.
-use Rattle.std.specs.Prelude.{◌≡◌, ℕ, ◌+◌, ◌-◌, ◌<◌, ◌≤◌, IfSome}
+use Rattle.std.specs.Prelude.{◌≡◌, ℕ, ◌+◌, ◌-◌, ◌<◌, ◌≤◌, All, IfSome, List, None, Some, slice_index, slice_index_or}
 use Rattle.drt_model.specs.Contents.{Contents}
 use Rattle.drt_model.specs.Constrained.{AreConstrained}
 use Rattle.drt_model.specs.Limits.{IsTaskSet}
@@ -7,9 +7,10 @@ use Rattle.drt_model.specs.declared.jobs.Policy.{Policy}
 use Rattle.drt_model.specs.declared.jobs.Policy.TheVariants.{Edf}
 use Rattle.drt_edf.specs.Answers.{IsBeyond}
 use Rattle.drt_margin.specs.Answers.{IsMarginAnswer, IsNext, IsOtherFor, IsSpentUnder, IsYesFor}
-use Rattle.drt_margin.specs.Margin.{Halves, IsVertexOf, IsWithin, deadline_at, plus_set, wcet_at}
+use Rattle.drt_margin.specs.Margin.{Halves, IsVertexOf, IsWithin, plus_set, wcet_at}
 use Rattle.drt_margin.specs.Past.{ArePast}
 use Rattle.drt_evidence.specs.declared.evidence.Evidence.{Evidence}
+use Rattle.drt_margin.specs.declared.ahead.Ahead.{Ahead}
 use Rattle.drt_margin.specs.declared.answer.MarginAnswer.{MarginAnswer}
 use Rattle.drt_margin.specs.declared.answer.MarginAnswer.TheVariants.{Found}
 use Rattle.drt_margin.specs.declared.answer.Next.TheVariants.{Shown}
@@ -34,6 +35,16 @@ IsFinding policy set budget (findings.Yes evidence) = IsYesFor policy set eviden
 IsFinding policy set budget (findings.Other evidence) = IsOtherFor policy set evidence
 IsFinding policy set budget (findings.Beyond beyond) = (policy ≡ Edf) × IsBeyond set.tasks beyond
 IsFinding policy set budget (findings.Undecided trail) = IsSpentUnder policy set budget trail
+
+-- S with so many ticks more keeps the limit of an execution time, for each of these numbers.
+abbrev pub AreAskable : Contents → Question → List ℕ → Type 0
+AreAskable set q numbers = All (λ add. wcet_at set.tasks q.task q.vertex + add ≤ 1000000) numbers
+
+-- What was found ahead is said of S with so many ticks more as the number at its place.
+abbrev pub AreAhead : Contents → Question → Ahead → Type 0
+AreAhead set q ahead =
+    (i : ℕ) (finding : Finding) → slice_index_or ahead.found.items i None ≡ Some finding
+    → IsFinding q.policy (plus_set set q.task q.vertex (slice_index ahead.numbers.items i)) q.budget finding
 
 -- A pair that halving goes through: the lower number is within, with its evidence, and the higher one isn't, with its evidence if it was
 -- tried.

@@ -2,8 +2,9 @@
 ghost use Rattle.std.specs.Prelude.{◌≡◌, ◌-◌, ◌≤◌, ◌<◌, ◌⊎◌, IfOk};
 ghost use Rattle.drt_margin.specs.Margin.{Halves, plus_set};
 ghost use Rattle.drt_margin.specs.Answers.{IsMarginAnswer, IsYesFor};
-ghost use Rattle.drt_margin.specs.Steps.{IsAsked, IsHalf, IsLast, IsLeast, IsRoom, answer_of};
+ghost use Rattle.drt_margin.specs.Steps.{AreAhead, IsAsked, IsHalf, IsLast, IsLeast, IsRoom, answer_of};
 
+use crate::ahead::{Ahead, look_further, nothing_ahead, take_or_ask};
 use crate::answer::{MarginAnswer, Next};
 use crate::asking::{Finding, ask};
 use crate::question::Question;
@@ -46,6 +47,9 @@ pub enum Last {
 }
 
 /// The answer for a set that is a yes as it is, and the set.
+///
+/// With three workers or more the numbers that the next two halvings may ask about are asked about side by side, one by each worker; with seven those of
+/// three halvings, and with fifteen those of four. The halvings then take what was found, so they go the way that they go by one worker.
 pub fn halve<G: Gate, R: Threads + Wait + Sync>(
     rt: &R,
     alloc: Global,
@@ -61,8 +65,10 @@ pub fn halve<G: Gate, R: Threads + Wait + Sync>(
 {
     let mut room = open(&set, question, evidence);
     let mut current = set;
+    let mut ahead = nothing_ahead(alloc);
     'halving: while room.high - room.low > 1 {
-        let (same, half) = narrow(rt, alloc, current, question, room, gate)?;
+        ahead = look_further(rt, alloc, &current, question, &room, ahead, gate)?;
+        let (same, half) = narrow(rt, alloc, current, question, room, &mut ahead, gate)?;
         current = same;
         match half {
             Half::Open(smaller) => room = smaller,
@@ -95,16 +101,19 @@ fn narrow<G: Gate, R: Threads + Wait + Sync>(
     set: TaskSet,
     question: Question,
     room: Room,
+    ahead: &mut Ahead,
     gate: &G,
 ) -> Result<(TaskSet, Half), Memory>
     requires asked { IsAsked set question }
     requires room { IsRoom set question.policy question.task question.vertex room }
+    requires ahead { AreAhead set question ahead.old }
     requires wide { 1 < room.high - room.low }
     ensures same { IfOk result (λ r. r.0 ≡ set) }
     ensures half { IfOk result (λ r. IsHalf set question.policy question.task question.vertex question.budget (room.high - room.low) r.1) }
+    ensures ahead { AreAhead set question ahead.new }
 {
     let add = (room.low + room.high) / 2;
-    let (set, finding) = ask(rt, alloc, set, question, add, gate)?;
+    let (set, finding) = take_or_ask(rt, alloc, set, question, add, ahead, gate)?;
     match finding {
         Finding::Yes(evidence) => Ok((set, Half::Open(raise(room, add, evidence)))),
         Finding::Other(evidence) => Ok((set, Half::Open(lower(room, add, evidence)))),

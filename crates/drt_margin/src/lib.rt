@@ -6,12 +6,15 @@
 //! the set with one tick more. `with_more` and `with_less` make these sets from one another.
 #![tactic(auto)]
 
+mod ahead;
 mod answer;
 mod asking;
 mod halving;
 mod laws;
 mod margins;
+mod middles;
 mod question;
+mod size;
 mod times;
 
 pub use answer::{MarginAnswer, MarginTrail, Next};

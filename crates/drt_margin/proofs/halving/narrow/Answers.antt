@@ -1,8 +1,4 @@
-use Rattle.std.proofs.Common.{◌≡◌, sym, subst, arith, ℕ, ◌-◌, ◌<◌, ◌≤◌, ◌+◌}
-use Rattle.drt_margin.specs.Margin.{middle, plus_set}
-use Rattle.drt_margin.specs.Answers.{IsOtherFor, IsYesFor}
-use Rattle.drt_margin.specs.Steps.{IsFinding, IsRoom}
-use Rattle.drt_margin.specs.declared.asking.Finding.TheVariants as findings
+use Rattle.std.proofs.Common.{arith}
 use Rattle.drt_margin.proofs.Rooms.{asked_subject, between_both, middle_reached, room_lowered, room_raised}
 use Rattle.drt_margin.proofs.halving.narrow.Goals as goal
 

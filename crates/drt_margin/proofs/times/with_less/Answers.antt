@@ -1,6 +1,4 @@
-use Rattle.std.proofs.Common.{List, ap, subst, sym, ◌∙◌, ◌≡◌, ◌+◌, ◌-◌, arith}
-use Rattle.drt_model.specs.Contents.{Contents}
-use Rattle.drt_margin.specs.Margin.{IsVertexOf, plus_set, timed_set}
+use Rattle.std.proofs.Common.{◌∙◌}
 use Rattle.drt_margin.proofs.Timed.{less_again}
 use Rattle.drt_margin.proofs.times.with_less.Goals as goal
 

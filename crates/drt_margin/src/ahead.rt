@@ -1,0 +1,193 @@
+//! Numbers that workers ask about ahead, side by side.
+ghost use Rattle.std.specs.Prelude.{◌≡◌, ℕ, ◌+◌, ◌<◌, ◌≤◌, All, IfOk, IfSome, None, Some, length, slice_index, slice_index_or};
+ghost use denote.Param.Send.{IsSync};
+ghost use Rattle.drt_model.specs.Contents.{Contents};
+ghost use Rattle.drt_margin.specs.Margin.{plus_set, wcet_at};
+ghost use Rattle.drt_margin.specs.Steps.{AreAhead, AreAskable, IsAsked, IsFinding, IsRoom};
+ghost use Rattle.drt_margin.specs.declared.asking.Finding.{Finding as Found};
+ghost use Rattle.drt_margin.specs.declared.question.Question.{Question as Asked};
+
+use crate::asking::{Finding, ask};
+use crate::halving::Room;
+use crate::middles::next_middles;
+use crate::question::Question;
+use crate::size::is_large;
+use drt_ahead::{Crew, look_ahead, take_found};
+use drt_model::{Memory, TaskSet};
+use drt_pool::{Gate, OpenGate};
+use drt_priorities::copy_of;
+use std::alloc::Global;
+use std::sync::Wait;
+use std::thread::{Threads, available_parallelism};
+
+/// Numbers, and what workers found of the sets with so many ticks more.
+#[derive(Drop)]
+pub struct Ahead {
+    pub numbers: Vec<u32>,
+    pub found: Vec<Option<Finding>>,
+}
+
+/// Nothing was asked ahead.
+pub(crate) fn nothing_ahead(alloc: Global) -> Ahead
+    ensures { (set : Contents) (question : Asked) → AreAhead set question result }
+{
+    Ahead {
+        numbers: Vec::new(alloc),
+        found: Vec::new(alloc),
+    }
+}
+
+/// Asks ahead about the numbers that the next halvings of a room may ask about, unless the next one was among the last. A small set isn't worth
+/// other workers.
+pub(crate) fn look_further<G: Gate, R: Threads + Wait + Sync>(
+    rt: &R,
+    alloc: Global,
+    set: &TaskSet,
+    question: Question,
+    room: &Room,
+    ahead: Ahead,
+    gate: &G,
+) -> Result<Ahead, Memory>
+    requires asked { IsAsked set.now question }
+    requires room { IsRoom set.now question.policy question.task question.vertex room.now }
+    requires ahead { AreAhead set.now question ahead }
+    ensures { IfOk result (AreAhead set.now question) }
+{
+    let next = (room.low + room.high) / 2;
+    if place_of(&ahead.numbers, next).is_some() {
+        return Ok(ahead);
+    }
+    if gate.alone() > 0 && !is_large(&room.within) {
+        return Ok(ahead);
+    }
+    let workers = worker_count(rt, question.workers, gate);
+    let numbers = next_middles(alloc, room.low, room.high, number_count(workers))?;
+    let found = ask_apart(rt, alloc, set, question, &numbers, gate)?;
+    Ok(Ahead { numbers, found })
+}
+
+/// What was found ahead of the set with so many ticks more, or else what is found of it now; and the set as it was.
+pub(crate) fn take_or_ask<G: Gate, R: Threads + Wait + Sync>(
+    rt: &R,
+    alloc: Global,
+    set: TaskSet,
+    question: Question,
+    add: u32,
+    ahead: &mut Ahead,
+    gate: &G,
+) -> Result<(TaskSet, Finding), Memory>
+    requires asked { IsAsked set question }
+    requires limit { wcet_at set.tasks question.task question.vertex + add ≤ 1000000 }
+    requires ahead { AreAhead set question ahead.old }
+    ensures same { IfOk result (λ r. r.0 ≡ set) }
+    ensures finding { IfOk result (λ r. IsFinding question.policy (plus_set set question.task question.vertex add) question.budget r.1) }
+    ensures ahead { AreAhead set question ahead.new }
+{
+    if let Some(place) = place_of(&ahead.numbers, add) {
+        if let Some(finding) = take_found(&mut ahead.found, place) {
+            return Ok((set, finding));
+        }
+    }
+    ask(rt, alloc, set, question, add, gate)
+}
+
+// The place of a number among these.
+fn place_of(numbers: &[u32], number: u32) -> Option<u32>
+    ensures { IfSome result (λ i. slice_index numbers.now i ≡ number) }
+{
+    for (i, other) in numbers.iter().enumerate() {
+        if *other == number {
+            return u32::try_from(i).ok();
+        }
+    }
+    None
+}
+
+// How many workers ask side by side: no more than there are processors, unless the gate may wait for another worker.
+fn worker_count<G: Gate, R: Threads>(rt: &R, workers: u32, gate: &G) -> usize {
+    let most = workers as usize;
+    if gate.alone() == 0 {
+        return most;
+    }
+    match available_parallelism(rt) {
+        Ok(processors) => most.min(processors.get()),
+        Err(_) => 1,
+    }
+}
+
+// How many numbers are asked about side by side: all that some halvings may ask about, and one by each worker at most.
+fn number_count(workers: usize) -> usize
+    ensures { result ≤ 15 }
+{
+    match workers {
+        0..=2 => 0,
+        3..=6 => 3,
+        7..=14 => 7,
+        _ => 15,
+    }
+}
+
+// What workers find of the sets with so many ticks more, side by side, each at its place.
+fn ask_apart<G: Gate, R: Threads + Wait + Sync>(
+    rt: &R,
+    alloc: Global,
+    set: &TaskSet,
+    question: Question,
+    numbers: &[u32],
+    gate: &G,
+) -> Result<Vec<Option<Finding>>, Memory>
+    requires asked { IsAsked set.now question }
+    requires numbers { AreAskable set.now question numbers.now }
+    requires few { length numbers.now ≤ 15 }
+    ensures { IfOk result (λ found. (i : ℕ) (finding : Found) → slice_index_or found.items i None ≡ Some finding → IsFinding question.policy (plus_set set.now question.task question.vertex (slice_index numbers.now i)) question.budget finding) }
+{
+    let crew = Crew {
+        rt,
+        alloc,
+        workers: question.workers,
+        gate,
+    };
+    let order = all_places(alloc, numbers)?;
+    let ask_place = |place: u32| -> Result<Finding, Memory>
+        requires { IsSync R.row × IsAsked set.now question × AreAskable set.now question numbers.now × (place < length numbers.now) }
+        ensures { IfOk result (IsFinding question.policy (plus_set set.entry.now question.task question.vertex (slice_index numbers.entry.now place)) question.budget) }
+    { ask_copy(rt, alloc, set, question, numbers[place as usize]) };
+    look_ahead(&crew, &order, ask_place, ends_nothing)
+}
+
+// The places of all numbers.
+fn all_places(alloc: Global, numbers: &[u32]) -> Result<Vec<u32>, Memory>
+    requires { length numbers.now ≤ 15 }
+    ensures count { IfOk result (λ places. length places.items ≡ length numbers.now) }
+    ensures each { IfOk result (λ places. All (λ i. i < length numbers.now) places.items) }
+{
+    (0..numbers.len() as u32).collect(alloc)
+}
+
+// What one worker finds of a copy of the set with so many ticks more.
+fn ask_copy<R: Threads + Wait + Sync>(
+    rt: &R,
+    alloc: Global,
+    set: &TaskSet,
+    question: Question,
+    add: u32,
+) -> Result<Finding, Memory>
+    requires asked { IsAsked set.now question }
+    requires limit { wcet_at set.now.tasks question.task question.vertex + add ≤ 1000000 }
+    ensures { IfOk result (IsFinding question.policy (plus_set set.now question.task question.vertex add) question.budget) }
+{
+    let alone = Question {
+        policy: question.policy,
+        task: question.task,
+        vertex: question.vertex,
+        workers: 1,
+        budget: question.budget,
+    };
+    let (_, finding) = ask(rt, alloc, copy_of(alloc, set)?, alone, add, &OpenGate)?;
+    Ok(finding)
+}
+
+// Each number may still be asked about, whatever was found of another.
+fn ends_nothing(_finding: &Finding) -> bool {
+    false
+}
