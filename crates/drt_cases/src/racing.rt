@@ -72,24 +72,6 @@ fn two_workers_try_two_candidates_together(rt: HostRuntime) -> Result<(), Fail> 
     Ok(())
 }
 
-// Three equal tasks, of which two have room: each misses below the other two, so no priorities are found.
-const CROWDED: &str =
-    "drt 1\ntask A\nvertex a 1 2\nedge a a 2\ntask B\nvertex b 1 2\nedge b b 2\ntask C\nvertex c 1 2\nedge c c 2\nend\n";
-
-// Whether no priorities are found by two workers, of whom each tries one candidate at the same time.
-fn is_tried_together(rt: &(impl Threads + Wait + Sync), alloc: Global) -> Result<bool, Fail> {
-    let gate = Meeting::at(0);
-    let status = status_of(rt, alloc, "assign --workers 2", CROWDED, &gate)?;
-    Ok(status == 1 && gate.times_met() == 1)
-}
-
-// The first candidate misses. Its search has too few states to be shared, so two workers meet for the other two candidates alone.
-#[test]
-fn two_workers_try_two_candidates_together(rt: HostRuntime) -> Result<(), Fail> {
-    assert!(rt; is_tried_together(&rt, rt.alloc())?);
-    Ok(())
-}
-
 // How often each run is made again.
 const RUNS: u32 = 100;
 
