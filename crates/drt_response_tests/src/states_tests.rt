@@ -130,8 +130,9 @@ fn two_workers_search_two_vertices_at_once(rt: HostRuntime) -> Result<(), Fail> 
     let meeting = Meeting::at(0);
     let set = make_set(rt.alloc(), &TWO_VERTICES)?.ok_or("within the limits")?;
     let states = states_of(&rt, rt.alloc(), set, 2, &meeting)?;
+    let wanted: [Ticks; 3] = [(0, 0, 1), (1, 0, 2), (1, 1, 3)];
     let mut ticks = Vec::new(rt.alloc());
-    for response in [(0, 0, 1), (1, 0, 2), (1, 1, 3)] {
+    for response in wanted {
         ticks.push(response)?;
     }
     assert!(rt; are_those(&states, &Some(ticks)));
