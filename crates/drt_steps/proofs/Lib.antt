@@ -7,3 +7,5 @@ pub mod Times
 pub mod Values
 pub mod Ends
 pub mod Places
+pub mod Behind
+pub mod Crossing

@@ -1,5 +1,5 @@
 -- Values that are ready.
-use Rattle.std.proofs.Common.{◌≡◌, ℕ, suc, zero, ◌+◌, ◌-◌, ◌*◌, ◌/◌, ◌<◌, ◌≤◌, false, List, length, refl, sym, ap, ◌∙◌, subst, arith, slice_index, slice_set, replicate}
+use Rattle.std.proofs.Common.{◌≡◌, ℕ, ◌+◌, ◌-◌, ◌*◌, ◌/◌, ◌<◌, ◌≤◌, false, List, length, sym, ap, ◌∙◌, subst, arith, slice_index, slice_set}
 use Rattle.std.proofs.lemmas.List.{get_or-set_same, get_or-set_other}
 use Rattle.std.proofs.Math.Nat.{mul-le-mul_right}
 use mathlib.Core.Logic.{dite}
@@ -30,16 +30,3 @@ marks_more marks k x f room before now i lt = dite (dec_lt i k)
     (λ nl.
     let same : i ≡ k = omega arith in
     subst (λ z. slice_index (slice_set marks k x) z ≡ f z) (sym same) (get_or-set_same marks k x 0 room ∙ now))
-
-at_flat : (n v i : ℕ) → i < n → slice_index (replicate n v) i ≡ v
-at_flat zero v i lt = absurd (omega arith)
-at_flat (suc n) v zero lt = refl
-at_flat (suc n) v (suc i) lt = at_flat n v i (omega (arith, lt))
-
-flat_at : (n v t : ℕ) → 1 ≤ t → t ≤ n → value_at (replicate n v) t ≡ v
-unfolding value_at
-flat_at n v t from to = at_flat n v (t - 1) (omega (arith, from, to))
-
--- those of a function with one value
-pub flat_marks : (n v : ℕ) → 1 ≤ n → AreMarks n (replicate n v) (replicate 8 v)
-flat_marks n v from = record { are = λ k lt. let w = mark_within n k from lt in at_flat 8 v k lt ∙ sym (flat_at n v (n - k * (n / 8)) w.0 (omega (arith, w.1))) }

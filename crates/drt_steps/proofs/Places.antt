@@ -65,7 +65,7 @@ pub levels_long : (p : ℕ) (js : List Jump) → length (levels p js) ≡ length
 levels_long p [] = refl
 levels_long p (j ∷ js) = ap suc (levels_long (p + j.rise) js)
 
-level_is : (p : ℕ) (js : List Jump) (i : ℕ) → i ≤ length js → slice_index (p ∷ levels p js) i ≡ p + total (take i js)
+pub level_is : (p : ℕ) (js : List Jump) (i : ℕ) → i ≤ length js → slice_index (p ∷ levels p js) i ≡ p + total (take i js)
 level_is p [] zero le = let e : p ≡ p + 0 = omega arith in e
 level_is p (j ∷ js) zero le = let e : p ≡ p + 0 = omega arith in e
 level_is p [] (suc i) le = absurd (omega arith)

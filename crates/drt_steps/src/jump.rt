@@ -19,8 +19,8 @@ pub fn place_of(jumps: &[Jump], t: u64) -> usize
     jumps.partition_point(|jump| jump.after < t)
 }
 
-// Whether the place is one of the jumps, and that in front of it comes before the time `t`.
-fn is_reached(jumps: &[Jump], place: usize, t: u64) -> bool
+/// Whether the place is one of the jumps or their end, and the jump in front of it comes before the time `t`.
+pub fn is_reached(jumps: &[Jump], place: usize, t: u64) -> bool
     ensures { result ≡ true → IsReached jumps.now t place }
 {
     if place == 0 {

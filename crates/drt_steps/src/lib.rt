@@ -8,6 +8,7 @@ mod jump;
 mod level;
 mod marks;
 mod merge;
+mod rises;
 mod steps;
 mod time;
 

@@ -3,24 +3,25 @@ ghost use Rattle.std.specs.Prelude.{◌≡◌, ℕ, ◌+◌, ◌≤◌, ◌<◌,
 ghost use Rattle.std.specs.Ordering.{nat_cmp};
 ghost use Rattle.std.specs.Cmp.Lexicographic.{slice_cmp};
 ghost use Rattle.drt_steps.specs.Values.{raise, value_at, covers, max_of};
-ghost use Rattle.drt_steps.specs.Jumps.{values, AreKept};
+ghost use Rattle.drt_steps.specs.Jumps.{values, AreKept, IsKept};
 
-use crate::jump::{Jump, level_since, place_from, place_of, placed};
+use crate::jump::{Jump, is_reached, level_since, place_from, place_of, placed};
 use crate::level::{level_after, levels};
 use crate::marks::{MARKS, marks};
 use crate::merge::{merged, stays_above};
+use crate::rises::{Rises, jumps_of, levels_of, one_more};
 use std::alloc::{AllocError, Global};
 use std::cmp::Ordering;
 use std::marker::Model;
+use std::sync::Arc;
 
 /// A function on the times 1 to its bound that never falls: the work, in ticks, that is asked for before a time.
-/// It takes memory for each of its rises, and none for a tick.
+/// It takes memory for each of its rises, and none for a tick. Its copies share that memory.
 #[derive(Drop)]
 pub struct Steps {
     bound: u64,
     base: u64,
-    jumps: Vec<Jump>,
-    levels: Vec<u64>,
+    rises: Arc<Rises>,
     marks: [u64; MARKS],
 }
 
@@ -30,9 +31,9 @@ impl Model for Steps {
 
     ghost Value = { List ℕ };
 
-    ghost view = { λ s. values s.bound s.base s.jumps.items };
+    ghost view = { λ s. values s.bound s.base s.rises.value.jumps.items };
 
-    ghost invariant = { λ s. IsKept s.bound s.base s.jumps.items s.levels.items × AreMarks s.bound (values s.bound s.base s.jumps.items) s.marks };
+    ghost invariant = { λ s. IsKept s.bound s.base s.rises.value.jumps.items s.rises.value.levels.items × AreMarks s.bound (values s.bound s.base s.rises.value.jumps.items) s.marks };
 }
 
 impl Steps {
@@ -47,12 +48,19 @@ impl Steps {
         ensures { IfOk result (λ s. s ≡ values bound base jumps.items) }
     {
         let levels = levels(alloc, base, &jumps)?;
-        let marks = marks(bound, base, &jumps, &levels);
+        Steps::from_rises(alloc, bound, base, Rises { jumps, levels })
+    }
+
+    // The function with this base and these rises.
+    fn from_rises(alloc: Global, bound: u64, base: u64, rises: Rises) -> Result<Steps, AllocError>
+        requires { IsKept bound base rises.jumps.items rises.levels.items }
+        ensures { IfOk result (λ s. s ≡ values bound base rises.jumps.items) }
+    {
+        let marks = marks(bound, base, &rises.jumps, &rises.levels);
         Ok(Steps {
             bound,
             base,
-            jumps,
-            levels,
+            rises: Arc::new(alloc, rises)?,
             marks,
         })
     }
@@ -64,24 +72,17 @@ impl Steps {
         requires value { value ≤ 1000000000000 }
         ensures { IfOk result (λ s. s ≡ replicate bound value) }
     {
-        Ok(Steps {
-            bound,
-            base: value,
-            jumps: Vec::new(alloc),
-            levels: Vec::new(alloc),
-            marks: [value; MARKS],
-        })
+        Steps::from_jumps(alloc, bound, value, Vec::new(alloc))
     }
 
-    /// An equal function in memory of its own.
-    pub fn copy(&self, alloc: Global) -> Result<Steps, AllocError>
+    /// An equal function, which shares the memory of this one's rises.
+    pub fn copy(&self, _alloc: Global) -> Result<Steps, AllocError>
         ensures { IfOk result (λ s. s ≡ self.now) }
     {
         Ok(Steps {
             bound: self.bound,
             base: self.base,
-            jumps: Vec::from_slice(alloc, &self.jumps)?,
-            levels: Vec::from_slice(alloc, &self.levels)?,
+            rises: Arc::try_clone(&self.rises)?,
             marks: self.marks,
         })
     }
@@ -103,7 +104,11 @@ impl Steps {
         ensures small { result ≤ 1000000000000 }
         ensures rises { (s : ℕ) → t ≤ s → s ≤ length self.now → result ≤ value_at self.now s }
     {
-        level_after(self.base, &self.levels, place_of(&self.jumps, t))
+        level_after(
+            self.base,
+            levels_of(&self.rises),
+            place_of(jumps_of(&self.rises), t),
+        )
     }
 
     /// The value at the time `t`, by steps from where an earlier call left `place`. Over calls at times that grow, all
@@ -115,8 +120,10 @@ impl Steps {
         ensures small { result ≤ 1000000000000 }
         ensures rises { (s : ℕ) → t ≤ s → s ≤ length self.now → result ≤ value_at self.now s }
     {
-        *place = place_from(&self.jumps, *place, t);
-        level_after(self.base, &self.levels, *place)
+        let jumps = jumps_of(&self.rises);
+        let levels = levels_of(&self.rises);
+        *place = place_from(jumps, *place, t);
+        level_after(self.base, levels, *place)
     }
 
     /// The function with `work` more at each time later than `offset`.
@@ -127,15 +134,21 @@ impl Steps {
         if offset >= self.bound {
             return self.copy(alloc);
         }
+        let own = jumps_of(&self.rises);
         if offset == 0 {
-            let jumps = Vec::from_slice(alloc, &self.jumps)?;
+            let jumps = Vec::from_slice(alloc, own)?;
             return Steps::from_jumps(alloc, self.bound, self.base + work, jumps);
         }
         let new = Jump {
             after: offset,
             rise: work,
         };
-        let jumps = placed(alloc, &self.jumps, new)?;
+        // A walk goes on in time, so the new jump is mostly the last one.
+        if is_reached(own, own.len(), offset + 1) {
+            let rises = one_more(alloc, self.base, &self.rises, new)?;
+            return Steps::from_rises(alloc, self.bound, self.base, rises);
+        }
+        let jumps = placed(alloc, own, new)?;
         Steps::from_jumps(alloc, self.bound, self.base, jumps)
     }
 
@@ -148,7 +161,12 @@ impl Steps {
         if self.is_seen_below(other) {
             return false;
         }
-        stays_above(self.base, &self.jumps, other.base, &other.jumps)
+        stays_above(
+            self.base,
+            jumps_of(&self.rises),
+            other.base,
+            jumps_of(&other.rises),
+        )
     }
 
     // Whether the function's value is less at one of the times whose values are ready.
@@ -164,12 +182,21 @@ impl Steps {
         false
     }
 
-    /// The function whose value at each time is the greater one of two.
+    /// The function whose value at each time is the greater one of two. Where one of them covers the other, it shares the
+    /// memory of that one's rises.
     pub fn max_of(alloc: Global, a: &Steps, b: &Steps) -> Result<Steps, AllocError>
         requires { length a.now ≡ length b.now }
         ensures { IfOk result (λ s. s ≡ max_of a.now b.now) }
     {
-        let jumps = merged(alloc, a.base, &a.jumps, b.base, &b.jumps)?;
+        if a.covers(b) {
+            return a.copy(alloc);
+        }
+        if b.covers(a) {
+            return b.copy(alloc);
+        }
+        let own = jumps_of(&a.rises);
+        let other = jumps_of(&b.rises);
+        let jumps = merged(alloc, a.base, own, b.base, other)?;
         Steps::from_jumps(alloc, a.bound, a.base.max(b.base), jumps)
     }
 
@@ -198,6 +225,6 @@ impl Steps {
         ensures before { result < t }
         ensures level { (s : ℕ) → result < s → s ≤ t → value_at self.now s ≡ value_at self.now t }
     {
-        level_since(&self.jumps, t)
+        level_since(jumps_of(&self.rises), t)
     }
 }

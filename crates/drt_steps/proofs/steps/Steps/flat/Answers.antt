@@ -1,12 +1,9 @@
-use Rattle.std.proofs.Common.{replicate, ap, subst, sym, ◌∙◌, rules}
-use Rattle.drt_steps.specs.Jumps.{values, AreMarks}
+use Rattle.std.proofs.Common.{◌≡◌, ℕ, List, replicate, ap, subst, ◌∙◌, IfOk}
+use Rattle.drt_steps.specs.Jumps.{values}
 use Rattle.drt_steps.proofs.Jumps.{flat_values}
-use Rattle.drt_steps.proofs.Marked.{flat_marks}
 use Rattle.drt_steps.proofs.steps.Steps.flat.Goals as goal
 
 pub returns : goal.returns
-returns c = ap (λ js. values c.args.bound c.args.value js) c.new.ensures.items ∙ flat_values c.args.value 1 c.args.bound
-
-pub invariant_of-result : goal.invariant_of-result
-invariant_of-result c =
-    (search rules, subst (λ xs. AreMarks c.args.bound xs (replicate 8 c.args.value)) (sym (returns c)) (flat_marks c.args.bound c.args.value c.requires.from))
+returns c =
+    let e : values c.args.bound c.args.value c.new.result.items ≡ replicate c.args.bound c.args.value = ap (λ js. values c.args.bound c.args.value js) c.new.ensures.items ∙ flat_values c.args.value 1 c.args.bound in
+    subst (λ (xs : List ℕ). IfOk c.from_jumps.result (λ s. s ≡ xs)) e c.from_jumps.ensures
