@@ -26,7 +26,10 @@ pub(crate) trait Block: Sized + Drop {
     ghost some: { (x : Self) × is_stated x };
 }
 
-// So many blocks, one after another.
+// A list without room takes room for so many at its first item.
+const FIRST_ROOM: u32 = 4;
+
+// So many blocks, one after another. Where they are few the list has room for no more than these.
 pub(crate) fn read_each<B: Block>(
     alloc: Global,
     text: &mut Text,
@@ -35,7 +38,7 @@ pub(crate) fn read_each<B: Block>(
     ensures read { IfOk result (λ xs. ReadsBlock (in_turn B.block) (AreSoMany count B.is_stated) text.old.rest.now xs.items text.new.rest.now) }
     ensures stops { IfErr result (IsStop (in_turn B.block) (AreSoMany count B.is_stated) text.old.rest.now) }
 {
-    let mut blocks = Vec::new(alloc);
+    let mut blocks = Vec::with_capacity(alloc, count.min(FIRST_ROOM) as usize)?;
     for _ in 0..count {
         let block = B::read(alloc, text)?;
         blocks.push(block)?;
