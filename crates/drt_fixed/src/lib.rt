@@ -10,9 +10,7 @@ mod looking;
 mod ranges;
 mod releases;
 mod searching;
-mod sizes;
 mod tails;
 mod vertices;
 
 pub use analysis::{ALLOWANCE, Analysed, ByStates, analyse_fixed, decide_by_states};
-pub use sizes::{largest_first, shared_size};

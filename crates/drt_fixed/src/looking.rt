@@ -3,9 +3,8 @@ ghost use Rattle.std.specs.Prelude.{◌<◌, ◌≤◌, All, IfOk, length};
 ghost use denote.Param.Send.{IsSync};
 ghost use Rattle.drt_fixed.specs.Searching.{IsGiven, IsPlaced};
 
-use crate::sizes::largest_first;
 use crate::vertices::{Given, PlacedVertex, search_vertex};
-use drt_ahead::{Crew, look_ahead, take_found};
+use drt_ahead::{Crew, largest_first, look_ahead, take_found};
 use drt_model::Memory;
 use drt_pool::Gate;
 use drt_sp_states::Searched;

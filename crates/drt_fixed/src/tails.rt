@@ -4,8 +4,7 @@ ghost use Rattle.drt_ahead.specs.Found.{AreThere};
 ghost use Rattle.drt_check_states.specs.Curves.{HasRisingCurves};
 ghost use Rattle.drt_check_states.specs.Places.{AreTasks};
 
-use crate::sizes::{largest_first, shared_size};
-use drt_ahead::{Crew, look_ahead, take_found};
+use drt_ahead::{Crew, largest_first, look_ahead, shared_size, take_found};
 use drt_graph::{Graph, Graphs};
 use drt_model::Memory;
 use drt_pool::Gate;

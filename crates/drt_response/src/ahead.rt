@@ -6,8 +6,7 @@ ghost use Rattle.drt_response.specs.Subjects.{AreFound, IsGiven, IsVertexAt};
 
 use crate::by_states::{Effort, respond_vertex};
 use crate::subjects::{Given, VertexAt};
-use drt_ahead::{Crew, look_ahead, take_found};
-use drt_fixed::{largest_first, shared_size};
+use drt_ahead::{Crew, largest_first, look_ahead, shared_size, take_found};
 use drt_model::Memory;
 use drt_pool::Gate;
 use drt_responses::Response;

@@ -2,7 +2,7 @@
 use Rattle.std.proofs.Common.{◌≡◌, ◌<◌, ℕ, List, length, sym, subst, arith}
 use Rattle.std.specs.List.{All}
 use Rattle.std.proofs.lemmas.List.Sorted.{All-permutation, length_permutation}
-use Rattle.drt_fixed.proofs.sizes.largest_first.Goals as goal
+use Rattle.drt_ahead.proofs.sizes.largest_first.Goals as goal
 
 pub returns-clause-places : goal.returns-clause-places
 returns-clause-places c =
