@@ -1,9 +1,12 @@
 -- The searches of the tasks' walks.
-use Rattle.std.specs.Prelude.{◌≡◌, ℕ, List, All, IfSome, Option, Some, slice_get}
+use Rattle.std.specs.Prelude.{◌≡◌, ℕ, List, All, Some, slice_get}
 use Rattle.drt_model.specs.Digraph.{Digraph}
 use Rattle.drt_table.specs.declared.step.Entry.{Entry}
 use Rattle.drt_edf.specs.declared.searching.Searched.{Searched}
 use Rattle.drt_edf.specs.declared.searching.Searched.TheVariants.{Finished, Spent}
+use Rattle.drt_fronts.specs.declared.search.Ended.TheVariants as ended
+use Rattle.drt_edf.specs.declared.searching.FoundAhead.{FoundAhead}
+use Rattle.drt_edf.specs.declared.searching.FoundAhead.TheVariants.{Front, Left, Long}
 use Rattle.drt_evidence.specs.Ranges.{IsCounted}
 use Rattle.drt_graph.specs.Graphs.{graph_of}
 use Rattle.drt_fronts.specs.Ends.{IsEnded, IsFull}
@@ -18,9 +21,11 @@ IsSpentSearch graphs bound budget task log = (graph : Digraph) × (slice_get gra
 abbrev pub IsEndOf : List Digraph → ℕ → ℕ → ℕ → Ended → Type 0
 IsEndOf graphs bound budget task end = IsEnded (graph_of graphs task) bound budget end
 
--- This is how it ends, if anything is found of it.
-abbrev pub AreEndsOf : List Digraph → ℕ → ℕ → ℕ → Option Ended → Type 0
-AreEndsOf graphs bound budget task end = IfSome end (IsEndOf graphs bound budget task)
+-- What was found ahead of it: nothing, or the front with which it ends.
+abbrev pub IsAheadOf : List Digraph → ℕ → ℕ → ℕ → FoundAhead → Type 0
+IsAheadOf graphs bound budget task (Front front) = IsEndOf graphs bound budget task (ended.Front front)
+IsAheadOf graphs bound budget task Long = Unit {0}
+IsAheadOf graphs bound budget task Left = Unit {0}
 
 -- How the searches ended: with a front for each graph, or in the first that spent its budget.
 abbrev pub AreSearches : List Digraph → ℕ → ℕ → Searched → Type 0

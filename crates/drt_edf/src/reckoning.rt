@@ -1,7 +1,8 @@
 //! In which order the tasks are looked at side by side. It is reckoned from their graphs, and decides no answer.
-ghost use Rattle.std.specs.Prelude.{◌≤◌, ◌<◌, All, IfOk, length};
+ghost use Rattle.std.specs.Prelude.{◌≡◌, ◌≤◌, ◌<◌, IfOk, length};
 ghost use Rattle.drt_model.specs.Digraph.{vertex_count};
 
+use drt_ahead::shared_size;
 use drt_fronts::has_wave_table;
 use drt_graph::{Graph, Graphs};
 use drt_model::Memory;
@@ -13,18 +14,24 @@ const THREAD_STEPS: u64 = 20_000;
 // The most workers that there are.
 const MOST: u64 = 16;
 
-/// The steps that the search of each task is reckoned to take.
+/// The steps that the search of each task is reckoned to take: none up to that of the last one that is done.
 pub(crate) fn reckon_all(
     alloc: Global,
     graphs: &Graphs,
     bound: u64,
     budget: u64,
+    last: u32,
 ) -> Result<Vec<u64>, Memory>
     requires { bound ≤ 1099511627776 }
+    ensures { IfOk result (λ steps. length steps.items ≡ length graphs.now) }
 {
     let mut steps = Vec::new(alloc);
     'tasks: for task in 0..graphs.count() {
-        steps.push(reckon(graphs.graph(task), bound, budget))?;
+        if task <= last {
+            steps.push(0)?;
+        } else {
+            steps.push(reckon(graphs.graph(task), bound, budget))?;
+        }
     }
     Ok(steps)
 }
@@ -32,38 +39,13 @@ pub(crate) fn reckon_all(
 /// How many of these workers have enough to do: one search each at least, and beside the longest as many steps as a thread's start is worth.
 pub(crate) fn busy_workers(steps: &[u64], workers: u32) -> u32 {
     let mut searches = 0u32;
-    let mut sum = 0u64;
-    let mut most = 0;
     for few in steps {
         if *few > 0 {
             searches = searches.saturating_add(1);
         }
-        sum = sum.saturating_add(*few);
-        most = most.max(*few);
     }
-    let others = (sum - most) / THREAD_STEPS;
+    let others = shared_size(steps) / THREAD_STEPS;
     workers.min(searches).min(1 + others.min(MOST) as u32)
-}
-
-/// All tasks in the order in which their searches are begun: the longest first.
-pub(crate) fn begin_order(alloc: Global, graphs: &Graphs, steps: &[u64]) -> Result<Vec<u32>, Memory>
-    ensures few { IfOk result (λ order. length order.items ≤ length graphs.now) }
-    ensures places { IfOk result (λ order. All (λ i. i < length order.items) order.items) }
-{
-    let mut order = Vec::new(alloc);
-    'tasks: for task in 0..graphs.count() {
-        order.push(task)?;
-    }
-    order.sort_by_key(|task: &u32| u64::MAX - steps_of(steps, *task))?;
-    Ok(order)
-}
-
-// The steps that were reckoned for a task, and 0 past the last one.
-fn steps_of(steps: &[u64], task: u32) -> u64 {
-    match steps.get(task as usize) {
-        Some(few) => *few,
-        None => 0,
-    }
 }
 
 // The steps that the search of a task is reckoned to take: each vertex comes as often as the bound has room for the least separation, and

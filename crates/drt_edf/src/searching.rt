@@ -1,14 +1,14 @@
 //! The searches of the tasks' walks.
 ghost use Rattle.std.specs.Prelude.{◌<◌, ◌≤◌, IfOk, length};
 ghost use Rattle.drt_ahead.specs.Found.{AreThere};
-ghost use Rattle.drt_edf.specs.Searches.{AreEndsOf, AreSearches, IsEndOf};
+ghost use Rattle.drt_edf.specs.Searches.{AreSearches, IsAheadOf, IsEndOf};
 
-use crate::reckoning::{begin_order, busy_workers, reckon_all};
-use drt_ahead::{Crew, look_ahead, take_found};
-use drt_fronts::{Ended, has_wave_table, search_task};
+use crate::reckoning::{busy_workers, reckon_all};
+use drt_ahead::{Crew, largest_first, look_ahead, take_found};
+use drt_fronts::{Ended, has_wave_table, merged_front, search_task};
 use drt_graph::Graphs;
 use drt_model::{FrontEntry, Memory, Row};
-use drt_pool::{Gate, OpenGate};
+use drt_pool::Gate;
 use drt_table::Entry;
 use std::alloc::Global;
 use std::sync::Wait;
@@ -23,8 +23,20 @@ pub(crate) enum Searched {
     Spent { task: u32, log: Row<Entry> },
 }
 
-/// The searches of the walks of all tasks up to the bound, in ticks, each with this budget of steps. Each gives its front. Workers look
-/// ahead for the tasks that have no wave table, where several have enough to do; the other searches are done in order of tasks.
+/// What a worker found of a task's search ahead of its turn.
+#[derive(Drop)]
+pub(crate) enum FoundAhead {
+    /// The front.
+    Front(Row<FrontEntry>),
+    /// Merging takes more steps than the budget has, so the search may spend it.
+    Long,
+    /// It wasn't looked at: its turn has come already, or all workers share its wave table.
+    Left,
+}
+
+/// The searches of the walks of all tasks up to the bound, in ticks, each with this budget of steps. Each gives its front. They are done in
+/// order of tasks. Once the first of those without a wave table is finished, workers merge ahead for the others of these, where several have
+/// enough to do: most sets whose searches spend the budget do so in the first, and what is merged beside it is for nothing then.
 pub(crate) fn searches<G: Gate, R: Threads + Wait + Sync>(
     rt: &R,
     alloc: Global,
@@ -46,37 +58,42 @@ pub(crate) fn searches<G: Gate, R: Threads + Wait + Sync>(
         workers,
         gate,
     };
-    let mut found = search_ahead(&crew, graphs, bound, budget)?;
+    let mut found = Vec::new(alloc);
+    let mut is_looked = false;
     let mut fronts = Vec::new(alloc);
     'tasks: for task in 0..graphs.count() {
         match end_of(&crew, graphs, bound, budget, task, &mut found)? {
             Ended::Front(front) => fronts.push(front)?,
             Ended::Full(log) => return Ok(Searched::Spent { task, log }),
         }
+        if !is_looked && !has_wave_table(graphs.graph(task), bound, budget) {
+            found = search_ahead(&crew, graphs, bound, budget, task)?;
+            is_looked = true;
+        }
     }
     Ok(Searched::Finished(Row::from_vec(fronts)))
 }
 
-// How the search of a task ends: as workers found ahead, or else it is searched now.
+// How the search of a task ends: with the front that was found ahead, or else it is searched now.
 fn end_of<G: Gate, R: Threads + Wait + Sync>(
     crew: &Crew<'_, G, R>,
     graphs: &Graphs,
     bound: u64,
     budget: u64,
     task: u32,
-    found: &mut Vec<Option<Option<Ended>>>,
+    found: &mut Vec<Option<FoundAhead>>,
 ) -> Result<Ended, Memory>
     requires task { task < length graphs.now }
     requires bound { bound ≤ 1099511627776 }
     requires workers { (1 ≤ crew.now.workers) × (crew.now.workers ≤ 16) }
     requires some { 1 ≤ budget }
     requires few { budget ≤ 1000000 }
-    requires found { AreThere (AreEndsOf graphs.now bound budget) found.old.items }
+    requires found { AreThere (IsAheadOf graphs.now bound budget) found.old.items }
     ensures end { IfOk result (IsEndOf graphs.now bound budget task) }
-    ensures found { AreThere (AreEndsOf graphs.now bound budget) found.new.items }
+    ensures found { AreThere (IsAheadOf graphs.now bound budget) found.new.items }
 {
-    if let Some(Some(end)) = take_found(found, task) {
-        return Ok(end);
+    if let Some(FoundAhead::Front(front)) = take_found(found, task) {
+        return Ok(Ended::Front(front));
     }
     let Crew {
         rt,
@@ -88,17 +105,17 @@ fn end_of<G: Gate, R: Threads + Wait + Sync>(
     search_task(rt, alloc, graph, bound, workers, budget, gate)
 }
 
-// What workers find of the searches ahead: each does whole searches of tasks that have no wave table, alone, until one spent its budget.
+// What workers find of the searches behind that of this task: each merges tasks that have no wave table, alone, until one takes too long.
 fn search_ahead<G: Gate, R: Threads + Wait + Sync>(
     crew: &Crew<'_, G, R>,
     graphs: &Graphs,
     bound: u64,
     budget: u64,
-) -> Result<Vec<Option<Option<Ended>>>, Memory>
+    last: u32,
+) -> Result<Vec<Option<FoundAhead>>, Memory>
     requires bound { bound ≤ 1099511627776 }
-    requires some { 1 ≤ budget }
     requires few { budget ≤ 1000000 }
-    ensures { IfOk result (λ found. AreThere (AreEndsOf graphs.now bound budget) found.items) }
+    ensures { IfOk result (λ found. AreThere (IsAheadOf graphs.now bound budget) found.items) }
 {
     let Crew {
         rt,
@@ -106,48 +123,50 @@ fn search_ahead<G: Gate, R: Threads + Wait + Sync>(
         workers,
         gate,
     } = *crew;
-    let steps = reckon_all(alloc, graphs, bound, budget)?;
+    let steps = reckon_all(alloc, graphs, bound, budget, last)?;
     let workers = busy_workers(steps.as_slice(), workers);
     if workers < 2 {
         return Ok(Vec::new(alloc));
     }
-    let order = begin_order(alloc, graphs, steps.as_slice())?;
+    let order = largest_first(alloc, steps.as_slice())?;
     let busy = Crew {
         rt,
         alloc,
         workers,
         gate,
     };
-    let search = |task: u32| -> Result<Option<Ended>, Memory>
-        requires { (task < length graphs.now) × (bound ≤ 1099511627776) × (1 ≤ budget) × (budget ≤ 1000000) }
-        ensures { IfOk result (AreEndsOf graphs.entry.now bound budget task) }
-    { search_alone(rt, alloc, graphs, task, bound, budget) };
-    look_ahead(&busy, order.as_slice(), search, is_spent)
+    let merge = |task: u32| -> Result<FoundAhead, Memory>
+        requires { (task < length graphs.now) × (bound ≤ 1099511627776) × (budget ≤ 1000000) }
+        ensures { IfOk result (IsAheadOf graphs.entry.now bound budget task) }
+    { merge_behind(alloc, graphs, task, bound, budget, last) };
+    look_ahead(&busy, order.as_slice(), merge, is_long)
 }
 
-// The search of a task by one worker. None where the task has a wave table, which all workers share.
-fn search_alone<R: Threads + Wait + Sync>(
-    rt: &R,
+// What merging gives of a task's search, where it stands behind that of the last one and has no wave table.
+fn merge_behind(
     alloc: Global,
     graphs: &Graphs,
     task: u32,
     bound: u64,
     budget: u64,
-) -> Result<Option<Ended>, Memory>
+    last: u32,
+) -> Result<FoundAhead, Memory>
     requires task { task < length graphs.now }
     requires bound { bound ≤ 1099511627776 }
-    requires some { 1 ≤ budget }
     requires few { budget ≤ 1000000 }
-    ensures { IfOk result (AreEndsOf graphs.now bound budget task) }
+    ensures { IfOk result (IsAheadOf graphs.now bound budget task) }
 {
     let graph = graphs.graph(task);
-    if has_wave_table(graph, bound, budget) {
-        return Ok(None);
+    if task <= last || has_wave_table(graph, bound, budget) {
+        return Ok(FoundAhead::Left);
     }
-    Ok(Some(search_task(rt, alloc, graph, bound, 1, budget, &OpenGate)?))
+    match merged_front(alloc, graph, bound, budget)? {
+        Some(front) => Ok(FoundAhead::Front(front)),
+        None => Ok(FoundAhead::Long),
+    }
 }
 
-// Whether a search spent its budget: then no later one is asked for.
-fn is_spent(end: &Option<Ended>) -> bool {
-    matches!(end, Some(Ended::Full(_)))
+// Whether merging took too long: then no later search is asked for.
+fn is_long(found: &FoundAhead) -> bool {
+    matches!(found, FoundAhead::Long)
 }

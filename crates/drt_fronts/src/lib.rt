@@ -15,6 +15,7 @@ mod waves;
 
 pub use fronts::front_of;
 pub use laws::searches_are_bounded;
+pub use merged::merged_front;
 pub use search::{Ended, search_task};
 pub use walks::demand_walk;
 pub use waves::{has_wave_table, wave_front};

@@ -2,6 +2,6 @@
 use Rattle.std.proofs.Common.{sym}
 use Rattle.drt_edf.proofs.searching.end_of.Goals as goal
 
-pub returns-in-Some-Some-clause-end : goal.returns-in-Some-Some-clause-end
-returns-in-Some-Some-clause-end g c =
-    rw c.in-Some-Some.field-0-is at (c.requires.found c.args.task c.in-Some-Some.field-0 (sym c.in-Some-Some.ensures.taken))
+pub returns-in-Some-Front-clause-end : goal.returns-in-Some-Front-clause-end
+returns-in-Some-Front-clause-end g c =
+    rw c.in-Some-Front.field-0-is at (c.requires.found c.args.task c.in-Some-Front.field-0 (sym c.in-Some-Front.ensures.taken))

@@ -8,6 +8,7 @@ use Rattle.drt_fronts.specs.LabelFronts.{AreLabelFronts}
 use Rattle.drt_edf.specs.Searches.{IsEndOf}
 use Rattle.drt_edf.proofs.Gathered.{fronts_push}
 use Rattle.drt_edf.proofs.searching.searches.Goals as goal
+use Rattle.drt_edf.proofs.searching.searches.Goals.{then-not-is_looked+then-not-has_wave_table+in_ok-found, else-not-is_looked}
 
 pub returns-in-Full : goal.returns-in-Full
 returns-in-Full g c =
@@ -23,7 +24,10 @@ tasks-preserved g c =
     record {
       fronts = rw (f, c.in_ok-push-in-Front.ensures.items) (fronts_push _ _ _ _ _ c.tasks.invariant.fronts ended.0);
       counted = rw c.in_ok-push-in-Front.ensures.items (All-push IsCounted _ _ c.tasks.invariant.counted ended.1);
-      found = c.in_ok-front.ensures.found;
+      found = elim c.if-not-is_looked.branch [
+        | then-not-is_looked+then-not-has_wave_table+in_ok-found w ↦ rw w.found-is w.in_ok-found.ensures
+        | else-not-is_looked w ↦ rw w.found-is c.in_ok-front.ensures.found
+      ];
     }
 
 pub returns : goal.returns

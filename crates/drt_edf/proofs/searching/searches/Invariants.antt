@@ -1,7 +1,7 @@
 -- The fronts so far are those of the graphs so far, and what is found ahead is how searches end.
 use Rattle.std.proofs.Common.{take, All}
 use Rattle.drt_ahead.specs.Found.{AreThere}
-use Rattle.drt_edf.specs.Searches.{AreEndsOf}
+use Rattle.drt_edf.specs.Searches.{IsAheadOf}
 use Rattle.drt_evidence.specs.Ranges.{IsCounted}
 use Rattle.drt_fronts.specs.LabelFronts.{AreLabelFronts}
 use Rattle.drt_edf.proofs.searching.searches.Given as goal
@@ -10,5 +10,5 @@ abbrev pub invariant-tasks : goal.invariant-tasks
 invariant-tasks g l = record {
   fronts : AreLabelFronts l.bound (take l.task l.graphs) l.fronts.items;
   counted : All IsCounted l.fronts.items;
-  found : AreThere (AreEndsOf l.graphs l.bound l.budget) l.found.items;
+  found : AreThere (IsAheadOf l.graphs l.bound l.budget) l.found.items;
 }
