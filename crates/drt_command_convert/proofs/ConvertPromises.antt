@@ -8,7 +8,8 @@ use Rattle.drt_command.specs.Rules.{AreLawful}
 use Rattle.drt_command_files.specs.TaskFiles.{file_input}
 use Rattle.drt_outcome.specs.declared.fault.Fault.{Fault}
 use Rattle.drt_outcome.specs.declared.fault.Fault.TheVariants.{Nothing, File, Edge, Limit, Probe, Rule, Dossier}
-use Rattle.drt_command_convert.specs.Convert.{IsClassicFile, IsClassicFault, convert_rules}
+use Rattle.drt_command_convert.specs.Convert.{IsClassicFault, convert_rules}
+use Rattle.drt_command_convert.specs.Verdict.{IsClassicFile}
 
 same_place : (l c m d : ℕ) → l ≡ m → c ≡ d → File l c ≡ File m d
 same_place l c m d p q = cc
@@ -54,10 +55,10 @@ long_file bytes f h = subst (IsClassicFault bytes) (sym h.1) (inl (h.0, refl, re
 
 pub convert_lawful : AreLawful convert_rules
 convert_lawful = record {
-  low = λ bytes m d. omega (arith, d.status);
-  apart = λ bytes m f d h. reads_well bytes d.tasks f d.file h;
+  low = λ bytes m d. omega (arith, d.0.status);
+  apart = λ bytes m f d h. reads_well bytes d.0.tasks f d.0.file h;
   one_fault = fault_one;
   longer = long_file;
-  made_ends = λ bytes m d tasks a. d.status;
+  made_ends = λ bytes m d tasks a. d.0.status;
   refused_ends = λ bytes f h tasks a. absurd (reads_well bytes tasks f a h);
 }

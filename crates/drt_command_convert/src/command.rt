@@ -2,7 +2,8 @@
 ghost use Rattle.std.specs.Prelude.{◌≡◌, ◌≤◌, IfErr, IfOk, length};
 ghost use Rattle.drt_classic.specs.ClassicReading.{Reads};
 ghost use Rattle.drt_command.specs.Rules.{IsCause};
-ghost use Rattle.drt_command_convert.specs.Convert.{Converts, IsClassicFault, IsClassicFile, convert_rules};
+ghost use Rattle.drt_command_convert.specs.Convert.{Converts, IsClassicFault, convert_rules};
+ghost use Rattle.drt_command_convert.specs.Verdict.{IsClassicFile};
 ghost use Rattle.drt_command_files.specs.TaskFiles.{most_bytes};
 
 use drt_classic::laws::digraphs_keep_limits;
