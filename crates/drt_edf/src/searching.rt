@@ -5,7 +5,7 @@ ghost use Rattle.drt_edf.specs.Searches.{AreSearches, IsAheadOf, IsEndOf};
 
 use crate::reckoning::{busy_workers, reckon_all};
 use drt_ahead::{Crew, largest_first, look_ahead, take_found};
-use drt_fronts::{Ended, has_wave_table, merged_front, search_task};
+use drt_fronts::{Ended, drive_task, has_wave_table, merged_front, search_task};
 use drt_graph::Graphs;
 use drt_model::{FrontEntry, Memory, Row};
 use drt_pool::Gate;
@@ -74,7 +74,7 @@ pub(crate) fn searches<G: Gate, R: Threads + Wait + Sync>(
     Ok(Searched::Finished(Row::from_vec(fronts)))
 }
 
-// How the search of a task ends: with the front that was found ahead, or else it is searched now.
+// How the search of a task ends: with the front that was found ahead, or else it is searched now, without merging where that was tried.
 fn end_of<G: Gate, R: Threads + Wait + Sync>(
     crew: &Crew<'_, G, R>,
     graphs: &Graphs,
@@ -92,9 +92,6 @@ fn end_of<G: Gate, R: Threads + Wait + Sync>(
     ensures end { IfOk result (IsEndOf graphs.now bound budget task) }
     ensures found { AreThere (IsAheadOf graphs.now bound budget) found.new.items }
 {
-    if let Some(FoundAhead::Front(front)) = take_found(found, task) {
-        return Ok(Ended::Front(front));
-    }
     let Crew {
         rt,
         alloc,
@@ -102,7 +99,11 @@ fn end_of<G: Gate, R: Threads + Wait + Sync>(
         gate,
     } = *crew;
     let graph = graphs.graph(task);
-    search_task(rt, alloc, graph, bound, workers, budget, gate)
+    match take_found(found, task) {
+        Some(FoundAhead::Front(front)) => Ok(Ended::Front(front)),
+        Some(FoundAhead::Long) => drive_task(alloc, graph, bound, budget),
+        _ => search_task(rt, alloc, graph, bound, workers, budget, gate),
+    }
 }
 
 // What workers find of the searches behind that of this task: each merges tasks that have no wave table, alone, until one takes too long.

@@ -68,9 +68,19 @@ pub fn search_task<G: Gate, R: Threads + Wait + Sync>(
         return Ok(Ended::Front(front));
     }
     match merged_front(alloc, graph, bound, budget)? {
-        Some(front) => return Ok(Ended::Front(front)),
-        None => (),
+        Some(front) => Ok(Ended::Front(front)),
+        None => drive_task(alloc, graph, bound, budget),
     }
+}
+
+/// The same search for a task that merging gives nothing of: by one worker, in a table whose steps the budget counts.
+pub fn drive_task(alloc: Global, graph: &Graph, bound: u64, budget: u64) -> Result<Ended, Memory>
+    requires constrained { IsConstrainedGraph graph.now }
+    requires bound { bound ≤ 1099511627776 }
+    requires some { 1 ≤ budget }
+    requires few { budget ≤ 1000000 }
+    ensures { IfOk result (IsEnded graph.now bound budget) }
+{
     over_every_interleaving::<DemandLabel>();
     let (table, _reply) = search(alloc, graph, bound, budget)?;
     if !table.finished() {

@@ -4,10 +4,10 @@ use Rattle.drt_demand.specs.Demand.{demand_algebra}
 use Rattle.drt_table.specs.Machine.{Setting, is_finished}
 use Rattle.drt_table.specs.View.{setting_of, state_of}
 use Rattle.drt_fronts.proofs.Searched.{full_search}
-use Rattle.drt_fronts.proofs.search.search_task.Goals as goal
+use Rattle.drt_fronts.proofs.search.drive_task.Goals as goal
 
 pub returns-then-not-finished : goal.returns-then-not-finished
-returns-then-not-finished g c =
+returns-then-not-finished c =
     let setting = c.in_ok-table.ensures.setting in
     let unfinished : is_finished demand_algebra (setting_of c.in_ok-table.table) (state_of c.in_ok-table.table) ≡ false = cc (c.finished.ensures.finished, c.if-not-finished.true) in
     let s = full_search c.over_every_interleaving.ensures.short c.over_every_interleaving.ensures.slots c.args.graph.now c.args.bound c.args.budget
@@ -16,7 +16,7 @@ returns-then-not-finished g c =
     rw same s
 
 pub front_of-requires-clause-graph : goal.front_of-requires-clause-graph
-front_of-requires-clause-graph g c = sym (ap (λ (t : Setting). t.graph) c.in_ok-table.ensures.setting)
+front_of-requires-clause-graph c = sym (ap (λ (t : Setting). t.graph) c.in_ok-table.ensures.setting)
 
 pub front_of-requires-clause-constrained : goal.front_of-requires-clause-constrained
-front_of-requires-clause-constrained g c = subst IsConstrainedGraph (sym (ap (λ (t : Setting). t.graph) c.in_ok-table.ensures.setting)) c.requires.constrained
+front_of-requires-clause-constrained c = subst IsConstrainedGraph (sym (ap (λ (t : Setting). t.graph) c.in_ok-table.ensures.setting)) c.requires.constrained
