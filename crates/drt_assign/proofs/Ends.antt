@@ -10,7 +10,7 @@ use Rattle.drt_model.specs.Digraph.{Digraph}
 use Rattle.drt_model.specs.Limits.{IsTaskSet}
 use Rattle.drt_model.specs.Schedulable.{Schedulable}
 use Rattle.drt_busy.specs.Decide.{TimesDecide}
-use Rattle.drt_evidence.specs.Claims.{graphs_of}
+use Rattle.drt_claims.specs.Claims.{graphs_of}
 use Rattle.drt_priorities.specs.Priorities.{ArePriorities, OrderExists, prioritised}
 use Rattle.drt_priorities.proofs.Prioritised.{keep_constraints, keep_limits, length-prioritised, prioritised_same, prioritised_twice}
 use Rattle.drt_sp.specs.Answers.{IsUndecided}

@@ -9,7 +9,7 @@ use Rattle.drt_model.specs.Digraph.{Digraph, vertex_count}
 use Rattle.drt_model.specs.Limits.{IsTask, IsTaskSet}
 use Rattle.drt_model.specs.Walk.{span}
 use Rattle.drt_busy.specs.Choice.{graph_at, no_task, task_at}
-use Rattle.drt_evidence.specs.Trees.{IsShortWalk, greatest_deadline, latest_deadline}
+use Rattle.drt_claims.specs.Trees.{IsShortWalk, greatest_deadline, latest_deadline}
 use Rattle.drt_priorities.specs.Priorities.{ArePriorities, prioritised}
 use Rattle.drt_priorities.proofs.Prioritised.{graph_stays, keep_limits, length-prioritised}
 use Rattle.drt_sp.specs.Answers.{IsUndecided}

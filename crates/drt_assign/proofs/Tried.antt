@@ -14,7 +14,7 @@ use Rattle.drt_model.specs.Digraph.{Digraph}
 use Rattle.drt_model.specs.Legal.{IsLegal}
 use Rattle.drt_model.specs.Limits.{IsTaskSet}
 use Rattle.drt_model.specs.Schedulable.{priority_of}
-use Rattle.drt_evidence.specs.Claims.{graphs_of}
+use Rattle.drt_claims.specs.Claims.{graphs_of}
 use Rattle.drt_busy.specs.Choice.{no_task, task_at}
 use Rattle.drt_priorities.specs.Priorities.{ArePriorities, prioritised}
 use Rattle.drt_priorities.proofs.Prioritised.{get_or-prioritised, graphs_stay, keep_constraints, keep_legality, keep_limits, length-prioritised, prioritised_twice}

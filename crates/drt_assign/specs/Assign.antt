@@ -7,9 +7,9 @@ use Rattle.drt_model.specs.Legal.{IsLegal}
 use Rattle.drt_model.specs.Misses.{miss_of}
 use Rattle.drt_model.specs.Schedulable.{jobs_of}
 use Rattle.drt_model.specs.Trace.{Misses}
-use Rattle.drt_evidence.specs.Ranges.{IsInRange}
-use Rattle.drt_evidence.specs.Statement.{Statement}
-use Rattle.drt_evidence.specs.declared.evidence.Evidence.{Evidence}
+use Rattle.drt_claims.specs.Ranges.{IsInRange}
+use Rattle.drt_claims.specs.Statement.{Statement}
+use Rattle.drt_claims.specs.declared.evidence.Evidence.{Evidence}
 use Rattle.drt_fixed.specs.Answers.{IsYes}
 use Rattle.drt_priorities.specs.Priorities.{ArePriorities, OrderExists, prioritised}
 use Rattle.drt_sp.specs.Answers.{IsUndecided}

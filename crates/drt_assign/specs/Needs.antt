@@ -3,7 +3,7 @@ use Rattle.std.specs.Prelude.{ℕ, zero, suc, ◌+◌, ◌*◌, ◌<◌, ◌≤�
 use Rattle.drt_model.specs.declared.tasks.Task.{Task}
 use Rattle.drt_model.specs.Degrees.{most_out}
 use Rattle.drt_busy.specs.Choice.{graph_at}
-use Rattle.drt_evidence.specs.Trees.{greatest_deadline}
+use Rattle.drt_claims.specs.Trees.{greatest_deadline}
 use Rattle.drt_sp.specs.Needs.{HasAtMost}
 
 -- The product of the first n numbers.

@@ -5,7 +5,7 @@ use Rattle.drt_model.specs.Constrained.{AreConstrained}
 use Rattle.drt_model.specs.Contents.{Contents}
 use Rattle.drt_model.specs.Digraph.{Digraph}
 use Rattle.drt_model.specs.Limits.{IsTaskSet}
-use Rattle.drt_evidence.specs.Claims.{graphs_of}
+use Rattle.drt_claims.specs.Claims.{graphs_of}
 use Rattle.drt_priorities.specs.Priorities.{prioritised}
 use Rattle.drt_sp.specs.Answers.{IsUndecided}
 use Rattle.drt_sp_task.specs.Task.{IsTaskAnswer}

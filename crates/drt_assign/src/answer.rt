@@ -1,5 +1,5 @@
 //! The answers to a set that wants priorities.
-use drt_evidence::Dossier;
+use drt_claims::Dossier;
 use drt_model::{Miss, Release, Row, TaskSet};
 use drt_trails::FixedTrail;
 

@@ -3,7 +3,7 @@ ghost use Rattle.std.specs.Prelude.{◌≡◌, ◌≤◌, IfOk, map};
 ghost use Rattle.drt_model.specs.Constrained.{AreConstrained};
 ghost use Rattle.drt_model.specs.Schedulable.{Schedulable};
 ghost use Rattle.drt_model.specs.declared.jobs.Policy.TheVariants.{Fixed};
-ghost use Rattle.drt_evidence.specs.Claims.{graphs_of};
+ghost use Rattle.drt_claims.specs.Claims.{graphs_of};
 ghost use Rattle.drt_assign.specs.Assign.{IsAssigned};
 ghost use Rattle.drt_assign.specs.Steps.{IsAnalysis};
 
@@ -11,7 +11,7 @@ use crate::answer::AssignAnswer;
 use crate::ranking::{Ranking, rank_all};
 use crate::rounds::Course;
 use drt_busy::times_decide;
-use drt_evidence::Dossier;
+use drt_claims::Dossier;
 use drt_fixed::{Analysed, analyse_fixed};
 use drt_graph::Graphs;
 use drt_model::{Memory, Task, TaskSet};

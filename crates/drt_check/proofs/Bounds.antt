@@ -5,9 +5,9 @@ use Rattle.std.proofs.lemmas.Bool.{cases_lt}
 use Rattle.std.proofs.lemmas.List.{get_or_past}
 use Rattle.drt_model.specs.Digraph.{Digraph}
 use Rattle.drt_model.specs.Potential.{potential_of}
-use Rattle.drt_evidence.specs.Claims.{fraction_of, fractions, IsFine}
-use Rattle.drt_evidence.specs.Ranges.{IsInRangePotential, IsInRangeRatio}
-use Rattle.drt_evidence.specs.declared.evidence.RatioClaim.{RatioClaim}
+use Rattle.drt_claims.specs.Claims.{fraction_of, fractions, IsFine}
+use Rattle.drt_claims.specs.Ranges.{IsInRangePotential, IsInRangeRatio}
+use Rattle.drt_claims.specs.declared.evidence.RatioClaim.{RatioClaim}
 use Rattle.drt_graph.proofs.Scales.{scale_same}
 use Rattle.drt_rates.specs.Rates.{AreRated, IsSmall, IsTooFine}
 

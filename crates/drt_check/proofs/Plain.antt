@@ -1,11 +1,11 @@
 -- The rules that ask for no graphs.
 use Rattle.std.proofs.Common.{◌≡◌, ◌≢◌, refl}
-use Rattle.drt_evidence.specs.Kinds.{HasReleases}
-use Rattle.drt_evidence.specs.Rules.{Applies}
-use Rattle.drt_evidence.specs.declared.evidence.Evidence.{Evidence}
-use Rattle.drt_evidence.specs.declared.evidence.Evidence.TheVariants.{EdfNo, FixedNo}
-use Rattle.drt_evidence.specs.declared.rule.Rule.{Rule}
-use Rattle.drt_evidence.specs.declared.rule.Rule.TheVariants.{ConstrainedDeadlines, KindOfPolicy, LegalReleases, LeastMiss}
+use Rattle.drt_claims.specs.Kinds.{HasReleases}
+use Rattle.drt_claims.specs.Rules.{Applies}
+use Rattle.drt_claims.specs.declared.evidence.Evidence.{Evidence}
+use Rattle.drt_claims.specs.declared.evidence.Evidence.TheVariants.{EdfNo, FixedNo}
+use Rattle.drt_claims.specs.declared.rule.Rule.{Rule}
+use Rattle.drt_claims.specs.declared.rule.Rule.TheVariants.{ConstrainedDeadlines, KindOfPolicy, LegalReleases, LeastMiss}
 use Rattle.drt_check.specs.Deciding.{AsksForNoGraphs}
 
 -- What applies to releases asks for none.

@@ -6,17 +6,17 @@ use Rattle.std.proofs.lemmas.List.{length-map}
 use Rattle.drt_model.specs.Digraph.{Digraph, digraph_of}
 use Rattle.drt_model.specs.Utilisation.{IsScale, rate}
 use Rattle.drt_model.specs.declared.tasks.Task.{Task}
-use Rattle.drt_evidence.specs.Claims.{graphs_of, Each, fractions, HaveUtilisationBelowOne, HaveUtilisationOne, IsFine, IsHorizon}
-use Rattle.drt_evidence.specs.Fronts.{IsOrdered}
-use Rattle.drt_evidence.specs.Kinds.{HasFronts, HasRatios, fronts_of, ratios_of}
-use Rattle.drt_evidence.specs.Rules.{HasClaimedUtilisation, Keeps, number_of}
-use Rattle.drt_evidence.specs.Statement.{Statement}
-use Rattle.drt_evidence.specs.declared.evidence.Evidence.{Evidence}
-use Rattle.drt_evidence.specs.declared.evidence.Evidence.TheVariants.{EdfYes}
+use Rattle.drt_claims.specs.Claims.{graphs_of, Each, fractions, HaveUtilisationBelowOne, HaveUtilisationOne, IsFine, IsHorizon}
+use Rattle.drt_claims.specs.Fronts.{IsOrdered}
+use Rattle.drt_claims.specs.Kinds.{HasFronts, HasRatios, fronts_of, ratios_of}
+use Rattle.drt_claims.specs.Rules.{HasClaimedUtilisation, Keeps, number_of}
+use Rattle.drt_claims.specs.Statement.{Statement}
+use Rattle.drt_claims.specs.declared.evidence.Evidence.{Evidence}
+use Rattle.drt_claims.specs.declared.evidence.Evidence.TheVariants.{EdfYes}
 use Rattle.drt_model.specs.declared.front.FrontEntry.{FrontEntry}
-use Rattle.drt_evidence.specs.declared.evidence.RatioClaim.{RatioClaim}
-use Rattle.drt_evidence.specs.declared.rule.Rule.{Rule}
-use Rattle.drt_evidence.specs.declared.rule.Rule.TheVariants.{RatioPerTask, FineScale, ClaimedUtilisation, NearHorizon, OrderedFronts}
+use Rattle.drt_claims.specs.declared.evidence.RatioClaim.{RatioClaim}
+use Rattle.drt_claims.specs.declared.rule.Rule.{Rule}
+use Rattle.drt_claims.specs.declared.rule.Rule.TheVariants.{RatioPerTask, FineScale, ClaimedUtilisation, NearHorizon, OrderedFronts}
 use Rattle.drt_check.specs.Deciding.{HaveHorizon, HaveNearHorizon, IsNext}
 use Rattle.drt_check_fronts.specs.FrontOrder.{AreInOrder}
 use Rattle.drt_check.proofs.Accepted.{at_horizon}

@@ -4,11 +4,11 @@ use Rattle.drt_busy.specs.Decide.{DeadlinesDecide, TimesDecide}
 use Rattle.drt_model.specs.Schedulable.{Schedulable}
 use Rattle.drt_model.specs.declared.jobs.Policy.{Policy}
 use Rattle.drt_model.specs.declared.jobs.Policy.TheVariants.{Edf, Fixed}
-use Rattle.drt_evidence.specs.Rules.{Accepts}
-use Rattle.drt_evidence.specs.declared.evidence.Evidence.{Evidence}
-use Rattle.drt_evidence.specs.declared.evidence.Evidence.TheVariants.{EdfYes, EdfNo, UtilisationOne, FixedYes, FixedStates, FixedNo, Undecided}
-use Rattle.drt_evidence.specs.declared.rule.Rule.TheVariants.{ConstrainedDeadlines, KindOfPolicy, LeastMiss, LegalReleases}
-use Rattle.drt_evidence.proofs.Accepting.{statement}
+use Rattle.drt_claims.specs.Rules.{Accepts}
+use Rattle.drt_claims.specs.declared.evidence.Evidence.{Evidence}
+use Rattle.drt_claims.specs.declared.evidence.Evidence.TheVariants.{EdfYes, EdfNo, UtilisationOne, FixedYes, FixedStates, FixedNo, Undecided}
+use Rattle.drt_claims.specs.declared.rule.Rule.TheVariants.{ConstrainedDeadlines, KindOfPolicy, LeastMiss, LegalReleases}
+use Rattle.drt_claims.proofs.Accepting.{statement}
 use Rattle.drt_states_laws.specs.Laws.{StatesPass}
 use Rattle.drt_check.specs.Judging.{IsSound, claimed}
 use Rattle.drt_check.specs.Laws.{AcceptedIsSound}

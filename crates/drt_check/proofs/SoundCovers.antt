@@ -10,8 +10,8 @@ use Rattle.drt_model.specs.Walk.{IsEdge, IsPath, gap, last_of, span, wcet}
 use Rattle.drt_graph.proofs.Edges.{edge_of_sep}
 use Rattle.drt_graph.proofs.Paths.{last_both, span_both, span_cons, span_none}
 use Rattle.drt_busy.specs.Choice.{IsWalk, request_of}
-use Rattle.drt_evidence.specs.Trees.{CoversWalks, IsAbove, IsClosedWalk, IsExtendedWalk, asked}
-use Rattle.drt_evidence.specs.declared.evidence.TreeClaim.{TreeClaim}
+use Rattle.drt_claims.specs.Trees.{CoversWalks, IsAbove, IsClosedWalk, IsExtendedWalk, asked}
+use Rattle.drt_claims.specs.declared.evidence.TreeClaim.{TreeClaim}
 
 -- A walk that is released at x or later asks for nothing before t, where t is at most x.
 requested_late : (g : Digraph) (x u : ℕ) (vs : List ℕ) (t : ℕ) → t ≤ x → requested_from g x u vs t ≡ 0

@@ -10,12 +10,12 @@ use Rattle.drt_model.specs.Limits.{IsTaskSet}
 use Rattle.drt_model.specs.Schedulable.{Schedulable}
 use Rattle.drt_busy.specs.Choice.{AreWalks, graph_at, no_task, task_at}
 use Rattle.drt_busy.specs.Decide.{TimesDecide}
-use Rattle.drt_evidence.specs.Claims.{Each}
-use Rattle.drt_evidence.specs.Proofs.{IsPassed, after_all, opening, passes}
-use Rattle.drt_evidence.specs.Trees.{CoversWalks, greatest_deadline, higher_count, root, tree_graphs}
-use Rattle.drt_evidence.specs.declared.evidence.ProofClaim.{ProofClaim}
-use Rattle.drt_evidence.specs.declared.evidence.TreeClaim.{TreeClaim}
-use Rattle.drt_evidence.proofs.Accepting.{IsFixedYes}
+use Rattle.drt_claims.specs.Claims.{Each}
+use Rattle.drt_claims.specs.Proofs.{IsPassed, after_all, opening, passes}
+use Rattle.drt_claims.specs.Trees.{CoversWalks, greatest_deadline, higher_count, root, tree_graphs}
+use Rattle.drt_claims.specs.declared.evidence.ProofClaim.{ProofClaim}
+use Rattle.drt_claims.specs.declared.evidence.TreeClaim.{TreeClaim}
+use Rattle.drt_claims.proofs.Accepting.{IsFixedYes}
 use Rattle.drt_check.proofs.SoundOrder.{Walked, higher_below, ordered, ordered_tasks, ordered_walked, requests_first, tasks_of, walked}
 use Rattle.drt_check.proofs.SoundProofs.{have_leaves, leaves_at, leaves_most, stack_passes}
 use Rattle.drt_check.proofs.SoundTimes.{HasTime, claim_of, deadline_near}

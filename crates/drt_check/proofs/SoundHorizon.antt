@@ -11,8 +11,8 @@ use Rattle.drt_model.specs.Walk.{work}
 use Rattle.drt_graph.proofs.Bounds.{beyond, scaled_work}
 use Rattle.drt_graph.proofs.Paths.{work_none}
 use Rattle.drt_busy.specs.Choice.{AreDueBy, AreWalks, IsWalk, due_of, efforts}
-use Rattle.drt_evidence.specs.declared.evidence.RatioClaim.{RatioClaim}
-use Rattle.drt_evidence.specs.Claims.{HaveFittingPotentials, HaveUtilisationBelowOne, IsHorizon, fractions, graphs_of, potentials}
+use Rattle.drt_claims.specs.declared.evidence.RatioClaim.{RatioClaim}
+use Rattle.drt_claims.specs.Claims.{HaveFittingPotentials, HaveUtilisationBelowOne, IsHorizon, fractions, graphs_of, potentials}
 use Rattle.drt_graph.proofs.Scales.{scale_same}
 use Rattle.drt_check.proofs.SoundWalks.{efforts_cons, efforts_none}
 

@@ -4,12 +4,12 @@ use Rattle.std.specs.Prelude.{All, Option, slice_get, slice_index_or, slice_set}
 use Rattle.std.proofs.lemmas.List.Elements.{All-head, All-tail}
 use Rattle.std.proofs.lemmas.Option.{none-some}
 use Rattle.drt_model.specs.Digraph.{Digraph, digraph_of}
-use Rattle.drt_evidence.specs.Claims.{Each}
-use Rattle.drt_evidence.specs.Proofs.{after_all, halved, parts_in, passes, sum_at}
-use Rattle.drt_evidence.specs.Trees.{CoversWalks, IsTree, asked, root}
-use Rattle.drt_evidence.specs.declared.evidence.Item.{Item}
-use Rattle.drt_evidence.specs.declared.evidence.Item.TheVariants.{Pass, Split}
-use Rattle.drt_evidence.specs.declared.evidence.TreeClaim.{TreeClaim}
+use Rattle.drt_claims.specs.Claims.{Each}
+use Rattle.drt_claims.specs.Proofs.{after_all, halved, parts_in, passes, sum_at}
+use Rattle.drt_claims.specs.Trees.{CoversWalks, IsTree, asked, root}
+use Rattle.drt_claims.specs.declared.evidence.Item.{Item}
+use Rattle.drt_claims.specs.declared.evidence.Item.TheVariants.{Pass, Split}
+use Rattle.drt_claims.specs.declared.evidence.TreeClaim.{TreeClaim}
 use Rattle.drt_check.proofs.SoundCovers.{walk_met}
 use Rattle.drt_check.proofs.SoundOrder.{AreWalked, Walked, tasks_of, total_first}
 use Rattle.drt_check.proofs.SoundTrees.{IsUnder, under_most, under_part, under_root}

@@ -12,11 +12,11 @@ use Rattle.drt_model.specs.RatioRules.{FitPotentials, IsClosed, IsTight}
 use Rattle.drt_model.specs.Utilisation.{AreRatios, HasRatio, BoundsCycles}
 use Rattle.drt_model.specs.Walk.{gap, last_of, span, work}
 use Rattle.drt_graph.proofs.Bounds.{rises}
-use Rattle.drt_evidence.specs.declared.evidence.RatioClaim.{RatioClaim}
-use Rattle.drt_evidence.specs.Claims.{AreLowest, HaveClosedCycles, HaveFittingPotentials, HaveTightCycles, fractions, graphs_of}
-use Rattle.drt_evidence.specs.Rates.{IsAtOne}
+use Rattle.drt_claims.specs.declared.evidence.RatioClaim.{RatioClaim}
+use Rattle.drt_claims.specs.Claims.{AreLowest, HaveClosedCycles, HaveFittingPotentials, HaveTightCycles, fractions, graphs_of}
+use Rattle.drt_claims.specs.Rates.{IsAtOne}
 use Rattle.drt_model.specs.declared.tasks.Task.{Task}
-use Rattle.drt_evidence.proofs.Accepting.{IsUtilisationOne}
+use Rattle.drt_claims.proofs.Accepting.{IsUtilisationOne}
 
 -- Round a cycle the potentials rise by nothing, so that it gains nothing.
 no_cycle_gains : (g : Digraph) (a b : ℕ) (hs : List ℤ) → FitPotentials g a b hs → BoundsCycles g a b

@@ -19,9 +19,9 @@ use Rattle.drt_states.specs.declared.claims.TailClaim.{TailClaim}
 use Rattle.drt_states.specs.States.{AreStates, HaveDominatedChildren, HavePassingTimes}
 use Rattle.drt_states.specs.Tails.{BoundsWalks, EachTail, IsTail, Place, graphs_of}
 use Rattle.drt_states_laws.specs.Laws.{AreWalksOf, StatesPass, asked_together}
-use Rattle.drt_evidence.specs.Searches.{higher_places, higher_tails, place_of, places_of}
-use Rattle.drt_evidence.specs.Trees.{higher_count}
-use Rattle.drt_evidence.proofs.Accepting.{IsFixedStates}
+use Rattle.drt_claims.specs.Searches.{higher_places, higher_tails, place_of, places_of}
+use Rattle.drt_claims.specs.Trees.{higher_count}
+use Rattle.drt_claims.proofs.Accepting.{IsFixedStates}
 use Rattle.drt_check.proofs.SoundOrder.{AreWalked, Walked, asks, higher_below, higher_first, ordered, ordered_all, ordered_tasks, ordered_walked}
 use Rattle.drt_check.proofs.SoundOrder.{requests_first, tasks_of, total_first, walked}
 use Rattle.drt_check.proofs.SoundTimes.{HasTime, claim_of, lower_near}

@@ -12,9 +12,9 @@ use Rattle.drt_model.specs.declared.tasks.Vertex.{Vertex}
 use Rattle.drt_model.specs.Digraph.{no_vertex, vertex_count}
 use Rattle.drt_model.specs.Walk.{deadline, wcet}
 use Rattle.drt_busy.specs.Choice.{graph_at, no_task, requests, task_at}
-use Rattle.drt_evidence.specs.Proofs.{subjects_from}
-use Rattle.drt_evidence.specs.Searches.{lower_deadline}
-use Rattle.drt_evidence.specs.Trees.{greatest_deadline, latest_deadline}
+use Rattle.drt_claims.specs.Proofs.{subjects_from}
+use Rattle.drt_claims.specs.Searches.{lower_deadline}
+use Rattle.drt_claims.specs.Trees.{greatest_deadline, latest_deadline}
 
 -- A time up to the vertex's deadline has room for it and for what the walks of the tasks of higher priority ask for.
 abbrev pub HasTime : List Task → (ℕ → List ℕ) → ℕ → ℕ → Type 0

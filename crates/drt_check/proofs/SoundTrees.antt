@@ -8,10 +8,10 @@ use Rattle.std.proofs.lemmas.List.{get_or-map, get_or_append_left, get_or_at, le
 use Rattle.std.proofs.lemmas.List.Sums.{sum_by-cons}
 use Rattle.std.proofs.lemmas.Option.{none-some, same_Some, slice_get_within}
 use Rattle.drt_model.specs.Digraph.{Digraph}
-use Rattle.drt_evidence.specs.Proofs.{parts, parts_of}
-use Rattle.drt_evidence.specs.Trees.{IsTree, asked, joined, named, node_values, root}
-use Rattle.drt_evidence.specs.declared.evidence.Pair.{Pair}
-use Rattle.drt_evidence.specs.declared.evidence.TreeClaim.{TreeClaim}
+use Rattle.drt_claims.specs.Proofs.{parts, parts_of}
+use Rattle.drt_claims.specs.Trees.{IsTree, asked, joined, named, node_values, root}
+use Rattle.drt_claims.specs.declared.evidence.Pair.{Pair}
+use Rattle.drt_claims.specs.declared.evidence.TreeClaim.{TreeClaim}
 
 -- The leaf is the node, or it is under one of the node's parts.
 pub data IsUnder (tree : TreeClaim) (leaf : ℕ) : ℕ → Type 0 where

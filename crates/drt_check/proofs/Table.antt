@@ -3,14 +3,14 @@ use Rattle.std.proofs.Common.{◌≡◌, ℕ, ◌+◌, ◌<◌, List, [], ◌∷
 use Rattle.std.specs.List.{range_with_len}
 use Rattle.std.proofs.lemmas.List.{get_or-map}
 use Rattle.std.proofs.lemmas.List.FromFn.{get_or-range_with_len}
-use Rattle.drt_evidence.specs.Rules.{Applies, Keeps, number_of}
-use Rattle.drt_evidence.specs.Statement.{Statement}
-use Rattle.drt_evidence.specs.declared.rule.Rule.{Rule}
-use Rattle.drt_evidence.specs.declared.rule.Rule.TheVariants.{ConstrainedDeadlines, KindOfPolicy, RatioPerTask, LowestTerms, PotentialPerVertex, FittingPotentials}
-use Rattle.drt_evidence.specs.declared.rule.Rule.TheVariants.{ClosedCycles, TightCycles, FineScale, ClaimedUtilisation, NearHorizon, OrderedFronts}
-use Rattle.drt_evidence.specs.declared.rule.Rule.TheVariants.{CoveredOpenings, CoveredExtensions, Room, LegalReleases, LeastMiss}
-use Rattle.drt_evidence.specs.declared.rule.Rule.TheVariants.{TreePerHigherTask, ShortWalks, CoveredWalks, TreeShapes, ProofPerVertex, ProofShapes, PassingTimes}
-use Rattle.drt_evidence.specs.declared.rule.Rule.TheVariants.{RisingTails, BoundingTails, SearchPerVertex, SearchStates, PassingStates, DominatedChildren}
+use Rattle.drt_claims.specs.Rules.{Applies, Keeps, number_of}
+use Rattle.drt_claims.specs.Statement.{Statement}
+use Rattle.drt_claims.specs.declared.rule.Rule.{Rule}
+use Rattle.drt_claims.specs.declared.rule.Rule.TheVariants.{ConstrainedDeadlines, KindOfPolicy, RatioPerTask, LowestTerms, PotentialPerVertex, FittingPotentials}
+use Rattle.drt_claims.specs.declared.rule.Rule.TheVariants.{ClosedCycles, TightCycles, FineScale, ClaimedUtilisation, NearHorizon, OrderedFronts}
+use Rattle.drt_claims.specs.declared.rule.Rule.TheVariants.{CoveredOpenings, CoveredExtensions, Room, LegalReleases, LeastMiss}
+use Rattle.drt_claims.specs.declared.rule.Rule.TheVariants.{TreePerHigherTask, ShortWalks, CoveredWalks, TreeShapes, ProofPerVertex, ProofShapes, PassingTimes}
+use Rattle.drt_claims.specs.declared.rule.Rule.TheVariants.{RisingTails, BoundingTails, SearchPerVertex, SearchStates, PassingStates, DominatedChildren}
 use Rattle.drt_check.specs.Deciding.{IsNext}
 
 -- The place of a rule.

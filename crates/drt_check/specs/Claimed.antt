@@ -1,7 +1,7 @@
 -- The rules of one claimed ratio.
 use Rattle.drt_model.specs.Digraph.{Digraph}
 use Rattle.drt_model.specs.RatioRules.{AreCounted, FitPotentials, IsClosed, IsTight}
-use Rattle.drt_evidence.specs.declared.evidence.RatioClaim.{RatioClaim}
+use Rattle.drt_claims.specs.declared.evidence.RatioClaim.{RatioClaim}
 use Rattle.drt_check.specs.declared.claimed.ClaimRule.{ClaimRule}
 use Rattle.drt_check.specs.declared.claimed.ClaimRule.TheVariants.{Counted, Fits, Closed, Tight}
 

@@ -1,13 +1,13 @@
 -- What is found of a statement, rule by rule.
 use Rattle.std.specs.Prelude.{◌≡◌, ℕ, ◌<◌, ◌≤◌, ◌^◌, List, Option, Some, None, length}
 use Rattle.drt_model.specs.Digraph.{Digraph}
-use Rattle.drt_evidence.specs.Claims.{IsFine, HaveUtilisationBelowOne, IsHorizon}
-use Rattle.drt_evidence.specs.Rules.{Applies, Keeps, number_of}
-use Rattle.drt_evidence.specs.Statement.{Statement}
-use Rattle.drt_evidence.specs.declared.evidence.RatioClaim.{RatioClaim}
-use Rattle.drt_evidence.specs.declared.rule.Rule.{Rule}
-use Rattle.drt_evidence.specs.declared.rule.Rule.TheVariants.{ConstrainedDeadlines, KindOfPolicy, LegalReleases, LeastMiss}
-use Rattle.drt_evidence.specs.declared.rule.Rule.TheVariants.{RisingTails, BoundingTails, SearchPerVertex, SearchStates, PassingStates, DominatedChildren}
+use Rattle.drt_claims.specs.Claims.{IsFine, HaveUtilisationBelowOne, IsHorizon}
+use Rattle.drt_claims.specs.Rules.{Applies, Keeps, number_of}
+use Rattle.drt_claims.specs.Statement.{Statement}
+use Rattle.drt_claims.specs.declared.evidence.RatioClaim.{RatioClaim}
+use Rattle.drt_claims.specs.declared.rule.Rule.{Rule}
+use Rattle.drt_claims.specs.declared.rule.Rule.TheVariants.{ConstrainedDeadlines, KindOfPolicy, LegalReleases, LeastMiss}
+use Rattle.drt_claims.specs.declared.rule.Rule.TheVariants.{RisingTails, BoundingTails, SearchPerVertex, SearchStates, PassingStates, DominatedChildren}
 
 -- The rule applies, and those that apply and have smaller numbers are kept.
 pub record IsNext (s : Statement) (rule : Rule) : Type 0 where

@@ -1,11 +1,11 @@
 -- What the checker's judgement of a dossier says.
 use Rattle.std.specs.Prelude.{◌≡◌, ℕ}
 use Rattle.drt_model.specs.Schedulable.{Schedulable}
-use Rattle.drt_evidence.specs.Statement.{Statement}
-use Rattle.drt_evidence.specs.Rates.{IsAtOne}
-use Rattle.drt_evidence.specs.Rules.{Accepts, Rejects}
-use Rattle.drt_evidence.specs.declared.evidence.Evidence.{Evidence}
-use Rattle.drt_evidence.specs.declared.evidence.Evidence.TheVariants.{EdfYes, EdfNo, UtilisationOne, FixedYes, FixedStates, FixedNo, Undecided}
+use Rattle.drt_claims.specs.Statement.{Statement}
+use Rattle.drt_claims.specs.Rates.{IsAtOne}
+use Rattle.drt_claims.specs.Rules.{Accepts, Rejects}
+use Rattle.drt_claims.specs.declared.evidence.Evidence.{Evidence}
+use Rattle.drt_claims.specs.declared.evidence.Evidence.TheVariants.{EdfYes, EdfNo, UtilisationOne, FixedYes, FixedStates, FixedNo, Undecided}
 use Rattle.drt_check.specs.declared.judgement.Judgement.{Judgement}
 use Rattle.drt_check.specs.declared.judgement.Judgement.TheVariants as judgements
 

@@ -1,8 +1,7 @@
 -- What the checker's judgements rest on.
 use Rattle.std.specs.Prelude.{◌≡◌}
-use Rattle.drt_evidence.specs.Reading.{IsStated}
-use Rattle.drt_evidence.specs.Rules.{Accepts}
-use Rattle.drt_evidence.specs.Statement.{Statement}
+use Rattle.drt_claims.specs.Rules.{Accepts}
+use Rattle.drt_claims.specs.Statement.{IsStated, Statement}
 use Rattle.drt_check.specs.Judging.{claimed, IsJudged, IsSound}
 use Rattle.drt_check.specs.declared.judgement.Judgement.{Judgement}
 

@@ -1,11 +1,11 @@
 //! The rules of claimed ratios that need no common scale.
 ghost use Rattle.std.specs.Prelude.{◌≡◌, ◌↔◌, All, IsTrue, length};
 ghost use Rattle.std.specs.Int.{IsGcd};
-ghost use Rattle.drt_evidence.specs.Claims.{Each, AreLowest};
-ghost use Rattle.drt_evidence.specs.Ranges.{IsInRangeRatio};
+ghost use Rattle.drt_claims.specs.Claims.{Each, AreLowest};
+ghost use Rattle.drt_claims.specs.Ranges.{IsInRangeRatio};
 ghost use Rattle.drt_check.specs.Claimed.{IsKept};
 
-use drt_evidence::RatioClaim;
+use drt_claims::RatioClaim;
 use drt_graph::{Graph, Graphs, is_closed, is_tight, potentials_fit};
 use drt_num::gcd;
 

@@ -1,6 +1,6 @@
 //! The independent checker of dossiers.
 //!
-//! It stands on no crate of the search. What it asks of a dossier are the rules of `drt_evidence/specs/Rules.antt`, each a
+//! It stands on no crate of the search. What it asks of a dossier are the rules of `drt_claims/specs/Rules.antt`, each a
 //! sentence over lists and numbers; `rules.rt` decides them, one row for each. What a judgement means stands in `specs/Judging.antt`.
 #![tactic(auto)]
 

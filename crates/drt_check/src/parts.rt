@@ -1,12 +1,12 @@
 //! What a dossier has, by the kind of its evidence.
 ghost use Rattle.std.specs.Prelude.{◌≡◌, ◌↔◌, All, IsTrue};
-ghost use Rattle.drt_evidence.specs.Kinds.{HasReleases, IsOfPolicy, fronts_of, miss_of, proofs_of, ratios_of, releases_of, searches_of, tails_of, trees_of};
-ghost use Rattle.drt_evidence.specs.Ranges.{AreInRangeReleases, IsInRangeEntry, IsInRangeProof, IsInRangeRatio, IsInRangeTree};
-ghost use Rattle.drt_evidence.specs.declared.evidence.Evidence.TheVariants.{Undecided};
+ghost use Rattle.drt_claims.specs.Kinds.{HasReleases, IsOfPolicy, fronts_of, miss_of, proofs_of, ratios_of, releases_of, searches_of, tails_of, trees_of};
+ghost use Rattle.drt_claims.specs.Ranges.{AreInRangeReleases, IsInRangeEntry, IsInRangeProof, IsInRangeRatio, IsInRangeTree};
+ghost use Rattle.drt_claims.specs.declared.evidence.Evidence.TheVariants.{Undecided};
 ghost use Rattle.drt_check.specs.Judging.{claimed};
 
 use crate::judgement::Judgement;
-use drt_evidence::{Dossier, Evidence, FrontEntry, ProofClaim, RatioClaim, TreeClaim};
+use drt_claims::{Dossier, Evidence, FrontEntry, ProofClaim, RatioClaim, TreeClaim};
 use drt_model::{Miss, Policy, Release, Row};
 use drt_states::{SearchClaim, TailClaim};
 

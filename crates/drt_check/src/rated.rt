@@ -1,7 +1,7 @@
 //! How claimed ratios are read, for the arithmetic of ratios.
-ghost use Rattle.drt_evidence.specs.Claims.{fraction_of};
+ghost use Rattle.drt_claims.specs.Claims.{fraction_of};
 
-use drt_evidence::RatioClaim;
+use drt_claims::RatioClaim;
 use drt_rates::Rated;
 
 /// The reading of claimed ratios.

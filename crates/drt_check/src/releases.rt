@@ -3,7 +3,7 @@ ghost use Rattle.std.specs.Prelude.{◌≡◌, ℕ, ◌+◌, ◌≤◌, ◌↔�
 ghost use Rattle.drt_model.specs.Legal.{IsLegal};
 ghost use Rattle.drt_model.specs.Misses.{IsLeastMiss};
 ghost use Rattle.drt_model.specs.Schedulable.{deadline_of, jobs_of};
-ghost use Rattle.drt_evidence.specs.Ranges.{AreInRangeReleases, IsInRangeRelease};
+ghost use Rattle.drt_claims.specs.Ranges.{AreInRangeReleases, IsInRangeRelease};
 ghost use Rattle.drt_check.specs.Named.{IsPlace, IsNamed};
 
 use drt_model::{Memory, Miss, Policy, Release, Task, TaskSet};

@@ -1,9 +1,9 @@
 //! The rules, one row for each.
 ghost use Rattle.std.specs.Prelude.{◌≡◌, ◌↔◌, IfOk, IsTrue};
 ghost use Rattle.drt_model.specs.Constrained.{AreConstrained};
-ghost use Rattle.drt_evidence.specs.Claims.{graphs_of};
-ghost use Rattle.drt_evidence.specs.Rules.{Applies, HasClaimedUtilisation, Keeps};
-ghost use Rattle.drt_evidence.specs.declared.rule.Rule.TheVariants.{ClaimedUtilisation};
+ghost use Rattle.drt_claims.specs.Claims.{graphs_of};
+ghost use Rattle.drt_claims.specs.Rules.{Applies, HasClaimedUtilisation, Keeps};
+ghost use Rattle.drt_claims.specs.declared.rule.Rule.TheVariants.{ClaimedUtilisation};
 ghost use Rattle.drt_check.specs.Deciding.{AsksForNoGraphs, IsNext, IsOnStates};
 
 use crate::claimed::{ClaimRule, all_keep, are_lowest};
@@ -22,7 +22,7 @@ use drt_check_searches::{
 use drt_check_trees::{
     are_trees, cover_walks, have_short_walks, is_tree_per_higher_task, priority_order,
 };
-use drt_evidence::{Dossier, Evidence, Rule};
+use drt_claims::{Dossier, Evidence, Rule};
 use drt_graph::Graphs;
 use drt_model::{Memory, legal};
 use std::alloc::Global;

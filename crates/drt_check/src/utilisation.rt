@@ -1,12 +1,12 @@
 //! What claimed ratios come to: whether their utilisation is the claimed one, and the horizon that they give.
 ghost use Rattle.std.specs.Prelude.{◌≡◌, ◌≤◌, ◌^◌, ◌↔◌, All, IsTrue, length};
 ghost use Rattle.drt_model.specs.Utilisation.{IsScale};
-ghost use Rattle.drt_evidence.specs.Claims.{HaveUtilisationBelowOne, HaveUtilisationOne, IsFine, IsHorizon, fractions};
-ghost use Rattle.drt_evidence.specs.Ranges.{IsInRangeRatio};
+ghost use Rattle.drt_claims.specs.Claims.{HaveUtilisationBelowOne, HaveUtilisationOne, IsFine, IsHorizon, fractions};
+ghost use Rattle.drt_claims.specs.Ranges.{IsInRangeRatio};
 ghost use Rattle.drt_check.specs.Deciding.{HaveHorizon, HaveNearHorizon};
 
 use crate::rated::Claimed;
-use drt_evidence::RatioClaim;
+use drt_claims::RatioClaim;
 use drt_graph::Graphs;
 use drt_rates::{horizon, rate, scale};
 

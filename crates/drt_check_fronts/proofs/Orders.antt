@@ -6,7 +6,7 @@ use Rattle.std.proofs.lemmas.Bool.{cases_lt, eqb-true, ltb-true, leb-true, lt-lt
 use Rattle.std.proofs.lemmas.List.{get_or_default}
 use Rattle.drt_model.specs.Legal.{AllNeighbours}
 use Rattle.drt_model.specs.declared.front.FrontEntry.{FrontEntry}
-use Rattle.drt_evidence.specs.Fronts.{Covers, IsNextEntry}
+use Rattle.drt_claims.specs.Fronts.{Covers, IsNextEntry}
 
 next_trans : (a b c : FrontEntry) → IsNextEntry a b → IsNextEntry b c → IsNextEntry a c
 next_trans a b c (inl p) (inl q) = inl (omega arith)

@@ -5,9 +5,9 @@ use Rattle.std.proofs.lemmas.Bool.Decides.{nat_tests}
 use Rattle.drt_model.specs.Digraph.{Digraph}
 use Rattle.drt_sweep.specs.Dues.{sum_due}
 use Rattle.drt_model.specs.declared.front.FrontEntry.{FrontEntry}
-use Rattle.drt_evidence.specs.Claims.{Each}
+use Rattle.drt_claims.specs.Claims.{Each}
 use Rattle.drt_model.specs.FrontEntry.{due}
-use Rattle.drt_evidence.specs.Fronts.{HaveRoom, work_due, works_due}
+use Rattle.drt_claims.specs.Fronts.{HaveRoom, work_due, works_due}
 
 same_test : (x t : ℕ) → eqb x (suc t) ≡ false → leb x (suc t) ≡ leb x t
 same_test x t e = grind (arith, nat_tests)

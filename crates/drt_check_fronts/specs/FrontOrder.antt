@@ -2,8 +2,8 @@
 use Rattle.std.specs.Prelude.{◌≡◌, ℕ, List, length}
 use Rattle.drt_model.specs.Digraph.{Digraph}
 use Rattle.drt_model.specs.declared.front.FrontEntry.{FrontEntry}
-use Rattle.drt_evidence.specs.Claims.{Each}
-use Rattle.drt_evidence.specs.Fronts.{IsOrdered}
+use Rattle.drt_claims.specs.Claims.{Each}
+use Rattle.drt_claims.specs.Fronts.{IsOrdered}
 
 -- There is a front for each graph, in order within the bound.
 abbrev pub AreInOrder : List Digraph → ℕ → List (List FrontEntry) → Type 0

@@ -2,13 +2,13 @@
 ghost use Rattle.std.specs.Prelude.{◌≡◌, ℕ, ◌↔◌, ◌<◌, All, IsTrue, length};
 ghost use Rattle.drt_model.specs.Digraph.{out_degree, vertex_count};
 ghost use Rattle.drt_model.specs.Legal.{AllNeighbours};
-ghost use Rattle.drt_evidence.specs.Claims.{Each};
-ghost use Rattle.drt_evidence.specs.Fronts.{IsClosedFront, IsExtended, IsNextEntry, IsOrdered};
-ghost use Rattle.drt_evidence.specs.Ranges.{IsInRangeEntry};
+ghost use Rattle.drt_claims.specs.Claims.{Each};
+ghost use Rattle.drt_claims.specs.Fronts.{IsClosedFront, IsExtended, IsNextEntry, IsOrdered};
+ghost use Rattle.drt_claims.specs.Ranges.{IsInRangeEntry};
 ghost use Rattle.drt_check_fronts.specs.FrontOrder.{AreInOrder};
 
 use crate::covering::is_covered;
-use drt_evidence::FrontEntry;
+use drt_claims::FrontEntry;
 use drt_graph::{Graph, Graphs};
 use drt_model::Row;
 

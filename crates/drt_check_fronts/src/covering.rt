@@ -1,9 +1,9 @@
 //! The search for an entry that covers a label.
 ghost use Rattle.std.specs.Prelude.{◌↔◌, Any, IsTrue};
 ghost use Rattle.drt_model.specs.Legal.{AllNeighbours};
-ghost use Rattle.drt_evidence.specs.Fronts.{Covers, IsNextEntry};
+ghost use Rattle.drt_claims.specs.Fronts.{Covers, IsNextEntry};
 
-use drt_evidence::FrontEntry;
+use drt_claims::FrontEntry;
 
 /// Whether an entry of the front is of this vertex, has at most this offset and at least this work. Where there is one, the last
 /// entry of the vertex up to the offset is one too, since works rise with offsets.

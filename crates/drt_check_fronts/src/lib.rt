@@ -1,7 +1,7 @@
 //! The rules of the independent checker on claimed fronts.
 //!
 //! A yes under EDF comes with a front for each task: entries in order within a bound, one of which covers each walk that is due within
-//! it. `are_in_order`, `have_openings`, `are_closed` and `have_room` decide what the rules of `drt_evidence/specs/Rules.antt` ask of
+//! it. `are_in_order`, `have_openings`, `are_closed` and `have_room` decide what the rules of `drt_claims/specs/Rules.antt` ask of
 //! them, in this order: each once those before it are kept. The bound is any; the checker above gives them the horizon.
 //!
 //! Once a front is known to be in order, the entry that covers a label is found by a binary search, so that all rules together

@@ -3,12 +3,12 @@ ghost use Rattle.std.specs.Prelude.{◌≡◌, ◌↔◌, ◌<◌, ◌≤◌, An
 ghost use Rattle.drt_model.specs.Digraph.{vertex_count};
 ghost use Rattle.drt_model.specs.Legal.{AllNeighbours};
 ghost use Rattle.drt_model.specs.Walk.{deadline, wcet};
-ghost use Rattle.drt_evidence.specs.Claims.{Each};
-ghost use Rattle.drt_evidence.specs.Fronts.{Covers, HasOpenings, IsNextEntry};
+ghost use Rattle.drt_claims.specs.Claims.{Each};
+ghost use Rattle.drt_claims.specs.Fronts.{Covers, HasOpenings, IsNextEntry};
 ghost use Rattle.drt_check_fronts.specs.FrontOrder.{AreInOrder};
 
 use crate::covering::is_covered;
-use drt_evidence::FrontEntry;
+use drt_claims::FrontEntry;
 use drt_graph::{Graph, Graphs};
 use drt_model::Row;
 

@@ -1,11 +1,11 @@
 //! Whether the entries of fronts are within a bound and in order.
 ghost use Rattle.std.specs.Prelude.{◌≡◌, ◌↔◌, All, IsTrue, length};
 ghost use Rattle.drt_model.specs.Legal.{AllNeighbours};
-ghost use Rattle.drt_evidence.specs.Fronts.{IsNextEntry, IsOrdered, IsWithin};
-ghost use Rattle.drt_evidence.specs.Ranges.{IsInRangeEntry};
+ghost use Rattle.drt_claims.specs.Fronts.{IsNextEntry, IsOrdered, IsWithin};
+ghost use Rattle.drt_claims.specs.Ranges.{IsInRangeEntry};
 ghost use Rattle.drt_check_fronts.specs.FrontOrder.{AreInOrder};
 
-use drt_evidence::FrontEntry;
+use drt_claims::FrontEntry;
 use drt_graph::{Graph, Graphs};
 use drt_model::Row;
 

@@ -1,9 +1,9 @@
 //! Whether the works of the fronts have room.
 ghost use Rattle.std.specs.Prelude.{◌↔◌, IfOk, IsTrue};
-ghost use Rattle.drt_evidence.specs.Fronts.{HaveRoom};
+ghost use Rattle.drt_claims.specs.Fronts.{HaveRoom};
 ghost use Rattle.drt_check_fronts.specs.FrontOrder.{AreInOrder};
 
-use drt_evidence::FrontEntry;
+use drt_claims::FrontEntry;
 use drt_graph::Graphs;
 use drt_model::{Memory, Row};
 use drt_rates::scan;

@@ -6,10 +6,10 @@ use Rattle.std.proofs.lemmas.List.{length-map, length-take}
 use Rattle.drt_model.specs.declared.tasks.Task.{Task}
 use Rattle.drt_model.specs.Digraph.{digraph_of}
 use Rattle.drt_model.specs.Limits.{IsTask}
-use Rattle.drt_evidence.specs.Proofs.{HasShape}
-use Rattle.drt_evidence.specs.Trees.{IsTree, by_priority, tree_graphs}
-use Rattle.drt_evidence.specs.declared.evidence.ProofClaim.{ProofClaim}
-use Rattle.drt_evidence.specs.declared.evidence.TreeClaim.{TreeClaim}
+use Rattle.drt_claims.specs.Proofs.{HasShape}
+use Rattle.drt_claims.specs.Trees.{IsTree, by_priority, tree_graphs}
+use Rattle.drt_claims.specs.declared.evidence.ProofClaim.{ProofClaim}
+use Rattle.drt_claims.specs.declared.evidence.TreeClaim.{TreeClaim}
 use Rattle.drt_check_values.specs.declared.query.Query.{Query}
 use Rattle.drt_check_proofs.specs.Passing.{all_queries}
 use Rattle.drt_check_proofs.specs.Points.{IsTimely, Point, marks, points, query}

@@ -8,10 +8,10 @@ use Rattle.std.proofs.lemmas.List.Elements.{All-from_recursion, recursion_from_A
 use Rattle.std.proofs.lemmas.Option.{slice_get-get_or, slice_get_past, slice_get_within, same_Some}
 use Rattle.drt_model.specs.declared.tasks.Task.{Task}
 use Rattle.drt_model.specs.Digraph.{Digraph, digraph_of}
-use Rattle.drt_evidence.specs.Proofs.{HasPassingTimes, HasShape, IsPassed, opening, passes}
-use Rattle.drt_evidence.specs.Trees.{higher_count}
-use Rattle.drt_evidence.specs.declared.evidence.ProofClaim.{ProofClaim}
-use Rattle.drt_evidence.specs.declared.evidence.TreeClaim.{TreeClaim}
+use Rattle.drt_claims.specs.Proofs.{HasPassingTimes, HasShape, IsPassed, opening, passes}
+use Rattle.drt_claims.specs.Trees.{higher_count}
+use Rattle.drt_claims.specs.declared.evidence.ProofClaim.{ProofClaim}
+use Rattle.drt_claims.specs.declared.evidence.TreeClaim.{TreeClaim}
 use Rattle.drt_check_proofs.specs.Passing.{all_queries, blank, passes_at, queries_in, queries_of, times}
 use Rattle.drt_check_proofs.specs.Places.{at_place}
 use Rattle.drt_check_proofs.specs.Points.{IsPoint, mark_at, marks, marks_in, marks_of, point, points, points_in, points_of, query}

@@ -4,11 +4,11 @@ use Rattle.std.specs.Prelude.{◌↔◌, Option, Some, None, IsSome, slice_get}
 use Rattle.std.proofs.lemmas.List.{length-map, length-take, get_or-map, get_or-take, nil_from_length}
 use Rattle.std.proofs.lemmas.Option.{get_or_from_slice_get, same_Some}
 use Rattle.drt_model.specs.declared.tasks.Task.{Task}
-use Rattle.drt_evidence.specs.Proofs.{HasShape, after, after_all, opening}
-use Rattle.drt_evidence.specs.Trees.{higher_count, root}
-use Rattle.drt_evidence.specs.declared.evidence.Item.{Item}
-use Rattle.drt_evidence.specs.declared.evidence.ProofClaim.{ProofClaim}
-use Rattle.drt_evidence.specs.declared.evidence.TreeClaim.{TreeClaim}
+use Rattle.drt_claims.specs.Proofs.{HasShape, after, after_all, opening}
+use Rattle.drt_claims.specs.Trees.{higher_count, root}
+use Rattle.drt_claims.specs.declared.evidence.Item.{Item}
+use Rattle.drt_claims.specs.declared.evidence.ProofClaim.{ProofClaim}
+use Rattle.drt_claims.specs.declared.evidence.TreeClaim.{TreeClaim}
 use Rattle.drt_check_proofs.specs.Places.{after_all_at, at_place, depth_after_all}
 use Rattle.drt_check_proofs.specs.Shapes.{CanTakeBelow, IsClosed}
 use Rattle.drt_check_proofs.proofs.Steps.{AreWide, Stepped, stepped, stuck}

@@ -6,10 +6,10 @@ use Rattle.std.proofs.lemmas.List.{get_or_append_left, length_push}
 use Rattle.drt_model.specs.Digraph.{Digraph}
 use Rattle.drt_model.specs.RequestFunction.{requested_from}
 use Rattle.drt_model.specs.Walk.{gap}
-use Rattle.drt_evidence.specs.Proofs.{sum_at}
-use Rattle.drt_evidence.specs.Trees.{IsTree, asked, joined, node_values}
-use Rattle.drt_evidence.specs.declared.evidence.Pair.{Pair}
-use Rattle.drt_evidence.specs.declared.evidence.TreeClaim.{TreeClaim}
+use Rattle.drt_claims.specs.Proofs.{sum_at}
+use Rattle.drt_claims.specs.Trees.{IsTree, asked, joined, node_values}
+use Rattle.drt_claims.specs.declared.evidence.Pair.{Pair}
+use Rattle.drt_claims.specs.declared.evidence.TreeClaim.{TreeClaim}
 use Rattle.drt_check_values.specs.Values.{value}
 use Rattle.drt_check_proofs.specs.Points.{Point, query, query_in, used}
 

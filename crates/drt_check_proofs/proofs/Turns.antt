@@ -2,9 +2,9 @@
 use Rattle.std.proofs.Common.{◌≡◌, ℕ, zero, suc, ◌+◌, ◌<◌, ◌≤◌, Bool, true, false, List, length, get_or, drop, refl, sym, ap, ◌∙◌, arith, ltb}
 use Rattle.std.specs.Prelude.{Option, Some, None, IsSome, if◌then◌else◌}
 use Rattle.std.proofs.lemmas.List.{at_drop_more, drop_all}
-use Rattle.drt_evidence.specs.declared.evidence.Item.{Item}
-use Rattle.drt_evidence.specs.declared.evidence.Item.TheVariants.{Pass, Split}
-use Rattle.drt_evidence.specs.declared.evidence.TreeClaim.{TreeClaim}
+use Rattle.drt_claims.specs.declared.evidence.Item.{Item}
+use Rattle.drt_claims.specs.declared.evidence.Item.TheVariants.{Pass, Split}
+use Rattle.drt_claims.specs.declared.evidence.TreeClaim.{TreeClaim}
 use Rattle.drt_check_proofs.specs.Places.{after_all_at, after_at, depth_after, depth_after_all}
 
 -- The item at a place of a list.

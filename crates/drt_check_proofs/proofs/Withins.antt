@@ -10,13 +10,13 @@ use Rattle.drt_model.specs.declared.tasks.Task.{Task}
 use Rattle.drt_model.specs.Digraph.{digraph_of, no_vertex}
 use Rattle.drt_model.specs.Limits.{IsTask, IsVertex}
 use Rattle.drt_model.specs.Walk.{deadline}
-use Rattle.drt_evidence.specs.Proofs.{opening, parts, parts_of, passes}
-use Rattle.drt_evidence.specs.Trees.{IsTree, higher_count, root}
-use Rattle.drt_evidence.specs.declared.evidence.Item.{Item}
-use Rattle.drt_evidence.specs.declared.evidence.Item.TheVariants.{Pass, Split}
-use Rattle.drt_evidence.specs.declared.evidence.Pair.{Pair}
-use Rattle.drt_evidence.specs.declared.evidence.ProofClaim.{ProofClaim}
-use Rattle.drt_evidence.specs.declared.evidence.TreeClaim.{TreeClaim}
+use Rattle.drt_claims.specs.Proofs.{opening, parts, parts_of, passes}
+use Rattle.drt_claims.specs.Trees.{IsTree, higher_count, root}
+use Rattle.drt_claims.specs.declared.evidence.Item.{Item}
+use Rattle.drt_claims.specs.declared.evidence.Item.TheVariants.{Pass, Split}
+use Rattle.drt_claims.specs.declared.evidence.Pair.{Pair}
+use Rattle.drt_claims.specs.declared.evidence.ProofClaim.{ProofClaim}
+use Rattle.drt_claims.specs.declared.evidence.TreeClaim.{TreeClaim}
 use Rattle.drt_check_values.specs.declared.query.Query.{Query}
 use Rattle.drt_check_proofs.specs.Passing.{all_queries, asks_at, blank, passes_at, queries_in, queries_of, times}
 use Rattle.drt_check_proofs.specs.Places.{after_at, with_halves}

@@ -2,11 +2,11 @@
 use Rattle.std.specs.Prelude.{ℕ, min, nat_lt, if◌then◌else◌, Option, None, Some, List, [], ◌∷◌, ◌++◌, map, slice_get}
 use Rattle.std.specs.List.{flat_map}
 use Rattle.drt_model.specs.declared.tasks.Task.{Task}
-use Rattle.drt_evidence.specs.Trees.{higher_count, root}
-use Rattle.drt_evidence.specs.declared.evidence.Item.{Item}
-use Rattle.drt_evidence.specs.declared.evidence.Item.TheVariants.{Pass, Split}
-use Rattle.drt_evidence.specs.declared.evidence.ProofClaim.{ProofClaim}
-use Rattle.drt_evidence.specs.declared.evidence.TreeClaim.{TreeClaim}
+use Rattle.drt_claims.specs.Trees.{higher_count, root}
+use Rattle.drt_claims.specs.declared.evidence.Item.{Item}
+use Rattle.drt_claims.specs.declared.evidence.Item.TheVariants.{Pass, Split}
+use Rattle.drt_claims.specs.declared.evidence.ProofClaim.{ProofClaim}
+use Rattle.drt_claims.specs.declared.evidence.TreeClaim.{TreeClaim}
 use Rattle.drt_check_values.specs.declared.query.Query.{Query}
 use Rattle.drt_check_proofs.specs.Places.{after_at}
 

@@ -4,10 +4,10 @@ use Rattle.std.specs.List.{flat_map}
 use Rattle.drt_model.specs.declared.tasks.Task.{Task}
 use Rattle.drt_model.specs.Digraph.{Digraph, digraph_of}
 use Rattle.drt_model.specs.Walk.{deadline, wcet}
-use Rattle.drt_evidence.specs.Proofs.{opening, passes, sum_at}
-use Rattle.drt_evidence.specs.Trees.{higher_count}
-use Rattle.drt_evidence.specs.declared.evidence.ProofClaim.{ProofClaim}
-use Rattle.drt_evidence.specs.declared.evidence.TreeClaim.{TreeClaim}
+use Rattle.drt_claims.specs.Proofs.{opening, passes, sum_at}
+use Rattle.drt_claims.specs.Trees.{higher_count}
+use Rattle.drt_claims.specs.declared.evidence.ProofClaim.{ProofClaim}
+use Rattle.drt_claims.specs.declared.evidence.TreeClaim.{TreeClaim}
 use Rattle.drt_check_values.specs.declared.query.Query.{Query}
 use Rattle.drt_check_proofs.specs.Passing.{asks, times}
 

@@ -1,8 +1,8 @@
 -- The shape of a proof, place by place.
 use Rattle.std.specs.Prelude.{◌≡◌, ℕ, ◌<◌, Some, List, [], ◌∷◌, slice_get, IsSome}
-use Rattle.drt_evidence.specs.Trees.{root}
-use Rattle.drt_evidence.specs.declared.evidence.Item.{Item}
-use Rattle.drt_evidence.specs.declared.evidence.TreeClaim.{TreeClaim}
+use Rattle.drt_claims.specs.Trees.{root}
+use Rattle.drt_claims.specs.declared.evidence.Item.{Item}
+use Rattle.drt_claims.specs.declared.evidence.TreeClaim.{TreeClaim}
 use Rattle.drt_check_proofs.specs.Places.{after_all_at, depth_after_all}
 
 -- The items can be taken one after another as far as their number goes, and none is left over or missing.

@@ -1,6 +1,6 @@
 -- What a claimed proof is about.
 use Rattle.std.specs.Prelude.{ℕ}
-use Rattle.drt_evidence.specs.declared.evidence.ProofClaim.{ProofClaim}
+use Rattle.drt_claims.specs.declared.evidence.ProofClaim.{ProofClaim}
 
 -- The numbers of the task and the vertex of a proof.
 abbrev pub subject : ProofClaim → ℕ × ℕ

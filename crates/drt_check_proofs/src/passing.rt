@@ -1,10 +1,10 @@
 //! Whether the times at which items of proofs pass pass.
 ghost use Rattle.std.specs.Prelude.{◌≡◌, ◌↔◌, All, IfOk, IsTrue};
 ghost use Rattle.std.specs.List.{AllByRecursion};
-ghost use Rattle.drt_evidence.specs.Claims.{Each, graphs_of};
-ghost use Rattle.drt_evidence.specs.Proofs.{HasPassingTimes, HasShape};
-ghost use Rattle.drt_evidence.specs.Ranges.{IsInRangeTree};
-ghost use Rattle.drt_evidence.specs.Trees.{HasShortWalks, IsTree, IsTreePerHigherTask, greatest_deadline, tree_graphs};
+ghost use Rattle.drt_claims.specs.Claims.{Each, graphs_of};
+ghost use Rattle.drt_claims.specs.Proofs.{HasPassingTimes, HasShape};
+ghost use Rattle.drt_claims.specs.Ranges.{IsInRangeTree};
+ghost use Rattle.drt_claims.specs.Trees.{HasShortWalks, IsTree, IsTreePerHigherTask, greatest_deadline, tree_graphs};
 ghost use Rattle.drt_check_trees.specs.Order.{IsPriorityOrder};
 ghost use Rattle.drt_check_proofs.specs.Points.{AreRooms, IsPoint, IsTimely, marks, points};
 
@@ -12,7 +12,7 @@ use crate::queries::place_queries;
 use crate::rooms::add_rooms;
 use drt_check_trees::{greatest_deadline, tree_graph};
 use drt_check_values::take_values;
-use drt_evidence::{ProofClaim, TreeClaim};
+use drt_claims::{ProofClaim, TreeClaim};
 use drt_graph::Graphs;
 use drt_model::{Memory, TaskSet};
 use std::alloc::Global;

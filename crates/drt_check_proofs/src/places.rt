@@ -1,10 +1,10 @@
 //! A proof seen at one place, as a stack of nodes of one tree. The last of the nodes is the topmost combination's.
 ghost use Rattle.std.specs.Prelude.{◌≡◌, IfOk, Some, None, reverse, if◌then◌else◌, [], ◌∷◌};
-ghost use Rattle.drt_evidence.specs.Proofs.{parts};
-ghost use Rattle.drt_evidence.specs.Trees.{root};
+ghost use Rattle.drt_claims.specs.Proofs.{parts};
+ghost use Rattle.drt_claims.specs.Trees.{root};
 ghost use Rattle.drt_check_proofs.specs.Places.{after_at, halves};
 
-use drt_evidence::{Item, TreeClaim};
+use drt_claims::{Item, TreeClaim};
 use drt_model::Memory;
 use std::alloc::AllocError;
 

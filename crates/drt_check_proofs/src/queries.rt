@@ -1,12 +1,12 @@
 //! The nodes and times at which proofs ask for the values of one tree.
 ghost use Rattle.std.specs.Prelude.{◌≡◌, ◌++◌, [], ◌∷◌, IfOk, Some, map, reverse};
-ghost use Rattle.drt_evidence.specs.Trees.{root};
+ghost use Rattle.drt_claims.specs.Trees.{root};
 ghost use Rattle.drt_check_proofs.specs.Passing.{all_queries, asks_at, blank, passes_at, queries_of, times};
 
 use crate::places::{begin, take};
 use crate::shapes::higher_count;
 use drt_check_values::Query;
-use drt_evidence::{Item, ProofClaim, TreeClaim};
+use drt_claims::{Item, ProofClaim, TreeClaim};
 use drt_model::{Memory, Task};
 
 /// Leaves in `queries` what the proofs ask for at the place, one for each item that passes, in order. An item that has no node there

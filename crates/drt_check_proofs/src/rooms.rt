@@ -6,7 +6,7 @@ ghost use Rattle.drt_model.specs.Walk.{deadline, wcet};
 ghost use Rattle.drt_check_proofs.specs.Passing.{times};
 ghost use Rattle.drt_check_proofs.specs.Points.{IsTimely, make_mark, marks, marks_of, room};
 
-use drt_evidence::{Item, ProofClaim};
+use drt_claims::{Item, ProofClaim};
 use drt_model::{Memory, Task};
 
 /// Adds what the times of the proofs leave, if each is 1 or later, not past its vertex's deadline, and leaves something.

@@ -1,13 +1,13 @@
 //! Whether proofs have the right shape.
 ghost use Rattle.std.specs.Prelude.{◌≡◌, ◌<◌, ◌≤◌, ◌^◌, ◌↔◌, All, IfOk, IsTrue, length, nat_lt};
 ghost use Rattle.std.specs.List.{count_by};
-ghost use Rattle.drt_evidence.specs.Proofs.{HasShape, IsProofPerVertex};
-ghost use Rattle.drt_evidence.specs.Trees.{IsTree, IsTreePerHigherTask, higher_count};
+ghost use Rattle.drt_claims.specs.Proofs.{HasShape, IsProofPerVertex};
+ghost use Rattle.drt_claims.specs.Trees.{IsTree, IsTreePerHigherTask, higher_count};
 ghost use Rattle.drt_check_proofs.specs.Places.{depth_after};
 ghost use Rattle.drt_check_proofs.specs.Shapes.{CanTakeAt, CanTakeBelow, IsClosed};
 
 use crate::places::{begin, take};
-use drt_evidence::{Item, ProofClaim, TreeClaim};
+use drt_claims::{Item, ProofClaim, TreeClaim};
 use drt_model::{Memory, Task, TaskSet};
 use std::alloc::Global;
 

@@ -1,10 +1,10 @@
 //! Whether there is a proof for each vertex of each task.
 ghost use Rattle.std.specs.Prelude.{◌≡◌, ◌+◌, ◌≤◌, ◌↔◌, IsTrue, drop, length, map, take};
 ghost use Rattle.std.specs.List.{range_with_len};
-ghost use Rattle.drt_evidence.specs.Proofs.{IsProofPerVertex};
+ghost use Rattle.drt_claims.specs.Proofs.{IsProofPerVertex};
 ghost use Rattle.drt_check_proofs.specs.Subjects.{subject};
 
-use drt_evidence::ProofClaim;
+use drt_claims::ProofClaim;
 use drt_model::TaskSet;
 
 /// Whether there is one proof per vertex of each task, in order of tasks and then of vertices. It takes no memory.

@@ -3,7 +3,7 @@ use Rattle.std.proofs.Common.{◌≡◌, ℕ, ◌+◌, ◌<◌, ◌≤◌, max, 
 use Rattle.std.proofs.lemmas.Bool.{cond-false, cond-true}
 use Rattle.std.proofs.lemmas.List.{drop_all, drop_more}
 use Rattle.drt_model.specs.declared.tasks.Task.{Task}
-use Rattle.drt_evidence.specs.Trees.{greatest_deadline, latest_deadline}
+use Rattle.drt_claims.specs.Trees.{greatest_deadline, latest_deadline}
 
 -- One more task that the test takes, and one that it doesn't.
 pub lower_more : (p : Task → Bool) (tasks : List Task) (i : ℕ) (t : Task) → i < length tasks → t ≡ get_or tasks i t → p t ≡ true

@@ -9,9 +9,9 @@ use Rattle.std.proofs.lemmas.Option.{get_or_from_slice_get, none-some, same_Some
 use Rattle.drt_model.specs.declared.tasks.Task.{Task}
 use Rattle.drt_model.specs.Digraph.{Digraph, digraph_of}
 use Rattle.drt_graph.specs.Graphs.{graph_of, no_graph}
-use Rattle.drt_evidence.specs.Claims.{graphs_of}
-use Rattle.drt_evidence.specs.Searches.{higher_places, lower_deadline, place_of, places_of}
-use Rattle.drt_evidence.specs.Trees.{by_priority, higher_count, placed}
+use Rattle.drt_claims.specs.Claims.{graphs_of}
+use Rattle.drt_claims.specs.Searches.{higher_places, lower_deadline, place_of, places_of}
+use Rattle.drt_claims.specs.Trees.{by_priority, higher_count, placed}
 use Rattle.drt_states.specs.Tails.{graphs_of as place_graphs}
 use Rattle.drt_check_states.specs.Places.{AreTasks, graphs_at}
 use Rattle.drt_check_trees.specs.Order.{IsPriorityOrder}

@@ -4,7 +4,7 @@ use Rattle.std.specs.Prelude.{◌↔◌}
 use Rattle.std.specs.List.{range_with_len}
 use Rattle.std.proofs.lemmas.List.{drop-drop, drop_all, drop_more, get_or-map, get_or-take, length-append, length-drop, length-map, length-take-le, map-append, take-append-drop}
 use Rattle.std.proofs.lemmas.List.FromFn.{fill_by_all, get_or-map-range_with_len, length-map-range_with_len}
-use Rattle.drt_evidence.specs.Proofs.{subjects_from}
+use Rattle.drt_claims.specs.Proofs.{subjects_from}
 use Rattle.drt_states.specs.declared.claims.SearchClaim.{SearchClaim}
 use Rattle.drt_model.specs.declared.tasks.Task.{Task}
 use Rattle.drt_check_searches.specs.Subjects.{subject}

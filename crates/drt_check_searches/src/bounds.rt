@@ -1,6 +1,6 @@
 //! The greatest deadlines of tasks of lower priority.
 ghost use Rattle.std.specs.Prelude.{◌≡◌, max};
-ghost use Rattle.drt_evidence.specs.Searches.{lower_deadline};
+ghost use Rattle.drt_claims.specs.Searches.{lower_deadline};
 
 use drt_check_trees::latest_deadline;
 use drt_model::Task;

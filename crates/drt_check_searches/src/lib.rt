@@ -1,7 +1,7 @@
 //! The rules on the claimed tails and searches of a yes under fixed priorities, for the independent checker.
 //!
 //! There is a tail for each task but the one of lowest priority, and a search for each vertex. What they have to keep over the graphs
-//! and deadlines of a set is said in `drt_evidence/specs/Searches.antt`; `drt_check_states` decides it for one tail, and for the
+//! and deadlines of a set is said in `drt_claims/specs/Searches.antt`; `drt_check_states` decides it for one tail, and for the
 //! states of one search.
 //!
 //! The checker above uses `has_rising_tails`, `bound_walks`, `is_search_per_vertex`, `have_states`, `have_passing_states` and

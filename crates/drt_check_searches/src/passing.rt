@@ -1,6 +1,6 @@
 //! Whether the times at which states of searches pass pass.
 ghost use Rattle.std.specs.Prelude.{◌↔◌, All, IfOk, IsTrue};
-ghost use Rattle.drt_evidence.specs.Searches.{HasPassingStates, places_of};
+ghost use Rattle.drt_claims.specs.Searches.{HasPassingStates, places_of};
 ghost use Rattle.drt_states.specs.Tails.{EachTail, IsTail};
 ghost use Rattle.drt_check_states.specs.Crests.{AreCrests};
 

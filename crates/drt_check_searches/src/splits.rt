@@ -1,7 +1,7 @@
 //! Whether the states of searches that split are split as they should be.
 ghost use Rattle.std.specs.Prelude.{◌≡◌, ◌↔◌, All, IsTrue};
-ghost use Rattle.drt_evidence.specs.Claims.{graphs_of};
-ghost use Rattle.drt_evidence.specs.Searches.{HasDominatedChildren, HasStatesOver};
+ghost use Rattle.drt_claims.specs.Claims.{graphs_of};
+ghost use Rattle.drt_claims.specs.Searches.{HasDominatedChildren, HasStatesOver};
 ghost use Rattle.drt_check_trees.specs.Order.{IsPriorityOrder};
 
 use crate::places::higher_order;

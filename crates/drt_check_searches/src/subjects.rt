@@ -1,7 +1,7 @@
 //! Whether there is a search for each vertex of each task.
 ghost use Rattle.std.specs.Prelude.{◌≡◌, ◌+◌, ◌≤◌, ◌↔◌, IsTrue, drop, length, map, take};
 ghost use Rattle.std.specs.List.{range_with_len};
-ghost use Rattle.drt_evidence.specs.Searches.{IsSearchPerVertex};
+ghost use Rattle.drt_claims.specs.Searches.{IsSearchPerVertex};
 ghost use Rattle.drt_check_searches.specs.Subjects.{subject};
 
 use drt_model::TaskSet;

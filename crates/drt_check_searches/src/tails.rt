@@ -1,7 +1,7 @@
 //! Whether there is a tail for each place, and the tails bound what walks ask for.
 ghost use Rattle.std.specs.Prelude.{◌≡◌, ◌↔◌, IsTrue};
-ghost use Rattle.drt_evidence.specs.Claims.{graphs_of};
-ghost use Rattle.drt_evidence.specs.Searches.{places_of};
+ghost use Rattle.drt_claims.specs.Claims.{graphs_of};
+ghost use Rattle.drt_claims.specs.Searches.{places_of};
 ghost use Rattle.drt_states.specs.Tails.{BoundsWalks, EachTail, IsTail};
 ghost use Rattle.drt_check_trees.specs.Order.{IsPriorityOrder};
 

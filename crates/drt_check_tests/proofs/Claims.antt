@@ -3,9 +3,9 @@ use Rattle.std.proofs.Common.{◌≡◌, ℕ, zero, suc, ◌+◌, ◌<◌, ◌�
 use Rattle.std.specs.Prelude.{slice_get, All}
 use Rattle.std.proofs.lemmas.Option.{slice_get_within}
 use Rattle.drt_model.specs.Walk.{or_zero, sep_in, span}
-use Rattle.drt_evidence.specs.declared.evidence.Pair.{Pair}
-use Rattle.drt_evidence.specs.Ranges.{IsInRangePair, IsInRangeTree, IsInRangeWalk, IsNumber}
-use Rattle.drt_evidence.specs.Trees.{HasShortWalks, IsTree, named}
+use Rattle.drt_claims.specs.declared.evidence.Pair.{Pair}
+use Rattle.drt_claims.specs.Ranges.{IsInRangePair, IsInRangeTree, IsInRangeWalk, IsNumber}
+use Rattle.drt_claims.specs.Trees.{HasShortWalks, IsTree, named}
 use Rattle.drt_check_tests.specs.Worked.{graph, tree}
 
 left : (i : ℕ) (p : Pair) → slice_get tree.pairs i ≡ Some p → p.left < 3 + i

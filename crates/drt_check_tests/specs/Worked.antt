@@ -4,8 +4,8 @@ use Rattle.drt_model.specs.declared.tasks.Edge.{Edge}
 use Rattle.drt_model.specs.declared.tasks.Task.{Task}
 use Rattle.drt_model.specs.declared.tasks.Vertex.{Vertex}
 use Rattle.drt_model.specs.Digraph.{Digraph, digraph_of}
-use Rattle.drt_evidence.specs.declared.evidence.Pair.{Pair}
-use Rattle.drt_evidence.specs.declared.evidence.TreeClaim.{TreeClaim}
+use Rattle.drt_claims.specs.declared.evidence.Pair.{Pair}
+use Rattle.drt_claims.specs.declared.evidence.TreeClaim.{TreeClaim}
 
 -- The task of x, with the execution time 3 and the deadline 5, and y, with 2 and 4: an edge from x to itself with the separation
 -- 20, and one from y to itself with 4.

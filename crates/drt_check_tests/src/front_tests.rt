@@ -1,9 +1,9 @@
 //! Claimed fronts by hand, and the least rule that they break.
 ghost use Rattle.std.specs.Prelude.{All, IfOk};
-ghost use Rattle.drt_evidence.specs.Ranges.{IsInRangeEntry};
+ghost use Rattle.drt_claims.specs.Ranges.{IsInRangeEntry};
 
 use drt_check_fronts::{are_closed, are_in_order, have_openings, have_room};
-use drt_evidence::FrontEntry;
+use drt_claims::FrontEntry;
 use drt_fixtures::shapes::BRANCHING;
 use drt_fixtures::{Shape, make_set};
 use drt_graph::{Graphs, check};

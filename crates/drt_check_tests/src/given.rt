@@ -3,7 +3,7 @@ ghost use Rattle.std.specs.Prelude.{◌≡◌, ◌<◌, ◌∷◌, [], All, IfOk
 ghost use Rattle.drt_check_tests.specs.Worked.{graph, task, tree};
 
 use drt_check_values::{Query, take_values};
-use drt_evidence::{Pair, TreeClaim};
+use drt_claims::{Pair, TreeClaim};
 use drt_graph::{Graphs, check};
 use drt_model::{Edge, Memory, Name, Row, Task, Vertex, task_set};
 use std::alloc::Global;

@@ -1,6 +1,6 @@
 //! A claimed tree that no dossier brings to the rule on shapes: where no walk is written, none is covered.
 use drt_check_trees::are_trees;
-use drt_evidence::TreeClaim;
+use drt_claims::TreeClaim;
 use drt_model::Row;
 use std::test::Fail;
 

@@ -1,7 +1,7 @@
 //! Worked values, as laws.
 ghost use Rattle.std.specs.Prelude.{◌≡◌, [], ◌∷◌};
-ghost use Rattle.drt_evidence.specs.Ranges.{IsInRangeTree};
-ghost use Rattle.drt_evidence.specs.Trees.{HasShortWalks, IsTree, node_values};
+ghost use Rattle.drt_claims.specs.Ranges.{IsInRangeTree};
+ghost use Rattle.drt_claims.specs.Trees.{HasShortWalks, IsTree, node_values};
 ghost use Rattle.drt_check_tests.specs.Worked.{chain, graph, tree};
 
 /// The values of the worked tree's nodes at 5 and at 4: a release at 4 counts at 5 and not at 4.

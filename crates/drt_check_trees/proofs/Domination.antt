@@ -7,8 +7,8 @@ use Rattle.drt_model.specs.Digraph.{Digraph, edge_of, out_degree}
 use Rattle.drt_model.specs.RequestFunction.{requested_from}
 use Rattle.drt_model.specs.Walk.{gap, last_of, span, wcet}
 use Rattle.drt_graph.proofs.Paths.{last_both, span_both, span_cons, span_none}
-use Rattle.drt_evidence.specs.Trees.{IsAbove, IsClosedWalk, IsExtendedWalk, IsShortWalk}
-use Rattle.drt_evidence.specs.declared.evidence.TreeClaim.{TreeClaim}
+use Rattle.drt_claims.specs.Trees.{IsAbove, IsClosedWalk, IsExtendedWalk, IsShortWalk}
+use Rattle.drt_claims.specs.declared.evidence.TreeClaim.{TreeClaim}
 use Rattle.drt_check_trees.specs.Entries.{IsOver}
 
 module _ (g : Digraph) where

@@ -5,8 +5,8 @@ use Rattle.drt_model.specs.Digraph.{Digraph, IsSound, edge_of, out_degree, verte
 use Rattle.drt_model.specs.Walk.{IsEdge, gap, last_of, wcet, work}
 use Rattle.drt_graph.proofs.Edges.{gap_of, sep_of_edge}
 use Rattle.drt_graph.proofs.Paths.{path_both, span_both, span_cons, span_none, work_both, work_cons, work_none}
-use Rattle.drt_evidence.specs.Trees.{IsClosedWalk, IsShortWalk}
-use Rattle.drt_evidence.specs.declared.evidence.TreeClaim.{TreeClaim}
+use Rattle.drt_claims.specs.Trees.{IsClosedWalk, IsShortWalk}
+use Rattle.drt_claims.specs.declared.evidence.TreeClaim.{TreeClaim}
 use Rattle.drt_check_trees.specs.Asking.{span_of}
 use Rattle.drt_check_trees.specs.Entries.{IsExtendedBy, IsOver, last_in}
 use Rattle.drt_check_trees.proofs.Ranks.{short_last}

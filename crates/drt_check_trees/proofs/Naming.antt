@@ -6,9 +6,9 @@ use Rattle.std.proofs.lemmas.Bool.Decides.{nat_tests}
 use Rattle.std.proofs.lemmas.List.{drop_more, drop_all, get_or_default}
 use Rattle.std.proofs.lemmas.List.Sums.{sum_by-cons}
 use Rattle.std.proofs.lemmas.Option.{get_or_from_slice_get}
-use Rattle.drt_evidence.specs.Trees.{IsTree, named}
-use Rattle.drt_evidence.specs.declared.evidence.Pair.{Pair}
-use Rattle.drt_evidence.specs.declared.evidence.TreeClaim.{TreeClaim}
+use Rattle.drt_claims.specs.Trees.{IsTree, named}
+use Rattle.drt_claims.specs.declared.evidence.Pair.{Pair}
+use Rattle.drt_claims.specs.declared.evidence.TreeClaim.{TreeClaim}
 use Rattle.drt_check_trees.specs.Marks.{AreLower, IsLower, marked, names}
 
 same : (n : ℕ) → eqb n n ≡ true

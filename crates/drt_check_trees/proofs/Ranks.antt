@@ -10,7 +10,7 @@ use Rattle.drt_model.specs.Digraph.{Digraph, IsSound, vertex_count}
 use Rattle.drt_model.specs.Walk.{IsPath, gap, last_of, span, work}
 use Rattle.drt_graph.proofs.Edges.{target_of}
 use Rattle.drt_graph.proofs.Paths.{path_within, span_cons, work_cons, work_none}
-use Rattle.drt_evidence.specs.Trees.{IsShortWalk}
+use Rattle.drt_claims.specs.Trees.{IsShortWalk}
 use Rattle.drt_check_trees.specs.Asking.{AsksNoLess, IsWithin, asked_from, span_of}
 use Rattle.drt_check_trees.specs.Entries.{AreEntries, IsEntryOf, IsListed, IsOver, last_in, order_of, rank_of}
 use Rattle.drt_check_trees.specs.Gaps.{gap_to}

@@ -6,7 +6,7 @@ use Rattle.drt_model.specs.Digraph.{Digraph, IsSound, vertex_count}
 use Rattle.drt_model.specs.Walk.{IsPath, gap, sep, span}
 use Rattle.drt_graph.proofs.Edges.{gap_of, target_of}
 use Rattle.drt_graph.proofs.Paths.{span_cons, span_none}
-use Rattle.drt_evidence.specs.Trees.{IsShortWalk}
+use Rattle.drt_claims.specs.Trees.{IsShortWalk}
 
 -- From a vertex of this offset on, the rest follows edges and stays below the bound.
 abbrev pub IsRest : ℕ → Digraph → ℕ → ℕ → List ℕ → Type 0

@@ -3,8 +3,8 @@ use Rattle.std.specs.Prelude.{◌≡◌, ℕ, ◌+◌, ◌-◌, ◌*◌, ◌<◌
 use Rattle.std.specs.List.Sorted.{IsNonDecreasingBy}
 use Rattle.drt_model.specs.Digraph.{Digraph}
 use Rattle.drt_model.specs.Walk.{last_of, work}
-use Rattle.drt_evidence.specs.Trees.{IsAbove, IsExtendedWalk}
-use Rattle.drt_evidence.specs.declared.evidence.TreeClaim.{TreeClaim}
+use Rattle.drt_claims.specs.Trees.{IsAbove, IsExtendedWalk}
+use Rattle.drt_claims.specs.declared.evidence.TreeClaim.{TreeClaim}
 use Rattle.drt_check_trees.specs.Asking.{span_of}
 use Rattle.drt_check_trees.specs.declared.entries.Entry.{Entry}
 

@@ -1,6 +1,6 @@
 -- Marks of the nodes that pairs name.
 use Rattle.std.specs.Prelude.{◌≡◌, ℕ, ◌+◌, ◌<◌, ◌==◌, Bool, false, if◌then◌else◌, List, Some, slice_get, slice_index_or}
-use Rattle.drt_evidence.specs.declared.evidence.Pair.{Pair}
+use Rattle.drt_claims.specs.declared.evidence.Pair.{Pair}
 
 -- 1 where the node is marked, and 0 where it isn't.
 abbrev pub marked : List Bool → ℕ → ℕ

@@ -1,8 +1,8 @@
 //! Whether there are as many trees as there should be.
 ghost use Rattle.std.specs.Prelude.{◌↔◌, IsTrue};
-ghost use Rattle.drt_evidence.specs.Trees.{IsTreePerHigherTask};
+ghost use Rattle.drt_claims.specs.Trees.{IsTreePerHigherTask};
 
-use drt_evidence::TreeClaim;
+use drt_claims::TreeClaim;
 use drt_model::TaskSet;
 
 /// Whether there is one tree fewer than tasks.

@@ -2,7 +2,7 @@
 ghost use Rattle.std.specs.Prelude.{◌≡◌, ℕ, ◌↔◌, ◌<◌, ◌≤◌, [], All, Any, IfOk, IsTrue, length, slice_index_or};
 ghost use Rattle.std.specs.List.Sorted.{IsNonDecreasingBy};
 ghost use Rattle.drt_model.specs.Walk.{work};
-ghost use Rattle.drt_evidence.specs.Trees.{IsShortWalk};
+ghost use Rattle.drt_claims.specs.Trees.{IsShortWalk};
 ghost use Rattle.drt_check_trees.specs.Asking.{AsksNoLess, IsWithin, span_of};
 ghost use Rattle.drt_check_trees.specs.Entries.{AreEntries, IsEntryOf, IsListed, IsOver, last_in, order_of, rank_of};
 ghost use Rattle.drt_check_trees.specs.Gaps.{AreGaps};

@@ -1,7 +1,7 @@
 //! The rules of the independent checker on claimed trees of request functions.
 //!
 //! A yes under fixed priorities comes with a tree for each task but the one of lowest priority. `is_tree_per_higher_task`,
-//! `have_short_walks` and `are_trees` decide what the rules of `drt_evidence/specs/Rules.antt` ask of them, each once
+//! `have_short_walks` and `are_trees` decide what the rules of `drt_claims/specs/Rules.antt` ask of them, each once
 //! those before it are kept. It stands on no crate of the search.
 #![tactic(auto)]
 

@@ -1,9 +1,9 @@
 //! Whether claims have the shape of trees.
 ghost use Rattle.std.specs.Prelude.{◌≡◌, ℕ, ◌+◌, ◌<◌, ◌≤◌, ◌↔◌, All, IfOk, IsTrue, false, true, length};
-ghost use Rattle.drt_evidence.specs.Trees.{IsTree, named};
+ghost use Rattle.drt_claims.specs.Trees.{IsTree, named};
 ghost use Rattle.drt_check_trees.specs.Marks.{AreLower, IsLower, marked, names};
 
-use drt_evidence::{Pair, TreeClaim};
+use drt_claims::{Pair, TreeClaim};
 use drt_model::Memory;
 use std::alloc::Global;
 

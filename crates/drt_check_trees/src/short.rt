@@ -1,12 +1,12 @@
 //! Whether walks are short.
 ghost use Rattle.std.specs.Prelude.{◌≡◌, ◌↔◌, ◌≤◌, IsTrue};
-ghost use Rattle.drt_evidence.specs.Claims.{Each, graphs_of};
-ghost use Rattle.drt_evidence.specs.Trees.{HasShortWalks, IsShortWalk, IsTreePerHigherTask, greatest_deadline, tree_graphs};
+ghost use Rattle.drt_claims.specs.Claims.{Each, graphs_of};
+ghost use Rattle.drt_claims.specs.Trees.{HasShortWalks, IsShortWalk, IsTreePerHigherTask, greatest_deadline, tree_graphs};
 ghost use Rattle.drt_check_trees.specs.Order.{IsPriorityOrder};
 
 use crate::deadlines::greatest_deadline;
 use crate::order::tree_graph;
-use drt_evidence::TreeClaim;
+use drt_claims::TreeClaim;
 use drt_graph::{Graph, Graphs};
 use drt_model::TaskSet;
 

@@ -12,8 +12,8 @@ use Rattle.std.proofs.lemmas.List.Elements.{All-append}
 use Rattle.std.proofs.lemmas.List.Sums.{sum_by-cons, sum_by-append}
 use Rattle.std.proofs.lemmas.Option.{slice_get-get_or}
 use Rattle.drt_model.specs.Digraph.{Digraph}
-use Rattle.drt_evidence.specs.declared.evidence.TreeClaim.{TreeClaim}
-use Rattle.drt_evidence.specs.Trees.{IsTree, asked, node_values, root}
+use Rattle.drt_claims.specs.declared.evidence.TreeClaim.{TreeClaim}
+use Rattle.drt_claims.specs.Trees.{IsTree, asked, node_values, root}
 use Rattle.drt_check_values.specs.Greatest.{greatest}
 use Rattle.drt_check_values.specs.Leaves.{grown, leaf_lists, leaves_below, leaf_order, node_count, IsFirst}
 use Rattle.drt_check_values.proofs.Growing.{no_pair, HasParts, IsGrown, grown_is, joined_grown, each_node}

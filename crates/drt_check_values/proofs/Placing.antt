@@ -2,10 +2,10 @@
 use Rattle.std.proofs.Common.{◌≡◌, ◌≢◌, ℕ, ◌+◌, ◌<◌, ◌≤◌, List, [], length, map, get_or, set, replicate, ◌⊎◌, inl, inr, sym, ap, subst, arith, ◌∙◌}
 use Rattle.std.proofs.lemmas.Bool.{cases_lt, cases_eq}
 use Rattle.std.proofs.lemmas.List.{ext_get_or, get_or-map, length-map, length-set, length-append, length-replicate, get_or-replicate, get_or_read, get_or-set_same, get_or-set_other}
-use Rattle.drt_evidence.specs.declared.evidence.TreeClaim.{TreeClaim}
-use Rattle.drt_evidence.specs.Trees.{IsTree, root}
+use Rattle.drt_claims.specs.declared.evidence.TreeClaim.{TreeClaim}
+use Rattle.drt_claims.specs.Trees.{IsTree, root}
 use Rattle.drt_check_values.specs.Leaves.{leaf_lists, leaves_below, node_count, AreSizes, IsFirst, AreFirsts}
-use Rattle.drt_evidence.specs.declared.evidence.Pair.{Pair}
+use Rattle.drt_claims.specs.declared.evidence.Pair.{Pair}
 use Rattle.drt_check_values.proofs.Growing.{no_pair}
 use Rattle.drt_check_values.proofs.Counting.{has_pair}
 use Rattle.drt_check_values.proofs.Leaves.{parts, left_of, right_of, lists_count, size_most, first_fits, order_count, leaf_at, pair_at, root_node, root_first, left_first, right_first}

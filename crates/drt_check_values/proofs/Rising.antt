@@ -10,8 +10,8 @@ use Rattle.drt_model.specs.Walk.{gap, wcet, IsPath, span}
 use Rattle.drt_model.specs.RequestFunction.{requested_from}
 use Rattle.drt_graph.proofs.Edges.{target_of}
 use Rattle.drt_graph.proofs.Paths.{span_cons, span_none}
-use Rattle.drt_evidence.specs.declared.evidence.TreeClaim.{TreeClaim}
-use Rattle.drt_evidence.specs.Trees.{HasShortWalks, IsTree, IsShortWalk, asked, root}
+use Rattle.drt_claims.specs.declared.evidence.TreeClaim.{TreeClaim}
+use Rattle.drt_claims.specs.Trees.{HasShortWalks, IsTree, IsShortWalk, asked, root}
 use Rattle.drt_check_values.specs.declared.rises.Rise.{Rise}
 use Rattle.drt_check_values.specs.Leaves.{leaf_order, IsFirst}
 use Rattle.drt_check_values.specs.Rises.{AreRises, added, asked_at, rise_at, rises_along, rises_from, risen}

@@ -11,8 +11,8 @@ use Rattle.drt_model.specs.Walk.{gap, wcet, IsPath, span}
 use Rattle.drt_model.specs.RequestFunction.{requested_from}
 use Rattle.drt_graph.proofs.Edges.{target_of}
 use Rattle.drt_graph.proofs.Paths.{span_cons}
-use Rattle.drt_evidence.specs.declared.evidence.TreeClaim.{TreeClaim}
-use Rattle.drt_evidence.specs.Trees.{HasShortWalks, IsShortWalk, IsTree, asked, node_values}
+use Rattle.drt_claims.specs.declared.evidence.TreeClaim.{TreeClaim}
+use Rattle.drt_claims.specs.Trees.{HasShortWalks, IsShortWalk, IsTree, asked, node_values}
 use Rattle.drt_check_values.specs.declared.query.Query.{Query}
 use Rattle.drt_check_values.specs.declared.rises.Rise.{Rise}
 use Rattle.drt_check_values.specs.Greatest.{greatest}

@@ -1,9 +1,9 @@
 -- The leaves below the nodes of a claimed tree, and where they stand in the order of all leaves below its root.
 use Rattle.std.specs.Prelude.{◌≡◌, ℕ, ◌+◌, ◌<◌, List, [], ◌∷◌, ◌++◌, length, map, take, drop, slice_index_or}
 use Rattle.std.specs.List.{range_with_len}
-use Rattle.drt_evidence.specs.declared.evidence.Pair.{Pair}
-use Rattle.drt_evidence.specs.declared.evidence.TreeClaim.{TreeClaim}
-use Rattle.drt_evidence.specs.Trees.{root}
+use Rattle.drt_claims.specs.declared.evidence.Pair.{Pair}
+use Rattle.drt_claims.specs.declared.evidence.TreeClaim.{TreeClaim}
+use Rattle.drt_claims.specs.Trees.{root}
 
 -- What some nodes have, followed by what the pairs after them have: each what its two parts have, joined.
 unfoldable pub grown : {A : Type 0} → A → (A → A → A) → List A → List Pair → List A

@@ -1,8 +1,8 @@
 -- The values of queries, and the rooms that they are taken from.
 use Rattle.std.specs.Prelude.{◌≡◌, ℕ, ◌+◌, ◌<◌, ◌≤◌, List, length, map, slice_index, slice_index_or}
 use Rattle.drt_model.specs.Digraph.{Digraph}
-use Rattle.drt_evidence.specs.Trees.{node_values}
-use Rattle.drt_evidence.specs.declared.evidence.TreeClaim.{TreeClaim}
+use Rattle.drt_claims.specs.Trees.{node_values}
+use Rattle.drt_claims.specs.declared.evidence.TreeClaim.{TreeClaim}
 use Rattle.drt_check_values.specs.declared.query.Query.{Query}
 
 -- The value of the query's node at its time.

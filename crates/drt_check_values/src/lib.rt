@@ -6,7 +6,7 @@
 //! releases of the walks are taken in by their offsets, and each query is answered once those before its time are. Neither deep
 //! trees nor long walks cost more than their length, and nothing recurses.
 //!
-//! The crate stands on none of the search: claims come from whoever made a dossier. `drt_evidence` says what a node's value is.
+//! The crate stands on none of the search: claims come from whoever made a dossier. `drt_claims` says what a node's value is.
 #![tactic(auto)]
 
 mod greatest_values;

@@ -1,10 +1,10 @@
 //! Where the leaves below the nodes of a tree stand in the order of all its leaves.
 ghost use Rattle.std.specs.Prelude.{◌≡◌, IfOk};
-ghost use Rattle.drt_evidence.specs.Ranges.{IsInRangeTree};
-ghost use Rattle.drt_evidence.specs.Trees.{IsTree};
+ghost use Rattle.drt_claims.specs.Ranges.{IsInRangeTree};
+ghost use Rattle.drt_claims.specs.Trees.{IsTree};
 ghost use Rattle.drt_check_values.specs.Leaves.{AreFirsts, AreSizes};
 
-use drt_evidence::TreeClaim;
+use drt_claims::TreeClaim;
 use drt_model::Memory;
 use std::alloc::Global;
 

@@ -2,12 +2,12 @@
 ghost use Rattle.std.specs.Prelude.{◌≡◌, ◌+◌, ◌*◌, ◌<◌, ◌≤◌, ◌++◌, All, IfOk, length, sum_by};
 ghost use Rattle.std.specs.List.Sorted.{IsNonDecreasingBy, IsPermutation};
 ghost use Rattle.drt_model.specs.Digraph.{vertex_count};
-ghost use Rattle.drt_evidence.specs.Ranges.{IsCounted, IsInRangeTree};
-ghost use Rattle.drt_evidence.specs.Trees.{HasShortWalks, IsShortWalk, IsTree};
+ghost use Rattle.drt_claims.specs.Ranges.{IsCounted, IsInRangeTree};
+ghost use Rattle.drt_claims.specs.Trees.{HasShortWalks, IsShortWalk, IsTree};
 ghost use Rattle.drt_check_values.specs.Leaves.{AreFirsts};
 ghost use Rattle.drt_check_values.specs.Rises.{AreRises, rise_at, rises_along};
 
-use drt_evidence::TreeClaim;
+use drt_claims::TreeClaim;
 use drt_graph::Graph;
 use drt_model::{Memory, Row};
 use std::alloc::Global;

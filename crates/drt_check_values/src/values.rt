@@ -1,15 +1,15 @@
 //! The values of nodes at times, taken from rooms.
 ghost use Rattle.std.specs.Prelude.{◌≡◌, ◌+◌, ◌<◌, ◌≤◌, ◌↔◌, All, IfOk, IsTrue, length};
 ghost use Rattle.drt_model.specs.Digraph.{IsSound};
-ghost use Rattle.drt_evidence.specs.Ranges.{IsInRangeTree};
-ghost use Rattle.drt_evidence.specs.Trees.{HasShortWalks, IsTree};
+ghost use Rattle.drt_claims.specs.Ranges.{IsInRangeTree};
+ghost use Rattle.drt_claims.specs.Trees.{HasShortWalks, IsTree};
 ghost use Rattle.drt_check_values.specs.Values.{AreLeft, AreWithin, values};
 
 use crate::places::places_of;
 use crate::query::Query;
 use crate::rises::{put_in_order, rises_of};
 use crate::sweeping::{in_order, sweep};
-use drt_evidence::TreeClaim;
+use drt_claims::TreeClaim;
 use drt_graph::Graph;
 use drt_model::Memory;
 use std::alloc::Global;

@@ -3,7 +3,7 @@
 use Rattle.std.specs.Prelude.{ℕ, List, ◌≡◌}
 use Rattle.drt_model.specs.Contents.{Contents}
 use Rattle.drt_evidence.specs.Text.{text}
-use Rattle.drt_evidence.specs.declared.evidence.Evidence.TheVariants.{Undecided}
+use Rattle.drt_claims.specs.declared.evidence.Evidence.TheVariants.{Undecided}
 use Rattle.drt_sp.specs.Evidence.{under_fixed}
 use Rattle.drt_assign.specs.Assign.{IsAssigned}
 use Rattle.drt_assign.specs.declared.answer.AssignAnswer.{AssignAnswer}

@@ -8,13 +8,13 @@ use Rattle.drt_model.specs.declared.front.FrontEntry.{FrontEntry}
 use Rattle.drt_model.specs.declared.jobs.Release.{Release}
 use Rattle.drt_model.specs.declared.jobs.Miss.{Miss}
 use Rattle.drt_model.specs.declared.tasks.Task.{Task}
-use Rattle.drt_evidence.specs.Claims.{graphs_of, Each}
-use Rattle.drt_evidence.specs.Fronts.{IsNextEntry, IsOrdered}
-use Rattle.drt_evidence.specs.Rates.{IsAtOne}
-use Rattle.drt_evidence.specs.declared.evidence.RatioClaim.{RatioClaim}
-use Rattle.drt_evidence.specs.declared.evidence.ProofClaim.{ProofClaim}
-use Rattle.drt_evidence.specs.declared.evidence.TreeClaim.{TreeClaim}
-use Rattle.drt_evidence.specs.declared.rule.Rule.TheVariants.{OrderedFronts}
+use Rattle.drt_claims.specs.Claims.{graphs_of, Each}
+use Rattle.drt_claims.specs.Fronts.{IsNextEntry, IsOrdered}
+use Rattle.drt_claims.specs.Rates.{IsAtOne}
+use Rattle.drt_claims.specs.declared.evidence.RatioClaim.{RatioClaim}
+use Rattle.drt_claims.specs.declared.evidence.ProofClaim.{ProofClaim}
+use Rattle.drt_claims.specs.declared.evidence.TreeClaim.{TreeClaim}
+use Rattle.drt_claims.specs.declared.rule.Rule.TheVariants.{OrderedFronts}
 use Rattle.drt_horizon.specs.declared.answers.Beyond.TheVariants.{TooFar}
 use Rattle.drt_edf.specs.Answers.{IsExactYes, IsMissed, IsOther, IsUndecided}
 use Rattle.drt_edf.specs.Plans.{AreTooFine, IsTooFar}

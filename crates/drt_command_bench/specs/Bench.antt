@@ -6,8 +6,8 @@ use Rattle.drt_model.specs.declared.jobs.Policy.TheVariants as under
 use Rattle.drt_model.specs.declared.front.FrontEntry.{FrontEntry}
 use Rattle.drt_model.specs.Digraph.{Digraph}
 use Rattle.drt_model.specs.Schedulable.{Schedulable}
-use Rattle.drt_evidence.specs.Claims.{graphs_of, Each}
-use Rattle.drt_evidence.specs.Rates.{IsAtOne}
+use Rattle.drt_claims.specs.Claims.{graphs_of, Each}
+use Rattle.drt_claims.specs.Rates.{IsAtOne}
 use Rattle.drt_edf.specs.Plans.{HasHorizon, IsTooFar}
 use Rattle.drt_edf.specs.Walks.{IsExactFront}
 use Rattle.drt_edf.specs.Answers as edf_answers

@@ -2,7 +2,7 @@
 ghost use Rattle.std.specs.Prelude.{◌≡◌, ◌≢◌, ◌≤◌, [], IfErr, IfOk, length, map};
 ghost use Rattle.drt_model.specs.Constrained.{AreConstrained};
 ghost use Rattle.drt_model.specs.Limits.{IsTaskSet};
-ghost use Rattle.drt_evidence.specs.Claims.{graphs_of};
+ghost use Rattle.drt_claims.specs.Claims.{graphs_of};
 ghost use Rattle.drt_edf.specs.Plans.{AreTooFine};
 ghost use Rattle.drt_gen.specs.Generated.{generated};
 ghost use Rattle.drt_words.specs.Searches.{most_workers};
@@ -16,7 +16,7 @@ ghost use Rattle.drt_command_bench.specs.Bench.{AreCounts, Benches, EdfSays, Fix
 
 use drt_command::{Input, Promised, Report, Unmade, finish, read_input, stop_reading};
 use drt_edf::{EdfAnswer, EdfTrail, analyse_edf};
-use drt_evidence::Evidence;
+use drt_claims::Evidence;
 use drt_gen::{deadlines_are_constrained, generate, sets_keep_limits};
 use drt_gen_scale::scales_are_small;
 use drt_graph::{GraphError, Graphs, check};

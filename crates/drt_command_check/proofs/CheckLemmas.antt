@@ -2,7 +2,7 @@
 use Rattle.std.proofs.Common.{◌≡◌, ℕ, ◌<◌, ◌≤◌, ◌⊎◌, List, length, inl, inr, refl, sym, ap, ◌∙◌, subst, arith}
 use Rattle.std.proofs.lemmas.Bool.{cases_lt}
 use Rattle.drt_evidence.specs.Reading.{HasDossierFault, IsCode, IsTextOf}
-use Rattle.drt_evidence.specs.Statement.{Statement}
+use Rattle.drt_claims.specs.Statement.{Statement}
 use Rattle.drt_check.specs.Judging.{IsJudged, IsSound}
 use Rattle.drt_check.specs.Laws.{JudgedOnce}
 use Rattle.drt_check.proofs.Judged.{judged_once}

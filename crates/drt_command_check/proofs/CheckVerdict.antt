@@ -2,8 +2,8 @@
 use Rattle.std.proofs.Common.{◌≡◌, ◌<◌, ◌⊎◌, ℕ, List, Result, Ok, Err, IfOk, codes, ◌++◌, inl, inr, refl, ◌∙◌, arith}
 use Rattle.drt_model.specs.Schedulable.{Schedulable}
 use Rattle.drt_file.specs.trusted.Canonical.{canonical, written}
-use Rattle.drt_evidence.specs.Rates.{IsAtOne}
-use Rattle.drt_evidence.specs.Statement.{Statement}
+use Rattle.drt_claims.specs.Rates.{IsAtOne}
+use Rattle.drt_claims.specs.Statement.{Statement}
 use Rattle.drt_evidence.specs.Text.{evidence_lines, head_lines, text}
 use Rattle.drt_check.specs.Judging.{IsSound}
 use Rattle.drt_check.specs.declared.judgement.Judgement.{Judgement}

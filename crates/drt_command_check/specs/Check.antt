@@ -1,7 +1,7 @@
 -- What is promised of `check`: what it says of a dossier, what it refuses, and with which status it ends.
 use Rattle.std.specs.Prelude.{◌≡◌, ℕ, ◌≤◌, ◌<◌, ◌⊎◌, List, [], codes, length}
 use Rattle.drt_evidence.specs.Reading.{HasDossierFault, IsTextOf}
-use Rattle.drt_evidence.specs.Statement.{Statement}
+use Rattle.drt_claims.specs.Statement.{Statement}
 use Rattle.drt_check.specs.Judging.{IsJudged, IsSound}
 use Rattle.drt_check.specs.declared.judgement.Judgement.{Judgement}
 use Rattle.drt_check.specs.declared.judgement.Judgement.TheVariants as judgements

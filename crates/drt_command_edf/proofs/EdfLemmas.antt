@@ -11,13 +11,13 @@ use Rattle.drt_model.specs.declared.tasks.Task.{Task}
 use Rattle.drt_graph.proofs.Soundness.{all_sound}
 use Rattle.drt_horizon.specs.declared.answers.Beyond.{Beyond}
 use Rattle.drt_horizon.specs.declared.answers.Beyond.TheVariants.{TooFine, TooFar}
-use Rattle.drt_evidence.specs.Claims.{graphs_of}
-use Rattle.drt_evidence.specs.Ranges.{IsInRange}
+use Rattle.drt_claims.specs.Claims.{graphs_of}
+use Rattle.drt_claims.specs.Ranges.{IsInRange}
 use Rattle.drt_evidence.specs.Text.{text}
-use Rattle.drt_evidence.specs.declared.evidence.Evidence.{Evidence}
-use Rattle.drt_evidence.specs.declared.evidence.Evidence.TheVariants.{EdfYes, EdfNo, UtilisationOne, FixedYes, FixedStates, FixedNo, Undecided}
+use Rattle.drt_claims.specs.declared.evidence.Evidence.{Evidence}
+use Rattle.drt_claims.specs.declared.evidence.Evidence.TheVariants.{EdfYes, EdfNo, UtilisationOne, FixedYes, FixedStates, FixedNo, Undecided}
 use Rattle.drt_edf.specs.Answers.{IsBeyond, IsVerdict, IsOther, IsPlanned, IsUndecided}
-use Rattle.drt_evidence.specs.Rates.{IsAtOne, Rates}
+use Rattle.drt_claims.specs.Rates.{IsAtOne, Rates}
 use Rattle.drt_edf.specs.Spent.{IsEnough, table_need}
 use Rattle.drt_trails.specs.declared.EdfTrail.{EdfTrail}
 use Rattle.drt_trails.specs.declared.EdfTrail.TheVariants.{Table, Overload}

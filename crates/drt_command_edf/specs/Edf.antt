@@ -6,7 +6,7 @@ use Rattle.drt_model.specs.Schedulable.{Schedulable}
 use Rattle.drt_horizon.specs.declared.answers.Beyond.{Beyond}
 use Rattle.drt_horizon.specs.declared.answers.Beyond.TheVariants.{TooFine, TooFar}
 use Rattle.drt_edf.specs.Answers.{IsBeyond}
-use Rattle.drt_evidence.specs.Rates.{IsAtOne}
+use Rattle.drt_claims.specs.Rates.{IsAtOne}
 use Rattle.drt_edf.specs.Spent.{IsEnough}
 use Rattle.drt_command.specs.Rules.{Rules}
 use Rattle.drt_command_files.specs.TaskFiles.{IsAccepted, IsFileFault, file_input}

@@ -2,7 +2,7 @@
 use Rattle.std.proofs.Common.{◌≡◌, List, ℕ, ◌++◌, refl, ◌∙◌}
 use Rattle.drt_file.specs.trusted.Canonical.{canonical, written}
 use Rattle.drt_evidence.specs.Reading.{IsTextOf}
-use Rattle.drt_evidence.specs.Statement.{Statement}
+use Rattle.drt_claims.specs.Statement.{Statement}
 use Rattle.drt_evidence.specs.Text.{evidence_lines, head_lines, text}
 use Rattle.drt_command_files.specs.Verdicts.{IsAbout}
 

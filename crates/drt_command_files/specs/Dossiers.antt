@@ -1,7 +1,7 @@
 -- The status of a dossier.
 use Rattle.std.specs.Prelude.{ℕ}
-use Rattle.drt_evidence.specs.declared.evidence.Evidence.{Evidence}
-use Rattle.drt_evidence.specs.declared.evidence.Evidence.TheVariants.{EdfYes, EdfNo, UtilisationOne, FixedYes, FixedStates, FixedNo, Undecided}
+use Rattle.drt_claims.specs.declared.evidence.Evidence.{Evidence}
+use Rattle.drt_claims.specs.declared.evidence.Evidence.TheVariants.{EdfYes, EdfNo, UtilisationOne, FixedYes, FixedStates, FixedNo, Undecided}
 
 -- The status of an answer by its evidence: 0 for a yes, 1 for a no, 2 for a utilisation of one, and 3 where nothing is decided.
 abbrev pub evidence_status : Evidence → ℕ

@@ -5,7 +5,7 @@ use Rattle.drt_model.specs.declared.jobs.Policy.{Policy}
 use Rattle.drt_model.specs.declared.jobs.Policy.TheVariants.{Edf}
 use Rattle.drt_model.specs.Schedulable.{Schedulable}
 use Rattle.drt_file.specs.trusted.Canonical.{canonical, written}
-use Rattle.drt_evidence.specs.Rates.{IsAtOne}
+use Rattle.drt_claims.specs.Rates.{IsAtOne}
 use Rattle.drt_evidence.specs.Text.{head_lines}
 use Rattle.drt_command.specs.declared.report.Report.{Report}
 use Rattle.drt_command_files.specs.TaskFiles.{IsAccepted}

@@ -3,7 +3,7 @@ use Rattle.std.specs.Prelude.{◌≡◌, ℕ, List}
 use Rattle.drt_model.specs.Contents.{Contents}
 use Rattle.drt_model.specs.declared.jobs.Policy.{Policy}
 use Rattle.drt_evidence.specs.Text.{text}
-use Rattle.drt_evidence.specs.declared.evidence.Evidence.TheVariants.{Undecided}
+use Rattle.drt_claims.specs.declared.evidence.Evidence.TheVariants.{Undecided}
 use Rattle.drt_margin.specs.Answers.{IsMarginAnswer}
 use Rattle.drt_margin.specs.declared.answer.MarginAnswer.{MarginAnswer}
 use Rattle.drt_margin.specs.declared.answer.MarginAnswer.TheVariants as answers

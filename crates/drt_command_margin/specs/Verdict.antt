@@ -4,7 +4,7 @@ use Rattle.drt_model.specs.Contents.{Contents}
 use Rattle.drt_model.specs.declared.jobs.Policy.{Policy}
 use Rattle.drt_model.specs.declared.jobs.Policy.TheVariants.{Edf}
 use Rattle.drt_model.specs.Schedulable.{Schedulable}
-use Rattle.drt_evidence.specs.Rates.{IsAtOne}
+use Rattle.drt_claims.specs.Rates.{IsAtOne}
 use Rattle.drt_file.specs.trusted.Canonical.{written}
 use Rattle.drt_margin.specs.Margin.{IsMargin}
 use Rattle.drt_command.specs.declared.report.Report.{Report}

@@ -1,14 +1,14 @@
 //! The text of a margin.
 ghost use Rattle.std.specs.Prelude.{◌≡◌, ◌+◌, ◌++◌, ◌≤◌, IfOk, OnOk};
 ghost use Rattle.drt_file.specs.trusted.Canonical.{written_line};
-ghost use Rattle.drt_evidence.specs.Ranges.{IsInRange};
+ghost use Rattle.drt_claims.specs.Ranges.{IsInRange};
 ghost use Rattle.drt_evidence.specs.Text.{text};
 ghost use Rattle.drt_margin.specs.Answers.{IsFound, IsNext};
 ghost use Rattle.drt_margin.specs.Margin.{IsVertexOf, wcet_at};
 ghost use Rattle.drt_command_margin.specs.Text.{add_line, margin_text, next_text, with_evidence};
 
 use crate::spot::Spot;
-use drt_evidence::{Dossier, Evidence};
+use drt_claims::{Dossier, Evidence};
 use drt_file::push_line;
 use drt_margin::{Next, wcet_of, with_more, with_wcet};
 use drt_model::{Memory, Row, TaskSet};

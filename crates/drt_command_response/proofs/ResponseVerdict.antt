@@ -5,7 +5,7 @@ use Rattle.drt_model.specs.Contents.{Contents}
 use Rattle.drt_model.specs.Schedulable.{Schedulable}
 use Rattle.drt_model.specs.declared.jobs.Policy.TheVariants.{Fixed}
 use Rattle.drt_busy.specs.Response.{IsGreatestResponse}
-use Rattle.drt_evidence.specs.declared.evidence.Evidence.TheVariants.{FixedNo, Undecided}
+use Rattle.drt_claims.specs.declared.evidence.Evidence.TheVariants.{FixedNo, Undecided}
 use Rattle.drt_response.specs.Answers.{IsResponseOf}
 use Rattle.drt_outcome.specs.declared.outcome.Trail.{Trail}
 use Rattle.drt_command.specs.declared.report.Report.{Report}

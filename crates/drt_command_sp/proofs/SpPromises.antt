@@ -3,10 +3,10 @@ use Rattle.std.proofs.Common.{◌≡◌, ◌<◌, ◌⊎◌, ℕ, List, Option, 
 use Rattle.drt_model.specs.Contents.{Contents}
 use Rattle.drt_model.specs.Limits.{IsTaskSet}
 use Rattle.drt_file.specs.trusted.Laws.{TextsReadAsOneSet}
-use Rattle.drt_evidence.specs.Ranges.{IsInRange}
+use Rattle.drt_claims.specs.Ranges.{IsInRange}
 use Rattle.drt_evidence.specs.Text.{text}
-use Rattle.drt_evidence.specs.declared.evidence.Evidence.{Evidence}
-use Rattle.drt_evidence.specs.declared.evidence.Evidence.TheVariants.{EdfYes, EdfNo, UtilisationOne, FixedYes, FixedStates, FixedNo, Undecided}
+use Rattle.drt_claims.specs.declared.evidence.Evidence.{Evidence}
+use Rattle.drt_claims.specs.declared.evidence.Evidence.TheVariants.{EdfYes, EdfNo, UtilisationOne, FixedYes, FixedStates, FixedNo, Undecided}
 use Rattle.drt_command.specs.declared.report.Report.{Report}
 use Rattle.drt_command.specs.declared.report.Unmade.{Unmade}
 use Rattle.drt_command.specs.Rules.{AreLawful}

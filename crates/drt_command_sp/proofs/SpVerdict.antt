@@ -4,8 +4,8 @@ use Rattle.drt_model.specs.Contents.{Contents}
 use Rattle.drt_model.specs.Schedulable.{Schedulable}
 use Rattle.drt_model.specs.declared.jobs.Policy.{Policy}
 use Rattle.drt_model.specs.declared.jobs.Policy.TheVariants.{Edf, Fixed}
-use Rattle.drt_evidence.specs.Rates.{IsAtOne}
-use Rattle.drt_evidence.specs.declared.evidence.Evidence.TheVariants.{FixedNo, Undecided}
+use Rattle.drt_claims.specs.Rates.{IsAtOne}
+use Rattle.drt_claims.specs.declared.evidence.Evidence.TheVariants.{FixedNo, Undecided}
 use Rattle.drt_outcome.specs.declared.outcome.Trail.{Trail}
 use Rattle.drt_command.specs.declared.report.Report.{Report}
 use Rattle.drt_command.specs.declared.report.Unmade.{Unmade}

@@ -3,12 +3,12 @@ use Rattle.std.proofs.Common.{inl, inr, ◌≡◌, ℕ, ◌≤◌, ◌^◌, List
 use Rattle.std.proofs.lemmas.List.Elements.{All-weaker}
 use Rattle.drt_model.specs.Legal.{IsLegal}
 use Rattle.drt_model.specs.declared.jobs.Release.{Release}
-use Rattle.drt_evidence.specs.Kinds.{HasReleases, miss_of, releases_of}
-use Rattle.drt_evidence.specs.Ranges.{AreInRangeReleases, IsInRange, IsInRangeRelease}
-use Rattle.drt_evidence.specs.Statement.{Statement}
-use Rattle.drt_evidence.specs.declared.evidence.Evidence.{Evidence}
-use Rattle.drt_evidence.specs.declared.evidence.Evidence.TheVariants.{EdfYes, EdfNo, UtilisationOne, FixedYes, FixedStates, FixedNo, Undecided}
-use Rattle.drt_evidence.specs.declared.rule.Rule.TheVariants.{LegalReleases}
+use Rattle.drt_claims.specs.Kinds.{HasReleases, miss_of, releases_of}
+use Rattle.drt_claims.specs.Ranges.{AreInRangeReleases, IsInRange, IsInRangeRelease}
+use Rattle.drt_claims.specs.Statement.{Statement}
+use Rattle.drt_claims.specs.declared.evidence.Evidence.{Evidence}
+use Rattle.drt_claims.specs.declared.evidence.Evidence.TheVariants.{EdfYes, EdfNo, UtilisationOne, FixedYes, FixedStates, FixedNo, Undecided}
+use Rattle.drt_claims.specs.declared.rule.Rule.TheVariants.{LegalReleases}
 use Rattle.drt_check.specs.Judging.{IsJudged, claimed}
 use Rattle.drt_check.specs.declared.judgement.Judgement.{Judgement}
 use Rattle.drt_check.specs.declared.judgement.Judgement.TheVariants as judgements

@@ -1,7 +1,7 @@
 -- What is promised of `timeline` of a dossier agrees.
 use Rattle.std.proofs.Common.{◌≡◌, ℕ, ◌<◌, ◌≤◌, Bool, List, length, inl, inr, refl, sym, ap, ◌∙◌, subst, arith}
 use Rattle.drt_evidence.specs.Reading.{IsTextOf}
-use Rattle.drt_evidence.specs.Statement.{Statement}
+use Rattle.drt_claims.specs.Statement.{Statement}
 use Rattle.drt_check.specs.Judging.{IsJudged, IsSound}
 use Rattle.drt_check.specs.Laws.{JudgedOnce}
 use Rattle.drt_check.specs.declared.judgement.Judgement.{Judgement}

@@ -1,8 +1,8 @@
 -- `timeline` of a dossier: what it draws, what it refuses, and with which status it ends.
 use Rattle.std.specs.Prelude.{◌≡◌, ℕ, ◌≤◌, ◌⊎◌, Bool, List, length}
-use Rattle.drt_evidence.specs.Kinds.{miss_of, releases_of}
+use Rattle.drt_claims.specs.Kinds.{miss_of, releases_of}
 use Rattle.drt_evidence.specs.Reading.{IsTextOf}
-use Rattle.drt_evidence.specs.Statement.{Statement}
+use Rattle.drt_claims.specs.Statement.{Statement}
 use Rattle.drt_check.specs.Judging.{IsJudged, IsSound}
 use Rattle.drt_check.specs.declared.judgement.Judgement.{Judgement}
 use Rattle.drt_check.specs.declared.judgement.Judgement.TheVariants as judgements

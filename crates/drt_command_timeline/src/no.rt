@@ -1,6 +1,6 @@
 //! `timeline` of a dossier: its releases that miss, drawn up to the deadline that is missed.
 ghost use Rattle.std.specs.Prelude.{◌≡◌, ◌≤◌, IfErr, IfOk, MatchOption, length};
-ghost use Rattle.drt_evidence.specs.Kinds.{HasReleases, miss_of, releases_of};
+ghost use Rattle.drt_claims.specs.Kinds.{HasReleases, miss_of, releases_of};
 ghost use Rattle.drt_command.specs.Rules.{IsCause};
 ghost use Rattle.drt_command_check.specs.Check.{IsDossierFault, most_dossier_bytes};
 ghost use Rattle.drt_command_timeline.specs.Timeline.{DrawsNo, IsJudgedDossier, IsTimelineFault, timeline_rules};
@@ -8,7 +8,8 @@ ghost use Rattle.drt_command_timeline.specs.Timeline.{DrawsNo, IsJudgedDossier, 
 use crate::drawing::draw;
 use drt_check::{Judgement, judged_once};
 use drt_command::{Command, Input, Report, Unmade};
-use drt_evidence::{Dossier, DossierError, DossierFault, Evidence};
+use drt_claims::{Dossier, Evidence};
+use drt_evidence::{DossierError, DossierFault};
 use drt_model::Release;
 use drt_outcome::fault::{DOSSIER_TOO_LONG, Fault};
 use drt_outcome::outcome::NO;

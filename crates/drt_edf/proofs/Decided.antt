@@ -10,9 +10,9 @@ use Rattle.drt_horizon.specs.declared.answers.Horizon.TheVariants.{Under}
 use Rattle.drt_horizon.specs.Given.{AreGiven}
 use Rattle.drt_horizon.specs.Plans.{IsPlan}
 use Rattle.drt_table.specs.declared.step.Entry.{Entry}
-use Rattle.drt_evidence.specs.declared.evidence.Evidence.TheVariants.{EdfYes}
-use Rattle.drt_evidence.specs.Claims.{graphs_of}
-use Rattle.drt_evidence.specs.Ranges.{IsCounted, IsInRange, IsInRangeFront}
+use Rattle.drt_claims.specs.declared.evidence.Evidence.TheVariants.{EdfYes}
+use Rattle.drt_claims.specs.Claims.{graphs_of}
+use Rattle.drt_claims.specs.Ranges.{IsCounted, IsInRange, IsInRangeFront}
 use Rattle.drt_fronts.specs.LabelFronts.{AreLabelFronts, AreDemandWalks}
 use Rattle.drt_edf.specs.RatioClaims.{claims_of}
 use Rattle.drt_edf.specs.Searches.{IsSpentSearch}

@@ -1,8 +1,8 @@
 -- Which kinds of evidence go with which utilisation.
 use Rattle.std.proofs.Common.{List}
 use Rattle.drt_model.specs.declared.tasks.Task.{Task}
-use Rattle.drt_evidence.specs.declared.evidence.Evidence.{Evidence}
-use Rattle.drt_evidence.specs.declared.evidence.Evidence.TheVariants.{EdfYes, EdfNo, UtilisationOne, FixedYes, FixedStates, FixedNo, Undecided}
+use Rattle.drt_claims.specs.declared.evidence.Evidence.{Evidence}
+use Rattle.drt_claims.specs.declared.evidence.Evidence.TheVariants.{EdfYes, EdfNo, UtilisationOne, FixedYes, FixedStates, FixedNo, Undecided}
 use Rattle.drt_edf.specs.Answers.{IsVerdict, IsOther, IsPlanned}
 
 -- A yes or a no where the utilisation isn't one.

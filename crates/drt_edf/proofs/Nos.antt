@@ -19,8 +19,8 @@ use Rattle.drt_busy.specs.Choice.{AreDueBy, AreWalks, efforts}
 use Rattle.drt_busy.specs.Decide.{DemandMisses}
 use Rattle.drt_busy.specs.WalkReleases.{all_releases}
 use Rattle.drt_replay.specs.Board.{Shown, IsLate, IsFirstMiss}
-use Rattle.drt_evidence.proofs.Accepting.{edf_no_accepted}
-use Rattle.drt_evidence.specs.Ranges.{IsInRangeMiss, IsInRangeRelease}
+use Rattle.drt_claims.proofs.Accepting.{edf_no_accepted}
+use Rattle.drt_claims.specs.Ranges.{IsInRangeMiss, IsInRangeRelease}
 use Rattle.drt_edf.specs.Answers.{IsMissed}
 
 -- The first miss by t is in range.

@@ -9,7 +9,7 @@ use Rattle.drt_horizon.specs.Given.{AreGiven}
 use Rattle.drt_horizon.specs.CycleTurns.{cycle_turns_of, IsOver}
 use Rattle.drt_horizon.specs.Laws.{SearchEnds, latest}
 use Rattle.drt_horizon.specs.Plans.{IsAboveOne}
-use Rattle.drt_evidence.specs.Claims.{graphs_of}
+use Rattle.drt_claims.specs.Claims.{graphs_of}
 use Rattle.drt_edf.specs.Spent.{IsSpentOverload}
 use Rattle.drt_edf.proofs.Planned.{planned_above}
 

@@ -14,10 +14,10 @@ use Rattle.drt_horizon.specs.declared.answers.Beyond.{Beyond}
 use Rattle.drt_horizon.specs.declared.answers.Beyond.TheVariants.{TooFine, TooFar}
 use Rattle.drt_horizon.specs.Given.{AreGiven, potentials_of}
 use Rattle.drt_horizon.specs.Plans.{IsPlan}
-use Rattle.drt_evidence.specs.Claims.{graphs_of, fractions, HaveUtilisationBelowOne, IsHorizon}
-use Rattle.drt_evidence.proofs.Accepting.{AreRatioClaims, one_accepted}
+use Rattle.drt_claims.specs.Claims.{graphs_of, fractions, HaveUtilisationBelowOne, IsHorizon}
+use Rattle.drt_claims.proofs.Accepting.{AreRatioClaims, one_accepted}
 use Rattle.drt_edf.specs.Answers.{IsBeyond, IsOnlyOne}
-use Rattle.drt_evidence.specs.Rates.{Rates}
+use Rattle.drt_claims.specs.Rates.{Rates}
 use Rattle.drt_edf.specs.Plans.{AreTooFine, IsAboveOne, HasHorizon, IsTooFar}
 use Rattle.drt_edf.specs.RatioClaims.{claims_of}
 use Rattle.drt_edf.proofs.RatioClaims.{fractions_same, potentials_same, claims_count, claims_lowest, each_given, potentials_are, ratios_are}

@@ -12,9 +12,9 @@ use Rattle.drt_ratio.specs.SetRatios.{AreSmall, fraction_of, fractions_of}
 use Rattle.drt_ratio.proofs.Optima.{cycle_sums}
 use Rattle.drt_horizon.specs.Given.{IsGiven, AreGiven, potentials_of}
 use Rattle.drt_horizon.proofs.Overloads.{cycle_few}
-use Rattle.drt_evidence.specs.declared.evidence.RatioClaim.{RatioClaim}
-use Rattle.drt_evidence.specs.Claims.{fractions, potentials, Each, AreLowest}
-use Rattle.drt_evidence.specs.Ranges.{IsNumber, IsInRangePotential, IsInRangeRatio}
+use Rattle.drt_claims.specs.declared.evidence.RatioClaim.{RatioClaim}
+use Rattle.drt_claims.specs.Claims.{fractions, potentials, Each, AreLowest}
+use Rattle.drt_claims.specs.Ranges.{IsNumber, IsInRangePotential, IsInRangeRatio}
 use Rattle.drt_edf.specs.Plans.{ArePotentials}
 use Rattle.drt_edf.specs.RatioClaims.{claim_of, claims_of}
 

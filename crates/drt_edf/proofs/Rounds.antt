@@ -15,7 +15,7 @@ use Rattle.drt_horizon.specs.declared.cycle_turns.CycleTurn.{CycleTurn}
 use Rattle.drt_horizon.specs.Given.{AreGiven}
 use Rattle.drt_horizon.specs.CycleTurns.{with_cycle_turn, cycle_turns_of, turned}
 use Rattle.drt_horizon.proofs.Overloads.{is_cycle}
-use Rattle.drt_evidence.specs.Claims.{graphs_of}
+use Rattle.drt_claims.specs.Claims.{graphs_of}
 use Rattle.drt_releases.specs.Walks.{walk_at}
 use Rattle.drt_edf.specs.Turns.{turns_of, turns_within, AreTurns}
 

@@ -9,8 +9,8 @@ use Rattle.drt_model.specs.Potential.{IsPotential, potential_of, AreCanonical}
 use Rattle.drt_model.specs.Horizon.{horizon}
 use Rattle.drt_graph.proofs.Scales.{scale_same}
 use Rattle.drt_ratio.proofs.Unique.{ratios_same}
-use Rattle.drt_evidence.specs.Claims.{graphs_of}
-use Rattle.drt_evidence.specs.Rates.{Rates}
+use Rattle.drt_claims.specs.Claims.{graphs_of}
+use Rattle.drt_claims.specs.Rates.{Rates}
 use Rattle.drt_edf.specs.Plans.{ArePotentials, HasHorizon}
 
 -- The ratios and the scale.

@@ -23,11 +23,11 @@ use Rattle.drt_rates.specs.Demands.{demands}
 use Rattle.drt_horizon.specs.Given.{AreGiven}
 use Rattle.drt_horizon.specs.Laws.{HorizonHolds}
 use Rattle.drt_horizon.specs.Plans.{IsPlan}
-use Rattle.drt_evidence.specs.Claims.{graphs_of, Each}
+use Rattle.drt_claims.specs.Claims.{graphs_of, Each}
 use Rattle.drt_model.specs.FrontEntry.{due}
-use Rattle.drt_evidence.specs.Fronts.{IsOrdered, HasOpenings, IsExtended, IsClosedFront, works_due, HaveRoom}
-use Rattle.drt_evidence.specs.Ranges.{IsInRangeEntry}
-use Rattle.drt_evidence.proofs.Accepting.{AreFrontClaims, yes_accepted}
+use Rattle.drt_claims.specs.Fronts.{IsOrdered, HasOpenings, IsExtended, IsClosedFront, works_due, HaveRoom}
+use Rattle.drt_claims.specs.Ranges.{IsInRangeEntry}
+use Rattle.drt_claims.proofs.Accepting.{AreFrontClaims, yes_accepted}
 use Rattle.drt_edf.specs.Answers.{IsExactYes}
 use Rattle.drt_fronts.specs.LabelFronts.{IsLabelFront, AreLabelFronts}
 use Rattle.drt_edf.specs.RatioClaims.{claims_of}

@@ -10,14 +10,14 @@ use Rattle.drt_busy.specs.Needs.{needs, is_due}
 use Rattle.drt_busy.specs.Assignment.{had}
 use Rattle.drt_horizon.specs.declared.answers.Beyond.{Beyond}
 use Rattle.drt_horizon.specs.declared.answers.Beyond.TheVariants.{TooFine, TooFar}
-use Rattle.drt_evidence.specs.Claims.{graphs_of, Each, IsHorizon}
-use Rattle.drt_evidence.specs.Ranges.{IsInRange}
-use Rattle.drt_evidence.specs.Rules.{Accepts}
-use Rattle.drt_evidence.specs.declared.evidence.Evidence.{Evidence}
-use Rattle.drt_evidence.specs.declared.evidence.Evidence.TheVariants.{EdfYes, EdfNo, UtilisationOne, FixedYes, FixedStates, FixedNo, Undecided}
+use Rattle.drt_claims.specs.Claims.{graphs_of, Each, IsHorizon}
+use Rattle.drt_claims.specs.Ranges.{IsInRange}
+use Rattle.drt_claims.specs.Rules.{Accepts}
+use Rattle.drt_claims.specs.declared.evidence.Evidence.{Evidence}
+use Rattle.drt_claims.specs.declared.evidence.Evidence.TheVariants.{EdfYes, EdfNo, UtilisationOne, FixedYes, FixedStates, FixedNo, Undecided}
 use Rattle.drt_model.specs.declared.front.FrontEntry.{FrontEntry}
-use Rattle.drt_evidence.specs.declared.evidence.RatioClaim.{RatioClaim}
-use Rattle.drt_evidence.specs.Rates.{IsAtOne}
+use Rattle.drt_claims.specs.declared.evidence.RatioClaim.{RatioClaim}
+use Rattle.drt_claims.specs.Rates.{IsAtOne}
 use Rattle.drt_edf.specs.Plans.{IsAboveOne, HasHorizon, IsTooFar, AreTooFine}
 use Rattle.drt_edf.specs.Walks.{IsExactFront}
 use Rattle.drt_edf.specs.Spent.{IsSpentOverload, IsSpentTable}

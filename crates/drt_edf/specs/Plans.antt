@@ -5,8 +5,8 @@ use Rattle.drt_model.specs.Digraph.{Digraph}
 use Rattle.drt_model.specs.Utilisation.{Fraction, rate}
 use Rattle.drt_model.specs.Potential.{AreCanonical}
 use Rattle.drt_model.specs.Horizon.{horizon}
-use Rattle.drt_evidence.specs.Claims.{graphs_of}
-use Rattle.drt_evidence.specs.Rates.{Rates}
+use Rattle.drt_claims.specs.Claims.{graphs_of}
+use Rattle.drt_claims.specs.Rates.{Rates}
 
 -- The lists are the canonical potentials of the graphs at these ratios, in order.
 abbrev pub ArePotentials : List Digraph → List Fraction → List (List ℤ) → Type 0

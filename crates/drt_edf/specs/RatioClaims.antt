@@ -1,7 +1,7 @@
 -- Ratios with their evidence, as claims.
 use Rattle.std.specs.Prelude.{List, map}
 use Rattle.drt_ratio.specs.declared.ratio_proof.RatioProof.{RatioProof}
-use Rattle.drt_evidence.specs.declared.evidence.RatioClaim.{RatioClaim}
+use Rattle.drt_claims.specs.declared.evidence.RatioClaim.{RatioClaim}
 
 -- The claim of a ratio with its evidence.
 abbrev pub claim_of : RatioProof → RatioClaim

@@ -7,7 +7,7 @@ use Rattle.drt_edf.specs.declared.searching.Searched.TheVariants.{Finished, Spen
 use Rattle.drt_fronts.specs.declared.search.Ended.TheVariants as ended
 use Rattle.drt_edf.specs.declared.searching.FoundAhead.{FoundAhead}
 use Rattle.drt_edf.specs.declared.searching.FoundAhead.TheVariants.{Front, Left, Long}
-use Rattle.drt_evidence.specs.Ranges.{IsCounted}
+use Rattle.drt_claims.specs.Ranges.{IsCounted}
 use Rattle.drt_graph.specs.Graphs.{graph_of}
 use Rattle.drt_fronts.specs.Ends.{IsEnded, IsFull}
 use Rattle.drt_fronts.specs.declared.search.Ended.{Ended}

@@ -12,7 +12,7 @@ use Rattle.drt_horizon.specs.Given.{AreGiven}
 use Rattle.drt_horizon.specs.CycleTurns.{cycle_turns_of, IsOver}
 use Rattle.drt_horizon.specs.Laws.{latest}
 use Rattle.drt_horizon.specs.declared.answers.Over.TheVariants.{Spent}
-use Rattle.drt_evidence.specs.Claims.{graphs_of}
+use Rattle.drt_claims.specs.Claims.{graphs_of}
 use Rattle.drt_edf.specs.Plans.{IsAboveOne, HasHorizon}
 pub use Rattle.drt_fronts.specs.Needs.{table_need, HasWaveTable, search_of}
 

@@ -7,7 +7,7 @@ use Rattle.drt_model.specs.Walk.{cycle_span}
 use Rattle.drt_ratio.specs.declared.ratio_proof.RatioProof.{RatioProof}
 use Rattle.drt_busy.specs.Choice.{AreDueBy, AreWalks, efforts}
 use Rattle.drt_horizon.specs.CycleTurns.{cycle_turns_of, turned}
-use Rattle.drt_evidence.specs.Claims.{graphs_of}
+use Rattle.drt_claims.specs.Claims.{graphs_of}
 use Rattle.drt_releases.specs.Walks.{walk_at}
 
 -- The walk of the whole turns of a cycle within t: the vertices of the cycle, as often as its span goes into t.

@@ -1,14 +1,14 @@
 //! The analysis.
 ghost use Rattle.std.specs.Prelude.{◌≡◌, ◌≤◌, IfOk};
 ghost use Rattle.drt_model.specs.Constrained.{AreConstrained};
-ghost use Rattle.drt_evidence.specs.Claims.{graphs_of};
+ghost use Rattle.drt_claims.specs.Claims.{graphs_of};
 ghost use Rattle.drt_edf.specs.Answers.{IsAnswer};
 
 use crate::above::above_one;
 use crate::answer::EdfAnswer;
 use crate::below::below_one;
 use crate::claims::claims_of;
-use drt_evidence::Evidence;
+use drt_claims::Evidence;
 use drt_graph::Graphs;
 use drt_horizon::{Horizon, plan, ratios};
 use drt_model::{Memory, TaskSet};

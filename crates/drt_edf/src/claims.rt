@@ -3,7 +3,7 @@ ghost use Rattle.std.specs.Prelude.{◌≡◌, ◌≤◌, IfOk};
 ghost use Rattle.drt_edf.specs.RatioClaims.{claim_of, claims_of};
 ghost use Rattle.drt_ratio.specs.SetRatios.{AreSmall};
 
-use drt_evidence::RatioClaim;
+use drt_claims::RatioClaim;
 use drt_model::{Memory, Row};
 use drt_ratio::RatioProof;
 use std::alloc::Global;

@@ -4,7 +4,7 @@
 //! turns of the cycles are searched for a time with too much work; below one each task's walks are searched up to the horizon,
 //! and the demands over these fronts are scanned. Where the budget is enough for any search of a task's walks, and there are at most 2^22 cells,
 //! they are worked in a wave table of `drt_wave`, and else in a table whose steps the budget counts.
-//! Searches of the latter kind go side by side. Each answer carries its evidence, which keeps the rules of `drt_evidence`, and each other
+//! Searches of the latter kind go side by side. Each answer carries its evidence, which keeps the rules of `drt_claims`, and each other
 //! answer its cause. The layer above uses the one contract of `analyse_edf`.
 #![tactic(auto)]
 

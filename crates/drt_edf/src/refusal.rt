@@ -4,14 +4,14 @@ ghost use Rattle.drt_model.specs.Constrained.{AreConstrained};
 ghost use Rattle.drt_busy.specs.Choice.{AreDueBy, AreWalks, efforts};
 ghost use Rattle.drt_horizon.specs.Given.{AreGiven};
 ghost use Rattle.drt_horizon.specs.CycleTurns.{cycle_turns_of, turned};
-ghost use Rattle.drt_evidence.specs.Claims.{graphs_of};
-ghost use Rattle.drt_evidence.specs.Ranges.{IsInRange};
+ghost use Rattle.drt_claims.specs.Claims.{graphs_of};
+ghost use Rattle.drt_claims.specs.Ranges.{IsInRange};
 ghost use Rattle.drt_releases.specs.Walks.{walk_at};
 ghost use Rattle.drt_edf.specs.Answers.{IsVerdict};
 
 use crate::turns::turns;
 use drt_busy::{demand_misses, no_assignment_meets};
-use drt_evidence::Evidence;
+use drt_claims::Evidence;
 use drt_graph::Graphs;
 use drt_model::{Memory, Policy, Row, TaskSet};
 use drt_ratio::RatioProof;

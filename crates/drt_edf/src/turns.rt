@@ -4,7 +4,7 @@ ghost use Rattle.std.specs.List.{repeat};
 ghost use Rattle.drt_model.specs.declared.tasks.Task.{Task};
 ghost use Rattle.drt_model.specs.Walk.{IsCycle};
 ghost use Rattle.drt_horizon.specs.Given.{AreGiven};
-ghost use Rattle.drt_evidence.specs.Claims.{graphs_of};
+ghost use Rattle.drt_claims.specs.Claims.{graphs_of};
 ghost use Rattle.drt_edf.specs.Turns.{AreTurns, turns_of, turns_within};
 
 use drt_graph::{Graph, Graphs, cycle_sums};

@@ -9,7 +9,7 @@ use Rattle.drt_file.specs.trusted.Canonical.{written_line}
 use Rattle.drt_file.specs.trusted.Cutting.{fed, HasNoFeed}
 use Rattle.drt_file.proofs.Again.{all_of_both}
 use Rattle.drt_file.proofs.Feeds.{fed_both}
-use Rattle.drt_evidence.specs.Ranges.{IsNumber}
+use Rattle.drt_claims.specs.Ranges.{IsNumber}
 use Rattle.drt_evidence.specs.Text.{count_line}
 use Rattle.drt_evidence.specs.Blocks.{AreLines, ReadsBlock, RefusesLine, Stops, IsStop, in_turn, AreSoMany, counted}
 use Rattle.drt_evidence.specs.LineForms.{AreCounted}

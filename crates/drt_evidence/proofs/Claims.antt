@@ -10,10 +10,10 @@ use Rattle.drt_states.specs.declared.claims.StateEntry.{StateEntry}
 use Rattle.drt_evidence.specs.Cuts.{AreStateParts, IsCut, IsNoCut, IsSpaced, counted_form, end_form, entry_form, join_form, jump_form, left, spaced_form, state_form}
 use Rattle.drt_evidence.specs.Fields.{behind}
 use Rattle.drt_evidence.specs.LineForms.{AreBoth, AreCounted, IsForm, IsNoForm, itself}
-use Rattle.drt_evidence.specs.Ranges.{IsInRangeEnd, IsInRangeItem, IsInRangeJump, IsInRangeStateEntry, IsNumber, IsTick, IsWork}
+use Rattle.drt_claims.specs.Ranges.{IsInRangeEnd, IsInRangeItem, IsInRangeJump, IsInRangeStateEntry, IsNumber, IsTick, IsWork}
 use Rattle.drt_evidence.specs.Text.{item_field}
-use Rattle.drt_evidence.specs.declared.evidence.Item.{Item}
-use Rattle.drt_evidence.specs.declared.evidence.Item.TheVariants.{Pass, Split}
+use Rattle.drt_claims.specs.declared.evidence.Item.{Item}
+use Rattle.drt_claims.specs.declared.evidence.Item.TheVariants.{Pass, Split}
 use Rattle.drt_evidence.proofs.Cuts.{IsMade, join_first, join_is, join_second, made_is, made_none}
 use Rattle.drt_evidence.proofs.Spaces.{fields_behind}
 

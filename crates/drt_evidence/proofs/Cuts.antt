@@ -9,7 +9,7 @@ use Rattle.drt_file.proofs.Again.{all_of_both}
 use Rattle.drt_evidence.specs.Blocks.{AreSoMany, in_turn}
 use Rattle.drt_evidence.specs.Cuts.{IsCut, IsNoCut, IsSpaced, counted_form, join_form, left, spaced_form}
 use Rattle.drt_evidence.specs.LineForms.{AreBoth, AreCounted, HasNoSpace, IsFieldForm, IsForm, IsNoForm, itself}
-use Rattle.drt_evidence.specs.Ranges.{IsNumber}
+use Rattle.drt_claims.specs.Ranges.{IsNumber}
 use Rattle.drt_evidence.proofs.Blocks.{cut_at, empty_list, turn_push}
 use Rattle.drt_evidence.proofs.Spaces.{cut_same, cut_spaced, spaced_behind}
 

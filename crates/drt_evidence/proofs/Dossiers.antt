@@ -12,12 +12,12 @@ use Rattle.drt_file.specs.trusted.Cutting.{fed, HasNoFeed}
 use Rattle.drt_file.proofs.Feeds.{count_fed, first_before, first_fed, first_line_of, no_lines}
 use Rattle.drt_evidence.specs.Blocks.{IsSet, IsStop, ReadsBlock, RefusesLine, Stops}
 use Rattle.drt_evidence.specs.LineForms.{IsAny}
-use Rattle.drt_evidence.specs.Ranges.{IsInRange}
-use Rattle.drt_evidence.specs.Reading.{IsFaultyBy, HasDossierFault, HoldsDossier, IsDossierCause, IsStated, IsTextOf}
-use Rattle.drt_evidence.specs.Statement.{Statement}
+use Rattle.drt_claims.specs.Ranges.{IsInRange}
+use Rattle.drt_evidence.specs.Reading.{IsFaultyBy, HasDossierFault, HoldsDossier, IsDossierCause, IsTextOf}
+use Rattle.drt_claims.specs.Statement.{IsStated, Statement}
 use Rattle.drt_evidence.specs.Text.{evidence_lines, head_lines, text}
-use Rattle.drt_evidence.specs.declared.evidence.Evidence.{Evidence}
-use Rattle.drt_evidence.specs.declared.evidence.Evidence.TheVariants.{Undecided}
+use Rattle.drt_claims.specs.declared.evidence.Evidence.{Evidence}
+use Rattle.drt_claims.specs.declared.evidence.Evidence.TheVariants.{Undecided}
 use Rattle.drt_evidence.specs.declared.fault.DossierError.TheVariants as errors
 use Rattle.drt_evidence.specs.declared.reading.text.Stop.{Stop}
 use Rattle.drt_evidence.specs.declared.reading.text.Stop.TheVariants as stops

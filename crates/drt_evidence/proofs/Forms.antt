@@ -8,7 +8,7 @@ use Rattle.std.proofs.lemmas.List.Elements.{All-nil, All-head, All-tail, All-pus
 use Rattle.drt_file.proofs.Digits.{decimal_field}
 use Rattle.drt_evidence.specs.Cuts.{left}
 use Rattle.drt_evidence.specs.Fields.{behind}
-use Rattle.drt_evidence.specs.Ranges.{IsNumber}
+use Rattle.drt_claims.specs.Ranges.{IsNumber}
 use Rattle.drt_evidence.specs.LineForms.{HasNoSpace, IsFieldForm, IsForm, IsNoForm, IsLineOf, IsNoLine, spaced, pair_form, AreBoth, IsAny, itself, list_form, AreCounted}
 use Rattle.drt_evidence.proofs.Spaces.{cut_same, cut_spaced, no_cut, fields_behind, spaced_behind, field_no_space}
 

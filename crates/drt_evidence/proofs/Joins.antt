@@ -4,7 +4,7 @@ use Rattle.std.specs.List.{join_with_byte}
 use Rattle.std.proofs.lemmas.List.{append-nil}
 use Rattle.std.proofs.lemmas.Grind.{flat_map-append}
 use Rattle.drt_file.specs.trusted.Canonical.{canonical, written, written_line}
-use Rattle.drt_evidence.specs.Statement.{Statement}
+use Rattle.drt_claims.specs.Statement.{Statement}
 use Rattle.drt_evidence.specs.Fields.{behind}
 use Rattle.drt_evidence.specs.Text.{head_lines, evidence_lines, text}
 

@@ -1,4 +1,3 @@
-pub mod Accepting
 pub mod Forms
 pub mod Joins
 pub mod LineFeeds

@@ -13,10 +13,10 @@ use Rattle.drt_file.specs.trusted.Cutting.{HasNoFeed}
 use Rattle.drt_file.proofs.Again.{IsField, all_of_both, joined_no_feed}
 use Rattle.drt_file.proofs.Digits.{decimal_field}
 use Rattle.drt_model.specs.declared.front.FrontEntry.{FrontEntry}
-use Rattle.drt_evidence.specs.declared.evidence.Item.{Item}
-use Rattle.drt_evidence.specs.declared.evidence.Item.TheVariants.{Pass, Split}
-use Rattle.drt_evidence.specs.declared.evidence.Pair.{Pair}
-use Rattle.drt_evidence.specs.declared.evidence.ProofClaim.{ProofClaim}
+use Rattle.drt_claims.specs.declared.evidence.Item.{Item}
+use Rattle.drt_claims.specs.declared.evidence.Item.TheVariants.{Pass, Split}
+use Rattle.drt_claims.specs.declared.evidence.Pair.{Pair}
+use Rattle.drt_claims.specs.declared.evidence.ProofClaim.{ProofClaim}
 use Rattle.drt_evidence.specs.declared.reading.line_forms.KindOfEvidence.{KindOfEvidence}
 use Rattle.drt_evidence.specs.declared.reading.line_forms.KindOfEvidence.TheVariants as kinds
 use Rattle.drt_evidence.specs.declared.reading.line_forms.WrittenRatio.{WrittenRatio}
@@ -26,8 +26,8 @@ use Rattle.drt_states.specs.declared.claims.StateClaim.{StateClaim}
 use Rattle.drt_states.specs.declared.claims.StateEnd.{StateEnd}
 use Rattle.drt_states.specs.declared.claims.StateEnd.TheVariants.{Passes, Splits}
 use Rattle.drt_states.specs.declared.claims.StateEntry.{StateEntry}
-use Rattle.drt_evidence.specs.Ranges.{IsNumber, IsInRangeEntry, IsInRangeItem, IsInRangeMiss, IsInRangePair, IsInRangePotential, IsInRangeProof, IsInRangeRelease}
-use Rattle.drt_evidence.specs.Ranges.{IsInRangeCurve, IsInRangeEnd, IsInRangeJump, IsInRangeState, IsInRangeStateEntry}
+use Rattle.drt_claims.specs.Ranges.{IsNumber, IsInRangeEntry, IsInRangeItem, IsInRangeMiss, IsInRangePair, IsInRangePotential, IsInRangeProof, IsInRangeRelease}
+use Rattle.drt_claims.specs.Ranges.{IsInRangeCurve, IsInRangeEnd, IsInRangeJump, IsInRangeState, IsInRangeStateEntry}
 use Rattle.drt_evidence.specs.Text.{count_line, curve_line, end_fields, entry_line, item_field, jump_fields, miss_line, pair_line, policy_word, proof_line, release_line}
 use Rattle.drt_evidence.specs.Text.{state_entry_fields, state_line, word_line}
 use Rattle.drt_evidence.specs.LineForms.{AreCounted, IsInRangeWritten, IsInRangeWrittenSearch, kind_keyword, kind_line}

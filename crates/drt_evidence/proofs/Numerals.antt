@@ -9,8 +9,8 @@ use Rattle.std.proofs.lemmas.Fmt.{decimal-digits_value, decimal_digit, decimal_n
 use Rattle.std.proofs.lemmas.Bool.{cases_eq}
 use Rattle.drt_file.specs.trusted.Words.{value, value_after, is_number, is_digit}
 use Rattle.drt_file.proofs.Digits.{value_decimal, decimal_number}
-use Rattle.drt_evidence.specs.declared.evidence.Item.TheVariants.{Pass, Split}
-use Rattle.drt_evidence.specs.Ranges.{IsInRangeItem, IsInRangePotential}
+use Rattle.drt_claims.specs.declared.evidence.Item.TheVariants.{Pass, Split}
+use Rattle.drt_claims.specs.Ranges.{IsInRangeItem, IsInRangePotential}
 use Rattle.drt_evidence.specs.Text.{item_field}
 use Rattle.drt_evidence.proofs.Forms.{decimal_no_space}
 use Rattle.drt_evidence.specs.LineForms.{IsFieldForm, IsForm, IsNoForm, IsNumeral}

@@ -11,7 +11,7 @@ use Rattle.drt_file.proofs.Digits.{decimal_field}
 use Rattle.drt_file.proofs.Snoc.{every_map, every_weaker}
 use Rattle.drt_evidence.specs.LineForms.{AreCounted, IsAny, IsInRangeWritten, IsInRangeWrittenSearch, kind_line}
 use Rattle.drt_evidence.specs.LineForms.{numbers_line, policy_line, potentials_line, written_ratio_line, written_search_line}
-use Rattle.drt_evidence.specs.Ranges.{IsInRangeCurve, IsInRangeEntry, IsInRangeMiss, IsInRangePair, IsInRangePotential, IsInRangeProof, IsInRangeRelease, IsInRangeState, IsNumber}
+use Rattle.drt_claims.specs.Ranges.{IsInRangeCurve, IsInRangeEntry, IsInRangeMiss, IsInRangePair, IsInRangePotential, IsInRangeProof, IsInRangeRelease, IsInRangeState, IsNumber}
 use Rattle.drt_evidence.specs.Some.{some_curve, some_entry, some_pair, some_proof, some_release, some_state, some_walk}
 use Rattle.drt_evidence.specs.Text.{count_line, curve_line, entry_line, miss_line, pair_line, proof_line, release_line, state_line, word_line}
 use Rattle.drt_evidence.specs.declared.reading.line_forms.KindOfEvidence.TheVariants as kinds

@@ -13,17 +13,17 @@ use Rattle.drt_file.specs.trusted.Canonical.{written, written_line}
 use Rattle.drt_evidence.specs.Blocks.{AreNamed, AreSoMany, Named, in_turn, ReadsBlock, IsStop, named_block, counted, first_block, close_block, IsOfKind}
 use Rattle.drt_evidence.specs.LineForms.{AreCounted, IsAny, IsInRangeWritten, IsInRangeWrittenSearch, kind_keyword, kind_line, kind_of, numbers_line, policy_line}
 use Rattle.drt_evidence.specs.LineForms.{potentials_line, written_ratio_line, written_search_line}
-use Rattle.drt_evidence.specs.Ranges.{AreInRangeReleases, IsInRange, IsInRangeFront, IsInRangeMiss, IsInRangePair, IsInRangePotential, IsInRangeProof, IsInRangeRatio, IsInRangeRelease, IsInRangeTree, IsInRangeWalk, IsNumber}
-use Rattle.drt_evidence.specs.Ranges.{IsInRangeCurve, IsInRangeSearch, IsInRangeState, IsInRangeTail}
+use Rattle.drt_claims.specs.Ranges.{AreInRangeReleases, IsInRange, IsInRangeFront, IsInRangeMiss, IsInRangePair, IsInRangePotential, IsInRangeProof, IsInRangeRatio, IsInRangeRelease, IsInRangeTree, IsInRangeWalk, IsNumber}
+use Rattle.drt_claims.specs.Ranges.{IsInRangeCurve, IsInRangeSearch, IsInRangeState, IsInRangeTail}
 use Rattle.drt_evidence.specs.Some.{some_state}
 use Rattle.drt_evidence.specs.Text.{body_lines, count_line, evidence_lines, kind_word, word_line, entry_line, front_block, front_lines, head_lines, miss_line, pair_line, proof_block, proof_line, ratio_block, ratio_lines, release_block, release_line, tree_block, tree_lines, walk_line}
 use Rattle.drt_evidence.specs.Text.{curve_line, search_block, search_lines, state_line, tail_block, tail_lines}
-use Rattle.drt_evidence.specs.declared.evidence.Evidence.{Evidence}
-use Rattle.drt_evidence.specs.declared.evidence.Evidence.TheVariants.{EdfYes, EdfNo, UtilisationOne, FixedYes, FixedStates, FixedNo, Undecided}
+use Rattle.drt_claims.specs.declared.evidence.Evidence.{Evidence}
+use Rattle.drt_claims.specs.declared.evidence.Evidence.TheVariants.{EdfYes, EdfNo, UtilisationOne, FixedYes, FixedStates, FixedNo, Undecided}
 use Rattle.drt_model.specs.declared.front.FrontEntry.{FrontEntry}
-use Rattle.drt_evidence.specs.declared.evidence.ProofClaim.{ProofClaim}
-use Rattle.drt_evidence.specs.declared.evidence.RatioClaim.{RatioClaim}
-use Rattle.drt_evidence.specs.declared.evidence.TreeClaim.{TreeClaim}
+use Rattle.drt_claims.specs.declared.evidence.ProofClaim.{ProofClaim}
+use Rattle.drt_claims.specs.declared.evidence.RatioClaim.{RatioClaim}
+use Rattle.drt_claims.specs.declared.evidence.TreeClaim.{TreeClaim}
 use Rattle.drt_evidence.specs.declared.reading.line_forms.KindOfEvidence.{KindOfEvidence}
 use Rattle.drt_evidence.specs.declared.reading.line_forms.KindOfEvidence.TheVariants as kinds
 use Rattle.drt_evidence.specs.declared.reading.line_forms.WrittenSearch.{WrittenSearch}

@@ -8,16 +8,16 @@ use Rattle.std.proofs.lemmas.List.{length-map}
 use Rattle.drt_model.specs.declared.jobs.Release.{Release}
 use Rattle.drt_model.specs.declared.jobs.Miss.{Miss}
 use Rattle.drt_model.specs.declared.front.FrontEntry.{FrontEntry}
-use Rattle.drt_evidence.specs.declared.evidence.Item.{Item}
-use Rattle.drt_evidence.specs.declared.evidence.Pair.{Pair}
-use Rattle.drt_evidence.specs.declared.evidence.ProofClaim.{ProofClaim}
+use Rattle.drt_claims.specs.declared.evidence.Item.{Item}
+use Rattle.drt_claims.specs.declared.evidence.Pair.{Pair}
+use Rattle.drt_claims.specs.declared.evidence.ProofClaim.{ProofClaim}
 use Rattle.drt_evidence.specs.declared.reading.line_forms.WrittenRatio.{WrittenRatio}
 use Rattle.drt_evidence.specs.declared.reading.line_forms.WrittenSearch.{WrittenSearch}
 use Rattle.drt_states.specs.declared.claims.StateClaim.{StateClaim}
 use Rattle.drt_evidence.specs.Cuts.{AreStateParts, StateParts, entry_form, jump_form}
 use Rattle.drt_evidence.specs.Fields.{behind}
-use Rattle.drt_evidence.specs.Ranges.{IsNumber, IsTick, IsWork, IsInRangeEntry, IsInRangeItem, IsInRangeMiss, IsInRangePair, IsInRangePotential, IsInRangeProof, IsInRangeRelease}
-use Rattle.drt_evidence.specs.Ranges.{IsInRangeCurve, IsInRangeState}
+use Rattle.drt_claims.specs.Ranges.{IsNumber, IsTick, IsWork, IsInRangeEntry, IsInRangeItem, IsInRangeMiss, IsInRangePair, IsInRangePotential, IsInRangeProof, IsInRangeRelease}
+use Rattle.drt_claims.specs.Ranges.{IsInRangeCurve, IsInRangeState}
 use Rattle.drt_evidence.specs.Text.{count_line, curve_line, end_fields, entry_line, item_field, jump_fields, miss_line, pair_line, proof_line, release_line, state_entry_fields, state_line}
 use Rattle.drt_evidence.specs.LineForms.{AreBoth, AreCounted, IsForm, IsNoForm, IsInRangeWritten, IsInRangeWrittenSearch, list_form, numbers_line, pair_form}
 use Rattle.drt_evidence.specs.LineForms.{potentials_line, written_ratio_line, written_search_line}

@@ -19,17 +19,17 @@ use Rattle.drt_evidence.specs.Cuts.{AreStateParts, IsSpaced, counted_form, end_f
 use Rattle.drt_evidence.specs.Fields.{behind}
 use Rattle.drt_evidence.specs.LineForms.{AreBoth, AreCounted, IsAny, IsFieldForm, kind_line, IsInRangeWritten, IsInRangeWrittenSearch, itself, kind_of, list_form}
 use Rattle.drt_evidence.specs.LineForms.{numbers_line, pair_form, policy_line, potentials_line, written_ratio_line}
-use Rattle.drt_evidence.specs.Ranges.{IsInRange, IsInRangeEntry, IsInRangeFront, IsInRangeItem, IsInRangeMiss, IsInRangePair, IsInRangePotential, IsInRangeProof, IsInRangeRatio, IsInRangeRelease, IsInRangeTree, IsInRangeWalk, IsNumber, IsTick}
-use Rattle.drt_evidence.specs.Ranges.{IsInRangeCurve, IsInRangeEnd, IsInRangeJump, IsInRangeSearch, IsInRangeState, IsInRangeStateEntry, IsInRangeTail, IsWork}
-use Rattle.drt_evidence.specs.Reading.{IsStated, IsTextOf}
+use Rattle.drt_claims.specs.Ranges.{IsInRange, IsInRangeEntry, IsInRangeFront, IsInRangeItem, IsInRangeMiss, IsInRangePair, IsInRangePotential, IsInRangeProof, IsInRangeRatio, IsInRangeRelease, IsInRangeTree, IsInRangeWalk, IsNumber, IsTick}
+use Rattle.drt_claims.specs.Ranges.{IsInRangeCurve, IsInRangeEnd, IsInRangeJump, IsInRangeSearch, IsInRangeState, IsInRangeStateEntry, IsInRangeTail, IsWork}
+use Rattle.drt_evidence.specs.Reading.{IsTextOf}
 use Rattle.drt_evidence.specs.Some.{entry_spaced, jump_spaced}
-use Rattle.drt_evidence.specs.Statement.{Statement}
+use Rattle.drt_claims.specs.Statement.{IsStated, Statement}
 use Rattle.drt_evidence.specs.Text.{body_lines, count_line, entry_line, evidence_lines, front_block, front_lines, head_lines, item_field, miss_line, pair_line, proof_block, proof_line, ratio_block, ratio_lines, release_line, text, tree_block, tree_lines, walk_line}
 use Rattle.drt_evidence.specs.Text.{curve_line, search_block, search_lines, tail_block, tail_lines}
-use Rattle.drt_evidence.specs.declared.evidence.Evidence.{Evidence}
-use Rattle.drt_evidence.specs.declared.evidence.Evidence.TheVariants.{Undecided}
-use Rattle.drt_evidence.specs.declared.evidence.Item.{Item}
-use Rattle.drt_evidence.specs.declared.evidence.Item.TheVariants.{Pass, Split}
+use Rattle.drt_claims.specs.declared.evidence.Evidence.{Evidence}
+use Rattle.drt_claims.specs.declared.evidence.Evidence.TheVariants.{Undecided}
+use Rattle.drt_claims.specs.declared.evidence.Item.{Item}
+use Rattle.drt_claims.specs.declared.evidence.Item.TheVariants.{Pass, Split}
 use Rattle.drt_evidence.specs.declared.reading.line_forms.KindOfEvidence.{KindOfEvidence}
 use Rattle.drt_evidence.specs.declared.reading.line_forms.KindOfEvidence.TheVariants as kinds
 use Rattle.drt_evidence.specs.declared.reading.line_forms.WrittenSearch.{WrittenSearch}

@@ -7,9 +7,9 @@ use Rattle.drt_model.specs.declared.jobs.Release.{Release}
 use Rattle.drt_model.specs.declared.jobs.Miss.{Miss}
 use Rattle.drt_model.specs.Contents.{Contents}
 use Rattle.drt_model.specs.Limits.{IsTaskSet}
-use Rattle.drt_evidence.specs.Ranges.{AreInRangeReleases, IsInRange}
+use Rattle.drt_claims.specs.Ranges.{AreInRangeReleases, IsInRange}
 use Rattle.drt_evidence.specs.LineForms.{kind_of}
-use Rattle.drt_evidence.specs.declared.evidence.Evidence.{Evidence}
+use Rattle.drt_claims.specs.declared.evidence.Evidence.{Evidence}
 use Rattle.drt_evidence.specs.declared.reading.line_forms.KindOfEvidence.{KindOfEvidence}
 use Rattle.drt_evidence.specs.Text.{count_line, release_block, word_line}
 use Rattle.drt_evidence.specs.declared.reading.text.Stop.{Stop}

@@ -7,7 +7,7 @@ use Rattle.drt_states.specs.declared.claims.StateEnd.{StateEnd}
 use Rattle.drt_states.specs.declared.claims.StateEntry.{StateEntry}
 use Rattle.drt_evidence.specs.Fields.{behind}
 use Rattle.drt_evidence.specs.LineForms.{AreBoth, AreCounted, IsForm, IsNoForm, itself, spaced}
-use Rattle.drt_evidence.specs.Ranges.{IsInRangeEnd, IsInRangeStateEntry, IsWork}
+use Rattle.drt_claims.specs.Ranges.{IsInRangeEnd, IsInRangeStateEntry, IsWork}
 use Rattle.drt_evidence.specs.Text.{end_fields, jump_fields, state_entry_fields}
 
 -- What is left of a line behind a field, with the space before it.

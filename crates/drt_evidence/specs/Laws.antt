@@ -1,7 +1,7 @@
 -- What holds of texts and dossiers.
 use Rattle.std.specs.Prelude.{◌≡◌, ℕ, List}
-use Rattle.drt_evidence.specs.Reading.{IsStated, IsTextOf}
-use Rattle.drt_evidence.specs.Statement.{Statement}
+use Rattle.drt_evidence.specs.Reading.{IsTextOf}
+use Rattle.drt_claims.specs.Statement.{IsStated, Statement}
 use Rattle.drt_evidence.specs.Text.{text}
 
 -- Bytes are the text of one dossier at most.

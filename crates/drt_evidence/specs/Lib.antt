@@ -1,15 +1,5 @@
-pub mod Statement
-pub mod Ranges
 pub mod Text
 pub mod Fields
-pub mod Claims
-pub mod Fronts
-pub mod Kinds
-pub mod Trees
-pub mod Proofs
-pub mod Searches
-pub mod Rules
-pub mod Rates
 pub mod Reading
 pub mod LineForms
 pub mod Cuts

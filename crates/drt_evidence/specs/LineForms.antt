@@ -6,10 +6,10 @@ use Rattle.std.specs.Fmt.{signed_decimal}
 use Rattle.drt_file.specs.trusted.Words.{is_digit}
 use Rattle.drt_model.specs.declared.jobs.Policy.{Policy}
 use Rattle.drt_evidence.specs.Fields.{behind}
-use Rattle.drt_evidence.specs.Ranges.{IsCounted, IsNumber}
+use Rattle.drt_claims.specs.Ranges.{IsCounted, IsNumber}
 use Rattle.drt_evidence.specs.Text.{list_line, policy_word}
-use Rattle.drt_evidence.specs.declared.evidence.Evidence.{Evidence}
-use Rattle.drt_evidence.specs.declared.evidence.Evidence.TheVariants as evidence
+use Rattle.drt_claims.specs.declared.evidence.Evidence.{Evidence}
+use Rattle.drt_claims.specs.declared.evidence.Evidence.TheVariants as evidence
 use Rattle.drt_evidence.specs.declared.reading.line_forms.KindOfEvidence.{KindOfEvidence}
 use Rattle.drt_evidence.specs.declared.reading.line_forms.KindOfEvidence.TheVariants as kinds
 use Rattle.drt_evidence.specs.declared.reading.line_forms.WrittenRatio.{WrittenRatio}

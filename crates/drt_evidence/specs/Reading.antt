@@ -1,17 +1,11 @@
 -- When bytes are the text of a dossier, and where they stop being a prefix of one.
 use Rattle.std.specs.Prelude.{◌≡◌, ℕ, ◌<◌, ◌≤◌, ◌⊎◌, List, ◌++◌, Result, Ok, Err}
-use Rattle.drt_model.specs.Limits.{IsTaskSet}
 use Rattle.drt_file.specs.trusted.CanonicalPrefix.{line_count, first_lines}
-use Rattle.drt_evidence.specs.Ranges.{IsInRange}
-use Rattle.drt_evidence.specs.Statement.{Statement}
+use Rattle.drt_claims.specs.Statement.{IsStated, Statement}
 use Rattle.drt_evidence.specs.Text.{text}
-use Rattle.drt_evidence.specs.declared.evidence.Dossier.{Dossier}
+use Rattle.drt_claims.specs.declared.evidence.Dossier.{Dossier}
 use Rattle.drt_evidence.specs.declared.fault.DossierError.{DossierError}
 use Rattle.drt_evidence.specs.declared.fault.DossierError.TheVariants as errors
-
--- A dossier states it: its set keeps the limits of its version, and the numbers of its evidence are in range.
-abbrev pub IsStated : Statement → Type 0
-IsStated s = IsTaskSet s.set.version s.set.tasks × IsInRange s.evidence
 
 -- The bytes are the text of a dossier that states it.
 pub record IsTextOf (s : Statement) (bytes : List ℕ) : Type 0 where

@@ -1,14 +1,14 @@
 -- Some value in range of each kind that has a block.
 use Rattle.std.specs.Prelude.{ℕ, List, []}
 use Rattle.drt_model.specs.declared.jobs.Release.{Release}
-use Rattle.drt_evidence.specs.Ranges.{IsInRangeCurve, IsInRangeEntry, IsInRangeFront, IsInRangePair, IsInRangeProof, IsInRangeRatio, IsInRangeRelease}
-use Rattle.drt_evidence.specs.Ranges.{IsInRangeSearch, IsInRangeState, IsInRangeTail, IsInRangeTree, IsInRangeWalk}
+use Rattle.drt_claims.specs.Ranges.{IsInRangeCurve, IsInRangeEntry, IsInRangeFront, IsInRangePair, IsInRangeProof, IsInRangeRatio, IsInRangeRelease}
+use Rattle.drt_claims.specs.Ranges.{IsInRangeSearch, IsInRangeState, IsInRangeTail, IsInRangeTree, IsInRangeWalk}
 use Rattle.drt_evidence.specs.Cuts.{IsSpaced, entry_form, jump_form}
 use Rattle.drt_model.specs.declared.front.FrontEntry.{FrontEntry}
-use Rattle.drt_evidence.specs.declared.evidence.Pair.{Pair}
-use Rattle.drt_evidence.specs.declared.evidence.ProofClaim.{ProofClaim}
-use Rattle.drt_evidence.specs.declared.evidence.RatioClaim.{RatioClaim}
-use Rattle.drt_evidence.specs.declared.evidence.TreeClaim.{TreeClaim}
+use Rattle.drt_claims.specs.declared.evidence.Pair.{Pair}
+use Rattle.drt_claims.specs.declared.evidence.ProofClaim.{ProofClaim}
+use Rattle.drt_claims.specs.declared.evidence.RatioClaim.{RatioClaim}
+use Rattle.drt_claims.specs.declared.evidence.TreeClaim.{TreeClaim}
 use Rattle.drt_states.specs.declared.claims.Jump.{Jump}
 use Rattle.drt_states.specs.declared.claims.SearchClaim.{SearchClaim}
 use Rattle.drt_states.specs.declared.claims.StateClaim.{StateClaim}

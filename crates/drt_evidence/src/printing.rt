@@ -11,7 +11,7 @@ mod searches;
 mod tails;
 mod trees;
 
-use crate::evidence::{Dossier, Evidence};
+use drt_claims::{Dossier, Evidence};
 use drt_file::{push_line, push_set};
 use drt_model::{Memory, Policy, Row};
 use fronts::push_fronts;

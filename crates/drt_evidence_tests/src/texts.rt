@@ -1,6 +1,7 @@
 //! Texts of dossiers that are read back, and what stands above their evidence.
 use crate::evidence::is_claim;
-use drt_evidence::{Dossier, DossierError, Evidence, print, read};
+use drt_claims::{Dossier, Evidence};
+use drt_evidence::{DossierError, print, read};
 use drt_model::{Memory, Policy};
 use std::alloc::Global;
 use std::test::Fail;

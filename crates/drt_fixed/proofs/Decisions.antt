@@ -3,9 +3,9 @@ use Rattle.std.proofs.Common.{inr, refl}
 use Rattle.drt_model.specs.Contents.{Contents}
 use Rattle.drt_model.specs.Schedulable.{Schedulable}
 use Rattle.drt_model.specs.declared.jobs.Policy.TheVariants.{Fixed}
-use Rattle.drt_evidence.specs.Ranges.{IsInRange}
-use Rattle.drt_evidence.specs.declared.evidence.Evidence.{Evidence}
-use Rattle.drt_evidence.specs.declared.evidence.Evidence.TheVariants.{EdfYes, EdfNo, UtilisationOne, FixedYes, FixedStates, FixedNo, Undecided}
+use Rattle.drt_claims.specs.Ranges.{IsInRange}
+use Rattle.drt_claims.specs.declared.evidence.Evidence.{Evidence}
+use Rattle.drt_claims.specs.declared.evidence.Evidence.TheVariants.{EdfYes, EdfNo, UtilisationOne, FixedYes, FixedStates, FixedNo, Undecided}
 use Rattle.drt_check.specs.Judging.{IsClaimed}
 use Rattle.drt_check.specs.declared.judgement.Judgement.TheVariants as judgements
 use Rattle.drt_sp.specs.Evidence.{under_fixed}

@@ -5,17 +5,17 @@ use Rattle.drt_model.specs.declared.jobs.Miss.{Miss}
 use Rattle.drt_model.specs.declared.jobs.Policy.TheVariants.{Fixed}
 use Rattle.drt_model.specs.declared.jobs.Release.{Release}
 use Rattle.drt_model.specs.Schedulable.{Schedulable}
-use Rattle.drt_evidence.specs.Kinds.{HasStates, HasTrees}
-use Rattle.drt_evidence.specs.Ranges.{IsInRange}
-use Rattle.drt_evidence.specs.Rules.{Accepts}
-use Rattle.drt_evidence.specs.declared.evidence.Evidence.{Evidence}
-use Rattle.drt_evidence.specs.declared.evidence.Evidence.TheVariants.{FixedYes, FixedStates, FixedNo, Undecided}
-use Rattle.drt_evidence.specs.declared.evidence.ProofClaim.{ProofClaim}
-use Rattle.drt_evidence.specs.declared.evidence.TreeClaim.{TreeClaim}
+use Rattle.drt_claims.specs.Kinds.{HasStates, HasTrees}
+use Rattle.drt_claims.specs.Ranges.{IsInRange}
+use Rattle.drt_claims.specs.Rules.{Accepts}
+use Rattle.drt_claims.specs.declared.evidence.Evidence.{Evidence}
+use Rattle.drt_claims.specs.declared.evidence.Evidence.TheVariants.{FixedYes, FixedStates, FixedNo, Undecided}
+use Rattle.drt_claims.specs.declared.evidence.ProofClaim.{ProofClaim}
+use Rattle.drt_claims.specs.declared.evidence.TreeClaim.{TreeClaim}
 use Rattle.drt_sp.specs.Answers.{IsExactYes, IsUndecided}
 use Rattle.drt_sp.specs.Evidence.{under_fixed}
 use Rattle.drt_trails.specs.declared.FixedTrail.{FixedTrail}
-use Rattle.drt_evidence.specs.Statement.{Statement}
+use Rattle.drt_claims.specs.Statement.{Statement}
 use Rattle.drt_fixed.specs.declared.analysis.Analysed.{Analysed}
 use Rattle.drt_fixed.specs.declared.analysis.ByStates.{ByStates}
 use Rattle.drt_fixed.specs.declared.analysis.ByStates.TheVariants.{Decided, Nothing}

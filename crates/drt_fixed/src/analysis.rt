@@ -1,8 +1,8 @@
 //! The analysis.
 ghost use Rattle.std.specs.Prelude.{◌≡◌, ℕ, ◌≤◌, IfOk};
 ghost use Rattle.drt_model.specs.Constrained.{AreConstrained};
-ghost use Rattle.drt_evidence.specs.Claims.{graphs_of};
-ghost use Rattle.drt_evidence.specs.Ranges.{IsInRange};
+ghost use Rattle.drt_claims.specs.Claims.{graphs_of};
+ghost use Rattle.drt_claims.specs.Ranges.{IsInRange};
 ghost use Rattle.drt_sp.specs.Answers.{IsUndecided, IsVerdict};
 ghost use Rattle.drt_sp.specs.Evidence.{under_fixed};
 ghost use Rattle.drt_fixed.specs.Answers.{IsAnalysed, IsByStates};
@@ -10,7 +10,7 @@ ghost use Rattle.drt_fixed.specs.Answers.{IsAnalysed, IsByStates};
 use crate::ranges::is_in_range;
 use crate::searching::find_by_states;
 use drt_check::{Judgement, check};
-use drt_evidence::{Dossier, Evidence};
+use drt_claims::{Dossier, Evidence};
 use drt_graph::Graphs;
 use drt_model::{Memory, Policy, TaskSet};
 use drt_pool::Gate;

@@ -1,8 +1,8 @@
 //! Whether the numbers of evidence are in range.
 ghost use Rattle.std.specs.Prelude.{◌↔◌, All, IsTrue};
-ghost use Rattle.drt_evidence.specs.Ranges.{IsInRange, IsInRangeCurve, IsInRangeEnd, IsInRangeJump, IsInRangeMiss, IsInRangeRelease, IsInRangeSearch, IsInRangeState, IsInRangeStateEntry, IsInRangeTail, IsNumber};
+ghost use Rattle.drt_claims.specs.Ranges.{IsInRange, IsInRangeCurve, IsInRangeEnd, IsInRangeJump, IsInRangeMiss, IsInRangeRelease, IsInRangeSearch, IsInRangeState, IsInRangeStateEntry, IsInRangeTail, IsNumber};
 
-use drt_evidence::Evidence;
+use drt_claims::Evidence;
 use drt_model::{Miss, Release, Row};
 use drt_states::{Jump, SearchClaim, StateClaim, StateEnd, StateEntry, TailClaim};
 

@@ -2,7 +2,7 @@
 ghost use Rattle.std.specs.Prelude.{◌<◌, IfOk, length};
 ghost use Rattle.drt_fixed.specs.Answers.{IsOfStates};
 
-use drt_evidence::Evidence;
+use drt_claims::Evidence;
 use drt_graph::{Graph, Graphs};
 use drt_model::{Memory, Miss, Release, Row};
 use std::alloc::Global;

@@ -1,6 +1,6 @@
 //! The searches of all vertices.
 ghost use Rattle.std.specs.Prelude.{◌≡◌, ◌<◌, ◌≤◌, ◌↔◌, All, IfOk, IfSome, IsTrue, length};
-ghost use Rattle.drt_evidence.specs.Claims.{graphs_of};
+ghost use Rattle.drt_claims.specs.Claims.{graphs_of};
 ghost use Rattle.drt_check_states.specs.Curves.{HasRisingCurves};
 ghost use Rattle.drt_check_states.specs.Places.{AreTasks};
 ghost use Rattle.drt_fixed.specs.Answers.{IsOfStates};
@@ -13,7 +13,7 @@ use crate::vertices::{Given, list_vertices};
 use drt_ahead::Crew;
 use drt_check_states::find_crests;
 use drt_check_trees::priority_order;
-use drt_evidence::Evidence;
+use drt_claims::Evidence;
 use drt_graph::Graphs;
 use drt_model::{Memory, Row, TaskSet};
 use drt_pool::Gate;

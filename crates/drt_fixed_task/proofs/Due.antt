@@ -11,7 +11,7 @@ use Rattle.drt_busy.specs.Choice.{AreWalks, IsWalk, due_of, graph_at, no_task, t
 use Rattle.drt_busy.specs.Response.{cut}
 use Rattle.drt_busy.specs.WalkReleases.{with_job}
 use Rattle.drt_busy.proofs.Cuts.{cut_walk}
-use Rattle.drt_evidence.specs.Claims.{graphs_of}
+use Rattle.drt_claims.specs.Claims.{graphs_of}
 use Rattle.drt_releases.proofs.Walks.{graph_same}
 use Rattle.drt_releases.specs.Walks.{AreDueWalks}
 use Rattle.drt_fixed_task.specs.Higher.{job_walk, placed_walk}

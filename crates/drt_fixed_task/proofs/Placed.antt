@@ -8,7 +8,7 @@ use Rattle.drt_model.specs.declared.tasks.Task.{Task}
 use Rattle.drt_model.specs.Digraph.{Digraph}
 use Rattle.drt_graph.specs.Graphs.{graph_of}
 use Rattle.drt_busy.specs.Choice.{AreWalks, IsWalk, graph_at, requests, task_at}
-use Rattle.drt_evidence.specs.Claims.{graphs_of}
+use Rattle.drt_claims.specs.Claims.{graphs_of}
 use Rattle.drt_check_states.specs.Places.{graphs_at}
 use Rattle.drt_states_laws.specs.Laws.{asked_together}
 use Rattle.drt_releases.proofs.Walks.{graph_same}

@@ -1,7 +1,7 @@
 //! The answer to one task.
 ghost use Rattle.std.specs.Prelude.{◌≡◌, ◌<◌, ◌≤◌, IfOk, length};
 ghost use Rattle.drt_model.specs.Constrained.{AreConstrained};
-ghost use Rattle.drt_evidence.specs.Claims.{graphs_of};
+ghost use Rattle.drt_claims.specs.Claims.{graphs_of};
 ghost use Rattle.drt_sp_task.specs.Task.{IsTaskAnswer};
 
 use crate::by_states::{Effort, decide_by_states};

@@ -1,7 +1,7 @@
 //! The tasks of higher priority.
 ghost use Rattle.std.specs.Prelude.{◌≡◌, ◌<◌, IfOk, length, nat_lt};
 ghost use Rattle.drt_busy.specs.Choice.{task_at};
-ghost use Rattle.drt_evidence.specs.Claims.{graphs_of};
+ghost use Rattle.drt_claims.specs.Claims.{graphs_of};
 ghost use Rattle.drt_fixed_task.specs.Higher.{higher_tasks};
 
 use drt_graph::Graphs;

@@ -1,10 +1,11 @@
 //! Small sets answered by tails and states, and which of trees and states answers a set.
 ghost use Rattle.std.specs.Prelude.{◌≡◌, ◌≤◌, IfOk};
 ghost use Rattle.drt_model.specs.Constrained.{AreConstrained};
-ghost use Rattle.drt_evidence.specs.Claims.{graphs_of};
+ghost use Rattle.drt_claims.specs.Claims.{graphs_of};
 
 use drt_drawn::{Draws, drawn_set};
-use drt_evidence::{Dossier, Evidence, print};
+use drt_claims::{Dossier, Evidence};
+use drt_evidence::print;
 use drt_fixed::{Analysed, ByStates, analyse_fixed, decide_by_states};
 use drt_fixtures::{Shape, make_set};
 use drt_graph::{Graphs, check};

@@ -13,7 +13,7 @@ use Rattle.drt_table.specs.Machine.{Setting, IsRun, replay, is_finished}
 use Rattle.drt_table.specs.View.{View, IsTable, setting_of, state_of}
 use Rattle.drt_table.specs.declared.step.Entry.{Entry}
 use Rattle.drt_table.specs.Cover.{IsFront, IsNonDominated as IsAlone}
-use Rattle.drt_evidence.specs.Fronts.{Covers, IsWithin, IsNextEntry}
+use Rattle.drt_claims.specs.Fronts.{Covers, IsWithin, IsNextEntry}
 use Rattle.drt_fronts.specs.Falling.{IsLower}
 use Rattle.drt_fronts.specs.LabelFronts.{IsLabelFront}
 use Rattle.drt_wave.specs.Fronts.{IsWalkEntry}

@@ -17,7 +17,7 @@ use Rattle.drt_table.specs.Machine.{Setting, in_range, extended}
 use Rattle.drt_table.specs.Walk.{WalkTo, IsWalkLabel}
 use Rattle.drt_table.specs.Cover.{IsNonDominated as IsAlone}
 use Rattle.drt_table.proofs.Walks.{walk_vertex, walk_range}
-use Rattle.drt_evidence.specs.Fronts.{Covers}
+use Rattle.drt_claims.specs.Fronts.{Covers}
 use Rattle.drt_wave.specs.Fronts.{IsWalkEntry, IsNonDominated}
 
 -- Two labels with the same parts are equal.

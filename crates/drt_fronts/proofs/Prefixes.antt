@@ -9,7 +9,7 @@ use Rattle.drt_graph.proofs.Edges.{edge_of_sep, source_of, target_of}
 use Rattle.drt_graph.proofs.Paths.{path_both, last_both, work_both, span_both, work_cons, work_none, span_cons, span_none}
 use Rattle.drt_model.specs.declared.front.FrontEntry.{FrontEntry}
 use Rattle.drt_model.specs.FrontEntry.{due}
-use Rattle.drt_evidence.specs.Fronts.{IsWithin}
+use Rattle.drt_claims.specs.Fronts.{IsWithin}
 use Rattle.drt_fronts.specs.DemandWalk.{IsPrefix, IsWalkTo}
 use Rattle.drt_fronts.specs.LabelFronts.{IsLabelFront}
 use Rattle.drt_wave.specs.Fronts.{IsWalkEntry, IsNonDominated}

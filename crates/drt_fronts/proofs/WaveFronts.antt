@@ -5,7 +5,7 @@ use Rattle.drt_model.specs.Digraph.{Digraph, IsSound, vertex_count}
 use Rattle.drt_model.specs.Legal.{AllNeighbours}
 use Rattle.drt_model.specs.declared.front.FrontEntry.{FrontEntry}
 use Rattle.drt_graph.proofs.Paths.{path_within}
-use Rattle.drt_evidence.specs.Fronts.{IsWithin, IsNextEntry}
+use Rattle.drt_claims.specs.Fronts.{IsWithin, IsNextEntry}
 use Rattle.drt_wave.specs.Fronts.{CoversAll}
 use Rattle.drt_wave.specs.Fronts.{IsWalkEntry, IsExactFront}
 use Rattle.drt_fronts.specs.LabelFronts.{IsLabelFront}

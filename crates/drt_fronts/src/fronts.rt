@@ -5,7 +5,7 @@ ghost use Rattle.drt_demand.specs.Demand.{demand_algebra};
 ghost use Rattle.drt_table.specs.Cover.{IsFront};
 ghost use Rattle.drt_table.specs.Machine.{is_finished};
 ghost use Rattle.drt_table.specs.View.{setting_of, state_of};
-ghost use Rattle.drt_evidence.specs.Ranges.{IsCounted};
+ghost use Rattle.drt_claims.specs.Ranges.{IsCounted};
 ghost use Rattle.drt_fronts.specs.Falling.{AreFalling, IsFrom};
 ghost use Rattle.drt_fronts.specs.LabelFronts.{IsLabelFront};
 

@@ -1,7 +1,7 @@
 //! Tasks whose walks are merged.
 ghost use Rattle.std.specs.Prelude.{◌≤◌, IfOk, IfSome};
 ghost use Rattle.drt_model.specs.Digraph.{IsConstrainedGraph};
-ghost use Rattle.drt_evidence.specs.Ranges.{IsCounted};
+ghost use Rattle.drt_claims.specs.Ranges.{IsCounted};
 ghost use Rattle.drt_fronts.specs.LabelFronts.{IsLabelFront};
 
 use drt_graph::Graph;

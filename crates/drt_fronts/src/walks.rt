@@ -2,7 +2,7 @@
 ghost use Rattle.std.specs.Prelude.{◌≡◌, ℕ, ◌<◌, ◌↔◌, All, Contains, IfOk, IsTrue};
 ghost use Rattle.drt_model.specs.Digraph.{IsConstrainedGraph, vertex_count};
 ghost use Rattle.drt_model.specs.Legal.{AllNeighbours};
-ghost use Rattle.drt_evidence.specs.Fronts.{IsNextEntry};
+ghost use Rattle.drt_claims.specs.Fronts.{IsNextEntry};
 ghost use Rattle.drt_fronts.specs.DemandWalk.{IsGreatestDue, IsOneBefore, IsPrefix, IsPrefixOf, IsWalkTo, is_below};
 ghost use Rattle.drt_fronts.specs.LabelFronts.{IsLabelFront, IsDemandWalk};
 

@@ -2,7 +2,7 @@
 ghost use Rattle.std.specs.Prelude.{◌≡◌, ◌+◌, ◌*◌, ◌≤◌, ◌↔◌, IfOk, IsTrue};
 ghost use Rattle.drt_model.specs.Degrees.{most_out};
 ghost use Rattle.drt_model.specs.Digraph.{IsConstrainedGraph, vertex_count};
-ghost use Rattle.drt_evidence.specs.Ranges.{IsCounted};
+ghost use Rattle.drt_claims.specs.Ranges.{IsCounted};
 ghost use Rattle.drt_fronts.specs.LabelFronts.{IsLabelFront};
 ghost use Rattle.drt_fronts.specs.Needs.{HasWaveTable};
 

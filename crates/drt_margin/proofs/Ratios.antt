@@ -14,8 +14,8 @@ use Rattle.drt_graph.proofs.Paths.{path_cycle}
 use Rattle.drt_graph.proofs.Scales.{scale_cons, scale_none}
 use Rattle.drt_ratio.proofs.Loops.{path_below}
 use Rattle.drt_ratio.proofs.Optima.{cycle_sums}
-use Rattle.drt_evidence.specs.Claims.{graphs_of}
-use Rattle.drt_evidence.specs.Rates.{Rates}
+use Rattle.drt_claims.specs.Claims.{graphs_of}
+use Rattle.drt_claims.specs.Rates.{Rates}
 use Rattle.drt_margin.proofs.Candidates.{HasBest, IsGrown, IsNoGreater, best_grown}
 use Rattle.drt_margin.proofs.Closed.{IsClosedPath, all_closed}
 

@@ -2,7 +2,7 @@
 use Rattle.std.proofs.Common.{◌≡◌, ℕ, ◌+◌, ◌-◌, ◌<◌, ◌≤◌, Some, None, ap, subst, arith}
 use Rattle.drt_model.specs.Contents.{Contents}
 use Rattle.drt_model.specs.declared.jobs.Policy.{Policy}
-use Rattle.drt_evidence.specs.declared.evidence.Evidence.{Evidence}
+use Rattle.drt_claims.specs.declared.evidence.Evidence.{Evidence}
 use Rattle.drt_margin.specs.Answers.{IsFound, IsMarginAnswer, IsNext, IsOtherFor, IsReached, IsYesFor}
 use Rattle.drt_margin.specs.Margin.{IsWithin, between, deadline_at, last, lowers, middle, opens, plus_set, raises, wcet_at}
 use Rattle.drt_margin.specs.Steps.{IsAsked, IsLast, IsLeast, IsRoom, answer_of}

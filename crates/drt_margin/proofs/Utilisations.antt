@@ -8,8 +8,8 @@ use Rattle.drt_model.specs.Utilisation.{AreRatios, EachDivides, Fraction, HasRat
 use Rattle.drt_model.specs.Walk.{IsCycle, cycle_span, work}
 use Rattle.drt_model.specs.declared.tasks.Task.{Task}
 use Rattle.drt_busy.specs.Choice.{graph_at}
-use Rattle.drt_evidence.specs.Claims.{graphs_of}
-use Rattle.drt_evidence.specs.Rates.{Rates}
+use Rattle.drt_claims.specs.Claims.{graphs_of}
+use Rattle.drt_claims.specs.Rates.{Rates}
 use Rattle.drt_ratio.proofs.Optima.{cycle_sums}
 use Rattle.drt_margin.proofs.Milder.{AreMilder, IsMilder, path_same, span_same, work_less}
 

@@ -12,8 +12,8 @@ use Rattle.drt_model.specs.declared.jobs.Policy.{Policy}
 use Rattle.drt_model.specs.declared.jobs.Policy.TheVariants.{Edf}
 use Rattle.drt_model.specs.declared.tasks.Task.{Task}
 use Rattle.drt_graph.proofs.Soundness.{all_sound}
-use Rattle.drt_evidence.specs.Claims.{graphs_of}
-use Rattle.drt_evidence.specs.Rates.{Rates}
+use Rattle.drt_claims.specs.Claims.{graphs_of}
+use Rattle.drt_claims.specs.Rates.{Rates}
 use Rattle.drt_margin.specs.Margin.{IsMargin, IsVertexOf, IsWithin, SmallerIsWithin, deadline_at, plus, wcet_at}
 use Rattle.drt_margin.specs.Past.{ArePast}
 use Rattle.drt_margin.proofs.Deciding.{done_in_time, milder_schedulable}

@@ -12,7 +12,7 @@ use Rattle.drt_model.specs.declared.jobs.Policy.TheVariants.{Edf}
 use Rattle.drt_model.specs.declared.tasks.Task.{Task}
 use Rattle.drt_model.specs.declared.tasks.Vertex.{Vertex}
 use Rattle.drt_busy.specs.Choice.{graph_at, task_at}
-use Rattle.drt_evidence.specs.Rates.{Rates}
+use Rattle.drt_claims.specs.Rates.{Rates}
 
 -- The vertex with this execution time in place of its own.
 abbrev pub timed : Vertex → ℕ → Vertex

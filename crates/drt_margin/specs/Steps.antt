@@ -9,7 +9,7 @@ use Rattle.drt_edf.specs.Answers.{IsBeyond}
 use Rattle.drt_margin.specs.Answers.{IsMarginAnswer, IsNext, IsOtherFor, IsSpentUnder, IsYesFor}
 use Rattle.drt_margin.specs.Margin.{Halves, IsVertexOf, IsWithin, plus_set, wcet_at}
 use Rattle.drt_margin.specs.Past.{ArePast}
-use Rattle.drt_evidence.specs.declared.evidence.Evidence.{Evidence}
+use Rattle.drt_claims.specs.declared.evidence.Evidence.{Evidence}
 use Rattle.drt_margin.specs.declared.ahead.Ahead.{Ahead}
 use Rattle.drt_margin.specs.declared.answer.MarginAnswer.{MarginAnswer}
 use Rattle.drt_margin.specs.declared.answer.MarginAnswer.TheVariants.{Found}

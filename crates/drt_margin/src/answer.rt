@@ -1,5 +1,5 @@
 //! The answers.
-use drt_evidence::Evidence;
+use drt_claims::Evidence;
 use drt_horizon::Beyond;
 use drt_trails::{EdfTrail, FixedTrail};
 

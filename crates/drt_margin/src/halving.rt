@@ -9,7 +9,7 @@ use crate::answer::{MarginAnswer, Next};
 use crate::asking::{Finding, ask};
 use crate::question::Question;
 use crate::times::{deadline_of, wcet_of};
-use drt_evidence::Evidence;
+use drt_claims::Evidence;
 use drt_model::{Memory, TaskSet};
 use drt_pool::Gate;
 use std::alloc::Global;

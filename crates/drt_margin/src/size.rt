@@ -1,5 +1,5 @@
 //! How large an analysis was.
-use drt_evidence::{Evidence, TreeClaim};
+use drt_claims::{Evidence, TreeClaim};
 
 // The least number of entries of evidence that is large.
 const LARGE: usize = 512;

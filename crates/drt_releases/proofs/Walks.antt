@@ -12,8 +12,8 @@ use Rattle.drt_graph.proofs.Edges.{target_of}
 use Rattle.drt_graph.proofs.Paths.{span_cons}
 use Rattle.drt_busy.specs.Choice.{AreDueBy, AreWalks, IsWalk, due_of, graph_at, no_task}
 use Rattle.drt_busy.specs.WalkReleases.{all_releases, release_at, releases_from, releases_of}
-use Rattle.drt_evidence.specs.Claims.{graphs_of}
-use Rattle.drt_evidence.specs.Ranges.{IsInRangeRelease}
+use Rattle.drt_claims.specs.Claims.{graphs_of}
+use Rattle.drt_claims.specs.Ranges.{IsInRangeRelease}
 use Rattle.drt_releases.specs.Walks.{AreDueWalks}
 
 -- The releases after the first of a walk.

@@ -4,7 +4,7 @@ ghost use Rattle.drt_model.specs.declared.tasks.Task.{Task};
 ghost use Rattle.drt_model.specs.Digraph.{vertex_count};
 ghost use Rattle.drt_busy.specs.Choice.{IsWalk, due_of};
 ghost use Rattle.drt_busy.specs.WalkReleases.{all_releases, release_at, releases_of};
-ghost use Rattle.drt_evidence.specs.Claims.{graphs_of};
+ghost use Rattle.drt_claims.specs.Claims.{graphs_of};
 ghost use Rattle.drt_releases.specs.Walks.{AreDueWalks, walk_at};
 
 use drt_graph::{Graph, Graphs};

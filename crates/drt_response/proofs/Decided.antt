@@ -5,11 +5,11 @@ use Rattle.drt_model.specs.Schedulable.{Schedulable}
 use Rattle.drt_model.specs.declared.jobs.Miss.{Miss}
 use Rattle.drt_model.specs.declared.jobs.Policy.TheVariants.{Fixed}
 use Rattle.drt_model.specs.declared.jobs.Release.{Release}
-use Rattle.drt_evidence.specs.Ranges.{IsInRange}
-use Rattle.drt_evidence.specs.Statement.{Statement}
-use Rattle.drt_evidence.specs.declared.evidence.Evidence.{Evidence}
-use Rattle.drt_evidence.specs.declared.evidence.Evidence.TheVariants.{FixedNo, FixedStates}
-use Rattle.drt_evidence.specs.declared.rule.Rule.TheVariants.{BoundingTails, RisingTails}
+use Rattle.drt_claims.specs.Ranges.{IsInRange}
+use Rattle.drt_claims.specs.Statement.{Statement}
+use Rattle.drt_claims.specs.declared.evidence.Evidence.{Evidence}
+use Rattle.drt_claims.specs.declared.evidence.Evidence.TheVariants.{FixedNo, FixedStates}
+use Rattle.drt_claims.specs.declared.rule.Rule.TheVariants.{BoundingTails, RisingTails}
 use Rattle.drt_states.specs.declared.claims.SearchClaim.{SearchClaim}
 use Rattle.drt_states.specs.declared.claims.TailClaim.{TailClaim}
 use Rattle.drt_fixed.specs.Answers.{IsDecision, IsSaid}

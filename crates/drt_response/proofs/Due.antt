@@ -9,7 +9,7 @@ use Rattle.drt_busy.specs.Choice.{AreWalks, IsWalk, due_of, graph_at, task_at}
 use Rattle.drt_busy.specs.Response.{cut}
 use Rattle.drt_busy.specs.WalkReleases.{with_job}
 use Rattle.drt_choices.specs.Choices as choices
-use Rattle.drt_evidence.specs.Claims.{graphs_of}
+use Rattle.drt_claims.specs.Claims.{graphs_of}
 use Rattle.drt_releases.proofs.Walks.{graph_same}
 use Rattle.drt_releases.specs.Walks.{AreDueWalks}
 use Rattle.drt_sp.proofs.Chosen.{cut_due, cut_walk_is, one_due}

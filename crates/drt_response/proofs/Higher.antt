@@ -11,8 +11,8 @@ use Rattle.drt_graph.proofs.Soundness.{all_sound}
 use Rattle.drt_busy.specs.Choice.{graph_at, requests, task_at}
 use Rattle.drt_states.specs.Tails.{Place, graphs_of}
 use Rattle.drt_states_laws.specs.Laws.{AreWalksOf, asked_together}
-use Rattle.drt_evidence.specs.Searches.{higher_places, place_of}
-use Rattle.drt_evidence.specs.Trees.{higher_count}
+use Rattle.drt_claims.specs.Searches.{higher_places, place_of}
+use Rattle.drt_claims.specs.Trees.{higher_count}
 use Rattle.drt_check.proofs.SoundOrder.{AreWalked, Walked, asks, higher_below, higher_first, ordered, ordered_all, ordered_tasks, put}
 use Rattle.drt_check.proofs.SoundOrder.{requests_first, tasks_of, total_first, walked}
 use Rattle.drt_check.proofs.SoundTimes.{lower_near}

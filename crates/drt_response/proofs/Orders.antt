@@ -10,9 +10,9 @@ use Rattle.drt_model.specs.Digraph.{Digraph, digraph_of}
 use Rattle.drt_model.specs.Limits.{IsTaskSet}
 use Rattle.drt_graph.specs.Graphs.{graph_of, no_graph}
 use Rattle.drt_busy.specs.Choice.{task_at}
-use Rattle.drt_evidence.specs.Claims.{graphs_of}
-use Rattle.drt_evidence.specs.Searches.{higher_places, place_of, places_of}
-use Rattle.drt_evidence.specs.Trees.{by_priority, higher_count}
+use Rattle.drt_claims.specs.Claims.{graphs_of}
+use Rattle.drt_claims.specs.Searches.{higher_places, place_of, places_of}
+use Rattle.drt_claims.specs.Trees.{by_priority, higher_count}
 use Rattle.drt_states.specs.declared.claims.TailClaim.{TailClaim}
 use Rattle.drt_states.specs.Tails.{IsTail, graphs_of as place_graphs}
 use Rattle.drt_check.proofs.SoundOrder.{higher_below}

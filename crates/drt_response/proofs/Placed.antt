@@ -7,8 +7,8 @@ use Rattle.drt_model.specs.Limits.{IsTaskSet}
 use Rattle.drt_busy.specs.Choice.{AreWalks, IsWalk, requests, task_at}
 use Rattle.drt_states.specs.Tails.{graphs_of}
 use Rattle.drt_states_laws.specs.Laws.{asked_together}
-use Rattle.drt_evidence.specs.Searches.{higher_places}
-use Rattle.drt_evidence.specs.Trees.{by_priority, higher_count}
+use Rattle.drt_claims.specs.Searches.{higher_places}
+use Rattle.drt_claims.specs.Trees.{by_priority, higher_count}
 use Rattle.drt_releases.specs.Walks.{walk_at}
 use Rattle.drt_check.proofs.SoundOrder.{AreWalked, Walked, ordered, ordered_tasks, tasks_of, walked}
 use Rattle.drt_response.specs.Placed.{placed_walk}

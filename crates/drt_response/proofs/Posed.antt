@@ -13,7 +13,7 @@ use Rattle.drt_refine.specs.Below.{AreBelow}
 use Rattle.drt_choices.specs.Choices.{VertexPasses, chosen as chosen_of}
 use Rattle.drt_choices.proofs.Chosen.{chosen_walks}
 use Rattle.drt_choices.specs.Laws.{IsGreatestTime, IsPosed, LeavesRespond, WalksPass, leaf_releases}
-use Rattle.drt_evidence.specs.Trees.{greatest_deadline}
+use Rattle.drt_claims.specs.Trees.{greatest_deadline}
 use Rattle.drt_sp.specs.Answers.{IsReached, IsTupleFor}
 use Rattle.drt_sp.specs.Grown.{AreProvedTrees}
 use Rattle.drt_sp.specs.declared.grown.ProvedTrees.{ProvedTrees}

@@ -1,9 +1,9 @@
 -- A no, by trees or by states.
 use Rattle.std.proofs.Common.{None, refl}
 use Rattle.drt_model.specs.Contents.{Contents}
-use Rattle.drt_evidence.specs.Ranges.{IsInRange}
-use Rattle.drt_evidence.specs.declared.evidence.Evidence.{Evidence}
-use Rattle.drt_evidence.specs.declared.evidence.Evidence.TheVariants.{EdfYes, EdfNo, UtilisationOne, FixedYes, FixedStates, FixedNo, Undecided}
+use Rattle.drt_claims.specs.Ranges.{IsInRange}
+use Rattle.drt_claims.specs.declared.evidence.Evidence.{Evidence}
+use Rattle.drt_claims.specs.declared.evidence.Evidence.TheVariants.{EdfYes, EdfNo, UtilisationOne, FixedYes, FixedStates, FixedNo, Undecided}
 use Rattle.drt_fixed.specs.Answers.{IsSaid}
 use Rattle.drt_sp.specs.Answers.{IsRefusal}
 use Rattle.drt_sp.specs.Evidence.{under_fixed}

@@ -19,8 +19,8 @@ use Rattle.drt_states.specs.States.{AreStates, HaveDominatedChildren}
 use Rattle.drt_states.specs.Tails.{BoundsWalks, EachTail, IsTail, graphs_of}
 use Rattle.drt_states_laws.specs.Laws.{StatesPass}
 use Rattle.drt_choices.specs.Laws.{AreReaching}
-use Rattle.drt_evidence.specs.Searches.{higher_places, higher_tails, places_of}
-use Rattle.drt_evidence.specs.Trees.{higher_count}
+use Rattle.drt_claims.specs.Searches.{higher_places, higher_tails, places_of}
+use Rattle.drt_claims.specs.Trees.{higher_count}
 use Rattle.drt_check.proofs.SoundOrder.{Walked, ordered, ordered_walked, walked}
 use Rattle.drt_fixed.proofs.Prefixes.{zip_take}
 use Rattle.drt_sp_states.specs.Answers.{AreWorst}

@@ -12,9 +12,9 @@ use Rattle.drt_busy.specs.Choice.{AreWalks, graph_at}
 use Rattle.drt_busy.specs.Response.{IsGreatestResponse, reaching as reaching_walks}
 use Rattle.drt_tree.specs.Tree.{Plain}
 use Rattle.drt_choices.specs.Laws.{AreReaching}
-use Rattle.drt_evidence.specs.Ranges.{IsInRange}
-use Rattle.drt_evidence.specs.Statement.{Statement}
-use Rattle.drt_evidence.specs.declared.evidence.Evidence.TheVariants.{FixedNo}
+use Rattle.drt_claims.specs.Ranges.{IsInRange}
+use Rattle.drt_claims.specs.Statement.{Statement}
+use Rattle.drt_claims.specs.declared.evidence.Evidence.TheVariants.{FixedNo}
 use Rattle.drt_fixed.specs.Answers.{IsNo}
 use Rattle.drt_sp.specs.Answers.{IsReached, IsRefusal, IsUndecided}
 use Rattle.drt_sp.specs.Evidence.{under_fixed}

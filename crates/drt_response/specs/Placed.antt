@@ -4,7 +4,7 @@ use Rattle.drt_model.specs.declared.tasks.Task.{Task}
 use Rattle.drt_busy.specs.Choice.{graph_at, task_at}
 use Rattle.drt_busy.specs.Response.{cut}
 use Rattle.drt_busy.specs.WalkReleases.{with_job}
-use Rattle.drt_evidence.specs.Trees.{higher_count}
+use Rattle.drt_claims.specs.Trees.{higher_count}
 use Rattle.drt_releases.specs.Walks.{walk_at}
 
 -- The walk of task k: it stands at the place that is the number of the tasks of higher priority. No walk past the end of the list.

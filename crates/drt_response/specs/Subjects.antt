@@ -11,8 +11,8 @@ use Rattle.drt_states.specs.Tails.{graphs_of as place_graphs}
 use Rattle.drt_check_states.specs.Crests.{AreCrests}
 use Rattle.drt_check_states.specs.Places.{graphs_at}
 use Rattle.drt_check_trees.specs.Order.{IsPriorityOrder}
-use Rattle.drt_evidence.specs.Claims.{graphs_of}
-use Rattle.drt_evidence.specs.Searches.{higher_places, higher_tails}
+use Rattle.drt_claims.specs.Claims.{graphs_of}
+use Rattle.drt_claims.specs.Searches.{higher_places, higher_tails}
 use Rattle.drt_sp_states.specs.Answers.{AreWorst}
 use Rattle.drt_sp_states.specs.declared.places.Subject.{Subject}
 use Rattle.drt_responses.specs.declared.response.Response.{Response}

@@ -1,7 +1,7 @@
 -- Tails of the tasks of a set.
 use Rattle.std.specs.Prelude.{List}
 use Rattle.drt_model.specs.declared.tasks.Task.{Task}
-use Rattle.drt_evidence.specs.Searches.{places_of}
+use Rattle.drt_claims.specs.Searches.{places_of}
 use Rattle.drt_states.specs.Tails.{BoundsWalks, EachTail, IsTail}
 use Rattle.drt_states.specs.declared.claims.TailClaim.{TailClaim}
 

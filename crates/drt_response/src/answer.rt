@@ -1,6 +1,6 @@
 //! The answers.
 
-use drt_evidence::Dossier;
+use drt_claims::Dossier;
 use drt_model::{Row, TaskSet};
 use drt_responses::Response;
 use drt_trails::FixedTrail;

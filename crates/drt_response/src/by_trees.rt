@@ -1,13 +1,13 @@
 //! The greatest response times of all vertices, by trees alone.
 ghost use Rattle.std.specs.Prelude.{◌≡◌, ◌+◌, ◌≤◌, ◌<◌, length, IfOk, MatchOption};
 ghost use Rattle.drt_model.specs.Constrained.{AreConstrained};
-ghost use Rattle.drt_evidence.specs.Claims.{graphs_of};
+ghost use Rattle.drt_claims.specs.Claims.{graphs_of};
 ghost use Rattle.drt_sp.specs.Grown.{AreProvedTrees};
 ghost use Rattle.drt_response.specs.Answers.{AreResponsesTo, IsTreesResponse, IsUndecidedResponse};
 
 use crate::answer::ResponseTrail;
 use crate::vertex::{VertexResponse, respond_vertex};
-use drt_evidence::Evidence;
+use drt_claims::Evidence;
 use drt_graph::Graphs;
 use drt_model::{Memory, Row, TaskSet};
 use drt_pool::Gate;

@@ -4,7 +4,7 @@ ghost use Rattle.drt_model.specs.Digraph.{vertex_count};
 ghost use Rattle.drt_busy.specs.Choice.{AreWalks, IsWalk, graph_at};
 ghost use Rattle.drt_busy.specs.Response.{reaching};
 ghost use Rattle.drt_choices.specs.Choices.{cut};
-ghost use Rattle.drt_evidence.specs.Claims.{graphs_of};
+ghost use Rattle.drt_claims.specs.Claims.{graphs_of};
 ghost use Rattle.drt_releases.specs.Walks.{walk_at};
 ghost use Rattle.drt_response.specs.Placed.{job_walk, placed_walk};
 

@@ -1,15 +1,15 @@
 //! The response times of a set.
 ghost use Rattle.std.specs.Prelude.{◌≡◌, ◌≤◌, IfOk};
 ghost use Rattle.drt_model.specs.Constrained.{AreConstrained};
-ghost use Rattle.drt_evidence.specs.Claims.{graphs_of};
-ghost use Rattle.drt_evidence.specs.Ranges.{IsInRange};
+ghost use Rattle.drt_claims.specs.Claims.{graphs_of};
+ghost use Rattle.drt_claims.specs.Ranges.{IsInRange};
 ghost use Rattle.drt_sp.specs.Answers.{IsRefusal};
 ghost use Rattle.drt_response.specs.Answers.{IsRefused, IsResponseAnswer};
 
 use crate::answer::ResponseAnswer;
 use crate::by_states::{StatesResponse, respond_by_states};
 use crate::by_trees::{TreesResponse, respond_by_trees};
-use drt_evidence::{Dossier, Evidence};
+use drt_claims::{Dossier, Evidence};
 use drt_fixed::ALLOWANCE;
 use drt_graph::Graphs;
 use drt_model::{Memory, Policy, TaskSet};

@@ -2,7 +2,7 @@
 ghost use Rattle.std.specs.Prelude.{◌≡◌, ◌<◌, length};
 ghost use Rattle.drt_model.specs.Digraph.{vertex_count};
 ghost use Rattle.drt_busy.specs.Choice.{graph_at};
-ghost use Rattle.drt_evidence.specs.Trees.{higher_count};
+ghost use Rattle.drt_claims.specs.Trees.{higher_count};
 ghost use Rattle.drt_sp_states.specs.Subjects.{IsSubject};
 ghost use Rattle.drt_response.specs.Subjects.{IsGiven, IsSubjectOf};
 

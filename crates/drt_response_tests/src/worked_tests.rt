@@ -2,7 +2,7 @@
 
 use crate::answers::{FirstIsLate, Ticks, answer_of, is_answer};
 use crate::searches::are_rows;
-use drt_evidence::Evidence;
+use drt_claims::Evidence;
 use drt_file::read;
 use drt_fixtures::texts::{
     ENGINE, HALVES, JUST_DONE, LONGEST, LOWER_FIRST, ONCE_ABOVE, ONCE_ABOVE_LATE, SPLIT, TIGHT,

@@ -6,7 +6,7 @@ use Rattle.drt_file.specs.trusted.Cutting.{HasNoFeed}
 use Rattle.drt_file.proofs.Again.{IsField}
 use Rattle.drt_file.proofs.Digits.{decimal_field}
 use Rattle.drt_evidence.specs.LineForms.{AreBoth, IsAny, IsLineOf, IsNoLine, pair_form}
-use Rattle.drt_evidence.specs.Ranges.{IsNumber}
+use Rattle.drt_claims.specs.Ranges.{IsNumber}
 use Rattle.drt_evidence.proofs.Forms.{IsShape}
 use Rattle.drt_evidence.proofs.Leaves.{IsLine, plain_word, word_kind}
 use Rattle.drt_evidence.proofs.LineFeeds.{no_feed}

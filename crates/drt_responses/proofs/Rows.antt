@@ -9,7 +9,7 @@ use Rattle.drt_model.specs.declared.jobs.Release.{Release}
 use Rattle.drt_file.specs.trusted.Canonical.{written, written_line}
 use Rattle.drt_evidence.specs.Blocks.{ReadsBlock}
 use Rattle.drt_evidence.specs.LineForms.{AreCounted, IsAny}
-use Rattle.drt_evidence.specs.Ranges.{IsInRangeRelease}
+use Rattle.drt_claims.specs.Ranges.{IsInRangeRelease}
 use Rattle.drt_evidence.specs.Text.{count_line, release_line, word_line}
 use Rattle.drt_evidence.proofs.Blocks.{At, done, next, start, within}
 use Rattle.drt_evidence.proofs.Parts.{Two, written_both, written_flat, written_map}

@@ -10,7 +10,7 @@ use Rattle.drt_file.specs.trusted.Canonical.{written_line}
 use Rattle.drt_file.specs.trusted.Cutting.{HasNoFeed}
 use Rattle.drt_file.proofs.Again.{all_of_both}
 use Rattle.drt_file.proofs.Feeds.{line_same, no_line_here}
-use Rattle.drt_evidence.specs.Ranges.{IsNumber}
+use Rattle.drt_claims.specs.Ranges.{IsNumber}
 use Rattle.drt_evidence.specs.Text.{count_line}
 use Rattle.drt_evidence.specs.Blocks.{ReadsBlock, RefusesLine, Stops, in_turn, AreSoMany, counted}
 use Rattle.drt_evidence.specs.LineForms.{AreCounted, IsLineOf, IsNoLine}

@@ -1,6 +1,6 @@
 -- The ranges of the numbers in responses.
 use Rattle.std.specs.Prelude.{◌≤◌, List, All}
-use Rattle.drt_evidence.specs.Ranges.{IsCounted, IsInRangeRelease, IsNumber}
+use Rattle.drt_claims.specs.Ranges.{IsCounted, IsInRangeRelease, IsNumber}
 use Rattle.drt_responses.specs.declared.response.Response.{Response}
 
 -- A response has numbers of a task and a vertex, ticks of 64 bits, and releases, which are counted and in range.

@@ -4,7 +4,7 @@ use Rattle.std.specs.List.{flat_map}
 use Rattle.drt_model.specs.declared.jobs.Release.{Release}
 use Rattle.drt_file.specs.trusted.Canonical.{written, written_line}
 use Rattle.drt_evidence.specs.Blocks.{Stops, counted}
-use Rattle.drt_evidence.specs.Ranges.{IsNumber}
+use Rattle.drt_claims.specs.Ranges.{IsNumber}
 use Rattle.drt_evidence.specs.Text.{release_line, word_line}
 use Rattle.drt_responses.specs.Text.{response_lines}
 use Rattle.drt_responses.specs.declared.reading.lines.Heading.{Heading}

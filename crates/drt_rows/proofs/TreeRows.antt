@@ -5,11 +5,11 @@ use Rattle.drt_model.specs.declared.tasks.Task.{Task}
 use Rattle.drt_model.specs.Digraph.{digraph_of}
 use Rattle.drt_model.specs.RequestFunction.{requested_from}
 use Rattle.drt_model.specs.Walk.{sep_in, or_zero}
-use Rattle.drt_evidence.specs.Proofs.{after_all, opening, parts, passes, subjects_from, sum_at}
-use Rattle.drt_evidence.specs.Trees.{by_priority, greatest_deadline, higher_count, joined, latest_deadline, named, node_values, placed, root}
-use Rattle.drt_evidence.specs.declared.evidence.Item.TheVariants.{Pass, Split}
-use Rattle.drt_evidence.specs.declared.evidence.Pair.{Pair}
-use Rattle.drt_evidence.specs.declared.evidence.TreeClaim.{TreeClaim}
+use Rattle.drt_claims.specs.Proofs.{after_all, opening, parts, passes, subjects_from, sum_at}
+use Rattle.drt_claims.specs.Trees.{by_priority, greatest_deadline, higher_count, joined, latest_deadline, named, node_values, placed, root}
+use Rattle.drt_claims.specs.declared.evidence.Item.TheVariants.{Pass, Split}
+use Rattle.drt_claims.specs.declared.evidence.Pair.{Pair}
+use Rattle.drt_claims.specs.declared.evidence.TreeClaim.{TreeClaim}
 use Rattle.drt_rows.proofs.Sets.{edge, vertex}
 
 -- x (3, 5) with a loop of 20 and y (2, 4) with a loop of 4.

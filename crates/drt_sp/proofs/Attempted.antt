@@ -11,8 +11,8 @@ use Rattle.drt_model.specs.Walk.{deadline, wcet}
 use Rattle.drt_steps.specs.Time.{AreChosen}
 use Rattle.drt_steps.specs.Values.{value_at}
 use Rattle.drt_tree.specs.Tree.{IsForest, IsUnder, Plain, values}
-use Rattle.drt_evidence.specs.Ranges.{IsCounted, IsInRangeItem}
-use Rattle.drt_evidence.specs.declared.evidence.Item.{Item}
+use Rattle.drt_claims.specs.Ranges.{IsCounted, IsInRangeItem}
+use Rattle.drt_claims.specs.declared.evidence.Item.{Item}
 use Rattle.drt_refine.specs.Combination.{Combination}
 use Rattle.drt_refine.specs.Facts.{Facts}
 use Rattle.drt_refine.specs.Machine.{IsRun, Setting, State, replay}

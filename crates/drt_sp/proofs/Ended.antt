@@ -5,9 +5,9 @@ use Rattle.drt_model.specs.Constrained.{AreConstrained}
 use Rattle.drt_model.specs.Limits.{IsTaskSet}
 use Rattle.drt_busy.specs.Decide.{TimesDecide}
 use Rattle.drt_tree.specs.Tree.{IsForest}
-use Rattle.drt_evidence.specs.Trees.{greatest_deadline}
-use Rattle.drt_evidence.specs.declared.evidence.Evidence.{Evidence}
-use Rattle.drt_evidence.specs.declared.evidence.Evidence.TheVariants.{EdfYes, EdfNo, UtilisationOne, FixedYes, FixedStates, FixedNo, Undecided}
+use Rattle.drt_claims.specs.Trees.{greatest_deadline}
+use Rattle.drt_claims.specs.declared.evidence.Evidence.{Evidence}
+use Rattle.drt_claims.specs.declared.evidence.Evidence.TheVariants.{EdfYes, EdfNo, UtilisationOne, FixedYes, FixedStates, FixedNo, Undecided}
 use Rattle.drt_sp.specs.Answers.{IsAnswer, IsEnding, IsRefusal, IsVerdict}
 use Rattle.drt_sp.specs.Grown.{AreProvedTrees}
 use Rattle.drt_sp.specs.Progress.{IsComplete}

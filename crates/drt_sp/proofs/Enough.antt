@@ -6,7 +6,7 @@ use Rattle.drt_model.specs.Digraph.{IsSound}
 use Rattle.drt_model.specs.declared.tasks.Task.{Task}
 use Rattle.drt_busy.specs.Choice.{graph_at, no_task}
 use Rattle.drt_choices.specs.Choices.{IsOrder}
-use Rattle.drt_evidence.specs.Trees.{greatest_deadline}
+use Rattle.drt_claims.specs.Trees.{greatest_deadline}
 use Rattle.drt_graph.proofs.Soundness.{all_sound}
 use Rattle.drt_model.specs.Walk.{deadline, wcet}
 use Rattle.drt_refine.specs.Below.{tuples}

@@ -21,7 +21,7 @@ use Rattle.drt_table.specs.Machine.{Setting, State, step_of, opening_state, repl
 use Rattle.drt_table.specs.Walk.{IsWalkBack, IsWalkLabel}
 use Rattle.drt_table.specs.Work.{IsDegree, IsShort, AreSlots, kept_count}
 use Rattle.drt_table.specs.declared.step.Entry.{Entry}
-use Rattle.drt_evidence.specs.Trees.{IsShortWalk}
+use Rattle.drt_claims.specs.Trees.{IsShortWalk}
 use Rattle.drt_sp.specs.Needs.{HasAtMost}
 use Rattle.drt_sp.specs.TreeClaims.{IsSpentSearch, search_of}
 use Rattle.drt_sp.proofs.FewWalks.{itself}

@@ -6,11 +6,11 @@ use Rattle.std.proofs.lemmas.List.Elements.{All-cons, All-nil}
 use Rattle.std.proofs.lemmas.Option.{none-some, slice_get_within}
 use Rattle.drt_model.specs.Digraph.{Digraph}
 use Rattle.drt_tree.proofs.Trees.{get_front}
-use Rattle.drt_evidence.specs.Proofs.{IsPassed, after, after_all, halved, parts_in, passes, sum_at}
-use Rattle.drt_evidence.specs.Trees.{node_values}
-use Rattle.drt_evidence.specs.declared.evidence.Item.{Item}
-use Rattle.drt_evidence.specs.declared.evidence.Item.TheVariants.{Pass, Split}
-use Rattle.drt_evidence.specs.declared.evidence.TreeClaim.{TreeClaim}
+use Rattle.drt_claims.specs.Proofs.{IsPassed, after, after_all, halved, parts_in, passes, sum_at}
+use Rattle.drt_claims.specs.Trees.{node_values}
+use Rattle.drt_claims.specs.declared.evidence.Item.{Item}
+use Rattle.drt_claims.specs.declared.evidence.Item.TheVariants.{Pass, Split}
+use Rattle.drt_claims.specs.declared.evidence.TreeClaim.{TreeClaim}
 
 -- Each combination of the stack has at most m nodes.
 abbrev pub AreNarrow : ℕ → List (List ℕ) → Type 0

@@ -14,8 +14,8 @@ use Rattle.drt_tree.specs.Tree.{Grows, Plain, leaves}
 use Rattle.drt_tree.proofs.Trees.{get_end, get_front, leaves_stay}
 use Rattle.drt_refine.specs.Below.{AreNodes}
 use Rattle.drt_refine.proofs.Below.{nodes_at}
-use Rattle.drt_evidence.specs.Trees.{IsShortWalk, greatest_deadline}
-use Rattle.drt_evidence.specs.declared.evidence.TreeClaim.{TreeClaim}
+use Rattle.drt_claims.specs.Trees.{IsShortWalk, greatest_deadline}
+use Rattle.drt_claims.specs.declared.evidence.TreeClaim.{TreeClaim}
 use Rattle.drt_sp.specs.Needs.{AreFewLeaves, HasAtMost}
 use Rattle.drt_sp.specs.TreeClaims.{HaveOneLabel, IsTreeOf}
 

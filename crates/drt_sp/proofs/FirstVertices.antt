@@ -6,9 +6,9 @@ use Rattle.std.proofs.lemmas.List.FromFn.{map-range_with_len_more}
 use Rattle.drt_model.specs.Digraph.{Digraph, IsSound, vertex_count}
 use Rattle.drt_model.specs.Walk.{deadline, wcet}
 use Rattle.drt_tree.specs.Tree.{Plain}
-use Rattle.drt_evidence.specs.Ranges.{IsCounted, IsInRangeItem}
-use Rattle.drt_evidence.specs.declared.evidence.Item.{Item}
-use Rattle.drt_evidence.specs.declared.evidence.ProofClaim.{ProofClaim}
+use Rattle.drt_claims.specs.Ranges.{IsCounted, IsInRangeItem}
+use Rattle.drt_claims.specs.declared.evidence.Item.{Item}
+use Rattle.drt_claims.specs.declared.evidence.ProofClaim.{ProofClaim}
 use Rattle.drt_sp.specs.Items.{IsProofOf}
 use Rattle.drt_sp.specs.Vertices.{AreVertexProofs, IsStop, IsProvedVertex, subject_of}
 use Rattle.drt_sp.proofs.Passing.{proofs_pass}

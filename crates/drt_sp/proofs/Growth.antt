@@ -12,11 +12,11 @@ use Rattle.drt_graph.specs.Graphs.{no_graph}
 use Rattle.drt_tree.specs.Tree.{Grows, IsForest, Plain, leaves}
 use Rattle.drt_refine.specs.Below.{AreNodes}
 use Rattle.drt_choices.specs.Choices.{AreTrees, FirstPass, IsOrder, StandsFor}
-use Rattle.drt_evidence.specs.Claims.{Each}
-use Rattle.drt_evidence.specs.Ranges.{IsInRangeTree}
-use Rattle.drt_evidence.specs.Trees.{greatest_deadline}
-use Rattle.drt_evidence.specs.declared.evidence.ProofClaim.{ProofClaim}
-use Rattle.drt_evidence.specs.declared.evidence.TreeClaim.{TreeClaim}
+use Rattle.drt_claims.specs.Claims.{Each}
+use Rattle.drt_claims.specs.Ranges.{IsInRangeTree}
+use Rattle.drt_claims.specs.Trees.{greatest_deadline}
+use Rattle.drt_claims.specs.declared.evidence.ProofClaim.{ProofClaim}
+use Rattle.drt_claims.specs.declared.evidence.TreeClaim.{TreeClaim}
 use Rattle.drt_sp.specs.Claims.{AreClaimsOf}
 use Rattle.drt_sp.specs.Progress.{AreGrown, AreProofsAt, AreProved, IsProofAt, first_graphs}
 use Rattle.drt_sp.specs.TreeClaims.{IsClaimOf, IsTreeOf}

@@ -6,9 +6,9 @@ use Rattle.std.proofs.lemmas.List.Elements.{All-append, All-cons, All-push, All-
 use Rattle.std.proofs.lemmas.Option.{slice_get_within}
 use Rattle.drt_worklist.proofs.Lists.{length_join}
 use Rattle.drt_tree.specs.Tree.{Plain}
-use Rattle.drt_evidence.specs.Ranges.{IsInRangeItem, IsNumber}
-use Rattle.drt_evidence.specs.declared.evidence.Item.{Item}
-use Rattle.drt_evidence.specs.declared.evidence.Item.TheVariants.{Pass, Split}
+use Rattle.drt_claims.specs.Ranges.{IsInRangeItem, IsNumber}
+use Rattle.drt_claims.specs.declared.evidence.Item.{Item}
+use Rattle.drt_claims.specs.declared.evidence.Item.TheVariants.{Pass, Split}
 use Rattle.drt_refine.specs.Combination.{Combination}
 use Rattle.drt_refine.specs.Machine.{Setting}
 use Rattle.drt_refine.specs.Settled.{AreSettled, HasNodes, IsSettled, IsSplitInto}

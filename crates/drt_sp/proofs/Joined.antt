@@ -2,8 +2,8 @@
 use Rattle.std.proofs.Common.{◌≡◌, ℕ, ◌<◌, ◌≤◌, List, [], ◌∷◌, ◌++◌, All, None, Some, length, take, drop, sym, subst, arith}
 use Rattle.std.specs.Prelude.{IfOk, IfSome}
 use Rattle.drt_model.specs.Digraph.{Digraph}
-use Rattle.drt_evidence.specs.Ranges.{IsCounted}
-use Rattle.drt_evidence.specs.declared.evidence.Item.{Item}
+use Rattle.drt_claims.specs.Ranges.{IsCounted}
+use Rattle.drt_claims.specs.declared.evidence.Item.{Item}
 use Rattle.drt_refine.specs.Eager.{IsEager}
 use Rattle.drt_refine.specs.View.{View, IsFrontier, setting_of}
 use Rattle.drt_tree.specs.Tree.{Plain}

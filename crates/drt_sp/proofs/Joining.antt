@@ -6,9 +6,9 @@ use Rattle.std.proofs.lemmas.List.Elements.{All-cons, All-nil, All-pop, All-push
 use Rattle.drt_steps.specs.Time.{AreChosen, IsLeastTime, Passes}
 use Rattle.drt_steps.specs.Values.{value_at}
 use Rattle.drt_tree.specs.Tree.{IsForest, IsUnder, Plain, children, values}
-use Rattle.drt_evidence.specs.Ranges.{IsInRangeItem, IsNumber}
-use Rattle.drt_evidence.specs.declared.evidence.Item.{Item}
-use Rattle.drt_evidence.specs.declared.evidence.Item.TheVariants.{Pass, Split}
+use Rattle.drt_claims.specs.Ranges.{IsInRangeItem, IsNumber}
+use Rattle.drt_claims.specs.declared.evidence.Item.{Item}
+use Rattle.drt_claims.specs.declared.evidence.Item.TheVariants.{Pass, Split}
 use Rattle.drt_refine.specs.Below.{AreBelow}
 use Rattle.drt_refine.specs.Eager.{IsPlace}
 use Rattle.drt_refine.proofs.Below.{below_half, chosen_halves, length_set, passes_below}

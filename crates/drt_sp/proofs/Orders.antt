@@ -19,7 +19,7 @@ use Rattle.drt_model.specs.declared.tasks.Task.{Task}
 use Rattle.drt_model.specs.Digraph.{digraph_of}
 use Rattle.drt_busy.specs.Choice.{graph_at, no_task, task_at}
 use Rattle.drt_choices.specs.Choices.{IsOrder}
-use Rattle.drt_evidence.specs.Trees.{by_priority, higher_count, placed}
+use Rattle.drt_claims.specs.Trees.{by_priority, higher_count, placed}
 use Rattle.drt_sp.proofs.Rising.{all_contains, contains_cases, contains_first, contains_later, count_all, count_none, eqb_flips, pairs_head, pairs_tail, rising_unique, sum-map}
 
 -- The number of a task is in the range of all.

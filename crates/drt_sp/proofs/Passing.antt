@@ -18,9 +18,9 @@ use Rattle.drt_tree.specs.Tree.{IsForest, Plain, values}
 use Rattle.drt_refine.specs.Below.{AreNodes}
 use Rattle.drt_choices.specs.Choices.{FirstPass, IsOrder, VertexPasses}
 use Rattle.drt_choices.specs.Laws.{IsPosed, LeavesPass}
-use Rattle.drt_evidence.specs.Trees.{greatest_deadline}
-use Rattle.drt_evidence.specs.declared.evidence.ProofClaim.{ProofClaim}
-use Rattle.drt_evidence.specs.declared.evidence.TreeClaim.{TreeClaim}
+use Rattle.drt_claims.specs.Trees.{greatest_deadline}
+use Rattle.drt_claims.specs.declared.evidence.ProofClaim.{ProofClaim}
+use Rattle.drt_claims.specs.declared.evidence.TreeClaim.{TreeClaim}
 use Rattle.drt_sp.specs.Answers.{HigherMeetDeadlines, IsReached, MeetsDeadlines}
 use Rattle.drt_sp.specs.Claims.{AreClaimsOf}
 use Rattle.drt_sp.specs.Progress.{AreGrown}

@@ -18,9 +18,9 @@ use Rattle.drt_tree.specs.Tree.{IsForest, IsPair, Leads, Plain, children, walk}
 use Rattle.drt_refine.specs.Below.{AreBelow, AreNodes}
 use Rattle.drt_choices.specs.Choices.{AreTrees, IsOrder, chosen, cut}
 use Rattle.drt_choices.specs.Laws.{LeavesMiss, no_releases}
-use Rattle.drt_evidence.specs.Claims.{graphs_of}
-use Rattle.drt_evidence.specs.Ranges.{AreInRangeReleases, IsInRangeRelease}
-use Rattle.drt_evidence.proofs.Accepting.{fixed_no_accepted}
+use Rattle.drt_claims.specs.Claims.{graphs_of}
+use Rattle.drt_claims.specs.Ranges.{AreInRangeReleases, IsInRangeRelease}
+use Rattle.drt_claims.proofs.Accepting.{fixed_no_accepted}
 use Rattle.drt_releases.proofs.Walks.{graph_same}
 use Rattle.drt_releases.specs.Walks.{AreDueWalks}
 use Rattle.drt_sp.specs.Answers.{IsFailedVertex, IsMissed, IsTupleFor}

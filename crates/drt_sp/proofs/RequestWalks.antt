@@ -16,7 +16,7 @@ use Rattle.drt_steps.specs.Values.{covers, value_at}
 use Rattle.drt_table.specs.Machine.{Setting, extended}
 use Rattle.drt_table.specs.Walk.{WalkTo, IsWalkLabel, IsWalkBack, IsWalkOf}
 use Rattle.drt_table.proofs.Walks.{walk_vertex, walk_range}
-use Rattle.drt_evidence.specs.Trees.{IsAbove, IsShortWalk}
+use Rattle.drt_claims.specs.Trees.{IsAbove, IsShortWalk}
 use Rattle.drt_sp.specs.TreeClaims.{HaveOneLabel}
 
 -- A walk given backwards, forwards: its first vertex and those after it, with its label.

@@ -11,8 +11,8 @@ use Rattle.drt_graph.proofs.Paths.{span_cons, span_none}
 use Rattle.drt_busy.specs.Choice.{IsWalk, request_of}
 use Rattle.drt_choices.specs.Choices.{cut, cut_from}
 use Rattle.drt_choices.proofs.Cuts.{cut_walk}
-use Rattle.drt_evidence.specs.Ranges.{IsInRangeWalk, IsNumber}
-use Rattle.drt_evidence.specs.Trees.{IsAbove, IsShortWalk, asked}
+use Rattle.drt_claims.specs.Ranges.{IsInRangeWalk, IsNumber}
+use Rattle.drt_claims.specs.Trees.{IsAbove, IsShortWalk, asked}
 
 pub asked_is : (g : Digraph) (t : ℕ) (w : List ℕ) → asked g t w ≡ request_of g w t
 asked_is g t [] = refl

@@ -23,11 +23,11 @@ use Rattle.drt_tree.specs.declared.leaf.Leaf.{Leaf}
 use Rattle.drt_tree.proofs.Trees.{get_front, grows_on, index_front, leaves_grow, with_long}
 use Rattle.drt_choices.specs.Choices.{StandsFor, cut_from}
 use Rattle.drt_choices.proofs.Cuts.{cut_asks}
-use Rattle.drt_evidence.specs.Proofs.{parts}
-use Rattle.drt_evidence.specs.Ranges.{IsInRangePair, IsInRangeTree, IsInRangeWalk}
-use Rattle.drt_evidence.specs.Trees.{HasShortWalks, IsAbove, IsClosedWalk, IsExtendedWalk, IsShortWalk, IsTree, asked, node_values, root}
-use Rattle.drt_evidence.specs.declared.evidence.Pair.{Pair}
-use Rattle.drt_evidence.specs.declared.evidence.TreeClaim.{TreeClaim}
+use Rattle.drt_claims.specs.Proofs.{parts}
+use Rattle.drt_claims.specs.Ranges.{IsInRangePair, IsInRangeTree, IsInRangeWalk}
+use Rattle.drt_claims.specs.Trees.{HasShortWalks, IsAbove, IsClosedWalk, IsExtendedWalk, IsShortWalk, IsTree, asked, node_values, root}
+use Rattle.drt_claims.specs.declared.evidence.Pair.{Pair}
+use Rattle.drt_claims.specs.declared.evidence.TreeClaim.{TreeClaim}
 use Rattle.drt_sp.specs.TaskTrees.{AreWalkLeaves, IsTaskTree, IsWalkLeaf, pair_of, pairs_from, walks_from}
 use Rattle.drt_sp.specs.TreeClaims.{HaveOneLabel, IsClaimOf, IsExactTree, IsNonDominated, IsTreeOf, lowered}
 use Rattle.drt_sp.specs.declared.trees.TaskTree.{TaskTree}

@@ -9,11 +9,11 @@ use Rattle.drt_model.specs.Walk.{wcet, deadline}
 use Rattle.drt_steps.specs.Values.{value_at}
 use Rattle.drt_steps.specs.Time.{Passes, sum_at as forest_sum}
 use Rattle.drt_tree.specs.Tree.{Plain, children, values}
-use Rattle.drt_evidence.specs.Trees.{root, node_values}
-use Rattle.drt_evidence.specs.Proofs.{IsPassed, after, after_all, halved, parts, parts_in, passes, sum_at}
-use Rattle.drt_evidence.specs.declared.evidence.Item.{Item}
-use Rattle.drt_evidence.specs.declared.evidence.Item.TheVariants.{Split}
-use Rattle.drt_evidence.specs.declared.evidence.TreeClaim.{TreeClaim}
+use Rattle.drt_claims.specs.Trees.{root, node_values}
+use Rattle.drt_claims.specs.Proofs.{IsPassed, after, after_all, halved, parts, parts_in, passes, sum_at}
+use Rattle.drt_claims.specs.declared.evidence.Item.{Item}
+use Rattle.drt_claims.specs.declared.evidence.Item.TheVariants.{Split}
+use Rattle.drt_claims.specs.declared.evidence.TreeClaim.{TreeClaim}
 use Rattle.drt_sp.specs.TreeClaims.{IsClaimOf, lowered}
 use Rattle.drt_sp.specs.Claims.{AreClaimsOf}
 use Rattle.drt_sp.specs.Items.{AreItems, AreHalves, none, pass, split}

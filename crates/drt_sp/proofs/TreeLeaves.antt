@@ -18,7 +18,7 @@ use Rattle.drt_table.specs.Machine.{Setting}
 use Rattle.drt_table.specs.Node.{NodeOf, is_kept}
 use Rattle.drt_table.specs.Walk.{IsWalkOf}
 use Rattle.drt_tree.specs.declared.leaf.Leaf.{Leaf}
-use Rattle.drt_evidence.specs.Trees.{IsAbove, IsShortWalk, asked}
+use Rattle.drt_claims.specs.Trees.{IsAbove, IsShortWalk, asked}
 use Rattle.drt_sp.specs.TaskTrees.{AreWalkLeaves, IsWalkLeaf}
 use Rattle.drt_sp.specs.TreeClaims.{HaveOneLabel, IsNonDominated}
 use Rattle.drt_sp.proofs.RequestWalks.{IsLabelled, walk_short, short_walk, above_of, dominates_of, same_labels, one_label}

@@ -9,8 +9,8 @@ use Rattle.std.proofs.lemmas.List.Sums.{sum_by-append, sum_by_push}
 use Rattle.std.proofs.lemmas.Option.{none-some, same_Some}
 use Rattle.drt_tree.specs.Shape.{Shape, one, two, parts, pairs, root_of, Stands}
 use Rattle.drt_tree.specs.Tree.{Plain, Leads, children}
-use Rattle.drt_evidence.specs.Trees.{named}
-use Rattle.drt_evidence.specs.declared.evidence.Pair.{Pair}
+use Rattle.drt_claims.specs.Trees.{named}
+use Rattle.drt_claims.specs.declared.evidence.Pair.{Pair}
 use Rattle.drt_sp.specs.TaskTrees.{pair_of, pairs_from}
 
 -- Each tree has one leaf more than pairs.

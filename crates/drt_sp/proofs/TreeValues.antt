@@ -4,8 +4,8 @@ use Rattle.std.specs.Prelude.{slice_get, slice_index, slice_index_or}
 use Rattle.std.proofs.lemmas.Bool.{cases_lt}
 use Rattle.std.proofs.lemmas.List.{get_or_append_left, get_or_at, length-append}
 use Rattle.drt_steps.specs.Values.{max_of, value_at}
-use Rattle.drt_evidence.specs.Trees.{joined}
-use Rattle.drt_evidence.specs.declared.evidence.Pair.{Pair}
+use Rattle.drt_claims.specs.Trees.{joined}
+use Rattle.drt_claims.specs.declared.evidence.Pair.{Pair}
 
 most_at : (xs ys : List ℕ) → length xs ≡ length ys → (i : ℕ) → slice_index (max_of xs ys) i ≡ max (slice_index xs i) (slice_index ys i)
 most_at [] [] e i = omega arith

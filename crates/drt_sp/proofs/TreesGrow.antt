@@ -7,8 +7,8 @@ use Rattle.drt_tree.specs.Tree.{Plain, Grows, IsForest, IsPair, Leads, children,
 use Rattle.drt_tree.proofs.Trees.{children_stay, get_front, grows_long, values_stay}
 use Rattle.drt_busy.specs.Choice.{IsWalk, request_of}
 use Rattle.drt_choices.specs.Choices.{StandsFor}
-use Rattle.drt_evidence.specs.Trees.{root}
-use Rattle.drt_evidence.specs.declared.evidence.TreeClaim.{TreeClaim}
+use Rattle.drt_claims.specs.Trees.{root}
+use Rattle.drt_claims.specs.declared.evidence.TreeClaim.{TreeClaim}
 use Rattle.drt_sp.specs.TreeClaims.{IsClaimOf, lowered}
 
 module _ (f h : Plain) (forest : IsForest f) (grows : Grows f h) where

@@ -5,7 +5,7 @@ use Rattle.std.proofs.lemmas.Option.{slice_get_within}
 use Rattle.drt_tree.specs.Tree.{Plain}
 use Rattle.drt_worklist.specs.Places.{first}
 use Rattle.drt_worklist.proofs.Lists.{Found, found}
-use Rattle.drt_evidence.specs.declared.evidence.Item.{Item}
+use Rattle.drt_claims.specs.declared.evidence.Item.{Item}
 use Rattle.drt_refine.specs.Below.{AreBelow, IsConcrete}
 use Rattle.drt_refine.specs.Combination.{Combination, is_failed}
 use Rattle.drt_refine.specs.Facts.{IsPassed}

@@ -18,14 +18,14 @@ use Rattle.drt_busy.specs.Choice.{graph_at, no_task, task_at}
 use Rattle.drt_busy.specs.Decide.{TimesDecide}
 use Rattle.drt_tree.specs.Tree.{Plain}
 use Rattle.drt_choices.specs.Choices.{IsOrder, VertexPasses}
-use Rattle.drt_evidence.specs.Claims.{Each}
-use Rattle.drt_evidence.specs.Proofs.{HasPassingTimes, HasShape, IsPassed, after_all, opening, passes, subjects_from}
-use Rattle.drt_evidence.specs.Ranges.{IsInRange, IsInRangeProof}
-use Rattle.drt_evidence.specs.Trees.{CoversWalks, HasShortWalks, IsTree, by_priority, greatest_deadline, higher_count, root, tree_graphs}
-use Rattle.drt_evidence.specs.declared.evidence.Evidence.TheVariants.{FixedYes}
-use Rattle.drt_evidence.specs.declared.evidence.ProofClaim.{ProofClaim}
-use Rattle.drt_evidence.specs.declared.evidence.TreeClaim.{TreeClaim}
-use Rattle.drt_evidence.proofs.Accepting.{fixed_yes_accepted}
+use Rattle.drt_claims.specs.Claims.{Each}
+use Rattle.drt_claims.specs.Proofs.{HasPassingTimes, HasShape, IsPassed, after_all, opening, passes, subjects_from}
+use Rattle.drt_claims.specs.Ranges.{IsInRange, IsInRangeProof}
+use Rattle.drt_claims.specs.Trees.{CoversWalks, HasShortWalks, IsTree, by_priority, greatest_deadline, higher_count, root, tree_graphs}
+use Rattle.drt_claims.specs.declared.evidence.Evidence.TheVariants.{FixedYes}
+use Rattle.drt_claims.specs.declared.evidence.ProofClaim.{ProofClaim}
+use Rattle.drt_claims.specs.declared.evidence.TreeClaim.{TreeClaim}
+use Rattle.drt_claims.proofs.Accepting.{fixed_yes_accepted}
 use Rattle.drt_sp.specs.Answers.{IsExactYes}
 use Rattle.drt_sp.specs.Claims.{AreClaimsOf, IsEagerProof}
 use Rattle.drt_sp.specs.Items.{AreItems}

@@ -16,14 +16,14 @@ use Rattle.drt_refine.specs.declared.step.FrontierEntry.{FrontierEntry}
 use Rattle.drt_table.specs.declared.step.Entry.{Entry}
 use Rattle.drt_choices.specs.Choices.{FirstPass, VertexPasses}
 use Rattle.drt_choices.specs.Laws.{IsPosed, no_releases}
-use Rattle.drt_evidence.specs.Claims.{Each}
-use Rattle.drt_evidence.specs.Ranges.{IsInRange}
-use Rattle.drt_evidence.specs.Rules.{Accepts}
-use Rattle.drt_evidence.specs.Trees.{greatest_deadline, tree_graphs}
-use Rattle.drt_evidence.specs.declared.evidence.Evidence.{Evidence}
-use Rattle.drt_evidence.specs.declared.evidence.Evidence.TheVariants.{EdfYes, EdfNo, UtilisationOne, FixedYes, FixedStates, FixedNo, Undecided}
-use Rattle.drt_evidence.specs.declared.evidence.ProofClaim.{ProofClaim}
-use Rattle.drt_evidence.specs.declared.evidence.TreeClaim.{TreeClaim}
+use Rattle.drt_claims.specs.Claims.{Each}
+use Rattle.drt_claims.specs.Ranges.{IsInRange}
+use Rattle.drt_claims.specs.Rules.{Accepts}
+use Rattle.drt_claims.specs.Trees.{greatest_deadline, tree_graphs}
+use Rattle.drt_claims.specs.declared.evidence.Evidence.{Evidence}
+use Rattle.drt_claims.specs.declared.evidence.Evidence.TheVariants.{EdfYes, EdfNo, UtilisationOne, FixedYes, FixedStates, FixedNo, Undecided}
+use Rattle.drt_claims.specs.declared.evidence.ProofClaim.{ProofClaim}
+use Rattle.drt_claims.specs.declared.evidence.TreeClaim.{TreeClaim}
 use Rattle.drt_sp.specs.Claims.{IsEagerProof}
 use Rattle.drt_sp.specs.Evidence.{under_fixed}
 use Rattle.drt_sp.specs.Items.{IsFailure, IsSpentRefinement}

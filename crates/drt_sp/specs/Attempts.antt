@@ -3,7 +3,7 @@ use Rattle.std.specs.Prelude.{◌≡◌, ℕ, ◌<◌, ◌≤◌, ◌⊎◌, Opt
 use Rattle.std.specs.declared.alloc.Global.{Global}
 use Rattle.drt_model.specs.Digraph.{Digraph, vertex_count}
 use Rattle.drt_model.specs.Walk.{deadline, wcet}
-use Rattle.drt_evidence.specs.declared.evidence.Item.{Item}
+use Rattle.drt_claims.specs.declared.evidence.Item.{Item}
 use Rattle.drt_tree.specs.Tree.{Plain}
 use Rattle.drt_refine.specs.Combination.{Combination}
 use Rattle.drt_sp.specs.Items.{IsVertexProof}

@@ -3,9 +3,9 @@ use Rattle.std.specs.Prelude.{◌≡◌, ℕ, None, Some, List, [], ◌∷◌, �
 use Rattle.drt_steps.specs.Time.{IsLeastTime, Passes}
 use Rattle.drt_tree.specs.Tree.{Plain, children}
 use Rattle.drt_worklist.specs.Places.{first}
-use Rattle.drt_evidence.specs.Ranges.{IsCounted, IsInRangeItem, IsNumber}
-use Rattle.drt_evidence.specs.declared.evidence.Item.{Item}
-use Rattle.drt_evidence.specs.declared.evidence.Item.TheVariants.{Pass, Split}
+use Rattle.drt_claims.specs.Ranges.{IsCounted, IsInRangeItem, IsNumber}
+use Rattle.drt_claims.specs.declared.evidence.Item.{Item}
+use Rattle.drt_claims.specs.declared.evidence.Item.TheVariants.{Pass, Split}
 use Rattle.drt_refine.specs.Below.{AreBelow}
 use Rattle.drt_refine.specs.Combination.{is_failed}
 use Rattle.drt_refine.specs.Eager.{IsEager, IsPlace}

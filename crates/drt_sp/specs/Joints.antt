@@ -1,6 +1,6 @@
 -- Attempts whose parts are put together.
 use Rattle.std.specs.Prelude.{◌≡◌, ℕ, ◌<◌, ◌≤◌, List, length, slice_index_or, IfOk, IfSome}
-use Rattle.drt_evidence.specs.Ranges.{IsCounted}
+use Rattle.drt_claims.specs.Ranges.{IsCounted}
 use Rattle.drt_refine.specs.Eager.{IsEager}
 use Rattle.drt_refine.specs.View.{IsFrontier, setting_of}
 use Rattle.drt_sp.specs.Parts.{AreEndOf, HasParts}

@@ -5,7 +5,7 @@ use Rattle.drt_model.specs.Degrees.{most_out}
 use Rattle.drt_model.specs.Digraph.{Digraph}
 use Rattle.drt_busy.specs.Choice.{graph_at, task_at}
 use Rattle.drt_tree.specs.Tree.{Plain, leaves}
-use Rattle.drt_evidence.specs.Trees.{IsShortWalk, greatest_deadline}
+use Rattle.drt_claims.specs.Trees.{IsShortWalk, greatest_deadline}
 
 -- No more than n walks of the graph span less than the bound: a list of n walks has each of them.
 abbrev pub HasAtMost : ℕ → Digraph → ℕ → Type 0

@@ -1,8 +1,8 @@
 -- A proof that is put together from parts, each of which ends one combination of a frontier.
 use Rattle.std.specs.Prelude.{◌≡◌, ℕ, ◌<◌, ◌≤◌, Option, Some, List, [], ◌∷◌, ◌++◌, All, length, slice_get}
-use Rattle.drt_evidence.specs.Ranges.{IsCounted, IsInRangeItem, IsNumber}
-use Rattle.drt_evidence.specs.declared.evidence.Item.{Item}
-use Rattle.drt_evidence.specs.declared.evidence.Item.TheVariants.{Pass, Split}
+use Rattle.drt_claims.specs.Ranges.{IsCounted, IsInRangeItem, IsNumber}
+use Rattle.drt_claims.specs.declared.evidence.Item.{Item}
+use Rattle.drt_claims.specs.declared.evidence.Item.TheVariants.{Pass, Split}
 use Rattle.drt_steps.specs.Time.{AreChosen}
 use Rattle.drt_tree.specs.Tree.{Plain}
 use Rattle.drt_refine.specs.Combination.{Combination}

@@ -8,11 +8,11 @@ use Rattle.drt_model.specs.declared.tasks.Task.{Task}
 use Rattle.drt_busy.specs.Choice.{graph_at}
 use Rattle.drt_tree.specs.Tree.{Plain}
 use Rattle.drt_choices.specs.Choices.{AreTrees, FirstPass, IsOrder}
-use Rattle.drt_evidence.specs.Claims.{Each, graphs_of}
-use Rattle.drt_evidence.specs.Ranges.{IsInRangeProof, IsInRangeTree}
-use Rattle.drt_evidence.specs.Trees.{greatest_deadline}
-use Rattle.drt_evidence.specs.declared.evidence.ProofClaim.{ProofClaim}
-use Rattle.drt_evidence.specs.declared.evidence.TreeClaim.{TreeClaim}
+use Rattle.drt_claims.specs.Claims.{Each, graphs_of}
+use Rattle.drt_claims.specs.Ranges.{IsInRangeProof, IsInRangeTree}
+use Rattle.drt_claims.specs.Trees.{greatest_deadline}
+use Rattle.drt_claims.specs.declared.evidence.ProofClaim.{ProofClaim}
+use Rattle.drt_claims.specs.declared.evidence.TreeClaim.{TreeClaim}
 use Rattle.drt_sp.specs.Claims.{AreClaimsOf}
 use Rattle.drt_sp.specs.Items.{AreItems}
 use Rattle.drt_sp.specs.Needs.{AreFewLeaves}

@@ -6,9 +6,9 @@ use Rattle.drt_steps.specs.Values.{value_at}
 use Rattle.drt_table.specs.Machine.{Setting, IsRun, replay, is_finished}
 use Rattle.drt_table.specs.declared.step.Entry.{Entry}
 use Rattle.drt_tree.specs.Tree.{Plain, children, values}
-use Rattle.drt_evidence.specs.Proofs.{parts}
-use Rattle.drt_evidence.specs.Trees.{CoversWalks, HasShortWalks, IsAbove, IsShortWalk, IsTree, node_values, root}
-use Rattle.drt_evidence.specs.declared.evidence.TreeClaim.{TreeClaim}
+use Rattle.drt_claims.specs.Proofs.{parts}
+use Rattle.drt_claims.specs.Trees.{CoversWalks, HasShortWalks, IsAbove, IsShortWalk, IsTree, node_values, root}
+use Rattle.drt_claims.specs.declared.evidence.TreeClaim.{TreeClaim}
 
 -- The children of a node of the forest, numbered from low on.
 abbrev pub lowered : ℕ → Option (ℕ × ℕ) → Option (ℕ × ℕ)

@@ -6,8 +6,8 @@ use Rattle.drt_model.specs.Walk.{deadline, wcet}
 use Rattle.drt_steps.specs.Time.{Passes}
 use Rattle.drt_tree.specs.Tree.{Plain}
 use Rattle.drt_refine.specs.Below.{AreBelow}
-use Rattle.drt_evidence.specs.Ranges.{IsInRangeProof}
-use Rattle.drt_evidence.specs.declared.evidence.ProofClaim.{ProofClaim}
+use Rattle.drt_claims.specs.Ranges.{IsInRangeProof}
+use Rattle.drt_claims.specs.declared.evidence.ProofClaim.{ProofClaim}
 use Rattle.drt_sp.specs.Items.{IsFailure, IsProofOf, IsSpentRefinement}
 use Rattle.drt_sp.specs.declared.vertices.TaskProofs.{TaskProofs}
 use Rattle.drt_sp.specs.declared.vertices.TaskProofs.TheVariants.{Passed, Failed, Spent}

@@ -1,5 +1,5 @@
 //! The answers of the analysis.
-use drt_evidence::Evidence;
+use drt_claims::Evidence;
 use drt_trails::FixedTrail;
 
 /// What the analysis of a set under fixed priorities found.

@@ -6,7 +6,7 @@ ghost use Rattle.drt_sp.specs.Progress.{IsComplete};
 use crate::answer::FixedAnswer;
 use crate::progress::Progress;
 use drt_busy::times_decide;
-use drt_evidence::Evidence;
+use drt_claims::Evidence;
 use drt_model::{Row, TaskSet};
 use drt_trails::FixedTrail;
 use drt_tree::Forest;

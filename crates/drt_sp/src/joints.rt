@@ -1,7 +1,7 @@
 //! The items of several frontiers, put together side by side.
 ghost use Rattle.std.specs.Prelude.{◌≡◌, ◌≤◌, ◌<◌, ◌++◌, ℕ, true, All, IfOk, IfSome, List, None, Some, length, slice_get, slice_index_or};
-ghost use Rattle.drt_evidence.specs.Ranges.{IsCounted};
-ghost use Rattle.drt_evidence.specs.declared.evidence.Item.{Item};
+ghost use Rattle.drt_claims.specs.Ranges.{IsCounted};
+ghost use Rattle.drt_claims.specs.declared.evidence.Item.{Item};
 ghost use Rattle.drt_refine.specs.Eager.{IsEager};
 ghost use Rattle.drt_refine.specs.View.{IsFrontier, setting_of};
 ghost use Rattle.drt_sp.specs.Joints.{IsJoint, KeepAttempts};
@@ -9,7 +9,7 @@ ghost use Rattle.drt_sp.specs.Parts.{AreAddedFor, AreEndOf, HasParts};
 
 use crate::attempts::Attempt;
 use crate::parts::worker_limit;
-use drt_evidence::Item;
+use drt_claims::Item;
 use drt_model::{Memory, Row};
 use drt_refine::{CombinationState, Frontier, eager_settles};
 use drt_tree::Forest;

@@ -2,7 +2,7 @@
 //!
 //! `analyse_fixed` takes the tasks in order of priority. It proves each vertex of a task against trees that stand for the walks of the
 //! tasks of higher priority, and then makes the task's own tree. Each answer carries its evidence, which keeps the rules of
-//! `drt_evidence`, and each other answer its cause. The layer above uses the one contract of `analyse_fixed`.
+//! `drt_claims`, and each other answer its cause. The layer above uses the one contract of `analyse_fixed`.
 //!
 //! `budgets_suffice` says how large a budget is enough, by the numbers of the tasks' walks.
 //!

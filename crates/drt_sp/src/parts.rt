@@ -12,7 +12,7 @@ use crate::attempts::{Attempt, Attempts, attempt_vertices};
 use crate::joints::{Joint, join_all};
 use crate::proving::VertexProof;
 use crate::race::Race;
-use drt_evidence::Item;
+use drt_claims::Item;
 use drt_graph::Graph;
 use drt_model::{Memory, Row};
 use drt_pool::Gate;

@@ -1,6 +1,6 @@
 //! The proof that a vertex meets its deadline, whatever walks the tasks of higher priority take.
 ghost use Rattle.std.specs.Prelude.{◌≡◌, ◌≤◌, ◌<◌, ◌∷◌, [], All, IfOk, IsTrue, Some, length, slice_get};
-ghost use Rattle.drt_evidence.specs.Ranges.{IsCounted, IsInRangeItem};
+ghost use Rattle.drt_claims.specs.Ranges.{IsCounted, IsInRangeItem};
 ghost use Rattle.drt_refine.specs.Combination.{Combination};
 ghost use Rattle.drt_refine.specs.Drive.{StopsAt};
 ghost use Rattle.drt_refine.specs.Eager.{IsEager};
@@ -11,7 +11,7 @@ ghost use Rattle.drt_sp.specs.Items.{AreItems, IsItemOf, IsVertexProof};
 ghost use Rattle.drt_sp.specs.Parts.{IsRefined};
 ghost use Rattle.drt_steps.specs.Time.{AreChosen};
 
-use drt_evidence::Item;
+use drt_claims::Item;
 use drt_model::{Memory, Row};
 use drt_refine::{
     CombinationState, Frontier, FrontierEntry, FrontierReply, eager_settles,

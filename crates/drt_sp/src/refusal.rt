@@ -1,14 +1,14 @@
 //! The evidence of a no.
 ghost use Rattle.std.specs.Prelude.{◌≡◌, IfOk};
 ghost use Rattle.drt_model.specs.Constrained.{AreConstrained};
-ghost use Rattle.drt_evidence.specs.Claims.{graphs_of};
-ghost use Rattle.drt_evidence.specs.Ranges.{IsInRange};
+ghost use Rattle.drt_claims.specs.Claims.{graphs_of};
+ghost use Rattle.drt_claims.specs.Ranges.{IsInRange};
 ghost use Rattle.drt_sp.specs.Answers.{IsFailedVertex, IsRefusal};
 
 use crate::releases::leaf_releases;
 use crate::walks::VertexTuple;
 use drt_choices::leaves_miss;
-use drt_evidence::Evidence;
+use drt_claims::Evidence;
 use drt_graph::Graphs;
 use drt_model::{Memory, Miss, TaskSet};
 use drt_tree::Forest;

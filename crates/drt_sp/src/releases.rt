@@ -1,8 +1,8 @@
 //! The releases of the walks that a tuple of leaves names.
 ghost use Rattle.std.specs.Prelude.{◌≡◌, ◌≤◌, length, All, IfOk};
 ghost use Rattle.drt_choices.specs.Laws.{leaf_releases};
-ghost use Rattle.drt_evidence.specs.Claims.{graphs_of};
-ghost use Rattle.drt_evidence.specs.Ranges.{IsInRangeRelease};
+ghost use Rattle.drt_claims.specs.Claims.{graphs_of};
+ghost use Rattle.drt_claims.specs.Ranges.{IsInRangeRelease};
 ghost use Rattle.drt_sp.specs.Answers.{IsTupleFor};
 
 use crate::walks::{VertexTuple, job_walks};

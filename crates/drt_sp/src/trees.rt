@@ -10,7 +10,7 @@ ghost use Rattle.drt_sp.specs.TaskTrees.{IsTreeSearch};
 use crate::trees::adding::add_tree;
 pub(crate) use crate::trees::gathering::Leaves;
 use crate::trees::gathering::gather;
-use drt_evidence::TreeClaim;
+use drt_claims::TreeClaim;
 use drt_graph::Graph;
 use drt_model::{Memory, Row};
 use drt_request::RequestLabel;

@@ -10,7 +10,7 @@ ghost use Rattle.drt_sp.specs.Vertices.{IsOutcome};
 use crate::joints::take_at;
 use crate::parts::{Ahead, prove_by_parts};
 use crate::proving::{VertexProof, prove_vertex};
-use drt_evidence::ProofClaim;
+use drt_claims::ProofClaim;
 use drt_graph::Graph;
 use drt_model::{Memory, Row};
 use drt_pool::Gate;

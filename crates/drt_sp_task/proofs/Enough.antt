@@ -4,7 +4,7 @@ use Rattle.drt_model.specs.Contents.{Contents}
 use Rattle.drt_model.specs.Digraph.{IsSound}
 use Rattle.drt_model.specs.Walk.{deadline, wcet}
 use Rattle.drt_busy.specs.Choice.{graph_at, no_task}
-use Rattle.drt_evidence.specs.Trees.{greatest_deadline}
+use Rattle.drt_claims.specs.Trees.{greatest_deadline}
 use Rattle.drt_graph.proofs.Soundness.{all_sound}
 use Rattle.drt_refine.specs.Below.{tuples}
 use Rattle.drt_refine.specs.declared.step.FrontierEntry.{FrontierEntry}

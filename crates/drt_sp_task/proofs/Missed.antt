@@ -27,7 +27,7 @@ use Rattle.drt_choices.specs.Laws.{no_releases}
 use Rattle.drt_choices.proofs.Asked.{requests_asked}
 use Rattle.drt_choices.proofs.Chosen.{below_length, chosen_asked, chosen_walks}
 use Rattle.drt_choices.proofs.Members.{first_job, is_higher, job_releases, of_walks}
-use Rattle.drt_evidence.specs.Trees.{greatest_deadline}
+use Rattle.drt_claims.specs.Trees.{greatest_deadline}
 use Rattle.drt_sp.specs.Answers.{IsTupleFor}
 use Rattle.drt_sp_task.specs.Task.{IsTaskMiss}
 use Rattle.drt_sp_task.specs.Trees.{IsFailing, IsGiven}

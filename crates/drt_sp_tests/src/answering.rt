@@ -3,7 +3,8 @@ ghost use Rattle.std.specs.Prelude.{ℕ, IfOk};
 ghost use Rattle.drt_sp.specs.Answers.{IsAnswer};
 
 use drt_drawn::{Draws, drawn_set};
-use drt_evidence::{Dossier, print};
+use drt_claims::Dossier;
+use drt_evidence::print;
 use drt_model::{Policy, TaskSet};
 use drt_pool::Gate;
 use drt_sp::{FixedAnswer, FixedTrail, analyse_fixed};

@@ -1,5 +1,5 @@
 //! Sets answered by the analysis and by hand.
-use drt_evidence::Evidence;
+use drt_claims::Evidence;
 use drt_fixtures::{Shape, make_set};
 use drt_graph::check;
 use drt_pool::OpenGate;

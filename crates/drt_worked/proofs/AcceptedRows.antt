@@ -15,10 +15,10 @@ use Rattle.drt_model.specs.Utilisation.{Fraction, IsScale, rate}
 use Rattle.drt_model.specs.Walk.{sep_in, or_zero, work, span}
 use Rattle.drt_model.specs.declared.front.FrontEntry.{FrontEntry}
 use Rattle.drt_model.specs.FrontEntry.{due}
-use Rattle.drt_evidence.specs.Fronts.{HasOpenings, IsClosedFront, IsExtended, IsNextEntry, IsWithin, works_due}
-use Rattle.drt_evidence.specs.Rules.{Accepts}
-use Rattle.drt_evidence.specs.declared.evidence.RatioClaim.{RatioClaim}
-use Rattle.drt_evidence.proofs.Accepting.{AreFrontClaims, AreRatioClaims, IsEdfYes, yes_accepted}
+use Rattle.drt_claims.specs.Fronts.{HasOpenings, IsClosedFront, IsExtended, IsNextEntry, IsWithin, works_due}
+use Rattle.drt_claims.specs.Rules.{Accepts}
+use Rattle.drt_claims.specs.declared.evidence.RatioClaim.{RatioClaim}
+use Rattle.drt_claims.proofs.Accepting.{AreFrontClaims, AreRatioClaims, IsEdfYes, yes_accepted}
 use Rattle.drt_rows.proofs.SetRows.{short_is_constrained}
 use Rattle.drt_rows.proofs.Sets.{edge, short}
 use Rattle.drt_worked.proofs.TextRows.{edf_statement, one, set}

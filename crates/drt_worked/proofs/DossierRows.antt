@@ -5,9 +5,9 @@ use Rattle.drt_model.specs.declared.jobs.Policy.TheVariants.{Edf}
 use Rattle.drt_file.specs.trusted.Canonical.{written_line, name_at, priority_lines, body_lines, task_lines, set_lines, canonical}
 use Rattle.drt_file.specs.trusted.CanonicalPrefix.{line_count, first_lines}
 use Rattle.drt_evidence.specs.Reading.{IsTextOf, IsDossierPrefix, HoldsDossier, IsFaultyBy, HasDossierFault}
-use Rattle.drt_evidence.specs.Statement.{Statement}
+use Rattle.drt_claims.specs.Statement.{Statement}
 use Rattle.drt_evidence.specs.Text.{text}
-use Rattle.drt_evidence.specs.declared.evidence.Evidence.TheVariants.{Undecided}
+use Rattle.drt_claims.specs.declared.evidence.Evidence.TheVariants.{Undecided}
 use Rattle.drt_rows.proofs.Sets.{short}
 use Rattle.drt_rows.proofs.SetRows.{short_is_set}
 

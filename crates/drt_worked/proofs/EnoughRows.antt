@@ -8,7 +8,7 @@ use Rattle.drt_model.specs.Degrees.{most_out}
 use Rattle.drt_model.specs.Digraph.{Digraph}
 use Rattle.drt_model.specs.Walk.{sep_in, or_zero, span}
 use Rattle.drt_busy.specs.Choice.{graph_at, task_at}
-use Rattle.drt_evidence.specs.Trees.{IsShortWalk, greatest_deadline, latest_deadline}
+use Rattle.drt_claims.specs.Trees.{IsShortWalk, greatest_deadline, latest_deadline}
 use Rattle.drt_sp.specs.Needs.{HasAtMost, IsEnough, product_above}
 use Rattle.drt_rows.proofs.Sets.{edge, looped}
 

@@ -2,7 +2,7 @@
 use Rattle.std.proofs.Common.{◌≡◌, ℕ, [], ◌∷◌, refl, lit<, lit≤, arith}
 use Rattle.drt_model.specs.Walk.{sep_in, or_zero, work, span}
 use Rattle.drt_model.specs.declared.front.FrontEntry.{FrontEntry}
-use Rattle.drt_evidence.specs.Fronts.{Covers}
+use Rattle.drt_claims.specs.Fronts.{Covers}
 use Rattle.drt_edf.specs.Spent.{table_need}
 use Rattle.drt_edf.specs.Walks.{IsWalkEntry}
 use Rattle.drt_rows.specs.Row.{graph}

@@ -1,7 +1,7 @@
 -- What judgements say of worked dossiers.
 use Rattle.std.proofs.Common.{[], ◌∷◌, refl}
 use Rattle.drt_model.specs.declared.jobs.Policy.TheVariants.{Edf}
-use Rattle.drt_evidence.specs.declared.evidence.Evidence.{Evidence}
+use Rattle.drt_claims.specs.declared.evidence.Evidence.{Evidence}
 use Rattle.drt_check.specs.Judging.{IsJudged, IsSound}
 use Rattle.drt_check.specs.declared.judgement.Judgement.TheVariants as judgements
 use Rattle.drt_rows.proofs.Sets.{too_long}

@@ -8,11 +8,11 @@ use Rattle.drt_model.specs.declared.tasks.Task.{Task}
 use Rattle.drt_file.specs.trusted.Canonical.{written, written_line, name_at, priority_lines, body_lines, task_lines, set_lines, canonical}
 use Rattle.drt_command_util.specs.Util.{util_lines}
 use Rattle.drt_sp.specs.Evidence.{under_fixed}
-use Rattle.drt_evidence.specs.Statement.{Statement}
+use Rattle.drt_claims.specs.Statement.{Statement}
 use Rattle.drt_evidence.specs.Text.{text}
-use Rattle.drt_evidence.specs.declared.evidence.Evidence.TheVariants.{EdfYes, FixedYes}
-use Rattle.drt_evidence.specs.declared.evidence.Item.TheVariants.{Pass}
-use Rattle.drt_evidence.specs.declared.evidence.ProofClaim.{ProofClaim}
+use Rattle.drt_claims.specs.declared.evidence.Evidence.TheVariants.{EdfYes, FixedYes}
+use Rattle.drt_claims.specs.declared.evidence.Item.TheVariants.{Pass}
+use Rattle.drt_claims.specs.declared.evidence.ProofClaim.{ProofClaim}
 use Rattle.drt_model.specs.declared.jobs.Policy.TheVariants.{Edf}
 use Rattle.drt_rows.proofs.Sets.{looped, short}
 

@@ -6,7 +6,7 @@ ghost use Rattle.std.specs.Prelude.{◌<◌, ◌≤◌, ◌++◌, ℕ, List, dec
 ghost use Rattle.drt_evidence.specs.Blocks.{AreSoMany, in_turn};
 ghost use Rattle.drt_evidence.specs.Cuts.{IsCut, IsNoCut, IsSpaced, counted_form, entry_form, jump_form, left, spaced_form};
 ghost use Rattle.drt_evidence.specs.LineForms.{AreCounted, IsFieldForm};
-ghost use Rattle.drt_evidence.specs.Ranges.{IsInRangeJump, IsInRangeStateEntry};
+ghost use Rattle.drt_claims.specs.Ranges.{IsInRangeJump, IsInRangeStateEntry};
 ghost use Rattle.drt_evidence.specs.Some.{entry_spaced, jump_spaced};
 
 use crate::reading::fields::{Field, MOST_TICKS, MOST_WORK, cut_field, number_of};

@@ -4,12 +4,12 @@ ghost use Rattle.drt_file.specs.trusted.Canonical.{written};
 ghost use Rattle.drt_file.specs.trusted.CanonicalPrefix.{line_count};
 ghost use Rattle.drt_evidence.specs.Blocks.{IsStop, ReadsBlock};
 ghost use Rattle.drt_evidence.specs.LineForms.{IsAny};
-ghost use Rattle.drt_evidence.specs.Reading.{GivesStatement, IsDossierCause, IsStated, IsTextOf};
-ghost use Rattle.drt_evidence.specs.Statement.{Statement};
+ghost use Rattle.drt_evidence.specs.Reading.{GivesStatement, IsDossierCause, IsTextOf};
+ghost use Rattle.drt_claims.specs.Statement.{IsStated, Statement};
 ghost use Rattle.drt_evidence.specs.Text.{head_lines, text};
 ghost use Rattle.drt_evidence.specs.declared.fault.DossierError.TheVariants.{Fault, Memory};
 
-use crate::evidence::Dossier;
+use drt_claims::Dossier;
 use crate::fault::{DossierError, DossierFault, FOLLOWED, MISSING, UNFIT};
 use crate::reading::evidences::read_evidence;
 use crate::reading::forms::{read_first, read_policy};

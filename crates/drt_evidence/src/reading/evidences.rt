@@ -4,10 +4,10 @@ ghost use Rattle.drt_file.specs.trusted.Canonical.{written};
 ghost use Rattle.drt_evidence.specs.Blocks.{AreNamed, IsOfKind, IsStop, ReadsBlock, named_block};
 ghost use Rattle.drt_evidence.specs.declared.reading.line_forms.KindOfEvidence.TheVariants.{EdfYes, FixedStates, FixedYes};
 ghost use Rattle.drt_evidence.specs.LineForms.{AreCounted};
-ghost use Rattle.drt_evidence.specs.Ranges.{IsInRange, IsInRangeFront, IsInRangeProof, IsInRangeRatio, IsInRangeSearch, IsInRangeTail, IsInRangeTree};
+ghost use Rattle.drt_claims.specs.Ranges.{IsInRange, IsInRangeFront, IsInRangeProof, IsInRangeRatio, IsInRangeSearch, IsInRangeTail, IsInRangeTree};
 ghost use Rattle.drt_evidence.specs.Text.{body_lines, evidence_lines, front_block, proof_block, ratio_block, search_block, tail_block, tree_block};
 
-use crate::evidence::{Evidence, ProofClaim, RatioClaim, TreeClaim};
+use drt_claims::{Evidence, ProofClaim, RatioClaim, TreeClaim};
 use crate::reading::block::read_counted;
 use crate::reading::forms::{read_kind, read_last, read_miss};
 use crate::reading::line_forms::KindOfEvidence;

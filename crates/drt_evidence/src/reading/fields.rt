@@ -4,10 +4,10 @@ ghost use Rattle.std.specs.List.{list_all};
 ghost use Rattle.std.specs.Fmt.{signed_decimal};
 ghost use Rattle.drt_file.specs.trusted.Words.{is_digit, value};
 ghost use Rattle.drt_evidence.specs.LineForms.{AreBoth, HasNoSpace, IsAny, IsForm, IsNoForm, IsNumeral, itself, pair_form};
-ghost use Rattle.drt_evidence.specs.Ranges.{IsInRangeItem, IsInRangePotential, IsNumber, IsTick};
+ghost use Rattle.drt_claims.specs.Ranges.{IsInRangeItem, IsInRangePotential, IsNumber, IsTick};
 ghost use Rattle.drt_evidence.specs.Text.{item_field};
 
-use crate::evidence::Item;
+use drt_claims::Item;
 
 /// The greatest number of a vertex, a task, a job or a place, and the greatest count.
 pub(crate) const MOST_NUMBER: u64 = 4_294_967_295;

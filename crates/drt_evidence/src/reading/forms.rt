@@ -8,10 +8,10 @@ ghost use Rattle.drt_evidence.specs.Blocks.{IsStop, ReadsBlock, close_block, fir
 ghost use Rattle.drt_evidence.specs.declared.reading.text.Stop.TheVariants.{Fault};
 ghost use Rattle.drt_evidence.specs.LineForms.{AreCounted, IsAny, IsInRangeWritten, IsInRangeWrittenSearch, kind_line};
 ghost use Rattle.drt_evidence.specs.LineForms.{numbers_line, policy_line, potentials_line, written_ratio_line, written_search_line};
-ghost use Rattle.drt_evidence.specs.Ranges.{IsInRangeCurve, IsInRangeEntry, IsInRangeMiss, IsInRangePair, IsInRangePotential, IsInRangeProof, IsInRangeRelease, IsInRangeState, IsNumber};
+ghost use Rattle.drt_claims.specs.Ranges.{IsInRangeCurve, IsInRangeEntry, IsInRangeMiss, IsInRangePair, IsInRangePotential, IsInRangeProof, IsInRangeRelease, IsInRangeState, IsNumber};
 ghost use Rattle.drt_evidence.specs.Text.{count_line, curve_line, entry_line, miss_line, pair_line, proof_line, release_line, state_line};
 
-use crate::evidence::{Pair, ProofClaim};
+use drt_claims::{Pair, ProofClaim};
 use crate::reading::line_forms::{
     KindOfEvidence, WrittenRatio, WrittenSearch, count_of, entry_of, is_first_line, is_last_line,
     kind_of, miss_of, pair_of, policy_of, ratio_of, release_of, search_of,

@@ -5,10 +5,10 @@ ghost use Rattle.std.specs.Prelude.{◌≡◌, ◌<◌, ◌≤◌, ◌↔◌, �
 ghost use Rattle.std.specs.List.{join_with_byte};
 ghost use Rattle.drt_evidence.specs.LineForms.{AreBoth, IsAny, IsForm, IsInRangeWritten, IsInRangeWrittenSearch, IsLineOf, IsNoForm};
 ghost use Rattle.drt_evidence.specs.LineForms.{IsNoLine, kind_line, pair_form, policy_line, written_ratio_line, written_search_line};
-ghost use Rattle.drt_evidence.specs.Ranges.{IsInRangeEntry, IsInRangeMiss, IsInRangePair, IsInRangeRelease, IsNumber, IsTick};
+ghost use Rattle.drt_claims.specs.Ranges.{IsInRangeEntry, IsInRangeMiss, IsInRangePair, IsInRangeRelease, IsNumber, IsTick};
 ghost use Rattle.drt_evidence.specs.Text.{count_line, entry_line, miss_line, pair_line, release_line, word_line};
 
-use crate::evidence::Pair;
+use drt_claims::Pair;
 use crate::reading::fields::{
     MOST_NUMBER, MOST_PART, MOST_TICKS, MOST_WORK, behind_word, cut_field, index_of, number_of,
 };

@@ -5,10 +5,10 @@
 ghost use Rattle.std.specs.Prelude.{◌≡◌, decimal, map, option_map, All, IfOk, MatchOption};
 ghost use Rattle.drt_evidence.specs.Fields.{behind};
 ghost use Rattle.drt_evidence.specs.LineForms.{AreBoth, AreCounted, IsFieldForm, IsForm, IsLineOf, IsNoForm, IsNoLine, list_form, numbers_line, pair_form, potentials_line, spaced};
-ghost use Rattle.drt_evidence.specs.Ranges.{IsInRangeItem, IsInRangePotential, IsInRangeProof, IsNumber};
+ghost use Rattle.drt_claims.specs.Ranges.{IsInRangeItem, IsInRangePotential, IsInRangeProof, IsNumber};
 ghost use Rattle.drt_evidence.specs.Text.{item_field, proof_line};
 
-use crate::evidence::{Item, ProofClaim};
+use drt_claims::{Item, ProofClaim};
 use crate::reading::fields::{Field, behind_word, cut_field, index_before, index_of};
 use drt_model::{Memory, Row};
 use std::alloc::Global;

@@ -4,10 +4,10 @@
 ghost use Rattle.std.specs.Prelude.{◌≡◌, decimal, IfOk, MatchOption};
 ghost use Rattle.drt_evidence.specs.Cuts.{AreStateParts, end_form, join_form, left, spaced_form, state_form};
 ghost use Rattle.drt_evidence.specs.LineForms.{AreBoth, IsForm, IsLineOf, IsNoForm, IsNoLine};
-ghost use Rattle.drt_evidence.specs.Ranges.{IsInRangeCurve, IsInRangeEnd, IsInRangeState, IsWork};
+ghost use Rattle.drt_claims.specs.Ranges.{IsInRangeCurve, IsInRangeEnd, IsInRangeState, IsWork};
 ghost use Rattle.drt_evidence.specs.Text.{curve_line, state_line};
 
-use crate::evidence::Item;
+use drt_claims::Item;
 use crate::reading::cuts::{cut_list, cut_number, cut_one};
 use crate::reading::fields::{MOST_WORK, behind_word};
 use crate::reading::list_lines::values_behind;

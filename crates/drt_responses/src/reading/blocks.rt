@@ -4,7 +4,7 @@ ghost use Rattle.drt_file.specs.trusted.Canonical.{written_line};
 ghost use Rattle.drt_file.specs.trusted.Cutting.{HasNoFeed};
 ghost use Rattle.drt_evidence.specs.Blocks.{AreSoMany, ReadsBlock, in_turn};
 ghost use Rattle.drt_evidence.specs.LineForms.{AreCounted, IsAny};
-ghost use Rattle.drt_evidence.specs.Ranges.{IsInRangeRelease, IsNumber};
+ghost use Rattle.drt_claims.specs.Ranges.{IsInRangeRelease, IsNumber};
 ghost use Rattle.drt_evidence.specs.Text.{count_line, release_line};
 ghost use Rattle.drt_responses.specs.Ranges.{AreInRange};
 ghost use Rattle.drt_responses.specs.Rows.{IsInRangeHeading, IsStop, first_block, heading_line, releases_block, rows_block};

@@ -4,7 +4,7 @@
 ghost use Rattle.std.specs.Prelude.{◌≡◌, ◌≤◌, ◌↔◌, IsTrue, decimal, MatchOption};
 ghost use Rattle.std.specs.List.{join_with_byte};
 ghost use Rattle.drt_evidence.specs.LineForms.{AreBoth, IsForm, IsLineOf, IsNoForm, IsNoLine, pair_form};
-ghost use Rattle.drt_evidence.specs.Ranges.{IsInRangeRelease, IsNumber, IsTick};
+ghost use Rattle.drt_claims.specs.Ranges.{IsInRangeRelease, IsNumber, IsTick};
 ghost use Rattle.drt_evidence.specs.Text.{count_line, release_line};
 ghost use Rattle.drt_responses.specs.Rows.{IsInRangeHeading, IsInRangeOpening, first_words, heading_line, opening_line};
 

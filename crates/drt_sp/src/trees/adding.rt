@@ -6,7 +6,7 @@ ghost use Rattle.drt_tree.specs.Tree.{HaveOneBound, IsForest, children};
 ghost use Rattle.drt_sp.specs.TaskTrees.{pair_of, pairs_from, walks_from};
 
 use crate::trees::TaskTree;
-use drt_evidence::{Pair, TreeClaim};
+use drt_claims::{Pair, TreeClaim};
 use drt_model::{Memory, Row};
 use drt_request::RequestLabel;
 use drt_tree::Forest;

@@ -6,7 +6,7 @@ use Rattle.drt_model.specs.Constrained.{AreConstrained}
 use Rattle.drt_model.specs.Contents.{Contents}
 use Rattle.drt_model.specs.Limits.{IsTaskSet}
 use Rattle.drt_model.specs.Schedulable.{Schedulable}
-use Rattle.drt_evidence.specs.Claims.{graphs_of}
+use Rattle.drt_claims.specs.Claims.{graphs_of}
 use Rattle.drt_priorities.proofs.Prioritised.{graphs_stay}
 use Rattle.drt_assign.specs.Assign.{IsAssigned, with_priorities}
 use Rattle.drt_assign.specs.Steps.{IsAnalysis}

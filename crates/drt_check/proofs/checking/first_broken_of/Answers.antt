@@ -1,7 +1,7 @@
 use Rattle.std.proofs.Common.{◌≡◌, ◌+◌, ◌<◌, ◌≤◌, ◌⊎◌, inl, inr, true, false, sym, ◌∙◌, slice_index_or, subst, arith}
 use Rattle.std.proofs.lemmas.Bool.{cases_lt}
-use Rattle.drt_evidence.specs.Rules.{Applies, Keeps}
-use Rattle.drt_evidence.specs.declared.rule.Rule.{Rule}
+use Rattle.drt_claims.specs.Rules.{Applies, Keeps}
+use Rattle.drt_claims.specs.declared.rule.Rule.{Rule}
 use Rattle.drt_check.proofs.Table.{at_place, next_at, place, table}
 use Rattle.drt_check.proofs.checking.first_broken_of.Goals.{else-applies-via-then-applies+in_ok-is_kept+else-not-branch, else-applies-via-else-applies}
 use Rattle.drt_check.proofs.checking.first_broken_of.Goals as goal

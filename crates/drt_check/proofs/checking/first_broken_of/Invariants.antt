@@ -1,7 +1,7 @@
 -- The rules before the i-th are kept where they apply.
 use Rattle.std.proofs.Common.{◌<◌}
-use Rattle.drt_evidence.specs.Rules.{Applies, Keeps}
-use Rattle.drt_evidence.specs.declared.rule.Rule.{Rule}
+use Rattle.drt_claims.specs.Rules.{Applies, Keeps}
+use Rattle.drt_claims.specs.declared.rule.Rule.{Rule}
 use Rattle.drt_check.proofs.Table.{place}
 use Rattle.drt_check.proofs.checking.first_broken_of.Given as goal
 

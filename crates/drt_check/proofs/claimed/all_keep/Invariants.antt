@@ -1,7 +1,7 @@
 -- What is left decides.
 use Rattle.std.proofs.Common.{drop}
 use Rattle.std.specs.Prelude.{◌↔◌}
-use Rattle.drt_evidence.specs.Claims.{Each}
+use Rattle.drt_claims.specs.Claims.{Each}
 use Rattle.drt_check.specs.Claimed.{IsKept}
 use Rattle.drt_check.proofs.claimed.all_keep.Given as goal
 

@@ -1,7 +1,7 @@
 use Rattle.std.proofs.Common.{◌≡◌, length, arith}
-use Rattle.drt_evidence.specs.Claims.{graphs_of}
-use Rattle.drt_evidence.specs.Kinds.{ratios_of}
-use Rattle.drt_evidence.specs.declared.rule.Rule.TheVariants.{ClaimedUtilisation}
+use Rattle.drt_claims.specs.Claims.{graphs_of}
+use Rattle.drt_claims.specs.Kinds.{ratios_of}
+use Rattle.drt_claims.specs.declared.rule.Rule.TheVariants.{ClaimedUtilisation}
 use Rattle.drt_check.proofs.Rows.{counted, fine}
 use Rattle.drt_check.proofs.rules.has_claimed_utilisation.Goals as goal
 

@@ -1,11 +1,11 @@
 use Rattle.std.proofs.Common.{ap, subst, arith}
-use Rattle.drt_evidence.specs.Claims.{graphs_of, Each}
-use Rattle.drt_evidence.specs.Fronts.{HasOpenings, IsClosedFront}
-use Rattle.drt_evidence.specs.Kinds.{fronts_of, ratios_of}
-use Rattle.drt_evidence.specs.Statement.{Statement}
-use Rattle.drt_evidence.specs.declared.rule.Rule.TheVariants.{LowestTerms, PotentialPerVertex, FittingPotentials, ClosedCycles, TightCycles, NearHorizon}
-use Rattle.drt_evidence.specs.declared.rule.Rule.TheVariants.{OrderedFronts, CoveredOpenings, CoveredExtensions, Room}
-use Rattle.drt_evidence.specs.declared.rule.Rule.TheVariants.{TreePerHigherTask, ShortWalks, CoveredWalks, TreeShapes, ProofShapes, PassingTimes}
+use Rattle.drt_claims.specs.Claims.{graphs_of, Each}
+use Rattle.drt_claims.specs.Fronts.{HasOpenings, IsClosedFront}
+use Rattle.drt_claims.specs.Kinds.{fronts_of, ratios_of}
+use Rattle.drt_claims.specs.Statement.{Statement}
+use Rattle.drt_claims.specs.declared.rule.Rule.TheVariants.{LowestTerms, PotentialPerVertex, FittingPotentials, ClosedCycles, TightCycles, NearHorizon}
+use Rattle.drt_claims.specs.declared.rule.Rule.TheVariants.{OrderedFronts, CoveredOpenings, CoveredExtensions, Room}
+use Rattle.drt_claims.specs.declared.rule.Rule.TheVariants.{TreePerHigherTask, ShortWalks, CoveredWalks, TreeShapes, ProofShapes, PassingTimes}
 use Rattle.drt_check.specs.Deciding.{IsNext}
 use Rattle.drt_check.proofs.Rows.{counted, decides, decides_at, decides_near, decides_order, given, in_order, near}
 use Rattle.drt_check.proofs.rules.keeps.Goals as goal

@@ -3,10 +3,10 @@ use Rattle.std.specs.Prelude.{◌↔◌, All, IfOk, IsTrue}
 use Rattle.drt_model.specs.declared.tasks.Task.{Task}
 use Rattle.drt_states.specs.declared.claims.SearchClaim.{SearchClaim}
 use Rattle.drt_states.specs.declared.claims.TailClaim.{TailClaim}
-use Rattle.drt_evidence.specs.Kinds.{tails_of}
-use Rattle.drt_evidence.specs.Searches.{HasDominatedChildren, HasPassingStates}
-use Rattle.drt_evidence.specs.Statement.{Statement}
-use Rattle.drt_evidence.specs.declared.rule.Rule.TheVariants.{BoundingTails, DominatedChildren, PassingStates, RisingTails, SearchStates}
+use Rattle.drt_claims.specs.Kinds.{tails_of}
+use Rattle.drt_claims.specs.Searches.{HasDominatedChildren, HasPassingStates}
+use Rattle.drt_claims.specs.Statement.{Statement}
+use Rattle.drt_claims.specs.declared.rule.Rule.TheVariants.{BoundingTails, DominatedChildren, PassingStates, RisingTails, SearchStates}
 use Rattle.drt_check.specs.Deciding.{IsNext}
 use Rattle.drt_check.proofs.Rows.{decides}
 use Rattle.drt_check.proofs.rules.keeps_of_states.Goals as goal

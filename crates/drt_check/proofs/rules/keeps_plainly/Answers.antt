@@ -1,8 +1,8 @@
 use Rattle.std.proofs.Common.{◌≡◌, refl, sym, ap, subst, true, arith}
 use Rattle.std.specs.Prelude.{◌↔◌, IsTrue}
-use Rattle.drt_evidence.specs.Rules.{Keeps}
-use Rattle.drt_evidence.specs.Statement.{Statement}
-use Rattle.drt_evidence.specs.declared.rule.Rule.TheVariants.{ConstrainedDeadlines, LegalReleases}
+use Rattle.drt_claims.specs.Rules.{Keeps}
+use Rattle.drt_claims.specs.Statement.{Statement}
+use Rattle.drt_claims.specs.declared.rule.Rule.TheVariants.{ConstrainedDeadlines, LegalReleases}
 use Rattle.drt_check.specs.Deciding.{IsNext}
 use Rattle.drt_check.proofs.Plain.{deadlines_left}
 use Rattle.drt_check.proofs.rules.keeps_plainly.Goals as goal

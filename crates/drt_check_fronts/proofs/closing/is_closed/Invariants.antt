@@ -2,7 +2,7 @@
 use Rattle.std.proofs.Common.{ℕ, ◌<◌, get_or}
 use Rattle.drt_model.specs.Digraph.{out_degree}
 use Rattle.drt_model.specs.declared.front.FrontEntry.{FrontEntry}
-use Rattle.drt_evidence.specs.Fronts.{IsExtended}
+use Rattle.drt_claims.specs.Fronts.{IsExtended}
 use Rattle.drt_check_fronts.proofs.closing.is_closed.Given as goal
 
 abbrev pub invariant-loop-i : goal.invariant-loop-i

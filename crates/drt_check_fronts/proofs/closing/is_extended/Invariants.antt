@@ -1,6 +1,6 @@
 -- The extensions by the edges so far are covered, or due past the bound.
 use Rattle.std.proofs.Common.{ℕ, ◌<◌}
-use Rattle.drt_evidence.specs.Fronts.{IsExtended}
+use Rattle.drt_claims.specs.Fronts.{IsExtended}
 use Rattle.drt_check_fronts.proofs.closing.is_extended.Given as goal
 
 abbrev pub invariant-loop-k : goal.invariant-loop-k

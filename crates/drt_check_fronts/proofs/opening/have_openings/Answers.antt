@@ -1,5 +1,5 @@
 use Rattle.std.proofs.Common.{◌≡◌, ◌<◌, length, true, refl, arith}
-use Rattle.drt_evidence.specs.Fronts.{HasOpenings, IsOrdered}
+use Rattle.drt_claims.specs.Fronts.{HasOpenings, IsOrdered}
 use Rattle.drt_check_fronts.proofs.Eachs.{each_here, each_from, row_at}
 use Rattle.drt_check_fronts.proofs.opening.have_openings.Goals as goal
 

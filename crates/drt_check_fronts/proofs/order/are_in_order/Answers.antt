@@ -1,5 +1,5 @@
 use Rattle.std.proofs.Common.{◌≡◌, ◌<◌, length, true, refl, arith}
-use Rattle.drt_evidence.specs.Fronts.{IsOrdered}
+use Rattle.drt_claims.specs.Fronts.{IsOrdered}
 use Rattle.drt_check_fronts.proofs.Eachs.{each_here, each_from, here_more, row_at}
 use Rattle.drt_check_fronts.proofs.order.are_in_order.Goals as goal
 

@@ -1,7 +1,7 @@
 -- The entries so far are within the bound.
 use Rattle.std.proofs.Common.{ℕ, ◌<◌, get_or}
 use Rattle.drt_model.specs.declared.front.FrontEntry.{FrontEntry}
-use Rattle.drt_evidence.specs.Fronts.{IsWithin}
+use Rattle.drt_claims.specs.Fronts.{IsWithin}
 use Rattle.drt_check_fronts.proofs.order.are_within.Given as goal
 
 abbrev pub invariant-loop-i : goal.invariant-loop-i

@@ -4,8 +4,8 @@ use Rattle.std.specs.List.{AllByRecursion}
 use Rattle.std.proofs.lemmas.Bool.{both_ways, false≢true}
 use Rattle.std.proofs.lemmas.List.Elements.{All-from_recursion, recursion_from_All}
 use Rattle.drt_model.specs.declared.tasks.Task.{Task}
-use Rattle.drt_evidence.specs.Proofs.{HasPassingTimes}
-use Rattle.drt_evidence.specs.Trees.{tree_graphs}
+use Rattle.drt_claims.specs.Proofs.{HasPassingTimes}
+use Rattle.drt_claims.specs.Trees.{tree_graphs}
 use Rattle.drt_check_proofs.specs.Points.{IsPoint, IsTimely, marks, points, room}
 use Rattle.drt_check_proofs.proofs.Asking.{ok_then, ready_is}
 use Rattle.drt_check_proofs.proofs.PointLaws.{marks_points, passing_points}

@@ -2,7 +2,7 @@ use Rattle.std.proofs.Common.{◌≡◌, length, refl, sym, subst, ◌∙◌, ar
 use Rattle.std.specs.Prelude.{Some, slice_get}
 use Rattle.std.proofs.lemmas.Bool.{both_ways, false≢true}
 use Rattle.std.proofs.lemmas.Option.{slice_get_read}
-use Rattle.drt_evidence.specs.Trees.{HasShortWalks, greatest_deadline, tree_graphs}
+use Rattle.drt_claims.specs.Trees.{HasShortWalks, greatest_deadline, tree_graphs}
 use Rattle.drt_check_proofs.specs.Points.{points}
 use Rattle.drt_check_proofs.proofs.Asking.{as_many, asked_is, graphs_few, ready_is, tree_is}
 use Rattle.drt_check_proofs.proofs.RoomLaws.{each_at, rooms_last, rooms_more, values_fit}

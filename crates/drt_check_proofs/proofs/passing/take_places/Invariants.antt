@@ -1,5 +1,5 @@
 -- What was asked for so far was taken.
-use Rattle.drt_evidence.specs.Trees.{tree_graphs}
+use Rattle.drt_claims.specs.Trees.{tree_graphs}
 use Rattle.drt_check_proofs.specs.Points.{AreRooms, points}
 use Rattle.drt_check_proofs.proofs.passing.take_places.Given as goal
 

@@ -1,6 +1,6 @@
 use Rattle.std.proofs.Common.{◌≡◌, ◌+◌, ◌++◌, ◌∷◌, [], drop, reverse}
 use Rattle.std.specs.Prelude.{None, Some}
-use Rattle.drt_evidence.specs.Trees.{root}
+use Rattle.drt_claims.specs.Trees.{root}
 use Rattle.drt_check_proofs.specs.Passing.{asks_at, passes_at}
 use Rattle.drt_check_proofs.specs.Places.{after_at}
 use Rattle.drt_check_proofs.proofs.Rest.{added_all, added_more, passes_ended, passes_none, passes_turned}

@@ -2,8 +2,8 @@ use Rattle.std.proofs.Common.{◌≡◌, ◌<◌, ◌≤◌, ◌++◌, ◌∷◌
 use Rattle.std.specs.Prelude.{IfOk, None, Some, slice_get}
 use Rattle.std.proofs.lemmas.List.{append-nil}
 use Rattle.std.proofs.lemmas.Option.{slice_get_past, slice_get_read}
-use Rattle.drt_evidence.specs.Trees.{higher_count, root}
-use Rattle.drt_evidence.specs.declared.evidence.Item.{Item}
+use Rattle.drt_claims.specs.Trees.{higher_count, root}
+use Rattle.drt_claims.specs.declared.evidence.Item.{Item}
 use Rattle.drt_check_values.specs.declared.query.Query.{Query}
 use Rattle.drt_check_proofs.specs.Passing.{blank, passes_at, times}
 use Rattle.drt_check_proofs.proofs.Rest.{queries_above, queries_past}

@@ -2,7 +2,7 @@ use Rattle.std.proofs.Common.{◌≡◌, ◌++◌, List, length, map, refl, ap, 
 use Rattle.std.specs.Prelude.{◌↔◌, IfOk, IsTrue, Some, slice_get}
 use Rattle.std.specs.List.{AllByRecursion}
 use Rattle.std.proofs.lemmas.Option.{slice_get_read}
-use Rattle.drt_evidence.specs.declared.evidence.Item.{Item}
+use Rattle.drt_claims.specs.declared.evidence.Item.{Item}
 use Rattle.drt_check_proofs.specs.Passing.{times}
 use Rattle.drt_check_proofs.specs.Points.{IsTimely, Mark, make_mark, room}
 use Rattle.drt_check_proofs.proofs.Rest.{marks_are}

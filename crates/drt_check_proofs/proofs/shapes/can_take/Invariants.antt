@@ -1,7 +1,7 @@
 -- What is left decides.
 use Rattle.std.proofs.Common.{◌≡◌, [], ◌∷◌, drop, reverse}
 use Rattle.std.specs.Prelude.{Some}
-use Rattle.drt_evidence.specs.Trees.{root}
+use Rattle.drt_claims.specs.Trees.{root}
 use Rattle.drt_check_proofs.specs.Places.{after_all_at}
 use Rattle.drt_check_proofs.proofs.shapes.can_take.Given as goal
 

@@ -1,7 +1,7 @@
 -- The items can be taken at the places so far.
 use Rattle.std.proofs.Common.{◌≡◌, ℕ, ◌<◌}
 use Rattle.std.specs.Prelude.{Some, slice_get}
-use Rattle.drt_evidence.specs.declared.evidence.TreeClaim.{TreeClaim}
+use Rattle.drt_claims.specs.declared.evidence.TreeClaim.{TreeClaim}
 use Rattle.drt_check_proofs.specs.Shapes.{CanTakeAt}
 use Rattle.drt_check_proofs.proofs.shapes.can_take_below.Given as goal
 

@@ -2,7 +2,7 @@ use Rattle.std.proofs.Common.{◌≡◌, length, min, refl}
 use Rattle.std.specs.Prelude.{Some, slice_get}
 use Rattle.std.proofs.lemmas.Bool.{both_ways}
 use Rattle.std.proofs.lemmas.Option.{slice_get_read}
-use Rattle.drt_evidence.specs.Trees.{higher_count}
+use Rattle.drt_claims.specs.Trees.{higher_count}
 use Rattle.drt_check_proofs.proofs.Replays.{has_shape_decides}
 use Rattle.drt_check_proofs.proofs.shapes.has_shape.Goals as goal
 

@@ -1,6 +1,6 @@
 -- The proofs so far are those of the task's vertices.
 use Rattle.std.proofs.Common.{◌≡◌, ℕ, ◌+◌, ◌<◌, get_or}
-use Rattle.drt_evidence.specs.declared.evidence.ProofClaim.{ProofClaim}
+use Rattle.drt_claims.specs.declared.evidence.ProofClaim.{ProofClaim}
 use Rattle.drt_check_proofs.specs.Subjects.{subject}
 use Rattle.drt_check_proofs.proofs.subjects.are_of_task.Given as goal
 

@@ -1,6 +1,6 @@
 use Rattle.std.proofs.Common.{◌≡◌, length, map, sym, ap, ◌∙◌, arith}
 use Rattle.std.proofs.lemmas.Bool.{false≢true, eqb-true, eq-eqb}
-use Rattle.drt_evidence.specs.Proofs.{subjects_from}
+use Rattle.drt_claims.specs.Proofs.{subjects_from}
 use Rattle.drt_model.specs.declared.tasks.Task.{Task}
 use Rattle.drt_check_proofs.specs.Subjects.{subject}
 use Rattle.drt_check_proofs.proofs.TaskProofs.{all_left, next_task, none_left, not_next, too_few_left}

@@ -1,7 +1,7 @@
 -- The proofs that are left are to be those of the tasks that are left.
 use Rattle.std.proofs.Common.{◌≡◌, ◌≤◌, length, map, drop}
 use Rattle.std.specs.Prelude.{◌↔◌}
-use Rattle.drt_evidence.specs.Proofs.{subjects_from}
+use Rattle.drt_claims.specs.Proofs.{subjects_from}
 use Rattle.drt_check_proofs.specs.Subjects.{subject}
 use Rattle.drt_check_proofs.proofs.subjects.is_proof_per_vertex.Given as goal
 

@@ -2,8 +2,8 @@ use Rattle.std.proofs.Common.{◌≡◌, ◌+◌, Bool, List, drop, max, ap, ari
 use Rattle.std.specs.Prelude.{nat_lt}
 use Rattle.std.proofs.lemmas.Bool.{le-ltb, lt-ltb}
 use Rattle.drt_model.specs.declared.tasks.Task.{Task}
-use Rattle.drt_evidence.specs.Searches.{lower_deadline}
-use Rattle.drt_evidence.specs.Trees.{latest_deadline}
+use Rattle.drt_claims.specs.Searches.{lower_deadline}
+use Rattle.drt_claims.specs.Trees.{latest_deadline}
 use Rattle.drt_check_searches.proofs.Lowers.{lower_end, lower_more, lower_skip}
 use Rattle.drt_check_searches.proofs.bounds.lower_deadline.Goals as goal
 

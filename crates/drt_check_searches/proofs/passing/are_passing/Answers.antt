@@ -1,5 +1,5 @@
 use Rattle.std.proofs.Common.{arith, refl}
-use Rattle.drt_evidence.specs.Searches.{HasPassingStates}
+use Rattle.drt_claims.specs.Searches.{HasPassingStates}
 use Rattle.drt_check_states.proofs.Items.{all_more, all_not}
 use Rattle.drt_check_searches.proofs.passing.are_passing.Goals as goal
 

@@ -1,6 +1,6 @@
 -- The searches so far have passing states.
 use Rattle.std.proofs.Common.{ℕ, ◌<◌, get_or}
-use Rattle.drt_evidence.specs.Searches.{HasPassingStates}
+use Rattle.drt_claims.specs.Searches.{HasPassingStates}
 use Rattle.drt_states.specs.declared.claims.SearchClaim.{SearchClaim}
 use Rattle.drt_check_searches.proofs.passing.are_passing.Given as goal
 

@@ -1,4 +1,4 @@
-use Rattle.drt_evidence.specs.Searches.{places_of}
+use Rattle.drt_claims.specs.Searches.{places_of}
 use Rattle.drt_check_states.proofs.Sums.{tails_rise}
 use Rattle.drt_check_searches.proofs.passing.have_passing_states.Goals as goal
 

@@ -1,6 +1,6 @@
 use Rattle.std.proofs.Common.{◌≡◌, List, ap, arith, get_or, length, sym, ◌∙◌}
 use Rattle.drt_model.specs.declared.tasks.Task.{Task}
-use Rattle.drt_evidence.specs.Searches.{lower_deadline}
+use Rattle.drt_claims.specs.Searches.{lower_deadline}
 use Rattle.drt_check_searches.proofs.Orders.{bound_here, order_below, place_in}
 use Rattle.drt_check_searches.proofs.places.bound_at.Goals as goal
 

@@ -1,7 +1,7 @@
 use Rattle.std.proofs.Common.{ℕ, ap, arith, sym, take, ◌∙◌}
 use Rattle.std.proofs.lemmas.List.{length-take-le}
 use Rattle.drt_model.specs.declared.tasks.Task.{Task}
-use Rattle.drt_evidence.specs.Trees.{higher_count}
+use Rattle.drt_claims.specs.Trees.{higher_count}
 use Rattle.drt_check_states.specs.Places.{graphs_at}
 use Rattle.drt_check_searches.proofs.Orders.{are_tasks, count_few, count_is, higher_graphs, order_long}
 use Rattle.drt_check_searches.proofs.places.higher_order.Goals as goal

@@ -1,5 +1,5 @@
 use Rattle.std.proofs.Common.{arith, refl, subst, sym}
-use Rattle.drt_evidence.specs.Searches.{HasDominatedChildren, HasStatesOver}
+use Rattle.drt_claims.specs.Searches.{HasDominatedChildren, HasStatesOver}
 use Rattle.drt_check_states.proofs.Items.{all_more, all_not}
 use Rattle.drt_check_searches.proofs.splits.have_dominated_splits.Goals as goal
 

@@ -1,6 +1,6 @@
 -- The searches so far have dominated children.
 use Rattle.std.proofs.Common.{ℕ, ◌<◌, get_or}
-use Rattle.drt_evidence.specs.Searches.{HasDominatedChildren}
+use Rattle.drt_claims.specs.Searches.{HasDominatedChildren}
 use Rattle.drt_states.specs.declared.claims.SearchClaim.{SearchClaim}
 use Rattle.drt_check_searches.proofs.splits.have_dominated_splits.Given as goal
 

@@ -1,5 +1,5 @@
 use Rattle.std.proofs.Common.{arith, refl}
-use Rattle.drt_evidence.specs.Searches.{HasStatesOver}
+use Rattle.drt_claims.specs.Searches.{HasStatesOver}
 use Rattle.drt_check_states.proofs.Items.{all_more, all_not}
 use Rattle.drt_check_searches.proofs.states.have_states.Goals as goal
 

@@ -1,6 +1,6 @@
 -- The searches so far have states over the tasks of higher priority.
 use Rattle.std.proofs.Common.{ℕ, ◌<◌, get_or}
-use Rattle.drt_evidence.specs.Searches.{HasStatesOver}
+use Rattle.drt_claims.specs.Searches.{HasStatesOver}
 use Rattle.drt_states.specs.declared.claims.SearchClaim.{SearchClaim}
 use Rattle.drt_check_searches.proofs.states.have_states.Given as goal
 

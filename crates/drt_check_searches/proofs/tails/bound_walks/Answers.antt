@@ -1,5 +1,5 @@
 use Rattle.std.proofs.Common.{◌≡◌, ◌<◌, List, arith, length, refl, sym, true}
-use Rattle.drt_evidence.specs.Searches.{places_of}
+use Rattle.drt_claims.specs.Searches.{places_of}
 use Rattle.drt_model.specs.declared.tasks.Task.{Task}
 use Rattle.drt_states.specs.Tails.{BoundsWalks, EachTail, IsTail, Place}
 use Rattle.drt_states.specs.declared.claims.TailClaim.{TailClaim}

@@ -1,5 +1,5 @@
 use Rattle.std.proofs.Common.{◌≡◌, ◌<◌, ap, arith, length, refl, true}
-use Rattle.drt_evidence.specs.Searches.{places_of}
+use Rattle.drt_claims.specs.Searches.{places_of}
 use Rattle.drt_states.specs.Tails.{IsTail, Place}
 use Rattle.drt_states.specs.declared.claims.TailClaim.{TailClaim}
 use Rattle.drt_check_states.proofs.Zips.{zip_long}

@@ -1,5 +1,5 @@
 -- The tails so far are as they should be.
-use Rattle.drt_evidence.specs.Searches.{places_of}
+use Rattle.drt_claims.specs.Searches.{places_of}
 use Rattle.drt_states.specs.Tails.{IsTail}
 use Rattle.drt_check_searches.proofs.Eachs.{AreTo}
 use Rattle.drt_check_searches.proofs.tails.has_rising_tails.Given as goal

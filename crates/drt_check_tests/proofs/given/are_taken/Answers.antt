@@ -1,8 +1,8 @@
 use Rattle.std.proofs.Common.{List, ap, sym, subst, ◌∙◌}
 use Rattle.drt_model.specs.Digraph.{Digraph}
 use Rattle.drt_graph.specs.Graphs.{graph_of}
-use Rattle.drt_evidence.specs.declared.evidence.TreeClaim.{TreeClaim}
-use Rattle.drt_evidence.specs.Trees.{HasShortWalks}
+use Rattle.drt_claims.specs.declared.evidence.TreeClaim.{TreeClaim}
+use Rattle.drt_claims.specs.Trees.{HasShortWalks}
 use Rattle.drt_check_tests.specs.Worked.{graph, tree}
 use Rattle.drt_check_tests.proofs.Claims.{is_short}
 use Rattle.drt_check_tests.proofs.given.are_taken.Goals as goal

@@ -1,7 +1,7 @@
 use Rattle.std.proofs.Common.{refl}
 use Rattle.drt_model.specs.RequestFunction.{requested_from}
 use Rattle.drt_model.specs.Walk.{or_zero, sep_in}
-use Rattle.drt_evidence.specs.Trees.{joined}
+use Rattle.drt_claims.specs.Trees.{joined}
 use Rattle.drt_check_tests.proofs.worked.chain_values.Goals as goal
 
 pub returns-clause-at_1 : goal.returns-clause-at_1

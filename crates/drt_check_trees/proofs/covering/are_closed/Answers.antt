@@ -1,7 +1,7 @@
 use Rattle.std.proofs.Common.{◌≡◌, ℕ, ◌<◌, inl, inr, List, [], length, get_or, refl, ap, subst, arith, ◌∙◌}
 use Rattle.std.proofs.lemmas.Bool.{cases_lt}
 use Rattle.std.proofs.lemmas.List.{get_or_default}
-use Rattle.drt_evidence.specs.Trees.{IsClosedWalk}
+use Rattle.drt_claims.specs.Trees.{IsClosedWalk}
 use Rattle.drt_check_trees.specs.declared.entries.Entry.{Entry}
 use Rattle.drt_check_trees.proofs.Domination.{closed_over}
 use Rattle.drt_check_trees.proofs.covering.are_closed.Goals as goal

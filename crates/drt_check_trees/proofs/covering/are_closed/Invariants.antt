@@ -1,6 +1,6 @@
 -- The walks of the entries so far are closed.
 use Rattle.std.proofs.Common.{ℕ, ◌<◌, [], get_or}
-use Rattle.drt_evidence.specs.Trees.{IsClosedWalk}
+use Rattle.drt_claims.specs.Trees.{IsClosedWalk}
 use Rattle.drt_check_trees.specs.declared.entries.Entry.{Entry}
 use Rattle.drt_check_trees.proofs.covering.are_closed.Given as goal
 

@@ -1,6 +1,6 @@
 use Rattle.std.proofs.Common.{◌≡◌, ℕ, true, false, refl, subst, sym}
-use Rattle.drt_evidence.specs.Claims.{Each}
-use Rattle.drt_evidence.specs.Trees.{CoversWalks, HasShortWalks, tree_graphs}
+use Rattle.drt_claims.specs.Claims.{Each}
+use Rattle.drt_claims.specs.Trees.{CoversWalks, HasShortWalks, tree_graphs}
 use Rattle.drt_check_trees.proofs.Eachs.{each_end, each_here, each_more, each_not}
 use Rattle.drt_check_trees.proofs.Orders.{graphs_long}
 use Rattle.drt_check_trees.proofs.covering.cover_walks.Goals as goal

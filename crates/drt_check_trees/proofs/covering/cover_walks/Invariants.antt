@@ -1,5 +1,5 @@
 -- The trees so far cover their walks.
-use Rattle.drt_evidence.specs.Trees.{CoversWalks, tree_graphs}
+use Rattle.drt_claims.specs.Trees.{CoversWalks, tree_graphs}
 use Rattle.drt_check_trees.proofs.Eachs.{IsEachTo}
 use Rattle.drt_check_trees.proofs.covering.cover_walks.Given as goal
 

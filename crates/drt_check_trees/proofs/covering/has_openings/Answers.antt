@@ -3,7 +3,7 @@ use Rattle.std.specs.Prelude.{Any}
 use Rattle.std.proofs.lemmas.Bool.{cases_lt}
 use Rattle.drt_model.specs.Digraph.{vertex_count}
 use Rattle.drt_model.specs.declared.tasks.Vertex.{Vertex}
-use Rattle.drt_evidence.specs.Trees.{IsAbove}
+use Rattle.drt_claims.specs.Trees.{IsAbove}
 use Rattle.drt_check_trees.proofs.Extending.{short_opening, span_opening, work_opening}
 use Rattle.drt_check_trees.proofs.covering.has_openings.Goals as goal
 

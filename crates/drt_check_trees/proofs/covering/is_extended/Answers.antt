@@ -4,7 +4,7 @@ use Rattle.drt_model.specs.Digraph.{edge_of}
 use Rattle.drt_model.specs.Walk.{wcet, work}
 use Rattle.drt_model.specs.declared.tasks.Edge.{Edge}
 use Rattle.drt_model.specs.declared.tasks.Vertex.{Vertex}
-use Rattle.drt_evidence.specs.Trees.{IsShortWalk}
+use Rattle.drt_claims.specs.Trees.{IsShortWalk}
 use Rattle.drt_check_trees.specs.Asking.{span_of}
 use Rattle.drt_check_trees.specs.Entries.{IsOver, last_in}
 use Rattle.drt_check_trees.proofs.Extending.{extended_far, extended_near, short_longer, span_longer, work_longer}

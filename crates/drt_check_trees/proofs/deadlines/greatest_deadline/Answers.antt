@@ -1,6 +1,6 @@
 use Rattle.std.proofs.Common.{◌≡◌, ◌+◌, ◌<◌, ◌≤◌, List, length, drop, get_or, max, ap, arith, ◌∙◌}
 use Rattle.drt_model.specs.declared.tasks.Task.{Task}
-use Rattle.drt_evidence.specs.Trees.{greatest_deadline, latest_deadline}
+use Rattle.drt_claims.specs.Trees.{greatest_deadline, latest_deadline}
 use Rattle.drt_check_trees.proofs.GreatestDeadline.{greatest_end, greatest_more, greatest_most, greatest_some}
 use Rattle.drt_check_trees.proofs.deadlines.greatest_deadline.Goals as goal
 

@@ -1,5 +1,5 @@
 use Rattle.std.proofs.Common.{List, ℕ, subst, sym, ◌∙◌}
-use Rattle.drt_evidence.specs.Trees.{IsShortWalk}
+use Rattle.drt_claims.specs.Trees.{IsShortWalk}
 use Rattle.drt_check_trees.proofs.Ranks.{short_within}
 use Rattle.drt_check_trees.proofs.entries.is_no_less.Goals as goal
 

@@ -1,6 +1,6 @@
 use Rattle.std.proofs.Common.{◌≡◌, ℕ, List, [], arith, get_or, ap, ◌∙◌}
 use Rattle.std.proofs.lemmas.List.{get_or_default}
-use Rattle.drt_evidence.specs.Trees.{IsShortWalk}
+use Rattle.drt_claims.specs.Trees.{IsShortWalk}
 use Rattle.drt_check_trees.specs.Entries.{last_in}
 use Rattle.drt_check_trees.proofs.Ranks.{over_of, over_parts}
 use Rattle.drt_check_trees.proofs.entries.is_over.Goals as goal

@@ -1,4 +1,4 @@
-use Rattle.drt_evidence.specs.Trees.{IsTree}
+use Rattle.drt_claims.specs.Trees.{IsTree}
 use Rattle.drt_check_trees.proofs.Naming.{all_more}
 use Rattle.drt_check_trees.proofs.shapes.are_trees.Goals as goal
 

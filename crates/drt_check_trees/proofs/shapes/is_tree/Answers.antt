@@ -1,6 +1,6 @@
 use Rattle.std.proofs.Common.{◌≡◌, ◌+◌, ◌*◌, ◌<◌, ◌≤◌, ℕ, List, length, sym, ap, subst, arith, ◌∙◌}
-use Rattle.drt_evidence.specs.Trees.{named}
-use Rattle.drt_evidence.specs.declared.evidence.Pair.{Pair}
+use Rattle.drt_claims.specs.Trees.{named}
+use Rattle.drt_claims.specs.declared.evidence.Pair.{Pair}
 use Rattle.drt_check_trees.specs.Marks.{AreLower, marked}
 use Rattle.drt_check_trees.proofs.Naming.{lower_tree, once_each, tree_once}
 use Rattle.drt_check_trees.proofs.shapes.is_tree.Goals as goal

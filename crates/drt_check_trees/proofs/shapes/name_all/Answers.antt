@@ -1,5 +1,5 @@
 use Rattle.std.proofs.Common.{◌≡◌, ◌+◌, ◌<◌, ◌≤◌, ℕ, List, length, get_or, arith}
-use Rattle.drt_evidence.specs.declared.evidence.Pair.{Pair}
+use Rattle.drt_claims.specs.declared.evidence.Pair.{Pair}
 use Rattle.std.proofs.lemmas.Option.{slice_get-get_or, slice_get_within}
 use Rattle.drt_check_trees.specs.Marks.{IsLower, marked, names}
 use Rattle.drt_check_trees.proofs.Naming.{lower_more, named_end, named_more}

@@ -1,8 +1,8 @@
 -- The pairs so far name lower nodes, and those that they name are marked.
 use Rattle.std.proofs.Common.{◌≡◌, ℕ, ◌+◌, ◌<◌, Some, drop, length}
 use Rattle.std.specs.Prelude.{slice_get}
-use Rattle.drt_evidence.specs.Trees.{named}
-use Rattle.drt_evidence.specs.declared.evidence.Pair.{Pair}
+use Rattle.drt_claims.specs.Trees.{named}
+use Rattle.drt_claims.specs.declared.evidence.Pair.{Pair}
 use Rattle.drt_check_trees.specs.Marks.{IsLower, marked}
 use Rattle.drt_check_trees.proofs.shapes.name_all.Given as goal
 

@@ -1,6 +1,6 @@
 use Rattle.std.proofs.Common.{◌≡◌, ℕ, true, refl, subst, sym}
-use Rattle.drt_evidence.specs.Claims.{Each}
-use Rattle.drt_evidence.specs.Trees.{HasShortWalks, tree_graphs}
+use Rattle.drt_claims.specs.Claims.{Each}
+use Rattle.drt_claims.specs.Trees.{HasShortWalks, tree_graphs}
 use Rattle.drt_check_trees.proofs.Eachs.{each_end, each_more, each_not}
 use Rattle.drt_check_trees.proofs.Orders.{graphs_long}
 use Rattle.drt_check_trees.proofs.short.have_short_walks.Goals as goal

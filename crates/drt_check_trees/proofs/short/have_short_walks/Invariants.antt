@@ -1,5 +1,5 @@
 -- The walks of the trees so far are short.
-use Rattle.drt_evidence.specs.Trees.{HasShortWalks, tree_graphs}
+use Rattle.drt_claims.specs.Trees.{HasShortWalks, tree_graphs}
 use Rattle.drt_check_trees.proofs.Eachs.{IsEachTo}
 use Rattle.drt_check_trees.proofs.short.have_short_walks.Given as goal
 

@@ -2,7 +2,7 @@
 use Rattle.std.proofs.Common.{◌≡◌, ◌^◌, ℕ, sym, subst, rules}
 use Rattle.drt_edf.specs.Answers.{IsAnswer}
 use Rattle.drt_edf.specs.declared.answer.EdfAnswer.TheVariants.{Done, Beyond, Undecided}
-use Rattle.drt_evidence.specs.declared.evidence.Evidence.TheVariants.{EdfYes, EdfNo, UtilisationOne}
+use Rattle.drt_claims.specs.declared.evidence.Evidence.TheVariants.{EdfYes, EdfNo, UtilisationOne}
 use Rattle.drt_horizon.specs.declared.answers.Beyond.TheVariants.{TooFar}
 use Rattle.drt_command_bench.proofs.BenchLemmas.{far_says, no_says, one_says, undecided_says, yes_counts, yes_says}
 use Rattle.drt_command_bench.proofs.command.decide_edf.Goals as goal

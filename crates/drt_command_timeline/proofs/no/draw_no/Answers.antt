@@ -1,6 +1,6 @@
 use Rattle.std.proofs.Common.{◌≤◌, ◌^◌, All, ap, arith, length, subst, sym}
 use Rattle.drt_model.specs.Legal.{IsLegal}
-use Rattle.drt_evidence.specs.Kinds.{releases_of}
+use Rattle.drt_claims.specs.Kinds.{releases_of}
 use Rattle.drt_command_timeline.proofs.NoLemmas.{known_no, times_of}
 use Rattle.drt_command_timeline.proofs.no.draw_no.Goals as goal
 

@@ -4,8 +4,8 @@ use Rattle.drt_horizon.specs.declared.answers.Horizon.TheVariants.{One}
 use Rattle.drt_horizon.specs.Given.{AreGiven}
 use Rattle.drt_horizon.specs.Plans.{IsPlan}
 use Rattle.drt_horizon.proofs.Givens.{given_small}
-use Rattle.drt_evidence.specs.Ranges.{IsInRange}
-use Rattle.drt_evidence.specs.declared.evidence.Evidence.TheVariants.{UtilisationOne}
+use Rattle.drt_claims.specs.Ranges.{IsInRange}
+use Rattle.drt_claims.specs.declared.evidence.Evidence.TheVariants.{UtilisationOne}
 use Rattle.drt_edf.specs.Answers.{IsOnlyOne}
 use Rattle.drt_edf.specs.RatioClaims.{claims_of}
 use Rattle.drt_edf.proofs.Planned.{planned_beyond, planned_one}

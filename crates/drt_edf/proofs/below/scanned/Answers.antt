@@ -6,9 +6,9 @@ use Rattle.drt_rates.specs.Demands.{IsLeastExcess}
 use Rattle.drt_horizon.specs.Given.{AreGiven}
 use Rattle.drt_horizon.specs.Plans.{IsPlan}
 use Rattle.drt_horizon.proofs.Givens.{given_small}
-use Rattle.drt_evidence.specs.Claims.{graphs_of}
-use Rattle.drt_evidence.specs.Ranges.{IsInRange}
-use Rattle.drt_evidence.specs.declared.evidence.Evidence.TheVariants.{EdfYes}
+use Rattle.drt_claims.specs.Claims.{graphs_of}
+use Rattle.drt_claims.specs.Ranges.{IsInRange}
+use Rattle.drt_claims.specs.declared.evidence.Evidence.TheVariants.{EdfYes}
 use Rattle.drt_edf.specs.Answers.{IsExactYes}
 use Rattle.drt_fronts.specs.LabelFronts.{AreDemandWalks, AreLabelFronts}
 use Rattle.drt_edf.proofs.Decided.{listed_walks, plan_near, yes_in_range}

@@ -5,7 +5,7 @@ use Rattle.drt_model.specs.declared.jobs.Release.{Release}
 use Rattle.drt_model.specs.Schedulable.{jobs_of}
 use Rattle.drt_busy.specs.WalkReleases.{all_releases}
 use Rattle.drt_replay.specs.Board.{Shown}
-use Rattle.drt_evidence.specs.Ranges.{IsInRangeRelease}
+use Rattle.drt_claims.specs.Ranges.{IsInRangeRelease}
 use Rattle.drt_releases.specs.Walks.{walk_at}
 use Rattle.drt_releases.proofs.Walks.{due_walks}
 use Rattle.drt_edf.proofs.Nos.{miss_in_range, missed, some_late}

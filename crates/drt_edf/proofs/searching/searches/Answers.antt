@@ -3,7 +3,7 @@ use Rattle.std.proofs.lemmas.List.{take_all, take_more}
 use Rattle.std.proofs.lemmas.List.Elements.{All-push}
 use Rattle.std.proofs.lemmas.Option.{slice_get-get_or}
 use Rattle.drt_graph.specs.Graphs.{no_graph, graph_of}
-use Rattle.drt_evidence.specs.Ranges.{IsCounted}
+use Rattle.drt_claims.specs.Ranges.{IsCounted}
 use Rattle.drt_fronts.specs.LabelFronts.{AreLabelFronts}
 use Rattle.drt_edf.specs.Searches.{IsEndOf}
 use Rattle.drt_edf.proofs.Gathered.{fronts_push}

@@ -2,8 +2,8 @@ use Rattle.std.proofs.Common.{◌≡◌, ◌++◌, ◌∙◌, ap}
 use Rattle.drt_model.specs.declared.jobs.Policy.{Policy}
 use Rattle.drt_model.specs.Contents.{Contents}
 use Rattle.drt_file.specs.trusted.Canonical.{canonical, written}
-use Rattle.drt_evidence.specs.Statement.{Statement}
-use Rattle.drt_evidence.specs.declared.evidence.Evidence.{Evidence}
+use Rattle.drt_claims.specs.Statement.{Statement}
+use Rattle.drt_claims.specs.declared.evidence.Evidence.{Evidence}
 use Rattle.drt_evidence.specs.Text.{head_lines, evidence_lines}
 use Rattle.drt_evidence.proofs.Joins.{whole}
 use Rattle.drt_evidence.proofs.printing.print.Goals as goal

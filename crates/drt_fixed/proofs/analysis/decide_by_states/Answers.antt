@@ -1,5 +1,5 @@
 use Rattle.std.proofs.Common.{sym, subst}
-use Rattle.drt_evidence.specs.Statement.{Statement}
+use Rattle.drt_claims.specs.Statement.{Statement}
 use Rattle.drt_fixed.specs.Answers.{IsDecision}
 use Rattle.drt_fixed.proofs.Decisions.{no_decided, yes_decided}
 use Rattle.drt_fixed.proofs.analysis.decide_by_states.Goals as goal

@@ -2,7 +2,7 @@ use Rattle.std.proofs.Common.{ℕ, List, Option, Some, None}
 use Rattle.std.specs.Prelude.{IfSome}
 use Rattle.drt_model.specs.Digraph.{Digraph, IsSound}
 use Rattle.drt_model.specs.declared.front.FrontEntry.{FrontEntry}
-use Rattle.drt_evidence.specs.Ranges.{IsCounted}
+use Rattle.drt_claims.specs.Ranges.{IsCounted}
 use Rattle.drt_merge.specs.Gathered.{IsMergedFront}
 use Rattle.drt_fronts.specs.LabelFronts.{IsLabelFront}
 use Rattle.drt_fronts.proofs.WaveFronts.{wave_front_is}

@@ -2,7 +2,7 @@
 use Rattle.std.proofs.Common.{◌≡◌, List}
 use Rattle.drt_model.specs.declared.tasks.Task.{Task}
 use Rattle.drt_busy.specs.WalkReleases.{all_releases}
-use Rattle.drt_evidence.specs.Claims.{graphs_of}
+use Rattle.drt_claims.specs.Claims.{graphs_of}
 use Rattle.drt_releases.specs.Walks.{walk_at}
 use Rattle.drt_releases.proofs.releases.all_releases.Given as goal
 

@@ -1,7 +1,7 @@
 use Rattle.std.proofs.Common.{◌≡◌, ◌<◌, List, ℕ, length, sym, ap, subst, ◌∙◌}
 use Rattle.drt_model.specs.declared.tasks.Task.{Task}
 use Rattle.drt_graph.specs.Graphs.{AreGraphs}
-use Rattle.drt_evidence.specs.Claims.{graphs_of}
+use Rattle.drt_claims.specs.Claims.{graphs_of}
 use Rattle.drt_releases.specs.Walks.{walk_at}
 use Rattle.drt_sp.proofs.Refused.{all_same}
 use Rattle.drt_response.specs.Placed.{job_walk}

@@ -1,6 +1,6 @@
 -- The greatest so far, and the greatest of the rest, give the greatest of all.
 use Rattle.std.proofs.Common.{◌≡◌, drop, max}
-use Rattle.drt_evidence.specs.Trees.{greatest_deadline}
+use Rattle.drt_claims.specs.Trees.{greatest_deadline}
 use Rattle.drt_sp.proofs.deadlines.greatest_deadline.Given as goal
 
 abbrev pub invariant-loop-task : goal.invariant-loop-task

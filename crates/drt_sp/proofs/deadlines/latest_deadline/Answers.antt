@@ -1,6 +1,6 @@
 use Rattle.std.proofs.Common.{◌≡◌, ◌+◌, List, drop, max, ap, arith}
 use Rattle.drt_model.specs.declared.tasks.Vertex.{Vertex}
-use Rattle.drt_evidence.specs.Trees.{latest_deadline}
+use Rattle.drt_claims.specs.Trees.{latest_deadline}
 use Rattle.drt_sp.proofs.GreatestDeadline.{latest_end, latest_more}
 use Rattle.drt_sp.proofs.deadlines.latest_deadline.Goals as goal
 

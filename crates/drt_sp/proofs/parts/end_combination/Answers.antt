@@ -1,7 +1,7 @@
 -- The items so far, and whatever ends the stack, end the nodes.
 use Rattle.std.proofs.Common.{◌≡◌, List, [], ◌∷◌, ◌++◌, ℕ, length, sym, subst, arith}
 use Rattle.std.proofs.lemmas.List.Elements.{All-pop}
-use Rattle.drt_evidence.specs.declared.evidence.Item.{Item}
+use Rattle.drt_claims.specs.declared.evidence.Item.{Item}
 use Rattle.drt_sp.specs.Parts.{AreEndOf, CanEnd, IsNextItem}
 use Rattle.drt_sp.proofs.Joining.{IsEnding, empty_of, ending_end, ending_more}
 use Rattle.drt_sp.proofs.parts.end_combination.Goals as goal

@@ -3,8 +3,8 @@ use Rattle.std.proofs.Common.{List, All, rules, sym, subst}
 use Rattle.std.specs.Prelude.{IfSome}
 use Rattle.std.proofs.lemmas.List.Elements.{All-push, All-weaker}
 use Rattle.std.proofs.lemmas.Result.{IfOk-at_ok}
-use Rattle.drt_evidence.specs.Ranges.{IsCounted}
-use Rattle.drt_evidence.specs.declared.evidence.Item.{Item}
+use Rattle.drt_claims.specs.Ranges.{IsCounted}
+use Rattle.drt_claims.specs.declared.evidence.Item.{Item}
 use Rattle.drt_sp.specs.Attempts.{AreGiven, CanBeEnded, IsAttempt}
 use Rattle.drt_sp.specs.declared.attempts.Attempt.{Attempt}
 use Rattle.drt_sp.specs.declared.proving.VertexProof.TheVariants.{Passes as PassesBy}

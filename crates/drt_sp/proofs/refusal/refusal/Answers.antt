@@ -8,8 +8,8 @@ use Rattle.drt_graph.specs.Graphs.{AreGraphs, graph_of, no_graph}
 use Rattle.drt_busy.specs.Choice.{graph_at}
 use Rattle.drt_tree.specs.Tree.{Plain}
 use Rattle.drt_choices.specs.Laws.{leaf_releases, no_releases}
-use Rattle.drt_evidence.specs.Claims.{graphs_of}
-use Rattle.drt_evidence.specs.Ranges.{AreInRangeReleases}
+use Rattle.drt_claims.specs.Claims.{graphs_of}
+use Rattle.drt_claims.specs.Ranges.{AreInRangeReleases}
 use Rattle.drt_releases.proofs.Walks.{graph_same}
 use Rattle.drt_sp.specs.Answers.{IsFailedVertex}
 use Rattle.drt_sp.proofs.Refused.{failed_tuple, missed, no_in_range}

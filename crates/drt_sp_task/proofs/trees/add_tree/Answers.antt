@@ -2,7 +2,7 @@ use Rattle.std.proofs.Common.{◌≡◌, ℕ, ◌<◌, Some, List, length, get_o
 use Rattle.std.specs.Prelude.{slice_get}
 use Rattle.drt_model.specs.declared.tasks.Task.{Task}
 use Rattle.drt_busy.specs.Choice.{graph_at}
-use Rattle.drt_evidence.specs.Trees.{greatest_deadline}
+use Rattle.drt_claims.specs.Trees.{greatest_deadline}
 use Rattle.drt_sp.specs.TaskTrees.{IsTaskTree}
 use Rattle.drt_sp.specs.TreeClaims.{IsSpentSearch}
 use Rattle.drt_sp.proofs.Orders.{order_below}

@@ -2,7 +2,7 @@ use Rattle.std.proofs.Common.{List, rules, subst, sym}
 use Rattle.drt_states.specs.declared.claims.StateClaim.{StateClaim}
 use Rattle.drt_file.specs.trusted.Canonical.{written}
 use Rattle.drt_evidence.specs.Blocks.{ReadsBlock}
-use Rattle.drt_evidence.specs.Ranges.{IsInRangeSearch}
+use Rattle.drt_claims.specs.Ranges.{IsInRangeSearch}
 use Rattle.drt_evidence.specs.Text.{search_lines}
 use Rattle.drt_evidence.proofs.Records.{search_read, search_stopped, search_unopened, search_with}
 use Rattle.drt_evidence.proofs.reading.blocks.read_search.Goals as goal

@@ -2,7 +2,7 @@ use Rattle.std.proofs.Common.{subst, refl}
 use Rattle.std.specs.Prelude.{codes, IfErr, IfOk}
 use Rattle.drt_evidence.specs.Blocks.{IsStop, ReadsBlock}
 use Rattle.drt_evidence.specs.LineForms.{AreCounted}
-use Rattle.drt_evidence.specs.Ranges.{IsInRangeProof}
+use Rattle.drt_claims.specs.Ranges.{IsInRangeProof}
 use Rattle.drt_evidence.proofs.Leaves.{plain_word}
 use Rattle.drt_evidence.proofs.Records.{proofs_same}
 use Rattle.drt_evidence.proofs.reading.evidences.read_proofs.Goals as goal

@@ -1,6 +1,6 @@
 use Rattle.std.proofs.Common.{decimal}
 use Rattle.drt_evidence.specs.LineForms.{IsAny, itself}
-use Rattle.drt_evidence.specs.Ranges.{IsNumber}
+use Rattle.drt_claims.specs.Ranges.{IsNumber}
 use Rattle.drt_evidence.proofs.Forms.{itself_is, number_no_space, pair_is, pair_alone, pair_first}
 use Rattle.drt_evidence.proofs.reading.fields.index_before.Goals as goal
 

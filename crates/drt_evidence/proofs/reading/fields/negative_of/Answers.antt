@@ -2,7 +2,7 @@ use Rattle.std.proofs.Common.{◌∷◌, FitsSigned, rules, subst, sym, w64}
 use Rattle.std.proofs.lemmas.Int.{to_z-of_z}
 use Rattle.std.specs.Fmt.{signed_decimal}
 use Rattle.drt_evidence.specs.LineForms.{IsForm}
-use Rattle.drt_evidence.specs.Ranges.{IsInRangePotential}
+use Rattle.drt_claims.specs.Ranges.{IsInRangePotential}
 use Rattle.drt_evidence.proofs.Numerals.{negative_is, negative_zero, negative_other}
 use Rattle.drt_evidence.proofs.reading.fields.negative_of.Goals as goal
 

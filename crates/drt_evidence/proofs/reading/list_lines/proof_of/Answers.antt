@@ -1,5 +1,5 @@
 use Rattle.std.proofs.Common.{ℕ, List, ap}
-use Rattle.drt_evidence.specs.declared.evidence.Item.{Item}
+use Rattle.drt_claims.specs.declared.evidence.Item.{Item}
 use Rattle.drt_evidence.proofs.Forms.{line_is, line_broken}
 use Rattle.drt_evidence.proofs.Shapes.{proof_shape}
 use Rattle.drt_evidence.proofs.reading.list_lines.proof_of.Goals as goal

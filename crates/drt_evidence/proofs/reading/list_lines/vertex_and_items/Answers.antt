@@ -1,6 +1,6 @@
 use Rattle.std.proofs.Common.{decimal}
 use Rattle.drt_evidence.specs.LineForms.{AreCounted, list_form}
-use Rattle.drt_evidence.specs.Ranges.{IsInRangeItem, IsNumber}
+use Rattle.drt_claims.specs.Ranges.{IsInRangeItem, IsNumber}
 use Rattle.drt_evidence.specs.Text.{item_field}
 use Rattle.drt_evidence.proofs.Forms.{rest_is, rest_none, rest_broken}
 use Rattle.drt_evidence.proofs.Numerals.{item_no_space}

@@ -1,6 +1,6 @@
 use Rattle.std.proofs.Common.{◌∷◌, refl}
 use Rattle.drt_evidence.specs.Cuts.{counted_form, jump_form}
-use Rattle.drt_evidence.specs.Ranges.{IsInRangeCurve}
+use Rattle.drt_claims.specs.Ranges.{IsInRangeCurve}
 use Rattle.drt_evidence.proofs.Claims.{bare_is, bare_none}
 use Rattle.drt_evidence.proofs.Cuts.{ended_none, ends_there, goes_on}
 use Rattle.drt_evidence.proofs.Forms.{line_is, line_broken}

@@ -1,6 +1,6 @@
 use Rattle.std.proofs.Common.{decimal}
 use Rattle.drt_evidence.specs.Cuts.{end_form, left, spaced_form}
-use Rattle.drt_evidence.specs.Ranges.{IsInRangeEnd, IsWork}
+use Rattle.drt_claims.specs.Ranges.{IsInRangeEnd, IsWork}
 use Rattle.drt_evidence.proofs.Claims.{end_opened}
 use Rattle.drt_evidence.proofs.Cuts.{join_first, join_is, join_second}
 use Rattle.drt_evidence.proofs.reading.state_lines.work_and_end.Goals as goal

@@ -1,7 +1,7 @@
 use Rattle.std.proofs.Common.{sym, subst, ◌+◌}
 use Rattle.drt_file.specs.trusted.Canonical.{written_line}
 use Rattle.drt_evidence.specs.Blocks.{AreSoMany, ReadsBlock, in_turn}
-use Rattle.drt_evidence.specs.Ranges.{IsInRangeRelease}
+use Rattle.drt_claims.specs.Ranges.{IsInRangeRelease}
 use Rattle.drt_evidence.specs.Some.{some_release}
 use Rattle.drt_evidence.specs.Text.{release_line}
 use Rattle.drt_evidence.proofs.Blocks.{each_more}

@@ -1,6 +1,6 @@
 use Rattle.drt_file.specs.trusted.Canonical.{written_line}
 use Rattle.drt_evidence.specs.Blocks.{AreSoMany, ReadsBlock, in_turn}
-use Rattle.drt_evidence.specs.Ranges.{IsInRangeRelease}
+use Rattle.drt_claims.specs.Ranges.{IsInRangeRelease}
 use Rattle.drt_evidence.specs.Text.{release_line}
 use Rattle.drt_responses.proofs.reading.blocks.read_each_release.Given as goal
 

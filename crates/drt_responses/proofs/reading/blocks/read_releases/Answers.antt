@@ -3,7 +3,7 @@ use Rattle.std.specs.Prelude.{codes}
 use Rattle.drt_file.specs.trusted.Canonical.{written_line}
 use Rattle.drt_evidence.specs.Blocks.{ReadsBlock}
 use Rattle.drt_evidence.specs.LineForms.{AreCounted}
-use Rattle.drt_evidence.specs.Ranges.{IsInRangeRelease}
+use Rattle.drt_claims.specs.Ranges.{IsInRangeRelease}
 use Rattle.drt_evidence.specs.Some.{some_release}
 use Rattle.drt_evidence.specs.Text.{release_line}
 use Rattle.drt_evidence.proofs.Blocks.{counted_read}

@@ -1,6 +1,6 @@
 use Rattle.std.proofs.Common.{decimal}
 use Rattle.drt_evidence.specs.LineForms.{AreBoth, pair_form}
-use Rattle.drt_evidence.specs.Ranges.{IsNumber, IsTick}
+use Rattle.drt_claims.specs.Ranges.{IsNumber, IsTick}
 use Rattle.drt_evidence.proofs.Forms.{number_no_space, pair_is, pair_alone, pair_first, pair_second}
 use Rattle.drt_responses.proofs.reading.lines.parts_of_release.Goals as goal
 

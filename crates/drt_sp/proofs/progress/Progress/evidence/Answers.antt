@@ -1,8 +1,8 @@
 use Rattle.std.proofs.Common.{List, subst, sym, ◌∙◌}
-use Rattle.drt_evidence.specs.Ranges.{IsInRange}
-use Rattle.drt_evidence.specs.declared.evidence.Evidence.TheVariants.{FixedYes}
-use Rattle.drt_evidence.specs.declared.evidence.ProofClaim.{ProofClaim}
-use Rattle.drt_evidence.specs.declared.evidence.TreeClaim.{TreeClaim}
+use Rattle.drt_claims.specs.Ranges.{IsInRange}
+use Rattle.drt_claims.specs.declared.evidence.Evidence.TheVariants.{FixedYes}
+use Rattle.drt_claims.specs.declared.evidence.ProofClaim.{ProofClaim}
+use Rattle.drt_claims.specs.declared.evidence.TreeClaim.{TreeClaim}
 use Rattle.drt_sp.specs.Answers.{IsExactYes}
 use Rattle.drt_sp.proofs.Yes.{is_in_range, is_yes}
 use Rattle.drt_sp.proofs.progress.Progress.evidence.Goals as goal

@@ -6,8 +6,8 @@ use Rattle.drt_model.specs.declared.tasks.Vertex.{Vertex}
 use Rattle.drt_model.specs.Digraph.{Digraph, digraph_of, vertex_count, out_degree, edge_of}
 use Rattle.drt_model.specs.RequestFunction.{request}
 use Rattle.drt_model.specs.Walk.{IsPath, last_of, span}
-use Rattle.drt_evidence.specs.declared.evidence.Pair.{Pair}
-use Rattle.drt_evidence.specs.declared.evidence.TreeClaim.{TreeClaim}
+use Rattle.drt_claims.specs.declared.evidence.Pair.{Pair}
+use Rattle.drt_claims.specs.declared.evidence.TreeClaim.{TreeClaim}
 
 -- The greatest relative deadline of some vertices.
 unfoldable pub latest_deadline : List Vertex → ℕ

@@ -6,7 +6,7 @@ use Rattle.drt_model.specs.Digraph.{Digraph, digraph_of}
 use Rattle.drt_model.specs.Utilisation.{Fraction, IsScale, rate}
 use Rattle.drt_model.specs.Horizon.{horizon}
 use Rattle.drt_model.specs.RatioRules.{AreCounted, FitPotentials, IsClosed, IsTight}
-use Rattle.drt_evidence.specs.declared.evidence.RatioClaim.{RatioClaim}
+use Rattle.drt_claims.specs.declared.evidence.RatioClaim.{RatioClaim}
 
 -- The graphs of the tasks, in order.
 abbrev pub graphs_of : List Task → List Digraph

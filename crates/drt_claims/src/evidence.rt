@@ -95,8 +95,8 @@ pub struct Dossier {
 }
 
 impl Model for Dossier {
-    ghost use Rattle.drt_evidence.specs.Statement.{Statement};
-    ghost use Rattle.drt_evidence.specs.Ranges.{IsInRange};
+    ghost use Rattle.drt_claims.specs.Statement.{Statement};
+    ghost use Rattle.drt_claims.specs.Ranges.{IsInRange};
 
     ghost Value = { Statement };
 

@@ -5,23 +5,23 @@ use Rattle.drt_model.specs.Digraph.{Digraph}
 use Rattle.drt_model.specs.Legal.{IsLegal}
 use Rattle.drt_model.specs.Misses.{IsLeastMiss}
 use Rattle.drt_model.specs.Schedulable.{jobs_of}
-use Rattle.drt_evidence.specs.Claims.{graphs_of, Each, IsClaimPerTask, AreLowest, HavePotentials, HaveFittingPotentials, HaveClosedCycles}
-use Rattle.drt_evidence.specs.Claims.{HaveTightCycles, IsFine, HaveUtilisationBelowOne, HaveUtilisationOne, IsHorizon}
-use Rattle.drt_evidence.specs.Fronts.{IsOrdered, HasOpenings, IsClosedFront, HaveRoom}
-use Rattle.drt_evidence.specs.Kinds.{IsOfPolicy, HasRatios, HasFronts, HasReleases, HasStates, HasTrees, ratios_of, fronts_of, releases_of, miss_of, trees_of, proofs_of}
-use Rattle.drt_evidence.specs.Kinds.{tails_of, searches_of}
-use Rattle.drt_evidence.specs.Proofs.{IsProofPerVertex, HasShape, HasPassingTimes}
-use Rattle.drt_evidence.specs.Searches.{HasDominatedChildren, HasPassingStates, HasStatesOver, IsSearchPerVertex, places_of}
-use Rattle.drt_evidence.specs.Statement.{Statement}
-use Rattle.drt_evidence.specs.Trees.{CoversWalks, HasShortWalks, IsTree, IsTreePerHigherTask, greatest_deadline, tree_graphs}
-use Rattle.drt_evidence.specs.declared.evidence.Evidence.{Evidence}
-use Rattle.drt_evidence.specs.declared.evidence.Evidence.TheVariants.{EdfYes, UtilisationOne, Undecided}
-use Rattle.drt_evidence.specs.declared.evidence.TreeClaim.{TreeClaim}
-use Rattle.drt_evidence.specs.declared.rule.Rule.{Rule}
-use Rattle.drt_evidence.specs.declared.rule.Rule.TheVariants.{ConstrainedDeadlines, KindOfPolicy, RatioPerTask, LowestTerms, PotentialPerVertex, FittingPotentials}
-use Rattle.drt_evidence.specs.declared.rule.Rule.TheVariants.{ClosedCycles, TightCycles, FineScale, ClaimedUtilisation, NearHorizon, OrderedFronts, CoveredOpenings, CoveredExtensions, Room}
-use Rattle.drt_evidence.specs.declared.rule.Rule.TheVariants.{TreePerHigherTask, ShortWalks, CoveredWalks, TreeShapes, ProofPerVertex, ProofShapes, PassingTimes, LegalReleases, LeastMiss}
-use Rattle.drt_evidence.specs.declared.rule.Rule.TheVariants.{RisingTails, BoundingTails, SearchPerVertex, SearchStates, PassingStates, DominatedChildren}
+use Rattle.drt_claims.specs.Claims.{graphs_of, Each, IsClaimPerTask, AreLowest, HavePotentials, HaveFittingPotentials, HaveClosedCycles}
+use Rattle.drt_claims.specs.Claims.{HaveTightCycles, IsFine, HaveUtilisationBelowOne, HaveUtilisationOne, IsHorizon}
+use Rattle.drt_claims.specs.Fronts.{IsOrdered, HasOpenings, IsClosedFront, HaveRoom}
+use Rattle.drt_claims.specs.Kinds.{IsOfPolicy, HasRatios, HasFronts, HasReleases, HasStates, HasTrees, ratios_of, fronts_of, releases_of, miss_of, trees_of, proofs_of}
+use Rattle.drt_claims.specs.Kinds.{tails_of, searches_of}
+use Rattle.drt_claims.specs.Proofs.{IsProofPerVertex, HasShape, HasPassingTimes}
+use Rattle.drt_claims.specs.Searches.{HasDominatedChildren, HasPassingStates, HasStatesOver, IsSearchPerVertex, places_of}
+use Rattle.drt_claims.specs.Statement.{Statement}
+use Rattle.drt_claims.specs.Trees.{CoversWalks, HasShortWalks, IsTree, IsTreePerHigherTask, greatest_deadline, tree_graphs}
+use Rattle.drt_claims.specs.declared.evidence.Evidence.{Evidence}
+use Rattle.drt_claims.specs.declared.evidence.Evidence.TheVariants.{EdfYes, UtilisationOne, Undecided}
+use Rattle.drt_claims.specs.declared.evidence.TreeClaim.{TreeClaim}
+use Rattle.drt_claims.specs.declared.rule.Rule.{Rule}
+use Rattle.drt_claims.specs.declared.rule.Rule.TheVariants.{ConstrainedDeadlines, KindOfPolicy, RatioPerTask, LowestTerms, PotentialPerVertex, FittingPotentials}
+use Rattle.drt_claims.specs.declared.rule.Rule.TheVariants.{ClosedCycles, TightCycles, FineScale, ClaimedUtilisation, NearHorizon, OrderedFronts, CoveredOpenings, CoveredExtensions, Room}
+use Rattle.drt_claims.specs.declared.rule.Rule.TheVariants.{TreePerHigherTask, ShortWalks, CoveredWalks, TreeShapes, ProofPerVertex, ProofShapes, PassingTimes, LegalReleases, LeastMiss}
+use Rattle.drt_claims.specs.declared.rule.Rule.TheVariants.{RisingTails, BoundingTails, SearchPerVertex, SearchStates, PassingStates, DominatedChildren}
 use Rattle.drt_states.specs.Tails.{BoundsWalks, EachTail, IsTail}
 
 -- The number by which a rule is told.

@@ -3,8 +3,8 @@ use Rattle.std.specs.Prelude.{◌≡◌, ℕ, ◌-◌, nat_lt, List, filter, len
 use Rattle.drt_model.specs.declared.tasks.Task.{Task}
 use Rattle.drt_model.specs.Digraph.{digraph_of}
 use Rattle.drt_model.specs.Walk.{deadline, wcet}
-use Rattle.drt_evidence.specs.Proofs.{subjects_from}
-use Rattle.drt_evidence.specs.Trees.{by_priority, greatest_deadline, higher_count}
+use Rattle.drt_claims.specs.Proofs.{subjects_from}
+use Rattle.drt_claims.specs.Trees.{by_priority, greatest_deadline, higher_count}
 use Rattle.drt_states.specs.States.{AreStates, HaveDominatedChildren, HavePassingTimes}
 use Rattle.drt_states.specs.Tails.{Place, graphs_of}
 use Rattle.drt_states.specs.declared.claims.SearchClaim.{SearchClaim}

@@ -1,6 +1,6 @@
 //! The rules of the checker, by name.
 ghost use Rattle.std.specs.Prelude.{◌≡◌};
-ghost use Rattle.drt_evidence.specs.Rules.{number_of};
+ghost use Rattle.drt_claims.specs.Rules.{number_of};
 
 /// A rule of the checker, in the order of the numbers. What each asks of a dossier stands in `specs/Rules.antt`.
 #[derive(Debug, Drop, Clone, Copy, PartialEq, Eq)]

@@ -1,0 +1,10 @@
+pub mod Statement
+pub mod Ranges
+pub mod Claims
+pub mod Fronts
+pub mod Kinds
+pub mod Trees
+pub mod Proofs
+pub mod Searches
+pub mod Rules
+pub mod Rates
