@@ -14,7 +14,9 @@ mod lines;
 mod printing;
 mod reading;
 
-pub use drt_claims::{Dossier, Evidence, FrontEntry, Item, Pair, ProofClaim, RatioClaim, Rule, TreeClaim};
+pub use drt_claims::{
+    Dossier, Evidence, FrontEntry, Item, Pair, ProofClaim, RatioClaim, Rule, TreeClaim,
+};
 pub use fault::{DossierError, DossierFault};
 pub use printing::{print, push_release_lines};
 pub use reading::read;

@@ -4,8 +4,8 @@ ghost use Rattle.drt_file.specs.trusted.Canonical.{written, written_line};
 ghost use Rattle.drt_evidence.specs.Fields.{behind};
 ghost use Rattle.drt_evidence.specs.Text.{item_field, proof_block, proof_line};
 
-use drt_claims::{Item, ProofClaim};
 use crate::lines::{push_count, push_field};
+use drt_claims::{Item, ProofClaim};
 use drt_model::Memory;
 use itoa::Buffer;
 

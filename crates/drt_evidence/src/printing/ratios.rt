@@ -3,8 +3,8 @@ ghost use Rattle.std.specs.Prelude.{◌≡◌, ◌++◌, OnOk};
 ghost use Rattle.drt_file.specs.trusted.Canonical.{written, written_line};
 ghost use Rattle.drt_evidence.specs.Text.{ratio_block, ratio_line, ratio_lines};
 
-use drt_claims::RatioClaim;
 use crate::lines::{push_count, push_numbers, push_signed};
+use drt_claims::RatioClaim;
 use drt_file::push_line;
 use drt_model::Memory;
 use itoa::Buffer;

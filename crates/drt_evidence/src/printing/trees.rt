@@ -3,8 +3,8 @@ ghost use Rattle.std.specs.Prelude.{◌≡◌, ◌++◌, map, OnOk};
 ghost use Rattle.drt_file.specs.trusted.Canonical.{written, written_line};
 ghost use Rattle.drt_evidence.specs.Text.{pair_line, tree_block, tree_lines, walk_line};
 
-use drt_claims::{Pair, TreeClaim};
 use crate::lines::{push_count, push_numbers};
+use drt_claims::{Pair, TreeClaim};
 use drt_file::push_line;
 use drt_model::{Memory, Row};
 use itoa::Buffer;

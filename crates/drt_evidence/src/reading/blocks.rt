@@ -7,13 +7,13 @@ ghost use Rattle.drt_claims.specs.Ranges.{IsInRangeSearch, IsInRangeState, IsInR
 ghost use Rattle.drt_evidence.specs.Some.{some_curve, some_entry, some_front, some_pair, some_proof, some_ratio, some_release, some_search, some_state, some_tail, some_tree, some_walk};
 ghost use Rattle.drt_evidence.specs.Text.{curve_line, entry_line, front_lines, pair_line, proof_line, ratio_lines, release_line, search_lines, state_line, tail_lines, tree_lines, walk_line};
 
-use drt_claims::{Pair, ProofClaim, RatioClaim, TreeClaim};
 use crate::reading::block::{Block, read_counted, read_each};
 use crate::reading::forms::{
     read_entry, read_jumps, read_numbers, read_pair, read_potentials, read_proof, read_ratio_line,
     read_release, read_search_line, read_state,
 };
 use crate::reading::text::{Stop, Text};
+use drt_claims::{Pair, ProofClaim, RatioClaim, TreeClaim};
 use drt_model::{FrontEntry, Release, Row};
 use drt_states::{Jump, SearchClaim, StateClaim, TailClaim};
 use std::alloc::Global;

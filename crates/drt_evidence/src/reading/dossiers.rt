@@ -9,12 +9,12 @@ ghost use Rattle.drt_claims.specs.Statement.{IsStated, Statement};
 ghost use Rattle.drt_evidence.specs.Text.{head_lines, text};
 ghost use Rattle.drt_evidence.specs.declared.fault.DossierError.TheVariants.{Fault, Memory};
 
-use drt_claims::Dossier;
 use crate::fault::{DossierError, DossierFault, FOLLOWED, MISSING, UNFIT};
 use crate::reading::evidences::read_evidence;
 use crate::reading::forms::{read_first, read_policy};
 use crate::reading::sets::read_set;
 use crate::reading::text::{Stop, Text};
+use drt_claims::Dossier;
 use drt_model::Policy;
 use std::alloc::Global;
 

@@ -7,11 +7,11 @@ ghost use Rattle.drt_evidence.specs.LineForms.{AreCounted};
 ghost use Rattle.drt_claims.specs.Ranges.{IsInRange, IsInRangeFront, IsInRangeProof, IsInRangeRatio, IsInRangeSearch, IsInRangeTail, IsInRangeTree};
 ghost use Rattle.drt_evidence.specs.Text.{body_lines, evidence_lines, front_block, proof_block, ratio_block, search_block, tail_block, tree_block};
 
-use drt_claims::{Evidence, ProofClaim, RatioClaim, TreeClaim};
 use crate::reading::block::read_counted;
 use crate::reading::forms::{read_kind, read_last, read_miss};
 use crate::reading::line_forms::KindOfEvidence;
 use crate::reading::text::{Stop, Text};
+use drt_claims::{Evidence, ProofClaim, RatioClaim, TreeClaim};
 use drt_model::{FrontEntry, Miss, Release, Row};
 use drt_states::{SearchClaim, TailClaim};
 use std::alloc::Global;

@@ -11,7 +11,6 @@ ghost use Rattle.drt_evidence.specs.LineForms.{numbers_line, policy_line, potent
 ghost use Rattle.drt_claims.specs.Ranges.{IsInRangeCurve, IsInRangeEntry, IsInRangeMiss, IsInRangePair, IsInRangePotential, IsInRangeProof, IsInRangeRelease, IsInRangeState, IsNumber};
 ghost use Rattle.drt_evidence.specs.Text.{count_line, curve_line, entry_line, miss_line, pair_line, proof_line, release_line, state_line};
 
-use drt_claims::{Pair, ProofClaim};
 use crate::reading::line_forms::{
     KindOfEvidence, WrittenRatio, WrittenSearch, count_of, entry_of, is_first_line, is_last_line,
     kind_of, miss_of, pair_of, policy_of, ratio_of, release_of, search_of,
@@ -19,6 +18,7 @@ use crate::reading::line_forms::{
 use crate::reading::list_lines::{numbers_of, potentials_of, proof_of};
 use crate::reading::state_lines::{jumps_of, state_of};
 use crate::reading::text::{Stop, Text, first_line, refused};
+use drt_claims::{Pair, ProofClaim};
 use drt_model::{FrontEntry, Miss, Policy, Release, Row};
 use drt_states::{Jump, StateClaim};
 use std::alloc::Global;

@@ -8,10 +8,10 @@ ghost use Rattle.drt_evidence.specs.LineForms.{IsNoLine, kind_line, pair_form, p
 ghost use Rattle.drt_claims.specs.Ranges.{IsInRangeEntry, IsInRangeMiss, IsInRangePair, IsInRangeRelease, IsNumber, IsTick};
 ghost use Rattle.drt_evidence.specs.Text.{count_line, entry_line, miss_line, pair_line, release_line, word_line};
 
-use drt_claims::Pair;
 use crate::reading::fields::{
     MOST_NUMBER, MOST_PART, MOST_TICKS, MOST_WORK, behind_word, cut_field, index_of, number_of,
 };
+use drt_claims::Pair;
 use drt_model::{FrontEntry, Miss, Policy, Release};
 
 /// A kind of evidence, as the line above its blocks names it.

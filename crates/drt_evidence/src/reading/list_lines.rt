@@ -8,8 +8,8 @@ ghost use Rattle.drt_evidence.specs.LineForms.{AreBoth, AreCounted, IsFieldForm,
 ghost use Rattle.drt_claims.specs.Ranges.{IsInRangeItem, IsInRangePotential, IsInRangeProof, IsNumber};
 ghost use Rattle.drt_evidence.specs.Text.{item_field, proof_line};
 
-use drt_claims::{Item, ProofClaim};
 use crate::reading::fields::{Field, behind_word, cut_field, index_before, index_of};
+use drt_claims::{Item, ProofClaim};
 use drt_model::{Memory, Row};
 use std::alloc::Global;
 

@@ -7,10 +7,10 @@ ghost use Rattle.drt_evidence.specs.LineForms.{AreBoth, IsForm, IsLineOf, IsNoFo
 ghost use Rattle.drt_claims.specs.Ranges.{IsInRangeCurve, IsInRangeEnd, IsInRangeState, IsWork};
 ghost use Rattle.drt_evidence.specs.Text.{curve_line, state_line};
 
-use drt_claims::Item;
 use crate::reading::cuts::{cut_list, cut_number, cut_one};
 use crate::reading::fields::{MOST_WORK, behind_word};
 use crate::reading::list_lines::values_behind;
+use drt_claims::Item;
 use drt_model::{Memory, Row};
 use drt_states::{Jump, StateClaim, StateEnd, StateEntry};
 use std::alloc::Global;
