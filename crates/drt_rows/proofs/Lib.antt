@@ -1,5 +1,6 @@
 pub mod Sets
 pub mod SetRows
+mod NotationRows
 mod LegalRows
 mod MachineRows
 pub mod SchedulableRows
