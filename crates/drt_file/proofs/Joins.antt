@@ -3,6 +3,7 @@ use Rattle.std.proofs.Common.{◌≡◌, ℕ, ◌+◌, ◌<◌, ◌≤◌, List,
 use Rattle.std.specs.List.{flat_map, join_with_byte}
 use Rattle.std.proofs.lemmas.List.{append-nil, take_more, take_all, map_push}
 use Rattle.std.proofs.lemmas.Grind.{common_steps}
+use Rattle.std.proofs.Math.Seq.{take-append_seam}
 use Rattle.std.proofs.lemmas.List.Concat.{flat_map-append}
 use Rattle.drt_file.specs.trusted.Canonical.{written, written_line}
 
@@ -46,6 +47,13 @@ word_first start was mid now words i d none lt so_far same more =
 pub words_done : (start now : List ℕ) (words : List (Bor (List ℕ))) (i : ℕ) → length words ≤ i
     → now ≡ start ++ join_with_byte 32 (texts (take i words)) → now ≡ start ++ join_with_byte 32 (texts words)
 words_done start now words i all so_far = so_far ∙ ap (λ ws. start ++ join_with_byte 32 (texts ws)) (take_all i words all)
+
+-- What stood there stays in front of what is added.
+pub kept_front : (start now more : List ℕ) → now ≡ start ++ more → take (length start) now ≡ start
+kept_front start now more e = ap (take (length start)) e ∙ take-append_seam start more
+
+pub kept_spaced : (start was now more : List ℕ) → was ≡ start ++ more → now ≡ was ++ 32 ∷ [] → take (length start) now ≡ start
+kept_spaced start was now more e spaced = kept_front start now (more ++ 32 ∷ []) (spaced ∙ ap (λ t. t ++ 32 ∷ []) e ∙ append_assoc start more (32 ∷ []))
 
 -- The words and the LF behind them.
 pub line_done : (start was now : List ℕ) (words : List (Bor (List ℕ))) → was ≡ start ++ join_with_byte 32 (texts words) → now ≡ was ++ 10 ∷ []

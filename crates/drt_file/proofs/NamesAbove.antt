@@ -1,7 +1,7 @@
 -- The names that stand above, found in a list of them.
-use Rattle.std.proofs.Common.{◌≡◌, ℕ, suc, ◌+◌, ◌≤◌, nat_lt, Bool, true, false, not, ◌||◌, List, [], ◌∷◌, ◌++◌, map, length, slice_index_or, Option, Some, None, Bor, refl, sym, ap, subst, ◌∙◌, arith, cond}
+use Rattle.std.proofs.Common.{◌≡◌, ℕ, suc, ◌+◌, ◌≤◌, nat_lt, Bool, true, false, not, ◌||◌, List, [], ◌∷◌, ◌++◌, map, length, Option, Some, None, refl, sym, ap, ◌∙◌, arith, cond}
 use Rattle.std.specs.Prelude.{bytes_eq, option_map}
-use Rattle.std.specs.List.{list_all, list_any, position_or_len, position}
+use Rattle.std.specs.List.{list_any, position_or_len, position}
 use Rattle.std.proofs.lemmas.List.{map_push}
 use Rattle.std.proofs.lemmas.List.Folds.{list_any-append}
 use Rattle.std.proofs.lemmas.Slice.Eq.{bytes_eq-Decides}
@@ -9,14 +9,10 @@ use Rattle.drt_model.specs.declared.tasks.Vertex.{Vertex}
 use Rattle.drt_model.specs.declared.tasks.Edge.{Edge}
 use Rattle.drt_file.specs.declared.state.Draft.{Draft}
 use Rattle.drt_file.specs.declared.state.State.{State}
-use Rattle.drt_file.specs.declared.state.Kind.{Kind}
-use Rattle.drt_file.specs.declared.state.Kind.TheVariants as kinds
-use Rattle.drt_file.specs.internal.StateFaults.{has_vertex, place_of, in_task, in_some_task, is_outside, task_fault, vertex_fault, kind_fault, line_fault}
-use Rattle.drt_file.specs.internal.Kinds.{kind, first_word}
-use Rattle.drt_file.specs.trusted.Line.{is_text}
+use Rattle.drt_file.specs.internal.StateFaults.{has_vertex, place_of, in_task, in_some_task, is_outside}
 use Rattle.drt_file.specs.internal.Reader.{own_vertices, task_names, vertex_names, HasNames, joined}
 use Rattle.drt_file.specs.internal.Steps.{with_last, narrow, on_current, after_task, after_end, with_vertex, with_edge, with_priority}
-use Rattle.drt_file.proofs.Table.{inside, passed, at_task}
+use Rattle.drt_file.proofs.Table.{inside}
 
 same_bytes : (xs ys : List ℕ) → bytes_eq xs ys ≡ bytes_eq ys xs
 same_bytes xs ys = go (bytes_eq xs ys) (bytes_eq ys xs) refl refl

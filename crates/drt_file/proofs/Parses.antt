@@ -1,5 +1,5 @@
 -- A line that says something leaves what its kind leaves, and its names are new.
-use Rattle.std.proofs.Common.{◌≡◌, ℕ, Bool, true, false, ◌||◌, List, [], ◌∷◌, Option, Some, None, Result, Ok, Err, refl, sym, ap, subst, ◌∙◌}
+use Rattle.std.proofs.Common.{◌≡◌, ℕ, Bool, false, ◌||◌, List, Option, Some, None, Result, Ok, Err, refl, sym, ap, subst, ◌∙◌}
 use Rattle.std.specs.Prelude.{bytes_eq}
 use Rattle.std.specs.List.{list_any}
 use Rattle.drt_file.specs.declared.state.Draft.{Draft}
@@ -7,13 +7,11 @@ use Rattle.drt_file.specs.declared.state.State.{State}
 use Rattle.drt_file.specs.declared.state.Kind.{Kind}
 use Rattle.drt_file.specs.declared.state.Kind.TheVariants as kinds
 use Rattle.drt_file.specs.declared.state.Line.{Line}
-use Rattle.drt_file.specs.declared.state.Line.TheVariants as lines
 use Rattle.drt_file.specs.declared.fault.FileFault.{FileFault}
 use Rattle.drt_file.specs.declared.fault.FileError.{FileError}
 use Rattle.drt_file.specs.declared.fault.FileError.TheVariants as errors
 use Rattle.drt_file.specs.internal.Kinds.{kind, first_word}
 use Rattle.drt_file.specs.internal.Parsed.{read_as, said_by, parsed, after_line, IsNew}
-use Rattle.drt_file.specs.internal.Reader.{own_vertices}
 use Rattle.drt_file.specs.internal.StateFaults.{has_vertex, in_task, in_some_task, is_outside, kind_fault, line_fault}
 use Rattle.drt_file.specs.internal.Steps.{Fails, capped, after_kind, judged}
 use Rattle.drt_file.proofs.Follows.{line_passed}

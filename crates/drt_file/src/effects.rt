@@ -1,5 +1,6 @@
 //! What a line without a fault adds to what the lines above leave.
-ghost use Rattle.std.specs.Prelude.{◌≡◌, None, Some, false, map, bytes_eq, IfOk, option_map};
+ghost use Rattle.std.specs.Prelude.{◌≡◌, ◌++◌, ◌∷◌, [], None, Some, false, map, bytes_eq, IfOk, option_map};
+ghost use Rattle.std.specs.List.{list_any};
 ghost use Rattle.drt_file.specs.internal.StateFaults.{place_of, has_vertex, in_some_task, is_outside, kind_fault};
 ghost use Rattle.drt_file.specs.internal.Parsed.{IsNew, after_line};
 ghost use Rattle.drt_file.specs.internal.Reader.{own_vertices, joined};
@@ -17,17 +18,12 @@ ghost use Rattle.drt_file.specs.internal.Steps.{
   head,
 };
 
+use crate::name_table::NameTable;
 use crate::parsing::count_tasks;
 use crate::reader::Reader;
 use crate::state::{Draft, Line, State, pushed};
 use drt_model::{Edge, Memory, Name, Row, Vertex};
 use std::alloc::Global;
-
-fn copy_of(alloc: Global, word: &[u8]) -> Result<Vec<u8>, Memory>
-    ensures { IfOk result (λ v. v.items ≡ word.now) }
-{
-    Ok(Vec::from_slice(alloc, word)?)
-}
 
 /// The tasks so far, with the open one closed behind them.
 #[tactic(auto, unfolding(crate::specs::internal::Steps::with_last))]
@@ -79,19 +75,41 @@ fn task_opened(alloc: Global, n: u32, s: State, name: Name) -> Result<State, Mem
     })
 }
 
+// The task opened, and its name among these.
+fn task_entered(
+    alloc: Global,
+    n: u32,
+    s: State,
+    mut names: NameTable,
+    name: Name,
+) -> Result<(State, NameTable), Memory>
+    requires { list_any (λ k. bytes_eq k name) names ≡ false }
+    ensures state { IfOk result (λ both. both.0 ≡ after_task n s name) }
+    ensures names { IfOk result (λ both. both.1 ≡ names ++ name ∷ []) }
+{
+    match names.add_copy(alloc, name.as_slice()) {
+        Ok(()) => Ok((task_opened(alloc, n, s, name)?, names)),
+        Err(e) => {
+            // One call, where the end of the scope would take the state apart here.
+            drop(s);
+            Err(e)
+        }
+    }
+}
+
 fn after_task(alloc: Global, n: u32, r: Reader, name: Name) -> Result<Reader, Memory>
     requires { in_some_task (λ d. bytes_eq d.name name) r ≡ false }
     ensures { IfOk result (λ t. t ≡ after_task n r name) }
 {
     let Reader {
         state,
-        mut tasks,
+        tasks,
         mut vertices,
     } = r;
-    tasks.add(copy_of(alloc, name.as_slice())?)?;
+    let (state, tasks) = task_entered(alloc, n, state, tasks, name)?;
     vertices.clear();
     Ok(Reader {
-        state: task_opened(alloc, n, state, name)?,
+        state,
         tasks,
         vertices,
     })
@@ -181,6 +199,26 @@ fn vertex_put(s: State, v: Vertex) -> Result<State, Memory>
     })
 }
 
+// The vertex in the open task, and its name among these.
+fn vertex_entered(
+    alloc: Global,
+    s: State,
+    mut names: NameTable,
+    v: Vertex,
+) -> Result<(State, NameTable), Memory>
+    requires { list_any (λ n. bytes_eq n v.name) names ≡ false }
+    ensures state { IfOk result (λ both. both.0 ≡ on_current (with_vertex v) s) }
+    ensures names { IfOk result (λ both. both.1 ≡ names ++ v.name ∷ []) }
+{
+    match names.add_copy(alloc, v.name.as_slice()) {
+        Ok(()) => Ok((vertex_put(s, v)?, names)),
+        Err(e) => {
+            drop(s);
+            Err(e)
+        }
+    }
+}
+
 fn after_vertex(alloc: Global, r: Reader, v: Vertex) -> Result<Reader, Memory>
     requires inside { is_outside r ≡ false }
     requires new { has_vertex v.name (own_vertices r) ≡ false }
@@ -189,11 +227,11 @@ fn after_vertex(alloc: Global, r: Reader, v: Vertex) -> Result<Reader, Memory>
     let Reader {
         state,
         tasks,
-        mut vertices,
+        vertices,
     } = r;
-    vertices.add(copy_of(alloc, v.name.as_slice())?)?;
+    let (state, vertices) = vertex_entered(alloc, state, vertices, v)?;
     Ok(Reader {
-        state: vertex_put(state, v)?,
+        state,
         tasks,
         vertices,
     })

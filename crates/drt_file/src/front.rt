@@ -83,7 +83,11 @@ fn all_lines(alloc: Global, bytes: &[u8]) -> Result<(u32, Option<Reader>, &[u8])
     'lines: while !has_ended(&above) {
         let (line, others) = match cut_fed_line(rest) {
             Some(cut) => cut,
-            None => return Err(fault(n, true)),
+            None => {
+                // One call, where the end of the scope would take the state apart here.
+                drop(above);
+                return Err(fault(n, true));
+            }
         };
         above = match strict_step(alloc, n, above, line)? {
             Some(s) => Some(s),

@@ -8,7 +8,6 @@ use std::alloc::Global;
 use std::marker::Model;
 
 /// Distinct names, each at its place. Contracts see it as the list of the names.
-#[derive(Drop)]
 pub struct NameTable {
     names: IndexSet<Vec<u8>>,
 }
@@ -20,6 +19,13 @@ impl Model for NameTable {
     ghost Value = { List (List ℕ) };
 
     ghost view = { λ t. map (λ k. k.items) t.names.keys };
+}
+
+// By hand, so that the end of a scope calls this one function and doesn't take the set apart there.
+impl Drop for NameTable {
+    fn drop(self) {
+        let NameTable { names: _ } = self;
+    }
 }
 
 impl NameTable {
@@ -56,8 +62,16 @@ impl NameTable {
         }
     }
 
-    /// Puts a name that isn't there at the end.
-    pub fn add(&mut self, name: Vec<u8>) -> Result<(), Memory>
+    /// Puts a copy of a name that isn't there at the end.
+    pub fn add_copy(&mut self, alloc: Global, name: &[u8]) -> Result<(), Memory>
+        requires { list_any (λ n. bytes_eq n name.now) self.old ≡ false }
+        ensures { OnOk result (self.new ≡ self.old ++ name.now ∷ []) }
+    {
+        self.add(Vec::from_slice(alloc, name)?)
+    }
+
+    // Puts a name that isn't there at the end.
+    fn add(&mut self, name: Vec<u8>) -> Result<(), Memory>
         requires { list_any (λ n. bytes_eq n name.items) self.old ≡ false }
         ensures { OnOk result (self.new ≡ self.old ++ name.items ∷ []) }
     {

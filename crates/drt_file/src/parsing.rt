@@ -1,12 +1,26 @@
 //! What a line says, or its fault, given what the lines above leave.
-ghost use Rattle.std.specs.Prelude.{◌≡◌, ◌<◌, ◌+◌, ◌==◌, ◌&&◌, nat_le, map, length, IfOk};
+ghost use Rattle.std.specs.Prelude.{◌≡◌, ◌<◌, ◌+◌, ◌==◌, ◌&&◌, ◌∷◌, [], nat_le, map, length, IfOk};
 ghost use Rattle.std.specs.List.{list_any};
 ghost use Rattle.drt_model.specs.Limits.{most_tasks, most_vertices};
 ghost use Rattle.drt_file.specs.declared.fault.FileError.TheVariants.{Fault};
 ghost use Rattle.drt_file.specs.declared.state.Kind.TheVariants as kinds;
 ghost use Rattle.drt_file.specs.internal.Parsed.{read_as, said_by, parsed};
 ghost use Rattle.drt_file.specs.internal.Reader.{own_vertices};
-ghost use Rattle.drt_file.specs.internal.StateFaults.{has_vertex, place_of, has_edge, has_that_priority, has_priority, is_outside, task_count, task_fault, vertex_fault, edge_fault, priority_fault, end_fault, kind_fault};
+ghost use Rattle.drt_file.specs.internal.StateFaults.{
+  has_vertex,
+  place_of,
+  has_edge,
+  has_that_priority,
+  has_priority,
+  is_outside,
+  task_count,
+  task_fault,
+  vertex_fault,
+  edge_fault,
+  priority_fault,
+  end_fault,
+  kind_fault,
+};
 ghost use Rattle.drt_file.specs.internal.Steps.{Gives, narrow};
 ghost use Rattle.drt_file.specs.trusted.Words.{is_name};
 
@@ -82,39 +96,45 @@ fn end_line(n: u32, r: &Reader, words: &[&[u8]]) -> Result<Line, FileError>
     }
 }
 
+// The code of the fault of a `vertex` line of these fields.
+#[tactic(auto, unfolding(crate::specs::internal::Reader::own_vertices, crate::specs::internal::StateFaults::vertex_fault, crate::specs::internal::StateFaults::in_task, crate::specs::internal::StateFaults::is_outside, crate::specs::internal::StateFaults::first_of))]
+fn vertex_fault(r: &Reader, name: &[u8], wcet: &[u8], deadline: &[u8]) -> Option<u8>
+    ensures { result ≡ vertex_fault r.now ([] ∷ name.now ∷ wcet.now ∷ deadline.now ∷ []) }
+{
+    if !(a_number(wcet) && a_number(deadline)) {
+        return Some(NO_NUMBER);
+    }
+    if !(in_range(wcet) && in_range(deadline)) {
+        return Some(OUT_OF_RANGE);
+    }
+    if !a_name(name) {
+        return Some(NO_NAME);
+    }
+    let s = r.state();
+    match &s.current {
+        None => Some(OUTSIDE),
+        Some(_) if r.has_vertex(name) => Some(SAME_VERTEX),
+        Some(d) if most_vertices(s.version) <= d.vertices.as_slice().len() => {
+            Some(TOO_MANY_VERTICES)
+        }
+        Some(_) => None,
+    }
+}
+
 // A `vertex` line.
-#[tactic(auto, unfolding(crate::specs::internal::Reader::own_vertices, crate::specs::internal::StateFaults::vertex_fault, crate::specs::internal::StateFaults::in_task, crate::specs::internal::StateFaults::is_outside, crate::specs::internal::Parsed::read_as, crate::specs::internal::Parsed::said_by, crate::specs::internal::StateFaults::first_of))]
+#[tactic(auto, unfolding(crate::specs::internal::StateFaults::vertex_fault, crate::specs::internal::Parsed::read_as, crate::specs::internal::Parsed::said_by))]
 fn vertex_line(alloc: Global, n: u32, r: &Reader, words: &[&[u8]]) -> Result<Line, FileError>
     ensures { Gives result (read_as n (vertex_fault r.now (map (λ w. w.now) words.now)) (said_by kinds.Vertex r.now (map (λ w. w.now) words.now))) }
 {
     match words {
-        [_, name, wcet, deadline] => {
-            if !(a_number(wcet) && a_number(deadline)) {
-                return Err(fault(n, NO_NUMBER));
-            }
-            if !(in_range(wcet) && in_range(deadline)) {
-                return Err(fault(n, OUT_OF_RANGE));
-            }
-            if !a_name(name) {
-                return Err(fault(n, NO_NAME));
-            }
-            match &r.state().current {
-                None => return Err(fault(n, OUTSIDE)),
-                Some(d) => {
-                    if r.has_vertex(name) {
-                        return Err(fault(n, SAME_VERTEX));
-                    }
-                    if most_vertices(r.state().version) <= d.vertices.as_slice().len() {
-                        return Err(fault(n, TOO_MANY_VERTICES));
-                    }
-                }
-            }
-            Ok(Line::Vertex(Vertex {
+        [_, name, wcet, deadline] => match vertex_fault(r, name, wcet, deadline) {
+            Some(code) => Err(fault(n, code)),
+            None => Ok(Line::Vertex(Vertex {
                 name: name_of(alloc, name)?,
                 wcet: value_of(wcet),
                 deadline: value_of(deadline),
-            }))
-        }
+            })),
+        },
         _ => Err(fault(n, NO_FORM)),
     }
 }
@@ -137,73 +157,76 @@ fn joins(r: &Reader, d: &Draft, from: &[u8], to: &[u8]) -> bool
     any_edge(r.place(from), r.place(to), d.edges.as_slice())
 }
 
+// The code of the fault of an `edge` line of these fields.
+#[tactic(auto, unfolding(crate::specs::internal::Reader::own_vertices, crate::specs::internal::StateFaults::edge_fault, crate::specs::internal::StateFaults::in_task, crate::specs::internal::StateFaults::is_outside, crate::specs::internal::StateFaults::first_of))]
+fn edge_fault(r: &Reader, from: &[u8], to: &[u8], sep: &[u8]) -> Option<u8>
+    ensures { result ≡ edge_fault r.now ([] ∷ from.now ∷ to.now ∷ sep.now ∷ []) }
+{
+    if !a_number(sep) {
+        return Some(NO_NUMBER);
+    }
+    if !in_range(sep) {
+        return Some(OUT_OF_RANGE);
+    }
+    if !both_names(from, to) {
+        return Some(NO_NAME);
+    }
+    match &r.state().current {
+        None => Some(OUTSIDE),
+        Some(_) if !both_stand(r, from, to) => Some(NO_VERTEX_OF_NAME),
+        Some(d) if joins(r, d, from, to) => Some(SAME_EDGE),
+        Some(d) if 256 <= d.edges.as_slice().len() => Some(TOO_MANY_EDGES),
+        Some(_) => None,
+    }
+}
+
 // An `edge` line.
-#[tactic(auto, unfolding(crate::specs::internal::Reader::own_vertices, crate::specs::internal::StateFaults::edge_fault, crate::specs::internal::StateFaults::in_task, crate::specs::internal::StateFaults::is_outside, crate::specs::internal::Parsed::read_as, crate::specs::internal::Parsed::said_by, crate::specs::internal::StateFaults::first_of))]
+#[tactic(auto, unfolding(crate::specs::internal::StateFaults::edge_fault, crate::specs::internal::Parsed::read_as, crate::specs::internal::Parsed::said_by))]
 fn edge_line(n: u32, r: &Reader, words: &[&[u8]]) -> Result<Line, FileError>
     ensures { Gives result (read_as n (edge_fault r.now (map (λ w. w.now) words.now)) (said_by kinds.Edge r.now (map (λ w. w.now) words.now))) }
 {
     match words {
-        [_, from, to, sep] => {
-            if !a_number(sep) {
-                return Err(fault(n, NO_NUMBER));
-            }
-            if !in_range(sep) {
-                return Err(fault(n, OUT_OF_RANGE));
-            }
-            if !both_names(from, to) {
-                return Err(fault(n, NO_NAME));
-            }
-            match &r.state().current {
-                None => return Err(fault(n, OUTSIDE)),
-                Some(d) => {
-                    if !both_stand(r, from, to) {
-                        return Err(fault(n, NO_VERTEX_OF_NAME));
-                    }
-                    if joins(r, d, from, to) {
-                        return Err(fault(n, SAME_EDGE));
-                    }
-                    if 256 <= d.edges.as_slice().len() {
-                        return Err(fault(n, TOO_MANY_EDGES));
-                    }
-                }
-            }
-            Ok(Line::Edge(Edge {
+        [_, from, to, sep] => match edge_fault(r, from, to, sep) {
+            Some(code) => Err(fault(n, code)),
+            None => Ok(Line::Edge(Edge {
                 from: place_in(r, from),
                 to: place_in(r, to),
                 sep: value_of(sep),
-            }))
-        }
+            })),
+        },
         _ => Err(fault(n, NO_FORM)),
     }
 }
 
+// The code of the fault of a `priority` line of this field.
+#[tactic(auto, unfolding(crate::specs::internal::StateFaults::priority_fault, crate::specs::internal::StateFaults::in_task, crate::specs::internal::StateFaults::is_outside, crate::specs::internal::StateFaults::has_priority, crate::specs::internal::StateFaults::first_of))]
+fn priority_fault(s: &State, number: &[u8]) -> Option<u8>
+    ensures { result ≡ priority_fault s.now ([] ∷ number.now ∷ []) }
+{
+    if !a_number(number) {
+        return Some(NO_NUMBER);
+    }
+    if !in_range(number) {
+        return Some(OUT_OF_RANGE);
+    }
+    match &s.current {
+        None => Some(OUTSIDE),
+        Some(d) if d.priority.is_some() => Some(SECOND_PRIORITY),
+        Some(_) if any_priority(value_of(number), s.closed.as_slice()) => Some(SAME_PRIORITY),
+        Some(_) => None,
+    }
+}
+
 // A `priority` line.
-#[tactic(auto, unfolding(crate::specs::internal::StateFaults::priority_fault, crate::specs::internal::StateFaults::in_task, crate::specs::internal::StateFaults::is_outside, crate::specs::internal::StateFaults::has_priority, crate::specs::internal::Parsed::read_as, crate::specs::internal::Parsed::said_by, crate::specs::internal::StateFaults::first_of))]
+#[tactic(auto, unfolding(crate::specs::internal::StateFaults::priority_fault, crate::specs::internal::Parsed::read_as, crate::specs::internal::Parsed::said_by))]
 fn priority_line(n: u32, r: &Reader, words: &[&[u8]]) -> Result<Line, FileError>
     ensures { Gives result (read_as n (priority_fault r.now (map (λ w. w.now) words.now)) (said_by kinds.Priority r.now (map (λ w. w.now) words.now))) }
 {
     match words {
-        [_, number] => {
-            if !a_number(number) {
-                return Err(fault(n, NO_NUMBER));
-            }
-            if !in_range(number) {
-                return Err(fault(n, OUT_OF_RANGE));
-            }
-            let s = r.state();
-            match &s.current {
-                None => return Err(fault(n, OUTSIDE)),
-                Some(d) => {
-                    if d.priority.is_some() {
-                        return Err(fault(n, SECOND_PRIORITY));
-                    }
-                    if any_priority(value_of(number), s.closed.as_slice()) {
-                        return Err(fault(n, SAME_PRIORITY));
-                    }
-                }
-            }
-            Ok(Line::Priority(value_of(number)))
-        }
+        [_, number] => match priority_fault(r.state(), number) {
+            Some(code) => Err(fault(n, code)),
+            None => Ok(Line::Priority(value_of(number))),
+        },
         _ => Err(fault(n, NO_FORM)),
     }
 }
@@ -225,24 +248,33 @@ fn are_full(s: &State) -> bool
     most_tasks(s.version) <= count_tasks(s)
 }
 
+// The code of the fault of a `task` line of this field.
+#[tactic(auto, unfolding(crate::specs::internal::StateFaults::task_fault, crate::specs::internal::StateFaults::first_of))]
+fn task_fault(r: &Reader, name: &[u8]) -> Option<u8>
+    ensures { result ≡ task_fault r.now ([] ∷ name.now ∷ []) }
+{
+    if !a_name(name) {
+        return Some(NO_NAME);
+    }
+    if r.has_task(name) {
+        return Some(SAME_TASK);
+    }
+    if are_full(r.state()) {
+        return Some(TOO_MANY_TASKS);
+    }
+    None
+}
+
 // A `task` line.
-#[tactic(auto, unfolding(crate::specs::internal::StateFaults::task_fault, crate::specs::internal::Parsed::read_as, crate::specs::internal::Parsed::said_by, crate::specs::internal::StateFaults::first_of))]
+#[tactic(auto, unfolding(crate::specs::internal::StateFaults::task_fault, crate::specs::internal::Parsed::read_as, crate::specs::internal::Parsed::said_by))]
 fn task_line(alloc: Global, n: u32, r: &Reader, words: &[&[u8]]) -> Result<Line, FileError>
     ensures { Gives result (read_as n (task_fault r.now (map (λ w. w.now) words.now)) (said_by kinds.Task r.now (map (λ w. w.now) words.now))) }
 {
     match words {
-        [_, name] => {
-            if !a_name(name) {
-                return Err(fault(n, NO_NAME));
-            }
-            if r.has_task(name) {
-                return Err(fault(n, SAME_TASK));
-            }
-            if are_full(r.state()) {
-                return Err(fault(n, TOO_MANY_TASKS));
-            }
-            Ok(Line::Task(name_of(alloc, name)?))
-        }
+        [_, name] => match task_fault(r, name) {
+            Some(code) => Err(fault(n, code)),
+            None => Ok(Line::Task(name_of(alloc, name)?)),
+        },
         _ => Err(fault(n, NO_FORM)),
     }
 }

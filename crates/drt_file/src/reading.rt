@@ -1,8 +1,9 @@
 //! Reading a task file: once over its bytes, line by line, down to the first fault.
-ghost use Rattle.std.specs.Prelude.{◌≡◌, ◌≤◌, None, length, IfOk, IfErr};
+ghost use Rattle.std.specs.Prelude.{◌≡◌, ◌≤◌, if◌then◌else◌, None, Ok, length, map, IfOk, IfErr};
 ghost use Rattle.drt_file.specs.trusted.Cutting.{lines};
 ghost use Rattle.drt_file.specs.trusted.Reading.{Reads, IsCauseOf};
-ghost use Rattle.drt_file.specs.internal.Steps.{Gives, GivesSet, read_text, step, steps};
+ghost use Rattle.drt_file.specs.trusted.Line.{is_skipped};
+ghost use Rattle.drt_file.specs.internal.Steps.{Gives, GivesSet, line_step, read_text, step, steps};
 
 use crate::cutting::{cut_line, fields_of};
 use crate::fault::FileError;
@@ -13,6 +14,23 @@ use crate::steps::line_step;
 use drt_model::{Row, Task, TaskSet};
 use std::alloc::Global;
 
+// What a line of these fields leaves, or its fault.
+fn words_step(
+    alloc: Global,
+    n: u32,
+    above: Option<Reader>,
+    line: &[u8],
+    words: &[&[u8]],
+) -> Result<Option<Reader>, FileError>
+    ensures { Gives result (if is_skipped (map (λ w. w.now) words.now) then Ok above else line_step n above line.now (map (λ w. w.now) words.now)) }
+{
+    if skipped(words) {
+        Ok(above)
+    } else {
+        line_step(alloc, n, above, line, words)
+    }
+}
+
 #[tactic(auto, unfolding(crate::specs::internal::Steps::step))]
 fn step(
     alloc: Global,
@@ -22,11 +40,14 @@ fn step(
 ) -> Result<Option<Reader>, FileError>
     ensures { Gives result (step n above line.now) }
 {
-    let words = fields_of(alloc, line)?;
-    if skipped(words.as_slice()) {
-        return Ok(above);
+    match fields_of(alloc, line) {
+        Ok(words) => words_step(alloc, n, above, line, words.as_slice()),
+        Err(_) => {
+            // One call, where the end of the scope would take the state apart here.
+            drop(above);
+            Err(FileError::Memory)
+        }
     }
-    line_step(alloc, n, above, line, words.as_slice())
 }
 
 fn all_lines(alloc: Global, text: &[u8]) -> Result<(u32, Option<Reader>), FileError>

@@ -19,10 +19,17 @@ fn below(
     line: &[u8],
     words: &[&[u8]],
 ) -> Result<Option<Reader>, FileError>
-    ensures { Gives result (judged n (line_fault r line.now (map (λ w. w.now) words.now)) (after_kind (kind r.version (first_word (map (λ w. w.now) words.now))) n r (map (λ w. w.now) words.now))) }
+    ensures { Gives result (judged n (line_fault r line.now (map (λ w. w.now) words.now))
+        (after_kind (kind r.version (first_word (map (λ w. w.now) words.now))) n r (map (λ w. w.now) words.now))) }
 {
-    let said = parse_line(alloc, n, &r, line, words)?;
-    Ok(Some(after(alloc, n, r, said)?))
+    match parse_line(alloc, n, &r, line, words) {
+        Ok(said) => Ok(Some(after(alloc, n, r, said)?)),
+        Err(e) => {
+            // One call, where the end of the scope would take the state apart here.
+            drop(r);
+            Err(e)
+        }
+    }
 }
 
 #[tactic(auto, unfolding(crate::specs::internal::Steps::headed))]

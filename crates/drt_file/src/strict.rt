@@ -2,6 +2,7 @@
 ghost use Rattle.std.specs.Prelude.{◌≡◌, ◌||◌, map, bytes_eq, IfOk};
 ghost use Rattle.std.specs.List.{join_with_byte};
 ghost use Rattle.drt_file.specs.internal.StateFaults.{in_task, is_outside};
+ghost use Rattle.drt_file.specs.internal.Steps.{line_step};
 ghost use Rattle.drt_file.specs.internal.Strict.{
   is_printed,
   is_whole,
@@ -9,6 +10,9 @@ ghost use Rattle.drt_file.specs.internal.Strict.{
   takes_priority,
   fits,
   fits_below,
+  left_by,
+  stands,
+  strict_words,
   strict_step,
 };
 
@@ -139,8 +143,64 @@ fn joined(alloc: Global, line: &[u8], words: &[&[u8]]) -> Result<bool, Memory>
     Ok(text.as_slice() == line)
 }
 
+// Whether the line is printed as these fields, and may stand here in print.
+#[tactic(auto, unfolding(crate::specs::internal::Strict::stands))]
+fn stands(
+    alloc: Global,
+    above: &Option<Reader>,
+    line: &[u8],
+    words: &[&[u8]],
+) -> Result<bool, Memory>
+    ensures { IfOk result (λ b. b ≡ stands above.now line.now (map (λ w. w.now) words.now)) }
+{
+    Ok(joined(alloc, line, words)? && fits_below(above, words))
+}
+
+// What a line of these fields leaves, and none where it has a fault.
+#[tactic(auto, unfolding(crate::specs::internal::Strict::left_by))]
+fn left_by(
+    alloc: Global,
+    n: u32,
+    above: Option<Reader>,
+    line: &[u8],
+    words: &[&[u8]],
+) -> Result<Option<Reader>, Memory>
+    ensures { IfOk result (λ below. below ≡ left_by (line_step n above line.now (map (λ w. w.now) words.now))) }
+{
+    match line_step(alloc, n, above, line, words) {
+        Ok(below) => Ok(below),
+        Err(FileError::Fault(_)) => Ok(None),
+        Err(FileError::Memory) => Err(Memory),
+    }
+}
+
+// What a line of these fields leaves, where it stands as in a canonical text.
+#[tactic(auto, unfolding(crate::specs::internal::Strict::strict_words))]
+fn strict_words(
+    alloc: Global,
+    n: u32,
+    above: Option<Reader>,
+    line: &[u8],
+    words: &[&[u8]],
+) -> Result<Option<Reader>, Memory>
+    ensures { IfOk result (λ below. below ≡ strict_words n above line.now (map (λ w. w.now) words.now)) }
+{
+    match stands(alloc, &above, line, words) {
+        Ok(true) => left_by(alloc, n, above, line, words),
+        Ok(false) => {
+            // One call, where the end of the scope would take the state apart here.
+            drop(above);
+            Ok(None)
+        }
+        Err(e) => {
+            drop(above);
+            Err(e)
+        }
+    }
+}
+
 /// What a line leaves, where it stands as in a canonical text.
-#[tactic(auto, unfolding(crate::specs::internal::Strict::strict_step, crate::specs::internal::Strict::left_by))]
+#[tactic(auto, unfolding(crate::specs::internal::Strict::strict_step, crate::specs::internal::Strict::strict_words, crate::specs::internal::Strict::stands))]
 pub fn strict_step(
     alloc: Global,
     n: u32,
@@ -149,16 +209,11 @@ pub fn strict_step(
 ) -> Result<Option<Reader>, Memory>
     ensures { IfOk result (λ below. below ≡ strict_step n above line.now) }
 {
-    let words = fields_of(alloc, line)?;
-    if !joined(alloc, line, words.as_slice())? {
-        return Ok(None);
-    }
-    if !fits_below(&above, words.as_slice()) {
-        return Ok(None);
-    }
-    match line_step(alloc, n, above, line, words.as_slice()) {
-        Ok(below) => Ok(below),
-        Err(FileError::Fault(_)) => Ok(None),
-        Err(FileError::Memory) => Err(Memory),
+    match fields_of(alloc, line) {
+        Ok(words) => strict_words(alloc, n, above, line, words.as_slice()),
+        Err(e) => {
+            drop(above);
+            Err(e)
+        }
     }
 }

@@ -46,6 +46,14 @@ unfoldable pub left_by : Result (Option State) FileFault → Option State
 left_by (Ok below) = below
 left_by (Err f) = None
 
+-- A line is these fields, parted by one space, and they fit.
+unfoldable pub stands : Option State → List ℕ → List (List ℕ) → Bool
+stands above line words = bytes_eq (join_with_byte 32 words) line && fits_below above words
+
+-- What line n of these fields leaves, where they stand as in a canonical text and have no fault.
+unfoldable pub strict_words : ℕ → Option State → List ℕ → List (List ℕ) → Option State
+strict_words n above line words = if stands above line words then left_by (line_step n above line words) else None
+
 -- What line n leaves, where it is fields parted by one space that fit and have no fault.
 unfoldable pub strict_step : ℕ → Option State → List ℕ → Option State
 strict_step n above line =
