@@ -1,12 +1,12 @@
 -- The lists and the queue of an arena after a change of its nodes.
-use Rattle.std.proofs.Common.{◌≡◌, ◌≢◌, ℕ, suc, zero, ◌+◌, ◌<◌, ◌≤◌, ◌⊎◌, Bool, true, false, cond, Option, Some, None, List, [], ◌∷◌, ◌++◌, length, map, refl, sym, ap, ◌∙◌, subst, inl, inr, arith}
+use Rattle.std.proofs.Common.{◌≡◌, ◌≢◌, ℕ, suc, zero, ◌+◌, ◌<◌, ◌≤◌, ◌⊎◌, Bool, true, false, cond, Option, Some, None, List, [], ◌∷◌, ◌++◌, get_or, length, map, refl, sym, ap, ◌∙◌, subst, inl, inr, arith}
 use Rattle.std.specs.Prelude.{slice_get, replicate, ◌&&◌}
 use Rattle.std.specs.List.{Contains}
 use Rattle.std.specs.BinaryHeap.{IsHeap}
 use Rattle.std.specs.List.Sorted.{IsPermutation}
 use Rattle.std.proofs.lemmas.List.{length_push, length-map}
 use Rattle.std.proofs.lemmas.List.Elements.{Contains-append_left, Contains-push}
-use Rattle.std.proofs.lemmas.Option.{none-some, same_Some, slice_get_within}
+use Rattle.std.proofs.lemmas.Option.{none-some, same_Some, slice_get_read, slice_get_within}
 use Rattle.drt_label.specs.Algebra.{Algebra}
 use Rattle.drt_table.specs.Node.{Held, NodeOf, is_kept, is_pending, is_taken, is_pending_state, is_taken_state}
 use Rattle.drt_table.specs.declared.node.NodeState.{NodeState}
@@ -14,7 +14,7 @@ use Rattle.drt_table.specs.declared.node.NodeState.TheVariants.{Pending, Taken, 
 use Rattle.drt_worklist.specs.Places.{first, changed}
 use Rattle.drt_table.specs.Earliest.{earliest}
 use Rattle.drt_table.specs.Held.{take_by, close_node, drop_held, dominates_held, fresh_held, held_offset, compared_nodes, placed_nodes}
-use Rattle.drt_table.specs.Arena.{AreArranged}
+use Rattle.drt_table.specs.Arena.{AreArranged, Stock}
 use Rattle.drt_table.specs.Links.{IsNext, AreLinked}
 use Rattle.drt_table.specs.Waiting.{Ticket, ticket_cmp, AreWaiting, IsFresh, AreHeld}
 use Rattle.drt_worklist.proofs.Lists.{Before, before_change, After, after_change, changed_at, length-changed}
@@ -23,6 +23,42 @@ use Rattle.drt_table.proofs.Linking.{StaysKept, changed_linked, at_pushed, get_p
 use Rattle.drt_table.proofs.Tickets.{StayWaiting, still_waiting, popped_ticket, at_contains, contains_at}
 use Rattle.drt_table.proofs.Earliest.{Earliest, found_earliest}
 use Rattle.drt_table.proofs.Adding.{true_not_false}
+
+-- there is room for one more element of a vector of that length
+pub room_for : (n room len cap : ℕ) → n < room → len ≡ n → room ≤ cap → len < cap
+room_for n room len cap lt is le = omega arith
+
+pub same_le : (m n : ℕ) → m ≡ n → m ≤ n
+same_le m n is = omega arith
+
+-- the counts of an arena whose nodes were n, and are m now: one more, at most
+module _ (n m from : ℕ) (from_is : from ≡ n) where
+  pub admit_from : m ≡ n + 1 → from ≤ m
+  admit_from more = omega arith
+
+  pub admit_few : m ≤ n + 1 → n < 4294967296 → m ≤ 4294967296
+  admit_few at_most few = omega arith
+
+  pub admit_room : m ≤ n + 1 → (room len taken cap : ℕ) → n < room → len + taken ≤ n → room ≤ cap → len + m ≤ cap + from
+  admit_room at_most room len taken cap lt waits le = omega arith
+
+-- there is a node of that number, with the fact
+abbrev pub HasNode : {L : Type 0} → (Held L → Type 0) → List (Held L) → ℕ → Type 0
+HasNode {L} P nodes id = (h : Held L) × (slice_get nodes id ≡ Some h) × P h
+
+-- the arena's nodes are these, and contracts see the arena as x: the node that is read at the number
+module _ {L : Type 0} (P : Held L → Type 0) (v x : Stock L) (same : v ≡ x) (id : ℕ) (can : HasNode P x.nodes id) where
+  pub has_node : HasNode P v.nodes id
+  has_node = subst (λ (y : Stock L). HasNode P y.nodes id) (sym same) can
+
+  pub node_within : id < length v.nodes
+  node_within = slice_get_within v.nodes id has_node.0 has_node.1
+
+  pub node_at : (h : Held L) → h ≡ get_or v.nodes id h → slice_get v.nodes id ≡ Some h
+  node_at h is = slice_get_read v.nodes (length v.nodes) id h refl node_within is
+
+  pub node_has : (h : Held L) → h ≡ get_or v.nodes id h → P h
+  node_has h is = subst P (same_Some has_node.0 h (sym has_node.1 ∙ node_at h is)) has_node.2
 
 -- the nodes are these, with others after them; none of them is newly taken
 pub record StayHeld {L : Type 0} (nodes later : List (Held L)) : Type 0 where

@@ -1,8 +1,11 @@
 -- What an offer rests on, and what it makes of a table. It stands on the facts that a table's invariant gives.
 use Rattle.std.proofs.Common.{◌≡◌, ℕ, ◌+◌, ◌<◌, ◌≤◌, Some, List, [], ◌∷◌, ◌++◌, length, refl, sym, ap, ◌∙◌, subst}
+use Rattle.std.proofs.lemmas.List.{length-map}
+use Rattle.std.proofs.lemmas.Option.{same_Some, slice_get_within}
 use Rattle.std.specs.Prelude.{slice_get, IsTrue}
-use Rattle.drt_label.specs.Algebra.{Algebra, Laws}
-use Rattle.drt_model.specs.Digraph.{vertex_of}
+use Rattle.drt_label.specs.Algebra.{Algebra, Laws, IsTime}
+use Rattle.drt_model.specs.Digraph.{edge_of, out_degree, vertex_of}
+use Rattle.drt_model.specs.declared.tasks.Edge.{Edge}
 use Rattle.drt_worklist.specs.Places.{changed}
 use Rattle.drt_table.specs.Held.{AllOf, count_offer, placed_nodes, placed_reply}
 use Rattle.drt_table.specs.Links.{AreAlone}
@@ -12,7 +15,7 @@ use Rattle.drt_table.specs.View.{View, CanApply, IsStep, IsTable, setting_of, st
 use Rattle.drt_table.specs.declared.step.Entry.{Entry}
 use Rattle.drt_table.specs.declared.step.TableReply.{TableReply}
 use Rattle.drt_table.specs.declared.step.TableStep.TheVariants.{Offer}
-use Rattle.drt_table.proofs.Tables.{nodes_small, nodes_few, offer_vertex, offer_of, offer_label, offer_all_of, offer_alone, offer_placed, table_more, offer_held}
+use Rattle.drt_table.proofs.Tables.{at_node, node_vertex, node_extendable, nodes_small, nodes_few, offer_vertex, offer_of, offer_label, offer_all_of, offer_alone, offer_placed, table_more, offer_held}
 
 -- the label that comes with an offer by node id along its edge k
 abbrev pub Comes : {L : Type 0} → Algebra L → View L → ℕ → ℕ → L → Type 0
@@ -78,3 +81,42 @@ module _ {L : Type 0} (a : Algebra L) (v : View L) (w id k : ℕ) (l : L) (deadl
 
   pub offer_table : IsTable a (with_nodes v nodes log)
   offer_table = table_more a v (with_nodes v nodes log) w (Offer id k) r o.is o.can offer_step p.log_is
+
+-- node id of a table has an edge k out of its label's vertex
+abbrev pub CanExtend : {L : Type 0} → Algebra L → View L → ℕ → ℕ → Type 0
+CanExtend {L} a v id k = (n : NodeOf L) × (slice_get (state_of v).nodes id ≡ Some n) × (k < out_degree v.graph (a.vertex n.label))
+
+pub extends_within : {L : Type 0} (a : Algebra L) (v x : View L) → v ≡ x → (id k : ℕ) → CanExtend a x id k → id < length v.nodes
+extends_within {L} a v x same id k can_x =
+    let can : CanExtend a v id k = subst (λ (y : View L). CanExtend a y id k) (sym same) can_x in
+    subst (λ n. id < n) (length-map v.nodes (λ h. h.node)) (slice_get_within (state_of v).nodes id can.0 can.1)
+
+-- node id, h, is extended by its edge k, which is e: the facts that the extension rests on
+pub record Extending {L : Type 0} (a : Algebra L) (v : View L) (id k : ℕ) (h : Held L) : Type 0 where
+  pub at : slice_get (state_of v).nodes id ≡ Some h.node
+  pub vertex : a.vertex h.node.label < length v.graph.vertices
+  pub edge : k < out_degree v.graph (a.vertex h.node.label)
+  pub extendable : IsTrue (a.is_extendable h.node.label)
+  pub sep : (u : ℕ) (e : Edge) → u ≡ a.vertex h.node.label → e ≡ edge_of v.graph u k → IsTime e.sep
+  pub to : (u : ℕ) (e : Edge) → u ≡ a.vertex h.node.label → e ≡ edge_of v.graph u k → e.to < length v.graph.vertices
+  pub wcet : (u : ℕ) (e : Edge) → u ≡ a.vertex h.node.label → e ≡ edge_of v.graph u k → IsTime (vertex_of v.graph e.to).wcet
+
+pub extending : {L : Type 0} (a : Algebra L) (laws : Laws a) (v x : View L) → IsTable a v → v ≡ x → (id k : ℕ) → CanExtend a x id k
+    → (h : Held L) → slice_get v.nodes id ≡ Some h → Extending a v id k h
+extending {L} a laws v x is same id k can_x h at_h =
+    let can : CanExtend a v id k = subst (λ (y : View L). CanExtend a y id k) (sym same) can_x in
+    let at : slice_get (state_of v).nodes id ≡ Some h.node = at_node a laws v is id h at_h in
+    let node : can.0 ≡ h.node = same_Some can.0 h.node (sym can.1 ∙ at) in
+    let vertex : a.vertex h.node.label < length v.graph.vertices = node_vertex a laws v is id h at_h in
+    let edge : k < out_degree v.graph (a.vertex h.node.label) = subst (λ (n : NodeOf L). k < out_degree v.graph (a.vertex n.label)) node can.2 in
+    let to : (u : ℕ) (e : Edge) → u ≡ a.vertex h.node.label → e ≡ edge_of v.graph u k → e.to < length v.graph.vertices = λ u e u_is e_is.
+    subst (λ (y : Edge). y.to < length v.graph.vertices) (sym (e_is ∙ ap (λ n. edge_of v.graph n k) u_is)) (is.sound.to (a.vertex h.node.label) k vertex edge) in
+    record {
+      at = at;
+      vertex = vertex;
+      edge = edge;
+      extendable = node_extendable a laws v is id h at_h;
+      sep = λ u e u_is e_is. subst (λ (y : Edge). IsTime y.sep) (sym (e_is ∙ ap (λ n. edge_of v.graph n k) u_is)) (is.sound.sep (a.vertex h.node.label) k vertex edge);
+      to = to;
+      wcet = λ u e u_is e_is. is.sound.wcet e.to (to u e u_is e_is);
+    }

@@ -125,8 +125,9 @@ pub(crate) fn first_above<L: Label>(
     let mut next = heads[label.vertex() as usize];
     while let Some(id) = next {
         next = links[id as usize];
-        if nodes[id as usize].offset() <= offset {
-            if nodes[id as usize].is_above(label) {
+        let node = &nodes[id as usize];
+        if node.offset() <= offset {
+            if node.is_above(label) {
                 least = smaller(least, Some(id));
             } else if chain {
                 return least;

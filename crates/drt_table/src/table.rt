@@ -1,12 +1,14 @@
 //! The table and its steps.
 
 ghost use Rattle.std.specs.Prelude.{◌≡◌, ℕ, ◌+◌, ◌≤◌, ◌<◌, ◌++◌, ◌∷◌, [], true, Some, slice_get, length, IfOk, IfSome, IsTrue, map, nat_le, replicate, vec_capacity};
+ghost use Rattle.std.specs.Prelude.{None, if◌then◌else◌};
 ghost use Rattle.drt_table.specs.View.{View, IsTable, setting_of, state_of, spares_of, CanApply, ComesWith, IsStep};
 ghost use Rattle.drt_table.specs.Machine.{opening_state, extended};
 ghost use Rattle.drt_worklist.specs.Places.{changed};
 ghost use Rattle.drt_table.specs.Node.{NodeOf, Held, is_taken};
 ghost use Rattle.drt_table.specs.Held.{hand_out};
 ghost use Rattle.drt_table.specs.Taking.{chosen, taken_node};
+ghost use Rattle.drt_label.specs.Algebra.{IsTime};
 ghost use Rattle.drt_model.specs.Digraph.{vertex_count};
 
 use crate::arena::Arena;
@@ -52,6 +54,28 @@ impl<L: Label> Model for Table<L> {
         × (t.shortest ≡ shortest_of t.graph.out) };
 }
 
+// The opening label of a vertex, with a spare, where it is in range.
+fn opening_twin<L: Label>(
+    alloc: Global,
+    v: u32,
+    wcet: u32,
+    deadline: u32,
+    bound: u64,
+) -> Result<Option<Twin<L>>, Memory>
+    requires bound { IsTrue (L.algebra.takes_bound bound) }
+    requires wcet { IsTime wcet }
+    requires deadline { IsTime deadline }
+    ensures { IfOk result (λ twin. twin ≡
+        (if L.algebra.in_range (L.algebra.opening v wcet bound) deadline bound then Some (L.algebra.opening v wcet bound) else None)) }
+{
+    let label = L::opening(alloc, v, wcet, bound)?;
+    if label.in_range(deadline, bound) {
+        Ok(Some(Twin::new(alloc, label)?))
+    } else {
+        Ok(None)
+    }
+}
+
 // The opening nodes, in an arena with room for `budget` more.
 fn opening_arena<L: Label>(
     alloc: Global,
@@ -70,10 +94,7 @@ fn opening_arena<L: Label>(
     let mut arena = Arena::new(alloc, count, count as usize + budget as usize)?;
     for v in 0..count {
         let vertex = graph.vertex(v);
-        let deadline = vertex.deadline;
-        let label = L::opening(alloc, v, vertex.wcet, bound)?;
-        if label.in_range(deadline, bound) {
-            let twin = Twin::new(alloc, label)?;
+        if let Some(twin) = opening_twin(alloc, v, vertex.wcet, vertex.deadline, bound)? {
             arena.open(twin);
         }
     }

@@ -2,9 +2,15 @@ use Rattle.std.proofs.Common.{◌≡◌, ◌+◌, ℕ, Bool, Some, length, refl,
 use Rattle.std.specs.Prelude.{slice_get, slice_index_or}
 use Rattle.std.proofs.lemmas.Option.{slice_get-get_or, slice_get_read}
 use Rattle.drt_table.specs.Node.{Held, is_held_by}
-use Rattle.drt_table.proofs.Scan.{IsLeastOf, least_failed, least_passed, least_all, held_taken}
+use Rattle.drt_table.proofs.Scan.{IsLeastOf, least_start, least_failed, least_passed, least_all, held_taken}
 use Rattle.drt_table.proofs.holding.first_held.Goals.{then-is_held_by, else-is_held_by}
 use Rattle.drt_table.proofs.holding.first_held.Goals as goal
+
+pub loop-j-init : goal.loop-j-init
+loop-j-init g c = least_start (λ (h : Held _). is_held_by c.args.worker h.node) c.args.nodes.now c.args.taken.now
+
+pub bounds-nodes-id : goal.bounds-nodes-id
+bounds-nodes-id g c = c.requires.within c.loop-j.j _ (slice_get-get_or c.args.taken.now c.loop-j.j 0 c.loop-j-test.true)
 
 pub loop-j-preserved : goal.loop-j-preserved
 loop-j-preserved g c =

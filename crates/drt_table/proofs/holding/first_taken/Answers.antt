@@ -4,9 +4,15 @@ use Rattle.std.proofs.lemmas.Option.{slice_get-get_or, slice_get_read}
 use Rattle.drt_table.specs.Node.{Held, is_taken}
 use Rattle.drt_table.specs.Held.{held_offset}
 use Rattle.drt_table.specs.Waiting.{earlier}
-use Rattle.drt_table.proofs.Scan.{IsBestOf, best_failed, best_passed, best_all}
+use Rattle.drt_table.proofs.Scan.{IsBestOf, best_start, best_failed, best_passed, best_all}
 use Rattle.drt_table.proofs.holding.first_taken.Goals.{then-is_taken, else-is_taken}
 use Rattle.drt_table.proofs.holding.first_taken.Goals as goal
+
+pub loop-j-init : goal.loop-j-init
+loop-j-init g c = best_start (λ (h : Held _). is_taken h.node) c.args.nodes.now c.args.taken.now (held_offset g.L.Label.algebra)
+
+pub bounds-nodes-id : goal.bounds-nodes-id
+bounds-nodes-id g c = c.requires.within c.loop-j.j _ (slice_get-get_or c.args.taken.now c.loop-j.j 0 c.loop-j-test.true)
 
 pub loop-j-preserved : goal.loop-j-preserved
 loop-j-preserved g c =

@@ -1,13 +1,14 @@
-use Rattle.std.proofs.Common.{◌≡◌, ◌<◌, ◌+◌, ◌++◌, ◌∷◌, [], false, None, length, take, drop, sym, ap, ◌∙◌, subst, arith, rules}
+use Rattle.std.proofs.Common.{◌≡◌, ◌<◌, ◌+◌, ◌++◌, ◌∷◌, [], false, None, length, refl, take, drop, sym, ap, ◌∙◌, subst, arith, rules}
+use Rattle.std.specs.Prelude.{IsTrue}
 use Rattle.std.specs.BinaryHeap.{heap_items}
 use Rattle.std.proofs.lemmas.List.{length_push}
 use Rattle.drt_table.specs.Arena.{Stock, AreArranged}
 use Rattle.drt_table.specs.Waiting.{AreWaiting, IsFresh, AreHeld}
 use Rattle.drt_table.specs.Held.{AllOf}
-use Rattle.drt_table.specs.Node.{Held, is_taken}
-use Rattle.drt_table.specs.Links.{IsPlace}
+use Rattle.drt_table.specs.Node.{Held, is_kept, is_taken}
+use Rattle.drt_table.specs.Links.{AreLinked, IsPlace}
 use Rattle.drt_table.specs.View.{kept_at}
-use Rattle.drt_table.proofs.Arranged.{still_held, push_stays, push_held}
+use Rattle.drt_table.proofs.Arranged.{still_held, push_stays, push_held, room_for, admit_from, admit_few, admit_room, same_le}
 use Rattle.drt_table.proofs.Linking.{written_back, place_alone}
 use Rattle.drt_table.proofs.Tickets.{still_waiting}
 use Rattle.drt_table.proofs.arena.Arena.open.Goals as goal
@@ -59,3 +60,49 @@ invariant_of-self g c =
       omega (arith, c.admit.ensures.capacity, old.5),
       old.6,
     )
+
+pub push_node-requires-clause-linked : goal.push_node-requires-clause-linked
+push_node-requires-clause-linked g c κs within =
+    subst (λ hs. AreLinked g.L.Label.algebra c.self.inside.nodes.items c.self.inside.links.items hs) (sym c.as_mut_slice-heads.ensures.value) c.self.invariant.0.linked
+
+pub push_node-requires-clause-kept : goal.push_node-requires-clause-kept
+push_node-requires-clause-kept g c κs within = subst (λ (h : Held _). IsTrue (is_kept h.node)) (sym c.fresh.ensures) refl
+
+pub push_node-requires-clause-vertex : goal.push_node-requires-clause-vertex
+push_node-requires-clause-vertex g c κs within =
+    let a = g.L.Label.algebra in
+    let vertex : a.vertex c.args.twin < length c.self.inside.heads.items = subst (λ (x : Stock _). a.vertex c.args.twin < x.vertices) (sym c.self.view_is) c.requires.vertex in
+    subst (λ (h : Held _). a.vertex h.node.label < length c.as_mut_slice-heads.result.now) (sym c.fresh.ensures)
+    (subst (λ hs. a.vertex c.args.twin < length hs) (sym c.as_mut_slice-heads.ensures.value) vertex)
+
+pub push_node-requires-clause-room : goal.push_node-requires-clause-room
+push_node-requires-clause-room g c κs within =
+    let old = c.self.invariant in
+    let room : length c.self.inside.nodes.items < c.self.inside.room = subst (λ (x : Stock _). length x.nodes < x.room) (sym c.self.view_is) c.requires.room in
+    (room_for _ _ _ _ room c.self.inside.nodes.ok.0 old.3, room_for _ _ _ _ room (c.self.inside.links.ok.0 ∙ old.0.linked.as_many) old.4)
+
+pub push_node-requires-clause-few : goal.push_node-requires-clause-few
+push_node-requires-clause-few g c κs within =
+    let few : length c.self.inside.nodes.items < 4294967296 = subst (λ (x : Stock _). length x.nodes < 4294967296) (sym c.self.view_is) c.requires.few in
+    subst (λ n. n < 4294967296) (sym c.self.inside.nodes.ok.0) few
+
+pub admit-requires-clause-from : goal.admit-requires-clause-from
+admit-requires-clause-from g c κs within =
+    admit_from _ _ _ (c.len-from.ensures ∙ c.self.inside.nodes.ok.0)
+    (ap length (c.as_slice.ensures.value ∙ c.push_node.ensures.nodes) ∙ length_push c.self.inside.nodes.items c.fresh.result)
+
+pub admit-requires-clause-few : goal.admit-requires-clause-few
+admit-requires-clause-few g c κs within =
+    let few : length c.self.inside.nodes.items < 4294967296 = subst (λ (x : Stock _). length x.nodes < 4294967296) (sym c.self.view_is) c.requires.few in
+    admit_few _ _ _ (c.len-from.ensures ∙ c.self.inside.nodes.ok.0)
+    (same_le _ _ (ap length (c.as_slice.ensures.value ∙ c.push_node.ensures.nodes) ∙ length_push c.self.inside.nodes.items c.fresh.result)) few
+
+pub admit-requires-clause-order : goal.admit-requires-clause-order
+admit-requires-clause-order g c κs within = c.self.invariant.0.order
+
+pub admit-requires-clause-room : goal.admit-requires-clause-room
+admit-requires-clause-room g c κs within =
+    let old = c.self.invariant in
+    let room : length c.self.inside.nodes.items < c.self.inside.room = subst (λ (x : Stock _). length x.nodes < x.room) (sym c.self.view_is) c.requires.room in
+    admit_room _ _ _ (c.len-from.ensures ∙ c.self.inside.nodes.ok.0)
+    (same_le _ _ (ap length (c.as_slice.ensures.value ∙ c.push_node.ensures.nodes) ∙ length_push c.self.inside.nodes.items c.fresh.result)) _ _ _ _ room old.2 old.5

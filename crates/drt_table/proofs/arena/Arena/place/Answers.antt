@@ -1,10 +1,12 @@
 use Rattle.std.proofs.Common.{◌≡◌, ◌<◌, ◌≤◌, ◌+◌, ◌++◌, take, drop, List, length, sym, ap, ◌∙◌, subst, arith, rules}
+use Rattle.std.specs.Prelude.{IsTrue}
 use Rattle.std.specs.BinaryHeap.{heap_items}
 use Rattle.drt_table.specs.Arena.{Stock, AreArranged}
-use Rattle.drt_table.specs.Held.{placed_nodes}
+use Rattle.drt_table.specs.Held.{AllOf, placed_nodes, placed_reply}
+use Rattle.drt_table.specs.Links.{AreAlone, AreLinked}
 use Rattle.drt_table.specs.Node.{Held}
 use Rattle.drt_table.specs.Waiting.{AreWaiting, IsFresh, AreHeld}
-use Rattle.drt_table.proofs.Arranged.{Follows, place_follows, still_held}
+use Rattle.drt_table.proofs.Arranged.{Follows, admit_few, admit_room, place_follows, room_for, still_held}
 use Rattle.drt_table.proofs.Linking.{written_back}
 use Rattle.drt_table.proofs.Tickets.{still_waiting}
 use Rattle.drt_table.proofs.arena.Arena.place.Goals as goal
@@ -20,17 +22,28 @@ admit-requires-clause-waiting g c κs within =
     subst (λ xs. AreWaiting a xs tickets c.len-from.result) (sym (c.as_slice.ensures.value ∙ c.place_in-reply.ensures.nodes))
     (subst (λ n. AreWaiting a later tickets n) (sym from) (still_waiting a nodes later tickets follows.waiting c.self.invariant.0.waiting))
 
+pub admit-requires-clause-from : goal.admit-requires-clause-from
+admit-requires-clause-from g c κs within =
+    let nodes = c.self.inside.nodes.items in
+    let follows = place_follows g.L.Label.algebra c.args.twin c.args.parent c.args.deadline c.args.bound nodes in
+    subst (λ n. n ≤ length c.as_slice.result.now) (sym (c.len-from.ensures ∙ c.self.inside.nodes.ok.0))
+    (subst (λ m. length nodes ≤ m) (sym (ap length (c.as_slice.ensures.value ∙ c.place_in-reply.ensures.nodes))) follows.held.longer)
+
+pub admit-requires-clause-few : goal.admit-requires-clause-few
+admit-requires-clause-few g c κs within =
+    let nodes = c.self.inside.nodes.items in
+    let follows = place_follows g.L.Label.algebra c.args.twin c.args.parent c.args.deadline c.args.bound nodes in
+    let few : length nodes < 4294967296 = subst (λ (x : Stock _). length x.nodes < 4294967296) (sym c.self.view_is) c.requires.few in
+    admit_few _ _ _ (c.len-from.ensures ∙ c.self.inside.nodes.ok.0)
+    (subst (λ m. m ≤ length nodes + 1) (sym (ap length (c.as_slice.ensures.value ∙ c.place_in-reply.ensures.nodes))) follows.at_most) few
+
 pub admit-requires-clause-room : goal.admit-requires-clause-room
 admit-requires-clause-room g c κs within =
-    let a = g.L.Label.algebra in
     let nodes = c.self.inside.nodes.items in
-    let later : List (Held _) = placed_nodes a c.args.twin c.args.parent c.args.deadline c.args.bound nodes in
-    let follows : Follows a c.args.twin c.args.parent c.args.deadline c.args.bound nodes later = place_follows a c.args.twin c.args.parent c.args.deadline c.args.bound nodes in
+    let follows = place_follows g.L.Label.algebra c.args.twin c.args.parent c.args.deadline c.args.bound nodes in
     let room : length nodes < c.self.inside.room = subst (λ (x : Stock _). length x.nodes < x.room) (sym c.self.view_is) c.requires.room in
-    let from : c.len-from.result ≡ length nodes = search rules in
-    let now : length c.place_in-reply.new.nodes.items ≡ length later = ap length c.place_in-reply.ensures.nodes in
-    let seen : length c.as_slice.result.now ≡ length c.place_in-reply.new.nodes.items = ap length c.as_slice.ensures.value in
-    omega (arith, seen, now, follows.at_most, room, from, c.self.invariant.2, c.self.invariant.5)
+    admit_room _ _ _ (c.len-from.ensures ∙ c.self.inside.nodes.ok.0)
+    (subst (λ m. m ≤ length nodes + 1) (sym (ap length (c.as_slice.ensures.value ∙ c.place_in-reply.ensures.nodes))) follows.at_most) _ _ _ _ room c.self.invariant.2 c.self.invariant.5
 
 pub invariant_of-self : goal.invariant_of-self
 invariant_of-self g c =
@@ -64,3 +77,44 @@ invariant_of-self g c =
       omega (arith, c.admit.ensures.capacity, old.5),
       old.6,
     )
+
+pub place_in-reply-requires-clause-linked : goal.place_in-reply-requires-clause-linked
+place_in-reply-requires-clause-linked g c κs within =
+    subst (λ hs. AreLinked g.L.Label.algebra c.self.inside.nodes.items c.self.inside.links.items hs) (sym c.as_mut_slice-heads.ensures.value) c.self.invariant.0.linked
+
+pub place_in-reply-requires-clause-vertex : goal.place_in-reply-requires-clause-vertex
+place_in-reply-requires-clause-vertex g c κs within =
+    let a = g.L.Label.algebra in
+    let vertex : a.vertex c.args.twin < length c.self.inside.heads.items = subst (λ (x : Stock _). a.vertex c.args.twin < x.vertices) (sym c.self.view_is) c.requires.vertex in
+    subst (λ hs. a.vertex c.args.twin < length hs) (sym c.as_mut_slice-heads.ensures.value) vertex
+
+pub place_in-reply-requires-clause-room : goal.place_in-reply-requires-clause-room
+place_in-reply-requires-clause-room g c κs within =
+    let old = c.self.invariant in
+    let room : length c.self.inside.nodes.items < c.self.inside.room = subst (λ (x : Stock _). length x.nodes < x.room) (sym c.self.view_is) c.requires.room in
+    (room_for _ _ _ _ room c.self.inside.nodes.ok.0 old.3, room_for _ _ _ _ room (c.self.inside.links.ok.0 ∙ old.0.linked.as_many) old.4)
+
+pub place_in-reply-requires-clause-few : goal.place_in-reply-requires-clause-few
+place_in-reply-requires-clause-few g c κs within =
+    let few : length c.self.inside.nodes.items < 4294967296 = subst (λ (x : Stock _). length x.nodes < 4294967296) (sym c.self.view_is) c.requires.few in
+    subst (λ n. n < 4294967296) (sym c.self.inside.nodes.ok.0) few
+
+pub place_in-reply-requires-clause-deadline : goal.place_in-reply-requires-clause-deadline
+place_in-reply-requires-clause-deadline g c κs within = c.requires.deadline
+
+pub place_in-reply-requires-clause-of : goal.place_in-reply-requires-clause-of
+place_in-reply-requires-clause-of g c κs within = c.requires.of
+
+pub place_in-reply-requires-clause-all_of : goal.place_in-reply-requires-clause-all_of
+place_in-reply-requires-clause-all_of g c κs within =
+    subst (λ (x : Stock _). AllOf (λ (h : Held _). IsTrue (g.L.Label.algebra.is_of h.node.label c.args.bound)) x.nodes) (sym c.self.view_is) c.requires.all_of
+
+pub place_in-reply-requires-clause-alone : goal.place_in-reply-requires-clause-alone
+place_in-reply-requires-clause-alone g c κs within = subst (λ (x : Stock _). AreAlone g.L.Label.algebra x.nodes) (sym c.self.view_is) c.requires.alone
+
+pub admit-requires-clause-order : goal.admit-requires-clause-order
+admit-requires-clause-order g c κs within = c.self.invariant.0.order
+
+pub returns-clause-reply : goal.returns-clause-reply
+returns-clause-reply g c =
+    c.place_in-reply.ensures.reply ∙ ap (λ (x : Stock _). placed_reply g.L.Label.algebra c.args.twin c.args.deadline c.args.bound x.nodes) c.self.view_is

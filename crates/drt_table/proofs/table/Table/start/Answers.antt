@@ -1,7 +1,8 @@
-use Rattle.std.proofs.Common.{◌≡◌, sym, ap, ◌∙◌, rules}
+use Rattle.std.proofs.Common.{◌≡◌, ◌+◌, length, sym, ap, ◌∙◌, rules}
 use Rattle.drt_model.specs.Digraph.{Digraph, IsSound}
 use Rattle.drt_table.specs.Machine.{Setting, shortest}
 use Rattle.drt_table.specs.View.{View, setting_of}
+use Rattle.drt_table.proofs.Arranged.{same_le}
 use Rattle.drt_table.proofs.Start.{table_starts}
 use Rattle.drt_table.proofs.table.Table.start.Goals as goal
 
@@ -13,8 +14,8 @@ invariant_of-result g c =
     let v : View _ = record { graph = c.in_ok-graph.graph; bound = c.args.bound; budget = c.args.budget; nodes = c.in_ok-arena.arena.nodes; log = c.in_ok-log.log.items } in
     let set : setting_of v ≡ t = ap (λ (x : Digraph). record { graph = x; bound = c.args.bound; budget = c.args.budget }) graph in (
       table_starts g.L.Label.algebra v t set sound c.requires.bound c.requires.budget.1 c.in_ok-arena.ensures.nodes c.in_ok-log.ensures.items,
-      search rules,
-      search rules,
+      c.in_ok-arena.ensures.vertices ∙ sym (ap (λ (x : Digraph). length x.vertices) graph),
+      same_le _ _ (ap (λ (x : Digraph). length x.vertices + c.args.budget) graph ∙ sym c.in_ok-arena.ensures.room),
       search rules,
       c.shortest-shortest.ensures ∙ ap (λ (x : Digraph). shortest x.out) (sym graph),
     )
