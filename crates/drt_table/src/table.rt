@@ -1,6 +1,7 @@
 //! The table and its steps.
 
-ghost use Rattle.std.specs.Prelude.{◌≡◌, ℕ, ◌+◌, ◌≤◌, ◌<◌, ◌++◌, ◌∷◌, [], true, None, Some, slice_get, length, if◌then◌else◌, IfOk, IfSome, IsTrue, map, nat_le, replicate, vec_capacity};
+ghost use Rattle.std.specs.Prelude.{◌≡◌, ℕ, ◌+◌, ◌≤◌, ◌<◌, ◌++◌, ◌∷◌, [], true, Some, slice_get, length, IfOk, IfSome, IsTrue, map, nat_le, replicate, vec_capacity};
+ghost use Rattle.std.specs.Prelude.{None, if◌then◌else◌};
 ghost use Rattle.drt_table.specs.View.{View, IsTable, setting_of, state_of, spares_of, CanApply, ComesWith, IsStep};
 ghost use Rattle.drt_table.specs.Machine.{opening_state, extended};
 ghost use Rattle.drt_worklist.specs.Places.{changed};
@@ -64,7 +65,8 @@ fn opening_twin<L: Label>(
     requires bound { IsTrue (L.algebra.takes_bound bound) }
     requires wcet { IsTime wcet }
     requires deadline { IsTime deadline }
-    ensures { IfOk result (λ twin. twin ≡ (if L.algebra.in_range (L.algebra.opening v wcet bound) deadline bound then Some (L.algebra.opening v wcet bound) else None)) }
+    ensures { IfOk result (λ twin. twin ≡
+        (if L.algebra.in_range (L.algebra.opening v wcet bound) deadline bound then Some (L.algebra.opening v wcet bound) else None)) }
 {
     let label = L::opening(alloc, v, wcet, bound)?;
     if label.in_range(deadline, bound) {

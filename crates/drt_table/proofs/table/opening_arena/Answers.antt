@@ -19,17 +19,23 @@ opening_twin-requires-clause-deadline g c κs within =
 pub open-requires-clause-room : goal.open-requires-clause-room
 open-requires-clause-room g c κs within =
     let laws = (g.met.L.Label g.world.𝓛 g.world.𝓜 g.world.𝓡 ((λ s x. x), (λ x. x), (λ x. x), λ x. x)).laws in
-    open_room g.L.Label.algebra laws (record { graph = c.args.graph.now; bound = c.args.bound; budget = c.args.budget }) c.vertex_count-count.result c.loop-v.v c.loop-v.arena c.loop-v.invariant c.loop-v-test.true c.vertex-vertex.result.now c.vertex-vertex.ensures c.in_ok-twin.field-0 c.in_ok-twin.ensures c.in-Some.twin c.in-Some.is
+    open_room g.L.Label.algebra laws (record { graph = c.args.graph.now; bound = c.args.bound; budget = c.args.budget })
+    c.vertex_count-count.result c.loop-v.v c.loop-v.arena c.loop-v.invariant c.loop-v-test.true
+    c.vertex-vertex.result.now c.vertex-vertex.ensures c.in_ok-twin.field-0 c.in_ok-twin.ensures c.in-Some.twin c.in-Some.is
 
 pub open-requires-clause-vertex : goal.open-requires-clause-vertex
 open-requires-clause-vertex g c κs within =
     let laws = (g.met.L.Label g.world.𝓛 g.world.𝓜 g.world.𝓡 ((λ s x. x), (λ x. x), (λ x. x), λ x. x)).laws in
-    open_vertex g.L.Label.algebra laws (record { graph = c.args.graph.now; bound = c.args.bound; budget = c.args.budget }) c.vertex_count-count.result c.loop-v.v c.loop-v.arena c.loop-v.invariant c.loop-v-test.true c.vertex-vertex.result.now c.vertex-vertex.ensures c.in_ok-twin.field-0 c.in_ok-twin.ensures c.in-Some.twin c.in-Some.is
+    open_vertex g.L.Label.algebra laws (record { graph = c.args.graph.now; bound = c.args.bound; budget = c.args.budget })
+    c.vertex_count-count.result c.loop-v.v c.loop-v.arena c.loop-v.invariant c.loop-v-test.true
+    c.vertex-vertex.result.now c.vertex-vertex.ensures c.in_ok-twin.field-0 c.in_ok-twin.ensures c.in-Some.twin c.in-Some.is
 
 pub open-requires-clause-alone : goal.open-requires-clause-alone
 open-requires-clause-alone g c κs within =
     let laws = (g.met.L.Label g.world.𝓛 g.world.𝓜 g.world.𝓡 ((λ s x. x), (λ x. x), (λ x. x), λ x. x)).laws in
-    open_alone g.L.Label.algebra laws (record { graph = c.args.graph.now; bound = c.args.bound; budget = c.args.budget }) c.vertex_count-count.result c.loop-v.v c.loop-v.arena c.loop-v.invariant c.loop-v-test.true c.vertex-vertex.result.now c.vertex-vertex.ensures c.in_ok-twin.field-0 c.in_ok-twin.ensures c.in-Some.twin c.in-Some.is
+    open_alone g.L.Label.algebra laws (record { graph = c.args.graph.now; bound = c.args.bound; budget = c.args.budget })
+    c.vertex_count-count.result c.loop-v.v c.loop-v.arena c.loop-v.invariant c.loop-v-test.true
+    c.vertex-vertex.result.now c.vertex-vertex.ensures c.in_ok-twin.field-0 c.in_ok-twin.ensures c.in-Some.twin c.in-Some.is
 
 pub loop-v-preserved : goal.loop-v-preserved
 loop-v-preserved g c =
@@ -40,7 +46,9 @@ loop-v-preserved g c =
     let v = c.loop-v.v in
     elim c.match-branch-3.branch as (λ _. IsOpened a t n (v + 1) c.match-branch-3.arena) [
       | in-Some w ↦ subst (λ x. IsOpened a t n (v + 1) x) (sym w.arena-is)
-          (opened_more a laws t n v c.loop-v.arena c.loop-v.invariant c.loop-v-test.true c.vertex-vertex.result.now c.vertex-vertex.ensures c.in_ok-twin.field-0 c.in_ok-twin.ensures w.in-Some.twin w.in-Some.is _ w.open.ensures)
+          (opened_more a laws t n v c.loop-v.arena c.loop-v.invariant c.loop-v-test.true
+          c.vertex-vertex.result.now c.vertex-vertex.ensures c.in_ok-twin.field-0 c.in_ok-twin.ensures w.in-Some.twin w.in-Some.is _ w.open.ensures)
       | in_default w ↦ subst (λ x. IsOpened a t n (v + 1) x) (sym w.arena-is)
-          (opened_same a laws t n v c.loop-v.arena c.loop-v.invariant c.loop-v-test.true c.vertex-vertex.result.now c.vertex-vertex.ensures c.in_ok-twin.field-0 c.in_ok-twin.ensures w.in_default.is)
+          (opened_same a laws t n v c.loop-v.arena c.loop-v.invariant c.loop-v-test.true
+          c.vertex-vertex.result.now c.vertex-vertex.ensures c.in_ok-twin.field-0 c.in_ok-twin.ensures w.in_default.is)
     ]

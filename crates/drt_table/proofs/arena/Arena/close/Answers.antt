@@ -12,29 +12,35 @@ use Rattle.drt_worklist.proofs.Writes.{changed_set}
 use Rattle.drt_table.proofs.Arranged.{node_at, node_has, node_within, change_arranged, forget_held, taken_not_pending, close_calms, close_keeps}
 use Rattle.drt_table.proofs.arena.Arena.close.Goals as goal
 
+-- a worker holds the node
+abbrev IsHeld : {L : Type 0} → Held L → Type 0
+IsHeld h = IsTrue (is_taken h.node)
+
 pub returns : goal.returns
 returns g c =
     let v : Stock _ = record { nodes = c.self.inside.nodes.items; vertices = length c.self.inside.heads.items; room = c.self.inside.room } in
-    let at : slice_get v.nodes c.args.id ≡ Some c.index_mut.result.now = node_at (λ (h : Held _). IsTrue (is_taken h.node)) v _ c.self.view_is c.args.id c.requires c.index_mut.result.now c.index_mut.ensures.value in
+    let at : slice_get v.nodes c.args.id ≡ Some c.index_mut.result.now =
+    node_at IsHeld v _ c.self.view_is c.args.id c.requires c.index_mut.result.now c.index_mut.ensures.value in
     let nodes : slice_set v.nodes c.args.id c.close.new.self ≡ changed c.args.id close_node v.nodes = ap (λ x. set v.nodes c.args.id x) c.close.ensures ∙ sym (changed_set close_node v.nodes c.args.id c.index_mut.result.now at) in
     subst (λ (x : Stock _). HasNodes x (record { nodes = slice_set v.nodes c.args.id c.close.new.self; vertices = v.vertices; room = v.room }) (changed c.args.id close_node x.nodes)) c.self.view_is (record { nodes_are = nodes; vertices = refl; room = refl })
 
 pub index_mut-requires : goal.index_mut-requires
 index_mut-requires g c =
-    let lt : c.args.id < length c.self.inside.nodes.items = node_within (λ (h : Held _). IsTrue (is_taken h.node)) _ _ c.self.view_is c.args.id c.requires in
+    let lt : c.args.id < length c.self.inside.nodes.items = node_within IsHeld _ _ c.self.view_is c.args.id c.requires in
     omega (arith, lt, c.self.inside.nodes.ok.0)
 
 pub close-requires-after_bounds : goal.close-requires-after_bounds
-close-requires-after_bounds g c κs within = node_has (λ (h : Held _). IsTrue (is_taken h.node)) _ _ c.self.view_is c.args.id c.requires c.index_mut.result.now c.index_mut.ensures.value
+close-requires-after_bounds g c κs within = node_has IsHeld _ _ c.self.view_is c.args.id c.requires c.index_mut.result.now c.index_mut.ensures.value
 
 pub invariant_of-self : goal.invariant_of-self
 invariant_of-self g c =
     let v : Stock _ = record { nodes = c.self.inside.nodes.items; vertices = length c.self.inside.heads.items; room = c.self.inside.room } in
-    let at : slice_get v.nodes c.args.id ≡ Some c.index_mut.result.now = node_at (λ (h : Held _). IsTrue (is_taken h.node)) v _ c.self.view_is c.args.id c.requires c.index_mut.result.now c.index_mut.ensures.value in
+    let at : slice_get v.nodes c.args.id ≡ Some c.index_mut.result.now =
+    node_at IsHeld v _ c.self.view_is c.args.id c.requires c.index_mut.result.now c.index_mut.ensures.value in
     let nodes : slice_set v.nodes c.args.id c.close.new.self ≡ changed c.args.id close_node v.nodes = ap (λ x. set v.nodes c.args.id x) c.close.ensures ∙ sym (changed_set close_node v.nodes c.args.id c.index_mut.result.now at) in
     let old = c.self.invariant in
     let x : Held _ = c.index_mut.result.now in
-    let taken_x : IsTrue (is_taken x.node) = node_has (λ (h : Held _). IsTrue (is_taken h.node)) v _ c.self.view_is c.args.id c.requires x c.index_mut.ensures.value in
+    let taken_x : IsTrue (is_taken x.node) = node_has IsHeld v _ c.self.view_is c.args.id c.requires x c.index_mut.ensures.value in
     let arranged = change_arranged close_node c.args.id v.nodes g.L.Label.algebra c.self.inside.links.items c.self.inside.heads.items (heap_items c.self.inside.queue) c.self.inside.taken.items x at (λ h. (refl, refl)) close_calms close_keeps (λ t. absurd (taken_not_pending x.node taken_x t)) old.0 in
     let held : AreHeld (changed c.args.id close_node v.nodes) c.forget.new.taken.items = forget_held (changed c.args.id close_node v.nodes) c.self.inside.taken.items c.forget.new.taken.items c.args.id (close_node x) (changed_at c.args.id close_node v.nodes x at) refl c.forget.ensures.others c.forget.ensures.within arranged.held in
     let all : AreArranged g.L.Label.algebra (changed c.args.id close_node v.nodes) c.self.inside.links.items c.self.inside.heads.items (heap_items c.self.inside.queue) c.forget.new.taken.items =

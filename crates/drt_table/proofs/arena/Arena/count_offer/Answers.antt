@@ -10,25 +10,31 @@ use Rattle.drt_worklist.proofs.Writes.{changed_set}
 use Rattle.drt_table.proofs.Arranged.{Calms, change_arranged, node_at, node_has, node_within}
 use Rattle.drt_table.proofs.arena.Arena.count_offer.Goals as goal
 
+-- one more offer can be counted
+abbrev MayOffer : {L : Type 0} → Held L → Type 0
+MayOffer h = h.node.offered < 1000
+
 pub index_mut-requires : goal.index_mut-requires
 index_mut-requires g c =
-    let lt : c.args.id < length c.self.inside.nodes.items = node_within (λ (h : Held _). h.node.offered < 1000) _ _ c.self.view_is c.args.id c.requires in
+    let lt : c.args.id < length c.self.inside.nodes.items = node_within MayOffer _ _ c.self.view_is c.args.id c.requires in
     omega (arith, lt, c.self.inside.nodes.ok.0)
 
 pub count_offer-requires-after_bounds : goal.count_offer-requires-after_bounds
-count_offer-requires-after_bounds g c κs within = node_has (λ (h : Held _). h.node.offered < 1000) _ _ c.self.view_is c.args.id c.requires c.index_mut.result.now c.index_mut.ensures.value
+count_offer-requires-after_bounds g c κs within = node_has MayOffer _ _ c.self.view_is c.args.id c.requires c.index_mut.result.now c.index_mut.ensures.value
 
 pub returns : goal.returns
 returns g c =
     let v : Stock _ = record { nodes = c.self.inside.nodes.items; vertices = length c.self.inside.heads.items; room = c.self.inside.room } in
-    let at : slice_get v.nodes c.args.id ≡ Some c.index_mut.result.now = node_at (λ (h : Held _). h.node.offered < 1000) v _ c.self.view_is c.args.id c.requires c.index_mut.result.now c.index_mut.ensures.value in
+    let at : slice_get v.nodes c.args.id ≡ Some c.index_mut.result.now =
+    node_at MayOffer v _ c.self.view_is c.args.id c.requires c.index_mut.result.now c.index_mut.ensures.value in
     let nodes : slice_set v.nodes c.args.id c.count_offer.new.self ≡ changed c.args.id count_offer v.nodes = ap (λ x. set v.nodes c.args.id x) c.count_offer.ensures ∙ sym (changed_set count_offer v.nodes c.args.id c.index_mut.result.now at) in
     subst (λ (x : Stock _). HasNodes x (record { nodes = slice_set v.nodes c.args.id c.count_offer.new.self; vertices = v.vertices; room = v.room }) (changed c.args.id count_offer x.nodes)) c.self.view_is (record { nodes_are = nodes; vertices = refl; room = refl })
 
 pub invariant_of-self : goal.invariant_of-self
 invariant_of-self g c =
     let v : Stock _ = record { nodes = c.self.inside.nodes.items; vertices = length c.self.inside.heads.items; room = c.self.inside.room } in
-    let at : slice_get v.nodes c.args.id ≡ Some c.index_mut.result.now = node_at (λ (h : Held _). h.node.offered < 1000) v _ c.self.view_is c.args.id c.requires c.index_mut.result.now c.index_mut.ensures.value in
+    let at : slice_get v.nodes c.args.id ≡ Some c.index_mut.result.now =
+    node_at MayOffer v _ c.self.view_is c.args.id c.requires c.index_mut.result.now c.index_mut.ensures.value in
     let nodes : slice_set v.nodes c.args.id c.count_offer.new.self ≡ changed c.args.id count_offer v.nodes = ap (λ x. set v.nodes c.args.id x) c.count_offer.ensures ∙ sym (changed_set count_offer v.nodes c.args.id c.index_mut.result.now at) in
     let old = c.self.invariant in
     let calms : Calms count_offer = record { label = λ h. refl; pending = λ h t. t } in

@@ -10,36 +10,43 @@ use Rattle.drt_worklist.proofs.Writes.{changed_set}
 use Rattle.drt_table.proofs.Arranged.{Calms, change_arranged, not_pending, node_at, node_has, node_within}
 use Rattle.drt_table.proofs.arena.Arena.hand_out.Goals as goal
 
+-- the node is taken and has its spare
+abbrev IsWhole : {L : Type 0} → Held L → Type 0
+IsWhole h = IsTrue h.spare × IsTrue (is_taken h.node)
+
 pub index_mut-requires : goal.index_mut-requires
 index_mut-requires g c =
-    let lt : c.args.id < length c.self.inside.nodes.items = node_within (λ (h : Held _). IsTrue h.spare × IsTrue (is_taken h.node)) _ _ c.self.view_is c.args.id (c.requires.0, c.requires.1, (c.requires.2, c.requires.3)) in
+    let lt : c.args.id < length c.self.inside.nodes.items = node_within IsWhole _ _ c.self.view_is c.args.id (c.requires.0, c.requires.1, (c.requires.2, c.requires.3)) in
     omega (arith, lt, c.self.inside.nodes.ok.0)
 
 pub hand_out-requires-clause-there : goal.hand_out-requires-clause-there
-hand_out-requires-clause-there g c κs within = (node_has (λ (h : Held _). IsTrue h.spare × IsTrue (is_taken h.node)) _ _ c.self.view_is c.args.id (c.requires.0, c.requires.1, (c.requires.2, c.requires.3)) c.index_mut.result.now c.index_mut.ensures.value).0
+hand_out-requires-clause-there g c κs within = (node_has IsWhole _ _ c.self.view_is c.args.id (c.requires.0, c.requires.1, (c.requires.2, c.requires.3)) c.index_mut.result.now c.index_mut.ensures.value).0
 
 pub hand_out-requires-clause-taken : goal.hand_out-requires-clause-taken
 hand_out-requires-clause-taken g c κs within =
-    let has = node_has (λ (h : Held _). IsTrue h.spare × IsTrue (is_taken h.node)) _ _ c.self.view_is c.args.id (c.requires.0, c.requires.1, (c.requires.2, c.requires.3)) c.index_mut.result.now c.index_mut.ensures.value in
+    let has = node_has IsWhole _ _ c.self.view_is c.args.id (c.requires.0, c.requires.1, (c.requires.2, c.requires.3)) c.index_mut.result.now c.index_mut.ensures.value in
     not_pending c.index_mut.result.now.node has.1
 
 pub returns-clause-nodes : goal.returns-clause-nodes
 returns-clause-nodes g c =
     let v : Stock _ = record { nodes = c.self.inside.nodes.items; vertices = length c.self.inside.heads.items; room = c.self.inside.room } in
-    let at : slice_get v.nodes c.args.id ≡ Some c.index_mut.result.now = node_at (λ (h : Held _). IsTrue h.spare × IsTrue (is_taken h.node)) v _ c.self.view_is c.args.id (c.requires.0, c.requires.1, (c.requires.2, c.requires.3)) c.index_mut.result.now c.index_mut.ensures.value in
+    let at : slice_get v.nodes c.args.id ≡ Some c.index_mut.result.now =
+    node_at IsWhole v _ c.self.view_is c.args.id (c.requires.0, c.requires.1, (c.requires.2, c.requires.3)) c.index_mut.result.now c.index_mut.ensures.value in
     let nodes : slice_set v.nodes c.args.id c.hand_out.new.self ≡ changed c.args.id hand_out v.nodes = ap (λ x. set v.nodes c.args.id x) c.hand_out.ensures.node ∙ sym (changed_set hand_out v.nodes c.args.id c.index_mut.result.now at) in
     subst (λ (x : Stock _). HasNodes x (record { nodes = slice_set v.nodes c.args.id c.hand_out.new.self; vertices = v.vertices; room = v.room }) (changed c.args.id hand_out x.nodes)) c.self.view_is (record { nodes_are = nodes; vertices = refl; room = refl })
 
 pub returns-clause-label : goal.returns-clause-label
 returns-clause-label g c =
     let v : Stock _ = record { nodes = c.self.inside.nodes.items; vertices = length c.self.inside.heads.items; room = c.self.inside.room } in
-    let at : slice_get v.nodes c.args.id ≡ Some c.index_mut.result.now = node_at (λ (h : Held _). IsTrue h.spare × IsTrue (is_taken h.node)) v _ c.self.view_is c.args.id (c.requires.0, c.requires.1, (c.requires.2, c.requires.3)) c.index_mut.result.now c.index_mut.ensures.value in
+    let at : slice_get v.nodes c.args.id ≡ Some c.index_mut.result.now =
+    node_at IsWhole v _ c.self.view_is c.args.id (c.requires.0, c.requires.1, (c.requires.2, c.requires.3)) c.index_mut.result.now c.index_mut.ensures.value in
     subst (λ (x : Stock _). IfSome (slice_get x.nodes c.args.id) (λ h. c.hand_out.result ≡ h.node.label)) c.self.view_is (subst (λ o. IfSome o (λ h. c.hand_out.result ≡ h.node.label)) (sym at) c.hand_out.ensures.label)
 
 pub invariant_of-self : goal.invariant_of-self
 invariant_of-self g c =
     let v : Stock _ = record { nodes = c.self.inside.nodes.items; vertices = length c.self.inside.heads.items; room = c.self.inside.room } in
-    let at : slice_get v.nodes c.args.id ≡ Some c.index_mut.result.now = node_at (λ (h : Held _). IsTrue h.spare × IsTrue (is_taken h.node)) v _ c.self.view_is c.args.id (c.requires.0, c.requires.1, (c.requires.2, c.requires.3)) c.index_mut.result.now c.index_mut.ensures.value in
+    let at : slice_get v.nodes c.args.id ≡ Some c.index_mut.result.now =
+    node_at IsWhole v _ c.self.view_is c.args.id (c.requires.0, c.requires.1, (c.requires.2, c.requires.3)) c.index_mut.result.now c.index_mut.ensures.value in
     let nodes : slice_set v.nodes c.args.id c.hand_out.new.self ≡ changed c.args.id hand_out v.nodes = ap (λ x. set v.nodes c.args.id x) c.hand_out.ensures.node ∙ sym (changed_set hand_out v.nodes c.args.id c.index_mut.result.now at) in
     let old = c.self.invariant in
     let calms : Calms hand_out = record { label = λ h. refl; pending = λ h t. t } in
