@@ -1,6 +1,6 @@
 //! The command line, as `clap` is told of it. A further command is one more line of `drt`.
-ghost use Rattle.std.specs.Prelude.{◌≡◌, IfOk, false, codes};
-ghost use Rattle.clap.specs.Words.{app_of, new_app, rule_of};
+ghost use Rattle.std.specs.Prelude.{◌≡◌, IfOk, Ok, false, codes};
+ghost use Rattle.clap.specs.Words.{AddsSubcommand, app_of, new_app, rule_of};
 ghost use Rattle.clap.specs.declared.builder.Command.TheViews.{out-Command};
 ghost use Rattle.drt_words.specs.CommandLine.{bare_app, bench_app, budget_rule, drt_app, flag_rule, margin_app, margin_options_app, name_rule, number_rule, pair_rule};
 ghost use Rattle.drt_words.specs.CommandLine.{search_app, timeline_app, whole_rule, with_bench, with_margin, with_plain, with_search, with_timeline, workers_rule};
@@ -134,11 +134,21 @@ fn bare<'a>(alloc: Global) -> Command<'a>
         .subcommand_required(true)
 }
 
+// The command line with one more command, where that one could be made.
+fn add<'a>(
+    top: Command<'a>,
+    made: Result<Command<'a>, AllocError>,
+) -> Result<Command<'a>, AllocError>
+    ensures { IfOk result (λ c. (command : _) × (made.entry ≡ Ok command) × AddsSubcommand top.entry command c) }
+{
+    top.subcommand(made?)
+}
+
 // The command line with one more command that searches.
 fn add_search<'a>(alloc: Global, top: Command<'a>, name: &'a str) -> Result<Command<'a>, AllocError>
     ensures { IfOk result (λ c. app_of c ≡ with_search (app_of top.entry) name.entry.now) }
 {
-    top.subcommand(search(alloc, name)?)
+    add(top, search(alloc, name))
 }
 
 // The command line with one more command that has no options.
@@ -152,21 +162,21 @@ fn add_plain<'a>(alloc: Global, top: Command<'a>, name: &'a str) -> Result<Comma
 fn add_bench<'a>(alloc: Global, top: Command<'a>) -> Result<Command<'a>, AllocError>
     ensures { IfOk result (λ c. app_of c ≡ with_bench (app_of top.entry)) }
 {
-    top.subcommand(bench(alloc)?)
+    add(top, bench(alloc))
 }
 
 // The command line with `timeline` too.
 fn add_timeline<'a>(alloc: Global, top: Command<'a>) -> Result<Command<'a>, AllocError>
     ensures { IfOk result (λ c. app_of c ≡ with_timeline (app_of top.entry)) }
 {
-    top.subcommand(timeline(alloc)?)
+    add(top, timeline(alloc))
 }
 
 // The command line with `margin` too.
 fn add_margin<'a>(alloc: Global, top: Command<'a>) -> Result<Command<'a>, AllocError>
     ensures { IfOk result (λ c. app_of c ≡ with_margin (app_of top.entry)) }
 {
-    top.subcommand(margin(alloc)?)
+    add(top, margin(alloc))
 }
 
 // The whole command line.
