@@ -8,7 +8,7 @@ use Rattle.clap.specs.declared.builder.arg.Arg.{Arg}
 use Rattle.clap.specs.declared.builder.command.Command.{Command}
 use Rattle.clap.specs.declared.builder.ArgAction.TheVariants.{Set}
 use Rattle.clap.specs.declared.builder.ValueParser.TheVariants as vp
-use Rattle.drt_words.specs.CommandLine.{number_rule}
+use Rattle.drt_words.specs.CommandLine.{IsMadeFrom, number_rule}
 use Rattle.clap.specs.declared.builder.command.Command.TheViews.{out-Command}
 
 module _ (old new : Command) (a : Arg) (adds : AddsArg old a new) (local : a.global ≡ false) where
@@ -28,6 +28,12 @@ module _ {E : Type 0} (top : Command) (made result : Result Command E) (app : Ap
   adds_command is local added = IfOk-weaker result HasMade (λ c. app_of c ≡ with_subcommand (app_of top) app.top)
       (λ c has. has.2.shape (IfOk-at_ok (λ x. (out-Command x).has_globals ≡ false) has.1 local)
       ∙ ap (λ a. with_subcommand (app_of top) a.top) (IfOk-at_ok (λ x. app_of x ≡ app) has.1 is)) added
+
+-- the command line after one more step, and the one before it is as `app` says
+pub stepped : {E : Type 0} (before result : Result Command E) (step : App → App) (app : App) → IfOk before (λ c. app_of c ≡ app)
+    → IfOk result (IsMadeFrom before step) → IfOk result (λ c. app_of c ≡ step app)
+stepped before result step app is made = IfOk-weaker result (IsMadeFrom before step) (λ c. app_of c ≡ step app)
+    (λ c has. has.2 ∙ ap step (IfOk-at_ok (λ x. app_of x ≡ app) has.1 is)) made
 
 -- an option of one number, setting by setting
 module _ (name standard : Bor Text) (most : ℕ) (start named acting parsing whole : Arg) (long : named ≡ record start { long = Some name }) (action : acting ≡ record named { action = Some Set })
