@@ -1,12 +1,14 @@
--- What a command is once one more argument is added to it.
+-- What a command is once one more argument, or one more command, is added to it.
 use Rattle.std.proofs.Common.{◌≡◌, Bor, ℕ, [], ◌∷◌, Some, false, ap, ◌∙◌, refl}
+use Rattle.std.proofs.lemmas.Result.{IfOk-at_ok, IfOk-weaker}
+use Rattle.std.specs.Prelude.{IfOk, Ok, Result}
 use Rattle.clap.specs.declared.builder.texts.Texts.TheVariants.{One}
-use Rattle.clap.specs.Words.{AddsArg, App, Rule, Text, app_of, new_rule, rule_of, with_rule}
+use Rattle.clap.specs.Words.{AddsArg, AddsSubcommand, App, Rule, Text, app_of, new_rule, rule_of, with_rule, with_subcommand}
 use Rattle.clap.specs.declared.builder.arg.Arg.{Arg}
 use Rattle.clap.specs.declared.builder.command.Command.{Command}
 use Rattle.clap.specs.declared.builder.ArgAction.TheVariants.{Set}
 use Rattle.clap.specs.declared.builder.ValueParser.TheVariants as vp
-use Rattle.drt_words.specs.CommandLine.{number_rule}
+use Rattle.drt_words.specs.CommandLine.{IsMadeFrom, number_rule}
 use Rattle.clap.specs.declared.builder.command.Command.TheViews.{out-Command}
 
 module _ (old new : Command) (a : Arg) (adds : AddsArg old a new) (local : a.global ≡ false) where
@@ -15,6 +17,23 @@ module _ (old new : Command) (a : Arg) (adds : AddsArg old a new) (local : a.glo
 
   pub stays_local : (out-Command old).has_globals ≡ false → (out-Command new).has_globals ≡ false
   stays_local e = adds.globals ∙ rw (e, local) refl
+
+-- the command line once a command is added to it that was made as `app` says
+module _ {E : Type 0} (top : Command) (made result : Result Command E) (app : App) where
+  abbrev HasMade : Command → Type 0
+  HasMade new = (command : Command) × (made ≡ Ok command) × AddsSubcommand top command new
+
+  pub adds_command : IfOk made (λ c. app_of c ≡ app) → IfOk made (λ c. (out-Command c).has_globals ≡ false) → IfOk result HasMade
+      → IfOk result (λ c. app_of c ≡ with_subcommand (app_of top) app.top)
+  adds_command is local added = IfOk-weaker result HasMade (λ c. app_of c ≡ with_subcommand (app_of top) app.top)
+      (λ c has. has.2.shape (IfOk-at_ok (λ x. (out-Command x).has_globals ≡ false) has.1 local)
+      ∙ ap (λ a. with_subcommand (app_of top) a.top) (IfOk-at_ok (λ x. app_of x ≡ app) has.1 is)) added
+
+-- the command line after one more step, and the one before it is as `app` says
+pub stepped : {E : Type 0} (before result : Result Command E) (step : App → App) (app : App) → IfOk before (λ c. app_of c ≡ app)
+    → IfOk result (IsMadeFrom before step) → IfOk result (λ c. app_of c ≡ step app)
+stepped before result step app is made = IfOk-weaker result (IsMadeFrom before step) (λ c. app_of c ≡ step app)
+    (λ c has. has.2 ∙ ap step (IfOk-at_ok (λ x. app_of x ≡ app) has.1 is)) made
 
 -- an option of one number, setting by setting
 module _ (name standard : Bor Text) (most : ℕ) (start named acting parsing whole : Arg) (long : named ≡ record start { long = Some name }) (action : acting ≡ record named { action = Some Set })

@@ -1,6 +1,7 @@
 -- The command line, as clap's clauses see it.
-use Rattle.std.specs.Prelude.{ℕ, [], ◌∷◌, Some, true, codes}
-use Rattle.clap.specs.Words.{App, Rule, Shape, Text, new_app, new_rule, with_rule, with_subcommand}
+use Rattle.std.specs.Prelude.{◌≡◌, ℕ, [], ◌∷◌, Ok, Result, Some, true, codes}
+use Rattle.clap.specs.Words.{App, Rule, Shape, Text, app_of, new_app, new_rule, with_rule, with_subcommand}
+use Rattle.clap.specs.declared.builder.command.Command.{Command}
 use Rattle.clap.specs.declared.builder.ArgAction.TheVariants.{Set, SetTrue}
 use Rattle.clap.specs.declared.builder.ValueParser.TheVariants as vp
 use Rattle.drt_words.specs.Searches.{most_budget, most_workers}
@@ -98,6 +99,10 @@ margin_app = with_rule (with_rule margin_options_app (name_rule (codes "task")))
 -- The command line with `margin` too.
 abbrev pub with_margin : App → App
 with_margin top = with_subcommand top margin_app.top
+
+-- A command line made by one more step from the one before it, which could be made.
+abbrev pub IsMadeFrom : {E : Type 0} → Result Command E → (App → App) → Command → Type 0
+IsMadeFrom before step made = (old : Command) × (before ≡ Ok old) × (app_of made ≡ step (app_of old))
 
 -- The whole command line: the commands `edf`, `sp`, `upgrade`, `util`, `check`, `bench`, `response`, `convert`, `timeline`, `assign` and `margin`.
 abbrev pub drt_app : App

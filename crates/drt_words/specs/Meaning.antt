@@ -75,6 +75,15 @@ meaning_at name rows =
     else (if bytes_eq name (codes "assign") then option_map Assign (search_at rows)
     else (if bytes_eq name (codes "margin") then margin_at rows else None))))))))))
 
+-- The last part of it: what the commands from `response` on ask for.
+abbrev pub later_at : Text → List Row → Option Meaning
+later_at name rows =
+    if bytes_eq name (codes "response") then option_map Response (search_at rows)
+    else (if bytes_eq name (codes "convert") then Some Convert
+    else (if bytes_eq name (codes "timeline") then timeline_at rows
+    else (if bytes_eq name (codes "assign") then option_map Assign (search_at rows)
+    else (if bytes_eq name (codes "margin") then margin_at rows else None))))
+
 -- What a list of words means: what clap's command states of the words, where it refuses none of them.
 abbrev pub meaning_of : List Text → Option Meaning
 meaning_of words =

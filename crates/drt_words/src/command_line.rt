@@ -1,9 +1,10 @@
 //! The command line, as `clap` is told of it. A further command is one more line of `drt`.
-ghost use Rattle.std.specs.Prelude.{◌≡◌, IfOk, false, codes};
-ghost use Rattle.clap.specs.Words.{app_of, new_app, rule_of};
+ghost use Rattle.std.specs.Prelude.{◌≡◌, IfOk, Ok, false, codes};
+ghost use Rattle.clap.specs.Words.{AddsSubcommand, app_of, new_app, rule_of};
 ghost use Rattle.clap.specs.declared.builder.Command.TheViews.{out-Command};
-ghost use Rattle.drt_words.specs.CommandLine.{bare_app, bench_app, budget_rule, drt_app, flag_rule, margin_app, margin_options_app, name_rule, number_rule, pair_rule};
-ghost use Rattle.drt_words.specs.CommandLine.{search_app, timeline_app, whole_rule, with_bench, with_margin, with_plain, with_search, with_timeline, workers_rule};
+ghost use Rattle.drt_words.specs.CommandLine.{IsMadeFrom, bare_app, bench_app, budget_rule, drt_app, flag_rule, margin_app, margin_options_app};
+ghost use Rattle.drt_words.specs.CommandLine.{name_rule, number_rule, pair_rule, search_app, timeline_app, whole_rule, with_bench};
+ghost use Rattle.drt_words.specs.CommandLine.{with_margin, with_plain, with_search, with_timeline, workers_rule};
 
 use crate::search::{MOST_BUDGET, MOST_WORKERS};
 use clap::builder::ValueParser;
@@ -134,55 +135,81 @@ fn bare<'a>(alloc: Global) -> Command<'a>
         .subcommand_required(true)
 }
 
-// The command line with one more command that searches.
-fn add_search<'a>(alloc: Global, top: Command<'a>, name: &'a str) -> Result<Command<'a>, AllocError>
-    ensures { IfOk result (λ c. app_of c ≡ with_search (app_of top.entry) name.entry.now) }
+// The command line with one more command, where that one could be made.
+fn add<'a>(
+    top: Command<'a>,
+    made: Result<Command<'a>, AllocError>,
+) -> Result<Command<'a>, AllocError>
+    ensures { IfOk result (λ c. (command : _) × (made.entry ≡ Ok command) × AddsSubcommand top.entry command c) }
 {
-    top.subcommand(search(alloc, name)?)
+    top.subcommand(made?)
+}
+
+// The command line with one more command that searches. Where `top` couldn't be made, this isn't either, as with those below.
+fn add_search<'a>(
+    alloc: Global,
+    top: Result<Command<'a>, AllocError>,
+    name: &'a str,
+) -> Result<Command<'a>, AllocError>
+    ensures { IfOk result (IsMadeFrom top.entry (λ app. with_search app name.entry.now)) }
+{
+    add(top?, search(alloc, name))
 }
 
 // The command line with one more command that has no options.
-fn add_plain<'a>(alloc: Global, top: Command<'a>, name: &'a str) -> Result<Command<'a>, AllocError>
-    ensures { IfOk result (λ c. app_of c ≡ with_plain (app_of top.entry) name.entry.now) }
+fn add_plain<'a>(
+    alloc: Global,
+    top: Result<Command<'a>, AllocError>,
+    name: &'a str,
+) -> Result<Command<'a>, AllocError>
+    ensures { IfOk result (IsMadeFrom top.entry (λ app. with_plain app name.entry.now)) }
 {
-    top.subcommand(Command::new(alloc, name))
+    top?.subcommand(Command::new(alloc, name))
 }
 
 // The command line with `bench` too.
-fn add_bench<'a>(alloc: Global, top: Command<'a>) -> Result<Command<'a>, AllocError>
-    ensures { IfOk result (λ c. app_of c ≡ with_bench (app_of top.entry)) }
+fn add_bench<'a>(
+    alloc: Global,
+    top: Result<Command<'a>, AllocError>,
+) -> Result<Command<'a>, AllocError>
+    ensures { IfOk result (IsMadeFrom top.entry with_bench) }
 {
-    top.subcommand(bench(alloc)?)
+    add(top?, bench(alloc))
 }
 
 // The command line with `timeline` too.
-fn add_timeline<'a>(alloc: Global, top: Command<'a>) -> Result<Command<'a>, AllocError>
-    ensures { IfOk result (λ c. app_of c ≡ with_timeline (app_of top.entry)) }
+fn add_timeline<'a>(
+    alloc: Global,
+    top: Result<Command<'a>, AllocError>,
+) -> Result<Command<'a>, AllocError>
+    ensures { IfOk result (IsMadeFrom top.entry with_timeline) }
 {
-    top.subcommand(timeline(alloc)?)
+    add(top?, timeline(alloc))
 }
 
 // The command line with `margin` too.
-fn add_margin<'a>(alloc: Global, top: Command<'a>) -> Result<Command<'a>, AllocError>
-    ensures { IfOk result (λ c. app_of c ≡ with_margin (app_of top.entry)) }
+fn add_margin<'a>(
+    alloc: Global,
+    top: Result<Command<'a>, AllocError>,
+) -> Result<Command<'a>, AllocError>
+    ensures { IfOk result (IsMadeFrom top.entry with_margin) }
 {
-    top.subcommand(margin(alloc)?)
+    add(top?, margin(alloc))
 }
 
 // The whole command line.
 pub(crate) fn drt<'a>(alloc: Global) -> Result<Command<'a>, AllocError>
     ensures { IfOk result (λ c. app_of c ≡ drt_app) }
 {
-    let top = bare(alloc);
-    let edf = add_search(alloc, top, "edf")?;
-    let sp = add_search(alloc, edf, "sp")?;
-    let upgrade = add_plain(alloc, sp, "upgrade")?;
-    let util = add_plain(alloc, upgrade, "util")?;
-    let check = add_plain(alloc, util, "check")?;
-    let bench = add_bench(alloc, check)?;
-    let response = add_search(alloc, bench, "response")?;
-    let convert = add_plain(alloc, response, "convert")?;
-    let timeline = add_timeline(alloc, convert)?;
-    let assign = add_search(alloc, timeline, "assign")?;
+    let edf = add_search(alloc, Ok(bare(alloc)), "edf");
+    let sp = add_search(alloc, edf, "sp");
+    let upgrade = add_plain(alloc, sp, "upgrade");
+    let util = add_plain(alloc, upgrade, "util");
+    let check = add_plain(alloc, util, "check");
+    let bench = add_bench(alloc, check);
+    let response = add_search(alloc, bench, "response");
+    let convert = add_plain(alloc, response, "convert");
+    let timeline = add_timeline(alloc, convert);
+    let assign = add_search(alloc, timeline, "assign");
     add_margin(alloc, assign)
 }

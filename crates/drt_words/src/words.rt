@@ -1,8 +1,10 @@
 //! What the words mean.
-ghost use Rattle.std.specs.Prelude.{◌≡◌, ◌≢◌, ◌≤◌, IfOk, IfSome, MatchResult, List, ℕ, None, Some, map, [], ◌∷◌, codes};
+ghost use Rattle.std.specs.Prelude.{◌≡◌, ◌≢◌, ◌≤◌, IfOk, IfSome, MatchResult, List, ℕ, None, Some, map, [], ◌∷◌, codes, option_map};
 ghost use Rattle.clap.specs.Words.{subcommand_of, subcommand_rows_of, fault_of, rows_of, found_of};
 ghost use Rattle.drt_words.specs.CommandLine.{drt_app};
-ghost use Rattle.drt_words.specs.Meaning.{bench_at, flag_at, margin_at, meaning_at, meaning_of, named_at, number_at, search_at, spot_at, timeline_at, whole_at};
+ghost use Rattle.drt_words.specs.Meaning.{bench_at, flag_at, later_at, margin_at, meaning_at, meaning_of, named_at, number_at, search_at};
+ghost use Rattle.drt_words.specs.Meaning.{spot_at, timeline_at, whole_at};
+ghost use Rattle.drt_words.specs.declared.meaning.Meaning.TheVariants.{Assign, Edf, Response, Sp};
 
 use crate::command_line::drt;
 use crate::meaning::Meaning;
@@ -170,17 +172,67 @@ fn margin_in(alloc: Global, matches: &ArgMatches) -> Result<Meaning, WordsError>
     })
 }
 
+// What `edf` asks for.
+fn edf_in(matches: &ArgMatches) -> Option<Meaning>
+    ensures { result ≡ option_map Edf (search_at (rows_of (found_of matches.now))) }
+{
+    let search = search_in(matches)?;
+    Some(Meaning::Edf { search })
+}
+
+// What `sp` asks for.
+fn sp_in(matches: &ArgMatches) -> Option<Meaning>
+    ensures { result ≡ option_map Sp (search_at (rows_of (found_of matches.now))) }
+{
+    let search = search_in(matches)?;
+    Some(Meaning::Sp { search })
+}
+
+// What `response` asks for.
+fn response_in(matches: &ArgMatches) -> Option<Meaning>
+    ensures { result ≡ option_map Response (search_at (rows_of (found_of matches.now))) }
+{
+    let search = search_in(matches)?;
+    Some(Meaning::Response { search })
+}
+
+// What `assign` asks for.
+fn assign_in(matches: &ArgMatches) -> Option<Meaning>
+    ensures { result ≡ option_map Assign (search_at (rows_of (found_of matches.now))) }
+{
+    let search = search_in(matches)?;
+    Some(Meaning::Assign { search })
+}
+
+// What a command of this name asks for with these options, where it's none of those before `response`.
+fn later_meaning_in(alloc: Global, name: &str, matches: &ArgMatches) -> Result<Meaning, WordsError>
+    ensures meaning { IfOk result (λ m. later_at name.now (rows_of (found_of matches.now)) ≡ Some m) }
+    ensures refused { result ≡ Err WordsError.Refused → later_at name.now (rows_of (found_of matches.now)) ≡ None }
+{
+    if name == "response" {
+        response_in(matches).ok_or(WordsError::Refused)
+    } else if name == "convert" {
+        Ok(Meaning::Convert)
+    } else if name == "timeline" {
+        timeline_in(alloc, matches)
+    } else if name == "assign" {
+        assign_in(matches).ok_or(WordsError::Refused)
+    } else if name == "margin" {
+        margin_in(alloc, matches)
+    } else {
+        Err(WordsError::Refused)
+    }
+}
+
 // What a command of this name asks for with these options.
 fn meaning_in(alloc: Global, name: &str, matches: &ArgMatches) -> Result<Meaning, WordsError>
     ensures meaning { IfOk result (λ m. meaning_at name.now (rows_of (found_of matches.now)) ≡ Some m) }
     ensures refused { result ≡ Err WordsError.Refused → meaning_at name.now (rows_of (found_of matches.now)) ≡ None }
 {
     if name == "edf" {
-        let search = search_in(matches).ok_or(WordsError::Refused)?;
-        Ok(Meaning::Edf { search })
+        edf_in(matches).ok_or(WordsError::Refused)
     } else if name == "sp" {
-        let search = search_in(matches).ok_or(WordsError::Refused)?;
-        Ok(Meaning::Sp { search })
+        sp_in(matches).ok_or(WordsError::Refused)
     } else if name == "upgrade" {
         Ok(Meaning::Upgrade)
     } else if name == "util" {
@@ -189,20 +241,8 @@ fn meaning_in(alloc: Global, name: &str, matches: &ArgMatches) -> Result<Meaning
         Ok(Meaning::Check)
     } else if name == "bench" {
         bench_in(matches).ok_or(WordsError::Refused)
-    } else if name == "response" {
-        let search = search_in(matches).ok_or(WordsError::Refused)?;
-        Ok(Meaning::Response { search })
-    } else if name == "convert" {
-        Ok(Meaning::Convert)
-    } else if name == "timeline" {
-        timeline_in(alloc, matches)
-    } else if name == "assign" {
-        let search = search_in(matches).ok_or(WordsError::Refused)?;
-        Ok(Meaning::Assign { search })
-    } else if name == "margin" {
-        margin_in(alloc, matches)
     } else {
-        Err(WordsError::Refused)
+        later_meaning_in(alloc, name, matches)
     }
 }
 

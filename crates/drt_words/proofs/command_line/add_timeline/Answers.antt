@@ -1,0 +1,14 @@
+-- The command that was made is added.
+use Rattle.std.proofs.Common.{◌≡◌}
+use Rattle.std.proofs.lemmas.Result.{IfOk-weaker}
+use Rattle.clap.specs.Words.{app_of}
+use Rattle.drt_words.specs.CommandLine.{IsMadeFrom, timeline_app, with_timeline}
+use Rattle.drt_words.proofs.Building.{adds_command}
+use Rattle.drt_words.proofs.command_line.add_timeline.Goals as goal
+
+pub returns : goal.returns
+returns c =
+    let top = c.in_ok-top.field-0 in
+    let step = with_timeline in
+    IfOk-weaker c.add.result (λ x. app_of x ≡ step (app_of top)) (IsMadeFrom c.args.top step) (λ x app. (top, c.in_ok-top.was, app))
+    (adds_command top c.timeline.result c.add.result timeline_app c.timeline.ensures.app c.timeline.ensures.local c.add.ensures)
