@@ -60,6 +60,15 @@ abbrev pub margin_at : List Row → Option Meaning
 margin_at rows = option_and_then (λ search. option_map (λ spot. Margin (flag_at (codes "fixed") rows) spot search)
     (named_at rows)) (search_at rows)
 
+-- What a command of this name asks for with these options, of those from `response` on.
+abbrev pub later_at : Text → List Row → Option Meaning
+later_at name rows =
+    if bytes_eq name (codes "response") then option_map Response (search_at rows)
+    else (if bytes_eq name (codes "convert") then Some Convert
+    else (if bytes_eq name (codes "timeline") then timeline_at rows
+    else (if bytes_eq name (codes "assign") then option_map Assign (search_at rows)
+    else (if bytes_eq name (codes "margin") then margin_at rows else None))))
+
 -- What a command of this name asks for with these options.
 abbrev pub meaning_at : Text → List Row → Option Meaning
 meaning_at name rows =
@@ -69,20 +78,7 @@ meaning_at name rows =
     else (if bytes_eq name (codes "util") then Some Util
     else (if bytes_eq name (codes "check") then Some Check
     else (if bytes_eq name (codes "bench") then bench_at rows
-    else (if bytes_eq name (codes "response") then option_map Response (search_at rows)
-    else (if bytes_eq name (codes "convert") then Some Convert
-    else (if bytes_eq name (codes "timeline") then timeline_at rows
-    else (if bytes_eq name (codes "assign") then option_map Assign (search_at rows)
-    else (if bytes_eq name (codes "margin") then margin_at rows else None))))))))))
-
--- The last part of it: what the commands from `response` on ask for.
-abbrev pub later_at : Text → List Row → Option Meaning
-later_at name rows =
-    if bytes_eq name (codes "response") then option_map Response (search_at rows)
-    else (if bytes_eq name (codes "convert") then Some Convert
-    else (if bytes_eq name (codes "timeline") then timeline_at rows
-    else (if bytes_eq name (codes "assign") then option_map Assign (search_at rows)
-    else (if bytes_eq name (codes "margin") then margin_at rows else None))))
+    else later_at name rows)))))
 
 -- What a list of words means: what clap's command states of the words, where it refuses none of them.
 abbrev pub meaning_of : List Text → Option Meaning
