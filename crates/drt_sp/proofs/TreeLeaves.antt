@@ -19,21 +19,10 @@ use Rattle.drt_table.specs.Node.{NodeOf, is_kept}
 use Rattle.drt_table.specs.Walk.{IsWalkOf}
 use Rattle.drt_tree.specs.declared.leaf.Leaf.{Leaf}
 use Rattle.drt_claims.specs.Trees.{IsAbove, IsShortWalk, asked}
+use Rattle.drt_sp.specs.Gathering.{AreGathered, IsLeafOfNode}
 use Rattle.drt_sp.specs.TaskTrees.{AreWalkLeaves, IsWalkLeaf}
 use Rattle.drt_sp.specs.TreeClaims.{HaveOneLabel, IsNonDominated}
 use Rattle.drt_sp.proofs.RequestWalks.{IsLabelled, walk_short, short_walk, above_of, dominates_of, same_labels, one_label}
-
--- The leaf has the function of the node's label, and a walk of the search with that label.
-pub record IsLeafOfNode (t : Setting) (n : NodeOf Request) (l : Leaf) : Type 0 where
-  pub steps : l.steps ≡ n.label.values
-  pub walk : IsWalkOf request_algebra t l.walk n.label
-
--- The leaves of the kept ones of the first nodes, in order.
-abbrev pub AreGathered : Setting → List (NodeOf Request) → ℕ → List Leaf → Type 0
-AreGathered t nodes zero ls = ls ≡ []
-AreGathered t nodes (suc i) ls =
-    ((n : NodeOf Request) × (slice_get nodes i ≡ Some n) × (is_kept n ≡ false) × AreGathered t nodes i ls)
-    ⊎ ((n : NodeOf Request) × (l : Leaf) × (before : List Leaf) × KeptAt request_algebra t nodes i n × IsLeafOfNode t n l × (ls ≡ before ++ l ∷ []) × AreGathered t nodes i before)
 
 -- An element of a list with one more at its end.
 got_push : {A : Type 0} (xs : List A) (y : A) (i : ℕ) (x : A) → slice_get (xs ++ y ∷ []) i ≡ Some x → (slice_get xs i ≡ Some x) ⊎ ((i ≡ length xs) × (y ≡ x))

@@ -19,11 +19,12 @@ use Rattle.drt_tree.specs.Leaf.{leaves_of}
 use Rattle.drt_tree.specs.Tree.{HaveOneBound}
 use Rattle.drt_tree.specs.declared.leaf.Leaf.{Leaf}
 use Rattle.drt_tree.proofs.Trees.{length-leaves_of}
+use Rattle.drt_sp.specs.Gathering.{AreGathered}
 use Rattle.drt_sp.specs.TaskTrees.{AreWalkLeaves, IsWalkLeaf}
 use Rattle.drt_sp.specs.Searches.{AreLeavesOf}
 use Rattle.drt_sp.specs.TreeClaims.{search_of}
 use Rattle.drt_sp.specs.declared.trees.gathering.Leaves.{Leaves}
-use Rattle.drt_sp.proofs.TreeLeaves.{AreGathered, walk_leaves}
+use Rattle.drt_sp.proofs.TreeLeaves.{walk_leaves}
 
 module _ (g : Digraph) (bound budget : ℕ) (v : View Request) (setting : setting_of v ≡ search_of g bound budget) (is : IsTable request_algebra v) where
   search_sound : IsSound g

@@ -5,6 +5,7 @@ pub mod Laws
 pub mod Items
 pub mod TaskTrees
 pub mod Searches
+pub mod Gathering
 pub mod Claims
 pub mod Answers
 pub mod Chosen

@@ -2,7 +2,8 @@
 ghost use Rattle.std.specs.Prelude.{[], ◌≡◌, ◌≤◌, ◌<◌, ℕ, All, IfOk, IfSome, OnOk, None, length, slice_set};
 ghost use Rattle.drt_model.specs.Digraph.{vertex_count};
 ghost use Rattle.drt_model.specs.Walk.{deadline};
-ghost use Rattle.drt_sp.specs.Attempts.{AreGiven, AreTables, AreWith, CanBeEnded, HaveParts, IsJob, IsPartOf};
+ghost use Rattle.drt_sp.specs.Attempts.{AreGiven, AreTables, AreWith, CanBeEnded, HaveParts, IsAttempt, IsJob, IsPartOf};
+ghost use Rattle.drt_sp.specs.Joints.{AreJoints, IsJointOf};
 ghost use Rattle.drt_sp.specs.Parts.{AreEndOf, CanEnd, IsNextItem};
 ghost use Rattle.drt_sp.specs.declared.proving.VertexProof.TheVariants.{Passes as PassesBy};
 ghost use Rattle.drt_steps.specs.Time.{AreChosen};
@@ -94,16 +95,34 @@ pub(crate) fn prove_by_parts<G: Gate, R: Threads + Wait + Sync>(
     ensures { IfOk result (λ more. AreGiven forest.now roots.now graph.now more.found.items) }
 {
     over_every_interleaving();
-    every_forest();
     let Ahead { found, hard } = ahead;
     let most = hard.saturating_add(TOGETHER);
     let attempts = attempt_vertices(alloc, forest, roots, graph, from, found, most, few)?;
-    let Attempts {
-        mut proofs,
-        mut spent,
-    } = attempts;
+    let Attempts { mut proofs, spent } = attempts;
     let hard = hard.saturating_add(spent.len());
-    let mut tables = end_attempts(rt, alloc, forest, spent.as_slice(), workers, budget, gate)?;
+    let tables = end_attempts(rt, alloc, forest, spent.as_slice(), workers, budget, gate)?;
+    let mut joints = joints_of(alloc, forest, roots, graph, spent, tables)?;
+    join_all(rt, alloc, forest, joints.as_mut_slice(), workers, budget);
+    put_joints(forest, roots, graph, joints, &mut proofs)?;
+    Ok(Ahead {
+        found: proofs,
+        hard,
+    })
+}
+
+// The attempts with their parts, of which nothing is put together. The first attempt is the last one of them.
+fn joints_of(
+    alloc: Global,
+    forest: &Forest,
+    roots: &[u32],
+    graph: &Graph,
+    mut spent: Vec<Attempt>,
+    mut tables: Vec<Vec<Option<Row<Item>>>>,
+) -> Result<Vec<Joint>, Memory>
+    requires each { All (IsAttempt forest.now roots.now graph.now) spent.items }
+    requires tables { HaveParts forest.now spent.items tables.items }
+    ensures { IfOk result (λ joints. AreJoints forest.now roots.now graph.now joints.items) }
+{
     let mut joints = Vec::with_capacity(alloc, spent.len())?;
     while let Some(attempt) = spent.pop() {
         let Some(parts) = tables.pop() else {
@@ -111,17 +130,45 @@ pub(crate) fn prove_by_parts<G: Gate, R: Threads + Wait + Sync>(
         };
         joints.push(Joint::of(attempt, parts))?;
     }
-    join_all(rt, alloc, forest, joints.as_mut_slice(), workers, budget);
+    Ok(joints)
+}
+
+// Puts the proofs that were put together to their vertices, from the last joint on.
+fn put_joints(
+    forest: &Forest,
+    roots: &[u32],
+    graph: &Graph,
+    mut joints: Vec<Joint>,
+    proofs: &mut Vec<Option<VertexProof>>,
+) -> Result<(), Memory>
+    requires joints { AreJoints forest.now roots.now graph.now joints.items }
+    requires given { AreGiven forest.now roots.now graph.now proofs.old.items }
+    ensures { OnOk result (AreGiven forest.now roots.now graph.now proofs.new.items) }
+{
     while let Some(joint) = joints.pop() {
-        let Joint { attempt, items, .. } = joint;
-        if let Some(items) = items? {
-            put_proof(attempt.vertex, items, &mut proofs);
-        }
+        put_joint(forest, roots, graph, joint, proofs)?;
     }
-    Ok(Ahead {
-        found: proofs,
-        hard,
-    })
+    Ok(())
+}
+
+// Puts the proof of a joint to its vertex, if there is one.
+fn put_joint(
+    forest: &Forest,
+    roots: &[u32],
+    graph: &Graph,
+    joint: Joint,
+    proofs: &mut Vec<Option<VertexProof>>,
+) -> Result<(), Memory>
+    requires joint { IsJointOf forest.now roots.now graph.now joint }
+    requires given { AreGiven forest.now roots.now graph.now proofs.old.items }
+    ensures { OnOk result (AreGiven forest.now roots.now graph.now proofs.new.items) }
+{
+    every_forest();
+    let Joint { attempt, items, .. } = joint;
+    if let Some(items) = items? {
+        put_proof(attempt.vertex, items, proofs);
+    }
+    Ok(())
 }
 
 // Puts a proof to its vertex.

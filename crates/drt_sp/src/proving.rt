@@ -1,5 +1,5 @@
 //! The proof that a vertex meets its deadline, whatever walks the tasks of higher priority take.
-ghost use Rattle.std.specs.Prelude.{◌≡◌, ◌≤◌, ◌<◌, ◌∷◌, [], All, IfOk, IsTrue, Some, length, slice_get};
+ghost use Rattle.std.specs.Prelude.{◌≡◌, ℕ, ◌≤◌, ◌<◌, ◌∷◌, [], All, IfOk, IsTrue, Some, length, slice_get};
 ghost use Rattle.drt_claims.specs.Ranges.{IsCounted, IsInRangeItem};
 ghost use Rattle.drt_refine.specs.Combination.{Combination};
 ghost use Rattle.drt_refine.specs.Drive.{StopsAt};
@@ -7,6 +7,7 @@ ghost use Rattle.drt_refine.specs.Eager.{IsEager};
 ghost use Rattle.drt_refine.specs.Machine.{is_finished};
 ghost use Rattle.drt_refine.specs.Settled.{IsDone};
 ghost use Rattle.drt_refine.specs.View.{IsFrontier, setting_of, state_of};
+ghost use Rattle.drt_refine.specs.declared.step.FrontierReply.TheVariants.{Spent};
 ghost use Rattle.drt_sp.specs.Items.{AreItems, IsItemOf, IsVertexProof};
 ghost use Rattle.drt_sp.specs.Parts.{IsRefined};
 ghost use Rattle.drt_steps.specs.Time.{AreChosen};
@@ -105,13 +106,33 @@ pub(crate) fn refine_vertex(
     requires budget { (1 ≤ budget) × (budget ≤ 1000000) }
     ensures { IfOk result (IsRefined forest.now wcet deadline roots.now budget) }
 {
-    over_every_interleaving();
-    eager_settles();
     let (frontier, reply) = drive_frontier(alloc, forest, roots, wcet, deadline, budget)?;
     match reply {
-        FrontierReply::Finished => Ok(Refined::Passes(items_of(alloc, forest, &frontier)?)),
-        FrontierReply::Failed(id) => Ok(Refined::Fails(tuple_of(alloc, &frontier, id)?)),
         FrontierReply::Spent => Ok(Refined::Spent(frontier)),
+        reply => settle(alloc, forest, &frontier, reply),
+    }
+}
+
+// What becomes of a vertex whose frontier stopped within its budget.
+fn settle(
+    alloc: Global,
+    forest: &Forest,
+    frontier: &Frontier,
+    reply: FrontierReply,
+) -> Result<Refined, Memory>
+    requires frontier { IsFrontier forest.now frontier.now }
+    requires eager { IsEager (setting_of forest.now frontier.now) frontier.now.log }
+    requires stops { StopsAt (setting_of forest.now frontier.now) (state_of frontier.now) reply }
+    requires unspent { reply ≡ Spent → ⊥ }
+    requires deadline { frontier.now.deadline ≤ 1000000 }
+    ensures { IfOk result (λ refined. (budget : ℕ) → IsRefined forest.now frontier.now.wcet frontier.now.deadline frontier.now.roots budget refined) }
+{
+    over_every_interleaving();
+    eager_settles();
+    match reply {
+        FrontierReply::Finished => Ok(Refined::Passes(items_of(alloc, forest, frontier)?)),
+        FrontierReply::Failed(id) => Ok(Refined::Fails(tuple_of(alloc, frontier, id)?)),
+        FrontierReply::Spent => unreachable!(),
         FrontierReply::Taken(_) => unreachable!(),
         FrontierReply::Busy(_) => unreachable!(),
         FrontierReply::Passed => unreachable!(),

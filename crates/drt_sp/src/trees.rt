@@ -4,6 +4,7 @@ ghost use Rattle.drt_request.specs.Request.{request_algebra};
 ghost use Rattle.drt_table.specs.Drive.{StopsAt};
 ghost use Rattle.drt_table.specs.View.{setting_of};
 ghost use Rattle.drt_sp.specs.TreeClaims.{search_of};
+ghost use Rattle.drt_table.specs.declared.step.TableReply.{TableReply};
 ghost use Rattle.drt_sp.specs.Searches.{IsSearchEnd};
 ghost use Rattle.drt_sp.specs.TaskTrees.{IsTreeSearch};
 
@@ -79,6 +80,15 @@ pub(crate) fn search_leaves(
     ensures { IfOk result (IsSearchEnd graph.now bound budget) }
 {
     let (table, _reply) = search(alloc, graph, bound, budget)?;
+    end_of(alloc, &table)
+}
+
+// How a search that was driven to its end ended.
+fn end_of(alloc: Global, table: &Table<RequestLabel>) -> Result<SearchEnd, Memory>
+    requires few { table.now.budget ≤ 1000000 }
+    requires stops { (reply : TableReply) × StopsAt request_algebra table.now reply }
+    ensures { IfOk result (IsSearchEnd table.now.graph table.now.bound table.now.budget) }
+{
     if !table.finished() {
         let log = Vec::from_slice(alloc, table.log())?;
         return Ok(SearchEnd::Spent(Row::from_vec(log)));

@@ -1,9 +1,10 @@
 //! The leaves of a task's tree to be, out of a search.
-ghost use Rattle.std.specs.Prelude.{◌≡◌, ◌+◌, ◌≤◌, IfOk, length};
+ghost use Rattle.std.specs.Prelude.{◌≡◌, ◌+◌, ◌<◌, ◌≤◌, IfOk, OnOk, length};
 ghost use Rattle.drt_tree.specs.Leaf.{leaves_of};
 ghost use Rattle.drt_request.specs.Request.{request_algebra};
 ghost use Rattle.drt_table.specs.View.{IsTable, setting_of, state_of};
 ghost use Rattle.drt_table.specs.Cover.{IsFront};
+ghost use Rattle.drt_sp.specs.Gathering.{AreFirstLeaves};
 ghost use Rattle.drt_sp.specs.TaskTrees.{AreWalkLeaves};
 
 use drt_label::Label;
@@ -29,23 +30,40 @@ fn label_of(alloc: Global, node: &Node<RequestLabel>) -> Result<Arc<RequestLabel
     Ok(Arc::new(alloc, label.hand_out(spare))?)
 }
 
-/// The leaves of a finished search, in order of its kept nodes. The labels are those of the table, which ends here.
-pub(crate) fn gather(alloc: Global, table: Table<RequestLabel>) -> Result<Leaves, Memory>
-    requires front { IsFront request_algebra (setting_of table) (state_of table).nodes }
-    ensures table { IsTable request_algebra table }
+/// The leaves of a finished search, in order of its kept nodes. The labels are those of the table.
+pub(crate) fn gather(alloc: Global, table: &Table<RequestLabel>) -> Result<Leaves, Memory>
+    requires front { IsFront request_algebra (setting_of table.now) (state_of table.now).nodes }
+    ensures table { IsTable request_algebra table.now }
     ensures same { IfOk result (λ leaves. length leaves.labels.items ≡ length leaves.walks.items) }
-    ensures few { IfOk result (λ leaves. length leaves.labels.items ≤ length table.nodes) }
-    ensures leaves { IfOk result (λ leaves. AreWalkLeaves table.bound table.graph (leaves_of leaves.labels.items leaves.walks.items)) }
+    ensures few { IfOk result (λ leaves. length leaves.labels.items ≤ length table.now.nodes) }
+    ensures leaves { IfOk result (λ leaves. AreWalkLeaves table.now.bound table.now.graph (leaves_of leaves.labels.items leaves.walks.items)) }
 {
     let _log = table.log();
-    let mut labels = Vec::new(alloc);
-    let mut walks = Vec::new(alloc);
+    let mut leaves = Leaves {
+        labels: Vec::new(alloc),
+        walks: Vec::new(alloc),
+    };
     'nodes: for id in 0..table.node_count() as u32 {
-        let node = table.node(id);
-        if node.dropped_by().is_none() {
-            labels.push(label_of(alloc, node)?)?;
-            walks.push(table.walk(alloc, id)?)?;
-        }
+        add_leaf(alloc, table, id, &mut leaves)?;
     }
-    Ok(Leaves { labels, walks })
+    Ok(leaves)
+}
+
+// Adds the leaf of a node, if it is kept.
+fn add_leaf(
+    alloc: Global,
+    table: &Table<RequestLabel>,
+    id: u32,
+    leaves: &mut Leaves,
+) -> Result<(), Memory>
+    requires within { id < length table.now.nodes }
+    requires first { AreFirstLeaves table.now id leaves.old.labels.items leaves.old.walks.items }
+    ensures { OnOk result (AreFirstLeaves table.now (id + 1) leaves.new.labels.items leaves.new.walks.items) }
+{
+    let node = table.node(id);
+    if node.dropped_by().is_none() {
+        leaves.labels.push(label_of(alloc, node)?)?;
+        leaves.walks.push(table.walk(alloc, id)?)?;
+    }
+    Ok(())
 }
