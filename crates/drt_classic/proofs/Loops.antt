@@ -1,10 +1,14 @@
--- The digraphs of tasks, built one after the other as a loop does.
-use Rattle.std.proofs.Common.{◌≡◌, ℕ, zero, suc, ◌+◌, ◌<◌, ◌≤◌, List, [], ◌∷◌, ◌++◌, length, map, drop, get_or, refl, sym, ap, ◌∙◌, arith, append_assoc}
-use Rattle.std.specs.List.{range_with_len}
-use Rattle.std.proofs.lemmas.List.{at_drop_more, at_drop_all, append-nil}
+-- The digraphs of tasks and the times of fields, built one after the other as a loop does.
+use Rattle.std.proofs.Common.{◌≡◌, ℕ, zero, suc, ◌+◌, ◌<◌, ◌≤◌, Bool, true, false, ◌&&◌}
+use Rattle.std.proofs.Common.{List, [], ◌∷◌, ◌++◌, length, map, take, drop, get_or, Bor, refl, sym, ap, subst, ◌∙◌, arith, append_assoc}
+use Rattle.std.specs.Prelude.{IsTrue}
+use Rattle.std.specs.List.{list_all, range_with_len}
+use Rattle.std.proofs.lemmas.List.{at_drop_more, at_drop_all, append-nil, take_all, map_more}
 use Rattle.drt_model.specs.declared.tasks.Vertex.{Vertex}
 use Rattle.drt_model.specs.declared.tasks.Edge.{Edge}
 use Rattle.drt_model.specs.declared.tasks.Task.{Task}
+use Rattle.drt_file.specs.trusted.Line.{is_in_range}
+use Rattle.drt_file.specs.trusted.Words.{value}
 use Rattle.drt_classic.specs.declared.classic.Frame.{Frame}
 use Rattle.drt_classic.specs.declared.classic.Classic.{Classic}
 use Rattle.drt_classic.specs.Digraphs.{vertex_name, vertices_from, edges_from, digraph_of, tasks_from}
@@ -52,3 +56,40 @@ tasks_more done ts i t total lt is so_far =
 pub tasks_all : (done : List Task) (ts : List Classic) (i : ℕ) (total : List Task) → length ts ≤ i → done ++ tasks_from (i + 1) (drop i ts) ≡ total → done ≡ total
 unfolding tasks_from
 tasks_all done ts i total le so_far = sym (append-nil done) ∙ ap (λ l. done ++ l) (sym (at_drop_all (tasks_from (i + 1)) ts i le)) ∙ so_far
+
+-- What items give, behind what stood there: one more, and all.
+pub mapped_more : {X Y : Type 0} (f : X → Y) (start was now : List Y) (xs : List X) (i : ℕ) (d : X) → i < length xs → was ≡ start ++ map f (take i xs)
+    → now ≡ was ++ f (get_or xs i d) ∷ [] → now ≡ start ++ map f (take (i + 1) xs)
+mapped_more f start was now xs i d lt so_far more =
+    more ∙ ap (λ l. l ++ f (get_or xs i d) ∷ []) so_far ∙ append_assoc start (map f (take i xs)) (f (get_or xs i d) ∷ [])
+    ∙ ap (λ l. start ++ l) (sym (map_more f xs i d lt))
+
+pub mapped_all : {X Y : Type 0} (f : X → Y) (start now : List Y) (xs : List X) (i : ℕ) → length xs ≤ i → now ≡ start ++ map f (take i xs)
+    → now ≡ start ++ map f xs
+mapped_all f start now xs i le so_far = so_far ∙ ap (λ l. start ++ map f l) (take_all i xs le)
+
+-- What fields point to.
+abbrev texts : List (Bor (List ℕ)) → List (List ℕ)
+texts words = map (λ w. w.now) words
+
+both_true : (a b : Bool) → IsTrue (a && b) → IsTrue a × IsTrue b
+both_true true b h = (refl, h)
+both_true false b h = absurd (cc)
+
+-- Where the rest of the fields is in range, so are the next one and the rest behind it.
+pub next_in_range : (words : List (Bor (List ℕ))) (i : ℕ) (d : Bor (List ℕ)) → i < length words → IsTrue (list_all is_in_range (texts (drop i words)))
+    → IsTrue (is_in_range (get_or words i d).now) × IsTrue (list_all is_in_range (texts (drop (i + 1) words)))
+next_in_range words i d lt are =
+    both_true (is_in_range (get_or words i d).now) (list_all is_in_range (texts (drop (i + 1) words)))
+    (subst IsTrue (at_drop_more (λ ws. list_all is_in_range (texts ws)) words i d lt) are)
+
+pub times_more : (done : List ℕ) (words : List (Bor (List ℕ))) (i : ℕ) (d : Bor (List ℕ)) (total : List ℕ) → i < length words
+    → done ++ map value (texts (drop i words)) ≡ total
+    → (done ++ value (get_or words i d).now ∷ []) ++ map value (texts (drop (i + 1) words)) ≡ total
+times_more done words i d total lt so_far =
+    behind done _ (map value (texts (drop (i + 1) words))) (map value (texts (drop i words))) total
+    (at_drop_more (λ ws. map value (texts ws)) words i d lt) so_far
+
+pub times_all : (done : List ℕ) (words : List (Bor (List ℕ))) (i : ℕ) (total : List ℕ) → length words ≤ i
+    → done ++ map value (texts (drop i words)) ≡ total → done ≡ total
+times_all done words i total le so_far = sym (append-nil done) ∙ ap (λ l. done ++ l) (sym (at_drop_all (λ ws. map value (texts ws)) words i le)) ∙ so_far

@@ -40,12 +40,43 @@ fn digraph_of(alloc: Global, priority: u32, task: &Classic) -> Result<Task, Memo
     ensures { IfOk result (λ digraph. digraph ≡ digraph_of priority task.now) }
 {
     let frames = frames_of(alloc, task)?;
+    digraph_from(alloc, priority, task, frames.as_slice())
+}
+
+// The digraph of a task of these frames, with this priority.
+fn digraph_from(
+    alloc: Global,
+    priority: u32,
+    task: &Classic,
+    frames: &[Frame],
+) -> Result<Task, Memory>
+    requires few { length frames.now ≤ 48 }
+    requires own { frames.now ≡ frames_of task.now }
+    ensures { IfOk result (λ digraph. digraph ≡ digraph_of priority task.now) }
+{
+    let name = copy_name(alloc, task)?;
+    let (vertices, edges) = graph_of(alloc, task, frames)?;
     Ok(Task {
-        name: copy_name(alloc, task)?,
+        name,
         priority,
-        vertices: vertices_of(alloc, frames.as_slice())?,
-        edges: edges_of(alloc, task, frames.as_slice())?,
+        vertices,
+        edges,
     })
+}
+
+// The vertices and the edges of a task of these frames.
+fn graph_of(
+    alloc: Global,
+    task: &Classic,
+    frames: &[Frame],
+) -> Result<(Row<Vertex>, Row<Edge>), Memory>
+    requires few { length frames.now ≤ 48 }
+    requires own { frames.now ≡ frames_of task.now }
+    ensures vertices { IfOk result (λ both. both.0 ≡ vertices_from 0 frames.now) }
+    ensures edges { IfOk result (λ both. both.1 ≡ edges_from (frames_after task.now) 0 frames.now) }
+{
+    let vertices = vertices_of(alloc, frames)?;
+    Ok((vertices, edges_of(alloc, task, frames)?))
 }
 
 // A copy of the name of a task.
@@ -168,7 +199,6 @@ fn only_next(alloc: Global, count: usize, i: u32) -> Result<Vec<u32>, Memory>
 }
 
 // The numbers below `count`.
-#[tactic(auto, using(crate::proofs::Loops::range_more))]
 fn first_numbers(alloc: Global, count: usize) -> Result<Vec<u32>, Memory>
     requires { count ≤ 48 }
     ensures { IfOk result (λ numbers. numbers.items ≡ range_with_len 0 count) }

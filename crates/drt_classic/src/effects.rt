@@ -1,5 +1,5 @@
 //! What a line without a fault adds to what the lines above leave.
-ghost use Rattle.std.specs.Prelude.{◌≡◌, IfOk, option_map};
+ghost use Rattle.std.specs.Prelude.{◌≡◌, Some, true, IfOk, option_map};
 ghost use Rattle.drt_classic.specs.ClassicFaults.{add_frame, after_line, opening, with_frame, with_last};
 
 use crate::classic::{Classic, Frame};
@@ -60,31 +60,71 @@ fn frame_added(frame: Frame, last: Option<Draft>) -> Result<Option<Draft>, Memor
     }
 }
 
-/// The state below a line that says this.
-#[tactic(auto, unfolding(crate::specs::ClassicFaults::after_line))]
-pub fn after(n: u32, s: State, line: Line) -> Result<State, Memory>
-    ensures { IfOk result (λ t. t ≡ after_line n s line) }
+// The state with this task behind the others, of a line with this number.
+fn after_task(n: u32, s: State, task: Classic) -> Result<State, Memory>
+    ensures { IfOk result (λ t. t ≡ record { closed = with_last s.closed s.last; last = Some (record { line = n; task = task }); ended = s.ended }) }
 {
     let State {
         closed,
         last,
         ended,
     } = s;
-    match line {
-        Line::Task(task) => Ok(State {
-            closed: close(closed, last)?,
+    match close(closed, last) {
+        Ok(closed) => Ok(State {
+            closed,
             last: Some(Draft { line: n, task }),
             ended,
         }),
-        Line::Frame(frame) => Ok(State {
-            closed,
-            last: frame_added(frame, last)?,
-            ended,
-        }),
-        Line::End => Ok(State {
+        Err(e) => {
+            // One call, where the end of the scope would take the task apart here.
+            drop(task);
+            Err(e)
+        }
+    }
+}
+
+// The state whose last task has one frame more.
+fn after_frame(s: State, frame: Frame) -> Result<State, Memory>
+    ensures { IfOk result (λ t. t ≡ record { closed = s.closed; last = option_map (add_frame frame) s.last; ended = s.ended }) }
+{
+    let State {
+        closed,
+        last,
+        ended,
+    } = s;
+    match frame_added(frame, last) {
+        Ok(last) => Ok(State {
             closed,
             last,
-            ended: true,
+            ended,
         }),
+        Err(e) => {
+            drop(closed);
+            Err(e)
+        }
+    }
+}
+
+// The state behind `end`.
+fn after_end(s: State) -> State
+    ensures { result ≡ record { closed = s.closed; last = s.last; ended = true } }
+{
+    let State { closed, last, .. } = s;
+    State {
+        closed,
+        last,
+        ended: true,
+    }
+}
+
+/// The state below a line that says this.
+#[tactic(auto, unfolding(crate::specs::ClassicFaults::after_line))]
+pub fn after(n: u32, s: State, line: Line) -> Result<State, Memory>
+    ensures { IfOk result (λ t. t ≡ after_line n s line) }
+{
+    match line {
+        Line::Task(task) => after_task(n, s, task),
+        Line::Frame(frame) => after_frame(s, frame),
+        Line::End => Ok(after_end(s)),
     }
 }

@@ -1,12 +1,30 @@
 //! What a line says, or its fault, given what the lines above leave.
-ghost use Rattle.std.specs.Prelude.{◌≡◌, ◌∷◌, [], IsTrue, map, nat_le, IfOk};
+ghost use Rattle.std.specs.Prelude.{◌≡◌, ◌∷◌, [], IsTrue, None, map, nat_le, IfOk};
 ghost use Rattle.std.specs.List.{list_all, list_any};
 ghost use Rattle.drt_file.specs.trusted.Line.{is_in_range};
 ghost use Rattle.drt_file.specs.trusted.Words.{is_number, value};
 ghost use Rattle.drt_classic.specs.declared.fault.ClassicError.TheVariants.{Fault};
 ghost use Rattle.drt_classic.specs.declared.state.Kind.TheVariants as kinds;
 ghost use Rattle.drt_classic.specs.Gives.{Gives, second_word};
-ghost use Rattle.drt_classic.specs.ClassicFaults.{fault_of_line, end_fault, first_word, frame_fault, has_task, is_full, is_named, is_open, is_past, kind, kind_fault, multiframe_fault, open_fault, said_by, sporadic_fault, task_count, unless};
+ghost use Rattle.drt_classic.specs.ClassicFaults.{
+  fault_of_line,
+  end_fault,
+  first_word,
+  frame_fault,
+  has_task,
+  is_full,
+  is_named,
+  is_open,
+  is_past,
+  kind,
+  kind_fault,
+  multiframe_fault,
+  open_fault,
+  said_by,
+  sporadic_fault,
+  task_count,
+  unless,
+};
 
 use crate::classic::{Classic, Frame, name_of};
 use crate::codes::*;
@@ -92,36 +110,47 @@ fn frame_past(wcet: &[u8], deadline: &[u8], sep: &[u8]) -> bool
     past(deadline, sep)
 }
 
+// The code of the fault of a `sporadic` line of these fields.
+#[tactic(auto, unfolding(crate::specs::ClassicFaults::sporadic_fault, crate::specs::ClassicFaults::first_of))]
+fn sporadic_fault(s: &State, name: &[u8], wcet: &[u8], deadline: &[u8], period: &[u8]) -> Option<u8>
+    ensures code { result ≡ sporadic_fault s.now ([] ∷ name.now ∷ wcet.now ∷ deadline.now ∷ period.now ∷ []) }
+    ensures in_range { result ≡ None → IsTrue (list_all is_in_range (wcet.now ∷ deadline.now ∷ period.now ∷ [])) }
+{
+    if !all_numbers(&[wcet, deadline, period]) {
+        return Some(NO_NUMBER);
+    }
+    if !all_in_range(&[wcet, deadline, period]) {
+        return Some(OUT_OF_RANGE);
+    }
+    if !a_name(name) {
+        return Some(NO_NAME);
+    }
+    if has_task(name, s) {
+        return Some(SAME_TASK);
+    }
+    if frame_past(wcet, deadline, period) {
+        return Some(PAST_SEPARATION);
+    }
+    if full(s) {
+        return Some(TOO_MANY_TASKS);
+    }
+    None
+}
+
 // A `sporadic` line.
-#[tactic(auto, unfolding(crate::specs::ClassicFaults::sporadic_fault, crate::specs::ClassicFaults::unless, crate::specs::ClassicFaults::said_by, crate::specs::ClassicFaults::first_of))]
+#[tactic(auto, unfolding(crate::specs::ClassicFaults::sporadic_fault, crate::specs::ClassicFaults::unless, crate::specs::ClassicFaults::said_by))]
 fn sporadic_line(alloc: Global, n: u32, s: &State, words: &[&[u8]]) -> Result<Line, ClassicError>
     ensures { Gives result (unless n (sporadic_fault s.now (map (λ w. w.now) words.now)) (said_by kinds.Sporadic (map (λ w. w.now) words.now))) }
 {
     match words {
-        [_, name, wcet, deadline, period] => {
-            if !all_numbers(&[*wcet, *deadline, *period]) {
-                return Err(fault(n, NO_NUMBER));
+        [_, name, wcet, deadline, period] => match sporadic_fault(s, name, wcet, deadline, period) {
+            Some(code) => Err(fault(n, code)),
+            None => {
+                let name = name_from(alloc, name)?;
+                let frame = frame_from(wcet, deadline, period);
+                Ok(Line::Task(Classic::Sporadic { name, frame }))
             }
-            if !all_in_range(&[*wcet, *deadline, *period]) {
-                return Err(fault(n, OUT_OF_RANGE));
-            }
-            if !a_name(name) {
-                return Err(fault(n, NO_NAME));
-            }
-            if has_task(name, s) {
-                return Err(fault(n, SAME_TASK));
-            }
-            if frame_past(wcet, deadline, period) {
-                return Err(fault(n, PAST_SEPARATION));
-            }
-            if full(s) {
-                return Err(fault(n, TOO_MANY_TASKS));
-            }
-            Ok(Line::Task(Classic::Sporadic {
-                name: name_from(alloc, name)?,
-                frame: frame_from(wcet, deadline, period),
-            }))
-        }
+        },
         _ => Err(fault(n, NO_FORM)),
     }
 }
@@ -164,11 +193,13 @@ fn multiframe_from(
     requires { IsTrue (list_all is_in_range (deadline.now ∷ period.now ∷ map (λ w. w.now) wcets.now)) }
     ensures { IfOk result (λ line. line ≡ said_by kinds.Multiframe ([] ∷ name.now ∷ deadline.now ∷ period.now ∷ map (λ w. w.now) wcets.now)) }
 {
+    let name = name_from(alloc, name)?;
+    let wcets = times_from(alloc, wcets)?;
     Ok(Line::Task(Classic::Multiframe {
-        name: name_from(alloc, name)?,
+        name,
         deadline: time(deadline),
         period: time(period),
-        wcets: times_from(alloc, wcets)?,
+        wcets,
     }))
 }
 
@@ -180,44 +211,43 @@ fn multiframe_past(deadline: &[u8], period: &[u8], wcets: &[&[u8]]) -> bool
     past(deadline, period)
 }
 
-// A `multiframe` line with at least four fields.
-#[tactic(auto, unfolding(crate::specs::ClassicFaults::multiframe_fault, crate::specs::ClassicFaults::unless, crate::specs::ClassicFaults::first_of))]
-fn multiframe_fields(
-    alloc: Global,
-    n: u32,
+// The code of the fault of a `multiframe` line of at least four fields.
+#[tactic(auto, unfolding(crate::specs::ClassicFaults::multiframe_fault, crate::specs::ClassicFaults::first_of))]
+fn multiframe_fault(
     s: &State,
     name: &[u8],
     deadline: &[u8],
     period: &[u8],
     wcets: &[&[u8]],
-) -> Result<Line, ClassicError>
-    ensures { Gives result (unless n (multiframe_fault s.now ([] ∷ name.now ∷ deadline.now ∷ period.now ∷ map (λ w. w.now) wcets.now)) (said_by kinds.Multiframe ([] ∷ name.now ∷ deadline.now ∷ period.now ∷ map (λ w. w.now) wcets.now))) }
+) -> Option<u8>
+    ensures code { result ≡ multiframe_fault s.now ([] ∷ name.now ∷ deadline.now ∷ period.now ∷ map (λ w. w.now) wcets.now) }
+    ensures in_range { result ≡ None → IsTrue (list_all is_in_range (deadline.now ∷ period.now ∷ map (λ w. w.now) wcets.now)) }
 {
     if wcets.is_empty() {
-        return Err(fault(n, NO_FORM));
+        return Some(NO_FORM);
     }
     if !numbers_from(deadline, period, wcets) {
-        return Err(fault(n, NO_NUMBER));
+        return Some(NO_NUMBER);
     }
     if !in_range_from(deadline, period, wcets) {
-        return Err(fault(n, OUT_OF_RANGE));
+        return Some(OUT_OF_RANGE);
     }
     if !a_name(name) {
-        return Err(fault(n, NO_NAME));
+        return Some(NO_NAME);
     }
     if has_task(name, s) {
-        return Err(fault(n, SAME_TASK));
+        return Some(SAME_TASK);
     }
     if multiframe_past(deadline, period, wcets) {
-        return Err(fault(n, PAST_SEPARATION));
+        return Some(PAST_SEPARATION);
     }
     if full(s) {
-        return Err(fault(n, TOO_MANY_TASKS));
+        return Some(TOO_MANY_TASKS);
     }
     if 48 < wcets.len() {
-        return Err(fault(n, TOO_MANY_FRAMES));
+        return Some(TOO_MANY_FRAMES);
     }
-    Ok(multiframe_from(alloc, name, deadline, period, wcets)?)
+    None
 }
 
 // A `multiframe` line.
@@ -227,30 +257,42 @@ fn multiframe_line(alloc: Global, n: u32, s: &State, words: &[&[u8]]) -> Result<
 {
     match words {
         [_, name, deadline, period, wcets @ ..] => {
-            multiframe_fields(alloc, n, s, name, deadline, period, wcets)
+            match multiframe_fault(s, name, deadline, period, wcets) {
+                Some(code) => Err(fault(n, code)),
+                None => Ok(multiframe_from(alloc, name, deadline, period, wcets)?),
+            }
         }
         _ => Err(fault(n, NO_FORM)),
     }
 }
 
+// The code of the fault of a `gmf` or `noncyclic` line of this name.
+#[tactic(auto, unfolding(crate::specs::ClassicFaults::open_fault, crate::specs::ClassicFaults::first_of))]
+fn open_fault(s: &State, name: &[u8]) -> Option<u8>
+    ensures { result ≡ open_fault s.now ([] ∷ name.now ∷ []) }
+{
+    if !a_name(name) {
+        return Some(NO_NAME);
+    }
+    if has_task(name, s) {
+        return Some(SAME_TASK);
+    }
+    if full(s) {
+        return Some(TOO_MANY_TASKS);
+    }
+    None
+}
+
 // The name of a `gmf` or `noncyclic` line, or the fault of the line.
-#[tactic(auto, unfolding(crate::specs::ClassicFaults::open_fault, crate::specs::ClassicFaults::unless, crate::specs::ClassicFaults::first_of))]
+#[tactic(auto, unfolding(crate::specs::ClassicFaults::open_fault, crate::specs::ClassicFaults::unless))]
 fn open_name(alloc: Global, n: u32, s: &State, words: &[&[u8]]) -> Result<Name, ClassicError>
     ensures { Gives result (unless n (open_fault s.now (map (λ w. w.now) words.now)) (second_word (map (λ w. w.now) words.now))) }
 {
     match words {
-        [_, name] => {
-            if !a_name(name) {
-                return Err(fault(n, NO_NAME));
-            }
-            if has_task(name, s) {
-                return Err(fault(n, SAME_TASK));
-            }
-            if full(s) {
-                return Err(fault(n, TOO_MANY_TASKS));
-            }
-            Ok(name_from(alloc, name)?)
-        }
+        [_, name] => match open_fault(s, name) {
+            Some(code) => Err(fault(n, code)),
+            None => Ok(name_from(alloc, name)?),
+        },
         _ => Err(fault(n, NO_FORM)),
     }
 }
@@ -303,35 +345,39 @@ fn full_of_frames(draft: &Draft) -> bool
     }
 }
 
+// The code of the fault of a `frame` line of these fields.
+#[tactic(auto, unfolding(crate::specs::ClassicFaults::frame_fault, crate::specs::ClassicFaults::in_last, crate::specs::ClassicFaults::first_of))]
+fn frame_fault(s: &State, wcet: &[u8], deadline: &[u8], sep: &[u8]) -> Option<u8>
+    ensures code { result ≡ frame_fault s.now ([] ∷ wcet.now ∷ deadline.now ∷ sep.now ∷ []) }
+    ensures in_range { result ≡ None → IsTrue (list_all is_in_range (wcet.now ∷ deadline.now ∷ sep.now ∷ [])) }
+{
+    if !all_numbers(&[wcet, deadline, sep]) {
+        return Some(NO_NUMBER);
+    }
+    if !all_in_range(&[wcet, deadline, sep]) {
+        return Some(OUT_OF_RANGE);
+    }
+    if frame_past(wcet, deadline, sep) {
+        return Some(PAST_SEPARATION);
+    }
+    match &s.last {
+        None => Some(NO_OPEN_TASK),
+        Some(draft) if !open(draft) => Some(NO_OPEN_TASK),
+        Some(draft) if full_of_frames(draft) => Some(TOO_MANY_FRAMES),
+        Some(_) => None,
+    }
+}
+
 // A `frame` line.
-#[tactic(auto, unfolding(crate::specs::ClassicFaults::frame_fault, crate::specs::ClassicFaults::in_last, crate::specs::ClassicFaults::unless, crate::specs::ClassicFaults::said_by, crate::specs::ClassicFaults::first_of))]
+#[tactic(auto, unfolding(crate::specs::ClassicFaults::frame_fault, crate::specs::ClassicFaults::unless, crate::specs::ClassicFaults::said_by))]
 fn frame_line(n: u32, s: &State, words: &[&[u8]]) -> Result<Line, ClassicError>
     ensures { Gives result (unless n (frame_fault s.now (map (λ w. w.now) words.now)) (said_by kinds.Frame (map (λ w. w.now) words.now))) }
 {
     match words {
-        [_, wcet, deadline, sep] => {
-            if !all_numbers(&[*wcet, *deadline, *sep]) {
-                return Err(fault(n, NO_NUMBER));
-            }
-            if !all_in_range(&[*wcet, *deadline, *sep]) {
-                return Err(fault(n, OUT_OF_RANGE));
-            }
-            if frame_past(wcet, deadline, sep) {
-                return Err(fault(n, PAST_SEPARATION));
-            }
-            match &s.last {
-                None => return Err(fault(n, NO_OPEN_TASK)),
-                Some(draft) => {
-                    if !open(draft) {
-                        return Err(fault(n, NO_OPEN_TASK));
-                    }
-                    if full_of_frames(draft) {
-                        return Err(fault(n, TOO_MANY_FRAMES));
-                    }
-                }
-            }
-            Ok(Line::Frame(frame_from(wcet, deadline, sep)))
-        }
+        [_, wcet, deadline, sep] => match frame_fault(s, wcet, deadline, sep) {
+            Some(code) => Err(fault(n, code)),
+            None => Ok(Line::Frame(frame_from(wcet, deadline, sep))),
+        },
         _ => Err(fault(n, NO_FORM)),
     }
 }
@@ -377,7 +423,8 @@ pub fn parse_line(
     line: &[u8],
     words: &[&[u8]],
 ) -> Result<Line, ClassicError>
-    ensures { Gives result (unless n (fault_of_line s.now line.now (map (λ w. w.now) words.now)) (said_by (kind (first_word (map (λ w. w.now) words.now))) (map (λ w. w.now) words.now))) }
+    ensures { Gives result (unless n (fault_of_line s.now line.now (map (λ w. w.now) words.now))
+        (said_by (kind (first_word (map (λ w. w.now) words.now))) (map (λ w. w.now) words.now))) }
 {
     if !all_text(line) {
         return Err(fault(n, NO_TEXT));

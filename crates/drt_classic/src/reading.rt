@@ -1,7 +1,21 @@
 //! Reading a classic file: once over its bytes, line by line, down to the first fault.
-ghost use Rattle.std.specs.Prelude.{◌≡◌, ◌≤◌, None, Some, length, map, IfOk, IfErr};
+ghost use Rattle.std.specs.Prelude.{◌≡◌, ◌≤◌, if◌then◌else◌, None, Some, Ok, length, map, IfOk, IfErr};
 ghost use Rattle.drt_file.specs.trusted.Cutting.{lines};
-ghost use Rattle.drt_classic.specs.ClassicFaults.{line_step, read_text, step, steps};
+ghost use Rattle.drt_file.specs.trusted.Line.{is_skipped};
+ghost use Rattle.drt_classic.specs.ClassicFaults.{
+  after_line,
+  fault_of_line,
+  first_word,
+  is_head,
+  kind,
+  line_step,
+  opening,
+  read_text,
+  said_by,
+  step,
+  steps,
+  unless,
+};
 ghost use Rattle.drt_classic.specs.ClassicReading.{Reads, IsCauseOf};
 ghost use Rattle.drt_classic.specs.Gives.{Gives};
 
@@ -17,8 +31,45 @@ use drt_file::cutting::{cut_line, fields_of};
 use drt_model::Row;
 use std::alloc::Global;
 
+// What the first line that isn't skipped leaves, or its fault.
+#[tactic(auto, unfolding(crate::specs::ClassicFaults::unless))]
+fn first(alloc: Global, n: u32, words: &[&[u8]]) -> Result<Option<State>, ClassicError>
+    ensures { Gives result (unless n (if is_head (map (λ w. w.now) words.now) then None else Some 31) (Some opening)) }
+{
+    if head(words) {
+        Ok(Some(open(alloc)))
+    } else {
+        Err(ClassicError::Fault(ClassicFault {
+            line: n,
+            code: NO_HEAD,
+        }))
+    }
+}
+
+// What a line below the first leaves, or its fault.
+#[tactic(auto, unfolding(crate::specs::ClassicFaults::unless))]
+fn below(
+    alloc: Global,
+    n: u32,
+    s: State,
+    line: &[u8],
+    words: &[&[u8]],
+) -> Result<Option<State>, ClassicError>
+    ensures { Gives result (unless n (fault_of_line s line.now (map (λ w. w.now) words.now))
+        (Some (after_line n s (said_by (kind (first_word (map (λ w. w.now) words.now))) (map (λ w. w.now) words.now))))) }
+{
+    match parse_line(alloc, n, &s, line, words) {
+        Ok(said) => Ok(Some(after(n, s, said)?)),
+        Err(e) => {
+            // One call, where the end of the scope would take the state apart here.
+            drop(s);
+            Err(e)
+        }
+    }
+}
+
 // What a line that isn't skipped leaves, or its fault.
-#[tactic(auto, unfolding(crate::specs::ClassicFaults::line_step, crate::specs::ClassicFaults::unless))]
+#[tactic(auto, unfolding(crate::specs::ClassicFaults::line_step))]
 fn line_step(
     alloc: Global,
     n: u32,
@@ -29,20 +80,25 @@ fn line_step(
     ensures { Gives result (line_step n above line.now (map (λ w. w.now) words.now)) }
 {
     match above {
-        None => {
-            if head(words) {
-                Ok(Some(open(alloc)))
-            } else {
-                Err(ClassicError::Fault(ClassicFault {
-                    line: n,
-                    code: NO_HEAD,
-                }))
-            }
-        }
-        Some(s) => {
-            let said = parse_line(alloc, n, &s, line, words)?;
-            Ok(Some(after(n, s, said)?))
-        }
+        None => first(alloc, n, words),
+        Some(s) => below(alloc, n, s, line, words),
+    }
+}
+
+// What a line of these fields leaves, or its fault.
+fn words_step(
+    alloc: Global,
+    n: u32,
+    above: Option<State>,
+    line: &[u8],
+    words: &[&[u8]],
+) -> Result<Option<State>, ClassicError>
+    ensures { Gives result (if is_skipped (map (λ w. w.now) words.now) then Ok above else line_step n above line.now (map (λ w. w.now) words.now)) }
+{
+    if skipped(words) {
+        Ok(above)
+    } else {
+        line_step(alloc, n, above, line, words)
     }
 }
 
@@ -55,11 +111,13 @@ fn step(
 ) -> Result<Option<State>, ClassicError>
     ensures { Gives result (step n above line.now) }
 {
-    let words = fields_of(alloc, line)?;
-    if skipped(words.as_slice()) {
-        return Ok(above);
+    match fields_of(alloc, line) {
+        Ok(words) => words_step(alloc, n, above, line, words.as_slice()),
+        Err(_) => {
+            drop(above);
+            Err(ClassicError::Memory)
+        }
     }
-    line_step(alloc, n, above, line, words.as_slice())
 }
 
 fn all_lines(alloc: Global, text: &[u8]) -> Result<(u32, Option<State>), ClassicError>
