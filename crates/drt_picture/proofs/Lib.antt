@@ -5,3 +5,4 @@ pub mod EventLemmas
 pub mod LayoutLemmas
 pub mod PageLemmas
 pub mod ReachLemmas
+mod Mapping

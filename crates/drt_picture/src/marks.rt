@@ -6,7 +6,7 @@ use crate::layout::SMALL_FONT;
 use crate::picture::Picture;
 use crate::printing::base_of;
 use crate::scale::PAGE_WIDTH;
-use crate::svg::Svg;
+use crate::svg::{Piece, Svg};
 use crate::widths::{number_width, text_width};
 use drt_model::Memory;
 use drt_timeline::Mark;
@@ -51,20 +51,22 @@ pub fn print_labels(svg: &mut Svg, picture: &Picture, bars: &[Bar]) -> Result<()
 fn print_bar(svg: &mut Svg, picture: &Picture, bar: Bar) -> Result<(), Memory> {
     let width = u64::from(bar.right).saturating_sub(u64::from(bar.left));
     let top = base_of(u64::from(bar.row)) - BAR_HEIGHT;
-    svg.place(b"<rect x", u64::from(bar.left))?;
-    svg.place(b" y", top)?;
-    svg.place(b" width", width.max(LEAST_WIDTH))?;
-    svg.place(b" height", BAR_HEIGHT)?;
-    svg.raw(fill_of(picture, bar, width))?;
-    svg.raw(b"><title>")?;
-    svg.name(picture.vertex_name(bar.span.job))?;
-    svg.raw(b"[")?;
-    svg.number(picture.shown(bar.span.job).index)?;
-    svg.raw(b"], ticks ")?;
-    svg.grouped(bar.span.start)?;
-    svg.raw(b" to ")?;
-    svg.grouped(bar.span.end)?;
-    svg.raw(b"</title></rect>\n")
+    svg.pieces(&[
+        Piece::Place(b"<rect x", u64::from(bar.left)),
+        Piece::Place(b" y", top),
+        Piece::Place(b" width", width.max(LEAST_WIDTH)),
+        Piece::Place(b" height", BAR_HEIGHT),
+        Piece::Raw(fill_of(picture, bar, width)),
+        Piece::Raw(b"><title>"),
+        Piece::Name(picture.vertex_name(bar.span.job)),
+        Piece::Raw(b"["),
+        Piece::Number(picture.shown(bar.span.job).index),
+        Piece::Raw(b"], ticks "),
+        Piece::Grouped(bar.span.start),
+        Piece::Raw(b" to "),
+        Piece::Grouped(bar.span.end),
+        Piece::Raw(b"</title></rect>\n"),
+    ])
 }
 
 // How a bar is filled: jobs of a task are light and dark by turns, and one that misses is hatched.
@@ -95,18 +97,28 @@ fn print_label(svg: &mut Svg, picture: &Picture, bar: Bar) -> Result<(), Memory>
     if short > room {
         return Ok(());
     }
-    svg.place(b"<text x", (u64::from(bar.left) + u64::from(bar.right)) / 2)?;
-    svg.place(b" y", base_of(u64::from(bar.row)) - 65)?;
-    svg.raw(b">")?;
-    if long <= room {
-        svg.name(name)?;
-        svg.raw(b"[")?;
-        svg.number(index)?;
-        svg.raw(b"]")?;
-    } else {
-        svg.number(index)?;
-    }
+    let head = [
+        Piece::Place(b"<text x", (u64::from(bar.left) + u64::from(bar.right)) / 2),
+        Piece::Place(b" y", base_of(u64::from(bar.row)) - 65),
+        Piece::Raw(b">"),
+    ];
+    svg.pieces(&head)?;
+    print_job(svg, name, index, long <= room)?;
     svg.raw(b"</text>\n")
+}
+
+// The job of an index among those of its task: with the name of its vertex, or the index alone.
+fn print_job(svg: &mut Svg, name: &[u8], index: u64, named: bool) -> Result<(), Memory> {
+    if named {
+        svg.pieces(&[
+            Piece::Name(name),
+            Piece::Raw(b"["),
+            Piece::Number(index),
+            Piece::Raw(b"]"),
+        ])
+    } else {
+        svg.number(index)
+    }
 }
 
 /// Writes the arrows of releases and deadlines of the rows in which there is no room for their heads: thin lines.
@@ -182,26 +194,33 @@ fn print_miss(svg: &mut Svg, arrow: Arrow) -> Result<(), Memory> {
 fn print_lateness(svg: &mut Svg, arrow: Arrow, late: Option<u64>) -> Result<(), Memory> {
     let x = u64::from(arrow.x);
     let y = base_of(u64::from(arrow.row)) - ARROW_LENGTH - 20;
-    svg.raw(
-        br##"<text font-size="12" font-weight="bold" fill="#c00000" stroke="#fff" stroke-width="3" paint-order="stroke""##,
-    )?;
-    if x < u64::from(PAGE_WIDTH) / 2 {
-        svg.place(b" x", x.saturating_sub(60))?;
+    let place = if x < u64::from(PAGE_WIDTH) / 2 {
+        Piece::Place(b" x", x.saturating_sub(60))
     } else {
-        svg.place(br##" text-anchor="end" x"##, x + 60)?;
-    }
-    svg.place(b" y", y)?;
+        Piece::Place(br##" text-anchor="end" x"##, x + 60)
+    };
+    let font =
+        br##"<text font-size="12" font-weight="bold" fill="#c00000" stroke="#fff" stroke-width="3" paint-order="stroke""##;
+    svg.pieces(&[Piece::Raw(font), place, Piece::Place(b" y", y)])?;
+    print_late(svg, late)?;
+    svg.raw(b"</text>\n")
+}
+
+// By how many ticks a job is late, where that is known.
+fn print_late(svg: &mut Svg, late: Option<u64>) -> Result<(), Memory> {
     match late {
         Some(ticks) => {
-            svg.raw(b">late by ")?;
-            svg.grouped(ticks)?;
-            svg.raw(if ticks == 1 {
+            let unit = if ticks == 1 {
                 b" tick".as_slice()
             } else {
                 b" ticks".as_slice()
-            })?;
+            };
+            svg.pieces(&[
+                Piece::Raw(b">late by "),
+                Piece::Grouped(ticks),
+                Piece::Raw(unit),
+            ])
         }
-        None => svg.raw(b">missed")?,
+        None => svg.raw(b">missed"),
     }
-    svg.raw(b"</text>\n")
 }

@@ -8,7 +8,7 @@ use crate::layout::{
 use crate::marks::{print_arrows, print_bars, print_close_arrows, print_labels, print_misses};
 use crate::picture::Picture;
 use crate::scale::{PAGE_WIDTH, Scale};
-use crate::svg::Svg;
+use crate::svg::{Piece, Svg};
 use crate::widths::{number_width, text_width};
 use drt_model::{Memory, Policy, Release, Row, Task, TaskSet};
 use std::alloc::Global;
@@ -28,19 +28,41 @@ pub fn print(
 ) -> Result<Row<u8>, Memory> {
     let picture = Picture::of(alloc, set.tasks(), releases, layout)?;
     let mut svg = Svg::new(alloc);
-    print_head(&mut svg, policy, layout)?;
-    print_key(&mut svg, layout)?;
-    let foot = foot_of(set.tasks().len());
-    print_axis(&mut svg, foot, layout.ticks.as_slice())?;
-    print_rows(&mut svg, set.tasks(), &layout.scale)?;
-    print_cuts(&mut svg, foot, layout.cuts.as_slice())?;
-    print_close_arrows(&mut svg, &picture, layout.arrows.as_slice())?;
-    print_bars(&mut svg, &picture, layout.bars.as_slice())?;
-    print_arrows(&mut svg, &picture, layout.arrows.as_slice())?;
-    print_misses(&mut svg, layout.arrows.as_slice(), late)?;
-    print_labels(&mut svg, &picture, layout.bars.as_slice())?;
-    svg.raw(b"</svg>\n")?;
+    print_ground(&mut svg, set.tasks(), policy, layout)?;
+    print_marks(&mut svg, &picture, late, layout)?;
     Ok(svg.into_row())
+}
+
+// What stands below the bars and the arrows: the head of the page, the axis, the rows and the cuts.
+fn print_ground(
+    svg: &mut Svg,
+    tasks: &[Task],
+    policy: Policy,
+    layout: &Layout,
+) -> Result<(), Memory>
+    requires { length tasks.now < 2 ^ 16 }
+{
+    print_head(svg, policy, layout)?;
+    print_key(svg, layout)?;
+    let foot = foot_of(tasks.len());
+    print_axis(svg, foot, layout.ticks.as_slice())?;
+    print_rows(svg, tasks, &layout.scale)?;
+    print_cuts(svg, foot, layout.cuts.as_slice())
+}
+
+// The bars and the arrows, and the end of the page.
+fn print_marks(
+    svg: &mut Svg,
+    picture: &Picture,
+    late: Option<u64>,
+    layout: &Layout,
+) -> Result<(), Memory> {
+    print_close_arrows(svg, picture, layout.arrows.as_slice())?;
+    print_bars(svg, picture, layout.bars.as_slice())?;
+    print_arrows(svg, picture, layout.arrows.as_slice())?;
+    print_misses(svg, layout.arrows.as_slice(), late)?;
+    print_labels(svg, picture, layout.bars.as_slice())?;
+    svg.raw(b"</svg>\n")
 }
 
 /// Where a row begins.
@@ -53,13 +75,16 @@ pub fn row_top(row: u64) -> u64
 
 // What stands before the rows: the size of the page, the fonts and the hatch, and what the page shows.
 fn print_head(svg: &mut Svg, policy: Policy, layout: &Layout) -> Result<(), Memory> {
-    svg.raw(b"<svg xmlns=\"http://www.w3.org/2000/svg\"")?;
-    svg.place(b" width", u64::from(PAGE_WIDTH))?;
-    svg.place(b" height", u64::from(layout.height))?;
-    svg.raw(b" viewBox=\"0 0 ")?;
-    svg.point(b"", u64::from(PAGE_WIDTH), u64::from(layout.height))?;
-    svg.raw(HEAD_OF_PAGE)?;
-    svg.raw(b"<text x=\"20\" y=\"26\" font-size=\"16\" font-weight=\"bold\">")?;
+    let (width, height) = (u64::from(PAGE_WIDTH), u64::from(layout.height));
+    svg.pieces(&[
+        Piece::Raw(b"<svg xmlns=\"http://www.w3.org/2000/svg\""),
+        Piece::Place(b" width", width),
+        Piece::Place(b" height", height),
+        Piece::Raw(b" viewBox=\"0 0 "),
+        Piece::Point(b"", width, height),
+        Piece::Raw(HEAD_OF_PAGE),
+        Piece::Raw(b"<text x=\"20\" y=\"26\" font-size=\"16\" font-weight=\"bold\">"),
+    ])?;
     print_title(svg, policy, layout)?;
     svg.raw(b"</text>\n")
 }
@@ -74,21 +99,26 @@ const HEAD_OF_PAGE: &[u8] =
 
 // The policy, the ticks, and what is left out.
 fn print_title(svg: &mut Svg, policy: Policy, layout: &Layout) -> Result<(), Memory> {
-    svg.raw(match policy {
+    let name = match policy {
         Policy::Edf => b"EDF".as_slice(),
         Policy::Fixed => b"Fixed priorities".as_slice(),
-    })?;
-    svg.raw(b", ticks ")?;
-    svg.grouped(layout.from)?;
-    svg.raw(b" to ")?;
-    svg.grouped(layout.scale.until)?;
-    if layout.hidden > 0 {
-        svg.raw(b". Not drawn: the first ")?;
-        svg.grouped(layout.hidden as u64)?;
-        svg.raw(b" spans, and the events before tick ")?;
-        svg.grouped(layout.from)?;
+    };
+    svg.pieces(&[
+        Piece::Raw(name),
+        Piece::Raw(b", ticks "),
+        Piece::Grouped(layout.from),
+        Piece::Raw(b" to "),
+        Piece::Grouped(layout.scale.until),
+    ])?;
+    if layout.hidden == 0 {
+        return Ok(());
     }
-    Ok(())
+    svg.pieces(&[
+        Piece::Raw(b". Not drawn: the first "),
+        Piece::Grouped(layout.hidden as u64),
+        Piece::Raw(b" spans, and the events before tick "),
+        Piece::Grouped(layout.from),
+    ])
 }
 
 // What the signs mean.
@@ -147,11 +177,13 @@ fn print_number(svg: &mut Svg, tick: Tick, y: u64, free: u64) -> Result<u64, Mem
     if middle < free.saturating_add(half) {
         return Ok(free);
     }
-    svg.place(b"<text text-anchor=\"middle\" x", middle)?;
-    svg.place(b" y", y)?;
-    svg.raw(b">")?;
-    svg.grouped(tick.time)?;
-    svg.raw(b"</text>\n")?;
+    svg.pieces(&[
+        Piece::Place(b"<text text-anchor=\"middle\" x", middle),
+        Piece::Place(b" y", y),
+        Piece::Raw(b">"),
+        Piece::Grouped(tick.time),
+        Piece::Raw(b"</text>\n"),
+    ])?;
     Ok(middle.saturating_add(half).saturating_add(60))
 }
 
@@ -172,9 +204,11 @@ fn print_rows(svg: &mut Svg, tasks: &[Task], scale: &Scale) -> Result<(), Memory
     for (row, task) in tasks.iter().enumerate() {
         let base = base_of(row as u64);
         print_name(svg, task.name.as_slice(), left, base - 60)?;
-        svg.point(br##"<path stroke="#888" d="M"##, left, base)?;
-        svg.point(b"L", right, base)?;
-        svg.raw(b"\"/>\n")?;
+        svg.pieces(&[
+            Piece::Point(br##"<path stroke="#888" d="M"##, left, base),
+            Piece::Point(b"L", right, base),
+            Piece::Raw(b"\"/>\n"),
+        ])?;
     }
     Ok(())
 }
@@ -184,15 +218,17 @@ fn print_name(svg: &mut Svg, name: &[u8], left: u64, y: u64) -> Result<(), Memor
     let size = u64::from(FONT) * 10;
     let room = left.saturating_sub(160);
     let width = text_width(name, FONT).max(1);
-    svg.place(
-        b"<text text-anchor=\"end\" font-size",
-        size.min(room.saturating_mul(size) / width),
-    )?;
-    svg.place(b" x", left.saturating_sub(100))?;
-    svg.place(b" y", y)?;
-    svg.raw(b">")?;
-    svg.name(name)?;
-    svg.raw(b"</text>\n")
+    svg.pieces(&[
+        Piece::Place(
+            b"<text text-anchor=\"end\" font-size",
+            size.min(room.saturating_mul(size) / width),
+        ),
+        Piece::Place(b" x", left.saturating_sub(100)),
+        Piece::Place(b" y", y),
+        Piece::Raw(b">"),
+        Piece::Name(name),
+        Piece::Raw(b"</text>\n"),
+    ])
 }
 
 // The marks of the cuts in the rows and on the axis, and below the axis what each leaves out.
@@ -210,22 +246,32 @@ fn print_cut(svg: &mut Svg, foot: u64, cut: Cut, i: usize) -> Result<(), Memory>
     requires { foot < 2 ^ 32 }
 {
     let (left, right) = (u64::from(cut.left), u64::from(cut.right));
-    svg.place(br##"<rect fill="#fff" x"##, left)?;
-    svg.place(b" y", u64::from(HEAD))?;
-    svg.place(b" width", right.saturating_sub(left))?;
-    svg.place(b" height", foot.saturating_sub(u64::from(HEAD)))?;
-    svg.raw(b"/>\n")?;
+    print_gap(svg, left, right, foot)?;
     print_edge(svg, left, foot)?;
     print_edge(svg, right, foot)?;
-    svg.place(
-        b"<text font-size=\"12\" font-style=\"italic\" text-anchor=\"middle\" x",
-        left.saturating_add(right) / 2,
-    )?;
-    svg.place(b" y", foot + 60)?;
-    svg.raw(b">")?;
+    svg.pieces(&[
+        Piece::Place(
+            b"<text font-size=\"12\" font-style=\"italic\" text-anchor=\"middle\" x",
+            left.saturating_add(right) / 2,
+        ),
+        Piece::Place(b" y", foot + 60),
+        Piece::Raw(b">"),
+    ])?;
     print_letter(svg, i)?;
     svg.raw(b"</text>\n")?;
     print_note(svg, foot, cut, i)
+}
+
+// The white stripe of a cut.
+fn print_gap(svg: &mut Svg, left: u64, right: u64, foot: u64) -> Result<(), Memory> {
+    let head = u64::from(HEAD);
+    svg.pieces(&[
+        Piece::Place(br##"<rect fill="#fff" x"##, left),
+        Piece::Place(b" y", head),
+        Piece::Place(b" width", right.saturating_sub(left)),
+        Piece::Place(b" height", foot.saturating_sub(head)),
+        Piece::Raw(b"/>\n"),
+    ])
 }
 
 // A ragged line at the edge of a cut.
@@ -251,15 +297,19 @@ fn print_note(svg: &mut Svg, foot: u64, cut: Cut, i: usize) -> Result<(), Memory
     let y = u64::from(LINE_HEIGHT)
         .saturating_mul(line as u64)
         .saturating_add(foot + u64::from(AXIS_HEIGHT) - 60);
-    svg.place(b"<text font-size=\"12\" x", x)?;
-    svg.place(b" y", y)?;
-    svg.raw(b"><tspan font-style=\"italic\">")?;
+    svg.pieces(&[
+        Piece::Place(b"<text font-size=\"12\" x", x),
+        Piece::Place(b" y", y),
+        Piece::Raw(b"><tspan font-style=\"italic\">"),
+    ])?;
     print_letter(svg, i)?;
-    svg.raw(b"</tspan>: nothing happens from tick ")?;
-    svg.grouped(cut.start)?;
-    svg.raw(b" to ")?;
-    svg.grouped(cut.end)?;
-    svg.raw(b"</text>\n")
+    svg.pieces(&[
+        Piece::Raw(b"</tspan>: nothing happens from tick "),
+        Piece::Grouped(cut.start),
+        Piece::Raw(b" to "),
+        Piece::Grouped(cut.end),
+        Piece::Raw(b"</text>\n"),
+    ])
 }
 
 // The letter of a cut: a, b and so on.

@@ -13,6 +13,25 @@ pub struct Svg {
     text: Vec<u8>,
 }
 
+/// What is written at once.
+#[derive(Clone, Copy)]
+pub enum Piece<'a> {
+    /// Markup or text of the printer's own.
+    Raw(&'a [u8]),
+    /// The bytes of a name.
+    Name(&'a [u8]),
+    /// A number.
+    Number(u64),
+    /// A number with a comma before each three digits.
+    Grouped(u64),
+    /// A length, as `length` writes it.
+    Length(u64),
+    /// An attribute, as `place` writes it.
+    Place(&'a [u8], u64),
+    /// A place of a path, as `point` writes it.
+    Point(&'a [u8], u64, u64),
+}
+
 impl Svg {
     /// An empty page.
     pub fn new(alloc: Global) -> Svg {
@@ -25,6 +44,27 @@ impl Svg {
     pub fn into_row(self) -> Row<u8> {
         let Svg { text } = self;
         Row::from_vec(text)
+    }
+
+    /// Writes pieces, one after the other.
+    pub fn pieces(&mut self, pieces: &[Piece]) -> Result<(), Memory> {
+        for piece in pieces {
+            self.piece(*piece)?;
+        }
+        Ok(())
+    }
+
+    // Writes a piece.
+    fn piece(&mut self, piece: Piece) -> Result<(), Memory> {
+        match piece {
+            Piece::Raw(text) => self.raw(text),
+            Piece::Name(name) => self.name(name),
+            Piece::Number(number) => self.number(number),
+            Piece::Grouped(number) => self.grouped(number),
+            Piece::Length(tenths) => self.length(tenths),
+            Piece::Place(before, tenths) => self.place(before, tenths),
+            Piece::Point(command, x, y) => self.point(command, x, y),
+        }
     }
 
     /// Writes markup or text of the printer's own.
@@ -91,18 +131,22 @@ impl Svg {
     pub fn arrow(&mut self, x: u64, from: u64, to: u64, head: u64) -> Result<(), Memory>
         requires { head ≤ 30 }
     {
-        self.point(b"<path d=\"M", x, from)?;
-        self.raw(b"V")?;
-        self.length(to)?;
+        self.pieces(&[
+            Piece::Point(b"<path d=\"M", x, from),
+            Piece::Raw(b"V"),
+            Piece::Length(to),
+        ])?;
         if head > 0 {
             let behind = if from < to {
                 to.saturating_sub(2 * head)
             } else {
                 to.saturating_add(2 * head)
             };
-            self.point(b"M", x.saturating_sub(head), behind)?;
-            self.point(b"L", x, to)?;
-            self.point(b"L", x.saturating_add(head), behind)?;
+            self.pieces(&[
+                Piece::Point(b"M", x.saturating_sub(head), behind),
+                Piece::Point(b"L", x, to),
+                Piece::Point(b"L", x.saturating_add(head), behind),
+            ])?;
         }
         self.raw(b"\"/>\n")
     }
