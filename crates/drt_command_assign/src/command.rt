@@ -21,9 +21,9 @@ ghost use Rattle.drt_command_assign.specs.Text.{no_order_text};
 
 use crate::text::print_stuck;
 use drt_assign::{AssignAnswer, Stuck, assign, budgets_suffice_for_assign};
+use drt_claims::{Dossier, Evidence};
 use drt_command::{Promised, Report, Unmade, finish, read_input, stop_reading};
 use drt_command_files::{file_input, make_report, read_set};
-use drt_claims::{Dossier, Evidence};
 use drt_file::laws::texts_read_as_one_set;
 use drt_graph::Graphs;
 use drt_io::{Sink, Source};

@@ -14,9 +14,9 @@ ghost use Rattle.drt_command.specs.Rules.{IsCause};
 ghost use Rattle.drt_command.specs.Runs.{IsRun};
 ghost use Rattle.drt_command_bench.specs.Bench.{AreCounts, Benches, EdfSays, FixedSays, bench_rules};
 
+use drt_claims::Evidence;
 use drt_command::{Input, Promised, Report, Unmade, finish, read_input, stop_reading};
 use drt_edf::{EdfAnswer, EdfTrail, analyse_edf};
-use drt_claims::Evidence;
 use drt_gen::{deadlines_are_constrained, generate, sets_keep_limits};
 use drt_gen_scale::scales_are_small;
 use drt_graph::{GraphError, Graphs, check};

@@ -10,10 +10,10 @@ ghost use Rattle.drt_command_edf.specs.Besides.{Besides, trail_of};
 ghost use Rattle.drt_command_edf.specs.Edf.{IsOutOfReach, beyond_code, edf_rules};
 ghost use Rattle.drt_command_files.specs.TaskFiles.{IsAccepted};
 
+use drt_claims::Evidence;
 use drt_command::{Promised, Report, Unmade, finish, read_input, stop_reading};
 use drt_command_files::{file_input, make_report, read_set};
 use drt_edf::{EdfAnswer, EdfTrail, analyse_edf};
-use drt_claims::Evidence;
 use drt_file::laws::texts_read_as_one_set;
 use drt_graph::Graphs;
 use drt_horizon::Beyond;

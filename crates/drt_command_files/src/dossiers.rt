@@ -4,8 +4,8 @@ ghost use Rattle.drt_claims.specs.Ranges.{IsInRange};
 ghost use Rattle.drt_evidence.specs.Text.{text};
 ghost use Rattle.drt_command_files.specs.Dossiers.{evidence_status};
 
-use drt_command::{Report, Unmade};
 use drt_claims::{Dossier, Evidence};
+use drt_command::{Report, Unmade};
 use drt_model::{Policy, TaskSet};
 use drt_outcome::Trail;
 use drt_outcome::outcome::{NO, ONE, UNDECIDED, YES};

@@ -16,9 +16,9 @@ ghost use Rattle.drt_command_margin.specs.Steps.{IsProbeCause, IsSpotOf};
 
 use crate::spot::Spot;
 use crate::text::print_margin;
+use drt_claims::Evidence;
 use drt_command::{Promised, Report, Unmade, finish, read_input, stop_reading};
 use drt_command_files::{file_input, make_report, read_set, spot_of};
-use drt_claims::Evidence;
 use drt_file::laws::texts_read_as_one_set;
 use drt_horizon::Beyond;
 use drt_io::{Sink, Source};

@@ -14,9 +14,9 @@ ghost use Rattle.drt_command_response.specs.Besides.{Besides, response_trail};
 ghost use Rattle.drt_command_response.specs.Response.{response_rules};
 ghost use Rattle.drt_command_files.specs.TaskFiles.{IsAccepted};
 
+use drt_claims::{Dossier, Evidence};
 use drt_command::{Promised, Report, Unmade, finish, read_input, stop_reading};
 use drt_command_files::{file_input, make_report, read_set};
-use drt_claims::{Dossier, Evidence};
 use drt_file::laws::texts_read_as_one_set;
 use drt_graph::Graphs;
 use drt_io::{Sink, Source};

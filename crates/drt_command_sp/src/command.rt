@@ -13,9 +13,9 @@ ghost use Rattle.drt_command_sp.specs.Besides.{Besides, trail_after, trail_of};
 ghost use Rattle.drt_command_sp.specs.Sp.{sp_rules};
 ghost use Rattle.drt_command_files.specs.TaskFiles.{IsAccepted};
 
+use drt_claims::Dossier;
 use drt_command::{Promised, Report, Unmade, finish, read_input, stop_reading};
 use drt_command_files::{file_input, make_report, read_set};
-use drt_claims::Dossier;
 use drt_file::laws::texts_read_as_one_set;
 use drt_fixed::{Analysed, analyse_fixed};
 use drt_graph::Graphs;

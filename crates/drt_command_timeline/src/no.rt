@@ -7,8 +7,8 @@ ghost use Rattle.drt_command_timeline.specs.Timeline.{DrawsNo, IsJudgedDossier, 
 
 use crate::drawing::draw;
 use drt_check::{Judgement, judged_once};
-use drt_command::{Command, Input, Report, Unmade};
 use drt_claims::{Dossier, Evidence};
+use drt_command::{Command, Input, Report, Unmade};
 use drt_evidence::{DossierError, DossierFault};
 use drt_model::Release;
 use drt_outcome::fault::{DOSSIER_TOO_LONG, Fault};

@@ -1,7 +1,7 @@
 ghost use Rattle.std.specs.Prelude.{◌≤◌};
 
-use drt_edf::{EdfAnswer, analyse_edf, has_wave_table};
 use drt_claims::Evidence;
+use drt_edf::{EdfAnswer, analyse_edf, has_wave_table};
 use drt_fixtures::{Shape, make_set};
 use drt_gen::generate;
 use drt_graph::{Graphs, check};

@@ -1,6 +1,6 @@
 //! Worked noes.
-use drt_edf::{EdfAnswer, analyse_edf};
 use drt_claims::Evidence;
+use drt_edf::{EdfAnswer, analyse_edf};
 use drt_fixtures::shapes::BRANCHING;
 use drt_fixtures::{Shape, make_set};
 use drt_graph::check;

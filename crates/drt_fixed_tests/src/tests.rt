@@ -3,8 +3,8 @@ ghost use Rattle.std.specs.Prelude.{◌≡◌, ◌≤◌, IfOk};
 ghost use Rattle.drt_model.specs.Constrained.{AreConstrained};
 ghost use Rattle.drt_claims.specs.Claims.{graphs_of};
 
-use drt_drawn::{Draws, drawn_set};
 use drt_claims::{Dossier, Evidence};
+use drt_drawn::{Draws, drawn_set};
 use drt_evidence::print;
 use drt_fixed::{Analysed, ByStates, analyse_fixed, decide_by_states};
 use drt_fixtures::{Shape, make_set};

@@ -2,8 +2,8 @@
 ghost use Rattle.std.specs.Prelude.{ℕ, IfOk};
 ghost use Rattle.drt_sp.specs.Answers.{IsAnswer};
 
-use drt_drawn::{Draws, drawn_set};
 use drt_claims::Dossier;
+use drt_drawn::{Draws, drawn_set};
 use drt_evidence::print;
 use drt_model::{Policy, TaskSet};
 use drt_pool::Gate;
