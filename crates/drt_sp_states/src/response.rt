@@ -93,23 +93,61 @@ fn search_near<G: Gate, R: Threads + Wait + Sync>(
 {
     let mut search = open_search(alloc, subject)?;
     let mut reached: Option<Reached> = None;
+    if take_waves(crew, alloc, subject, budget, &mut search, &mut reached)? {
+        end_of(alloc, subject, &search.table, reached)
+    } else {
+        Ok(Responded::Spent)
+    }
+}
+
+// Takes waves until no state waits. Whether it comes to that.
+fn take_waves<G: Gate, R: Threads + Wait + Sync>(
+    crew: &Crew<'_, G, R>,
+    alloc: Global,
+    subject: Subject<'_>,
+    budget: u64,
+    search: &mut Search,
+    reached: &mut Option<Reached>,
+) -> Result<bool, Memory>
+    requires subject { IsSubject subject }
+    requires reached { IfSome reached.old (IsReachedBy subject) }
+    ensures { IfSome reached.new (IsReachedBy subject.entry) }
+{
     let mut left = budget;
     for _wave in 0..budget {
-        let wave = take_wave(crew, alloc, subject, aim_of(&reached), &mut search, left)?;
+        let wave = take_wave(crew, alloc, subject, aim_of(reached), search, left)?;
         left = left.saturating_sub(wave.taken);
-        match try_wave(alloc, subject, &mut search, &mut reached, &wave)? {
-            Outlook::Stands => put_wave(alloc, aim_of(&reached), &mut search, wave)?,
-            Outlook::Begins => {}
-            Outlook::Fails => break,
+        if !go_on(alloc, subject, search, reached, wave)? {
+            return Ok(false);
         }
         if search.table.is_done() {
-            return end_of(alloc, subject, &search.table, reached);
+            return Ok(true);
         }
         if left == 0 {
-            break;
+            return Ok(false);
         }
     }
-    Ok(Responded::Spent)
+    Ok(false)
+}
+
+// Goes on by what is found of a wave. Whether the search can go on.
+fn go_on(
+    alloc: Global,
+    subject: Subject<'_>,
+    search: &mut Search,
+    reached: &mut Option<Reached>,
+    wave: Wave,
+) -> Result<bool, Memory>
+    requires subject { IsSubject subject }
+    requires reached { IfSome reached.old (IsReachedBy subject) }
+    ensures { IfSome reached.new (IsReachedBy subject.entry) }
+{
+    match try_wave(alloc, subject, search, reached, &wave)? {
+        Outlook::Stands => put_wave(alloc, aim_of(reached), search, wave)?,
+        Outlook::Begins => {}
+        Outlook::Fails => return Ok(false),
+    }
+    Ok(true)
 }
 
 // What is to be found where walks reach this.

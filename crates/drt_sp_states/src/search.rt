@@ -44,11 +44,25 @@ pub fn search_states<G: Gate, R: Threads + Wait + Sync>(
 {
     let crew = Crew { rt, workers, gate };
     let mut search = open_search(alloc, subject)?;
+    take_waves(&crew, alloc, subject, budget, &mut search)
+}
+
+// Takes waves until there is an answer or the budget is spent.
+fn take_waves<G: Gate, R: Threads + Wait + Sync>(
+    crew: &Crew<'_, G, R>,
+    alloc: Global,
+    subject: Subject<'_>,
+    budget: u64,
+    search: &mut Search,
+) -> Result<Searched, Memory>
+    requires { IsSubject subject }
+    ensures { IfOk result (IsAnswerTo subject.entry) }
+{
     let mut left = budget;
     for _wave in 0..budget {
-        let wave = take_wave(&crew, alloc, subject, Aim::Deadline, &mut search, left)?;
+        let wave = take_wave(crew, alloc, subject, Aim::Deadline, search, left)?;
         left = left.saturating_sub(wave.taken);
-        if let Some(answer) = go_on(alloc, subject, &mut search, wave)? {
+        if let Some(answer) = go_on(alloc, subject, search, wave)? {
             return Ok(answer);
         }
         if left == 0 {

@@ -1,5 +1,5 @@
 //! Walks and what they ask for.
-ghost use Rattle.std.specs.Prelude.{◌≡◌, ◌≤◌, IfOk, IfSome};
+ghost use Rattle.std.specs.Prelude.{◌≡◌, ◌≤◌, IfOk, IfSome, OnOk};
 ghost use Rattle.drt_sp_states.specs.Walks.{IsMade};
 
 use drt_graph::Graph;
@@ -33,9 +33,8 @@ pub(crate) fn make_walk(
         return Ok(None);
     };
     for i in 1..vertices.len() {
-        match extend_walk(alloc, graph, bound, made, vertices[i])? {
-            Some(longer) => made = longer,
-            None => return Ok(None),
+        if !extend_walk(alloc, graph, bound, vertices[i], &mut made)? {
+            return Ok(None);
         }
     }
     Ok(Some(made))
@@ -58,29 +57,28 @@ fn begin_walk(alloc: Global, graph: &Graph, bound: u64, vertex: u32) -> Result<O
     Ok(Some(Made { walk, label }))
 }
 
-// The walk with a further vertex.
+// Adds a further vertex to the walk. False where it isn't such a walk.
 fn extend_walk(
     alloc: Global,
     graph: &Graph,
     bound: u64,
-    made: Made,
     vertex: u32,
-) -> Result<Option<Made>, Memory>
-    requires { IsMade graph.now bound made }
-    ensures { IfOk result (λ r. IfSome r (IsMade graph.now bound)) }
+    made: &mut Made,
+) -> Result<bool, Memory>
+    requires { IsMade graph.now bound made.old }
+    ensures { OnOk result (IsMade graph.now bound made.new) }
 {
     let at = made.label.vertex();
     let count = graph.vertex_count();
     if at >= count || vertex >= count || made.label.offset() >= bound {
-        return Ok(None);
+        return Ok(false);
     }
     let Some(sep) = graph.separation(at, vertex) else {
-        return Ok(None);
+        return Ok(false);
     };
     labels_of_walks();
     let wcet = graph.vertex(vertex).wcet;
-    let label = made.label.extend(alloc, sep, vertex, wcet)?;
-    let mut walk = made.walk;
-    walk.push(vertex)?;
-    Ok(Some(Made { walk, label }))
+    made.label = made.label.extend(alloc, sep, vertex, wcet)?;
+    made.walk.push(vertex)?;
+    Ok(true)
 }
