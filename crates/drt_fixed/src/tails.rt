@@ -34,9 +34,24 @@ pub(crate) fn find_tails<G: Gate, R: Threads + Wait + Sync>(
     let bounds = find_bounds(crew.alloc, graphs, order)?;
     let higher = &order[..order.len().saturating_sub(1)];
     let mut ahead = find_ahead(crew, graphs, higher, &bounds)?;
-    let mut tails = Vec::new(crew.alloc);
+    gather_tails(crew.alloc, graphs, higher, &bounds, &mut ahead)
+}
+
+// The tails of the tasks in this order, over what is found ahead of them. None where one takes too many steps.
+fn gather_tails(
+    alloc: Global,
+    graphs: &Graphs,
+    higher: &[u32],
+    bounds: &[u32],
+    ahead: &mut Vec<Option<Option<TailClaim>>>,
+) -> Result<Option<Vec<TailClaim>>, Memory>
+    requires order { AreTasks graphs.now higher.now }
+    requires ahead { AreThere (λ i tail. IfSome tail HasRisingCurves) ahead.old.items }
+    ensures { IfOk result (λ r. IfSome r (λ tails. All HasRisingCurves tails.items)) }
+{
+    let mut tails = Vec::new(alloc);
     for i in 0..higher.len() {
-        match next_tail(crew.alloc, graphs, higher, &bounds, i, &mut ahead)? {
+        match next_tail(alloc, graphs, higher, bounds, i, ahead)? {
             Some(tail) => tails.push(tail)?,
             None => return Ok(None),
         }

@@ -1,11 +1,12 @@
 //! The vertices to be searched, and the search of each.
-ghost use Rattle.std.specs.Prelude.{◌<◌, ◌≤◌, All, IfOk, IfSome, length};
+ghost use Rattle.std.specs.Prelude.{◌≡◌, ◌<◌, ◌≤◌, All, IfOk, IfSome, length};
+ghost use Rattle.drt_model.specs.Digraph.{vertex_count};
 ghost use Rattle.drt_sp_states.specs.Subjects.{IsSubject};
 ghost use Rattle.drt_fixed.specs.Searching.{IsGiven, IsPlaced};
 
 use crate::releases::VertexAt;
 use drt_ahead::Crew;
-use drt_graph::Graphs;
+use drt_graph::{Graph, Graphs};
 use drt_model::{Memory, Row};
 use drt_pool::Gate;
 use drt_sp_states::{Searched, Subject, search_states};
@@ -64,18 +65,24 @@ fn add_vertices(
     let task = given.order[place];
     let graph = given.graphs.graph(task);
     for vertex in 0..graph.vertex_count() {
-        let job = graph.vertex(vertex);
-        vertices.push(PlacedVertex {
-            place,
-            at: VertexAt {
-                task,
-                vertex,
-                deadline: job.deadline,
-            },
-            wcet: job.wcet,
-        })?;
+        vertices.push(placed_vertex(graph, place, task, vertex))?;
     }
     Ok(())
+}
+
+// A vertex of the graph of the task at a place.
+fn placed_vertex(graph: &Graph, place: usize, task: u32, vertex: u32) -> PlacedVertex
+    requires { vertex < vertex_count graph.now }
+    ensures { result.place ≡ place }
+{
+    let job = graph.vertex(vertex);
+    let at = VertexAt {
+        task,
+        vertex,
+        deadline: job.deadline,
+    };
+    let wcet = job.wcet;
+    PlacedVertex { place, at, wcet }
 }
 
 /// The search of a vertex, which is within the limits of a set, by so many states at most.
