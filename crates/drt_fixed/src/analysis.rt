@@ -56,52 +56,15 @@ pub fn analyse_fixed<G: Gate, R: Threads + Wait + Sync>(
         FixedAnswer::Undecided(trail) if budget <= ALLOWANCE => return Ok(undecided(set, trail)),
         FixedAnswer::Undecided(_) => {}
     }
-    analyse_further(rt, alloc, set, graphs, workers, budget, gate)
-}
-
-// The answer where few steps were too few: by the states of each vertex, or else by tables and frontiers that have the whole budget.
-fn analyse_further<G: Gate, R: Threads + Wait + Sync>(
-    rt: &R,
-    alloc: Global,
-    set: TaskSet,
-    graphs: &Graphs,
-    workers: u32,
-    budget: u64,
-    gate: &G,
-) -> Result<Analysed, Memory>
-    requires constrained { AreConstrained set.tasks }
-    requires graphs { graphs.now ≡ graphs_of set.tasks }
-    requires workers { (1 ≤ workers) × (workers ≤ 16) }
-    requires some { 1 ≤ budget }
-    requires few { budget ≤ 1000000 }
-    ensures { IfOk result (IsAnalysed set budget) }
-{
-    match decide_by_states(rt, alloc, set, graphs, workers, budget, gate)? {
-        ByStates::Decided(dossier) => Ok(Analysed {
-            dossier,
-            trail: None,
-        }),
-        ByStates::Nothing(set) => analyse_by_trees(rt, alloc, set, graphs, workers, budget, gate),
-    }
-}
-
-// The answer by tables and frontiers that have the whole budget.
-fn analyse_by_trees<G: Gate, R: Threads + Wait + Sync>(
-    rt: &R,
-    alloc: Global,
-    set: TaskSet,
-    graphs: &Graphs,
-    workers: u32,
-    budget: u64,
-    gate: &G,
-) -> Result<Analysed, Memory>
-    requires constrained { AreConstrained set.tasks }
-    requires graphs { graphs.now ≡ graphs_of set.tasks }
-    requires workers { (1 ≤ workers) × (workers ≤ 16) }
-    requires some { 1 ≤ budget }
-    requires few { budget ≤ 1000000 }
-    ensures { IfOk result (IsAnalysed set budget) }
-{
+    let set = match decide_by_states(rt, alloc, set, graphs, workers, budget, gate)? {
+        ByStates::Decided(dossier) => {
+            return Ok(Analysed {
+                dossier,
+                trail: None,
+            });
+        }
+        ByStates::Nothing(set) => set,
+    };
     match drt_sp::analyse_fixed(rt, alloc, &set, graphs, workers, budget, gate)? {
         FixedAnswer::Done(evidence) => Ok(decided(set, evidence)),
         FixedAnswer::Undecided(trail) => Ok(undecided(set, trail)),

@@ -1,5 +1,5 @@
 //! Searches that workers make ahead of the one that is next.
-ghost use Rattle.std.specs.Prelude.{◌≡◌, ◌<◌, ◌≤◌, All, IfOk, length};
+ghost use Rattle.std.specs.Prelude.{◌<◌, ◌≤◌, All, IfOk, length};
 ghost use denote.Param.Send.{IsSync};
 ghost use Rattle.drt_fixed.specs.Searching.{IsGiven, IsPlaced};
 
@@ -122,17 +122,9 @@ fn latest_first(alloc: Global, left: &[PlacedVertex]) -> Result<Vec<u32>, Memory
     ensures places { IfOk result (λ places. All (λ i. i < length places.items) places.items) }
     ensures most { IfOk result (λ places. length places.items ≤ length left.now) }
 {
-    let deadlines = deadlines_of(alloc, left)?;
-    largest_first(alloc, deadlines.as_slice())
-}
-
-// The deadlines of vertices.
-fn deadlines_of(alloc: Global, left: &[PlacedVertex]) -> Result<Vec<u64>, Memory>
-    ensures { IfOk result (λ deadlines. length deadlines.items ≡ length left.now) }
-{
     let mut deadlines = Vec::with_capacity(alloc, left.len())?;
     for vertex in left {
         deadlines.push(u64::from(vertex.at.deadline))?;
     }
-    Ok(deadlines)
+    largest_first(alloc, deadlines.as_slice())
 }

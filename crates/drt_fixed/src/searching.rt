@@ -7,9 +7,9 @@ ghost use Rattle.drt_fixed.specs.Answers.{IsOfStates};
 ghost use Rattle.drt_fixed.specs.Searching.{IsFound, IsGiven, IsPlaced};
 
 use crate::looking::{Ahead, search_next};
-use crate::releases::{VertexAt, refusal};
+use crate::releases::refusal;
 use crate::tails::find_tails;
-use crate::vertices::{Given, PlacedVertex, list_vertices};
+use crate::vertices::{Given, list_vertices};
 use drt_ahead::Crew;
 use drt_check_states::find_crests;
 use drt_check_trees::priority_order;
@@ -18,7 +18,7 @@ use drt_graph::Graphs;
 use drt_model::{Memory, Row, TaskSet};
 use drt_pool::Gate;
 use drt_sp_states::Searched;
-use drt_states::{SearchClaim, StateClaim, TailClaim};
+use drt_states::{SearchClaim, TailClaim};
 use std::alloc::Global;
 use std::sync::Wait;
 use std::thread::Threads;
@@ -70,8 +70,7 @@ fn are_tasks(graphs: &Graphs, order: &[u32]) -> bool
     ensures { IsTrue result ↔ AreTasks graphs.now order.now }
 {
     let count = graphs.count();
-    let is_task = move |task: &u32| *task < count;
-    order.iter().all(is_task)
+    order.iter().all(|task| *task < count)
 }
 
 // The evidence over these tails of the tasks, which stand in order of priority.
@@ -121,35 +120,19 @@ fn search_all<G: Gate, R: Threads + Wait + Sync>(
     for number in 0..vertices.len() {
         let at = vertices[number].at;
         match search_next(crew, given, &vertices[number..], &mut ahead)? {
-            Searched::Passes(states) => all.push(claim_of(at, states))?,
-            Searched::Misses(walks) => return refused(crew.alloc, given, vertices[number], walks),
+            Searched::Passes(states) => all.push(SearchClaim {
+                task: at.task,
+                vertex: at.vertex,
+                states,
+            })?,
+            Searched::Misses(walks) => {
+                let higher = &given.order[..vertices[number].place];
+                let evidence = refusal(crew.alloc, given.graphs, higher, walks.as_slice(), at)?;
+                return Ok(Found::Refusal(evidence));
+            }
             Searched::Spent => return Ok(Found::Nothing),
         }
     }
     all.sort_by_key(|search: &SearchClaim| (search.task, search.vertex))?;
     Ok(Found::Searches(all))
-}
-
-// The no of a vertex that misses by these walks.
-fn refused(
-    alloc: Global,
-    given: Given<'_>,
-    vertex: PlacedVertex,
-    walks: Row<Row<u32>>,
-) -> Result<Found, Memory>
-    requires { IsPlaced given vertex }
-    ensures { IfOk result IsFound }
-{
-    let higher = &given.order[..vertex.place];
-    let evidence = refusal(alloc, given.graphs, higher, walks.as_slice(), vertex.at)?;
-    Ok(Found::Refusal(evidence))
-}
-
-// The search of a vertex that passes by these states.
-fn claim_of(at: VertexAt, states: Row<StateClaim>) -> SearchClaim {
-    SearchClaim {
-        task: at.task,
-        vertex: at.vertex,
-        states,
-    }
 }

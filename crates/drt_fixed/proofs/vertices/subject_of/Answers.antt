@@ -1,6 +1,6 @@
 -- The first places of what all searches are given.
-use Rattle.std.proofs.Common.{◌<◌, ℕ, length, arith}
-use Rattle.std.proofs.lemmas.List.{length-take}
+use Rattle.std.proofs.Common.{◌<◌, length, arith}
+use Rattle.std.proofs.lemmas.Grind.{common_steps}
 use Rattle.std.proofs.lemmas.List.Elements.{All-take}
 use Rattle.drt_check_states.specs.Crests.{IsCrest}
 use Rattle.drt_check_states.specs.Curves.{HasRisingCurves}
@@ -12,8 +12,8 @@ returns c = record {
   order = All-take (λ k. k < length c.args.given.graphs.now) c.args.vertex.place c.args.given.order.now c.requires.given.order;
   tails = All-take HasRisingCurves c.args.vertex.place c.args.given.tails.now c.requires.given.tails;
   crests = zip_take IsCrest c.args.vertex.place c.args.given.tails.now c.args.given.crests.now c.requires.given.crests;
-  few = omega (arith, length-take {A = ℕ});
-  wcet = omega arith;
-  some = omega arith;
-  most = omega arith;
+  few = grind (arith, common_steps);
+  wcet = grind (arith, common_steps);
+  some = grind (arith, common_steps);
+  most = grind (arith, common_steps);
 }
