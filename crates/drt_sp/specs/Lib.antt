@@ -7,6 +7,7 @@ pub mod TaskTrees
 pub mod Searches
 pub mod Gathering
 pub mod Claims
+pub mod Written
 pub mod Answers
 pub mod Chosen
 pub mod Vertices
