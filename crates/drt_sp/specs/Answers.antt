@@ -24,11 +24,11 @@ use Rattle.drt_claims.specs.declared.evidence.Evidence.{Evidence}
 use Rattle.drt_claims.specs.declared.evidence.Evidence.TheVariants.{EdfYes, EdfNo, UtilisationOne, FixedYes, FixedStates, FixedNo, Undecided}
 use Rattle.drt_claims.specs.declared.evidence.ProofClaim.{ProofClaim}
 use Rattle.drt_claims.specs.declared.evidence.TreeClaim.{TreeClaim}
-use Rattle.drt_sp.specs.Claims.{IsEagerProof}
 use Rattle.drt_sp.specs.Evidence.{under_fixed}
 use Rattle.drt_sp.specs.Items.{IsFailure, IsSpentRefinement}
 use Rattle.drt_sp.specs.Needs.{AreFewLeaves}
 use Rattle.drt_sp.specs.TreeClaims.{IsSpentSearch, IsTreeOf}
+use Rattle.drt_sp.specs.Written.{IsEagerProof}
 use Rattle.drt_sp.specs.declared.answer.FixedAnswer.{FixedAnswer}
 use Rattle.drt_sp.specs.declared.answer.FixedAnswer.TheVariants as answers
 use Rattle.drt_trails.specs.declared.FixedTrail.{FixedTrail}
@@ -45,7 +45,7 @@ abbrev pub HigherMeetDeadlines : List Task → ℕ → Type 0
 HigherMeetDeadlines tasks k = (i : ℕ) → i < length tasks → (task_at tasks i).priority < (task_at tasks k).priority → MeetsDeadlines tasks i
 
 -- A yes: the set is schedulable, the evidence is accepted, each tree has exactly the labels of walks that no other one dominates, and each
--- proof splits only where no time passes and passes with the least time.
+-- proof passes with the least time, or splits where no time passes, at the node with the most walks below it.
 pub record IsExactYes (set : Contents) (trees : List TreeClaim) (proofs : List ProofClaim) : Type 0 where
   pub schedulable : Schedulable set.tasks Fixed
   pub accepted : Accepts (under_fixed set (FixedYes trees proofs))
