@@ -26,7 +26,7 @@ halved_narrow : (m : ℕ) (nodes : List ℕ) (place : ℕ) (stack : List (List �
 halved_narrow m nodes place stack None l is = tt
 halved_narrow m nodes place stack (Some p) l is = (omega (arith, length-set nodes place p.0), (omega (arith, length-set nodes place p.1), is))
 
-after_narrow : (m : ℕ) (trees : List TreeClaim) (item : Item) (stack : List (List ℕ)) → AreNarrow m stack → IsNarrow m (after trees item stack)
+pub after_narrow : (m : ℕ) (trees : List TreeClaim) (item : Item) (stack : List (List ℕ)) → AreNarrow m stack → IsNarrow m (after trees item stack)
 after_narrow m trees item [] is = tt
 after_narrow m trees (Pass t) (nodes ∷ stack) is = is.1
 after_narrow m trees (Split place) (nodes ∷ stack) is = halved_narrow m nodes place stack (parts_in (slice_get trees place) (slice_get nodes place)) is.0 is.1
@@ -45,7 +45,7 @@ module _ (trees more : List TreeClaim) where
   halved_some nodes place stack next None h = absurd (none-some next h)
   halved_some nodes place stack next (Some q) h = (q, refl)
 
-  after_more : (item : Item) (stack next : List (List ℕ)) → after trees item stack ≡ Some next → after (trees ++ more) item stack ≡ after trees item stack
+  pub after_more : (item : Item) (stack next : List (List ℕ)) → after trees item stack ≡ Some next → after (trees ++ more) item stack ≡ after trees item stack
   after_more item [] next h = refl
   after_more (Pass t) (nodes ∷ stack) next h = refl
   after_more (Split place) (nodes ∷ stack) next h =

@@ -131,6 +131,7 @@ proof_kept tasks order i k trees claim l p is = record {
   vertex = is.vertex;
   range = is.range;
   forest = is.forest;
+  forest_is = is.forest_is;
   lows = is.lows;
   roots = is.roots;
   claimed = subst (λ ts. AreClaimsOf (greatest_deadline tasks) is.forest (first_graphs tasks order i) is.lows is.roots ts) (sym (take-append-le i trees (claim ∷ []) l)) is.claimed;
@@ -151,9 +152,9 @@ proved_kept tasks order m trees claim rows l proved = record {
 
 -- One more task's proofs, in its row.
 pub proved_more : (tasks : List Task) (order : List ℕ) → IsOrder tasks order → (m k : ℕ) → slice_get order m ≡ Some k → (f : Plain) (roots : List ℕ) (trees : List TreeClaim)
-    → AreGrown tasks order m f roots trees → (rows : List (List ProofClaim)) → AreProved tasks order m trees rows → FirstPass tasks order (m + 1)
+    → IsForest f → AreGrown tasks order m f roots trees → (rows : List (List ProofClaim)) → AreProved tasks order m trees rows → FirstPass tasks order (m + 1)
     → (proofs : List ProofClaim) → AreVertexProofs f roots (graph_at tasks k) k (vertex_count (graph_at tasks k)) proofs → AreProved tasks order (m + 1) trees (set rows k proofs)
-proved_more tasks order order_is m k at f roots trees grown rows proved first proofs are = record {
+proved_more tasks order order_is m k at f roots trees forest grown rows proved first proofs are = record {
   count = omega (arith, proved.count, length-set rows k proofs);
   passed = first;
   each = λ i j l here. elim (cases_lt i m) [
@@ -183,6 +184,7 @@ proved_more tasks order order_is m k at f roots trees grown rows proved first pr
       vertex = is.vertex;
       range = is.range;
       forest = f;
+      forest_is = forest;
       lows = grown.lows;
       roots = roots;
       claimed = subst (λ ts. AreClaimsOf (greatest_deadline tasks) f (first_graphs tasks order m) grown.lows roots ts) (sym (take_all m trees (omega (arith, count)))) grown.claimed;

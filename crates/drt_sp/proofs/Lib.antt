@@ -28,5 +28,7 @@ pub mod ShortWalks
 pub mod TaskTrees
 pub mod TreeSearches
 pub mod Translated
+pub mod Counted
+pub mod Eagerness
 mod Ended
 mod EndsAhead

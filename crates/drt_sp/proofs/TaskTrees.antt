@@ -64,10 +64,10 @@ get_past : {A : Type 0} (xs ys : List A) (k : ℕ) → slice_get (xs ++ ys) (len
 get_past [] ys k = ap (λ n. slice_get ys n) (let e : 0 + k ≡ k = omega arith in e)
 get_past (x ∷ xs) ys k = ap (λ n. slice_get (x ∷ (xs ++ ys)) n) (let e : suc (length xs) + k ≡ suc (length xs + k) = omega arith in e) ∙ get_past xs ys k
 
-parts_before : (claim : TreeClaim) (k : ℕ) → k < length claim.walks → parts claim k ≡ None
+pub parts_before : (claim : TreeClaim) (k : ℕ) → k < length claim.walks → parts claim k ≡ None
 parts_before claim k l = let t : nat_lt k (length claim.walks) ≡ true = grind (arith, nat_tests) in rw t refl
 
-parts_after : (claim : TreeClaim) (k : ℕ) (p : Pair) → length claim.walks ≤ k → slice_get claim.pairs (k - length claim.walks) ≡ Some p
+pub parts_after : (claim : TreeClaim) (k : ℕ) (p : Pair) → length claim.walks ≤ k → slice_get claim.pairs (k - length claim.walks) ≡ Some p
     → ◌≡◌ {A = Option (ℕ × ℕ)} (parts claim k) (Some (p.left, p.right))
 parts_after claim k p l at = let t : nat_lt k (length claim.walks) ≡ false = grind (arith, nat_tests) in rw (t, at) refl
 

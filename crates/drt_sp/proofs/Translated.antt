@@ -19,33 +19,33 @@ use Rattle.drt_sp.specs.Claims.{AreClaimsOf}
 use Rattle.drt_sp.specs.Items.{AreItems, AreHalves, none, pass, split}
 
 -- the numbers of nodes of the trees at the places, each less the low of its tree
-abbrev lower : List ℕ → List ℕ → List ℕ
+abbrev pub lower : List ℕ → List ℕ → List ℕ
 lower lows [] = []
 lower [] (n ∷ nodes) = []
 lower (low ∷ lows) (n ∷ nodes) = (n - low) ∷ lower lows nodes
 
-abbrev lower_all : List ℕ → List (List ℕ) → List (List ℕ)
+abbrev pub lower_all : List ℕ → List (List ℕ) → List (List ℕ)
 lower_all lows stack = map (lower lows) stack
 
 module _ (bound : ℕ) (f : Plain) where
   -- the node is one of the claimed tree
-  record IsIn (g : Digraph) (claim : TreeClaim) (low n : ℕ) : Type 0 where
-    top : ℕ
-    claim_is : IsClaimOf g bound f low top claim
-    from : low ≤ n
-    to : n ≤ low + root claim
+  pub record IsIn (g : Digraph) (claim : TreeClaim) (low n : ℕ) : Type 0 where
+    pub top : ℕ
+    pub claim_is : IsClaimOf g bound f low top claim
+    pub from : low ≤ n
+    pub to : n ≤ low + root claim
 
   -- each node is one of the tree at its place
-  abbrev AreIn : List Digraph → List TreeClaim → List ℕ → List ℕ → Type 0
+  abbrev pub AreIn : List Digraph → List TreeClaim → List ℕ → List ℕ → Type 0
   AreIn graphs claims lows [] = Unit {0}
   AreIn (g ∷ graphs) (claim ∷ claims) (low ∷ lows) (n ∷ nodes) = IsIn g claim low n × AreIn graphs claims lows nodes
   AreIn graphs claims lows (n ∷ nodes) = ⊥
 
   module _ (g : Digraph) (claim : TreeClaim) (low n : ℕ) (is : IsIn g claim low n) where
-    inside : n - low ≤ root claim
+    pub inside : n - low ≤ root claim
     inside = omega (arith, is.to)
 
-    again : low + (n - low) ≡ n
+    pub again : low + (n - low) ≡ n
     again = omega (arith, is.from)
 
     module _ (l r : ℕ) (pair : children f n ≡ Some (l, r)) where
@@ -64,13 +64,13 @@ module _ (bound : ℕ) (f : Plain) where
           )
 
   -- a combination is split at a place, in the forest and in the claims
-  record IsSplitOf (graphs : List Digraph) (claims : List TreeClaim) (lows nodes : List ℕ) (place l r : ℕ) : Type 0 where
-    low : ℕ
-    parts_are : parts_in (slice_get claims place) (slice_get (lower lows nodes) place) ≡ Some (l - low, r - low)
-    left_low : lower lows (set nodes place l) ≡ set (lower lows nodes) place (l - low)
-    right_low : lower lows (set nodes place r) ≡ set (lower lows nodes) place (r - low)
-    left_in : AreIn graphs claims lows (set nodes place l)
-    right_in : AreIn graphs claims lows (set nodes place r)
+  pub record IsSplitOf (graphs : List Digraph) (claims : List TreeClaim) (lows nodes : List ℕ) (place l r : ℕ) : Type 0 where
+    pub low : ℕ
+    pub parts_are : parts_in (slice_get claims place) (slice_get (lower lows nodes) place) ≡ Some (l - low, r - low)
+    pub left_low : lower lows (set nodes place l) ≡ set (lower lows nodes) place (l - low)
+    pub right_low : lower lows (set nodes place r) ≡ set (lower lows nodes) place (r - low)
+    pub left_in : AreIn graphs claims lows (set nodes place l)
+    pub right_in : AreIn graphs claims lows (set nodes place r)
 
   split_of : (graphs : List Digraph) (claims : List TreeClaim) (lows nodes : List ℕ) (place n l r : ℕ) → AreIn graphs claims lows nodes → slice_get nodes place ≡ Some n
       → children f n ≡ Some (l, r) → IsSplitOf graphs claims lows nodes place l r
@@ -99,7 +99,7 @@ module _ (bound : ℕ) (f : Plain) where
   split_of graphs claims lows (m ∷ nodes) place n l r h at pair = elim h [ ]
 
   -- the sums are the same
-  sums_are : (graphs : List Digraph) (claims : List TreeClaim) (lows nodes : List ℕ) (t : ℕ) → AreIn graphs claims lows nodes → 1 ≤ t → t ≤ bound
+  pub sums_are : (graphs : List Digraph) (claims : List TreeClaim) (lows nodes : List ℕ) (t : ℕ) → AreIn graphs claims lows nodes → 1 ≤ t → t ≤ bound
       → sum_at graphs claims (lower lows nodes) t ≡ forest_sum f.pool nodes t
   unfolding sum_at
   sums_are graphs claims lows [] t h some near = refl
@@ -111,13 +111,13 @@ module _ (bound : ℕ) (f : Plain) where
   sums_are graphs claims lows (n ∷ nodes) t h some near = elim h [ ]
 
   -- the tops are in their trees, and are their roots
-  tops_in : (graphs : List Digraph) (lows tops : List ℕ) (claims : List TreeClaim) → AreClaimsOf bound f graphs lows tops claims → AreIn graphs claims lows tops
+  pub tops_in : (graphs : List Digraph) (lows tops : List ℕ) (claims : List TreeClaim) → AreClaimsOf bound f graphs lows tops claims → AreIn graphs claims lows tops
   tops_in [] [] [] [] are = tt
   tops_in (g ∷ graphs) (low ∷ lows) (top ∷ tops) (claim ∷ claims) are =
       (record { top = top; claim_is = are.0; from = omega (arith, are.0.root_is); to = omega (arith, are.0.root_is) }, tops_in graphs lows tops claims are.1)
   tops_in graphs lows tops claims are = elim are [ ]
 
-  tops_low : (graphs : List Digraph) (lows tops : List ℕ) (claims : List TreeClaim) → AreClaimsOf bound f graphs lows tops claims → map root claims ≡ lower lows tops
+  pub tops_low : (graphs : List Digraph) (lows tops : List ℕ) (claims : List TreeClaim) → AreClaimsOf bound f graphs lows tops claims → map root claims ≡ lower lows tops
   tops_low [] [] [] [] are = refl
   tops_low (g ∷ graphs) (low ∷ lows) (top ∷ tops) (claim ∷ claims) are =
       let e : root claim ≡ top - low = omega (arith, are.0.root_is) in
@@ -126,14 +126,14 @@ module _ (bound : ℕ) (f : Plain) where
 
   module _ (graphs : List Digraph) (claims : List TreeClaim) (lows : List ℕ) where
     -- the nodes of each combination of the stack are in their trees
-    abbrev AllIn : List (List ℕ) → Type 0
+    abbrev pub AllIn : List (List ℕ) → Type 0
     AllIn [] = Unit {0}
     AllIn (nodes ∷ stack) = AreIn graphs claims lows nodes × AllIn stack
 
-    halves_of : (w d : ℕ) (nodes : List ℕ) (place l r : ℕ) → AreIn graphs claims lows nodes → AreHalves f w d nodes place l r → IsSplitOf graphs claims lows nodes place l r
+    pub halves_of : (w d : ℕ) (nodes : List ℕ) (place l r : ℕ) → AreIn graphs claims lows nodes → AreHalves f w d nodes place l r → IsSplitOf graphs claims lows nodes place l r
     halves_of w d nodes place l r h halves = split_of graphs claims lows nodes place halves.node l r h halves.at halves.children
 
-    split_after : (nodes : List ℕ) (stack : List (List ℕ)) (place l r : ℕ) → IsSplitOf graphs claims lows nodes place l r
+    pub split_after : (nodes : List ℕ) (stack : List (List ℕ)) (place l r : ℕ) → IsSplitOf graphs claims lows nodes place l r
         → after claims (Split place) (lower_all lows (nodes ∷ stack)) ≡ Some (lower_all lows (set nodes place l ∷ set nodes place r ∷ stack))
     split_after nodes stack place l r s =
         ap (halved (lower lows nodes) place (lower_all lows stack)) s.parts_are
@@ -149,7 +149,7 @@ module _ (bound : ℕ) (f : Plain) where
         ap (after_all claims more) (split_after nodes rest place l r s) ∙ shape_of w d more (set nodes place l ∷ set nodes place r ∷ rest) are (s.left_in, (s.right_in, h.1))
 
     module _ (g : Digraph) (v : ℕ) (near : deadline g v ≤ bound) where
-      passed : (nodes : List ℕ) (t : ℕ) → AreIn graphs claims lows nodes → Passes (wcet g v) (deadline g v) f.pool nodes t → IsPassed graphs claims g v (lower lows nodes, t)
+      pub passed : (nodes : List ℕ) (t : ℕ) → AreIn graphs claims lows nodes → Passes (wcet g v) (deadline g v) f.pool nodes t → IsPassed graphs claims g v (lower lows nodes, t)
       passed nodes t h p =
           let sum : sum_at graphs claims (lower lows nodes) t ≡ forest_sum f.pool nodes t = sums_are graphs claims lows nodes t h p.from (omega (arith, p.to)) in
           record { some = p.from; within = omega (arith, p.to); fits = omega (arith, p.passes) }

@@ -4,7 +4,7 @@ use Rattle.std.specs.Prelude.{slice_get}
 use Rattle.std.specs.List.{flat_map}
 use Rattle.std.proofs.lemmas.Bool.{cases_Bool}
 use Rattle.std.proofs.lemmas.List.{length-append, length-map, length-take-le, map-append, take-append-drop, take-take}
-use Rattle.std.proofs.lemmas.List.Elements.{All-append, All-cons, All-head, All-nil, All-tail, All-weaker}
+use Rattle.std.proofs.lemmas.List.Elements.{All-append, All-cons, All-head, All-nil, All-tail, All-take, All-weaker}
 use Rattle.std.proofs.lemmas.List.FromFn.{length-map-range_with_len}
 use Rattle.std.proofs.lemmas.Option.{get_or_from_slice_get, slice_get-get_or, slice_get_within}
 use Rattle.drt_model.specs.Constrained.{AreConstrained}
@@ -27,14 +27,14 @@ use Rattle.drt_claims.specs.declared.evidence.ProofClaim.{ProofClaim}
 use Rattle.drt_claims.specs.declared.evidence.TreeClaim.{TreeClaim}
 use Rattle.drt_claims.proofs.Accepting.{fixed_yes_accepted}
 use Rattle.drt_sp.specs.Answers.{IsExactYes}
-use Rattle.drt_sp.specs.Claims.{AreClaimsOf, IsEagerProof}
-use Rattle.drt_sp.specs.Items.{AreItems}
 use Rattle.drt_sp.specs.Progress.{AreGrown, AreProofsAt, AreProved, IsProofAt, first_graphs}
 use Rattle.drt_sp.specs.TreeClaims.{IsTreeOf}
 use Rattle.drt_sp.specs.Vertices.{subject_of, subjects}
+use Rattle.drt_sp.specs.Written.{AreEagerItems, IsEagerProof}
+use Rattle.drt_sp.proofs.Eagerness.{due_more, items_due}
 use Rattle.drt_sp.proofs.GreatestDeadline.{deadline_near}
 use Rattle.drt_sp.proofs.Extended.{all_more, passed_more, passes_more, passes_narrow}
-use Rattle.drt_sp.proofs.Orders.{order_below, order_count, order_graphs, order_higher, order_place}
+use Rattle.drt_sp.proofs.Orders.{order_count, order_graphs, order_higher, order_place}
 use Rattle.drt_sp.proofs.Translated.{items_pass, items_shape}
 
 module _ {A B : Type 0} where
@@ -115,6 +115,9 @@ module _ (tasks : List Task) (order : List ℕ) (order_is : IsOrder tasks order)
   exact_trees : Each (IsTreeOf (greatest_deadline tasks)) (tree_graphs tasks trees) trees
   exact_trees = subst (λ gs. Each (IsTreeOf (greatest_deadline tasks)) gs trees) graphs_are grown.exact
 
+  take_trees : (i : ℕ) → All IsTree (take i trees)
+  take_trees i = All-take IsTree i trees (each_second (IsTreeOf (greatest_deadline tasks)) IsTree (λ g t is. is.tree) (tree_graphs tasks trees) trees exact_trees)
+
   -- A proof that stands in a row.
   pub record IsPlaced (proof : ProofClaim) : Type 0 where
     pub place : ℕ
@@ -186,29 +189,28 @@ module _ (tasks : List Task) (order : List ℕ) (order_is : IsOrder tasks order)
     has_times = subst (λ n. All (IsPassed (tree_graphs tasks trees) trees (digraph_of t) p.vertex) (passes trees p.items (Some (opening trees n)))) higher_is
         (subst (λ g. All (IsPassed (tree_graphs tasks trees) trees g p.vertex) (passes trees p.items (Some (opening trees placed.place)))) graph_is times_all)
 
-    pub is_eager : IsEagerProof tasks trees p
-    is_eager = record {
-      task = t;
-      at = here;
-      vertex = subst (λ g. p.vertex < vertex_count g) graph_is placed.is.vertex;
-      forest = placed.is.forest;
-      lows = placed.is.lows;
-      roots = placed.is.roots;
-      claimed = subst (λ n. AreClaimsOf (greatest_deadline tasks) placed.is.forest (take n (tree_graphs tasks trees)) placed.is.lows placed.is.roots (take n trees)) higher_is
-          (subst (λ gs. AreClaimsOf (greatest_deadline tasks) placed.is.forest gs placed.is.lows placed.is.roots (take placed.place trees)) (graphs_first placed.place place_most) placed.is.claimed);
-      items_are = subst (λ g. AreItems placed.is.forest (wcet g p.vertex) (deadline g p.vertex) p.items (placed.is.roots ∷ [])) graph_is placed.is.items_are;
-    }
+    due_first : AreEagerItems (first_graphs tasks order placed.place) (take placed.place trees) (graph_at tasks placed.task) p.vertex p.items (Some (opening trees placed.place))
+    due_first = items_due (greatest_deadline tasks) placed.is.forest placed.is.forest_is (first_graphs tasks order placed.place) placed.is.lows placed.is.roots (take placed.place trees) placed.is.claimed
+        (take_trees placed.place) (graph_at tasks placed.task) p.vertex near p.items placed.is.items_are
 
-  eager_placed : (p : ProofClaim) → IsPlaced p → IsEagerProof tasks trees p
-  eager_placed p placed =
-      let l : p.task < length tasks
-      = omega (
-        arith,
-        placed.is.task_is,
-        order_below tasks order order_is placed.place (slice_get_within order placed.place placed.task placed.at),
-        get_or_from_slice_get order placed.place placed.task 0 placed.at,
-      ) in
-      is_eager p placed (get_or tasks p.task no_task) (slice_get-get_or tasks p.task no_task l)
+    due_all : AreEagerItems (tree_graphs tasks trees) trees (graph_at tasks placed.task) p.vertex p.items (Some (opening trees placed.place))
+    due_all =
+        let i : ℕ = placed.place in
+        let g : Digraph = graph_at tasks placed.task in
+        let front : List TreeClaim = take i trees in
+        let back : List TreeClaim = drop i trees in
+        let a : length front ≡ i = length-take-le i trees (omega (arith, place_most, count_trees)) in
+        let b : length (first_graphs tasks order i) ≡ i = length-take-le i (map (graph_at tasks) order) (omega (arith, place_low, length-map order (graph_at tasks))) in
+        let c : length (map root front) ≡ length front = length-map front root in
+        let more : AreEagerItems (first_graphs tasks order i ++ drop i (tree_graphs tasks trees)) (front ++ back) g p.vertex p.items (Some (opening trees i))
+        = due_more (first_graphs tasks order i) (drop i (tree_graphs tasks trees)) front back i b a g p.vertex p.items (opening trees i) (omega (arith, a, c), tt) due_first in
+        subst (λ ts. AreEagerItems (tree_graphs tasks trees) ts g p.vertex p.items (Some (opening trees i))) (take-append-drop i trees)
+        (subst (λ gs. AreEagerItems gs (front ++ back) g p.vertex p.items (Some (opening trees i))) split_graphs more)
+
+    -- And they are due over all trees.
+    pub is_due : AreEagerItems (tree_graphs tasks trees) trees (digraph_of t) p.vertex p.items (Some (opening trees (higher_count tasks t.priority)))
+    is_due = subst (λ n. AreEagerItems (tree_graphs tasks trees) trees (digraph_of t) p.vertex p.items (Some (opening trees n))) higher_is
+        (subst (λ g. AreEagerItems (tree_graphs tasks trees) trees g p.vertex p.items (Some (opening trees placed.place))) graph_is due_all)
 
   module _ (rows : List (List ProofClaim)) (proved : AreProved tasks order (length order) trees rows) where
     row_at : (k : ℕ) → k < length tasks → (i : ℕ) × (slice_get order i ≡ Some k) × AreProofsAt tasks order i k trees (get_or rows k [])
@@ -264,7 +266,7 @@ module _ (tasks : List Task) (order : List ℕ) (order_is : IsOrder tasks order)
         times = All-weaker IsPlaced (HasPassingTimes tasks (tree_graphs tasks trees) trees) (λ p placed t here. has_times p placed t here) (flat_map (λ x. x) rows) all_placed;
       });
       exact = exact_trees;
-      eager = All-weaker IsPlaced (IsEagerProof tasks trees) eager_placed (flat_map (λ x. x) rows) all_placed;
+      eager = All-weaker IsPlaced (IsEagerProof tasks trees) (λ p placed t here. is_due p placed t here) (flat_map (λ x. x) rows) all_placed;
     }
 
     pub is_in_range : IsInRange (FixedYes trees (flat_map (λ x. x) rows))

@@ -6,7 +6,7 @@ use Rattle.drt_model.specs.Digraph.{Digraph, vertex_count}
 use Rattle.drt_model.specs.Walk.{deadline, wcet}
 use Rattle.drt_model.specs.declared.tasks.Task.{Task}
 use Rattle.drt_busy.specs.Choice.{graph_at}
-use Rattle.drt_tree.specs.Tree.{Plain}
+use Rattle.drt_tree.specs.Tree.{IsForest, Plain}
 use Rattle.drt_choices.specs.Choices.{AreTrees, FirstPass, IsOrder}
 use Rattle.drt_claims.specs.Claims.{Each, graphs_of}
 use Rattle.drt_claims.specs.Ranges.{IsInRangeProof, IsInRangeTree}
@@ -49,6 +49,7 @@ pub record IsProofAt (tasks : List Task) (order : List ℕ) (i k : ℕ) (trees :
   pub vertex : proof.vertex < vertex_count (graph_at tasks k)
   pub range : IsInRangeProof proof
   pub forest : Plain
+  pub forest_is : IsForest forest
   pub lows : List ℕ
   pub roots : List ℕ
   pub claimed : AreClaimsOf (greatest_deadline tasks) forest (first_graphs tasks order i) lows roots (take i trees)

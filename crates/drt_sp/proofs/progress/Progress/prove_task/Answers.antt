@@ -107,7 +107,7 @@ returns-in-Passed-clause-decided g c =
     let first : FirstPass tasks order (place + 1) = first_more tasks order is place k at c.requires.proved.passed (λ v w.
     vertex_passes tasks order is set.version place k limits at f roots trees c.requires.grown c.leaves_pass.ensures v w
     (proofs_pass f roots (graph_at tasks k) k (vertex_count (graph_at tasks k)) c.in-Passed.proofs came v w)) in
-    proved_more tasks order is place k at f roots trees c.requires.grown c.args.self.now.proofs.items c.requires.proved first c.in-Passed.proofs came
+    proved_more tasks order is place k at f roots trees c.show_sound.ensures c.requires.grown c.args.self.now.proofs.items c.requires.proved first c.in-Passed.proofs came
 
 pub returns-in-Spent-clause-decided : goal.returns-in-Spent-clause-decided
 returns-in-Spent-clause-decided g c =
