@@ -1,7 +1,7 @@
 -- The items of a vertex's proof, which are due for nodes of a forest, are due for nodes of the claimed trees: first over the trees of the
 -- tasks of higher priority, and then over more trees. For the assembly: `items_due` and `due_more`.
-use Rattle.std.proofs.Common.{◌≡◌, ℕ, suc, zero, ◌+◌, ◌-◌, ◌≤◌, ◌<◌, Option, None, Some, List, [], ◌∷◌, ◌++◌, map, length, set, get_or, All, refl, sym, ap, ◌∙◌, subst, arith}
-use Rattle.std.specs.Prelude.{slice_get, slice_index_or}
+use Rattle.std.proofs.Common.{◌≡◌, ℕ, suc, zero, ◌-◌, ◌≤◌, ◌<◌, Option, None, Some, List, [], ◌∷◌, ◌++◌, map, length, set, get_or, All, refl, sym, ap, ◌∙◌, subst, arith}
+use Rattle.std.specs.Prelude.{slice_get}
 use Rattle.std.proofs.lemmas.List.Elements.{All-head, All-tail}
 use Rattle.std.proofs.lemmas.Option.{none-some, same_Some, slice_get-get_or, slice_get_within}
 use Rattle.drt_model.specs.Digraph.{Digraph}
@@ -17,7 +17,7 @@ use Rattle.drt_claims.specs.declared.evidence.Item.TheVariants.{Pass, Split}
 use Rattle.drt_claims.specs.declared.evidence.TreeClaim.{TreeClaim}
 use Rattle.drt_sp.specs.Claims.{AreClaimsOf}
 use Rattle.drt_sp.specs.Items.{AreItems, none, pass, split}
-use Rattle.drt_sp.specs.Written.{AreEagerItems, IsEagerItem, IsWidestPlace, count_at, count_in, walk_counts}
+use Rattle.drt_sp.specs.Written.{AreEagerItems, IsEagerItem, IsWidestPlace, count_at, count_in}
 use Rattle.drt_sp.proofs.Counted.{counts_are}
 use Rattle.drt_sp.proofs.Extended.{AreNarrow, IsNarrow, after_more, after_narrow, sum_more}
 use Rattle.drt_sp.proofs.Translated.{AllIn, AreIn, IsSplitOf, again, halves_of, inside, lower, lower_all, passed, split_after, sums_are, tops_in, tops_low}

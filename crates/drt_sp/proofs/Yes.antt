@@ -115,6 +115,7 @@ module _ (tasks : List Task) (order : List ℕ) (order_is : IsOrder tasks order)
   exact_trees : Each (IsTreeOf (greatest_deadline tasks)) (tree_graphs tasks trees) trees
   exact_trees = subst (λ gs. Each (IsTreeOf (greatest_deadline tasks)) gs trees) graphs_are grown.exact
 
+  -- Each of the first trees has the shape of one.
   take_trees : (i : ℕ) → All IsTree (take i trees)
   take_trees i = All-take IsTree i trees (each_second (IsTreeOf (greatest_deadline tasks)) IsTree (λ g t is. is.tree) (tree_graphs tasks trees) trees exact_trees)
 
@@ -189,9 +190,12 @@ module _ (tasks : List Task) (order : List ℕ) (order_is : IsOrder tasks order)
     has_times = subst (λ n. All (IsPassed (tree_graphs tasks trees) trees (digraph_of t) p.vertex) (passes trees p.items (Some (opening trees n)))) higher_is
         (subst (λ g. All (IsPassed (tree_graphs tasks trees) trees g p.vertex) (passes trees p.items (Some (opening trees placed.place)))) graph_is times_all)
 
+    -- The items are due one after another over the trees of the tasks of higher priority.
     due_first : AreEagerItems (first_graphs tasks order placed.place) (take placed.place trees) (graph_at tasks placed.task) p.vertex p.items (Some (opening trees placed.place))
-    due_first = items_due (greatest_deadline tasks) placed.is.forest placed.is.forest_is (first_graphs tasks order placed.place) placed.is.lows placed.is.roots (take placed.place trees) placed.is.claimed
-        (take_trees placed.place) (graph_at tasks placed.task) p.vertex near p.items placed.is.items_are
+    due_first =
+        let is : IsProofAt tasks order placed.place placed.task trees p = placed.is in
+        items_due (greatest_deadline tasks) is.forest is.forest_is (first_graphs tasks order placed.place) is.lows is.roots (take placed.place trees) is.claimed
+        (take_trees placed.place) (graph_at tasks placed.task) p.vertex near p.items is.items_are
 
     due_all : AreEagerItems (tree_graphs tasks trees) trees (graph_at tasks placed.task) p.vertex p.items (Some (opening trees placed.place))
     due_all =

@@ -6,3 +6,4 @@ mod DossierRows
 mod JudgementRows
 mod EnoughRows
 mod AcceptedRows
+mod EagerRows
