@@ -7,6 +7,7 @@ pub mod Enough
 pub mod Orders
 pub mod GreatestDeadline
 pub mod Chosen
+pub mod ExactTrees
 pub mod Passing
 pub mod Extended
 pub mod Yes
@@ -24,9 +25,11 @@ pub mod TreeShapes
 pub mod TreeLeaves
 pub mod TreeValues
 pub mod TreesGrow
+pub mod WrittenTrees
 pub mod ShortWalks
 pub mod TaskTrees
 pub mod TreeSearches
 pub mod Translated
 mod Ended
 mod EndsAhead
+mod HalvedRows
