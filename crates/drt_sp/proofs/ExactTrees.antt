@@ -14,7 +14,8 @@ use Rattle.drt_sp.specs.Progress.{AreGrown, first_graphs}
 use Rattle.drt_sp.specs.TreeClaims.{IsTreeOf}
 
 -- The trees of the first tasks.
-pub grown_exact : (tasks : List Task) (order : List ℕ) (m : ℕ) (f : Plain) (roots : List ℕ) (trees : List TreeClaim) → AreGrown tasks order m f roots trees → AreExactTrees tasks order f roots
+pub grown_exact : (tasks : List Task) (order : List ℕ) (m : ℕ) (f : Plain) (roots : List ℕ) (trees : List TreeClaim)
+    → AreGrown tasks order m f roots trees → AreExactTrees tasks order f roots
 grown_exact tasks order m f roots trees grown = record {
   trees = trees;
   lows = grown.lows;
@@ -38,7 +39,8 @@ each_first R (suc m) (x ∷ xs) [] each = absurd each
 each_first R (suc m) (x ∷ xs) (y ∷ ys) each = (each.0, each_first R m xs ys each.1)
 
 -- The first trees are the exact ones of the first tasks.
-pub exact_first : (tasks : List Task) (order : List ℕ) (f : Plain) (roots : List ℕ) (m : ℕ) → m ≤ length roots → AreExactTrees tasks order f roots → AreExactTrees tasks order f (take m roots)
+pub exact_first : (tasks : List Task) (order : List ℕ) (f : Plain) (roots : List ℕ) (m : ℕ) → m ≤ length roots
+    → AreExactTrees tasks order f roots → AreExactTrees tasks order f (take m roots)
 exact_first tasks order f roots m le are = record {
   trees = take m are.trees;
   lows = take m are.lows;

@@ -32,4 +32,3 @@ pub mod TreeSearches
 pub mod Translated
 mod Ended
 mod EndsAhead
-mod HalvedRows

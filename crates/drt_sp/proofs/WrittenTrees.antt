@@ -1,5 +1,5 @@
 -- A halved tree as it is written: its pairs are those of a halved tree over its walks, and the leaves of its walks are its leaves.
-use Rattle.std.proofs.Common.{◌≡◌, ℕ, suc, ◌+◌, ◌-◌, ◌<◌, ◌≤◌, List, [], ◌∷◌, ◌++◌, All, length, map, get_or, refl, sym, ap, ◌∙◌, subst, arith}
+use Rattle.std.proofs.Common.{◌≡◌, ℕ, ◌+◌, ◌-◌, ◌<◌, List, [], ◌∷◌, ◌++◌, All, length, map, get_or, refl, sym, ap, ◌∙◌, subst, arith}
 use Rattle.std.specs.List.{range_with_len}
 use Rattle.std.proofs.lemmas.List.{append_assoc, ext_get_or, length-append}
 use Rattle.std.proofs.lemmas.List.Elements.{All-head, All-tail}
@@ -10,10 +10,9 @@ use Rattle.drt_tree.specs.Shape.{Shape, one, two, parts, pairs, root_of, IsHalve
 use Rattle.drt_tree.specs.declared.leaf.Leaf.{Leaf}
 use Rattle.drt_claims.specs.Trees.{asked, root}
 use Rattle.drt_claims.specs.declared.evidence.Pair.{Pair}
-use Rattle.drt_claims.specs.declared.evidence.TreeClaim.{TreeClaim}
 use Rattle.drt_sp.specs.TaskTrees.{IsWalkLeaf}
 use Rattle.drt_sp.specs.Written.{HasHalves, IsHalved, leaf_of, pair, walk}
-use Rattle.drt_sp.proofs.TreeShapes.{pairs_of, parts_pairs, root_last}
+use Rattle.drt_sp.proofs.TreeShapes.{pairs_of, root_last}
 
 -- There are as many pairs as the tree has.
 pub pairs_length : (s : Shape) (low first : ℕ) → length (pairs_of s low first) ≡ pairs s
@@ -65,9 +64,9 @@ unfolding value_at
 leaf_is bound g l is =
     let f : ℕ → ℕ = λ t. asked g t l.walk in
     let steps : map f (range_with_len 1 bound) ≡ l.steps = ext_get_or 0 (map f (range_with_len 1 bound)) l.steps (length-map-range_with_len f 1 bound ∙ sym is.long) (λ i within.
-        let w : i < bound = omega (arith, within, length-map-range_with_len f 1 bound) in
-        let e : 1 + i - 1 ≡ i = omega arith in
-        get_or-map-range_with_len f 1 bound i (1 + i) 0 w (omega arith) ∙ (sym (is.values (1 + i) (omega arith) (omega (arith, w))) ∙ ap (λ k. get_or l.steps k 0) e)) in
+    let w : i < bound = omega (arith, within, length-map-range_with_len f 1 bound) in
+    let e : 1 + i - 1 ≡ i = omega arith in
+    get_or-map-range_with_len f 1 bound i (1 + i) 0 w (omega arith) ∙ (sym (is.values (1 + i) (omega arith) (omega (arith, w))) ∙ ap (λ k. get_or l.steps k 0) e)) in
     ap (λ (xs : List ℕ). record { steps = xs; walk = l.walk }) steps
 
 -- So the leaves of the walks of some leaves are these leaves.
