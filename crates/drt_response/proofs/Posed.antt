@@ -17,6 +17,7 @@ use Rattle.drt_claims.specs.Trees.{greatest_deadline}
 use Rattle.drt_sp.specs.Answers.{IsReached, IsTupleFor}
 use Rattle.drt_sp.specs.Grown.{AreProvedTrees}
 use Rattle.drt_sp.specs.declared.grown.ProvedTrees.{ProvedTrees}
+use Rattle.drt_sp.proofs.ExactTrees.{exact_first}
 use Rattle.drt_sp.proofs.GreatestDeadline.{deadline_near}
 use Rattle.drt_sp.proofs.Orders.{order_count}
 use Rattle.drt_sp.proofs.Passing.{higher_meet, nodes_chosen, task_below}
@@ -73,6 +74,7 @@ module _ (set : Contents) (trees : ProvedTrees) (are : AreProvedTrees set trees)
       earlier = λ u less. pass u (omega (arith, less, vertex));
       forest = are.forest;
       few = λ i j root n here there most. are.few i j root n here (get_first trees.roots m i root there) most;
+      exact = exact_first set.tasks trees.order trees.forest trees.roots m few_first are.exact;
     }
 
     pub tuple_for : (tuple : List ℕ) → AreBelow trees.forest tuple (take m trees.roots) → IsTupleFor set trees.order trees.forest k v tuple

@@ -14,6 +14,7 @@ use Rattle.drt_sp.specs.Progress.{IsComplete}
 use Rattle.drt_sp.specs.declared.answer.FixedAnswer.{FixedAnswer}
 use Rattle.drt_sp.specs.declared.answer.FixedAnswer.TheVariants as answers
 use Rattle.drt_sp.specs.declared.progress.Progress.{Progress}
+use Rattle.drt_sp.proofs.ExactTrees.{grown_exact}
 use Rattle.drt_sp.proofs.Passing.{claimed_nodes}
 use Rattle.drt_sp.proofs.Yes.{is_yes}
 
@@ -48,4 +49,5 @@ proved_trees set order p limits constrained decides forest is =
       one_bound = is.grown.one_bound;
       stand = is.grown.stand;
       few = is.grown.few_leaves;
+      exact = grown_exact set.tasks order is.last p.forest p.roots.items p.trees.items is.grown;
     }

@@ -7,6 +7,7 @@ pub mod Enough
 pub mod Orders
 pub mod GreatestDeadline
 pub mod Chosen
+pub mod ExactTrees
 pub mod Passing
 pub mod Extended
 pub mod Yes
@@ -24,6 +25,7 @@ pub mod TreeShapes
 pub mod TreeLeaves
 pub mod TreeValues
 pub mod TreesGrow
+pub mod WrittenTrees
 pub mod ShortWalks
 pub mod TaskTrees
 pub mod TreeSearches

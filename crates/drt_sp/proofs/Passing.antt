@@ -25,6 +25,7 @@ use Rattle.drt_sp.specs.Answers.{HigherMeetDeadlines, IsReached, MeetsDeadlines}
 use Rattle.drt_sp.specs.Claims.{AreClaimsOf}
 use Rattle.drt_sp.specs.Progress.{AreGrown}
 use Rattle.drt_sp.specs.Vertices.{AreVertexProofs, IsProvedVertex, TuplesPass, subject_of, subjects}
+use Rattle.drt_sp.proofs.ExactTrees.{grown_exact}
 use Rattle.drt_sp.proofs.GreatestDeadline.{deadline_near}
 use Rattle.drt_sp.proofs.Orders.{order_before, order_below, order_place}
 
@@ -126,4 +127,5 @@ reached_at set order order_is limits constrained suffice pass m k v at f roots t
   earlier = λ u less. vertex_passes set.tasks order order_is set.version m k limits at f roots trees grown pass u (omega (arith, less, l)) (earlier u less);
   forest = forest;
   few = grown.few_leaves;
+  exact = grown_exact set.tasks order m f roots trees grown;
 }

@@ -3,6 +3,7 @@ use Rattle.std.proofs.Common.{◌≡◌, ℕ, zero, suc, ◌+◌, ◌-◌, ◌<�
 use Rattle.std.proofs.Common.{ap, ◌∙◌, subst, arith}
 use Rattle.std.specs.Prelude.{Any, slice_get, slice_index_or, nat_lt, option_map}
 use Rattle.std.specs.List.{range_with_len}
+use Rattle.std.specs.List.Sorted.{IsSortedBy}
 use Rattle.std.proofs.lemmas.Bool.{cases_lt}
 use Rattle.std.proofs.lemmas.Bool.Decides.{nat_tests}
 use Rattle.std.proofs.lemmas.List.{length-map}
@@ -17,6 +18,7 @@ use Rattle.drt_graph.proofs.Edges.{sep_of_edge, gap_of}
 use Rattle.drt_graph.proofs.Paths.{path_both, path_within, span_both, span_cons, span_none}
 use Rattle.drt_steps.specs.Values.{value_at}
 use Rattle.drt_busy.specs.Choice.{IsWalk, request_of}
+use Rattle.drt_tree.specs.Leaf.{is_before}
 use Rattle.drt_tree.specs.Shape.{Shape, parts as leaf_count, pairs as pair_count, root_of, IsAdded}
 use Rattle.drt_tree.specs.Tree.{Plain, IsForest, IsPair, IsUnder, Leads, children, children_of, leaves, values, walk, walk_of, leaf_node, leaf_steps, with_leaves}
 use Rattle.drt_tree.specs.declared.leaf.Leaf.{Leaf}
@@ -35,6 +37,7 @@ use Rattle.drt_sp.proofs.ShortWalks.{above_asks, asked_is, cut_short, walk_in_ra
 use Rattle.drt_sp.proofs.TreeLeaves.{any_at, leaves_permutation}
 use Rattle.drt_sp.proofs.TreeShapes.{HasKids, kids, named_once, pairs_of, pairs_stand, parts_pairs, root_last, under_all, under_range}
 use Rattle.drt_sp.proofs.TreeValues.{IsJoin, joined_is, most_value}
+use Rattle.drt_sp.proofs.WrittenTrees.{claim_halved, leaves_are}
 
 -- An element of a mapped list is the image of one.
 record IsImageAt {A B : Type 0} (f : A → B) (xs : List A) (i : ℕ) (y : B) : Type 0 where
@@ -461,6 +464,8 @@ module _ (f h : Plain) (ls : List Leaf) (top : ℕ) (old : IsForest f) (added : 
       );
       tree = written_tree (some_leaf some);
       exact = written_exact;
+      order = subst (IsSortedBy is_before) (sym (leaves_are bound g added.sorted are.each)) added.order;
+      halves = claim_halved tree added.built.halved walks_are (walks_long ∙ sym shape_counted);
     }
 
     written_range : bound ≤ 1000000 → count ≤ 1000096 → IsInRangeTree written

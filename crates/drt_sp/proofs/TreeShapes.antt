@@ -92,7 +92,7 @@ kids f (two l r) low first base st a b n from to =
     go left right (inr c) (inr d) = last d
 
 -- The pairs of a tree in order.
-pub pairs_of : Shape → ℕ → ℕ → List Pair
+unfoldable pub pairs_of : Shape → ℕ → ℕ → List Pair
 pairs_of one low first = []
 pairs_of (two l r) low first =
     let last : Pair = record { left = root_of l low first; right = root_of r (low + parts l) (first + pairs l) } in

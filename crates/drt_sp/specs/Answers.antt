@@ -24,9 +24,11 @@ use Rattle.drt_claims.specs.declared.evidence.Evidence.{Evidence}
 use Rattle.drt_claims.specs.declared.evidence.Evidence.TheVariants.{EdfYes, EdfNo, UtilisationOne, FixedYes, FixedStates, FixedNo, Undecided}
 use Rattle.drt_claims.specs.declared.evidence.ProofClaim.{ProofClaim}
 use Rattle.drt_claims.specs.declared.evidence.TreeClaim.{TreeClaim}
+use Rattle.drt_sp.specs.Claims.{AreClaimsOf}
 use Rattle.drt_sp.specs.Evidence.{under_fixed}
 use Rattle.drt_sp.specs.Items.{IsFailure, IsSpentRefinement}
 use Rattle.drt_sp.specs.Needs.{AreFewLeaves}
+use Rattle.drt_sp.specs.Progress.{first_graphs}
 use Rattle.drt_sp.specs.TreeClaims.{IsSpentSearch, IsTreeOf}
 use Rattle.drt_sp.specs.Written.{IsEagerProof}
 use Rattle.drt_sp.specs.declared.answer.FixedAnswer.{FixedAnswer}
@@ -52,8 +54,16 @@ pub record IsExactYes (set : Contents) (trees : List TreeClaim) (proofs : List P
   pub exact : Each (IsTreeOf (greatest_deadline set.tasks)) (tree_graphs set.tasks trees) trees
   pub eager : All (IsEagerProof set.tasks trees) proofs
 
--- Where an analysis stands at a vertex: trees of a forest stand for the walks of the tasks of higher priority, with no more leaves than
--- there are walks; each vertex of those tasks passes, so that none of their jobs misses; and each earlier vertex of its task passes.
+-- The forest's trees with these roots are the halved ones over the exact walks of the tasks at the first places of the order.
+pub record AreExactTrees (tasks : List Task) (order : List ℕ) (f : Plain) (roots : List ℕ) : Type 0 where
+  pub trees : List TreeClaim
+  pub lows : List ℕ
+  pub claimed : AreClaimsOf (greatest_deadline tasks) f (first_graphs tasks order (length roots)) lows roots trees
+  pub exact : Each (IsTreeOf (greatest_deadline tasks)) (first_graphs tasks order (length roots)) trees
+
+-- Where an analysis stands at a vertex: the trees of a forest are those of the tasks of higher priority and stand for the walks of these, with
+-- no more leaves than there are walks; each vertex of those tasks passes, so that none of their jobs misses; and each earlier vertex of its
+-- task passes.
 pub record IsReached (set : Contents) (order : List ℕ) (f : Plain) (roots : List ℕ) (k v : ℕ) : Type 0 where
   pub task : k < length set.tasks
   pub nodes : AreNodes f roots
@@ -63,6 +73,7 @@ pub record IsReached (set : Contents) (order : List ℕ) (f : Plain) (roots : Li
   pub earlier : (u : ℕ) → u < v → VertexPasses set.tasks k u
   pub forest : IsForest f
   pub few : AreFewLeaves set.tasks order f roots
+  pub exact : AreExactTrees set.tasks order f roots
 
 -- The tuple has one leaf of each tree of the tasks of higher priority than that of the vertex.
 pub record IsTupleFor (set : Contents) (order : List ℕ) (f : Plain) (k v : ℕ) (tuple : List ℕ) : Type 0 where

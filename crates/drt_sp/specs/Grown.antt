@@ -9,7 +9,7 @@ use Rattle.drt_refine.specs.Below.{AreNodes}
 use Rattle.drt_choices.specs.Choices.{AreTrees, FirstPass, IsOrder}
 use Rattle.drt_claims.specs.Ranges.{IsInRange}
 use Rattle.drt_claims.specs.Trees.{greatest_deadline}
-use Rattle.drt_sp.specs.Answers.{IsEnding, IsRefusal, IsUndecided}
+use Rattle.drt_sp.specs.Answers.{AreExactTrees, IsEnding, IsRefusal, IsUndecided}
 use Rattle.drt_sp.specs.Needs.{AreFewLeaves}
 use Rattle.drt_sp.specs.Progress.{IsComplete}
 use Rattle.drt_sp.specs.declared.grown.Outcome.{Outcome}
@@ -18,8 +18,8 @@ use Rattle.drt_sp.specs.declared.grown.ProvedTrees.{ProvedTrees}
 use Rattle.drt_sp.specs.declared.grown.TreesAnswer.{TreesAnswer}
 use Rattle.drt_sp.specs.declared.grown.TreesAnswer.TheVariants.{Proved, Missed, Undecided}
 
--- The set is schedulable, and each of its vertices passes. The trees of all tasks but that of lowest priority stand for the walks of these
--- tasks up to the greatest deadline, in order of priority, with no more leaves than there are walks.
+-- The set is schedulable, and each of its vertices passes. The trees are those of all tasks but that of lowest priority, and stand for the
+-- walks of these tasks up to the greatest deadline, in order of priority, with no more leaves than there are walks.
 pub record AreProvedTrees (set : Contents) (trees : ProvedTrees) : Type 0 where
   pub schedulable : Schedulable set.tasks Fixed
   pub limits : IsTaskSet set.version set.tasks
@@ -31,6 +31,7 @@ pub record AreProvedTrees (set : Contents) (trees : ProvedTrees) : Type 0 where
   pub one_bound : All (λ (xs : List ℕ). length xs ≡ greatest_deadline set.tasks) trees.forest.pool
   pub stand : AreTrees set.tasks trees.order (greatest_deadline set.tasks) trees.forest trees.roots
   pub few : AreFewLeaves set.tasks trees.order trees.forest trees.roots
+  pub exact : AreExactTrees set.tasks trees.order trees.forest trees.roots
 
 -- What each answer says, with a budget.
 abbrev pub IsTreesAnswer : Contents → ℕ → TreesAnswer → Type 0

@@ -9,6 +9,7 @@ use Rattle.drt_tree.specs.Tree.{Plain, children, values}
 use Rattle.drt_claims.specs.Proofs.{parts}
 use Rattle.drt_claims.specs.Trees.{CoversWalks, HasShortWalks, IsAbove, IsShortWalk, IsTree, node_values, root}
 use Rattle.drt_claims.specs.declared.evidence.TreeClaim.{TreeClaim}
+use Rattle.drt_sp.specs.Written.{AreInOrder, HasHalves}
 
 -- The children of a node of the forest, numbered from low on.
 abbrev pub lowered : ℕ → Option (ℕ × ℕ) → Option (ℕ × ℕ)
@@ -40,12 +41,15 @@ pub record IsExactTree (bound : ℕ) (g : Digraph) (claim : TreeClaim) : Type 0 
   pub each : (w : List ℕ) → IsShortWalk bound g w → IsNonDominated bound g w → (i : ℕ) × (x : List ℕ) × (slice_get claim.walks i ≡ Some x) × HaveOneLabel bound g w x
   pub once : (i j : ℕ) (w x : List ℕ) → slice_get claim.walks i ≡ Some w → slice_get claim.walks j ≡ Some x → HaveOneLabel bound g w x → i ≡ j
 
--- What the rules on trees ask of a claim, and that its labels are exactly the non-dominated ones.
+-- What the rules on trees ask of a claim, that its labels are exactly the non-dominated ones, and that it is the halved tree over its walks
+-- in their order.
 pub record IsTreeOf (bound : ℕ) (g : Digraph) (claim : TreeClaim) : Type 0 where
   pub short : HasShortWalks bound g claim
   pub covers : CoversWalks bound g claim
   pub tree : IsTree claim
   pub exact : IsExactTree bound g claim
+  pub order : AreInOrder bound g claim
+  pub halves : HasHalves claim
 
 -- What a search of a graph's walks never changes.
 abbrev pub search_of : Digraph → ℕ → ℕ → Setting

@@ -25,6 +25,7 @@ use Rattle.drt_sp.specs.Progress.{AreGrown}
 use Rattle.drt_sp.specs.TaskTrees.{IsTaskTree}
 use Rattle.drt_sp.specs.Vertices.{AreVertexProofs, IsStop, TuplesPass}
 use Rattle.drt_sp.specs.declared.trees.TaskTree.{TaskTree}
+use Rattle.drt_sp.proofs.ExactTrees.{grown_exact}
 use Rattle.drt_sp.proofs.Growth.{grown_more, none_grown}
 use Rattle.drt_sp.proofs.Orders.{order_count, order_place, order_rises}
 use Rattle.drt_sp.proofs.Passing.{at_place, chosen_at, claimed_nodes, posed_at, proofs_pass, task_below, vertex_passes}
@@ -140,5 +141,6 @@ module _ (g : Given) (is : IsGiven g) where
         earlier = λ u less. passes_here law u (omega (arith, less, stop.vertex)) (stop.earlier u less);
         forest_is = forest;
         few = above.stand.grown.few_leaves;
+        exact = grown_exact g.set.now.tasks g.order.now above.place trees.forest trees.roots.items above.stand.claims above.stand.grown;
         refinement = spent;
       }

@@ -20,7 +20,7 @@ use Rattle.drt_choices.specs.Laws.{IsPosed}
 use Rattle.drt_claims.specs.Trees.{greatest_deadline}
 use Rattle.drt_trails.specs.declared.FixedTrail.{FixedTrail}
 use Rattle.drt_trails.specs.declared.FixedTrail.TheVariants.{Table, Refine}
-use Rattle.drt_sp.specs.Answers.{MeetsDeadlines}
+use Rattle.drt_sp.specs.Answers.{AreExactTrees, MeetsDeadlines}
 use Rattle.drt_sp.specs.Items.{IsSpentRefinement}
 use Rattle.drt_sp.specs.Needs.{AreFewLeaves}
 use Rattle.drt_sp.specs.TreeClaims.{IsSpentSearch}
@@ -47,8 +47,8 @@ pub record IsTaskMiss (tasks : List Task) (k : ℕ) (releases : List Release) (m
   pub misses : Misses Fixed (jobs_of tasks releases) job
   pub fails : TaskPasses tasks k → ⊥
 
--- The refinement at a vertex of the task spent the budget: trees stand for the walks of the tasks of higher priority, and for all walks a
--- time passes at each earlier vertex.
+-- The refinement at a vertex of the task spent the budget: the trees are those of the tasks of higher priority and stand for the walks of
+-- these, and for all walks a time passes at each earlier vertex.
 pub record IsSpentTask (set : Contents) (budget k v : ℕ) (log : List FrontierEntry) : Type 0 where
   pub order : List ℕ
   pub forest : Plain
@@ -58,6 +58,7 @@ pub record IsSpentTask (set : Contents) (budget k v : ℕ) (log : List FrontierE
   pub earlier : (u : ℕ) → u < v → VertexPasses set.tasks k u
   pub forest_is : IsForest forest
   pub few : AreFewLeaves set.tasks order forest roots
+  pub exact : AreExactTrees set.tasks order forest roots
   pub refinement : IsSpentRefinement forest (wcet (graph_at set.tasks k) v) (deadline (graph_at set.tasks k) v) roots budget log
 
 -- Why nothing is said of the task: a budget was spent, by the search of the walks of a task of higher priority, or at a vertex of the task.

@@ -2,6 +2,7 @@ mod WordRows
 mod TextRows
 mod EntryRows
 mod SpentRows
+mod HalvedRows
 mod DossierRows
 mod JudgementRows
 mod EnoughRows
