@@ -1,10 +1,6 @@
 //! That a budget that is enough isn't spent, as a law.
 ghost use Rattle.drt_sp.specs.Laws.{BudgetsSuffice};
 
-use drt_refine::over_every_interleaving as over_every_refinement;
-use drt_request::RequestLabel;
-use drt_table::over_every_interleaving as over_every_search;
-
 /// A budget that is enough isn't spent.
 ///
 /// Take for each task the number of its walks that span less than the greatest deadline, the single vertices among them. A budget is
@@ -13,7 +9,4 @@ use drt_table::over_every_interleaving as over_every_search;
 /// leaves the set undecided. Nothing computes these numbers: how many walks there are isn't known before the analysis.
 pub fn budgets_suffice()
     ensures { BudgetsSuffice }
-{
-    over_every_search::<RequestLabel>();
-    over_every_refinement();
-}
+{}

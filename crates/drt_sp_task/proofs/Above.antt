@@ -25,6 +25,7 @@ use Rattle.drt_sp.specs.Progress.{AreGrown}
 use Rattle.drt_sp.specs.TaskTrees.{IsTaskTree}
 use Rattle.drt_sp.specs.Vertices.{AreVertexProofs, IsStop, TuplesPass}
 use Rattle.drt_sp.specs.declared.trees.TaskTree.{TaskTree}
+use Rattle.drt_sp.proofs.Enough.{RefinementsAreShort, refinement_below}
 use Rattle.drt_sp.proofs.Growth.{grown_more, none_grown}
 use Rattle.drt_sp.proofs.Orders.{order_count, order_place, order_rises}
 use Rattle.drt_sp.proofs.Passing.{at_place, chosen_at, claimed_nodes, posed_at, proofs_pass, task_below, vertex_passes}
@@ -128,10 +129,10 @@ module _ (g : Given) (is : IsGiven g) where
       }
 
       -- A refinement that spent its budget.
-      pub spent_here : LeavesPass → (budget v : ℕ) (log : List FrontierEntry) → IsStop trees.forest trees.roots.items (graph_at g.set.now.tasks k) v
+      pub spent_here : LeavesPass → RefinementsAreShort → (budget v : ℕ) (log : List FrontierEntry) → IsStop trees.forest trees.roots.items (graph_at g.set.now.tasks k) v
           → IsSpentRefinement trees.forest (wcet (graph_at g.set.now.tasks k) v) (deadline (graph_at g.set.now.tasks k) v) trees.roots.items budget log
           → IsSpentTask g.set.now budget k v log
-      spent_here law budget v log stop spent = record {
+      spent_here law short budget v log stop spent = record {
         order = g.order.now;
         forest = trees.forest;
         roots = trees.roots.items;
@@ -141,4 +142,7 @@ module _ (g : Given) (is : IsGiven g) where
         forest_is = forest;
         few = above.stand.grown.few_leaves;
         refinement = spent;
+        short =
+            refinement_below g.set.now.tasks g.order.now is.order trees.forest trees.roots.items above.stand.grown.few_leaves k
+            (ap (slice_get g.order.now) above.stand.grown.count ∙ above.at) short forest _ _ budget log spent;
       }

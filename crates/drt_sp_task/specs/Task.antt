@@ -47,8 +47,8 @@ pub record IsTaskMiss (tasks : List Task) (k : ℕ) (releases : List Release) (m
   pub misses : Misses Fixed (jobs_of tasks releases) job
   pub fails : TaskPasses tasks k → ⊥
 
--- The refinement at a vertex of the task spent the budget, which is below what it may need: trees stand for the walks of the tasks of higher priority, and for all walks a
--- time passes at each earlier vertex.
+-- The refinement at a vertex of the task spent the budget, which is below what it may need: trees stand for the walks of the tasks of
+-- higher priority, and for all walks a time passes at each earlier vertex.
 pub record IsSpentTask (set : Contents) (budget k v : ℕ) (log : List FrontierEntry) : Type 0 where
   pub order : List ℕ
   pub forest : Plain
@@ -61,7 +61,8 @@ pub record IsSpentTask (set : Contents) (budget k v : ℕ) (log : List FrontierE
   pub refinement : IsSpentRefinement forest (wcet (graph_at set.tasks k) v) (deadline (graph_at set.tasks k) v) roots budget log
   pub short : IsBelowRefinement set.tasks budget k
 
--- Why nothing is said of the task: a budget was spent that is below what may be needed, by the search of the walks of a task of higher priority, or at a vertex of the task.
+-- Why nothing is said of the task: a budget was spent that is below what may be needed, by the search of the walks of a task of higher
+-- priority, or at a vertex of the task.
 abbrev pub IsUndecidedTask : Contents → ℕ → ℕ → FixedTrail → Type 0
 IsUndecidedTask set budget k (Table task log) =
     (task < length set.tasks) × ((task_at set.tasks task).priority < (task_at set.tasks k).priority)
