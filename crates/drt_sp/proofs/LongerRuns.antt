@@ -1,14 +1,17 @@
 -- A run of a table that isn't finished can be lengthened by a step under a greater budget.
-use Rattle.std.proofs.Common.{◌≡◌, ℕ, zero, suc, ◌+◌, ◌<◌, ◌≤◌, Bool, true, false, cond, Option, Some, None, List, [], ◌∷◌, ◌++◌, length, refl, sym, ap, ◌∙◌, subst, arith, inl, inr, length-append}
-use Rattle.std.specs.Prelude.{slice_get, is_none, ◌&&◌, nat_le, nat_lt}
+use Rattle.std.proofs.Common.{◌≡◌, ℕ, zero, suc, ◌+◌, ◌<◌, ◌≤◌, Bool, true, false, cond, Option, Some, None, List, [], ◌∷◌, ◌++◌, length}
+use Rattle.std.proofs.Common.{refl, sym, ap, ◌∙◌, subst, arith, inl, inr, length-append}
+use Rattle.std.specs.Prelude.{slice_get, is_none, ◌&&◌, nat_le}
 use Rattle.std.proofs.lemmas.Bool.{cases_lt, leb-false}
 use Rattle.std.proofs.lemmas.Bool.Decides.{nat_tests}
 use Rattle.drt_label.specs.Algebra.{Algebra}
-use Rattle.drt_model.specs.Digraph.{out_degree}
+use Rattle.drt_model.specs.Digraph.{IsSound, out_degree}
+use Rattle.drt_request.specs.Request.{request_algebra}
 use Rattle.drt_worklist.specs.Places.{changed, first}
 use Rattle.drt_worklist.proofs.Runs.{run_join, run_log}
-use Rattle.drt_table.specs.Machine.{Setting, State, Outcome, separation, in_range, opening_label, opening_nodes, opening_state, extended, is_full, unchanged, logged, offset, offset_at, next, holder, takes, taken, dominating}
-use Rattle.drt_table.specs.Machine.{compared, counted, offered, offered_at, step_of, CanStep, after, CanEnter, replay, replay_from, IsRun, IsRunFrom, is_finished}
+use Rattle.drt_table.specs.Facts.{Facts}
+use Rattle.drt_table.specs.Machine.{Setting, State, Outcome, in_range, opening_label, opening_nodes, opening_state, extended, is_full, unchanged, logged, offset, next, holder}
+use Rattle.drt_table.specs.Machine.{takes, taken, dominating, compared, counted, offered, offered_at, step_of, CanStep, after, CanEnter, replay, replay_from, IsRun, IsRunFrom, is_finished}
 use Rattle.drt_table.specs.Node.{NodeOf, fresh, is_taken, is_taken_state}
 use Rattle.drt_table.specs.declared.node.NodeState.{NodeState}
 use Rattle.drt_table.specs.declared.node.NodeState.TheVariants.{Pending, Taken as TakenBy, Done}
@@ -17,6 +20,8 @@ use Rattle.drt_table.specs.declared.step.TableReply.TheVariants.{Closed, OutOfRa
 use Rattle.drt_table.specs.declared.step.TableStep.{TableStep}
 use Rattle.drt_table.specs.declared.step.TableStep.TheVariants.{Take, Offer, Close}
 use Rattle.drt_table.proofs.Earliest.{found_earliest, none_earliest}
+use Rattle.drt_sp.specs.Laws.{SearchesGoOn}
+use Rattle.drt_sp.specs.TreeClaims.{search_of}
 
 -- The setting with another budget.
 abbrev with_budget : ℕ → Setting → Setting
@@ -179,3 +184,9 @@ run_longer {L = L} a t es budget run unfinished offers more less =
     let longer : IsRunFrom a u (opening_state a t) (es ++ there.entry ∷ [])
     = run_join (after a u) (CanEnter a u) (λ (s : State L). s.log) es (there.entry ∷ []) (opening_state a t) same.0 (there.can, there.logs, tt) in
     (there.entry, subst (λ (s : State L). IsRunFrom a u s (es ++ there.entry ∷ [])) (sym (opening_same a t budget more)) longer)
+
+-- A search that spent its budget goes on under a greater one.
+pub search_longer : ((t : Setting) (log : List Entry) → IsSound t.graph → IsRun request_algebra t log → Facts request_algebra t (replay request_algebra t log).nodes) → SearchesGoOn
+search_longer facts g bound budget more log sound spent less =
+    let t = search_of g bound budget in
+    run_longer request_algebra t log more spent.run spent.unfinished (facts t log sound spent.run).offered (omega (arith, less)) (omega (arith, less, spent.spent))

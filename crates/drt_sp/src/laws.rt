@@ -1,5 +1,8 @@
-//! That a budget that is enough isn't spent, as a law.
-ghost use Rattle.drt_sp.specs.Laws.{BudgetsSuffice};
+//! That a budget that is enough isn't spent, and that one that was spent stops a search that could go on, as laws.
+ghost use Rattle.drt_sp.specs.Laws.{BudgetsSuffice, SearchesGoOn};
+
+use drt_request::RequestLabel;
+use drt_table::over_every_interleaving;
 
 /// A budget that is enough isn't spent.
 ///
@@ -10,3 +13,10 @@ ghost use Rattle.drt_sp.specs.Laws.{BudgetsSuffice};
 pub fn budgets_suffice()
     ensures { BudgetsSuffice }
 {}
+
+/// A search of a task's walks that spent its budget stopped for that alone: under a greater one it can make these steps and one more.
+pub fn searches_go_on()
+    ensures { SearchesGoOn }
+{
+    over_every_interleaving::<RequestLabel>();
+}
