@@ -48,8 +48,7 @@ returns-in-Spent g c =
     let graph : c.graph.result.now ≡ graph_at tasks k = graph_here given c.requires.given k below c.graph.result.now c.graph.ensures.graph in
     let spent : IsSpentSearch (graph_at tasks k) (greatest_deadline tasks) c.args.effort.now.budget c.in-Spent.log
     = rw (c.in-Spent.is, graph, c.greatest_deadline.ensures.value) at c.in_ok-tree.ensures in
-    let laws = c.over_every_interleaving.ensures in
-    (
+    let laws = c.over_every_interleaving.ensures in (
       at,
       spent,
       search_below laws.short laws.slots given.set.now.version tasks c.tasks-tasks.ensures.limits k below c.args.effort.now.budget c.in-Spent.log spent,

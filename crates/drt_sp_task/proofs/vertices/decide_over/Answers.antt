@@ -64,5 +64,5 @@ returns-in-Spent g c =
     = rw (c.in-Spent.is, graph, c.as_slice.ensures.value) at c.in_ok-_proofs.ensures in (
       refl,
       spent_here given c.requires.given c.tasks-tasks.ensures.limits k trees c.requires.trees c.show_sound.ensures c.leaves_pass.ensures
-      c.over_every_interleaving.ensures.short budget v c.in-Spent.log came.0 came.1,
+          c.over_every_interleaving.ensures.short budget v c.in-Spent.log came.0 came.1,
     )
