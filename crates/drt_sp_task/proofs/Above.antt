@@ -56,7 +56,7 @@ module _ (g : Given) (is : IsGiven g) where
       let a = ap (λ j. (task_at tasks j).priority) (get_or_from_slice_get order place task 0 spent.0) in
       let b = ap (λ j. (task_at tasks j).priority) (get_or_from_slice_get order m k 0 at) in
       let rises = order_rises tasks order is.order place m l (slice_get_within order m k at) in
-      (task_below tasks order is.order place task spent.0, omega (arith, rises, a, b), spent.1)
+      (task_below tasks order is.order place task spent.0, omega (arith, rises, a, b), spent.1, spent.2)
   spent_above budget k place m l at (Refine task v log) spent = absurd spent
 
   -- No tree stands for no tasks.

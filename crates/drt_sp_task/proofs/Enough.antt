@@ -1,5 +1,5 @@
 -- Where the analysis of a task is undecided, its budget isn't enough.
-use Rattle.std.proofs.Common.{ℕ, ◌*◌, ◌≤◌, arith}
+use Rattle.std.proofs.Common.{arith}
 use Rattle.drt_trails.specs.declared.FixedTrail.TheVariants.{Table, Refine}
 use Rattle.drt_sp_task.specs.Laws.{TaskBudgetsSuffice}
 
