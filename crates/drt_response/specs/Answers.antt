@@ -18,6 +18,7 @@ use Rattle.drt_claims.specs.declared.evidence.Evidence.TheVariants.{FixedNo}
 use Rattle.drt_fixed.specs.Answers.{IsNo}
 use Rattle.drt_sp.specs.Answers.{IsReached, IsRefusal, IsUndecided}
 use Rattle.drt_sp.specs.Evidence.{under_fixed}
+use Rattle.drt_sp.specs.Needs.{IsBelowRefinement}
 use Rattle.drt_sp.specs.Vertices.{subjects}
 use Rattle.drt_worst.specs.Splitting.{search_for}
 use Rattle.drt_worst.specs.Spent.{IsSpent}
@@ -47,13 +48,14 @@ pub record IsResponseOf (set : Contents) (r : Response) : Type 0 where
 abbrev pub IsResponseOfVertex : Contents → ℕ → ℕ → Response → Type 0
 IsResponseOfVertex set k v r = (r.task ≡ k) × (r.vertex ≡ v) × IsResponseOf set r
 
--- The search at a vertex that the analysis reached spent the budget.
+-- The search at a vertex that the analysis reached spent the budget, which is below what it may need.
 pub record IsSpentSearch (set : Contents) (budget k v : ℕ) (taken : List (List ℕ)) : Type 0 where
   pub order : List ℕ
   pub forest : Plain
   pub roots : List ℕ
   pub reached : IsReached set order forest roots k v
   pub spent : IsSpent (search_for forest (wcet (graph_at set.tasks k) v) (deadline (graph_at set.tasks k) v)) roots budget taken
+  pub short : IsBelowRefinement set.tasks budget k
 
 -- Why there is no answer: a budget was spent, in the analysis, or at a vertex of a set that is schedulable.
 abbrev pub IsUndecidedResponse : Contents → ℕ → ResponseTrail → Type 0

@@ -4,6 +4,7 @@ pub mod Products
 pub mod EnoughSearches
 pub mod EnoughRefinements
 pub mod Enough
+mod LongerRuns
 pub mod Orders
 pub mod GreatestDeadline
 pub mod Chosen

@@ -27,7 +27,7 @@ use Rattle.drt_claims.specs.declared.evidence.TreeClaim.{TreeClaim}
 use Rattle.drt_sp.specs.Claims.{AreClaimsOf}
 use Rattle.drt_sp.specs.Evidence.{under_fixed}
 use Rattle.drt_sp.specs.Items.{IsFailure, IsSpentRefinement}
-use Rattle.drt_sp.specs.Needs.{AreFewLeaves}
+use Rattle.drt_sp.specs.Needs.{AreFewLeaves, IsBelowRefinement, IsBelowSearch}
 use Rattle.drt_sp.specs.Progress.{first_graphs}
 use Rattle.drt_sp.specs.TreeClaims.{IsSpentSearch, IsTreeOf}
 use Rattle.drt_sp.specs.Written.{IsEagerProof}
@@ -123,22 +123,24 @@ IsVerdict set (FixedStates tails searches) = ⊥
 IsVerdict set (FixedNo releases miss) = IsMissed set releases miss
 IsVerdict set Undecided = ⊥
 
--- The search of a task's walks up to the greatest deadline spent the budget. Another task has a lower priority, and no job of the task or
--- of one of higher priority misses.
+-- The search of a task's walks up to the greatest deadline spent the budget, which is below what the search may need. Another task has a
+-- lower priority, and no job of the task or of one of higher priority misses.
 pub record IsSpentTable (tasks : List Task) (budget k : ℕ) (log : List Entry) : Type 0 where
   pub task : k < length tasks
   pub lower : (i : ℕ) × (i < length tasks) × ((task_at tasks k).priority < (task_at tasks i).priority)
   pub search : IsSpentSearch (graph_at tasks k) (greatest_deadline tasks) budget log
+  pub short : IsBelowSearch (greatest_deadline tasks) (graph_at tasks k) budget
   pub meets : MeetsDeadlines tasks k
   pub higher : HigherMeetDeadlines tasks k
 
--- The refinement at a vertex spent the budget.
+-- The refinement at a vertex spent the budget, which is below what it may need.
 pub record IsSpentVertex (set : Contents) (budget k v : ℕ) (log : List FrontierEntry) : Type 0 where
   pub order : List ℕ
   pub forest : Plain
   pub roots : List ℕ
   pub reached : IsReached set order forest roots k v
   pub refinement : IsSpentRefinement forest (wcet (graph_at set.tasks k) v) (deadline (graph_at set.tasks k) v) roots budget log
+  pub short : IsBelowRefinement set.tasks budget k
 
 -- Why there is no answer: a budget was spent.
 abbrev pub IsUndecided : Contents → ℕ → FixedTrail → Type 0

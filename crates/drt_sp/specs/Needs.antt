@@ -29,3 +29,13 @@ pub record IsEnough (tasks : List Task) (budget : ℕ) : Type 0 where
   pub searches : (k i : ℕ) → k < length tasks → i < length tasks → (task_at tasks k).priority < (task_at tasks i).priority
       → counts k * (most_out (graph_at tasks k).out + 2) ≤ budget
   pub refinements : (k : ℕ) → k < length tasks → 4 * product_above tasks counts (task_at tasks k).priority (length tasks) ≤ budget
+
+-- The budget is below what a search of the graph's walks up to the bound may need, however many such walks there are.
+abbrev pub IsBelowSearch : ℕ → Digraph → ℕ → Type 0
+IsBelowSearch bound g budget = (n : ℕ) → HasAtMost bound g n → budget < n * (most_out g.out + 2)
+
+-- The budget is below what the refinement at a vertex of task k may need, however many walks the tasks have.
+abbrev pub IsBelowRefinement : List Task → ℕ → ℕ → Type 0
+IsBelowRefinement tasks budget k =
+    (counts : ℕ → ℕ) → ((i : ℕ) → i < length tasks → HasAtMost (greatest_deadline tasks) (graph_at tasks i) (counts i))
+    → budget < 4 * product_above tasks counts (task_at tasks k).priority (length tasks)

@@ -1,9 +1,8 @@
-//! That a budget that is enough isn't spent, as a law.
-ghost use Rattle.drt_sp.specs.Laws.{BudgetsSuffice};
+//! That a budget that is enough isn't spent, and that one that was spent stops a search that could go on, as laws.
+ghost use Rattle.drt_sp.specs.Laws.{BudgetsSuffice, SearchesGoOn};
 
-use drt_refine::over_every_interleaving as over_every_refinement;
 use drt_request::RequestLabel;
-use drt_table::over_every_interleaving as over_every_search;
+use drt_table::over_every_interleaving;
 
 /// A budget that is enough isn't spent.
 ///
@@ -13,7 +12,11 @@ use drt_table::over_every_interleaving as over_every_search;
 /// leaves the set undecided. Nothing computes these numbers: how many walks there are isn't known before the analysis.
 pub fn budgets_suffice()
     ensures { BudgetsSuffice }
+{}
+
+/// A search of a task's walks that spent its budget stopped for that alone: under a greater one it can make these steps and one more.
+pub fn searches_go_on()
+    ensures { SearchesGoOn }
 {
-    over_every_search::<RequestLabel>();
-    over_every_refinement();
+    over_every_interleaving::<RequestLabel>();
 }

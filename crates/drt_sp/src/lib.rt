@@ -4,7 +4,8 @@
 //! tasks of higher priority, and then makes the task's own tree. Each answer carries its evidence, which keeps the rules of
 //! `drt_claims`, and each other answer its cause. The layer above uses the one contract of `analyse_fixed`.
 //!
-//! `budgets_suffice` says how large a budget is enough, by the numbers of the tasks' walks.
+//! `budgets_suffice` says how large a budget is enough, by the numbers of the tasks' walks, and `searches_go_on` that a search that spent
+//! its budget could go on.
 //!
 //! Its parts are there for whoever analyses one task alone: `priority_order`, `search_tree` and `prove_vertices`.
 #![tactic(auto)]
@@ -33,7 +34,7 @@ pub use answer::FixedAnswer;
 pub use deadlines::greatest_deadline;
 pub use drt_trails::FixedTrail;
 pub use grown::{ProvedTrees, TreesAnswer};
-pub use laws::budgets_suffice;
+pub use laws::{budgets_suffice, searches_go_on};
 pub use order::priority_order;
 pub use releases::leaf_releases;
 pub use trees::{TaskTree, TreeSearch, search_tree};

@@ -20,6 +20,9 @@ use drt_claims::{Evidence, ProofClaim, TreeClaim};
 use drt_graph::Graphs;
 use drt_model::{Memory, Row, TaskSet};
 use drt_pool::Gate;
+use drt_refine::over_every_interleaving as over_every_refinement;
+use drt_request::RequestLabel;
+use drt_table::over_every_interleaving as over_every_search;
 use drt_trails::FixedTrail;
 use drt_tree::Forest;
 use std::alloc::Global;
@@ -78,6 +81,7 @@ impl Progress {
         ensures decided { IfOk result (λ answer. MatchOption answer (AreProved set.now.tasks order.now (place + 1) self.new.trees.items self.new.proofs.items) (IsEnding set.now budget)) }
     {
         leaves_pass();
+        over_every_refinement();
         times_suffice_for_task();
         let _tasks = set.tasks();
         let _count = graphs.count();
@@ -135,6 +139,7 @@ impl Progress {
         ensures grown { IfOk result (λ answer. MatchOption answer (AreGrown set.now.tasks order.now (place + 1) self.new.forest self.new.roots.items self.new.trees.items) (IsEnding set.now budget)) }
         ensures proved { IfOk result (λ answer. AreProved set.now.tasks order.now (place + 1) self.new.trees.items self.new.proofs.items) }
     {
+        over_every_search::<RequestLabel>();
         times_suffice_for_task();
         let _tasks = set.tasks();
         let _count = graphs.count();

@@ -25,6 +25,7 @@ use Rattle.drt_sp.specs.Progress.{AreGrown}
 use Rattle.drt_sp.specs.TaskTrees.{IsTaskTree}
 use Rattle.drt_sp.specs.Vertices.{AreVertexProofs, IsStop, TuplesPass}
 use Rattle.drt_sp.specs.declared.trees.TaskTree.{TaskTree}
+use Rattle.drt_sp.proofs.Enough.{RefinementsAreShort, refinement_below}
 use Rattle.drt_sp.proofs.ExactTrees.{grown_exact}
 use Rattle.drt_sp.proofs.Growth.{grown_more, none_grown}
 use Rattle.drt_sp.proofs.Orders.{order_count, order_place, order_rises}
@@ -56,7 +57,7 @@ module _ (g : Given) (is : IsGiven g) where
       let a = ap (λ j. (task_at tasks j).priority) (get_or_from_slice_get order place task 0 spent.0) in
       let b = ap (λ j. (task_at tasks j).priority) (get_or_from_slice_get order m k 0 at) in
       let rises = order_rises tasks order is.order place m l (slice_get_within order m k at) in
-      (task_below tasks order is.order place task spent.0, omega (arith, rises, a, b), spent.1)
+      (task_below tasks order is.order place task spent.0, omega (arith, rises, a, b), spent.1, spent.2)
   spent_above budget k place m l at (Refine task v log) spent = absurd spent
 
   -- No tree stands for no tasks.
@@ -129,10 +130,10 @@ module _ (g : Given) (is : IsGiven g) where
       }
 
       -- A refinement that spent its budget.
-      pub spent_here : LeavesPass → (budget v : ℕ) (log : List FrontierEntry) → IsStop trees.forest trees.roots.items (graph_at g.set.now.tasks k) v
+      pub spent_here : LeavesPass → RefinementsAreShort → (budget v : ℕ) (log : List FrontierEntry) → IsStop trees.forest trees.roots.items (graph_at g.set.now.tasks k) v
           → IsSpentRefinement trees.forest (wcet (graph_at g.set.now.tasks k) v) (deadline (graph_at g.set.now.tasks k) v) trees.roots.items budget log
           → IsSpentTask g.set.now budget k v log
-      spent_here law budget v log stop spent = record {
+      spent_here law short budget v log stop spent = record {
         order = g.order.now;
         forest = trees.forest;
         roots = trees.roots.items;
@@ -143,4 +144,7 @@ module _ (g : Given) (is : IsGiven g) where
         few = above.stand.grown.few_leaves;
         exact = grown_exact g.set.now.tasks g.order.now above.place trees.forest trees.roots.items above.stand.claims above.stand.grown;
         refinement = spent;
+        short =
+            refinement_below g.set.now.tasks g.order.now is.order trees.forest trees.roots.items above.stand.grown.few_leaves k
+            (ap (slice_get g.order.now) above.stand.grown.count ∙ above.at) short forest _ _ budget log spent;
       }

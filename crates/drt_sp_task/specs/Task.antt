@@ -22,7 +22,7 @@ use Rattle.drt_trails.specs.declared.FixedTrail.{FixedTrail}
 use Rattle.drt_trails.specs.declared.FixedTrail.TheVariants.{Table, Refine}
 use Rattle.drt_sp.specs.Answers.{AreExactTrees, MeetsDeadlines}
 use Rattle.drt_sp.specs.Items.{IsSpentRefinement}
-use Rattle.drt_sp.specs.Needs.{AreFewLeaves}
+use Rattle.drt_sp.specs.Needs.{AreFewLeaves, IsBelowRefinement, IsBelowSearch}
 use Rattle.drt_sp.specs.TreeClaims.{IsSpentSearch}
 use Rattle.drt_sp_task.specs.declared.answer.TaskAnswer.{TaskAnswer}
 use Rattle.drt_sp_task.specs.declared.answer.TaskAnswer.TheVariants as answers
@@ -47,8 +47,8 @@ pub record IsTaskMiss (tasks : List Task) (k : ℕ) (releases : List Release) (m
   pub misses : Misses Fixed (jobs_of tasks releases) job
   pub fails : TaskPasses tasks k → ⊥
 
--- The refinement at a vertex of the task spent the budget: the trees are those of the tasks of higher priority and stand for the walks of
--- these, and for all walks a time passes at each earlier vertex.
+-- The refinement at a vertex of the task spent the budget, which is below what it may need: the trees are those of the tasks of higher
+-- priority and stand for the walks of these, and for all walks a time passes at each earlier vertex.
 pub record IsSpentTask (set : Contents) (budget k v : ℕ) (log : List FrontierEntry) : Type 0 where
   pub order : List ℕ
   pub forest : Plain
@@ -60,12 +60,15 @@ pub record IsSpentTask (set : Contents) (budget k v : ℕ) (log : List FrontierE
   pub few : AreFewLeaves set.tasks order forest roots
   pub exact : AreExactTrees set.tasks order forest roots
   pub refinement : IsSpentRefinement forest (wcet (graph_at set.tasks k) v) (deadline (graph_at set.tasks k) v) roots budget log
+  pub short : IsBelowRefinement set.tasks budget k
 
--- Why nothing is said of the task: a budget was spent, by the search of the walks of a task of higher priority, or at a vertex of the task.
+-- Why nothing is said of the task: a budget was spent that is below what may be needed, by the search of the walks of a task of higher
+-- priority, or at a vertex of the task.
 abbrev pub IsUndecidedTask : Contents → ℕ → ℕ → FixedTrail → Type 0
 IsUndecidedTask set budget k (Table task log) =
     (task < length set.tasks) × ((task_at set.tasks task).priority < (task_at set.tasks k).priority)
     × IsSpentSearch (graph_at set.tasks task) (greatest_deadline set.tasks) budget log
+    × IsBelowSearch (greatest_deadline set.tasks) (graph_at set.tasks task) budget
 IsUndecidedTask set budget k (Refine task v log) = (task ≡ k) × IsSpentTask set budget k v log
 
 -- What each answer says of task k, with a budget.

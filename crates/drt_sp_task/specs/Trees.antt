@@ -12,6 +12,7 @@ use Rattle.drt_trails.specs.declared.FixedTrail.{FixedTrail}
 use Rattle.drt_trails.specs.declared.FixedTrail.TheVariants.{Table, Refine}
 use Rattle.drt_sp.specs.Answers.{IsTupleFor}
 use Rattle.drt_sp.specs.Items.{NonePasses}
+use Rattle.drt_sp.specs.Needs.{IsBelowSearch}
 use Rattle.drt_sp.specs.Progress.{AreGrown}
 use Rattle.drt_sp.specs.TreeClaims.{IsSpentSearch}
 use Rattle.drt_sp.specs.declared.walks.VertexTuple.{VertexTuple}
@@ -38,10 +39,11 @@ pub record AreHigherTrees (g : Given) (k : ℕ) (trees : HigherTrees) : Type 0 w
   pub at : slice_get g.order.now place ≡ Some k
   pub stand : AreTreesUpTo g place trees
 
--- The search of the walks of the task at this place of the order spent the budget.
+-- The search of the walks of the task at this place of the order spent the budget, which is below what the search may need.
 abbrev pub IsSpentAt : Given → ℕ → ℕ → FixedTrail → Type 0
 IsSpentAt g budget place (Table task log) =
     (slice_get g.order.now place ≡ Some task) × IsSpentSearch (graph_at g.set.now.tasks task) (greatest_deadline g.set.now.tasks) budget log
+    × IsBelowSearch (greatest_deadline g.set.now.tasks) (graph_at g.set.now.tasks task) budget
 IsSpentAt g budget place (Refine task v log) = ⊥
 
 -- How the searches of the walks of the tasks of higher priority than task k end.

@@ -1,17 +1,10 @@
 //! That a budget that is enough isn't spent, as a law.
 ghost use Rattle.drt_sp_task.specs.Laws.{TaskBudgetsSuffice};
 
-use drt_refine::over_every_interleaving as over_every_refinement;
-use drt_request::RequestLabel;
-use drt_table::over_every_interleaving as over_every_search;
-
 /// A budget that is enough isn't spent.
 ///
 /// A budget that is enough for the analysis of the whole set, as `budgets_suffice` of `drt_sp` says, is enough for the analysis of each of
 /// its tasks. Then no answer leaves the task undecided.
 pub fn budgets_suffice_for_task()
     ensures { TaskBudgetsSuffice }
-{
-    over_every_search::<RequestLabel>();
-    over_every_refinement();
-}
+{}

@@ -5,7 +5,9 @@ ghost use Rattle.drt_sp_task.specs.Trees.{AreTreesUpTo, IsGiven, IsGrown, IsSpen
 use crate::effort::{Effort, Given};
 use drt_model::Memory;
 use drt_pool::Gate;
+use drt_request::RequestLabel;
 use drt_sp::{TreeSearch, greatest_deadline, search_tree};
+use drt_table::over_every_interleaving;
 use drt_trails::FixedTrail;
 use drt_tree::Forest;
 use std::sync::Wait;
@@ -80,6 +82,7 @@ fn add_tree<G: Gate, R: Threads + Wait + Sync>(
     requires before { AreTreesUpTo given place trees.old }
     ensures { IfOk result (λ trail. MatchOption trail (AreTreesUpTo given.entry (place + 1) trees.new) (IsSpentAt given.entry effort.now.budget place)) }
 {
+    over_every_interleaving::<RequestLabel>();
     let _tasks = given.set.tasks();
     let _count = given.graphs.count();
     trees.forest.show_sound();

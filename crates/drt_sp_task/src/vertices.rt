@@ -11,6 +11,7 @@ use drt_busy::times_suffice_for_task;
 use drt_choices::leaves_pass;
 use drt_model::Memory;
 use drt_pool::Gate;
+use drt_refine::over_every_interleaving;
 use drt_sp::{TaskProofs, VertexTuple, prove_vertices};
 use drt_trails::FixedTrail;
 use std::sync::Wait;
@@ -31,6 +32,7 @@ pub(crate) fn decide_over<G: Gate, R: Threads + Wait + Sync>(
     ensures { IfOk result (IsTaskAnswer given.entry.set.now effort.now.budget task) }
 {
     leaves_pass();
+    over_every_interleaving();
     times_suffice_for_task();
     let _tasks = given.set.tasks();
     let _count = given.graphs.count();

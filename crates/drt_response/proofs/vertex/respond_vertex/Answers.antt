@@ -11,7 +11,9 @@ use Rattle.drt_sp.specs.declared.grown.ProvedTrees.{ProvedTrees}
 use Rattle.drt_sp.proofs.Orders.{order_place}
 use Rattle.drt_sp.proofs.Passing.{at_place}
 use Rattle.drt_worst.specs.Splitting.{IsGreatest, Search, search_for}
+use Rattle.drt_worst.specs.Spent.{IsSpent}
 use Rattle.drt_responses.specs.declared.response.Response.{Response}
+use Rattle.drt_response.proofs.Enough.{response_below}
 use Rattle.drt_response.proofs.Posed.{at_most_31, chosen, few_first, reached, response, tuple_for, tuples_pass}
 use Rattle.drt_response.proofs.vertex.respond_vertex.Goals as goal
 
@@ -109,12 +111,16 @@ returns-in-Spent g c =
     let roots : c.first_roots-higher.result.now ≡ take m trees.roots = c.first_roots-higher.ensures ∙ ap (λ (xs : List ℕ). take m xs) c.as_slice.ensures in
     let graph : c.graph.result.now ≡ graph_at tasks k = c.graph.ensures.graph ∙ (ap (λ gs. graph_of gs k) c.requires.graphs ∙ graph_same tasks k c.requires.task) in
     let subject : c.vertex-subject.result.now ≡ vertex_of (graph_at tasks k) v = c.vertex-subject.ensures ∙ ap (λ g. vertex_of g v) graph in
+    let s : Search = search_for trees.forest (wcet (graph_at tasks k) v) (deadline (graph_at tasks k) v) in
+    let spent : IsSpent s (take m trees.roots) c.args.budget c.in-Spent.taken = rw (c.in-Spent.is, roots, subject) at c.in_ok-taken.ensures in
+    let here = reached set trees c.requires.trees m k at v c.requires.vertex c.requires.constrained c.times_suffice_for_task.ensures in
     record {
       order = trees.order;
       forest = trees.forest;
       roots = take m trees.roots;
-      reached = reached set trees c.requires.trees m k at v c.requires.vertex c.requires.constrained c.times_suffice_for_task.ensures;
-      spent = rw (c.in-Spent.is, roots, subject) at c.in_ok-taken.ensures;
+      reached = here;
+      spent = spent;
+      short = response_below set c.args.budget trees.order trees.forest (take m trees.roots) k v here spent.short;
     }
 
 pub returns-in_ok-releases-in-Reached : goal.returns-in_ok-releases-in-Reached

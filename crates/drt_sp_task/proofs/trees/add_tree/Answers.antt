@@ -5,6 +5,7 @@ use Rattle.drt_busy.specs.Choice.{graph_at}
 use Rattle.drt_claims.specs.Trees.{greatest_deadline}
 use Rattle.drt_sp.specs.TaskTrees.{IsTaskTree}
 use Rattle.drt_sp.specs.TreeClaims.{IsSpentSearch}
+use Rattle.drt_sp.proofs.Enough.{search_below}
 use Rattle.drt_sp.proofs.Orders.{order_below}
 use Rattle.drt_sp.proofs.Passing.{at_place}
 use Rattle.drt_sp_task.specs.declared.effort.Given.{Given}
@@ -47,4 +48,8 @@ returns-in-Spent g c =
     let graph : c.graph.result.now ≡ graph_at tasks k = graph_here given c.requires.given k below c.graph.result.now c.graph.ensures.graph in
     let spent : IsSpentSearch (graph_at tasks k) (greatest_deadline tasks) c.args.effort.now.budget c.in-Spent.log
     = rw (c.in-Spent.is, graph, c.greatest_deadline.ensures.value) at c.in_ok-tree.ensures in
-    (at, spent)
+    let laws = c.over_every_interleaving.ensures in (
+      at,
+      spent,
+      search_below laws.short laws.slots given.set.now.version tasks c.tasks-tasks.ensures.limits k below c.args.effort.now.budget c.in-Spent.log spent,
+    )

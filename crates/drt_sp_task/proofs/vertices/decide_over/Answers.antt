@@ -63,5 +63,6 @@ returns-in-Spent g c =
     × IsSpentRefinement trees.forest (wcet (graph_at tasks k) v) (deadline (graph_at tasks k) v) trees.roots.items budget c.in-Spent.log
     = rw (c.in-Spent.is, graph, c.as_slice.ensures.value) at c.in_ok-_proofs.ensures in (
       refl,
-      spent_here given c.requires.given c.tasks-tasks.ensures.limits k trees c.requires.trees c.show_sound.ensures c.leaves_pass.ensures budget v c.in-Spent.log came.0 came.1,
+      spent_here given c.requires.given c.tasks-tasks.ensures.limits k trees c.requires.trees c.show_sound.ensures c.leaves_pass.ensures
+          c.over_every_interleaving.ensures.short budget v c.in-Spent.log came.0 came.1,
     )

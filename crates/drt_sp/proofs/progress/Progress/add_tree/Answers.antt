@@ -13,6 +13,7 @@ use Rattle.drt_releases.proofs.Walks.{graph_same}
 use Rattle.drt_claims.specs.Trees.{greatest_deadline}
 use Rattle.drt_sp.specs.TaskTrees.{IsTaskTree}
 use Rattle.drt_sp.specs.TreeClaims.{IsSpentSearch}
+use Rattle.drt_sp.proofs.Enough.{search_below}
 use Rattle.drt_sp.proofs.Growth.{grown_more, proved_kept, trees_count}
 use Rattle.drt_sp.proofs.Orders.{order_below, order_count, order_rises}
 use Rattle.drt_sp.proofs.Passing.{at_place, first_meet, higher_meet}
@@ -102,6 +103,7 @@ returns-in-Spent-clause-grown c =
       task = below;
       lower = (get_or order (place + 1) 0, order_below tasks order is (place + 1) c.requires.here, order_rises tasks order is place (place + 1) (omega arith) c.requires.here);
       search = spent;
+      short = search_below c.over_every_interleaving.ensures.short c.over_every_interleaving.ensures.slots set.version tasks limits k below c.args.budget c.in-Spent.log spent;
       meets = first_meet tasks order is set.version c.times_suffice_for_task.ensures limits c.requires.given.constrained (place + 1) place k c.requires.proved.passed (omega arith) at;
       higher = higher_meet tasks order is set.version c.times_suffice_for_task.ensures limits c.requires.given.constrained place k first at;
     }

@@ -13,6 +13,7 @@ use Rattle.drt_claims.specs.declared.evidence.TreeClaim.{TreeClaim}
 use Rattle.drt_releases.proofs.Walks.{graph_same}
 use Rattle.drt_sp.specs.Items.{IsFailure, IsSpentRefinement}
 use Rattle.drt_sp.specs.Vertices.{AreVertexProofs, IsStop}
+use Rattle.drt_sp.proofs.Enough.{refinement_below}
 use Rattle.drt_sp.proofs.FirstVertices.{}
 use Rattle.drt_sp.proofs.Growth.{proved_more}
 use Rattle.drt_sp.proofs.Orders.{order_below, order_count}
@@ -136,4 +137,7 @@ returns-in-Spent-clause-decided g c =
           reached_at set order is limits c.requires.given.constrained c.times_suffice_for_task.ensures c.leaves_pass.ensures place k v at f roots trees
           c.show_sound.ensures c.requires.grown c.requires.proved.passed came.0.vertex came.0.earlier;
       refinement = came.1;
+      short =
+          refinement_below tasks order is f roots c.requires.grown.few_leaves k (ap (slice_get order) c.requires.grown.count ∙ at)
+          c.over_every_interleaving.ensures.short c.show_sound.ensures _ _ c.args.budget c.in-Spent.log came.1;
     }
