@@ -4,7 +4,7 @@ ghost use Rattle.drt_model.specs.Digraph.{Digraph};
 ghost use Rattle.drt_sp.specs.Searches.{AreEndsAhead, IsEndAt};
 
 use crate::trees::{SearchEnd, search_leaves};
-use drt_ahead::{Crew, look_ahead, take_found};
+use drt_ahead::{Crew, largest_first, look_ahead, take_found};
 use drt_graph::{Graph, Graphs};
 use drt_model::Memory;
 use drt_pool::Gate;
@@ -12,8 +12,9 @@ use std::alloc::Global;
 use std::sync::Wait;
 use std::thread::Threads;
 
-/// How many steps a search must be reckoned to take before it is worth a worker: to begin one costs about as much as some hundred steps.
-const WORTH: u64 = 1_000;
+/// What a search must be reckoned to cost before it is worth a worker. A unit takes about ten nanoseconds, and to begin a worker as long as
+/// ten thousand of them.
+const WORTH: u64 = 50_000;
 
 /// As many tasks as a set may have.
 const MOST_TASKS: usize = 32;
@@ -56,18 +57,11 @@ impl EndsAhead {
     }
 }
 
-/// How a search may be reckoned to go: its steps, and how much they cost, one against another.
-#[derive(Clone, Copy, Debug)]
-struct Reckoning {
-    steps: u64,
-    cost: u64,
-}
-
 /// Searches the walks of the tasks from this place of the order on ahead of their turn, each by one worker, the dearest first; but not
 /// those of the last task, which has no tree. What was found before is kept where it goes on to this place.
 ///
 /// The first time there are as many searches as workers: so what is done for nothing, where the analysis ends early, is done beside a search
-/// that one worker makes too. After that there are all that are left. None are made where fewer than two of them are reckoned to be long;
+/// that one worker makes too. After that there are all that are left. None are made where fewer than two of them are worth a worker;
 /// the caller goes on by itself then. A search that spends its budget ends the analysis, so none behind it is begun.
 ///
 /// A worker's table is dropped when its search ends; its leaves are kept until their tree is made, or the steps that spent the budget. So
@@ -100,11 +94,11 @@ pub(crate) fn search_ahead<G: Gate, R: Threads + Wait + Sync>(
         MOST_TASKS
     };
     let count = most.min(MOST_TASKS).min(order.len() - 1 - place);
-    let reckonings = reckon_all(alloc, graphs, order, place, count, bound, budget)?;
-    if !are_worth(reckonings.as_slice()) {
+    let costs = reckon_all(alloc, graphs, order, place, count, bound, budget)?;
+    if !are_worth(costs.as_slice()) {
         return Ok(ahead);
     }
-    let begun = dearest_first(alloc, count as u32, reckonings.as_slice())?;
+    let begun = largest_first(alloc, costs.as_slice())?;
     search_all(
         rt,
         alloc,
@@ -180,7 +174,7 @@ fn is_spent(end: &SearchEnd) -> bool {
     }
 }
 
-// Reckons the searches of the tasks at so many places of the order from this one on.
+// What the searches of the tasks at so many places of the order from this one on are reckoned to cost.
 fn reckon_all(
     alloc: Global,
     graphs: &Graphs,
@@ -189,9 +183,10 @@ fn reckon_all(
     count: usize,
     bound: u64,
     budget: u64,
-) -> Result<Vec<Reckoning>, Memory>
+) -> Result<Vec<u64>, Memory>
     requires tasks { All (λ k. k < length graphs.now) order.now }
     requires within { place + count ≤ length order.now }
+    ensures count { IfOk result (λ costs. length costs.items ≡ count) }
 {
     let mut all = Vec::new(alloc);
     for number in 0..count {
@@ -201,9 +196,9 @@ fn reckon_all(
     Ok(all)
 }
 
-// Reckons the search of a graph's walks: as if each vertex had one label in each least separation, until the bound comes or the budget is spent.
-// A step is the dearer the longer the walks are, since each label has the whole function of its own.
-fn reckon(graph: &Graph, bound: u64, budget: u64) -> Reckoning {
+// What the search of a graph's walks is reckoned to cost: its steps as if each vertex had one label in each least separation, until the bound
+// comes or the budget is spent, times the jobs of the longest walk, since each label has the whole function of its own.
+fn reckon(graph: &Graph, bound: u64, budget: u64) -> u64 {
     let mut sep = bound.max(1);
     let mut degree = 0;
     for vertex in 0..graph.vertex_count() {
@@ -214,11 +209,7 @@ fn reckon(graph: &Graph, bound: u64, budget: u64) -> Reckoning {
     let length = (bound / sep.max(1))
         .min(budget / round.max(1))
         .saturating_add(1);
-    let steps = round.saturating_mul(length);
-    Reckoning {
-        steps,
-        cost: steps.saturating_mul(length),
-    }
+    round.saturating_mul(length).saturating_mul(length)
 }
 
 // The least separation of the edges out of a vertex, or this number where none is less.
@@ -232,28 +223,7 @@ fn least_separation(graph: &Graph, vertex: u32, most: u64) -> u64
     least
 }
 
-// Whether two searches at least are long.
-fn are_worth(reckonings: &[Reckoning]) -> bool {
-    reckonings.iter().filter(|it| it.steps >= WORTH).count() >= 2
-}
-
-// The numbers of so many searches, the dearest first.
-fn dearest_first(alloc: Global, count: u32, reckonings: &[Reckoning]) -> Result<Vec<u32>, Memory>
-    ensures count { IfOk result (λ begun. length begun.items ≡ count) }
-    ensures places { IfOk result (λ begun. All (λ i. i < count) begun.items) }
-{
-    let mut begun = Vec::new(alloc);
-    for number in 0..count {
-        begun.push(number)?;
-    }
-    begun.sort_by_key(|number: &u32| -> u64 { cheapness(reckonings, *number) })?;
-    Ok(begun)
-}
-
-// The greater the cheaper the search of this number is.
-fn cheapness(reckonings: &[Reckoning], number: u32) -> u64 {
-    match reckonings.get(number as usize) {
-        None => u64::MAX,
-        Some(it) => u64::MAX.saturating_sub(it.cost),
-    }
+// Whether two searches at least are worth a worker.
+fn are_worth(costs: &[u64]) -> bool {
+    costs.iter().filter(|cost| **cost >= WORTH).count() >= 2
 }

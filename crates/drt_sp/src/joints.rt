@@ -123,8 +123,8 @@ fn room_for(parts: &[Option<Row<Item>>]) -> usize {
     room
 }
 
-// The items, where one frontier makes them within the budget, by two steps each.
-fn within_budget(items: Vec<Item>, budget: u64) -> Option<Row<Item>>
+/// The items, where one frontier makes them within the budget, by two steps each.
+pub(crate) fn within_budget(items: Vec<Item>, budget: u64) -> Option<Row<Item>>
     requires { budget ≤ 1000000 }
     ensures { IfSome result (λ row. (row ≡ items.items) × IsCounted row) }
 {

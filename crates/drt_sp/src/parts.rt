@@ -348,9 +348,9 @@ fn end_job(
     }
 }
 
-// The items that end a combination: its own, then those of its left half, then those of its right half. None where a combination
-// below it fails, or where its frontier, at this place, or one before it is wanting.
-fn end_combination(
+/// The items that end a combination: its own, then those of its left half, then those of its right half. None where a combination
+/// below it fails, or where its frontier, at this place, or one before it is wanting.
+pub(crate) fn end_combination(
     alloc: Global,
     forest: &Forest,
     nodes: &[u32],

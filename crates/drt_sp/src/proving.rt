@@ -1,5 +1,5 @@
 //! The proof that a vertex meets its deadline, whatever walks the tasks of higher priority take.
-ghost use Rattle.std.specs.Prelude.{◌≡◌, ℕ, ◌≤◌, ◌<◌, ◌∷◌, [], All, IfOk, IsTrue, Some, length, slice_get};
+ghost use Rattle.std.specs.Prelude.{◌≡◌, ℕ, ◌≤◌, ◌<◌, ◌∷◌, [], All, IfOk, IfSome, IsTrue, Some, length, slice_get};
 ghost use Rattle.drt_claims.specs.Ranges.{IsCounted, IsInRangeItem};
 ghost use Rattle.drt_refine.specs.Combination.{Combination};
 ghost use Rattle.drt_refine.specs.Drive.{StopsAt};
@@ -9,16 +9,19 @@ ghost use Rattle.drt_refine.specs.Settled.{IsDone};
 ghost use Rattle.drt_refine.specs.View.{IsFrontier, setting_of, state_of};
 ghost use Rattle.drt_refine.specs.declared.step.FrontierReply.TheVariants.{Spent};
 ghost use Rattle.drt_sp.specs.Items.{AreItems, IsItemOf, IsVertexProof};
-ghost use Rattle.drt_sp.specs.Parts.{IsRefined};
+ghost use Rattle.drt_sp.specs.Parts.{AreEndOf, IsRefined};
 ghost use Rattle.drt_steps.specs.Time.{AreChosen};
 
+use crate::joints::within_budget;
+use crate::parts::end_combination;
+use crate::race::Race;
 use drt_claims::Item;
 use drt_model::{Memory, Row};
 use drt_refine::{
     CombinationState, Frontier, FrontierEntry, FrontierReply, eager_settles,
     over_every_interleaving,
 };
-use drt_tree::Forest;
+use drt_tree::{Forest, every_forest};
 use std::alloc::Global;
 
 // The number of the one worker that drives a frontier.
@@ -43,7 +46,57 @@ pub(crate) enum Refined {
 
 /// Looks for a time that passes for a vertex of this wcet and deadline (in ticks), for each tuple of leaves below the roots,
 /// which are those of the trees of the tasks of higher priority. The budget is how many steps the one frontier may make.
+///
+/// First only the items are made, depth first, and nothing else is kept. Where that finds a tuple that fails, or the budget is spent, a
+/// frontier makes all steps once more, for the tuple that it finds first or for its log.
 pub(crate) fn prove_vertex(
+    alloc: Global,
+    forest: &Forest,
+    roots: &[u32],
+    wcet: u32,
+    deadline: u32,
+    budget: u64,
+) -> Result<VertexProof, Memory>
+    requires few { length roots.now ≤ 31 }
+    requires roots { AreChosen deadline forest.now.pool roots.now }
+    requires wcet { (1 ≤ wcet) × (wcet ≤ 1000000) }
+    requires deadline { (1 ≤ deadline) × (deadline ≤ 1000000) }
+    requires budget { (1 ≤ budget) × (budget ≤ 1000000) }
+    ensures { IfOk result (IsVertexProof forest.now wcet deadline roots.now budget) }
+{
+    forest.show_sound();
+    every_forest();
+    if let Some(items) = end_roots(alloc, forest, roots, wcet, deadline, budget)? {
+        return Ok(VertexProof::Passes(items));
+    }
+    prove_by_frontier(alloc, forest, roots, wcet, deadline, budget)
+}
+
+// The items that end the roots, where one frontier makes them within the budget, by two steps each.
+fn end_roots(
+    alloc: Global,
+    forest: &Forest,
+    roots: &[u32],
+    wcet: u32,
+    deadline: u32,
+    budget: u64,
+) -> Result<Option<Row<Item>>, Memory>
+    requires few { length roots.now ≤ 31 }
+    requires roots { AreChosen deadline forest.now.pool roots.now }
+    requires wcet { wcet ≤ 1000000 }
+    requires deadline { deadline ≤ 1000000 }
+    requires budget { budget ≤ 1000000 }
+    ensures { IfOk result (λ some. IfSome some (λ items. AreEndOf forest.now wcet deadline roots.now items × IsCounted items)) }
+{
+    let race = Race::start(alloc, 1, budget / 2)?;
+    match end_combination(alloc, forest, roots, wcet, deadline, 0, &race)? {
+        Some(items) => Ok(within_budget(items.into_vec(), budget)),
+        None => Ok(None),
+    }
+}
+
+// What becomes of a vertex by the steps of one frontier.
+fn prove_by_frontier(
     alloc: Global,
     forest: &Forest,
     roots: &[u32],

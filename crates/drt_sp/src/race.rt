@@ -1,4 +1,5 @@
-//! What workers share that end combinations side by side. It decides only when a worker gives up: nothing is proved of it.
+//! What workers share that end combinations side by side, or what one has that ends them alone. It decides only when a worker gives up:
+//! nothing is proved of it.
 use drt_model::Memory;
 use std::alloc::Global;
 use std::sync::atomic::{AtomicU64, Ordering};

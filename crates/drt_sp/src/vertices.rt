@@ -38,8 +38,7 @@ pub enum TaskProofs {
 }
 
 /// Proves the vertices of a task, by its graph, in file order, against the trees with these roots, each with this budget of steps.
-/// Several workers end the combinations of all vertices side by side, and the answer is that of one worker; where the gate's `alone` is 0
-/// they share each frontier.
+/// Several workers end the combinations of all vertices side by side, and the answer is that of one worker.
 pub fn prove_vertices<G: Gate, R: Threads + Wait + Sync>(
     rt: &R,
     alloc: Global,
