@@ -28,7 +28,7 @@ HasHalves tree = IsHalved (length tree.walks) 0 (length tree.walks) tree.pairs (
 
 -- What the walk asks for before each time from 1 to the bound, and its vertices: by these, leaves are put in order.
 abbrev pub leaf_of : ℕ → Digraph → List ℕ → Leaf
-leaf_of bound g walk = record { steps = map (λ t. asked g t walk) (range_with_len 1 bound); walk = walk }
+leaf_of bound g w = record { steps = map (λ t. asked g t w) (range_with_len 1 bound); walk = w }
 
 -- The tree's walks stand in order: by what they ask for before the bound, then by what they ask for before each earlier time, and then by
 -- their vertices.
