@@ -1,5 +1,5 @@
 -- What the releases of walks and their first miss say.
-use Rattle.std.proofs.Common.{◌≡◌, ℕ, ◌<◌, ◌≤◌, List, length, take, All, sym, ap, subst, arith, ◌∙◌}
+use Rattle.std.proofs.Common.{◌≡◌, ℕ, ◌<◌, ◌≤◌, List, length, take, All, refl, sym, ap, subst, arith, ◌∙◌}
 use Rattle.std.specs.Prelude.{◌==◌}
 use Rattle.std.proofs.lemmas.List.{length-map, length-take-le}
 use Rattle.std.proofs.lemmas.List.Elements.{All-get_or, All-map, All-weaker}
@@ -69,6 +69,12 @@ missed version tasks ok constrained demand none t walks are due excess releases 
     subst (λ xs. IsMissed tasks xs miss) (sym same) (record {
       not_schedulable = λ s. s rs d.0 j.0 j.1 j.3;
       accepted = λ version. edf_no_accepted (record { version = version; tasks = tasks }) rs miss constrained (record { legal = d.0; misses = l });
+      walks = walks;
+      are = are;
+      releases_are = refl;
+      by = t;
+      due = due;
+      over = excess;
       overloaded = (t, d.1);
       hopeless = λ assigned. (let h = none assigned (jobs_of tasks rs) t d.1 in (h.0, omega (arith, h.1, length-map rs (job_of tasks)), h.3));
     })

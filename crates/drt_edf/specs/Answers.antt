@@ -1,5 +1,5 @@
 -- What each answer of the EDF analysis says.
-use Rattle.std.specs.Prelude.{ℕ, ◌<◌, ◌≤◌, ◌^◌, ◌⊎◌, List, length, Option}
+use Rattle.std.specs.Prelude.{◌≡◌, ℕ, ◌<◌, ◌≤◌, ◌^◌, ◌⊎◌, List, length, Option}
 use Rattle.drt_model.specs.declared.tasks.Task.{Task}
 use Rattle.drt_model.specs.declared.jobs.Policy.TheVariants.{Edf}
 use Rattle.drt_model.specs.declared.jobs.Release.{Release}
@@ -8,6 +8,8 @@ use Rattle.drt_model.specs.Schedulable.{Schedulable, jobs_of}
 use Rattle.drt_model.specs.Trace.{job_at}
 use Rattle.drt_busy.specs.Needs.{needs, is_due}
 use Rattle.drt_busy.specs.Assignment.{had}
+use Rattle.drt_busy.specs.Choice.{AreDueBy, AreWalks, efforts}
+use Rattle.drt_busy.specs.WalkReleases.{all_releases}
 use Rattle.drt_horizon.specs.declared.answers.Beyond.{Beyond}
 use Rattle.drt_horizon.specs.declared.answers.Beyond.TheVariants.{TooFine, TooFar}
 use Rattle.drt_claims.specs.Claims.{graphs_of, Each, IsHorizon}
@@ -40,11 +42,19 @@ pub record IsExactYes (tasks : List Task) (ratios : List RatioClaim) (fronts : L
   pub is_bound : IsHorizon (graphs_of tasks) ratios bound
   pub exact : Each (IsExactFront bound) (graphs_of tasks) fronts
 
--- A no: the set isn't schedulable under EDF, the releases are legal and the named job misses, before whose deadline none does; the
--- jobs that are due by some t need more than t, and no assignment of one job to each tick meets all deadlines.
+-- A no: the set isn't schedulable under EDF, the releases are legal and the named job misses, before whose deadline none does. The releases
+-- are those of a walk of each task, from time 0, as early as the separations allow and each with its whole execution time, and these walks are
+-- due by some time and have more work than it together. So the jobs that are due by it need more, and no assignment of one job to each tick
+-- meets all deadlines.
 pub record IsMissed (tasks : List Task) (releases : List Release) (miss : Miss) : Type 0 where
   pub not_schedulable : ¬ Schedulable tasks Edf
   pub accepted : IsAcceptedFor tasks (EdfNo releases miss)
+  pub walks : ℕ → List ℕ
+  pub are : AreWalks tasks walks
+  pub releases_are : releases ≡ all_releases tasks walks (length tasks)
+  pub by : ℕ
+  pub due : AreDueBy tasks walks by
+  pub over : by < efforts tasks walks (length tasks)
   pub overloaded : (t : ℕ) × (t < needs (is_due 0 t) (jobs_of tasks releases))
   pub hopeless :
       (assigned : ℕ → Option ℕ) → (j : ℕ) × (j < length releases)

@@ -12,7 +12,7 @@ use Rattle.drt_claims.specs.declared.evidence.Evidence.{Evidence}
 use Rattle.drt_claims.specs.declared.evidence.Evidence.TheVariants.{FixedYes, FixedStates, FixedNo, Undecided}
 use Rattle.drt_claims.specs.declared.evidence.ProofClaim.{ProofClaim}
 use Rattle.drt_claims.specs.declared.evidence.TreeClaim.{TreeClaim}
-use Rattle.drt_sp.specs.Answers.{IsExactYes, IsUndecided}
+use Rattle.drt_sp.specs.Answers.{AreOfWalks, IsExactYes, IsUndecided}
 use Rattle.drt_sp.specs.Evidence.{under_fixed}
 use Rattle.drt_trails.specs.declared.FixedTrail.{FixedTrail}
 use Rattle.drt_claims.specs.Statement.{Statement}
@@ -27,10 +27,11 @@ pub record IsYes (set : Contents) (evidence : Evidence) : Type 0 where
   pub kind : HasTrees evidence ⊎ HasStates evidence
   pub exact : (trees : List TreeClaim) (proofs : List ProofClaim) → evidence ≡ FixedYes trees proofs → IsExactYes set trees proofs
 
--- A no: the set isn't schedulable, and the evidence is accepted: the releases are legal, and the named job misses.
+-- A no: the set isn't schedulable, and the evidence is accepted: the releases are legal, and the named job misses. They are those of walks.
 pub record IsNo (set : Contents) (releases : List Release) (miss : Miss) : Type 0 where
   pub not_schedulable : ¬ Schedulable set.tasks Fixed
   pub accepted : Accepts (under_fixed set (FixedNo releases miss))
+  pub of_walks : AreOfWalks set.tasks releases miss
 
 -- What is said with evidence and the trail of a spent budget: a yes or a no without a trail; or that nothing is decided, and the trail
 -- shows why.

@@ -21,6 +21,6 @@ refusal_is set (FixedNo releases miss) refusal range = record {
   miss = miss;
   dossier_is = refl;
   in_range = range;
-  no = record { not_schedulable = refusal.not_schedulable; accepted = refusal.accepted };
+  no = record { not_schedulable = refusal.not_schedulable; accepted = refusal.accepted; of_walks = refusal.of_walks };
 }
 refusal_is set Undecided refusal range = absurd refusal

@@ -1,17 +1,17 @@
 //! The releases that reach a response time.
 ghost use Rattle.std.specs.Prelude.{◌≡◌, ◌≤◌, ◌<◌, ℕ, IfOk, length};
 ghost use Rattle.drt_model.specs.Digraph.{vertex_count};
-ghost use Rattle.drt_busy.specs.Choice.{AreWalks, IsWalk, graph_at};
+ghost use Rattle.drt_busy.specs.Choice.{AreWalks, graph_at};
 ghost use Rattle.drt_busy.specs.Response.{reaching};
-ghost use Rattle.drt_choices.specs.Choices.{cut};
 ghost use Rattle.drt_claims.specs.Claims.{graphs_of};
 ghost use Rattle.drt_releases.specs.Walks.{walk_at};
 ghost use Rattle.drt_response.specs.Placed.{job_walk, placed_walk};
 
 use crate::subjects::{VertexAt, higher_count};
-use drt_graph::{Graph, Graphs};
+use drt_graph::Graphs;
 use drt_model::{Memory, Release, Row, TaskSet};
 use drt_releases::all_releases;
+use drt_sp::cut_walk;
 use std::alloc::Global;
 
 // Each walk's offsets are below the finish, and its last job's deadline is at most as much later. Both are at most 1,000,000 ticks.
@@ -104,32 +104,4 @@ fn walk_of(walks: &[Row<u32>], place: usize) -> &[u32]
         Some(walk) => walk.as_slice(),
         None => &[],
     }
-}
-
-// A walk as far as the offsets of its releases are below `end`, in ticks.
-fn cut_walk(alloc: Global, graph: &Graph, end: u32, walk: &[u32]) -> Result<Row<u32>, Memory>
-    requires walk { IsWalk graph.now walk.now }
-    ensures { IfOk result (λ row. row ≡ cut graph.now end walk.now) }
-{
-    let _count = graph.vertex_count();
-    let mut kept = Vec::new(alloc);
-    if walk.is_empty() {
-        return Ok(Row::from_vec(kept));
-    }
-    let mut vertex = walk[0];
-    let mut offset: u64 = 0;
-    kept.push(vertex)?;
-    'steps: for i in 1..walk.len() {
-        let next = walk[i];
-        let Some(gap) = graph.separation(vertex, next) else {
-            unreachable!();
-        };
-        offset += u64::from(gap);
-        if offset >= u64::from(end) {
-            return Ok(Row::from_vec(kept));
-        }
-        kept.push(next)?;
-        vertex = next;
-    }
-    Ok(Row::from_vec(kept))
 }

@@ -20,10 +20,11 @@ use Rattle.drt_choices.specs.Choices.{AreTrees, IsOrder, chosen, cut}
 use Rattle.drt_choices.specs.Laws.{LeavesMiss, no_releases}
 use Rattle.drt_claims.specs.Claims.{graphs_of}
 use Rattle.drt_claims.specs.Ranges.{AreInRangeReleases, IsInRangeRelease}
+use Rattle.drt_claims.specs.Trees.{greatest_deadline}
 use Rattle.drt_claims.proofs.Accepting.{fixed_no_accepted}
 use Rattle.drt_releases.proofs.Walks.{graph_same}
 use Rattle.drt_releases.specs.Walks.{AreDueWalks}
-use Rattle.drt_sp.specs.Answers.{IsFailedVertex, IsMissed, IsTupleFor}
+use Rattle.drt_sp.specs.Answers.{AreOfWalks, IsFailedVertex, IsMissed, IsTupleFor}
 use Rattle.drt_sp.specs.Chosen.{AreLeaves, IsLeafOf, leaf_for}
 use Rattle.drt_sp.proofs.Chosen.{chosen_none, chosen_some, cut_due, cut_walk_is, leaf_place, one_due}
 use Rattle.drt_sp.proofs.Orders.{order_below}
@@ -133,11 +134,32 @@ failed_tuple set order f k v tuple failed = record {
   below = failed.failure.below;
 }
 
+-- The releases of a failing vertex are those of walks.
+failed_walks : (set : Contents) (order : List ℕ) (f : Plain) (k v : ℕ) (tuple : List ℕ) → IsForest f → AreGraphs (graphs_of set.tasks) → IsFailedVertex set order f k v tuple
+    → AreOfWalks set.tasks (no_releases set.tasks f order tuple k v) (record { task = k; index = 0; deadline = deadline (graph_at set.tasks k) v })
+failed_walks set order f k v tuple forest graphs failed =
+    let tasks : List Task = set.tasks in
+    let d = deadline (graph_at tasks k) v in
+    let is : IsTupleFor set order f k v tuple = failed_tuple set order f k v tuple failed in
+    let leaves : AreLeaves tasks f order tuple = are_leaves tasks (greatest_deadline tasks) f forest order is.roots tuple is.posed.order_is is.nodes is.posed.trees is.below in
+    let vertex : v < vertex_count (graph_at tasks k) = is.posed.subject.vertex in
+    let small : d ≤ 1000000 = ((sound_at tasks f order tuple leaves graphs k is.task).deadline v vertex).1 in
+    record {
+      walks = chosen tasks f d order tuple;
+      are = λ i l. (chosen_due tasks f order tuple leaves graphs d small i l).0;
+      task = is.task;
+      vertex = v;
+      within = vertex;
+      releases_are = refl;
+      miss_is = refl;
+    }
+
 -- The no of a failing vertex.
-pub missed : (set : Contents) (order : List ℕ) (f : Plain) (k v : ℕ) (tuple : List ℕ) → AreConstrained set.tasks → LeavesMiss → IsFailedVertex set order f k v tuple
+pub missed : (set : Contents) (order : List ℕ) (f : Plain) (k v : ℕ) (tuple : List ℕ) → AreConstrained set.tasks → LeavesMiss → IsForest f → AreGraphs (graphs_of set.tasks)
+    → IsFailedVertex set order f k v tuple
     → (releases : List Release) (miss : Miss) → releases ≡ no_releases set.tasks f order tuple k v → miss ≡ record { task = k; index = 0; deadline = deadline (graph_at set.tasks k) v }
     → IsMissed set releases miss
-missed set order f k v tuple constrained law failed releases miss same is =
+missed set order f k v tuple constrained law forest graphs failed releases miss same is =
     let rs : List Release = no_releases set.tasks f order tuple k v in
     let named : Miss = record { task = k; index = 0; deadline = deadline (graph_at set.tasks k) v } in
     let d = law set.version set.tasks order _ f failed.roots k v failed.reached.posed constrained failed.reached.passed tuple failed.failure.below failed.failure.hopeless in
@@ -152,6 +174,7 @@ missed set order f k v tuple constrained law failed releases miss same is =
       failed = failed;
       releases_are = refl;
       miss_is = refl;
+      of_walks = failed_walks set order f k v tuple forest graphs failed;
     } in
     subst (λ xs. IsMissed set xs miss) (sym same) (subst (λ m. IsMissed set rs m) (sym is) no)
 

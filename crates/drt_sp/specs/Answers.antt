@@ -5,11 +5,13 @@ use Rattle.drt_model.specs.declared.tasks.Task.{Task}
 use Rattle.drt_model.specs.declared.jobs.Policy.TheVariants.{Fixed}
 use Rattle.drt_model.specs.declared.jobs.Release.{Release}
 use Rattle.drt_model.specs.declared.jobs.Miss.{Miss}
+use Rattle.drt_model.specs.Digraph.{vertex_count}
 use Rattle.drt_model.specs.Legal.{IsLegal}
 use Rattle.drt_model.specs.Schedulable.{Schedulable, jobs_of}
 use Rattle.drt_model.specs.Trace.{job_at, Misses}
 use Rattle.drt_model.specs.Walk.{deadline, wcet}
-use Rattle.drt_busy.specs.Choice.{graph_at, task_at}
+use Rattle.drt_busy.specs.Choice.{AreWalks, graph_at, task_at}
+use Rattle.drt_busy.specs.WalkReleases.{all_releases, with_job}
 use Rattle.drt_tree.specs.Tree.{IsForest, Plain}
 use Rattle.drt_refine.specs.Below.{AreBelow, AreNodes}
 use Rattle.drt_refine.specs.declared.step.FrontierEntry.{FrontierEntry}
@@ -89,6 +91,17 @@ pub record IsFailedVertex (set : Contents) (order : List ℕ) (f : Plain) (k v :
   pub reached : IsReached set order f roots k v
   pub failure : IsFailure f (wcet (graph_at set.tasks k) v) (deadline (graph_at set.tasks k) v) roots tuple
 
+-- The releases are those of a walk of each task of higher priority than the named job's, from time 0, as early as the separations allow and each
+-- with its whole execution time, and one of a vertex of that task at 0, whose job is the named one.
+pub record AreOfWalks (tasks : List Task) (releases : List Release) (miss : Miss) : Type 0 where
+  pub walks : ℕ → List ℕ
+  pub are : AreWalks tasks walks
+  pub task : miss.task < length tasks
+  pub vertex : ℕ
+  pub within : vertex < vertex_count (graph_at tasks miss.task)
+  pub releases_are : releases ≡ all_releases tasks (with_job tasks walks miss.task vertex) (length tasks)
+  pub miss_is : miss ≡ record { task = miss.task; index = 0; deadline = deadline (graph_at tasks miss.task) vertex }
+
 -- A no: the set isn't schedulable, and the evidence is accepted. It is that of the first vertex that fails, in order of priority and then
 -- of the file: the releases are those of the walks of a tuple of leaves and one of the vertex, whose job misses.
 pub record IsMissed (set : Contents) (releases : List Release) (miss : Miss) : Type 0 where
@@ -102,6 +115,7 @@ pub record IsMissed (set : Contents) (releases : List Release) (miss : Miss) : T
   pub failed : IsFailedVertex set order forest task vertex tuple
   pub releases_are : releases ≡ no_releases set.tasks forest order tuple task vertex
   pub miss_is : miss ≡ record { task = task; index = 0; deadline = deadline (graph_at set.tasks task) vertex }
+  pub of_walks : AreOfWalks set.tasks releases miss
 
 -- The evidence of a no, and no other.
 abbrev pub IsRefusal : Contents → Evidence → Type 0

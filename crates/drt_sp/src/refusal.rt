@@ -30,6 +30,7 @@ pub(crate) fn refusal(
     ensures range { IfOk result IsInRange }
 {
     leaves_miss();
+    forest.show_sound();
     let _tasks = set.tasks();
     let _count = graphs.count();
     let deadline = graphs.graph(failed.task).vertex(failed.vertex).deadline;

@@ -108,8 +108,8 @@ fn leaf_of(order: &[u32], tuple: &[u32], k: u32) -> Option<u32>
     None
 }
 
-// A walk as far as the offsets of its releases are below `end`, in ticks.
-fn cut_walk(alloc: Global, graph: &Graph, end: u32, walk: &[u32]) -> Result<Row<u32>, Memory>
+/// A walk as far as the offsets of its releases are below `end`, in ticks.
+pub fn cut_walk(alloc: Global, graph: &Graph, end: u32, walk: &[u32]) -> Result<Row<u32>, Memory>
     requires walk { IsWalk graph.now walk.now }
     ensures { IfOk result (λ row. row ≡ cut graph.now end walk.now) }
 {

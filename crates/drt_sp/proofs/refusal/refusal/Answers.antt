@@ -52,7 +52,7 @@ returns-clause-verdict c =
     let releases : c.in_ok-releases.releases ≡ no_releases tasks f order tuple j v = c.in_ok-releases.ensures.releases ∙ ap (λ (d : ℕ). leaf_releases tasks f order tuple j v d) end in
     let due : c.from.result ≡ deadline (graph_at tasks j) v = c.from.ensures ∙ end in
     let name : ℕ → Miss = λ (d : ℕ). record { task = j; index = 0; deadline = d } in
-    missed set order f j v tuple c.requires.constrained c.leaves_miss.ensures failed c.in_ok-releases.releases (name c.from.result) releases (ap name due)
+    missed set order f j v tuple c.requires.constrained c.leaves_miss.ensures c.show_sound.ensures kept failed c.in_ok-releases.releases (name c.from.result) releases (ap name due)
 
 pub returns-clause-range : goal.returns-clause-range
 returns-clause-range c =
