@@ -96,6 +96,7 @@ module _ (g : Digraph) (bound : ℕ) (f : Plain) (low top : ℕ) (claim : TreeCl
         both = omega (arith, left, right, count);
       }
 
+  -- Each node of the claim has as many walks below it as its node of the forest has leaves.
   pub counts_are : (n : ℕ) → n ≤ root claim → slice_index_or (walk_counts claim) n 0 ≡ leaves f (low + n)
   counts_are n l =
       let ones : List ℕ = map (λ walk. 1) claim.walks in

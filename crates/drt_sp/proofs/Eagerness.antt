@@ -67,6 +67,7 @@ module _ (bound : ℕ) (f : Plain) where
           = sums_are bound f graphs claims lows nodes t h p.some (let w = p.within in omega (arith, w, near)) in
           record { from = p.some; to = p.within; passes = (let e = p.fits in omega (arith, e, sum)) }
 
+      -- Items that are due for a stack of the forest's nodes are due for that of the claimed trees'.
       due_of : (items : List Item) (stack : List (List ℕ)) → AreItems f (wcet g v) (deadline g v) items stack → AllIn bound f graphs claims lows stack
           → AreEagerItems graphs claims g v items (Some (lower_all lows stack))
       unfolding AreEagerItems
@@ -97,6 +98,7 @@ items_due bound f forest graphs lows tops claims are trees g v near items is =
 count_more : (trees more : List TreeClaim) (nodes : List ℕ) (place : ℕ) → place < length trees → count_at (trees ++ more) nodes place ≡ count_at trees nodes place
 count_more trees more nodes place l = ap (λ tree. count_in tree (slice_get nodes place)) (get_front trees more place l)
 
+-- The widest place of a combination over the first trees is that over more.
 widest_more : (trees more : List TreeClaim) (nodes : List ℕ) (place : ℕ) → length nodes ≤ length trees → IsWidestPlace trees nodes place → IsWidestPlace (trees ++ more) nodes place
 widest_more trees more nodes place narrow w = record {
   within = w.within;
