@@ -12,7 +12,7 @@ use Rattle.drt_sp.specs.Evidence.{under_fixed}
 use Rattle.drt_fixed.specs.Answers.{IsDecision, IsOfStates}
 
 -- A yes.
-pub yes_decided : (set : Contents) (evidence : Evidence) → IsOfStates evidence → IsInRange evidence → IsClaimed (under_fixed set evidence) judgements.Schedulable
+pub yes_decided : (set : Contents) (evidence : Evidence) → IsOfStates set.tasks evidence → IsInRange evidence → IsClaimed (under_fixed set evidence) judgements.Schedulable
     → Schedulable set.tasks Fixed → IsDecision set (under_fixed set evidence)
 yes_decided set (EdfYes ratios fronts) kind range claimed is = absurd kind
 yes_decided set (EdfNo releases miss) kind range claimed is = absurd kind
@@ -28,7 +28,7 @@ yes_decided set (FixedNo releases miss) kind range claimed is = let e = claimed.
 yes_decided set Undecided kind range claimed is = absurd kind
 
 -- A no.
-pub no_decided : (set : Contents) (evidence : Evidence) → IsOfStates evidence → IsInRange evidence → IsClaimed (under_fixed set evidence) judgements.Unschedulable
+pub no_decided : (set : Contents) (evidence : Evidence) → IsOfStates set.tasks evidence → IsInRange evidence → IsClaimed (under_fixed set evidence) judgements.Unschedulable
     → ¬ Schedulable set.tasks Fixed → IsDecision set (under_fixed set evidence)
 no_decided set (EdfYes ratios fronts) kind range claimed not = absurd kind
 no_decided set (EdfNo releases miss) kind range claimed not = absurd kind
@@ -39,6 +39,6 @@ no_decided set (FixedNo releases miss) kind range claimed not = record {
   evidence = FixedNo releases miss;
   dossier_is = refl;
   in_range = range;
-  says = λ budget. (refl, record { not_schedulable = not; accepted = claimed.0 });
+  says = λ budget. (refl, record { not_schedulable = not; accepted = claimed.0; of_walks = kind });
 }
 no_decided set Undecided kind range claimed not = absurd kind

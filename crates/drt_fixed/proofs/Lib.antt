@@ -1,2 +1,4 @@
+pub mod Ahead
+pub mod Beside
 pub mod Decisions
 pub mod Prefixes

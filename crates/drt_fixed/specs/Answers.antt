@@ -4,6 +4,7 @@ use Rattle.drt_model.specs.Contents.{Contents}
 use Rattle.drt_model.specs.declared.jobs.Miss.{Miss}
 use Rattle.drt_model.specs.declared.jobs.Policy.TheVariants.{Fixed}
 use Rattle.drt_model.specs.declared.jobs.Release.{Release}
+use Rattle.drt_model.specs.declared.tasks.Task.{Task}
 use Rattle.drt_model.specs.Schedulable.{Schedulable}
 use Rattle.drt_claims.specs.Kinds.{HasStates, HasTrees}
 use Rattle.drt_claims.specs.Ranges.{IsInRange}
@@ -42,11 +43,11 @@ IsSaid set budget (FixedNo releases miss) trail = (trail ≡ None) × IsNo set r
 IsSaid set budget Undecided trail = (spent : FixedTrail) × (trail ≡ Some spent) × IsUndecided set budget spent
 IsSaid set budget other trail = ⊥
 
--- The evidence is of a kind that states give.
-abbrev pub IsOfStates : Evidence → Type 0
-IsOfStates (FixedStates tails searches) = Unit {0}
-IsOfStates (FixedNo releases miss) = Unit {0}
-IsOfStates other = ⊥
+-- The evidence is of a kind that states give. The releases of a no are those of walks.
+abbrev pub IsOfStates : List Task → Evidence → Type 0
+IsOfStates tasks (FixedStates tails searches) = Unit {0}
+IsOfStates tasks (FixedNo releases miss) = AreOfWalks tasks releases miss
+IsOfStates tasks other = ⊥
 
 -- The dossier is that of the set under fixed priorities with evidence in range, which is a yes or a no.
 pub record IsDecision (set : Contents) (dossier : Statement) : Type 0 where

@@ -1,7 +1,10 @@
 //! Searches that workers make ahead of the one that is next.
-ghost use Rattle.std.specs.Prelude.{◌<◌, ◌≤◌, All, IfOk, length};
+ghost use Rattle.std.specs.Prelude.{◌≡◌, ◌<◌, ◌≤◌, All, IfOk, IfSome, List, length, slice_index_or};
 ghost use denote.Param.Send.{IsSync};
-ghost use Rattle.drt_fixed.specs.Searching.{IsGiven, IsPlaced};
+ghost use Rattle.drt_ahead.specs.Found.{AreThere};
+ghost use Rattle.drt_fixed.specs.Searching.{AreFoundFrom, IsFoundAt, IsGiven, IsPlaced, no_vertex};
+ghost use Rattle.drt_fixed.specs.declared.vertices.Given.{Given};
+ghost use Rattle.drt_fixed.specs.declared.vertices.PlacedVertex.{PlacedVertex};
 
 use crate::vertices::{Given, PlacedVertex, search_vertex};
 use drt_ahead::{Crew, largest_first, look_ahead, take_found};
@@ -23,62 +26,113 @@ pub(crate) struct Ahead {
     states: u64,
     is_looked: bool,
     found: Vec<Option<Searched>>,
-    // The place of the next vertex among those.
-    next: u32,
+    // The number of the first of those vertices.
+    first: usize,
 }
 
 impl Ahead {
     /// Nothing so far.
-    pub(crate) fn none(alloc: Global) -> Ahead {
+    pub(crate) fn none(alloc: Global) -> Ahead
+        ensures { (given : Given) (vertices : List PlacedVertex) → AreFoundFrom given vertices result.first result.found.items }
+    {
         Ahead {
             states: 0,
             is_looked: false,
             found: Vec::new(alloc),
-            next: 0,
+            first: 0,
         }
     }
 
-    // What is found of the next vertex.
-    fn take_next(&mut self) -> Option<Searched> {
-        if !self.is_looked {
+    // What is found of the vertex of this number.
+    fn take(&mut self, number: usize) -> Option<Searched>
+        ensures ahead { (given : Given) (vertices : List PlacedVertex) → AreFoundFrom given vertices self.old.first self.old.found.items → AreFoundFrom given vertices self.new.first self.new.found.items }
+        ensures found { (given : Given) (vertices : List PlacedVertex) → AreFoundFrom given vertices self.old.first self.old.found.items → IfSome result (IsFoundAt given (slice_index_or vertices number no_vertex)) }
+    {
+        if number < self.first {
             return None;
         }
-        let place = self.next;
-        self.next = place.saturating_add(1);
-        take_found(&mut self.found, place)
+        match u32::try_from(number - self.first) {
+            Ok(place) => take_found(&mut self.found, place),
+            Err(_) => None,
+        }
     }
 
     // Counts the states of a search.
-    fn count(&mut self, searched: &Searched) {
+    fn count(&mut self, searched: &Searched)
+        ensures first { self.new.first ≡ self.old.first }
+        ensures found { self.new.found.items ≡ self.old.found.items }
+    {
         if let Searched::Passes(states) = searched {
             self.states = self.states.saturating_add(states.as_slice().len() as u64);
         }
     }
 }
 
-/// The search of the first of the vertices that are left: what is found ahead, or else by all workers together.
+/// The search of the vertex of this number: what is found ahead, or else by all workers together.
 pub(crate) fn search_next<G: Gate, R: Threads + Wait + Sync>(
     crew: &Crew<'_, G, R>,
     given: Given<'_>,
-    left: &[PlacedVertex],
+    vertices: &[PlacedVertex],
+    number: usize,
     ahead: &mut Ahead,
 ) -> Result<Searched, Memory>
     requires workers { (1 ≤ crew.now.workers) × (crew.now.workers ≤ 16) }
     requires given { IsGiven given }
-    requires left { All (IsPlaced given) left.now }
-    requires some { 0 < length left.now }
+    requires vertices { All (IsPlaced given) vertices.now }
+    requires number { number < length vertices.now }
+    requires ahead { AreFoundFrom given vertices.now ahead.old.first ahead.old.found.items }
+    ensures ahead { IfOk result (λ searched. AreFoundFrom given.entry vertices.now ahead.new.first ahead.new.found.items) }
+    ensures found { IfOk result (IsFoundAt given.entry (slice_index_or vertices.now number no_vertex)) }
 {
-    if !ahead.is_looked && ahead.states >= crew.gate.alone().min(ENOUGH) {
-        ahead.is_looked = true;
-        ahead.found = search_ahead(crew, given, left)?;
-    }
-    match ahead.take_next() {
+    look_from(crew, given, vertices, number, ahead)?;
+    match ahead.take(number) {
         Some(Searched::Spent) | None => {}
         Some(searched) => return Ok(searched),
     }
-    let searched = search_vertex(crew, given, left[0], given.budget)?;
+    let searched = search_at(crew, given, vertices, number, given.budget)?;
     ahead.count(&searched);
     Ok(searched)
+}
+
+// The search of the vertex of this number, by so many states at most.
+fn search_at<G: Gate, R: Threads + Wait + Sync>(
+    crew: &Crew<'_, G, R>,
+    given: Given<'_>,
+    vertices: &[PlacedVertex],
+    number: usize,
+    most: u64,
+) -> Result<Searched, Memory>
+    requires workers { (1 ≤ crew.now.workers) × (crew.now.workers ≤ 16) }
+    requires given { IsGiven given }
+    requires vertices { All (IsPlaced given) vertices.now }
+    requires number { number < length vertices.now }
+    ensures { IfOk result (IsFoundAt given.entry (slice_index_or vertices.now number no_vertex)) }
+{
+    search_vertex(crew, given, vertices[number], most)
+}
+
+// Looks ahead from the vertex of this number on, once it is worth it.
+fn look_from<G: Gate, R: Threads + Wait + Sync>(
+    crew: &Crew<'_, G, R>,
+    given: Given<'_>,
+    vertices: &[PlacedVertex],
+    number: usize,
+    ahead: &mut Ahead,
+) -> Result<(), Memory>
+    requires given { IsGiven given }
+    requires vertices { All (IsPlaced given) vertices.now }
+    requires number { number < length vertices.now }
+    requires ahead { AreFoundFrom given vertices.now ahead.old.first ahead.old.found.items }
+    ensures { IfOk result (λ none. AreFoundFrom given.entry vertices.now ahead.new.first ahead.new.found.items) }
+{
+    if ahead.is_looked || ahead.states < crew.gate.alone().min(ENOUGH) {
+        return Ok(());
+    }
+    let found = search_ahead(crew, given, &vertices[number..])?;
+    ahead.is_looked = true;
+    ahead.first = number;
+    ahead.found = found;
+    Ok(())
 }
 
 // The searches of vertices that workers make side by side, each by one of them, those of the latest deadlines first. A search that doesn't
@@ -90,6 +144,7 @@ fn search_ahead<G: Gate, R: Threads + Wait + Sync>(
 ) -> Result<Vec<Option<Searched>>, Memory>
     requires given { IsGiven given }
     requires left { All (IsPlaced given) left.now }
+    ensures { IfOk result (λ found. AreThere (λ i searched. IsFoundAt given.entry (slice_index_or left.now i no_vertex) searched) found.items) }
 {
     let Crew {
         rt,
@@ -101,6 +156,7 @@ fn search_ahead<G: Gate, R: Threads + Wait + Sync>(
     let most = given.budget.min(MOST_AHEAD);
     let job = move |place: u32| -> Result<Searched, Memory>
         requires { IsSync R.row × IsSync G.row × IsGiven given × All (IsPlaced given) left.now × (place < length left.now) }
+        ensures { IfOk result (IsFoundAt given.entry (slice_index_or left.entry.now place no_vertex)) }
     {
         let alone = Crew {
             rt,
@@ -108,7 +164,7 @@ fn search_ahead<G: Gate, R: Threads + Wait + Sync>(
             workers: 1,
             gate,
         };
-        search_vertex(&alone, given, left[place as usize], most)
+        search_at(&alone, given, left, place as usize, most)
     };
     look_ahead(crew, first.as_slice(), job, is_last)
 }

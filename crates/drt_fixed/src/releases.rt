@@ -1,108 +1,116 @@
 //! The releases of a no.
-ghost use Rattle.std.specs.Prelude.{◌<◌, IfOk, length};
+ghost use Rattle.std.specs.Prelude.{◌≡◌, ℕ, ◌<◌, List, length, IfOk};
+ghost use Rattle.std.specs.List.{AllZip};
+ghost use Rattle.drt_model.specs.Digraph.{Digraph};
+ghost use Rattle.drt_graph.specs.Graphs.{graph_of};
+ghost use Rattle.drt_busy.specs.Choice.{IsWalk};
+ghost use Rattle.drt_check_states.specs.Places.{graphs_at};
+ghost use Rattle.drt_releases.specs.Walks.{walk_at};
 ghost use Rattle.drt_fixed.specs.Answers.{IsOfStates};
+ghost use Rattle.drt_fixed.specs.Searching.{AreHigher, IsBeside, IsGiven, IsPlaced};
 
+use crate::vertices::{Given, PlacedVertex};
 use drt_claims::Evidence;
-use drt_graph::{Graph, Graphs};
-use drt_model::{Memory, Miss, Release, Row};
+use drt_model::{Memory, Miss, Row};
+use drt_releases::all_releases;
+use drt_sp::cut_walk;
 use std::alloc::Global;
 
-/// A vertex of a task, by their numbers, and its deadline in ticks.
-#[derive(Clone, Copy)]
-pub(crate) struct VertexAt {
-    pub task: u32,
-    pub vertex: u32,
-    pub deadline: u32,
-}
+// Each walk's offsets are below the vertex's deadline, and its last job's deadline is at most as much later. Both are at most 1,000,000 ticks.
+const LAST_DEADLINE: u64 = 2_000_000;
 
 /// The no of a vertex: the releases of walks of tasks of higher priority, the walk at each place that of the task there, as far as they
 /// come before the deadline, and one of the vertex at 0, in order of tasks; and the miss of its job.
 pub(crate) fn refusal(
     alloc: Global,
-    graphs: &Graphs,
-    order: &[u32],
+    given: Given<'_>,
     walks: &[Row<u32>],
-    at: VertexAt,
+    vertex: PlacedVertex,
 ) -> Result<Evidence, Memory>
-    ensures { IfOk result IsOfStates }
+    requires given { IsGiven given }
+    requires vertex { IsPlaced given vertex }
+    requires walks { AreHigher given vertex walks.now }
+    ensures { IfOk result (IsOfStates given.entry.set.now.tasks) }
 {
-    let mut releases = Vec::new(alloc);
-    for task in 0..graphs.count() {
-        if task == at.task {
-            releases.push(release_of(graphs.graph(task), task, at.vertex, 0))?;
-        } else if let Some(walk) = walk_of(order, walks, task) {
-            add_releases(
-                graphs.graph(task),
-                task,
-                walk,
-                u64::from(at.deadline),
-                &mut releases,
-            )?;
-        }
-    }
+    let chosen = job_walks(alloc, given, walks, vertex)?;
+    let releases = all_releases(alloc, given.graphs, chosen.as_slice(), LAST_DEADLINE)?;
     Ok(Evidence::FixedNo {
         releases: Row::from_vec(releases),
         miss: Miss {
-            task: at.task,
+            task: vertex.at.task,
             index: 0,
-            deadline: u64::from(at.deadline),
+            deadline: u64::from(vertex.at.deadline),
         },
     })
 }
 
+// A walk for each task: for those of higher priority than the vertex's the one at its place, cut at the vertex's deadline, and the vertex alone
+// for its own task.
+fn job_walks(
+    alloc: Global,
+    given: Given<'_>,
+    walks: &[Row<u32>],
+    vertex: PlacedVertex,
+) -> Result<Vec<Row<u32>>, Memory>
+    requires given { IsGiven given }
+    requires vertex { IsPlaced given vertex }
+    requires walks { AreHigher given vertex walks.now }
+    ensures { IfOk result (λ chosen. (k : ℕ) → k < length given.entry.set.now.tasks → IsBeside given.entry.set.now.tasks vertex.at.task vertex.at.vertex k (walk_at chosen.items k)) }
+{
+    let mut chosen = Vec::new(alloc);
+    'tasks: for k in 0..given.graphs.count() {
+        let walk = job_walk(alloc, given, walks, vertex, k)?;
+        chosen.push(walk)?;
+    }
+    Ok(chosen)
+}
+
+// The walk of one task among them.
+fn job_walk(
+    alloc: Global,
+    given: Given<'_>,
+    walks: &[Row<u32>],
+    vertex: PlacedVertex,
+    k: u32,
+) -> Result<Row<u32>, Memory>
+    requires given { IsGiven given }
+    requires vertex { IsPlaced given vertex }
+    requires walks { AreHigher given vertex walks.now }
+    requires here { k < length given.set.now.tasks }
+    ensures { IfOk result (IsBeside given.entry.set.now.tasks vertex.at.task vertex.at.vertex k) }
+{
+    let at = vertex.at;
+    let tasks = given.set.tasks();
+    let graph = given.graphs.graph(k);
+    if tasks[k as usize].priority < tasks[at.task as usize].priority {
+        let higher = &given.order[..vertex.place];
+        return cut_walk(alloc, graph, at.deadline, walk_of(higher, walks, k));
+    }
+    let mut walk = Vec::new(alloc);
+    if k == at.task {
+        walk.push(at.vertex)?;
+    }
+    Ok(Row::from_vec(walk))
+}
+
 // The walk of a task, where one is at its place.
-fn walk_of<'a>(order: &[u32], walks: &'a [Row<u32>], task: u32) -> Option<&'a [u32]> {
+fn walk_of<'a>(order: &[u32], walks: &'a [Row<u32>], task: u32) -> &'a [u32]
+    ensures { (graphs : List Digraph) → AllZip IsWalk (graphs_at graphs order.now) walks.now → IsWalk (graph_of graphs task) result.now }
+{
     for place in 0..order.len() {
         if order[place] == task {
-            return Some(walks.get(place)?.as_slice());
+            return walk_at(walks, place);
         }
     }
-    None
+    &[]
 }
 
-// Adds the releases of a walk before a time, each as early as its separation allows.
-fn add_releases(
-    graph: &Graph,
-    task: u32,
-    walk: &[u32],
-    end: u64,
-    releases: &mut Vec<Release>,
-) -> Result<(), Memory> {
-    let mut time: u64 = 0;
-    for i in 0..walk.len() {
-        if i > 0 {
-            match gap_between(graph, walk[i - 1], walk[i]) {
-                Some(gap) => time = time.saturating_add(u64::from(gap)),
-                None => return Ok(()),
-            }
-        }
-        if time >= end {
-            return Ok(());
-        }
-        releases.push(release_of(graph, task, walk[i], time))?;
-    }
-    Ok(())
-}
-
-// The separation of the edge from one vertex to another, where there is one.
-fn gap_between(graph: &Graph, from: u32, to: u32) -> Option<u32> {
-    if from >= graph.vertex_count() {
-        return None;
-    }
-    graph.separation(from, to)
-}
-
-// The release of a vertex at this time, with its whole execution time.
-fn release_of(graph: &Graph, task: u32, vertex: u32, time: u64) -> Release {
-    let need = if vertex < graph.vertex_count() {
-        u64::from(graph.vertex(vertex).wcet)
-    } else {
-        0
-    };
-    Release {
-        task,
-        vertex,
-        time,
-        need,
+// The walk at a place; no walk past the last one.
+fn walk_at(walks: &[Row<u32>], place: usize) -> &[u32]
+    ensures { result.now ≡ walk_at walks.now place }
+{
+    match walks.get(place) {
+        Some(walk) => walk.as_slice(),
+        None => &[],
     }
 }

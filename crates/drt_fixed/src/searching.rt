@@ -4,7 +4,7 @@ ghost use Rattle.drt_claims.specs.Claims.{graphs_of};
 ghost use Rattle.drt_check_states.specs.Curves.{HasRisingCurves};
 ghost use Rattle.drt_check_states.specs.Places.{AreTasks};
 ghost use Rattle.drt_fixed.specs.Answers.{IsOfStates};
-ghost use Rattle.drt_fixed.specs.Searching.{IsFound, IsGiven, IsPlaced};
+ghost use Rattle.drt_fixed.specs.Searching.{IsFound, IsGiven};
 
 use crate::looking::{Ahead, search_next};
 use crate::releases::refusal;
@@ -46,7 +46,7 @@ pub(crate) fn find_by_states<G: Gate, R: Threads + Wait + Sync>(
 ) -> Result<Option<Evidence>, Memory>
     requires graphs { graphs.now ≡ graphs_of set.now.tasks }
     requires workers { (1 ≤ workers) × (workers ≤ 16) }
-    ensures { IfOk result (λ found. IfSome found IsOfStates) }
+    ensures { IfOk result (λ found. IfSome found (IsOfStates set.now.tasks)) }
 {
     let crew = Crew {
         rt,
@@ -60,7 +60,7 @@ pub(crate) fn find_by_states<G: Gate, R: Threads + Wait + Sync>(
         return Ok(None);
     }
     match find_tails(&crew, graphs, order)? {
-        Some(tails) => find_over(&crew, graphs, order, tails, budget),
+        Some(tails) => find_over(&crew, set, graphs, order, tails, budget),
         None => Ok(None),
     }
 }
@@ -76,18 +76,21 @@ fn are_tasks(graphs: &Graphs, order: &[u32]) -> bool
 // The evidence over these tails of the tasks, which stand in order of priority.
 fn find_over<G: Gate, R: Threads + Wait + Sync>(
     crew: &Crew<'_, G, R>,
+    set: &TaskSet,
     graphs: &Graphs,
     order: &[u32],
     tails: Vec<TailClaim>,
     budget: u64,
 ) -> Result<Option<Evidence>, Memory>
     requires workers { (1 ≤ crew.now.workers) × (crew.now.workers ≤ 16) }
+    requires graphs { graphs.now ≡ graphs_of set.now.tasks }
     requires order { AreTasks graphs.now order.now }
     requires tails { All HasRisingCurves tails.items }
-    ensures { IfOk result (λ found. IfSome found IsOfStates) }
+    ensures { IfOk result (λ found. IfSome found (IsOfStates set.now.tasks)) }
 {
     let crests = find_crests(crew.alloc, &tails)?;
     let given = Given {
+        set,
         graphs,
         order,
         tails: &tails,
@@ -111,23 +114,22 @@ fn search_all<G: Gate, R: Threads + Wait + Sync>(
 ) -> Result<Found, Memory>
     requires workers { (1 ≤ crew.now.workers) × (crew.now.workers ≤ 16) }
     requires given { IsGiven given }
-    ensures { IfOk result IsFound }
+    ensures { IfOk result (IsFound given.entry.set.now.tasks) }
 {
-    let vertices = list_vertices(crew.alloc, given)?;
-    let vertices = vertices.as_slice();
+    let listed = list_vertices(crew.alloc, given)?;
+    let vertices = listed.as_slice();
     let mut ahead = Ahead::none(crew.alloc);
     let mut all = Vec::new(crew.alloc);
-    for number in 0..vertices.len() {
-        let at = vertices[number].at;
-        match search_next(crew, given, &vertices[number..], &mut ahead)? {
+    'vertices: for number in 0..vertices.len() {
+        let vertex = vertices[number];
+        match search_next(crew, given, vertices, number, &mut ahead)? {
             Searched::Passes(states) => all.push(SearchClaim {
-                task: at.task,
-                vertex: at.vertex,
+                task: vertex.at.task,
+                vertex: vertex.at.vertex,
                 states,
             })?,
             Searched::Misses(walks) => {
-                let higher = &given.order[..vertices[number].place];
-                let evidence = refusal(crew.alloc, given.graphs, higher, walks.as_slice(), at)?;
+                let evidence = refusal(crew.alloc, given, walks.as_slice(), vertex)?;
                 return Ok(Found::Refusal(evidence));
             }
             Searched::Spent => return Ok(Found::Nothing),

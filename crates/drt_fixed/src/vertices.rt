@@ -1,13 +1,14 @@
 //! The vertices to be searched, and the search of each.
-ghost use Rattle.std.specs.Prelude.{◌≡◌, ◌<◌, ◌≤◌, All, IfOk, IfSome, length};
+ghost use Rattle.std.specs.Prelude.{◌≡◌, ◌<◌, ◌≤◌, All, IfOk, IfSome, length, take};
 ghost use Rattle.drt_model.specs.Digraph.{vertex_count};
+ghost use Rattle.drt_model.specs.Walk.{deadline};
+ghost use Rattle.drt_check_states.specs.Places.{graphs_at};
 ghost use Rattle.drt_sp_states.specs.Subjects.{IsSubject};
-ghost use Rattle.drt_fixed.specs.Searching.{IsGiven, IsPlaced};
+ghost use Rattle.drt_fixed.specs.Searching.{IsFoundAt, IsGiven, IsPlaced};
 
-use crate::releases::VertexAt;
 use drt_ahead::Crew;
 use drt_graph::{Graph, Graphs};
-use drt_model::{Memory, Row};
+use drt_model::{Memory, Row, TaskSet};
 use drt_pool::Gate;
 use drt_sp_states::{Searched, Subject, search_states};
 use drt_states::{Jump, TailClaim};
@@ -20,15 +21,24 @@ const MOST_HIGHER: usize = 31;
 // The greatest execution time and the greatest deadline, in ticks.
 const MOST_TICKS: u32 = 1_000_000;
 
-/// What the searches of all vertices are over: the graphs, the tasks in order of priority, the tails of all but the last one with their
-/// greatest values, and how many states each search takes at most.
+/// What the searches of all vertices are over: the set and its graphs, the tasks in order of priority, the tails of all but the last one with
+/// their greatest values, and how many states each search takes at most.
 #[derive(Clone, Copy)]
 pub(crate) struct Given<'a> {
+    pub set: &'a TaskSet,
     pub graphs: &'a Graphs,
     pub order: &'a [u32],
     pub tails: &'a [TailClaim],
     pub crests: &'a [Row<Jump>],
     pub budget: u64,
+}
+
+/// A vertex of a task, by their numbers, and its deadline in ticks.
+#[derive(Clone, Copy)]
+pub(crate) struct VertexAt {
+    pub task: u32,
+    pub vertex: u32,
+    pub deadline: u32,
 }
 
 /// A vertex of the task at a place of the order, and its execution time in ticks.
@@ -73,7 +83,8 @@ fn add_vertices(
 // A vertex of the graph of the task at a place.
 fn placed_vertex(graph: &Graph, place: usize, task: u32, vertex: u32) -> PlacedVertex
     requires { vertex < vertex_count graph.now }
-    ensures { result.place ≡ place }
+    ensures place { result.place ≡ place }
+    ensures at { result.at ≡ record { task = task; vertex = vertex; deadline = deadline graph.now vertex } }
 {
     let job = graph.vertex(vertex);
     let at = VertexAt {
@@ -95,6 +106,7 @@ pub(crate) fn search_vertex<G: Gate, R: Threads + Wait + Sync>(
     requires workers { (1 ≤ crew.now.workers) × (crew.now.workers ≤ 16) }
     requires given { IsGiven given }
     requires vertex { IsPlaced given vertex }
+    ensures { IfOk result (IsFoundAt given.entry vertex) }
 {
     let Crew {
         rt,
@@ -112,7 +124,8 @@ pub(crate) fn search_vertex<G: Gate, R: Threads + Wait + Sync>(
 fn subject_of<'a>(given: Given<'a>, vertex: PlacedVertex) -> Option<Subject<'a>>
     requires given { IsGiven given }
     requires vertex { IsPlaced given vertex }
-    ensures { IfSome result IsSubject }
+    ensures subject { IfSome result IsSubject }
+    ensures graphs { IfSome result (λ s. graphs_at s.graphs.now s.order.now ≡ graphs_at given.entry.graphs.now (take vertex.place given.entry.order.now)) }
 {
     let PlacedVertex { place, at, wcet } = vertex;
     if place > given.tails.len() || place > given.crests.len() || place > MOST_HIGHER {

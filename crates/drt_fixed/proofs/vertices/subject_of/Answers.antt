@@ -1,5 +1,5 @@
 -- The first places of what all searches are given.
-use Rattle.std.proofs.Common.{◌<◌, length, arith}
+use Rattle.std.proofs.Common.{◌<◌, length, refl, arith}
 use Rattle.std.proofs.lemmas.Grind.{common_steps}
 use Rattle.std.proofs.lemmas.List.Elements.{All-take}
 use Rattle.drt_check_states.specs.Crests.{IsCrest}
@@ -7,8 +7,11 @@ use Rattle.drt_check_states.specs.Curves.{HasRisingCurves}
 use Rattle.drt_fixed.proofs.Prefixes.{zip_take}
 use Rattle.drt_fixed.proofs.vertices.subject_of.Goals as goal
 
-pub returns : goal.returns
-returns c = record {
+pub returns-clause-graphs : goal.returns-clause-graphs
+returns-clause-graphs c = refl
+
+pub returns-clause-subject : goal.returns-clause-subject
+returns-clause-subject c = record {
   order = All-take (λ k. k < length c.args.given.graphs.now) c.args.vertex.place c.args.given.order.now c.requires.given.order;
   tails = All-take HasRisingCurves c.args.vertex.place c.args.given.tails.now c.requires.given.tails;
   crests = zip_take IsCrest c.args.vertex.place c.args.given.tails.now c.args.given.crests.now c.requires.given.crests;
