@@ -6,7 +6,7 @@ use Rattle.std.proofs.lemmas.List.{get_or_append_left, get_or_push}
 use Rattle.drt_model.specs.declared.tasks.Task.{Task}
 use Rattle.drt_model.specs.Digraph.{Digraph, IsSound, vertex_count}
 use Rattle.drt_graph.specs.Graphs.{graph_of}
-use Rattle.drt_busy.specs.Choice.{IsWalk, due_of, graph_at, task_at}
+use Rattle.drt_busy.specs.Choice.{IsWalk, graph_at, task_at}
 use Rattle.drt_busy.specs.WalkReleases.{all_releases, with_job}
 use Rattle.drt_check_states.specs.Places.{graphs_at}
 use Rattle.drt_choices.specs.Choices.{cut}

@@ -1,4 +1,4 @@
-use Rattle.std.proofs.Common.{refl, ap}
+use Rattle.std.proofs.Common.{refl}
 use Rattle.drt_fixed.proofs.vertices.placed_vertex.Goals as goal
 
 pub vertex-job-requires : goal.vertex-job-requires
