@@ -1,17 +1,16 @@
 -- What is found ahead of vertices, by their numbers.
 use Rattle.std.proofs.Common.{◌≡◌, ℕ, ◌+◌, ◌-◌, ◌≤◌, List, Option, Some, None, drop, get_or, sym, ap, ◌∙◌, subst, arith}
-use Rattle.std.specs.Prelude.{IfSome}
+use Rattle.std.specs.Prelude.{IfSome, take}
+use Rattle.std.specs.List.{AllZip}
 use Rattle.std.proofs.lemmas.List.{get_or-drop}
-use Rattle.drt_ahead.specs.Found.{AreThere}
-use Rattle.drt_sp_states.specs.declared.search.Searched.{Searched}
-use Rattle.drt_sp_states.specs.declared.search.Searched.TheVariants.{Passes, Misses, Spent}
 use Rattle.drt_model.specs.Digraph.{Digraph}
+use Rattle.drt_ahead.specs.Found.{AreThere}
+use Rattle.drt_busy.specs.Choice.{IsWalk}
+use Rattle.drt_check_states.specs.Places.{graphs_at}
 use Rattle.drt_states.specs.declared.claims.TailClaim.{TailClaim}
 use Rattle.drt_sp_states.specs.Answers.{IsAnswer}
-use Rattle.drt_check_states.specs.Places.{graphs_at}
-use Rattle.std.specs.List.{AllZip}
-use Rattle.drt_busy.specs.Choice.{IsWalk}
-use Rattle.std.specs.Prelude.{take}
+use Rattle.drt_sp_states.specs.declared.search.Searched.{Searched}
+use Rattle.drt_sp_states.specs.declared.search.Searched.TheVariants.{Passes, Misses, Spent}
 use Rattle.drt_fixed.specs.Searching.{AreFoundFrom, IsFoundAt, no_vertex}
 use Rattle.drt_fixed.specs.declared.vertices.Given.{Given}
 use Rattle.drt_fixed.specs.declared.vertices.PlacedVertex.{PlacedVertex}
