@@ -9,7 +9,7 @@ use Rattle.drt_worst.specs.declared.pass.Question.{Question}
 use Rattle.std.proofs.lemmas.Option.{none-some, same_Some, slice_get_within, get_or_from_slice_get}
 use Rattle.drt_refine.specs.Below.{AreBelow}
 use Rattle.drt_worst.specs.Splitting.{Search, AreParts, IsPart, IsSplit, IsBelowOne, IsReached, IsGreatest}
-use Rattle.drt_worst.specs.Runs.{Entry, combination_of, stack_after, known_after, IsEnded, Run, AreEnded, IsDealtTo, AreDealt}
+use Rattle.drt_worst.specs.Runs.{combination_of, stack_after, known_after, IsEnded, Run, AreEnded, IsDealtTo, AreDealt}
 use Rattle.drt_worst.specs.Spent.{IsSpent}
 use Rattle.drt_worst.proofs.Below.{part_more, below_parts}
 use Rattle.drt_worst.proofs.Runs.{greatest, some_reached}
