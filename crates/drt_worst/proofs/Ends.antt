@@ -1,6 +1,6 @@
 -- What the passes show together.
 use Rattle.std.proofs.Common.{◌≡◌, ◌≢◌, ℕ, suc, zero, ◌+◌, ◌<◌, ◌≤◌, ◌⊎◌, Some, List, [], ◌∷◌, ◌++◌, length, map, refl, sym, ap, ◌∙◌, subst, inl, inr, arith, set, append_assoc, length-append}
-use Rattle.std.specs.Prelude.{slice_get, slice_index_or, reverse}
+use Rattle.std.specs.Prelude.{slice_get, slice_index_or, reverse, Option, None, option_map, IfSome, IsSome}
 use Rattle.std.proofs.lemmas.Bool.{cases_lt}
 use Rattle.std.proofs.lemmas.List.{length-reverse}
 use Rattle.drt_word.specs.Closing.{WordOf}
@@ -9,7 +9,7 @@ use Rattle.drt_worst.specs.declared.pass.Question.{Question}
 use Rattle.std.proofs.lemmas.Option.{none-some, same_Some, slice_get_within, get_or_from_slice_get}
 use Rattle.drt_refine.specs.Below.{AreBelow}
 use Rattle.drt_worst.specs.Splitting.{Search, AreParts, IsPart, IsSplit, IsBelowOne, IsReached, IsGreatest}
-use Rattle.drt_worst.specs.Runs.{Entry, combination_of, stack_after, known_after, IsEnded, Run, AreEnded, IsDealtTo, AreDealt}
+use Rattle.drt_worst.specs.Runs.{combination_of, stack_after, known_after, IsEnded, Run, AreEnded, IsDealtTo, AreDealt}
 use Rattle.drt_worst.specs.Spent.{IsSpent}
 use Rattle.drt_worst.proofs.Below.{part_more, below_parts}
 use Rattle.drt_worst.proofs.Runs.{greatest, some_reached}
@@ -127,16 +127,13 @@ module _ (s : Search) (roots : List ℕ) where
       greatest s ready.forest roots best e.runs e.ended all leaves reached
 
   -- a pass that took as many as the budget and has something left
-  pub spends : IsReady s roots → (budget : ℕ) (p : Pass) → HasRun s roots p → p.stack.items ≢ [] → length p.taken.items ≡ budget → IsSpent s roots budget p.taken.items
-  spends ready budget p r more count =
+  pub spends : IsReady s roots → (budget : ℕ) (p : Pass) (list : List (List ℕ)) → p.stack.items ≢ [] → p.taken.count ≡ budget
+      → (r : HasRun s roots p) → map combination_of r.entries ≡ list → IsSpent s roots budget list
+  spends ready budget p list more count r same =
       let left : stack_after (p.start ∷ []) r.entries ≢ [] = λ e. more (reverse_none p.stack.items (sym r.stack ∙ e)) in
-      let long : length r.entries ≡ budget = length_of r.entries ∙ (ap (λ (z : List (List ℕ)). length z) r.taken ∙ count) in
-      subst (λ (z : List (List ℕ)). IsSpent s roots budget z) r.taken (spent s ready.forest roots p.start 0 budget r.entries r.part r.run left long)
+      let long : length r.entries ≡ budget = r.count ∙ count in
+      subst (λ (z : List (List ℕ)). IsSpent s roots budget z) same (spent s ready.forest roots p.start 0 budget r.entries r.part r.run left long)
     where
-      length_of : (es : List Entry) → length es ≡ length (map combination_of es)
-      length_of [] = refl
-      length_of (e ∷ es) = ap suc (length_of es)
-
       length_reverse : (xs : List (List ℕ)) → length (reverse xs) ≡ length xs
       length_reverse xs = length-reverse xs
 
@@ -247,3 +244,12 @@ each_push P xs x h p i d lt = elim (cases_lt i (length xs)) as (λ _. P i (slice
     last : {X : Type 0} (xs : List X) (x : X) (d : X) → slice_index_or (xs ++ x ∷ []) (length xs) d ≡ x
     last [] x d = refl
     last (y ∷ xs) x d = last xs x d
+
+-- what is made of a value, if there is one
+pub IfSome_map : {A B : Type 0} (f : A → B) (o : Option A) (P : B → Type 0) → IfSome o (λ x. P (f x)) → IfSome (option_map f o) P
+IfSome_map f None P h = tt
+IfSome_map f (Some x) P h = h
+
+pub IsSome_map : {A B : Type 0} (f : A → B) (o : Option A) → IsSome o → IsSome (option_map f o)
+IsSome_map f None h = h
+IsSome_map f (Some x) h = refl

@@ -1,6 +1,7 @@
 -- One turn of a pass keeps its run.
-use Rattle.std.proofs.Common.{◌≡◌, ℕ, ◌<◌, ◌≤◌, List, [], ◌∷◌, ◌++◌, map, refl, sym, ap, ◌∙◌, subst, inl, inr, arith}
-use Rattle.std.specs.Prelude.{reverse}
+use Rattle.std.proofs.Common.{◌≡◌, ℕ, ◌+◌, ◌<◌, ◌≤◌, List, [], ◌∷◌, ◌++◌, length, length-append, map, refl, sym, ap, ◌∙◌, subst, inl, inr, arith}
+use Rattle.std.specs.Prelude.{reverse, IfSome}
+use Rattle.std.proofs.lemmas.Option.{IfSome_then}
 use Rattle.drt_refine.specs.Below.{IsConcrete}
 use Rattle.drt_worst.specs.Splitting.{Search, AreParts, IsPart, IsReached, PassesFor}
 use Rattle.drt_worst.specs.Runs.{Choice, skips, reaches, splits, Entry, combination_of, known, left_after, stack_after, known_after, IsFit, IsRunFrom}
@@ -70,7 +71,8 @@ module _ (s : Search) (roots : List ℕ) where
   pub record Followed (combination : List ℕ) (seen : ℕ) (choice : Choice) (p q : Pass) : Type 0 where
     pub start : q.start ≡ p.start
     pub stack : reverse q.stack.items ≡ left_after choice (reverse p.stack.items)
-    pub taken : q.taken.items ≡ p.taken.items ++ combination ∷ []
+    pub count : q.taken.count ≡ p.taken.count + 1
+    pub told : (list : List (List ℕ)) → IfSome p.taken.told (λ v. list ≡ v.items) → IfSome q.taken.told (λ v. list ++ combination ∷ [] ≡ v.items)
     pub known : q.known ≡ known seen choice
     pub view : q.seat.me.0 ≡ announced (with_noted p.seat.me.0 seen) choice
     pub best : q.best ≡ best_after p.best choice
@@ -89,7 +91,8 @@ module _ (s : Search) (roots : List ℕ) where
         entries = r.entries ++ e ∷ [];
         run = subst (λ (z : List ℕ). IsRunFrom s 0 (z ∷ []) (r.entries ++ e ∷ [])) (sym start) more.0;
         stack = ap (λ (z : List ℕ). stack_after (z ∷ []) (r.entries ++ e ∷ [])) start ∙ (more.1 ∙ sym f.stack);
-        taken = map_end r.entries e ∙ (ap (λ z. z ++ combination ∷ []) r.taken ∙ sym f.taken);
+        count = (let one : length (r.entries ++ e ∷ []) ≡ length r.entries + 1 = length-append r.entries (e ∷ []) in one ∙ (ap (λ n. n + 1) r.count ∙ sym f.count));
+        told = IfSome_then q.taken.told (f.told (map combination_of r.entries) r.told) (λ v same. map_end r.entries e ∙ same);
         known = more.2 ∙ sym f.known;
         noted = subst (λ (n : ℕ). IsNotedIn n q.seat.me.0) (sym f.known) (subst (λ (v : View). IsNotedIn (known seen choice) v) (sym f.view) (noted_by p.seat.me.0 seen choice));
         best = subst (λ (v : View). IsBest s roots q.best q.leaves v) (sym f.view) (subst (λ (n : ℕ). IsBest s roots n q.leaves (announced (with_noted p.seat.me.0 seen) choice)) (sym f.best)

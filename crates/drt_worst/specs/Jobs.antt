@@ -1,5 +1,5 @@
 -- What the passes work on, and which passes are theirs.
-use Rattle.std.specs.Prelude.{◌≡◌, ℕ, ◌≤◌, ◌⊎◌, false, List, [], length, slice_get, Some}
+use Rattle.std.specs.Prelude.{◌≡◌, ℕ, ◌≤◌, ◌⊎◌, Bool, false, true, List, [], slice_get, Some, IsSome}
 use Rattle.drt_worst.specs.Splitting.{Search, search_for}
 use Rattle.drt_worst.specs.Passing.{search_of, IsSeatOf, HasRun, IsReady}
 use Rattle.drt_worst.specs.declared.pass.Pass.{Pass}
@@ -15,22 +15,26 @@ search_of_job job = search_for job.forest.now job.wcet job.deadline
 abbrev pub roots_of_job : Job → List ℕ
 roots_of_job job = job.word.now.about.roots.value
 
+-- Where it's to be told what the pass took, it is.
+abbrev pub IsToldAs : Bool → Pass → Type 0
+IsToldAs told p = told ≡ true → IsSome p.taken.told
+
 -- The pass is one of the job. One that found no memory only has its seat.
 abbrev pub IsPassOf : Job → Pass → Type 0
 IsPassOf job p =
     (search_of job.word.now.about ≡ search_of_job job) × IsReady (search_of_job job) (roots_of_job job)
-    × IsSeatOf job.word.now.name p
-    × (p.failed ≡ false → HasRun (search_of_job job) (roots_of_job job) p × (length p.taken.items ≤ job.budget))
+    × IsSeatOf job.word.now.name p × IsToldAs job.told.value p
+    × (p.failed ≡ false → HasRun (search_of_job job) (roots_of_job job) p × (p.taken.count ≤ job.budget))
 
 -- It found no memory, or has nothing left, or took as many as the budget.
 abbrev pub IsStopped : ℕ → Pass → Type 0
-IsStopped budget p = p.failed ≡ false → (p.stack.items ≡ []) ⊎ (length p.taken.items ≡ budget)
+IsStopped budget p = p.failed ≡ false → (p.stack.items ≡ []) ⊎ (p.taken.count ≡ budget)
 
 -- A pass as it is opened: it has its seat and the combination at its place.
-abbrev pub IsOpened : WordOf Question → List (List ℕ) → ℕ → Pass → Type 0
-IsOpened word dealt place p =
+abbrev pub IsOpened : WordOf Question → List (List ℕ) → Bool → ℕ → Pass → Type 0
+IsOpened word dealt told place p =
     IsSeatOf word.name p × HasRun (search_of word.about) word.about.roots.value p
-    × (p.failed ≡ false) × (p.taken.items ≡ []) × (slice_get dealt place ≡ Some p.start)
+    × (p.failed ≡ false) × (p.taken.count ≡ 0) × (slice_get dealt place ≡ Some p.start) × IsToldAs told p
 
 -- A pass that has nothing left.
 abbrev pub IsDoneOf : WordOf Question → ℕ → Pass → Type 0

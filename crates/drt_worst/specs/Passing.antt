@@ -1,5 +1,5 @@
 -- What a pass is between two turns.
-use Rattle.std.specs.Prelude.{◌≡◌, ℕ, ◌≤◌, ◌⊎◌, List, [], ◌∷◌, map, reverse}
+use Rattle.std.specs.Prelude.{◌≡◌, ℕ, ◌≤◌, ◌⊎◌, List, [], ◌∷◌, length, map, reverse, IfSome}
 use Rattle.atomic_table.specs.Seated.{TableId}
 use Rattle.drt_tree.specs.Tree.{IsForest}
 use Rattle.drt_refine.specs.Below.{AreBelow}
@@ -53,7 +53,8 @@ pub record HasRunWith (s : Search) (roots : List ℕ) (left : List (List ℕ)) (
   pub entries : List Entry
   pub run : IsRunFrom s 0 (p.start ∷ []) entries
   pub stack : stack_after (p.start ∷ []) entries ≡ left
-  pub taken : map combination_of entries ≡ p.taken.items
+  pub count : length entries ≡ p.taken.count
+  pub told : IfSome p.taken.told (λ v. map combination_of entries ≡ v.items)
   pub known : known_after 0 entries ≡ p.known
   pub noted : IsNotedIn p.known p.seat.me.0
   pub best : IsBest s roots p.best p.leaves p.seat.me.0

@@ -5,8 +5,8 @@ use drt_model::Row;
 /// What a search for the greatest least time gives.
 ///
 /// - `Reached`: the greatest least time, in ticks, and a tuple of leaves that has it, one for each root.
-/// - `Spent`: one pass took as many combinations as its budget and had one left. These are the combinations that it took, in their
-///   order.
+/// - `Spent`: one worker that began at the roots took as many combinations as the budget, and some were left. These are the
+///   combinations that it took, in their order.
 #[derive(Drop)]
 pub enum Worst {
     Reached { ticks: u64, leaves: Row<u32> },

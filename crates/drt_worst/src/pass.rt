@@ -1,5 +1,5 @@
 //! What one pass owns, and one turn of it.
-ghost use Rattle.std.specs.Prelude.{◌≡◌, ◌≢◌, ℕ, ◌++◌, ◌+◌, ◌<◌, ◌≤◌, List, [], ◌∷◌, length, reverse, false, true, IfOk};
+ghost use Rattle.std.specs.Prelude.{◌≡◌, ◌≢◌, ℕ, ◌++◌, ◌+◌, ◌^◌, ◌<◌, ◌≤◌, List, [], ◌∷◌, reverse, false, true, IfOk, IfSome, IsSome};
 ghost use Rattle.std.specs.Result.{OnOk};
 ghost use Rattle.drt_worst.specs.Splitting.{IsReached};
 ghost use Rattle.drt_worst.specs.Runs.{known, left_after, reaches};
@@ -29,6 +29,42 @@ impl Meaning for Question {
     ghost is_reached = { λ q ticks. (tuple : List ℕ) × IsReached (search_of q) q.roots.value ticks tuple };
 }
 
+/// How many combinations a pass took, and which ones, where that is told.
+#[derive(Drop)]
+pub(crate) struct Taken {
+    pub(crate) count: u64,
+    pub(crate) told: Option<Vec<Row<u32>>>,
+}
+
+impl Taken {
+    /// None so far.
+    pub(crate) fn nothing(alloc: Global, told: bool) -> Taken
+        ensures count { result.count ≡ 0 }
+        ensures list { IfSome result.told (λ v. v.items ≡ []) }
+        ensures told { told ≡ true → IsSome result.told }
+    {
+        let list = if told { Some(Vec::new(alloc)) } else { None };
+        Taken {
+            count: 0,
+            told: list,
+        }
+    }
+
+    // One more.
+    fn note(&mut self, combination: Row<u32>) -> Result<(), Memory>
+        requires room { self.old.count + 1 < 2 ^ 64 }
+        ensures count { OnOk result (self.new.count ≡ self.old.count + 1) }
+        ensures list { OnOk result ((list : List (List ℕ)) → IfSome self.old.told (λ v. list ≡ v.items) → IfSome self.new.told (λ v. list ++ combination ∷ [] ≡ v.items)) }
+        ensures told { IsSome self.old.told → IsSome self.new.told }
+    {
+        if let Some(list) = &mut self.told {
+            list.push(combination)?;
+        }
+        self.count += 1;
+        Ok(())
+    }
+}
+
 /// The combinations that a pass owns, and what it found.
 #[derive(Drop)]
 pub(crate) struct Pass {
@@ -36,7 +72,7 @@ pub(crate) struct Pass {
     pub(crate) start: Row<u32>,
     /// What is left, the next one last.
     pub(crate) stack: Vec<Row<u32>>,
-    pub(crate) taken: Vec<Row<u32>>,
+    pub(crate) taken: Taken,
     /// A value that was reached, as the pass knows.
     pub(crate) known: u64,
     /// The greatest value that the pass itself put into the word, and the combination that has it.
@@ -123,10 +159,12 @@ fn follow(
     requires about { search_of word.now.about ≡ search_for forest.now wcet deadline }
     requires ready { IsReady (search_for forest.now wcet deadline) word.now.about.roots.value }
     requires seat { IsSeatOf word.now.name pass.old }
+    requires room { pass.old.taken.count + 1 < 2 ^ 64 }
     requires runs { HasRunWith (search_for forest.now wcet deadline) word.now.about.roots.value (combination ∷ reverse pass.old.stack.items) pass.old }
     ensures seat { IsSeatOf word.now.name pass.new × (pass.new.start ≡ pass.old.start) }
     ensures runs { OnOk result (HasRun (search_for forest.now wcet deadline) word.now.about.roots.value pass.new) }
-    ensures count { OnOk result (length pass.new.taken.items ≡ length pass.old.taken.items + 1) }
+    ensures count { OnOk result (pass.new.taken.count ≡ pass.old.taken.count + 1) }
+    ensures told { IsSome pass.old.taken.told → IsSome pass.new.taken.told }
 {
     let seen = word.glance(&mut pass.seat);
     let plan = make_plan(alloc, forest, wcet, deadline, combination.as_slice(), seen)?;
@@ -140,7 +178,7 @@ fn follow(
         &mut pass.leaves,
     )?;
     push_parts(&mut pass.stack, plan)?;
-    pass.taken.push(combination)?;
+    pass.taken.note(combination)?;
     pass.known = known;
     Ok(())
 }
@@ -157,11 +195,13 @@ pub(crate) fn take(
     requires about { search_of word.now.about ≡ search_for forest.now wcet deadline }
     requires ready { IsReady (search_for forest.now wcet deadline) word.now.about.roots.value }
     requires seat { IsSeatOf word.now.name pass.old }
+    requires room { pass.old.taken.count + 1 < 2 ^ 64 }
     requires runs { HasRun (search_for forest.now wcet deadline) word.now.about.roots.value pass.old }
     requires some { pass.old.stack.items ≢ [] }
     ensures seat { IsSeatOf word.now.name pass.new × (pass.new.start ≡ pass.old.start) }
     ensures runs { OnOk result (HasRun (search_for forest.now wcet deadline) word.now.about.roots.value pass.new) }
-    ensures count { OnOk result (length pass.new.taken.items ≡ length pass.old.taken.items + 1) }
+    ensures count { OnOk result (pass.new.taken.count ≡ pass.old.taken.count + 1) }
+    ensures told { IsSome pass.old.taken.told → IsSome pass.new.taken.told }
 {
     match pass.stack.pop() {
         Some(combination) => follow(alloc, word, forest, wcet, deadline, pass, combination),

@@ -1,5 +1,5 @@
 //! The greatest least time over all tuples below some roots.
-ghost use Rattle.std.specs.Prelude.{◌≡◌, ◌≢◌, ℕ, ◌+◌, ◌-◌, ◌<◌, ◌≤◌, List, [], Some, length, slice_get, false, IfOk, IfSome, IfNone, vec_len};
+ghost use Rattle.std.specs.Prelude.{◌≡◌, ◌≢◌, ℕ, ◌+◌, ◌-◌, ◌<◌, ◌≤◌, List, [], Some, length, slice_get, false, true, IfOk, IfSome, IfNone, IsSome, option_map, vec_len};
 ghost use Rattle.std.specs.Result.{OnOk};
 ghost use Rattle.drt_tree.specs.Tree.{IsForest};
 ghost use Rattle.drt_refine.specs.Below.{AreBelow, AreNodes};
@@ -10,12 +10,13 @@ ghost use Rattle.drt_worst.specs.Splitting.{search_for};
 ghost use Rattle.drt_worst.specs.Plans.{CanTake};
 ghost use Rattle.drt_worst.specs.Passing.{search_of, IsSeatOf, HasRun, IsReady, IsBest, IsNotedIn};
 ghost use Rattle.drt_pool.specs.Turns.{EachPlace};
-ghost use Rattle.drt_worst.specs.Jobs.{IsOpened, IsDoneOf, IsHaltedOf};
+ghost use Rattle.drt_worst.specs.Jobs.{IsOpened, IsDoneOf, IsHaltedOf, IsToldAs};
 ghost use Rattle.drt_worst.specs.Worst.{IsWorst};
+ghost use Rattle.drt_worst.specs.declared.answer.Worst.TheVariants.{Spent};
 ghost use Rattle.drt_steps.specs.Time.{AreChosen, Passes};
 
 use crate::answer::Worst;
-use crate::pass::{Pass, Question};
+use crate::pass::{Pass, Question, Taken};
 use crate::plan::halves;
 use crate::turn::Job;
 use atomic_table::Seat;
@@ -58,6 +59,7 @@ fn open_one(
     word: &Word<Question>,
     owner: &mut Seat<(), View>,
     combination: Row<u32>,
+    told: bool,
 ) -> Result<Pass, Memory>
     requires name { owner.old.table_id ≡ word.now.name }
     requires parts { 1 < owner.old.me.0.parts }
@@ -66,7 +68,7 @@ fn open_one(
     ensures owner { IfOk result (λ p. owner.new.me ≡ (split_left owner.old.me.0, owner.old.me.1)) }
     ensures seat { IfOk result (λ p. IsSeatOf word.now.name p) }
     ensures runs { IfOk result (λ p. HasRun (search_of word.now.about) word.now.about.roots.value p) }
-    ensures new { IfOk result (λ p. (p.failed ≡ false) × (p.taken.items ≡ []) × (p.start ≡ combination)) }
+    ensures new { IfOk result (λ p. (p.failed ≡ false) × (p.taken.count ≡ 0) × (p.start ≡ combination) × IsToldAs told p) }
 {
     let start = Row::from_vec(Vec::from_slice(alloc, combination.as_slice())?);
     let mut stack = Vec::with_capacity(alloc, 1)?;
@@ -75,7 +77,7 @@ fn open_one(
     Ok(Pass {
         start,
         stack,
-        taken: Vec::new(alloc),
+        taken: Taken::nothing(alloc, told),
         known: 0,
         best: 0,
         leaves: Row::from_vec(Vec::new(alloc)),
@@ -145,6 +147,7 @@ fn open_all(
     word: &Word<Question>,
     owner: &mut Seat<(), View>,
     dealt: &[Row<u32>],
+    told: bool,
 ) -> Result<Vec<Pass>, Memory>
     requires name { owner.old.table_id ≡ word.now.name }
     requires owner { owner.old.me ≡ (fresh 1024, []) }
@@ -152,12 +155,12 @@ fn open_all(
     requires parts { AreParts (search_of word.now.about).forest word.now.about.roots.value dealt.now }
     ensures name { owner.new.table_id ≡ owner.old.table_id }
     ensures owner { IfOk result (λ ps. owner.new.me.0 ≡ fresh (1024 - length dealt.now)) }
-    ensures passes { IfOk result (λ ps. (length ps.items ≡ length dealt.now) × EachPlace (IsOpened word.now dealt.now) ps.items) }
+    ensures passes { IfOk result (λ ps. (length ps.items ≡ length dealt.now) × EachPlace (IsOpened word.now dealt.now told) ps.items) }
 {
     let mut passes = Vec::new(alloc);
     for i in 0..dealt.len() {
         let combination = Row::from_vec(Vec::from_slice(alloc, dealt[i].as_slice())?);
-        passes.push(open_one(alloc, word, owner, combination)?)?;
+        passes.push(open_one(alloc, word, owner, combination, told)?)?;
     }
     Ok(passes)
 }
@@ -235,21 +238,34 @@ fn gather(
     }
 }
 
-// What the passes found, once all have stopped.
+// What is said of a pass that spent its budget, where it's told what it took.
+fn spent_on(taken: Taken) -> Option<Worst>
+    ensures { result ≡ option_map (λ v. Spent v.items) taken.told }
+{
+    match taken.told {
+        Some(list) => Some(Worst::Spent {
+            taken: Row::from_vec(list),
+        }),
+        None => None,
+    }
+}
+
+// What the passes found, once all have stopped: nothing where one of them spent the budget and what it took isn't told.
 fn finish(
     alloc: Global,
     word: Word<Question>,
     owner: Seat<(), View>,
     mut passes: Vec<Pass>,
     budget: u64,
-) -> Result<Worst, Memory>
+) -> Result<Option<Worst>, Memory>
     requires name { owner.table_id ≡ word.name }
     requires owner { owner.me.0 ≡ fresh (1024 - length passes.items) }
     requires few { length passes.items ≤ 16 }
     requires ready { IsReady (search_of word.about) word.about.roots.value }
     requires passes { EachPlace (IsHaltedOf word budget) passes.items }
     requires dealt { (dealt : List (List ℕ)) × AreDealt (search_of word.about).forest word.about.roots.value dealt × (length passes.items ≡ length dealt) × EachPlace (λ place p. slice_get dealt place ≡ Some p.start) passes.items }
-    ensures { IfOk result (λ w. IsWorst (search_of word.about) word.about.roots.value budget w) }
+    ensures worst { IfOk result (λ o. IfSome o (λ w. IsWorst (search_of word.about) word.about.roots.value budget w)) }
+    ensures told { EachPlace (λ place p. IsSome p.taken.told) passes.items → IfOk result (λ o. IsSome o) }
 {
     if has_failed(passes.as_slice()) {
         return Err(Memory);
@@ -257,11 +273,9 @@ fn finish(
     match first_unfinished(passes.as_slice()) {
         Some(place) => {
             let Pass { taken, .. } = passes.remove(place);
-            Ok(Worst::Spent {
-                taken: Row::from_vec(taken),
-            })
+            Ok(spent_on(taken))
         }
-        None => Ok(gather(alloc, word, owner, passes)),
+        None => Ok(Some(gather(alloc, word, owner, passes))),
     }
 }
 
@@ -275,15 +289,17 @@ fn run_passes<G: Gate, R: Threads + Wait + Sync>(
     deadline: u32,
     budget: u64,
     dealt: &[Row<u32>],
+    told: bool,
     passes: &mut [Pass],
     gate: &G,
 )
     requires about { search_of word.now.about ≡ search_for forest.now wcet deadline }
     requires ready { IsReady (search_for forest.now wcet deadline) word.now.about.roots.value }
     requires few { length passes.old ≤ 16 }
-    requires passes { EachPlace (IsOpened word.now dealt.now) passes.old }
+    requires passes { EachPlace (IsOpened word.now dealt.now told) passes.old }
     ensures count { length passes.new ≡ length passes.old }
     ensures halted { EachPlace (IsHaltedOf word.now budget) passes.new }
+    ensures told { EachPlace (λ place p. IsToldAs told p) passes.new }
     ensures dealt { EachPlace (λ place p. slice_get dealt.now place ≡ Some p.start) passes.new }
 {
     let job = Job {
@@ -294,11 +310,12 @@ fn run_passes<G: Gate, R: Threads + Wait + Sync>(
         deadline,
         budget,
         dealt,
+        told: Snapshot::of(&told),
     };
     run_all(rt, &job, passes, gate);
 }
 
-// The search, for roots whose least time can be looked for.
+// The search, for roots whose least time can be looked for: nothing where a pass spent the budget and it isn't told what they take.
 fn search_tree<G: Gate, R: Threads + Wait + Sync>(
     rt: &R,
     alloc: Global,
@@ -308,11 +325,13 @@ fn search_tree<G: Gate, R: Threads + Wait + Sync>(
     deadline: u32,
     workers: u32,
     budget: u64,
+    told: bool,
     gate: &G,
-) -> Result<Worst, Memory>
+) -> Result<Option<Worst>, Memory>
     requires ready { IsReady (search_for forest.now wcet deadline) roots.now }
     requires workers { (1 ≤ workers) × (workers ≤ 16) }
-    ensures { IfOk result (λ w. IsWorst (search_for forest.now wcet deadline) roots.now budget w) }
+    ensures worst { IfOk result (λ o. IfSome o (λ w. IsWorst (search_for forest.now wcet deadline) roots.now budget w)) }
+    ensures told { told ≡ true → IfOk result (λ o. IsSome o) }
 {
     let row = Row::from_vec(Vec::from_slice(alloc, roots)?);
     let question = Question {
@@ -323,7 +342,7 @@ fn search_tree<G: Gate, R: Threads + Wait + Sync>(
     };
     let (word, mut owner) = Word::new(alloc, Snapshot::of(&question))?;
     let dealt = deal(alloc, forest, roots, workers)?;
-    let mut passes = open_all(alloc, &word, &mut owner, dealt.as_slice())?;
+    let mut passes = open_all(alloc, &word, &mut owner, dealt.as_slice(), told)?;
     run_passes(
         rt,
         alloc,
@@ -333,6 +352,7 @@ fn search_tree<G: Gate, R: Threads + Wait + Sync>(
         deadline,
         budget,
         dealt.as_slice(),
+        told,
         passes.as_mut_slice(),
         gate,
     );
@@ -340,11 +360,14 @@ fn search_tree<G: Gate, R: Threads + Wait + Sync>(
 }
 
 /// The greatest of the least times that pass for a vertex of this wcet and deadline, in ticks, over all tuples of leaves below the
-/// roots, with a tuple that has it; or what one pass took that spent its budget.
+/// roots, with a tuple that has it; or what one worker took that began at the roots and spent the budget.
 ///
 /// The roots are first split until there is a combination for each worker. Then each pass takes its combinations depth first. All
 /// passes share a word that holds the greatest value reached so far: a combination whose least time isn't above it is skipped
 /// (Stigge and Yi, RTSS 2013).
+///
+/// What a pass took is only counted. Where a pass spends the budget, one worker searches once more from the roots and keeps what it
+/// takes, to be told where it spends the budget too. Where it doesn't, what it reached stands.
 pub fn worst<G: Gate, R: Threads + Wait + Sync>(
     rt: &R,
     alloc: Global,
@@ -366,7 +389,18 @@ pub fn worst<G: Gate, R: Threads + Wait + Sync>(
     ensures { IfOk result (λ w. IsWorst (search_for forest.now wcet deadline) roots.now budget w) }
 {
     forest.show_sound();
-    search_tree(
-        rt, alloc, forest, roots, wcet, deadline, workers, budget, gate,
-    )
+    let found = search_tree(
+        rt, alloc, forest, roots, wcet, deadline, workers, budget, false, gate,
+    )?;
+    if let Some(found) = found {
+        return Ok(found);
+    }
+    // The other search is over, and its memory is free again.
+    let again = search_tree(
+        rt, alloc, forest, roots, wcet, deadline, 1, budget, true, gate,
+    )?;
+    match again {
+        Some(found) => Ok(found),
+        None => unreachable!(),
+    }
 }

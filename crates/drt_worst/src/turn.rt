@@ -9,6 +9,7 @@ use drt_pool::{Turn, Work};
 use drt_tree::Forest;
 use drt_word::Word;
 use std::alloc::Global;
+use std::snapshot::Snapshot;
 use std::sync::Wait;
 
 /// What all passes work on.
@@ -22,6 +23,8 @@ pub(crate) struct Job<'a, 'b> {
     pub(crate) budget: u64,
     /// What was dealt to the pass at each place.
     pub(crate) dealt: &'b [Row<u32>],
+    /// Whether it's told what they take.
+    pub(crate) told: Snapshot<bool>,
 }
 
 /// One turn of a pass: it stops where nothing is left, where it took as many as its budget, or where it found no memory.
@@ -31,7 +34,7 @@ pub(crate) fn turn_of(job: &Job<'_, '_>, pass: &mut Pass) -> Turn
     ensures start { pass.new.start ≡ pass.old.start }
     ensures stopped { IsStop result → IsStopped job.now.budget pass.new }
 {
-    if pass.failed || pass.stack.is_empty() || pass.taken.len() as u64 >= job.budget {
+    if pass.failed || pass.stack.is_empty() || pass.taken.count >= job.budget {
         return Turn::Stop;
     }
     match take(

@@ -6,4 +6,4 @@ use Rattle.drt_worst.proofs.search.open_all.Given as goal
 
 abbrev pub invariant-loop-i : goal.invariant-loop-i
 invariant-loop-i l =
-    (l.owner.table_id ≡ l.fn.owner.table_id) × (l.owner.me.0 ≡ fresh (1024 - l.i)) × (length l.passes.items ≡ l.i) × EachPlace (IsOpened l.word l.dealt) l.passes.items
+    (l.owner.table_id ≡ l.fn.owner.table_id) × (l.owner.me.0 ≡ fresh (1024 - l.i)) × (length l.passes.items ≡ l.i) × EachPlace (IsOpened l.word l.dealt l.told) l.passes.items
