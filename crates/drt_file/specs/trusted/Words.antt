@@ -1,5 +1,5 @@
 -- What single fields say.
-use Rattle.std.specs.Prelude.{ℕ, ◌+◌, ◌*◌, ◌-◌, Bool, ◌&&◌, ◌||◌, ◌==◌, nat_le, List, [], ◌∷◌, length}
+use Rattle.std.specs.Prelude.{ℕ, ◌+◌, ◌*◌, ◌-◌, Bool, ◌&&◌, ◌||◌, ◌==◌, nat_le, List, [], ◌∷◌, length, codes}
 use Rattle.std.specs.List.{list_all}
 
 -- A number lies between two others, or is one of them.
@@ -33,24 +33,24 @@ value word = value_after 0 word
 
 -- The keyword `drt`.
 abbrev pub drt_word : List ℕ
-drt_word = 100 ∷ 114 ∷ 116 ∷ []
+drt_word = codes "drt"
 
 -- The keyword `task`.
 abbrev pub task_word : List ℕ
-task_word = 116 ∷ 97 ∷ 115 ∷ 107 ∷ []
+task_word = codes "task"
 
 -- The keyword `vertex`.
 abbrev pub vertex_word : List ℕ
-vertex_word = 118 ∷ 101 ∷ 114 ∷ 116 ∷ 101 ∷ 120 ∷ []
+vertex_word = codes "vertex"
 
 -- The keyword `edge`.
 abbrev pub edge_word : List ℕ
-edge_word = 101 ∷ 100 ∷ 103 ∷ 101 ∷ []
+edge_word = codes "edge"
 
 -- The keyword `priority`.
 abbrev pub priority_word : List ℕ
-priority_word = 112 ∷ 114 ∷ 105 ∷ 111 ∷ 114 ∷ 105 ∷ 116 ∷ 121 ∷ []
+priority_word = codes "priority"
 
 -- The keyword `end`.
 abbrev pub end_word : List ℕ
-end_word = 101 ∷ 110 ∷ 100 ∷ []
+end_word = codes "end"
