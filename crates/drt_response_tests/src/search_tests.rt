@@ -1,10 +1,10 @@
 //! Searches of worked forests. What is taken, and in which order, was worked out by hand.
 
 use crate::answers::FirstIsLate;
-use crate::searches::{Terms, is_reached, is_spent, search};
+use crate::searches::{Terms, is_reached, is_spent, is_spent_from, search};
 use drt_pool::{EagerGate, OpenGate};
 use drt_tree::Forest;
-use drt_worked_forests::{even_walks, three_walks};
+use drt_worked_forests::{even_walks, three_walks, twelve_walks};
 use std::alloc::Global;
 use std::sync::Wait;
 use std::test::Fail;
@@ -84,6 +84,50 @@ fn a_search_of_two_tasks_takes_seven_combinations(rt: HostRuntime) -> Result<(),
         &[1, 1],
     ];
     assert!(rt; takes(&rt, rt.alloc(), &terms, &taken, 9, &[1, 1])?);
+    Ok(())
+}
+
+// Whether so many workers spend the budget on as many combinations, the roots first, and reach these ticks by these leaves with one more.
+fn is_just_short<R: Threads + Wait + Sync>(
+    rt: &R,
+    alloc: Global,
+    terms: &Terms<'_>,
+    workers: u32,
+    short: u64,
+    ticks: u64,
+    leaves: &[u32],
+) -> Result<bool, Fail> {
+    let less = search(rt, alloc, terms, workers, short, &OpenGate)?;
+    let just = search(
+        rt,
+        alloc,
+        terms,
+        workers,
+        short.saturating_add(1),
+        &OpenGate,
+    )?;
+    Ok(is_spent_from(&less, terms.roots, short) && is_reached(&just, ticks, leaves))
+}
+
+// One worker takes the root, its left parts down to leaves 0 and 1, and skips leaf 2, the leaves 3 to 5 and 6 to 11: 9 combinations. Each worker more
+// is dealt a part that the one of most leaves 0 to 2 loses: with two it takes 7 combinations, with three 5, with four 3, and the other parts, which come
+// after it, are skipped. With five, leaf 0 comes first, and the leaves 6 to 11 next, where only 2 ticks are reached yet: all 11 combinations of them are
+// taken. A budget of 9 or 10 is spent there, and one worker searches again, for whom it is enough.
+#[test]
+fn a_budget_that_a_part_spends_is_enough_for_one_worker(rt: HostRuntime) -> Result<(), Fail> {
+    let (forest, root) = twelve_walks(rt.alloc())?.expect(&rt, "a tree");
+    let terms = Terms {
+        forest: &forest,
+        roots: &[root],
+        wcet: 1,
+        deadline: 30,
+    };
+    for (workers, short) in [(1u32, 8u64), (2, 6), (3, 4), (4, 2), (5, 8)] {
+        assert!(rt;
+            is_just_short(&rt, rt.alloc(), &terms, workers, short, 21, &[1])?,
+            "by {workers}"
+        );
+    }
     Ok(())
 }
 

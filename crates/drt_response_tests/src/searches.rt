@@ -127,6 +127,17 @@ pub(crate) fn is_spent(found: &Worst, expected: &[&[u32]]) -> bool {
     }
 }
 
+/// Whether a budget was spent on so many combinations, the roots as the first.
+pub(crate) fn is_spent_from(found: &Worst, roots: &[u32], count: u64) -> bool {
+    match found {
+        Worst::Spent { taken } => {
+            let rows = taken.as_slice();
+            rows.len() as u64 == count && rows.len() > 0 && rows[0].as_slice() == roots
+        }
+        Worst::Reached { .. } => false,
+    }
+}
+
 /// Whether so many ticks were reached, by these leaves.
 pub(crate) fn is_reached(found: &Worst, expected: u64, by: &[u32]) -> bool {
     match found {

@@ -90,6 +90,32 @@ pub fn even_walks(alloc: Global) -> Result<Option<(Forest, u32)>, Memory> {
     tree(alloc, EVEN_BOUND, &labels, &walks)
 }
 
+// How far those of the tree of twelve walks go, in ticks.
+const LONG_BOUND: u64 = 30;
+
+// One of the twelve walks.
+fn one_of_twelve(alloc: Global, number: u32) -> Result<RequestLabel, Memory> {
+    match number {
+        0 => RequestLabel::opening(alloc, 0, 1, LONG_BOUND),
+        1 => RequestLabel::opening(alloc, 0, 20, LONG_BOUND),
+        2..=11 => RequestLabel::opening(alloc, 0, number, LONG_BOUND)?.extend(alloc, 25, 0, 20),
+        _ => RequestLabel::opening(alloc, 0, 1, LONG_BOUND),
+    }
+}
+
+/// The tree of twelve walks, up to 30 ticks: leaf 0 is one of 1 tick, leaf 1 one of 20 ticks, and each of the leaves 2 to 11 one of as many ticks
+/// as its number, and 20 more after 25 ticks. A job of 1 tick is done after 2 ticks behind leaf 0, after 21 behind leaf 1, and after one tick more than
+/// its number behind any other. The root is 22; its left part has the leaves 0 to 5, whose left part those 0 to 2, whose left part 0 and 1.
+pub fn twelve_walks(alloc: Global) -> Result<Option<(Forest, u32)>, Memory> {
+    let mut labels = Vec::new(alloc);
+    let mut rows = Vec::new(alloc);
+    for number in 0..12u32 {
+        labels.push(Arc::new(alloc, one_of_twelve(alloc, number)?)?)?;
+        rows.push(walk(alloc, &[0, number])?)?;
+    }
+    tree(alloc, LONG_BOUND, labels.as_slice(), rows.as_slice())
+}
+
 /// The tree of so many walks, counted from 0, each with a window of 5 ticks of its own: a job of 1 tick with walk i ahead of it is
 /// done from 10·i + 10 to 10·i + 14, and not again up to the bound of 10·(walks + 1) ticks, since there the walk's second job has come.
 /// Where two walks can be taken it is never done. None where there is no walk or more than 50,000.

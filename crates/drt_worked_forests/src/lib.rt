@@ -3,4 +3,4 @@
 
 mod forests;
 
-pub use forests::{even_walks, three_walks, two_walks, windows};
+pub use forests::{even_walks, three_walks, twelve_walks, two_walks, windows};
