@@ -1,5 +1,5 @@
 -- Demand labels as values.
-use Rattle.std.specs.Prelude.{ℕ, ◌+◌, ◌*◌, ◌≤◌, Bool, true, ◌==◌, nat_le, ◌&&◌}
+use Rattle.std.specs.Prelude.{ℕ, ◌+◌, ◌*◌, ◌≤◌, Bool, true, ◌==◌, nat_le, ◌&&◌, replicate}
 use Rattle.drt_label.specs.Algebra.{Algebra}
 use Rattle.drt_model.specs.declared.front.FrontEntry.{FrontEntry}
 
@@ -36,6 +36,7 @@ demand_algebra = record {
   is_of = λ x bound. nat_le bound greatest_bound;
   is_extendable = λ x. nat_le x.offset greatest_bound;
   is_chain = true;
+  samples = λ x. replicate 16 0;
 }
 
 -- What the type of demand labels keeps: the offset and the work are within these limits.

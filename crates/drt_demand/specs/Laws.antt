@@ -37,6 +37,7 @@ demand_laws = record {
   ranges = λ x y deadline bound h k. grind (arith, nat_tests);
   same_vertex = λ x y h. grind (arith, nat_tests);
   no_later = λ x y h. grind (arith, nat_tests);
+  sampled = λ x y bound k own others h. omega arith;
   chain = λ h. chain;
   opening_vertex = λ number wcet bound. refl;
   opening_offset = λ number wcet bound. refl;

@@ -5,7 +5,7 @@ ghost use Rattle.drt_label.specs.Algebra.{Algebra, Laws, IsTime};
 ghost use Rattle.drt_demand.specs.Laws.{demand_laws};
 ghost use Rattle.drt_demand.specs.Demand.{demand_algebra};
 
-use drt_label::{Label, Memory};
+use drt_label::{Label, Memory, SAMPLES};
 use std::alloc::Global;
 use std::marker::Model;
 
@@ -102,6 +102,11 @@ impl Label for DemandLabel {
 
     fn dominates(&self, other: &DemandLabel) -> bool {
         self.vertex == other.vertex && self.offset <= other.offset && other.work <= self.work
+    }
+
+    /// Zeros: dominance is a chain, so nobody looks at samples.
+    fn samples(&self) -> [u16; SAMPLES] {
+        [0; SAMPLES]
     }
 
     fn is_chain() -> bool {

@@ -1,5 +1,5 @@
 -- What a label of a walk is, as values: how labels are made, read and compared, and the laws that they keep.
-use Rattle.std.specs.Prelude.{◌≡◌, ℕ, ◌+◌, ◌≤◌, ◌⊎◌, Bool, IsTrue}
+use Rattle.std.specs.Prelude.{◌≡◌, ℕ, ◌+◌, ◌≤◌, ◌⊎◌, Bool, IsTrue, List, slice_index}
 
 -- How the labels of one kind are made, read and compared.
 pub record Algebra (L : Type 0) : Type 0 where
@@ -24,6 +24,8 @@ pub record Algebra (L : Type 0) : Type 0 where
   -- of three labels of one vertex in ascending order of offset, the first dominates the last only where the middle one
   -- comes between them
   pub is_chain : Bool
+  -- samples of what a walk with that label asks for
+  pub samples : L → List ℕ
 
 -- Of the labels x, y and z of one vertex, in ascending order of offset, the first dominates the last only where it dominates
 -- the middle one, or the middle one dominates the last.
@@ -46,6 +48,8 @@ pub record Laws {L : Type 0} (a : Algebra L) : Type 0 where
   -- a label dominates only labels of its vertex, none of them with a smaller offset
   pub same_vertex : (x y : L) → IsTrue (a.dominates x y) → a.vertex x ≡ a.vertex y
   pub no_later : (x y : L) → IsTrue (a.dominates x y) → a.offset x ≤ a.offset y
+  -- of two labels of one bound, one dominates the other only where none of its samples is less
+  pub sampled : (x y : L) (bound k : ℕ) → IsTrue (a.is_of x bound) → IsTrue (a.is_of y bound) → IsTrue (a.dominates x y) → slice_index (a.samples y) k ≤ slice_index (a.samples x) k
   -- where the kind says so, dominance is a chain
   pub chain : IsTrue a.is_chain → IsChain a
   -- the vertex and the offset of an opening label, and of an extended one

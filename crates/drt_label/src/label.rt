@@ -5,6 +5,9 @@ ghost use Rattle.drt_label.specs.Algebra.{Algebra, Laws, IsTime};
 
 use std::alloc::{AllocError as Memory, Global};
 
+/// How many samples a label has.
+pub const SAMPLES: usize = 16;
+
 /// The label of a walk: its last vertex, the sum of its separations (the offset, in ticks) and the work that its
 /// jobs ask for, as one kind of analysis sees that work.
 ///
@@ -66,6 +69,11 @@ pub trait Label: Sized + Send + Sync + Drop {
     fn dominates(&self, other: &Self) -> bool
         requires { (bound : ℕ) × IsTrue (algebra.is_of self.now bound) × IsTrue (algebra.is_of other.now bound) }
         ensures { result ≡ algebra.dominates self.now other.now };
+
+    /// Samples of what the walk asks for. Of two labels of one bound, one dominates the other only where none of its samples is
+    /// less, so most labels that don't dominate one are told by a look at a few small numbers.
+    fn samples(&self) -> [u16; SAMPLES]
+        ensures { result ≡ algebra.samples self.now };
 
     /// Whether dominance is a chain: of three labels of one vertex in ascending order of offset, the first dominates the
     /// last only where it dominates the middle one, or the middle one dominates the last.

@@ -8,5 +8,5 @@
 
 mod label;
 
-pub use label::Label;
+pub use label::{Label, SAMPLES};
 pub use std::alloc::AllocError as Memory;

@@ -6,6 +6,7 @@ use Rattle.std.proofs.lemmas.Bool.Decides.{nat_tests}
 use Rattle.drt_label.specs.Algebra.{Laws}
 use Rattle.drt_steps.specs.Values.{raise, covers}
 use Rattle.drt_steps.proofs.Values.{length-raise}
+use Rattle.drt_steps.proofs.Samples.{samples_covered}
 use Rattle.drt_request.specs.Request.{Request, dominates, request_algebra}
 
 -- what a test of three parts tells
@@ -127,6 +128,7 @@ request_laws = record {
   ranges = λ x y deadline bound h k. let p : Parts x y = parts x y h in let o : x.offset ≤ y.offset = p.offset in grind (arith, nat_tests);
   same_vertex = λ x y h. (parts x y h).vertex;
   no_later = λ x y h. (parts x y h).offset;
+  sampled = λ x y bound k own others h. let p : Parts x y = parts x y h in samples_covered x.values y.values k (covers_length x.values y.values p.values) p.values;
   chain = λ h. absurd (cc);
   opening_vertex = λ number wcet bound. refl;
   opening_offset = λ number wcet bound. refl;

@@ -2,6 +2,7 @@
 use Rattle.std.specs.Prelude.{ℕ, ◌+◌, ◌*◌, ◌≤◌, Bool, ◌==◌, nat_le, nat_lt, ◌&&◌, false, List, length, replicate}
 use Rattle.drt_label.specs.Algebra.{Algebra}
 use Rattle.drt_steps.specs.Values.{raise, covers, value_at}
+use Rattle.drt_steps.specs.Samples.{samples_of}
 
 -- The last vertex of a walk, the offset of its last release, and its request function at 1 to the bound.
 pub record Request : Type 0 where
@@ -26,6 +27,7 @@ request_algebra = record {
   is_of = λ x bound. length x.values == bound;
   is_extendable = λ x. nat_lt x.offset (length x.values);
   is_chain = false;
+  samples = λ x. samples_of x.values;
 }
 
 -- What each label keeps: with a release at most once a tick, the values stay small.

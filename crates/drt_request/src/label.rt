@@ -5,7 +5,7 @@ ghost use Rattle.drt_request.specs.Request.{request_algebra};
 ghost use Rattle.drt_request.specs.Walk.{LabelWalks};
 ghost use Rattle.drt_request.specs.Laws.{request_laws};
 
-use drt_label::Label;
+use drt_label::{Label, SAMPLES};
 use drt_steps::Steps;
 use std::alloc::{AllocError as Memory, Global};
 use std::marker::Model;
@@ -109,6 +109,10 @@ impl Label for RequestLabel {
         self.vertex == other.vertex
             && self.offset <= other.offset
             && self.steps.covers(&other.steps)
+    }
+
+    fn samples(&self) -> [u16; SAMPLES] {
+        self.steps.samples()
     }
 
     fn is_chain() -> bool {

@@ -1,5 +1,6 @@
 pub mod Jumps
 pub mod Marked
+pub mod Samples
 pub mod Merging
 pub mod Covering
 pub mod Kept

@@ -50,9 +50,9 @@ pub record IsKept (bound base : ℕ) (jumps : List Jump) (values : List ℕ) : T
   pub kept : AreKept bound base jumps
   pub levels_are : values ≡ levels base jumps
 
--- The values xs at the bound and at seven times before it, each an eighth of the bound before the last.
+-- The values xs at the bound and at fifteen times before it, each a sixteenth of the bound before the last.
 pub record AreMarks (bound : ℕ) (xs marks : List ℕ) : Type 0 where
-  pub are : (k : ℕ) → k < 8 → slice_index marks k ≡ value_at xs (bound - k * (bound / 8))
+  pub are : (k : ℕ) → k < 16 → slice_index marks k ≡ value_at xs (bound - k * (bound / 16))
 
 -- A place among the jumps, or at their end, whose jump in front comes before the time t.
 pub record IsReached (jumps : List Jump) (t place : ℕ) : Type 0 where

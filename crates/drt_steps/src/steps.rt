@@ -3,11 +3,12 @@ ghost use Rattle.std.specs.Prelude.{◌≡◌, ℕ, ◌+◌, ◌≤◌, ◌<◌,
 ghost use Rattle.std.specs.Ordering.{nat_cmp};
 ghost use Rattle.std.specs.Cmp.Lexicographic.{slice_cmp};
 ghost use Rattle.drt_steps.specs.Values.{raise, value_at, covers, max_of};
-ghost use Rattle.drt_steps.specs.Jumps.{values, AreKept, IsKept};
+ghost use Rattle.drt_steps.specs.Jumps.{values, AreKept, IsKept, AreMarks};
+ghost use Rattle.drt_steps.specs.Samples.{samples_of};
 
 use crate::jump::{Jump, is_reached, level_since, place_from, place_of, placed};
 use crate::level::{level_after, levels};
-use crate::marks::{MARKS, marks};
+use crate::marks::{MARKS, marks, raised_marks, samples};
 use crate::merge::{merged, stays_above};
 use crate::rises::{Rises, jumps_of, levels_of, one_more};
 use std::alloc::{AllocError, Global};
@@ -48,15 +49,38 @@ impl Steps {
         ensures { IfOk result (λ s. s ≡ values bound base jumps.items) }
     {
         let levels = levels(alloc, base, &jumps)?;
-        Steps::from_rises(alloc, bound, base, Rises { jumps, levels })
+        let marks = marks(bound, base, &jumps, &levels);
+        Steps::from_rises(alloc, bound, base, Rises { jumps, levels }, marks)
     }
 
-    // The function with this base and these rises.
-    fn from_rises(alloc: Global, bound: u64, base: u64, rises: Rises) -> Result<Steps, AllocError>
-        requires { IsKept bound base rises.jumps.items rises.levels.items }
+    // The function with this base, these jumps and these marks.
+    fn from_marked(
+        alloc: Global,
+        bound: u64,
+        base: u64,
+        jumps: Vec<Jump>,
+        marks: [u64; MARKS],
+    ) -> Result<Steps, AllocError>
+        requires kept { AreKept bound base jumps.items }
+        requires marks { AreMarks bound (values bound base jumps.items) marks }
+        ensures { IfOk result (λ s. s ≡ values bound base jumps.items) }
+    {
+        let levels = levels(alloc, base, &jumps)?;
+        Steps::from_rises(alloc, bound, base, Rises { jumps, levels }, marks)
+    }
+
+    // The function with this base, these rises and these marks.
+    fn from_rises(
+        alloc: Global,
+        bound: u64,
+        base: u64,
+        rises: Rises,
+        marks: [u64; MARKS],
+    ) -> Result<Steps, AllocError>
+        requires kept { IsKept bound base rises.jumps.items rises.levels.items }
+        requires marks { AreMarks bound (values bound base rises.jumps.items) marks }
         ensures { IfOk result (λ s. s ≡ values bound base rises.jumps.items) }
     {
-        let marks = marks(bound, base, &rises.jumps, &rises.levels);
         Ok(Steps {
             bound,
             base,
@@ -135,9 +159,10 @@ impl Steps {
             return self.copy(alloc);
         }
         let own = jumps_of(&self.rises);
+        let marks = raised_marks(self.bound, &self.marks, offset, work);
         if offset == 0 {
             let jumps = Vec::from_slice(alloc, own)?;
-            return Steps::from_jumps(alloc, self.bound, self.base + work, jumps);
+            return Steps::from_marked(alloc, self.bound, self.base + work, jumps, marks);
         }
         let new = Jump {
             after: offset,
@@ -146,10 +171,19 @@ impl Steps {
         // A walk goes on in time, so the new jump is mostly the last one.
         if is_reached(own, own.len(), offset + 1) {
             let rises = one_more(alloc, self.base, &self.rises, new)?;
-            return Steps::from_rises(alloc, self.bound, self.base, rises);
+            return Steps::from_rises(alloc, self.bound, self.base, rises, marks);
         }
         let jumps = placed(alloc, own, new)?;
-        Steps::from_jumps(alloc, self.bound, self.base, jumps)
+        Steps::from_marked(alloc, self.bound, self.base, jumps, marks)
+    }
+
+    /// Samples of the function, of 16 bits each: its values at its bound and at fifteen times before it, each a sixteenth
+    /// of the bound before the last, as multiples of a unit that the bound gives, the greatest number where they are
+    /// greater. Of two functions of one bound, where one covers the other none of its samples is less.
+    pub fn samples(&self) -> [u16; 16]
+        ensures { result ≡ samples_of self.now }
+    {
+        samples(self.bound, &self.marks)
     }
 
     /// Whether this function is at each time at least the other one. A few values settle most pairs; only where they don't

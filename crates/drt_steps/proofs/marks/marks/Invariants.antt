@@ -4,4 +4,4 @@ use Rattle.drt_steps.specs.Values.{value_at}
 use Rattle.drt_steps.proofs.marks.marks.Given as goal
 
 abbrev pub invariant-loop-k : goal.invariant-loop-k
-invariant-loop-k l = (length l.marks ≡ 8) × ((i : ℕ) → i < l.k → slice_index l.marks i ≡ value_at (values l.bound l.base l.jumps) (l.bound - i * (l.bound / 8)))
+invariant-loop-k l = (length l.marks ≡ 16) × ((i : ℕ) → i < l.k → slice_index l.marks i ≡ value_at (values l.bound l.base l.jumps) (l.bound - i * (l.bound / 16)))
