@@ -91,3 +91,22 @@ entries_same numbers others columns changed (suc count) ns ss =
     let n : slice_index others count ≡ slice_index numbers count = ns count (omega arith) in
     let s : samples_at changed count ≡ samples_at columns count = ss count (omega arith) in
     cc
+
+replicate_at : (n k : ℕ) (x y : List ℕ) → slice_get (replicate n x) k ≡ Some y → x ≡ y
+replicate_at zero k x y at = absurd (none-some y at)
+replicate_at (suc n) zero x y at = same_Some x y at
+replicate_at (suc n) (suc k) x y at = replicate_at n k x y at
+
+-- columns of zeros
+pub new_columns : AreColumns (replicate 16 (replicate 64 0))
+new_columns = record { many = refl; long = λ k column at. sym (ap length (replicate_at 16 k (replicate 64 0) column at)) }
+
+-- the entries after a push
+pub pushed : (numbers : List ℕ) (columns changed : List (List ℕ)) (count number : ℕ) (samples : List ℕ) → count < length numbers → samples_at changed count ≡ samples → ((other : ℕ) → other ≢ count → samples_at changed other ≡ samples_at columns other) → first_entries (set numbers count number) changed (suc count) ≡ first_entries numbers columns count ++ record { number = number; samples = samples } ∷ []
+pushed numbers columns changed count number samples lt here others =
+    let before : first_entries (set numbers count number) changed count ≡ first_entries numbers columns count =
+        entries_same numbers (set numbers count number) columns changed count
+        (λ i less. let ne : i ≢ count = omega arith in get_or-set_other numbers count i number 0 ne)
+        (λ i less. others i (omega arith)) in
+    let is : slice_index (set numbers count number) count ≡ number = get_or-set_same numbers count number 0 lt in
+    cc

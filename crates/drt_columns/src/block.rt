@@ -65,7 +65,8 @@ impl Block {
         requires { slot < length self.now }
         ensures { (e : Entry) → slice_get self.now slot ≡ Some e → result ≡ e.number }
     {
-        self.numbers[slot]
+        let numbers = &self.numbers;
+        numbers[slot]
     }
 
     /// Which labels are left when those with a sample less than one of these are ruled out.
