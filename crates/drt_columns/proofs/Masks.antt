@@ -23,7 +23,7 @@ module _ (numbers : List ℕ) (columns : List (List ℕ)) (count : ℕ) where
   -- a mask of the used slots rules nothing out
   pub mask_first : (samples mask : List ℕ) → ((slot : ℕ) → slice_index mask slot ≢ 0 → slot < count) → ((slot : ℕ) → slot < count → slice_index mask slot ≢ 0) → IsMask (first_entries numbers columns count) samples mask
   mask_first samples mask used all = record {
-    below = λ slot e at zero. absurd (all slot (let lt : slot < length (first_entries numbers columns count) = slice_get_within (first_entries numbers columns count) slot e at in omega (arith, entries_many numbers columns count)) zero);
+    below = λ slot e at none. absurd (all slot (let lt : slot < length (first_entries numbers columns count) = slice_get_within (first_entries numbers columns count) slot e at in omega (arith, entries_many numbers columns count)) none);
     used = λ slot u. (let lt : slot < count = used slot u in omega (arith, entries_many numbers columns count));
   }
 
@@ -35,9 +35,9 @@ module _ (numbers : List ℕ) (columns : List (List ℕ)) (count : ℕ) where
   -- a mask after one column more
   pub mask_next : (samples mask next : List ℕ) (k : ℕ) → IsMask (first_entries numbers columns count) samples mask → ((slot : ℕ) → slice_index next slot ≡ kept (slice_index samples k) (slice_index (get_or columns k []) slot) (slice_index mask slot)) → IsMask (first_entries numbers columns count) samples next
   mask_next samples mask next k h is = record {
-    below = λ slot e at zero. elim (kept_zero (slice_index samples k) (slice_index (get_or columns k []) slot) (slice_index mask slot) (sym (is slot) ∙ zero)) as (λ _. IsBelow samples e) [
+    below = λ slot e at none. elim (kept_zero (slice_index samples k) (slice_index (get_or columns k []) slot) (slice_index mask slot) (sym (is slot) ∙ none)) as (λ _. IsBelow samples e) [
       | inl less ↦ ruled samples k slot e at less
-      | inr none ↦ h.below slot e at none
+      | inr before ↦ h.below slot e at before
     ];
     used = λ slot u. h.used slot (kept_used (slice_index samples k) (slice_index (get_or columns k []) slot) (slice_index mask slot) (λ e. u (is slot ∙ e)));
   }
