@@ -5,6 +5,7 @@ use Rattle.std.proofs.Math.Seq.{map-set_same}
 use Rattle.std.proofs.lemmas.List.{get_or-set_same, get_or-set_other}
 use Rattle.std.proofs.lemmas.Option.{none-some, same_Some, slice_get-get_or}
 use Rattle.drt_worklist.proofs.Writes.{set_at, length_set}
+use Rattle.drt_columns.proofs.Ends.{before_at, last_at}
 use Rattle.drt_columns.specs.Entries.{Entry}
 use Rattle.drt_columns.specs.Slots.{AreColumns, first_entries, samples_at}
 
@@ -57,16 +58,6 @@ written_more written samples k lt before =
 -- the entry in a slot
 abbrev pub entry_at : List ℕ → List (List ℕ) → ℕ → Entry
 entry_at numbers columns slot = record { number = slice_index numbers slot; samples = samples_at columns slot }
-
--- what stands in a list with one more
-last_at : (xs : List Entry) (y : Entry) → slice_get (xs ++ y ∷ []) (length xs) ≡ Some y
-last_at [] y = refl
-last_at (x ∷ xs) y = last_at xs y
-
-before_at : (xs : List Entry) (y : Entry) (i : ℕ) → i < length xs → slice_get (xs ++ y ∷ []) i ≡ slice_get xs i
-before_at [] y i lt = absurd (omega arith)
-before_at (x ∷ xs) y zero lt = refl
-before_at (x ∷ xs) y (suc i) lt = before_at xs y i (omega arith)
 
 module _ (numbers : List ℕ) (columns : List (List ℕ)) where
   pub entries_many : (count : ℕ) → length (first_entries numbers columns count) ≡ count

@@ -70,6 +70,7 @@ impl Columns {
         ensures room { self.new.room ≡ self.old.room }
         ensures vertices { self.new.vertices ≡ self.old.vertices }
     {
+        self.count += 1;
         let free = self.free[vertex as usize];
         if free == 0 {
             let mut block = Block::new();
@@ -83,7 +84,6 @@ impl Columns {
             self.blocks[last].push(number, &samples);
             self.free[vertex as usize] = free - 1;
         }
-        self.count += 1;
     }
 
     /// A look at the labels of a vertex, for those none of whose samples is less than these.
