@@ -1,5 +1,5 @@
 -- What a push keeps true.
-use Rattle.std.proofs.Common.{◌≡◌, ◌≢◌, ℕ, zero, suc, ◌+◌, ◌-◌, ◌*◌, ◌<◌, ◌≤◌, ◌⊎◌, inl, inr, Some, List, [], ◌∷◌, ◌++◌, length, get_or, set, refl, sym, ap, ◌∙◌, arith, length-append, length-set}
+use Rattle.std.proofs.Common.{◌≡◌, ◌≢◌, ℕ, zero, suc, ◌+◌, ◌-◌, ◌*◌, ◌<◌, ◌≤◌, inl, inr, Some, List, [], ◌∷◌, ◌++◌, length, get_or, set, refl, sym, ap, ◌∙◌, arith, length-append, length-set}
 use Rattle.std.specs.Prelude.{slice_get, slice_index, sum, vec_capacity}
 use Rattle.std.proofs.lemmas.List.{get_or-set_same, get_or-set_other}
 use Rattle.std.proofs.lemmas.List.Sums.{sum_by-cons, sum_by-set}
@@ -45,7 +45,8 @@ module _ (owners : List ℕ) (blocks : List (List Entry)) where
     is_last = h.is_last;
   }
 
-  pub open_same : (other last free vertex place : ℕ) (block : List Entry) → other ≢ vertex → slice_get owners place ≡ Some vertex → IsOpen owners blocks other last free → IsOpen owners (set blocks place block) other last free
+  pub open_same : (other last free vertex place : ℕ) (block : List Entry) → other ≢ vertex → slice_get owners place ≡ Some vertex → IsOpen owners blocks other last free
+      → IsOpen owners (set blocks place block) other last free
   open_same other last free vertex place block ne owned h = record {
     block = h.block;
     at = set_elsewhere blocks place block last (λ e. ne (same_Some other vertex (sym h.owner_is ∙ (ap (λ n. slice_get owners n) e ∙ owned)))) ∙ h.at;
@@ -78,17 +79,27 @@ block_room c capacity h room fits =
 -- the vertices with free slots after a push
 module _ (owners : List ℕ) (blocks : List (List Entry)) (lasts free : List ℕ) (vertex : ℕ) (e : Entry) (lasts_len : length lasts ≡ length free) (within : vertex < length free)
     (open_blocks : (other : ℕ) → 0 < slice_index free other → IsOpen owners blocks other (slice_index lasts other) (slice_index free other)) where
-  pub open_more : length owners ≡ length blocks → (other : ℕ) → 0 < slice_index (set free vertex 63) other → IsOpen (owners ++ vertex ∷ []) (blocks ++ (e ∷ []) ∷ []) other (slice_index (set lasts vertex (length blocks)) other) (slice_index (set free vertex 63) other)
-  open_more same other some = elim (are_same other vertex) as (λ _. IsOpen (owners ++ vertex ∷ []) (blocks ++ (e ∷ []) ∷ []) other (slice_index (set lasts vertex (length blocks)) other) (slice_index (set free vertex 63) other)) [
-    | inl is ↦ rw (is, get_or-set_same lasts vertex (length blocks) 0 (omega arith), get_or-set_same free vertex 63 0 within) (opened owners blocks vertex e same)
-    | inr ne ↦ rw (get_or-set_other lasts vertex other (length blocks) 0 ne, get_or-set_other free vertex other 63 0 ne) (open_stays owners blocks other (slice_index lasts other) (slice_index free other) vertex (e ∷ []) ne (open_blocks other (rw (get_or-set_other free vertex other 63 0 ne) at some)))
-  ]
+  pub open_more : length owners ≡ length blocks → (other : ℕ) → 0 < slice_index (set free vertex 63) other
+      → IsOpen (owners ++ vertex ∷ []) (blocks ++ (e ∷ []) ∷ []) other (slice_index (set lasts vertex (length blocks)) other) (slice_index (set free vertex 63) other)
+  open_more same other some =
+      elim (are_same other vertex) as
+      (λ _. IsOpen (owners ++ vertex ∷ []) (blocks ++ (e ∷ []) ∷ []) other (slice_index (set lasts vertex (length blocks)) other) (slice_index (set free vertex 63) other)) [
+        | inl is ↦ rw (is, get_or-set_same lasts vertex (length blocks) 0 (omega arith), get_or-set_same free vertex 63 0 within) (opened owners blocks vertex e same)
+        | inr ne ↦ rw (get_or-set_other lasts vertex other (length blocks) 0 ne, get_or-set_other free vertex other 63 0 ne)
+            (open_stays owners blocks other (slice_index lasts other) (slice_index free other) vertex (e ∷ []) ne (open_blocks other (rw (get_or-set_other free vertex other 63 0 ne) at some)))
+      ]
 
-  pub open_filled : (h : IsOpen owners blocks vertex (slice_index lasts vertex) (slice_index free vertex)) → 0 < slice_index free vertex → (other : ℕ) → 0 < slice_index (set free vertex (slice_index free vertex - 1)) other → IsOpen owners (set blocks (slice_index lasts vertex) (h.block ++ e ∷ [])) other (slice_index lasts other) (slice_index (set free vertex (slice_index free vertex - 1)) other)
-  open_filled h left other some = elim (are_same other vertex) as (λ _. IsOpen owners (set blocks (slice_index lasts vertex) (h.block ++ e ∷ [])) other (slice_index lasts other) (slice_index (set free vertex (slice_index free vertex - 1)) other)) [
-    | inl is ↦ rw (is, get_or-set_same free vertex (slice_index free vertex - 1) 0 within) (filled owners blocks vertex (slice_index lasts vertex) (slice_index free vertex) e h left)
-    | inr ne ↦ rw (get_or-set_other free vertex other (slice_index free vertex - 1) 0 ne) (open_same owners blocks other (slice_index lasts other) (slice_index free other) vertex (slice_index lasts vertex) (h.block ++ e ∷ []) ne h.owner_is (open_blocks other (rw (get_or-set_other free vertex other (slice_index free vertex - 1) 0 ne) at some)))
-  ]
+  pub open_filled : (h : IsOpen owners blocks vertex (slice_index lasts vertex) (slice_index free vertex)) → 0 < slice_index free vertex → (other : ℕ)
+      → 0 < slice_index (set free vertex (slice_index free vertex - 1)) other
+      → IsOpen owners (set blocks (slice_index lasts vertex) (h.block ++ e ∷ [])) other (slice_index lasts other) (slice_index (set free vertex (slice_index free vertex - 1)) other)
+  open_filled h left other some =
+      elim (are_same other vertex) as
+      (λ _. IsOpen owners (set blocks (slice_index lasts vertex) (h.block ++ e ∷ [])) other (slice_index lasts other) (slice_index (set free vertex (slice_index free vertex - 1)) other)) [
+        | inl is ↦ rw (is, get_or-set_same free vertex (slice_index free vertex - 1) 0 within) (filled owners blocks vertex (slice_index lasts vertex) (slice_index free vertex) e h left)
+        | inr ne ↦ rw (get_or-set_other free vertex other (slice_index free vertex - 1) 0 ne)
+            (open_same owners blocks other (slice_index lasts other) (slice_index free other) vertex (slice_index lasts vertex) (h.block ++ e ∷ []) ne h.owner_is
+            (open_blocks other (rw (get_or-set_other free vertex other (slice_index free vertex - 1) 0 ne) at some)))
+      ]
 
 -- The fields after a push that begins a block.
 pub record HasMore (c d : Inside) (vertex : ℕ) (e : Entry) : Type 0 where
@@ -115,12 +126,13 @@ pub record HasFilled (c d : Inside) (vertex : ℕ) (e : Entry) (block : List Ent
 module _ (c d : Inside) (vertex : ℕ) (e : Entry) (h : IsKept c) (room : c.count < c.room) (within : vertex < length c.free.items) where
   pub kept_more : slice_index c.free.items vertex ≡ 0 → HasMore c d vertex e → IsKept d
   kept_more full m = record {
-    paired = rw (m.owners, m.blocks) (let same : length c.owners.items ≡ length c.blocks.items = h.paired in omega (arith, length-append c.owners.items (vertex ∷ []), length-append c.blocks.items ((e ∷ []) ∷ [])));
+    paired = rw (m.owners, m.blocks)
+        (let same : length c.owners.items ≡ length c.blocks.items = h.paired in omega (arith, length-append c.owners.items (vertex ∷ []), length-append c.blocks.items ((e ∷ []) ∷ [])));
     lasts_len = rw (m.lasts, m.free) (length-set c.lasts.items vertex (length c.blocks.items) ∙ (h.lasts_len ∙ sym (length-set c.free.items vertex 63)));
     counted = rw (m.blocks, m.free, m.count) (
-      let counted : 64 * length c.blocks.items ≡ c.count + sum c.free.items = h.counted in
-      let sums : sum (set c.free.items vertex 63) + slice_index c.free.items vertex ≡ sum c.free.items + 63 = sum_by-set (λ x. x) c.free.items vertex 63 0 within in
-      omega (arith, length-append c.blocks.items ((e ∷ []) ∷ [])));
+        let counted : 64 * length c.blocks.items ≡ c.count + sum c.free.items = h.counted in
+        let sums : sum (set c.free.items vertex 63) + slice_index c.free.items vertex ≡ sum c.free.items + 63 = sum_by-set (λ x. x) c.free.items vertex 63 0 within in
+        omega (arith, length-append c.blocks.items ((e ∷ []) ∷ [])));
     few_free = rw m.free (few_free_after c.free.items vertex 63 (omega arith) within h.few_free);
     open_blocks = rw (m.owners, m.blocks, m.lasts, m.free) (open_more c.owners.items c.blocks.items c.lasts.items c.free.items vertex e h.lasts_len within h.open_blocks h.paired);
     within = rw (m.count, m.room) (omega arith);
@@ -128,15 +140,18 @@ module _ (c d : Inside) (vertex : ℕ) (e : Entry) (h : IsKept c) (room : c.coun
     blocks_room = rw (m.room, m.free, m.blocks_capacity, length-set c.free.items vertex 63) h.blocks_room;
   }
 
-  pub kept_filled : (begun : IsOpen c.owners.items c.blocks.items vertex (slice_index c.lasts.items vertex) (slice_index c.free.items vertex)) → 0 < slice_index c.free.items vertex → HasFilled c d vertex e begun.block → IsKept d
+  pub kept_filled : (begun : IsOpen c.owners.items c.blocks.items vertex (slice_index c.lasts.items vertex) (slice_index c.free.items vertex)) → 0 < slice_index c.free.items vertex
+      → HasFilled c d vertex e begun.block → IsKept d
   kept_filled begun left m = record {
     paired = rw (m.owners, m.blocks) (h.paired ∙ sym (length-set c.blocks.items (slice_index c.lasts.items vertex) (begun.block ++ e ∷ [])));
     lasts_len = rw (m.lasts, m.free) (h.lasts_len ∙ sym (length-set c.free.items vertex (slice_index c.free.items vertex - 1)));
     counted = rw (m.blocks, m.free, m.count) (
-      let counted : 64 * length c.blocks.items ≡ c.count + sum c.free.items = h.counted in
-      let sums : sum (set c.free.items vertex (slice_index c.free.items vertex - 1)) + slice_index c.free.items vertex ≡ sum c.free.items + (slice_index c.free.items vertex - 1) = sum_by-set (λ x. x) c.free.items vertex (slice_index c.free.items vertex - 1) 0 within in
-      omega (arith, length-set c.blocks.items (slice_index c.lasts.items vertex) (begun.block ++ e ∷ [])));
-    few_free = rw m.free (few_free_after c.free.items vertex (slice_index c.free.items vertex - 1) (let lt : slice_index c.free.items vertex < 64 = h.few_free vertex in omega arith) within h.few_free);
+        let counted : 64 * length c.blocks.items ≡ c.count + sum c.free.items = h.counted in
+        let sums : sum (set c.free.items vertex (slice_index c.free.items vertex - 1)) + slice_index c.free.items vertex ≡ sum c.free.items + (slice_index c.free.items vertex - 1) =
+        sum_by-set (λ x. x) c.free.items vertex (slice_index c.free.items vertex - 1) 0 within in
+        omega (arith, length-set c.blocks.items (slice_index c.lasts.items vertex) (begun.block ++ e ∷ [])));
+    few_free = rw m.free (few_free_after c.free.items vertex (slice_index c.free.items vertex - 1)
+        (let lt : slice_index c.free.items vertex < 64 = h.few_free vertex in omega arith) within h.few_free);
     open_blocks = rw (m.owners, m.blocks, m.lasts, m.free) (open_filled c.owners.items c.blocks.items c.lasts.items c.free.items vertex e h.lasts_len within h.open_blocks begun left);
     within = rw (m.count, m.room) (omega arith);
     owners_room = rw (m.room, m.free, m.owners_capacity, length-set c.free.items vertex (slice_index c.free.items vertex - 1)) h.owners_room;
@@ -157,11 +172,14 @@ module _ (c d : Inside) (vertex : ℕ) (e : Entry) (h : IsKept c) (room : c.coun
       ∙ (ap (λ rest. entries_in other c.owners.items c.blocks.items ++ rest) (in_other other vertex [] (e ∷ []) [] (λ is. ne (sym is)))
       ∙ append-nil (entries_in other c.owners.items c.blocks.items)))
 
-  pub entries_filled : (begun : IsOpen c.owners.items c.blocks.items vertex (slice_index c.lasts.items vertex) (slice_index c.free.items vertex)) → HasFilled c d vertex e begun.block → entries_in vertex d.owners.items d.blocks.items ≡ entries_in vertex c.owners.items c.blocks.items ++ e ∷ []
+  pub entries_filled : (begun : IsOpen c.owners.items c.blocks.items vertex (slice_index c.lasts.items vertex) (slice_index c.free.items vertex))
+      → HasFilled c d vertex e begun.block → entries_in vertex d.owners.items d.blocks.items ≡ entries_in vertex c.owners.items c.blocks.items ++ e ∷ []
   entries_filled begun m = rw (m.owners, m.blocks) (in_longer vertex (slice_index c.lasts.items vertex) c.owners.items c.blocks.items begun.block e begun.owner_is begun.at begun.is_last)
 
-  pub others_filled : (begun : IsOpen c.owners.items c.blocks.items vertex (slice_index c.lasts.items vertex) (slice_index c.free.items vertex)) → HasFilled c d vertex e begun.block → (other : ℕ) → other ≢ vertex → entries_in other d.owners.items d.blocks.items ≡ entries_in other c.owners.items c.blocks.items
-  others_filled begun m other ne = rw (m.owners, m.blocks) (in_same other (slice_index c.lasts.items vertex) c.owners.items c.blocks.items (begun.block ++ e ∷ []) vertex begun.owner_is (λ is. ne (sym is)))
+  pub others_filled : (begun : IsOpen c.owners.items c.blocks.items vertex (slice_index c.lasts.items vertex) (slice_index c.free.items vertex))
+      → HasFilled c d vertex e begun.block → (other : ℕ) → other ≢ vertex → entries_in other d.owners.items d.blocks.items ≡ entries_in other c.owners.items c.blocks.items
+  others_filled begun m other ne =
+      rw (m.owners, m.blocks) (in_same other (slice_index c.lasts.items vertex) c.owners.items c.blocks.items (begun.block ++ e ∷ []) vertex begun.owner_is (λ is. ne (sym is)))
 
 -- what an index reads
 pub read_is : (numbers : List ℕ) (place n : ℕ) → place < length numbers → n ≡ get_or numbers place n → slice_index numbers place ≡ n

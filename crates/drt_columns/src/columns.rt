@@ -98,11 +98,14 @@ impl Columns {
     fn seek_from(&self, vertex: u32, samples: [u16; SAMPLES], from: usize) -> Seek
         requires { from ≤ length self.now.blocks }
         ensures seek { IsSeek self.now result samples (entries_in vertex (drop from self.now.owners) (drop from self.now.blocks)) }
-        ensures vertex { result.vertex ≡ vertex }
         ensures later { from ≤ result.block }
     {
         let block = next_owned(&self.owners, vertex, from);
-        let possible = if block < self.blocks.len() { self.blocks[block].mask(&samples) } else { [0; SLOTS] };
+        let possible = if block < self.blocks.len() {
+            self.blocks[block].mask(&samples)
+        } else {
+            [0; SLOTS]
+        };
         Seek {
             vertex,
             samples,

@@ -1,4 +1,4 @@
-use Rattle.std.proofs.Common.{◌≡◌, ◌≢◌, ℕ, ◌+◌, ◌-◌, ◌<◌, ◌∙◌, Some, List, [], ◌∷◌, ◌++◌, length, set, arith, refl, sym, ap}
+use Rattle.std.proofs.Common.{◌≡◌, ◌≢◌, ◌+◌, ◌-◌, ◌<◌, ◌∙◌, List, [], ◌∷◌, ◌++◌, length, set, arith, refl, sym, ap}
 use Rattle.std.specs.Prelude.{slice_get, slice_index, vec_capacity}
 use Rattle.std.specs.Vec.{with_item}
 use Rattle.std.proofs.lemmas.Option.{get_or_from_slice_get, slice_get_within}
@@ -24,16 +24,28 @@ free_is c = read_is c.self.inside.free.items c.args.vertex c.index-free.result.n
 
 pub push_reserved-requires : goal.push_reserved-requires
 push_reserved-requires c =
-    let lt : length c.self.inside.blocks.items < vec_capacity c.self.inside.owners = block_room c.self.inside (vec_capacity c.self.inside.owners) c.self.invariant (room (goal.at.push_reserved-requires c).After-index-free) c.self.invariant.owners_room in
+    let lt : length c.self.inside.blocks.items < vec_capacity c.self.inside.owners =
+    block_room c.self.inside (vec_capacity c.self.inside.owners) c.self.invariant (room (goal.at.push_reserved-requires c).After-index-free) c.self.invariant.owners_room in
     omega (arith, c.self.inside.owners.ok.0, c.self.invariant.paired)
 
 pub push_reserved-requires-then-free-eq0 : goal.push_reserved-requires-then-free-eq0
 push_reserved-requires-then-free-eq0 c =
-    let lt : length c.self.inside.blocks.items < vec_capacity c.self.inside.blocks = block_room c.self.inside (vec_capacity c.self.inside.blocks) c.self.invariant (room (goal.at.push_reserved-requires-then-free-eq0 c).After-index-free) c.self.invariant.blocks_room in
+    let lt : length c.self.inside.blocks.items < vec_capacity c.self.inside.blocks =
+    block_room c.self.inside (vec_capacity c.self.inside.blocks) c.self.invariant (room (goal.at.push_reserved-requires-then-free-eq0 c).After-index-free) c.self.invariant.blocks_room in
     omega (arith, c.self.inside.blocks.ok.0)
 
 -- a block is begun
-more : (c : After-push_reserved-then-free-eq0) → HasMore c.self.inside (record { count = c.self.inside.count + 1; room = c.self.inside.room; owners = c.push_reserved.new.self; blocks = c.push_reserved-then-free-eq0.new.self; lasts = with_item c.self.inside.lasts c.args.vertex c.len.result; free = with_item c.self.inside.free c.args.vertex 63 }) c.args.vertex (record { number = c.args.number; samples = c.args.samples })
+more : (c : After-push_reserved-then-free-eq0)
+    → HasMore c.self.inside
+    (record {
+      count = c.self.inside.count + 1;
+      room = c.self.inside.room;
+      owners = c.push_reserved.new.self;
+      blocks = c.push_reserved-then-free-eq0.new.self;
+      lasts =
+          with_item c.self.inside.lasts c.args.vertex c.len.result;
+      free = with_item c.self.inside.free c.args.vertex 63;
+    }) c.args.vertex (record { number = c.args.number; samples = c.args.samples })
 more c =
     let e : Entry = record { number = c.args.number; samples = c.args.samples } in
     record {
@@ -72,12 +84,14 @@ module _ (c : After-index-last) where
 
   some_left : 0 < slice_index c.self.inside.free.items c.args.vertex
   some_left =
-      let is : slice_index c.self.inside.free.items c.args.vertex ≡ c.index-free.result.now = read_is c.self.inside.free.items c.args.vertex c.index-free.result.now inside_within c.index-free.ensures in
+      let is : slice_index c.self.inside.free.items c.args.vertex ≡ c.index-free.result.now =
+      read_is c.self.inside.free.items c.args.vertex c.index-free.result.now inside_within c.index-free.ensures in
       let some : c.index-free.result.now ≢ 0 = c.if-free-eq0.false in
       omega arith
 
   last_is : slice_index c.self.inside.lasts.items c.args.vertex ≡ c.index-last.result.now
-  last_is = read_is c.self.inside.lasts.items c.args.vertex c.index-last.result.now (let lt : c.args.vertex < length c.self.inside.free.items = inside_within in omega (arith, c.self.invariant.lasts_len)) c.index-last.ensures
+  last_is = read_is c.self.inside.lasts.items c.args.vertex c.index-last.result.now
+      (let lt : c.args.vertex < length c.self.inside.free.items = inside_within in omega (arith, c.self.invariant.lasts_len)) c.index-last.ensures
 
   begun : IsOpen c.self.inside.owners.items c.self.inside.blocks.items c.args.vertex (slice_index c.self.inside.lasts.items c.args.vertex) (slice_index c.self.inside.free.items c.args.vertex)
   begun = c.self.invariant.open_blocks c.args.vertex some_left
@@ -91,10 +105,12 @@ index_mut-requires-else-free-eq0 c =
     omega (arith, c.self.inside.blocks.ok.0)
 
 -- the last block of the vertex, as the look-up of its place gives it
-module _ (c : After-index_mut-else-free-eq0) (b : IsOpen c.self.inside.owners.items c.self.inside.blocks.items c.args.vertex (slice_index c.self.inside.lasts.items c.args.vertex) (slice_index c.self.inside.free.items c.args.vertex))
+module _ (c : After-index_mut-else-free-eq0)
+    (b : IsOpen c.self.inside.owners.items c.self.inside.blocks.items c.args.vertex (slice_index c.self.inside.lasts.items c.args.vertex) (slice_index c.self.inside.free.items c.args.vertex))
     (place : slice_index c.self.inside.lasts.items c.args.vertex ≡ c.index-last.result.now) where
   block_is : c.index_mut-else-free-eq0.result.now ≡ b.block
-  block_is = c.index_mut-else-free-eq0.ensures.value ∙ get_or_from_slice_get c.self.inside.blocks.items c.index-last.result.now b.block c.index_mut-else-free-eq0.result.now (ap (λ n. slice_get c.self.inside.blocks.items n) (sym place) ∙ b.at)
+  block_is = c.index_mut-else-free-eq0.ensures.value
+      ∙ get_or_from_slice_get c.self.inside.blocks.items c.index-last.result.now b.block c.index_mut-else-free-eq0.result.now (ap (λ n. slice_get c.self.inside.blocks.items n) (sym place) ∙ b.at)
 
 pub push-requires-else-free-eq0 : goal.push-requires-else-free-eq0
 push-requires-else-free-eq0 c =
@@ -104,8 +120,10 @@ push-requires-else-free-eq0 c =
     let is : length c.index_mut-else-free-eq0.result.now ≡ length (begun a).block = ap length (block_is (goal.at.push-requires-else-free-eq0 c).After-index_mut-else-free-eq0 (begun a) (last_is a)) in
     omega arith
 
-module _ (c : After-index_mut-else-free-eq0-2) (b : IsOpen c.self.inside.owners.items c.self.inside.blocks.items c.args.vertex (slice_index c.self.inside.lasts.items c.args.vertex) (slice_index c.self.inside.free.items c.args.vertex))
-    (place : slice_index c.self.inside.lasts.items c.args.vertex ≡ c.index-last.result.now) (free : slice_index c.self.inside.free.items c.args.vertex ≡ c.index-free.result.now) (is : c.index_mut-else-free-eq0.result.now ≡ b.block) where
+module _ (c : After-index_mut-else-free-eq0-2)
+    (b : IsOpen c.self.inside.owners.items c.self.inside.blocks.items c.args.vertex (slice_index c.self.inside.lasts.items c.args.vertex) (slice_index c.self.inside.free.items c.args.vertex))
+    (place : slice_index c.self.inside.lasts.items c.args.vertex ≡ c.index-last.result.now) (free : slice_index c.self.inside.free.items c.args.vertex ≡ c.index-free.result.now)
+    (is : c.index_mut-else-free-eq0.result.now ≡ b.block) where
   abbrev pub label : Entry
   label = record { number = c.args.number; samples = c.args.samples }
 
@@ -123,8 +141,8 @@ module _ (c : After-index_mut-else-free-eq0-2) (b : IsOpen c.self.inside.owners.
   filled = record {
     owners = refl;
     blocks =
-      ap (λ (block : List Entry). set c.self.inside.blocks.items c.index-last.result.now block) (c.push-else-free-eq0.ensures ∙ ap (λ (block : List Entry). block ++ label ∷ []) is)
-      ∙ ap (λ n. set c.self.inside.blocks.items n (b.block ++ label ∷ [])) (sym place);
+        ap (λ (block : List Entry). set c.self.inside.blocks.items c.index-last.result.now block) (c.push-else-free-eq0.ensures ∙ ap (λ (block : List Entry). block ++ label ∷ []) is)
+        ∙ ap (λ n. set c.self.inside.blocks.items n (b.block ++ label ∷ [])) (sym place);
     lasts = refl;
     free = ap (λ n. set c.self.inside.free.items c.args.vertex (n - 1)) (sym free);
     count = refl;
