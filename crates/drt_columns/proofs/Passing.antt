@@ -1,5 +1,5 @@
 -- Looks at the entries of a vertex: where one begins, what it passes, and where it stops.
-use Rattle.std.proofs.Common.{◌≡◌, ◌≢◌, ℕ, zero, suc, ◌+◌, ◌<◌, ◌≤◌, Some, None, List, [], ◌∷◌, ◌++◌, length, drop, refl, sym, ap, ◌∙◌, arith, add-one, append_assoc}
+use Rattle.std.proofs.Common.{◌≡◌, ◌≢◌, ℕ, zero, suc, ◌+◌, ◌<◌, ◌≤◌, Some, List, [], ◌∷◌, ◌++◌, length, drop, refl, sym, ap, ◌∙◌, arith, add-one, append_assoc}
 use Rattle.std.specs.Prelude.{slice_get, slice_index}
 use Rattle.std.proofs.lemmas.Option.{none-some, same_Some, slice_get_within}
 use Rattle.drt_columns.specs.Entries.{Entry, AreBelow, IsBelow}
@@ -14,15 +14,18 @@ module _ (shelf : Shelf) (seek : Seek) (from : ℕ) (le : from ≤ seek.block) (
   abbrev pub Begins : Type 0
   Begins = IsSeek shelf seek seek.samples (entries_in seek.vertex (drop from shelf.owners) (drop from shelf.blocks))
 
-  pub begins_at : (block : List Entry) → slice_get shelf.owners seek.block ≡ Some seek.vertex → slice_get shelf.blocks seek.block ≡ Some block → seek.slot ≡ 0 → IsMask block seek.samples seek.possible → Begins
+  pub begins_at : (block : List Entry) → slice_get shelf.owners seek.block ≡ Some seek.vertex → slice_get shelf.blocks seek.block ≡ Some block → seek.slot ≡ 0
+      → IsMask block seek.samples seek.possible → Begins
   begins_at block owned at first mask = record {
     seeking = record { masked = λ other there. rw (same_Some other block (sym there ∙ at)) mask };
     samples_is = refl;
     rest_is =
-      let here : entries_here (drop seek.block shelf.blocks) seek.slot ≡ block = here_at seek.block seek.slot block shelf.blocks at ∙ ap (λ n. drop n block) first in
-      let rest : entries_in seek.vertex (drop seek.block shelf.owners) (drop seek.block shelf.blocks) ≡ block ++ entries_in seek.vertex (drop (suc seek.block) shelf.owners) (drop (suc seek.block) shelf.blocks) = in_at seek.vertex seek.block shelf.owners block shelf.blocks owned at in
-      let skips : entries_in seek.vertex (drop from shelf.owners) (drop from shelf.blocks) ≡ entries_in seek.vertex (drop seek.block shelf.owners) (drop seek.block shelf.blocks) = skip_from seek.vertex from seek.block shelf.owners shelf.blocks le others in
-      rw add-one cc;
+        let here : entries_here (drop seek.block shelf.blocks) seek.slot ≡ block = here_at seek.block seek.slot block shelf.blocks at ∙ ap (λ n. drop n block) first in
+        let rest : entries_in seek.vertex (drop seek.block shelf.owners) (drop seek.block shelf.blocks)
+        ≡ block ++ entries_in seek.vertex (drop (suc seek.block) shelf.owners) (drop (suc seek.block) shelf.blocks) = in_at seek.vertex seek.block shelf.owners block shelf.blocks owned at in
+        let skips : entries_in seek.vertex (drop from shelf.owners) (drop from shelf.blocks) ≡ entries_in seek.vertex (drop seek.block shelf.owners) (drop seek.block shelf.blocks) =
+        skip_from seek.vertex from seek.block shelf.owners shelf.blocks le others in
+        rw add-one cc;
   }
 
   pub begins_past : length shelf.owners ≤ seek.block → length shelf.blocks ≤ seek.block → Begins
@@ -30,11 +33,13 @@ module _ (shelf : Shelf) (seek : Seek) (from : ℕ) (le : from ≤ seek.block) (
     seeking = record { masked = λ other there. absurd (let lt : seek.block < length shelf.blocks = slice_get_within shelf.blocks seek.block other there in omega arith) };
     samples_is = refl;
     rest_is =
-      let here : entries_here (drop seek.block shelf.blocks) seek.slot ≡ [] = here_past seek.block seek.slot shelf.blocks none in
-      let after : entries_in seek.vertex (drop (seek.block + 1) shelf.owners) (drop (seek.block + 1) shelf.blocks) ≡ [] = in_past seek.vertex (seek.block + 1) shelf.owners shelf.blocks (omega arith) in
-      let rest : entries_in seek.vertex (drop seek.block shelf.owners) (drop seek.block shelf.blocks) ≡ [] = in_past seek.vertex seek.block shelf.owners shelf.blocks past in
-      let skips : entries_in seek.vertex (drop from shelf.owners) (drop from shelf.blocks) ≡ entries_in seek.vertex (drop seek.block shelf.owners) (drop seek.block shelf.blocks) = skip_from seek.vertex from seek.block shelf.owners shelf.blocks le others in
-      ap (λ xs. xs ++ entries_in seek.vertex (drop (seek.block + 1) shelf.owners) (drop (seek.block + 1) shelf.blocks)) here ∙ (after ∙ sym (skips ∙ rest));
+        let here : entries_here (drop seek.block shelf.blocks) seek.slot ≡ [] = here_past seek.block seek.slot shelf.blocks none in
+        let after : entries_in seek.vertex (drop (seek.block + 1) shelf.owners) (drop (seek.block + 1) shelf.blocks) ≡ [] =
+        in_past seek.vertex (seek.block + 1) shelf.owners shelf.blocks (omega arith) in
+        let rest : entries_in seek.vertex (drop seek.block shelf.owners) (drop seek.block shelf.blocks) ≡ [] = in_past seek.vertex seek.block shelf.owners shelf.blocks past in
+        let skips : entries_in seek.vertex (drop from shelf.owners) (drop from shelf.blocks) ≡ entries_in seek.vertex (drop seek.block shelf.owners) (drop seek.block shelf.blocks) =
+        skip_from seek.vertex from seek.block shelf.owners shelf.blocks le others in
+        ap (λ xs. xs ++ entries_in seek.vertex (drop (seek.block + 1) shelf.owners) (drop (seek.block + 1) shelf.blocks)) here ∙ (after ∙ sym (skips ∙ rest));
   }
 
 -- entries with a sample that is less
@@ -58,7 +63,8 @@ module _ (samples : List ℕ) where
     pub is : drop from block ≡ part ++ e ∷ drop (suc slot) block
     pub below : AreBelow samples part
 
-  pub split : (block : List Entry) (from slot : ℕ) (e : Entry) → from ≤ slot → slice_get block slot ≡ Some e → ((k : ℕ) (x : Entry) → from ≤ k → k < slot → slice_get block k ≡ Some x → IsBelow samples x) → IsSplit block from slot e
+  pub split : (block : List Entry) (from slot : ℕ) (e : Entry) → from ≤ slot → slice_get block slot ≡ Some e
+      → ((k : ℕ) (x : Entry) → from ≤ k → k < slot → slice_get block k ≡ Some x → IsBelow samples x) → IsSplit block from slot e
   split [] from slot e le at all = absurd (none-some e at)
   split (x ∷ block) zero zero e le at all = record { part = []; is = ap (λ y. y ∷ block) (same_Some x e at); below = λ i y none. absurd (none-some y none) }
   split (x ∷ block) zero (suc slot) e le at all =
@@ -85,7 +91,8 @@ module _ (shelf : Shelf) (initial seek : Seek) (h : HasPassed shelf initial seek
   pub passed_all : length shelf.owners ≤ seek.block → length shelf.blocks ≤ seek.block → AreBelow initial.samples (remaining shelf initial)
   passed_all past none =
       let here : entries_here (drop seek.block shelf.blocks) seek.slot ≡ [] = here_past seek.block seek.slot shelf.blocks none in
-      let after : entries_in seek.vertex (drop (seek.block + 1) shelf.owners) (drop (seek.block + 1) shelf.blocks) ≡ [] = in_past seek.vertex (seek.block + 1) shelf.owners shelf.blocks (omega arith) in
+      let after : entries_in seek.vertex (drop (seek.block + 1) shelf.owners) (drop (seek.block + 1) shelf.blocks) ≡ [] =
+      in_past seek.vertex (seek.block + 1) shelf.owners shelf.blocks (omega arith) in
       let left : remaining shelf seek ≡ [] = ap (λ xs. xs ++ entries_in seek.vertex (drop (seek.block + 1) shelf.owners) (drop (seek.block + 1) shelf.blocks)) here ∙ after in
       rw (h.rest_is, left) (below_append initial.samples h.passed [] h.below (λ i e at. absurd (none-some e at)))
 
@@ -106,12 +113,14 @@ module _ (shelf : Shelf) (initial seek : Seek) (h : HasPassed shelf initial seek
       seeking = goes.seeking;
       samples_is = goes.samples_is ∙ h.samples_is;
       passed = h.passed ++ drop seek.slot block;
-      rest_is = h.rest_is ∙ (ap (λ xs. h.passed ++ xs) (left_is ∙ ap (λ xs. drop seek.slot block ++ xs) (sym goes.rest_is)) ∙ sym (append_assoc h.passed (drop seek.slot block) (remaining shelf next)));
+      rest_is = h.rest_is ∙
+          (ap (λ xs. h.passed ++ xs) (left_is ∙ ap (λ xs. drop seek.slot block ++ xs) (sym goes.rest_is)) ∙ sym (append_assoc h.passed (drop seek.slot block) (remaining shelf next)));
       below = below_append initial.samples h.passed (drop seek.slot block) h.below (below_from initial.samples seek.slot block (λ k e le there. ruled_out k e (zeros k le) there));
     }
 
     -- an entry of the block is left, and the look stops there
-    pub stops : (slot : ℕ) (e : Entry) → seek.slot ≤ slot → slice_get block slot ≡ Some e → ((k : ℕ) → seek.slot ≤ k → k < slot → slice_index seek.possible k ≡ 0) → IsFoundAt shelf (record seek { slot = slot + 1 }) initial.samples (remaining shelf initial) e.number
+    pub stops : (slot : ℕ) (e : Entry) → seek.slot ≤ slot → slice_get block slot ≡ Some e → ((k : ℕ) → seek.slot ≤ k → k < slot → slice_index seek.possible k ≡ 0)
+        → IsFoundAt shelf (record seek { slot = slot + 1 }) initial.samples (remaining shelf initial) e.number
     stops slot e le there zeros =
         let r : IsSplit initial.samples block seek.slot slot e = split initial.samples block seek.slot slot e le there (λ k x low lt here. ruled_out k x (zeros k low lt) here) in
         record {
@@ -119,10 +128,10 @@ module _ (shelf : Shelf) (initial seek : Seek) (h : HasPassed shelf initial seek
           entry = e;
           after = drop (slot + 1) block ++ later;
           rest_is =
-            h.rest_is
-            ∙ (ap (λ xs. h.passed ++ xs) (left_is ∙ (ap (λ xs. xs ++ later) r.is ∙ append_assoc r.part (e ∷ drop (suc slot) block) later))
-            ∙ (sym (append_assoc h.passed r.part (e ∷ drop (suc slot) block ++ later))
-            ∙ ap (λ n. (h.passed ++ r.part) ++ e ∷ (drop n block ++ later)) (sym (add-one slot))));
+              h.rest_is
+              ∙ (ap (λ xs. h.passed ++ xs) (left_is ∙ (ap (λ xs. xs ++ later) r.is ∙ append_assoc r.part (e ∷ drop (suc slot) block) later))
+              ∙ (sym (append_assoc h.passed r.part (e ∷ drop (suc slot) block ++ later))
+              ∙ ap (λ n. (h.passed ++ r.part) ++ e ∷ (drop n block ++ later)) (sym (add-one slot))));
           below = below_append initial.samples h.passed r.part h.below r.below;
           number_is = refl;
           seek_is = record {

@@ -1,6 +1,5 @@
 use Rattle.std.proofs.Common.{◌≡◌, ◌≢◌, ℕ, ◌+◌, ◌<◌, List, get_or, replicate, set, refl, arith, ◌∙◌, below_more, length, length-set, sym}
 use Rattle.std.proofs.lemmas.List.{get_or-set_same, get_or-set_other}
-use Rattle.std.proofs.lemmas.Grind.{common_steps}
 use Rattle.drt_columns.proofs.Slots.{zeros}
 use Rattle.drt_columns.proofs.block.used_slots.Invariants.{IsUsed}
 use Rattle.drt_columns.proofs.block.used_slots.Goals as goal
