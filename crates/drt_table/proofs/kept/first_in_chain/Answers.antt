@@ -5,7 +5,7 @@ use borrow.Author.Rules.{scaled_Fits}
 use Rattle.drt_table.specs.Node.{Held}
 use Rattle.drt_table.proofs.Seeking.{IsSought, seek_start, seek_within, seek_end, seek_less, seek_more, seek_late, seek_found, seek_stop}
 use Rattle.drt_table.proofs.Sweep.{to_go}
-use Rattle.drt_table.proofs.kept.first_above.Goals as goal
+use Rattle.drt_table.proofs.kept.first_in_chain.Goals as goal
 
 less_le : (m n : ℕ) → m < n → m ≤ n
 less_le m n lt = omega arith
