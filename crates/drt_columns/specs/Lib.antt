@@ -1,1 +1,5 @@
 pub mod Entries
+pub mod Kept
+pub mod Seeking
+pub mod Shelf
+pub mod Slots
