@@ -25,7 +25,7 @@ pub mod Linking
 pub mod Tickets
 pub mod Scan
 pub mod Sampled
-pub mod Sampling
+pub mod Columns
 pub mod Telling
 pub mod Arranged
 pub mod Offering

@@ -3,9 +3,12 @@ use Rattle.std.proofs.Common.{◌≡◌, ℕ, suc, zero, ◌+◌, ◌<◌, ◌�
 use Rattle.std.specs.Prelude.{slice_get, slice_index, option_map, IsTrue}
 use Rattle.std.proofs.lemmas.Option.{none-some, same_Some, slice_get-map, slice_get_within}
 use Rattle.drt_columns.specs.Entries.{Entry, IsBelow, AreBelow}
+use Rattle.drt_columns.specs.Seeking.{IsFoundAt, IsSeek, remaining}
+use Rattle.drt_columns.specs.Shelf.{Shelf}
+use Rattle.drt_columns.specs.declared.seek.Seek.{Seek}
 use Rattle.drt_label.specs.Algebra.{Algebra, Laws}
 use Rattle.drt_worklist.specs.Places.{first}
-use Rattle.drt_worklist.proofs.Lists.{Joined, earlier, later, before_join, after_end, first_is, first_none}
+use Rattle.drt_worklist.proofs.Lists.{Joined, earlier, later, before_join, after_end, first_is, first_none, length_join}
 use Rattle.drt_table.specs.Node.{Held, is_kept}
 use Rattle.drt_table.specs.Held.{AllOf, dominates_held}
 use Rattle.drt_table.specs.Sampled.{labels_of, sampled_from}
@@ -43,6 +46,10 @@ held_at {L} nodes k l at = go (slice_get nodes k) refl (sym (slice_get-map (λ (
 module _ {L : Type 0} (a : Algebra L) (laws : Laws a) (l : L) (nodes : List (Held L)) where
   dominates : (h : Held L) → dominates_held a l h ≡ true → IsTrue (a.dominates h.node.label l)
   dominates h t = and_right (is_kept h.node) (a.dominates h.node.label l) t
+
+  -- a look that begins
+  pub seek_first : (shelf : Shelf) (seek : Seek) (samples : List ℕ) (rest : List Entry) → IsSeek shelf seek samples rest → samples ≡ a.samples l → IsSeek shelf seek (a.samples l) (remaining shelf seek)
+  seek_first shelf seek samples rest is same = record { seeking = is.seeking; samples_is = is.samples_is ∙ same; rest_is = refl }
 
   -- all entries of the label's vertex are left at first
   pub told_first : (rest : List Entry) → rest ≡ sampled_from a (a.vertex l) 0 (labels_of nodes) → IsTold a l nodes rest
@@ -149,3 +156,29 @@ module _ {L : Type 0} (a : Algebra L) (laws : Laws a) (l : L) (nodes : List (Hel
             by_place k y at t (inl same) =
                 absurd (true_not_false t (ap (λ (x : Held L). dominates_held a l x) (same_Some y h (sym at ∙ (ap (λ n. slice_get nodes n) same ∙ at_h))) ∙ d))
             by_place k y at t (inr has) = has
+
+    -- at the entry that a look found
+    module _ (shelf : Shelf) (seek : Seek) (rest : List Entry) (number : ℕ) (told : IsTold a l nodes rest) (found : IsFoundAt shelf seek (a.samples l) rest number) where
+      pub found_within : number < length nodes
+      found_within = subst (λ n. n < length nodes) found.number_is (told_within rest found.passed found.after found.entry told found.rest_is found.below)
+
+      -- fewer entries are left
+      pub found_less : length (remaining shelf seek) < length rest
+      found_less =
+          let left : length (remaining shelf seek) ≡ length found.after = ap length found.seek_is.rest_is in
+          let all : length rest ≡ length found.passed + suc (length found.after) = ap length found.rest_is ∙ length_join found.passed (found.entry ∷ found.after) in
+          omega arith
+
+      pub found_seek : IsSeek shelf seek (a.samples l) (remaining shelf seek)
+      found_seek = record { seeking = found.seek_is.seeking; samples_is = found.seek_is.samples_is; rest_is = refl }
+
+      module _ (h : Held L) (at : slice_get nodes number ≡ Some h) where
+        at_entry : slice_get nodes found.entry.number ≡ Some h
+        at_entry = ap (λ n. slice_get nodes n) found.number_is ∙ at
+
+        pub found_first : dominates_held a l h ≡ true → Some number ≡ first (dominates_held a l) nodes
+        found_first d = ap (λ n. Some n) (sym found.number_is) ∙ told_found rest found.passed found.after found.entry told found.rest_is found.below h at_entry d
+
+        pub found_more : dominates_held a l h ≡ false → IsTold a l nodes (remaining shelf seek)
+        found_more d =
+            subst (λ (es : List Entry). IsTold a l nodes es) (sym found.seek_is.rest_is) (told_more rest found.passed found.after found.entry told found.rest_is found.below h at_entry d)
