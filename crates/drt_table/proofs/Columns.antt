@@ -65,6 +65,10 @@ module _ {L : Type 0} (a : Algebra L) (vertices room : ℕ) (shelf : Shelf) wher
       let same : labels_of later ≡ labels_of nodes = ap (λ (hs : List (Held L)). labels_of hs) is ∙ map-changed_same (λ (h : Held L). h.node.label) f keeps k nodes in
       record { sampled = subst (λ ls. AreSampled a ls shelf) (sym same) has.sampled; vertices_are = has.vertices_are; room_is = has.room_is }
 
+-- the shelf of an arena without nodes
+pub new_shelf : {L : Type 0} (a : Algebra L) (vertices room : ℕ) (shelf : Shelf) (nodes : List (Held L)) (v : ℕ) → nodes ≡ [] → v ≡ vertices → IsShelf a [] vertices room shelf → IsShelf a nodes v room shelf
+new_shelf {L} a vertices room shelf nodes v none is ok = subst (λ (hs : List (Held L)). IsShelf a hs v room shelf) (sym none) (subst (λ n. IsShelf a [] n room shelf) (sym is) ok)
+
 -- later nodes are these with what they have as labels, and then at most one node more, of the label
 pub record IsMore {L : Type 0} (nodes later : List (Held L)) (l : L) : Type 0 where
   pub first : take (length nodes) (labels_of later) ≡ labels_of nodes
