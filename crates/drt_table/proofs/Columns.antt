@@ -1,5 +1,6 @@
 -- The samples of an arena's nodes after a change of its nodes.
-use Rattle.std.proofs.Common.{◌≡◌, ◌≢◌, ℕ, suc, zero, ◌+◌, ◌<◌, ◌≤◌, ◌⊎◌, Bool, true, false, cond, Option, Some, None, List, [], ◌∷◌, ◌++◌, length, map, take, refl, sym, ap, ◌∙◌, subst, inl, inr, arith, eqb, zero-add}
+use Rattle.std.proofs.Common.{◌≡◌, ◌≢◌, ℕ, suc, zero, ◌+◌, ◌<◌, ◌≤◌, ◌⊎◌, Bool, true, false, cond, Option, Some, None, List, [], ◌∷◌, ◌++◌, length, map, take, zero-add}
+use Rattle.std.proofs.Common.{refl, sym, ap, ◌∙◌, subst, inl, inr, arith, eqb}
 use Rattle.std.specs.Prelude.{slice_get, option_map, ◌&&◌}
 use Rattle.std.proofs.lemmas.List.{length_push, length-map, length-take-le, map-append}
 use Rattle.std.proofs.lemmas.Option.{none-some, same_Some, slice_get-map, slice_get_within}
@@ -59,14 +60,16 @@ take_past (x ∷ xs) (suc n) le = ap (λ ys. x ∷ ys) (take_past xs n (let h : 
 
 module _ {L : Type 0} (a : Algebra L) (vertices room : ℕ) (shelf : Shelf) where
   -- a change of one node leaves the labels
-  pub change_samples : (f : Held L → Held L) (k : ℕ) (nodes later : List (Held L)) → later ≡ changed k f nodes → ((h : Held L) → (f h).node.label ≡ h.node.label) → IsShelf a nodes vertices room shelf → IsShelf a later vertices room shelf
+  pub change_samples : (f : Held L → Held L) (k : ℕ) (nodes later : List (Held L)) → later ≡ changed k f nodes → ((h : Held L) → (f h).node.label ≡ h.node.label)
+      → IsShelf a nodes vertices room shelf → IsShelf a later vertices room shelf
   change_samples f k nodes later is keeps ok no_chain =
       let has : HasSamples a nodes vertices room shelf = ok no_chain in
       let same : labels_of later ≡ labels_of nodes = ap (λ (hs : List (Held L)). labels_of hs) is ∙ map-changed_same (λ (h : Held L). h.node.label) f keeps k nodes in
       record { sampled = subst (λ ls. AreSampled a ls shelf) (sym same) has.sampled; vertices_are = has.vertices_are; room_is = has.room_is }
 
 -- the shelf of an arena without nodes
-pub new_shelf : {L : Type 0} (a : Algebra L) (vertices room : ℕ) (shelf : Shelf) (nodes : List (Held L)) (v : ℕ) → nodes ≡ [] → v ≡ vertices → IsShelf a [] vertices room shelf → IsShelf a nodes v room shelf
+pub new_shelf : {L : Type 0} (a : Algebra L) (vertices room : ℕ) (shelf : Shelf) (nodes : List (Held L)) (v : ℕ) → nodes ≡ [] → v ≡ vertices
+    → IsShelf a [] vertices room shelf → IsShelf a nodes v room shelf
 new_shelf {L} a vertices room shelf nodes v none is ok = subst (λ (hs : List (Held L)). IsShelf a hs v room shelf) (sym none) (subst (λ n. IsShelf a [] n room shelf) (sym is) ok)
 
 -- later nodes are these with what they have as labels, and then at most one node more, of the label
@@ -84,11 +87,16 @@ module _ {L : Type 0} (nodes : List (Held L)) (l : L) where
     label = λ h at. absurd (let lt : length nodes < length nodes = slice_get_within nodes (length nodes) h at in omega arith);
   }
 
+  labels_more : (f : Held L → Held L) (z : Held L) → ((h : Held L) → (f h).node.label ≡ h.node.label) → labels_of (map f nodes ++ z ∷ []) ≡ labels_of nodes ++ z.node.label ∷ []
+  labels_more f z keeps =
+      map-append (λ (h : Held L). h.node.label) (map f nodes) (z ∷ [])
+      ∙ ap (λ ls. ls ++ z.node.label ∷ []) (map-map_same (λ (h : Held L). h.node.label) f keeps nodes)
+
   -- one node more
   pub more_one : (f : Held L → Held L) (z : Held L) → ((h : Held L) → (f h).node.label ≡ h.node.label) → z.node.label ≡ l → IsMore nodes (map f nodes ++ z ∷ []) l
   more_one f z keeps label = record {
     first =
-        ap (λ ls. take (length nodes) ls) (map-append (λ (h : Held L). h.node.label) (map f nodes) (z ∷ []) ∙ ap (λ ls. ls ++ z.node.label ∷ []) (map-map_same (λ (h : Held L). h.node.label) f keeps nodes))
+        ap (λ ls. take (length nodes) ls) (labels_more f z keeps)
         ∙ (ap (λ n. take n (labels_of nodes ++ z.node.label ∷ [])) (sym (length-map nodes (λ (h : Held L). h.node.label))) ∙ take-append_seam (labels_of nodes) (z.node.label ∷ []));
     at_most = let e : length (map f nodes ++ z ∷ []) ≡ length (map f nodes) + 1 = length_push (map f nodes) z in let n : length (map f nodes) ≡ length nodes = length-map nodes f in omega arith;
     label = λ h at. by_place h (before_push f nodes z (length nodes) h at);
@@ -148,8 +156,9 @@ module _ {L : Type 0} (a : Algebra L) (nodes later : List (Held L)) (l : L) (ver
       record { sampled = sampled no_chain; vertices_are = vertices_same ∙ (has.vertices_are ∙ sym is); room_is = room_same ∙ has.room_is }
 
 -- the last node's samples were added
-pub sampled_last : {L : Type 0} (a : Algebra L) (nodes : List (Held L)) (number : ℕ) (z : Held L) (old new : Shelf) (l : L) (v : ℕ) (samples : List ℕ) → CanSample a nodes number old → slice_get nodes number ≡ Some z → length nodes ≤ number + 1
-    → l ≡ z.node.label → v ≡ a.vertex l → samples ≡ a.samples l → entries new v ≡ entries old v ++ record { number = number; samples = samples } ∷ [] → ((u : ℕ) → u ≢ v → entries new u ≡ entries old u) → new.count ≡ old.count + 1
+pub sampled_last : {L : Type 0} (a : Algebra L) (nodes : List (Held L)) (number : ℕ) (z : Held L) (old new : Shelf) (l : L) (v : ℕ) (samples : List ℕ)
+    → CanSample a nodes number old → slice_get nodes number ≡ Some z → length nodes ≤ number + 1 → l ≡ z.node.label → v ≡ a.vertex l → samples ≡ a.samples l
+    → entries new v ≡ entries old v ++ record { number = number; samples = samples } ∷ [] → ((u : ℕ) → u ≢ v → entries new u ≡ entries old u) → new.count ≡ old.count + 1
     → AreSampled a (labels_of nodes) new
 sampled_last {L} a nodes number z old new l v samples can at ends l_is v_is samples_is here others count =
     subst (λ ls. AreSampled a ls new) (split_last (labels_of nodes) number l label at_most)

@@ -1,5 +1,5 @@
 -- The entries of a vertex's labels: one more label, and what each entry is.
-use Rattle.std.proofs.Common.{◌≡◌, ◌≢◌, ℕ, suc, zero, ◌+◌, ◌<◌, ◌≤◌, Bool, true, false, cond, Some, List, [], ◌∷◌, ◌++◌, length, refl, sym, ap, ◌∙◌, subst, arith, eq-eqb, ne_eqb, eqb-true}
+use Rattle.std.proofs.Common.{◌≡◌, ℕ, suc, zero, ◌+◌, ◌<◌, Bool, true, false, cond, Some, List, [], ◌∷◌, ◌++◌, length, refl, ap, ◌∙◌, subst, arith, eq-eqb, ne_eqb}
 use Rattle.std.specs.Prelude.{slice_get, ◌==◌}
 use Rattle.std.proofs.lemmas.Option.{none-some, same_Some}
 use Rattle.drt_columns.specs.Entries.{Entry}
@@ -18,7 +18,8 @@ module _ {L : Type 0} (a : Algebra L) (v : ℕ) where
       by_test (a.vertex x == v)
       (sampled_more (suc i) ls l ∙ ap (λ n. sampled_from a v (suc i) ls ++ sampled_from a v n (l ∷ [])) (let e : suc i + length ls ≡ i + suc (length ls) = omega arith in e))
     where
-      by_test : (b : Bool) → sampled_from a v (suc i) (ls ++ l ∷ []) ≡ sampled_from a v (suc i) ls ++ sampled_from a v (i + suc (length ls)) (l ∷ []) → cond b (entry i x ∷ sampled_from a v (suc i) (ls ++ l ∷ [])) (sampled_from a v (suc i) (ls ++ l ∷ []))
+      by_test : (b : Bool) → sampled_from a v (suc i) (ls ++ l ∷ []) ≡ sampled_from a v (suc i) ls ++ sampled_from a v (i + suc (length ls)) (l ∷ [])
+          → cond b (entry i x ∷ sampled_from a v (suc i) (ls ++ l ∷ [])) (sampled_from a v (suc i) (ls ++ l ∷ []))
           ≡ cond b (entry i x ∷ sampled_from a v (suc i) ls) (sampled_from a v (suc i) ls) ++ sampled_from a v (i + suc (length ls)) (l ∷ [])
       by_test true rest = ap (λ es. entry i x ∷ es) rest
       by_test false rest = rest
@@ -47,7 +48,8 @@ module _ {L : Type 0} (a : Algebra L) (v : ℕ) where
   entry_of i [] j e at = absurd (none-some e at)
   entry_of i (x ∷ ls) j e at = by_test (λ k at_k. later_entry i x ls e (entry_of (suc i) ls k e at_k)) (a.vertex x == v) j at
     where
-      by_test : ((k : ℕ) → slice_get (sampled_from a v (suc i) ls) k ≡ Some e → IsEntryOf i (x ∷ ls) e) → (b : Bool) (j : ℕ) → slice_get (cond b (entry i x ∷ sampled_from a v (suc i) ls) (sampled_from a v (suc i) ls)) j ≡ Some e → IsEntryOf i (x ∷ ls) e
+      by_test : ((k : ℕ) → slice_get (sampled_from a v (suc i) ls) k ≡ Some e → IsEntryOf i (x ∷ ls) e) → (b : Bool) (j : ℕ)
+          → slice_get (cond b (entry i x ∷ sampled_from a v (suc i) ls) (sampled_from a v (suc i) ls)) j ≡ Some e → IsEntryOf i (x ∷ ls) e
       by_test rest true zero at =
           subst (λ (f : Entry). IsEntryOf i (x ∷ ls) f) (same_Some (entry i x) e at) (record { place = 0; label = x; at = refl; number = let n : i ≡ i + 0 = omega arith in n; samples = refl })
       by_test rest true (suc j) at = rest j at

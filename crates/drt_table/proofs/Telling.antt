@@ -1,9 +1,9 @@
 -- The look at a vertex's nodes by their samples, for the least one that dominates a label.
-use Rattle.std.proofs.Common.{◌≡◌, ℕ, suc, zero, ◌+◌, ◌<◌, ◌≤◌, ◌⊎◌, Bool, true, false, Option, Some, None, List, [], ◌∷◌, ◌++◌, length, map, refl, sym, ap, ◌∙◌, subst, inl, inr, arith}
+use Rattle.std.proofs.Common.{◌≡◌, ℕ, suc, zero, ◌+◌, ◌<◌, ◌≤◌, ◌⊎◌, Bool, true, false, Option, Some, None, List, ◌∷◌, ◌++◌, length, refl, sym, ap, ◌∙◌, subst, inl, inr, arith}
 use Rattle.std.specs.Prelude.{slice_get, slice_index, option_map, IsTrue}
 use Rattle.std.proofs.lemmas.Option.{none-some, same_Some, slice_get-map, slice_get_within}
 use Rattle.drt_columns.specs.Entries.{Entry, IsBelow, AreBelow}
-use Rattle.drt_columns.specs.Seeking.{IsFoundAt, IsSeek, remaining}
+use Rattle.drt_columns.specs.Seeking.{IsFound, IsFoundAt, IsSeek, remaining}
 use Rattle.drt_columns.specs.Shelf.{Shelf}
 use Rattle.drt_columns.specs.declared.seek.Seek.{Seek}
 use Rattle.drt_label.specs.Algebra.{Algebra, Laws}
@@ -35,6 +35,11 @@ pub record IsTold {L : Type 0} (a : Algebra L) (l : L) (nodes : List (Held L)) (
   pub all : (k : ℕ) (h : Held L) → slice_get nodes k ≡ Some h → dominates_held a l h ≡ true → HasEntry rest k
   pub ascending : (i j : ℕ) (e f : Entry) → slice_get rest i ≡ Some e → slice_get rest j ≡ Some f → i < j → e.number < f.number
 
+-- a look that found an entry
+pub look_found : (shelf : Shelf) (seek : Seek) (samples : List ℕ) (rest : List Entry) (o : Option ℕ) (number : ℕ) → IsFound shelf seek samples rest o → o ≡ Some number
+    → IsFoundAt shelf seek samples rest number
+look_found shelf seek samples rest o number found is = subst (λ p. IsFound shelf seek samples rest p) is found
+
 -- the node of a label
 held_at : {L : Type 0} (nodes : List (Held L)) (k : ℕ) (l : L) → slice_get (labels_of nodes) k ≡ Some l → (h : Held L) × (slice_get nodes k ≡ Some h) × (l ≡ h.node.label)
 held_at {L} nodes k l at = go (slice_get nodes k) refl (sym (slice_get-map (λ (x : Held L). x.node.label) nodes k) ∙ at)
@@ -48,7 +53,8 @@ module _ {L : Type 0} (a : Algebra L) (laws : Laws a) (l : L) (nodes : List (Hel
   dominates h t = and_right (is_kept h.node) (a.dominates h.node.label l) t
 
   -- a look that begins
-  pub seek_first : (shelf : Shelf) (seek : Seek) (samples : List ℕ) (rest : List Entry) → IsSeek shelf seek samples rest → samples ≡ a.samples l → IsSeek shelf seek (a.samples l) (remaining shelf seek)
+  pub seek_first : (shelf : Shelf) (seek : Seek) (samples : List ℕ) (rest : List Entry) → IsSeek shelf seek samples rest → samples ≡ a.samples l
+      → IsSeek shelf seek (a.samples l) (remaining shelf seek)
   seek_first shelf seek samples rest is same = record { seeking = is.seeking; samples_is = is.samples_is ∙ same; rest_is = refl }
 
   -- all entries of the label's vertex are left at first

@@ -50,7 +50,13 @@ pub(crate) fn place_in<L: Label>(
     if !twin.label.in_range(deadline, bound) {
         return TableReply::OutOfRange;
     }
-    match first_above(nodes.as_slice(), links.as_slice(), heads, columns, &twin.label) {
+    match first_above(
+        nodes.as_slice(),
+        links.as_slice(),
+        heads,
+        columns,
+        &twin.label,
+    ) {
         Some(id) => TableReply::Dominated(id),
         None => TableReply::Added(add(nodes, links, heads, twin, parent)),
     }

@@ -3,7 +3,7 @@ use Rattle.std.specs.Prelude.{slice_get, slice_index_or}
 use Rattle.std.proofs.lemmas.Option.{slice_get-get_or, slice_get_read}
 use borrow.Author.Rules.{scaled_Fits}
 use Rattle.drt_table.specs.Node.{Held}
-use Rattle.drt_table.proofs.Seeking.{IsSought, seek_start, seek_within, seek_end, seek_less, seek_more, seek_late, seek_found, seek_stop}
+use Rattle.drt_table.proofs.Seeking.{IsSought, seek_start, seek_within, seek_end, seek_less, seek_late, seek_found, seek_stop}
 use Rattle.drt_table.proofs.Sweep.{to_go}
 use Rattle.drt_table.proofs.kept.first_in_chain.Goals as goal
 

@@ -1,11 +1,11 @@
-use Rattle.std.proofs.Common.{◌≡◌, ◌<◌, ◌≤◌, ℕ, None, Some, List, length, refl, sym, ap, ◌∙◌, subst, arith}
+use Rattle.std.proofs.Common.{◌≡◌, ◌<◌, ◌≤◌, ℕ, Some, List, length, refl, sym, ap, ◌∙◌, subst, arith}
 use Rattle.std.specs.Prelude.{slice_get}
 use Rattle.std.proofs.lemmas.Option.{slice_get_read}
 use Rattle.drt_columns.specs.Entries.{Entry, AreBelow}
-use Rattle.drt_columns.specs.Seeking.{IsFound, IsFoundAt, IsSeek, remaining}
+use Rattle.drt_columns.specs.Seeking.{IsFound, remaining}
 use Rattle.drt_table.specs.Node.{Held}
 use Rattle.drt_table.specs.Sampled.{labels_of, sampled_from}
-use Rattle.drt_table.proofs.Telling.{seek_first, told_first, told_end, found_within, found_less, found_seek, found_first, found_more}
+use Rattle.drt_table.proofs.Telling.{look_found, seek_first, told_first, told_end, found_within, found_less, found_seek, found_first, found_more}
 use Rattle.drt_table.proofs.sampling.first_told.Goals as goal
 
 less_le : (m n : ℕ) → m < n → m ≤ n
@@ -35,7 +35,7 @@ offset_bounds-nodes-number g c =
     let of = c.requires.of in
     let before = c.loop-number.invariant in
     let rest : List Entry = remaining shelf c.loop-number.seek in
-    let found : IsFoundAt shelf c.next.new.seek (a.samples l) rest c.in-Some.number = subst (λ o. IsFound shelf c.next.new.seek (a.samples l) rest o) c.in-Some.is (c.next.ensures (a.samples l) rest before.seek) in
+    let found = look_found shelf c.next.new.seek (a.samples l) rest c.next.result c.in-Some.number (c.next.ensures (a.samples l) rest before.seek) c.in-Some.is in
     less_le c.in-Some.number (length c.args.nodes.now) (found_within a laws l nodes of.0 of.1 of.2 shelf c.next.new.seek rest c.in-Some.number before.told found)
 
 pub bounds-nodes-number : goal.bounds-nodes-number
@@ -48,7 +48,7 @@ bounds-nodes-number g c =
     let of = c.requires.of in
     let before = c.loop-number.invariant in
     let rest : List Entry = remaining shelf c.loop-number.seek in
-    let found : IsFoundAt shelf c.next.new.seek (a.samples l) rest c.in-Some.number = subst (λ o. IsFound shelf c.next.new.seek (a.samples l) rest o) c.in-Some.is (c.next.ensures (a.samples l) rest before.seek) in
+    let found = look_found shelf c.next.new.seek (a.samples l) rest c.next.result c.in-Some.number (c.next.ensures (a.samples l) rest before.seek) c.in-Some.is in
     found_within a laws l nodes of.0 of.1 of.2 shelf c.next.new.seek rest c.in-Some.number before.told found
 
 pub is_above-requires-after_bounds : goal.is_above-requires-after_bounds
@@ -61,7 +61,7 @@ is_above-requires-after_bounds g c κs within =
     let of = c.requires.of in
     let before = c.loop-number.invariant in
     let rest : List Entry = remaining shelf c.loop-number.seek in
-    let found : IsFoundAt shelf c.next.new.seek (a.samples l) rest c.in-Some.number = subst (λ o. IsFound shelf c.next.new.seek (a.samples l) rest o) c.in-Some.is (c.next.ensures (a.samples l) rest before.seek) in
+    let found = look_found shelf c.next.new.seek (a.samples l) rest c.next.result c.in-Some.number (c.next.ensures (a.samples l) rest before.seek) c.in-Some.is in
     let lt : c.in-Some.number < length nodes = found_within a laws l nodes of.0 of.1 of.2 shelf c.next.new.seek rest c.in-Some.number before.told found in
     let x : Held _ = c.index-nodes-number.result in
     let at : slice_get nodes c.in-Some.number ≡ Some x = slice_get_read _ _ _ _ refl lt c.index-nodes-number.is in
@@ -77,7 +77,7 @@ returns-then-is_above g c =
     let of = c.requires.of in
     let before = c.loop-number.invariant in
     let rest : List Entry = remaining shelf c.loop-number.seek in
-    let found : IsFoundAt shelf c.next.new.seek (a.samples l) rest c.in-Some.number = subst (λ o. IsFound shelf c.next.new.seek (a.samples l) rest o) c.in-Some.is (c.next.ensures (a.samples l) rest before.seek) in
+    let found = look_found shelf c.next.new.seek (a.samples l) rest c.next.result c.in-Some.number (c.next.ensures (a.samples l) rest before.seek) c.in-Some.is in
     let lt : c.in-Some.number < length nodes = found_within a laws l nodes of.0 of.1 of.2 shelf c.next.new.seek rest c.in-Some.number before.told found in
     let x : Held _ = c.index-nodes-number.result in
     let at : slice_get nodes c.in-Some.number ≡ Some x = slice_get_read _ _ _ _ refl lt c.index-nodes-number.is in
@@ -93,7 +93,7 @@ loop-number-smaller g c =
     let of = c.requires.of in
     let before = c.loop-number.invariant in
     let rest : List Entry = remaining shelf c.loop-number.seek in
-    let found : IsFoundAt shelf c.next.new.seek (a.samples l) rest c.in-Some.number = subst (λ o. IsFound shelf c.next.new.seek (a.samples l) rest o) c.in-Some.is (c.next.ensures (a.samples l) rest before.seek) in
+    let found = look_found shelf c.next.new.seek (a.samples l) rest c.next.result c.in-Some.number (c.next.ensures (a.samples l) rest before.seek) c.in-Some.is in
     found_less a laws l nodes of.0 of.1 of.2 shelf c.next.new.seek rest c.in-Some.number before.told found
 
 pub loop-number-preserved : goal.loop-number-preserved
@@ -106,7 +106,7 @@ loop-number-preserved g c =
     let of = c.requires.of in
     let before = c.loop-number.invariant in
     let rest : List Entry = remaining shelf c.loop-number.seek in
-    let found : IsFoundAt shelf c.next.new.seek (a.samples l) rest c.in-Some.number = subst (λ o. IsFound shelf c.next.new.seek (a.samples l) rest o) c.in-Some.is (c.next.ensures (a.samples l) rest before.seek) in
+    let found = look_found shelf c.next.new.seek (a.samples l) rest c.next.result c.in-Some.number (c.next.ensures (a.samples l) rest before.seek) c.in-Some.is in
     let lt : c.in-Some.number < length nodes = found_within a laws l nodes of.0 of.1 of.2 shelf c.next.new.seek rest c.in-Some.number before.told found in
     let x : Held _ = c.index-nodes-number.result in
     let at : slice_get nodes c.in-Some.number ≡ Some x = slice_get_read _ _ _ _ refl lt c.index-nodes-number.is in

@@ -48,5 +48,14 @@ invariant_of-self g c =
     record { linked = arranged.linked; waiting = arranged.waiting; fresh = arranged.fresh; order = arranged.order; held = held } in
     let count : length (slice_set v.nodes c.args.id c.close.new.self) ≡ length v.nodes = length-set v.nodes c.args.id c.close.new.self in
     let less = c.forget.ensures.len in
-    let shelf = change_samples g.L.Label.algebra (length c.self.inside.heads.items) c.self.inside.room c.self.inside.columns close_node c.args.id v.nodes (slice_set v.nodes c.args.id c.close.new.self) nodes (λ h. refl) old.7 in
-    (subst (λ xs. AreArranged g.L.Label.algebra xs c.self.inside.links.items c.self.inside.heads.items (heap_items c.self.inside.queue) c.forget.new.taken.items) (sym nodes) all, omega (arith, count, old.1), omega (arith, count, less, old.2), old.3, old.4, old.5, omega (arith, c.forget.ensures.capacity, old.6), shelf)
+    let shelf = change_samples g.L.Label.algebra (length c.self.inside.heads.items) c.self.inside.room c.self.inside.columns close_node c.args.id v.nodes _ nodes (λ h. refl) old.7 in (
+      subst (λ xs. AreArranged g.L.Label.algebra xs c.self.inside.links.items c.self.inside.heads.items (heap_items c.self.inside.queue) c.forget.new.taken.items)
+          (sym nodes) all,
+      omega (arith, count, old.1),
+      omega (arith, count, less, old.2),
+      old.3,
+      old.4,
+      old.5,
+      omega (arith, c.forget.ensures.capacity, old.6),
+      shelf,
+    )

@@ -8,7 +8,7 @@ use Rattle.drt_table.specs.Held.{AllOf}
 use Rattle.drt_table.specs.Node.{Held, is_kept, is_taken}
 use Rattle.drt_table.specs.Links.{AreLinked, IsPlace}
 use Rattle.drt_table.specs.View.{kept_at}
-use Rattle.drt_table.proofs.Arranged.{still_held, push_stays, push_held, room_for, admit_from, admit_few, admit_room, same_le}
+use Rattle.drt_table.proofs.Arranged.{still_held, push_stays, push_held, room_for, admit_from, admit_few, admit_room, sample_last, same_le}
 use Rattle.drt_table.proofs.Linking.{written_back, place_alone}
 use Rattle.drt_table.proofs.Tickets.{still_waiting}
 use Rattle.drt_table.specs.Sampled.{AreSampled, CanSample, labels_of}
@@ -56,7 +56,9 @@ invariant_of-self g c =
     let seen : length c.as_slice.result.now ≡ length c.push_node.new.nodes.items = ap length c.as_slice.ensures.value in
     let long : length c.push_node.new.heads ≡ c.self.inside.heads.len = search rules in
     let label : z.node.label ≡ c.args.twin = ap (λ (h : Held _). h.node.label) c.fresh.ensures in
-    let one_more : IsMore nodes c.push_node.new.nodes.items c.args.twin = subst (λ (hs : List (Held _)). IsMore nodes hs c.args.twin) (sym c.push_node.ensures.nodes) (more_opened nodes c.args.twin z label) in (
+    let one_more : IsMore nodes c.push_node.new.nodes.items c.args.twin =
+    subst (λ (hs : List (Held _)). IsMore nodes hs c.args.twin) (sym c.push_node.ensures.nodes)
+    (more_opened nodes c.args.twin z label) in (
       subst (λ os. AreArranged a c.push_node.new.nodes.items c.push_node.new.links.items os queue taken) (sym heads) all,
       omega (arith, more, room),
       omega (arith, more, seen, from, c.admit.ensures.len, old.2),
@@ -65,7 +67,8 @@ invariant_of-self g c =
       omega (arith, c.admit.ensures.capacity, old.5),
       old.6,
       has_samples a nodes c.push_node.new.nodes.items c.args.twin (length c.self.inside.heads.items) c.self.inside.room c.self.inside.columns old.7 one_more c.sample.new.columns _
-      (λ no_chain. subst (λ hs. AreSampled a (labels_of hs) c.sample.new.columns) c.as_slice-2.ensures.value (c.sample.ensures.sampled no_chain)) c.sample.ensures.vertices c.sample.ensures.room (ap length heads ∙ (long ∙ c.self.inside.heads.ok.0)),
+          (λ no_chain. subst (λ hs. AreSampled a (labels_of hs) c.sample.new.columns) c.as_slice-2.ensures.value (c.sample.ensures.sampled no_chain))
+          c.sample.ensures.vertices c.sample.ensures.room (ap length heads ∙ (long ∙ c.self.inside.heads.ok.0)),
     )
 
 pub push_node-requires-clause-linked : goal.push_node-requires-clause-linked
@@ -127,3 +130,14 @@ sample-requires-clause-can g c κs within no_chain =
     let one_more : IsMore nodes (nodes ++ z ∷ []) c.args.twin = more_opened nodes c.args.twin z label in
     subst (λ (hs : List (Held _)). CanSample a hs c.len-from.result c.self.inside.columns) (sym (c.as_slice-2.ensures.value ∙ c.push_node.ensures.nodes))
     (can_sample a nodes (nodes ++ z ∷ []) c.args.twin (length c.self.inside.heads.items) c.self.inside.room c.self.inside.columns old.7 one_more c.len-from.result from vertex room no_chain)
+
+pub sample-requires-clause-few : goal.sample-requires-clause-few
+sample-requires-clause-few g c κs within =
+    let few : length c.self.inside.nodes.items < 4294967296 = subst (λ (x : Stock _). length x.nodes < 4294967296) (sym c.self.view_is) c.requires.few in
+    admit_few _ _ _ (c.len-from.ensures ∙ c.self.inside.nodes.ok.0)
+    (same_le _ _ (ap length (c.as_slice-2.ensures.value ∙ c.push_node.ensures.nodes) ∙ length_push c.self.inside.nodes.items c.fresh.result)) few
+
+pub sample-requires-clause-last : goal.sample-requires-clause-last
+sample-requires-clause-last g c κs within =
+    sample_last _ _ _ (c.len-from.ensures ∙ c.self.inside.nodes.ok.0)
+    (same_le _ _ (ap length (c.as_slice-2.ensures.value ∙ c.push_node.ensures.nodes) ∙ length_push c.self.inside.nodes.items c.fresh.result))

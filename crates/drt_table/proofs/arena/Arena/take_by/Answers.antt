@@ -113,5 +113,5 @@ invariant_of-self g c =
       old.4,
       omega (arith, c.refresh.ensures.capacity, c.pop_ticket.ensures.capacity, old.5),
       omega (arith, c.push_within.ensures.capacity, old.6),
-      change_samples g.L.Label.algebra (length c.self.inside.heads.items) c.self.inside.room c.self.inside.columns (take_by c.args.worker) c.args.id v.nodes (slice_set v.nodes c.args.id c.take_by.new.self) nodes (λ h. refl) old.7,
+      change_samples g.L.Label.algebra (length c.self.inside.heads.items) c.self.inside.room c.self.inside.columns (take_by c.args.worker) c.args.id v.nodes _ nodes (λ h. refl) old.7,
     )
