@@ -6,6 +6,11 @@ use Rattle.drt_columns.specs.Entries.{Entry, IsBelow}
 abbrev pub samples_at : List (List ℕ) → ℕ → List ℕ
 samples_at columns slot = map (λ column. slice_index column slot) columns
 
+-- Columns for 16 samples, of 64 slots each.
+pub record AreColumns (columns : List (List ℕ)) : Type 0 where
+  pub many : length columns ≡ 16
+  pub long : (k : ℕ) (column : List ℕ) → slice_get columns k ≡ Some column → length column ≡ 64
+
 -- The entries in the first slots.
 abbrev pub first_entries : List ℕ → List (List ℕ) → ℕ → List Entry
 first_entries numbers columns zero = []

@@ -6,7 +6,7 @@
 
 ghost use Rattle.std.specs.Prelude.{◌≡◌, ◌≢◌, ℕ, ◌+◌, ◌<◌, ◌≤◌, ◌∷◌, ◌++◌, [], Some, length, slice_get, slice_index, MatchOption};
 ghost use Rattle.drt_columns.specs.Entries.{Entry};
-ghost use Rattle.drt_columns.specs.Slots.{IsMask, kept, samples_at};
+ghost use Rattle.drt_columns.specs.Slots.{AreColumns, IsMask, kept, samples_at};
 
 use drt_label::SAMPLES;
 use std::marker::Model;
@@ -26,15 +26,15 @@ pub(crate) struct Block {
 }
 
 impl Model for Block {
-    ghost use Rattle.std.specs.Prelude.{List, ◌≤◌};
+    ghost use Rattle.std.specs.Prelude.{List, length, ◌≡◌, ◌≤◌};
     ghost use Rattle.drt_columns.specs.Entries.{Entry};
-    ghost use Rattle.drt_columns.specs.Slots.{first_entries};
+    ghost use Rattle.drt_columns.specs.Slots.{AreColumns, first_entries};
 
     ghost Value = { List Entry };
 
     ghost view = { λ b. first_entries b.numbers b.columns b.count };
 
-    ghost invariant = { λ b. b.count ≤ 64 };
+    ghost invariant = { λ b. (b.count ≤ 64) × (length b.numbers ≡ 64) × AreColumns b.columns };
 }
 
 impl Block {
@@ -65,7 +65,8 @@ impl Block {
         requires { slot < length self.now }
         ensures { (e : Entry) → slice_get self.now slot ≡ Some e → result ≡ e.number }
     {
-        self.numbers[slot]
+        let numbers = &self.numbers;
+        numbers[slot]
     }
 
     /// Which labels are left when those with a sample less than one of these are ruled out.
@@ -84,13 +85,14 @@ impl Block {
 
 // Writes the samples of a label into a slot of the columns.
 fn write_samples(columns: &mut [[u16; SLOTS]; SAMPLES], slot: usize, samples: &[u16; SAMPLES])
-    requires { slot < 64 }
+    requires slot { slot < 64 }
+    requires columns { AreColumns columns.old }
+    ensures columns { AreColumns columns.new }
     ensures here { samples_at columns.new slot ≡ samples.now }
     ensures others { (other : ℕ) → other ≢ slot → samples_at columns.new other ≡ samples_at columns.old other }
 {
     for k in 0..SAMPLES {
-        let column = &mut columns[k];
-        column[slot] = samples[k];
+        columns[k][slot] = samples[k];
     }
 }
 
@@ -109,7 +111,7 @@ fn used_slots(count: usize) -> Mask
 
 // Rules out the labels whose sample is less, and says whether any is left: 0 where none is.
 fn rule_out(mask: &mut Mask, column: &[u16; SLOTS], least: u16) -> u16
-    ensures { (slot : ℕ) → slot < 64 → slice_index mask.new slot ≡ kept least (slice_index column.now slot) (slice_index mask.old slot) }
+    ensures { (slot : ℕ) → slice_index mask.new slot ≡ kept least (slice_index column.now slot) (slice_index mask.old slot) }
 {
     let mut left = 0;
     for slot in 0..SLOTS {

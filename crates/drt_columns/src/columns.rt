@@ -70,6 +70,7 @@ impl Columns {
         ensures room { self.new.room ≡ self.old.room }
         ensures vertices { self.new.vertices ≡ self.old.vertices }
     {
+        self.count += 1;
         let free = self.free[vertex as usize];
         if free == 0 {
             let mut block = Block::new();
@@ -83,7 +84,6 @@ impl Columns {
             self.blocks[last].push(number, &samples);
             self.free[vertex as usize] = free - 1;
         }
-        self.count += 1;
     }
 
     /// A look at the labels of a vertex, for those none of whose samples is less than these.
@@ -98,11 +98,14 @@ impl Columns {
     fn seek_from(&self, vertex: u32, samples: [u16; SAMPLES], from: usize) -> Seek
         requires { from ≤ length self.now.blocks }
         ensures seek { IsSeek self.now result samples (entries_in vertex (drop from self.now.owners) (drop from self.now.blocks)) }
-        ensures vertex { result.vertex ≡ vertex }
         ensures later { from ≤ result.block }
     {
         let block = next_owned(&self.owners, vertex, from);
-        let possible = if block < self.blocks.len() { self.blocks[block].mask(&samples) } else { [0; SLOTS] };
+        let possible = if block < self.blocks.len() {
+            self.blocks[block].mask(&samples)
+        } else {
+            [0; SLOTS]
+        };
         Seek {
             vertex,
             samples,
