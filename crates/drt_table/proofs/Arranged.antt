@@ -39,6 +39,9 @@ module _ (n m from : ℕ) (from_is : from ≡ n) where
   pub admit_few : m ≤ n + 1 → n < 4294967296 → m ≤ 4294967296
   admit_few at_most few = omega arith
 
+  pub sample_last : m ≤ n + 1 → m ≤ from + 1
+  sample_last at_most = omega arith
+
   pub admit_room : m ≤ n + 1 → (room len taken cap : ℕ) → n < room → len + taken ≤ n → room ≤ cap → len + m ≤ cap + from
   admit_room at_most room len taken cap lt waits le = omega arith
 

@@ -24,6 +24,9 @@ pub mod Seeking
 pub mod Linking
 pub mod Tickets
 pub mod Scan
+pub mod Sampled
+pub mod Columns
+pub mod Telling
 pub mod Arranged
 pub mod Offering
 pub mod Turning

@@ -11,6 +11,7 @@ pub mod Held
 pub mod Links
 pub mod KeptOrder
 pub mod Waiting
+pub mod Sampled
 pub mod Arena
 pub mod Taking
 pub mod Drive

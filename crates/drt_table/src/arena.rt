@@ -19,8 +19,10 @@ ghost use Rattle.drt_table.specs.View.{kept_at};
 use crate::holding::{first_held, first_taken, forget};
 use crate::kept::{place_in, push_node};
 use crate::node::{Node, Twin};
+use crate::sampling::{make_columns, sample};
 use crate::step::TableReply;
 use crate::waiting::{Queue, admit, first_waiting, pop_ticket, refresh};
+use drt_columns::Columns;
 use drt_label::{Label, Memory};
 use drt_worklist::push_within;
 use std::alloc::Global;
@@ -39,6 +41,8 @@ pub(crate) struct Arena<L: Label> {
     queue: Queue,
     // The taken nodes.
     taken: Vec<u32>,
+    // The samples of all nodes, where the kind of label isn't a chain.
+    columns: Columns,
     room: usize,
 }
 
@@ -46,6 +50,7 @@ impl<L: Label> Model for Arena<L> {
     ghost use Rattle.std.specs.Prelude.{◌+◌, ◌≤◌, length, vec_len, vec_capacity};
     ghost use Rattle.std.specs.BinaryHeap.{heap_capacity, heap_items, heap_len};
     ghost use Rattle.drt_table.specs.Arena.{Stock, AreArranged};
+    ghost use Rattle.drt_table.specs.Sampled.{IsShelf};
 
     ghost Value = { Stock L };
 
@@ -58,12 +63,15 @@ impl<L: Label> Model for Arena<L> {
         × (s.room ≤ vec_capacity s.nodes)
         × (s.room ≤ vec_capacity s.links)
         × (s.room ≤ heap_capacity s.queue)
-        × (s.room ≤ vec_capacity s.taken) };
+        × (s.room ≤ vec_capacity s.taken)
+        × IsShelf L.algebra s.nodes.items (length s.heads.items) s.room s.columns };
 }
 
 impl<L: Label> Arena<L> {
     // An empty arena.
     pub(crate) fn new(alloc: Global, vertices: u32, room: usize) -> Result<Arena<L>, Memory>
+        requires vertices { vertices ≤ 1000 }
+        requires room { room ≤ 2000000 }
         ensures nodes { IfOk result (λ arena. arena.nodes ≡ []) }
         ensures vertices { IfOk result (λ arena. arena.vertices ≡ vertices) }
         ensures room { IfOk result (λ arena. arena.room ≡ room) }
@@ -73,12 +81,14 @@ impl<L: Label> Arena<L> {
         let heads = vec![in alloc; None; vertices as usize]?;
         let queue = BinaryHeap::with_capacity(alloc, room)?;
         let taken = Vec::with_capacity(alloc, room)?;
+        let columns = make_columns::<L>(alloc, vertices, room)?;
         Ok(Arena {
             nodes,
             links,
             heads,
             queue,
             taken,
+            columns,
             room,
         })
     }
@@ -173,6 +183,7 @@ impl<L: Label> Arena<L> {
             Node::fresh(twin, None),
         );
         admit(self.nodes.as_slice(), from, &mut self.queue);
+        sample(self.nodes.as_slice(), from, &mut self.columns);
     }
 
     // Lets the worker take the next node.
@@ -211,12 +222,14 @@ impl<L: Label> Arena<L> {
             &mut self.nodes,
             &mut self.links,
             heads,
+            &self.columns,
             twin,
             parent,
             deadline,
             bound,
         );
         admit(self.nodes.as_slice(), from, &mut self.queue);
+        sample(self.nodes.as_slice(), from, &mut self.columns);
         reply
     }
 

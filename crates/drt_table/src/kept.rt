@@ -2,19 +2,23 @@
 //!
 //! A label dominates only labels of its vertex with no smaller offset. So the nodes that a new label drops stand at the
 //! head of its vertex's list, down to its own offset, and those that dominate it stand from its offset on. Where dominance
-//! is a chain, the first one there that doesn't dominate it ends the search.
+//! is a chain, the first one there that doesn't dominate it ends the search. Where it isn't, samples tell most of the nodes
+//! that don't dominate it (sampling.rt), and the list isn't walked.
 
 ghost use Rattle.std.specs.Prelude.{◌≡◌, ℕ, ◌+◌, ◌<◌, ◌≤◌, IsTrue, Some, None, length, map, vec_len, vec_capacity, ◌^◌, ◌++◌, ◌∷◌, []};
 ghost use Rattle.drt_table.specs.Held.{AllOf, drop_held, dominates_held, fresh_held, placed_nodes, placed_reply};
 ghost use Rattle.drt_label.specs.Algebra.{IsTime};
 ghost use Rattle.drt_table.specs.Node.{is_kept};
 ghost use Rattle.drt_table.specs.Links.{AreLinked, AreAlone, IsPlace, IsLink, heads_after, links_after};
+ghost use Rattle.drt_table.specs.Sampled.{IsShelf};
 ghost use Rattle.drt_worklist.specs.Places.{first};
 ghost use Rattle.std.specs.Option.{ForSome};
 
 use crate::node::{Node, Twin};
+use crate::sampling::first_told;
 use crate::shortest::smaller;
 use crate::step::TableReply;
+use drt_columns::Columns;
 use drt_label::Label;
 use drt_worklist::push_within;
 
@@ -23,12 +27,14 @@ pub(crate) fn place_in<L: Label>(
     nodes: &mut Vec<Node<L>>,
     links: &mut Vec<Option<u32>>,
     heads: &mut [Option<u32>],
+    columns: &Columns,
     twin: Twin<L>,
     parent: u32,
     deadline: u32,
     bound: u64,
 ) -> TableReply
     requires linked { AreLinked L.algebra nodes.old.items links.old.items heads.old }
+    requires sampled { IsShelf L.algebra nodes.old.items (length heads.old) columns.now.room columns.now }
     requires vertex { L.algebra.vertex twin < length heads.old }
     requires room { (vec_len nodes.old < vec_capacity nodes.old) × (vec_len links.old < vec_capacity links.old) }
     requires few { vec_len nodes.old < 2 ^ 32 }
@@ -44,7 +50,13 @@ pub(crate) fn place_in<L: Label>(
     if !twin.label.in_range(deadline, bound) {
         return TableReply::OutOfRange;
     }
-    match first_above(nodes.as_slice(), links.as_slice(), heads, &twin.label) {
+    match first_above(
+        nodes.as_slice(),
+        links.as_slice(),
+        heads,
+        columns,
+        &twin.label,
+    ) {
         Some(id) => TableReply::Dominated(id),
         None => TableReply::Added(add(nodes, links, heads, twin, parent)),
     }
@@ -107,12 +119,35 @@ pub(crate) fn push_node<L: Label>(
 }
 
 // The least kept node that dominates the label.
-pub(crate) fn first_above<L: Label>(
+fn first_above<L: Label>(
+    nodes: &[Node<L>],
+    links: &[Option<u32>],
+    heads: &[Option<u32>],
+    columns: &Columns,
+    label: &L,
+) -> Option<u32>
+    requires linked { AreLinked L.algebra nodes.now links.now heads.now }
+    requires sampled { IsShelf L.algebra nodes.now (length heads.now) columns.now.room columns.now }
+    requires vertex { L.algebra.vertex label.now < length heads.now }
+    requires of { (bound : ℕ) × IsTrue (L.algebra.is_of label.now bound) × AllOf (λ h. IsTrue (L.algebra.is_of h.node.label bound)) nodes.now }
+    requires alone { AreAlone L.algebra nodes.now }
+    ensures { result ≡ first (dominates_held L.algebra label.now) nodes.now }
+{
+    if L::is_chain() {
+        first_in_chain(nodes, links, heads, label)
+    } else {
+        first_told(nodes, columns, label)
+    }
+}
+
+// The least kept node that dominates the label, where dominance is a chain.
+fn first_in_chain<L: Label>(
     nodes: &[Node<L>],
     links: &[Option<u32>],
     heads: &[Option<u32>],
     label: &L,
 ) -> Option<u32>
+    requires chain { IsTrue L.algebra.is_chain }
     requires linked { AreLinked L.algebra nodes.now links.now heads.now }
     requires vertex { L.algebra.vertex label.now < length heads.now }
     requires of { (bound : ℕ) × IsTrue (L.algebra.is_of label.now bound) × AllOf (λ h. IsTrue (L.algebra.is_of h.node.label bound)) nodes.now }
@@ -120,7 +155,6 @@ pub(crate) fn first_above<L: Label>(
     ensures { result ≡ first (dominates_held L.algebra label.now) nodes.now }
 {
     let offset = label.offset();
-    let chain = L::is_chain();
     let mut least = None;
     let mut next = heads[label.vertex() as usize];
     while let Some(id) = next {
@@ -129,7 +163,7 @@ pub(crate) fn first_above<L: Label>(
         if node.offset() <= offset {
             if node.is_above(label) {
                 least = smaller(least, Some(id));
-            } else if chain {
+            } else {
                 return least;
             }
         }

@@ -7,8 +7,9 @@
 //! above uses that contract and those of `Table`.
 //!
 //! The nodes stand in an arena. The kept nodes of each vertex form a list inside it, in descending order of offset and with
-//! node numbers for links, so an offer looks at few kept nodes of the label's vertex. The pending nodes stand in a queue by
-//! offset, and the taken ones in a list that is as short as the workers are few.
+//! node numbers for links, so an offer looks at few kept nodes of the label's vertex. Where dominance isn't a chain, samples of
+//! the labels tell most of them. The pending nodes stand in a queue by offset, and the taken ones in a list that is as short
+//! as the workers are few.
 #![tactic(auto)]
 
 mod arena;
@@ -17,6 +18,7 @@ mod holding;
 mod kept;
 mod node;
 mod reading;
+mod sampling;
 mod shortest;
 mod step;
 mod table;

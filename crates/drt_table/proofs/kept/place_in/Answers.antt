@@ -3,6 +3,7 @@ use Rattle.std.specs.Prelude.{IsTrue}
 use Rattle.drt_table.specs.Held.{AllOf}
 use Rattle.drt_table.specs.Links.{AreAlone, AreLinked}
 use Rattle.drt_table.specs.Node.{Held}
+use Rattle.drt_table.specs.Sampled.{IsShelf}
 use Rattle.drt_table.proofs.kept.place_in.Goals as goal
 
 pub in_range-requires-clause-of : goal.in_range-requires-clause-of
@@ -13,6 +14,10 @@ first_above-requires-clause-linked g c κs within =
     let a = g.L.Label.algebra in
     subst (λ xs. AreLinked a xs c.as_slice-2.result.now c.args.heads.now) (sym c.as_slice.ensures.value)
     (subst (λ ls. AreLinked a c.args.nodes.now.items ls c.args.heads.now) (sym c.as_slice-2.ensures.value) c.requires.linked)
+
+pub first_above-requires-clause-sampled : goal.first_above-requires-clause-sampled
+first_above-requires-clause-sampled g c κs within =
+    subst (λ (xs : List (Held _)). IsShelf g.L.Label.algebra xs (length c.args.heads.now) c.args.columns.now.room c.args.columns.now) (sym c.as_slice.ensures.value) c.requires.sampled
 
 pub first_above-requires-clause-vertex : goal.first_above-requires-clause-vertex
 first_above-requires-clause-vertex g c κs within = subst (λ l. g.L.Label.algebra.vertex l < length c.args.heads.now) (sym c.twin.view_is) c.requires.vertex

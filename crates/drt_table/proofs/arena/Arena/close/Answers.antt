@@ -10,6 +10,7 @@ use Rattle.drt_table.specs.Waiting.{AreHeld}
 use Rattle.drt_worklist.proofs.Lists.{changed_at}
 use Rattle.drt_worklist.proofs.Writes.{changed_set}
 use Rattle.drt_table.proofs.Arranged.{node_at, node_has, node_within, change_arranged, forget_held, taken_not_pending, close_calms, close_keeps}
+use Rattle.drt_table.proofs.Columns.{change_samples}
 use Rattle.drt_table.proofs.arena.Arena.close.Goals as goal
 
 -- a worker holds the node
@@ -47,4 +48,14 @@ invariant_of-self g c =
     record { linked = arranged.linked; waiting = arranged.waiting; fresh = arranged.fresh; order = arranged.order; held = held } in
     let count : length (slice_set v.nodes c.args.id c.close.new.self) ≡ length v.nodes = length-set v.nodes c.args.id c.close.new.self in
     let less = c.forget.ensures.len in
-    (subst (λ xs. AreArranged g.L.Label.algebra xs c.self.inside.links.items c.self.inside.heads.items (heap_items c.self.inside.queue) c.forget.new.taken.items) (sym nodes) all, omega (arith, count, old.1), omega (arith, count, less, old.2), old.3, old.4, old.5, omega (arith, c.forget.ensures.capacity, old.6))
+    let shelf = change_samples g.L.Label.algebra (length c.self.inside.heads.items) c.self.inside.room c.self.inside.columns close_node c.args.id v.nodes _ nodes (λ h. refl) old.7 in (
+      subst (λ xs. AreArranged g.L.Label.algebra xs c.self.inside.links.items c.self.inside.heads.items (heap_items c.self.inside.queue) c.forget.new.taken.items)
+          (sym nodes) all,
+      omega (arith, count, old.1),
+      omega (arith, count, less, old.2),
+      old.3,
+      old.4,
+      old.5,
+      omega (arith, c.forget.ensures.capacity, old.6),
+      shelf,
+    )

@@ -8,6 +8,7 @@ use Rattle.drt_table.specs.Node.{Held, is_taken}
 use Rattle.drt_worklist.specs.Places.{changed}
 use Rattle.drt_worklist.proofs.Writes.{changed_set}
 use Rattle.drt_table.proofs.Arranged.{Calms, change_arranged, not_pending, node_at, node_has, node_within}
+use Rattle.drt_table.proofs.Columns.{change_samples}
 use Rattle.drt_table.proofs.arena.Arena.hand_out.Goals as goal
 
 -- the node is taken and has its spare
@@ -52,4 +53,14 @@ invariant_of-self g c =
     let calms : Calms hand_out = record { label = λ h. refl; pending = λ h t. t } in
     let arranged = change_arranged hand_out c.args.id v.nodes g.L.Label.algebra c.self.inside.links.items c.self.inside.heads.items (heap_items c.self.inside.queue) c.self.inside.taken.items c.index_mut.result.now at (λ h. (refl, refl)) calms (λ h t. t) (λ t. t) old.0 in
     let count : length (slice_set v.nodes c.args.id c.hand_out.new.self) ≡ length v.nodes = length-set v.nodes c.args.id c.hand_out.new.self in
-    (subst (λ xs. AreArranged g.L.Label.algebra xs c.self.inside.links.items c.self.inside.heads.items (heap_items c.self.inside.queue) c.self.inside.taken.items) (sym nodes) arranged, omega (arith, count, old.1), omega (arith, count, old.2), old.3, old.4, old.5, old.6)
+    let shelf = change_samples g.L.Label.algebra (length c.self.inside.heads.items) c.self.inside.room c.self.inside.columns hand_out c.args.id v.nodes _ nodes (λ h. refl) old.7 in (
+      subst (λ xs. AreArranged g.L.Label.algebra xs c.self.inside.links.items c.self.inside.heads.items (heap_items c.self.inside.queue) c.self.inside.taken.items)
+          (sym nodes) arranged,
+      omega (arith, count, old.1),
+      omega (arith, count, old.2),
+      old.3,
+      old.4,
+      old.5,
+      old.6,
+      shelf,
+    )

@@ -1,10 +1,12 @@
-use Rattle.std.proofs.Common.{◌≡◌, None, [], length, sym, ap, subst, arith, rules}
+use Rattle.std.proofs.Common.{◌≡◌, None, [], length, sym, ap, ◌∙◌, subst, arith, rules}
 use Rattle.std.specs.Prelude.{replicate}
+use Rattle.std.proofs.lemmas.List.{length-replicate}
 use Rattle.std.specs.BinaryHeap.{IsHeap, heap_items}
 use Rattle.drt_table.specs.Arena.{AreArranged}
 use Rattle.drt_table.specs.Links.{AreLinked}
 use Rattle.drt_table.specs.Waiting.{ticket_cmp}
 use Rattle.drt_table.proofs.Arranged.{none_arranged, none_linked}
+use Rattle.drt_table.proofs.Columns.{new_shelf}
 use Rattle.drt_table.proofs.arena.Arena.new.Goals as goal
 
 pub invariant_of-result : goal.invariant_of-result
@@ -24,4 +26,5 @@ invariant_of-result g c =
       c.in_ok-links.ensures.capacity,
       c.in_ok-queue.ensures.capacity,
       c.in_ok-taken.ensures.capacity,
+      new_shelf g.L.Label.algebra c.args.vertices c.args.room c.in_ok-columns.columns _ _ c.in_ok-nodes.ensures.items (ap length heads ∙ length-replicate c.args.vertices None) c.in_ok-columns.ensures,
     )

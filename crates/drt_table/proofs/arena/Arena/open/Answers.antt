@@ -1,4 +1,4 @@
-use Rattle.std.proofs.Common.{◌≡◌, ◌<◌, ◌+◌, ◌++◌, ◌∷◌, [], false, None, length, refl, take, drop, sym, ap, ◌∙◌, subst, arith, rules}
+use Rattle.std.proofs.Common.{◌≡◌, ◌<◌, ◌+◌, ◌++◌, ◌∷◌, [], false, None, List, length, refl, take, drop, sym, ap, ◌∙◌, subst, arith, rules}
 use Rattle.std.specs.Prelude.{IsTrue}
 use Rattle.std.specs.BinaryHeap.{heap_items}
 use Rattle.std.proofs.lemmas.List.{length_push}
@@ -8,9 +8,11 @@ use Rattle.drt_table.specs.Held.{AllOf}
 use Rattle.drt_table.specs.Node.{Held, is_kept, is_taken}
 use Rattle.drt_table.specs.Links.{AreLinked, IsPlace}
 use Rattle.drt_table.specs.View.{kept_at}
-use Rattle.drt_table.proofs.Arranged.{still_held, push_stays, push_held, room_for, admit_from, admit_few, admit_room, same_le}
+use Rattle.drt_table.proofs.Arranged.{still_held, push_stays, push_held, room_for, admit_from, admit_few, admit_room, sample_last, same_le}
 use Rattle.drt_table.proofs.Linking.{written_back, place_alone}
 use Rattle.drt_table.proofs.Tickets.{still_waiting}
+use Rattle.drt_table.specs.Sampled.{AreSampled, CanSample, labels_of}
+use Rattle.drt_table.proofs.Columns.{IsMore, more_opened, can_sample, has_samples}
 use Rattle.drt_table.proofs.arena.Arena.open.Goals as goal
 
 pub push_node-requires-clause-last : goal.push_node-requires-clause-last
@@ -51,7 +53,12 @@ invariant_of-self g c =
     } in
     let heads : take c.self.inside.heads.len (c.push_node.new.heads ++ drop (length c.push_node.new.heads) c.self.inside.heads.items) ≡ c.push_node.new.heads = written_back c.self.inside.heads.len c.push_node.new.heads (drop (length c.push_node.new.heads) c.self.inside.heads.items) (search rules) in
     let more : length c.push_node.new.nodes.items ≡ length nodes + 1 = ap length c.push_node.ensures.nodes ∙ length_push nodes z in
-    let seen : length c.as_slice.result.now ≡ length c.push_node.new.nodes.items = ap length c.as_slice.ensures.value in (
+    let seen : length c.as_slice.result.now ≡ length c.push_node.new.nodes.items = ap length c.as_slice.ensures.value in
+    let long : length c.push_node.new.heads ≡ c.self.inside.heads.len = search rules in
+    let label : z.node.label ≡ c.args.twin = ap (λ (h : Held _). h.node.label) c.fresh.ensures in
+    let one_more : IsMore nodes c.push_node.new.nodes.items c.args.twin =
+    subst (λ (hs : List (Held _)). IsMore nodes hs c.args.twin) (sym c.push_node.ensures.nodes)
+    (more_opened nodes c.args.twin z label) in (
       subst (λ os. AreArranged a c.push_node.new.nodes.items c.push_node.new.links.items os queue taken) (sym heads) all,
       omega (arith, more, room),
       omega (arith, more, seen, from, c.admit.ensures.len, old.2),
@@ -59,6 +66,9 @@ invariant_of-self g c =
       omega (arith, c.push_node.ensures.capacity.1, old.4),
       omega (arith, c.admit.ensures.capacity, old.5),
       old.6,
+      has_samples a nodes c.push_node.new.nodes.items c.args.twin (length c.self.inside.heads.items) c.self.inside.room c.self.inside.columns old.7 one_more c.sample.new.columns _
+          (λ no_chain. subst (λ hs. AreSampled a (labels_of hs) c.sample.new.columns) c.as_slice-2.ensures.value (c.sample.ensures.sampled no_chain))
+          c.sample.ensures.vertices c.sample.ensures.room (ap length heads ∙ (long ∙ c.self.inside.heads.ok.0)),
     )
 
 pub push_node-requires-clause-linked : goal.push_node-requires-clause-linked
@@ -106,3 +116,28 @@ admit-requires-clause-room g c κs within =
     let room : length c.self.inside.nodes.items < c.self.inside.room = subst (λ (x : Stock _). length x.nodes < x.room) (sym c.self.view_is) c.requires.room in
     admit_room _ _ _ (c.len-from.ensures ∙ c.self.inside.nodes.ok.0)
     (same_le _ _ (ap length (c.as_slice.ensures.value ∙ c.push_node.ensures.nodes) ∙ length_push c.self.inside.nodes.items c.fresh.result)) _ _ _ _ room old.2 old.5
+
+pub sample-requires-clause-can : goal.sample-requires-clause-can
+sample-requires-clause-can g c κs within no_chain =
+    let a = g.L.Label.algebra in
+    let nodes = c.self.inside.nodes.items in
+    let old = c.self.invariant in
+    let z : Held _ = c.fresh.result in
+    let from : c.len-from.result ≡ length nodes = search rules in
+    let vertex : a.vertex c.args.twin < length c.self.inside.heads.items = subst (λ (x : Stock _). a.vertex c.args.twin < x.vertices) (sym c.self.view_is) c.requires.vertex in
+    let room : length nodes < c.self.inside.room = subst (λ (x : Stock _). length x.nodes < x.room) (sym c.self.view_is) c.requires.room in
+    let label : z.node.label ≡ c.args.twin = ap (λ (h : Held _). h.node.label) c.fresh.ensures in
+    let one_more : IsMore nodes (nodes ++ z ∷ []) c.args.twin = more_opened nodes c.args.twin z label in
+    subst (λ (hs : List (Held _)). CanSample a hs c.len-from.result c.self.inside.columns) (sym (c.as_slice-2.ensures.value ∙ c.push_node.ensures.nodes))
+    (can_sample a nodes (nodes ++ z ∷ []) c.args.twin (length c.self.inside.heads.items) c.self.inside.room c.self.inside.columns old.7 one_more c.len-from.result from vertex room no_chain)
+
+pub sample-requires-clause-few : goal.sample-requires-clause-few
+sample-requires-clause-few g c κs within =
+    let few : length c.self.inside.nodes.items < 4294967296 = subst (λ (x : Stock _). length x.nodes < 4294967296) (sym c.self.view_is) c.requires.few in
+    admit_few _ _ _ (c.len-from.ensures ∙ c.self.inside.nodes.ok.0)
+    (same_le _ _ (ap length (c.as_slice-2.ensures.value ∙ c.push_node.ensures.nodes) ∙ length_push c.self.inside.nodes.items c.fresh.result)) few
+
+pub sample-requires-clause-last : goal.sample-requires-clause-last
+sample-requires-clause-last g c κs within =
+    sample_last _ _ _ (c.len-from.ensures ∙ c.self.inside.nodes.ok.0)
+    (same_le _ _ (ap length (c.as_slice-2.ensures.value ∙ c.push_node.ensures.nodes) ∙ length_push c.self.inside.nodes.items c.fresh.result))

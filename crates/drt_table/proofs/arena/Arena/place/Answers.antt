@@ -6,9 +6,11 @@ use Rattle.drt_table.specs.Held.{AllOf, placed_nodes, placed_reply}
 use Rattle.drt_table.specs.Links.{AreAlone, AreLinked}
 use Rattle.drt_table.specs.Node.{Held}
 use Rattle.drt_table.specs.Waiting.{AreWaiting, IsFresh, AreHeld}
-use Rattle.drt_table.proofs.Arranged.{Follows, admit_few, admit_room, place_follows, room_for, still_held}
+use Rattle.drt_table.proofs.Arranged.{Follows, admit_few, admit_room, place_follows, room_for, sample_last, still_held}
 use Rattle.drt_table.proofs.Linking.{written_back}
 use Rattle.drt_table.proofs.Tickets.{still_waiting}
+use Rattle.drt_table.specs.Sampled.{AreSampled, CanSample, labels_of}
+use Rattle.drt_table.proofs.Columns.{IsMore, more_placed, can_sample, has_samples}
 use Rattle.drt_table.proofs.arena.Arena.place.Goals as goal
 
 pub admit-requires-clause-waiting : goal.admit-requires-clause-waiting
@@ -68,7 +70,11 @@ invariant_of-self g c =
     written_back c.self.inside.heads.len c.place_in-reply.new.heads (drop (length c.place_in-reply.new.heads) c.self.inside.heads.items) (search rules) in
     let now : length c.place_in-reply.new.nodes.items ≡ length later = ap length c.place_in-reply.ensures.nodes in
     let at_most : length later ≤ length nodes + 1 = follows.at_most in
-    let seen : length c.as_slice.result.now ≡ length c.place_in-reply.new.nodes.items = ap length c.as_slice.ensures.value in (
+    let seen : length c.as_slice.result.now ≡ length c.place_in-reply.new.nodes.items = ap length c.as_slice.ensures.value in
+    let long : length c.place_in-reply.new.heads ≡ c.self.inside.heads.len = search rules in
+    let one_more : IsMore nodes c.place_in-reply.new.nodes.items c.args.twin =
+    subst (λ (hs : List (Held _)). IsMore nodes hs c.args.twin) (sym c.place_in-reply.ensures.nodes)
+    (more_placed a c.args.twin c.args.parent c.args.deadline c.args.bound nodes) in (
       subst (λ os. AreArranged a c.place_in-reply.new.nodes.items c.place_in-reply.new.links.items os queue taken) (sym heads) all,
       omega (arith, now, at_most, room),
       omega (arith, seen, from, c.admit.ensures.len, old.2),
@@ -76,6 +82,9 @@ invariant_of-self g c =
       omega (arith, c.place_in-reply.ensures.capacity.1, old.4),
       omega (arith, c.admit.ensures.capacity, old.5),
       old.6,
+      has_samples a nodes c.place_in-reply.new.nodes.items c.args.twin (length c.self.inside.heads.items) c.self.inside.room c.self.inside.columns old.7 one_more c.sample.new.columns _
+          (λ no_chain. subst (λ hs. AreSampled a (labels_of hs) c.sample.new.columns) c.as_slice-2.ensures.value (c.sample.ensures.sampled no_chain))
+          c.sample.ensures.vertices c.sample.ensures.room (ap length heads ∙ (long ∙ c.self.inside.heads.ok.0)),
     )
 
 pub place_in-reply-requires-clause-linked : goal.place_in-reply-requires-clause-linked
@@ -118,3 +127,30 @@ admit-requires-clause-order g c κs within = c.self.invariant.0.order
 pub returns-clause-reply : goal.returns-clause-reply
 returns-clause-reply g c =
     c.place_in-reply.ensures.reply ∙ ap (λ (x : Stock _). placed_reply g.L.Label.algebra c.args.twin c.args.deadline c.args.bound x.nodes) c.self.view_is
+
+pub sample-requires-clause-can : goal.sample-requires-clause-can
+sample-requires-clause-can g c κs within no_chain =
+    let a = g.L.Label.algebra in
+    let nodes = c.self.inside.nodes.items in
+    let later : List (Held _) = placed_nodes a c.args.twin c.args.parent c.args.deadline c.args.bound nodes in
+    let from : c.len-from.result ≡ length nodes = search rules in
+    let vertex : a.vertex c.args.twin < length c.self.inside.heads.items = subst (λ (x : Stock _). a.vertex c.args.twin < x.vertices) (sym c.self.view_is) c.requires.vertex in
+    let room : length nodes < c.self.inside.room = subst (λ (x : Stock _). length x.nodes < x.room) (sym c.self.view_is) c.requires.room in
+    let one_more : IsMore nodes later c.args.twin = more_placed a c.args.twin c.args.parent c.args.deadline c.args.bound nodes in
+    subst (λ (hs : List (Held _)). CanSample a hs c.len-from.result c.self.inside.columns) (sym (c.as_slice-2.ensures.value ∙ c.place_in-reply.ensures.nodes))
+    (can_sample a nodes later c.args.twin (length c.self.inside.heads.items) c.self.inside.room c.self.inside.columns c.self.invariant.7 one_more c.len-from.result from vertex room no_chain)
+
+pub sample-requires-clause-few : goal.sample-requires-clause-few
+sample-requires-clause-few g c κs within =
+    let nodes = c.self.inside.nodes.items in
+    let follows = place_follows g.L.Label.algebra c.args.twin c.args.parent c.args.deadline c.args.bound nodes in
+    let few : length nodes < 4294967296 = subst (λ (x : Stock _). length x.nodes < 4294967296) (sym c.self.view_is) c.requires.few in
+    admit_few _ _ _ (c.len-from.ensures ∙ c.self.inside.nodes.ok.0)
+    (subst (λ m. m ≤ length nodes + 1) (sym (ap length (c.as_slice-2.ensures.value ∙ c.place_in-reply.ensures.nodes))) follows.at_most) few
+
+pub sample-requires-clause-last : goal.sample-requires-clause-last
+sample-requires-clause-last g c κs within =
+    let nodes = c.self.inside.nodes.items in
+    let follows = place_follows g.L.Label.algebra c.args.twin c.args.parent c.args.deadline c.args.bound nodes in
+    sample_last _ _ _ (c.len-from.ensures ∙ c.self.inside.nodes.ok.0)
+    (subst (λ m. m ≤ length nodes + 1) (sym (ap length (c.as_slice-2.ensures.value ∙ c.place_in-reply.ensures.nodes))) follows.at_most)

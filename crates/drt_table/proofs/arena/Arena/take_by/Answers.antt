@@ -14,6 +14,7 @@ use Rattle.drt_table.proofs.Linking.{changed_linked}
 use Rattle.drt_table.proofs.Tickets.{first_is_next}
 use Rattle.drt_worklist.proofs.Writes.{changed_set}
 use Rattle.drt_table.proofs.Earliest.{Earliest, found_earliest}
+use Rattle.drt_table.proofs.Columns.{change_samples}
 use Rattle.drt_table.proofs.arena.Arena.take_by.Goals as goal
 
 pub returns : goal.returns
@@ -112,4 +113,5 @@ invariant_of-self g c =
       old.4,
       omega (arith, c.refresh.ensures.capacity, c.pop_ticket.ensures.capacity, old.5),
       omega (arith, c.push_within.ensures.capacity, old.6),
+      change_samples g.L.Label.algebra (length c.self.inside.heads.items) c.self.inside.room c.self.inside.columns (take_by c.args.worker) c.args.id v.nodes _ nodes (λ h. refl) old.7,
     )

@@ -3,9 +3,9 @@ use Rattle.std.specs.Prelude.{slice_get, slice_index_or}
 use Rattle.std.proofs.lemmas.Option.{slice_get-get_or, slice_get_read}
 use borrow.Author.Rules.{scaled_Fits}
 use Rattle.drt_table.specs.Node.{Held}
-use Rattle.drt_table.proofs.Seeking.{IsSought, seek_start, seek_within, seek_end, seek_less, seek_more, seek_late, seek_found, seek_stop}
+use Rattle.drt_table.proofs.Seeking.{IsSought, seek_start, seek_within, seek_end, seek_less, seek_late, seek_found, seek_stop}
 use Rattle.drt_table.proofs.Sweep.{to_go}
-use Rattle.drt_table.proofs.kept.first_above.Goals as goal
+use Rattle.drt_table.proofs.kept.first_in_chain.Goals as goal
 
 less_le : (m n : ℕ) → m < n → m ≤ n
 less_le m n lt = omega arith
@@ -91,26 +91,6 @@ loop-next-smaller-then-is_above g c =
     let link : slice_get links i ≡ Some o = slice_get-get_or links i None lt_link in
     subst (λ q. to_go a nodes o < to_go a nodes q) (sym c.in-Some.is) (seek_less a laws l nodes links heads ok i least s x at_x o link)
 
-pub loop-next-smaller-else-chain : goal.loop-next-smaller-else-chain
-loop-next-smaller-else-chain g c =
-    let a = g.L.Label.algebra in
-    let laws = (g.met.L.Label g.world.𝓛 g.world.𝓜 g.world.𝓡 ((λ s x. x), (λ x. x), (λ x. x), λ x. x)).laws in
-    let l = c.args.label.now in
-    let nodes = c.args.nodes.now in
-    let links = c.args.links.now in
-    let heads = c.args.heads.now in
-    let ok = c.requires.linked in
-    let least = c.loop-next.least in
-    let i : ℕ = c.in-Some.id in
-    let s : IsSought a l nodes (Some i) least = subst (λ o. IsSought a l nodes o least) c.in-Some.is c.loop-next.invariant in
-    let lt : c.in-Some.id < length c.args.nodes.now = seek_within a laws l nodes links heads ok (Some i) least s i refl in
-    let lt_link : c.in-Some.id < length c.args.links.now = subst (λ (m : ℕ). i < m) (sym ok.as_many) lt in
-    let x : Held _ = c.index-nodes-id.result in
-    let at_x : slice_get nodes c.in-Some.id ≡ Some x = slice_get_read _ _ _ _ refl lt c.index-nodes-id.is in
-    let o : Option ℕ = slice_index_or links i None in
-    let link : slice_get links i ≡ Some o = slice_get-get_or links i None lt_link in
-    subst (λ q. to_go a nodes o < to_go a nodes q) (sym c.in-Some.is) (seek_less a laws l nodes links heads ok i least s x at_x o link)
-
 pub loop-next-smaller : goal.loop-next-smaller
 loop-next-smaller g c =
     let a = g.L.Label.algebra in
@@ -151,8 +131,8 @@ loop-next-preserved-then-is_above g c =
     let link : slice_get links i ≡ Some o = slice_get-get_or links i None lt_link in
     subst (λ q. IsSought a l nodes o q) (sym c.smaller-least.ensures) (seek_found a laws l nodes links heads ok i least s x at_x o link (sym c.is_above.ensures ∙ c.if-is_above.true))
 
-pub returns-then-chain : goal.returns-then-chain
-returns-then-chain g c =
+pub returns-else-is_above : goal.returns-else-is_above
+returns-else-is_above g c =
     let a = g.L.Label.algebra in
     let laws = (g.met.L.Label g.world.𝓛 g.world.𝓜 g.world.𝓡 ((λ s x. x), (λ x. x), (λ x. x), λ x. x)).laws in
     let l = c.args.label.now in
@@ -167,27 +147,7 @@ returns-then-chain g c =
     let x : Held _ = c.index-nodes-id.result in
     let at_x : slice_get nodes c.in-Some.id ≡ Some x = slice_get_read _ _ _ _ refl lt c.index-nodes-id.is in
     let le : a.offset x.node.label ≤ a.offset l = subst (λ m. m ≤ a.offset l) c.offset.ensures (subst (λ m. c.offset.result ≤ m) c.offset-offset.ensures c.if-offset.true) in
-    seek_stop a laws l nodes links heads ok i least s x at_x (sym c.is_chain-chain.ensures ∙ c.if-chain.true) c.requires.alone le (sym c.is_above.ensures ∙ c.if-is_above.false)
-
-pub loop-next-preserved-else-chain : goal.loop-next-preserved-else-chain
-loop-next-preserved-else-chain g c =
-    let a = g.L.Label.algebra in
-    let laws = (g.met.L.Label g.world.𝓛 g.world.𝓜 g.world.𝓡 ((λ s x. x), (λ x. x), (λ x. x), λ x. x)).laws in
-    let l = c.args.label.now in
-    let nodes = c.args.nodes.now in
-    let links = c.args.links.now in
-    let heads = c.args.heads.now in
-    let ok = c.requires.linked in
-    let least = c.loop-next.least in
-    let i : ℕ = c.in-Some.id in
-    let s : IsSought a l nodes (Some i) least = subst (λ o. IsSought a l nodes o least) c.in-Some.is c.loop-next.invariant in
-    let lt : c.in-Some.id < length c.args.nodes.now = seek_within a laws l nodes links heads ok (Some i) least s i refl in
-    let lt_link : c.in-Some.id < length c.args.links.now = subst (λ (m : ℕ). i < m) (sym ok.as_many) lt in
-    let x : Held _ = c.index-nodes-id.result in
-    let at_x : slice_get nodes c.in-Some.id ≡ Some x = slice_get_read _ _ _ _ refl lt c.index-nodes-id.is in
-    let o : Option ℕ = slice_index_or links i None in
-    let link : slice_get links i ≡ Some o = slice_get-get_or links i None lt_link in
-    seek_more a laws l nodes links heads ok i least s x at_x o link (sym c.is_above.ensures ∙ c.if-is_above.false)
+    seek_stop a laws l nodes links heads ok i least s x at_x c.requires.chain c.requires.alone le (sym c.is_above.ensures ∙ c.if-is_above.false)
 
 pub loop-next-preserved : goal.loop-next-preserved
 loop-next-preserved g c =
