@@ -122,11 +122,26 @@ fn rule_out(mask: &mut Mask, column: &[u16; SLOTS], least: u16) -> u16
     left
 }
 
-/// The first slot, from one on, whose label is still possible.
+// The greatest number of a mask.
+fn greatest(mask: &Mask) -> u16
+    ensures { (k : ℕ) → slice_index mask.now k ≤ result }
+{
+    let mut greatest = 0;
+    for slot in 0..SLOTS {
+        greatest = mask[slot].max(greatest);
+    }
+    greatest
+}
+
+/// The first slot, from one on, whose label is still possible. Of most blocks none is, and a loop over all slots tells that sooner than one
+/// with an exit.
 pub(crate) fn first_possible(mask: &Mask, from: usize) -> Option<usize>
     ensures none { MatchOption result ((k : ℕ) → from ≤ k → slice_index mask.now k ≡ 0) (λ slot. (k : ℕ) → from ≤ k → k < slot → slice_index mask.now k ≡ 0) }
     ensures some { MatchOption result (Unit {0}) (λ slot. (from ≤ slot) × (slot < 64) × (slice_index mask.now slot ≢ 0)) }
 {
+    if greatest(mask) == 0 {
+        return None;
+    }
     for slot in from..SLOTS {
         if mask[slot] != 0 {
             return Some(slot);
