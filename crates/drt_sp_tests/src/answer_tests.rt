@@ -2,7 +2,9 @@
 use crate::answering::{has_dossier, trail_of};
 use drt_pool::OpenGate;
 use std::alloc::Global;
+use std::sync::Wait;
 use std::test::Fail;
+use std::thread::Threads;
 
 // A task of two jobs, each of which comes again, above a task of one.
 const LOOPED: &str =
@@ -104,14 +106,23 @@ fn budgets_are_spent_in_a_search_or_a_refinement(rt: HostRuntime) -> Result<(), 
     Ok(())
 }
 
+// Whether many tasks with a deadline of 32 ticks have their dossier.
+fn are_just_in_time(rt: &(impl Threads + Wait + Sync), alloc: Global) -> Result<bool, Fail> {
+    let text = many_tasks(alloc, 32)?;
+    let yes = many_tasks_yes(alloc)?;
+    has_dossier(rt, alloc, text.as_str(), yes.as_str(), 1, &OpenGate)
+}
+
+// Whether many tasks with a deadline of 31 ticks have theirs.
+fn are_late(rt: &(impl Threads + Wait + Sync), alloc: Global) -> Result<bool, Fail> {
+    let text = many_tasks(alloc, 31)?;
+    let no = many_tasks_no(alloc)?;
+    has_dossier(rt, alloc, text.as_str(), no.as_str(), 1, &OpenGate)
+}
+
 #[test]
 fn as_many_tasks_as_a_file_may_have(rt: HostRuntime) -> Result<(), Fail> {
-    let alloc = rt.alloc();
-    let just = many_tasks(alloc, 32)?;
-    let yes = many_tasks_yes(alloc)?;
-    assert!(rt; has_dossier(&rt, alloc, just.as_str(), yes.as_str(), 1, &OpenGate)?);
-    let late = many_tasks(alloc, 31)?;
-    let no = many_tasks_no(alloc)?;
-    assert!(rt; has_dossier(&rt, alloc, late.as_str(), no.as_str(), 1, &OpenGate)?);
+    assert!(rt; are_just_in_time(&rt, rt.alloc())?);
+    assert!(rt; are_late(&rt, rt.alloc())?);
     Ok(())
 }

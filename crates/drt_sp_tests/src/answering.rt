@@ -14,7 +14,7 @@ use std::test::Fail;
 use std::thread::Threads;
 
 // A gate that does nothing, and leaves so many turns to the caller alone.
-#[derive(Clone, Copy, Debug)]
+#[derive(Clone, Copy)]
 pub(crate) struct Leaving {
     pub(crate) alone: u64,
 }
@@ -28,24 +28,28 @@ impl Gate for Leaving {
 }
 
 // Where a set comes from: a text, or the numbers that are drawn from this state on.
-#[derive(Clone, Copy, Debug)]
+#[derive(Clone, Copy)]
 pub(crate) enum Source<'a> {
     Text(&'a str),
     Drawn(u64),
 }
 
+fn read_set(alloc: Global, text: &str) -> Result<TaskSet, Fail> {
+    if text.len() > 1_000_000 {
+        return Err("a worked set is short".into());
+    }
+    Ok(drt_file::read(alloc, text.as_bytes())?)
+}
+
+fn draw_set(alloc: Global, state: u64) -> Result<TaskSet, Fail> {
+    let mut draws = Draws { state };
+    Ok(drawn_set(alloc, &mut draws)?.ok_or("within the limits")?)
+}
+
 fn make(alloc: Global, source: Source<'_>) -> Result<TaskSet, Fail> {
     match source {
-        Source::Text(text) => {
-            if text.len() > 1_000_000 {
-                return Err("a worked set is short".into());
-            }
-            Ok(drt_file::read(alloc, text.as_bytes())?)
-        }
-        Source::Drawn(state) => {
-            let mut draws = Draws { state };
-            Ok(drawn_set(alloc, &mut draws)?.ok_or("within the limits")?)
-        }
+        Source::Text(text) => read_set(alloc, text),
+        Source::Drawn(state) => draw_set(alloc, state),
     }
 }
 
@@ -67,6 +71,10 @@ pub(crate) fn answer_to<G: Gate, R: Threads + Wait + Sync>(
     Ok(analyse_fixed(rt, alloc, set, &graphs, workers, budget, gate)?)
 }
 
+fn print_whole(alloc: Global, dossier: &Dossier) -> Result<Vec<u8>, Fail> {
+    Ok(print(alloc, dossier)?.into_vec())
+}
+
 // The text of an answer: its dossier, or where and by which steps a budget was spent.
 fn text_of(alloc: Global, set: TaskSet, answer: FixedAnswer) -> Result<Vec<u8>, Fail>
     requires { (budget : ℕ) × IsAnswer set budget answer }
@@ -78,7 +86,7 @@ fn text_of(alloc: Global, set: TaskSet, answer: FixedAnswer) -> Result<Vec<u8>, 
                 set,
                 evidence,
             };
-            Ok(print(alloc, &dossier)?.into_vec())
+            print_whole(alloc, &dossier)
         }
         FixedAnswer::Undecided(trail) => spent_text(alloc, &trail),
     }
@@ -128,6 +136,19 @@ pub(crate) fn has_dossier<G: Gate, R: Threads + Wait + Sync>(
 }
 
 // The task, the vertex if there is one, and the number of steps at which a budget was spent.
+fn spent_at(answer: &FixedAnswer) -> Option<(u32, Option<u32>, usize)> {
+    match answer {
+        FixedAnswer::Done(_) => None,
+        FixedAnswer::Undecided(FixedTrail::Table { task, log }) => {
+            Some((*task, None, log.as_slice().len()))
+        }
+        FixedAnswer::Undecided(FixedTrail::Refine { task, vertex, log }) => {
+            Some((*task, Some(*vertex), log.as_slice().len()))
+        }
+    }
+}
+
+// That of the answer to a set by so many workers.
 pub(crate) fn trail_of<G: Gate, R: Threads + Wait + Sync>(
     rt: &R,
     alloc: Global,
@@ -137,13 +158,6 @@ pub(crate) fn trail_of<G: Gate, R: Threads + Wait + Sync>(
     gate: &G,
 ) -> Result<Option<(u32, Option<u32>, usize)>, Fail> {
     let set = make(alloc, Source::Text(text))?;
-    match answer_to(rt, alloc, &set, workers, budget, gate)? {
-        FixedAnswer::Done(_) => Ok(None),
-        FixedAnswer::Undecided(FixedTrail::Table { task, log }) => {
-            Ok(Some((task, None, log.as_slice().len())))
-        }
-        FixedAnswer::Undecided(FixedTrail::Refine { task, vertex, log }) => {
-            Ok(Some((task, Some(vertex), log.as_slice().len())))
-        }
-    }
+    let answer = answer_to(rt, alloc, &set, workers, budget, gate)?;
+    Ok(spent_at(&answer))
 }

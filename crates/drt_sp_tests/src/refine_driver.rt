@@ -2,39 +2,26 @@
 ghost use Rattle.std.specs.Prelude.{◌≡◌, ℕ, ◌≤◌, List, IsTrue, IfOk, IfSome, length, true, []};
 ghost use Rattle.drt_refine.specs.View.{IsFrontier};
 
-use crate::worked_trees::{tree, walk};
-use drt_label::Label;
+use crate::worked_trees::{Jobs, Worked, worked_tree};
 use drt_refine::{CombinationState, Frontier, FrontierEntry};
-use drt_request::RequestLabel;
 use drt_tree::Forest;
 use std::alloc::{AllocError as Memory, Global};
 use std::process::Abort;
-use std::sync::Arc;
 
 // The tree of two walks: one of 2 ticks, and one of 3 ticks.
 pub(crate) fn two_walks(rt: &impl Abort, alloc: Global) -> Result<(Forest, u32), Memory> {
-    let labels = [
-        Arc::new(alloc, RequestLabel::opening(alloc, 0, 3, 5)?)?,
-        Arc::new(alloc, RequestLabel::opening(alloc, 1, 2, 5)?)?,
-    ];
-    let walks = [walk(alloc, &[0])?, walk(alloc, &[1])?];
-    tree(rt, alloc, &labels, &walks)
+    let walks: [Worked<'_>; 2] = [(Jobs::One(0, 3), &[0]), (Jobs::One(1, 2), &[1])];
+    worked_tree(rt, alloc, &walks)
 }
 
 // The tree of three walks: one of 3 ticks, one of 2 ticks, and one of 2 ticks and 2 more after 4 ticks.
 pub(crate) fn three_walks(rt: &impl Abort, alloc: Global) -> Result<(Forest, u32), Memory> {
-    let twice = RequestLabel::opening(alloc, 1, 2, 5)?.extend(alloc, 4, 1, 2)?;
-    let labels = [
-        Arc::new(alloc, RequestLabel::opening(alloc, 0, 3, 5)?)?,
-        Arc::new(alloc, RequestLabel::opening(alloc, 1, 2, 5)?)?,
-        Arc::new(alloc, twice)?,
+    let walks: [Worked<'_>; 3] = [
+        (Jobs::One(0, 3), &[0]),
+        (Jobs::One(1, 2), &[1]),
+        (Jobs::Two, &[1, 1]),
     ];
-    let walks = [
-        walk(alloc, &[0])?,
-        walk(alloc, &[1])?,
-        walk(alloc, &[1, 1])?,
-    ];
-    tree(rt, alloc, &labels, &walks)
+    worked_tree(rt, alloc, &walks)
 }
 
 // The frontier of one tree.
@@ -51,8 +38,7 @@ pub(crate) fn frontier_of(
     let functions = forest.all();
     assert!(rt; (root as usize) < functions.len());
     assert!(rt; deadline as u64 <= functions[root as usize].bound());
-    assert!(rt; 1 <= deadline && deadline <= 1000);
-    assert!(rt; 1 <= budget && budget <= 1000);
+    assert!(rt; 1 <= deadline && deadline <= 1000 && 1 <= budget && budget <= 1000);
     Frontier::start(alloc, forest, &[root], 2, deadline, budget)
 }
 

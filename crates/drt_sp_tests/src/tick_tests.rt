@@ -1,9 +1,9 @@
 //! Sets answered by the analysis and by hand.
+use crate::answering::answer_to;
 use drt_claims::Evidence;
 use drt_fixtures::{Shape, make_set};
-use drt_graph::check;
 use drt_pool::OpenGate;
-use drt_sp::{FixedAnswer, analyse_fixed};
+use drt_sp::FixedAnswer;
 use std::alloc::Global;
 use std::sync::Wait;
 use std::test::Fail;
@@ -28,10 +28,7 @@ fn is_decided<R: Threads + Wait + Sync>(
     yes: bool,
 ) -> Result<bool, Fail> {
     let set = make_set(alloc, shapes)?.ok_or("within the limits")?;
-    let Ok(graphs) = check(alloc, &set) else {
-        return Err("constrained deadlines".into());
-    };
-    let answer = analyse_fixed(rt, alloc, &set, &graphs, 1, BUDGET, &OpenGate)?;
+    let answer = answer_to(rt, alloc, &set, 1, BUDGET, &OpenGate)?;
     Ok(verdict(&answer) == Some(yes))
 }
 
