@@ -28,7 +28,7 @@ use Rattle.drt_summary.specs.declared.summary.FixedVerdict.{FixedVerdict}
 use Rattle.drt_summary.specs.declared.summary.FixedVerdict.TheVariants as on_fixed
 use Rattle.drt_trails.specs.declared.EdfTrail.{EdfTrail}
 use Rattle.drt_trails.specs.declared.FixedTrail.{FixedTrail}
-use Rattle.drt_words.specs.Searches.{most_budget}
+use Rattle.drt_effort.specs.Efforts.{most_budget}
 use Rattle.drt_command_bench.specs.Bench.{AreCounts, EdfSays, FixedSays, HasCount}
 use Rattle.drt_check_fronts.proofs.Orders.{later}
 use Rattle.drt_command_edf.proofs.EdfLemmas.{one_alone, one_near, other_near, undecided_other}

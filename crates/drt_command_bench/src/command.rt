@@ -5,7 +5,7 @@ ghost use Rattle.drt_model.specs.Limits.{IsTaskSet};
 ghost use Rattle.drt_claims.specs.Claims.{graphs_of};
 ghost use Rattle.drt_edf.specs.Plans.{AreTooFine};
 ghost use Rattle.drt_gen.specs.Generated.{generated};
-ghost use Rattle.drt_words.specs.Searches.{most_workers};
+ghost use Rattle.drt_effort.specs.Efforts.{most_workers};
 ghost use Rattle.drt_summary.specs.declared.summary.EdfVerdict.{EdfVerdict};
 ghost use Rattle.drt_io.specs.Causes.{Rose};
 ghost use Rattle.drt_command.specs.declared.input.Input.{Input};

@@ -10,7 +10,7 @@ use std::marker::Model;
 pub const MOST_WORKERS: u32 = 16;
 
 /// The most steps that a search may take.
-pub const MOST_BUDGET: u64 = 1_000_000;
+pub const MOST_BUDGET: u32 = 1_000_000;
 
 /// How many workers search, 1 to 16, and how many steps each search may take, 1 to 1,000,000.
 #[derive(Clone, Copy, Debug, Drop)]

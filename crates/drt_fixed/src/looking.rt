@@ -89,13 +89,13 @@ pub(crate) fn search_next<G: Gate, R: Threads + Wait + Sync>(
         Some(Searched::Spent) | None => {}
         Some(searched) => return Ok(searched),
     }
-    let searched = search_at(crew, given, vertices, number, given.budget)?;
+    let searched = effort_at(crew, given, vertices, number, given.budget)?;
     ahead.count(&searched);
     Ok(searched)
 }
 
 // The search of the vertex of this number, by so many states at most.
-fn search_at<G: Gate, R: Threads + Wait + Sync>(
+fn effort_at<G: Gate, R: Threads + Wait + Sync>(
     crew: &Crew<'_, G, R>,
     given: Given<'_>,
     vertices: &[PlacedVertex],
@@ -164,7 +164,7 @@ fn search_ahead<G: Gate, R: Threads + Wait + Sync>(
             workers: 1,
             gate,
         };
-        search_at(&alone, given, left, place as usize, most)
+        effort_at(&alone, given, left, place as usize, most)
     };
     look_ahead(crew, first.as_slice(), job, is_last)
 }

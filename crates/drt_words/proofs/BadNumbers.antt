@@ -5,7 +5,7 @@ use Rattle.clap.specs.ValueTests.{is_unsigned_in}
 use Rattle.clap.specs.Walk.{Held, Text, Waiting, idle, arg_by_index, is_pending, next_position, nothing_held, positional_held, pushed, settled, takes_several, walked}
 use Rattle.clap.specs.Faults.{repeat_fault}
 use Rattle.drt_words.specs.Meaning.{meaning_of}
-use Rattle.drt_words.specs.Searches.{most_budget, most_workers}
+use Rattle.drt_effort.specs.Efforts.{most_budget, most_workers}
 use Rattle.drt_words.specs.Plain.{Searcher, searcher_word, GivesBadNumber, HaveNoDashes, Spells}
 use Rattle.drt_words.specs.Plain.{bad_workers, bad_budget, bad_bench, bad_margin_workers, bad_margin_budget}
 use Rattle.drt_words.proofs.BadOptions.{IsRefused, IsStrict, anywhere, before, stuck}

@@ -1,6 +1,6 @@
 -- Which options of one number each command has.
 use Rattle.std.proofs.Common.{codes, refl}
-use Rattle.drt_words.specs.Searches.{most_budget, most_workers}
+use Rattle.drt_effort.specs.Efforts.{most_budget, most_workers}
 use Rattle.drt_words.specs.Plain.{Searcher}
 use Rattle.drt_words.proofs.Entering.{bench_leaf, margin_leaf, search_leaf}
 use Rattle.drt_words.proofs.PlainWalks.{HasOption}

@@ -7,8 +7,8 @@ use Rattle.clap.specs.ValueTests.{is_unsigned_in}
 use Rattle.clap.specs.Simple.{Shape}
 use Rattle.clap.specs.Walk.{Held, Row, Rule, Text, has_row, idle, nothing_held, used, walk_from, with_default}
 use Rattle.drt_words.specs.Number.{whole_in}
-use Rattle.drt_words.specs.Searches.{most_workers}
-use Rattle.drt_words.specs.Meaning.{meaning_at, meaning_of, search_at}
+use Rattle.drt_effort.specs.Efforts.{most_workers}
+use Rattle.drt_words.specs.Meaning.{meaning_at, meaning_of, effort_at}
 use Rattle.drt_words.specs.Plain.{BeginsPlain, PlainOptions, neither, workers, budget, workers_first, budget_first}
 use Rattle.drt_words.specs.Plain.{IsPlain, plain_searcher, Searcher, for_edf, for_sp, for_response, for_assign, searcher_word, searcher_meaning}
 use Rattle.drt_words.specs.Plain.{plain_upgrade, plain_util, plain_check, plain_bench, plain_convert, plain_timeline, plain_timeline_back, IsPlainWhole, PlainWorkers, standard, given}
@@ -34,7 +34,7 @@ module _ (k : Searcher) where
   leaf = search_leaf k
 
   -- the name, and the numbers that the rows have, are the meaning
-  named : (rows : List Row) (m n : ℕ) → search_at rows ≡ Some (record { workers = m; budget = n }) → meaning_at (searcher_word k) rows ≡ Some (searcher_meaning k m n)
+  named : (rows : List Row) (m n : ℕ) → effort_at rows ≡ Some (record { workers = m; budget = n }) → meaning_at (searcher_word k) rows ≡ Some (searcher_meaning k m n)
   named rows m n e = go k
     where
       go : (k : Searcher) → meaning_at (searcher_word k) rows ≡ Some (searcher_meaning k m n)
@@ -46,7 +46,7 @@ module _ (k : Searcher) where
   -- what the rows of the options say
   record Says (rows : List Row) (m n : ℕ) : Type 0 where
     fine : last_fault leaf rows ≡ []
-    numbers : search_at (fold with_default rows both) ≡ Some (record { workers = m; budget = n })
+    numbers : effort_at (fold with_default rows both) ≡ Some (record { workers = m; budget = n })
 
   says : (words : List Text) (m n : ℕ) (o : PlainOptions words m n) → Says (options_rows words m n o []) m n
   unfolding clap_on_literals

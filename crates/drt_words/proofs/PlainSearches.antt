@@ -11,7 +11,7 @@ use Rattle.clap.specs.declared.builder.value_parser.Reading.{Reading}
 use Rattle.clap.specs.declared.parser.matches.ValueSource.{ValueSource}
 use Rattle.clap.specs.declared.parser.matches.ValueSource.TheVariants.{CommandLine, DefaultValue}
 use Rattle.drt_words.specs.Number.{number_in}
-use Rattle.drt_words.specs.Searches.{most_budget, most_workers}
+use Rattle.drt_effort.specs.Efforts.{most_budget, most_workers}
 use Rattle.drt_words.specs.Plain.{IsPlainNumber, BeginsPlain, Spells, PlainOptions, neither, workers, budget, workers_first, budget_first}
 use Rattle.drt_words.proofs.Entering.{budget_built, workers_built}
 use Rattle.drt_words.proofs.NumberLemmas.{digits_pass}

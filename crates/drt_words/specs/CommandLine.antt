@@ -4,7 +4,7 @@ use Rattle.clap.specs.Words.{App, Rule, Shape, Text, app_of, new_app, new_rule, 
 use Rattle.clap.specs.declared.builder.command.Command.{Command}
 use Rattle.clap.specs.declared.builder.ArgAction.TheVariants.{Set, SetTrue}
 use Rattle.clap.specs.declared.builder.ValueParser.TheVariants as vp
-use Rattle.drt_words.specs.Searches.{most_budget, most_workers}
+use Rattle.drt_effort.specs.Efforts.{most_budget, most_workers}
 
 -- An option of one whole number from 1 to `most`, with a default.
 abbrev pub number_rule : Text → ℕ → Text → Rule

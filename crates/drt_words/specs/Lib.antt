@@ -1,4 +1,3 @@
-pub mod Searches
 pub mod CommandLine
 pub mod Number
 pub mod Meaning

@@ -7,7 +7,7 @@ use Rattle.clap.specs.Words.{Row, Text, all_of, first_of, subcommand_of, fault_o
 use Rattle.clap.specs.Walk.{is_empty}
 use Rattle.drt_words.specs.CommandLine.{drt_app}
 use Rattle.drt_words.specs.Number.{number_in, whole_in}
-use Rattle.drt_words.specs.Searches.{Numbers, most_budget, most_workers}
+use Rattle.drt_effort.specs.Efforts.{Numbers, most_budget, most_workers}
 use Rattle.drt_words.specs.declared.meaning.Meaning.{Meaning}
 use Rattle.drt_words.specs.declared.meaning.Meaning.TheVariants.{Edf, Sp, Upgrade, Util, Check, Bench, Response, Convert, Timeline}
 use Rattle.drt_words.specs.declared.meaning.Meaning.TheVariants.{Assign, Margin}
@@ -17,9 +17,9 @@ use Rattle.drt_words.specs.declared.spot.Spot.{Spot}
 abbrev pub number_at : Text → ℕ → List Row → Option ℕ
 number_at name most rows = option_and_then (number_in most) (first_of name rows)
 
--- The numbers of a search, by its options.
-abbrev pub search_at : List Row → Option Numbers
-search_at rows = option_and_then (λ workers. option_map (λ budget. record { workers = workers; budget = budget })
+-- The workers and the steps of a search, by its options.
+abbrev pub effort_at : List Row → Option Numbers
+effort_at rows = option_and_then (λ workers. option_map (λ budget. record { workers = workers; budget = budget })
     (number_at (codes "budget") most_budget rows)) (number_at (codes "workers") most_workers rows)
 
 -- The word of a whole number.
@@ -55,25 +55,25 @@ abbrev pub named_at : List Row → Option Spot
 named_at rows = option_and_then (λ task. option_map (λ vertex. record { task = task; vertex = vertex })
     (first_of (codes "vertex") rows)) (first_of (codes "task") rows)
 
--- What `margin` asks for, by its search, its flag and its two names.
+-- What `margin` asks for, by its effort, its flag and its two names.
 abbrev pub margin_at : List Row → Option Meaning
-margin_at rows = option_and_then (λ search. option_map (λ spot. Margin (flag_at (codes "fixed") rows) spot search)
-    (named_at rows)) (search_at rows)
+margin_at rows = option_and_then (λ effort. option_map (λ spot. Margin (flag_at (codes "fixed") rows) spot effort)
+    (named_at rows)) (effort_at rows)
 
 -- What a command of this name asks for with these options, of those from `response` on.
 abbrev pub later_at : Text → List Row → Option Meaning
 later_at name rows =
-    if bytes_eq name (codes "response") then option_map Response (search_at rows)
+    if bytes_eq name (codes "response") then option_map Response (effort_at rows)
     else (if bytes_eq name (codes "convert") then Some Convert
     else (if bytes_eq name (codes "timeline") then timeline_at rows
-    else (if bytes_eq name (codes "assign") then option_map Assign (search_at rows)
+    else (if bytes_eq name (codes "assign") then option_map Assign (effort_at rows)
     else (if bytes_eq name (codes "margin") then margin_at rows else None))))
 
 -- What a command of this name asks for with these options.
 abbrev pub meaning_at : Text → List Row → Option Meaning
 meaning_at name rows =
-    if bytes_eq name (codes "edf") then option_map Edf (search_at rows)
-    else (if bytes_eq name (codes "sp") then option_map Sp (search_at rows)
+    if bytes_eq name (codes "edf") then option_map Edf (effort_at rows)
+    else (if bytes_eq name (codes "sp") then option_map Sp (effort_at rows)
     else (if bytes_eq name (codes "upgrade") then Some Upgrade
     else (if bytes_eq name (codes "util") then Some Util
     else (if bytes_eq name (codes "check") then Some Check

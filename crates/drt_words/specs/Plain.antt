@@ -6,7 +6,7 @@ use Rattle.std.specs.Str.{bytes_eq}
 use Rattle.std.specs.Str.Parse.{IsNumeral, digits_value}
 use Rattle.clap.specs.Lexer.{long_of, short_of}
 use Rattle.clap.specs.ValueTests.{is_unsigned_in}
-use Rattle.drt_words.specs.Searches.{most_budget, most_workers}
+use Rattle.drt_effort.specs.Efforts.{most_budget, most_workers}
 use Rattle.drt_words.specs.declared.meaning.Meaning.{Meaning}
 use Rattle.drt_words.specs.declared.meaning.Meaning.TheVariants.{Edf, Sp, Upgrade, Util, Check, Bench, Response, Convert, Timeline}
 use Rattle.drt_words.specs.declared.meaning.Meaning.TheVariants.{Assign, Margin}

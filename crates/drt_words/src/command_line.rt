@@ -6,9 +6,9 @@ ghost use Rattle.drt_words.specs.CommandLine.{IsMadeFrom, bare_app, bench_app, b
 ghost use Rattle.drt_words.specs.CommandLine.{name_rule, number_rule, pair_rule, search_app, timeline_app, whole_rule, with_bench};
 ghost use Rattle.drt_words.specs.CommandLine.{with_margin, with_plain, with_search, with_timeline, workers_rule};
 
-use crate::search::{MOST_BUDGET, MOST_WORKERS};
 use clap::builder::ValueParser;
 use clap::{Arg, ArgAction, Command};
+use drt_effort::{MOST_BUDGET, MOST_WORKERS};
 use std::alloc::{AllocError, Global};
 
 // An option of one whole number from 1 to `most`.

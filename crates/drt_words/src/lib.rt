@@ -9,14 +9,12 @@
 mod command_line;
 pub mod meaning;
 mod number;
-pub mod search;
 pub mod spot;
 pub mod word_laws;
 pub mod words;
 pub mod workers;
 
 pub use meaning::Meaning;
-pub use search::{MOST_BUDGET, MOST_WORKERS, Search};
 pub use spot::Spot;
 pub use words::{WordsError, words_of};
 pub use workers::Workers;

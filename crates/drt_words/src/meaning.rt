@@ -1,18 +1,18 @@
 //! What a list of words asks for.
-use crate::search::Search;
 use crate::spot::Spot;
 use crate::workers::Workers;
+use drt_effort::Effort;
 
 /// What a list of words asks for.
 #[derive(Debug, Drop)]
 pub enum Meaning {
     /// The answer under EDF.
     Edf {
-        search: Search,
+        effort: Effort,
     },
     /// The answer under fixed priorities.
     Sp {
-        search: Search,
+        effort: Effort,
     },
     /// The task file as one of version 2.
     Upgrade,
@@ -27,7 +27,7 @@ pub enum Meaning {
     },
     /// The greatest response time of each vertex, with releases that reach it.
     Response {
-        search: Search,
+        effort: Effort,
     },
     /// A file of sporadic and multiframe tasks, as a task file.
     Convert,
@@ -38,12 +38,12 @@ pub enum Meaning {
     },
     /// Priorities under which each task meets its deadlines.
     Assign {
-        search: Search,
+        effort: Effort,
     },
     /// By how much the worst-case execution time of a vertex can grow: under fixed priorities, or under EDF.
     Margin {
         fixed: bool,
         spot: Spot,
-        search: Search,
+        effort: Effort,
     },
 }

@@ -2,18 +2,18 @@
 ghost use Rattle.std.specs.Prelude.{◌≡◌, ◌≢◌, ◌≤◌, IfOk, IfSome, MatchResult, List, ℕ, None, Some, map, [], ◌∷◌, codes, option_map};
 ghost use Rattle.clap.specs.Words.{subcommand_of, subcommand_rows_of, fault_of, rows_of, found_of};
 ghost use Rattle.drt_words.specs.CommandLine.{drt_app};
-ghost use Rattle.drt_words.specs.Meaning.{bench_at, flag_at, later_at, margin_at, meaning_at, meaning_of, named_at, number_at, search_at};
+ghost use Rattle.drt_words.specs.Meaning.{bench_at, flag_at, later_at, margin_at, meaning_at, meaning_of, named_at, number_at, effort_at};
 ghost use Rattle.drt_words.specs.Meaning.{spot_at, timeline_at, whole_at};
 ghost use Rattle.drt_words.specs.declared.meaning.Meaning.TheVariants.{Assign, Edf, Response, Sp};
 
 use crate::command_line::drt;
 use crate::meaning::Meaning;
 use crate::number::{number_of, whole_of};
-use crate::search::{MOST_BUDGET, MOST_WORKERS, Search};
 use crate::spot::Spot;
 use crate::workers::Workers;
 use clap::ArgMatches;
 use clap::error::ErrorKind;
+use drt_effort::{Effort, MOST_BUDGET, MOST_WORKERS};
 use drt_model::{Memory, Name};
 use std::alloc::{AllocError, Global};
 use std::convert::AsStr;
@@ -55,13 +55,13 @@ fn number_option(matches: &ArgMatches, name: &str, most: u32) -> Option<u32>
     }
 }
 
-// The numbers of a search.
-fn search_in(matches: &ArgMatches) -> Option<Search>
-    ensures { result ≡ search_at (rows_of (found_of matches.now)) }
+// How many workers search, and how many steps each search may take.
+fn effort_in(matches: &ArgMatches) -> Option<Effort>
+    ensures { result ≡ effort_at (rows_of (found_of matches.now)) }
 {
     let workers = number_option(matches, "workers", MOST_WORKERS)?;
     let budget = number_option(matches, "budget", MOST_BUDGET)?;
-    Some(Search::new(workers, budget))
+    Some(Effort::new(workers, u64::from(budget)))
 }
 
 // The word of a whole number.
@@ -162,46 +162,46 @@ fn margin_in(alloc: Global, matches: &ArgMatches) -> Result<Meaning, WordsError>
     ensures meaning { IfOk result (λ m. margin_at (rows_of (found_of matches.now)) ≡ Some m) }
     ensures refused { result ≡ Err WordsError.Refused → margin_at (rows_of (found_of matches.now)) ≡ None }
 {
-    let search = search_in(matches).ok_or(WordsError::Refused)?;
+    let effort = effort_in(matches).ok_or(WordsError::Refused)?;
     let fixed = flag(matches, "fixed");
     let spot = named_in(alloc, matches)?;
     Ok(Meaning::Margin {
         fixed,
         spot,
-        search,
+        effort,
     })
 }
 
 // What `edf` asks for.
 fn edf_in(matches: &ArgMatches) -> Option<Meaning>
-    ensures { result ≡ option_map Edf (search_at (rows_of (found_of matches.now))) }
+    ensures { result ≡ option_map Edf (effort_at (rows_of (found_of matches.now))) }
 {
-    let search = search_in(matches)?;
-    Some(Meaning::Edf { search })
+    let effort = effort_in(matches)?;
+    Some(Meaning::Edf { effort })
 }
 
 // What `sp` asks for.
 fn sp_in(matches: &ArgMatches) -> Option<Meaning>
-    ensures { result ≡ option_map Sp (search_at (rows_of (found_of matches.now))) }
+    ensures { result ≡ option_map Sp (effort_at (rows_of (found_of matches.now))) }
 {
-    let search = search_in(matches)?;
-    Some(Meaning::Sp { search })
+    let effort = effort_in(matches)?;
+    Some(Meaning::Sp { effort })
 }
 
 // What `response` asks for.
 fn response_in(matches: &ArgMatches) -> Option<Meaning>
-    ensures { result ≡ option_map Response (search_at (rows_of (found_of matches.now))) }
+    ensures { result ≡ option_map Response (effort_at (rows_of (found_of matches.now))) }
 {
-    let search = search_in(matches)?;
-    Some(Meaning::Response { search })
+    let effort = effort_in(matches)?;
+    Some(Meaning::Response { effort })
 }
 
 // What `assign` asks for.
 fn assign_in(matches: &ArgMatches) -> Option<Meaning>
-    ensures { result ≡ option_map Assign (search_at (rows_of (found_of matches.now))) }
+    ensures { result ≡ option_map Assign (effort_at (rows_of (found_of matches.now))) }
 {
-    let search = search_in(matches)?;
-    Some(Meaning::Assign { search })
+    let effort = effort_in(matches)?;
+    Some(Meaning::Assign { effort })
 }
 
 // What a command of this name asks for with these options, where it's none of those before `response`.

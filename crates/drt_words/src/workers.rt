@@ -1,6 +1,6 @@
 //! How many workers take part.
 ghost use Rattle.std.specs.Prelude.{◌≡◌, ◌≤◌};
-ghost use Rattle.drt_words.specs.Searches.{most_workers};
+ghost use Rattle.drt_effort.specs.Efforts.{most_workers};
 
 use std::marker::Model;
 
@@ -12,7 +12,7 @@ pub struct Workers {
 
 impl Model for Workers {
     ghost use Rattle.std.specs.Prelude.{ℕ};
-    ghost use Rattle.drt_words.specs.Searches.{IsWorkers};
+    ghost use Rattle.drt_effort.specs.Efforts.{IsWorkers};
 
     ghost Value = { ℕ };
 
