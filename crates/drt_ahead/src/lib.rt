@@ -12,7 +12,6 @@ mod line;
 mod looking;
 mod sizes;
 
-pub use crew::Crew;
 pub use found::take_found;
 pub use looking::look_ahead;
 pub use sizes::{largest_first, shared_size};

@@ -3,9 +3,10 @@ ghost use Rattle.std.specs.Prelude.{◌≡◌, ◌<◌, ℕ, All, IfOk, Ok, leng
 ghost use denote.Param.Send.{IsSync, IsSend};
 ghost use Rattle.drt_ahead.specs.Found.{AreThere, AreAnswers};
 
-use crate::crew::{Crew, worker_count};
+use crate::crew::worker_count;
 use crate::found::{Answer, empty_places, put_answer};
 use crate::line::Line;
+use drt_crew::Crew;
 use drt_model::Memory;
 use drt_pool::Gate;
 use std::thread;

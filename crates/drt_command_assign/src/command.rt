@@ -20,10 +20,13 @@ ghost use Rattle.drt_command_assign.specs.Besides.{attempt_trail, report_of};
 ghost use Rattle.drt_command_assign.specs.Text.{no_order_text};
 
 use crate::text::print_stuck;
+use drt_accepted::Accepted;
 use drt_assign::{AssignAnswer, Stuck, assign, budgets_suffice_for_assign};
 use drt_claims::{Dossier, Evidence};
 use drt_command::{Promised, Report, Unmade, finish, read_input, stop_reading};
 use drt_command_files::{file_input, make_report, read_set};
+use drt_crew::Crew;
+use drt_effort::Effort;
 use drt_file::laws::texts_read_as_one_set;
 use drt_graph::Graphs;
 use drt_io::{Sink, Source};
@@ -33,7 +36,6 @@ use drt_outcome::outcome::{NO, Trail};
 use drt_pool::Gate;
 use drt_priorities::priorities_keep_limits;
 use drt_trails::FixedTrail;
-use drt_words::Search;
 use std::alloc::Global;
 use std::sync::Wait;
 use std::thread::Threads;
@@ -41,11 +43,11 @@ use std::thread::Threads;
 /// The command `assign`.
 #[derive(Debug, Drop)]
 pub struct Assign {
-    pub search: Search,
+    pub effort: Effort,
 }
 
 impl Promised for Assign {
-    ghost rules = { λ c. assign_rules c.search.budget };
+    ghost rules = { λ c. assign_rules c.effort.budget };
 
     fn laws(&self) {
         texts_read_as_one_set();
@@ -62,9 +64,9 @@ pub fn conduct<S: Source, K: Sink, G: Gate, R: Threads + Wait + Sync>(
     sink: &mut K,
     gate: &G,
 ) -> Outcome
-    ensures run { IsRun (assign_rules command.now.search.budget) (S.left source.old) (Rose (S.faults source.old) (S.faults source.new)) (Rose (K.faults sink.old) (K.faults sink.new)) (K.held sink.old) (K.held sink.new) result }
+    ensures run { IsRun (assign_rules command.now.effort.budget) (S.left source.old) (Rose (S.faults source.old) (S.faults source.new)) (Rose (K.faults sink.old) (K.faults sink.new)) (K.held sink.old) (K.held sink.new) result }
     ensures unwritten { 4 ≤ result.status → result.status ≢ 7 → sink.new ≡ sink.old }
-    ensures unread { (assign_rules command.now.search.budget).input ≡ Input.Nothing → source.new ≡ source.old }
+    ensures unread { (assign_rules command.now.effort.budget).input ≡ Input.Nothing → source.new ≡ source.old }
 {
     match read_input(alloc, file_input(), source) {
         Ok(bytes) => {
@@ -83,33 +85,35 @@ fn make<G: Gate, R: Threads + Wait + Sync>(
     bytes: &[u8],
     gate: &G,
 ) -> Result<Report, Unmade>
-    requires { IsWithin (assign_rules command.now.search.budget).input bytes.now }
-    ensures makes { IfOk result ((assign_rules command.now.search.budget).makes bytes.now) }
-    ensures unmade { IfErr result (IsCause (assign_rules command.now.search.budget).refuses bytes.now) }
+    requires { IsWithin (assign_rules command.now.effort.budget).input bytes.now }
+    ensures makes { IfOk result ((assign_rules command.now.effort.budget).makes bytes.now) }
+    ensures unmade { IfErr result (IsCause (assign_rules command.now.effort.budget).refuses bytes.now) }
 {
     let (set, graphs) = read_set(alloc, bytes)?;
-    answer(rt, alloc, bytes, set, &graphs, &command.search, gate)
+    let crew = Crew {
+        rt,
+        alloc,
+        effort: command.effort,
+        gate,
+    };
+    answer(&crew, bytes, &set, &graphs)
 }
 
-// The answer to an accepted set, by so many workers and with a budget of steps for each search.
+// The answer to an accepted set.
 fn answer<G: Gate, R: Threads + Wait + Sync>(
-    rt: &R,
-    alloc: Global,
+    crew: &Crew<'_, G, R>,
     bytes: &[u8],
-    set: TaskSet,
+    set: &TaskSet,
     graphs: &Graphs,
-    search: &Search,
-    gate: &G,
 ) -> Result<Report, Unmade>
-    requires accepted { IsAccepted bytes.now set }
-    requires graphs { graphs.now ≡ map digraph_of set.tasks }
-    ensures assigns { IfOk result ((assign_rules search.now.budget).makes bytes.now) }
+    requires accepted { IsAccepted bytes.now set.now }
+    requires graphs { graphs.now ≡ map digraph_of set.now.tasks }
+    ensures assigns { IfOk result ((assign_rules crew.now.effort.budget).makes bytes.now) }
     ensures unmade { IfErr result (λ e. e ≡ Unmade.Memory) }
 {
     priorities_keep_limits();
-    let budget = u64::from(search.budget());
-    match assign(rt, alloc, set, graphs, search.workers(), budget, gate) {
-        Ok(answer) => report_of(alloc, answer),
+    match assign(crew, &Accepted::of(set, graphs)) {
+        Ok(answer) => report_of(crew.alloc, answer),
         Err(_) => Err(Unmade::Memory),
     }
 }

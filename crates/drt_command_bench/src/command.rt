@@ -14,9 +14,12 @@ ghost use Rattle.drt_command.specs.Rules.{IsCause};
 ghost use Rattle.drt_command.specs.Runs.{IsRun};
 ghost use Rattle.drt_command_bench.specs.Bench.{AreCounts, Benches, EdfSays, FixedSays, bench_rules};
 
+use drt_accepted::Accepted;
 use drt_claims::Evidence;
 use drt_command::{Input, Promised, Report, Unmade, finish, read_input, stop_reading};
+use drt_crew::Crew;
 use drt_edf::{EdfAnswer, EdfTrail, analyse_edf};
+use drt_effort::{Effort, MOST_BUDGET};
 use drt_gen::{deadlines_are_constrained, generate, sets_keep_limits};
 use drt_gen_scale::scales_are_small;
 use drt_graph::{GraphError, Graphs, check};
@@ -28,7 +31,7 @@ use drt_outcome::outcome::{Trail, YES};
 use drt_pool::Gate;
 use drt_sp::{FixedAnswer, FixedTrail, analyse_fixed};
 use drt_summary::{EdfVerdict, FixedVerdict, Summary, print};
-use drt_words::{MOST_BUDGET, Workers};
+use drt_words::Workers;
 use std::alloc::Global;
 use std::sync::Wait;
 use std::thread::Threads;
@@ -85,9 +88,15 @@ fn make<G: Gate, R: Threads + Wait + Sync>(
     scales_are_small();
     let set = generate(alloc, command.number)?;
     let graphs = make_graphs(alloc, &set)?;
-    let workers = command.workers.count();
-    let edf = decide_edf(rt, alloc, &set, &graphs, workers, gate)?;
-    let fixed = decide_fixed(rt, alloc, &set, &graphs, workers, gate)?;
+    let crew = Crew {
+        rt,
+        alloc,
+        effort: Effort::new(command.workers.count(), u64::from(MOST_BUDGET)),
+        gate,
+    };
+    let accepted = Accepted::of(&set, &graphs);
+    let edf = decide_edf(&crew, &accepted)?;
+    let fixed = decide_fixed(&crew, &accepted)?;
     Ok(summarise(alloc, command.number, edf, fixed)?)
 }
 
@@ -120,31 +129,17 @@ fn make_graphs(alloc: Global, set: &TaskSet) -> Result<Graphs, Memory>
 
 // The answer under EDF.
 fn decide_edf<G: Gate, R: Threads + Wait + Sync>(
-    rt: &R,
-    alloc: Global,
-    set: &TaskSet,
-    graphs: &Graphs,
-    workers: u32,
-    gate: &G,
+    crew: &Crew<'_, G, R>,
+    set: &Accepted<'_>,
 ) -> Result<EdfFinding, Memory>
     requires limits { IsTaskSet 1 set.now.tasks }
-    requires constrained { AreConstrained set.now.tasks }
     requires fine { ¬ AreTooFine set.now.tasks }
-    requires graphs { graphs.now ≡ graphs_of set.now.tasks }
-    requires workers { (1 ≤ workers) × (workers ≤ most_workers) }
     ensures says { IfOk result (λ f. EdfSays set.now.tasks f.verdict f.trail) }
     ensures counts { IfOk result (λ f. f.verdict ≡ EdfVerdict.Yes → AreCounts set.now.tasks f.kept) }
     ensures no_counts { IfOk result (λ f. f.verdict ≢ EdfVerdict.Yes → f.kept ≡ []) }
 {
-    match analyse_edf(
-        rt,
-        alloc,
-        set,
-        graphs,
-        workers,
-        u64::from(MOST_BUDGET),
-        gate,
-    )? {
+    let alloc = crew.alloc;
+    match analyse_edf(crew, set)? {
         EdfAnswer::Done(Evidence::EdfYes { ratios: _, fronts }) => Ok(EdfFinding {
             verdict: EdfVerdict::Yes,
             kept: count_labels(alloc, fronts.as_slice())?,
@@ -196,27 +191,12 @@ fn count_labels(alloc: Global, fronts: &[Row<FrontEntry>]) -> Result<Row<u64>, M
 
 // The answer under fixed priorities.
 fn decide_fixed<G: Gate, R: Threads + Wait + Sync>(
-    rt: &R,
-    alloc: Global,
-    set: &TaskSet,
-    graphs: &Graphs,
-    workers: u32,
-    gate: &G,
+    crew: &Crew<'_, G, R>,
+    set: &Accepted<'_>,
 ) -> Result<FixedFinding, Memory>
-    requires constrained { AreConstrained set.now.tasks }
-    requires graphs { graphs.now ≡ graphs_of set.now.tasks }
-    requires workers { (1 ≤ workers) × (workers ≤ most_workers) }
     ensures { IfOk result (λ f. FixedSays set.now f.verdict f.trail) }
 {
-    match analyse_fixed(
-        rt,
-        alloc,
-        set,
-        graphs,
-        workers,
-        u64::from(MOST_BUDGET),
-        gate,
-    )? {
+    match analyse_fixed(crew, set)? {
         FixedAnswer::Done(Evidence::FixedYes { .. }) => Ok(FixedFinding {
             verdict: FixedVerdict::Yes,
             trail: None,

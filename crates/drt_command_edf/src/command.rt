@@ -10,10 +10,13 @@ ghost use Rattle.drt_command_edf.specs.Besides.{Besides, trail_of};
 ghost use Rattle.drt_command_edf.specs.Edf.{IsOutOfReach, beyond_code, edf_rules};
 ghost use Rattle.drt_command_files.specs.TaskFiles.{IsAccepted};
 
+use drt_accepted::Accepted;
 use drt_claims::Evidence;
 use drt_command::{Promised, Report, Unmade, finish, read_input, stop_reading};
 use drt_command_files::{file_input, make_report, read_set};
+use drt_crew::Crew;
 use drt_edf::{EdfAnswer, EdfTrail, analyse_edf};
+use drt_effort::Effort;
 use drt_file::laws::texts_read_as_one_set;
 use drt_graph::Graphs;
 use drt_horizon::Beyond;
@@ -23,7 +26,6 @@ use drt_outcome::Outcome;
 use drt_outcome::fault::{Fault, HORIZON_TOO_FAR, SCALE_TOO_FINE};
 use drt_outcome::outcome::Trail;
 use drt_pool::Gate;
-use drt_words::Search;
 use std::alloc::Global;
 use std::sync::Wait;
 use std::thread::Threads;
@@ -31,11 +33,11 @@ use std::thread::Threads;
 /// The command `edf`.
 #[derive(Debug, Drop)]
 pub struct Edf {
-    pub search: Search,
+    pub effort: Effort,
 }
 
 impl Promised for Edf {
-    ghost rules = { λ c. edf_rules c.search.budget };
+    ghost rules = { λ c. edf_rules c.effort.budget };
 
     fn laws(&self) {
         texts_read_as_one_set();
@@ -51,9 +53,9 @@ pub fn conduct<S: Source, K: Sink, G: Gate, R: Threads + Wait + Sync>(
     sink: &mut K,
     gate: &G,
 ) -> Outcome
-    ensures run { IsRun (edf_rules command.now.search.budget) (S.left source.old) (Rose (S.faults source.old) (S.faults source.new)) (Rose (K.faults sink.old) (K.faults sink.new)) (K.held sink.old) (K.held sink.new) result }
+    ensures run { IsRun (edf_rules command.now.effort.budget) (S.left source.old) (Rose (S.faults source.old) (S.faults source.new)) (Rose (K.faults sink.old) (K.faults sink.new)) (K.held sink.old) (K.held sink.new) result }
     ensures unwritten { 4 ≤ result.status → result.status ≢ 7 → sink.new ≡ sink.old }
-    ensures unread { (edf_rules command.now.search.budget).input ≡ Input.Nothing → source.new ≡ source.old }
+    ensures unread { (edf_rules command.now.effort.budget).input ≡ Input.Nothing → source.new ≡ source.old }
 {
     match read_input(alloc, file_input(), source) {
         Ok(bytes) => {
@@ -72,31 +74,34 @@ fn make<G: Gate, R: Threads + Wait + Sync>(
     bytes: &[u8],
     gate: &G,
 ) -> Result<Report, Unmade>
-    requires { IsWithin (edf_rules command.now.search.budget).input bytes.now }
-    ensures makes { IfOk result ((edf_rules command.now.search.budget).makes bytes.now) }
-    ensures unmade { IfErr result (IsCause (edf_rules command.now.search.budget).refuses bytes.now) }
+    requires { IsWithin (edf_rules command.now.effort.budget).input bytes.now }
+    ensures makes { IfOk result ((edf_rules command.now.effort.budget).makes bytes.now) }
+    ensures unmade { IfErr result (IsCause (edf_rules command.now.effort.budget).refuses bytes.now) }
 {
     let (set, graphs) = read_set(alloc, bytes)?;
-    decide(rt, alloc, bytes, set, &graphs, &command.search, gate)
+    let crew = Crew {
+        rt,
+        alloc,
+        effort: command.effort,
+        gate,
+    };
+    decide(&crew, bytes, set, &graphs)
 }
 
-// The answer to an accepted set, by so many workers and with a budget of steps for each search.
+// The answer to an accepted set.
 fn decide<G: Gate, R: Threads + Wait + Sync>(
-    rt: &R,
-    alloc: Global,
+    crew: &Crew<'_, G, R>,
     bytes: &[u8],
     set: TaskSet,
     graphs: &Graphs,
-    search: &Search,
-    gate: &G,
 ) -> Result<Report, Unmade>
     requires accepted { IsAccepted bytes.now set }
     requires graphs { graphs.now ≡ map digraph_of set.tasks }
-    ensures decides { IfOk result (Besides search.now.budget bytes.now) }
+    ensures decides { IfOk result (Besides crew.now.effort.budget bytes.now) }
     ensures unmade { IfErr result (IsCause IsOutOfReach bytes.now) }
 {
-    let budget = u64::from(search.budget());
-    match analyse_edf(rt, alloc, &set, graphs, search.workers(), budget, gate) {
+    let alloc = crew.alloc;
+    match analyse_edf(crew, &Accepted::of(&set, graphs)) {
         Ok(EdfAnswer::Done(evidence)) => {
             make_report(alloc, Policy::Edf, set, evidence, Trail::Nothing)
         }

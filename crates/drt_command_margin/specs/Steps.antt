@@ -11,10 +11,10 @@ use Rattle.drt_command_edf.specs.Edf.{beyond_code}
 use Rattle.drt_command_files.specs.Spots.{IsSpot}
 use Rattle.drt_command_margin.specs.Margin.{policy_of}
 use Rattle.drt_command_margin.specs.declared.command.Margin.{Margin}
-use Rattle.drt_command_margin.specs.declared.spot.Spot.{Spot}
+use Rattle.drt_margin.specs.declared.question.Question.{Question}
 
 -- It is the vertex that the command names, under its policy.
-pub record IsSpotOf (set : Contents) (command : Margin) (spot : Spot) : Type 0 where
+pub record IsSpotOf (set : Contents) (command : Margin) (spot : Question) : Type 0 where
   pub policy : spot.policy ≡ policy_of command.fixed
   pub named : IsSpot set.tasks command.task command.vertex spot.task spot.vertex
   pub vertex : IsVertexOf set.tasks spot.task spot.vertex

@@ -14,21 +14,21 @@ ghost use Rattle.drt_command_margin.specs.Besides.{IsReportOf, margin_trail};
 ghost use Rattle.drt_command_margin.specs.Margin.{IsProbed, margin_rules, policy_of};
 ghost use Rattle.drt_command_margin.specs.Steps.{IsProbeCause, IsSpotOf};
 
-use crate::spot::Spot;
 use crate::text::print_margin;
 use drt_claims::Evidence;
 use drt_command::{Promised, Report, Unmade, finish, read_input, stop_reading};
 use drt_command_files::{file_input, make_report, read_set, spot_of};
+use drt_crew::Crew;
+use drt_effort::Effort;
 use drt_file::laws::texts_read_as_one_set;
 use drt_horizon::Beyond;
 use drt_io::{Sink, Source};
-use drt_margin::{MarginAnswer, MarginTrail, margin, with_more};
+use drt_margin::{MarginAnswer, MarginTrail, Question, margin, with_more};
 use drt_model::{Policy, Row, TaskSet};
 use drt_outcome::Outcome;
 use drt_outcome::fault::{Fault, NO_SUCH_VERTEX};
 use drt_outcome::outcome::{Trail, YES};
 use drt_pool::Gate;
-use drt_words::Search;
 use std::alloc::Global;
 use std::sync::Wait;
 use std::thread::Threads;
@@ -39,11 +39,11 @@ pub struct Margin {
     pub fixed: bool,
     pub task: Row<u8>,
     pub vertex: Row<u8>,
-    pub search: Search,
+    pub effort: Effort,
 }
 
 impl Promised for Margin {
-    ghost rules = { λ c. margin_rules c.fixed c.task c.vertex c.search.budget };
+    ghost rules = { λ c. margin_rules c.fixed c.task c.vertex c.effort.budget };
 
     fn laws(&self) {
         texts_read_as_one_set();
@@ -59,9 +59,9 @@ pub fn conduct<S: Source, K: Sink, G: Gate, R: Threads + Wait + Sync>(
     sink: &mut K,
     gate: &G,
 ) -> Outcome
-    ensures run { IsRun (margin_rules command.now.fixed command.now.task command.now.vertex command.now.search.budget) (S.left source.old) (Rose (S.faults source.old) (S.faults source.new)) (Rose (K.faults sink.old) (K.faults sink.new)) (K.held sink.old) (K.held sink.new) result }
+    ensures run { IsRun (margin_rules command.now.fixed command.now.task command.now.vertex command.now.effort.budget) (S.left source.old) (Rose (S.faults source.old) (S.faults source.new)) (Rose (K.faults sink.old) (K.faults sink.new)) (K.held sink.old) (K.held sink.new) result }
     ensures unwritten { 4 ≤ result.status → result.status ≢ 7 → sink.new ≡ sink.old }
-    ensures unread { (margin_rules command.now.fixed command.now.task command.now.vertex command.now.search.budget).input ≡ Input.Nothing → source.new ≡ source.old }
+    ensures unread { (margin_rules command.now.fixed command.now.task command.now.vertex command.now.effort.budget).input ≡ Input.Nothing → source.new ≡ source.old }
 {
     match read_input(alloc, file_input(), source) {
         Ok(bytes) => {
@@ -80,13 +80,21 @@ fn make<G: Gate, R: Threads + Wait + Sync>(
     bytes: &[u8],
     gate: &G,
 ) -> Result<Report, Unmade>
-    requires { IsWithin (margin_rules command.now.fixed command.now.task command.now.vertex command.now.search.budget).input bytes.now }
-    ensures makes { IfOk result ((margin_rules command.now.fixed command.now.task command.now.vertex command.now.search.budget).makes bytes.now) }
-    ensures unmade { IfErr result (IsCause (margin_rules command.now.fixed command.now.task command.now.vertex command.now.search.budget).refuses bytes.now) }
+    requires { IsWithin (margin_rules command.now.fixed command.now.task command.now.vertex command.now.effort.budget).input bytes.now }
+    ensures makes { IfOk result ((margin_rules command.now.fixed command.now.task command.now.vertex command.now.effort.budget).makes bytes.now) }
+    ensures unmade { IfErr result (IsCause (margin_rules command.now.fixed command.now.task command.now.vertex command.now.effort.budget).refuses bytes.now) }
 {
     let (set, _graphs) = read_set(alloc, bytes)?;
     match spot_in(&set, command) {
-        Some(spot) => answer(rt, alloc, command, bytes, set, spot, gate),
+        Some(spot) => {
+            let crew = Crew {
+                rt,
+                alloc,
+                effort: command.effort,
+                gate,
+            };
+            answer(&crew, command, bytes, set, spot)
+        }
         None => Err(Unmade::Refused(Fault::Limit {
             code: NO_SUCH_VERTEX,
         })),
@@ -94,7 +102,7 @@ fn make<G: Gate, R: Threads + Wait + Sync>(
 }
 
 // The vertex that the command names, with its policy.
-fn spot_in(set: &TaskSet, command: &Margin) -> Option<Spot>
+fn spot_in(set: &TaskSet, command: &Margin) -> Option<Question>
     ensures { MatchOption result (NamesNone command.now.task command.now.vertex set.now.tasks) (IsSpotOf set.now command.now) }
 {
     let (task, vertex) = spot_of(set, command.task.as_slice(), command.vertex.as_slice())?;
@@ -104,7 +112,7 @@ fn spot_in(set: &TaskSet, command: &Margin) -> Option<Spot>
     } else {
         Policy::Edf
     };
-    Some(Spot {
+    Some(Question {
         policy,
         task: task as u32,
         vertex: vertex as u32,
@@ -120,32 +128,19 @@ fn keep_limits(set: &TaskSet)
 
 // The answer about the vertex of an accepted set.
 fn answer<G: Gate, R: Threads + Wait + Sync>(
-    rt: &R,
-    alloc: Global,
+    crew: &Crew<'_, G, R>,
     command: &Margin,
     bytes: &[u8],
     set: TaskSet,
-    spot: Spot,
-    gate: &G,
+    spot: Question,
 ) -> Result<Report, Unmade>
     requires accepted { IsAccepted bytes.now set }
     requires spot { IsSpotOf set command.now spot }
-    ensures makes { IfOk result ((margin_rules command.now.fixed command.now.task command.now.vertex command.now.search.budget).makes bytes.now) }
+    ensures makes { IfOk result ((margin_rules command.now.fixed command.now.task command.now.vertex crew.now.effort.budget).makes bytes.now) }
     ensures unmade { IfErr result (IsCause (IsProbed (policy_of command.now.fixed) command.now.task command.now.vertex) bytes.now) }
 {
-    let budget = u64::from(command.search.budget());
-    match margin(
-        rt,
-        alloc,
-        set,
-        spot.policy,
-        spot.task,
-        spot.vertex,
-        command.search.workers(),
-        budget,
-        gate,
-    ) {
-        Ok((set, answer)) => report_of(alloc, set, spot, answer),
+    match margin(crew, set, spot) {
+        Ok((set, answer)) => report_of(crew.alloc, set, spot, answer),
         Err(_) => Err(Unmade::Memory),
     }
 }
@@ -154,7 +149,7 @@ fn answer<G: Gate, R: Threads + Wait + Sync>(
 fn report_of(
     alloc: Global,
     set: TaskSet,
-    spot: Spot,
+    spot: Question,
     answer: MarginAnswer,
 ) -> Result<Report, Unmade>
     requires vertex { IsVertexOf set.tasks spot.task spot.vertex }

@@ -4,7 +4,6 @@
 #![tactic(auto)]
 
 mod command;
-mod spot;
 mod text;
 
 pub use command::{Margin, conduct};

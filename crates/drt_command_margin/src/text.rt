@@ -7,10 +7,9 @@ ghost use Rattle.drt_margin.specs.Answers.{IsFound, IsNext};
 ghost use Rattle.drt_margin.specs.Margin.{IsVertexOf, wcet_at};
 ghost use Rattle.drt_command_margin.specs.Text.{add_line, margin_text, next_text, with_evidence};
 
-use crate::spot::Spot;
 use drt_claims::{Dossier, Evidence};
 use drt_file::push_line;
-use drt_margin::{Next, wcet_of, with_more, with_wcet};
+use drt_margin::{Next, Question, wcet_of, with_more, with_wcet};
 use drt_model::{Memory, Row, TaskSet};
 use itoa::Buffer;
 use std::alloc::Global;
@@ -19,7 +18,7 @@ use std::alloc::Global;
 pub(crate) fn print_margin(
     alloc: Global,
     set: TaskSet,
-    spot: Spot,
+    spot: Question,
     add: u32,
     within: Evidence,
     next: Next,
@@ -52,7 +51,7 @@ fn push_next(
     alloc: Global,
     bytes: &mut Vec<u8>,
     set: TaskSet,
-    spot: Spot,
+    spot: Question,
     add: u32,
     next: Next,
 ) -> Result<(), Memory>
@@ -74,7 +73,7 @@ fn push_dossier(
     alloc: Global,
     bytes: &mut Vec<u8>,
     set: TaskSet,
-    spot: Spot,
+    spot: Question,
     add: u32,
     evidence: Evidence,
 ) -> Result<TaskSet, Memory>

@@ -14,9 +14,12 @@ ghost use Rattle.drt_command_response.specs.Besides.{Besides, response_trail};
 ghost use Rattle.drt_command_response.specs.Response.{response_rules};
 ghost use Rattle.drt_command_files.specs.TaskFiles.{IsAccepted};
 
+use drt_accepted::Accepted;
 use drt_claims::{Dossier, Evidence};
 use drt_command::{Promised, Report, Unmade, finish, read_input, stop_reading};
 use drt_command_files::{file_input, make_report, read_set};
+use drt_crew::Crew;
+use drt_effort::Effort;
 use drt_file::laws::texts_read_as_one_set;
 use drt_graph::Graphs;
 use drt_io::{Sink, Source};
@@ -27,7 +30,6 @@ use drt_pool::Gate;
 use drt_response::{
     Response, ResponseAnswer, ResponseTrail, budgets_suffice_for_responses, print, respond,
 };
-use drt_words::Search;
 use std::alloc::Global;
 use std::sync::Wait;
 use std::thread::Threads;
@@ -35,11 +37,11 @@ use std::thread::Threads;
 /// The command `response`.
 #[derive(Debug, Drop)]
 pub struct Responses {
-    pub search: Search,
+    pub effort: Effort,
 }
 
 impl Promised for Responses {
-    ghost rules = { λ c. response_rules c.search.budget };
+    ghost rules = { λ c. response_rules c.effort.budget };
 
     fn laws(&self) {
         texts_read_as_one_set();
@@ -56,9 +58,9 @@ pub fn conduct<S: Source, K: Sink, G: Gate, R: Threads + Wait + Sync>(
     sink: &mut K,
     gate: &G,
 ) -> Outcome
-    ensures run { IsRun (response_rules command.now.search.budget) (S.left source.old) (Rose (S.faults source.old) (S.faults source.new)) (Rose (K.faults sink.old) (K.faults sink.new)) (K.held sink.old) (K.held sink.new) result }
+    ensures run { IsRun (response_rules command.now.effort.budget) (S.left source.old) (Rose (S.faults source.old) (S.faults source.new)) (Rose (K.faults sink.old) (K.faults sink.new)) (K.held sink.old) (K.held sink.new) result }
     ensures unwritten { 4 ≤ result.status → result.status ≢ 7 → sink.new ≡ sink.old }
-    ensures unread { (response_rules command.now.search.budget).input ≡ Input.Nothing → source.new ≡ source.old }
+    ensures unread { (response_rules command.now.effort.budget).input ≡ Input.Nothing → source.new ≡ source.old }
 {
     match read_input(alloc, file_input(), source) {
         Ok(bytes) => {
@@ -77,52 +79,44 @@ fn make<G: Gate, R: Threads + Wait + Sync>(
     bytes: &[u8],
     gate: &G,
 ) -> Result<Report, Unmade>
-    requires { IsWithin (response_rules command.now.search.budget).input bytes.now }
-    ensures makes { IfOk result ((response_rules command.now.search.budget).makes bytes.now) }
-    ensures unmade { IfErr result (IsCause (response_rules command.now.search.budget).refuses bytes.now) }
+    requires { IsWithin (response_rules command.now.effort.budget).input bytes.now }
+    ensures makes { IfOk result ((response_rules command.now.effort.budget).makes bytes.now) }
+    ensures unmade { IfErr result (IsCause (response_rules command.now.effort.budget).refuses bytes.now) }
 {
     let (set, graphs) = read_set(alloc, bytes)?;
-    answer(rt, alloc, bytes, set, &graphs, &command.search, gate)
+    let crew = Crew {
+        rt,
+        alloc,
+        effort: command.effort,
+        gate,
+    };
+    answer(&crew, bytes, set, &graphs)
 }
 
-// The answer to an accepted set, by so many workers and with a budget of steps for each search.
+// The answer to an accepted set.
 fn answer<G: Gate, R: Threads + Wait + Sync>(
-    rt: &R,
-    alloc: Global,
+    crew: &Crew<'_, G, R>,
     bytes: &[u8],
     set: TaskSet,
     graphs: &Graphs,
-    search: &Search,
-    gate: &G,
 ) -> Result<Report, Unmade>
     requires accepted { IsAccepted bytes.now set }
     requires graphs { graphs.now ≡ map digraph_of set.tasks }
-    ensures responds { IfOk result (Besides search.now.budget bytes.now) }
+    ensures responds { IfOk result (Besides crew.now.effort.budget bytes.now) }
     ensures unmade { IfErr result (λ e. e ≡ Unmade.Memory) }
 {
-    let budget = u64::from(search.budget());
-    match respond(rt, alloc, set, graphs, search.workers(), budget, gate) {
+    let alloc = crew.alloc;
+    match respond(crew, &Accepted::of(&set, graphs)) {
         Ok(ResponseAnswer::Done(responses)) => print_responses(alloc, responses.as_slice()),
-        Ok(ResponseAnswer::Missed(dossier)) => refusal_of(alloc, dossier),
-        Ok(ResponseAnswer::Undecided { set, trail }) => make_report(
-            alloc,
-            Policy::Fixed,
-            set,
-            Evidence::Undecided,
-            make_trail(trail),
-        ),
+        Ok(ResponseAnswer::Missed(evidence)) => {
+            make_report(alloc, Policy::Fixed, set, evidence, Trail::Nothing)
+        }
+        Ok(ResponseAnswer::Undecided(trail)) => {
+            let trail = make_trail(trail);
+            make_report(alloc, Policy::Fixed, set, Evidence::Undecided, trail)
+        }
         Err(_) => Err(Unmade::Memory),
     }
-}
-
-// The report of a no: its dossier under fixed priorities.
-fn refusal_of(alloc: Global, dossier: Dossier) -> Result<Report, Unmade>
-    requires policy { dossier.policy ≡ Fixed }
-    ensures report { IfOk result (λ m. m ≡ record { status = evidence_status dossier.evidence; text = text dossier; trail = Trail.Nothing }) }
-    ensures unmade { IfErr result (λ e. e ≡ Unmade.Memory) }
-{
-    let Dossier { set, evidence, .. } = dossier;
-    make_report(alloc, Policy::Fixed, set, evidence, Trail::Nothing)
 }
 
 // The report of these responses.

@@ -13,9 +13,11 @@ ghost use Rattle.drt_command_sp.specs.Besides.{Besides, trail_after, trail_of};
 ghost use Rattle.drt_command_sp.specs.Sp.{sp_rules};
 ghost use Rattle.drt_command_files.specs.TaskFiles.{IsAccepted};
 
-use drt_claims::Dossier;
+use drt_accepted::Accepted;
 use drt_command::{Promised, Report, Unmade, finish, read_input, stop_reading};
 use drt_command_files::{file_input, make_report, read_set};
+use drt_crew::Crew;
+use drt_effort::Effort;
 use drt_file::laws::texts_read_as_one_set;
 use drt_fixed::{Analysed, analyse_fixed};
 use drt_graph::Graphs;
@@ -26,7 +28,6 @@ use drt_outcome::outcome::Trail;
 use drt_pool::Gate;
 use drt_sp::budgets_suffice;
 use drt_trails::FixedTrail;
-use drt_words::Search;
 use std::alloc::Global;
 use std::sync::Wait;
 use std::thread::Threads;
@@ -34,11 +35,11 @@ use std::thread::Threads;
 /// The command `sp`.
 #[derive(Debug, Drop)]
 pub struct Sp {
-    pub search: Search,
+    pub effort: Effort,
 }
 
 impl Promised for Sp {
-    ghost rules = { λ c. sp_rules c.search.budget };
+    ghost rules = { λ c. sp_rules c.effort.budget };
 
     fn laws(&self) {
         texts_read_as_one_set();
@@ -55,9 +56,9 @@ pub fn conduct<S: Source, K: Sink, G: Gate, R: Threads + Wait + Sync>(
     sink: &mut K,
     gate: &G,
 ) -> Outcome
-    ensures run { IsRun (sp_rules command.now.search.budget) (S.left source.old) (Rose (S.faults source.old) (S.faults source.new)) (Rose (K.faults sink.old) (K.faults sink.new)) (K.held sink.old) (K.held sink.new) result }
+    ensures run { IsRun (sp_rules command.now.effort.budget) (S.left source.old) (Rose (S.faults source.old) (S.faults source.new)) (Rose (K.faults sink.old) (K.faults sink.new)) (K.held sink.old) (K.held sink.new) result }
     ensures unwritten { 4 ≤ result.status → result.status ≢ 7 → sink.new ≡ sink.old }
-    ensures unread { (sp_rules command.now.search.budget).input ≡ Input.Nothing → source.new ≡ source.old }
+    ensures unread { (sp_rules command.now.effort.budget).input ≡ Input.Nothing → source.new ≡ source.old }
 {
     match read_input(alloc, file_input(), source) {
         Ok(bytes) => {
@@ -76,47 +77,48 @@ fn make<G: Gate, R: Threads + Wait + Sync>(
     bytes: &[u8],
     gate: &G,
 ) -> Result<Report, Unmade>
-    requires { IsWithin (sp_rules command.now.search.budget).input bytes.now }
-    ensures makes { IfOk result ((sp_rules command.now.search.budget).makes bytes.now) }
-    ensures unmade { IfErr result (IsCause (sp_rules command.now.search.budget).refuses bytes.now) }
+    requires { IsWithin (sp_rules command.now.effort.budget).input bytes.now }
+    ensures makes { IfOk result ((sp_rules command.now.effort.budget).makes bytes.now) }
+    ensures unmade { IfErr result (IsCause (sp_rules command.now.effort.budget).refuses bytes.now) }
 {
     let (set, graphs) = read_set(alloc, bytes)?;
-    analyse(rt, alloc, bytes, set, &graphs, &command.search, gate)
+    let crew = Crew {
+        rt,
+        alloc,
+        effort: command.effort,
+        gate,
+    };
+    analyse(&crew, bytes, set, &graphs)
 }
 
-// The answer to an accepted set, by so many workers and with a budget of steps for each search.
+// The answer to an accepted set.
 fn analyse<G: Gate, R: Threads + Wait + Sync>(
-    rt: &R,
-    alloc: Global,
+    crew: &Crew<'_, G, R>,
     bytes: &[u8],
     set: TaskSet,
     graphs: &Graphs,
-    search: &Search,
-    gate: &G,
 ) -> Result<Report, Unmade>
     requires accepted { IsAccepted bytes.now set }
     requires graphs { graphs.now ≡ map digraph_of set.tasks }
-    ensures analyses { IfOk result (Besides search.now.budget bytes.now) }
+    ensures analyses { IfOk result (Besides crew.now.effort.budget bytes.now) }
     ensures unmade { IfErr result (λ e. e ≡ Unmade.Memory) }
 {
-    let budget = u64::from(search.budget());
-    match analyse_fixed(rt, alloc, set, graphs, search.workers(), budget, gate) {
-        Ok(Analysed { dossier, trail }) => report_of(alloc, dossier, trail),
+    match analyse_fixed(crew, &Accepted::of(&set, graphs)) {
+        Ok(answer) => report_of(crew.alloc, set, answer),
         Err(_) => Err(Unmade::Memory),
     }
 }
 
-// The report of an answer: its dossier under fixed priorities, and the trail of a spent budget.
-fn report_of(alloc: Global, dossier: Dossier, trail: Option<FixedTrail>) -> Result<Report, Unmade>
-    requires policy { dossier.policy ≡ Fixed }
-    ensures report { IfOk result (λ m. m ≡ record { status = evidence_status dossier.evidence; text = text dossier; trail = trail_after trail }) }
+// The report of an answer: the dossier of the set under fixed priorities, and the trail of a spent budget.
+fn report_of(alloc: Global, set: TaskSet, answer: Analysed) -> Result<Report, Unmade>
+    ensures report { IfOk result (λ m. m ≡ record { status = evidence_status answer.evidence; text = text (under_fixed set answer.evidence); trail = trail_after answer.trail }) }
     ensures unmade { IfErr result (λ e. e ≡ Unmade.Memory) }
 {
+    let Analysed { evidence, trail } = answer;
     let trail = match trail {
         Some(spent) => make_trail(spent),
         None => Trail::Nothing,
     };
-    let Dossier { set, evidence, .. } = dossier;
     make_report(alloc, Policy::Fixed, set, evidence, trail)
 }
 

@@ -18,15 +18,15 @@ use Rattle.drt_command_timeline.specs.Response.{response_timeline_rules}
 
 -- The promises of the command that the words mean.
 abbrev pub rules_of : Meaning → Rules
-rules_of (means.Edf search) = edf_rules search.budget
-rules_of (means.Sp search) = sp_rules search.budget
+rules_of (means.Edf effort) = edf_rules effort.budget
+rules_of (means.Sp effort) = sp_rules effort.budget
 rules_of means.Upgrade = upgrade_rules
 rules_of means.Util = util_rules
 rules_of means.Check = check_rules
 rules_of (means.Bench workers number) = bench_rules number
-rules_of (means.Response search) = response_rules search.budget
+rules_of (means.Response effort) = response_rules effort.budget
 rules_of means.Convert = convert_rules
-rules_of (means.Assign search) = assign_rules search.budget
-rules_of (means.Margin fixed spot search) = margin_rules fixed spot.task spot.vertex search.budget
+rules_of (means.Assign effort) = assign_rules effort.budget
+rules_of (means.Margin fixed spot effort) = margin_rules fixed spot.task spot.vertex effort.budget
 rules_of (means.Timeline svg None) = timeline_rules svg
 rules_of (means.Timeline svg (Some spot)) = response_timeline_rules svg spot.task spot.vertex

@@ -101,8 +101,8 @@ fn dispatch<S: Source, K: Sink, G: Gate, R: Threads + Wait + Sync>(
     ensures unread { (rules_of meaning).input ≡ Input.Nothing → source.new ≡ source.old }
 {
     match meaning {
-        Meaning::Edf { search } => edf::conduct(rt, alloc, &Edf { search }, source, sink, gate),
-        Meaning::Sp { search } => sp::conduct(rt, alloc, &Sp { search }, source, sink, gate),
+        Meaning::Edf { effort } => edf::conduct(rt, alloc, &Edf { effort }, source, sink, gate),
+        Meaning::Sp { effort } => sp::conduct(rt, alloc, &Sp { effort }, source, sink, gate),
         Meaning::Upgrade => conduct(alloc, &Upgrade, source, sink),
         Meaning::Util => conduct(alloc, &Util, source, sink),
         Meaning::Check => conduct(alloc, &Check, source, sink),
@@ -110,24 +110,24 @@ fn dispatch<S: Source, K: Sink, G: Gate, R: Threads + Wait + Sync>(
             let command = Bench { workers, number };
             bench::conduct(rt, alloc, &command, source, sink, gate)
         }
-        Meaning::Response { search } => {
-            response::conduct(rt, alloc, &Responses { search }, source, sink, gate)
+        Meaning::Response { effort } => {
+            response::conduct(rt, alloc, &Responses { effort }, source, sink, gate)
         }
         Meaning::Convert => conduct(alloc, &Convert, source, sink),
-        Meaning::Assign { search } => {
-            assign::conduct(rt, alloc, &Assign { search }, source, sink, gate)
+        Meaning::Assign { effort } => {
+            assign::conduct(rt, alloc, &Assign { effort }, source, sink, gate)
         }
         Meaning::Margin {
             fixed,
             spot,
-            search,
+            effort,
         } => {
             let Spot { task, vertex } = spot;
             let command = Margin {
                 fixed,
                 task: Row::from_vec(task.into_vec()),
                 vertex: Row::from_vec(vertex.into_vec()),
-                search,
+                effort,
             };
             margin::conduct(rt, alloc, &command, source, sink, gate)
         }

@@ -13,10 +13,10 @@ pub returns-in-Ok-clause-makes : goal.returns-in-Ok-clause-makes
 returns-in-Ok-clause-makes g c =
     let s = c.args.spot in
     let command = c.args.command.now in
-    let is : c.from-budget.result ≡ command.search.budget = c.from-budget.ensures ∙ c.budget.ensures.is in
+    let is : c.from-budget.result ≡ command.effort.budget = c.from-budget.ensures ∙ c.budget.ensures.is in
     let found = subst (λ (n : ℕ). IsMarginAnswer c.args.set s.policy s.task s.vertex n c.in-Ok.answer) is c.in-Ok.ensures.answer in
     let told = subst (λ (x : Contents). IfOk c.report_of.result (IsReportOf s.policy x s.task s.vertex c.in-Ok.answer)) c.in-Ok.ensures.same c.report_of.ensures.report in
-    subst (λ (p : Policy). IfOk c.report_of.result (λ (m : Report). Verdict p command.task command.vertex c.args.bytes.now m × Besides p command.task command.vertex command.search.budget c.args.bytes.now m))
+    subst (λ (p : Policy). IfOk c.report_of.result (λ (m : Report). Verdict p command.task command.vertex c.args.bytes.now m × Besides p command.task command.vertex command.effort.budget c.args.bytes.now m))
     c.requires.spot.policy
-    (made_of s.policy command.task command.vertex c.args.bytes.now c.args.set s.task s.vertex command.search.budget c.requires.accepted c.requires.spot.named c.in-Ok.answer found
+    (made_of s.policy command.task command.vertex c.args.bytes.now c.args.set s.task s.vertex command.effort.budget c.requires.accepted c.requires.spot.named c.in-Ok.answer found
     c.report_of.result told)
