@@ -1,4 +1,6 @@
-use drt_ahead::{Crew, look_ahead, take_found};
+use drt_ahead::{look_ahead, take_found};
+use drt_crew::Crew;
+use drt_effort::Effort;
 use drt_meeting::Meeting;
 use drt_model::Memory;
 use drt_pool::{EagerGate, Gate};
@@ -8,6 +10,11 @@ use std::thread::Threads;
 
 // Six jobs, whose answers are their places times ten.
 const ORDER: [u32; 6] = [0, 3, 1, 4, 2, 5];
+
+// So many workers, 1 to 16, with one step for each search.
+fn effort_of(workers: u32) -> Effort {
+    Effort::new(workers.clamp(1, 16), 1)
+}
 
 // What so many workers find of the jobs, where one of them fails for memory, and the answer of one is last.
 fn find<G: Gate, R: Threads + Sync>(
@@ -48,7 +55,7 @@ fn finds<R: Threads + Sync>(
     let crew = Crew {
         rt,
         alloc,
-        workers,
+        effort: effort_of(workers),
         gate: &EagerGate,
     };
     let mut found = find(&crew, failing, last)?;
@@ -90,7 +97,7 @@ fn is_begun_together<R: Threads + Sync>(rt: &R, alloc: Global) -> Result<bool, M
     let crew = Crew {
         rt,
         alloc,
-        workers: 2,
+        effort: effort_of(2),
         gate: &gate,
     };
     let found = find(&crew, NONE, NEVER)?;

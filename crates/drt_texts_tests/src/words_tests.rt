@@ -1,4 +1,5 @@
-use drt_words::{Meaning, Search, Spot, words_of};
+use drt_effort::Effort;
+use drt_words::{Meaning, Spot, words_of};
 use std::alloc::Global;
 use std::test::Fail;
 
@@ -14,21 +15,21 @@ fn meaning_of(alloc: Global, words: &[&str]) -> Option<Meaning> {
 fn means_edf(alloc: Global, words: &[&str], budget: u32) -> bool {
     let meaning = meaning_of(alloc, words);
     match &meaning {
-        Some(Meaning::Edf { search }) => search.budget() == budget,
+        Some(Meaning::Edf { effort }) => effort.budget() == u64::from(budget),
         _ => false,
     }
 }
 
-// Whether these are the numbers of this search.
-fn has_numbers(search: &Search, workers: u32, budget: u32) -> bool {
-    search.workers() == workers && search.budget() == budget
+// Whether the effort is that of so many workers and so many steps.
+fn has_numbers(effort: &Effort, workers: u32, budget: u32) -> bool {
+    effort.workers() == workers && effort.budget() == u64::from(budget)
 }
 
 // Whether these words mean `response` with so many workers and so many steps.
 fn means_response(alloc: Global, words: &[&str], workers: u32, budget: u32) -> bool {
     let meaning = meaning_of(alloc, words);
     match &meaning {
-        Some(Meaning::Response { search }) => has_numbers(search, workers, budget),
+        Some(Meaning::Response { effort }) => has_numbers(effort, workers, budget),
         _ => false,
     }
 }
@@ -37,7 +38,7 @@ fn means_response(alloc: Global, words: &[&str], workers: u32, budget: u32) -> b
 fn means_assign(alloc: Global, words: &[&str], workers: u32, budget: u32) -> bool {
     let meaning = meaning_of(alloc, words);
     match &meaning {
-        Some(Meaning::Assign { search }) => has_numbers(search, workers, budget),
+        Some(Meaning::Assign { effort }) => has_numbers(effort, workers, budget),
         _ => false,
     }
 }
@@ -99,12 +100,12 @@ fn means_margin(
             Meaning::Margin {
                 fixed,
                 spot,
-                search,
+                effort,
             },
         ) => {
             *fixed == flag
                 && has_names(spot, names.0, names.1)
-                && has_numbers(search, numbers.0, numbers.1)
+                && has_numbers(effort, numbers.0, numbers.1)
         }
         _ => false,
     }
