@@ -19,5 +19,5 @@ mod streams;
 pub use arcs::Arc;
 pub use lists::Lists;
 pub use mark::Mark;
-pub use merging::merged_front;
+pub use merging::{Patience, merged_front};
 pub use offering::Outcome;

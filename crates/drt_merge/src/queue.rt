@@ -61,6 +61,14 @@ impl Queue {
         }
     }
 
+    /// The offset of the candidate of an arc, and the greatest number where it has none.
+    pub fn offset(&self, arc: u32) -> u64 {
+        match self.candidates.get(arc as usize) {
+            Some(mark) => mark.offset,
+            None => NONE.offset,
+        }
+    }
+
     /// Sets the candidate of an arc.
     pub fn set(&mut self, arc: u32, mark: Option<Mark>) {
         let candidate = mark.unwrap_or(NONE);

@@ -13,6 +13,24 @@ use crate::queue::Queue;
 use drt_graph::Graph;
 use drt_model::Memory;
 
+/// What is merged: the walks of a graph that are due within the bound, in ticks; with its arcs, and the number of the first arc out of each
+/// vertex.
+#[derive(Clone, Copy)]
+pub struct Walks<'a> {
+    pub graph: &'a Graph,
+    pub bound: u64,
+    pub arcs: &'a [Arc],
+    pub starts: &'a [u32],
+}
+
+/// How far the merging has come: the marks of each vertex, the cursor of each arc, and the arcs' candidates.
+#[derive(Drop)]
+pub struct Merging {
+    pub lists: Lists,
+    pub cursors: Vec<usize>,
+    pub queue: Queue,
+}
+
 // The candidate that the mark at a place gives by an arc, where it is due within the bound.
 fn candidate(graph: &Graph, bound: u64, lists: &Lists, arc: Arc, place: usize) -> Option<Mark>
     requires bound { bound ≤ 1099511627776 }
@@ -64,80 +82,59 @@ fn first_uncovered(graph: &Graph, bound: u64, lists: &Lists, arc: Arc, from: usi
 }
 
 /// Moves the cursor of an arc past the marks whose candidates are covered, and sets the next candidate in the queue.
-pub fn refresh(
-    graph: &Graph,
-    bound: u64,
-    arcs: &[Arc],
-    lists: &Lists,
-    cursors: &mut [usize],
-    queue: &mut Queue,
-    k: u32,
-)
-    requires bound { bound ≤ 1099511627776 }
-    requires arcs { AreArcs graph.now arcs.now }
-    requires merging { IsMerging graph.now bound arcs.now lists.now cursors.old }
-    requires arc { k < length arcs.now }
-    ensures { IsMerging graph.now bound arcs.now lists.now cursors.new }
+pub fn refresh(walks: Walks<'_>, merging: &mut Merging, k: u32)
+    requires bound { walks.bound ≤ 1099511627776 }
+    requires arcs { AreArcs walks.graph.now walks.arcs.now }
+    requires merging { IsMerging walks.graph.now walks.bound walks.arcs.now merging.old.lists merging.old.cursors.items }
+    requires arc { k < length walks.arcs.now }
+    ensures { IsMerging walks.entry.graph.now walks.entry.bound walks.entry.arcs.now merging.new.lists merging.new.cursors.items }
 {
-    let arc = arcs[k as usize];
-    let place = first_uncovered(graph, bound, lists, arc, cursors[k as usize]);
-    cursors[k as usize] = place;
-    queue.set(k, candidate(graph, bound, lists, arc, place));
+    let arc = walks.arcs[k as usize];
+    let from = merging.cursors[k as usize];
+    let place = first_uncovered(walks.graph, walks.bound, &merging.lists, arc, from);
+    merging.cursors[k as usize] = place;
+    let next = candidate(walks.graph, walks.bound, &merging.lists, arc, place);
+    merging.queue.set(k, next);
 }
 
 /// Does the same for each arc without a candidate, of those with a number of at least `from` and below `to`.
-pub fn wake(
-    graph: &Graph,
-    bound: u64,
-    arcs: &[Arc],
-    lists: &Lists,
-    cursors: &mut [usize],
-    queue: &mut Queue,
-    from: u32,
-    to: u32,
-)
-    requires bound { bound ≤ 1099511627776 }
-    requires arcs { AreArcs graph.now arcs.now }
-    requires merging { IsMerging graph.now bound arcs.now lists.now cursors.old }
-    requires within { to ≤ length arcs.now }
-    ensures { IsMerging graph.now bound arcs.now lists.now cursors.new }
+pub fn wake(walks: Walks<'_>, merging: &mut Merging, from: u32, to: u32)
+    requires bound { walks.bound ≤ 1099511627776 }
+    requires arcs { AreArcs walks.graph.now walks.arcs.now }
+    requires merging { IsMerging walks.graph.now walks.bound walks.arcs.now merging.old.lists merging.old.cursors.items }
+    requires within { to ≤ length walks.arcs.now }
+    ensures { IsMerging walks.entry.graph.now walks.entry.bound walks.entry.arcs.now merging.new.lists merging.new.cursors.items }
 {
     'arcs: for k in from..to {
-        if !queue.has(k) {
-            refresh(graph, bound, arcs, lists, cursors, queue, k);
+        if !merging.queue.has(k) {
+            refresh(walks, merging, k);
         }
     }
 }
 
 /// Offers the candidate of an arc.
-pub fn step(
-    graph: &Graph,
-    bound: u64,
-    arcs: &[Arc],
-    lists: &mut Lists,
-    cursors: &mut [usize],
-    k: u32,
-) -> Result<Outcome, Memory>
-    requires bound { bound ≤ 1099511627776 }
-    requires arcs { AreArcs graph.now arcs.now }
-    requires merging { IsMerging graph.now bound arcs.now lists.old cursors.old }
-    requires arc { k < length arcs.now }
-    ensures { IfOk result (λ offer. IsMerging graph.now bound arcs.now lists.new cursors.new) }
+pub fn step(walks: Walks<'_>, merging: &mut Merging, k: u32) -> Result<Outcome, Memory>
+    requires bound { walks.bound ≤ 1099511627776 }
+    requires arcs { AreArcs walks.graph.now walks.arcs.now }
+    requires merging { IsMerging walks.graph.now walks.bound walks.arcs.now merging.old.lists merging.old.cursors.items }
+    requires arc { k < length walks.arcs.now }
+    ensures { IfOk result (λ offer. IsMerging walks.entry.graph.now walks.entry.bound walks.entry.arcs.now merging.new.lists merging.new.cursors.items) }
 {
+    let Walks { graph, bound, .. } = walks;
     let _count = graph.vertex_count();
-    let arc = arcs[k as usize];
-    let place = cursors[k as usize];
-    let Some(mark) = candidate(graph, bound, lists, arc, place) else {
+    let arc = walks.arcs[k as usize];
+    let place = merging.cursors[k as usize];
+    let Some(mark) = candidate(graph, bound, &merging.lists, arc, place) else {
         return Ok(Outcome::Astray);
     };
-    let offered = offer(graph, bound, lists, arc.target, mark)?;
+    let offered = offer(graph, bound, &mut merging.lists, arc.target, mark)?;
     match offered {
         Outcome::Kept => {
-            cursors[k as usize] = place + 1;
+            merging.cursors[k as usize] = place + 1;
             Ok(Outcome::Kept)
         }
         Outcome::Covered => {
-            cursors[k as usize] = place + 1;
+            merging.cursors[k as usize] = place + 1;
             Ok(Outcome::Covered)
         }
         Outcome::Astray => Ok(Outcome::Astray),
@@ -145,14 +142,21 @@ pub fn step(
 }
 
 /// Whether no arc has a candidate.
-pub fn are_spent(graph: &Graph, bound: u64, arcs: &[Arc], lists: &Lists, cursors: &[usize]) -> bool
-    requires bound { bound ≤ 1099511627776 }
-    requires arcs { AreArcs graph.now arcs.now }
-    requires merging { IsMerging graph.now bound arcs.now lists.now cursors.now }
-    ensures { IsTrue result ↔ AreSpentTo bound arcs.now lists.now cursors.now (length arcs.now) }
+pub fn are_spent(walks: Walks<'_>, merging: &Merging) -> bool
+    requires bound { walks.bound ≤ 1099511627776 }
+    requires arcs { AreArcs walks.graph.now walks.arcs.now }
+    requires merging { IsMerging walks.graph.now walks.bound walks.arcs.now merging.now.lists merging.now.cursors.items }
+    ensures { IsTrue result ↔ AreSpentTo walks.entry.bound walks.entry.arcs.now merging.now.lists merging.now.cursors.items (length walks.entry.arcs.now) }
 {
-    'arcs: for k in 0..arcs.len() {
-        match candidate(graph, bound, lists, arcs[k], cursors[k]) {
+    'arcs: for k in 0..walks.arcs.len() {
+        let place = merging.cursors[k];
+        match candidate(
+            walks.graph,
+            walks.bound,
+            &merging.lists,
+            walks.arcs[k],
+            place,
+        ) {
             Some(_) => return false,
             None => (),
         }

@@ -5,7 +5,7 @@ use drt_drawn::{Draws, drawn_set};
 use drt_fixtures::shapes::RETURNING;
 use drt_fixtures::{Shape, make_set};
 use drt_graph::check;
-use drt_merge::merged_front;
+use drt_merge::{Patience, merged_front};
 use drt_model::FrontEntry;
 use std::alloc::Global;
 use std::test::Fail;
@@ -34,9 +34,29 @@ fn has_front(
     }
     let set = make_set(alloc, &[shape])?.ok_or("within the limits")?;
     let graphs = check(alloc, &set)?;
-    match merged_front(alloc, graphs.graph(0), bound, budget)? {
+    let graph = graphs.graph(0);
+    match merged_front(alloc, graph, bound, budget, Patience::ToTheEnd)? {
         Some(front) => Ok(front.as_slice() == wanted),
         None => Ok(wanted.is_empty()),
+    }
+}
+
+// Whether that is the front of the task's walks up to the bound with the greatest budget, which is enough, so it isn't given up.
+fn has_front_in_hope(
+    alloc: Global,
+    shape: Shape<'_>,
+    bound: u64,
+    wanted: &[FrontEntry],
+) -> Result<bool, Fail> {
+    if bound > 1000 {
+        return Err("a bound of at most 1,000".into());
+    }
+    let set = make_set(alloc, &[shape])?.ok_or("within the limits")?;
+    let graphs = check(alloc, &set)?;
+    let graph = graphs.graph(0);
+    match merged_front(alloc, graph, bound, 1000000, Patience::WhileHopeful)? {
+        Some(front) => Ok(front.as_slice() == wanted),
+        None => Ok(false),
     }
 }
 
@@ -70,6 +90,8 @@ fn fronts_have_the_undominated_labels_within_the_budget(rt: HostRuntime) -> Resu
             has_front(rt.alloc(), shape, bound, budget, wanted)?,
             "up to {bound} with {budget}"
         );
+        let is_kept = budget < 1000000 || has_front_in_hope(rt.alloc(), shape, bound, wanted)?;
+        assert!(rt; is_kept, "up to {bound} in hope");
     }
     Ok(())
 }
@@ -81,7 +103,7 @@ fn have_fronts(alloc: Global, draws: &mut Draws, bound: u64) -> Result<bool, Fai
     let set = drawn_set(alloc, draws)?.ok_or("within the limits")?;
     let graphs = check(alloc, &set)?;
     for i in 0..graphs.count() {
-        if merged_front(alloc, graphs.graph(i), bound, 1000000)?.is_none() {
+        if merged_front(alloc, graphs.graph(i), bound, 1000000, Patience::ToTheEnd)?.is_none() {
             return Ok(false);
         }
     }

@@ -6,7 +6,7 @@ ghost use Rattle.drt_tails.specs.Attained.{IsAttained};
 use crate::cutting::curves_of;
 use crate::turning::turned_graphs;
 use drt_graph::Graph;
-use drt_merge::merged_front;
+use drt_merge::{Patience, merged_front};
 use drt_model::{Memory, Row};
 use drt_states::TailClaim;
 use std::alloc::Global;
@@ -30,7 +30,7 @@ pub fn find_tail(
     let Some(turned) = turned_graphs(alloc, graph)? else {
         return Ok(None);
     };
-    let Some(front) = merged_front(alloc, turned.graph(0), bound, budget)? else {
+    let Some(front) = merged_front(alloc, turned.graph(0), bound, budget, Patience::ToTheEnd)? else {
         return Ok(None);
     };
     let curves = curves_of(alloc, front.as_slice(), count)?;

@@ -4,6 +4,6 @@ use Rattle.drt_merge.proofs.merging.take_all.Given as goal
 
 abbrev pub invariant-turns : goal.invariant-turns
 invariant-turns l = record {
-  merging : IsMerging l.graph l.bound l.arcs l.lists l.cursors;
+  merging : IsMerging l.walks.graph.now l.walks.bound l.walks.arcs.now l.merging.lists l.merging.cursors.items;
   steps : l.steps ≤ l.budget;
 }
