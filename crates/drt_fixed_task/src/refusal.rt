@@ -41,14 +41,15 @@ pub(crate) fn refuse(
     ensures { IfOk result (IsDecided given.entry.set.now.tasks given.entry.task) }
 {
     requests_miss();
-    let _tasks = given.set.tasks();
-    let deadline = given.graphs.graph(given.task).vertex(vertex).deadline;
+    given.set.keep_limits();
+    let graphs = given.set.graphs();
+    let deadline = graphs.graph(given.task).vertex(vertex).deadline;
     let cut = Cut {
         vertex,
         end: deadline,
     };
     let chosen = job_walks(alloc, given, walks, cut)?;
-    let releases = all_releases(alloc, given.graphs, chosen.as_slice(), LAST_DEADLINE)?;
+    let releases = all_releases(alloc, graphs, chosen.as_slice(), LAST_DEADLINE)?;
     Ok(TaskAnswer::Misses {
         releases: Row::from_vec(releases),
         miss: Miss {
@@ -73,7 +74,7 @@ fn job_walks(
 {
     let mut chosen = Vec::new(alloc);
     let mut place = 0;
-    'tasks: for k in 0..given.graphs.count() {
+    'tasks: for k in 0..given.set.graphs().count() {
         chosen.push(job_walk(alloc, given, walks, place, cut, k)?)?;
         if is_higher(given.set, k, given.task) {
             place += 1;
@@ -98,7 +99,12 @@ fn job_walk(
     ensures { IfOk result (λ walk. walk ≡ job_walk given.entry.set.now.tasks walks.now given.entry.task cut.vertex cut.end k) }
 {
     if is_higher(given.set, k, given.task) {
-        return cut_walk(alloc, given.graphs.graph(k), cut.end, walk_of(walks, place));
+        return cut_walk(
+            alloc,
+            given.set.graphs().graph(k),
+            cut.end,
+            walk_of(walks, place),
+        );
     }
     let mut alone = Vec::new(alloc);
     if k == given.task {

@@ -39,12 +39,12 @@ use Rattle.drt_sp_task.specs.declared.trees.HigherTrees.{HigherTrees}
 
 module _ (g : Given) (order_is : IsOrder g.set.now.tasks g.order.now) where
   -- The graph of a task among those of the set.
-  pub graph_here : (graphs : List Digraph) → graphs ≡ map digraph_of g.set.now.tasks → (k : ℕ) → k < length g.set.now.tasks → (graph : Digraph) → graph ≡ graph_of graphs k
+  pub graph_here : {graphs : List Digraph} {graph : Digraph} → graphs ≡ map digraph_of g.set.now.tasks → (k : ℕ) → k < length g.set.now.tasks → graph ≡ graph_of graphs k
       → graph ≡ graph_at g.set.now.tasks k
-  graph_here graphs own k l graph at = at ∙ (ap (λ gs. graph_of gs k) own ∙ graph_same g.set.now.tasks k l)
+  graph_here own k l at = at ∙ (ap (λ gs. graph_of gs k) own ∙ graph_same g.set.now.tasks k l)
 
-  pub graph_within : (graphs : List Digraph) → graphs ≡ map digraph_of g.set.now.tasks → (k : ℕ) → k < length g.set.now.tasks → k < length graphs
-  graph_within graphs own k l = omega (arith, l, ap length own, length-map g.set.now.tasks digraph_of)
+  pub graph_within : {graphs : List Digraph} → graphs ≡ map digraph_of g.set.now.tasks → (k : ℕ) → k < length g.set.now.tasks → k < length graphs
+  graph_within own k l = omega (arith, l, ap length own, length-map g.set.now.tasks digraph_of)
 
   -- Each task has its place.
   pub task_place : (k : ℕ) → k < length g.set.now.tasks → (i : ℕ) × (slice_get g.order.now i ≡ Some k)

@@ -16,7 +16,7 @@ use std::thread::Threads;
 
 /// Decides whether one task of a set with constrained deadlines meets its deadlines under its priority, whatever the tasks of lower
 /// priority do, and whether or not those of higher priority meet theirs. The workers of the crew take part as in `analyse_fixed` of
-/// `drt_sp`, and the gate sees each of their turns. Each search and each refinement ends after the steps of the crew's budget at the latest.
+/// `drt_sp`, and the gate sees each of their turns. Each search and each refinement takes at most the crew's budget of steps.
 ///
 /// First the walks of each task of higher priority are searched up to the greatest deadline of the set, for its tree. Then each vertex of
 /// the task is proved, in file order, against these trees. The first search or refinement that spends its budget ends the analysis, and the

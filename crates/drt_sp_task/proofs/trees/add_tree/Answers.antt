@@ -16,7 +16,8 @@ use Rattle.drt_sp_task.proofs.trees.add_tree.Goals as goal
 pub graph-requires : goal.graph-requires
 graph-requires g c =
     let given : Given = c.args.given in
-    graph_within given c.requires.order c.graphs-graphs.result.now c.graphs-graphs.ensures.graphs (get_or given.order.now c.args.place 0) (order_below given.set.now.tasks given.order.now c.requires.order c.args.place c.requires.here)
+    graph_within given c.requires.order c.graphs-graphs.ensures.graphs (get_or given.order.now c.args.place 0)
+    (order_below given.set.now.tasks given.order.now c.requires.order c.args.place c.requires.here)
 
 pub search_tree-requires-clause-room : goal.search_tree-requires-clause-room
 search_tree-requires-clause-room g c =
@@ -31,7 +32,7 @@ returns-in_ok-push-in-Tree g c =
     let k = get_or order place 0 in
     let at : slice_get order place ≡ Some k = at_place tasks order c.requires.order place c.requires.here in
     let below : k < length tasks = order_below tasks order c.requires.order place c.requires.here in
-    let graph : c.graph.result.now ≡ graph_at tasks k = graph_here given c.requires.order c.graphs-graphs.result.now c.graphs-graphs.ensures.graphs k below c.graph.result.now c.graph.ensures.graph in
+    let graph : c.graph.result.now ≡ graph_at tasks k = graph_here given c.requires.order c.graphs-graphs.ensures.graphs k below c.graph.ensures.graph in
     let latest : c.greatest_deadline.result ≡ greatest_deadline tasks = c.greatest_deadline.ensures.value ∙ ap (λ (s : Contents). greatest_deadline s.tasks) c.set.ensures.set in
     let t : IsTaskTree (graph_at tasks k) (greatest_deadline tasks) c.args.trees.now.forest c.search_tree.new.forest c.in-Tree.tree
     = rw (c.in-Tree.is, graph, latest) at c.in_ok-tree.ensures in
@@ -47,7 +48,7 @@ returns-in-Spent g c =
     let k = get_or order place 0 in
     let at : slice_get order place ≡ Some k = at_place tasks order c.requires.order place c.requires.here in
     let below : k < length tasks = order_below tasks order c.requires.order place c.requires.here in
-    let graph : c.graph.result.now ≡ graph_at tasks k = graph_here given c.requires.order c.graphs-graphs.result.now c.graphs-graphs.ensures.graphs k below c.graph.result.now c.graph.ensures.graph in
+    let graph : c.graph.result.now ≡ graph_at tasks k = graph_here given c.requires.order c.graphs-graphs.ensures.graphs k below c.graph.ensures.graph in
     let latest : c.greatest_deadline.result ≡ greatest_deadline tasks = c.greatest_deadline.ensures.value ∙ ap (λ (s : Contents). greatest_deadline s.tasks) c.set.ensures.set in
     let spent : IsSpentSearch (graph_at tasks k) (greatest_deadline tasks) c.args.crew.now.effort.budget c.in-Spent.log
     = rw (c.in-Spent.is, graph, latest, c.budget-effort.ensures.is) at c.in_ok-tree.ensures in

@@ -22,7 +22,7 @@ pub prove_vertices-requires-clause-roots : goal.prove_vertices-requires-clause-r
 prove_vertices-requires-clause-roots g c κs within =
     let given : Given = c.args.given in
     let k = c.args.task in
-    let graph : c.graph.result.now ≡ graph_at given.set.now.tasks k = graph_here given c.requires.order c.graphs-graphs.result.now c.graphs-graphs.ensures.graphs k c.requires.task c.graph.result.now c.graph.ensures.graph in
+    let graph : c.graph.result.now ≡ graph_at given.set.now.tasks k = graph_here given c.requires.order c.graphs-graphs.ensures.graphs k c.requires.task c.graph.ensures.graph in
     rw (graph, c.as_slice.ensures.value) (chosen_here given c.requires.order c.keep_limits.ensures.limits k c.args.trees.now c.requires.trees c.show_sound.ensures)
 
 pub returns-in-Passed : goal.returns-in-Passed
@@ -31,7 +31,7 @@ returns-in-Passed g c =
     let tasks : List Task = given.set.now.tasks in
     let k = c.args.task in
     let trees : HigherTrees = c.args.trees.now in
-    let graph : c.graph.result.now ≡ graph_at tasks k = graph_here given c.requires.order c.graphs-graphs.result.now c.graphs-graphs.ensures.graphs k c.requires.task c.graph.result.now c.graph.ensures.graph in
+    let graph : c.graph.result.now ≡ graph_at tasks k = graph_here given c.requires.order c.graphs-graphs.ensures.graphs k c.requires.task c.graph.ensures.graph in
     let came : AreVertexProofs trees.forest trees.roots.items (graph_at tasks k) k (vertex_count (graph_at tasks k)) c.in-Passed._proofs
     = rw (c.in-Passed.is, graph, c.as_slice.ensures.value) at c.in_ok-_proofs.ensures in
     meeting given c.requires.order c.keep_limits.ensures.limits k trees c.requires.trees c.show_sound.ensures c.leaves_pass.ensures c.times_suffice_for_task.ensures c.keep_limits.ensures.constrained
@@ -44,7 +44,7 @@ find_miss-requires-clause-failed g c =
     let k = c.args.task in
     let v = c.in-Failed.vertex in
     let trees : HigherTrees = c.args.trees.now in
-    let graph : c.graph.result.now ≡ graph_at tasks k = graph_here given c.requires.order c.graphs-graphs.result.now c.graphs-graphs.ensures.graphs k c.requires.task c.graph.result.now c.graph.ensures.graph in
+    let graph : c.graph.result.now ≡ graph_at tasks k = graph_here given c.requires.order c.graphs-graphs.ensures.graphs k c.requires.task c.graph.ensures.graph in
     let came : IsStop trees.forest trees.roots.items (graph_at tasks k) v
     × IsFailure trees.forest (wcet (graph_at tasks k) v) (deadline (graph_at tasks k) v) trees.roots.items c.in-Failed.tuple
     = rw (c.in-Failed.is, graph, c.as_slice.ensures.value) at c.in_ok-_proofs.ensures in
@@ -58,7 +58,7 @@ returns-in-Spent g c =
     let v = c.in-Spent.vertex in
     let budget = c.args.crew.now.effort.budget in
     let trees : HigherTrees = c.args.trees.now in
-    let graph : c.graph.result.now ≡ graph_at tasks k = graph_here given c.requires.order c.graphs-graphs.result.now c.graphs-graphs.ensures.graphs k c.requires.task c.graph.result.now c.graph.ensures.graph in
+    let graph : c.graph.result.now ≡ graph_at tasks k = graph_here given c.requires.order c.graphs-graphs.ensures.graphs k c.requires.task c.graph.ensures.graph in
     let came : IsStop trees.forest trees.roots.items (graph_at tasks k) v
     × IsSpentRefinement trees.forest (wcet (graph_at tasks k) v) (deadline (graph_at tasks k) v) trees.roots.items budget c.in-Spent.log
     = rw (c.in-Spent.is, graph, c.as_slice.ensures.value, c.budget-budget.ensures.is) at c.in_ok-_proofs.ensures in (
