@@ -10,7 +10,8 @@ ghost use Rattle.drt_assign.specs.Steps.{AreAhead, AreOpen, IsCourse, IsTried};
 
 use crate::answer::Stuck;
 use crate::rounds::{Course, try_task};
-use drt_ahead::{Crew, look_ahead, take_found};
+use drt_ahead::{look_ahead, take_found};
+use drt_crew::Crew;
 use drt_model::{Memory, TaskSet};
 use drt_pool::{Gate, OpenGate};
 use drt_priorities::copy_of;
@@ -50,15 +51,16 @@ pub(crate) fn look_further<G: Gate, R: Threads + Wait + Sync>(
     stuck: &[Stuck],
     ahead: Ahead,
 ) -> Result<Ahead, Memory>
-    requires course { IsCourse (prioritised set.now.tasks course.now.old.now) course.now.graphs.now course.now.old.now course.now.workers course.now.budget }
+    requires course { IsCourse (prioritised set.now.tasks course.now.old.now) course.now.graphs.now course.now.old.now }
     requires ranks { AreRanks (length set.now.tasks) open_count ranks.now }
-    requires ahead { AreAhead (prioritised set.now.tasks course.now.old.now) ranks.now open_count course.now.budget ahead }
-    ensures { IfOk result (AreAhead (prioritised set.now.tasks course.now.old.now) ranks.now open_count course.now.budget) }
+    requires ahead { AreAhead (prioritised set.now.tasks course.now.old.now) ranks.now open_count course.now.crew.now.effort.budget ahead }
+    ensures { IfOk result (AreAhead (prioritised set.now.tasks course.now.old.now) ranks.now open_count course.now.crew.now.effort.budget) }
 {
     if has_from(&ahead.tasks, task) || !are_worth(course, set, stuck) {
         return Ok(ahead);
     }
-    let tasks = next_open(course.alloc, ranks, task, course.workers)?;
+    let crew = course.crew;
+    let tasks = next_open(crew.alloc, ranks, task, crew.effort.workers())?;
     let found = try_apart(course, set, ranks, open_count, &tasks)?;
     Ok(Ahead { tasks, found })
 }
@@ -72,13 +74,13 @@ pub(crate) fn take_or_try<G: Gate, R: Threads + Wait + Sync>(
     task: u32,
     ahead: &mut Ahead,
 ) -> Result<(TaskSet, TaskAnswer), Memory>
-    requires course { IsCourse (prioritised set.tasks course.now.old.now) course.now.graphs.now course.now.old.now course.now.workers course.now.budget }
+    requires course { IsCourse (prioritised set.tasks course.now.old.now) course.now.graphs.now course.now.old.now }
     requires ranks { AreRanks (length set.tasks) open_count ranks.now }
     requires task { task < length ranks.now }
     requires is_open { slice_index ranks.now task ≡ 0 }
-    requires ahead { AreAhead (prioritised set.tasks course.now.old.now) ranks.now open_count course.now.budget ahead.old }
-    ensures tried { IfOk result (λ r. IsTried (prioritised set.tasks course.now.old.now) ranks.now open_count task course.now.budget r.0 r.1) }
-    ensures ahead { AreAhead (prioritised set.tasks course.now.old.now) ranks.now open_count course.now.budget ahead.new }
+    requires ahead { AreAhead (prioritised set.tasks course.now.old.now) ranks.now open_count course.now.crew.now.effort.budget ahead.old }
+    ensures tried { IfOk result (λ r. IsTried (prioritised set.tasks course.now.old.now) ranks.now open_count task course.now.crew.now.effort.budget r.0 r.1) }
+    ensures ahead { AreAhead (prioritised set.tasks course.now.old.now) ranks.now open_count course.now.crew.now.effort.budget ahead.new }
 {
     if let Some(place) = place_of(&ahead.tasks, task) {
         if let Some(tried) = take_found(&mut ahead.found, place) {
@@ -91,7 +93,7 @@ pub(crate) fn take_or_try<G: Gate, R: Threads + Wait + Sync>(
 // Whether trials are worth workers of their own: one failed, and they are large, or the gate may wait for another worker.
 fn are_worth<G: Gate, R>(course: &Course<'_, G, R>, set: &TaskSet, stuck: &[Stuck]) -> bool {
     match stuck.last() {
-        Some(one) => course.gate.alone() == 0 || step_count(set, one) >= LARGE,
+        Some(one) => course.crew.gate.alone() == 0 || step_count(set, one) >= LARGE,
         None => false,
     }
 }
@@ -145,24 +147,24 @@ fn try_apart<G: Gate, R: Threads + Wait + Sync>(
     open_count: u32,
     tasks: &[u32],
 ) -> Result<Vec<Option<(TaskSet, TaskAnswer)>>, Memory>
-    requires course { IsCourse (prioritised set.now.tasks course.now.old.now) course.now.graphs.now course.now.old.now course.now.workers course.now.budget }
+    requires course { IsCourse (prioritised set.now.tasks course.now.old.now) course.now.graphs.now course.now.old.now }
     requires ranks { AreRanks (length set.now.tasks) open_count ranks.now }
     requires tasks { AreOpen ranks.now tasks.now }
     requires few { length tasks.now ≤ 16 }
-    ensures { IfOk result (λ found. (i : ℕ) (r : Contents × Answer) → slice_index_or found.items i None ≡ Some r → IsTried (prioritised set.now.tasks course.now.old.now) ranks.now open_count (slice_index tasks.now i) course.now.budget r.0 r.1) }
+    ensures { IfOk result (λ found. (i : ℕ) (r : Contents × Answer) → slice_index_or found.items i None ≡ Some r → IsTried (prioritised set.now.tasks course.now.old.now) ranks.now open_count (slice_index tasks.now i) course.now.crew.now.effort.budget r.0 r.1) }
 {
-    let crew = Crew {
-        rt: course.rt,
-        alloc: course.alloc,
-        workers: course.workers,
-        gate: course.gate,
+    let crew = drt_ahead::Crew {
+        rt: course.crew.rt, // bridge
+        alloc: course.crew.alloc, // bridge
+        workers: course.crew.effort.workers(), // bridge
+        gate: course.crew.gate, // bridge
     };
-    let order = all_places(course.alloc, tasks)?;
+    let order = all_places(crew.alloc, tasks)?;
     let try_place = |place: u32| -> Result<(TaskSet, TaskAnswer), Memory>
         requires { IsSync R.row × IsSync G.row
-            × IsCourse (prioritised set.now.tasks course.now.old.now) course.now.graphs.now course.now.old.now course.now.workers course.now.budget
+            × IsCourse (prioritised set.now.tasks course.now.old.now) course.now.graphs.now course.now.old.now
             × AreRanks (length set.now.tasks) open_count ranks.now × AreOpen ranks.now tasks.now × (place < length tasks.now) }
-        ensures { IfOk result (λ r. IsTried (prioritised set.entry.now.tasks course.entry.now.old.now) ranks.entry.now open_count (slice_index tasks.entry.now place) course.entry.now.budget r.0 r.1) }
+        ensures { IfOk result (λ r. IsTried (prioritised set.entry.now.tasks course.entry.now.old.now) ranks.entry.now open_count (slice_index tasks.entry.now place) course.entry.now.crew.now.effort.budget r.0 r.1) }
     { try_copy(course, set, ranks, open_count, tasks[place as usize]) };
     look_ahead(&crew, &order, try_place, doesnt_miss)
 }
@@ -184,22 +186,24 @@ fn try_copy<G: Gate, R: Threads + Wait + Sync>(
     open_count: u32,
     task: u32,
 ) -> Result<(TaskSet, TaskAnswer), Memory>
-    requires course { IsCourse (prioritised set.now.tasks course.now.old.now) course.now.graphs.now course.now.old.now course.now.workers course.now.budget }
+    requires course { IsCourse (prioritised set.now.tasks course.now.old.now) course.now.graphs.now course.now.old.now }
     requires ranks { AreRanks (length set.now.tasks) open_count ranks.now }
     requires task { task < length ranks.now }
     requires is_open { slice_index ranks.now task ≡ 0 }
-    ensures { IfOk result (λ r. IsTried (prioritised set.now.tasks course.now.old.now) ranks.now open_count task course.now.budget r.0 r.1) }
+    ensures { IfOk result (λ r. IsTried (prioritised set.now.tasks course.now.old.now) ranks.now open_count task course.now.crew.now.effort.budget r.0 r.1) }
 {
-    let alone = Course {
-        rt: course.rt,
-        alloc: course.alloc,
-        graphs: course.graphs,
-        old: course.old,
-        workers: 1,
-        budget: course.budget,
+    let crew = Crew {
+        rt: course.crew.rt,
+        alloc: course.crew.alloc,
+        effort: course.crew.effort.alone(),
         gate: &OpenGate,
     };
-    try_task(&alone, copy_of(course.alloc, set)?, ranks, open_count, task)
+    let alone = Course {
+        crew: &crew,
+        graphs: course.graphs,
+        old: course.old,
+    };
+    try_task(&alone, copy_of(crew.alloc, set)?, ranks, open_count, task)
 }
 
 // Whether an answer ends a round.

@@ -7,6 +7,8 @@ ghost use Rattle.drt_assign.specs.Steps.{IsCourse, IsRound, IsTried};
 use crate::ahead::{look_further, nothing_ahead, take_or_try};
 use crate::answer::Stuck;
 use crate::trial::trial_priorities;
+use drt_accepted::Accepted;
+use drt_crew::Crew;
 use drt_fixed_task::decide_task;
 use drt_graph::Graphs;
 use drt_model::{Memory, Row, TaskSet};
@@ -14,21 +16,16 @@ use drt_pool::Gate;
 use drt_priorities::prioritise;
 use drt_sp_task::TaskAnswer;
 use drt_trails::FixedTrail;
-use std::alloc::Global;
 use std::sync::Wait;
 use std::thread::Threads;
 
-/// What stays over all rounds: the graphs of the tasks and the priorities that they have in the file; and who decides of a task, and with
-/// how many steps.
+/// What stays over all rounds: who decides of a task, and with how many steps; the graphs of the tasks; and the priorities that they have in
+/// the file.
 #[derive(Drop)]
 pub(crate) struct Course<'a, G, R> {
-    pub(crate) rt: &'a R,
-    pub(crate) alloc: Global,
+    pub(crate) crew: &'a Crew<'a, G, R>,
     pub(crate) graphs: &'a Graphs,
     pub(crate) old: &'a [u32],
-    pub(crate) workers: u32,
-    pub(crate) budget: u64,
-    pub(crate) gate: &'a G,
 }
 
 /// How a round ends. The set comes back with some priorities.
@@ -62,13 +59,13 @@ pub(crate) fn find_next<G: Gate, R: Threads + Wait + Sync>(
     ranks: &[u32],
     open_count: u32,
 ) -> Result<Round, Memory>
-    requires course { IsCourse (prioritised set.tasks course.now.old.now) course.now.graphs.now course.now.old.now course.now.workers course.now.budget }
+    requires course { IsCourse (prioritised set.tasks course.now.old.now) course.now.graphs.now course.now.old.now }
     requires ranks { AreRanks (length set.tasks) open_count ranks.now }
-    ensures { IfOk result (IsRound (prioritised set.tasks course.now.old.now) course.now.old.now ranks.now open_count course.now.budget) }
+    ensures { IfOk result (IsRound (prioritised set.tasks course.now.old.now) course.now.old.now ranks.now open_count course.now.crew.now.effort.budget) }
 {
     let mut set = set;
-    let mut stuck = Vec::new(course.alloc);
-    let mut ahead = nothing_ahead(course.alloc);
+    let mut stuck = Vec::new(course.crew.alloc);
+    let mut ahead = nothing_ahead(course.crew.alloc);
     'tasks: for k in 0..ranks.len() {
         if ranks[k] == 0 {
             let task = k as u32;
@@ -104,23 +101,14 @@ pub(crate) fn try_task<G: Gate, R: Threads + Wait + Sync>(
     open_count: u32,
     task: u32,
 ) -> Result<(TaskSet, TaskAnswer), Memory>
-    requires course { IsCourse (prioritised set.tasks course.now.old.now) course.now.graphs.now course.now.old.now course.now.workers course.now.budget }
+    requires course { IsCourse (prioritised set.tasks course.now.old.now) course.now.graphs.now course.now.old.now }
     requires ranks { AreRanks (length set.tasks) open_count ranks.now }
     requires task { task < length ranks.now }
     requires is_open { slice_index ranks.now task ≡ 0 }
-    ensures { IfOk result (λ r. IsTried (prioritised set.tasks course.now.old.now) ranks.now open_count task course.now.budget r.0 r.1) }
+    ensures { IfOk result (λ r. IsTried (prioritised set.tasks course.now.old.now) ranks.now open_count task course.now.crew.now.effort.budget r.0 r.1) }
 {
-    let priorities = trial_priorities(course.alloc, ranks, open_count, task)?;
+    let priorities = trial_priorities(course.crew.alloc, ranks, open_count, task)?;
     let set = prioritise(set, 2, &priorities);
-    let answer = decide_task(
-        course.rt,
-        course.alloc,
-        &set,
-        course.graphs,
-        task,
-        course.workers,
-        course.budget,
-        course.gate,
-    )?;
+    let answer = decide_task(course.crew, &Accepted::of(&set, course.graphs), task)?;
     Ok((set, answer))
 }
