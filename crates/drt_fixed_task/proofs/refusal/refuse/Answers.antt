@@ -29,7 +29,8 @@ all_releases-requires-clause-walks c =
     let walks : ℕ → List ℕ = walk_at c.as_slice.result.now in
     let same : (i : ℕ) → i < length set.tasks → walks i ≡ job_walk set.tasks c.args.walks.now k v n i
     = λ i l. ap (λ (ws : List (List ℕ)). walk_at ws i) c.as_slice.ensures.value ∙ c.in_ok-chosen.ensures.each i l in
-    due_walks set.tasks c.args.walks.now k v n set.version c.keep_limits.ensures.limits c.requires.walks.are given.task c.requires.vertex small walks same c.graphs-graphs.result.now c.graphs-graphs.ensures.graphs
+    due_walks set.tasks c.args.walks.now k v n set.version c.keep_limits.ensures.limits c.requires.walks.are given.task c.requires.vertex small walks same c.graphs-graphs.result.now
+    c.graphs-graphs.ensures.graphs
 
 pub returns : goal.returns
 returns c =
