@@ -5,7 +5,7 @@ ghost use Rattle.drt_assign.specs.Steps.{IsCourse, IsRanking};
 
 use crate::answer::Stuck;
 use crate::rounds::{Course, Round, find_next};
-use crate::trial::other_open;
+use crate::trial::{Standing, other_open};
 use drt_model::{Memory, Row, TaskSet};
 use drt_pool::Gate;
 use drt_trails::FixedTrail;
@@ -46,7 +46,11 @@ pub(crate) fn rank_all<G: Gate, R: Threads + Wait + Sync>(
     let mut open_count = course.old.len() as u32;
     let mut set = set;
     'rounds: while open_count > 0 {
-        match find_next(course, set, &ranks, open_count)? {
+        let standing = Standing {
+            ranks: ranks.as_slice(),
+            open_count,
+        };
+        match find_next(course, set, standing)? {
             Round::Found { set: tried, task } => {
                 ranks[task as usize] = open_count;
                 open_count -= 1;

@@ -15,7 +15,7 @@ prioritise-set-requires-clause-limits g c =
     let qs : List ℕ = c.deref.result.now in
     let set : Contents = with_priorities tasks qs in
     let is = tried_is tasks old ps qs set refl c.deref.ensures.value (c.in_ok-priorities.ensures.are.as_many ∙ c.requires.ranks.as_many) in
-    (tried_ready tasks c.args.course.now.graphs.now old c.requires.course c.args.ranks.now c.args.open_count c.args.task c.requires.ranks ps c.in_ok-priorities.ensures set is).limits
+    (tried_ready tasks c.args.course.now.graphs.now old c.requires.course c.args.standing.ranks.now c.args.standing.open_count c.args.task c.requires.ranks ps c.in_ok-priorities.ensures set is).limits
 
 pub of-requires-clause-constrained : goal.of-requires-clause-constrained
 of-requires-clause-constrained g c =
@@ -23,7 +23,7 @@ of-requires-clause-constrained g c =
     let old : List ℕ = c.args.course.now.old.now in
     let ps : List ℕ = c.in_ok-priorities.priorities.items in
     let is = tried_is tasks old ps c.deref.result.now c.prioritise-set.result c.prioritise-set.ensures c.deref.ensures.value (c.in_ok-priorities.ensures.are.as_many ∙ c.requires.ranks.as_many) in
-    let made = tried_ready tasks c.args.course.now.graphs.now old c.requires.course c.args.ranks.now c.args.open_count c.args.task c.requires.ranks ps c.in_ok-priorities.ensures
+    let made = tried_ready tasks c.args.course.now.graphs.now old c.requires.course c.args.standing.ranks.now c.args.standing.open_count c.args.task c.requires.ranks ps c.in_ok-priorities.ensures
     c.prioritise-set.result is in
     made.constrained
 
@@ -33,7 +33,7 @@ of-requires-clause-graphs g c =
     let old : List ℕ = c.args.course.now.old.now in
     let ps : List ℕ = c.in_ok-priorities.priorities.items in
     let is = tried_is tasks old ps c.deref.result.now c.prioritise-set.result c.prioritise-set.ensures c.deref.ensures.value (c.in_ok-priorities.ensures.are.as_many ∙ c.requires.ranks.as_many) in
-    let made = tried_ready tasks c.args.course.now.graphs.now old c.requires.course c.args.ranks.now c.args.open_count c.args.task c.requires.ranks ps c.in_ok-priorities.ensures
+    let made = tried_ready tasks c.args.course.now.graphs.now old c.requires.course c.args.standing.ranks.now c.args.standing.open_count c.args.task c.requires.ranks ps c.in_ok-priorities.ensures
     c.prioritise-set.result is in
     made.graphs_are
 
@@ -43,7 +43,7 @@ decide_task-requires-clause-task g c κs within =
     let old : List ℕ = c.args.course.now.old.now in
     let ps : List ℕ = c.in_ok-priorities.priorities.items in
     let is = tried_is tasks old ps c.deref.result.now c.prioritise-set.result c.prioritise-set.ensures c.deref.ensures.value (c.in_ok-priorities.ensures.are.as_many ∙ c.requires.ranks.as_many) in
-    let made = tried_ready tasks c.args.course.now.graphs.now old c.requires.course c.args.ranks.now c.args.open_count c.args.task c.requires.ranks ps c.in_ok-priorities.ensures
+    let made = tried_ready tasks c.args.course.now.graphs.now old c.requires.course c.args.standing.ranks.now c.args.standing.open_count c.args.task c.requires.ranks ps c.in_ok-priorities.ensures
     c.prioritise-set.result is in
     let same = ap (λ (s : Contents). length s.tasks) c.of.ensures in
     omega (arith, c.requires.task, c.requires.ranks.as_many, made.as_many, length-prioritised tasks old, same)

@@ -6,12 +6,12 @@ use Rattle.drt_assign.proofs.trial.trial_priorities.Goals.{then-rank-ne0+in_ok-p
 
 pub overflow_add-next : goal.overflow_add-next
 overflow_add-next c =
-    omega (arith, c.loop-k.invariant.0, beside_few c.args.ranks.now c.args.task c.loop-k.k, c.loop-k-test.true, c.requires.ranks.1, c.requires.ranks.2.as_many)
+    omega (arith, c.loop-k.invariant.0, beside_few c.args.standing.ranks.now c.args.task c.loop-k.k, c.loop-k-test.true, c.requires.ranks.1, c.requires.ranks.2.as_many)
 
 pub loop-k-preserved : goal.loop-k-preserved
 loop-k-preserved c =
-    let ranks : List ℕ = c.args.ranks.now in
-    let m : ℕ = c.args.open_count in
+    let ranks : List ℕ = c.args.standing.ranks.now in
+    let m : ℕ = c.args.standing.open_count in
     let t : ℕ = c.args.task in
     let k : ℕ = c.loop-k.k in
     let items : List ℕ = c.loop-k.priorities.items in
@@ -36,8 +36,8 @@ loop-k-preserved c =
 
 pub returns : goal.returns
 returns c =
-    let ranks : List ℕ = c.args.ranks.now in
+    let ranks : List ℕ = c.args.standing.ranks.now in
     let n : ℕ = c.requires.ranks.0 in
     let all : c.loop-k.k ≡ n = omega (arith, c.loop-k-test.false, c.loop-k.auto.k-end, c.requires.ranks.2.as_many) in
-    is_trial n c.args.open_count ranks c.requires.ranks.1 c.requires.ranks.2 c.args.task (omega (arith, c.requires.task, c.requires.ranks.2.as_many)) c.requires.is_open c.loop-k.priorities.items
-    (subst (λ (i : ℕ). c.loop-k.priorities.items ≡ map (trial_at ranks c.args.open_count c.args.task) (range_with_len 0 i)) all c.loop-k.invariant.1)
+    is_trial n c.args.standing.open_count ranks c.requires.ranks.1 c.requires.ranks.2 c.args.task (omega (arith, c.requires.task, c.requires.ranks.2.as_many)) c.requires.is_open c.loop-k.priorities.items
+    (subst (λ (i : ℕ). c.loop-k.priorities.items ≡ map (trial_at ranks c.args.standing.open_count c.args.task) (range_with_len 0 i)) all c.loop-k.invariant.1)
