@@ -20,7 +20,7 @@ returns-then-is_higher c =
     let tasks : List Task = c.args.given.set.now.tasks in
     let p : ℕ = (task_at tasks c.args.given.task).priority in
     let k : ℕ = c.args.k in
-    let walks : List (List ℕ) = c.args.walks.now in
+    let walks : List (List ℕ) = c.args.cut.walks.now in
     let end : ℕ = c.args.cut.end in
     let above : ltb (task_at tasks k).priority p ≡ true = sym c.is_higher.ensures ∙ c.if-is_higher.true in
     let graph : c.graph.result.now ≡ graph_at tasks k = c.graph.ensures.graph ∙ (ap (λ gs. graph_of gs k) c.graphs.ensures.graphs ∙ graph_same tasks k c.requires.here) in
@@ -34,7 +34,7 @@ returns c =
     let j : ℕ = c.args.given.task in
     let k : ℕ = c.args.k in
     let v : ℕ = c.args.cut.vertex in
-    let walks : List (List ℕ) = c.args.walks.now in
+    let walks : List (List ℕ) = c.args.cut.walks.now in
     let end : ℕ = c.args.cut.end in
     let below : ltb (task_at tasks k).priority (task_at tasks j).priority ≡ false = sym c.is_higher.ensures ∙ c.if-is_higher.false in
     elim c.if-k-given.branch [
