@@ -28,19 +28,19 @@ use Rattle.drt_assign.proofs.Ranges.{is_in_open}
 pub same_tasks : (tasks : List Task) (old : List ℕ) → old ≡ map (λ (t : Task). t.priority) tasks → prioritised tasks old ≡ tasks
 same_tasks tasks old e = ap (prioritised tasks) e ∙ prioritised_same tasks
 
-pub course_of : (version : ℕ) (tasks : List Task) (graphs : List Digraph) (old : List ℕ) (workers budget : ℕ) → old ≡ map (λ (t : Task). t.priority) tasks
-    → IsTaskSet version tasks → AreConstrained tasks → graphs ≡ graphs_of tasks → 1 ≤ workers → workers ≤ 16 → 1 ≤ budget → budget ≤ 1000000
-    → IsCourse (prioritised tasks old) graphs old workers budget
-course_of version tasks graphs old workers budget e limits constrained are a b c d = subst (λ (ts : List Task). IsCourse ts graphs old workers budget) (sym (same_tasks tasks old e)) (record {
-  version = version;
+-- So are those of a copy.
+pub own_tasks : (own set : Contents) (old : List ℕ) → own ≡ set → old ≡ map (λ (t : Task). t.priority) set.tasks → prioritised own.tasks old ≡ set.tasks
+own_tasks own set old same e = ap (λ (s : Contents). prioritised s.tasks old) same ∙ same_tasks set.tasks old e
+
+-- The course over a copy of the set.
+pub course_of : (own set : Contents) (graphs : List Digraph) (old : List ℕ) → own ≡ set → old ≡ map (λ (t : Task). t.priority) set.tasks
+    → IsTaskSet set.version set.tasks → AreConstrained set.tasks → graphs ≡ graphs_of set.tasks → IsCourse (prioritised own.tasks old) graphs old
+course_of own set graphs old same e limits constrained are = subst (λ (ts : List Task). IsCourse ts graphs old) (sym (own_tasks own set old same e)) (record {
+  version = set.version;
   limits = limits;
   constrained = constrained;
   graphs_are = are;
-  as_many = ap length e ∙ length-map tasks (λ (t : Task). t.priority);
-  workers_some = a;
-  workers_few = b;
-  budget_some = c;
-  budget_few = d;
+  as_many = ap length e ∙ length-map set.tasks (λ (t : Task). t.priority);
 })
 
 -- Where at least one task is open and all open ones are stuck, the rule ends.
@@ -112,14 +112,14 @@ abbrev made : ℕ → List Task → Contents
 made version tasks = record { version = version; tasks = tasks }
 
 -- The priorities of the file, as they were read.
-pub old_is : (xs ys : List ℕ) (read tasks : List Task) → xs ≡ ys → ys ≡ map (λ (t : Task). t.priority) read → read ≡ tasks → xs ≡ map (λ (t : Task). t.priority) tasks
-old_is xs ys read tasks e f h = e ∙ (f ∙ ap (map (λ (t : Task). t.priority)) h)
+pub old_is : {xs ys : List ℕ} {read tasks : List Task} → xs ≡ ys → ys ≡ map (λ (t : Task). t.priority) read → read ≡ tasks → xs ≡ map (λ (t : Task). t.priority) tasks
+old_is e f h = e ∙ (f ∙ ap (map (λ (t : Task). t.priority)) h)
 
--- What the rounds say, said of the tasks of the file.
-pub ranking_of : (tasks : List Task) (old : List ℕ) (budget : ℕ) (r s : Ranking) → old ≡ map (λ (t : Task). t.priority) tasks → r ≡ s → IsRanking (prioritised tasks old) old budget r →
-    IsRanking tasks old budget s
-ranking_of tasks old budget r s e h is =
-    subst (λ (x : Ranking). IsRanking tasks old budget x) h (subst (λ (ts : List Task). IsRanking ts old budget r) (same_tasks tasks old e) is)
+-- What the rounds say over a copy of the set, said of the tasks of the file.
+pub ranking_of : {own set : Contents} {old : List ℕ} {r s : Ranking} (budget : ℕ) → own ≡ set → old ≡ map (λ (t : Task). t.priority) set.tasks → r ≡ s
+    → IsRanking (prioritised own.tasks old) old budget r → IsRanking set.tasks old budget s
+ranking_of {own} {set} {old} {r} {s} budget same e h is =
+    subst (λ (x : Ranking). IsRanking set.tasks old budget x) h (subst (λ (ts : List Task). IsRanking ts old budget r) (own_tasks own set old same e) is)
 
 -- The set with the order.
 pub ordered_is : (tasks : List Task) (old ranks qs : List ℕ) (set ordered : Contents) → IsOf tasks old set → length ranks ≡ length tasks → qs ≡ ranks

@@ -104,9 +104,9 @@ pub record IsReady (tasks : List Task) (graphs : List Digraph) (set : Contents) 
   pub graphs_are : graphs ≡ graphs_of set.tasks
   pub as_many : length set.tasks ≡ length tasks
 
-pub ready : (tasks : List Task) (graphs : List Digraph) (old : List ℕ) (workers budget : ℕ) → IsCourse tasks graphs old workers budget
+pub ready : (tasks : List Task) (graphs : List Digraph) (old : List ℕ) → IsCourse tasks graphs old
     → (ps : List ℕ) → ArePriorities (length tasks) ps → IsReady tasks graphs (with_priorities tasks ps)
-ready tasks graphs old workers budget course ps are = record {
+ready tasks graphs old course ps are = record {
   limits = keep_limits course.version tasks ps course.limits are;
   constrained = (keep_constraints tasks ps).1 course.constrained;
   graphs_are = course.graphs_are ∙ sym (graphs_stay tasks ps);
@@ -130,13 +130,13 @@ tried_is tasks old ps qs set e f l =
     e ∙ (ap (λ (xs : List ℕ). with_priorities tasks xs) f ∙ ap (λ (ts : List Task). two ts) (sym (prioritised_twice tasks old ps l)))
 
 -- What a set of a trial is ready for.
-pub tried_ready : (tasks : List Task) (graphs : List Digraph) (old : List ℕ) (workers budget : ℕ) → IsCourse (prioritised tasks old) graphs old workers budget
+pub tried_ready : (tasks : List Task) (graphs : List Digraph) (old : List ℕ) → IsCourse (prioritised tasks old) graphs old
     → (ranks : List ℕ) (m k : ℕ) → AreRanks (length tasks) m ranks → (ps : List ℕ) → IsTrial ranks m k ps → (set : Contents) → set ≡ with_priorities (prioritised tasks old) ps
     → IsReady (prioritised tasks old) graphs set
-tried_ready tasks graphs old workers budget course ranks m k are ps trial set e =
+tried_ready tasks graphs old course ranks m k are ps trial set e =
     let long : length ranks ≡ length (prioritised tasks old) = are.as_many ∙ sym (length-prioritised tasks old) in
     subst (λ (s : Contents). IsReady (prioritised tasks old) graphs s) (sym e)
-    (ready (prioritised tasks old) graphs old workers budget course ps (subst (λ (n : ℕ). ArePriorities n ps) long trial.are))
+    (ready (prioritised tasks old) graphs old course ps (subst (λ (n : ℕ). ArePriorities n ps) long trial.are))
 
 -- The round up to the i-th task: the set has the tasks of the file, and each open task before is stuck.
 pub record IsSoFar (tasks : List Task) (old ranks : List ℕ) (m i : ℕ) (set : Contents) (stuck : List Stuck) : Type 0 where

@@ -1,5 +1,5 @@
 -- The steps of the rule, as the parts of `assign` see them.
-use Rattle.std.specs.Prelude.{◌≡◌, ℕ, ◌<◌, ◌≤◌, List, None, Some, All, length, slice_index, slice_index_or}
+use Rattle.std.specs.Prelude.{◌≡◌, ℕ, ◌<◌, List, None, Some, All, length, slice_index, slice_index_or}
 use Rattle.drt_model.specs.declared.tasks.Task.{Task}
 use Rattle.drt_model.specs.Constrained.{AreConstrained}
 use Rattle.drt_model.specs.Contents.{Contents}
@@ -20,18 +20,14 @@ use Rattle.drt_assign.specs.declared.ranking.Ranking.TheVariants as rankings
 use Rattle.drt_assign.specs.declared.rounds.Round.{Round}
 use Rattle.drt_assign.specs.declared.rounds.Round.TheVariants as rounds
 
--- What stays over all steps: the tasks of the file keep the limits of a version and have constrained deadlines; the graphs are theirs;
--- there are priorities for all of them, and so many workers and steps.
-pub record IsCourse (tasks : List Task) (graphs : List Digraph) (old : List ℕ) (workers budget : ℕ) : Type 0 where
+-- What stays over all steps: the tasks of the file keep the limits of a version and have constrained deadlines; the graphs are theirs; and
+-- there are priorities for all of them.
+pub record IsCourse (tasks : List Task) (graphs : List Digraph) (old : List ℕ) : Type 0 where
   pub version : ℕ
   pub limits : IsTaskSet version tasks
   pub constrained : AreConstrained tasks
   pub graphs_are : graphs ≡ graphs_of tasks
   pub as_many : length old ≡ length tasks
-  pub workers_some : 1 ≤ workers
-  pub workers_few : workers ≤ 16
-  pub budget_some : 1 ≤ budget
-  pub budget_few : budget ≤ 1000000
 
 -- With their old priorities the tasks of the set are those of the file.
 abbrev pub IsOf : List Task → List ℕ → Contents → Type 0

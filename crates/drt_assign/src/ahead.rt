@@ -10,7 +10,9 @@ ghost use Rattle.drt_assign.specs.Steps.{AreAhead, AreOpen, IsCourse, IsTried};
 
 use crate::answer::Stuck;
 use crate::rounds::{Course, try_task};
-use drt_ahead::{Crew, look_ahead, take_found};
+use crate::trial::Standing;
+use drt_ahead::{look_ahead, take_found};
+use drt_crew::Crew;
 use drt_model::{Memory, TaskSet};
 use drt_pool::{Gate, OpenGate};
 use drt_priorities::copy_of;
@@ -44,22 +46,22 @@ pub(crate) fn nothing_ahead(alloc: Global) -> Ahead
 pub(crate) fn look_further<G: Gate, R: Threads + Wait + Sync>(
     course: &Course<'_, G, R>,
     set: &TaskSet,
-    ranks: &[u32],
-    open_count: u32,
+    standing: Standing<'_>,
     task: u32,
     stuck: &[Stuck],
     ahead: Ahead,
 ) -> Result<Ahead, Memory>
-    requires course { IsCourse (prioritised set.now.tasks course.now.old.now) course.now.graphs.now course.now.old.now course.now.workers course.now.budget }
-    requires ranks { AreRanks (length set.now.tasks) open_count ranks.now }
-    requires ahead { AreAhead (prioritised set.now.tasks course.now.old.now) ranks.now open_count course.now.budget ahead }
-    ensures { IfOk result (AreAhead (prioritised set.now.tasks course.now.old.now) ranks.now open_count course.now.budget) }
+    requires course { IsCourse (prioritised set.now.tasks course.now.old.now) course.now.graphs.now course.now.old.now }
+    requires ranks { AreRanks (length set.now.tasks) standing.open_count standing.ranks.now }
+    requires ahead { AreAhead (prioritised set.now.tasks course.now.old.now) standing.ranks.now standing.open_count course.now.crew.now.effort.budget ahead }
+    ensures { IfOk result (AreAhead (prioritised set.now.tasks course.now.old.now) standing.entry.ranks.now standing.entry.open_count course.now.crew.now.effort.budget) }
 {
     if has_from(&ahead.tasks, task) || !are_worth(course, set, stuck) {
         return Ok(ahead);
     }
-    let tasks = next_open(course.alloc, ranks, task, course.workers)?;
-    let found = try_apart(course, set, ranks, open_count, &tasks)?;
+    let crew = course.crew;
+    let tasks = next_open(crew.alloc, standing.ranks, task, crew.effort.workers())?;
+    let found = try_apart(course, set, standing, &tasks)?;
     Ok(Ahead { tasks, found })
 }
 
@@ -67,31 +69,30 @@ pub(crate) fn look_further<G: Gate, R: Threads + Wait + Sync>(
 pub(crate) fn take_or_try<G: Gate, R: Threads + Wait + Sync>(
     course: &Course<'_, G, R>,
     set: TaskSet,
-    ranks: &[u32],
-    open_count: u32,
+    standing: Standing<'_>,
     task: u32,
     ahead: &mut Ahead,
 ) -> Result<(TaskSet, TaskAnswer), Memory>
-    requires course { IsCourse (prioritised set.tasks course.now.old.now) course.now.graphs.now course.now.old.now course.now.workers course.now.budget }
-    requires ranks { AreRanks (length set.tasks) open_count ranks.now }
-    requires task { task < length ranks.now }
-    requires is_open { slice_index ranks.now task ≡ 0 }
-    requires ahead { AreAhead (prioritised set.tasks course.now.old.now) ranks.now open_count course.now.budget ahead.old }
-    ensures tried { IfOk result (λ r. IsTried (prioritised set.tasks course.now.old.now) ranks.now open_count task course.now.budget r.0 r.1) }
-    ensures ahead { AreAhead (prioritised set.tasks course.now.old.now) ranks.now open_count course.now.budget ahead.new }
+    requires course { IsCourse (prioritised set.tasks course.now.old.now) course.now.graphs.now course.now.old.now }
+    requires ranks { AreRanks (length set.tasks) standing.open_count standing.ranks.now }
+    requires task { task < length standing.ranks.now }
+    requires is_open { slice_index standing.ranks.now task ≡ 0 }
+    requires ahead { AreAhead (prioritised set.tasks course.now.old.now) standing.ranks.now standing.open_count course.now.crew.now.effort.budget ahead.old }
+    ensures tried { IfOk result (λ r. IsTried (prioritised set.tasks course.now.old.now) standing.entry.ranks.now standing.entry.open_count task course.now.crew.now.effort.budget r.0 r.1) }
+    ensures ahead { AreAhead (prioritised set.tasks course.now.old.now) standing.entry.ranks.now standing.entry.open_count course.now.crew.now.effort.budget ahead.new }
 {
     if let Some(place) = place_of(&ahead.tasks, task) {
         if let Some(tried) = take_found(&mut ahead.found, place) {
             return Ok(tried);
         }
     }
-    try_task(course, set, ranks, open_count, task)
+    try_task(course, set, standing, task)
 }
 
 // Whether trials are worth workers of their own: one failed, and they are large, or the gate may wait for another worker.
 fn are_worth<G: Gate, R>(course: &Course<'_, G, R>, set: &TaskSet, stuck: &[Stuck]) -> bool {
     match stuck.last() {
-        Some(one) => course.gate.alone() == 0 || step_count(set, one) >= LARGE,
+        Some(one) => course.crew.gate.alone() == 0 || step_count(set, one) >= LARGE,
         None => false,
     }
 }
@@ -141,29 +142,36 @@ fn next_open(alloc: Global, ranks: &[u32], task: u32, most: u32) -> Result<Vec<u
 fn try_apart<G: Gate, R: Threads + Wait + Sync>(
     course: &Course<'_, G, R>,
     set: &TaskSet,
-    ranks: &[u32],
-    open_count: u32,
+    standing: Standing<'_>,
     tasks: &[u32],
 ) -> Result<Vec<Option<(TaskSet, TaskAnswer)>>, Memory>
-    requires course { IsCourse (prioritised set.now.tasks course.now.old.now) course.now.graphs.now course.now.old.now course.now.workers course.now.budget }
-    requires ranks { AreRanks (length set.now.tasks) open_count ranks.now }
-    requires tasks { AreOpen ranks.now tasks.now }
+    requires course { IsCourse (prioritised set.now.tasks course.now.old.now) course.now.graphs.now course.now.old.now }
+    requires ranks { AreRanks (length set.now.tasks) standing.open_count standing.ranks.now }
+    requires tasks { AreOpen standing.ranks.now tasks.now }
     requires few { length tasks.now ≤ 16 }
-    ensures { IfOk result (λ found. (i : ℕ) (r : Contents × Answer) → slice_index_or found.items i None ≡ Some r → IsTried (prioritised set.now.tasks course.now.old.now) ranks.now open_count (slice_index tasks.now i) course.now.budget r.0 r.1) }
+    ensures { IfOk result (λ found. (i : ℕ) (r : Contents × Answer) → slice_index_or found.items i None ≡ Some r → IsTried (prioritised set.now.tasks course.now.old.now) standing.entry.ranks.now standing.entry.open_count (slice_index tasks.now i) course.now.crew.now.effort.budget r.0 r.1) }
 {
-    let crew = Crew {
-        rt: course.rt,
-        alloc: course.alloc,
-        workers: course.workers,
-        gate: course.gate,
+    let Standing { ranks, open_count } = standing;
+    let crew = drt_ahead::Crew {
+        rt: course.crew.rt, // bridge
+        alloc: course.crew.alloc, // bridge
+        workers: course.crew.effort.workers(), // bridge
+        gate: course.crew.gate, // bridge
     };
-    let order = all_places(course.alloc, tasks)?;
+    let order = all_places(crew.alloc, tasks)?;
     let try_place = |place: u32| -> Result<(TaskSet, TaskAnswer), Memory>
         requires { IsSync R.row × IsSync G.row
-            × IsCourse (prioritised set.now.tasks course.now.old.now) course.now.graphs.now course.now.old.now course.now.workers course.now.budget
+            × IsCourse (prioritised set.now.tasks course.now.old.now) course.now.graphs.now course.now.old.now
             × AreRanks (length set.now.tasks) open_count ranks.now × AreOpen ranks.now tasks.now × (place < length tasks.now) }
-        ensures { IfOk result (λ r. IsTried (prioritised set.entry.now.tasks course.entry.now.old.now) ranks.entry.now open_count (slice_index tasks.entry.now place) course.entry.now.budget r.0 r.1) }
-    { try_copy(course, set, ranks, open_count, tasks[place as usize]) };
+        ensures { IfOk result (λ r. IsTried (prioritised set.entry.now.tasks course.entry.now.old.now) ranks.entry.now open_count (slice_index tasks.entry.now place) course.entry.now.crew.now.effort.budget r.0 r.1) }
+    {
+        try_copy(
+            course,
+            set,
+            Standing { ranks, open_count },
+            tasks[place as usize],
+        )
+    };
     look_ahead(&crew, &order, try_place, doesnt_miss)
 }
 
@@ -180,26 +188,27 @@ fn all_places(alloc: Global, tasks: &[u32]) -> Result<Vec<u32>, Memory>
 fn try_copy<G: Gate, R: Threads + Wait + Sync>(
     course: &Course<'_, G, R>,
     set: &TaskSet,
-    ranks: &[u32],
-    open_count: u32,
+    standing: Standing<'_>,
     task: u32,
 ) -> Result<(TaskSet, TaskAnswer), Memory>
-    requires course { IsCourse (prioritised set.now.tasks course.now.old.now) course.now.graphs.now course.now.old.now course.now.workers course.now.budget }
-    requires ranks { AreRanks (length set.now.tasks) open_count ranks.now }
-    requires task { task < length ranks.now }
-    requires is_open { slice_index ranks.now task ≡ 0 }
-    ensures { IfOk result (λ r. IsTried (prioritised set.now.tasks course.now.old.now) ranks.now open_count task course.now.budget r.0 r.1) }
+    requires course { IsCourse (prioritised set.now.tasks course.now.old.now) course.now.graphs.now course.now.old.now }
+    requires ranks { AreRanks (length set.now.tasks) standing.open_count standing.ranks.now }
+    requires task { task < length standing.ranks.now }
+    requires is_open { slice_index standing.ranks.now task ≡ 0 }
+    ensures { IfOk result (λ r. IsTried (prioritised set.now.tasks course.now.old.now) standing.entry.ranks.now standing.entry.open_count task course.now.crew.now.effort.budget r.0 r.1) }
 {
-    let alone = Course {
-        rt: course.rt,
-        alloc: course.alloc,
-        graphs: course.graphs,
-        old: course.old,
-        workers: 1,
-        budget: course.budget,
+    let crew = Crew {
+        rt: course.crew.rt,
+        alloc: course.crew.alloc,
+        effort: course.crew.effort.alone(),
         gate: &OpenGate,
     };
-    try_task(&alone, copy_of(course.alloc, set)?, ranks, open_count, task)
+    let alone = Course {
+        crew: &crew,
+        graphs: course.graphs,
+        old: course.old,
+    };
+    try_task(&alone, copy_of(crew.alloc, set)?, standing, task)
 }
 
 // Whether an answer ends a round.

@@ -1,5 +1,5 @@
 //! Priorities for a set.
-ghost use Rattle.std.specs.Prelude.{◌≡◌, ◌≤◌, IfOk, map};
+ghost use Rattle.std.specs.Prelude.{◌≡◌, IfOk, map};
 ghost use Rattle.drt_model.specs.Constrained.{AreConstrained};
 ghost use Rattle.drt_model.specs.Schedulable.{Schedulable};
 ghost use Rattle.drt_model.specs.declared.jobs.Policy.TheVariants.{Fixed};
@@ -10,14 +10,14 @@ ghost use Rattle.drt_assign.specs.Steps.{IsAnalysis};
 use crate::answer::AssignAnswer;
 use crate::ranking::{Ranking, rank_all};
 use crate::rounds::Course;
+use drt_accepted::Accepted;
 use drt_busy::times_decide;
 use drt_claims::Dossier;
+use drt_crew::Crew;
 use drt_fixed::{Analysed, analyse_fixed};
-use drt_graph::Graphs;
-use drt_model::{Memory, Task, TaskSet};
+use drt_model::{Memory, Policy, Task, TaskSet};
 use drt_pool::Gate;
-use drt_priorities::prioritise;
-use drt_trails::FixedTrail;
+use drt_priorities::{copy_of, prioritise};
 use std::alloc::Global;
 use std::sync::Wait;
 use std::thread::Threads;
@@ -26,39 +26,27 @@ use std::thread::Threads;
 ///
 /// At first all tasks are open. The number of open tasks, as a priority, goes to the first open task, in order of the file, that meets its
 /// deadlines under all other open ones, and so on with the rest. Where no open task does, no priorities make the set schedulable. The
-/// priorities that the tasks have play no part. At the end the set with the new priorities is analysed. Each analysis has this many
-/// workers, and a budget of steps for each of its searches.
+/// priorities that the tasks have play no part. At the end the set with the new priorities is analysed. Each analysis has the workers of
+/// the crew, and its budget of steps for each search.
 ///
 /// Source: Audsley, "Optimal priority assignment and feasibility of static priority tasks with arbitrary start times" (1991).
 pub fn assign<G: Gate, R: Threads + Wait + Sync>(
-    rt: &R,
-    alloc: Global,
-    set: TaskSet,
-    graphs: &Graphs,
-    workers: u32,
-    budget: u64,
-    gate: &G,
+    crew: &Crew<'_, G, R>,
+    set: &Accepted<'_>,
 ) -> Result<AssignAnswer, Memory>
-    requires constrained { AreConstrained set.tasks }
-    requires graphs { graphs.now ≡ graphs_of set.tasks }
-    requires workers { (1 ≤ workers) × (workers ≤ 16) }
-    requires some { 1 ≤ budget }
-    requires few { budget ≤ 1000000 }
-    ensures { IfOk result (IsAssigned set budget) }
+    ensures { IfOk result (IsAssigned set.now crew.now.effort.budget) }
 {
-    let version = set.version();
-    let old = priorities_of(alloc, set.tasks())?;
+    set.keep_limits();
+    let old = priorities_of(crew.alloc, set.tasks())?;
     let course = Course {
-        rt,
-        alloc,
-        graphs,
+        crew,
+        graphs: set.graphs(),
         old: old.as_slice(),
-        workers,
-        budget,
-        gate,
     };
+    let own = copy_of(crew.alloc, set.set())?;
+    let version = own.version();
     times_decide();
-    match rank_all(&course, set)? {
+    match rank_all(&course, own)? {
         Ranking::Whole { set, ranks } => {
             analyse_order(&course, prioritise(set, 2, ranks.as_slice()))
         }
@@ -94,32 +82,28 @@ fn analyse_order<G: Gate, R: Threads + Wait + Sync>(
 ) -> Result<AssignAnswer, Memory>
     requires constrained { AreConstrained set.tasks }
     requires graphs { course.now.graphs.now ≡ graphs_of set.tasks }
-    requires workers { (1 ≤ course.now.workers) × (course.now.workers ≤ 16) }
-    requires budget { (1 ≤ course.now.budget) × (course.now.budget ≤ 1000000) }
     requires schedulable { Schedulable set.tasks Fixed }
-    ensures { IfOk result (IsAnalysis set course.now.budget) }
+    ensures { IfOk result (IsAnalysis set course.now.crew.now.effort.budget) }
 {
+    let crew = course.crew; // bridge
+    let workers = crew.effort.workers(); // bridge
+    let budget = crew.effort.budget(); // bridge
     let Analysed { dossier, trail } = analyse_fixed(
-        course.rt,
-        course.alloc,
+        crew.rt,
+        crew.alloc,
         set,
         course.graphs,
-        course.workers,
-        course.budget,
-        course.gate,
-    )?;
+        workers,
+        budget,
+        crew.gate,
+    )?; // bridge
+    let Dossier { set, evidence, .. } = dossier; // bridge
     match trail {
-        None => Ok(AssignAnswer::Done(dossier)),
-        Some(trail) => Ok(unproved(dossier, trail)),
-    }
-}
-
-// That the set of this dossier has an order, and why it isn't proved.
-fn unproved(dossier: Dossier, trail: FixedTrail) -> AssignAnswer
-    ensures { result ≡ AssignAnswer.Unproved dossier.set trail }
-{
-    AssignAnswer::Unproved {
-        set: dossier.set,
-        trail,
+        None => Ok(AssignAnswer::Done(Dossier {
+            policy: Policy::Fixed,
+            set,
+            evidence,
+        })),
+        Some(trail) => Ok(AssignAnswer::Unproved { set, trail }),
     }
 }

@@ -5,7 +5,7 @@ ghost use Rattle.drt_assign.specs.Steps.{IsCourse, IsRanking};
 
 use crate::answer::Stuck;
 use crate::rounds::{Course, Round, find_next};
-use crate::trial::other_open;
+use crate::trial::{Standing, other_open};
 use drt_model::{Memory, Row, TaskSet};
 use drt_pool::Gate;
 use drt_trails::FixedTrail;
@@ -39,14 +39,18 @@ pub(crate) fn rank_all<G: Gate, R: Threads + Wait + Sync>(
     course: &Course<'_, G, R>,
     set: TaskSet,
 ) -> Result<Ranking, Memory>
-    requires course { IsCourse (prioritised set.tasks course.now.old.now) course.now.graphs.now course.now.old.now course.now.workers course.now.budget }
-    ensures { IfOk result (IsRanking (prioritised set.tasks course.now.old.now) course.now.old.now course.now.budget) }
+    requires course { IsCourse (prioritised set.tasks course.now.old.now) course.now.graphs.now course.now.old.now }
+    ensures { IfOk result (IsRanking (prioritised set.tasks course.now.old.now) course.now.old.now course.now.crew.now.effort.budget) }
 {
-    let mut ranks = vec![in course.alloc; 0u32; course.old.len()]?;
+    let mut ranks = vec![in course.crew.alloc; 0u32; course.old.len()]?;
     let mut open_count = course.old.len() as u32;
     let mut set = set;
     'rounds: while open_count > 0 {
-        match find_next(course, set, &ranks, open_count)? {
+        let standing = Standing {
+            ranks: ranks.as_slice(),
+            open_count,
+        };
+        match find_next(course, set, standing)? {
             Round::Found { set: tried, task } => {
                 ranks[task as usize] = open_count;
                 open_count -= 1;
@@ -60,7 +64,7 @@ pub(crate) fn rank_all<G: Gate, R: Threads + Wait + Sync>(
                 task,
                 trail,
             } => {
-                let higher = Row::from_vec(other_open(course.alloc, &ranks, task)?);
+                let higher = Row::from_vec(other_open(course.crew.alloc, &ranks, task)?);
                 return Ok(Ranking::Spent {
                     set: tried,
                     higher,

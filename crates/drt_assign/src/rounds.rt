@@ -6,7 +6,9 @@ ghost use Rattle.drt_assign.specs.Steps.{IsCourse, IsRound, IsTried};
 
 use crate::ahead::{look_further, nothing_ahead, take_or_try};
 use crate::answer::Stuck;
-use crate::trial::trial_priorities;
+use crate::trial::{Standing, trial_priorities};
+use drt_accepted::Accepted;
+use drt_crew::Crew;
 use drt_fixed_task::decide_task;
 use drt_graph::Graphs;
 use drt_model::{Memory, Row, TaskSet};
@@ -14,21 +16,16 @@ use drt_pool::Gate;
 use drt_priorities::prioritise;
 use drt_sp_task::TaskAnswer;
 use drt_trails::FixedTrail;
-use std::alloc::Global;
 use std::sync::Wait;
 use std::thread::Threads;
 
-/// What stays over all rounds: the graphs of the tasks and the priorities that they have in the file; and who decides of a task, and with
-/// how many steps.
+/// What stays over all rounds: who decides of a task, and with how many steps; the graphs of the tasks; and the priorities that the file
+/// gives them.
 #[derive(Drop)]
 pub(crate) struct Course<'a, G, R> {
-    pub(crate) rt: &'a R,
-    pub(crate) alloc: Global,
+    pub(crate) crew: &'a Crew<'a, G, R>,
     pub(crate) graphs: &'a Graphs,
     pub(crate) old: &'a [u32],
-    pub(crate) workers: u32,
-    pub(crate) budget: u64,
-    pub(crate) gate: &'a G,
 }
 
 /// How a round ends. The set comes back with some priorities.
@@ -52,28 +49,28 @@ pub(crate) enum Round {
     },
 }
 
-/// Tries the open tasks, of which there are `open_count`, in order of the file, until one meets its deadlines under the other open ones.
+/// Tries the open tasks, in order of the file, until one meets its deadlines under the other open ones.
 ///
 /// The first one is tried by all workers. Where it misses, and the set isn't small, the next ones are tried side by side, one by each worker,
 /// and so on. So at most as many tasks are tried for nothing as there are workers, less one.
 pub(crate) fn find_next<G: Gate, R: Threads + Wait + Sync>(
     course: &Course<'_, G, R>,
     set: TaskSet,
-    ranks: &[u32],
-    open_count: u32,
+    standing: Standing<'_>,
 ) -> Result<Round, Memory>
-    requires course { IsCourse (prioritised set.tasks course.now.old.now) course.now.graphs.now course.now.old.now course.now.workers course.now.budget }
-    requires ranks { AreRanks (length set.tasks) open_count ranks.now }
-    ensures { IfOk result (IsRound (prioritised set.tasks course.now.old.now) course.now.old.now ranks.now open_count course.now.budget) }
+    requires course { IsCourse (prioritised set.tasks course.now.old.now) course.now.graphs.now course.now.old.now }
+    requires ranks { AreRanks (length set.tasks) standing.open_count standing.ranks.now }
+    ensures { IfOk result (IsRound (prioritised set.tasks course.now.old.now) course.now.old.now standing.entry.ranks.now standing.entry.open_count course.now.crew.now.effort.budget) }
 {
+    let ranks = standing.ranks;
     let mut set = set;
-    let mut stuck = Vec::new(course.alloc);
-    let mut ahead = nothing_ahead(course.alloc);
+    let mut stuck = Vec::new(course.crew.alloc);
+    let mut ahead = nothing_ahead(course.crew.alloc);
     'tasks: for k in 0..ranks.len() {
         if ranks[k] == 0 {
             let task = k as u32;
-            ahead = look_further(course, &set, ranks, open_count, task, &stuck, ahead)?;
-            let (tried, answer) = take_or_try(course, set, ranks, open_count, task, &mut ahead)?;
+            ahead = look_further(course, &set, standing, task, &stuck, ahead)?;
+            let (tried, answer) = take_or_try(course, set, standing, task, &mut ahead)?;
             match answer {
                 TaskAnswer::Meets => return Ok(Round::Found { set: tried, task }),
                 TaskAnswer::Undecided(trail) => {
@@ -100,27 +97,17 @@ pub(crate) fn find_next<G: Gate, R: Threads + Wait + Sync>(
 pub(crate) fn try_task<G: Gate, R: Threads + Wait + Sync>(
     course: &Course<'_, G, R>,
     set: TaskSet,
-    ranks: &[u32],
-    open_count: u32,
+    standing: Standing<'_>,
     task: u32,
 ) -> Result<(TaskSet, TaskAnswer), Memory>
-    requires course { IsCourse (prioritised set.tasks course.now.old.now) course.now.graphs.now course.now.old.now course.now.workers course.now.budget }
-    requires ranks { AreRanks (length set.tasks) open_count ranks.now }
-    requires task { task < length ranks.now }
-    requires is_open { slice_index ranks.now task ≡ 0 }
-    ensures { IfOk result (λ r. IsTried (prioritised set.tasks course.now.old.now) ranks.now open_count task course.now.budget r.0 r.1) }
+    requires course { IsCourse (prioritised set.tasks course.now.old.now) course.now.graphs.now course.now.old.now }
+    requires ranks { AreRanks (length set.tasks) standing.open_count standing.ranks.now }
+    requires task { task < length standing.ranks.now }
+    requires is_open { slice_index standing.ranks.now task ≡ 0 }
+    ensures { IfOk result (λ r. IsTried (prioritised set.tasks course.now.old.now) standing.entry.ranks.now standing.entry.open_count task course.now.crew.now.effort.budget r.0 r.1) }
 {
-    let priorities = trial_priorities(course.alloc, ranks, open_count, task)?;
+    let priorities = trial_priorities(course.crew.alloc, standing, task)?;
     let set = prioritise(set, 2, &priorities);
-    let answer = decide_task(
-        course.rt,
-        course.alloc,
-        &set,
-        course.graphs,
-        task,
-        course.workers,
-        course.budget,
-        course.gate,
-    )?;
+    let answer = decide_task(course.crew, &Accepted::of(&set, course.graphs), task)?;
     Ok((set, answer))
 }

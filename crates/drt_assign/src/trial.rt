@@ -5,19 +5,26 @@ ghost use Rattle.drt_assign.specs.Rule.{AreRanks, IsTrial, open_beside};
 use drt_model::Memory;
 use std::alloc::Global;
 
-/// Priorities for all tasks, with `open_count` tasks that have no rank: this one has the lowest priority among them, the others have the
+/// How far the rule has come: a rank for each task, or 0 where it has none yet, and how many have none.
+#[derive(Clone, Copy)]
+pub(crate) struct Standing<'a> {
+    pub(crate) ranks: &'a [u32],
+    pub(crate) open_count: u32,
+}
+
+/// Priorities for all tasks, of which some have no rank: this one has the lowest priority among them, the others have the
 /// priorities 1, 2, .. in order of the file, and each task that has a rank keeps it.
 pub(crate) fn trial_priorities(
     alloc: Global,
-    ranks: &[u32],
-    open_count: u32,
+    standing: Standing<'_>,
     task: u32,
 ) -> Result<Vec<u32>, Memory>
-    requires ranks { (count : ℕ) × (count ≤ 32) × AreRanks count open_count ranks.now }
-    requires task { task < length ranks.now }
-    requires is_open { slice_index ranks.now task ≡ 0 }
-    ensures { IfOk result (λ priorities. IsTrial ranks.now open_count task priorities.items) }
+    requires ranks { (count : ℕ) × (count ≤ 32) × AreRanks count standing.open_count standing.ranks.now }
+    requires task { task < length standing.ranks.now }
+    requires is_open { slice_index standing.ranks.now task ≡ 0 }
+    ensures { IfOk result (λ priorities. IsTrial standing.entry.ranks.now standing.entry.open_count task priorities.items) }
 {
+    let Standing { ranks, open_count } = standing;
     let mut priorities = Vec::new(alloc);
     let mut next = 1;
     for k in 0..ranks.len() {

@@ -1,6 +1,5 @@
 -- What the searches of the vertices of a task are given, and the subject of each.
 use Rattle.std.specs.Prelude.{◌≡◌, ℕ, ◌<◌, ◌≤◌, length, map}
-use Rattle.drt_model.specs.Constrained.{AreConstrained}
 use Rattle.drt_model.specs.Digraph.{vertex_count}
 use Rattle.drt_model.specs.Walk.{deadline, wcet}
 use Rattle.drt_busy.specs.Choice.{graph_at}
@@ -12,14 +11,12 @@ use Rattle.drt_fixed_task.specs.Higher.{higher_tasks}
 use Rattle.drt_fixed_task.specs.Tails.{AreTails}
 use Rattle.drt_fixed_task.specs.declared.subjects.Given.{Given}
 
--- The set has constrained deadlines, the graphs are its own, the numbers those of the tasks of higher priority; the tails bound what their
--- walks ask for up to a bound, which no deadline of the task is past; and the crests are those of the tails.
+-- The numbers are those of the tasks of higher priority; the tails bound what their walks ask for up to a bound, which no deadline of the task
+-- is past; and the crests are those of the tails.
 pub record IsGiven (g : Given) : Type 0 where
-  pub constrained : AreConstrained g.set.now.tasks
-  pub graphs : g.graphs.now ≡ graphs_of g.set.now.tasks
   pub task : g.task < length g.set.now.tasks
   pub higher : g.higher.now ≡ higher_tasks g.set.now.tasks g.task
-  pub tails : AreTails g.bound (graphs_at g.graphs.now g.higher.now) g.tails.now
+  pub tails : AreTails g.bound (graphs_at (graphs_of g.set.now.tasks) g.higher.now) g.tails.now
   pub crests : AreCrests g.tails.now g.crests.now
   pub near : (v : ℕ) → v < vertex_count (graph_at g.set.now.tasks g.task) → deadline (graph_at g.set.now.tasks g.task) v ≤ g.bound
 

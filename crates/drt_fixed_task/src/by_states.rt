@@ -1,9 +1,7 @@
 //! The answer to one task by tails and states.
-ghost use Rattle.std.specs.Prelude.{◌≡◌, ◌<◌, ◌≤◌, IfOk, IfSome, length};
-ghost use Rattle.drt_model.specs.Constrained.{AreConstrained};
+ghost use Rattle.std.specs.Prelude.{◌<◌, IfOk, IfSome, length};
 ghost use Rattle.drt_model.specs.Digraph.{vertex_count};
 ghost use Rattle.drt_busy.specs.Choice.{graph_at};
-ghost use Rattle.drt_claims.specs.Claims.{graphs_of};
 ghost use Rattle.drt_fixed_task.specs.Answers.{IsDecided, IsSearched};
 ghost use Rattle.drt_fixed_task.specs.Subjects.{IsGiven};
 
@@ -11,82 +9,67 @@ use crate::higher::higher_tasks;
 use crate::refusal::refuse;
 use crate::subjects::{Given, subject_of};
 use crate::tails::{find_tails, latest_deadline};
+use drt_accepted::Accepted;
 use drt_busy::times_suffice_for_task;
 use drt_check_states::find_crests;
-use drt_graph::Graphs;
-use drt_model::{Memory, TaskSet};
+use drt_crew::Crew;
+use drt_model::Memory;
 use drt_pool::Gate;
 use drt_sp_states::{Searched, search_states};
 use drt_sp_task::TaskAnswer;
 use drt_states_laws::states_pass;
-use std::alloc::Global;
 use std::sync::Wait;
 use std::thread::Threads;
-
-/// Who searches, and for how many states of each vertex: so many workers, whose turns the gate sees.
-#[derive(Drop)]
-pub(crate) struct Effort<'a, G, R> {
-    pub rt: &'a R,
-    pub alloc: Global,
-    pub workers: u32,
-    pub budget: u64,
-    pub gate: &'a G,
-}
 
 /// What tails and states say of a task: that it meets its deadlines, or how it misses one. None where they say nothing.
 ///
 /// Each task of higher priority has one tail, up to the greatest deadline of the task. Then the states of each vertex are searched, in order
 /// of the file.
 pub(crate) fn decide_by_states<G: Gate, R: Threads + Wait + Sync>(
-    effort: &Effort<'_, G, R>,
-    set: &TaskSet,
-    graphs: &Graphs,
+    crew: &Crew<'_, G, R>,
+    set: &Accepted<'_>,
     task: u32,
 ) -> Result<Option<TaskAnswer>, Memory>
-    requires constrained { AreConstrained set.now.tasks }
-    requires graphs { graphs.now ≡ graphs_of set.now.tasks }
     requires task { task < length set.now.tasks }
-    requires workers { (1 ≤ effort.now.workers) × (effort.now.workers ≤ 16) }
     ensures { IfOk result (λ found. IfSome found (IsDecided set.now.tasks task)) }
 {
-    let numbers = higher_tasks(effort.alloc, set, graphs, task)?;
+    let graphs = set.graphs();
+    let numbers = higher_tasks(crew.alloc, set, task)?;
     let higher = numbers.as_slice();
     let bound = latest_deadline(graphs.graph(task));
-    let Some(found) = find_tails(effort.alloc, graphs, higher, bound)? else {
+    let Some(found) = find_tails(crew.alloc, graphs, higher, bound)? else {
         return Ok(None);
     };
     let tails = found.as_slice();
-    let crests = find_crests(effort.alloc, tails)?;
+    let crests = find_crests(crew.alloc, tails)?;
     let given = Given {
         set,
-        graphs,
         task,
         higher,
         bound,
         tails,
         crests: crests.as_slice(),
     };
-    decide_vertices(effort, given)
+    decide_vertices(crew, given)
 }
 
 // What the searches of the vertices of the task say, in order of the file.
 fn decide_vertices<G: Gate, R: Threads + Wait + Sync>(
-    effort: &Effort<'_, G, R>,
+    crew: &Crew<'_, G, R>,
     given: Given<'_>,
 ) -> Result<Option<TaskAnswer>, Memory>
-    requires workers { (1 ≤ effort.now.workers) × (effort.now.workers ≤ 16) }
     requires given { IsGiven given }
     ensures { IfOk result (λ found. IfSome found (IsDecided given.entry.set.now.tasks given.entry.task)) }
 {
     times_suffice_for_task();
-    let _tasks = given.set.tasks();
-    let graph = given.graphs.graph(given.task);
+    given.set.keep_limits();
+    let graph = given.set.graphs().graph(given.task);
     'vertices: for vertex in 0..graph.vertex_count() {
-        let searched = search_vertex(effort, given, vertex)?;
+        let searched = search_vertex(crew, given, vertex)?;
         match searched {
             Searched::Passes(_) => {}
             Searched::Misses(walks) => {
-                let answer = refuse(effort.alloc, given, vertex, walks.as_slice())?;
+                let answer = refuse(crew.alloc, given, vertex, walks.as_slice())?;
                 return Ok(Some(answer));
             }
             Searched::Spent => return Ok(None),
@@ -97,24 +80,24 @@ fn decide_vertices<G: Gate, R: Threads + Wait + Sync>(
 
 // What the search of the states of a vertex says of it.
 fn search_vertex<G: Gate, R: Threads + Wait + Sync>(
-    effort: &Effort<'_, G, R>,
+    crew: &Crew<'_, G, R>,
     given: Given<'_>,
     vertex: u32,
 ) -> Result<Searched, Memory>
-    requires workers { (1 ≤ effort.now.workers) × (effort.now.workers ≤ 16) }
     requires given { IsGiven given }
     requires vertex { vertex < vertex_count (graph_at given.set.now.tasks given.task) }
     ensures { IfOk result (IsSearched given.entry.set.now.tasks given.entry.task vertex) }
 {
     states_pass();
-    let _tasks = given.set.tasks();
+    given.set.keep_limits();
     let subject = subject_of(given, vertex);
+    let workers = crew.effort.workers(); // bridge
+    let budget = crew.effort.budget(); // bridge
     search_states(
-        effort.rt,
-        effort.alloc,
-        subject,
-        effort.workers,
-        effort.budget,
-        effort.gate,
+        crew.rt, // bridge
+        crew.alloc, // bridge
+        subject, workers, // bridge
+        budget, // bridge
+        crew.gate, // bridge
     )
 }

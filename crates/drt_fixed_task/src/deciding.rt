@@ -1,15 +1,13 @@
 //! The answer to one task.
-ghost use Rattle.std.specs.Prelude.{◌≡◌, ◌<◌, ◌≤◌, IfOk, length};
-ghost use Rattle.drt_model.specs.Constrained.{AreConstrained};
-ghost use Rattle.drt_claims.specs.Claims.{graphs_of};
+ghost use Rattle.std.specs.Prelude.{◌<◌, IfOk, length};
 ghost use Rattle.drt_sp_task.specs.Task.{IsTaskAnswer};
 
-use crate::by_states::{Effort, decide_by_states};
-use drt_graph::Graphs;
-use drt_model::{Memory, TaskSet};
+use crate::by_states::decide_by_states;
+use drt_accepted::Accepted;
+use drt_crew::Crew;
+use drt_model::Memory;
 use drt_pool::Gate;
 use drt_sp_task::{TaskAnswer, analyse_task};
-use std::alloc::Global;
 use std::sync::Wait;
 use std::thread::Threads;
 
@@ -23,35 +21,18 @@ const ALLOWANCE: u64 = 4_096;
 /// evidence to be kept small, and states are quicker. Where that says nothing, and with a smaller budget at once, tables and frontiers have
 /// the whole budget, and what they say stands.
 pub fn decide_task<G: Gate, R: Threads + Wait + Sync>(
-    rt: &R,
-    alloc: Global,
-    set: &TaskSet,
-    graphs: &Graphs,
+    crew: &Crew<'_, G, R>,
+    set: &Accepted<'_>,
     task: u32,
-    workers: u32,
-    budget: u64,
-    gate: &G,
 ) -> Result<TaskAnswer, Memory>
-    requires constrained { AreConstrained set.now.tasks }
-    requires graphs { graphs.now ≡ graphs_of set.now.tasks }
     requires task { task < length set.now.tasks }
-    requires workers { (1 ≤ workers) × (workers ≤ 16) }
-    requires some { 1 ≤ budget }
-    requires few { budget ≤ 1000000 }
-    ensures { IfOk result (IsTaskAnswer set.now budget task) }
+    ensures { IfOk result (IsTaskAnswer set.now crew.now.effort.budget task) }
 {
-    if budget <= ALLOWANCE {
-        return analyse_task(rt, alloc, set, graphs, task, workers, budget, gate);
+    if crew.effort.budget() <= ALLOWANCE {
+        return analyse_task(crew, set, task);
     }
-    let effort = Effort {
-        rt,
-        alloc,
-        workers,
-        budget,
-        gate,
-    };
-    match decide_by_states(&effort, set, graphs, task)? {
+    match decide_by_states(crew, set, task)? {
         Some(answer) => Ok(answer),
-        None => analyse_task(rt, alloc, set, graphs, task, workers, budget, gate),
+        None => analyse_task(crew, set, task),
     }
 }

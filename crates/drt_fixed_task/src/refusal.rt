@@ -20,10 +20,12 @@ use std::alloc::Global;
 // Each walk's offsets are below the vertex's deadline, and its last job's deadline is at most as much later. Both are at most 1,000,000 ticks.
 const LAST_DEADLINE: u64 = 2_000_000;
 
-// A vertex of the task, by its number, and the ticks at which the walks beside it are cut.
+// A vertex of the task, by its number; the walks of the tasks of higher priority beside it, in order of the file; and the ticks at which they
+// are cut.
 #[derive(Clone, Copy)]
-struct Cut {
+struct Cut<'a> {
     vertex: u32,
+    walks: &'a [Row<u32>],
     end: u32,
 }
 
@@ -41,14 +43,16 @@ pub(crate) fn refuse(
     ensures { IfOk result (IsDecided given.entry.set.now.tasks given.entry.task) }
 {
     requests_miss();
-    let _tasks = given.set.tasks();
-    let deadline = given.graphs.graph(given.task).vertex(vertex).deadline;
+    given.set.keep_limits();
+    let graphs = given.set.graphs();
+    let deadline = graphs.graph(given.task).vertex(vertex).deadline;
     let cut = Cut {
         vertex,
+        walks,
         end: deadline,
     };
-    let chosen = job_walks(alloc, given, walks, cut)?;
-    let releases = all_releases(alloc, given.graphs, chosen.as_slice(), LAST_DEADLINE)?;
+    let chosen = job_walks(alloc, given, cut)?;
+    let releases = all_releases(alloc, graphs, chosen.as_slice(), LAST_DEADLINE)?;
     Ok(TaskAnswer::Misses {
         releases: Row::from_vec(releases),
         miss: Miss {
@@ -60,21 +64,16 @@ pub(crate) fn refuse(
 }
 
 // A walk for each task: for those of higher priority the one at its place, cut, and the vertex alone for the task itself.
-fn job_walks(
-    alloc: Global,
-    given: Given<'_>,
-    walks: &[Row<u32>],
-    cut: Cut,
-) -> Result<Vec<Row<u32>>, Memory>
+fn job_walks(alloc: Global, given: Given<'_>, cut: Cut<'_>) -> Result<Vec<Row<u32>>, Memory>
     requires given { IsGiven given }
-    requires walks { AreWalks given.set.now.tasks (placed_walk given.set.now.tasks (task_at given.set.now.tasks given.task).priority walks.now) }
+    requires walks { AreWalks given.set.now.tasks (placed_walk given.set.now.tasks (task_at given.set.now.tasks given.task).priority cut.walks.now) }
     ensures count { IfOk result (λ all. length all.items ≡ length given.entry.set.now.tasks) }
-    ensures each { IfOk result (λ all. (i : ℕ) → i < length given.entry.set.now.tasks → walk_at all.items i ≡ job_walk given.entry.set.now.tasks walks.now given.entry.task cut.vertex cut.end i) }
+    ensures each { IfOk result (λ all. (i : ℕ) → i < length given.entry.set.now.tasks → walk_at all.items i ≡ job_walk given.entry.set.now.tasks cut.entry.walks.now given.entry.task cut.entry.vertex cut.entry.end i) }
 {
     let mut chosen = Vec::new(alloc);
     let mut place = 0;
-    'tasks: for k in 0..given.graphs.count() {
-        chosen.push(job_walk(alloc, given, walks, place, cut, k)?)?;
+    'tasks: for k in 0..given.set.graphs().count() {
+        chosen.push(job_walk(alloc, given, cut, place, k)?)?;
         if is_higher(given.set, k, given.task) {
             place += 1;
         }
@@ -86,19 +85,23 @@ fn job_walks(
 fn job_walk(
     alloc: Global,
     given: Given<'_>,
-    walks: &[Row<u32>],
+    cut: Cut<'_>,
     place: u32,
-    cut: Cut,
     k: u32,
 ) -> Result<Row<u32>, Memory>
     requires given { IsGiven given }
-    requires walks { AreWalks given.set.now.tasks (placed_walk given.set.now.tasks (task_at given.set.now.tasks given.task).priority walks.now) }
+    requires walks { AreWalks given.set.now.tasks (placed_walk given.set.now.tasks (task_at given.set.now.tasks given.task).priority cut.walks.now) }
     requires here { k < length given.set.now.tasks }
     requires place { place ≡ length (higher_before given.set.now.tasks (task_at given.set.now.tasks given.task).priority k) }
-    ensures { IfOk result (λ walk. walk ≡ job_walk given.entry.set.now.tasks walks.now given.entry.task cut.vertex cut.end k) }
+    ensures { IfOk result (λ walk. walk ≡ job_walk given.entry.set.now.tasks cut.entry.walks.now given.entry.task cut.entry.vertex cut.entry.end k) }
 {
     if is_higher(given.set, k, given.task) {
-        return cut_walk(alloc, given.graphs.graph(k), cut.end, walk_of(walks, place));
+        return cut_walk(
+            alloc,
+            given.set.graphs().graph(k),
+            cut.end,
+            walk_of(cut.walks, place),
+        );
     }
     let mut alone = Vec::new(alloc);
     if k == given.task {

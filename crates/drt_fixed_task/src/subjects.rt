@@ -5,17 +5,16 @@ ghost use Rattle.drt_busy.specs.Choice.{graph_at};
 ghost use Rattle.drt_sp_states.specs.Subjects.{IsSubject};
 ghost use Rattle.drt_fixed_task.specs.Subjects.{IsGiven, IsSubjectOf};
 
-use drt_graph::Graphs;
-use drt_model::{Row, TaskSet};
+use drt_accepted::Accepted;
+use drt_model::Row;
 use drt_sp_states::Subject;
 use drt_states::{Jump, TailClaim};
 
-/// What the searches of the vertices of a task are over: the set and its graphs, the task, those of higher priority in order of the file, and
+/// What the searches of the vertices of a task are over: the set with its graphs, the task, those of higher priority in order of the file, and
 /// their tails up to a bound with the greatest values of these.
 #[derive(Clone, Copy)]
 pub(crate) struct Given<'a> {
-    pub set: &'a TaskSet,
-    pub graphs: &'a Graphs,
+    pub set: &'a Accepted<'a>,
     pub task: u32,
     pub higher: &'a [u32],
     pub bound: u32,
@@ -30,10 +29,11 @@ pub(crate) fn subject_of<'a>(given: Given<'a>, vertex: u32) -> Subject<'a>
     ensures subject { IsSubject result }
     ensures is { IsSubjectOf given.entry vertex result }
 {
-    let _tasks = given.set.tasks();
-    let job = given.graphs.graph(given.task).vertex(vertex);
+    given.set.keep_limits();
+    let graphs = given.set.graphs();
+    let job = graphs.graph(given.task).vertex(vertex);
     Subject {
-        graphs: given.graphs,
+        graphs,
         order: given.higher,
         tails: given.tails,
         crests: given.crests,

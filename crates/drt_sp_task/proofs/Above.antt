@@ -1,8 +1,9 @@
 -- What the trees of the tasks of higher priority say of the task: where its analysis stands at a vertex, and what ends it.
-use Rattle.std.proofs.Common.{◌≡◌, ℕ, ◌+◌, ◌<◌, ◌≤◌, List, [], ◌∷◌, ◌++◌, length, refl, sym, ap, ◌∙◌, subst, arith}
+use Rattle.std.proofs.Common.{◌≡◌, ℕ, map, ◌+◌, ◌<◌, ◌≤◌, List, [], ◌∷◌, ◌++◌, length, refl, sym, ap, ◌∙◌, subst, arith}
 use Rattle.std.specs.Prelude.{Some, slice_get}
 use Rattle.std.proofs.lemmas.List.{length-map}
 use Rattle.std.proofs.lemmas.Option.{get_or_from_slice_get, slice_get_within}
+use Rattle.drt_model.specs.Constrained.{AreConstrained}
 use Rattle.drt_model.specs.Digraph.{Digraph, digraph_of, vertex_count}
 use Rattle.drt_model.specs.Limits.{IsTaskSet}
 use Rattle.drt_model.specs.Walk.{deadline, wcet}
@@ -14,7 +15,7 @@ use Rattle.drt_steps.specs.Time.{AreChosen}
 use Rattle.drt_refine.specs.Below.{AreNodes}
 use Rattle.drt_refine.specs.declared.step.FrontierEntry.{FrontierEntry}
 use Rattle.drt_choices.specs.Laws.{IsPosed, LeavesPass}
-use Rattle.drt_choices.specs.Choices.{VertexPasses}
+use Rattle.drt_choices.specs.Choices.{IsOrder, VertexPasses}
 use Rattle.drt_claims.specs.Trees.{greatest_deadline}
 use Rattle.drt_claims.specs.declared.evidence.ProofClaim.{ProofClaim}
 use Rattle.drt_releases.proofs.Walks.{graph_same}
@@ -32,21 +33,22 @@ use Rattle.drt_sp.proofs.Orders.{order_count, order_place, order_rises}
 use Rattle.drt_sp.proofs.Passing.{at_place, chosen_at, claimed_nodes, posed_at, proofs_pass, task_below, vertex_passes}
 use Rattle.drt_sp.proofs.Yes.{few_tasks}
 use Rattle.drt_sp_task.specs.Task.{IsMeeting, IsSpentTask, IsUndecidedTask, TaskPasses}
-use Rattle.drt_sp_task.specs.Trees.{AreHigherTrees, AreTreesUpTo, IsFailing, IsGiven, IsSpentAt}
-use Rattle.drt_sp_task.specs.declared.effort.Given.{Given}
+use Rattle.drt_sp_task.specs.Trees.{AreHigherTrees, AreTreesUpTo, IsFailing, IsSpentAt}
+use Rattle.drt_sp_task.specs.declared.given.Given.{Given}
 use Rattle.drt_sp_task.specs.declared.trees.HigherTrees.{HigherTrees}
 
-module _ (g : Given) (is : IsGiven g) where
+module _ (g : Given) (order_is : IsOrder g.set.now.tasks g.order.now) where
   -- The graph of a task among those of the set.
-  pub graph_here : (k : ℕ) → k < length g.set.now.tasks → (graph : Digraph) → graph ≡ graph_of g.graphs.now k → graph ≡ graph_at g.set.now.tasks k
-  graph_here k l graph at = at ∙ (ap (λ gs. graph_of gs k) is.graphs ∙ graph_same g.set.now.tasks k l)
+  pub graph_here : {graphs : List Digraph} {graph : Digraph} → graphs ≡ map digraph_of g.set.now.tasks → (k : ℕ) → k < length g.set.now.tasks → graph ≡ graph_of graphs k
+      → graph ≡ graph_at g.set.now.tasks k
+  graph_here own k l at = at ∙ (ap (λ gs. graph_of gs k) own ∙ graph_same g.set.now.tasks k l)
 
-  pub graph_within : (k : ℕ) → k < length g.set.now.tasks → k < length g.graphs.now
-  graph_within k l = omega (arith, l, ap length is.graphs, length-map g.set.now.tasks digraph_of)
+  pub graph_within : {graphs : List Digraph} → graphs ≡ map digraph_of g.set.now.tasks → (k : ℕ) → k < length g.set.now.tasks → k < length graphs
+  graph_within own k l = omega (arith, l, ap length own, length-map g.set.now.tasks digraph_of)
 
   -- Each task has its place.
   pub task_place : (k : ℕ) → k < length g.set.now.tasks → (i : ℕ) × (slice_get g.order.now i ≡ Some k)
-  task_place k l = let p = order_place g.set.now.tasks g.order.now is.order k l in (p.0, at_place g.set.now.tasks g.order.now is.order p.0 p.1 ∙ ap Some p.2)
+  task_place k l = let p = order_place g.set.now.tasks g.order.now order_is k l in (p.0, at_place g.set.now.tasks g.order.now order_is p.0 p.1 ∙ ap Some p.2)
 
   -- A search of the walks of a task at an earlier place spent its budget.
   pub spent_above : (budget k place m : ℕ) → place < m → slice_get g.order.now m ≡ Some k → (trail : FixedTrail) → IsSpentAt g budget place trail
@@ -56,8 +58,8 @@ module _ (g : Given) (is : IsGiven g) where
       let order = g.order.now in
       let a = ap (λ j. (task_at tasks j).priority) (get_or_from_slice_get order place task 0 spent.0) in
       let b = ap (λ j. (task_at tasks j).priority) (get_or_from_slice_get order m k 0 at) in
-      let rises = order_rises tasks order is.order place m l (slice_get_within order m k at) in
-      (task_below tasks order is.order place task spent.0, omega (arith, rises, a, b), spent.1, spent.2)
+      let rises = order_rises tasks order order_is place m l (slice_get_within order m k at) in
+      (task_below tasks order order_is place task spent.0, omega (arith, rises, a, b), spent.1, spent.2)
   spent_above budget k place m l at (Refine task v log) spent = absurd spent
 
   -- No tree stands for no tasks.
@@ -68,7 +70,7 @@ module _ (g : Given) (is : IsGiven g) where
     -- There is room for one more tree.
     pub room_more : (place : ℕ) (trees : HigherTrees) → place < length g.order.now → AreTreesUpTo g place trees → length trees.forest.nodes + 2000192 ≤ 4294967295
     room_more place trees l before =
-        omega (arith, before.grown.few, l, order_count g.set.now.tasks g.order.now is.order, few_tasks g.set.now.version g.set.now.tasks limits)
+        omega (arith, before.grown.few, l, order_count g.set.now.tasks g.order.now order_is, few_tasks g.set.now.version g.set.now.tasks limits)
 
     -- One more tree.
     pub one_more : (place k : ℕ) → slice_get g.order.now place ≡ Some k → (old new : HigherTrees) (tree : TaskTree) → IsForest old.forest → AreTreesUpTo g place old
@@ -86,10 +88,10 @@ module _ (g : Given) (is : IsGiven g) where
       pub few_roots : length trees.roots.items ≤ 31
       few_roots =
           let l = slice_get_within g.order.now above.place k above.at in
-          omega (arith, above.stand.grown.count, l, order_count g.set.now.tasks g.order.now is.order, few_tasks g.set.now.version g.set.now.tasks limits)
+          omega (arith, above.stand.grown.count, l, order_count g.set.now.tasks g.order.now order_is, few_tasks g.set.now.version g.set.now.tasks limits)
 
       pub chosen_here : (v : ℕ) → v < vertex_count (graph_at g.set.now.tasks k) → AreChosen (deadline (graph_at g.set.now.tasks k) v) trees.forest.pool trees.roots.items
-      chosen_here = chosen_at g.set.now.tasks g.order.now is.order g.set.now.version above.place k limits above.at
+      chosen_here = chosen_at g.set.now.tasks g.order.now order_is g.set.now.version above.place k limits above.at
           trees.forest trees.roots.items above.stand.claims above.stand.grown forest
 
       nodes_here : AreNodes trees.forest trees.roots.items
@@ -97,22 +99,22 @@ module _ (g : Given) (is : IsGiven g) where
 
       posed_here : (v : ℕ) → v < vertex_count (graph_at g.set.now.tasks k)
           → IsPosed g.set.now.version g.set.now.tasks g.order.now (greatest_deadline g.set.now.tasks) trees.forest trees.roots.items k v
-      posed_here = posed_at g.set.now.tasks g.order.now is.order g.set.now.version above.place k limits above.at
+      posed_here = posed_at g.set.now.tasks g.order.now order_is g.set.now.version above.place k limits above.at
           trees.forest trees.roots.items above.stand.claims above.stand.grown
 
       passes_here : LeavesPass → (v : ℕ) → v < vertex_count (graph_at g.set.now.tasks k) → TuplesPass trees.forest trees.roots.items (graph_at g.set.now.tasks k) v
           → VertexPasses g.set.now.tasks k v
-      passes_here = vertex_passes g.set.now.tasks g.order.now is.order g.set.now.version above.place k limits above.at
+      passes_here = vertex_passes g.set.now.tasks g.order.now order_is g.set.now.version above.place k limits above.at
           trees.forest trees.roots.items above.stand.claims above.stand.grown
 
       -- Proofs of all vertices are a yes.
-      pub meeting : LeavesPass → TimesSufficeForTask → (proofs : List ProofClaim)
+      pub meeting : LeavesPass → TimesSufficeForTask → AreConstrained g.set.now.tasks → (proofs : List ProofClaim)
           → AreVertexProofs trees.forest trees.roots.items (graph_at g.set.now.tasks k) k (vertex_count (graph_at g.set.now.tasks k)) proofs → IsMeeting g.set.now.tasks k
-      meeting law suffice proofs are =
+      meeting law suffice constrained proofs are =
           let tasks = g.set.now.tasks in
           let graph = graph_at tasks k in
           let passes : TaskPasses tasks k = λ v l. passes_here law v l (proofs_pass trees.forest trees.roots.items graph k (vertex_count graph) proofs are v l) in
-          record { meets = λ rs legal j here of. suffice g.set.now.version tasks limits is.constrained k passes rs legal j here of; passes = passes }
+          record { meets = λ rs legal j here of. suffice g.set.now.version tasks limits constrained k passes rs legal j here of; passes = passes }
 
       -- The tuple of a vertex that fails.
       pub failing : (v : ℕ) (tuple : List ℕ) → v < vertex_count (graph_at g.set.now.tasks k)
@@ -121,7 +123,7 @@ module _ (g : Given) (is : IsGiven g) where
       failing v tuple l failure = record {
         tuple = record {
           roots = trees.roots.items;
-          task = task_below g.set.now.tasks g.order.now is.order above.place k above.at;
+          task = task_below g.set.now.tasks g.order.now order_is above.place k above.at;
           nodes = nodes_here;
           posed = posed_here v l;
           below = failure.below;
@@ -145,6 +147,6 @@ module _ (g : Given) (is : IsGiven g) where
         exact = grown_exact g.set.now.tasks g.order.now above.place trees.forest trees.roots.items above.stand.claims above.stand.grown;
         refinement = spent;
         short =
-            refinement_below g.set.now.tasks g.order.now is.order trees.forest trees.roots.items above.stand.grown.few_leaves k
+            refinement_below g.set.now.tasks g.order.now order_is trees.forest trees.roots.items above.stand.grown.few_leaves k
             (ap (slice_get g.order.now) above.stand.grown.count ∙ above.at) short forest _ _ budget log spent;
       }

@@ -22,7 +22,7 @@ use Rattle.drt_busy.specs.WalkReleases.{release_at, with_job}
 use Rattle.drt_busy.proofs.EdfWalks.{deadline_here}
 use Rattle.drt_busy.proofs.FixedWalks.{priority_here}
 use Rattle.drt_tree.specs.Tree.{Plain}
-use Rattle.drt_choices.specs.Choices.{chosen}
+use Rattle.drt_choices.specs.Choices.{IsOrder, chosen}
 use Rattle.drt_choices.specs.Laws.{no_releases}
 use Rattle.drt_choices.proofs.Asked.{requests_asked}
 use Rattle.drt_choices.proofs.Chosen.{below_length, chosen_asked, chosen_walks}
@@ -30,8 +30,8 @@ use Rattle.drt_choices.proofs.Members.{first_job, is_higher, job_releases, of_wa
 use Rattle.drt_claims.specs.Trees.{greatest_deadline}
 use Rattle.drt_sp.specs.Answers.{IsTupleFor}
 use Rattle.drt_sp_task.specs.Task.{IsTaskMiss}
-use Rattle.drt_sp_task.specs.Trees.{IsFailing, IsGiven}
-use Rattle.drt_sp_task.specs.declared.effort.Given.{Given}
+use Rattle.drt_sp_task.specs.Trees.{IsFailing}
+use Rattle.drt_sp_task.specs.declared.given.Given.{Given}
 use Rattle.drt_sp.specs.declared.walks.VertexTuple.{VertexTuple}
 
 -- The first job of a task, by the name of a miss.
@@ -83,7 +83,7 @@ module _ (tasks : List Task) (walks : ℕ → List ℕ) (k v : ℕ) where
       }
 
 -- Where no time passes for a vertex and its tuple of leaves, the walks that the tuple names leave no time.
-module _ (g : Given) (is : IsGiven g) (f : Plain) (failed : VertexTuple) (failing : IsFailing g f failed) where
+module _ (g : Given) (order_is : IsOrder g.set.now.tasks g.order.now) (f : Plain) (failed : VertexTuple) (failing : IsFailing g f failed) where
   over : (t : ℕ) → 1 ≤ t → t ≤ deadline (graph_at g.set.now.tasks failed.task) failed.vertex
       → t < wcet (graph_at g.set.now.tasks failed.task) failed.vertex
       + requests g.set.now.tasks (chosen g.set.now.tasks f (deadline (graph_at g.set.now.tasks failed.task) failed.vertex) g.order.now failed.tuple)
@@ -98,18 +98,18 @@ module _ (g : Given) (is : IsGiven g) (f : Plain) (failed : VertexTuple) (failin
       let walks = chosen tasks f d order tuple in
       let for : IsTupleFor g.set.now order f k v tuple = failing.tuple in
       let at : slice_get order (length tuple) ≡ Some k = ap (slice_get order) (below_length f tuple for.roots for.below) ∙ for.posed.subject.at in
-      let asks = requests_asked tasks walks order tuple k t is.order at in
-      let sums = chosen_asked tasks f d (greatest_deadline tasks) order for.roots tuple is.order.rising for.posed.trees for.below t one by (omega (arith, for.posed.subject.near)) in
+      let asks = requests_asked tasks walks order tuple k t order_is at in
+      let sums = chosen_asked tasks f d (greatest_deadline tasks) order for.roots tuple order_is.rising for.posed.trees for.below t one by (omega (arith, for.posed.subject.near)) in
       elim (cases_lt t (wcet (graph_at tasks k) v + requests tasks walks (task_at tasks k).priority (length tasks) t)) [
         | inl lt ↦ lt
         | inr fits ↦ absurd (failing.none t (record { from = one; to = by; passes = omega (arith, asks, sums) }))
       ]
 
   -- So the releases of these walks are a miss of the task.
-  pub missed : RequestsMiss → TimesSufficeForTask → (releases : List Release) (miss : Miss)
+  pub missed : RequestsMiss → TimesSufficeForTask → AreConstrained g.set.now.tasks → (releases : List Release) (miss : Miss)
       → releases ≡ no_releases g.set.now.tasks f g.order.now failed.tuple failed.task failed.vertex
       → miss ≡ first_miss failed.task (deadline (graph_at g.set.now.tasks failed.task) failed.vertex) → IsTaskMiss g.set.now.tasks failed.task releases miss
-  missed law suffice releases miss same named =
+  missed law suffice constrained releases miss same named =
       let tasks = g.set.now.tasks in
       let order = g.order.now in
       let k = failed.task in
@@ -118,5 +118,5 @@ module _ (g : Given) (is : IsGiven g) (f : Plain) (failed : VertexTuple) (failin
       let d = deadline (graph_at tasks k) v in
       let walks = chosen tasks f d order failed.tuple in
       let are = chosen_walks tasks f d (greatest_deadline tasks) order for.roots failed.tuple for.posed.trees for.below in
-      let no = walks_miss tasks walks k v law suffice g.set.now.version for.posed.limits is.constrained for.task for.posed.subject.vertex are over in
+      let no = walks_miss tasks walks k v law suffice g.set.now.version for.posed.limits constrained for.task for.posed.subject.vertex are over in
       subst (λ rs. IsTaskMiss tasks k rs miss) (sym same) (subst (λ m. IsTaskMiss tasks k (job_releases tasks walks k v) m) (sym named) no)

@@ -1,11 +1,8 @@
 -- The trees of the tasks of higher priority, and what an analysis makes of them.
 use Rattle.std.specs.Prelude.{◌≡◌, ℕ, List, Some, slice_get}
-use Rattle.drt_model.specs.Constrained.{AreConstrained}
 use Rattle.drt_model.specs.Walk.{deadline, wcet}
 use Rattle.drt_busy.specs.Choice.{graph_at}
 use Rattle.drt_tree.specs.Tree.{Plain}
-use Rattle.drt_choices.specs.Choices.{IsOrder}
-use Rattle.drt_claims.specs.Claims.{graphs_of}
 use Rattle.drt_claims.specs.Trees.{greatest_deadline}
 use Rattle.drt_claims.specs.declared.evidence.TreeClaim.{TreeClaim}
 use Rattle.drt_trails.specs.declared.FixedTrail.{FixedTrail}
@@ -17,16 +14,10 @@ use Rattle.drt_sp.specs.Progress.{AreGrown}
 use Rattle.drt_sp.specs.TreeClaims.{IsSpentSearch}
 use Rattle.drt_sp.specs.declared.walks.VertexTuple.{VertexTuple}
 use Rattle.drt_sp_task.specs.Task.{IsUndecidedTask}
-use Rattle.drt_sp_task.specs.declared.effort.Given.{Given}
+use Rattle.drt_sp_task.specs.declared.given.Given.{Given}
 use Rattle.drt_sp_task.specs.declared.trees.Grown.{Grown}
 use Rattle.drt_sp_task.specs.declared.trees.Grown.TheVariants.{Trees, Spent}
 use Rattle.drt_sp_task.specs.declared.trees.HigherTrees.{HigherTrees}
-
--- The set has constrained deadlines, and the graphs and the order of priority are its own.
-pub record IsGiven (g : Given) : Type 0 where
-  pub constrained : AreConstrained g.set.now.tasks
-  pub graphs : g.graphs.now ≡ graphs_of g.set.now.tasks
-  pub order : IsOrder g.set.now.tasks g.order.now
 
 -- The trees are those of the tasks at the first m places of the order, with some text each.
 pub record AreTreesUpTo (g : Given) (m : ℕ) (trees : HigherTrees) : Type 0 where

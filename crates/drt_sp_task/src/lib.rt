@@ -9,7 +9,7 @@
 
 mod analysis;
 mod answer;
-mod effort;
+mod given;
 pub mod laws;
 mod missing;
 mod trees;

@@ -1,9 +1,10 @@
 //! The miss of a vertex that fails.
 ghost use Rattle.std.specs.Prelude.{IfOk};
+ghost use Rattle.drt_choices.specs.Choices.{IsOrder};
 ghost use Rattle.drt_sp_task.specs.Task.{IsTaskMiss};
-ghost use Rattle.drt_sp_task.specs.Trees.{IsFailing, IsGiven};
+ghost use Rattle.drt_sp_task.specs.Trees.{IsFailing};
 
-use crate::effort::Given;
+use crate::given::Given;
 use drt_busy::{requests_miss, times_suffice_for_task};
 use drt_model::{Memory, Miss, Release, Row};
 use drt_sp::{VertexTuple, leaf_releases};
@@ -18,23 +19,21 @@ pub(crate) fn find_miss(
     forest: &Forest,
     failed: &VertexTuple,
 ) -> Result<(Row<Release>, Miss), Memory>
-    requires given { IsGiven given }
+    requires order { IsOrder given.set.now.tasks given.order.now }
     requires failed { IsFailing given forest.now failed.now }
     ensures { IfOk result (λ found. IsTaskMiss given.entry.set.now.tasks failed.now.task found.0 found.1) }
 {
     requests_miss();
     times_suffice_for_task();
-    let _tasks = given.set.tasks();
-    let _count = given.graphs.count();
-    let deadline = given
-        .graphs
-        .graph(failed.task)
-        .vertex(failed.vertex)
-        .deadline;
+    given.set.keep_limits();
+    let graphs = given.set.graphs();
+    let _count = graphs.count();
+    let deadline = graphs.graph(failed.task).vertex(failed.vertex).deadline;
+    let set = given.set.set(); // bridge
     let releases = leaf_releases(
         alloc,
-        given.set,
-        given.graphs,
+        set, // bridge
+        graphs, // bridge
         forest,
         given.order,
         failed,

@@ -1,8 +1,10 @@
 //! The trees of the tasks of higher priority.
 ghost use Rattle.std.specs.Prelude.{◌≡◌, ℕ, ◌+◌, ◌<◌, ◌≤◌, Some, slice_get, length, IfOk, MatchOption};
-ghost use Rattle.drt_sp_task.specs.Trees.{AreTreesUpTo, IsGiven, IsGrown, IsSpentAt};
+ghost use Rattle.drt_choices.specs.Choices.{IsOrder};
+ghost use Rattle.drt_sp_task.specs.Trees.{AreTreesUpTo, IsGrown, IsSpentAt};
 
-use crate::effort::{Effort, Given};
+use crate::given::Given;
+use drt_crew::Crew;
 use drt_model::Memory;
 use drt_pool::Gate;
 use drt_request::RequestLabel;
@@ -31,24 +33,22 @@ pub(crate) enum Grown {
 
 /// The trees of the tasks of higher priority than this one.
 pub(crate) fn grow_trees<G: Gate, R: Threads + Wait + Sync>(
-    effort: &Effort<'_, G, R>,
+    crew: &Crew<'_, G, R>,
     given: Given<'_>,
     task: u32,
 ) -> Result<Grown, Memory>
-    requires workers { (1 ≤ effort.now.workers) × (effort.now.workers ≤ 16) }
-    requires budget { (1 ≤ effort.now.budget) × (effort.now.budget ≤ 1000000) }
-    requires given { IsGiven given }
+    requires order { IsOrder given.set.now.tasks given.order.now }
     requires task { task < length given.set.now.tasks }
-    ensures { IfOk result (IsGrown given.entry effort.now.budget task) }
+    ensures { IfOk result (IsGrown given.entry crew.now.effort.budget task) }
 {
-    let _tasks = given.set.tasks();
+    given.set.keep_limits();
     let mut trees = HigherTrees {
-        forest: Forest::empty(effort.alloc),
-        roots: Vec::new(effort.alloc),
+        forest: Forest::empty(crew.alloc),
+        roots: Vec::new(crew.alloc),
     };
     let end = place_of(given.order, task);
     'places: for place in 0..end {
-        if let Some(trail) = add_tree(effort, given, place, &mut trees)? {
+        if let Some(trail) = add_tree(crew, given, place, &mut trees)? {
             return Ok(Grown::Spent(trail));
         }
     }
@@ -70,28 +70,28 @@ fn place_of(order: &[u32], task: u32) -> usize
 
 // Adds the tree of the task at this place of the order to those of the tasks before it. A trail ends the analysis.
 fn add_tree<G: Gate, R: Threads + Wait + Sync>(
-    effort: &Effort<'_, G, R>,
+    crew: &Crew<'_, G, R>,
     given: Given<'_>,
     place: usize,
     trees: &mut HigherTrees,
 ) -> Result<Option<FixedTrail>, Memory>
-    requires workers { (1 ≤ effort.now.workers) × (effort.now.workers ≤ 16) }
-    requires budget { (1 ≤ effort.now.budget) × (effort.now.budget ≤ 1000000) }
-    requires given { IsGiven given }
+    requires order { IsOrder given.set.now.tasks given.order.now }
     requires here { place < length given.order.now }
     requires before { AreTreesUpTo given place trees.old }
-    ensures { IfOk result (λ trail. MatchOption trail (AreTreesUpTo given.entry (place + 1) trees.new) (IsSpentAt given.entry effort.now.budget place)) }
+    ensures { IfOk result (λ trail. MatchOption trail (AreTreesUpTo given.entry (place + 1) trees.new) (IsSpentAt given.entry crew.now.effort.budget place)) }
 {
     over_every_interleaving::<RequestLabel>();
-    let _tasks = given.set.tasks();
-    let _count = given.graphs.count();
+    given.set.keep_limits();
+    let graphs = given.set.graphs();
+    let _count = graphs.count();
     trees.forest.show_sound();
     let task = given.order[place];
+    let effort = crew.effort.budget(); // bridge
     match search_tree(
-        effort.alloc,
-        given.graphs.graph(task),
-        greatest_deadline(given.set),
-        effort.budget,
+        crew.alloc,
+        graphs.graph(task),
+        greatest_deadline(given.set.set()),
+        effort,
         &mut trees.forest,
     )? {
         TreeSearch::Tree(tree) => {

@@ -1,14 +1,16 @@
 //! The vertices of the task.
 ghost use Rattle.std.specs.Prelude.{◌<◌, ◌≤◌, length, IfOk};
+ghost use Rattle.drt_choices.specs.Choices.{IsOrder};
 ghost use Rattle.drt_sp_task.specs.Task.{IsTaskAnswer};
-ghost use Rattle.drt_sp_task.specs.Trees.{AreHigherTrees, IsGiven};
+ghost use Rattle.drt_sp_task.specs.Trees.{AreHigherTrees};
 
 use crate::answer::TaskAnswer;
-use crate::effort::{Effort, Given};
+use crate::given::Given;
 use crate::missing::find_miss;
 use crate::trees::HigherTrees;
 use drt_busy::times_suffice_for_task;
 use drt_choices::leaves_pass;
+use drt_crew::Crew;
 use drt_model::Memory;
 use drt_pool::Gate;
 use drt_refine::over_every_interleaving;
@@ -19,34 +21,35 @@ use std::thread::Threads;
 
 /// What the vertices of a task say of it, against the trees of the tasks of higher priority.
 pub(crate) fn decide_over<G: Gate, R: Threads + Wait + Sync>(
-    effort: &Effort<'_, G, R>,
+    crew: &Crew<'_, G, R>,
     given: Given<'_>,
     task: u32,
     trees: &HigherTrees,
 ) -> Result<TaskAnswer, Memory>
-    requires workers { (1 ≤ effort.now.workers) × (effort.now.workers ≤ 16) }
-    requires budget { (1 ≤ effort.now.budget) × (effort.now.budget ≤ 1000000) }
-    requires given { IsGiven given }
+    requires order { IsOrder given.set.now.tasks given.order.now }
     requires task { task < length given.set.now.tasks }
     requires trees { AreHigherTrees given task trees.now }
-    ensures { IfOk result (IsTaskAnswer given.entry.set.now effort.now.budget task) }
+    ensures { IfOk result (IsTaskAnswer given.entry.set.now crew.now.effort.budget task) }
 {
     leaves_pass();
     over_every_interleaving();
     times_suffice_for_task();
-    let _tasks = given.set.tasks();
-    let _count = given.graphs.count();
+    given.set.keep_limits();
+    let graphs = given.set.graphs();
+    let _count = graphs.count();
     trees.forest.show_sound();
+    let workers = crew.effort.workers(); // bridge
+    let budget = crew.effort.budget(); // bridge
     match prove_vertices(
-        effort.rt,
-        effort.alloc,
+        crew.rt, // bridge
+        crew.alloc, // bridge
         &trees.forest,
         trees.roots.as_slice(),
         task,
-        given.graphs.graph(task),
-        effort.workers,
-        effort.budget,
-        effort.gate,
+        graphs.graph(task),
+        workers, // bridge
+        budget, // bridge
+        crew.gate, // bridge
     )? {
         TaskProofs::Passed(_proofs) => Ok(TaskAnswer::Meets),
         TaskProofs::Failed { vertex, tuple } => {
@@ -55,7 +58,7 @@ pub(crate) fn decide_over<G: Gate, R: Threads + Wait + Sync>(
                 vertex,
                 tuple,
             };
-            let (releases, miss) = find_miss(effort.alloc, given, &trees.forest, &failed)?;
+            let (releases, miss) = find_miss(crew.alloc, given, &trees.forest, &failed)?;
             Ok(TaskAnswer::Misses { releases, miss })
         }
         TaskProofs::Spent { vertex, log } => {

@@ -20,17 +20,18 @@ pub find_next-requires-clause-ranks : goal.find_next-requires-clause-ranks
 find_next-requires-clause-ranks g c κs within =
     let old : List ℕ = c.args.course.now.old.now in
     let tasks : List Task = prioritised c.args.set.tasks old in
-    subst (λ (xs : List ℕ). AreRanks (length c.rounds.set.tasks) c.rounds.open_count xs) (sym c.deref.ensures.value)
+    subst (λ (xs : List ℕ). AreRanks (length c.rounds.set.tasks) c.rounds.open_count xs) (sym c.as_slice.ensures.value)
     (subst (λ (n : ℕ). AreRanks n c.rounds.open_count c.rounds.ranks.items) (as_many_in tasks old c.rounds.set c.rounds.invariant.0) c.rounds.invariant.1)
 
 pub rounds-preserved : goal.rounds-preserved
 rounds-preserved g c =
     let old : List ℕ = c.args.course.now.old.now in
+    let budget : ℕ = c.args.course.now.crew.now.effort.budget in
     let tasks : List Task = prioritised c.args.set.tasks old in
     let ranks : List ℕ = c.rounds.ranks.items in
     let m : ℕ = c.rounds.open_count in
-    let said = round_of tasks (prioritised c.rounds.set.tasks old) old c.deref.result.now ranks m c.args.course.now.budget c.in_ok-tried.field-0 (rounds.Found c.in-Found.tried c.in-Found.task)
-    c.rounds.invariant.0 c.deref.ensures.value c.in-Found.is c.in_ok-tried.ensures in (
+    let said = round_of tasks (prioritised c.rounds.set.tasks old) old c.as_slice.result.now ranks m budget c.in_ok-tried.field-0 (rounds.Found c.in-Found.tried c.in-Found.task)
+    c.rounds.invariant.0 c.as_slice.ensures.value c.in-Found.is c.in_ok-tried.ensures in (
       said.0,
       ranks_after tasks m ranks c.rounds.invariant.1 c.in-Found.task said.1.task said.1.is_open c.rounds-test.true,
       rule_after tasks m ranks c.rounds.invariant.1 c.in-Found.task said.1.task said.1.is_open c.rounds-test.true c.rounds.invariant.2 said.1.first,
@@ -39,10 +40,11 @@ rounds-preserved g c =
 pub returns-in-AllStuck : goal.returns-in-AllStuck
 returns-in-AllStuck g c =
     let old : List ℕ = c.args.course.now.old.now in
+    let budget : ℕ = c.args.course.now.crew.now.effort.budget in
     let tasks : List Task = prioritised c.args.set.tasks old in
     let ranks : List ℕ = c.rounds.ranks.items in
     let m : ℕ = c.rounds.open_count in
-    let said = round_of tasks (prioritised c.rounds.set.tasks old) old c.deref.result.now ranks m c.args.course.now.budget c.in_ok-tried.field-0 (rounds.AllStuck c.in-AllStuck.tried
+    let said = round_of tasks (prioritised c.rounds.set.tasks old) old c.as_slice.result.now ranks m budget c.in_ok-tried.field-0 (rounds.AllStuck c.in-AllStuck.tried
     c.in-AllStuck.stuck)
-    c.rounds.invariant.0 c.deref.ensures.value c.in-AllStuck.is c.in_ok-tried.ensures in
+    c.rounds.invariant.0 c.as_slice.ensures.value c.in-AllStuck.is c.in_ok-tried.ensures in
     (said.0, end_stuck tasks ranks m c.in-AllStuck.stuck c.rounds.invariant.1 c.rounds.invariant.2 c.rounds-test.true said.1)

@@ -6,5 +6,5 @@ use Rattle.drt_assign.proofs.rounds.find_next.Given as goal
 
 abbrev pub invariant-tasks : goal.invariant-tasks
 invariant-tasks g l =
-    IsSoFar (prioritised l.fn.set.tasks l.course.old.now) l.course.old.now l.ranks l.open_count l.k l.set l.stuck.items
-    × AreAhead (prioritised l.fn.set.tasks l.course.old.now) l.ranks l.open_count l.course.budget l.ahead
+    IsSoFar (prioritised l.fn.set.tasks l.course.old.now) l.course.old.now l.standing.ranks.now l.standing.open_count l.k l.set l.stuck.items
+    × AreAhead (prioritised l.fn.set.tasks l.course.old.now) l.standing.ranks.now l.standing.open_count l.course.crew.now.effort.budget l.ahead

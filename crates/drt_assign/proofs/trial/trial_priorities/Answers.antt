@@ -1,17 +1,18 @@
 use Rattle.std.proofs.Common.{◌≡◌, ◌≢◌, ℕ, false, List, map, get_or, ap, sym, subst, ◌∙◌, arith}
 use Rattle.std.specs.List.{range_with_len}
-use Rattle.drt_assign.proofs.Trials.{beside_few, beside_more, beside_same, is_beside, is_beside_own, is_beside_ranked, is_beside_true, is_trial, trial_at, trial_beside, trial_own, trial_ranked, trial_step}
+use Rattle.drt_assign.proofs.Trials.{beside_few, beside_more, beside_same, is_beside, is_beside_own, is_beside_ranked, is_beside_true}
+use Rattle.drt_assign.proofs.Trials.{is_trial, trial_at, trial_beside, trial_own, trial_ranked, trial_step}
 use Rattle.drt_assign.proofs.trial.trial_priorities.Goals as goal
 use Rattle.drt_assign.proofs.trial.trial_priorities.Goals.{then-rank-ne0+in_ok-push, else-rank-ne0+then-k-task+in_ok-push-2, else-rank-ne0+else-k-task+in_ok-push-3}
 
 pub overflow_add-next : goal.overflow_add-next
 overflow_add-next c =
-    omega (arith, c.loop-k.invariant.0, beside_few c.args.ranks.now c.args.task c.loop-k.k, c.loop-k-test.true, c.requires.ranks.1, c.requires.ranks.2.as_many)
+    omega (arith, c.loop-k.invariant.0, beside_few c.args.standing.ranks.now c.args.task c.loop-k.k, c.loop-k-test.true, c.requires.ranks.1, c.requires.ranks.2.as_many)
 
 pub loop-k-preserved : goal.loop-k-preserved
 loop-k-preserved c =
-    let ranks : List ℕ = c.args.ranks.now in
-    let m : ℕ = c.args.open_count in
+    let ranks : List ℕ = c.args.standing.ranks.now in
+    let m : ℕ = c.args.standing.open_count in
     let t : ℕ = c.args.task in
     let k : ℕ = c.loop-k.k in
     let items : List ℕ = c.loop-k.priorities.items in
@@ -36,8 +37,9 @@ loop-k-preserved c =
 
 pub returns : goal.returns
 returns c =
-    let ranks : List ℕ = c.args.ranks.now in
+    let ranks : List ℕ = c.args.standing.ranks.now in
+    let m : ℕ = c.args.standing.open_count in
     let n : ℕ = c.requires.ranks.0 in
     let all : c.loop-k.k ≡ n = omega (arith, c.loop-k-test.false, c.loop-k.auto.k-end, c.requires.ranks.2.as_many) in
-    is_trial n c.args.open_count ranks c.requires.ranks.1 c.requires.ranks.2 c.args.task (omega (arith, c.requires.task, c.requires.ranks.2.as_many)) c.requires.is_open c.loop-k.priorities.items
-    (subst (λ (i : ℕ). c.loop-k.priorities.items ≡ map (trial_at ranks c.args.open_count c.args.task) (range_with_len 0 i)) all c.loop-k.invariant.1)
+    is_trial n m ranks c.requires.ranks.1 c.requires.ranks.2 c.args.task (omega (arith, c.requires.task, c.requires.ranks.2.as_many)) c.requires.is_open c.loop-k.priorities.items
+    (subst (λ (i : ℕ). c.loop-k.priorities.items ≡ map (trial_at ranks m c.args.task) (range_with_len 0 i)) all c.loop-k.invariant.1)

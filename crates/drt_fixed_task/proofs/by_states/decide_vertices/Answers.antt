@@ -17,12 +17,11 @@ vertices-preserved g c =
 pub returns : goal.returns
 returns g c =
     let set : Contents = c.args.given.set.now in
-    let given = c.requires.given in
     let k : ℕ = c.args.given.task in
-    let own : Digraph = graph_of c.args.given.graphs.now k in
-    let same : own ≡ graph_at set.tasks k = ap (λ (gs : List Digraph). graph_of gs k) given.graphs ∙ graph_same set.tasks k given.task in
+    let own : Digraph = graph_of c.graphs.result.now k in
+    let same : own ≡ graph_at set.tasks k = ap (λ (gs : List Digraph). graph_of gs k) c.graphs.ensures.graphs ∙ graph_same set.tasks k c.requires.given.task in
     let first : c.graph-graph.result.now ≡ own = c.graph-graph.ensures.graph in
     let graph : c.graph-graph.result.now ≡ graph_at set.tasks k = ◌∙◌ {b = own} first same in
     let passes : TaskPasses set.tasks k
     = λ v l. c.vertices.invariant v (omega (arith, l, ap (λ x. vertex_count x) graph, c.vertices-test.false, c.vertex_count-vertex-end.ensures.count)) in
-    record { meets = c.times_suffice_for_task.ensures set.version set.tasks c.tasks-tasks.ensures.limits given.constrained k passes; passes = passes }
+    record { meets = c.times_suffice_for_task.ensures set.version set.tasks c.keep_limits.ensures.limits c.keep_limits.ensures.constrained k passes; passes = passes }

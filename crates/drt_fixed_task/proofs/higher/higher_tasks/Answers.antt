@@ -28,5 +28,5 @@ pub returns : goal.returns
 returns c =
     let tasks : List Task = c.args.set.now.tasks in
     let p : ℕ = (task_at tasks c.args.task).priority in
-    let count : c.tasks.k ≡ length tasks = omega (arith, c.tasks-test.false, c.tasks.auto.k-end, c.count-k-end.ensures.count, ap length c.requires.graphs, length-map tasks digraph_of) in
+    let count : c.tasks.k ≡ length tasks = omega (arith, c.tasks-test.false, c.tasks.auto.k-end, c.count-k-end.ensures.count, ap length c.graphs.ensures.graphs, length-map tasks digraph_of) in
     c.tasks.invariant ∙ ap (λ (n : ℕ). higher_before tasks p n) count

@@ -20,10 +20,10 @@ returns-then-is_higher c =
     let tasks : List Task = c.args.given.set.now.tasks in
     let p : ℕ = (task_at tasks c.args.given.task).priority in
     let k : ℕ = c.args.k in
-    let walks : List (List ℕ) = c.args.walks.now in
+    let walks : List (List ℕ) = c.args.cut.walks.now in
     let end : ℕ = c.args.cut.end in
     let above : ltb (task_at tasks k).priority p ≡ true = sym c.is_higher.ensures ∙ c.if-is_higher.true in
-    let graph : c.graph.result.now ≡ graph_at tasks k = c.graph.ensures.graph ∙ (ap (λ gs. graph_of gs k) c.requires.given.graphs ∙ graph_same tasks k c.requires.here) in
+    let graph : c.graph.result.now ≡ graph_at tasks k = c.graph.ensures.graph ∙ (ap (λ gs. graph_of gs k) c.graphs.ensures.graphs ∙ graph_same tasks k c.requires.here) in
     let walk : c.walk_of.result.now ≡ placed_walk tasks p walks k = c.walk_of.ensures ∙ (ap (λ (i : ℕ). walk_at walks i) c.requires.place ∙ sym (placed_here tasks p walks k above)) in
     let same = ap (λ (g : Digraph). cut g end c.walk_of.result.now) graph ∙ ap (λ (w : List ℕ). cut (graph_at tasks k) end w) walk in
     if_ok_more _ _ c.cut_walk.result (λ row is. is ∙ (same ∙ sym (walk_higher tasks walks c.args.given.task c.args.cut.vertex end k above))) c.cut_walk.ensures
@@ -34,7 +34,7 @@ returns c =
     let j : ℕ = c.args.given.task in
     let k : ℕ = c.args.k in
     let v : ℕ = c.args.cut.vertex in
-    let walks : List (List ℕ) = c.args.walks.now in
+    let walks : List (List ℕ) = c.args.cut.walks.now in
     let end : ℕ = c.args.cut.end in
     let below : ltb (task_at tasks k).priority (task_at tasks j).priority ≡ false = sym c.is_higher.ensures ∙ c.if-is_higher.false in
     elim c.if-k-given.branch [

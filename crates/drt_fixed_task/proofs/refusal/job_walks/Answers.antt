@@ -24,7 +24,7 @@ tasks-preserved c =
     let items = c.in_ok-push.ensures.items in
     let before = c.tasks.invariant in
     let long : length (higher_before tasks p (k + 1)) ≡ length (higher_before tasks p (suc k)) = ap (λ (n : ℕ). length (higher_before tasks p n)) (add-one k) in
-    let chosen : ℕ → List ℕ = job_walk tasks c.args.walks.now c.args.given.task c.args.cut.vertex c.args.cut.end in
+    let chosen : ℕ → List ℕ = job_walk tasks c.args.cut.walks.now c.args.given.task c.args.cut.vertex c.args.cut.end in
     record {
       place = elim c.if-is_higher.branch [
         | then-is_higher w ↦

@@ -9,5 +9,5 @@ abbrev pub invariant-tasks : goal.invariant-tasks
 invariant-tasks l = record {
   place : l.place ≡ length (higher_before l.given.set.now.tasks (task_at l.given.set.now.tasks l.given.task).priority l.k);
   count : length l.chosen.items ≡ l.k;
-  each : (i : ℕ) → i < l.k → walk_at l.chosen.items i ≡ job_walk l.given.set.now.tasks l.walks l.given.task l.cut.vertex l.cut.end i;
+  each : (i : ℕ) → i < l.k → walk_at l.chosen.items i ≡ job_walk l.given.set.now.tasks l.cut.walks.now l.given.task l.cut.vertex l.cut.end i;
 }

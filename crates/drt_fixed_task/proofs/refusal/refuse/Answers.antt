@@ -22,14 +22,15 @@ all_releases-requires-clause-walks c =
     let k : ℕ = c.args.given.task in
     let v : ℕ = c.args.vertex in
     let n : ℕ = c.vertex.result.now.deadline in
-    let graph : c.graph.result.now ≡ graph_at set.tasks k = c.graph.ensures.graph ∙ (ap (λ gs. graph_of gs k) given.graphs ∙ graph_same set.tasks k given.task) in
+    let graph : c.graph.result.now ≡ graph_at set.tasks k = c.graph.ensures.graph ∙ (ap (λ gs. graph_of gs k) c.graphs-graphs.ensures.graphs ∙ graph_same set.tasks k given.task) in
     let within : v < vertex_count c.graph.result.now = omega (arith, c.requires.vertex, ap (λ g. vertex_count g) graph) in
     let near = c.graph.ensures.sound.deadline v within in
     let small : n ≤ 1000000 = omega (arith, near.1, ap (λ x. x.deadline) c.vertex.ensures) in
     let walks : ℕ → List ℕ = walk_at c.as_slice.result.now in
     let same : (i : ℕ) → i < length set.tasks → walks i ≡ job_walk set.tasks c.args.walks.now k v n i
     = λ i l. ap (λ (ws : List (List ℕ)). walk_at ws i) c.as_slice.ensures.value ∙ c.in_ok-chosen.ensures.each i l in
-    due_walks set.tasks c.args.walks.now k v n set.version c.tasks-tasks.ensures.limits c.requires.walks.are given.task c.requires.vertex small walks same c.args.given.graphs.now given.graphs
+    due_walks set.tasks c.args.walks.now k v n set.version c.keep_limits.ensures.limits c.requires.walks.are given.task c.requires.vertex small walks same c.graphs-graphs.result.now
+    c.graphs-graphs.ensures.graphs
 
 pub returns : goal.returns
 returns c =
@@ -40,13 +41,13 @@ returns c =
     let v : ℕ = c.args.vertex in
     let n : ℕ = c.vertex.result.now.deadline in
     let d : ℕ = deadline (graph_at tasks k) v in
-    let graph : c.graph.result.now ≡ graph_at tasks k = c.graph.ensures.graph ∙ (ap (λ gs. graph_of gs k) given.graphs ∙ graph_same tasks k given.task) in
+    let graph : c.graph.result.now ≡ graph_at tasks k = c.graph.ensures.graph ∙ (ap (λ gs. graph_of gs k) c.graphs-graphs.ensures.graphs ∙ graph_same tasks k given.task) in
     let vertex : c.vertex.result.now ≡ vertex_of (graph_at tasks k) v = c.vertex.ensures ∙ ap (λ g. vertex_of g v) graph in
     let due : n ≡ d = ap (λ x. x.deadline) vertex in
     let walks : ℕ → List ℕ = walk_at c.as_slice.result.now in
     let placed : ℕ → List ℕ = placed_walk tasks (task_at tasks k).priority c.args.walks.now in
     let same : (i : ℕ) → i < length tasks → walks i ≡ with_job tasks (cut_walks tasks placed d) k v i
     = λ i l. ap (λ (ws : List (List ℕ)). walk_at ws i) c.as_slice.ensures.value ∙ (c.in_ok-chosen.ensures.each i l ∙ ap (λ (m : ℕ). job_walk tasks c.args.walks.now k v m i) due) in
-    let are = c.from_vec.ensures ∙ (c.in_ok-releases.ensures tasks given.graphs ∙ same_releases tasks walks (with_job tasks (cut_walks tasks placed d) k v) (length tasks) same) in
-    refusal_is set.version tasks c.tasks-tasks.ensures.limits k v given.task c.requires.vertex placed c.requires.walks c.requests_miss.ensures c.from.result c.from_vec.result
+    let are = c.from_vec.ensures ∙ (c.in_ok-releases.ensures tasks c.graphs-graphs.ensures.graphs ∙ same_releases tasks walks (with_job tasks (cut_walks tasks placed d) k v) (length tasks) same) in
+    refusal_is set.version tasks c.keep_limits.ensures.limits k v given.task c.requires.vertex placed c.requires.walks c.requests_miss.ensures c.from.result c.from_vec.result
     (c.from.ensures ∙ due) are

@@ -1,4 +1,5 @@
 use Rattle.std.proofs.Common.{◌≡◌, ℕ, List, ap, ◌∙◌}
+use Rattle.drt_model.specs.Contents.{Contents}
 use Rattle.drt_model.specs.declared.jobs.Miss.{Miss}
 use Rattle.drt_model.specs.declared.tasks.Task.{Task}
 use Rattle.drt_model.specs.Walk.{deadline}
@@ -6,7 +7,7 @@ use Rattle.drt_busy.specs.Choice.{graph_at}
 use Rattle.drt_choices.specs.Laws.{leaf_releases, no_releases}
 use Rattle.drt_sp.specs.declared.walks.VertexTuple.{VertexTuple}
 use Rattle.drt_sp_task.specs.Trees.{IsFailing}
-use Rattle.drt_sp_task.specs.declared.effort.Given.{Given}
+use Rattle.drt_sp_task.specs.declared.given.Given.{Given}
 use Rattle.drt_sp_task.proofs.Above.{graph_here}
 use Rattle.drt_sp_task.proofs.Missed.{first_miss, missed}
 use Rattle.drt_sp_task.proofs.missing.find_miss.Goals as goal
@@ -20,10 +21,12 @@ returns c =
     let v = failed.vertex in
     let f = c.args.forest.now in
     let failing : IsFailing given f failed = c.requires.failed in
-    let graph : c.graph.result.now ≡ graph_at tasks k = graph_here given c.requires.given k failing.tuple.task c.graph.result.now c.graph.ensures.graph in
+    let graph : c.graph.result.now ≡ graph_at tasks k = graph_here given c.requires.order c.graphs-graphs.ensures.graphs k failing.tuple.task c.graph.ensures.graph in
     let end : c.vertex.result.now.deadline ≡ deadline (graph_at tasks k) v = ap (λ x. x.deadline) c.vertex.ensures ∙ ap (λ g. deadline g v) graph in
     let same : c.in_ok-releases.releases ≡ no_releases tasks f given.order.now failed.tuple k v
-    = c.in_ok-releases.ensures.releases ∙ ap (λ (d : ℕ). leaf_releases tasks f given.order.now failed.tuple k v d) end in
+    = c.in_ok-releases.ensures.releases ∙ ap (λ (s : Contents). leaf_releases s.tasks f given.order.now failed.tuple k v c.vertex.result.now.deadline) c.set-set.ensures.set
+    ∙ ap (λ (d : ℕ). leaf_releases tasks f given.order.now failed.tuple k v d) end in
     let due : c.from.result ≡ deadline (graph_at tasks k) v = c.from.ensures ∙ end in
     let name : ℕ → Miss = λ (d : ℕ). first_miss k d in
-    missed given c.requires.given f failed failing c.requests_miss.ensures c.times_suffice_for_task.ensures c.in_ok-releases.releases (name c.from.result) same (ap name due)
+    missed given c.requires.order f failed failing c.requests_miss.ensures c.times_suffice_for_task.ensures c.keep_limits.ensures.constrained
+    c.in_ok-releases.releases (name c.from.result) same (ap name due)

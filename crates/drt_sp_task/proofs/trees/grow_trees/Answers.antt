@@ -5,10 +5,10 @@ use Rattle.drt_sp_task.proofs.Above.{none_yet, spent_above, task_place}
 use Rattle.drt_sp_task.proofs.trees.grow_trees.Goals as goal
 
 pub place_of-end-requires : goal.place_of-end-requires
-place_of-end-requires g c = task_place c.args.given c.requires.given c.args.task c.requires.task
+place_of-end-requires g c = task_place c.args.given c.requires.order c.args.task c.requires.task
 
 pub places-init : goal.places-init
-places-init g c = none_yet c.args.given c.requires.given (record { forest = c.empty.result; roots = c.new.result }) c.empty.ensures.nodes c.empty.ensures.pool c.new.ensures.items
+places-init g c = none_yet c.args.given c.requires.order (record { forest = c.empty.result; roots = c.new.result }) c.empty.ensures.nodes c.empty.ensures.pool c.new.ensures.items
 
 pub add_tree-requires-clause-here : goal.add_tree-requires-clause-here
 add_tree-requires-clause-here g c κs within =
@@ -16,6 +16,6 @@ add_tree-requires-clause-here g c κs within =
 
 pub returns-in-Some : goal.returns-in-Some
 returns-in-Some g c =
-    let spent : IsSpentAt c.args.given c.args.effort.now.budget c.places.place c.in-Some.trail = rw c.in-Some.is at c.in_ok-trail.ensures in
-    spent_above c.args.given c.requires.given c.args.effort.now.budget c.args.task c.places.place c.place_of-end.result c.places-test.true c.place_of-end.ensures
+    let spent : IsSpentAt c.args.given c.args.crew.now.effort.budget c.places.place c.in-Some.trail = rw c.in-Some.is at c.in_ok-trail.ensures in
+    spent_above c.args.given c.requires.order c.args.crew.now.effort.budget c.args.task c.places.place c.place_of-end.result c.places-test.true c.place_of-end.ensures
     c.in-Some.trail spent
