@@ -13,21 +13,21 @@ use Rattle.drt_edf.proofs.refusal.refusal.Goals as goal
 
 pub all_releases-requires-clause-walks : goal.all_releases-requires-clause-walks
 all_releases-requires-clause-walks c =
-    due_walks c.args.set.now.tasks c.args.graphs.now (walk_at c.args.walks.now) c.args.t c.requires.graphs c.requires.walks c.requires.due
+    due_walks c.args.set.now.tasks c.graphs-graphs.result.now (walk_at c.args.walks.now) c.args.t c.graphs-graphs.ensures.graphs c.requires.walks c.requires.due
 
 pub start-requires-clause-legal : goal.start-requires-clause-legal
 start-requires-clause-legal c =
     let tasks = c.args.set.now.tasks in
-    let d = c.demand_misses.ensures c.args.set.now.version tasks c.tasks-tasks.ensures.limits c.requires.constrained c.args.t
+    let d = c.demand_misses.ensures c.args.set.now.version tasks c.keep_limits.ensures.limits c.keep_limits.ensures.constrained c.args.t
     (walk_at c.args.walks.now) c.requires.walks c.requires.due c.requires.excess in
-    let same : c.as_slice.result.now ≡ all_releases tasks (walk_at c.args.walks.now) (length tasks) = c.as_slice.ensures.value ∙ c.in_ok-releases.ensures tasks c.requires.graphs in
+    let same : c.as_slice.result.now ≡ all_releases tasks (walk_at c.args.walks.now) (length tasks) = c.as_slice.ensures.value ∙ c.in_ok-releases.ensures tasks c.graphs-graphs.ensures.graphs in
     rw same d.0
 
 pub start-requires-clause-times : goal.start-requires-clause-times
 start-requires-clause-times c =
     let tasks = c.args.set.now.tasks in
-    let same : c.as_slice.result.now ≡ all_releases tasks (walk_at c.args.walks.now) (length tasks) = c.as_slice.ensures.value ∙ c.in_ok-releases.ensures tasks c.requires.graphs in
-    let kept = rw c.requires.graphs at c.count-count.ensures.kept in
+    let same : c.as_slice.result.now ≡ all_releases tasks (walk_at c.args.walks.now) (length tasks) = c.as_slice.ensures.value ∙ c.in_ok-releases.ensures tasks c.graphs-graphs.ensures.graphs in
+    let kept = rw c.graphs-graphs.ensures.graphs at c.count-count.ensures.kept in
     let each = c.releases_are_in_range.ensures tasks (walk_at c.args.walks.now) c.args.t kept c.requires.walks c.requires.due c.requires.time in
     rw same (All-weaker IsInRangeRelease (λ r. r.time ≤ 1000000000000000000) (λ r is. is.time) (all_releases tasks (walk_at c.args.walks.now) (length tasks)) each)
 
@@ -38,8 +38,8 @@ unreachable-requires c =
     let is : c.run_until.new.self ≡ record { policy = Edf; jobs = jobs_of tasks releases; ticks = c.args.t } =
     c.run_until.ensures ∙ (ap (λ (b : Shown). let s : Shown = record { policy = b.policy; jobs = b.jobs; ticks = c.args.t } in s) c.in_ok-board.ensures
     ∙ ap (λ (rs : List Release). let s : Shown = record { policy = Edf; jobs = jobs_of tasks rs; ticks = c.args.t } in s) c.as_slice.ensures.value) in
-    let late = some_late c.args.set.now.version tasks c.tasks-tasks.ensures.limits c.requires.constrained c.demand_misses.ensures c.args.t
-    (walk_at c.args.walks.now) c.requires.walks c.requires.due c.requires.excess releases (c.in_ok-releases.ensures tasks c.requires.graphs)
+    let late = some_late c.args.set.now.version tasks c.keep_limits.ensures.limits c.keep_limits.ensures.constrained c.demand_misses.ensures c.args.t
+    (walk_at c.args.walks.now) c.requires.walks c.requires.due c.requires.excess releases (c.in_ok-releases.ensures tasks c.graphs-graphs.ensures.graphs)
     c.run_until.new.self is in
     (rw c.in-None.is at c.first_miss-missed.ensures.first) late.0 late.1
 
@@ -51,8 +51,8 @@ returns-clause-done c =
     c.run_until.ensures ∙ (ap (λ (b : Shown). let s : Shown = record { policy = b.policy; jobs = b.jobs; ticks = c.args.t } in s) c.in_ok-board.ensures
     ∙ ap (λ (rs : List Release). let s : Shown = record { policy = Edf; jobs = jobs_of tasks rs; ticks = c.args.t } in s) c.as_slice.ensures.value) in
     rw c.from_vec.ensures
-    (missed c.args.set.now.version tasks c.tasks-tasks.ensures.limits c.requires.constrained c.demand_misses.ensures c.no_assignment_meets.ensures c.args.t
-    (walk_at c.args.walks.now) c.requires.walks c.requires.due c.requires.excess releases (c.in_ok-releases.ensures tasks c.requires.graphs)
+    (missed c.args.set.now.version tasks c.keep_limits.ensures.limits c.keep_limits.ensures.constrained c.demand_misses.ensures c.no_assignment_meets.ensures c.args.t
+    (walk_at c.args.walks.now) c.requires.walks c.requires.due c.requires.excess releases (c.in_ok-releases.ensures tasks c.graphs-graphs.ensures.graphs)
     c.run_until.new.self is c.in-Some.miss (rw c.in-Some.is at c.first_miss-missed.ensures.least))
 
 pub returns-clause-range : goal.returns-clause-range
@@ -62,8 +62,8 @@ returns-clause-range c =
     let is : c.run_until.new.self ≡ record { policy = Edf; jobs = jobs_of tasks releases; ticks = c.args.t } =
     c.run_until.ensures ∙ (ap (λ (b : Shown). let s : Shown = record { policy = b.policy; jobs = b.jobs; ticks = c.args.t } in s) c.in_ok-board.ensures
     ∙ ap (λ (rs : List Release). let s : Shown = record { policy = Edf; jobs = jobs_of tasks rs; ticks = c.args.t } in s) c.as_slice.ensures.value) in
-    let same = c.in_ok-releases.ensures tasks c.requires.graphs in
-    let kept = rw c.requires.graphs at c.count-count.ensures.kept in
+    let same = c.in_ok-releases.ensures tasks c.graphs-graphs.ensures.graphs in
+    let kept = rw c.graphs-graphs.ensures.graphs at c.count-count.ensures.kept in
     let all = c.releases_are_in_range.ensures tasks (walk_at c.args.walks.now) c.args.t kept c.requires.walks c.requires.due c.requires.time in
     let each : All IsInRangeRelease releases = rw same all in
     let counted : length releases ≤ 4294967295 = omega (arith, c.if-len-gt4294967295.false, c.len.ensures) in
