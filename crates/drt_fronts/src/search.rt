@@ -69,12 +69,7 @@ pub fn search_task<G: Gate, R: Threads + Wait + Sync>(
 }
 
 /// The same search for a task that merging gives nothing of: by one worker, in a table whose steps the budget counts.
-pub fn drive_task(
-    alloc: Global,
-    graph: &Graph,
-    bound: u64,
-    effort: Effort,
-) -> Result<Ended, Memory>
+pub fn drive_task(alloc: Global, graph: &Graph, bound: u64, effort: Effort) -> Result<Ended, Memory>
     requires constrained { IsConstrainedGraph graph.now }
     requires bound { bound ≤ 1099511627776 }
     ensures { IfOk result (IsEnded graph.now bound effort.budget) }
