@@ -18,7 +18,8 @@ overload_refusal-requires-clause-time c =
 pub returns-in_ok-evidence-in-Found : goal.returns-in_ok-evidence-in-Found
 returns-in_ok-evidence-in-Found c =
     let done = c.in_ok-evidence-in-Found.ensures.done in
-    (done, planned_other c.args.set.now.tasks c.in_ok-evidence-in-Found.evidence (inr (planned_above c.args.set.now.tasks c.args.proofs.now c.requires.given c.requires.above)) done, c.in_ok-evidence-in-Found.ensures.range)
+    let above = planned_above c.args.set.now.tasks c.args.proofs.now c.requires.given c.requires.above in
+    (done, planned_other c.args.set.now.tasks c.in_ok-evidence-in-Found.evidence (inr above) done, c.in_ok-evidence-in-Found.ensures.range)
 
 pub returns-in-Spent : goal.returns-in-Spent
 returns-in-Spent c =

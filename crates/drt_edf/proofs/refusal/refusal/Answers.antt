@@ -48,8 +48,9 @@ pub unreachable-requires : goal.unreachable-requires
 unreachable-requires c =
     let tasks = c.args.set.now.tasks in
     let releases = c.in_ok-releases.releases.items in
+    let given = ap (λ (s : Contents). s.tasks) c.set.ensures.set in
     let is : c.run_until.new.self ≡ record { policy = Edf; jobs = jobs_of tasks releases; ticks = c.args.t } =
-    ran c.set.result.now tasks c.as_slice.result.now releases c.args.t c.in_ok-board.board c.run_until.new.self (ap (λ (s : Contents). s.tasks) c.set.ensures.set) c.as_slice.ensures.value c.in_ok-board.ensures c.run_until.ensures in
+    ran c.set.result.now tasks c.as_slice.result.now releases c.args.t c.in_ok-board.board c.run_until.new.self given c.as_slice.ensures.value c.in_ok-board.ensures c.run_until.ensures in
     let late = some_late c.args.set.now.version tasks c.keep_limits.ensures.limits c.keep_limits.ensures.constrained c.demand_misses.ensures c.args.t
     (walk_at c.args.walks.now) c.requires.walks c.requires.due c.requires.excess releases (c.in_ok-releases.ensures tasks c.graphs-graphs.ensures.graphs)
     c.run_until.new.self is in
@@ -59,8 +60,9 @@ pub returns-clause-done : goal.returns-clause-done
 returns-clause-done c =
     let tasks = c.args.set.now.tasks in
     let releases = c.in_ok-releases.releases.items in
+    let given = ap (λ (s : Contents). s.tasks) c.set.ensures.set in
     let is : c.run_until.new.self ≡ record { policy = Edf; jobs = jobs_of tasks releases; ticks = c.args.t } =
-    ran c.set.result.now tasks c.as_slice.result.now releases c.args.t c.in_ok-board.board c.run_until.new.self (ap (λ (s : Contents). s.tasks) c.set.ensures.set) c.as_slice.ensures.value c.in_ok-board.ensures c.run_until.ensures in
+    ran c.set.result.now tasks c.as_slice.result.now releases c.args.t c.in_ok-board.board c.run_until.new.self given c.as_slice.ensures.value c.in_ok-board.ensures c.run_until.ensures in
     rw c.from_vec.ensures
     (missed c.args.set.now.version tasks c.keep_limits.ensures.limits c.keep_limits.ensures.constrained c.demand_misses.ensures c.no_assignment_meets.ensures c.args.t
     (walk_at c.args.walks.now) c.requires.walks c.requires.due c.requires.excess releases (c.in_ok-releases.ensures tasks c.graphs-graphs.ensures.graphs)
@@ -70,8 +72,9 @@ pub returns-clause-range : goal.returns-clause-range
 returns-clause-range c =
     let tasks = c.args.set.now.tasks in
     let releases = c.in_ok-releases.releases.items in
+    let given = ap (λ (s : Contents). s.tasks) c.set.ensures.set in
     let is : c.run_until.new.self ≡ record { policy = Edf; jobs = jobs_of tasks releases; ticks = c.args.t } =
-    ran c.set.result.now tasks c.as_slice.result.now releases c.args.t c.in_ok-board.board c.run_until.new.self (ap (λ (s : Contents). s.tasks) c.set.ensures.set) c.as_slice.ensures.value c.in_ok-board.ensures c.run_until.ensures in
+    ran c.set.result.now tasks c.as_slice.result.now releases c.args.t c.in_ok-board.board c.run_until.new.self given c.as_slice.ensures.value c.in_ok-board.ensures c.run_until.ensures in
     let same = c.in_ok-releases.ensures tasks c.graphs-graphs.ensures.graphs in
     let kept = rw c.graphs-graphs.ensures.graphs at c.count-count.ensures.kept in
     let all = c.releases_are_in_range.ensures tasks (walk_at c.args.walks.now) c.args.t kept c.requires.walks c.requires.due c.requires.time in
