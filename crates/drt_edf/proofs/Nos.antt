@@ -13,7 +13,6 @@ use Rattle.drt_model.specs.Limits.{IsTaskSet}
 use Rattle.drt_model.specs.Misses.{IsLeastMiss, index_of}
 use Rattle.drt_model.specs.Schedulable.{job_of, jobs_of}
 use Rattle.drt_model.specs.Trace.{job_at}
-use Rattle.drt_model.specs.Walk.{deadline}
 use Rattle.drt_busy.specs.Assignment.{NoAssignmentMeets}
 use Rattle.drt_busy.specs.Choice.{AreDueBy, AreWalks, efforts}
 use Rattle.drt_busy.specs.Decide.{DemandMisses}

@@ -1,6 +1,5 @@
 //! Sets whose utilisation is above one.
-ghost use Rattle.std.specs.Prelude.{◌≡◌, ◌≤◌, IfOk};
-ghost use Rattle.drt_model.specs.Constrained.{AreConstrained};
+ghost use Rattle.std.specs.Prelude.{IfOk};
 ghost use Rattle.drt_horizon.specs.Given.{AreGiven};
 ghost use Rattle.drt_horizon.specs.Plans.{IsAboveOne};
 ghost use Rattle.drt_claims.specs.Claims.{graphs_of};
@@ -8,9 +7,10 @@ ghost use Rattle.drt_edf.specs.Answers.{IsAnswer};
 
 use crate::answer::EdfAnswer;
 use crate::refusal::overload_refusal;
-use drt_graph::Graphs;
+use drt_accepted::Accepted;
+use drt_effort::Effort;
 use drt_horizon::{Over, overload, search_ends};
-use drt_model::{Memory, TaskSet};
+use drt_model::Memory;
 use drt_ratio::RatioProof;
 use drt_trails::EdfTrail;
 use std::alloc::Global;
@@ -19,24 +19,20 @@ use std::alloc::Global;
 /// more work than time, or that the budget was spent before it.
 pub(crate) fn above_one(
     alloc: Global,
-    set: &TaskSet,
-    graphs: &Graphs,
+    set: &Accepted<'_>,
     proofs: &[RatioProof],
-    budget: u64,
+    effort: Effort,
 ) -> Result<EdfAnswer, Memory>
-    requires constrained { AreConstrained set.now.tasks }
-    requires graphs { graphs.now ≡ graphs_of set.now.tasks }
-    requires given { AreGiven graphs.now proofs.now }
-    requires above { IsAboveOne graphs.now proofs.now }
-    requires some { 1 ≤ budget }
-    requires few { budget ≤ 1000000 }
-    ensures { IfOk result (IsAnswer set.now.tasks budget) }
+    requires given { AreGiven (graphs_of set.now.tasks) proofs.now }
+    requires above { IsAboveOne (graphs_of set.now.tasks) proofs.now }
+    ensures { IfOk result (IsAnswer set.now.tasks effort.budget) }
 {
     search_ends();
+    let graphs = set.graphs();
     let _count = graphs.count();
-    match overload(graphs, proofs, budget) {
+    match overload(graphs, proofs, effort.budget()) {
         Over::Found(t) => {
-            let evidence = overload_refusal(alloc, set, graphs, proofs, t)?;
+            let evidence = overload_refusal(alloc, set, proofs, t)?;
             Ok(EdfAnswer::Done(evidence))
         }
         Over::Spent(last) => Ok(EdfAnswer::Undecided(EdfTrail::Overload { last })),

@@ -1,26 +1,24 @@
 //! The analysis.
-ghost use Rattle.std.specs.Prelude.{◌≡◌, ◌≤◌, IfOk};
-ghost use Rattle.drt_model.specs.Constrained.{AreConstrained};
-ghost use Rattle.drt_claims.specs.Claims.{graphs_of};
+ghost use Rattle.std.specs.Prelude.{IfOk};
 ghost use Rattle.drt_edf.specs.Answers.{IsAnswer};
 
 use crate::above::above_one;
 use crate::answer::EdfAnswer;
 use crate::below::below_one;
 use crate::claims::claims_of;
+use drt_accepted::Accepted;
 use drt_claims::Evidence;
-use drt_graph::Graphs;
+use drt_crew::Crew;
 use drt_horizon::{Horizon, plan, ratios};
-use drt_model::{Memory, TaskSet};
+use drt_model::Memory;
 use drt_pool::Gate;
-use std::alloc::Global;
 use std::sync::Wait;
 use std::thread::Threads;
 
-/// Decides whether a set with constrained deadlines is schedulable under EDF. So many workers fill the wave table of a task together. Tasks
+/// Decides whether a set with constrained deadlines is schedulable under EDF. The crew's workers fill the wave table of a task together. Tasks
 /// that have none are searched side by side, each by one worker, the longest first, where a reckoning finds several long ones; a single one is
 /// searched by one worker, or by all where the gate's `alone` is 0. The gate sees each turn of workers that share a table, and each search that
-/// a worker begins ahead. Each search ends after `budget` steps at the latest.
+/// a worker begins ahead. Each search ends after the steps of the crew's budget at the latest.
 ///
 /// First come the ratios of all tasks, then the plan. A utilisation of one is told apart, with the ratios as evidence. Above one
 /// the whole turns of the cycles are searched for a step time with more work than time. Below one each task's walks are searched
@@ -28,31 +26,20 @@ use std::thread::Threads;
 ///
 /// Source: Stigge, Ekberg, Guan and Yi, "The Digraph Real-Time Task Model" (RTAS 2011).
 pub fn analyse_edf<G: Gate, R: Threads + Wait + Sync>(
-    rt: &R,
-    alloc: Global,
-    set: &TaskSet,
-    graphs: &Graphs,
-    workers: u32,
-    budget: u64,
-    gate: &G,
+    crew: &Crew<'_, G, R>,
+    set: &Accepted<'_>,
 ) -> Result<EdfAnswer, Memory>
-    requires constrained { AreConstrained set.now.tasks }
-    requires graphs { graphs.now ≡ graphs_of set.now.tasks }
-    requires workers { (1 ≤ workers) × (workers ≤ 16) }
-    requires some { 1 ≤ budget }
-    requires few { budget ≤ 1000000 }
-    ensures { IfOk result (IsAnswer set.now.tasks budget) }
+    ensures { IfOk result (IsAnswer set.now.tasks crew.now.effort.budget) }
 {
-    let proofs = ratios(alloc, graphs)?;
+    let graphs = set.graphs();
+    let proofs = ratios(crew.alloc, graphs)?;
     let _count = graphs.count();
     match plan(graphs, proofs.as_slice()) {
-        Ok(Horizon::Under { bound }) => below_one(
-            rt, alloc, set, graphs, proofs, bound, workers, budget, gate,
-        ),
+        Ok(Horizon::Under { bound }) => below_one(crew, set, proofs, bound),
         Ok(Horizon::One) => Ok(EdfAnswer::Done(Evidence::UtilisationOne {
-            ratios: claims_of(alloc, proofs)?,
+            ratios: claims_of(crew.alloc, proofs)?,
         })),
-        Ok(Horizon::Over) => above_one(alloc, set, graphs, proofs.as_slice(), budget),
+        Ok(Horizon::Over) => above_one(crew.alloc, set, proofs.as_slice(), crew.effort),
         Err(beyond) => Ok(EdfAnswer::Beyond(beyond)),
     }
 }

@@ -1,6 +1,5 @@
 //! Sets whose utilisation is below one.
-ghost use Rattle.std.specs.Prelude.{◌≡◌, ℕ, ◌≤◌, All, IfOk, Ok};
-ghost use Rattle.drt_model.specs.Constrained.{AreConstrained};
+ghost use Rattle.std.specs.Prelude.{ℕ, All, IfOk, Ok};
 ghost use Rattle.drt_horizon.specs.Given.{AreGiven};
 ghost use Rattle.drt_horizon.specs.Plans.{IsPlan};
 ghost use Rattle.drt_claims.specs.Claims.{graphs_of};
@@ -12,12 +11,14 @@ use crate::answer::EdfAnswer;
 use crate::claims::claims_of;
 use crate::refusal::refusal;
 use crate::searching::{Searched, searches};
+use drt_accepted::Accepted;
 use drt_busy::deadlines_decide;
 use drt_claims::Evidence;
+use drt_crew::Crew;
 use drt_fronts::demand_walk;
 use drt_graph::Graphs;
 use drt_horizon::{Horizon, horizon_holds, scan};
-use drt_model::{FrontEntry, Memory, Row, TaskSet};
+use drt_model::{FrontEntry, Memory, Row};
 use drt_pool::Gate;
 use drt_ratio::RatioProof;
 use drt_trails::EdfTrail;
@@ -47,24 +48,22 @@ fn demand_walks(
 // least such time.
 fn scanned(
     alloc: Global,
-    set: &TaskSet,
-    graphs: &Graphs,
+    set: &Accepted<'_>,
     proofs: Row<RatioProof>,
     bound: u64,
     fronts: Row<Row<FrontEntry>>,
 ) -> Result<Evidence, Memory>
-    requires constrained { AreConstrained set.now.tasks }
-    requires graphs { graphs.now ≡ graphs_of set.now.tasks }
-    requires given { AreGiven graphs.now proofs }
-    requires plan { IsPlan graphs.now proofs (Ok (Horizon.Under bound)) }
-    requires fronts { AreLabelFronts bound graphs.now fronts }
+    requires given { AreGiven (graphs_of set.now.tasks) proofs }
+    requires plan { IsPlan (graphs_of set.now.tasks) proofs (Ok (Horizon.Under bound)) }
+    requires fronts { AreLabelFronts bound (graphs_of set.now.tasks) fronts }
     requires counted { All IsCounted fronts }
     ensures done { IfOk result (λ e. IsVerdict set.now.tasks e) }
     ensures range { IfOk result (λ e. IsInRange e) }
 {
     horizon_holds();
     deadlines_decide();
-    let _tasks = set.tasks();
+    set.keep_limits();
+    let graphs = set.graphs();
     let _count = graphs.count();
     match scan(alloc, graphs, fronts.as_slice(), bound)? {
         None => Ok(Evidence::EdfYes {
@@ -74,35 +73,25 @@ fn scanned(
         Some(t) => {
             let walks = demand_walks(alloc, graphs, fronts.as_slice(), t)?;
             drop(fronts);
-            refusal(alloc, set, graphs, walks.as_slice(), t)
+            refusal(alloc, set, walks.as_slice(), t)
         }
     }
 }
 
 /// The answer to a set whose utilisation is below one, with this horizon, in ticks.
 pub(crate) fn below_one<G: Gate, R: Threads + Wait + Sync>(
-    rt: &R,
-    alloc: Global,
-    set: &TaskSet,
-    graphs: &Graphs,
+    crew: &Crew<'_, G, R>,
+    set: &Accepted<'_>,
     proofs: Row<RatioProof>,
     bound: u64,
-    workers: u32,
-    budget: u64,
-    gate: &G,
 ) -> Result<EdfAnswer, Memory>
-    requires constrained { AreConstrained set.now.tasks }
-    requires graphs { graphs.now ≡ graphs_of set.now.tasks }
-    requires given { AreGiven graphs.now proofs }
-    requires plan { IsPlan graphs.now proofs (Ok (Horizon.Under bound)) }
-    requires workers { (1 ≤ workers) × (workers ≤ 16) }
-    requires some { 1 ≤ budget }
-    requires few { budget ≤ 1000000 }
-    ensures { IfOk result (IsAnswer set.now.tasks budget) }
+    requires given { AreGiven (graphs_of set.now.tasks) proofs }
+    requires plan { IsPlan (graphs_of set.now.tasks) proofs (Ok (Horizon.Under bound)) }
+    ensures { IfOk result (IsAnswer set.now.tasks crew.now.effort.budget) }
 {
-    match searches(rt, alloc, graphs, bound, workers, budget, gate)? {
+    match searches(crew, set.graphs(), bound)? {
         Searched::Finished(fronts) => {
-            let evidence = scanned(alloc, set, graphs, proofs, bound, fronts)?;
+            let evidence = scanned(crew.alloc, set, proofs, bound, fronts)?;
             Ok(EdfAnswer::Done(evidence))
         }
         Searched::Spent { task, log } => Ok(EdfAnswer::Undecided(EdfTrail::Table { task, log })),

@@ -37,7 +37,9 @@ pub(crate) fn reckon_all(
 }
 
 /// How many of these workers have enough to do: one search each at least, and beside the longest as many steps as a thread's start is worth.
-pub(crate) fn busy_workers(steps: &[u64], workers: u32) -> u32 {
+pub(crate) fn busy_workers(steps: &[u64], workers: u32) -> u32
+    ensures { result ≤ workers }
+{
     let mut searches = 0u32;
     for few in steps {
         if *few > 0 {

@@ -1,6 +1,5 @@
 //! The evidence of a no.
-ghost use Rattle.std.specs.Prelude.{◌≡◌, ◌<◌, ◌≤◌, length, IfOk};
-ghost use Rattle.drt_model.specs.Constrained.{AreConstrained};
+ghost use Rattle.std.specs.Prelude.{◌<◌, ◌≤◌, length, IfOk};
 ghost use Rattle.drt_busy.specs.Choice.{AreDueBy, AreWalks, efforts};
 ghost use Rattle.drt_horizon.specs.Given.{AreGiven};
 ghost use Rattle.drt_horizon.specs.CycleTurns.{cycle_turns_of, turned};
@@ -10,10 +9,10 @@ ghost use Rattle.drt_releases.specs.Walks.{walk_at};
 ghost use Rattle.drt_edf.specs.Answers.{IsVerdict};
 
 use crate::turns::turns;
+use drt_accepted::Accepted;
 use drt_busy::{demand_misses, no_assignment_meets};
 use drt_claims::Evidence;
-use drt_graph::Graphs;
-use drt_model::{Memory, Policy, Row, TaskSet};
+use drt_model::{Memory, Policy, Row};
 use drt_ratio::RatioProof;
 use drt_releases::{all_releases, releases_are_in_range};
 use drt_replay::Board;
@@ -23,13 +22,10 @@ use std::alloc::Global;
 /// separations allow, and the first job of theirs that misses. `t` is in ticks.
 pub(crate) fn refusal(
     alloc: Global,
-    set: &TaskSet,
-    graphs: &Graphs,
+    set: &Accepted<'_>,
     walks: &[Row<u32>],
     t: u64,
 ) -> Result<Evidence, Memory>
-    requires constrained { AreConstrained set.now.tasks }
-    requires graphs { graphs.now ≡ graphs_of set.now.tasks }
     requires walks { AreWalks set.now.tasks (walk_at walks.now) }
     requires due { AreDueBy set.now.tasks (walk_at walks.now) t }
     requires excess { t < efforts set.now.tasks (walk_at walks.now) (length set.now.tasks) }
@@ -40,14 +36,15 @@ pub(crate) fn refusal(
     demand_misses();
     no_assignment_meets();
     releases_are_in_range();
-    let _tasks = set.tasks();
+    set.keep_limits();
+    let graphs = set.graphs();
     let _count = graphs.count();
     let releases = all_releases(alloc, graphs, walks, t)?;
     // So many releases would take more than 100 GB.
     if releases.len() > 4294967295 {
         return Err(Memory);
     }
-    let mut board = Board::start(alloc, set, Policy::Edf, releases.as_slice())?;
+    let mut board = Board::start(alloc, set.set(), Policy::Edf, releases.as_slice())?;
     board.run_until(t);
     let missed = board.first_miss();
     drop(board);
@@ -63,19 +60,16 @@ pub(crate) fn refusal(
 /// The no of an overload at the step time `t`, in ticks.
 pub(crate) fn overload_refusal(
     alloc: Global,
-    set: &TaskSet,
-    graphs: &Graphs,
+    set: &Accepted<'_>,
     proofs: &[RatioProof],
     t: u64,
 ) -> Result<Evidence, Memory>
-    requires constrained { AreConstrained set.now.tasks }
-    requires graphs { graphs.now ≡ graphs_of set.now.tasks }
-    requires given { AreGiven graphs.now proofs.now }
-    requires excess { t < turned (cycle_turns_of graphs.now proofs.now) t }
+    requires given { AreGiven (graphs_of set.now.tasks) proofs.now }
+    requires excess { t < turned (cycle_turns_of (graphs_of set.now.tasks) proofs.now) t }
     requires time { t ≤ 1000000000000000000 }
     ensures done { IfOk result (λ e. IsVerdict set.now.tasks e) }
     ensures range { IfOk result (λ e. IsInRange e) }
 {
-    let walks = turns(alloc, graphs, proofs, t)?;
-    refusal(alloc, set, graphs, walks.as_slice(), t)
+    let walks = turns(alloc, set.graphs(), proofs, t)?;
+    refusal(alloc, set, walks.as_slice(), t)
 }

@@ -4,7 +4,9 @@ ghost use Rattle.drt_ahead.specs.Found.{AreThere};
 ghost use Rattle.drt_edf.specs.Searches.{AreSearches, IsAheadOf, IsEndOf};
 
 use crate::reckoning::{busy_workers, reckon_all};
-use drt_ahead::{Crew, largest_first, look_ahead, take_found};
+use drt_ahead::{largest_first, look_ahead, take_found};
+use drt_crew::Crew;
+use drt_effort::Effort;
 use drt_fronts::{Ended, drive_task, has_wave_table, merged_front, search_task};
 use drt_graph::Graphs;
 use drt_model::{FrontEntry, Memory, Row};
@@ -34,40 +36,28 @@ pub(crate) enum FoundAhead {
     Left,
 }
 
-/// The searches of the walks of all tasks up to the bound, in ticks, each with this budget of steps. Each gives its front. They are done in
-/// order of tasks. Once the first of those without a wave table is finished, workers merge ahead for the others of these, where several have
-/// enough to do: most sets whose searches spend the budget do so in the first, and what is merged beside it is for nothing then.
+/// The searches of the walks of all tasks up to the bound, in ticks, each with the steps of the crew's budget. Each gives its front. They are
+/// done in order of tasks. Once the first of those without a wave table is finished, workers merge ahead for the others of these, where several
+/// have enough to do: most sets whose searches spend the budget do so in the first, and what is merged beside it is for nothing then.
 pub(crate) fn searches<G: Gate, R: Threads + Wait + Sync>(
-    rt: &R,
-    alloc: Global,
+    crew: &Crew<'_, G, R>,
     graphs: &Graphs,
     bound: u64,
-    workers: u32,
-    budget: u64,
-    gate: &G,
 ) -> Result<Searched, Memory>
-    requires bound { bound ≤ 1099511627776 }
-    requires workers { (1 ≤ workers) × (workers ≤ 16) }
-    requires some { 1 ≤ budget }
-    requires few { budget ≤ 1000000 }
-    ensures { IfOk result (AreSearches graphs.now bound budget) }
+    requires { bound ≤ 1099511627776 }
+    ensures { IfOk result (AreSearches graphs.now bound crew.now.effort.budget) }
 {
-    let crew = Crew {
-        rt,
-        alloc,
-        workers,
-        gate,
-    };
-    let mut found = Vec::new(alloc);
+    let budget = crew.effort.budget();
+    let mut found = Vec::new(crew.alloc);
     let mut is_looked = false;
-    let mut fronts = Vec::new(alloc);
+    let mut fronts = Vec::new(crew.alloc);
     'tasks: for task in 0..graphs.count() {
-        match end_of(&crew, graphs, bound, budget, task, &mut found)? {
+        match end_of(crew, graphs, bound, task, &mut found)? {
             Ended::Front(front) => fronts.push(front)?,
             Ended::Full(log) => return Ok(Searched::Spent { task, log }),
         }
         if !is_looked && !has_wave_table(graphs.graph(task), bound, budget) {
-            found = search_ahead(&crew, graphs, bound, budget, task)?;
+            found = search_ahead(crew, graphs, bound, task)?;
             is_looked = true;
         }
     }
@@ -79,30 +69,20 @@ fn end_of<G: Gate, R: Threads + Wait + Sync>(
     crew: &Crew<'_, G, R>,
     graphs: &Graphs,
     bound: u64,
-    budget: u64,
     task: u32,
     found: &mut Vec<Option<FoundAhead>>,
 ) -> Result<Ended, Memory>
     requires task { task < length graphs.now }
     requires bound { bound ≤ 1099511627776 }
-    requires workers { (1 ≤ crew.now.workers) × (crew.now.workers ≤ 16) }
-    requires some { 1 ≤ budget }
-    requires few { budget ≤ 1000000 }
-    requires found { AreThere (IsAheadOf graphs.now bound budget) found.old.items }
-    ensures end { IfOk result (IsEndOf graphs.now bound budget task) }
-    ensures found { AreThere (IsAheadOf graphs.now bound budget) found.new.items }
+    requires found { AreThere (IsAheadOf graphs.now bound crew.now.effort.budget) found.old.items }
+    ensures end { IfOk result (IsEndOf graphs.now bound crew.now.effort.budget task) }
+    ensures found { AreThere (IsAheadOf graphs.now bound crew.now.effort.budget) found.new.items }
 {
-    let Crew {
-        rt,
-        alloc,
-        workers,
-        gate,
-    } = *crew;
     let graph = graphs.graph(task);
     match take_found(found, task) {
         Some(FoundAhead::Front(front)) => Ok(Ended::Front(front)),
-        Some(FoundAhead::Long) => drive_task(alloc, graph, bound, budget),
-        _ => search_task(rt, alloc, graph, bound, workers, budget, gate),
+        Some(FoundAhead::Long) => drive_task(crew.alloc, graph, bound, crew.effort),
+        _ => search_task(crew, graph, bound),
     }
 }
 
@@ -111,54 +91,53 @@ fn search_ahead<G: Gate, R: Threads + Wait + Sync>(
     crew: &Crew<'_, G, R>,
     graphs: &Graphs,
     bound: u64,
-    budget: u64,
     last: u32,
 ) -> Result<Vec<Option<FoundAhead>>, Memory>
-    requires bound { bound ≤ 1099511627776 }
-    requires few { budget ≤ 1000000 }
-    ensures { IfOk result (λ found. AreThere (IsAheadOf graphs.now bound budget) found.items) }
+    requires { bound ≤ 1099511627776 }
+    ensures { IfOk result (λ found. AreThere (IsAheadOf graphs.now bound crew.now.effort.budget) found.items) }
 {
-    let Crew {
-        rt,
-        alloc,
-        workers,
-        gate,
-    } = *crew;
-    let steps = reckon_all(alloc, graphs, bound, budget, last)?;
-    let workers = busy_workers(steps.as_slice(), workers);
+    let (alloc, effort) = (crew.alloc, crew.effort);
+    let steps = reckon_all(alloc, graphs, bound, effort.budget(), last)?;
+    let workers = busy_workers(steps.as_slice(), effort.workers());
     if workers < 2 {
         return Ok(Vec::new(alloc));
     }
     let order = largest_first(alloc, steps.as_slice())?;
-    let busy = Crew {
-        rt,
-        alloc,
-        workers,
-        gate,
+    let busy = crew.with(Effort::new(workers, effort.budget()));
+    // bridge
+    let busy = drt_ahead::Crew {
+        rt: busy.rt,
+        alloc: busy.alloc,
+        workers: busy.effort.workers(),
+        gate: busy.gate,
     };
     let merge = |task: u32| -> Result<FoundAhead, Memory>
-        requires { (task < length graphs.now) × (bound ≤ 1099511627776) × (budget ≤ 1000000) }
-        ensures { IfOk result (IsAheadOf graphs.entry.now bound budget task) }
-    { merge_behind(alloc, graphs, task, bound, budget, last) };
+        requires { (task < length graphs.now) × (bound ≤ 1099511627776) }
+        ensures { IfOk result (IsAheadOf graphs.entry.now bound effort.budget task) }
+    {
+        if task <= last {
+            return Ok(FoundAhead::Left);
+        }
+        merge_alone(alloc, graphs, task, bound, effort)
+    };
     look_ahead(&busy, order.as_slice(), merge, is_long)
 }
 
-// What merging gives of a task's search, where it stands behind that of the last one and has no wave table.
-fn merge_behind(
+// What merging gives of a task's search, where it has no wave table.
+fn merge_alone(
     alloc: Global,
     graphs: &Graphs,
     task: u32,
     bound: u64,
-    budget: u64,
-    last: u32,
+    effort: Effort,
 ) -> Result<FoundAhead, Memory>
     requires task { task < length graphs.now }
     requires bound { bound ≤ 1099511627776 }
-    requires few { budget ≤ 1000000 }
-    ensures { IfOk result (IsAheadOf graphs.now bound budget task) }
+    ensures { IfOk result (IsAheadOf graphs.now bound effort.budget task) }
 {
     let graph = graphs.graph(task);
-    if task <= last || has_wave_table(graph, bound, budget) {
+    let budget = effort.budget();
+    if has_wave_table(graph, bound, budget) {
         return Ok(FoundAhead::Left);
     }
     match merged_front(alloc, graph, bound, budget)? {

@@ -1,4 +1,7 @@
+use drt_accepted::Accepted;
+use drt_crew::Crew;
 use drt_edf::{EdfAnswer, analyse_edf};
+use drt_effort::Effort;
 use drt_fixtures::{Shape, make_set};
 use drt_graph::check;
 use drt_meeting::Meeting;
@@ -21,7 +24,13 @@ fn is_decided_together<R: Threads + Wait + Sync>(rt: &R, alloc: Global) -> Resul
     let set = make_set(alloc, FAR.as_slice())?.ok_or("within the limits")?;
     let graphs = check(alloc, &set).ok().ok_or("constrained")?;
     let gate = Meeting::at(0);
-    let answer = analyse_edf(rt, alloc, &set, &graphs, 2, 100_000, &gate)?;
+    let crew = Crew {
+        rt,
+        alloc,
+        effort: Effort::new(2, 100_000),
+        gate: &gate,
+    };
+    let answer = analyse_edf(&crew, &Accepted::of(&set, &graphs))?;
     Ok(matches!(answer, EdfAnswer::Done(_)) && gate.times_met() == 1)
 }
 

@@ -1,7 +1,10 @@
 ghost use Rattle.std.specs.Prelude.{◌≤◌};
 
+use drt_accepted::Accepted;
 use drt_claims::Evidence;
+use drt_crew::Crew;
 use drt_edf::{EdfAnswer, analyse_edf, has_wave_table};
+use drt_effort::Effort;
 use drt_fixtures::{Shape, make_set};
 use drt_gen::generate;
 use drt_graph::{Graphs, check};
@@ -93,7 +96,13 @@ fn decides<R: Threads + Wait + Sync>(
     if workers == 0 {
         return Ok(false);
     }
-    let answer = analyse_edf(rt, alloc, set, &graphs, workers, 1_000_000, &OpenGate)?;
+    let crew = Crew {
+        rt,
+        alloc,
+        effort: Effort::new(workers, 1_000_000),
+        gate: &OpenGate,
+    };
+    let answer = analyse_edf(&crew, &Accepted::of(set, &graphs))?;
     Ok(is_decided(&answer))
 }
 

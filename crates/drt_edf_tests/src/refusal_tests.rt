@@ -1,6 +1,9 @@
 //! Worked noes.
+use drt_accepted::Accepted;
 use drt_claims::Evidence;
+use drt_crew::Crew;
 use drt_edf::{EdfAnswer, analyse_edf};
+use drt_effort::Effort;
 use drt_fixtures::shapes::BRANCHING;
 use drt_fixtures::{Shape, make_set};
 use drt_graph::check;
@@ -70,7 +73,13 @@ fn is_refused<R: Threads + Wait + Sync>(
 ) -> Result<bool, Fail> {
     let set = make_set(alloc, shapes)?.ok_or("within the limits")?;
     let graphs = check(alloc, &set).ok().ok_or("constrained")?;
-    match analyse_edf(rt, alloc, &set, &graphs, 1, 100, &OpenGate)? {
+    let crew = Crew {
+        rt,
+        alloc,
+        effort: Effort::new(1, 100),
+        gate: &OpenGate,
+    };
+    match analyse_edf(&crew, &Accepted::of(&set, &graphs))? {
         EdfAnswer::Done(evidence) => Ok(is_no(&evidence, walks, wanted, miss)),
         _ => Ok(false),
     }

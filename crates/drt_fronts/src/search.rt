@@ -10,7 +10,9 @@ ghost use Rattle.drt_demand.specs.Demand.{demand_algebra};
 use crate::fronts::front_of;
 use crate::merged::merged_front;
 use crate::waves::{has_wave_table, wave_front};
+use drt_crew::Crew;
 use drt_demand::DemandLabel;
+use drt_effort::Effort;
 use drt_graph::Graph;
 use drt_model::{FrontEntry, Memory, Row};
 use drt_pool::Gate;
@@ -24,14 +26,13 @@ fn search(
     alloc: Global,
     graph: &Graph,
     bound: u64,
-    budget: u64,
+    effort: Effort,
 ) -> Result<(Table<DemandLabel>, TableReply), Memory>
     requires bound { bound ≤ 1099511627776 }
-    requires some { 1 ≤ budget }
-    requires few { budget ≤ 1000000 }
-    ensures setting { IfOk result (λ end. setting_of end.0 ≡ search_of graph.now bound budget) }
+    ensures setting { IfOk result (λ end. setting_of end.0 ≡ search_of graph.now bound effort.budget) }
     ensures stops { IfOk result (λ end. StopsAt demand_algebra end.0 end.1) }
 {
+    let budget = effort.budget();
     let table: Table<DemandLabel> = Table::start(alloc, graph, bound, budget)?;
     table.drive(alloc, 0)
 }
@@ -48,41 +49,33 @@ pub enum Ended {
 /// The search of one task's walks up to the bound, in ticks: in a wave table, by several workers, where it has one; else by one worker, by
 /// merging, and where the budget is too little for that, in a table whose steps the budget counts.
 pub fn search_task<G: Gate, R: Threads + Wait + Sync>(
-    rt: &R,
-    alloc: Global,
+    crew: &Crew<'_, G, R>,
     graph: &Graph,
     bound: u64,
-    workers: u32,
-    budget: u64,
-    gate: &G,
 ) -> Result<Ended, Memory>
     requires constrained { IsConstrainedGraph graph.now }
     requires bound { bound ≤ 1099511627776 }
-    requires workers { (1 ≤ workers) × (workers ≤ 16) }
-    requires some { 1 ≤ budget }
-    requires few { budget ≤ 1000000 }
-    ensures { IfOk result (IsEnded graph.now bound budget) }
+    ensures { IfOk result (IsEnded graph.now bound crew.now.effort.budget) }
 {
+    let budget = crew.effort.budget();
     if has_wave_table(graph, bound, budget) {
-        let front = wave_front(rt, alloc, graph, bound, workers, gate)?;
+        let front = wave_front(crew, graph, bound)?;
         return Ok(Ended::Front(front));
     }
-    match merged_front(alloc, graph, bound, budget)? {
+    match merged_front(crew.alloc, graph, bound, budget)? {
         Some(front) => Ok(Ended::Front(front)),
-        None => drive_task(alloc, graph, bound, budget),
+        None => drive_task(crew.alloc, graph, bound, crew.effort),
     }
 }
 
 /// The same search for a task that merging gives nothing of: by one worker, in a table whose steps the budget counts.
-pub fn drive_task(alloc: Global, graph: &Graph, bound: u64, budget: u64) -> Result<Ended, Memory>
+pub fn drive_task(alloc: Global, graph: &Graph, bound: u64, effort: Effort) -> Result<Ended, Memory>
     requires constrained { IsConstrainedGraph graph.now }
     requires bound { bound ≤ 1099511627776 }
-    requires some { 1 ≤ budget }
-    requires few { budget ≤ 1000000 }
-    ensures { IfOk result (IsEnded graph.now bound budget) }
+    ensures { IfOk result (IsEnded graph.now bound effort.budget) }
 {
     over_every_interleaving::<DemandLabel>();
-    let (table, _reply) = search(alloc, graph, bound, budget)?;
+    let (table, _reply) = search(alloc, graph, bound, effort)?;
     if !table.finished() {
         let log = Vec::from_slice(alloc, table.log())?;
         return Ok(Ended::Full(Row::from_vec(log)));

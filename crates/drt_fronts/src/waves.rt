@@ -6,11 +6,11 @@ ghost use Rattle.drt_claims.specs.Ranges.{IsCounted};
 ghost use Rattle.drt_fronts.specs.LabelFronts.{IsLabelFront};
 ghost use Rattle.drt_fronts.specs.Needs.{HasWaveTable};
 
+use drt_crew::Crew;
 use drt_graph::Graph;
 use drt_model::{FrontEntry, Memory, Row};
 use drt_pool::Gate;
 use drt_wave::fill;
-use std::alloc::Global;
 use std::sync::Wait;
 use std::thread::Threads;
 
@@ -42,23 +42,20 @@ pub fn has_wave_table(graph: &Graph, bound: u64, budget: u64) -> bool
     cells * (greatest_degree(graph) + 2) <= budget
 }
 
-/// The front of a task's walks up to the bound, in ticks, worked by several workers in a wave table.
+/// The front of a task's walks up to the bound, in ticks, worked by the crew's workers in a wave table.
 pub fn wave_front<G: Gate, R: Threads + Wait + Sync>(
-    rt: &R,
-    alloc: Global,
+    crew: &Crew<'_, G, R>,
     graph: &Graph,
     bound: u64,
-    workers: u32,
-    gate: &G,
 ) -> Result<Row<FrontEntry>, Memory>
     requires small { vertex_count graph.now * (bound + 1) ≤ 4194304 }
     requires constrained { IsConstrainedGraph graph.now }
-    requires workers { (1 ≤ workers) × (workers ≤ 16) }
     ensures front { IfOk result (IsLabelFront graph.now bound) }
     ensures counted { IfOk result IsCounted }
 {
     let _count = graph.vertex_count();
-    let works = fill(rt, alloc, graph, bound, workers, gate)?;
-    let front = works.front(alloc)?;
+    let workers = crew.effort.workers();
+    let works = fill(crew.rt, crew.alloc, graph, bound, workers, crew.gate)?;
+    let front = works.front(crew.alloc)?;
     Ok(front)
 }

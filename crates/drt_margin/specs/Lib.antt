@@ -2,3 +2,4 @@ pub mod Margin
 pub mod Past
 pub mod Answers
 pub mod Steps
+pub mod Bridge

@@ -40,11 +40,11 @@ IsFinding policy set budget (findings.Undecided trail) = IsSpentUnder policy set
 abbrev pub AreAskable : Contents → Question → List ℕ → Type 0
 AreAskable set q numbers = All (λ add. wcet_at set.tasks q.task q.vertex + add ≤ 1000000) numbers
 
--- What was found ahead is said of S with so many ticks more as the number at its place.
-abbrev pub AreAhead : Contents → Question → Ahead → Type 0
-AreAhead set q ahead =
+-- What was found ahead, with a budget, is said of S with so many ticks more as the number at its place.
+abbrev pub AreAhead : Contents → Question → ℕ → Ahead → Type 0
+AreAhead set q budget ahead =
     (i : ℕ) (finding : Finding) → slice_index_or ahead.found.items i None ≡ Some finding
-    → IsFinding q.policy (plus_set set q.task q.vertex (slice_index ahead.numbers.items i)) q.budget finding
+    → IsFinding q.policy (plus_set set q.task q.vertex (slice_index ahead.numbers.items i)) budget finding
 
 -- A pair that halving goes through: the lower number is within, with its evidence, and the higher one isn't, with its evidence if it was
 -- tried.

@@ -12,7 +12,8 @@ use crate::halving::Room;
 use crate::middles::next_middles;
 use crate::question::Question;
 use crate::size::is_large;
-use drt_ahead::{Crew, look_ahead, take_found};
+use drt_ahead::{look_ahead, take_found};
+use drt_crew::Crew;
 use drt_model::{Memory, TaskSet};
 use drt_pool::{Gate, OpenGate};
 use drt_priorities::copy_of;
@@ -29,7 +30,7 @@ pub struct Ahead {
 
 /// Nothing was asked ahead.
 pub(crate) fn nothing_ahead(alloc: Global) -> Ahead
-    ensures { (set : Contents) (question : Asked) → AreAhead set question result }
+    ensures { (set : Contents) (question : Asked) (budget : ℕ) → AreAhead set question budget result }
 {
     Ahead {
         numbers: Vec::new(alloc),
@@ -40,55 +41,51 @@ pub(crate) fn nothing_ahead(alloc: Global) -> Ahead
 /// Asks ahead about the numbers that the next halvings of a room may ask about, unless the next one was among the last. A small set isn't worth
 /// other workers.
 pub(crate) fn look_further<G: Gate, R: Threads + Wait + Sync>(
-    rt: &R,
-    alloc: Global,
+    crew: &Crew<'_, G, R>,
     set: &TaskSet,
     question: Question,
     room: &Room,
     ahead: Ahead,
-    gate: &G,
 ) -> Result<Ahead, Memory>
     requires asked { IsAsked set.now question }
     requires room { IsRoom set.now question.policy question.task question.vertex room.now }
-    requires ahead { AreAhead set.now question ahead }
-    ensures { IfOk result (AreAhead set.now question) }
+    requires ahead { AreAhead set.now question crew.now.effort.budget ahead }
+    ensures { IfOk result (AreAhead set.now question crew.now.effort.budget) }
 {
     let next = (room.low + room.high) / 2;
     if place_of(&ahead.numbers, next).is_some() {
         return Ok(ahead);
     }
-    if gate.alone() > 0 && !is_large(&room.within) {
+    if crew.gate.alone() > 0 && !is_large(&room.within) {
         return Ok(ahead);
     }
-    let workers = worker_count(rt, question.workers, gate);
-    let numbers = next_middles(alloc, room.low, room.high, number_count(workers))?;
-    let found = ask_apart(rt, alloc, set, question, &numbers, gate)?;
+    let count = number_count(worker_count(crew));
+    let numbers = next_middles(crew.alloc, room.low, room.high, count)?;
+    let found = ask_apart(crew, set, question, &numbers)?;
     Ok(Ahead { numbers, found })
 }
 
 /// What was found ahead of the set with so many ticks more, or else what is found of it now; and the set as it was.
 pub(crate) fn take_or_ask<G: Gate, R: Threads + Wait + Sync>(
-    rt: &R,
-    alloc: Global,
+    crew: &Crew<'_, G, R>,
     set: TaskSet,
     question: Question,
     add: u32,
     ahead: &mut Ahead,
-    gate: &G,
 ) -> Result<(TaskSet, Finding), Memory>
     requires asked { IsAsked set question }
     requires limit { wcet_at set.tasks question.task question.vertex + add ≤ 1000000 }
-    requires ahead { AreAhead set question ahead.old }
+    requires ahead { AreAhead set question crew.now.effort.budget ahead.old }
     ensures same { IfOk result (λ r. r.0 ≡ set) }
-    ensures finding { IfOk result (λ r. IsFinding question.policy (plus_set set question.task question.vertex add) question.budget r.1) }
-    ensures ahead { AreAhead set question ahead.new }
+    ensures finding { IfOk result (λ r. IsFinding question.policy (plus_set set question.task question.vertex add) crew.now.effort.budget r.1) }
+    ensures ahead { AreAhead set question crew.now.effort.budget ahead.new }
 {
     if let Some(place) = place_of(&ahead.numbers, add) {
         if let Some(finding) = take_found(&mut ahead.found, place) {
             return Ok((set, finding));
         }
     }
-    ask(rt, alloc, set, question, add, gate)
+    ask(crew, set, question, add)
 }
 
 // The place of a number among these.
@@ -104,12 +101,12 @@ fn place_of(numbers: &[u32], number: u32) -> Option<u32>
 }
 
 // How many workers ask side by side: no more than there are processors, unless the gate may wait for another worker.
-fn worker_count<G: Gate, R: Threads>(rt: &R, workers: u32, gate: &G) -> usize {
-    let most = workers as usize;
-    if gate.alone() == 0 {
+fn worker_count<G: Gate, R: Threads>(crew: &Crew<'_, G, R>) -> usize {
+    let most = crew.effort.workers() as usize;
+    if crew.gate.alone() == 0 {
         return most;
     }
-    match available_parallelism(rt) {
+    match available_parallelism(crew.rt) {
         Ok(processors) => most.min(processors.get()),
         Err(_) => 1,
     }
@@ -129,30 +126,35 @@ fn number_count(workers: usize) -> usize
 
 // What workers find of the sets with so many ticks more, side by side, each at its place.
 fn ask_apart<G: Gate, R: Threads + Wait + Sync>(
-    rt: &R,
-    alloc: Global,
+    crew: &Crew<'_, G, R>,
     set: &TaskSet,
     question: Question,
     numbers: &[u32],
-    gate: &G,
 ) -> Result<Vec<Option<Finding>>, Memory>
     requires asked { IsAsked set.now question }
     requires numbers { AreAskable set.now question numbers.now }
     requires few { length numbers.now ≤ 15 }
-    ensures { IfOk result (λ found. (i : ℕ) (finding : Found) → slice_index_or found.items i None ≡ Some finding → IsFinding question.policy (plus_set set.now question.task question.vertex (slice_index numbers.now i)) question.budget finding) }
+    ensures { IfOk result (λ found. (i : ℕ) (finding : Found) → slice_index_or found.items i None ≡ Some finding → IsFinding question.policy (plus_set set.now question.task question.vertex (slice_index numbers.now i)) crew.now.effort.budget finding) }
 {
-    let crew = Crew {
-        rt,
-        alloc,
-        workers: question.workers,
-        gate,
+    let alone = Crew {
+        rt: crew.rt,
+        alloc: crew.alloc,
+        effort: crew.effort.alone(),
+        gate: &OpenGate,
     };
-    let order = all_places(alloc, numbers)?;
+    let order = all_places(crew.alloc, numbers)?;
     let ask_place = |place: u32| -> Result<Finding, Memory>
         requires { IsSync R.row × IsAsked set.now question × AreAskable set.now question numbers.now × (place < length numbers.now) }
-        ensures { IfOk result (IsFinding question.policy (plus_set set.entry.now question.task question.vertex (slice_index numbers.entry.now place)) question.budget) }
-    { ask_copy(rt, alloc, set, question, numbers[place as usize]) };
-    look_ahead(&crew, &order, ask_place, ends_nothing)
+        ensures { IfOk result (IsFinding question.policy (plus_set set.entry.now question.task question.vertex (slice_index numbers.entry.now place)) alone.entry.effort.budget) }
+    { ask_copy(&alone, set, question, numbers[place as usize]) };
+    // bridge
+    let crew = &drt_ahead::Crew {
+        rt: crew.rt,
+        alloc: crew.alloc,
+        workers: crew.effort.workers(),
+        gate: crew.gate,
+    };
+    look_ahead(crew, &order, ask_place, ends_nothing)
 }
 
 // The places of all numbers.
@@ -165,25 +167,17 @@ fn all_places(alloc: Global, numbers: &[u32]) -> Result<Vec<u32>, Memory>
 }
 
 // What one worker finds of a copy of the set with so many ticks more.
-fn ask_copy<R: Threads + Wait + Sync>(
-    rt: &R,
-    alloc: Global,
+fn ask_copy<G: Gate, R: Threads + Wait + Sync>(
+    crew: &Crew<'_, G, R>,
     set: &TaskSet,
     question: Question,
     add: u32,
 ) -> Result<Finding, Memory>
     requires asked { IsAsked set.now question }
     requires limit { wcet_at set.now.tasks question.task question.vertex + add ≤ 1000000 }
-    ensures { IfOk result (IsFinding question.policy (plus_set set.now question.task question.vertex add) question.budget) }
+    ensures { IfOk result (IsFinding question.policy (plus_set set.now question.task question.vertex add) crew.now.effort.budget) }
 {
-    let alone = Question {
-        policy: question.policy,
-        task: question.task,
-        vertex: question.vertex,
-        workers: 1,
-        budget: question.budget,
-    };
-    let (_, finding) = ask(rt, alloc, copy_of(alloc, set)?, alone, add, &OpenGate)?;
+    let (_, finding) = ask(crew, copy_of(crew.alloc, set)?, question, add)?;
     Ok(finding)
 }
 

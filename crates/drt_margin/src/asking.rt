@@ -11,11 +11,13 @@ ghost use Rattle.drt_margin.specs.Answers.{IsAffirmative, IsVerdictUnder};
 ghost use Rattle.drt_margin.specs.Steps.{IsAsked, IsFinding};
 
 use crate::answer::MarginTrail;
+use crate::bridge::{Analysed, analyse_fixed}; // bridge
 use crate::question::Question;
 use crate::times::{with_less, with_more};
-use drt_claims::{Dossier, Evidence};
+use drt_accepted::Accepted;
+use drt_claims::Evidence;
+use drt_crew::Crew;
 use drt_edf::{EdfAnswer, analyse_edf};
-use drt_fixed::{Analysed, analyse_fixed};
 use drt_graph::{GraphError, Graphs, check};
 use drt_horizon::Beyond;
 use drt_model::{Memory, Policy, TaskSet};
@@ -39,87 +41,64 @@ pub enum Finding {
 
 /// What is found of the set with so many ticks more, and the set as it was.
 pub fn ask<G: Gate, R: Threads + Wait + Sync>(
-    rt: &R,
-    alloc: Global,
+    crew: &Crew<'_, G, R>,
     set: TaskSet,
     question: Question,
     add: u32,
-    gate: &G,
 ) -> Result<(TaskSet, Finding), Memory>
     requires asked { IsAsked set question }
     requires limit { wcet_at set.tasks question.task question.vertex + add ≤ 1000000 }
     ensures same { IfOk result (λ r. r.0 ≡ set) }
-    ensures finding { IfOk result (λ r. IsFinding question.policy (plus_set set question.task question.vertex add) question.budget r.1) }
+    ensures finding { IfOk result (λ r. IsFinding question.policy (plus_set set question.task question.vertex add) crew.now.effort.budget r.1) }
 {
-    let more = with_more(alloc, set, question.task, question.vertex, add);
-    let (more, finding) = analyse(rt, alloc, more, question, gate)?;
-    let set = with_less(alloc, more, question.task, question.vertex, add);
+    let more = with_more(crew.alloc, set, question.task, question.vertex, add);
+    let finding = analyse(crew, &more, question.policy)?;
+    let set = with_less(crew.alloc, more, question.task, question.vertex, add);
     Ok((set, finding))
 }
 
-// What is found of the set, and the set.
+// What is found of the set under the policy.
 fn analyse<G: Gate, R: Threads + Wait + Sync>(
-    rt: &R,
-    alloc: Global,
-    set: TaskSet,
-    question: Question,
-    gate: &G,
-) -> Result<(TaskSet, Finding), Memory>
-    requires { AreConstrained set.tasks }
-    ensures same { IfOk result (λ r. r.0 ≡ set) }
-    ensures finding { IfOk result (λ r. IsFinding question.policy set question.budget r.1) }
+    crew: &Crew<'_, G, R>,
+    set: &TaskSet,
+    policy: Policy,
+) -> Result<Finding, Memory>
+    requires { AreConstrained set.now.tasks }
+    ensures { IfOk result (IsFinding policy set.now crew.now.effort.budget) }
 {
-    let graphs = make_graphs(alloc, &set)?;
-    match question.policy {
-        Policy::Edf => {
-            let finding = analyse_by_edf(rt, alloc, &set, &graphs, question, gate)?;
-            Ok((set, finding))
-        }
-        Policy::Fixed => analyse_by_priorities(rt, alloc, set, &graphs, question, gate),
+    let graphs = make_graphs(crew.alloc, set)?;
+    let accepted = Accepted::of(set, &graphs);
+    match policy {
+        Policy::Edf => analyse_by_edf(crew, &accepted),
+        Policy::Fixed => analyse_by_priorities(crew, &accepted),
     }
 }
 
 // What is found under EDF.
 fn analyse_by_edf<G: Gate, R: Threads + Wait + Sync>(
-    rt: &R,
-    alloc: Global,
-    set: &TaskSet,
-    graphs: &Graphs,
-    question: Question,
-    gate: &G,
+    crew: &Crew<'_, G, R>,
+    set: &Accepted<'_>,
 ) -> Result<Finding, Memory>
-    requires constrained { AreConstrained set.now.tasks }
-    requires graphs { graphs.now ≡ graphs_of set.now.tasks }
-    ensures { IfOk result (IsFinding policies.Edf set.now question.budget) }
+    ensures { IfOk result (IsFinding policies.Edf set.now crew.now.effort.budget) }
 {
-    let (workers, budget) = (question.workers, question.budget);
-    match analyse_edf(rt, alloc, set, graphs, workers, budget, gate)? {
+    match analyse_edf(crew, set)? {
         EdfAnswer::Done(evidence) => Ok(decided(evidence)),
         EdfAnswer::Beyond(beyond) => Ok(Finding::Beyond(beyond)),
         EdfAnswer::Undecided(trail) => Ok(Finding::Undecided(MarginTrail::Edf(trail))),
     }
 }
 
-// What is found under fixed priorities, and the set.
+// What is found under fixed priorities.
 fn analyse_by_priorities<G: Gate, R: Threads + Wait + Sync>(
-    rt: &R,
-    alloc: Global,
-    set: TaskSet,
-    graphs: &Graphs,
-    question: Question,
-    gate: &G,
-) -> Result<(TaskSet, Finding), Memory>
-    requires constrained { AreConstrained set.tasks }
-    requires graphs { graphs.now ≡ graphs_of set.tasks }
-    ensures same { IfOk result (λ r. r.0 ≡ set) }
-    ensures finding { IfOk result (λ r. IsFinding policies.Fixed set question.budget r.1) }
+    crew: &Crew<'_, G, R>,
+    set: &Accepted<'_>,
+) -> Result<Finding, Memory>
+    ensures { IfOk result (IsFinding policies.Fixed set.now crew.now.effort.budget) }
 {
-    let (workers, budget) = (question.workers, question.budget);
-    let Analysed { dossier, trail } = analyse_fixed(rt, alloc, set, graphs, workers, budget, gate)?;
-    let Dossier { set, evidence, .. } = dossier;
+    let Analysed { evidence, trail } = analyse_fixed(crew, set)?;
     match trail {
-        Some(spent) => Ok((set, Finding::Undecided(MarginTrail::Fixed(spent)))),
-        None => Ok((set, decided(evidence))),
+        Some(spent) => Ok(Finding::Undecided(MarginTrail::Fixed(spent))),
+        None => Ok(decided(evidence)),
     }
 }
 

@@ -10,9 +10,9 @@ use crate::asking::{Finding, ask};
 use crate::question::Question;
 use crate::times::{deadline_of, wcet_of};
 use drt_claims::Evidence;
+use drt_crew::Crew;
 use drt_model::{Memory, TaskSet};
 use drt_pool::Gate;
-use std::alloc::Global;
 use std::sync::Wait;
 use std::thread::Threads;
 
@@ -51,31 +51,29 @@ pub enum Last {
 /// With three workers or more the numbers that the next two halvings may ask about are asked about side by side, one by each worker; with seven those of
 /// three halvings, and with fifteen those of four. The halvings then take what was found, so they go the way that they go by one worker.
 pub fn halve<G: Gate, R: Threads + Wait + Sync>(
-    rt: &R,
-    alloc: Global,
+    crew: &Crew<'_, G, R>,
     set: TaskSet,
     question: Question,
     evidence: Evidence,
-    gate: &G,
 ) -> Result<(TaskSet, MarginAnswer), Memory>
     requires asked { IsAsked set question }
     requires yes { IsYesFor question.policy (plus_set set question.task question.vertex 0) evidence }
     ensures same { IfOk result (λ r. r.0 ≡ set) }
-    ensures answer { IfOk result (λ r. IsMarginAnswer set question.policy question.task question.vertex question.budget r.1) }
+    ensures answer { IfOk result (λ r. IsMarginAnswer set question.policy question.task question.vertex crew.now.effort.budget r.1) }
 {
     let mut room = open(&set, question, evidence);
     let mut current = set;
-    let mut ahead = nothing_ahead(alloc);
+    let mut ahead = nothing_ahead(crew.alloc);
     'halving: while room.high - room.low > 1 {
-        ahead = look_further(rt, alloc, &current, question, &room, ahead, gate)?;
-        let (same, half) = narrow(rt, alloc, current, question, room, &mut ahead, gate)?;
+        ahead = look_further(crew, &current, question, &room, ahead)?;
+        let (same, half) = narrow(crew, current, question, room, &mut ahead)?;
         current = same;
         match half {
             Half::Open(smaller) => room = smaller,
             Half::Ended(answer) => return Ok((current, answer)),
         }
     }
-    close(rt, alloc, current, question, room, gate)
+    close(crew, current, question, room)
 }
 
 // The room at first: up to the least number that the deadline doesn't hold.
@@ -96,24 +94,22 @@ fn open(set: &TaskSet, question: Question, evidence: Evidence) -> Room
 
 // What the analysis of the set with the number in the middle makes of a room, and the set.
 fn narrow<G: Gate, R: Threads + Wait + Sync>(
-    rt: &R,
-    alloc: Global,
+    crew: &Crew<'_, G, R>,
     set: TaskSet,
     question: Question,
     room: Room,
     ahead: &mut Ahead,
-    gate: &G,
 ) -> Result<(TaskSet, Half), Memory>
     requires asked { IsAsked set question }
     requires room { IsRoom set question.policy question.task question.vertex room }
-    requires ahead { AreAhead set question ahead.old }
+    requires ahead { AreAhead set question crew.now.effort.budget ahead.old }
     requires wide { 1 < room.high - room.low }
     ensures same { IfOk result (λ r. r.0 ≡ set) }
-    ensures half { IfOk result (λ r. IsHalf set question.policy question.task question.vertex question.budget (room.high - room.low) r.1) }
-    ensures ahead { AreAhead set question ahead.new }
+    ensures half { IfOk result (λ r. IsHalf set question.policy question.task question.vertex crew.now.effort.budget (room.high - room.low) r.1) }
+    ensures ahead { AreAhead set question crew.now.effort.budget ahead.new }
 {
     let add = (room.low + room.high) / 2;
-    let (set, finding) = take_or_ask(rt, alloc, set, question, add, ahead, gate)?;
+    let (set, finding) = take_or_ask(crew, set, question, add, ahead)?;
     match finding {
         Finding::Yes(evidence) => Ok((set, Half::Open(raise(room, add, evidence)))),
         Finding::Other(evidence) => Ok((set, Half::Open(lower(room, add, evidence)))),
@@ -161,18 +157,16 @@ fn leave(_room: Room, answer: MarginAnswer) -> Half
 
 // The answer for two numbers that are next to each other, and the set.
 fn close<G: Gate, R: Threads + Wait + Sync>(
-    rt: &R,
-    alloc: Global,
+    crew: &Crew<'_, G, R>,
     set: TaskSet,
     question: Question,
     room: Room,
-    gate: &G,
 ) -> Result<(TaskSet, MarginAnswer), Memory>
     requires asked { IsAsked set question }
     requires room { IsRoom set question.policy question.task question.vertex room }
     requires narrow { room.high - room.low ≤ 1 }
     ensures same { IfOk result (λ r. r.0 ≡ set) }
-    ensures answer { IfOk result (λ r. IsMarginAnswer set question.policy question.task question.vertex question.budget r.1) }
+    ensures answer { IfOk result (λ r. IsMarginAnswer set question.policy question.task question.vertex crew.now.effort.budget r.1) }
 {
     let Room {
         low,
@@ -186,7 +180,7 @@ fn close<G: Gate, R: Threads + Wait + Sync>(
             Ok((set, answer_with(low, within, last)))
         }
         None => {
-            let (set, last) = try_last(rt, alloc, set, question, high, gate)?;
+            let (set, last) = try_last(crew, set, question, high)?;
             Ok((set, answer_with(low, within, last)))
         }
     }
@@ -208,22 +202,20 @@ fn answer_with(low: u32, within: Evidence, last: Last) -> MarginAnswer
 
 // What is shown of the set with the least number that isn't within, and the set.
 fn try_last<G: Gate, R: Threads + Wait + Sync>(
-    rt: &R,
-    alloc: Global,
+    crew: &Crew<'_, G, R>,
     set: TaskSet,
     question: Question,
     high: u32,
-    gate: &G,
 ) -> Result<(TaskSet, Last), Memory>
     requires asked { IsAsked set question }
     requires least { IsLeast set question.policy question.task question.vertex high }
     ensures same { IfOk result (λ r. r.0 ≡ set) }
-    ensures last { IfOk result (λ r. IsLast set question.policy question.task question.vertex question.budget high r.1) }
+    ensures last { IfOk result (λ r. IsLast set question.policy question.task question.vertex crew.now.effort.budget high r.1) }
 {
     if wcet_of(&set, question.task, question.vertex) + high > LONGEST {
         return Ok((set, Last::Next(Next::Limit)));
     }
-    let (set, finding) = ask(rt, alloc, set, question, high, gate)?;
+    let (set, finding) = ask(crew, set, question, high)?;
     match finding {
         Finding::Yes(_) => unreachable!(),
         Finding::Other(evidence) => Ok((set, Last::Next(Next::Shown(evidence)))),

@@ -9,6 +9,7 @@
 mod ahead;
 mod answer;
 mod asking;
+mod bridge;
 mod halving;
 mod laws;
 mod margins;
@@ -20,4 +21,5 @@ mod times;
 pub use answer::{MarginAnswer, MarginTrail, Next};
 pub use laws::smaller_is_within;
 pub use margins::margin;
+pub use question::Question;
 pub use times::{wcet_of, with_less, with_more, with_wcet};

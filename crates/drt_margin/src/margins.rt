@@ -1,5 +1,5 @@
 //! The margin.
-ghost use Rattle.std.specs.Prelude.{◌≡◌, ◌≤◌, IfOk};
+ghost use Rattle.std.specs.Prelude.{◌≡◌, IfOk};
 ghost use Rattle.drt_model.specs.Constrained.{AreConstrained};
 ghost use Rattle.drt_margin.specs.Margin.{IsVertexOf};
 ghost use Rattle.drt_margin.specs.Answers.{IsMarginAnswer};
@@ -9,47 +9,31 @@ use crate::asking::{Finding, ask};
 use crate::halving::halve;
 use crate::question::Question;
 use crate::times::keep_limits;
-use drt_model::{Memory, Policy, TaskSet};
+use drt_crew::Crew;
+use drt_model::{Memory, TaskSet};
 use drt_pool::Gate;
-use std::alloc::Global;
 use std::sync::Wait;
 use std::thread::Threads;
 
-/// The margin of this vertex of this task under the policy, and the set as it was. Each analysis has so many workers and this budget.
+/// The margin of the question's vertex under its policy, and the set as it was. Each analysis has the crew's workers and budget.
 ///
 /// First the set itself is analysed; where that isn't a yes, the evidence is the answer. After a yes the room from 0 to the least number
 /// that the deadline doesn't hold is halved: the set with the number in the middle is analysed, until the greatest number that is within and
 /// the least one that isn't are next to each other. The set with the latter is analysed if it wasn't yet and its limits allow.
 pub fn margin<G: Gate, R: Threads + Wait + Sync>(
-    rt: &R,
-    alloc: Global,
+    crew: &Crew<'_, G, R>,
     set: TaskSet,
-    policy: Policy,
-    task: u32,
-    vertex: u32,
-    workers: u32,
-    budget: u64,
-    gate: &G,
+    question: Question,
 ) -> Result<(TaskSet, MarginAnswer), Memory>
     requires constrained { AreConstrained set.tasks }
-    requires vertex { IsVertexOf set.tasks task vertex }
-    requires workers { (1 ≤ workers) × (workers ≤ 16) }
-    requires some { 1 ≤ budget }
-    requires few { budget ≤ 1000000 }
+    requires vertex { IsVertexOf set.tasks question.task question.vertex }
     ensures same { IfOk result (λ r. r.0 ≡ set) }
-    ensures answer { IfOk result (λ r. IsMarginAnswer set policy task vertex budget r.1) }
+    ensures answer { IfOk result (λ r. IsMarginAnswer set question.policy question.task question.vertex crew.now.effort.budget r.1) }
 {
     keep_limits(&set);
-    let question = Question {
-        policy,
-        task,
-        vertex,
-        workers,
-        budget,
-    };
-    let (set, finding) = ask(rt, alloc, set, question, 0, gate)?;
+    let (set, finding) = ask(crew, set, question, 0)?;
     match finding {
-        Finding::Yes(evidence) => halve(rt, alloc, set, question, evidence, gate),
+        Finding::Yes(evidence) => halve(crew, set, question, evidence),
         Finding::Other(evidence) => Ok((set, MarginAnswer::AtZero(evidence))),
         Finding::Beyond(beyond) => Ok((set, MarginAnswer::Beyond { add: 0, beyond })),
         Finding::Undecided(trail) => Ok((set, MarginAnswer::Undecided { add: 0, trail })),

@@ -1,5 +1,8 @@
-use Rattle.std.proofs.Common.{◌≡◌, ◌≤◌, List, All, length, ap, arith, ◌∙◌}
+use Rattle.std.proofs.Common.{◌≡◌, ℕ, ◌≤◌, List, All, length, ap, arith, subst, sym, ◌∙◌}
 use Rattle.std.proofs.lemmas.List.Elements.{All-weaker}
+use Rattle.drt_model.specs.Contents.{Contents}
+use Rattle.drt_model.specs.Legal.{IsLegal}
+use Rattle.drt_model.specs.declared.tasks.Task.{Task}
 use Rattle.drt_model.specs.declared.jobs.Policy.TheVariants.{Edf}
 use Rattle.drt_model.specs.declared.jobs.Release.{Release}
 use Rattle.drt_model.specs.Schedulable.{jobs_of}
@@ -11,23 +14,33 @@ use Rattle.drt_releases.proofs.Walks.{due_walks}
 use Rattle.drt_edf.proofs.Nos.{miss_in_range, missed, some_late}
 use Rattle.drt_edf.proofs.refusal.refusal.Goals as goal
 
+-- What a board shows that ran with the releases of a set to time t.
+ran : (set : Contents) (tasks : List Task) (row releases : List Release) (t : ℕ) (board end : Shown) → set.tasks ≡ tasks → row ≡ releases
+    → board ≡ record { policy = Edf; jobs = jobs_of set.tasks row; ticks = 0 } → end ≡ record { policy = board.policy; jobs = board.jobs; ticks = t }
+    → end ≡ record { policy = Edf; jobs = jobs_of tasks releases; ticks = t }
+ran set tasks row releases t board end same given begins ends =
+    ends ∙ (ap (λ (b : Shown). let s : Shown = record { policy = b.policy; jobs = b.jobs; ticks = t } in s) begins
+    ∙ (ap (λ (ts : List Task). let s : Shown = record { policy = Edf; jobs = jobs_of ts row; ticks = t } in s) same
+    ∙ ap (λ (rs : List Release). let s : Shown = record { policy = Edf; jobs = jobs_of tasks rs; ticks = t } in s) given))
+
 pub all_releases-requires-clause-walks : goal.all_releases-requires-clause-walks
 all_releases-requires-clause-walks c =
-    due_walks c.args.set.now.tasks c.args.graphs.now (walk_at c.args.walks.now) c.args.t c.requires.graphs c.requires.walks c.requires.due
+    due_walks c.args.set.now.tasks c.graphs-graphs.result.now (walk_at c.args.walks.now) c.args.t c.graphs-graphs.ensures.graphs c.requires.walks c.requires.due
 
 pub start-requires-clause-legal : goal.start-requires-clause-legal
 start-requires-clause-legal c =
     let tasks = c.args.set.now.tasks in
-    let d = c.demand_misses.ensures c.args.set.now.version tasks c.tasks-tasks.ensures.limits c.requires.constrained c.args.t
+    let d = c.demand_misses.ensures c.args.set.now.version tasks c.keep_limits.ensures.limits c.keep_limits.ensures.constrained c.args.t
     (walk_at c.args.walks.now) c.requires.walks c.requires.due c.requires.excess in
-    let same : c.as_slice.result.now ≡ all_releases tasks (walk_at c.args.walks.now) (length tasks) = c.as_slice.ensures.value ∙ c.in_ok-releases.ensures tasks c.requires.graphs in
-    rw same d.0
+    let same : c.as_slice.result.now ≡ all_releases tasks (walk_at c.args.walks.now) (length tasks) = c.as_slice.ensures.value ∙ c.in_ok-releases.ensures tasks c.graphs-graphs.ensures.graphs in
+    let given : c.set.result.now.tasks ≡ tasks = ap (λ (s : Contents). s.tasks) c.set.ensures.set in
+    subst (λ ts. IsLegal ts c.as_slice.result.now) (sym given) (rw same d.0)
 
 pub start-requires-clause-times : goal.start-requires-clause-times
 start-requires-clause-times c =
     let tasks = c.args.set.now.tasks in
-    let same : c.as_slice.result.now ≡ all_releases tasks (walk_at c.args.walks.now) (length tasks) = c.as_slice.ensures.value ∙ c.in_ok-releases.ensures tasks c.requires.graphs in
-    let kept = rw c.requires.graphs at c.count-count.ensures.kept in
+    let same : c.as_slice.result.now ≡ all_releases tasks (walk_at c.args.walks.now) (length tasks) = c.as_slice.ensures.value ∙ c.in_ok-releases.ensures tasks c.graphs-graphs.ensures.graphs in
+    let kept = rw c.graphs-graphs.ensures.graphs at c.count-count.ensures.kept in
     let each = c.releases_are_in_range.ensures tasks (walk_at c.args.walks.now) c.args.t kept c.requires.walks c.requires.due c.requires.time in
     rw same (All-weaker IsInRangeRelease (λ r. r.time ≤ 1000000000000000000) (λ r is. is.time) (all_releases tasks (walk_at c.args.walks.now) (length tasks)) each)
 
@@ -35,11 +48,11 @@ pub unreachable-requires : goal.unreachable-requires
 unreachable-requires c =
     let tasks = c.args.set.now.tasks in
     let releases = c.in_ok-releases.releases.items in
+    let given = ap (λ (s : Contents). s.tasks) c.set.ensures.set in
     let is : c.run_until.new.self ≡ record { policy = Edf; jobs = jobs_of tasks releases; ticks = c.args.t } =
-    c.run_until.ensures ∙ (ap (λ (b : Shown). let s : Shown = record { policy = b.policy; jobs = b.jobs; ticks = c.args.t } in s) c.in_ok-board.ensures
-    ∙ ap (λ (rs : List Release). let s : Shown = record { policy = Edf; jobs = jobs_of tasks rs; ticks = c.args.t } in s) c.as_slice.ensures.value) in
-    let late = some_late c.args.set.now.version tasks c.tasks-tasks.ensures.limits c.requires.constrained c.demand_misses.ensures c.args.t
-    (walk_at c.args.walks.now) c.requires.walks c.requires.due c.requires.excess releases (c.in_ok-releases.ensures tasks c.requires.graphs)
+    ran c.set.result.now tasks c.as_slice.result.now releases c.args.t c.in_ok-board.board c.run_until.new.self given c.as_slice.ensures.value c.in_ok-board.ensures c.run_until.ensures in
+    let late = some_late c.args.set.now.version tasks c.keep_limits.ensures.limits c.keep_limits.ensures.constrained c.demand_misses.ensures c.args.t
+    (walk_at c.args.walks.now) c.requires.walks c.requires.due c.requires.excess releases (c.in_ok-releases.ensures tasks c.graphs-graphs.ensures.graphs)
     c.run_until.new.self is in
     (rw c.in-None.is at c.first_miss-missed.ensures.first) late.0 late.1
 
@@ -47,23 +60,23 @@ pub returns-clause-done : goal.returns-clause-done
 returns-clause-done c =
     let tasks = c.args.set.now.tasks in
     let releases = c.in_ok-releases.releases.items in
+    let given = ap (λ (s : Contents). s.tasks) c.set.ensures.set in
     let is : c.run_until.new.self ≡ record { policy = Edf; jobs = jobs_of tasks releases; ticks = c.args.t } =
-    c.run_until.ensures ∙ (ap (λ (b : Shown). let s : Shown = record { policy = b.policy; jobs = b.jobs; ticks = c.args.t } in s) c.in_ok-board.ensures
-    ∙ ap (λ (rs : List Release). let s : Shown = record { policy = Edf; jobs = jobs_of tasks rs; ticks = c.args.t } in s) c.as_slice.ensures.value) in
+    ran c.set.result.now tasks c.as_slice.result.now releases c.args.t c.in_ok-board.board c.run_until.new.self given c.as_slice.ensures.value c.in_ok-board.ensures c.run_until.ensures in
     rw c.from_vec.ensures
-    (missed c.args.set.now.version tasks c.tasks-tasks.ensures.limits c.requires.constrained c.demand_misses.ensures c.no_assignment_meets.ensures c.args.t
-    (walk_at c.args.walks.now) c.requires.walks c.requires.due c.requires.excess releases (c.in_ok-releases.ensures tasks c.requires.graphs)
+    (missed c.args.set.now.version tasks c.keep_limits.ensures.limits c.keep_limits.ensures.constrained c.demand_misses.ensures c.no_assignment_meets.ensures c.args.t
+    (walk_at c.args.walks.now) c.requires.walks c.requires.due c.requires.excess releases (c.in_ok-releases.ensures tasks c.graphs-graphs.ensures.graphs)
     c.run_until.new.self is c.in-Some.miss (rw c.in-Some.is at c.first_miss-missed.ensures.least))
 
 pub returns-clause-range : goal.returns-clause-range
 returns-clause-range c =
     let tasks = c.args.set.now.tasks in
     let releases = c.in_ok-releases.releases.items in
+    let given = ap (λ (s : Contents). s.tasks) c.set.ensures.set in
     let is : c.run_until.new.self ≡ record { policy = Edf; jobs = jobs_of tasks releases; ticks = c.args.t } =
-    c.run_until.ensures ∙ (ap (λ (b : Shown). let s : Shown = record { policy = b.policy; jobs = b.jobs; ticks = c.args.t } in s) c.in_ok-board.ensures
-    ∙ ap (λ (rs : List Release). let s : Shown = record { policy = Edf; jobs = jobs_of tasks rs; ticks = c.args.t } in s) c.as_slice.ensures.value) in
-    let same = c.in_ok-releases.ensures tasks c.requires.graphs in
-    let kept = rw c.requires.graphs at c.count-count.ensures.kept in
+    ran c.set.result.now tasks c.as_slice.result.now releases c.args.t c.in_ok-board.board c.run_until.new.self given c.as_slice.ensures.value c.in_ok-board.ensures c.run_until.ensures in
+    let same = c.in_ok-releases.ensures tasks c.graphs-graphs.ensures.graphs in
+    let kept = rw c.graphs-graphs.ensures.graphs at c.count-count.ensures.kept in
     let all = c.releases_are_in_range.ensures tasks (walk_at c.args.walks.now) c.args.t kept c.requires.walks c.requires.due c.requires.time in
     let each : All IsInRangeRelease releases = rw same all in
     let counted : length releases ≤ 4294967295 = omega (arith, c.if-len-gt4294967295.false, c.len.ensures) in

@@ -13,14 +13,14 @@ use Rattle.drt_edf.proofs.searching.searches.Goals.{then-not-is_looked+then-not-
 pub returns-in-Full : goal.returns-in-Full
 returns-in-Full g c =
     let l : c.tasks.task < length c.args.graphs.now = omega (arith, c.tasks-test.true, c.count-task-end.ensures.count) in
-    let full = subst (IsEndOf c.args.graphs.now c.args.bound c.args.budget c.tasks.task) c.in-Full.is c.in_ok-front.ensures.end in
+    let full = subst (IsEndOf c.args.graphs.now c.args.bound c.args.crew.now.effort.budget c.tasks.task) c.in-Full.is c.in_ok-front.ensures.end in
     (graph_of c.args.graphs.now c.tasks.task, slice_get-get_or c.args.graphs.now c.tasks.task no_graph l, full)
 
 pub tasks-preserved : goal.tasks-preserved
 tasks-preserved g c =
     let l : c.tasks.task < length c.args.graphs.now = omega (arith, c.tasks-test.true, c.count-task-end.ensures.count) in
     let f = take_more c.args.graphs.now c.tasks.task no_graph l in
-    let ended = subst (IsEndOf c.args.graphs.now c.args.bound c.args.budget c.tasks.task) c.in-Front.is c.in_ok-front.ensures.end in
+    let ended = subst (IsEndOf c.args.graphs.now c.args.bound c.args.crew.now.effort.budget c.tasks.task) c.in-Front.is c.in_ok-front.ensures.end in
     record {
       fronts = rw (f, c.in_ok-push-in-Front.ensures.items) (fronts_push _ _ _ _ _ c.tasks.invariant.fronts ended.0);
       counted = rw c.in_ok-push-in-Front.ensures.items (All-push IsCounted _ _ c.tasks.invariant.counted ended.1);

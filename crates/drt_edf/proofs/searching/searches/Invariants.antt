@@ -10,5 +10,5 @@ abbrev pub invariant-tasks : goal.invariant-tasks
 invariant-tasks g l = record {
   fronts : AreLabelFronts l.bound (take l.task l.graphs) l.fronts.items;
   counted : All IsCounted l.fronts.items;
-  found : AreThere (IsAheadOf l.graphs l.bound l.budget) l.found.items;
+  found : AreThere (IsAheadOf l.graphs l.bound l.crew.effort.budget) l.found.items;
 }

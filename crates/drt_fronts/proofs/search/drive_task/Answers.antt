@@ -10,7 +10,7 @@ pub returns-then-not-finished : goal.returns-then-not-finished
 returns-then-not-finished c =
     let setting = c.in_ok-table.ensures.setting in
     let unfinished : is_finished demand_algebra (setting_of c.in_ok-table.table) (state_of c.in_ok-table.table) ≡ false = cc (c.finished.ensures.finished, c.if-not-finished.true) in
-    let s = full_search c.over_every_interleaving.ensures.short c.over_every_interleaving.ensures.slots c.args.graph.now c.args.bound c.args.budget
+    let s = full_search c.over_every_interleaving.ensures.short c.over_every_interleaving.ensures.slots c.args.graph.now c.args.bound c.args.effort.budget
     c.in_ok-table.table c.in_ok-table._reply setting c.log.ensures.replayed c.in_ok-table.ensures.stops unfinished in
     let same : c.from_vec.result ≡ c.in_ok-table.table.log = c.from_vec.ensures ∙ (c.in_ok-log.ensures.items ∙ c.log.ensures.log) in
     rw same s

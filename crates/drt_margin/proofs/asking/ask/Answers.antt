@@ -1,4 +1,4 @@
-use Rattle.std.proofs.Common.{◌≡◌, ◌<◌, sym, subst, ◌∙◌}
+use Rattle.std.proofs.Common.{◌≡◌, ◌<◌, sym, subst}
 use Rattle.drt_model.specs.Constrained.{AreConstrained}
 use Rattle.drt_model.specs.Contents.{Contents}
 use Rattle.drt_margin.specs.Margin.{IsVertexOf, plus_set, wcet_at}
@@ -14,11 +14,11 @@ analyse-requires-after_bounds g c =
 pub with_less-set-requires-clause-vertex : goal.with_less-set-requires-clause-vertex
 with_less-set-requires-clause-vertex g c =
     let q = c.args.question in
-    let same : c.in_ok-more.more ≡ plus_set c.args.set q.task q.vertex c.args.add = c.in_ok-more.ensures.same ∙ c.with_more-more.ensures in
+    let same : c.with_more-more.result ≡ plus_set c.args.set q.task q.vertex c.args.add = c.with_more-more.ensures in
     subst (λ (s : Contents). IsVertexOf s.tasks q.task q.vertex) (sym same) (plus_vertex c.args.set q.task q.vertex (asked_subject c.args.set q c.requires.asked) c.args.add)
 
 pub with_less-set-requires-clause-some : goal.with_less-set-requires-clause-some
 with_less-set-requires-clause-some g c =
     let q = c.args.question in
-    let same : c.in_ok-more.more ≡ plus_set c.args.set q.task q.vertex c.args.add = c.in_ok-more.ensures.same ∙ c.with_more-more.ensures in
+    let same : c.with_more-more.result ≡ plus_set c.args.set q.task q.vertex c.args.add = c.with_more-more.ensures in
     subst (λ (s : Contents). c.args.add < wcet_at s.tasks q.task q.vertex) (sym same) (plus_above c.args.set q.task q.vertex (asked_subject c.args.set q c.requires.asked) c.args.add)

@@ -6,7 +6,7 @@ abbrev pub invariant-halving : goal.invariant-halving
 invariant-halving g l =
     (l.current ≡ l.initial.current)
     × IsRoom l.initial.current l.question.policy l.question.task l.question.vertex l.room
-    × AreAhead l.initial.current l.question l.ahead
+    × AreAhead l.initial.current l.question l.crew.effort.budget l.ahead
 
 abbrev pub decreases-halving : goal.decreases-halving
 decreases-halving g l = l.room.high - l.room.low
