@@ -21,8 +21,9 @@ pub finish-requires-clause-passes : goal.finish-requires-clause-passes
 finish-requires-clause-passes g c =
     let w = c.in_ok-word.word in
     let all = whole c.in_ok-passes.passes.items c.run_passes.new.passes c.in_ok-passes.passes.len (search rules) (search rules) in
-    subst (λ (ps : List Pass). EachPlace (IsHaltedOf w c.args.crew.now.effort.budget) ps) (sym all)
-    c.run_passes.ensures.halted
+    let halted : EachPlace (IsHaltedOf w c.budget.result) c.run_passes.new.passes
+    = subst (λ (budget : ℕ). EachPlace (IsHaltedOf w budget) c.run_passes.new.passes) (sym c.budget.ensures.is) c.run_passes.ensures.halted in
+    subst (λ (ps : List Pass). EachPlace (IsHaltedOf w c.budget.result) ps) (sym all) halted
 
 pub finish-requires-clause-dealt : goal.finish-requires-clause-dealt
 finish-requires-clause-dealt g c =
