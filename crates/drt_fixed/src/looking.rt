@@ -144,32 +144,19 @@ fn search_ahead<G: Gate, R: Threads + Wait + Sync>(
     requires left { All (IsPlaced given) left.now }
     ensures { IfOk result (λ found. AreThere (λ i searched. IsFoundAt given.entry (slice_index_or left.now i no_vertex) searched) found.items) }
 {
-    let Crew {
-        rt,
-        alloc,
-        gate,
-        ..
-    } = *crew;
-    let first = latest_first(alloc, left)?;
-    let effort = crew.effort.alone().at_most(MOST_AHEAD);
+    let first = latest_first(crew.alloc, left)?;
+    let alone = crew.with(crew.effort.alone().at_most(MOST_AHEAD));
+    let alone = &alone;
     let job = move |place: u32| -> Result<Searched, Memory>
         requires { IsSync R.row × IsSync G.row × IsGiven given × All (IsPlaced given) left.now × (place < length left.now) }
         ensures { IfOk result (IsFoundAt given.entry (slice_index_or left.entry.now place no_vertex)) }
-    {
-        let alone = Crew {
-            rt,
-            alloc,
-            effort,
-            gate,
-        };
-        search_at(&alone, given, left, place as usize)
-    };
+    { search_at(alone, given, left, place as usize) };
     let workers = crew.effort.workers(); // bridge
     let crew = drt_ahead::Crew {
-        rt,
-        alloc,
+        rt: crew.rt,
+        alloc: crew.alloc,
         workers,
-        gate,
+        gate: crew.gate,
     }; // bridge
     look_ahead(&crew, first.as_slice(), job, is_last)
 }

@@ -55,31 +55,18 @@ fn find_ahead<G: Gate, R: Threads + Wait + Sync>(
     requires most { length order.now ≤ length vertices.now }
     ensures { IfOk result (λ found. AreFound given.entry found.items) }
 {
-    let Crew {
-        rt,
-        alloc,
-        gate,
-        ..
-    } = *crew;
-    let effort = crew.effort.alone().at_most(MOST_AHEAD);
+    let alone = crew.with(crew.effort.alone().at_most(MOST_AHEAD));
+    let alone = &alone;
     let job = move |place: u32| -> Result<Option<Response>, Memory>
         requires { IsSync R.row × IsSync G.row × IsGiven given × All (IsVertexAt given) vertices.now × (place < length vertices.now) }
         ensures { IfOk result (λ found. IfSome found (IsResponseOf given.entry.set.now)) }
-    {
-        let alone = Crew {
-            rt,
-            alloc,
-            effort,
-            gate,
-        };
-        respond_vertex(&alone, given, vertices[place as usize])
-    };
+    { respond_vertex(alone, given, vertices[place as usize]) };
     let workers = crew.effort.workers(); // bridge
     let crew = drt_ahead::Crew {
-        rt,
-        alloc,
+        rt: crew.rt,
+        alloc: crew.alloc,
         workers,
-        gate,
+        gate: crew.gate,
     }; // bridge
     look_ahead(&crew, order, job, is_none)
 }

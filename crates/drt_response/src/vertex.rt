@@ -45,13 +45,7 @@ pub(crate) fn respond_vertex<G: Gate, R: Threads + Wait + Sync>(
     let order = trees.order.as_slice();
     let higher = first_roots(trees.roots.as_slice(), place_of(order, at.task));
     let subject = graphs.graph(at.task).vertex(at.vertex);
-    match worst(
-        crew,
-        &trees.forest,
-        higher,
-        subject.wcet,
-        subject.deadline,
-    )? {
+    match worst(crew, &trees.forest, higher, subject.wcet, subject.deadline)? {
         Worst::Spent { taken } => Ok(VertexResponse::Spent(taken)),
         Worst::Reached { ticks, leaves } => {
             let shown = VertexTuple {

@@ -139,11 +139,13 @@ fn is_spent_at<R: Threads + Wait + Sync>(
 ) -> Result<bool, Fail> {
     let answer = answer_to(rt, alloc, shapes, budget)?;
     Ok(match &answer {
-        ResponseAnswer::Undecided(ResponseTrail::Search {
-            task,
-            vertex,
-            taken,
-        }) => (*task, *vertex) == at && are_rows(taken.as_slice(), expected),
+        ResponseAnswer::Undecided(
+            ResponseTrail::Search {
+                task,
+                vertex,
+                taken,
+            },
+        ) => (*task, *vertex) == at && are_rows(taken.as_slice(), expected),
         _ => false,
     })
 }

@@ -1,4 +1,4 @@
-use Rattle.std.proofs.Common.{◌≡◌, ◌<◌, ◌≤◌, ℕ, All, length, ap, subst, sym, arith, ◌∙◌}
+use Rattle.std.proofs.Common.{◌≡◌, ◌<◌, ◌≤◌, ℕ, All, length, ap, subst, sym, arith}
 use Rattle.std.proofs.lemmas.List.{length-map}
 use Rattle.std.proofs.lemmas.List.Elements.{All-push}
 use Rattle.drt_model.specs.Digraph.{digraph_of, vertex_count}
@@ -17,7 +17,7 @@ loop-vertex-preserved c =
     let Is : PlacedVertex → Type 0 = IsPlaced c.args.given in
     let tasks = c.args.given.set.now.tasks in
     let graphs = graphs_given c.args.given in
-    let same = c.graph-graph.ensures.graph ∙ ap (λ gs. graph_of gs c.index-task.result) c.graphs-graphs.ensures.graphs in
+    let same = rw c.graphs-graphs.ensures.graphs at c.graph-graph.ensures.graph in
     let u = c.loop-vertex.vertex in
     let here : u < vertex_count c.graph-graph.result.now = subst (λ (n : ℕ). u < n) c.vertex_count-vertex-end.ensures.count c.loop-vertex-test.true in
     let at = sym c.placed_vertex.ensures.at in
