@@ -12,7 +12,7 @@ returns-in-Schedulable g c =
     let same = c.in_ok-copy_of.ensures ∙ c.set.ensures.set in
     let judged = rw (c.in-Schedulable.is, c.dossier_of-dossier.ensures, same) at c.in_ok-check.ensures.judged in
     let sound = rw (c.in-Schedulable.is, c.dossier_of-dossier.ensures, same) at c.in_ok-check.ensures.sound in
-    subst (λ (e : Evidence). IsDecision c.args.set.now e) (sym (ap (λ (d : Statement). d.evidence) c.dossier_of-dossier.ensures))
+    subst (λ (e : Evidence). IsDecision c.args.set.now e) (sym (ap (λ (d : Statement). d.evidence) (c.dossier.view_is ∙ c.dossier_of-dossier.ensures)))
     (yes_decided c.args.set.now c.in-Some.evidence kind range judged sound)
 
 pub returns-in-Unschedulable : goal.returns-in-Unschedulable
@@ -22,5 +22,5 @@ returns-in-Unschedulable g c =
     let same = c.in_ok-copy_of.ensures ∙ c.set.ensures.set in
     let judged = rw (c.in-Unschedulable.is, c.dossier_of-dossier.ensures, same) at c.in_ok-check.ensures.judged in
     let sound = rw (c.in-Unschedulable.is, c.dossier_of-dossier.ensures, same) at c.in_ok-check.ensures.sound in
-    subst (λ (e : Evidence). IsDecision c.args.set.now e) (sym (ap (λ (d : Statement). d.evidence) c.dossier_of-dossier.ensures))
+    subst (λ (e : Evidence). IsDecision c.args.set.now e) (sym (ap (λ (d : Statement). d.evidence) (c.dossier.view_is ∙ c.dossier_of-dossier.ensures)))
     (no_decided c.args.set.now c.in-Some.evidence kind range judged sound)
