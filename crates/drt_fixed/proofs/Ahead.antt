@@ -11,7 +11,7 @@ use Rattle.drt_states.specs.declared.claims.TailClaim.{TailClaim}
 use Rattle.drt_sp_states.specs.Answers.{IsAnswer}
 use Rattle.drt_sp_states.specs.declared.search.Searched.{Searched}
 use Rattle.drt_sp_states.specs.declared.search.Searched.TheVariants.{Passes, Misses, Spent}
-use Rattle.drt_fixed.specs.Searching.{AreFoundFrom, IsFoundAt, no_vertex}
+use Rattle.drt_fixed.specs.Searching.{AreFoundFrom, IsFoundAt, graphs_given, no_vertex}
 use Rattle.drt_fixed.specs.declared.vertices.Given.{Given}
 use Rattle.drt_fixed.specs.declared.vertices.PlacedVertex.{PlacedVertex}
 
@@ -31,7 +31,7 @@ module _ (g : Given) (vertices : List PlacedVertex) where
       subst (λ n. IsFoundAt g (get_or vertices n no_vertex) searched) e (are place searched (sym is))
 
 -- What a search answers of a vertex.
-pub found_at : (g : Given) (v : PlacedVertex) (graphs : List Digraph) (tails : List TailClaim) (wcet deadline : ℕ) → graphs ≡ graphs_at g.graphs.now (take v.place g.order.now)
+pub found_at : (g : Given) (v : PlacedVertex) (graphs : List Digraph) (tails : List TailClaim) (wcet deadline : ℕ) → graphs ≡ graphs_at (graphs_given g) (take v.place g.order.now)
     → (searched : Searched) → IsAnswer graphs tails wcet deadline searched → IsFoundAt g v searched
 found_at g v graphs tails wcet deadline e (Passes states) is = tt
 found_at g v graphs tails wcet deadline e (Misses walks) is = subst (λ gs. AllZip IsWalk gs walks) e is.each

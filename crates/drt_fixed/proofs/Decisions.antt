@@ -13,14 +13,12 @@ use Rattle.drt_fixed.specs.Answers.{IsDecision, IsOfStates}
 
 -- A yes.
 pub yes_decided : (set : Contents) (evidence : Evidence) → IsOfStates set.tasks evidence → IsInRange evidence → IsClaimed (under_fixed set evidence) judgements.Schedulable
-    → Schedulable set.tasks Fixed → IsDecision set (under_fixed set evidence)
+    → Schedulable set.tasks Fixed → IsDecision set evidence
 yes_decided set (EdfYes ratios fronts) kind range claimed is = absurd kind
 yes_decided set (EdfNo releases miss) kind range claimed is = absurd kind
 yes_decided set (UtilisationOne ratios) kind range claimed is = absurd kind
 yes_decided set (FixedYes trees proofs) kind range claimed is = absurd kind
 yes_decided set (FixedStates tails searches) kind range claimed is = record {
-  evidence = FixedStates tails searches;
-  dossier_is = refl;
   in_range = range;
   says = λ budget. (refl, record { schedulable = is; accepted = claimed.0; kind = inr tt; exact = λ trees proofs e. absurd (cc) });
 }
@@ -29,15 +27,13 @@ yes_decided set Undecided kind range claimed is = absurd kind
 
 -- A no.
 pub no_decided : (set : Contents) (evidence : Evidence) → IsOfStates set.tasks evidence → IsInRange evidence → IsClaimed (under_fixed set evidence) judgements.Unschedulable
-    → ¬ Schedulable set.tasks Fixed → IsDecision set (under_fixed set evidence)
+    → ¬ Schedulable set.tasks Fixed → IsDecision set evidence
 no_decided set (EdfYes ratios fronts) kind range claimed not = absurd kind
 no_decided set (EdfNo releases miss) kind range claimed not = absurd kind
 no_decided set (UtilisationOne ratios) kind range claimed not = absurd kind
 no_decided set (FixedYes trees proofs) kind range claimed not = absurd kind
 no_decided set (FixedStates tails searches) kind range claimed not = let e = claimed.1 in absurd (cc)
 no_decided set (FixedNo releases miss) kind range claimed not = record {
-  evidence = FixedNo releases miss;
-  dossier_is = refl;
   in_range = range;
   says = λ budget. (refl, record { not_schedulable = not; accepted = claimed.0; of_walks = kind });
 }

@@ -1,5 +1,5 @@
 -- What the answer under fixed priorities says.
-use Rattle.std.specs.Prelude.{◌≡◌, ℕ, ◌⊎◌, List, Option, Some, None}
+use Rattle.std.specs.Prelude.{◌≡◌, ℕ, ◌⊎◌, List, Option, Some, None, IfSome}
 use Rattle.drt_model.specs.Contents.{Contents}
 use Rattle.drt_model.specs.declared.jobs.Miss.{Miss}
 use Rattle.drt_model.specs.declared.jobs.Policy.TheVariants.{Fixed}
@@ -16,10 +16,7 @@ use Rattle.drt_claims.specs.declared.evidence.TreeClaim.{TreeClaim}
 use Rattle.drt_sp.specs.Answers.{AreOfWalks, IsExactYes, IsUndecided}
 use Rattle.drt_sp.specs.Evidence.{under_fixed}
 use Rattle.drt_trails.specs.declared.FixedTrail.{FixedTrail}
-use Rattle.drt_claims.specs.Statement.{Statement}
 use Rattle.drt_fixed.specs.declared.analysis.Analysed.{Analysed}
-use Rattle.drt_fixed.specs.declared.analysis.ByStates.{ByStates}
-use Rattle.drt_fixed.specs.declared.analysis.ByStates.TheVariants.{Decided, Nothing}
 
 -- A yes: the set is schedulable, and the evidence, which has trees or states, is accepted. Trees and their proofs are exact.
 pub record IsYes (set : Contents) (evidence : Evidence) : Type 0 where
@@ -49,21 +46,16 @@ IsOfStates tasks (FixedStates tails searches) = Unit {0}
 IsOfStates tasks (FixedNo releases miss) = AreOfWalks tasks releases miss
 IsOfStates tasks other = ⊥
 
--- The dossier is that of the set under fixed priorities with evidence in range, which is a yes or a no.
-pub record IsDecision (set : Contents) (dossier : Statement) : Type 0 where
-  pub evidence : Evidence
-  pub dossier_is : dossier ≡ under_fixed set evidence
+-- The evidence is in range, and a yes or a no for the set.
+pub record IsDecision (set : Contents) (evidence : Evidence) : Type 0 where
   pub in_range : IsInRange evidence
   pub says : (budget : ℕ) → IsSaid set budget evidence None
 
--- What tails and states give: a dossier that is decided, or nothing and the set as it was.
-abbrev pub IsByStates : Contents → ByStates → Type 0
-IsByStates set (Decided dossier) = IsDecision set dossier
-IsByStates set (Nothing same) = same ≡ set
+-- What tails and states give: evidence that decides, or nothing.
+abbrev pub IsByStates : Contents → Option Evidence → Type 0
+IsByStates set found = IfSome found (IsDecision set)
 
--- The answer is the dossier of the set under fixed priorities with evidence in range, and says this.
+-- The evidence is in range, and says this of the set, with the trail.
 pub record IsAnalysed (set : Contents) (budget : ℕ) (answer : Analysed) : Type 0 where
-  pub evidence : Evidence
-  pub dossier_is : answer.dossier ≡ under_fixed set evidence
-  pub in_range : IsInRange evidence
-  pub says : IsSaid set budget evidence answer.trail
+  pub in_range : IsInRange answer.evidence
+  pub says : IsSaid set budget answer.evidence answer.trail

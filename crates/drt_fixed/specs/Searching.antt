@@ -2,7 +2,7 @@
 use Rattle.std.specs.Prelude.{◌≡◌, ℕ, ◌+◌, ◌<◌, ◌≤◌, List, Option, length, slice_index_or, take}
 use Rattle.std.specs.List.{All, AllZip}
 use Rattle.drt_model.specs.declared.tasks.Task.{Task}
-use Rattle.drt_model.specs.Digraph.{vertex_count}
+use Rattle.drt_model.specs.Digraph.{Digraph, vertex_count}
 use Rattle.drt_model.specs.Walk.{deadline}
 use Rattle.drt_graph.specs.Graphs.{graph_of}
 use Rattle.drt_ahead.specs.Found.{AreThere}
@@ -20,24 +20,27 @@ use Rattle.drt_fixed.specs.declared.searching.Found.TheVariants.{Refusal}
 use Rattle.drt_fixed.specs.declared.vertices.Given.{Given}
 use Rattle.drt_fixed.specs.declared.vertices.PlacedVertex.{PlacedVertex}
 
--- The graphs are the set's, the order has numbers of its tasks, the tails rise, and the crests are theirs.
+-- The graphs of the set's tasks.
+abbrev pub graphs_given : Given → List Digraph
+graphs_given g = graphs_of g.set.now.tasks
+
+-- The order has numbers of the set's tasks, the tails rise, and the crests are theirs.
 pub record IsGiven (g : Given) : Type 0 where
-  pub graphs : g.graphs.now ≡ graphs_of g.set.now.tasks
-  pub order : AreTasks g.graphs.now g.order.now
+  pub order : AreTasks (graphs_given g) g.order.now
   pub tails : All HasRisingCurves g.tails.now
   pub crests : AreCrests g.tails.now g.crests.now
 
 -- The vertex is one of the task at its place of the order, with its deadline, which is within the limits of a set.
 pub record IsPlaced (g : Given) (v : PlacedVertex) : Type 0 where
   pub place : v.place < length g.order.now
-  pub task : v.at.task < length g.graphs.now
-  pub vertex : v.at.vertex < vertex_count (graph_of g.graphs.now v.at.task)
-  pub deadline : v.at.deadline ≡ deadline (graph_of g.graphs.now v.at.task) v.at.vertex
+  pub task : v.at.task < length g.set.now.tasks
+  pub vertex : v.at.vertex < vertex_count (graph_of (graphs_given g) v.at.task)
+  pub deadline : v.at.deadline ≡ deadline (graph_of (graphs_given g) v.at.task) v.at.vertex
   pub near : v.at.deadline ≤ 1000000
 
 -- There is one walk of each task at a place before the vertex's.
 abbrev pub AreHigher : Given → PlacedVertex → List (List ℕ) → Type 0
-AreHigher g v walks = AllZip IsWalk (graphs_at g.graphs.now (take v.place g.order.now)) walks
+AreHigher g v walks = AllZip IsWalk (graphs_at (graphs_given g) (take v.place g.order.now)) walks
 
 -- What is found of a vertex: a miss has such walks.
 abbrev pub IsFoundAt : Given → PlacedVertex → Searched → Type 0

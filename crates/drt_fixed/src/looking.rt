@@ -7,7 +7,8 @@ ghost use Rattle.drt_fixed.specs.declared.vertices.Given.{Given};
 ghost use Rattle.drt_fixed.specs.declared.vertices.PlacedVertex.{PlacedVertex};
 
 use crate::vertices::{Given, PlacedVertex, search_vertex};
-use drt_ahead::{Crew, largest_first, look_ahead, take_found};
+use drt_ahead::{largest_first, look_ahead, take_found};
+use drt_crew::Crew;
 use drt_model::Memory;
 use drt_pool::Gate;
 use drt_sp_states::Searched;
@@ -76,7 +77,6 @@ pub(crate) fn search_next<G: Gate, R: Threads + Wait + Sync>(
     number: usize,
     ahead: &mut Ahead,
 ) -> Result<Searched, Memory>
-    requires workers { (1 ≤ crew.now.workers) × (crew.now.workers ≤ 16) }
     requires given { IsGiven given }
     requires vertices { All (IsPlaced given) vertices.now }
     requires number { number < length vertices.now }
@@ -89,26 +89,33 @@ pub(crate) fn search_next<G: Gate, R: Threads + Wait + Sync>(
         Some(Searched::Spent) | None => {}
         Some(searched) => return Ok(searched),
     }
+<<<<<<< HEAD
     let searched = effort_at(crew, given, vertices, number, given.budget)?;
+=======
+    let searched = search_at(crew, given, vertices, number)?;
+>>>>>>> h2/context
     ahead.count(&searched);
     Ok(searched)
 }
 
+<<<<<<< HEAD
 // The search of the vertex of this number, by so many states at most.
 fn effort_at<G: Gate, R: Threads + Wait + Sync>(
+=======
+// The search of the vertex of this number.
+fn search_at<G: Gate, R: Threads + Wait + Sync>(
+>>>>>>> h2/context
     crew: &Crew<'_, G, R>,
     given: Given<'_>,
     vertices: &[PlacedVertex],
     number: usize,
-    most: u64,
 ) -> Result<Searched, Memory>
-    requires workers { (1 ≤ crew.now.workers) × (crew.now.workers ≤ 16) }
     requires given { IsGiven given }
     requires vertices { All (IsPlaced given) vertices.now }
     requires number { number < length vertices.now }
     ensures { IfOk result (IsFoundAt given.entry (slice_index_or vertices.now number no_vertex)) }
 {
-    search_vertex(crew, given, vertices[number], most)
+    search_vertex(crew, given, vertices[number])
 }
 
 // Looks ahead from the vertex of this number on, once it is worth it.
@@ -146,17 +153,13 @@ fn search_ahead<G: Gate, R: Threads + Wait + Sync>(
     requires left { All (IsPlaced given) left.now }
     ensures { IfOk result (λ found. AreThere (λ i searched. IsFoundAt given.entry (slice_index_or left.now i no_vertex) searched) found.items) }
 {
-    let Crew {
-        rt,
-        alloc,
-        gate,
-        ..
-    } = *crew;
-    let first = latest_first(alloc, left)?;
-    let most = given.budget.min(MOST_AHEAD);
+    let first = latest_first(crew.alloc, left)?;
+    let alone = crew.with(crew.effort.alone().at_most(MOST_AHEAD));
+    let alone = &alone;
     let job = move |place: u32| -> Result<Searched, Memory>
         requires { IsSync R.row × IsSync G.row × IsGiven given × All (IsPlaced given) left.now × (place < length left.now) }
         ensures { IfOk result (IsFoundAt given.entry (slice_index_or left.entry.now place no_vertex)) }
+<<<<<<< HEAD
     {
         let alone = Crew {
             rt,
@@ -167,6 +170,17 @@ fn search_ahead<G: Gate, R: Threads + Wait + Sync>(
         effort_at(&alone, given, left, place as usize, most)
     };
     look_ahead(crew, first.as_slice(), job, is_last)
+=======
+    { search_at(alone, given, left, place as usize) };
+    let workers = crew.effort.workers(); // bridge
+    let crew = drt_ahead::Crew {
+        rt: crew.rt,
+        alloc: crew.alloc,
+        workers,
+        gate: crew.gate,
+    }; // bridge
+    look_ahead(&crew, first.as_slice(), job, is_last)
+>>>>>>> h2/context
 }
 
 fn is_last(searched: &Searched) -> bool {

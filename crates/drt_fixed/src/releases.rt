@@ -33,7 +33,8 @@ pub(crate) fn refusal(
     ensures { IfOk result (IsOfStates given.entry.set.now.tasks) }
 {
     let chosen = job_walks(alloc, given, walks, vertex)?;
-    let releases = all_releases(alloc, given.graphs, chosen.as_slice(), LAST_DEADLINE)?;
+    let graphs = given.set.graphs();
+    let releases = all_releases(alloc, graphs, chosen.as_slice(), LAST_DEADLINE)?;
     Ok(Evidence::FixedNo {
         releases: Row::from_vec(releases),
         miss: Miss {
@@ -57,8 +58,9 @@ fn job_walks(
     requires walks { AreHigher given vertex walks.now }
     ensures { IfOk result (λ chosen. (k : ℕ) → k < length given.entry.set.now.tasks → IsBeside given.entry.set.now.tasks vertex.at.task vertex.at.vertex k (walk_at chosen.items k)) }
 {
+    let graphs = given.set.graphs();
     let mut chosen = Vec::new(alloc);
-    'tasks: for k in 0..given.graphs.count() {
+    'tasks: for k in 0..graphs.count() {
         let walk = job_walk(alloc, given, walks, vertex, k)?;
         chosen.push(walk)?;
     }
@@ -81,7 +83,8 @@ fn job_walk(
 {
     let at = vertex.at;
     let tasks = given.set.tasks();
-    let graph = given.graphs.graph(k);
+    let graphs = given.set.graphs();
+    let graph = graphs.graph(k);
     if tasks[k as usize].priority < tasks[at.task as usize].priority {
         let higher = &given.order[..vertex.place];
         return cut_walk(alloc, graph, at.deadline, walk_of(higher, walks, k));

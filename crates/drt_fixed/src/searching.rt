@@ -10,16 +10,16 @@ use crate::looking::{Ahead, search_next};
 use crate::releases::refusal;
 use crate::tails::find_tails;
 use crate::vertices::{Given, list_vertices};
-use drt_ahead::Crew;
+use drt_accepted::Accepted;
 use drt_check_states::find_crests;
 use drt_check_trees::priority_order;
 use drt_claims::Evidence;
+use drt_crew::Crew;
 use drt_graph::Graphs;
-use drt_model::{Memory, Row, TaskSet};
+use drt_model::{Memory, Row};
 use drt_pool::Gate;
 use drt_sp_states::Searched;
 use drt_states::{SearchClaim, TailClaim};
-use std::alloc::Global;
 use std::sync::Wait;
 use std::thread::Threads;
 
@@ -34,33 +34,21 @@ enum Found {
     Nothing,
 }
 
-/// The evidence of a yes by tails and states, or of a no, where one is found with this budget of states for each vertex.
+/// The evidence of a yes by tails and states, or of a no, where one is found with the crew's budget of states for each vertex.
 pub(crate) fn find_by_states<G: Gate, R: Threads + Wait + Sync>(
-    rt: &R,
-    alloc: Global,
-    set: &TaskSet,
-    graphs: &Graphs,
-    workers: u32,
-    budget: u64,
-    gate: &G,
+    crew: &Crew<'_, G, R>,
+    set: &Accepted<'_>,
 ) -> Result<Option<Evidence>, Memory>
-    requires graphs { graphs.now ≡ graphs_of set.now.tasks }
-    requires workers { (1 ≤ workers) × (workers ≤ 16) }
     ensures { IfOk result (λ found. IfSome found (IsOfStates set.now.tasks)) }
 {
-    let crew = Crew {
-        rt,
-        alloc,
-        workers,
-        gate,
-    };
-    let order = priority_order(alloc, set)?;
+    let order = priority_order(crew.alloc, set.set())?;
     let order = order.as_slice();
+    let graphs = set.graphs();
     if !are_tasks(graphs, order) {
         return Ok(None);
     }
-    match find_tails(&crew, graphs, order)? {
-        Some(tails) => find_over(&crew, set, graphs, order, tails, budget),
+    match find_tails(crew, graphs, order)? {
+        Some(tails) => find_over(crew, set, order, tails),
         None => Ok(None),
     }
 }
@@ -76,26 +64,20 @@ fn are_tasks(graphs: &Graphs, order: &[u32]) -> bool
 // The evidence over these tails of the tasks, which stand in order of priority.
 fn find_over<G: Gate, R: Threads + Wait + Sync>(
     crew: &Crew<'_, G, R>,
-    set: &TaskSet,
-    graphs: &Graphs,
+    set: &Accepted<'_>,
     order: &[u32],
     tails: Vec<TailClaim>,
-    budget: u64,
 ) -> Result<Option<Evidence>, Memory>
-    requires workers { (1 ≤ crew.now.workers) × (crew.now.workers ≤ 16) }
-    requires graphs { graphs.now ≡ graphs_of set.now.tasks }
-    requires order { AreTasks graphs.now order.now }
+    requires order { AreTasks (graphs_of set.now.tasks) order.now }
     requires tails { All HasRisingCurves tails.items }
     ensures { IfOk result (λ found. IfSome found (IsOfStates set.now.tasks)) }
 {
     let crests = find_crests(crew.alloc, &tails)?;
     let given = Given {
         set,
-        graphs,
         order,
         tails: &tails,
         crests: crests.as_slice(),
-        budget,
     };
     match search_all(crew, given)? {
         Found::Searches(searches) => Ok(Some(Evidence::FixedStates {
@@ -112,7 +94,6 @@ fn search_all<G: Gate, R: Threads + Wait + Sync>(
     crew: &Crew<'_, G, R>,
     given: Given<'_>,
 ) -> Result<Found, Memory>
-    requires workers { (1 ≤ crew.now.workers) × (crew.now.workers ≤ 16) }
     requires given { IsGiven given }
     ensures { IfOk result (IsFound given.entry.set.now.tasks) }
 {

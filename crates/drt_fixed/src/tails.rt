@@ -4,7 +4,8 @@ ghost use Rattle.drt_ahead.specs.Found.{AreThere};
 ghost use Rattle.drt_check_states.specs.Curves.{HasRisingCurves};
 ghost use Rattle.drt_check_states.specs.Places.{AreTasks};
 
-use drt_ahead::{Crew, largest_first, look_ahead, shared_size, take_found};
+use drt_ahead::{largest_first, look_ahead, shared_size, take_found};
+use drt_crew::Crew;
 use drt_graph::{Graph, Graphs};
 use drt_model::Memory;
 use drt_pool::Gate;
@@ -79,7 +80,14 @@ fn find_ahead<G: Gate, R: Threads + Wait + Sync>(
         requires { AreTasks graphs.now higher.now × (place < length higher.now) }
         ensures { IfOk result (λ tail. IfSome tail HasRisingCurves) }
     { tail_at(alloc, graphs, higher, bounds, place as usize) };
-    look_ahead(crew, first.as_slice(), job, is_none)
+    let workers = crew.effort.workers(); // bridge
+    let crew = drt_ahead::Crew {
+        rt: crew.rt,
+        alloc,
+        workers,
+        gate: crew.gate,
+    }; // bridge
+    look_ahead(&crew, first.as_slice(), job, is_none)
 }
 
 fn is_none(tail: &Option<TailClaim>) -> bool {

@@ -4,11 +4,12 @@ ghost use Rattle.drt_model.specs.Digraph.{vertex_count};
 ghost use Rattle.drt_model.specs.Walk.{deadline};
 ghost use Rattle.drt_check_states.specs.Places.{graphs_at};
 ghost use Rattle.drt_sp_states.specs.Subjects.{IsSubject};
-ghost use Rattle.drt_fixed.specs.Searching.{IsFoundAt, IsGiven, IsPlaced};
+ghost use Rattle.drt_fixed.specs.Searching.{IsFoundAt, IsGiven, IsPlaced, graphs_given};
 
-use drt_ahead::Crew;
-use drt_graph::{Graph, Graphs};
-use drt_model::{Memory, Row, TaskSet};
+use drt_accepted::Accepted;
+use drt_crew::Crew;
+use drt_graph::Graph;
+use drt_model::{Memory, Row};
 use drt_pool::Gate;
 use drt_sp_states::{Searched, Subject, search_states};
 use drt_states::{Jump, TailClaim};
@@ -21,16 +22,14 @@ const MOST_HIGHER: usize = 31;
 // The greatest execution time and the greatest deadline, in ticks.
 const MOST_TICKS: u32 = 1_000_000;
 
-/// What the searches of all vertices are over: the set and its graphs, the tasks in order of priority, the tails of all but the last one with
-/// their greatest values, and how many states each search takes at most.
+/// What the searches of all vertices are over: the set, the tasks in order of priority, and the tails of all but the last one with their
+/// greatest values.
 #[derive(Clone, Copy)]
 pub(crate) struct Given<'a> {
-    pub set: &'a TaskSet,
-    pub graphs: &'a Graphs,
+    pub set: &'a Accepted<'a>,
     pub order: &'a [u32],
     pub tails: &'a [TailClaim],
     pub crests: &'a [Row<Jump>],
-    pub budget: u64,
 }
 
 /// A vertex of a task, by their numbers, and its deadline in ticks.
@@ -73,7 +72,8 @@ fn add_vertices(
     ensures { IfOk result (λ done. All (IsPlaced given.entry) vertices.new.items) }
 {
     let task = given.order[place];
-    let graph = given.graphs.graph(task);
+    let graphs = given.set.graphs();
+    let graph = graphs.graph(task);
     for vertex in 0..graph.vertex_count() {
         vertices.push(placed_vertex(graph, place, task, vertex))?;
     }
@@ -96,26 +96,18 @@ fn placed_vertex(graph: &Graph, place: usize, task: u32, vertex: u32) -> PlacedV
     PlacedVertex { place, at, wcet }
 }
 
-/// The search of a vertex, which is within the limits of a set, by so many states at most.
+/// The search of a vertex, which is within the limits of a set.
 pub(crate) fn search_vertex<G: Gate, R: Threads + Wait + Sync>(
     crew: &Crew<'_, G, R>,
     given: Given<'_>,
     vertex: PlacedVertex,
-    most: u64,
 ) -> Result<Searched, Memory>
-    requires workers { (1 ≤ crew.now.workers) × (crew.now.workers ≤ 16) }
     requires given { IsGiven given }
     requires vertex { IsPlaced given vertex }
     ensures { IfOk result (IsFoundAt given.entry vertex) }
 {
-    let Crew {
-        rt,
-        alloc,
-        workers,
-        gate,
-    } = *crew;
     match subject_of(given, vertex) {
-        Some(subject) => search_states(rt, alloc, subject, workers, most, gate),
+        Some(subject) => search_states(crew, subject),
         None => Ok(Searched::Spent),
     }
 }
@@ -125,7 +117,7 @@ fn subject_of<'a>(given: Given<'a>, vertex: PlacedVertex) -> Option<Subject<'a>>
     requires given { IsGiven given }
     requires vertex { IsPlaced given vertex }
     ensures subject { IfSome result IsSubject }
-    ensures graphs { IfSome result (λ s. graphs_at s.graphs.now s.order.now ≡ graphs_at given.entry.graphs.now (take vertex.place given.entry.order.now)) }
+    ensures graphs { IfSome result (λ s. graphs_at s.graphs.now s.order.now ≡ graphs_at (graphs_given given.entry) (take vertex.place given.entry.order.now)) }
 {
     let PlacedVertex { place, at, wcet } = vertex;
     if place > given.tails.len() || place > given.crests.len() || place > MOST_HIGHER {
@@ -134,8 +126,9 @@ fn subject_of<'a>(given: Given<'a>, vertex: PlacedVertex) -> Option<Subject<'a>>
     if wcet > MOST_TICKS || at.deadline == 0 || at.deadline > MOST_TICKS {
         return None;
     }
+    let graphs = given.set.graphs();
     Some(Subject {
-        graphs: given.graphs,
+        graphs,
         order: &given.order[..place],
         tails: &given.tails[..place],
         crests: &given.crests[..place],

@@ -3,14 +3,17 @@ ghost use Rattle.std.specs.Prelude.{◌≡◌, ◌≤◌, IfOk};
 ghost use Rattle.drt_model.specs.Constrained.{AreConstrained};
 ghost use Rattle.drt_claims.specs.Claims.{graphs_of};
 
+use drt_accepted::Accepted;
 use drt_claims::{Dossier, Evidence};
+use drt_crew::Crew;
 use drt_drawn::{Draws, drawn_set};
+use drt_effort::Effort;
 use drt_evidence::print;
-use drt_fixed::{Analysed, ByStates, analyse_fixed, decide_by_states};
+use drt_fixed::{Analysed, analyse_fixed, decide_by_states};
 use drt_fixtures::{Shape, make_set};
 use drt_graph::{Graphs, check};
 use drt_meeting::Meeting;
-use drt_model::{Row, TaskSet};
+use drt_model::{Policy, Row, TaskSet};
 use drt_pool::{EagerGate, Gate, OpenGate};
 use std::alloc::Global;
 use std::sync::Wait;
@@ -57,8 +60,8 @@ enum Claim {
     Nothing,
 }
 
-fn claim_of(dossier: &Dossier) -> Claim {
-    match &dossier.evidence {
+fn claim_of(evidence: &Evidence) -> Claim {
+    match evidence {
         Evidence::FixedYes { .. } => Claim::YesByTrees,
         Evidence::FixedStates { .. } => Claim::YesByStates,
         Evidence::FixedNo { .. } => Claim::No,
@@ -77,32 +80,58 @@ fn make_graphs(alloc: Global, set: &TaskSet) -> Result<Graphs, Fail>
     }
 }
 
-// What tails and states say of a set by so many workers: the claim and the text of its dossier, which is empty where they say nothing.
-fn answer_by_states<G: Gate, R: Threads + Wait + Sync>(
-    rt: &R,
-    alloc: Global,
-    set: TaskSet,
-    workers: u32,
-    gate: &G,
-) -> Result<(Claim, Row<u8>), Fail>
+// So many workers, with the budget.
+fn crew_of<'a, G, R>(rt: &'a R, alloc: Global, workers: u32, gate: &'a G) -> Crew<'a, G, R>
     requires { (1 ≤ workers) × (workers ≤ 16) }
 {
-    let graphs = make_graphs(alloc, &set)?;
-    match decide_by_states(rt, alloc, set, &graphs, workers, BUDGET, gate)? {
-        ByStates::Decided(dossier) => Ok((claim_of(&dossier), print(alloc, &dossier)?)),
-        ByStates::Nothing(_) => Ok((Claim::Nothing, Row::from_vec(Vec::new(alloc)))),
+    Crew {
+        rt,
+        alloc,
+        effort: Effort::new(workers, BUDGET),
+        gate,
     }
+}
+
+// What tails and states say of a set: the claim and the text of its dossier, which is empty where they say nothing.
+fn answer_by_states<G: Gate, R: Threads + Wait + Sync>(
+    crew: &Crew<'_, G, R>,
+    set: TaskSet,
+) -> Result<(Claim, Row<u8>), Fail> {
+    let alloc = crew.alloc;
+    let graphs = make_graphs(alloc, &set)?;
+    match decide_by_states(crew, &Accepted::of(&set, &graphs))? {
+        Some(evidence) => {
+            let claim = claim_of(&evidence);
+            let dossier = Dossier {
+                policy: Policy::Fixed,
+                set,
+                evidence,
+            };
+            Ok((claim, print(alloc, &dossier)?))
+        }
+        None => Ok((Claim::Nothing, Row::from_vec(Vec::new(alloc)))),
+    }
+}
+
+// What the whole analysis by one worker says of a set.
+fn analysed_claim<R: Threads + Wait + Sync>(
+    rt: &R,
+    alloc: Global,
+    set: &TaskSet,
+) -> Result<Claim, Fail> {
+    let graphs = make_graphs(alloc, set)?;
+    let crew = crew_of(rt, alloc, 1, &OpenGate);
+    let Analysed { evidence, .. } = analyse_fixed(&crew, &Accepted::of(set, &graphs))?;
+    Ok(claim_of(&evidence))
 }
 
 // What the whole analysis, whose verdict is proved, says of a set, as a claim by states.
 fn proved_claim<R: Threads + Wait + Sync>(
     rt: &R,
     alloc: Global,
-    set: TaskSet,
+    set: &TaskSet,
 ) -> Result<Claim, Fail> {
-    let graphs = make_graphs(alloc, &set)?;
-    let Analysed { dossier, .. } = analyse_fixed(rt, alloc, set, &graphs, 1, BUDGET, &OpenGate)?;
-    Ok(match claim_of(&dossier) {
+    Ok(match analysed_claim(rt, alloc, set)? {
         Claim::YesByTrees => Claim::YesByStates,
         claim => claim,
     })
@@ -115,17 +144,13 @@ fn is_decided_alike<R: Threads + Wait + Sync>(
     draws: &mut Draws,
 ) -> Result<bool, Fail> {
     let start = draws.state;
-    let wanted = proved_claim(
-        rt,
-        alloc,
-        drawn_set(alloc, draws)?.ok_or("within the limits")?,
-    )?;
-    let set = drawn_set(alloc, &mut Draws { state: start })?.ok_or("within the limits")?;
-    let (claim, text) = answer_by_states(rt, alloc, set, 1, &EagerGate)?;
+    let set = drawn_set(alloc, draws)?.ok_or("within the limits")?;
+    let wanted = proved_claim(rt, alloc, &set)?;
+    let (claim, text) = answer_by_states(&crew_of(rt, alloc, 1, &EagerGate), set)?;
     for workers in SEVERAL {
         let mut again = Draws { state: start };
         let set = drawn_set(alloc, &mut again)?.ok_or("within the limits")?;
-        let (_, other) = answer_by_states(rt, alloc, set, workers, &EagerGate)?;
+        let (_, other) = answer_by_states(&crew_of(rt, alloc, workers, &EagerGate), set)?;
         if other.as_slice() != text.as_slice() {
             return Ok(false);
         }
@@ -140,9 +165,7 @@ fn claim_on<R: Threads + Wait + Sync>(
     shapes: &[Shape<'_>],
 ) -> Result<Claim, Fail> {
     let set = make_set(alloc, shapes)?.ok_or("within the limits")?;
-    let graphs = make_graphs(alloc, &set)?;
-    let Analysed { dossier, .. } = analyse_fixed(rt, alloc, set, &graphs, 1, BUDGET, &OpenGate)?;
-    Ok(claim_of(&dossier))
+    analysed_claim(rt, alloc, &set)
 }
 
 // The text of what tails and states say of the set of these shapes.
@@ -156,7 +179,7 @@ fn text_on<G: Gate, R: Threads + Wait + Sync>(
     requires { (1 ≤ workers) × (workers ≤ 16) }
 {
     let set = make_set(alloc, shapes)?.ok_or("within the limits")?;
-    let (_, text) = answer_by_states(rt, alloc, set, workers, gate)?;
+    let (_, text) = answer_by_states(&crew_of(rt, alloc, workers, gate), set)?;
     Ok(text)
 }
 

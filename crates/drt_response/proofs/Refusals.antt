@@ -6,11 +6,10 @@ use Rattle.drt_claims.specs.declared.evidence.Evidence.{Evidence}
 use Rattle.drt_claims.specs.declared.evidence.Evidence.TheVariants.{EdfYes, EdfNo, UtilisationOne, FixedYes, FixedStates, FixedNo, Undecided}
 use Rattle.drt_fixed.specs.Answers.{IsSaid}
 use Rattle.drt_sp.specs.Answers.{IsRefusal}
-use Rattle.drt_sp.specs.Evidence.{under_fixed}
 use Rattle.drt_response.specs.Answers.{IsRefused}
 
 -- By trees.
-pub refusal_is : (set : Contents) (evidence : Evidence) → IsRefusal set evidence → IsInRange evidence → IsRefused set (under_fixed set evidence)
+pub refusal_is : (set : Contents) (evidence : Evidence) → IsRefusal set evidence → IsInRange evidence → IsRefused set evidence
 refusal_is set (EdfYes ratios fronts) refusal range = absurd refusal
 refusal_is set (EdfNo releases miss) refusal range = absurd refusal
 refusal_is set (UtilisationOne ratios) refusal range = absurd refusal
@@ -19,7 +18,7 @@ refusal_is set (FixedStates tails searches) refusal range = absurd refusal
 refusal_is set (FixedNo releases miss) refusal range = record {
   releases = releases;
   miss = miss;
-  dossier_is = refl;
+  evidence_is = refl;
   in_range = range;
   no = record { not_schedulable = refusal.not_schedulable; accepted = refusal.accepted; of_walks = refusal.of_walks };
 }

@@ -13,11 +13,10 @@ use Rattle.drt_busy.specs.Response.{IsGreatestResponse, reaching as reaching_wal
 use Rattle.drt_tree.specs.Tree.{Plain}
 use Rattle.drt_choices.specs.Laws.{AreReaching}
 use Rattle.drt_claims.specs.Ranges.{IsInRange}
-use Rattle.drt_claims.specs.Statement.{Statement}
+use Rattle.drt_claims.specs.declared.evidence.Evidence.{Evidence}
 use Rattle.drt_claims.specs.declared.evidence.Evidence.TheVariants.{FixedNo}
 use Rattle.drt_fixed.specs.Answers.{IsNo}
-use Rattle.drt_sp.specs.Answers.{IsReached, IsRefusal, IsUndecided}
-use Rattle.drt_sp.specs.Evidence.{under_fixed}
+use Rattle.drt_sp.specs.Answers.{IsReached, IsUndecided}
 use Rattle.drt_sp.specs.Needs.{IsBelowRefinement}
 use Rattle.drt_sp.specs.Vertices.{subjects}
 use Rattle.drt_worst.specs.Splitting.{search_for}
@@ -82,31 +81,31 @@ pub record AreResponses (set : Contents) (responses : List Response) : Type 0 wh
   pub are : map respondent responses ≡ vertices_of set.tasks (length set.tasks)
   pub each : All (IsResponseOf set) responses
 
--- The dossier of a no: that of the set under fixed priorities with evidence in range.
-pub record IsRefused (set : Contents) (dossier : Statement) : Type 0 where
+-- The evidence of a no, in range.
+pub record IsRefused (set : Contents) (evidence : Evidence) : Type 0 where
   pub releases : List Release
   pub miss : Miss
-  pub dossier_is : dossier ≡ under_fixed set (FixedNo releases miss)
+  pub evidence_is : evidence ≡ FixedNo releases miss
   pub in_range : IsInRange (FixedNo releases miss)
   pub no : IsNo set releases miss
 
--- What each answer says, with a budget. Where nothing is decided, the set comes back.
+-- What each answer says, with a budget.
 abbrev pub IsResponseAnswer : Contents → ℕ → ResponseAnswer → Type 0
 IsResponseAnswer set budget (Done responses) = AreResponses set responses
-IsResponseAnswer set budget (Missed dossier) = IsRefused set dossier
-IsResponseAnswer set budget (Undecided same trail) = (same ≡ set) × IsUndecidedResponse set budget trail
+IsResponseAnswer set budget (Missed evidence) = IsRefused set evidence
+IsResponseAnswer set budget (Undecided trail) = IsUndecidedResponse set budget trail
 
 -- What trees say, with a budget.
 abbrev pub IsTreesResponse : Contents → ℕ → TreesResponse → Type 0
 IsTreesResponse set budget (trees.Done responses) = AreResponses set responses
-IsTreesResponse set budget (trees.Missed evidence) = IsRefusal set evidence × IsInRange evidence
+IsTreesResponse set budget (trees.Missed evidence) = IsRefused set evidence
 IsTreesResponse set budget (trees.Undecided trail) = IsUndecidedResponse set budget trail
 
--- What tails and states say: nothing leaves the set as it was.
+-- What tails and states say.
 abbrev pub IsStatesResponse : Contents → StatesResponse → Type 0
 IsStatesResponse set (states.Done responses) = AreResponses set responses
-IsStatesResponse set (states.Missed dossier) = IsRefused set dossier
-IsStatesResponse set (states.Nothing same) = same ≡ set
+IsStatesResponse set (states.Missed evidence) = IsRefused set evidence
+IsStatesResponse set states.Nothing = Unit {0}
 
 -- What came of vertex v of task k.
 abbrev pub IsVertexResponse : Contents → ℕ → ℕ → ℕ → VertexResponse → Type 0

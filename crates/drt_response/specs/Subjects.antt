@@ -1,7 +1,6 @@
 -- What the searches of all vertices are given, and the subject of each.
 use Rattle.std.specs.Prelude.{◌≡◌, ◌<◌, ℕ, IfSome, List, Option, length}
 use Rattle.drt_model.specs.declared.jobs.Policy.TheVariants.{Fixed}
-use Rattle.drt_model.specs.Constrained.{AreConstrained}
 use Rattle.drt_model.specs.Digraph.{vertex_count}
 use Rattle.drt_model.specs.Schedulable.{Schedulable}
 use Rattle.drt_model.specs.Walk.{deadline, wcet}
@@ -11,7 +10,6 @@ use Rattle.drt_states.specs.Tails.{graphs_of as place_graphs}
 use Rattle.drt_check_states.specs.Crests.{AreCrests}
 use Rattle.drt_check_states.specs.Places.{graphs_at}
 use Rattle.drt_check_trees.specs.Order.{IsPriorityOrder}
-use Rattle.drt_claims.specs.Claims.{graphs_of}
 use Rattle.drt_claims.specs.Searches.{higher_places, higher_tails}
 use Rattle.drt_sp_states.specs.Answers.{AreWorst}
 use Rattle.drt_sp_states.specs.declared.places.Subject.{Subject}
@@ -21,12 +19,9 @@ use Rattle.drt_response.specs.Tails.{HaveTails}
 use Rattle.drt_response.specs.declared.subjects.Given.{Given}
 use Rattle.drt_response.specs.declared.subjects.VertexAt.{VertexAt}
 
--- The set is schedulable and has constrained deadlines, the graphs and the order of priority are its own, the tails bound its walks, and the
--- crests are theirs.
+-- The set is schedulable, the order of priority is its own, the tails bound its walks, and the crests are theirs.
 pub record IsGiven (g : Given) : Type 0 where
-  pub constrained : AreConstrained g.set.now.tasks
   pub schedulable : Schedulable g.set.now.tasks Fixed
-  pub graphs : g.graphs.now ≡ graphs_of g.set.now.tasks
   pub order : IsPriorityOrder g.set.now.tasks g.order.now
   pub tails : HaveTails g.set.now.tasks g.tails.now
   pub crests : AreCrests g.tails.now g.crests.now

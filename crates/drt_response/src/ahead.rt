@@ -4,9 +4,10 @@ ghost use denote.Param.Send.{IsSync};
 ghost use Rattle.drt_response.specs.Answers.{IsResponseOf, IsResponseOfVertex};
 ghost use Rattle.drt_response.specs.Subjects.{AreFound, IsGiven, IsVertexAt};
 
-use crate::by_states::{Effort, respond_vertex};
+use crate::by_states::respond_vertex;
 use crate::subjects::{Given, VertexAt};
-use drt_ahead::{Crew, largest_first, look_ahead, shared_size, take_found};
+use drt_ahead::{largest_first, look_ahead, shared_size, take_found};
+use drt_crew::Crew;
 use drt_model::Memory;
 use drt_pool::Gate;
 use drt_responses::Response;
@@ -23,27 +24,27 @@ const MOST_AHEAD: u64 = 16_384;
 /// The responses that workers find side by side, each by one of them, where the searches of the analysis tell that it is worth it: those of
 /// the most states first. Each stands at the number of its vertex, in order of the file. A search that finds none is the last one.
 pub(crate) fn respond_ahead<G: Gate, R: Threads + Wait + Sync>(
-    effort: &Effort<'_, G, R>,
+    crew: &Crew<'_, G, R>,
     given: Given<'_>,
     searches: &[SearchClaim],
 ) -> Result<Vec<Option<Option<Response>>>, Memory>
     requires given { IsGiven given }
     ensures { IfOk result (λ found. AreFound given.entry found.items) }
 {
-    let alloc = effort.alloc;
+    let alloc = crew.alloc;
     let sizes = count_states(alloc, searches)?;
     let vertices = list_vertices(alloc, given)?;
-    let enough = effort.gate.alone().min(ENOUGH);
+    let enough = crew.gate.alone().min(ENOUGH);
     if shared_size(&sizes) < enough || sizes.len() != vertices.len() {
         return Ok(Vec::new(alloc));
     }
     let first = largest_first(alloc, &sizes)?;
-    find_ahead(effort, given, &vertices, &first)
+    find_ahead(crew, given, &vertices, &first)
 }
 
 // The responses of vertices that workers find, begun in this order.
 fn find_ahead<G: Gate, R: Threads + Wait + Sync>(
-    effort: &Effort<'_, G, R>,
+    crew: &Crew<'_, G, R>,
     given: Given<'_>,
     vertices: &[VertexAt],
     order: &[u32],
@@ -54,33 +55,19 @@ fn find_ahead<G: Gate, R: Threads + Wait + Sync>(
     requires most { length order.now ≤ length vertices.now }
     ensures { IfOk result (λ found. AreFound given.entry found.items) }
 {
-    let Effort {
-        rt,
-        alloc,
-        workers,
-        gate,
-        ..
-    } = *effort;
-    let budget = effort.budget.min(MOST_AHEAD);
-    let crew = Crew {
-        rt,
-        alloc,
-        workers,
-        gate,
-    };
+    let alone = crew.with(crew.effort.alone().at_most(MOST_AHEAD));
+    let alone = &alone;
     let job = move |place: u32| -> Result<Option<Response>, Memory>
         requires { IsSync R.row × IsSync G.row × IsGiven given × All (IsVertexAt given) vertices.now × (place < length vertices.now) }
         ensures { IfOk result (λ found. IfSome found (IsResponseOf given.entry.set.now)) }
-    {
-        let alone = Effort {
-            rt,
-            alloc,
-            workers: 1,
-            budget,
-            gate,
-        };
-        respond_vertex(&alone, given, vertices[place as usize])
-    };
+    { respond_vertex(alone, given, vertices[place as usize]) };
+    let workers = crew.effort.workers(); // bridge
+    let crew = drt_ahead::Crew {
+        rt: crew.rt,
+        alloc: crew.alloc,
+        workers,
+        gate: crew.gate,
+    }; // bridge
     look_ahead(&crew, order, job, is_none)
 }
 
@@ -123,8 +110,9 @@ fn list_vertices(alloc: Global, given: Given<'_>) -> Result<Vec<VertexAt>, Memor
     requires { IsGiven given }
     ensures { IfOk result (λ vertices. All (IsVertexAt given.entry) vertices.items) }
 {
+    let graphs = given.set.graphs();
     let mut vertices = Vec::new(alloc);
-    'tasks: for task in 0..given.graphs.count() {
+    'tasks: for task in 0..graphs.count() {
         add_vertices(given, task, &mut vertices)?;
     }
     Ok(vertices)
@@ -137,7 +125,8 @@ fn add_vertices(given: Given<'_>, task: u32, vertices: &mut Vec<VertexAt>) -> Re
     requires before { All (IsVertexAt given) vertices.old.items }
     ensures { IfOk result (λ done. All (IsVertexAt given.entry) vertices.new.items) }
 {
-    let graph = given.graphs.graph(task);
+    let graphs = given.set.graphs();
+    let graph = graphs.graph(task);
     'vertices: for vertex in 0..graph.vertex_count() {
         vertices.push(VertexAt { task, vertex })?;
     }

@@ -1,7 +1,7 @@
 //! The answers.
 
-use drt_claims::Dossier;
-use drt_model::{Row, TaskSet};
+use drt_claims::Evidence;
+use drt_model::Row;
 use drt_responses::Response;
 use drt_trails::FixedTrail;
 
@@ -22,8 +22,8 @@ pub enum ResponseTrail {
 pub enum ResponseAnswer {
     /// The set is schedulable, with a response for each vertex of each task, in order of the file.
     Done(Row<Response>),
-    /// The set isn't schedulable, with its dossier.
-    Missed(Dossier),
-    /// A budget was spent before there was an answer, with the set as it was.
-    Undecided { set: TaskSet, trail: ResponseTrail },
+    /// The set isn't schedulable, with the evidence.
+    Missed(Evidence),
+    /// A budget was spent before there was an answer.
+    Undecided(ResponseTrail),
 }

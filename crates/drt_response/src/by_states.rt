@@ -1,11 +1,9 @@
 //! The greatest response times of all vertices, by tails and states.
-ghost use Rattle.std.specs.Prelude.{◌≡◌, ◌+◌, ◌≤◌, ◌<◌, IfOk, IfSome, IsTrue, length};
+ghost use Rattle.std.specs.Prelude.{◌+◌, ◌<◌, IfOk, IfSome, IsTrue, length};
 ghost use Rattle.drt_model.specs.declared.jobs.Policy.TheVariants.{Fixed};
-ghost use Rattle.drt_model.specs.Constrained.{AreConstrained};
 ghost use Rattle.drt_model.specs.Digraph.{vertex_count};
 ghost use Rattle.drt_model.specs.Schedulable.{Schedulable};
 ghost use Rattle.drt_busy.specs.Choice.{graph_at};
-ghost use Rattle.drt_claims.specs.Claims.{graphs_of};
 ghost use Rattle.drt_fixed.specs.Answers.{IsDecision};
 ghost use Rattle.drt_response.specs.Answers.{AreResponses, AreResponsesTo, IsResponseOfVertex, IsStatesResponse};
 ghost use Rattle.drt_response.specs.Subjects.{AreFound, AreWorstAt, IsGiven};
@@ -14,13 +12,14 @@ ghost use Rattle.drt_response.specs.Tails.{HaveTails};
 use crate::ahead::{respond_ahead, take_response};
 use crate::reaching::{FirstJob, reaching_releases};
 use crate::subjects::{Given, VertexAt, subject_of};
+use drt_accepted::Accepted;
 use drt_busy::{releases_reach, response_decides};
 use drt_check_states::find_crests;
 use drt_check_trees::priority_order;
-use drt_claims::{Dossier, Evidence};
-use drt_fixed::{ByStates, decide_by_states};
-use drt_graph::Graphs;
-use drt_model::{Memory, Row, TaskSet};
+use drt_claims::Evidence;
+use drt_crew::Crew;
+use drt_fixed::decide_by_states;
+use drt_model::{Memory, Row};
 use drt_pool::Gate;
 use drt_responses::Response;
 use drt_sp_states::{Responded, search_response};
@@ -35,118 +34,84 @@ use std::thread::Threads;
 pub enum StatesResponse {
     /// The set is schedulable, with a response for each vertex of each task, in order of the file.
     Done(Row<Response>),
-    /// The set isn't schedulable, with its dossier.
-    Missed(Dossier),
-    /// Nothing: the set as it was.
-    Nothing(TaskSet),
+    /// The set isn't schedulable, with the evidence.
+    Missed(Evidence),
+    /// Nothing is found.
+    Nothing,
 }
 
-/// Who searches, and for how many states each: so many workers, whose turns the gate sees.
-#[derive(Drop)]
-pub(crate) struct Effort<'a, G, R> {
-    pub rt: &'a R,
-    pub alloc: Global,
-    pub workers: u32,
-    pub budget: u64,
-    pub gate: &'a G,
-}
-
-/// What tails and states say of a set with constrained deadlines, with this budget of states for each vertex.
+/// What tails and states say of a set, with the crew's budget of states for each vertex.
 pub fn respond_by_states<G: Gate, R: Threads + Wait + Sync>(
-    rt: &R,
-    alloc: Global,
-    set: TaskSet,
-    graphs: &Graphs,
-    workers: u32,
-    budget: u64,
-    gate: &G,
+    crew: &Crew<'_, G, R>,
+    set: &Accepted<'_>,
 ) -> Result<StatesResponse, Memory>
-    requires constrained { AreConstrained set.tasks }
-    requires graphs { graphs.now ≡ graphs_of set.tasks }
-    requires workers { (1 ≤ workers) × (workers ≤ 16) }
-    ensures { IfOk result (IsStatesResponse set) }
+    ensures { IfOk result (IsStatesResponse set.now) }
 {
-    let effort = Effort {
-        rt,
-        alloc,
-        workers,
-        budget,
-        gate,
-    };
-    match decide_by_states(rt, alloc, set, graphs, workers, budget, gate)? {
-        ByStates::Decided(dossier) => respond_decided(&effort, dossier, graphs),
-        ByStates::Nothing(set) => Ok(StatesResponse::Nothing(set)),
+    match decide_by_states(crew, set)? {
+        Some(evidence) => respond_decided(crew, set, evidence),
+        None => Ok(StatesResponse::Nothing),
     }
 }
 
-// What they say of a set that is decided.
+// What they say of a set that this evidence decides.
 fn respond_decided<G: Gate, R: Threads + Wait + Sync>(
-    effort: &Effort<'_, G, R>,
-    dossier: Dossier,
-    graphs: &Graphs,
+    crew: &Crew<'_, G, R>,
+    set: &Accepted<'_>,
+    evidence: Evidence,
 ) -> Result<StatesResponse, Memory>
-    requires constrained { AreConstrained dossier.set.tasks }
-    requires graphs { graphs.now ≡ graphs_of dossier.set.tasks }
-    requires workers { (1 ≤ effort.now.workers) × (effort.now.workers ≤ 16) }
-    requires decision { IsDecision dossier.set dossier }
-    ensures { IfOk result (IsStatesResponse dossier.set) }
+    requires decision { IsDecision set.now evidence }
+    ensures { IfOk result (IsStatesResponse set.now) }
 {
-    let found = match &dossier.evidence {
+    let found = match &evidence {
         Evidence::FixedStates { tails, searches } => {
-            let searches = searches.as_slice();
-            respond_over(effort, &dossier.set, graphs, tails.as_slice(), searches)?
+            respond_over(crew, set, tails.as_slice(), searches.as_slice())?
         }
-        Evidence::FixedNo { .. } => return Ok(StatesResponse::Missed(dossier)),
+        Evidence::FixedNo { .. } => return Ok(StatesResponse::Missed(evidence)),
         _ => None,
     };
     match found {
         Some(responses) => Ok(StatesResponse::Done(responses)),
-        None => Ok(StatesResponse::Nothing(dossier.set)),
+        None => Ok(StatesResponse::Nothing),
     }
 }
 
 // The responses of a schedulable set over these tails; none where a search finds nothing. The searches of the analysis tell how long those
 // of the responses are.
 fn respond_over<G: Gate, R: Threads + Wait + Sync>(
-    effort: &Effort<'_, G, R>,
-    set: &TaskSet,
-    graphs: &Graphs,
+    crew: &Crew<'_, G, R>,
+    set: &Accepted<'_>,
     tails: &[TailClaim],
     searches: &[SearchClaim],
 ) -> Result<Option<Row<Response>>, Memory>
-    requires constrained { AreConstrained set.now.tasks }
-    requires graphs { graphs.now ≡ graphs_of set.now.tasks }
-    requires workers { (1 ≤ effort.now.workers) × (effort.now.workers ≤ 16) }
     requires schedulable { Schedulable set.now.tasks Fixed }
     requires tails { HaveTails set.now.tasks tails.now }
     ensures { IfOk result (λ found. IfSome found (AreResponses set.now)) }
 {
-    let order = priority_order(effort.alloc, set)?;
-    let crests = find_crests(effort.alloc, tails)?;
+    let order = priority_order(crew.alloc, set.set())?;
+    let crests = find_crests(crew.alloc, tails)?;
     let given = Given {
         set,
-        graphs,
         order: order.as_slice(),
         tails,
         crests: crests.as_slice(),
     };
-    respond_all(effort, given, searches)
+    respond_all(crew, given, searches)
 }
 
 // The responses of all vertices.
 fn respond_all<G: Gate, R: Threads + Wait + Sync>(
-    effort: &Effort<'_, G, R>,
+    crew: &Crew<'_, G, R>,
     given: Given<'_>,
     searches: &[SearchClaim],
 ) -> Result<Option<Row<Response>>, Memory>
-    requires workers { (1 ≤ effort.now.workers) × (effort.now.workers ≤ 16) }
     requires given { IsGiven given }
     ensures { IfOk result (λ found. IfSome found (AreResponses given.entry.set.now)) }
 {
-    let mut ahead = respond_ahead(effort, given, searches)?;
-    let mut responses = Vec::new(effort.alloc);
-    'tasks: for task in 0..given.graphs.count() {
-        if !respond_task(effort, given, task, &mut ahead, &mut responses)? {
+    let graphs = given.set.graphs();
+    let mut ahead = respond_ahead(crew, given, searches)?;
+    let mut responses = Vec::new(crew.alloc);
+    'tasks: for task in 0..graphs.count() {
+        if !respond_task(crew, given, task, &mut ahead, &mut responses)? {
             return Ok(None);
         }
     }
@@ -155,13 +120,12 @@ fn respond_all<G: Gate, R: Threads + Wait + Sync>(
 
 // Adds the responses of the vertices of a task to those of the tasks before it. It answers whether all are found.
 fn respond_task<G: Gate, R: Threads + Wait + Sync>(
-    effort: &Effort<'_, G, R>,
+    crew: &Crew<'_, G, R>,
     given: Given<'_>,
     task: u32,
     ahead: &mut Vec<Option<Option<Response>>>,
     responses: &mut Vec<Response>,
 ) -> Result<bool, Memory>
-    requires workers { (1 ≤ effort.now.workers) × (effort.now.workers ≤ 16) }
     requires given { IsGiven given }
     requires task { task < length given.set.now.tasks }
     requires ahead { AreFound given ahead.old.items }
@@ -169,10 +133,11 @@ fn respond_task<G: Gate, R: Threads + Wait + Sync>(
     ensures ahead { IfOk result (λ all. AreFound given.entry ahead.new.items) }
     ensures responses { IfOk result (λ all. IsTrue all → AreResponsesTo given.entry.set.now (task + 1) 0 responses.new.items) }
 {
-    let graph = given.graphs.graph(task);
+    let graphs = given.set.graphs();
+    let graph = graphs.graph(task);
     'vertices: for vertex in 0..graph.vertex_count() {
         let at = VertexAt { task, vertex };
-        match next_response(effort, given, at, responses.len(), ahead)? {
+        match next_response(crew, given, at, responses.len(), ahead)? {
             Some(response) => responses.push(response)?,
             None => return Ok(false),
         }
@@ -182,13 +147,12 @@ fn respond_task<G: Gate, R: Threads + Wait + Sync>(
 
 // The response of the vertex of this number: what is found ahead, or else what all workers find together.
 fn next_response<G: Gate, R: Threads + Wait + Sync>(
-    effort: &Effort<'_, G, R>,
+    crew: &Crew<'_, G, R>,
     given: Given<'_>,
     at: VertexAt,
     number: usize,
     ahead: &mut Vec<Option<Option<Response>>>,
 ) -> Result<Option<Response>, Memory>
-    requires workers { (1 ≤ effort.now.workers) × (effort.now.workers ≤ 16) }
     requires given { IsGiven given }
     requires task { at.task < length given.set.now.tasks }
     requires vertex { at.vertex < vertex_count (graph_at given.set.now.tasks at.task) }
@@ -198,35 +162,26 @@ fn next_response<G: Gate, R: Threads + Wait + Sync>(
 {
     match take_response(given, at, number, ahead) {
         Some(response) => Ok(Some(response)),
-        None => respond_vertex(effort, given, at),
+        None => respond_vertex(crew, given, at),
     }
 }
 
 /// The response of a vertex of a task, where its search finds one.
 pub(crate) fn respond_vertex<G: Gate, R: Threads + Wait + Sync>(
-    effort: &Effort<'_, G, R>,
+    crew: &Crew<'_, G, R>,
     given: Given<'_>,
     at: VertexAt,
 ) -> Result<Option<Response>, Memory>
-    requires workers { (1 ≤ effort.now.workers) × (effort.now.workers ≤ 16) }
     requires given { IsGiven given }
     requires task { at.task < length given.set.now.tasks }
     requires vertex { at.vertex < vertex_count (graph_at given.set.now.tasks at.task) }
     ensures { IfOk result (λ found. IfSome found (IsResponseOfVertex given.entry.set.now at.task at.vertex)) }
 {
     let subject = subject_of(given, at);
-    let found = search_response(
-        effort.rt,
-        effort.alloc,
-        subject,
-        effort.workers,
-        effort.budget,
-        effort.gate,
-    )?;
-    match found {
+    match search_response(crew, subject)? {
         Responded::Spent => Ok(None),
         Responded::Reached { ticks, walks } => {
-            let response = response_of(effort.alloc, given, at, ticks, walks.as_slice())?;
+            let response = response_of(crew.alloc, given, at, ticks, walks.as_slice())?;
             Ok(Some(response))
         }
     }
@@ -254,7 +209,7 @@ fn response_of(
         at,
         finish: ticks as u32,
     };
-    let releases = reaching_releases(alloc, given.set, given.graphs, walks, job)?;
+    let releases = reaching_releases(alloc, given.set, walks, job)?;
     Ok(Response {
         task: at.task,
         vertex: at.vertex,

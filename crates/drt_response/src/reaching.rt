@@ -3,13 +3,12 @@ ghost use Rattle.std.specs.Prelude.{◌≡◌, ◌≤◌, ◌<◌, ℕ, IfOk, le
 ghost use Rattle.drt_model.specs.Digraph.{vertex_count};
 ghost use Rattle.drt_busy.specs.Choice.{AreWalks, graph_at};
 ghost use Rattle.drt_busy.specs.Response.{reaching};
-ghost use Rattle.drt_claims.specs.Claims.{graphs_of};
 ghost use Rattle.drt_releases.specs.Walks.{walk_at};
 ghost use Rattle.drt_response.specs.Placed.{job_walk, placed_walk};
 
 use crate::subjects::{VertexAt, higher_count};
-use drt_graph::Graphs;
-use drt_model::{Memory, Release, Row, TaskSet};
+use drt_accepted::Accepted;
+use drt_model::{Memory, Release, Row};
 use drt_releases::all_releases;
 use drt_sp::cut_walk;
 use std::alloc::Global;
@@ -28,20 +27,19 @@ pub(crate) struct FirstJob {
 /// finishes, and one of the vertex at 0, in order of tasks. Each needs its whole execution time.
 pub(crate) fn reaching_releases(
     alloc: Global,
-    set: &TaskSet,
-    graphs: &Graphs,
+    set: &Accepted<'_>,
     walks: &[Row<u32>],
     job: FirstJob,
 ) -> Result<Row<Release>, Memory>
-    requires graphs { graphs.now ≡ graphs_of set.now.tasks }
     requires walks { AreWalks set.now.tasks (placed_walk set.now.tasks walks.now) }
     requires task { job.at.task < length set.now.tasks }
     requires vertex { job.at.vertex < vertex_count (graph_at set.now.tasks job.at.task) }
     requires finish { job.finish ≤ 1000000 }
     ensures { IfOk result (λ releases. releases ≡ reaching set.now.tasks (placed_walk set.now.tasks walks.now) job.at.task job.at.vertex job.finish) }
 {
+    let graphs = set.graphs();
     let _count = graphs.count();
-    let chosen = job_walks(alloc, set, graphs, walks, job)?;
+    let chosen = job_walks(alloc, set, walks, job)?;
     let releases = all_releases(alloc, graphs, chosen.as_slice(), LAST_DEADLINE)?;
     Ok(Row::from_vec(releases))
 }
@@ -50,20 +48,19 @@ pub(crate) fn reaching_releases(
 // for the job's task.
 fn job_walks(
     alloc: Global,
-    set: &TaskSet,
-    graphs: &Graphs,
+    set: &Accepted<'_>,
     walks: &[Row<u32>],
     job: FirstJob,
 ) -> Result<Vec<Row<u32>>, Memory>
-    requires graphs { graphs.now ≡ graphs_of set.now.tasks }
     requires walks { AreWalks set.now.tasks (placed_walk set.now.tasks walks.now) }
     requires task { job.at.task < length set.now.tasks }
     ensures count { IfOk result (λ chosen. length chosen.items ≡ length set.now.tasks) }
     ensures each { IfOk result (λ chosen. (k : ℕ) → k < length set.now.tasks → walk_at chosen.items k ≡ job_walk set.now.tasks walks.now job.at.task job.at.vertex job.finish k) }
 {
+    let graphs = set.graphs();
     let mut chosen = Vec::new(alloc);
     'tasks: for k in 0..graphs.count() {
-        chosen.push(job_walk(alloc, set, graphs, walks, job, k)?)?;
+        chosen.push(job_walk(alloc, set, walks, job, k)?)?;
     }
     Ok(chosen)
 }
@@ -71,19 +68,18 @@ fn job_walks(
 // The walk of one task among them.
 fn job_walk(
     alloc: Global,
-    set: &TaskSet,
-    graphs: &Graphs,
+    set: &Accepted<'_>,
     walks: &[Row<u32>],
     job: FirstJob,
     k: u32,
 ) -> Result<Row<u32>, Memory>
-    requires graphs { graphs.now ≡ graphs_of set.now.tasks }
     requires walks { AreWalks set.now.tasks (placed_walk set.now.tasks walks.now) }
     requires task { job.at.task < length set.now.tasks }
     requires here { k < length set.now.tasks }
     ensures { IfOk result (λ walk. walk ≡ job_walk set.now.tasks walks.now job.at.task job.at.vertex job.finish k) }
 {
     let tasks = set.tasks();
+    let graphs = set.graphs();
     let priority = tasks[k as usize].priority;
     if priority < tasks[job.at.task as usize].priority {
         let walk = walk_of(walks, higher_count(tasks, priority));

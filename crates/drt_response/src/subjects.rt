@@ -6,17 +6,16 @@ ghost use Rattle.drt_claims.specs.Trees.{higher_count};
 ghost use Rattle.drt_sp_states.specs.Subjects.{IsSubject};
 ghost use Rattle.drt_response.specs.Subjects.{IsGiven, IsSubjectOf};
 
-use drt_graph::Graphs;
-use drt_model::{Row, Task, TaskSet};
+use drt_accepted::Accepted;
+use drt_model::{Row, Task};
 use drt_sp_states::Subject;
 use drt_states::{Jump, TailClaim};
 
-/// What the searches of all vertices are over: the set and its graphs, the tasks in order of priority, and the tails of all but the last
-/// one with their greatest values.
+/// What the searches of all vertices are over: the set, the tasks in order of priority, and the tails of all but the last one with their
+/// greatest values.
 #[derive(Clone, Copy)]
 pub(crate) struct Given<'a> {
-    pub set: &'a TaskSet,
-    pub graphs: &'a Graphs,
+    pub set: &'a Accepted<'a>,
     pub order: &'a [u32],
     pub tails: &'a [TailClaim],
     pub crests: &'a [Row<Jump>],
@@ -39,9 +38,10 @@ pub(crate) fn subject_of<'a>(given: Given<'a>, at: VertexAt) -> Subject<'a>
 {
     let tasks = given.set.tasks();
     let count = higher_count(tasks, tasks[at.task as usize].priority);
-    let job = given.graphs.graph(at.task).vertex(at.vertex);
+    let graphs = given.set.graphs();
+    let job = graphs.graph(at.task).vertex(at.vertex);
     Subject {
-        graphs: given.graphs,
+        graphs,
         order: &given.order[..count],
         tails: &given.tails[..count],
         crests: &given.crests[..count],

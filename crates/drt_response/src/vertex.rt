@@ -1,21 +1,20 @@
 //! The greatest response time of one vertex.
 ghost use Rattle.std.specs.Prelude.{◌≡◌, ℕ, ◌≤◌, ◌<◌, length, take, Some, slice_get, IfOk};
-ghost use Rattle.drt_model.specs.Constrained.{AreConstrained};
 ghost use Rattle.drt_model.specs.Digraph.{vertex_count};
 ghost use Rattle.drt_busy.specs.Choice.{graph_at};
-ghost use Rattle.drt_claims.specs.Claims.{graphs_of};
 ghost use Rattle.drt_sp.specs.Grown.{AreProvedTrees};
 ghost use Rattle.drt_response.specs.Answers.{IsVertexResponse};
 
+use crate::subjects::VertexAt;
+use drt_accepted::Accepted;
 use drt_busy::times_suffice_for_task;
 use drt_choices::{leaves_respond, walks_pass};
-use drt_graph::Graphs;
-use drt_model::{Memory, Row, TaskSet};
+use drt_crew::Crew;
+use drt_model::{Memory, Row};
 use drt_pool::Gate;
 use drt_responses::Response;
 use drt_sp::{ProvedTrees, VertexTuple, leaf_releases};
 use drt_worst::{Worst, worst};
-use std::alloc::Global;
 use std::sync::Wait;
 use std::thread::Threads;
 
@@ -28,63 +27,44 @@ pub(crate) enum VertexResponse {
 
 /// The greatest response time of a vertex of a task, in ticks, over the trees of the tasks of higher priority.
 pub(crate) fn respond_vertex<G: Gate, R: Threads + Wait + Sync>(
-    rt: &R,
-    alloc: Global,
-    set: &TaskSet,
-    graphs: &Graphs,
+    crew: &Crew<'_, G, R>,
+    set: &Accepted<'_>,
     trees: &ProvedTrees,
-    task: u32,
-    vertex: u32,
-    workers: u32,
-    budget: u64,
-    gate: &G,
+    at: VertexAt,
 ) -> Result<VertexResponse, Memory>
-    requires constrained { AreConstrained set.now.tasks }
-    requires graphs { graphs.now ≡ graphs_of set.now.tasks }
     requires trees { AreProvedTrees set.now trees.now }
-    requires task { task < length set.now.tasks }
-    requires vertex { vertex < vertex_count (graph_at set.now.tasks task) }
-    requires workers { (1 ≤ workers) × (workers ≤ 16) }
-    requires budget { (1 ≤ budget) × (budget ≤ 1000000) }
-    ensures { IfOk result (IsVertexResponse set.now budget task vertex) }
+    requires task { at.task < length set.now.tasks }
+    requires vertex { at.vertex < vertex_count (graph_at set.now.tasks at.task) }
+    ensures { IfOk result (IsVertexResponse set.now crew.now.effort.budget at.task at.vertex) }
 {
     times_suffice_for_task();
     leaves_respond();
     walks_pass();
+    let graphs = set.graphs();
     let _count = graphs.count();
     let order = trees.order.as_slice();
-    let higher = first_roots(trees.roots.as_slice(), place_of(order, task));
-    let subject = graphs.graph(task).vertex(vertex);
-    match worst(
-        rt,
-        alloc,
-        &trees.forest,
-        higher,
-        subject.wcet,
-        subject.deadline,
-        workers,
-        budget,
-        gate,
-    )? {
+    let higher = first_roots(trees.roots.as_slice(), place_of(order, at.task));
+    let subject = graphs.graph(at.task).vertex(at.vertex);
+    match worst(crew, &trees.forest, higher, subject.wcet, subject.deadline)? {
         Worst::Spent { taken } => Ok(VertexResponse::Spent(taken)),
         Worst::Reached { ticks, leaves } => {
             let shown = VertexTuple {
-                task,
-                vertex,
+                task: at.task,
+                vertex: at.vertex,
                 tuple: leaves,
             };
             let releases = leaf_releases(
-                alloc,
-                set,
-                graphs,
+                crew.alloc,
+                set.set(), // bridge
+                graphs, // bridge
                 &trees.forest,
                 order,
                 &shown,
                 ticks as u32,
             )?;
             Ok(VertexResponse::Reached(Response {
-                task,
-                vertex,
+                task: at.task,
+                vertex: at.vertex,
                 ticks,
                 releases,
             }))

@@ -1,5 +1,8 @@
 //! What is answered of a set, beside plain values.
 
+use drt_accepted::Accepted;
+use drt_crew::Crew;
+use drt_effort::Effort;
 use drt_graph::check;
 use drt_model::{Release, TaskSet};
 use drt_pool::Gate;
@@ -50,7 +53,13 @@ pub(crate) fn answer_of<G: Gate, R: Threads + Wait + Sync>(
     let Ok(graphs) = check(alloc, &set) else {
         return Err("the deadlines are constrained".into());
     };
-    Ok(respond(rt, alloc, set, &graphs, workers, budget, gate)?)
+    let crew = Crew {
+        rt,
+        alloc,
+        effort: Effort::new(workers, budget),
+        gate,
+    };
+    Ok(respond(&crew, &Accepted::of(&set, &graphs))?)
 }
 
 /// Whether the responses are these, in order.
@@ -97,6 +106,6 @@ pub(crate) fn is_answer(answer: &ResponseAnswer, ticks: Option<&[Ticks]>) -> boo
             None => false,
         },
         ResponseAnswer::Missed(_) => ticks.is_none(),
-        ResponseAnswer::Undecided { .. } => false,
+        ResponseAnswer::Undecided(_) => false,
     }
 }

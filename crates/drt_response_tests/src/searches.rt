@@ -3,6 +3,8 @@ ghost use Rattle.std.specs.Prelude.{◌≡◌, ◌≤◌, ℕ, List, IfOk, lengt
 ghost use Rattle.drt_steps.specs.Time.{AreChosen, Passes};
 ghost use Rattle.drt_refine.specs.Below.{AreBelow};
 
+use drt_crew::Crew;
+use drt_effort::Effort;
 use drt_model::{Memory, Row};
 use drt_pool::{Gate, OpenGate};
 use drt_refine::{FrontierReply, over_every_interleaving};
@@ -101,9 +103,13 @@ pub(crate) fn search<G: Gate, R: Threads + Wait + Sync>(
     if !all_pass(rt, alloc, forest, roots, wcet, deadline)? {
         return Err("a time passes for each tuple".into());
     }
-    Ok(worst(
-        rt, alloc, forest, roots, wcet, deadline, workers, budget, gate,
-    )?)
+    let crew = Crew {
+        rt,
+        alloc,
+        effort: Effort::new(workers, budget),
+        gate,
+    };
+    Ok(worst(&crew, forest, roots, wcet, deadline)?)
 }
 
 /// Whether these are the combinations, in order.

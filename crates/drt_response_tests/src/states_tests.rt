@@ -1,7 +1,10 @@
 //! Drawn sets, answered by tails and states alone, and by several workers, as one worker answers by trees, whose numbers are proved.
 
 use crate::answers::{Ticks, answer_of, end_before_finish, have_ticks, is_answer};
+use drt_accepted::Accepted;
+use drt_crew::Crew;
 use drt_drawn::{Draws, drawn_set};
+use drt_effort::Effort;
 use drt_fixtures::{Shape, make_set};
 use drt_graph::check;
 use drt_meeting::Meeting;
@@ -38,7 +41,7 @@ fn ticks_of<R: Threads + Wait + Sync>(
             Ok(Some(ticks))
         }
         ResponseAnswer::Missed(_) => Ok(None),
-        ResponseAnswer::Undecided { .. } => Err("the budget is enough".into()),
+        ResponseAnswer::Undecided(_) => Err("the budget is enough".into()),
     }
 }
 
@@ -56,7 +59,13 @@ fn states_of<G: Gate, R: Threads + Wait + Sync>(
     let Ok(graphs) = check(alloc, &set) else {
         return Err("the deadlines are constrained".into());
     };
-    Ok(respond_by_states(rt, alloc, set, &graphs, workers, BUDGET, gate)?)
+    let crew = Crew {
+        rt,
+        alloc,
+        effort: Effort::new(workers, BUDGET),
+        gate,
+    };
+    Ok(respond_by_states(&crew, &Accepted::of(&set, &graphs))?)
 }
 
 // Whether these are the responses, with releases before each finish, or both say no.
@@ -70,7 +79,7 @@ fn are_those(states: &StatesResponse, ticks: &Option<Vec<Ticks>>) -> bool {
             None => false,
         },
         StatesResponse::Missed(_) => ticks.is_none(),
-        StatesResponse::Nothing(_) => false,
+        StatesResponse::Nothing => false,
     }
 }
 

@@ -84,12 +84,9 @@ fn is_missed<R: Threads + Wait + Sync>(
     let set = set_of(alloc, text)?;
     let answer = answer_of(rt, alloc, set, 1, BUDGET, &OpenGate)?;
     Ok(match &answer {
-        ResponseAnswer::Missed(dossier) => match &dossier.evidence {
-            Evidence::FixedNo { releases, miss } => {
-                releases.as_slice() == expected && *miss == missed
-            }
-            _ => false,
-        },
+        ResponseAnswer::Missed(Evidence::FixedNo { releases, miss }) => {
+            releases.as_slice() == expected && *miss == missed
+        }
         _ => false,
     })
 }
@@ -126,7 +123,7 @@ fn is_spent_before<R: Threads + Wait + Sync>(
 ) -> Result<bool, Fail> {
     let answer = answer_to(rt, alloc, shapes, budget)?;
     Ok(match &answer {
-        ResponseAnswer::Undecided { trail, .. } => matches!(trail, ResponseTrail::Fixed(_)),
+        ResponseAnswer::Undecided(trail) => matches!(trail, ResponseTrail::Fixed(_)),
         _ => false,
     })
 }
@@ -142,14 +139,13 @@ fn is_spent_at<R: Threads + Wait + Sync>(
 ) -> Result<bool, Fail> {
     let answer = answer_to(rt, alloc, shapes, budget)?;
     Ok(match &answer {
-        ResponseAnswer::Undecided {
-            trail: ResponseTrail::Search {
+        ResponseAnswer::Undecided(
+            ResponseTrail::Search {
                 task,
                 vertex,
                 taken,
             },
-            ..
-        } => (*task, *vertex) == at && are_rows(taken.as_slice(), expected),
+        ) => (*task, *vertex) == at && are_rows(taken.as_slice(), expected),
         _ => false,
     })
 }

@@ -11,7 +11,7 @@ use crate::tables::Table;
 use crate::trials::{Pool, Trial};
 use crate::trying::find_trial;
 use crate::waves::{Search, Wave, open_search, put_wave, take_wave, widen};
-use crate::workers::Crew;
+use drt_crew::Crew;
 use drt_model::{Memory, Row};
 use drt_pool::Gate;
 use std::alloc::Global;
@@ -47,25 +47,19 @@ enum Outlook {
 }
 
 /// Searches the states of a vertex for the greatest of the least times that pass for walks, by waves, which workers look at side by side. It
-/// takes as many states as the budget says, over all its tables. The answer doesn't depend on the workers.
+/// takes as many states as the crew has steps, over all its tables. The answer doesn't depend on the workers.
 pub fn search_response<G: Gate, R: Threads + Wait + Sync>(
-    rt: &R,
-    alloc: Global,
+    crew: &Crew<'_, G, R>,
     subject: Subject<'_>,
-    workers: u32,
-    budget: u64,
-    gate: &G,
 ) -> Result<Responded, Memory>
     requires subject { IsSubject subject }
-    requires workers { (1 ≤ workers) × (workers ≤ 16) }
     ensures { IfOk result (IsResponseTo subject.entry) }
 {
     let near = Subject {
         deadline: latest_response(subject),
         ..subject
     };
-    let crew = Crew { rt, workers, gate };
-    search_near(&crew, alloc, near, budget)
+    search_near(crew, near)
 }
 
 // A time up to the deadline that no response is above: the least one that passes by the greatest values of the tails alone, or the deadline
@@ -84,17 +78,15 @@ fn latest_response(subject: Subject<'_>) -> u32
 // The search up to the deadline.
 fn search_near<G: Gate, R: Threads + Wait + Sync>(
     crew: &Crew<'_, G, R>,
-    alloc: Global,
     subject: Subject<'_>,
-    budget: u64,
 ) -> Result<Responded, Memory>
     requires { IsSubject subject }
     ensures { IfOk result (IsResponseTo subject.entry) }
 {
-    let mut search = open_search(alloc, subject)?;
+    let mut search = open_search(crew.alloc, subject)?;
     let mut reached: Option<Reached> = None;
-    if take_waves(crew, alloc, subject, budget, &mut search, &mut reached)? {
-        end_of(alloc, subject, &search.table, reached)
+    if take_waves(crew, subject, &mut search, &mut reached)? {
+        end_of(crew.alloc, subject, &search.table, reached)
     } else {
         Ok(Responded::Spent)
     }
@@ -103,9 +95,7 @@ fn search_near<G: Gate, R: Threads + Wait + Sync>(
 // Takes waves until no state waits. Whether it comes to that.
 fn take_waves<G: Gate, R: Threads + Wait + Sync>(
     crew: &Crew<'_, G, R>,
-    alloc: Global,
     subject: Subject<'_>,
-    budget: u64,
     search: &mut Search,
     reached: &mut Option<Reached>,
 ) -> Result<bool, Memory>
@@ -113,11 +103,12 @@ fn take_waves<G: Gate, R: Threads + Wait + Sync>(
     requires reached { IfSome reached.old (IsReachedBy subject) }
     ensures { IfSome reached.new (IsReachedBy subject.entry) }
 {
+    let budget = crew.effort.budget();
     let mut left = budget;
     for _wave in 0..budget {
-        let wave = take_wave(crew, alloc, subject, aim_of(reached), search, left)?;
+        let wave = take_wave(crew, subject, aim_of(reached), search, left)?;
         left = left.saturating_sub(wave.taken);
-        if !go_on(alloc, subject, search, reached, wave)? {
+        if !go_on(crew.alloc, subject, search, reached, wave)? {
             return Ok(false);
         }
         if search.table.is_done() {

@@ -1,5 +1,5 @@
 //! The search of the states of one vertex.
-ghost use Rattle.std.specs.Prelude.{◌≤◌, IfOk, IfSome};
+ghost use Rattle.std.specs.Prelude.{IfOk, IfSome};
 ghost use Rattle.drt_sp_states.specs.Subjects.{IsAnswerTo, IsSubject};
 
 use crate::ends::{are_accepted, make_claims};
@@ -9,7 +9,7 @@ use crate::tables::Table;
 use crate::trials::Trial;
 use crate::trying::find_trial;
 use crate::waves::{Search, Wave, open_search, put_wave, take_wave, widen};
-use crate::workers::Crew;
+use drt_crew::Crew;
 use drt_model::{Memory, Row};
 use drt_pool::Gate;
 use drt_states::StateClaim;
@@ -28,41 +28,34 @@ pub enum Searched {
     Spent,
 }
 
-/// Searches the states of a vertex by waves, which workers look at side by side. It takes as many states as the budget says, over all its
+/// Searches the states of a vertex by waves, which workers look at side by side. It takes as many states as the crew has steps, over all its
 /// tables. The answer doesn't depend on the workers.
 pub fn search_states<G: Gate, R: Threads + Wait + Sync>(
-    rt: &R,
-    alloc: Global,
+    crew: &Crew<'_, G, R>,
     subject: Subject<'_>,
-    workers: u32,
-    budget: u64,
-    gate: &G,
 ) -> Result<Searched, Memory>
     requires subject { IsSubject subject }
-    requires workers { (1 ≤ workers) × (workers ≤ 16) }
     ensures { IfOk result (IsAnswerTo subject.entry) }
 {
-    let crew = Crew { rt, workers, gate };
-    let mut search = open_search(alloc, subject)?;
-    take_waves(&crew, alloc, subject, budget, &mut search)
+    let mut search = open_search(crew.alloc, subject)?;
+    take_waves(crew, subject, &mut search)
 }
 
 // Takes waves until there is an answer or the budget is spent.
 fn take_waves<G: Gate, R: Threads + Wait + Sync>(
     crew: &Crew<'_, G, R>,
-    alloc: Global,
     subject: Subject<'_>,
-    budget: u64,
     search: &mut Search,
 ) -> Result<Searched, Memory>
     requires { IsSubject subject }
     ensures { IfOk result (IsAnswerTo subject.entry) }
 {
+    let budget = crew.effort.budget();
     let mut left = budget;
     for _wave in 0..budget {
-        let wave = take_wave(crew, alloc, subject, Aim::Deadline, search, left)?;
+        let wave = take_wave(crew, subject, Aim::Deadline, search, left)?;
         left = left.saturating_sub(wave.taken);
-        if let Some(answer) = go_on(alloc, subject, search, wave)? {
+        if let Some(answer) = go_on(crew.alloc, subject, search, wave)? {
             return Ok(answer);
         }
         if left == 0 {

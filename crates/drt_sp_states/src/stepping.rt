@@ -122,6 +122,14 @@ fn next_release(gaps: &[Gaps], entry: Standing) -> u64 {
     }
 }
 
+// A state that is split, its number and the place, and the graph of the task there.
+#[derive(Clone, Copy)]
+struct Fork<'a> {
+    state: &'a State,
+    origin: Origin,
+    graph: &'a Graph,
+}
+
 /// The children of a state that is split at a place, in order.
 pub(crate) fn make_children(
     alloc: Global,
@@ -133,26 +141,23 @@ pub(crate) fn make_children(
     let Some(graph) = graph_at(subject, origin.place) else {
         return Ok(Vec::new(alloc));
     };
+    let fork = Fork {
+        state,
+        origin,
+        graph,
+    };
     match entry_at(&state.entries, origin.place) {
-        None => begin_walks(alloc, graph, state, origin),
-        Some(from) => {
-            let failed = next_release(gaps, from);
-            move_on(alloc, subject, graph, state, origin, from, failed)
-        }
+        None => begin_walks(alloc, fork),
+        Some(from) => move_on(alloc, subject, fork, from, next_release(gaps, from)),
     }
 }
 
 // The children that begin at each vertex.
-fn begin_walks(
-    alloc: Global,
-    graph: &Graph,
-    state: &State,
-    origin: Origin,
-) -> Result<Vec<State>, Memory> {
+fn begin_walks(alloc: Global, fork: Fork<'_>) -> Result<Vec<State>, Memory> {
     let mut children = Vec::new(alloc);
-    for vertex in 0..graph.vertex_count() {
+    for vertex in 0..fork.graph.vertex_count() {
         let entry = Standing {
-            place: origin.place,
+            place: fork.origin.place,
             vertex,
             offset: 0,
         };
@@ -161,7 +166,7 @@ fn begin_walks(
             work: 0,
             failed: 0,
         };
-        children.push(make_child(alloc, state, origin, turn)?)?;
+        children.push(make_child(alloc, fork.state, fork.origin, turn)?)?;
     }
     Ok(children)
 }
@@ -171,12 +176,11 @@ fn begin_walks(
 fn move_on(
     alloc: Global,
     subject: Subject<'_>,
-    graph: &Graph,
-    state: &State,
-    origin: Origin,
+    fork: Fork<'_>,
     from: Standing,
     failed: u64,
 ) -> Result<Vec<State>, Memory> {
+    let graph = fork.graph;
     let mut children = Vec::new(alloc);
     if from.vertex >= graph.vertex_count() {
         return Ok(children);
@@ -196,7 +200,7 @@ fn move_on(
                 work,
                 failed,
             };
-            children.push(make_child(alloc, state, origin, turn)?)?;
+            children.push(make_child(alloc, fork.state, fork.origin, turn)?)?;
         }
     }
     Ok(children)

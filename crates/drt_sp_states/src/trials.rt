@@ -2,9 +2,11 @@
 ghost use Rattle.std.specs.Prelude.{◌≤◌, List, [], ◌∷◌, ◌++◌, IfOk, IfSome, length};
 ghost use Rattle.drt_model.specs.Digraph.{Digraph};
 ghost use Rattle.drt_check_states.specs.Places.{AreTasks, graphs_at};
-ghost use Rattle.drt_sp_states.specs.Trials.{ArePooled, IsTrial};
+ghost use Rattle.drt_sp_states.specs.Subjects.{IsSubject, IsTrialOf};
+ghost use Rattle.drt_sp_states.specs.Trials.{ArePooled};
 ghost use Rattle.drt_sp_states.specs.Walks.{IsMade};
 
+use crate::places::Subject;
 use crate::walks::{Made, make_walk};
 use drt_graph::{Graph, Graphs};
 use drt_model::{Memory, Row};
@@ -30,22 +32,22 @@ pub(crate) enum Trial {
     Broken,
 }
 
-/// What the walks do to a job of this execution time.
+/// What the walks do to the job of a subject.
 pub(crate) fn try_walks(
     alloc: Global,
-    graphs: &Graphs,
-    order: &[u32],
-    wcet: u32,
-    deadline: u32,
+    subject: Subject<'_>,
     walks: &[Row<u32>],
 ) -> Result<Trial, Memory>
-    requires order { AreTasks graphs.now order.now }
-    requires few { length order.now ≤ 31 }
-    requires wcet { wcet ≤ 1000000 }
-    requires some { 1 ≤ deadline }
-    requires most { deadline ≤ 1000000 }
-    ensures { IfOk result (IsTrial (graphs_at graphs.now order.now) wcet deadline) }
+    requires { IsSubject subject }
+    ensures { IfOk result (IsTrialOf subject.entry) }
 {
+    let Subject {
+        graphs,
+        order,
+        wcet,
+        deadline,
+        ..
+    } = subject;
     let Some(pool) = pool_walks(alloc, graphs, order, deadline, walks)? else {
         return Ok(Trial::Broken);
     };

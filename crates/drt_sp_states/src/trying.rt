@@ -24,14 +24,7 @@ pub(crate) fn find_trial(
     ensures { IfOk result (IsTrialOf subject.entry) }
 {
     match walks_of(alloc, subject, table, number, time)? {
-        Some(walks) => try_walks(
-            alloc,
-            subject.graphs,
-            subject.order,
-            subject.wcet,
-            subject.deadline,
-            &walks,
-        ),
+        Some(walks) => try_walks(alloc, subject, &walks),
         None => Ok(Trial::Broken),
     }
 }

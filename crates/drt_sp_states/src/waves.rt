@@ -4,7 +4,8 @@ use crate::looking::{Aim, Found, Step, View};
 use crate::places::{Gaps, Subject, find_gaps, least_gap};
 use crate::tables::{End, State, Table, offer, open_table, place_state};
 use crate::trying::place_to_activate;
-use crate::workers::{Crew, look_at_all};
+use crate::workers::look_at_all;
+use drt_crew::Crew;
 use drt_model::Memory;
 use drt_pool::Gate;
 use drt_steps::Steps;
@@ -42,13 +43,12 @@ pub(crate) struct Wave {
 /// Takes a wave of at most so many states, and finds something of each. None where no state waits.
 pub(crate) fn take_wave<G: Gate, R: Threads + Wait + Sync>(
     crew: &Crew<'_, G, R>,
-    alloc: Global,
     subject: Subject<'_>,
     aim: Aim,
     search: &mut Search,
     most: u64,
 ) -> Result<Wave, Memory> {
-    let (taken, numbers) = take_states(alloc, search, most)?;
+    let (taken, numbers) = take_states(crew.alloc, search, most)?;
     let view = View {
         subject,
         gaps: search.gaps.as_slice(),
@@ -56,7 +56,7 @@ pub(crate) fn take_wave<G: Gate, R: Threads + Wait + Sync>(
         states: search.table.states.as_slice(),
         aim,
     };
-    let found = look_at_all(crew, alloc, view, &numbers)?;
+    let found = look_at_all(crew, view, &numbers)?;
     Ok(Wave { taken, found })
 }
 

@@ -2,6 +2,7 @@
 ghost use Rattle.std.specs.Prelude.{◌≡◌, ◌<◌, ◌≤◌, IfOk, length};
 
 use crate::looking::{Found, View, look_at};
+use drt_crew::Crew;
 use drt_model::Memory;
 use drt_pool::{Gate, Turn, Work, run_all};
 use std::alloc::Global;
@@ -10,18 +11,8 @@ use std::thread::Threads;
 
 // How many states there are for each worker at least.
 const LEAST_PART: usize = 64;
-// The most workers.
-const MOST_WORKERS: usize = 16;
 // How many states the caller looks at alone before other workers begin.
 const ALONE: u64 = 16;
-
-/// Who finds something of the states of a wave.
-#[derive(Drop)]
-pub(crate) struct Crew<'a, G: Gate, R: Threads + Wait + Sync> {
-    pub rt: &'a R,
-    pub workers: u32,
-    pub gate: &'a G,
-}
 
 // What the workers share: a wave, and what they read of its states.
 #[derive(Drop)]
@@ -93,18 +84,16 @@ impl<G: Gate> Gate for Soon<'_, G> {
 /// What is found of the states of a wave, in order.
 pub(crate) fn look_at_all<G: Gate, R: Threads + Wait + Sync>(
     crew: &Crew<'_, G, R>,
-    alloc: Global,
     view: View<'_>,
     numbers: &[u32],
 ) -> Result<Vec<Found>, Memory> {
     let looking = Looking {
-        alloc,
+        alloc: crew.alloc,
         view,
         numbers,
     };
-    let count = (numbers.len() / LEAST_PART)
-        .min(crew.workers as usize)
-        .min(MOST_WORKERS);
+    let workers = crew.effort.workers();
+    let count = (numbers.len() / LEAST_PART).min(workers as usize);
     if count < 2 {
         look_alone(looking)
     } else {

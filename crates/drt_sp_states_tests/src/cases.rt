@@ -5,6 +5,8 @@ ghost use Rattle.drt_check_states.specs.Curves.{HasRisingCurves};
 ghost use Rattle.drt_check_states.specs.Places.{AreTasks};
 
 use drt_check_states::find_crests;
+use drt_crew::Crew;
+use drt_effort::{Effort, MOST_BUDGET, MOST_WORKERS};
 use drt_fixtures::{Shape, make_set};
 use drt_graph::{Graph, Graphs, check};
 use drt_model::{Memory, Row};
@@ -109,9 +111,7 @@ pub(crate) fn find_alike<R: Threads + Wait + Sync>(
     alloc: Global,
     case: Case<'_>,
     workers: u32,
-) -> Result<bool, Fail>
-    requires { (1 ≤ workers) × (workers ≤ 16) }
-{
+) -> Result<bool, Fail> {
     let alone = find(rt, alloc, case, 1)?;
     let together = find(rt, alloc, case, workers)?;
     Ok(
@@ -126,53 +126,76 @@ fn find<R: Threads + Wait + Sync>(
     alloc: Global,
     case: Case<'_>,
     workers: u32,
-) -> Result<Findings, Fail>
-    requires { (1 ≤ workers) × (workers ≤ 16) }
-{
+) -> Result<Findings, Fail> {
     let set = make_set(alloc, case.shapes)?.ok_or("within the limits")?;
     let graphs = check(alloc, &set)?;
-    match search_last(rt, alloc, &graphs, case.bound, workers, case.budget)? {
+    let effort = make_effort(workers, case.budget).ok_or("in range")?;
+    let crew = Crew {
+        rt,
+        alloc,
+        effort,
+        gate: &EagerGate,
+    };
+    match search_last(&crew, &graphs, case.bound)? {
         Some(found) => Ok(found),
         None => Err("a task without tail".into()),
     }
 }
 
+// So many workers and steps, where both are in range.
+fn make_effort(workers: u32, budget: u64) -> Option<Effort> {
+    if workers < 1 || workers > MOST_WORKERS || budget < 1 || budget > MOST_BUDGET {
+        return None;
+    }
+    Some(Effort::new(workers, budget))
+}
+
 // What the searches of vertex 0 of the last task find. None where there is none, or a task before it has no tail up to the bound.
 fn search_last<R: Threads + Wait + Sync>(
-    rt: &R,
-    alloc: Global,
+    crew: &Crew<'_, EagerGate, R>,
     graphs: &Graphs,
     bound: u64,
-    workers: u32,
-    budget: u64,
-) -> Result<Option<Findings>, Memory>
-    requires { (1 ≤ workers) × (workers ≤ 16) }
-{
+) -> Result<Option<Findings>, Memory> {
     let count = graphs.count();
     if count < 1 || count > 4 || graphs.graph(count - 1).vertex_count() < 1 {
         return Ok(None);
     }
     let vertex = graphs.graph(count - 1).vertex(0);
-    let (wcet, deadline) = (vertex.wcet, vertex.deadline);
+    let job = Job {
+        wcet: vertex.wcet,
+        deadline: vertex.deadline,
+        bound,
+    };
     let order = &HIGHER[..count as usize - 1];
-    if !are_within(wcet, deadline, bound) || !are_tasks(graphs, order) {
+    if !is_within(job) || !are_tasks(graphs, order) {
         return Ok(None);
     }
-    search_vertex(
-        rt, alloc, graphs, order, wcet, deadline, bound, workers, budget,
-    )
+    search_vertex(crew, graphs, order, job)
+}
+
+// The job of a vertex, and the greatest time that the tails of the tasks above it reach to.
+#[derive(Clone, Copy)]
+struct Job {
+    wcet: u32,
+    deadline: u32,
+    bound: u64,
 }
 
 // The numbers of the first three tasks.
 const HIGHER: [u32; 3] = [0, 1, 2];
 
-fn are_within(wcet: u32, deadline: u32, bound: u64) -> bool
-    ensures wcet { IsTrue result → wcet ≤ 1000000 }
-    ensures some { IsTrue result → 1 ≤ deadline }
-    ensures deadline { IsTrue result → deadline ≤ 1000000 }
-    ensures from { IsTrue result → 1 ≤ bound }
-    ensures to { IsTrue result → bound ≤ 1000000 }
+fn is_within(job: Job) -> bool
+    ensures wcet { IsTrue result → job.wcet ≤ 1000000 }
+    ensures some { IsTrue result → 1 ≤ job.deadline }
+    ensures deadline { IsTrue result → job.deadline ≤ 1000000 }
+    ensures from { IsTrue result → 1 ≤ job.bound }
+    ensures to { IsTrue result → job.bound ≤ 1000000 }
 {
+    let Job {
+        wcet,
+        deadline,
+        bound,
+    } = job;
     wcet <= 1000000 && 1 <= deadline && deadline <= 1000000 && 1 <= bound && bound <= 1000000
 }
 
@@ -189,39 +212,33 @@ fn are_tasks(graphs: &Graphs, order: &[u32]) -> bool
 }
 
 fn search_vertex<R: Threads + Wait + Sync>(
-    rt: &R,
-    alloc: Global,
+    crew: &Crew<'_, EagerGate, R>,
     graphs: &Graphs,
     order: &[u32],
-    wcet: u32,
-    deadline: u32,
-    bound: u64,
-    workers: u32,
-    budget: u64,
+    job: Job,
 ) -> Result<Option<Findings>, Memory>
     requires order { AreTasks graphs.now order.now }
     requires few { length order.now ≤ 31 }
-    requires wcet { wcet ≤ 1000000 }
-    requires some { 1 ≤ deadline }
-    requires most { deadline ≤ 1000000 }
-    requires from { 1 ≤ bound }
-    requires to { bound ≤ 1000000 }
-    requires workers { (1 ≤ workers) × (workers ≤ 16) }
+    requires wcet { job.wcet ≤ 1000000 }
+    requires some { 1 ≤ job.deadline }
+    requires most { job.deadline ≤ 1000000 }
+    requires from { 1 ≤ job.bound }
+    requires to { job.bound ≤ 1000000 }
 {
-    match find_tails(alloc, graphs, order, bound)? {
+    match find_tails(crew.alloc, graphs, order, job.bound)? {
         Some(tails) => {
-            let crests = find_crests(alloc, &tails)?;
+            let crests = find_crests(crew.alloc, &tails)?;
             let subject = Subject {
                 graphs,
                 order,
                 tails: &tails,
                 crests: crests.as_slice(),
-                wcet,
-                deadline,
+                wcet: job.wcet,
+                deadline: job.deadline,
             };
             Ok(Some(Findings {
-                searched: search_states(rt, alloc, subject, workers, budget, &EagerGate)?,
-                responded: search_response(rt, alloc, subject, workers, budget, &EagerGate)?,
+                searched: search_states(crew, subject)?,
+                responded: search_response(crew, subject)?,
             }))
         }
         None => Ok(None),

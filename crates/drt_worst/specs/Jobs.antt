@@ -1,6 +1,7 @@
 -- What the passes work on, and which passes are theirs.
 use Rattle.std.specs.Prelude.{◌≡◌, ℕ, ◌≤◌, ◌⊎◌, Bool, false, true, List, [], slice_get, Some, IsSome}
-use Rattle.drt_worst.specs.Splitting.{Search, search_for}
+use Rattle.drt_worst.specs.Splitting.{Search}
+use Rattle.drt_worst.specs.Subjects.{search_over}
 use Rattle.drt_worst.specs.Passing.{search_of, IsSeatOf, HasRun, IsReady}
 use Rattle.drt_worst.specs.declared.pass.Pass.{Pass}
 use Rattle.drt_word.specs.Closing.{WordOf}
@@ -9,7 +10,7 @@ use Rattle.drt_worst.specs.declared.turn.Job.{Job}
 
 -- The search that the passes make.
 abbrev pub search_of_job : Job → Search
-search_of_job job = search_for job.forest.now job.wcet job.deadline
+search_of_job job = search_over job.subject
 
 -- The roots that they begin with.
 abbrev pub roots_of_job : Job → List ℕ

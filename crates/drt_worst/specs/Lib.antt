@@ -6,3 +6,4 @@ pub mod Plans
 pub mod Passing
 pub mod Jobs
 pub mod Gathering
+pub mod Subjects

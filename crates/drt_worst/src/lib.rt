@@ -10,6 +10,7 @@ mod answer;
 mod pass;
 mod plan;
 mod search;
+mod subject;
 mod turn;
 
 pub use answer::Worst;

@@ -4,11 +4,12 @@ ghost use Rattle.std.specs.Result.{OnOk};
 ghost use Rattle.drt_worst.specs.Splitting.{IsReached};
 ghost use Rattle.drt_worst.specs.Runs.{known, left_after, reaches};
 ghost use Rattle.drt_word.specs.Rising.{with_raised};
-ghost use Rattle.drt_worst.specs.Splitting.{search_for};
+ghost use Rattle.drt_worst.specs.Subjects.{search_over};
 ghost use Rattle.drt_worst.specs.Plans.{choice_of};
 ghost use Rattle.drt_worst.specs.Passing.{search_of, announced, best_after, leaves_after, IsSeatOf, HasRun, HasRunWith, IsReady};
 
 use crate::plan::{Plan, make_plan};
+use crate::subject::Subject;
 use atomic_table::Seat;
 use drt_model::Row;
 use drt_tree::Forest;
@@ -150,24 +151,22 @@ fn push_parts(stack: &mut Vec<Row<u32>>, plan: Plan) -> Result<(), Memory>
 fn follow(
     alloc: Global,
     word: &Word<Question>,
-    forest: &Forest,
-    wcet: u32,
-    deadline: u32,
+    subject: Subject<'_>,
     pass: &mut Pass,
     combination: Row<u32>,
 ) -> Result<(), Memory>
-    requires about { search_of word.now.about ≡ search_for forest.now wcet deadline }
-    requires ready { IsReady (search_for forest.now wcet deadline) word.now.about.roots.value }
+    requires about { search_of word.now.about ≡ search_over subject }
+    requires ready { IsReady (search_over subject) word.now.about.roots.value }
     requires seat { IsSeatOf word.now.name pass.old }
     requires room { pass.old.taken.count + 1 < 2 ^ 64 }
-    requires runs { HasRunWith (search_for forest.now wcet deadline) word.now.about.roots.value (combination ∷ reverse pass.old.stack.items) pass.old }
+    requires runs { HasRunWith (search_over subject) word.now.about.roots.value (combination ∷ reverse pass.old.stack.items) pass.old }
     ensures seat { IsSeatOf word.now.name pass.new × (pass.new.start ≡ pass.old.start) }
-    ensures runs { OnOk result (HasRun (search_for forest.now wcet deadline) word.now.about.roots.value pass.new) }
+    ensures runs { OnOk result (HasRun (search_over subject.entry) word.now.about.roots.value pass.new) }
     ensures count { OnOk result (pass.new.taken.count ≡ pass.old.taken.count + 1) }
     ensures told { IsSome pass.old.taken.told → IsSome pass.new.taken.told }
 {
     let seen = word.glance(&mut pass.seat);
-    let plan = make_plan(alloc, forest, wcet, deadline, combination.as_slice(), seen)?;
+    let plan = make_plan(alloc, subject, combination.as_slice(), seen)?;
     let known = known_by(&plan, seen);
     announce(word, &mut pass.seat, &plan);
     keep_best(
@@ -187,24 +186,22 @@ fn follow(
 pub(crate) fn take(
     alloc: Global,
     word: &Word<Question>,
-    forest: &Forest,
-    wcet: u32,
-    deadline: u32,
+    subject: Subject<'_>,
     pass: &mut Pass,
 ) -> Result<(), Memory>
-    requires about { search_of word.now.about ≡ search_for forest.now wcet deadline }
-    requires ready { IsReady (search_for forest.now wcet deadline) word.now.about.roots.value }
+    requires about { search_of word.now.about ≡ search_over subject }
+    requires ready { IsReady (search_over subject) word.now.about.roots.value }
     requires seat { IsSeatOf word.now.name pass.old }
     requires room { pass.old.taken.count + 1 < 2 ^ 64 }
-    requires runs { HasRun (search_for forest.now wcet deadline) word.now.about.roots.value pass.old }
+    requires runs { HasRun (search_over subject) word.now.about.roots.value pass.old }
     requires some { pass.old.stack.items ≢ [] }
     ensures seat { IsSeatOf word.now.name pass.new × (pass.new.start ≡ pass.old.start) }
-    ensures runs { OnOk result (HasRun (search_for forest.now wcet deadline) word.now.about.roots.value pass.new) }
+    ensures runs { OnOk result (HasRun (search_over subject.entry) word.now.about.roots.value pass.new) }
     ensures count { OnOk result (pass.new.taken.count ≡ pass.old.taken.count + 1) }
     ensures told { IsSome pass.old.taken.told → IsSome pass.new.taken.told }
 {
     match pass.stack.pop() {
-        Some(combination) => follow(alloc, word, forest, wcet, deadline, pass, combination),
+        Some(combination) => follow(alloc, word, subject, pass, combination),
         None => unreachable!(),
     }
 }

@@ -4,10 +4,12 @@ ghost use Rattle.std.specs.Prelude.{◌≡◌, ℕ, ◌<◌, ◌≤◌, length, 
 ghost use Rattle.drt_steps.specs.Time.{IsLeastTimeOf};
 ghost use Rattle.drt_refine.specs.Below.{AreNodes, IsConcrete};
 ghost use Rattle.drt_refine.specs.Eager.{IsPlace};
-ghost use Rattle.drt_worst.specs.Splitting.{IsSplit, PassesFor, search_for};
+ghost use Rattle.drt_worst.specs.Splitting.{IsSplit, PassesFor};
+ghost use Rattle.drt_worst.specs.Subjects.{search_over};
 ghost use Rattle.drt_worst.specs.Runs.{IsFit};
 ghost use Rattle.drt_worst.specs.Plans.{choice_of, CanTake};
 
+use crate::subject::Subject;
 use drt_model::Row;
 use drt_refine::choose_place;
 use drt_steps::least_time;
@@ -57,45 +59,46 @@ pub(crate) fn halves(
 /// What to do with a combination, where the value `seen` was reached.
 pub(crate) fn make_plan(
     alloc: Global,
-    forest: &Forest,
-    wcet: u32,
-    deadline: u32,
+    subject: Subject<'_>,
     nodes: &[u32],
     seen: u64,
 ) -> Result<Plan, Memory>
-    requires wcet { wcet ≤ 1000000 }
-    requires take { CanTake forest.now deadline nodes.now }
-    requires some { IsConcrete forest.now nodes.now → (t : ℕ) × PassesFor (search_for forest.now wcet deadline) nodes.now t }
-    ensures { IfOk result (λ p. IsFit (search_for forest.now wcet deadline) nodes.now seen (choice_of p)) }
+    requires wcet { subject.wcet ≤ 1000000 }
+    requires take { CanTake subject.forest.now subject.deadline nodes.now }
+    requires some { IsConcrete subject.forest.now nodes.now → (t : ℕ) × PassesFor (search_over subject) nodes.now t }
+    ensures { IfOk result (λ p. IsFit (search_over subject.entry) nodes.now seen (choice_of p)) }
 {
-    let least = least_time(wcet as u64, deadline as u64, forest.all(), nodes);
+    let least = least_time(
+        subject.wcet as u64,
+        subject.deadline as u64,
+        subject.forest.all(),
+        nodes,
+    );
     if let Some(time) = least {
         if time <= seen {
             return Ok(Plan::Skips);
         }
     }
-    split_or_reach(alloc, forest, wcet, deadline, nodes, seen, least)
+    split_or_reach(alloc, subject, nodes, seen, least)
 }
 
 // The same where the least time isn't at most `seen`.
 fn split_or_reach(
     alloc: Global,
-    forest: &Forest,
-    wcet: u32,
-    deadline: u32,
+    subject: Subject<'_>,
     nodes: &[u32],
     seen: u64,
     least: Option<u64>,
 ) -> Result<Plan, Memory>
-    requires take { CanTake forest.now deadline nodes.now }
-    requires some { IsConcrete forest.now nodes.now → (t : ℕ) × PassesFor (search_for forest.now wcet deadline) nodes.now t }
-    requires least { IsLeastTimeOf wcet deadline forest.now.pool nodes.now least }
+    requires take { CanTake subject.forest.now subject.deadline nodes.now }
+    requires some { IsConcrete subject.forest.now nodes.now → (t : ℕ) × PassesFor (search_over subject) nodes.now t }
+    requires least { IsLeastTimeOf subject.wcet subject.deadline subject.forest.now.pool nodes.now least }
     requires above { IfSome least (λ t. seen < t) }
-    ensures { IfOk result (λ p. IsFit (search_for forest.now wcet deadline) nodes.now seen (choice_of p)) }
+    ensures { IfOk result (λ p. IsFit (search_over subject.entry) nodes.now seen (choice_of p)) }
 {
-    match choose_place(forest, nodes) {
+    match choose_place(subject.forest, nodes) {
         Some(place) => {
-            let (left, right) = halves(alloc, forest, nodes, place)?;
+            let (left, right) = halves(alloc, subject.forest, nodes, place)?;
             Ok(Plan::Splits(left, right))
         }
         None => match least {

@@ -7,6 +7,7 @@ ghost use Rattle.drt_worst.specs.Splitting.{AreParts, IsPart};
 ghost use Rattle.drt_worst.specs.Runs.{AreDealt};
 ghost use Rattle.drt_word.specs.Rising.{split_left, joined, fresh};
 ghost use Rattle.drt_worst.specs.Splitting.{search_for};
+ghost use Rattle.drt_worst.specs.Subjects.{search_over};
 ghost use Rattle.drt_worst.specs.Plans.{CanTake};
 ghost use Rattle.drt_worst.specs.Passing.{search_of, IsSeatOf, HasRun, IsReady, IsBest, IsNotedIn};
 ghost use Rattle.drt_pool.specs.Turns.{EachPlace};
@@ -18,8 +19,10 @@ ghost use Rattle.drt_steps.specs.Time.{AreChosen, Passes};
 use crate::answer::Worst;
 use crate::pass::{Pass, Question, Taken};
 use crate::plan::halves;
+use crate::subject::Subject;
 use crate::turn::Job;
 use atomic_table::Seat;
+use drt_crew::Crew;
 use drt_model::Row;
 use drt_pool::{Gate, run_all};
 use drt_refine::choose_place;
@@ -281,125 +284,101 @@ fn finish(
 
 // Turns the passes until all have stopped.
 fn run_passes<G: Gate, R: Threads + Wait + Sync>(
-    rt: &R,
-    alloc: Global,
+    crew: &Crew<'_, G, R>,
     word: &Word<Question>,
-    forest: &Forest,
-    wcet: u32,
-    deadline: u32,
-    budget: u64,
+    subject: Subject<'_>,
     dealt: &[Row<u32>],
     told: bool,
     passes: &mut [Pass],
-    gate: &G,
 )
-    requires about { search_of word.now.about ≡ search_for forest.now wcet deadline }
-    requires ready { IsReady (search_for forest.now wcet deadline) word.now.about.roots.value }
+    requires about { search_of word.now.about ≡ search_over subject }
+    requires ready { IsReady (search_over subject) word.now.about.roots.value }
     requires few { length passes.old ≤ 16 }
     requires passes { EachPlace (IsOpened word.now dealt.now told) passes.old }
     ensures count { length passes.new ≡ length passes.old }
-    ensures halted { EachPlace (IsHaltedOf word.now budget) passes.new }
+    ensures halted { EachPlace (IsHaltedOf word.now crew.now.effort.budget) passes.new }
     ensures told { EachPlace (λ place p. IsToldAs told p) passes.new }
     ensures dealt { EachPlace (λ place p. slice_get dealt.now place ≡ Some p.start) passes.new }
 {
     let job = Job {
-        alloc,
+        alloc: crew.alloc,
         word,
-        forest,
-        wcet,
-        deadline,
-        budget,
+        subject,
+        budget: crew.effort.budget(),
         dealt,
         told: Snapshot::of(&told),
     };
-    run_all(rt, &job, passes, gate);
+    run_all(crew.rt, &job, passes, crew.gate);
 }
 
 // The search, for roots whose least time can be looked for: nothing where a pass spent the budget and it isn't told what they take.
 fn search_tree<G: Gate, R: Threads + Wait + Sync>(
-    rt: &R,
-    alloc: Global,
-    forest: &Forest,
+    crew: &Crew<'_, G, R>,
+    subject: Subject<'_>,
     roots: &[u32],
-    wcet: u32,
-    deadline: u32,
-    workers: u32,
-    budget: u64,
     told: bool,
-    gate: &G,
 ) -> Result<Option<Worst>, Memory>
-    requires ready { IsReady (search_for forest.now wcet deadline) roots.now }
-    requires workers { (1 ≤ workers) × (workers ≤ 16) }
-    ensures worst { IfOk result (λ o. IfSome o (λ w. IsWorst (search_for forest.now wcet deadline) roots.now budget w)) }
+    requires ready { IsReady (search_over subject) roots.now }
+    ensures worst { IfOk result (λ o. IfSome o (λ w. IsWorst (search_over subject.entry) roots.now crew.now.effort.budget w)) }
     ensures told { told ≡ true → IfOk result (λ o. IsSome o) }
 {
+    let alloc = crew.alloc;
     let row = Row::from_vec(Vec::from_slice(alloc, roots)?);
     let question = Question {
-        forest: Snapshot::of(forest),
+        forest: Snapshot::of(subject.forest),
         roots: Snapshot::of(&row),
-        wcet,
-        deadline,
+        wcet: subject.wcet,
+        deadline: subject.deadline,
     };
     let (word, mut owner) = Word::new(alloc, Snapshot::of(&question))?;
-    let dealt = deal(alloc, forest, roots, workers)?;
+    let dealt = deal(alloc, subject.forest, roots, crew.effort.workers())?;
     let mut passes = open_all(alloc, &word, &mut owner, dealt.as_slice(), told)?;
     run_passes(
-        rt,
-        alloc,
+        crew,
         &word,
-        forest,
-        wcet,
-        deadline,
-        budget,
+        subject,
         dealt.as_slice(),
         told,
         passes.as_mut_slice(),
-        gate,
     );
-    finish(alloc, word, owner, passes, budget)
+    finish(alloc, word, owner, passes, crew.effort.budget())
 }
 
 /// The greatest of the least times that pass for a vertex of this wcet and deadline, in ticks, over all tuples of leaves below the
 /// roots, with a tuple that has it; or what one worker took that began at the roots and spent the budget.
 ///
-/// The roots are first split until there is a combination for each worker. Then each pass takes its combinations depth first. All
+/// The roots are first split until there is a combination for each worker of the crew. Then each pass takes its combinations depth first. All
 /// passes share a word that holds the greatest value reached so far: a combination whose least time isn't above it is skipped
 /// (Stigge and Yi, RTSS 2013).
 ///
 /// What a pass took is only counted. Where a pass spends the budget, one worker searches once more from the roots and keeps what it
 /// takes, to be told where it spends the budget too. Where it doesn't, what it reached stands.
 pub fn worst<G: Gate, R: Threads + Wait + Sync>(
-    rt: &R,
-    alloc: Global,
+    crew: &Crew<'_, G, R>,
     forest: &Forest,
     roots: &[u32],
     wcet: u32,
     deadline: u32,
-    workers: u32,
-    budget: u64,
-    gate: &G,
 ) -> Result<Worst, Memory>
     requires few { length roots.now ≤ 31 }
     requires roots { AreChosen deadline forest.now.pool roots.now }
     requires wcet { (1 ≤ wcet) × (wcet ≤ 1000000) }
     requires deadline { (1 ≤ deadline) × (deadline ≤ 1000000) }
-    requires workers { (1 ≤ workers) × (workers ≤ 16) }
-    requires budget { (1 ≤ budget) × (budget ≤ 1000000) }
     requires passes { (tuple : List ℕ) → AreBelow forest.now tuple roots.now → (t : ℕ) × Passes wcet deadline forest.now.pool tuple t }
-    ensures { IfOk result (λ w. IsWorst (search_for forest.now wcet deadline) roots.now budget w) }
+    ensures { IfOk result (λ w. IsWorst (search_for forest.now wcet deadline) roots.now crew.now.effort.budget w) }
 {
     forest.show_sound();
-    let found = search_tree(
-        rt, alloc, forest, roots, wcet, deadline, workers, budget, false, gate,
-    )?;
-    if let Some(found) = found {
+    let subject = Subject {
+        forest,
+        wcet,
+        deadline,
+    };
+    if let Some(found) = search_tree(crew, subject, roots, false)? {
         return Ok(found);
     }
     // The other search is over, and its memory is free again.
-    let again = search_tree(
-        rt, alloc, forest, roots, wcet, deadline, 1, budget, true, gate,
-    )?;
-    match again {
+    let one = crew.with(crew.effort.alone());
+    match search_tree(&one, subject, roots, true)? {
         Some(found) => Ok(found),
         None => unreachable!(),
     }

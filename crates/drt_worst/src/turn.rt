@@ -4,9 +4,9 @@ ghost use Rattle.drt_pool.specs.Turns.{IsStop};
 ghost use Rattle.drt_worst.specs.Jobs.{IsPassOf, IsStopped};
 
 use crate::pass::{Pass, Question, take};
+use crate::subject::Subject;
 use drt_model::Row;
 use drt_pool::{Turn, Work};
-use drt_tree::Forest;
 use drt_word::Word;
 use std::alloc::Global;
 use std::snapshot::Snapshot;
@@ -17,9 +17,7 @@ use std::sync::Wait;
 pub(crate) struct Job<'a, 'b> {
     pub(crate) alloc: Global,
     pub(crate) word: &'a Word<Question>,
-    pub(crate) forest: &'b Forest,
-    pub(crate) wcet: u32,
-    pub(crate) deadline: u32,
+    pub(crate) subject: Subject<'b>,
     pub(crate) budget: u64,
     /// What was dealt to the pass at each place.
     pub(crate) dealt: &'b [Row<u32>],
@@ -37,14 +35,7 @@ pub(crate) fn turn_of(job: &Job<'_, '_>, pass: &mut Pass) -> Turn
     if pass.failed || pass.stack.is_empty() || pass.taken.count >= job.budget {
         return Turn::Stop;
     }
-    match take(
-        job.alloc,
-        job.word,
-        job.forest,
-        job.wcet,
-        job.deadline,
-        pass,
-    ) {
+    match take(job.alloc, job.word, job.subject, pass) {
         Ok(()) => {}
         Err(_) => {
             pass.failed = true;

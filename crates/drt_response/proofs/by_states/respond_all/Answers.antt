@@ -11,11 +11,11 @@ tasks-init g c = (subst (λ (rs : List Response). AreResponsesTo c.args.given.se
 
 pub respond_task-requires-clause-task : goal.respond_task-requires-clause-task
 respond_task-requires-clause-task g c =
-    omega (arith, c.tasks-test.true, c.count-task-end.ensures.count, ap length c.requires.given.graphs, length-map c.args.given.set.now.tasks digraph_of)
+    omega (arith, c.tasks-test.true, c.count-task-end.ensures.count, ap length c.graphs-graphs.ensures.graphs, length-map c.args.given.set.now.tasks digraph_of)
 
 pub returns : goal.returns
 returns g c =
     let all : c.tasks.task ≡ length c.args.given.set.now.tasks
-    = omega (arith, c.tasks-test.false, c.tasks.auto.task-end, c.count-task-end.ensures.count, ap length c.requires.given.graphs, length-map c.args.given.set.now.tasks digraph_of) in
+    = omega (arith, c.tasks-test.false, c.tasks.auto.task-end, c.count-task-end.ensures.count, ap length c.graphs-graphs.ensures.graphs, length-map c.args.given.set.now.tasks digraph_of) in
     subst (λ (rs : List Response). AreResponses c.args.given.set.now rs) (sym c.from_vec.ensures)
     (all_responses c.args.given.set.now c.tasks.task c.tasks.responses.items c.requires.given.schedulable c.tasks.invariant.0 all)

@@ -31,6 +31,6 @@ returns c =
       refl,
       refl,
       response_is set.version set.tasks limits c.args.given.tails.now c.requires.given.tails c.args.at.task c.args.at.vertex c.requires.task c.requires.vertex c.args.ticks c.args.walks.now c.requires.worst
-          c.states_pass.ensures c.response_decides.ensures c.releases_reach.ensures c.requires.given.constrained c.requires.given.schedulable
+          c.states_pass.ensures c.response_decides.ensures c.releases_reach.ensures c.tasks-tasks.ensures.constrained c.requires.given.schedulable
           set c.args.ticks c.in_ok-releases.releases refl refl c.in_ok-releases.ensures,
     )

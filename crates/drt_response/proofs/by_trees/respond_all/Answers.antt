@@ -10,11 +10,11 @@ pub tasks-init : goal.tasks-init
 tasks-init g c = subst (λ (rs : List Response). AreResponsesTo c.args.set.now 0 0 rs) (sym c.new-responses.ensures.items) (no_responses c.args.set.now)
 
 pub respond_task-requires-clause-task : goal.respond_task-requires-clause-task
-respond_task-requires-clause-task g c = omega (arith, c.tasks-test.true, c.count-task-end.ensures.count, ap length c.requires.graphs, length-map c.args.set.now.tasks digraph_of)
+respond_task-requires-clause-task g c = omega (arith, c.tasks-test.true, c.count-task-end.ensures.count, ap length c.graphs-graphs.ensures.graphs, length-map c.args.set.now.tasks digraph_of)
 
 pub returns : goal.returns
 returns g c =
     let all : c.tasks.task ≡ length c.args.set.now.tasks
-    = omega (arith, c.tasks-test.false, c.tasks.auto.task-end, c.count-task-end.ensures.count, ap length c.requires.graphs, length-map c.args.set.now.tasks digraph_of) in
+    = omega (arith, c.tasks-test.false, c.tasks.auto.task-end, c.count-task-end.ensures.count, ap length c.graphs-graphs.ensures.graphs, length-map c.args.set.now.tasks digraph_of) in
     subst (λ (rs : List Response). AreResponses c.args.set.now rs) (sym c.from_vec.ensures)
     (all_responses c.args.set.now c.tasks.task c.tasks.responses.items c.requires.trees.schedulable c.tasks.invariant all)

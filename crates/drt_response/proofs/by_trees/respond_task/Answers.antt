@@ -9,13 +9,13 @@ use Rattle.drt_response.proofs.Vertices.{responses_more, responses_next}
 use Rattle.drt_response.proofs.by_trees.respond_task.Goals as goal
 
 pub graph-graph-requires : goal.graph-graph-requires
-graph-graph-requires g c = omega (arith, c.requires.task, ap length c.requires.graphs, length-map c.args.set.now.tasks digraph_of)
+graph-graph-requires g c = omega (arith, c.requires.task, ap length c.graphs-graphs.ensures.graphs, length-map c.args.set.now.tasks digraph_of)
 
 pub respond_vertex-requires-clause-vertex : goal.respond_vertex-requires-clause-vertex
 respond_vertex-requires-clause-vertex g c =
     let tasks : List Task = c.args.set.now.tasks in
     let k = c.args.task in
-    let graph : c.graph-graph.result.now ≡ graph_at tasks k = c.graph-graph.ensures.graph ∙ (ap (λ gs. graph_of gs k) c.requires.graphs ∙ graph_same tasks k c.requires.task) in
+    let graph : c.graph-graph.result.now ≡ graph_at tasks k = c.graph-graph.ensures.graph ∙ (ap (λ gs. graph_of gs k) c.graphs-graphs.ensures.graphs ∙ graph_same tasks k c.requires.task) in
     omega (arith, c.vertices-test.true, c.vertex_count-vertex-end.ensures.count, ap (λ x. vertex_count x) graph)
 
 pub returns-in-Spent : goal.returns-in-Spent
@@ -30,7 +30,7 @@ pub returns : goal.returns
 returns g c =
     let tasks : List Task = c.args.set.now.tasks in
     let k = c.args.task in
-    let graph : c.graph-graph.result.now ≡ graph_at tasks k = c.graph-graph.ensures.graph ∙ (ap (λ gs. graph_of gs k) c.requires.graphs ∙ graph_same tasks k c.requires.task) in
+    let graph : c.graph-graph.result.now ≡ graph_at tasks k = c.graph-graph.ensures.graph ∙ (ap (λ gs. graph_of gs k) c.graphs-graphs.ensures.graphs ∙ graph_same tasks k c.requires.task) in
     let all : c.vertices.vertex ≡ vertex_count (graph_at tasks k)
     = omega (arith, c.vertices-test.false, c.vertices.auto.vertex-end, c.vertex_count-vertex-end.ensures.count, ap (λ x. vertex_count x) graph) in
     responses_next c.args.set.now k c.vertices.vertex c.vertices.responses.items c.vertices.invariant all

@@ -31,7 +31,7 @@ cut_walk-requires c =
     let place : c.higher_count.result ≡ higher_count tasks (task_at tasks k).priority
     = c.higher_count.ensures ∙ (ap (λ (x : Task). higher_count c.tasks-tasks.result.now x.priority) a ∙ ap (λ (ts : List Task). higher_count ts (task_at tasks k).priority) e) in
     let walk : c.walk_of-walk.result.now ≡ placed_walk tasks walks k = c.walk_of-walk.ensures ∙ ap (λ (i : ℕ). walk_at walks i) place in
-    let graph : c.graph.result.now ≡ graph_at tasks k = c.graph.ensures.graph ∙ (ap (λ gs. graph_of gs k) c.requires.graphs ∙ graph_same tasks k c.requires.here) in
+    let graph : c.graph.result.now ≡ graph_at tasks k = c.graph.ensures.graph ∙ (ap (λ gs. graph_of gs k) c.graphs-graphs.ensures.graphs ∙ graph_same tasks k c.requires.here) in
     record { walk = rw (graph, walk) (c.requires.walks k c.requires.here) }
 
 pub returns-then-priority-tasks : goal.returns-then-priority-tasks
@@ -50,7 +50,7 @@ returns-then-priority-tasks c =
     let place : c.higher_count.result ≡ higher_count tasks (task_at tasks k).priority
     = c.higher_count.ensures ∙ (ap (λ (x : Task). higher_count c.tasks-tasks.result.now x.priority) a ∙ ap (λ (ts : List Task). higher_count ts (task_at tasks k).priority) e) in
     let walk : c.walk_of-walk.result.now ≡ placed_walk tasks walks k = c.walk_of-walk.ensures ∙ ap (λ (i : ℕ). walk_at walks i) place in
-    let graph : c.graph.result.now ≡ graph_at tasks k = c.graph.ensures.graph ∙ (ap (λ gs. graph_of gs k) c.requires.graphs ∙ graph_same tasks k c.requires.here) in
+    let graph : c.graph.result.now ≡ graph_at tasks k = c.graph.ensures.graph ∙ (ap (λ gs. graph_of gs k) c.graphs-graphs.ensures.graphs ∙ graph_same tasks k c.requires.here) in
     let less : (task_at tasks k).priority < (task_at tasks j).priority = omega (arith, c.if-priority-tasks.true, ap (λ (x : Task). x.priority) a, ap (λ (x : Task). x.priority) b) in
     let same = ap (λ g. cut g n c.walk_of-walk.result.now) graph ∙ (ap (λ (w : List ℕ). cut (graph_at tasks k) n w) walk ∙ same_cut (graph_at tasks k) n (placed_walk tasks walks k)) in
     if_ok_more _ _ c.cut_walk.result (λ row is. is ∙ (same ∙ sym (walk_higher tasks walks j v n k less))) c.cut_walk.ensures

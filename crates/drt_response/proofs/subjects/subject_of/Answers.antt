@@ -66,13 +66,13 @@ returns-clause-subject c =
     let m : ℕ = c.higher_count-count.result in
     let few = few_higher tasks k c.requires.task in
     let long = length-take-le m c.args.given.order.now (omega (arith, count, few, order_long tasks c.args.given.order.now c.requires.given.order)) in
-    let graph : c.graph.result.now ≡ graph_at tasks k = c.graph.ensures.graph ∙ (ap (λ gs. graph_of gs k) c.requires.given.graphs ∙ graph_same tasks k c.requires.task) in
+    let graph : c.graph.result.now ≡ graph_at tasks k = c.graph.ensures.graph ∙ (ap (λ gs. graph_of gs k) c.graphs-graphs.ensures.graphs ∙ graph_same tasks k c.requires.task) in
     let within : c.args.at.vertex < vertex_count c.graph.result.now = omega (arith, c.requires.vertex, ap (λ g. vertex_count g) graph) in
     let wcet = c.graph.ensures.sound.wcet c.args.at.vertex within in
     let deadline = c.graph.ensures.sound.deadline c.args.at.vertex within in
     let job = c.vertex-job.ensures in
     record {
-      order = first_tasks tasks c.args.given.order.now c.requires.given.order c.args.given.graphs.now c.requires.given.graphs m;
+      order = first_tasks tasks c.args.given.order.now c.requires.given.order c.graphs-graphs.result.now c.graphs-graphs.ensures.graphs m;
       tails = All-take HasRisingCurves m c.args.given.tails.now (tails_rise tasks c.args.given.tails.now c.requires.given.tails);
       crests = zip_take IsCrest m c.args.given.tails.now c.args.given.crests.now c.requires.given.crests;
       few = omega (arith, long, count, higher_most c.args.given.set.now.version tasks c.tasks-tasks.ensures.limits k c.requires.task);
@@ -90,11 +90,11 @@ returns-clause-is c =
     let here : get_or c.tasks-tasks.result.now k t ≡ task_at tasks k = ap (λ (ts : List Task). get_or ts k t) e ∙ get_or_default tasks k t no_task c.requires.task in
     let count : c.higher_count-count.result ≡ higher_count tasks (task_at tasks k).priority
     = c.higher_count-count.ensures ∙ (ap (λ (x : Task). higher_count c.tasks-tasks.result.now x.priority) here ∙ ap (λ (ts : List Task). higher_count ts (task_at tasks k).priority) e) in
-    let graph : c.graph.result.now ≡ graph_at tasks k = c.graph.ensures.graph ∙ (ap (λ gs. graph_of gs k) c.requires.given.graphs ∙ graph_same tasks k c.requires.task) in
+    let graph : c.graph.result.now ≡ graph_at tasks k = c.graph.ensures.graph ∙ (ap (λ gs. graph_of gs k) c.graphs-graphs.ensures.graphs ∙ graph_same tasks k c.requires.task) in
     let job : c.vertex-job.result.now ≡ vertex_of (graph_at tasks k) c.args.at.vertex = c.vertex-job.ensures ∙ ap (λ g. vertex_of g c.args.at.vertex) graph in
     record {
-      graphs = ap (λ (m : ℕ). graphs_at c.args.given.graphs.now (take m c.args.given.order.now)) count
-          ∙ higher_graphs tasks c.args.given.order.now c.requires.given.order c.args.given.graphs.now c.requires.given.graphs k c.requires.task;
+      graphs = ap (λ (m : ℕ). graphs_at c.graphs-graphs.result.now (take m c.args.given.order.now)) count
+          ∙ higher_graphs tasks c.args.given.order.now c.requires.given.order c.graphs-graphs.result.now c.graphs-graphs.ensures.graphs k c.requires.task;
       tails = ap (λ (m : ℕ). take m c.args.given.tails.now) count;
       wcet = ap (λ x. x.wcet) job;
       deadline = ap (λ x. x.deadline) job;

@@ -21,7 +21,7 @@ pub place_of-requires : goal.place_of-requires
 place_of-requires g c =
     let tasks : List Task = c.args.set.now.tasks in
     let order : List ℕ = c.args.trees.now.order in
-    let (p, l, here) = order_place tasks order c.requires.trees.order_is c.args.task c.requires.task in
+    let (p, l, here) = order_place tasks order c.requires.trees.order_is c.args.at.task c.requires.task in
     rw c.as_slice-order.ensures (p, at_place tasks order c.requires.trees.order_is p l ∙ ap Some here)
 
 pub first_roots-higher-requires : goal.first_roots-higher-requires
@@ -30,8 +30,8 @@ first_roots-higher-requires g c =
     let trees : ProvedTrees = c.args.trees.now in
     let tasks : List Task = set.tasks in
     let m = c.place_of.result in
-    let k = c.args.task in
-    let v = c.args.vertex in
+    let k = c.args.at.task in
+    let v = c.args.at.vertex in
     let order : c.as_slice-order.result.now ≡ trees.order = c.as_slice-order.ensures in
     let at : slice_get trees.order m ≡ Some k = ap (λ (xs : List ℕ). slice_get xs m) (sym order) ∙ c.place_of.ensures in
     omega (arith, few_first set trees c.requires.trees m k at, ap length c.as_slice.ensures)
@@ -42,12 +42,12 @@ worst-requires-clause-few g c κs within =
     let trees : ProvedTrees = c.args.trees.now in
     let tasks : List Task = set.tasks in
     let m = c.place_of.result in
-    let k = c.args.task in
-    let v = c.args.vertex in
+    let k = c.args.at.task in
+    let v = c.args.at.vertex in
     let order : c.as_slice-order.result.now ≡ trees.order = c.as_slice-order.ensures in
     let at : slice_get trees.order m ≡ Some k = ap (λ (xs : List ℕ). slice_get xs m) (sym order) ∙ c.place_of.ensures in
     let roots : c.first_roots-higher.result.now ≡ take m trees.roots = c.first_roots-higher.ensures ∙ ap (λ (xs : List ℕ). take m xs) c.as_slice.ensures in
-    let graph : c.graph.result.now ≡ graph_at tasks k = c.graph.ensures.graph ∙ (ap (λ gs. graph_of gs k) c.requires.graphs ∙ graph_same tasks k c.requires.task) in
+    let graph : c.graph.result.now ≡ graph_at tasks k = c.graph.ensures.graph ∙ (ap (λ gs. graph_of gs k) c.graphs-graphs.ensures.graphs ∙ graph_same tasks k c.requires.task) in
     let subject : c.vertex-subject.result.now ≡ vertex_of (graph_at tasks k) v = c.vertex-subject.ensures ∙ ap (λ g. vertex_of g v) graph in
     omega (arith, ap length roots, at_most_31 set trees c.requires.trees m k at)
 
@@ -57,12 +57,12 @@ worst-requires-clause-roots g c κs within =
     let trees : ProvedTrees = c.args.trees.now in
     let tasks : List Task = set.tasks in
     let m = c.place_of.result in
-    let k = c.args.task in
-    let v = c.args.vertex in
+    let k = c.args.at.task in
+    let v = c.args.at.vertex in
     let order : c.as_slice-order.result.now ≡ trees.order = c.as_slice-order.ensures in
     let at : slice_get trees.order m ≡ Some k = ap (λ (xs : List ℕ). slice_get xs m) (sym order) ∙ c.place_of.ensures in
     let roots : c.first_roots-higher.result.now ≡ take m trees.roots = c.first_roots-higher.ensures ∙ ap (λ (xs : List ℕ). take m xs) c.as_slice.ensures in
-    let graph : c.graph.result.now ≡ graph_at tasks k = c.graph.ensures.graph ∙ (ap (λ gs. graph_of gs k) c.requires.graphs ∙ graph_same tasks k c.requires.task) in
+    let graph : c.graph.result.now ≡ graph_at tasks k = c.graph.ensures.graph ∙ (ap (λ gs. graph_of gs k) c.graphs-graphs.ensures.graphs ∙ graph_same tasks k c.requires.task) in
     let subject : c.vertex-subject.result.now ≡ vertex_of (graph_at tasks k) v = c.vertex-subject.ensures ∙ ap (λ g. vertex_of g v) graph in
     rw (roots, subject) (chosen set trees c.requires.trees m k at v c.requires.vertex)
 
@@ -72,12 +72,12 @@ worst-requires-clause-passes g c κs within =
     let trees : ProvedTrees = c.args.trees.now in
     let tasks : List Task = set.tasks in
     let m = c.place_of.result in
-    let k = c.args.task in
-    let v = c.args.vertex in
+    let k = c.args.at.task in
+    let v = c.args.at.vertex in
     let order : c.as_slice-order.result.now ≡ trees.order = c.as_slice-order.ensures in
     let at : slice_get trees.order m ≡ Some k = ap (λ (xs : List ℕ). slice_get xs m) (sym order) ∙ c.place_of.ensures in
     let roots : c.first_roots-higher.result.now ≡ take m trees.roots = c.first_roots-higher.ensures ∙ ap (λ (xs : List ℕ). take m xs) c.as_slice.ensures in
-    let graph : c.graph.result.now ≡ graph_at tasks k = c.graph.ensures.graph ∙ (ap (λ gs. graph_of gs k) c.requires.graphs ∙ graph_same tasks k c.requires.task) in
+    let graph : c.graph.result.now ≡ graph_at tasks k = c.graph.ensures.graph ∙ (ap (λ gs. graph_of gs k) c.graphs-graphs.ensures.graphs ∙ graph_same tasks k c.requires.task) in
     let subject : c.vertex-subject.result.now ≡ vertex_of (graph_at tasks k) v = c.vertex-subject.ensures ∙ ap (λ g. vertex_of g v) graph in
     rw (roots, subject) (tuples_pass set trees c.requires.trees m k at v c.requires.vertex c.walks_pass.ensures)
 
@@ -87,12 +87,12 @@ leaf_releases-requires-clause-tuple g c =
     let trees : ProvedTrees = c.args.trees.now in
     let tasks : List Task = set.tasks in
     let m = c.place_of.result in
-    let k = c.args.task in
-    let v = c.args.vertex in
+    let k = c.args.at.task in
+    let v = c.args.at.vertex in
     let order : c.as_slice-order.result.now ≡ trees.order = c.as_slice-order.ensures in
     let at : slice_get trees.order m ≡ Some k = ap (λ (xs : List ℕ). slice_get xs m) (sym order) ∙ c.place_of.ensures in
     let roots : c.first_roots-higher.result.now ≡ take m trees.roots = c.first_roots-higher.ensures ∙ ap (λ (xs : List ℕ). take m xs) c.as_slice.ensures in
-    let graph : c.graph.result.now ≡ graph_at tasks k = c.graph.ensures.graph ∙ (ap (λ gs. graph_of gs k) c.requires.graphs ∙ graph_same tasks k c.requires.task) in
+    let graph : c.graph.result.now ≡ graph_at tasks k = c.graph.ensures.graph ∙ (ap (λ gs. graph_of gs k) c.graphs-graphs.ensures.graphs ∙ graph_same tasks k c.requires.task) in
     let subject : c.vertex-subject.result.now ≡ vertex_of (graph_at tasks k) v = c.vertex-subject.ensures ∙ ap (λ g. vertex_of g v) graph in
     let s : Search = search_for trees.forest (wcet (graph_at tasks k) v) (deadline (graph_at tasks k) v) in
     let came : IsGreatest s (take m trees.roots) c.in-Reached.ticks c.in-Reached.leaves = rw (c.in-Reached.is, roots, subject) at c.in_ok-taken.ensures in
@@ -104,23 +104,23 @@ returns-in-Spent g c =
     let trees : ProvedTrees = c.args.trees.now in
     let tasks : List Task = set.tasks in
     let m = c.place_of.result in
-    let k = c.args.task in
-    let v = c.args.vertex in
+    let k = c.args.at.task in
+    let v = c.args.at.vertex in
     let order : c.as_slice-order.result.now ≡ trees.order = c.as_slice-order.ensures in
     let at : slice_get trees.order m ≡ Some k = ap (λ (xs : List ℕ). slice_get xs m) (sym order) ∙ c.place_of.ensures in
     let roots : c.first_roots-higher.result.now ≡ take m trees.roots = c.first_roots-higher.ensures ∙ ap (λ (xs : List ℕ). take m xs) c.as_slice.ensures in
-    let graph : c.graph.result.now ≡ graph_at tasks k = c.graph.ensures.graph ∙ (ap (λ gs. graph_of gs k) c.requires.graphs ∙ graph_same tasks k c.requires.task) in
+    let graph : c.graph.result.now ≡ graph_at tasks k = c.graph.ensures.graph ∙ (ap (λ gs. graph_of gs k) c.graphs-graphs.ensures.graphs ∙ graph_same tasks k c.requires.task) in
     let subject : c.vertex-subject.result.now ≡ vertex_of (graph_at tasks k) v = c.vertex-subject.ensures ∙ ap (λ g. vertex_of g v) graph in
     let s : Search = search_for trees.forest (wcet (graph_at tasks k) v) (deadline (graph_at tasks k) v) in
-    let spent : IsSpent s (take m trees.roots) c.args.budget c.in-Spent.taken = rw (c.in-Spent.is, roots, subject) at c.in_ok-taken.ensures in
-    let here = reached set trees c.requires.trees m k at v c.requires.vertex c.requires.constrained c.times_suffice_for_task.ensures in
+    let spent : IsSpent s (take m trees.roots) c.args.crew.now.effort.budget c.in-Spent.taken = rw (c.in-Spent.is, roots, subject) at c.in_ok-taken.ensures in
+    let here = reached set trees c.requires.trees m k at v c.requires.vertex c.graphs-graphs.ensures.constrained c.times_suffice_for_task.ensures in
     record {
       order = trees.order;
       forest = trees.forest;
       roots = take m trees.roots;
       reached = here;
       spent = spent;
-      short = response_below set c.args.budget trees.order trees.forest (take m trees.roots) k v here spent.short;
+      short = response_below set c.args.crew.now.effort.budget trees.order trees.forest (take m trees.roots) k v here spent.short;
     }
 
 pub returns-in_ok-releases-in-Reached : goal.returns-in_ok-releases-in-Reached
@@ -129,16 +129,16 @@ returns-in_ok-releases-in-Reached g c =
     let trees : ProvedTrees = c.args.trees.now in
     let tasks : List Task = set.tasks in
     let m = c.place_of.result in
-    let k = c.args.task in
-    let v = c.args.vertex in
+    let k = c.args.at.task in
+    let v = c.args.at.vertex in
     let order : c.as_slice-order.result.now ≡ trees.order = c.as_slice-order.ensures in
     let at : slice_get trees.order m ≡ Some k = ap (λ (xs : List ℕ). slice_get xs m) (sym order) ∙ c.place_of.ensures in
     let roots : c.first_roots-higher.result.now ≡ take m trees.roots = c.first_roots-higher.ensures ∙ ap (λ (xs : List ℕ). take m xs) c.as_slice.ensures in
-    let graph : c.graph.result.now ≡ graph_at tasks k = c.graph.ensures.graph ∙ (ap (λ gs. graph_of gs k) c.requires.graphs ∙ graph_same tasks k c.requires.task) in
+    let graph : c.graph.result.now ≡ graph_at tasks k = c.graph.ensures.graph ∙ (ap (λ gs. graph_of gs k) c.graphs-graphs.ensures.graphs ∙ graph_same tasks k c.requires.task) in
     let subject : c.vertex-subject.result.now ≡ vertex_of (graph_at tasks k) v = c.vertex-subject.ensures ∙ ap (λ g. vertex_of g v) graph in
     let s : Search = search_for trees.forest (wcet (graph_at tasks k) v) (deadline (graph_at tasks k) v) in
     let came : IsGreatest s (take m trees.roots) c.in-Reached.ticks c.in-Reached.leaves = rw (c.in-Reached.is, roots, subject) at c.in_ok-taken.ensures in
     let releases : c.in_ok-releases-in-Reached.releases ≡ leaf_releases tasks trees.forest trees.order c.in-Reached.leaves k v c.in-Reached.ticks
     = c.in_ok-releases-in-Reached.ensures.releases ∙ ap (λ (xs : List ℕ). leaf_releases tasks trees.forest xs c.in-Reached.leaves k v c.in-Reached.ticks) order in
     let r : Response = record { task = k; vertex = v; ticks = c.in-Reached.ticks; releases = c.in_ok-releases-in-Reached.releases } in
-    (refl, refl, response set trees c.requires.trees m k at v c.requires.vertex c.requires.constrained c.leaves_respond.ensures c.in-Reached.ticks c.in-Reached.leaves came r refl refl refl releases)
+    (refl, refl, response set trees c.requires.trees m k at v c.requires.vertex c.graphs-graphs.ensures.constrained c.leaves_respond.ensures c.in-Reached.ticks c.in-Reached.leaves came r refl refl refl releases)

@@ -3,7 +3,7 @@ use Rattle.std.specs.Prelude.{reverse}
 use Rattle.drt_refine.specs.Below.{IsConcrete}
 use Rattle.drt_worst.specs.Splitting.{Search, PassesFor, IsReached}
 use Rattle.drt_worst.specs.Runs.{IsFit}
-use Rattle.drt_worst.specs.Splitting.{search_for}
+use Rattle.drt_worst.specs.Subjects.{search_over}
 use Rattle.drt_worst.specs.Plans.{choice_of, CanTake}
 use Rattle.drt_worst.specs.Passing.{announced, leaves_after}
 use Rattle.drt_worst.specs.declared.pass.Pass.{Pass}
@@ -12,21 +12,21 @@ use Rattle.drt_worst.proofs.pass.follow.Goals as goal
 
 pub make_plan-requires-clause-take : goal.make_plan-requires-clause-take
 make_plan-requires-clause-take c =
-    let s : Search = search_for c.args.forest.now c.args.wcet c.args.deadline in
+    let s : Search = search_over c.args.subject in
     let roots : List ℕ = c.args.word.now.about.roots.value in
-    subst (λ (z : List ℕ). CanTake c.args.forest.now c.args.deadline z) (sym c.as_slice.ensures)
+    subst (λ (z : List ℕ). CanTake c.args.subject.forest.now c.args.subject.deadline z) (sym c.as_slice.ensures)
     (combo_take s roots c.requires.ready c.args.combination (reverse c.args.pass.now.stack.items) c.args.pass.now c.requires.runs)
 
 pub make_plan-requires-clause-some : goal.make_plan-requires-clause-some
 make_plan-requires-clause-some c =
-    let s : Search = search_for c.args.forest.now c.args.wcet c.args.deadline in
+    let s : Search = search_over c.args.subject in
     let roots : List ℕ = c.args.word.now.about.roots.value in
-    subst (λ (z : List ℕ). IsConcrete c.args.forest.now z → (t : ℕ) × PassesFor s z t) (sym c.as_slice.ensures)
+    subst (λ (z : List ℕ). IsConcrete c.args.subject.forest.now z → (t : ℕ) × PassesFor s z t) (sym c.as_slice.ensures)
     (combo_passes s roots c.requires.ready c.args.combination (reverse c.args.pass.now.stack.items) c.args.pass.now c.requires.runs)
 
 pub announce-requires-clause-reached : goal.announce-requires-clause-reached
 announce-requires-clause-reached c t is =
-    let s : Search = search_for c.args.forest.now c.args.wcet c.args.deadline in
+    let s : Search = search_over c.args.subject in
     let roots : List ℕ = c.args.word.now.about.roots.value in
     let fits : IsFit s c.args.combination c.glance-seen.result (choice_of c.in_ok-plan.plan)
     = subst (λ (z : List ℕ). IsFit s z c.glance-seen.result (choice_of c.in_ok-plan.plan)) c.as_slice.ensures c.in_ok-plan.ensures in (
@@ -37,7 +37,7 @@ announce-requires-clause-reached c t is =
 
 pub returns-clause-runs : goal.returns-clause-runs
 returns-clause-runs c =
-    let s : Search = search_for c.args.forest.now c.args.wcet c.args.deadline in
+    let s : Search = search_over c.args.subject in
     let roots : List ℕ = c.args.word.now.about.roots.value in
     let choice = choice_of c.in_ok-plan.plan in
     let fits : IsFit s c.args.combination c.glance-seen.result choice = subst (λ (z : List ℕ). IsFit s z c.glance-seen.result choice) c.as_slice.ensures c.in_ok-plan.ensures in

@@ -2,7 +2,7 @@ use Rattle.std.proofs.Common.{rules, ◌≡◌, ℕ, List, Some, length, sym, ap
 use Rattle.std.specs.Prelude.{slice_get}
 use Rattle.drt_worst.specs.Splitting.{Search}
 use Rattle.drt_worst.specs.Runs.{AreDealt}
-use Rattle.drt_worst.specs.Splitting.{search_for}
+use Rattle.drt_worst.specs.Subjects.{search_over}
 use Rattle.drt_worst.specs.Passing.{search_of}
 use Rattle.drt_pool.specs.Turns.{EachPlace}
 use Rattle.drt_worst.specs.Jobs.{IsOpened, IsHaltedOf}
@@ -21,8 +21,9 @@ pub finish-requires-clause-passes : goal.finish-requires-clause-passes
 finish-requires-clause-passes g c =
     let w = c.in_ok-word.word in
     let all = whole c.in_ok-passes.passes.items c.run_passes.new.passes c.in_ok-passes.passes.len (search rules) (search rules) in
-    subst (λ (ps : List Pass). EachPlace (IsHaltedOf w c.args.budget) ps) (sym all)
-    c.run_passes.ensures.halted
+    let halted : EachPlace (IsHaltedOf w c.budget.result) c.run_passes.new.passes
+    = subst (λ (budget : ℕ). EachPlace (IsHaltedOf w budget) c.run_passes.new.passes) (sym c.budget.ensures.is) c.run_passes.ensures.halted in
+    subst (λ (ps : List Pass). EachPlace (IsHaltedOf w c.budget.result) ps) (sym all) halted
 
 pub finish-requires-clause-dealt : goal.finish-requires-clause-dealt
 finish-requires-clause-dealt g c =
@@ -30,11 +31,11 @@ finish-requires-clause-dealt g c =
     let dealt : List (List ℕ) = c.as_slice-2.result.now in
     let all = whole c.in_ok-passes.passes.items c.run_passes.new.passes c.in_ok-passes.passes.len (search rules) (search rules) in
     let lengths : length c.run_passes.new.passes ≡ length dealt = search rules in
-    let about : search_of w.about ≡ search_for c.args.forest.now c.args.wcet c.args.deadline = search rules in
+    let about : search_of w.about ≡ search_over c.args.subject = search rules in
     let roots : w.about.roots.value ≡ c.args.roots.now = search rules in
-    let d : AreDealt c.args.forest.now c.args.roots.now dealt
-    = subst (λ (xs : List (List ℕ)). AreDealt c.args.forest.now c.args.roots.now xs) (sym c.as_slice-2.ensures.value) c.in_ok-dealt.ensures.dealt in
-    let d' : AreDealt c.args.forest.now w.about.roots.value dealt = subst (λ (r : List ℕ). AreDealt c.args.forest.now r dealt) (sym roots) d in (
+    let d : AreDealt c.args.subject.forest.now c.args.roots.now dealt
+    = subst (λ (xs : List (List ℕ)). AreDealt c.args.subject.forest.now c.args.roots.now xs) (sym c.as_slice-2.ensures.value) c.in_ok-dealt.ensures.dealt in
+    let d' : AreDealt c.args.subject.forest.now w.about.roots.value dealt = subst (λ (r : List ℕ). AreDealt c.args.subject.forest.now r dealt) (sym roots) d in (
       dealt,
       subst (λ (s : Search). AreDealt s.forest w.about.roots.value dealt) (sym about) d',
       ap length all ∙ lengths,
