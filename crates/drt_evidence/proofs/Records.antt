@@ -181,9 +181,9 @@ pub search_unopened : {bytes : List ℕ} {e : Stop} → IsStop opening_block IsI
 search_unopened {bytes} i =
     stop opening_of (λ s. in_turn one_state s.states) search_parts some_states (start (λ s. written (search_lines s)) IsInRangeSearch bytes) i
 
-effort_at : {bytes mid : List ℕ} {w : WrittenSearch} → ReadsBlock opening_block IsInRangeWrittenSearch bytes w mid
+search_at : {bytes mid : List ℕ} {w : WrittenSearch} → ReadsBlock opening_block IsInRangeWrittenSearch bytes w mid
     → At (λ s. written (search_lines s)) IsInRangeSearch (λ s. IsInRangeSearch s × (opening_of s ≡ w)) (λ s. in_turn one_state s.states) bytes mid
-effort_at {bytes} r = next opening_of (λ s. in_turn one_state s.states) search_parts (start (λ s. written (search_lines s)) IsInRangeSearch bytes) r
+search_at {bytes} r = next opening_of (λ s. in_turn one_state s.states) search_parts (start (λ s. written (search_lines s)) IsInRangeSearch bytes) r
 
 -- The states of a search with that first line.
 states_of : (w : WrittenSearch) (s : SearchClaim) → IsInRangeSearch s × (opening_of s ≡ w) → AreSoMany w.count IsInRangeState s.states × (in_turn one_state s.states ≡ in_turn one_state s.states ++ [])
@@ -205,12 +205,12 @@ search_made w is xs are = (
 pub search_stopped : {bytes mid : List ℕ} {w : WrittenSearch} {e : Stop} → ReadsBlock opening_block IsInRangeWrittenSearch bytes w mid
     → IsStop (in_turn one_state) (AreSoMany w.count IsInRangeState) mid e → IsStop (λ s. written (search_lines s)) IsInRangeSearch bytes e
 search_stopped {w = w} r i =
-    stop (λ (s : SearchClaim). s.states) (λ s. []) (states_of w) (λ xs are. (search_with w xs, search_made w r.is xs are, refl)) (effort_at r) i
+    stop (λ (s : SearchClaim). s.states) (λ s. []) (states_of w) (λ xs are. (search_with w xs, search_made w r.is xs are, refl)) (search_at r) i
 
 pub search_read : {bytes mid rest : List ℕ} {w : WrittenSearch} {xs : List StateClaim} → ReadsBlock opening_block IsInRangeWrittenSearch bytes w mid
     → ReadsBlock (in_turn one_state) (AreSoMany w.count IsInRangeState) mid xs rest → ReadsBlock (λ s. written (search_lines s)) IsInRangeSearch bytes (search_with w xs) rest
 search_read {w = w} {xs = xs} r q =
-    done (next (λ (s : SearchClaim). s.states) (λ s. []) (states_of w) (effort_at r) q)
+    done (next (λ (s : SearchClaim). s.states) (λ s. []) (states_of w) (search_at r) q)
     (search_with w xs) (search_made w r.is xs q.is, refl) refl
     (λ y is. ap (λ (o : WrittenSearch). search_with o y.states) is.0.1 ∙ ap (λ ss. search_with w ss) is.1)
 

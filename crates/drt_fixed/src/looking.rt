@@ -89,22 +89,13 @@ pub(crate) fn search_next<G: Gate, R: Threads + Wait + Sync>(
         Some(Searched::Spent) | None => {}
         Some(searched) => return Ok(searched),
     }
-<<<<<<< HEAD
-    let searched = effort_at(crew, given, vertices, number, given.budget)?;
-=======
     let searched = search_at(crew, given, vertices, number)?;
->>>>>>> h2/context
     ahead.count(&searched);
     Ok(searched)
 }
 
-<<<<<<< HEAD
-// The search of the vertex of this number, by so many states at most.
-fn effort_at<G: Gate, R: Threads + Wait + Sync>(
-=======
 // The search of the vertex of this number.
 fn search_at<G: Gate, R: Threads + Wait + Sync>(
->>>>>>> h2/context
     crew: &Crew<'_, G, R>,
     given: Given<'_>,
     vertices: &[PlacedVertex],
@@ -159,18 +150,6 @@ fn search_ahead<G: Gate, R: Threads + Wait + Sync>(
     let job = move |place: u32| -> Result<Searched, Memory>
         requires { IsSync R.row × IsSync G.row × IsGiven given × All (IsPlaced given) left.now × (place < length left.now) }
         ensures { IfOk result (IsFoundAt given.entry (slice_index_or left.entry.now place no_vertex)) }
-<<<<<<< HEAD
-    {
-        let alone = Crew {
-            rt,
-            alloc,
-            workers: 1,
-            gate,
-        };
-        effort_at(&alone, given, left, place as usize, most)
-    };
-    look_ahead(crew, first.as_slice(), job, is_last)
-=======
     { search_at(alone, given, left, place as usize) };
     let workers = crew.effort.workers(); // bridge
     let crew = drt_ahead::Crew {
@@ -180,7 +159,6 @@ fn search_ahead<G: Gate, R: Threads + Wait + Sync>(
         gate: crew.gate,
     }; // bridge
     look_ahead(&crew, first.as_slice(), job, is_last)
->>>>>>> h2/context
 }
 
 fn is_last(searched: &Searched) -> bool {

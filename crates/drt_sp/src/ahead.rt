@@ -136,7 +136,7 @@ fn search_all<G: Gate, R: Threads + Wait + Sync>(
     let search = move |number: u32| -> Result<SearchEnd, Memory>
         requires { All (λ k. k < length graphs.now) order.now × (from + number < length order.now) × (1 ≤ bound) × (bound ≤ 1000000) × (1 ≤ budget) × (budget ≤ 1000000) }
         ensures { IfOk result (IsEndAt graphs.entry.now order.entry.now bound budget (from + number)) }
-    { effort_at(alloc, graphs, order, from + number as usize, bound, budget) };
+    { search_at(alloc, graphs, order, from + number as usize, bound, budget) };
     let crew = Crew {
         rt,
         alloc,
@@ -148,7 +148,7 @@ fn search_all<G: Gate, R: Threads + Wait + Sync>(
 }
 
 // Searches the walks of the task at a place of the order, by one worker.
-fn effort_at(
+fn search_at(
     alloc: Global,
     graphs: &Graphs,
     order: &[u32],
