@@ -152,13 +152,7 @@ fn try_apart<G: Gate, R: Threads + Wait + Sync>(
     ensures { IfOk result (λ found. (i : ℕ) (r : Contents × Answer) → slice_index_or found.items i None ≡ Some r → IsTried (prioritised set.now.tasks course.now.old.now) standing.entry.ranks.now standing.entry.open_count (slice_index tasks.now i) course.now.crew.now.effort.budget r.0 r.1) }
 {
     let Standing { ranks, open_count } = standing;
-    let crew = drt_ahead::Crew {
-        rt: course.crew.rt, // bridge
-        alloc: course.crew.alloc, // bridge
-        workers: course.crew.effort.workers(), // bridge
-        gate: course.crew.gate, // bridge
-    };
-    let order = all_places(crew.alloc, tasks)?;
+    let order = all_places(course.crew.alloc, tasks)?;
     let try_place = |place: u32| -> Result<(TaskSet, TaskAnswer), Memory>
         requires { IsSync R.row × IsSync G.row
             × IsCourse (prioritised set.now.tasks course.now.old.now) course.now.graphs.now course.now.old.now
@@ -172,7 +166,7 @@ fn try_apart<G: Gate, R: Threads + Wait + Sync>(
             tasks[place as usize],
         )
     };
-    look_ahead(&crew, &order, try_place, doesnt_miss)
+    look_ahead(course.crew, &order, try_place, doesnt_miss)
 }
 
 // The places of all tasks.

@@ -85,19 +85,8 @@ fn analyse_order<G: Gate, R: Threads + Wait + Sync>(
     requires schedulable { Schedulable set.tasks Fixed }
     ensures { IfOk result (IsAnalysis set course.now.crew.now.effort.budget) }
 {
-    let crew = course.crew; // bridge
-    let workers = crew.effort.workers(); // bridge
-    let budget = crew.effort.budget(); // bridge
-    let Analysed { dossier, trail } = analyse_fixed(
-        crew.rt,
-        crew.alloc,
-        set,
-        course.graphs,
-        workers,
-        budget,
-        crew.gate,
-    )?; // bridge
-    let Dossier { set, evidence, .. } = dossier; // bridge
+    let accepted = Accepted::of(&set, course.graphs);
+    let Analysed { evidence, trail } = analyse_fixed(course.crew, &accepted)?;
     match trail {
         None => Ok(AssignAnswer::Done(Dossier {
             policy: Policy::Fixed,

@@ -104,13 +104,6 @@ fn search_ahead<G: Gate, R: Threads + Wait + Sync>(
     }
     let order = largest_first(alloc, steps.as_slice())?;
     let busy = crew.with(Effort::new(workers, effort.budget()));
-    // bridge
-    let busy = drt_ahead::Crew {
-        rt: busy.rt,
-        alloc: busy.alloc,
-        workers: busy.effort.workers(),
-        gate: busy.gate,
-    };
     let merge = |task: u32| -> Result<FoundAhead, Memory>
         requires { (task < length graphs.now) × (bound ≤ 1099511627776) }
         ensures { IfOk result (IsAheadOf graphs.entry.now bound effort.budget task) }

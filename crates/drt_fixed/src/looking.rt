@@ -151,14 +151,7 @@ fn search_ahead<G: Gate, R: Threads + Wait + Sync>(
         requires { IsSync R.row × IsSync G.row × IsGiven given × All (IsPlaced given) left.now × (place < length left.now) }
         ensures { IfOk result (IsFoundAt given.entry (slice_index_or left.entry.now place no_vertex)) }
     { search_at(alone, given, left, place as usize) };
-    let workers = crew.effort.workers(); // bridge
-    let crew = drt_ahead::Crew {
-        rt: crew.rt,
-        alloc: crew.alloc,
-        workers,
-        gate: crew.gate,
-    }; // bridge
-    look_ahead(&crew, first.as_slice(), job, is_last)
+    look_ahead(crew, first.as_slice(), job, is_last)
 }
 
 fn is_last(searched: &Searched) -> bool {

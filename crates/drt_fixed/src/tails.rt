@@ -80,14 +80,7 @@ fn find_ahead<G: Gate, R: Threads + Wait + Sync>(
         requires { AreTasks graphs.now higher.now × (place < length higher.now) }
         ensures { IfOk result (λ tail. IfSome tail HasRisingCurves) }
     { tail_at(alloc, graphs, higher, bounds, place as usize) };
-    let workers = crew.effort.workers(); // bridge
-    let crew = drt_ahead::Crew {
-        rt: crew.rt,
-        alloc,
-        workers,
-        gate: crew.gate,
-    }; // bridge
-    look_ahead(&crew, first.as_slice(), job, is_none)
+    look_ahead(crew, first.as_slice(), job, is_none)
 }
 
 fn is_none(tail: &Option<TailClaim>) -> bool {

@@ -91,13 +91,5 @@ fn search_vertex<G: Gate, R: Threads + Wait + Sync>(
     states_pass();
     given.set.keep_limits();
     let subject = subject_of(given, vertex);
-    let workers = crew.effort.workers(); // bridge
-    let budget = crew.effort.budget(); // bridge
-    search_states(
-        crew.rt, // bridge
-        crew.alloc, // bridge
-        subject, workers, // bridge
-        budget, // bridge
-        crew.gate, // bridge
-    )
+    search_states(crew, subject)
 }

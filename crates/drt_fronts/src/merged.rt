@@ -5,11 +5,12 @@ ghost use Rattle.drt_claims.specs.Ranges.{IsCounted};
 ghost use Rattle.drt_fronts.specs.LabelFronts.{IsLabelFront};
 
 use drt_graph::Graph;
+use drt_merge::Patience;
 use drt_model::{FrontEntry, Memory, Row};
 use std::alloc::Global;
 
 /// The front of a task's walks up to the bound, in ticks, merged from the lists of its vertices. None where its labels count more steps
-/// than the budget has, as the steps of a table that finds them would.
+/// than the budget has, as the steps of a table that finds them would, or where a sixteenth of the budget shows that it's unlikely to last.
 pub fn merged_front(
     alloc: Global,
     graph: &Graph,
@@ -23,6 +24,7 @@ pub fn merged_front(
     ensures counted { IfOk result (λ r. IfSome r IsCounted) }
 {
     let _count = graph.vertex_count();
-    let merged = drt_merge::merged_front(alloc, graph, bound, budget)?;
+    let patience = Patience::WhileHopeful;
+    let merged = drt_merge::merged_front(alloc, graph, bound, budget, patience)?;
     Ok(merged)
 }

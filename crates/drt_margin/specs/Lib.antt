@@ -2,4 +2,3 @@ pub mod Margin
 pub mod Past
 pub mod Answers
 pub mod Steps
-pub mod Bridge

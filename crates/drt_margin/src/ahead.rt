@@ -147,13 +147,6 @@ fn ask_apart<G: Gate, R: Threads + Wait + Sync>(
         requires { IsSync R.row × IsAsked set.now question × AreAskable set.now question numbers.now × (place < length numbers.now) }
         ensures { IfOk result (IsFinding question.policy (plus_set set.entry.now question.task question.vertex (slice_index numbers.entry.now place)) alone.entry.effort.budget) }
     { ask_copy(&alone, set, question, numbers[place as usize]) };
-    // bridge
-    let crew = &drt_ahead::Crew {
-        rt: crew.rt,
-        alloc: crew.alloc,
-        workers: crew.effort.workers(),
-        gate: crew.gate,
-    };
     look_ahead(crew, &order, ask_place, ends_nothing)
 }
 

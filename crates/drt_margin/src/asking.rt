@@ -11,13 +11,13 @@ ghost use Rattle.drt_margin.specs.Answers.{IsAffirmative, IsVerdictUnder};
 ghost use Rattle.drt_margin.specs.Steps.{IsAsked, IsFinding};
 
 use crate::answer::MarginTrail;
-use crate::bridge::{Analysed, analyse_fixed}; // bridge
 use crate::question::Question;
 use crate::times::{with_less, with_more};
 use drt_accepted::Accepted;
 use drt_claims::Evidence;
 use drt_crew::Crew;
 use drt_edf::{EdfAnswer, analyse_edf};
+use drt_fixed::{Analysed, analyse_fixed};
 use drt_graph::{GraphError, Graphs, check};
 use drt_horizon::Beyond;
 use drt_model::{Memory, Policy, TaskSet};

@@ -9,7 +9,6 @@
 mod ahead;
 mod answer;
 mod asking;
-mod bridge;
 mod halving;
 mod laws;
 mod margins;

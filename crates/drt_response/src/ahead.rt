@@ -61,14 +61,7 @@ fn find_ahead<G: Gate, R: Threads + Wait + Sync>(
         requires { IsSync R.row × IsSync G.row × IsGiven given × All (IsVertexAt given) vertices.now × (place < length vertices.now) }
         ensures { IfOk result (λ found. IfSome found (IsResponseOf given.entry.set.now)) }
     { respond_vertex(alone, given, vertices[place as usize]) };
-    let workers = crew.effort.workers(); // bridge
-    let crew = drt_ahead::Crew {
-        rt: crew.rt,
-        alloc: crew.alloc,
-        workers,
-        gate: crew.gate,
-    }; // bridge
-    look_ahead(&crew, order, job, is_none)
+    look_ahead(crew, order, job, is_none)
 }
 
 fn is_none(response: &Option<Response>) -> bool {

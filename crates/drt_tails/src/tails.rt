@@ -30,7 +30,8 @@ pub fn find_tail(
     let Some(turned) = turned_graphs(alloc, graph)? else {
         return Ok(None);
     };
-    let Some(front) = merged_front(alloc, turned.graph(0), bound, budget, Patience::ToTheEnd)? else {
+    let Some(front) = merged_front(alloc, turned.graph(0), bound, budget, Patience::ToTheEnd)?
+    else {
         return Ok(None);
     };
     let curves = curves_of(alloc, front.as_slice(), count)?;
