@@ -1,5 +1,5 @@
 //! Answers of worked sets.
-use crate::answering::{has_dossier, trail_of};
+use crate::answering::{crew_of, has_dossier, trail_of};
 use drt_pool::OpenGate;
 use std::alloc::Global;
 use std::sync::Wait;
@@ -82,7 +82,7 @@ fn worked_sets_have_their_dossiers(rt: HostRuntime) -> Result<(), Fail> {
     ];
     for (text, body) in cases {
         assert!(rt;
-            has_dossier(&rt, rt.alloc(), text, body, 1, &OpenGate)?,
+            has_dossier(&crew_of(&rt, rt.alloc(), 1, 1000, &OpenGate)?, text, body)?,
             "of {text}"
         );
     }
@@ -99,7 +99,7 @@ fn budgets_are_spent_in_a_search_or_a_refinement(rt: HostRuntime) -> Result<(), 
     ];
     for (text, budget, trail) in cases {
         assert!(rt;
-            trail_of(&rt, rt.alloc(), text, 1, budget, &OpenGate)? == trail,
+            trail_of(&crew_of(&rt, rt.alloc(), 1, budget, &OpenGate)?, text)? == trail,
             "of {budget} steps"
         );
     }
@@ -110,14 +110,14 @@ fn budgets_are_spent_in_a_search_or_a_refinement(rt: HostRuntime) -> Result<(), 
 fn are_just_in_time(rt: &(impl Threads + Wait + Sync), alloc: Global) -> Result<bool, Fail> {
     let text = many_tasks(alloc, 32)?;
     let yes = many_tasks_yes(alloc)?;
-    has_dossier(rt, alloc, text.as_str(), yes.as_str(), 1, &OpenGate)
+    has_dossier(&crew_of(rt, alloc, 1, 1000, &OpenGate)?, text.as_str(), yes.as_str())
 }
 
 // Whether many tasks with a deadline of 31 ticks have theirs.
 fn are_late(rt: &(impl Threads + Wait + Sync), alloc: Global) -> Result<bool, Fail> {
     let text = many_tasks(alloc, 31)?;
     let no = many_tasks_no(alloc)?;
-    has_dossier(rt, alloc, text.as_str(), no.as_str(), 1, &OpenGate)
+    has_dossier(&crew_of(rt, alloc, 1, 1000, &OpenGate)?, text.as_str(), no.as_str())
 }
 
 #[test]

@@ -1,5 +1,5 @@
 //! Workers that end the combinations of a task's vertices, or search the tables of two tasks, at the same time.
-use crate::answering::{Leaving, Source, written};
+use crate::answering::{Leaving, Source, crew_of, written};
 use crate::parts_tests::{ALL_PASS, SECOND_FAILS};
 use crate::table_tests::TWO_TABLES;
 use drt_meeting::Meeting;
@@ -24,9 +24,9 @@ fn is_answered_together<R: Threads + Wait + Sync>(
     budget: u64,
     alone: u64,
 ) -> Result<bool, Fail> {
-    let one = written(rt, alloc, source, 1, budget, &Leaving { alone })?;
+    let one = written(&crew_of(rt, alloc, 1, budget, &Leaving { alone })?, source)?;
     let gate = Meeting::behind(alone);
-    let both = written(rt, alloc, source, 2, budget, &gate)?;
+    let both = written(&crew_of(rt, alloc, 2, budget, &gate)?, source)?;
     Ok(both.as_slice() == one.as_slice() && (gate.times_met() > 0 || !has_two_processors(rt)))
 }
 

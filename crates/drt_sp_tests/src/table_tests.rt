@@ -1,5 +1,5 @@
 //! Tables of several tasks that workers search side by side.
-use crate::answering::Source;
+use crate::answering::{Leaving, Source, crew_of};
 use crate::parts_tests::{is_answered_as_by_one, is_spent_by_all};
 use drt_pool::OpenGate;
 use std::test::Fail;
@@ -22,7 +22,7 @@ fn tables_side_by_side_are_spent_as_by_one_worker(rt: HostRuntime) -> Result<(),
     ];
     for (text, budget, trail) in cases {
         assert!(rt;
-            is_spent_by_all(&rt, rt.alloc(), text, budget, 4, trail)?,
+            is_spent_by_all(&crew_of(&rt, rt.alloc(), 1, budget, &Leaving { alone: 4 })?, text, trail)?,
             "of {budget} steps"
         );
     }
@@ -32,7 +32,7 @@ fn tables_side_by_side_are_spent_as_by_one_worker(rt: HostRuntime) -> Result<(),
 #[test]
 fn tables_side_by_side_give_the_dossier_of_one_worker(rt: HostRuntime) -> Result<(), Fail> {
     assert!(rt;
-        is_answered_as_by_one(&rt, rt.alloc(), Source::Text(TWO_TABLES), 2_000, &OpenGate)?
+        is_answered_as_by_one(&crew_of(&rt, rt.alloc(), 1, 2_000, &OpenGate)?, Source::Text(TWO_TABLES))?
     );
     Ok(())
 }

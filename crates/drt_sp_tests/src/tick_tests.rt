@@ -1,5 +1,5 @@
 //! Sets answered by the analysis and by hand.
-use crate::answering::answer_to;
+use crate::answering::{answer_to, crew_of};
 use drt_claims::Evidence;
 use drt_fixtures::{Shape, make_set};
 use drt_pool::OpenGate;
@@ -28,7 +28,7 @@ fn is_decided<R: Threads + Wait + Sync>(
     yes: bool,
 ) -> Result<bool, Fail> {
     let set = make_set(alloc, shapes)?.ok_or("within the limits")?;
-    let answer = answer_to(rt, alloc, &set, 1, BUDGET, &OpenGate)?;
+    let answer = answer_to(&crew_of(rt, alloc, 1, BUDGET, &OpenGate)?, &set)?;
     Ok(verdict(&answer) == Some(yes))
 }
 

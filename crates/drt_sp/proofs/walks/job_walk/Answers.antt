@@ -23,7 +23,7 @@ job_nowhere tasks walks j v k le ne = rw (le-ltb (task_at tasks k).priority (tas
 
 pub returns-then-tasks-k : goal.returns-then-tasks-k
 returns-then-tasks-k c =
-    let tasks : List Task = c.args.tasks.now in
+    let tasks : List Task = c.args.set.now.tasks in
     let j = c.args.shown.now.task in
     let v = c.args.shown.now.vertex in
     let k = c.args.k in
@@ -33,13 +33,13 @@ returns-then-tasks-k c =
     let b = get_or_default tasks j c.index-tasks-shown.result no_task c.requires.task in
     let less : (task_at tasks k).priority < (task_at tasks j).priority = omega (arith, c.if-tasks-k.true, ap (λ (t : Task). t.priority) a, ap (λ (t : Task). t.priority) b) in
     if_ok_more _ _ c.chosen_walk.result (λ row is.
-    is tasks c.requires.graphs ∙ (ap (λ (ts : List ℕ). chosen tasks f c.args.end c.args.order.now ts k) c.as_slice.ensures
+    is tasks c.graphs-graphs.ensures.graphs ∙ (ap (λ (ts : List ℕ). chosen tasks f c.args.end c.args.order.now ts k) c.as_slice.ensures
     ∙ sym (job_higher tasks (chosen tasks f c.args.end c.args.order.now tuple) j v k less))
     ) c.chosen_walk.ensures
 
 pub returns : goal.returns
 returns c =
-    let tasks : List Task = c.args.tasks.now in
+    let tasks : List Task = c.args.set.now.tasks in
     let j = c.args.shown.now.task in
     let v = c.args.shown.now.vertex in
     let k = c.args.k in
