@@ -116,12 +116,13 @@ fn search_all<G: Gate, R: Threads + Wait + Sync>(
     requires begun { All (λ i. i < length begun.now) begun.now }
     ensures { IfOk result (AreEndsAhead (graphs_of given.now.set.now.tasks) given.now.order.now bound crew.now.effort.budget) }
 {
+    given.set.keep_limits();
     let alloc = crew.alloc;
-    let effort = crew.effort;
+    let effort = &crew.effort;
     let search = move |number: u32| -> Result<SearchEnd, Memory>
-        requires { IsOrder given.now.set.now.tasks given.now.order.now × (from + number < length given.now.order.now) × (1 ≤ bound) × (bound ≤ 1000000) }
-        ensures { IfOk result (IsEndAt (graphs_of given.entry.now.set.now.tasks) given.entry.now.order.now bound effort.budget (from + number)) }
-    { search_at(alloc, given, from + number as usize, bound, effort) };
+        requires { IsOrder given.now.set.now.tasks given.now.order.now × (from + number < length given.now.order.now) × (from + number < 32) × (1 ≤ bound) × (bound ≤ 1000000) }
+        ensures { IfOk result (IsEndAt (graphs_of given.entry.now.set.now.tasks) given.entry.now.order.now bound effort.entry.now.budget (from + number)) }
+    { search_at(alloc, given, from + number as usize, bound, *effort) };
     // bridge
     let lookers = Lookers {
         rt: crew.rt,

@@ -56,11 +56,11 @@ pub(crate) fn join_all<G: Gate, R: Threads + Wait + Sync>(
     ensures attempts { KeepAttempts joints.old joints.new }
 {
     let alloc = crew.alloc;
-    let effort = crew.effort;
+    let effort = &crew.effort;
     let worker = move |_place: usize, joint: &mut Joint|
         requires { IsJoint forest.now joint.now }
         ensures { IsJoint forest.entry.now joint.exit.now × (joint.exit.now.attempt ≡ joint.entry.now.attempt) }
-    { join_one(alloc, forest, joint, effort) };
+    { join_one(alloc, forest, joint, *effort) };
     let limit = worker_limit(crew, joints.len()).max(1);
     thread::for_each_mut(crew.rt, joints, limit, &worker);
 }

@@ -107,13 +107,13 @@ pub(crate) fn prove_by_parts<G: Gate, R: Threads + Wait + Sync>(
 // The attempts with their parts, of which nothing is put together. The first attempt is the last one of them.
 fn joints_of(
     alloc: Global,
-    _posed: &Posed<'_>,
+    posed: &Posed<'_>,
     mut spent: Vec<Attempt>,
     mut tables: Vec<Vec<Option<Row<Item>>>>,
 ) -> Result<Vec<Joint>, Memory>
-    requires each { All (IsAttempt _posed.now.forest.now _posed.now.roots.now _posed.now.graph.now) spent.items }
-    requires tables { HaveParts _posed.now.forest.now spent.items tables.items }
-    ensures { IfOk result (λ joints. AreJoints _posed.now.forest.now _posed.now.roots.now _posed.now.graph.now joints.items) }
+    requires each { All (IsAttempt posed.now.forest.now posed.now.roots.now posed.now.graph.now) spent.items }
+    requires tables { HaveParts posed.now.forest.now spent.items tables.items }
+    ensures { IfOk result (λ joints. AreJoints posed.now.forest.now posed.now.roots.now posed.now.graph.now joints.items) }
 {
     let mut joints = Vec::with_capacity(alloc, spent.len())?;
     while let Some(attempt) = spent.pop() {
@@ -143,13 +143,13 @@ fn put_joints(
 
 // Puts the proof of a joint to its vertex, if there is one.
 fn put_joint(
-    _posed: &Posed<'_>,
+    posed: &Posed<'_>,
     joint: Joint,
     proofs: &mut Vec<Option<VertexProof>>,
 ) -> Result<(), Memory>
-    requires joint { IsJointOf _posed.now.forest.now _posed.now.roots.now _posed.now.graph.now joint }
-    requires given { AreGiven _posed.now.forest.now _posed.now.roots.now _posed.now.graph.now proofs.old.items }
-    ensures { OnOk result (AreGiven _posed.now.forest.now _posed.now.roots.now _posed.now.graph.now proofs.new.items) }
+    requires joint { IsJointOf posed.now.forest.now posed.now.roots.now posed.now.graph.now joint }
+    requires given { AreGiven posed.now.forest.now posed.now.roots.now posed.now.graph.now proofs.old.items }
+    ensures { OnOk result (AreGiven posed.now.forest.now posed.now.roots.now posed.now.graph.now proofs.new.items) }
 {
     every_forest();
     let Joint { attempt, items, .. } = joint;

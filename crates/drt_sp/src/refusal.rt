@@ -19,7 +19,7 @@ pub(crate) fn refusal(
     forest: &Forest,
     failed: &VertexTuple,
 ) -> Result<Evidence, Memory>
-    requires failed { IsFailedVertex given.now.set.now given.now.order.now forest.now failed.now.task failed.now.vertex failed.now.tuple }
+    requires { IsFailedVertex given.now.set.now given.now.order.now forest.now failed.now.task failed.now.vertex failed.now.tuple }
     ensures verdict { IfOk result (IsRefusal given.now.set.now) }
     ensures range { IfOk result IsInRange }
 {

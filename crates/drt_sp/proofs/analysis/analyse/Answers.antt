@@ -1,10 +1,13 @@
-use Rattle.std.proofs.Common.{◌≡◌, ◌<◌, ◌+◌, ◌-◌, ℕ, List, length, ap, subst, arith}
+use Rattle.std.proofs.Common.{◌≡◌, ◌<◌, ◌+◌, ◌-◌, ◌∙◌, ℕ, List, length, ap, subst, arith}
 use Rattle.std.specs.Prelude.{IfSome}
 use Rattle.std.proofs.lemmas.List.{length-map}
 use Rattle.std.proofs.lemmas.List.Elements.{All-from_get_or}
 use Rattle.drt_model.specs.Digraph.{digraph_of}
+use Rattle.drt_model.specs.Contents.{Contents}
 use Rattle.drt_model.specs.declared.tasks.Task.{Task}
 use Rattle.drt_choices.specs.Choices.{IsOrder}
+use Rattle.drt_claims.specs.Claims.{graphs_of}
+use Rattle.drt_claims.specs.Trees.{greatest_deadline}
 use Rattle.drt_sp.specs.Progress.{AreGrown, AreProved}
 use Rattle.drt_sp.specs.Searches.{IsEndAt}
 use Rattle.drt_sp.proofs.Orders.{order_below, order_count}
@@ -14,9 +17,11 @@ pub overflow_sub-last : goal.overflow_sub-last
 overflow_sub-last g c = omega (arith, order_count c.args.given.now.set.now.tasks c.args.given.now.order.now c.requires, c.tasks-tasks.ensures.limits.has_task)
 
 pub add_tree-requires-clause-found : goal.add_tree-requires-clause-found
-add_tree-requires-clause-found g c =
-    subst (λ b. IfSome c.take-found.result (IsEndAt (graphs_of c.args.given.now.set.now.tasks) c.args.given.now.order.now b c.args.crew.now.effort.budget c.places.place)) c.greatest_deadline-bound.ensures.value
-    (c.take-found.ensures.taken (graphs_of c.args.given.now.set.now.tasks) c.args.given.now.order.now c.greatest_deadline-bound.result c.args.crew.now.effort.budget c.in_ok-ahead.ensures)
+add_tree-requires-clause-found g c κs within =
+    let until : c.from-bound.result ≡ greatest_deadline c.args.given.now.set.now.tasks
+    = c.from-bound.ensures ∙ (c.greatest_deadline.ensures.value ∙ ap (λ (s : Contents). greatest_deadline s.tasks) c.set.ensures.set) in
+    subst (λ b. IfSome c.take-found.result (IsEndAt (graphs_of c.args.given.now.set.now.tasks) c.args.given.now.order.now b c.args.crew.now.effort.budget c.places.place)) until
+    (c.take-found.ensures.taken (graphs_of c.args.given.now.set.now.tasks) c.args.given.now.order.now c.from-bound.result c.args.crew.now.effort.budget c.in_ok-ahead.ensures)
 
 pub prove_task-requires-2-clause-here : goal.prove_task-requires-2-clause-here
 prove_task-requires-2-clause-here g c = omega (arith, order_count c.args.given.now.set.now.tasks c.args.given.now.order.now c.requires, c.tasks-tasks.ensures.limits.has_task)

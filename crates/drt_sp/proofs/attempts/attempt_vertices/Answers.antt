@@ -38,7 +38,7 @@ loop-vertex-preserved c =
           let subject = c.vertex-subject.result.now in
           let a : Attempt = record { vertex = n; wcet = subject.wcet; deadline = subject.deadline; frontier = w.in-Spent.frontier } in
           let attempt : IsAttempt f roots c.args.posed.now.graph.now a = record {
-            steps = c.steps_of-steps.result;
+            steps = c.at_most-effort.result.budget;
             vertex = l;
             wcet_is = ap (λ (v : Vertex). v.wcet) c.vertex-subject.ensures;
             deadline_is = ap (λ (v : Vertex). v.deadline) c.vertex-subject.ensures;

@@ -17,7 +17,7 @@ use Rattle.drt_sp.proofs.Yes.{few_tasks}
 use Rattle.drt_sp.proofs.refusal.refusal.Goals as goal
 
 pub leaf_releases-requires-clause-tuple : goal.leaf_releases-requires-clause-tuple
-leaf_releases-requires-clause-tuple c = failed_tuple c.args.given.now.set.now c.args.given.now.order.now c.args.forest.now c.args.failed.now.task c.args.failed.now.vertex c.args.failed.now.tuple c.requires.failed
+leaf_releases-requires-clause-tuple c = failed_tuple c.args.given.now.set.now c.args.given.now.order.now c.args.forest.now c.args.failed.now.task c.args.failed.now.vertex c.args.failed.now.tuple c.requires
 
 pub leaf_releases-requires-clause-end : goal.leaf_releases-requires-clause-end
 leaf_releases-requires-clause-end c =
@@ -28,7 +28,7 @@ leaf_releases-requires-clause-end c =
     let j = c.args.failed.now.task in
     let v = c.args.failed.now.vertex in
     let tuple : List ℕ = c.args.failed.now.tuple in
-    let failed : IsFailedVertex set order f j v tuple = c.requires.failed in
+    let failed : IsFailedVertex set order f j v tuple = c.requires in
     let graph : c.graph.result.now ≡ graph_at tasks j = c.graph.ensures.graph ∙ (ap (λ gs. graph_of gs j) c.graphs-graphs.ensures.graphs ∙ graph_same tasks j failed.reached.task) in
     let end : c.vertex.result.now.deadline ≡ deadline (graph_at tasks j) v = ap (λ x. x.deadline) c.vertex.ensures ∙ ap (λ g. deadline g v) graph in
     let kept : AreGraphs (graphs_of tasks) = subst AreGraphs c.graphs-graphs.ensures.graphs c.count-count.ensures.kept in
@@ -44,7 +44,7 @@ returns-clause-verdict c =
     let j = c.args.failed.now.task in
     let v = c.args.failed.now.vertex in
     let tuple : List ℕ = c.args.failed.now.tuple in
-    let failed : IsFailedVertex set order f j v tuple = c.requires.failed in
+    let failed : IsFailedVertex set order f j v tuple = c.requires in
     let graph : c.graph.result.now ≡ graph_at tasks j = c.graph.ensures.graph ∙ (ap (λ gs. graph_of gs j) c.graphs-graphs.ensures.graphs ∙ graph_same tasks j failed.reached.task) in
     let end : c.vertex.result.now.deadline ≡ deadline (graph_at tasks j) v = ap (λ x. x.deadline) c.vertex.ensures ∙ ap (λ g. deadline g v) graph in
     let kept : AreGraphs (graphs_of tasks) = subst AreGraphs c.graphs-graphs.ensures.graphs c.count-count.ensures.kept in
@@ -63,7 +63,7 @@ returns-clause-range c =
     let j = c.args.failed.now.task in
     let v = c.args.failed.now.vertex in
     let tuple : List ℕ = c.args.failed.now.tuple in
-    let failed : IsFailedVertex set order f j v tuple = c.requires.failed in
+    let failed : IsFailedVertex set order f j v tuple = c.requires in
     let graph : c.graph.result.now ≡ graph_at tasks j = c.graph.ensures.graph ∙ (ap (λ gs. graph_of gs j) c.graphs-graphs.ensures.graphs ∙ graph_same tasks j failed.reached.task) in
     let end : c.vertex.result.now.deadline ≡ deadline (graph_at tasks j) v = ap (λ x. x.deadline) c.vertex.ensures ∙ ap (λ g. deadline g v) graph in
     let kept : AreGraphs (graphs_of tasks) = subst AreGraphs c.graphs-graphs.ensures.graphs c.count-count.ensures.kept in

@@ -1,6 +1,7 @@
 use Rattle.std.proofs.Common.{◌≡◌, ℕ, ◌+◌, ◌<◌, Some, List, length, get_or, ap, arith, ◌∙◌}
 use Rattle.std.specs.Prelude.{slice_get}
 use Rattle.std.proofs.lemmas.List.{length-map}
+use Rattle.drt_model.specs.Contents.{Contents}
 use Rattle.drt_model.specs.declared.tasks.Task.{Task}
 use Rattle.drt_model.specs.Digraph.{digraph_of}
 use Rattle.drt_model.specs.Limits.{IsTaskSet}
@@ -41,7 +42,10 @@ plant_tree-requires-clause-room g c =
     omega (arith, c.requires.grown.few, c.requires.here, order_count tasks order is, few_tasks set.version tasks limits)
 
 pub plant_tree-requires-clause-found : goal.plant_tree-requires-clause-found
-plant_tree-requires-clause-found g c = rw (c.graph-graph.ensures.graph, c.greatest_deadline-bound.ensures.value) c.requires.found
+plant_tree-requires-clause-found g c =
+    let until : c.from-bound.result ≡ greatest_deadline c.args.given.now.set.now.tasks
+    = c.from-bound.ensures ∙ (c.greatest_deadline.ensures.value ∙ ap (λ (s : Contents). greatest_deadline s.tasks) c.set.ensures.set) in
+    rw (c.graph-graph.ensures.graph, c.graphs-graphs.ensures.graphs, until) c.requires.found
 
 pub returns-in_ok-push-in-Tree-2-clause-grown : goal.returns-in_ok-push-in-Tree-2-clause-grown
 returns-in_ok-push-in-Tree-2-clause-grown g c =
@@ -59,8 +63,9 @@ returns-in_ok-push-in-Tree-2-clause-grown g c =
     let at : slice_get order place ≡ Some k = at_place tasks order is place l in
     let below : k < length tasks = order_below tasks order is place l in
     let graph : c.graph-graph.result.now ≡ graph_at tasks k = c.graph-graph.ensures.graph ∙ (ap (λ gs. graph_of gs k) c.graphs-graphs.ensures.graphs ∙ graph_same tasks k below) in
+    let until : c.from-bound.result ≡ greatest_deadline tasks = c.from-bound.ensures ∙ (c.greatest_deadline.ensures.value ∙ ap (λ (s : Contents). greatest_deadline s.tasks) c.set.ensures.set) in
     let t : IsTaskTree (graph_at tasks k) (greatest_deadline tasks) f c.plant_tree.new.forest c.in-Tree.tree
-    = rw (c.in-Tree.is, graph, c.greatest_deadline-bound.ensures.value) at c.in_ok-tree.ensures in
+    = rw (c.in-Tree.is, graph, until) at c.in_ok-tree.ensures in
     rw (c.in_ok-push-in-Tree.ensures.items, c.in_ok-push-in-Tree-2.ensures.items)
     (grown_more tasks order place k at f c.plant_tree.new.forest roots trees c.requires.grown c.show_sound.ensures t.grows t.functions t.room
     c.in-Tree.tree.low c.in-Tree.tree.top c.in-Tree.tree.claim t.stands t.count t.claim t.rules t.range)
@@ -97,7 +102,8 @@ returns-in-Spent-clause-grown g c =
     let at : slice_get order place ≡ Some k = at_place tasks order is place l in
     let below : k < length tasks = order_below tasks order is place l in
     let graph : c.graph-graph.result.now ≡ graph_at tasks k = c.graph-graph.ensures.graph ∙ (ap (λ gs. graph_of gs k) c.graphs-graphs.ensures.graphs ∙ graph_same tasks k below) in
-    let spent : IsSpentSearch (graph_at tasks k) (greatest_deadline tasks) c.args.crew.now.effort.budget c.in-Spent.log = rw (c.in-Spent.is, graph, c.greatest_deadline-bound.ensures.value) at c.in_ok-tree.ensures in
+    let until : c.from-bound.result ≡ greatest_deadline tasks = c.from-bound.ensures ∙ (c.greatest_deadline.ensures.value ∙ ap (λ (s : Contents). greatest_deadline s.tasks) c.set.ensures.set) in
+    let spent : IsSpentSearch (graph_at tasks k) (greatest_deadline tasks) c.args.crew.now.effort.budget c.in-Spent.log = rw (c.in-Spent.is, graph, until) at c.in_ok-tree.ensures in
     let first : FirstPass tasks order place = λ i j v m here w. c.requires.proved.passed i j v (omega (arith, m)) here w in
     record {
       task = below;

@@ -60,8 +60,8 @@ prove_vertices-requires-clause-roots g c κs within =
     let graph : c.graph-graph.result.now ≡ graph_at tasks k = c.graph-graph.ensures.graph ∙ (ap (λ gs. graph_of gs k) c.graphs-graphs.ensures.graphs ∙ graph_same tasks k below) in
     rw (graph, c.as_slice.ensures.value) (chosen_at tasks order is set.version place k limits at f roots trees c.requires.grown c.show_sound.ensures)
 
-pub refusal-requires-clause-failed : goal.refusal-requires-clause-failed
-refusal-requires-clause-failed g c =
+pub refusal-requires : goal.refusal-requires
+refusal-requires g c =
     let set = c.args.given.now.set.now in
     let tasks : List Task = set.tasks in
     let order : List ℕ = c.args.given.now.order.now in
