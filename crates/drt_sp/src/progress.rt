@@ -91,13 +91,7 @@ impl Progress {
         self.forest.show_sound();
         let task = given.order[place];
         let graph = graphs.graph(task);
-        match prove_vertices(
-            crew,
-            &self.forest,
-            self.roots.as_slice(),
-            task,
-            graph,
-        )? {
+        match prove_vertices(crew, &self.forest, self.roots.as_slice(), task, graph)? {
             TaskProofs::Passed(proofs) => {
                 self.proofs[task as usize] = proofs;
                 Ok(None)

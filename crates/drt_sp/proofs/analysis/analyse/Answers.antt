@@ -1,8 +1,5 @@
-use Rattle.std.proofs.Common.{◌≡◌, ◌<◌, ◌+◌, ◌-◌, ◌∙◌, ℕ, List, length, ap, subst, arith}
+use Rattle.std.proofs.Common.{◌≡◌, ◌+◌, ◌-◌, ◌∙◌, ℕ, List, length, ap, subst, arith}
 use Rattle.std.specs.Prelude.{IfSome}
-use Rattle.std.proofs.lemmas.List.{length-map}
-use Rattle.std.proofs.lemmas.List.Elements.{All-from_get_or}
-use Rattle.drt_model.specs.Digraph.{digraph_of}
 use Rattle.drt_model.specs.Contents.{Contents}
 use Rattle.drt_model.specs.declared.tasks.Task.{Task}
 use Rattle.drt_choices.specs.Choices.{IsOrder}
@@ -10,7 +7,7 @@ use Rattle.drt_claims.specs.Claims.{graphs_of}
 use Rattle.drt_claims.specs.Trees.{greatest_deadline}
 use Rattle.drt_sp.specs.Progress.{AreGrown, AreProved}
 use Rattle.drt_sp.specs.Searches.{IsEndAt}
-use Rattle.drt_sp.proofs.Orders.{order_below, order_count}
+use Rattle.drt_sp.proofs.Orders.{order_count}
 use Rattle.drt_sp.proofs.analysis.analyse.Goals as goal
 
 pub overflow_sub-last : goal.overflow_sub-last

@@ -3,7 +3,7 @@ use Rattle.std.proofs.Common.{List, All, rules, sym, subst}
 use Rattle.std.proofs.lemmas.List.Elements.{All-weaker}
 use Rattle.drt_sp.specs.Attempts.{CanBeEnded, IsAttempt}
 use Rattle.drt_sp.specs.declared.attempts.Attempt.{Attempt}
-use Rattle.drt_sp.specs.Joints.{AreJoints, IsJoint, IsJointOf}
+use Rattle.drt_sp.specs.Joints.{AreJoints}
 use Rattle.drt_sp.specs.declared.joints.Joint.{Joint}
 use Rattle.drt_sp.proofs.Attempted.{can_be_ended}
 use Rattle.drt_sp.proofs.Joined.{joints_kept, written_whole}

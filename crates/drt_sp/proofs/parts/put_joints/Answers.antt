@@ -1,6 +1,6 @@
-use Rattle.std.proofs.Common.{All, Some}
+use Rattle.std.proofs.Common.{Some}
 use Rattle.std.proofs.lemmas.List.Elements.{All-pop}
-use Rattle.drt_sp.specs.Joints.{AreJoints, IsJointOf}
+use Rattle.drt_sp.specs.Joints.{IsJointOf}
 use Rattle.drt_sp.proofs.parts.put_joints.Goals as goal
 
 pub put_joint-requires-clause-joint : goal.put_joint-requires-clause-joint
