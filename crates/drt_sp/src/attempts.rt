@@ -32,9 +32,9 @@ pub(crate) struct Attempts {
     pub(crate) spent: Vec<Attempt>,
 }
 
-/// Refines the vertices of a task in file order from this one on, with so few steps each, and with fewer behind one that
-/// spent them: what becomes of those before it is given. The first one that fails is the last. From the first one on whose steps are spent, which may yet fail, there are at most
-/// `most`: those behind it may be attempted in vain.
+/// Refines the vertices of a task in file order from this one on, with so few steps each, and with fewer behind one that spent them: what
+/// becomes of those before it is given. The first one that fails is the last. From the first one on whose steps are spent, which may yet
+/// fail, there are at most `most`: those behind it may be attempted for nothing.
 pub(crate) fn attempt_vertices(
     alloc: Global,
     posed: &Posed<'_>,
@@ -85,7 +85,7 @@ pub(crate) fn attempt_vertices(
 // combinations for them.
 fn steps_of(few: u64, spent: &[Attempt]) -> u64
     requires { 1 ≤ few }
-    ensures { 1 ≤ result }
+    ensures { (1 ≤ result) × (result ≤ few) }
 {
     if spent.is_empty() {
         few

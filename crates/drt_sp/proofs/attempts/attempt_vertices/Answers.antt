@@ -18,7 +18,8 @@ pub returns-in-Fails-clause-proofs : goal.returns-in-Fails-clause-proofs
 returns-in-Fails-clause-proofs c =
     let is = rw (c.in-Fails.is, c.vertex-subject.ensures) at c.in_ok-items.ensures in
     rw c.in_ok-push-in-Fails.ensures.items
-    (attempt_fails c.args.posed.now.forest.now c.args.posed.now.roots.now c.args.posed.now.graph.now c.loop-vertex.vertex c.loop-vertex.proofs.items c.loop-vertex.spent.items c.loop-vertex.invariant c.in-Fails.tuple is)
+    (attempt_fails c.args.posed.now.forest.now c.args.posed.now.roots.now c.args.posed.now.graph.now c.loop-vertex.vertex
+    c.loop-vertex.proofs.items c.loop-vertex.spent.items c.loop-vertex.invariant c.in-Fails.tuple is)
 
 pub loop-vertex-preserved : goal.loop-vertex-preserved
 loop-vertex-preserved c =

@@ -17,7 +17,8 @@ use Rattle.drt_sp.proofs.Yes.{few_tasks}
 use Rattle.drt_sp.proofs.refusal.refusal.Goals as goal
 
 pub leaf_releases-requires-clause-tuple : goal.leaf_releases-requires-clause-tuple
-leaf_releases-requires-clause-tuple c = failed_tuple c.args.given.now.set.now c.args.given.now.order.now c.args.forest.now c.args.failed.now.task c.args.failed.now.vertex c.args.failed.now.tuple c.requires
+leaf_releases-requires-clause-tuple c =
+    failed_tuple c.args.given.now.set.now c.args.given.now.order.now c.args.forest.now c.args.failed.now.task c.args.failed.now.vertex c.args.failed.now.tuple c.requires
 
 pub leaf_releases-requires-clause-end : goal.leaf_releases-requires-clause-end
 leaf_releases-requires-clause-end c =
