@@ -56,23 +56,12 @@ fn make(alloc: Global, source: Source<'_>) -> Result<TaskSet, Fail> {
     }
 }
 
-// A crew of so many workers, with so many steps for each search.
-pub(crate) fn crew_of<'a, G: Gate, R>(
-    rt: &'a R,
-    alloc: Global,
-    workers: u32,
-    budget: u64,
-    gate: &'a G,
-) -> Result<Crew<'a, G, R>, Fail> {
+// So many workers, with so many steps for each search.
+pub(crate) fn effort_of(workers: u32, budget: u64) -> Result<Effort, Fail> {
     if workers < 1 || workers > MOST_WORKERS || budget < 1 || budget > MOST_BUDGET {
         return Err("the workers and the budget are in range".into());
     }
-    Ok(Crew {
-        rt,
-        alloc,
-        effort: Effort::new(workers, budget),
-        gate,
-    })
+    Ok(Effort::new(workers, budget))
 }
 
 // The answer to a set by a crew.

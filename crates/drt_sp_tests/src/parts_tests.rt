@@ -1,5 +1,5 @@
 //! Tasks whose vertices' combinations several workers end side by side.
-use crate::answering::{Leaving, Source, crew_of, has_dossier, trail_of, written};
+use crate::answering::{Leaving, Source, effort_of, has_dossier, trail_of, written};
 use drt_crew::Crew;
 use drt_fixtures::texts::{
     ENGINE, HALVES, JUST_DONE, ONLY_TOGETHER, SECOND_LATE, SPLIT, TOO_LITTLE_ROOM,
@@ -95,10 +95,7 @@ fn is_answered_by_all<G: Gate, R: Threads + Wait + Sync>(
 ) -> Result<bool, Fail> {
     let budget = crew.effort.budget();
     for workers in WORKERS {
-        let answer = written(
-            &crew_of(crew.rt, crew.alloc, workers, budget, crew.gate)?,
-            source,
-        )?;
+        let answer = written(&crew.with(effort_of(workers, budget)?), source)?;
         if answer.as_slice() != text {
             return Ok(false);
         }
@@ -122,12 +119,26 @@ fn is_answered_alike<R: Threads + Wait + Sync>(
     source: Source<'_>,
     budget: u64,
 ) -> Result<bool, Fail> {
+    let effort = effort_of(1, budget)?;
     for alone in ALONE {
-        if !is_answered_as_by_one(&crew_of(rt, alloc, 1, budget, &Leaving { alone })?, source)? {
+        let gate = Leaving { alone };
+        let crew = Crew {
+            rt,
+            alloc,
+            effort,
+            gate: &gate,
+        };
+        if !is_answered_as_by_one(&crew, source)? {
             return Ok(false);
         }
     }
-    is_answered_as_by_one(&crew_of(rt, alloc, 1, budget, &OpenGate)?, source)
+    let crew = Crew {
+        rt,
+        alloc,
+        effort,
+        gate: &OpenGate,
+    };
+    is_answered_as_by_one(&crew, source)
 }
 
 // Whether the answer has this dossier, by each number of workers.
@@ -138,8 +149,15 @@ fn has_dossier_by_all<R: Threads + Wait + Sync>(
     body: &str,
     alone: u64,
 ) -> Result<bool, Fail> {
+    let gate = Leaving { alone };
     for workers in WORKERS {
-        if !has_dossier(&crew_of(rt, alloc, workers, 1000, &Leaving { alone })?, text, body)? {
+        let crew = Crew {
+            rt,
+            alloc,
+            effort: effort_of(workers, 1000)?,
+            gate: &gate,
+        };
+        if !has_dossier(&crew, text, body)? {
             return Ok(false);
         }
     }
@@ -169,10 +187,7 @@ pub(crate) fn is_spent_by_all<G: Gate, R: Threads + Wait + Sync>(
 ) -> Result<bool, Fail> {
     let budget = crew.effort.budget();
     for workers in WORKERS {
-        let spent = trail_of(
-            &crew_of(crew.rt, crew.alloc, workers, budget, crew.gate)?,
-            text,
-        )?;
+        let spent = trail_of(&crew.with(effort_of(workers, budget)?), text)?;
         if spent != trail {
             return Ok(false);
         }
@@ -188,8 +203,16 @@ fn is_spent_always<R: Threads + Wait + Sync>(
     budget: u64,
     trail: Option<(u32, Option<u32>, usize)>,
 ) -> Result<bool, Fail> {
+    let effort = effort_of(1, budget)?;
     for alone in ALONE {
-        if !is_spent_by_all(&crew_of(rt, alloc, 1, budget, &Leaving { alone })?, text, trail)? {
+        let gate = Leaving { alone };
+        let crew = Crew {
+            rt,
+            alloc,
+            effort,
+            gate: &gate,
+        };
+        if !is_spent_by_all(&crew, text, trail)? {
             return Ok(false);
         }
     }
@@ -302,7 +325,12 @@ fn is_hard_answered_as_by_one<R: Threads + Wait + Sync>(
 ) -> Result<bool, Fail> {
     let text = format!(in alloc; "{HARD}{jobs}{HARD_EDGES}")?;
     let source = Source::Text(text.as_str());
-    let crew = crew_of(rt, alloc, 1, budget, &OpenGate)?;
+    let crew = Crew {
+        rt,
+        alloc,
+        effort: effort_of(1, budget)?,
+        gate: &OpenGate,
+    };
     let one = written(&crew, source)?;
     Ok(
         has_words(one.as_slice(), words.as_bytes())
