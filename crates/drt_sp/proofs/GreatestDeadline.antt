@@ -1,6 +1,5 @@
 -- The greatest deadline of a set.
-use Rattle.std.proofs.Common.{◌≡◌, ℕ, zero, suc, ◌+◌, ◌<◌, ◌≤◌, max, List, [], ◌∷◌, length, drop, get_or, All, refl, ap, arith}
-use Rattle.std.proofs.lemmas.List.{drop_more}
+use Rattle.std.proofs.Common.{ℕ, zero, suc, ◌<◌, ◌≤◌, List, [], ◌∷◌, length, get_or, All, arith}
 use Rattle.std.proofs.lemmas.List.Elements.{All-head, All-tail}
 use Rattle.drt_model.specs.declared.tasks.Task.{Task}
 use Rattle.drt_model.specs.declared.tasks.Vertex.{Vertex}
@@ -9,29 +8,6 @@ use Rattle.drt_model.specs.Limits.{IsTask, IsTaskSet, IsVertex}
 use Rattle.drt_model.specs.Walk.{deadline}
 use Rattle.drt_busy.specs.Choice.{graph_at, no_task, task_at}
 use Rattle.drt_claims.specs.Trees.{greatest_deadline, latest_deadline}
-
-pub latest_more : (vertices : List Vertex) (i : ℕ) (d : Vertex) → i < length vertices → latest_deadline (drop i vertices) ≡ max (get_or vertices i d).deadline (latest_deadline (drop (i + 1) vertices))
-unfolding latest_deadline
-latest_more vertices i d l = ap latest_deadline (drop_more vertices i d l)
-
-pub greatest_more : (tasks : List Task) (i : ℕ) (d : Task) → i < length tasks
-    → greatest_deadline (drop i tasks) ≡ max (latest_deadline (get_or tasks i d).vertices) (greatest_deadline (drop (i + 1) tasks))
-unfolding greatest_deadline
-greatest_more tasks i d l = ap greatest_deadline (drop_more tasks i d l)
-
-pub latest_end : (vertices : List Vertex) (i : ℕ) → length vertices ≤ i → latest_deadline (drop i vertices) ≡ 0
-unfolding latest_deadline
-latest_end [] zero l = refl
-latest_end [] (suc i) l = refl
-latest_end (x ∷ vertices) zero l = absurd (omega arith)
-latest_end (x ∷ vertices) (suc i) l = latest_end vertices i (omega arith)
-
-pub greatest_end : (tasks : List Task) (i : ℕ) → length tasks ≤ i → greatest_deadline (drop i tasks) ≡ 0
-unfolding greatest_deadline
-greatest_end [] zero l = refl
-greatest_end [] (suc i) l = refl
-greatest_end (x ∷ tasks) zero l = absurd (omega arith)
-greatest_end (x ∷ tasks) (suc i) l = greatest_end tasks i (omega arith)
 
 pub latest_bounds : (vertices : List Vertex) (v : ℕ) (d : Vertex) → v < length vertices → (get_or vertices v d).deadline ≤ latest_deadline vertices
 unfolding latest_deadline

@@ -16,7 +16,6 @@ use Rattle.drt_steps.specs.Values.{value_at}
 use Rattle.drt_table.specs.Cover.{IsFront, KeptAt}
 use Rattle.drt_table.specs.Machine.{Setting}
 use Rattle.drt_table.specs.Node.{NodeOf, is_kept}
-use Rattle.drt_table.specs.Walk.{IsWalkOf}
 use Rattle.drt_tree.specs.declared.leaf.Leaf.{Leaf}
 use Rattle.drt_claims.specs.Trees.{IsAbove, IsShortWalk, asked}
 use Rattle.drt_sp.specs.Gathering.{AreGathered, IsLeafOfNode}

@@ -1,14 +1,12 @@
 -- How far an analysis under fixed priorities has come.
 use Rattle.std.specs.Prelude.{◌≡◌, ℕ, ◌+◌, ◌*◌, ◌≤◌, ◌<◌, List, [], ◌∷◌, length, map, take, All, Some, slice_get, slice_index_or}
-use Rattle.drt_model.specs.Constrained.{AreConstrained}
-use Rattle.drt_model.specs.Contents.{Contents}
 use Rattle.drt_model.specs.Digraph.{Digraph, vertex_count}
 use Rattle.drt_model.specs.Walk.{deadline, wcet}
 use Rattle.drt_model.specs.declared.tasks.Task.{Task}
 use Rattle.drt_busy.specs.Choice.{graph_at}
 use Rattle.drt_tree.specs.Tree.{IsForest, Plain}
 use Rattle.drt_choices.specs.Choices.{AreTrees, FirstPass, IsOrder}
-use Rattle.drt_claims.specs.Claims.{Each, graphs_of}
+use Rattle.drt_claims.specs.Claims.{Each}
 use Rattle.drt_claims.specs.Ranges.{IsInRangeProof, IsInRangeTree}
 use Rattle.drt_claims.specs.Trees.{greatest_deadline}
 use Rattle.drt_claims.specs.declared.evidence.ProofClaim.{ProofClaim}
@@ -18,14 +16,6 @@ use Rattle.drt_sp.specs.Items.{AreItems}
 use Rattle.drt_sp.specs.Needs.{AreFewLeaves}
 use Rattle.drt_sp.specs.TreeClaims.{IsTreeOf}
 use Rattle.drt_sp.specs.Vertices.{subject_of, subjects}
-
--- What an analysis is given: a set with constrained deadlines, its graphs, its tasks in order of priority, and a budget of steps.
-pub record IsGiven (set : Contents) (graphs : List Digraph) (order : List ℕ) (budget : ℕ) : Type 0 where
-  pub constrained : AreConstrained set.tasks
-  pub graphs_are : graphs ≡ graphs_of set.tasks
-  pub order_is : IsOrder set.tasks order
-  pub some : 1 ≤ budget
-  pub few : budget ≤ 1000000
 
 -- The graphs of the first tasks of an order.
 abbrev pub first_graphs : List Task → List ℕ → ℕ → List Digraph

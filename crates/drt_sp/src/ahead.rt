@@ -1,11 +1,16 @@
 //! Searches of several tasks' walks, side by side and ahead of their turn.
 ghost use Rattle.std.specs.Prelude.{◌≡◌, ℕ, ◌+◌, ◌<◌, ◌≤◌, All, IfOk, IfSome, List, length};
 ghost use Rattle.drt_model.specs.Digraph.{Digraph};
+ghost use Rattle.drt_choices.specs.Choices.{IsOrder};
+ghost use Rattle.drt_claims.specs.Claims.{graphs_of};
 ghost use Rattle.drt_sp.specs.Searches.{AreEndsAhead, IsEndAt};
 
+use crate::progress::Given;
 use crate::trees::{SearchEnd, search_leaves};
-use drt_ahead::{Crew, largest_first, look_ahead, take_found};
-use drt_graph::{Graph, Graphs};
+use drt_ahead::{Crew as Lookers, largest_first, look_ahead, take_found};
+use drt_crew::Crew;
+use drt_effort::Effort;
+use drt_graph::Graph;
 use drt_model::Memory;
 use drt_pool::Gate;
 use std::alloc::Global;
@@ -67,24 +72,19 @@ impl EndsAhead {
 /// A worker's table is dropped when its search ends; its leaves are kept until their tree is made, or the steps that spent the budget. So
 /// what is in memory at once is the labels that the searches of all tasks keep, and a table for each worker.
 pub(crate) fn search_ahead<G: Gate, R: Threads + Wait + Sync>(
-    rt: &R,
-    alloc: Global,
-    graphs: &Graphs,
-    order: &[u32],
+    crew: &Crew<'_, G, R>,
+    given: &Given<'_>,
     place: usize,
     bound: u64,
-    workers: u32,
-    budget: u64,
-    gate: &G,
     ahead: EndsAhead,
 ) -> Result<EndsAhead, Memory>
-    requires tasks { All (λ k. k < length graphs.now) order.now }
-    requires here { place + 1 < length order.now }
+    requires order { IsOrder given.now.set.now.tasks given.now.order.now }
+    requires here { place + 1 < length given.now.order.now }
     requires bound { (1 ≤ bound) × (bound ≤ 1000000) }
-    requires budget { (1 ≤ budget) × (budget ≤ 1000000) }
-    requires ahead { AreEndsAhead graphs.now order.now bound budget ahead }
-    ensures { IfOk result (AreEndsAhead graphs.now order.now bound budget) }
+    requires ahead { AreEndsAhead (graphs_of given.now.set.now.tasks) given.now.order.now bound crew.now.effort.budget ahead }
+    ensures { IfOk result (AreEndsAhead (graphs_of given.now.set.now.tasks) given.now.order.now bound crew.now.effort.budget) }
 {
+    let workers = crew.effort.workers();
     if workers < 2 || !ahead.ends_before(place) {
         return Ok(ahead);
     }
@@ -93,77 +93,63 @@ pub(crate) fn search_ahead<G: Gate, R: Threads + Wait + Sync>(
     } else {
         MOST_TASKS
     };
-    let count = most.min(MOST_TASKS).min(order.len() - 1 - place);
-    let costs = reckon_all(alloc, graphs, order, place, count, bound, budget)?;
+    let count = most.min(MOST_TASKS).min(given.order.len() - 1 - place);
+    let costs = reckon_all(crew.alloc, given, place, count, bound, crew.effort)?;
     if !are_worth(costs.as_slice()) {
         return Ok(ahead);
     }
-    let begun = largest_first(alloc, costs.as_slice())?;
-    search_all(
-        rt,
-        alloc,
-        graphs,
-        order,
-        place,
-        bound,
-        begun.as_slice(),
-        workers,
-        budget,
-        gate,
-    )
+    let begun = largest_first(crew.alloc, costs.as_slice())?;
+    search_all(crew, given, place, bound, begun.as_slice())
 }
 
 // Searches the walks of the tasks at so many places from this one on, as workers get to them in this order.
 fn search_all<G: Gate, R: Threads + Wait + Sync>(
-    rt: &R,
-    alloc: Global,
-    graphs: &Graphs,
-    order: &[u32],
+    crew: &Crew<'_, G, R>,
+    given: &Given<'_>,
     from: usize,
     bound: u64,
     begun: &[u32],
-    workers: u32,
-    budget: u64,
-    gate: &G,
 ) -> Result<EndsAhead, Memory>
-    requires tasks { All (λ k. k < length graphs.now) order.now }
-    requires here { from + length begun.now ≤ length order.now }
+    requires order { IsOrder given.now.set.now.tasks given.now.order.now }
+    requires here { from + length begun.now ≤ length given.now.order.now }
     requires bound { (1 ≤ bound) × (bound ≤ 1000000) }
-    requires budget { (1 ≤ budget) × (budget ≤ 1000000) }
     requires begun { All (λ i. i < length begun.now) begun.now }
-    ensures { IfOk result (AreEndsAhead graphs.now order.now bound budget) }
+    ensures { IfOk result (AreEndsAhead (graphs_of given.now.set.now.tasks) given.now.order.now bound crew.now.effort.budget) }
 {
+    given.set.keep_limits();
+    let alloc = crew.alloc;
+    let effort = &crew.effort;
     let search = move |number: u32| -> Result<SearchEnd, Memory>
-        requires { All (λ k. k < length graphs.now) order.now × (from + number < length order.now) × (1 ≤ bound) × (bound ≤ 1000000) × (1 ≤ budget) × (budget ≤ 1000000) }
-        ensures { IfOk result (IsEndAt graphs.entry.now order.entry.now bound budget (from + number)) }
-    { search_at(alloc, graphs, order, from + number as usize, bound, budget) };
-    let crew = Crew {
-        rt,
+        requires { IsOrder given.now.set.now.tasks given.now.order.now × (from + number < length given.now.order.now) × (from + number < 32) × (1 ≤ bound) × (bound ≤ 1000000) }
+        ensures { IfOk result (IsEndAt (graphs_of given.entry.now.set.now.tasks) given.entry.now.order.now bound effort.entry.now.budget (from + number)) }
+    { search_at(alloc, given, from + number as usize, bound, *effort) };
+    // bridge
+    let lookers = Lookers {
+        rt: crew.rt,
         alloc,
-        workers,
-        gate,
+        workers: effort.workers(),
+        gate: crew.gate,
     };
-    let found = look_ahead(&crew, begun, search, is_spent)?;
+    let found = look_ahead(&lookers, begun, search, is_spent)?;
     Ok(EndsAhead { from, found })
 }
 
 // Searches the walks of the task at a place of the order, by one worker.
 fn search_at(
     alloc: Global,
-    graphs: &Graphs,
-    order: &[u32],
+    given: &Given<'_>,
     place: usize,
     bound: u64,
-    budget: u64,
+    effort: Effort,
 ) -> Result<SearchEnd, Memory>
-    requires tasks { All (λ k. k < length graphs.now) order.now }
-    requires here { place < length order.now }
+    requires order { IsOrder given.now.set.now.tasks given.now.order.now }
+    requires here { place < length given.now.order.now }
     requires bound { (1 ≤ bound) × (bound ≤ 1000000) }
-    requires budget { (1 ≤ budget) × (budget ≤ 1000000) }
-    ensures { IfOk result (IsEndAt graphs.now order.now bound budget place) }
+    ensures { IfOk result (IsEndAt (graphs_of given.now.set.now.tasks) given.now.order.now bound effort.budget place) }
 {
-    let graph = graphs.graph(order[place]);
-    search_leaves(alloc, graph, bound, budget)
+    let graphs = given.set.graphs();
+    let graph = graphs.graph(given.order[place]);
+    search_leaves(alloc, graph, bound, effort)
 }
 
 // Whether a search spent its budget: the analysis ends there at the latest.
@@ -177,21 +163,21 @@ fn is_spent(end: &SearchEnd) -> bool {
 // What the searches of the tasks at so many places of the order from this one on are reckoned to cost.
 fn reckon_all(
     alloc: Global,
-    graphs: &Graphs,
-    order: &[u32],
+    given: &Given<'_>,
     place: usize,
     count: usize,
     bound: u64,
-    budget: u64,
+    effort: Effort,
 ) -> Result<Vec<u64>, Memory>
-    requires tasks { All (λ k. k < length graphs.now) order.now }
-    requires within { place + count ≤ length order.now }
+    requires order { IsOrder given.now.set.now.tasks given.now.order.now }
+    requires within { place + count ≤ length given.now.order.now }
     ensures count { IfOk result (λ costs. length costs.items ≡ count) }
 {
+    let graphs = given.set.graphs();
     let mut all = Vec::new(alloc);
     for number in 0..count {
-        let graph = graphs.graph(order[place + number]);
-        all.push(reckon(graph, bound, budget))?;
+        let graph = graphs.graph(given.order[place + number]);
+        all.push(reckon(graph, bound, effort.budget()))?;
     }
     Ok(all)
 }

@@ -6,10 +6,10 @@ ghost use Rattle.drt_sp.specs.Attempts.{AreGiven, IsAttempt};
 ghost use Rattle.drt_steps.specs.Time.{AreChosen};
 
 use crate::proving::{Refined, VertexProof, refine_vertex};
-use drt_graph::Graph;
+use crate::vertices::Posed;
+use drt_effort::Effort;
 use drt_model::Memory;
 use drt_refine::Frontier;
-use drt_tree::Forest;
 use std::alloc::Global;
 
 // How many times fewer steps the attempts have behind one that spent its steps.
@@ -32,38 +32,35 @@ pub(crate) struct Attempts {
     pub(crate) spent: Vec<Attempt>,
 }
 
-/// Refines the vertices of a task, by its graph, in file order from this one on, with so few steps each, and with fewer behind one that
-/// spent them: what becomes of those before it is given. The first one that fails is the last. From the first one on whose steps are spent, which may yet fail, there are at most
-/// `most`: those behind it may be attempted in vain.
+/// Refines the vertices of a task in file order from this one on, with so few steps each, and with fewer behind one that spent them: what
+/// becomes of those before it is given. The first one that fails is the last. From the first one on whose steps are spent, which may yet
+/// fail, there are at most `most`: those behind it may be attempted for nothing.
 pub(crate) fn attempt_vertices(
     alloc: Global,
-    forest: &Forest,
-    roots: &[u32],
-    graph: &Graph,
+    posed: &Posed<'_>,
     from: u32,
     given: Vec<Option<VertexProof>>,
     most: usize,
-    few: u64,
+    few: Effort,
 ) -> Result<Attempts, Memory>
-    requires few { length roots.now ≤ 31 }
-    requires roots { (v : ℕ) → v < vertex_count graph.now → AreChosen (deadline graph.now v) forest.now.pool roots.now }
+    requires few { length posed.now.roots.now ≤ 31 }
+    requires roots { (v : ℕ) → v < vertex_count posed.now.graph.now → AreChosen (deadline posed.now.graph.now v) posed.now.forest.now.pool posed.now.roots.now }
     requires from { length given.items ≡ from }
-    requires given { AreGiven forest.now roots.now graph.now given.items }
-    requires steps { (1 ≤ few) × (few ≤ 1000000) }
-    ensures proofs { IfOk result (λ attempts. AreGiven forest.now roots.now graph.now attempts.proofs.items) }
-    ensures spent { IfOk result (λ attempts. All (IsAttempt forest.now roots.now graph.now) attempts.spent.items) }
+    requires given { AreGiven posed.now.forest.now posed.now.roots.now posed.now.graph.now given.items }
+    ensures proofs { IfOk result (λ attempts. AreGiven posed.now.forest.now posed.now.roots.now posed.now.graph.now attempts.proofs.items) }
+    ensures spent { IfOk result (λ attempts. All (IsAttempt posed.now.forest.now posed.now.roots.now posed.now.graph.now) attempts.spent.items) }
 {
     let mut proofs = given;
     let mut spent = Vec::new(alloc);
     let mut left = most;
-    for vertex in from..graph.vertex_count() {
+    for vertex in from..posed.graph.vertex_count() {
         if left == 0 {
             return Ok(Attempts { proofs, spent });
         }
-        let subject = graph.vertex(vertex);
+        let subject = posed.graph.vertex(vertex);
         let (wcet, deadline) = (subject.wcet, subject.deadline);
-        let steps = steps_of(few, spent.as_slice());
-        match refine_vertex(alloc, forest, roots, wcet, deadline, steps)? {
+        let effort = few.at_most(steps_of(few.budget(), spent.as_slice()));
+        match refine_vertex(alloc, posed.forest, posed.roots, wcet, deadline, effort)? {
             Refined::Passes(items) => proofs.push(Some(VertexProof::Passes(items)))?,
             Refined::Fails(tuple) => {
                 proofs.push(Some(VertexProof::Fails(tuple)))?;

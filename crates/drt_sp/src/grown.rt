@@ -1,13 +1,13 @@
 //! How an analysis ends, with its trees.
-ghost use Rattle.drt_model.specs.Constrained.{AreConstrained};
 ghost use Rattle.drt_sp.specs.Grown.{AreProvedTrees};
 ghost use Rattle.drt_sp.specs.Progress.{IsComplete};
 
 use crate::answer::FixedAnswer;
 use crate::progress::Progress;
+use drt_accepted::Accepted;
 use drt_busy::times_decide;
 use drt_claims::Evidence;
-use drt_model::{Row, TaskSet};
+use drt_model::Row;
 use drt_trails::FixedTrail;
 use drt_tree::Forest;
 
@@ -40,13 +40,12 @@ pub(crate) enum Outcome {
 
 impl ProvedTrees {
     /// The trees of an analysis that proved all vertices.
-    pub(crate) fn of(set: &TaskSet, order: Vec<u32>, progress: Progress) -> ProvedTrees
-        requires constrained { AreConstrained set.now.tasks }
-        requires complete { IsComplete set.now.tasks order.items progress.forest progress.roots.items progress.trees.items progress.proofs.items }
+    pub(crate) fn of(set: &Accepted<'_>, order: Vec<u32>, progress: Progress) -> ProvedTrees
+        requires { IsComplete set.now.tasks order.items progress.forest progress.roots.items progress.trees.items progress.proofs.items }
         ensures { AreProvedTrees set.now result }
     {
         times_decide();
-        let _tasks = set.tasks();
+        set.keep_limits();
         let Progress { forest, roots, .. } = progress;
         forest.show_sound();
         ProvedTrees {

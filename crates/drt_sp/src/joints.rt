@@ -10,7 +10,10 @@ ghost use Rattle.drt_sp.specs.Parts.{AreAddedFor, AreEndOf, HasParts};
 use crate::attempts::Attempt;
 use crate::parts::worker_limit;
 use drt_claims::Item;
+use drt_crew::Crew;
+use drt_effort::Effort;
 use drt_model::{Memory, Row};
+use drt_pool::Gate;
 use drt_refine::{CombinationState, Frontier, eager_settles};
 use drt_tree::Forest;
 use std::alloc::Global;
@@ -43,31 +46,28 @@ impl Joint {
 }
 
 /// Puts together the parts of all attempts, each by one of the workers. Each part is given up once it is copied.
-pub(crate) fn join_all<R: Threads + Wait + Sync>(
-    rt: &R,
-    alloc: Global,
+pub(crate) fn join_all<G: Gate, R: Threads + Wait + Sync>(
+    crew: &Crew<'_, G, R>,
     forest: &Forest,
     joints: &mut [Joint],
-    workers: u32,
-    budget: u64,
 )
     requires joints { All (IsJoint forest.now) joints.old }
-    requires budget { budget ≤ 1000000 }
     ensures joints { All (IsJoint forest.now) joints.new }
     ensures attempts { KeepAttempts joints.old joints.new }
 {
+    let alloc = crew.alloc;
+    let effort = &crew.effort;
     let worker = move |_place: usize, joint: &mut Joint|
-        requires { IsJoint forest.now joint.now × (budget ≤ 1000000) }
+        requires { IsJoint forest.now joint.now }
         ensures { IsJoint forest.entry.now joint.exit.now × (joint.exit.now.attempt ≡ joint.entry.now.attempt) }
-    { join_one(alloc, forest, joint, budget) };
-    let limit = worker_limit(rt, joints.len(), workers).max(1);
-    thread::for_each_mut(rt, joints, limit, &worker);
+    { join_one(alloc, forest, joint, *effort) };
+    let limit = worker_limit(crew, joints.len()).max(1);
+    thread::for_each_mut(crew.rt, joints, limit, &worker);
 }
 
 // Puts together the parts of an attempt.
-fn join_one(alloc: Global, forest: &Forest, joint: &mut Joint, budget: u64)
+fn join_one(alloc: Global, forest: &Forest, joint: &mut Joint, effort: Effort)
     requires joint { IsJoint forest.now joint.old }
-    requires budget { budget ≤ 1000000 }
     ensures joint { IsJoint forest.now joint.new }
     ensures attempt { joint.new.attempt ≡ joint.old.attempt }
 {
@@ -76,7 +76,7 @@ fn join_one(alloc: Global, forest: &Forest, joint: &mut Joint, budget: u64)
         forest,
         &joint.attempt.frontier,
         &mut joint.parts,
-        budget,
+        effort,
     );
 }
 
@@ -87,13 +87,12 @@ fn join_parts(
     forest: &Forest,
     frontier: &Frontier,
     parts: &mut Vec<Option<Row<Item>>>,
-    budget: u64,
+    effort: Effort,
 ) -> Result<Option<Row<Item>>, Memory>
     requires frontier { IsFrontier forest.now frontier.now }
     requires eager { IsEager (setting_of forest.now frontier.now) frontier.now.log }
     requires deadline { frontier.now.deadline ≤ 1000000 }
     requires parts { HasParts forest.now frontier.now.wcet frontier.now.deadline frontier.now.combinations parts.old.items }
-    requires budget { budget ≤ 1000000 }
     ensures parts { HasParts forest.now frontier.now.wcet frontier.now.deadline frontier.now.combinations parts.new.items }
     ensures items { IfOk result (λ some. IfSome some (λ items. AreEndOf forest.now frontier.now.wcet frontier.now.deadline frontier.now.roots items × IsCounted items)) }
 {
@@ -103,7 +102,7 @@ fn join_parts(
     stack.push(0)?;
     for _ in 0..=frontier.count() {
         let Some(id) = stack.pop() else {
-            return Ok(within_budget(items, budget));
+            return Ok(within_budget(items, effort));
         };
         if !add_items(forest, frontier, id, parts, &mut stack, &mut items)? {
             return Ok(None);
@@ -124,11 +123,10 @@ fn room_for(parts: &[Option<Row<Item>>]) -> usize {
 }
 
 /// The items, where one frontier makes them within the budget, by two steps each.
-pub(crate) fn within_budget(items: Vec<Item>, budget: u64) -> Option<Row<Item>>
-    requires { budget ≤ 1000000 }
+pub(crate) fn within_budget(items: Vec<Item>, effort: Effort) -> Option<Row<Item>>
     ensures { IfSome result (λ row. (row ≡ items.items) × IsCounted row) }
 {
-    if 2 * items.len() as u64 > budget {
+    if 2 * items.len() as u64 > effort.budget() {
         return None;
     }
     Some(Row::from_vec(items))

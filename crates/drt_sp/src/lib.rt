@@ -14,7 +14,6 @@ mod ahead;
 mod analysis;
 mod answer;
 mod attempts;
-mod deadlines;
 mod grown;
 mod joints;
 pub mod laws;
@@ -31,7 +30,7 @@ mod walks;
 
 pub use analysis::{analyse_fixed, analyse_trees};
 pub use answer::FixedAnswer;
-pub use deadlines::greatest_deadline;
+pub use drt_check_trees::greatest_deadline;
 pub use drt_trails::FixedTrail;
 pub use grown::{ProvedTrees, TreesAnswer};
 pub use laws::{budgets_suffice, searches_go_on};

@@ -13,8 +13,10 @@ use crate::attempts::{Attempt, Attempts, attempt_vertices};
 use crate::joints::{Joint, join_all};
 use crate::proving::VertexProof;
 use crate::race::Race;
+use crate::vertices::Posed;
 use drt_claims::Item;
-use drt_graph::Graph;
+use drt_crew::Crew;
+use drt_effort::Effort;
 use drt_model::{Memory, Row};
 use drt_pool::Gate;
 use drt_refine::{CombinationState, choose_place, over_every_interleaving};
@@ -74,36 +76,28 @@ impl Ahead {
 ///
 /// The gate sees each turn in which a worker takes a combination, and none of the attempts.
 pub(crate) fn prove_by_parts<G: Gate, R: Threads + Wait + Sync>(
-    rt: &R,
-    alloc: Global,
-    forest: &Forest,
-    roots: &[u32],
-    graph: &Graph,
+    crew: &Crew<'_, G, R>,
+    posed: &Posed<'_>,
     from: u32,
     ahead: Ahead,
-    workers: u32,
-    few: u64,
-    budget: u64,
-    gate: &G,
+    few: Effort,
 ) -> Result<Ahead, Memory>
-    requires few { length roots.now ≤ 31 }
-    requires roots { (v : ℕ) → v < vertex_count graph.now → AreChosen (deadline graph.now v) forest.now.pool roots.now }
+    requires few { length posed.now.roots.now ≤ 31 }
+    requires roots { (v : ℕ) → v < vertex_count posed.now.graph.now → AreChosen (deadline posed.now.graph.now v) posed.now.forest.now.pool posed.now.roots.now }
     requires from { length ahead.found.items ≡ from }
-    requires given { AreGiven forest.now roots.now graph.now ahead.found.items }
-    requires steps { (1 ≤ few) × (few ≤ 1000000) }
-    requires budget { budget ≤ 1000000 }
-    ensures { IfOk result (λ more. AreGiven forest.now roots.now graph.now more.found.items) }
+    requires given { AreGiven posed.now.forest.now posed.now.roots.now posed.now.graph.now ahead.found.items }
+    ensures { IfOk result (λ more. AreGiven posed.now.forest.now posed.now.roots.now posed.now.graph.now more.found.items) }
 {
     over_every_interleaving();
     let Ahead { found, hard } = ahead;
     let most = hard.saturating_add(TOGETHER);
-    let attempts = attempt_vertices(alloc, forest, roots, graph, from, found, most, few)?;
+    let attempts = attempt_vertices(crew.alloc, posed, from, found, most, few)?;
     let Attempts { mut proofs, spent } = attempts;
     let hard = hard.saturating_add(spent.len());
-    let tables = end_attempts(rt, alloc, forest, spent.as_slice(), workers, budget, gate)?;
-    let mut joints = joints_of(alloc, forest, roots, graph, spent, tables)?;
-    join_all(rt, alloc, forest, joints.as_mut_slice(), workers, budget);
-    put_joints(forest, roots, graph, joints, &mut proofs)?;
+    let tables = end_attempts(crew, posed.forest, spent.as_slice())?;
+    let mut joints = joints_of(crew.alloc, posed, spent, tables)?;
+    join_all(crew, posed.forest, joints.as_mut_slice());
+    put_joints(posed, joints, &mut proofs)?;
     Ok(Ahead {
         found: proofs,
         hard,
@@ -113,15 +107,13 @@ pub(crate) fn prove_by_parts<G: Gate, R: Threads + Wait + Sync>(
 // The attempts with their parts, of which nothing is put together. The first attempt is the last one of them.
 fn joints_of(
     alloc: Global,
-    forest: &Forest,
-    roots: &[u32],
-    graph: &Graph,
+    posed: &Posed<'_>,
     mut spent: Vec<Attempt>,
     mut tables: Vec<Vec<Option<Row<Item>>>>,
 ) -> Result<Vec<Joint>, Memory>
-    requires each { All (IsAttempt forest.now roots.now graph.now) spent.items }
-    requires tables { HaveParts forest.now spent.items tables.items }
-    ensures { IfOk result (λ joints. AreJoints forest.now roots.now graph.now joints.items) }
+    requires each { All (IsAttempt posed.now.forest.now posed.now.roots.now posed.now.graph.now) spent.items }
+    requires tables { HaveParts posed.now.forest.now spent.items tables.items }
+    ensures { IfOk result (λ joints. AreJoints posed.now.forest.now posed.now.roots.now posed.now.graph.now joints.items) }
 {
     let mut joints = Vec::with_capacity(alloc, spent.len())?;
     while let Some(attempt) = spent.pop() {
@@ -135,33 +127,29 @@ fn joints_of(
 
 // Puts the proofs that were put together to their vertices, from the last joint on.
 fn put_joints(
-    forest: &Forest,
-    roots: &[u32],
-    graph: &Graph,
+    posed: &Posed<'_>,
     mut joints: Vec<Joint>,
     proofs: &mut Vec<Option<VertexProof>>,
 ) -> Result<(), Memory>
-    requires joints { AreJoints forest.now roots.now graph.now joints.items }
-    requires given { AreGiven forest.now roots.now graph.now proofs.old.items }
-    ensures { OnOk result (AreGiven forest.now roots.now graph.now proofs.new.items) }
+    requires joints { AreJoints posed.now.forest.now posed.now.roots.now posed.now.graph.now joints.items }
+    requires given { AreGiven posed.now.forest.now posed.now.roots.now posed.now.graph.now proofs.old.items }
+    ensures { OnOk result (AreGiven posed.now.forest.now posed.now.roots.now posed.now.graph.now proofs.new.items) }
 {
     while let Some(joint) = joints.pop() {
-        put_joint(forest, roots, graph, joint, proofs)?;
+        put_joint(posed, joint, proofs)?;
     }
     Ok(())
 }
 
 // Puts the proof of a joint to its vertex, if there is one.
 fn put_joint(
-    forest: &Forest,
-    roots: &[u32],
-    graph: &Graph,
+    posed: &Posed<'_>,
     joint: Joint,
     proofs: &mut Vec<Option<VertexProof>>,
 ) -> Result<(), Memory>
-    requires joint { IsJointOf forest.now roots.now graph.now joint }
-    requires given { AreGiven forest.now roots.now graph.now proofs.old.items }
-    ensures { OnOk result (AreGiven forest.now roots.now graph.now proofs.new.items) }
+    requires joint { IsJointOf posed.now.forest.now posed.now.roots.now posed.now.graph.now joint }
+    requires given { AreGiven posed.now.forest.now posed.now.roots.now posed.now.graph.now proofs.old.items }
+    ensures { OnOk result (AreGiven posed.now.forest.now posed.now.roots.now posed.now.graph.now proofs.new.items) }
 {
     every_forest();
     let Joint { attempt, items, .. } = joint;
@@ -183,33 +171,20 @@ fn put_proof(vertex: u32, items: Row<Item>, proofs: &mut Vec<Option<VertexProof>
 // The parts that workers make of the combinations that are open in the frontiers of these attempts, a table for each of them. The gate
 // sees each turn of theirs.
 fn end_attempts<G: Gate, R: Threads + Wait + Sync>(
-    rt: &R,
-    alloc: Global,
+    crew: &Crew<'_, G, R>,
     forest: &Forest,
     spent: &[Attempt],
-    workers: u32,
-    budget: u64,
-    gate: &G,
 ) -> Result<Vec<Vec<Option<Row<Item>>>>, Memory>
     requires { All (CanBeEnded forest.now) spent.now }
     ensures { IfOk result (λ tables. HaveParts forest.now spent.now tables.items) }
 {
-    let mut tables = no_tables(alloc, spent)?;
+    let mut tables = no_tables(crew.alloc, spent)?;
     if spent.is_empty() {
         return Ok(tables);
     }
-    let jobs = open_jobs(alloc, spent)?;
-    let race = Race::start(alloc, spent.len(), budget / 2)?;
-    let lists = share(
-        rt,
-        alloc,
-        forest,
-        spent,
-        jobs.as_slice(),
-        workers,
-        &race,
-        gate,
-    )?;
+    let jobs = open_jobs(crew.alloc, spent)?;
+    let race = Race::start(crew.alloc, spent.len(), crew.effort.budget() / 2)?;
+    let lists = share(crew, forest, spent, jobs.as_slice(), &race)?;
     put_lists(forest, spent, lists, &mut tables)?;
     Ok(tables)
 }
@@ -253,30 +228,29 @@ fn is_open(state: CombinationState) -> bool {
 
 // Shares combinations among workers. Each list has the parts that a worker made. The gate sees each turn of theirs.
 fn share<G: Gate, R: Threads + Wait + Sync>(
-    rt: &R,
-    alloc: Global,
+    crew: &Crew<'_, G, R>,
     forest: &Forest,
     spent: &[Attempt],
     jobs: &[Job],
-    workers: u32,
     race: &Race,
-    gate: &G,
 ) -> Result<Vec<Result<Vec<Part>, Memory>>, Memory>
     requires spent { All (CanBeEnded forest.now) spent.now }
     requires jobs { All (IsJob spent.now) jobs.now }
     ensures { IfOk result (λ lists. All (λ list. IfOk list (λ parts. All (IsPartOf forest.now spent.now) parts.items)) lists.items) }
 {
+    let alloc = crew.alloc;
+    let gate = crew.gate;
     let worker = move |number: usize| -> Result<Vec<Part>, Memory>
         requires { All (CanBeEnded forest.now) spent.now × All (IsJob spent.now) jobs.now }
         ensures { IfOk result (λ parts. All (IsPartOf forest.entry.now spent.entry.now) parts.items) }
     { end_next(alloc, forest, spent, jobs, race, number, gate) };
-    thread::map_indices(rt, alloc, worker_limit(rt, jobs.len(), workers), &worker)
+    thread::map_indices(crew.rt, alloc, worker_limit(crew, jobs.len()), &worker)
 }
 
 /// How many workers are begun for so many pieces of work.
-pub(crate) fn worker_limit<R: Threads>(rt: &R, pieces: usize, workers: u32) -> usize {
-    let most = pieces.min(workers as usize);
-    match available_parallelism(rt) {
+pub(crate) fn worker_limit<G: Gate, R: Threads>(crew: &Crew<'_, G, R>, pieces: usize) -> usize {
+    let most = pieces.min(crew.effort.workers() as usize);
+    match available_parallelism(crew.rt) {
         Ok(processors) => most.min(processors.get()),
         Err(_) => most.min(1),
     }

@@ -1,24 +1,26 @@
 //! How far an analysis has come.
 ghost use Rattle.std.specs.Prelude.{◌≡◌, ℕ, ◌+◌, ◌<◌, ◌≤◌, List, length, IfOk, IfSome, MatchOption};
 ghost use Rattle.std.specs.List.{flat_map};
-ghost use Rattle.drt_model.specs.Constrained.{AreConstrained};
+ghost use Rattle.drt_choices.specs.Choices.{IsOrder};
+ghost use Rattle.drt_claims.specs.Claims.{graphs_of};
 ghost use Rattle.drt_claims.specs.Ranges.{IsInRange};
 ghost use Rattle.drt_claims.specs.Trees.{greatest_deadline};
 ghost use Rattle.drt_sp.specs.Answers.{IsEnding, IsVerdict};
-ghost use Rattle.drt_sp.specs.Progress.{AreGrown, AreProved, IsComplete, IsGiven};
+ghost use Rattle.drt_sp.specs.Progress.{AreGrown, AreProved, IsComplete};
 ghost use Rattle.drt_sp.specs.Searches.{IsEndAt};
 
 use crate::answer::FixedAnswer;
-use crate::deadlines::greatest_deadline;
 use crate::refusal::refusal;
 use crate::trees::{SearchEnd, TreeSearch, plant_tree};
 use crate::vertices::{TaskProofs, prove_vertices};
 use crate::walks::VertexTuple;
+use drt_accepted::Accepted;
 use drt_busy::{times_decide, times_suffice_for_task};
+use drt_check_trees::greatest_deadline;
 use drt_choices::leaves_pass;
 use drt_claims::{Evidence, ProofClaim, TreeClaim};
-use drt_graph::Graphs;
-use drt_model::{Memory, Row, TaskSet};
+use drt_crew::Crew;
+use drt_model::{Memory, Row};
 use drt_pool::Gate;
 use drt_refine::over_every_interleaving as over_every_refinement;
 use drt_request::RequestLabel;
@@ -28,6 +30,13 @@ use drt_tree::Forest;
 use std::alloc::Global;
 use std::sync::Wait;
 use std::thread::Threads;
+
+/// What an analysis is over: a set, and the numbers of its tasks in order of priority.
+#[derive(Clone, Copy)]
+pub(crate) struct Given<'a> {
+    pub(crate) set: &'a Accepted<'a>,
+    pub(crate) order: &'a [u32],
+}
 
 /// What an analysis has made so far: the trees of the first tasks in order of priority, by their roots in the forest and as they are
 /// written, and the proofs of the vertices of the first tasks, in a row for each task of the file.
@@ -41,12 +50,12 @@ pub(crate) struct Progress {
 
 impl Progress {
     /// No tree and no proof.
-    pub(crate) fn start(alloc: Global, set: &TaskSet, order: &[u32]) -> Result<Progress, Memory>
-        ensures grown { IfOk result (λ p. AreGrown set.now.tasks order.now 0 p.forest p.roots.items p.trees.items) }
-        ensures proved { IfOk result (λ p. AreProved set.now.tasks order.now 0 p.trees.items p.proofs.items) }
+    pub(crate) fn start(alloc: Global, given: &Given<'_>) -> Result<Progress, Memory>
+        ensures grown { IfOk result (λ p. AreGrown given.now.set.now.tasks given.now.order.now 0 p.forest p.roots.items p.trees.items) }
+        ensures proved { IfOk result (λ p. AreProved given.now.set.now.tasks given.now.order.now 0 p.trees.items p.proofs.items) }
     {
         let mut proofs = Vec::new(alloc);
-        for _task in set.tasks() {
+        for _task in given.set.tasks() {
             proofs.push(Row::from_vec(Vec::new(alloc)))?;
         }
         Ok(Progress {
@@ -60,45 +69,29 @@ impl Progress {
     /// Proves the vertices of the task at this place of the order, in file order. An answer ends the analysis.
     pub(crate) fn prove_task<G: Gate, R: Threads + Wait + Sync>(
         &mut self,
-        rt: &R,
-        alloc: Global,
-        set: &TaskSet,
-        graphs: &Graphs,
-        order: &[u32],
+        crew: &Crew<'_, G, R>,
+        given: &Given<'_>,
         place: usize,
-        workers: u32,
-        budget: u64,
-        gate: &G,
     ) -> Result<Option<FixedAnswer>, Memory>
-        requires given { IsGiven set.now graphs.now order.now budget }
-        requires workers { (1 ≤ workers) × (workers ≤ 16) }
-        requires here { place < length order.now }
-        requires grown { AreGrown set.now.tasks order.now place self.old.forest self.old.roots.items self.old.trees.items }
-        requires proved { AreProved set.now.tasks order.now place self.old.trees.items self.old.proofs.items }
+        requires order { IsOrder given.now.set.now.tasks given.now.order.now }
+        requires here { place < length given.now.order.now }
+        requires grown { AreGrown given.now.set.now.tasks given.now.order.now place self.old.forest self.old.roots.items self.old.trees.items }
+        requires proved { AreProved given.now.set.now.tasks given.now.order.now place self.old.trees.items self.old.proofs.items }
         ensures forest { self.new.forest ≡ self.old.forest }
         ensures roots { self.new.roots ≡ self.old.roots }
         ensures trees { self.new.trees ≡ self.old.trees }
-        ensures decided { IfOk result (λ answer. MatchOption answer (AreProved set.now.tasks order.now (place + 1) self.new.trees.items self.new.proofs.items) (IsEnding set.now budget)) }
+        ensures decided { IfOk result (λ answer. MatchOption answer (AreProved given.now.set.now.tasks given.now.order.now (place + 1) self.new.trees.items self.new.proofs.items) (IsEnding given.now.set.now crew.now.effort.budget)) }
     {
         leaves_pass();
         over_every_refinement();
         times_suffice_for_task();
-        let _tasks = set.tasks();
+        let _tasks = given.set.tasks();
+        let graphs = given.set.graphs();
         let _count = graphs.count();
         self.forest.show_sound();
-        let task = order[place];
+        let task = given.order[place];
         let graph = graphs.graph(task);
-        match prove_vertices(
-            rt,
-            alloc,
-            &self.forest,
-            self.roots.as_slice(),
-            task,
-            graph,
-            workers,
-            budget,
-            gate,
-        )? {
+        match prove_vertices(crew, &self.forest, self.roots.as_slice(), task, graph)? {
             TaskProofs::Passed(proofs) => {
                 self.proofs[task as usize] = proofs;
                 Ok(None)
@@ -109,7 +102,7 @@ impl Progress {
                     vertex,
                     tuple,
                 };
-                let evidence = refusal(alloc, set, graphs, &self.forest, order, &failed)?;
+                let evidence = refusal(crew.alloc, given, &self.forest, &failed)?;
                 Ok(Some(FixedAnswer::Done(evidence)))
             }
             TaskProofs::Spent { vertex, log } => {
@@ -121,33 +114,32 @@ impl Progress {
 
     /// Searches the walks of the task at this place of the order, which isn't the last one, where the end of that search wasn't found
     /// before, and adds their tree. An answer ends the analysis.
-    pub(crate) fn add_tree(
+    pub(crate) fn add_tree<G: Gate, R: Threads + Wait + Sync>(
         &mut self,
-        alloc: Global,
-        set: &TaskSet,
-        graphs: &Graphs,
-        order: &[u32],
+        crew: &Crew<'_, G, R>,
+        given: &Given<'_>,
         place: usize,
         found: Option<SearchEnd>,
-        budget: u64,
     ) -> Result<Option<FixedAnswer>, Memory>
-        requires given { IsGiven set.now graphs.now order.now budget }
-        requires here { place + 1 < length order.now }
-        requires found { IfSome found (IsEndAt graphs.now order.now (greatest_deadline set.now.tasks) budget place) }
-        requires grown { AreGrown set.now.tasks order.now place self.old.forest self.old.roots.items self.old.trees.items }
-        requires proved { AreProved set.now.tasks order.now (place + 1) self.old.trees.items self.old.proofs.items }
-        ensures grown { IfOk result (λ answer. MatchOption answer (AreGrown set.now.tasks order.now (place + 1) self.new.forest self.new.roots.items self.new.trees.items) (IsEnding set.now budget)) }
-        ensures proved { IfOk result (λ answer. AreProved set.now.tasks order.now (place + 1) self.new.trees.items self.new.proofs.items) }
+        requires order { IsOrder given.now.set.now.tasks given.now.order.now }
+        requires here { place + 1 < length given.now.order.now }
+        requires found { IfSome found (IsEndAt (graphs_of given.now.set.now.tasks) given.now.order.now (greatest_deadline given.now.set.now.tasks) crew.now.effort.budget place) }
+        requires grown { AreGrown given.now.set.now.tasks given.now.order.now place self.old.forest self.old.roots.items self.old.trees.items }
+        requires proved { AreProved given.now.set.now.tasks given.now.order.now (place + 1) self.old.trees.items self.old.proofs.items }
+        ensures grown { IfOk result (λ answer. MatchOption answer (AreGrown given.now.set.now.tasks given.now.order.now (place + 1) self.new.forest self.new.roots.items self.new.trees.items) (IsEnding given.now.set.now crew.now.effort.budget)) }
+        ensures proved { IfOk result (λ answer. AreProved given.now.set.now.tasks given.now.order.now (place + 1) self.new.trees.items self.new.proofs.items) }
     {
         over_every_search::<RequestLabel>();
         times_suffice_for_task();
-        let _tasks = set.tasks();
+        let _tasks = given.set.tasks();
+        let graphs = given.set.graphs();
         let _count = graphs.count();
         self.forest.show_sound();
-        let task = order[place];
+        let task = given.order[place];
         let graph = graphs.graph(task);
-        let bound = greatest_deadline(set);
-        match plant_tree(alloc, graph, bound, found, budget, &mut self.forest)? {
+        let bound = u64::from(greatest_deadline(given.set.set()));
+        let effort = crew.effort;
+        match plant_tree(crew.alloc, graph, bound, found, effort, &mut self.forest)? {
             TreeSearch::Tree(tree) => {
                 self.roots.push(tree.top)?;
                 self.trees.push(tree.claim)?;
@@ -161,14 +153,13 @@ impl Progress {
     }
 
     /// The evidence of a yes, with the proofs in file order.
-    pub(crate) fn evidence(self, alloc: Global, set: &TaskSet) -> Result<Evidence, Memory>
-        requires constrained { AreConstrained set.now.tasks }
-        requires complete { (order : List ℕ) × IsComplete set.now.tasks order self.forest self.roots.items self.trees.items self.proofs.items }
+    pub(crate) fn evidence(self, alloc: Global, set: &Accepted<'_>) -> Result<Evidence, Memory>
+        requires { (order : List ℕ) × IsComplete set.now.tasks order self.forest self.roots.items self.trees.items self.proofs.items }
         ensures verdict { IfOk result (IsVerdict set.now) }
         ensures range { IfOk result IsInRange }
     {
         times_decide();
-        let _tasks = set.tasks();
+        set.keep_limits();
         let Progress { trees, proofs, .. } = self;
         Ok(Evidence::FixedYes {
             trees: Row::from_vec(trees),

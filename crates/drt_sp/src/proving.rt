@@ -16,6 +16,7 @@ use crate::joints::within_budget;
 use crate::parts::end_combination;
 use crate::race::Race;
 use drt_claims::Item;
+use drt_effort::Effort;
 use drt_model::{Memory, Row};
 use drt_refine::{
     CombinationState, Frontier, FrontierEntry, FrontierReply, eager_settles,
@@ -45,7 +46,7 @@ pub(crate) enum Refined {
 }
 
 /// Looks for a time that passes for a vertex of this wcet and deadline (in ticks), for each tuple of leaves below the roots,
-/// which are those of the trees of the tasks of higher priority. The budget is how many steps the one frontier may make.
+/// which are those of the trees of the tasks of higher priority. The one frontier may make as many steps as the budget has.
 ///
 /// First only the items are made, depth first, and nothing else is kept. Where that finds a tuple that fails, or the budget is spent, a
 /// frontier makes all steps once more, for the tuple that it finds first or for its log.
@@ -55,21 +56,20 @@ pub(crate) fn prove_vertex(
     roots: &[u32],
     wcet: u32,
     deadline: u32,
-    budget: u64,
+    effort: Effort,
 ) -> Result<VertexProof, Memory>
     requires few { length roots.now ≤ 31 }
     requires roots { AreChosen deadline forest.now.pool roots.now }
     requires wcet { (1 ≤ wcet) × (wcet ≤ 1000000) }
     requires deadline { (1 ≤ deadline) × (deadline ≤ 1000000) }
-    requires budget { (1 ≤ budget) × (budget ≤ 1000000) }
-    ensures { IfOk result (IsVertexProof forest.now wcet deadline roots.now budget) }
+    ensures { IfOk result (IsVertexProof forest.now wcet deadline roots.now effort.budget) }
 {
     forest.show_sound();
     every_forest();
-    if let Some(items) = end_roots(alloc, forest, roots, wcet, deadline, budget)? {
+    if let Some(items) = end_roots(alloc, forest, roots, wcet, deadline, effort)? {
         return Ok(VertexProof::Passes(items));
     }
-    prove_by_frontier(alloc, forest, roots, wcet, deadline, budget)
+    prove_by_frontier(alloc, forest, roots, wcet, deadline, effort)
 }
 
 // The items that end the roots, where one frontier makes them within the budget, by two steps each.
@@ -79,18 +79,17 @@ fn end_roots(
     roots: &[u32],
     wcet: u32,
     deadline: u32,
-    budget: u64,
+    effort: Effort,
 ) -> Result<Option<Row<Item>>, Memory>
     requires few { length roots.now ≤ 31 }
     requires roots { AreChosen deadline forest.now.pool roots.now }
     requires wcet { wcet ≤ 1000000 }
     requires deadline { deadline ≤ 1000000 }
-    requires budget { budget ≤ 1000000 }
     ensures { IfOk result (λ some. IfSome some (λ items. AreEndOf forest.now wcet deadline roots.now items × IsCounted items)) }
 {
-    let race = Race::start(alloc, 1, budget / 2)?;
+    let race = Race::start(alloc, 1, effort.budget() / 2)?;
     match end_combination(alloc, forest, roots, wcet, deadline, 0, &race)? {
-        Some(items) => Ok(within_budget(items.into_vec(), budget)),
+        Some(items) => Ok(within_budget(items.into_vec(), effort)),
         None => Ok(None),
     }
 }
@@ -102,16 +101,15 @@ fn prove_by_frontier(
     roots: &[u32],
     wcet: u32,
     deadline: u32,
-    budget: u64,
+    effort: Effort,
 ) -> Result<VertexProof, Memory>
     requires few { length roots.now ≤ 31 }
     requires roots { AreChosen deadline forest.now.pool roots.now }
     requires wcet { (1 ≤ wcet) × (wcet ≤ 1000000) }
     requires deadline { (1 ≤ deadline) × (deadline ≤ 1000000) }
-    requires budget { (1 ≤ budget) × (budget ≤ 1000000) }
-    ensures { IfOk result (IsVertexProof forest.now wcet deadline roots.now budget) }
+    ensures { IfOk result (IsVertexProof forest.now wcet deadline roots.now effort.budget) }
 {
-    let refined = refine_vertex(alloc, forest, roots, wcet, deadline, budget)?;
+    let refined = refine_vertex(alloc, forest, roots, wcet, deadline, effort)?;
     match refined {
         Refined::Passes(items) => Ok(VertexProof::Passes(items)),
         Refined::Fails(tuple) => Ok(VertexProof::Fails(tuple)),
@@ -126,19 +124,18 @@ fn drive_frontier(
     roots: &[u32],
     wcet: u32,
     deadline: u32,
-    budget: u64,
+    effort: Effort,
 ) -> Result<(Frontier, FrontierReply), Memory>
     requires few { length roots.now ≤ 31 }
     requires roots { AreChosen deadline forest.now.pool roots.now }
     requires wcet { (1 ≤ wcet) × (wcet ≤ 1000000) }
     requires deadline { (1 ≤ deadline) × (deadline ≤ 1000000) }
-    requires budget { (1 ≤ budget) × (budget ≤ 1000000) }
-    ensures setting { IfOk result (λ r. setting_of forest.now r.0 ≡ record { forest = forest.now; roots = roots.now; wcet = wcet; deadline = deadline; budget = budget }) }
+    ensures setting { IfOk result (λ r. setting_of forest.now r.0 ≡ record { forest = forest.now; roots = roots.now; wcet = wcet; deadline = deadline; budget = effort.budget }) }
     ensures frontier { IfOk result (λ r. IsFrontier forest.now r.0) }
     ensures eager { IfOk result (λ r. IsEager (setting_of forest.now r.0) r.0.log) }
     ensures stops { IfOk result (λ r. StopsAt (setting_of forest.now r.0) (state_of r.0) r.1) }
 {
-    let mut frontier = Frontier::start(alloc, forest, roots, wcet, deadline, budget)?;
+    let mut frontier = Frontier::start(alloc, forest, roots, wcet, deadline, effort.budget())?;
     let reply = frontier.drive(forest, WORKER);
     Ok((frontier, reply))
 }
@@ -150,16 +147,15 @@ pub(crate) fn refine_vertex(
     roots: &[u32],
     wcet: u32,
     deadline: u32,
-    budget: u64,
+    effort: Effort,
 ) -> Result<Refined, Memory>
     requires few { length roots.now ≤ 31 }
     requires roots { AreChosen deadline forest.now.pool roots.now }
     requires wcet { (1 ≤ wcet) × (wcet ≤ 1000000) }
     requires deadline { (1 ≤ deadline) × (deadline ≤ 1000000) }
-    requires budget { (1 ≤ budget) × (budget ≤ 1000000) }
-    ensures { IfOk result (IsRefined forest.now wcet deadline roots.now budget) }
+    ensures { IfOk result (IsRefined forest.now wcet deadline roots.now effort.budget) }
 {
-    let (frontier, reply) = drive_frontier(alloc, forest, roots, wcet, deadline, budget)?;
+    let (frontier, reply) = drive_frontier(alloc, forest, roots, wcet, deadline, effort)?;
     match reply {
         FrontierReply::Spent => Ok(Refined::Spent(frontier)),
         reply => settle(alloc, forest, &frontier, reply),

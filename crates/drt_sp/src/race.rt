@@ -1,14 +1,12 @@
 //! What workers share that end combinations side by side, or what one has that ends them alone. It decides only when a worker gives up:
 //! nothing is proved of it.
+use drt_effort::MOST_WORKERS;
 use drt_model::Memory;
 use std::alloc::Global;
 use std::sync::atomic::{AtomicU64, Ordering};
 
 // How many items a worker makes before it counts them where all workers see it.
 const COUNTED: usize = 1024;
-
-// How many workers there are at most. Each says at most once that a frontier is wanting.
-const MOST_WORKERS: u32 = 16;
 
 /// The number of the next job, the least place of a frontier that is wanting, and how many items were made for each frontier, by its
 /// place. A frontier is wanting where a combination of it fails, or as many items were made for it as are allowed. Then nobody goes on
@@ -67,6 +65,7 @@ impl Race {
     /// Says that the frontier at this place is wanting.
     pub(crate) fn give_up(&self, place: usize) {
         let mut least = self.wanting.load(Ordering::SeqCst);
+        // Each worker says at most once that a frontier is wanting.
         for _ in 0..MOST_WORKERS {
             if least <= place as u64 {
                 return;

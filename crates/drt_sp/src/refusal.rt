@@ -1,40 +1,34 @@
 //! The evidence of a no.
 ghost use Rattle.std.specs.Prelude.{◌≡◌, IfOk};
-ghost use Rattle.drt_model.specs.Constrained.{AreConstrained};
-ghost use Rattle.drt_claims.specs.Claims.{graphs_of};
 ghost use Rattle.drt_claims.specs.Ranges.{IsInRange};
 ghost use Rattle.drt_sp.specs.Answers.{IsFailedVertex, IsRefusal};
 
+use crate::progress::Given;
 use crate::releases::leaf_releases;
 use crate::walks::VertexTuple;
 use drt_choices::leaves_miss;
 use drt_claims::Evidence;
-use drt_graph::Graphs;
-use drt_model::{Memory, Miss, TaskSet};
+use drt_model::{Memory, Miss};
 use drt_tree::Forest;
 use std::alloc::Global;
 
 /// The no of a vertex that fails: the releases of the walks that its tuple of leaves names, and the miss of the vertex's job.
 pub(crate) fn refusal(
     alloc: Global,
-    set: &TaskSet,
-    graphs: &Graphs,
+    given: &Given<'_>,
     forest: &Forest,
-    order: &[u32],
     failed: &VertexTuple,
 ) -> Result<Evidence, Memory>
-    requires constrained { AreConstrained set.now.tasks }
-    requires graphs { graphs.now ≡ graphs_of set.now.tasks }
-    requires failed { IsFailedVertex set.now order.now forest.now failed.now.task failed.now.vertex failed.now.tuple }
-    ensures verdict { IfOk result (IsRefusal set.now) }
+    requires { IsFailedVertex given.now.set.now given.now.order.now forest.now failed.now.task failed.now.vertex failed.now.tuple }
+    ensures verdict { IfOk result (IsRefusal given.now.set.now) }
     ensures range { IfOk result IsInRange }
 {
     leaves_miss();
     forest.show_sound();
-    let _tasks = set.tasks();
+    let graphs = given.set.graphs();
     let _count = graphs.count();
     let deadline = graphs.graph(failed.task).vertex(failed.vertex).deadline;
-    let releases = leaf_releases(alloc, set, graphs, forest, order, failed, deadline)?;
+    let releases = leaf_releases(alloc, given.set, forest, given.order, failed, deadline)?;
     Ok(Evidence::FixedNo {
         releases,
         miss: Miss {

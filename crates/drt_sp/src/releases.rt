@@ -1,13 +1,12 @@
 //! The releases of the walks that a tuple of leaves names.
 ghost use Rattle.std.specs.Prelude.{◌≡◌, ◌≤◌, length, All, IfOk};
 ghost use Rattle.drt_choices.specs.Laws.{leaf_releases};
-ghost use Rattle.drt_claims.specs.Claims.{graphs_of};
 ghost use Rattle.drt_claims.specs.Ranges.{IsInRangeRelease};
 ghost use Rattle.drt_sp.specs.Answers.{IsTupleFor};
 
 use crate::walks::{VertexTuple, job_walks};
-use drt_graph::Graphs;
-use drt_model::{Memory, Release, Row, TaskSet};
+use drt_accepted::Accepted;
+use drt_model::{Memory, Release, Row};
 use drt_releases::{all_releases, releases_are_in_range};
 use drt_tree::Forest;
 use std::alloc::Global;
@@ -19,14 +18,12 @@ const LAST_DEADLINE: u64 = 2_000_000;
 /// 0, in order of tasks. Each needs its whole execution time.
 pub fn leaf_releases(
     alloc: Global,
-    set: &TaskSet,
-    graphs: &Graphs,
+    set: &Accepted<'_>,
     forest: &Forest,
     order: &[u32],
     shown: &VertexTuple,
     end: u32,
 ) -> Result<Row<Release>, Memory>
-    requires graphs { graphs.now ≡ graphs_of set.now.tasks }
     requires tuple { IsTupleFor set.now order.now forest.now shown.now.task shown.now.vertex shown.now.tuple }
     requires end { end ≤ 1000000 }
     ensures releases { IfOk result (λ releases. releases ≡ leaf_releases set.now.tasks forest.now order.now shown.now.tuple shown.now.task shown.now.vertex end) }
@@ -35,9 +32,9 @@ pub fn leaf_releases(
 {
     releases_are_in_range();
     forest.show_sound();
-    let tasks = set.tasks();
+    let graphs = set.graphs();
     let _count = graphs.count();
-    let walks = job_walks(alloc, tasks, graphs, forest, order, shown, end)?;
+    let walks = job_walks(alloc, set, forest, order, shown, end)?;
     let releases = all_releases(alloc, graphs, walks.as_slice(), LAST_DEADLINE)?;
     // So many releases would take more than 100 GB.
     if releases.len() > 4294967295 {

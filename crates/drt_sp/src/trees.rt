@@ -12,6 +12,7 @@ use crate::trees::adding::add_tree;
 pub(crate) use crate::trees::gathering::Leaves;
 use crate::trees::gathering::gather;
 use drt_claims::TreeClaim;
+use drt_effort::Effort;
 use drt_graph::Graph;
 use drt_model::{Memory, Row};
 use drt_request::RequestLabel;
@@ -44,16 +45,14 @@ fn search(
     alloc: Global,
     graph: &Graph,
     bound: u64,
-    budget: u64,
+    effort: Effort,
 ) -> Result<(Table<RequestLabel>, TableReply), Memory>
     requires from { 1 ≤ bound }
     requires to { bound ≤ 1000000 }
-    requires some { 1 ≤ budget }
-    requires few { budget ≤ 1000000 }
-    ensures setting { IfOk result (λ end. setting_of end.0 ≡ search_of graph.now bound budget) }
+    ensures setting { IfOk result (λ end. setting_of end.0 ≡ search_of graph.now bound effort.budget) }
     ensures stops { IfOk result (λ end. StopsAt request_algebra end.0 end.1) }
 {
-    let table: Table<RequestLabel> = Table::start(alloc, graph, bound, budget)?;
+    let table: Table<RequestLabel> = Table::start(alloc, graph, bound, effort.budget())?;
     table.drive(alloc, 0)
 }
 
@@ -66,20 +65,18 @@ pub(crate) enum SearchEnd {
     Spent(Row<Entry>),
 }
 
-/// Searches the walks of a task's graph up to the bound, in ticks, with this budget of steps, for the leaves of its tree.
+/// Searches the walks of a task's graph up to the bound, in ticks, within the budget of steps, for the leaves of its tree.
 pub(crate) fn search_leaves(
     alloc: Global,
     graph: &Graph,
     bound: u64,
-    budget: u64,
+    effort: Effort,
 ) -> Result<SearchEnd, Memory>
     requires from { 1 ≤ bound }
     requires to { bound ≤ 1000000 }
-    requires some { 1 ≤ budget }
-    requires few { budget ≤ 1000000 }
-    ensures { IfOk result (IsSearchEnd graph.now bound budget) }
+    ensures { IfOk result (IsSearchEnd graph.now bound effort.budget) }
 {
-    let (table, _reply) = search(alloc, graph, bound, budget)?;
+    let (table, _reply) = search(alloc, graph, bound, effort)?;
     end_of(alloc, &table)
 }
 
@@ -103,18 +100,16 @@ fn take_or_search(
     graph: &Graph,
     bound: u64,
     found: Option<SearchEnd>,
-    budget: u64,
+    effort: Effort,
 ) -> Result<SearchEnd, Memory>
     requires from { 1 ≤ bound }
     requires to { bound ≤ 1000000 }
-    requires found { IfSome found (IsSearchEnd graph.now bound budget) }
-    requires some { 1 ≤ budget }
-    requires few { budget ≤ 1000000 }
-    ensures { IfOk result (IsSearchEnd graph.now bound budget) }
+    requires found { IfSome found (IsSearchEnd graph.now bound effort.budget) }
+    ensures { IfOk result (IsSearchEnd graph.now bound effort.budget) }
 {
     match found {
         Some(end) => Ok(end),
-        None => search_leaves(alloc, graph, bound, budget),
+        None => search_leaves(alloc, graph, bound, effort),
     }
 }
 
@@ -124,19 +119,17 @@ pub(crate) fn plant_tree(
     graph: &Graph,
     bound: u64,
     found: Option<SearchEnd>,
-    budget: u64,
+    effort: Effort,
     forest: &mut Forest,
 ) -> Result<TreeSearch, Memory>
     requires from { 1 ≤ bound }
     requires to { bound ≤ 1000000 }
-    requires found { IfSome found (IsSearchEnd graph.now bound budget) }
-    requires some { 1 ≤ budget }
-    requires few { budget ≤ 1000000 }
+    requires found { IfSome found (IsSearchEnd graph.now bound effort.budget) }
     requires functions { All (λ xs. length xs ≡ bound) forest.old.pool }
     requires room { length forest.old.nodes + 2 * (1000000 + 96) ≤ 4294967295 }
-    ensures { IfOk result (IsTreeSearch graph.now bound budget forest.old forest.new) }
+    ensures { IfOk result (IsTreeSearch graph.now bound effort.budget forest.old forest.new) }
 {
-    let end = take_or_search(alloc, graph, bound, found, budget)?;
+    let end = take_or_search(alloc, graph, bound, found, effort)?;
     match end {
         SearchEnd::Finished(leaves) => {
             let tree = add_tree(
@@ -151,22 +144,20 @@ pub(crate) fn plant_tree(
     }
 }
 
-/// Searches the walks of a task's graph up to the bound, in ticks, with this budget of steps, and puts the tree of those that no
+/// Searches the walks of a task's graph up to the bound, in ticks, within the budget of steps, and puts the tree of those that no
 /// other one dominates into the forest. After want of memory the forest may have that tree or not.
 pub fn search_tree(
     alloc: Global,
     graph: &Graph,
     bound: u64,
-    budget: u64,
+    effort: Effort,
     forest: &mut Forest,
 ) -> Result<TreeSearch, Memory>
     requires from { 1 ≤ bound }
     requires to { bound ≤ 1000000 }
-    requires some { 1 ≤ budget }
-    requires few { budget ≤ 1000000 }
     requires functions { All (λ xs. length xs ≡ bound) forest.old.pool }
     requires room { length forest.old.nodes + 2 * (1000000 + 96) ≤ 4294967295 }
-    ensures { IfOk result (IsTreeSearch graph.now bound budget forest.old forest.new) }
+    ensures { IfOk result (IsTreeSearch graph.now bound effort.budget forest.old forest.new) }
 {
-    plant_tree(alloc, graph, bound, None, budget, forest)
+    plant_tree(alloc, graph, bound, None, effort, forest)
 }

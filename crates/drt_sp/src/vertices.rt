@@ -11,6 +11,8 @@ use crate::joints::take_at;
 use crate::parts::{Ahead, prove_by_parts};
 use crate::proving::{VertexProof, prove_vertex};
 use drt_claims::ProofClaim;
+use drt_crew::Crew;
+use drt_effort::Effort;
 use drt_graph::Graph;
 use drt_model::{Memory, Row};
 use drt_pool::Gate;
@@ -19,6 +21,14 @@ use drt_tree::Forest;
 use std::alloc::Global;
 use std::sync::Wait;
 use std::thread::Threads;
+
+/// The vertices of a task, by its graph, and the trees that they are proved against, by their roots.
+#[derive(Clone, Copy)]
+pub(crate) struct Posed<'a> {
+    pub(crate) forest: &'a Forest,
+    pub(crate) roots: &'a [u32],
+    pub(crate) graph: &'a Graph,
+}
 
 /// What came of a task's vertices.
 #[derive(Drop)]
@@ -37,42 +47,38 @@ pub enum TaskProofs {
     },
 }
 
-/// Proves the vertices of a task, by its graph, in file order, against the trees with these roots, each with this budget of steps.
-/// Several workers end the combinations of all vertices side by side, and the answer is that of one worker.
+/// Proves the vertices of a task, by its graph, in file order, against the trees with these roots, each with the crew's budget of steps.
+/// Its workers end the combinations of all vertices side by side, and the answer is that of one worker.
 pub fn prove_vertices<G: Gate, R: Threads + Wait + Sync>(
-    rt: &R,
-    alloc: Global,
+    crew: &Crew<'_, G, R>,
     forest: &Forest,
     roots: &[u32],
     task: u32,
     graph: &Graph,
-    workers: u32,
-    budget: u64,
-    gate: &G,
 ) -> Result<TaskProofs, Memory>
     requires few { length roots.now ≤ 31 }
     requires roots { (v : ℕ) → v < vertex_count graph.now → AreChosen (deadline graph.now v) forest.now.pool roots.now }
-    requires workers { (1 ≤ workers) × (workers ≤ 16) }
-    requires budget { (1 ≤ budget) × (budget ≤ 1000000) }
-    ensures { IfOk result (λ proofs. IsOutcome forest.now roots.now graph.now task budget proofs) }
+    ensures { IfOk result (λ proofs. IsOutcome forest.now roots.now graph.now task crew.now.effort.budget proofs) }
 {
-    let mut ahead = Ahead::nothing(alloc);
-    let mut proofs = Vec::new(alloc);
+    let posed = Posed {
+        forest,
+        roots,
+        graph,
+    };
+    let mut ahead = Ahead::nothing(crew.alloc);
+    let mut proofs = Vec::new(crew.alloc);
     'vertices: for vertex in 0..graph.vertex_count() {
         if vertex as usize == ahead.found.len() {
-            ahead = prove_ahead(
-                rt, alloc, forest, roots, graph, vertex, ahead, workers, budget, gate,
-            )?;
+            ahead = prove_ahead(crew, &posed, vertex, ahead)?;
         }
         let subject = graph.vertex(vertex);
         match take_or_prove(
-            alloc,
-            forest,
-            roots,
+            crew.alloc,
+            &posed,
             take_at(vertex, &mut ahead.found),
             subject.wcet,
             subject.deadline,
-            budget,
+            crew.effort,
         )? {
             VertexProof::Passes(items) => proofs.push(ProofClaim {
                 task,
@@ -88,53 +94,42 @@ pub fn prove_vertices<G: Gate, R: Threads + Wait + Sync>(
 
 // What becomes of some more vertices, from this one on, where several workers find it side by side; of no more otherwise.
 fn prove_ahead<G: Gate, R: Threads + Wait + Sync>(
-    rt: &R,
-    alloc: Global,
-    forest: &Forest,
-    roots: &[u32],
-    graph: &Graph,
+    crew: &Crew<'_, G, R>,
+    posed: &Posed<'_>,
     from: u32,
     ahead: Ahead,
-    workers: u32,
-    budget: u64,
-    gate: &G,
 ) -> Result<Ahead, Memory>
-    requires few { length roots.now ≤ 31 }
-    requires roots { (v : ℕ) → v < vertex_count graph.now → AreChosen (deadline graph.now v) forest.now.pool roots.now }
+    requires few { length posed.now.roots.now ≤ 31 }
+    requires roots { (v : ℕ) → v < vertex_count posed.now.graph.now → AreChosen (deadline posed.now.graph.now v) posed.now.forest.now.pool posed.now.roots.now }
     requires from { length ahead.found.items ≡ from }
-    requires given { AreGiven forest.now roots.now graph.now ahead.found.items }
-    requires budget { budget ≤ 1000000 }
-    ensures { IfOk result (λ more. AreGiven forest.now roots.now graph.now more.found.items) }
+    requires given { AreGiven posed.now.forest.now posed.now.roots.now posed.now.graph.now ahead.found.items }
+    ensures { IfOk result (λ more. AreGiven posed.now.forest.now posed.now.roots.now posed.now.graph.now more.found.items) }
 {
-    let few = gate.alone();
-    if workers == 1 || few == 0 || few >= budget {
+    let few = crew.gate.alone();
+    if crew.effort.workers() == 1 || few == 0 || few >= crew.effort.budget() {
         return Ok(ahead);
     }
-    prove_by_parts(
-        rt, alloc, forest, roots, graph, from, ahead, workers, few, budget, gate,
-    )
+    prove_by_parts(crew, posed, from, ahead, crew.effort.at_most(few))
 }
 
 // What becomes of a vertex: what was found ahead, or else what one frontier gives.
 fn take_or_prove(
     alloc: Global,
-    forest: &Forest,
-    roots: &[u32],
+    posed: &Posed<'_>,
     found: Option<VertexProof>,
     wcet: u32,
     deadline: u32,
-    budget: u64,
+    effort: Effort,
 ) -> Result<VertexProof, Memory>
-    requires few { length roots.now ≤ 31 }
-    requires roots { AreChosen deadline forest.now.pool roots.now }
-    requires found { IfSome found (IsVertexProof forest.now wcet deadline roots.now budget) }
+    requires few { length posed.now.roots.now ≤ 31 }
+    requires roots { AreChosen deadline posed.now.forest.now.pool posed.now.roots.now }
+    requires found { IfSome found (IsVertexProof posed.now.forest.now wcet deadline posed.now.roots.now effort.budget) }
     requires wcet { (1 ≤ wcet) × (wcet ≤ 1000000) }
     requires deadline { (1 ≤ deadline) × (deadline ≤ 1000000) }
-    requires budget { (1 ≤ budget) × (budget ≤ 1000000) }
-    ensures { IfOk result (IsVertexProof forest.now wcet deadline roots.now budget) }
+    ensures { IfOk result (IsVertexProof posed.now.forest.now wcet deadline posed.now.roots.now effort.budget) }
 {
     match found {
         Some(proof) => Ok(proof),
-        None => prove_vertex(alloc, forest, roots, wcet, deadline, budget),
+        None => prove_vertex(alloc, posed.forest, posed.roots, wcet, deadline, effort),
     }
 }

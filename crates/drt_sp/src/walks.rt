@@ -9,8 +9,9 @@ ghost use Rattle.drt_claims.specs.Claims.{graphs_of};
 ghost use Rattle.drt_releases.specs.Walks.{walk_at};
 ghost use Rattle.drt_sp.specs.Chosen.{AreLeaves, leaf_for};
 
+use drt_accepted::Accepted;
 use drt_graph::{Graph, Graphs};
-use drt_model::{Memory, Row, Task};
+use drt_model::{Memory, Row};
 use drt_tree::Forest;
 use std::alloc::Global;
 
@@ -26,23 +27,22 @@ pub struct VertexTuple {
 /// ticks, and the vertex alone for its own task.
 pub(crate) fn job_walks(
     alloc: Global,
-    tasks: &[Task],
-    graphs: &Graphs,
+    set: &Accepted<'_>,
     forest: &Forest,
     order: &[u32],
     shown: &VertexTuple,
     end: u32,
 ) -> Result<Vec<Row<u32>>, Memory>
-    requires graphs { graphs.now ≡ graphs_of tasks.now }
-    requires leaves { AreLeaves tasks.now forest.now order.now shown.now.tuple }
-    requires task { shown.now.task < length tasks.now }
-    requires vertex { shown.now.vertex < vertex_count (graph_at tasks.now shown.now.task) }
-    ensures count { IfOk result (λ walks. length walks.items ≡ length tasks.now) }
-    ensures each { IfOk result (λ walks. (k : ℕ) → k < length tasks.now → walk_at walks.items k ≡ with_job tasks.now (chosen tasks.now forest.now end order.now shown.now.tuple) shown.now.task shown.now.vertex k) }
+    requires leaves { AreLeaves set.now.tasks forest.now order.now shown.now.tuple }
+    requires task { shown.now.task < length set.now.tasks }
+    requires vertex { shown.now.vertex < vertex_count (graph_at set.now.tasks shown.now.task) }
+    ensures count { IfOk result (λ walks. length walks.items ≡ length set.now.tasks) }
+    ensures each { IfOk result (λ walks. (k : ℕ) → k < length set.now.tasks → walk_at walks.items k ≡ with_job set.now.tasks (chosen set.now.tasks forest.now end order.now shown.now.tuple) shown.now.task shown.now.vertex k) }
 {
+    let graphs = set.graphs();
     let mut walks = Vec::new(alloc);
     'tasks: for k in 0..graphs.count() {
-        walks.push(job_walk(alloc, tasks, graphs, forest, order, shown, end, k)?)?;
+        walks.push(job_walk(alloc, set, forest, order, shown, end, k)?)?;
     }
     Ok(walks)
 }
@@ -50,22 +50,22 @@ pub(crate) fn job_walks(
 // The walk of one task among them.
 fn job_walk(
     alloc: Global,
-    tasks: &[Task],
-    graphs: &Graphs,
+    set: &Accepted<'_>,
     forest: &Forest,
     order: &[u32],
     shown: &VertexTuple,
     end: u32,
     k: u32,
 ) -> Result<Row<u32>, Memory>
-    requires graphs { graphs.now ≡ graphs_of tasks.now }
-    requires leaves { AreLeaves tasks.now forest.now order.now shown.now.tuple }
-    requires task { shown.now.task < length tasks.now }
-    requires vertex { shown.now.vertex < vertex_count (graph_at tasks.now shown.now.task) }
-    requires here { k < length tasks.now }
-    ensures { IfOk result (λ walk. walk ≡ with_job tasks.now (chosen tasks.now forest.now end order.now shown.now.tuple) shown.now.task shown.now.vertex k) }
+    requires leaves { AreLeaves set.now.tasks forest.now order.now shown.now.tuple }
+    requires task { shown.now.task < length set.now.tasks }
+    requires vertex { shown.now.vertex < vertex_count (graph_at set.now.tasks shown.now.task) }
+    requires here { k < length set.now.tasks }
+    ensures { IfOk result (λ walk. walk ≡ with_job set.now.tasks (chosen set.now.tasks forest.now end order.now shown.now.tuple) shown.now.task shown.now.vertex k) }
 {
+    let tasks = set.tasks();
     if tasks[k as usize].priority < tasks[shown.task as usize].priority {
+        let graphs = set.graphs();
         return chosen_walk(alloc, graphs, forest, end, order, shown.tuple.as_slice(), k);
     }
     let mut walk = Vec::new(alloc);

@@ -1,5 +1,6 @@
 //! Answers of worked sets.
-use crate::answering::{has_dossier, trail_of};
+use crate::answering::{effort_of, has_dossier, trail_of};
+use drt_crew::Crew;
 use drt_pool::OpenGate;
 use std::alloc::Global;
 use std::sync::Wait;
@@ -72,6 +73,39 @@ fn many_tasks_no(alloc: Global) -> Result<String, Fail> {
     Ok(body)
 }
 
+// Whether the answer of one worker has this dossier.
+fn is_answered<R: Threads + Wait + Sync>(
+    rt: &R,
+    alloc: Global,
+    text: &str,
+    body: &str,
+) -> Result<bool, Fail> {
+    let crew = Crew {
+        rt,
+        alloc,
+        effort: effort_of(1, 1000)?,
+        gate: &OpenGate,
+    };
+    has_dossier(&crew, text, body)
+}
+
+// Whether one worker spends its budget there.
+fn is_spent<R: Threads + Wait + Sync>(
+    rt: &R,
+    alloc: Global,
+    text: &str,
+    budget: u64,
+    trail: Option<(u32, Option<u32>, usize)>,
+) -> Result<bool, Fail> {
+    let crew = Crew {
+        rt,
+        alloc,
+        effort: effort_of(1, budget)?,
+        gate: &OpenGate,
+    };
+    Ok(trail_of(&crew, text)? == trail)
+}
+
 #[test]
 fn worked_sets_have_their_dossiers(rt: HostRuntime) -> Result<(), Fail> {
     let cases = [
@@ -81,10 +115,7 @@ fn worked_sets_have_their_dossiers(rt: HostRuntime) -> Result<(), Fail> {
         (TURNED, TURNED_YES),
     ];
     for (text, body) in cases {
-        assert!(rt;
-            has_dossier(&rt, rt.alloc(), text, body, 1, &OpenGate)?,
-            "of {text}"
-        );
+        assert!(rt; is_answered(&rt, rt.alloc(), text, body)?, "of {text}");
     }
     Ok(())
 }
@@ -99,7 +130,7 @@ fn budgets_are_spent_in_a_search_or_a_refinement(rt: HostRuntime) -> Result<(), 
     ];
     for (text, budget, trail) in cases {
         assert!(rt;
-            trail_of(&rt, rt.alloc(), text, 1, budget, &OpenGate)? == trail,
+            is_spent(&rt, rt.alloc(), text, budget, trail)?,
             "of {budget} steps"
         );
     }
@@ -110,14 +141,14 @@ fn budgets_are_spent_in_a_search_or_a_refinement(rt: HostRuntime) -> Result<(), 
 fn are_just_in_time(rt: &(impl Threads + Wait + Sync), alloc: Global) -> Result<bool, Fail> {
     let text = many_tasks(alloc, 32)?;
     let yes = many_tasks_yes(alloc)?;
-    has_dossier(rt, alloc, text.as_str(), yes.as_str(), 1, &OpenGate)
+    is_answered(rt, alloc, text.as_str(), yes.as_str())
 }
 
 // Whether many tasks with a deadline of 31 ticks have theirs.
 fn are_late(rt: &(impl Threads + Wait + Sync), alloc: Global) -> Result<bool, Fail> {
     let text = many_tasks(alloc, 31)?;
     let no = many_tasks_no(alloc)?;
-    has_dossier(rt, alloc, text.as_str(), no.as_str(), 1, &OpenGate)
+    is_answered(rt, alloc, text.as_str(), no.as_str())
 }
 
 #[test]

@@ -1,9 +1,12 @@
-//! Answers by so many workers, as bytes.
+//! Answers by a crew, as bytes.
 ghost use Rattle.std.specs.Prelude.{ℕ, IfOk};
 ghost use Rattle.drt_sp.specs.Answers.{IsAnswer};
 
+use drt_accepted::Accepted;
 use drt_claims::Dossier;
+use drt_crew::Crew;
 use drt_drawn::{Draws, drawn_set};
+use drt_effort::{Effort, MOST_BUDGET, MOST_WORKERS};
 use drt_evidence::print;
 use drt_model::{Policy, TaskSet};
 use drt_pool::Gate;
@@ -53,22 +56,23 @@ fn make(alloc: Global, source: Source<'_>) -> Result<TaskSet, Fail> {
     }
 }
 
-// The answer to a set by so many workers.
-pub(crate) fn answer_to<G: Gate, R: Threads + Wait + Sync>(
-    rt: &R,
-    alloc: Global,
-    set: &TaskSet,
-    workers: u32,
-    budget: u64,
-    gate: &G,
-) -> Result<FixedAnswer, Fail>
-    ensures { IfOk result (IsAnswer set.now budget) }
-{
-    if workers < 1 || workers > 16 || budget < 1 || budget > 1_000_000 {
+// So many workers, with so many steps for each search.
+pub(crate) fn effort_of(workers: u32, budget: u64) -> Result<Effort, Fail> {
+    if workers < 1 || workers > MOST_WORKERS || budget < 1 || budget > MOST_BUDGET {
         return Err("the workers and the budget are in range".into());
     }
-    let graphs = drt_graph::check(alloc, set)?;
-    Ok(analyse_fixed(rt, alloc, set, &graphs, workers, budget, gate)?)
+    Ok(Effort::new(workers, budget))
+}
+
+// The answer to a set by a crew.
+pub(crate) fn answer_to<G: Gate, R: Threads + Wait + Sync>(
+    crew: &Crew<'_, G, R>,
+    set: &TaskSet,
+) -> Result<FixedAnswer, Fail>
+    ensures { IfOk result (IsAnswer set.now crew.now.effort.budget) }
+{
+    let graphs = drt_graph::check(crew.alloc, set)?;
+    Ok(analyse_fixed(crew, &Accepted::of(set, &graphs))?)
 }
 
 fn print_whole(alloc: Global, dossier: &Dossier) -> Result<Vec<u8>, Fail> {
@@ -104,34 +108,27 @@ fn spent_text(alloc: Global, trail: &FixedTrail) -> Result<Vec<u8>, Fail> {
     Ok(text.into_bytes())
 }
 
-// The text of the answer to a set by so many workers.
+// The text of the answer to a set by a crew.
 pub(crate) fn written<G: Gate, R: Threads + Wait + Sync>(
-    rt: &R,
-    alloc: Global,
+    crew: &Crew<'_, G, R>,
     source: Source<'_>,
-    workers: u32,
-    budget: u64,
-    gate: &G,
 ) -> Result<Vec<u8>, Fail> {
-    let set = make(alloc, source)?;
-    let answer = answer_to(rt, alloc, &set, workers, budget, gate)?;
-    text_of(alloc, set, answer)
+    let set = make(crew.alloc, source)?;
+    let answer = answer_to(crew, &set)?;
+    text_of(crew.alloc, set, answer)
 }
 
 // Whether the dossier of the answer has these lines behind the set, which is in canonical text.
 pub(crate) fn has_dossier<G: Gate, R: Threads + Wait + Sync>(
-    rt: &R,
-    alloc: Global,
+    crew: &Crew<'_, G, R>,
     text: &str,
     body: &str,
-    workers: u32,
-    gate: &G,
 ) -> Result<bool, Fail> {
-    let mut expected = Vec::new(alloc);
+    let mut expected = Vec::new(crew.alloc);
     expected.extend_from_slice(b"drt-dossier 1\npolicy fixed\n")?;
     expected.extend_from_slice(text.as_bytes())?;
     expected.extend_from_slice(body.as_bytes())?;
-    let answer = written(rt, alloc, Source::Text(text), workers, 1000, gate)?;
+    let answer = written(crew, Source::Text(text))?;
     Ok(answer.as_slice() == expected.as_slice())
 }
 
@@ -148,16 +145,12 @@ fn spent_at(answer: &FixedAnswer) -> Option<(u32, Option<u32>, usize)> {
     }
 }
 
-// That of the answer to a set by so many workers.
+// That of the answer to a set by a crew.
 pub(crate) fn trail_of<G: Gate, R: Threads + Wait + Sync>(
-    rt: &R,
-    alloc: Global,
+    crew: &Crew<'_, G, R>,
     text: &str,
-    workers: u32,
-    budget: u64,
-    gate: &G,
 ) -> Result<Option<(u32, Option<u32>, usize)>, Fail> {
-    let set = make(alloc, Source::Text(text))?;
-    let answer = answer_to(rt, alloc, &set, workers, budget, gate)?;
+    let set = make(crew.alloc, Source::Text(text))?;
+    let answer = answer_to(crew, &set)?;
     Ok(spent_at(&answer))
 }

@@ -1,7 +1,8 @@
 //! Workers that end the combinations of a task's vertices, or search the tables of two tasks, at the same time.
-use crate::answering::{Leaving, Source, written};
+use crate::answering::{Leaving, Source, effort_of, written};
 use crate::parts_tests::{ALL_PASS, SECOND_FAILS};
 use crate::table_tests::TWO_TABLES;
+use drt_crew::Crew;
 use drt_meeting::Meeting;
 use std::alloc::Global;
 use std::sync::Wait;
@@ -24,9 +25,26 @@ fn is_answered_together<R: Threads + Wait + Sync>(
     budget: u64,
     alone: u64,
 ) -> Result<bool, Fail> {
-    let one = written(rt, alloc, source, 1, budget, &Leaving { alone })?;
+    let leaving = Leaving { alone };
+    let one = written(
+        &Crew {
+            rt,
+            alloc,
+            effort: effort_of(1, budget)?,
+            gate: &leaving,
+        },
+        source,
+    )?;
     let gate = Meeting::behind(alone);
-    let both = written(rt, alloc, source, 2, budget, &gate)?;
+    let both = written(
+        &Crew {
+            rt,
+            alloc,
+            effort: effort_of(2, budget)?,
+            gate: &gate,
+        },
+        source,
+    )?;
     Ok(both.as_slice() == one.as_slice() && (gate.times_met() > 0 || !has_two_processors(rt)))
 }
 

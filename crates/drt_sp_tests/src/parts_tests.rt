@@ -1,5 +1,6 @@
 //! Tasks whose vertices' combinations several workers end side by side.
-use crate::answering::{Leaving, Source, has_dossier, trail_of, written};
+use crate::answering::{Leaving, Source, effort_of, has_dossier, trail_of, written};
+use drt_crew::Crew;
 use drt_fixtures::texts::{
     ENGINE, HALVES, JUST_DONE, ONLY_TOGETHER, SECOND_LATE, SPLIT, TOO_LITTLE_ROOM,
 };
@@ -88,15 +89,13 @@ const MIDDLE_TOO_LONG: &str =
 
 // Whether each number of workers gives this text for a set.
 fn is_answered_by_all<G: Gate, R: Threads + Wait + Sync>(
-    rt: &R,
-    alloc: Global,
+    crew: &Crew<'_, G, R>,
     source: Source<'_>,
-    budget: u64,
-    gate: &G,
     text: &[u8],
 ) -> Result<bool, Fail> {
+    let budget = crew.effort.budget();
     for workers in WORKERS {
-        let answer = written(rt, alloc, source, workers, budget, gate)?;
+        let answer = written(&crew.with(effort_of(workers, budget)?), source)?;
         if answer.as_slice() != text {
             return Ok(false);
         }
@@ -106,14 +105,11 @@ fn is_answered_by_all<G: Gate, R: Threads + Wait + Sync>(
 
 // Whether several workers answer a set as one does.
 pub(crate) fn is_answered_as_by_one<G: Gate, R: Threads + Wait + Sync>(
-    rt: &R,
-    alloc: Global,
+    crew: &Crew<'_, G, R>,
     source: Source<'_>,
-    budget: u64,
-    gate: &G,
 ) -> Result<bool, Fail> {
-    let one = written(rt, alloc, source, 1, budget, gate)?;
-    is_answered_by_all(rt, alloc, source, budget, gate, one.as_slice())
+    let one = written(&crew.with(crew.effort.alone()), source)?;
+    is_answered_by_all(crew, source, one.as_slice())
 }
 
 // The same, however much is left to the caller alone.
@@ -123,12 +119,26 @@ fn is_answered_alike<R: Threads + Wait + Sync>(
     source: Source<'_>,
     budget: u64,
 ) -> Result<bool, Fail> {
+    let effort = effort_of(1, budget)?;
     for alone in ALONE {
-        if !is_answered_as_by_one(rt, alloc, source, budget, &Leaving { alone })? {
+        let gate = Leaving { alone };
+        let crew = Crew {
+            rt,
+            alloc,
+            effort,
+            gate: &gate,
+        };
+        if !is_answered_as_by_one(&crew, source)? {
             return Ok(false);
         }
     }
-    is_answered_as_by_one(rt, alloc, source, budget, &OpenGate)
+    let crew = Crew {
+        rt,
+        alloc,
+        effort,
+        gate: &OpenGate,
+    };
+    is_answered_as_by_one(&crew, source)
 }
 
 // Whether the answer has this dossier, by each number of workers.
@@ -139,8 +149,15 @@ fn has_dossier_by_all<R: Threads + Wait + Sync>(
     body: &str,
     alone: u64,
 ) -> Result<bool, Fail> {
+    let gate = Leaving { alone };
     for workers in WORKERS {
-        if !has_dossier(rt, alloc, text, body, workers, &Leaving { alone })? {
+        let crew = Crew {
+            rt,
+            alloc,
+            effort: effort_of(workers, 1000)?,
+            gate: &gate,
+        };
+        if !has_dossier(&crew, text, body)? {
             return Ok(false);
         }
     }
@@ -163,16 +180,14 @@ fn has_dossier_always<R: Threads + Wait + Sync>(
 }
 
 // Whether the budget is spent there, by each number of workers.
-pub(crate) fn is_spent_by_all<R: Threads + Wait + Sync>(
-    rt: &R,
-    alloc: Global,
+pub(crate) fn is_spent_by_all<G: Gate, R: Threads + Wait + Sync>(
+    crew: &Crew<'_, G, R>,
     text: &str,
-    budget: u64,
-    alone: u64,
     trail: Option<(u32, Option<u32>, usize)>,
 ) -> Result<bool, Fail> {
+    let budget = crew.effort.budget();
     for workers in WORKERS {
-        let spent = trail_of(rt, alloc, text, workers, budget, &Leaving { alone })?;
+        let spent = trail_of(&crew.with(effort_of(workers, budget)?), text)?;
         if spent != trail {
             return Ok(false);
         }
@@ -188,8 +203,16 @@ fn is_spent_always<R: Threads + Wait + Sync>(
     budget: u64,
     trail: Option<(u32, Option<u32>, usize)>,
 ) -> Result<bool, Fail> {
+    let effort = effort_of(1, budget)?;
     for alone in ALONE {
-        if !is_spent_by_all(rt, alloc, text, budget, alone, trail)? {
+        let gate = Leaving { alone };
+        let crew = Crew {
+            rt,
+            alloc,
+            effort,
+            gate: &gate,
+        };
+        if !is_spent_by_all(&crew, text, trail)? {
             return Ok(false);
         }
     }
@@ -302,10 +325,16 @@ fn is_hard_answered_as_by_one<R: Threads + Wait + Sync>(
 ) -> Result<bool, Fail> {
     let text = format!(in alloc; "{HARD}{jobs}{HARD_EDGES}")?;
     let source = Source::Text(text.as_str());
-    let one = written(rt, alloc, source, 1, budget, &OpenGate)?;
+    let crew = Crew {
+        rt,
+        alloc,
+        effort: effort_of(1, budget)?,
+        gate: &OpenGate,
+    };
+    let one = written(&crew, source)?;
     Ok(
         has_words(one.as_slice(), words.as_bytes())
-            && is_answered_by_all(rt, alloc, source, budget, &OpenGate, one.as_slice())?,
+            && is_answered_by_all(&crew, source, one.as_slice())?,
     )
 }
 

@@ -1,6 +1,7 @@
 //! Sets answered by the analysis and by hand.
-use crate::answering::answer_to;
+use crate::answering::{answer_to, effort_of};
 use drt_claims::Evidence;
+use drt_crew::Crew;
 use drt_fixtures::{Shape, make_set};
 use drt_pool::OpenGate;
 use drt_sp::FixedAnswer;
@@ -28,7 +29,13 @@ fn is_decided<R: Threads + Wait + Sync>(
     yes: bool,
 ) -> Result<bool, Fail> {
     let set = make_set(alloc, shapes)?.ok_or("within the limits")?;
-    let answer = answer_to(rt, alloc, &set, 1, BUDGET, &OpenGate)?;
+    let crew = Crew {
+        rt,
+        alloc,
+        effort: effort_of(1, BUDGET)?,
+        gate: &OpenGate,
+    };
+    let answer = answer_to(&crew, &set)?;
     Ok(verdict(&answer) == Some(yes))
 }
 

@@ -1,42 +1,39 @@
-use Rattle.std.proofs.Common.{◌≡◌, ◌<◌, ◌+◌, ◌-◌, ℕ, List, length, ap, subst, arith}
+use Rattle.std.proofs.Common.{◌≡◌, ◌+◌, ◌-◌, ◌∙◌, ℕ, List, length, ap, subst, arith}
 use Rattle.std.specs.Prelude.{IfSome}
-use Rattle.std.proofs.lemmas.List.{length-map}
-use Rattle.std.proofs.lemmas.List.Elements.{All-from_get_or}
-use Rattle.drt_model.specs.Digraph.{digraph_of}
+use Rattle.drt_model.specs.Contents.{Contents}
 use Rattle.drt_model.specs.declared.tasks.Task.{Task}
 use Rattle.drt_choices.specs.Choices.{IsOrder}
+use Rattle.drt_claims.specs.Claims.{graphs_of}
+use Rattle.drt_claims.specs.Trees.{greatest_deadline}
 use Rattle.drt_sp.specs.Progress.{AreGrown, AreProved}
 use Rattle.drt_sp.specs.Searches.{IsEndAt}
-use Rattle.drt_sp.proofs.Orders.{order_below, order_count}
+use Rattle.drt_sp.proofs.Orders.{order_count}
 use Rattle.drt_sp.proofs.analysis.analyse.Goals as goal
 
 pub overflow_sub-last : goal.overflow_sub-last
-overflow_sub-last g c = omega (arith, order_count c.args.set.now.tasks c.args.order.now c.requires.given.order_is, c.tasks-tasks.ensures.limits.has_task)
-
-pub search_ahead-requires-clause-tasks : goal.search_ahead-requires-clause-tasks
-search_ahead-requires-clause-tasks g c κs within =
-    All-from_get_or (λ k. k < length c.args.graphs.now) c.args.order.now 0 (λ i l.
-    (let b = order_below c.args.set.now.tasks c.args.order.now c.requires.given.order_is i l in omega (arith, b, ap length c.requires.given.graphs_are, length-map c.args.set.now.tasks digraph_of)))
+overflow_sub-last g c = omega (arith, order_count c.args.given.now.set.now.tasks c.args.given.now.order.now c.requires, c.tasks-tasks.ensures.limits.has_task)
 
 pub add_tree-requires-clause-found : goal.add_tree-requires-clause-found
-add_tree-requires-clause-found g c =
-    subst (λ b. IfSome c.take-found.result (IsEndAt c.args.graphs.now c.args.order.now b c.args.budget c.places.place)) c.greatest_deadline-bound.ensures.value
-    (c.take-found.ensures.taken c.args.graphs.now c.args.order.now c.greatest_deadline-bound.result c.args.budget c.in_ok-ahead.ensures)
+add_tree-requires-clause-found g c κs within =
+    let until : c.from-bound.result ≡ greatest_deadline c.args.given.now.set.now.tasks
+    = c.from-bound.ensures ∙ (c.greatest_deadline.ensures.value ∙ ap (λ (s : Contents). greatest_deadline s.tasks) c.set.ensures.set) in
+    subst (λ b. IfSome c.take-found.result (IsEndAt (graphs_of c.args.given.now.set.now.tasks) c.args.given.now.order.now b c.args.crew.now.effort.budget c.places.place)) until
+    (c.take-found.ensures.taken (graphs_of c.args.given.now.set.now.tasks) c.args.given.now.order.now c.from-bound.result c.args.crew.now.effort.budget c.in_ok-ahead.ensures)
 
 pub prove_task-requires-2-clause-here : goal.prove_task-requires-2-clause-here
-prove_task-requires-2-clause-here g c = omega (arith, order_count c.args.set.now.tasks c.args.order.now c.requires.given.order_is, c.tasks-tasks.ensures.limits.has_task)
+prove_task-requires-2-clause-here g c = omega (arith, order_count c.args.given.now.set.now.tasks c.args.given.now.order.now c.requires, c.tasks-tasks.ensures.limits.has_task)
 
 pub prove_task-requires-2-clause-proved : goal.prove_task-requires-2-clause-proved
 prove_task-requires-2-clause-proved g c κs within =
-    let order : List ℕ = c.args.order.now in
+    let order : List ℕ = c.args.given.now.order.now in
     let e : c.places.place ≡ length order - 1 = omega (arith, c.places-test.false, c.places.auto.place-end) in
-    subst (λ (n : ℕ). AreProved c.args.set.now.tasks order n c.places.progress.trees.items c.places.progress.proofs.items) e c.places.invariant.proved
+    subst (λ (n : ℕ). AreProved c.args.given.now.set.now.tasks order n c.places.progress.trees.items c.places.progress.proofs.items) e c.places.invariant.proved
 
 pub returns-in-None : goal.returns-in-None
 returns-in-None g c =
-    let tasks : List Task = c.args.set.now.tasks in
-    let order : List ℕ = c.args.order.now in
-    let is : IsOrder tasks order = c.requires.given.order_is in
+    let tasks : List Task = c.args.given.now.set.now.tasks in
+    let order : List ℕ = c.args.given.now.order.now in
+    let is : IsOrder tasks order = c.requires in
     let e : c.places.place ≡ length order - 1 = omega (arith, c.places-test.false, c.places.auto.place-end) in
     let whole : (length order - 1) + 1 ≡ length order = omega (arith, order_count tasks order is, c.tasks-tasks.ensures.limits.has_task) in
     let grown : AreGrown tasks order (length order - 1) c.places.progress.forest c.places.progress.roots.items c.places.progress.trees.items

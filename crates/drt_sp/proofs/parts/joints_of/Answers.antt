@@ -7,9 +7,9 @@ use Rattle.drt_sp.proofs.parts.joints_of.Goals as goal
 
 pub loop-attempt-preserved : goal.loop-attempt-preserved
 loop-attempt-preserved c =
-    let f = c.args.forest.now in
-    let roots = c.args.roots.now in
-    let graph = c.args.graph.now in
+    let f = c.args.posed.now.forest.now in
+    let roots = c.args.posed.now.roots.now in
+    let graph = c.args.posed.now.graph.now in
     let inv = c.loop-attempt.invariant in
     let joint = c.of.result in
     let last = last_of f roots graph c.loop-attempt.spent.items c.pop.new.self.items c.loop-attempt.tables.items c.pop-in-Some.new.self.items c.in-Some.attempt c.in-Some-pop.parts

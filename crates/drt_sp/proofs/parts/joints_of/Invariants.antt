@@ -6,9 +6,9 @@ use Rattle.drt_sp.proofs.parts.joints_of.Given as goal
 
 abbrev pub invariant-loop-attempt : goal.invariant-loop-attempt
 invariant-loop-attempt l = record {
-  each : All (IsAttempt l.forest l.roots l.graph) l.spent.items;
-  tables : HaveParts l.forest l.spent.items l.tables.items;
-  joints : AreJoints l.forest l.roots l.graph l.joints.items;
+  each : All (IsAttempt l.posed.forest.now l.posed.roots.now l.posed.graph.now) l.spent.items;
+  tables : HaveParts l.posed.forest.now l.spent.items l.tables.items;
+  joints : AreJoints l.posed.forest.now l.posed.roots.now l.posed.graph.now l.joints.items;
 }
 
 abbrev pub decreases-loop-attempt : goal.decreases-loop-attempt

@@ -12,9 +12,9 @@ use Rattle.drt_sp.proofs.parts.put_joint.Goals as goal
 
 pub returns : goal.returns
 returns c =
-    let f = c.args.forest.now in
-    let roots = c.args.roots.now in
-    let graph = c.args.graph.now in
+    let f = c.args.posed.now.forest.now in
+    let roots = c.args.posed.now.roots.now in
+    let graph = c.args.posed.now.graph.now in
     let a = c.args.joint.attempt in
     let v = a.frontier in
     let is = c.requires.joint in

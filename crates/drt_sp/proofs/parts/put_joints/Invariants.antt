@@ -6,8 +6,8 @@ use Rattle.drt_sp.proofs.parts.put_joints.Given as goal
 
 abbrev pub invariant-loop-joint : goal.invariant-loop-joint
 invariant-loop-joint l = record {
-  joints : AreJoints l.forest l.roots l.graph l.joints.items;
-  given : AreGiven l.forest l.roots l.graph l.proofs.items;
+  joints : AreJoints l.posed.forest.now l.posed.roots.now l.posed.graph.now l.joints.items;
+  given : AreGiven l.posed.forest.now l.posed.roots.now l.posed.graph.now l.proofs.items;
 }
 
 abbrev pub decreases-loop-joint : goal.decreases-loop-joint

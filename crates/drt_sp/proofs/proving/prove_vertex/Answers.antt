@@ -1,7 +1,5 @@
 -- The items that were made alone are the proof of the vertex; else what the frontier says holds.
-use Rattle.std.proofs.Common.{List}
 use Rattle.drt_claims.specs.Ranges.{IsCounted}
-use Rattle.drt_claims.specs.declared.evidence.Item.{Item}
 use Rattle.drt_sp.specs.Parts.{AreEndOf}
 use Rattle.drt_sp.proofs.Attempted.{AreAbove}
 use Rattle.drt_sp.proofs.Joining.{items_prove}

@@ -17,56 +17,57 @@ use Rattle.drt_sp.proofs.Yes.{few_tasks}
 use Rattle.drt_sp.proofs.refusal.refusal.Goals as goal
 
 pub leaf_releases-requires-clause-tuple : goal.leaf_releases-requires-clause-tuple
-leaf_releases-requires-clause-tuple c = failed_tuple c.args.set.now c.args.order.now c.args.forest.now c.args.failed.now.task c.args.failed.now.vertex c.args.failed.now.tuple c.requires.failed
+leaf_releases-requires-clause-tuple c =
+    failed_tuple c.args.given.now.set.now c.args.given.now.order.now c.args.forest.now c.args.failed.now.task c.args.failed.now.vertex c.args.failed.now.tuple c.requires
 
 pub leaf_releases-requires-clause-end : goal.leaf_releases-requires-clause-end
 leaf_releases-requires-clause-end c =
-    let set = c.args.set.now in
+    let set = c.args.given.now.set.now in
     let tasks : List Task = set.tasks in
-    let order : List ℕ = c.args.order.now in
+    let order : List ℕ = c.args.given.now.order.now in
     let f : Plain = c.args.forest.now in
     let j = c.args.failed.now.task in
     let v = c.args.failed.now.vertex in
     let tuple : List ℕ = c.args.failed.now.tuple in
-    let failed : IsFailedVertex set order f j v tuple = c.requires.failed in
-    let graph : c.graph.result.now ≡ graph_at tasks j = c.graph.ensures.graph ∙ (ap (λ gs. graph_of gs j) c.requires.graphs ∙ graph_same tasks j failed.reached.task) in
+    let failed : IsFailedVertex set order f j v tuple = c.requires in
+    let graph : c.graph.result.now ≡ graph_at tasks j = c.graph.ensures.graph ∙ (ap (λ gs. graph_of gs j) c.graphs-graphs.ensures.graphs ∙ graph_same tasks j failed.reached.task) in
     let end : c.vertex.result.now.deadline ≡ deadline (graph_at tasks j) v = ap (λ x. x.deadline) c.vertex.ensures ∙ ap (λ g. deadline g v) graph in
-    let kept : AreGraphs (graphs_of tasks) = subst AreGraphs c.requires.graphs c.count-count.ensures.kept in
+    let kept : AreGraphs (graphs_of tasks) = subst AreGraphs c.graphs-graphs.ensures.graphs c.count-count.ensures.kept in
     let sound : IsSound (graph_at tasks j) = subst IsSound (graph_same tasks j failed.reached.task) (kept.sound j no_graph (omega (arith, failed.reached.task, length-map tasks digraph_of))) in
     omega (arith, (sound.deadline v failed.reached.posed.subject.vertex).1, end)
 
 pub returns-clause-verdict : goal.returns-clause-verdict
 returns-clause-verdict c =
-    let set = c.args.set.now in
+    let set = c.args.given.now.set.now in
     let tasks : List Task = set.tasks in
-    let order : List ℕ = c.args.order.now in
+    let order : List ℕ = c.args.given.now.order.now in
     let f : Plain = c.args.forest.now in
     let j = c.args.failed.now.task in
     let v = c.args.failed.now.vertex in
     let tuple : List ℕ = c.args.failed.now.tuple in
-    let failed : IsFailedVertex set order f j v tuple = c.requires.failed in
-    let graph : c.graph.result.now ≡ graph_at tasks j = c.graph.ensures.graph ∙ (ap (λ gs. graph_of gs j) c.requires.graphs ∙ graph_same tasks j failed.reached.task) in
+    let failed : IsFailedVertex set order f j v tuple = c.requires in
+    let graph : c.graph.result.now ≡ graph_at tasks j = c.graph.ensures.graph ∙ (ap (λ gs. graph_of gs j) c.graphs-graphs.ensures.graphs ∙ graph_same tasks j failed.reached.task) in
     let end : c.vertex.result.now.deadline ≡ deadline (graph_at tasks j) v = ap (λ x. x.deadline) c.vertex.ensures ∙ ap (λ g. deadline g v) graph in
-    let kept : AreGraphs (graphs_of tasks) = subst AreGraphs c.requires.graphs c.count-count.ensures.kept in
+    let kept : AreGraphs (graphs_of tasks) = subst AreGraphs c.graphs-graphs.ensures.graphs c.count-count.ensures.kept in
     let sound : IsSound (graph_at tasks j) = subst IsSound (graph_same tasks j failed.reached.task) (kept.sound j no_graph (omega (arith, failed.reached.task, length-map tasks digraph_of))) in
     let releases : c.in_ok-releases.releases ≡ no_releases tasks f order tuple j v = c.in_ok-releases.ensures.releases ∙ ap (λ (d : ℕ). leaf_releases tasks f order tuple j v d) end in
     let due : c.from.result ≡ deadline (graph_at tasks j) v = c.from.ensures ∙ end in
     let name : ℕ → Miss = λ (d : ℕ). record { task = j; index = 0; deadline = d } in
-    missed set order f j v tuple c.requires.constrained c.leaves_miss.ensures c.show_sound.ensures kept failed c.in_ok-releases.releases (name c.from.result) releases (ap name due)
+    missed set order f j v tuple c.graphs-graphs.ensures.constrained c.leaves_miss.ensures c.show_sound.ensures kept failed c.in_ok-releases.releases (name c.from.result) releases (ap name due)
 
 pub returns-clause-range : goal.returns-clause-range
 returns-clause-range c =
-    let set = c.args.set.now in
+    let set = c.args.given.now.set.now in
     let tasks : List Task = set.tasks in
-    let order : List ℕ = c.args.order.now in
+    let order : List ℕ = c.args.given.now.order.now in
     let f : Plain = c.args.forest.now in
     let j = c.args.failed.now.task in
     let v = c.args.failed.now.vertex in
     let tuple : List ℕ = c.args.failed.now.tuple in
-    let failed : IsFailedVertex set order f j v tuple = c.requires.failed in
-    let graph : c.graph.result.now ≡ graph_at tasks j = c.graph.ensures.graph ∙ (ap (λ gs. graph_of gs j) c.requires.graphs ∙ graph_same tasks j failed.reached.task) in
+    let failed : IsFailedVertex set order f j v tuple = c.requires in
+    let graph : c.graph.result.now ≡ graph_at tasks j = c.graph.ensures.graph ∙ (ap (λ gs. graph_of gs j) c.graphs-graphs.ensures.graphs ∙ graph_same tasks j failed.reached.task) in
     let end : c.vertex.result.now.deadline ≡ deadline (graph_at tasks j) v = ap (λ x. x.deadline) c.vertex.ensures ∙ ap (λ g. deadline g v) graph in
-    let kept : AreGraphs (graphs_of tasks) = subst AreGraphs c.requires.graphs c.count-count.ensures.kept in
+    let kept : AreGraphs (graphs_of tasks) = subst AreGraphs c.graphs-graphs.ensures.graphs c.count-count.ensures.kept in
     let sound : IsSound (graph_at tasks j) = subst IsSound (graph_same tasks j failed.reached.task) (kept.sound j no_graph (omega (arith, failed.reached.task, length-map tasks digraph_of))) in
     let due : c.from.result ≡ deadline (graph_at tasks j) v = c.from.ensures ∙ end in
     let name : ℕ → Miss = λ (d : ℕ). record { task = j; index = 0; deadline = d } in

@@ -28,7 +28,7 @@ job_walks-requires-clause-leaves c =
     let tuple : List ℕ = c.args.shown.now.tuple in
     let is : IsTupleFor set order f j v tuple = c.requires.tuple in
     let leaves : AreLeaves tasks f order tuple = are_leaves tasks (greatest_deadline tasks) f c.show_sound.ensures order is.roots tuple is.posed.order_is is.nodes is.posed.trees is.below in
-    subst (λ (ts : List Task). AreLeaves ts f order tuple) (sym c.tasks-tasks.ensures.tasks) leaves
+    leaves
 
 pub all_releases-requires-clause-walks : goal.all_releases-requires-clause-walks
 all_releases-requires-clause-walks c =
@@ -42,12 +42,12 @@ all_releases-requires-clause-walks c =
     let tuple : List ℕ = c.args.shown.now.tuple in
     let is : IsTupleFor set order f j v tuple = c.requires.tuple in
     let leaves : AreLeaves tasks f order tuple = are_leaves tasks (greatest_deadline tasks) f c.show_sound.ensures order is.roots tuple is.posed.order_is is.nodes is.posed.trees is.below in
-    let kept : AreGraphs (graphs_of tasks) = subst AreGraphs c.requires.graphs c.count-count.ensures.kept in
+    let kept : AreGraphs (graphs_of tasks) = subst AreGraphs c.graphs-graphs.ensures.graphs c.count-count.ensures.kept in
     let vertex : v < vertex_count (graph_at tasks j) = is.posed.subject.vertex in
     let walks : ℕ → List ℕ = walk_at c.as_slice.result.now in
-    let each = rw c.tasks-tasks.ensures.tasks at c.in_ok-walks.ensures.each in
+    let each = c.in_ok-walks.ensures.each in
     let same : (k : ℕ) → k < length tasks → walks k ≡ with_job tasks (chosen tasks f d order tuple) j v k = λ k l. ap (λ (ws : List (List ℕ)). walk_at ws k) c.as_slice.ensures.value ∙ each k l in
-    due_walks tasks f order tuple leaves kept j v d is.task vertex c.requires.end walks same c.args.graphs.now c.requires.graphs
+    due_walks tasks f order tuple leaves kept j v d is.task vertex c.requires.end walks same c.graphs-graphs.result.now c.graphs-graphs.ensures.graphs
 
 pub returns-clause-releases : goal.returns-clause-releases
 returns-clause-releases c =
@@ -61,12 +61,12 @@ returns-clause-releases c =
     let tuple : List ℕ = c.args.shown.now.tuple in
     let is : IsTupleFor set order f j v tuple = c.requires.tuple in
     let leaves : AreLeaves tasks f order tuple = are_leaves tasks (greatest_deadline tasks) f c.show_sound.ensures order is.roots tuple is.posed.order_is is.nodes is.posed.trees is.below in
-    let kept : AreGraphs (graphs_of tasks) = subst AreGraphs c.requires.graphs c.count-count.ensures.kept in
+    let kept : AreGraphs (graphs_of tasks) = subst AreGraphs c.graphs-graphs.ensures.graphs c.count-count.ensures.kept in
     let vertex : v < vertex_count (graph_at tasks j) = is.posed.subject.vertex in
     let walks : ℕ → List ℕ = walk_at c.as_slice.result.now in
-    let each = rw c.tasks-tasks.ensures.tasks at c.in_ok-walks.ensures.each in
+    let each = c.in_ok-walks.ensures.each in
     let same : (k : ℕ) → k < length tasks → walks k ≡ with_job tasks (chosen tasks f d order tuple) j v k = λ k l. ap (λ (ws : List (List ℕ)). walk_at ws k) c.as_slice.ensures.value ∙ each k l in
-    c.from_vec.ensures ∙ (c.in_ok-releases.ensures tasks c.requires.graphs ∙ all_same tasks walks (with_job tasks (chosen tasks f d order tuple) j v) (length tasks) same)
+    c.from_vec.ensures ∙ (c.in_ok-releases.ensures tasks c.graphs-graphs.ensures.graphs ∙ all_same tasks walks (with_job tasks (chosen tasks f d order tuple) j v) (length tasks) same)
 
 pub returns-clause-range : goal.returns-clause-range
 returns-clause-range c =
@@ -80,12 +80,12 @@ returns-clause-range c =
     let tuple : List ℕ = c.args.shown.now.tuple in
     let is : IsTupleFor set order f j v tuple = c.requires.tuple in
     let leaves : AreLeaves tasks f order tuple = are_leaves tasks (greatest_deadline tasks) f c.show_sound.ensures order is.roots tuple is.posed.order_is is.nodes is.posed.trees is.below in
-    let kept : AreGraphs (graphs_of tasks) = subst AreGraphs c.requires.graphs c.count-count.ensures.kept in
+    let kept : AreGraphs (graphs_of tasks) = subst AreGraphs c.graphs-graphs.ensures.graphs c.count-count.ensures.kept in
     let vertex : v < vertex_count (graph_at tasks j) = is.posed.subject.vertex in
     let walks : ℕ → List ℕ = walk_at c.as_slice.result.now in
-    let each = rw c.tasks-tasks.ensures.tasks at c.in_ok-walks.ensures.each in
+    let each = c.in_ok-walks.ensures.each in
     let same : (k : ℕ) → k < length tasks → walks k ≡ with_job tasks (chosen tasks f d order tuple) j v k = λ k l. ap (λ (ws : List (List ℕ)). walk_at ws k) c.as_slice.ensures.value ∙ each k l in
-    let releases : c.from_vec.result ≡ all_releases tasks walks (length tasks) = c.from_vec.ensures ∙ c.in_ok-releases.ensures tasks c.requires.graphs in
+    let releases : c.from_vec.result ≡ all_releases tasks walks (length tasks) = c.from_vec.ensures ∙ c.in_ok-releases.ensures tasks c.graphs-graphs.ensures.graphs in
     let all : All IsInRangeRelease (all_releases tasks walks (length tasks))
     = c.releases_are_in_range.ensures tasks walks 2000000 kept (walks_are tasks f order tuple leaves kept j v d is.task vertex c.requires.end walks same)
     (walks_due tasks f order tuple leaves kept j v d is.task vertex c.requires.end walks same) (omega arith) in

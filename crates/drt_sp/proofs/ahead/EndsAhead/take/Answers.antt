@@ -1,5 +1,5 @@
 -- What was found at the place is taken.
-use Rattle.std.proofs.Common.{◌≡◌, ◌+◌, ◌-◌, ℕ, None, subst, ◌∙◌, ap}
+use Rattle.std.proofs.Common.{◌≡◌, ◌-◌, None, subst}
 use Rattle.std.specs.Prelude.{slice_index_or}
 use Rattle.drt_sp.specs.Searches.{IsEndAt}
 use Rattle.drt_sp.proofs.EndsAhead.{taken_there}

@@ -10,19 +10,19 @@ use Rattle.drt_sp.proofs.progress.Progress.evidence.Goals as goal
 pub returns-clause-verdict : goal.returns-clause-verdict
 returns-clause-verdict c =
     let set = c.args.set.now in
-    let (order, is) = c.requires.complete in
+    let (order, is) = c.requires in
     let rows : List (List ProofClaim) = c.args.self.proofs.items in
-    let yes = is_yes set.tasks order is.order_is set.version c.tasks-tasks.ensures.limits is.last is.whole c.args.self.forest
-    c.args.self.roots.items c.args.self.trees.items is.grown rows is.proved c.requires.constrained c.times_decide.ensures in
+    let yes = is_yes set.tasks order is.order_is set.version c.keep_limits.ensures.limits is.last is.whole c.args.self.forest
+    c.args.self.roots.items c.args.self.trees.items is.grown rows is.proved c.keep_limits.ensures.constrained c.times_decide.ensures in
     subst (λ (ts : List TreeClaim). IsExactYes set ts c.from_vec-2.result) (sym c.from_vec.ensures)
     (subst (λ (ps : List ProofClaim). IsExactYes set c.args.self.trees.items ps) (sym (c.from_vec-2.ensures ∙ c.in_ok-joined.ensures)) yes)
 
 pub returns-clause-range : goal.returns-clause-range
 returns-clause-range c =
     let set = c.args.set.now in
-    let (order, is) = c.requires.complete in
+    let (order, is) = c.requires in
     let rows : List (List ProofClaim) = c.args.self.proofs.items in
-    let range = is_in_range set.tasks order is.order_is set.version c.tasks-tasks.ensures.limits is.last
+    let range = is_in_range set.tasks order is.order_is set.version c.keep_limits.ensures.limits is.last
     is.whole c.args.self.forest c.args.self.roots.items c.args.self.trees.items is.grown rows is.proved in
     subst (λ (ts : List TreeClaim). IsInRange (FixedYes ts c.from_vec-2.result)) (sym c.from_vec.ensures)
     (subst (λ (ps : List ProofClaim). IsInRange (FixedYes c.args.self.trees.items ps)) (sym (c.from_vec-2.ensures ∙ c.in_ok-joined.ensures)) range)

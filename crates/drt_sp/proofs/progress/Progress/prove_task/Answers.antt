@@ -23,18 +23,18 @@ use Rattle.drt_sp.proofs.progress.Progress.prove_task.Goals as goal
 
 pub graph-graph-requires : goal.graph-graph-requires
 graph-graph-requires g c =
-    let tasks : List Task = c.args.set.now.tasks in
-    let order : List ℕ = c.args.order.now in
-    omega (arith, order_below tasks order c.requires.given.order_is c.args.place c.requires.here, ap length c.requires.given.graphs_are, length-map tasks digraph_of)
+    let tasks : List Task = c.args.given.now.set.now.tasks in
+    let order : List ℕ = c.args.given.now.order.now in
+    omega (arith, order_below tasks order c.requires.order c.args.place c.requires.here, ap length c.graphs-graphs.ensures.graphs, length-map tasks digraph_of)
 
 pub prove_vertices-requires-clause-few : goal.prove_vertices-requires-clause-few
 prove_vertices-requires-clause-few g c =
-    let set = c.args.set.now in
+    let set = c.args.given.now.set.now in
     let tasks : List Task = set.tasks in
-    let order : List ℕ = c.args.order.now in
+    let order : List ℕ = c.args.given.now.order.now in
     let place = c.args.place in
     let k = get_or order place 0 in
-    let is : IsOrder tasks order = c.requires.given.order_is in
+    let is : IsOrder tasks order = c.requires.order in
     let f : Plain = c.args.self.now.forest in
     let roots : List ℕ = c.args.self.now.roots.items in
     let trees : List TreeClaim = c.args.self.now.trees.items in
@@ -44,12 +44,12 @@ prove_vertices-requires-clause-few g c =
 
 pub prove_vertices-requires-clause-roots : goal.prove_vertices-requires-clause-roots
 prove_vertices-requires-clause-roots g c κs within =
-    let set = c.args.set.now in
+    let set = c.args.given.now.set.now in
     let tasks : List Task = set.tasks in
-    let order : List ℕ = c.args.order.now in
+    let order : List ℕ = c.args.given.now.order.now in
     let place = c.args.place in
     let k = get_or order place 0 in
-    let is : IsOrder tasks order = c.requires.given.order_is in
+    let is : IsOrder tasks order = c.requires.order in
     let f : Plain = c.args.self.now.forest in
     let roots : List ℕ = c.args.self.now.roots.items in
     let trees : List TreeClaim = c.args.self.now.trees.items in
@@ -57,17 +57,17 @@ prove_vertices-requires-clause-roots g c κs within =
     let l : place < length order = c.requires.here in
     let at : slice_get order place ≡ Some k = at_place tasks order is place l in
     let below : k < length tasks = order_below tasks order is place l in
-    let graph : c.graph-graph.result.now ≡ graph_at tasks k = c.graph-graph.ensures.graph ∙ (ap (λ gs. graph_of gs k) c.requires.given.graphs_are ∙ graph_same tasks k below) in
+    let graph : c.graph-graph.result.now ≡ graph_at tasks k = c.graph-graph.ensures.graph ∙ (ap (λ gs. graph_of gs k) c.graphs-graphs.ensures.graphs ∙ graph_same tasks k below) in
     rw (graph, c.as_slice.ensures.value) (chosen_at tasks order is set.version place k limits at f roots trees c.requires.grown c.show_sound.ensures)
 
-pub refusal-requires-clause-failed : goal.refusal-requires-clause-failed
-refusal-requires-clause-failed g c =
-    let set = c.args.set.now in
+pub refusal-requires : goal.refusal-requires
+refusal-requires g c =
+    let set = c.args.given.now.set.now in
     let tasks : List Task = set.tasks in
-    let order : List ℕ = c.args.order.now in
+    let order : List ℕ = c.args.given.now.order.now in
     let place = c.args.place in
     let k = get_or order place 0 in
-    let is : IsOrder tasks order = c.requires.given.order_is in
+    let is : IsOrder tasks order = c.requires.order in
     let f : Plain = c.args.self.now.forest in
     let roots : List ℕ = c.args.self.now.roots.items in
     let trees : List TreeClaim = c.args.self.now.trees.items in
@@ -75,26 +75,26 @@ refusal-requires-clause-failed g c =
     let l : place < length order = c.requires.here in
     let at : slice_get order place ≡ Some k = at_place tasks order is place l in
     let below : k < length tasks = order_below tasks order is place l in
-    let graph : c.graph-graph.result.now ≡ graph_at tasks k = c.graph-graph.ensures.graph ∙ (ap (λ gs. graph_of gs k) c.requires.given.graphs_are ∙ graph_same tasks k below) in
+    let graph : c.graph-graph.result.now ≡ graph_at tasks k = c.graph-graph.ensures.graph ∙ (ap (λ gs. graph_of gs k) c.graphs-graphs.ensures.graphs ∙ graph_same tasks k below) in
     let v = c.in-Failed.vertex in
     let came : IsStop f roots (graph_at tasks k) v × IsFailure f (wcet (graph_at tasks k) v) (deadline (graph_at tasks k) v) roots c.in-Failed.tuple
     = rw (c.in-Failed.is, graph, c.as_slice.ensures.value) at c.in_ok-proofs.ensures in
     record {
       roots = roots;
       reached =
-          reached_at set order is limits c.requires.given.constrained c.times_suffice_for_task.ensures c.leaves_pass.ensures place k v at f roots trees
+          reached_at set order is limits c.graphs-graphs.ensures.constrained c.times_suffice_for_task.ensures c.leaves_pass.ensures place k v at f roots trees
           c.show_sound.ensures c.requires.grown c.requires.proved.passed came.0.vertex came.0.earlier;
       failure = came.1;
     }
 
 pub returns-in-Passed-clause-decided : goal.returns-in-Passed-clause-decided
 returns-in-Passed-clause-decided g c =
-    let set = c.args.set.now in
+    let set = c.args.given.now.set.now in
     let tasks : List Task = set.tasks in
-    let order : List ℕ = c.args.order.now in
+    let order : List ℕ = c.args.given.now.order.now in
     let place = c.args.place in
     let k = get_or order place 0 in
-    let is : IsOrder tasks order = c.requires.given.order_is in
+    let is : IsOrder tasks order = c.requires.order in
     let f : Plain = c.args.self.now.forest in
     let roots : List ℕ = c.args.self.now.roots.items in
     let trees : List TreeClaim = c.args.self.now.trees.items in
@@ -102,7 +102,7 @@ returns-in-Passed-clause-decided g c =
     let l : place < length order = c.requires.here in
     let at : slice_get order place ≡ Some k = at_place tasks order is place l in
     let below : k < length tasks = order_below tasks order is place l in
-    let graph : c.graph-graph.result.now ≡ graph_at tasks k = c.graph-graph.ensures.graph ∙ (ap (λ gs. graph_of gs k) c.requires.given.graphs_are ∙ graph_same tasks k below) in
+    let graph : c.graph-graph.result.now ≡ graph_at tasks k = c.graph-graph.ensures.graph ∙ (ap (λ gs. graph_of gs k) c.graphs-graphs.ensures.graphs ∙ graph_same tasks k below) in
     let came : AreVertexProofs f roots (graph_at tasks k) k (vertex_count (graph_at tasks k)) c.in-Passed.proofs
     = rw (c.in-Passed.is, graph, c.as_slice.ensures.value) at c.in_ok-proofs.ensures in
     let first : FirstPass tasks order (place + 1) = first_more tasks order is place k at c.requires.proved.passed (λ v w.
@@ -112,12 +112,12 @@ returns-in-Passed-clause-decided g c =
 
 pub returns-in-Spent-clause-decided : goal.returns-in-Spent-clause-decided
 returns-in-Spent-clause-decided g c =
-    let set = c.args.set.now in
+    let set = c.args.given.now.set.now in
     let tasks : List Task = set.tasks in
-    let order : List ℕ = c.args.order.now in
+    let order : List ℕ = c.args.given.now.order.now in
     let place = c.args.place in
     let k = get_or order place 0 in
-    let is : IsOrder tasks order = c.requires.given.order_is in
+    let is : IsOrder tasks order = c.requires.order in
     let f : Plain = c.args.self.now.forest in
     let roots : List ℕ = c.args.self.now.roots.items in
     let trees : List TreeClaim = c.args.self.now.trees.items in
@@ -125,19 +125,19 @@ returns-in-Spent-clause-decided g c =
     let l : place < length order = c.requires.here in
     let at : slice_get order place ≡ Some k = at_place tasks order is place l in
     let below : k < length tasks = order_below tasks order is place l in
-    let graph : c.graph-graph.result.now ≡ graph_at tasks k = c.graph-graph.ensures.graph ∙ (ap (λ gs. graph_of gs k) c.requires.given.graphs_are ∙ graph_same tasks k below) in
+    let graph : c.graph-graph.result.now ≡ graph_at tasks k = c.graph-graph.ensures.graph ∙ (ap (λ gs. graph_of gs k) c.graphs-graphs.ensures.graphs ∙ graph_same tasks k below) in
     let v = c.in-Spent.vertex in
-    let came : IsStop f roots (graph_at tasks k) v × IsSpentRefinement f (wcet (graph_at tasks k) v) (deadline (graph_at tasks k) v) roots c.args.budget c.in-Spent.log
+    let came : IsStop f roots (graph_at tasks k) v × IsSpentRefinement f (wcet (graph_at tasks k) v) (deadline (graph_at tasks k) v) roots c.args.crew.now.effort.budget c.in-Spent.log
     = rw (c.in-Spent.is, graph, c.as_slice.ensures.value) at c.in_ok-proofs.ensures in
     record {
       order = order;
       forest = f;
       roots = roots;
       reached =
-          reached_at set order is limits c.requires.given.constrained c.times_suffice_for_task.ensures c.leaves_pass.ensures place k v at f roots trees
+          reached_at set order is limits c.graphs-graphs.ensures.constrained c.times_suffice_for_task.ensures c.leaves_pass.ensures place k v at f roots trees
           c.show_sound.ensures c.requires.grown c.requires.proved.passed came.0.vertex came.0.earlier;
       refinement = came.1;
       short =
           refinement_below tasks order is f roots c.requires.grown.few_leaves k (ap (slice_get order) c.requires.grown.count ∙ at)
-          c.over_every_interleaving.ensures.short c.show_sound.ensures _ _ c.args.budget c.in-Spent.log came.1;
+          c.over_every_interleaving.ensures.short c.show_sound.ensures _ _ c.args.crew.now.effort.budget c.in-Spent.log came.1;
     }
