@@ -2,7 +2,7 @@
 ghost use Rattle.std.specs.Prelude.{◌≡◌, ℕ, ◌≤◌, IfOk};
 ghost use Rattle.drt_model.specs.Contents.{Contents};
 ghost use Rattle.drt_claims.specs.Ranges.{IsInRange};
-ghost use Rattle.drt_sp.specs.Answers.{IsAnswer, IsUndecided, IsVerdict};
+ghost use Rattle.drt_sp.specs.Answers.{IsUndecided, IsVerdict};
 ghost use Rattle.drt_sp.specs.Evidence.{under_fixed};
 ghost use Rattle.drt_fixed.specs.Answers.{IsAnalysed, IsByStates, IsDecision};
 
@@ -41,7 +41,7 @@ pub fn analyse_fixed<G: Gate, R: Threads + Wait + Sync>(
     ensures { IfOk result (IsAnalysed set.now crew.now.effort.budget) }
 {
     let few = crew.with(crew.effort.at_most(ALLOWANCE));
-    match by_trees(&few, set)? {
+    match drt_sp::analyse_fixed(&few, set)? {
         FixedAnswer::Done(evidence) => return Ok(decided(evidence)),
         FixedAnswer::Undecided(trail) if crew.effort.budget() <= ALLOWANCE => {
             return Ok(undecided(trail));
@@ -51,30 +51,10 @@ pub fn analyse_fixed<G: Gate, R: Threads + Wait + Sync>(
     if let Some(evidence) = decide_by_states(crew, set)? {
         return Ok(decided_by_states(evidence));
     }
-    match by_trees(crew, set)? {
+    match drt_sp::analyse_fixed(crew, set)? {
         FixedAnswer::Done(evidence) => Ok(decided(evidence)),
         FixedAnswer::Undecided(trail) => Ok(undecided(trail)),
     }
-}
-
-// bridge: the call of `drt_sp::analyse_fixed` as it is, which takes its place when it takes a crew.
-fn by_trees<G: Gate, R: Threads + Wait + Sync>(
-    crew: &Crew<'_, G, R>,
-    set: &Accepted<'_>,
-) -> Result<FixedAnswer, Memory>
-    ensures { IfOk result (IsAnswer set.now crew.now.effort.budget) }
-{
-    let workers = crew.effort.workers(); // bridge
-    let budget = crew.effort.budget(); // bridge
-    drt_sp::analyse_fixed(
-        crew.rt,
-        crew.alloc,
-        set.set(),
-        set.graphs(),
-        workers,
-        budget,
-        crew.gate,
-    ) // bridge
 }
 
 /// The evidence by tails and states, where some is found with the crew's budget of states for each vertex and the checker accepts it.

@@ -1,6 +1,6 @@
 //! The greatest response times of all vertices, by trees alone.
 ghost use Rattle.std.specs.Prelude.{◌+◌, ◌<◌, length, IfOk, MatchOption};
-ghost use Rattle.drt_sp.specs.Grown.{AreProvedTrees, IsTreesAnswer};
+ghost use Rattle.drt_sp.specs.Grown.{AreProvedTrees};
 ghost use Rattle.drt_response.specs.Answers.{AreResponsesTo, IsTreesResponse, IsUndecidedResponse};
 
 use crate::answer::ResponseTrail;
@@ -12,7 +12,7 @@ use drt_crew::Crew;
 use drt_model::{Memory, Row};
 use drt_pool::Gate;
 use drt_responses::Response;
-use drt_sp::{ProvedTrees, TreesAnswer};
+use drt_sp::{ProvedTrees, TreesAnswer, analyse_trees};
 use std::sync::Wait;
 use std::thread::Threads;
 
@@ -46,26 +46,6 @@ pub(crate) fn respond_by_trees<G: Gate, R: Threads + Wait + Sync>(
         }
         TreesAnswer::Proved(trees) => respond_all(crew, set, &trees),
     }
-}
-
-// bridge: the call of `drt_sp::analyse_trees` as it is, which takes its place when it takes a crew.
-fn analyse_trees<G: Gate, R: Threads + Wait + Sync>(
-    crew: &Crew<'_, G, R>,
-    set: &Accepted<'_>,
-) -> Result<TreesAnswer, Memory>
-    ensures { IfOk result (IsTreesAnswer set.now crew.now.effort.budget) }
-{
-    let workers = crew.effort.workers(); // bridge
-    let budget = crew.effort.budget(); // bridge
-    drt_sp::analyse_trees(
-        crew.rt,
-        crew.alloc,
-        set.set(),
-        set.graphs(),
-        workers,
-        budget,
-        crew.gate,
-    ) // bridge
 }
 
 // The responses of all vertices of a set whose trees these are.

@@ -55,8 +55,7 @@ pub(crate) fn respond_vertex<G: Gate, R: Threads + Wait + Sync>(
             };
             let releases = leaf_releases(
                 crew.alloc,
-                set.set(), // bridge
-                graphs, // bridge
+                set,
                 &trees.forest,
                 order,
                 &shown,

@@ -7,7 +7,7 @@ ghost use Rattle.drt_sp.specs.Searches.{AreEndsAhead, IsEndAt};
 
 use crate::progress::Given;
 use crate::trees::{SearchEnd, search_leaves};
-use drt_ahead::{Crew as Lookers, largest_first, look_ahead, take_found};
+use drt_ahead::{largest_first, look_ahead, take_found};
 use drt_crew::Crew;
 use drt_effort::Effort;
 use drt_graph::Graph;
@@ -123,14 +123,7 @@ fn search_all<G: Gate, R: Threads + Wait + Sync>(
         requires { IsOrder given.now.set.now.tasks given.now.order.now × (from + number < length given.now.order.now) × (from + number < 32) × (1 ≤ bound) × (bound ≤ 1000000) }
         ensures { IfOk result (IsEndAt (graphs_of given.entry.now.set.now.tasks) given.entry.now.order.now bound effort.entry.now.budget (from + number)) }
     { search_at(alloc, given, from + number as usize, bound, *effort) };
-    // bridge
-    let lookers = Lookers {
-        rt: crew.rt,
-        alloc,
-        workers: effort.workers(),
-        gate: crew.gate,
-    };
-    let found = look_ahead(&lookers, begun, search, is_spent)?;
+    let found = look_ahead(crew, begun, search, is_spent)?;
     Ok(EndsAhead { from, found })
 }
 

@@ -29,16 +29,7 @@ pub(crate) fn find_miss(
     let graphs = given.set.graphs();
     let _count = graphs.count();
     let deadline = graphs.graph(failed.task).vertex(failed.vertex).deadline;
-    let set = given.set.set(); // bridge
-    let releases = leaf_releases(
-        alloc,
-        set, // bridge
-        graphs, // bridge
-        forest,
-        given.order,
-        failed,
-        deadline,
-    )?;
+    let releases = leaf_releases(alloc, given.set, forest, given.order, failed, deadline)?;
     let miss = Miss {
         task: failed.task,
         index: 0,

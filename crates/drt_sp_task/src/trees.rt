@@ -86,12 +86,11 @@ fn add_tree<G: Gate, R: Threads + Wait + Sync>(
     let _count = graphs.count();
     trees.forest.show_sound();
     let task = given.order[place];
-    let effort = crew.effort.budget(); // bridge
     match search_tree(
         crew.alloc,
         graphs.graph(task),
-        greatest_deadline(given.set.set()),
-        effort,
+        u64::from(greatest_deadline(given.set.set())),
+        crew.effort,
         &mut trees.forest,
     )? {
         TreeSearch::Tree(tree) => {

@@ -38,19 +38,8 @@ pub(crate) fn decide_over<G: Gate, R: Threads + Wait + Sync>(
     let graphs = given.set.graphs();
     let _count = graphs.count();
     trees.forest.show_sound();
-    let workers = crew.effort.workers(); // bridge
-    let budget = crew.effort.budget(); // bridge
-    match prove_vertices(
-        crew.rt, // bridge
-        crew.alloc, // bridge
-        &trees.forest,
-        trees.roots.as_slice(),
-        task,
-        graphs.graph(task),
-        workers, // bridge
-        budget, // bridge
-        crew.gate, // bridge
-    )? {
+    let roots = trees.roots.as_slice();
+    match prove_vertices(crew, &trees.forest, roots, task, graphs.graph(task))? {
         TaskProofs::Passed(_proofs) => Ok(TaskAnswer::Meets),
         TaskProofs::Failed { vertex, tuple } => {
             let failed = VertexTuple {
