@@ -1,26 +1,13 @@
--- A walk cut at d is a walk, and asks before each time up to d for what the whole walk does.
+-- A walk cut at d asks before each time up to d for what the whole walk does.
 use Rattle.std.proofs.Common.{inl, inr, ◌≡◌, ℕ, ◌+◌, ◌≤◌, cond, ltb, List, [], ◌∷◌, refl, ap, arith}
 use Rattle.std.proofs.lemmas.Bool.{cases_Bool, le-ltb, ltb-false}
 use Rattle.drt_model.specs.Digraph.{Digraph}
 use Rattle.drt_model.specs.RequestFunction.{requested_from}
 use Rattle.drt_model.specs.Walk.{IsPath, gap, wcet}
 use Rattle.drt_busy.specs.Choice.{IsWalk, request_of}
-use Rattle.drt_choices.specs.Choices.{cut, cut_from}
+use Rattle.drt_busy.specs.Response.{cut, cut_from}
 
 module _ (g : Digraph) where
-  cut_path : (d offset u : ℕ) (vs : List ℕ) → IsPath g u vs → IsPath g u (cut_from g d offset u vs)
-  unfolding cut_from
-  cut_path d offset u [] path = tt
-  cut_path d offset u (v ∷ vs) path = elim (cases_Bool (ltb (offset + gap g u v) d)) [
-    | inl early ↦ rw early (path.0, cut_path d (offset + gap g u v) v vs path.1)
-    | inr late ↦ rw late tt
-  ]
-
-  -- a cut walk is a walk
-  pub cut_walk : (d : ℕ) (walk : List ℕ) → IsWalk g walk → IsWalk g (cut g d walk)
-  cut_walk d [] is = tt
-  cut_walk d (u ∷ vs) is = (is.0, cut_path d 0 u vs is.1)
-
   -- a walk whose first release isn't before t asks for nothing before t
   pub none_before : (offset u : ℕ) (vs : List ℕ) (t : ℕ) → t ≤ offset → requested_from g offset u vs t ≡ 0
   unfolding requested_from

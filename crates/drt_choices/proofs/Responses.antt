@@ -9,31 +9,31 @@ use Rattle.drt_model.specs.Walk.{deadline, gap, wcet}
 use Rattle.drt_busy.specs.Choice.{AreWalks, graph_at, requests, task_at}
 use Rattle.drt_busy.specs.Decide.{TimesSufficeForTask}
 use Rattle.drt_busy.specs.Response.{FitsWithin, IsGreatestFit, IsLeastFit, MeetsDeadlines, ReleasesReach, ResponseDecides, reaching}
-use Rattle.drt_busy.specs.Response as busy
 use Rattle.drt_busy.specs.WalkReleases.{all_releases, with_job}
 use Rattle.drt_steps.specs.Time.{sum_at}
 use Rattle.drt_tree.specs.Tree.{Plain, walk}
 use Rattle.drt_refine.specs.Below.{AreBelow}
-use Rattle.drt_choices.specs.Choices.{chosen, cut, cut_from}
+use Rattle.drt_choices.specs.Choices.{chosen}
+use Rattle.drt_busy.specs.Response.{cut, cut_from}
 use Rattle.drt_choices.specs.Laws.{IsPosed, LeavesRespond, WalksPass, leaf_releases, AreReaching}
 use Rattle.drt_choices.proofs.Asked.{requests_asked}
 use Rattle.drt_choices.proofs.Chosen.{below_length, chosen_asked, chosen_walks}
 use Rattle.drt_choices.proofs.Covered.{covering, order_within}
 
 -- a walk that was cut is cut
-cut_from_again : (g : Digraph) (d x u : ℕ) (vs : List ℕ) → busy.cut_from g d x u (cut_from g d x u vs) ≡ cut_from g d x u vs
-unfolding cut_from busy.cut_from
+cut_from_again : (g : Digraph) (d x u : ℕ) (vs : List ℕ) → cut_from g d x u (cut_from g d x u vs) ≡ cut_from g d x u vs
+unfolding cut_from
 cut_from_again g d x u [] = refl
 cut_from_again g d x u (v ∷ vs) = elim (cases_Bool (ltb (x + gap g u v) d)) [
   | inl early ↦ rw early (rw early (ap (λ ws. v ∷ ws) (cut_from_again g d (x + gap g u v) v vs)))
   | inr late ↦ rw late refl
 ]
 
-cut_again : (g : Digraph) (d : ℕ) (w : List ℕ) → busy.cut g d (cut g d w) ≡ cut g d w
+cut_again : (g : Digraph) (d : ℕ) (w : List ℕ) → cut g d (cut g d w) ≡ cut g d w
 cut_again g d [] = refl
 cut_again g d (u ∷ vs) = ap (λ ws. u ∷ ws) (cut_from_again g d 0 u vs)
 
-chosen_again : (tasks : List Task) (f : Plain) (d : ℕ) (order tuple : List ℕ) (k : ℕ) → busy.cut (graph_at tasks k) d (chosen tasks f d order tuple k) ≡ chosen tasks f d order tuple k
+chosen_again : (tasks : List Task) (f : Plain) (d : ℕ) (order tuple : List ℕ) (k : ℕ) → cut (graph_at tasks k) d (chosen tasks f d order tuple k) ≡ chosen tasks f d order tuple k
 unfolding chosen
 chosen_again tasks f d order [] k = refl
 chosen_again tasks f d [] (leaf ∷ tuple) k = refl
@@ -42,9 +42,10 @@ chosen_again tasks f d (j ∷ order) (leaf ∷ tuple) k = elim (cases_Bool (eqb 
   | inr later ↦ rw later (chosen_again tasks f d order tuple k)
 ]
 
-reaching_leaves : (tasks : List Task) (f : Plain) (order tuple : List ℕ) (k v d : ℕ) → reaching tasks (chosen tasks f d order tuple) k v d ≡ leaf_releases tasks f order tuple k v d
+-- The walks that a tuple of leaves names have its releases.
+pub reaching_leaves : (tasks : List Task) (f : Plain) (order tuple : List ℕ) (k v d : ℕ) → reaching tasks (chosen tasks f d order tuple) k v d ≡ leaf_releases tasks f order tuple k v d
 reaching_leaves tasks f order tuple k v d =
-    let same : (λ i. busy.cut (graph_at tasks i) d (chosen tasks f d order tuple i)) ≡ chosen tasks f d order tuple = λ n i. chosen_again tasks f d order tuple i n in
+    let same : (λ i. cut (graph_at tasks i) d (chosen tasks f d order tuple i)) ≡ chosen tasks f d order tuple = λ n i. chosen_again tasks f d order tuple i n in
     ap (λ (ws : ℕ → List ℕ). all_releases tasks (with_job tasks ws k v) (length tasks)) same
 
 module _ (version : ℕ) (tasks : List Task) (order : List ℕ) (bound : ℕ) (f : Plain) (roots : List ℕ) (k v : ℕ) (posed : IsPosed version tasks order bound f roots k v) where

@@ -1,11 +1,12 @@
 -- Trees of request functions in order of priority, and the walks that a tuple of their leaves names.
-use Rattle.std.specs.Prelude.{◌≡◌, ℕ, ◌+◌, ◌≤◌, ◌<◌, ◌==◌, nat_lt, if◌then◌else◌, List, [], ◌∷◌, length, AllPairs, Some, slice_get}
+use Rattle.std.specs.Prelude.{◌≡◌, ℕ, ◌+◌, ◌≤◌, ◌<◌, ◌==◌, if◌then◌else◌, List, [], ◌∷◌, length, AllPairs, Some, slice_get}
 use Rattle.std.specs.List.{range_with_len}
 use Rattle.std.specs.List.Sorted.{IsPermutation}
 use Rattle.drt_model.specs.declared.tasks.Task.{Task}
 use Rattle.drt_model.specs.Digraph.{Digraph, vertex_count}
-use Rattle.drt_model.specs.Walk.{deadline, gap, wcet}
+use Rattle.drt_model.specs.Walk.{deadline, wcet}
 use Rattle.drt_busy.specs.Choice.{AreWalks, IsWalk, graph_at, request_of, requests, task_at}
+use Rattle.drt_busy.specs.Response.{cut}
 use Rattle.drt_steps.specs.Values.{value_at}
 use Rattle.drt_tree.specs.Tree.{Plain, IsUnder, values, walk}
 
@@ -44,16 +45,6 @@ VertexPasses tasks k v =
 -- It is so for each vertex of the tasks at the first m places of the order.
 abbrev pub FirstPass : List Task → List ℕ → ℕ → Type 0
 FirstPass tasks order m = (i k v : ℕ) → i < m → slice_get order i ≡ Some k → v < vertex_count (graph_at tasks k) → VertexPasses tasks k v
-
--- The vertices that follow u in a walk whose release at u has this offset, as far as their offsets are below d.
-unfoldable pub cut_from : Digraph → ℕ → ℕ → ℕ → List ℕ → List ℕ
-cut_from g d offset u [] = []
-cut_from g d offset u (v ∷ vs) = if nat_lt (offset + gap g u v) d then v ∷ cut_from g d (offset + gap g u v) v vs else []
-
--- A walk as far as the offsets of its releases are below d (which is at least 1).
-abbrev pub cut : Digraph → ℕ → List ℕ → List ℕ
-cut g d [] = []
-cut g d (u ∷ vs) = u ∷ cut_from g d 0 u vs
 
 -- The walk of each task that a tuple of leaves names, one leaf for each of the first tasks of the order, cut at d; no walk for the
 -- other tasks.

@@ -9,9 +9,10 @@ use Rattle.drt_graph.specs.Graphs.{graph_of}
 use Rattle.drt_busy.specs.Choice.{IsWalk, graph_at, task_at}
 use Rattle.drt_busy.specs.WalkReleases.{all_releases, with_job}
 use Rattle.drt_check_states.specs.Places.{graphs_at}
-use Rattle.drt_choices.specs.Choices.{cut}
+use Rattle.drt_busy.specs.Response.{cut}
 use Rattle.drt_releases.specs.Walks.{walk_at}
-use Rattle.drt_sp.proofs.Chosen.{cut_due, cut_walk_is, one_due}
+use Rattle.drt_busy.proofs.Cuts.{cut_walk}
+use Rattle.drt_releases.proofs.Cuts.{cut_due, one_due}
 use Rattle.drt_sp.proofs.Refused.{all_same}
 use Rattle.drt_fixed.specs.Searching.{IsBeside}
 
@@ -31,7 +32,7 @@ module _ (tasks : List Task) (j v k : ℕ) where
   beside_higher sound less d near w is =
       let g : Digraph = graph_at tasks k in
       record {
-        is = cut_walk_is g sound d w is;
+        is = cut_walk g d w is;
         due = omega (arith, near, cut_due g sound d w is);
         alone = rw (lt-ltb (task_at tasks k).priority (task_at tasks j).priority less) refl;
       }

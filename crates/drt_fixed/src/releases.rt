@@ -12,8 +12,7 @@ ghost use Rattle.drt_fixed.specs.Searching.{AreHigher, IsBeside, IsGiven, IsPlac
 use crate::vertices::{Given, PlacedVertex};
 use drt_claims::Evidence;
 use drt_model::{Memory, Miss, Row};
-use drt_releases::all_releases;
-use drt_sp::cut_walk;
+use drt_releases::{all_releases, cut_walk};
 use std::alloc::Global;
 
 // Each walk's offsets are below the vertex's deadline, and its last job's deadline is at most as much later. Both are at most 1,000,000 ticks.

@@ -15,7 +15,7 @@ use Rattle.drt_claims.specs.Claims.{graphs_of}
 use Rattle.drt_releases.proofs.Walks.{graph_same}
 use Rattle.drt_releases.specs.Walks.{AreDueWalks}
 use Rattle.drt_fixed_task.specs.Higher.{job_walk, placed_walk}
-use Rattle.drt_fixed_task.proofs.Cuts.{cut_due, one_due}
+use Rattle.drt_releases.proofs.Cuts.{cut_due, one_due}
 
 -- A walk of the graph that is due by t.
 abbrev IsDueWalk : Digraph → ℕ → List ℕ → Type 0

@@ -1,4 +1,3 @@
-pub mod Cuts
 pub mod Due
 pub mod HigherTasks
 pub mod Lists

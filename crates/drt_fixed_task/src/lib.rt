@@ -12,7 +12,6 @@ mod higher;
 mod refusal;
 mod subjects;
 mod tails;
-mod walks;
 
 pub use deciding::decide_task;
 pub use drt_sp_task::TaskAnswer;

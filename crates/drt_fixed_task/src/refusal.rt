@@ -10,10 +10,9 @@ ghost use Rattle.drt_fixed_task.specs.Walks.{LeaveNoTime};
 
 use crate::higher::is_higher;
 use crate::subjects::Given;
-use crate::walks::cut_walk;
 use drt_busy::requests_miss;
 use drt_model::{Memory, Miss, Row};
-use drt_releases::{all_releases, walk_of};
+use drt_releases::{all_releases, cut_walk, walk_of};
 use drt_sp_task::TaskAnswer;
 use std::alloc::Global;
 

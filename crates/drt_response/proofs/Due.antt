@@ -8,13 +8,12 @@ use Rattle.drt_graph.specs.Graphs.{AreGraphs, graph_of, no_graph}
 use Rattle.drt_busy.specs.Choice.{AreWalks, IsWalk, due_of, graph_at, task_at}
 use Rattle.drt_busy.specs.Response.{cut}
 use Rattle.drt_busy.specs.WalkReleases.{with_job}
-use Rattle.drt_choices.specs.Choices as choices
 use Rattle.drt_claims.specs.Claims.{graphs_of}
 use Rattle.drt_releases.proofs.Walks.{graph_same}
 use Rattle.drt_releases.specs.Walks.{AreDueWalks}
-use Rattle.drt_sp.proofs.Chosen.{cut_due, cut_walk_is, one_due}
+use Rattle.drt_busy.proofs.Cuts.{cut_walk}
+use Rattle.drt_releases.proofs.Cuts.{cut_due, one_due}
 use Rattle.drt_response.specs.Placed.{job_walk, placed_walk}
-use Rattle.drt_response.proofs.Cuts.{same_cut}
 
 -- A walk of the graph that is due by t.
 abbrev IsDueWalk : Digraph → ℕ → List ℕ → Type 0
@@ -41,8 +40,8 @@ module _ (tasks : List Task) (walks : List (List ℕ)) (k v n : ℕ) where
     higher_due i l =
         let g : Digraph = graph_at tasks i in
         let w : List ℕ = placed_walk tasks walks i in
-        let due : due_of g (choices.cut g n w) ≤ n + 1000000 = cut_due g (sound_at i l) n w (are i l) in
-        subst (IsDueWalk g 2000000) (same_cut g n w) (cut_walk_is g (sound_at i l) n w (are i l), omega (arith, due, small))
+        let due : due_of g (cut g n w) ≤ n + 1000000 = cut_due g (sound_at i l) n w (are i l) in
+        (cut_walk g n w (are i l), omega (arith, due, small))
 
     job_due : (i : ℕ) → i < length tasks → IsDueWalk (graph_at tasks i) 2000000 (job_walk tasks walks k v n i)
     unfolding with_job

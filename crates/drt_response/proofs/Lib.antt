@@ -1,4 +1,3 @@
-mod Cuts
 mod Decided
 mod Due
 mod Enough

@@ -25,7 +25,7 @@ use Rattle.drt_sp.proofs.Yes.{few_tasks}
 use Rattle.drt_worst.specs.Splitting.{IsGreatest, search_for}
 use Rattle.drt_response.specs.Answers.{IsResponseOf}
 use Rattle.drt_responses.specs.declared.response.Response.{Response}
-use Rattle.drt_response.proofs.Cuts.{reaching_leaves}
+use Rattle.drt_choices.proofs.Responses.{reaching_leaves}
 use Rattle.drt_response.proofs.Firsts.{get_first, length_first, nodes_first, trees_first}
 
 module _ (set : Contents) (trees : ProvedTrees) (are : AreProvedTrees set trees) (m k : ℕ) (at : slice_get trees.order m ≡ Some k) where
@@ -95,6 +95,6 @@ module _ (set : Contents) (trees : ProvedTrees) (are : AreProvedTrees set trees)
           reaching = reaching;
           walks = chosen_of set.tasks trees.forest ticks trees.order tuple;
           are = chosen_walks set.tasks trees.forest ticks (greatest_deadline set.tasks) trees.order (take m trees.roots) tuple posed.trees is.reached.below;
-          releases_are = reaching_leaves set.tasks trees.forest ticks trees.order tuple k v;
+          releases_are = sym (reaching_leaves set.tasks trees.forest trees.order tuple k v ticks);
         } in
         rw (task_is, vertex_is, ticks_are, releases_are) made

@@ -9,8 +9,7 @@ ghost use Rattle.drt_response.specs.Placed.{job_walk, placed_walk};
 use crate::subjects::{VertexAt, higher_count};
 use drt_accepted::Accepted;
 use drt_model::{Memory, Release, Row};
-use drt_releases::all_releases;
-use drt_sp::cut_walk;
+use drt_releases::{all_releases, cut_walk};
 use std::alloc::Global;
 
 // Each walk's offsets are below the finish, and its last job's deadline is at most as much later. Both are at most 1,000,000 ticks.

@@ -16,7 +16,8 @@ use Rattle.drt_busy.specs.Choice.{AreDueBy, AreWalks, IsWalk, due_of, graph_at, 
 use Rattle.drt_busy.specs.WalkReleases.{all_releases, releases_of, with_job}
 use Rattle.drt_tree.specs.Tree.{IsForest, IsPair, Leads, Plain, children, walk}
 use Rattle.drt_refine.specs.Below.{AreBelow, AreNodes}
-use Rattle.drt_choices.specs.Choices.{AreTrees, IsOrder, chosen, cut}
+use Rattle.drt_choices.specs.Choices.{AreTrees, IsOrder, chosen}
+use Rattle.drt_busy.specs.Response.{cut}
 use Rattle.drt_choices.specs.Laws.{LeavesMiss, no_releases}
 use Rattle.drt_claims.specs.Claims.{graphs_of}
 use Rattle.drt_claims.specs.Ranges.{AreInRangeReleases, IsInRangeRelease}
@@ -26,7 +27,9 @@ use Rattle.drt_releases.proofs.Walks.{graph_same}
 use Rattle.drt_releases.specs.Walks.{AreDueWalks}
 use Rattle.drt_sp.specs.Answers.{AreOfWalks, IsFailedVertex, IsMissed, IsTupleFor}
 use Rattle.drt_sp.specs.Chosen.{AreLeaves, IsLeafOf, leaf_for}
-use Rattle.drt_sp.proofs.Chosen.{chosen_none, chosen_some, cut_due, cut_walk_is, leaf_place, one_due}
+use Rattle.drt_busy.proofs.Cuts.{cut_walk}
+use Rattle.drt_releases.proofs.Cuts.{cut_due, one_due}
+use Rattle.drt_sp.proofs.Chosen.{chosen_none, chosen_some, leaf_place}
 use Rattle.drt_sp.proofs.Orders.{order_below}
 
 -- What stands under a node of a forest is a leaf of it.
@@ -86,7 +89,7 @@ module _ (tasks : List Task) (f : Plain) (order tuple : List ℕ) (are : AreLeav
           let is : IsLeafOf tasks f (get_or order at.0 0) (get_or tuple at.0 0) = are.each at.0 at.1 in
           let w : IsWalk g (walk f leaf) = subst (λ n. IsWalk g (walk f n)) at.3 (subst (λ n. IsWalk (graph_at tasks n) (walk f (get_or tuple at.0 0))) at.2 is.walk_is) in
           let due : due_of g (cut g d (walk f leaf)) ≤ d + 1000000 = cut_due g (sound_at k l) d (walk f leaf) w in
-          subst (IsDueWalk g 2000000) (sym (chosen_some tasks f d order tuple k leaf e)) (cut_walk_is g (sound_at k l) d (walk f leaf) w, omega (arith, due, le))
+          subst (IsDueWalk g 2000000) (sym (chosen_some tasks f d order tuple k leaf e)) (cut_walk g d (walk f leaf) w, omega (arith, due, le))
 
   module _ (j v d : ℕ) (here : j < length tasks) (vertex : v < vertex_count (graph_at tasks j)) (small : d ≤ 1000000) where
     -- The walks of a vertex and a tuple of leaves are walks of the tasks, and due by the last deadline.

@@ -9,8 +9,8 @@ use Rattle.drt_model.specs.Walk.{gap, IsPath, span}
 use Rattle.drt_graph.proofs.Edges.{edge_of_sep, source_of, target_of}
 use Rattle.drt_graph.proofs.Paths.{span_cons, span_none}
 use Rattle.drt_busy.specs.Choice.{IsWalk, request_of}
-use Rattle.drt_choices.specs.Choices.{cut, cut_from}
-use Rattle.drt_choices.proofs.Cuts.{cut_walk}
+use Rattle.drt_busy.specs.Response.{cut, cut_from}
+use Rattle.drt_busy.proofs.Cuts.{cut_walk}
 use Rattle.drt_claims.specs.Ranges.{IsInRangeWalk, IsNumber}
 use Rattle.drt_claims.specs.Trees.{IsAbove, IsShortWalk, asked}
 

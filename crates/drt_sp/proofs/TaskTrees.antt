@@ -23,7 +23,8 @@ use Rattle.drt_tree.specs.Shape.{Shape, parts as leaf_count, pairs as pair_count
 use Rattle.drt_tree.specs.Tree.{Plain, IsForest, IsPair, IsUnder, Leads, children, children_of, leaves, values, walk, walk_of, leaf_node, leaf_steps, with_leaves}
 use Rattle.drt_tree.specs.declared.leaf.Leaf.{Leaf}
 use Rattle.drt_tree.proofs.Trees.{get_front, grows_on, index_front, leaves_grow, with_long}
-use Rattle.drt_choices.specs.Choices.{StandsFor, cut_from}
+use Rattle.drt_choices.specs.Choices.{StandsFor}
+use Rattle.drt_busy.specs.Response.{cut_from}
 use Rattle.drt_choices.proofs.Cuts.{cut_asks}
 use Rattle.drt_claims.specs.Proofs.{parts}
 use Rattle.drt_claims.specs.Ranges.{IsInRangePair, IsInRangeTree, IsInRangeWalk}

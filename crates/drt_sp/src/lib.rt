@@ -38,4 +38,4 @@ pub use order::priority_order;
 pub use releases::leaf_releases;
 pub use trees::{TaskTree, TreeSearch, search_tree};
 pub use vertices::{TaskProofs, prove_vertices};
-pub use walks::{VertexTuple, cut_walk};
+pub use walks::VertexTuple;

@@ -4,7 +4,7 @@ ghost use Rattle.drt_model.specs.declared.tasks.Task.{Task};
 ghost use Rattle.drt_model.specs.Digraph.{vertex_count};
 ghost use Rattle.drt_busy.specs.Choice.{IsWalk, graph_at};
 ghost use Rattle.drt_busy.specs.WalkReleases.{with_job};
-ghost use Rattle.drt_choices.specs.Choices.{chosen, cut};
+ghost use Rattle.drt_choices.specs.Choices.{chosen};
 ghost use Rattle.drt_claims.specs.Claims.{graphs_of};
 ghost use Rattle.drt_releases.specs.Walks.{walk_at};
 ghost use Rattle.drt_sp.specs.Chosen.{AreLeaves, leaf_for};
@@ -12,6 +12,7 @@ ghost use Rattle.drt_sp.specs.Chosen.{AreLeaves, leaf_for};
 use drt_accepted::Accepted;
 use drt_graph::{Graph, Graphs};
 use drt_model::{Memory, Row};
+use drt_releases::cut_walk;
 use drt_tree::Forest;
 use std::alloc::Global;
 
@@ -106,32 +107,4 @@ fn leaf_of(order: &[u32], tuple: &[u32], k: u32) -> Option<u32>
         }
     }
     None
-}
-
-/// A walk as far as the offsets of its releases are below `end`, in ticks.
-pub fn cut_walk(alloc: Global, graph: &Graph, end: u32, walk: &[u32]) -> Result<Row<u32>, Memory>
-    requires walk { IsWalk graph.now walk.now }
-    ensures { IfOk result (λ row. row ≡ cut graph.now end walk.now) }
-{
-    let _count = graph.vertex_count();
-    let mut kept = Vec::new(alloc);
-    if walk.is_empty() {
-        return Ok(Row::from_vec(kept));
-    }
-    let mut vertex = walk[0];
-    let mut offset: u64 = 0;
-    kept.push(vertex)?;
-    'steps: for i in 1..walk.len() {
-        let next = walk[i];
-        let Some(gap) = graph.separation(vertex, next) else {
-            unreachable!();
-        };
-        offset += u64::from(gap);
-        if offset >= u64::from(end) {
-            return Ok(Row::from_vec(kept));
-        }
-        kept.push(next)?;
-        vertex = next;
-    }
-    Ok(Row::from_vec(kept))
 }

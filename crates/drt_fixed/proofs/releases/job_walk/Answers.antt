@@ -7,7 +7,7 @@ use Rattle.drt_model.specs.Digraph.{IsSound, vertex_count}
 use Rattle.drt_graph.specs.Graphs.{graph_of}
 use Rattle.drt_busy.specs.Choice.{IsWalk, graph_at, no_task, task_at}
 use Rattle.drt_releases.proofs.Walks.{graph_same}
-use Rattle.drt_choices.specs.Choices.{cut}
+use Rattle.drt_busy.specs.Response.{cut}
 use Rattle.drt_fixed.specs.Searching.{IsBeside, graphs_given}
 use Rattle.drt_fixed.proofs.Beside.{beside_higher, beside_none, beside_own}
 use Rattle.drt_fixed.proofs.releases.job_walk.Goals.{then-k-at+in_ok-push, else-k-at}

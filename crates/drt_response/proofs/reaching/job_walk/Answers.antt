@@ -8,9 +8,8 @@ use Rattle.drt_claims.specs.Trees.{higher_count}
 use Rattle.drt_releases.specs.Walks.{walk_at}
 use Rattle.drt_releases.proofs.Walks.{graph_same}
 use Rattle.drt_tree.proofs.Trees.{if_ok_more}
-use Rattle.drt_choices.specs.Choices.{cut}
+use Rattle.drt_busy.specs.Response.{cut}
 use Rattle.drt_response.specs.Placed.{placed_walk}
-use Rattle.drt_response.proofs.Cuts.{same_cut}
 use Rattle.drt_response.proofs.Due.{walk_here, walk_higher, walk_nowhere}
 use Rattle.drt_response.proofs.reaching.job_walk.Goals.{then-k-job+in_ok-push, else-k-job}
 use Rattle.drt_response.proofs.reaching.job_walk.Goals as goal
@@ -52,7 +51,7 @@ returns-then-priority-tasks c =
     let walk : c.walk_of-walk.result.now ≡ placed_walk tasks walks k = c.walk_of-walk.ensures ∙ ap (λ (i : ℕ). walk_at walks i) place in
     let graph : c.graph.result.now ≡ graph_at tasks k = c.graph.ensures.graph ∙ (ap (λ gs. graph_of gs k) c.graphs-graphs.ensures.graphs ∙ graph_same tasks k c.requires.here) in
     let less : (task_at tasks k).priority < (task_at tasks j).priority = omega (arith, c.if-priority-tasks.true, ap (λ (x : Task). x.priority) a, ap (λ (x : Task). x.priority) b) in
-    let same = ap (λ g. cut g n c.walk_of-walk.result.now) graph ∙ (ap (λ (w : List ℕ). cut (graph_at tasks k) n w) walk ∙ same_cut (graph_at tasks k) n (placed_walk tasks walks k)) in
+    let same = ap (λ g. cut g n c.walk_of-walk.result.now) graph ∙ ap (λ (w : List ℕ). cut (graph_at tasks k) n w) walk in
     if_ok_more _ _ c.cut_walk.result (λ row is. is ∙ (same ∙ sym (walk_higher tasks walks j v n k less))) c.cut_walk.ensures
 
 pub returns : goal.returns

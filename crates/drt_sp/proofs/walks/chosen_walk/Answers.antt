@@ -6,7 +6,7 @@ use Rattle.drt_busy.specs.Choice.{IsWalk, graph_at}
 use Rattle.drt_releases.proofs.Walks.{graph_same}
 use Rattle.drt_tree.specs.Tree.{children, walk}
 use Rattle.drt_tree.proofs.Trees.{if_ok_more}
-use Rattle.drt_choices.specs.Choices.{cut}
+use Rattle.drt_busy.specs.Response.{cut}
 use Rattle.drt_sp.proofs.Chosen.{chosen_none, chosen_some, leaf_place}
 use Rattle.drt_sp.proofs.walks.chosen_walk.Goals as goal
 

@@ -1,7 +1,0 @@
--- The walk is cut so far.
-use Rattle.std.proofs.Common.{drop}
-use Rattle.drt_sp.proofs.Chosen.{IsCut}
-use Rattle.drt_sp.proofs.walks.cut_walk.Given as goal
-
-abbrev pub invariant-steps : goal.invariant-steps
-invariant-steps l = IsCut l.graph l.end l.walk l.kept.items l.vertex l.offset (drop l.i l.walk)
