@@ -4,7 +4,7 @@ use Rattle.drt_model.specs.Contents.{Contents}
 use Rattle.drt_model.specs.Limits.{IsTaskSet}
 use Rattle.drt_file.specs.trusted.Laws.{TextsReadAsOneSet}
 use Rattle.drt_evidence.specs.Text.{text}
-use Rattle.drt_claims.specs.Statement.{Statement}
+use Rattle.drt_claims.specs.declared.evidence.Evidence.{Evidence}
 use Rattle.drt_claims.specs.declared.evidence.Evidence.TheVariants.{FixedNo}
 use Rattle.drt_command.specs.declared.report.Report.{Report}
 use Rattle.drt_command.specs.declared.report.Unmade.{Unmade}
@@ -40,20 +40,20 @@ done_responds bytes set budget responses accepted are (Ok m) is =
     (record { set = set; accepted = accepted; answer = inl (refl, record { responses = responses; are = are; text_is = refl }, refl) })
 done_responds bytes set budget responses accepted are (Err e) is = tt
 
--- The answer of a no is that of the report that is made of its dossier.
-pub missed_responds : (bytes : List ℕ) (set : Contents) (budget : ℕ) (dossier : Statement) → IsAccepted bytes set → IsRefused set dossier
-    → (r : Result Report Unmade) → IfOk r (λ m. m ≡ record { status = evidence_status dossier.evidence; text = text dossier; trail = trails.Nothing })
+-- The answer of a no is that of the report that is made of its evidence.
+pub missed_responds : (bytes : List ℕ) (set : Contents) (budget : ℕ) (evidence : Evidence) → IsAccepted bytes set → IsRefused set evidence
+    → (r : Result Report Unmade) → IfOk r (λ m. m ≡ record { status = evidence_status evidence; text = text (under_fixed set evidence); trail = trails.Nothing })
     → IfOk r (Besides budget bytes)
-missed_responds bytes set budget dossier accepted refused (Ok m) is =
+missed_responds bytes set budget evidence accepted refused (Ok m) is =
     let no : IsSpNoText set (text (under_fixed set (FixedNo refused.releases refused.miss))) = record {
       releases = refused.releases;
       miss = refused.miss;
       no = refused.no;
       is = record { stated = (accepted.reads.limits, refused.in_range); is = refl };
     } in
-    let made : m ≡ record { status = 1; text = text (under_fixed set (FixedNo refused.releases refused.miss)); trail = trails.Nothing } = rw refused.dossier_is at is in
+    let made : m ≡ record { status = 1; text = text (under_fixed set (FixedNo refused.releases refused.miss)); trail = trails.Nothing } = rw refused.evidence_is at is in
     subst (Besides budget bytes) (sym made) (record { set = set; accepted = accepted; answer = inr (inl (refl, no, refl)) })
-missed_responds bytes set budget dossier accepted refused (Err e) is = tt
+missed_responds bytes set budget evidence accepted refused (Err e) is = tt
 
 answer_low : (set : Contents) (budget status : ℕ) (written : List ℕ) (trail : Trail) → IsResponseAnswer set budget status written trail → status < 4
 answer_low set budget status written trail (inl a) = omega (arith, a.0)
