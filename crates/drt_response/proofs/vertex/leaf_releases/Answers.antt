@@ -5,4 +5,4 @@ pub leaf_releases-requires-clause-tuple : goal.leaf_releases-requires-clause-tup
 leaf_releases-requires-clause-tuple c = rw c.set.ensures.set c.requires.tuple
 
 pub returns : goal.returns
-returns c = rw c.set.ensures.set at c.leaf_releases.ensures.releases
+returns c = record { releases = rw c.set.ensures.set at c.leaf_releases.ensures.releases }
