@@ -3,6 +3,7 @@ ghost use Rattle.std.specs.Prelude.{◌≡◌, ◌≤◌, ◌<◌, IfOk, length}
 ghost use Rattle.drt_model.specs.Digraph.{vertex_count};
 
 use drt_ahead::shared_size;
+use drt_effort::MOST_WORKERS;
 use drt_fronts::has_wave_table;
 use drt_graph::{Graph, Graphs};
 use drt_model::Memory;
@@ -10,9 +11,6 @@ use std::alloc::Global;
 
 // What another worker must have to do, in steps: to begin a thread costs about as much.
 const THREAD_STEPS: u64 = 20_000;
-
-// The most workers that there are.
-const MOST: u64 = 16;
 
 /// The steps that the search of each task is reckoned to take: none up to that of the last one that is done.
 pub(crate) fn reckon_all(
@@ -47,7 +45,9 @@ pub(crate) fn busy_workers(steps: &[u64], workers: u32) -> u32
         }
     }
     let others = shared_size(steps) / THREAD_STEPS;
-    workers.min(searches).min(1 + others.min(MOST) as u32)
+    workers
+        .min(searches)
+        .min(1 + others.min(u64::from(MOST_WORKERS)) as u32)
 }
 
 // The steps that the search of a task is reckoned to take: each vertex comes as often as the bound has room for the least separation, and
