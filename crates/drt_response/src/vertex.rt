@@ -2,8 +2,6 @@
 ghost use Rattle.std.specs.Prelude.{◌≡◌, ℕ, ◌≤◌, ◌<◌, length, take, Some, slice_get, IfOk};
 ghost use Rattle.drt_model.specs.Digraph.{vertex_count};
 ghost use Rattle.drt_busy.specs.Choice.{graph_at};
-ghost use Rattle.drt_choices.specs.Laws.{leaf_releases};
-ghost use Rattle.drt_sp.specs.Answers.{IsTupleFor};
 ghost use Rattle.drt_sp.specs.Grown.{AreProvedTrees};
 ghost use Rattle.drt_response.specs.Answers.{IsVertexResponse};
 
@@ -12,13 +10,11 @@ use drt_accepted::Accepted;
 use drt_busy::times_suffice_for_task;
 use drt_choices::{leaves_respond, walks_pass};
 use drt_crew::Crew;
-use drt_model::{Memory, Release, Row};
+use drt_model::{Memory, Row};
 use drt_pool::Gate;
 use drt_responses::Response;
-use drt_sp::{ProvedTrees, VertexTuple};
-use drt_tree::Forest; // bridge
+use drt_sp::{ProvedTrees, VertexTuple, leaf_releases};
 use drt_worst::{Worst, worst};
-use std::alloc::Global;
 use std::sync::Wait;
 use std::thread::Threads;
 
@@ -73,22 +69,6 @@ pub(crate) fn respond_vertex<G: Gate, R: Threads + Wait + Sync>(
             }))
         }
     }
-}
-
-// bridge: the call of `drt_sp::leaf_releases` as it is, which takes its place when it takes an accepted set.
-fn leaf_releases(
-    alloc: Global,
-    set: &Accepted<'_>,
-    forest: &Forest,
-    order: &[u32],
-    shown: &VertexTuple,
-    end: u32,
-) -> Result<Row<Release>, Memory>
-    requires tuple { IsTupleFor set.now order.now forest.now shown.now.task shown.now.vertex shown.now.tuple }
-    requires end { end ≤ 1000000 }
-    ensures releases { IfOk result (λ releases. releases ≡ leaf_releases set.now.tasks forest.now order.now shown.now.tuple shown.now.task shown.now.vertex end) }
-{
-    drt_sp::leaf_releases(alloc, set.set(), set.graphs(), forest, order, shown, end) // bridge
 }
 
 // The place of a task in the order.
