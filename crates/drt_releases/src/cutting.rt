@@ -9,7 +9,7 @@ use std::alloc::Global;
 
 /// A walk as far as the offsets of its releases are below `end`, in ticks.
 pub fn cut_walk(alloc: Global, graph: &Graph, end: u32, walk: &[u32]) -> Result<Row<u32>, Memory>
-    requires { IsWalk graph.now walk.now }
+    requires walk { IsWalk graph.now walk.now }
     ensures { IfOk result (λ row. row ≡ cut graph.now end walk.now) }
 {
     let _count = graph.vertex_count();

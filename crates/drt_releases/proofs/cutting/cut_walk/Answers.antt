@@ -13,7 +13,7 @@ steps-init c =
     let first = get_or_default walk 0 0 (get_or walk 0 0) some in
     let items = c.in_ok-push.ensures.items ∙ ap (λ (xs : List ℕ). xs ++ get_or walk 0 0 ∷ []) c.new-kept.ensures.items in
     subst (λ (xs : List ℕ). IsCut g c.args.end walk xs (get_or walk 0 0) 0 (drop 1 walk)) (sym items)
-    (cut_started g c.vertex_count-count.ensures.sound c.args.end walk (get_or walk 0 0) c.requires some first)
+    (cut_started g c.vertex_count-count.ensures.sound c.args.end walk (get_or walk 0 0) c.requires.walk some first)
 
 pub returns-then-offset-from : goal.returns-then-offset-from
 returns-then-offset-from c =
