@@ -1,5 +1,5 @@
 -- The proofs of the first vertices of a task, one after another.
-use Rattle.std.proofs.Common.{ℕ, ◌+◌, ◌<◌, ◌≤◌, List, [], ◌∷◌, ◌++◌, All, refl, sym, ap, ◌∙◌, arith}
+use Rattle.std.proofs.Common.{ℕ, ◌+◌, ◌<◌, ◌≤◌, List, [], ◌∷◌, ◌++◌, All, length, refl, sym, ap, subst, ◌≡◌, ◌∙◌, arith}
 use Rattle.std.proofs.lemmas.List.{map_push}
 use Rattle.std.proofs.lemmas.List.Elements.{All-nil, All-push}
 use Rattle.std.proofs.lemmas.List.FromFn.{map-range_with_len_more}
@@ -10,6 +10,9 @@ use Rattle.drt_claims.specs.Ranges.{IsCounted, IsInRangeItem}
 use Rattle.drt_claims.specs.declared.evidence.Item.{Item}
 use Rattle.drt_claims.specs.declared.evidence.ProofClaim.{ProofClaim}
 use Rattle.drt_sp.specs.Items.{IsProofOf}
+use Rattle.drt_sp.specs.Parts.{IsPosedVertex}
+use Rattle.drt_sp.specs.declared.proving.PosedVertex.{PosedVertex}
+use Rattle.drt_steps.specs.Time.{AreChosen}
 use Rattle.drt_sp.specs.Vertices.{AreVertexProofs, IsStop, IsProvedVertex, subject_of}
 use Rattle.drt_sp.proofs.Passing.{proofs_pass}
 
@@ -36,3 +39,18 @@ module _ (f : Plain) (roots : List ℕ) (g : Digraph) (k : ℕ) where
   -- The earlier vertices pass.
   pub stop_at : (v : ℕ) (proofs : List ProofClaim) → v < vertex_count g → AreVertexProofs f roots g k v proofs → IsStop f roots g v
   stop_at v proofs l are = record { vertex = l; earlier = λ u less. proofs_pass f roots g k v proofs are u less }
+
+-- A vertex of the graph is posed against the roots that its deadline chooses.
+pub posed_vertex : (p : PosedVertex) (g : Digraph) (v : ℕ) → IsSound g → v < vertex_count g → p.wcet ≡ wcet g v → p.deadline ≡ deadline g v
+    → length p.roots.now ≤ 31 → AreChosen (deadline g v) p.forest.now.pool p.roots.now → IsPosedVertex p
+posed_vertex p g v sound l w d few chosen =
+    let long = sound.wcet v l in
+    let late = sound.deadline v l in
+    record {
+      few = few;
+      chosen = subst (λ (n : ℕ). AreChosen n p.forest.now.pool p.roots.now) (sym d) chosen;
+      some_wcet = omega (arith, w, long);
+      few_wcet = omega (arith, w, long);
+      some_deadline = omega (arith, d, late);
+      few_deadline = omega (arith, d, late);
+    }

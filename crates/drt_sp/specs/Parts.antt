@@ -14,6 +14,7 @@ use Rattle.drt_refine.specs.declared.step.CombinationState.TheVariants.{Pending,
 use Rattle.drt_refine.specs.declared.step.FrontierReply.TheVariants.{Spent as SpentReply}
 use Rattle.drt_sp.specs.Items.{AreItems, IsFailure, IsProofOf, refinement_of}
 use Rattle.drt_sp.specs.declared.parts.Part.{Part}
+use Rattle.drt_sp.specs.declared.proving.PosedVertex.{PosedVertex}
 use Rattle.drt_sp.specs.declared.proving.Refined.{Refined}
 use Rattle.drt_sp.specs.declared.proving.Refined.TheVariants.{Passes as PassesBy, Fails as FailsAt, Spent as SpentIn}
 
@@ -21,6 +22,15 @@ use Rattle.drt_sp.specs.declared.proving.Refined.TheVariants.{Passes as PassesBy
 abbrev pub upright : List (List ℕ) → List (List ℕ) → List (List ℕ)
 upright [] under = under
 upright (nodes ∷ stack) under = upright stack (nodes ∷ under)
+
+-- The trees have leaves whose functions go to the deadline, and there are few of them; the numbers are in range.
+pub record IsPosedVertex (v : PosedVertex) : Type 0 where
+  pub few : length v.roots.now ≤ 31
+  pub chosen : AreChosen v.deadline v.forest.now.pool v.roots.now
+  pub some_wcet : 1 ≤ v.wcet
+  pub few_wcet : v.wcet ≤ 1000000
+  pub some_deadline : 1 ≤ v.deadline
+  pub few_deadline : v.deadline ≤ 1000000
 
 module _ (f : Plain) (wcet deadline : ℕ) where
   -- The frontier is that of the job and the roots, made by eager steps, and spent its budget.

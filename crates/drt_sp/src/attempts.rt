@@ -5,7 +5,7 @@ ghost use Rattle.drt_model.specs.Walk.{deadline};
 ghost use Rattle.drt_sp.specs.Attempts.{AreGiven, IsAttempt};
 ghost use Rattle.drt_steps.specs.Time.{AreChosen};
 
-use crate::proving::{Refined, VertexProof, refine_vertex};
+use crate::proving::{PosedVertex, Refined, VertexProof, refine_vertex};
 use crate::vertices::Posed;
 use drt_effort::Effort;
 use drt_model::Memory;
@@ -60,7 +60,13 @@ pub(crate) fn attempt_vertices(
         let subject = posed.graph.vertex(vertex);
         let (wcet, deadline) = (subject.wcet, subject.deadline);
         let effort = few.at_most(steps_of(few.budget(), spent.as_slice()));
-        match refine_vertex(alloc, posed.forest, posed.roots, wcet, deadline, effort)? {
+        let posed_vertex = PosedVertex {
+            forest: posed.forest,
+            roots: posed.roots,
+            wcet,
+            deadline,
+        };
+        match refine_vertex(alloc, &posed_vertex, effort)? {
             Refined::Passes(items) => proofs.push(Some(VertexProof::Passes(items)))?,
             Refined::Fails(tuple) => {
                 proofs.push(Some(VertexProof::Fails(tuple)))?;

@@ -9,8 +9,7 @@ ghost use Rattle.drt_refine.specs.Settled.{IsDone};
 ghost use Rattle.drt_refine.specs.View.{IsFrontier, setting_of, state_of};
 ghost use Rattle.drt_refine.specs.declared.step.FrontierReply.TheVariants.{Spent};
 ghost use Rattle.drt_sp.specs.Items.{AreItems, IsItemOf, IsVertexProof};
-ghost use Rattle.drt_sp.specs.Parts.{AreEndOf, IsRefined};
-ghost use Rattle.drt_steps.specs.Time.{AreChosen};
+ghost use Rattle.drt_sp.specs.Parts.{AreEndOf, IsPosedVertex, IsRefined};
 
 use crate::joints::within_budget;
 use crate::parts::end_combination;
@@ -27,6 +26,15 @@ use std::alloc::Global;
 
 // The number of the one worker that drives a frontier.
 const WORKER: u32 = 0;
+
+/// A vertex, by its wcet and deadline (in ticks), and the trees that it is proved against, by their roots.
+#[derive(Clone, Copy)]
+pub(crate) struct PosedVertex<'a> {
+    pub(crate) forest: &'a Forest,
+    pub(crate) roots: &'a [u32],
+    pub(crate) wcet: u32,
+    pub(crate) deadline: u32,
+}
 
 /// What becomes of a vertex: it passes, by the items of its proof; it fails at a tuple of leaves, one for each root; or the
 /// budget was spent after the steps of this log.
@@ -45,49 +53,44 @@ pub(crate) enum Refined {
     Spent(Frontier),
 }
 
-/// Looks for a time that passes for a vertex of this wcet and deadline (in ticks), for each tuple of leaves below the roots,
-/// which are those of the trees of the tasks of higher priority. The one frontier may make as many steps as the budget has.
+/// Looks for a time that passes for a vertex, for each tuple of leaves below the roots, which are those of the trees of the tasks of
+/// higher priority. The one frontier may make as many steps as the budget has.
 ///
 /// First only the items are made, depth first, and nothing else is kept. Where that finds a tuple that fails, or the budget is spent, a
 /// frontier makes all steps once more, for the tuple that it finds first or for its log.
 pub(crate) fn prove_vertex(
     alloc: Global,
-    forest: &Forest,
-    roots: &[u32],
-    wcet: u32,
-    deadline: u32,
+    vertex: &PosedVertex<'_>,
     effort: Effort,
 ) -> Result<VertexProof, Memory>
-    requires few { length roots.now ≤ 31 }
-    requires roots { AreChosen deadline forest.now.pool roots.now }
-    requires wcet { (1 ≤ wcet) × (wcet ≤ 1000000) }
-    requires deadline { (1 ≤ deadline) × (deadline ≤ 1000000) }
-    ensures { IfOk result (IsVertexProof forest.now wcet deadline roots.now effort.budget) }
+    requires { IsPosedVertex vertex.now }
+    ensures { IfOk result (IsVertexProof vertex.now.forest.now vertex.now.wcet vertex.now.deadline vertex.now.roots.now effort.budget) }
 {
+    let forest = vertex.forest;
     forest.show_sound();
     every_forest();
-    if let Some(items) = end_roots(alloc, forest, roots, wcet, deadline, effort)? {
+    if let Some(items) = end_roots(alloc, vertex, effort)? {
         return Ok(VertexProof::Passes(items));
     }
-    prove_by_frontier(alloc, forest, roots, wcet, deadline, effort)
+    prove_by_frontier(alloc, vertex, effort)
 }
 
 // The items that end the roots, where one frontier makes them within the budget, by two steps each.
 fn end_roots(
     alloc: Global,
-    forest: &Forest,
-    roots: &[u32],
-    wcet: u32,
-    deadline: u32,
+    vertex: &PosedVertex<'_>,
     effort: Effort,
 ) -> Result<Option<Row<Item>>, Memory>
-    requires few { length roots.now ≤ 31 }
-    requires roots { AreChosen deadline forest.now.pool roots.now }
-    requires wcet { wcet ≤ 1000000 }
-    requires deadline { deadline ≤ 1000000 }
-    ensures { IfOk result (λ some. IfSome some (λ items. AreEndOf forest.now wcet deadline roots.now items × IsCounted items)) }
+    requires { IsPosedVertex vertex.now }
+    ensures { IfOk result (λ some. IfSome some (λ items. AreEndOf vertex.now.forest.now vertex.now.wcet vertex.now.deadline vertex.now.roots.now items × IsCounted items)) }
 {
     let race = Race::start(alloc, 1, effort.budget() / 2)?;
+    let PosedVertex {
+        forest,
+        roots,
+        wcet,
+        deadline,
+    } = *vertex;
     match end_combination(alloc, forest, roots, wcet, deadline, 0, &race)? {
         Some(items) => Ok(within_budget(items.into_vec(), effort)),
         None => Ok(None),
@@ -97,19 +100,13 @@ fn end_roots(
 // What becomes of a vertex by the steps of one frontier.
 fn prove_by_frontier(
     alloc: Global,
-    forest: &Forest,
-    roots: &[u32],
-    wcet: u32,
-    deadline: u32,
+    vertex: &PosedVertex<'_>,
     effort: Effort,
 ) -> Result<VertexProof, Memory>
-    requires few { length roots.now ≤ 31 }
-    requires roots { AreChosen deadline forest.now.pool roots.now }
-    requires wcet { (1 ≤ wcet) × (wcet ≤ 1000000) }
-    requires deadline { (1 ≤ deadline) × (deadline ≤ 1000000) }
-    ensures { IfOk result (IsVertexProof forest.now wcet deadline roots.now effort.budget) }
+    requires { IsPosedVertex vertex.now }
+    ensures { IfOk result (IsVertexProof vertex.now.forest.now vertex.now.wcet vertex.now.deadline vertex.now.roots.now effort.budget) }
 {
-    let refined = refine_vertex(alloc, forest, roots, wcet, deadline, effort)?;
+    let refined = refine_vertex(alloc, vertex, effort)?;
     match refined {
         Refined::Passes(items) => Ok(VertexProof::Passes(items)),
         Refined::Fails(tuple) => Ok(VertexProof::Fails(tuple)),
@@ -120,21 +117,21 @@ fn prove_by_frontier(
 // Drives a frontier from its start to its end. Its steps are shorter than handing on a lock, so one worker makes them.
 fn drive_frontier(
     alloc: Global,
-    forest: &Forest,
-    roots: &[u32],
-    wcet: u32,
-    deadline: u32,
+    vertex: &PosedVertex<'_>,
     effort: Effort,
 ) -> Result<(Frontier, FrontierReply), Memory>
-    requires few { length roots.now ≤ 31 }
-    requires roots { AreChosen deadline forest.now.pool roots.now }
-    requires wcet { (1 ≤ wcet) × (wcet ≤ 1000000) }
-    requires deadline { (1 ≤ deadline) × (deadline ≤ 1000000) }
-    ensures setting { IfOk result (λ r. setting_of forest.now r.0 ≡ record { forest = forest.now; roots = roots.now; wcet = wcet; deadline = deadline; budget = effort.budget }) }
-    ensures frontier { IfOk result (λ r. IsFrontier forest.now r.0) }
-    ensures eager { IfOk result (λ r. IsEager (setting_of forest.now r.0) r.0.log) }
-    ensures stops { IfOk result (λ r. StopsAt (setting_of forest.now r.0) (state_of r.0) r.1) }
+    requires { IsPosedVertex vertex.now }
+    ensures setting { IfOk result (λ r. setting_of vertex.now.forest.now r.0 ≡ record { forest = vertex.now.forest.now; roots = vertex.now.roots.now; wcet = vertex.now.wcet; deadline = vertex.now.deadline; budget = effort.budget }) }
+    ensures frontier { IfOk result (λ r. IsFrontier vertex.now.forest.now r.0) }
+    ensures eager { IfOk result (λ r. IsEager (setting_of vertex.now.forest.now r.0) r.0.log) }
+    ensures stops { IfOk result (λ r. StopsAt (setting_of vertex.now.forest.now r.0) (state_of r.0) r.1) }
 {
+    let PosedVertex {
+        forest,
+        roots,
+        wcet,
+        deadline,
+    } = *vertex;
     let mut frontier = Frontier::start(alloc, forest, roots, wcet, deadline, effort.budget())?;
     let reply = frontier.drive(forest, WORKER);
     Ok((frontier, reply))
@@ -143,22 +140,16 @@ fn drive_frontier(
 /// Works one frontier of a vertex until it is finished, a combination has failed or the budget of steps is spent.
 pub(crate) fn refine_vertex(
     alloc: Global,
-    forest: &Forest,
-    roots: &[u32],
-    wcet: u32,
-    deadline: u32,
+    vertex: &PosedVertex<'_>,
     effort: Effort,
 ) -> Result<Refined, Memory>
-    requires few { length roots.now ≤ 31 }
-    requires roots { AreChosen deadline forest.now.pool roots.now }
-    requires wcet { (1 ≤ wcet) × (wcet ≤ 1000000) }
-    requires deadline { (1 ≤ deadline) × (deadline ≤ 1000000) }
-    ensures { IfOk result (IsRefined forest.now wcet deadline roots.now effort.budget) }
+    requires { IsPosedVertex vertex.now }
+    ensures { IfOk result (IsRefined vertex.now.forest.now vertex.now.wcet vertex.now.deadline vertex.now.roots.now effort.budget) }
 {
-    let (frontier, reply) = drive_frontier(alloc, forest, roots, wcet, deadline, effort)?;
+    let (frontier, reply) = drive_frontier(alloc, vertex, effort)?;
     match reply {
         FrontierReply::Spent => Ok(Refined::Spent(frontier)),
-        reply => settle(alloc, forest, &frontier, reply),
+        reply => settle(alloc, vertex.forest, &frontier, reply),
     }
 }
 

@@ -5,11 +5,12 @@ ghost use Rattle.drt_model.specs.Walk.{deadline};
 ghost use Rattle.drt_steps.specs.Time.{AreChosen};
 ghost use Rattle.drt_sp.specs.Attempts.{AreGiven};
 ghost use Rattle.drt_sp.specs.Items.{IsVertexProof};
+ghost use Rattle.drt_sp.specs.Parts.{IsPosedVertex};
 ghost use Rattle.drt_sp.specs.Vertices.{IsOutcome};
 
 use crate::joints::take_at;
 use crate::parts::{Ahead, prove_by_parts};
-use crate::proving::{VertexProof, prove_vertex};
+use crate::proving::{PosedVertex, VertexProof, prove_vertex};
 use drt_claims::ProofClaim;
 use drt_crew::Crew;
 use drt_effort::Effort;
@@ -74,10 +75,13 @@ pub fn prove_vertices<G: Gate, R: Threads + Wait + Sync>(
         let subject = graph.vertex(vertex);
         match take_or_prove(
             crew.alloc,
-            &posed,
+            &PosedVertex {
+                forest,
+                roots,
+                wcet: subject.wcet,
+                deadline: subject.deadline,
+            },
             take_at(vertex, &mut ahead.found),
-            subject.wcet,
-            subject.deadline,
             crew.effort,
         )? {
             VertexProof::Passes(items) => proofs.push(ProofClaim {
@@ -115,21 +119,16 @@ fn prove_ahead<G: Gate, R: Threads + Wait + Sync>(
 // What becomes of a vertex: what was found ahead, or else what one frontier gives.
 fn take_or_prove(
     alloc: Global,
-    posed: &Posed<'_>,
+    vertex: &PosedVertex<'_>,
     found: Option<VertexProof>,
-    wcet: u32,
-    deadline: u32,
     effort: Effort,
 ) -> Result<VertexProof, Memory>
-    requires few { length posed.now.roots.now ≤ 31 }
-    requires roots { AreChosen deadline posed.now.forest.now.pool posed.now.roots.now }
-    requires found { IfSome found (IsVertexProof posed.now.forest.now wcet deadline posed.now.roots.now effort.budget) }
-    requires wcet { (1 ≤ wcet) × (wcet ≤ 1000000) }
-    requires deadline { (1 ≤ deadline) × (deadline ≤ 1000000) }
-    ensures { IfOk result (IsVertexProof posed.now.forest.now wcet deadline posed.now.roots.now effort.budget) }
+    requires vertex { IsPosedVertex vertex.now }
+    requires found { IfSome found (IsVertexProof vertex.now.forest.now vertex.now.wcet vertex.now.deadline vertex.now.roots.now effort.budget) }
+    ensures { IfOk result (IsVertexProof vertex.now.forest.now vertex.now.wcet vertex.now.deadline vertex.now.roots.now effort.budget) }
 {
     match found {
         Some(proof) => Ok(proof),
-        None => prove_vertex(alloc, posed.forest, posed.roots, wcet, deadline, effort),
+        None => prove_vertex(alloc, vertex, effort),
     }
 }

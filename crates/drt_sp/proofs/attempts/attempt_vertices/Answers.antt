@@ -5,14 +5,19 @@ use Rattle.drt_model.specs.declared.tasks.Vertex.{Vertex}
 use Rattle.drt_sp.specs.Attempts.{IsAttempt}
 use Rattle.drt_sp.specs.declared.attempts.Attempt.{Attempt}
 use Rattle.drt_sp.specs.declared.proving.VertexProof.{VertexProof}
+use Rattle.drt_sp.proofs.FirstVertices.{posed_vertex}
 use Rattle.drt_sp.proofs.Attempted.{AreAttempted, attempt_fails, attempt_passes, attempt_spends}
 use Rattle.drt_sp.proofs.attempts.attempt_vertices.Goals.{in-Passes+in_ok-push-in-Passes, in-Spent+in_ok-push-in-Spent+in_ok-push-in-Spent-2}
 use Rattle.drt_sp.proofs.attempts.attempt_vertices.Goals as goal
 
-pub refine_vertex-requires-clause-roots : goal.refine_vertex-requires-clause-roots
-refine_vertex-requires-clause-roots c =
-    let l : c.loop-vertex.vertex < vertex_count c.args.posed.now.graph.now = omega (arith, c.loop-vertex-test.true, c.vertex_count-vertex-end.ensures.count) in
-    rw c.vertex-subject.ensures (c.requires.roots c.loop-vertex.vertex l)
+pub refine_vertex-requires : goal.refine_vertex-requires
+refine_vertex-requires c =
+    let g = c.args.posed.now.graph.now in
+    let n = c.loop-vertex.vertex in
+    let l : n < vertex_count g = omega (arith, c.loop-vertex-test.true, c.vertex_count-vertex-end.ensures.count) in
+    let same = c.vertex-subject.ensures in
+    posed_vertex _ g n c.vertex_count-vertex-end.ensures.sound l (ap (λ (v : Vertex). v.wcet) same) (ap (λ (v : Vertex). v.deadline) same)
+    c.requires.few (c.requires.roots n l)
 
 pub returns-in-Fails-clause-proofs : goal.returns-in-Fails-clause-proofs
 returns-in-Fails-clause-proofs c =

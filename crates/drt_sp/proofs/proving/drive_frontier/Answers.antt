@@ -15,4 +15,4 @@ driven_eager f old new opening same_setting goes =
 
 pub returns-clause-eager : goal.returns-clause-eager
 returns-clause-eager c =
-    driven_eager c.args.forest.now c.in_ok-frontier.frontier c.drive-reply.new.self c.in_ok-frontier.ensures.state c.drive-reply.ensures.drives.setting c.drive-reply.ensures.eager
+    driven_eager c.args.vertex.now.forest.now c.in_ok-frontier.frontier c.drive-reply.new.self c.in_ok-frontier.ensures.state c.drive-reply.ensures.drives.setting c.drive-reply.ensures.eager

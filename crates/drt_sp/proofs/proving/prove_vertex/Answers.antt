@@ -7,10 +7,10 @@ use Rattle.drt_sp.proofs.proving.prove_vertex.Goals as goal
 
 pub returns-in-Some : goal.returns-in-Some
 returns-in-Some c =
-    let f = c.args.forest.now in
-    let w = c.args.wcet in
-    let d = c.args.deadline in
-    let roots = c.args.roots.now in
+    let f = c.args.vertex.now.forest.now in
+    let w = c.args.vertex.now.wcet in
+    let d = c.args.vertex.now.deadline in
+    let roots = c.args.vertex.now.roots.now in
     let items = c.in-Some.items in
     let above : AreAbove f = λ leaf n t under. c.every_forest.ensures.below f leaf n t c.show_sound.ensures under in
     let whole : AreEndOf f w d roots items × IsCounted items = rw c.in-Some.is at c.in_ok-items.ensures in

@@ -1,14 +1,18 @@
-use Rattle.std.proofs.Common.{◌<◌, ◌≤◌, arith}
+use Rattle.std.proofs.Common.{◌<◌, ◌≤◌, ap, arith}
 use Rattle.drt_model.specs.Digraph.{vertex_count}
-use Rattle.drt_sp.proofs.FirstVertices.{proofs_more, stop_at}
+use Rattle.drt_model.specs.declared.tasks.Vertex.{Vertex}
+use Rattle.drt_sp.proofs.FirstVertices.{posed_vertex, proofs_more, stop_at}
 use Rattle.drt_sp.specs.Attempts.{AreGiven}
 use Rattle.drt_sp.proofs.vertices.prove_vertices.Goals.{then-vertex-len+in_ok-ahead, else-vertex-len}
 use Rattle.drt_sp.proofs.vertices.prove_vertices.Goals as goal
 
-pub take_or_prove-requires-clause-roots : goal.take_or_prove-requires-clause-roots
-take_or_prove-requires-clause-roots g c =
-    let l : c.vertices.vertex < vertex_count c.args.graph.now = omega (arith, c.vertices-test.true, c.vertex_count-vertex-end.ensures.count) in
-    rw c.vertex-subject.ensures (c.requires.roots c.vertices.vertex l)
+pub take_or_prove-requires-clause-vertex : goal.take_or_prove-requires-clause-vertex
+take_or_prove-requires-clause-vertex g c =
+    let n = c.vertices.vertex in
+    let l : n < vertex_count c.args.graph.now = omega (arith, c.vertices-test.true, c.vertex_count-vertex-end.ensures.count) in
+    let same = c.vertex-subject.ensures in
+    posed_vertex _ c.args.graph.now n c.vertex_count-vertex-end.ensures.sound l (ap (λ (v : Vertex). v.wcet) same) (ap (λ (v : Vertex). v.deadline) same)
+    c.requires.few (c.requires.roots n l)
 
 pub returns-in-Fails : goal.returns-in-Fails
 returns-in-Fails g c =
