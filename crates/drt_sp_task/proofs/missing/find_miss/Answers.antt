@@ -1,5 +1,4 @@
 use Rattle.std.proofs.Common.{◌≡◌, ℕ, List, ap, ◌∙◌}
-use Rattle.drt_model.specs.Contents.{Contents}
 use Rattle.drt_model.specs.declared.jobs.Miss.{Miss}
 use Rattle.drt_model.specs.declared.tasks.Task.{Task}
 use Rattle.drt_model.specs.Walk.{deadline}
@@ -24,7 +23,7 @@ returns c =
     let graph : c.graph.result.now ≡ graph_at tasks k = graph_here given c.requires.order c.graphs-graphs.ensures.graphs k failing.tuple.task c.graph.ensures.graph in
     let end : c.vertex.result.now.deadline ≡ deadline (graph_at tasks k) v = ap (λ x. x.deadline) c.vertex.ensures ∙ ap (λ g. deadline g v) graph in
     let same : c.in_ok-releases.releases ≡ no_releases tasks f given.order.now failed.tuple k v
-    = c.in_ok-releases.ensures.releases ∙ ap (λ (s : Contents). leaf_releases s.tasks f given.order.now failed.tuple k v c.vertex.result.now.deadline) c.set-set.ensures.set
+    = c.in_ok-releases.ensures.releases
     ∙ ap (λ (d : ℕ). leaf_releases tasks f given.order.now failed.tuple k v d) end in
     let due : c.from.result ≡ deadline (graph_at tasks k) v = c.from.ensures ∙ end in
     let name : ℕ → Miss = λ (d : ℕ). first_miss k d in

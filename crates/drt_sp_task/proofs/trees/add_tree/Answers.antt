@@ -51,7 +51,7 @@ returns-in-Spent g c =
     let graph : c.graph.result.now ≡ graph_at tasks k = graph_here given c.requires.order c.graphs-graphs.ensures.graphs k below c.graph.ensures.graph in
     let latest : c.greatest_deadline.result ≡ greatest_deadline tasks = c.greatest_deadline.ensures.value ∙ ap (λ (s : Contents). greatest_deadline s.tasks) c.set.ensures.set in
     let spent : IsSpentSearch (graph_at tasks k) (greatest_deadline tasks) c.args.crew.now.effort.budget c.in-Spent.log
-    = rw (c.in-Spent.is, graph, latest, c.budget-effort.ensures.is) at c.in_ok-tree.ensures in
+    = rw (c.in-Spent.is, graph, latest) at c.in_ok-tree.ensures in
     let laws = c.over_every_interleaving.ensures in (
       at,
       spent,

@@ -61,7 +61,7 @@ returns-in-Spent g c =
     let graph : c.graph.result.now ≡ graph_at tasks k = graph_here given c.requires.order c.graphs-graphs.ensures.graphs k c.requires.task c.graph.ensures.graph in
     let came : IsStop trees.forest trees.roots.items (graph_at tasks k) v
     × IsSpentRefinement trees.forest (wcet (graph_at tasks k) v) (deadline (graph_at tasks k) v) trees.roots.items budget c.in-Spent.log
-    = rw (c.in-Spent.is, graph, c.as_slice.ensures.value, c.budget-budget.ensures.is) at c.in_ok-_proofs.ensures in (
+    = rw (c.in-Spent.is, graph, c.as_slice.ensures.value) at c.in_ok-_proofs.ensures in (
       refl,
       spent_here given c.requires.order c.keep_limits.ensures.limits k trees c.requires.trees c.show_sound.ensures c.leaves_pass.ensures
           c.over_every_interleaving.ensures.short budget v c.in-Spent.log came.0 came.1,
