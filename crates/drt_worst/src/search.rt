@@ -347,7 +347,7 @@ fn search_tree<G: Gate, R: Threads + Wait + Sync>(
 /// The greatest of the least times that pass for a vertex of this wcet and deadline, in ticks, over all tuples of leaves below the
 /// roots, with a tuple that has it; or what one worker took that began at the roots and spent the budget.
 ///
-/// The roots are first split until there is a combination for each worker of the crew. Then each pass takes its combinations depth first. All
+/// The roots are first split until there is a combination for each worker. Then each pass takes its combinations depth first. All
 /// passes share a word that holds the greatest value reached so far: a combination whose least time isn't above it is skipped
 /// (Stigge and Yi, RTSS 2013).
 ///
