@@ -5,7 +5,7 @@ ghost use Rattle.drt_model.specs.Limits.{IsTaskSet};
 ghost use Rattle.drt_claims.specs.Claims.{graphs_of};
 ghost use Rattle.drt_edf.specs.Plans.{AreTooFine};
 ghost use Rattle.drt_gen.specs.Generated.{generated};
-ghost use Rattle.drt_effort.specs.Efforts.{most_workers};
+ghost use Rattle.drt_effort.specs.Efforts.{most_budget};
 ghost use Rattle.drt_summary.specs.declared.summary.EdfVerdict.{EdfVerdict};
 ghost use Rattle.drt_io.specs.Causes.{Rose};
 ghost use Rattle.drt_command.specs.declared.input.Input.{Input};
@@ -132,6 +132,7 @@ fn decide_edf<G: Gate, R: Threads + Wait + Sync>(
     crew: &Crew<'_, G, R>,
     set: &Accepted<'_>,
 ) -> Result<EdfFinding, Memory>
+    requires budget { crew.now.effort.budget ≡ most_budget }
     requires limits { IsTaskSet 1 set.now.tasks }
     requires fine { ¬ AreTooFine set.now.tasks }
     ensures says { IfOk result (λ f. EdfSays set.now.tasks f.verdict f.trail) }
@@ -194,6 +195,7 @@ fn decide_fixed<G: Gate, R: Threads + Wait + Sync>(
     crew: &Crew<'_, G, R>,
     set: &Accepted<'_>,
 ) -> Result<FixedFinding, Memory>
+    requires { crew.now.effort.budget ≡ most_budget }
     ensures { IfOk result (λ f. FixedSays set.now f.verdict f.trail) }
 {
     match analyse_fixed(crew, set)? {

@@ -3,11 +3,12 @@ ghost use Rattle.std.specs.Prelude.{◌≡◌, ◌≢◌, ◌≤◌, IfErr, IfOk
 ghost use Rattle.drt_model.specs.Digraph.{digraph_of};
 ghost use Rattle.drt_io.specs.Causes.{Rose};
 ghost use Rattle.drt_command.specs.declared.input.Input.{Input};
+ghost use Rattle.drt_claims.specs.Ranges.{IsInRange};
 ghost use Rattle.drt_command.specs.Inputs.{IsWithin};
 ghost use Rattle.drt_command.specs.Rules.{IsCause};
 ghost use Rattle.drt_command.specs.Runs.{IsRun};
-ghost use Rattle.drt_model.specs.declared.jobs.Policy.TheVariants.{Fixed};
 ghost use Rattle.drt_evidence.specs.Text.{text};
+ghost use Rattle.drt_sp.specs.Evidence.{under_fixed};
 ghost use Rattle.drt_command_files.specs.Dossiers.{evidence_status};
 ghost use Rattle.drt_command_sp.specs.Besides.{Besides, trail_after, trail_of};
 ghost use Rattle.drt_command_sp.specs.Sp.{sp_rules};
@@ -111,6 +112,7 @@ fn analyse<G: Gate, R: Threads + Wait + Sync>(
 
 // The report of an answer: the dossier of the set under fixed priorities, and the trail of a spent budget.
 fn report_of(alloc: Global, set: TaskSet, answer: Analysed) -> Result<Report, Unmade>
+    requires { IsInRange answer.evidence }
     ensures report { IfOk result (λ m. m ≡ record { status = evidence_status answer.evidence; text = text (under_fixed set answer.evidence); trail = trail_after answer.trail }) }
     ensures unmade { IfErr result (λ e. e ≡ Unmade.Memory) }
 {

@@ -33,7 +33,8 @@ returns-in_ok-push-in-Tree g c =
     let at : slice_get order place ≡ Some k = at_place tasks order c.requires.order place c.requires.here in
     let below : k < length tasks = order_below tasks order c.requires.order place c.requires.here in
     let graph : c.graph.result.now ≡ graph_at tasks k = graph_here given c.requires.order c.graphs-graphs.ensures.graphs k below c.graph.ensures.graph in
-    let latest : c.greatest_deadline.result ≡ greatest_deadline tasks = c.greatest_deadline.ensures.value ∙ ap (λ (s : Contents). greatest_deadline s.tasks) c.set.ensures.set in
+    let latest : c.from.result ≡ greatest_deadline tasks
+    = c.from.ensures ∙ (c.greatest_deadline.ensures.value ∙ ap (λ (s : Contents). greatest_deadline s.tasks) c.set.ensures.set) in
     let t : IsTaskTree (graph_at tasks k) (greatest_deadline tasks) c.args.trees.now.forest c.search_tree.new.forest c.in-Tree.tree
     = rw (c.in-Tree.is, graph, latest) at c.in_ok-tree.ensures in
     one_more given c.requires.order c.keep_limits.ensures.limits place k at c.args.trees.now _ c.in-Tree.tree
@@ -49,7 +50,8 @@ returns-in-Spent g c =
     let at : slice_get order place ≡ Some k = at_place tasks order c.requires.order place c.requires.here in
     let below : k < length tasks = order_below tasks order c.requires.order place c.requires.here in
     let graph : c.graph.result.now ≡ graph_at tasks k = graph_here given c.requires.order c.graphs-graphs.ensures.graphs k below c.graph.ensures.graph in
-    let latest : c.greatest_deadline.result ≡ greatest_deadline tasks = c.greatest_deadline.ensures.value ∙ ap (λ (s : Contents). greatest_deadline s.tasks) c.set.ensures.set in
+    let latest : c.from.result ≡ greatest_deadline tasks
+    = c.from.ensures ∙ (c.greatest_deadline.ensures.value ∙ ap (λ (s : Contents). greatest_deadline s.tasks) c.set.ensures.set) in
     let spent : IsSpentSearch (graph_at tasks k) (greatest_deadline tasks) c.args.crew.now.effort.budget c.in-Spent.log
     = rw (c.in-Spent.is, graph, latest) at c.in_ok-tree.ensures in
     let laws = c.over_every_interleaving.ensures in (
