@@ -9,4 +9,4 @@ returns-in-Ok-clause-analyses g c =
     let budget = c.args.crew.now.effort.budget in
     let answer = c.in-Ok.answer in
     let found : IsAnalysed set budget answer = rw c.of.ensures at c.in-Ok.ensures in
-    analysed c.args.bytes.now set budget answer.evidence answer.trail c.requires.accepted found.says found.in_range c.report_of.result c.report_of.ensures
+    analysed c.args.bytes.now set budget answer.evidence answer.trail c.requires.accepted found.says found.in_range c.report_of.result c.report_of.ensures.report
