@@ -3,7 +3,7 @@ use Rattle.std.proofs.Common.{ℕ, List, sym, subst, arith}
 use Rattle.std.specs.Prelude.{MatchOption, Option}
 use Rattle.drt_command_files.specs.Spots.{IsSpot, NamesNone}
 use Rattle.drt_command_margin.specs.Steps.{IsSpotOf}
-use Rattle.drt_command_margin.specs.declared.spot.Spot.{Spot}
+use Rattle.drt_margin.specs.declared.question.Question.{Question}
 use Rattle.drt_command_margin.proofs.Spots.{places_small, spot_there}
 use Rattle.drt_command_margin.proofs.command.spot_in.Goals as goal
 use Rattle.drt_command_margin.proofs.command.spot_in.Goals.{then-command, else-command}
@@ -15,7 +15,7 @@ returns-in_err-task c =
     let none : NamesNone command.task command.vertex tasks = λ k v s.
     c.in_err-task.ensures k v
     (subst (λ (w : List ℕ). IsSpot tasks w c.as_slice-2.result.now k v) (sym c.as_slice.ensures) (subst (λ (w : List ℕ). IsSpot tasks command.task w k v) (sym c.as_slice-2.ensures) s)) in
-    subst (λ (r : Option Spot). MatchOption r (NamesNone command.task command.vertex tasks) (IsSpotOf c.args.set.now command)) (sym c.from_residual.ensures) none
+    subst (λ (r : Option Question). MatchOption r (NamesNone command.task command.vertex tasks) (IsSpotOf c.args.set.now command)) (sym c.from_residual.ensures) none
 
 pub overflow_cast-result : goal.overflow_cast-result
 overflow_cast-result c =
