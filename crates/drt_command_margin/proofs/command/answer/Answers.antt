@@ -1,12 +1,19 @@
 -- What `margin` found is what the report says.
-use Rattle.std.proofs.Common.{IfOk, subst}
+use Rattle.std.proofs.Common.{IfOk, subst, sym}
 use Rattle.drt_model.specs.Contents.{Contents}
 use Rattle.drt_model.specs.declared.jobs.Policy.{Policy}
 use Rattle.drt_command.specs.declared.report.Report.{Report}
+use Rattle.drt_margin.specs.Answers.{IsMarginAnswer}
 use Rattle.drt_command_margin.specs.Besides.{Besides, IsReportOf}
 use Rattle.drt_command_margin.specs.Verdict.{Verdict}
 use Rattle.drt_command_margin.proofs.MarginPromises.{made_of}
 use Rattle.drt_command_margin.proofs.command.answer.Goals as goal
+
+pub report_of-requires-clause-answer : goal.report_of-requires-clause-answer
+report_of-requires-clause-answer g c =
+    let s = c.args.spot in
+    let budget = c.args.crew.now.effort.budget in
+    (budget, subst (λ (x : Contents). IsMarginAnswer x s.policy s.task s.vertex budget c.in-Ok.answer) (sym c.in-Ok.ensures.same) c.in-Ok.ensures.answer)
 
 pub returns-in-Ok-clause-makes : goal.returns-in-Ok-clause-makes
 returns-in-Ok-clause-makes g c =
