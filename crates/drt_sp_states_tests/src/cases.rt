@@ -144,7 +144,7 @@ fn find<R: Threads + Wait + Sync>(
 
 // So many workers and steps, where both are in range.
 fn make_effort(workers: u32, budget: u64) -> Option<Effort> {
-    if workers < 1 || workers > MOST_WORKERS || budget < 1 || budget > MOST_BUDGET {
+    if workers < 1 || workers > MOST_WORKERS || budget < 1 || budget > u64::from(MOST_BUDGET) {
         return None;
     }
     Some(Effort::new(workers, budget))

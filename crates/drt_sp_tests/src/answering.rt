@@ -58,7 +58,7 @@ fn make(alloc: Global, source: Source<'_>) -> Result<TaskSet, Fail> {
 
 // So many workers, with so many steps for each search.
 pub(crate) fn effort_of(workers: u32, budget: u64) -> Result<Effort, Fail> {
-    if workers < 1 || workers > MOST_WORKERS || budget < 1 || budget > MOST_BUDGET {
+    if workers < 1 || workers > MOST_WORKERS || budget < 1 || budget > u64::from(MOST_BUDGET) {
         return Err("the workers and the budget are in range".into());
     }
     Ok(Effort::new(workers, budget))
