@@ -41,10 +41,11 @@ fn two_workers_begin_a_search_together(rt: HostRuntime) -> Result<(), Fail> {
 const TWO_TABLES: &str =
     "drt 1\ntask a\nvertex x 1 100\nedge x x 100\ntask b\nvertex y 1 101\nedge y y 101\ntask c\nvertex z 1 34000\nend\n";
 
-// Whether the walks of two tasks are searched by two workers at the same time, under fixed priorities.
+// Whether the walks of two tasks are searched by two workers at the same time, under fixed priorities. With a greater budget the first attempt,
+// which decides here, would be one worker's.
 fn are_searched_together(rt: &(impl Threads + Wait + Sync), alloc: Global) -> Result<bool, Fail> {
     let gate = Meeting::at(0);
-    let status = status_of(rt, alloc, "sp --workers 2", TWO_TABLES, &gate)?;
+    let status = status_of(rt, alloc, "sp --workers 2 --budget 4096", TWO_TABLES, &gate)?;
     Ok(status == 0 && gate.times_met() > 0)
 }
 

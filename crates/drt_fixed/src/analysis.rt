@@ -12,6 +12,7 @@ use drt_accepted::Accepted;
 use drt_check::{Judgement, check};
 use drt_claims::{Dossier, Evidence};
 use drt_crew::Crew;
+use drt_effort::Effort;
 use drt_model::{Memory, Policy, TaskSet};
 use drt_pool::Gate;
 use drt_priorities::copy_of;
@@ -31,8 +32,8 @@ pub struct Analysed {
 
 /// Decides whether a set is schedulable under fixed priorities.
 ///
-/// First each table and each frontier of `drt_sp` has the crew's budget or 4,096 steps, whichever is less. Where these are spent and the
-/// budget is greater, the states of each vertex are searched, with the budget for each; and where that finds nothing, tables and frontiers
+/// First each table and each frontier of `drt_sp` has the crew's budget or 4,096 steps, whichever is less; in the latter case one worker
+/// makes them. Where these are spent and the budget is greater, the states of each vertex are searched, with the budget for each; and where that finds nothing, tables and frontiers
 /// have the whole budget.
 pub fn analyse_fixed<G: Gate, R: Threads + Wait + Sync>(
     crew: &Crew<'_, G, R>,
@@ -40,7 +41,7 @@ pub fn analyse_fixed<G: Gate, R: Threads + Wait + Sync>(
 ) -> Result<Analysed, Memory>
     ensures { IfOk result (IsAnalysed set.now crew.now.effort.budget) }
 {
-    let few = crew.with(crew.effort.at_most(ALLOWANCE));
+    let few = crew.with(first_effort(&crew.effort));
     match drt_sp::analyse_fixed(&few, set)? {
         FixedAnswer::Done(evidence) => return Ok(decided(evidence)),
         FixedAnswer::Undecided(trail) if crew.effort.budget() <= ALLOWANCE => {
@@ -54,6 +55,17 @@ pub fn analyse_fixed<G: Gate, R: Threads + Wait + Sync>(
     match drt_sp::analyse_fixed(crew, set)? {
         FixedAnswer::Done(evidence) => Ok(decided(evidence)),
         FixedAnswer::Undecided(trail) => Ok(undecided(trail)),
+    }
+}
+
+/// The effort of a first attempt by trees: 4,096 steps by one worker, where the budget has more; else all of it, since nothing comes after it.
+pub fn first_effort(effort: &Effort) -> Effort
+    ensures { effort.now.budget ≤ 4096 → result.budget ≡ effort.now.budget }
+{
+    if effort.budget() <= ALLOWANCE {
+        *effort
+    } else {
+        effort.alone().at_most(ALLOWANCE)
     }
 }
 

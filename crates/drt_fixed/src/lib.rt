@@ -14,4 +14,4 @@ mod searching;
 mod tails;
 mod vertices;
 
-pub use analysis::{ALLOWANCE, Analysed, analyse_fixed, decide_by_states};
+pub use analysis::{ALLOWANCE, Analysed, analyse_fixed, decide_by_states, first_effort};

@@ -7,7 +7,7 @@ use crate::by_states::{StatesResponse, respond_by_states};
 use crate::by_trees::{TreesResponse, respond_by_trees};
 use drt_accepted::Accepted;
 use drt_crew::Crew;
-use drt_fixed::ALLOWANCE;
+use drt_fixed::{ALLOWANCE, first_effort};
 use drt_model::Memory;
 use drt_pool::Gate;
 use std::sync::Wait;
@@ -25,7 +25,7 @@ pub fn respond<G: Gate, R: Threads + Wait + Sync>(
 ) -> Result<ResponseAnswer, Memory>
     ensures { IfOk result (IsResponseAnswer set.now crew.now.effort.budget) }
 {
-    let few = crew.with(crew.effort.at_most(ALLOWANCE));
+    let few = crew.with(first_effort(&crew.effort));
     match respond_by_trees(&few, set)? {
         TreesResponse::Done(responses) => return Ok(ResponseAnswer::Done(responses)),
         TreesResponse::Missed(evidence) => return Ok(ResponseAnswer::Missed(evidence)),

@@ -9,7 +9,7 @@ returns-in-Done g c = let said = rw c.in-Done.is at c.in_ok-evidence.ensures in 
 
 pub returns-in-Undecided : goal.returns-in-Undecided
 returns-in-Undecided g c =
-    let whole = c.at_most.ensures.whole (omega (arith, c.if-budget-le-ALLOWANCE.true, c.budget.ensures.is)) in
+    let whole = c.first_effort.ensures (omega (arith, c.if-budget-le-ALLOWANCE.true, c.budget.ensures.is)) in
     let same : c.with-few.result.effort.budget ≡ c.args.crew.now.effort.budget = ap (λ (n : Numbers). n.budget) c.with-few.ensures ∙ whole in
     let said = rw c.in-Undecided.is at c.in_ok-evidence.ensures in
     c.undecided.ensures c.args.set.now c.args.crew.now.effort.budget (subst (λ (budget : ℕ). IsUndecided c.args.set.now budget c.in-Undecided.trail) same said)
