@@ -9,7 +9,7 @@ use drt_crew::Crew;
 use drt_drawn::{Draws, drawn_set};
 use drt_effort::Effort;
 use drt_evidence::print;
-use drt_fixed::{Analysed, analyse_fixed, decide_by_states};
+use drt_fixed::{Analysed, analyse_fixed, decide_by_states, first_effort};
 use drt_fixtures::{Shape, make_set};
 use drt_graph::{Graphs, check};
 use drt_meeting::Meeting;
@@ -244,5 +244,20 @@ fn two_workers_search_two_vertices_at_once(rt: HostRuntime) -> Result<(), Fail> 
     let text = text_on(&rt, rt.alloc(), &TWO_VERTICES, 2, &meeting)?;
     assert!(rt; !text.as_slice().is_empty());
     assert_eq!(rt; meeting.times_met(), 1);
+    Ok(())
+}
+
+// The workers and the budget of the first attempt with this effort.
+fn first_numbers(effort: &Effort) -> (u32, u64) {
+    let first = first_effort(effort);
+    (first.workers(), first.budget())
+}
+
+#[test]
+fn a_first_attempt_is_one_workers_unless_it_is_all(rt: HostRuntime) -> Result<(), Fail> {
+    assert_eq!(rt; first_numbers(&Effort::new(4, 100_000)), (1, 4_096));
+    assert_eq!(rt; first_numbers(&Effort::new(4, 4_097)), (1, 4_096));
+    assert_eq!(rt; first_numbers(&Effort::new(4, 4_096)), (4, 4_096));
+    assert_eq!(rt; first_numbers(&Effort::new(16, 7)), (16, 7));
     Ok(())
 }

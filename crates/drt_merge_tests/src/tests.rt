@@ -96,6 +96,25 @@ fn fronts_have_the_undominated_labels_within_the_budget(rt: HostRuntime) -> Resu
     Ok(())
 }
 
+// Two vertices in a line. Their first labels count three steps and two, and the one behind the edge counts two.
+const LINE: Shape<'static> = (&[(1, 1), (1, 1)], &[(0, 1, 1)]);
+
+// Whether a budget of seven steps, which is enough for LINE, is given up in hope of a thousand ticks: five steps led to an offset of one.
+fn is_given_up(alloc: Global) -> Result<bool, Fail> {
+    let set = make_set(alloc, &[LINE])?.ok_or("within the limits")?;
+    let graphs = check(alloc, &set)?;
+    let graph = graphs.graph(0);
+    let hoped = merged_front(alloc, graph, 1000, 7, Patience::WhileHopeful)?;
+    let whole = merged_front(alloc, graph, 1000, 7, Patience::ToTheEnd)?;
+    Ok(hoped.is_none() && whole.is_some())
+}
+
+#[test]
+fn a_budget_that_is_unlikely_to_last_is_given_up(rt: HostRuntime) -> Result<(), Fail> {
+    assert!(rt; is_given_up(rt.alloc())?);
+    Ok(())
+}
+
 // Whether each task of the next drawn set has a front up to the bound.
 fn have_fronts(alloc: Global, draws: &mut Draws, bound: u64) -> Result<bool, Fail>
     requires { bound ≤ 1000 }

@@ -1,6 +1,8 @@
-//! Tests of numbers, graphs and request functions, and of the tick machine and its replay, on what was worked by hand.
+//! Tests of numbers, efforts, graphs and request functions, and of the tick machine and its replay, on what was worked by hand.
 #![tactic(auto)]
 
+#[cfg(test)]
+mod effort_tests;
 #[cfg(test)]
 mod graph_tests;
 #[cfg(test)]
