@@ -13,10 +13,10 @@ use Rattle.drt_busy.specs.Decide.{TimesDecide}
 use Rattle.drt_claims.specs.Claims.{graphs_of}
 use Rattle.drt_priorities.specs.Priorities.{ArePriorities, OrderExists, prioritised}
 use Rattle.drt_priorities.proofs.Prioritised.{keep_constraints, keep_limits, length-prioritised, prioritised_same, prioritised_twice}
-use Rattle.drt_sp.specs.Answers.{IsUndecided}
+use Rattle.drt_sp.specs.Answers.{IsTreeUndecided}
 use Rattle.drt_assign.specs.Assign.{AreByRule, AreStuck, IsAssigned, IsEndStuck, IsYesOf, with_priorities}
 use Rattle.drt_assign.specs.Rule.{AreRanks, FollowRule}
-use Rattle.drt_assign.specs.Steps.{IsAnalysis, IsCourse, IsOf, IsRanking}
+use Rattle.drt_assign.specs.Steps.{IsAnalysis, IsCourse, IsOfFile, IsRanking}
 use Rattle.drt_assign.specs.declared.answer.AssignAnswer.{AssignAnswer}
 use Rattle.drt_assign.specs.declared.answer.AssignAnswer.TheVariants as answers
 use Rattle.drt_assign.specs.declared.answer.Stuck.{Stuck}
@@ -63,12 +63,12 @@ end_stuck tasks ranks m stuck are rule left is = record {
         omega (arith, place.1, ap length is.tasks_are, length-map stuck (λ (s : Stuck). s.miss.task))
 
 -- A set that has the tasks of the file, given priorities.
-pub given : (tasks : List Task) (old ps : List ℕ) (set : Contents) → IsOf tasks old set → length ps ≡ length tasks → prioritised set.tasks ps ≡ prioritised tasks ps
+pub given : (tasks : List Task) (old ps : List ℕ) (set : Contents) → IsOfFile tasks old set → length ps ≡ length tasks → prioritised set.tasks ps ≡ prioritised tasks ps
 given tasks old ps set of e =
     let long : length ps ≡ length set.tasks = omega (arith, e, ap length of, length-prioritised set.tasks old) in
     sym (prioritised_twice set.tasks old ps long) ∙ ap (λ (ts : List Task). prioritised ts ps) of
 
-pub as_many_in : (tasks : List Task) (old : List ℕ) (set : Contents) → IsOf tasks old set → length tasks ≡ length set.tasks
+pub as_many_in : (tasks : List Task) (old : List ℕ) (set : Contents) → IsOfFile tasks old set → length tasks ≡ length set.tasks
 as_many_in tasks old set of = omega (arith, ap length of, length-prioritised set.tasks old)
 
 module _ (decide : TimesDecide) (version : ℕ) (tasks : List Task) (limits : IsTaskSet version tasks) (constrained : AreConstrained tasks) where
@@ -102,7 +102,7 @@ module _ (decide : TimesDecide) (version : ℕ) (tasks : List Task) (limits : Is
       priorities = ranks;
       by_rule = by_rule;
       ordered_is = is.0 ∙ e;
-      spent = subst (λ (s : Contents). IsUndecided s budget trail) (sym is.0) is.1;
+      spent = subst (λ (s : Contents). IsTreeUndecided s budget trail) (sym is.0) is.1;
       exists = record { priorities = ranks; are = whole; schedulable = whole_schedulable };
     }
     whole_assigned budget set e (answers.NoOrder same stuck) is = absurd is
@@ -122,17 +122,17 @@ ranking_of {own} {set} {old} {r} {s} budget same e h is =
     subst (λ (x : Ranking). IsRanking set.tasks old budget x) h (subst (λ (ts : List Task). IsRanking ts old budget r) (own_tasks own set old same e) is)
 
 -- The set with the order.
-pub ordered_is : (tasks : List Task) (old ranks qs : List ℕ) (set ordered : Contents) → IsOf tasks old set → length ranks ≡ length tasks → qs ≡ ranks
+pub ordered_is : (tasks : List Task) (old ranks qs : List ℕ) (set ordered : Contents) → IsOfFile tasks old set → length ranks ≡ length tasks → qs ≡ ranks
     → ordered ≡ record { version = 2; tasks = prioritised set.tasks qs } → ordered ≡ with_priorities tasks ranks
 ordered_is tasks old ranks qs set ordered of n q e = e ∙ (ap (λ (xs : List ℕ). made 2 (prioritised set.tasks xs)) q ∙ ap (made 2) (given tasks old ranks set of n))
 
 -- The set as it was.
-pub restored : (set tried back : Contents) (version : ℕ) (old qs : List ℕ) → version ≡ set.version → qs ≡ old → IsOf set.tasks old tried
+pub restored : (set tried back : Contents) (version : ℕ) (old qs : List ℕ) → version ≡ set.version → qs ≡ old → IsOfFile set.tasks old tried
     → back ≡ record { version = version; tasks = prioritised tried.tasks qs } → back ≡ set
 restored set tried back version old qs v q of e =
     e ∙ (ap (λ (xs : List ℕ). made version (prioritised tried.tasks xs)) q ∙ (ap (made version) of ∙ ap (λ (n : ℕ). made n set.tasks) v))
 
-pub restored_limits : (set tried : Contents) (version : ℕ) (old qs : List ℕ) → version ≡ set.version → qs ≡ old → IsOf set.tasks old tried → IsTaskSet set.version set.tasks
+pub restored_limits : (set tried : Contents) (version : ℕ) (old qs : List ℕ) → version ≡ set.version → qs ≡ old → IsOfFile set.tasks old tried → IsTaskSet set.version set.tasks
     → IsTaskSet version (prioritised tried.tasks qs)
 restored_limits set tried version old qs v q of limits =
     subst (λ (s : Contents). IsTaskSet s.version s.tasks) (sym (restored set tried (made version (prioritised tried.tasks qs)) version old qs v q of refl)) limits

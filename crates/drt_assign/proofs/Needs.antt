@@ -12,9 +12,9 @@ use Rattle.drt_busy.specs.Choice.{graph_at, no_task, task_at}
 use Rattle.drt_claims.specs.Trees.{IsShortWalk, greatest_deadline, latest_deadline}
 use Rattle.drt_priorities.specs.Priorities.{ArePriorities, prioritised}
 use Rattle.drt_priorities.proofs.Prioritised.{graph_stays, keep_limits, length-prioritised}
-use Rattle.drt_sp.specs.Answers.{IsUndecided}
+use Rattle.drt_sp.specs.Answers.{IsTreeUndecided}
 use Rattle.drt_sp.specs.Laws.{BudgetsSuffice}
-use Rattle.drt_sp.specs.Needs.{HasAtMost, IsEnough, product_above}
+use Rattle.drt_sp.specs.Needs.{HasAtMost, IsEnoughForTrees, product_above}
 use Rattle.drt_sp.proofs.GreatestDeadline.{greatest_some}
 use Rattle.drt_sp_task.specs.Laws.{TaskBudgetsSuffice}
 use Rattle.drt_assign.specs.Assign.{with_priorities}
@@ -55,7 +55,7 @@ module _ (version : ℕ) (tasks : List Task) (limits : IsTaskSet version tasks) 
       let task : IsTask version (task_at tasks k) = limits.each k no_task l in
       one_walk (greatest_deadline tasks) (graph_at tasks k) (enough.counts k) task.has_vertex (greatest_some version tasks limits) (enough.walks k l)
 
-  enough_under : (ps : List ℕ) → IsEnough (prioritised tasks ps) budget
+  enough_under : (ps : List ℕ) → IsEnoughForTrees (prioritised tasks ps) budget
   enough_under ps = record {
     counts = enough.counts;
     walks = λ k l. subst (λ (bound : ℕ). HasAtMost bound (graph_at (prioritised tasks ps) k) (enough.counts k)) (sym (deadline_stays tasks ps))
@@ -84,4 +84,4 @@ assign_suffices law of_task set budget (answers.Undecided same higher task trail
     (enough_under set.version set.tasks limits budget enough at.priorities) (omega (arith, at.task, length-prioritised set.tasks at.priorities))
 assign_suffices law of_task set budget (answers.Unproved ordered trail) limits is enough =
     law (with_priorities set.tasks is.priorities) budget trail (limits_under set.version set.tasks limits budget enough is.priorities is.by_rule.are)
-    (subst (λ (s : Contents). IsUndecided s budget trail) is.ordered_is is.spent) (enough_under set.version set.tasks limits budget enough is.priorities)
+    (subst (λ (s : Contents). IsTreeUndecided s budget trail) is.ordered_is is.spent) (enough_under set.version set.tasks limits budget enough is.priorities)

@@ -5,7 +5,7 @@ use Rattle.std.proofs.lemmas.List.{get_or-replicate, get_or-set_other, get_or-se
 use Rattle.std.proofs.lemmas.List.Elements.{All-from_get_or}
 use Rattle.std.proofs.lemmas.List.Sums.{count_by-le-length, sum_by-cons, sum_by-set}
 use Rattle.drt_model.specs.declared.tasks.Task.{Task}
-use Rattle.drt_assign.specs.Rule.{AreRanks, FollowRule, IsFirst, is_other}
+use Rattle.drt_assign.specs.Rule.{AreRanks, FollowRule, IsFirstPassing, is_other}
 use Rattle.drt_assign.proofs.Orders.{other_apart, other_of, rank_above, rank_of_other}
 use Rattle.drt_assign.proofs.Passing.{passes_under_fewer}
 
@@ -94,7 +94,7 @@ module _ (tasks : List Task) (m : ℕ) (ranks : List ℕ) (are : AreRanks (lengt
     | inr ne ↦ other_of after r u j (omega (arith, rest j ne, rank_of_other ranks r u j h)) (other_apart ranks r u j h)
   ]
 
-  first_stays : (r u : ℕ) → m ≤ r → IsFirst tasks ranks r u → IsFirst tasks after r u
+  first_stays : (r u : ℕ) → m ≤ r → IsFirstPassing tasks ranks r u → IsFirstPassing tasks after r u
   first_stays r u low first = record {
     passes = passes_under_fewer tasks (is_other after r u) (is_other ranks r u) u (λ j h. same_others r u j low) first.passes;
     first = λ w before at passes. first.first w before (was_low w at)
@@ -108,11 +108,11 @@ module _ (tasks : List Task) (m : ℕ) (ranks : List ℕ) (are : AreRanks (lengt
       ]
 
   -- The task that is first gets the rank, so the ranks still follow the rule.
-  pub rule_after : FollowRule tasks ranks → IsFirst tasks ranks m k → FollowRule tasks after
+  pub rule_after : FollowRule tasks ranks → IsFirstPassing tasks ranks m k → FollowRule tasks after
   rule_after rule first u h has = elim (cases_eq u k) [
     | inl s ↦ (let is : get_or after u 0 ≡ m = ap (λ n. get_or after n 0) s ∙ own in
-        subst (λ n. IsFirst tasks after (get_or after n 0) n) (sym s) (subst (λ n. IsFirst tasks after n k) (sym own) (first_stays m k (omega arith) first)))
+        subst (λ n. IsFirstPassing tasks after (get_or after n 0) n) (sym s) (subst (λ n. IsFirstPassing tasks after n k) (sym own) (first_stays m k (omega arith) first)))
     | inr ne ↦ (let had : 1 ≤ get_or ranks u 0 = omega (arith, has, rest u ne) in
         let low = rank_above (length tasks) m ranks are u h had in
-        subst (λ n. IsFirst tasks after n u) (sym (rest u ne)) (first_stays (get_or ranks u 0) u (omega (arith, low)) (rule u h had)))
+        subst (λ n. IsFirstPassing tasks after n u) (sym (rest u ne)) (first_stays (get_or ranks u 0) u (omega (arith, low)) (rule u h had)))
   ]

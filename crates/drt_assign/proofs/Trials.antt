@@ -7,7 +7,7 @@ use Rattle.std.proofs.lemmas.List.Elements.{All-from_get_or}
 use Rattle.std.proofs.lemmas.List.FromFn.{get_or-map-range_with_len, length-map-range_with_len, map-range_with_len_more}
 use Rattle.std.proofs.lemmas.List.Sums.{count_by_more_no, count_by_more_yes}
 use Rattle.drt_model.specs.Limits.{IsPriority}
-use Rattle.drt_assign.specs.Rule.{AreRanks, IsTrial, is_other}
+use Rattle.drt_assign.specs.Rule.{AreRanks, IsTrialPriorities, is_other}
 use Rattle.drt_assign.proofs.Orders.{other_apart, other_of, rank_above, rank_of_other, ranks_apart}
 use Rattle.drt_assign.proofs.Passing.{above_in}
 
@@ -186,7 +186,7 @@ module _ (n m : ℕ) (ranks : List ℕ) (few : n ≤ 32) (are : AreRanks n m ran
       ]
 
   -- The list of these priorities.
-  pub is_trial : (ps : List ℕ) → ps ≡ map (trial_at ranks m k) (range_with_len 0 n) → IsTrial ranks m k ps
+  pub is_trial : (ps : List ℕ) → ps ≡ map (trial_at ranks m k) (range_with_len 0 n) → IsTrialPriorities ranks m k ps
   is_trial ps is = record {
     are = record {
       as_many = omega (arith, long, are.as_many);
@@ -221,7 +221,7 @@ trial_step ranks m k i xs p e f =
     ∙ (ap (λ (q : ℕ). map (trial_at ranks m k) (range_with_len 0 i) ++ q ∷ []) (sym f) ∙ sym (map-range_with_len_more (trial_at ranks m k) 0 i i (omega arith)))
 
 -- Under the priorities of a trial just the other open tasks are above the task.
-module _ (n m : ℕ) (ranks ps : List ℕ) (are : AreRanks n m ranks) (k : ℕ) (l : k < n) (trial : IsTrial ranks m k ps) where
+module _ (n m : ℕ) (ranks ps : List ℕ) (are : AreRanks n m ranks) (k : ℕ) (l : k < n) (trial : IsTrialPriorities ranks m k ps) where
   pub above_is_other : (j : ℕ) → j < n → above_in ps k j ≡ true → is_other ranks m k j ≡ true
   above_is_other j l' h =
       let less = ltb-true (get_or ps j 0) (get_or ps k 0) h in

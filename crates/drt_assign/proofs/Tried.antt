@@ -22,9 +22,9 @@ use Rattle.drt_trails.specs.declared.FixedTrail.{FixedTrail}
 use Rattle.drt_sp_task.specs.Task.{IsMeeting, IsTaskMiss, IsUndecidedTask}
 use Rattle.drt_sp_task.specs.declared.answer.TaskAnswer.{TaskAnswer}
 use Rattle.drt_sp_task.specs.declared.answer.TaskAnswer.TheVariants as answers
-use Rattle.drt_assign.specs.Assign.{AreStuck, IsSpentAt, IsStuck, with_priorities}
-use Rattle.drt_assign.specs.Rule.{AreRanks, IsTrial, PassesUnder, is_other, open_tasks}
-use Rattle.drt_assign.specs.Steps.{IsCourse, IsNext, IsOf, IsTried}
+use Rattle.drt_assign.specs.Assign.{AreStuck, IsSpentAtTask, IsStuck, with_priorities}
+use Rattle.drt_assign.specs.Rule.{AreRanks, IsTrialPriorities, PassesUnder, is_other, open_tasks}
+use Rattle.drt_assign.specs.Steps.{IsCourse, IsNextRanked, IsOfFile, IsTaskTried}
 use Rattle.drt_assign.specs.declared.answer.Stuck.{Stuck}
 use Rattle.drt_assign.proofs.Orders.{rank_above}
 use Rattle.drt_assign.proofs.Passing.{above_in, passes_from_under, passes_under_fewer, under_from_passes}
@@ -39,7 +39,7 @@ priority_in (t ∷ tasks) [] j e l = absurd (omega arith)
 priority_in (t ∷ tasks) (p ∷ ps) zero e l = refl
 priority_in (t ∷ tasks) (p ∷ ps) (suc j) e l = priority_in tasks ps j (omega arith) (omega arith)
 
-module _ (tasks : List Task) (m : ℕ) (ranks ps : List ℕ) (are : AreRanks (length tasks) m ranks) (k : ℕ) (l : k < length tasks) (e : get_or ranks k 0 ≡ 0) (trial : IsTrial ranks m k ps) where
+module _ (tasks : List Task) (m : ℕ) (ranks ps : List ℕ) (are : AreRanks (length tasks) m ranks) (k : ℕ) (l : k < length tasks) (e : get_or ranks k 0 ≡ 0) (trial : IsTrialPriorities ranks m k ps) where
   as_many : length ps ≡ length tasks
   as_many = omega (arith, trial.are.as_many, are.as_many)
 
@@ -117,7 +117,7 @@ ready tasks graphs old course ps are = record {
 pub of_self : (tasks : List Task) (old : List ℕ) → length old ≡ length tasks → prioritised (prioritised tasks old) old ≡ prioritised tasks old
 of_self tasks old e = prioritised_twice tasks old old e
 
-pub of_trial : (tasks : List Task) (old ps : List ℕ) (set : Contents) → length old ≡ length tasks → prioritised tasks old ≡ tasks → set ≡ with_priorities tasks ps → IsOf tasks old set
+pub of_trial : (tasks : List Task) (old ps : List ℕ) (set : Contents) → length old ≡ length tasks → prioritised tasks old ≡ tasks → set ≡ with_priorities tasks ps → IsOfFile tasks old set
 of_trial tasks old ps set e own is = ap (λ (s : Contents). prioritised s.tasks old) is ∙ (prioritised_twice tasks ps old e ∙ own)
 
 abbrev two : List Task → Contents
@@ -131,7 +131,7 @@ tried_is tasks old ps qs set e f l =
 
 -- What a set of a trial is ready for.
 pub tried_ready : (tasks : List Task) (graphs : List Digraph) (old : List ℕ) → IsCourse (prioritised tasks old) graphs old
-    → (ranks : List ℕ) (m k : ℕ) → AreRanks (length tasks) m ranks → (ps : List ℕ) → IsTrial ranks m k ps → (set : Contents) → set ≡ with_priorities (prioritised tasks old) ps
+    → (ranks : List ℕ) (m k : ℕ) → AreRanks (length tasks) m ranks → (ps : List ℕ) → IsTrialPriorities ranks m k ps → (set : Contents) → set ≡ with_priorities (prioritised tasks old) ps
     → IsReady (prioritised tasks old) graphs set
 tried_ready tasks graphs old course ranks m k are ps trial set e =
     let long : length ranks ≡ length (prioritised tasks old) = are.as_many ∙ sym (length-prioritised tasks old) in
@@ -140,12 +140,12 @@ tried_ready tasks graphs old course ranks m k are ps trial set e =
 
 -- The round up to the i-th task: the set has the tasks of the file, and each open task before is stuck.
 pub record IsSoFar (tasks : List Task) (old ranks : List ℕ) (m i : ℕ) (set : Contents) (stuck : List Stuck) : Type 0 where
-  pub same : IsOf tasks old set
+  pub same : IsOfFile tasks old set
   pub tasks_are : map (λ (s : Stuck). s.miss.task) stuck ≡ filter (λ j. eqb (get_or ranks j 0) 0) (range_with_len 0 i)
   pub each : All (IsStuck tasks (open_tasks ranks)) stuck
   pub fail : (u : ℕ) → u < i → get_or ranks u 0 ≡ 0 → PassesUnder tasks (is_other ranks m u) u → ⊥
 
-pub so_far_none : (tasks : List Task) (old ranks : List ℕ) (m : ℕ) (set : Contents) → IsOf tasks old set → IsSoFar tasks old ranks m 0 set []
+pub so_far_none : (tasks : List Task) (old ranks : List ℕ) (m : ℕ) (set : Contents) → IsOfFile tasks old set → IsSoFar tasks old ranks m 0 set []
 so_far_none tasks old ranks m set same =
     record { same = same; tasks_are = refl; each = All-nil (IsStuck tasks (open_tasks ranks)); fail = λ u l. absurd (omega arith) }
 
@@ -164,10 +164,10 @@ module _ (tasks : List Task) (old ranks : List ℕ) (m budget : ℕ) (many : len
   }
 
   module _ (e : get_or ranks k 0 ≡ 0) (tried : Contents) where
-    same_after : (answer : TaskAnswer) → IsTried tasks ranks m k budget tried answer → IsOf tasks old tried
+    same_after : (answer : TaskAnswer) → IsTaskTried tasks ranks m k budget tried answer → IsOfFile tasks old tried
     same_after answer is = of_trial tasks old is.priorities tried many own is.set_is
 
-    pub so_far_stuck : (releases : List Release) (miss : Miss) → IsTried tasks ranks m k budget tried (answers.Misses releases miss)
+    pub so_far_stuck : (releases : List Release) (miss : Miss) → IsTaskTried tasks ranks m k budget tried (answers.Misses releases miss)
         → IsSoFar tasks old ranks m (k + 1) tried (stuck ++ record { releases = releases; miss = miss } ∷ [])
     so_far_stuck releases miss is = record {
       same = same_after (answers.Misses releases miss) is;
@@ -187,7 +187,7 @@ module _ (tasks : List Task) (old ranks : List ℕ) (m budget : ℕ) (many : len
         missing : IsTaskMiss (prioritised tasks is.priorities) k releases miss
         missing = subst (λ (s : Contents). IsTaskMiss s.tasks k releases miss) is.set_is is.says
 
-    pub found : IsTried tasks ranks m k budget tried answers.Meets → IsOf tasks old tried × IsNext tasks ranks m k
+    pub found : IsTaskTried tasks ranks m k budget tried answers.Meets → IsOfFile tasks old tried × IsNextRanked tasks ranks m k
     found is = (
       same_after answers.Meets is,
       record {
@@ -203,7 +203,7 @@ module _ (tasks : List Task) (old ranks : List ℕ) (m budget : ℕ) (many : len
       },
     )
 
-    pub spent_at : (trail : FixedTrail) → IsTried tasks ranks m k budget tried (answers.Undecided trail) → IsOf tasks old tried × IsSpentAt tasks ranks m budget k trail
+    pub spent_at : (trail : FixedTrail) → IsTaskTried tasks ranks m k budget tried (answers.Undecided trail) → IsOfFile tasks old tried × IsSpentAtTask tasks ranks m budget k trail
     spent_at trail is = (
       same_after (answers.Undecided trail) is,
       record {
@@ -218,7 +218,7 @@ module _ (tasks : List Task) (old ranks : List ℕ) (m budget : ℕ) (many : len
 
 -- At the end all open tasks are stuck.
 pub so_far_all : (tasks : List Task) (old ranks : List ℕ) (m i : ℕ) (set : Contents) (stuck : List Stuck) → AreRanks (length tasks) m ranks → i ≡ length ranks
-    → IsSoFar tasks old ranks m i set stuck → IsOf tasks old set × AreStuck tasks ranks m stuck
+    → IsSoFar tasks old ranks m i set stuck → IsOfFile tasks old set × AreStuck tasks ranks m stuck
 so_far_all tasks old ranks m i set stuck are all so_far = (
   so_far.same,
   record {

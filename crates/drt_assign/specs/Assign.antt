@@ -7,16 +7,16 @@ use Rattle.drt_model.specs.Legal.{IsLegal}
 use Rattle.drt_model.specs.Misses.{miss_of}
 use Rattle.drt_model.specs.Schedulable.{jobs_of}
 use Rattle.drt_model.specs.Trace.{Misses}
-use Rattle.drt_claims.specs.Ranges.{IsInRange}
+use Rattle.drt_claims.specs.Ranges.{IsEvidenceInRange}
 use Rattle.drt_claims.specs.Statement.{Statement}
 use Rattle.drt_claims.specs.declared.evidence.Evidence.{Evidence}
 use Rattle.drt_fixed.specs.Answers.{IsYes}
 use Rattle.drt_priorities.specs.Priorities.{ArePriorities, OrderExists, prioritised}
-use Rattle.drt_sp.specs.Answers.{IsUndecided}
+use Rattle.drt_sp.specs.Answers.{IsTreeUndecided}
 use Rattle.drt_sp.specs.Evidence.{under_fixed}
 use Rattle.drt_sp_task.specs.Task.{IsUndecidedTask}
 use Rattle.drt_trails.specs.declared.FixedTrail.{FixedTrail}
-use Rattle.drt_assign.specs.Rule.{AreRanks, FollowRule, IsTrial, PassesUnder, is_other, open_beside, open_tasks}
+use Rattle.drt_assign.specs.Rule.{AreRanks, FollowRule, IsTrialPriorities, PassesUnder, is_other, open_beside, open_tasks}
 use Rattle.drt_assign.specs.declared.answer.AssignAnswer.{AssignAnswer}
 use Rattle.drt_assign.specs.declared.answer.AssignAnswer.TheVariants as answers
 use Rattle.drt_assign.specs.declared.answer.Stuck.{Stuck}
@@ -35,11 +35,11 @@ pub record AreByRule (tasks : List Task) (priorities : List ℕ) : Type 0 where
 pub record IsYesOf (set : Contents) (dossier : Statement) : Type 0 where
   pub evidence : Evidence
   pub dossier_is : dossier ≡ under_fixed set evidence
-  pub in_range : IsInRange evidence
+  pub in_range : IsEvidenceInRange evidence
   pub yes : IsYes set evidence
 
 -- An order: the dossier says yes of the set with the priorities by the rule.
-pub record IsDone (tasks : List Task) (dossier : Statement) : Type 0 where
+pub record IsAssigned (tasks : List Task) (dossier : Statement) : Type 0 where
   pub priorities : List ℕ
   pub by_rule : AreByRule tasks priorities
   pub proved : IsYesOf (with_priorities tasks priorities) dossier
@@ -90,12 +90,12 @@ pub record IsNoOrder (set same : Contents) (stuck : List Stuck) : Type 0 where
 
 -- A budget was spent at an open task, which was tried under the other open ones: each open task of a lower number fails under the other
 -- open ones. The budget was spent by the analysis of the task in the set with priorities that put just those others above it.
-pub record IsSpentAt (tasks : List Task) (ranks : List ℕ) (m budget k : ℕ) (trail : FixedTrail) : Type 0 where
+pub record IsSpentAtTask (tasks : List Task) (ranks : List ℕ) (m budget k : ℕ) (trail : FixedTrail) : Type 0 where
   pub task : k < length tasks
   pub is_open : slice_index ranks k ≡ 0
   pub earlier : (u : ℕ) → u < k → slice_index ranks u ≡ 0 → PassesUnder tasks (is_other ranks m u) u → ⊥
   pub priorities : List ℕ
-  pub trial : IsTrial ranks m k priorities
+  pub trial : IsTrialPriorities ranks m k priorities
   pub spent : IsUndecidedTask (with_priorities tasks priorities) budget k trail
 
 -- A budget was spent at the task that the rule reaches, under these others.
@@ -105,7 +105,7 @@ pub record IsEndSpent (tasks : List Task) (budget : ℕ) (higher : List ℕ) (ta
   pub are : AreRanks (length tasks) open_count ranks
   pub rule : FollowRule tasks ranks
   pub higher_are : higher ≡ open_beside ranks task
-  pub spent : IsSpentAt tasks ranks open_count budget task trail
+  pub spent : IsSpentAtTask tasks ranks open_count budget task trail
 
 -- Nothing is decided, since a budget was spent; the set is as it was.
 pub record IsUndecidedOrder (set : Contents) (budget : ℕ) (same : Contents) (higher : List ℕ) (task : ℕ) (trail : FixedTrail) : Type 0 where
@@ -117,12 +117,12 @@ pub record IsUnproved (tasks : List Task) (budget : ℕ) (ordered : Contents) (t
   pub priorities : List ℕ
   pub by_rule : AreByRule tasks priorities
   pub ordered_is : ordered ≡ with_priorities tasks priorities
-  pub spent : IsUndecided ordered budget trail
+  pub spent : IsTreeUndecided ordered budget trail
   pub exists : OrderExists tasks
 
 -- What each answer says, with a budget.
 abbrev pub IsAssigned : Contents → ℕ → AssignAnswer → Type 0
-IsAssigned set budget (answers.Done dossier) = IsDone set.tasks dossier
+IsAssigned set budget (answers.Done dossier) = IsAssigned set.tasks dossier
 IsAssigned set budget (answers.NoOrder same stuck) = IsNoOrder set same stuck
 IsAssigned set budget (answers.Undecided same higher task trail) = IsUndecidedOrder set budget same higher task trail
 IsAssigned set budget (answers.Unproved ordered trail) = IsUnproved set.tasks budget ordered trail

@@ -8,14 +8,14 @@ use Rattle.drt_assign.specs.declared.answer.AssignAnswer.{AssignAnswer}
 use Rattle.drt_assign.specs.declared.answer.AssignAnswer.TheVariants as answers
 
 -- The answer is an order with its proof, or that no order exists.
-abbrev pub IsDecided : AssignAnswer → Type 0
-IsDecided (answers.Done dossier) = Unit {0}
-IsDecided (answers.NoOrder same stuck) = Unit {0}
-IsDecided (answers.Undecided same higher task trail) = ⊥
-IsDecided (answers.Unproved ordered trail) = ⊥
+abbrev pub IsOrderDecided : AssignAnswer → Type 0
+IsOrderDecided (answers.Done dossier) = Unit {0}
+IsOrderDecided (answers.NoOrder same stuck) = Unit {0}
+IsOrderDecided (answers.Undecided same higher task trail) = ⊥
+IsOrderDecided (answers.Unproved ordered trail) = ⊥
 
 -- With a budget that is enough each answer decides.
 abbrev pub AssignBudgetsSuffice : Type 0
 AssignBudgetsSuffice =
     (set : Contents) (budget : ℕ) (answer : AssignAnswer) → IsTaskSet set.version set.tasks → IsAssigned set budget answer → IsEnoughForOrders set.tasks budget
-    → IsDecided answer
+    → IsOrderDecided answer

@@ -34,14 +34,14 @@ abbrev pub is_other : List ℕ → ℕ → ℕ → ℕ → Bool
 is_other ranks m k j = nat_le (slice_index ranks j) m && not (j == k)
 
 -- Task k passes under the others of rank at most m, and no task of a lower number and of rank at most m passes under the others of these.
-pub record IsFirst (tasks : List Task) (ranks : List ℕ) (m k : ℕ) : Type 0 where
+pub record IsFirstPassing (tasks : List Task) (ranks : List ℕ) (m k : ℕ) : Type 0 where
   pub passes : PassesUnder tasks (is_other ranks m k) k
   pub first : (u : ℕ) → u < k → slice_index ranks u ≤ m → PassesUnder tasks (is_other ranks m u) u → ⊥
 
 -- Each task that has a rank m is the first, in order of the file, that passes under the others among the tasks of rank at most m. So a
 -- rank is a priority that Audsley's rule gives.
 abbrev pub FollowRule : List Task → List ℕ → Type 0
-FollowRule tasks ranks = (k : ℕ) → k < length tasks → 1 ≤ slice_index ranks k → IsFirst tasks ranks (slice_index ranks k) k
+FollowRule tasks ranks = (k : ℕ) → k < length tasks → 1 ≤ slice_index ranks k → IsFirstPassing tasks ranks (slice_index ranks k) k
 
 -- The open tasks, in order of the file.
 abbrev pub open_tasks : List ℕ → List ℕ
@@ -53,7 +53,7 @@ open_beside ranks k = filter (λ j. slice_index ranks j == 0 && not (j == k)) (r
 
 -- The priorities under which task k is tried while m tasks are open: it has the number m, the other open ones have lower numbers, and each
 -- other task has its rank.
-pub record IsTrial (ranks : List ℕ) (m k : ℕ) (priorities : List ℕ) : Type 0 where
+pub record IsTrialPriorities (ranks : List ℕ) (m k : ℕ) (priorities : List ℕ) : Type 0 where
   pub are : ArePriorities (length ranks) priorities
   pub own : slice_index priorities k ≡ m
   pub beside : (j : ℕ) → j < length ranks → slice_index ranks j ≡ 0 → j ≢ k → slice_index priorities j < m

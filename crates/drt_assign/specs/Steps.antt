@@ -7,11 +7,11 @@ use Rattle.drt_model.specs.Digraph.{Digraph}
 use Rattle.drt_model.specs.Limits.{IsTaskSet}
 use Rattle.drt_claims.specs.Claims.{graphs_of}
 use Rattle.drt_priorities.specs.Priorities.{prioritised}
-use Rattle.drt_sp.specs.Answers.{IsUndecided}
+use Rattle.drt_sp.specs.Answers.{IsTreeUndecided}
 use Rattle.drt_sp_task.specs.Task.{IsTaskAnswer}
 use Rattle.drt_sp_task.specs.declared.answer.TaskAnswer.{TaskAnswer}
-use Rattle.drt_assign.specs.Assign.{AreStuck, IsEndSpent, IsEndStuck, IsSpentAt, IsYesOf, with_priorities}
-use Rattle.drt_assign.specs.Rule.{AreRanks, FollowRule, IsFirst, IsTrial}
+use Rattle.drt_assign.specs.Assign.{AreStuck, IsEndSpent, IsEndStuck, IsSpentAtTask, IsYesOf, with_priorities}
+use Rattle.drt_assign.specs.Rule.{AreRanks, FollowRule, IsFirstPassing, IsTrialPriorities}
 use Rattle.drt_assign.specs.declared.ahead.Ahead.{Ahead}
 use Rattle.drt_assign.specs.declared.answer.AssignAnswer.{AssignAnswer}
 use Rattle.drt_assign.specs.declared.answer.AssignAnswer.TheVariants as answers
@@ -30,13 +30,13 @@ pub record IsCourse (tasks : List Task) (graphs : List Digraph) (old : List ℕ)
   pub as_many : length old ≡ length tasks
 
 -- With their old priorities the tasks of the set are those of the file.
-abbrev pub IsOf : List Task → List ℕ → Contents → Type 0
-IsOf tasks old set = prioritised set.tasks old ≡ tasks
+abbrev pub IsOfFile : List Task → List ℕ → Contents → Type 0
+IsOfFile tasks old set = prioritised set.tasks old ≡ tasks
 
 -- Task k was tried: the set has priorities for it, and the answer is said of the task in that set.
-pub record IsTried (tasks : List Task) (ranks : List ℕ) (m k budget : ℕ) (set : Contents) (answer : TaskAnswer) : Type 0 where
+pub record IsTaskTried (tasks : List Task) (ranks : List ℕ) (m k budget : ℕ) (set : Contents) (answer : TaskAnswer) : Type 0 where
   pub priorities : List ℕ
-  pub trial : IsTrial ranks m k priorities
+  pub trial : IsTrialPriorities ranks m k priorities
   pub set_is : set ≡ with_priorities tasks priorities
   pub says : IsTaskAnswer set budget k answer
 
@@ -45,31 +45,31 @@ abbrev pub AreOpen : List ℕ → List ℕ → Type 0
 AreOpen ranks ks = All (λ k. (k < length ranks) × (slice_index ranks k ≡ 0)) ks
 
 -- What was found ahead is said of the task at its place.
-abbrev pub AreAhead : List Task → List ℕ → ℕ → ℕ → Ahead → Type 0
-AreAhead tasks ranks m budget ahead =
-    (i : ℕ) (r : Contents × TaskAnswer) → slice_index_or ahead.found.items i None ≡ Some r → IsTried tasks ranks m (slice_index ahead.tasks.items i) budget r.0 r.1
+abbrev pub AreTrialsAhead : List Task → List ℕ → ℕ → ℕ → Ahead → Type 0
+AreTrialsAhead tasks ranks m budget ahead =
+    (i : ℕ) (r : Contents × TaskAnswer) → slice_index_or ahead.found.items i None ≡ Some r → IsTaskTried tasks ranks m (slice_index ahead.tasks.items i) budget r.0 r.1
 
 -- An open task that has the rank m by the rule.
-pub record IsNext (tasks : List Task) (ranks : List ℕ) (m k : ℕ) : Type 0 where
+pub record IsNextRanked (tasks : List Task) (ranks : List ℕ) (m k : ℕ) : Type 0 where
   pub task : k < length tasks
   pub is_open : slice_index ranks k ≡ 0
-  pub first : IsFirst tasks ranks m k
+  pub first : IsFirstPassing tasks ranks m k
 
 -- What a round says, with m open tasks; the set has the tasks of the file, but for their priorities.
-abbrev pub IsRound : List Task → List ℕ → List ℕ → ℕ → ℕ → Round → Type 0
-IsRound tasks old ranks m budget (rounds.Found set k) = IsOf tasks old set × IsNext tasks ranks m k
-IsRound tasks old ranks m budget (rounds.AllStuck set stuck) = IsOf tasks old set × AreStuck tasks ranks m stuck
-IsRound tasks old ranks m budget (rounds.Spent set k trail) = IsOf tasks old set × IsSpentAt tasks ranks m budget k trail
+abbrev pub IsRoundAnswer : List Task → List ℕ → List ℕ → ℕ → ℕ → Round → Type 0
+IsRoundAnswer tasks old ranks m budget (rounds.Found set k) = IsOfFile tasks old set × IsNextRanked tasks ranks m k
+IsRoundAnswer tasks old ranks m budget (rounds.AllStuck set stuck) = IsOfFile tasks old set × AreStuck tasks ranks m stuck
+IsRoundAnswer tasks old ranks m budget (rounds.Spent set k trail) = IsOfFile tasks old set × IsSpentAtTask tasks ranks m budget k trail
 
 -- What the rounds say together: each task has a rank by the rule, or a round ended the search.
 abbrev pub IsRanking : List Task → List ℕ → ℕ → Ranking → Type 0
-IsRanking tasks old budget (rankings.Whole set ranks) = IsOf tasks old set × AreRanks (length tasks) 0 ranks × FollowRule tasks ranks
-IsRanking tasks old budget (rankings.AllStuck set stuck) = IsOf tasks old set × IsEndStuck tasks stuck
-IsRanking tasks old budget (rankings.Spent set higher k trail) = IsOf tasks old set × IsEndSpent tasks budget higher k trail
+IsRanking tasks old budget (rankings.Whole set ranks) = IsOfFile tasks old set × AreRanks (length tasks) 0 ranks × FollowRule tasks ranks
+IsRanking tasks old budget (rankings.AllStuck set stuck) = IsOfFile tasks old set × IsEndStuck tasks stuck
+IsRanking tasks old budget (rankings.Spent set higher k trail) = IsOfFile tasks old set × IsEndSpent tasks budget higher k trail
 
 -- What the analysis of a schedulable set says.
 abbrev pub IsAnalysis : Contents → ℕ → AssignAnswer → Type 0
 IsAnalysis set budget (answers.Done dossier) = IsYesOf set dossier
-IsAnalysis set budget (answers.Unproved same trail) = (same ≡ set) × IsUndecided set budget trail
+IsAnalysis set budget (answers.Unproved same trail) = (same ≡ set) × IsTreeUndecided set budget trail
 IsAnalysis set budget (answers.NoOrder same stuck) = ⊥
 IsAnalysis set budget (answers.Undecided same higher task trail) = ⊥

@@ -6,7 +6,7 @@ ghost use Rattle.drt_model.specs.declared.tasks.Task.{Task};
 ghost use Rattle.drt_sp_task.specs.declared.answer.TaskAnswer.{TaskAnswer as Answer};
 ghost use Rattle.drt_priorities.specs.Priorities.{prioritised};
 ghost use Rattle.drt_assign.specs.Rule.{AreRanks};
-ghost use Rattle.drt_assign.specs.Steps.{AreAhead, AreOpen, IsCourse, IsTried};
+ghost use Rattle.drt_assign.specs.Steps.{AreTrialsAhead, AreOpen, IsCourse, IsTaskTried};
 
 use crate::answer::Stuck;
 use crate::rounds::{Course, try_task};
@@ -33,7 +33,7 @@ pub(crate) struct Ahead {
 
 /// Nothing was looked ahead for.
 pub(crate) fn nothing_ahead(alloc: Global) -> Ahead
-    ensures { (tasks : List Task) (ranks : List ℕ) (m budget : ℕ) → AreAhead tasks ranks m budget result }
+    ensures { (tasks : List Task) (ranks : List ℕ) (m budget : ℕ) → AreTrialsAhead tasks ranks m budget result }
 {
     Ahead {
         tasks: Vec::new(alloc),
@@ -53,8 +53,8 @@ pub(crate) fn look_further<G: Gate, R: Threads + Wait + Sync>(
 ) -> Result<Ahead, Memory>
     requires course { IsCourse (prioritised set.now.tasks course.now.old.now) course.now.graphs.now course.now.old.now }
     requires ranks { AreRanks (length set.now.tasks) standing.open_count standing.ranks.now }
-    requires ahead { AreAhead (prioritised set.now.tasks course.now.old.now) standing.ranks.now standing.open_count course.now.crew.now.effort.budget ahead }
-    ensures { IfOk result (AreAhead (prioritised set.now.tasks course.now.old.now) standing.entry.ranks.now standing.entry.open_count course.now.crew.now.effort.budget) }
+    requires ahead { AreTrialsAhead (prioritised set.now.tasks course.now.old.now) standing.ranks.now standing.open_count course.now.crew.now.effort.budget ahead }
+    ensures { IfOk result (AreTrialsAhead (prioritised set.now.tasks course.now.old.now) standing.entry.ranks.now standing.entry.open_count course.now.crew.now.effort.budget) }
 {
     if has_from(&ahead.tasks, task) || !are_worth(course, set, stuck) {
         return Ok(ahead);
@@ -77,9 +77,9 @@ pub(crate) fn take_or_try<G: Gate, R: Threads + Wait + Sync>(
     requires ranks { AreRanks (length set.tasks) standing.open_count standing.ranks.now }
     requires task { task < length standing.ranks.now }
     requires is_open { slice_index standing.ranks.now task ≡ 0 }
-    requires ahead { AreAhead (prioritised set.tasks course.now.old.now) standing.ranks.now standing.open_count course.now.crew.now.effort.budget ahead.old }
-    ensures tried { IfOk result (λ r. IsTried (prioritised set.tasks course.now.old.now) standing.entry.ranks.now standing.entry.open_count task course.now.crew.now.effort.budget r.0 r.1) }
-    ensures ahead { AreAhead (prioritised set.tasks course.now.old.now) standing.entry.ranks.now standing.entry.open_count course.now.crew.now.effort.budget ahead.new }
+    requires ahead { AreTrialsAhead (prioritised set.tasks course.now.old.now) standing.ranks.now standing.open_count course.now.crew.now.effort.budget ahead.old }
+    ensures tried { IfOk result (λ r. IsTaskTried (prioritised set.tasks course.now.old.now) standing.entry.ranks.now standing.entry.open_count task course.now.crew.now.effort.budget r.0 r.1) }
+    ensures ahead { AreTrialsAhead (prioritised set.tasks course.now.old.now) standing.entry.ranks.now standing.entry.open_count course.now.crew.now.effort.budget ahead.new }
 {
     if let Some(place) = place_of(&ahead.tasks, task) {
         if let Some(tried) = take_found(&mut ahead.found, place) {
@@ -149,7 +149,7 @@ fn try_apart<G: Gate, R: Threads + Wait + Sync>(
     requires ranks { AreRanks (length set.now.tasks) standing.open_count standing.ranks.now }
     requires tasks { AreOpen standing.ranks.now tasks.now }
     requires few { length tasks.now ≤ 16 }
-    ensures { IfOk result (λ found. (i : ℕ) (r : Contents × Answer) → slice_index_or found.items i None ≡ Some r → IsTried (prioritised set.now.tasks course.now.old.now) standing.entry.ranks.now standing.entry.open_count (slice_index tasks.now i) course.now.crew.now.effort.budget r.0 r.1) }
+    ensures { IfOk result (λ found. (i : ℕ) (r : Contents × Answer) → slice_index_or found.items i None ≡ Some r → IsTaskTried (prioritised set.now.tasks course.now.old.now) standing.entry.ranks.now standing.entry.open_count (slice_index tasks.now i) course.now.crew.now.effort.budget r.0 r.1) }
 {
     let Standing { ranks, open_count } = standing;
     let order = all_places(course.crew.alloc, tasks)?;
@@ -157,7 +157,7 @@ fn try_apart<G: Gate, R: Threads + Wait + Sync>(
         requires { IsSync R.row × IsSync G.row
             × IsCourse (prioritised set.now.tasks course.now.old.now) course.now.graphs.now course.now.old.now
             × AreRanks (length set.now.tasks) open_count ranks.now × AreOpen ranks.now tasks.now × (place < length tasks.now) }
-        ensures { IfOk result (λ r. IsTried (prioritised set.entry.now.tasks course.entry.now.old.now) ranks.entry.now open_count (slice_index tasks.entry.now place) course.entry.now.crew.now.effort.budget r.0 r.1) }
+        ensures { IfOk result (λ r. IsTaskTried (prioritised set.entry.now.tasks course.entry.now.old.now) ranks.entry.now open_count (slice_index tasks.entry.now place) course.entry.now.crew.now.effort.budget r.0 r.1) }
     {
         try_copy(
             course,
@@ -189,7 +189,7 @@ fn try_copy<G: Gate, R: Threads + Wait + Sync>(
     requires ranks { AreRanks (length set.now.tasks) standing.open_count standing.ranks.now }
     requires task { task < length standing.ranks.now }
     requires is_open { slice_index standing.ranks.now task ≡ 0 }
-    ensures { IfOk result (λ r. IsTried (prioritised set.now.tasks course.now.old.now) standing.entry.ranks.now standing.entry.open_count task course.now.crew.now.effort.budget r.0 r.1) }
+    ensures { IfOk result (λ r. IsTaskTried (prioritised set.now.tasks course.now.old.now) standing.entry.ranks.now standing.entry.open_count task course.now.crew.now.effort.budget r.0 r.1) }
 {
     let crew = Crew {
         rt: course.crew.rt,

@@ -2,7 +2,7 @@
 ghost use Rattle.std.specs.Prelude.{◌≡◌, ◌<◌, IfOk, length, slice_index};
 ghost use Rattle.drt_priorities.specs.Priorities.{prioritised};
 ghost use Rattle.drt_assign.specs.Rule.{AreRanks};
-ghost use Rattle.drt_assign.specs.Steps.{IsCourse, IsRound, IsTried};
+ghost use Rattle.drt_assign.specs.Steps.{IsCourse, IsRoundAnswer, IsTaskTried};
 
 use crate::ahead::{look_further, nothing_ahead, take_or_try};
 use crate::answer::Stuck;
@@ -60,7 +60,7 @@ pub(crate) fn find_next<G: Gate, R: Threads + Wait + Sync>(
 ) -> Result<Round, Memory>
     requires course { IsCourse (prioritised set.tasks course.now.old.now) course.now.graphs.now course.now.old.now }
     requires ranks { AreRanks (length set.tasks) standing.open_count standing.ranks.now }
-    ensures { IfOk result (IsRound (prioritised set.tasks course.now.old.now) course.now.old.now standing.entry.ranks.now standing.entry.open_count course.now.crew.now.effort.budget) }
+    ensures { IfOk result (IsRoundAnswer (prioritised set.tasks course.now.old.now) course.now.old.now standing.entry.ranks.now standing.entry.open_count course.now.crew.now.effort.budget) }
 {
     let ranks = standing.ranks;
     let mut set = set;
@@ -104,7 +104,7 @@ pub(crate) fn try_task<G: Gate, R: Threads + Wait + Sync>(
     requires ranks { AreRanks (length set.tasks) standing.open_count standing.ranks.now }
     requires task { task < length standing.ranks.now }
     requires is_open { slice_index standing.ranks.now task ≡ 0 }
-    ensures { IfOk result (λ r. IsTried (prioritised set.tasks course.now.old.now) standing.entry.ranks.now standing.entry.open_count task course.now.crew.now.effort.budget r.0 r.1) }
+    ensures { IfOk result (λ r. IsTaskTried (prioritised set.tasks course.now.old.now) standing.entry.ranks.now standing.entry.open_count task course.now.crew.now.effort.budget r.0 r.1) }
 {
     let priorities = trial_priorities(course.crew.alloc, standing, task)?;
     let set = prioritise(set, 2, &priorities);

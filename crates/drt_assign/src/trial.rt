@@ -1,6 +1,6 @@
 //! The priorities under which a task is tried.
 ghost use Rattle.std.specs.Prelude.{◌≡◌, ℕ, ◌<◌, ◌≤◌, IfOk, length, slice_index};
-ghost use Rattle.drt_assign.specs.Rule.{AreRanks, IsTrial, open_beside};
+ghost use Rattle.drt_assign.specs.Rule.{AreRanks, IsTrialPriorities, open_beside};
 
 use drt_model::Memory;
 use std::alloc::Global;
@@ -22,7 +22,7 @@ pub(crate) fn trial_priorities(
     requires ranks { (count : ℕ) × (count ≤ 32) × AreRanks count standing.open_count standing.ranks.now }
     requires task { task < length standing.ranks.now }
     requires is_open { slice_index standing.ranks.now task ≡ 0 }
-    ensures { IfOk result (λ priorities. IsTrial standing.entry.ranks.now standing.entry.open_count task priorities.items) }
+    ensures { IfOk result (λ priorities. IsTrialPriorities standing.entry.ranks.now standing.entry.open_count task priorities.items) }
 {
     let Standing { ranks, open_count } = standing;
     let mut priorities = Vec::new(alloc);

@@ -9,7 +9,7 @@ use Rattle.drt_claims.specs.Claims.{fraction_of, fractions, IsFine}
 use Rattle.drt_claims.specs.Ranges.{IsInRangePotential, IsInRangeRatio}
 use Rattle.drt_claims.specs.declared.evidence.RatioClaim.{RatioClaim}
 use Rattle.drt_graph.proofs.Scales.{scale_same}
-use Rattle.drt_rates.specs.Rates.{AreRated, IsSmall, IsTooFine}
+use Rattle.drt_rates.specs.Rates.{AreRated, IsSmallRatio, IsTooFine}
 
 -- A potential is within 10^16 of 0, and so is what stands for one past the last.
 pub in_reach : (hs : List ℤ) → All IsInRangePotential hs → (v : ℕ) → IsInRangePotential (potential_of hs v)
@@ -21,11 +21,11 @@ in_reach hs all v = go (cases_lt v (length hs))
         let e : get_or hs v (pos 0) ≡ pos 0 = get_or_past hs v (pos 0) l in
         rw e (omega (arith, ints), omega (arith, ints))
 
-small : (c : RatioClaim) → IsInRangeRatio c → IsSmall (fraction_of c)
+small : (c : RatioClaim) → IsInRangeRatio c → IsSmallRatio (fraction_of c)
 small c is = record { num = is.num; some = is.some; den = is.den }
 
 -- The ratios of claims in range are small.
-pub claims_small : (claims : List RatioClaim) → All IsInRangeRatio claims → All (λ c. IsSmall (fraction_of c)) claims
+pub claims_small : (claims : List RatioClaim) → All IsInRangeRatio claims → All (λ c. IsSmallRatio (fraction_of c)) claims
 claims_small claims all k d l = small _ (all k d l)
 
 -- And where there is one for each graph, their potentials are near 0.

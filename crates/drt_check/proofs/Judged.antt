@@ -7,8 +7,8 @@ use Rattle.drt_claims.specs.Statement.{Statement}
 use Rattle.drt_claims.specs.declared.evidence.Evidence.{Evidence}
 use Rattle.drt_claims.specs.declared.evidence.Evidence.TheVariants.{Undecided}
 use Rattle.drt_claims.specs.declared.rule.Rule.{Rule}
-use Rattle.drt_check.specs.Judging.{claimed, IsAcceptance, IsJudged}
-use Rattle.drt_check.specs.Deciding.{IsDecided}
+use Rattle.drt_check.specs.Judging.{claimed, IsAcceptance, IsStatementJudged}
+use Rattle.drt_check.specs.Deciding.{IsRuleDecided}
 use Rattle.drt_check.specs.Laws.{JudgedOnce}
 use Rattle.drt_check.specs.declared.judgement.Judgement.{Judgement}
 use Rattle.drt_check.specs.declared.judgement.Judgement.TheVariants.{NothingToCheck, Rejected, Schedulable, Unschedulable, UtilisationOne}
@@ -30,7 +30,7 @@ number_one s m n p q = go (cases_lt m n) (cases_lt n m)
     go (inr l) (inr k) = omega arith
 
 -- The first rule that isn't kept rejects the statement.
-pub rejected_by : (s : Statement) → ¬ (s.evidence ≡ Undecided) → (rule : Rule) → IsDecided s (Some rule) → Rejects s (number_of rule)
+pub rejected_by : (s : Statement) → ¬ (s.evidence ≡ Undecided) → (rule : Rule) → IsRuleDecided s (Some rule) → Rejects s (number_of rule)
 rejected_by s claims rule is = record { claims = claims; rule = rule; number_is = refl; applies = is.0.applies; broken = is.1; least = is.0.before }
 
 -- The kinds of judgement.
@@ -39,7 +39,7 @@ pub data Standing (s : Statement) (j : Judgement) : Type 0 where
   accepted : Accepts s → j ≡ claimed s.evidence → IsAcceptance j → Standing s j
   rejected : (n : ℕ) → Rejects s n → j ≡ Rejected n → Standing s j
 
-standing : (s : Statement) (j : Judgement) → IsJudged s j → Standing s j
+standing : (s : Statement) (j : Judgement) → IsStatementJudged s j → Standing s j
 standing s Schedulable is = accepted is.0 (sym is.1) tt
 standing s Unschedulable is = accepted is.0 (sym is.1) tt
 standing s UtilisationOne is = accepted is.0 (sym is.1) tt
@@ -61,7 +61,7 @@ judged_once s j k p q = go (standing s j p) (standing s k q)
     go (rejected m p e) (rejected n q f) = e ∙ ap Rejected (number_one s m n p q) ∙ sym f
 
 -- The judgement is that of accepted evidence exactly where the statement is accepted.
-pub acceptance : (s : Statement) (j : Judgement) → IsJudged s j → IsAcceptance j ↔ Accepts s
+pub acceptance : (s : Statement) (j : Judgement) → IsStatementJudged s j → IsAcceptance j ↔ Accepts s
 acceptance s j p = go (standing s j p)
   where
     none : (j : Judgement) → j ≡ NothingToCheck → IsAcceptance j → ⊥
@@ -76,5 +76,5 @@ acceptance s j p = go (standing s j p)
     go (rejected n r e) = (λ a. absurd (not j n e a), λ a. absurd (not_both s n a r))
 
 -- It rejects with a number exactly where the statement is rejected with that number.
-pub rejection : (s : Statement) (j : Judgement) → IsJudged s j → (n : ℕ) → (j ≡ Rejected n) ↔ Rejects s n
-rejection s j p n = (λ e. subst (λ k. IsJudged s k) e p, λ r. judged_once s j (Rejected n) p r)
+pub rejection : (s : Statement) (j : Judgement) → IsStatementJudged s j → (n : ℕ) → (j ≡ Rejected n) ↔ Rejects s n
+rejection s j p n = (λ e. subst (λ k. IsStatementJudged s k) e p, λ r. judged_once s j (Rejected n) p r)

@@ -17,8 +17,8 @@ use Rattle.drt_model.specs.declared.front.FrontEntry.{FrontEntry}
 use Rattle.drt_claims.specs.declared.evidence.RatioClaim.{RatioClaim}
 use Rattle.drt_claims.specs.declared.rule.Rule.{Rule}
 use Rattle.drt_claims.specs.declared.rule.Rule.TheVariants.{RatioPerTask, FineScale, ClaimedUtilisation, NearHorizon, OrderedFronts}
-use Rattle.drt_check.specs.Deciding.{HaveHorizon, HaveNearHorizon, IsNext}
-use Rattle.drt_check_fronts.specs.FrontOrder.{AreInOrder}
+use Rattle.drt_check.specs.Deciding.{HaveHorizon, HaveNearHorizon, IsNextRule}
+use Rattle.drt_check_fronts.specs.FrontOrder.{AreFrontsInOrder}
 use Rattle.drt_check.proofs.Accepted.{at_horizon}
 use Rattle.drt_graph.proofs.Scales.{scale_same}
 use Rattle.drt_check_fronts.proofs.Eachs.{each_count}
@@ -36,7 +36,7 @@ below_too other has below = absurd has
 count_back : (tasks : List Task) (n : ℕ) → n ≡ length tasks → n ≡ length (graphs_of tasks)
 count_back tasks n e = e ∙ sym (length-map tasks digraph_of)
 
-module _ (s : Statement) (rule : Rule) (next : IsNext s rule) where
+module _ (s : Statement) (rule : Rule) (next : IsNextRule s rule) where
   -- Past rule 3 there are as many ratios as graphs.
   pub counted : HasRatios s.evidence → 3 < number_of rule → length (ratios_of s.evidence) ≡ length (graphs_of s.set.tasks)
   counted has l = count_back s.set.tasks (length (ratios_of s.evidence)) (next.before RatioPerTask has l)
@@ -59,7 +59,7 @@ module _ (s : Statement) (rule : Rule) (next : IsNext s rule) where
 
   -- Past rule 12 the fronts are in order within it.
   pub in_order : HasFronts s.evidence → 12 < number_of rule → (bound : ℕ) → IsHorizon (graphs_of s.set.tasks) (ratios_of s.evidence) bound
-      → AreInOrder (graphs_of s.set.tasks) bound (fronts_of s.evidence)
+      → AreFrontsInOrder (graphs_of s.set.tasks) bound (fronts_of s.evidence)
   in_order has l bound is =
       let graphs = graphs_of s.set.tasks in
       let each = at_horizon graphs (ratios_of s.evidence) bound is (λ n. Each (IsOrdered n) graphs (fronts_of s.evidence)) (next.before OrderedFronts has l) in
@@ -75,7 +75,7 @@ pub decides_at : (graphs : List Digraph) (ratios : List RatioClaim) (bound : ℕ
 decides_at graphs ratios bound is R b h = (λ t. (bound, is, h.0 t), λ other. h.1 (at_horizon graphs ratios bound is R other))
 
 pub decides_order : (graphs : List Digraph) (ratios : List RatioClaim) (bound : ℕ) → IsHorizon graphs ratios bound → (fronts : List (List FrontEntry)) (b : Bool)
-    → (IsTrue b ↔ AreInOrder graphs bound fronts) → IsTrue b ↔ ((c : ℕ) × IsHorizon graphs ratios c × Each (IsOrdered c) graphs fronts)
+    → (IsTrue b ↔ AreFrontsInOrder graphs bound fronts) → IsTrue b ↔ ((c : ℕ) × IsHorizon graphs ratios c × Each (IsOrdered c) graphs fronts)
 decides_order graphs ratios bound is fronts b h =
     decides_at graphs ratios bound is (λ n. Each (IsOrdered n) graphs fronts) b
     (λ t. (h.0 t).1, λ each. h.1 (each_count (IsOrdered bound) graphs fronts each, each))

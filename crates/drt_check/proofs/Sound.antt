@@ -10,7 +10,7 @@ use Rattle.drt_claims.specs.declared.evidence.Evidence.TheVariants.{EdfYes, EdfN
 use Rattle.drt_claims.specs.declared.rule.Rule.TheVariants.{ConstrainedDeadlines, KindOfPolicy, LeastMiss, LegalReleases}
 use Rattle.drt_claims.proofs.Accepting.{statement}
 use Rattle.drt_states_laws.specs.Laws.{StatesPass}
-use Rattle.drt_check.specs.Judging.{IsSound, claimed}
+use Rattle.drt_check.specs.Judging.{IsSoundJudgement, claimed}
 use Rattle.drt_check.specs.Laws.{AcceptedIsSound}
 use Rattle.drt_check.proofs.Accepted.{fixed_kept, one_kept, states_kept, yes_kept}
 use Rattle.drt_check.proofs.SoundFixed.{fixed_is_sound}
@@ -22,7 +22,7 @@ use Rattle.drt_check.proofs.SoundYes.{yes_is_sound}
 pub accepted_is_sound : DeadlinesDecide → TimesDecide → StatesPass → AcceptedIsSound
 accepted_is_sound deadlines times pass s stated accepts = by_kind s.policy s.evidence accepts
   where
-    by_kind : (policy : Policy) (evidence : Evidence) → Accepts (statement policy s.set evidence) → IsSound (statement policy s.set evidence) (claimed evidence)
+    by_kind : (policy : Policy) (evidence : Evidence) → Accepts (statement policy s.set evidence) → IsSoundJudgement (statement policy s.set evidence) (claimed evidence)
     by_kind policy (EdfYes ratios fronts) is =
         let edf : policy ≡ Edf = is.keeps KindOfPolicy tt in
         subst (λ p. Schedulable s.set.tasks p) (sym edf)

@@ -11,7 +11,7 @@ use Rattle.drt_model.specs.Schedulable.{Schedulable}
 use Rattle.drt_busy.specs.Choice.{AreWalks, graph_at, no_task, task_at}
 use Rattle.drt_busy.specs.Decide.{TimesDecide}
 use Rattle.drt_claims.specs.Claims.{Each}
-use Rattle.drt_claims.specs.Proofs.{IsPassed, after_all, opening, passes}
+use Rattle.drt_claims.specs.Proofs.{HasPassingTime, after_all, opening, passes}
 use Rattle.drt_claims.specs.Trees.{CoversWalks, greatest_deadline, higher_count, root, tree_graphs}
 use Rattle.drt_claims.specs.declared.evidence.ProofClaim.{ProofClaim}
 use Rattle.drt_claims.specs.declared.evidence.TreeClaim.{TreeClaim}
@@ -30,7 +30,7 @@ start tasks trees k = opening trees (higher_count tasks (task_at tasks k).priori
 
 -- The time passes for the vertex and the combination.
 abbrev Passes : List Task → List TreeClaim → ℕ → ℕ → List ℕ × ℕ → Type 0
-Passes tasks trees k v at = IsPassed (tree_graphs tasks trees) trees (graph_at tasks k) v at
+Passes tasks trees k v at = HasPassingTime (tree_graphs tasks trees) trees (graph_at tasks k) v at
 
 -- The items of the vertex's proof end what it begins with, and pass at times that pass.
 record IsProved (tasks : List Task) (trees : List TreeClaim) (k v : ℕ) : Type 0 where

@@ -4,7 +4,7 @@ use Rattle.std.specs.Prelude.{Any, max, nat_le}
 use Rattle.std.proofs.Math.Nat.{le-max_left, le-max_right}
 use Rattle.std.proofs.lemmas.Bool.{le-leb}
 use Rattle.drt_model.specs.declared.tasks.Task.{Task}
-use Rattle.drt_model.specs.Digraph.{Digraph, IsConstrainedGraph, IsSound, digraph_of, edge_of, out_degree, vertex_count}
+use Rattle.drt_model.specs.Digraph.{Digraph, IsConstrainedGraph, IsSoundGraph, digraph_of, edge_of, out_degree, vertex_count}
 use Rattle.drt_model.specs.Walk.{IsEdge, IsPath, deadline, gap, last_of, span, wcet, work}
 use Rattle.drt_graph.proofs.Edges.{edge_of_sep, target_of}
 use Rattle.drt_graph.proofs.Paths.{span_cons, span_none, work_cons, work_none}
@@ -44,7 +44,7 @@ extended g bound front closed v o w x edge (i, e, l, at, (same, by, most)) near 
         (j, f, m, there, (vertex ∙ to, omega (arith, offset, sep, by), omega (arith, works, c, most)))
 
 -- From a covered walk to v on: the rest of a walk leads to an entry that covers the whole.
-covered_from : (g : Digraph) → IsSound g → IsConstrainedGraph g → (bound : ℕ) (front : List FrontEntry) → IsClosedFront bound g front → (v o w : ℕ) (vs : List ℕ) → IsPath g v vs → Any (Covers v o w) front → o + (span g v vs + deadline g (last_of v vs)) ≤ bound → Any (Covers (last_of v vs) (o + span g v vs) (w + work g vs)) front
+covered_from : (g : Digraph) → IsSoundGraph g → IsConstrainedGraph g → (bound : ℕ) (front : List FrontEntry) → IsClosedFront bound g front → (v o w : ℕ) (vs : List ℕ) → IsPath g v vs → Any (Covers v o w) front → o + (span g v vs + deadline g (last_of v vs)) ≤ bound → Any (Covers (last_of v vs) (o + span g v vs) (w + work g vs)) front
 covered_from g sound constrained bound front closed v o w [] is (i, e, l, at, (same, by, most)) near =
     (i, e, l, at, (same, rw span_none (omega (arith, by)), rw work_none (omega (arith, most))))
 covered_from g sound constrained bound front closed v o w (x ∷ vs) is covered near =
@@ -57,7 +57,7 @@ covered_from g sound constrained bound front closed v o w (x ∷ vs) is covered 
     (i, e, l, at, (same, omega (arith, by, s), omega (arith, most, c)))
 
 -- Each walk that is due within the bound is covered.
-pub covered : (g : Digraph) → IsSound g → IsConstrainedGraph g → (bound : ℕ) (front : List FrontEntry) → HasOpenings bound g front → IsClosedFront bound g front → (u : ℕ) (vs : List ℕ) → u < vertex_count g → IsPath g u vs → span g u vs + deadline g (last_of u vs) ≤ bound → Any (Covers (last_of u vs) (span g u vs) (work g (u ∷ vs))) front
+pub covered : (g : Digraph) → IsSoundGraph g → IsConstrainedGraph g → (bound : ℕ) (front : List FrontEntry) → HasOpenings bound g front → IsClosedFront bound g front → (u : ℕ) (vs : List ℕ) → u < vertex_count g → IsPath g u vs → span g u vs + deadline g (last_of u vs) ≤ bound → Any (Covers (last_of u vs) (span g u vs) (work g (u ∷ vs))) front
 covered g sound constrained bound front openings closed u vs inside is near =
     let d = first_due g constrained u vs inside is in
     let opening = openings u inside (omega (arith, d, near)) in
@@ -82,7 +82,7 @@ most_due g (x ∷ front) t n (suc k) e l at d m =
     omega (arith, h, r)
 
 -- So has a walk that is due by t.
-one_within : (g : Digraph) → IsSound g → IsConstrainedGraph g → (bound t : ℕ) (front : List FrontEntry) → HasOpenings bound g front → IsClosedFront bound g front → t ≤ bound → (walk : List ℕ) → IsWalk g walk → due_of g walk ≤ t → work g walk ≤ work_due g front t
+one_within : (g : Digraph) → IsSoundGraph g → IsConstrainedGraph g → (bound t : ℕ) (front : List FrontEntry) → HasOpenings bound g front → IsClosedFront bound g front → t ≤ bound → (walk : List ℕ) → IsWalk g walk → due_of g walk ≤ t → work g walk ≤ work_due g front t
 one_within g sound constrained bound t front openings closed near [] is by = rw work_none (omega arith)
 one_within g sound constrained bound t front openings closed near (u ∷ vs) is by =
     let (i, e, l, at, (same, offset, works)) = covered g sound constrained bound front openings closed u vs is.0 is.1 (omega (arith, by, near)) in
@@ -90,7 +90,7 @@ one_within g sound constrained bound t front openings closed near (u ∷ vs) is 
     most_due g front t (work g (u ∷ vs)) i e l at (omega (arith, d, offset, by)) works
 
 -- Walks of the tasks that are due by t have together at most the works that are due by t.
-pub all_within : (tasks : List Task) → All IsSound (graphs_of tasks) → All IsConstrainedGraph (graphs_of tasks) → (bound t : ℕ) (fronts : List (List FrontEntry)) → length fronts ≡ length tasks → Each (HasOpenings bound) (graphs_of tasks) fronts → Each (IsClosedFront bound) (graphs_of tasks) fronts → t ≤ bound
+pub all_within : (tasks : List Task) → All IsSoundGraph (graphs_of tasks) → All IsConstrainedGraph (graphs_of tasks) → (bound t : ℕ) (fronts : List (List FrontEntry)) → length fronts ≡ length tasks → Each (HasOpenings bound) (graphs_of tasks) fronts → Each (IsClosedFront bound) (graphs_of tasks) fronts → t ≤ bound
     → (walks : ℕ → List ℕ) → AreWalks tasks walks → AreDueBy tasks walks t → efforts tasks walks (length tasks) ≤ works_due (graphs_of tasks) fronts t
 unfolding sum_due
 all_within [] sound constrained bound t fronts count openings closed near walks are by = rw efforts_none (omega arith)

@@ -3,7 +3,7 @@ use Rattle.std.proofs.Common.{◌≡◌, ℕ, ℤ, suc, ◌+◌, ◌-◌, ◌*�
 use Rattle.std.specs.Int.{◌∣◌}
 use Rattle.std.proofs.lemmas.Bool.{cases_lt}
 use Rattle.drt_model.specs.declared.tasks.Task.{Task}
-use Rattle.drt_model.specs.Digraph.{Digraph, IsSound, digraph_of}
+use Rattle.drt_model.specs.Digraph.{Digraph, IsSoundGraph, digraph_of}
 use Rattle.drt_model.specs.Horizon.{above_zero, constant_of, extra}
 use Rattle.drt_model.specs.RatioRules.{FitPotentials}
 use Rattle.drt_model.specs.Utilisation.{EachDivides, rate}
@@ -17,12 +17,12 @@ use Rattle.drt_graph.proofs.Scales.{scale_same}
 use Rattle.drt_check.proofs.SoundWalks.{efforts_cons, efforts_none}
 
 -- At a scale, the work of one walk that is due by t.
-one_walk : (g : Digraph) (a b : ℕ) (hs : List ℤ) (scale t : ℕ) (walk : List ℕ) → IsSound g → FitPotentials g a b hs → b ∣ scale → IsWalk g walk → due_of g walk ≤ t → scale * work g walk ≤ a * (scale / b) * t + above_zero (constant_of g a b hs) * (scale / b)
+one_walk : (g : Digraph) (a b : ℕ) (hs : List ℤ) (scale t : ℕ) (walk : List ℕ) → IsSoundGraph g → FitPotentials g a b hs → b ∣ scale → IsWalk g walk → due_of g walk ≤ t → scale * work g walk ≤ a * (scale / b) * t + above_zero (constant_of g a b hs) * (scale / b)
 one_walk g a b hs scale t [] sound fits divides is due = rw work_none (omega arith)
 one_walk g a b hs scale t (u ∷ vs) sound fits divides is due = scaled_work g a b hs scale t u vs sound fits divides is.0 is.1 due
 
 -- And that of all.
-all_walks : (tasks : List Task) (claims : List RatioClaim) (scale t : ℕ) (walks : ℕ → List ℕ) → All IsSound (graphs_of tasks) → length claims ≡ length tasks → HaveFittingPotentials (graphs_of tasks) claims → EachDivides (fractions claims) scale → AreWalks tasks walks → AreDueBy tasks walks t
+all_walks : (tasks : List Task) (claims : List RatioClaim) (scale t : ℕ) (walks : ℕ → List ℕ) → All IsSoundGraph (graphs_of tasks) → length claims ≡ length tasks → HaveFittingPotentials (graphs_of tasks) claims → EachDivides (fractions claims) scale → AreWalks tasks walks → AreDueBy tasks walks t
     → scale * efforts tasks walks (length tasks) ≤ rate scale (fractions claims) * t + extra scale (graphs_of tasks) (fractions claims) (potentials claims)
 unfolding rate extra
 all_walks [] claims scale t walks sound count fits divides are due = rw efforts_none (omega arith)
@@ -39,7 +39,7 @@ past scale rate extra t e under far most over =
     beyond (scale - rate) rate extra t e (omega arith) (rw s far) (rw s most) over
 
 -- Walks with more work than time are due within the horizon.
-pub within_horizon : (tasks : List Task) (claims : List RatioClaim) (bound : ℕ) → All IsSound (graphs_of tasks) → length claims ≡ length tasks → HaveFittingPotentials (graphs_of tasks) claims → HaveUtilisationBelowOne claims → IsHorizon (graphs_of tasks) claims bound
+pub within_horizon : (tasks : List Task) (claims : List RatioClaim) (bound : ℕ) → All IsSoundGraph (graphs_of tasks) → length claims ≡ length tasks → HaveFittingPotentials (graphs_of tasks) claims → HaveUtilisationBelowOne claims → IsHorizon (graphs_of tasks) claims bound
     → (t : ℕ) (walks : ℕ → List ℕ) → AreWalks tasks walks → AreDueBy tasks walks t → t < efforts tasks walks (length tasks) → t ≤ bound
 within_horizon tasks claims bound sound count fits below is t walks are due over = go (cases_lt bound t)
   where

@@ -8,7 +8,7 @@ use Rattle.std.proofs.lemmas.List.{length-map}
 use Rattle.std.proofs.lemmas.Nat.Gcd.{IsGcd-from_zero, IsGcd-swap, same_from_IsGcd, le_of_dvd}
 use Rattle.drt_model.specs.Digraph.{Digraph, digraph_of}
 use Rattle.drt_model.specs.Potential.{potential_of}
-use Rattle.drt_model.specs.RatioRules.{FitPotentials, IsClosed, IsTight}
+use Rattle.drt_model.specs.RatioRules.{FitPotentials, IsClosedCycle, IsTight}
 use Rattle.drt_model.specs.Utilisation.{AreRatios, HasRatio, BoundsCycles}
 use Rattle.drt_model.specs.Walk.{gap, last_of, span, work}
 use Rattle.drt_graph.proofs.Bounds.{rises}
@@ -31,7 +31,7 @@ some_of zero other = absurd (other refl)
 some_of (suc a) other = omega arith
 
 -- The claimed cycle has the ratio; where there is none the ratio is 0 / 1.
-cycle_has : (g : Digraph) (a b : ℕ) (cycle : List ℕ) → IsGcd a b 1 → IsClosed g a cycle → IsTight g a b cycle → HasRatio g a b cycle
+cycle_has : (g : Digraph) (a b : ℕ) (cycle : List ℕ) → IsGcd a b 1 → IsClosedCycle g a cycle → IsTight g a b cycle → HasRatio g a b cycle
 cycle_has g a b [] lowest closed tight = (closed, same_from_IsGcd a b b 1 (IsGcd-swap b a b (IsGcd-from_zero b a closed)) lowest)
 cycle_has g a b (v ∷ vs) lowest closed tight = (closed.1, tight, some_of a closed.0)
 

@@ -7,7 +7,7 @@ use Rattle.std.proofs.lemmas.Option.{slice_get-get_or}
 use Rattle.drt_model.specs.declared.tasks.Task.{Task}
 use Rattle.drt_model.specs.declared.jobs.Policy.TheVariants.{Fixed}
 use Rattle.drt_model.specs.Constrained.{AreConstrained}
-use Rattle.drt_model.specs.Digraph.{IsSound, digraph_of, vertex_count}
+use Rattle.drt_model.specs.Digraph.{IsSoundGraph, digraph_of, vertex_count}
 use Rattle.drt_model.specs.Limits.{IsTaskSet}
 use Rattle.drt_model.specs.Schedulable.{Schedulable}
 use Rattle.drt_model.specs.Walk.{deadline, wcet}
@@ -77,13 +77,13 @@ higher_are tasks walks k l =
 
 -- Their graphs keep the limits.
 higher_sound : (version : ℕ) (tasks : List Task) → IsTaskSet version tasks → (walks : ℕ → List ℕ) (k : ℕ)
-    → All (λ p. IsSound p.graph) (places_in tasks (higher tasks walks k))
+    → All (λ p. IsSoundGraph p.graph) (places_in tasks (higher tasks walks k))
 higher_sound version tasks limits walks k =
-    let HasSound : Walked → Type 0 = λ x. IsSound (digraph_of x.0) in
+    let HasSound : Walked → Type 0 = λ x. IsSoundGraph (digraph_of x.0) in
     let xs : List Walked = ordered (walked tasks walks) in
-    let each = All-from_recursion HasSound xs (ordered_all (λ t. IsSound (digraph_of t)) tasks walks (all_sound version tasks limits)) in
+    let each = All-from_recursion HasSound xs (ordered_all (λ t. IsSoundGraph (digraph_of t)) tasks walks (all_sound version tasks limits)) in
     let first = All-take HasSound (higher_count tasks (task_at tasks k).priority) xs each in
-    All-map (λ (p : Place). IsSound p.graph) (λ (x : Walked). place_of tasks x.0) (higher tasks walks k) first
+    All-map (λ (p : Place). IsSoundGraph p.graph) (λ (x : Walked). place_of tasks x.0) (higher tasks walks k) first
 
 -- The deadlines of the k-th task are within their bounds.
 higher_near : (tasks : List Task) (walks : ℕ → List ℕ) (k v : ℕ) → k < length tasks → v < vertex_count (graph_at tasks k)

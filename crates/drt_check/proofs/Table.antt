@@ -11,7 +11,7 @@ use Rattle.drt_claims.specs.declared.rule.Rule.TheVariants.{ClosedCycles, TightC
 use Rattle.drt_claims.specs.declared.rule.Rule.TheVariants.{CoveredOpenings, CoveredExtensions, Room, LegalReleases, LeastMiss}
 use Rattle.drt_claims.specs.declared.rule.Rule.TheVariants.{TreePerHigherTask, ShortWalks, CoveredWalks, TreeShapes, ProofPerVertex, ProofShapes, PassingTimes}
 use Rattle.drt_claims.specs.declared.rule.Rule.TheVariants.{RisingTails, BoundingTails, SearchPerVertex, SearchStates, PassingStates, DominatedChildren}
-use Rattle.drt_check.specs.Deciding.{IsNext}
+use Rattle.drt_check.specs.Deciding.{IsNextRule}
 
 -- The place of a rule.
 abbrev pub place : Rule → ℕ
@@ -129,7 +129,7 @@ number_at i d l = sym (get_or-map number_of table i d 0 l) ∙ (ap (λ ns. slice
 
 -- Where the rule at a place applies, and those before it are kept as far as they apply, it is the next one.
 pub next_at : (s : Statement) (i : ℕ) (d : Rule) → i < 30 → Applies (slice_index_or table i d) s.evidence
-    → ((rule : Rule) → Applies rule s.evidence → place rule < i → Keeps rule s) → IsNext s (slice_index_or table i d)
+    → ((rule : Rule) → Applies rule s.evidence → place rule < i → Keeps rule s) → IsNextRule s (slice_index_or table i d)
 next_at s i d l applies before = record {
   applies = applies;
   before = λ rule a m. before rule a (let n = number_at i d l in let k = number_is rule in omega (arith, m, n, k));

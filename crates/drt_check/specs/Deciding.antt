@@ -10,7 +10,7 @@ use Rattle.drt_claims.specs.declared.rule.Rule.TheVariants.{ConstrainedDeadlines
 use Rattle.drt_claims.specs.declared.rule.Rule.TheVariants.{RisingTails, BoundingTails, SearchPerVertex, SearchStates, PassingStates, DominatedChildren}
 
 -- The rule applies, and those that apply and have smaller numbers are kept.
-pub record IsNext (s : Statement) (rule : Rule) : Type 0 where
+pub record IsNextRule (s : Statement) (rule : Rule) : Type 0 where
   pub applies : Applies rule s.evidence
   pub before : (other : Rule) → Applies other s.evidence → number_of other < number_of rule → Keeps other s
 
@@ -33,9 +33,9 @@ IsOnStates DominatedChildren = Unit {0}
 IsOnStates other = ⊥
 
 -- None is found where each rule that applies is kept, and else the first that isn't.
-abbrev pub IsDecided : Statement → Option Rule → Type 0
-IsDecided s None = (rule : Rule) → Applies rule s.evidence → Keeps rule s
-IsDecided s (Some rule) = IsNext s rule × ¬ Keeps rule s
+abbrev pub IsRuleDecided : Statement → Option Rule → Type 0
+IsRuleDecided s None = (rule : Rule) → Applies rule s.evidence → Keeps rule s
+IsRuleDecided s (Some rule) = IsNextRule s rule × ¬ Keeps rule s
 
 -- There is a claim for each graph, and the claims have a small scale and a utilisation below one.
 pub record HaveHorizon (graphs : List Digraph) (claims : List RatioClaim) : Type 0 where

@@ -25,12 +25,12 @@ IsClaimed s judgement = Accepts s × (claimed s.evidence ≡ judgement)
 
 -- How a statement is judged: there is nothing to check exactly where the evidence is `undecided`; else it is rejected with the least
 -- number of a rule that applies and isn't kept, or it is accepted, and judged by the kind of its evidence.
-abbrev pub IsJudged : Statement → Judgement → Type 0
-IsJudged s judgements.Schedulable = IsClaimed s judgements.Schedulable
-IsJudged s judgements.Unschedulable = IsClaimed s judgements.Unschedulable
-IsJudged s judgements.UtilisationOne = IsClaimed s judgements.UtilisationOne
-IsJudged s judgements.NothingToCheck = s.evidence ≡ Undecided
-IsJudged s (judgements.Rejected number) = Rejects s number
+abbrev pub IsStatementJudged : Statement → Judgement → Type 0
+IsStatementJudged s judgements.Schedulable = IsClaimed s judgements.Schedulable
+IsStatementJudged s judgements.Unschedulable = IsClaimed s judgements.Unschedulable
+IsStatementJudged s judgements.UtilisationOne = IsClaimed s judgements.UtilisationOne
+IsStatementJudged s judgements.NothingToCheck = s.evidence ≡ Undecided
+IsStatementJudged s (judgements.Rejected number) = Rejects s number
 
 -- The judgement is that of accepted evidence.
 abbrev pub IsAcceptance : Judgement → Type 0
@@ -39,9 +39,9 @@ IsAcceptance (judgements.Rejected number) = ⊥
 IsAcceptance claim = Unit {0}
 
 -- What a judgement means, whoever made the dossier.
-abbrev pub IsSound : Statement → Judgement → Type 0
-IsSound s judgements.Schedulable = Schedulable s.set.tasks s.policy
-IsSound s judgements.Unschedulable = ¬ Schedulable s.set.tasks s.policy
-IsSound s judgements.UtilisationOne = IsAtOne s.set.tasks
-IsSound s judgements.NothingToCheck = Unit {0}
-IsSound s (judgements.Rejected number) = Unit {0}
+abbrev pub IsSoundJudgement : Statement → Judgement → Type 0
+IsSoundJudgement s judgements.Schedulable = Schedulable s.set.tasks s.policy
+IsSoundJudgement s judgements.Unschedulable = ¬ Schedulable s.set.tasks s.policy
+IsSoundJudgement s judgements.UtilisationOne = IsAtOne s.set.tasks
+IsSoundJudgement s judgements.NothingToCheck = Unit {0}
+IsSoundJudgement s (judgements.Rejected number) = Unit {0}

@@ -10,11 +10,11 @@ abbrev pub no_release : Release
 no_release = record { task = 0; vertex = 0; time = 0; need = 0 }
 
 -- The release at place j is the one of this task before which so many of its releases stand.
-pub record IsPlace (releases : List Release) (task index j : ℕ) : Type 0 where
+pub record IsReleasePlace (releases : List Release) (task index j : ℕ) : Type 0 where
   pub here : j < length releases
   pub task_is : (slice_index_or releases j no_release).task ≡ task
   pub index_is : count_by (λ r. r.task == task) (take j releases) ≡ index
 
 -- The miss names a job of the list, with its deadline.
-abbrev pub IsNamed : List Job → Miss → Type 0
-IsNamed jobs miss = (j : ℕ) × (j < length jobs) × (miss ≡ miss_of jobs j)
+abbrev pub NamesJob : List Job → Miss → Type 0
+NamesJob jobs miss = (j : ℕ) × (j < length jobs) × (miss ≡ miss_of jobs j)

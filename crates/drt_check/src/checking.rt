@@ -5,8 +5,8 @@ ghost use Rattle.drt_model.specs.Constrained.{AreConstrained};
 ghost use Rattle.drt_claims.specs.Claims.{graphs_of};
 ghost use Rattle.drt_claims.specs.Kinds.{HasReleases};
 ghost use Rattle.drt_claims.specs.Rules.{Accepts, Keeps, Rejects};
-ghost use Rattle.drt_check.specs.Deciding.{IsDecided, IsNext};
-ghost use Rattle.drt_check.specs.Judging.{IsAcceptance, IsJudged, IsSound};
+ghost use Rattle.drt_check.specs.Deciding.{IsRuleDecided, IsNextRule};
+ghost use Rattle.drt_check.specs.Judging.{IsAcceptance, IsStatementJudged, IsSoundJudgement};
 ghost use Rattle.drt_check.specs.declared.judgement.Judgement.TheVariants.{Rejected};
 
 use crate::judgement::Judgement;
@@ -21,10 +21,10 @@ use std::alloc::Global;
 /// The judgement of a dossier, whoever made it. There is nothing to check where its evidence is `undecided`. Else it is
 /// rejected with the least number of a rule that applies and isn't kept, or accepted, and then what it claims holds.
 pub fn check(alloc: Global, dossier: &Dossier) -> Result<Judgement, Memory>
-    ensures judged { IfOk result (IsJudged dossier.now) }
+    ensures judged { IfOk result (IsStatementJudged dossier.now) }
     ensures accepted { IfOk result (λ judgement. IsAcceptance judgement ↔ Accepts dossier.now) }
     ensures rejected { IfOk result (λ judgement. (number : ℕ) → (judgement ≡ Rejected number) ↔ Rejects dossier.now number) }
-    ensures sound { IfOk result (IsSound dossier.now) }
+    ensures sound { IfOk result (IsSoundJudgement dossier.now) }
 {
     if is_undecided(dossier) {
         return Ok(Judgement::NothingToCheck);
@@ -41,7 +41,7 @@ pub fn check(alloc: Global, dossier: &Dossier) -> Result<Judgement, Memory>
 
 // The first rule that applies and isn't kept, if there is one. No rule on releases that miss asks for graphs, and none are made for them.
 fn first_broken(alloc: Global, dossier: &Dossier) -> Result<Option<Rule>, Memory>
-    ensures { IfOk result (IsDecided dossier.now) }
+    ensures { IfOk result (IsRuleDecided dossier.now) }
 {
     if has_releases(dossier) {
         return first_broken_of_releases(alloc, dossier);
@@ -56,7 +56,7 @@ fn first_broken(alloc: Global, dossier: &Dossier) -> Result<Option<Rule>, Memory
 // The same where the evidence has releases.
 fn first_broken_of_releases(alloc: Global, dossier: &Dossier) -> Result<Option<Rule>, Memory>
     requires { HasReleases dossier.now.evidence }
-    ensures { IfOk result (IsDecided dossier.now) }
+    ensures { IfOk result (IsRuleDecided dossier.now) }
 {
     match first_past(dossier.set.tasks()) {
         Some(_) => Ok(Some(Rule::ConstrainedDeadlines)),
@@ -72,7 +72,7 @@ fn first_broken_of(
 ) -> Result<Option<Rule>, Memory>
     requires graphs { MatchOption (option_copied graphs) (HasReleases dossier.now.evidence) (λ made. made ≡ graphs_of dossier.now.set.tasks) }
     requires constrained { AreConstrained dossier.now.set.tasks }
-    ensures { IfOk result (IsDecided dossier.now) }
+    ensures { IfOk result (IsRuleDecided dossier.now) }
 {
     'rules: for i in 0..RULES.len() {
         let rule = RULES[i];
@@ -92,7 +92,7 @@ fn is_kept(
 ) -> Result<bool, Memory>
     requires graphs { MatchOption (option_copied graphs) (HasReleases dossier.now.evidence) (λ made. made ≡ graphs_of dossier.now.set.tasks) }
     requires constrained { AreConstrained dossier.now.set.tasks }
-    requires next { IsNext dossier.now rule }
+    requires next { IsNextRule dossier.now rule }
     ensures { IfOk result (λ kept. IsTrue kept ↔ Keeps rule dossier.now) }
 {
     match graphs {

@@ -3,7 +3,7 @@ ghost use Rattle.std.specs.Prelude.{◌≡◌, ◌↔◌, All, IsTrue, length};
 ghost use Rattle.std.specs.Int.{IsGcd};
 ghost use Rattle.drt_claims.specs.Claims.{Each, AreLowest};
 ghost use Rattle.drt_claims.specs.Ranges.{IsInRangeRatio};
-ghost use Rattle.drt_check.specs.Claimed.{IsKept};
+ghost use Rattle.drt_check.specs.Claimed.{KeepsRatioRule};
 
 use drt_claims::RatioClaim;
 use drt_graph::{Graph, Graphs, is_closed, is_tight, potentials_fit};
@@ -44,7 +44,7 @@ fn is_lowest(claim: &RatioClaim) -> bool
 pub fn all_keep(rule: ClaimRule, graphs: &Graphs, ratios: &[RatioClaim]) -> bool
     requires counted { length ratios.now ≡ length graphs.now }
     requires in_range { All IsInRangeRatio ratios.now }
-    ensures { IsTrue result ↔ Each (IsKept rule) graphs.now ratios.now }
+    ensures { IsTrue result ↔ Each (KeepsRatioRule rule) graphs.now ratios.now }
 {
     'tasks: for i in 0..graphs.count() {
         if !keeps(rule, graphs.graph(i), &ratios[i as usize]) {
@@ -57,7 +57,7 @@ pub fn all_keep(rule: ClaimRule, graphs: &Graphs, ratios: &[RatioClaim]) -> bool
 // Whether the claim keeps the rule.
 fn keeps(rule: ClaimRule, graph: &Graph, claim: &RatioClaim) -> bool
     requires { IsInRangeRatio claim.now }
-    ensures { IsTrue result ↔ IsKept rule graph.now claim.now }
+    ensures { IsTrue result ↔ KeepsRatioRule rule graph.now claim.now }
 {
     let count = graph.vertex_count();
     match rule {

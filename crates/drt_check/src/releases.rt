@@ -4,7 +4,7 @@ ghost use Rattle.drt_model.specs.Legal.{IsLegal};
 ghost use Rattle.drt_model.specs.Misses.{IsLeastMiss};
 ghost use Rattle.drt_model.specs.Schedulable.{deadline_of, jobs_of};
 ghost use Rattle.drt_claims.specs.Ranges.{AreInRangeReleases, IsInRangeRelease};
-ghost use Rattle.drt_check.specs.Named.{IsPlace, IsNamed};
+ghost use Rattle.drt_check.specs.Named.{IsReleasePlace, NamesJob};
 
 use drt_model::{Memory, Miss, Policy, Release, Task, TaskSet};
 use drt_replay::Board;
@@ -34,7 +34,7 @@ pub fn is_least_miss(
 // Whether the miss is a least one. The board has run until its deadline.
 fn is_least_now(board: &Board, miss: Miss) -> bool
     requires now { board.now.ticks ≡ miss.deadline }
-    requires named { IsNamed board.now.jobs miss }
+    requires named { NamesJob board.now.jobs miss }
     ensures { IsTrue result ↔ IsLeastMiss board.now.policy board.now.jobs miss }
 {
     match board.finish_time(miss.task, miss.index) {
@@ -49,7 +49,7 @@ fn is_least_now(board: &Board, miss: Miss) -> bool
 // Whether the miss names a job of the releases with its deadline.
 fn is_named(tasks: &[Task], releases: &[Release], miss: Miss) -> bool
     requires { All IsInRangeRelease releases.now }
-    ensures { IsTrue result ↔ IsNamed (jobs_of tasks.now releases.now) miss }
+    ensures { IsTrue result ↔ NamesJob (jobs_of tasks.now releases.now) miss }
 {
     match place_of(releases, miss.task, miss.index) {
         Some(j) => due(tasks, &releases[j]) == miss.deadline,
@@ -80,7 +80,7 @@ fn relative_deadline(tasks: &[Task], release: &Release) -> u32
 
 // The place of the release of this task before which so many of its releases stand.
 fn place_of(releases: &[Release], task: u32, index: u32) -> Option<usize>
-    ensures { MatchOption result ((j : ℕ) → IsPlace releases.now task index j → ⊥) (IsPlace releases.now task index) }
+    ensures { MatchOption result ((j : ℕ) → IsReleasePlace releases.now task index j → ⊥) (IsReleasePlace releases.now task index) }
 {
     let mut seen: usize = 0;
     'places: for j in 0..releases.len() {

@@ -4,7 +4,7 @@ ghost use Rattle.drt_model.specs.Constrained.{AreConstrained};
 ghost use Rattle.drt_claims.specs.Claims.{graphs_of};
 ghost use Rattle.drt_claims.specs.Rules.{Applies, HasClaimedUtilisation, Keeps};
 ghost use Rattle.drt_claims.specs.declared.rule.Rule.TheVariants.{ClaimedUtilisation};
-ghost use Rattle.drt_check.specs.Deciding.{AsksForNoGraphs, IsNext, IsOnStates};
+ghost use Rattle.drt_check.specs.Deciding.{AsksForNoGraphs, IsNextRule, IsOnStates};
 
 use crate::claimed::{ClaimRule, all_keep, are_lowest};
 use crate::parts::{
@@ -110,7 +110,7 @@ pub fn applies(rule: Rule, dossier: &Dossier) -> bool
 pub fn keeps(alloc: Global, rule: Rule, graphs: &Graphs, dossier: &Dossier) -> Result<bool, Memory>
     requires graphs { graphs.now ≡ graphs_of dossier.now.set.tasks }
     requires constrained { AreConstrained dossier.now.set.tasks }
-    requires next { IsNext dossier.now rule }
+    requires next { IsNextRule dossier.now rule }
     ensures { IfOk result (λ kept. IsTrue kept ↔ Keeps rule dossier.now) }
 {
     let ratios = ratios_of(dossier);
@@ -167,7 +167,7 @@ fn keeps_of_states(
 ) -> Result<bool, Memory>
     requires graphs { graphs.now ≡ graphs_of dossier.now.set.tasks }
     requires constrained { AreConstrained dossier.now.set.tasks }
-    requires next { IsNext dossier.now rule }
+    requires next { IsNextRule dossier.now rule }
     requires states { IsOnStates rule }
     ensures { IfOk result (λ kept. IsTrue kept ↔ Keeps rule dossier.now) }
 {
@@ -190,7 +190,7 @@ fn keeps_of_states(
 /// The same of a rule that asks for no graphs.
 pub fn keeps_plainly(alloc: Global, rule: Rule, dossier: &Dossier) -> Result<bool, Memory>
     requires constrained { AreConstrained dossier.now.set.tasks }
-    requires next { IsNext dossier.now rule }
+    requires next { IsNextRule dossier.now rule }
     requires plain { AsksForNoGraphs rule }
     ensures { IfOk result (λ kept. IsTrue kept ↔ Keeps rule dossier.now) }
 {
@@ -212,7 +212,7 @@ pub fn keeps_plainly(alloc: Global, rule: Rule, dossier: &Dossier) -> Result<boo
 // Whether the utilisation of the ratios is below one for a yes, and one for a claim of that.
 fn has_claimed_utilisation(graphs: &Graphs, dossier: &Dossier) -> bool
     requires graphs { graphs.now ≡ graphs_of dossier.now.set.tasks }
-    requires next { IsNext dossier.now ClaimedUtilisation }
+    requires next { IsNextRule dossier.now ClaimedUtilisation }
     ensures { IsTrue result ↔ HasClaimedUtilisation dossier.now.evidence }
 {
     graphs.count();

@@ -6,5 +6,5 @@ use Rattle.drt_claims.specs.Claims.{Each}
 use Rattle.drt_claims.specs.Fronts.{IsOrdered}
 
 -- There is a front for each graph, in order within the bound.
-abbrev pub AreInOrder : List Digraph → ℕ → List (List FrontEntry) → Type 0
-AreInOrder graphs bound fronts = (length fronts ≡ length graphs) × Each (IsOrdered bound) graphs fronts
+abbrev pub AreFrontsInOrder : List Digraph → ℕ → List (List FrontEntry) → Type 0
+AreFrontsInOrder graphs bound fronts = (length fronts ≡ length graphs) × Each (IsOrdered bound) graphs fronts

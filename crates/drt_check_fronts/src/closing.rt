@@ -5,7 +5,7 @@ ghost use Rattle.drt_model.specs.Legal.{AllNeighbours};
 ghost use Rattle.drt_claims.specs.Claims.{Each};
 ghost use Rattle.drt_claims.specs.Fronts.{IsClosedFront, IsExtended, IsNextEntry, IsOrdered};
 ghost use Rattle.drt_claims.specs.Ranges.{IsInRangeEntry};
-ghost use Rattle.drt_check_fronts.specs.FrontOrder.{AreInOrder};
+ghost use Rattle.drt_check_fronts.specs.FrontOrder.{AreFrontsInOrder};
 
 use crate::covering::is_covered;
 use drt_claims::FrontEntry;
@@ -15,7 +15,7 @@ use drt_model::Row;
 /// Whether each front covers the extensions of its entries that are due within the bound.
 pub fn are_closed(graphs: &Graphs, fronts: &[Row<FrontEntry>], bound: u64) -> bool
     requires ranges { All (All IsInRangeEntry) fronts.now }
-    requires order { AreInOrder graphs.now bound fronts.now }
+    requires order { AreFrontsInOrder graphs.now bound fronts.now }
     ensures { IsTrue result ↔ Each (IsClosedFront bound) graphs.now fronts.now }
 {
     for i in 0..graphs.count() {

@@ -5,7 +5,7 @@ ghost use Rattle.drt_model.specs.Legal.{AllNeighbours};
 ghost use Rattle.drt_model.specs.Walk.{deadline, wcet};
 ghost use Rattle.drt_claims.specs.Claims.{Each};
 ghost use Rattle.drt_claims.specs.Fronts.{Covers, HasOpenings, IsNextEntry};
-ghost use Rattle.drt_check_fronts.specs.FrontOrder.{AreInOrder};
+ghost use Rattle.drt_check_fronts.specs.FrontOrder.{AreFrontsInOrder};
 
 use crate::covering::is_covered;
 use drt_claims::FrontEntry;
@@ -14,7 +14,7 @@ use drt_model::Row;
 
 /// Whether each front covers the walks of its graph's single vertices that are due within the bound.
 pub fn have_openings(graphs: &Graphs, fronts: &[Row<FrontEntry>], bound: u64) -> bool
-    requires { AreInOrder graphs.now bound fronts.now }
+    requires { AreFrontsInOrder graphs.now bound fronts.now }
     ensures { IsTrue result ↔ Each (HasOpenings bound) graphs.now fronts.now }
 {
     for i in 0..graphs.count() {

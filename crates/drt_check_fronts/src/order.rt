@@ -1,9 +1,9 @@
 //! Whether the entries of fronts are within a bound and in order.
 ghost use Rattle.std.specs.Prelude.{◌≡◌, ◌↔◌, All, IsTrue, length};
 ghost use Rattle.drt_model.specs.Legal.{AllNeighbours};
-ghost use Rattle.drt_claims.specs.Fronts.{IsNextEntry, IsOrdered, IsWithin};
+ghost use Rattle.drt_claims.specs.Fronts.{IsNextEntry, IsOrdered, IsEntryWithin};
 ghost use Rattle.drt_claims.specs.Ranges.{IsInRangeEntry};
-ghost use Rattle.drt_check_fronts.specs.FrontOrder.{AreInOrder};
+ghost use Rattle.drt_check_fronts.specs.FrontOrder.{AreFrontsInOrder};
 
 use drt_claims::FrontEntry;
 use drt_graph::{Graph, Graphs};
@@ -12,7 +12,7 @@ use drt_model::Row;
 /// Whether there is a front for each graph, in order within the bound.
 pub fn are_in_order(graphs: &Graphs, fronts: &[Row<FrontEntry>], bound: u64) -> bool
     requires { All (All IsInRangeEntry) fronts.now }
-    ensures { IsTrue result ↔ AreInOrder graphs.now bound fronts.now }
+    ensures { IsTrue result ↔ AreFrontsInOrder graphs.now bound fronts.now }
 {
     if fronts.len() != graphs.count() as usize {
         return false;
@@ -34,7 +34,7 @@ fn is_ordered(graph: &Graph, front: &[FrontEntry], bound: u64) -> bool
 
 fn are_within(graph: &Graph, front: &[FrontEntry], bound: u64) -> bool
     requires { All IsInRangeEntry front.now }
-    ensures { IsTrue result ↔ All (IsWithin graph.now bound) front.now }
+    ensures { IsTrue result ↔ All (IsEntryWithin graph.now bound) front.now }
 {
     for i in 0..front.len() {
         if !is_within(graph, front[i], bound) {
@@ -46,7 +46,7 @@ fn are_within(graph: &Graph, front: &[FrontEntry], bound: u64) -> bool
 
 fn is_within(graph: &Graph, entry: FrontEntry, bound: u64) -> bool
     requires { IsInRangeEntry entry }
-    ensures { IsTrue result ↔ IsWithin graph.now bound entry }
+    ensures { IsTrue result ↔ IsEntryWithin graph.now bound entry }
 {
     entry.vertex < graph.vertex_count()
         && entry.offset + graph.vertex(entry.vertex).deadline as u64 <= bound

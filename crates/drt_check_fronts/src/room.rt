@@ -1,7 +1,7 @@
 //! Whether the works of the fronts have room.
 ghost use Rattle.std.specs.Prelude.{◌↔◌, IfOk, IsTrue};
 ghost use Rattle.drt_claims.specs.Fronts.{HaveRoom};
-ghost use Rattle.drt_check_fronts.specs.FrontOrder.{AreInOrder};
+ghost use Rattle.drt_check_fronts.specs.FrontOrder.{AreFrontsInOrder};
 
 use drt_claims::FrontEntry;
 use drt_graph::Graphs;
@@ -17,7 +17,7 @@ pub fn have_room(
     fronts: &[Row<FrontEntry>],
     bound: u64,
 ) -> Result<bool, Memory>
-    requires { AreInOrder graphs.now bound fronts.now }
+    requires { AreFrontsInOrder graphs.now bound fronts.now }
     ensures { IfOk result (λ room. IsTrue room ↔ HaveRoom graphs.now fronts.now) }
 {
     match scan(alloc, graphs, fronts, bound)? {

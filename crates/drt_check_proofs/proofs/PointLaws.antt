@@ -8,7 +8,7 @@ use Rattle.std.proofs.lemmas.List.Elements.{All-from_recursion, recursion_from_A
 use Rattle.std.proofs.lemmas.Option.{slice_get-get_or, slice_get_past, slice_get_within, same_Some}
 use Rattle.drt_model.specs.declared.tasks.Task.{Task}
 use Rattle.drt_model.specs.Digraph.{Digraph, digraph_of}
-use Rattle.drt_claims.specs.Proofs.{HasPassingTimes, HasShape, IsPassed, opening, passes}
+use Rattle.drt_claims.specs.Proofs.{HasPassingTimes, HasShape, HasPassingTime, opening, passes}
 use Rattle.drt_claims.specs.Trees.{higher_count}
 use Rattle.drt_claims.specs.declared.evidence.ProofClaim.{ProofClaim}
 use Rattle.drt_claims.specs.declared.evidence.TreeClaim.{TreeClaim}
@@ -98,7 +98,7 @@ pub queries_points : (tasks : List Task) (trees : List TreeClaim) (i : ℕ) (tre
 queries_points tasks trees i tree at proofs all =
     flat_lift (HasShape tasks trees) (queries_of tasks tree i) (points_of tasks trees) (query i) (queries_one tasks trees i tree at) proofs (recursion_from_All (HasShape tasks trees) proofs all)
 
-passing_map : (graphs : List Digraph) (trees : List TreeClaim) (g : Digraph) (v : ℕ) (ps : List (List ℕ × ℕ)) → AllByRecursion (IsPassed graphs trees g v) ps ↔ AllByRecursion (IsPoint graphs trees) (map (point g v) ps)
+passing_map : (graphs : List Digraph) (trees : List TreeClaim) (g : Digraph) (v : ℕ) (ps : List (List ℕ × ℕ)) → AllByRecursion (HasPassingTime graphs trees g v) ps ↔ AllByRecursion (IsPoint graphs trees) (map (point g v) ps)
 passing_map graphs trees g v [] = (λ all. tt, λ all. tt)
 passing_map graphs trees g v (p ∷ ps) =
     let rest = passing_map graphs trees g v ps in (
@@ -116,10 +116,10 @@ passing_one tasks graphs trees proof = go (slice_get tasks proof.task) refl
     )
     go (Some t) at = (
       λ has. subst (λ (o : Option Task). AllByRecursion (IsPoint graphs trees) (points_in tasks trees proof o)) (sym at)
-          ((passing_map graphs trees (digraph_of t) proof.vertex _).0 (recursion_from_All (IsPassed graphs trees (digraph_of t) proof.vertex) _ (has t at))),
+          ((passing_map graphs trees (digraph_of t) proof.vertex _).0 (recursion_from_All (HasPassingTime graphs trees (digraph_of t) proof.vertex) _ (has t at))),
       λ all u at_u. (let same : t ≡ u = same_Some _ _ (sym at ∙ at_u) in
           let here = subst (λ (o : Option Task). AllByRecursion (IsPoint graphs trees) (points_in tasks trees proof o)) at_u all in
-          All-from_recursion (IsPassed graphs trees (digraph_of u) proof.vertex) _ ((passing_map graphs trees (digraph_of u) proof.vertex _).1 here)),
+          All-from_recursion (HasPassingTime graphs trees (digraph_of u) proof.vertex) _ ((passing_map graphs trees (digraph_of u) proof.vertex _).1 here)),
     )
 
 -- The times pass where the points do.

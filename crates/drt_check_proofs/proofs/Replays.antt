@@ -10,7 +10,7 @@ use Rattle.drt_claims.specs.declared.evidence.Item.{Item}
 use Rattle.drt_claims.specs.declared.evidence.ProofClaim.{ProofClaim}
 use Rattle.drt_claims.specs.declared.evidence.TreeClaim.{TreeClaim}
 use Rattle.drt_check_proofs.specs.Places.{after_all_at, at_place, depth_after_all}
-use Rattle.drt_check_proofs.specs.Shapes.{CanTakeBelow, IsClosed}
+use Rattle.drt_check_proofs.specs.Shapes.{CanTakeBelow, IsWholeProof}
 use Rattle.drt_check_proofs.proofs.Steps.{AreWide, Stepped, stepped, stuck}
 
 -- Items that were taken at all places were taken at each.
@@ -76,7 +76,7 @@ opening_wide trees count = (length-map (take count trees) root ∙ length-take c
 
 -- A shape is right where it is so place by place.
 pub shape_decides : (trees : List TreeClaim) (count width : ℕ) (items : List Item) → width ≡ min count (length trees)
-    → (after_all trees items (Some (opening trees count)) ≡ Some []) ↔ (IsClosed width items × CanTakeBelow trees width items)
+    → (after_all trees items (Some (opening trees count)) ≡ Some []) ↔ (IsWholeProof width items × CanTakeBelow trees width items)
 shape_decides trees count width items e = (
   λ all. (
       let r : Replayed trees width items (opening trees count) [] = replayed trees width items (opening trees count) [] wide all in
@@ -93,7 +93,7 @@ shape_decides trees count width items e = (
 
 -- A proof has the right shape where it is so place by place.
 pub has_shape_decides : (tasks : List Task) (trees : List TreeClaim) (proof : ProofClaim) (t : Task) (width : ℕ) → slice_get tasks proof.task ≡ Some t
-    → width ≡ min (higher_count tasks t.priority) (length trees) → HasShape tasks trees proof ↔ (IsClosed width proof.items × CanTakeBelow trees width proof.items)
+    → width ≡ min (higher_count tasks t.priority) (length trees) → HasShape tasks trees proof ↔ (IsWholeProof width proof.items × CanTakeBelow trees width proof.items)
 has_shape_decides tasks trees proof t width at e =
     let decides = shape_decides trees (higher_count tasks t.priority) width proof.items e in (
       λ has. decides.0 (has t at),

@@ -6,8 +6,8 @@ use Rattle.drt_claims.specs.declared.evidence.TreeClaim.{TreeClaim}
 use Rattle.drt_check_proofs.specs.Places.{after_all_at, depth_after_all}
 
 -- The items can be taken one after another as far as their number goes, and none is left over or missing.
-abbrev pub IsClosed : ℕ → List Item → Type 0
-IsClosed width items = depth_after_all width items (Some 1) ≡ Some 0
+abbrev pub IsWholeProof : ℕ → List Item → Type 0
+IsWholeProof width items = depth_after_all width items (Some 1) ≡ Some 0
 
 -- The items can be taken one after another at a place of the tree, from its root on.
 abbrev pub CanTakeAt : TreeClaim → ℕ → List Item → Type 0

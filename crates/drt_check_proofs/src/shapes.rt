@@ -4,7 +4,7 @@ ghost use Rattle.std.specs.List.{count_by};
 ghost use Rattle.drt_claims.specs.Proofs.{HasShape, IsProofPerVertex};
 ghost use Rattle.drt_claims.specs.Trees.{IsTree, IsTreePerHigherTask, higher_count};
 ghost use Rattle.drt_check_proofs.specs.Places.{depth_after};
-ghost use Rattle.drt_check_proofs.specs.Shapes.{CanTakeAt, CanTakeBelow, IsClosed};
+ghost use Rattle.drt_check_proofs.specs.Shapes.{CanTakeAt, CanTakeBelow, IsWholeProof};
 
 use crate::places::{begin, take};
 use drt_claims::{Item, ProofClaim, TreeClaim};
@@ -92,7 +92,7 @@ fn can_take(
 
 // Whether the items end all combinations that they begin with or make, and no more, and split at places below the width.
 fn is_closed(width: usize, items: &[Item]) -> bool
-    ensures { IsTrue result ↔ IsClosed width items.now }
+    ensures { IsTrue result ↔ IsWholeProof width items.now }
 {
     let mut depth = 1;
     'items: for item in items {

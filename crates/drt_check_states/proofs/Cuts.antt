@@ -6,8 +6,8 @@ use Rattle.std.proofs.lemmas.List.{get_or_default}
 use Rattle.std.proofs.lemmas.Bool.Decides.{nat_tests}
 use Rattle.drt_states.specs.States.{entry_at, with_entry}
 use Rattle.drt_states.specs.declared.claims.StateEntry.{StateEntry}
-use Rattle.drt_check_states.specs.Children.{IsCutAt}
-use Rattle.drt_check_states.specs.Places.{AreInOrder, no_entry}
+use Rattle.drt_check_states.specs.Children.{IsEntryCut}
+use Rattle.drt_check_states.specs.Places.{ArePlacesInOrder, no_entry}
 use Rattle.drt_check_states.proofs.Items.{ascending_to}
 
 pub equal : (a b : ℕ) → a ≡ b → (a == b) ≡ true
@@ -49,7 +49,7 @@ put_in e (f ∷ entries) (suc n) l before after =
     ∙ ap (λ (es : List StateEntry). f ∷ es) (put_in e entries n (omega arith) (λ i b h. before (suc i) b (omega arith)) (λ b h. after b (omega arith)))
 
 pub cut_over : (place : ℕ) (entries : List StateEntry) (n : ℕ) (d : StateEntry) → n < length entries → ((i : ℕ) (b : StateEntry) → i < n → (get_or entries i b).place < place)
-    → (get_or entries n d).place ≡ place → IsCutAt place entries (record { at = n; rest = n + 1 })
+    → (get_or entries n d).place ≡ place → IsEntryCut place entries (record { at = n; rest = n + 1 })
 cut_over place entries n d l before here = record {
   ordered = omega arith;
   within = omega arith;
@@ -59,7 +59,7 @@ cut_over place entries n d l before here = record {
 }
 
 pub cut_in : (place : ℕ) (entries : List StateEntry) (n : ℕ) → n ≤ length entries → ((i : ℕ) (b : StateEntry) → i < n → (get_or entries i b).place < place)
-    → ((b : StateEntry) → n < length entries → place < (get_or entries n b).place) → IsCutAt place entries (record { at = n; rest = n })
+    → ((b : StateEntry) → n < length entries → place < (get_or entries n b).place) → IsEntryCut place entries (record { at = n; rest = n })
 cut_in place entries n l before after = record {
   ordered = omega arith;
   within = omega arith;
@@ -88,7 +88,7 @@ entry_none place (f ∷ entries) (suc n) before after =
     cond-false (f.place == place) (Some f) (entry_at entries place) (other f.place place (before 0 f (omega arith) (omega arith)))
     ∙ entry_none place entries n (λ i b h m. before (suc i) b (omega arith) (omega arith)) (λ i b h m. after (suc i) b (omega arith) (omega arith))
 
-pub entry_absent : (place : ℕ) (entries : List StateEntry) (n : ℕ) → AreInOrder entries → ((i : ℕ) (b : StateEntry) → i < n → (get_or entries i b).place < place)
+pub entry_absent : (place : ℕ) (entries : List StateEntry) (n : ℕ) → ArePlacesInOrder entries → ((i : ℕ) (b : StateEntry) → i < n → (get_or entries i b).place < place)
     → ((b : StateEntry) → n < length entries → place < (get_or entries n b).place) → entry_at entries place ≡ None
 entry_absent place entries n order before after =
     entry_none place entries n (λ i b h m. before i b h) (λ i b h m.

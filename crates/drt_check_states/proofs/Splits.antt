@@ -11,7 +11,7 @@ use Rattle.drt_model.specs.Digraph.{Digraph, vertex_count}
 use Rattle.drt_states.specs.States.{Child, IsEntry, IsEntryAbove, IsSplit, NamesAbove, children_of, entry_at, with_entry}
 use Rattle.drt_states.specs.declared.claims.StateClaim.{StateClaim}
 use Rattle.drt_states.specs.declared.claims.StateEntry.{StateEntry}
-use Rattle.drt_check_states.specs.Children.{IsCutAt, child_of}
+use Rattle.drt_check_states.specs.Children.{IsEntryCut, child_of}
 use Rattle.drt_check_states.specs.Places.{graphs_at}
 use Rattle.drt_check_states.specs.declared.children.Cut.{Cut}
 use Rattle.drt_check_states.proofs.Zips.{zip_parts, zip_put, zip_reaches}
@@ -85,7 +85,7 @@ pub child_plain : (s : StateClaim) (e : StateEntry) → child_of s (record { ent
 child_plain s e = ap (λ (w : ℕ). let c : Child = record { entries = with_entry e s.entries; work = w } in c) (add-zero s.work)
 
 -- Entries above others with one put in, in three parts.
-module _ (own other : List StateEntry) (cut : Cut) (e : StateEntry) (is : IsCutAt e.place other cut) where
+module _ (own other : List StateEntry) (cut : Cut) (e : StateEntry) (is : IsEntryCut e.place other cut) where
   Puts : Type 0
   Puts = AllZip IsEntryAbove own (take cut.at other ++ (e ∷ drop cut.rest other))
 

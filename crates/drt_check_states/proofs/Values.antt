@@ -5,7 +5,7 @@ use Rattle.std.proofs.lemmas.List.{get_or_default}
 use Rattle.std.proofs.lemmas.Bool.{cases_lt, lt-ltb, le-ltb, cond-true, cond-false}
 use Rattle.drt_states.specs.Tails.{last_work, value_before}
 use Rattle.drt_states.specs.declared.claims.Jump.{Jump}
-use Rattle.drt_check_states.specs.Curves.{IsOver, IsRising}
+use Rattle.drt_check_states.specs.Curves.{IsJumpOver, IsRising}
 use Rattle.drt_check_states.proofs.Items.{ascending_to}
 
 -- The jumps before the first number come before t, and those from the second one on don't.
@@ -80,10 +80,10 @@ cut_down jumps t from to middle d is c n m past = record {
 
 -- Jumps after one that lies so far that it doesn't count don't count either.
 pub past_all : (bound wcet sep : ℕ) (own other : List Jump) (i : ℕ) (e : Jump) → IsRising other → i < length other → bound ≤ (get_or other i e).offset + sep
-    → ((k : ℕ) (d : Jump) → k < i → IsOver bound wcet sep own (get_or other k d)) → All (IsOver bound wcet sep own) other
+    → ((k : ℕ) (d : Jump) → k < i → IsJumpOver bound wcet sep own (get_or other k d)) → All (IsJumpOver bound wcet sep own) other
 past_all bound wcet sep own other i e is l past so_far k d m = go (cases_lt k i)
   where
-    go : (k < i) ⊎ (i ≤ k) → IsOver bound wcet sep own (get_or other k d)
+    go : (k < i) ⊎ (i ≤ k) → IsJumpOver bound wcet sep own (get_or other k d)
     go (inl q) = so_far k d q
     go (inr q) = λ below.
         let g : (get_or other i d).offset ≤ (get_or other k d).offset = rising_to other is i k d q m in

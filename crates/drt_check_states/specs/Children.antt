@@ -7,7 +7,7 @@ use Rattle.drt_check_states.specs.declared.children.Cut.{Cut}
 use Rattle.drt_check_states.specs.declared.children.Turn.{Turn}
 
 -- An entry of the place goes into the entries at the cut.
-pub record IsCutAt (place : ℕ) (entries : List StateEntry) (cut : Cut) : Type 0 where
+pub record IsEntryCut (place : ℕ) (entries : List StateEntry) (cut : Cut) : Type 0 where
   pub ordered : cut.at ≤ cut.rest
   pub within : cut.rest ≤ length entries
   pub puts : (e : StateEntry) → e.place ≡ place → with_entry e entries ≡ take cut.at entries ++ (e ∷ drop cut.rest entries)

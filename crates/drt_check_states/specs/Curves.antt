@@ -20,13 +20,13 @@ abbrev pub HasRisingCurves : TailClaim → Type 0
 HasRisingCurves tail = All IsRising tail.curves
 
 -- The function of u begins with the execution time of u or more.
-abbrev pub IsOpened : Digraph → TailClaim → ℕ → Type 0
-IsOpened g tail u = wcet g u ≤ (slice_index_or (curve_of tail u) 0 no_jump).work
+abbrev pub IsFunctionOpened : Digraph → TailClaim → ℕ → Type 0
+IsFunctionOpened g tail u = wcet g u ≤ (slice_index_or (curve_of tail u) 0 no_jump).work
 
 -- The function of u is no less than what each edge out of u asks for.
 abbrev pub IsAboveAll : ℕ → Digraph → TailClaim → ℕ → Type 0
 IsAboveAll bound g tail u = (k : ℕ) → k < out_degree g u → All (IsAboveJump bound g tail u k) (curve_of tail (edge_of g u k).to)
 
 -- The jumps are no less than the execution time and the jump after the separation, as far as that lies below the bound.
-abbrev pub IsOver : ℕ → ℕ → ℕ → List Jump → Jump → Type 0
-IsOver bound wcet sep jumps j = j.offset + sep < bound → wcet + j.work ≤ value_before jumps (j.offset + sep + 1)
+abbrev pub IsJumpOver : ℕ → ℕ → ℕ → List Jump → Jump → Type 0
+IsJumpOver bound wcet sep jumps j = j.offset + sep < bound → wcet + j.work ≤ value_before jumps (j.offset + sep + 1)

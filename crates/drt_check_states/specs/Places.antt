@@ -14,8 +14,8 @@ abbrev pub graphs_at : List Digraph → List ℕ → List Digraph
 graphs_at graphs order = map (λ k. graph_of graphs k) order
 
 -- The places of the entries ascend.
-abbrev pub AreInOrder : List StateEntry → Type 0
-AreInOrder entries = AllNeighbours (λ a b. a.place < b.place) entries
+abbrev pub ArePlacesInOrder : List StateEntry → Type 0
+ArePlacesInOrder entries = AllNeighbours (λ a b. a.place < b.place) entries
 
 -- What stands for an entry past the last one.
 abbrev pub no_entry : StateEntry

@@ -3,8 +3,8 @@ ghost use Rattle.std.specs.Prelude.{◌≡◌, ℕ, ◌+◌, ◌<◌, ◌≤◌,
 ghost use Rattle.std.specs.List.{All, AllZip};
 ghost use Rattle.drt_model.specs.Digraph.{vertex_count};
 ghost use Rattle.drt_states.specs.States.{AreStates, HaveDominatedChildren, IsEntryAbove, IsSplit, IsSplitting, IsState, NamesAbove, children_of, entry_at, with_entry};
-ghost use Rattle.drt_check_states.specs.Children.{IsCutAt, child_of};
-ghost use Rattle.drt_check_states.specs.Places.{AreInOrder, AreTasks, graphs_at, no_entry};
+ghost use Rattle.drt_check_states.specs.Children.{IsEntryCut, child_of};
+ghost use Rattle.drt_check_states.specs.Places.{ArePlacesInOrder, AreTasks, graphs_at, no_entry};
 
 use drt_graph::{Graph, Graphs};
 use drt_states::{StateClaim, StateEnd, StateEntry};
@@ -81,7 +81,7 @@ fn are_dominated(
     place: u32,
     numbers: &[u32],
 ) -> bool
-    requires in_order { AreInOrder state.now.entries }
+    requires in_order { ArePlacesInOrder state.now.entries }
     requires vertices { All (λ e. e.place ≡ place → e.vertex < vertex_count graph.now) state.now.entries }
     ensures { IsTrue result ↔ AllZip (NamesAbove states.now) (children_of graph.now deadline state.now place (entry_at state.now.entries place)) numbers.now }
 {
@@ -140,7 +140,7 @@ fn begins(
     cut: Cut,
     numbers: &[u32],
 ) -> bool
-    requires { IsCutAt place state.now.entries cut }
+    requires { IsEntryCut place state.now.entries cut }
     ensures { IsTrue result ↔ AllZip (NamesAbove states.now) (children_of graph.now 0 state.now place None) numbers.now }
 {
     let count = graph.vertex_count();
@@ -172,7 +172,7 @@ fn moves_on(
     numbers: &[u32],
 ) -> bool
     requires vertex { from.vertex < vertex_count graph.now }
-    requires cut { IsCutAt from.place state.now.entries cut }
+    requires cut { IsEntryCut from.place state.now.entries cut }
     ensures { IsTrue result ↔ AllZip (NamesAbove states.now) (children_of graph.now deadline state.now from.place (Some from)) numbers.now }
 {
     let _count = graph.vertex_count();
@@ -209,7 +209,7 @@ fn is_near(offset: u64, sep: u32, deadline: u32) -> bool
 
 // Whether the number is that of a state that dominates the child.
 fn names_above(states: &[StateClaim], state: &StateClaim, cut: Cut, turn: Turn, number: u32) -> bool
-    requires { IsCutAt turn.entry.place state.now.entries cut }
+    requires { IsEntryCut turn.entry.place state.now.entries cut }
     ensures { IsTrue result ↔ NamesAbove states.now (child_of state.now turn) number }
 {
     if number as usize >= states.len() {
@@ -234,7 +234,7 @@ fn is_no_less(all: u64, part: u64, more: u32) -> bool
 
 // Whether the entries are above the other ones with the entry put in.
 fn is_above(own: &[StateEntry], other: &[StateEntry], cut: Cut, entry: StateEntry) -> bool
-    requires { IsCutAt entry.place other.now cut }
+    requires { IsEntryCut entry.place other.now cut }
     ensures { IsTrue result ↔ AllZip IsEntryAbove own.now (with_entry entry other.now) }
 {
     if own.len() <= cut.at {

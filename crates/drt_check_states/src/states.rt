@@ -1,7 +1,7 @@
 //! Whether claimed states are states.
 ghost use Rattle.std.specs.Prelude.{◌<◌, ◌↔◌, All, IsTrue, length};
 ghost use Rattle.drt_states.specs.States.{AreStates, IsEntry, IsOpening, IsState};
-ghost use Rattle.drt_check_states.specs.Places.{AreInOrder, AreTasks, graphs_at};
+ghost use Rattle.drt_check_states.specs.Places.{ArePlacesInOrder, AreTasks, graphs_at};
 
 use drt_graph::Graphs;
 use drt_states::{StateClaim, StateEntry};
@@ -39,7 +39,7 @@ fn is_state(graphs: &Graphs, order: &[u32], state: &StateClaim) -> bool
 
 // Whether the places ascend.
 fn are_in_order(entries: &[StateEntry]) -> bool
-    ensures { IsTrue result ↔ AreInOrder entries.now }
+    ensures { IsTrue result ↔ ArePlacesInOrder entries.now }
 {
     for i in 1..entries.len() {
         if entries[i].place <= entries[i - 1].place {

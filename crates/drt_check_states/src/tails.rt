@@ -3,7 +3,7 @@ ghost use Rattle.std.specs.Prelude.{◌≡◌, ◌+◌, ◌<◌, ◌≤◌, ◌�
 ghost use Rattle.drt_model.specs.Digraph.{edge_of, out_degree, vertex_count};
 ghost use Rattle.drt_model.specs.Walk.{wcet};
 ghost use Rattle.drt_states.specs.Tails.{BoundsWalks, IsAboveJump, IsCurve, IsTail, curve_of, no_jump};
-ghost use Rattle.drt_check_states.specs.Curves.{IsAboveAll, IsOpened, IsOver};
+ghost use Rattle.drt_check_states.specs.Curves.{IsAboveAll, IsFunctionOpened, IsJumpOver};
 
 use crate::curves::{is_curve, value_before};
 use drt_graph::Graph;
@@ -53,7 +53,7 @@ fn curve<'a>(graph: &Graph, bound: u32, tail: &'a TailClaim, u: u32) -> &'a [Jum
 fn is_opened(graph: &Graph, bound: u32, tail: &TailClaim, u: u32) -> bool
     requires tail { IsTail bound graph.now tail.now }
     requires vertex { u < vertex_count graph.now }
-    ensures { IsTrue result ↔ IsOpened graph.now tail.now u }
+    ensures { IsTrue result ↔ IsFunctionOpened graph.now tail.now u }
 {
     graph.vertex(u).wcet as u64 <= curve(graph, bound, tail, u)[0].work
 }
@@ -91,7 +91,7 @@ fn is_above_edge(graph: &Graph, bound: u32, tail: &TailClaim, u: u32, k: u32) ->
 fn is_over(bound: u32, wcet: u32, sep: u32, own: &[Jump], other: &[Jump]) -> bool
     requires own { IsCurve bound own.now }
     requires other { IsCurve bound other.now }
-    ensures { IsTrue result ↔ All (IsOver bound wcet sep own.now) other.now }
+    ensures { IsTrue result ↔ All (IsJumpOver bound wcet sep own.now) other.now }
 {
     for jump in other {
         if jump.offset + sep as u64 >= bound as u64 {

@@ -7,7 +7,7 @@ use Rattle.drt_model.specs.Digraph.{Digraph}
 use Rattle.drt_model.specs.RequestFunction.{requested_from}
 use Rattle.drt_model.specs.Walk.{gap, wcet, work}
 use Rattle.drt_graph.proofs.Paths.{span_cons, span_none, work_cons, work_none}
-use Rattle.drt_check_trees.specs.Asking.{AsksNoLess, IsPlaced, asked_at, asked_from, span_of}
+use Rattle.drt_check_trees.specs.Asking.{AsksNoLess, IsCursorPlaced, asked_at, asked_from, span_of}
 use Rattle.drt_check_trees.specs.Gaps.{gap_to, leap}
 use Rattle.drt_check_trees.specs.declared.asking.Cursor.{Cursor}
 
@@ -105,7 +105,7 @@ module _ (g : Digraph) where
 
   -- What is known of a comparison at a place of the other walk.
   pub record IsSettled (bound : ℕ) (other walk : List ℕ) (i offset done : ℕ) (c : Cursor) : Type 0 where
-    pub placed : IsPlaced walk c
+    pub placed : IsCursorPlaced walk c
     pub offset_small : offset ≤ 1000000 * i
     pub done_small : done ≤ 1000000 * i
     pub least : done ≤ c.work
@@ -140,7 +140,7 @@ module _ (g : Digraph) where
             at (inl q) = let a = past q in let e = asks_none d.offset (drop d.place walk) (offset + 1) (omega (arith, a)) in omega (arith, e)
             at (inr q) = let e : asked_from g d.offset (drop d.place walk) (offset + 1) ≡ 0 = ap (λ xs. asked_from g d.offset xs (offset + 1)) (drop_all d.place walk q) in omega (arith, e)
 
-        pub settled_more : IsPlaced walk d → wcet g (get_or other i 0) ≤ 1000000 → leap g other i ≤ 1000000 → done + wcet g (get_or other i 0) ≤ d.work
+        pub settled_more : IsCursorPlaced walk d → wcet g (get_or other i 0) ≤ 1000000 → leap g other i ≤ 1000000 → done + wcet g (get_or other i 0) ≤ d.work
             → IsSettled bound other walk (i + 1) (offset + leap g other i) (done + wcet g (get_or other i 0)) d
         settled_more placed small short enough =
             let a = stays_same bound offset done (drop i other) (asked_at g walk c) (asked_at g walk d) same in

@@ -9,7 +9,7 @@ use Rattle.drt_model.specs.Walk.{gap, last_of, span, wcet}
 use Rattle.drt_graph.proofs.Paths.{last_both, span_both, span_cons, span_none}
 use Rattle.drt_claims.specs.Trees.{IsAbove, IsClosedWalk, IsExtendedWalk, IsShortWalk}
 use Rattle.drt_claims.specs.declared.evidence.TreeClaim.{TreeClaim}
-use Rattle.drt_check_trees.specs.Entries.{IsOver}
+use Rattle.drt_check_trees.specs.Entries.{IsWalkOver}
 
 module _ (g : Digraph) where
   -- What a release at the offset asks for before t.
@@ -41,11 +41,11 @@ module _ (g : Digraph) where
   span_one u vs v = let a = span_both g u vs (v ∷ []) in let b = span_cons g (last_of u vs) v [] in let c = span_none g v in omega (arith, a, b, c)
 
   module _ (bound : ℕ) where
-    pub over_self : (walk : List ℕ) → IsShortWalk bound g walk → IsOver bound g walk walk
+    pub over_self : (walk : List ℕ) → IsShortWalk bound g walk → IsWalkOver bound g walk walk
     over_self [] is = is
     over_self (u ∷ vs) is = (refl, omega arith, λ t l m. omega arith)
 
-    pub over_trans : (walk x y : List ℕ) → IsOver bound g walk x → IsOver bound g x y → IsOver bound g walk y
+    pub over_trans : (walk x y : List ℕ) → IsWalkOver bound g walk x → IsWalkOver bound g x y → IsWalkOver bound g walk y
     over_trans [] x y a b = a
     over_trans (u ∷ us) [] y a b = absurd a
     over_trans (u ∷ us) (v ∷ vs) [] a b = absurd b
@@ -67,7 +67,7 @@ module _ (g : Digraph) where
         )
 
     -- So where the extensions of a walk are dominated, those of each walk that it dominates are too.
-    pub closed_over : (tree : TreeClaim) (walk x : List ℕ) → IsOver bound g walk x → IsClosedWalk bound g tree x → IsClosedWalk bound g tree walk
+    pub closed_over : (tree : TreeClaim) (walk x : List ℕ) → IsWalkOver bound g walk x → IsClosedWalk bound g tree x → IsClosedWalk bound g tree walk
     closed_over tree [] x over closed = tt
     closed_over tree (u ∷ us) [] over closed = absurd over
     closed_over tree (u ∷ us) (v ∷ vs) over closed = λ k l.
@@ -80,7 +80,7 @@ module _ (g : Digraph) where
         extended k (inr (n, c, l, at, above)) =
             let to : ℕ = (edge_of g (last_of u us) k).to in
             let e : (edge_of g (last_of v vs) k).to ≡ (edge_of g (last_of u us) k).to = ap (λ n. (edge_of g n k).to) over.0 in
-            let here : IsOver bound g (v ∷ (vs ++ (edge_of g (last_of u us) k).to ∷ [])) c = subst (λ n. IsOver bound g (v ∷ (vs ++ n ∷ [])) c) e above in
+            let here : IsWalkOver bound g (v ∷ (vs ++ (edge_of g (last_of u us) k).to ∷ [])) c = subst (λ n. IsWalkOver bound g (v ∷ (vs ++ n ∷ [])) c) e above in
             inr (
               n,
               c,

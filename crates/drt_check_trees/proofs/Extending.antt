@@ -1,20 +1,20 @@
 -- A walk extended by an edge out of its last vertex.
 use Rattle.std.proofs.Common.{◌≡◌, ℕ, ◌+◌, ◌<◌, ◌≤◌, inl, inr, List, [], ◌∷◌, ◌++◌, sym, arith}
 use Rattle.std.specs.Prelude.{◌↔◌, Any}
-use Rattle.drt_model.specs.Digraph.{Digraph, IsSound, edge_of, out_degree, vertex_count}
+use Rattle.drt_model.specs.Digraph.{Digraph, IsSoundGraph, edge_of, out_degree, vertex_count}
 use Rattle.drt_model.specs.Walk.{IsEdge, gap, last_of, wcet, work}
 use Rattle.drt_graph.proofs.Edges.{gap_of, sep_of_edge}
 use Rattle.drt_graph.proofs.Paths.{path_both, span_both, span_cons, span_none, work_both, work_cons, work_none}
 use Rattle.drt_claims.specs.Trees.{IsClosedWalk, IsShortWalk}
 use Rattle.drt_claims.specs.declared.evidence.TreeClaim.{TreeClaim}
 use Rattle.drt_check_trees.specs.Asking.{span_of}
-use Rattle.drt_check_trees.specs.Entries.{IsExtendedBy, IsOver, last_in}
+use Rattle.drt_check_trees.specs.Entries.{IsExtendedBy, IsWalkOver, last_in}
 use Rattle.drt_check_trees.proofs.Ranks.{short_last}
 
 pub work_longer : (g : Digraph) (walk : List ℕ) (v : ℕ) → work g (walk ++ v ∷ []) ≡ work g walk + wcet g v
 work_longer g walk v = let a = work_both g walk (v ∷ []) in let b = work_cons g v [] in let c = work_none g in omega (arith, a, b, c)
 
-module _ (g : Digraph) (sound : IsSound g) (bound k : ℕ) where
+module _ (g : Digraph) (sound : IsSoundGraph g) (bound k : ℕ) where
   step : (u : ℕ) → u < vertex_count g → k < out_degree g u → (gap g u (edge_of g u k).to ≡ (edge_of g u k).sep) × IsEdge g u (edge_of g u k).to
   step u l m = gap_of g u (edge_of g u k).to (edge_of g u k).sep (sep_of_edge g sound u k l m)
 
@@ -47,11 +47,11 @@ module _ (g : Digraph) (bound k : ℕ) (tree : TreeClaim) where
 
   -- or else exactly where a walk of the tree dominates it.
   pub extended_near : (walk : List ℕ) → IsShortWalk bound g walk → span_of g walk + (edge_of g (last_in walk) k).sep < bound
-      → IsExtendedBy bound g tree walk k ↔ Any (IsOver bound g (walk ++ (edge_of g (last_in walk) k).to ∷ [])) tree.walks
+      → IsExtendedBy bound g tree walk k ↔ Any (IsWalkOver bound g (walk ++ (edge_of g (last_in walk) k).to ∷ [])) tree.walks
   extended_near [] is near = absurd is
   extended_near (u ∷ vs) is near = (goes, λ any. inr any)
     where
-      goes : IsExtendedBy bound g tree (u ∷ vs) k → Any (IsOver bound g (u ∷ vs ++ (edge_of g (last_of u vs) k).to ∷ [])) tree.walks
+      goes : IsExtendedBy bound g tree (u ∷ vs) k → Any (IsWalkOver bound g (u ∷ vs ++ (edge_of g (last_of u vs) k).to ∷ [])) tree.walks
       goes (inl far) = absurd (omega (arith, near))
       goes (inr any) = any
 

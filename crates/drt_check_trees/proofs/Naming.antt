@@ -9,7 +9,7 @@ use Rattle.std.proofs.lemmas.Option.{get_or_from_slice_get}
 use Rattle.drt_claims.specs.Trees.{IsTree, named}
 use Rattle.drt_claims.specs.declared.evidence.Pair.{Pair}
 use Rattle.drt_claims.specs.declared.evidence.TreeClaim.{TreeClaim}
-use Rattle.drt_check_trees.specs.Marks.{AreLower, IsLower, marked, names}
+use Rattle.drt_check_trees.specs.Marks.{AreLower, IsLowerPair, marked, names}
 
 same : (n : ℕ) → eqb n n ≡ true
 same n = grind (arith, nat_tests)
@@ -37,17 +37,17 @@ pub named_end : (pairs : List Pair) (i n : ℕ) → length pairs ≤ i → named
 named_end pairs i n l = ap (λ ps. named ps n) (drop_all i pairs l)
 
 -- One more pair that names lower nodes.
-pub lower_more : (walks : ℕ) (pairs : List Pair) (i : ℕ) (d : Pair) → i < length pairs → ((k : ℕ) (p : Pair) → k < i → slice_get pairs k ≡ Some p → IsLower (walks + k) p)
-    → IsLower (walks + i) (get_or pairs i d) → (k : ℕ) (p : Pair) → k < i + 1 → slice_get pairs k ≡ Some p → IsLower (walks + k) p
+pub lower_more : (walks : ℕ) (pairs : List Pair) (i : ℕ) (d : Pair) → i < length pairs → ((k : ℕ) (p : Pair) → k < i → slice_get pairs k ≡ Some p → IsLowerPair (walks + k) p)
+    → IsLowerPair (walks + i) (get_or pairs i d) → (k : ℕ) (p : Pair) → k < i + 1 → slice_get pairs k ≡ Some p → IsLowerPair (walks + k) p
 lower_more walks pairs i d l below here k p m at = go (cases_lt k i)
   where
-    go : (k < i) ⊎ (i ≤ k) → IsLower (walks + k) p
+    go : (k < i) ⊎ (i ≤ k) → IsLowerPair (walks + k) p
     go (inl q) = below k p q at
     go (inr q) =
         let e : i ≡ k = omega arith in
         let f : get_or pairs i d ≡ p = ap (λ n. get_or pairs n d) e ∙ get_or_from_slice_get pairs k p d at in
-        let g : IsLower (walks + i) p = subst (IsLower (walks + i)) f here in
-        subst (λ n. IsLower (walks + n) p) e g
+        let g : IsLowerPair (walks + i) p = subst (IsLowerPair (walks + i)) f here in
+        subst (λ n. IsLowerPair (walks + n) p) e g
 
 -- What the pairs name, where each names lower nodes, is marked: the claim is a tree exactly where all are.
 module _ (tree : TreeClaim) (some : 1 ≤ length tree.walks) (count : length tree.pairs + 1 ≡ length tree.walks) where

@@ -2,7 +2,7 @@
 use Rattle.std.proofs.Common.{◌≡◌, ℕ, ◌+◌, ◌<◌, ◌≤◌, List, [], ◌∷◌, Some, None, length, get_or, drop, sym, arith, ◌∙◌}
 use Rattle.std.specs.Prelude.{◌↔◌}
 use Rattle.std.proofs.lemmas.List.{drop_more, drop_all}
-use Rattle.drt_model.specs.Digraph.{Digraph, IsSound, vertex_count}
+use Rattle.drt_model.specs.Digraph.{Digraph, IsSoundGraph, vertex_count}
 use Rattle.drt_model.specs.Walk.{IsPath, gap, sep, span}
 use Rattle.drt_graph.proofs.Edges.{gap_of, target_of}
 use Rattle.drt_graph.proofs.Paths.{span_cons, span_none}
@@ -58,7 +58,7 @@ module _ (bound : ℕ) (g : Digraph) where
           let s = span_cons g at (get_or walk i 0) (drop (i + 1) walk) in
           omega (arith, r.1, q, s, over)
 
-      pub steps : IsSound g → (p : ℕ) → Some p ≡ sep g at (get_or walk i 0) → offset + p < bound → GoesOn bound g walk (get_or walk i 0) (offset + p) (i + 1)
+      pub steps : IsSoundGraph g → (p : ℕ) → Some p ≡ sep g at (get_or walk i 0) → offset + p < bound → GoesOn bound g walk (get_or walk i 0) (offset + p) (i + 1)
       steps sound p e below =
           let q = gap_of g at (get_or walk i 0) p (sym e) in
           let s = span_cons g at (get_or walk i 0) (drop (i + 1) walk) in

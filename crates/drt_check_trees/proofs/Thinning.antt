@@ -6,7 +6,7 @@ use Rattle.std.proofs.lemmas.List.{get_or-set_other, get_or-set_same, get_or-tak
 use Rattle.std.proofs.lemmas.List.Sorted.{IsNonDecreasingBy-from_default}
 use Rattle.drt_model.specs.Digraph.{Digraph}
 use Rattle.drt_claims.specs.Trees.{IsShortWalk}
-use Rattle.drt_check_trees.specs.Entries.{AreEntries, IsEntryOf, IsOver}
+use Rattle.drt_check_trees.specs.Entries.{AreWalkEntries, IsEntryOf, IsWalkOver}
 use Rattle.drt_check_trees.specs.declared.entries.Entry.{Entry}
 use Rattle.drt_check_trees.proofs.Domination.{over_self, over_trans}
 
@@ -23,7 +23,7 @@ module _ (bound : ℕ) (g : Digraph) (walks : List (List ℕ)) where
     pub place : ℕ
     pub low : place < kept
     pub within : place < length now
-    pub over : IsOver bound g (walk_of e) (walk_of (get_or now place none))
+    pub over : IsWalkOver bound g (walk_of e) (walk_of (get_or now place none))
 
   -- Of the entries there were first, those before i have been looked at, and as many as kept are kept.
   pub record IsThinned (first now : List Entry) (kept i : ℕ) : Type 0 where
@@ -36,8 +36,8 @@ module _ (bound : ℕ) (g : Digraph) (walks : List (List ℕ)) where
     pub below : (j k : ℕ) → j < kept → i ≤ k → k < length first → (get_or now j none).rank ≤ (get_or first k none).rank
     pub every : (j : ℕ) → j < i → j < length first → IsKept now kept (get_or first j none)
 
-  module _ (short : All (IsShortWalk bound g) walks) (first : List Entry) (are : AreEntries bound g walks first) where
-    own : (j : ℕ) → j < length first → IsOver bound g (walk_of (get_or first j none)) (walk_of (get_or first j none))
+  module _ (short : All (IsShortWalk bound g) walks) (first : List Entry) (are : AreWalkEntries bound g walks first) where
+    own : (j : ℕ) → j < length first → IsWalkOver bound g (walk_of (get_or first j none)) (walk_of (get_or first j none))
     own j l = over_self g bound (walk_of (get_or first j none)) (short (get_or first j none).number [] (are.each j none l).number)
 
     -- The first entry is kept.
@@ -62,7 +62,7 @@ module _ (bound : ℕ) (g : Digraph) (walks : List (List ℕ)) where
           (is.each (kept - 1) (omega (arith, is.some)) (omega (arith, is.few, is.some, l)))
 
       -- The entry is left out,
-      pub thinned_out : IsOver bound g (walk_of (get_or now i none)) (walk_of (get_or now (kept - 1) none)) → IsThinned first now kept (i + 1)
+      pub thinned_out : IsWalkOver bound g (walk_of (get_or now i none)) (walk_of (get_or now (kept - 1) none)) → IsThinned first now kept (i + 1)
       thinned_out over = record {
         long = is.long;
         some = is.some;
@@ -83,7 +83,7 @@ module _ (bound : ℕ) (g : Digraph) (walks : List (List ℕ)) where
                 place = kept - 1;
                 low = omega (arith, is.some);
                 within = omega (arith, is.some, is.few, is.long, l);
-                over = subst (λ (x : Entry). IsOver bound g (walk_of x) (walk_of (get_or now (kept - 1) none))) same over;
+                over = subst (λ (x : Entry). IsWalkOver bound g (walk_of x) (walk_of (get_or now (kept - 1) none))) same over;
               }
 
       -- or it is kept after those that are.
@@ -144,7 +144,7 @@ module _ (bound : ℕ) (g : Digraph) (walks : List (List ℕ)) where
                 place = was.place;
                 low = omega (arith, was.low);
                 within = omega (arith, was.within, length-set now kept (get_or now i none));
-                over = subst (λ (x : Entry). IsOver bound g (walk_of (get_or first j none)) (walk_of x)) (sym (other was.place (omega (arith, was.low)))) was.over;
+                over = subst (λ (x : Entry). IsWalkOver bound g (walk_of (get_or first j none)) (walk_of x)) (sym (other was.place (omega (arith, was.low)))) was.over;
               }
           every j m n (inr q) =
               let e : i ≡ j = omega arith in
@@ -152,11 +152,11 @@ module _ (bound : ℕ) (g : Digraph) (walks : List (List ℕ)) where
                 place = kept;
                 low = omega arith;
                 within = omega (arith, is.few, is.long, l, length-set now kept (get_or now i none));
-                over = subst (λ (x : Entry). IsOver bound g (walk_of (get_or first j none)) (walk_of x)) (sym (here kept refl ∙ ap (λ x. get_or first x none) e)) (own j n);
+                over = subst (λ (x : Entry). IsWalkOver bound g (walk_of (get_or first j none)) (walk_of x)) (sym (here kept refl ∙ ap (λ x. get_or first x none) e)) (own j n);
               }
 
     -- At the end those that are kept are enough.
-    pub thinned_end : (now : List Entry) (kept i : ℕ) → IsThinned first now kept i → length first ≤ i → AreEntries bound g walks (take kept now)
+    pub thinned_end : (now : List Entry) (kept i : ℕ) → IsThinned first now kept i → length first ≤ i → AreWalkEntries bound g walks (take kept now)
     thinned_end now kept i is end = record {
       each = λ k d l.
           let at = get_or_default (take kept now) k d none l ∙ get_or-take kept now k none (low k l) in
@@ -166,7 +166,7 @@ module _ (bound : ℕ) (g : Digraph) (walks : List (List ℕ)) where
           let e : Entry = found.1 in
           let same : get_or first found.0 none ≡ e = get_or_default first found.0 none e found.2 ∙ found.3 in
           let was = is.every found.0 (omega (arith, found.2, end)) found.2 in
-          let over = subst (λ (x : Entry). IsOver bound g (walk_of x) (walk_of (get_or now was.place none))) same was.over in
+          let over = subst (λ (x : Entry). IsWalkOver bound g (walk_of x) (walk_of (get_or now was.place none))) same was.over in
           let within : was.place < length (take kept now) = omega (arith, was.low, was.within, length-take kept now) in
           let at : get_or (take kept now) was.place none ≡ get_or now was.place none = get_or-take kept now was.place none was.low in (
             was.place,

@@ -6,7 +6,7 @@ use Rattle.drt_model.specs.Walk.{span}
 use Rattle.drt_check_trees.specs.declared.asking.Cursor.{Cursor}
 
 -- The list has vertices of the graph, and at most 1,000,000.
-pub record IsWithin (g : Digraph) (walk : List ℕ) : Type 0 where
+pub record AreWalkVertices (g : Digraph) (walk : List ℕ) : Type 0 where
   pub each : All (λ v. v < vertex_count g) walk
   pub few : length walk ≤ 1000000
 
@@ -25,7 +25,7 @@ abbrev pub asked_at : Digraph → List ℕ → Cursor → ℕ → ℕ
 asked_at g walk c t = c.work + asked_from g c.offset (drop c.place walk) t
 
 -- The cursor stands in the walk, and its numbers are small.
-pub record IsPlaced (walk : List ℕ) (c : Cursor) : Type 0 where
+pub record IsCursorPlaced (walk : List ℕ) (c : Cursor) : Type 0 where
   pub within : c.place ≤ length walk
   pub offset : c.offset ≤ 1000000 * c.place
   pub work : c.work ≤ 1000000 * c.place

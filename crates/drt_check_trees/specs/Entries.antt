@@ -29,14 +29,14 @@ pub record IsEntryOf (g : Digraph) (walks : List (List ℕ)) (e : Entry) : Type 
   pub digest : e.digest < 4294967296
 
 -- The second walk dominates the first.
-abbrev pub IsOver : ℕ → Digraph → List ℕ → List ℕ → Type 0
-IsOver bound g [] walk = ⊥
-IsOver bound g (u ∷ vs) walk = IsAbove bound g u vs walk
+abbrev pub IsWalkOver : ℕ → Digraph → List ℕ → List ℕ → Type 0
+IsWalkOver bound g [] walk = ⊥
+IsWalkOver bound g (u ∷ vs) walk = IsAbove bound g u vs walk
 
 -- The entries are of walks and in order, and each walk is dominated by that of an entry.
-pub record AreEntries (bound : ℕ) (g : Digraph) (walks : List (List ℕ)) (entries : List Entry) : Type 0 where
+pub record AreWalkEntries (bound : ℕ) (g : Digraph) (walks : List (List ℕ)) (entries : List Entry) : Type 0 where
   pub each : All (IsEntryOf g walks) entries
-  pub every : All (λ walk. Any (λ e. IsOver bound g walk (slice_index_or walks e.number [])) entries) walks
+  pub every : All (λ walk. Any (λ e. IsWalkOver bound g walk (slice_index_or walks e.number [])) entries) walks
   pub sorted : IsNonDecreasingBy (λ e. e.rank) entries
 
 -- There is an entry for each of the first walks, at their numbers.

@@ -11,9 +11,9 @@ abbrev pub names : Pair → ℕ → ℕ
 names p n = (if p.left == n then 1 else 0) + (if p.right == n then 1 else 0)
 
 -- A pair of this number names two lower nodes.
-abbrev pub IsLower : ℕ → Pair → Type 0
-IsLower own p = (p.left < own) × (p.right < own)
+abbrev pub IsLowerPair : ℕ → Pair → Type 0
+IsLowerPair own p = (p.left < own) × (p.right < own)
 
 -- Each pair names two lower nodes, where the first has the number after so many walks.
 abbrev pub AreLower : ℕ → List Pair → Type 0
-AreLower walks pairs = (i : ℕ) (p : Pair) → slice_get pairs i ≡ Some p → IsLower (walks + i) p
+AreLower walks pairs = (i : ℕ) (p : Pair) → slice_get pairs i ≡ Some p → IsLowerPair (walks + i) p

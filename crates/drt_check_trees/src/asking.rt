@@ -1,7 +1,7 @@
 //! What two walks ask for, compared.
 ghost use Rattle.std.specs.Prelude.{◌≡◌, ℕ, ◌↔◌, ◌<◌, ◌≤◌, IsTrue, length};
 ghost use Rattle.drt_model.specs.Walk.{work};
-ghost use Rattle.drt_check_trees.specs.Asking.{AsksNoLess, IsPlaced, IsWithin, asked_at, span_of};
+ghost use Rattle.drt_check_trees.specs.Asking.{AsksNoLess, IsCursorPlaced, AreWalkVertices, asked_at, span_of};
 ghost use Rattle.drt_check_trees.specs.Gaps.{AreGaps};
 
 use crate::gaps::next_offset;
@@ -25,7 +25,7 @@ pub struct Extent {
 /// The span and the work of the walk.
 pub(crate) fn measure(graph: &Graph, gaps: &[u32], walk: &[u32]) -> Extent
     requires gaps { AreGaps graph.now gaps.now }
-    requires within { IsWithin graph.now walk.now }
+    requires within { AreWalkVertices graph.now walk.now }
     ensures span { result.span ≡ span_of graph.now walk.now }
     ensures work { result.work ≡ work graph.now walk.now }
     ensures few { result.work ≤ 1000000000000 }
@@ -50,8 +50,8 @@ pub(crate) fn asks_no_less(
     other: &[u32],
 ) -> bool
     requires gaps { AreGaps graph.now gaps.now }
-    requires walk { IsWithin graph.now walk.now }
-    requires other { IsWithin graph.now other.now }
+    requires walk { AreWalkVertices graph.now walk.now }
+    requires other { AreWalkVertices graph.now other.now }
     ensures { IsTrue result ↔ AsksNoLess bound graph.now other.now walk.now }
 {
     let _count = graph.vertex_count();
@@ -79,9 +79,9 @@ pub(crate) fn asks_no_less(
 // The cursor past the releases up to the offset.
 fn advance(graph: &Graph, gaps: &[u32], walk: &[u32], from: Cursor, offset: u64) -> Cursor
     requires gaps { AreGaps graph.now gaps.now }
-    requires walk { IsWithin graph.now walk.now }
-    requires from { IsPlaced walk.now from }
-    ensures placed { IsPlaced walk.now result }
+    requires walk { AreWalkVertices graph.now walk.now }
+    requires from { IsCursorPlaced walk.now from }
+    ensures placed { IsCursorPlaced walk.now result }
     ensures same { (t : ℕ) → offset < t → asked_at graph.now walk.now result t ≡ asked_at graph.now walk.now from t }
     ensures past { result.place < length walk.now → offset < result.offset }
 {

@@ -5,7 +5,7 @@ ghost use Rattle.drt_model.specs.Walk.{work};
 ghost use Rattle.drt_claims.specs.Claims.{Each, graphs_of};
 ghost use Rattle.drt_claims.specs.Trees.{CoversWalks, HasOpeningWalks, HasShortWalks, IsClosedWalk, IsShortWalk, IsTreePerHigherTask, greatest_deadline, tree_graphs};
 ghost use Rattle.drt_check_trees.specs.Asking.{span_of};
-ghost use Rattle.drt_check_trees.specs.Entries.{AreEntries, IsExtendedBy, last_in};
+ghost use Rattle.drt_check_trees.specs.Entries.{AreWalkEntries, IsExtendedBy, last_in};
 ghost use Rattle.drt_check_trees.specs.Gaps.{AreGaps};
 ghost use Rattle.drt_check_trees.specs.Order.{IsPriorityOrder};
 
@@ -90,7 +90,7 @@ fn has_openings(
     requires from { 1 ≤ bound }
     requires to { bound ≤ 1000000 }
     requires short { HasShortWalks bound graph.now tree.now }
-    requires entries { AreEntries bound graph.now tree.now.walks entries.now }
+    requires entries { AreWalkEntries bound graph.now tree.now.walks entries.now }
     ensures { IsTrue result ↔ HasOpeningWalks bound graph.now tree.now }
 {
     for v in 0..graph.vertex_count() {
@@ -129,7 +129,7 @@ fn are_closed(
     requires gaps { AreGaps graph.now gaps.now }
     requires bound { bound ≤ 1000000 }
     requires short { HasShortWalks bound graph.now tree.now }
-    requires entries { AreEntries bound graph.now tree.now.walks entries.now }
+    requires entries { AreWalkEntries bound graph.now tree.now.walks entries.now }
     ensures { IfOk result (λ closed. IsTrue closed ↔ All (IsClosedWalk bound graph.now tree.now) tree.now.walks) }
 {
     let walks = tree.walks.as_slice();
@@ -164,7 +164,7 @@ fn is_closed(
     requires gaps { AreGaps graph.now gaps.now }
     requires bound { bound ≤ 1000000 }
     requires short { HasShortWalks bound graph.now tree.now }
-    requires entries { AreEntries bound graph.now tree.now.walks entries.now }
+    requires entries { AreWalkEntries bound graph.now tree.now.walks entries.now }
     requires walk { IsShortWalk bound graph.now walk.now }
     ensures { IfOk result (λ closed. IsTrue closed ↔ IsClosedWalk bound graph.now tree.now walk.now) }
 {
@@ -197,7 +197,7 @@ fn is_extended(
     requires gaps { AreGaps graph.now gaps.now }
     requires bound { bound ≤ 1000000 }
     requires short { HasShortWalks bound graph.now tree.now }
-    requires entries { AreEntries bound graph.now tree.now.walks entries.now }
+    requires entries { AreWalkEntries bound graph.now tree.now.walks entries.now }
     requires walk { IsShortWalk bound graph.now walk.now }
     requires span { extent.span ≡ span_of graph.now walk.now }
     requires work { extent.work ≡ work graph.now walk.now }

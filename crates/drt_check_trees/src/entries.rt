@@ -3,8 +3,8 @@ ghost use Rattle.std.specs.Prelude.{◌≡◌, ℕ, ◌↔◌, ◌<◌, ◌≤�
 ghost use Rattle.std.specs.List.Sorted.{IsNonDecreasingBy};
 ghost use Rattle.drt_model.specs.Walk.{work};
 ghost use Rattle.drt_claims.specs.Trees.{IsShortWalk};
-ghost use Rattle.drt_check_trees.specs.Asking.{AsksNoLess, IsWithin, span_of};
-ghost use Rattle.drt_check_trees.specs.Entries.{AreEntries, IsEntryOf, IsListed, IsOver, last_in, order_of, rank_of};
+ghost use Rattle.drt_check_trees.specs.Asking.{AsksNoLess, AreWalkVertices, span_of};
+ghost use Rattle.drt_check_trees.specs.Entries.{AreWalkEntries, IsEntryOf, IsListed, IsWalkOver, last_in, order_of, rank_of};
 ghost use Rattle.drt_check_trees.specs.Gaps.{AreGaps};
 ghost use Rattle.drt_check_trees.specs.declared.entries.Entry.{Entry};
 
@@ -61,7 +61,7 @@ pub(crate) fn entries_of(
     requires gaps { AreGaps graph.now gaps.now }
     requires bound { bound ≤ 1000000 }
     requires short { All (IsShortWalk bound graph.now) walks.now }
-    ensures { IfOk result (λ entries. AreEntries bound graph.now walks.now entries.items) }
+    ensures { IfOk result (λ entries. AreWalkEntries bound graph.now walks.now entries.items) }
 {
     let mut entries = listed(alloc, graph, gaps, bound, walks)?;
     entries.sort_unstable_by_key(
@@ -83,8 +83,8 @@ fn thinned(
     requires gaps { AreGaps graph.now gaps.now }
     requires bound { bound ≤ 1000000 }
     requires short { All (IsShortWalk bound graph.now) walks.now }
-    requires all { AreEntries bound graph.now walks.now all.items }
-    ensures { AreEntries bound graph.now walks.now result.items }
+    requires all { AreWalkEntries bound graph.now walks.now all.items }
+    ensures { AreWalkEntries bound graph.now walks.now result.items }
 {
     let mut entries = all;
     let mut kept = 1;
@@ -117,7 +117,7 @@ fn is_over(
     requires entry { IsEntryOf graph.now walks.now entry }
     requires walk { IsShortWalk bound graph.now walk.now }
     requires span { span ≡ span_of graph.now walk.now }
-    ensures { IsTrue result ↔ IsOver bound graph.now walk.now (slice_index_or walks.now entry.number []) }
+    ensures { IsTrue result ↔ IsWalkOver bound graph.now walk.now (slice_index_or walks.now entry.number []) }
 {
     if last_in(walks[entry.number].as_slice()) != last_in(walk) {
         return false;
@@ -168,7 +168,7 @@ fn entry_of(graph: &Graph, gaps: &[u32], bound: u32, walk: &[u32], number: usize
 // A number that walks of the same releases share, and that few others share with them.
 fn digest_of(graph: &Graph, gaps: &[u32], walk: &[u32]) -> u32
     requires gaps { AreGaps graph.now gaps.now }
-    requires within { IsWithin graph.now walk.now }
+    requires within { AreWalkVertices graph.now walk.now }
     ensures { result < 4294967296 }
 {
     let _count = graph.vertex_count();
@@ -235,10 +235,10 @@ fn is_over_at(
     requires gaps { AreGaps graph.now gaps.now }
     requires bound { bound ≤ 1000000 }
     requires short { All (IsShortWalk bound graph.now) walks.now }
-    requires entries { AreEntries bound graph.now walks.now entries.now }
+    requires entries { AreWalkEntries bound graph.now walks.now entries.now }
     requires walk { IsShortWalk bound graph.now walk.now }
     requires span { span ≡ span_of graph.now walk.now }
-    ensures { IsTrue result → Any (IsOver bound graph.now walk.now) walks.now }
+    ensures { IsTrue result → Any (IsWalkOver bound graph.now walk.now) walks.now }
 {
     place < entries.len() && is_over(graph, gaps, bound, walks, entries[place], walk, span)
 }
@@ -269,11 +269,11 @@ pub(crate) fn has_above(
     requires gaps { AreGaps graph.now gaps.now }
     requires bound { bound ≤ 1000000 }
     requires short { All (IsShortWalk bound graph.now) walks.now }
-    requires entries { AreEntries bound graph.now walks.now entries.now }
+    requires entries { AreWalkEntries bound graph.now walks.now entries.now }
     requires walk { IsShortWalk bound graph.now walk.now }
     requires span { extent.span ≡ span_of graph.now walk.now }
     requires work { extent.work ≡ work graph.now walk.now }
-    ensures { IsTrue result ↔ Any (IsOver bound graph.now walk.now) walks.now }
+    ensures { IsTrue result ↔ Any (IsWalkOver bound graph.now walk.now) walks.now }
 {
     let _count = graph.vertex_count();
     let last = last_in(walk);

@@ -1,7 +1,7 @@
 //! The separations of a graph, laid out so that each is found by one look.
 ghost use Rattle.std.specs.Prelude.{◌≡◌, ◌+◌, ◌<◌, ◌≤◌, IfOk, length};
 ghost use Rattle.drt_model.specs.Walk.{gap};
-ghost use Rattle.drt_check_trees.specs.Asking.{IsWithin};
+ghost use Rattle.drt_check_trees.specs.Asking.{AreWalkVertices};
 ghost use Rattle.drt_check_trees.specs.Gaps.{AreGaps, leap};
 
 use drt_graph::Graph;
@@ -42,7 +42,7 @@ pub(crate) fn next_offset(
     offset: u64,
 ) -> u64
     requires gaps { AreGaps graph.now gaps.now }
-    requires walk { IsWithin graph.now walk.now }
+    requires walk { AreWalkVertices graph.now walk.now }
     requires place { place < length walk.now }
     requires offset { offset ≤ 1000000000000 }
     ensures value { result ≡ offset + leap graph.now walk.now place }

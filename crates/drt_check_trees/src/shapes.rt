@@ -1,7 +1,7 @@
 //! Whether claims have the shape of trees.
 ghost use Rattle.std.specs.Prelude.{◌≡◌, ℕ, ◌+◌, ◌<◌, ◌≤◌, ◌↔◌, All, IfOk, IsTrue, false, true, length};
 ghost use Rattle.drt_claims.specs.Trees.{IsTree, named};
-ghost use Rattle.drt_check_trees.specs.Marks.{AreLower, IsLower, marked, names};
+ghost use Rattle.drt_check_trees.specs.Marks.{AreLower, IsLowerPair, marked, names};
 
 use drt_claims::{Pair, TreeClaim};
 use drt_model::Memory;
@@ -62,8 +62,8 @@ fn name_all(marks: &mut [bool], walks: usize, pairs: &[Pair]) -> bool
 // Marks the two nodes that a pair names, which has the number `own`: whether they are below it and neither was marked.
 fn name_pair(marks: &mut [bool], own: usize, pair: Pair) -> bool
     requires { own ≤ length marks.old }
-    ensures kept { result ≡ true → IsLower own pair × ((n : ℕ) → marked marks.new n ≡ marked marks.old n + names pair n) }
-    ensures broken { result ≡ false → IsLower own pair → (n : ℕ) × (n < own) × (2 ≤ marked marks.old n + names pair n) }
+    ensures kept { result ≡ true → IsLowerPair own pair × ((n : ℕ) → marked marks.new n ≡ marked marks.old n + names pair n) }
+    ensures broken { result ≡ false → IsLowerPair own pair → (n : ℕ) × (n < own) × (2 ≤ marked marks.old n + names pair n) }
 {
     let left = pair.left as usize;
     let right = pair.right as usize;

@@ -2,7 +2,7 @@
 use Rattle.std.proofs.Common.{◌≡◌, ◌≢◌, ℕ, zero, suc, ◌+◌, ◌-◌, ◌*◌, ◌/◌, ◌%◌, ◌<◌, ◌≤◌, List, [], ◌∷◌, ◌++◌, length, get_or, take, drop, ◌⊎◌, inl, inr, refl, sym, ap, arith, ◌∙◌}
 use Rattle.std.specs.Prelude.{max}
 use Rattle.std.proofs.lemmas.List.{length-drop, drop_more, take_more, get_or-drop}
-use Rattle.drt_check_values.specs.Greatest.{greatest, IsJoined}
+use Rattle.drt_check_values.specs.Greatest.{greatest, AreGreatestJoined}
 
 pub greatest_none : greatest [] ≡ 0
 unfolding greatest
@@ -44,7 +44,7 @@ run_back nodes l n p =
         plain : (n : ℕ) → max n 0 ≡ n
         plain n = grind arith
 
-run_halved : (nodes : List ℕ) (l n : ℕ) → IsJoined nodes → 1 ≤ l → 2 * (l + n) ≤ length nodes → run nodes (2 * l) (2 * n) ≡ run nodes l n
+run_halved : (nodes : List ℕ) (l n : ℕ) → AreGreatestJoined nodes → 1 ≤ l → 2 * (l + n) ≤ length nodes → run nodes (2 * l) (2 * n) ≡ run nodes l n
 run_halved nodes l zero joined some within = refl
 run_halved nodes l (suc n) joined some within =
     let here = joined l some (omega arith) in
@@ -86,7 +86,7 @@ back_out nodes l r most p q =
     grouped a b c = grind arith
 
 -- A run between even ends, and the one above it.
-halved : (nodes : List ℕ) (l r : ℕ) → IsJoined nodes → 1 ≤ l → l ≤ r → r ≤ length nodes → l % 2 ≡ 0 → r % 2 ≡ 0
+halved : (nodes : List ℕ) (l r : ℕ) → AreGreatestJoined nodes → 1 ≤ l → l ≤ r → r ≤ length nodes → l % 2 ≡ 0 → r % 2 ≡ 0
     → run nodes l (r - l) ≡ run nodes (l / 2) (r / 2 - l / 2)
 halved nodes l r joined some order within le re =
     let a : l ≡ 2 * (l / 2) = omega arith in
@@ -122,7 +122,7 @@ back_facts r r' value m m' (inl t) = (omega (arith, t.0, t.1), omega (arith, t.1
 back_facts r r' value m m' (inr t) = (omega (arith, t.0, t.1), omega (arith, t.1), omega (arith, t.1), λ e. t.1)
 
 -- Both ends are made even, and the run above is gone on with.
-pub level_up : (nodes : List ℕ) (whole l r m l' m' r' m'' : ℕ) → IsJoined nodes → IsLeft nodes whole l r m → l < r
+pub level_up : (nodes : List ℕ) (whole l r m l' m' r' m'' : ℕ) → AreGreatestJoined nodes → IsLeft nodes whole l r m → l < r
     → TakenOut l l' (l + 1) (get_or nodes l 0) m m' → TakenOut r r' (r - 1) (get_or nodes (r - 1) 0) m' m''
     → IsLeft nodes whole (l' / 2) (r' / 2) m''
 level_up nodes whole l r m l' m' r' m'' joined is p front back =

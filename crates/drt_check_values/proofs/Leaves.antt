@@ -15,7 +15,7 @@ use Rattle.drt_model.specs.Digraph.{Digraph}
 use Rattle.drt_claims.specs.declared.evidence.TreeClaim.{TreeClaim}
 use Rattle.drt_claims.specs.Trees.{IsTree, asked, node_values, root}
 use Rattle.drt_check_values.specs.Greatest.{greatest}
-use Rattle.drt_check_values.specs.Leaves.{grown, leaf_lists, leaves_below, leaf_order, node_count, IsFirst}
+use Rattle.drt_check_values.specs.Leaves.{grown, leaf_lists, leaves_below, leaf_order, node_count, IsFirstLeaf}
 use Rattle.drt_check_values.proofs.Growing.{no_pair, HasParts, IsGrown, grown_is, joined_grown, each_node}
 use Rattle.drt_check_values.proofs.Counting.{tick, last_sum, has_pair, sum_one, sum_same, sum_below, sum_next, sum_none}
 use Rattle.drt_check_values.proofs.Halving.{greatest_none, greatest_cons, greatest-append}
@@ -180,11 +180,11 @@ size_most tree is n l = go (node_count tree) n l (omega arith)
     go (suc d) n l p = step n l (λ m q r. go d m r (omega arith)) (cases_lt (n + 1) (node_count tree))
 
 -- All leaves stand at the start.
-pub root_first : (tree : TreeClaim) → IsFirst tree (root tree) 0
+pub root_first : (tree : TreeClaim) → IsFirstLeaf tree (root tree) 0
 root_first tree = take_all (length (leaf_order tree)) (leaf_order tree) (omega arith)
 
 -- The leaves below a pair's left part stand where those below the pair do, and those below the right one after them.
-pub left_first : (tree : TreeClaim) → IsTree tree → (i f : ℕ) → i < length tree.pairs → IsFirst tree (length tree.walks + i) f → IsFirst tree (left_of tree i) f
+pub left_first : (tree : TreeClaim) → IsTree tree → (i f : ℕ) → i < length tree.pairs → IsFirstLeaf tree (length tree.walks + i) f → IsFirstLeaf tree (left_of tree i) f
 left_first tree is i f l first =
     let a = leaves_below tree (left_of tree i) in
     let b = leaves_below tree (right_of tree i) in
@@ -193,8 +193,8 @@ left_first tree is i f l first =
     let n : length a ≤ length (a ++ b) = (let e = length-append a b in omega (arith, e)) in
     sym (take-take (length a) (length (a ++ b)) o n) ∙ (ap (take (length a)) whole ∙ take_at a b (length a) refl)
 
-pub right_first : (tree : TreeClaim) → IsTree tree → (i f : ℕ) → i < length tree.pairs → IsFirst tree (length tree.walks + i) f
-    → IsFirst tree (right_of tree i) (f + length (leaves_below tree (left_of tree i)))
+pub right_first : (tree : TreeClaim) → IsTree tree → (i f : ℕ) → i < length tree.pairs → IsFirstLeaf tree (length tree.walks + i) f
+    → IsFirstLeaf tree (right_of tree i) (f + length (leaves_below tree (left_of tree i)))
 right_first tree is i f l first =
     let a = leaves_below tree (left_of tree i) in
     let b = leaves_below tree (right_of tree i) in
@@ -204,7 +204,7 @@ right_first tree is i f l first =
     ap (take (length b)) (sym (drop-drop (length a) f (leaf_order tree))) ∙ (sym (drop-take (length a) (length b) o) ∙ (ap (drop (length a)) sum ∙ drop_at a b (length a) refl))
 
 -- The leaves below a node end within the order.
-pub first_fits : (tree : TreeClaim) → IsTree tree → (n f : ℕ) → n < node_count tree → IsFirst tree n f → f + length (leaves_below tree n) ≤ length (leaf_order tree)
+pub first_fits : (tree : TreeClaim) → IsTree tree → (n f : ℕ) → n < node_count tree → IsFirstLeaf tree n f → f + length (leaves_below tree n) ≤ length (leaf_order tree)
 first_fits tree is n f l first =
     let a = leaves_below tree n in
     let e = ap length first in
@@ -214,7 +214,7 @@ first_fits tree is n f l first =
     omega (arith, e, t, d, s)
 
 -- The place of a walk has it.
-pub walk_first : (tree : TreeClaim) → IsTree tree → (w f : ℕ) → w < length tree.walks → IsFirst tree w f → get_or (leaf_order tree) f 0 ≡ w
+pub walk_first : (tree : TreeClaim) → IsTree tree → (w f : ℕ) → w < length tree.walks → IsFirstLeaf tree w f → get_or (leaf_order tree) f 0 ≡ w
 walk_first tree is w f l first =
     let single : take 1 (drop f (leaf_order tree)) ≡ w ∷ [] = subst (λ (xs : List ℕ). take (length xs) (drop f (leaf_order tree)) ≡ xs) (leaf_at tree is w l) first in
     let at : get_or (take 1 (drop f (leaf_order tree))) 0 0 ≡ w = ap (λ xs. get_or xs 0 0) single in
@@ -269,7 +269,7 @@ node_value g tree is t = each_node (length tree.walks) tree.pairs (λ n. get_or 
         ∙ (ap greatest (sym (map-append v xs ys)) ∙ ap (λ zs. greatest (map v zs)) (sym (pair_at tree is i l)))))))
 
 -- So where the places have the values of their walks, it is the greatest value from the node's first place on.
-pub value_found : (g : Digraph) (tree : TreeClaim) → IsTree tree → (t n f : ℕ) (values : List ℕ) → n < node_count tree → IsFirst tree n f
+pub value_found : (g : Digraph) (tree : TreeClaim) → IsTree tree → (t n f : ℕ) (values : List ℕ) → n < node_count tree → IsFirstLeaf tree n f
     → values ≡ map (asked_of g tree t) (leaf_order tree)
     → greatest (take (length (leaves_below tree n)) (drop f values)) ≡ get_or (node_values g tree t) n 0
 value_found g tree is t n f values l first e =

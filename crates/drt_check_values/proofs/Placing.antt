@@ -4,7 +4,7 @@ use Rattle.std.proofs.lemmas.Bool.{cases_lt, cases_eq}
 use Rattle.std.proofs.lemmas.List.{ext_get_or, get_or-map, length-map, length-set, length-append, length-replicate, get_or-replicate, get_or_read, get_or-set_same, get_or-set_other}
 use Rattle.drt_claims.specs.declared.evidence.TreeClaim.{TreeClaim}
 use Rattle.drt_claims.specs.Trees.{IsTree, root}
-use Rattle.drt_check_values.specs.Leaves.{leaf_lists, leaves_below, node_count, AreSizes, IsFirst, AreFirsts}
+use Rattle.drt_check_values.specs.Leaves.{leaf_lists, leaves_below, node_count, AreSizes, IsFirstLeaf, AreFirsts}
 use Rattle.drt_claims.specs.declared.evidence.Pair.{Pair}
 use Rattle.drt_check_values.proofs.Growing.{no_pair}
 use Rattle.drt_check_values.proofs.Counting.{has_pair}
@@ -72,8 +72,8 @@ IsPartFrom tree i n = (j : ℕ) × (i ≤ j) × (j < length tree.pairs) × ((lef
 -- The root and the parts of the pairs from i on have their places.
 pub record AreFirstsFrom (tree : TreeClaim) (i : ℕ) (firsts : List ℕ) : Type 0 where
   pub count : length firsts ≡ node_count tree
-  pub top : IsFirst tree (root tree) (get_or firsts (root tree) 0)
-  pub each : (n : ℕ) → IsPartFrom tree i n → IsFirst tree n (get_or firsts n 0)
+  pub top : IsFirstLeaf tree (root tree) (get_or firsts (root tree) 0)
+  pub each : (n : ℕ) → IsPartFrom tree i n → IsFirstLeaf tree n (get_or firsts n 0)
 
 -- A node but the root is a part of a pair above it.
 part_above : (tree : TreeClaim) → IsTree tree → (n : ℕ) → n + 1 < node_count tree → (j : ℕ) × (j < length tree.pairs) × ((left_of tree j ≡ n) ⊎ (right_of tree j ≡ n)) × (n < length tree.walks + j)
@@ -82,16 +82,16 @@ part_above tree is n l = has_pair (length tree.walks) tree.pairs (parts tree is)
 pub firsts_first : (tree : TreeClaim) → IsTree tree → (i : ℕ) → length tree.pairs ≤ i → AreFirstsFrom tree i (replicate (node_count tree) 0)
 firsts_first tree is i l = record {
   count = length-replicate (node_count tree) 0;
-  top = subst (IsFirst tree (root tree)) (sym (get_or-replicate (node_count tree) (root tree) 0 0 (root_node tree is))) (root_first tree);
+  top = subst (IsFirstLeaf tree (root tree)) (sym (get_or-replicate (node_count tree) (root tree) 0 0 (root_node tree is))) (root_first tree);
   each = λ n (j, p, q, r). absurd (omega arith);
 }
 
 -- A pair has its place before its parts.
 pub pair_placed : (tree : TreeClaim) → IsTree tree → (i : ℕ) (firsts : List ℕ) → i < length tree.pairs → AreFirstsFrom tree (i + 1) firsts
-    → IsFirst tree (length tree.walks + i) (get_or firsts (length tree.walks + i) 0)
+    → IsFirstLeaf tree (length tree.walks + i) (get_or firsts (length tree.walks + i) 0)
 pair_placed tree is i firsts l are = go (cases_lt (length tree.walks + i + 1) (node_count tree))
   where
-    go : (length tree.walks + i + 1 < node_count tree) ⊎ (node_count tree ≤ length tree.walks + i + 1) → IsFirst tree (length tree.walks + i) (get_or firsts (length tree.walks + i) 0)
+    go : (length tree.walks + i + 1 < node_count tree) ⊎ (node_count tree ≤ length tree.walks + i + 1) → IsFirstLeaf tree (length tree.walks + i) (get_or firsts (length tree.walks + i) 0)
     go (inl p) = (let a = part_above tree is (length tree.walks + i) p in are.each (length tree.walks + i) (a.0, omega (arith, a.3), a.1, a.2))
     go (inr p) = (let e : length tree.walks + i ≡ root tree = omega arith in rw e are.top)
 
@@ -112,7 +112,7 @@ firsts_next tree is i size firsts l are e = record {
     counted : length once ≡ node_count tree
     counted = length-set firsts (left_of tree i) f ∙ are.count
 
-    placed : IsFirst tree (length tree.walks + i) f
+    placed : IsFirstLeaf tree (length tree.walks + i) f
     placed = pair_placed tree is i firsts l are
 
     p : left_of tree i < length tree.walks + i
@@ -121,20 +121,20 @@ firsts_next tree is i size firsts l are e = record {
     r : right_of tree i < length tree.walks + i
     r = (parts tree is).right i l
 
-    kept : (n : ℕ) → IsFirst tree n (get_or firsts n 0) → n ≢ left_of tree i → n ≢ right_of tree i → IsFirst tree n (get_or (set once (right_of tree i) (f + size)) n 0)
-    kept n was a b = subst (IsFirst tree n) (sym (get_or-set_other once (right_of tree i) n (f + size) 0 b ∙ get_or-set_other firsts (left_of tree i) n f 0 a)) was
+    kept : (n : ℕ) → IsFirstLeaf tree n (get_or firsts n 0) → n ≢ left_of tree i → n ≢ right_of tree i → IsFirstLeaf tree n (get_or (set once (right_of tree i) (f + size)) n 0)
+    kept n was a b = subst (IsFirstLeaf tree n) (sym (get_or-set_other once (right_of tree i) n (f + size) 0 b ∙ get_or-set_other firsts (left_of tree i) n f 0 a)) was
 
-    rights : IsFirst tree (right_of tree i) (f + size)
+    rights : IsFirstLeaf tree (right_of tree i) (f + size)
     rights = rw e (right_first tree is i f l placed)
 
     go : (n : ℕ) → IsPartFrom tree i n → (n ≡ right_of tree i) ⊎ (n ≢ right_of tree i) → (n ≡ left_of tree i) ⊎ (n ≢ left_of tree i)
-        → IsFirst tree n (get_or (set once (right_of tree i) (f + size)) n 0)
+        → IsFirstLeaf tree n (get_or (set once (right_of tree i) (f + size)) n 0)
     go n from (inl a) b =
-        rw a (subst (IsFirst tree (right_of tree i)) (sym (get_or-set_same once (right_of tree i) (f + size) 0 (omega (arith, counted, r)))) rights)
+        rw a (subst (IsFirstLeaf tree (right_of tree i)) (sym (get_or-set_same once (right_of tree i) (f + size) 0 (omega (arith, counted, r)))) rights)
     go n from (inr a) (inl b) =
         let at : get_or (set once (right_of tree i) (f + size)) n 0 ≡ f = get_or-set_other once (right_of tree i) n (f + size) 0 a ∙ (ap (λ k. get_or once k 0) b ∙ get_or-set_same
         firsts (left_of tree i) f 0 (omega (arith, are.count, p))) in
-        subst (IsFirst tree n) (sym at) (subst (λ k. IsFirst tree k f) (sym b) (left_first tree is i f l placed))
+        subst (IsFirstLeaf tree n) (sym at) (subst (λ k. IsFirstLeaf tree k f) (sym b) (left_first tree is i f l placed))
     go n (j, s, t, part) (inr a) (inr b) = kept n (are.each n (j, later (cases_lt i j) part, t, part)) b a
       where
         later : (i < j) ⊎ (j ≤ i) → (left_of tree j ≡ n) ⊎ (right_of tree j ≡ n) → i + 1 ≤ j
@@ -145,7 +145,7 @@ firsts_next tree is i size firsts l are e = record {
 pub firsts_all : (tree : TreeClaim) → IsTree tree → (firsts : List ℕ) → AreFirstsFrom tree 0 firsts → AreFirsts tree firsts
 firsts_all tree is firsts are = record { count = are.count; each = λ n l. go n l (cases_lt (n + 1) (node_count tree)) }
   where
-    go : (n : ℕ) → n < node_count tree → (n + 1 < node_count tree) ⊎ (node_count tree ≤ n + 1) → IsFirst tree n (get_or firsts n 0)
+    go : (n : ℕ) → n < node_count tree → (n + 1 < node_count tree) ⊎ (node_count tree ≤ n + 1) → IsFirstLeaf tree n (get_or firsts n 0)
     go n l (inl p) = (let a = part_above tree is n p in are.each n (a.0, omega arith, a.1, a.2))
     go n l (inr p) = (let e : n ≡ root tree = omega arith in rw e are.top)
 

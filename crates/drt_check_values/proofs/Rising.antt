@@ -5,7 +5,7 @@ use Rattle.std.proofs.lemmas.Bool.{cases_lt, cases_eq, eqb-true, eqb-false, lt-l
 use Rattle.std.proofs.lemmas.List.{append_assoc}
 use Rattle.std.proofs.lemmas.List.Elements.{All-nil, All-cons, All-append}
 use Rattle.std.proofs.lemmas.List.Sums.{sum_by-cons, sum_by-append}
-use Rattle.drt_model.specs.Digraph.{Digraph, IsSound, vertex_count}
+use Rattle.drt_model.specs.Digraph.{Digraph, IsSoundGraph, vertex_count}
 use Rattle.drt_model.specs.Walk.{gap, wcet, IsPath, span}
 use Rattle.drt_model.specs.RequestFunction.{requested_from}
 use Rattle.drt_graph.proofs.Edges.{target_of}
@@ -13,7 +13,7 @@ use Rattle.drt_graph.proofs.Paths.{span_cons, span_none}
 use Rattle.drt_claims.specs.declared.evidence.TreeClaim.{TreeClaim}
 use Rattle.drt_claims.specs.Trees.{HasShortWalks, IsTree, IsShortWalk, asked, root}
 use Rattle.drt_check_values.specs.declared.rises.Rise.{Rise}
-use Rattle.drt_check_values.specs.Leaves.{leaf_order, IsFirst}
+use Rattle.drt_check_values.specs.Leaves.{leaf_order, IsFirstLeaf}
 use Rattle.drt_check_values.specs.Rises.{AreRises, added, asked_at, rise_at, rises_along, rises_from, risen}
 use Rattle.drt_check_values.proofs.Leaves.{first_fits, leaves_some, leaves_small, order_count, order_same, root_node, walk_first}
 
@@ -47,7 +47,7 @@ started g place bound items u (v ∷ vs) is some at =
     })
 
 -- The next one.
-pub stepped : (g : Digraph) → IsSound g → (place bound : ℕ) (whole items : List Rise) (x u v : ℕ) (rest : List ℕ) → IsStep g place bound whole items x u (v ∷ rest)
+pub stepped : (g : Digraph) → IsSoundGraph g → (place bound : ℕ) (whole items : List Rise) (x u v : ℕ) (rest : List ℕ) → IsStep g place bound whole items x u (v ∷ rest)
     → IsStep g place bound whole (items ++ rise_at g place (x + gap g u v) v ∷ []) (x + gap g u v) v rest
 stepped g sound place bound whole items x u v rest step =
     let y = x + gap g u v in
@@ -133,7 +133,7 @@ rises_first g tree = record {
 
 -- The releases of one walk more.
 pub rises_next : (g : Digraph) (tree : TreeClaim) → IsTree tree → (bound : ℕ) → bound ≤ 1000000 → HasShortWalks bound g tree → (i first : ℕ) (rises : List Rise)
-    → i < length tree.walks → AreRisesTo g tree i rises → IsFirst tree i first
+    → i < length tree.walks → AreRisesTo g tree i rises → IsFirstLeaf tree i first
     → AreRisesTo g tree (i + 1) (rises ++ rises_along g first (get_or tree.walks i []))
 rises_next g tree is bound few short i first rises l are at = record {
   offsets = All-append (λ (r : Rise). r.offset < 1000000) rises (rises_along g first walk) are.offsets (along_offsets g first bound walk (short i [] l) few);

@@ -15,7 +15,7 @@ use Rattle.drt_check_values.specs.declared.query.Query.{Query}
 use Rattle.drt_check_values.specs.declared.rises.Rise.{Rise}
 use Rattle.drt_check_values.specs.Rises.{added, risen}
 use Rattle.drt_check_values.specs.Values.{AreLeft, AreWithin}
-use Rattle.drt_check_values.specs.Sweeps.{AreReady, HasRun, IsInOrder, IsTaken, answer, heights, no_query, no_rise, time_of, total, totals, whole}
+use Rattle.drt_check_values.specs.Sweeps.{AreReady, HasRunOfPlaces, IsInOrder, IsTaken, answer, heights, no_query, no_rise, time_of, total, totals, whole}
 
 totals_at : (rises : List Rise) (count p : ℕ) → p < count → get_or (totals rises count) p 0 ≡ total rises p
 totals_at rises count p l = get_or-map-range_with_len (λ p. total rises p) 0 count p p 0 l (omega arith)
@@ -301,8 +301,8 @@ range_more n =
     ∙ (map-range_with_len_more (λ (k : ℕ). k) 0 n n (omega arith) ∙ ap (λ (xs : List ℕ). xs ++ n ∷ []) (map-id (range_with_len 0 n)))
 
 -- The query of a turn has its places among those that there are.
-pub turn_run : (queries : List Query) (order firsts sizes : List ℕ) (count j : ℕ) → IsInOrder queries order → j < length order → All (HasRun firsts sizes count) queries
-    → HasRun firsts sizes count (turn queries order j)
+pub turn_run : (queries : List Query) (order firsts sizes : List ℕ) (count j : ℕ) → IsInOrder queries order → j < length order → All (HasRunOfPlaces firsts sizes count) queries
+    → HasRunOfPlaces firsts sizes count (turn queries order j)
 turn_run queries order firsts sizes count j is l runs = runs (get_or order j 0) no_query (turn_within queries order is j l)
 
 -- A run from its first place to its end, by its size.

@@ -6,7 +6,7 @@ use Rattle.std.proofs.lemmas.List.{ext_get_or, get_or-map, get_or_past, length-m
 use Rattle.std.proofs.lemmas.List.FromFn.{length-map-range_with_len, get_or-map-range_with_len}
 use Rattle.std.proofs.lemmas.List.Elements.{All-head, All-tail}
 use Rattle.std.proofs.lemmas.List.Sorted.{All-permutation, sum_by-IsPermutation}
-use Rattle.drt_model.specs.Digraph.{Digraph, IsSound, vertex_count}
+use Rattle.drt_model.specs.Digraph.{Digraph, IsSoundGraph, vertex_count}
 use Rattle.drt_model.specs.Walk.{gap, wcet, IsPath, span}
 use Rattle.drt_model.specs.RequestFunction.{requested_from}
 use Rattle.drt_graph.proofs.Edges.{target_of}
@@ -18,14 +18,14 @@ use Rattle.drt_check_values.specs.declared.rises.Rise.{Rise}
 use Rattle.drt_check_values.specs.Greatest.{greatest}
 use Rattle.drt_check_values.specs.Leaves.{AreFirsts, AreSizes, leaf_order, node_count}
 use Rattle.drt_check_values.specs.Rises.{AreRises, added, risen}
-use Rattle.drt_check_values.specs.Sweeps.{AreReady, HasRun, answer, heights, whole}
+use Rattle.drt_check_values.specs.Sweeps.{AreReady, HasRunOfPlaces, answer, heights, whole}
 use Rattle.drt_check_values.specs.Values.{value, values}
 use Rattle.drt_check_values.proofs.Leaves.{asked_of, first_fits, order_count, value_found}
 use Rattle.drt_check_values.proofs.Placing.{size_at, sizes_count}
 use Rattle.drt_check_values.proofs.Taking.{early_sum}
 
 -- Each release of a walk asks for at most 1,000,000.
-requested_most : (g : Digraph) → IsSound g → (x u : ℕ) (vs : List ℕ) (t : ℕ) → u < vertex_count g → IsPath g u vs → requested_from g x u vs t ≤ (length vs + 1) * 1000000
+requested_most : (g : Digraph) → IsSoundGraph g → (x u : ℕ) (vs : List ℕ) (t : ℕ) → u < vertex_count g → IsPath g u vs → requested_from g x u vs t ≤ (length vs + 1) * 1000000
 unfolding requested_from
 requested_most g sound x u [] t here path = go (ltb x t)
   where
@@ -42,7 +42,7 @@ requested_most g sound x u (v ∷ vs) t here path =
     go false = omega arith
 
 -- A walk spans a tick at least for each vertex after the first.
-span_most : (g : Digraph) → IsSound g → (u : ℕ) (vs : List ℕ) → IsPath g u vs → length vs ≤ span g u vs
+span_most : (g : Digraph) → IsSoundGraph g → (u : ℕ) (vs : List ℕ) → IsPath g u vs → length vs ≤ span g u vs
 span_most g sound u [] path = omega arith
 span_most g sound u (v ∷ vs) path =
     let rest = span_most g sound v vs path.1 in
@@ -51,14 +51,14 @@ span_most g sound u (v ∷ vs) path =
     omega (arith, rest, to.1, s)
 
 -- So a short walk asks for at most 10^12.
-asked_most : (g : Digraph) → IsSound g → (bound t : ℕ) (walk : List ℕ) → bound ≤ 1000000 → IsShortWalk bound g walk → asked g t walk ≤ 1000000000000
+asked_most : (g : Digraph) → IsSoundGraph g → (bound t : ℕ) (walk : List ℕ) → bound ≤ 1000000 → IsShortWalk bound g walk → asked g t walk ≤ 1000000000000
 asked_most g sound bound t [] few is = omega arith
 asked_most g sound bound t (u ∷ vs) few is =
     let a = requested_most g sound 0 u vs t is.0 is.1 in
     let b = span_most g sound u vs is.1 in
     omega (arith, a, b, is.2)
 
-pub walk_most : (g : Digraph) → IsSound g → (tree : TreeClaim) (bound : ℕ) → bound ≤ 1000000 → HasShortWalks bound g tree → (t w : ℕ) → asked_of g tree t w ≤ 1000000000000
+pub walk_most : (g : Digraph) → IsSoundGraph g → (tree : TreeClaim) (bound : ℕ) → bound ≤ 1000000 → HasShortWalks bound g tree → (t w : ℕ) → asked_of g tree t w ≤ 1000000000000
 walk_most g sound tree bound few short t w = go (cases_lt w (length tree.walks))
   where
     go : (w < length tree.walks) ⊎ (length tree.walks ≤ w) → asked_of g tree t w ≤ 1000000000000
@@ -66,7 +66,7 @@ walk_most g sound tree bound few short t w = go (cases_lt w (length tree.walks))
     go (inr l) = (let e = ap (asked g t) (get_or_past tree.walks w [] l) in omega (arith, e))
 
 -- The releases in order are ready to be taken in.
-pub rises_ready : (g : Digraph) → IsSound g → (tree : TreeClaim) (bound : ℕ) → bound ≤ 1000000 → HasShortWalks bound g tree → (rises sorted : List Rise) → AreRises g tree rises
+pub rises_ready : (g : Digraph) → IsSoundGraph g → (tree : TreeClaim) (bound : ℕ) → bound ≤ 1000000 → HasShortWalks bound g tree → (rises sorted : List Rise) → AreRises g tree rises
     → IsPermutation rises sorted → IsNonDecreasingBy (λ r. r.offset) sorted → AreReady (length tree.walks) sorted
 rises_ready g sound tree bound few short rises sorted are same order = record {
   order = order;
@@ -123,10 +123,10 @@ answers_same g tree is firsts sizes rises sorted swept count queries placed size
 
 -- The query's places are some of those that there are.
 pub has_runs : (tree : TreeClaim) → IsTree tree → (firsts sizes : List ℕ) (queries : List Query) → AreFirsts tree firsts → AreSizes tree sizes → All (λ q. q.node < node_count tree) queries
-    → All (HasRun firsts sizes (length tree.walks)) queries
+    → All (HasRunOfPlaces firsts sizes (length tree.walks)) queries
 has_runs tree is firsts sizes queries placed sized nodes k d l = one (get_or queries k d) (nodes k d l)
   where
-    one : (q : Query) → q.node < node_count tree → HasRun firsts sizes (length tree.walks) q
+    one : (q : Query) → q.node < node_count tree → HasRunOfPlaces firsts sizes (length tree.walks) q
     one q m = record {
       first = omega (arith, placed.count, m);
       size = (let c = sizes_count tree is sizes sized in omega (arith, c, m));

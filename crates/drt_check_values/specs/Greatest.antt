@@ -11,8 +11,8 @@ abbrev pub HasGreaterParts : List ℕ → ℕ → Type 0
 HasGreaterParts nodes j = slice_index_or nodes j 0 ≡ max (slice_index_or nodes (2 * j) 0) (slice_index_or nodes (2 * j + 1) 0)
 
 -- So it is for each node from 1 on that has parts; node 0 stands for nothing.
-abbrev pub IsJoined : List ℕ → Type 0
-IsJoined nodes = (j : ℕ) → 1 ≤ j → 2 * j + 1 < length nodes → HasGreaterParts nodes j
+abbrev pub AreGreatestJoined : List ℕ → Type 0
+AreGreatestJoined nodes = (j : ℕ) → 1 ≤ j → 2 * j + 1 < length nodes → HasGreaterParts nodes j
 
 -- It is so but for one node, whose parts' greater value is the greater one of its own and the given one.
 pub record IsJoinedBut (nodes : List ℕ) (node value : ℕ) : Type 0 where

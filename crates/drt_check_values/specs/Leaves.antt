@@ -32,10 +32,10 @@ abbrev pub AreSizes : TreeClaim → List ℕ → Type 0
 AreSizes tree sizes = sizes ≡ map length (leaf_lists tree)
 
 -- From the place on, the order of all leaves has those below node n.
-abbrev pub IsFirst : TreeClaim → ℕ → ℕ → Type 0
-IsFirst tree n first = take (length (leaves_below tree n)) (drop first (leaf_order tree)) ≡ leaves_below tree n
+abbrev pub IsFirstLeaf : TreeClaim → ℕ → ℕ → Type 0
+IsFirstLeaf tree n first = take (length (leaves_below tree n)) (drop first (leaf_order tree)) ≡ leaves_below tree n
 
 -- The numbers are, for each node, such a place.
 pub record AreFirsts (tree : TreeClaim) (firsts : List ℕ) : Type 0 where
   pub count : length firsts ≡ node_count tree
-  pub each : (n : ℕ) → n < node_count tree → IsFirst tree n (slice_index_or firsts n 0)
+  pub each : (n : ℕ) → n < node_count tree → IsFirstLeaf tree n (slice_index_or firsts n 0)

@@ -53,7 +53,7 @@ pub record IsTaken (rises : List Rise) (taken t : ℕ) (values : List ℕ) : Typ
   pub sums : values ≡ totals (take taken rises) (length values)
 
 -- The places of the query's node are some of the places.
-pub record HasRun (firsts sizes : List ℕ) (count : ℕ) (q : Query) : Type 0 where
+pub record HasRunOfPlaces (firsts sizes : List ℕ) (count : ℕ) (q : Query) : Type 0 where
   pub first : q.node < length firsts
   pub size : q.node < length sizes
   pub within : slice_index_or firsts q.node 0 + slice_index_or sizes q.node 0 ≤ count

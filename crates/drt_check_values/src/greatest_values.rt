@@ -1,6 +1,6 @@
 //! Values of places, with the greatest ones of runs of places at hand.
 ghost use Rattle.std.specs.Prelude.{◌≡◌, ℕ, ◌+◌, ◌*◌, ◌%◌, ◌^◌, ◌<◌, ◌≤◌, IfOk, length, replicate, slice_index_or, slice_range, slice_set};
-ghost use Rattle.drt_check_values.specs.Greatest.{IsJoined, IsJoinedBut, greatest};
+ghost use Rattle.drt_check_values.specs.Greatest.{AreGreatestJoined, IsJoinedBut, greatest};
 
 use drt_model::Memory;
 use std::alloc::Global;
@@ -19,13 +19,13 @@ pub(crate) struct GreatestValues {
 
 impl Model for GreatestValues {
     ghost use Rattle.std.specs.Prelude.{◌≡◌, ℕ, ◌*◌, List, drop, length};
-    ghost use Rattle.drt_check_values.specs.Greatest.{IsJoined};
+    ghost use Rattle.drt_check_values.specs.Greatest.{AreGreatestJoined};
 
     ghost Value = { List ℕ };
 
     ghost view = { λ v. drop v.count v.nodes.items };
 
-    ghost invariant = { λ v. (length v.nodes.items ≡ 2 * v.count) × IsJoined v.nodes.items };
+    ghost invariant = { λ v. (length v.nodes.items ≡ 2 * v.count) × AreGreatestJoined v.nodes.items };
 }
 
 impl GreatestValues {
@@ -60,12 +60,12 @@ impl GreatestValues {
 
 // Raises the value of a node without parts, and with it those of the nodes above.
 fn raise_node(nodes: &mut [u64], leaf: usize, more: u64)
-    requires joined { IsJoined nodes.old }
+    requires joined { AreGreatestJoined nodes.old }
     requires even { length nodes.old % 2 ≡ 0 }
     requires within { leaf < length nodes.old }
     requires leaf { length nodes.old ≤ 2 * leaf }
     requires fits { slice_index_or nodes.old leaf 0 + more < 2 ^ 64 }
-    ensures joined { IsJoined nodes.new }
+    ensures joined { AreGreatestJoined nodes.new }
     ensures raised { (k : ℕ) → length nodes.old ≤ 2 * k → slice_index_or nodes.new k 0 ≡ slice_index_or (slice_set nodes.old leaf (slice_index_or nodes.old leaf 0 + more)) k 0 }
 {
     let value = nodes[leaf] + more;
@@ -76,7 +76,7 @@ fn raise_node(nodes: &mut [u64], leaf: usize, more: u64)
 // Carries a value up from a node as far as the values there are smaller.
 fn carry_up(nodes: &mut [u64], start: usize, value: u64)
     requires { IsJoinedBut nodes.old start value }
-    ensures joined { IsJoined nodes.new }
+    ensures joined { AreGreatestJoined nodes.new }
     ensures same { (k : ℕ) → length nodes.old ≤ 2 * k → slice_index_or nodes.new k 0 ≡ slice_index_or nodes.old k 0 }
 {
     let mut node = start;
@@ -88,7 +88,7 @@ fn carry_up(nodes: &mut [u64], start: usize, value: u64)
 
 // The greatest value of the nodes from `first` on and before `end`: the odd ones at both ends, and then those above the others.
 fn greatest_of(nodes: &[u64], first: usize, end: usize) -> u64
-    requires joined { IsJoined nodes.now }
+    requires joined { AreGreatestJoined nodes.now }
     requires first { first < end → 1 ≤ first }
     requires order { first ≤ end }
     requires within { end ≤ length nodes.now }

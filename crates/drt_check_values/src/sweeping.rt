@@ -1,7 +1,7 @@
 //! The sweep over the times of queries, in order.
 ghost use Rattle.std.specs.Prelude.{◌≡◌, ◌+◌, ◌<◌, ◌≤◌, ◌↔◌, All, IfOk, IsTrue, length, map, slice_index_or, slice_range};
 ghost use Rattle.drt_check_values.specs.Greatest.{greatest};
-ghost use Rattle.drt_check_values.specs.Sweeps.{AreReady, HasRun, IsInOrder, IsTaken, answer, heights, no_rise, time_of};
+ghost use Rattle.drt_check_values.specs.Sweeps.{AreReady, HasRunOfPlaces, IsInOrder, IsTaken, answer, heights, no_rise, time_of};
 ghost use Rattle.drt_check_values.specs.Values.{AreLeft, AreWithin};
 
 use crate::greatest_values::GreatestValues;
@@ -25,7 +25,7 @@ pub(crate) fn sweep(
 ) -> Result<bool, Memory>
     requires count { count ≤ 4294967295 }
     requires order { IsInOrder queries.now order.now }
-    requires runs { All (HasRun places.now.firsts.items places.now.sizes.items count) queries.now }
+    requires runs { All (HasRunOfPlaces places.now.firsts.items places.now.sizes.items count) queries.now }
     requires rises { AreReady count rises.now }
     requires rooms { length rooms.old ≡ length queries.now }
     ensures fits { IfOk result (λ fit. IsTrue fit ↔ AreWithin (map (answer places.now.firsts.items places.now.sizes.items count rises.now) queries.now) rooms.old) }

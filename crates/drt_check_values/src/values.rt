@@ -1,6 +1,6 @@
 //! The values of nodes at times, taken from rooms.
 ghost use Rattle.std.specs.Prelude.{◌≡◌, ◌+◌, ◌<◌, ◌≤◌, ◌↔◌, All, IfOk, IsTrue, length};
-ghost use Rattle.drt_model.specs.Digraph.{IsSound};
+ghost use Rattle.drt_model.specs.Digraph.{IsSoundGraph};
 ghost use Rattle.drt_claims.specs.Ranges.{IsInRangeTree};
 ghost use Rattle.drt_claims.specs.Trees.{HasShortWalks, IsTree};
 ghost use Rattle.drt_check_values.specs.Values.{AreLeft, AreWithin, values};
@@ -58,7 +58,7 @@ pub fn take_values(
 
 // A graph keeps the limits. Nothing is to be done for it.
 fn keep_limits(graph: &Graph)
-    ensures { IsSound graph.now }
+    ensures { IsSoundGraph graph.now }
 {
     let _count = graph.vertex_count();
 }

@@ -15,7 +15,7 @@ use Rattle.drt_tree.specs.Tree.{Plain, walk}
 use Rattle.drt_refine.specs.Below.{AreBelow}
 use Rattle.drt_choices.specs.Choices.{chosen}
 use Rattle.drt_busy.specs.Response.{cut, cut_from}
-use Rattle.drt_choices.specs.Laws.{IsPosed, LeavesRespond, WalksPass, leaf_releases, AreReaching}
+use Rattle.drt_choices.specs.Laws.{IsPosed, LeavesRespond, WalksPass, leaf_releases, AreReachingReleases}
 use Rattle.drt_choices.proofs.Asked.{requests_asked}
 use Rattle.drt_choices.proofs.Chosen.{below_length, chosen_asked, chosen_walks}
 use Rattle.drt_choices.proofs.Covered.{covering, order_within}
@@ -94,5 +94,5 @@ leaves_respond decides reach suffice version tasks order bound f roots k v posed
     (t, p.from, by, omega (arith, asked, enough, p.passes))) in
     let fit : IsGreatestFit tasks k v n = record { walks = walks; are = are; least = least; most = most } in
     let (legal, (job, here, finish)) = reach version tasks posed.limits constrained k v h posed.subject.vertex meets walks are n least in
-    let shown : AreReaching tasks k v n (reaching tasks walks k v n) = record { legal = legal; job = job; here = here; finish = finish } in
-    ((decides version tasks posed.limits constrained k v h posed.subject.vertex meets n).1 fit, subst (AreReaching tasks k v n) (reaching_leaves tasks f order tuple k v n) shown)
+    let shown : AreReachingReleases tasks k v n (reaching tasks walks k v n) = record { legal = legal; job = job; here = here; finish = finish } in
+    ((decides version tasks posed.limits constrained k v h posed.subject.vertex meets n).1 fit, subst (AreReachingReleases tasks k v n) (reaching_leaves tasks f order tuple k v n) shown)

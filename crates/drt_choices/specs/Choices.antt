@@ -29,7 +29,7 @@ AreTrees tasks [] bound f (root ∷ roots) = ⊥
 AreTrees tasks (k ∷ order) bound f (root ∷ roots) = StandsFor (graph_at tasks k) bound f root × AreTrees tasks order bound f roots
 
 -- Vertex v of task k, which stands at place m of the order; its deadline is at most the bound.
-pub record IsSubject (tasks : List Task) (order : List ℕ) (bound m k v : ℕ) : Type 0 where
+pub record IsSubjectAt (tasks : List Task) (order : List ℕ) (bound m k v : ℕ) : Type 0 where
   pub at : slice_get order m ≡ Some k
   pub vertex : v < vertex_count (graph_at tasks k)
   pub near : deadline (graph_at tasks k) v ≤ bound

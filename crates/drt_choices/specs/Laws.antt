@@ -17,14 +17,14 @@ use Rattle.drt_busy.specs.WalkReleases.{all_releases, release_at, with_job}
 use Rattle.drt_steps.specs.Time.{IsLeastTime, Passes}
 use Rattle.drt_tree.specs.Tree.{Plain}
 use Rattle.drt_refine.specs.Below.{AreBelow}
-use Rattle.drt_choices.specs.Choices.{AreTrees, FirstPass, IsOrder, IsSubject, VertexPasses, chosen}
+use Rattle.drt_choices.specs.Choices.{AreTrees, FirstPass, IsOrder, IsSubjectAt, VertexPasses, chosen}
 
 -- A set in order, the trees of the tasks at the first places, and a vertex of the task at the next place.
 pub record IsPosed (version : ℕ) (tasks : List Task) (order : List ℕ) (bound : ℕ) (f : Plain) (roots : List ℕ) (k v : ℕ) : Type 0 where
   pub limits : IsTaskSet version tasks
   pub order_is : IsOrder tasks order
   pub trees : AreTrees tasks order bound f roots
-  pub subject : IsSubject tasks order bound (length roots) k v
+  pub subject : IsSubjectAt tasks order bound (length roots) k v
 
 -- A time passes for vertex v of task k and the leaves of the tuple.
 abbrev pub PassesAt : List Task → Plain → List ℕ → ℕ → ℕ → ℕ → Type 0
@@ -64,7 +64,7 @@ pub record IsGreatestTime (tasks : List Task) (f : Plain) (roots tuple : List �
 
 -- The releases of the walks that the tuple names, with offsets below the number, are legal, and the vertex's job at 0 finishes after
 -- exactly so many ticks.
-pub record AreReaching (tasks : List Task) (k v ticks : ℕ) (releases : List Release) : Type 0 where
+pub record AreReachingReleases (tasks : List Task) (k v ticks : ℕ) (releases : List Release) : Type 0 where
   pub legal : IsLegal tasks releases
   pub job : ℕ
   pub here : slice_get releases job ≡ Some (release_at (graph_at tasks k) k 0 v)
@@ -77,7 +77,7 @@ LeavesRespond =
     (version : ℕ) (tasks : List Task) (order : List ℕ) (bound : ℕ) (f : Plain) (roots : List ℕ) (k v : ℕ)
     → IsPosed version tasks order bound f roots k v → AreConstrained tasks → ((u : ℕ) → u < vertex_count (graph_at tasks k) → VertexPasses tasks k u)
     → (tuple : List ℕ) (ticks : ℕ) → IsGreatestTime tasks f roots tuple k v ticks
-    → IsGreatestResponse tasks k v ticks × AreReaching tasks k v ticks (leaf_releases tasks f order tuple k v ticks)
+    → IsGreatestResponse tasks k v ticks × AreReachingReleases tasks k v ticks (leaf_releases tasks f order tuple k v ticks)
 
 -- Where a time passes for all walks, one passes for each tuple of leaves.
 abbrev pub WalksPass : Type 0

@@ -5,7 +5,7 @@ use Rattle.drt_model.specs.declared.tasks.Task.{Task}
 use Rattle.drt_model.specs.Digraph.{Digraph, digraph_of}
 use Rattle.drt_model.specs.Utilisation.{Fraction, IsScale, rate}
 use Rattle.drt_model.specs.Horizon.{horizon}
-use Rattle.drt_model.specs.RatioRules.{AreCounted, FitPotentials, IsClosed, IsTight}
+use Rattle.drt_model.specs.RatioRules.{ArePotentialsCounted, FitPotentials, IsClosedCycle, IsTight}
 use Rattle.drt_claims.specs.declared.evidence.RatioClaim.{RatioClaim}
 
 -- The graphs of the tasks, in order.
@@ -41,7 +41,7 @@ AreLowest claims = All (λ c. IsGcd c.num c.den 1) claims
 
 -- There are as many potentials as vertices of the task.
 abbrev pub HavePotentials : List Digraph → List RatioClaim → Type 0
-HavePotentials graphs claims = Each (λ g c. AreCounted g c.potentials) graphs claims
+HavePotentials graphs claims = Each (λ g c. ArePotentialsCounted g c.potentials) graphs claims
 
 -- On each edge the denominator times the target's execution time, less the numerator times the separation, is at most what the
 -- potential rises.
@@ -50,7 +50,7 @@ HaveFittingPotentials graphs claims = Each (λ g c. FitPotentials g c.num c.den 
 
 -- The cycle is empty exactly where the numerator is 0, and else each step of it, the closing one too, is an edge.
 abbrev pub HaveClosedCycles : List Digraph → List RatioClaim → Type 0
-HaveClosedCycles graphs claims = Each (λ g c. IsClosed g c.num c.cycle) graphs claims
+HaveClosedCycles graphs claims = Each (λ g c. IsClosedCycle g c.num c.cycle) graphs claims
 
 -- The cycle, where it isn't empty, has the ratio.
 abbrev pub HaveTightCycles : List Digraph → List RatioClaim → Type 0

@@ -9,8 +9,8 @@ use Rattle.drt_model.specs.declared.front.FrontEntry.{FrontEntry}
 use Rattle.drt_claims.specs.Claims.{Each}
 
 -- The entry names a vertex, and its last job is due within the bound.
-abbrev pub IsWithin : Digraph → ℕ → FrontEntry → Type 0
-IsWithin g bound e = (e.vertex < vertex_count g) × (due g e ≤ bound)
+abbrev pub IsEntryWithin : Digraph → ℕ → FrontEntry → Type 0
+IsEntryWithin g bound e = (e.vertex < vertex_count g) × (due g e ≤ bound)
 
 -- The next entry is of a later vertex, or of the same one with a greater offset and a greater work.
 abbrev pub IsNextEntry : FrontEntry → FrontEntry → Type 0
@@ -18,7 +18,7 @@ IsNextEntry d e = (d.vertex < e.vertex) ⊎ ((d.vertex ≡ e.vertex) × (d.offse
 
 -- The entries are within the bound, and stand in order of vertices and then of offsets; for one vertex their works rise.
 abbrev pub IsOrdered : ℕ → Digraph → List FrontEntry → Type 0
-IsOrdered bound g front = All (IsWithin g bound) front × AllNeighbours IsNextEntry front
+IsOrdered bound g front = All (IsEntryWithin g bound) front × AllNeighbours IsNextEntry front
 
 -- The entry is of that vertex, has at most that offset and at least that work.
 abbrev pub Covers : ℕ → ℕ → ℕ → FrontEntry → Type 0

@@ -82,7 +82,7 @@ sum_at (g ∷ graphs) (tree ∷ trees) (n ∷ nodes) t = slice_index_or (node_va
 
 -- A time passes for a vertex and a combination: it is at most the vertex's deadline, and the vertex's execution time and what the
 -- combination asks for before it fit into it.
-pub record IsPassed (graphs : List Digraph) (trees : List TreeClaim) (g : Digraph) (v : ℕ) (at : List ℕ × ℕ) : Type 0 where
+pub record HasPassingTime (graphs : List Digraph) (trees : List TreeClaim) (g : Digraph) (v : ℕ) (at : List ℕ × ℕ) : Type 0 where
   pub some : 1 ≤ at.1
   pub within : at.1 ≤ deadline g v
   pub fits : wcet g v + sum_at graphs trees at.0 at.1 ≤ at.1
@@ -91,4 +91,4 @@ pub record IsPassed (graphs : List Digraph) (trees : List TreeClaim) (g : Digrap
 abbrev pub HasPassingTimes : List Task → List Digraph → List TreeClaim → ProofClaim → Type 0
 HasPassingTimes tasks graphs trees proof =
     (t : Task) → slice_get tasks proof.task ≡ Some t
-    → All (IsPassed graphs trees (digraph_of t) proof.vertex) (passes trees proof.items (Some (opening trees (higher_count tasks t.priority))))
+    → All (HasPassingTime graphs trees (digraph_of t) proof.vertex) (passes trees proof.items (Some (opening trees (higher_count tasks t.priority))))

@@ -144,11 +144,11 @@ pub record IsInRangeSearch (s : SearchClaim) : Type 0 where
   pub counted : IsCounted s.states
 
 -- The numbers of each kind of evidence are in range.
-abbrev pub IsInRange : Evidence → Type 0
-IsInRange (EdfYes ratios fronts) = (All IsInRangeRatio ratios × IsCounted ratios) × (All IsInRangeFront fronts × IsCounted fronts)
-IsInRange (EdfNo releases miss) = AreInRangeReleases releases miss
-IsInRange (UtilisationOne ratios) = All IsInRangeRatio ratios × IsCounted ratios
-IsInRange (FixedYes trees proofs) = (All IsInRangeTree trees × IsCounted trees) × (All IsInRangeProof proofs × IsCounted proofs)
-IsInRange (FixedStates tails searches) = (All IsInRangeTail tails × IsCounted tails) × (All IsInRangeSearch searches × IsCounted searches)
-IsInRange (FixedNo releases miss) = AreInRangeReleases releases miss
-IsInRange Undecided = Unit {0}
+abbrev pub IsEvidenceInRange : Evidence → Type 0
+IsEvidenceInRange (EdfYes ratios fronts) = (All IsInRangeRatio ratios × IsCounted ratios) × (All IsInRangeFront fronts × IsCounted fronts)
+IsEvidenceInRange (EdfNo releases miss) = AreInRangeReleases releases miss
+IsEvidenceInRange (UtilisationOne ratios) = All IsInRangeRatio ratios × IsCounted ratios
+IsEvidenceInRange (FixedYes trees proofs) = (All IsInRangeTree trees × IsCounted trees) × (All IsInRangeProof proofs × IsCounted proofs)
+IsEvidenceInRange (FixedStates tails searches) = (All IsInRangeTail tails × IsCounted tails) × (All IsInRangeSearch searches × IsCounted searches)
+IsEvidenceInRange (FixedNo releases miss) = AreInRangeReleases releases miss
+IsEvidenceInRange Undecided = Unit {0}

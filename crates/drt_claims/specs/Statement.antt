@@ -2,7 +2,7 @@
 use Rattle.drt_model.specs.Contents.{Contents}
 use Rattle.drt_model.specs.Limits.{IsTaskSet}
 use Rattle.drt_model.specs.declared.jobs.Policy.{Policy}
-use Rattle.drt_claims.specs.Ranges.{IsInRange}
+use Rattle.drt_claims.specs.Ranges.{IsEvidenceInRange}
 use Rattle.drt_claims.specs.declared.evidence.Evidence.{Evidence}
 
 -- A statement has a policy, a task set, and the evidence of what is claimed of it.
@@ -13,4 +13,4 @@ pub record Statement : Type 0 where
 
 -- A dossier states it: its set keeps the limits of its version, and the numbers of its evidence are in range.
 abbrev pub IsStated : Statement → Type 0
-IsStated s = IsTaskSet s.set.version s.set.tasks × IsInRange s.evidence
+IsStated s = IsTaskSet s.set.version s.set.tasks × IsEvidenceInRange s.evidence

@@ -96,11 +96,11 @@ pub struct Dossier {
 
 impl Model for Dossier {
     ghost use Rattle.drt_claims.specs.Statement.{Statement};
-    ghost use Rattle.drt_claims.specs.Ranges.{IsInRange};
+    ghost use Rattle.drt_claims.specs.Ranges.{IsEvidenceInRange};
 
     ghost Value = { Statement };
 
     ghost view = { λ d. record { policy = d.policy; set = d.set; evidence = d.evidence } };
 
-    ghost invariant = { λ d. IsInRange d.evidence };
+    ghost invariant = { λ d. IsEvidenceInRange d.evidence };
 }

@@ -20,7 +20,7 @@ use Rattle.drt_classic.specs.declared.state.Kind.TheVariants as kinds
 use Rattle.drt_classic.specs.Classics.{name_of, frames_of, frames_of_period}
 use Rattle.drt_classic.specs.ClassicLimits.{IsFrame}
 use Rattle.drt_classic.specs.ClassicWords.{sporadic_word, multiframe_word, gmf_word, noncyclic_word, frame_word, end_word}
-use Rattle.drt_classic.specs.ClassicReading.{MeanFrame, SaysSporadic, SaysMultiframe, SaysFrame, Says}
+use Rattle.drt_classic.specs.ClassicReading.{MeanFrame, SaysSporadic, SaysMultiframe, SaysFrame, SaysClassic}
 use Rattle.drt_classic.specs.ClassicFaults.{first_of, in_last, is_open, is_full, has_task, task_count, sporadic_fault, multiframe_fault, open_fault, frame_fault, end_fault, said_by, is_past}
 
 -- A table of tests.
@@ -71,7 +71,7 @@ SaysNone (saying.Task (Cyclic name frames)) = frames ≡ []
 SaysNone (saying.Task (Free name frames)) = frames ≡ []
 SaysNone line = Unit {0}
 
-pub says_none : (words : List (List ℕ)) (l : Line) → Says words l → SaysNone l
+pub says_none : (words : List (List ℕ)) (l : Line) → SaysClassic words l → SaysNone l
 says_none words (saying.Task (Sporadic name frame)) says = tt
 says_none words (saying.Task (Multiframe name deadline period wcets)) says = tt
 says_none words (saying.Task (Cyclic name frames)) says = says.1
@@ -142,7 +142,7 @@ meant a b c f m is = record {
 -- A `sporadic` line.
 
 pub record Passed (s : State) (words : List (List ℕ)) (l : Line) : Type 0 where
-  pub says : Says words l
+  pub says : SaysClassic words l
   pub fits : Fits s l
 
 pub sporadic_passed : (s : State) (words rest : List (List ℕ)) → words ≡ sporadic_word ∷ rest → sporadic_fault s words ≡ None → Passed s words (said_by kinds.Sporadic words)

@@ -9,7 +9,7 @@ use Rattle.drt_classic.specs.declared.classic.Frame.{Frame}
 use Rattle.drt_classic.specs.declared.classic.Classic.{Classic}
 use Rattle.drt_classic.specs.declared.classic.Classic.TheVariants.{Sporadic, Multiframe, Cyclic, Free}
 use Rattle.drt_classic.specs.Classics.{frames_of, frames_of_period}
-use Rattle.drt_classic.specs.ClassicLegal.{next_frame, IsApart, IsStep, IsFrameRelease}
+use Rattle.drt_classic.specs.ClassicLegal.{next_frame, IsApart, MayFollow, IsFrameRelease}
 use Rattle.drt_classic.specs.Digraphs.{vertices_from, edges_from, frames_after, digraph_of}
 use Rattle.drt_classic.proofs.SomeOf.{SomeOf, some_any, any_some, some_split, some_left, some_right, Has, range_has}
 
@@ -116,7 +116,7 @@ within P (x ∷ xs) zero h = omega arith
 within P (x ∷ xs) (suc k) h = let lt = within P xs k h in omega (arith, lt)
 
 -- Of two releases of a task the second may come after the first exactly where an edge of the digraph leads there.
-pub step_of_edge : (p : ℕ) (t : Classic) (r s : Release) → Follows (digraph_of p t) r s → IsStep t r s
+pub step_of_edge : (p : ℕ) (t : Classic) (r s : Release) → Follows (digraph_of p t) r s → MayFollow t r s
 step_of_edge p (Sporadic name frame) r s h =
     let a = apart_of (frames_after (Sporadic name frame)) (frame ∷ []) r s h in
     (first_alone (λ f. r.time + f.sep ≤ s.time) frame r.vertex a.0).1
@@ -128,7 +128,7 @@ step_of_edge p (Cyclic name frames) r s h =
     (only s.vertex (next_frame (length frames) r.vertex) a.1, a.0)
 step_of_edge p (Free name frames) r s h = (apart_of (frames_after (Free name frames)) frames r s h).0
 
-pub edge_of_step : (p : ℕ) (t : Classic) (r s : Release) → IsFrameRelease t r → IsFrameRelease t s → IsStep t r s → Follows (digraph_of p t) r s
+pub edge_of_step : (p : ℕ) (t : Classic) (r s : Release) → IsFrameRelease t r → IsFrameRelease t s → MayFollow t r s → Follows (digraph_of p t) r s
 edge_of_step p (Sporadic name frame) r s hr hs h =
     let P = λ (v : Release) (f : Frame). (1 ≤ v.need) × (v.need ≤ f.wcet) in
     let er : r.vertex ≡ 0 = (first_alone (P r) frame r.vertex hr).0 in

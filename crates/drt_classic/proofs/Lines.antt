@@ -21,7 +21,7 @@ use Rattle.drt_classic.specs.declared.state.Line.TheVariants as saying
 use Rattle.drt_classic.specs.declared.state.Kind.{Kind}
 use Rattle.drt_classic.specs.declared.state.Kind.TheVariants as kinds
 use Rattle.drt_classic.specs.ClassicWords.{sporadic_word, multiframe_word, gmf_word, noncyclic_word, frame_word, end_word}
-use Rattle.drt_classic.specs.ClassicReading.{Says, SaysSporadic, SaysMultiframe, SaysFrame}
+use Rattle.drt_classic.specs.ClassicReading.{SaysClassic, SaysSporadic, SaysMultiframe, SaysFrame}
 use Rattle.drt_classic.specs.ClassicFaults.{first_word, kind, kind_fault, fault_of_line, said_by, after_line, unless, line_step}
 use Rattle.drt_classic.proofs.Fits.{Fits, SaysOwn, Passed, Again, sporadic_passed, sporadic_again, multiframe_passed, multiframe_again}
 use Rattle.drt_classic.proofs.Fits.{gmf_passed, gmf_again, noncyclic_passed, noncyclic_again, frame_passed, frame_again, end_passed, end_again}
@@ -138,7 +138,7 @@ keyword_text kinds.Other = refl
 abbrev AreText : List (List ℕ) → Type 0
 AreText words = AllByRecursion (λ w. list_all is_text w ≡ true) words
 
-said_text : (s : State) (words : List (List ℕ)) (l : Line) → Says words l → Fits s l → AreText words
+said_text : (s : State) (words : List (List ℕ)) (l : Line) → SaysClassic words l → Fits s l → AreText words
 said_text s words (saying.Task (Sporadic name frame)) says fits =
     subst AreText (sym says.spelled) (
       keyword_text kinds.Sporadic,
@@ -196,7 +196,7 @@ end_kind : kind end_word ≡ kinds.End
 unfolding kind
 end_kind = refl
 
-said_again : (s : State) (words : List (List ℕ)) (l : Line) → Says words l → SaysOwn l → Fits s l → (k : Kind) × Has k s words l
+said_again : (s : State) (words : List (List ℕ)) (l : Line) → SaysClassic words l → SaysOwn l → Fits s l → (k : Kind) × Has k s words l
 unfolding kind_fault
 said_again s words (saying.Task (Sporadic name frame)) says own fits =
     (kinds.Sporadic, record { of_kind = kind_of_keyword words _ kinds.Sporadic kinds.Sporadic says.spelled sporadic_kind; again = sporadic_again s words name frame says fits })
@@ -227,7 +227,7 @@ leaves : (n : ℕ) (s : State) (o : Option ℕ) (m l : Line) → o ≡ None → 
 unfolding unless
 leaves n s o m l none is = rw (none, is) refl
 
-pub steps_again : (n : ℕ) (s : State) (line : List ℕ) (words : List (List ℕ)) (l : Line) → fields line ≡ words → s.ended ≡ false → Says words l → SaysOwn l → Fits s l
+pub steps_again : (n : ℕ) (s : State) (line : List ℕ) (words : List (List ℕ)) (l : Line) → fields line ≡ words → s.ended ≡ false → SaysClassic words l → SaysOwn l → Fits s l
     → line_step n (Some s) line words ≡ Ok (Some (after_line n s l))
 unfolding line_step
 steps_again n s line words l cut still says own fits =

@@ -8,7 +8,7 @@ use Rattle.drt_classic.specs.declared.fault.ClassicFault.{ClassicFault}
 use Rattle.drt_classic.specs.declared.fault.ClassicError.{ClassicError}
 use Rattle.drt_classic.specs.declared.fault.ClassicError.TheVariants as errors
 use Rattle.drt_classic.specs.ClassicFaults.{step, steps, has_no_frame, first_without_frame}
-use Rattle.drt_classic.specs.Gives.{Fails}
+use Rattle.drt_classic.specs.Gives.{FailsClassic}
 
 pub line_read : (n : ℕ) (above below : Option State) (line rest others : List ℕ) (total : Result (ℕ × Option State) ClassicFault) → lines rest ≡ line ∷ lines others → step n above line ≡ Ok below
     → steps n above (lines rest) ≡ total → steps (n + 1) below (lines others) ≡ total
@@ -18,8 +18,8 @@ line_read n above below line rest others total cut ok so_far =
     sym one ∙ so_far
 
 pub line_fails : (e : ClassicError) (n : ℕ) (above : Option State) (line rest others : List ℕ) (total : Result (ℕ × Option State) ClassicFault) → lines rest ≡ line ∷ lines others
-    → Fails e (step n above line)
-    → steps n above (lines rest) ≡ total → Fails e total
+    → FailsClassic e (step n above line)
+    → steps n above (lines rest) ≡ total → FailsClassic e total
 unfolding steps
 line_fails errors.Memory n above line rest others total cut fails so_far = tt
 line_fails (errors.Fault f) n above line rest others total cut fails so_far =

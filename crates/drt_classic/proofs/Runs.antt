@@ -10,7 +10,7 @@ use Rattle.drt_classic.specs.declared.fault.ClassicFault.{ClassicFault}
 use Rattle.drt_classic.specs.declared.state.Draft.{Draft}
 use Rattle.drt_classic.specs.declared.state.State.{State}
 use Rattle.drt_classic.specs.declared.state.Line.{Line}
-use Rattle.drt_classic.specs.ClassicReading.{Says}
+use Rattle.drt_classic.specs.ClassicReading.{SaysClassic}
 use Rattle.drt_classic.specs.ClassicFaults.{◌>>=◌, with_last, task_of, after_line, line_step, step, steps}
 use Rattle.drt_classic.proofs.Fits.{Fits, SaysOwn, SaysNone, says_none}
 use Rattle.drt_classic.proofs.Lines.{Goes, Stepped, stepped, steps_again}
@@ -31,7 +31,7 @@ Runs s (l ∷ ls) t = (s.ended ≡ false) × SaysNone l × Fits s l × ((n : ℕ
 -- What steps without a fault are: what the lines say leads from the one state to the other.
 pub record Ran (s : State) (words : List (List (List ℕ))) (above : Option State) : Type 0 where
   pub said : List Line
-  pub says : AllZip Says words said
+  pub says : AllZip SaysClassic words said
   pub end : State
   pub is : above ≡ Some end
   pub runs : Runs s said end
@@ -80,21 +80,21 @@ pub record Led (tasks : List Classic) (r : Result (ℕ × Option State) ClassicF
   pub at_end : end.ended ≡ true
   pub tasks_are : tasks_in end ≡ tasks
 
-pub led : (tasks : List Classic) (ls : List (List ℕ)) (said : List Line) (n : ℕ) (s : State) → AllZip Says (kept ls) said → Leads tasks s said → Led tasks (steps n (Some s) ls)
+pub led : (tasks : List Classic) (ls : List (List ℕ)) (said : List Line) (n : ℕ) (s : State) → AllZip SaysClassic (kept ls) said → Leads tasks s said → Led tasks (steps n (Some s) ls)
 unfolding steps step
 led tasks [] [] n s says leads = record { n = n; end = s; is = refl; at_end = leads.0; tasks_are = leads.1 }
 led tasks [] (l ∷ said) n s says leads = absurd says
 led tasks (line ∷ ls) said n s says leads = elim (cases_Bool (is_skipped (fields line))) [
   | inl skipped ↦
-      let h : AllZip Says (kept ls) said = rw skipped at says in
+      let h : AllZip SaysClassic (kept ls) said = rw skipped at says in
       rw skipped (led tasks ls said (n + 1) s h leads)
   | inr not_skipped ↦
-      let h : AllZip Says (fields line ∷ kept ls) said = rw not_skipped at says in
+      let h : AllZip SaysClassic (fields line ∷ kept ls) said = rw not_skipped at says in
       rw not_skipped (next (λ others t h l. led tasks ls others (n + 1) t h l) said h leads)
 ]
   where
-    next : ((others : List Line) (t : State) → AllZip Says (kept ls) others → Leads tasks t others → Led tasks (steps (n + 1) (Some t) ls)) → (said : List Line)
-        → AllZip Says (fields line ∷ kept ls) said → Leads tasks s said → Led tasks (line_step n (Some s) line (fields line) >>= λ below. steps (n + 1) below ls)
+    next : ((others : List Line) (t : State) → AllZip SaysClassic (kept ls) others → Leads tasks t others → Led tasks (steps (n + 1) (Some t) ls)) → (said : List Line)
+        → AllZip SaysClassic (fields line ∷ kept ls) said → Leads tasks s said → Led tasks (line_step n (Some s) line (fields line) >>= λ below. steps (n + 1) below ls)
     next later [] h leads = absurd h
     next later (l ∷ said) h leads =
         let one = steps_again n s line (fields line) l refl leads.0 h.0 leads.1 leads.2 in

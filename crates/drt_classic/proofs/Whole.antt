@@ -21,10 +21,10 @@ use Rattle.drt_classic.specs.declared.fault.ClassicError.TheVariants as errors
 use Rattle.drt_classic.specs.Classics.{name_of, frames_of}
 use Rattle.drt_classic.specs.ClassicLimits.{IsFrame, IsClassic, IsClassicSet}
 use Rattle.drt_classic.specs.ClassicWords.{classic_word, head_line}
-use Rattle.drt_classic.specs.ClassicReading.{Says, lines_of_task, lines_of, Reads, IsCauseOf}
-use Rattle.drt_classic.specs.ClassicLaws.{FaultlessTextsRead, TextsReadAsOneSet}
+use Rattle.drt_classic.specs.ClassicReading.{SaysClassic, lines_of_task, lines_of, ReadsClassic, IsClassicCauseOf}
+use Rattle.drt_classic.specs.ClassicLaws.{FaultlessClassicTextsRead, ClassicTextsReadAsOneSet}
 use Rattle.drt_classic.specs.ClassicFaults.{◌>>=◌, with_last, task_of, opening, is_head, unless, line_step, step, steps, has_no_frame, first_without_frame, closing, finish, read_text, fault_of}
-use Rattle.drt_classic.specs.Gives.{Fails}
+use Rattle.drt_classic.specs.Gives.{FailsClassic}
 use Rattle.drt_classic.proofs.Runs.{kept, tasks_in, Ran, ran, Leads, Led, led}
 use Rattle.drt_classic.proofs.Sound.{IsDraft, Kept, ending, opening_kept, runs_kept}
 use Rattle.drt_classic.proofs.Complete.{set_leads}
@@ -154,7 +154,7 @@ classic_is (d ∷ ds) are has = (
 )
 
 state_says : (bytes : List ℕ) (m : ℕ) (end : State) (tasks : List Classic) → steps 1 None (lines bytes) ≡ Ok (m, Some end)
-    → closing m (with_last end.closed end.last) end.ended ≡ Ok tasks → Reads bytes tasks
+    → closing m (with_last end.closed end.last) end.ended ≡ Ok tasks → ReadsClassic bytes tasks
 state_says bytes m end tasks go close =
     let h = headed (lines bytes) 1 m end go in
     let r = ran h.rest h.k m opening (Some end) h.goes in
@@ -164,7 +164,7 @@ state_says bytes m end tasks go close =
     let kept_end : Kept r.end r.said = runs_kept opening [] r.said r.end opening_kept r.runs in
     let k : Kept end r.said = subst (λ t. Kept t r.said) same kept_end in
     let said_are : lines_of (tasks_in end) ≡ r.said = ap (λ b. flat_map lines_of_task (tasks_in end) ++ ending b) (sym c.at_end) ∙ k.lines in
-    subst (Reads bytes) c.are (record {
+    subst (ReadsClassic bytes) c.are (record {
       limits = record {
         has_task = (let count = length-map ds task_of in let has = c.has_task in omega (arith, count, has));
         few_tasks = k.few;
@@ -173,14 +173,14 @@ state_says bytes m end tasks go close =
       };
       below = kept h.rest;
       spelled = h.spelled;
-      lines = subst (AllZip Says (kept h.rest)) (sym said_are) r.says;
+      lines = subst (AllZip SaysClassic (kept h.rest)) (sym said_are) r.says;
     })
 
-pub read_says : (bytes : List ℕ) (tasks : List Classic) → read_text bytes ≡ Ok tasks → Reads bytes tasks
+pub read_says : (bytes : List ℕ) (tasks : List Classic) → read_text bytes ≡ Ok tasks → ReadsClassic bytes tasks
 unfolding read_text finish
 read_says bytes tasks e = go (steps 1 None (lines bytes)) refl e
   where
-    go : (r : Result (ℕ × Option State) ClassicFault) → steps 1 None (lines bytes) ≡ r → (r >>= λ x. finish x.0 x.1) ≡ Ok tasks → Reads bytes tasks
+    go : (r : Result (ℕ × Option State) ClassicFault) → steps 1 None (lines bytes) ≡ r → (r >>= λ x. finish x.0 x.1) ≡ Ok tasks → ReadsClassic bytes tasks
     go (Err f) at h = absurd (cc)
     go (Ok (m, None)) at h = absurd (cc)
     go (Ok (m, Some end)) at h = state_says bytes m end tasks at h
@@ -191,11 +191,11 @@ draft_frames : (ds : List Draft) → AllByRecursion IsClassic (map task_of ds) �
 draft_frames [] are = tt
 draft_frames (d ∷ ds) are = (are.0.has_frame, draft_frames ds are.1)
 
-pub reads_again : (bytes : List ℕ) (tasks : List Classic) → Reads bytes tasks → read_text bytes ≡ Ok tasks
+pub reads_again : (bytes : List ℕ) (tasks : List Classic) → ReadsClassic bytes tasks → read_text bytes ≡ Ok tasks
 unfolding read_text finish
 reads_again bytes tasks reads =
     let h = headed_again (lines bytes) 1 reads.below reads.spelled in
-    let says : AllZip Says (kept h.rest) (lines_of tasks) = subst (λ l. AllZip Says l (lines_of tasks)) (sym h.are) reads.lines in
+    let says : AllZip SaysClassic (kept h.rest) (lines_of tasks) = subst (λ l. AllZip SaysClassic l (lines_of tasks)) (sym h.are) reads.lines in
     let l = led tasks h.rest (lines_of tasks) h.k opening says (set_leads tasks reads.limits) in
     let go : steps 1 None (lines bytes) ≡ Ok (l.n, Some l.end) = h.goes ∙ l.is in
     let ds = with_last l.end.closed l.end.last in
@@ -208,7 +208,7 @@ reads_again bytes tasks reads =
 
 -- What a reading says of a text.
 
-pub not_read : (bytes : List ℕ) (f : ClassicFault) → read_text bytes ≡ Err f → (tasks : List Classic) → Reads bytes tasks → ⊥
+pub not_read : (bytes : List ℕ) (f : ClassicFault) → read_text bytes ≡ Err f → (tasks : List Classic) → ReadsClassic bytes tasks → ⊥
 not_read bytes f e tasks reads = let ok = reads_again bytes tasks reads in absurd (cc)
 
 abbrev told : Result (List Classic) ClassicFault → Option (ℕ × ℕ)
@@ -229,21 +229,21 @@ fault_is bytes f e = fault_told bytes ∙ ap told e
 no_fault : (bytes : List ℕ) (tasks : List Classic) → read_text bytes ≡ Ok tasks → fault_of bytes ≡ None
 no_fault bytes tasks e = fault_told bytes ∙ ap told e
 
-pub cause_of : (bytes : List ℕ) (e : ClassicError) → Fails e (read_text bytes) → IsCauseOf bytes e
+pub cause_of : (bytes : List ℕ) (e : ClassicError) → FailsClassic e (read_text bytes) → IsClassicCauseOf bytes e
 cause_of bytes errors.Memory fails = tt
 cause_of bytes (errors.Fault f) fails = record { first = fault_is bytes f fails; reads_as_none = not_read bytes f fails }
 
 -- A text reads as one set at most.
-pub one_set : TextsReadAsOneSet
+pub one_set : ClassicTextsReadAsOneSet
 one_set bytes s t rs rt =
     let a = reads_again bytes s rs in
     let b = reads_again bytes t rt in
     cc
 
 -- A text has no fault exactly where it reads as some set.
-pub faultless : FaultlessTextsRead
+pub faultless : FaultlessClassicTextsRead
 faultless bytes = (λ e. read (read_text bytes) refl e, λ h. no_fault bytes h.0 (reads_again bytes h.0 h.1))
   where
-    read : (r : Result (List Classic) ClassicFault) → read_text bytes ≡ r → fault_of bytes ≡ None → (tasks : List Classic) × Reads bytes tasks
+    read : (r : Result (List Classic) ClassicFault) → read_text bytes ≡ r → fault_of bytes ≡ None → (tasks : List Classic) × ReadsClassic bytes tasks
     read (Ok tasks) at e = (tasks, read_says bytes tasks at)
     read (Err f) at e = (let has = fault_is bytes f at in absurd (cc))

@@ -9,7 +9,7 @@ use Rattle.drt_classic.specs.ClassicLimits.{IsClassicSet}
 use Rattle.drt_classic.specs.ClassicLegal.{IsClassicList}
 use Rattle.drt_classic.specs.Digraphs.{digraphs_of}
 use Rattle.drt_classic.specs.ClassicFaults.{fault_of}
-use Rattle.drt_classic.specs.ClassicReading.{Reads}
+use Rattle.drt_classic.specs.ClassicReading.{ReadsClassic}
 
 -- A list of releases is legal for the digraphs of a classic set exactly where it is a classic list of that set.
 abbrev pub ReleasesAgree : Type 0
@@ -20,9 +20,9 @@ abbrev pub DigraphsKeepLimits : Type 0
 DigraphsKeepLimits = (tasks : List Classic) → IsClassicSet tasks → IsTaskSet 1 (digraphs_of tasks).tasks × AreConstrained (digraphs_of tasks).tasks
 
 -- A text has no fault exactly where it reads as some classic set.
-abbrev pub FaultlessTextsRead : Type 0
-FaultlessTextsRead = (bytes : List ℕ) → fault_of bytes ≡ None ↔ ((tasks : List Classic) × Reads bytes tasks)
+abbrev pub FaultlessClassicTextsRead : Type 0
+FaultlessClassicTextsRead = (bytes : List ℕ) → fault_of bytes ≡ None ↔ ((tasks : List Classic) × ReadsClassic bytes tasks)
 
 -- A text reads as one classic set at most.
-abbrev pub TextsReadAsOneSet : Type 0
-TextsReadAsOneSet = (bytes : List ℕ) (first second : List Classic) → Reads bytes first → Reads bytes second → first ≡ second
+abbrev pub ClassicTextsReadAsOneSet : Type 0
+ClassicTextsReadAsOneSet = (bytes : List ℕ) (first second : List Classic) → ReadsClassic bytes first → ReadsClassic bytes second → first ≡ second

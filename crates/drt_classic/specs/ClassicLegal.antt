@@ -18,11 +18,11 @@ IsApart frames r s = IsSomeAnd (slice_get frames r.vertex) (λ f. r.time + f.sep
 -- The second release may come next after the first. Of a sporadic task they are at least its period apart; of a multiframe task the frames
 -- go round, at least the period apart; of a cyclic one they go round, and after each at least its separation passes; of a free one any
 -- frame follows, after at least the separation of the first.
-abbrev pub IsStep : Classic → Release → Release → Type 0
-IsStep (Sporadic name frame) r s = r.time + frame.sep ≤ s.time
-IsStep (Multiframe name deadline period wcets) r s = (s.vertex ≡ next_frame (length wcets) r.vertex) × (r.time + period ≤ s.time)
-IsStep (Cyclic name frames) r s = (s.vertex ≡ next_frame (length frames) r.vertex) × IsApart frames r s
-IsStep (Free name frames) r s = IsApart frames r s
+abbrev pub MayFollow : Classic → Release → Release → Type 0
+MayFollow (Sporadic name frame) r s = r.time + frame.sep ≤ s.time
+MayFollow (Multiframe name deadline period wcets) r s = (s.vertex ≡ next_frame (length wcets) r.vertex) × (r.time + period ≤ s.time)
+MayFollow (Cyclic name frames) r s = (s.vertex ≡ next_frame (length frames) r.vertex) × IsApart frames r s
+MayFollow (Free name frames) r s = IsApart frames r s
 
 -- The release is of a frame of the task, with a need of 1 to the frame's execution time.
 abbrev pub IsFrameRelease : Classic → Release → Type 0
@@ -31,7 +31,7 @@ IsFrameRelease t r = IsSomeAnd (slice_get (frames_of t) r.vertex) (λ f. (1 ≤ 
 -- A classic list of a task: each release is of one of its frames, and each next one may come after its neighbour.
 pub record IsClassicPart (t : Classic) (releases : List Release) : Type 0 where
   pub each : All (IsFrameRelease t) releases
-  pub steps : AllNeighbours (IsStep t) releases
+  pub steps : AllNeighbours (MayFollow t) releases
 
 -- A classic list of a set: it stands in order of tasks, and each task's part is a classic list of that task.
 pub record IsClassicList (tasks : List Classic) (releases : List Release) : Type 0 where

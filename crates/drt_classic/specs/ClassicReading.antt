@@ -56,28 +56,28 @@ pub record SaysFrame (words : List (List ℕ)) (f : Frame) : Type 0 where
   pub times : MeanFrame wcet deadline sep f
 
 -- The fields of a line are this line: a task of each kind, a frame, or `end`.
-abbrev pub Says : List (List ℕ) → Line → Type 0
-Says words (saying.Task (Sporadic name frame)) = SaysSporadic words name frame
-Says words (saying.Task (Multiframe name deadline period wcets)) = SaysMultiframe words name deadline period wcets
-Says words (saying.Task (Cyclic name frames)) = (words ≡ gmf_word ∷ name ∷ []) × (frames ≡ [])
-Says words (saying.Task (Free name frames)) = (words ≡ noncyclic_word ∷ name ∷ []) × (frames ≡ [])
-Says words (saying.Frame f) = SaysFrame words f
-Says words saying.End = words ≡ end_word ∷ []
+abbrev pub SaysClassic : List (List ℕ) → Line → Type 0
+SaysClassic words (saying.Task (Sporadic name frame)) = SaysSporadic words name frame
+SaysClassic words (saying.Task (Multiframe name deadline period wcets)) = SaysMultiframe words name deadline period wcets
+SaysClassic words (saying.Task (Cyclic name frames)) = (words ≡ gmf_word ∷ name ∷ []) × (frames ≡ [])
+SaysClassic words (saying.Task (Free name frames)) = (words ≡ noncyclic_word ∷ name ∷ []) × (frames ≡ [])
+SaysClassic words (saying.Frame f) = SaysFrame words f
+SaysClassic words saying.End = words ≡ end_word ∷ []
 
 -- A text reads as a set that keeps the limits where the fields of its lines that aren't skipped are `drt-classic 1` and, line by line,
 -- the lines of the set's tasks and `end`.
-pub record Reads (bytes : List ℕ) (tasks : List Classic) : Type 0 where
+pub record ReadsClassic (bytes : List ℕ) (tasks : List Classic) : Type 0 where
   pub limits : IsClassicSet tasks
   pub below : List (List (List ℕ))
   pub spelled : said bytes ≡ head_line ∷ below
-  pub lines : AllZip Says below (lines_of tasks)
+  pub lines : AllZip SaysClassic below (lines_of tasks)
 
 -- A text has this fault: it is the one that the tables of codes give (ClassicFaults.antt), and the text reads as no set.
-pub record HasFault (bytes : List ℕ) (line code : ℕ) : Type 0 where
+pub record HasClassicFault (bytes : List ℕ) (line code : ℕ) : Type 0 where
   pub first : fault_of bytes ≡ Some (line, code)
-  pub reads_as_none : (tasks : List Classic) → ¬ Reads bytes tasks
+  pub reads_as_none : (tasks : List Classic) → ¬ ReadsClassic bytes tasks
 
 -- Why a text isn't read: it has that fault, or memory ran out.
-abbrev pub IsCauseOf : List ℕ → ClassicError → Type 0
-IsCauseOf bytes (errors.Fault f) = HasFault bytes f.line f.code
-IsCauseOf bytes errors.Memory = Unit {0}
+abbrev pub IsClassicCauseOf : List ℕ → ClassicError → Type 0
+IsClassicCauseOf bytes (errors.Fault f) = HasClassicFault bytes f.line f.code
+IsClassicCauseOf bytes errors.Memory = Unit {0}

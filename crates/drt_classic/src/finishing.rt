@@ -2,7 +2,7 @@
 ghost use Rattle.std.specs.Prelude.{◌≡◌, map, IfOk};
 ghost use Rattle.drt_classic.specs.declared.fault.ClassicError.TheVariants.{Fault};
 ghost use Rattle.drt_classic.specs.ClassicFaults.{closing, finish, first_without_frame, has_no_frame, task_of};
-ghost use Rattle.drt_classic.specs.Gives.{Gives};
+ghost use Rattle.drt_classic.specs.Gives.{GivesClassic};
 
 use crate::classic::Classic;
 use crate::codes::*;
@@ -61,7 +61,7 @@ fn closing(
     drafts: Row<Draft>,
     ended: bool,
 ) -> Result<Row<Classic>, ClassicError>
-    ensures { Gives result (closing n drafts ended) }
+    ensures { GivesClassic result (closing n drafts ended) }
 {
     if drafts.as_slice().is_empty() {
         return Err(fault_at(n, NO_TASK));
@@ -80,7 +80,7 @@ fn closing(
 /// The tasks that a text says, from what its lines leave; n is the number behind its last line.
 #[tactic(auto, unfolding(crate::specs::ClassicFaults::finish))]
 pub fn finish(alloc: Global, n: u32, above: Option<State>) -> Result<Row<Classic>, ClassicError>
-    ensures { Gives result (finish n above) }
+    ensures { GivesClassic result (finish n above) }
 {
     match above {
         None => Err(fault_at(n, NO_HEAD)),

@@ -5,7 +5,7 @@ ghost use Rattle.drt_file.specs.trusted.Line.{is_in_range};
 ghost use Rattle.drt_file.specs.trusted.Words.{is_number, value};
 ghost use Rattle.drt_classic.specs.declared.fault.ClassicError.TheVariants.{Fault};
 ghost use Rattle.drt_classic.specs.declared.state.Kind.TheVariants as kinds;
-ghost use Rattle.drt_classic.specs.Gives.{Gives, second_word};
+ghost use Rattle.drt_classic.specs.Gives.{GivesClassic, second_word};
 ghost use Rattle.drt_classic.specs.ClassicFaults.{
   fault_of_line,
   end_fault,
@@ -140,7 +140,7 @@ fn sporadic_fault(s: &State, name: &[u8], wcet: &[u8], deadline: &[u8], period: 
 // A `sporadic` line.
 #[tactic(auto, unfolding(crate::specs::ClassicFaults::sporadic_fault, crate::specs::ClassicFaults::unless, crate::specs::ClassicFaults::said_by))]
 fn sporadic_line(alloc: Global, n: u32, s: &State, words: &[&[u8]]) -> Result<Line, ClassicError>
-    ensures { Gives result (unless n (sporadic_fault s.now (map (λ w. w.now) words.now)) (said_by kinds.Sporadic (map (λ w. w.now) words.now))) }
+    ensures { GivesClassic result (unless n (sporadic_fault s.now (map (λ w. w.now) words.now)) (said_by kinds.Sporadic (map (λ w. w.now) words.now))) }
 {
     match words {
         [_, name, wcet, deadline, period] => match sporadic_fault(s, name, wcet, deadline, period) {
@@ -253,7 +253,7 @@ fn multiframe_fault(
 // A `multiframe` line.
 #[tactic(auto, unfolding(crate::specs::ClassicFaults::multiframe_fault, crate::specs::ClassicFaults::unless, crate::specs::ClassicFaults::said_by))]
 fn multiframe_line(alloc: Global, n: u32, s: &State, words: &[&[u8]]) -> Result<Line, ClassicError>
-    ensures { Gives result (unless n (multiframe_fault s.now (map (λ w. w.now) words.now)) (said_by kinds.Multiframe (map (λ w. w.now) words.now))) }
+    ensures { GivesClassic result (unless n (multiframe_fault s.now (map (λ w. w.now) words.now)) (said_by kinds.Multiframe (map (λ w. w.now) words.now))) }
 {
     match words {
         [_, name, deadline, period, wcets @ ..] => {
@@ -286,7 +286,7 @@ fn open_fault(s: &State, name: &[u8]) -> Option<u8>
 // The name of a `gmf` or `noncyclic` line, or the fault of the line.
 #[tactic(auto, unfolding(crate::specs::ClassicFaults::open_fault, crate::specs::ClassicFaults::unless))]
 fn open_name(alloc: Global, n: u32, s: &State, words: &[&[u8]]) -> Result<Name, ClassicError>
-    ensures { Gives result (unless n (open_fault s.now (map (λ w. w.now) words.now)) (second_word (map (λ w. w.now) words.now))) }
+    ensures { GivesClassic result (unless n (open_fault s.now (map (λ w. w.now) words.now)) (second_word (map (λ w. w.now) words.now))) }
 {
     match words {
         [_, name] => match open_fault(s, name) {
@@ -300,7 +300,7 @@ fn open_name(alloc: Global, n: u32, s: &State, words: &[&[u8]]) -> Result<Name, 
 // A `gmf` line.
 #[tactic(auto, unfolding(crate::specs::ClassicFaults::open_fault, crate::specs::ClassicFaults::unless, crate::specs::ClassicFaults::said_by))]
 fn gmf_line(alloc: Global, n: u32, s: &State, words: &[&[u8]]) -> Result<Line, ClassicError>
-    ensures { Gives result (unless n (open_fault s.now (map (λ w. w.now) words.now)) (said_by kinds.Gmf (map (λ w. w.now) words.now))) }
+    ensures { GivesClassic result (unless n (open_fault s.now (map (λ w. w.now) words.now)) (said_by kinds.Gmf (map (λ w. w.now) words.now))) }
 {
     let name = open_name(alloc, n, s, words)?;
     Ok(Line::Task(Classic::Cyclic {
@@ -312,7 +312,7 @@ fn gmf_line(alloc: Global, n: u32, s: &State, words: &[&[u8]]) -> Result<Line, C
 // A `noncyclic` line.
 #[tactic(auto, unfolding(crate::specs::ClassicFaults::open_fault, crate::specs::ClassicFaults::unless, crate::specs::ClassicFaults::said_by))]
 fn noncyclic_line(alloc: Global, n: u32, s: &State, words: &[&[u8]]) -> Result<Line, ClassicError>
-    ensures { Gives result (unless n (open_fault s.now (map (λ w. w.now) words.now)) (said_by kinds.Noncyclic (map (λ w. w.now) words.now))) }
+    ensures { GivesClassic result (unless n (open_fault s.now (map (λ w. w.now) words.now)) (said_by kinds.Noncyclic (map (λ w. w.now) words.now))) }
 {
     let name = open_name(alloc, n, s, words)?;
     Ok(Line::Task(Classic::Free {
@@ -371,7 +371,7 @@ fn frame_fault(s: &State, wcet: &[u8], deadline: &[u8], sep: &[u8]) -> Option<u8
 // A `frame` line.
 #[tactic(auto, unfolding(crate::specs::ClassicFaults::frame_fault, crate::specs::ClassicFaults::unless, crate::specs::ClassicFaults::said_by))]
 fn frame_line(n: u32, s: &State, words: &[&[u8]]) -> Result<Line, ClassicError>
-    ensures { Gives result (unless n (frame_fault s.now (map (λ w. w.now) words.now)) (said_by kinds.Frame (map (λ w. w.now) words.now))) }
+    ensures { GivesClassic result (unless n (frame_fault s.now (map (λ w. w.now) words.now)) (said_by kinds.Frame (map (λ w. w.now) words.now))) }
 {
     match words {
         [_, wcet, deadline, sep] => match frame_fault(s, wcet, deadline, sep) {
@@ -385,7 +385,7 @@ fn frame_line(n: u32, s: &State, words: &[&[u8]]) -> Result<Line, ClassicError>
 // An `end` line.
 #[tactic(auto, unfolding(crate::specs::ClassicFaults::end_fault, crate::specs::ClassicFaults::unless, crate::specs::ClassicFaults::said_by))]
 fn end_line(n: u32, words: &[&[u8]]) -> Result<Line, ClassicError>
-    ensures { Gives result (unless n (end_fault (map (λ w. w.now) words.now)) (said_by kinds.End (map (λ w. w.now) words.now))) }
+    ensures { GivesClassic result (unless n (end_fault (map (λ w. w.now) words.now)) (said_by kinds.End (map (λ w. w.now) words.now))) }
 {
     match words {
         [_] => Ok(Line::End),
@@ -401,7 +401,7 @@ fn line_of_kind(
     s: &State,
     words: &[&[u8]],
 ) -> Result<Line, ClassicError>
-    ensures { Gives result (unless n (kind_fault kind s.now (map (λ w. w.now) words.now)) (said_by kind (map (λ w. w.now) words.now))) }
+    ensures { GivesClassic result (unless n (kind_fault kind s.now (map (λ w. w.now) words.now)) (said_by kind (map (λ w. w.now) words.now))) }
 {
     match kind {
         Kind::Sporadic => sporadic_line(alloc, n, s, words),
@@ -423,7 +423,7 @@ pub fn parse_line(
     line: &[u8],
     words: &[&[u8]],
 ) -> Result<Line, ClassicError>
-    ensures { Gives result (unless n (fault_of_line s.now line.now (map (λ w. w.now) words.now))
+    ensures { GivesClassic result (unless n (fault_of_line s.now line.now (map (λ w. w.now) words.now))
         (said_by (kind (first_word (map (λ w. w.now) words.now))) (map (λ w. w.now) words.now))) }
 {
     if !all_text(line) {

@@ -16,8 +16,8 @@ ghost use Rattle.drt_classic.specs.ClassicFaults.{
   steps,
   unless,
 };
-ghost use Rattle.drt_classic.specs.ClassicReading.{Reads, IsCauseOf};
-ghost use Rattle.drt_classic.specs.Gives.{Gives};
+ghost use Rattle.drt_classic.specs.ClassicReading.{ReadsClassic, IsClassicCauseOf};
+ghost use Rattle.drt_classic.specs.Gives.{GivesClassic};
 
 use crate::classic::{Classic, ClassicSet};
 use crate::codes::NO_HEAD;
@@ -34,7 +34,7 @@ use std::alloc::Global;
 // What the first line that isn't skipped leaves, or its fault.
 #[tactic(auto, unfolding(crate::specs::ClassicFaults::unless))]
 fn first(alloc: Global, n: u32, words: &[&[u8]]) -> Result<Option<State>, ClassicError>
-    ensures { Gives result (unless n (if is_head (map (λ w. w.now) words.now) then None else Some 31) (Some opening)) }
+    ensures { GivesClassic result (unless n (if is_head (map (λ w. w.now) words.now) then None else Some 31) (Some opening)) }
 {
     if head(words) {
         Ok(Some(open(alloc)))
@@ -55,7 +55,7 @@ fn below(
     line: &[u8],
     words: &[&[u8]],
 ) -> Result<Option<State>, ClassicError>
-    ensures { Gives result (unless n (fault_of_line s line.now (map (λ w. w.now) words.now))
+    ensures { GivesClassic result (unless n (fault_of_line s line.now (map (λ w. w.now) words.now))
         (Some (after_line n s (said_by (kind (first_word (map (λ w. w.now) words.now))) (map (λ w. w.now) words.now))))) }
 {
     match parse_line(alloc, n, &s, line, words) {
@@ -77,7 +77,7 @@ fn line_step(
     line: &[u8],
     words: &[&[u8]],
 ) -> Result<Option<State>, ClassicError>
-    ensures { Gives result (line_step n above line.now (map (λ w. w.now) words.now)) }
+    ensures { GivesClassic result (line_step n above line.now (map (λ w. w.now) words.now)) }
 {
     match above {
         None => first(alloc, n, words),
@@ -93,7 +93,7 @@ fn words_step(
     line: &[u8],
     words: &[&[u8]],
 ) -> Result<Option<State>, ClassicError>
-    ensures { Gives result (if is_skipped (map (λ w. w.now) words.now) then Ok above else line_step n above line.now (map (λ w. w.now) words.now)) }
+    ensures { GivesClassic result (if is_skipped (map (λ w. w.now) words.now) then Ok above else line_step n above line.now (map (λ w. w.now) words.now)) }
 {
     if skipped(words) {
         Ok(above)
@@ -109,7 +109,7 @@ fn step(
     above: Option<State>,
     line: &[u8],
 ) -> Result<Option<State>, ClassicError>
-    ensures { Gives result (step n above line.now) }
+    ensures { GivesClassic result (step n above line.now) }
 {
     match fields_of(alloc, line) {
         Ok(words) => words_step(alloc, n, above, line, words.as_slice()),
@@ -122,7 +122,7 @@ fn step(
 
 fn all_lines(alloc: Global, text: &[u8]) -> Result<(u32, Option<State>), ClassicError>
     requires { length text.now ≤ 1073741824 }
-    ensures { Gives result (steps 1 None (lines text.now)) }
+    ensures { GivesClassic result (steps 1 None (lines text.now)) }
 {
     let mut n: u32 = 1;
     let mut above = None;
@@ -140,7 +140,7 @@ fn all_lines(alloc: Global, text: &[u8]) -> Result<(u32, Option<State>), Classic
 #[tactic(auto, unfolding(crate::specs::ClassicFaults::read_text))]
 fn tasks_of(alloc: Global, bytes: &[u8]) -> Result<Row<Classic>, ClassicError>
     requires { length bytes.now ≤ 1073741824 }
-    ensures { Gives result (read_text bytes.now) }
+    ensures { GivesClassic result (read_text bytes.now) }
 {
     let (n, above) = all_lines(alloc, bytes)?;
     finish(alloc, n, above)
@@ -152,8 +152,8 @@ fn tasks_of(alloc: Global, bytes: &[u8]) -> Result<Row<Classic>, ClassicError>
 /// most 16.
 pub fn read(alloc: Global, bytes: &[u8]) -> Result<ClassicSet, ClassicError>
     requires { length bytes.now ≤ 1073741824 }
-    ensures read { IfOk result (λ set. Reads bytes.now set) }
-    ensures fault { IfErr result (IsCauseOf bytes.now) }
+    ensures read { IfOk result (λ set. ReadsClassic bytes.now set) }
+    ensures fault { IfErr result (IsClassicCauseOf bytes.now) }
 {
     let tasks = tasks_of(alloc, bytes)?;
     Ok(ClassicSet { tasks })

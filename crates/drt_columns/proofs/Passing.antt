@@ -2,9 +2,9 @@
 use Rattle.std.proofs.Common.{◌≡◌, ◌≢◌, ℕ, zero, suc, ◌+◌, ◌<◌, ◌≤◌, Some, List, [], ◌∷◌, ◌++◌, length, drop, refl, sym, ap, ◌∙◌, arith, add-one, append_assoc}
 use Rattle.std.specs.Prelude.{slice_get, slice_index}
 use Rattle.std.proofs.lemmas.Option.{none-some, same_Some, slice_get_within}
-use Rattle.drt_columns.specs.Entries.{Entry, AreBelow, IsBelow}
+use Rattle.drt_columns.specs.Entries.{KeptLabel, AreRuledOut, IsRuledOut}
 use Rattle.drt_columns.specs.Shelf.{Shelf, entries_in}
-use Rattle.drt_columns.specs.Seeking.{IsFoundAt, IsSeek, IsSeeking, entries_here, remaining}
+use Rattle.drt_columns.specs.Seeking.{IsFoundLabelAt, IsSeek, IsSeeking, entries_here, remaining}
 use Rattle.drt_columns.specs.Slots.{IsMask}
 use Rattle.drt_columns.specs.declared.seek.Seek.{Seek}
 use Rattle.drt_columns.proofs.Shelves.{here_at, here_past, in_at, in_past, skip_from}
@@ -14,7 +14,7 @@ module _ (shelf : Shelf) (seek : Seek) (from : ℕ) (le : from ≤ seek.block) (
   abbrev pub Begins : Type 0
   Begins = IsSeek shelf seek seek.samples (entries_in seek.vertex (drop from shelf.owners) (drop from shelf.blocks))
 
-  pub begins_at : (block : List Entry) → slice_get shelf.owners seek.block ≡ Some seek.vertex → slice_get shelf.blocks seek.block ≡ Some block → seek.slot ≡ 0
+  pub begins_at : (block : List KeptLabel) → slice_get shelf.owners seek.block ≡ Some seek.vertex → slice_get shelf.blocks seek.block ≡ Some block → seek.slot ≡ 0
       → IsMask block seek.samples seek.possible → Begins
   begins_at block owned at first mask = record {
     seeking = record { masked = λ other there. rw (same_Some other block (sym there ∙ at)) mask };
@@ -44,27 +44,27 @@ module _ (shelf : Shelf) (seek : Seek) (from : ℕ) (le : from ≤ seek.block) (
 
 -- entries with a sample that is less
 module _ (samples : List ℕ) where
-  pub below_more : (x : Entry) (xs : List Entry) → IsBelow samples x → AreBelow samples xs → AreBelow samples (x ∷ xs)
+  pub below_more : (x : KeptLabel) (xs : List KeptLabel) → IsRuledOut samples x → AreRuledOut samples xs → AreRuledOut samples (x ∷ xs)
   below_more x xs here rest zero e at = rw (sym (same_Some x e at)) here
   below_more x xs here rest (suc i) e at = rest i e at
 
-  pub below_append : (xs ys : List Entry) → AreBelow samples xs → AreBelow samples ys → AreBelow samples (xs ++ ys)
+  pub below_append : (xs ys : List KeptLabel) → AreRuledOut samples xs → AreRuledOut samples ys → AreRuledOut samples (xs ++ ys)
   below_append [] ys left right = right
   below_append (x ∷ xs) ys left right = below_more x (xs ++ ys) (left zero x refl) (below_append xs ys (λ i e at. left (suc i) e at) right)
 
-  pub below_from : (slot : ℕ) (block : List Entry) → ((k : ℕ) (e : Entry) → slot ≤ k → slice_get block k ≡ Some e → IsBelow samples e) → AreBelow samples (drop slot block)
+  pub below_from : (slot : ℕ) (block : List KeptLabel) → ((k : ℕ) (e : KeptLabel) → slot ≤ k → slice_get block k ≡ Some e → IsRuledOut samples e) → AreRuledOut samples (drop slot block)
   below_from zero block all = λ i e at. all i e (omega arith) at
   below_from (suc slot) [] all = λ i e at. absurd (none-some e at)
   below_from (suc slot) (x ∷ block) all = below_from slot block (λ k e le at. all (suc k) e (omega arith) at)
 
   -- the entries of a block between two slots, with an entry at the second one
-  pub record IsSplit (block : List Entry) (from slot : ℕ) (e : Entry) : Type 0 where
-    pub part : List Entry
+  pub record IsSplit (block : List KeptLabel) (from slot : ℕ) (e : KeptLabel) : Type 0 where
+    pub part : List KeptLabel
     pub is : drop from block ≡ part ++ e ∷ drop (suc slot) block
-    pub below : AreBelow samples part
+    pub below : AreRuledOut samples part
 
-  pub split : (block : List Entry) (from slot : ℕ) (e : Entry) → from ≤ slot → slice_get block slot ≡ Some e
-      → ((k : ℕ) (x : Entry) → from ≤ k → k < slot → slice_get block k ≡ Some x → IsBelow samples x) → IsSplit block from slot e
+  pub split : (block : List KeptLabel) (from slot : ℕ) (e : KeptLabel) → from ≤ slot → slice_get block slot ≡ Some e
+      → ((k : ℕ) (x : KeptLabel) → from ≤ k → k < slot → slice_get block k ≡ Some x → IsRuledOut samples x) → IsSplit block from slot e
   split [] from slot e le at all = absurd (none-some e at)
   split (x ∷ block) zero zero e le at all = record { part = []; is = ap (λ y. y ∷ block) (same_Some x e at); below = λ i y none. absurd (none-some y none) }
   split (x ∷ block) zero (suc slot) e le at all =
@@ -79,16 +79,16 @@ module _ (samples : List ℕ) where
 pub record HasPassed (shelf : Shelf) (initial seek : Seek) : Type 0 where
   pub seeking : IsSeeking shelf seek
   pub samples_is : seek.samples ≡ initial.samples
-  pub passed : List Entry
+  pub passed : List KeptLabel
   pub rest_is : remaining shelf initial ≡ passed ++ remaining shelf seek
-  pub below : AreBelow initial.samples passed
+  pub below : AreRuledOut initial.samples passed
 
 pub passed_none : (shelf : Shelf) (seek : Seek) → IsSeeking shelf seek → HasPassed shelf seek seek
 passed_none shelf seek h = record { seeking = h; samples_is = refl; passed = []; rest_is = refl; below = λ i e at. absurd (none-some e at) }
 
 module _ (shelf : Shelf) (initial seek : Seek) (h : HasPassed shelf initial seek) where
   -- a look at its end
-  pub passed_all : length shelf.owners ≤ seek.block → length shelf.blocks ≤ seek.block → AreBelow initial.samples (remaining shelf initial)
+  pub passed_all : length shelf.owners ≤ seek.block → length shelf.blocks ≤ seek.block → AreRuledOut initial.samples (remaining shelf initial)
   passed_all past none =
       let here : entries_here (drop seek.block shelf.blocks) seek.slot ≡ [] = here_past seek.block seek.slot shelf.blocks none in
       let after : entries_in seek.vertex (drop (seek.block + 1) shelf.owners) (drop (seek.block + 1) shelf.blocks) ≡ [] =
@@ -96,12 +96,12 @@ module _ (shelf : Shelf) (initial seek : Seek) (h : HasPassed shelf initial seek
       let left : remaining shelf seek ≡ [] = ap (λ xs. xs ++ entries_in seek.vertex (drop (seek.block + 1) shelf.owners) (drop (seek.block + 1) shelf.blocks)) here ∙ after in
       rw (h.rest_is, left) (below_append initial.samples h.passed [] h.below (λ i e at. absurd (none-some e at)))
 
-  module _ (block : List Entry) (at : slice_get shelf.blocks seek.block ≡ Some block) where
+  module _ (block : List KeptLabel) (at : slice_get shelf.blocks seek.block ≡ Some block) where
     -- what comes after the block that the look is at
-    abbrev pub later : List Entry
+    abbrev pub later : List KeptLabel
     later = entries_in seek.vertex (drop (seek.block + 1) shelf.owners) (drop (seek.block + 1) shelf.blocks)
 
-    ruled_out : (k : ℕ) (e : Entry) → slice_index seek.possible k ≡ 0 → slice_get block k ≡ Some e → IsBelow initial.samples e
+    ruled_out : (k : ℕ) (e : KeptLabel) → slice_index seek.possible k ≡ 0 → slice_get block k ≡ Some e → IsRuledOut initial.samples e
     ruled_out k e none there = rw (← h.samples_is) ((h.seeking.masked block at).below k e there none)
 
     left_is : remaining shelf seek ≡ drop seek.slot block ++ later
@@ -119,8 +119,8 @@ module _ (shelf : Shelf) (initial seek : Seek) (h : HasPassed shelf initial seek
     }
 
     -- an entry of the block is left, and the look stops there
-    pub stops : (slot : ℕ) (e : Entry) → seek.slot ≤ slot → slice_get block slot ≡ Some e → ((k : ℕ) → seek.slot ≤ k → k < slot → slice_index seek.possible k ≡ 0)
-        → IsFoundAt shelf (record seek { slot = slot + 1 }) initial.samples (remaining shelf initial) e.number
+    pub stops : (slot : ℕ) (e : KeptLabel) → seek.slot ≤ slot → slice_get block slot ≡ Some e → ((k : ℕ) → seek.slot ≤ k → k < slot → slice_index seek.possible k ≡ 0)
+        → IsFoundLabelAt shelf (record seek { slot = slot + 1 }) initial.samples (remaining shelf initial) e.number
     stops slot e le there zeros =
         let r : IsSplit initial.samples block seek.slot slot e = split initial.samples block seek.slot slot e le there (λ k x low lt here. ruled_out k x (zeros k low lt) here) in
         record {

@@ -5,8 +5,8 @@ use Rattle.std.proofs.lemmas.List.{get_or-set_same, get_or-set_other}
 use Rattle.std.proofs.lemmas.List.Sums.{sum_by-cons, sum_by-set}
 use Rattle.std.proofs.lemmas.Option.{same_Some, slice_get_within}
 use Rattle.drt_worklist.proofs.Writes.{set_here}
-use Rattle.drt_columns.specs.Entries.{Entry}
-use Rattle.drt_columns.specs.Kept.{IsKept, IsOpen}
+use Rattle.drt_columns.specs.Entries.{KeptLabel}
+use Rattle.drt_columns.specs.Kept.{AreSlotsKept, IsOpen}
 use Rattle.drt_columns.specs.declared.columns.Columns.TheInside.{Inside}
 use Rattle.drt_columns.proofs.Ends.{before_at, end_at, last_at, set_elsewhere}
 use Rattle.drt_columns.specs.Shelf.{entries_in}
@@ -14,9 +14,9 @@ use Rattle.drt_columns.proofs.Shelves.{are_same, in_longer, in_more, in_other, i
 use Rattle.std.proofs.lemmas.Grind.{get_or_default_zero}
 use Rattle.std.proofs.lemmas.List.{append-nil}
 
-module _ (owners : List ℕ) (blocks : List (List Entry)) where
+module _ (owners : List ℕ) (blocks : List (List KeptLabel)) where
   -- a block more: the last one of its vertex
-  pub opened : (vertex : ℕ) (e : Entry) → length owners ≡ length blocks → IsOpen (owners ++ vertex ∷ []) (blocks ++ (e ∷ []) ∷ []) vertex (length blocks) 63
+  pub opened : (vertex : ℕ) (e : KeptLabel) → length owners ≡ length blocks → IsOpen (owners ++ vertex ∷ []) (blocks ++ (e ∷ []) ∷ []) vertex (length blocks) 63
   opened vertex e same = record {
     block = e ∷ [];
     at = last_at blocks (e ∷ []);
@@ -26,7 +26,7 @@ module _ (owners : List ℕ) (blocks : List (List Entry)) where
   }
 
   -- and the last ones of the others stay
-  pub open_stays : (other last free vertex : ℕ) (block : List Entry) → other ≢ vertex → IsOpen owners blocks other last free → IsOpen (owners ++ vertex ∷ []) (blocks ++ block ∷ []) other last free
+  pub open_stays : (other last free vertex : ℕ) (block : List KeptLabel) → other ≢ vertex → IsOpen owners blocks other last free → IsOpen (owners ++ vertex ∷ []) (blocks ++ block ∷ []) other last free
   open_stays other last free vertex block ne h = record {
     block = h.block;
     at = before_at blocks block last (slice_get_within blocks last h.block h.at) ∙ h.at;
@@ -36,7 +36,7 @@ module _ (owners : List ℕ) (blocks : List (List Entry)) where
   }
 
   -- an entry more in the last block of a vertex
-  pub filled : (vertex last free : ℕ) (e : Entry) (h : IsOpen owners blocks vertex last free) → 0 < free → IsOpen owners (set blocks last (h.block ++ e ∷ [])) vertex last (free - 1)
+  pub filled : (vertex last free : ℕ) (e : KeptLabel) (h : IsOpen owners blocks vertex last free) → 0 < free → IsOpen owners (set blocks last (h.block ++ e ∷ [])) vertex last (free - 1)
   filled vertex last free e h some = record {
     block = h.block ++ e ∷ [];
     at = set_here blocks last (h.block ++ e ∷ []) (slice_get_within blocks last h.block h.at);
@@ -45,7 +45,7 @@ module _ (owners : List ℕ) (blocks : List (List Entry)) where
     is_last = h.is_last;
   }
 
-  pub open_same : (other last free vertex place : ℕ) (block : List Entry) → other ≢ vertex → slice_get owners place ≡ Some vertex → IsOpen owners blocks other last free
+  pub open_same : (other last free vertex place : ℕ) (block : List KeptLabel) → other ≢ vertex → slice_get owners place ≡ Some vertex → IsOpen owners blocks other last free
       → IsOpen owners (set blocks place block) other last free
   open_same other last free vertex place block ne owned h = record {
     block = h.block;
@@ -70,14 +70,14 @@ sum_few (n ∷ free) few =
     let rest : sum free ≤ 64 * length free = sum_few free (λ k. few (suc k)) in
     omega (arith, sum_by-cons (λ x. x) n free)
 
-pub block_room : (c : Inside) (capacity : ℕ) → IsKept c → c.count < c.room → c.room + 64 * length c.free.items ≤ 64 * capacity → length c.blocks.items < capacity
+pub block_room : (c : Inside) (capacity : ℕ) → AreSlotsKept c → c.count < c.room → c.room + 64 * length c.free.items ≤ 64 * capacity → length c.blocks.items < capacity
 block_room c capacity h room fits =
     let counted : 64 * length c.blocks.items ≡ c.count + sum c.free.items = h.counted in
     let few : sum c.free.items ≤ 64 * length c.free.items = sum_few c.free.items h.few_free in
     omega arith
 
 -- the vertices with free slots after a push
-module _ (owners : List ℕ) (blocks : List (List Entry)) (lasts free : List ℕ) (vertex : ℕ) (e : Entry) (lasts_len : length lasts ≡ length free) (within : vertex < length free)
+module _ (owners : List ℕ) (blocks : List (List KeptLabel)) (lasts free : List ℕ) (vertex : ℕ) (e : KeptLabel) (lasts_len : length lasts ≡ length free) (within : vertex < length free)
     (open_blocks : (other : ℕ) → 0 < slice_index free other → IsOpen owners blocks other (slice_index lasts other) (slice_index free other)) where
   pub open_more : length owners ≡ length blocks → (other : ℕ) → 0 < slice_index (set free vertex 63) other
       → IsOpen (owners ++ vertex ∷ []) (blocks ++ (e ∷ []) ∷ []) other (slice_index (set lasts vertex (length blocks)) other) (slice_index (set free vertex 63) other)
@@ -102,7 +102,7 @@ module _ (owners : List ℕ) (blocks : List (List Entry)) (lasts free : List ℕ
       ]
 
 -- The fields after a push that begins a block.
-pub record HasMore (c d : Inside) (vertex : ℕ) (e : Entry) : Type 0 where
+pub record HasMore (c d : Inside) (vertex : ℕ) (e : KeptLabel) : Type 0 where
   pub owners : d.owners.items ≡ c.owners.items ++ vertex ∷ []
   pub blocks : d.blocks.items ≡ c.blocks.items ++ (e ∷ []) ∷ []
   pub lasts : d.lasts.items ≡ set c.lasts.items vertex (length c.blocks.items)
@@ -113,7 +113,7 @@ pub record HasMore (c d : Inside) (vertex : ℕ) (e : Entry) : Type 0 where
   pub blocks_capacity : vec_capacity d.blocks ≡ vec_capacity c.blocks
 
 -- The fields after a push into a block that was begun before.
-pub record HasFilled (c d : Inside) (vertex : ℕ) (e : Entry) (block : List Entry) : Type 0 where
+pub record HasFilled (c d : Inside) (vertex : ℕ) (e : KeptLabel) (block : List KeptLabel) : Type 0 where
   pub owners : d.owners.items ≡ c.owners.items
   pub blocks : d.blocks.items ≡ set c.blocks.items (slice_index c.lasts.items vertex) (block ++ e ∷ [])
   pub lasts : d.lasts.items ≡ c.lasts.items
@@ -123,8 +123,8 @@ pub record HasFilled (c d : Inside) (vertex : ℕ) (e : Entry) (block : List Ent
   pub owners_capacity : vec_capacity d.owners ≡ vec_capacity c.owners
   pub blocks_capacity : vec_capacity d.blocks ≡ vec_capacity c.blocks
 
-module _ (c d : Inside) (vertex : ℕ) (e : Entry) (h : IsKept c) (room : c.count < c.room) (within : vertex < length c.free.items) where
-  pub kept_more : slice_index c.free.items vertex ≡ 0 → HasMore c d vertex e → IsKept d
+module _ (c d : Inside) (vertex : ℕ) (e : KeptLabel) (h : AreSlotsKept c) (room : c.count < c.room) (within : vertex < length c.free.items) where
+  pub kept_more : slice_index c.free.items vertex ≡ 0 → HasMore c d vertex e → AreSlotsKept d
   kept_more full m = record {
     paired = rw (m.owners, m.blocks)
         (let same : length c.owners.items ≡ length c.blocks.items = h.paired in omega (arith, length-append c.owners.items (vertex ∷ []), length-append c.blocks.items ((e ∷ []) ∷ [])));
@@ -141,7 +141,7 @@ module _ (c d : Inside) (vertex : ℕ) (e : Entry) (h : IsKept c) (room : c.coun
   }
 
   pub kept_filled : (begun : IsOpen c.owners.items c.blocks.items vertex (slice_index c.lasts.items vertex) (slice_index c.free.items vertex)) → 0 < slice_index c.free.items vertex
-      → HasFilled c d vertex e begun.block → IsKept d
+      → HasFilled c d vertex e begun.block → AreSlotsKept d
   kept_filled begun left m = record {
     paired = rw (m.owners, m.blocks) (h.paired ∙ sym (length-set c.blocks.items (slice_index c.lasts.items vertex) (begun.block ++ e ∷ [])));
     lasts_len = rw (m.lasts, m.free) (h.lasts_len ∙ sym (length-set c.free.items vertex (slice_index c.free.items vertex - 1)));

@@ -4,7 +4,7 @@ use Rattle.std.specs.Prelude.{slice_get, ◌==◌}
 use Rattle.std.proofs.lemmas.Bool.Decides.{nat_tests}
 use Rattle.std.proofs.lemmas.List.{append-nil, drop_all}
 use Rattle.std.proofs.lemmas.Option.{none-some, same_Some}
-use Rattle.drt_columns.specs.Entries.{Entry}
+use Rattle.drt_columns.specs.Entries.{KeptLabel}
 use Rattle.drt_columns.specs.Shelf.{entries_in}
 use Rattle.drt_columns.specs.Seeking.{entries_here}
 
@@ -19,11 +19,11 @@ test_other a b ne = grind (arith, nat_tests)
 
 module _ (vertex : ℕ) where
   -- a block of the vertex, and one of another one
-  pub in_own : (owner : ℕ) (owners : List ℕ) (block : List Entry) (blocks : List (List Entry)) → owner ≡ vertex
+  pub in_own : (owner : ℕ) (owners : List ℕ) (block : List KeptLabel) (blocks : List (List KeptLabel)) → owner ≡ vertex
       → entries_in vertex (owner ∷ owners) (block ∷ blocks) ≡ block ++ entries_in vertex owners blocks
   in_own owner owners block blocks e = ap (λ t. cond t (block ++ entries_in vertex owners blocks) (entries_in vertex owners blocks)) (test_same owner vertex e)
 
-  pub in_other : (owner : ℕ) (owners : List ℕ) (block : List Entry) (blocks : List (List Entry)) → owner ≢ vertex
+  pub in_other : (owner : ℕ) (owners : List ℕ) (block : List KeptLabel) (blocks : List (List KeptLabel)) → owner ≢ vertex
       → entries_in vertex (owner ∷ owners) (block ∷ blocks) ≡ entries_in vertex owners blocks
   in_other owner owners block blocks ne = ap (λ t. cond t (block ++ entries_in vertex owners blocks) (entries_in vertex owners blocks)) (test_other owner vertex ne)
 
@@ -32,7 +32,7 @@ module _ (vertex : ℕ) where
   in_none (owner ∷ owners) = refl
 
   -- no block of the vertex stands before one
-  skip : (to : ℕ) (owners : List ℕ) (blocks : List (List Entry)) → ((k : ℕ) → k < to → slice_get owners k ≢ Some vertex)
+  skip : (to : ℕ) (owners : List ℕ) (blocks : List (List KeptLabel)) → ((k : ℕ) → k < to → slice_get owners k ≢ Some vertex)
       → entries_in vertex owners blocks ≡ entries_in vertex (drop to owners) (drop to blocks)
   skip zero owners blocks others = refl
   skip (suc to) [] blocks others = refl
@@ -41,7 +41,7 @@ module _ (vertex : ℕ) where
       in_other owner owners block blocks (λ e. others zero (omega arith) (ap (λ n. Some n) e))
       ∙ skip to owners blocks (λ k lt. others (suc k) (omega arith))
 
-  pub skip_from : (from to : ℕ) (owners : List ℕ) (blocks : List (List Entry)) → from ≤ to → ((k : ℕ) → from ≤ k → k < to → slice_get owners k ≢ Some vertex)
+  pub skip_from : (from to : ℕ) (owners : List ℕ) (blocks : List (List KeptLabel)) → from ≤ to → ((k : ℕ) → from ≤ k → k < to → slice_get owners k ≢ Some vertex)
       → entries_in vertex (drop from owners) (drop from blocks) ≡ entries_in vertex (drop to owners) (drop to blocks)
   skip_from zero to owners blocks le others = skip to owners blocks (λ k lt. others k (omega arith) lt)
   skip_from (suc from) zero owners blocks le others = absurd (omega arith)
@@ -50,7 +50,7 @@ module _ (vertex : ℕ) where
   skip_from (suc from) (suc to) (owner ∷ owners) (block ∷ blocks) le others = skip_from from to owners blocks (omega arith) (λ k low lt. others (suc k) (omega arith) (omega arith))
 
   -- from a block of the vertex on
-  pub in_at : (place : ℕ) (owners : List ℕ) (block : List Entry) (blocks : List (List Entry)) → slice_get owners place ≡ Some vertex → slice_get blocks place ≡ Some block
+  pub in_at : (place : ℕ) (owners : List ℕ) (block : List KeptLabel) (blocks : List (List KeptLabel)) → slice_get owners place ≡ Some vertex → slice_get blocks place ≡ Some block
       → entries_in vertex (drop place owners) (drop place blocks) ≡ block ++ entries_in vertex (drop (suc place) owners) (drop (suc place) blocks)
   in_at place [] block blocks owned at = absurd (none-some vertex owned)
   in_at place (owner ∷ owners) block [] owned at = absurd (none-some block at)
@@ -59,25 +59,25 @@ module _ (vertex : ℕ) where
   in_at (suc place) (owner ∷ owners) block (first ∷ blocks) owned at = in_at place owners block blocks owned at
 
   -- past the last block
-  pub in_past : (place : ℕ) (owners : List ℕ) (blocks : List (List Entry)) → length owners ≤ place → entries_in vertex (drop place owners) (drop place blocks) ≡ []
+  pub in_past : (place : ℕ) (owners : List ℕ) (blocks : List (List KeptLabel)) → length owners ≤ place → entries_in vertex (drop place owners) (drop place blocks) ≡ []
   in_past place owners blocks past = ap (λ os. entries_in vertex os (drop place blocks)) (drop_all place owners past)
 
 -- the entries of a block from a slot on, and past the last block
-pub here_at : (place slot : ℕ) (block : List Entry) (blocks : List (List Entry)) → slice_get blocks place ≡ Some block → entries_here (drop place blocks) slot ≡ drop slot block
+pub here_at : (place slot : ℕ) (block : List KeptLabel) (blocks : List (List KeptLabel)) → slice_get blocks place ≡ Some block → entries_here (drop place blocks) slot ≡ drop slot block
 here_at place slot block [] at = absurd (none-some block at)
 here_at zero slot block (first ∷ blocks) at = ap (λ b. drop slot b) (same_Some first block at)
 here_at (suc place) slot block (first ∷ blocks) at = here_at place slot block blocks at
 
-pub here_past : (place slot : ℕ) (blocks : List (List Entry)) → length blocks ≤ place → entries_here (drop place blocks) slot ≡ []
+pub here_past : (place slot : ℕ) (blocks : List (List KeptLabel)) → length blocks ≤ place → entries_here (drop place blocks) slot ≡ []
 here_past place slot blocks past = ap (λ bs. entries_here bs slot) (drop_all place blocks past)
 
 -- a block more at the end, and an entry more in the last block of a vertex
 module _ (vertex : ℕ) where
-  append_by : (test : Bool) (block rest more : List Entry) → cond test (block ++ (rest ++ more)) (rest ++ more) ≡ cond test (block ++ rest) rest ++ more
+  append_by : (test : Bool) (block rest more : List KeptLabel) → cond test (block ++ (rest ++ more)) (rest ++ more) ≡ cond test (block ++ rest) rest ++ more
   append_by true block rest more = sym (append_assoc block rest more)
   append_by false block rest more = refl
 
-  pub in_more : (owners : List ℕ) (blocks : List (List Entry)) (owner : ℕ) (block : List Entry) → length owners ≡ length blocks
+  pub in_more : (owners : List ℕ) (blocks : List (List KeptLabel)) (owner : ℕ) (block : List KeptLabel) → length owners ≡ length blocks
       → entries_in vertex (owners ++ owner ∷ []) (blocks ++ block ∷ []) ≡ entries_in vertex owners blocks ++ entries_in vertex (owner ∷ []) (block ∷ [])
   in_more [] [] owner block same = refl
   in_more [] (first ∷ blocks) owner block same = absurd (omega arith)
@@ -86,10 +86,10 @@ module _ (vertex : ℕ) where
       ap (λ rest. cond (mine == vertex) (first ++ rest) rest) (in_more owners blocks owner block (omega arith))
       ∙ append_by (mine == vertex) first (entries_in vertex owners blocks) (entries_in vertex (owner ∷ []) (block ∷ []))
 
-  pub in_absent : (owners : List ℕ) (blocks : List (List Entry)) → ((k : ℕ) → slice_get owners k ≢ Some vertex) → entries_in vertex owners blocks ≡ []
+  pub in_absent : (owners : List ℕ) (blocks : List (List KeptLabel)) → ((k : ℕ) → slice_get owners k ≢ Some vertex) → entries_in vertex owners blocks ≡ []
   in_absent owners blocks others = skip vertex (length owners) owners blocks (λ k lt. others k) ∙ in_past vertex (length owners) owners blocks (omega arith)
 
-  pub in_longer : (last : ℕ) (owners : List ℕ) (blocks : List (List Entry)) (block : List Entry) (e : Entry) → slice_get owners last ≡ Some vertex
+  pub in_longer : (last : ℕ) (owners : List ℕ) (blocks : List (List KeptLabel)) (block : List KeptLabel) (e : KeptLabel) → slice_get owners last ≡ Some vertex
       → slice_get blocks last ≡ Some block → ((k : ℕ) → last < k → slice_get owners k ≢ Some vertex)
       → entries_in vertex owners (set blocks last (block ++ e ∷ [])) ≡ entries_in vertex owners blocks ++ e ∷ []
   in_longer last [] blocks block e owned at others = absurd (none-some vertex owned)
@@ -107,7 +107,7 @@ module _ (vertex : ℕ) where
       ∙ append_by (owner == vertex) first (entries_in vertex owners blocks) (e ∷ [])
 
   -- a block of another vertex changes
-  pub in_same : (last : ℕ) (owners : List ℕ) (blocks : List (List Entry)) (block : List Entry) (other : ℕ) → slice_get owners last ≡ Some other → other ≢ vertex
+  pub in_same : (last : ℕ) (owners : List ℕ) (blocks : List (List KeptLabel)) (block : List KeptLabel) (other : ℕ) → slice_get owners last ≡ Some other → other ≢ vertex
       → entries_in vertex owners (set blocks last block) ≡ entries_in vertex owners blocks
   in_same last [] blocks block other owned ne = absurd (none-some other owned)
   in_same last (owner ∷ owners) [] block other owned ne = refl

@@ -6,7 +6,7 @@ use Rattle.std.proofs.lemmas.List.{get_or-set_same, get_or-set_other}
 use Rattle.std.proofs.lemmas.Option.{none-some, same_Some, slice_get-get_or}
 use Rattle.drt_worklist.proofs.Writes.{set_at, length_set}
 use Rattle.drt_columns.proofs.Ends.{before_at, last_at}
-use Rattle.drt_columns.specs.Entries.{Entry}
+use Rattle.drt_columns.specs.Entries.{KeptLabel}
 use Rattle.drt_columns.specs.Slots.{AreColumns, first_entries, samples_at}
 
 -- zeros are zeros, and past the end too
@@ -59,7 +59,7 @@ written_more written samples k lt before =
     (get_or-set_same written k (slice_index samples k) 0 lt)
 
 -- the entry in a slot
-abbrev pub entry_at : List ℕ → List (List ℕ) → ℕ → Entry
+abbrev pub entry_at : List ℕ → List (List ℕ) → ℕ → KeptLabel
 entry_at numbers columns slot = record { number = slice_index numbers slot; samples = samples_at columns slot }
 
 module _ (numbers : List ℕ) (columns : List (List ℕ)) where

@@ -5,7 +5,7 @@
 //! compiler makes such a loop wide, and one with an exit it doesn't.
 
 ghost use Rattle.std.specs.Prelude.{◌≡◌, ◌≢◌, ℕ, ◌+◌, ◌<◌, ◌≤◌, ◌∷◌, ◌++◌, [], Some, length, slice_get, slice_index, MatchOption};
-ghost use Rattle.drt_columns.specs.Entries.{Entry};
+ghost use Rattle.drt_columns.specs.Entries.{KeptLabel};
 ghost use Rattle.drt_columns.specs.Slots.{AreColumns, IsMask, kept, samples_at};
 
 use drt_label::SAMPLES;
@@ -27,10 +27,10 @@ pub(crate) struct Block {
 
 impl Model for Block {
     ghost use Rattle.std.specs.Prelude.{List, length, ◌≡◌, ◌≤◌};
-    ghost use Rattle.drt_columns.specs.Entries.{Entry};
+    ghost use Rattle.drt_columns.specs.Entries.{KeptLabel};
     ghost use Rattle.drt_columns.specs.Slots.{AreColumns, first_entries};
 
-    ghost Value = { List Entry };
+    ghost Value = { List KeptLabel };
 
     ghost view = { λ b. first_entries b.numbers b.columns b.count };
 
@@ -63,7 +63,7 @@ impl Block {
     /// The number of the label in a slot.
     pub(crate) fn number(&self, slot: usize) -> u32
         requires { slot < length self.now }
-        ensures { (e : Entry) → slice_get self.now slot ≡ Some e → result ≡ e.number }
+        ensures { (e : KeptLabel) → slice_get self.now slot ≡ Some e → result ≡ e.number }
     {
         let numbers = &self.numbers;
         numbers[slot]

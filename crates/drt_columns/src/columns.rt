@@ -1,8 +1,8 @@
 //! The labels of all vertices, in blocks of one vertex each.
 
 ghost use Rattle.std.specs.Prelude.{◌≡◌, ◌≢◌, ℕ, ◌+◌, ◌<◌, ◌≤◌, ◌∷◌, ◌++◌, [], List, drop, length, IfOk};
-ghost use Rattle.drt_columns.specs.Entries.{Entry};
-ghost use Rattle.drt_columns.specs.Seeking.{IsFound, IsSeek, IsSeeking};
+ghost use Rattle.drt_columns.specs.Entries.{KeptLabel};
+ghost use Rattle.drt_columns.specs.Seeking.{IsFoundLabel, IsSeek, IsSeeking};
 ghost use Rattle.drt_columns.specs.Shelf.{entries, entries_in};
 
 use crate::block::{Block, SLOTS, first_possible};
@@ -27,11 +27,11 @@ impl Model for Columns {
 
     ghost Value = { Shelf };
 
-    ghost use Rattle.drt_columns.specs.Kept.{IsKept, shelf_of};
+    ghost use Rattle.drt_columns.specs.Kept.{AreSlotsKept, shelf_of};
 
     ghost view = { shelf_of };
 
-    ghost invariant = { IsKept };
+    ghost invariant = { AreSlotsKept };
 }
 
 impl Columns {
@@ -118,7 +118,7 @@ impl Columns {
     /// The number of the next label that isn't ruled out by its samples.
     pub fn next(&self, seek: &mut Seek) -> Option<u32>
         requires { IsSeeking self.now seek.old }
-        ensures { (samples : List ℕ) (rest : List Entry) → IsSeek self.now seek.old samples rest → IsFound self.now seek.new samples rest result }
+        ensures { (samples : List ℕ) (rest : List KeptLabel) → IsSeek self.now seek.old samples rest → IsFoundLabel self.now seek.new samples rest result }
     {
         while seek.block < self.blocks.len() {
             if let Some(slot) = first_possible(&seek.possible, seek.slot) {

@@ -1,7 +1,7 @@
 -- What a run did, from what its parts did.
 use Rattle.std.proofs.Common.{◌≡◌, ◌<◌, ◌⊎◌, ℕ, zero, suc, List, [], length, Option, Some, None, inl, inr, refl, ap, lit<, arith, length-append}
 use Rattle.std.specs.Io.KnownBytes.{Consumes}
-use Rattle.drt_io.specs.Writing.{Grows}
+use Rattle.drt_io.specs.Writing.{GrowsBy}
 use Rattle.drt_command.specs.declared.input.Input.{Input}
 use Rattle.drt_command.specs.declared.input.Input.TheVariants as inputs
 use Rattle.drt_outcome.specs.declared.fault.Fault.{Fault}
@@ -11,8 +11,8 @@ use Rattle.drt_outcome.specs.declared.stop.Stop.{Stop}
 use Rattle.drt_outcome.specs.declared.stop.Stop.TheVariants.{Words, Read, Write, Memory, Refused}
 use Rattle.drt_command.specs.Inputs.{AtInput, IsLonger}
 use Rattle.drt_command.specs.Rules.{Rules, AreLawful}
-use Rattle.drt_command.specs.Runs.{IsCutShort, IsComplete, IsStopCause, IsRun}
-use Rattle.drt_outcome.specs.Stops.{IsRefusal, IsStatus, fault_status, outcome_of}
+use Rattle.drt_command.specs.Runs.{IsCutShort, IsCompleteRun, IsStopCause, IsRun}
+use Rattle.drt_outcome.specs.Stops.{IsRefusalStatus, IsStatus, fault_status, outcome_of}
 
 -- what holds of the input, and gives another thing, gives it of the input
 pub at_more : {input : Input} {left : Option (List ℕ)} {P Q : List ℕ → Type 0} → AtInput input left P → ((b : List ℕ) → P b → Q b) → AtInput input left Q
@@ -56,11 +56,11 @@ stop_known Memory = (8, lit< tt, refl)
 stop_known (Refused f) = fault_known f
 
 -- want of memory is free
-pub memory_complete : (r : Rules) (left : Option (List ℕ)) → AtInput r.input left (λ b. IsComplete r b 8 Nothing)
-memory_complete r left = some_input r.input left (λ b. IsComplete r b 8 Nothing) (λ b. record { ends = inl refl; refused = λ f _. inl refl })
+pub memory_complete : (r : Rules) (left : Option (List ℕ)) → AtInput r.input left (λ b. IsCompleteRun r b 8 Nothing)
+memory_complete r left = some_input r.input left (λ b. IsCompleteRun r b 8 Nothing) (λ b. record { ends = inl refl; refused = λ f _. inl refl })
 
 -- a refusal has a status of its own
-fault_refusal : (f : Fault) → IsRefusal (fault_status f)
+fault_refusal : (f : Fault) → IsRefusalStatus (fault_status f)
 fault_refusal Nothing = inl refl
 fault_refusal (File l c) = inl refl
 fault_refusal (Edge t e p) = inl refl
@@ -70,7 +70,7 @@ fault_refusal (Rule n) = inr (inl refl)
 fault_refusal (Dossier l c) = inr (inr refl)
 
 -- these statuses aren't those of a refusal
-unrefused : (status : ℕ) → (status < 4) ⊎ ((4 < status) × (status < 9)) → IsRefusal status → ⊥
+unrefused : (status : ℕ) → (status < 4) ⊎ ((4 < status) × (status < 9)) → IsRefusalStatus status → ⊥
 unrefused status (inl low) (inl e) = omega (arith, low, e)
 unrefused status (inl low) (inr (inl e)) = omega (arith, low, e)
 unrefused status (inl low) (inr (inr e)) = omega (arith, low, e)
@@ -86,7 +86,7 @@ refusal_not f n h k = elim (fault_refusal f) [ inl e ↦ omega (arith, h.0, h.1,
 
 -- a run that wrote its text
 pub wrote : (r : Rules) → AreLawful r → (left : Option (List ℕ)) (R W : Type 0) (old new : Option (List ℕ)) (made : Report)
-    → AtInput r.input left (λ b. r.makes b made) → Grows old new made.text
+    → AtInput r.input left (λ b. r.makes b made) → GrowsBy old new made.text
     → IsRun r left R W old new (record { status = made.status; trail = made.trail; fault = Nothing })
 wrote r laws left R W old new made at written =
     let low : made.status < 4 = laws.low at.bytes made at.holds in

@@ -1,6 +1,6 @@
 -- What a run did whose input was had or not, from how it ended.
 use Rattle.std.proofs.Common.{◌≡◌, ◌≢◌, ◌<◌, ◌≤◌, ◌⊎◌, ℕ, List, Option, inl, inr, Result, Ok, Err, IfOk, IfErr, refl, ap, sym, subst, arith}
-use Rattle.drt_io.specs.Writing.{Grows, GrowsByPrefix}
+use Rattle.drt_io.specs.Writing.{GrowsBy, GrowsByPrefix}
 use Rattle.drt_outcome.specs.declared.outcome.Outcome.{Outcome}
 use Rattle.drt_outcome.specs.declared.fault.Fault.TheVariants as faults
 use Rattle.drt_outcome.specs.declared.stop.Stop.{Stop}
@@ -10,7 +10,7 @@ use Rattle.drt_command.specs.declared.report.Report.{Report}
 use Rattle.drt_command.specs.declared.report.Unmade.{Unmade}
 use Rattle.drt_command.specs.declared.report.Unmade.TheVariants as unmade
 use Rattle.drt_command.specs.Inputs.{IsInput}
-use Rattle.drt_command.specs.Rules.{AreLawful, IsCause, Rules}
+use Rattle.drt_command.specs.Rules.{AreLawful, IsUnmadeCause, Rules}
 use Rattle.drt_command.specs.Runs.{HasEnded, IsReadCause, IsRun, IsStopCause, stop_of}
 use Rattle.drt_command.proofs.Ends.{at_more, stopped, wrote}
 
@@ -24,12 +24,12 @@ module _ (r : Rules) (laws : AreLawful r) (left : Option (List ℕ)) (R W : Type
       (stopped r laws left R W old new Write failed (λ _. record { bytes = bytes; is = is; holds = record { made = made; makes = makes; written = prefix } }))
 
   -- one that made nothing
-  told : (bytes : List ℕ) (e : Unmade) (o : Outcome) → IsInput r.input left bytes → IsCause r.refuses bytes e → o ≡ outcome_of (stop_of e) → IsRun r left R W old new o
+  told : (bytes : List ℕ) (e : Unmade) (o : Outcome) → IsInput r.input left bytes → IsUnmadeCause r.refuses bytes e → o ≡ outcome_of (stop_of e) → IsRun r left R W old new o
   told bytes unmade.Memory o is cause e = subst (λ (x : Outcome). IsRun r left R W old new x) (sym e) (stopped r laws left R W old new Memory tt (λ w. absurd (cc)))
   told bytes (unmade.Refused f) o is cause e =
       subst (λ (x : Outcome). IsRun r left R W old new x) (sym e) (stopped r laws left R W old new (Refused f) (record { bytes = bytes; is = is; holds = cause }) (λ w. absurd (cc)))
 
-  pub finished : (bytes : List ℕ) (made : Result Report Unmade) (o : Outcome) → HasEnded made old new W o → IsInput r.input left bytes → IfOk made (r.makes bytes) → IfErr made (IsCause r.refuses bytes)
+  pub finished : (bytes : List ℕ) (made : Result Report Unmade) (o : Outcome) → HasEnded made old new W o → IsInput r.input left bytes → IfOk made (r.makes bytes) → IfErr made (IsUnmadeCause r.refuses bytes)
       → IsRun r left R W old new o
   finished bytes (Ok m) o h is ok err = wrote_or_failed bytes m o is ok h
   finished bytes (Err e) o h is ok err = told bytes e o is err h

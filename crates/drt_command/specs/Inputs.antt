@@ -10,9 +10,9 @@ IsInput Nothing left bytes = bytes ≡ []
 IsInput (AtMost most longer) left bytes = IfSome left (λ told. bytes ≡ told)
 
 -- The bytes aren't too many.
-abbrev pub IsWithin : Input → List ℕ → Type 0
-IsWithin Nothing bytes = bytes ≡ []
-IsWithin (AtMost most longer) bytes = length bytes ≤ most
+abbrev pub IsInputWithin : Input → List ℕ → Type 0
+IsInputWithin Nothing bytes = bytes ≡ []
+IsInputWithin (AtMost most longer) bytes = length bytes ≤ most
 
 -- The bytes are too many, which is this fault.
 abbrev pub IsLonger : Input → List ℕ → Fault → Type 0

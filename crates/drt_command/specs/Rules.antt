@@ -28,6 +28,6 @@ pub record AreLawful (r : Rules) : Type 0 where
   pub refused_ends : (bytes : List ℕ) (f : Fault) → r.refuses bytes f → r.ends bytes (fault_status f)
 
 -- Why nothing is made of the bytes: they are refused. Want of memory is free.
-abbrev pub IsCause : (List ℕ → Fault → Type 0) → List ℕ → Unmade → Type 0
-IsCause refuses bytes Memory = Unit {0}
-IsCause refuses bytes (Refused fault) = refuses bytes fault
+abbrev pub IsUnmadeCause : (List ℕ → Fault → Type 0) → List ℕ → Unmade → Type 0
+IsUnmadeCause refuses bytes Memory = Unit {0}
+IsUnmadeCause refuses bytes (Refused fault) = refuses bytes fault

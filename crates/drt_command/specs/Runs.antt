@@ -1,6 +1,6 @@
 -- What a run of a command did, at each of its ends.
 use Rattle.std.specs.Prelude.{◌≡◌, ◌≢◌, ◌≤◌, ◌<◌, ℕ, ◌⊎◌, List, Option, Result, Ok, Err}
-use Rattle.drt_io.specs.Writing.{Grows, GrowsByPrefix}
+use Rattle.drt_io.specs.Writing.{GrowsBy, GrowsByPrefix}
 use Rattle.drt_outcome.specs.declared.fault.Fault.{Fault}
 use Rattle.drt_outcome.specs.declared.fault.Fault.TheVariants as faults
 use Rattle.drt_outcome.specs.declared.outcome.Outcome.{Outcome}
@@ -14,13 +14,13 @@ use Rattle.drt_outcome.specs.declared.stop.Stop.{Stop}
 use Rattle.drt_outcome.specs.declared.stop.Stop.TheVariants.{Words, Read, Write, Memory, Refused}
 use Rattle.drt_command.specs.Inputs.{AtInput, IsLonger}
 use Rattle.drt_command.specs.Rules.{Rules}
-use Rattle.drt_outcome.specs.Stops.{IsRefusal, IsStatus, fault_status, outcome_of}
+use Rattle.drt_outcome.specs.Stops.{IsRefusalStatus, IsStatus, fault_status, outcome_of}
 
 -- The command made a text of the bytes, with this status and this trail, and what the sink holds grew by exactly this text.
 pub record Writes (r : Rules) (bytes : List ℕ) (status : ℕ) (trail : Trail) (old new : Option (List ℕ)) : Type 0 where
   pub text : List ℕ
   pub makes : r.makes bytes (record { status = status; text = text; trail = trail })
-  pub written : Grows old new text
+  pub written : GrowsBy old new text
 
 -- The command made a text of the bytes, and what the sink holds grew by a prefix of it.
 pub record IsCutShort (r : Rules) (bytes : List ℕ) (old new : Option (List ℕ)) : Type 0 where
@@ -29,7 +29,7 @@ pub record IsCutShort (r : Rules) (bytes : List ℕ) (old new : Option (List ℕ
   pub written : GrowsByPrefix old new made.text
 
 -- Memory ran out, or the status is one that the command must end with; and where the input has a fault, that one is told with its status.
-pub record IsComplete (r : Rules) (bytes : List ℕ) (status : ℕ) (fault : Fault) : Type 0 where
+pub record IsCompleteRun (r : Rules) (bytes : List ℕ) (status : ℕ) (fault : Fault) : Type 0 where
   pub ends : (status ≡ 8) ⊎ r.ends bytes status
   pub refused : (f : Fault) → r.faults bytes f → (status ≡ 8) ⊎ ((status ≡ fault_status f) × (fault ≡ f))
 
@@ -57,19 +57,19 @@ stop_of (unmade.Refused fault) = Refused fault
 -- What was made was written, or the write failed behind a prefix of its text; where nothing was made the outcome tells why.
 abbrev pub HasEnded : Result Report Unmade → Option (List ℕ) → Option (List ℕ) → Type 0 → Outcome → Type 0
 HasEnded (Ok made) old new write_failed o =
-    (Grows old new made.text × (o ≡ record { status = made.status; trail = made.trail; fault = faults.Nothing })) ⊎ (write_failed × GrowsByPrefix old new made.text × (o ≡ outcome_of Write))
+    (GrowsBy old new made.text × (o ≡ record { status = made.status; trail = made.trail; fault = faults.Nothing })) ⊎ (write_failed × GrowsByPrefix old new made.text × (o ≡ outcome_of Write))
 HasEnded (Err e) old new write_failed o = o ≡ outcome_of (stop_of e)
 
 -- A run of a command with these rules, from what the source told and what the sink held, to what the sink holds and the outcome.
 pub record IsRun (r : Rules) (left : Option (List ℕ)) (read_failed write_failed : Type 0) (old new : Option (List ℕ)) (o : Outcome) : Type 0 where
   pub done : o.status < 4 → AtInput r.input left (λ bytes. Writes r bytes o.status o.trail old new)
-  pub refused : IsRefusal o.status → AtInput r.input left (λ bytes. r.refuses bytes o.fault)
+  pub refused : IsRefusalStatus o.status → AtInput r.input left (λ bytes. r.refuses bytes o.fault)
   pub words : o.status ≢ 5
   pub read : o.status ≡ 6 → read_failed
   pub write : o.status ≡ 7 → write_failed
   pub known : IsStatus o.status
   pub cut : o.status ≡ 7 → AtInput r.input left (λ bytes. IsCutShort r bytes old new)
-  pub complete : ¬ read_failed → ¬ write_failed → AtInput r.input left (λ bytes. IsComplete r bytes o.status o.fault)
-  pub fault : ¬ IsRefusal o.status → o.fault ≡ faults.Nothing
-  pub kind : IsRefusal o.status → o.status ≡ fault_status o.fault
+  pub complete : ¬ read_failed → ¬ write_failed → AtInput r.input left (λ bytes. IsCompleteRun r bytes o.status o.fault)
+  pub fault : ¬ IsRefusalStatus o.status → o.fault ≡ faults.Nothing
+  pub kind : IsRefusalStatus o.status → o.status ≡ fault_status o.fault
   pub trail : 4 ≤ o.status → o.trail ≡ trails.Nothing

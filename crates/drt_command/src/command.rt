@@ -1,7 +1,7 @@
 //! What a command is to a run.
 ghost use Rattle.std.specs.Prelude.{◌≡◌, IfErr, IfOk};
-ghost use Rattle.drt_command.specs.Inputs.{IsWithin};
-ghost use Rattle.drt_command.specs.Rules.{AreLawful, IsCause, Rules};
+ghost use Rattle.drt_command.specs.Inputs.{IsInputWithin};
+ghost use Rattle.drt_command.specs.Rules.{AreLawful, IsUnmadeCause, Rules};
 
 use crate::input::Input;
 use crate::report::{Report, Unmade};
@@ -22,7 +22,7 @@ pub trait Command {
 
     /// What it makes of its input.
     fn make(&self, alloc: Global, bytes: &[u8]) -> Result<Report, Unmade>
-        requires { IsWithin (rules self.now).input bytes.now }
+        requires { IsInputWithin (rules self.now).input bytes.now }
         ensures makes { IfOk result ((rules self.now).makes bytes.now) }
-        ensures unmade { IfErr result (IsCause (rules self.now).refuses bytes.now) };
+        ensures unmade { IfErr result (IsUnmadeCause (rules self.now).refuses bytes.now) };
 }

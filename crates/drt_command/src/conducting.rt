@@ -1,7 +1,7 @@
 //! One run of a command that was understood: the input, what the command makes of it, writing.
 ghost use Rattle.std.specs.Prelude.{◌≡◌, ◌≢◌, ◌≤◌, Err, IfErr, IfOk};
 ghost use Rattle.drt_io.specs.Causes.{Rose};
-ghost use Rattle.drt_io.specs.Writing.{Grows, GrowsByPrefix};
+ghost use Rattle.drt_io.specs.Writing.{GrowsBy, GrowsByPrefix};
 ghost use Rattle.drt_command.specs.declared.input.Input.{Input};
 ghost use Rattle.drt_command.specs.Inputs.{AtInput};
 ghost use Rattle.drt_command.specs.Runs.{IsCutShort, IsRun, IsStopCause};
@@ -49,7 +49,7 @@ fn perform<C: Command, S: Source, K: Sink>(
     sink: &mut K,
 ) -> Result<Report, Stop>
     ensures made { IfOk result (λ m. AtInput (C.rules command.now).input (S.left source.old) (λ bytes. (C.rules command.now).makes bytes m)) }
-    ensures written { IfOk result (λ m. Grows (K.held sink.old) (K.held sink.new) m.text) }
+    ensures written { IfOk result (λ m. GrowsBy (K.held sink.old) (K.held sink.new) m.text) }
     ensures cut { result ≡ Err Stop.Write → AtInput (C.rules command.now).input (S.left source.old) (λ bytes. IsCutShort (C.rules command.now) bytes (K.held sink.old) (K.held sink.new)) }
     ensures unwritten { IfErr result (λ stop. stop ≢ Stop.Write → sink.new ≡ sink.old) }
     ensures unread { (C.rules command.now).input ≡ Input.Nothing → source.new ≡ source.old }

@@ -2,7 +2,7 @@
 ghost use Rattle.std.specs.Prelude.{◌≡◌, ◌≢◌, ◌≤◌, ℕ, List, Option, IfErr, IfOk, Ok};
 ghost use Rattle.drt_io.specs.Causes.{Rose};
 ghost use Rattle.drt_command.specs.Inputs.{IsInput};
-ghost use Rattle.drt_command.specs.Rules.{IsCause};
+ghost use Rattle.drt_command.specs.Rules.{IsUnmadeCause};
 ghost use Rattle.drt_command.specs.Runs.{HasEnded, IsReadCause, IsRun};
 ghost use Rattle.drt_outcome.specs.Stops.{outcome_of};
 
@@ -19,7 +19,7 @@ pub fn finish<C: Promised, K: Sink>(
     sink: &mut K,
 ) -> Outcome
     ensures run { (left : Option (List ℕ)) (before after : ℕ) → IsInput (C.rules command.now).input left bytes.now
-        → IfOk made ((C.rules command.now).makes bytes.now) → IfErr made (IsCause (C.rules command.now).refuses bytes.now)
+        → IfOk made ((C.rules command.now).makes bytes.now) → IfErr made (IsUnmadeCause (C.rules command.now).refuses bytes.now)
         → IsRun (C.rules command.now) left (Rose before after) (Rose (K.faults sink.old) (K.faults sink.new)) (K.held sink.old) (K.held sink.new) result }
     ensures unwritten { IfOk made ((C.rules command.now).makes bytes.now) → 4 ≤ result.status → result.status ≢ 7 → sink.new ≡ sink.old }
 {

@@ -1,7 +1,7 @@
 //! Reading the input of a command.
 ghost use Rattle.std.specs.Prelude.{◌≡◌, IfErr, IfOk};
 ghost use Rattle.drt_io.specs.Causes.{Rose};
-ghost use Rattle.drt_command.specs.Inputs.{IsInput, IsWithin};
+ghost use Rattle.drt_command.specs.Inputs.{IsInput, IsInputWithin};
 ghost use Rattle.drt_command.specs.Runs.{IsReadCause};
 
 use crate::input::Input;
@@ -13,7 +13,7 @@ use std::alloc::Global;
 /// The whole input. Where it can't be had the run stops: a read failed, it is too long, or no memory was to be had.
 pub fn read_input<S: Source>(alloc: Global, input: Input, source: &mut S) -> Result<Row<u8>, Stop>
     ensures is { IfOk result (IsInput input (S.left source.old)) }
-    ensures within { IfOk result (IsWithin input) }
+    ensures within { IfOk result (IsInputWithin input) }
     ensures stops { IfErr result (IsReadCause (Rose (S.faults source.old) (S.faults source.new)) input (S.left source.old)) }
     ensures unread { input ≡ Input.Nothing → source.new ≡ source.old }
 {

@@ -4,11 +4,11 @@ use Rattle.drt_model.specs.Contents.{Contents}
 use Rattle.drt_file.specs.trusted.Laws.{TextsReadAsOneSet}
 use Rattle.drt_priorities.specs.Laws.{PrioritiesKeepLimits}
 use Rattle.drt_priorities.specs.Priorities.{OrderExists}
-use Rattle.drt_evidence.specs.Reading.{IsTextOf}
+use Rattle.drt_evidence.specs.Reading.{IsDossierText}
 use Rattle.drt_evidence.specs.Text.{text}
 use Rattle.drt_sp.specs.Evidence.{under_fixed}
 use Rattle.drt_assign.specs.Assign.{IsAssigned, with_priorities}
-use Rattle.drt_assign.specs.Laws.{AssignBudgetsSuffice, IsDecided}
+use Rattle.drt_assign.specs.Laws.{AssignBudgetsSuffice, IsOrderDecided}
 use Rattle.drt_assign.specs.declared.answer.AssignAnswer.{AssignAnswer}
 use Rattle.drt_assign.specs.declared.answer.AssignAnswer.TheVariants as answers
 use Rattle.drt_command.specs.declared.report.Report.{Report}
@@ -41,7 +41,7 @@ module _ (keeps : PrioritiesKeepLimits) (bytes : List ℕ) (set : Contents) (bud
             are = a.by_rule.are;
             schedulable = a.proved.yes.schedulable;
             about = about_of (under_fixed ordered a.proved.evidence) (text dossier)
-                (subst (λ d. IsTextOf (under_fixed ordered a.proved.evidence) (text d)) (sym a.proved.dossier_is)
+                (subst (λ d. IsDossierText (under_fixed ordered a.proved.evidence) (text d)) (sym a.proved.dossier_is)
                 (record { stated = (limits, a.proved.in_range); is = refl }));
           },
         );
@@ -68,7 +68,7 @@ verdict_low : (bytes : List ℕ) (m : Report) → Verdict bytes m → m.status <
 verdict_low bytes m d = elim d.answer [ inl a ↦ omega (arith, a.0) | inr (inl a) ↦ omega (arith, a.0) | inr (inr e) ↦ omega (arith, e) ]
 
 -- The status of an answer that decides.
-ends_by : (set : Contents) (budget : ℕ) (answer : AssignAnswer) → IsAssigned set budget answer → IsDecided answer
+ends_by : (set : Contents) (budget : ℕ) (answer : AssignAnswer) → IsAssigned set budget answer → IsOrderDecided answer
     → (((report_of answer).status ≡ 0) × OrderExists set.tasks) ⊎ (((report_of answer).status ≡ 1) × (OrderExists set.tasks → ⊥))
 ends_by set budget (answers.Done dossier) a d =
     inl (refl, record { priorities = a.priorities; are = a.by_rule.are; schedulable = a.proved.yes.schedulable })

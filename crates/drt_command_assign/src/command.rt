@@ -4,12 +4,12 @@ ghost use Rattle.drt_model.specs.Contents.{Contents};
 ghost use Rattle.drt_model.specs.Digraph.{digraph_of};
 ghost use Rattle.drt_io.specs.Causes.{Rose};
 ghost use Rattle.drt_command.specs.declared.input.Input.{Input};
-ghost use Rattle.drt_command.specs.Inputs.{IsWithin};
-ghost use Rattle.drt_command.specs.Rules.{IsCause};
+ghost use Rattle.drt_command.specs.Inputs.{IsInputWithin};
+ghost use Rattle.drt_command.specs.Rules.{IsUnmadeCause};
 ghost use Rattle.drt_command.specs.Runs.{IsRun};
 ghost use Rattle.drt_model.specs.declared.jobs.Policy.TheVariants.{Fixed};
 ghost use Rattle.drt_assign.specs.Assign.{IsAssigned};
-ghost use Rattle.drt_claims.specs.Ranges.{IsInRange};
+ghost use Rattle.drt_claims.specs.Ranges.{IsEvidenceInRange};
 ghost use Rattle.drt_evidence.specs.Text.{text};
 ghost use Rattle.drt_claims.specs.declared.evidence.Evidence.TheVariants.{Undecided};
 ghost use Rattle.drt_sp.specs.Evidence.{under_fixed};
@@ -85,9 +85,9 @@ fn make<G: Gate, R: Threads + Wait + Sync>(
     bytes: &[u8],
     gate: &G,
 ) -> Result<Report, Unmade>
-    requires { IsWithin (assign_rules command.now.effort.budget).input bytes.now }
+    requires { IsInputWithin (assign_rules command.now.effort.budget).input bytes.now }
     ensures makes { IfOk result ((assign_rules command.now.effort.budget).makes bytes.now) }
-    ensures unmade { IfErr result (IsCause (assign_rules command.now.effort.budget).refuses bytes.now) }
+    ensures unmade { IfErr result (IsUnmadeCause (assign_rules command.now.effort.budget).refuses bytes.now) }
 {
     let (set, graphs) = read_set(alloc, bytes)?;
     let crew = Crew {
@@ -143,7 +143,7 @@ fn report_of(alloc: Global, answer: AssignAnswer) -> Result<Report, Unmade>
 fn dossier_report(alloc: Global, dossier: Dossier) -> Result<Report, Unmade>
     requires policy { dossier.policy ≡ Fixed }
     requires yes { evidence_status dossier.evidence ≡ 0 }
-    requires in_range { IsInRange dossier.evidence }
+    requires in_range { IsEvidenceInRange dossier.evidence }
     ensures report { IfOk result (λ m. m ≡ record { status = 0; text = text dossier; trail = Trail.Nothing }) }
     ensures unmade { IfErr result (λ e. e ≡ Unmade.Memory) }
 {

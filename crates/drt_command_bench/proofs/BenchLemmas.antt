@@ -16,7 +16,7 @@ use Rattle.drt_claims.specs.declared.evidence.ProofClaim.{ProofClaim}
 use Rattle.drt_claims.specs.declared.evidence.TreeClaim.{TreeClaim}
 use Rattle.drt_claims.specs.declared.rule.Rule.TheVariants.{OrderedFronts}
 use Rattle.drt_horizon.specs.declared.answers.Beyond.TheVariants.{TooFar}
-use Rattle.drt_edf.specs.Answers.{IsExactYes, IsMissed, IsOther, IsUndecided}
+use Rattle.drt_edf.specs.Answers.{IsExactEdfYes, IsEdfMiss, IsOther, IsEdfUndecided}
 use Rattle.drt_edf.specs.Plans.{AreTooFine, IsTooFar}
 use Rattle.drt_edf.specs.Walks.{IsExactFront}
 use Rattle.drt_sp.specs.Answers as fixed_answers
@@ -38,7 +38,7 @@ pub never_fine : AreAllSmall → (number : ℕ) → AreTooFine (generated number
 never_fine law number (rates, big) = omega (arith, law number rates.scale rates.ratios rates.are rates.is_scale, big)
 
 module _ (tasks : List Task) (limits : IsTaskSet 1 tasks) where
-  pub yes_says : (ratios : List RatioClaim) (fronts : List (List FrontEntry)) → IsExactYes tasks ratios fronts → IsOther tasks → EdfSays tasks on_edf.Yes None
+  pub yes_says : (ratios : List RatioClaim) (fronts : List (List FrontEntry)) → IsExactEdfYes tasks ratios fronts → IsOther tasks → EdfSays tasks on_edf.Yes None
   yes_says ratios fronts exact other = record {
     yes = λ e. exact.schedulable;
     no = λ e. absurd (cc);
@@ -48,7 +48,7 @@ module _ (tasks : List Task) (limits : IsTaskSet 1 tasks) where
     cause = tt;
   }
 
-  pub no_says : (releases : List Release) (miss : Miss) → IsMissed tasks releases miss → IsOther tasks → EdfSays tasks on_edf.No None
+  pub no_says : (releases : List Release) (miss : Miss) → IsEdfMiss tasks releases miss → IsOther tasks → EdfSays tasks on_edf.No None
   no_says releases miss missed other = record {
     yes = λ e. absurd (cc);
     no = λ e. missed.not_schedulable;
@@ -78,7 +78,7 @@ module _ (tasks : List Task) (limits : IsTaskSet 1 tasks) where
     cause = tt;
   }
 
-  pub undecided_says : (trail : EdfTrail) → IsUndecided tasks most_budget trail → EdfSays tasks on_edf.Undecided (Some trail)
+  pub undecided_says : (trail : EdfTrail) → IsEdfUndecided tasks most_budget trail → EdfSays tasks on_edf.Undecided (Some trail)
   undecided_says trail spent =
       let other = undecided_other tasks most_budget trail spent in
       record {
@@ -105,13 +105,13 @@ counts_each bound b (g ∷ gs) [] exact ordered = absurd exact
 counts_each bound b (g ∷ gs) (f ∷ fronts) exact ordered =
     (record { labels = f; exact = exact.0; distinct = distinct_labels f ordered.0.1; long = refl }, counts_each bound b gs fronts exact.1 ordered.1)
 
-pub yes_counts : (tasks : List Task) (ratios : List RatioClaim) (fronts : List (List FrontEntry)) → IsExactYes tasks ratios fronts → AreCounts tasks (map length fronts)
+pub yes_counts : (tasks : List Task) (ratios : List RatioClaim) (fronts : List (List FrontEntry)) → IsExactEdfYes tasks ratios fronts → AreCounts tasks (map length fronts)
 yes_counts tasks ratios fronts exact =
     let (b, is_bound, ordered) = (exact.accepted 1).keeps OrderedFronts tt in
     record { bound = exact.bound; below = exact.below; each = counts_each exact.bound b (graphs_of tasks) fronts exact.exact ordered }
 
 module _ (set : Contents) where
-  pub fixed_yes_says : (trees : List TreeClaim) (proofs : List ProofClaim) → fixed_answers.IsExactYes set trees proofs → FixedSays set on_fixed.Yes None
+  pub fixed_yes_says : (trees : List TreeClaim) (proofs : List ProofClaim) → fixed_answers.IsExactTreeYes set trees proofs → FixedSays set on_fixed.Yes None
   fixed_yes_says trees proofs exact = record {
     yes = λ e. exact.schedulable;
     no = λ e. absurd (cc);
@@ -119,7 +119,7 @@ module _ (set : Contents) where
     cause = tt;
   }
 
-  pub fixed_no_says : (releases : List Release) (miss : Miss) → fixed_answers.IsMissed set releases miss → FixedSays set on_fixed.No None
+  pub fixed_no_says : (releases : List Release) (miss : Miss) → fixed_answers.IsTreeMiss set releases miss → FixedSays set on_fixed.No None
   fixed_no_says releases miss missed = record {
     yes = λ e. absurd (cc);
     no = λ e. missed.not_schedulable;
@@ -127,7 +127,7 @@ module _ (set : Contents) where
     cause = tt;
   }
 
-  pub fixed_undecided_says : (trail : FixedTrail) → fixed_answers.IsUndecided set most_budget trail → FixedSays set on_fixed.Undecided (Some trail)
+  pub fixed_undecided_says : (trail : FixedTrail) → fixed_answers.IsTreeUndecided set most_budget trail → FixedSays set on_fixed.Undecided (Some trail)
   fixed_undecided_says trail spent = record {
     yes = λ e. absurd (cc);
     no = λ e. absurd (cc);

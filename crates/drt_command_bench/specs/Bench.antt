@@ -35,7 +35,7 @@ pub record EdfSays (tasks : List Task) (verdict : EdfVerdict) (trail : Option Ed
   pub one : (verdict ≡ on_edf.One) ↔ IsAtOne tasks
   pub beyond : (verdict ≡ on_edf.Beyond) ↔ IsTooFar tasks
   pub undecided : (verdict ≡ on_edf.Undecided) ↔ IsSome trail
-  pub cause : IfSome trail (edf_answers.IsUndecided tasks most_budget)
+  pub cause : IfSome trail (edf_answers.IsEdfUndecided tasks most_budget)
 
 -- The verdict under fixed priorities is `yes` or `no` as the set is schedulable or not, unless it is `undecided`, exactly where there is a
 -- trail, which shows that the budget was spent.
@@ -43,7 +43,7 @@ pub record FixedSays (set : Contents) (verdict : FixedVerdict) (trail : Option F
   pub yes : verdict ≡ on_fixed.Yes → Schedulable set.tasks under.Fixed
   pub no : verdict ≡ on_fixed.No → ¬ Schedulable set.tasks under.Fixed
   pub undecided : (verdict ≡ on_fixed.Undecided) ↔ IsSome trail
-  pub cause : IfSome trail (fixed_answers.IsUndecided set most_budget)
+  pub cause : IfSome trail (fixed_answers.IsTreeUndecided set most_budget)
 
 -- So many labels of the graph's walks that are due within the bound are covered by no other one: a list without repetition has exactly these.
 pub record HasCount (bound : ℕ) (g : Digraph) (count : ℕ) : Type 0 where

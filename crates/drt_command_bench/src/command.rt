@@ -9,8 +9,8 @@ ghost use Rattle.drt_effort.specs.Efforts.{most_budget};
 ghost use Rattle.drt_summary.specs.declared.summary.EdfVerdict.{EdfVerdict};
 ghost use Rattle.drt_io.specs.Causes.{Rose};
 ghost use Rattle.drt_command.specs.declared.input.Input.{Input};
-ghost use Rattle.drt_command.specs.Inputs.{IsWithin};
-ghost use Rattle.drt_command.specs.Rules.{IsCause};
+ghost use Rattle.drt_command.specs.Inputs.{IsInputWithin};
+ghost use Rattle.drt_command.specs.Rules.{IsUnmadeCause};
 ghost use Rattle.drt_command.specs.Runs.{IsRun};
 ghost use Rattle.drt_command_bench.specs.Bench.{AreCounts, Benches, EdfSays, FixedSays, bench_rules};
 
@@ -79,9 +79,9 @@ fn make<G: Gate, R: Threads + Wait + Sync>(
     _bytes: &[u8],
     gate: &G,
 ) -> Result<Report, Unmade>
-    requires { IsWithin (bench_rules command.now.number).input _bytes.now }
+    requires { IsInputWithin (bench_rules command.now.number).input _bytes.now }
     ensures makes { IfOk result ((bench_rules command.now.number).makes _bytes.now) }
-    ensures unmade { IfErr result (IsCause (bench_rules command.now.number).refuses _bytes.now) }
+    ensures unmade { IfErr result (IsUnmadeCause (bench_rules command.now.number).refuses _bytes.now) }
 {
     sets_keep_limits();
     deadlines_are_constrained();

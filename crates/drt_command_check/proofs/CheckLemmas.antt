@@ -1,9 +1,9 @@
 -- A dossier has one judgement or one fault.
 use Rattle.std.proofs.Common.{◌≡◌, ℕ, ◌<◌, ◌≤◌, ◌⊎◌, List, length, inl, inr, refl, sym, ap, ◌∙◌, subst, arith}
 use Rattle.std.proofs.lemmas.Bool.{cases_lt}
-use Rattle.drt_evidence.specs.Reading.{HasDossierFault, IsCode, IsTextOf}
+use Rattle.drt_evidence.specs.Reading.{HasDossierFault, IsCode, IsDossierText}
 use Rattle.drt_claims.specs.Statement.{Statement}
-use Rattle.drt_check.specs.Judging.{IsJudged, IsSound}
+use Rattle.drt_check.specs.Judging.{IsStatementJudged, IsSoundJudgement}
 use Rattle.drt_check.specs.Laws.{JudgedOnce}
 use Rattle.drt_check.proofs.Judged.{judged_once}
 use Rattle.drt_check.specs.declared.judgement.Judgement.{Judgement}
@@ -55,7 +55,7 @@ dossier_fault_one bytes (Rule m) (Limit c) h k = absurd k
 dossier_fault_one bytes (Rule m) (Probe n c) h k = absurd k
 dossier_fault_one bytes (Rule m) (Rule n) h k =
     let e = k.dossier.only h.statement h.dossier.is in
-    let same = judged_once k.statement (judgements.Rejected m) (judgements.Rejected n) (subst (λ s. IsJudged s (judgements.Rejected m)) e h.judged) k.judged in
+    let same = judged_once k.statement (judgements.Rejected m) (judgements.Rejected n) (subst (λ s. IsStatementJudged s (judgements.Rejected m)) e h.judged) k.judged in
     ap Rule (let number : m ≡ n = cc in number)
 dossier_fault_one bytes (Rule m) (Dossier l c) h (inl big) = absurd (omega (arith, big.0, h.dossier.small))
 dossier_fault_one bytes (Rule m) (Dossier l c) h (inr lacks) = absurd (lacks.none h.statement h.dossier.is)
@@ -72,7 +72,7 @@ dossier_fault_one bytes (Dossier l c) (Dossier m d) (inr lacks) (inl big) = absu
 dossier_fault_one bytes (Dossier l c) (Dossier m d) (inr h) (inr k) = text_fault_one bytes l m c d h.fault k.fault
 
 -- Judged evidence that isn't rejected is rejected with no number.
-not_rejected : JudgedOnce → (s : Statement) (j : Judgement) (n : ℕ) → IsJudged s j → judged_status j < 4 → IsJudged s (judgements.Rejected n) → ⊥
+not_rejected : JudgedOnce → (s : Statement) (j : Judgement) (n : ℕ) → IsStatementJudged s j → judged_status j < 4 → IsStatementJudged s (judgements.Rejected n) → ⊥
 not_rejected law s j n is low rejects =
     let same : j ≡ judgements.Rejected n = law s j (judgements.Rejected n) is rejects in
     let l : 9 < 4 = subst (λ k. judged_status k < 4) same low in
@@ -87,18 +87,18 @@ judged_well law bytes made (Limit c) m h = h
 judged_well law bytes made (Probe n c) m h = h
 judged_well law bytes made (Rule n) m h =
     let e = m.of.dossier.only h.statement h.dossier.is in
-    not_rejected law m.of.statement m.judgement n m.of.judged (omega (arith, m.status_is, m.not_rejected)) (subst (λ s. IsJudged s (judgements.Rejected n)) e h.judged)
+    not_rejected law m.of.statement m.judgement n m.of.judged (omega (arith, m.status_is, m.not_rejected)) (subst (λ s. IsStatementJudged s (judgements.Rejected n)) e h.judged)
 judged_well law bytes made (Dossier l c) m (inl big) = omega (arith, big.0, m.of.dossier.small)
 judged_well law bytes made (Dossier l c) m (inr lacks) = lacks.none m.of.statement m.of.dossier.is
 
 -- It has the status of its judgement.
-pub judged_ends : (bytes : List ℕ) (made : Report) → Checks bytes made → (s : Statement) → IsTextOf s bytes → CheckEnds s made.status
+pub judged_ends : (bytes : List ℕ) (made : Report) → Checks bytes made → (s : Statement) → IsDossierText s bytes → CheckEnds s made.status
 judged_ends bytes made m s is =
     let e = sym (m.of.dossier.only s is) in
-    (m.judgement, subst (λ t. IsJudged t m.judgement) e m.of.judged, subst (λ t. IsSound t m.judgement) e m.of.sound, m.status_is)
+    (m.judgement, subst (λ t. IsStatementJudged t m.judgement) e m.of.judged, subst (λ t. IsSoundJudgement t m.judgement) e m.of.sound, m.status_is)
 
 -- So has one that is rejected.
-pub rejected_ends : (bytes : List ℕ) (f : Fault) → IsDossierFault bytes f → (s : Statement) → IsTextOf s bytes → length bytes ≤ most_dossier_bytes → CheckEnds s (fault_status f)
+pub rejected_ends : (bytes : List ℕ) (f : Fault) → IsDossierFault bytes f → (s : Statement) → IsDossierText s bytes → length bytes ≤ most_dossier_bytes → CheckEnds s (fault_status f)
 rejected_ends bytes Nothing h s is small = absurd h
 rejected_ends bytes (File l c) h s is small = absurd h
 rejected_ends bytes (Edge t e p) h s is small = absurd h
@@ -106,6 +106,6 @@ rejected_ends bytes (Limit c) h s is small = absurd h
 rejected_ends bytes (Probe n c) h s is small = absurd h
 rejected_ends bytes (Rule n) h s is small =
     let e = sym (h.dossier.only s is) in
-    (judgements.Rejected n, subst (λ t. IsJudged t (judgements.Rejected n)) e h.judged, tt, refl)
+    (judgements.Rejected n, subst (λ t. IsStatementJudged t (judgements.Rejected n)) e h.judged, tt, refl)
 rejected_ends bytes (Dossier l c) (inl big) s is small = absurd (omega (arith, big.0, small))
 rejected_ends bytes (Dossier l c) (inr lacks) s is small = absurd (lacks.none s is)

@@ -5,7 +5,7 @@ use Rattle.drt_file.specs.trusted.Canonical.{canonical, written}
 use Rattle.drt_claims.specs.Rates.{IsAtOne}
 use Rattle.drt_claims.specs.Statement.{Statement}
 use Rattle.drt_evidence.specs.Text.{evidence_lines, head_lines, text}
-use Rattle.drt_check.specs.Judging.{IsSound}
+use Rattle.drt_check.specs.Judging.{IsSoundJudgement}
 use Rattle.drt_check.specs.declared.judgement.Judgement.{Judgement}
 use Rattle.drt_check.specs.declared.judgement.Judgement.TheVariants as judgements
 use Rattle.drt_command.specs.declared.report.Report.{Report}
@@ -25,7 +25,7 @@ Says s status line =
     ⊎ (((status ≡ 2) × (line ≡ codes "utilisation-one\n") × IsAtOne s.set.tasks)
     ⊎ ((status ≡ 3) × (line ≡ codes "nothing-to-check\n"))))
 
-says : (s : Statement) (j : Judgement) (status : ℕ) (line : List ℕ) → IsSound s j → status ≡ judged_status j → status < 4 → line ≡ verdict j → Says s status line
+says : (s : Statement) (j : Judgement) (status : ℕ) (line : List ℕ) → IsSoundJudgement s j → status ≡ judged_status j → status < 4 → line ≡ verdict j → Says s status line
 says s judgements.Schedulable status line sound is low line_is = inl (is, line_is, sound)
 says s judgements.Unschedulable status line sound is low line_is = inr (inl (is, line_is, sound))
 says s judgements.UtilisationOne status line sound is low line_is = inr (inr (inl (is, line_is, sound)))

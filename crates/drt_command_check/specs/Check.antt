@@ -1,8 +1,8 @@
 -- What is promised of `check`: what it says of a dossier, what it refuses, and with which status it ends.
 use Rattle.std.specs.Prelude.{◌≡◌, ℕ, ◌≤◌, ◌<◌, ◌⊎◌, List, [], codes, length}
-use Rattle.drt_evidence.specs.Reading.{HasDossierFault, IsTextOf}
+use Rattle.drt_evidence.specs.Reading.{HasDossierFault, IsDossierText}
 use Rattle.drt_claims.specs.Statement.{Statement}
-use Rattle.drt_check.specs.Judging.{IsJudged, IsSound}
+use Rattle.drt_check.specs.Judging.{IsStatementJudged, IsSoundJudgement}
 use Rattle.drt_check.specs.declared.judgement.Judgement.{Judgement}
 use Rattle.drt_check.specs.declared.judgement.Judgement.TheVariants as judgements
 use Rattle.drt_outcome.specs.declared.fault.Fault.{Fault}
@@ -37,15 +37,15 @@ judged_status (judgements.Rejected number) = 9
 -- The bytes are the text of this dossier and of no other, and aren't too many.
 pub record IsDossier (bytes : List ℕ) (s : Statement) : Type 0 where
   pub small : length bytes ≤ most_dossier_bytes
-  pub is : IsTextOf s bytes
-  pub only : (t : Statement) → IsTextOf t bytes → t ≡ s
+  pub is : IsDossierText s bytes
+  pub only : (t : Statement) → IsDossierText t bytes → t ≡ s
 
 -- The bytes are a dossier with this judgement, which means what it says whoever made the dossier.
 pub record IsJudgementOf (bytes : List ℕ) (judgement : Judgement) : Type 0 where
   pub statement : Statement
   pub dossier : IsDossier bytes statement
-  pub judged : IsJudged statement judgement
-  pub sound : IsSound statement judgement
+  pub judged : IsStatementJudged statement judgement
+  pub sound : IsSoundJudgement statement judgement
 
 -- What stands besides the verdict: the bytes are the text of a dossier, and the status and the text are those of its judgement.
 pub record Checks (bytes : List ℕ) (made : Report) : Type 0 where
@@ -60,12 +60,12 @@ pub record Checks (bytes : List ℕ) (made : Report) : Type 0 where
 pub record IsRejected (bytes : List ℕ) (number : ℕ) : Type 0 where
   pub statement : Statement
   pub dossier : IsDossier bytes statement
-  pub judged : IsJudged statement (judgements.Rejected number)
+  pub judged : IsStatementJudged statement (judgements.Rejected number)
 
 -- The bytes are no dossier's text, and stop being one at this line with this code.
 pub record IsNoDossier (bytes : List ℕ) (line code : ℕ) : Type 0 where
   pub small : length bytes ≤ most_dossier_bytes
-  pub none : (s : Statement) → ¬ IsTextOf s bytes
+  pub none : (s : Statement) → ¬ IsDossierText s bytes
   pub fault : HasDossierFault bytes line code
 
 -- A dossier has this fault: code 4 at line 0 where it is too long, else the fault of its text, else the number with which it is
@@ -81,7 +81,7 @@ IsDossierFault bytes (Dossier line code) = ((most_dossier_bytes < length bytes) 
 
 -- The status of `check` at a dossier where nothing fails: that of the dossier's judgement.
 abbrev pub CheckEnds : Statement → ℕ → Type 0
-CheckEnds s status = (judgement : Judgement) × IsJudged s judgement × IsSound s judgement × (status ≡ judged_status judgement)
+CheckEnds s status = (judgement : Judgement) × IsStatementJudged s judgement × IsSoundJudgement s judgement × (status ≡ judged_status judgement)
 
 -- A command that reads a dossier takes at most so many bytes, else the dossier's fault 4.
 abbrev pub dossier_input : Input
@@ -94,5 +94,5 @@ check_rules = record {
   makes = λ bytes made. Verdict bytes made × Checks bytes made;
   refuses = IsDossierFault;
   faults = IsDossierFault;
-  ends = λ bytes status. (s : Statement) → IsTextOf s bytes → length bytes ≤ most_dossier_bytes → CheckEnds s status;
+  ends = λ bytes status. (s : Statement) → IsDossierText s bytes → length bytes ≤ most_dossier_bytes → CheckEnds s status;
 }

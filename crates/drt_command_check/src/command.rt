@@ -1,6 +1,6 @@
 //! `check`: the checker's judgement of a dossier.
 ghost use Rattle.std.specs.Prelude.{◌≡◌, ◌≤◌, IfErr, IfOk, length};
-ghost use Rattle.drt_command.specs.Rules.{IsCause};
+ghost use Rattle.drt_command.specs.Rules.{IsUnmadeCause};
 ghost use Rattle.drt_command_check.specs.Check.{Checks, IsDossierFault, IsJudgementOf, check_rules, most_dossier_bytes};
 
 use drt_check::{Judgement, judged_once};
@@ -45,7 +45,7 @@ impl Command for Check {
 fn judge(alloc: Global, bytes: &[u8]) -> Result<Judgement, Unmade>
     requires { length bytes.now ≤ most_dossier_bytes }
     ensures judged { IfOk result (IsJudgementOf bytes.now) }
-    ensures unmade { IfErr result (IsCause IsDossierFault bytes.now) }
+    ensures unmade { IfErr result (IsUnmadeCause IsDossierFault bytes.now) }
 {
     match drt_evidence::read(alloc, bytes) {
         Ok(dossier) => match drt_check::check(alloc, &dossier) {
@@ -63,7 +63,7 @@ fn judge(alloc: Global, bytes: &[u8]) -> Result<Judgement, Unmade>
 fn make_report(alloc: Global, bytes: &[u8], judgement: Judgement) -> Result<Report, Unmade>
     requires { IsJudgementOf bytes.now judgement }
     ensures checks { IfOk result (Checks bytes.now) }
-    ensures unmade { IfErr result (IsCause IsDossierFault bytes.now) }
+    ensures unmade { IfErr result (IsUnmadeCause IsDossierFault bytes.now) }
 {
     match judgement {
         Judgement::Rejected { number } => Err(Unmade::Refused(Fault::Rule { number })),

@@ -2,7 +2,7 @@
 use Rattle.std.proofs.Common.{◌≡◌, ℕ, ◌<◌, ◌≤◌, List, length, inl, inr, refl, sym, ap, ◌∙◌, subst, arith, Some}
 use Rattle.std.proofs.lemmas.Option.{same_Some}
 use Rattle.drt_classic.specs.declared.classic.Classic.{Classic}
-use Rattle.drt_classic.specs.ClassicReading.{HasFault}
+use Rattle.drt_classic.specs.ClassicReading.{HasClassicFault}
 use Rattle.drt_command.specs.Inputs.{IsLonger}
 use Rattle.drt_command.specs.Rules.{AreLawful}
 use Rattle.drt_command_files.specs.TaskFiles.{file_input}
@@ -14,7 +14,7 @@ use Rattle.drt_command_convert.specs.Verdict.{IsClassicFile}
 same_place : (l c m d : ℕ) → l ≡ m → c ≡ d → File l c ≡ File m d
 same_place l c m d p q = cc
 
-same_text : (bytes : List ℕ) (l c m d : ℕ) → HasFault bytes l c → HasFault bytes m d → File l c ≡ File m d
+same_text : (bytes : List ℕ) (l c m d : ℕ) → HasClassicFault bytes l c → HasClassicFault bytes m d → File l c ≡ File m d
 same_text bytes l c m d h k =
     let one : ◌≡◌ {A = ℕ × ℕ} (l, c) (m, d) = same_Some (l, c) (m, d) (sym h.first ∙ k.first) in
     same_place l c m d (ap (λ (x : ℕ × ℕ). x.0) one) (ap (λ (x : ℕ × ℕ). x.1) one)

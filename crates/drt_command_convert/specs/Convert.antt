@@ -1,7 +1,7 @@
 -- What is promised of `convert`.
 use Rattle.std.specs.Prelude.{◌≡◌, ℕ, ◌≤◌, ◌<◌, ◌⊎◌, List, length}
 use Rattle.drt_classic.specs.declared.classic.Classic.{Classic}
-use Rattle.drt_classic.specs.ClassicReading.{HasFault}
+use Rattle.drt_classic.specs.ClassicReading.{HasClassicFault}
 use Rattle.drt_outcome.specs.declared.fault.Fault.{Fault}
 use Rattle.drt_outcome.specs.declared.fault.Fault.TheVariants.{Nothing, File, Edge, Limit, Probe, Rule, Dossier}
 use Rattle.drt_command.specs.declared.report.Report.{Report}
@@ -13,7 +13,7 @@ use Rattle.drt_command_convert.specs.Verdict.{IsClassicFile, Verdict}
 -- A file has this fault: code 23 at line 0 where it is too long, else the fault of its text.
 abbrev pub IsClassicFault : List ℕ → Fault → Type 0
 IsClassicFault bytes Nothing = ⊥
-IsClassicFault bytes (File line code) = ((most_bytes < length bytes) × (line ≡ 0) × (code ≡ 23)) ⊎ ((length bytes ≤ most_bytes) × HasFault bytes line code)
+IsClassicFault bytes (File line code) = ((most_bytes < length bytes) × (line ≡ 0) × (code ≡ 23)) ⊎ ((length bytes ≤ most_bytes) × HasClassicFault bytes line code)
 IsClassicFault bytes (Edge task edge past) = ⊥
 IsClassicFault bytes (Limit code) = ⊥
 IsClassicFault bytes (Probe add code) = ⊥

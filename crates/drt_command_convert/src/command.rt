@@ -1,7 +1,7 @@
 //! `convert`: a classic file as a task file.
 ghost use Rattle.std.specs.Prelude.{◌≡◌, ◌≤◌, IfErr, IfOk, length};
-ghost use Rattle.drt_classic.specs.ClassicReading.{Reads};
-ghost use Rattle.drt_command.specs.Rules.{IsCause};
+ghost use Rattle.drt_classic.specs.ClassicReading.{ReadsClassic};
+ghost use Rattle.drt_command.specs.Rules.{IsUnmadeCause};
 ghost use Rattle.drt_command_convert.specs.Convert.{Converts, IsClassicFault, convert_rules};
 ghost use Rattle.drt_command_convert.specs.Verdict.{IsClassicFile};
 ghost use Rattle.drt_command_files.specs.TaskFiles.{most_bytes};
@@ -38,7 +38,7 @@ impl Command for Convert {
 fn read_classic(alloc: Global, bytes: &[u8]) -> Result<ClassicSet, Unmade>
     requires { length bytes.now ≤ most_bytes }
     ensures reads { IfOk result (IsClassicFile bytes.now) }
-    ensures unmade { IfErr result (IsCause IsClassicFault bytes.now) }
+    ensures unmade { IfErr result (IsUnmadeCause IsClassicFault bytes.now) }
 {
     match drt_classic::read(alloc, bytes) {
         Ok(set) => Ok(set),

@@ -4,7 +4,7 @@ use Rattle.std.proofs.lemmas.List.Elements.{All-map}
 use Rattle.std.proofs.lemmas.Option.{slice_get_within, get_or_from_slice_get}
 use Rattle.drt_model.specs.Contents.{Contents}
 use Rattle.drt_model.specs.Constrained.{AreConstrained}
-use Rattle.drt_model.specs.Digraph.{IsSound, digraph_of}
+use Rattle.drt_model.specs.Digraph.{IsSoundGraph, digraph_of}
 use Rattle.drt_model.specs.Limits.{IsTaskSet}
 use Rattle.drt_model.specs.Utilisation.{rate}
 use Rattle.drt_model.specs.declared.tasks.Task.{Task}
@@ -12,13 +12,13 @@ use Rattle.drt_graph.proofs.Soundness.{all_sound}
 use Rattle.drt_horizon.specs.declared.answers.Beyond.{Beyond}
 use Rattle.drt_horizon.specs.declared.answers.Beyond.TheVariants.{TooFine, TooFar}
 use Rattle.drt_claims.specs.Claims.{graphs_of}
-use Rattle.drt_claims.specs.Ranges.{IsInRange}
+use Rattle.drt_claims.specs.Ranges.{IsEvidenceInRange}
 use Rattle.drt_evidence.specs.Text.{text}
 use Rattle.drt_claims.specs.declared.evidence.Evidence.{Evidence}
 use Rattle.drt_claims.specs.declared.evidence.Evidence.TheVariants.{EdfYes, EdfNo, UtilisationOne, FixedYes, FixedStates, FixedNo, Undecided}
-use Rattle.drt_edf.specs.Answers.{IsBeyond, IsVerdict, IsOther, IsPlanned, IsUndecided}
+use Rattle.drt_edf.specs.Answers.{IsBeyond, IsEdfVerdict, IsOther, IsPlanned, IsEdfUndecided}
 use Rattle.drt_claims.specs.Rates.{IsAtOne, Rates}
-use Rattle.drt_edf.specs.Spent.{IsEnough, table_need}
+use Rattle.drt_edf.specs.Spent.{IsEnoughForEdf, table_need}
 use Rattle.drt_trails.specs.declared.EdfTrail.{EdfTrail}
 use Rattle.drt_trails.specs.declared.EdfTrail.TheVariants.{Table, Overload}
 use Rattle.drt_edf.proofs.Unique.{rates_same, horizon_same}
@@ -32,8 +32,8 @@ use Rattle.drt_outcome.specs.declared.outcome.Trail.{Trail}
 use Rattle.drt_outcome.specs.declared.outcome.Trail.TheVariants as trails
 
 module _ (version : ℕ) (tasks : List Task) (limits : IsTaskSet version tasks) where
-  sound : All IsSound (graphs_of tasks)
-  sound = All-map IsSound digraph_of tasks (all_sound version tasks limits)
+  sound : All IsSoundGraph (graphs_of tasks)
+  sound = All-map IsSoundGraph digraph_of tasks (all_sound version tasks limits)
 
   rate_same : (r s : Rates tasks) → rate r.scale r.ratios ≡ rate s.scale s.ratios
   rate_same r s =
@@ -77,12 +77,12 @@ module _ (version : ℕ) (tasks : List Task) (limits : IsTaskSet version tasks) 
       omega (arith, e.1, r, p.2, q.1.below)
 
 -- Where a budget was spent the utilisation is another than one.
-pub undecided_other : (tasks : List Task) (budget : ℕ) (spent : EdfTrail) → IsUndecided tasks budget spent → IsOther tasks
+pub undecided_other : (tasks : List Task) (budget : ℕ) (spent : EdfTrail) → IsEdfUndecided tasks budget spent → IsOther tasks
 undecided_other tasks budget (Table task log) s = inl (s.bound, s.below, s.near)
 undecided_other tasks budget (Overload last) s = inr s.above
 
 -- A budget that is enough isn't spent.
-not_enough : (tasks : List Task) (budget : ℕ) (spent : EdfTrail) → IsUndecided tasks budget spent → IsEnough tasks budget → ⊥
+not_enough : (tasks : List Task) (budget : ℕ) (spent : EdfTrail) → IsEdfUndecided tasks budget spent → IsEnoughForEdf tasks budget → ⊥
 not_enough tasks budget (Table task log) s enough =
     let l = slice_get_within (graphs_of tasks) task s.graph s.is_graph in
     let is = get_or_from_slice_get (graphs_of tasks) task s.graph s.graph s.is_graph in
@@ -148,7 +148,7 @@ answer_low set budget status written trail (inr (inr (inr a))) = omega (arith, a
 
 -- The answer of evidence.
 pub answer_is : (set : Contents) (budget : ℕ) (evidence : Evidence) → IsTaskSet set.version set.tasks → AreConstrained set.tasks
-    → IsVerdict set.tasks evidence → IsPlanned set.tasks evidence → IsInRange evidence
+    → IsEdfVerdict set.tasks evidence → IsPlanned set.tasks evidence → IsEvidenceInRange evidence
     → IsEdfAnswer set budget (evidence_status evidence) (text (under_edf set evidence)) trails.Nothing
 answer_is set budget (EdfYes ratios fronts) limits constrained done planned range =
     inl (
@@ -190,8 +190,8 @@ answer_is set budget (FixedNo releases miss) limits constrained done planned ran
 answer_is set budget Undecided limits constrained done planned range = absurd done
 
 -- It is the answer of the report that is made of the evidence.
-pub done_decides : (bytes : List ℕ) (set : Contents) (budget : ℕ) (evidence : Evidence) → IsAccepted bytes set → IsVerdict set.tasks evidence → IsPlanned set.tasks evidence
-    → IsInRange evidence → (r : Result Report Unmade)
+pub done_decides : (bytes : List ℕ) (set : Contents) (budget : ℕ) (evidence : Evidence) → IsAccepted bytes set → IsEdfVerdict set.tasks evidence → IsPlanned set.tasks evidence
+    → IsEvidenceInRange evidence → (r : Result Report Unmade)
     → IfOk r (λ m. m ≡ record { status = evidence_status evidence; text = text (under_edf set evidence); trail = trails.Nothing })
     → IfOk r (Besides budget bytes)
 done_decides bytes set budget evidence accepted done planned range (Ok m) is =
@@ -200,6 +200,6 @@ done_decides bytes set budget evidence accepted done planned range (Ok m) is =
 done_decides bytes set budget evidence accepted done planned range (Err e) is = tt
 
 -- The answer of a spent budget.
-pub undecided_is : (set : Contents) (budget : ℕ) (spent : EdfTrail) → IsTaskSet set.version set.tasks → IsUndecided set.tasks budget spent
+pub undecided_is : (set : Contents) (budget : ℕ) (spent : EdfTrail) → IsTaskSet set.version set.tasks → IsEdfUndecided set.tasks budget spent
     → IsEdfAnswer set budget 3 (text (under_edf set Undecided)) (trail_of spent)
 undecided_is set budget spent limits cause = inr (inr (inr (refl, record { spent = spent; cause = cause; trail_is = refl; is = record { stated = (limits, tt); is = refl } })))

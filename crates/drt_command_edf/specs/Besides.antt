@@ -11,8 +11,8 @@ use Rattle.drt_model.specs.declared.front.FrontEntry.{FrontEntry}
 use Rattle.drt_claims.specs.declared.evidence.RatioClaim.{RatioClaim}
 use Rattle.drt_claims.specs.Rules.{Accepts}
 use Rattle.drt_claims.specs.Statement.{Statement}
-use Rattle.drt_evidence.specs.Reading.{IsTextOf}
-use Rattle.drt_edf.specs.Answers.{IsExactYes, IsMissed, IsOnlyOne, IsOther, IsUndecided}
+use Rattle.drt_evidence.specs.Reading.{IsDossierText}
+use Rattle.drt_edf.specs.Answers.{IsExactEdfYes, IsEdfMiss, IsOnlyOne, IsOther, IsEdfUndecided}
 use Rattle.drt_trails.specs.declared.EdfTrail.{EdfTrail}
 use Rattle.drt_trails.specs.declared.EdfTrail.TheVariants.{Table, Overload}
 use Rattle.drt_command.specs.declared.report.Report.{Report}
@@ -28,13 +28,13 @@ under_edf set evidence = record { policy = Edf; set = set; evidence = evidence }
 -- dossier, and accepts it.
 pub record IsAcceptedText (set : Contents) (evidence : Evidence) (written : List ℕ) : Type 0 where
   pub accepts : Accepts (under_edf set evidence)
-  pub is : IsTextOf (under_edf set evidence) written
+  pub is : IsDossierText (under_edf set evidence) written
 
 -- The text is a yes: the set is schedulable under EDF, and each front is exact.
 pub record IsEdfYesText (set : Contents) (written : List ℕ) : Type 0 where
   pub ratios : List RatioClaim
   pub fronts : List (List FrontEntry)
-  pub yes : IsExactYes set.tasks ratios fronts
+  pub yes : IsExactEdfYes set.tasks ratios fronts
   pub other : IsOther set.tasks
   pub is : IsAcceptedText set (EdfYes ratios fronts) written
 
@@ -42,7 +42,7 @@ pub record IsEdfYesText (set : Contents) (written : List ℕ) : Type 0 where
 pub record IsEdfNoText (set : Contents) (written : List ℕ) : Type 0 where
   pub releases : List Release
   pub miss : Miss
-  pub no : IsMissed set.tasks releases miss
+  pub no : IsEdfMiss set.tasks releases miss
   pub other : IsOther set.tasks
   pub is : IsAcceptedText set (EdfNo releases miss) written
 
@@ -60,9 +60,9 @@ trail_of (Overload last) = trails.Overload last
 -- The text is that nothing is decided, and the trail shows that the budget was spent.
 pub record IsUndecidedText (set : Contents) (budget : ℕ) (written : List ℕ) (trail : Trail) : Type 0 where
   pub spent : EdfTrail
-  pub cause : IsUndecided set.tasks budget spent
+  pub cause : IsEdfUndecided set.tasks budget spent
   pub trail_is : trail ≡ trail_of spent
-  pub is : IsTextOf (under_edf set Undecided) written
+  pub is : IsDossierText (under_edf set Undecided) written
 
 -- The bytes are an accepted file, and the text is the dossier of its answer. A yes has the status 0, a no 1, a utilisation of one 2 and a
 -- spent budget 3; only the last has a trail.

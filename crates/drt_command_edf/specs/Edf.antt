@@ -7,7 +7,7 @@ use Rattle.drt_horizon.specs.declared.answers.Beyond.{Beyond}
 use Rattle.drt_horizon.specs.declared.answers.Beyond.TheVariants.{TooFine, TooFar}
 use Rattle.drt_edf.specs.Answers.{IsBeyond}
 use Rattle.drt_claims.specs.Rates.{IsAtOne}
-use Rattle.drt_edf.specs.Spent.{IsEnough}
+use Rattle.drt_edf.specs.Spent.{IsEnoughForEdf}
 use Rattle.drt_command.specs.Rules.{Rules}
 use Rattle.drt_command_files.specs.TaskFiles.{IsAccepted, IsFileFault, file_input}
 use Rattle.drt_outcome.specs.declared.fault.Fault.{Fault}
@@ -34,7 +34,7 @@ pub record IsOutOfReach (bytes : List ℕ) (fault : Fault) : Type 0 where
 pub record EdfEnds (set : Contents) (budget status : ℕ) : Type 0 where
   pub one : IsAtOne set.tasks → status ≡ 2
   pub beyond : (b : Beyond) → IsBeyond set.tasks b → status ≡ 4
-  pub decided : IsEnough set.tasks budget → ((b : Beyond) → ¬ IsBeyond set.tasks b)
+  pub decided : IsEnoughForEdf set.tasks budget → ((b : Beyond) → ¬ IsBeyond set.tasks b)
       → ((status ≡ 2) × IsAtOne set.tasks) ⊎ (((status ≡ 0) × Schedulable set.tasks Edf) ⊎ ((status ≡ 1) × ¬ Schedulable set.tasks Edf))
 
 -- What is promised of `edf` with this budget.

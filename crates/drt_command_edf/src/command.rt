@@ -3,8 +3,8 @@ ghost use Rattle.std.specs.Prelude.{◌≡◌, ◌≢◌, ◌≤◌, IfErr, IfOk
 ghost use Rattle.drt_model.specs.Digraph.{digraph_of};
 ghost use Rattle.drt_io.specs.Causes.{Rose};
 ghost use Rattle.drt_command.specs.declared.input.Input.{Input};
-ghost use Rattle.drt_command.specs.Inputs.{IsWithin};
-ghost use Rattle.drt_command.specs.Rules.{IsCause};
+ghost use Rattle.drt_command.specs.Inputs.{IsInputWithin};
+ghost use Rattle.drt_command.specs.Rules.{IsUnmadeCause};
 ghost use Rattle.drt_command.specs.Runs.{IsRun};
 ghost use Rattle.drt_command_edf.specs.Besides.{Besides, trail_of};
 ghost use Rattle.drt_command_edf.specs.Edf.{IsOutOfReach, beyond_code, edf_rules};
@@ -74,9 +74,9 @@ fn make<G: Gate, R: Threads + Wait + Sync>(
     bytes: &[u8],
     gate: &G,
 ) -> Result<Report, Unmade>
-    requires { IsWithin (edf_rules command.now.effort.budget).input bytes.now }
+    requires { IsInputWithin (edf_rules command.now.effort.budget).input bytes.now }
     ensures makes { IfOk result ((edf_rules command.now.effort.budget).makes bytes.now) }
-    ensures unmade { IfErr result (IsCause (edf_rules command.now.effort.budget).refuses bytes.now) }
+    ensures unmade { IfErr result (IsUnmadeCause (edf_rules command.now.effort.budget).refuses bytes.now) }
 {
     let (set, graphs) = read_set(alloc, bytes)?;
     let crew = Crew {
@@ -98,7 +98,7 @@ fn decide<G: Gate, R: Threads + Wait + Sync>(
     requires accepted { IsAccepted bytes.now set }
     requires graphs { graphs.now ≡ map digraph_of set.tasks }
     ensures decides { IfOk result (Besides crew.now.effort.budget bytes.now) }
-    ensures unmade { IfErr result (IsCause IsOutOfReach bytes.now) }
+    ensures unmade { IfErr result (IsUnmadeCause IsOutOfReach bytes.now) }
 {
     let alloc = crew.alloc;
     match analyse_edf(crew, &Accepted::of(&set, graphs)) {

@@ -1,6 +1,6 @@
 //! The report of an analysis: its dossier, and the status that this has.
 ghost use Rattle.std.specs.Prelude.{◌≡◌, IfErr, IfOk};
-ghost use Rattle.drt_claims.specs.Ranges.{IsInRange};
+ghost use Rattle.drt_claims.specs.Ranges.{IsEvidenceInRange};
 ghost use Rattle.drt_evidence.specs.Text.{text};
 ghost use Rattle.drt_command_files.specs.Dossiers.{evidence_status};
 
@@ -19,7 +19,7 @@ pub fn make_report(
     evidence: Evidence,
     trail: Trail,
 ) -> Result<Report, Unmade>
-    requires { IsInRange evidence }
+    requires { IsEvidenceInRange evidence }
     ensures report { IfOk result (λ m. m ≡ record { status = evidence_status evidence; text = text (record { policy = policy; set = set; evidence = evidence }); trail = trail }) }
     ensures unmade { IfErr result (λ e. e ≡ Unmade.Memory) }
 {

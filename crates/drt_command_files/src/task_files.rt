@@ -2,7 +2,7 @@
 ghost use Rattle.std.specs.Prelude.{◌≡◌, ◌≤◌, IfErr, IfOk, length, map};
 ghost use Rattle.drt_file.specs.trusted.Reading.{Reads};
 ghost use Rattle.drt_model.specs.Digraph.{digraph_of};
-ghost use Rattle.drt_command.specs.Rules.{IsCause};
+ghost use Rattle.drt_command.specs.Rules.{IsUnmadeCause};
 ghost use Rattle.drt_graph.specs.Past.{IsFirstPast};
 ghost use Rattle.drt_command_files.specs.Edges.{Describes};
 ghost use Rattle.drt_command_files.specs.TaskFiles.{IsAccepted, IsFileFault, file_input, most_bytes};
@@ -35,7 +35,7 @@ pub fn read_set(alloc: Global, bytes: &[u8]) -> Result<(TaskSet, Graphs), Unmade
     requires { length bytes.now ≤ most_bytes }
     ensures accepted { IfOk result (λ a. IsAccepted bytes.now a.0) }
     ensures graphs { IfOk result (λ a. a.1 ≡ map digraph_of a.0.tasks) }
-    ensures unmade { IfErr result (IsCause IsFileFault bytes.now) }
+    ensures unmade { IfErr result (IsUnmadeCause IsFileFault bytes.now) }
 {
     match drt_file::read(alloc, bytes) {
         Ok(set) => check_deadlines(alloc, bytes, set),
@@ -52,7 +52,7 @@ fn check_deadlines(alloc: Global, bytes: &[u8], set: TaskSet) -> Result<(TaskSet
     requires reads { Reads bytes.now set }
     ensures accepted { IfOk result (λ a. IsAccepted bytes.now a.0) }
     ensures graphs { IfOk result (λ a. a.1 ≡ map digraph_of a.0.tasks) }
-    ensures unmade { IfErr result (IsCause IsFileFault bytes.now) }
+    ensures unmade { IfErr result (IsUnmadeCause IsFileFault bytes.now) }
 {
     match drt_graph::check(alloc, &set) {
         Ok(graphs) => Ok((set, graphs)),

@@ -2,8 +2,8 @@
 ghost use Rattle.std.specs.Prelude.{◌≡◌, ◌≢◌, ◌≤◌, ℕ, IfErr, IfOk, MatchOption};
 ghost use Rattle.drt_io.specs.Causes.{Rose};
 ghost use Rattle.drt_command.specs.declared.input.Input.{Input};
-ghost use Rattle.drt_command.specs.Inputs.{IsWithin};
-ghost use Rattle.drt_command.specs.Rules.{IsCause};
+ghost use Rattle.drt_command.specs.Inputs.{IsInputWithin};
+ghost use Rattle.drt_command.specs.Rules.{IsUnmadeCause};
 ghost use Rattle.drt_command.specs.Runs.{IsRun};
 ghost use Rattle.drt_command_files.specs.Spots.{NamesNone};
 ghost use Rattle.drt_command_files.specs.TaskFiles.{IsAccepted};
@@ -80,9 +80,9 @@ fn make<G: Gate, R: Threads + Wait + Sync>(
     bytes: &[u8],
     gate: &G,
 ) -> Result<Report, Unmade>
-    requires { IsWithin (margin_rules command.now.fixed command.now.task command.now.vertex command.now.effort.budget).input bytes.now }
+    requires { IsInputWithin (margin_rules command.now.fixed command.now.task command.now.vertex command.now.effort.budget).input bytes.now }
     ensures makes { IfOk result ((margin_rules command.now.fixed command.now.task command.now.vertex command.now.effort.budget).makes bytes.now) }
-    ensures unmade { IfErr result (IsCause (margin_rules command.now.fixed command.now.task command.now.vertex command.now.effort.budget).refuses bytes.now) }
+    ensures unmade { IfErr result (IsUnmadeCause (margin_rules command.now.fixed command.now.task command.now.vertex command.now.effort.budget).refuses bytes.now) }
 {
     let (set, _graphs) = read_set(alloc, bytes)?;
     match spot_in(&set, command) {
@@ -137,7 +137,7 @@ fn answer<G: Gate, R: Threads + Wait + Sync>(
     requires accepted { IsAccepted bytes.now set }
     requires spot { IsSpotOf set command.now spot }
     ensures makes { IfOk result ((margin_rules command.now.fixed command.now.task command.now.vertex crew.now.effort.budget).makes bytes.now) }
-    ensures unmade { IfErr result (IsCause (IsProbed (policy_of command.now.fixed) command.now.task command.now.vertex) bytes.now) }
+    ensures unmade { IfErr result (IsUnmadeCause (IsProbed (policy_of command.now.fixed) command.now.task command.now.vertex) bytes.now) }
 {
     match margin(crew, set, spot) {
         Ok((set, answer)) => report_of(crew.alloc, set, spot, answer),

@@ -1,9 +1,9 @@
 //! The text of a margin.
 ghost use Rattle.std.specs.Prelude.{◌≡◌, ◌+◌, ◌++◌, ◌≤◌, IfOk, OnOk};
 ghost use Rattle.drt_file.specs.trusted.Canonical.{written_line};
-ghost use Rattle.drt_claims.specs.Ranges.{IsInRange};
+ghost use Rattle.drt_claims.specs.Ranges.{IsEvidenceInRange};
 ghost use Rattle.drt_evidence.specs.Text.{text};
-ghost use Rattle.drt_margin.specs.Answers.{IsFound, IsNext};
+ghost use Rattle.drt_margin.specs.Answers.{IsFoundMargin, IsNextShown};
 ghost use Rattle.drt_margin.specs.Margin.{IsVertexOf, wcet_at};
 ghost use Rattle.drt_command_margin.specs.Text.{add_line, margin_text, next_text, with_evidence};
 
@@ -24,7 +24,7 @@ pub(crate) fn print_margin(
     next: Next,
 ) -> Result<Row<u8>, Memory>
     requires vertex { IsVertexOf set.tasks spot.task spot.vertex }
-    requires found { IsFound set spot.policy spot.task spot.vertex add within next }
+    requires found { IsFoundMargin set spot.policy spot.task spot.vertex add within next }
     ensures { IfOk result (λ bytes. bytes ≡ margin_text spot.policy set spot.task spot.vertex add within next) }
 {
     let mut bytes = Vec::new(alloc);
@@ -56,7 +56,7 @@ fn push_next(
     next: Next,
 ) -> Result<(), Memory>
     requires vertex { IsVertexOf set.tasks spot.task spot.vertex }
-    requires next { IsNext set spot.policy spot.task spot.vertex add next }
+    requires next { IsNextShown set spot.policy spot.task spot.vertex add next }
     ensures { OnOk result (bytes.new.items ≡ bytes.old.items ++ next_text spot.policy set spot.task spot.vertex add next) }
 {
     match next {
@@ -79,7 +79,7 @@ fn push_dossier(
 ) -> Result<TaskSet, Memory>
     requires vertex { IsVertexOf set.tasks spot.task spot.vertex }
     requires limit { wcet_at set.tasks spot.task spot.vertex + add ≤ 1000000 }
-    requires in_range { IsInRange evidence }
+    requires in_range { IsEvidenceInRange evidence }
     ensures same { IfOk result (λ same. same ≡ set) }
     ensures bytes { OnOk result (bytes.new.items ≡ bytes.old.items ++ text (with_evidence spot.policy set spot.task spot.vertex add evidence)) }
 {

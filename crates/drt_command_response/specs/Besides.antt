@@ -1,7 +1,7 @@
 -- What stands besides the verdict of `response`: releases that reach each number, that the dossier of a no is accepted, and the trail of a spent budget.
 use Rattle.std.specs.Prelude.{◌≡◌, ℕ, ◌⊎◌, List}
 use Rattle.drt_model.specs.Contents.{Contents}
-use Rattle.drt_evidence.specs.Reading.{IsTextOf}
+use Rattle.drt_evidence.specs.Reading.{IsDossierText}
 use Rattle.drt_claims.specs.declared.evidence.Evidence.TheVariants.{Undecided}
 use Rattle.drt_outcome.specs.declared.outcome.Trail.{Trail}
 use Rattle.drt_outcome.specs.declared.outcome.Trail.TheVariants as trails
@@ -31,7 +31,7 @@ pub record IsResponseUndecidedText (set : Contents) (budget : ℕ) (written : Li
   pub spent : ResponseTrail
   pub cause : IsUndecidedResponse set budget spent
   pub trail_is : trail ≡ response_trail spent
-  pub is : IsTextOf (under_fixed set Undecided) written
+  pub is : IsDossierText (under_fixed set Undecided) written
 
 -- The bytes are an accepted file. Status 0 with the responses, 1 with the no of `sp`, 3 with nothing decided; only the last has
 -- a trail.

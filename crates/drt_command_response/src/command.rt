@@ -3,8 +3,8 @@ ghost use Rattle.std.specs.Prelude.{◌≡◌, ◌≢◌, ◌≤◌, IfErr, IfOk
 ghost use Rattle.drt_model.specs.Digraph.{digraph_of};
 ghost use Rattle.drt_io.specs.Causes.{Rose};
 ghost use Rattle.drt_command.specs.declared.input.Input.{Input};
-ghost use Rattle.drt_command.specs.Inputs.{IsWithin};
-ghost use Rattle.drt_command.specs.Rules.{IsCause};
+ghost use Rattle.drt_command.specs.Inputs.{IsInputWithin};
+ghost use Rattle.drt_command.specs.Rules.{IsUnmadeCause};
 ghost use Rattle.drt_command.specs.Runs.{IsRun};
 ghost use Rattle.drt_model.specs.declared.jobs.Policy.TheVariants.{Fixed};
 ghost use Rattle.drt_evidence.specs.Text.{text};
@@ -79,9 +79,9 @@ fn make<G: Gate, R: Threads + Wait + Sync>(
     bytes: &[u8],
     gate: &G,
 ) -> Result<Report, Unmade>
-    requires { IsWithin (response_rules command.now.effort.budget).input bytes.now }
+    requires { IsInputWithin (response_rules command.now.effort.budget).input bytes.now }
     ensures makes { IfOk result ((response_rules command.now.effort.budget).makes bytes.now) }
-    ensures unmade { IfErr result (IsCause (response_rules command.now.effort.budget).refuses bytes.now) }
+    ensures unmade { IfErr result (IsUnmadeCause (response_rules command.now.effort.budget).refuses bytes.now) }
 {
     let (set, graphs) = read_set(alloc, bytes)?;
     let crew = Crew {

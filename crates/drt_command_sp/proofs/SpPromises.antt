@@ -3,7 +3,7 @@ use Rattle.std.proofs.Common.{◌≡◌, ◌<◌, ◌⊎◌, ℕ, List, Option, 
 use Rattle.drt_model.specs.Contents.{Contents}
 use Rattle.drt_model.specs.Limits.{IsTaskSet}
 use Rattle.drt_file.specs.trusted.Laws.{TextsReadAsOneSet}
-use Rattle.drt_claims.specs.Ranges.{IsInRange}
+use Rattle.drt_claims.specs.Ranges.{IsEvidenceInRange}
 use Rattle.drt_evidence.specs.Text.{text}
 use Rattle.drt_claims.specs.declared.evidence.Evidence.{Evidence}
 use Rattle.drt_claims.specs.declared.evidence.Evidence.TheVariants.{EdfYes, EdfNo, UtilisationOne, FixedYes, FixedStates, FixedNo, Undecided}
@@ -31,7 +31,7 @@ IsSpAnswer set budget status written trail =
 
 -- The answer of what is said with evidence and a trail.
 answer_is : (set : Contents) (budget : ℕ) (evidence : Evidence) (trail : Option FixedTrail) → IsTaskSet set.version set.tasks
-    → IsSaid set budget evidence trail → IsInRange evidence
+    → IsSaid set budget evidence trail → IsEvidenceInRange evidence
     → IsSpAnswer set budget (evidence_status evidence) (text (under_fixed set evidence)) (trail_after trail)
 answer_is set budget (EdfYes ratios fronts) trail limits said range = absurd said
 answer_is set budget (EdfNo releases miss) trail limits said range = absurd said
@@ -47,7 +47,7 @@ answer_is set budget Undecided trail limits said range =
 
 -- It is the answer of the report that is made of them.
 pub analysed : (bytes : List ℕ) (set : Contents) (budget : ℕ) (evidence : Evidence) (trail : Option FixedTrail) → IsAccepted bytes set
-    → IsSaid set budget evidence trail → IsInRange evidence → (r : Result Report Unmade)
+    → IsSaid set budget evidence trail → IsEvidenceInRange evidence → (r : Result Report Unmade)
     → IfOk r (λ m. m ≡ record { status = evidence_status evidence; text = text (under_fixed set evidence); trail = trail_after trail })
     → IfOk r (Besides budget bytes)
 analysed bytes set budget evidence trail accepted said range (Ok m) is =

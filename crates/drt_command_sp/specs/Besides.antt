@@ -3,14 +3,14 @@ use Rattle.std.specs.Prelude.{◌≡◌, ℕ, ◌⊎◌, List, None, Option, Som
 use Rattle.drt_model.specs.Contents.{Contents}
 use Rattle.drt_model.specs.declared.jobs.Release.{Release}
 use Rattle.drt_model.specs.declared.jobs.Miss.{Miss}
-use Rattle.drt_evidence.specs.Reading.{IsTextOf}
+use Rattle.drt_evidence.specs.Reading.{IsDossierText}
 use Rattle.drt_claims.specs.declared.evidence.Evidence.{Evidence}
 use Rattle.drt_claims.specs.declared.evidence.Evidence.TheVariants.{FixedNo, Undecided}
 use Rattle.drt_outcome.specs.declared.outcome.Trail.{Trail}
 use Rattle.drt_outcome.specs.declared.outcome.Trail.TheVariants as trails
 use Rattle.drt_command.specs.declared.report.Report.{Report}
 use Rattle.drt_fixed.specs.Answers.{IsNo, IsYes}
-use Rattle.drt_sp.specs.Answers.{IsUndecided}
+use Rattle.drt_sp.specs.Answers.{IsTreeUndecided}
 use Rattle.drt_sp.specs.Evidence.{under_fixed}
 use Rattle.drt_trails.specs.declared.FixedTrail.{FixedTrail}
 use Rattle.drt_trails.specs.declared.FixedTrail.TheVariants.{Table, Refine}
@@ -20,7 +20,7 @@ use Rattle.drt_command_files.specs.TaskFiles.{IsAccepted}
 pub record IsSpYesText (set : Contents) (written : List ℕ) : Type 0 where
   pub evidence : Evidence
   pub yes : IsYes set evidence
-  pub is : IsTextOf (under_fixed set evidence) written
+  pub is : IsDossierText (under_fixed set evidence) written
 
 -- The text is a no: the set isn't schedulable under fixed priorities, the releases written are legal, and the job named misses its
 -- deadline.
@@ -28,7 +28,7 @@ pub record IsSpNoText (set : Contents) (written : List ℕ) : Type 0 where
   pub releases : List Release
   pub miss : Miss
   pub no : IsNo set releases miss
-  pub is : IsTextOf (under_fixed set (FixedNo releases miss)) written
+  pub is : IsDossierText (under_fixed set (FixedNo releases miss)) written
 
 -- The trail of a spent budget.
 abbrev pub trail_of : FixedTrail → Trail
@@ -43,9 +43,9 @@ trail_after (Some spent) = trail_of spent
 -- The text is that nothing is decided, and the trail shows that the budget was spent.
 pub record IsSpUndecidedText (set : Contents) (budget : ℕ) (written : List ℕ) (trail : Trail) : Type 0 where
   pub spent : FixedTrail
-  pub cause : IsUndecided set budget spent
+  pub cause : IsTreeUndecided set budget spent
   pub trail_is : trail ≡ trail_of spent
-  pub is : IsTextOf (under_fixed set Undecided) written
+  pub is : IsDossierText (under_fixed set Undecided) written
 
 -- The bytes are an accepted file, and the text is the dossier of its answer. A yes has the status 0, a no 1 and a spent budget 3; only
 -- the last has a trail.

@@ -4,7 +4,7 @@ use Rattle.drt_model.specs.Contents.{Contents}
 use Rattle.drt_model.specs.declared.jobs.Policy.TheVariants.{Fixed}
 use Rattle.drt_model.specs.Schedulable.{Schedulable}
 use Rattle.drt_command.specs.Rules.{Rules}
-use Rattle.drt_sp.specs.Needs.{IsEnough}
+use Rattle.drt_sp.specs.Needs.{IsEnoughForTrees}
 use Rattle.drt_command_files.specs.TaskFiles.{IsAccepted, IsFileFault, file_input}
 use Rattle.drt_command_files.specs.Verdicts.{SetVerdict}
 use Rattle.drt_command_sp.specs.Besides.{Besides}
@@ -12,7 +12,7 @@ use Rattle.drt_command_sp.specs.Besides.{Besides}
 -- The status of `sp` at an accepted set where nothing fails and the budget is enough for each search: 0 only where the set is schedulable
 -- under fixed priorities, 1 only where it isn't, and one of these.
 abbrev pub SpEnds : Contents → ℕ → ℕ → Type 0
-SpEnds set budget status = IsEnough set.tasks budget → ((status ≡ 0) × Schedulable set.tasks Fixed) ⊎ ((status ≡ 1) × ¬ Schedulable set.tasks Fixed)
+SpEnds set budget status = IsEnoughForTrees set.tasks budget → ((status ≡ 0) × Schedulable set.tasks Fixed) ⊎ ((status ≡ 1) × ¬ Schedulable set.tasks Fixed)
 
 -- What is promised of `sp` with this budget.
 abbrev pub sp_rules : ℕ → Rules

@@ -3,9 +3,9 @@ ghost use Rattle.std.specs.Prelude.{◌≡◌, ◌≢◌, ◌≤◌, IfErr, IfOk
 ghost use Rattle.drt_model.specs.Digraph.{digraph_of};
 ghost use Rattle.drt_io.specs.Causes.{Rose};
 ghost use Rattle.drt_command.specs.declared.input.Input.{Input};
-ghost use Rattle.drt_claims.specs.Ranges.{IsInRange};
-ghost use Rattle.drt_command.specs.Inputs.{IsWithin};
-ghost use Rattle.drt_command.specs.Rules.{IsCause};
+ghost use Rattle.drt_claims.specs.Ranges.{IsEvidenceInRange};
+ghost use Rattle.drt_command.specs.Inputs.{IsInputWithin};
+ghost use Rattle.drt_command.specs.Rules.{IsUnmadeCause};
 ghost use Rattle.drt_command.specs.Runs.{IsRun};
 ghost use Rattle.drt_evidence.specs.Text.{text};
 ghost use Rattle.drt_sp.specs.Evidence.{under_fixed};
@@ -78,9 +78,9 @@ fn make<G: Gate, R: Threads + Wait + Sync>(
     bytes: &[u8],
     gate: &G,
 ) -> Result<Report, Unmade>
-    requires { IsWithin (sp_rules command.now.effort.budget).input bytes.now }
+    requires { IsInputWithin (sp_rules command.now.effort.budget).input bytes.now }
     ensures makes { IfOk result ((sp_rules command.now.effort.budget).makes bytes.now) }
-    ensures unmade { IfErr result (IsCause (sp_rules command.now.effort.budget).refuses bytes.now) }
+    ensures unmade { IfErr result (IsUnmadeCause (sp_rules command.now.effort.budget).refuses bytes.now) }
 {
     let (set, graphs) = read_set(alloc, bytes)?;
     let crew = Crew {
@@ -112,7 +112,7 @@ fn analyse<G: Gate, R: Threads + Wait + Sync>(
 
 // The report of an answer: the dossier of the set under fixed priorities, and the trail of a spent budget.
 fn report_of(alloc: Global, set: TaskSet, answer: Analysed) -> Result<Report, Unmade>
-    requires { IsInRange answer.evidence }
+    requires { IsEvidenceInRange answer.evidence }
     ensures report { IfOk result (λ m. m ≡ record { status = evidence_status answer.evidence; text = text (under_fixed set answer.evidence); trail = trail_after answer.trail }) }
     ensures unmade { IfErr result (λ e. e ≡ Unmade.Memory) }
 {

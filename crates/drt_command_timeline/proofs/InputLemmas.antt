@@ -3,16 +3,16 @@ use Rattle.std.proofs.Common.{◌≡◌, ℕ, ◌+◌, ◌-◌, ◌<◌, ◌≤�
 use Rattle.std.proofs.lemmas.Bool.{cases_lt}
 use Rattle.std.proofs.lemmas.List.{length-drop, take_all}
 use Rattle.std.specs.Prelude.{codes, slice_index}
-use Rattle.drt_command_timeline.specs.Inputs.{BeginsAt, IsCutAt, IsInput}
+use Rattle.drt_command_timeline.specs.Inputs.{BeginsAt, IsInputCut, IsFileAndText}
 
-cut_one : (bytes : List ℕ) (a b : ℕ) → IsCutAt bytes a → IsCutAt bytes b → a ≡ b
+cut_one : (bytes : List ℕ) (a b : ℕ) → IsInputCut bytes a → IsInputCut bytes b → a ≡ b
 cut_one bytes a b h k = elim (cases_lt a b) [
   | inl lt ↦ (let le = k.within in absurd (k.first a lt (h.begins (omega (arith, lt, le)))))
   | inr le ↦ elim (cases_lt b a) [ inl lt ↦ (let within = h.within in absurd (h.first b lt (k.begins (omega (arith, lt, within))))) | inr ge ↦ omega arith ]
 ]
 
 -- An input has one file and one text.
-pub input_one : (bytes f t g u : List ℕ) → IsInput bytes f t → IsInput bytes g u → (f ≡ g) × (t ≡ u)
+pub input_one : (bytes f t g u : List ℕ) → IsFileAndText bytes f t → IsFileAndText bytes g u → (f ≡ g) × (t ≡ u)
 input_one bytes f t g u h k =
     let same = cut_one bytes h.at k.at h.cut k.cut in
     (h.file_is ∙ ap (λ n. take n bytes) same ∙ sym k.file_is, h.text_is ∙ ap (λ n. drop n bytes) same ∙ sym k.text_is)

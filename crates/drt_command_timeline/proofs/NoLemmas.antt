@@ -4,16 +4,16 @@ use Rattle.std.proofs.lemmas.List.Elements.{All-weaker}
 use Rattle.drt_model.specs.Legal.{IsLegal}
 use Rattle.drt_model.specs.declared.jobs.Release.{Release}
 use Rattle.drt_claims.specs.Kinds.{HasReleases, miss_of, releases_of}
-use Rattle.drt_claims.specs.Ranges.{AreInRangeReleases, IsInRange, IsInRangeRelease}
+use Rattle.drt_claims.specs.Ranges.{AreInRangeReleases, IsEvidenceInRange, IsInRangeRelease}
 use Rattle.drt_claims.specs.Statement.{Statement}
 use Rattle.drt_claims.specs.declared.evidence.Evidence.{Evidence}
 use Rattle.drt_claims.specs.declared.evidence.Evidence.TheVariants.{EdfYes, EdfNo, UtilisationOne, FixedYes, FixedStates, FixedNo, Undecided}
 use Rattle.drt_claims.specs.declared.rule.Rule.TheVariants.{LegalReleases}
-use Rattle.drt_check.specs.Judging.{IsJudged, claimed}
+use Rattle.drt_check.specs.Judging.{IsStatementJudged, claimed}
 use Rattle.drt_check.specs.declared.judgement.Judgement.{Judgement}
 use Rattle.drt_check.specs.declared.judgement.Judgement.TheVariants as judgements
 use Rattle.drt_outcome.specs.declared.fault.Fault.TheVariants as faults
-use Rattle.drt_command.specs.Rules.{IsCause}
+use Rattle.drt_command.specs.Rules.{IsUnmadeCause}
 use Rattle.drt_command.specs.declared.report.Unmade.{Unmade}
 use Rattle.drt_command.specs.declared.report.Unmade.TheVariants as unmades
 use Rattle.drt_command_check.specs.Check.{IsDossierFault}
@@ -39,7 +39,7 @@ has_releases (FixedNo releases miss) c = tt
 has_releases Undecided c = absurd (cc)
 
 -- A dossier with releases that isn't rejected is that of a no.
-pub is_no : (s : Statement) (j : Judgement) → IsJudged s j → ((n : ℕ) → j ≡ judgements.Rejected n → ⊥) → HasReleases s.evidence → j ≡ judgements.Unschedulable
+pub is_no : (s : Statement) (j : Judgement) → IsStatementJudged s j → ((n : ℕ) → j ≡ judgements.Rejected n → ⊥) → HasReleases s.evidence → j ≡ judgements.Unschedulable
 is_no s judgements.Schedulable is not h = let claim = is.1 in let other = claims_no s.evidence h in absurd (cc)
 is_no s judgements.Unschedulable is not h = refl
 is_no s judgements.UtilisationOne is not h = let claim = is.1 in let other = claims_no s.evidence h in absurd (cc)
@@ -47,7 +47,7 @@ is_no s judgements.NothingToCheck is not h = absurd (subst HasReleases is h)
 is_no s (judgements.Rejected n) is not h = absurd (not n refl)
 
 -- One without releases has the status of those that aren't drawn.
-pub not_drawn : (s : Statement) (j : Judgement) → IsJudged s j → ((n : ℕ) → j ≡ judgements.Rejected n → ⊥) → ¬ HasReleases s.evidence → timeline_status j ≡ 10
+pub not_drawn : (s : Statement) (j : Judgement) → IsStatementJudged s j → ((n : ℕ) → j ≡ judgements.Rejected n → ⊥) → ¬ HasReleases s.evidence → timeline_status j ≡ 10
 not_drawn s judgements.Schedulable is not none = refl
 not_drawn s judgements.Unschedulable is not none = absurd (none (has_releases s.evidence is.1))
 not_drawn s judgements.UtilisationOne is not none = refl
@@ -55,11 +55,11 @@ not_drawn s judgements.NothingToCheck is not none = refl
 not_drawn s (judgements.Rejected n) is not none = absurd (not n refl)
 
 -- The releases of a no are legal.
-pub legal_no : (s : Statement) → IsJudged s judgements.Unschedulable → IsLegal s.set.tasks (releases_of s.evidence)
+pub legal_no : (s : Statement) → IsStatementJudged s judgements.Unschedulable → IsLegal s.set.tasks (releases_of s.evidence)
 legal_no s is = is.0.keeps LegalReleases (has_releases s.evidence is.1)
 
 -- They and the miss have their numbers in range.
-pub range_of : (e : Evidence) → IsInRange e → HasReleases e → AreInRangeReleases (releases_of e) (miss_of e)
+pub range_of : (e : Evidence) → IsEvidenceInRange e → HasReleases e → AreInRangeReleases (releases_of e) (miss_of e)
 range_of (EdfYes ratios fronts) is h = absurd h
 range_of (EdfNo releases miss) is h = is
 range_of (UtilisationOne ratios) is h = absurd h
@@ -72,7 +72,7 @@ pub times_of : (releases : List Release) → All IsInRangeRelease releases → A
 times_of releases are = All-weaker IsInRangeRelease (λ r. r.time ≤ 10 ^ 18) (λ r is. (let le = is.time in omega (arith, le))) releases are
 
 -- A dossier's fault is one of its timeline.
-pub dossier_cause : (bytes : List ℕ) (e : Unmade) → IsCause IsDossierFault bytes e → IsCause IsTimelineFault bytes e
+pub dossier_cause : (bytes : List ℕ) (e : Unmade) → IsUnmadeCause IsDossierFault bytes e → IsUnmadeCause IsTimelineFault bytes e
 dossier_cause bytes unmades.Memory h = tt
 dossier_cause bytes (unmades.Refused f) h = inl h
 
@@ -91,5 +91,5 @@ pub known_no : (bytes : List ℕ) (s t : Statement) (j : Judgement) → IsJudged
     → IsLegal t.set.tasks (releases_of t.evidence) × AreInRangeReleases (releases_of t.evidence) (miss_of t.evidence)
 known_no bytes s t j is same not h =
     let here : IsJudgedDossier bytes t j = subst (λ u. IsJudgedDossier bytes u j) same is in
-    let no : IsJudged t judgements.Unschedulable = subst (IsJudged t) (is_no t j here.judged not h) here.judged in
+    let no : IsStatementJudged t judgements.Unschedulable = subst (IsStatementJudged t) (is_no t j here.judged not h) here.judged in
     (legal_no t no, range_of t.evidence here.dossier.is.stated.1 h)

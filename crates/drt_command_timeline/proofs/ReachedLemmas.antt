@@ -17,7 +17,7 @@ use Rattle.drt_model.specs.declared.jobs.Release.{Release}
 use Rattle.drt_model.specs.declared.tasks.Task.{Task}
 use Rattle.drt_replay.specs.Board.{IsFinishSoFar, Shown}
 use Rattle.drt_responses.specs.declared.response.Response.{Response}
-use Rattle.drt_command_timeline.specs.Reached.{IsReached, IsStart, release_at}
+use Rattle.drt_command_timeline.specs.Reached.{IsReachedResponse, IsStart, release_at}
 
 -- What is found in a list has what all of it have.
 pub found_has : {X : Type 0} (p : X → Bool) (P : X → Type 0) (xs : List X) (x : X) → All P xs → find p xs ≡ Some x → P x
@@ -92,7 +92,7 @@ finish_none tasks releases task ticks f v j s =
 
 -- A response is reached where its job finishes after its ticks.
 pub reached_iff : (tasks : List Task) (r : Response) (t : Bool) → IsLegal tasks r.releases → r.ticks ≤ 2 ^ 62 → ((j : ℕ) × IsStart r.task r.vertex r.releases j)
-    → ((v j : ℕ) → IsStart r.task v r.releases j → IsTrue t ↔ IsFinish Fixed (jobs_of tasks r.releases) j r.ticks) → IsTrue t ↔ IsReached tasks r
+    → ((v j : ℕ) → IsStart r.task v r.releases j → IsTrue t ↔ IsFinish Fixed (jobs_of tasks r.releases) j r.ticks) → IsTrue t ↔ IsReachedResponse tasks r
 reached_iff tasks r t legal near s f = (
   λ is. record { legal = legal; near = near; job = s.0; start = s.1; finish = (f r.vertex s.0 s.1).0 is },
   λ h. (f r.vertex h.job h.start).1 h.finish,
@@ -113,7 +113,7 @@ finish_missing tasks releases task ticks same f =
 
 -- The same where the releases are known otherwise.
 pub reached_by : (tasks : List Task) (r : Response) (t : Bool) (releases : List Release) → releases ≡ r.releases → IsLegal tasks releases → r.ticks ≤ 2 ^ 62
-    → ((j : ℕ) × IsStart r.task r.vertex releases j) → ((v j : ℕ) → IsStart r.task v releases j → IsTrue t ↔ IsFinish Fixed (jobs_of tasks releases) j r.ticks) → IsTrue t ↔ IsReached tasks r
+    → ((j : ℕ) × IsStart r.task r.vertex releases j) → ((v j : ℕ) → IsStart r.task v releases j → IsTrue t ↔ IsFinish Fixed (jobs_of tasks releases) j r.ticks) → IsTrue t ↔ IsReachedResponse tasks r
 reached_by tasks r t releases same legal near s f =
     reached_iff tasks r t (subst (IsLegal tasks) same legal) near (subst (λ xs. (j : ℕ) × IsStart r.task r.vertex xs j) same s)
     (subst (λ xs. (v j : ℕ) → IsStart r.task v xs j → IsTrue t ↔ IsFinish Fixed (jobs_of tasks xs) j r.ticks) same f)

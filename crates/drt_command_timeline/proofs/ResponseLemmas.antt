@@ -7,17 +7,17 @@ use Rattle.drt_outcome.specs.declared.outcome.Trail.TheVariants as trails
 use Rattle.drt_model.specs.Contents.{Contents}
 use Rattle.drt_model.specs.declared.jobs.Policy.TheVariants.{Fixed}
 use Rattle.drt_model.specs.declared.tasks.Task.{Task}
-use Rattle.drt_command.specs.Rules.{IsCause}
+use Rattle.drt_command.specs.Rules.{IsUnmadeCause}
 use Rattle.drt_command.specs.declared.report.Report.{Report}
 use Rattle.drt_command.specs.declared.report.Unmade.{Unmade}
 use Rattle.drt_command.specs.declared.report.Unmade.TheVariants.{Memory, Refused}
 use Rattle.drt_command_check.specs.Check.{most_dossier_bytes}
 use Rattle.drt_command_files.specs.TaskFiles.{IsAccepted, IsFileFault}
-use Rattle.drt_responses.specs.Reading.{IsTextOf}
+use Rattle.drt_responses.specs.Reading.{IsResponsesText}
 use Rattle.drt_responses.specs.declared.response.Response.{Response}
-use Rattle.drt_command_timeline.specs.Inputs.{IsCutAt, IsInput}
+use Rattle.drt_command_timeline.specs.Inputs.{IsInputCut, IsFileAndText}
 use Rattle.drt_command_timeline.specs.Drawn.{IsDrawn}
-use Rattle.drt_command_timeline.specs.Reached.{IsReached}
+use Rattle.drt_command_timeline.specs.Reached.{IsReachedResponse}
 use Rattle.drt_command_timeline.specs.Response.{DrawsIn, DrawsResponse, IsFaultIn, IsResponseFault, IsTextFault, IsUnreached, response_of}
 use Rattle.drt_command_files.specs.Spots.{NamesNone}
 use Rattle.drt_command_files.specs.Spots.{IsSpot}
@@ -28,27 +28,27 @@ pub passed : {T : Type 0} (P : Unmade → Type 0) (r : Result T Unmade) (e : Unm
 passed P (Ok x) e is p = tt
 passed P (Err y) e is p = subst P (sym is) p
 
-pub input_at : (bytes : List ℕ) (at : ℕ) → length bytes ≤ most_dossier_bytes → IsCutAt bytes at → IsInput bytes (take at bytes) (take (length bytes - at) (drop at bytes))
+pub input_at : (bytes : List ℕ) (at : ℕ) → length bytes ≤ most_dossier_bytes → IsInputCut bytes at → IsFileAndText bytes (take at bytes) (take (length bytes - at) (drop at bytes))
 input_at bytes at small cut = record { small = small; at = at; cut = cut; file_is = refl; text_is = rest_all bytes at }
 
 -- Where file and text are read, with the set and the responses that these say.
 pub record IsRead (bytes file text : List ℕ) (set : Contents) (responses : List Response) : Type 0 where
-  pub input : IsInput bytes file text
+  pub input : IsFileAndText bytes file text
   pub accepted : IsAccepted file set
-  pub are : IsTextOf responses text
-  pub only : (found : List Response) → IsTextOf found text → responses ≡ found
+  pub are : IsResponsesText responses text
+  pub only : (found : List Response) → IsResponsesText found text → responses ≡ found
 
-pub file_cause : (task vertex bytes file text : List ℕ) → IsInput bytes file text → (e : Unmade) → IsCause IsFileFault file e → IsCause (IsResponseFault task vertex) bytes e
+pub file_cause : (task vertex bytes file text : List ℕ) → IsFileAndText bytes file text → (e : Unmade) → IsUnmadeCause IsFileFault file e → IsUnmadeCause (IsResponseFault task vertex) bytes e
 file_cause task vertex bytes file text input Memory h = tt
 file_cause task vertex bytes file text input (Refused f) h = inr (inl (record { file = file; text = text; input = input; is = h }))
 
-pub text_cause : (task vertex bytes file text : List ℕ) (set : Contents) → IsInput bytes file text → IsAccepted file set → (e : Unmade) → IsCause IsTextFault text e
-    → IsCause (IsResponseFault task vertex) bytes e
+pub text_cause : (task vertex bytes file text : List ℕ) (set : Contents) → IsFileAndText bytes file text → IsAccepted file set → (e : Unmade) → IsUnmadeCause IsTextFault text e
+    → IsUnmadeCause (IsResponseFault task vertex) bytes e
 text_cause task vertex bytes file text set input accepted Memory h = tt
 text_cause task vertex bytes file text set input accepted (Refused f) h = inr (inr (inl (record { file = file; text = text; input = input; set = set; accepted = accepted; is = h })))
 
 pub named_cause : (task vertex bytes file text : List ℕ) (set : Contents) (responses : List Response) → IsRead bytes file text set responses → (e : Unmade)
-    → IsCause (λ name fault. IsFaultIn task vertex set.tasks responses fault) task e → IsCause (IsResponseFault task vertex) bytes e
+    → IsUnmadeCause (λ name fault. IsFaultIn task vertex set.tasks responses fault) task e → IsUnmadeCause (IsResponseFault task vertex) bytes e
 named_cause task vertex bytes file text set responses r Memory h = tt
 named_cause task vertex bytes file text set responses r (Refused f) (inl h) =
     inr (inr (inr (inl (record { file = file; text = text; input = r.input; set = set; accepted = r.accepted; responses = responses; are = r.are; none = h.0 }, h.1))))
@@ -89,7 +89,7 @@ err_then to (Err e) h = to e h
 
 -- The response of a spot is drawn, or it isn't reached.
 pub spot_draws : (svg : Bool) (task vertex : List ℕ) (tasks : List Task) (responses : List Response) (k v : ℕ) (r : Response) → IsSpot tasks task vertex k v → response_of k v responses ≡ Some r
-    → (made : Report) → IsReached tasks r → IsDrawn svg tasks Fixed r.releases r.ticks made.text → (made.status ≡ 0) × (made.trail ≡ trails.Nothing) → DrawsIn svg task vertex tasks responses made
+    → (made : Report) → IsReachedResponse tasks r → IsDrawn svg tasks Fixed r.releases r.ticks made.text → (made.status ≡ 0) × (made.trail ≡ trails.Nothing) → DrawsIn svg task vertex tasks responses made
 spot_draws svg task vertex tasks responses k v r spot is made reached drawn made_is = record {
   response = r;
   shown = record { k = k; v = v; spot = spot; response = is; reached = reached };
@@ -99,13 +99,13 @@ spot_draws svg task vertex tasks responses k v r spot is made reached drawn made
 }
 
 pub spot_cause : (task vertex : List ℕ) (tasks : List Task) (responses : List Response) (k v : ℕ) (r : Response) → IsSpot tasks task vertex k v → response_of k v responses ≡ Some r
-    → (e : Unmade) → (e ≡ Memory) ⊎ ((e ≡ Refused (faults.Rule 31)) × ¬ IsReached tasks r) → IsCause (λ name fault. IsFaultIn name vertex tasks responses fault) task e
+    → (e : Unmade) → (e ≡ Memory) ⊎ ((e ≡ Refused (faults.Rule 31)) × ¬ IsReachedResponse tasks r) → IsUnmadeCause (λ name fault. IsFaultIn name vertex tasks responses fault) task e
 spot_cause task vertex tasks responses k v r spot is Memory h = tt
 spot_cause task vertex tasks responses k v r spot is (Refused f) (inl h) = absurd (cc)
 spot_cause task vertex tasks responses k v r spot is (Refused f) (inr h) =
     let refused = h.0 in
     let same : f ≡ faults.Rule 31 = cc in
-    inr (record { k = k; v = v; spot = spot; none = λ s at reached. h.1 (subst (IsReached tasks) (same_Some s r (sym at ∙ is)) reached) }, same)
+    inr (record { k = k; v = v; spot = spot; none = λ s at reached. h.1 (subst (IsReachedResponse tasks) (same_Some s r (sym at ∙ is)) reached) }, same)
 
 -- The same names have no spot.
 pub names_none : (tasks : List Task) (a b task vertex : List ℕ) → a ≡ task → b ≡ vertex → NamesNone a b tasks → NamesNone task vertex tasks

@@ -9,31 +9,31 @@ use Rattle.drt_command_files.specs.TaskFiles.{IsAccepted, IsFileFault}
 use Rattle.drt_command_files.proofs.TaskFileLemmas.{accepted_one, accepted_well, fault_one}
 use Rattle.drt_outcome.specs.declared.fault.Fault.{Fault}
 use Rattle.drt_outcome.specs.declared.fault.Fault.TheVariants.{Dossier}
-use Rattle.drt_responses.specs.Reading.{HasTextFault, IsTextOf}
+use Rattle.drt_responses.specs.Reading.{HasTextFault, IsResponsesText}
 use Rattle.drt_responses.specs.declared.response.Response.{Response}
-use Rattle.drt_command_timeline.specs.Inputs.{IsInput}
-use Rattle.drt_command_timeline.specs.Response.{HasNoSpot, IsFaultOfFile, IsFaultOfText, IsNotReached, IsResponseFault, IsShown, IsUnreached, response_of, response_timeline_rules}
+use Rattle.drt_command_timeline.specs.Inputs.{IsFileAndText}
+use Rattle.drt_command_timeline.specs.Response.{HasNoDrawnSpot, IsFaultOfFile, IsFaultOfText, IsNotReached, IsResponseFault, IsShown, IsUnreached, response_of, response_timeline_rules}
 use Rattle.drt_command_files.specs.Spots.{IsSpot}
 use Rattle.drt_command_files.proofs.SpotLemmas.{spot_one}
 use Rattle.drt_command_timeline.proofs.InputLemmas.{input_one}
 
-too_long : (bytes file text : List ℕ) → most_dossier_bytes < length bytes → IsInput bytes file text → ⊥
+too_long : (bytes file text : List ℕ) → most_dossier_bytes < length bytes → IsFileAndText bytes file text → ⊥
 too_long bytes file text big input = let small = input.small in omega (arith, big, small)
 
 -- A file that is accepted has no fault.
-file_well : TextsReadAsOneSet → (bytes file text : List ℕ) (set : Contents) (f : Fault) → IsInput bytes file text → IsAccepted file set → IsFaultOfFile bytes f → ⊥
+file_well : TextsReadAsOneSet → (bytes file text : List ℕ) (set : Contents) (f : Fault) → IsFileAndText bytes file text → IsAccepted file set → IsFaultOfFile bytes f → ⊥
 file_well law bytes file text set f input accepted h =
     let same = input_one bytes file text h.file h.text input h.input in
     accepted_well law h.file set f (subst (λ b. IsAccepted b set) same.0 accepted) h.is
 
 -- A text of responses has none.
-text_well : (bytes file text : List ℕ) (responses : List Response) (f : Fault) → IsInput bytes file text → IsTextOf responses text → IsFaultOfText bytes f → ⊥
+text_well : (bytes file text : List ℕ) (responses : List Response) (f : Fault) → IsFileAndText bytes file text → IsResponsesText responses text → IsFaultOfText bytes f → ⊥
 text_well bytes file text responses f input are h =
     let same = input_one bytes file text h.file h.text input h.input in
-    h.is.stops.none responses (subst (IsTextOf responses) same.1 are)
+    h.is.stops.none responses (subst (IsResponsesText responses) same.1 are)
 
 -- An input has one set.
-set_one : TextsReadAsOneSet → (bytes f t g u : List ℕ) (a b : Contents) → IsInput bytes f t → IsInput bytes g u → IsAccepted f a → IsAccepted g b → a ≡ b
+set_one : TextsReadAsOneSet → (bytes f t g u : List ℕ) (a b : Contents) → IsFileAndText bytes f t → IsFileAndText bytes g u → IsAccepted f a → IsAccepted g b → a ≡ b
 set_one law bytes f t g u a b h k x y = accepted_one law g a b (subst (λ w. IsAccepted w a) (input_one bytes f t g u h k).0 x) y
 
 line_one : (text : List ℕ) (l m : ℕ) → HasTextFault text l → HasTextFault text m → l ≡ m
@@ -54,14 +54,14 @@ file_fault_one law bytes f g h k =
     fault_one law k.file f g (subst (λ b. IsFileFault b f) same.0 h.is) k.is
 
 -- Names that have no spot have no response.
-no_spot : TextsReadAsOneSet → (task vertex bytes : List ℕ) → HasNoSpot task vertex bytes → IsNotReached task vertex bytes → ⊥
+no_spot : TextsReadAsOneSet → (task vertex bytes : List ℕ) → HasNoDrawnSpot task vertex bytes → IsNotReached task vertex bytes → ⊥
 no_spot law task vertex bytes h k =
     let same = set_one law bytes h.file h.text k.file k.text h.set k.set h.input k.input h.accepted k.accepted in
     let u = k.unreached k.responses k.are in
     h.none u.k u.v (subst (λ (s : Contents). IsSpot s.tasks task vertex u.k u.v) (sym same) u.spot)
 
 -- What is shown isn't refused.
-no_spot_shown : TextsReadAsOneSet → (task vertex bytes : List ℕ) (set : Contents) (r : Response) → IsShown task vertex bytes set r → HasNoSpot task vertex bytes → ⊥
+no_spot_shown : TextsReadAsOneSet → (task vertex bytes : List ℕ) (set : Contents) (r : Response) → IsShown task vertex bytes set r → HasNoDrawnSpot task vertex bytes → ⊥
 no_spot_shown law task vertex bytes set r s h =
     let same = set_one law bytes s.file s.text h.file h.text set h.set s.input h.input s.accepted h.accepted in
     h.none s.shown.k s.shown.v (subst (λ (c : Contents). IsSpot c.tasks task vertex s.shown.k s.shown.v) same s.shown.spot)
@@ -70,7 +70,7 @@ unreached_shown : TextsReadAsOneSet → (task vertex bytes : List ℕ) (set : Co
 unreached_shown law task vertex bytes set r s h =
     let same = set_one law bytes s.file s.text h.file h.text set h.set s.input h.input s.accepted h.accepted in
     let text = (input_one bytes s.file s.text h.file h.text s.input h.input).1 in
-    let found : IsUnreached task vertex h.set.tasks s.responses = h.unreached s.responses (subst (IsTextOf s.responses) text s.are) in
+    let found : IsUnreached task vertex h.set.tasks s.responses = h.unreached s.responses (subst (IsResponsesText s.responses) text s.are) in
     let u : IsUnreached task vertex set.tasks s.responses = subst (λ (c : Contents). IsUnreached task vertex c.tasks s.responses) (sym same) found in
     let one = spot_one set.tasks task vertex u.k u.v s.shown.k s.shown.v u.spot s.shown.spot in
     u.none r (ap (λ k. response_of k u.v s.responses) one.0 ∙ ap (λ v. response_of s.shown.k v s.responses) one.1 ∙ s.shown.response) s.shown.reached

@@ -1,8 +1,8 @@
 -- What is promised of `timeline` of a dossier agrees.
 use Rattle.std.proofs.Common.{◌≡◌, ℕ, ◌<◌, ◌≤◌, Bool, List, length, inl, inr, refl, sym, ap, ◌∙◌, subst, arith}
-use Rattle.drt_evidence.specs.Reading.{IsTextOf}
+use Rattle.drt_evidence.specs.Reading.{IsDossierText}
 use Rattle.drt_claims.specs.Statement.{Statement}
-use Rattle.drt_check.specs.Judging.{IsJudged, IsSound}
+use Rattle.drt_check.specs.Judging.{IsStatementJudged, IsSoundJudgement}
 use Rattle.drt_check.specs.Laws.{JudgedOnce}
 use Rattle.drt_check.specs.declared.judgement.Judgement.{Judgement}
 use Rattle.drt_check.specs.declared.judgement.Judgement.TheVariants as judgements
@@ -43,7 +43,7 @@ apart law svg bytes m f d (inr h) =
     let none = h.0 in
     let same = d.no.no.dossier.only none.of.statement none.of.dossier.is in
     let j : none.judgement ≡ judgements.Unschedulable
-    = law d.no.statement none.judgement judgements.Unschedulable (subst (λ s. IsJudged s none.judgement) same none.of.judged) d.no.no.judged in
+    = law d.no.statement none.judgement judgements.Unschedulable (subst (λ s. IsStatementJudged s none.judgement) same none.of.judged) d.no.no.judged in
     let one : timeline_status none.judgement ≡ 1 = ap timeline_status j in
     let ten = none.none in
     omega (arith, one, ten)
@@ -60,12 +60,12 @@ longer : (bytes : List ℕ) (f : Fault) → IsLonger dossier_input bytes f → I
 longer bytes f h = inl (subst (IsDossierFault bytes) (sym h.1) (inl (h.0, refl, refl)))
 
 -- It ends with the status of the judgement.
-ends_by : (bytes : List ℕ) (j : Judgement) (status : ℕ) → IsJudgementOf bytes j → status ≡ timeline_status j → (s : Statement) → IsTextOf s bytes → TimelineEnds s status
+ends_by : (bytes : List ℕ) (j : Judgement) (status : ℕ) → IsJudgementOf bytes j → status ≡ timeline_status j → (s : Statement) → IsDossierText s bytes → TimelineEnds s status
 ends_by bytes j status of same s is =
     let e = sym (of.dossier.only s is) in
-    (j, subst (λ t. IsJudged t j) e of.judged, subst (λ t. IsSound t j) e of.sound, same)
+    (j, subst (λ t. IsStatementJudged t j) e of.judged, subst (λ t. IsSoundJudgement t j) e of.sound, same)
 
-refused_ends : (bytes : List ℕ) (f : Fault) → IsDossierFault bytes f → (s : Statement) → IsTextOf s bytes → length bytes ≤ most_dossier_bytes → TimelineEnds s (fault_status f)
+refused_ends : (bytes : List ℕ) (f : Fault) → IsDossierFault bytes f → (s : Statement) → IsDossierText s bytes → length bytes ≤ most_dossier_bytes → TimelineEnds s (fault_status f)
 refused_ends bytes Nothing h s is small = absurd h
 refused_ends bytes (File l c) h s is small = absurd h
 refused_ends bytes (Edge t e p) h s is small = absurd h
@@ -73,11 +73,11 @@ refused_ends bytes (Limit c) h s is small = absurd h
 refused_ends bytes (Probe n c) h s is small = absurd h
 refused_ends bytes (Rule n) h s is small =
     let e = sym (h.dossier.only s is) in
-    (judgements.Rejected n, subst (λ t. IsJudged t (judgements.Rejected n)) e h.judged, tt, refl)
+    (judgements.Rejected n, subst (λ t. IsStatementJudged t (judgements.Rejected n)) e h.judged, tt, refl)
 refused_ends bytes (Dossier l c) (inl big) s is small = absurd (omega (arith, big.0, small))
 refused_ends bytes (Dossier l c) (inr lacks) s is small = absurd (lacks.none s is)
 
-fault_ends : (bytes : List ℕ) (f : Fault) → IsTimelineFault bytes f → (s : Statement) → IsTextOf s bytes → length bytes ≤ most_dossier_bytes → TimelineEnds s (fault_status f)
+fault_ends : (bytes : List ℕ) (f : Fault) → IsTimelineFault bytes f → (s : Statement) → IsDossierText s bytes → length bytes ≤ most_dossier_bytes → TimelineEnds s (fault_status f)
 fault_ends bytes f (inl h) s is small = refused_ends bytes f h s is small
 fault_ends bytes f (inr h) s is small = ends_by bytes h.0.judgement (fault_status f) h.0.of (ap fault_status h.1 ∙ sym h.0.none) s is
 

@@ -22,7 +22,7 @@ abbrev pub event_at : List Event → ℕ → Event
 event_at events i = slice_index_or events i (record { time = 0; mark = Finish; job = 0 })
 
 -- The first miss among the events is of job j.
-pub record IsFirstMiss (events : List Event) (j : ℕ) : Type 0 where
+pub record IsFirstMissEvent (events : List Event) (j : ℕ) : Type 0 where
   pub at : ℕ
   pub here : at < length events
   pub is : (event_at events at).mark ≡ Miss

@@ -9,15 +9,15 @@ pub record BeginsAt (bytes : List ℕ) (at : ℕ) : Type 0 where
   pub is : drop at bytes ≡ codes "drt-response 1\n" ++ rest
 
 -- The bytes are cut where the first text of responses begins, and at their end where none does.
-pub record IsCutAt (bytes : List ℕ) (at : ℕ) : Type 0 where
+pub record IsInputCut (bytes : List ℕ) (at : ℕ) : Type 0 where
   pub within : at ≤ length bytes
   pub first : (m : ℕ) → m < at → ¬ BeginsAt bytes m
   pub begins : at < length bytes → BeginsAt bytes at
 
 -- The bytes aren't too many, and are a file and what stands behind it from the first text of responses on.
-pub record IsInput (bytes file text : List ℕ) : Type 0 where
+pub record IsFileAndText (bytes file text : List ℕ) : Type 0 where
   pub small : length bytes ≤ most_dossier_bytes
   pub at : ℕ
-  pub cut : IsCutAt bytes at
+  pub cut : IsInputCut bytes at
   pub file_is : file ≡ take at bytes
   pub text_is : text ≡ drop at bytes

@@ -22,7 +22,7 @@ pub record IsStart (task vertex : ℕ) (releases : List Release) (j : ℕ) : Typ
 
 -- A response is reached: its releases are legal, the first of its task is of its vertex at time 0, and by the tick machine under fixed
 -- priorities that job finishes after exactly its ticks, which are at most 2^62.
-pub record IsReached (tasks : List Task) (r : Response) : Type 0 where
+pub record IsReachedResponse (tasks : List Task) (r : Response) : Type 0 where
   pub legal : IsLegal tasks r.releases
   pub near : r.ticks ≤ 2 ^ 62
   pub job : ℕ

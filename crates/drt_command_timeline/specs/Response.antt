@@ -11,11 +11,11 @@ use Rattle.drt_command.specs.declared.report.Report.{Report}
 use Rattle.drt_command.specs.Rules.{Rules}
 use Rattle.drt_command_check.specs.Check.{dossier_input, most_dossier_bytes}
 use Rattle.drt_command_files.specs.TaskFiles.{IsAccepted, IsFileFault}
-use Rattle.drt_responses.specs.Reading.{HasTextFault, IsTextOf}
+use Rattle.drt_responses.specs.Reading.{HasTextFault, IsResponsesText}
 use Rattle.drt_responses.specs.declared.response.Response.{Response}
 use Rattle.drt_command_timeline.specs.Drawn.{IsDrawn}
-use Rattle.drt_command_timeline.specs.Inputs.{IsInput}
-use Rattle.drt_command_timeline.specs.Reached.{IsReached}
+use Rattle.drt_command_timeline.specs.Inputs.{IsFileAndText}
+use Rattle.drt_command_timeline.specs.Reached.{IsReachedResponse}
 use Rattle.drt_command_files.specs.Spots.{IsSpot, NamesNone}
 
 -- The first of the responses that is of this vertex of this task.
@@ -28,24 +28,24 @@ pub record IsShownIn (task vertex : List ℕ) (tasks : List Task) (responses : L
   pub v : ℕ
   pub spot : IsSpot tasks task vertex k v
   pub response : response_of k v responses ≡ Some r
-  pub reached : IsReached tasks r
+  pub reached : IsReachedResponse tasks r
 
 -- There is such a vertex, but no response of it, or none that is reached.
 pub record IsUnreached (task vertex : List ℕ) (tasks : List Task) (responses : List Response) : Type 0 where
   pub k : ℕ
   pub v : ℕ
   pub spot : IsSpot tasks task vertex k v
-  pub none : (r : Response) → response_of k v responses ≡ Some r → ¬ IsReached tasks r
+  pub none : (r : Response) → response_of k v responses ≡ Some r → ¬ IsReachedResponse tasks r
 
 -- The bytes are an accepted file of this set, and behind it the text of responses, of which this is that of the named vertex, and it is
 -- reached.
 pub record IsShown (task vertex bytes : List ℕ) (set : Contents) (r : Response) : Type 0 where
   pub file : List ℕ
   pub text : List ℕ
-  pub input : IsInput bytes file text
+  pub input : IsFileAndText bytes file text
   pub accepted : IsAccepted file set
   pub responses : List Response
-  pub are : IsTextOf responses text
+  pub are : IsResponsesText responses text
   pub shown : IsShownIn task vertex set.tasks responses r
 
 -- `timeline` of a response: its releases are drawn under fixed priorities up to the tick after which its job finishes, with status 0
@@ -81,39 +81,39 @@ IsFaultIn task vertex tasks responses fault =
 pub record IsFaultOfFile (bytes : List ℕ) (fault : Fault) : Type 0 where
   pub file : List ℕ
   pub text : List ℕ
-  pub input : IsInput bytes file text
+  pub input : IsFileAndText bytes file text
   pub is : IsFileFault file fault
 
 -- The file is accepted, and what stands behind it has this fault.
 pub record IsFaultOfText (bytes : List ℕ) (fault : Fault) : Type 0 where
   pub file : List ℕ
   pub text : List ℕ
-  pub input : IsInput bytes file text
+  pub input : IsFileAndText bytes file text
   pub set : Contents
   pub accepted : IsAccepted file set
   pub is : IsTextFault text fault
 
 -- File and text are fine, but no vertex of a task has these names.
-pub record HasNoSpot (task vertex bytes : List ℕ) : Type 0 where
+pub record HasNoDrawnSpot (task vertex bytes : List ℕ) : Type 0 where
   pub file : List ℕ
   pub text : List ℕ
-  pub input : IsInput bytes file text
+  pub input : IsFileAndText bytes file text
   pub set : Contents
   pub accepted : IsAccepted file set
   pub responses : List Response
-  pub are : IsTextOf responses text
+  pub are : IsResponsesText responses text
   pub none : NamesNone task vertex set.tasks
 
 -- There is such a vertex, but whichever responses the text says, none is of it and reached.
 pub record IsNotReached (task vertex bytes : List ℕ) : Type 0 where
   pub file : List ℕ
   pub text : List ℕ
-  pub input : IsInput bytes file text
+  pub input : IsFileAndText bytes file text
   pub set : Contents
   pub accepted : IsAccepted file set
   pub responses : List Response
-  pub are : IsTextOf responses text
-  pub unreached : (found : List Response) → IsTextOf found text → IsUnreached task vertex set.tasks found
+  pub are : IsResponsesText responses text
+  pub unreached : (found : List Response) → IsResponsesText found text → IsUnreached task vertex set.tasks found
 
 -- An input has this fault: code 4 at line 0 where it is too long, else the fault of the file, else that of the text, else code 27 where
 -- no vertex has these names, else rule 31 where its response isn't reached.
@@ -122,7 +122,7 @@ IsResponseFault task vertex bytes fault =
     ((most_dossier_bytes < length bytes) × (fault ≡ faults.Dossier 0 4))
     ⊎ (IsFaultOfFile bytes fault
     ⊎ (IsFaultOfText bytes fault
-    ⊎ ((HasNoSpot task vertex bytes × (fault ≡ faults.Limit 27))
+    ⊎ ((HasNoDrawnSpot task vertex bytes × (fault ≡ faults.Limit 27))
     ⊎ (IsNotReached task vertex bytes × (fault ≡ faults.Rule 31)))))
 
 -- What is promised of `timeline` of the response of the vertex with these names, as text or as a picture.

@@ -1,9 +1,9 @@
 -- `timeline` of a dossier: what it draws, what it refuses, and with which status it ends.
 use Rattle.std.specs.Prelude.{◌≡◌, ℕ, ◌≤◌, ◌⊎◌, Bool, List, length}
 use Rattle.drt_claims.specs.Kinds.{miss_of, releases_of}
-use Rattle.drt_evidence.specs.Reading.{IsTextOf}
+use Rattle.drt_evidence.specs.Reading.{IsDossierText}
 use Rattle.drt_claims.specs.Statement.{Statement}
-use Rattle.drt_check.specs.Judging.{IsJudged, IsSound}
+use Rattle.drt_check.specs.Judging.{IsStatementJudged, IsSoundJudgement}
 use Rattle.drt_check.specs.declared.judgement.Judgement.{Judgement}
 use Rattle.drt_check.specs.declared.judgement.Judgement.TheVariants as judgements
 use Rattle.drt_outcome.specs.declared.fault.Fault.{Fault}
@@ -25,8 +25,8 @@ timeline_status (judgements.Rejected number) = 9
 -- The bytes are this dossier, with this judgement, which means what it says.
 pub record IsJudgedDossier (bytes : List ℕ) (s : Statement) (judgement : Judgement) : Type 0 where
   pub dossier : IsDossier bytes s
-  pub judged : IsJudged s judgement
-  pub sound : IsSound s judgement
+  pub judged : IsStatementJudged s judgement
+  pub sound : IsSoundJudgement s judgement
 
 -- The bytes are the dossier of a no, and its releases are drawn up to the deadline that is missed.
 pub record IsDrawnNo (svg : Bool) (bytes text : List ℕ) : Type 0 where
@@ -52,7 +52,7 @@ IsTimelineFault bytes fault = IsDossierFault bytes fault ⊎ (HasNoReleases byte
 
 -- The status of `timeline` at a dossier where nothing fails: that of the dossier's judgement.
 abbrev pub TimelineEnds : Statement → ℕ → Type 0
-TimelineEnds s status = (judgement : Judgement) × IsJudged s judgement × IsSound s judgement × (status ≡ timeline_status judgement)
+TimelineEnds s status = (judgement : Judgement) × IsStatementJudged s judgement × IsSoundJudgement s judgement × (status ≡ timeline_status judgement)
 
 -- What is promised of `timeline` of a dossier, as text or as a picture.
 abbrev pub timeline_rules : Bool → Rules
@@ -61,5 +61,5 @@ timeline_rules svg = record {
   makes = DrawsNo svg;
   refuses = IsTimelineFault;
   faults = IsTimelineFault;
-  ends = λ bytes status. (s : Statement) → IsTextOf s bytes → length bytes ≤ most_dossier_bytes → TimelineEnds s status;
+  ends = λ bytes status. (s : Statement) → IsDossierText s bytes → length bytes ≤ most_dossier_bytes → TimelineEnds s status;
 }

@@ -1,7 +1,7 @@
 //! Drawing the replay of releases.
 ghost use Rattle.std.specs.Prelude.{◌≢◌, ◌^◌, ◌<◌, ◌≤◌, ℕ, All, IfOk, MatchOption, length};
 ghost use Rattle.drt_model.specs.Legal.{IsLegal};
-ghost use Rattle.drt_command_timeline.specs.Drawn.{IsDrawn, IsFirstMiss, event_at};
+ghost use Rattle.drt_command_timeline.specs.Drawn.{IsDrawn, IsFirstMissEvent, event_at};
 
 use drt_model::{Memory, Policy, Release, Row, TaskSet};
 use drt_picture::lay_out;
@@ -39,7 +39,7 @@ pub(crate) fn draw(
 
 // The job of the first miss among events.
 fn first_miss(events: &[Event]) -> Option<usize>
-    ensures { MatchOption result ((i : ℕ) → i < length events.now → (event_at events.now i).mark ≢ Mark.Miss) (IsFirstMiss events.now) }
+    ensures { MatchOption result ((i : ℕ) → i < length events.now → (event_at events.now i).mark ≢ Mark.Miss) (IsFirstMissEvent events.now) }
 {
     for i in 0..events.len() {
         match events[i].mark {

@@ -1,13 +1,13 @@
 //! A task file with responses behind it.
 ghost use Rattle.std.specs.Prelude.{◌≡◌, ◌<◌, ◌↔◌, ◌++◌, ℕ, List, IsTrue, MatchOption, length};
-ghost use Rattle.drt_command_timeline.specs.Inputs.{BeginsAt, IsCutAt};
+ghost use Rattle.drt_command_timeline.specs.Inputs.{BeginsAt, IsInputCut};
 
 // The line that a text of responses begins with.
 const FIRST_LINE: &[u8] = b"drt-response 1\n";
 
 // Where the first text of responses begins; the end where none does.
 pub(crate) fn cut_at(bytes: &[u8]) -> usize
-    ensures { IsCutAt bytes.now result }
+    ensures { IsInputCut bytes.now result }
 {
     for at in 0..bytes.len() {
         if begins_at(bytes, at) {

@@ -1,7 +1,7 @@
 //! `timeline` of a dossier: its releases that miss, drawn up to the deadline that is missed.
 ghost use Rattle.std.specs.Prelude.{◌≡◌, ◌≤◌, IfErr, IfOk, MatchOption, length};
 ghost use Rattle.drt_claims.specs.Kinds.{HasReleases, miss_of, releases_of};
-ghost use Rattle.drt_command.specs.Rules.{IsCause};
+ghost use Rattle.drt_command.specs.Rules.{IsUnmadeCause};
 ghost use Rattle.drt_command_check.specs.Check.{IsDossierFault, most_dossier_bytes};
 ghost use Rattle.drt_command_timeline.specs.Timeline.{DrawsNo, IsJudgedDossier, IsTimelineFault, timeline_rules};
 
@@ -54,7 +54,7 @@ impl Command for Timeline {
 fn judge(alloc: Global, bytes: &[u8]) -> Result<(Dossier, Judgement), Unmade>
     requires { length bytes.now ≤ most_dossier_bytes }
     ensures judged { IfOk result (λ p. IsJudgedDossier bytes.now p.0 p.1) }
-    ensures unmade { IfErr result (IsCause IsDossierFault bytes.now) }
+    ensures unmade { IfErr result (IsUnmadeCause IsDossierFault bytes.now) }
 {
     match drt_evidence::read(alloc, bytes) {
         Ok(dossier) => match drt_check::check(alloc, &dossier) {
@@ -78,7 +78,7 @@ fn draw_no(
 ) -> Result<Report, Unmade>
     requires { IsJudgedDossier bytes.now dossier.now judgement }
     ensures draws { IfOk result (DrawsNo svg bytes.now) }
-    ensures unmade { IfErr result (IsCause IsTimelineFault bytes.now) }
+    ensures unmade { IfErr result (IsUnmadeCause IsTimelineFault bytes.now) }
 {
     if let Judgement::Rejected { number } = judgement {
         return Err(Unmade::Refused(Fault::Rule { number }));

@@ -6,7 +6,7 @@ ghost use Rattle.drt_model.specs.Schedulable.{jobs_of};
 ghost use Rattle.drt_model.specs.Trace.{IsFinish};
 ghost use Rattle.drt_model.specs.declared.jobs.Policy.TheVariants.{Fixed};
 ghost use Rattle.drt_responses.specs.Ranges.{IsInRangeResponse};
-ghost use Rattle.drt_command_timeline.specs.Reached.{IsReached, IsStart};
+ghost use Rattle.drt_command_timeline.specs.Reached.{IsReachedResponse, IsStart};
 ghost use Rattle.drt_command_timeline.specs.Response.{response_of};
 
 use drt_model::{Memory, Policy, Release, TaskSet, legal};
@@ -32,7 +32,7 @@ pub(crate) fn response_of(responses: &[Response], task: usize, vertex: usize) ->
 // Whether the response is reached by its releases.
 pub(crate) fn is_reached(alloc: Global, set: &TaskSet, response: &Response) -> Result<bool, Memory>
     requires { IsInRangeResponse response.now }
-    ensures { IfOk result (λ reached. IsTrue reached ↔ IsReached set.now.tasks response.now) }
+    ensures { IfOk result (λ reached. IsTrue reached ↔ IsReachedResponse set.now.tasks response.now) }
 {
     let releases = response.releases.as_slice();
     if response.ticks > MOST_TICKS || !legal(set, releases) {

@@ -1,14 +1,14 @@
 //! `timeline` of a response: the releases that reach it, drawn up to the tick after which its job finishes.
 ghost use Rattle.std.specs.Prelude.{◌≡◌, ◌≤◌, ◌⊎◌, List, IfErr, IfOk, length};
-ghost use Rattle.drt_command.specs.Rules.{IsCause};
+ghost use Rattle.drt_command.specs.Rules.{IsUnmadeCause};
 ghost use Rattle.drt_command_check.specs.Check.{most_dossier_bytes};
 ghost use Rattle.drt_command_files.specs.TaskFiles.{IsAccepted, IsFileFault, most_bytes};
-ghost use Rattle.drt_responses.specs.Ranges.{AreInRange, IsInRangeResponse};
-ghost use Rattle.drt_responses.specs.Reading.{IsTextOf};
+ghost use Rattle.drt_responses.specs.Ranges.{AreResponsesInRange, IsInRangeResponse};
+ghost use Rattle.drt_responses.specs.Reading.{IsResponsesText};
 ghost use Rattle.drt_responses.specs.declared.response.Response.{Response};
 ghost use Rattle.drt_model.specs.declared.jobs.Policy.TheVariants.{Fixed};
 ghost use Rattle.drt_command_timeline.specs.Drawn.{IsDrawn};
-ghost use Rattle.drt_command_timeline.specs.Reached.{IsReached};
+ghost use Rattle.drt_command_timeline.specs.Reached.{IsReachedResponse};
 ghost use Rattle.drt_command_timeline.specs.Response.{DrawsIn, DrawsResponse, IsFaultIn, IsResponseFault, IsTextFault, response_timeline_rules};
 
 use crate::drawing::draw;
@@ -67,7 +67,7 @@ impl Command for ResponseTimeline {
 fn make_response(alloc: Global, bytes: &[u8], command: &ResponseTimeline) -> Result<Report, Unmade>
     requires { length bytes.now ≤ most_dossier_bytes }
     ensures draws { IfOk result (DrawsResponse command.now.svg command.now.task command.now.vertex bytes.now) }
-    ensures unmade { IfErr result (IsCause (IsResponseFault command.now.task command.now.vertex) bytes.now) }
+    ensures unmade { IfErr result (IsUnmadeCause (IsResponseFault command.now.task command.now.vertex) bytes.now) }
 {
     let at = cut_at(bytes);
     let set = accept(alloc, &bytes[..at])?;
@@ -78,7 +78,7 @@ fn make_response(alloc: Global, bytes: &[u8], command: &ResponseTimeline) -> Res
 // The set that the file is accepted as.
 fn accept(alloc: Global, file: &[u8]) -> Result<TaskSet, Unmade>
     ensures accepted { IfOk result (IsAccepted file.now) }
-    ensures unmade { IfErr result (IsCause IsFileFault file.now) }
+    ensures unmade { IfErr result (IsUnmadeCause IsFileFault file.now) }
 {
     if file.len() > MOST_FILE_BYTES {
         return Err(Unmade::Refused(Fault::File {
@@ -93,9 +93,9 @@ fn accept(alloc: Global, file: &[u8]) -> Result<TaskSet, Unmade>
 // The responses that the text says.
 fn read_responses(alloc: Global, text: &[u8]) -> Result<Row<Response>, Unmade>
     requires { length text.now ≤ most_dossier_bytes }
-    ensures read { IfOk result (λ responses. IsTextOf responses text.now) }
-    ensures only { IfOk result (λ responses. (found : List Response) → IsTextOf found text.now → responses ≡ found) }
-    ensures unmade { IfErr result (IsCause IsTextFault text.now) }
+    ensures read { IfOk result (λ responses. IsResponsesText responses text.now) }
+    ensures only { IfOk result (λ responses. (found : List Response) → IsResponsesText found text.now → responses ≡ found) }
+    ensures unmade { IfErr result (IsUnmadeCause IsTextFault text.now) }
 {
     match drt_responses::read(alloc, text) {
         Ok(responses) => Ok(responses),
@@ -114,9 +114,9 @@ fn draw_named(
     set: &TaskSet,
     responses: &[Response],
 ) -> Result<Report, Unmade>
-    requires { AreInRange responses.now }
+    requires { AreResponsesInRange responses.now }
     ensures draws { IfOk result (DrawsIn command.now.svg command.now.task command.now.vertex set.now.tasks responses.now) }
-    ensures unmade { IfErr result (IsCause (λ task fault. IsFaultIn task command.now.vertex set.now.tasks responses.now fault) command.now.task) }
+    ensures unmade { IfErr result (IsUnmadeCause (λ task fault. IsFaultIn task command.now.vertex set.now.tasks responses.now fault) command.now.task) }
 {
     let (task, vertex) = match spot_of(set, command.task.as_slice(), command.vertex.as_slice()) {
         Some(spot) => spot,
@@ -140,10 +140,10 @@ fn draw_response(
     response: &Response,
 ) -> Result<Report, Unmade>
     requires { IsInRangeResponse response.now }
-    ensures reached { IfOk result (λ m. IsReached set.now.tasks response.now) }
+    ensures reached { IfOk result (λ m. IsReachedResponse set.now.tasks response.now) }
     ensures drawn { IfOk result (λ m. IsDrawn svg set.now.tasks Fixed response.now.releases response.now.ticks m.text) }
     ensures made { IfOk result (λ m. (m.status ≡ 0) × (m.trail ≡ Trail.Nothing)) }
-    ensures unmade { IfErr result (λ e. (e ≡ Unmade.Memory) ⊎ ((e ≡ Unmade.Refused (Fault.Rule 31)) × ¬ IsReached set.now.tasks response.now)) }
+    ensures unmade { IfErr result (λ e. (e ≡ Unmade.Memory) ⊎ ((e ≡ Unmade.Refused (Fault.Rule 31)) × ¬ IsReachedResponse set.now.tasks response.now)) }
 {
     if !is_reached(alloc, set, response)? {
         return Err(Unmade::Refused(Fault::Rule {

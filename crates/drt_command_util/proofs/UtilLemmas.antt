@@ -4,7 +4,7 @@ use Rattle.std.proofs.lemmas.List.{take_more}
 use Rattle.std.proofs.lemmas.List.Elements.{All-map}
 use Rattle.drt_model.specs.Contents.{Contents}
 use Rattle.drt_model.specs.Limits.{IsTaskSet}
-use Rattle.drt_model.specs.Digraph.{Digraph, IsSound, digraph_of}
+use Rattle.drt_model.specs.Digraph.{Digraph, IsSoundGraph, digraph_of}
 use Rattle.drt_model.specs.Utilisation.{IsScale}
 use Rattle.drt_graph.specs.Graphs.{graph_of, no_graph}
 use Rattle.drt_graph.proofs.Soundness.{all_sound}
@@ -38,7 +38,7 @@ small_push (q ∷ ps) p small num den = (small.0, small.1, small_push ps p small
 -- A set whose utilisation is written isn't too fine.
 pub text_is_not_too_fine : (set : Contents) (text : List ℕ) → IsTaskSet set.version set.tasks → IsUtilisationText set text → IsTooFineSet set → ⊥
 text_is_not_too_fine set text limits p q =
-    let sound : All IsSound (map digraph_of set.tasks) = All-map IsSound digraph_of set.tasks (all_sound set.version set.tasks limits) in
+    let sound : All IsSoundGraph (map digraph_of set.tasks) = All-map IsSoundGraph digraph_of set.tasks (all_sound set.version set.tasks limits) in
     let e : q.ratios ≡ p.ratios = ratios_same (map digraph_of set.tasks) sound q.ratios p.ratios q.are p.are in
     let s : p.scale ≡ q.scale = scale_same p.ratios p.scale q.scale p.is_scale (subst (λ rs. IsScale rs q.scale) e q.is_scale) in
     omega (arith, p.fine, q.beyond)

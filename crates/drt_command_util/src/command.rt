@@ -3,7 +3,7 @@ ghost use Rattle.std.specs.Prelude.{◌≡◌, ◌≤◌, ◌++◌, ◌⊎◌, I
 ghost use Rattle.drt_file.specs.trusted.Canonical.{written, written_line};
 ghost use Rattle.drt_model.specs.Digraph.{digraph_of};
 ghost use Rattle.drt_ratio.specs.SetRatios.{AreRatioProofs, AreSmall, fractions_of};
-ghost use Rattle.drt_command.specs.Rules.{IsCause};
+ghost use Rattle.drt_command.specs.Rules.{IsUnmadeCause};
 ghost use Rattle.drt_command_util.specs.Util.{IsTooFineSet, IsTooFineFile, IsUtilisationText, Utilises, fraction_line, ratio_lines, util_lines, util_rules};
 ghost use Rattle.drt_command_files.specs.TaskFiles.{IsAccepted};
 
@@ -46,7 +46,7 @@ fn print(alloc: Global, bytes: &[u8], set: &TaskSet, graphs: &Graphs) -> Result<
     requires accepted { IsAccepted bytes.now set.now }
     requires graphs { graphs.now ≡ map digraph_of set.now.tasks }
     ensures utilises { IfOk result (Utilises bytes.now) }
-    ensures unmade { IfErr result (IsCause IsTooFineFile bytes.now) }
+    ensures unmade { IfErr result (IsUnmadeCause IsTooFineFile bytes.now) }
 {
     let text = make_text(alloc, set, graphs)?;
     Ok(Report::new(YES, text))

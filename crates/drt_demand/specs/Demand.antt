@@ -40,5 +40,5 @@ demand_algebra = record {
 }
 
 -- What the type of demand labels keeps: the offset and the work are within these limits.
-abbrev pub IsWithinLimits : FrontEntry → Type 0
-IsWithinLimits x = (x.offset ≤ greatest_bound + 1000000) × (x.work ≤ 1000000 * (x.offset + 1))
+abbrev pub IsDemandWithinLimits : FrontEntry → Type 0
+IsDemandWithinLimits x = (x.offset ≤ greatest_bound + 1000000) × (x.work ≤ 1000000 * (x.offset + 1))

@@ -28,11 +28,11 @@ impl Model for DemandLabel {
 
     ghost Value = { FrontEntry };
 
-    ghost use Rattle.drt_demand.specs.Demand.{IsWithinLimits};
+    ghost use Rattle.drt_demand.specs.Demand.{IsDemandWithinLimits};
 
     ghost view = { λ s. record { vertex = s.vertex; offset = s.offset; work = s.work } };
 
-    ghost invariant = { λ s. IsWithinLimits (record { vertex = s.vertex; offset = s.offset; work = s.work }) };
+    ghost invariant = { λ s. IsDemandWithinLimits (record { vertex = s.vertex; offset = s.offset; work = s.work }) };
 
     ghost inverse = { λ x. record { vertex = x.vertex; offset = x.offset; work = x.work } };
 }

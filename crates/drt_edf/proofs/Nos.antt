@@ -20,7 +20,7 @@ use Rattle.drt_busy.specs.WalkReleases.{all_releases}
 use Rattle.drt_replay.specs.Board.{Shown, IsLate, IsFirstMiss}
 use Rattle.drt_claims.proofs.Accepting.{edf_no_accepted}
 use Rattle.drt_claims.specs.Ranges.{IsInRangeMiss, IsInRangeRelease}
-use Rattle.drt_edf.specs.Answers.{IsMissed}
+use Rattle.drt_edf.specs.Answers.{IsEdfMiss}
 
 -- The first miss by t is in range.
 pub miss_in_range : (tasks : List Task) (releases : List Release) (t : ℕ) (shown : Shown) (miss : Miss) → shown ≡ record { policy = Edf; jobs = jobs_of tasks releases; ticks = t }
@@ -58,14 +58,14 @@ some_late version tasks ok constrained demand t walks are due excess releases sa
 pub missed : (version : ℕ) (tasks : List Task) → IsTaskSet version tasks → AreConstrained tasks → DemandMisses → NoAssignmentMeets → (t : ℕ)
     → (walks : ℕ → List ℕ) → AreWalks tasks walks → AreDueBy tasks walks t → t < efforts tasks walks (length tasks) → (releases : List Release)
     → releases ≡ all_releases tasks walks (length tasks) → (shown : Shown) → shown ≡ record { policy = Edf; jobs = jobs_of tasks releases; ticks = t }
-    → (miss : Miss) → IsLeastMiss shown.policy shown.jobs miss → IsMissed tasks releases miss
+    → (miss : Miss) → IsLeastMiss shown.policy shown.jobs miss → IsEdfMiss tasks releases miss
 missed version tasks ok constrained demand none t walks are due excess releases same shown is miss least =
     let rs = all_releases tasks walks (length tasks) in
     let d = demand version tasks ok constrained t walks are due excess in
     let e : shown ≡ record { policy = Edf; jobs = jobs_of tasks rs; ticks = t } = is ∙ ap (λ xs. record { policy = Edf; jobs = jobs_of tasks xs; ticks = t }) same in
     let l : IsLeastMiss Edf (jobs_of tasks rs) miss = subst (λ s. IsLeastMiss s.policy s.jobs miss) e least in
     let j = d.2 Edf in
-    subst (λ xs. IsMissed tasks xs miss) (sym same) (record {
+    subst (λ xs. IsEdfMiss tasks xs miss) (sym same) (record {
       not_schedulable = λ s. s rs d.0 j.0 j.1 j.3;
       accepted = λ version. edf_no_accepted (record { version = version; tasks = tasks }) rs miss constrained (record { legal = d.0; misses = l });
       walks = walks;

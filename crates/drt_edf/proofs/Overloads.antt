@@ -6,16 +6,16 @@ use Rattle.drt_graph.specs.Graphs.{AreGraphs}
 use Rattle.drt_ratio.specs.declared.ratio_proof.RatioProof.{RatioProof}
 use Rattle.drt_horizon.specs.declared.answers.Over.TheVariants.{Spent}
 use Rattle.drt_horizon.specs.Given.{AreGiven}
-use Rattle.drt_horizon.specs.CycleTurns.{cycle_turns_of, IsOver}
+use Rattle.drt_horizon.specs.CycleTurns.{cycle_turns_of, IsOverFound}
 use Rattle.drt_horizon.specs.Laws.{SearchEnds, latest}
-use Rattle.drt_horizon.specs.Plans.{IsAboveOne}
+use Rattle.drt_horizon.specs.Plans.{IsPlannedAboveOne}
 use Rattle.drt_claims.specs.Claims.{graphs_of}
 use Rattle.drt_edf.specs.Spent.{IsSpentOverload}
 use Rattle.drt_edf.proofs.Planned.{planned_above}
 
 -- A spent budget is below what the search needs.
 pub spent_overload : SearchEnds → (tasks : List Task) (proofs : List RatioProof) → AreGraphs (graphs_of tasks) → AreGiven (graphs_of tasks) proofs
-    → IsAboveOne (graphs_of tasks) proofs → (budget last : ℕ) → IsOver (cycle_turns_of (graphs_of tasks) proofs) budget (Spent last) → IsSpentOverload tasks budget last
+    → IsPlannedAboveOne (graphs_of tasks) proofs → (budget last : ℕ) → IsOverFound (cycle_turns_of (graphs_of tasks) proofs) budget (Spent last) → IsSpentOverload tasks budget last
 spent_overload ends tasks proofs graphs given above budget last over = record {
   above = planned_above tasks proofs given above;
   proofs = proofs;

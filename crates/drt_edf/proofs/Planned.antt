@@ -13,7 +13,7 @@ use Rattle.drt_horizon.specs.declared.answers.Horizon.TheVariants.{Under, One, O
 use Rattle.drt_horizon.specs.declared.answers.Beyond.{Beyond}
 use Rattle.drt_horizon.specs.declared.answers.Beyond.TheVariants.{TooFine, TooFar}
 use Rattle.drt_horizon.specs.Given.{AreGiven, potentials_of}
-use Rattle.drt_horizon.specs.Plans.{IsPlan}
+use Rattle.drt_horizon.specs.Plans.{IsHorizonPlan}
 use Rattle.drt_claims.specs.Claims.{graphs_of, fractions, HaveUtilisationBelowOne, IsHorizon}
 use Rattle.drt_claims.proofs.Accepting.{AreRatioClaims, one_accepted}
 use Rattle.drt_edf.specs.Answers.{IsBeyond, IsOnlyOne}
@@ -48,7 +48,7 @@ claims_kept tasks proofs given scale is fine = record {
 
 -- A plan that the utilisation is one.
 pub planned_one : (tasks : List Task) → AreConstrained tasks → (proofs : List RatioProof) → AreGiven (graphs_of tasks) proofs
-    → IsPlan (graphs_of tasks) proofs (Ok One) → IsOnlyOne tasks (claims_of proofs)
+    → IsHorizonPlan (graphs_of tasks) proofs (Ok One) → IsOnlyOne tasks (claims_of proofs)
 planned_one tasks constrained proofs given plan = record {
   at_one = (rates tasks proofs given plan.0 plan.1, plan.2.0, plan.2.1);
   accepted = λ version. one_accepted (record { version = version; tasks = tasks }) (claims_of proofs) constrained (record {
@@ -58,15 +58,15 @@ planned_one tasks constrained proofs given plan = record {
 }
 
 -- A plan that the utilisation is above one.
-pub planned_above : (tasks : List Task) (proofs : List RatioProof) → AreGiven (graphs_of tasks) proofs → IsPlan (graphs_of tasks) proofs (Ok Over) → IsAboveOne tasks
+pub planned_above : (tasks : List Task) (proofs : List RatioProof) → AreGiven (graphs_of tasks) proofs → IsHorizonPlan (graphs_of tasks) proofs (Ok Over) → IsAboveOne tasks
 planned_above tasks proofs given plan = (rates tasks proofs given plan.0 plan.1, plan.2.0, plan.2.1)
 
 -- A plan whose scale is too great.
-pub planned_fine : (tasks : List Task) (proofs : List RatioProof) → AreGiven (graphs_of tasks) proofs → IsPlan (graphs_of tasks) proofs (Err TooFine) → AreTooFine tasks
+pub planned_fine : (tasks : List Task) (proofs : List RatioProof) → AreGiven (graphs_of tasks) proofs → IsHorizonPlan (graphs_of tasks) proofs (Err TooFine) → AreTooFine tasks
 planned_fine tasks proofs given plan = (rates tasks proofs given plan.0 plan.1, plan.2)
 
 -- A plan whose horizon is too far.
-pub planned_far : (tasks : List Task) (proofs : List RatioProof) → AreGiven (graphs_of tasks) proofs → IsPlan (graphs_of tasks) proofs (Err TooFar) → IsTooFar tasks
+pub planned_far : (tasks : List Task) (proofs : List RatioProof) → AreGiven (graphs_of tasks) proofs → IsHorizonPlan (graphs_of tasks) proofs (Err TooFar) → IsTooFar tasks
 planned_far tasks proofs given plan = (
   horizon plan.0 (graphs_of tasks) (fractions_of proofs) (potentials_of proofs),
   record {
@@ -81,7 +81,7 @@ planned_far tasks proofs given plan = (
 )
 
 -- A plan with a horizon: the utilisation of the tasks is below one, with this horizon.
-pub planned_below : (tasks : List Task) (proofs : List RatioProof) → AreGiven (graphs_of tasks) proofs → (bound : ℕ) → IsPlan (graphs_of tasks) proofs (Ok (Under bound)) → HasHorizon tasks bound
+pub planned_below : (tasks : List Task) (proofs : List RatioProof) → AreGiven (graphs_of tasks) proofs → (bound : ℕ) → IsHorizonPlan (graphs_of tasks) proofs (Ok (Under bound)) → HasHorizon tasks bound
 planned_below tasks proofs given bound plan = record {
   rates = rates tasks proofs given plan.0 plan.1;
   fine = plan.2.0;
@@ -92,7 +92,7 @@ planned_below tasks proofs given bound plan = record {
 }
 
 -- And it is the horizon of the claims, whose utilisation is below one.
-pub claims_below : (proofs : List RatioProof) (graphs : List Digraph) (bound : ℕ) → IsPlan graphs proofs (Ok (Under bound))
+pub claims_below : (proofs : List RatioProof) (graphs : List Digraph) (bound : ℕ) → IsHorizonPlan graphs proofs (Ok (Under bound))
     → HaveUtilisationBelowOne (claims_of proofs) × IsHorizon graphs (claims_of proofs) bound
 claims_below proofs graphs bound plan = (
   (plan.0, claims_scale proofs plan.0 plan.1, rw fractions_same plan.2.1),
@@ -100,6 +100,6 @@ claims_below proofs graphs bound plan = (
 )
 
 -- A plan whose numbers are out of reach.
-pub planned_beyond : (tasks : List Task) (proofs : List RatioProof) (beyond : Beyond) → AreGiven (graphs_of tasks) proofs → IsPlan (graphs_of tasks) proofs (Err beyond) → IsBeyond tasks beyond
+pub planned_beyond : (tasks : List Task) (proofs : List RatioProof) (beyond : Beyond) → AreGiven (graphs_of tasks) proofs → IsHorizonPlan (graphs_of tasks) proofs (Err beyond) → IsBeyond tasks beyond
 planned_beyond tasks proofs TooFine given plan = planned_fine tasks proofs given plan
 planned_beyond tasks proofs TooFar given plan = planned_far tasks proofs given plan

@@ -3,14 +3,14 @@ use Rattle.std.proofs.Common.{◌≡◌, ℕ, zero, suc, ◌*◌, ◌<◌, ◌�
 use Rattle.std.specs.Prelude.{ℤ, pos, negsuc, ◌≤ℤ◌}
 use Rattle.std.proofs.lemmas.List.{get_or_default}
 use Rattle.std.proofs.lemmas.Int.{ints}
-use Rattle.drt_model.specs.Digraph.{Digraph, IsSound, vertex_count}
+use Rattle.drt_model.specs.Digraph.{Digraph, IsSoundGraph, vertex_count}
 use Rattle.drt_model.specs.Walk.{gap, IsPath, last_of, work, cycle_span}
 use Rattle.drt_model.specs.Utilisation.{HasRatio, AreRatios, AreDistinct}
 use Rattle.drt_graph.proofs.Edges.{target_of}
 use Rattle.drt_ratio.specs.declared.ratio_proof.RatioProof.{RatioProof}
 use Rattle.drt_ratio.specs.SetRatios.{AreSmall, fraction_of, fractions_of}
 use Rattle.drt_ratio.proofs.Optima.{cycle_sums}
-use Rattle.drt_horizon.specs.Given.{IsGiven, AreGiven, potentials_of}
+use Rattle.drt_horizon.specs.Given.{IsRatioGiven, AreGiven, potentials_of}
 use Rattle.drt_horizon.proofs.Overloads.{cycle_few}
 use Rattle.drt_claims.specs.declared.evidence.RatioClaim.{RatioClaim}
 use Rattle.drt_claims.specs.Claims.{fractions, potentials, Each, AreLowest}
@@ -57,7 +57,7 @@ claims_lowest (g ∷ graphs) (p ∷ proofs) given zero d l = given.0.greatest.lo
 claims_lowest (g ∷ graphs) (p ∷ proofs) given (suc k) d l = claims_lowest graphs proofs given.1 k d (omega arith)
 
 -- What holds of each graph and what is given for it holds of the claims.
-pub each_given : (R : Digraph → RatioClaim → Type 0) → ((g : Digraph) (p : RatioProof) → IsGiven g p → R g (claim_of p))
+pub each_given : (R : Digraph → RatioClaim → Type 0) → ((g : Digraph) (p : RatioProof) → IsRatioGiven g p → R g (claim_of p))
     → (graphs : List Digraph) (proofs : List RatioProof) → AreGiven graphs proofs → Each R graphs (claims_of proofs)
 each_given R f [] [] given = tt
 each_given R f [] (p ∷ proofs) given = absurd given
@@ -87,24 +87,24 @@ factor zero w (suc a) zero e m l = absurd (omega arith)
 factor (suc b) w a s e m l = omega arith
 
 -- The denominator isn't 0.
-pub den_some : (g : Digraph) (a b : ℕ) (cycle : List ℕ) → IsSound g → HasRatio g a b cycle → 1 ≤ b
+pub den_some : (g : Digraph) (a b : ℕ) (cycle : List ℕ) → IsSoundGraph g → HasRatio g a b cycle → 1 ≤ b
 den_some g a b [] sound has = omega (arith, has.1)
 den_some g a b (v ∷ vs) sound has =
     let sums = cycle_sums g sound (v ∷ vs) has.0 in
     factor b (work g (v ∷ vs)) a (cycle_span g (v ∷ vs)) has.1 has.2 sums.span_some
 
-path_each : (g : Digraph) → IsSound g → (u : ℕ) (vs : List ℕ) → IsPath g u vs → All (λ v. v < vertex_count g) vs
+path_each : (g : Digraph) → IsSoundGraph g → (u : ℕ) (vs : List ℕ) → IsPath g u vs → All (λ v. v < vertex_count g) vs
 path_each g sound u [] path k d l = absurd (omega arith)
 path_each g sound u (v ∷ vs) path zero d l = (target_of g sound u v (gap g u v) path.0).0
 path_each g sound u (v ∷ vs) path (suc k) d l = path_each g sound v vs path.1 k d (omega arith)
 
-cycle_numbers : (g : Digraph) (a b : ℕ) (cycle : List ℕ) → IsSound g → HasRatio g a b cycle → All IsNumber cycle
+cycle_numbers : (g : Digraph) (a b : ℕ) (cycle : List ℕ) → IsSoundGraph g → HasRatio g a b cycle → All IsNumber cycle
 cycle_numbers g a b [] sound has k d l = absurd (omega arith)
 cycle_numbers g a b (v ∷ vs) sound has k d l =
     let h = path_each g sound (last_of v vs) (v ∷ vs) has.0 k d l in
     omega (arith, h, sound.few)
 
-cycle_counted : (g : Digraph) (p : RatioProof) → IsSound g → IsGiven g p → length p.cycle ≤ 96
+cycle_counted : (g : Digraph) (p : RatioProof) → IsSoundGraph g → IsRatioGiven g p → length p.cycle ≤ 96
 cycle_counted g p sound given = go p.cycle given.greatest.has given.greatest.distinct
   where
     go : (cycle : List ℕ) → HasRatio g p.ratio.num p.ratio.den cycle → AreDistinct cycle → length cycle ≤ 96
@@ -116,14 +116,14 @@ cycle_counted g p sound given = go p.cycle given.greatest.has given.greatest.dis
 low : (h : ℤ) → pos 0 ≤ℤ h → negsuc 9999999999999999 ≤ℤ h
 low h l = omega (arith, ints)
 
-potential_numbers : (g : Digraph) (p : RatioProof) → IsGiven g p → All IsInRangePotential p.potentials
+potential_numbers : (g : Digraph) (p : RatioProof) → IsRatioGiven g p → All IsInRangePotential p.potentials
 potential_numbers g p given k d l =
     let e = get_or_default p.potentials k (pos 0) d l in
     let m : k < vertex_count g = omega (arith, l, given.keeps.counted) in
     rw (← e) (low (get_or p.potentials k (pos 0)) (given.reach.low k m), given.reach.high k m)
 
 -- The numbers of a claim are in range.
-pub claim_in_range : (g : Digraph) (p : RatioProof) → IsSound g → IsGiven g p → IsInRangeRatio (claim_of p)
+pub claim_in_range : (g : Digraph) (p : RatioProof) → IsSoundGraph g → IsRatioGiven g p → IsInRangeRatio (claim_of p)
 claim_in_range g p sound given = record {
   num = omega (arith, given.reach.num);
   some = den_some g p.ratio.num p.ratio.den p.cycle sound given.greatest.has;
@@ -135,12 +135,12 @@ claim_in_range g p sound given = record {
 }
 
 -- The numbers of the claims are in range.
-pub claims_in_range : (graphs : List Digraph) (proofs : List RatioProof) → All IsSound graphs → AreGiven graphs proofs → All IsInRangeRatio (claims_of proofs)
+pub claims_in_range : (graphs : List Digraph) (proofs : List RatioProof) → All IsSoundGraph graphs → AreGiven graphs proofs → All IsInRangeRatio (claims_of proofs)
 claims_in_range [] [] sound given = λ k d l. absurd (omega arith)
 claims_in_range [] (p ∷ proofs) sound given = absurd given
 claims_in_range (g ∷ graphs) [] sound given = absurd given
 claims_in_range (g ∷ graphs) (p ∷ proofs) sound given =
-    all_cons IsInRangeRatio (claim_of p) (claims_of proofs) (claim_in_range g p (head_of IsSound g graphs sound) given.0) (claims_in_range graphs proofs (tail_of IsSound g graphs sound) given.1)
+    all_cons IsInRangeRatio (claim_of p) (claims_of proofs) (claim_in_range g p (head_of IsSoundGraph g graphs sound) given.0) (claims_in_range graphs proofs (tail_of IsSoundGraph g graphs sound) given.1)
 
 -- The ratio at a place of a list of small ones.
 pub small_at : (proofs : List RatioProof) → AreSmall proofs → (k : ℕ) (d : RatioProof) → k < length proofs → ((get_or proofs k d).ratio.num ≤ 1000000000) × ((get_or proofs k d).ratio.den ≤ 1000000000)

@@ -5,7 +5,7 @@ use Rattle.std.proofs.Math.Nat.{div-mul-le_self}
 use Rattle.std.proofs.lemmas.List.{append-nil}
 use Rattle.std.proofs.lemmas.List.Elements.{All-head, All-tail}
 use Rattle.drt_model.specs.declared.tasks.Task.{Task}
-use Rattle.drt_model.specs.Digraph.{Digraph, IsSound, IsConstrainedGraph, digraph_of}
+use Rattle.drt_model.specs.Digraph.{Digraph, IsSoundGraph, IsConstrainedGraph, digraph_of}
 use Rattle.drt_model.specs.Walk.{gap, IsEdge, IsPath, deadline, last_of, span, work, IsCycle, cycle_span}
 use Rattle.drt_graph.proofs.Edges.{edge_of_sep, source_of, target_of}
 use Rattle.drt_ratio.specs.declared.ratio_proof.RatioProof.{RatioProof}
@@ -20,7 +20,7 @@ use Rattle.drt_releases.specs.Walks.{walk_at}
 use Rattle.drt_edf.specs.Turns.{turns_of, turns_within, AreTurns}
 
 -- On an edge the deadline of the source is at most the separation.
-edge_due : (g : Digraph) → IsSound g → IsConstrainedGraph g → (u v : ℕ) → IsEdge g u v → deadline g u ≤ gap g u v
+edge_due : (g : Digraph) → IsSoundGraph g → IsConstrainedGraph g → (u v : ℕ) → IsEdge g u v → deadline g u ≤ gap g u v
 edge_due g sound constrained u v edge =
     let k = edge_of_sep g u v (gap g u v) edge in
     let l = source_of g sound u v (gap g u v) edge in
@@ -55,7 +55,7 @@ rounds g u cycle path back (suc n) =
     }
 
 -- Such a path is a walk from its second vertex on, and is due by its span.
-round_walk : (g : Digraph) → IsSound g → IsConstrainedGraph g → (u : ℕ) (walk : List ℕ) → IsPath g u walk → last_of u walk ≡ u → IsWalk g walk × (due_of g walk ≤ span g u walk)
+round_walk : (g : Digraph) → IsSoundGraph g → IsConstrainedGraph g → (u : ℕ) (walk : List ℕ) → IsPath g u walk → last_of u walk ≡ u → IsWalk g walk × (due_of g walk ≤ span g u walk)
 round_walk g sound constrained u [] path back = (tt, omega arith)
 round_walk g sound constrained u (v ∷ vs) path back =
     let t = target_of g sound u v (gap g u v) path.0 in
@@ -68,7 +68,7 @@ record IsTurnWalk (g : Digraph) (t : ℕ) (cycle walk : List ℕ) : Type 0 where
   due : due_of g walk ≤ t
   works : work g walk ≡ t / cycle_span g cycle * work g cycle
 
-turn_walk : (g : Digraph) → IsSound g → IsConstrainedGraph g → (t : ℕ) (cycle : List ℕ) → (0 < length cycle → IsCycle g cycle) → IsTurnWalk g t cycle (turns_of g t cycle)
+turn_walk : (g : Digraph) → IsSoundGraph g → IsConstrainedGraph g → (t : ℕ) (cycle : List ℕ) → (0 < length cycle → IsCycle g cycle) → IsTurnWalk g t cycle (turns_of g t cycle)
 unfolding turns_of
 turn_walk g sound constrained t [] is =
     subst (IsTurnWalk g t []) (sym (none_again (t / 0))) (record { is = tt; due = omega arith; works = omega (arith, work_none g, none_works g (t / 0)) })
@@ -138,14 +138,14 @@ unfolding cycle_turns_of turned efforts
 no_turns proofs t = record { are = λ k l. absurd (omega arith); due = λ k l. absurd (omega arith); all = omega arith }
 
 -- The whole turns are walks of the tasks, are due by t, and have the work of whole turns.
-pub are_turns : (tasks : List Task) (proofs : List RatioProof) (t : ℕ) → All IsSound (graphs_of tasks) → All IsConstrainedGraph (graphs_of tasks)
+pub are_turns : (tasks : List Task) (proofs : List RatioProof) (t : ℕ) → All IsSoundGraph (graphs_of tasks) → All IsConstrainedGraph (graphs_of tasks)
     → AreGiven (graphs_of tasks) proofs → AreTurns tasks proofs t (turns_within (graphs_of tasks) proofs t)
 unfolding turns_within
 are_turns [] proofs t sound constrained given = no_turns proofs t
 are_turns (task ∷ tasks) [] t sound constrained given = absurd given
 are_turns (task ∷ tasks) (p ∷ proofs) t sound constrained given =
     let g = digraph_of task in
-    let w = turn_walk g (All-head IsSound g (graphs_of tasks) sound) (All-head IsConstrainedGraph g (graphs_of tasks) constrained) t p.cycle
+    let w = turn_walk g (All-head IsSoundGraph g (graphs_of tasks) sound) (All-head IsConstrainedGraph g (graphs_of tasks) constrained) t p.cycle
     (is_cycle g p.ratio.num p.ratio.den p.cycle given.0.greatest.has) in
     more_turns task tasks p proofs t (turns_of g t p.cycle) (turns_within (graphs_of tasks) proofs t) w
-    (are_turns tasks proofs t (All-tail IsSound g (graphs_of tasks) sound) (All-tail IsConstrainedGraph g (graphs_of tasks) constrained) given.1)
+    (are_turns tasks proofs t (All-tail IsSoundGraph g (graphs_of tasks) sound) (All-tail IsConstrainedGraph g (graphs_of tasks) constrained) given.1)

@@ -8,7 +8,7 @@ use Rattle.drt_ratio.specs.declared.ratio_proof.RatioProof.{RatioProof}
 use Rattle.drt_horizon.specs.declared.cycle_turns.CycleTurn.{CycleTurn}
 use Rattle.drt_horizon.specs.declared.answers.Over.TheVariants.{Found}
 use Rattle.drt_horizon.specs.Given.{AreGiven}
-use Rattle.drt_horizon.specs.CycleTurns.{cycle_turns_of, turned, is_step, steps_to, AreCycleTurns, IsOver}
+use Rattle.drt_horizon.specs.CycleTurns.{cycle_turns_of, turned, is_step, steps_to, AreCycleTurns, IsOverFound}
 use Rattle.drt_horizon.proofs.Multiples.{turned_none}
 use Rattle.drt_horizon.proofs.Overloads.{are_cycle_turns}
 
@@ -50,5 +50,5 @@ near_step (c ∷ cycle_turns) are t budget over few most =
 
 -- What a search for an overload finds is in range.
 pub overload_near : (graphs : List Digraph) (proofs : List RatioProof) → AreGraphs graphs → AreGiven graphs proofs
-    → (budget t : ℕ) → budget ≤ 1000000 → IsOver (cycle_turns_of graphs proofs) budget (Found t) → t ≤ 1000000000000000000
+    → (budget t : ℕ) → budget ≤ 1000000 → IsOverFound (cycle_turns_of graphs proofs) budget (Found t) → t ≤ 1000000000000000000
 overload_near graphs proofs are given budget t most over = near_step (cycle_turns_of graphs proofs) (are_cycle_turns graphs proofs are.sound given) t budget over.1 over.3 most

@@ -3,7 +3,7 @@ use Rattle.std.proofs.Common.{◌≡◌, ℕ, suc, ◌<◌, List, [], ◌∷◌,
 use Rattle.std.specs.Prelude.{ℤ, ◌≤ℤ◌}
 use Rattle.std.proofs.lemmas.Int.{ints}
 use Rattle.drt_model.specs.declared.tasks.Task.{Task}
-use Rattle.drt_model.specs.Digraph.{Digraph, IsSound}
+use Rattle.drt_model.specs.Digraph.{Digraph, IsSoundGraph}
 use Rattle.drt_model.specs.Utilisation.{Fraction, IsScale}
 use Rattle.drt_model.specs.Potential.{IsPotential, potential_of, AreCanonical}
 use Rattle.drt_model.specs.Horizon.{horizon}
@@ -14,7 +14,7 @@ use Rattle.drt_claims.specs.Rates.{Rates}
 use Rattle.drt_edf.specs.Plans.{ArePotentials, HasHorizon}
 
 -- The ratios and the scale.
-pub rates_same : (tasks : List Task) → All IsSound (graphs_of tasks) → (r s : Rates tasks) → (r.ratios ≡ s.ratios) × (r.scale ≡ s.scale)
+pub rates_same : (tasks : List Task) → All IsSoundGraph (graphs_of tasks) → (r s : Rates tasks) → (r.ratios ≡ s.ratios) × (r.scale ≡ s.scale)
 rates_same tasks sound r s =
     let e = ratios_same (graphs_of tasks) sound r.ratios s.ratios r.are s.are in
     (e, scale_same s.ratios r.scale s.scale (subst (λ rs. IsScale rs r.scale) e r.is_scale) s.is_scale)
@@ -47,7 +47,7 @@ potentials_same (g ∷ graphs) (r ∷ ratios) (hs ∷ hss) (ks ∷ kss) p q =
     ap (λ x. x ∷ hss) (canonical_same g r.num r.den hs ks p.0 q.0) ∙ ap (λ xs. ks ∷ xs) (potentials_same graphs ratios hss kss p.1 q.1)
 
 -- The horizon.
-pub horizon_same : (tasks : List Task) → All IsSound (graphs_of tasks) → (b c : ℕ) → HasHorizon tasks b → HasHorizon tasks c → b ≡ c
+pub horizon_same : (tasks : List Task) → All IsSoundGraph (graphs_of tasks) → (b c : ℕ) → HasHorizon tasks b → HasHorizon tasks c → b ≡ c
 horizon_same tasks sound b c p q =
     let s = rates_same tasks sound p.rates q.rates in
     let here = subst (λ rs. ArePotentials (graphs_of tasks) rs p.potentials) s.0 p.canonical in

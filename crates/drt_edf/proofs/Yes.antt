@@ -6,7 +6,7 @@ use Rattle.std.proofs.lemmas.List.{get_or_default}
 use Rattle.drt_model.specs.declared.tasks.Task.{Task}
 use Rattle.drt_model.specs.declared.jobs.Policy.TheVariants.{Edf}
 use Rattle.drt_model.specs.Constrained.{AreConstrained}
-use Rattle.drt_model.specs.Digraph.{Digraph, IsSound, vertex_count, out_degree, edge_of}
+use Rattle.drt_model.specs.Digraph.{Digraph, IsSoundGraph, vertex_count, out_degree, edge_of}
 use Rattle.drt_model.specs.Limits.{IsTaskSet}
 use Rattle.drt_model.specs.Schedulable.{Schedulable}
 use Rattle.drt_model.specs.Walk.{wcet, deadline, gap, IsEdge, IsPath, last_of, work, span}
@@ -22,13 +22,13 @@ use Rattle.drt_horizon.specs.declared.answers.Horizon.TheVariants.{Under}
 use Rattle.drt_rates.specs.Demands.{demands}
 use Rattle.drt_horizon.specs.Given.{AreGiven}
 use Rattle.drt_horizon.specs.Laws.{HorizonHolds}
-use Rattle.drt_horizon.specs.Plans.{IsPlan}
+use Rattle.drt_horizon.specs.Plans.{IsHorizonPlan}
 use Rattle.drt_claims.specs.Claims.{graphs_of, Each}
 use Rattle.drt_model.specs.FrontEntry.{due}
 use Rattle.drt_claims.specs.Fronts.{IsOrdered, HasOpenings, IsExtended, IsClosedFront, works_due, HaveRoom}
 use Rattle.drt_claims.specs.Ranges.{IsInRangeEntry}
 use Rattle.drt_claims.proofs.Accepting.{AreFrontClaims, yes_accepted}
-use Rattle.drt_edf.specs.Answers.{IsExactYes}
+use Rattle.drt_edf.specs.Answers.{IsExactEdfYes}
 use Rattle.drt_fronts.specs.LabelFronts.{IsLabelFront, AreLabelFronts}
 use Rattle.drt_edf.specs.RatioClaims.{claims_of}
 use Rattle.drt_edf.specs.Walks.{IsWalkEntry, IsExactFront}
@@ -44,7 +44,7 @@ HasRoom graphs fronts bound = (s : ℕ) → s ≤ bound → demands graphs front
 
 -- The set is schedulable.
 pub schedulable : HorizonHolds → DeadlinesDecide → (version : ℕ) (tasks : List Task) → IsTaskSet version tasks → AreConstrained tasks → AreGraphs (graphs_of tasks)
-    → (proofs : List RatioProof) → AreGiven (graphs_of tasks) proofs → (bound : ℕ) → IsPlan (graphs_of tasks) proofs (Ok (Under bound)) → (fronts : List (List FrontEntry))
+    → (proofs : List RatioProof) → AreGiven (graphs_of tasks) proofs → (bound : ℕ) → IsHorizonPlan (graphs_of tasks) proofs (Ok (Under bound)) → (fronts : List (List FrontEntry))
     → AreLabelFronts bound (graphs_of tasks) fronts → HasRoom (graphs_of tasks) fronts bound → Schedulable tasks Edf
 schedulable holds decide version tasks is constrained graphs proofs given bound plan fronts are room = (decide version tasks is constrained).1 fits
   where
@@ -65,16 +65,16 @@ schedulable holds decide version tasks is constrained graphs proofs given bound 
         go (inr l) = l
 
 -- What holds of each front holds of all.
-pub each_front : (R : Digraph → List FrontEntry → Type 0) (bound : ℕ) → ((g : Digraph) (f : List FrontEntry) → IsSound g → IsLabelFront g bound f → R g f)
-    → (graphs : List Digraph) (fronts : List (List FrontEntry)) → All IsSound graphs → AreLabelFronts bound graphs fronts → Each R graphs fronts
+pub each_front : (R : Digraph → List FrontEntry → Type 0) (bound : ℕ) → ((g : Digraph) (f : List FrontEntry) → IsSoundGraph g → IsLabelFront g bound f → R g f)
+    → (graphs : List Digraph) (fronts : List (List FrontEntry)) → All IsSoundGraph graphs → AreLabelFronts bound graphs fronts → Each R graphs fronts
 each_front R bound h [] [] sound are = tt
 each_front R bound h [] (f ∷ fronts) sound are = absurd (let e = ap length are in omega (arith, e))
 each_front R bound h (g ∷ graphs) [] sound are = absurd are
 each_front R bound h (g ∷ graphs) (f ∷ fronts) sound are =
-    (h g f (head_of IsSound g graphs sound) are.0, each_front R bound h graphs fronts (tail_of IsSound g graphs sound) are.1)
+    (h g f (head_of IsSoundGraph g graphs sound) are.0, each_front R bound h graphs fronts (tail_of IsSoundGraph g graphs sound) are.1)
 
 -- The walk of one vertex is covered.
-openings : (bound : ℕ) (g : Digraph) (f : List FrontEntry) → IsSound g → IsLabelFront g bound f → HasOpenings bound g f
+openings : (bound : ℕ) (g : Digraph) (f : List FrontEntry) → IsSoundGraph g → IsLabelFront g bound f → HasOpenings bound g f
 openings bound g f sound is v l near =
     let s = span_none g v in
     let c = is.covers (walk_entry g v []) (walk_entry_is g bound v [] l tt (omega (arith, s, near))) in
@@ -85,7 +85,7 @@ moved : (g : Digraph) (x y v : ℕ) → x ≡ y → IsEdge g x v → IsEdge g y 
 moved g x y v e h = rw e at h
 
 -- A walk that goes on by an edge is covered, or due past the bound.
-extended : (bound : ℕ) (g : Digraph) (f : List FrontEntry) → IsSound g → IsLabelFront g bound f → (e : FrontEntry) → IsWalkEntry g bound e → (k : ℕ) → k < out_degree g e.vertex
+extended : (bound : ℕ) (g : Digraph) (f : List FrontEntry) → IsSoundGraph g → IsLabelFront g bound f → (e : FrontEntry) → IsWalkEntry g bound e → (k : ℕ) → k < out_degree g e.vertex
     → IsExtended bound g f e k
 extended bound g f sound is e walk k l = go (cases_lt bound (e.offset + (edge_of g e.vertex k).sep + deadline g (edge_of g e.vertex k).to))
   where
@@ -117,14 +117,14 @@ extended bound g f sound is e walk k l = go (cases_lt bound (e.offset + (edge_of
 entry_walk : (bound : ℕ) (g : Digraph) (f : List FrontEntry) → IsLabelFront g bound f → All (IsWalkEntry g bound) f
 entry_walk bound g f is k d l = ((is.exact (get_or f k d)).0 (k, l, get_or_default f k (get_or f k d) d l)).label
 
-closed : (bound : ℕ) (g : Digraph) (f : List FrontEntry) → IsSound g → IsLabelFront g bound f → IsClosedFront bound g f
+closed : (bound : ℕ) (g : Digraph) (f : List FrontEntry) → IsSoundGraph g → IsLabelFront g bound f → IsClosedFront bound g f
 closed bound g f sound is k d l j m = extended bound g f sound is (get_or f k d) (entry_walk bound g f is k d l) j m
 
 -- At each time at which an entry is due there is room.
-has_room : (graphs : List Digraph) (fronts : List (List FrontEntry)) (bound : ℕ) → HasRoom graphs fronts bound → All IsSound graphs → AreLabelFronts bound graphs fronts → HaveRoom graphs fronts
+has_room : (graphs : List Digraph) (fronts : List (List FrontEntry)) (bound : ℕ) → HasRoom graphs fronts bound → All IsSoundGraph graphs → AreLabelFronts bound graphs fronts → HaveRoom graphs fronts
 has_room graphs fronts bound room sound are = each_front (λ g front. All (λ e. works_due graphs fronts (due g e) ≤ due g e) front) bound fits graphs fronts sound are
   where
-    fits : (g : Digraph) (f : List FrontEntry) → IsSound g → IsLabelFront g bound f → All (λ e. works_due graphs fronts (due g e) ≤ due g e) f
+    fits : (g : Digraph) (f : List FrontEntry) → IsSoundGraph g → IsLabelFront g bound f → All (λ e. works_due graphs fronts (due g e) ≤ due g e) f
     fits g f s is k d l =
         let w = is.ordered.0 k d l in
         let t = due g (get_or f k d) in
@@ -144,8 +144,8 @@ fronts_kept tasks bound fronts graphs near are room = record {
 
 -- A yes.
 pub is_yes : HorizonHolds → DeadlinesDecide → (version : ℕ) (tasks : List Task) → IsTaskSet version tasks → AreConstrained tasks → AreGraphs (graphs_of tasks)
-    → (proofs : List RatioProof) → AreGiven (graphs_of tasks) proofs → (bound : ℕ) → IsPlan (graphs_of tasks) proofs (Ok (Under bound)) → (fronts : List (List FrontEntry))
-    → AreLabelFronts bound (graphs_of tasks) fronts → HasRoom (graphs_of tasks) fronts bound → IsExactYes tasks (claims_of proofs) fronts
+    → (proofs : List RatioProof) → AreGiven (graphs_of tasks) proofs → (bound : ℕ) → IsHorizonPlan (graphs_of tasks) proofs (Ok (Under bound)) → (fronts : List (List FrontEntry))
+    → AreLabelFronts bound (graphs_of tasks) fronts → HasRoom (graphs_of tasks) fronts bound → IsExactEdfYes tasks (claims_of proofs) fronts
 is_yes holds decide version tasks is constrained graphs proofs given bound plan fronts are room =
     let below = claims_below proofs (graphs_of tasks) bound plan in
     record {
@@ -167,7 +167,7 @@ is_yes holds decide version tasks is constrained graphs proofs given bound plan 
 short_work : (count spans work : ℕ) → spans ≤ 1099511627776 → count ≤ spans → work ≤ suc count * 1000000 → work ≤ 2000000000000000000
 short_work count spans work l m n = omega arith
 
-entry_in_range : (g : Digraph) (bound : ℕ) (e : FrontEntry) → IsSound g → bound ≤ 1099511627776 → IsWalkEntry g bound e → IsInRangeEntry e
+entry_in_range : (g : Digraph) (bound : ℕ) (e : FrontEntry) → IsSoundGraph g → bound ≤ 1099511627776 → IsWalkEntry g bound e → IsInRangeEntry e
 entry_in_range g bound e sound near walk =
     let in_graph : e.vertex < vertex_count g = rw walk.vertex (path_within g sound walk.first walk.others walk.is_vertex walk.path) in
     let sums = path_sums g sound walk.first walk.others walk.path in
@@ -181,5 +181,5 @@ entry_in_range g bound e sound near walk =
     }
 
 -- The entries of a front are in range.
-pub front_in_range : (g : Digraph) (bound : ℕ) (f : List FrontEntry) → IsSound g → bound ≤ 1099511627776 → IsLabelFront g bound f → All IsInRangeEntry f
+pub front_in_range : (g : Digraph) (bound : ℕ) (f : List FrontEntry) → IsSoundGraph g → bound ≤ 1099511627776 → IsLabelFront g bound f → All IsInRangeEntry f
 front_in_range g bound f sound near is k d l = entry_in_range g bound (get_or f k d) sound near (entry_walk bound g f is k d l)

@@ -13,7 +13,7 @@ use Rattle.drt_busy.specs.WalkReleases.{all_releases}
 use Rattle.drt_horizon.specs.declared.answers.Beyond.{Beyond}
 use Rattle.drt_horizon.specs.declared.answers.Beyond.TheVariants.{TooFine, TooFar}
 use Rattle.drt_claims.specs.Claims.{graphs_of, Each, IsHorizon}
-use Rattle.drt_claims.specs.Ranges.{IsInRange}
+use Rattle.drt_claims.specs.Ranges.{IsEvidenceInRange}
 use Rattle.drt_claims.specs.Rules.{Accepts}
 use Rattle.drt_claims.specs.declared.evidence.Evidence.{Evidence}
 use Rattle.drt_claims.specs.declared.evidence.Evidence.TheVariants.{EdfYes, EdfNo, UtilisationOne, FixedYes, FixedStates, FixedNo, Undecided}
@@ -22,7 +22,7 @@ use Rattle.drt_claims.specs.declared.evidence.RatioClaim.{RatioClaim}
 use Rattle.drt_claims.specs.Rates.{IsAtOne}
 use Rattle.drt_edf.specs.Plans.{IsAboveOne, HasHorizon, IsTooFar, AreTooFine}
 use Rattle.drt_edf.specs.Walks.{IsExactFront}
-use Rattle.drt_edf.specs.Spent.{IsSpentOverload, IsSpentTable}
+use Rattle.drt_edf.specs.Spent.{IsSpentOverload, IsSpentEdfTable}
 use Rattle.drt_edf.specs.declared.answer.EdfAnswer.{EdfAnswer}
 use Rattle.drt_edf.specs.declared.answer.EdfAnswer.TheVariants as answers
 use Rattle.drt_trails.specs.declared.EdfTrail.{EdfTrail}
@@ -34,7 +34,7 @@ IsAcceptedFor tasks evidence = (version : ℕ) → Accepts (record { policy = Ed
 
 -- A yes: the set is schedulable under EDF, its utilisation is below one, the evidence is accepted, and the front of each task
 -- has exactly the labels of walks due within the horizon that no other one covers.
-pub record IsExactYes (tasks : List Task) (ratios : List RatioClaim) (fronts : List (List FrontEntry)) : Type 0 where
+pub record IsExactEdfYes (tasks : List Task) (ratios : List RatioClaim) (fronts : List (List FrontEntry)) : Type 0 where
   pub schedulable : Schedulable tasks Edf
   pub accepted : IsAcceptedFor tasks (EdfYes ratios fronts)
   pub bound : ℕ
@@ -46,7 +46,7 @@ pub record IsExactYes (tasks : List Task) (ratios : List RatioClaim) (fronts : L
 -- are those of a walk of each task, from time 0, as early as the separations allow and each with its whole execution time, and these walks are
 -- due by some time and have more work than it together. So the jobs that are due by it need more, and no assignment of one job to each tick
 -- meets all deadlines.
-pub record IsMissed (tasks : List Task) (releases : List Release) (miss : Miss) : Type 0 where
+pub record IsEdfMiss (tasks : List Task) (releases : List Release) (miss : Miss) : Type 0 where
   pub not_schedulable : ¬ Schedulable tasks Edf
   pub accepted : IsAcceptedFor tasks (EdfNo releases miss)
   pub walks : ℕ → List ℕ
@@ -66,14 +66,14 @@ pub record IsOnlyOne (tasks : List Task) (ratios : List RatioClaim) : Type 0 whe
   pub accepted : IsAcceptedFor tasks (UtilisationOne ratios)
 
 -- What the evidence of an answer says. The analysis gives no other kind.
-abbrev pub IsVerdict : List Task → Evidence → Type 0
-IsVerdict tasks (EdfYes ratios fronts) = IsExactYes tasks ratios fronts
-IsVerdict tasks (EdfNo releases miss) = IsMissed tasks releases miss
-IsVerdict tasks (UtilisationOne ratios) = IsOnlyOne tasks ratios
-IsVerdict tasks (FixedYes trees proofs) = ⊥
-IsVerdict tasks (FixedStates tails searches) = ⊥
-IsVerdict tasks (FixedNo releases miss) = ⊥
-IsVerdict tasks Undecided = ⊥
+abbrev pub IsEdfVerdict : List Task → Evidence → Type 0
+IsEdfVerdict tasks (EdfYes ratios fronts) = IsExactEdfYes tasks ratios fronts
+IsEdfVerdict tasks (EdfNo releases miss) = IsEdfMiss tasks releases miss
+IsEdfVerdict tasks (UtilisationOne ratios) = IsOnlyOne tasks ratios
+IsEdfVerdict tasks (FixedYes trees proofs) = ⊥
+IsEdfVerdict tasks (FixedStates tails searches) = ⊥
+IsEdfVerdict tasks (FixedNo releases miss) = ⊥
+IsEdfVerdict tasks Undecided = ⊥
 
 -- The utilisation isn't one: it is below one with a horizon of at most 2^40, or above one.
 abbrev pub IsOther : List Task → Type 0
@@ -95,12 +95,12 @@ IsBeyond tasks TooFine = AreTooFine tasks
 IsBeyond tasks TooFar = IsTooFar tasks
 
 -- Why there is no answer: a budget was spent.
-abbrev pub IsUndecided : List Task → ℕ → EdfTrail → Type 0
-IsUndecided tasks budget (Table task log) = IsSpentTable tasks budget task log
-IsUndecided tasks budget (Overload last) = IsSpentOverload tasks budget last
+abbrev pub IsEdfUndecided : List Task → ℕ → EdfTrail → Type 0
+IsEdfUndecided tasks budget (Table task log) = IsSpentEdfTable tasks budget task log
+IsEdfUndecided tasks budget (Overload last) = IsSpentOverload tasks budget last
 
 -- What each answer says, with a budget.
-abbrev pub IsAnswer : List Task → ℕ → EdfAnswer → Type 0
-IsAnswer tasks budget (answers.Done evidence) = IsVerdict tasks evidence × IsPlanned tasks evidence × IsInRange evidence
-IsAnswer tasks budget (answers.Beyond beyond) = IsBeyond tasks beyond
-IsAnswer tasks budget (answers.Undecided trail) = IsUndecided tasks budget trail
+abbrev pub IsEdfAnswer : List Task → ℕ → EdfAnswer → Type 0
+IsEdfAnswer tasks budget (answers.Done evidence) = IsEdfVerdict tasks evidence × IsPlanned tasks evidence × IsEvidenceInRange evidence
+IsEdfAnswer tasks budget (answers.Beyond beyond) = IsBeyond tasks beyond
+IsEdfAnswer tasks budget (answers.Undecided trail) = IsEdfUndecided tasks budget trail

@@ -14,8 +14,8 @@ use Rattle.drt_fronts.specs.declared.search.Ended.{Ended}
 use Rattle.drt_fronts.specs.LabelFronts.{AreLabelFronts}
 
 -- The search of the graph of number `task` spent the budget, by the steps of the log.
-abbrev pub IsSpentSearch : List Digraph → ℕ → ℕ → ℕ → List Entry → Type 0
-IsSpentSearch graphs bound budget task log = (graph : Digraph) × (slice_get graphs task ≡ Some graph) × IsFull graph bound budget log
+abbrev pub IsSpentEdfSearch : List Digraph → ℕ → ℕ → ℕ → List Entry → Type 0
+IsSpentEdfSearch graphs bound budget task log = (graph : Digraph) × (slice_get graphs task ≡ Some graph) × IsFull graph bound budget log
 
 -- This is how the search of the graph of number `task` ends.
 abbrev pub IsEndOf : List Digraph → ℕ → ℕ → ℕ → Ended → Type 0
@@ -30,4 +30,4 @@ IsAheadOf graphs bound budget task Left = Unit {0}
 -- How the searches ended: with a front for each graph, or in the first that spent its budget.
 abbrev pub AreSearches : List Digraph → ℕ → ℕ → Searched → Type 0
 AreSearches graphs bound budget (Finished fronts) = AreLabelFronts bound graphs fronts × All IsCounted fronts
-AreSearches graphs bound budget (Spent task log) = IsSpentSearch graphs bound budget task log
+AreSearches graphs bound budget (Spent task log) = IsSpentEdfSearch graphs bound budget task log

@@ -9,7 +9,7 @@ use Rattle.drt_ratio.specs.SetRatios.{fractions_of}
 use Rattle.drt_table.specs.Machine.{IsRun, replay, is_finished}
 use Rattle.drt_table.specs.declared.step.Entry.{Entry}
 use Rattle.drt_horizon.specs.Given.{AreGiven}
-use Rattle.drt_horizon.specs.CycleTurns.{cycle_turns_of, IsOver}
+use Rattle.drt_horizon.specs.CycleTurns.{cycle_turns_of, IsOverFound}
 use Rattle.drt_horizon.specs.Laws.{latest}
 use Rattle.drt_horizon.specs.declared.answers.Over.TheVariants.{Spent}
 use Rattle.drt_claims.specs.Claims.{graphs_of}
@@ -18,7 +18,7 @@ pub use Rattle.drt_fronts.specs.Needs.{table_need, HasWaveTable, search_of}
 
 -- The search of this task's walks spent the budget: the log is a run of that many steps which isn't finished, up to the horizon of
 -- a set whose utilisation is below one. So the budget is below what the search needs, and the task has no wave table.
-pub record IsSpentTable (tasks : List Task) (budget task : ℕ) (log : List Entry) : Type 0 where
+pub record IsSpentEdfTable (tasks : List Task) (budget task : ℕ) (log : List Entry) : Type 0 where
   pub bound : ℕ
   pub below : HasHorizon tasks bound
   pub near : bound ≤ 2 ^ 40
@@ -37,13 +37,13 @@ pub record IsSpentOverload (tasks : List Task) (budget last : ℕ) : Type 0 wher
   pub above : IsAboveOne tasks
   pub proofs : List RatioProof
   pub are : AreGiven (graphs_of tasks) proofs
-  pub spent : IsOver (cycle_turns_of (graphs_of tasks) proofs) budget (Spent last)
+  pub spent : IsOverFound (cycle_turns_of (graphs_of tasks) proofs) budget (Spent last)
   pub scale : ℕ
   pub is_scale : IsScale (fractions_of proofs) scale
   pub short : budget < latest scale (graphs_of tasks) proofs
 
 -- The budget is enough for each search: of each task's walks up to the horizon where the utilisation is below one, and for an
 -- overload where it is above.
-pub record IsEnough (tasks : List Task) (budget : ℕ) : Type 0 where
+pub record IsEnoughForEdf (tasks : List Task) (budget : ℕ) : Type 0 where
   pub tables : (bound : ℕ) → HasHorizon tasks bound → All (λ g. table_need g bound ≤ budget) (graphs_of tasks)
   pub overload : IsAboveOne tasks → (proofs : List RatioProof) → AreGiven (graphs_of tasks) proofs → (scale : ℕ) → IsScale (fractions_of proofs) scale → latest scale (graphs_of tasks) proofs ≤ budget

@@ -1,9 +1,9 @@
 //! Sets whose utilisation is above one.
 ghost use Rattle.std.specs.Prelude.{IfOk};
 ghost use Rattle.drt_horizon.specs.Given.{AreGiven};
-ghost use Rattle.drt_horizon.specs.Plans.{IsAboveOne};
+ghost use Rattle.drt_horizon.specs.Plans.{IsPlannedAboveOne};
 ghost use Rattle.drt_claims.specs.Claims.{graphs_of};
-ghost use Rattle.drt_edf.specs.Answers.{IsAnswer};
+ghost use Rattle.drt_edf.specs.Answers.{IsEdfAnswer};
 
 use crate::answer::EdfAnswer;
 use crate::refusal::overload_refusal;
@@ -24,8 +24,8 @@ pub(crate) fn above_one(
     effort: Effort,
 ) -> Result<EdfAnswer, Memory>
     requires given { AreGiven (graphs_of set.now.tasks) proofs.now }
-    requires above { IsAboveOne (graphs_of set.now.tasks) proofs.now }
-    ensures { IfOk result (IsAnswer set.now.tasks effort.budget) }
+    requires above { IsPlannedAboveOne (graphs_of set.now.tasks) proofs.now }
+    ensures { IfOk result (IsEdfAnswer set.now.tasks effort.budget) }
 {
     search_ends();
     let graphs = set.graphs();

@@ -1,6 +1,6 @@
 //! The analysis.
 ghost use Rattle.std.specs.Prelude.{IfOk};
-ghost use Rattle.drt_edf.specs.Answers.{IsAnswer};
+ghost use Rattle.drt_edf.specs.Answers.{IsEdfAnswer};
 
 use crate::above::above_one;
 use crate::answer::EdfAnswer;
@@ -29,7 +29,7 @@ pub fn analyse_edf<G: Gate, R: Threads + Wait + Sync>(
     crew: &Crew<'_, G, R>,
     set: &Accepted<'_>,
 ) -> Result<EdfAnswer, Memory>
-    ensures { IfOk result (IsAnswer set.now.tasks crew.now.effort.budget) }
+    ensures { IfOk result (IsEdfAnswer set.now.tasks crew.now.effort.budget) }
 {
     let graphs = set.graphs();
     let proofs = ratios(crew.alloc, graphs)?;

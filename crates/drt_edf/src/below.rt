@@ -1,10 +1,10 @@
 //! Sets whose utilisation is below one.
 ghost use Rattle.std.specs.Prelude.{ℕ, All, IfOk, Ok};
 ghost use Rattle.drt_horizon.specs.Given.{AreGiven};
-ghost use Rattle.drt_horizon.specs.Plans.{IsPlan};
+ghost use Rattle.drt_horizon.specs.Plans.{IsHorizonPlan};
 ghost use Rattle.drt_claims.specs.Claims.{graphs_of};
-ghost use Rattle.drt_claims.specs.Ranges.{IsCounted, IsInRange};
-ghost use Rattle.drt_edf.specs.Answers.{IsAnswer, IsVerdict};
+ghost use Rattle.drt_claims.specs.Ranges.{IsCounted, IsEvidenceInRange};
+ghost use Rattle.drt_edf.specs.Answers.{IsEdfAnswer, IsEdfVerdict};
 ghost use Rattle.drt_fronts.specs.LabelFronts.{AreDemandWalks, AreLabelFronts};
 
 use crate::answer::EdfAnswer;
@@ -54,11 +54,11 @@ fn scanned(
     fronts: Row<Row<FrontEntry>>,
 ) -> Result<Evidence, Memory>
     requires given { AreGiven (graphs_of set.now.tasks) proofs }
-    requires plan { IsPlan (graphs_of set.now.tasks) proofs (Ok (Horizon.Under bound)) }
+    requires plan { IsHorizonPlan (graphs_of set.now.tasks) proofs (Ok (Horizon.Under bound)) }
     requires fronts { AreLabelFronts bound (graphs_of set.now.tasks) fronts }
     requires counted { All IsCounted fronts }
-    ensures done { IfOk result (λ e. IsVerdict set.now.tasks e) }
-    ensures range { IfOk result (λ e. IsInRange e) }
+    ensures done { IfOk result (λ e. IsEdfVerdict set.now.tasks e) }
+    ensures range { IfOk result (λ e. IsEvidenceInRange e) }
 {
     horizon_holds();
     deadlines_decide();
@@ -86,8 +86,8 @@ pub(crate) fn below_one<G: Gate, R: Threads + Wait + Sync>(
     bound: u64,
 ) -> Result<EdfAnswer, Memory>
     requires given { AreGiven (graphs_of set.now.tasks) proofs }
-    requires plan { IsPlan (graphs_of set.now.tasks) proofs (Ok (Horizon.Under bound)) }
-    ensures { IfOk result (IsAnswer set.now.tasks crew.now.effort.budget) }
+    requires plan { IsHorizonPlan (graphs_of set.now.tasks) proofs (Ok (Horizon.Under bound)) }
+    ensures { IfOk result (IsEdfAnswer set.now.tasks crew.now.effort.budget) }
 {
     match searches(crew, set.graphs(), bound)? {
         Searched::Finished(fronts) => {

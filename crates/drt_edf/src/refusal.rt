@@ -4,9 +4,9 @@ ghost use Rattle.drt_busy.specs.Choice.{AreDueBy, AreWalks, efforts};
 ghost use Rattle.drt_horizon.specs.Given.{AreGiven};
 ghost use Rattle.drt_horizon.specs.CycleTurns.{cycle_turns_of, turned};
 ghost use Rattle.drt_claims.specs.Claims.{graphs_of};
-ghost use Rattle.drt_claims.specs.Ranges.{IsInRange};
+ghost use Rattle.drt_claims.specs.Ranges.{IsEvidenceInRange};
 ghost use Rattle.drt_releases.specs.Walks.{walk_at};
-ghost use Rattle.drt_edf.specs.Answers.{IsVerdict};
+ghost use Rattle.drt_edf.specs.Answers.{IsEdfVerdict};
 
 use crate::turns::turns;
 use drt_accepted::Accepted;
@@ -30,8 +30,8 @@ pub(crate) fn refusal(
     requires due { AreDueBy set.now.tasks (walk_at walks.now) t }
     requires excess { t < efforts set.now.tasks (walk_at walks.now) (length set.now.tasks) }
     requires time { t ≤ 1000000000000000000 }
-    ensures done { IfOk result (λ e. IsVerdict set.now.tasks e) }
-    ensures range { IfOk result (λ e. IsInRange e) }
+    ensures done { IfOk result (λ e. IsEdfVerdict set.now.tasks e) }
+    ensures range { IfOk result (λ e. IsEvidenceInRange e) }
 {
     demand_misses();
     no_assignment_meets();
@@ -67,8 +67,8 @@ pub(crate) fn overload_refusal(
     requires given { AreGiven (graphs_of set.now.tasks) proofs.now }
     requires excess { t < turned (cycle_turns_of (graphs_of set.now.tasks) proofs.now) t }
     requires time { t ≤ 1000000000000000000 }
-    ensures done { IfOk result (λ e. IsVerdict set.now.tasks e) }
-    ensures range { IfOk result (λ e. IsInRange e) }
+    ensures done { IfOk result (λ e. IsEdfVerdict set.now.tasks e) }
+    ensures range { IfOk result (λ e. IsEvidenceInRange e) }
 {
     let walks = turns(alloc, set.graphs(), proofs, t)?;
     refusal(alloc, set, walks.as_slice(), t)

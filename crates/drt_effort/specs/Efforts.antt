@@ -20,7 +20,7 @@ pub record Numbers : Type 0 where
   pub budget : ℕ
 
 -- Both are at least 1, and neither is above its limit.
-pub record AreInRange (numbers : Numbers) : Type 0 where
+pub record AreNumbersInRange (numbers : Numbers) : Type 0 where
   pub some_workers : 1 ≤ numbers.workers
   pub few_workers : numbers.workers ≤ most_workers
   pub some_steps : 1 ≤ numbers.budget

@@ -2,7 +2,7 @@
 #![tactic(auto)]
 
 ghost use Rattle.std.specs.Prelude.{◌≡◌, ◌≤◌};
-ghost use Rattle.drt_effort.specs.Efforts.{AreInRange, most_budget, most_workers};
+ghost use Rattle.drt_effort.specs.Efforts.{AreNumbersInRange, most_budget, most_workers};
 
 use std::marker::Model;
 
@@ -20,13 +20,13 @@ pub struct Effort {
 }
 
 impl Model for Effort {
-    ghost use Rattle.drt_effort.specs.Efforts.{AreInRange, Numbers};
+    ghost use Rattle.drt_effort.specs.Efforts.{AreNumbersInRange, Numbers};
 
     ghost Value = { Numbers };
 
     ghost view = { λ e. record { workers = e.workers; budget = e.budget } };
 
-    ghost invariant = { λ e. AreInRange (record { workers = e.workers; budget = e.budget }) };
+    ghost invariant = { λ e. AreNumbersInRange (record { workers = e.workers; budget = e.budget }) };
 
     ghost inverse = { λ n. record { workers = n.workers; budget = n.budget } };
 }
@@ -87,7 +87,7 @@ impl Effort {
 
     /// Does nothing: both numbers keep their bounds.
     pub fn keep_bounds(&self)
-        ensures { AreInRange self.now }
+        ensures { AreNumbersInRange self.now }
     {
         let _workers = self.workers;
     }

@@ -7,9 +7,9 @@ use Rattle.drt_states.specs.declared.claims.Jump.{Jump}
 use Rattle.drt_states.specs.declared.claims.StateEnd.{StateEnd}
 use Rattle.drt_states.specs.declared.claims.StateEnd.TheVariants.{Passes, Splits}
 use Rattle.drt_states.specs.declared.claims.StateEntry.{StateEntry}
-use Rattle.drt_evidence.specs.Cuts.{AreStateParts, IsCut, IsNoCut, IsSpaced, counted_form, end_form, entry_form, join_form, jump_form, left, spaced_form, state_form}
+use Rattle.drt_evidence.specs.Cuts.{AreStateParts, IsFormCut, IsNoCut, IsSpaced, counted_form, end_form, entry_form, join_form, jump_form, left, spaced_form, state_form}
 use Rattle.drt_evidence.specs.Fields.{behind}
-use Rattle.drt_evidence.specs.LineForms.{AreBoth, AreCounted, IsForm, IsNoForm, itself}
+use Rattle.drt_evidence.specs.LineForms.{AreBoth, AreItemsCounted, IsForm, IsNoForm, itself}
 use Rattle.drt_claims.specs.Ranges.{IsInRangeEnd, IsInRangeItem, IsInRangeJump, IsInRangeStateEntry, IsNumber, IsTick, IsWork}
 use Rattle.drt_evidence.specs.Text.{item_field}
 use Rattle.drt_claims.specs.declared.evidence.Item.{Item}
@@ -52,12 +52,12 @@ jump_made = record {
 pub jump_first : (all : List ℕ) → IsNoCut (spaced_form decimal) IsTick all → IsNoCut jump_form IsInRangeJump all
 jump_first all not = made_none jump_made all (join_first number_form IsTick one_number (AreBoth IsWork IsSpaced) (λ y is. refl) all not)
 
-pub jump_second : (all mid : List ℕ) (offset : ℕ) → IsCut (spaced_form decimal) IsTick all offset mid → IsNoCut (spaced_form decimal) IsWork mid → IsNoCut jump_form IsInRangeJump all
+pub jump_second : (all mid : List ℕ) (offset : ℕ) → IsFormCut (spaced_form decimal) IsTick all offset mid → IsNoCut (spaced_form decimal) IsWork mid → IsNoCut jump_form IsInRangeJump all
 jump_second all mid offset first not =
     made_none jump_made all (join_second number_form IsTick one_number (AreBoth IsWork IsSpaced) (λ y is. refl) all mid offset first not)
 
-pub jump_is : (all mid rest : List ℕ) (offset work : ℕ) → IsCut (spaced_form decimal) IsTick all offset mid → IsCut (spaced_form decimal) IsWork mid work rest
-    → IsCut jump_form IsInRangeJump all (record { offset = offset; work = work }) rest
+pub jump_is : (all mid rest : List ℕ) (offset work : ℕ) → IsFormCut (spaced_form decimal) IsTick all offset mid → IsFormCut (spaced_form decimal) IsWork mid work rest
+    → IsFormCut jump_form IsInRangeJump all (record { offset = offset; work = work }) rest
 jump_is all mid rest offset work first second =
     made_is jump_made all (offset, (work, rest)) (record { offset = offset; work = work }, rest)
     (join_is number_form IsTick one_number (AreBoth IsWork IsSpaced) (λ y is. refl) all mid offset (work, rest) first second) refl
@@ -89,22 +89,22 @@ entry_made = record {
 pub entry_first : (all : List ℕ) → IsNoCut (spaced_form decimal) IsNumber all → IsNoCut entry_form IsInRangeStateEntry all
 entry_first all not = made_none entry_made all (join_first number_form IsNumber two_numbers IsEntryTail (λ y is. refl) all not)
 
-pub entry_second : (all mid : List ℕ) (place : ℕ) → IsCut (spaced_form decimal) IsNumber all place mid → IsNoCut (spaced_form decimal) IsNumber mid
+pub entry_second : (all mid : List ℕ) (place : ℕ) → IsFormCut (spaced_form decimal) IsNumber all place mid → IsNoCut (spaced_form decimal) IsNumber mid
     → IsNoCut entry_form IsInRangeStateEntry all
 entry_second all mid place first not =
     made_none entry_made all
     (join_second number_form IsNumber two_numbers IsEntryTail (λ y is. refl) all mid place first
     (join_first number_form IsNumber one_number (AreBoth IsTick IsSpaced) (λ y is. refl) mid not))
 
-pub entry_third : (all mid last : List ℕ) (place vertex : ℕ) → IsCut (spaced_form decimal) IsNumber all place mid → IsCut (spaced_form decimal) IsNumber mid vertex last
+pub entry_third : (all mid last : List ℕ) (place vertex : ℕ) → IsFormCut (spaced_form decimal) IsNumber all place mid → IsFormCut (spaced_form decimal) IsNumber mid vertex last
     → IsNoCut (spaced_form decimal) IsTick last → IsNoCut entry_form IsInRangeStateEntry all
 entry_third all mid last place vertex first second not =
     made_none entry_made all
     (join_second number_form IsNumber two_numbers IsEntryTail (λ y is. refl) all mid place first
     (join_second number_form IsNumber one_number (AreBoth IsTick IsSpaced) (λ y is. refl) mid last vertex second not))
 
-pub entry_is : (all mid last rest : List ℕ) (place vertex offset : ℕ) → IsCut (spaced_form decimal) IsNumber all place mid → IsCut (spaced_form decimal) IsNumber mid vertex last
-    → IsCut (spaced_form decimal) IsTick last offset rest → IsCut entry_form IsInRangeStateEntry all (record { place = place; vertex = vertex; offset = offset }) rest
+pub entry_is : (all mid last rest : List ℕ) (place vertex offset : ℕ) → IsFormCut (spaced_form decimal) IsNumber all place mid → IsFormCut (spaced_form decimal) IsNumber mid vertex last
+    → IsFormCut (spaced_form decimal) IsTick last offset rest → IsFormCut entry_form IsInRangeStateEntry all (record { place = place; vertex = vertex; offset = offset }) rest
 entry_is all mid last rest place vertex offset first second third =
     made_is entry_made all (place, (vertex, (offset, rest))) (record { place = place; vertex = vertex; offset = offset }, rest)
     (join_is number_form IsNumber two_numbers IsEntryTail (λ y is. refl) all mid place (vertex, (offset, rest)) first
@@ -138,27 +138,27 @@ pub end_none : (all : List ℕ) → IsNoCut (spaced_form item_field) IsInRangeIt
 end_none all not y ranges e = not (item_of y, numbers_form (numbers_of y)) (item_in_range y ranges, fields_behind (map decimal (numbers_of y))) (e ∙ end_split y)
 
 -- What an item at the front says of an end.
-end_item : (all rest : List ℕ) (item : Item) (y : StateEnd) → IsCut (spaced_form item_field) IsInRangeItem all item rest → IsInRangeEnd y → all ≡ end_form y
+end_item : (all rest : List ℕ) (item : Item) (y : StateEnd) → IsFormCut (spaced_form item_field) IsInRangeItem all item rest → IsInRangeEnd y → all ≡ end_form y
     → (item_of y ≡ item) × (numbers_form (numbers_of y) ≡ rest)
 end_item all rest item y is ranges e =
     let same = is.only (item_of y, numbers_form (numbers_of y)) (item_in_range y ranges, fields_behind (map decimal (numbers_of y))) (e ∙ end_split y) in
     (ap (λ (p : Item × List ℕ). p.0) same, ap (λ (p : Item × List ℕ). p.1) same)
 
-pub end_passes : (all : List ℕ) (t : ℕ) → IsCut (spaced_form item_field) IsInRangeItem all (Pass t) [] → IsForm end_form IsInRangeEnd all (Passes t)
+pub end_passes : (all : List ℕ) (t : ℕ) → IsFormCut (spaced_form item_field) IsInRangeItem all (Pass t) [] → IsForm end_form IsInRangeEnd all (Passes t)
 end_passes all t is = record { in_range = is.in_range.0; is = is.is; only = λ y ranges e. one y ranges (end_item all [] (Pass t) y is ranges e).0 }
   where
     one : (y : StateEnd) → IsInRangeEnd y → item_of y ≡ Pass t → y ≡ Passes t
     one (Passes u) ranges same = let time : u ≡ t = cc in ap Passes time
     one (Splits place children) ranges same = absurd (cc)
 
-pub end_goes_on : (all rest : List ℕ) (t : ℕ) → IsCut (spaced_form item_field) IsInRangeItem all (Pass t) (32 ∷ rest) → IsNoForm end_form IsInRangeEnd all
+pub end_goes_on : (all rest : List ℕ) (t : ℕ) → IsFormCut (spaced_form item_field) IsInRangeItem all (Pass t) (32 ∷ rest) → IsNoForm end_form IsInRangeEnd all
 end_goes_on all rest t is y ranges e = never y (end_item all (32 ∷ rest) (Pass t) y is ranges e)
   where
     never : (y : StateEnd) → (item_of y ≡ Pass t) × (numbers_form (numbers_of y) ≡ 32 ∷ rest) → ⊥
     never (Passes u) (same, left) = cc
     never (Splits place children) (same, left) = cc
 
-pub end_splits : (all rest : List ℕ) (place : ℕ) (children : List ℕ) → IsCut (spaced_form item_field) IsInRangeItem all (Split place) rest
+pub end_splits : (all rest : List ℕ) (place : ℕ) (children : List ℕ) → IsFormCut (spaced_form item_field) IsInRangeItem all (Split place) rest
     → IsForm numbers_form (All IsNumber) rest children → IsForm end_form IsInRangeEnd all (Splits place children)
 end_splits all rest place children is numbers = record {
   in_range = (is.in_range.0, numbers.in_range);
@@ -172,7 +172,7 @@ end_splits all rest place children is numbers = record {
         let place_is : p ≡ place = cc in
         ap (λ q. Splits q cs) place_is ∙ ap (λ ns. Splits place ns) (numbers.only cs ranges.1 (sym left))
 
-pub end_broken : (all rest : List ℕ) (place : ℕ) → IsCut (spaced_form item_field) IsInRangeItem all (Split place) rest → IsNoForm numbers_form (All IsNumber) rest
+pub end_broken : (all rest : List ℕ) (place : ℕ) → IsFormCut (spaced_form item_field) IsInRangeItem all (Split place) rest → IsNoForm numbers_form (All IsNumber) rest
     → IsNoForm end_form IsInRangeEnd all
 end_broken all rest place is not y ranges e = never y ranges (end_item all rest (Split place) y is ranges e)
   where
@@ -181,25 +181,25 @@ end_broken all rest place is not y ranges e = never y ranges (end_item all rest 
     never (Splits p cs) ranges (same, left) = not cs ranges.1 (sym left)
 
 -- As a match on an item and what is left behind it finds them.
-end_of_item : (all rest : List ℕ) (item same : Item) → item ≡ same → IsCut (spaced_form item_field) IsInRangeItem all item rest → IsCut (spaced_form item_field) IsInRangeItem all same rest
-end_of_item all rest item same is cut = subst (λ i. IsCut (spaced_form item_field) IsInRangeItem all i rest) is cut
+end_of_item : (all rest : List ℕ) (item same : Item) → item ≡ same → IsFormCut (spaced_form item_field) IsInRangeItem all item rest → IsFormCut (spaced_form item_field) IsInRangeItem all same rest
+end_of_item all rest item same is cut = subst (λ i. IsFormCut (spaced_form item_field) IsInRangeItem all i rest) is cut
 
-pub passes_at : (all : List ℕ) (item : Item) (rest : Option (Bor (List ℕ))) (t : ℕ) → IsCut (spaced_form item_field) IsInRangeItem all item (left rest) → item ≡ Pass t → rest ≡ None
+pub passes_at : (all : List ℕ) (item : Item) (rest : Option (Bor (List ℕ))) (t : ℕ) → IsFormCut (spaced_form item_field) IsInRangeItem all item (left rest) → item ≡ Pass t → rest ≡ None
     → IsForm end_form IsInRangeEnd all (Passes t)
 passes_at all item rest t cut is end =
-    end_passes all t (subst (λ o. IsCut (spaced_form item_field) IsInRangeItem all (Pass t) (left o)) end (end_of_item all (left rest) item (Pass t) is cut))
+    end_passes all t (subst (λ o. IsFormCut (spaced_form item_field) IsInRangeItem all (Pass t) (left o)) end (end_of_item all (left rest) item (Pass t) is cut))
 
-pub goes_on_at : (all : List ℕ) (item : Item) (rest : Option (Bor (List ℕ))) (t : ℕ) (more : Bor (List ℕ)) → IsCut (spaced_form item_field) IsInRangeItem all item (left rest)
+pub goes_on_at : (all : List ℕ) (item : Item) (rest : Option (Bor (List ℕ))) (t : ℕ) (more : Bor (List ℕ)) → IsFormCut (spaced_form item_field) IsInRangeItem all item (left rest)
     → item ≡ Pass t → rest ≡ Some more → IsNoForm end_form IsInRangeEnd all
 goes_on_at all item rest t more cut is here =
-    end_goes_on all more.now t (subst (λ o. IsCut (spaced_form item_field) IsInRangeItem all (Pass t) (left o)) here (end_of_item all (left rest) item (Pass t) is cut))
+    end_goes_on all more.now t (subst (λ o. IsFormCut (spaced_form item_field) IsInRangeItem all (Pass t) (left o)) here (end_of_item all (left rest) item (Pass t) is cut))
 
-pub splits_at : (all rest : List ℕ) (item : Item) (place : ℕ) (children now : List ℕ) → IsCut (spaced_form item_field) IsInRangeItem all item rest → item ≡ Split place
+pub splits_at : (all rest : List ℕ) (item : Item) (place : ℕ) (children now : List ℕ) → IsFormCut (spaced_form item_field) IsInRangeItem all item rest → item ≡ Split place
     → IsForm numbers_form (All IsNumber) rest children → now ≡ children → IsForm end_form IsInRangeEnd all (Splits place now)
 splits_at all rest item place children now cut is numbers same =
     end_splits all rest place now (end_of_item all rest item (Split place) is cut) (subst (λ cs. IsForm numbers_form (All IsNumber) rest cs) (sym same) numbers)
 
-pub broken_at : (all rest : List ℕ) (item : Item) (place : ℕ) → IsCut (spaced_form item_field) IsInRangeItem all item rest → item ≡ Split place
+pub broken_at : (all rest : List ℕ) (item : Item) (place : ℕ) → IsFormCut (spaced_form item_field) IsInRangeItem all item rest → item ≡ Split place
     → IsNoForm numbers_form (All IsNumber) rest → IsNoForm end_form IsInRangeEnd all
 broken_at all rest item place cut is not = end_broken all rest place (end_of_item all rest item (Split place) is cut) not
 
@@ -207,18 +207,18 @@ broken_at all rest item place cut is not = end_broken all rest place (end_of_ite
 abbrev pub work_and_end : ℕ × StateEnd → List ℕ
 work_and_end p = join_form (spaced_form decimal) end_form p
 
-pub parts_first : (all : List ℕ) → IsNoCut (counted_form entry_form) (AreCounted IsInRangeStateEntry) all → IsNoForm state_form AreStateParts all
-parts_first all not = join_first (counted_form entry_form) (AreCounted IsInRangeStateEntry) work_and_end (AreBoth IsWork IsInRangeEnd) (λ y is. refl) all not
+pub parts_first : (all : List ℕ) → IsNoCut (counted_form entry_form) (AreItemsCounted IsInRangeStateEntry) all → IsNoForm state_form AreStateParts all
+parts_first all not = join_first (counted_form entry_form) (AreItemsCounted IsInRangeStateEntry) work_and_end (AreBoth IsWork IsInRangeEnd) (λ y is. refl) all not
 
-pub parts_second : (all mid : List ℕ) (entries : List StateEntry) → IsCut (counted_form entry_form) (AreCounted IsInRangeStateEntry) all entries mid
+pub parts_second : (all mid : List ℕ) (entries : List StateEntry) → IsFormCut (counted_form entry_form) (AreItemsCounted IsInRangeStateEntry) all entries mid
     → IsNoForm work_and_end (AreBoth IsWork IsInRangeEnd) mid → IsNoForm state_form AreStateParts all
 parts_second all mid entries first not =
-    join_second (counted_form entry_form) (AreCounted IsInRangeStateEntry) work_and_end (AreBoth IsWork IsInRangeEnd) (λ y is. refl) all mid entries first not
+    join_second (counted_form entry_form) (AreItemsCounted IsInRangeStateEntry) work_and_end (AreBoth IsWork IsInRangeEnd) (λ y is. refl) all mid entries first not
 
-pub parts_are : (all mid : List ℕ) (entries : List StateEntry) (others : ℕ × StateEnd) → IsCut (counted_form entry_form) (AreCounted IsInRangeStateEntry) all entries mid
+pub parts_are : (all mid : List ℕ) (entries : List StateEntry) (others : ℕ × StateEnd) → IsFormCut (counted_form entry_form) (AreItemsCounted IsInRangeStateEntry) all entries mid
     → IsForm work_and_end (AreBoth IsWork IsInRangeEnd) mid others → IsForm state_form AreStateParts all (entries, others)
 parts_are all mid entries others first second =
-    join_is (counted_form entry_form) (AreCounted IsInRangeStateEntry) work_and_end (AreBoth IsWork IsInRangeEnd) (λ y is. refl) all mid entries others first second
+    join_is (counted_form entry_form) (AreItemsCounted IsInRangeStateEntry) work_and_end (AreBoth IsWork IsInRangeEnd) (λ y is. refl) all mid entries others first second
 
 -- A form behind a space, and with it.
 pub bare_is : {A : Type 0} (f : A → List ℕ) (P : A → Type 0) (bytes : List ℕ) (x : A) → IsForm (spaced_form f) P (32 ∷ bytes) x → IsForm f P bytes x

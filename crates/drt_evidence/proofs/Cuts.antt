@@ -7,8 +7,8 @@ use Rattle.std.proofs.lemmas.List.Elements.{All-from_recursion, recursion_from_A
 use Rattle.std.proofs.lemmas.Grind.{flat_map-append}
 use Rattle.drt_file.proofs.Again.{all_of_both}
 use Rattle.drt_evidence.specs.Blocks.{AreSoMany, in_turn}
-use Rattle.drt_evidence.specs.Cuts.{IsCut, IsNoCut, IsSpaced, counted_form, join_form, left, spaced_form}
-use Rattle.drt_evidence.specs.LineForms.{AreBoth, AreCounted, HasNoSpace, IsFieldForm, IsForm, IsNoForm, itself}
+use Rattle.drt_evidence.specs.Cuts.{IsFormCut, IsNoCut, IsSpaced, counted_form, join_form, left, spaced_form}
+use Rattle.drt_evidence.specs.LineForms.{AreBoth, AreItemsCounted, HasNoSpace, IsFieldForm, IsForm, IsNoForm, itself}
 use Rattle.drt_claims.specs.Ranges.{IsNumber}
 use Rattle.drt_evidence.proofs.Blocks.{cut_at, empty_list, turn_push}
 use Rattle.drt_evidence.proofs.Spaces.{cut_same, cut_spaced, spaced_behind}
@@ -42,7 +42,7 @@ one_other f P none rest others bytes field here alone cut not y ranges e =
     not y.0 ranges.0 (first_field f P none (left rest) field others y alone (field_left rest others bytes field here cut) ranges e).0
 
 pub one_is : {A : Type 0} (f : A → List ℕ) (P : A → Type 0) → IsFieldForm f P → (rest others : Option (Bor (List ℕ))) (bytes : Bor (List ℕ)) (field : List ℕ) (x : A) → rest ≡ Some bytes
-    → HasNoSpace field → MatchOption others (bytes.now ≡ field) (λ r. bytes.now ≡ field ++ 32 ∷ r.now) → IsForm f P field x → IsCut (spaced_form f) P (left rest) x (left others)
+    → HasNoSpace field → MatchOption others (bytes.now ≡ field) (λ r. bytes.now ≡ field ++ 32 ∷ r.now) → IsForm f P field x → IsFormCut (spaced_form f) P (left rest) x (left others)
 one_is {A} f P none rest others bytes field x here alone cut is = record {
   in_range = (is.in_range, spaced_behind (option_map (λ r. r.now) others));
   is = stands ∙ ap (λ t. 32 ∷ (t ++ left others)) is.is;
@@ -59,7 +59,7 @@ one_is {A} f P none rest others bytes field x here alone cut is = record {
 
 -- A value, and another in what is left behind it.
 pub join_is : {A B : Type 0} (f : A → List ℕ) (P : A → Type 0) (g : B → List ℕ) (Q : B → Type 0) → ((y : B) → Q y → IsSpaced (g y)) → (all mid : List ℕ) (a : A) (b : B)
-    → IsCut f P all a mid → IsForm g Q mid b → IsForm (join_form f g) (AreBoth P Q) all (a, b)
+    → IsFormCut f P all a mid → IsForm g Q mid b → IsForm (join_form f g) (AreBoth P Q) all (a, b)
 join_is {A} {B} f P g Q opened all mid a b first second = record {
   in_range = (first.in_range.0, second.in_range);
   is = first.is ∙ ap (λ t. f a ++ t) second.is;
@@ -77,7 +77,7 @@ pub join_first : {A B : Type 0} (f : A → List ℕ) (P : A → Type 0) (g : B �
 join_first f P g Q opened all not y ranges e = not (y.0, g y.1) (ranges.0, opened y.1 ranges.1) e
 
 pub join_second : {A B : Type 0} (f : A → List ℕ) (P : A → Type 0) (g : B → List ℕ) (Q : B → Type 0) → ((y : B) → Q y → IsSpaced (g y)) → (all mid : List ℕ) (a : A)
-    → IsCut f P all a mid → IsNoForm g Q mid → IsNoForm (join_form f g) (AreBoth P Q) all
+    → IsFormCut f P all a mid → IsNoForm g Q mid → IsNoForm (join_form f g) (AreBoth P Q) all
 join_second {A} {B} f P g Q opened all mid a first not y ranges e =
     let same = first.only (y.0, g y.1) (ranges.0, opened y.1 ranges.1) e in
     let tail : g y.1 ≡ mid = ap (λ (p : A × List ℕ). p.1) same in
@@ -103,14 +103,14 @@ pub made_none : {A T : Type 0} {form : T → List ℕ} {In : T → Type 0} {f : 
 made_none {A} {T} {form} {In} {f} {P} {parts} made bytes not y ranges e = not (parts y) (made.ranges y ranges) (e ∙ made.form_is y)
 
 -- The end of a line behind a value, or no end.
-pub ended : {A : Type 0} (f : A → List ℕ) (P : A → Type 0) (all : List ℕ) (x : A) → IsCut f P all x [] → IsForm f P all x
+pub ended : {A : Type 0} (f : A → List ℕ) (P : A → Type 0) (all : List ℕ) (x : A) → IsFormCut f P all x [] → IsForm f P all x
 ended {A} f P all x is = record {
   in_range = is.in_range.0;
   is = is.is ∙ append-nil (f x);
   only = λ y ranges e. ap (λ (p : A × List ℕ). p.0) (is.only (y, []) (ranges, tt) (e ∙ sym (append-nil (f y))));
 }
 
-pub not_ended : {A : Type 0} (f : A → List ℕ) (P : A → Type 0) (all rest : List ℕ) (x : A) → IsCut f P all x (32 ∷ rest) → IsNoForm f P all
+pub not_ended : {A : Type 0} (f : A → List ℕ) (P : A → Type 0) (all rest : List ℕ) (x : A) → IsFormCut f P all x (32 ∷ rest) → IsNoForm f P all
 not_ended {A} f P all rest x is y ranges e =
     let same : [] ≡ 32 ∷ rest = ap (λ (p : A × List ℕ). p.1) (is.only (y, []) (ranges, tt) (e ∙ sym (append-nil (f y)))) in
     cc
@@ -118,20 +118,20 @@ not_ended {A} f P all rest x is y ranges e =
 pub ended_none : {A : Type 0} (f : A → List ℕ) (P : A → Type 0) (all : List ℕ) → IsNoCut f P all → IsNoForm f P all
 ended_none f P all not y ranges e = not (y, []) (ranges, tt) (e ∙ sym (append-nil (f y)))
 
-pub ends_there : {A : Type 0} (f : A → List ℕ) (P : A → Type 0) (all : List ℕ) (x : A) (rest : Option (Bor (List ℕ))) → IsCut f P all x (left rest) → rest ≡ None
+pub ends_there : {A : Type 0} (f : A → List ℕ) (P : A → Type 0) (all : List ℕ) (x : A) (rest : Option (Bor (List ℕ))) → IsFormCut f P all x (left rest) → rest ≡ None
     → IsForm f P all x
-ends_there f P all x rest is end = ended f P all x (subst (λ o. IsCut f P all x (left o)) end is)
+ends_there f P all x rest is end = ended f P all x (subst (λ o. IsFormCut f P all x (left o)) end is)
 
-pub goes_on : {A : Type 0} (f : A → List ℕ) (P : A → Type 0) (all : List ℕ) (x : A) (rest : Option (Bor (List ℕ))) (more : Bor (List ℕ)) → IsCut f P all x (left rest)
+pub goes_on : {A : Type 0} (f : A → List ℕ) (P : A → Type 0) (all : List ℕ) (x : A) (rest : Option (Bor (List ℕ))) (more : Bor (List ℕ)) → IsFormCut f P all x (left rest)
     → rest ≡ Some more → IsNoForm f P all
-goes_on f P all x rest more is here = not_ended f P all more.now x (subst (λ o. IsCut f P all x (left o)) here is)
+goes_on f P all x rest more is here = not_ended f P all more.now x (subst (λ o. IsFormCut f P all x (left o)) here is)
 
 -- A number of values, one behind another.
 pub turn_opened : {A : Type 0} (f : A → List ℕ) → IsOpened f → (xs : List A) (t : List ℕ) → IsSpaced t → IsSpaced (in_turn f xs ++ t)
 turn_opened f opened [] t is = is
 turn_opened f opened (x ∷ xs) t is = subst IsSpaced (sym (append_assoc (f x) (in_turn f xs) t)) (opened x (in_turn f xs ++ t))
 
-pub each_start : {A : Type 0} (f : A → List ℕ) (P : A → Type 0) (all : List ℕ) → IsSpaced all → IsCut (in_turn f) (AreSoMany 0 P) all [] all
+pub each_start : {A : Type 0} (f : A → List ℕ) (P : A → Type 0) (all : List ℕ) → IsSpaced all → IsFormCut (in_turn f) (AreSoMany 0 P) all [] all
 each_start {A} f P all is = record {
   in_range = ((tt, refl), is);
   is = refl;
@@ -158,7 +158,7 @@ record Further {A : Type 0} (f : A → List ℕ) (P : A → Type 0) (xs ys : Lis
   is : P here
   goes : mid ≡ f here ++ (in_turn f more ++ t)
 
-further : {A : Type 0} (f : A → List ℕ) (P : A → Type 0) → IsOpened f → (n : ℕ) (all mid : List ℕ) (xs ys : List A) (t : List ℕ) → IsCut (in_turn f) (AreSoMany n P) all xs mid
+further : {A : Type 0} (f : A → List ℕ) (P : A → Type 0) → IsOpened f → (n : ℕ) (all mid : List ℕ) (xs ys : List A) (t : List ℕ) → IsFormCut (in_turn f) (AreSoMany n P) all xs mid
     → n < length ys → AllByRecursion P ys → all ≡ in_turn f ys ++ t → Further f P xs ys mid t
 further {A} f P opened n all mid xs ys t so_far lt are e =
     let c = cut_at P n ys lt are in
@@ -175,7 +175,7 @@ further {A} f P opened n all mid xs ys t so_far lt are e =
 
 -- Where there are n + 1 values beside n, and the last of them is x, they are the n and x.
 pushed : {A : Type 0} (f : A → List ℕ) (P : A → Type 0) (n : ℕ) (mid rest : List ℕ) (xs ys : List A) (t : List ℕ) (x : A) → length xs ≡ n → length ys ≡ n + 1 → IsSpaced t
-    → IsCut f P mid x rest → Further f P xs ys mid t → ◌≡◌ {A = List A × List ℕ} (ys, t) (xs ++ x ∷ [], rest)
+    → IsFormCut f P mid x rest → Further f P xs ys mid t → ◌≡◌ {A = List A × List ℕ} (ys, t) (xs ++ x ∷ [], rest)
 pushed {A} f P n mid rest xs ys t x before count behind is p =
     let size : length ys ≡ length xs + length (p.here ∷ p.more) = ap length p.are ∙ length-append xs (p.here ∷ p.more) in
     let none : p.more ≡ [] = empty_list p.more (omega (arith, size, count, before)) in
@@ -183,8 +183,8 @@ pushed {A} f P n mid rest xs ys t x before count behind is p =
     let same = is.only (p.here, t) (p.is, behind) goes in
     ap (λ zs. (zs, t)) (p.are ∙ ap (λ zs. xs ++ p.here ∷ zs) none) ∙ ap (λ (q : A × List ℕ). (xs ++ q.0 ∷ [], q.1)) same
 
-pub each_next : {A : Type 0} (f : A → List ℕ) (P : A → Type 0) → IsOpened f → (n : ℕ) (all mid rest : List ℕ) (xs : List A) (x : A) → IsCut (in_turn f) (AreSoMany n P) all xs mid
-    → IsCut f P mid x rest → IsCut (in_turn f) (AreSoMany (n + 1) P) all (xs ++ x ∷ []) rest
+pub each_next : {A : Type 0} (f : A → List ℕ) (P : A → Type 0) → IsOpened f → (n : ℕ) (all mid rest : List ℕ) (xs : List A) (x : A) → IsFormCut (in_turn f) (AreSoMany n P) all xs mid
+    → IsFormCut f P mid x rest → IsFormCut (in_turn f) (AreSoMany (n + 1) P) all (xs ++ x ∷ []) rest
 each_next {A} f P opened n all mid rest xs x so_far is = record {
   in_range = (
     (all_of_both P xs (x ∷ []) so_far.in_range.0.0 (is.in_range.0, tt), let count = so_far.in_range.0.1 in let e = length-append xs (x ∷ []) in omega (arith, count, e)),
@@ -199,7 +199,7 @@ each_next {A} f P opened n all mid rest xs x so_far is = record {
         let count = ranges.0.1 in
         pushed f P n mid rest xs ys t x so_far.in_range.0.1 count ranges.1 is (further f P opened n all mid xs ys t so_far (omega (arith, count)) ranges.0.0 e)
 
-pub each_broken : {A : Type 0} (f : A → List ℕ) (P : A → Type 0) → IsOpened f → (n count : ℕ) → n < count → (all mid : List ℕ) (xs : List A) → IsCut (in_turn f) (AreSoMany n P) all xs mid
+pub each_broken : {A : Type 0} (f : A → List ℕ) (P : A → Type 0) → IsOpened f → (n count : ℕ) → n < count → (all mid : List ℕ) (xs : List A) → IsFormCut (in_turn f) (AreSoMany n P) all xs mid
     → IsNoCut f P mid → IsNoCut (in_turn f) (AreSoMany count P) all
 each_broken f P opened n count lt all mid xs so_far not (ys, t) ranges e =
     let size = ranges.0.1 in
@@ -207,31 +207,31 @@ each_broken f P opened n count lt all mid xs so_far not (ys, t) ranges e =
     not (p.here, in_turn f p.more ++ t) (p.is, turn_opened f opened p.more t ranges.1) p.goes
 
 -- Counted values.
-list_first : {A : Type 0} (f : A → List ℕ) (P : A → Type 0) → IsOpened f → (all mid : List ℕ) (count : ℕ) (ys : List A) (t : List ℕ) → IsCut (spaced_form decimal) IsNumber all count mid
-    → AreCounted P ys → IsSpaced t → all ≡ counted_form f ys ++ t → (length ys ≡ count) × (mid ≡ in_turn f ys ++ t)
+list_first : {A : Type 0} (f : A → List ℕ) (P : A → Type 0) → IsOpened f → (all mid : List ℕ) (count : ℕ) (ys : List A) (t : List ℕ) → IsFormCut (spaced_form decimal) IsNumber all count mid
+    → AreItemsCounted P ys → IsSpaced t → all ≡ counted_form f ys ++ t → (length ys ≡ count) × (mid ≡ in_turn f ys ++ t)
 list_first f P opened all mid count ys t counted are behind e =
     let same = counted.only (length ys, in_turn f ys ++ t) (are.1, turn_opened f opened ys t behind) (e ∙ append_assoc (32 ∷ decimal (length ys)) (in_turn f ys) t) in
     (ap (λ (p : ℕ × List ℕ). p.0) same, sym (ap (λ (p : ℕ × List ℕ). p.1) same))
 
-pub list_cut : {A : Type 0} (f : A → List ℕ) (P : A → Type 0) → IsOpened f → (all mid rest : List ℕ) (count : ℕ) (xs : List A) → IsCut (spaced_form decimal) IsNumber all count mid
-    → IsCut (in_turn f) (AreSoMany count P) mid xs rest → IsCut (counted_form f) (AreCounted P) all xs rest
+pub list_cut : {A : Type 0} (f : A → List ℕ) (P : A → Type 0) → IsOpened f → (all mid rest : List ℕ) (count : ℕ) (xs : List A) → IsFormCut (spaced_form decimal) IsNumber all count mid
+    → IsFormCut (in_turn f) (AreSoMany count P) mid xs rest → IsFormCut (counted_form f) (AreItemsCounted P) all xs rest
 list_cut {A} f P opened all mid rest count xs counted is = record {
   in_range = ((All-from_recursion P xs is.in_range.0.0, subst IsNumber (sym is.in_range.0.1) counted.in_range.0), is.in_range.1);
   is = counted.is ∙ ap (λ n. (32 ∷ decimal n) ++ mid) (sym is.in_range.0.1) ∙ ap (λ t. (32 ∷ decimal (length xs)) ++ t) is.is ∙ sym (append_assoc (32 ∷ decimal (length xs)) (in_turn f xs) rest);
   only = only;
 }
   where
-    only : (y : List A × List ℕ) → AreBoth (AreCounted P) IsSpaced y → all ≡ join_form (counted_form f) itself y → y ≡ (xs, rest)
+    only : (y : List A × List ℕ) → AreBoth (AreItemsCounted P) IsSpaced y → all ≡ join_form (counted_form f) itself y → y ≡ (xs, rest)
     only (ys, t) ranges e =
         let first = list_first f P opened all mid count ys t counted ranges.0 ranges.1 e in
         is.only (ys, t) ((recursion_from_All P ys ranges.0.0, first.0), ranges.1) first.1
 
-pub list_none : {A : Type 0} (f : A → List ℕ) (P : A → Type 0) → IsOpened f → (all : List ℕ) → IsNoCut (spaced_form decimal) IsNumber all → IsNoCut (counted_form f) (AreCounted P) all
+pub list_none : {A : Type 0} (f : A → List ℕ) (P : A → Type 0) → IsOpened f → (all : List ℕ) → IsNoCut (spaced_form decimal) IsNumber all → IsNoCut (counted_form f) (AreItemsCounted P) all
 list_none f P opened all not (ys, t) ranges e =
     not (length ys, in_turn f ys ++ t) (ranges.0.1, turn_opened f opened ys t ranges.1) (e ∙ append_assoc (32 ∷ decimal (length ys)) (in_turn f ys) t)
 
-pub list_broken_off : {A : Type 0} (f : A → List ℕ) (P : A → Type 0) → IsOpened f → (all mid : List ℕ) (count : ℕ) → IsCut (spaced_form decimal) IsNumber all count mid
-    → IsNoCut (in_turn f) (AreSoMany count P) mid → IsNoCut (counted_form f) (AreCounted P) all
+pub list_broken_off : {A : Type 0} (f : A → List ℕ) (P : A → Type 0) → IsOpened f → (all mid : List ℕ) (count : ℕ) → IsFormCut (spaced_form decimal) IsNumber all count mid
+    → IsNoCut (in_turn f) (AreSoMany count P) mid → IsNoCut (counted_form f) (AreItemsCounted P) all
 list_broken_off f P opened all mid count counted not (ys, t) ranges e =
     let first = list_first f P opened all mid count ys t counted ranges.0 ranges.1 e in
     not (ys, t) ((recursion_from_All P ys ranges.0.0, first.0), ranges.1) first.1

@@ -12,8 +12,8 @@ use Rattle.drt_file.specs.trusted.Cutting.{fed, HasNoFeed}
 use Rattle.drt_file.proofs.Feeds.{count_fed, first_before, first_fed, first_line_of, no_lines}
 use Rattle.drt_evidence.specs.Blocks.{IsSet, IsStop, ReadsBlock, RefusesLine, Stops}
 use Rattle.drt_evidence.specs.LineForms.{IsAny}
-use Rattle.drt_claims.specs.Ranges.{IsInRange}
-use Rattle.drt_evidence.specs.Reading.{IsFaultyBy, HasDossierFault, HoldsDossier, IsDossierCause, IsTextOf}
+use Rattle.drt_claims.specs.Ranges.{IsEvidenceInRange}
+use Rattle.drt_evidence.specs.Reading.{IsDossierFaultyBy, HasDossierFault, HoldsDossier, IsDossierCause, IsDossierText}
 use Rattle.drt_claims.specs.Statement.{IsStated, Statement}
 use Rattle.drt_evidence.specs.Text.{evidence_lines, head_lines, text}
 use Rattle.drt_claims.specs.declared.evidence.Evidence.{Evidence}
@@ -32,9 +32,9 @@ abbrev pub below_block : Below → List ℕ
 below_block b = canonical b.0 ++ written (evidence_lines b.1)
 
 abbrev pub IsBelow : Below → Type 0
-IsBelow b = IsSet b.0 × IsInRange b.1
+IsBelow b = IsSet b.0 × IsEvidenceInRange b.1
 
-abbrev pub below_parts : Two below_block IsBelow canonical IsSet (λ e. written (evidence_lines e)) IsInRange
+abbrev pub below_parts : Two below_block IsBelow canonical IsSet (λ e. written (evidence_lines e)) IsEvidenceInRange
 below_parts = record {
   first = λ b. b.0;
   second = λ b. b.1;
@@ -90,7 +90,7 @@ line_behind bytes front tail ls left are size lines none = ap (λ n. 1 + n) (ap 
 
 -- Fewer lines than begin a text don't break.
 keep : (bytes : List ℕ) (ls : List (List ℕ)) (rest : List ℕ) → AllByRecursion HasNoFeed ls → bytes ≡ fed ls ++ rest
-    → (((s : Statement) (after : List ℕ) → IsStated s → text s ≡ fed ls ++ after → ⊥) → ⊥) → (n : ℕ) → n ≤ length ls → IsFaultyBy bytes n → ⊥
+    → (((s : Statement) (after : List ℕ) → IsStated s → text s ≡ fed ls ++ after → ⊥) → ⊥) → (n : ℕ) → n ≤ length ls → IsDossierFaultyBy bytes n → ⊥
 keep bytes ls rest none are begun n le (inl (few, hold)) =
     let count = ap line_count are ∙ count_fed ls rest none in
     omega (arith, count, few, le)
@@ -100,13 +100,13 @@ keep bytes ls rest none are begun n le (inr broken) =
     begun (λ s after is e. broken (s, r.0 ++ after, record { stated = is; is = sym (append_assoc (first_lines n bytes) r.0 after) ∙ ap (λ t. t ++ after) front ∙ sym e }))
 
 -- Bytes that begin with no text are no text, and hold none.
-no_text : (bytes : List ℕ) → ((s : Statement) (t : List ℕ) → IsStated s → bytes ≡ text s ++ t → ⊥) → (s : Statement) → IsTextOf s bytes → ⊥
+no_text : (bytes : List ℕ) → ((s : Statement) (t : List ℕ) → IsStated s → bytes ≡ text s ++ t → ⊥) → (s : Statement) → IsDossierText s bytes → ⊥
 no_text bytes none s is = none s [] is.stated (is.is ∙ sym (append-nil (text s)))
 
 none_held : (bytes : List ℕ) → ((s : Statement) (t : List ℕ) → IsStated s → bytes ≡ text s ++ t → ⊥) → HoldsDossier bytes → ⊥
 none_held bytes none (s, front, rest, is, e) = none s rest is.stated (e ∙ ap (λ t. t ++ rest) is.is)
 
-pub stopped_none : {bytes : List ℕ} {left : ℕ} {missing : Bool} → Stops text IsStated bytes left missing → (s : Statement) → IsTextOf s bytes → ⊥
+pub stopped_none : {bytes : List ℕ} {left : ℕ} {missing : Bool} → Stops text IsStated bytes left missing → (s : Statement) → IsDossierText s bytes → ⊥
 stopped_none {bytes} h = no_text bytes h.none
 
 -- The next line is missing.
@@ -157,7 +157,7 @@ some_first b bs = (first_lines (cond (b == 10) 0 1) bs, refl)
 
 -- Bytes follow a whole dossier.
 followed_at : (bytes : List ℕ) (s : Statement) (b : ℕ) (rest : List ℕ) (line : ℕ) (r : ReadsBlock text IsStated bytes s (b ∷ rest)) → line ≡ 1 + length r.lines.ls
-    → ((t : Statement) → IsTextOf t bytes → ⊥) × HasDossierFault bytes line 3
+    → ((t : Statement) → IsDossierText t bytes → ⊥) × HasDossierFault bytes line 3
 followed_at bytes s b rest line r at =
     let ls = r.lines.ls in
     let stands : bytes ≡ fed ls ++ (b ∷ rest) = r.stands ∙ ap (λ t. t ++ (b ∷ rest)) r.lines.are in
@@ -206,7 +206,7 @@ pub whole_text : (bytes : List ℕ) (s : Statement) (rest : List ℕ) → ReadsB
 whole_text bytes s [] r none = r.stands ∙ append-nil (text s)
 whole_text bytes s (b ∷ rest) r none = absurd (omega (arith, none))
 
-pub whole_one : (bytes : List ℕ) (s : Statement) (rest : List ℕ) → ReadsBlock text IsStated bytes s rest → (t : Statement) → IsTextOf t bytes → t ≡ s
+pub whole_one : (bytes : List ℕ) (s : Statement) (rest : List ℕ) → ReadsBlock text IsStated bytes s rest → (t : Statement) → IsDossierText t bytes → t ≡ s
 whole_one bytes s rest r t is = r.only t rest [] is.stated (sym r.stands ∙ is.is ∙ sym (append-nil (text t)))
 
 -- How many bytes are left.
@@ -230,5 +230,5 @@ pub stop_here : {bytes : List ℕ} {e : Stop} {left : ℕ} {missing told : Bool}
 stop_here {bytes} {e} {left} {missing} {told} i is same = subst (Stops text IsStated bytes left) same (i.at left missing is)
 
 -- The statement that a text gives.
-pub gives_none : {bytes : List ℕ} {left : ℕ} {missing : Bool} → Stops text IsStated bytes left missing → (P : Type 0) → (s : Statement) → IsTextOf s bytes → P
+pub gives_none : {bytes : List ℕ} {left : ℕ} {missing : Bool} → Stops text IsStated bytes left missing → (P : Type 0) → (s : Statement) → IsDossierText s bytes → P
 gives_none h P s is = absurd (stopped_none h s is)

@@ -9,7 +9,7 @@ use Rattle.drt_file.proofs.Digits.{decimal_field}
 use Rattle.drt_evidence.specs.Cuts.{left}
 use Rattle.drt_evidence.specs.Fields.{behind}
 use Rattle.drt_claims.specs.Ranges.{IsNumber}
-use Rattle.drt_evidence.specs.LineForms.{HasNoSpace, IsFieldForm, IsForm, IsNoForm, IsLineOf, IsNoLine, spaced, pair_form, AreBoth, IsAny, itself, list_form, AreCounted}
+use Rattle.drt_evidence.specs.LineForms.{HasNoSpace, IsFieldForm, IsForm, IsNoForm, IsLineOf, IsNoLine, spaced, pair_form, AreBoth, IsAny, itself, list_form, AreItemsCounted}
 use Rattle.drt_evidence.proofs.Spaces.{cut_same, cut_spaced, no_cut, fields_behind, spaced_behind, field_no_space}
 
 -- A number has no space.
@@ -172,30 +172,30 @@ begun_done f P all found so_far = record {
 
 -- A list with its count.
 pub list_is : {A : Type 0} (f : A → List ℕ) (P : A → Type 0) (bytes field : List ℕ) (others : Option (List ℕ)) (count : ℕ) (xs : List A) → HasNoSpace field → bytes ≡ field ++ spaced others
-    → IsForm decimal IsNumber field count → IsForm (λ ys. behind (map f ys)) (All P) (spaced others) xs → length xs ≡ count → IsForm (list_form f) (AreCounted P) bytes xs
+    → IsForm decimal IsNumber field count → IsForm (λ ys. behind (map f ys)) (All P) (spaced others) xs → length xs ≡ count → IsForm (list_form f) (AreItemsCounted P) bytes xs
 list_is {A} f P bytes field others count xs alone cut counted is size = record {
   in_range = (is.in_range, subst IsNumber (sym size) counted.in_range);
   is = cut ∙ ap (λ t. t ++ spaced others) (counted.is ∙ ap decimal (sym size)) ∙ ap (λ t. decimal (length xs) ++ t) is.is;
   only = only;
 }
   where
-    only : (ys : List A) → AreCounted P ys → bytes ≡ list_form f ys → ys ≡ xs
+    only : (ys : List A) → AreItemsCounted P ys → bytes ≡ list_form f ys → ys ≡ xs
     only ys are e =
         let r = cut_same field (decimal (length ys)) (spaced others) (behind (map f ys)) alone (number_no_space (length ys) are.1) (spaced_behind others) (fields_behind (map f ys)) (sym cut ∙ e) in
         is.only ys are.0 r.1
 
 pub list_uncounted : {A : Type 0} (f : A → List ℕ) (P : A → Type 0) (bytes field : List ℕ) (others : Option (List ℕ)) → HasNoSpace field → bytes ≡ field ++ spaced others
-    → IsNoForm decimal IsNumber field → IsNoForm (list_form f) (AreCounted P) bytes
+    → IsNoForm decimal IsNumber field → IsNoForm (list_form f) (AreItemsCounted P) bytes
 list_uncounted f P bytes field others alone cut not ys are e =
     not (length ys) are.1 (cut_same field (decimal (length ys)) (spaced others) (behind (map f ys)) alone (number_no_space (length ys) are.1) (spaced_behind others) (fields_behind (map f ys)) (sym cut ∙ e)).0
 
 pub list_broken : {A : Type 0} (f : A → List ℕ) (P : A → Type 0) (bytes field : List ℕ) (others : Option (List ℕ)) → HasNoSpace field → bytes ≡ field ++ spaced others
-    → IsNoForm (λ ys. behind (map f ys)) (All P) (spaced others) → IsNoForm (list_form f) (AreCounted P) bytes
+    → IsNoForm (λ ys. behind (map f ys)) (All P) (spaced others) → IsNoForm (list_form f) (AreItemsCounted P) bytes
 list_broken f P bytes field others alone cut not ys are e =
     not ys are.0 (cut_same field (decimal (length ys)) (spaced others) (behind (map f ys)) alone (number_no_space (length ys) are.1) (spaced_behind others) (fields_behind (map f ys)) (sym cut ∙ e)).1
 
 pub list_miscounted : {A : Type 0} (f : A → List ℕ) (P : A → Type 0) (bytes field : List ℕ) (others : Option (List ℕ)) (count : ℕ) (xs : List A) → HasNoSpace field → bytes ≡ field ++ spaced others
-    → IsForm decimal IsNumber field count → IsForm (λ ys. behind (map f ys)) (All P) (spaced others) xs → length xs ≢ count → IsNoForm (list_form f) (AreCounted P) bytes
+    → IsForm decimal IsNumber field count → IsForm (λ ys. behind (map f ys)) (All P) (spaced others) xs → length xs ≢ count → IsNoForm (list_form f) (AreItemsCounted P) bytes
 list_miscounted f P bytes field others count xs alone cut counted is size ys are e =
     let r = cut_same field (decimal (length ys)) (spaced others) (behind (map f ys)) alone (number_no_space (length ys) are.1) (spaced_behind others) (fields_behind (map f ys)) (sym cut ∙ e) in
     size (sym (ap length (is.only ys are.0 r.1)) ∙ counted.only (length ys) are.1 r.0)

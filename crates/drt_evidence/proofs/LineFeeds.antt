@@ -30,7 +30,7 @@ use Rattle.drt_claims.specs.Ranges.{IsNumber, IsInRangeEntry, IsInRangeItem, IsI
 use Rattle.drt_claims.specs.Ranges.{IsInRangeCurve, IsInRangeEnd, IsInRangeJump, IsInRangeState, IsInRangeStateEntry}
 use Rattle.drt_evidence.specs.Text.{count_line, curve_line, end_fields, entry_line, item_field, jump_fields, miss_line, pair_line, policy_word, proof_line, release_line}
 use Rattle.drt_evidence.specs.Text.{state_entry_fields, state_line, word_line}
-use Rattle.drt_evidence.specs.LineForms.{AreCounted, IsInRangeWritten, IsInRangeWrittenSearch, kind_keyword, kind_line}
+use Rattle.drt_evidence.specs.LineForms.{AreItemsCounted, IsInRangeWritten, IsInRangeWrittenSearch, kind_keyword, kind_line}
 use Rattle.drt_evidence.specs.LineForms.{numbers_line, policy_line, potentials_line, written_ratio_line, written_search_line}
 use Rattle.drt_evidence.proofs.Numerals.{range_above, range_below}
 
@@ -128,11 +128,11 @@ release_fields r range = (
   ),
 )
 
-pub numbers_fields : (word : List ℕ) (xs : List ℕ) → IsField word → AreCounted IsNumber xs → AreFields (numbers_line word xs)
+pub numbers_fields : (word : List ℕ) (xs : List ℕ) → IsField word → AreItemsCounted IsNumber xs → AreFields (numbers_line word xs)
 numbers_fields word xs is range =
     (is, (count_field decimal xs range.1, each_field decimal IsNumber (λ n le. number n (omega (arith, le))) xs range.0))
 
-pub potentials_fields : (heights : List ℤ) → AreCounted IsInRangePotential heights → AreFields (potentials_line heights)
+pub potentials_fields : (heights : List ℤ) → AreItemsCounted IsInRangePotential heights → AreFields (potentials_line heights)
 potentials_fields heights range = (
   record { has_byte = omega arith; bytes = search rules },
   (count_field signed_decimal heights range.1, each_field signed_decimal IsInRangePotential potential_field heights range.0),

@@ -9,7 +9,7 @@ use Rattle.drt_file.specs.trusted.Cutting.{HasNoFeed}
 use Rattle.drt_file.proofs.Again.{all_of_both}
 use Rattle.drt_file.proofs.Digits.{decimal_field}
 use Rattle.drt_file.proofs.Snoc.{every_map, every_weaker}
-use Rattle.drt_evidence.specs.LineForms.{AreCounted, IsAny, IsInRangeWritten, IsInRangeWrittenSearch, kind_line}
+use Rattle.drt_evidence.specs.LineForms.{AreItemsCounted, IsAny, IsInRangeWritten, IsInRangeWrittenSearch, kind_line}
 use Rattle.drt_evidence.specs.LineForms.{numbers_line, policy_line, potentials_line, written_ratio_line, written_search_line}
 use Rattle.drt_claims.specs.Ranges.{IsInRangeCurve, IsInRangeEntry, IsInRangeMiss, IsInRangePair, IsInRangePotential, IsInRangeProof, IsInRangeRelease, IsInRangeState, IsNumber}
 use Rattle.drt_evidence.specs.Some.{some_curve, some_entry, some_pair, some_proof, some_release, some_state, some_walk}
@@ -43,7 +43,7 @@ count_kind word none = record {
 numbers_plain : (xs : List ℕ) → All IsNumber xs → AllByRecursion HasNoFeed (map decimal xs)
 numbers_plain xs are = every_map HasNoFeed decimal xs (every_weaker IsNumber (λ n. HasNoFeed (decimal n)) number_plain xs (recursion_from_All IsNumber xs are))
 
-pub numbers_kind : (word : List ℕ) → HasNoFeed word → IsLine (numbers_line word) (AreCounted IsNumber)
+pub numbers_kind : (word : List ℕ) → HasNoFeed word → IsLine (numbers_line word) (AreItemsCounted IsNumber)
 numbers_kind word none = record {
   value = some_walk.0;
   value_in = some_walk.1;
@@ -87,7 +87,7 @@ miss_kind = record {
 pub pair_kind : IsLine pair_line IsInRangePair
 pair_kind = record { value = some_pair.0; value_in = some_pair.1; no_feed = λ p is. no_feed (pair_line p) (pair_fields p is) }
 
-pub potentials_kind : IsLine potentials_line (AreCounted IsInRangePotential)
+pub potentials_kind : IsLine potentials_line (AreItemsCounted IsInRangePotential)
 potentials_kind = record {
   value = [];
   value_in = (All-nil IsInRangePotential, lit≤ tt);

@@ -10,10 +10,10 @@ use Rattle.drt_model.specs.declared.jobs.Policy.TheVariants as policies
 use Rattle.drt_model.specs.declared.jobs.Release.{Release}
 use Rattle.drt_model.specs.declared.jobs.Miss.{Miss}
 use Rattle.drt_file.specs.trusted.Canonical.{written, written_line}
-use Rattle.drt_evidence.specs.Blocks.{AreNamed, AreSoMany, Named, in_turn, ReadsBlock, IsStop, named_block, counted, first_block, close_block, IsOfKind}
-use Rattle.drt_evidence.specs.LineForms.{AreCounted, IsAny, IsInRangeWritten, IsInRangeWrittenSearch, kind_keyword, kind_line, kind_of, numbers_line, policy_line}
+use Rattle.drt_evidence.specs.Blocks.{AreNamed, AreSoMany, NamedMiss, in_turn, ReadsBlock, IsStop, named_block, counted, first_block, close_block, IsOfKind}
+use Rattle.drt_evidence.specs.LineForms.{AreItemsCounted, IsAny, IsInRangeWritten, IsInRangeWrittenSearch, kind_keyword, kind_line, kind_of, numbers_line, policy_line}
 use Rattle.drt_evidence.specs.LineForms.{potentials_line, written_ratio_line, written_search_line}
-use Rattle.drt_claims.specs.Ranges.{AreInRangeReleases, IsInRange, IsInRangeFront, IsInRangeMiss, IsInRangePair, IsInRangePotential, IsInRangeProof, IsInRangeRatio, IsInRangeRelease, IsInRangeTree, IsInRangeWalk, IsNumber}
+use Rattle.drt_claims.specs.Ranges.{AreInRangeReleases, IsEvidenceInRange, IsInRangeFront, IsInRangeMiss, IsInRangePair, IsInRangePotential, IsInRangeProof, IsInRangeRatio, IsInRangeRelease, IsInRangeTree, IsInRangeWalk, IsNumber}
 use Rattle.drt_claims.specs.Ranges.{IsInRangeCurve, IsInRangeSearch, IsInRangeState, IsInRangeTail}
 use Rattle.drt_evidence.specs.Some.{some_state}
 use Rattle.drt_evidence.specs.Text.{body_lines, count_line, evidence_lines, kind_word, word_line, entry_line, front_block, front_lines, head_lines, miss_line, pair_line, proof_block, proof_line, ratio_block, ratio_lines, release_block, release_line, tree_block, tree_lines, walk_line}
@@ -70,10 +70,10 @@ abbrev pub ratio_rest : RatioRest → List ℕ
 ratio_rest t = written_line (numbers_line (codes "cycle") t.0) ++ written_line (potentials_line t.1)
 
 abbrev pub IsRatioRest : RatioRest → Type 0
-IsRatioRest t = AreCounted IsNumber t.0 × AreCounted IsInRangePotential t.1
+IsRatioRest t = AreItemsCounted IsNumber t.0 × AreItemsCounted IsInRangePotential t.1
 
-abbrev pub ratio_rest_parts : Two ratio_rest IsRatioRest (λ y. written_line (numbers_line (codes "cycle") y)) (AreCounted IsNumber)
-    (λ y. written_line (potentials_line y)) (AreCounted IsInRangePotential)
+abbrev pub ratio_rest_parts : Two ratio_rest IsRatioRest (λ y. written_line (numbers_line (codes "cycle") y)) (AreItemsCounted IsNumber)
+    (λ y. written_line (potentials_line y)) (AreItemsCounted IsInRangePotential)
 ratio_rest_parts = record {
   first = λ t. t.0;
   second = λ t. t.1;
@@ -106,8 +106,8 @@ ratio_parts = record {
 }
 
 -- A tree is its walks and its pairs.
-abbrev pub tree_parts : Two (λ t. written (tree_lines t)) IsInRangeTree (counted (codes "tree") (λ w. written_line (walk_line w))) (AreCounted IsInRangeWalk)
-    (counted (codes "pairs") (λ p. written_line (pair_line p))) (AreCounted IsInRangePair)
+abbrev pub tree_parts : Two (λ t. written (tree_lines t)) IsInRangeTree (counted (codes "tree") (λ w. written_line (walk_line w))) (AreItemsCounted IsInRangeWalk)
+    (counted (codes "pairs") (λ p. written_line (pair_line p))) (AreItemsCounted IsInRangePair)
 tree_parts = record {
   first = λ t. t.walks;
   second = λ t. t.pairs;
@@ -129,7 +129,7 @@ tree_parts = record {
 }
 
 -- A tail is the lines of its vertices.
-abbrev pub tail_part : One (λ t. written (tail_lines t)) IsInRangeTail (counted (codes "tail") (λ c. written_line (curve_line c))) (AreCounted IsInRangeCurve)
+abbrev pub tail_part : One (λ t. written (tail_lines t)) IsInRangeTail (counted (codes "tail") (λ c. written_line (curve_line c))) (AreItemsCounted IsInRangeCurve)
 tail_part = record {
   part = λ t. t.curves;
   make = λ cs. record { curves = cs };
@@ -215,7 +215,7 @@ search_read {w = w} {xs = xs} r q =
     (λ y is. ap (λ (o : WrittenSearch). search_with o y.states) is.0.1 ∙ ap (λ ss. search_with w ss) is.1)
 
 -- Releases and the miss of one of their jobs.
-abbrev pub release_parts : Two named_block AreNamed (counted (codes "releases") (λ r. written_line (release_line r))) (AreCounted IsInRangeRelease)
+abbrev pub release_parts : Two named_block AreNamed (counted (codes "releases") (λ r. written_line (release_line r))) (AreItemsCounted IsInRangeRelease)
     (λ m. written_line (miss_line m)) IsInRangeMiss
 release_parts = record {
   first = λ p. p.0;
@@ -372,10 +372,10 @@ searches_of (FixedStates t q) = q
 searches_of (FixedNo r m) = []
 searches_of Undecided = []
 
-abbrev no_job : Named
+abbrev no_job : NamedMiss
 no_job = ([], record { task = 0; index = 0; deadline = 0 })
 
-abbrev pub named_of : Evidence → Named
+abbrev pub named_of : Evidence → NamedMiss
 named_of (EdfYes r f) = no_job
 named_of (EdfNo r m) = (r, m)
 named_of (UtilisationOne r) = no_job
@@ -384,13 +384,13 @@ named_of (FixedStates t q) = no_job
 named_of (FixedNo r m) = (r, m)
 named_of Undecided = no_job
 
-abbrev pub edf_yes_parts : Two (λ e. written (body_lines e)) (IsOfKind kinds.EdfYes) (λ rs. written (ratio_block rs)) (AreCounted IsInRangeRatio) (λ fs. written (front_block fs)) (AreCounted IsInRangeFront)
+abbrev pub edf_yes_parts : Two (λ e. written (body_lines e)) (IsOfKind kinds.EdfYes) (λ rs. written (ratio_block rs)) (AreItemsCounted IsInRangeRatio) (λ fs. written (front_block fs)) (AreItemsCounted IsInRangeFront)
 edf_yes_parts = record {
   first = ratios_of;
   second = fronts_of;
   make = λ r f. EdfYes r f;
-  first_is = λ e is. only_edf_yes (λ x. IsInRange x → AreCounted IsInRangeRatio (ratios_of x)) (λ r f i. i.0) e is.1 is.0;
-  second_is = λ e is. only_edf_yes (λ x. IsInRange x → AreCounted IsInRangeFront (fronts_of x)) (λ r f i. i.1) e is.1 is.0;
+  first_is = λ e is. only_edf_yes (λ x. IsEvidenceInRange x → AreItemsCounted IsInRangeRatio (ratios_of x)) (λ r f i. i.0) e is.1 is.0;
+  second_is = λ e is. only_edf_yes (λ x. IsEvidenceInRange x → AreItemsCounted IsInRangeFront (fronts_of x)) (λ r f i. i.1) e is.1 is.0;
   block_is = λ e is. only_edf_yes (λ x. written (body_lines x) ≡ written (ratio_block (ratios_of x)) ++ written (front_block (fronts_of x))) (λ r f. written_both (ratio_block r) (front_block f)) e is.1;
   made = λ e is. only_edf_yes (λ x. x ≡ EdfYes (ratios_of x) (fronts_of x)) (λ r f. refl) e is.1;
   make_is = λ r f i j. ((i, j), refl);
@@ -400,13 +400,13 @@ edf_yes_parts = record {
   other_is = (All-nil IsInRangeFront, lit≤ tt);
 }
 
-abbrev pub fixed_yes_parts : Two (λ e. written (body_lines e)) (IsOfKind kinds.FixedYes) (λ ts. written (tree_block ts)) (AreCounted IsInRangeTree) (λ ps. written (proof_block ps)) (AreCounted IsInRangeProof)
+abbrev pub fixed_yes_parts : Two (λ e. written (body_lines e)) (IsOfKind kinds.FixedYes) (λ ts. written (tree_block ts)) (AreItemsCounted IsInRangeTree) (λ ps. written (proof_block ps)) (AreItemsCounted IsInRangeProof)
 fixed_yes_parts = record {
   first = trees_of;
   second = proofs_of;
   make = λ t q. FixedYes t q;
-  first_is = λ e is. only_fixed_yes (λ x. IsInRange x → AreCounted IsInRangeTree (trees_of x)) (λ t q i. i.0) e is.1 is.0;
-  second_is = λ e is. only_fixed_yes (λ x. IsInRange x → AreCounted IsInRangeProof (proofs_of x)) (λ t q i. i.1) e is.1 is.0;
+  first_is = λ e is. only_fixed_yes (λ x. IsEvidenceInRange x → AreItemsCounted IsInRangeTree (trees_of x)) (λ t q i. i.0) e is.1 is.0;
+  second_is = λ e is. only_fixed_yes (λ x. IsEvidenceInRange x → AreItemsCounted IsInRangeProof (proofs_of x)) (λ t q i. i.1) e is.1 is.0;
   block_is = λ e is. only_fixed_yes (λ x. written (body_lines x) ≡ written (tree_block (trees_of x)) ++ written (proof_block (proofs_of x))) (λ t q. written_both (tree_block t) (proof_block q)) e is.1;
   made = λ e is. only_fixed_yes (λ x. x ≡ FixedYes (trees_of x) (proofs_of x)) (λ t q. refl) e is.1;
   make_is = λ t q i j. ((i, j), refl);
@@ -416,14 +416,14 @@ fixed_yes_parts = record {
   other_is = (All-nil IsInRangeProof, lit≤ tt);
 }
 
-abbrev pub fixed_states_parts : Two (λ e. written (body_lines e)) (IsOfKind kinds.FixedStates) (λ ts. written (tail_block ts)) (AreCounted IsInRangeTail)
-    (λ ss. written (search_block ss)) (AreCounted IsInRangeSearch)
+abbrev pub fixed_states_parts : Two (λ e. written (body_lines e)) (IsOfKind kinds.FixedStates) (λ ts. written (tail_block ts)) (AreItemsCounted IsInRangeTail)
+    (λ ss. written (search_block ss)) (AreItemsCounted IsInRangeSearch)
 fixed_states_parts = record {
   first = tails_of;
   second = searches_of;
   make = λ t q. FixedStates t q;
-  first_is = λ e is. only_fixed_states (λ x. IsInRange x → AreCounted IsInRangeTail (tails_of x)) (λ t q i. i.0) e is.1 is.0;
-  second_is = λ e is. only_fixed_states (λ x. IsInRange x → AreCounted IsInRangeSearch (searches_of x)) (λ t q i. i.1) e is.1 is.0;
+  first_is = λ e is. only_fixed_states (λ x. IsEvidenceInRange x → AreItemsCounted IsInRangeTail (tails_of x)) (λ t q i. i.0) e is.1 is.0;
+  second_is = λ e is. only_fixed_states (λ x. IsEvidenceInRange x → AreItemsCounted IsInRangeSearch (searches_of x)) (λ t q i. i.1) e is.1 is.0;
   block_is = λ e is.
       only_fixed_states (λ x. written (body_lines x) ≡ written (tail_block (tails_of x)) ++ written (search_block (searches_of x)))
       (λ t q. written_both (tail_block t) (search_block q)) e is.1;
@@ -439,7 +439,7 @@ abbrev pub edf_no_part : One (λ e. written (body_lines e)) (IsOfKind kinds.EdfN
 edf_no_part = record {
   part = named_of;
   make = λ p. EdfNo p.0 p.1;
-  part_is = λ e is. only_edf_no (λ x. IsInRange x → AreInRangeReleases (named_of x).0 (named_of x).1) (λ r m i. i) e is.1 is.0;
+  part_is = λ e is. only_edf_no (λ x. IsEvidenceInRange x → AreInRangeReleases (named_of x).0 (named_of x).1) (λ r m i. i) e is.1 is.0;
   block_is = λ e is. only_edf_no (λ x. written (body_lines x) ≡ written (release_block (named_of x).0 (named_of x).1)) (λ r m. refl) e is.1;
   made = λ e is. only_edf_no (λ x. x ≡ EdfNo (named_of x).0 (named_of x).1) (λ r m. refl) e is.1;
   make_is = λ p i. (i, refl);
@@ -450,18 +450,18 @@ abbrev pub fixed_no_part : One (λ e. written (body_lines e)) (IsOfKind kinds.Fi
 fixed_no_part = record {
   part = named_of;
   make = λ p. FixedNo p.0 p.1;
-  part_is = λ e is. only_fixed_no (λ x. IsInRange x → AreInRangeReleases (named_of x).0 (named_of x).1) (λ r m i. i) e is.1 is.0;
+  part_is = λ e is. only_fixed_no (λ x. IsEvidenceInRange x → AreInRangeReleases (named_of x).0 (named_of x).1) (λ r m i. i) e is.1 is.0;
   block_is = λ e is. only_fixed_no (λ x. written (body_lines x) ≡ written (release_block (named_of x).0 (named_of x).1)) (λ r m. refl) e is.1;
   made = λ e is. only_fixed_no (λ x. x ≡ FixedNo (named_of x).0 (named_of x).1) (λ r m. refl) e is.1;
   make_is = λ p i. (i, refl);
   make_part = λ p i. refl;
 }
 
-abbrev pub one_part : One (λ e. written (body_lines e)) (IsOfKind kinds.UtilisationOne) (λ rs. written (ratio_block rs)) (AreCounted IsInRangeRatio)
+abbrev pub one_part : One (λ e. written (body_lines e)) (IsOfKind kinds.UtilisationOne) (λ rs. written (ratio_block rs)) (AreItemsCounted IsInRangeRatio)
 one_part = record {
   part = ratios_of;
   make = λ r. UtilisationOne r;
-  part_is = λ e is. only_one (λ x. IsInRange x → AreCounted IsInRangeRatio (ratios_of x)) (λ r i. i) e is.1 is.0;
+  part_is = λ e is. only_one (λ x. IsEvidenceInRange x → AreItemsCounted IsInRangeRatio (ratios_of x)) (λ r i. i) e is.1 is.0;
   block_is = λ e is. only_one (λ x. written (body_lines x) ≡ written (ratio_block (ratios_of x))) (λ r. refl) e is.1;
   made = λ e is. only_one (λ x. x ≡ UtilisationOne (ratios_of x)) (λ r. refl) e is.1;
   make_is = λ r i. (i, refl);
@@ -486,14 +486,14 @@ keyword_is Undecided = refl
 abbrev pub below_kind : Evidence → List ℕ
 below_kind e = written (body_lines e) ++ close_block tt
 
-pub kind_parts : (e : Evidence) → IsInRange e → IsAny (kind_of e) × (written (evidence_lines e) ≡ written_line (kind_line (kind_of e)) ++ below_kind e)
+pub kind_parts : (e : Evidence) → IsEvidenceInRange e → IsAny (kind_of e) × (written (evidence_lines e) ≡ written_line (kind_line (kind_of e)) ++ below_kind e)
 kind_parts e is = (
   tt,
   ap (λ w. written_line (codes "evidence" ∷ w ∷ []) ++ written (body_lines e ++ word_line (codes "close") ∷ [])) (keyword_is e)
       ∙ ap (λ t. written_line (kind_line (kind_of e)) ++ t) (written_both (body_lines e) (word_line (codes "close") ∷ []) ∙ ap (λ t. written (body_lines e) ++ t) (append-nil (close_block tt))),
 )
 
-some_of : (k : KindOfEvidence) → IsAny k → (e : Evidence) × IsInRange e × (kind_of e ≡ k)
+some_of : (k : KindOfEvidence) → IsAny k → (e : Evidence) × IsEvidenceInRange e × (kind_of e ≡ k)
 some_of kinds.EdfYes is = (EdfYes [] [], ((All-nil IsInRangeRatio, lit≤ tt), (All-nil IsInRangeFront, lit≤ tt)), refl)
 some_of kinds.EdfNo is = (EdfNo [] (record { task = 0; index = 0; deadline = 0 }), record { each = All-nil IsInRangeRelease; counted = lit≤ tt; named = record { task = lit≤ tt; index = lit≤ tt; deadline = lit≤ tt } }, refl)
 some_of kinds.UtilisationOne is = (UtilisationOne [], (All-nil IsInRangeRatio, lit≤ tt), refl)
@@ -502,26 +502,26 @@ some_of kinds.FixedStates is = (FixedStates [] [], ((All-nil IsInRangeTail, lit�
 some_of kinds.FixedNo is = (FixedNo [] (record { task = 0; index = 0; deadline = 0 }), record { each = All-nil IsInRangeRelease; counted = lit≤ tt; named = record { task = lit≤ tt; index = lit≤ tt; deadline = lit≤ tt } }, refl)
 some_of kinds.Undecided is = (Undecided, tt, refl)
 
-pub kind_stop : {bytes : List ℕ} {e : Stop} → IsStop (λ y. written_line (kind_line y)) IsAny bytes e → IsStop (λ x. written (evidence_lines x)) IsInRange bytes e
-kind_stop {bytes} i = stop kind_of below_kind kind_parts some_of (start (λ x. written (evidence_lines x)) IsInRange bytes) i
+pub kind_stop : {bytes : List ℕ} {e : Stop} → IsStop (λ y. written_line (kind_line y)) IsAny bytes e → IsStop (λ x. written (evidence_lines x)) IsEvidenceInRange bytes e
+kind_stop {bytes} i = stop kind_of below_kind kind_parts some_of (start (λ x. written (evidence_lines x)) IsEvidenceInRange bytes) i
 
-kind_at : {bytes mid : List ℕ} {k : KindOfEvidence} → ReadsBlock (λ y. written_line (kind_line y)) IsAny bytes k mid → At (λ x. written (evidence_lines x)) IsInRange (λ x. IsInRange x × (kind_of x ≡ k)) below_kind bytes mid
-kind_at {bytes} r = next kind_of below_kind kind_parts (start (λ x. written (evidence_lines x)) IsInRange bytes) r
+kind_at : {bytes mid : List ℕ} {k : KindOfEvidence} → ReadsBlock (λ y. written_line (kind_line y)) IsAny bytes k mid → At (λ x. written (evidence_lines x)) IsEvidenceInRange (λ x. IsEvidenceInRange x × (kind_of x ≡ k)) below_kind bytes mid
+kind_at {bytes} r = next kind_of below_kind kind_parts (start (λ x. written (evidence_lines x)) IsEvidenceInRange bytes) r
 
 pub body_stop : {bytes mid : List ℕ} {k : KindOfEvidence} {e : Stop} → ReadsBlock (λ y. written_line (kind_line y)) IsAny bytes k mid → IsStop (λ x. written (body_lines x)) (IsOfKind k) mid e
-    → IsStop (λ x. written (evidence_lines x)) IsInRange bytes e
+    → IsStop (λ x. written (evidence_lines x)) IsEvidenceInRange bytes e
 body_stop r i = stop (λ (x : Evidence). x) (λ x. close_block tt) (λ x is. (is, refl)) (λ v is. (v, is, refl)) (kind_at r) i
 
 body_at : {bytes mid rest : List ℕ} {k : KindOfEvidence} {v : Evidence} → ReadsBlock (λ y. written_line (kind_line y)) IsAny bytes k mid → ReadsBlock (λ x. written (body_lines x)) (IsOfKind k) mid v rest
-    → At (λ x. written (evidence_lines x)) IsInRange (λ x. (IsInRange x × (kind_of x ≡ k)) × (x ≡ v)) (λ x. close_block tt) bytes rest
+    → At (λ x. written (evidence_lines x)) IsEvidenceInRange (λ x. (IsEvidenceInRange x × (kind_of x ≡ k)) × (x ≡ v)) (λ x. close_block tt) bytes rest
 body_at r q = next (λ (x : Evidence). x) (λ x. close_block tt) (λ x is. (is, refl)) (kind_at r) q
 
 pub last_stop : {bytes mid rest : List ℕ} {k : KindOfEvidence} {v : Evidence} {e : Stop} → ReadsBlock (λ y. written_line (kind_line y)) IsAny bytes k mid → ReadsBlock (λ x. written (body_lines x)) (IsOfKind k) mid v rest
-    → IsStop close_block IsAny rest e → IsStop (λ x. written (evidence_lines x)) IsInRange bytes e
+    → IsStop close_block IsAny rest e → IsStop (λ x. written (evidence_lines x)) IsEvidenceInRange bytes e
 last_stop {v = v} r q i = stop (λ (x : Evidence). tt) (λ x. []) (λ x is. (tt, sym (append-nil (close_block tt)))) (λ u is. (v, (q.is, refl), refl)) (body_at r q) i
 
 pub evidence_read : {bytes mid rest end : List ℕ} {k : KindOfEvidence} {v : Evidence} {u : Unit {0}} → ReadsBlock (λ y. written_line (kind_line y)) IsAny bytes k mid → ReadsBlock (λ x. written (body_lines x)) (IsOfKind k) mid v rest
-    → ReadsBlock close_block IsAny rest u end → ReadsBlock (λ x. written (evidence_lines x)) IsInRange bytes v end
+    → ReadsBlock close_block IsAny rest u end → ReadsBlock (λ x. written (evidence_lines x)) IsEvidenceInRange bytes v end
 evidence_read {v = v} r q l =
     done (next (λ (x : Evidence). tt) (λ x. []) (λ x is. (tt, sym (append-nil (close_block tt)))) (body_at r q) l) v ((q.is, refl), refl) refl (λ y is. is.0.1)
 

@@ -19,7 +19,7 @@ use Rattle.drt_evidence.specs.Fields.{behind}
 use Rattle.drt_claims.specs.Ranges.{IsNumber, IsTick, IsWork, IsInRangeEntry, IsInRangeItem, IsInRangeMiss, IsInRangePair, IsInRangePotential, IsInRangeProof, IsInRangeRelease}
 use Rattle.drt_claims.specs.Ranges.{IsInRangeCurve, IsInRangeState}
 use Rattle.drt_evidence.specs.Text.{count_line, curve_line, end_fields, entry_line, item_field, jump_fields, miss_line, pair_line, proof_line, release_line, state_entry_fields, state_line}
-use Rattle.drt_evidence.specs.LineForms.{AreBoth, AreCounted, IsForm, IsNoForm, IsInRangeWritten, IsInRangeWrittenSearch, list_form, numbers_line, pair_form}
+use Rattle.drt_evidence.specs.LineForms.{AreBoth, AreItemsCounted, IsForm, IsNoForm, IsInRangeWritten, IsInRangeWrittenSearch, list_form, numbers_line, pair_form}
 use Rattle.drt_evidence.specs.LineForms.{potentials_line, written_ratio_line, written_search_line}
 use Rattle.drt_evidence.proofs.Claims.{behind_flat, work_and_end}
 use Rattle.drt_evidence.proofs.Joins.{join_behind}
@@ -125,13 +125,13 @@ release_shape = record {
 listed : {A : Type 0} (f : A → List ℕ) (xs : List A) → join_with_byte 32 (decimal (length (map f xs)) ∷ map f xs) ≡ list_form f xs
 listed f xs = join_behind (decimal (length (map f xs))) (map f xs) ∙ ap (λ n. decimal n ++ behind (map f xs)) (length-map xs f)
 
-pub numbers_shape : (word : List ℕ) → IsShape word (list_form decimal) (AreCounted IsNumber) (numbers_line word) (AreCounted IsNumber) (λ xs. xs)
+pub numbers_shape : (word : List ℕ) → IsShape word (list_form decimal) (AreItemsCounted IsNumber) (numbers_line word) (AreItemsCounted IsNumber) (λ xs. xs)
 numbers_shape word = record { fields_are = λ y. ap (λ t. word ++ 32 ∷ t) (listed decimal y); ranges = λ y r. r; back = λ y r. r; one = λ x y e. e }
 
-pub potentials_shape : IsShape (codes "potentials") (list_form signed_decimal) (AreCounted IsInRangePotential) potentials_line (AreCounted IsInRangePotential) (λ xs. xs)
+pub potentials_shape : IsShape (codes "potentials") (list_form signed_decimal) (AreItemsCounted IsInRangePotential) potentials_line (AreItemsCounted IsInRangePotential) (λ xs. xs)
 potentials_shape = record { fields_are = λ y. ap (λ t. codes "potentials" ++ 32 ∷ t) (listed signed_decimal y); ranges = λ y r. r; back = λ y r. r; one = λ x y e. e }
 
-pub proof_shape : IsShape (codes "proof") (pair_form decimal (pair_form decimal (list_form item_field))) (AreBoth IsNumber (AreBoth IsNumber (AreCounted IsInRangeItem))) proof_line IsInRangeProof
+pub proof_shape : IsShape (codes "proof") (pair_form decimal (pair_form decimal (list_form item_field))) (AreBoth IsNumber (AreBoth IsNumber (AreItemsCounted IsInRangeItem))) proof_line IsInRangeProof
     (λ (p : ProofClaim). (p.task, (p.vertex, p.items)))
 proof_shape = record {
   fields_are = λ y. ap (λ t. codes "proof" ++ 32 ∷ (decimal y.task ++ 32 ∷ (decimal y.vertex ++ 32 ∷ t))) (join_behind (decimal (length y.items)) (map item_field y.items));

@@ -17,11 +17,11 @@ use Rattle.drt_file.proofs.Fronts.{one_front}
 use Rattle.drt_evidence.specs.Blocks.{AreNamed, IsOfKind, IsSet, close_block, counted, in_turn, named_block}
 use Rattle.drt_evidence.specs.Cuts.{AreStateParts, IsSpaced, counted_form, end_form, entry_form, join_form, jump_form, spaced_form, state_form}
 use Rattle.drt_evidence.specs.Fields.{behind}
-use Rattle.drt_evidence.specs.LineForms.{AreBoth, AreCounted, IsAny, IsFieldForm, kind_line, IsInRangeWritten, IsInRangeWrittenSearch, itself, kind_of, list_form}
+use Rattle.drt_evidence.specs.LineForms.{AreBoth, AreItemsCounted, IsAny, IsFieldForm, kind_line, IsInRangeWritten, IsInRangeWrittenSearch, itself, kind_of, list_form}
 use Rattle.drt_evidence.specs.LineForms.{numbers_line, pair_form, policy_line, potentials_line, written_ratio_line}
-use Rattle.drt_claims.specs.Ranges.{IsInRange, IsInRangeEntry, IsInRangeFront, IsInRangeItem, IsInRangeMiss, IsInRangePair, IsInRangePotential, IsInRangeProof, IsInRangeRatio, IsInRangeRelease, IsInRangeTree, IsInRangeWalk, IsNumber, IsTick}
+use Rattle.drt_claims.specs.Ranges.{IsEvidenceInRange, IsInRangeEntry, IsInRangeFront, IsInRangeItem, IsInRangeMiss, IsInRangePair, IsInRangePotential, IsInRangeProof, IsInRangeRatio, IsInRangeRelease, IsInRangeTree, IsInRangeWalk, IsNumber, IsTick}
 use Rattle.drt_claims.specs.Ranges.{IsInRangeCurve, IsInRangeEnd, IsInRangeJump, IsInRangeSearch, IsInRangeState, IsInRangeStateEntry, IsInRangeTail, IsWork}
-use Rattle.drt_evidence.specs.Reading.{IsTextOf}
+use Rattle.drt_evidence.specs.Reading.{IsDossierText}
 use Rattle.drt_evidence.specs.Some.{entry_spaced, jump_spaced}
 use Rattle.drt_claims.specs.Statement.{IsStated, Statement}
 use Rattle.drt_evidence.specs.Text.{body_lines, count_line, entry_line, evidence_lines, front_block, front_lines, head_lines, item_field, miss_line, pair_line, proof_block, proof_line, ratio_block, ratio_lines, release_line, text, tree_block, tree_lines, walk_line}
@@ -89,7 +89,7 @@ each_tells f P none one (x ∷ xs) (y ∷ ys) ix iy e =
     let r = cut_same (f x) (f y) (behind (map f xs)) (behind (map f ys)) (none x px) (none y py) (fields_behind (map f xs)) (fields_behind (map f ys)) tail in
     ap (λ z. z ∷ ys) (one x y px py r.0) ∙ ap (λ zs. x ∷ zs) (each_tells f P none one xs ys (All-tail P x xs ix) (All-tail P y ys iy) r.1)
 
-list_tells : {A : Type 0} (f : A → List ℕ) (P : A → Type 0) → IsFieldForm f P → Tells f P → Tells (list_form f) (AreCounted P)
+list_tells : {A : Type 0} (f : A → List ℕ) (P : A → Type 0) → IsFieldForm f P → Tells f P → Tells (list_form f) (AreItemsCounted P)
 list_tells f P none one xs ys ix iy e =
     let r = cut_same (decimal (length xs)) (decimal (length ys)) (behind (map f xs)) (behind (map f ys)) (number_no_space (length xs) ix.1) (number_no_space (length ys) iy.1)
     (fields_behind (map f xs)) (fields_behind (map f ys)) e in
@@ -152,7 +152,7 @@ turn_tells {A} f P opened one (x ∷ xs) (y ∷ ys) s t size ix iy bs bt e =
 both_same : {A B : Type 0} {x y : A} {s t : B} → (y ≡ x) × (t ≡ s) → ◌≡◌ {A = A × B} (y, t) (x, s)
 both_same {x = x} {t = t} (first, second) = ap (λ a. (a, t)) first ∙ ap (λ b. (x, b)) second
 
-counted_tells : {A : Type 0} (f : A → List ℕ) (P : A → Type 0) → IsOpened f → TellsCut f P → TellsCut (counted_form f) (AreCounted P)
+counted_tells : {A : Type 0} (f : A → List ℕ) (P : A → Type 0) → IsOpened f → TellsCut f P → TellsCut (counted_form f) (AreItemsCounted P)
 counted_tells {A} f P opened one (xs, s) (ys, t) ix iy e =
     let count = λ (zs : List A). 32 ∷ decimal (length zs) in
     let cut : count xs ++ (in_turn f xs ++ s) ≡ count ys ++ (in_turn f ys ++ t) = sym (append_assoc (count xs) (in_turn f xs) s) ∙ e ∙ append_assoc (count ys) (in_turn f ys) t in
@@ -209,7 +209,7 @@ turn_alone T D alone (x ∷ xs) (y ∷ ys) s t size ix iy e =
 count_alone : (word : List ℕ) → IsLine (count_line word) IsNumber → Alone (λ n. written_line (count_line word n)) IsNumber
 count_alone word kind = shape_alone (count_shape word) kind number_tells
 
-counted_alone : {X : Type 0} (word : List ℕ) (T : X → List ℕ) (D : X → Type 0) → IsLine (count_line word) IsNumber → Alone T D → Alone (counted word T) (AreCounted D)
+counted_alone : {X : Type 0} (word : List ℕ) (T : X → List ℕ) (D : X → Type 0) → IsLine (count_line word) IsNumber → Alone T D → Alone (counted word T) (AreItemsCounted D)
 counted_alone word T D kind alone xs ys s t ix iy e =
     let line = λ (n : ℕ). written_line (count_line word n) in
     let cut : line (length xs) ++ (in_turn T xs ++ s) ≡ line (length ys) ++ (in_turn T ys ++ t) = sym (append_assoc (line (length xs)) (in_turn T xs) s) ∙ e ∙ append_assoc (line (length ys)) (in_turn T ys) t in
@@ -250,17 +250,17 @@ miss_alone =
 pair_alone : Alone (λ p. written_line (pair_line p)) IsInRangePair
 pair_alone = shape_alone pair_shape pair_kind (pair_tells decimal IsNumber decimal IsNumber number_no_space number_tells number_tells)
 
-numbers_alone : (word : List ℕ) → IsLine (numbers_line word) (AreCounted IsNumber) → Alone (λ xs. written_line (numbers_line word xs)) (AreCounted IsNumber)
+numbers_alone : (word : List ℕ) → IsLine (numbers_line word) (AreItemsCounted IsNumber) → Alone (λ xs. written_line (numbers_line word xs)) (AreItemsCounted IsNumber)
 numbers_alone word kind = shape_alone (numbers_shape word) kind (list_tells decimal IsNumber number_no_space number_tells)
 
-potentials_alone : Alone (λ xs. written_line (potentials_line xs)) (AreCounted IsInRangePotential)
+potentials_alone : Alone (λ xs. written_line (potentials_line xs)) (AreItemsCounted IsInRangePotential)
 potentials_alone = shape_alone potentials_shape potentials_kind (list_tells signed_decimal IsInRangePotential potential_no_space signed_tells)
 
 proof_alone : Alone (λ p. written_line (proof_line p)) IsInRangeProof
 proof_alone =
     shape_alone proof_shape proof_kind
-    (pair_tells decimal IsNumber (pair_form decimal (list_form item_field)) (AreBoth IsNumber (AreCounted IsInRangeItem)) number_no_space number_tells
-    (pair_tells decimal IsNumber (list_form item_field) (AreCounted IsInRangeItem) number_no_space number_tells (list_tells item_field IsInRangeItem item_no_space item_tells)))
+    (pair_tells decimal IsNumber (pair_form decimal (list_form item_field)) (AreBoth IsNumber (AreItemsCounted IsInRangeItem)) number_no_space number_tells
+    (pair_tells decimal IsNumber (list_form item_field) (AreItemsCounted IsInRangeItem) number_no_space number_tells (list_tells item_field IsInRangeItem item_no_space item_tells)))
 
 -- The lines of tails and searches.
 cut_number_tells : TellsCut (spaced_form decimal) IsNumber
@@ -307,7 +307,7 @@ curve_alone =
 
 state_tells : Tells state_form AreStateParts
 state_tells =
-    join_tells (counted_form entry_form) (AreCounted IsInRangeStateEntry) work_and_end (AreBoth IsWork IsInRangeEnd) (λ y is. refl)
+    join_tells (counted_form entry_form) (AreItemsCounted IsInRangeStateEntry) work_and_end (AreBoth IsWork IsInRangeEnd) (λ y is. refl)
     (counted_tells entry_form IsInRangeStateEntry entry_spaced entry_tells) (join_tells (spaced_form decimal) IsWork end_form IsInRangeEnd end_opened cut_work_tells end_tells)
 
 state_alone : Alone one_state IsInRangeState
@@ -370,22 +370,22 @@ search_alone x y s t ix iy e =
     = turn_alone one_state IsInRangeState state_alone x.states y.states s t size (recursion_from_All IsInRangeState x.states ix.states) (recursion_from_All IsInRangeState y.states iy.states) tail in
     ap (λ (o : WrittenSearch). search_with o y.states) first ∙ ap (λ zs. search_with (opening_of x) zs) states
 
-tails_alone : Alone (λ ts. written (tail_block ts)) (AreCounted IsInRangeTail)
+tails_alone : Alone (λ ts. written (tail_block ts)) (AreItemsCounted IsInRangeTail)
 tails_alone = alone_as tails_same (counted_alone (codes "tails") (λ t. written (tail_lines t)) IsInRangeTail (word_count (codes "tails") refl) tail_alone)
 
-searches_alone : Alone (λ ss. written (search_block ss)) (AreCounted IsInRangeSearch)
+searches_alone : Alone (λ ss. written (search_block ss)) (AreItemsCounted IsInRangeSearch)
 searches_alone = alone_as searches_same (counted_alone (codes "searches") (λ s. written (search_lines s)) IsInRangeSearch (word_count (codes "searches") refl) search_alone)
 
-ratios_alone : Alone (λ rs. written (ratio_block rs)) (AreCounted IsInRangeRatio)
+ratios_alone : Alone (λ rs. written (ratio_block rs)) (AreItemsCounted IsInRangeRatio)
 ratios_alone = alone_as ratios_same (counted_alone (codes "ratios") (λ c. written (ratio_lines c)) IsInRangeRatio (word_count (codes "ratios") refl) ratio_alone)
 
-fronts_alone : Alone (λ fs. written (front_block fs)) (AreCounted IsInRangeFront)
+fronts_alone : Alone (λ fs. written (front_block fs)) (AreItemsCounted IsInRangeFront)
 fronts_alone = alone_as fronts_same (counted_alone (codes "fronts") (λ f. written (front_lines f)) IsInRangeFront (word_count (codes "fronts") refl) front_alone)
 
-trees_alone : Alone (λ ts. written (tree_block ts)) (AreCounted IsInRangeTree)
+trees_alone : Alone (λ ts. written (tree_block ts)) (AreItemsCounted IsInRangeTree)
 trees_alone = alone_as trees_same (counted_alone (codes "trees") (λ t. written (tree_lines t)) IsInRangeTree (word_count (codes "trees") refl) tree_alone)
 
-proofs_alone : Alone (λ ps. written (proof_block ps)) (AreCounted IsInRangeProof)
+proofs_alone : Alone (λ ps. written (proof_block ps)) (AreItemsCounted IsInRangeProof)
 proofs_alone = alone_as proofs_same (counted_alone (codes "proofs") (λ p. written_line (proof_line p)) IsInRangeProof (word_count (codes "proofs") refl) proof_alone)
 
 named_alone : Alone named_block AreNamed
@@ -458,7 +458,7 @@ kind_tells kinds.Undecided kinds.Undecided ix iy e = refl
 kind_alone : Alone (λ k. written_line (kind_line k)) IsAny
 kind_alone = line_alone kind_line IsAny kind_kind kind_tells
 
-evidence_alone : Alone (λ e. written (evidence_lines e)) IsInRange
+evidence_alone : Alone (λ e. written (evidence_lines e)) IsEvidenceInRange
 evidence_alone x y s t ix iy e =
     let line = λ (k : KindOfEvidence). written_line (kind_line k) in
     let below = λ (z : Evidence). written (body_lines z) ++ close_block tt in
@@ -479,5 +479,5 @@ pub text_alone : Alone text IsStated
 text_alone = two_alone dossier_parts head_alone (two_alone below_parts set_alone evidence_alone)
 
 -- Bytes are the text of one dossier at most.
-pub one_dossier : (bytes : List ℕ) (first second : Statement) → IsTextOf first bytes → IsTextOf second bytes → first ≡ second
+pub one_dossier : (bytes : List ℕ) (first second : Statement) → IsDossierText first bytes → IsDossierText second bytes → first ≡ second
 one_dossier bytes first second a b = sym (text_alone first second [] [] a.stated b.stated (ap (λ w. w ++ []) (sym a.is ∙ b.is)))

@@ -7,7 +7,7 @@ use Rattle.drt_model.specs.declared.jobs.Release.{Release}
 use Rattle.drt_model.specs.declared.jobs.Miss.{Miss}
 use Rattle.drt_model.specs.Contents.{Contents}
 use Rattle.drt_model.specs.Limits.{IsTaskSet}
-use Rattle.drt_claims.specs.Ranges.{AreInRangeReleases, IsInRange}
+use Rattle.drt_claims.specs.Ranges.{AreInRangeReleases, IsEvidenceInRange}
 use Rattle.drt_evidence.specs.LineForms.{kind_of}
 use Rattle.drt_claims.specs.declared.evidence.Evidence.{Evidence}
 use Rattle.drt_evidence.specs.declared.reading.line_forms.KindOfEvidence.{KindOfEvidence}
@@ -75,7 +75,7 @@ close_block u = written_line (word_line (codes "close"))
 
 -- Evidence of a kind, with its numbers in range.
 abbrev pub IsOfKind : KindOfEvidence → Evidence → Type 0
-IsOfKind kind evidence = IsInRange evidence × (kind_of evidence ≡ kind)
+IsOfKind kind evidence = IsEvidenceInRange evidence × (kind_of evidence ≡ kind)
 
 -- A set keeps the limits of its version.
 abbrev pub IsSet : Contents → Type 0
@@ -91,13 +91,13 @@ pub record IsBehind (bytes : List ℕ) (line left : ℕ) : Type 0 where
   pub line_is : length ls + 1 ≡ line
 
 -- Releases, and the miss of one of their jobs.
-abbrev pub Named : Type 0
-Named = List Release × Miss
+abbrev pub NamedMiss : Type 0
+NamedMiss = List Release × Miss
 
 -- The block of releases and a miss.
-abbrev pub named_block : Named → List ℕ
+abbrev pub named_block : NamedMiss → List ℕ
 named_block p = written (release_block p.0 p.1)
 
 -- Releases and a miss have their numbers in range.
-abbrev pub AreNamed : Named → Type 0
+abbrev pub AreNamed : NamedMiss → Type 0
 AreNamed p = AreInRangeReleases p.0 p.1

@@ -6,7 +6,7 @@ use Rattle.drt_states.specs.declared.claims.Jump.{Jump}
 use Rattle.drt_states.specs.declared.claims.StateEnd.{StateEnd}
 use Rattle.drt_states.specs.declared.claims.StateEntry.{StateEntry}
 use Rattle.drt_evidence.specs.Fields.{behind}
-use Rattle.drt_evidence.specs.LineForms.{AreBoth, AreCounted, IsForm, IsNoForm, itself, spaced}
+use Rattle.drt_evidence.specs.LineForms.{AreBoth, AreItemsCounted, IsForm, IsNoForm, itself, spaced}
 use Rattle.drt_claims.specs.Ranges.{IsInRangeEnd, IsInRangeStateEntry, IsWork}
 use Rattle.drt_evidence.specs.Text.{end_fields, jump_fields, state_entry_fields}
 
@@ -25,8 +25,8 @@ join_form f g p = f p.0 ++ g p.1
 
 -- The form of a value stands at the front of the bytes, and the rest behind it. The bytes are the form of no other value in range with
 -- a space or nothing behind it.
-abbrev pub IsCut : {A : Type 0} → (A → List ℕ) → (A → Type 0) → List ℕ → A → List ℕ → Type 0
-IsCut form In bytes x rest = IsForm (join_form form itself) (AreBoth In IsSpaced) bytes (x, rest)
+abbrev pub IsFormCut : {A : Type 0} → (A → List ℕ) → (A → Type 0) → List ℕ → A → List ℕ → Type 0
+IsFormCut form In bytes x rest = IsForm (join_form form itself) (AreBoth In IsSpaced) bytes (x, rest)
 
 -- The bytes are the form of no value in range with a space or nothing behind it.
 abbrev pub IsNoCut : {A : Type 0} → (A → List ℕ) → (A → Type 0) → List ℕ → Type 0
@@ -62,4 +62,4 @@ state_form p = join_form (counted_form entry_form) (join_form (spaced_form decim
 
 -- The parts of a state are in range.
 abbrev pub AreStateParts : StateParts → Type 0
-AreStateParts p = AreBoth (AreCounted IsInRangeStateEntry) (AreBoth IsWork IsInRangeEnd) p
+AreStateParts p = AreBoth (AreItemsCounted IsInRangeStateEntry) (AreBoth IsWork IsInRangeEnd) p

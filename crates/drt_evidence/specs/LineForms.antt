@@ -71,8 +71,8 @@ abbrev pub list_form : {A : Type 0} → (A → List ℕ) → List A → List ℕ
 list_form f xs = decimal (length xs) ++ behind (map f xs)
 
 -- The items of a list are in range, and counted.
-abbrev pub AreCounted : {A : Type 0} → (A → Type 0) → List A → Type 0
-AreCounted P xs = All P xs × IsCounted xs
+abbrev pub AreItemsCounted : {A : Type 0} → (A → Type 0) → List A → Type 0
+AreItemsCounted P xs = All P xs × IsCounted xs
 
 -- The line of a policy.
 abbrev pub policy_line : Policy → List (List ℕ)

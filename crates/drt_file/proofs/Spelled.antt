@@ -9,7 +9,7 @@ use Rattle.drt_model.specs.declared.tasks.Vertex.{Vertex}
 use Rattle.drt_model.specs.declared.tasks.Edge.{Edge}
 use Rattle.drt_model.specs.declared.tasks.Task.{Task}
 use Rattle.drt_model.specs.Contents.{Contents}
-use Rattle.drt_model.specs.Limits.{IsVersion, IsName, IsTime, IsPriority, IsVertex, IsEdgeAmong, IsTask, IsTaskSet, AreInOrder, most_tasks}
+use Rattle.drt_model.specs.Limits.{IsVersion, IsName, IsTime, IsPriority, IsVertex, IsEdgeAmong, IsTask, IsTaskSet, AreInPriorityOrder, most_tasks}
 use Rattle.drt_file.specs.declared.state.Draft.{Draft}
 use Rattle.drt_file.specs.declared.state.State.{State}
 use Rattle.drt_file.specs.declared.state.Kind.TheVariants as kinds
@@ -51,7 +51,7 @@ pub record Few (version : ℕ) (ts : List Task) : Type 0 where
   pub names : Pairwise (λ s t. s.name ≢ t.name) ts
   pub priorities : Pairwise (λ s t. s.priority ≢ t.priority) ts
   pub few : length ts ≤ most_tasks version
-  pub in_order : AreInOrder version ts
+  pub in_order : AreInPriorityOrder version ts
 
 get_front : (ts : List Task) (t : Task) (i : ℕ) (u : Task) → slice_get ts i ≡ Some u → slice_get (ts ++ t ∷ []) i ≡ Some u
 get_front [] t i u e = absurd (cc)

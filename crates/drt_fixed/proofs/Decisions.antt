@@ -3,7 +3,7 @@ use Rattle.std.proofs.Common.{inr, refl}
 use Rattle.drt_model.specs.Contents.{Contents}
 use Rattle.drt_model.specs.Schedulable.{Schedulable}
 use Rattle.drt_model.specs.declared.jobs.Policy.TheVariants.{Fixed}
-use Rattle.drt_claims.specs.Ranges.{IsInRange}
+use Rattle.drt_claims.specs.Ranges.{IsEvidenceInRange}
 use Rattle.drt_claims.specs.declared.evidence.Evidence.{Evidence}
 use Rattle.drt_claims.specs.declared.evidence.Evidence.TheVariants.{EdfYes, EdfNo, UtilisationOne, FixedYes, FixedStates, FixedNo, Undecided}
 use Rattle.drt_check.specs.Judging.{IsClaimed}
@@ -12,7 +12,7 @@ use Rattle.drt_sp.specs.Evidence.{under_fixed}
 use Rattle.drt_fixed.specs.Answers.{IsDecision, IsOfStates}
 
 -- A yes.
-pub yes_decided : (set : Contents) (evidence : Evidence) → IsOfStates set.tasks evidence → IsInRange evidence → IsClaimed (under_fixed set evidence) judgements.Schedulable
+pub yes_decided : (set : Contents) (evidence : Evidence) → IsOfStates set.tasks evidence → IsEvidenceInRange evidence → IsClaimed (under_fixed set evidence) judgements.Schedulable
     → Schedulable set.tasks Fixed → IsDecision set evidence
 yes_decided set (EdfYes ratios fronts) kind range claimed is = absurd kind
 yes_decided set (EdfNo releases miss) kind range claimed is = absurd kind
@@ -26,7 +26,7 @@ yes_decided set (FixedNo releases miss) kind range claimed is = let e = claimed.
 yes_decided set Undecided kind range claimed is = absurd kind
 
 -- A no.
-pub no_decided : (set : Contents) (evidence : Evidence) → IsOfStates set.tasks evidence → IsInRange evidence → IsClaimed (under_fixed set evidence) judgements.Unschedulable
+pub no_decided : (set : Contents) (evidence : Evidence) → IsOfStates set.tasks evidence → IsEvidenceInRange evidence → IsClaimed (under_fixed set evidence) judgements.Unschedulable
     → ¬ Schedulable set.tasks Fixed → IsDecision set evidence
 no_decided set (EdfYes ratios fronts) kind range claimed not = absurd kind
 no_decided set (EdfNo releases miss) kind range claimed not = absurd kind

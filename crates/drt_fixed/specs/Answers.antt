@@ -7,13 +7,13 @@ use Rattle.drt_model.specs.declared.jobs.Release.{Release}
 use Rattle.drt_model.specs.declared.tasks.Task.{Task}
 use Rattle.drt_model.specs.Schedulable.{Schedulable}
 use Rattle.drt_claims.specs.Kinds.{HasStates, HasTrees}
-use Rattle.drt_claims.specs.Ranges.{IsInRange}
+use Rattle.drt_claims.specs.Ranges.{IsEvidenceInRange}
 use Rattle.drt_claims.specs.Rules.{Accepts}
 use Rattle.drt_claims.specs.declared.evidence.Evidence.{Evidence}
 use Rattle.drt_claims.specs.declared.evidence.Evidence.TheVariants.{FixedYes, FixedStates, FixedNo, Undecided}
 use Rattle.drt_claims.specs.declared.evidence.ProofClaim.{ProofClaim}
 use Rattle.drt_claims.specs.declared.evidence.TreeClaim.{TreeClaim}
-use Rattle.drt_sp.specs.Answers.{AreOfWalks, IsExactYes, IsUndecided}
+use Rattle.drt_sp.specs.Answers.{AreOfWalks, IsExactTreeYes, IsTreeUndecided}
 use Rattle.drt_sp.specs.Evidence.{under_fixed}
 use Rattle.drt_trails.specs.declared.FixedTrail.{FixedTrail}
 use Rattle.drt_fixed.specs.declared.analysis.Analysed.{Analysed}
@@ -23,7 +23,7 @@ pub record IsYes (set : Contents) (evidence : Evidence) : Type 0 where
   pub schedulable : Schedulable set.tasks Fixed
   pub accepted : Accepts (under_fixed set evidence)
   pub kind : HasTrees evidence ⊎ HasStates evidence
-  pub exact : (trees : List TreeClaim) (proofs : List ProofClaim) → evidence ≡ FixedYes trees proofs → IsExactYes set trees proofs
+  pub exact : (trees : List TreeClaim) (proofs : List ProofClaim) → evidence ≡ FixedYes trees proofs → IsExactTreeYes set trees proofs
 
 -- A no: the set isn't schedulable, and the evidence is accepted: the releases are legal, and the named job misses. They are those of walks.
 pub record IsNo (set : Contents) (releases : List Release) (miss : Miss) : Type 0 where
@@ -37,7 +37,7 @@ abbrev pub IsSaid : Contents → ℕ → Evidence → Option FixedTrail → Type
 IsSaid set budget (FixedYes trees proofs) trail = (trail ≡ None) × IsYes set (FixedYes trees proofs)
 IsSaid set budget (FixedStates tails searches) trail = (trail ≡ None) × IsYes set (FixedStates tails searches)
 IsSaid set budget (FixedNo releases miss) trail = (trail ≡ None) × IsNo set releases miss
-IsSaid set budget Undecided trail = (spent : FixedTrail) × (trail ≡ Some spent) × IsUndecided set budget spent
+IsSaid set budget Undecided trail = (spent : FixedTrail) × (trail ≡ Some spent) × IsTreeUndecided set budget spent
 IsSaid set budget other trail = ⊥
 
 -- The evidence is of a kind that states give. The releases of a no are those of walks.
@@ -48,7 +48,7 @@ IsOfStates tasks other = ⊥
 
 -- The evidence is in range, and a yes or a no for the set.
 pub record IsDecision (set : Contents) (evidence : Evidence) : Type 0 where
-  pub in_range : IsInRange evidence
+  pub in_range : IsEvidenceInRange evidence
   pub says : (budget : ℕ) → IsSaid set budget evidence None
 
 -- What tails and states give: evidence that decides, or nothing.
@@ -57,5 +57,5 @@ IsByStates set found = IfSome found (IsDecision set)
 
 -- The evidence is in range, and says this of the set, with the trail.
 pub record IsAnalysed (set : Contents) (budget : ℕ) (answer : Analysed) : Type 0 where
-  pub in_range : IsInRange answer.evidence
+  pub in_range : IsEvidenceInRange answer.evidence
   pub says : IsSaid set budget answer.evidence answer.trail

@@ -25,13 +25,13 @@ abbrev pub graphs_given : Given → List Digraph
 graphs_given g = graphs_of g.set.now.tasks
 
 -- The order has numbers of the set's tasks, the tails rise, and the crests are theirs.
-pub record IsGiven (g : Given) : Type 0 where
+pub record IsSearchGiven (g : Given) : Type 0 where
   pub order : AreTasks (graphs_given g) g.order.now
   pub tails : All HasRisingCurves g.tails.now
   pub crests : AreCrests g.tails.now g.crests.now
 
 -- The vertex is one of the task at its place of the order, with its deadline, which is within the limits of a set.
-pub record IsPlaced (g : Given) (v : PlacedVertex) : Type 0 where
+pub record IsVertexPlaced (g : Given) (v : PlacedVertex) : Type 0 where
   pub place : v.place < length g.order.now
   pub task : v.at.task < length g.set.now.tasks
   pub vertex : v.at.vertex < vertex_count (graph_of (graphs_given g) v.at.task)
@@ -43,10 +43,10 @@ abbrev pub AreHigher : Given → PlacedVertex → List (List ℕ) → Type 0
 AreHigher g v walks = AllZip IsWalk (graphs_at (graphs_given g) (take v.place g.order.now)) walks
 
 -- What is found of a vertex: a miss has such walks.
-abbrev pub IsFoundAt : Given → PlacedVertex → Searched → Type 0
-IsFoundAt g v (Misses walks) = AreHigher g v walks
-IsFoundAt g v (Passes states) = Unit {0}
-IsFoundAt g v Spent = Unit {0}
+abbrev pub IsFoundVertex : Given → PlacedVertex → Searched → Type 0
+IsFoundVertex g v (Misses walks) = AreHigher g v walks
+IsFoundVertex g v (Passes states) = Unit {0}
+IsFoundVertex g v Spent = Unit {0}
 
 -- What stands for a vertex past the last one.
 abbrev pub no_vertex : PlacedVertex
@@ -54,7 +54,7 @@ no_vertex = record { place = 0; at = record { task = 0; vertex = 0; deadline = 0
 
 -- What is found of some vertices, the first of which has this number.
 abbrev pub AreFoundFrom : Given → List PlacedVertex → ℕ → List (Option Searched) → Type 0
-AreFoundFrom g vertices first found = AreThere (λ i searched. IsFoundAt g (slice_index_or vertices (first + i) no_vertex) searched) found
+AreFoundFrom g vertices first found = AreThere (λ i searched. IsFoundVertex g (slice_index_or vertices (first + i) no_vertex) searched) found
 
 -- A walk of task k beside vertex v of task j: where task k has no higher priority than task j, it is the vertex alone for task j itself, and no
 -- walk for another task.
@@ -64,6 +64,6 @@ pub record IsBeside (tasks : List Task) (j v k : ℕ) (walk : List ℕ) : Type 0
   pub alone : with_job tasks (λ i. walk) j v k ≡ walk
 
 -- A no that is found is one.
-abbrev pub IsFound : List Task → Found → Type 0
-IsFound tasks (Refusal evidence) = IsOfStates tasks evidence
-IsFound tasks found = Unit {0}
+abbrev pub IsFoundRefusal : List Task → Found → Type 0
+IsFoundRefusal tasks (Refusal evidence) = IsOfStates tasks evidence
+IsFoundRefusal tasks found = Unit {0}

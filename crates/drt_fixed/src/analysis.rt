@@ -1,8 +1,8 @@
 //! The analysis.
 ghost use Rattle.std.specs.Prelude.{◌≡◌, ℕ, ◌≤◌, IfOk};
 ghost use Rattle.drt_model.specs.Contents.{Contents};
-ghost use Rattle.drt_claims.specs.Ranges.{IsInRange};
-ghost use Rattle.drt_sp.specs.Answers.{IsUndecided, IsVerdict};
+ghost use Rattle.drt_claims.specs.Ranges.{IsEvidenceInRange};
+ghost use Rattle.drt_sp.specs.Answers.{IsTreeUndecided, IsTreeVerdict};
 ghost use Rattle.drt_sp.specs.Evidence.{under_fixed};
 ghost use Rattle.drt_fixed.specs.Answers.{IsAnalysed, IsByStates, IsDecision};
 
@@ -92,8 +92,8 @@ pub fn decide_by_states<G: Gate, R: Threads + Wait + Sync>(
 
 // The answer with this evidence by trees.
 fn decided(evidence: Evidence) -> Analysed
-    requires { IsInRange evidence }
-    ensures { (set : Contents) (budget : ℕ) → IsVerdict set evidence → IsAnalysed set budget result }
+    requires { IsEvidenceInRange evidence }
+    ensures { (set : Contents) (budget : ℕ) → IsTreeVerdict set evidence → IsAnalysed set budget result }
 {
     Analysed {
         evidence,
@@ -113,7 +113,7 @@ fn decided_by_states(evidence: Evidence) -> Analysed
 
 // That nothing is decided, and why.
 fn undecided(trail: FixedTrail) -> Analysed
-    ensures { (set : Contents) (budget : ℕ) → IsUndecided set budget trail → IsAnalysed set budget result }
+    ensures { (set : Contents) (budget : ℕ) → IsTreeUndecided set budget trail → IsAnalysed set budget result }
 {
     Analysed {
         evidence: Evidence::Undecided,
@@ -123,7 +123,7 @@ fn undecided(trail: FixedTrail) -> Analysed
 
 // The dossier of a set under fixed priorities with this evidence.
 fn dossier_of(set: TaskSet, evidence: Evidence) -> Dossier
-    requires { IsInRange evidence }
+    requires { IsEvidenceInRange evidence }
     ensures { result ≡ under_fixed set evidence }
 {
     Dossier {

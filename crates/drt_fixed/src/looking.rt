@@ -2,7 +2,7 @@
 ghost use Rattle.std.specs.Prelude.{◌≡◌, ◌<◌, ◌≤◌, All, IfOk, IfSome, List, length, slice_index_or};
 ghost use denote.Param.Send.{IsSync};
 ghost use Rattle.drt_ahead.specs.Found.{AreThere};
-ghost use Rattle.drt_fixed.specs.Searching.{AreFoundFrom, IsFoundAt, IsGiven, IsPlaced, no_vertex};
+ghost use Rattle.drt_fixed.specs.Searching.{AreFoundFrom, IsFoundVertex, IsSearchGiven, IsVertexPlaced, no_vertex};
 ghost use Rattle.drt_fixed.specs.declared.vertices.Given.{Given};
 ghost use Rattle.drt_fixed.specs.declared.vertices.PlacedVertex.{PlacedVertex};
 
@@ -47,7 +47,7 @@ impl Ahead {
     // What is found of the vertex of this number.
     fn take(&mut self, number: usize) -> Option<Searched>
         ensures ahead { (given : Given) (vertices : List PlacedVertex) → AreFoundFrom given vertices self.old.first self.old.found.items → AreFoundFrom given vertices self.new.first self.new.found.items }
-        ensures found { (given : Given) (vertices : List PlacedVertex) → AreFoundFrom given vertices self.old.first self.old.found.items → IfSome result (IsFoundAt given (slice_index_or vertices number no_vertex)) }
+        ensures found { (given : Given) (vertices : List PlacedVertex) → AreFoundFrom given vertices self.old.first self.old.found.items → IfSome result (IsFoundVertex given (slice_index_or vertices number no_vertex)) }
     {
         if number < self.first {
             return None;
@@ -77,12 +77,12 @@ pub(crate) fn search_next<G: Gate, R: Threads + Wait + Sync>(
     number: usize,
     ahead: &mut Ahead,
 ) -> Result<Searched, Memory>
-    requires given { IsGiven given }
-    requires vertices { All (IsPlaced given) vertices.now }
+    requires given { IsSearchGiven given }
+    requires vertices { All (IsVertexPlaced given) vertices.now }
     requires number { number < length vertices.now }
     requires ahead { AreFoundFrom given vertices.now ahead.old.first ahead.old.found.items }
     ensures ahead { IfOk result (λ searched. AreFoundFrom given.entry vertices.now ahead.new.first ahead.new.found.items) }
-    ensures found { IfOk result (IsFoundAt given.entry (slice_index_or vertices.now number no_vertex)) }
+    ensures found { IfOk result (IsFoundVertex given.entry (slice_index_or vertices.now number no_vertex)) }
 {
     look_from(crew, given, vertices, number, ahead)?;
     match ahead.take(number) {
@@ -101,10 +101,10 @@ fn search_at<G: Gate, R: Threads + Wait + Sync>(
     vertices: &[PlacedVertex],
     number: usize,
 ) -> Result<Searched, Memory>
-    requires given { IsGiven given }
-    requires vertices { All (IsPlaced given) vertices.now }
+    requires given { IsSearchGiven given }
+    requires vertices { All (IsVertexPlaced given) vertices.now }
     requires number { number < length vertices.now }
-    ensures { IfOk result (IsFoundAt given.entry (slice_index_or vertices.now number no_vertex)) }
+    ensures { IfOk result (IsFoundVertex given.entry (slice_index_or vertices.now number no_vertex)) }
 {
     search_vertex(crew, given, vertices[number])
 }
@@ -117,8 +117,8 @@ fn look_from<G: Gate, R: Threads + Wait + Sync>(
     number: usize,
     ahead: &mut Ahead,
 ) -> Result<(), Memory>
-    requires given { IsGiven given }
-    requires vertices { All (IsPlaced given) vertices.now }
+    requires given { IsSearchGiven given }
+    requires vertices { All (IsVertexPlaced given) vertices.now }
     requires number { number < length vertices.now }
     requires ahead { AreFoundFrom given vertices.now ahead.old.first ahead.old.found.items }
     ensures { IfOk result (λ none. AreFoundFrom given.entry vertices.now ahead.new.first ahead.new.found.items) }
@@ -140,16 +140,16 @@ fn search_ahead<G: Gate, R: Threads + Wait + Sync>(
     given: Given<'_>,
     left: &[PlacedVertex],
 ) -> Result<Vec<Option<Searched>>, Memory>
-    requires given { IsGiven given }
-    requires left { All (IsPlaced given) left.now }
-    ensures { IfOk result (λ found. AreThere (λ i searched. IsFoundAt given.entry (slice_index_or left.now i no_vertex) searched) found.items) }
+    requires given { IsSearchGiven given }
+    requires left { All (IsVertexPlaced given) left.now }
+    ensures { IfOk result (λ found. AreThere (λ i searched. IsFoundVertex given.entry (slice_index_or left.now i no_vertex) searched) found.items) }
 {
     let first = latest_first(crew.alloc, left)?;
     let alone = crew.with(crew.effort.alone().at_most(MOST_AHEAD));
     let alone = &alone;
     let job = move |place: u32| -> Result<Searched, Memory>
-        requires { IsSync R.row × IsSync G.row × IsGiven given × All (IsPlaced given) left.now × (place < length left.now) }
-        ensures { IfOk result (IsFoundAt given.entry (slice_index_or left.entry.now place no_vertex)) }
+        requires { IsSync R.row × IsSync G.row × IsSearchGiven given × All (IsVertexPlaced given) left.now × (place < length left.now) }
+        ensures { IfOk result (IsFoundVertex given.entry (slice_index_or left.entry.now place no_vertex)) }
     { search_at(alone, given, left, place as usize) };
     look_ahead(crew, first.as_slice(), job, is_last)
 }

@@ -1,6 +1,6 @@
 //! Whether the numbers of evidence are in range.
 ghost use Rattle.std.specs.Prelude.{◌↔◌, All, IsTrue};
-ghost use Rattle.drt_claims.specs.Ranges.{IsInRange, IsInRangeCurve, IsInRangeEnd, IsInRangeJump, IsInRangeMiss, IsInRangeRelease, IsInRangeSearch, IsInRangeState, IsInRangeStateEntry, IsInRangeTail, IsNumber};
+ghost use Rattle.drt_claims.specs.Ranges.{IsEvidenceInRange, IsInRangeCurve, IsInRangeEnd, IsInRangeJump, IsInRangeMiss, IsInRangeRelease, IsInRangeSearch, IsInRangeState, IsInRangeStateEntry, IsInRangeTail, IsNumber};
 
 use drt_claims::Evidence;
 use drt_model::{Miss, Release, Row};
@@ -15,7 +15,7 @@ const MOST_WORK: u64 = 2_000_000_000_000_000_000;
 
 /// Whether this is evidence by tails and states or of a no, with its numbers in range.
 pub(crate) fn is_in_range(evidence: &Evidence) -> bool
-    ensures { IsTrue result → IsInRange evidence.now }
+    ensures { IsTrue result → IsEvidenceInRange evidence.now }
 {
     match evidence {
         Evidence::FixedStates { tails, searches } => {

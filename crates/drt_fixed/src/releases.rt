@@ -7,7 +7,7 @@ ghost use Rattle.drt_busy.specs.Choice.{IsWalk};
 ghost use Rattle.drt_check_states.specs.Places.{graphs_at};
 ghost use Rattle.drt_releases.specs.Walks.{walk_at};
 ghost use Rattle.drt_fixed.specs.Answers.{IsOfStates};
-ghost use Rattle.drt_fixed.specs.Searching.{AreHigher, IsBeside, IsGiven, IsPlaced};
+ghost use Rattle.drt_fixed.specs.Searching.{AreHigher, IsBeside, IsSearchGiven, IsVertexPlaced};
 
 use crate::vertices::{Given, PlacedVertex};
 use drt_claims::Evidence;
@@ -26,8 +26,8 @@ pub(crate) fn refusal(
     walks: &[Row<u32>],
     vertex: PlacedVertex,
 ) -> Result<Evidence, Memory>
-    requires given { IsGiven given }
-    requires vertex { IsPlaced given vertex }
+    requires given { IsSearchGiven given }
+    requires vertex { IsVertexPlaced given vertex }
     requires walks { AreHigher given vertex walks.now }
     ensures { IfOk result (IsOfStates given.entry.set.now.tasks) }
 {
@@ -52,8 +52,8 @@ fn job_walks(
     walks: &[Row<u32>],
     vertex: PlacedVertex,
 ) -> Result<Vec<Row<u32>>, Memory>
-    requires given { IsGiven given }
-    requires vertex { IsPlaced given vertex }
+    requires given { IsSearchGiven given }
+    requires vertex { IsVertexPlaced given vertex }
     requires walks { AreHigher given vertex walks.now }
     ensures { IfOk result (λ chosen. (k : ℕ) → k < length given.entry.set.now.tasks → IsBeside given.entry.set.now.tasks vertex.at.task vertex.at.vertex k (walk_at chosen.items k)) }
 {
@@ -74,8 +74,8 @@ fn job_walk(
     vertex: PlacedVertex,
     k: u32,
 ) -> Result<Row<u32>, Memory>
-    requires given { IsGiven given }
-    requires vertex { IsPlaced given vertex }
+    requires given { IsSearchGiven given }
+    requires vertex { IsVertexPlaced given vertex }
     requires walks { AreHigher given vertex walks.now }
     requires here { k < length given.set.now.tasks }
     ensures { IfOk result (IsBeside given.entry.set.now.tasks vertex.at.task vertex.at.vertex k) }

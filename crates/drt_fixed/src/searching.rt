@@ -4,7 +4,7 @@ ghost use Rattle.drt_claims.specs.Claims.{graphs_of};
 ghost use Rattle.drt_check_states.specs.Curves.{HasRisingCurves};
 ghost use Rattle.drt_check_states.specs.Places.{AreTasks};
 ghost use Rattle.drt_fixed.specs.Answers.{IsOfStates};
-ghost use Rattle.drt_fixed.specs.Searching.{IsFound, IsGiven};
+ghost use Rattle.drt_fixed.specs.Searching.{IsFoundRefusal, IsSearchGiven};
 
 use crate::looking::{Ahead, search_next};
 use crate::releases::refusal;
@@ -94,8 +94,8 @@ fn search_all<G: Gate, R: Threads + Wait + Sync>(
     crew: &Crew<'_, G, R>,
     given: Given<'_>,
 ) -> Result<Found, Memory>
-    requires given { IsGiven given }
-    ensures { IfOk result (IsFound given.entry.set.now.tasks) }
+    requires given { IsSearchGiven given }
+    ensures { IfOk result (IsFoundRefusal given.entry.set.now.tasks) }
 {
     let listed = list_vertices(crew.alloc, given)?;
     let vertices = listed.as_slice();

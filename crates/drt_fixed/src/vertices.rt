@@ -3,8 +3,8 @@ ghost use Rattle.std.specs.Prelude.{◌≡◌, ◌<◌, ◌≤◌, All, IfOk, If
 ghost use Rattle.drt_model.specs.Digraph.{vertex_count};
 ghost use Rattle.drt_model.specs.Walk.{deadline};
 ghost use Rattle.drt_check_states.specs.Places.{graphs_at};
-ghost use Rattle.drt_sp_states.specs.Subjects.{IsSubject};
-ghost use Rattle.drt_fixed.specs.Searching.{IsFoundAt, IsGiven, IsPlaced, graphs_given};
+ghost use Rattle.drt_sp_states.specs.Subjects.{IsStateSubject};
+ghost use Rattle.drt_fixed.specs.Searching.{IsFoundVertex, IsSearchGiven, IsVertexPlaced, graphs_given};
 
 use drt_accepted::Accepted;
 use drt_crew::Crew;
@@ -50,8 +50,8 @@ pub(crate) struct PlacedVertex {
 
 /// The vertices of all tasks, in order of priority.
 pub(crate) fn list_vertices(alloc: Global, given: Given<'_>) -> Result<Vec<PlacedVertex>, Memory>
-    requires { IsGiven given }
-    ensures { IfOk result (λ vertices. All (IsPlaced given.entry) vertices.items) }
+    requires { IsSearchGiven given }
+    ensures { IfOk result (λ vertices. All (IsVertexPlaced given.entry) vertices.items) }
 {
     let mut vertices = Vec::new(alloc);
     for place in 0..given.order.len() {
@@ -66,10 +66,10 @@ fn add_vertices(
     place: usize,
     vertices: &mut Vec<PlacedVertex>,
 ) -> Result<(), Memory>
-    requires given { IsGiven given }
+    requires given { IsSearchGiven given }
     requires place { place < length given.order.now }
-    requires before { All (IsPlaced given) vertices.old.items }
-    ensures { IfOk result (λ done. All (IsPlaced given.entry) vertices.new.items) }
+    requires before { All (IsVertexPlaced given) vertices.old.items }
+    ensures { IfOk result (λ done. All (IsVertexPlaced given.entry) vertices.new.items) }
 {
     let task = given.order[place];
     let graphs = given.set.graphs();
@@ -102,9 +102,9 @@ pub(crate) fn search_vertex<G: Gate, R: Threads + Wait + Sync>(
     given: Given<'_>,
     vertex: PlacedVertex,
 ) -> Result<Searched, Memory>
-    requires given { IsGiven given }
-    requires vertex { IsPlaced given vertex }
-    ensures { IfOk result (IsFoundAt given.entry vertex) }
+    requires given { IsSearchGiven given }
+    requires vertex { IsVertexPlaced given vertex }
+    ensures { IfOk result (IsFoundVertex given.entry vertex) }
 {
     match subject_of(given, vertex) {
         Some(subject) => search_states(crew, subject),
@@ -114,9 +114,9 @@ pub(crate) fn search_vertex<G: Gate, R: Threads + Wait + Sync>(
 
 // What the search of a vertex is over. None where a number is past the limits of a set, which none is.
 fn subject_of<'a>(given: Given<'a>, vertex: PlacedVertex) -> Option<Subject<'a>>
-    requires given { IsGiven given }
-    requires vertex { IsPlaced given vertex }
-    ensures subject { IfSome result IsSubject }
+    requires given { IsSearchGiven given }
+    requires vertex { IsVertexPlaced given vertex }
+    ensures subject { IfSome result IsStateSubject }
     ensures graphs { IfSome result (λ s. graphs_at s.graphs.now s.order.now ≡ graphs_at (graphs_given given.entry) (take vertex.place given.entry.order.now)) }
 {
     let PlacedVertex { place, at, wcet } = vertex;

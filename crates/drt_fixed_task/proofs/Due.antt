@@ -3,7 +3,7 @@ use Rattle.std.proofs.Common.{inl, inr, ◌≡◌, ℕ, ◌<◌, ◌≤◌, true
 use Rattle.std.proofs.lemmas.Bool.{cases_Bool, eqb-true}
 use Rattle.std.proofs.lemmas.List.{length-map}
 use Rattle.drt_model.specs.declared.tasks.Task.{Task}
-use Rattle.drt_model.specs.Digraph.{Digraph, IsSound, digraph_of, vertex_count}
+use Rattle.drt_model.specs.Digraph.{Digraph, IsSoundGraph, digraph_of, vertex_count}
 use Rattle.drt_model.specs.Limits.{IsTaskSet}
 use Rattle.drt_graph.specs.Graphs.{graph_of}
 use Rattle.drt_graph.proofs.Soundness.{all_sound}
@@ -42,7 +42,7 @@ module _ (tasks : List Task) (walks : List (List ℕ)) (k v d : ℕ) where
     higher_due i l =
         let g : Digraph = graph_at tasks i in
         let w : List ℕ = placed_walk tasks (task_at tasks k).priority walks i in
-        let sound : IsSound g = all_sound version tasks limits i no_task l in
+        let sound : IsSoundGraph g = all_sound version tasks limits i no_task l in
         (cut_walk g d w (are i l), omega (arith, cut_due g sound d w (are i l), small))
 
     job_due : (i : ℕ) → i < length tasks → IsDueWalk (graph_at tasks i) 2000000 (job_walk tasks walks k v d i)
@@ -50,7 +50,7 @@ module _ (tasks : List Task) (walks : List (List ℕ)) (k v d : ℕ) where
       | inl above ↦ subst (IsDueWalk (graph_at tasks i) 2000000) (sym (walk_higher i above)) (higher_due i l)
       | inr below ↦ elim (cases_Bool (eqb i k)) [
         | inl is ↦
-            (let sound : IsSound (graph_at tasks k) = all_sound version tasks limits k no_task here in
+            (let sound : IsSoundGraph (graph_at tasks k) = all_sound version tasks limits k no_task here in
             let due : IsDueWalk (graph_at tasks k) 2000000 (v ∷ []) = ((vertex, tt), omega (arith, one_due (graph_at tasks k) sound v vertex)) in
             let there : IsDueWalk (graph_at tasks i) 2000000 (v ∷ []) = subst (λ m. IsDueWalk (graph_at tasks m) 2000000 (v ∷ [])) (sym (eqb-true i k is)) due in
             subst (IsDueWalk (graph_at tasks i) 2000000) (sym (walk_here i below is)) there)

@@ -3,7 +3,7 @@ use Rattle.std.proofs.Common.{◌≡◌, ℕ, ◌+◌, ◌≤◌, List, [], ◌�
 use Rattle.std.specs.List.{All, AllByRecursion, AllZip}
 use Rattle.std.proofs.lemmas.List.Elements.{All-from_recursion, All-map, recursion_from_All}
 use Rattle.drt_model.specs.declared.tasks.Task.{Task}
-use Rattle.drt_model.specs.Digraph.{Digraph, IsSound}
+use Rattle.drt_model.specs.Digraph.{Digraph, IsSoundGraph}
 use Rattle.drt_model.specs.Limits.{IsTaskSet}
 use Rattle.drt_model.specs.Walk.{deadline, wcet}
 use Rattle.drt_graph.proofs.Soundness.{all_sound}
@@ -28,7 +28,7 @@ module _ (bound : ℕ) where
   places_graphs [] = refl
   places_graphs (g ∷ gs) = ap (λ hs. g ∷ hs) (places_graphs gs)
 
-  places_sound : (gs : List Digraph) → AllByRecursion IsSound gs → AllByRecursion (λ (p : Place). IsSound p.graph) (places_of gs)
+  places_sound : (gs : List Digraph) → AllByRecursion IsSoundGraph gs → AllByRecursion (λ (p : Place). IsSoundGraph p.graph) (places_of gs)
   places_sound [] all = tt
   places_sound (g ∷ gs) all = (all.0, places_sound gs all.1)
 
@@ -52,14 +52,14 @@ module _ (bound : ℕ) where
 abbrev HasTime : List Digraph → List (List ℕ) → ℕ → ℕ → Type 0
 HasTime gs walks wcet d = (t : ℕ) × (1 ≤ t) × (t ≤ d) × (wcet + asked_together gs walks t ≤ t)
 
-module _ (bound : ℕ) (gs : List Digraph) (tails : List TailClaim) (are : AreTails bound gs tails) (sound : All IsSound gs) where
+module _ (bound : ℕ) (gs : List Digraph) (tails : List TailClaim) (are : AreTails bound gs tails) (sound : All IsSoundGraph gs) where
   -- Where the states keep their rules, there is such a time for all walks of the graphs.
   graphs_pass : StatesPass → (wcet d : ℕ) (states : List StateClaim) → d ≤ bound → AreStates gs states → HavePassingTimes d wcet tails states → HaveDominatedChildren gs d states
       → (walks : List (List ℕ)) → AllZip IsWalk gs walks → HasTime gs walks wcet d
   graphs_pass pass wcet d states near opens times children walks each =
       let ps : List Place = places_of bound gs in
       let same : graphs_of ps ≡ gs = places_graphs bound gs in
-      let sounds : All (λ (p : Place). IsSound p.graph) ps = All-from_recursion (λ (p : Place). IsSound p.graph) ps (places_sound bound gs (recursion_from_All IsSound gs sound)) in
+      let sounds : All (λ (p : Place). IsSoundGraph p.graph) ps = All-from_recursion (λ (p : Place). IsSoundGraph p.graph) ps (places_sound bound gs (recursion_from_All IsSoundGraph gs sound)) in
       let nears : All (λ (p : Place). d ≤ p.bound) ps = All-from_recursion (λ (p : Place). d ≤ p.bound) ps (places_near bound d near gs) in
       let found : HasTime (graphs_of ps) walks wcet d =
       pass ps tails wcet d d states sounds nears (places_tails bound IsTail gs tails are.rising) (places_tails bound BoundsWalks gs tails are.bounding)
@@ -75,11 +75,11 @@ module _ (version : ℕ) (tasks : List Task) (limits : IsTaskSet version tasks) 
   abbrev graphs_above : List Digraph
   graphs_above = map (graph_at tasks) higher_of
 
-  graphs_sound : All IsSound graphs_above
+  graphs_sound : All IsSoundGraph graphs_above
   graphs_sound =
-      let HasSound : ℕ → Type 0 = λ i. IsSound (graph_at tasks i) in
+      let HasSound : ℕ → Type 0 = λ i. IsSoundGraph (graph_at tasks i) in
       let all : All HasSound higher_of = higher_all tasks (task_at tasks k).priority HasSound (length tasks) (λ i l high. all_sound version tasks limits i no_task l) in
-      All-map IsSound (graph_at tasks) higher_of all
+      All-map IsSoundGraph (graph_at tasks) higher_of all
 
   -- So does the vertex.
   pub vertex_passes : StatesPass → (states : List StateClaim) → deadline (graph_at tasks k) v ≤ bound → AreStates graphs_above states

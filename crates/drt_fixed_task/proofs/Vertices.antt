@@ -15,7 +15,7 @@ use Rattle.drt_states.specs.Tails.{BoundsWalks, IsCurve, IsTail}
 use Rattle.drt_states_laws.specs.Laws.{StatesPass}
 use Rattle.drt_check_states.specs.Curves.{HasRisingCurves, IsRising}
 use Rattle.drt_check_states.specs.Places.{AreTasks, graphs_at}
-use Rattle.drt_sp_states.specs.Answers.{IsAnswer}
+use Rattle.drt_sp_states.specs.Answers.{IsSearchedAnswer}
 use Rattle.drt_sp_states.specs.declared.search.Searched.{Searched}
 use Rattle.drt_sp_states.specs.declared.search.Searched.TheVariants.{Passes, Misses, Spent}
 use Rattle.drt_fixed_task.specs.Answers.{IsSearched}
@@ -76,7 +76,7 @@ higher_most version tasks limits k task = go (eqb version 1) limits.few_tasks
 
 module _ (version : ℕ) (tasks : List Task) (limits : IsTaskSet version tasks) (k v bound : ℕ) (tails : List TailClaim) where
   answer_says : StatesPass → AreTails bound (map (graph_at tasks) (higher_tasks tasks k)) tails → deadline (graph_at tasks k) v ≤ bound → (answer : Searched)
-      → IsAnswer (map (graph_at tasks) (higher_tasks tasks k)) tails (wcet (graph_at tasks k) v) (deadline (graph_at tasks k) v) answer → IsSearched tasks k v answer
+      → IsSearchedAnswer (map (graph_at tasks) (higher_tasks tasks k)) tails (wcet (graph_at tasks k) v) (deadline (graph_at tasks k) v) answer → IsSearched tasks k v answer
   answer_says pass are near (Passes states) is = vertex_passes version tasks limits k v bound tails are pass states near is.are is.times is.children
   answer_says pass are near (Misses walks) is =
       let p : ℕ = (task_at tasks k).priority in
@@ -88,10 +88,10 @@ module _ (version : ℕ) (tasks : List Task) (limits : IsTaskSet version tasks) 
 
   -- An answer to a search over the graphs and tails of the tasks of higher priority, for the job of the vertex.
   pub searched : StatesPass → (gs : List Digraph) (w d : ℕ) → gs ≡ map (graph_at tasks) (higher_tasks tasks k) → w ≡ wcet (graph_at tasks k) v → d ≡ deadline (graph_at tasks k) v
-      → AreTails bound gs tails → deadline (graph_at tasks k) v ≤ bound → (answer : Searched) → IsAnswer gs tails w d answer → IsSearched tasks k v answer
+      → AreTails bound gs tails → deadline (graph_at tasks k) v ≤ bound → (answer : Searched) → IsSearchedAnswer gs tails w d answer → IsSearched tasks k v answer
   searched pass gs w d same_graphs same_wcet same_deadline are near answer is =
       let all : List Digraph = map (graph_at tasks) (higher_tasks tasks k) in
-      let a = subst (λ (hs : List Digraph). IsAnswer hs tails w d answer) same_graphs is in
-      let b = subst (λ (x : ℕ). IsAnswer all tails x d answer) same_wcet a in
-      let c = subst (λ (x : ℕ). IsAnswer all tails (wcet (graph_at tasks k) v) x answer) same_deadline b in
+      let a = subst (λ (hs : List Digraph). IsSearchedAnswer hs tails w d answer) same_graphs is in
+      let b = subst (λ (x : ℕ). IsSearchedAnswer all tails x d answer) same_wcet a in
+      let c = subst (λ (x : ℕ). IsSearchedAnswer all tails (wcet (graph_at tasks k) v) x answer) same_deadline b in
       answer_says pass (subst (λ (hs : List Digraph). AreTails bound hs tails) same_graphs are) near answer c

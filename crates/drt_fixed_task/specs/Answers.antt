@@ -19,7 +19,7 @@ IsSearched tasks k v (searches.Misses walks) = LeaveNoTime tasks (placed_walk ta
 IsSearched tasks k v searches.Spent = Unit {0}
 
 -- An answer to task k that doesn't rest on a budget.
-abbrev pub IsDecided : List Task → ℕ → TaskAnswer → Type 0
-IsDecided tasks k answers.Meets = IsMeeting tasks k
-IsDecided tasks k (answers.Misses releases miss) = IsTaskMiss tasks k releases miss
-IsDecided tasks k (answers.Undecided trail) = ⊥
+abbrev pub IsTaskDecided : List Task → ℕ → TaskAnswer → Type 0
+IsTaskDecided tasks k answers.Meets = IsMeeting tasks k
+IsTaskDecided tasks k (answers.Misses releases miss) = IsTaskMiss tasks k releases miss
+IsTaskDecided tasks k (answers.Undecided trail) = ⊥

@@ -13,7 +13,7 @@ use Rattle.drt_fixed_task.specs.declared.subjects.Given.{Given}
 
 -- The numbers are those of the tasks of higher priority; the tails bound what their walks ask for up to a bound, which no deadline of the task
 -- is past; and the crests are those of the tails.
-pub record IsGiven (g : Given) : Type 0 where
+pub record IsTaskGiven (g : Given) : Type 0 where
   pub task : g.task < length g.set.now.tasks
   pub higher : g.higher.now ≡ higher_tasks g.set.now.tasks g.task
   pub tails : AreTails g.bound (graphs_at (graphs_of g.set.now.tasks) g.higher.now) g.tails.now
@@ -21,7 +21,7 @@ pub record IsGiven (g : Given) : Type 0 where
   pub near : (v : ℕ) → v < vertex_count (graph_at g.set.now.tasks g.task) → deadline (graph_at g.set.now.tasks g.task) v ≤ g.bound
 
 -- The subject has the graphs and the tails of the tasks of higher priority, and the numbers of vertex v of the task.
-pub record IsSubjectOf (g : Given) (v : ℕ) (s : Subject) : Type 0 where
+pub record IsTaskSubject (g : Given) (v : ℕ) (s : Subject) : Type 0 where
   pub graphs : graphs_at s.graphs.now s.order.now ≡ map (graph_at g.set.now.tasks) (higher_tasks g.set.now.tasks g.task)
   pub tails : s.tails.now ≡ g.tails.now
   pub wcet : s.wcet ≡ wcet (graph_at g.set.now.tasks g.task) v

@@ -2,8 +2,8 @@
 ghost use Rattle.std.specs.Prelude.{◌<◌, IfOk, IfSome, length};
 ghost use Rattle.drt_model.specs.Digraph.{vertex_count};
 ghost use Rattle.drt_busy.specs.Choice.{graph_at};
-ghost use Rattle.drt_fixed_task.specs.Answers.{IsDecided, IsSearched};
-ghost use Rattle.drt_fixed_task.specs.Subjects.{IsGiven};
+ghost use Rattle.drt_fixed_task.specs.Answers.{IsTaskDecided, IsSearched};
+ghost use Rattle.drt_fixed_task.specs.Subjects.{IsTaskGiven};
 
 use crate::higher::higher_tasks;
 use crate::refusal::refuse;
@@ -31,7 +31,7 @@ pub(crate) fn decide_by_states<G: Gate, R: Threads + Wait + Sync>(
     task: u32,
 ) -> Result<Option<TaskAnswer>, Memory>
     requires task { task < length set.now.tasks }
-    ensures { IfOk result (λ found. IfSome found (IsDecided set.now.tasks task)) }
+    ensures { IfOk result (λ found. IfSome found (IsTaskDecided set.now.tasks task)) }
 {
     let graphs = set.graphs();
     let numbers = higher_tasks(crew.alloc, set, task)?;
@@ -58,8 +58,8 @@ fn decide_vertices<G: Gate, R: Threads + Wait + Sync>(
     crew: &Crew<'_, G, R>,
     given: Given<'_>,
 ) -> Result<Option<TaskAnswer>, Memory>
-    requires given { IsGiven given }
-    ensures { IfOk result (λ found. IfSome found (IsDecided given.entry.set.now.tasks given.entry.task)) }
+    requires given { IsTaskGiven given }
+    ensures { IfOk result (λ found. IfSome found (IsTaskDecided given.entry.set.now.tasks given.entry.task)) }
 {
     times_suffice_for_task();
     given.set.keep_limits();
@@ -84,7 +84,7 @@ fn search_vertex<G: Gate, R: Threads + Wait + Sync>(
     given: Given<'_>,
     vertex: u32,
 ) -> Result<Searched, Memory>
-    requires given { IsGiven given }
+    requires given { IsTaskGiven given }
     requires vertex { vertex < vertex_count (graph_at given.set.now.tasks given.task) }
     ensures { IfOk result (IsSearched given.entry.set.now.tasks given.entry.task vertex) }
 {

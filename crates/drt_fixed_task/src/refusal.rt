@@ -3,9 +3,9 @@ ghost use Rattle.std.specs.Prelude.{◌≡◌, ℕ, ◌<◌, ◌≤◌, IfOk, le
 ghost use Rattle.drt_model.specs.Digraph.{vertex_count};
 ghost use Rattle.drt_busy.specs.Choice.{AreWalks, graph_at, task_at};
 ghost use Rattle.drt_releases.specs.Walks.{walk_at};
-ghost use Rattle.drt_fixed_task.specs.Answers.{IsDecided};
+ghost use Rattle.drt_fixed_task.specs.Answers.{IsTaskDecided};
 ghost use Rattle.drt_fixed_task.specs.Higher.{higher_before, job_walk, placed_walk};
-ghost use Rattle.drt_fixed_task.specs.Subjects.{IsGiven};
+ghost use Rattle.drt_fixed_task.specs.Subjects.{IsTaskGiven};
 ghost use Rattle.drt_fixed_task.specs.Walks.{LeaveNoTime};
 
 use crate::higher::is_higher;
@@ -36,10 +36,10 @@ pub(crate) fn refuse(
     vertex: u32,
     walks: &[Row<u32>],
 ) -> Result<TaskAnswer, Memory>
-    requires given { IsGiven given }
+    requires given { IsTaskGiven given }
     requires vertex { vertex < vertex_count (graph_at given.set.now.tasks given.task) }
     requires walks { LeaveNoTime given.set.now.tasks (placed_walk given.set.now.tasks (task_at given.set.now.tasks given.task).priority walks.now) given.task vertex }
-    ensures { IfOk result (IsDecided given.entry.set.now.tasks given.entry.task) }
+    ensures { IfOk result (IsTaskDecided given.entry.set.now.tasks given.entry.task) }
 {
     requests_miss();
     given.set.keep_limits();
@@ -64,7 +64,7 @@ pub(crate) fn refuse(
 
 // A walk for each task: for those of higher priority the one at its place, cut, and the vertex alone for the task itself.
 fn job_walks(alloc: Global, given: Given<'_>, cut: Cut<'_>) -> Result<Vec<Row<u32>>, Memory>
-    requires given { IsGiven given }
+    requires given { IsTaskGiven given }
     requires walks { AreWalks given.set.now.tasks (placed_walk given.set.now.tasks (task_at given.set.now.tasks given.task).priority cut.walks.now) }
     ensures count { IfOk result (λ all. length all.items ≡ length given.entry.set.now.tasks) }
     ensures each { IfOk result (λ all. (i : ℕ) → i < length given.entry.set.now.tasks → walk_at all.items i ≡ job_walk given.entry.set.now.tasks cut.entry.walks.now given.entry.task cut.entry.vertex cut.entry.end i) }
@@ -88,7 +88,7 @@ fn job_walk(
     place: u32,
     k: u32,
 ) -> Result<Row<u32>, Memory>
-    requires given { IsGiven given }
+    requires given { IsTaskGiven given }
     requires walks { AreWalks given.set.now.tasks (placed_walk given.set.now.tasks (task_at given.set.now.tasks given.task).priority cut.walks.now) }
     requires here { k < length given.set.now.tasks }
     requires place { place ≡ length (higher_before given.set.now.tasks (task_at given.set.now.tasks given.task).priority k) }

@@ -2,8 +2,8 @@
 ghost use Rattle.std.specs.Prelude.{◌<◌};
 ghost use Rattle.drt_model.specs.Digraph.{vertex_count};
 ghost use Rattle.drt_busy.specs.Choice.{graph_at};
-ghost use Rattle.drt_sp_states.specs.Subjects.{IsSubject};
-ghost use Rattle.drt_fixed_task.specs.Subjects.{IsGiven, IsSubjectOf};
+ghost use Rattle.drt_sp_states.specs.Subjects.{IsStateSubject};
+ghost use Rattle.drt_fixed_task.specs.Subjects.{IsTaskGiven, IsTaskSubject};
 
 use drt_accepted::Accepted;
 use drt_model::Row;
@@ -24,10 +24,10 @@ pub(crate) struct Given<'a> {
 
 /// The subject of the search of a vertex of the task: the tasks of higher priority, and the job of the vertex.
 pub(crate) fn subject_of<'a>(given: Given<'a>, vertex: u32) -> Subject<'a>
-    requires given { IsGiven given }
+    requires given { IsTaskGiven given }
     requires vertex { vertex < vertex_count (graph_at given.set.now.tasks given.task) }
-    ensures subject { IsSubject result }
-    ensures is { IsSubjectOf given.entry vertex result }
+    ensures subject { IsStateSubject result }
+    ensures is { IsTaskSubject given.entry vertex result }
 {
     given.set.keep_limits();
     let graphs = given.set.graphs();

@@ -10,10 +10,10 @@ use Rattle.drt_worklist.proofs.Lists.{Found, found, none_found, get_within}
 use Rattle.drt_worklist.proofs.Runs.{along_join}
 use Rattle.drt_refine.specs.Combination.{Combination, is_failed, is_failed_state, is_held_by, is_held_state}
 use Rattle.drt_refine.specs.Drive.{Settles}
-use Rattle.drt_refine.specs.Eager.{IsEager, IsEagerStep, IsPlace}
+use Rattle.drt_refine.specs.Eager.{IsEager, IsEagerStep, IsSplitPlace}
 use Rattle.drt_refine.specs.Facts.{AreInPlace}
-use Rattle.drt_refine.specs.Machine.{Setting, State, CanStep, NonePasses, IsHopeless, after, opening_state}
-use Rattle.drt_refine.specs.View.{View, setting_of, state_of, outcome, IsFrontier, IsStep}
+use Rattle.drt_refine.specs.Machine.{FrontierSetting, FrontierState, CanStep, NonePasses, IsHopeless, after, opening_state}
+use Rattle.drt_refine.specs.View.{FrontierView, setting_of, state_of, outcome, IsFrontier, IsFrontierStep}
 use Rattle.drt_refine.specs.declared.step.CombinationState.{CombinationState}
 use Rattle.drt_refine.specs.declared.step.CombinationState.TheVariants.{Pending, Taken as TakenBy, Passed as PassedAt, Split as SplitAt, Failed as HasFailed}
 use Rattle.drt_refine.specs.declared.step.FrontierEntry.{FrontierEntry}
@@ -22,8 +22,8 @@ use Rattle.drt_refine.specs.declared.step.FrontierStep.{FrontierStep}
 use Rattle.drt_refine.specs.declared.step.FrontierStep.TheVariants.{Take, Pass, Split, Fail}
 use Rattle.drt_refine.proofs.Making.{Logs, same, adds, step_logs, frontier_facts}
 use Rattle.drt_refine.proofs.Settling.{settle_can, settle_eager, take_eager}
-use Rattle.drt_frontier_board.specs.Board.{BoardOf, terms_of, CanMake, IsMade}
-use Rattle.drt_frontier_board.specs.Finds.{HasCopy, IsFound, is_number, is_expected}
+use Rattle.drt_frontier_board.specs.Board.{BoardOf, terms_of, CanMake, IsFrontierStepMade}
+use Rattle.drt_frontier_board.specs.Finds.{HasCopy, IsFoundCombination, is_number, is_expected}
 use Rattle.drt_frontier_board.specs.Replies.{logged_by, taken_by, IsReplyTo}
 use Rattle.drt_frontier_board.specs.declared.answer.FrontierFound.{FrontierFound}
 use Rattle.drt_frontier_board.proofs.Goes.{Goes, FailsHeld, goes}
@@ -61,22 +61,22 @@ none_is None e = refl
 none_is (Some x) e = absurd (cc e)
 
 -- what the frontier has of the combination that a pass holds
-pub record IsSeen (s : State) (w id : ℕ) (nodes : List ℕ) : Type 0 where
+pub record IsSeen (s : FrontierState) (w id : ℕ) (nodes : List ℕ) : Type 0 where
   pub combination : Combination
   pub at : slice_get s.combinations id ≡ Some combination
   pub held : combination.state ≡ TakenBy w
   pub nodes_are : nodes ≡ combination.nodes
 
 -- what a worker may make, by what it held
-pub record CanGo (t : Setting) (s : State) (w : ℕ) (held : Option ℕ) (step : FrontierStep) : Type 0 where
+pub record CanGo (t : FrontierSetting) (s : FrontierState) (w : ℕ) (held : Option ℕ) (step : FrontierStep) : Type 0 where
   pub can : CanStep t s w step
   pub eager : IsEagerStep t s (record { worker = w; step = step })
   pub other : (k : ℕ) → first is_failed s.combinations ≡ Some k → is_number k held ≡ false
   pub fails : FailsHeld t s held step
 
-module _ (t : Setting) (s : State) (w : ℕ) (nodes : List ℕ) (f : FrontierFound) where
+module _ (t : FrontierSetting) (s : FrontierState) (w : ℕ) (nodes : List ℕ) (f : FrontierFound) where
   -- where a pass holds nothing and nothing was found
-  take_go : IsFound s.combinations w None nodes f → is_none f.held ≡ true → CanGo t s w None Take
+  take_go : IsFoundCombination s.combinations w None nodes f → is_none f.held ≡ true → CanGo t s w None Take
   take_go is e =
       let none : first (is_held_by w) s.combinations ≡ None = sym is.held_is ∙ none_is f.held e in
       record {
@@ -87,7 +87,7 @@ module _ (t : Setting) (s : State) (w : ℕ) (nodes : List ℕ) (f : FrontierFou
       }
 
   -- where what was found is what the pass holds
-  seen : (id : ℕ) → IsFound s.combinations w (Some id) nodes f → is_expected (Some id) f ≡ true → IsSeen s w id nodes
+  seen : (id : ℕ) → IsFoundCombination s.combinations w (Some id) nodes f → is_expected (Some id) f ≡ true → IsSeen s w id nodes
   seen id is e =
       let at : f.held ≡ Some id = number_is id f.held (and_left (is_number id f.held) f.same e) in
       let c : HasCopy s.combinations f.held (Some id) nodes = is.same_is.0 (and_right (is_number id f.held) f.same e) in
@@ -117,7 +117,7 @@ module _ (t : Setting) (s : State) (w : ℕ) (nodes : List ℕ) (f : FrontierFou
   settles id x (Split k place) can = (
     sym (same_Some id k can.0),
     subst (λ ns. NonePasses t ns) x.nodes_are can.1,
-    subst (λ ns. IsPlace t.forest ns (Some place)) x.nodes_are can.2,
+    subst (λ ns. IsSplitPlace t.forest ns (Some place)) x.nodes_are can.2,
   )
   settles id x (Fail k) can = (sym (same_Some id k can.0), subst (λ ns. IsHopeless t ns) x.nodes_are can.1)
 
@@ -127,7 +127,7 @@ module _ (t : Setting) (s : State) (w : ℕ) (nodes : List ℕ) (f : FrontierFou
   fails_held id (Split k place) can = tt
   fails_held id (Fail k) can = equals id k (same_Some id k can.0)
 
-  settle_go : (id : ℕ) (step : FrontierStep) → IsFound s.combinations w (Some id) nodes f → is_expected (Some id) f ≡ true → CanMake t (Some id) nodes step → CanGo t s w (Some id) step
+  settle_go : (id : ℕ) (step : FrontierStep) → IsFoundCombination s.combinations w (Some id) nodes f → is_expected (Some id) f ≡ true → CanMake t (Some id) nodes step → CanGo t s w (Some id) step
   settle_go id step is e can =
       let x : IsSeen s w id nodes = seen id is e in
       let does : Settles t id x.combination step = settles id x step can in
@@ -139,7 +139,7 @@ module _ (t : Setting) (s : State) (w : ℕ) (nodes : List ℕ) (f : FrontierFou
       }
 
   -- a worker may make a step that the pass may ask for, where what was found is what the pass holds
-  pub can_go : (held : Option ℕ) (step : FrontierStep) → IsFound s.combinations w held nodes f → is_expected held f ≡ true → CanMake t held nodes step → CanGo t s w held step
+  pub can_go : (held : Option ℕ) (step : FrontierStep) → IsFoundCombination s.combinations w held nodes f → is_expected held f ≡ true → CanMake t held nodes step → CanGo t s w held step
   can_go None Take is e can = take_go is e
   can_go None (Pass k time) is e can = absurd (none-some k can.0)
   can_go None (Split k place) is e can = absurd (none-some k can.0)
@@ -147,32 +147,32 @@ module _ (t : Setting) (s : State) (w : ℕ) (nodes : List ℕ) (f : FrontierFou
   can_go (Some id) step is e can = settle_go id step is e can
 
 -- an eager step keeps a log eager
-module _ (f : Plain) (old : View) (w : ℕ) (step : FrontierStep) (front : IsFrontier f old)
+module _ (f : Plain) (old : FrontierView) (w : ℕ) (step : FrontierStep) (front : IsFrontier f old)
     (eager : IsEagerStep (setting_of f old) (state_of old) (record { worker = w; step = step })) (was : IsEager (setting_of f old) old.log) where
-  kept_by : (x : State) → Logs (state_of old) (record { worker = w; step = step }) x → IsEager (setting_of f old) x.log
-  kept_by x (same e) = subst (λ (s : State). IsEager (setting_of f old) s.log) (sym e) was
+  kept_by : (x : FrontierState) → Logs (state_of old) (record { worker = w; step = step }) x → IsEager (setting_of f old) x.log
+  kept_by x (same e) = subst (λ (s : FrontierState). IsEager (setting_of f old) s.log) (sym e) was
   kept_by x (adds e) =
-      let t : Setting = setting_of f old in
+      let t : FrontierSetting = setting_of f old in
       let entry : FrontierEntry = record { worker = w; step = step } in
       subst (λ (l : List FrontierEntry). IsEager t l) (sym e)
-      (along_join (after t) (IsEagerStep t) old.log (entry ∷ []) (opening_state t) was (subst (λ (s : State). IsEagerStep t s entry) front.state eager, tt))
+      (along_join (after t) (IsEagerStep t) old.log (entry ∷ []) (opening_state t) was (subst (λ (s : FrontierState). IsEagerStep t s entry) front.state eager, tt))
 
-  pub eager_kept : (new : View) (reply : FrontierReply) → IsStep f old new w step reply → IsEager (setting_of f new) new.log
-  eager_kept new reply h = subst (λ (v : View). IsEager (setting_of f v) v.log) (sym h.state) (kept_by (outcome f old w step).state (step_logs (setting_of f old) (state_of old) w step))
+  pub eager_kept : (new : FrontierView) (reply : FrontierReply) → IsFrontierStep f old new w step reply → IsEager (setting_of f new) new.log
+  eager_kept new reply h = subst (λ (v : FrontierView). IsEager (setting_of f v) v.log) (sym h.state) (kept_by (outcome f old w step).state (step_logs (setting_of f old) (state_of old) w step))
 
 -- the step that was made
 pub made : (old new : BoardOf) (w : ℕ) (held : Option ℕ) (step : FrontierStep) (reply : FrontierReply) → new.forest ≡ old.forest
-    → CanGo (terms_of old) (state_of old.frontier) w held step → IsStep old.forest old.frontier new.frontier w step reply → IsMade old new w held step reply
+    → CanGo (terms_of old) (state_of old.frontier) w held step → IsFrontierStep old.forest old.frontier new.frontier w step reply → IsFrontierStepMade old new w held step reply
 made old new w held step reply same_forest go h =
     let g : Goes (terms_of old) (state_of old.frontier) held step (outcome old.forest old.frontier w step) = goes (terms_of old) (state_of old.frontier) held w step go.fails go.other in
     let r : reply ≡ (outcome old.forest old.frontier w step).reply = h.reply_is in
     record {
       terms = ap (λ x. setting_of x new.frontier) same_forest ∙ ap (λ v. setting_of old.forest v) h.state;
       made = h;
-      log = ap (λ (v : View). length v.log) h.state ∙ (g.log ∙ ap (λ x. length old.frontier.log + logged_by held x) (sym r));
+      log = ap (λ (v : FrontierView). length v.log) h.state ∙ (g.log ∙ ap (λ x. length old.frontier.log + logged_by held x) (sym r));
       few = λ one. g.few (ap (λ x. logged_by held x) (sym r) ∙ one);
       kind = subst (λ x. IsReplyTo step x) (sym r) g.kind;
-      taken = λ k e. subst (λ (v : View). k < length v.combinations) (sym h.state) (g.taken_is k (ap (λ x. taken_by x) (sym r) ∙ e));
+      taken = λ k e. subst (λ (v : FrontierView). k < length v.combinations) (sym h.state) (g.taken_is k (ap (λ x. taken_by x) (sym r) ∙ e));
     }
 
 -- the combination that a worker holds is one of the frontier
@@ -184,7 +184,7 @@ if_some None P x h e = absurd (none-some x e)
 if_some (Some y) P x h e = subst P (same_Some y x e) h
 
 -- what the nodes of a combination are
-pub in_place : (f : Plain) (v : View) (id : ℕ) (nodes : List ℕ) → IsFrontier f v → id < length v.combinations
+pub in_place : (f : Plain) (v : FrontierView) (id : ℕ) (nodes : List ℕ) → IsFrontier f v → id < length v.combinations
     → IfSome (slice_get v.combinations id) (λ c. nodes ≡ c.nodes) → AreInPlace (setting_of f v) nodes
 in_place f v id nodes front lt are =
     let x : (x : Combination) × (slice_get v.combinations id ≡ Some x) = get_within v.combinations id lt in
@@ -194,7 +194,7 @@ in_place f v id nodes front lt are =
 -- what was found of the combination that the worker holds
 pub found_one : (combinations : List Combination) (w id : ℕ) (held : Option ℕ) (nodes its : List ℕ) (b : Bool)
     → first (is_held_by w) combinations ≡ Some id → IfSome (slice_get combinations id) (λ c. its ≡ c.nodes)
-    → MatchBool b ((k : ℕ) × (held ≡ Some k) × (nodes ≡ its)) ((k : ℕ) → held ≡ Some k → nodes ≢ its) → IsFound combinations w held nodes (record { held = Some id; same = b })
+    → MatchBool b ((k : ℕ) × (held ≡ Some k) × (nodes ≡ its)) ((k : ℕ) → held ≡ Some k → nodes ≢ its) → IsFoundCombination combinations w held nodes (record { held = Some id; same = b })
 found_one combinations w id held nodes its true at are is =
     let lt : id < length combinations = combination_within combinations w id at in
     let x : (x : Combination) × (slice_get combinations id ≡ Some x) = get_within combinations id lt in
@@ -214,8 +214,8 @@ found_one combinations w id held nodes its false at are is = record {
 }
 
 -- a frontier that began at the opening state and was driven has an eager log
-pub driven_eager : (f : Plain) (old new : View) → state_of old ≡ opening_state (setting_of f old) → setting_of f new ≡ setting_of f old
+pub driven_eager : (f : Plain) (old new : FrontierView) → state_of old ≡ opening_state (setting_of f old) → setting_of f new ≡ setting_of f old
     → (IsEager (setting_of f old) old.log → IsEager (setting_of f old) new.log) → IsEager (setting_of f new) new.log
 driven_eager f old new opening same_setting goes =
-    let none : [] ≡ old.log = sym (ap (λ (s : State). s.log) opening) in
-    subst (λ (t : Setting). IsEager t new.log) (sym same_setting) (goes (subst (λ (l : List FrontierEntry). IsEager (setting_of f old) l) none tt))
+    let none : [] ≡ old.log = sym (ap (λ (s : FrontierState). s.log) opening) in
+    subst (λ (t : FrontierSetting). IsEager t new.log) (sym same_setting) (goes (subst (λ (l : List FrontierEntry). IsEager (setting_of f old) l) none tt))

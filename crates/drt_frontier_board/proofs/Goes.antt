@@ -6,7 +6,7 @@ use Rattle.std.proofs.lemmas.Option.{none-some, same_Some, slice_get_within}
 use Rattle.drt_worklist.specs.Places.{first, changed}
 use Rattle.drt_worklist.proofs.Lists.{Found, found, length-changed}
 use Rattle.drt_refine.specs.Combination.{Combination, is_pending, is_taken, is_failed, with_state}
-use Rattle.drt_refine.specs.Machine.{Setting, State, Outcome, is_full, unchanged, logged, taken, halved, halved_at, children_at, stepped, step_by, step_of}
+use Rattle.drt_refine.specs.Machine.{FrontierSetting, FrontierState, FrontierOutcome, is_full, unchanged, logged, taken, halved, halved_at, children_at, stepped, step_by, step_of}
 use Rattle.drt_refine.specs.declared.step.CombinationState.TheVariants.{Taken as TakenBy}
 use Rattle.drt_refine.specs.declared.step.FrontierEntry.{FrontierEntry}
 use Rattle.drt_refine.specs.declared.step.FrontierReply.{FrontierReply}
@@ -16,8 +16,8 @@ use Rattle.drt_refine.specs.declared.step.FrontierStep.TheVariants.{Take, Pass, 
 use Rattle.drt_frontier_board.specs.Finds.{is_number}
 use Rattle.drt_frontier_board.specs.Replies.{logged_by, taken_by, IsReplyTo}
 
-module _ (t : Setting) (s : State) (held : Option ℕ) where
-  pub record Goes (step : FrontierStep) (o : Outcome) : Type 0 where
+module _ (t : FrontierSetting) (s : FrontierState) (held : Option ℕ) where
+  pub record Goes (step : FrontierStep) (o : FrontierOutcome) : Type 0 where
     pub log : length o.state.log ≡ length s.log + logged_by held o.reply
     pub few : logged_by held o.reply ≡ 1 → length s.log < t.budget
     pub kind : IsReplyTo step o.reply
@@ -43,7 +43,7 @@ module _ (t : Setting) (s : State) (held : Option ℕ) where
   }
 
   -- a step that is refused where the log is full
-  full_or : (step : FrontierStep) (o : Outcome) → IsReplyTo step Spent → (length s.log < t.budget → Goes step o) → (b : Bool) → is_full t s ≡ b → Goes step (cond b (unchanged s Spent) o)
+  full_or : (step : FrontierStep) (o : FrontierOutcome) → IsReplyTo step Spent → (length s.log < t.budget → Goes step o) → (b : Bool) → is_full t s ≡ b → Goes step (cond b (unchanged s Spent) o)
   full_or step o kind go true e = stays step Spent refl kind refl
   full_or step o kind go false e = go (leb-false t.budget (length s.log) e)
 

@@ -17,7 +17,7 @@ pub record HasCopy (combinations : List Combination) (at held : Option ℕ) (nod
   pub same : nodes ≡ combination.nodes
 
 -- What a call finds for a worker whose pass holds that combination, with a copy of its nodes.
-pub record IsFound (combinations : List Combination) (w : ℕ) (held : Option ℕ) (nodes : List ℕ) (f : FrontierFound) : Type 0 where
+pub record IsFoundCombination (combinations : List Combination) (w : ℕ) (held : Option ℕ) (nodes : List ℕ) (f : FrontierFound) : Type 0 where
   pub held_is : f.held ≡ first (is_held_by w) combinations
   pub same_is : IsTrue f.same ↔ HasCopy combinations f.held held nodes
 
@@ -32,11 +32,11 @@ is_expected None f = is_none f.held
 is_expected (Some id) f = is_number id f.held && f.same
 
 -- A strange answer tells something that differs from what the pass holds.
-abbrev pub DiffersIfStrange : Option ℕ → FrontierAnswer → Type 0
-DiffersIfStrange held (Step r) = Unit {0}
-DiffersIfStrange held (Strange f) = is_expected held f ≡ false
+abbrev pub FrontierDiffersIfStrange : Option ℕ → FrontierAnswer → Type 0
+FrontierDiffersIfStrange held (Step r) = Unit {0}
+FrontierDiffersIfStrange held (Strange f) = is_expected held f ≡ false
 
 -- And it tells what is found, in a frontier of these combinations, for a worker that holds that with a copy of these nodes.
-abbrev pub TellsFound : List Combination → ℕ → Option ℕ → List ℕ → FrontierAnswer → Type 0
-TellsFound combinations w held nodes (Step r) = Unit {0}
-TellsFound combinations w held nodes (Strange f) = IsFound combinations w held nodes f
+abbrev pub TellsFrontierFound : List Combination → ℕ → Option ℕ → List ℕ → FrontierAnswer → Type 0
+TellsFrontierFound combinations w held nodes (Step r) = Unit {0}
+TellsFrontierFound combinations w held nodes (Strange f) = IsFoundCombination combinations w held nodes f

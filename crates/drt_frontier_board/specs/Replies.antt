@@ -50,14 +50,14 @@ taken_by (Failed k) = None
 taken_by Spent = None
 
 -- The replies to Take, to a Pass, to a Split and to a Fail.
-abbrev pub IsOfTake : FrontierReply → Type 0
-IsOfTake (Taken k) = Unit {0}
-IsOfTake (Busy k) = Unit {0}
-IsOfTake Finished = Unit {0}
-IsOfTake Passed = ⊥
-IsOfTake (Halved left right) = ⊥
-IsOfTake (Failed k) = Unit {0}
-IsOfTake Spent = Unit {0}
+abbrev pub IsOfFrontierTake : FrontierReply → Type 0
+IsOfFrontierTake (Taken k) = Unit {0}
+IsOfFrontierTake (Busy k) = Unit {0}
+IsOfFrontierTake Finished = Unit {0}
+IsOfFrontierTake Passed = ⊥
+IsOfFrontierTake (Halved left right) = ⊥
+IsOfFrontierTake (Failed k) = Unit {0}
+IsOfFrontierTake Spent = Unit {0}
 
 -- A reply that a Pass may have.
 abbrev pub IsOfPass : FrontierReply → Type 0
@@ -91,12 +91,12 @@ IsOfFail Spent = Unit {0}
 
 -- The replies to a step.
 abbrev pub IsReplyTo : FrontierStep → FrontierReply → Type 0
-IsReplyTo Take r = IsOfTake r
+IsReplyTo Take r = IsOfFrontierTake r
 IsReplyTo (Pass id time) r = IsOfPass r
 IsReplyTo (Split id place) r = IsOfSplit r
 IsReplyTo (Fail id) r = IsOfFail r
 
 -- What holds of the frontier's reply, where the answer has one.
-abbrev pub ForReply : (FrontierReply → Type 0) → FrontierAnswer → Type 0
-ForReply P (Step r) = P r
-ForReply P (Strange f) = Unit {0}
+abbrev pub ForFrontierReply : (FrontierReply → Type 0) → FrontierAnswer → Type 0
+ForFrontierReply P (Step r) = P r
+ForFrontierReply P (Strange f) = Unit {0}

@@ -4,8 +4,8 @@ ghost use Rattle.std.specs.Prelude.{◌≡◌, ◌≢◌, ℕ, ◌<◌, MatchBoo
 ghost use Rattle.drt_refine.specs.Eager.{IsEager};
 ghost use Rattle.drt_refine.specs.Facts.{AreInPlace};
 ghost use Rattle.drt_refine.specs.View.{IsFrontier};
-ghost use Rattle.drt_frontier_board.specs.Board.{terms_of, CanMake, IsCall, IsMade, IsCopied};
-ghost use Rattle.drt_frontier_board.specs.Finds.{IsFound, is_expected, is_number};
+ghost use Rattle.drt_frontier_board.specs.Board.{terms_of, CanMake, IsFrontierCall, IsFrontierStepMade, IsCopied};
+ghost use Rattle.drt_frontier_board.specs.Finds.{IsFoundCombination, is_expected, is_number};
 ghost use Rattle.drt_frontier_board.specs.Replies.{taken_by};
 ghost use Rattle.drt_frontier_board.specs.declared.answer.FrontierFound.{FrontierFound as Found};
 
@@ -83,7 +83,7 @@ impl Board {
         requires forest { forest.now ≡ self.old.forest }
         requires nodes { AreInPlace (terms_of self.old) nodes.old.items }
         requires can { CanMake (terms_of self.old) held nodes.old.items step }
-        ensures { IsCall self.old self.new worker held nodes.old.items nodes.new.items step result }
+        ensures { IsFrontierCall self.old self.new worker held nodes.old.items nodes.new.items step result }
     {
         let found = self.find(worker, held, nodes.as_slice());
         if !expects(held, found) {
@@ -96,7 +96,7 @@ impl Board {
 
     // What the frontier holds for the worker, beside what the worker's pass says.
     fn find(&self, worker: u32, held: Option<u32>, nodes: &[u32]) -> FrontierFound
-        ensures { IsFound self.now.frontier.combinations worker held nodes.now result }
+        ensures { IsFoundCombination self.now.frontier.combinations worker held nodes.now result }
     {
         match self.frontier.held_by(worker) {
             None => FrontierFound {
@@ -121,8 +121,8 @@ impl Board {
     ) -> FrontierReply
         requires forest { forest.now ≡ self.old.forest }
         requires can { CanMake (terms_of self.old) held nodes.now step }
-        requires expected { (f : Found) × IsFound self.old.frontier.combinations worker held nodes.now f × (is_expected held f ≡ true) }
-        ensures { IsMade self.old self.new worker held step result }
+        requires expected { (f : Found) × IsFoundCombination self.old.frontier.combinations worker held nodes.now f × (is_expected held f ≡ true) }
+        ensures { IsFrontierStepMade self.old self.new worker held step result }
     {
         self.frontier.apply(forest, worker, step)
     }

@@ -13,10 +13,10 @@ pub struct Terms {
 }
 
 impl Model for Terms {
-    ghost use Rattle.drt_refine.specs.Machine.{Setting};
+    ghost use Rattle.drt_refine.specs.Machine.{FrontierSetting};
     ghost use Rattle.drt_refine.specs.View.{setting_of};
 
-    ghost Value = { Setting };
+    ghost Value = { FrontierSetting };
 
     ghost view = { λ t. setting_of t.forest.value t.opening.value };
 }

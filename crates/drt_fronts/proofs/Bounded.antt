@@ -4,7 +4,7 @@ use Rattle.std.specs.Prelude.{IsTrue}
 use Rattle.std.proofs.lemmas.Bool.{cases_lt, leb-true}
 use Rattle.std.proofs.lemmas.List.{append-nil}
 use Rattle.drt_model.specs.Degrees.{most_out}
-use Rattle.drt_model.specs.Digraph.{Digraph, IsSound, vertex_count, out_degree, edge_of}
+use Rattle.drt_model.specs.Digraph.{Digraph, IsSoundGraph, vertex_count, out_degree, edge_of}
 use Rattle.drt_model.specs.Walk.{deadline}
 use Rattle.drt_model.specs.declared.front.FrontEntry.{FrontEntry}
 use Rattle.drt_model.proofs.MostOut.{most_least, most_row}
@@ -19,7 +19,7 @@ use Rattle.drt_fronts.specs.Bounded.{SearchesAreBounded}
 use Rattle.drt_fronts.specs.Needs.{search_of, table_need}
 
 -- The label of an in-range walk to v is of v, which is a vertex, and is in range.
-pub label_of : (t : Setting) (v : ℕ) (before : List ℕ) (l : FrontEntry) → IsSound t.graph
+pub label_of : (t : Setting) (v : ℕ) (before : List ℕ) (l : FrontEntry) → IsSoundGraph t.graph
     → WalkTo demand_algebra t v before l → (l.vertex ≡ v) × (v < vertex_count t.graph) × IsTrue (in_range demand_algebra t l)
 label_of t v [] l sound w = (ap (λ x. x.vertex) w.1, w.0, w.2)
 label_of t v (u ∷ before) l sound w =
@@ -30,7 +30,7 @@ label_of t v (u ∷ before) l sound w =
     (same ∙ (e ∙ w.4), rw w.4 at to, w.6)
 
 -- So its offset is at most the bound.
-label_within : (t : Setting) (l : FrontEntry) → IsSound t.graph → IsWalkLabel demand_algebra t l → (l.vertex < vertex_count t.graph) × (l.offset ≤ t.bound)
+label_within : (t : Setting) (l : FrontEntry) → IsSoundGraph t.graph → IsWalkLabel demand_algebra t l → (l.vertex < vertex_count t.graph) × (l.offset ≤ t.bound)
 label_within t l sound w =
     let h = label_of t w.0 w.1 l sound w.2 in
     let d : l.offset + deadline t.graph l.vertex ≤ t.bound = leb-true (l.offset + deadline t.graph l.vertex) t.bound h.2 in
@@ -62,7 +62,7 @@ slot_same v w o p bound l m e = go (cases_lt v w) (cases_lt w v)
         let r = ap (λ n. n * (bound + 1)) q in
         (q, omega (arith, r, e))
 
-slots_are : (t : Setting) → IsSound t.graph → AreSlots demand_algebra t (slot t.bound) (vertex_count t.graph * (t.bound + 1))
+slots_are : (t : Setting) → IsSoundGraph t.graph → AreSlots demand_algebra t (slot t.bound) (vertex_count t.graph * (t.bound + 1))
 slots_are t sound = record {
   within = λ l w. (let h = label_within t l sound w in slot_below l.vertex l.offset (vertex_count t.graph) t.bound h.0 h.1);
   alone = λ l m w x e. (let h = label_within t l sound w in let k = label_within t m sound x in let s = slot_same l.vertex m.vertex l.offset m.offset t.bound h.1 k.1 e in comparable l m s.0 s.1);
@@ -76,15 +76,15 @@ most_of g m rows all = most_least g.out m (λ v lt. all v (omega arith))
 
 -- What holds after each run, of its log's length and of the kept nodes.
 abbrev pub AreShort : Type 0
-AreShort = (t : Setting) (log : List Entry) (g : ℕ) → IsSound t.graph → IsTrue (demand_algebra.takes_bound t.bound)
+AreShort = (t : Setting) (log : List Entry) (g : ℕ) → IsSoundGraph t.graph → IsTrue (demand_algebra.takes_bound t.bound)
     → IsRun demand_algebra t log → IsDegree demand_algebra t g → IsShort demand_algebra t g (replay demand_algebra t log)
 
 abbrev pub AreFew : Type 0
-AreFew = (t : Setting) (log : List Entry) (slot : FrontEntry → ℕ) (many : ℕ) → IsSound t.graph → IsTrue (demand_algebra.takes_bound t.bound)
+AreFew = (t : Setting) (log : List Entry) (slot : FrontEntry → ℕ) (many : ℕ) → IsSoundGraph t.graph → IsTrue (demand_algebra.takes_bound t.bound)
     → IsRun demand_algebra t log → AreSlots demand_algebra t slot many → kept_count (replay demand_algebra t log).nodes ≤ many
 
 abbrev pub AreOnce : Type 0
-AreOnce = (t : Setting) (log : List Entry) → IsSound t.graph → IsTrue (demand_algebra.takes_bound t.bound) → IsRun demand_algebra t log → IsBounded (replay demand_algebra t log)
+AreOnce = (t : Setting) (log : List Entry) → IsSoundGraph t.graph → IsTrue (demand_algebra.takes_bound t.bound) → IsRun demand_algebra t log → IsBounded (replay demand_algebra t log)
 
 scaled : (n kept many g : ℕ) → n < kept * (g + 2) → kept ≤ many → n < many * (g + 2)
 scaled n kept many g l m =

@@ -8,7 +8,7 @@ use Rattle.drt_model.specs.declared.front.FrontEntry.{FrontEntry}
 use Rattle.drt_graph.proofs.Paths.{work_none}
 use Rattle.drt_model.specs.FrontEntry.{due}
 use Rattle.drt_demand.specs.Dbf.{dbf_at}
-use Rattle.drt_fronts.specs.DemandWalk.{IsGreatestDue, IsWalkTo}
+use Rattle.drt_fronts.specs.DemandWalk.{IsGreatestDue, IsDemandWalkTo}
 use Rattle.drt_fronts.specs.LabelFronts.{IsDemandWalk}
 
 -- Some entry that is due by t has this work.
@@ -59,7 +59,7 @@ none_due g front t i all less = go (demand_reached g front t)
         absurd (less c.0 r.0 l (subst (λ (x : FrontEntry). due g x ≤ t) (sym at) r.2) (ap (λ (x : FrontEntry). x.work) at ∙ r.3))
 
 -- The walk of the entry that has all the demand.
-pub some_walk : (g : Digraph) (front : List FrontEntry) (t : ℕ) (last : FrontEntry) → IsGreatestDue g front t (Some last) → (walk : List ℕ) → IsWalkTo g last walk → IsDemandWalk g front t walk
+pub some_walk : (g : Digraph) (front : List FrontEntry) (t : ℕ) (last : FrontEntry) → IsGreatestDue g front t (Some last) → (walk : List ℕ) → IsDemandWalkTo g last walk → IsDemandWalk g front t walk
 some_walk g front t last is [] w = absurd w
 some_walk g front t last is (u ∷ others) w =
     let d : deadline g (last_of u others) ≡ deadline g last.vertex = ap (λ v. deadline g v) w.vertex in

@@ -4,7 +4,7 @@ use Rattle.std.specs.Prelude.{IsTrue, Any}
 use Rattle.std.proofs.lemmas.Bool.{cases_lt}
 use Rattle.std.proofs.lemmas.Bool.Decides.{nat_tests}
 use Rattle.std.proofs.lemmas.List.Elements.{All-weaker, All-contains}
-use Rattle.drt_model.specs.Digraph.{IsSound, IsConstrainedGraph}
+use Rattle.drt_model.specs.Digraph.{IsSoundGraph, IsConstrainedGraph}
 use Rattle.drt_model.specs.Legal.{AllNeighbours}
 use Rattle.drt_model.specs.declared.front.FrontEntry.{FrontEntry}
 use Rattle.drt_demand.specs.Demand.{demand_algebra, dominates}
@@ -13,8 +13,8 @@ use Rattle.drt_table.specs.Machine.{Setting, IsRun, replay, is_finished}
 use Rattle.drt_table.specs.View.{View, IsTable, setting_of, state_of}
 use Rattle.drt_table.specs.declared.step.Entry.{Entry}
 use Rattle.drt_table.specs.Cover.{IsFront, IsNonDominated as IsAlone}
-use Rattle.drt_claims.specs.Fronts.{Covers, IsWithin, IsNextEntry}
-use Rattle.drt_fronts.specs.Falling.{IsLower}
+use Rattle.drt_claims.specs.Fronts.{Covers, IsEntryWithin, IsNextEntry}
+use Rattle.drt_fronts.specs.Falling.{IsLowerEntry}
 use Rattle.drt_fronts.specs.LabelFronts.{IsLabelFront}
 use Rattle.drt_wave.specs.Fronts.{IsWalkEntry}
 use Rattle.drt_fronts.proofs.Falling.{AreAlone, label_within}
@@ -23,7 +23,7 @@ use Rattle.drt_fronts.proofs.LabelWalks.{walk_entry, entry_walk, entry_alone, la
 -- What holds over every interleaving of a search: where it is finished, its nodes are a front.
 abbrev pub FrontLaw : Type 0
 FrontLaw =
-    (t : Setting) (log : List Entry) → IsSound t.graph → IsTrue (demand_algebra.takes_bound t.bound) → IsRun demand_algebra t log
+    (t : Setting) (log : List Entry) → IsSoundGraph t.graph → IsTrue (demand_algebra.takes_bound t.bound) → IsRun demand_algebra t log
     → IsTrue (is_finished demand_algebra t (replay demand_algebra t log)) → IsFront demand_algebra t (replay demand_algebra t log).nodes
 
 -- So the nodes of a finished table are one.
@@ -33,12 +33,12 @@ finished_front v is done front =
     subst (λ s. IsFront demand_algebra (setting_of v) s.nodes) (sym is.state)
     (front (setting_of v) v.log is.sound is.bound is.run (subst (λ s. IsTrue (is_finished demand_algebra (setting_of v) s)) is.state done))
 
-module _ (t : Setting) (sound : IsSound t.graph) (con : IsConstrainedGraph t.graph) (nodes : List (NodeOf FrontEntry))
+module _ (t : Setting) (sound : IsSoundGraph t.graph) (con : IsConstrainedGraph t.graph) (nodes : List (NodeOf FrontEntry))
     (front : IsFront demand_algebra t nodes) (labels : List FrontEntry) (are : AreAlone t labels) where
-  is_within : (l : FrontEntry) → IsAlone demand_algebra t l → IsWithin t.graph t.bound l
+  is_within : (l : FrontEntry) → IsAlone demand_algebra t l → IsEntryWithin t.graph t.bound l
   is_within l is = (label_within t sound l is.walk, (walk_entry t sound l is.walk).within)
 
-  is_next : (x y : FrontEntry) → IsAlone demand_algebra t x → IsAlone demand_algebra t y → IsLower x y → IsNextEntry x y
+  is_next : (x y : FrontEntry) → IsAlone demand_algebra t x → IsAlone demand_algebra t y → IsLowerEntry x y → IsNextEntry x y
   is_next x y p q (inl l) = inl l
   is_next x y p q (inr l) = inr (l.0, l.1, more (cases_lt x.work y.work))
     where
@@ -70,7 +70,7 @@ module _ (t : Setting) (sound : IsSound t.graph) (con : IsConstrainedGraph t.gra
   -- The labels are a front.
   pub label_front : IsLabelFront t.graph t.bound labels
   label_front = record {
-    ordered = (All-weaker (IsAlone demand_algebra t) (IsWithin t.graph t.bound) is_within labels are.sound, next_entries);
+    ordered = (All-weaker (IsAlone demand_algebra t) (IsEntryWithin t.graph t.bound) is_within labels are.sound, next_entries);
     exact = λ e. (
       λ c. entry_alone t sound con e (All-contains (IsAlone demand_algebra t) labels e are.sound c),
       λ is. are.complete e (label_alone t sound con e is),

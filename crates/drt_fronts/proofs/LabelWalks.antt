@@ -4,7 +4,7 @@ use Rattle.std.specs.Prelude.{IsTrue}
 use Rattle.std.proofs.lemmas.Bool.{leb-true, le-leb}
 use Rattle.std.proofs.lemmas.Bool.Decides.{nat_tests}
 use Rattle.std.proofs.lemmas.List.{reverse-append}
-use Rattle.drt_model.specs.Digraph.{Digraph, IsSound, IsConstrainedGraph, vertex_count, out_degree, edge_of}
+use Rattle.drt_model.specs.Digraph.{Digraph, IsSoundGraph, IsConstrainedGraph, vertex_count, out_degree, edge_of}
 use Rattle.drt_model.specs.Walk.{gap, wcet, deadline, sep, IsEdge, IsPath, last_of, span, work}
 use Rattle.drt_graph.proofs.Edges.{sep_of_edge, edge_of_sep, gap_of, source_of}
 use Rattle.drt_graph.proofs.Paths.{path_both, path_within, last_both, work_cons, work_none, span_cons, span_none}
@@ -18,7 +18,7 @@ use Rattle.drt_table.specs.Walk.{WalkTo, IsWalkLabel}
 use Rattle.drt_table.specs.Cover.{IsNonDominated as IsAlone}
 use Rattle.drt_table.proofs.Walks.{walk_vertex, walk_range}
 use Rattle.drt_claims.specs.Fronts.{Covers}
-use Rattle.drt_wave.specs.Fronts.{IsWalkEntry, IsNonDominated}
+use Rattle.drt_wave.specs.Fronts.{IsWalkEntry, IsNonDominatedEntry}
 
 -- Two labels with the same parts are equal.
 pub same_label : (x y : FrontEntry) → x.vertex ≡ y.vertex → x.offset ≡ y.offset → x.work ≡ y.work → x ≡ y
@@ -38,7 +38,7 @@ pub record IsPathTo (g : Digraph) (v : ℕ) (before : List ℕ) (l : FrontEntry)
   pub label : l ≡ demand_of g first others
 
 -- On a path with constrained deadlines the first job is due by the last one's deadline.
-pub path_due : (g : Digraph) → IsSound g → IsConstrainedGraph g → (u : ℕ) (vs : List ℕ) → IsPath g u vs → deadline g u ≤ span g u vs + deadline g (last_of u vs)
+pub path_due : (g : Digraph) → IsSoundGraph g → IsConstrainedGraph g → (u : ℕ) (vs : List ℕ) → IsPath g u vs → deadline g u ≤ span g u vs + deadline g (last_of u vs)
 path_due g sound con u [] p = let e = span_none g u in omega (arith, e)
 path_due g sound con u (v ∷ vs) p =
     let k = edge_of_sep g u v (gap g u v) p.0 in
@@ -47,7 +47,7 @@ path_due g sound con u (v ∷ vs) p =
     let s = k.3 in
     omega (arith, d, e, s)
 
-module _ (t : Setting) (sound : IsSound t.graph) where
+module _ (t : Setting) (sound : IsSoundGraph t.graph) where
   -- A label extended by an edge with these ends and this separation.
   extended_is : (m : FrontEntry) (u k v s : ℕ) → m.vertex ≡ u → (edge_of t.graph u k).sep ≡ s → (edge_of t.graph u k).to ≡ v → extended demand_algebra t m k ≡ extend m s v (wcet t.graph v)
   extended_is m u k v s p q r =
@@ -143,7 +143,7 @@ module _ (t : Setting) (sound : IsSound t.graph) where
         subst (λ y. IsWalkLabel demand_algebra t y) (same_label (gone x w.first w.others) e (sym v) (omega (arith, o)) (omega (arith, n, r))) rest
 
     -- A label that no different one dominates is an entry that no other one covers.
-    pub entry_alone : (l : FrontEntry) → IsAlone demand_algebra t l → IsNonDominated (IsWalkEntry t.graph t.bound) l
+    pub entry_alone : (l : FrontEntry) → IsAlone demand_algebra t l → IsNonDominatedEntry (IsWalkEntry t.graph t.bound) l
     entry_alone l is = record {
       label = walk_entry l is.walk;
       alone = λ d w c. is.alone d (entry_walk d w) (above d c);
@@ -153,7 +153,7 @@ module _ (t : Setting) (sound : IsSound t.graph) where
         above d c = let a = c.0 in let b = c.1 in let e = c.2 in grind (arith, nat_tests)
 
     -- And the converse.
-    pub label_alone : (e : FrontEntry) → IsNonDominated (IsWalkEntry t.graph t.bound) e → IsAlone demand_algebra t e
+    pub label_alone : (e : FrontEntry) → IsNonDominatedEntry (IsWalkEntry t.graph t.bound) e → IsAlone demand_algebra t e
     label_alone e is = record {
       walk = entry_walk e is.label;
       alone = λ m w d. is.alone m (walk_entry m w) (above m d);

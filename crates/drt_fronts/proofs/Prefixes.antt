@@ -3,16 +3,16 @@ use Rattle.std.proofs.Common.{◌≡◌, ℕ, ◌+◌, ◌<◌, ◌≤◌, List,
 use Rattle.std.specs.Prelude.{Contains}
 use Rattle.std.proofs.lemmas.List.{reverse-append}
 use Rattle.std.proofs.lemmas.List.Elements.{All-contains}
-use Rattle.drt_model.specs.Digraph.{Digraph, IsSound, IsConstrainedGraph, vertex_count}
+use Rattle.drt_model.specs.Digraph.{Digraph, IsSoundGraph, IsConstrainedGraph, vertex_count}
 use Rattle.drt_model.specs.Walk.{wcet, deadline, gap, IsEdge, IsPath, last_of, work, span}
 use Rattle.drt_graph.proofs.Edges.{edge_of_sep, source_of, target_of}
 use Rattle.drt_graph.proofs.Paths.{path_both, last_both, work_both, span_both, work_cons, work_none, span_cons, span_none}
 use Rattle.drt_model.specs.declared.front.FrontEntry.{FrontEntry}
 use Rattle.drt_model.specs.FrontEntry.{due}
-use Rattle.drt_claims.specs.Fronts.{IsWithin}
-use Rattle.drt_fronts.specs.DemandWalk.{IsPrefix, IsWalkTo}
+use Rattle.drt_claims.specs.Fronts.{IsEntryWithin}
+use Rattle.drt_fronts.specs.DemandWalk.{IsPrefixLabel, IsDemandWalkTo}
 use Rattle.drt_fronts.specs.LabelFronts.{IsLabelFront}
-use Rattle.drt_wave.specs.Fronts.{IsWalkEntry, IsNonDominated}
+use Rattle.drt_wave.specs.Fronts.{IsWalkEntry, IsNonDominatedEntry}
 use Rattle.drt_fronts.proofs.WalkEntries.{walk_entry, walk_entry_is}
 use Rattle.drt_fronts.proofs.LabelWalks.{same_label}
 
@@ -75,7 +75,7 @@ walk_more g bound e walk v edge near =
     }
 
 -- A walk of span 0 is one vertex.
-pub single_work : (g : Digraph) → IsSound g → (u : ℕ) (vs : List ℕ) → IsPath g u vs → span g u vs ≡ 0 → work g (u ∷ vs) ≡ wcet g (last_of u vs)
+pub single_work : (g : Digraph) → IsSoundGraph g → (u : ℕ) (vs : List ℕ) → IsPath g u vs → span g u vs ≡ 0 → work g (u ∷ vs) ≡ wcet g (last_of u vs)
 single_work g sound u [] p none = let w = work_cons g u [] in let n = work_none g in omega (arith, w, n)
 single_work g sound u (v ∷ vs) p none =
     let t = target_of g sound u v (gap g u v) p.0 in
@@ -83,13 +83,13 @@ single_work g sound u (v ∷ vs) p none =
     let l = t.1 in
     absurd (omega (arith, l, s, none))
 
-module _ (g : Digraph) (sound : IsSound g) (bound : ℕ) (front : List FrontEntry) (is : IsLabelFront g bound front) where
+module _ (g : Digraph) (sound : IsSoundGraph g) (bound : ℕ) (front : List FrontEntry) (is : IsLabelFront g bound front) where
   -- An entry is the label of a walk.
   pub entry_walk : (e : FrontEntry) → Contains front e → IsWalkEntry g bound e
   entry_walk e has = ((is.exact e).0 has).label
 
   pub entry_vertex : (e : FrontEntry) → Contains front e → e.vertex < vertex_count g
-  entry_vertex e has = (All-contains (IsWithin g bound) front e is.ordered.0 has).0
+  entry_vertex e has = (All-contains (IsEntryWithin g bound) front e is.ordered.0 has).0
 
   -- An entry without an offset is the label of a single vertex.
   pub entry_single : (e : FrontEntry) → Contains front e → e.offset ≡ 0 → e.work ≡ wcet g e.vertex
@@ -99,19 +99,19 @@ module _ (g : Digraph) (sound : IsSound g) (bound : ℕ) (front : List FrontEntr
 
   module _ (con : IsConstrainedGraph g) where
     -- Any other has an entry from which an edge leads to it.
-    pub has_prefix : (e : FrontEntry) → Contains front e → 0 < e.offset → (d : FrontEntry) × Contains front d × IsPrefix g d e
+    pub has_prefix : (e : FrontEntry) → Contains front e → 0 < e.offset → (d : FrontEntry) × Contains front d × IsPrefixLabel g d e
     has_prefix e has later = split alone.label.others refl
       where
-        alone : IsNonDominated (IsWalkEntry g bound) e
+        alone : IsNonDominatedEntry (IsWalkEntry g bound) e
         alone = (is.exact e).0 has
 
-        prefix : (d : FrontEntry) → Contains front d → IsEdge g d.vertex e.vertex → d.offset + gap g d.vertex e.vertex ≤ e.offset → e.work ≤ d.work + wcet g e.vertex → IsPrefix g d e
+        prefix : (d : FrontEntry) → Contains front d → IsEdge g d.vertex e.vertex → d.offset + gap g d.vertex e.vertex ≤ e.offset → e.work ≤ d.work + wcet g e.vertex → IsPrefixLabel g d e
         prefix d there edge early much =
             let within : due g e ≤ bound = alone.label.within in
             let same : more g d e.vertex ≡ e = alone.alone (more g d e.vertex) (walk_more g bound d (entry_walk d there) e.vertex edge (omega (arith, early, within))) (refl, early, much) in
             record { edge = edge; offset = ap (λ (x : FrontEntry). x.offset) same; work = ap (λ (x : FrontEntry). x.work) same }
 
-        by_edge : HasLastEdge g alone.label.first alone.label.others → (d : FrontEntry) × Contains front d × IsPrefix g d e
+        by_edge : HasLastEdge g alone.label.first alone.label.others → (d : FrontEntry) × Contains front d × IsPrefixLabel g d e
         by_edge r =
             let first = alone.label.first in
             let u = last_of first r.before in
@@ -138,14 +138,14 @@ module _ (g : Digraph) (sound : IsSound g) (bound : ℕ) (front : List FrontEntr
             let n = alone.label.works in
             (c.1, there, prefix c.1 there on (omega (arith, gap_on, early, s, gaps, o)) (omega (arith, much, w, w1, w2, n, costs)))
 
-        split : (vs : List ℕ) → alone.label.others ≡ vs → (d : FrontEntry) × Contains front d × IsPrefix g d e
+        split : (vs : List ℕ) → alone.label.others ≡ vs → (d : FrontEntry) × Contains front d × IsPrefixLabel g d e
         split [] at =
             let o : e.offset ≡ 0 = alone.label.offset ∙ (ap (λ vs. span g alone.label.first vs) at ∙ span_none g alone.label.first) in
             absurd (omega (arith, o, later))
         split (v ∷ vs) at = by_edge (subst (HasLastEdge g alone.label.first) (sym at) (last_edge g alone.label.first v vs (subst (IsPath g alone.label.first) at alone.label.path)))
 
 -- From one vertex there is at most one such label.
-pub one_prefix : (g : Digraph) (c d e : FrontEntry) → c.vertex ≡ d.vertex → IsPrefix g c e → IsPrefix g d e → c ≡ d
+pub one_prefix : (g : Digraph) (c d e : FrontEntry) → c.vertex ≡ d.vertex → IsPrefixLabel g c e → IsPrefixLabel g d e → c ≡ d
 one_prefix g c d e vertex p q =
     let gaps : gap g c.vertex e.vertex ≡ gap g d.vertex e.vertex = ap (λ x. gap g x e.vertex) vertex in
     let o = p.offset in
@@ -155,7 +155,7 @@ one_prefix g c d e vertex p q =
     same_label c d vertex (omega (arith, gaps, o, o1)) (omega (arith, w, w1))
 
 -- A prefix has a smaller offset.
-pub prefix_earlier : (g : Digraph) → IsSound g → (d e : FrontEntry) → IsPrefix g d e → d.offset < e.offset
+pub prefix_earlier : (g : Digraph) → IsSoundGraph g → (d e : FrontEntry) → IsPrefixLabel g d e → d.offset < e.offset
 prefix_earlier g sound d e p =
     let t = target_of g sound d.vertex e.vertex (gap g d.vertex e.vertex) p.edge in
     let l = t.1 in
@@ -177,7 +177,7 @@ tail_first g last found is =
     let w = work_none g in
     record { others = []; forward = ap reverse is; path = tt; vertex = refl; offset = omega (arith, s); works = omega (arith, w) }
 
-pub tail_more : (g : Digraph) (d e last : FrontEntry) (found new : List ℕ) → IsPrefix g d e → IsTail g e last found → new ≡ found ++ d.vertex ∷ [] → IsTail g d last new
+pub tail_more : (g : Digraph) (d e last : FrontEntry) (found new : List ℕ) → IsPrefixLabel g d e → IsTail g e last found → new ≡ found ++ d.vertex ∷ [] → IsTail g d last new
 tail_more g d e last found new p t pushed =
     let s = span_cons g d.vertex e.vertex t.others in
     let w = work_cons g e.vertex t.others in
@@ -196,12 +196,12 @@ tail_more g d e last found new p t pushed =
 
 -- Where the first label is that of a single vertex, it is a walk to the last.
 pub tail_whole : (g : Digraph) (e last : FrontEntry) (found walk : List ℕ) → e.vertex < vertex_count g → e.offset ≡ 0 → e.work ≡ wcet g e.vertex → IsTail g e last found
-    → walk ≡ reverse found → IsWalkTo g last walk
+    → walk ≡ reverse found → IsDemandWalkTo g last walk
 tail_whole g e last found walk is_vertex none single t is =
     let o = t.offset in
     let n = t.works in
     let w = work_cons g e.vertex t.others in
-    subst (IsWalkTo g last) (sym (is ∙ t.forward)) (record {
+    subst (IsDemandWalkTo g last) (sym (is ∙ t.forward)) (record {
       is_vertex = is_vertex;
       path = t.path;
       vertex = t.vertex;

@@ -1,6 +1,6 @@
 -- That the search of a graph's walks is bounded, whether it is finished or not.
 use Rattle.std.specs.Prelude.{◌≡◌, ℕ, ◌+◌, ◌*◌, ◌≤◌, ◌<◌, IsTrue, false, Some, List, length, slice_get}
-use Rattle.drt_model.specs.Digraph.{Digraph, IsSound, vertex_count}
+use Rattle.drt_model.specs.Digraph.{Digraph, IsSoundGraph, vertex_count}
 use Rattle.drt_model.specs.declared.front.FrontEntry.{FrontEntry}
 use Rattle.drt_demand.specs.Demand.{demand_algebra}
 use Rattle.drt_table.specs.Node.{NodeOf}
@@ -29,5 +29,5 @@ pub record IsBoundedSearch (g : Digraph) (bound budget : ℕ) (log : List Entry)
 
 -- Each run of the search of a sound graph's walks is bounded, whoever made its steps and in whatever order, with any budget.
 abbrev pub SearchesAreBounded : Type 0
-SearchesAreBounded = (g : Digraph) (bound budget : ℕ) (log : List Entry) → IsSound g → IsTrue (demand_algebra.takes_bound bound)
+SearchesAreBounded = (g : Digraph) (bound budget : ℕ) (log : List Entry) → IsSoundGraph g → IsTrue (demand_algebra.takes_bound bound)
     → IsRun demand_algebra (search_of g bound budget) log → IsBoundedSearch g bound budget log

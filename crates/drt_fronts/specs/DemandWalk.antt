@@ -12,23 +12,23 @@ IsGreatestDue g front t None = dbf_at g front t ≡ 0
 IsGreatestDue g front t (Some e) = Contains front e × (due g e ≤ t) × (e.work ≡ dbf_at g front t)
 
 -- An edge leads from the vertex of d to that of e, and a walk with the label d that goes on by it has the label e.
-pub record IsPrefix (g : Digraph) (d e : FrontEntry) : Type 0 where
+pub record IsPrefixLabel (g : Digraph) (d e : FrontEntry) : Type 0 where
   pub edge : IsEdge g d.vertex e.vertex
   pub offset : d.offset + gap g d.vertex e.vertex ≡ e.offset
   pub work : d.work + wcet g e.vertex ≡ e.work
 
 -- The label of vertex u from which an edge leads so to e; none where there is no such label.
-abbrev pub IsOneBefore : Digraph → FrontEntry → ℕ → Option FrontEntry → Type 0
-IsOneBefore g e u None = (d : FrontEntry) → d.vertex ≡ u → IsPrefix g d e → ⊥
-IsOneBefore g e u (Some d) = (d.vertex ≡ u) × IsPrefix g d e
+abbrev pub IsLabelBefore : Digraph → FrontEntry → ℕ → Option FrontEntry → Type 0
+IsLabelBefore g e u None = (d : FrontEntry) → d.vertex ≡ u → IsPrefixLabel g d e → ⊥
+IsLabelBefore g e u (Some d) = (d.vertex ≡ u) × IsPrefixLabel g d e
 
 -- The entry of vertex u in the front from which an edge leads so to e; none where there is no such entry.
 abbrev pub IsPrefixOf : Digraph → List FrontEntry → FrontEntry → ℕ → Option FrontEntry → Type 0
-IsPrefixOf g front e u None = (d : FrontEntry) → Contains front d → d.vertex ≡ u → IsPrefix g d e → ⊥
-IsPrefixOf g front e u (Some d) = Contains front d × IsPrefix g d e
+IsPrefixOf g front e u None = (d : FrontEntry) → Contains front d → d.vertex ≡ u → IsPrefixLabel g d e → ⊥
+IsPrefixOf g front e u (Some d) = Contains front d × IsPrefixLabel g d e
 
 -- The walk from u over the others has the label e.
-pub record IsLabelOf (g : Digraph) (u : ℕ) (others : List ℕ) (e : FrontEntry) : Type 0 where
+pub record IsDemandLabelOf (g : Digraph) (u : ℕ) (others : List ℕ) (e : FrontEntry) : Type 0 where
   pub is_vertex : u < vertex_count g
   pub path : IsPath g u others
   pub vertex : last_of u others ≡ e.vertex
@@ -36,9 +36,9 @@ pub record IsLabelOf (g : Digraph) (u : ℕ) (others : List ℕ) (e : FrontEntry
   pub works : work g (u ∷ others) ≡ e.work
 
 -- The list is such a walk.
-abbrev pub IsWalkTo : Digraph → FrontEntry → List ℕ → Type 0
-IsWalkTo g e [] = ⊥
-IsWalkTo g e (u ∷ others) = IsLabelOf g u others e
+abbrev pub IsDemandWalkTo : Digraph → FrontEntry → List ℕ → Type 0
+IsDemandWalkTo g e [] = ⊥
+IsDemandWalkTo g e (u ∷ others) = IsDemandLabelOf g u others e
 
 -- The entry stands below another place of a front: its vertex is less, or the same and its offset less.
 abbrev pub is_below : FrontEntry → ℕ → ℕ → Bool

@@ -1,12 +1,12 @@
 //! The front of a task's walks.
 ghost use Rattle.std.specs.Prelude.{◌≡◌, ◌+◌, ◌<◌, IfOk, IsTrue};
-ghost use Rattle.drt_model.specs.Digraph.{IsConstrainedGraph, IsSound, vertex_count};
+ghost use Rattle.drt_model.specs.Digraph.{IsConstrainedGraph, IsSoundGraph, vertex_count};
 ghost use Rattle.drt_demand.specs.Demand.{demand_algebra};
 ghost use Rattle.drt_table.specs.Cover.{IsFront};
 ghost use Rattle.drt_table.specs.Machine.{is_finished};
 ghost use Rattle.drt_table.specs.View.{setting_of, state_of};
 ghost use Rattle.drt_claims.specs.Ranges.{IsCounted};
-ghost use Rattle.drt_fronts.specs.Falling.{AreFalling, IsFrom};
+ghost use Rattle.drt_fronts.specs.Falling.{AreFalling, IsFromVertex};
 ghost use Rattle.drt_fronts.specs.LabelFronts.{IsLabelFront};
 
 use drt_demand::DemandLabel;
@@ -33,10 +33,10 @@ fn add_labels(
     front: &mut Vec<FrontEntry>,
 ) -> Result<(), Memory>
     requires vertex { vertex < vertex_count table.now.graph }
-    requires sound { IsSound table.now.graph }
+    requires sound { IsSoundGraph table.now.graph }
     requires finished { IsFront demand_algebra (setting_of table.now) (state_of table.now).nodes }
-    requires later { AreFalling (setting_of table.now) (IsFrom (vertex + 1)) front.old.items }
-    ensures { IfOk result (λ u. AreFalling (setting_of table.now) (IsFrom vertex) front.new.items) }
+    requires later { AreFalling (setting_of table.now) (IsFromVertex (vertex + 1)) front.old.items }
+    ensures { IfOk result (λ u. AreFalling (setting_of table.now) (IsFromVertex vertex) front.new.items) }
 {
     let mut next = table.first_kept(vertex);
     'nodes: while let Some(id) = next {

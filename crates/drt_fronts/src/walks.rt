@@ -3,7 +3,7 @@ ghost use Rattle.std.specs.Prelude.{◌≡◌, ℕ, ◌<◌, ◌↔◌, All, Con
 ghost use Rattle.drt_model.specs.Digraph.{IsConstrainedGraph, vertex_count};
 ghost use Rattle.drt_model.specs.Legal.{AllNeighbours};
 ghost use Rattle.drt_claims.specs.Fronts.{IsNextEntry};
-ghost use Rattle.drt_fronts.specs.DemandWalk.{IsGreatestDue, IsOneBefore, IsPrefix, IsPrefixOf, IsWalkTo, is_below};
+ghost use Rattle.drt_fronts.specs.DemandWalk.{IsGreatestDue, IsLabelBefore, IsPrefixLabel, IsPrefixOf, IsDemandWalkTo, is_below};
 ghost use Rattle.drt_fronts.specs.LabelFronts.{IsLabelFront, IsDemandWalk};
 
 use drt_demand::{dbf, is_due};
@@ -50,7 +50,7 @@ fn contains(front: &[FrontEntry], entry: FrontEntry) -> bool
 fn one_before(graph: &Graph, entry: FrontEntry, u: u32) -> Option<FrontEntry>
     requires vertex { u < vertex_count graph.now }
     requires entry { entry.vertex < vertex_count graph.now }
-    ensures { IsOneBefore graph.now entry u result }
+    ensures { IsLabelBefore graph.now entry u result }
 {
     let Some(sep) = graph.separation(u, entry.vertex) else {
         return None;
@@ -94,7 +94,7 @@ fn predecessor(graph: &Graph, front: &[FrontEntry], entry: FrontEntry) -> FrontE
     requires entry { Contains front.now entry }
     requires later { 0 < entry.offset }
     ensures there { Contains front.now result }
-    ensures before { IsPrefix graph.now result entry }
+    ensures before { IsPrefixLabel graph.now result entry }
 {
     let count = graph.vertex_count();
     'vertices: for u in 0..count {
@@ -116,7 +116,7 @@ fn walk_to(
     requires constrained { IsConstrainedGraph graph.now }
     requires front { (bound : ℕ) × IsLabelFront graph.now bound front.now }
     requires entry { Contains front.now last }
-    ensures { IfOk result (λ walk. IsWalkTo graph.now last walk) }
+    ensures { IfOk result (λ walk. IsDemandWalkTo graph.now last walk) }
 {
     let _count = graph.vertex_count();
     let mut walk = Vec::new(alloc);

@@ -9,7 +9,7 @@ use Rattle.std.proofs.lemmas.Nat.Gcd.{dvd_of_mod-eq-zero, le_of_dvd}
 use Rattle.drt_model.specs.declared.tasks.Vertex.{Vertex}
 use Rattle.drt_model.specs.declared.tasks.Edge.{Edge}
 use Rattle.drt_model.specs.declared.tasks.Task.{Task}
-use Rattle.drt_model.specs.Digraph.{IsSound, digraph_of, edges_from, no_edge, out_edges, vertex_count}
+use Rattle.drt_model.specs.Digraph.{IsSoundGraph, digraph_of, edges_from, no_edge, out_edges, vertex_count}
 use Rattle.drt_model.specs.Walk.{gap, IsEdge}
 use Rattle.drt_model.specs.Utilisation.{Fraction, AreRatios, EachDivides, IsRatio}
 use Rattle.drt_graph.proofs.Edges.{edge_of_sep, source_of}
@@ -55,7 +55,7 @@ edges_seps x p lo hi k j =
     ]
 
 -- So is each gap of the graph of a task all of whose separations are so.
-gaps_of : (t : Task) (p : ℕ) → IsSound (digraph_of t) → All (IsSep p) t.edges → (u v : ℕ) → IsEdge (digraph_of t) u v → (gap (digraph_of t) u v ≡ p) ⊎ (gap (digraph_of t) u v ≡ 2 * p)
+gaps_of : (t : Task) (p : ℕ) → IsSoundGraph (digraph_of t) → All (IsSep p) t.edges → (u v : ℕ) → IsEdge (digraph_of t) u v → (gap (digraph_of t) u v ≡ p) ⊎ (gap (digraph_of t) u v ≡ 2 * p)
 gaps_of t p sound all u v edge =
     let (k, within, to, at) = edge_of_sep (digraph_of t) u v (gap (digraph_of t) u v) edge in
     let l = source_of (digraph_of t) sound u v (gap (digraph_of t) u v) edge in

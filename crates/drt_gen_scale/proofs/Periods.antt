@@ -5,7 +5,7 @@ use Rattle.std.proofs.Math.Nat.{dvd-mul_left, dvd-mul_right, one-dvd, mul-dvd-mu
 use Rattle.std.proofs.lemmas.Bool.{cases_eq, eqb-true}
 use Rattle.std.proofs.lemmas.Nat.Gcd.{dvd_of_mod-eq-zero, dvd_trans}
 use Rattle.drt_num.proofs.Divisors.{gcd_scaled}
-use Rattle.drt_model.specs.Digraph.{Digraph, IsSound, vertex_count}
+use Rattle.drt_model.specs.Digraph.{Digraph, IsSoundGraph, vertex_count}
 use Rattle.drt_model.specs.Walk.{gap, IsEdge, IsPath, last_of, work, span}
 use Rattle.drt_model.specs.Utilisation.{Fraction, HasRatio, IsRatio}
 use Rattle.drt_graph.proofs.Paths.{span_none, span_cons}
@@ -52,7 +52,7 @@ module _ (g : Digraph) (p : ℕ) (seps : (u v : ℕ) → IsEdge g u v → (gap g
       ]
 
   -- So each denominator divides the multiple of 1 to 24, times that of the periods.
-  module _ (sound : IsSound g) (few : vertex_count g ≤ 12) (period : p ∣ 1200) where
+  module _ (sound : IsSoundGraph g) (few : vertex_count g ≤ 12) (period : p ∣ 1200) where
     of_simple : (a b : ℕ) → IsGcd a b 1 → (cycle : List ℕ) → IsSimple g a b cycle → b ∣ most_scale
     of_simple a b lowest [] simple = absurd simple.is
     of_simple a b lowest (v ∷ vs) simple =

@@ -5,7 +5,7 @@ use Rattle.std.specs.Int.{◌∣◌, int_max}
 use Rattle.std.proofs.Math.Nat.{mul-div_cancel'}
 use Rattle.std.proofs.lemmas.Int.{ints, clamps}
 use Rattle.std.proofs.lemmas.Bool.{cases_lt}
-use Rattle.drt_model.specs.Digraph.{Digraph, IsSound, vertex_count}
+use Rattle.drt_model.specs.Digraph.{Digraph, IsSoundGraph, vertex_count}
 use Rattle.drt_model.specs.Walk.{gap, wcet, deadline, IsEdge, IsPath, last_of, work, span}
 use Rattle.drt_model.specs.Potential.{potential_of}
 use Rattle.drt_model.specs.RatioRules.{FitPotentials}
@@ -34,7 +34,7 @@ rises g a b hs fits u (v ∷ vs) is =
     rw (work_cons, span_cons) (omega (arith, ints, h, r))
 
 -- The work of a walk is bounded by its last deadline.
-pub work_is_bounded : (g : Digraph) → IsSound g → (a b : ℕ) (hs : List ℤ) → FitPotentials g a b hs → (u : ℕ) (vs : List ℕ) → u < vertex_count g → IsPath g u vs → pos (b * work g (u ∷ vs)) ≤ℤ (pos (a * (span g u vs + deadline g (last_of u vs))) +ℤ constant_of g a b hs)
+pub work_is_bounded : (g : Digraph) → IsSoundGraph g → (a b : ℕ) (hs : List ℤ) → FitPotentials g a b hs → (u : ℕ) (vs : List ℕ) → u < vertex_count g → IsPath g u vs → pos (b * work g (u ∷ vs)) ≤ℤ (pos (a * (span g u vs + deadline g (last_of u vs))) +ℤ constant_of g a b hs)
 work_is_bounded g sound a b hs fits u vs l is =
     let w = last_of u vs in
     let r = rises g a b hs (λ x y e. fits x y (gap g x y) e) u vs is in
@@ -55,7 +55,7 @@ scaled scale a b q e d t k s l m =
     rw (← s) (omega (arith, x, y))
 
 -- At a scale, the work of a walk that is due by t is bounded by t and the constant.
-pub scaled_work : (g : Digraph) (a b : ℕ) (hs : List ℤ) (scale t u : ℕ) (vs : List ℕ) → IsSound g → FitPotentials g a b hs → b ∣ scale → u < vertex_count g → IsPath g u vs → span g u vs + deadline g (last_of u vs) ≤ t → scale * work g (u ∷ vs) ≤ a * (scale / b) * t + above_zero (constant_of g a b hs) * (scale / b)
+pub scaled_work : (g : Digraph) (a b : ℕ) (hs : List ℤ) (scale t u : ℕ) (vs : List ℕ) → IsSoundGraph g → FitPotentials g a b hs → b ∣ scale → u < vertex_count g → IsPath g u vs → span g u vs + deadline g (last_of u vs) ≤ t → scale * work g (u ∷ vs) ≤ a * (scale / b) * t + above_zero (constant_of g a b hs) * (scale / b)
 scaled_work g a b hs scale t u vs sound fits divides l is due =
     scaled scale a b (scale / b) (work g (u ∷ vs)) (span g u vs + deadline g (last_of u vs)) t (above_zero (constant_of g a b hs)) (mul-div_cancel' b divides)
     (unsigned _ _ (constant_of g a b hs) (work_is_bounded g sound a b hs fits u vs l is)) due

@@ -3,7 +3,7 @@ use Rattle.std.proofs.Common.{◌≡◌, ℕ, zero, suc, ◌<◌, ◌≤◌, Boo
 use Rattle.std.proofs.lemmas.Bool.{eqb-true, cases_lt}
 use Rattle.std.proofs.lemmas.Bool.Decides.{nat_tests}
 use Rattle.drt_model.specs.declared.tasks.Edge.{Edge}
-use Rattle.drt_model.specs.Digraph.{Digraph, IsSound, vertex_count, out_degree, out_edges, edge_of, no_edge}
+use Rattle.drt_model.specs.Digraph.{Digraph, IsSoundGraph, vertex_count, out_degree, out_edges, edge_of, no_edge}
 use Rattle.drt_model.specs.Walk.{sep_in, sep, or_zero, gap, IsEdge}
 
 here : (x : ℕ) → eqb x x ≡ true
@@ -53,7 +53,7 @@ at_sep (x ∷ edges) v p d e = go (eqb x.to v) refl (λ h. at_sep edges v p d h)
     go false q ih = let r = ih (rw q at e) in (suc r.0, omega (arith, r.1), r.2, r.3)
 
 -- An edge is the one that its ends name
-pub sep_of_edge : (g : Digraph) → IsSound g → (u k : ℕ) → u < vertex_count g → k < out_degree g u → sep g u (edge_of g u k).to ≡ Some (edge_of g u k).sep
+pub sep_of_edge : (g : Digraph) → IsSoundGraph g → (u k : ℕ) → u < vertex_count g → k < out_degree g u → sep g u (edge_of g u k).to ≡ Some (edge_of g u k).sep
 sep_of_edge g sound u k l m = sep_at (out_edges g u) k no_edge m (λ j n. sound.single u j k l n m)
 
 -- Each separation is that of an edge
@@ -71,7 +71,7 @@ unfolding sep_in
 none_none v p e = cc
 
 -- An edge starts at a vertex
-pub source_of : (g : Digraph) → IsSound g → (u v p : ℕ) → sep g u v ≡ Some p → u < vertex_count g
+pub source_of : (g : Digraph) → IsSoundGraph g → (u v p : ℕ) → sep g u v ≡ Some p → u < vertex_count g
 source_of g sound u v p e = go (cases_lt u (vertex_count g))
   where
     go : (u < vertex_count g) ⊎ (vertex_count g ≤ u) → u < vertex_count g
@@ -81,7 +81,7 @@ source_of g sound u v p e = go (cases_lt u (vertex_count g))
         absurd (none_none v p (rw none at e))
 
 -- An edge ends at one
-pub target_of : (g : Digraph) → IsSound g → (u v p : ℕ) → sep g u v ≡ Some p → (v < vertex_count g) × (1 ≤ p) × (p ≤ 1000000)
+pub target_of : (g : Digraph) → IsSoundGraph g → (u v p : ℕ) → sep g u v ≡ Some p → (v < vertex_count g) × (1 ≤ p) × (p ≤ 1000000)
 target_of g sound u v p e =
     let k = edge_of_sep g u v p e in
     let l = source_of g sound u v p e in

@@ -1,6 +1,6 @@
 -- Paths end to end, and what heights say of them.
 use Rattle.std.proofs.Common.{◌≡◌, ℕ, suc, ◌+◌, ◌*◌, ◌<◌, ◌≤◌, List, [], ◌∷◌, ◌++◌, length, refl, arith}
-use Rattle.drt_model.specs.Digraph.{Digraph, IsSound, vertex_count}
+use Rattle.drt_model.specs.Digraph.{Digraph, IsSoundGraph, vertex_count}
 use Rattle.drt_model.specs.Walk.{gap, wcet, IsEdge, IsPath, last_of, work, span, IsCycle, cycle_span}
 use Rattle.drt_graph.proofs.Edges.{target_of}
 
@@ -39,7 +39,7 @@ pub path_cycle : (g : Digraph) (u v : ℕ) (vs : List ℕ) → IsPath g u (v ∷
 path_cycle g u v vs is back = (rw back is, rw back refl)
 
 -- Each vertex that a path reaches is one of the graph.
-pub path_within : (g : Digraph) → IsSound g → (u : ℕ) (vs : List ℕ) → u < vertex_count g → IsPath g u vs → last_of u vs < vertex_count g
+pub path_within : (g : Digraph) → IsSoundGraph g → (u : ℕ) (vs : List ℕ) → u < vertex_count g → IsPath g u vs → last_of u vs < vertex_count g
 path_within g sound u [] l is = l
 path_within g sound u (v ∷ vs) l is = path_within g sound v vs (target_of g sound u v (gap g u v) is.0).0 is.1
 

@@ -11,7 +11,7 @@ use Rattle.drt_model.specs.declared.tasks.Edge.{Edge}
 use Rattle.drt_model.specs.declared.tasks.Task.{Task}
 use Rattle.drt_model.specs.Limits.{IsTask, IsTaskSet, IsEdgeAmong, most_tasks, most_vertices}
 use Rattle.drt_model.specs.Constrained.{IsConstrainedEdge, AreConstrained}
-use Rattle.drt_model.specs.Digraph.{IsSound, IsConstrainedGraph, digraph_of, edges_from, out_edges, no_vertex, no_edge}
+use Rattle.drt_model.specs.Digraph.{IsSoundGraph, IsConstrainedGraph, digraph_of, edges_from, out_edges, no_vertex, no_edge}
 use Rattle.drt_graph.specs.Graphs.{AreGraphs}
 
 -- The row of a vertex is the task's edges that leave it.
@@ -32,7 +32,7 @@ either true m n h k = h
 either false m n h k = k
 
 -- The graph of a task keeps the limits of a graph.
-pub sound_of : (version : ℕ) (t : Task) → IsTask version t → IsSound (digraph_of t)
+pub sound_of : (version : ℕ) (t : Task) → IsTask version t → IsSoundGraph (digraph_of t)
 sound_of version t is =
     let few : most_vertices version ≤ 96 = either (eqb version 1) 48 96 (omega arith) (omega arith) in
     record {
@@ -69,7 +69,7 @@ few_tasks version n h = go (eqb version 1) h
     go false h = h
 
 -- Each task of a set has a graph that keeps the limits.
-pub all_sound : (version : ℕ) (tasks : List Task) → IsTaskSet version tasks → All (λ t. IsSound (digraph_of t)) tasks
+pub all_sound : (version : ℕ) (tasks : List Task) → IsTaskSet version tasks → All (λ t. IsSoundGraph (digraph_of t)) tasks
 all_sound version tasks is i d l = sound_of version (get_or tasks i d) (is.each i d l)
 
 -- The graphs of a set with constrained deadlines are those of a set.
@@ -77,6 +77,6 @@ pub are_graphs : (version : ℕ) (tasks : List Task) → IsTaskSet version tasks
 are_graphs version tasks is all = record {
   some = rw length-map is.has_task;
   few = rw length-map (few_tasks version (length tasks) is.few_tasks);
-  sound = All-map IsSound digraph_of tasks (all_sound version tasks is);
+  sound = All-map IsSoundGraph digraph_of tasks (all_sound version tasks is);
   constrained = All-map IsConstrainedGraph digraph_of tasks (λ i d l. constrained_of (get_or tasks i d) (all i d l));
 }

@@ -1,6 +1,6 @@
 -- What the graphs of a task set keep.
 use Rattle.std.specs.Prelude.{ℕ, ◌≤◌, List, [], length, All, slice_index_or}
-use Rattle.drt_model.specs.Digraph.{Digraph, IsSound, IsConstrainedGraph}
+use Rattle.drt_model.specs.Digraph.{Digraph, IsSoundGraph, IsConstrainedGraph}
 
 -- What stands for a graph past the last one.
 abbrev pub no_graph : Digraph
@@ -14,5 +14,5 @@ graph_of graphs i = slice_index_or graphs i no_graph
 pub record AreGraphs (graphs : List Digraph) : Type 0 where
   pub some : 1 ≤ length graphs
   pub few : length graphs ≤ 32
-  pub sound : All IsSound graphs
+  pub sound : All IsSoundGraph graphs
   pub constrained : All IsConstrainedGraph graphs

@@ -24,6 +24,6 @@ pub record IsFirstPast (tasks : List Task) (i k : ℕ) : Type 0 where
   pub edge : IsSomeAnd (slice_get tasks i) (λ t. IsFirstPastEdge t k)
 
 -- Why a set has no graphs: an edge is named where it is the first of that kind, and want of memory is free.
-abbrev pub IsCause : List Task → GraphError → Type 0
-IsCause tasks (DeadlinePastSeparation task edge) = IsFirstPast tasks task edge
-IsCause tasks Memory = Unit {0}
+abbrev pub IsGraphCause : List Task → GraphError → Type 0
+IsGraphCause tasks (DeadlinePastSeparation task edge) = IsFirstPast tasks task edge
+IsGraphCause tasks Memory = Unit {0}

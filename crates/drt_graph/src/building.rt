@@ -1,7 +1,7 @@
 //! How the graphs of tasks are built.
 ghost use Rattle.std.specs.Prelude.{◌≡◌, ◌<◌, ◌≤◌, ◌++◌, ◌∷◌, [], All, IfOk, length, map, slice_set, slice_index_or};
 ghost use Rattle.std.specs.List.{range_with_len};
-ghost use Rattle.drt_model.specs.Digraph.{IsSound, digraph_of, edges_from};
+ghost use Rattle.drt_model.specs.Digraph.{IsSoundGraph, digraph_of, edges_from};
 
 use crate::graph::Graph;
 use drt_model::{Edge, Memory, Name, Task, Vertex};
@@ -9,7 +9,7 @@ use std::alloc::Global;
 
 /// The graphs of the tasks, in order.
 pub fn graphs_of(alloc: Global, tasks: &[Task]) -> Result<Vec<Graph>, Memory>
-    requires sound { All (λ t. IsSound (digraph_of t)) tasks.now }
+    requires sound { All (λ t. IsSoundGraph (digraph_of t)) tasks.now }
     requires ends { All (λ t. All (λ e. e.from < length t.vertices) t.edges) tasks.now }
     ensures { IfOk result (λ graphs. graphs.items ≡ map digraph_of tasks.now) }
 {
@@ -22,7 +22,7 @@ pub fn graphs_of(alloc: Global, tasks: &[Task]) -> Result<Vec<Graph>, Memory>
 
 // The graph of one task.
 fn graph_of(alloc: Global, task: &Task) -> Result<Graph, Memory>
-    requires sound { IsSound (digraph_of task.now) }
+    requires sound { IsSoundGraph (digraph_of task.now) }
     requires ends { All (λ e. e.from < length task.now.vertices) task.now.edges }
     ensures { IfOk result (λ graph. graph ≡ digraph_of task.now) }
 {

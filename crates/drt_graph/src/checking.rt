@@ -2,7 +2,7 @@
 ghost use Rattle.std.specs.Prelude.{◌≡◌, ◌<◌, ◌≤◌, ◌↔◌, All, IfSome, IsTrue, MatchOption, MatchResult, length, map, slice_get};
 ghost use Rattle.drt_model.specs.Constrained.{AreConstrained, IsConstrainedEdge};
 ghost use Rattle.drt_model.specs.Digraph.{digraph_of};
-ghost use Rattle.drt_graph.specs.Past.{IsFirstPast, IsFirstPastEdge, IsCause};
+ghost use Rattle.drt_graph.specs.Past.{IsFirstPast, IsFirstPastEdge, IsGraphCause};
 
 use crate::building::graphs_of;
 use crate::error::GraphError;
@@ -13,7 +13,7 @@ use std::alloc::Global;
 /// The graphs of the set, one a task, if on each edge the deadline of the source is at most the separation. Otherwise the
 /// error names the first edge, in order of tasks and then of edges, where it isn't.
 pub fn check(alloc: Global, set: &TaskSet) -> Result<Graphs, GraphError>
-    ensures { MatchResult result (λ graphs. AreConstrained set.now.tasks × (graphs ≡ map digraph_of set.now.tasks)) (IsCause set.now.tasks) }
+    ensures { MatchResult result (λ graphs. AreConstrained set.now.tasks × (graphs ≡ map digraph_of set.now.tasks)) (IsGraphCause set.now.tasks) }
 {
     let tasks = set.tasks();
     match first_past(tasks) {

@@ -2,7 +2,7 @@
 ghost use Rattle.std.specs.Prelude.{◌≡◌, ◌*◌, ◌<◌, ◌≤◌, ◌↔◌, IsTrue, length};
 ghost use Rattle.drt_model.specs.Digraph.{vertex_count};
 ghost use Rattle.drt_model.specs.Walk.{wcet, sep, gap, IsEdge, IsCycle, work, cycle_span};
-ghost use Rattle.drt_model.specs.RatioRules.{IsClosed, IsTight};
+ghost use Rattle.drt_model.specs.RatioRules.{IsClosedCycle, IsTight};
 
 use crate::graph::Graph;
 
@@ -89,7 +89,7 @@ pub fn cycle_sums(graph: &Graph, cycle: &[u32]) -> (u128, u128)
 
 /// Whether the list is empty exactly where the numerator of a ratio is 0, and else a cycle of the graph. It takes no memory.
 pub fn is_closed(graph: &Graph, num: u64, cycle: &[u32]) -> bool
-    ensures { IsTrue result ↔ IsClosed graph.now num cycle.now }
+    ensures { IsTrue result ↔ IsClosedCycle graph.now num cycle.now }
 {
     let count = cycle.len();
     if count == 0 {

@@ -1,6 +1,6 @@
 //! The graph of a task.
 ghost use Rattle.std.specs.Prelude.{◌≡◌, ◌<◌, IfOk, map};
-ghost use Rattle.drt_model.specs.Digraph.{IsSound, vertex_count, vertex_of, out_degree, edge_of};
+ghost use Rattle.drt_model.specs.Digraph.{IsSoundGraph, vertex_count, vertex_of, out_degree, edge_of};
 ghost use Rattle.drt_model.specs.Walk.{sep, sep_in};
 
 use crate::building::copy_vertices;
@@ -20,20 +20,20 @@ pub struct Graph {
 
 impl Model for Graph {
     ghost use Rattle.std.specs.Prelude.{map};
-    ghost use Rattle.drt_model.specs.Digraph.{Digraph, IsSound};
+    ghost use Rattle.drt_model.specs.Digraph.{Digraph, IsSoundGraph};
 
     ghost Value = { Digraph };
 
     ghost view = { λ g. record { vertices = g.vertices.items; out = map (λ row. row.items) g.out.items } };
 
-    ghost invariant = { λ g. IsSound (record { vertices = g.vertices.items; out = map (λ row. row.items) g.out.items }) };
+    ghost invariant = { λ g. IsSoundGraph (record { vertices = g.vertices.items; out = map (λ row. row.items) g.out.items }) };
 }
 
 impl Graph {
     /// How many vertices there are, 1 to 96.
     pub fn vertex_count(&self) -> u32
         ensures count { result ≡ vertex_count self.now }
-        ensures sound { IsSound self.now }
+        ensures sound { IsSoundGraph self.now }
     {
         self.vertices.len() as u32
     }

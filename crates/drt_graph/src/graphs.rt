@@ -1,6 +1,6 @@
 //! The graphs of a task set.
 ghost use Rattle.std.specs.Prelude.{◌≡◌, ◌<◌, length};
-ghost use Rattle.drt_model.specs.Digraph.{IsSound, IsConstrainedGraph};
+ghost use Rattle.drt_model.specs.Digraph.{IsSoundGraph, IsConstrainedGraph};
 ghost use Rattle.drt_graph.specs.Graphs.{AreGraphs, graph_of};
 
 use crate::graph::Graph;
@@ -38,7 +38,7 @@ impl Graphs {
     pub fn graph(&self, task: u32) -> &Graph
         requires { task < length self.now }
         ensures graph { result.now ≡ graph_of self.now task }
-        ensures sound { IsSound result.now }
+        ensures sound { IsSoundGraph result.now }
         ensures constrained { IsConstrainedGraph result.now }
     {
         &self.graphs[task as usize]

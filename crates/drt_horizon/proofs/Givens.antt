@@ -6,7 +6,7 @@ use Rattle.drt_graph.specs.Fits.{AreNear}
 use Rattle.drt_ratio.specs.declared.ratio_proof.RatioProof.{RatioProof}
 use Rattle.drt_ratio.specs.SetRatios.{AreSmall, fraction_of}
 use Rattle.drt_rates.specs.Rates.{AreRated}
-use Rattle.drt_horizon.specs.Given.{IsGiven, AreGiven}
+use Rattle.drt_horizon.specs.Given.{IsRatioGiven, AreGiven}
 
 -- The first keeps what all keep.
 pub head_of : {X : Type 0} (P : X → Type 0) (x : X) (xs : List X) → All P (x ∷ xs) → P x
@@ -40,7 +40,7 @@ given_rated (g ∷ graphs) (p ∷ proofs) given =
     ((record { num = omega (arith, given.0.reach.num); some = p.ratio.positive; den = omega (arith, given.0.reach.den) }, near), given_rated graphs proofs given.1)
 
 -- One more graph, with what is given for it.
-pub given_push : (graphs : List Digraph) (proofs : List RatioProof) (g : Digraph) (p : RatioProof) → AreGiven graphs proofs → IsGiven g p → AreGiven (graphs ++ g ∷ []) (proofs ++ p ∷ [])
+pub given_push : (graphs : List Digraph) (proofs : List RatioProof) (g : Digraph) (p : RatioProof) → AreGiven graphs proofs → IsRatioGiven g p → AreGiven (graphs ++ g ∷ []) (proofs ++ p ∷ [])
 given_push [] [] g p are is = (is, tt)
 given_push [] (q ∷ proofs) g p are is = absurd are
 given_push (h ∷ graphs) [] g p are is = absurd are

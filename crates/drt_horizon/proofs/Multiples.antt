@@ -4,7 +4,7 @@ use Rattle.std.proofs.lemmas.Bool.{cases_lt, eqb-true, eqb-false, or_parts}
 use Rattle.std.proofs.lemmas.Nat.{div-add-mod', le-div}
 use Rattle.std.proofs.Math.Nat.{mul-mod_left, div-mul-le_self, div-le_self}
 use Rattle.drt_horizon.specs.declared.cycle_turns.CycleTurn.{CycleTurn}
-use Rattle.drt_horizon.specs.CycleTurns.{is_step, IsStep, steps_to, turned, IsClear, IsNext, AreCycleTurns}
+use Rattle.drt_horizon.specs.CycleTurns.{is_step, IsStepTime, steps_to, turned, HasNoOverloadBelow, IsNextStepTime, AreCycleTurns}
 
 apart : (x y : ℕ) → (x ≡ y → ⊥) → eqb x y ≡ false
 apart x y differ = go (eqb x y) refl
@@ -22,7 +22,7 @@ plain m q p t s l k e h = go (cases_lt q m)
     go (inr x) = let f = mul-le-mul_left p x in absurd (omega arith)
 
 -- The first multiple of one span.
-pub next_multiple : (c : CycleTurn) (t : ℕ) → 1 ≤ c.span → IsNext (c ∷ []) t ((t / c.span + 1) * c.span)
+pub next_multiple : (c : CycleTurn) (t : ℕ) → 1 ≤ c.span → IsNextStepTime (c ∷ []) t ((t / c.span + 1) * c.span)
 unfolding is_step
 next_multiple c t some = record {
   after = beyond;
@@ -60,7 +60,7 @@ or_none true b e f = absurd (cc)
 or_none false b e f = f
 
 -- One more turn whose next time is earlier.
-pub next_less : (cycle_turns : List CycleTurn) (c : CycleTurn) (t next other : ℕ) → IsNext cycle_turns t next → IsNext (c ∷ []) t other → other < next → IsNext (cycle_turns ++ c ∷ []) t other
+pub next_less : (cycle_turns : List CycleTurn) (c : CycleTurn) (t next other : ℕ) → IsNextStepTime cycle_turns t next → IsNextStepTime (c ∷ []) t other → other < next → IsNextStepTime (cycle_turns ++ c ∷ []) t other
 next_less cycle_turns c t next other p q l = record {
   after = q.after;
   step = rw step_push (or_right (is_step cycle_turns other) (is_step (c ∷ []) other) q.step);
@@ -68,7 +68,7 @@ next_less cycle_turns c t next other p q l = record {
 }
 
 -- One more turn whose next time is no earlier.
-pub next_more : (cycle_turns : List CycleTurn) (c : CycleTurn) (t next other : ℕ) → IsNext cycle_turns t next → IsNext (c ∷ []) t other → next ≤ other → IsNext (cycle_turns ++ c ∷ []) t next
+pub next_more : (cycle_turns : List CycleTurn) (c : CycleTurn) (t next other : ℕ) → IsNextStepTime cycle_turns t next → IsNextStepTime (c ∷ []) t other → next ≤ other → IsNextStepTime (cycle_turns ++ c ∷ []) t next
 next_more cycle_turns c t next other p q l = record {
   after = p.after;
   step = rw step_push (or_left (is_step cycle_turns next) (is_step (c ∷ []) next) p.step);
@@ -85,7 +85,7 @@ count_stays cycle_turns t (suc n) l none = go (cases_lt t (suc n)) (λ m. count_
     go (inr m) ih = let e : t ≡ suc n = omega arith in rw e refl
 
 -- The next step time counts one more.
-pub count_more : (cycle_turns : List CycleTurn) (t next : ℕ) → IsNext cycle_turns t next → steps_to cycle_turns next ≡ steps_to cycle_turns t + 1
+pub count_more : (cycle_turns : List CycleTurn) (t next : ℕ) → IsNextStepTime cycle_turns t next → steps_to cycle_turns next ≡ steps_to cycle_turns t + 1
 unfolding steps_to
 count_more cycle_turns t zero is = let a = is.after in absurd (omega arith)
 count_more cycle_turns t (suc next) is =
@@ -98,7 +98,7 @@ unfolding steps_to
 count_none cycle_turns = refl
 
 -- between two step times there is nothing to check.
-pub clear_to : (cycle_turns : List CycleTurn) (t next : ℕ) → IsNext cycle_turns t next → IsClear cycle_turns (t + 1) → IsClear cycle_turns next
+pub clear_to : (cycle_turns : List CycleTurn) (t next : ℕ) → IsNextStepTime cycle_turns t next → HasNoOverloadBelow cycle_turns (t + 1) → HasNoOverloadBelow cycle_turns next
 clear_to cycle_turns t next is clear s l step = go (cases_lt t s)
   where
     go : (t < s) ⊎ (s ≤ t) → turned cycle_turns s ≤ s
@@ -106,7 +106,7 @@ clear_to cycle_turns t next is clear s l step = go (cases_lt t s)
     go (inr m) = clear s (omega arith) step
 
 -- The next step time is clear too.
-pub clear_more : (cycle_turns : List CycleTurn) (t next : ℕ) → IsNext cycle_turns t next → IsClear cycle_turns (t + 1) → turned cycle_turns next ≤ next → IsClear cycle_turns (next + 1)
+pub clear_more : (cycle_turns : List CycleTurn) (t next : ℕ) → IsNextStepTime cycle_turns t next → HasNoOverloadBelow cycle_turns (t + 1) → turned cycle_turns next ≤ next → HasNoOverloadBelow cycle_turns (next + 1)
 clear_more cycle_turns t next is clear fits s l step = go (cases_lt s next)
   where
     go : (s < next) ⊎ (next ≤ s) → turned cycle_turns s ≤ s
@@ -151,11 +151,11 @@ turned_zero (c ∷ cycle_turns) are =
     rw (z, turned_zero cycle_turns are.3) (omega arith)
 
 -- Where whole turns are too much at some time, they are at a step time up to it.
-pub steps_decide : (cycle_turns : List CycleTurn) → AreCycleTurns cycle_turns → (t : ℕ) → t < turned cycle_turns t → (s : ℕ) × IsStep cycle_turns s × (s ≤ t) × (s < turned cycle_turns s)
+pub steps_decide : (cycle_turns : List CycleTurn) → AreCycleTurns cycle_turns → (t : ℕ) → t < turned cycle_turns t → (s : ℕ) × IsStepTime cycle_turns s × (s ≤ t) × (s < turned cycle_turns s)
 steps_decide cycle_turns are zero l = let z = turned_zero cycle_turns are in absurd (omega arith)
 steps_decide cycle_turns are (suc t) l = go (is_step cycle_turns (suc t)) refl (λ m. steps_decide cycle_turns are t m)
   where
-    go : (b : Bool) → is_step cycle_turns (suc t) ≡ b → (t < turned cycle_turns t → (s : ℕ) × IsStep cycle_turns s × (s ≤ t) × (s < turned cycle_turns s)) → (s : ℕ) × IsStep cycle_turns s × (s ≤ suc t) × (s < turned cycle_turns s)
+    go : (b : Bool) → is_step cycle_turns (suc t) ≡ b → (t < turned cycle_turns t → (s : ℕ) × IsStepTime cycle_turns s × (s ≤ t) × (s < turned cycle_turns s)) → (s : ℕ) × IsStepTime cycle_turns s × (s ≤ suc t) × (s < turned cycle_turns s)
     go true e ih = (suc t, (omega arith, e), omega arith, l)
     go false e ih = let r = ih (omega (arith, turned_stays cycle_turns are t e)) in (r.0, r.1, omega (arith, r.2), r.3)
 

@@ -12,7 +12,7 @@ use Rattle.drt_ratio.specs.declared.ratio_proof.RatioProof.{RatioProof}
 use Rattle.drt_graph.proofs.Paths.{work_none}
 use Rattle.drt_horizon.specs.declared.answers.Horizon.TheVariants.{Under}
 use Rattle.drt_horizon.specs.Given.{AreGiven}
-use Rattle.drt_horizon.specs.Plans.{IsPlan}
+use Rattle.drt_horizon.specs.Plans.{IsHorizonPlan}
 use Rattle.drt_rates.specs.Demands.{demands}
 use Rattle.drt_horizon.specs.Laws.{IsDue, AreDue, efforts, IsWalkLabel, AreWalkFronts}
 use Rattle.drt_horizon.proofs.Horizons.{horizon_holds}
@@ -61,7 +61,7 @@ front_walks (g ∷ graphs) (f ∷ fronts) t are =
     (w.0 ∷ r.0, (w.1, r.1), omega (arith, w.2, r.2))
 
 -- A time with too much demand is within the horizon.
-pub demands_within : (graphs : List Digraph) (proofs : List RatioProof) → AreGraphs graphs → AreGiven graphs proofs → (bound : ℕ) → IsPlan graphs proofs (Ok (Under bound)) → (fronts : List (List FrontEntry)) → AreWalkFronts graphs fronts → (t : ℕ) → t < demands graphs fronts t → t ≤ bound
+pub demands_within : (graphs : List Digraph) (proofs : List RatioProof) → AreGraphs graphs → AreGiven graphs proofs → (bound : ℕ) → IsHorizonPlan graphs proofs (Ok (Under bound)) → (fronts : List (List FrontEntry)) → AreWalkFronts graphs fronts → (t : ℕ) → t < demands graphs fronts t → t ≤ bound
 demands_within graphs proofs are given bound plan fronts is t over =
     let w = front_walks graphs fronts t is in
     horizon_holds graphs proofs are given bound plan t w.0 w.1 (omega (arith, w.2, over))

@@ -38,8 +38,8 @@ is_step [] t = false
 is_step (c ∷ cycle_turns) t = t % c.span == 0 || is_step cycle_turns t
 
 -- A step time is a positive multiple of a turn's span.
-abbrev pub IsStep : List CycleTurn → ℕ → Type 0
-IsStep cycle_turns t = (1 ≤ t) × (is_step cycle_turns t ≡ true)
+abbrev pub IsStepTime : List CycleTurn → ℕ → Type 0
+IsStepTime cycle_turns t = (1 ≤ t) × (is_step cycle_turns t ≡ true)
 
 -- How many of 1, .., t are step times; equal ones count once.
 unfoldable pub steps_to : List CycleTurn → ℕ → ℕ
@@ -47,16 +47,16 @@ steps_to cycle_turns zero = 0
 steps_to cycle_turns (suc t) = (if is_step cycle_turns (suc t) then 1 else 0) + steps_to cycle_turns t
 
 -- No step time below t has more work than time.
-abbrev pub IsClear : List CycleTurn → ℕ → Type 0
-IsClear cycle_turns t = (s : ℕ) → s < t → IsStep cycle_turns s → turned cycle_turns s ≤ s
+abbrev pub HasNoOverloadBelow : List CycleTurn → ℕ → Type 0
+HasNoOverloadBelow cycle_turns t = (s : ℕ) → s < t → IsStepTime cycle_turns s → turned cycle_turns s ≤ s
 
 -- The least step time with more work than time, which is among the first so many; or the last of these, where none has that.
-abbrev pub IsOver : List CycleTurn → ℕ → Over → Type 0
-IsOver cycle_turns budget (Found t) = IsStep cycle_turns t × (t < turned cycle_turns t) × IsClear cycle_turns t × (steps_to cycle_turns t ≤ budget)
-IsOver cycle_turns budget (Spent t) = IsStep cycle_turns t × IsClear cycle_turns (t + 1) × (steps_to cycle_turns t ≡ budget)
+abbrev pub IsOverFound : List CycleTurn → ℕ → Over → Type 0
+IsOverFound cycle_turns budget (Found t) = IsStepTime cycle_turns t × (t < turned cycle_turns t) × HasNoOverloadBelow cycle_turns t × (steps_to cycle_turns t ≤ budget)
+IsOverFound cycle_turns budget (Spent t) = IsStepTime cycle_turns t × HasNoOverloadBelow cycle_turns (t + 1) × (steps_to cycle_turns t ≡ budget)
 
 -- The next is the first step time after t.
-pub record IsNext (cycle_turns : List CycleTurn) (t next : ℕ) : Type 0 where
+pub record IsNextStepTime (cycle_turns : List CycleTurn) (t next : ℕ) : Type 0 where
   pub after : t < next
   pub step : is_step cycle_turns next ≡ true
   pub first : (s : ℕ) → t < s → s < next → is_step cycle_turns s ≡ false

@@ -6,7 +6,7 @@ use Rattle.drt_ratio.specs.declared.ratio_proof.RatioProof.{RatioProof}
 use Rattle.drt_ratio.specs.Claims.{IsRatioProof, IsInReach}
 
 -- What `greatest` gives for a graph: the ratio with its evidence, in reach, and it keeps the rules of a claimed ratio.
-pub record IsGiven (g : Digraph) (p : RatioProof) : Type 0 where
+pub record IsRatioGiven (g : Digraph) (p : RatioProof) : Type 0 where
   pub greatest : IsRatioProof g p.ratio.num p.ratio.den p.cycle p.potentials
   pub reach : IsInReach g p.ratio.num p.ratio.den p.potentials
   pub keeps : ProvesRatio g p.ratio.num p.ratio.den p.cycle p.potentials
@@ -16,7 +16,7 @@ abbrev pub AreGiven : List Digraph → List RatioProof → Type 0
 AreGiven [] [] = Unit {0}
 AreGiven [] (p ∷ proofs) = ⊥
 AreGiven (g ∷ graphs) [] = ⊥
-AreGiven (g ∷ graphs) (p ∷ proofs) = IsGiven g p × AreGiven graphs proofs
+AreGiven (g ∷ graphs) (p ∷ proofs) = IsRatioGiven g p × AreGiven graphs proofs
 
 -- The potentials of each, in order.
 abbrev pub potentials_of : List RatioProof → List (List ℤ)

@@ -1,6 +1,6 @@
 -- What the horizon and the turns of a set mean.
 use Rattle.std.specs.Prelude.{◌≡◌, ℕ, ◌+◌, ◌-◌, ◌*◌, ◌/◌, ◌<◌, ◌≤◌, ℤ, pos, ◌+ℤ◌, ◌≤ℤ◌, List, [], ◌∷◌, All, Ok}
-use Rattle.drt_model.specs.Digraph.{Digraph, IsSound, vertex_count}
+use Rattle.drt_model.specs.Digraph.{Digraph, IsSoundGraph, vertex_count}
 use Rattle.drt_model.specs.Walk.{IsPath, last_of, work, span, deadline}
 use Rattle.drt_model.specs.RatioRules.{FitPotentials}
 use Rattle.drt_model.specs.Utilisation.{IsScale}
@@ -14,14 +14,14 @@ use Rattle.drt_horizon.specs.declared.answers.Horizon.TheVariants.{Under}
 use Rattle.drt_horizon.specs.declared.answers.Over.TheVariants.{Spent}
 use Rattle.drt_horizon.specs.Given.{AreGiven}
 use Rattle.drt_rates.specs.Demands.{demands}
-use Rattle.drt_horizon.specs.Plans.{IsPlan, IsAboveOne, rate_at}
-use Rattle.drt_horizon.specs.CycleTurns.{cycle_turns_of, cycle_turn_works, turned, IsStep, IsOver}
+use Rattle.drt_horizon.specs.Plans.{IsHorizonPlan, IsPlannedAboveOne, rate_at}
+use Rattle.drt_horizon.specs.CycleTurns.{cycle_turns_of, cycle_turn_works, turned, IsStepTime, IsOverFound}
 
 -- Where potentials fit each edge at the ratio a / b, b times the work of a walk is at most a times its last deadline plus the
 -- constant.
 abbrev pub WorkIsBounded : Type 0
 WorkIsBounded =
-    (g : Digraph) → IsSound g →
+    (g : Digraph) → IsSoundGraph g →
     (a b : ℕ) (hs : List ℤ) → FitPotentials g a b hs →
     (u : ℕ) (vs : List ℕ) → u < vertex_count g → IsPath g u vs →
     pos (b * work g (u ∷ vs)) ≤ℤ (pos (a * (span g u vs + deadline g (last_of u vs))) +ℤ constant_of g a b hs)
@@ -48,7 +48,7 @@ efforts (g ∷ graphs) (w ∷ walks) = work g w + efforts graphs walks
 abbrev pub HorizonHolds : Type 0
 HorizonHolds =
     (graphs : List Digraph) (proofs : List RatioProof) → AreGraphs graphs → AreGiven graphs proofs →
-    (bound : ℕ) → IsPlan graphs proofs (Ok (Under bound)) →
+    (bound : ℕ) → IsHorizonPlan graphs proofs (Ok (Under bound)) →
     (t : ℕ) (walks : List (List ℕ)) → AreDue t graphs walks → t < efforts graphs walks →
     t ≤ bound
 
@@ -59,16 +59,16 @@ latest scale graphs proofs = scale * cycle_turn_works (cycle_turns_of graphs pro
 -- Where the plan is that the utilisation is above one, a step time up to that time has more work of whole turns than time.
 abbrev pub OverloadHasATime : Type 0
 OverloadHasATime =
-    (graphs : List Digraph) (proofs : List RatioProof) → AreGraphs graphs → AreGiven graphs proofs → IsAboveOne graphs proofs →
+    (graphs : List Digraph) (proofs : List RatioProof) → AreGraphs graphs → AreGiven graphs proofs → IsPlannedAboveOne graphs proofs →
     (scale : ℕ) → IsScale (fractions_of proofs) scale →
-    (t : ℕ) × IsStep (cycle_turns_of graphs proofs) t × (t ≤ latest scale graphs proofs) × (t < turned (cycle_turns_of graphs proofs) t)
+    (t : ℕ) × IsStepTime (cycle_turns_of graphs proofs) t × (t ≤ latest scale graphs proofs) × (t < turned (cycle_turns_of graphs proofs) t)
 
 -- A search whose budget is at least that time does not spend it.
 abbrev pub SearchEnds : Type 0
 SearchEnds =
-    (graphs : List Digraph) (proofs : List RatioProof) → AreGraphs graphs → AreGiven graphs proofs → IsAboveOne graphs proofs →
+    (graphs : List Digraph) (proofs : List RatioProof) → AreGraphs graphs → AreGiven graphs proofs → IsPlannedAboveOne graphs proofs →
     (scale : ℕ) → IsScale (fractions_of proofs) scale →
-    (budget last : ℕ) → latest scale graphs proofs ≤ budget → IsOver (cycle_turns_of graphs proofs) budget (Spent last) → ⊥
+    (budget last : ℕ) → latest scale graphs proofs ≤ budget → IsOverFound (cycle_turns_of graphs proofs) budget (Spent last) → ⊥
 
 -- The label is that of a walk of the graph.
 abbrev pub IsWalkLabel : Digraph → FrontEntry → Type 0
@@ -86,7 +86,7 @@ AreWalkFronts (g ∷ graphs) (f ∷ fronts) = All (IsWalkLabel g) f × AreWalkFr
 abbrev pub DemandsWithin : Type 0
 DemandsWithin =
     (graphs : List Digraph) (proofs : List RatioProof) → AreGraphs graphs → AreGiven graphs proofs →
-    (bound : ℕ) → IsPlan graphs proofs (Ok (Under bound)) →
+    (bound : ℕ) → IsHorizonPlan graphs proofs (Ok (Under bound)) →
     (fronts : List (List FrontEntry)) → AreWalkFronts graphs fronts →
     (t : ℕ) → t < demands graphs fronts t →
     t ≤ bound

@@ -30,9 +30,9 @@ IsPlanAt scale graphs proofs (Err TooFine) = 2 ^ 60 < scale
 IsPlanAt scale graphs proofs (Err TooFar) = (scale ≤ 2 ^ 60) × (rate_at scale proofs < scale) × (2 ^ 40 < horizon_at scale graphs proofs)
 
 -- It is so at the scale of the set's ratios.
-abbrev pub IsPlan : List Digraph → List RatioProof → Result Horizon Beyond → Type 0
-IsPlan graphs proofs result = (scale : ℕ) × IsScale (fractions_of proofs) scale × IsPlanAt scale graphs proofs result
+abbrev pub IsHorizonPlan : List Digraph → List RatioProof → Result Horizon Beyond → Type 0
+IsHorizonPlan graphs proofs result = (scale : ℕ) × IsScale (fractions_of proofs) scale × IsPlanAt scale graphs proofs result
 
 -- The plan is that the utilisation is above one.
-abbrev pub IsAboveOne : List Digraph → List RatioProof → Type 0
-IsAboveOne graphs proofs = IsPlan graphs proofs (Ok Over)
+abbrev pub IsPlannedAboveOne : List Digraph → List RatioProof → Type 0
+IsPlannedAboveOne graphs proofs = IsHorizonPlan graphs proofs (Ok Over)

@@ -2,7 +2,7 @@
 ghost use Rattle.std.specs.Prelude.{◌≡◌, ℕ, ◌+◌, ◌<◌, ◌≤◌, [], ◌∷◌, length};
 ghost use Rattle.drt_model.specs.Digraph.{vertex_count};
 ghost use Rattle.drt_model.specs.Walk.{IsCycle, work, cycle_span};
-ghost use Rattle.drt_horizon.specs.CycleTurns.{AreCycleTurns, IsNext, turned};
+ghost use Rattle.drt_horizon.specs.CycleTurns.{AreCycleTurns, IsNextStepTime, turned};
 
 use drt_graph::{Graph, cycle_sums};
 
@@ -33,7 +33,7 @@ fn next_of(cycle_turn: CycleTurn, t: u64) -> u64
     requires some { 1 ≤ cycle_turn.span }
     requires small { cycle_turn.span ≤ 100000000 }
     requires time { t ≤ 1000000000000000 }
-    ensures next { IsNext (cycle_turn ∷ []) t result }
+    ensures next { IsNextStepTime (cycle_turn ∷ []) t result }
     ensures near { result ≤ t + 100000000 }
 {
     (t / cycle_turn.span + 1) * cycle_turn.span
@@ -44,7 +44,7 @@ pub fn next_step(cycle_turns: &[CycleTurn], t: u64) -> u64
     requires cycle_turns { AreCycleTurns cycle_turns.now }
     requires some { 1 ≤ length cycle_turns.now }
     requires time { t ≤ 1000000000000000 }
-    ensures next { IsNext cycle_turns.now t result }
+    ensures next { IsNextStepTime cycle_turns.now t result }
     ensures near { result ≤ t + 100000000 }
 {
     let mut next = next_of(cycle_turns[0], t);

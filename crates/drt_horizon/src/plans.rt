@@ -1,6 +1,6 @@
 //! The plan of a set.
 ghost use Rattle.drt_horizon.specs.Given.{AreGiven};
-ghost use Rattle.drt_horizon.specs.Plans.{IsPlan};
+ghost use Rattle.drt_horizon.specs.Plans.{IsHorizonPlan};
 
 use crate::answers::{Beyond, Horizon};
 use drt_graph::Graphs;
@@ -15,7 +15,7 @@ const GREATEST_BOUND: u128 = 1 << 40;
 /// Source: Stigge, Ekberg, Guan and Yi, "The Digraph Real-Time Task Model" (RTAS 2011), with potentials for the constants.
 pub fn plan(graphs: &Graphs, proofs: &[RatioProof]) -> Result<Horizon, Beyond>
     requires { AreGiven graphs.now proofs.now }
-    ensures { IsPlan graphs.now proofs.now result }
+    ensures { IsHorizonPlan graphs.now proofs.now result }
 {
     let _count = graphs.count();
     let Some(common) = scale::<RatioProof>(proofs) else {

@@ -1,8 +1,8 @@
 //! The search for an overload.
 ghost use Rattle.std.specs.Prelude.{◌≤◌, length};
 ghost use Rattle.drt_horizon.specs.Given.{AreGiven};
-ghost use Rattle.drt_horizon.specs.Plans.{IsAboveOne};
-ghost use Rattle.drt_horizon.specs.CycleTurns.{AreCycleTurns, IsOver, cycle_turns_of};
+ghost use Rattle.drt_horizon.specs.Plans.{IsPlannedAboveOne};
+ghost use Rattle.drt_horizon.specs.CycleTurns.{AreCycleTurns, IsOverFound, cycle_turns_of};
 
 use crate::answers::Over;
 use crate::cycle_turns::{CycleTurn, cycle_turn_of, next_step, work_within};
@@ -16,7 +16,7 @@ fn search(cycle_turns: &[CycleTurn], budget: u64) -> Over
     requires few { length cycle_turns.now ≤ 32 }
     requires budget_some { 1 ≤ budget }
     requires budget_few { budget ≤ 1000000 }
-    ensures { IsOver cycle_turns.now budget result }
+    ensures { IsOverFound cycle_turns.now budget result }
 {
     let mut t = 0;
     'steps: for _ in 0..budget {
@@ -34,10 +34,10 @@ fn search(cycle_turns: &[CycleTurn], budget: u64) -> Over
 /// cycle, and equal ones count once. It takes no memory.
 pub fn overload(graphs: &Graphs, proofs: &[RatioProof], budget: u64) -> Over
     requires given { AreGiven graphs.now proofs.now }
-    requires above { IsAboveOne graphs.now proofs.now }
+    requires above { IsPlannedAboveOne graphs.now proofs.now }
     requires budget_some { 1 ≤ budget }
     requires budget_few { budget ≤ 1000000 }
-    ensures { IsOver (cycle_turns_of graphs.now proofs.now) budget result }
+    ensures { IsOverFound (cycle_turns_of graphs.now proofs.now) budget result }
 {
     let mut cycle_turns = [CycleTurn { work: 0, span: 0 }; 32];
     let mut count = 0usize;

@@ -19,13 +19,13 @@ pub record Store : Type 0 where
   pub faults : ℕ
 
 -- A sink that never fails: the bytes in its room, the room, and how many bytes were given up.
-pub record Kept : Type 0 where
+pub record KeptBytes : Type 0 where
   pub bytes : List ℕ
   pub room : ℕ
   pub lost : ℕ
 
 -- What such a sink tells: its bytes, as long as none was given up.
-abbrev pub told : Kept → Option (List ℕ)
+abbrev pub told : KeptBytes → Option (List ℕ)
 told k = cond (nat_eq k.lost 0) (Some k.bytes) None
 
 -- A reader of std as a source: the bytes that the reader has left, where it tells them, and the faults so far.

@@ -22,9 +22,9 @@ pub struct SureSink {
 
 impl Model for SureSink {
     ghost use Rattle.std.specs.Prelude.{◌≤◌, vec_capacity, vec_len};
-    ghost use Rattle.drt_io.specs.Devices.{Kept};
+    ghost use Rattle.drt_io.specs.Devices.{KeptBytes};
 
-    ghost Value = { Kept };
+    ghost Value = { KeptBytes };
 
     ghost view = { λ s. record { bytes = s.held.items; room = s.room; lost = s.lost } };
 

@@ -2,7 +2,7 @@
 use Rattle.std.proofs.Common.{◌≡◌, ℕ, zero, suc, ◌*◌, ◌<◌, ◌≤◌, List, [], ◌∷◌, ◌++◌, length, get_or, Option, Some, None, ◌⊎◌, inl, inr, refl, sym, subst, ◌∙◌, arith, append_assoc, mul-le-mul_left}
 use Rattle.std.proofs.lemmas.Bool.{cases_lt}
 use Rattle.std.proofs.Math.Nat.{le_of_mul-le-mul_left}
-use Rattle.drt_model.specs.Digraph.{Digraph, IsSound, vertex_count}
+use Rattle.drt_model.specs.Digraph.{Digraph, IsSoundGraph, vertex_count}
 use Rattle.drt_model.specs.Walk.{IsCycle, IsEdge, IsPath, cycle_span, last_of, sep, work}
 use Rattle.drt_graph.proofs.Gaps.{edge_some}
 use Rattle.drt_ratio.proofs.Optima.{cycle_sums}
@@ -19,7 +19,7 @@ HasBest g S = ((c : List ℕ) → S c → ¬ IsCycle g c) ⊎ ((d : List ℕ) ×
 abbrev pub IsGrown : ℕ → List ℕ → ℕ → List ℕ → Type 0
 IsGrown bound p n c = (xs : List ℕ) × (c ≡ p ++ xs) × (length xs ≤ n) × ((k : ℕ) → k < length xs → get_or xs k 0 < bound)
 
-module _ (g : Digraph) (sound : IsSound g) where
+module _ (g : Digraph) (sound : IsSoundGraph g) where
   is_edge : (u v : ℕ) → IsEdge g u v ⊎ (¬ IsEdge g u v)
   is_edge u v = go (sep g u v) refl
     where

@@ -3,7 +3,7 @@ use Rattle.std.proofs.Common.{◌≡◌, ℕ, zero, suc, ◌+◌, ◌-◌, ◌<�
 use Rattle.std.specs.Prelude.{◌≢◌}
 use Rattle.std.proofs.lemmas.Bool.{cases_eq, cases_lt}
 use Rattle.std.proofs.lemmas.List.{length-take}
-use Rattle.drt_model.specs.Digraph.{Digraph, IsSound, vertex_count}
+use Rattle.drt_model.specs.Digraph.{Digraph, IsSoundGraph, vertex_count}
 use Rattle.drt_model.specs.Utilisation.{AreDistinct}
 use Rattle.drt_model.specs.Walk.{IsPath, last_of, span, work}
 use Rattle.drt_graph.proofs.Paths.{last_both, path_both, path_first, path_rest, span_both, work_both}
@@ -118,7 +118,7 @@ cut g u cs is t = parts (take p cs) (take m (drop p cs)) (drop m (drop p cs)) (i
           spans = ap (span g u) (sym e) ∙ span_both g u xs (ls ++ ys) ∙ omega (arith, span_both g (last_of u xs) ls ys, span_both g u xs ys, ap (λ w. span g w ys) back);
         }
 
-module _ (g : Digraph) (sound : IsSound g) (Q : ℕ → ℕ → Type 0) (add : (a b c d : ℕ) → Q a b → Q c d → Q (a + c) (b + d))
+module _ (g : Digraph) (sound : IsSoundGraph g) (Q : ℕ → ℕ → Type 0) (add : (a b c d : ℕ) → Q a b → Q c d → Q (a + c) (b + d))
     (short : (u : ℕ) (cs : List ℕ) → IsClosedPath g u cs → length cs ≤ vertex_count g → Q (work g cs) (span g u cs)) where
   all_up_to : (n u : ℕ) (cs : List ℕ) → length cs ≤ n → IsClosedPath g u cs → Q (work g cs) (span g u cs)
   all_up_to zero u cs l is = absurd (omega (arith, is.some))

@@ -6,7 +6,7 @@ use Rattle.std.proofs.lemmas.Nat.Gcd.{IsGcd-from_zero, IsGcd-swap}
 use Rattle.drt_num.proofs.CommonMultiples.{lcm_exists}
 use Rattle.drt_num.proofs.Divisors.{gcd_exists, gcd_positive}
 use Rattle.drt_num.proofs.Fractions.{lowest_terms, part_positive, same_value}
-use Rattle.drt_model.specs.Digraph.{Digraph, IsSound, vertex_count}
+use Rattle.drt_model.specs.Digraph.{Digraph, IsSoundGraph, vertex_count}
 use Rattle.drt_model.specs.Utilisation.{AreRatios, Fraction, IsRatio, IsScale}
 use Rattle.drt_model.specs.Walk.{IsCycle, cycle_span, last_of, span, work}
 use Rattle.drt_model.specs.declared.tasks.Task.{Task}
@@ -25,7 +25,7 @@ record HasRatioOf (g : Digraph) : Type 0 where
   is : IsRatio g ratio
   some : 1 ≤ ratio.den
 
-module _ (g : Digraph) (sound : IsSound g) where
+module _ (g : Digraph) (sound : IsSoundGraph g) where
   -- A closed path as a cycle.
   closed_cycle : (u : ℕ) (cs : List ℕ) → IsClosedPath g u cs → IsCycle g cs × (cycle_span g cs ≡ span g u cs)
   closed_cycle u [] is = absurd (omega (arith, is.some))
@@ -114,7 +114,7 @@ record HaveRates (graphs : List Digraph) : Type 0 where
   scale : ℕ
   is_scale : IsScale ratios scale
 
-have_rates : (graphs : List Digraph) → All IsSound graphs → HaveRates graphs
+have_rates : (graphs : List Digraph) → All IsSoundGraph graphs → HaveRates graphs
 have_rates [] sound = record { ratios = []; are = tt; scale = 1; is_scale = scale_none }
 have_rates (g ∷ graphs) sound =
     let rest = have_rates graphs (λ i d l. sound (suc i) d (omega arith)) in
@@ -123,5 +123,5 @@ have_rates (g ∷ graphs) sound =
     record { ratios = r.ratio ∷ rest.ratios; are = (r.is, rest.are); scale = lcm.0; is_scale = scale_cons r.ratio rest.ratios rest.scale lcm.0 rest.is_scale r.some lcm.1 }
 
 -- Tasks have rates.
-pub rates_exist : (tasks : List Task) → All IsSound (graphs_of tasks) → Rates tasks
+pub rates_exist : (tasks : List Task) → All IsSoundGraph (graphs_of tasks) → Rates tasks
 rates_exist tasks sound = let h = have_rates (graphs_of tasks) sound in record { ratios = h.ratios; are = h.are; scale = h.scale; is_scale = h.is_scale }

@@ -3,9 +3,9 @@ use Rattle.std.proofs.Common.{◌≡◌, ℕ, ◌+◌, ◌-◌, ◌<◌, ◌≤�
 use Rattle.drt_model.specs.Contents.{Contents}
 use Rattle.drt_model.specs.declared.jobs.Policy.{Policy}
 use Rattle.drt_claims.specs.declared.evidence.Evidence.{Evidence}
-use Rattle.drt_margin.specs.Answers.{IsFound, IsMarginAnswer, IsNext, IsOtherFor, IsReached, IsYesFor}
-use Rattle.drt_margin.specs.Margin.{IsWithin, between, deadline_at, last, lowers, middle, opens, plus_set, raises, wcet_at}
-use Rattle.drt_margin.specs.Steps.{IsAsked, IsLast, IsLeast, IsRoom, answer_of}
+use Rattle.drt_margin.specs.Answers.{IsFoundMargin, IsMarginAnswer, IsNextShown, IsOtherFor, IsNumberReached, IsYesFor}
+use Rattle.drt_margin.specs.Margin.{IsWithinMargin, between, deadline_at, last, lowers, middle, opens, plus_set, raises, wcet_at}
+use Rattle.drt_margin.specs.Steps.{IsAsked, IsLastShown, IsLeast, IsHalvingRoom, answer_of}
 use Rattle.drt_margin.specs.declared.answer.Next.{Next}
 use Rattle.drt_margin.specs.declared.halving.Last.{Last}
 use Rattle.drt_margin.specs.declared.halving.Last.TheVariants as lasts
@@ -29,7 +29,7 @@ module _ (set : Contents) (policy : Policy) (k v : ℕ) (s : IsSubject set k v) 
   few_ticks = omega (arith, (wcet_most set.version set.tasks k v s.limits s.vertex.0 s.vertex.1).1)
 
   -- Where S is a yes, 0 is within.
-  pub none_within : (evidence : Evidence) → IsYesFor policy (plus_set set k v 0) evidence → IsWithin set policy k v 0
+  pub none_within : (evidence : Evidence) → IsYesFor policy (plus_set set k v 0) evidence → IsWithinMargin set policy k v 0
   none_within evidence shown = yes_within set k v s policy 0 evidence few_ticks shown
 
   -- So the vertex is done by its deadline.
@@ -38,7 +38,7 @@ module _ (set : Contents) (policy : Policy) (k v : ℕ) (s : IsSubject set k v) 
 
   -- The room at first.
   pub room_opens : (evidence : Evidence) → deadline_at set.tasks k v ≤ 1000000 → IsYesFor policy (plus_set set k v 0) evidence
-      → IsRoom set policy k v (record { low = 0; high = deadline_at set.tasks k v - wcet_at set.tasks k v + 1; within = evidence; past = None })
+      → IsHalvingRoom set policy k v (record { low = 0; high = deadline_at set.tasks k v - wcet_at set.tasks k v + 1; within = evidence; past = None })
   room_opens evidence few evident =
       let some = (wcet_most set.version set.tasks k v s.limits s.vertex.0 s.vertex.1).0 in
       let fits = in_time evidence evident in
@@ -55,7 +55,7 @@ module _ (set : Contents) (policy : Policy) (k v : ℕ) (s : IsSubject set k v) 
         shown = tt;
       }
 
-  module _ (room : Room) (is : IsRoom set policy k v room) where
+  module _ (room : Room) (is : IsHalvingRoom set policy k v room) where
     -- The number in the middle of a wide room.
     pub between_both : 1 < room.high - room.low → (room.low < middle room.low room.high) × (middle room.low room.high < room.high)
     between_both wide = (omega arith, omega arith)
@@ -64,12 +64,12 @@ module _ (set : Contents) (policy : Policy) (k v : ℕ) (s : IsSubject set k v) 
     middle_few wide = omega (arith, is.limit, (between_both wide).1)
 
     -- It was tried.
-    pub middle_reached : 1 < room.high - room.low → IsReached set policy k v (middle room.low room.high)
+    pub middle_reached : 1 < room.high - room.low → IsNumberReached set policy k v (middle room.low room.high)
     middle_reached wide = record { tried = between room.low room.high is.first is.halves wide; limit = middle_few wide }
 
     -- The room after a yes.
     pub room_raised : (wide : 1 < room.high - room.low) (evidence : Evidence) → IsYesFor policy (plus_set set k v (middle room.low room.high)) evidence
-        → IsRoom set policy k v (record { low = middle room.low room.high; high = room.high; within = evidence; past = room.past })
+        → IsHalvingRoom set policy k v (record { low = middle room.low room.high; high = room.high; within = evidence; past = room.past })
     room_raised wide evidence evident =
         let here = yes_within set k v s policy (middle room.low room.high) evidence (middle_few wide) evident in
         record {
@@ -86,7 +86,7 @@ module _ (set : Contents) (policy : Policy) (k v : ℕ) (s : IsSubject set k v) 
 
     -- The room after another answer.
     pub room_lowered : (wide : 1 < room.high - room.low) (evidence : Evidence) → IsOtherFor policy (plus_set set k v (middle room.low room.high)) evidence
-        → IsRoom set policy k v (record { low = room.low; high = middle room.low room.high; within = room.within; past = Some evidence })
+        → IsHalvingRoom set policy k v (record { low = room.low; high = middle room.low room.high; within = room.within; past = Some evidence })
     room_lowered wide evidence other =
         let past = other_past set k v s policy (middle room.low room.high) evidence other in
         record {
@@ -106,22 +106,22 @@ module _ (set : Contents) (policy : Policy) (k v : ℕ) (s : IsSubject set k v) 
     room_least near = record { low = room.low; halves = is.halves; near = near; first = is.first; past = is.past; limit = is.limit }
 
     -- The margin.
-    pub room_found : room.high - room.low ≤ 1 → (next : Next) → IsNext set policy k v room.high next → IsFound set policy k v room.low room.within next
+    pub room_found : room.high - room.low ≤ 1 → (next : Next) → IsNextShown set policy k v room.high next → IsFoundMargin set policy k v room.low room.within next
     room_found near next shown =
         let e : room.high ≡ room.low + 1 = omega (arith, is.order) in
         record {
           margin = margin_is set k v s policy room.low room.high is.order near is.is_in is.past;
           limit = omega (arith, is.limit, is.order);
           yes = is.yes;
-          shows = subst (λ (n : ℕ). IsNext set policy k v n next) e shown;
+          shows = subst (λ (n : ℕ). IsNextShown set policy k v n next) e shown;
         }
 
 -- The least number that isn't within is tried where the limits allow.
-pub least_reached : (set : Contents) (policy : Policy) (k v high : ℕ) → IsLeast set policy k v high → wcet_at set.tasks k v + high ≤ 1000000 → IsReached set policy k v high
+pub least_reached : (set : Contents) (policy : Policy) (k v high : ℕ) → IsLeast set policy k v high → wcet_at set.tasks k v + high ≤ 1000000 → IsNumberReached set policy k v high
 least_reached set policy k v high is few = record { tried = last is.low high is.first is.halves is.near few; limit = few }
 
 -- What is shown of the number after the margin makes the answer.
-pub room_answered : (set : Contents) (policy : Policy) (k v budget : ℕ) → IsSubject set k v → (room : Room) → IsRoom set policy k v room → room.high - room.low ≤ 1 → (shown : Last)
-    → IsLast set policy k v budget room.high shown → IsMarginAnswer set policy k v budget (answer_of room.low room.within shown)
+pub room_answered : (set : Contents) (policy : Policy) (k v budget : ℕ) → IsSubject set k v → (room : Room) → IsHalvingRoom set policy k v room → room.high - room.low ≤ 1 → (shown : Last)
+    → IsLastShown set policy k v budget room.high shown → IsMarginAnswer set policy k v budget (answer_of room.low room.within shown)
 room_answered set policy k v budget s room is near (lasts.Next next) shows = room_found set policy k v s room is near next shows
 room_answered set policy k v budget s room is near (lasts.Ended answer) says = says

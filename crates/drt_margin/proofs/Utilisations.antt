@@ -3,7 +3,7 @@ use Rattle.std.proofs.Common.{◌≡◌, ℕ, suc, ◌+◌, ◌*◌, ◌/◌, �
 use Rattle.std.specs.Int.{◌∣◌}
 use Rattle.std.proofs.lemmas.Bool.{cases_lt}
 use Rattle.std.proofs.Math.Nat.{le_of_mul-le-mul_left, mul-div_cancel'}
-use Rattle.drt_model.specs.Digraph.{Digraph, IsSound}
+use Rattle.drt_model.specs.Digraph.{Digraph, IsSoundGraph}
 use Rattle.drt_model.specs.Utilisation.{AreRatios, EachDivides, Fraction, HasRatio, IsRatio, rate}
 use Rattle.drt_model.specs.Walk.{IsCycle, cycle_span, work}
 use Rattle.drt_model.specs.declared.tasks.Task.{Task}
@@ -23,7 +23,7 @@ module _ (g h : Digraph) (m : IsMilder g h) where
   cycle_span_same (v ∷ vs) = span_same g h m _ (v ∷ vs)
 
   -- The ratio of the milder graph is at most a ratio that no cycle of the other exceeds.
-  ratio_less : IsSound g → (r s : Fraction) → IsRatio g r → IsRatio h s → r.num * s.den ≤ s.num * r.den
+  ratio_less : IsSoundGraph g → (r s : Fraction) → IsRatio g r → IsRatio h s → r.num * s.den ≤ s.num * r.den
   ratio_less sound r s is of = go is.cycle is.has
     where
       go : (cycle : List ℕ) → HasRatio g r.num r.den cycle → r.num * s.den ≤ s.num * r.den
@@ -54,7 +54,7 @@ MilderEach [] (h ∷ hs) = ⊥
 MilderEach (g ∷ gs) [] = ⊥
 MilderEach (g ∷ gs) (h ∷ hs) = IsMilder g h × MilderEach gs hs
 
-rates_less : (gs hs : List Digraph) (rs ss : List Fraction) (x y : ℕ) → MilderEach gs hs → All IsSound gs → AreRatios gs rs → AreRatios hs ss → EachDivides rs x → EachDivides ss y → rate x rs * y ≤ rate y ss * x
+rates_less : (gs hs : List Digraph) (rs ss : List Fraction) (x y : ℕ) → MilderEach gs hs → All IsSoundGraph gs → AreRatios gs rs → AreRatios hs ss → EachDivides rs x → EachDivides ss y → rate x rs * y ≤ rate y ss * x
 unfolding rate
 rates_less [] [] [] [] x y m sound p q e f = omega arith
 rates_less [] [] [] (s ∷ ss) x y m sound p q e f = absurd q
@@ -78,12 +78,12 @@ milder_each (s ∷ fast) [] e each = absurd (omega arith)
 milder_each (s ∷ fast) (t ∷ slow) e each = (each 0, milder_each fast slow (omega arith) (λ i. each (suc i)))
 
 -- The rate of milder tasks, at the scale of the others, is at most that of the others at its scale.
-pub rate_less : (fast slow : List Task) → AreMilder fast slow → All IsSound (graphs_of fast) → (r : Rates fast) (s : Rates slow) → rate r.scale r.ratios * s.scale ≤ rate s.scale s.ratios * r.scale
+pub rate_less : (fast slow : List Task) → AreMilder fast slow → All IsSoundGraph (graphs_of fast) → (r : Rates fast) (s : Rates slow) → rate r.scale r.ratios * s.scale ≤ rate s.scale s.ratios * r.scale
 rate_less fast slow m sound r s =
     rates_less (graphs_of fast) (graphs_of slow) r.ratios s.ratios r.scale s.scale (milder_each fast slow m.count m.graphs) sound r.are s.are r.is_scale.multiple s.is_scale.multiple
 
 -- So the utilisation of milder tasks is below one where that of the others is.
-pub below_less : (fast slow : List Task) → AreMilder fast slow → All IsSound (graphs_of fast) → (r : Rates fast) (s : Rates slow) → rate s.scale s.ratios < s.scale → rate r.scale r.ratios < r.scale
+pub below_less : (fast slow : List Task) → AreMilder fast slow → All IsSoundGraph (graphs_of fast) → (r : Rates fast) (s : Rates slow) → rate s.scale s.ratios < s.scale → rate r.scale r.ratios < r.scale
 below_less fast slow m sound r s below = plain (rate r.scale r.ratios) r.scale (rate s.scale s.ratios) s.scale r.is_scale.some (rate_less fast slow m sound r s) below
   where
     plain : (a x b y : ℕ) → 1 ≤ x → a * y ≤ b * x → b < y → a < x

@@ -10,7 +10,7 @@ use Rattle.drt_fixed.specs.Answers.{IsSaid}
 use Rattle.drt_sp.specs.Answers as sp
 use Rattle.drt_trails.specs.declared.FixedTrail.{FixedTrail}
 use Rattle.drt_margin.specs.Answers.{IsAffirmative, IsFixedVerdict, IsOtherFor, IsVerdictUnder, IsYesFor}
-use Rattle.drt_margin.specs.Margin.{IsBelowOne, IsWithin, plus_set, wcet_at}
+use Rattle.drt_margin.specs.Margin.{IsBelowOne, IsWithinMargin, plus_set, wcet_at}
 use Rattle.drt_margin.specs.Past.{ArePast}
 use Rattle.drt_margin.proofs.Limits.{plus_kept}
 use Rattle.drt_margin.proofs.Within.{IsSubject, past_no, past_one}
@@ -47,7 +47,7 @@ below_under policy set evidence kind is e = yes_below set evidence kind (subst (
 
 module _ (set : Contents) (k v : ℕ) (s : IsSubject set k v) where
   -- A yes for S + c says that c is within.
-  pub yes_within : (policy : Policy) (c : ℕ) (evidence : Evidence) → wcet_at set.tasks k v + c ≤ 1000000 → IsYesFor policy (plus_set set k v c) evidence → IsWithin set policy k v c
+  pub yes_within : (policy : Policy) (c : ℕ) (evidence : Evidence) → wcet_at set.tasks k v + c ≤ 1000000 → IsYesFor policy (plus_set set k v c) evidence → IsWithinMargin set policy k v c
   yes_within policy c evidence few shown = record {
     limits = plus_kept set.version set.tasks k v c s.limits s.vertex.0 s.vertex.1 few;
     schedulable = yes_schedulable policy (plus_set set k v c) evidence shown.kind shown.verdict;
@@ -85,7 +85,7 @@ said_decided set budget (FixedNo releases miss) is = is.1
 said_decided set budget Undecided is = let e = is.1 in absurd (cc)
 
 -- What is said with a trail is that the budget was spent.
-pub said_spent : (set : Contents) (budget : ℕ) (evidence : Evidence) (spent : FixedTrail) → IsSaid set budget evidence (Some spent) → sp.IsUndecided set budget spent
+pub said_spent : (set : Contents) (budget : ℕ) (evidence : Evidence) (spent : FixedTrail) → IsSaid set budget evidence (Some spent) → sp.IsTreeUndecided set budget spent
 said_spent set budget (EdfYes ratios fronts) spent is = absurd is
 said_spent set budget (EdfNo releases miss) spent is = absurd is
 said_spent set budget (UtilisationOne ratios) spent is = absurd is
@@ -94,4 +94,4 @@ said_spent set budget (FixedStates tails searches) spent is = let e = is.0 in ab
 said_spent set budget (FixedNo releases miss) spent is = let e = is.0 in absurd (cc)
 said_spent set budget Undecided spent is =
     let same : spent ≡ is.0 = let e = is.1 in cc in
-    subst (λ (t : FixedTrail). sp.IsUndecided set budget t) (sym same) is.2
+    subst (λ (t : FixedTrail). sp.IsTreeUndecided set budget t) (sym same) is.2

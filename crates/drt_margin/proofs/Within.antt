@@ -4,7 +4,7 @@ use Rattle.std.proofs.lemmas.Bool.{cases_lt}
 use Rattle.std.proofs.lemmas.List.Elements.{All-map}
 use Rattle.drt_model.specs.Constrained.{AreConstrained}
 use Rattle.drt_model.specs.Contents.{Contents}
-use Rattle.drt_model.specs.Digraph.{IsSound, digraph_of}
+use Rattle.drt_model.specs.Digraph.{IsSoundGraph, digraph_of}
 use Rattle.drt_model.specs.Limits.{IsTaskSet}
 use Rattle.drt_model.specs.Schedulable.{Schedulable}
 use Rattle.drt_model.specs.Utilisation.{rate}
@@ -14,7 +14,7 @@ use Rattle.drt_model.specs.declared.tasks.Task.{Task}
 use Rattle.drt_graph.proofs.Soundness.{all_sound}
 use Rattle.drt_claims.specs.Claims.{graphs_of}
 use Rattle.drt_claims.specs.Rates.{Rates}
-use Rattle.drt_margin.specs.Margin.{IsMargin, IsVertexOf, IsWithin, SmallerIsWithin, deadline_at, plus, wcet_at}
+use Rattle.drt_margin.specs.Margin.{IsMargin, IsVertexOf, IsWithinMargin, SmallerIsWithin, deadline_at, plus, wcet_at}
 use Rattle.drt_margin.specs.Past.{ArePast}
 use Rattle.drt_margin.proofs.Deciding.{done_in_time, milder_schedulable}
 use Rattle.drt_margin.proofs.Limits.{plus_kept, plus_most, timed_constrained, wcet_most}
@@ -24,8 +24,8 @@ use Rattle.drt_margin.proofs.Timed.{timed_deadline, timed_wcet, timed_within, ti
 use Rattle.drt_margin.proofs.Utilisations.{below_less}
 
 -- The graphs of a set are sound.
-pub graphs_sound : (version : ℕ) (tasks : List Task) → IsTaskSet version tasks → All IsSound (graphs_of tasks)
-graphs_sound version tasks is = All-map IsSound digraph_of tasks (all_sound version tasks is)
+pub graphs_sound : (version : ℕ) (tasks : List Task) → IsTaskSet version tasks → All IsSoundGraph (graphs_of tasks)
+graphs_sound version tasks is = All-map IsSoundGraph digraph_of tasks (all_sound version tasks is)
 
 -- A set with constrained deadlines, and a vertex of it.
 pub record IsSubject (set : Contents) (k v : ℕ) : Type 0 where
@@ -85,7 +85,7 @@ module _ (set : Contents) (k v : ℕ) (s : IsSubject set k v) where
       omega (arith, done, timed_wcet set.tasks k v e s.vertex.0 s.vertex.1, timed_deadline set.tasks k v e s.vertex.0 s.vertex.1)
 
   -- Where 0 is within, the vertex is done by its deadline.
-  pub opens_in_time : (policy : Policy) → IsWithin set policy k v 0 → wcet_at set.tasks k v ≤ deadline_at set.tasks k v
+  pub opens_in_time : (policy : Policy) → IsWithinMargin set policy k v 0 → wcet_at set.tasks k v ≤ deadline_at set.tasks k v
   opens_in_time policy is = go (cases_lt (deadline_at set.tasks k v) (wcet_at set.tasks k v + 0))
     where
       go : (deadline_at set.tasks k v < wcet_at set.tasks k v + 0) ⊎ (wcet_at set.tasks k v + 0 ≤ deadline_at set.tasks k v) → wcet_at set.tasks k v ≤ deadline_at set.tasks k v
@@ -93,15 +93,15 @@ module _ (set : Contents) (k v : ℕ) (s : IsSubject set k v) where
       go (inr l) = omega arith
 
   -- The number that is within, and the next one past it: the margin.
-  pub margin_is : (policy : Policy) (low high : ℕ) → low < high → high - low ≤ 1 → IsWithin set policy k v low → ArePast set policy k v high → IsMargin set policy k v low
+  pub margin_is : (policy : Policy) (low high : ℕ) → low < high → high - low ≤ 1 → IsWithinMargin set policy k v low → ArePast set policy k v high → IsMargin set policy k v low
   margin_is policy low high order near is past = record { within = is; greatest = λ m other. go m other (cases_lt low m) }
     where
-      go : (m : ℕ) → IsWithin set policy k v m → (low < m) ⊎ (m ≤ low) → m ≤ low
+      go : (m : ℕ) → IsWithinMargin set policy k v m → (low < m) ⊎ (m ≤ low) → m ≤ low
       go m other (inl l) = absurd (past m (omega arith) other)
       go m other (inr l) = l
 
   -- A smaller number than one within is within, where the set with it has rates.
-  pub smaller : (policy : Policy) (c m : ℕ) → m ≤ c → IsWithin set policy k v c → (policy ≡ Edf → Rates (plus set.tasks k v m)) → IsWithin set policy k v m
+  pub smaller : (policy : Policy) (c m : ℕ) → m ≤ c → IsWithinMargin set policy k v c → (policy ≡ Edf → Rates (plus set.tasks k v m)) → IsWithinMargin set policy k v m
   smaller policy c m l is rates = record {
     limits = plus_limits m c l is.limits;
     schedulable = plus_schedulable policy m c l is.limits is.schedulable;

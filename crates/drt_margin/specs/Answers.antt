@@ -3,14 +3,14 @@ use Rattle.std.specs.Prelude.{◌≡◌, ℕ, ◌+◌, ◌<◌, ◌≤◌}
 use Rattle.drt_model.specs.Contents.{Contents}
 use Rattle.drt_model.specs.declared.jobs.Policy.{Policy}
 use Rattle.drt_model.specs.declared.jobs.Policy.TheVariants.{Edf, Fixed}
-use Rattle.drt_claims.specs.Ranges.{IsInRange}
+use Rattle.drt_claims.specs.Ranges.{IsEvidenceInRange}
 use Rattle.drt_claims.specs.declared.evidence.Evidence.{Evidence}
 use Rattle.drt_claims.specs.declared.evidence.Evidence.TheVariants.{EdfYes, EdfNo, UtilisationOne, FixedYes, FixedStates, FixedNo, Undecided}
-use Rattle.drt_edf.specs.Answers.{IsBeyond, IsPlanned, IsVerdict, IsUndecided}
+use Rattle.drt_edf.specs.Answers.{IsBeyond, IsPlanned, IsEdfVerdict, IsEdfUndecided}
 use Rattle.drt_fixed.specs.Answers.{IsNo, IsYes}
 use Rattle.drt_sp.specs.Answers as sp
 use Rattle.drt_horizon.specs.declared.answers.Beyond.{Beyond}
-use Rattle.drt_margin.specs.Margin.{IsMargin, IsTried, plus, plus_set, wcet_at}
+use Rattle.drt_margin.specs.Margin.{IsMargin, IsNumberTried, plus, plus_set, wcet_at}
 use Rattle.drt_margin.specs.declared.answer.MarginAnswer.{MarginAnswer}
 use Rattle.drt_margin.specs.declared.answer.MarginAnswer.TheVariants as answers
 use Rattle.drt_margin.specs.declared.answer.MarginTrail.{MarginTrail}
@@ -40,60 +40,60 @@ IsFixedVerdict set Undecided = ⊥
 
 -- What the evidence of a decided answer under the policy says of a set.
 abbrev pub IsVerdictUnder : Policy → Contents → Evidence → Type 0
-IsVerdictUnder Edf set evidence = IsVerdict set.tasks evidence × IsPlanned set.tasks evidence
+IsVerdictUnder Edf set evidence = IsEdfVerdict set.tasks evidence × IsPlanned set.tasks evidence
 IsVerdictUnder Fixed set evidence = IsFixedVerdict set evidence
 
 -- The evidence is a yes for the set under the policy.
 pub record IsYesFor (policy : Policy) (set : Contents) (evidence : Evidence) : Type 0 where
   pub kind : IsAffirmative evidence
   pub verdict : IsVerdictUnder policy set evidence
-  pub in_range : IsInRange evidence
+  pub in_range : IsEvidenceInRange evidence
 
 -- The evidence is of another kind for the set under the policy: a no or, under EDF, a utilisation of one.
 pub record IsOtherFor (policy : Policy) (set : Contents) (evidence : Evidence) : Type 0 where
   pub kind : ¬ IsAffirmative evidence
   pub verdict : IsVerdictUnder policy set evidence
-  pub in_range : IsInRange evidence
+  pub in_range : IsEvidenceInRange evidence
 
 -- Why the analysis of a set under the policy is undecided: the budget was spent.
 abbrev pub IsSpentUnder : Policy → Contents → ℕ → MarginTrail → Type 0
-IsSpentUnder Edf set budget (trails.Edf trail) = IsUndecided set.tasks budget trail
+IsSpentUnder Edf set budget (trails.Edf trail) = IsEdfUndecided set.tasks budget trail
 IsSpentUnder Edf set budget (trails.Fixed trail) = ⊥
 IsSpentUnder Fixed set budget (trails.Edf trail) = ⊥
-IsSpentUnder Fixed set budget (trails.Fixed trail) = sp.IsUndecided set budget trail
+IsSpentUnder Fixed set budget (trails.Fixed trail) = sp.IsTreeUndecided set budget trail
 
 -- What is shown of S + c, where c is one more than the margin: evidence that isn't a yes, or that the execution time would exceed
 -- 1,000,000.
-abbrev pub IsNext : Contents → Policy → ℕ → ℕ → ℕ → Next → Type 0
-IsNext set policy k v c (Shown evidence) = (wcet_at set.tasks k v + c ≤ 1000000) × IsOtherFor policy (plus_set set k v c) evidence
-IsNext set policy k v c Limit = 1000000 < wcet_at set.tasks k v + c
+abbrev pub IsNextShown : Contents → Policy → ℕ → ℕ → ℕ → Next → Type 0
+IsNextShown set policy k v c (Shown evidence) = (wcet_at set.tasks k v + c ≤ 1000000) × IsOtherFor policy (plus_set set k v c) evidence
+IsNextShown set policy k v c Limit = 1000000 < wcet_at set.tasks k v + c
 
 -- The margin, the evidence of S with it, and what is shown of S with one tick more.
-pub record IsFound (set : Contents) (policy : Policy) (k v add : ℕ) (within : Evidence) (next : Next) : Type 0 where
+pub record IsFoundMargin (set : Contents) (policy : Policy) (k v add : ℕ) (within : Evidence) (next : Next) : Type 0 where
   pub margin : IsMargin set policy k v add
   pub limit : wcet_at set.tasks k v + add ≤ 1000000
   pub yes : IsYesFor policy (plus_set set k v add) within
-  pub shows : IsNext set policy k v (add + 1) next
+  pub shows : IsNextShown set policy k v (add + 1) next
 
 -- The number was tried, and S with it is within the limits.
-pub record IsReached (set : Contents) (policy : Policy) (k v add : ℕ) : Type 0 where
-  pub tried : IsTried set policy k v add
+pub record IsNumberReached (set : Contents) (policy : Policy) (k v add : ℕ) : Type 0 where
+  pub tried : IsNumberTried set policy k v add
   pub limit : wcet_at set.tasks k v + add ≤ 1000000
 
 -- Under EDF, the numbers of S with a number that was tried are out of reach.
 pub record IsBeyondAt (set : Contents) (policy : Policy) (k v add : ℕ) (beyond : Beyond) : Type 0 where
   pub edf : policy ≡ Edf
-  pub reached : IsReached set policy k v add
+  pub reached : IsNumberReached set policy k v add
   pub out_of_reach : IsBeyond (plus set.tasks k v add) beyond
 
 -- The analysis of S with a number that was tried spent the budget.
-pub record IsSpentAt (set : Contents) (policy : Policy) (k v budget add : ℕ) (trail : MarginTrail) : Type 0 where
-  pub reached : IsReached set policy k v add
+pub record IsSpentAtNumber (set : Contents) (policy : Policy) (k v budget add : ℕ) (trail : MarginTrail) : Type 0 where
+  pub reached : IsNumberReached set policy k v add
   pub spent : IsSpentUnder policy (plus_set set k v add) budget trail
 
 -- What each answer says of vertex v of task k, with a budget.
 abbrev pub IsMarginAnswer : Contents → Policy → ℕ → ℕ → ℕ → MarginAnswer → Type 0
-IsMarginAnswer set policy k v budget (answers.Found add within next) = IsFound set policy k v add within next
+IsMarginAnswer set policy k v budget (answers.Found add within next) = IsFoundMargin set policy k v add within next
 IsMarginAnswer set policy k v budget (answers.AtZero evidence) = IsOtherFor policy set evidence
 IsMarginAnswer set policy k v budget (answers.Beyond add beyond) = IsBeyondAt set policy k v add beyond
-IsMarginAnswer set policy k v budget (answers.Undecided add trail) = IsSpentAt set policy k v budget add trail
+IsMarginAnswer set policy k v budget (answers.Undecided add trail) = IsSpentAtNumber set policy k v budget add trail

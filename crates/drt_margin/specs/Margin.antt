@@ -57,15 +57,15 @@ IsBelowOne tasks = (r : Rates tasks) × (rate r.scale r.ratios < r.scale)
 
 -- So many ticks are within the margin: S with them keeps the limits, is schedulable under the policy and, under EDF, has a utilisation
 -- below one.
-pub record IsWithin (set : Contents) (policy : Policy) (k v c : ℕ) : Type 0 where
+pub record IsWithinMargin (set : Contents) (policy : Policy) (k v c : ℕ) : Type 0 where
   pub limits : IsTaskSet set.version (plus set.tasks k v c)
   pub schedulable : Schedulable (plus set.tasks k v c) policy
   pub below_one : policy ≡ Edf → IsBelowOne (plus set.tasks k v c)
 
 -- The margin is the greatest number that is within.
 pub record IsMargin (set : Contents) (policy : Policy) (k v c : ℕ) : Type 0 where
-  pub within : IsWithin set policy k v c
-  pub greatest : (m : ℕ) → IsWithin set policy k v m → m ≤ c
+  pub within : IsWithinMargin set policy k v c
+  pub greatest : (m : ℕ) → IsWithinMargin set policy k v m → m ≤ c
 
 -- The number in the middle of two, rounded down.
 abbrev pub middle : ℕ → ℕ → ℕ
@@ -75,18 +75,18 @@ middle low high = (low + high) / 2
 -- than one apart, the number in their middle becomes the lower one where it is within, and else the higher one.
 pub data Halves (set : Contents) (policy : Policy) (k v : ℕ) : ℕ → ℕ → Type 0 where
   opens : Halves set policy k v 0 (deadline_at set.tasks k v - wcet_at set.tasks k v + 1)
-  raises : (low high : ℕ) → Halves set policy k v low high → 1 < high - low → IsWithin set policy k v (middle low high) → Halves set policy k v (middle low high) high
-  lowers : (low high : ℕ) → Halves set policy k v low high → 1 < high - low → ¬ IsWithin set policy k v (middle low high) → Halves set policy k v low (middle low high)
+  raises : (low high : ℕ) → Halves set policy k v low high → 1 < high - low → IsWithinMargin set policy k v (middle low high) → Halves set policy k v (middle low high) high
+  lowers : (low high : ℕ) → Halves set policy k v low high → 1 < high - low → ¬ IsWithinMargin set policy k v (middle low high) → Halves set policy k v low (middle low high)
 
 -- The numbers that are tried: first 0; where it is within, the middles of the pairs that are more than one apart; and at last the higher
 -- number of the pair that isn't, unless the limits forbid it.
-pub data IsTried (set : Contents) (policy : Policy) (k v : ℕ) : ℕ → Type 0 where
-  first : IsTried set policy k v 0
-  between : (low high : ℕ) → IsWithin set policy k v 0 → Halves set policy k v low high → 1 < high - low → IsTried set policy k v (middle low high)
-  last : (low high : ℕ) → IsWithin set policy k v 0 → Halves set policy k v low high → high - low ≤ 1 → wcet_at set.tasks k v + high ≤ 1000000 → IsTried set policy k v high
+pub data IsNumberTried (set : Contents) (policy : Policy) (k v : ℕ) : ℕ → Type 0 where
+  first : IsNumberTried set policy k v 0
+  between : (low high : ℕ) → IsWithinMargin set policy k v 0 → Halves set policy k v low high → 1 < high - low → IsNumberTried set policy k v (middle low high)
+  last : (low high : ℕ) → IsWithinMargin set policy k v 0 → Halves set policy k v low high → high - low ≤ 1 → wcet_at set.tasks k v + high ≤ 1000000 → IsNumberTried set policy k v high
 
 -- In a set with constrained deadlines, a smaller number than one that is within is within.
 abbrev pub SmallerIsWithin : Type 0
 SmallerIsWithin =
     (set : Contents) (policy : Policy) (k v c m : ℕ) → IsTaskSet set.version set.tasks → AreConstrained set.tasks → IsVertexOf set.tasks k v
-    → IsWithin set policy k v c → m ≤ c → IsWithin set policy k v m
+    → IsWithinMargin set policy k v c → m ≤ c → IsWithinMargin set policy k v m

@@ -6,8 +6,8 @@ use Rattle.drt_model.specs.Limits.{IsTaskSet}
 use Rattle.drt_model.specs.declared.jobs.Policy.{Policy}
 use Rattle.drt_model.specs.declared.jobs.Policy.TheVariants.{Edf}
 use Rattle.drt_edf.specs.Answers.{IsBeyond}
-use Rattle.drt_margin.specs.Answers.{IsMarginAnswer, IsNext, IsOtherFor, IsSpentUnder, IsYesFor}
-use Rattle.drt_margin.specs.Margin.{Halves, IsVertexOf, IsWithin, plus_set, wcet_at}
+use Rattle.drt_margin.specs.Answers.{IsMarginAnswer, IsNextShown, IsOtherFor, IsSpentUnder, IsYesFor}
+use Rattle.drt_margin.specs.Margin.{Halves, IsVertexOf, IsWithinMargin, plus_set, wcet_at}
 use Rattle.drt_margin.specs.Past.{ArePast}
 use Rattle.drt_claims.specs.declared.evidence.Evidence.{Evidence}
 use Rattle.drt_margin.specs.declared.ahead.Ahead.{Ahead}
@@ -41,27 +41,27 @@ abbrev pub AreAskable : Contents → Question → List ℕ → Type 0
 AreAskable set q numbers = All (λ add. wcet_at set.tasks q.task q.vertex + add ≤ 1000000) numbers
 
 -- What was found ahead, with a budget, is said of S with so many ticks more as the number at its place.
-abbrev pub AreAhead : Contents → Question → ℕ → Ahead → Type 0
-AreAhead set q budget ahead =
+abbrev pub AreNumbersAhead : Contents → Question → ℕ → Ahead → Type 0
+AreNumbersAhead set q budget ahead =
     (i : ℕ) (finding : Finding) → slice_index_or ahead.found.items i None ≡ Some finding
     → IsFinding q.policy (plus_set set q.task q.vertex (slice_index ahead.numbers.items i)) budget finding
 
 -- A pair that halving goes through: the lower number is within, with its evidence, and the higher one isn't, with its evidence if it was
 -- tried.
-pub record IsRoom (set : Contents) (policy : Policy) (k v : ℕ) (room : Room) : Type 0 where
+pub record IsHalvingRoom (set : Contents) (policy : Policy) (k v : ℕ) (room : Room) : Type 0 where
   pub order : room.low < room.high
   pub most : room.high ≤ 1000000
   pub limit : wcet_at set.tasks k v + room.high ≤ 1000001
   pub halves : Halves set policy k v room.low room.high
-  pub is_in : IsWithin set policy k v room.low
-  pub first : IsWithin set policy k v 0
+  pub is_in : IsWithinMargin set policy k v room.low
+  pub first : IsWithinMargin set policy k v 0
   pub past : ArePast set policy k v room.high
   pub yes : IsYesFor policy (plus_set set k v room.low) room.within
-  pub shown : IfSome room.past (λ evidence. IsNext set policy k v room.high (Shown evidence))
+  pub shown : IfSome room.past (λ evidence. IsNextShown set policy k v room.high (Shown evidence))
 
 -- What one analysis makes of a pair: the next pair, whose numbers are nearer, or the answer.
 abbrev pub IsHalf : Contents → Policy → ℕ → ℕ → ℕ → ℕ → Half → Type 0
-IsHalf set policy k v budget apart (halves.Open room) = IsRoom set policy k v room × (room.high - room.low < apart)
+IsHalf set policy k v budget apart (halves.Open room) = IsHalvingRoom set policy k v room × (room.high - room.low < apart)
 IsHalf set policy k v budget apart (halves.Ended answer) = IsMarginAnswer set policy k v budget answer
 
 -- The least number that isn't within: the higher one of a pair whose numbers are next to each other.
@@ -69,14 +69,14 @@ pub record IsLeast (set : Contents) (policy : Policy) (k v high : ℕ) : Type 0 
   pub low : ℕ
   pub halves : Halves set policy k v low high
   pub near : high - low ≤ 1
-  pub first : IsWithin set policy k v 0
+  pub first : IsWithinMargin set policy k v 0
   pub past : ArePast set policy k v high
   pub limit : wcet_at set.tasks k v + high ≤ 1000001
 
 -- What is shown of it, or the answer.
-abbrev pub IsLast : Contents → Policy → ℕ → ℕ → ℕ → ℕ → Last → Type 0
-IsLast set policy k v budget high (lasts.Next next) = IsNext set policy k v high next
-IsLast set policy k v budget high (lasts.Ended answer) = IsMarginAnswer set policy k v budget answer
+abbrev pub IsLastShown : Contents → Policy → ℕ → ℕ → ℕ → ℕ → Last → Type 0
+IsLastShown set policy k v budget high (lasts.Next next) = IsNextShown set policy k v high next
+IsLastShown set policy k v budget high (lasts.Ended answer) = IsMarginAnswer set policy k v budget answer
 
 -- The answer: the margin with what is shown of the number after it, or the one that came instead.
 abbrev pub answer_of : ℕ → Evidence → Last → MarginAnswer

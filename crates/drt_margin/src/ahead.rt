@@ -3,7 +3,7 @@ ghost use Rattle.std.specs.Prelude.{◌≡◌, ℕ, ◌+◌, ◌<◌, ◌≤◌,
 ghost use denote.Param.Send.{IsSync};
 ghost use Rattle.drt_model.specs.Contents.{Contents};
 ghost use Rattle.drt_margin.specs.Margin.{plus_set, wcet_at};
-ghost use Rattle.drt_margin.specs.Steps.{AreAhead, AreAskable, IsAsked, IsFinding, IsRoom};
+ghost use Rattle.drt_margin.specs.Steps.{AreNumbersAhead, AreAskable, IsAsked, IsFinding, IsHalvingRoom};
 ghost use Rattle.drt_margin.specs.declared.asking.Finding.{Finding as Found};
 ghost use Rattle.drt_margin.specs.declared.question.Question.{Question as Asked};
 
@@ -30,7 +30,7 @@ pub struct Ahead {
 
 /// Nothing was asked ahead.
 pub(crate) fn nothing_ahead(alloc: Global) -> Ahead
-    ensures { (set : Contents) (question : Asked) (budget : ℕ) → AreAhead set question budget result }
+    ensures { (set : Contents) (question : Asked) (budget : ℕ) → AreNumbersAhead set question budget result }
 {
     Ahead {
         numbers: Vec::new(alloc),
@@ -48,9 +48,9 @@ pub(crate) fn look_further<G: Gate, R: Threads + Wait + Sync>(
     ahead: Ahead,
 ) -> Result<Ahead, Memory>
     requires asked { IsAsked set.now question }
-    requires room { IsRoom set.now question.policy question.task question.vertex room.now }
-    requires ahead { AreAhead set.now question crew.now.effort.budget ahead }
-    ensures { IfOk result (AreAhead set.now question crew.now.effort.budget) }
+    requires room { IsHalvingRoom set.now question.policy question.task question.vertex room.now }
+    requires ahead { AreNumbersAhead set.now question crew.now.effort.budget ahead }
+    ensures { IfOk result (AreNumbersAhead set.now question crew.now.effort.budget) }
 {
     let next = (room.low + room.high) / 2;
     if place_of(&ahead.numbers, next).is_some() {
@@ -75,10 +75,10 @@ pub(crate) fn take_or_ask<G: Gate, R: Threads + Wait + Sync>(
 ) -> Result<(TaskSet, Finding), Memory>
     requires asked { IsAsked set question }
     requires limit { wcet_at set.tasks question.task question.vertex + add ≤ 1000000 }
-    requires ahead { AreAhead set question crew.now.effort.budget ahead.old }
+    requires ahead { AreNumbersAhead set question crew.now.effort.budget ahead.old }
     ensures same { IfOk result (λ r. r.0 ≡ set) }
     ensures finding { IfOk result (λ r. IsFinding question.policy (plus_set set question.task question.vertex add) crew.now.effort.budget r.1) }
-    ensures ahead { AreAhead set question crew.now.effort.budget ahead.new }
+    ensures ahead { AreNumbersAhead set question crew.now.effort.budget ahead.new }
 {
     if let Some(place) = place_of(&ahead.numbers, add) {
         if let Some(finding) = take_found(&mut ahead.found, place) {

@@ -6,7 +6,7 @@ ghost use Rattle.drt_model.specs.declared.jobs.Policy.{Policy};
 ghost use Rattle.drt_model.specs.declared.jobs.Policy.TheVariants as policies;
 ghost use Rattle.drt_claims.specs.Claims.{graphs_of};
 ghost use Rattle.drt_margin.specs.Margin.{plus_set, wcet_at};
-ghost use Rattle.drt_claims.specs.Ranges.{IsInRange};
+ghost use Rattle.drt_claims.specs.Ranges.{IsEvidenceInRange};
 ghost use Rattle.drt_margin.specs.Answers.{IsAffirmative, IsVerdictUnder};
 ghost use Rattle.drt_margin.specs.Steps.{IsAsked, IsFinding};
 
@@ -104,7 +104,7 @@ fn analyse_by_priorities<G: Gate, R: Threads + Wait + Sync>(
 
 // A yes, or another kind of evidence.
 fn decided(evidence: Evidence) -> Finding
-    ensures { (policy : Policy) (set : Contents) (budget : ℕ) → IsVerdictUnder policy set evidence → IsInRange evidence → IsFinding policy set budget result }
+    ensures { (policy : Policy) (set : Contents) (budget : ℕ) → IsVerdictUnder policy set evidence → IsEvidenceInRange evidence → IsFinding policy set budget result }
 {
     if is_affirmative(&evidence) {
         Finding::Yes(evidence)

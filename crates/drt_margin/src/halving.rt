@@ -2,7 +2,7 @@
 ghost use Rattle.std.specs.Prelude.{◌≡◌, ◌-◌, ◌≤◌, ◌<◌, ◌⊎◌, IfOk};
 ghost use Rattle.drt_margin.specs.Margin.{Halves, plus_set};
 ghost use Rattle.drt_margin.specs.Answers.{IsMarginAnswer, IsYesFor};
-ghost use Rattle.drt_margin.specs.Steps.{AreAhead, IsAsked, IsHalf, IsLast, IsLeast, IsRoom, answer_of};
+ghost use Rattle.drt_margin.specs.Steps.{AreNumbersAhead, IsAsked, IsHalf, IsLastShown, IsLeast, IsHalvingRoom, answer_of};
 
 use crate::ahead::{Ahead, look_further, nothing_ahead, take_or_ask};
 use crate::answer::{MarginAnswer, Next};
@@ -80,7 +80,7 @@ pub fn halve<G: Gate, R: Threads + Wait + Sync>(
 fn open(set: &TaskSet, question: Question, evidence: Evidence) -> Room
     requires asked { IsAsked set.now question }
     requires yes { IsYesFor question.policy (plus_set set.now question.task question.vertex 0) evidence }
-    ensures { IsRoom set.now question.policy question.task question.vertex result }
+    ensures { IsHalvingRoom set.now question.policy question.task question.vertex result }
 {
     let wcet = wcet_of(set, question.task, question.vertex);
     let deadline = deadline_of(set, question.task, question.vertex);
@@ -101,12 +101,12 @@ fn narrow<G: Gate, R: Threads + Wait + Sync>(
     ahead: &mut Ahead,
 ) -> Result<(TaskSet, Half), Memory>
     requires asked { IsAsked set question }
-    requires room { IsRoom set question.policy question.task question.vertex room }
-    requires ahead { AreAhead set question crew.now.effort.budget ahead.old }
+    requires room { IsHalvingRoom set question.policy question.task question.vertex room }
+    requires ahead { AreNumbersAhead set question crew.now.effort.budget ahead.old }
     requires wide { 1 < room.high - room.low }
     ensures same { IfOk result (λ r. r.0 ≡ set) }
     ensures half { IfOk result (λ r. IsHalf set question.policy question.task question.vertex crew.now.effort.budget (room.high - room.low) r.1) }
-    ensures ahead { AreAhead set question crew.now.effort.budget ahead.new }
+    ensures ahead { AreNumbersAhead set question crew.now.effort.budget ahead.new }
 {
     let add = (room.low + room.high) / 2;
     let (set, finding) = take_or_ask(crew, set, question, add, ahead)?;
@@ -163,7 +163,7 @@ fn close<G: Gate, R: Threads + Wait + Sync>(
     room: Room,
 ) -> Result<(TaskSet, MarginAnswer), Memory>
     requires asked { IsAsked set question }
-    requires room { IsRoom set question.policy question.task question.vertex room }
+    requires room { IsHalvingRoom set question.policy question.task question.vertex room }
     requires narrow { room.high - room.low ≤ 1 }
     ensures same { IfOk result (λ r. r.0 ≡ set) }
     ensures answer { IfOk result (λ r. IsMarginAnswer set question.policy question.task question.vertex crew.now.effort.budget r.1) }
@@ -210,7 +210,7 @@ fn try_last<G: Gate, R: Threads + Wait + Sync>(
     requires asked { IsAsked set question }
     requires least { IsLeast set question.policy question.task question.vertex high }
     ensures same { IfOk result (λ r. r.0 ≡ set) }
-    ensures last { IfOk result (λ r. IsLast set question.policy question.task question.vertex crew.now.effort.budget high r.1) }
+    ensures last { IfOk result (λ r. IsLastShown set question.policy question.task question.vertex crew.now.effort.budget high r.1) }
 {
     if wcet_of(&set, question.task, question.vertex) + high > LONGEST {
         return Ok((set, Last::Next(Next::Limit)));

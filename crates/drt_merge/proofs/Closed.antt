@@ -1,7 +1,7 @@
 -- A closed front that has the openings covers each walk that is due within the bound.
 use Rattle.std.proofs.Common.{◌≡◌, ℕ, ◌+◌, ◌<◌, ◌≤◌, List, [], ◌∷◌, length, get_or, inl, inr, ap, ◌∙◌, subst, arith}
 use Rattle.std.specs.Prelude.{Any}
-use Rattle.drt_model.specs.Digraph.{Digraph, IsConstrainedGraph, IsSound, edge_of, out_degree, vertex_count}
+use Rattle.drt_model.specs.Digraph.{Digraph, IsConstrainedGraph, IsSoundGraph, edge_of, out_degree, vertex_count}
 use Rattle.drt_model.specs.Walk.{IsEdge, IsPath, deadline, gap, last_of, span, wcet, work}
 use Rattle.drt_graph.proofs.Edges.{edge_of_sep, target_of}
 use Rattle.drt_graph.proofs.Paths.{span_cons, span_none, work_cons, work_none}
@@ -36,7 +36,7 @@ extended g bound front closed v o w x edge (i, e, l, at, (same, by, most)) near 
         (j, f, m, there, (vertex ∙ to, omega (arith, offset, sep, by), omega (arith, works, c, most)))
 
 -- From a covered walk to v on: the rest of a walk leads to an entry that covers the whole.
-covered_from : (g : Digraph) → IsSound g → IsConstrainedGraph g → (bound : ℕ) (front : List FrontEntry) → IsClosedFront bound g front → (v o w : ℕ) (vs : List ℕ) → IsPath g v vs → Any (Covers v o w) front → o + (span g v vs + deadline g (last_of v vs)) ≤ bound → Any (Covers (last_of v vs) (o + span g v vs) (w + work g vs)) front
+covered_from : (g : Digraph) → IsSoundGraph g → IsConstrainedGraph g → (bound : ℕ) (front : List FrontEntry) → IsClosedFront bound g front → (v o w : ℕ) (vs : List ℕ) → IsPath g v vs → Any (Covers v o w) front → o + (span g v vs + deadline g (last_of v vs)) ≤ bound → Any (Covers (last_of v vs) (o + span g v vs) (w + work g vs)) front
 covered_from g sound constrained bound front closed v o w [] is (i, e, l, at, (same, by, most)) near =
     (i, e, l, at, (same, rw span_none (omega (arith, by)), rw work_none (omega (arith, most))))
 covered_from g sound constrained bound front closed v o w (x ∷ vs) is covered near =
@@ -49,7 +49,7 @@ covered_from g sound constrained bound front closed v o w (x ∷ vs) is covered 
     (i, e, l, at, (same, omega (arith, by, s), omega (arith, most, c)))
 
 -- Each walk that is due within the bound is covered.
-pub covered : (g : Digraph) → IsSound g → IsConstrainedGraph g → (bound : ℕ) (front : List FrontEntry) → HasOpenings bound g front → IsClosedFront bound g front → (u : ℕ) (vs : List ℕ) → u < vertex_count g → IsPath g u vs → span g u vs + deadline g (last_of u vs) ≤ bound → Any (Covers (last_of u vs) (span g u vs) (work g (u ∷ vs))) front
+pub covered : (g : Digraph) → IsSoundGraph g → IsConstrainedGraph g → (bound : ℕ) (front : List FrontEntry) → HasOpenings bound g front → IsClosedFront bound g front → (u : ℕ) (vs : List ℕ) → u < vertex_count g → IsPath g u vs → span g u vs + deadline g (last_of u vs) ≤ bound → Any (Covers (last_of u vs) (span g u vs) (work g (u ∷ vs))) front
 covered g sound constrained bound front openings closed u vs inside is near =
     let d = first_due g constrained u vs inside is in
     let opening = openings u inside (omega (arith, d, near)) in

@@ -11,7 +11,7 @@ use Rattle.drt_model.specs.declared.front.FrontEntry.{FrontEntry}
 use Rattle.drt_wave.specs.Fronts.{IsNextEntry}
 use Rattle.drt_merge.specs.declared.mark.Mark.{Mark}
 use Rattle.drt_merge.specs.Marks.{row, mark_at, entry_of, AreRows}
-use Rattle.drt_merge.specs.Gathered.{IsOfMark, IsBefore, AreGathered, AreEntries}
+use Rattle.drt_merge.specs.Gathered.{IsOfMark, IsMarkBefore, AreMarksGathered, AreMarkEntries}
 
 -- One more at the end of a list, which stands behind each of it.
 neighbours_more : {X : Type 0} (R : X → X → Type 0) (xs : List X) (y : X) → AllNeighbours R xs → ((x : X) → Contains xs x → R x y) → AllNeighbours R (xs ++ y ∷ [])
@@ -23,15 +23,15 @@ neighbours_more R (x ∷ (z ∷ zs)) y n all =
 
 module _ (lists : List (List Mark)) where
   -- The list before the first vertex is empty.
-  pub none_gathered : (entries : List FrontEntry) → entries ≡ [] → AreGathered lists 0 0 entries
-  none_gathered entries is = subst (AreGathered lists 0 0) (sym is) record {
+  pub none_gathered : (entries : List FrontEntry) → entries ≡ [] → AreMarksGathered lists 0 0 entries
+  none_gathered entries is = subst (AreMarksGathered lists 0 0) (sym is) record {
     each = λ e has. absurd (omega (arith, has.1));
     all = λ u j lu lj b. ⊎_elim (λ (lt : u < 0). absurd (omega arith)) (λ (lt : (u ≡ 0) × (j < 0)). let l = lt.1 in absurd (omega (arith, l))) b;
     ordered = λ i e lt. absurd (omega arith);
   }
 
   -- A vertex is done at the place past its last mark.
-  pub next_vertex : (v i : ℕ) (entries : List FrontEntry) → i ≡ length (row lists v) → AreGathered lists v i entries → AreGathered lists (v + 1) 0 entries
+  pub next_vertex : (v i : ℕ) (entries : List FrontEntry) → i ≡ length (row lists v) → AreMarksGathered lists v i entries → AreMarksGathered lists (v + 1) 0 entries
   next_vertex v i entries end are = record {
     each = λ e has. let k = are.each e has in (k.0, ⊎_elim (λ (lt : e.vertex < v). inl (omega arith)) (λ (lt : (e.vertex ≡ v) × (k.0.place < i)). let l = lt.0 in inl (omega (arith, l))) k.1);
     all = λ u j lu lj b. are.all u j lu lj (⊎_elim
@@ -42,19 +42,19 @@ module _ (lists : List (List Mark)) where
   }
 
   -- One more mark.
-  pub gathered_more : (g : Digraph) (bound v i : ℕ) (entries new : List FrontEntry) → AreRows g bound lists → v < vertex_count g → i < length (row lists v) → AreGathered lists v i entries
-      → new ≡ entries ++ entry_of v (mark_at (row lists v) i) ∷ [] → AreGathered lists v (i + 1) new
+  pub gathered_more : (g : Digraph) (bound v i : ℕ) (entries new : List FrontEntry) → AreRows g bound lists → v < vertex_count g → i < length (row lists v) → AreMarksGathered lists v i entries
+      → new ≡ entries ++ entry_of v (mark_at (row lists v) i) ∷ [] → AreMarksGathered lists v (i + 1) new
   gathered_more g bound v i entries new rows lv li are is =
       let x : FrontEntry = entry_of v (mark_at (row lists v) i) in
       let c = rows.count in
-      subst (AreGathered lists v (i + 1)) (sym is) record {
+      subst (AreMarksGathered lists v (i + 1)) (sym is) record {
         each = λ e has. ⊎_elim
             (λ (old : Contains entries e). let k = are.each e old in (
               k.0,
               ⊎_elim (λ (l : e.vertex < v). inl l) (λ (l : (e.vertex ≡ v) ×
                   (k.0.place < i)). let l1 = l.1 in inr (l.0, omega (arith, l1))) k.1,
             ))
-            (λ (same : x ≡ e). subst (λ z. (m : IsOfMark lists z) × IsBefore v (i + 1) z.vertex m.place) same
+            (λ (same : x ≡ e). subst (λ z. (m : IsOfMark lists z) × IsMarkBefore v (i + 1) z.vertex m.place) same
             (record { place = i; vertex = omega (arith, c, lv); there = li; is = refl }, inr (refl, omega arith)))
             (Contains-push_cases entries x e has);
         all = λ u j lu lj b. ⊎_elim
@@ -80,7 +80,7 @@ module _ (lists : List (List Mark)) where
       }
 
   -- All are gathered.
-  pub gathered_all : (v : ℕ) (entries : List FrontEntry) → v ≡ length lists → AreGathered lists v 0 entries → AreEntries lists entries
+  pub gathered_all : (v : ℕ) (entries : List FrontEntry) → v ≡ length lists → AreMarksGathered lists v 0 entries → AreMarkEntries lists entries
   gathered_all v entries end are = record {
     each = λ e has. (are.each e has).0;
     all = λ u j lu lj. are.all u j lu lj (inl (omega (arith, lu, end)));

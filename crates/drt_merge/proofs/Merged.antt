@@ -4,17 +4,17 @@ use Rattle.std.specs.Prelude.{Any, Contains}
 use Rattle.std.proofs.lemmas.List.Elements.{Contains-get_or}
 use mathlib.Core.Logic.{dite}
 use native.Mathlib.Decide.{dec_lt}
-use Rattle.drt_model.specs.Digraph.{Digraph, IsConstrainedGraph, IsSound, vertex_count, out_degree, edge_of}
+use Rattle.drt_model.specs.Digraph.{Digraph, IsConstrainedGraph, IsSoundGraph, vertex_count, out_degree, edge_of}
 use Rattle.drt_model.specs.Walk.{deadline, last_of, span}
 use Rattle.drt_model.specs.declared.front.FrontEntry.{FrontEntry}
 use Rattle.drt_claims.specs.Ranges.{IsCounted}
 use Rattle.drt_claims.specs.Fronts.{Covers, HasOpenings, IsClosedFront, IsExtended}
-use Rattle.drt_wave.specs.Fronts.{IsWalkEntry, IsNonDominated, IsExactFront, CoversAll}
+use Rattle.drt_wave.specs.Fronts.{IsWalkEntry, IsNonDominatedEntry, IsExactFront, CoversAll}
 use Rattle.drt_merge.specs.declared.mark.Mark.{Mark}
 use Rattle.drt_merge.specs.Arcs.{arc_of, extended}
 use Rattle.drt_merge.specs.Marks.{row, mark_at, entry_of, opening, IsCovered}
 use Rattle.drt_merge.specs.Merging.{AreMerged}
-use Rattle.drt_merge.specs.Gathered.{AreEntries, IsMergedFront}
+use Rattle.drt_merge.specs.Gathered.{AreMarkEntries, IsMergedFront}
 use Rattle.drt_merge.proofs.Closed.{covered}
 
 -- Entries with the same parts are equal.
@@ -24,8 +24,8 @@ same_entry d e p q r = λ i. record { vertex = p i; offset = q i; work = r i }
 any_of : {X : Type 0} (P : X → Type 0) (xs : List X) (x : X) → Contains xs x → P x → Any P xs
 any_of P xs x has is = (has.0, x, has.1, has.2, is)
 
-module _ (g : Digraph) (bound : ℕ) (sound : IsSound g) (constrained : IsConstrainedGraph g) (lists : List (List Mark)) (merged : AreMerged g bound lists)
-    (front : List FrontEntry) (are : AreEntries lists front) where
+module _ (g : Digraph) (bound : ℕ) (sound : IsSoundGraph g) (constrained : IsConstrainedGraph g) (lists : List (List Mark)) (merged : AreMerged g bound lists)
+    (front : List FrontEntry) (are : AreMarkEntries lists front) where
   -- An entry is the label of a walk.
   entry_walk : (e : FrontEntry) → Contains front e → IsWalkEntry g bound e
   entry_walk e has =
@@ -102,7 +102,7 @@ module _ (g : Digraph) (bound : ℕ) (sound : IsSound g) (constrained : IsConstr
               let o = ap (λ (z : FrontEntry). z.offset) one in let w = ap (λ (z : FrontEntry). z.work) one in
               same_entry d e vertex (omega (arith, o, before, early)) (omega (arith, w, much, more))
 
-      back : IsNonDominated (IsWalkEntry g bound) e → Any (Covers e.vertex e.offset e.work) front → Contains front e
+      back : IsNonDominatedEntry (IsWalkEntry g bound) e → Any (Covers e.vertex e.offset e.work) front → Contains front e
       back n (k, f, lt, at, by) = subst (Contains front) (n.alone f (entry_walk f (k, lt, at)) by) (k, lt, at)
 
   pub merged_front_is : IsCounted front → IsMergedFront g bound front

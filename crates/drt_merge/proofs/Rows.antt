@@ -7,8 +7,8 @@ use native.Mathlib.Decide.{ℕ_discrete, dec_lt}
 use Rattle.drt_model.specs.Digraph.{Digraph, vertex_count}
 use Rattle.drt_wave.specs.Fronts.{IsWalkEntry}
 use Rattle.drt_merge.specs.declared.mark.Mark.{Mark}
-use Rattle.drt_merge.specs.Marks.{no_mark, row, mark_at, IsLast, IsOver, IsCovered, IsSmall, entry_of, IsRow, AreRows, AreGrown, AreOpenedTo, opening}
-use Rattle.drt_merge.specs.Offers.{IsBelow}
+use Rattle.drt_merge.specs.Marks.{no_mark, row, mark_at, IsLastMark, IsMarkOver, IsCovered, IsSmallMark, entry_of, IsMarkRow, AreRows, AreMarksGrown, AreOpenedTo, opening}
+use Rattle.drt_merge.specs.Offers.{IsMarkBelow}
 
 -- The row that is set, and the others.
 pub row_set : (lists : List (List Mark)) (v : ℕ) (r : List Mark) → v < length lists → row (slice_set lists v r) v ≡ r
@@ -42,28 +42,28 @@ rises_more f marks m rise below i j lt within =
     (λ nl. let e : length marks ≡ j = omega (arith, n, within) in let ej = ap f (mark_new marks m j e) in let r = below i li in omega (arith, ei, ej, r))
 
 -- A row with one more mark.
-pub row_more : (g : Digraph) (bound v : ℕ) (marks : List Mark) (m : Mark) → IsRow g bound v marks → IsWalkEntry g bound (entry_of v m) → IsSmall m → ((i : ℕ) → i < length marks → IsBelow (mark_at marks i) m)
-    → IsRow g bound v (marks ++ m ∷ [])
+pub row_more : (g : Digraph) (bound v : ℕ) (marks : List Mark) (m : Mark) → IsMarkRow g bound v marks → IsWalkEntry g bound (entry_of v m) → IsSmallMark m → ((i : ℕ) → i < length marks → IsMarkBelow (mark_at marks i) m)
+    → IsMarkRow g bound v (marks ++ m ∷ [])
 row_more g bound v marks m is walk small below = record {
   walks = each_more (λ x. IsWalkEntry g bound (entry_of v x)) marks m is.walks walk;
-  small = each_more IsSmall marks m is.small small;
+  small = each_more IsSmallMark marks m is.small small;
   offsets = rises_more (λ x. x.offset) marks m is.offsets (λ i l. (below i l).0);
   works = rises_more (λ x. x.work) marks m is.works (λ i l. (below i l).1);
 }
 
 -- Rows of which one is set.
-pub rows_set : (g : Digraph) (bound v : ℕ) (lists : List (List Mark)) (r : List Mark) → AreRows g bound lists → v < vertex_count g → IsRow g bound v r → AreRows g bound (slice_set lists v r)
+pub rows_set : (g : Digraph) (bound v : ℕ) (lists : List (List Mark)) (r : List Mark) → AreRows g bound lists → v < vertex_count g → IsMarkRow g bound v r → AreRows g bound (slice_set lists v r)
 rows_set g bound v lists r are lt is = record {
   count = length-set lists v r ∙ are.count;
   each = λ u l. dite (ℕ_discrete u v)
       (λ (e : u ≡ v).
       let c = are.count in let here : row (slice_set lists v r) u ≡ r = ap (λ z. row (slice_set lists v r) z) e ∙ row_set lists v r (omega (arith, lt, c)) in
-      subst (IsRow g bound u) (sym here) (subst (λ z. IsRow g bound z r) (sym e) is))
-      (λ ne. subst (IsRow g bound u) (sym (row_kept lists v u r ne)) (are.each u l));
+      subst (IsMarkRow g bound u) (sym here) (subst (λ z. IsMarkRow g bound z r) (sym e) is))
+      (λ ne. subst (IsMarkRow g bound u) (sym (row_kept lists v u r ne)) (are.each u l));
 }
 
 -- Each mark is still there.
-pub grown_set : (lists : List (List Mark)) (v : ℕ) (m : Mark) → v < length lists → AreGrown lists (slice_set lists v (row lists v ++ m ∷ []))
+pub grown_set : (lists : List (List Mark)) (v : ℕ) (m : Mark) → v < length lists → AreMarksGrown lists (slice_set lists v (row lists v ++ m ∷ []))
 grown_set lists v m lt =
     let r = row lists v ++ m ∷ [] in
     let here = row_set lists v r lt in
@@ -82,7 +82,7 @@ grown_set lists v m lt =
           (λ ne. ap (λ z. mark_at z i) (row_kept lists v u r ne));
     }
 
-pub grown_none : (lists : List (List Mark)) → AreGrown lists lists
+pub grown_none : (lists : List (List Mark)) → AreMarksGrown lists lists
 grown_none lists = record { count = refl; longer = λ v. omega arith; same = λ v i l. refl }
 
 -- The new mark covers itself.
@@ -94,7 +94,7 @@ covers_new marks m =
     record { place = length marks; there = omega (arith, n); over = (omega (arith, o), omega (arith, w)) }
 
 -- The last mark is above each.
-pub last_most : (g : Digraph) (bound v : ℕ) (marks : List Mark) (l m : Mark) → IsRow g bound v marks → IsLast marks (Some l) → l.offset < m.offset → l.work < m.work → (i : ℕ) → i < length marks → IsBelow (mark_at marks i) m
+pub last_most : (g : Digraph) (bound v : ℕ) (marks : List Mark) (l m : Mark) → IsMarkRow g bound v marks → IsLastMark marks (Some l) → l.offset < m.offset → l.work < m.work → (i : ℕ) → i < length marks → IsMarkBelow (mark_at marks i) m
 last_most g bound v marks l m is last lo lw i lt =
     let n = last.1 in
     let o : l.offset ≡ (mark_at marks last.0).offset = ap (λ x. x.offset) last.2 in
@@ -110,7 +110,7 @@ last_most g bound v marks l m is last lo lw i lt =
     (omega (arith, a, o, lo), omega (arith, b, w, lw)))
 
 -- What the last mark covers is covered.
-pub last_covers : (marks : List Mark) (l m : Mark) → IsLast marks (Some l) → IsOver l m → IsCovered marks m
+pub last_covers : (marks : List Mark) (l m : Mark) → IsLastMark marks (Some l) → IsMarkOver l m → IsCovered marks m
 last_covers marks l m last over =
     let n = last.1 in
     let o : l.offset ≡ (mark_at marks last.0).offset = ap (λ x. x.offset) last.2 in
@@ -119,7 +119,7 @@ last_covers marks l m last over =
     record { place = last.0; there = omega (arith, n); over = (omega (arith, o, a), omega (arith, w, b)) }
 
 -- What is covered stays covered.
-pub covered_grown : (old new : List (List Mark)) (v : ℕ) (m : Mark) → AreGrown old new → IsCovered (row old v) m → IsCovered (row new v) m
+pub covered_grown : (old new : List (List Mark)) (v : ℕ) (m : Mark) → AreMarksGrown old new → IsCovered (row old v) m → IsCovered (row new v) m
 covered_grown old new v m grown is =
     let e = grown.same v is.place is.there in
     let more = grown.longer v in let there = is.there in
@@ -127,7 +127,7 @@ covered_grown old new v m grown is =
     let a = is.over.0 in let b = is.over.1 in
     record { place = is.place; there = omega (arith, more, there); over = (omega (arith, o, a), omega (arith, w, b)) }
 
-pub opened_grown : (g : Digraph) (bound n : ℕ) (old new : List (List Mark)) → AreGrown old new → AreOpenedTo g bound n old → AreOpenedTo g bound n new
+pub opened_grown : (g : Digraph) (bound n : ℕ) (old new : List (List Mark)) → AreMarksGrown old new → AreOpenedTo g bound n old → AreOpenedTo g bound n new
 opened_grown g bound n old new grown opened v lt due = covered_grown old new v (opening g v) grown (opened v lt due)
 
 -- One more vertex.

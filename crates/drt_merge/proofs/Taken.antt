@@ -8,12 +8,12 @@ use Rattle.drt_model.specs.Digraph.{Digraph, vertex_count, out_degree}
 use Rattle.drt_merge.specs.declared.mark.Mark.{Mark}
 use Rattle.drt_merge.specs.declared.arcs.Arc.{Arc}
 use Rattle.drt_merge.specs.Arcs.{no_arc, arc_at, arc_of, AreArcs, extended}
-use Rattle.drt_merge.specs.Marks.{row, mark_at, IsCovered, IsRow, AreRows, AreGrown}
+use Rattle.drt_merge.specs.Marks.{row, mark_at, IsCovered, IsMarkRow, AreRows, AreMarksGrown}
 use Rattle.drt_merge.specs.Merging.{AreTaken, IsMerging, IsCandidate, AreCoveredFrom, AreSpentTo, AreMerged}
 use Rattle.drt_merge.proofs.Rows.{covered_grown, opened_grown}
 
 -- Lists that have grown.
-pub taken_grown : (arcs : List Arc) (old new : List (List Mark)) (cursors : List ℕ) → AreGrown old new → AreTaken arcs old cursors → AreTaken arcs new cursors
+pub taken_grown : (arcs : List Arc) (old new : List (List Mark)) (cursors : List ℕ) → AreMarksGrown old new → AreTaken arcs old cursors → AreTaken arcs new cursors
 taken_grown arcs old new cursors grown are = record {
   count = are.count;
   within = λ k l. let w = are.within k l in let more = grown.longer (arc_at arcs k).source in omega (arith, w, more);
@@ -46,7 +46,7 @@ taken_more arcs lists cursors k to are lk le covered =
     }
 
 -- Merging goes on.
-pub merging_grown : (g : Digraph) (bound : ℕ) (arcs : List Arc) (old new : List (List Mark)) (cursors : List ℕ) → AreRows g bound new → AreGrown old new → IsMerging g bound arcs old cursors → IsMerging g bound arcs new cursors
+pub merging_grown : (g : Digraph) (bound : ℕ) (arcs : List Arc) (old new : List (List Mark)) (cursors : List ℕ) → AreRows g bound new → AreMarksGrown old new → IsMerging g bound arcs old cursors → IsMerging g bound arcs new cursors
 merging_grown g bound arcs old new cursors rows grown is = record { rows = rows; opened = opened_grown g bound (vertex_count g) old new grown is.opened; taken = taken_grown arcs old new cursors grown is.taken }
 
 pub merging_more : (g : Digraph) (bound : ℕ) (arcs : List Arc) (lists : List (List Mark)) (cursors : List ℕ) (k to : ℕ) → IsMerging g bound arcs lists cursors → k < length arcs
@@ -71,7 +71,7 @@ merged_of g bound arcs lists cursors are is spent = record { rows = is.rows; ope
         (λ early. inr (subst (λ z. IsCovered (row lists (arc_at arcs k).target) (extended (arc_at arcs k) (mark_at (row lists z) i))) (ap (λ a. a.source) e) (is.taken.covered k i has.1 early)))
         (λ late. inl (past k e r late (spent k has.1))))
       where
-        past : (k : ℕ) → arc_at arcs k ≡ arc_of g v j → IsRow g bound v (row lists v) → (i < slice_index cursors k → ⊥) → IsCandidate bound lists (arc_at arcs k) (slice_index cursors k) None
+        past : (k : ℕ) → arc_at arcs k ≡ arc_of g v j → IsMarkRow g bound v (row lists v) → (i < slice_index cursors k → ⊥) → IsCandidate bound lists (arc_at arcs k) (slice_index cursors k) None
             → bound < (mark_at (row lists v) i).offset + (arc_at arcs k).sep + (arc_at arcs k).deadline
         past k e r late (inl le) =
             let s : length (row lists (arc_at arcs k).source) ≡ length (row lists v) = ap (λ a. length (row lists a.source)) e in absurd (late (omega (arith, le, s, li)))
@@ -83,7 +83,7 @@ merged_of g bound arcs lists cursors are is spent = record { rows = is.rows; ope
             let o : (mark_at (row lists v) (slice_index cursors k)).offset ≡ (mark_at (row lists v) i).offset = ap (λ z. (mark_at (row lists v) z).offset) same in omega (arith, far, s, o))
 
 -- The candidate of an arc is covered once it is offered: the arc's cursor passes it.
-pub step_more : (g : Digraph) (bound : ℕ) (arcs : List Arc) (old new : List (List Mark)) (cursors : List ℕ) (k place : ℕ) (m : Mark) → AreRows g bound new → AreGrown old new → IsMerging g bound arcs old cursors
+pub step_more : (g : Digraph) (bound : ℕ) (arcs : List Arc) (old new : List (List Mark)) (cursors : List ℕ) (k place : ℕ) (m : Mark) → AreRows g bound new → AreMarksGrown old new → IsMerging g bound arcs old cursors
     → k < length arcs → slice_index cursors k ≡ place → place < length (row old (arc_at arcs k).source) → m ≡ extended (arc_at arcs k) (mark_at (row old (arc_at arcs k).source) place)
     → IsCovered (row new (arc_at arcs k).target) m → IsMerging g bound arcs new (slice_set cursors k (place + 1))
 step_more g bound arcs old new cursors k place m rows grown is lk at lp same covered =

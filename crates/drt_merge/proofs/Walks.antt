@@ -4,7 +4,7 @@ use Rattle.std.specs.Prelude.{Contains}
 use Rattle.std.proofs.lemmas.List.Elements.{All-push, Contains-push, Contains-append_left}
 use mathlib.Core.Logic.{dite}
 use native.Mathlib.Decide.{dec_lt}
-use Rattle.drt_model.specs.Digraph.{Digraph, IsSound, vertex_count, out_degree, edge_of}
+use Rattle.drt_model.specs.Digraph.{Digraph, IsSoundGraph, vertex_count, out_degree, edge_of}
 use Rattle.drt_model.specs.Walk.{IsEdge, deadline, gap, last_of, span, wcet, work}
 use Rattle.drt_graph.proofs.Edges.{sep_of_edge, gap_of}
 use Rattle.drt_graph.proofs.Paths.{path_both, last_both, work_both, span_both, work_cons, work_none, span_cons, span_none}
@@ -12,7 +12,7 @@ use Rattle.drt_wave.specs.Fronts.{IsWalkEntry}
 use Rattle.drt_merge.specs.declared.mark.Mark.{Mark}
 use Rattle.drt_merge.specs.declared.arcs.Arc.{Arc}
 use Rattle.drt_merge.specs.Arcs.{arc_of, IsArc, AreArcs, AreArcsTo, extended}
-use Rattle.drt_merge.specs.Marks.{entry_of, opening, IsSmall}
+use Rattle.drt_merge.specs.Marks.{entry_of, opening, IsSmallMark}
 
 -- The walk of one vertex.
 pub opening_walk : (g : Digraph) (bound v : ℕ) → v < vertex_count g → deadline g v ≤ bound → IsWalkEntry g bound (entry_of v (opening g v))
@@ -47,7 +47,7 @@ walk_edge g bound u v m walk edge near =
       within = near;
     }
 
-module _ (g : Digraph) (sound : IsSound g) where
+module _ (g : Digraph) (sound : IsSoundGraph g) where
   pub target_within : (a : Arc) → IsArc g a → a.target < vertex_count g
   target_within a is = let t = ap (λ (z : Arc). z.target) is.is in let l = sound.to a.source is.number is.vertex is.edge in omega (arith, t, l)
 
@@ -67,7 +67,7 @@ module _ (g : Digraph) (sound : IsSound g) where
           subst (λ s. IsWalkEntry g bound (entry_of v (record { offset = m.offset + s; work = m.work + wcet g v }))) e
           (walk_edge g bound u v m walk q.1 (omega (arith, e, near)))
 
-  pub small_arc : (a : Arc) (m : Mark) → IsArc g a → IsSmall m → IsSmall (extended a m)
+  pub small_arc : (a : Arc) (m : Mark) → IsArc g a → IsSmallMark m → IsSmallMark (extended a m)
   small_arc a m is small =
       let s = ap (λ (z : Arc). z.sep) is.is in let w = ap (λ (z : Arc). z.wcet) is.is in
       let sep = sound.sep a.source is.number is.vertex is.edge in

@@ -16,17 +16,17 @@ pub record IsOfMark (lists : List (List Mark)) (e : FrontEntry) : Type 0 where
   pub is : e ≡ entry_of e.vertex (mark_at (row lists e.vertex) place)
 
 -- The place stands before mark i of vertex v.
-abbrev pub IsBefore : ℕ → ℕ → ℕ → ℕ → Type 0
-IsBefore v i u j = (u < v) ⊎ ((u ≡ v) × (j < i))
+abbrev pub IsMarkBefore : ℕ → ℕ → ℕ → ℕ → Type 0
+IsMarkBefore v i u j = (u < v) ⊎ ((u ≡ v) × (j < i))
 
 -- The entries are, in order, those of the marks before mark i of vertex v.
-pub record AreGathered (lists : List (List Mark)) (v i : ℕ) (entries : List FrontEntry) : Type 0 where
-  pub each : (e : FrontEntry) → Contains entries e → (m : IsOfMark lists e) × IsBefore v i e.vertex m.place
-  pub all : (u j : ℕ) → u < length lists → j < length (row lists u) → IsBefore v i u j → Contains entries (entry_of u (mark_at (row lists u) j))
+pub record AreMarksGathered (lists : List (List Mark)) (v i : ℕ) (entries : List FrontEntry) : Type 0 where
+  pub each : (e : FrontEntry) → Contains entries e → (m : IsOfMark lists e) × IsMarkBefore v i e.vertex m.place
+  pub all : (u j : ℕ) → u < length lists → j < length (row lists u) → IsMarkBefore v i u j → Contains entries (entry_of u (mark_at (row lists u) j))
   pub ordered : AllNeighbours IsNextEntry entries
 
 -- The entries are those of the marks.
-pub record AreEntries (lists : List (List Mark)) (entries : List FrontEntry) : Type 0 where
+pub record AreMarkEntries (lists : List (List Mark)) (entries : List FrontEntry) : Type 0 where
   pub each : (e : FrontEntry) → Contains entries e → IsOfMark lists e
   pub all : (u j : ℕ) → u < length lists → j < length (row lists u) → Contains entries (entry_of u (mark_at (row lists u) j))
   pub ordered : AllNeighbours IsNextEntry entries

@@ -23,42 +23,42 @@ abbrev pub AreEmpty : ℕ → List (List Mark) → Type 0
 AreEmpty count lists = (length lists ≡ count) × ((v : ℕ) → v < count → row lists v ≡ [])
 
 -- The last mark, where there is one.
-abbrev pub IsLast : List Mark → Option Mark → Type 0
-IsLast marks None = length marks ≡ 0
-IsLast marks (Some m) = (i : ℕ) × (i + 1 ≡ length marks) × (m ≡ mark_at marks i)
+abbrev pub IsLastMark : List Mark → Option Mark → Type 0
+IsLastMark marks None = length marks ≡ 0
+IsLastMark marks (Some m) = (i : ℕ) × (i + 1 ≡ length marks) × (m ≡ mark_at marks i)
 
 -- The first mark has at most the offset of the second, and at least its work.
-abbrev pub IsOver : Mark → Mark → Type 0
-IsOver a b = (a.offset ≤ b.offset) × (b.work ≤ a.work)
+abbrev pub IsMarkOver : Mark → Mark → Type 0
+IsMarkOver a b = (a.offset ≤ b.offset) × (b.work ≤ a.work)
 
 -- The mark at this place covers another one.
 pub record IsCovered (marks : List Mark) (m : Mark) : Type 0 where
   pub place : ℕ
   pub there : place < length marks
-  pub over : IsOver (mark_at marks place) m
+  pub over : IsMarkOver (mark_at marks place) m
 
 -- The work is at most 1,000,000 for each tick of the offset and one more.
-abbrev pub IsSmall : Mark → Type 0
-IsSmall m = m.work ≤ 1000000 * (m.offset + 1)
+abbrev pub IsSmallMark : Mark → Type 0
+IsSmallMark m = m.work ≤ 1000000 * (m.offset + 1)
 
 -- The label that has this mark.
 abbrev pub entry_of : ℕ → Mark → FrontEntry
 entry_of v m = record { vertex = v; offset = m.offset; work = m.work }
 
 -- The marks are of walks to v that are due within the bound, and rise in offset and in work.
-pub record IsRow (g : Digraph) (bound v : ℕ) (marks : List Mark) : Type 0 where
+pub record IsMarkRow (g : Digraph) (bound v : ℕ) (marks : List Mark) : Type 0 where
   pub walks : (i : ℕ) → i < length marks → IsWalkEntry g bound (entry_of v (mark_at marks i))
-  pub small : (i : ℕ) → i < length marks → IsSmall (mark_at marks i)
+  pub small : (i : ℕ) → i < length marks → IsSmallMark (mark_at marks i)
   pub offsets : (i j : ℕ) → i < j → j < length marks → (mark_at marks i).offset < (mark_at marks j).offset
   pub works : (i j : ℕ) → i < j → j < length marks → (mark_at marks i).work < (mark_at marks j).work
 
 -- Such a row for each vertex.
 pub record AreRows (g : Digraph) (bound : ℕ) (lists : List (List Mark)) : Type 0 where
   pub count : length lists ≡ vertex_count g
-  pub each : (v : ℕ) → v < vertex_count g → IsRow g bound v (row lists v)
+  pub each : (v : ℕ) → v < vertex_count g → IsMarkRow g bound v (row lists v)
 
 -- Each mark is where it was.
-pub record AreGrown (old new : List (List Mark)) : Type 0 where
+pub record AreMarksGrown (old new : List (List Mark)) : Type 0 where
   pub count : length new ≡ length old
   pub longer : (v : ℕ) → length (row old v) ≤ length (row new v)
   pub same : (v i : ℕ) → i < length (row old v) → mark_at (row new v) i ≡ mark_at (row old v) i

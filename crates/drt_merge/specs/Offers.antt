@@ -6,14 +6,14 @@ use Rattle.drt_merge.specs.declared.offering.Outcome.TheVariants.{Kept, Covered,
 use Rattle.drt_merge.specs.Marks.{IsCovered, mark_at}
 
 -- The first mark has a smaller offset and less work.
-abbrev pub IsBelow : Mark → Mark → Type 0
-IsBelow a b = (a.offset < b.offset) × (a.work < b.work)
+abbrev pub IsMarkBelow : Mark → Mark → Type 0
+IsMarkBelow a b = (a.offset < b.offset) × (a.work < b.work)
 
 -- The outcome fits: a mark that is kept is above each of the marks, and a covered one is covered. Nothing is known of one out of order.
-abbrev pub IsJudged : List Mark → Mark → Outcome → Type 0
-IsJudged marks m Kept = (i : ℕ) → i < length marks → IsBelow (mark_at marks i) m
-IsJudged marks m Covered = IsCovered marks m
-IsJudged marks m Astray = Unit {0}
+abbrev pub IsOfferJudged : List Mark → Mark → Outcome → Type 0
+IsOfferJudged marks m Kept = (i : ℕ) → i < length marks → IsMarkBelow (mark_at marks i) m
+IsOfferJudged marks m Covered = IsCovered marks m
+IsOfferJudged marks m Astray = Unit {0}
 
 -- The marks cover it after that, unless it comes out of order.
 abbrev pub IsOffered : List Mark → Mark → Outcome → Type 0

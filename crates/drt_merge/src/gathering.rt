@@ -2,7 +2,7 @@
 ghost use Rattle.std.specs.Prelude.{◌≡◌, ◌+◌, ◌<◌, ◌≤◌, IfOk, length};
 ghost use Rattle.drt_model.specs.Digraph.{Digraph, vertex_count};
 ghost use Rattle.drt_merge.specs.Marks.{AreRows};
-ghost use Rattle.drt_merge.specs.Gathered.{AreGathered, AreEntries};
+ghost use Rattle.drt_merge.specs.Gathered.{AreMarksGathered, AreMarkEntries};
 
 use crate::lists::Lists;
 use drt_graph::Graph;
@@ -19,8 +19,8 @@ fn add_row(
 ) -> Result<(), Memory>
     requires rows { AreRows graph.now bound lists.now }
     requires vertex { vertex < vertex_count graph.now }
-    requires gathered { AreGathered lists.now vertex 0 entries.old.items }
-    ensures { IfOk result (λ r. AreGathered lists.now (vertex + 1) 0 entries.new.items) }
+    requires gathered { AreMarksGathered lists.now vertex 0 entries.old.items }
+    ensures { IfOk result (λ r. AreMarksGathered lists.now (vertex + 1) 0 entries.new.items) }
 {
     let count = lists.len(vertex);
     'marks: for place in 0..count {
@@ -53,7 +53,7 @@ pub fn entries_of(
     lists: &Lists,
 ) -> Result<Vec<FrontEntry>, Memory>
     requires rows { AreRows graph.now bound lists.now }
-    ensures { IfOk result (λ entries. AreEntries lists.now entries.items) }
+    ensures { IfOk result (λ entries. AreMarkEntries lists.now entries.items) }
 {
     let count = graph.vertex_count();
     let mut entries = Vec::with_capacity(alloc, room_for(lists, count))?;

@@ -1,6 +1,6 @@
 //! The marks of each vertex.
 ghost use Rattle.std.specs.Prelude.{◌≡◌, ◌<◌, ◌++◌, ◌∷◌, [], IfOk, length, slice_set};
-ghost use Rattle.drt_merge.specs.Marks.{row, mark_at, IsLast, AreEmpty};
+ghost use Rattle.drt_merge.specs.Marks.{row, mark_at, IsLastMark, AreEmpty};
 
 use crate::mark::Mark;
 use drt_model::Memory;
@@ -54,7 +54,7 @@ impl Lists {
     /// The last mark of a vertex.
     pub fn last(&self, vertex: u32) -> Option<Mark>
         requires { vertex < length self.now }
-        ensures { IsLast (row self.now vertex) result }
+        ensures { IsLastMark (row self.now vertex) result }
     {
         self.rows[vertex as usize].last().copied()
     }

@@ -2,8 +2,8 @@
 ghost use Rattle.std.specs.Prelude.{◌≡◌, ◌<◌, ◌≤◌, ◌↔◌, ◌*◌, ◌+◌, IfOk, IsTrue};
 ghost use Rattle.drt_model.specs.Digraph.{vertex_count};
 ghost use Rattle.drt_wave.specs.Fronts.{IsWalkEntry};
-ghost use Rattle.drt_merge.specs.Marks.{row, IsOver, IsSmall, AreRows, AreGrown, entry_of};
-ghost use Rattle.drt_merge.specs.Offers.{IsJudged, IsOffered};
+ghost use Rattle.drt_merge.specs.Marks.{row, IsMarkOver, IsSmallMark, AreRows, AreMarksGrown, entry_of};
+ghost use Rattle.drt_merge.specs.Offers.{IsOfferJudged, IsOffered};
 
 use crate::lists::Lists;
 use crate::mark::Mark;
@@ -23,7 +23,7 @@ pub enum Outcome {
 
 // Whether the first mark covers the second.
 pub(crate) fn is_over(a: Mark, b: Mark) -> bool
-    ensures { IsTrue result ↔ IsOver a b }
+    ensures { IsTrue result ↔ IsMarkOver a b }
 {
     a.offset <= b.offset && b.work <= a.work
 }
@@ -32,7 +32,7 @@ pub(crate) fn is_over(a: Mark, b: Mark) -> bool
 fn judge(graph: &Graph, bound: u64, lists: &Lists, vertex: u32, mark: Mark) -> Outcome
     requires vertex { vertex < vertex_count graph.now }
     requires rows { AreRows graph.now bound lists.now }
-    ensures { IsJudged (row lists.now vertex) mark result }
+    ensures { IsOfferJudged (row lists.now vertex) mark result }
 {
     match lists.last(vertex) {
         Some(last) => {
@@ -58,10 +58,10 @@ pub fn offer(
 ) -> Result<Outcome, Memory>
     requires vertex { vertex < vertex_count graph.now }
     requires walk { IsWalkEntry graph.now bound (entry_of vertex mark) }
-    requires small { IsSmall mark }
+    requires small { IsSmallMark mark }
     requires rows { AreRows graph.now bound lists.old }
     ensures rows { IfOk result (λ outcome. AreRows graph.now bound lists.new) }
-    ensures grown { IfOk result (λ outcome. AreGrown lists.old lists.new) }
+    ensures grown { IfOk result (λ outcome. AreMarksGrown lists.old lists.new) }
     ensures offered { IfOk result (λ outcome. IsOffered (row lists.new vertex) mark outcome) }
 {
     match judge(graph, bound, lists, vertex, mark) {

@@ -49,7 +49,7 @@ edge_of g v k = slice_index_or (out_edges g v) k no_edge
 
 -- The graph keeps the limits: 1 to 96 vertices, at most 256 edges out of a vertex, at most one from one vertex to another,
 -- times in range, and each edge leaves the vertex whose row it stands in and leads to a vertex.
-pub record IsSound (g : Digraph) : Type 0 where
+pub record IsSoundGraph (g : Digraph) : Type 0 where
   pub some : 1 ≤ vertex_count g
   pub few : vertex_count g ≤ 96
   pub rows : length g.out ≡ vertex_count g

@@ -61,8 +61,8 @@ pub record IsTask (version : ℕ) (t : Task) : Type 0 where
   pub one_edge_each_way : AllPairs (λ e f. e.from ≡ f.from → e.to ≢ f.to) t.edges
 
 -- In version 1 the order of the tasks is their priority: task i, counted from 0, has the priority i + 1.
-abbrev pub AreInOrder : ℕ → List Task → Type 0
-AreInOrder version tasks = version ≡ 1 → (i : ℕ) (t : Task) → slice_get tasks i ≡ Some t → t.priority ≡ i + 1
+abbrev pub AreInPriorityOrder : ℕ → List Task → Type 0
+AreInPriorityOrder version tasks = version ≡ 1 → (i : ℕ) (t : Task) → slice_get tasks i ≡ Some t → t.priority ≡ i + 1
 
 -- A task set has 1 to 16 or 32 tasks, with distinct names and distinct priorities.
 pub record IsTaskSet (version : ℕ) (tasks : List Task) : Type 0 where
@@ -72,4 +72,4 @@ pub record IsTaskSet (version : ℕ) (tasks : List Task) : Type 0 where
   pub each : All (IsTask version) tasks
   pub distinct_names : AllPairs (λ s t. s.name ≢ t.name) tasks
   pub distinct_priorities : AllPairs (λ s t. s.priority ≢ t.priority) tasks
-  pub in_order : AreInOrder version tasks
+  pub in_order : AreInPriorityOrder version tasks

@@ -1,6 +1,6 @@
 //! The limits of a task set, as a test.
 ghost use Rattle.std.specs.Prelude.{◌≡◌, ◌≢◌, ◌≤◌, ◌<◌, ◌⊎◌, ◌↔◌, All, AllPairs, IsTrue, IsSome, IfSome, length};
-ghost use Rattle.drt_model.specs.Limits.{IsNameByte, IsName, IsTime, IsPriority, IsVertex, IsEdgeAmong, IsTask, IsVersion, IsTaskSet, AreInOrder, most_tasks, most_vertices};
+ghost use Rattle.drt_model.specs.Limits.{IsNameByte, IsName, IsTime, IsPriority, IsVertex, IsEdgeAmong, IsTask, IsVersion, IsTaskSet, AreInPriorityOrder, most_tasks, most_vertices};
 
 use crate::row::Row;
 use crate::tasks::{Edge, Task, TaskSet, Vertex};
@@ -62,7 +62,7 @@ pub fn most_vertices(version: u8) -> usize
 
 // Whether the tasks have the priorities 1, 2, .. in order, as version 1 demands.
 fn are_in_order(version: u8, tasks: &[Task]) -> bool
-    ensures { IsTrue result ↔ AreInOrder version tasks.now }
+    ensures { IsTrue result ↔ AreInPriorityOrder version tasks.now }
 {
     if version != 1 {
         return true;

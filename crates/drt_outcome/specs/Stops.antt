@@ -22,8 +22,8 @@ fault_status (faults.Rule number) = 9
 fault_status (faults.Dossier line code) = 10
 
 -- A refused input has one of these statuses.
-abbrev pub IsRefusal : ℕ → Type 0
-IsRefusal status = (status ≡ 4) ⊎ ((status ≡ 9) ⊎ (status ≡ 10))
+abbrev pub IsRefusalStatus : ℕ → Type 0
+IsRefusalStatus status = (status ≡ 4) ⊎ ((status ≡ 9) ⊎ (status ≡ 10))
 
 -- Refused words have status 5, a failed read 6, a failed write 7, want of memory 8, and a refused input that of its fault.
 abbrev pub outcome_of : Stop → Outcome

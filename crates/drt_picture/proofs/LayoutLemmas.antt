@@ -7,26 +7,26 @@ use Rattle.drt_model.specs.declared.tasks.Task.{Task}
 use Rattle.drt_model.specs.Legal.{AllNeighbours}
 use Rattle.drt_timeline.specs.declared.span.Span.{Span}
 use Rattle.drt_timeline.specs.declared.event.Event.{Event}
-use Rattle.drt_timeline.specs.Spans.{IsNext}
+use Rattle.drt_timeline.specs.Spans.{IsNextSpan}
 use Rattle.drt_picture.specs.declared.bars.Bar.{Bar}
 use Rattle.drt_picture.specs.declared.bars.Arrow.{Arrow}
 use Rattle.drt_picture.specs.declared.layout.Layout.{Layout}
 use Rattle.drt_picture.specs.declared.scale.Scale.{Scale}
-use Rattle.drt_picture.specs.Layout.{IsArrow, IsBar, IsEventOf, IsRow, IsSpanOf, arrow_of, bar_of, from_of, task_of}
-use Rattle.drt_picture.specs.Moments.{IsWithin, moment_of_event, moment_of_span, moments_of}
-use Rattle.drt_picture.specs.Scale.{IsScale, x_of}
+use Rattle.drt_picture.specs.Layout.{IsArrow, IsBar, IsEventOf, IsPageRow, IsSpanOf, arrow_of, bar_of, from_of, task_of}
+use Rattle.drt_picture.specs.Moments.{IsMomentWithin, moment_of_event, moment_of_span, moments_of}
+use Rattle.drt_picture.specs.Scale.{IsPageScale, x_of}
 use Rattle.drt_picture.proofs.Orders.{ascends, neighbours_map, neighbours_weaker}
 use Rattle.drt_picture.proofs.ScaleLemmas.{x_left, x_right, x_rise}
 
 -- The starts of spans ascend.
-starts_ascend : (count until : ℕ) (spans : List Span) → AllNeighbours IsNext spans → All (IsSpanOf count until) spans → AllNeighbours (λ s t. s.start ≤ t.start) spans
+starts_ascend : (count until : ℕ) (spans : List Span) → AllNeighbours IsNextSpan spans → All (IsSpanOf count until) spans → AllNeighbours (λ s t. s.start ≤ t.start) spans
 starts_ascend count until spans next each i d l =
     let some = (each i d (omega arith)).some in
     let after = (next i d l).0 in
     omega (arith, some, after)
 
 -- No span starts before the first one.
-pub from_least : (hidden count until : ℕ) (spans : List Span) → AllNeighbours IsNext spans → All (IsSpanOf count until) spans
+pub from_least : (hidden count until : ℕ) (spans : List Span) → AllNeighbours IsNextSpan spans → All (IsSpanOf count until) spans
     → All (λ s. from_of hidden spans ≤ s.start) spans
 from_least hidden count until [] next each k d l = absurd (omega arith)
 from_least hidden count until (s ∷ others) next each k d l = go (hidden == 0)
@@ -56,19 +56,19 @@ from_in_time hidden count until (s ∷ others) each = go (hidden == 0)
 
 -- What happens in the picture lies between its ends.
 pub all_within : (from count until : ℕ) (spans : List Span) (events : List Event) → from ≤ until → All (IsSpanOf count until) spans → All (λ s. from ≤ s.start) spans
-    → All (IsEventOf count until) events → All (λ e. from ≤ e.time) events → All (IsWithin from until) (moments_of spans events until)
+    → All (IsEventOf count until) events → All (λ e. from ≤ e.time) events → All (IsMomentWithin from until) (moments_of spans events until)
 all_within from count until spans events ahead spans_in spans_from events_in events_from =
-    All-append (IsWithin from until) (map moment_of_span spans ++ map moment_of_event events) (record { start = until; end = until } ∷ [])
-    (All-append (IsWithin from until) (map moment_of_span spans) (map moment_of_event events)
-    (All-map (IsWithin from until) moment_of_span spans (λ k d l. record { not_before = spans_from k d l; some = omega (arith, (spans_in k d l).some); in_time = (spans_in k d l).in_time }))
-    (All-map (IsWithin from until) moment_of_event events (λ k d l. record { not_before = events_from k d l; some = omega arith; in_time = (events_in k d l).in_time })))
-    (All-cons (IsWithin from until) (record { start = until; end = until }) [] (record { not_before = ahead; some = omega arith; in_time = omega arith }) (All-nil (IsWithin from until)))
+    All-append (IsMomentWithin from until) (map moment_of_span spans ++ map moment_of_event events) (record { start = until; end = until } ∷ [])
+    (All-append (IsMomentWithin from until) (map moment_of_span spans) (map moment_of_event events)
+    (All-map (IsMomentWithin from until) moment_of_span spans (λ k d l. record { not_before = spans_from k d l; some = omega (arith, (spans_in k d l).some); in_time = (spans_in k d l).in_time }))
+    (All-map (IsMomentWithin from until) moment_of_event events (λ k d l. record { not_before = events_from k d l; some = omega arith; in_time = (events_in k d l).in_time })))
+    (All-cons (IsMomentWithin from until) (record { start = until; end = until }) [] (record { not_before = ahead; some = omega arith; in_time = omega arith }) (All-nil (IsMomentWithin from until)))
 
 -- Bars stand in the order of their spans.
-pub bars_in_order : (s : Scale) (releases : List Release) (spans : List Span) → AllNeighbours IsNext spans → AllNeighbours (λ a b. a.right ≤ b.left) (map (bar_of s releases) spans)
+pub bars_in_order : (s : Scale) (releases : List Release) (spans : List Span) → AllNeighbours IsNextSpan spans → AllNeighbours (λ a b. a.right ≤ b.left) (map (bar_of s releases) spans)
 bars_in_order s releases spans next =
     neighbours_map (λ (a b : Bar). a.right ≤ b.left) (bar_of s releases) spans
-    (neighbours_weaker IsNext (λ x y. x_of s x.end ≤ x_of s y.start) spans (λ x y h. x_rise s x.end y.start h.0) next)
+    (neighbours_weaker IsNextSpan (λ x y. x_of s x.end ≤ x_of s y.start) spans (λ x y h. x_rise s x.end y.start h.0) next)
 
 -- Arrows stand in the order of their events.
 pub arrows_in_order : (s : Scale) (releases : List Release) (events : List Event) → AllNeighbours (λ e f. e.time ≤ f.time) events
@@ -79,14 +79,14 @@ arrows_in_order s releases events order =
 
 -- The task of a job has a row.
 has_row : (tasks : List Task) (releases : List Release) (height j : ℕ) → All (λ r. r.task < length tasks) releases → 720 + 480 * length tasks ≤ height → j < length releases
-    → IsRow tasks height (task_of releases j)
+    → IsPageRow tasks height (task_of releases j)
 has_row tasks releases height j legal high here =
     let row : task_of releases j < length tasks
     = All-get_or (λ (r : Release). r.task < length tasks) releases j (record { task = 0; vertex = 0; time = 0; need = 0 }) here legal in
     record { here = row; on_page = omega (arith, row, high) }
 
 -- Each bar stands on the page.
-pub each_bar : (tasks : List Task) (releases : List Release) (l : Layout) (spans : List Span) → IsScale l.scale → All (λ r. r.task < length tasks) releases
+pub each_bar : (tasks : List Task) (releases : List Release) (l : Layout) (spans : List Span) → IsPageScale l.scale → All (λ r. r.task < length tasks) releases
     → 720 + 480 * length tasks ≤ l.height → All (IsSpanOf (length releases) l.scale.until) spans → All (IsBar tasks l) (map (bar_of l.scale releases) spans)
 each_bar tasks releases l spans scale legal high each = All-map (IsBar tasks l) (bar_of l.scale releases) spans (λ k d h. one (get_or spans k d) (each k d h))
   where
@@ -99,7 +99,7 @@ each_bar tasks releases l spans scale legal high each = All-map (IsBar tasks l) 
     }
 
 -- Each arrow stands on the page.
-pub each_arrow : (tasks : List Task) (releases : List Release) (l : Layout) (events : List Event) → IsScale l.scale → All (λ r. r.task < length tasks) releases
+pub each_arrow : (tasks : List Task) (releases : List Release) (l : Layout) (events : List Event) → IsPageScale l.scale → All (λ r. r.task < length tasks) releases
     → 720 + 480 * length tasks ≤ l.height → All (IsEventOf (length releases) l.scale.until) events → All (IsArrow tasks l) (map (arrow_of l.scale releases) events)
 each_arrow tasks releases l events scale legal high each = All-map (IsArrow tasks l) (arrow_of l.scale releases) events (λ k d h. one (get_or events k d) (each k d h))
   where

@@ -7,21 +7,21 @@ use Rattle.drt_model.specs.declared.tasks.Task.{Task}
 use Rattle.drt_model.specs.Legal.{AllNeighbours}
 use Rattle.drt_timeline.specs.declared.span.Span.{Span}
 use Rattle.drt_timeline.specs.declared.event.Event.{Event}
-use Rattle.drt_timeline.specs.Spans.{IsNext}
+use Rattle.drt_timeline.specs.Spans.{IsNextSpan}
 use Rattle.drt_picture.specs.declared.bars.Bar.{Bar}
 use Rattle.drt_picture.specs.declared.bars.Arrow.{Arrow}
 use Rattle.drt_picture.specs.declared.layout.Layout.{Layout}
-use Rattle.drt_picture.specs.Layout.{IsArrow, IsBar, IsCutMark, IsEventOf, IsLayout, IsSpanOf, IsTick, arrow_of, bar_of, from_of}
-use Rattle.drt_picture.specs.Moments.{IsCut, IsPart, IsWithin, moments_of}
+use Rattle.drt_picture.specs.Layout.{IsArrow, IsBar, IsCutMark, IsEventOf, IsLayout, IsSpanOf, IsAxisTick, arrow_of, bar_of, from_of}
+use Rattle.drt_picture.specs.Moments.{IsGap, IsPart, IsMomentWithin, moments_of}
 use Rattle.drt_picture.specs.Reach.{Reach}
-use Rattle.drt_picture.specs.Scale.{IsScale}
+use Rattle.drt_picture.specs.Scale.{IsPageScale}
 use Rattle.drt_picture.proofs.Orders.{neighbours_drop}
 use Rattle.drt_picture.proofs.LayoutLemmas.{all_within, arrows_in_order, bars_in_order, each_arrow, each_bar, from_in_time, from_least}
 
 -- What a caller of `lay_out` shows of spans and events.
 pub record AreGiven (count until : ℕ) (spans : List Span) (events : List Event) : Type 0 where
   pub each_span : All (IsSpanOf count until) spans
-  pub spans_in_order : AllNeighbours IsNext spans
+  pub spans_in_order : AllNeighbours IsNextSpan spans
   pub each_event : All (IsEventOf count until) events
   pub events_in_order : AllNeighbours (λ e f. e.time ≤ f.time) events
 
@@ -29,14 +29,14 @@ pub record AreGiven (count until : ℕ) (spans : List Span) (events : List Event
 pub given_drop : (count until n m : ℕ) (spans : List Span) (events : List Event) → AreGiven count until spans events → AreGiven count until (drop n spans) (drop m events)
 given_drop count until n m spans events h = record {
   each_span = All-drop (IsSpanOf count until) n spans h.each_span;
-  spans_in_order = neighbours_drop IsNext n spans h.spans_in_order;
+  spans_in_order = neighbours_drop IsNextSpan n spans h.spans_in_order;
   each_event = All-drop (IsEventOf count until) m events h.each_event;
   events_in_order = neighbours_drop (λ (e f : Event). e.time ≤ f.time) m events h.events_in_order;
 }
 
 -- What happens in a picture lies between where it begins and its end.
 pub shown_within : (hidden count until : ℕ) (spans : List Span) (events : List Event) → AreGiven count until spans events
-    → All (λ e. from_of hidden spans ≤ e.time) events → All (IsWithin (from_of hidden spans) until) (moments_of spans events until)
+    → All (λ e. from_of hidden spans ≤ e.time) events → All (IsMomentWithin (from_of hidden spans) until) (moments_of spans events until)
 shown_within hidden count until spans events h later =
     all_within (from_of hidden spans) count until spans events (from_in_time hidden count until spans h.each_span) h.each_span
     (from_least hidden count until spans h.spans_in_order h.each_span) h.each_event later
@@ -47,14 +47,14 @@ pub record IsMade (tasks : List Task) (releases : List Release) (spans : List Sp
   pub from_is : l.from ≡ from_of l.hidden (drop l.hidden spans)
   pub early : All (λ e. e.time < l.from) (take l.early events)
   pub shown : All (λ e. l.from ≤ e.time) (drop l.early events)
-  pub scale : IsScale l.scale
+  pub scale : IsPageScale l.scale
   pub until_is : l.scale.until ≡ until
   pub reach : Reach l.from until l.scale.parts
   pub each_part : All (IsPart until) l.scale.parts
-  pub parts : AllNeighbours (IsCut (moments_of (drop l.hidden spans) (drop l.early events) until)) l.scale.parts
+  pub parts : AllNeighbours (IsGap (moments_of (drop l.hidden spans) (drop l.early events) until)) l.scale.parts
   pub bars : l.bars ≡ map (bar_of l.scale releases) (drop l.hidden spans)
   pub arrows : l.arrows ≡ map (arrow_of l.scale releases) (drop l.early events)
-  pub axis : All (IsTick l.scale) l.ticks
+  pub axis : All (IsAxisTick l.scale) l.ticks
   pub cuts : All (IsCutMark l.scale) l.cuts
   pub high : 720 + 480 * length tasks ≤ l.height
 

@@ -11,7 +11,7 @@ use Rattle.drt_model.specs.Legal.{AllNeighbours}
 use Rattle.drt_model.proofs.Neighbours.{AllNeighbours-nil}
 use Rattle.drt_picture.specs.declared.moments.Moment.{Moment}
 use Rattle.drt_picture.specs.declared.scale.Part.{Part}
-use Rattle.drt_picture.specs.Moments.{IsClear, IsCut, IsPart, IsWithin}
+use Rattle.drt_picture.specs.Moments.{IsBesideGap, IsGap, IsPart, IsMomentWithin}
 use Rattle.drt_picture.proofs.Orders.{neighbours_push, neighbours_weaker}
 use Rattle.drt_picture.proofs.ReachLemmas.{BeginsAt, begins_more}
 
@@ -27,8 +27,8 @@ pub record IsSoFar (moments : List Moment) (from until i start reached : ℕ) (p
   pub few : length parts ≤ 16
   pub each : All (IsPart until) parts
   pub begins : BeginsAt from start parts
-  pub cuts : AllNeighbours (IsCut moments) parts
-  pub last : (k : ℕ) (d : Part) → k + 1 ≡ length parts → IsCut moments (get_or parts k d) (open_at start)
+  pub cuts : AllNeighbours (IsGap moments) parts
+  pub last : (k : ℕ) (d : Part) → k + 1 ≡ length parts → IsGap moments (get_or parts k d) (open_at start)
 
 pub so_far_none : (moments : List Moment) (until from : ℕ) → from ≤ until → IsSoFar moments from until 0 from from []
 so_far_none moments until from h = record {
@@ -38,7 +38,7 @@ so_far_none moments until from h = record {
   few = omega arith;
   each = All-nil (IsPart until);
   begins = refl;
-  cuts = AllNeighbours-nil (IsCut moments);
+  cuts = AllNeighbours-nil (IsGap moments);
   last = λ k d e. absurd (omega arith);
 }
 
@@ -54,7 +54,7 @@ passed_more moments i reached m is passed k d l = go (cases_lt k i)
 
 -- The next moment comes soon.
 pub so_far_more : (moments : List Moment) (from until i start reached : ℕ) (parts : List Part) (m : Moment) → ((d : Moment) → m ≡ get_or moments i d)
-    → IsWithin from until m → IsSoFar moments from until i start reached parts → IsSoFar moments from until (i + 1) start (max reached m.end) parts
+    → IsMomentWithin from until m → IsSoFar moments from until i start reached parts → IsSoFar moments from until (i + 1) start (max reached m.end) parts
 so_far_more moments from until i start reached parts m is within h = record {
   passed = passed_more moments i reached m is h.passed;
   in_time = omega (arith, within.in_time, h.in_time);
@@ -68,7 +68,7 @@ so_far_more moments from until i start reached parts m is within h = record {
 
 -- The next moment is far.
 pub so_far_cut : (moments : List Moment) (from until i start reached longest : ℕ) (parts : List Part) (m : Moment) → ((d : Moment) → m ≡ get_or moments i d)
-    → i < length moments → IsNonDecreasingBy (λ m. m.start) moments → IsWithin from until m → length parts < 16 → reached + longest < m.start
+    → i < length moments → IsNonDecreasingBy (λ m. m.start) moments → IsMomentWithin from until m → length parts < 16 → reached + longest < m.start
     → IsSoFar moments from until i start reached parts
     → IsSoFar moments from until (i + 1) (m.start - longest / 2) (max reached m.end) (parts ++ record { start = start; end = reached + longest / 2 } ∷ [])
 so_far_cut moments from until i start reached longest parts m is here order within few far h =
@@ -81,31 +81,31 @@ so_far_cut moments from until i start reached longest parts m is here order with
       each = All-push (IsPart until) parts (record { start = start; end = reached + longest / 2 }) h.each
           (record { ordered = omega (arith, h.started); in_time = omega (arith, within.some, within.in_time) });
       begins = begins_more from start (reached + longest / 2) (m.start - longest / 2) parts h.begins;
-      cuts = neighbours_push (IsCut moments) parts (record { start = start; end = reached + longest / 2 }) h.cuts h.last;
+      cuts = neighbours_push (IsGap moments) parts (record { start = start; end = reached + longest / 2 }) h.cuts h.last;
       last = λ k d e. last k d (omega (arith, length-append parts (record { start = start; end = reached + longest / 2 } ∷ [])));
     }
   where
     closed : Part
     closed = record { start = start; end = reached + longest / 2 }
 
-    clear : (k : ℕ) (d : Moment) → k < length moments → IsClear (record { start = start; end = reached + longest / 2 }) (open_at (m.start - longest / 2)) (get_or moments k d)
+    clear : (k : ℕ) (d : Moment) → k < length moments → IsBesideGap (record { start = start; end = reached + longest / 2 }) (open_at (m.start - longest / 2)) (get_or moments k d)
     clear k d l = go (cases_lt k i)
       where
-        go : (k < i) ⊎ (i ≤ k) → IsClear (record { start = start; end = reached + longest / 2 }) (open_at (m.start - longest / 2)) (get_or moments k d)
+        go : (k < i) ⊎ (i ≤ k) → IsBesideGap (record { start = start; end = reached + longest / 2 }) (open_at (m.start - longest / 2)) (get_or moments k d)
         go (inl q) = inl (omega (arith, h.passed k d q))
         go (inr q) = (let rise = order i k d q l in
             let rise' = subst (λ (n : Moment). n.start ≤ (get_or moments k d).start) (sym (is d)) rise in
             inr (omega (arith, rise')))
 
-    last : (k : ℕ) (d : Part) → k ≡ length parts → IsCut moments (get_or (parts ++ record { start = start; end = reached + longest / 2 } ∷ []) k d) (open_at (m.start - longest / 2))
+    last : (k : ℕ) (d : Part) → k ≡ length parts → IsGap moments (get_or (parts ++ record { start = start; end = reached + longest / 2 } ∷ []) k d) (open_at (m.start - longest / 2))
     last k d e = rw (e, get_or-append_seam parts (record { start = start; end = reached + longest / 2 }) [] d) (omega arith, clear)
 
 -- Behind the last moment the open part is closed.
 pub so_far_all : (moments : List Moment) (from until i start reached : ℕ) (parts : List Part) → IsSoFar moments from until i start reached parts
-    → AllNeighbours (IsCut moments) (parts ++ record { start = start; end = until } ∷ [])
-so_far_all moments from until i start reached parts h = neighbours_push (IsCut moments) parts (record { start = start; end = until }) h.cuts h.last
+    → AllNeighbours (IsGap moments) (parts ++ record { start = start; end = until } ∷ [])
+so_far_all moments from until i start reached parts h = neighbours_push (IsGap moments) parts (record { start = start; end = until }) h.cuts h.last
 
 -- A cut between parts is the same for the same moments in another order.
-pub cuts_of_all : (all moments : List Moment) (parts : List Part) → IsPermutation all moments → AllNeighbours (IsCut moments) parts → AllNeighbours (IsCut all) parts
+pub cuts_of_all : (all moments : List Moment) (parts : List Part) → IsPermutation all moments → AllNeighbours (IsGap moments) parts → AllNeighbours (IsGap all) parts
 cuts_of_all all moments parts perm h =
-    neighbours_weaker (IsCut moments) (IsCut all) parts (λ p q cut. (cut.0, All-permutation (IsClear p q) moments all (IsPermutation-sym all moments perm) cut.1)) h
+    neighbours_weaker (IsGap moments) (IsGap all) parts (λ p q cut. (cut.0, All-permutation (IsBesideGap p q) moments all (IsPermutation-sym all moments perm) cut.1)) h

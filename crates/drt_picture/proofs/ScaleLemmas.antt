@@ -8,7 +8,7 @@ use Rattle.std.proofs.lemmas.Bool.{leb-true, le-leb}
 use Rattle.std.proofs.lemmas.List.Sums.{sum_by-cons, count_by-le-length}
 use Rattle.drt_picture.specs.declared.scale.Part.{Part}
 use Rattle.drt_picture.specs.declared.scale.Scale.{Scale}
-use Rattle.drt_picture.specs.Scale.{IsScale, begun_by, room, shown_before, ticks_before, x_of}
+use Rattle.drt_picture.specs.Scale.{IsPageScale, begun_by, room, shown_before, ticks_before, x_of}
 
 ticks_rise : (p : Part) (a b : ℕ) → a ≤ b → ticks_before a p ≤ ticks_before b p
 ticks_rise p a b h = omega arith
@@ -52,7 +52,7 @@ pub x_left : (s : Scale) (time : ℕ) → s.left ≤ x_of s time
 x_left s time = omega arith
 
 -- No place is right of the drawing area.
-pub x_right : (s : Scale) (time : ℕ) → IsScale s → time ≤ s.until → x_of s time ≤ s.left + s.width
+pub x_right : (s : Scale) (time : ℕ) → IsPageScale s → time ≤ s.until → x_of s time ≤ s.left + s.width
 x_right s time scale h =
     let r = room s.width s.parts in
     let all = shown_before s.parts s.until in

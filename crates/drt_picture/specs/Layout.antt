@@ -11,9 +11,9 @@ use Rattle.drt_picture.specs.declared.bars.Bar.{Bar}
 use Rattle.drt_picture.specs.declared.bars.Arrow.{Arrow}
 use Rattle.drt_picture.specs.declared.layout.Layout.{Layout}
 use Rattle.drt_picture.specs.declared.scale.Scale.{Scale}
-use Rattle.drt_picture.specs.Moments.{IsCut, IsPart, moments_of}
+use Rattle.drt_picture.specs.Moments.{IsGap, IsPart, moments_of}
 use Rattle.drt_picture.specs.Reach.{Reach}
-use Rattle.drt_picture.specs.Scale.{IsInArea, IsScale, x_of}
+use Rattle.drt_picture.specs.Scale.{IsInArea, IsPageScale, x_of}
 
 -- The span has ticks, all of them before `until`, and its job is one of so many.
 pub record IsSpanOf (count until : ℕ) (s : Span) : Type 0 where
@@ -52,24 +52,24 @@ abbrev pub from_of : ℕ → List Span → ℕ
 from_of hidden shown = if hidden == 0 then 0 else start_of shown
 
 -- There is such a row, and all of it is on the page.
-pub record IsRow (tasks : List Task) (height row : ℕ) : Type 0 where
+pub record IsPageRow (tasks : List Task) (height row : ℕ) : Type 0 where
   pub here : row < length tasks
   pub on_page : row_top row + 480 ≤ height
 
 -- The bar lies in the drawing area, in a row.
 pub record IsBar (tasks : List Task) (l : Layout) (b : Bar) : Type 0 where
-  pub in_row : IsRow tasks l.height b.row
+  pub in_row : IsPageRow tasks l.height b.row
   pub ordered : b.left ≤ b.right
   pub left : IsInArea l.scale b.left
   pub right : IsInArea l.scale b.right
 
 -- The arrow lies in the drawing area, in a row.
 pub record IsArrow (tasks : List Task) (l : Layout) (a : Arrow) : Type 0 where
-  pub in_row : IsRow tasks l.height a.row
+  pub in_row : IsPageRow tasks l.height a.row
   pub place : IsInArea l.scale a.x
 
 -- The tick of the axis stands at the place of its time, in the drawing area.
-pub record IsTick (s : Scale) (t : Tick) : Type 0 where
+pub record IsAxisTick (s : Scale) (t : Tick) : Type 0 where
   pub in_time : t.time ≤ s.until
   pub is : t.x ≡ x_of s t.time
   pub place : IsInArea s t.x
@@ -89,16 +89,16 @@ pub record IsLayout (tasks : List Task) (releases : List Release) (spans : List 
   pub from_is : l.from ≡ from_of l.hidden (drop l.hidden spans)
   pub early : All (λ e. e.time < l.from) (take l.early events)
   pub shown : All (λ e. l.from ≤ e.time) (drop l.early events)
-  pub scale : IsScale l.scale
+  pub scale : IsPageScale l.scale
   pub until_is : l.scale.until ≡ until
   pub reach : Reach l.from until l.scale.parts
   pub each_part : All (IsPart until) l.scale.parts
-  pub parts : AllNeighbours (IsCut (moments_of (drop l.hidden spans) (drop l.early events) until)) l.scale.parts
+  pub parts : AllNeighbours (IsGap (moments_of (drop l.hidden spans) (drop l.early events) until)) l.scale.parts
   pub bars : l.bars ≡ map (bar_of l.scale releases) (drop l.hidden spans)
   pub each_bar : All (IsBar tasks l) l.bars
   pub bars_in_order : AllNeighbours (λ a b. a.right ≤ b.left) l.bars
   pub arrows : l.arrows ≡ map (arrow_of l.scale releases) (drop l.early events)
   pub each_arrow : All (IsArrow tasks l) l.arrows
   pub arrows_in_order : AllNeighbours (λ a b. a.x ≤ b.x) l.arrows
-  pub axis : All (IsTick l.scale) l.ticks
+  pub axis : All (IsAxisTick l.scale) l.ticks
   pub cuts : All (IsCutMark l.scale) l.cuts

@@ -18,7 +18,7 @@ abbrev pub moments_of : List Span → List Event → ℕ → List Moment
 moments_of spans events until = map moment_of_span spans ++ map moment_of_event events ++ record { start = until; end = until } ∷ []
 
 -- The moment lies between two ticks.
-pub record IsWithin (from until : ℕ) (m : Moment) : Type 0 where
+pub record IsMomentWithin (from until : ℕ) (m : Moment) : Type 0 where
   pub not_before : from ≤ m.start
   pub some : m.start ≤ m.end
   pub in_time : m.end ≤ until
@@ -29,9 +29,9 @@ pub record IsPart (until : ℕ) (p : Part) : Type 0 where
   pub in_time : p.end ≤ until
 
 -- The moment is over when the first part ends, or the second part begins before it.
-abbrev pub IsClear : Part → Part → Moment → Type 0
-IsClear p q m = (m.end ≤ p.end) ⊎ (q.start ≤ m.start)
+abbrev pub IsBesideGap : Part → Part → Moment → Type 0
+IsBesideGap p q m = (m.end ≤ p.end) ⊎ (q.start ≤ m.start)
 
 -- Between the two parts there are ticks that aren't shown, and in them nothing happens.
-abbrev pub IsCut : List Moment → Part → Part → Type 0
-IsCut moments p q = (p.end < q.start) × All (IsClear p q) moments
+abbrev pub IsGap : List Moment → Part → Part → Type 0
+IsGap moments p q = (p.end < q.start) × All (IsBesideGap p q) moments

@@ -30,7 +30,7 @@ abbrev pub IsInArea : Scale → ℕ → Type 0
 IsInArea s x = (s.left ≤ x) × (x ≤ s.left + s.width)
 
 -- A scale has at most 16 cuts, and a width for them and more, on a page of 1,600 pixels.
-pub record IsScale (s : Scale) : Type 0 where
+pub record IsPageScale (s : Scale) : Type 0 where
   pub few : length s.parts ≤ 17
   pub wide : 4000 ≤ s.width
   pub on_page : s.left + s.width ≤ 16000

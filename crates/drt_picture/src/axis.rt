@@ -1,7 +1,7 @@
 //! The axis of time.
 ghost use Rattle.std.specs.Prelude.{◌<◌, All, IfOk, IfSome, OnOk};
-ghost use Rattle.drt_picture.specs.Layout.{IsCutMark, IsTick};
-ghost use Rattle.drt_picture.specs.Scale.{IsScale};
+ghost use Rattle.drt_picture.specs.Layout.{IsCutMark, IsAxisTick};
+ghost use Rattle.drt_picture.specs.Scale.{IsPageScale};
 
 use crate::scale::{Part, Scale, room, shown_before, x_of};
 use drt_model::Memory;
@@ -26,7 +26,7 @@ pub struct Cut {
 
 /// The marks of the cuts of a scale, in order.
 pub fn cuts_of(alloc: Global, scale: &Scale) -> Result<Vec<Cut>, Memory>
-    requires { IsScale scale.now }
+    requires { IsPageScale scale.now }
     ensures { IfOk result (λ cuts. All (IsCutMark scale.now) cuts.items) }
 {
     let parts = scale.parts.as_slice();
@@ -39,7 +39,7 @@ pub fn cuts_of(alloc: Global, scale: &Scale) -> Result<Vec<Cut>, Memory>
 
 // The cut between two parts.
 fn cut_between(scale: &Scale, first: Part, second: Part) -> Cut
-    requires { IsScale scale.now }
+    requires { IsPageScale scale.now }
     ensures { IsCutMark scale.now result }
 {
     let end = second.start.min(scale.until);
@@ -55,8 +55,8 @@ fn cut_between(scale: &Scale, first: Part, second: Part) -> Cut
 /// The ticks of the axis of a scale: the multiples of a round number of ticks that the picture shows, at least `space` tenths of a
 /// pixel apart.
 pub fn ticks_of(alloc: Global, scale: &Scale, space: u32) -> Result<Vec<Tick>, Memory>
-    requires { IsScale scale.now }
-    ensures { IfOk result (λ ticks. All (IsTick scale.now) ticks.items) }
+    requires { IsPageScale scale.now }
+    ensures { IfOk result (λ ticks. All (IsAxisTick scale.now) ticks.items) }
 {
     let step = step_of(scale, space);
     let mut ticks = Vec::new(alloc);
@@ -68,10 +68,10 @@ pub fn ticks_of(alloc: Global, scale: &Scale, space: u32) -> Result<Vec<Tick>, M
 
 // Adds the multiples of a step in a part.
 fn push_ticks(ticks: &mut Vec<Tick>, scale: &Scale, part: &Part, step: u64) -> Result<(), Memory>
-    requires scale { IsScale scale.now }
+    requires scale { IsPageScale scale.now }
     requires some { 0 < step }
-    requires before { All (IsTick scale.now) ticks.old.items }
-    ensures { OnOk result (All (IsTick scale.now) ticks.new.items) }
+    requires before { All (IsAxisTick scale.now) ticks.old.items }
+    ensures { OnOk result (All (IsAxisTick scale.now) ticks.new.items) }
 {
     let end = part.end.min(scale.until);
     let mut time = part.start.div_ceil(step).saturating_mul(step);
@@ -87,7 +87,7 @@ fn push_ticks(ticks: &mut Vec<Tick>, scale: &Scale, part: &Part, step: u64) -> R
 
 // The least of the numbers 1, 2, 5, 10, 20, 50 and so on whose multiples stand at least `space` apart.
 fn step_of(scale: &Scale, space: u32) -> u64
-    requires { IsScale scale.now }
+    requires { IsPageScale scale.now }
     ensures { 0 < result }
 {
     let parts = scale.parts.as_slice();

@@ -1,7 +1,7 @@
 //! Bars and arrows.
 ghost use Rattle.std.specs.Prelude.{◌≡◌, ◌<◌, ◌≤◌, All, IfOk, length, map};
 ghost use Rattle.drt_picture.specs.Layout.{IsEventOf, IsSpanOf, arrow_of, bar_of};
-ghost use Rattle.drt_picture.specs.Scale.{IsScale};
+ghost use Rattle.drt_picture.specs.Scale.{IsPageScale};
 
 use crate::scale::{Scale, x_of};
 use drt_model::{Memory, Release};
@@ -32,7 +32,7 @@ pub fn bars_of(
     releases: &[Release],
     spans: &[Span],
 ) -> Result<Vec<Bar>, Memory>
-    requires scale { IsScale scale.now }
+    requires scale { IsPageScale scale.now }
     requires each { All (IsSpanOf (length releases.now) scale.now.until) spans.now }
     ensures { IfOk result (λ bars. bars.items ≡ map (bar_of scale.now releases.now) spans.now) }
 {
@@ -44,7 +44,7 @@ pub fn bars_of(
 }
 
 fn bar_of(scale: &Scale, releases: &[Release], span: Span) -> Bar
-    requires scale { IsScale scale.now }
+    requires scale { IsPageScale scale.now }
     requires span { IsSpanOf (length releases.now) scale.now.until span }
     ensures { result ≡ bar_of scale.now releases.now span }
 {
@@ -63,7 +63,7 @@ pub fn arrows_of(
     releases: &[Release],
     events: &[Event],
 ) -> Result<Vec<Arrow>, Memory>
-    requires scale { IsScale scale.now }
+    requires scale { IsPageScale scale.now }
     requires each { All (IsEventOf (length releases.now) scale.now.until) events.now }
     ensures { IfOk result (λ arrows. arrows.items ≡ map (arrow_of scale.now releases.now) events.now) }
 {
@@ -75,7 +75,7 @@ pub fn arrows_of(
 }
 
 fn arrow_of(scale: &Scale, releases: &[Release], event: Event) -> Arrow
-    requires scale { IsScale scale.now }
+    requires scale { IsPageScale scale.now }
     requires event { IsEventOf (length releases.now) scale.now.until event }
     ensures { result ≡ arrow_of scale.now releases.now event }
 {

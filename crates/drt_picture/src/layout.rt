@@ -1,11 +1,11 @@
 //! The layout of a page.
 ghost use Rattle.std.specs.Prelude.{◌≡◌, ◌+◌, ◌*◌, ◌^◌, ◌<◌, ◌≤◌, All, IfOk, length, take, drop};
 ghost use Rattle.drt_model.specs.Legal.{AllNeighbours, IsLegal};
-ghost use Rattle.drt_timeline.specs.Spans.{IsNext};
+ghost use Rattle.drt_timeline.specs.Spans.{IsNextSpan};
 ghost use Rattle.drt_picture.specs.Layout.{IsEventOf, IsLayout, IsSpanOf, from_of, start_of};
 ghost use Rattle.drt_picture.specs.Reach.{Reach};
-ghost use Rattle.drt_picture.specs.Moments.{IsCut, IsPart, IsWithin, moments_of};
-ghost use Rattle.drt_picture.specs.Scale.{IsScale};
+ghost use Rattle.drt_picture.specs.Moments.{IsGap, IsPart, IsMomentWithin, moments_of};
+ghost use Rattle.drt_picture.specs.Scale.{IsPageScale};
 
 use crate::axis::{Cut, Tick, cuts_of, ticks_of};
 use crate::bars::{Arrow, Bar, arrows_of, bars_of};
@@ -74,7 +74,7 @@ pub fn lay_out(
 ) -> Result<Layout, Memory>
     requires legal { IsLegal set.now.tasks releases.now }
     requires each_span { All (IsSpanOf (length releases.now) until) spans.now }
-    requires spans_in_order { AllNeighbours IsNext spans.now }
+    requires spans_in_order { AllNeighbours IsNextSpan spans.now }
     requires each_event { All (IsEventOf (length releases.now) until) events.now }
     requires events_in_order { AllNeighbours (λ e f. e.time ≤ f.time) events.now }
     requires in_time { until ≤ 2 ^ 62 }
@@ -145,14 +145,14 @@ fn scale_of(
     from: u64,
     until: u64,
 ) -> Result<Scale, Memory>
-    requires each { All (IsWithin from until) (moments_of spans.now events.now until) }
+    requires each { All (IsMomentWithin from until) (moments_of spans.now events.now until) }
     requires in_time { until ≤ 2 ^ 62 }
     requires ahead { from ≤ until }
-    ensures scale { IfOk result (λ scale. IsScale scale) }
+    ensures scale { IfOk result (λ scale. IsPageScale scale) }
     ensures until_is { IfOk result (λ scale. scale.until ≡ until) }
     ensures reach { IfOk result (λ scale. Reach from until scale.parts) }
     ensures each { IfOk result (λ scale. All (IsPart until) scale.parts) }
-    ensures cuts { IfOk result (λ scale. AllNeighbours (IsCut (moments_of spans.now events.now until)) scale.parts) }
+    ensures cuts { IfOk result (λ scale. AllNeighbours (IsGap (moments_of spans.now events.now until)) scale.parts) }
 {
     let moments = moments_of(alloc, spans, events, until)?;
     let parts = parts_of(alloc, moments.as_slice(), from, until)?;

@@ -3,7 +3,7 @@ ghost use Rattle.std.specs.Prelude.{◌≡◌, ◌↔◌, ◌+◌, ◌^◌, ◌<
 ghost use Rattle.std.specs.List.Sorted.{IsNonDecreasingBy};
 ghost use Rattle.drt_model.specs.Legal.{AllNeighbours};
 ghost use Rattle.drt_picture.specs.Reach.{Reach};
-ghost use Rattle.drt_picture.specs.Moments.{IsCut, IsPart, IsWithin, moment_of_event, moment_of_span, moments_of};
+ghost use Rattle.drt_picture.specs.Moments.{IsGap, IsPart, IsMomentWithin, moment_of_event, moment_of_span, moments_of};
 
 use crate::scale::{MOST_CUTS, Part};
 use drt_model::Memory;
@@ -94,13 +94,13 @@ pub fn parts_of(
     until: u64,
 ) -> Result<Vec<Part>, Memory>
     requires order { IsNonDecreasingBy (λ m. m.start) moments.now }
-    requires each { All (IsWithin from until) moments.now }
+    requires each { All (IsMomentWithin from until) moments.now }
     requires in_time { until ≤ 2 ^ 62 }
     requires ahead { from ≤ until }
     ensures few { IfOk result (λ parts. length parts.items ≤ 17) }
     ensures reach { IfOk result (λ parts. Reach from until parts.items) }
     ensures each { IfOk result (λ parts. All (IsPart until) parts.items) }
-    ensures cuts { IfOk result (λ parts. AllNeighbours (IsCut moments.now) parts.items) }
+    ensures cuts { IfOk result (λ parts. AllNeighbours (IsGap moments.now) parts.items) }
 {
     let longest = longest_shown(alloc, moments, from, until)?;
     let margin = longest / 2;

@@ -1,6 +1,6 @@
 //! Where times stand on the page.
 ghost use Rattle.std.specs.Prelude.{◌≡◌, ◌*◌, ◌^◌, ◌≤◌, length};
-ghost use Rattle.drt_picture.specs.Scale.{IsInArea, IsScale, begun_by, room, shown_before, x_of};
+ghost use Rattle.drt_picture.specs.Scale.{IsInArea, IsPageScale, begun_by, room, shown_before, x_of};
 
 use drt_model::Row;
 
@@ -32,7 +32,7 @@ pub struct Scale {
 
 /// The place of a time, in tenths of a pixel from the page's left.
 pub fn x_of(scale: &Scale, time: u64) -> u32
-    requires scale { IsScale scale.now }
+    requires scale { IsPageScale scale.now }
     requires in_time { time ≤ scale.now.until }
     ensures value { result ≡ x_of scale.now time }
     ensures in_area { IsInArea scale.now result }
@@ -43,7 +43,7 @@ pub fn x_of(scale: &Scale, time: u64) -> u32
 
 // The place of a time, in a wider number.
 fn wide_x_of(scale: &Scale, time: u64) -> u128
-    requires scale { IsScale scale.now }
+    requires scale { IsPageScale scale.now }
     requires in_time { time ≤ scale.now.until }
     ensures { result ≡ x_of scale.now time }
 {

@@ -4,9 +4,9 @@ use Rattle.drt_pool.specs.declared.work.Turn.{Turn}
 use Rattle.drt_pool.specs.declared.work.Turn.TheVariants.{More, Stop}
 
 -- The pass is at its end.
-abbrev pub IsStop : Turn → Type 0
-IsStop More = ⊥
-IsStop Stop = Unit {0}
+abbrev pub IsEndOfTurns : Turn → Type 0
+IsEndOfTurns More = ⊥
+IsEndOfTurns Stop = Unit {0}
 
 -- The fact holds of the item at that place, where there is one.
 abbrev pub AtPlace : {X : Type 0} → (ℕ → X → Type 0) → ℕ → List X → Type 0

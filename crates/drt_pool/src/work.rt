@@ -1,7 +1,7 @@
 //! Work that is done in turns.
 
 ghost use Rattle.std.specs.Prelude.{ℕ};
-ghost use Rattle.drt_pool.specs.Turns.{IsStop};
+ghost use Rattle.drt_pool.specs.Turns.{IsEndOfTurns};
 
 use std::sync::Wait;
 
@@ -26,5 +26,5 @@ pub trait Work: Sync {
     fn turn<R: Wait>(&self, rt: &R, pass: &mut Self::Pass) -> Turn
         requires { (place : ℕ) × fits self.now place pass.old }
         ensures fits { (place : ℕ) → fits self.now place pass.old → fits self.now place pass.new }
-        ensures ended { (place : ℕ) → fits self.now place pass.old → IsStop result → ended self.now place pass.new };
+        ensures ended { (place : ℕ) → fits self.now place pass.old → IsEndOfTurns result → ended self.now place pass.new };
 }

@@ -8,14 +8,14 @@ use Rattle.drt_model.specs.Utilisation.{Fraction, IsScale}
 use Rattle.drt_graph.specs.Fits.{AreNear}
 use Rattle.drt_graph.specs.Graphs.{no_graph}
 use Rattle.drt_graph.proofs.Scales.{left_at, scale_none, scale_cons}
-use Rattle.drt_rates.specs.Rates.{AreRated, IsSmall}
+use Rattle.drt_rates.specs.Rates.{AreRated, IsSmallRatio}
 
 -- What holds of all holds of the one at a place.
 pub all_at : {X : Type 0} (P : X → Type 0) (xs : List X) (i : ℕ) (x : X) → i < length xs → x ≡ get_or xs i x → All P xs → P x
 all_at P xs i x l is all = subst (λ y. P y) (sym is) (all i x l)
 
 -- Small ratios have a scale.
-pub scale_exists : {X : Type 0} (f : X → Fraction) (xs : List X) → All (λ x. IsSmall (f x)) xs → (scale : ℕ) × IsScale (map f xs) scale
+pub scale_exists : {X : Type 0} (f : X → Fraction) (xs : List X) → All (λ x. IsSmallRatio (f x)) xs → (scale : ℕ) × IsScale (map f xs) scale
 scale_exists f [] small = (1, scale_none)
 scale_exists f (x ∷ xs) small =
     let s = scale_exists f xs (λ k d l. small (suc k) d (omega arith)) in
@@ -34,7 +34,7 @@ rated_count f h (g ∷ graphs) (x ∷ xs) rated = ap suc (rated_count f h graphs
 pub record IsNextRated {X : Type 0} (f : X → Fraction) (h : X → List ℤ) (graphs : List Digraph) (xs : List X) (i : ℕ) (x : X) : Type 0 where
   pub graph : drop i graphs ≡ get_or graphs i no_graph ∷ drop (i + 1) graphs
   pub item : drop i xs ≡ x ∷ drop (i + 1) xs
-  pub small : IsSmall (f x)
+  pub small : IsSmallRatio (f x)
   pub near : AreNear (get_or graphs i no_graph) (h x)
   pub rest : AreRated f h (drop (i + 1) graphs) (drop (i + 1) xs)
 

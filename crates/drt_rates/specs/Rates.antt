@@ -5,7 +5,7 @@ use Rattle.drt_model.specs.Utilisation.{Fraction, IsScale}
 use Rattle.drt_graph.specs.Fits.{AreNear}
 
 -- The numerator is at most 1,000,000,000, and the denominator is 1 to 1,000,000,000.
-pub record IsSmall (r : Fraction) : Type 0 where
+pub record IsSmallRatio (r : Fraction) : Type 0 where
   pub num : r.num ≤ 1000000000
   pub some : 1 ≤ r.den
   pub den : r.den ≤ 1000000000
@@ -19,4 +19,4 @@ abbrev pub AreRated : {X : Type 0} → (X → Fraction) → (X → List ℤ) →
 AreRated fraction heights [] [] = Unit {0}
 AreRated fraction heights [] (x ∷ items) = ⊥
 AreRated fraction heights (g ∷ graphs) [] = ⊥
-AreRated fraction heights (g ∷ graphs) (x ∷ items) = (IsSmall (fraction x) × AreNear g (heights x)) × AreRated fraction heights graphs items
+AreRated fraction heights (g ∷ graphs) (x ∷ items) = (IsSmallRatio (fraction x) × AreNear g (heights x)) × AreRated fraction heights graphs items

@@ -4,14 +4,14 @@ ghost use Rattle.drt_model.specs.Utilisation.{rate as rate_of};
 ghost use Rattle.drt_model.specs.Horizon.{extra, constant_of, above_zero};
 ghost use Rattle.drt_model.specs.Horizon.{horizon as horizon_of};
 ghost use Rattle.drt_graph.specs.Fits.{AreNear};
-ghost use Rattle.drt_rates.specs.Rates.{AreRated, IsSmall};
+ghost use Rattle.drt_rates.specs.Rates.{AreRated, IsSmallRatio};
 
 use crate::rated::Rated;
 use drt_graph::{Graph, Graphs, constant};
 
 // The constant of a task where it is above 0, at the scale.
 fn extra_at<R: Rated>(graph: &Graph, ratio: &R::Item, scale: u64) -> u128
-    requires small { IsSmall (R.fraction ratio.now) }
+    requires small { IsSmallRatio (R.fraction ratio.now) }
     requires near { AreNear graph.now (R.heights ratio.now) }
     requires scale { scale ≤ 2 ^ 60 }
     ensures value { result ≡ above_zero (constant_of graph.now (R.fraction ratio.now).num (R.fraction ratio.now).den (R.heights ratio.now)) * (scale / (R.fraction ratio.now).den) }

@@ -2,7 +2,7 @@
 ghost use Rattle.std.specs.Prelude.{◌≡◌, ◌^◌, ◌≤◌, All, MatchOption, length, map};
 ghost use Rattle.drt_model.specs.Utilisation.{IsScale};
 ghost use Rattle.drt_model.specs.Utilisation.{rate as rate_of};
-ghost use Rattle.drt_rates.specs.Rates.{IsSmall, IsTooFine};
+ghost use Rattle.drt_rates.specs.Rates.{IsSmallRatio, IsTooFine};
 
 use crate::rated::Rated;
 use drt_num::lcm_within;
@@ -12,7 +12,7 @@ const GREATEST_SCALE: u64 = 1 << 60;
 /// The scale of a set: the least common multiple of the denominators of its ratios. None where it exceeds 2^60. It takes
 /// no memory.
 pub fn scale<R: Rated>(ratios: &[R::Item]) -> Option<u64>
-    requires { All (λ x. IsSmall (R.fraction x)) ratios.now }
+    requires { All (λ x. IsSmallRatio (R.fraction x)) ratios.now }
     ensures { MatchOption result (IsTooFine (map R.fraction ratios.now)) (λ scale. IsScale (map R.fraction ratios.now) scale × (scale ≤ 2 ^ 60)) }
 {
     let mut common: u64 = 1;
@@ -28,7 +28,7 @@ pub fn scale<R: Rated>(ratios: &[R::Item]) -> Option<u64>
 
 /// The rate of a set: the sum of its ratios, times the scale. It takes no memory.
 pub fn rate<R: Rated>(ratios: &[R::Item], scale: u64) -> u128
-    requires small { All (λ x. IsSmall (R.fraction x)) ratios.now }
+    requires small { All (λ x. IsSmallRatio (R.fraction x)) ratios.now }
     requires few { length ratios.now ≤ 32 }
     ensures { result ≡ rate_of scale (map R.fraction ratios.now) }
 {

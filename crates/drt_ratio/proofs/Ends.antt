@@ -2,9 +2,9 @@
 use Rattle.std.proofs.Common.{◌≡◌, ℕ, ℤ, pos, ◌+◌, ◌-◌, ◌<◌, ◌≤◌, List, [], ◌∷◌, length, arith, ◌∙◌}
 use Rattle.std.proofs.lemmas.Int.{ints}
 use Rattle.std.specs.Int.{IsGcd}
-use Rattle.drt_model.specs.Digraph.{Digraph, IsSound, vertex_count}
+use Rattle.drt_model.specs.Digraph.{Digraph, IsSoundGraph, vertex_count}
 use Rattle.drt_model.specs.Potential.{potential_of}
-use Rattle.drt_model.specs.RatioRules.{IsClosed, IsTight, ProvesRatio}
+use Rattle.drt_model.specs.RatioRules.{IsClosedCycle, IsTight, ProvesRatio}
 use Rattle.drt_model.specs.Utilisation.{AreDistinct, HasRatio}
 use Rattle.drt_graph.proofs.Edges.{target_of, source_of}
 use Rattle.drt_ratio.specs.declared.levels.Level.{Level}
@@ -15,7 +15,7 @@ use Rattle.drt_ratio.proofs.Optima.{is_potential, settled_fits, settled_least, t
 
 -- The search ended at these levels of n rounds, with the heights below the last as potentials.
 pub record Ended (g : Digraph) (a b n : ℕ) (levels : List Level) (hs : List ℤ) : Type 0 where
-  pub sound : IsSound g
+  pub sound : IsSoundGraph g
   pub size : n ≡ vertex_count g
   pub tower : IsTower g a b levels
   pub count : length levels ≡ n + 1
@@ -42,7 +42,7 @@ ratio_proof g a b n levels cycle hs e lowest has distinct = record {
   };
 }
 
-closed_of : (g : Digraph) (a b : ℕ) (cycle : List ℕ) → HasRatio g a b cycle → IsClosed g a cycle
+closed_of : (g : Digraph) (a b : ℕ) (cycle : List ℕ) → HasRatio g a b cycle → IsClosedCycle g a cycle
 closed_of g a b [] has = has.0
 closed_of g a b (v ∷ vs) has = (λ e. (let some = has.2 in absurd (omega arith)), has.0)
 

@@ -6,12 +6,12 @@ use Rattle.std.proofs.lemmas.List.{length-take, get_or-take, get_or-drop, get_or
 use Rattle.std.proofs.lemmas.Map.Steps.{length-le_from_distinct_below}
 use Rattle.std.proofs.lemmas.Map.Keys.{IsDistinct-from_apart}
 use Rattle.std.specs.List.{list_any}
-use Rattle.drt_model.specs.Digraph.{Digraph, IsSound, vertex_count}
+use Rattle.drt_model.specs.Digraph.{Digraph, IsSoundGraph, vertex_count}
 use Rattle.drt_model.specs.Walk.{gap, wcet, IsEdge, IsPath, last_of, work, span, IsCycle, cycle_span}
 use Rattle.drt_graph.proofs.Edges.{target_of, source_of, edge_of_sep}
 use Rattle.drt_ratio.specs.declared.levels.Level.{Level}
 use Rattle.drt_model.specs.Utilisation.{AreDistinct}
-use Rattle.drt_ratio.specs.Levels.{height, level_of, IsRound, IsTower, IsTrace, IsRepeat, IsGain}
+use Rattle.drt_ratio.specs.Levels.{height, level_of, IsWholeRound, IsTower, IsTrace, IsRepeat, IsGain}
 use Rattle.drt_graph.proofs.Paths.{path_both, path_first, path_rest, last_both, work_both, span_both, path_cycle, climbs_path}
 
 -- What a walk of few edges gains at most.
@@ -48,7 +48,7 @@ in_parts vs i m = ap (λ ys. take i vs ++ ys) (whole m (drop i vs)) ∙ whole i 
     whole (suc k) (x ∷ xs) = ap (λ ys. x ∷ ys) (whole k xs)
 
 -- Where a path leads from a vertex on, all its vertices are in range.
-pub path_below : (g : Digraph) → IsSound g → (u : ℕ) (vs : List ℕ) → IsPath g u vs → (k : ℕ) → k < length vs → get_or vs k 0 < vertex_count g
+pub path_below : (g : Digraph) → IsSoundGraph g → (u : ℕ) (vs : List ℕ) → IsPath g u vs → (k : ℕ) → k < length vs → get_or vs k 0 < vertex_count g
 path_below g sound u [] p k l = absurd (omega arith)
 path_below g sound u (v ∷ vs) p zero l = (target_of g sound u v (gap g u v) p.0).0
 path_below g sound u (v ∷ vs) p (suc k) l = path_below g sound v vs p.1 k (omega arith)
@@ -75,7 +75,7 @@ few_distinct xs n distinct each =
     (IsDistinct-from_apart eqb xs (λ i j d l m. rw (get_or_default xs i d 0 (omega arith), get_or_default xs j d 0 m) (apart _ _ (distinct i j l m))))
     (λ q e. any_below xs n q each e)
 
-pub round_edge : (g : Digraph) (a b : ℕ) (low high : Level) → IsSound g → IsRound g a b low high → (u v : ℕ) → IsEdge g u v → height low u + b * wcet g v ≤ height high v + a * gap g u v
+pub round_edge : (g : Digraph) (a b : ℕ) (low high : Level) → IsSoundGraph g → IsWholeRound g a b low high → (u v : ℕ) → IsEdge g u v → height low u + b * wcet g v ≤ height high v + a * gap g u v
 round_edge g a b low high sound round u v edge =
     let k = edge_of_sep g u v (gap g u v) edge in
     let done = round.done u k.0 (source_of g sound u v (gap g u v) edge) k.1 in
@@ -89,7 +89,7 @@ keeps_up g a b levels v l tower j (suc k) m =
     rw e (omega (arith, up, keeps_up g a b levels v l tower j k (omega arith)))
 
 -- The last level but one has the most that a walk of few edges gains.
-pub tower_most : (g : Digraph) (a b : ℕ) (levels : List Level) (n v : ℕ) → IsSound g → IsTower g a b levels → length levels ≡ n + 1 → v < vertex_count g → IsMost g a b n v (height (level_of levels (n - 1)) v)
+pub tower_most : (g : Digraph) (a b : ℕ) (levels : List Level) (n v : ℕ) → IsSoundGraph g → IsTower g a b levels → length levels ≡ n + 1 → v < vertex_count g → IsMost g a b n v (height (level_of levels (n - 1)) v)
 tower_most g a b levels n v sound tower count l = record {
   each = λ u vs path end short.
       let h : height (level_of levels 0) u + b * work g vs ≤ height (level_of levels (0 + length vs)) (last_of u vs) + a * span g u vs = climbs_path g a b n (λ k w. height (level_of levels k) w) (λ k u w m edge. climbs k u w m edge) 0 u vs (omega arith) path in
@@ -147,7 +147,7 @@ loop_distinct u i m vs l same differ p q before within e =
         differ i (suc (i + p)) (omega arith) (omega arith) (same ∙ sym (ap (λ k. get_or (u ∷ vs) k 0) at) ∙ sym f)
 
 -- The cycle that the first repeat of the walk shows.
-pub gain_found : (g : Digraph) (a b : ℕ) (levels : List Level) (n v i j : ℕ) (walk : List ℕ) → IsSound g → IsTower g a b levels → length levels ≡ n + 1 → n ≡ vertex_count g → 0 < n → v < vertex_count g →
+pub gain_found : (g : Digraph) (a b : ℕ) (levels : List Level) (n v i j : ℕ) (walk : List ℕ) → IsSoundGraph g → IsTower g a b levels → length levels ≡ n + 1 → n ≡ vertex_count g → 0 < n → v < vertex_count g →
     (height (level_of levels n) v ≡ height (level_of levels (n - 1)) v → ⊥) → IsTrace g a b n v (height (level_of levels n) v) walk → IsRepeat walk i j → IsGain g a b (take (j + 1 - (i + 1)) (drop (i + 1) walk))
 gain_found g a b levels n v i j [] sound tower count size some l differ trace again = absurd trace
 gain_found g a b levels n v i j (u ∷ vs) sound tower count size some l differ (path, end, short, sum) again =
@@ -165,7 +165,7 @@ gain_found g a b levels n v i j (u ∷ vs) sound tower count size some l differ 
     rw (m, add-one) (record { is = r.0; distinct = d; few = few; gains = r.1 })
 
 -- So a walk as long as the vertices are many repeats one.
-pub must_repeat : (g : Digraph) (a b : ℕ) (levels : List Level) (n v : ℕ) (walk : List ℕ) → IsSound g → IsTower g a b levels → length levels ≡ n + 1 → n ≡ vertex_count g → 0 < n → v < vertex_count g → (height (level_of levels n) v ≡ height (level_of levels (n - 1)) v → ⊥) → IsTrace g a b n v (height (level_of levels n) v) walk → AreDistinct walk → ⊥
+pub must_repeat : (g : Digraph) (a b : ℕ) (levels : List Level) (n v : ℕ) (walk : List ℕ) → IsSoundGraph g → IsTower g a b levels → length levels ≡ n + 1 → n ≡ vertex_count g → 0 < n → v < vertex_count g → (height (level_of levels n) v ≡ height (level_of levels (n - 1)) v → ⊥) → IsTrace g a b n v (height (level_of levels n) v) walk → AreDistinct walk → ⊥
 must_repeat g a b levels n v [] sound tower count size some l differ trace distinct = trace
 must_repeat g a b levels n v (u ∷ vs) sound tower count size some l differ (path, end, short, sum) distinct =
     let last : n - 1 + 1 ≡ n = omega arith in

@@ -3,14 +3,14 @@ use Rattle.std.proofs.Common.{◌≡◌, ℕ, ◌+◌, ◌-◌, ◌*◌, ◌<◌
 use Rattle.std.proofs.lemmas.Bool.{cases_eq}
 use Rattle.std.proofs.lemmas.Nat.{mul-le}
 use Rattle.std.proofs.lemmas.List.{get_or-set_same, get_or-set_other}
-use Rattle.drt_model.specs.Digraph.{Digraph, IsSound, vertex_count, out_degree, edge_of}
+use Rattle.drt_model.specs.Digraph.{Digraph, IsSoundGraph, vertex_count, out_degree, edge_of}
 use Rattle.drt_model.specs.Walk.{sep, wcet}
 use Rattle.drt_graph.proofs.Edges.{source_of, gap_of}
 use Rattle.drt_ratio.specs.declared.levels.Level.{Level}
-use Rattle.drt_ratio.specs.Levels.{height, IsRaised, Comes, IsBelow}
+use Rattle.drt_ratio.specs.Levels.{height, IsRaised, Comes, IsLevelBelow}
 
 -- A level is at most one edge above the one below it.
-pub raised_below : (g : Digraph) (a b top : ℕ) (low high : Level) → IsSound g → b ≤ 100000000 → IsRaised g a b low high → IsBelow g low top → IsBelow g high (top + 100000000000000)
+pub raised_below : (g : Digraph) (a b top : ℕ) (low high : Level) → IsSoundGraph g → b ≤ 100000000 → IsRaised g a b low high → IsLevelBelow g low top → IsLevelBelow g high (top + 100000000000000)
 raised_below g a b top low high sound small is below v l = go (is.comes v l)
   where
     go : (height high v ≡ height low v) ⊎ Comes g a b low (get_or high.from v 0) v (height high v) → height high v ≤ top + 100000000000000
@@ -42,7 +42,7 @@ raise_one g a b low high u v p is edge l m more = record {
     comes w k (inr differ) = rw (get_or-set_other high.heights v w (height low u + b * wcet g v - a * p) 0 differ, get_or-set_other high.from v w u 0 differ) (is.comes w k)
 
 -- The loss by one edge.
-pub loss_small : (g : Digraph) (a u k : ℕ) → IsSound g → a ≤ 100000000 → u < vertex_count g → k < out_degree g u → a * (edge_of g u k).sep ≤ 100000000000000
+pub loss_small : (g : Digraph) (a u k : ℕ) → IsSoundGraph g → a ≤ 100000000 → u < vertex_count g → k < out_degree g u → a * (edge_of g u k).sep ≤ 100000000000000
 loss_small g a u k sound small l m = mul-le a (edge_of g u k).sep 100000000 1000000 small (sound.sep u k l m).1
 
 pub raise_with : (g : Digraph) (a b : ℕ) (low high : Level) (u v p w : ℕ) → IsRaised g a b low high → sep g u v ≡ Some p → w ≡ wcet g v → v < length high.heights → v < length high.from → get_or high.heights v 0 + a * p < get_or low.heights u 0 + b * w → IsRaised g a b low (record { heights = set high.heights v (get_or low.heights u 0 + b * w - a * p); from = set high.from v u })

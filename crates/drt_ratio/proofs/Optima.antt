@@ -4,13 +4,13 @@ use Rattle.std.proofs.lemmas.Bool.{cases_lt}
 use Rattle.std.proofs.lemmas.Nat.{mul-le, le-div}
 use Rattle.std.proofs.Math.Nat.{div-mul-le_self, div-le_self, le_trans}
 use Rattle.std.proofs.lemmas.Int.{ints}
-use Rattle.drt_model.specs.Digraph.{Digraph, IsSound, vertex_count}
+use Rattle.drt_model.specs.Digraph.{Digraph, IsSoundGraph, vertex_count}
 use Rattle.drt_model.specs.Walk.{sep, gap, wcet, IsEdge, IsPath, last_of, work, span, IsCycle, cycle_span}
 use Rattle.drt_graph.proofs.Edges.{target_of, source_of, gap_of}
 use Rattle.drt_ratio.specs.declared.levels.Level.{Level}
 use Rattle.drt_model.specs.Utilisation.{HasRatio, BoundsCycles}
 use Rattle.drt_model.specs.Potential.{IsPotential}
-use Rattle.drt_ratio.specs.Levels.{height, level_of, Comes, IsRound, IsTower, IsSettled}
+use Rattle.drt_ratio.specs.Levels.{height, level_of, Comes, IsWholeRound, IsTower, IsSettled}
 use Rattle.drt_graph.proofs.Paths.{work_cons, span_cons, work_none, span_none, fits_cycle}
 use Rattle.drt_ratio.proofs.Loops.{IsMost, round_edge}
 
@@ -21,7 +21,7 @@ pub record AreSums (g : Digraph) (u : ℕ) (vs : List ℕ) : Type 0 where
   pub span_least : length vs ≤ span g u vs
   pub span_most : span g u vs ≤ length vs * 1000000
 
-pub path_sums : (g : Digraph) → IsSound g → (u : ℕ) (vs : List ℕ) → IsPath g u vs → AreSums g u vs
+pub path_sums : (g : Digraph) → IsSoundGraph g → (u : ℕ) (vs : List ℕ) → IsPath g u vs → AreSums g u vs
 path_sums g sound u [] path = record { work_least = omega arith; work_most = rw work_none (omega arith); span_least = omega arith; span_most = rw span_none (omega arith) }
 path_sums g sound u (v ∷ vs) path =
     let t = target_of g sound u v (gap g u v) path.0 in
@@ -40,7 +40,7 @@ pub record AreCycleSums (g : Digraph) (cs : List ℕ) : Type 0 where
   pub span_some : 1 ≤ cycle_span g cs
   pub span_most : cycle_span g cs ≤ length cs * 1000000
 
-pub cycle_sums : (g : Digraph) → IsSound g → (cs : List ℕ) → IsCycle g cs → AreCycleSums g cs
+pub cycle_sums : (g : Digraph) → IsSoundGraph g → (cs : List ℕ) → IsCycle g cs → AreCycleSums g cs
 cycle_sums g sound [] is = absurd is
 cycle_sums g sound (v ∷ vs) is =
     let r = path_sums g sound (last_of v vs) (v ∷ vs) is in
@@ -95,11 +95,11 @@ pub IsReached : Digraph → ℕ → ℕ → ℕ → ℕ → ℕ → Type 0
 IsReached g a b n v h = (u : ℕ) × ((vs : List ℕ) × IsPath g u vs × (last_of u vs ≡ v) × (length vs ≤ n) × (b * work g vs ≡ h + a * span g u vs))
 
 -- From the height at a level down along the walk that it belongs to.
-reaches : (g : Digraph) (a b : ℕ) (levels : List Level) (n v h : ℕ) → IsSound g → IsTower g a b levels → (k at : ℕ) (vs : List ℕ) → k < length levels → at < vertex_count g → IsPath g at vs → last_of at vs ≡ v → length vs + k ≤ n → b * work g vs + height (level_of levels k) at ≡ h + a * span g at vs → IsReached g a b n v h
+reaches : (g : Digraph) (a b : ℕ) (levels : List Level) (n v h : ℕ) → IsSoundGraph g → IsTower g a b levels → (k at : ℕ) (vs : List ℕ) → k < length levels → at < vertex_count g → IsPath g at vs → last_of at vs ≡ v → length vs + k ≤ n → b * work g vs + height (level_of levels k) at ≡ h + a * span g at vs → IsReached g a b n v h
 unfolding IsReached
 reaches g a b levels n v h sound tower zero at vs m l path end short sum = let z = tower.opens at in (at, (vs, path, end, omega arith, omega arith))
 reaches g a b levels n v h sound tower (suc k) at vs m l path end short sum =
-    let round : IsRound g a b (level_of levels k) (level_of levels (suc k)) = let e : k + 1 ≡ suc k = omega arith in rw e at (tower.rounds k (omega arith)) in
+    let round : IsWholeRound g a b (level_of levels k) (level_of levels (suc k)) = let e : k + 1 ≡ suc k = omega arith in rw e at (tower.rounds k (omega arith)) in
     go (round.raised.comes at l) (λ w ws x p q r s. reaches g a b levels n v h sound tower k w ws (omega arith) x p q r s)
   where
     go : (height (level_of levels (suc k)) at ≡ height (level_of levels k) at) ⊎ Comes g a b (level_of levels k) (get_or (level_of levels (suc k)).from at 0) at (height (level_of levels (suc k)) at) →
@@ -110,7 +110,7 @@ reaches g a b levels n v h sound tower (suc k) at vs m l path end short sum =
         let s = comes.sum in
         ih u (at ∷ vs) (source_of g sound u at (gap g u at) comes.edge) (comes.edge, path) end (omega arith) (rw (work_cons, span_cons) (omega arith))
 
-pub tower_reaches : (g : Digraph) (a b : ℕ) (levels : List Level) (n v : ℕ) → IsSound g → IsTower g a b levels → n < length levels → v < vertex_count g → IsReached g a b n v (height (level_of levels n) v)
+pub tower_reaches : (g : Digraph) (a b : ℕ) (levels : List Level) (n v : ℕ) → IsSoundGraph g → IsTower g a b levels → n < length levels → v < vertex_count g → IsReached g a b n v (height (level_of levels n) v)
 tower_reaches g a b levels n v sound tower m l = reaches g a b levels n v (height (level_of levels n) v) sound tower n v [] m l tt refl (omega arith) (rw (work_none, span_none) (omega arith))
 
 pub is_potential : (g : Digraph) (a b n v h : ℕ) → n ≡ vertex_count g → 0 < n → IsMost g a b n v h → IsReached g a b (n - 1) v h → IsPotential g a b v (pos h)
@@ -121,20 +121,20 @@ is_potential g a b n v h size some most (u, (vs, path, end, short, sum)) = recor
 }
 
 -- Once the last round raises nothing no cycle gains.
-pub settled_least : (g : Digraph) (a b : ℕ) (levels : List Level) (n : ℕ) → IsSound g → IsTower g a b levels → length levels ≡ n + 1 → n ≡ vertex_count g → 0 < n → IsSettled levels n → BoundsCycles g a b
+pub settled_least : (g : Digraph) (a b : ℕ) (levels : List Level) (n : ℕ) → IsSoundGraph g → IsTower g a b levels → length levels ≡ n + 1 → n ≡ vertex_count g → 0 < n → IsSettled levels n → BoundsCycles g a b
 settled_least g a b levels n sound tower count size some settled cycle is = fits_cycle g a b (λ v. height (level_of levels (n - 1)) v) fits cycle is
   where
     fits : (u v : ℕ) → IsEdge g u v → height (level_of levels (n - 1)) u + b * wcet g v ≤ height (level_of levels (n - 1)) v + a * gap g u v
     fits u v edge =
         let last : n - 1 + 1 ≡ n = omega arith in
-        let round : IsRound g a b (level_of levels (n - 1)) (level_of levels n) = rw last at (tower.rounds (n - 1) (omega arith)) in
+        let round : IsWholeRound g a b (level_of levels (n - 1)) (level_of levels n) = rw last at (tower.rounds (n - 1) (omega arith)) in
         let l = (target_of g sound u v (gap g u v) edge).0 in
         omega (arith, round_edge g a b (level_of levels (n - 1)) (level_of levels n) sound round u v edge, settled v (omega arith))
 
-pub settled_fits : (g : Digraph) (a b : ℕ) (levels : List Level) (n : ℕ) → IsSound g → IsTower g a b levels → length levels ≡ n + 1 → n ≡ vertex_count g → 0 < n → IsSettled levels n → (u v p : ℕ) → sep g u v ≡ Some p → height (level_of levels (n - 1)) u + b * wcet g v ≤ height (level_of levels (n - 1)) v + a * p
+pub settled_fits : (g : Digraph) (a b : ℕ) (levels : List Level) (n : ℕ) → IsSoundGraph g → IsTower g a b levels → length levels ≡ n + 1 → n ≡ vertex_count g → 0 < n → IsSettled levels n → (u v p : ℕ) → sep g u v ≡ Some p → height (level_of levels (n - 1)) u + b * wcet g v ≤ height (level_of levels (n - 1)) v + a * p
 settled_fits g a b levels n sound tower count size some settled u v p edge =
     let last : n - 1 + 1 ≡ n = omega arith in
-    let round : IsRound g a b (level_of levels (n - 1)) (level_of levels n) = rw last at (tower.rounds (n - 1) (omega arith)) in
+    let round : IsWholeRound g a b (level_of levels (n - 1)) (level_of levels n) = rw last at (tower.rounds (n - 1) (omega arith)) in
     let l = (target_of g sound u v p edge).0 in
     let q = gap_of g u v p edge in
     let e = rw (q.0) at (round_edge g a b (level_of levels (n - 1)) (level_of levels n) sound round u v q.1) in

@@ -2,13 +2,13 @@
 use Rattle.std.proofs.Common.{ℕ, zero, suc, List, [], ◌∷◌, All, arith}
 use Rattle.drt_model.specs.Digraph.{Digraph}
 use Rattle.drt_model.specs.Utilisation.{IsRatio, AreRatios}
-use Rattle.drt_rates.specs.Rates.{IsSmall}
+use Rattle.drt_rates.specs.Rates.{IsSmallRatio}
 use Rattle.drt_ratio.specs.declared.ratio_proof.RatioProof.{RatioProof}
 use Rattle.drt_ratio.specs.Claims.{IsRatioProof}
 use Rattle.drt_ratio.specs.SetRatios.{AreRatioProofs, AreSmall, fraction_of, fractions_of}
 
 -- Claims with small numbers have small ratios, since a ratio's denominator is at least 1.
-pub ratios_small : (ps : List RatioProof) → AreSmall ps → All (λ p. IsSmall (fraction_of p)) ps
+pub ratios_small : (ps : List RatioProof) → AreSmall ps → All (λ p. IsSmallRatio (fraction_of p)) ps
 ratios_small [] small k d l = absurd (omega arith)
 ratios_small (p ∷ ps) small zero d l = record { num = small.0; some = p.ratio.positive; den = small.1 }
 ratios_small (p ∷ ps) small (suc k) d l = ratios_small ps small.2 k d (omega arith)

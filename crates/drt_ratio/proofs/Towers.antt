@@ -3,9 +3,9 @@ use Rattle.std.proofs.Common.{◌≡◌, ℕ, zero, suc, ◌+◌, ◌*◌, ◌<�
 use Rattle.std.proofs.lemmas.Bool.{cases_lt}
 use Rattle.std.proofs.lemmas.List.{get_or_append_left, get_or_push}
 use Rattle.std.specs.Prelude.{replicate}
-use Rattle.drt_model.specs.Digraph.{Digraph, IsSound}
+use Rattle.drt_model.specs.Digraph.{Digraph, IsSoundGraph}
 use Rattle.drt_ratio.specs.declared.levels.Level.{Level}
-use Rattle.drt_ratio.specs.Levels.{height, no_level, level_of, IsBelow, IsRound, IsTower}
+use Rattle.drt_ratio.specs.Levels.{height, no_level, level_of, IsLevelBelow, IsWholeRound, IsTower}
 use Rattle.drt_ratio.proofs.Offers.{raised_below}
 
 pub tower_one : (g : Digraph) (a b : ℕ) (l : Level) → ((v : ℕ) → height l v ≡ 0) → IsTower g a b (l ∷ [])
@@ -19,7 +19,7 @@ tower_one g a b l none = record {
     small zero m v = omega (arith, none v)
     small (suc k) m v = absurd (omega arith)
 
-pub tower_push : (g : Digraph) (a b i : ℕ) (levels : List Level) (next : Level) → IsSound g → b ≤ 100000000 → IsTower g a b levels → length levels ≡ i + 1 → IsRound g a b (level_of levels i) next → IsTower g a b (levels ++ next ∷ [])
+pub tower_push : (g : Digraph) (a b i : ℕ) (levels : List Level) (next : Level) → IsSoundGraph g → b ≤ 100000000 → IsTower g a b levels → length levels ≡ i + 1 → IsWholeRound g a b (level_of levels i) next → IsTower g a b (levels ++ next ∷ [])
 tower_push g a b i levels next sound small is count round = record {
   opens = λ v. rw (get_or_append_left levels (next ∷ []) no_level 0 (omega arith)) (is.opens v);
   rounds = λ k m. rounds k m (cases_lt (k + 1) (i + 1));
@@ -32,13 +32,13 @@ tower_push g a b i levels next sound small is count round = record {
     top : (k : ℕ) → k ≡ i + 1 → level_of (levels ++ next ∷ []) k ≡ next
     top k e = get_or_push levels next no_level k (omega arith)
 
-    rounds : (k : ℕ) → k + 1 < length (levels ++ next ∷ []) → (k + 1 < i + 1) ⊎ (i + 1 ≤ k + 1) → IsRound g a b (level_of (levels ++ next ∷ []) k) (level_of (levels ++ next ∷ []) (k + 1))
+    rounds : (k : ℕ) → k + 1 < length (levels ++ next ∷ []) → (k + 1 < i + 1) ⊎ (i + 1 ≤ k + 1) → IsWholeRound g a b (level_of (levels ++ next ∷ []) k) (level_of (levels ++ next ∷ []) (k + 1))
     rounds k m (inl l) = rw (left k (omega arith), left (k + 1) l) (is.rounds k (omega arith))
     rounds k m (inr l) =
         let e : k ≡ i = omega (arith, m, length-append levels (next ∷ [])) in
         rw (e, left i (omega arith), top (i + 1) refl) round
 
-    below : (k : ℕ) → k < length (levels ++ next ∷ []) → (k < i + 1) ⊎ (i + 1 ≤ k) → IsBelow g (level_of (levels ++ next ∷ []) k) (k * 100000000000000)
+    below : (k : ℕ) → k < length (levels ++ next ∷ []) → (k < i + 1) ⊎ (i + 1 ≤ k) → IsLevelBelow g (level_of (levels ++ next ∷ []) k) (k * 100000000000000)
     below k m (inl l) = rw (left k l) (is.small k (omega arith))
     below k m (inr l) =
         let e : k ≡ i + 1 = omega (arith, m, length-append levels (next ∷ [])) in

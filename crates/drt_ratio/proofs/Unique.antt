@@ -4,13 +4,13 @@ use Rattle.std.specs.Int.{IsGcd, ◌∣◌}
 use Rattle.std.proofs.Math.Nat.{dvd-mul_left, dvd-mul_right, le_of_mul-le-mul_left, le_antisymm}
 use Rattle.std.proofs.lemmas.Nat.Gcd.{dvd_antisymm}
 use Rattle.drt_num.proofs.Divisors.{gcd_scaled}
-use Rattle.drt_model.specs.Digraph.{Digraph, IsSound}
+use Rattle.drt_model.specs.Digraph.{Digraph, IsSoundGraph}
 use Rattle.drt_model.specs.Walk.{work, cycle_span}
 use Rattle.drt_model.specs.Utilisation.{Fraction, HasRatio, BoundsCycles, IsRatio, AreRatios}
 use Rattle.drt_ratio.proofs.Optima.{cycle_sums}
 
 -- A ratio that a cycle has is at most a ratio that no cycle exceeds.
-below : (g : Digraph) → IsSound g → (a b c d : ℕ) (cycle : List ℕ) → HasRatio g a b cycle → BoundsCycles g c d → a * d ≤ c * b
+below : (g : Digraph) → IsSoundGraph g → (a b c d : ℕ) (cycle : List ℕ) → HasRatio g a b cycle → BoundsCycles g c d → a * d ≤ c * b
 below g sound a b c d [] has least = rw has.0 (omega arith)
 below g sound a b c d (v ∷ vs) has least =
     plain (work g (v ∷ vs)) (cycle_span g (v ∷ vs)) (cycle_sums g sound (v ∷ vs) has.0).span_some has.1 (least (v ∷ vs) has.0)
@@ -38,7 +38,7 @@ num_divides a b c d lowest e =
     subst (λ x. a ∣ x) one (g.2 a (dvd-mul_left a c) (rw (← e) (dvd-mul_right a d)))
 
 -- A graph has one ratio.
-pub ratio_same : (g : Digraph) → IsSound g → (r s : Fraction) → IsRatio g r → IsRatio g s → r ≡ s
+pub ratio_same : (g : Digraph) → IsSoundGraph g → (r s : Fraction) → IsRatio g r → IsRatio g s → r ≡ s
 ratio_same g sound r s p q =
     let e : r.num * s.den ≡ s.num * r.den = le_antisymm (below g sound r.num r.den s.num s.den p.cycle p.has q.least) (below g sound s.num s.den r.num r.den q.cycle q.has p.least) in
     let num : r.num ≡ s.num = dvd_antisymm (num_divides r.num r.den s.num s.den p.lowest e) (num_divides s.num s.den r.num r.den q.lowest (sym e)) in
@@ -46,7 +46,7 @@ ratio_same g sound r s p q =
     ap (λ n. record { num = n; den = r.den }) num ∙ ap (λ n. record { num = s.num; den = n }) den
 
 -- Graphs have one list of ratios.
-pub ratios_same : (gs : List Digraph) → All IsSound gs → (rs ss : List Fraction) → AreRatios gs rs → AreRatios gs ss → rs ≡ ss
+pub ratios_same : (gs : List Digraph) → All IsSoundGraph gs → (rs ss : List Fraction) → AreRatios gs rs → AreRatios gs ss → rs ≡ ss
 ratios_same [] sound [] [] p q = refl
 ratios_same [] sound [] (s ∷ ss) p q = absurd q
 ratios_same [] sound (r ∷ rs) ss p q = absurd p

@@ -36,11 +36,11 @@ abbrev pub Rises : Level → Level → Type 0
 Rises old new = (v : ℕ) → height old v ≤ height new v
 
 -- No height is above the top.
-abbrev pub IsBelow : Digraph → Level → ℕ → Type 0
-IsBelow g l top = (v : ℕ) → v < vertex_count g → height l v ≤ top
+abbrev pub IsLevelBelow : Digraph → Level → ℕ → Type 0
+IsLevelBelow g l top = (v : ℕ) → v < vertex_count g → height l v ≤ top
 
 -- One level is a whole round above another: it is raised from it, and each edge is taken into account.
-pub record IsRound (g : Digraph) (a b : ℕ) (low high : Level) : Type 0 where
+pub record IsWholeRound (g : Digraph) (a b : ℕ) (low high : Level) : Type 0 where
   pub raised : IsRaised g a b low high
   pub done : (u k : ℕ) → u < vertex_count g → k < out_degree g u → IsRelaxed g a b low high u k
 
@@ -48,8 +48,8 @@ pub record IsRound (g : Digraph) (a b : ℕ) (low high : Level) : Type 0 where
 -- 100,000,000,000,000 a level.
 pub record IsTower (g : Digraph) (a b : ℕ) (levels : List Level) : Type 0 where
   pub opens : (v : ℕ) → height (level_of levels 0) v ≡ 0
-  pub rounds : (k : ℕ) → k + 1 < length levels → IsRound g a b (level_of levels k) (level_of levels (k + 1))
-  pub small : (k : ℕ) → k < length levels → IsBelow g (level_of levels k) (k * 100000000000000)
+  pub rounds : (k : ℕ) → k + 1 < length levels → IsWholeRound g a b (level_of levels k) (level_of levels (k + 1))
+  pub small : (k : ℕ) → k < length levels → IsLevelBelow g (level_of levels k) (k * 100000000000000)
 
 -- The list is a walk to v of at most n edges that gains h.
 abbrev pub IsTrace : Digraph → ℕ → ℕ → ℕ → ℕ → ℕ → List ℕ → Type 0

@@ -4,7 +4,7 @@ ghost use Rattle.drt_model.specs.Digraph.{Digraph, vertex_count};
 ghost use Rattle.drt_ratio.specs.Claims.{IsInReach, IsRatioProof};
 ghost use Rattle.drt_model.specs.RatioRules.{ProvesRatio};
 ghost use Rattle.drt_model.specs.Potential.{potential_of};
-ghost use Rattle.drt_ratio.specs.Levels.{height, IsBelow};
+ghost use Rattle.drt_ratio.specs.Levels.{height, IsLevelBelow};
 ghost use Rattle.drt_model.specs.Walk.{IsCycle, work, cycle_span};
 
 use crate::levels::{Level, levels};

@@ -1,7 +1,7 @@
 //! The greatest gains of walks, level by level.
 ghost use Rattle.std.specs.Prelude.{◌≡◌, ℕ, ◌+◌, ◌*◌, ◌<◌, ◌≤◌, IfOk, length, slice_index};
 ghost use Rattle.drt_model.specs.Digraph.{Digraph, vertex_count, out_degree, edge_of};
-ghost use Rattle.drt_ratio.specs.Levels.{height, level_of, IsRaised, IsRelaxed, Rises, IsBelow, IsRound, IsTower};
+ghost use Rattle.drt_ratio.specs.Levels.{height, level_of, IsRaised, IsRelaxed, Rises, IsLevelBelow, IsWholeRound, IsTower};
 
 use drt_graph::Graph;
 use drt_model::Memory;
@@ -22,7 +22,7 @@ fn offer(graph: &Graph, a: u64, b: u64, low: &Level, u: u32, k: u32, high: &mut 
     requires edge { k < out_degree graph.now u }
     requires a_small { a ≤ 100000000 }
     requires b_small { b ≤ 100000000 }
-    requires low_small { IsBelow graph.now low.now 1000000000000000000 }
+    requires low_small { IsLevelBelow graph.now low.now 1000000000000000000 }
     requires raised { IsRaised graph.now a b low.now high.old }
     ensures raised { IsRaised graph.now a b low.now high.new }
     ensures rises { Rises high.old high.new }
@@ -44,8 +44,8 @@ fn offer(graph: &Graph, a: u64, b: u64, low: &Level, u: u32, k: u32, high: &mut 
 fn raised(graph: &Graph, a: u64, b: u64, low: &Level) -> Level
     requires a_small { a ≤ 100000000 }
     requires b_small { b ≤ 100000000 }
-    requires low_small { IsBelow graph.now low.now 1000000000000000000 }
-    ensures { IsRound graph.now a b low.now result }
+    requires low_small { IsLevelBelow graph.now low.now 1000000000000000000 }
+    ensures { IsWholeRound graph.now a b low.now result }
 {
     let mut high = Level {
         heights: low.heights,

@@ -4,17 +4,17 @@ use Rattle.std.specs.Prelude.{slice_get}
 use Rattle.std.proofs.lemmas.Option.{none-some, same_Some, slice_get_within}
 use Rattle.drt_steps.specs.Values.{value_at}
 use Rattle.drt_steps.specs.Time.{sum_at, Passes, AreChosen}
-use Rattle.drt_tree.specs.Tree.{Plain, IsForest, IsPair, IsUnder, Leads, children, children_of, leaves, values}
+use Rattle.drt_tree.specs.Tree.{Plain, IsForest, IsPair, IsUnder, LeadsToLeaf, children, children_of, leaves, values}
 use Rattle.drt_tree.specs.declared.node.Node.{Node}
 use Rattle.drt_refine.specs.Below.{AreBelow, AreNodes, tuples}
 
 module _ (f : Plain) where
-  turn : (l r l' r' leaf : ℕ) (b : Bool) (turns : List Bool) → (l ≡ l') × (r ≡ r') → Leads f (cond b l' r') turns leaf → IsUnder f leaf l ⊎ IsUnder f leaf r
-  turn l r l' r' leaf true turns e h = inl (turns, subst (λ (n : ℕ). Leads f n turns leaf) (sym e.0) h)
-  turn l r l' r' leaf false turns e h = inr (turns, subst (λ (n : ℕ). Leads f n turns leaf) (sym e.1) h)
+  turn : (l r l' r' leaf : ℕ) (b : Bool) (turns : List Bool) → (l ≡ l') × (r ≡ r') → LeadsToLeaf f (cond b l' r') turns leaf → IsUnder f leaf l ⊎ IsUnder f leaf r
+  turn l r l' r' leaf true turns e h = inl (turns, subst (λ (n : ℕ). LeadsToLeaf f n turns leaf) (sym e.0) h)
+  turn l r l' r' leaf false turns e h = inr (turns, subst (λ (n : ℕ). LeadsToLeaf f n turns leaf) (sym e.1) h)
 
   -- a leaf under a pair is under one of its children
-  under_by : (leaf n l r : ℕ) → children f n ≡ Some (l, r) → (turns : List Bool) → Leads f n turns leaf → IsUnder f leaf l ⊎ IsUnder f leaf r
+  under_by : (leaf n l r : ℕ) → children f n ≡ Some (l, r) → (turns : List Bool) → LeadsToLeaf f n turns leaf → IsUnder f leaf l ⊎ IsUnder f leaf r
   under_by leaf n l r h [] g = absurd (let p : ℕ × ℕ = (l, r) in none-some p (sym g.1 ∙ h))
   under_by leaf n l r h (b ∷ turns) g =
       let p : ℕ × ℕ = (l, r) in

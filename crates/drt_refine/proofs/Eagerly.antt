@@ -7,10 +7,10 @@ use Rattle.drt_worklist.proofs.Lists.{Before, before_change, After, after_change
 use Rattle.drt_tree.specs.Tree.{Plain, IsUnder, children}
 use Rattle.drt_refine.specs.Below.{AreBelow}
 use Rattle.drt_refine.specs.Combination.{Combination, fresh, with_state, is_pending, is_pending_state, is_taken, is_taken_state, is_failed, is_failed_state}
-use Rattle.drt_refine.specs.Machine.{Setting, State, Outcome, opening_state, after, is_full, is_finished, taken, halved, halved_at, children_at, stepped, step_by}
+use Rattle.drt_refine.specs.Machine.{FrontierSetting, FrontierState, FrontierOutcome, opening_state, after, is_full, is_finished, taken, halved, halved_at, children_at, stepped, step_by}
 use Rattle.drt_refine.specs.Machine.{replay_from, replay, IsRunFrom, IsRun, CanStep, IsPairAt, NonePasses}
-use Rattle.drt_refine.specs.Eager.{IsWidest, IsPlace, IsEagerStep, AreEagerFrom, IsEager}
-use Rattle.drt_refine.specs.Settled.{AreSettled, HasNodes, IsDone, IsHalfOf, IsSettled, IsSplitInto}
+use Rattle.drt_refine.specs.Eager.{IsWidest, IsSplitPlace, IsEagerStep, AreEagerFrom, IsEager}
+use Rattle.drt_refine.specs.Settled.{AreSettled, CombinationHasNodes, IsPassedOrSplit, IsHalfOf, IsSettled, IsSplitInto}
 use Rattle.drt_refine.specs.declared.step.CombinationState.{CombinationState}
 use Rattle.drt_refine.specs.declared.step.CombinationState.TheVariants.{Pending, Taken as TakenBy, Passed as PassedAt, Split as SplitAt, Failed as HasFailed}
 use Rattle.drt_refine.specs.declared.step.FrontierStep.{FrontierStep}
@@ -34,7 +34,7 @@ module _ (f : Plain) where
   below_set (leaf ∷ tuple) (m ∷ nodes) zero n l at up b = (subst (λ (k : ℕ). IsUnder f leaf k) (sym (same_Some m n at)) (up leaf b.0), b.1)
   below_set (leaf ∷ tuple) (m ∷ nodes) (suc place) n l at up b = (b.0, below_set tuple nodes place n l at up b.1)
 
-has_change : (k : ℕ) (s : CombinationState) (cs : List Combination) (j : ℕ) (nodes : List ℕ) → HasNodes cs j nodes → HasNodes (changed k (with_state s) cs) j nodes
+has_change : (k : ℕ) (s : CombinationState) (cs : List Combination) (j : ℕ) (nodes : List ℕ) → CombinationHasNodes cs j nodes → CombinationHasNodes (changed k (with_state s) cs) j nodes
 has_change k s cs j nodes h =
     let a : After k (with_state s) cs j h.combination = after_change k (with_state s) cs j h.combination h.at in
     record {
@@ -46,12 +46,12 @@ has_change k s cs j nodes h =
       ];
     }
 
-has_join : (cs more : List Combination) (j : ℕ) (nodes : List ℕ) → HasNodes cs j nodes → HasNodes (cs ++ more) j nodes
+has_join : (cs more : List Combination) (j : ℕ) (nodes : List ℕ) → CombinationHasNodes cs j nodes → CombinationHasNodes (cs ++ more) j nodes
 has_join cs more j nodes h = record { combination = h.combination; at = after_join cs more j h.combination h.at; are = h.are }
 
-module _ (t : Setting) where
+module _ (t : FrontierSetting) where
   -- what is settled stays so where the combinations keep their nodes
-  settled_more : (old new : List Combination) → ((j : ℕ) (nodes : List ℕ) → HasNodes old j nodes → HasNodes new j nodes) → (id : ℕ) (nodes : List ℕ) (s : CombinationState)
+  settled_more : (old new : List Combination) → ((j : ℕ) (nodes : List ℕ) → CombinationHasNodes old j nodes → CombinationHasNodes new j nodes) → (id : ℕ) (nodes : List ℕ) (s : CombinationState)
       → IsSettled t old id nodes s → IsSettled t new id nodes s
   settled_more old new keeps id nodes Pending h = tt
   settled_more old new keeps id nodes (TakenBy w) h = tt
@@ -98,7 +98,7 @@ module _ (t : Setting) where
 
   -- the combination at k gets another state, of which what it says is so
   module _ (cs : List Combination) (k : ℕ) (c : Combination) (s : CombinationState) (at : slice_get cs k ≡ Some c) (facts : AreSettled t cs) where
-    each_change : (new : List Combination) → ((j : ℕ) (nodes : List ℕ) → HasNodes cs j nodes → HasNodes new j nodes) → IsSettled t new k c.nodes s → (id : ℕ) (x : Combination)
+    each_change : (new : List Combination) → ((j : ℕ) (nodes : List ℕ) → CombinationHasNodes cs j nodes → CombinationHasNodes new j nodes) → IsSettled t new k c.nodes s → (id : ℕ) (x : Combination)
         → slice_get (changed k (with_state s) cs) id ≡ Some x → IsSettled t new id x.nodes x.state
     each_change new keeps is id x h =
         let b : Was cs k id s x = was cs k s id x h in
@@ -141,7 +141,7 @@ module _ (t : Setting) where
 
   -- the combination at k is split at a pair
   module _ (cs : List Combination) (k : ℕ) (c : Combination) (place : ℕ) (at : slice_get cs k ≡ Some c) (pair : IsPairAt t c.nodes place)
-      (none : NonePasses t c.nodes) (place_is : IsPlace t.forest c.nodes (Some place)) (facts : AreSettled t cs) where
+      (none : NonePasses t c.nodes) (place_is : IsSplitPlace t.forest c.nodes (Some place)) (facts : AreSettled t cs) where
     abbrev split_state : CombinationState
     split_state = SplitAt place (length cs) (length cs + 1)
 
@@ -157,7 +157,7 @@ module _ (t : Setting) where
     abbrev back : List Combination
     back = fresh left_nodes ∷ fresh right_nodes ∷ []
 
-    keeps : (j : ℕ) (nodes : List ℕ) → HasNodes cs j nodes → HasNodes (front ++ back) j nodes
+    keeps : (j : ℕ) (nodes : List ℕ) → CombinationHasNodes cs j nodes → CombinationHasNodes (front ++ back) j nodes
     keeps j nodes h = has_join front back j nodes (has_change k split_state cs j nodes h)
 
     split_into : IsSplitInto t (front ++ back) k c.nodes place (length cs) (length cs + 1)
@@ -244,12 +244,12 @@ module _ (t : Setting) where
       once = λ n i j x y hx hy gx gy. one_owner n i j (half_of n i x hx gx) (half_of n j y hy gy);
     }
 
-  cond_settles : (b : Bool) (x y : Outcome) → AreSettled t x.state.combinations → AreSettled t y.state.combinations → AreSettled t (cond b x y).state.combinations
+  cond_settles : (b : Bool) (x y : FrontierOutcome) → AreSettled t x.state.combinations → AreSettled t y.state.combinations → AreSettled t (cond b x y).state.combinations
   cond_settles true x y p q = p
   cond_settles false x y p q = q
 
   -- the place at which an eager step splits
-  place_of : (nodes : List ℕ) (place : ℕ) → IsPairAt t nodes place → IsWidest t.forest nodes place → IsPlace t.forest nodes (Some place)
+  place_of : (nodes : List ℕ) (place : ℕ) → IsPairAt t nodes place → IsWidest t.forest nodes place → IsSplitPlace t.forest nodes (Some place)
   place_of nodes place p w =
       let e : p.node ≡ w.node = same_Some p.node w.node (sym p.at ∙ w.at) in
       (w, p.left, p.right, ap (λ n. children t.forest n) (sym e) ∙ p.children)
@@ -258,7 +258,7 @@ module _ (t : Setting) where
   abbrev pair_with : (nodes : List ℕ) (place : ℕ) (q : ℕ × ℕ) → IsPairAt t nodes place → children_at t (slice_get nodes place) ≡ Some q → IsPairAt t nodes place
   pair_with nodes place q p h = record { node = p.node; left = q.0; right = q.1; at = p.at; children = sym (ap (λ x. children_at t x) p.at) ∙ h }
 
-  module _ (s : State) (w : ℕ) (facts : AreSettled t s.combinations) where
+  module _ (s : FrontierState) (w : ℕ) (facts : AreSettled t s.combinations) where
     take_settles : (o u : Option ℕ) → first is_pending s.combinations ≡ o → AreSettled t (taken t s w o u).state.combinations
     take_settles None None e = facts
     take_settles None (Some k) e = cond_settles (is_full t s) _ _ facts facts
@@ -308,14 +308,14 @@ module _ (t : Setting) where
     once = λ n i j x y hx hy gx gy. absurd (subst (λ (z : Combination). IsHalfOf n z.state) (opening_told i x hx) gx);
   }
 
-  settles_from : (es : List FrontierEntry) (s : State) → AreSettled t s.combinations → IsRunFrom t s es → AreEagerFrom t s es → AreSettled t (replay_from t s es).combinations
+  settles_from : (es : List FrontierEntry) (s : FrontierState) → AreSettled t s.combinations → IsRunFrom t s es → AreEagerFrom t s es → AreSettled t (replay_from t s es).combinations
   settles_from [] s facts run eager = facts
   settles_from (e ∷ es) s facts run eager = settles_from es (after t s e) (step_by_settles s e.worker facts e.step (first is_failed s.combinations) run.0 eager.0) run.2 eager.1
 
   pub eager_settled : (es : List FrontierEntry) → IsRun t es → IsEager t es → AreSettled t (replay t es).combinations
   eager_settled es run eager = settles_from es (opening_state t) opening_settled run eager
 
-done_by : (x : CombinationState) → is_pending_state x ≡ false → is_taken_state x ≡ false → is_failed_state x ≡ false → IsDone x
+done_by : (x : CombinationState) → is_pending_state x ≡ false → is_taken_state x ≡ false → is_failed_state x ≡ false → IsPassedOrSplit x
 done_by Pending p q r = absurd (cc)
 done_by (TakenBy w) p q r = absurd (cc)
 done_by (PassedAt time) p q r = tt
@@ -323,7 +323,7 @@ done_by (SplitAt place l r) p q h = tt
 done_by HasFailed p q r = absurd (cc)
 
 -- where the state is finished, each combination passed or was split
-pub finished_done : (t : Setting) (s : State) → is_finished t s ≡ true → (id : ℕ) (c : Combination) → slice_get s.combinations id ≡ Some c → IsDone c.state
+pub finished_done : (t : FrontierSetting) (s : FrontierState) → is_finished t s ≡ true → (id : ℕ) (c : Combination) → slice_get s.combinations id ≡ Some c → IsPassedOrSplit c.state
 finished_done t s h id c at =
     let none : AreNone s = finished_none t s h in
     done_by c.state (none_found is_pending s.combinations none.pending id c at) (none_found is_taken s.combinations none.taken id c at) (none_found is_failed s.combinations none.failed id c at)

@@ -4,7 +4,7 @@ use Rattle.std.proofs.lemmas.Option.{none-some, same_Some}
 use Rattle.std.specs.Prelude.{slice_get, option_map}
 use Rattle.drt_worklist.specs.Places.{first, changed}
 use Rattle.drt_refine.specs.Combination.{Combination, with_state}
-use Rattle.drt_refine.specs.View.{View, combinations_of, moved}
+use Rattle.drt_refine.specs.View.{FrontierView, combinations_of, moved}
 use Rattle.drt_refine.specs.declared.step.FrontierEntry.{FrontierEntry}
 use Rattle.drt_refine.specs.declared.step.CombinationState.{CombinationState}
 
@@ -104,9 +104,9 @@ combinations_push width nodes more (s ∷ states) x e l =
     ∙ ap (λ cs. record { nodes = take width nodes; state = s } ∷ cs) (ap (λ xs. combinations_of width xs (states ++ x ∷ [])) (drop_front width nodes more (omega arith)) ∙ combinations_push width (drop width nodes) more states x (omega arith) l)
 
 -- a view whose combinations and log change
-pub moved_by : (r : List ℕ) (w d b : ℕ) (cs : List Combination) (l : List FrontierEntry) (v : View) → record { roots = r; wcet = w; deadline = d; budget = b; combinations = cs; log = l } ≡ v →
+pub moved_by : (r : List ℕ) (w d b : ℕ) (cs : List Combination) (l : List FrontierEntry) (v : FrontierView) → record { roots = r; wcet = w; deadline = d; budget = b; combinations = cs; log = l } ≡ v →
     (g : List Combination → List Combination) (e : FrontierEntry) (cs' : List Combination) (l' : List FrontierEntry) → cs' ≡ g cs → l' ≡ l ++ e ∷ [] → record { roots = r; wcet = w; deadline = d; budget = b; combinations = cs'; log = l' } ≡ moved v (record { combinations = g v.combinations; log = v.log ++ e ∷ [] })
 moved_by r w d b cs l v is g e cs' l' p q =
     ap (λ (xs : List Combination). record { roots = r; wcet = w; deadline = d; budget = b; combinations = xs; log = l' }) p
     ∙ (ap (λ (xs : List FrontierEntry). record { roots = r; wcet = w; deadline = d; budget = b; combinations = g cs; log = xs }) q
-    ∙ ap (λ (u : View). moved u (record { combinations = g u.combinations; log = u.log ++ e ∷ [] })) is)
+    ∙ ap (λ (u : FrontierView). moved u (record { combinations = g u.combinations; log = u.log ++ e ∷ [] })) is)

@@ -6,7 +6,7 @@ use Rattle.drt_worklist.proofs.Places.{places_fewer, places_more}
 use Rattle.drt_worklist.proofs.Writes.{length_set}
 use Rattle.drt_refine.specs.Combination.{Combination, is_taken, is_taken_state}
 use Rattle.drt_refine.specs.Machine.{halves}
-use Rattle.drt_refine.specs.View.{View, combinations_of}
+use Rattle.drt_refine.specs.View.{FrontierView, combinations_of}
 use Rattle.drt_refine.specs.declared.step.CombinationState.{CombinationState}
 use Rattle.drt_refine.specs.declared.step.CombinationState.TheVariants.{Pending, Split}
 use Rattle.drt_refine.specs.declared.step.FrontierEntry.{FrontierEntry}
@@ -23,18 +23,18 @@ pub record Halving (w width budget : ℕ) (nodes : List ℕ) (states : List Comb
   pub taken : is_taken_state x.state ≡ true
   pub part : id * width + width ≤ length nodes
 
-pub halving : (r : List ℕ) (wcet deadline budget : ℕ) (nodes : List ℕ) (states : List CombinationState) (log : List FrontierEntry) (v : View) → record { roots = r; wcet = wcet; deadline = deadline; budget = budget; combinations = combinations_of (length r) nodes states; log = log } ≡ v →
+pub halving : (r : List ℕ) (wcet deadline budget : ℕ) (nodes : List ℕ) (states : List CombinationState) (log : List FrontierEntry) (v : FrontierView) → record { roots = r; wcet = wcet; deadline = deadline; budget = budget; combinations = combinations_of (length r) nodes states; log = log } ≡ v →
     length nodes ≡ length states * length r → length states + length (places is_taken_state states) ≤ 1 + length log →
     (id width : ℕ) (x : Combination) → slice_get v.combinations id ≡ Some x → is_taken x ≡ true → length x.nodes ≡ length v.roots → length v.log < v.budget → width ≡ length r → Halving (length r) width budget nodes states id x
 halving r wcet deadline budget nodes states log v is flat left id width x at_v held wide_v lt_v same =
     let w : ℕ = length r in
-    let at : slice_get (combinations_of w nodes states) id ≡ Some x = ap (λ (u : View). slice_get u.combinations id) is ∙ at_v in
-    let hl : length log ≡ length v.log = ap (λ (u : View). length u.log) is in
-    let hb : budget ≡ v.budget = ap (λ (u : View). u.budget) is in
+    let at : slice_get (combinations_of w nodes states) id ≡ Some x = ap (λ (u : FrontierView). slice_get u.combinations id) is ∙ at_v in
+    let hl : length log ≡ length v.log = ap (λ (u : FrontierView). length u.log) is in
+    let hb : budget ≡ v.budget = ap (λ (u : FrontierView). u.budget) is in
     let room : Room w nodes states budget id x = room_of w nodes states budget (length log) id x flat left (omega arith) at held in
     record {
       same = same;
-      wide = wide_v ∙ sym (ap (λ (u : View). length u.roots) is);
+      wide = wide_v ∙ sym (ap (λ (u : FrontierView). length u.roots) is);
       flat = flat;
       room = room;
       state = (combination_at w nodes states id x at).state_at;

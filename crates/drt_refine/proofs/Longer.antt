@@ -10,7 +10,7 @@ use Rattle.drt_worklist.proofs.Lists.{Found, found}
 use Rattle.drt_worklist.proofs.Runs.{run_join, run_log}
 use Rattle.drt_refine.specs.Below.{IsConcrete}
 use Rattle.drt_refine.specs.Combination.{Combination, with_state, is_pending, is_taken, is_taken_state, is_failed}
-use Rattle.drt_refine.specs.Machine.{Setting, State, Outcome, is_full, unchanged, logged, taken, halved, halved_at, children_at, stepped, step_by, step_of, CanStep, IsPairAt, NonePasses, after, CanEnter, replay_from, replay, IsRunFrom, IsRun, opening_state, is_finished}
+use Rattle.drt_refine.specs.Machine.{FrontierSetting, FrontierState, FrontierOutcome, is_full, unchanged, logged, taken, halved, halved_at, children_at, stepped, step_by, step_of, CanStep, IsPairAt, NonePasses, after, CanEnter, replay_from, replay, IsRunFrom, IsRun, opening_state, is_finished}
 use Rattle.drt_refine.specs.Facts.{CanGoOn, with_budget}
 use Rattle.drt_refine.specs.declared.step.CombinationState.{CombinationState}
 use Rattle.drt_refine.specs.declared.step.CombinationState.TheVariants.{Pending, Taken as TakenBy, Passed as PassedAt, Split as SplitAt, Failed as HasFailed}
@@ -24,9 +24,9 @@ no_longer : (es : List FrontierEntry) (e : FrontierEntry) → es ≡ es ++ e ∷
 no_longer es e h = let l : length es ≡ length es + 1 = ap length h ∙ length-append es (e ∷ []) in absurd (omega arith)
 
 -- a greater budget changes no step that is logged
-module _ (t : Setting) (budget : ℕ) (more : t.budget ≤ budget) where
-  module _ (s : State) (e : FrontierEntry) where
-    full_same : (b : Bool) (x : Outcome) → is_full t s ≡ b → (cond b (unchanged s Spent) x).state.log ≡ s.log ++ e ∷ [] → cond (is_full (with_budget budget t) s) (unchanged s Spent) x ≡ cond b (unchanged s Spent) x
+module _ (t : FrontierSetting) (budget : ℕ) (more : t.budget ≤ budget) where
+  module _ (s : FrontierState) (e : FrontierEntry) where
+    full_same : (b : Bool) (x : FrontierOutcome) → is_full t s ≡ b → (cond b (unchanged s Spent) x).state.log ≡ s.log ++ e ∷ [] → cond (is_full (with_budget budget t) s) (unchanged s Spent) x ≡ cond b (unchanged s Spent) x
     full_same true x h l = absurd (no_longer s.log e l)
     full_same false x h l = ap (λ b. cond b (unchanged s Spent) x) (let lt : length s.log < t.budget = leb-false t.budget (length s.log) h in let g : nat_le budget (length s.log) ≡ false = grind (arith, nat_tests) in g)
 
@@ -55,7 +55,7 @@ module _ (t : Setting) (budget : ℕ) (more : t.budget ≤ budget) where
             child_same id place w c None = refl
             child_same id place w c (Some n) = halved_same id place w c (children t.forest n)
 
-        split_same : (id place w : ℕ) (o : Option Combination) (x : Outcome) → halved_at t s (record { worker = w; step = Split id place }) id place o ≡ x
+        split_same : (id place w : ℕ) (o : Option Combination) (x : FrontierOutcome) → halved_at t s (record { worker = w; step = Split id place }) id place o ≡ x
             → (cond (is_full t s) (unchanged s Spent) x).state.log ≡ s.log ++ e ∷ []
             → cond (is_full (with_budget budget t) s) (unchanged s Spent) (halved_at (with_budget budget t) s (record { worker = w; step = Split id place }) id place o)
             ≡ cond (is_full t s) (unchanged s Spent) x
@@ -69,24 +69,24 @@ module _ (t : Setting) (budget : ℕ) (more : t.budget ≤ budget) where
     step_same : (w : ℕ) (step : FrontierStep) → (step_of t s w step).state.log ≡ s.log ++ e ∷ [] → step_of (with_budget budget t) s w step ≡ step_of t s w step
     step_same w step l = by_same w step (first is_failed s.combinations) l
 
-  can_same : (s : State) (w : ℕ) (step : FrontierStep) → CanStep t s w step → CanStep (with_budget budget t) s w step
+  can_same : (s : FrontierState) (w : ℕ) (step : FrontierStep) → CanStep t s w step → CanStep (with_budget budget t) s w step
   can_same s w Take h = h
   can_same s w (Pass id time) h = (h.0, record { at = h.1.at; held = h.1.held }, h.2)
   can_same s w (Split id place) h = (h.0, record { at = h.1.at; held = h.1.held }, record { node = h.2.node; left = h.2.left; right = h.2.right; at = h.2.at; children = h.2.children })
   can_same s w (Fail id) h = (h.0, record { at = h.1.at; held = h.1.held }, h.2)
 
   -- a run is a run under a greater budget, and leads to the same state
-  pub run_same : (es : List FrontierEntry) (s : State) → IsRunFrom t s es → IsRunFrom (with_budget budget t) s es × (replay_from (with_budget budget t) s es ≡ replay_from t s es)
+  pub run_same : (es : List FrontierEntry) (s : FrontierState) → IsRunFrom t s es → IsRunFrom (with_budget budget t) s es × (replay_from (with_budget budget t) s es ≡ replay_from t s es)
   run_same [] s run = (tt, refl)
   run_same (e ∷ es) s run =
-      let same : after (with_budget budget t) s e ≡ after t s e = ap (λ (o : Outcome). o.state) (step_same s e e.worker e.step run.1) in
+      let same : after (with_budget budget t) s e ≡ after t s e = ap (λ (o : FrontierOutcome). o.state) (step_same s e e.worker e.step run.1) in
       let rest : IsRunFrom (with_budget budget t) (after t s e) es × (replay_from (with_budget budget t) (after t s e) es ≡ replay_from t (after t s e) es) = run_same es (after t s e) run.2 in (
-        (can_same s e.worker e.step run.0, ap (λ (x : State). x.log) same ∙ run.1, subst (λ (x : State). IsRunFrom (with_budget budget t) x es) (sym same) rest.0),
-        ap (λ (x : State). replay_from (with_budget budget t) x es) same ∙ rest.1,
+        (can_same s e.worker e.step run.0, ap (λ (x : FrontierState). x.log) same ∙ run.1, subst (λ (x : FrontierState). IsRunFrom (with_budget budget t) x es) (sym same) rest.0),
+        ap (λ (x : FrontierState). replay_from (with_budget budget t) x es) same ∙ rest.1,
       )
 
 -- whether some time passes
-module _ (t : Setting) (nodes : List ℕ) where
+module _ (t : FrontierSetting) (nodes : List ℕ) where
   upto : (n : ℕ) → n ≤ t.deadline → ((time : ℕ) × Passes t.wcet t.deadline t.forest.pool nodes time) ⊎ ((time : ℕ) → time ≤ n → Passes t.wcet t.deadline t.forest.pool nodes time → ⊥)
   upto zero le = inr (λ time le p. let one : 1 ≤ time = p.from in absurd (omega arith))
   upto (suc n) le = elim (upto n (omega arith)) as (λ _. ((time : ℕ) × Passes t.wcet t.deadline t.forest.pool nodes time) ⊎ ((time : ℕ) → time ≤ suc n → Passes t.wcet t.deadline t.forest.pool nodes time → ⊥)) [
@@ -110,7 +110,7 @@ module _ (t : Setting) (nodes : List ℕ) where
   passes_or = elim (upto t.deadline (omega arith)) as (λ _. ((time : ℕ) × Passes t.wcet t.deadline t.forest.pool nodes time) ⊎ NonePasses t nodes) [ inl p ↦ inl p | inr none ↦ inr (λ time p. none time p.to p) ]
 
 -- each node is a leaf, or one is a pair
-concrete_or : (t : Setting) (nodes : List ℕ) → IsConcrete t.forest nodes ⊎ ((place : ℕ) × IsPairAt t nodes place)
+concrete_or : (t : FrontierSetting) (nodes : List ℕ) → IsConcrete t.forest nodes ⊎ ((place : ℕ) × IsPairAt t nodes place)
 concrete_or t [] = inl tt
 concrete_or t (n ∷ nodes) = by (children t.forest n) refl (concrete_or t nodes)
   where
@@ -129,18 +129,18 @@ holder_of (SplitAt p l r) h = absurd (cc)
 holder_of HasFailed h = absurd (cc)
 
 -- a step that is allowed and logged
-pub record IsLogged (t : Setting) (s : State) : Type 0 where
+pub record IsLogged (t : FrontierSetting) (s : FrontierState) : Type 0 where
   pub entry : FrontierEntry
   pub can : CanStep t s entry.worker entry.step
   pub logs : (step_of t s entry.worker entry.step).state.log ≡ s.log ++ entry ∷ []
 
-module _ (t : Setting) (s : State) (lt : length s.log < t.budget) (unfailed : first is_failed s.combinations ≡ None) where
+module _ (t : FrontierSetting) (s : FrontierState) (lt : length s.log < t.budget) (unfailed : first is_failed s.combinations ≡ None) where
   room : is_full t s ≡ false
   room = grind (arith, nat_tests)
 
-  logs_by : (w : ℕ) (step : FrontierStep) (x : Outcome) → stepped t s w step ≡ cond (is_full t s) (unchanged s Spent) x → x.state.log ≡ s.log ++ record { worker = w; step = step } ∷ [] → (step_of t s w step).state.log ≡ s.log ++ record { worker = w; step = step } ∷ []
+  logs_by : (w : ℕ) (step : FrontierStep) (x : FrontierOutcome) → stepped t s w step ≡ cond (is_full t s) (unchanged s Spent) x → x.state.log ≡ s.log ++ record { worker = w; step = step } ∷ [] → (step_of t s w step).state.log ≡ s.log ++ record { worker = w; step = step } ∷ []
   logs_by w step x e l =
-      ap (λ o. (step_by t s w step o).state.log) unfailed ∙ (ap (λ (o : Outcome). o.state.log) e ∙ (ap (λ b. (cond b (unchanged s Spent) x).state.log) room ∙ l))
+      ap (λ o. (step_by t s w step o).state.log) unfailed ∙ (ap (λ (o : FrontierOutcome). o.state.log) e ∙ (ap (λ b. (cond b (unchanged s Spent) x).state.log) room ∙ l))
 
   settle_one : (id w : ℕ) (c : Combination) → slice_get s.combinations id ≡ Some c → c.state ≡ TakenBy w → IsLogged t s
   settle_one id w c at held = elim (passes_or t c.nodes) as (λ _. IsLogged t s) [
@@ -176,12 +176,12 @@ module _ (t : Setting) (s : State) (lt : length s.log < t.budget) (unfailed : fi
   goes_on unfinished = by_taken (first is_taken s.combinations) refl (first is_pending s.combinations) refl unfinished
 
 -- a run that is neither finished nor failed can be lengthened
-pub run_longer : (t : Setting) (es : List FrontierEntry) (budget : ℕ) → IsRun t es → is_finished t (replay t es) ≡ false → first is_failed (replay t es).combinations ≡ None → t.budget ≤ budget → length es < budget → CanGoOn t budget es
+pub run_longer : (t : FrontierSetting) (es : List FrontierEntry) (budget : ℕ) → IsRun t es → is_finished t (replay t es) ≡ false → first is_failed (replay t es).combinations ≡ None → t.budget ≤ budget → length es < budget → CanGoOn t budget es
 run_longer t es budget run unfinished unfailed more lt =
-    let b : Setting = with_budget budget t in
+    let b : FrontierSetting = with_budget budget t in
     let same : IsRunFrom b (opening_state t) es × (replay_from b (opening_state t) es ≡ replay t es) = run_same t budget more es (opening_state t) run in
-    let logs : (replay t es).log ≡ es = run_log (after t) (CanEnter t) (λ (s : State). s.log) es (opening_state t) run in
+    let logs : (replay t es).log ≡ es = run_log (after t) (CanEnter t) (λ (s : FrontierState). s.log) es (opening_state t) run in
     let room : length (replay t es).log < budget = subst (λ (l : List FrontierEntry). length l < budget) (sym logs) lt in
     let one : IsLogged b (replay t es) = goes_on b (replay t es) room unfailed unfinished in
-    let there : IsLogged b (replay_from b (opening_state t) es) = subst (λ (s : State). IsLogged b s) (sym same.1) one in
-    record { entry = there.entry; run = run_join (after b) (CanEnter b) (λ (s : State). s.log) es (there.entry ∷ []) (opening_state t) same.0 (there.can, there.logs, tt) }
+    let there : IsLogged b (replay_from b (opening_state t) es) = subst (λ (s : FrontierState). IsLogged b s) (sym same.1) one in
+    record { entry = there.entry; run = run_join (after b) (CanEnter b) (λ (s : FrontierState). s.log) es (there.entry ∷ []) (opening_state t) same.0 (there.can, there.logs, tt) }

@@ -5,9 +5,9 @@ use Rattle.drt_tree.specs.Tree.{Plain}
 use Rattle.drt_worklist.specs.Places.{first, changed}
 use Rattle.drt_worklist.proofs.Runs.{run_join, replay_join}
 use Rattle.drt_refine.specs.Combination.{Combination, with_state, is_pending, is_taken, is_failed}
-use Rattle.drt_refine.specs.Machine.{Setting, State, Outcome, taken, stepped, step_by, step_of, is_full, unchanged, logged, replay, IsRun, opening_state, after, CanEnter, halved, halved_at, children_at, CanStep}
+use Rattle.drt_refine.specs.Machine.{FrontierSetting, FrontierState, FrontierOutcome, taken, stepped, step_by, step_of, is_full, unchanged, logged, replay, IsRun, opening_state, after, CanEnter, halved, halved_at, children_at, CanStep}
 use Rattle.drt_refine.specs.Facts.{Facts}
-use Rattle.drt_refine.specs.View.{View, setting_of, state_of, outcome, moved, IsStep, IsFrontier, CanApply}
+use Rattle.drt_refine.specs.View.{FrontierView, setting_of, state_of, outcome, moved, IsFrontierStep, IsFrontier, CanApply}
 use Rattle.drt_refine.specs.declared.step.CombinationState.{CombinationState}
 use Rattle.drt_refine.specs.declared.step.FrontierStep.{FrontierStep}
 use Rattle.drt_refine.specs.declared.step.FrontierStep.TheVariants.{Take, Pass, Split, Fail}
@@ -16,24 +16,24 @@ use Rattle.drt_refine.specs.declared.step.FrontierReply.TheVariants.{Spent}
 use Rattle.drt_refine.specs.declared.step.FrontierEntry.{FrontierEntry}
 use Rattle.drt_refine.proofs.Runs.{run_facts}
 
-module _ (p : Plain) (old : View) (w : ℕ) where
-  pub made : (new : View) (step : FrontierStep) (reply : FrontierReply) (out : Outcome) → outcome p old w step ≡ out → new ≡ moved old out.state → reply ≡ out.reply → IsStep p old new w step reply
-  made new step reply out e n r = record { state = n ∙ ap (λ (x : Outcome). moved old x.state) (sym e); reply_is = r ∙ ap (λ (x : Outcome). x.reply) (sym e) }
+module _ (p : Plain) (old : FrontierView) (w : ℕ) where
+  pub made : (new : FrontierView) (step : FrontierStep) (reply : FrontierReply) (out : FrontierOutcome) → outcome p old w step ≡ out → new ≡ moved old out.state → reply ≡ out.reply → IsFrontierStep p old new w step reply
+  made new step reply out e n r = record { state = n ∙ ap (λ (x : FrontierOutcome). moved old x.state) (sym e); reply_is = r ∙ ap (λ (x : FrontierOutcome). x.reply) (sym e) }
 
   -- a step of a combination that the worker settles
-  pub settled : (new : View) (step : FrontierStep) (reply : FrontierReply) (k : ℕ) (x : CombinationState) → first is_failed old.combinations ≡ None → false ≡ nat_le old.budget (length old.log) →
+  pub settled : (new : FrontierView) (step : FrontierStep) (reply : FrontierReply) (k : ℕ) (x : CombinationState) → first is_failed old.combinations ≡ None → false ≡ nat_le old.budget (length old.log) →
       stepped (setting_of p old) (state_of old) w step ≡ cond (nat_le old.budget (length old.log)) (unchanged (state_of old) Spent) (logged (state_of old) (record { worker = w; step = step }) (changed k (with_state x) old.combinations) reply) →
-      new ≡ moved old (record { combinations = changed k (with_state x) old.combinations; log = old.log ++ record { worker = w; step = step } ∷ [] }) → IsStep p old new w step reply
+      new ≡ moved old (record { combinations = changed k (with_state x) old.combinations; log = old.log ++ record { worker = w; step = step } ∷ [] }) → IsFrontierStep p old new w step reply
   settled new step reply k x f h e n = made new step reply (logged (state_of old) (record { worker = w; step = step }) (changed k (with_state x) old.combinations) reply)
       (ap (λ y. step_by (setting_of p old) (state_of old) w step y) f ∙ (e ∙ ap (λ y. cond y (unchanged (state_of old) Spent) (logged (state_of old) (record { worker = w; step = step }) (changed k (with_state x) old.combinations) reply)) (sym h))) n refl
 
 -- a step changes nothing, or adds itself to the log
-pub data Logs (s : State) (e : FrontierEntry) (x : State) : Type 0 where
+pub data Logs (s : FrontierState) (e : FrontierEntry) (x : FrontierState) : Type 0 where
   same : x ≡ s → Logs s e x
   adds : x.log ≡ s.log ++ e ∷ [] → Logs s e x
 
-module _ (t : Setting) (s : State) (w : ℕ) where
-  cond_logs : (e : FrontierEntry) (b : Bool) (x y : Outcome) → Logs s e x.state → Logs s e y.state → Logs s e (cond b x y).state
+module _ (t : FrontierSetting) (s : FrontierState) (w : ℕ) where
+  cond_logs : (e : FrontierEntry) (b : Bool) (x y : FrontierOutcome) → Logs s e x.state → Logs s e y.state → Logs s e (cond b x y).state
   cond_logs e true x y p q = p
   cond_logs e false x y p q = q
 
@@ -64,27 +64,27 @@ module _ (t : Setting) (s : State) (w : ℕ) where
   step_logs step = by_logs step (first is_failed s.combinations)
 
 -- a step keeps what a frontier over the forest is
-module _ (p : Plain) (old : View) (w : ℕ) (step : FrontierStep) (front : IsFrontier p old) (can : CanApply p old w step) where
-  kept_by : (x : State) → x ≡ (outcome p old w step).state → Logs (state_of old) (record { worker = w; step = step }) x → IsFrontier p (moved old x)
-  kept_by x h (same e) = subst (λ (s : State). IsFrontier p (moved old s)) (sym e) front
+module _ (p : Plain) (old : FrontierView) (w : ℕ) (step : FrontierStep) (front : IsFrontier p old) (can : CanApply p old w step) where
+  kept_by : (x : FrontierState) → x ≡ (outcome p old w step).state → Logs (state_of old) (record { worker = w; step = step }) x → IsFrontier p (moved old x)
+  kept_by x h (same e) = subst (λ (s : FrontierState). IsFrontier p (moved old s)) (sym e) front
   kept_by x h (adds e) =
-      let t : Setting = setting_of p old in
+      let t : FrontierSetting = setting_of p old in
       let entry : FrontierEntry = record { worker = w; step = step } in
-      let can_then : CanStep t (replay t old.log) w step = subst (λ (s : State). CanStep t s w step) front.state can in
-      let logs : (step_of t (state_of old) w step).state.log ≡ (state_of old).log ++ entry ∷ [] = ap (λ (s : State). s.log) (sym h) ∙ e in
-      let logs_then : (step_of t (replay t old.log) w step).state.log ≡ (replay t old.log).log ++ entry ∷ [] = subst (λ (s : State). (step_of t s w step).state.log ≡ s.log ++ entry ∷ []) front.state logs in
-      let run : IsRun t (old.log ++ entry ∷ []) = run_join (after t) (CanEnter t) (λ (s : State). s.log) old.log (entry ∷ []) (opening_state t) front.run (can_then, logs_then, tt) in
+      let can_then : CanStep t (replay t old.log) w step = subst (λ (s : FrontierState). CanStep t s w step) front.state can in
+      let logs : (step_of t (state_of old) w step).state.log ≡ (state_of old).log ++ entry ∷ [] = ap (λ (s : FrontierState). s.log) (sym h) ∙ e in
+      let logs_then : (step_of t (replay t old.log) w step).state.log ≡ (replay t old.log).log ++ entry ∷ [] = subst (λ (s : FrontierState). (step_of t s w step).state.log ≡ s.log ++ entry ∷ []) front.state logs in
+      let run : IsRun t (old.log ++ entry ∷ []) = run_join (after t) (CanEnter t) (λ (s : FrontierState). s.log) old.log (entry ∷ []) (opening_state t) front.run (can_then, logs_then, tt) in
       let more : replay t (old.log ++ entry ∷ []) ≡ (step_of t (replay t old.log) w step).state = replay_join (after t) old.log (entry ∷ []) (opening_state t) in
       record {
         forest = front.forest;
         roots = front.roots;
         run = subst (λ (l : List FrontierEntry). IsRun t l) (sym e) run;
-        state = h ∙ (ap (λ (s : State). (step_of t s w step).state) front.state ∙ (sym more ∙ ap (λ l. replay t l) (sym e)));
+        state = h ∙ (ap (λ (s : FrontierState). (step_of t s w step).state) front.state ∙ (sym more ∙ ap (λ l. replay t l) (sym e)));
       }
 
-  pub step_kept : (new : View) (reply : FrontierReply) → IsStep p old new w step reply → IsFrontier p new
-  step_kept new reply h = subst (λ (v : View). IsFrontier p v) (sym h.state) (kept_by (outcome p old w step).state refl (step_logs (setting_of p old) (state_of old) w step))
+  pub step_kept : (new : FrontierView) (reply : FrontierReply) → IsFrontierStep p old new w step reply → IsFrontier p new
+  step_kept new reply h = subst (λ (v : FrontierView). IsFrontier p v) (sym h.state) (kept_by (outcome p old w step).state refl (step_logs (setting_of p old) (state_of old) w step))
 
 -- the facts of a frontier
-pub frontier_facts : (p : Plain) (v : View) → IsFrontier p v → Facts (setting_of p v) v.combinations
-frontier_facts p v front = subst (λ (s : State). Facts (setting_of p v) s.combinations) (sym front.state) (run_facts (setting_of p v) front.forest front.roots v.log front.run)
+pub frontier_facts : (p : Plain) (v : FrontierView) → IsFrontier p v → Facts (setting_of p v) v.combinations
+frontier_facts p v front = subst (λ (s : FrontierState). Facts (setting_of p v) s.combinations) (sym front.state) (run_facts (setting_of p v) front.forest front.roots v.log front.run)

@@ -10,7 +10,7 @@ use Rattle.drt_worklist.proofs.Lists.{Found, found, none_found}
 use Rattle.drt_worklist.proofs.Runs.{run_keeps}
 use Rattle.drt_refine.specs.Below.{AreBelow}
 use Rattle.drt_refine.specs.Combination.{Combination, fresh, is_pending, is_pending_state, is_taken, is_taken_state, is_failed, is_failed_state, is_split_state}
-use Rattle.drt_refine.specs.Machine.{Setting, State, opening_state, after, CanEnter, replay, IsRun, is_finished, PassesFor, IsHopeless}
+use Rattle.drt_refine.specs.Machine.{FrontierSetting, FrontierState, opening_state, after, CanEnter, replay, IsRun, is_finished, PassesFor, IsHopeless}
 use Rattle.drt_refine.specs.Facts.{IsTrueOf, IsStanding, Facts, AreInPlace, IsPassed}
 use Rattle.drt_refine.specs.declared.step.CombinationState.{CombinationState}
 use Rattle.drt_refine.specs.declared.step.CombinationState.TheVariants.{Pending, Taken as TakenBy, Passed as PassedAt, Split as SplitAt, Failed as HasFailed}
@@ -18,7 +18,7 @@ use Rattle.drt_refine.specs.declared.step.FrontierEntry.{FrontierEntry}
 use Rattle.drt_refine.proofs.Below.{passes_below}
 use Rattle.drt_refine.proofs.Steps.{step_keeps}
 
-module _ (t : Setting) (forest : IsForest t.forest) (roots : AreChosen t.deadline t.forest.pool t.roots) where
+module _ (t : FrontierSetting) (forest : IsForest t.forest) (roots : AreChosen t.deadline t.forest.pool t.roots) where
   opening_told : (id : ℕ) (x : Combination) → slice_get (fresh t.roots ∷ []) id ≡ Some x → IsTrueOf t x.nodes x.state × AreInPlace t x.nodes
   opening_told zero x h = subst (λ (y : Combination). IsTrueOf t y.nodes y.state × AreInPlace t y.nodes) (same_Some (fresh t.roots) x h) (tt, (roots, refl))
   opening_told (suc i) x h = absurd (none-some x h)
@@ -32,7 +32,7 @@ module _ (t : Setting) (forest : IsForest t.forest) (roots : AreChosen t.deadlin
 
   -- the facts hold after every run
   pub run_facts : (es : List FrontierEntry) → IsRun t es → Facts t (replay t es).combinations
-  run_facts es run = run_keeps (after t) (CanEnter t) (λ (s : State). s.log) (λ (s : State). Facts t s.combinations) (λ s e can facts. step_keeps t forest s e.worker facts e.step can) es (opening_state t) opening_facts run
+  run_facts es run = run_keeps (after t) (CanEnter t) (λ (s : FrontierState). s.log) (λ (s : FrontierState). Facts t s.combinations) (λ s e can facts. step_keeps t forest s e.worker facts e.step can) es (opening_state t) opening_facts run
 
 and_left : (b c : Bool) → (b && c) ≡ true → b ≡ true
 and_left true c h = refl
@@ -47,12 +47,12 @@ none_of None e = refl
 none_of (Some k) e = absurd (cc)
 
 -- where the state is finished, none is pending, taken or failed
-pub record AreNone (s : State) : Type 0 where
+pub record AreNone (s : FrontierState) : Type 0 where
   pub pending : first is_pending s.combinations ≡ None
   pub taken : first is_taken s.combinations ≡ None
   pub failed : first is_failed s.combinations ≡ None
 
-pub finished_none : (t : Setting) (s : State) → is_finished t s ≡ true → AreNone s
+pub finished_none : (t : FrontierSetting) (s : FrontierState) → is_finished t s ≡ true → AreNone s
 finished_none t s h =
     let p : Bool = is_none (first is_pending s.combinations) in
     let q : Bool = is_none (first is_taken s.combinations) in
@@ -82,7 +82,7 @@ failed_state (PassedAt time) h = absurd (cc)
 failed_state (SplitAt a b c) h = absurd (cc)
 failed_state HasFailed h = refl
 
-module _ (t : Setting) (s : State) (facts : Facts t s.combinations) where
+module _ (t : FrontierSetting) (s : FrontierState) (facts : Facts t s.combinations) where
   -- where it is finished, each tuple below the roots is below a passed combination, whose time passes for the tuple
   pub finished_passed : ((leaf n u : ℕ) → IsUnder t.forest leaf n → value_at (values t.forest leaf) u ≤ value_at (values t.forest n) u) → is_finished t s ≡ true → (tuple : List ℕ) → AreBelow t.forest tuple t.roots → IsPassed t s.combinations tuple
   finished_passed above h tuple below =

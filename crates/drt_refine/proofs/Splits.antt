@@ -4,7 +4,7 @@ use Rattle.std.specs.Prelude.{slice_get, nat_le}
 use Rattle.drt_worklist.specs.Places.{first}
 use Rattle.drt_tree.specs.Tree.{Plain, children}
 use Rattle.drt_refine.specs.Facts.{Facts}
-use Rattle.drt_refine.specs.View.{View, setting_of, state_of, moved, IsStep, IsFrontier, CanApply}
+use Rattle.drt_refine.specs.View.{FrontierView, setting_of, state_of, moved, IsFrontierStep, IsFrontier, CanApply}
 use Rattle.drt_refine.specs.Combination.{Combination, is_failed, is_taken, is_taken_state}
 use Rattle.drt_refine.specs.Machine.{halves, step_by, unchanged, halved, halved_at, children_at}
 use Rattle.drt_refine.specs.declared.step.CombinationState.{CombinationState}
@@ -16,7 +16,7 @@ use Rattle.drt_refine.proofs.Below.{child_within}
 use Rattle.drt_refine.proofs.Making.{made, frontier_facts}
 
 -- what the conditions of a Split give
-pub record Splitting (p : Plain) (v : View) (w id place : ℕ) : Type 0 where
+pub record Splitting (p : Plain) (v : FrontierView) (w id place : ℕ) : Type 0 where
   pub combination : Combination
   pub node : ℕ
   pub left : ℕ
@@ -28,7 +28,7 @@ pub record Splitting (p : Plain) (v : View) (w id place : ℕ) : Type 0 where
   pub pair : children p node ≡ Some (left, right)
   pub within : node < length p.nodes
 
-pub splitting : (p : Plain) (v : View) (w id place : ℕ) → IsFrontier p v → CanApply p v w (Split id place) → Splitting p v w id place
+pub splitting : (p : Plain) (v : FrontierView) (w id place : ℕ) → IsFrontier p v → CanApply p v w (Split id place) → Splitting p v w id place
 splitting p v w id place front can =
     let facts : Facts (setting_of p v) v.combinations = frontier_facts p v front in
     record {
@@ -44,8 +44,8 @@ splitting p v w id place front can =
       within = child_within p can.2.node can.2.left can.2.right can.2.children;
     }
 
-pub split_step : (p : Plain) (old new : View) (w id place n left right : ℕ) (c : Combination) (reply : FrontierReply) → first is_failed old.combinations ≡ None → false ≡ nat_le old.budget (length old.log) → slice_get old.combinations id ≡ Some c → slice_get c.nodes place ≡ Some n → children p n ≡ Some (left, right) →
-    new ≡ moved old (record { combinations = halves old.combinations id place (set c.nodes place left) (set c.nodes place right); log = old.log ++ record { worker = w; step = Split id place } ∷ [] }) → reply ≡ Halved (length old.combinations) (length old.combinations + 1) → IsStep p old new w (Split id place) reply
+pub split_step : (p : Plain) (old new : FrontierView) (w id place n left right : ℕ) (c : Combination) (reply : FrontierReply) → first is_failed old.combinations ≡ None → false ≡ nat_le old.budget (length old.log) → slice_get old.combinations id ≡ Some c → slice_get c.nodes place ≡ Some n → children p n ≡ Some (left, right) →
+    new ≡ moved old (record { combinations = halves old.combinations id place (set c.nodes place left) (set c.nodes place right); log = old.log ++ record { worker = w; step = Split id place } ∷ [] }) → reply ≡ Halved (length old.combinations) (length old.combinations + 1) → IsFrontierStep p old new w (Split id place) reply
 split_step p old new w id place n left right c reply f h at node_at pair is r =
     let t = setting_of p old in
     let s = state_of old in

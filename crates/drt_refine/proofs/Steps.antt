@@ -7,7 +7,7 @@ use Rattle.drt_steps.specs.Time.{AreChosen}
 use Rattle.drt_tree.specs.Tree.{IsForest, children}
 use Rattle.drt_refine.specs.Below.{AreBelow}
 use Rattle.drt_refine.specs.Combination.{Combination, fresh, with_state, is_pending, is_taken, is_failed, is_split_state}
-use Rattle.drt_refine.specs.Machine.{Setting, State, Outcome, is_full, halves, taken, halved, halved_at, children_at, stepped, step_by, step_of, CanStep, IsPairAt}
+use Rattle.drt_refine.specs.Machine.{FrontierSetting, FrontierState, FrontierOutcome, is_full, halves, taken, halved, halved_at, children_at, stepped, step_by, step_of, CanStep, IsPairAt}
 use Rattle.drt_refine.specs.Facts.{IsTrueOf, IsStanding, Facts, AreInPlace}
 use Rattle.drt_refine.specs.declared.step.CombinationState.{CombinationState}
 use Rattle.drt_refine.specs.declared.step.CombinationState.TheVariants.{Taken as TakenBy, Passed as PassedAt, Split as SplitAt, Failed as HasFailed}
@@ -17,7 +17,7 @@ use Rattle.drt_refine.specs.declared.step.FrontierEntry.{FrontierEntry}
 use Rattle.drt_worklist.proofs.Lists.{Before, before_change, After, after_change, earlier, later, before_join, after_join, after_end, Found, found}
 use Rattle.drt_refine.proofs.Below.{below_half, chosen_halves, length_set}
 
-module _ (t : Setting) (forest : IsForest t.forest) where
+module _ (t : FrontierSetting) (forest : IsForest t.forest) where
   -- the combination at k gets a state that is true of its nodes
   module _ (combinations : List Combination) (k : ℕ) (c : Combination) (s : CombinationState) (at : slice_get combinations k ≡ Some c) (is : IsTrueOf t c.nodes s) (facts : Facts t combinations) where
     told : (id : ℕ) (x : Combination) → slice_get (changed k (with_state s) combinations) id ≡ Some x → IsTrueOf t x.nodes x.state × (AreInPlace t x.nodes)
@@ -116,11 +116,11 @@ module _ (t : Setting) (forest : IsForest t.forest) where
       nodes = λ id x h. (split_told id x h).1;
     }
 
-  cond_keeps : (b : Bool) (x y : Outcome) → Facts t x.state.combinations → Facts t y.state.combinations → Facts t (cond b x y).state.combinations
+  cond_keeps : (b : Bool) (x y : FrontierOutcome) → Facts t x.state.combinations → Facts t y.state.combinations → Facts t (cond b x y).state.combinations
   cond_keeps true x y p q = p
   cond_keeps false x y p q = q
 
-  module _ (s : State) (w : ℕ) (facts : Facts t s.combinations) where
+  module _ (s : FrontierState) (w : ℕ) (facts : Facts t s.combinations) where
     take_keeps : (o u : Option ℕ) → first is_pending s.combinations ≡ o → Facts t (taken t s w o u).state.combinations
     take_keeps None None e = facts
     take_keeps None (Some k) e = cond_keeps (is_full t s) _ _ facts facts

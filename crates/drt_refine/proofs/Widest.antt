@@ -4,7 +4,7 @@ use Rattle.std.specs.Prelude.{slice_get}
 use Rattle.std.proofs.lemmas.Option.{same_Some, slice_get_within}
 use Rattle.drt_tree.specs.Tree.{Plain, IsForest, children, leaves}
 use Rattle.drt_refine.specs.Below.{IsConcrete}
-use Rattle.drt_refine.specs.Eager.{IsPlace}
+use Rattle.drt_refine.specs.Eager.{IsSplitPlace}
 
 module _ (f : Plain) (nodes : List ℕ) where
   -- None of the first i nodes has more leaves than the number.
@@ -57,7 +57,7 @@ module _ (f : Plain) (forest : IsForest f) (pairs : (n l r : ℕ) → children f
   pair_by n (Some p) e le = (p.0, p.1, e)
 
   -- after all nodes
-  pub place_of : (nodes : List ℕ) (most : ℕ) (o : Option ℕ) → AreAtMost f nodes (length nodes) most → IsBest f nodes (length nodes) most o → IsPlace f nodes o
+  pub place_of : (nodes : List ℕ) (most : ℕ) (o : Option ℕ) → AreAtMost f nodes (length nodes) most → IsBest f nodes (length nodes) most o → IsSplitPlace f nodes o
   place_of nodes most None seen best = concrete nodes (λ q m at. let a : leaves f m ≤ most = seen q m (slice_get_within nodes q m at) at in let e : most ≡ 1 = best in omega arith)
   place_of nodes most (Some p) seen best =
       let e : leaves f best.0 ≡ most = best.2 in

@@ -8,7 +8,7 @@ use Rattle.drt_worklist.proofs.Lists.{Found, found, total_changed, total_join, l
 use Rattle.drt_worklist.proofs.Runs.{run_keeps, run_log}
 use Rattle.drt_refine.specs.Below.{tuples}
 use Rattle.drt_refine.specs.Combination.{Combination, fresh, with_state, is_pending, is_pending_state, is_taken, is_failed}
-use Rattle.drt_refine.specs.Machine.{Setting, State, Outcome, is_full, taken, halved, halved_at, children_at, stepped, step_by, step_of, CanStep, IsPairAt, opening_state, after, CanEnter, replay, IsRun}
+use Rattle.drt_refine.specs.Machine.{FrontierSetting, FrontierState, FrontierOutcome, is_full, taken, halved, halved_at, children_at, stepped, step_by, step_of, CanStep, IsPairAt, opening_state, after, CanEnter, replay, IsRun}
 use Rattle.drt_refine.specs.Facts.{left_of, left, IsBounded}
 use Rattle.drt_refine.specs.declared.step.CombinationState.{CombinationState}
 use Rattle.drt_refine.specs.declared.step.CombinationState.TheVariants.{Pending, Taken as TakenBy, Passed as PassedAt, Split as SplitAt, Failed as HasFailed}
@@ -17,7 +17,7 @@ use Rattle.drt_refine.specs.declared.step.FrontierStep.TheVariants.{Take, Pass, 
 use Rattle.drt_refine.specs.declared.step.FrontierEntry.{FrontierEntry}
 use Rattle.drt_refine.proofs.Below.{tuples_some, tuples_halved}
 
-module _ (t : Setting) (forest : IsForest t.forest) (some : (n : ℕ) → 1 ≤ leaves t.forest n) where
+module _ (t : FrontierSetting) (forest : IsForest t.forest) (some : (n : ℕ) → 1 ≤ leaves t.forest n) where
   left_pending : (p : ℕ) (x : CombinationState) → is_pending_state x ≡ true → left_of t p x ≡ 4 * p - 2
   left_pending p Pending g = refl
   left_pending p (TakenBy w) g = absurd (cc)
@@ -26,7 +26,7 @@ module _ (t : Setting) (forest : IsForest t.forest) (some : (n : ℕ) → 1 ≤ 
   left_pending p HasFailed g = absurd (cc)
 
   -- a step that is logged uses one of the entries that could still come
-  module _ (s : State) (e : FrontierEntry) (combinations : List Combination) where
+  module _ (s : FrontierState) (e : FrontierEntry) (combinations : List Combination) where
     more : IsBounded t s → total (left t) combinations + 1 ≤ total (left t) s.combinations → IsBounded t (record { combinations = combinations; log = s.log ++ e ∷ [] })
     more work a =
         let l : length (s.log ++ e ∷ []) ≡ length s.log + 1 = length_join s.log (e ∷ []) in
@@ -34,8 +34,8 @@ module _ (t : Setting) (forest : IsForest t.forest) (some : (n : ℕ) → 1 ≤ 
         let g : length (s.log ++ e ∷ []) + total (left t) combinations + 2 ≤ 4 * tuples t.forest t.roots = omega arith in
         g
 
-  module _ (s : State) (w : ℕ) (bounded : IsBounded t s) where
-    either_bounded : (b : Bool) (x y : Outcome) → IsBounded t x.state → IsBounded t y.state → IsBounded t (cond b x y).state
+  module _ (s : FrontierState) (w : ℕ) (bounded : IsBounded t s) where
+    either_bounded : (b : Bool) (x y : FrontierOutcome) → IsBounded t x.state → IsBounded t y.state → IsBounded t (cond b x y).state
     either_bounded true x y p q = p
     either_bounded false x y p q = q
 
@@ -107,11 +107,11 @@ module _ (t : Setting) (forest : IsForest t.forest) (some : (n : ℕ) → 1 ≤ 
       g
 
   pub run_bounded : (es : List FrontierEntry) → IsRun t es → IsBounded t (replay t es)
-  run_bounded es run = run_keeps (after t) (CanEnter t) (λ (s : State). s.log) (λ (s : State). IsBounded t s) (λ s e can bounded. step_bounded s e.worker bounded e.step can) es (opening_state t) opening_bounded run
+  run_bounded es run = run_keeps (after t) (CanEnter t) (λ (s : FrontierState). s.log) (λ (s : FrontierState). IsBounded t s) (λ s e can bounded. step_bounded s e.worker bounded e.step can) es (opening_state t) opening_bounded run
 
   -- a run has fewer than four entries for each tuple below the roots
   pub run_short : (es : List FrontierEntry) → IsRun t es → length es + 2 ≤ 4 * tuples t.forest t.roots
   run_short es run =
       let a : length (replay t es).log + total (left t) (replay t es).combinations + 2 ≤ 4 * tuples t.forest t.roots = run_bounded es run in
-      let b : length (replay t es).log ≡ length es = ap length (run_log (after t) (CanEnter t) (λ (s : State). s.log) es (opening_state t) run) in
+      let b : length (replay t es).log ≡ length es = ap length (run_log (after t) (CanEnter t) (λ (s : FrontierState). s.log) es (opening_state t) run) in
       omega arith

@@ -6,7 +6,7 @@ use Rattle.drt_tree.specs.Tree.{Plain, children, leaves}
 use Rattle.drt_worklist.specs.Runs.{AllAlong}
 use Rattle.drt_refine.specs.Below.{IsConcrete}
 use Rattle.drt_refine.specs.Combination.{Combination}
-use Rattle.drt_refine.specs.Machine.{Setting, State, NonePasses, after, opening_state}
+use Rattle.drt_refine.specs.Machine.{FrontierSetting, FrontierState, NonePasses, after, opening_state}
 use Rattle.drt_refine.specs.declared.step.FrontierStep.{FrontierStep}
 use Rattle.drt_refine.specs.declared.step.FrontierStep.TheVariants.{Take, Pass, Split, Fail}
 use Rattle.drt_refine.specs.declared.step.FrontierEntry.{FrontierEntry}
@@ -20,11 +20,11 @@ pub record IsWidest (f : Plain) (nodes : List ℕ) (place : ℕ) : Type 0 where
 
 -- The place at which a combination of these nodes is to be split: none exactly where each is a leaf, and else the place whose node
 -- has the most leaves under it, the least one in a tie.
-abbrev pub IsPlace : Plain → List ℕ → Option ℕ → Type 0
-IsPlace f nodes None = IsConcrete f nodes
-IsPlace f nodes (Some place) = (w : IsWidest f nodes place) × (l : ℕ) × (r : ℕ) × (children f w.node ≡ Some (l, r))
+abbrev pub IsSplitPlace : Plain → List ℕ → Option ℕ → Type 0
+IsSplitPlace f nodes None = IsConcrete f nodes
+IsSplitPlace f nodes (Some place) = (w : IsWidest f nodes place) × (l : ℕ) × (r : ℕ) × (children f w.node ≡ Some (l, r))
 
-module _ (t : Setting) where
+module _ (t : FrontierSetting) where
   -- The step is what a worker that settles the combination makes: it passes with the least time that passes; it splits only
   -- where no time passes, and at the widest place.
   abbrev pub IsEagerFor : Combination → FrontierStep → Type 0
@@ -41,11 +41,11 @@ module _ (t : Setting) where
   settled_by (Fail id) = Some id
 
   -- The entry's step is eager for the combination that it settles.
-  abbrev pub IsEagerStep : State → FrontierEntry → Type 0
+  abbrev pub IsEagerStep : FrontierState → FrontierEntry → Type 0
   IsEagerStep s e = (id : ℕ) (c : Combination) → settled_by e.step ≡ Some id → slice_get s.combinations id ≡ Some c → IsEagerFor c e.step
 
   -- Each entry's step is eager, one after another.
-  abbrev pub AreEagerFrom : State → List FrontierEntry → Type 0
+  abbrev pub AreEagerFrom : FrontierState → List FrontierEntry → Type 0
   AreEagerFrom s es = AllAlong (after t) IsEagerStep s es
 
   -- The log is eager.

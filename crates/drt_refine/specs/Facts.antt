@@ -4,12 +4,12 @@ use Rattle.drt_steps.specs.Time.{AreChosen}
 use Rattle.drt_worklist.specs.Places.{total}
 use Rattle.drt_refine.specs.Below.{AreBelow, tuples}
 use Rattle.drt_refine.specs.Combination.{Combination, is_split_state}
-use Rattle.drt_refine.specs.Machine.{Setting, State, PassesFor, IsHopeless, IsRun}
+use Rattle.drt_refine.specs.Machine.{FrontierSetting, FrontierState, PassesFor, IsHopeless, IsRun}
 use Rattle.drt_refine.specs.declared.step.FrontierEntry.{FrontierEntry}
 use Rattle.drt_refine.specs.declared.step.CombinationState.{CombinationState}
 use Rattle.drt_refine.specs.declared.step.CombinationState.TheVariants.{Pending, Taken, Passed, Split, Failed}
 
-module _ (t : Setting) where
+module _ (t : FrontierSetting) where
   -- What a state says of a combination's nodes.
   abbrev pub IsTrueOf : List ℕ → CombinationState → Type 0
   IsTrueOf nodes Pending = Unit {0}
@@ -64,14 +64,14 @@ module _ (t : Setting) where
   left c = left_of (tuples t.forest c.nodes) c.state
 
   -- The entries, and those that can still come, are fewer than four for each tuple below the roots.
-  abbrev pub IsBounded : State → Type 0
+  abbrev pub IsBounded : FrontierState → Type 0
   IsBounded s = length s.log + total left s.combinations + 2 ≤ 4 * tuples t.forest t.roots
 
 -- The setting with another budget.
-abbrev pub with_budget : ℕ → Setting → Setting
+abbrev pub with_budget : ℕ → FrontierSetting → FrontierSetting
 with_budget budget t = record { forest = t.forest; roots = t.roots; wcet = t.wcet; deadline = t.deadline; budget = budget }
 
 -- One more entry can follow some entries under the budget.
-pub record CanGoOn (t : Setting) (budget : ℕ) (log : List FrontierEntry) : Type 0 where
+pub record CanGoOn (t : FrontierSetting) (budget : ℕ) (log : List FrontierEntry) : Type 0 where
   pub entry : FrontierEntry
   pub run : IsRun (with_budget budget t) (log ++ entry ∷ [])

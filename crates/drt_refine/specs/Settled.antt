@@ -3,18 +3,18 @@ use Rattle.std.specs.Prelude.{◌≡◌, ℕ, ◌+◌, ◌<◌, ◌⊎◌, Some,
 use Rattle.drt_steps.specs.Time.{IsLeastTime}
 use Rattle.drt_refine.specs.Below.{AreBelow}
 use Rattle.drt_refine.specs.Combination.{Combination}
-use Rattle.drt_refine.specs.Eager.{IsPlace}
-use Rattle.drt_refine.specs.Machine.{Setting, IsPairAt, NonePasses, IsHopeless}
+use Rattle.drt_refine.specs.Eager.{IsSplitPlace}
+use Rattle.drt_refine.specs.Machine.{FrontierSetting, IsPairAt, NonePasses, IsHopeless}
 use Rattle.drt_refine.specs.declared.step.CombinationState.{CombinationState}
 use Rattle.drt_refine.specs.declared.step.CombinationState.TheVariants.{Pending, Taken, Passed, Split, Failed}
 
 -- The combination passed or was split.
-abbrev pub IsDone : CombinationState → Type 0
-IsDone Pending = ⊥
-IsDone (Taken w) = ⊥
-IsDone (Passed time) = Unit {0}
-IsDone (Split place left right) = Unit {0}
-IsDone Failed = ⊥
+abbrev pub IsPassedOrSplit : CombinationState → Type 0
+IsPassedOrSplit Pending = ⊥
+IsPassedOrSplit (Taken w) = ⊥
+IsPassedOrSplit (Passed time) = Unit {0}
+IsPassedOrSplit (Split place left right) = Unit {0}
+IsPassedOrSplit Failed = ⊥
 
 -- The number is that of a half of a combination in this state.
 abbrev pub IsHalfOf : ℕ → CombinationState → Type 0
@@ -25,20 +25,20 @@ IsHalfOf k (Split place left right) = (k ≡ left) ⊎ (k ≡ right)
 IsHalfOf k Failed = ⊥
 
 -- The combination of that number has these nodes.
-pub record HasNodes (combinations : List Combination) (id : ℕ) (nodes : List ℕ) : Type 0 where
+pub record CombinationHasNodes (combinations : List Combination) (id : ℕ) (nodes : List ℕ) : Type 0 where
   pub combination : Combination
   pub at : slice_get combinations id ≡ Some combination
   pub are : combination.nodes ≡ nodes
 
-module _ (t : Setting) (combinations : List Combination) where
+module _ (t : FrontierSetting) (combinations : List Combination) where
   -- A combination of these nodes was split at the place into two, which come later: no time passes for the nodes, the place is
   -- the widest, and each half has a child in place of the pair.
   pub record IsSplitInto (id : ℕ) (nodes : List ℕ) (place left right : ℕ) : Type 0 where
     pub none : NonePasses t nodes
-    pub place_is : IsPlace t.forest nodes (Some place)
+    pub place_is : IsSplitPlace t.forest nodes (Some place)
     pub pair : IsPairAt t nodes place
-    pub left_has : HasNodes combinations left (slice_set nodes place pair.left)
-    pub right_has : HasNodes combinations right (slice_set nodes place pair.right)
+    pub left_has : CombinationHasNodes combinations left (slice_set nodes place pair.left)
+    pub right_has : CombinationHasNodes combinations right (slice_set nodes place pair.right)
     pub later : id < left
     pub next : right ≡ left + 1
 
@@ -53,7 +53,7 @@ module _ (t : Setting) (combinations : List Combination) where
   -- What holds of the combinations after any eager run.
   pub record AreSettled : Type 0 where
     -- the first combination has the roots
-    pub opening : HasNodes combinations 0 t.roots
+    pub opening : CombinationHasNodes combinations 0 t.roots
     -- what its state says of a combination is so
     pub each : (id : ℕ) (c : Combination) → slice_get combinations id ≡ Some c → IsSettled id c.nodes c.state
     -- a tuple below a combination is below the roots

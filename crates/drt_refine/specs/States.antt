@@ -5,7 +5,7 @@ use Rattle.drt_refine.specs.Combination.{is_pending_state, is_taken_state, is_fa
 use Rattle.drt_refine.specs.declared.step.CombinationState.{CombinationState}
 
 -- Some states, and how many there is room for.
-pub record Stock : Type 0 where
+pub record CombinationStock : Type 0 where
   pub items : List CombinationState
   pub room : ℕ
 

@@ -3,7 +3,7 @@
 ghost use Rattle.std.specs.Prelude.{◌≡◌, ◌<◌, length, slice_get, Some};
 ghost use Rattle.drt_worklist.specs.Places.{first};
 ghost use Rattle.drt_refine.specs.Combination.{Combination, is_taken};
-ghost use Rattle.drt_refine.specs.Drive.{Drives, StopsAt, Settles, Turn, ends};
+ghost use Rattle.drt_refine.specs.Drive.{DrivesFrontier, StopsAt, Settles, FrontierTurn, ends};
 ghost use Rattle.drt_refine.specs.Eager.{IsEager};
 ghost use Rattle.drt_refine.specs.View.{IsFrontier, setting_of, state_of};
 ghost use Rattle.drt_refine.specs.declared.step.CombinationState.TheVariants.{Taken as TakenBy};
@@ -22,7 +22,7 @@ impl Frontier {
     pub fn drive(&mut self, forest: &Forest, worker: u32) -> FrontierReply
         requires frontier { IsFrontier forest.now self.old }
         ensures frontier { IsFrontier forest.now self.new }
-        ensures drives { Drives forest.now worker self.old self.new }
+        ensures drives { DrivesFrontier forest.now worker self.old self.new }
         ensures eager { IsEager (setting_of forest.now self.old) self.old.log → IsEager (setting_of forest.now self.old) self.new.log }
         ensures stops { StopsAt (setting_of forest.now self.new) (state_of self.new) result }
     {
@@ -38,7 +38,7 @@ impl Frontier {
     fn turn(&mut self, forest: &Forest, worker: u32) -> FrontierReply
         requires frontier { IsFrontier forest.now self.old }
         ensures frontier { IsFrontier forest.now self.new }
-        ensures turn { Turn forest.now worker self.old self.new result }
+        ensures turn { FrontierTurn forest.now worker self.old self.new result }
     {
         match self.first_taken() {
             None => self.apply(forest, worker, FrontierStep::Take),

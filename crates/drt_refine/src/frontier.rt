@@ -3,7 +3,7 @@
 ghost use Rattle.std.specs.Prelude.{◌≡◌, ◌+◌, ◌≤◌, ◌++◌, length, IfOk, vec_capacity};
 ghost use Rattle.drt_steps.specs.Time.{AreChosen};
 ghost use Rattle.drt_refine.specs.Machine.{opening_state};
-ghost use Rattle.drt_refine.specs.View.{IsFrontier, setting_of, state_of, CanApply, IsStep};
+ghost use Rattle.drt_refine.specs.View.{IsFrontier, setting_of, state_of, CanApply, IsFrontierStep};
 
 use crate::states::States;
 use crate::step::{FrontierEntry, FrontierReply, FrontierStep};
@@ -32,9 +32,9 @@ impl Model for Frontier {
     ghost use Rattle.std.specs.Prelude.{◌≡◌, ◌+◌, ◌*◌, ◌≤◌, length, vec_capacity};
     ghost use Rattle.drt_worklist.specs.Places.{places};
     ghost use Rattle.drt_refine.specs.Combination.{is_taken_state};
-    ghost use Rattle.drt_refine.specs.View.{View, combinations_of};
+    ghost use Rattle.drt_refine.specs.View.{FrontierView, combinations_of};
 
-    ghost Value = { View };
+    ghost Value = { FrontierView };
 
     ghost view = { λ f. record { roots = f.roots.items; wcet = f.wcet; deadline = f.deadline; budget = f.budget; combinations = combinations_of (length f.roots.items) f.nodes.items f.states.items; log = f.log.items } };
 
@@ -90,7 +90,7 @@ impl Frontier {
     pub fn apply(&mut self, forest: &Forest, worker: u32, step: FrontierStep) -> FrontierReply
         requires frontier { IsFrontier forest.now self.old }
         requires can { CanApply forest.now self.old worker step }
-        ensures step { IsStep forest.now self.old self.new worker step result }
+        ensures step { IsFrontierStep forest.now self.old self.new worker step result }
         ensures frontier { IsFrontier forest.now self.new }
     {
         self.make(forest, worker, step)

@@ -2,7 +2,7 @@
 
 ghost use Rattle.std.specs.Prelude.{◌≡◌, ℕ, ◌≤◌, length};
 ghost use Rattle.drt_refine.specs.Below.{AreNodes};
-ghost use Rattle.drt_refine.specs.Eager.{IsPlace};
+ghost use Rattle.drt_refine.specs.Eager.{IsSplitPlace};
 
 use drt_tree::{Forest, every_forest};
 
@@ -11,7 +11,7 @@ use drt_tree::{Forest, every_forest};
 pub fn choose_place(forest: &Forest, nodes: &[u32]) -> Option<u32>
     requires nodes { AreNodes forest.now nodes.now }
     requires few { length nodes.now ≤ 31 }
-    ensures { IsPlace forest.now nodes.now result }
+    ensures { IsSplitPlace forest.now nodes.now result }
 {
     forest.show_sound();
     every_forest();

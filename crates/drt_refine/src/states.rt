@@ -29,9 +29,9 @@ pub(crate) struct States {
 
 impl Model for States {
     ghost use Rattle.std.specs.Prelude.{◌≤◌, ◌<◌, length, vec_capacity};
-    ghost use Rattle.drt_refine.specs.States.{Stock, AreSorted};
+    ghost use Rattle.drt_refine.specs.States.{CombinationStock, AreSorted};
 
-    ghost Value = { Stock };
+    ghost Value = { CombinationStock };
 
     ghost view = { λ s. record { items = s.items.items; room = s.room } };
 

@@ -4,7 +4,7 @@ ghost use Rattle.std.specs.Prelude.{◌≡◌, ℕ, ◌+◌, ◌≤◌, ◌<◌,
 ghost use Rattle.drt_worklist.specs.Places.{first, changed};
 ghost use Rattle.drt_refine.specs.Combination.{Combination, with_state, is_pending, is_pending_state, is_taken, is_taken_state, is_failed};
 ghost use Rattle.drt_refine.specs.Machine.{halves};
-ghost use Rattle.drt_refine.specs.View.{IsFrontier, CanApply, IsStep, moved};
+ghost use Rattle.drt_refine.specs.View.{IsFrontier, CanApply, IsFrontierStep, moved};
 ghost use Rattle.drt_refine.specs.declared.step.CombinationState.TheVariants.{Taken as TakenBy};
 ghost use Rattle.drt_refine.specs.declared.step.FrontierStep.TheVariants.{Take, Split};
 ghost use Rattle.drt_refine.specs.declared.step.FrontierReply.TheVariants.{Halved};
@@ -19,7 +19,7 @@ impl Frontier {
     pub(crate) fn make(&mut self, forest: &Forest, worker: u32, step: FrontierStep) -> FrontierReply
         requires frontier { IsFrontier forest.now self.old }
         requires can { CanApply forest.now self.old worker step }
-        ensures { IsStep forest.now self.old self.new worker step result }
+        ensures { IsFrontierStep forest.now self.old self.new worker step result }
     {
         match self.first_failed() {
             Some(id) => FrontierReply::Failed(id),
@@ -55,7 +55,7 @@ impl Frontier {
     // The step Take, where none has failed.
     fn take(&mut self, worker: u32) -> FrontierReply
         requires { first is_failed self.old.combinations ≡ None }
-        ensures { (forest : _) → IsStep forest self.old self.new worker Take result }
+        ensures { (forest : _) → IsFrontierStep forest self.old self.new worker Take result }
     {
         match self.first_pending() {
             None => match self.first_taken() {
@@ -108,7 +108,7 @@ impl Frontier {
         requires can { CanApply forest.now self.old worker (Split id place) }
         requires none { first is_failed self.old.combinations ≡ None }
         requires room { length self.old.log < self.old.budget }
-        ensures { IsStep forest.now self.old self.new worker (Split id place) result }
+        ensures { IsFrontierStep forest.now self.old self.new worker (Split id place) result }
     {
         let node = self.node_at(id, place);
         match forest.children(node) {

@@ -8,8 +8,8 @@ ghost use Rattle.drt_refine.specs.Below.{AreBelow, tuples};
 ghost use Rattle.drt_refine.specs.Combination.{Combination, is_failed};
 ghost use Rattle.drt_refine.specs.Eager.{IsEager};
 ghost use Rattle.drt_refine.specs.Facts.{Facts, IsPassed, CanGoOn};
-ghost use Rattle.drt_refine.specs.Machine.{Setting, IsRun, replay, is_finished, IsHopeless};
-ghost use Rattle.drt_refine.specs.Settled.{AreSettled, IsDone};
+ghost use Rattle.drt_refine.specs.Machine.{FrontierSetting, IsRun, replay, is_finished, IsHopeless};
+ghost use Rattle.drt_refine.specs.Settled.{AreSettled, IsPassedOrSplit};
 
 use drt_tree::every_forest;
 
@@ -24,14 +24,14 @@ use drt_tree::every_forest;
 ///
 /// The function does nothing: its contract is a theorem.
 pub fn over_every_interleaving()
-    ensures facts { (t : Setting) (log : _) → IsForest t.forest → AreChosen t.deadline t.forest.pool t.roots → IsRun t log → Facts t (replay t log).combinations }
-    ensures finished { (t : Setting) (log : _) → IsForest t.forest → AreChosen t.deadline t.forest.pool t.roots → IsRun t log → IsTrue (is_finished t (replay t log))
+    ensures facts { (t : FrontierSetting) (log : _) → IsForest t.forest → AreChosen t.deadline t.forest.pool t.roots → IsRun t log → Facts t (replay t log).combinations }
+    ensures finished { (t : FrontierSetting) (log : _) → IsForest t.forest → AreChosen t.deadline t.forest.pool t.roots → IsRun t log → IsTrue (is_finished t (replay t log))
         → (tuple : List ℕ) → AreBelow t.forest tuple t.roots → IsPassed t (replay t log).combinations tuple }
-    ensures failed { (t : Setting) (log : _) (id : ℕ) → IsForest t.forest → AreChosen t.deadline t.forest.pool t.roots → IsRun t log
+    ensures failed { (t : FrontierSetting) (log : _) (id : ℕ) → IsForest t.forest → AreChosen t.deadline t.forest.pool t.roots → IsRun t log
         → first is_failed (replay t log).combinations ≡ Some id → (c : Combination) × (slice_get (replay t log).combinations id ≡ Some c) × IsHopeless t c.nodes }
-    ensures longer { (t : Setting) (log : _) (budget : ℕ) → IsRun t log → is_finished t (replay t log) ≡ false → first is_failed (replay t log).combinations ≡ None
+    ensures longer { (t : FrontierSetting) (log : _) (budget : ℕ) → IsRun t log → is_finished t (replay t log) ≡ false → first is_failed (replay t log).combinations ≡ None
         → t.budget ≤ budget → length log < budget → CanGoOn t budget log }
-    ensures short { (t : Setting) (log : _) → IsForest t.forest → IsRun t log → length log + 2 ≤ 4 * tuples t.forest t.roots }
+    ensures short { (t : FrontierSetting) (log : _) → IsForest t.forest → IsRun t log → length log + 2 ≤ 4 * tuples t.forest t.roots }
 {
     every_forest();
 }
@@ -45,6 +45,6 @@ pub fn over_every_interleaving()
 ///
 /// The function does nothing: its contract is a theorem.
 pub fn eager_settles()
-    ensures settled { (t : Setting) (log : _) → IsRun t log → IsEager t log → AreSettled t (replay t log).combinations }
-    ensures finished { (t : Setting) (log : _) → IsTrue (is_finished t (replay t log)) → (id : ℕ) (c : Combination) → slice_get (replay t log).combinations id ≡ Some c → IsDone c.state }
+    ensures settled { (t : FrontierSetting) (log : _) → IsRun t log → IsEager t log → AreSettled t (replay t log).combinations }
+    ensures finished { (t : FrontierSetting) (log : _) → IsTrue (is_finished t (replay t log)) → (id : ℕ) (c : Combination) → slice_get (replay t log).combinations id ≡ Some c → IsPassedOrSplit c.state }
 {}

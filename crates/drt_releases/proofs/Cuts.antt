@@ -2,7 +2,7 @@
 use Rattle.std.proofs.Common.{inl, inr, ◌≡◌, ℕ, ◌+◌, ◌<◌, ◌≤◌, ltb, List, [], ◌∷◌, ◌++◌, length, drop, get_or, refl, sym, subst, arith, ◌∙◌}
 use Rattle.std.proofs.lemmas.Bool.{cases_Bool, le-ltb, lt-ltb, ltb-true}
 use Rattle.std.proofs.lemmas.List.{append-nil, append_assoc}
-use Rattle.drt_model.specs.Digraph.{Digraph, IsSound, vertex_count}
+use Rattle.drt_model.specs.Digraph.{Digraph, IsSoundGraph, vertex_count}
 use Rattle.drt_model.specs.Walk.{IsPath, gap, last_of, span}
 use Rattle.drt_graph.proofs.Edges.{target_of}
 use Rattle.drt_busy.specs.Choice.{IsWalk, due_of}
@@ -16,7 +16,7 @@ pub record IsCut (g : Digraph) (d : ℕ) (walk kept : List ℕ) (u offset : ℕ)
   pub low : offset ≤ 4294967295
   pub built : kept ++ cut_from g d offset u rest ≡ cut g d walk
 
-module _ (g : Digraph) (sound : IsSound g) where
+module _ (g : Digraph) (sound : IsSoundGraph g) where
   pub cut_started : (d : ℕ) (w : List ℕ) (u : ℕ) → IsWalk g w → 0 < length w → u ≡ get_or w 0 u → IsCut g d w (u ∷ []) u 0 (drop 1 w)
   cut_started d [] u is some at = absurd (omega arith)
   cut_started d (v ∷ vs) u is some at = subst (λ x. IsCut g d (v ∷ vs) (x ∷ []) x 0 vs) (sym at) (record { here = is.0; path = is.1; low = omega arith; built = refl })

@@ -5,7 +5,7 @@ use Rattle.std.proofs.lemmas.List.{append_assoc, get_or-map, length-map}
 use Rattle.std.proofs.lemmas.List.Elements.{All-nil, All-cons, All-append}
 use Rattle.drt_model.specs.declared.jobs.Release.{Release}
 use Rattle.drt_model.specs.declared.tasks.Task.{Task}
-use Rattle.drt_model.specs.Digraph.{Digraph, IsSound, digraph_of, vertex_count}
+use Rattle.drt_model.specs.Digraph.{Digraph, IsSoundGraph, digraph_of, vertex_count}
 use Rattle.drt_model.specs.Walk.{gap, IsPath, deadline, last_of, span}
 use Rattle.drt_graph.specs.Graphs.{AreGraphs, graph_of, no_graph}
 use Rattle.drt_graph.proofs.Edges.{target_of}
@@ -45,7 +45,7 @@ started g k t items u (v ∷ vs) is due some at =
     })
 
 -- The next one.
-pub stepped : (g : Digraph) → IsSound g → (k t : ℕ) (whole items : List Release) (x u v : ℕ) (rest : List ℕ) → IsStep g k t whole items x u (v ∷ rest) → IsStep g k t whole (items ++ release_at g k (x + gap g u v) v ∷ []) (x + gap g u v) v rest
+pub stepped : (g : Digraph) → IsSoundGraph g → (k t : ℕ) (whole items : List Release) (x u v : ℕ) (rest : List ℕ) → IsStep g k t whole items x u (v ∷ rest) → IsStep g k t whole (items ++ release_at g k (x + gap g u v) v ∷ []) (x + gap g u v) v rest
 stepped g sound k t whole items x u v rest step =
     let y = x + gap g u v in
     record {
@@ -76,7 +76,7 @@ due_walks tasks graphs walks t same are due k l =
     let e : graph_of graphs k ≡ graph_at tasks k = ap (λ gs. graph_of gs k) same ∙ graph_same tasks k m in
     subst (λ g. IsWalk g (walks k) × (due_of g (walks k) ≤ t)) (sym e) (are k m, due k m)
 
-module _ (g : Digraph) (sound : IsSound g) (k t : ℕ) (few : k ≤ 4294967295) (near : t ≤ 1000000000000000000) where
+module _ (g : Digraph) (sound : IsSoundGraph g) (k t : ℕ) (few : k ≤ 4294967295) (near : t ≤ 1000000000000000000) where
   one_in_range : (x u : ℕ) → u < vertex_count g → x ≤ t → IsInRangeRelease (release_at g k x u)
   one_in_range x u here le = record { task = few; vertex = omega (arith, sound.few); time = omega arith; need = omega (arith, (sound.wcet u here).1) }
 
@@ -98,7 +98,7 @@ unfolding all_releases
 all_in_range tasks walks t graphs are due near zero l = All-nil IsInRangeRelease
 all_in_range tasks walks t graphs are due near (suc n) l =
     let few : n ≤ 4294967295 = omega (arith, graphs.few, length-map tasks digraph_of) in
-    let sound : IsSound (graph_at tasks n) = subst IsSound (graph_same tasks n l) (graphs.sound n no_graph (omega (arith, length-map tasks digraph_of))) in
+    let sound : IsSoundGraph (graph_at tasks n) = subst IsSoundGraph (graph_same tasks n l) (graphs.sound n no_graph (omega (arith, length-map tasks digraph_of))) in
     All-append IsInRangeRelease (all_releases tasks walks n) (releases_of (graph_at tasks n) n (walks n))
     (all_in_range tasks walks t graphs are due near n (omega arith))
     (walk_in_range (graph_at tasks n) sound n t few near (walks n) (are n l) (due n l))

@@ -17,7 +17,7 @@ abbrev pub AreDueWalks : List Digraph → (ℕ → List ℕ) → ℕ → Type 0
 AreDueWalks graphs walks t = (k : ℕ) → k < length graphs → IsWalk (graph_of graphs k) (walks k) × (due_of (graph_of graphs k) (walks k) ≤ t)
 
 -- The releases of walks of the tasks that are due by t are in range.
-abbrev pub AreInRange : Type 0
-AreInRange =
+abbrev pub AreReleasesInRange : Type 0
+AreReleasesInRange =
     (tasks : List Task) (walks : ℕ → List ℕ) (t : ℕ) → AreGraphs (graphs_of tasks) → AreWalks tasks walks → AreDueBy tasks walks t
     → t ≤ 1000000000000000000 → All IsInRangeRelease (all_releases tasks walks (length tasks))

@@ -3,25 +3,25 @@ use Rattle.std.proofs.Common.{◌≡◌, ℕ, ◌+◌, ◌-◌, ◌<◌, ◌≤�
 use Rattle.drt_model.specs.declared.jobs.Job.{Job}
 use Rattle.drt_model.specs.declared.jobs.Policy.{Policy}
 use Rattle.drt_model.specs.Trace.{job_at, pick}
-use Rattle.drt_replay.specs.Queue.{Held}
+use Rattle.drt_replay.specs.Queue.{HeldKeys}
 use Rattle.drt_replay.specs.Board.{IsLeft, AreFinishes}
 use Rattle.drt_replay.specs.declared.stretch.Stretch.{Stretch}
-use Rattle.drt_replay.specs.Events.{AreLater, IsCleared, IsFirstLeft, IsFrom, IsMoved, IsQueued}
+use Rattle.drt_replay.specs.Events.{AreLater, IsCleared, IsFirstLeft, IsStretchFrom, IsMoved, IsQueued}
 use Rattle.drt_replay.proofs.EventLemmas.{IsCalm, calm_up_to, runs_through, idle_through, jump_left, jump_finishes, idle_left, idle_finishes}
 use Rattle.drt_replay.proofs.BoardLemmas.{picked_in_range}
 use Rattle.drt_replay.proofs.PickLemmas.{queued_moved, queued_cleared, first_pick, no_pick, calm_before, queued_later, queued_idle}
 
-module _ (policy : Policy) (jobs : List Job) (now : ℕ) (lefts : List ℕ) (shown : IsLeft policy jobs now lefts) (w : List Stretch) (r : Held) (w' : List Stretch) (r' : Held)
+module _ (policy : Policy) (jobs : List Job) (now : ℕ) (lefts : List ℕ) (shown : IsLeft policy jobs now lefts) (w : List Stretch) (r : HeldKeys) (w' : List Stretch) (r' : HeldKeys)
     (before : IsQueued policy jobs now lefts w r) (moved : IsMoved policy jobs now w r w' r') where
   -- the ready jobs' places
   pub ready_here : All (λ e. e.0.place < length lefts) r'.items
   ready_here k d h = (let ready = moved.readies k d h in omega (arith, ready.here, shown.as_many))
 
-  module _ (later : AreLater jobs w' now) (r'' : Held) (cleared : IsCleared lefts r' r'') where
+  module _ (later : AreLater jobs w' now) (r'' : HeldKeys) (cleared : IsCleared lefts r' r'') where
     queued : IsQueued policy jobs now lefts w' r''
     queued = queued_cleared policy jobs now lefts w' r' r'' (queued_moved policy jobs now lefts w r w' r' before moved) cleared
 
-    module _ (needs : (j : ℕ) → j < length jobs → 1 ≤ (job_at jobs j).need) (next : ℕ) (soon : All (IsFrom jobs next) w') where
+    module _ (needs : (j : ℕ) → j < length jobs → 1 ≤ (job_at jobs j).need) (next : ℕ) (soon : All (IsStretchFrom jobs next) w') where
       calm : (count : ℕ) → now + count ≤ next → IsCalm jobs now count
       calm count h = calm_up_to jobs now count next h (calm_before policy jobs now lefts w' r'' queued shown later next needs soon)
 

@@ -9,10 +9,10 @@ use Rattle.drt_model.specs.declared.jobs.Policy.TheVariants.{Edf, Fixed}
 use Rattle.drt_model.specs.Trace.{job_at, pick, goes_before, is_before}
 use Rattle.drt_model.proofs.MachineLemmas.{IsPending, pick_pending, in_range, done_unreleased}
 use Rattle.drt_model.proofs.Unique.{IsAhead, pick_is}
-use Rattle.drt_replay.specs.Queue.{Held, entry, is_less}
+use Rattle.drt_replay.specs.Queue.{HeldKeys, entry, is_less}
 use Rattle.drt_replay.specs.Board.{IsLeft}
 use Rattle.drt_replay.specs.declared.stretch.Stretch.{Stretch}
-use Rattle.drt_replay.specs.Events.{AreLater, IsCleared, IsFirstLeft, IsFrom, IsMoved, IsQueued, IsReady, ready_key}
+use Rattle.drt_replay.specs.Events.{AreLater, IsCleared, IsFirstLeft, IsStretchFrom, IsMoved, IsQueued, IsReadyKey, ready_key}
 use Rattle.drt_replay.proofs.Stretches.{waits_from, waits_later}
 
 -- one number of two ranks, the rest of the test, and what it says
@@ -56,7 +56,7 @@ less_left lefts j m k z = elim (cases_eq k j) [
 ]
 
 module _ (policy : Policy) (jobs : List Job) (now : ℕ) (lefts : List ℕ) where
-  pub queued_moved : (w : List Stretch) (r : Held) (w' : List Stretch) (r' : Held) → IsQueued policy jobs now lefts w r → IsMoved policy jobs now w r w' r' → IsQueued policy jobs now lefts w' r'
+  pub queued_moved : (w : List Stretch) (r : HeldKeys) (w' : List Stretch) (r' : HeldKeys) → IsQueued policy jobs now lefts w r → IsMoved policy jobs now w r w' r' → IsQueued policy jobs now lefts w' r'
   queued_moved w r w' r' q m = record {
     waits = m.waits;
     readies = m.readies;
@@ -68,10 +68,10 @@ module _ (policy : Policy) (jobs : List Job) (now : ℕ) (lefts : List ℕ) wher
     room = m.room;
   }
 
-  pub queued_cleared : (w : List Stretch) (r r' : Held) → IsQueued policy jobs now lefts w r → IsCleared lefts r r' → IsQueued policy jobs now lefts w r'
+  pub queued_cleared : (w : List Stretch) (r r' : HeldKeys) → IsQueued policy jobs now lefts w r → IsCleared lefts r r' → IsQueued policy jobs now lefts w r'
   queued_cleared w r r' q c = record {
     waits = q.waits;
-    readies = λ i d h. All-contains (λ e. IsReady policy jobs now e.0) r.items (get_or r'.items i d) q.readies (c.among (get_or r'.items i d).0 (Contains-get_or r'.items i d h));
+    readies = λ i d h. All-contains (λ e. IsReadyKey policy jobs now e.0) r.items (get_or r'.items i d) q.readies (c.among (get_or r'.items i d).0 (Contains-get_or r'.items i d h));
     each = λ j h. elim (q.each j h) [
       | inl x ↦ inl x
       | inr (inl x) ↦ elim (c.kept (ready_key policy jobs j) x) [
@@ -83,7 +83,7 @@ module _ (policy : Policy) (jobs : List Job) (now : ℕ) (lefts : List ℕ) wher
     room = omega (arith, q.room, c.fewer, c.room);
   }
 
-  module _ (w : List Stretch) (r : Held) (q : IsQueued policy jobs now lefts w r) (shown : IsLeft policy jobs now lefts) (later : AreLater jobs w now) where
+  module _ (w : List Stretch) (r : HeldKeys) (q : IsQueued policy jobs now lefts w r) (shown : IsLeft policy jobs now lefts) (later : AreLater jobs w now) where
     -- a pending job is ready
     pending_ready : (k : ℕ) → IsPending policy jobs now k → Contains r.items (entry (ready_key policy jobs k))
     pending_ready k p =
@@ -96,7 +96,7 @@ module _ (policy : Policy) (jobs : List Job) (now : ℕ) (lefts : List ℕ) wher
 
     pub first_pick : (j : ℕ) → IsFirstLeft lefts r j → pick policy jobs now ≡ Some j
     first_pick j f =
-        let ready : IsReady policy jobs now f.key = All-contains (λ e. IsReady policy jobs now e.0) r.items (entry f.key) q.readies f.first.member in
+        let ready : IsReadyKey policy jobs now f.key = All-contains (λ e. IsReadyKey policy jobs now e.0) r.items (entry f.key) q.readies f.first.member in
         let here : j < length jobs = omega (arith, ready.here, f.of_job) in
         let is : f.key ≡ ready_key policy jobs j = ready.is ∙ ap (ready_key policy jobs) f.of_job in
         let released : (job_at jobs j).time ≤ now = subst (λ i. (job_at jobs i).time ≤ now) f.of_job ready.released in
@@ -114,12 +114,12 @@ module _ (policy : Policy) (jobs : List Job) (now : ℕ) (lefts : List ℕ) wher
     no_pick e = none_if (pick policy jobs now) (λ k p. (let c = pending_ready k (pick_pending policy jobs now k p) in omega (arith, c.1, ap length e)))
 
     -- no job is released before the first that waits
-    pub calm_before : (next : ℕ) → ((j : ℕ) → j < length jobs → 1 ≤ (job_at jobs j).need) → All (IsFrom jobs next) w
+    pub calm_before : (next : ℕ) → ((j : ℕ) → j < length jobs → 1 ≤ (job_at jobs j).need) → All (IsStretchFrom jobs next) w
         → (k : ℕ) → k < length jobs → now < (job_at jobs k).time → next ≤ (job_at jobs k).time
     calm_before next needs bound k h t = elim (q.each k h) [
       | inl c ↦ waits_from policy jobs now w next q.waits bound k c
       | inr (inl c) ↦ absurd (
-          let ready : IsReady policy jobs now (ready_key policy jobs k) = All-contains (λ e. IsReady policy jobs now e.0) r.items (entry (ready_key policy jobs k)) q.readies c in
+          let ready : IsReadyKey policy jobs now (ready_key policy jobs k) = All-contains (λ e. IsReadyKey policy jobs now e.0) r.items (entry (ready_key policy jobs k)) q.readies c in
           let released : (job_at jobs k).time ≤ now = subst (λ i. (job_at jobs i).time ≤ now) (ready_place policy jobs k) ready.released in
           omega arith
           )
@@ -127,7 +127,7 @@ module _ (policy : Policy) (jobs : List Job) (now : ℕ) (lefts : List ℕ) wher
     ]
 
   -- later, and with less left of some job
-  pub queued_later : (w : List Stretch) (r : Held) → IsQueued policy jobs now lefts w r → (after : ℕ) → now ≤ after → (j m : ℕ) → IsQueued policy jobs after (set lefts j (get_or lefts j 0 - m)) w r
+  pub queued_later : (w : List Stretch) (r : HeldKeys) → IsQueued policy jobs now lefts w r → (after : ℕ) → now ≤ after → (j m : ℕ) → IsQueued policy jobs after (set lefts j (get_or lefts j 0 - m)) w r
   queued_later w r q after h j m = record {
     waits = q.waits;
     readies = λ i d l. (let ready = q.readies i d l in record { here = ready.here; is = ready.is; released = omega (arith, ready.released) });
@@ -139,7 +139,7 @@ module _ (policy : Policy) (jobs : List Job) (now : ℕ) (lefts : List ℕ) wher
     room = q.room;
   }
 
-  pub queued_idle : (w : List Stretch) (r : Held) → IsQueued policy jobs now lefts w r → (after : ℕ) → now ≤ after → IsQueued policy jobs after lefts w r
+  pub queued_idle : (w : List Stretch) (r : HeldKeys) → IsQueued policy jobs now lefts w r → (after : ℕ) → now ≤ after → IsQueued policy jobs after lefts w r
   queued_idle w r q after h = record {
     waits = q.waits;
     readies = λ i d l. (let ready = q.readies i d l in record { here = ready.here; is = ready.is; released = omega (arith, ready.released) });

@@ -10,8 +10,8 @@ use Rattle.drt_model.specs.declared.jobs.Policy.{Policy}
 use Rattle.drt_model.specs.declared.jobs.Policy.TheVariants.{Edf, Fixed}
 use Rattle.drt_model.specs.Trace.{job_at}
 use Rattle.drt_replay.specs.declared.queue.Key.{Key}
-use Rattle.drt_replay.specs.Queue.{Held, IsFirst, IsPopped, entry, is_less}
-use Rattle.drt_replay.specs.Events.{IsCleared, IsReady, ready_key}
+use Rattle.drt_replay.specs.Queue.{HeldKeys, IsFirstKey, IsPopped, entry, is_less}
+use Rattle.drt_replay.specs.Events.{IsCleared, IsReadyKey, ready_key}
 
 -- an element of a list of one more
 Contains-cons_cases : {X : Type 0} (y : X) (ys : List X) (x : X) → Contains (y ∷ ys) x → (y ≡ x) ⊎ Contains ys x
@@ -54,19 +54,19 @@ same_key a b h k =
     key_is a b e f g (omega (arith, ltb-false a.place b.place h3, ltb-false b.place a.place k3))
 
 module _ (items : List (Reverse Key)) where
-  first_at : (k : Key) → IsFirst items k → (b : Key) → Contains items (entry b) → is_less b k ≡ false
+  first_at : (k : Key) → IsFirstKey items k → (b : Key) → Contains items (entry b) → is_less b k ≡ false
   first_at k f b c = All-contains (λ r. is_less r.0 k ≡ false) items (entry b) f.first c
 
-  first_one : (a b : Key) → IsFirst items a → IsFirst items b → a ≡ b
+  first_one : (a b : Key) → IsFirstKey items a → IsFirstKey items b → a ≡ b
   first_one a b f g = same_key a b (first_at b g a f.member) (first_at a f b g.member)
 
 -- the key of a released job
-pub is_ready : (policy : Policy) (jobs : List Job) (now j : ℕ) → j < length jobs → (job_at jobs j).time ≤ now → IsReady policy jobs now (ready_key policy jobs j)
+pub is_ready : (policy : Policy) (jobs : List Job) (now j : ℕ) → j < length jobs → (job_at jobs j).time ≤ now → IsReadyKey policy jobs now (ready_key policy jobs j)
 is_ready Edf jobs now j h t = record { here = h; is = refl; released = t }
 is_ready Fixed jobs now j h t = record { here = h; is = refl; released = t }
 
 -- what `pop` gives, whatever it is
-module _ (lefts : List ℕ) (old mid new : Held) (cleared : IsCleared lefts old mid) (key : Key) (first : IsFirst mid.items key) (over : get_or lefts key.place 0 ≡ 0) where
+module _ (lefts : List ℕ) (old mid new : HeldKeys) (cleared : IsCleared lefts old mid) (key : Key) (first : IsFirstKey mid.items key) (over : get_or lefts key.place 0 ≡ 0) where
   clear_one : (k : Key) → IsPopped mid new k → IsCleared lefts old new × (length new.items < length mid.items)
   clear_one k p =
       let same : k ≡ key = first_one mid.items k key p.first first in
@@ -91,8 +91,8 @@ module _ (lefts : List ℕ) (old mid new : Held) (cleared : IsCleared lefts old 
   clear_popped None (e, empty) = absurd (let m = first.member in omega (arith, m.1, ap length empty))
   clear_popped (Some r) p = clear_one r.0 p
 
-pub cleared_none : (lefts : List ℕ) (queue : Held) → IsCleared lefts queue queue
+pub cleared_none : (lefts : List ℕ) (queue : HeldKeys) → IsCleared lefts queue queue
 cleared_none lefts queue = record { kept = λ k c. inl c; among = λ k c. c; fewer = omega arith; room = refl }
 
-pub cleared_here : (lefts : List ℕ) (old mid : Held) (n : ℕ) → IsCleared lefts old mid → All (λ r. r.0.place < n) old.items → (key : Key) → IsFirst mid.items key → key.place < n
+pub cleared_here : (lefts : List ℕ) (old mid : HeldKeys) (n : ℕ) → IsCleared lefts old mid → All (λ r. r.0.place < n) old.items → (key : Key) → IsFirstKey mid.items key → key.place < n
 cleared_here lefts old mid n cleared all key first = All-contains (λ r. r.0.place < n) old.items (entry key) all (cleared.among key first.member)

@@ -10,7 +10,7 @@ use Rattle.std.proofs.lemmas.List.Sorted.{length_permutation}
 use Rattle.std.proofs.lemmas.Bool.{cases_eq, cases_lt, lt-ltb, le-ltb, eq-eqb, ne_eqb}
 use Rattle.std.proofs.lemmas.List.Elements.{All-nil, All-cons}
 use Rattle.drt_replay.specs.declared.queue.Key.{Key}
-use Rattle.drt_replay.specs.Queue.{Held, IsFirst, IsPopped, compare, is_less}
+use Rattle.drt_replay.specs.Queue.{HeldKeys, IsFirstKey, IsPopped, compare, is_less}
 
 -- one number of a comparison
 is_lt-then : (a b : ℕ) (rest : Ordering) → is_lt (ordering_then (nat_cmp a b) rest) ≡ (ltb a b || (eqb a b && is_lt rest))
@@ -46,7 +46,7 @@ empty_if [] h = refl
 empty_if (x ∷ xs) h = absurd (omega arith)
 
 -- what `peek` says
-pub peeked : (items : List (Reverse Key)) (o : Option (Bor (Reverse Key))) → IsItemAt items 0 o → IfSome o (λ x. IsHeap compare items → IsUpperBound compare x.now items) → IsHeap compare items → MatchOption o (items ≡ []) (λ r. IsFirst items r.now.0)
+pub peeked : (items : List (Reverse Key)) (o : Option (Bor (Reverse Key))) → IsItemAt items 0 o → IfSome o (λ x. IsHeap compare items → IsUpperBound compare x.now items) → IsHeap compare items → MatchOption o (items ≡ []) (λ r. IsFirstKey items r.now.0)
 peeked items None at bound ok = empty_if items (omega (arith, at.3))
 peeked items (Some x) at bound ok = record {
   member = (0, at.3.0, sym (at.3.1 x.now));
@@ -54,7 +54,7 @@ peeked items (Some x) at bound ok = record {
 }
 
 -- what `pop` says
-pub popped : (old new : Held) (o : Option (Reverse Key)) → IsHeap compare old.items
+pub popped : (old new : HeldKeys) (o : Option (Reverse Key)) → IsHeap compare old.items
     → IfSome o (λ x. x ≡ get_or old.items 0 x) → IfSome o (λ x. IsPermutation old.items (x ∷ new.items)) → IfSome o (λ x. PopsGreatest compare old.items x new.items)
     → new.room ≡ old.room → IfNone o ((new ≡ old) × (old.items ≡ []))
     → MatchOption o ((new ≡ old) × (old.items ≡ [])) (λ r. IsPopped old new r.0)
@@ -68,12 +68,12 @@ popped old new (Some x) ok top moved greatest room same = record {
   room = room;
 }
 
-held_is : (a b : Held) → a.items ≡ b.items → a.room ≡ b.room → a ≡ b
+held_is : (a b : HeldKeys) → a.items ≡ b.items → a.room ≡ b.room → a ≡ b
 held_is a b e f =
-    let left = ap (λ xs. let h : Held = record { items = xs; room = a.room } in h) e in
-    let right = ap (λ n. let h : Held = record { items = b.items; room = n } in h) f in
+    let left = ap (λ xs. let h : HeldKeys = record { items = xs; room = a.room } in h) e in
+    let right = ap (λ n. let h : HeldKeys = record { items = b.items; room = n } in h) f in
     left ∙ right
 
-pub popped_none : (old new : Held) (o : Option (Reverse Key)) (len : ℕ) (L : Type 0) → length old.items ≡ len → IfNone o (len ≡ 0) → IfNone o ((new.items ≡ old.items) × L) → new.room ≡ old.room → IfNone o ((new ≡ old) × (old.items ≡ []))
+pub popped_none : (old new : HeldKeys) (o : Option (Reverse Key)) (len : ℕ) (L : Type 0) → length old.items ≡ len → IfNone o (len ≡ 0) → IfNone o ((new.items ≡ old.items) × L) → new.room ≡ old.room → IfNone o ((new ≡ old) × (old.items ≡ []))
 popped_none old new None len L is none same room = (held_is new old same.0 room, empty_if old.items (omega arith))
 popped_none old new (Some x) len L is none same room = tt

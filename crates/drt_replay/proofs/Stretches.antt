@@ -10,8 +10,8 @@ use Rattle.drt_model.specs.declared.jobs.Job.{Job}
 use Rattle.drt_model.specs.declared.jobs.Policy.{Policy}
 use Rattle.drt_model.specs.Trace.{job_at}
 use Rattle.drt_replay.specs.declared.stretch.Stretch.{Stretch}
-use Rattle.drt_replay.specs.Queue.{Held, entry}
-use Rattle.drt_replay.specs.Events.{Ascend, AreLater, AreWaiting, IsFrom, IsLater, IsMoved, IsQueued, IsReady, IsReleased, IsStretch, Waits, count_of, ready_key, stretch_at}
+use Rattle.drt_replay.specs.Queue.{HeldKeys, entry}
+use Rattle.drt_replay.specs.Events.{Ascend, AreLater, AreWaiting, IsStretchFrom, IsLater, IsMoved, IsQueued, IsReadyKey, IsReleased, IsStretch, Waits, count_of, ready_key, stretch_at}
 use Rattle.drt_replay.proofs.QueueEvents.{Contains-here, Contains-later, is_ready}
 
 abbrev pub no_stretch : Stretch
@@ -89,7 +89,7 @@ queued-start policy jobs lefts waiting room a h = record {
 
 module _ (policy : Policy) (jobs : List Job) (now : ℕ) where
   -- jobs of one stretch become ready, one after another
-  pub released_none : (s : Stretch) (r : Held) → All (λ e. IsReady policy jobs now e.0) r.items → IsReleased policy jobs now s r s r
+  pub released_none : (s : Stretch) (r : HeldKeys) → All (λ e. IsReadyKey policy jobs now e.0) r.items → IsReleased policy jobs now s r s r
   released_none s r readies = record {
     end = refl;
     onward = omega arith;
@@ -100,7 +100,7 @@ module _ (policy : Policy) (jobs : List Job) (now : ℕ) where
     room = omega arith;
   }
 
-  pub released_more : (s : Stretch) (r : Held) (next : ℕ) (r' r'' : Held) → IsStretch jobs s → IsReleased policy jobs now s r (record { next = next; end = s.end }) r'
+  pub released_more : (s : Stretch) (r : HeldKeys) (next : ℕ) (r' r'' : HeldKeys) → IsStretch jobs s → IsReleased policy jobs now s r (record { next = next; end = s.end }) r'
       → next < s.end → (job_at jobs next).time ≤ now → IsPermutation (entry (ready_key policy jobs next) ∷ r'.items) r''.items → r'.room ≤ r''.room
       → IsReleased policy jobs now s r (record { next = next + 1; end = s.end }) r''
   released_more s r next r' r'' stretch so_far before due pushed larger =
@@ -114,25 +114,25 @@ module _ (policy : Policy) (jobs : List Job) (now : ℕ) where
           | inr ne ↦ in_new (entry (ready_key policy jobs j)) (Contains-later (entry key) r'.items (entry (ready_key policy jobs j)) (so_far.moved j from (omega arith)))
         ];
         stayed = λ k c. in_new (entry k) (Contains-later (entry key) r'.items (entry k) (so_far.stayed k c));
-        readies = All-permutation (λ e. IsReady policy jobs now e.0) (entry key ∷ r'.items) r''.items pushed
-            (All-cons (λ e. IsReady policy jobs now e.0) (entry key) r'.items (is_ready policy jobs now next (omega (arith, stretch.here)) due) so_far.readies);
+        readies = All-permutation (λ e. IsReadyKey policy jobs now e.0) (entry key ∷ r'.items) r''.items pushed
+            (All-cons (λ e. IsReadyKey policy jobs now e.0) (entry key) r'.items (is_ready policy jobs now next (omega (arith, stretch.here)) due) so_far.readies);
         many = omega (arith, length_permutation (entry key ∷ r'.items) r''.items pushed, so_far.many);
         room = omega (arith, so_far.room, larger);
       }
 
   -- stretch by stretch
-  pub moved_none : (w : List Stretch) (r : Held) → All (IsStretch jobs) w → All (λ e. IsReady policy jobs now e.0) r.items → count_of w + length r.items ≤ r.room
+  pub moved_none : (w : List Stretch) (r : HeldKeys) → All (IsStretch jobs) w → All (λ e. IsReadyKey policy jobs now e.0) r.items → count_of w + length r.items ≤ r.room
       → IsMoved policy jobs now w r w r
   moved_none w r waits readies room = record { waited = λ j c. inl c; stayed = λ k c. c; waits = waits; readies = readies; room = room }
 
-  module _ (w : List Stretch) (r : Held) (w' : List Stretch) (r' : Held) (m : IsMoved policy jobs now w r w' r') (i : ℕ) (here : i < length w') where
+  module _ (w : List Stretch) (r : HeldKeys) (w' : List Stretch) (r' : HeldKeys) (m : IsMoved policy jobs now w r w' r') (i : ℕ) (here : i < length w') where
     -- there is room for the jobs of one stretch
     pub room_for : (stretch_at w' i).end - (stretch_at w' i).next + length r'.items ≤ r'.room
     room_for =
         let sums = sum_by-set (λ s. s.end - s.next) w' i no_stretch no_stretch here in
         omega (arith, sums, m.room)
 
-    module _ (s : Stretch) (r'' : Held) (released : IsReleased policy jobs now (stretch_at w' i) r' s r'') where
+    module _ (s : Stretch) (r'' : HeldKeys) (released : IsReleased policy jobs now (stretch_at w' i) r' s r'') where
       waited_one : (j : ℕ) → Waits w' j → Waits (set w' i s) j ⊎ Contains r''.items (entry (ready_key policy jobs j))
       waited_one j c = elim (cases_eq c.at i) [
         | inr ne ↦ (let same : stretch_at (set w' i s) c.at ≡ stretch_at w' c.at = get_or-set_other w' i c.at s no_stretch ne in
@@ -163,10 +163,10 @@ module _ (policy : Policy) (jobs : List Job) (now : ℕ) where
           }
 
   -- a job that waits is released no earlier than the first of its stretch
-  pub waits_from : (w : List Stretch) (time : ℕ) → All (IsStretch jobs) w → All (IsFrom jobs time) w → (j : ℕ) → Waits w j → time ≤ (job_at jobs j).time
+  pub waits_from : (w : List Stretch) (time : ℕ) → All (IsStretch jobs) w → All (IsStretchFrom jobs time) w → (j : ℕ) → Waits w j → time ≤ (job_at jobs j).time
   waits_from w time waits bound j c =
       let s = stretch_at w c.at in
-      let first = All-get_or (IsFrom jobs time) w c.at no_stretch c.here bound (omega (arith, c.from, c.before)) in
+      let first = All-get_or (IsStretchFrom jobs time) w c.at no_stretch c.here bound (omega (arith, c.from, c.before)) in
       let stretch = All-get_or (IsStretch jobs) w c.at no_stretch c.here waits in
       omega (arith, first, stretch.ascends s.next j (omega arith) c.from c.before)
 

@@ -6,7 +6,7 @@ use Rattle.drt_model.specs.declared.jobs.Miss.{Miss}
 use Rattle.drt_model.specs.Trace.{job_at, done, Misses, IsFinish}
 use Rattle.drt_model.specs.Misses.{miss_of}
 use Rattle.drt_replay.specs.declared.stretch.Stretch.{Stretch}
-use Rattle.drt_replay.specs.Queue.{Held}
+use Rattle.drt_replay.specs.Queue.{HeldKeys}
 use Rattle.drt_replay.specs.Events.{IsQueued}
 
 -- A board shows the tick machine: the policy, the jobs, and how many ticks have run.
@@ -35,7 +35,7 @@ abbrev pub needs_of : List Job → List ℕ
 needs_of jobs = map (λ job. job.need) jobs
 
 -- What a board keeps beside what it shows: what is left of each need, the finishes, and the queues.
-pub record IsKept (shown : Shown) (lefts ends : List ℕ) (waiting : List Stretch) (ready : Held) : Type 0 where
+pub record IsBoardKept (shown : Shown) (lefts ends : List ℕ) (waiting : List Stretch) (ready : HeldKeys) : Type 0 where
   pub few : length shown.jobs < 2 ^ 32
   pub needs : (j : ℕ) → j < length shown.jobs → 1 ≤ (job_at shown.jobs j).need
   pub left : IsLeft shown.policy shown.jobs shown.ticks lefts

@@ -6,7 +6,7 @@ use Rattle.std.specs.Ordering.{nat_cmp, ordering_then}
 use Rattle.drt_replay.specs.declared.queue.Key.{Key}
 
 -- What a queue holds: keys, in no order that matters, and how many it has room for.
-pub record Held : Type 0 where
+pub record HeldKeys : Type 0 where
   pub items : List (Reverse Key)
   pub room : ℕ
 
@@ -23,12 +23,12 @@ abbrev pub entry : Key → Reverse Key
 entry key = record { 0 = key }
 
 -- The key is among the entries, and none is less.
-pub record IsFirst (items : List (Reverse Key)) (key : Key) : Type 0 where
+pub record IsFirstKey (items : List (Reverse Key)) (key : Key) : Type 0 where
   pub member : Contains items (entry key)
   pub first : All (λ r. is_less r.0 key ≡ false) items
 
 -- The key was the first of the queue before, and has left it.
-pub record IsPopped (old new : Held) (key : Key) : Type 0 where
-  pub first : IsFirst old.items key
+pub record IsPopped (old new : HeldKeys) (key : Key) : Type 0 where
+  pub first : IsFirstKey old.items key
   pub rest : IsPermutation old.items (entry key ∷ new.items)
   pub room : new.room ≡ old.room

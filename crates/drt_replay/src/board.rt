@@ -31,13 +31,13 @@ pub struct Board<'a> {
 }
 
 impl<'a> Model for Board<'a> {
-    ghost use Rattle.drt_replay.specs.Board.{Shown, IsKept};
+    ghost use Rattle.drt_replay.specs.Board.{Shown, IsBoardKept};
 
     ghost Value = { Shown };
 
     ghost view = { λ b. record { policy = b.policy; jobs = b.jobs; ticks = b.ticks } };
 
-    ghost invariant = { λ b. IsKept (record { policy = b.policy; jobs = b.jobs; ticks = b.ticks }) b.left.items b.finishes.items b.waiting.items b.ready };
+    ghost invariant = { λ b. IsBoardKept (record { policy = b.policy; jobs = b.jobs; ticks = b.ticks }) b.left.items b.finishes.items b.waiting.items b.ready };
 }
 
 impl<'a> Board<'a> {

@@ -3,7 +3,7 @@ ghost use Rattle.std.specs.Prelude.{◌≡◌, ℕ, ◌+◌, ◌-◌, ◌^◌, �
 ghost use Rattle.std.specs.Bool.{MatchBool};
 ghost use Rattle.drt_model.specs.Trace.{job_at, pick};
 ghost use Rattle.drt_replay.specs.Board.{IsLeft, AreFinishes};
-ghost use Rattle.drt_replay.specs.Events.{AreLater, IsCleared, IsFirstLeft, IsFrom, IsLater, IsMoved, IsQueued, IsReady, IsReleased, IsStretch, count_of, ready_key};
+ghost use Rattle.drt_replay.specs.Events.{AreLater, IsCleared, IsFirstLeft, IsStretchFrom, IsLater, IsMoved, IsQueued, IsReadyKey, IsReleased, IsStretch, count_of, ready_key};
 
 use crate::jobs::Jobs;
 use crate::queue::{Key, Queue};
@@ -60,7 +60,7 @@ pub fn advance(
 // Moves the jobs that are released by `now` from the waiting to the ready.
 fn release(policy: Policy, jobs: &Jobs, waiting: &mut [Stretch], ready: &mut Queue, now: u64)
     requires waits { All (IsStretch jobs.now) waiting.old }
-    requires readies { All (λ r. IsReady policy jobs.now now r.0) ready.old.items }
+    requires readies { All (λ r. IsReadyKey policy jobs.now now r.0) ready.old.items }
     requires room { count_of waiting.old + length ready.old.items ≤ ready.old.room }
     ensures moved { IsMoved policy jobs.now now waiting.old ready.old waiting.new ready.new }
     ensures later { AreLater jobs.now waiting.new now }
@@ -79,7 +79,7 @@ fn release_from(
     now: u64,
 ) -> Stretch
     requires waits { IsStretch jobs.now stretch }
-    requires readies { All (λ r. IsReady policy jobs.now now r.0) ready.old.items }
+    requires readies { All (λ r. IsReadyKey policy jobs.now now r.0) ready.old.items }
     requires room { stretch.end - stretch.next + length ready.old.items ≤ ready.old.room }
     ensures moved { IsReleased policy jobs.now now stretch ready.old result ready.new }
     ensures later { IsLater jobs.now now result }
@@ -122,7 +122,7 @@ fn next_release(jobs: &Jobs, waiting: &[Stretch], now: u64, t: u64) -> u64
     requires later { AreLater jobs.now waiting.now now }
     ensures later { now < result }
     ensures in_time { result ≤ t }
-    ensures calm { All (IsFrom jobs.now result) waiting.now }
+    ensures calm { All (IsStretchFrom jobs.now result) waiting.now }
 {
     let mut next = t;
     for stretch in waiting {

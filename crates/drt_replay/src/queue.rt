@@ -1,6 +1,6 @@
 //! Queues of jobs in order of keys.
 ghost use Rattle.std.specs.Prelude.{◌≡◌, ◌+◌, ◌<◌, ◌≤◌, [], ◌∷◌, length, All, IfOk, MatchOption, IsPermutation};
-ghost use Rattle.drt_replay.specs.Queue.{IsFirst, IsPopped, entry};
+ghost use Rattle.drt_replay.specs.Queue.{IsFirstKey, IsPopped, entry};
 
 use std::alloc::{AllocError as Memory, Global};
 use std::cmp::Reverse;
@@ -25,9 +25,9 @@ pub struct Queue {
 
 impl Model for Queue {
     ghost use Rattle.std.specs.BinaryHeap.{IsHeap, heap_items, heap_capacity};
-    ghost use Rattle.drt_replay.specs.Queue.{Held, compare};
+    ghost use Rattle.drt_replay.specs.Queue.{HeldKeys, compare};
 
-    ghost Value = { Held };
+    ghost Value = { HeldKeys };
 
     ghost view = { λ q. record { items = heap_items q.heap; room = heap_capacity q.heap } };
 
@@ -45,7 +45,7 @@ impl Queue {
 
     /// The entry of the least key; none where the queue is empty.
     pub fn first(&self) -> Option<&Reverse<Key>>
-        ensures { MatchOption result (self.now.items ≡ []) (λ r. IsFirst self.now.items r.now.0) }
+        ensures { MatchOption result (self.now.items ≡ []) (λ r. IsFirstKey self.now.items r.now.0) }
     {
         self.heap.peek()
     }

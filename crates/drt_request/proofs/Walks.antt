@@ -9,7 +9,7 @@ use Rattle.drt_model.specs.RequestFunction.{request, requested_from}
 use Rattle.drt_steps.specs.Values.{raise, value_at}
 use Rattle.drt_steps.proofs.Values.{length-raise}
 use Rattle.drt_request.specs.Request.{Request, request_algebra}
-use Rattle.drt_request.specs.Walk.{IsLabelOf, LabelWalks}
+use Rattle.drt_request.specs.Walk.{IsRequestLabelOf, LabelWalks}
 
 last_more : (u : ℕ) (vs : List ℕ) (v : ℕ) → last_of u (vs ++ v ∷ []) ≡ v
 last_more u [] v = refl
@@ -74,7 +74,7 @@ span_none : (g : Digraph) (u : ℕ) → 0 ≡ span g u []
 unfolding span
 span_none g u = refl
 
-extended : (g : Digraph) (bound u : ℕ) (vs : List ℕ) (v : ℕ) (x : Request) → IsLabelOf g bound u vs x → IsLabelOf g bound u (vs ++ v ∷ []) (request_algebra.extend x (gap g (last_of u vs) v) v (wcet g v))
+extended : (g : Digraph) (bound u : ℕ) (vs : List ℕ) (v : ℕ) (x : Request) → IsRequestLabelOf g bound u vs x → IsRequestLabelOf g bound u (vs ++ v ∷ []) (request_algebra.extend x (gap g (last_of u vs) v) v (wcet g v))
 extended g bound u vs v x h =
     let p : ℕ = gap g (last_of u vs) v in
     let e : x.offset ≡ span g u vs = h.offset in

@@ -31,7 +31,7 @@ request_algebra = record {
 }
 
 -- What each label keeps: with a release at most once a tick, the values stay small.
-pub record IsWithinLimits (offset : ℕ) (values : List ℕ) : Type 0 where
+pub record AreValuesWithinLimits (offset : ℕ) (values : List ℕ) : Type 0 where
   pub early : offset ≤ 2000000
   pub few : length values ≤ 1000000
   pub work : (t : ℕ) → value_at values t ≤ 1000000 * (offset + 1)

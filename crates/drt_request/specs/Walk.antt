@@ -7,7 +7,7 @@ use Rattle.drt_steps.specs.Values.{value_at}
 use Rattle.drt_request.specs.Request.{Request, request_algebra}
 
 -- A label is that of the walk that starts at u: its last vertex, its span, and its request function on 1 to the bound.
-pub record IsLabelOf (g : Digraph) (bound u : ℕ) (vs : List ℕ) (x : Request) : Type 0 where
+pub record IsRequestLabelOf (g : Digraph) (bound u : ℕ) (vs : List ℕ) (x : Request) : Type 0 where
   pub vertex : x.vertex ≡ last_of u vs
   pub offset : x.offset ≡ span g u vs
   pub long : length x.values ≡ bound
@@ -16,6 +16,6 @@ pub record IsLabelOf (g : Digraph) (bound u : ℕ) (vs : List ℕ) (x : Request)
 -- The opening label of a vertex is that of its walk of one vertex, and a walk's label extended by an edge is that of the
 -- walk that goes on by that edge.
 pub record LabelWalks (g : Digraph) (bound : ℕ) : Type 0 where
-  pub opening : (u : ℕ) → IsLabelOf g bound u [] (request_algebra.opening u (wcet g u) bound)
-  pub extended : (u : ℕ) (vs : List ℕ) (v : ℕ) (x : Request) → IsLabelOf g bound u vs x
-      → IsLabelOf g bound u (vs ++ v ∷ []) (request_algebra.extend x (gap g (last_of u vs) v) v (wcet g v))
+  pub opening : (u : ℕ) → IsRequestLabelOf g bound u [] (request_algebra.opening u (wcet g u) bound)
+  pub extended : (u : ℕ) (vs : List ℕ) (v : ℕ) (x : Request) → IsRequestLabelOf g bound u vs x
+      → IsRequestLabelOf g bound u (vs ++ v ∷ []) (request_algebra.extend x (gap g (last_of u vs) v) v (wcet g v))

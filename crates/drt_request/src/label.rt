@@ -26,13 +26,13 @@ pub struct RequestLabel {
 impl Model for RequestLabel {
     ghost use Rattle.std.specs.Prelude.{◌≡◌, length};
     ghost use Rattle.drt_steps.specs.Values.{value_at};
-    ghost use Rattle.drt_request.specs.Request.{Request, IsWithinLimits};
+    ghost use Rattle.drt_request.specs.Request.{Request, AreValuesWithinLimits};
 
     ghost Value = { Request };
 
     ghost view = { λ s. record { vertex = s.vertex; offset = s.offset; values = s.steps.value } };
 
-    ghost invariant = { λ s. IsWithinLimits s.offset s.steps.value × (s.total ≡ value_at s.steps.value (length s.steps.value)) };
+    ghost invariant = { λ s. AreValuesWithinLimits s.offset s.steps.value × (s.total ≡ value_at s.steps.value (length s.steps.value)) };
 }
 
 impl RequestLabel {

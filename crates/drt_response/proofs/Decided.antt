@@ -5,7 +5,7 @@ use Rattle.drt_model.specs.Schedulable.{Schedulable}
 use Rattle.drt_model.specs.declared.jobs.Miss.{Miss}
 use Rattle.drt_model.specs.declared.jobs.Policy.TheVariants.{Fixed}
 use Rattle.drt_model.specs.declared.jobs.Release.{Release}
-use Rattle.drt_claims.specs.Ranges.{IsInRange}
+use Rattle.drt_claims.specs.Ranges.{IsEvidenceInRange}
 use Rattle.drt_claims.specs.declared.evidence.Evidence.{Evidence}
 use Rattle.drt_claims.specs.declared.evidence.Evidence.TheVariants.{FixedNo, FixedStates}
 use Rattle.drt_claims.specs.declared.rule.Rule.TheVariants.{BoundingTails, RisingTails}
@@ -30,6 +30,6 @@ module _ (set : Contents) (evidence : Evidence) (is : IsDecision set evidence) w
         releases = releases;
         miss = miss;
         evidence_is = e;
-        in_range = subst IsInRange e is.in_range;
+        in_range = subst IsEvidenceInRange e is.in_range;
         no = said.1;
       }

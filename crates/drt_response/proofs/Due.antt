@@ -3,7 +3,7 @@ use Rattle.std.proofs.Common.{inl, inr, ◌≡◌, ℕ, ◌+◌, ◌<◌, ◌≤
 use Rattle.std.proofs.lemmas.Bool.{cases_Bool, eq-eqb, eqb-true, le-ltb, lt-ltb, ne_eqb}
 use Rattle.std.proofs.lemmas.List.{length-map}
 use Rattle.drt_model.specs.declared.tasks.Task.{Task}
-use Rattle.drt_model.specs.Digraph.{Digraph, IsSound, digraph_of, vertex_count}
+use Rattle.drt_model.specs.Digraph.{Digraph, IsSoundGraph, digraph_of, vertex_count}
 use Rattle.drt_graph.specs.Graphs.{AreGraphs, graph_of, no_graph}
 use Rattle.drt_busy.specs.Choice.{AreWalks, IsWalk, due_of, graph_at, task_at}
 use Rattle.drt_busy.specs.Response.{cut}
@@ -33,8 +33,8 @@ module _ (tasks : List Task) (walks : List (List ℕ)) (k v n : ℕ) where
   walk_nowhere i le ne = rw (le-ltb (task_at tasks i).priority (task_at tasks k).priority le, ne_eqb i k ne) refl
 
   module _ (graphs : AreGraphs (graphs_of tasks)) (are : AreWalks tasks (placed_walk tasks walks)) (here : k < length tasks) (vertex : v < vertex_count (graph_at tasks k)) (small : n ≤ 1000000) where
-    sound_at : (i : ℕ) → i < length tasks → IsSound (graph_at tasks i)
-    sound_at i l = subst IsSound (graph_same tasks i l) (graphs.sound i no_graph (omega (arith, length-map tasks digraph_of)))
+    sound_at : (i : ℕ) → i < length tasks → IsSoundGraph (graph_at tasks i)
+    sound_at i l = subst IsSoundGraph (graph_same tasks i l) (graphs.sound i no_graph (omega (arith, length-map tasks digraph_of)))
 
     higher_due : (i : ℕ) → i < length tasks → IsDueWalk (graph_at tasks i) 2000000 (cut (graph_at tasks i) n (placed_walk tasks walks i))
     higher_due i l =

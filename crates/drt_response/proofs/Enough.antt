@@ -5,13 +5,13 @@ use Rattle.drt_refine.specs.Below.{tuples}
 use Rattle.drt_tree.specs.Tree.{Plain}
 use Rattle.drt_response.specs.Laws.{ResponseBudgetsSuffice}
 use Rattle.drt_response.specs.declared.answer.ResponseTrail.TheVariants.{Fixed, Search}
-use Rattle.drt_sp.specs.Answers.{IsReached}
+use Rattle.drt_sp.specs.Answers.{IsVertexReached}
 use Rattle.drt_sp.specs.Laws.{BudgetsSuffice}
 use Rattle.drt_sp.specs.Needs.{IsBelowRefinement}
 use Rattle.drt_sp.proofs.Enough.{tuples_few}
 
 -- A search at a vertex ends after fewer steps than two for each tuple of leaves, so a budget that it spent is below what may be needed.
-pub response_below : (set : Contents) (budget : ℕ) (order : List ℕ) (f : Plain) (roots : List ℕ) (k v : ℕ) → IsReached set order f roots k v → budget < 2 * tuples f roots
+pub response_below : (set : Contents) (budget : ℕ) (order : List ℕ) (f : Plain) (roots : List ℕ) (k v : ℕ) → IsVertexReached set order f roots k v → budget < 2 * tuples f roots
     → IsBelowRefinement set.tasks budget k
 response_below set budget order f roots k v is less counts walks =
     omega (arith, less, tuples_few set.tasks order is.posed.order_is f roots is.few k is.posed.subject.at counts walks)

@@ -4,7 +4,7 @@ use Rattle.std.specs.Prelude.{All, nat_lt}
 use Rattle.std.specs.List.{AllByRecursion, AllZip}
 use Rattle.std.proofs.lemmas.List.Elements.{All-from_recursion, All-map, All-take}
 use Rattle.drt_model.specs.declared.tasks.Task.{Task}
-use Rattle.drt_model.specs.Digraph.{IsSound, digraph_of, vertex_count}
+use Rattle.drt_model.specs.Digraph.{IsSoundGraph, digraph_of, vertex_count}
 use Rattle.drt_model.specs.Limits.{IsTaskSet}
 use Rattle.drt_model.specs.Walk.{deadline}
 use Rattle.drt_graph.proofs.Soundness.{all_sound}
@@ -95,13 +95,13 @@ higher_are tasks walks k l =
 
 -- Their graphs keep the limits.
 pub higher_sound : (version : ℕ) (tasks : List Task) → IsTaskSet version tasks → (walks : ℕ → List ℕ) (k : ℕ)
-    → All (λ p. IsSound p.graph) (places_in tasks (higher tasks walks k))
+    → All (λ p. IsSoundGraph p.graph) (places_in tasks (higher tasks walks k))
 higher_sound version tasks limits walks k =
-    let HasSound : Walked → Type 0 = λ x. IsSound (digraph_of x.0) in
+    let HasSound : Walked → Type 0 = λ x. IsSoundGraph (digraph_of x.0) in
     let xs : List Walked = ordered (walked tasks walks) in
-    let each = All-from_recursion HasSound xs (ordered_all (λ t. IsSound (digraph_of t)) tasks walks (all_sound version tasks limits)) in
+    let each = All-from_recursion HasSound xs (ordered_all (λ t. IsSoundGraph (digraph_of t)) tasks walks (all_sound version tasks limits)) in
     let first = All-take HasSound (higher_count tasks (task_at tasks k).priority) xs each in
-    All-map (λ (p : Place). IsSound p.graph) (λ (x : Walked). place_of tasks x.0) (higher tasks walks k) first
+    All-map (λ (p : Place). IsSoundGraph p.graph) (λ (x : Walked). place_of tasks x.0) (higher tasks walks k) first
 
 -- A number that is at most a deadline of the k-th task is within their bounds.
 pub higher_near : (tasks : List Task) (walks : ℕ → List ℕ) (k v bound : ℕ) → k < length tasks → v < vertex_count (graph_at tasks k) → bound ≤ deadline (graph_at tasks k) v

@@ -14,7 +14,7 @@ use Rattle.drt_choices.specs.Choices.{VertexPasses, chosen as chosen_of}
 use Rattle.drt_choices.proofs.Chosen.{chosen_walks}
 use Rattle.drt_choices.specs.Laws.{IsGreatestTime, IsPosed, LeavesRespond, WalksPass, leaf_releases}
 use Rattle.drt_claims.specs.Trees.{greatest_deadline}
-use Rattle.drt_sp.specs.Answers.{IsReached, IsTupleFor}
+use Rattle.drt_sp.specs.Answers.{IsVertexReached, IsTupleFor}
 use Rattle.drt_sp.specs.Grown.{AreProvedTrees}
 use Rattle.drt_sp.specs.declared.grown.ProvedTrees.{ProvedTrees}
 use Rattle.drt_sp.proofs.ExactTrees.{exact_first}
@@ -64,7 +64,7 @@ module _ (set : Contents) (trees : ProvedTrees) (are : AreProvedTrees set trees)
         → (t : ℕ) × Passes (wcet (graph_at set.tasks k) v) (deadline (graph_at set.tasks k) v) trees.forest.pool tuple t
     tuples_pass law tuple below = law set.version set.tasks trees.order (greatest_deadline set.tasks) trees.forest (take m trees.roots) k v posed (pass v vertex) tuple below
 
-    pub reached : AreConstrained set.tasks → TimesSufficeForTask → IsReached set trees.order trees.forest (take m trees.roots) k v
+    pub reached : AreConstrained set.tasks → TimesSufficeForTask → IsVertexReached set trees.order trees.forest (take m trees.roots) k v
     reached constrained suffice = record {
       task = task;
       nodes = nodes_first trees.forest trees.roots m are.nodes;

@@ -1,15 +1,15 @@
 -- A no, by trees or by states.
 use Rattle.std.proofs.Common.{None, refl}
 use Rattle.drt_model.specs.Contents.{Contents}
-use Rattle.drt_claims.specs.Ranges.{IsInRange}
+use Rattle.drt_claims.specs.Ranges.{IsEvidenceInRange}
 use Rattle.drt_claims.specs.declared.evidence.Evidence.{Evidence}
 use Rattle.drt_claims.specs.declared.evidence.Evidence.TheVariants.{EdfYes, EdfNo, UtilisationOne, FixedYes, FixedStates, FixedNo, Undecided}
 use Rattle.drt_fixed.specs.Answers.{IsSaid}
-use Rattle.drt_sp.specs.Answers.{IsRefusal}
+use Rattle.drt_sp.specs.Answers.{IsRefusalEvidence}
 use Rattle.drt_response.specs.Answers.{IsRefused}
 
 -- By trees.
-pub refusal_is : (set : Contents) (evidence : Evidence) → IsRefusal set evidence → IsInRange evidence → IsRefused set evidence
+pub refusal_is : (set : Contents) (evidence : Evidence) → IsRefusalEvidence set evidence → IsEvidenceInRange evidence → IsRefused set evidence
 refusal_is set (EdfYes ratios fronts) refusal range = absurd refusal
 refusal_is set (EdfNo releases miss) refusal range = absurd refusal
 refusal_is set (UtilisationOne ratios) refusal range = absurd refusal

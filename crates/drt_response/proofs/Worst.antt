@@ -7,7 +7,7 @@ use Rattle.drt_model.specs.declared.jobs.Policy.TheVariants.{Fixed}
 use Rattle.drt_model.specs.declared.jobs.Release.{Release}
 use Rattle.drt_model.specs.Constrained.{AreConstrained}
 use Rattle.drt_model.specs.Contents.{Contents}
-use Rattle.drt_model.specs.Digraph.{IsSound, vertex_count}
+use Rattle.drt_model.specs.Digraph.{IsSoundGraph, vertex_count}
 use Rattle.drt_model.specs.Limits.{IsTaskSet}
 use Rattle.drt_model.specs.Schedulable.{Schedulable}
 use Rattle.drt_model.specs.Walk.{deadline, wcet}
@@ -18,7 +18,7 @@ use Rattle.drt_states.specs.declared.claims.TailClaim.{TailClaim}
 use Rattle.drt_states.specs.States.{AreStates, HaveDominatedChildren}
 use Rattle.drt_states.specs.Tails.{BoundsWalks, EachTail, IsTail, graphs_of}
 use Rattle.drt_states_laws.specs.Laws.{StatesPass}
-use Rattle.drt_choices.specs.Laws.{AreReaching}
+use Rattle.drt_choices.specs.Laws.{AreReachingReleases}
 use Rattle.drt_claims.specs.Searches.{higher_places, higher_tails, places_of}
 use Rattle.drt_claims.specs.Trees.{higher_count}
 use Rattle.drt_check.proofs.SoundOrder.{Walked, ordered, ordered_walked, walked}
@@ -69,7 +69,7 @@ module _ (version : ℕ) (tasks : List Task) (limits : IsTaskSet version tasks) 
 
   -- It is the greatest response, and their releases reach it.
   pub states_respond : StatesPass → ResponseDecides → ReleasesReach → AreConstrained tasks → Schedulable tasks Fixed
-      → IsGreatestResponse tasks k v ticks × AreReaching tasks k v ticks (reaching tasks (placed_walk tasks walks) k v ticks)
+      → IsGreatestResponse tasks k v ticks × AreReachingReleases tasks k v ticks (reaching tasks (placed_walk tasks walks) k v ticks)
   states_respond pass decides reach constrained schedulable =
       let meets : MeetsDeadlines tasks k = λ rs legal j here of. schedulable rs legal j here in
       let fit : IsGreatestFit tasks k v ticks = record { walks = placed_walk tasks walks; are = are_walks; least = least; most = most pass } in
@@ -79,7 +79,7 @@ module _ (version : ℕ) (tasks : List Task) (limits : IsTaskSet version tasks) 
   -- The number is within the limits of a deadline.
   pub ticks_most : ticks ≤ 1000000
   ticks_most =
-      let sound : IsSound (graph_at tasks k) = all_sound version tasks limits k no_task task in
+      let sound : IsSoundGraph (graph_at tasks k) = all_sound version tasks limits k no_task task in
       omega (arith, worst.within, worst.near, (sound.deadline v vertex).1)
 
   -- With these releases it is the response of the vertex.
@@ -89,10 +89,10 @@ module _ (version : ℕ) (tasks : List Task) (limits : IsTaskSet version tasks) 
   response_is pass decides reach constrained schedulable set n releases same is are =
       let releases_are : releases ≡ reaching tasks (placed_walk tasks walks) k v ticks = are ∙ ap (λ (m : ℕ). reaching tasks (placed_walk tasks walks) k v m) is in
       let shown = states_respond pass decides reach constrained schedulable in
-      let reached : AreReaching tasks k v ticks releases = subst (λ (rs : List Release). AreReaching tasks k v ticks rs) (sym releases_are) shown.1 in
+      let reached : AreReachingReleases tasks k v ticks releases = subst (λ (rs : List Release). AreReachingReleases tasks k v ticks rs) (sym releases_are) shown.1 in
       record {
         greatest = subst (λ (ts : List Task). IsGreatestResponse ts k v ticks) same shown.0;
-        reaching = subst (λ (ts : List Task). AreReaching ts k v ticks releases) same reached;
+        reaching = subst (λ (ts : List Task). AreReachingReleases ts k v ticks releases) same reached;
         walks = placed_walk tasks walks;
         are = subst (λ (ts : List Task). AreWalks ts (placed_walk tasks walks)) same are_walks;
         releases_are = releases_are ∙ ap (λ (ts : List Task). reaching ts (placed_walk tasks walks) k v ticks) same;

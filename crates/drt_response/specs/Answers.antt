@@ -11,12 +11,12 @@ use Rattle.drt_model.specs.declared.jobs.Release.{Release}
 use Rattle.drt_busy.specs.Choice.{AreWalks, graph_at}
 use Rattle.drt_busy.specs.Response.{IsGreatestResponse, reaching as reaching_walks}
 use Rattle.drt_tree.specs.Tree.{Plain}
-use Rattle.drt_choices.specs.Laws.{AreReaching}
-use Rattle.drt_claims.specs.Ranges.{IsInRange}
+use Rattle.drt_choices.specs.Laws.{AreReachingReleases}
+use Rattle.drt_claims.specs.Ranges.{IsEvidenceInRange}
 use Rattle.drt_claims.specs.declared.evidence.Evidence.{Evidence}
 use Rattle.drt_claims.specs.declared.evidence.Evidence.TheVariants.{FixedNo}
 use Rattle.drt_fixed.specs.Answers.{IsNo}
-use Rattle.drt_sp.specs.Answers.{IsReached, IsUndecided}
+use Rattle.drt_sp.specs.Answers.{IsVertexReached, IsTreeUndecided}
 use Rattle.drt_sp.specs.Needs.{IsBelowRefinement}
 use Rattle.drt_sp.specs.Vertices.{subjects}
 use Rattle.drt_worst.specs.Splitting.{search_for}
@@ -38,7 +38,7 @@ use Rattle.drt_response.specs.declared.vertex.VertexResponse.TheVariants as outc
 -- which finishes after exactly so many ticks.
 pub record IsResponseOf (set : Contents) (r : Response) : Type 0 where
   pub greatest : IsGreatestResponse set.tasks r.task r.vertex r.ticks
-  pub reaching : AreReaching set.tasks r.task r.vertex r.ticks r.releases
+  pub reaching : AreReachingReleases set.tasks r.task r.vertex r.ticks r.releases
   pub walks : ℕ → List ℕ
   pub are : AreWalks set.tasks walks
   pub releases_are : r.releases ≡ reaching_walks set.tasks walks r.task r.vertex r.ticks
@@ -48,18 +48,18 @@ abbrev pub IsResponseOfVertex : Contents → ℕ → ℕ → Response → Type 0
 IsResponseOfVertex set k v r = (r.task ≡ k) × (r.vertex ≡ v) × IsResponseOf set r
 
 -- The search at a vertex that the analysis reached spent the budget, which is below what it may need.
-pub record IsSpentSearch (set : Contents) (budget k v : ℕ) (taken : List (List ℕ)) : Type 0 where
+pub record IsSpentResponse (set : Contents) (budget k v : ℕ) (taken : List (List ℕ)) : Type 0 where
   pub order : List ℕ
   pub forest : Plain
   pub roots : List ℕ
-  pub reached : IsReached set order forest roots k v
+  pub reached : IsVertexReached set order forest roots k v
   pub spent : IsSpent (search_for forest (wcet (graph_at set.tasks k) v) (deadline (graph_at set.tasks k) v)) roots budget taken
   pub short : IsBelowRefinement set.tasks budget k
 
 -- Why there is no answer: a budget was spent, in the analysis, or at a vertex of a set that is schedulable.
 abbrev pub IsUndecidedResponse : Contents → ℕ → ResponseTrail → Type 0
-IsUndecidedResponse set budget (FixedTrailOf trail) = IsUndecided set budget trail
-IsUndecidedResponse set budget (Search task vertex taken) = Schedulable set.tasks Fixed × IsSpentSearch set budget task vertex taken
+IsUndecidedResponse set budget (FixedTrailOf trail) = IsTreeUndecided set budget trail
+IsUndecidedResponse set budget (Search task vertex taken) = Schedulable set.tasks Fixed × IsSpentResponse set budget task vertex taken
 
 -- The vertices of the first n tasks, in order of the file.
 abbrev pub vertices_of : List Task → ℕ → List (ℕ × ℕ)
@@ -86,7 +86,7 @@ pub record IsRefused (set : Contents) (evidence : Evidence) : Type 0 where
   pub releases : List Release
   pub miss : Miss
   pub evidence_is : evidence ≡ FixedNo releases miss
-  pub in_range : IsInRange (FixedNo releases miss)
+  pub in_range : IsEvidenceInRange (FixedNo releases miss)
   pub no : IsNo set releases miss
 
 -- What each answer says, with a budget.
@@ -110,4 +110,4 @@ IsStatesResponse set states.Nothing = Unit {0}
 -- What came of vertex v of task k.
 abbrev pub IsVertexResponse : Contents → ℕ → ℕ → ℕ → VertexResponse → Type 0
 IsVertexResponse set budget k v (outcomes.Reached r) = IsResponseOfVertex set k v r
-IsVertexResponse set budget k v (outcomes.Spent taken) = IsSpentSearch set budget k v taken
+IsVertexResponse set budget k v (outcomes.Spent taken) = IsSpentResponse set budget k v taken

@@ -20,14 +20,14 @@ use Rattle.drt_response.specs.declared.subjects.Given.{Given}
 use Rattle.drt_response.specs.declared.subjects.VertexAt.{VertexAt}
 
 -- The set is schedulable, the order of priority is its own, the tails bound its walks, and the crests are theirs.
-pub record IsGiven (g : Given) : Type 0 where
+pub record IsResponseGiven (g : Given) : Type 0 where
   pub schedulable : Schedulable g.set.now.tasks Fixed
   pub order : IsPriorityOrder g.set.now.tasks g.order.now
   pub tails : HaveTails g.set.now.tasks g.tails.now
   pub crests : AreCrests g.tails.now g.crests.now
 
 -- The subject has the graphs and the tails of the tasks of higher priority, and the numbers of the vertex.
-pub record IsSubjectOf (g : Given) (at : VertexAt) (s : Subject) : Type 0 where
+pub record IsResponseSubject (g : Given) (at : VertexAt) (s : Subject) : Type 0 where
   pub graphs : graphs_at s.graphs.now s.order.now ≡ place_graphs (higher_places g.set.now.tasks (task_at g.set.now.tasks at.task))
   pub tails : s.tails.now ≡ higher_tails g.set.now.tasks g.tails.now (task_at g.set.now.tasks at.task)
   pub wcet : s.wcet ≡ wcet (graph_at g.set.now.tasks at.task) at.vertex

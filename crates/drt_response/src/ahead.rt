@@ -2,7 +2,7 @@
 ghost use Rattle.std.specs.Prelude.{◌<◌, ◌≤◌, All, IfOk, IfSome, length};
 ghost use denote.Param.Send.{IsSync};
 ghost use Rattle.drt_response.specs.Answers.{IsResponseOf, IsResponseOfVertex};
-ghost use Rattle.drt_response.specs.Subjects.{AreFound, IsGiven, IsVertexAt};
+ghost use Rattle.drt_response.specs.Subjects.{AreFound, IsResponseGiven, IsVertexAt};
 
 use crate::by_states::respond_vertex;
 use crate::subjects::{Given, VertexAt};
@@ -28,7 +28,7 @@ pub(crate) fn respond_ahead<G: Gate, R: Threads + Wait + Sync>(
     given: Given<'_>,
     searches: &[SearchClaim],
 ) -> Result<Vec<Option<Option<Response>>>, Memory>
-    requires given { IsGiven given }
+    requires given { IsResponseGiven given }
     ensures { IfOk result (λ found. AreFound given.entry found.items) }
 {
     let alloc = crew.alloc;
@@ -49,7 +49,7 @@ fn find_ahead<G: Gate, R: Threads + Wait + Sync>(
     vertices: &[VertexAt],
     order: &[u32],
 ) -> Result<Vec<Option<Option<Response>>>, Memory>
-    requires given { IsGiven given }
+    requires given { IsResponseGiven given }
     requires vertices { All (IsVertexAt given) vertices.now }
     requires order { All (λ i. i < length order.now) order.now }
     requires most { length order.now ≤ length vertices.now }
@@ -58,7 +58,7 @@ fn find_ahead<G: Gate, R: Threads + Wait + Sync>(
     let alone = crew.with(crew.effort.alone().at_most(MOST_AHEAD));
     let alone = &alone;
     let job = move |place: u32| -> Result<Option<Response>, Memory>
-        requires { IsSync R.row × IsSync G.row × IsGiven given × All (IsVertexAt given) vertices.now × (place < length vertices.now) }
+        requires { IsSync R.row × IsSync G.row × IsResponseGiven given × All (IsVertexAt given) vertices.now × (place < length vertices.now) }
         ensures { IfOk result (λ found. IfSome found (IsResponseOf given.entry.set.now)) }
     { respond_vertex(alone, given, vertices[place as usize]) };
     look_ahead(crew, order, job, is_none)
@@ -100,7 +100,7 @@ fn of_vertex(given: Given<'_>, at: VertexAt, found: Option<Option<Response>>) ->
 
 // The vertices of all tasks, in order of the file.
 fn list_vertices(alloc: Global, given: Given<'_>) -> Result<Vec<VertexAt>, Memory>
-    requires { IsGiven given }
+    requires { IsResponseGiven given }
     ensures { IfOk result (λ vertices. All (IsVertexAt given.entry) vertices.items) }
 {
     let graphs = given.set.graphs();
@@ -113,7 +113,7 @@ fn list_vertices(alloc: Global, given: Given<'_>) -> Result<Vec<VertexAt>, Memor
 
 // Adds the vertices of a task.
 fn add_vertices(given: Given<'_>, task: u32, vertices: &mut Vec<VertexAt>) -> Result<(), Memory>
-    requires given { IsGiven given }
+    requires given { IsResponseGiven given }
     requires task { task < length given.set.now.tasks }
     requires before { All (IsVertexAt given) vertices.old.items }
     ensures { IfOk result (λ done. All (IsVertexAt given.entry) vertices.new.items) }

@@ -6,7 +6,7 @@ ghost use Rattle.drt_model.specs.Schedulable.{Schedulable};
 ghost use Rattle.drt_busy.specs.Choice.{graph_at};
 ghost use Rattle.drt_fixed.specs.Answers.{IsDecision};
 ghost use Rattle.drt_response.specs.Answers.{AreResponses, AreResponsesTo, IsResponseOfVertex, IsStatesResponse};
-ghost use Rattle.drt_response.specs.Subjects.{AreFound, AreWorstAt, IsGiven};
+ghost use Rattle.drt_response.specs.Subjects.{AreFound, AreWorstAt, IsResponseGiven};
 ghost use Rattle.drt_response.specs.Tails.{HaveTails};
 
 use crate::ahead::{respond_ahead, take_response};
@@ -104,7 +104,7 @@ fn respond_all<G: Gate, R: Threads + Wait + Sync>(
     given: Given<'_>,
     searches: &[SearchClaim],
 ) -> Result<Option<Row<Response>>, Memory>
-    requires given { IsGiven given }
+    requires given { IsResponseGiven given }
     ensures { IfOk result (λ found. IfSome found (AreResponses given.entry.set.now)) }
 {
     let graphs = given.set.graphs();
@@ -126,7 +126,7 @@ fn respond_task<G: Gate, R: Threads + Wait + Sync>(
     ahead: &mut Vec<Option<Option<Response>>>,
     responses: &mut Vec<Response>,
 ) -> Result<bool, Memory>
-    requires given { IsGiven given }
+    requires given { IsResponseGiven given }
     requires task { task < length given.set.now.tasks }
     requires ahead { AreFound given ahead.old.items }
     requires before { AreResponsesTo given.set.now task 0 responses.old.items }
@@ -153,7 +153,7 @@ fn next_response<G: Gate, R: Threads + Wait + Sync>(
     number: usize,
     ahead: &mut Vec<Option<Option<Response>>>,
 ) -> Result<Option<Response>, Memory>
-    requires given { IsGiven given }
+    requires given { IsResponseGiven given }
     requires task { at.task < length given.set.now.tasks }
     requires vertex { at.vertex < vertex_count (graph_at given.set.now.tasks at.task) }
     requires ahead { AreFound given ahead.old.items }
@@ -172,7 +172,7 @@ pub(crate) fn respond_vertex<G: Gate, R: Threads + Wait + Sync>(
     given: Given<'_>,
     at: VertexAt,
 ) -> Result<Option<Response>, Memory>
-    requires given { IsGiven given }
+    requires given { IsResponseGiven given }
     requires task { at.task < length given.set.now.tasks }
     requires vertex { at.vertex < vertex_count (graph_at given.set.now.tasks at.task) }
     ensures { IfOk result (λ found. IfSome found (IsResponseOfVertex given.entry.set.now at.task at.vertex)) }
@@ -195,7 +195,7 @@ fn response_of(
     ticks: u64,
     walks: &[Row<u32>],
 ) -> Result<Response, Memory>
-    requires given { IsGiven given }
+    requires given { IsResponseGiven given }
     requires task { at.task < length given.set.now.tasks }
     requires vertex { at.vertex < vertex_count (graph_at given.set.now.tasks at.task) }
     requires worst { AreWorstAt given at ticks walks.now }

@@ -3,8 +3,8 @@ ghost use Rattle.std.specs.Prelude.{◌≡◌, ◌<◌, length};
 ghost use Rattle.drt_model.specs.Digraph.{vertex_count};
 ghost use Rattle.drt_busy.specs.Choice.{graph_at};
 ghost use Rattle.drt_claims.specs.Trees.{higher_count};
-ghost use Rattle.drt_sp_states.specs.Subjects.{IsSubject};
-ghost use Rattle.drt_response.specs.Subjects.{IsGiven, IsSubjectOf};
+ghost use Rattle.drt_sp_states.specs.Subjects.{IsStateSubject};
+ghost use Rattle.drt_response.specs.Subjects.{IsResponseGiven, IsResponseSubject};
 
 use drt_accepted::Accepted;
 use drt_model::{Row, Task};
@@ -30,11 +30,11 @@ pub(crate) struct VertexAt {
 
 /// The subject of the search of a vertex of a task: the tasks of higher priority, and the job of the vertex.
 pub(crate) fn subject_of<'a>(given: Given<'a>, at: VertexAt) -> Subject<'a>
-    requires given { IsGiven given }
+    requires given { IsResponseGiven given }
     requires task { at.task < length given.set.now.tasks }
     requires vertex { at.vertex < vertex_count (graph_at given.set.now.tasks at.task) }
-    ensures subject { IsSubject result }
-    ensures is { IsSubjectOf given.entry at result }
+    ensures subject { IsStateSubject result }
+    ensures is { IsResponseSubject given.entry at result }
 {
     let tasks = given.set.tasks();
     let count = higher_count(tasks, tasks[at.task as usize].priority);

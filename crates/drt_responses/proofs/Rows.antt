@@ -8,12 +8,12 @@ use Rattle.std.proofs.lemmas.List.Elements.{All-append, All-drop, All-head, All-
 use Rattle.drt_model.specs.declared.jobs.Release.{Release}
 use Rattle.drt_file.specs.trusted.Canonical.{written, written_line}
 use Rattle.drt_evidence.specs.Blocks.{ReadsBlock}
-use Rattle.drt_evidence.specs.LineForms.{AreCounted, IsAny}
+use Rattle.drt_evidence.specs.LineForms.{AreItemsCounted, IsAny}
 use Rattle.drt_claims.specs.Ranges.{IsInRangeRelease}
 use Rattle.drt_evidence.specs.Text.{count_line, release_line, word_line}
 use Rattle.drt_evidence.proofs.Blocks.{At, done, next, start, within}
 use Rattle.drt_evidence.proofs.Parts.{Two, written_both, written_flat, written_map}
-use Rattle.drt_responses.specs.Ranges.{AreInRange, IsInRangeResponse}
+use Rattle.drt_responses.specs.Ranges.{AreResponsesInRange, IsInRangeResponse}
 use Rattle.drt_responses.specs.Rows.{IsInRangeHeading, IsInRangeOpening, IsStop, first_block, first_words, heading_line, releases_block, rows_block}
 use Rattle.drt_responses.specs.Text.{response_line, response_lines, response_text}
 use Rattle.drt_responses.specs.declared.reading.lines.Heading.{Heading}
@@ -50,18 +50,18 @@ behind_heading (r ∷ rs) = releases_block r.releases ++ rows_block rs
 
 -- The responses are in range, and begin with these.
 pub record Begins (xs ys : List Response) : Type 0 where
-  pub in_range : AreInRange ys
+  pub in_range : AreResponsesInRange ys
   pub are : ys ≡ xs ++ drop (length xs) ys
 
-begins : (xs ys zs : List Response) → AreInRange ys → ys ≡ xs ++ zs → Begins xs ys
+begins : (xs ys zs : List Response) → AreResponsesInRange ys → ys ≡ xs ++ zs → Begins xs ys
 begins xs ys zs range e =
     let rest : drop (length xs) ys ≡ zs = ap (drop (length xs)) e ∙ drop-append_seam xs zs in
     record { in_range = range; are = e ∙ ap (λ l. xs ++ l) (sym rest) }
 
 -- Where a text of rows has been read down to a rest: these responses were.
 pub record RowsAt (xs : List Response) (bytes rest : List ℕ) : Type 0 where
-  pub in_range : AreInRange xs
-  pub here : At rows_block AreInRange (Begins xs) (λ ys. rows_block (drop (length xs) ys)) bytes rest
+  pub in_range : AreResponsesInRange xs
+  pub here : At rows_block AreResponsesInRange (Begins xs) (λ ys. rows_block (drop (length xs) ys)) bytes rest
 
 -- The same place, where the blocks that begin so are known otherwise.
 same_at : {X : Type 0} {T : X → List ℕ} {D E F : X → Type 0} {U V : X → List ℕ} {bytes rest : List ℕ}
@@ -77,14 +77,14 @@ same_at {T = T} to from a = record {
 pub rows_start : (bytes : List ℕ) → RowsAt [] bytes bytes
 rows_start bytes = record {
   in_range = All-nil IsInRangeResponse;
-  here = same_at (λ ys is. record { in_range = is; are = refl }) (λ ys b. (b.in_range, refl)) (start rows_block AreInRange bytes);
+  here = same_at (λ ys is. record { in_range = is; are = refl }) (λ ys b. (b.in_range, refl)) (start rows_block AreResponsesInRange bytes);
 }
 
 -- A response's own line, and its releases.
 response_is : (r : Response) → written (response_lines r) ≡ written_line (response_line r) ++ releases_block r.releases
 response_is r = ap (λ t. written_line (response_line r) ++ (written_line (count_line (codes "releases") (length r.releases)) ++ t)) (written_map release_line r.releases)
 
-heading_parts : (zs : List Response) → AreInRange zs → IsInRangeHeading (heading_at zs) × (rows_block zs ≡ written_line (heading_line (heading_at zs)) ++ behind_heading zs)
+heading_parts : (zs : List Response) → AreResponsesInRange zs → IsInRangeHeading (heading_at zs) × (rows_block zs ≡ written_line (heading_line (heading_at zs)) ++ behind_heading zs)
 heading_parts [] range = (tt, sym (append-nil (written_line (word_line (codes "close")))))
 heading_parts (r ∷ rs) range =
     let is = All-head IsInRangeResponse r rs range in
@@ -98,11 +98,11 @@ heading_parts (r ∷ rs) range =
 
 -- Where the next line was read.
 pub record HeadingAt (xs : List Response) (h : Heading) (bytes rest : List ℕ) : Type 0 where
-  pub in_range : AreInRange xs
+  pub in_range : AreResponsesInRange xs
   pub said : IsInRangeHeading h
-  pub here : At rows_block AreInRange (λ ys. Begins xs ys × (heading_at (drop (length xs) ys) ≡ h)) (λ ys. behind_heading (drop (length xs) ys)) bytes rest
+  pub here : At rows_block AreResponsesInRange (λ ys. Begins xs ys × (heading_at (drop (length xs) ys) ≡ h)) (λ ys. behind_heading (drop (length xs) ys)) bytes rest
 
-left_in_range : (xs ys : List Response) → Begins xs ys → AreInRange (drop (length xs) ys)
+left_in_range : (xs ys : List Response) → Begins xs ys → AreResponsesInRange (drop (length xs) ys)
 left_in_range xs ys b = All-drop IsInRangeResponse (length xs) ys b.in_range
 
 pub heading_read : {xs : List Response} {h : Heading} {bytes mid rest : List ℕ} → RowsAt xs bytes mid → ReadsBlock (λ y. written_line (heading_line y)) IsInRangeHeading mid h rest
@@ -114,22 +114,22 @@ heading_read {xs} a r = record {
 }
 
 -- Responses in range that begin with these and go on so.
-some_begun : (xs zs : List Response) → AreInRange xs → AreInRange zs → Begins xs (xs ++ zs) × (drop (length xs) (xs ++ zs) ≡ zs)
+some_begun : (xs zs : List Response) → AreResponsesInRange xs → AreResponsesInRange zs → Begins xs (xs ++ zs) × (drop (length xs) (xs ++ zs) ≡ zs)
 some_begun xs zs a b = (begins xs (xs ++ zs) zs (All-append IsInRangeResponse xs zs a b) refl, drop-append_seam xs zs)
 
-one_response : (o : Opening) (releases : List Release) → IsInRangeOpening o → AreCounted IsInRangeRelease releases → AreInRange (response_of o releases ∷ [])
+one_response : (o : Opening) (releases : List Release) → IsInRangeOpening o → AreItemsCounted IsInRangeRelease releases → AreResponsesInRange (response_of o releases ∷ [])
 one_response o releases is are =
     All-push IsInRangeResponse [] (response_of o releases) (All-nil IsInRangeResponse)
     (record { task = is.task; vertex = is.vertex; ticks = is.ticks; releases = are.0; counted = are.1 })
 
-some_heading : (xs : List Response) → AreInRange xs → (h : Heading) → IsInRangeHeading h → (ys : List Response) × Begins xs ys × (heading_at (drop (length xs) ys) ≡ h)
+some_heading : (xs : List Response) → AreResponsesInRange xs → (h : Heading) → IsInRangeHeading h → (ys : List Response) × Begins xs ys × (heading_at (drop (length xs) ys) ≡ h)
 some_heading xs range Closes is = let s = some_begun xs [] range (All-nil IsInRangeResponse) in (xs ++ [], s.0, ap heading_at s.1)
 some_heading xs range (Opens o) is =
     let r = response_of o [] in
     let s = some_begun xs (r ∷ []) range (one_response o [] is (All-nil IsInRangeRelease, omega arith)) in
     (xs ++ r ∷ [], s.0, ap heading_at s.1)
 
-pub heading_stop : {xs : List Response} {bytes mid : List ℕ} {e : Stop} → RowsAt xs bytes mid → IsStop (λ y. written_line (heading_line y)) IsInRangeHeading mid e → IsStop rows_block AreInRange bytes e
+pub heading_stop : {xs : List Response} {bytes mid : List ℕ} {e : Stop} → RowsAt xs bytes mid → IsStop (λ y. written_line (heading_line y)) IsInRangeHeading mid e → IsStop rows_block AreResponsesInRange bytes e
 heading_stop {xs} a i =
     stop (λ ys. heading_at (drop (length xs) ys)) (λ ys. behind_heading (drop (length xs) ys)) (λ ys b. heading_parts (drop (length xs) ys) (left_in_range xs ys b))
     (some_heading xs a.in_range) a.here i
@@ -142,7 +142,7 @@ closed xs ys b e = go (drop (length xs) ys) b.are e
     go [] are is = are ∙ append-nil xs
     go (r ∷ rs) are is = absurd (cc)
 
-pub rows_read : {xs : List Response} {bytes rest : List ℕ} → HeadingAt xs Closes bytes rest → ReadsBlock rows_block AreInRange bytes xs rest
+pub rows_read : {xs : List Response} {bytes rest : List ℕ} → HeadingAt xs Closes bytes rest → ReadsBlock rows_block AreResponsesInRange bytes xs rest
 rows_read {xs} a =
     let s = some_begun xs [] a.in_range (All-nil IsInRangeResponse) in
     let same : xs ++ [] ≡ xs = append-nil xs in
@@ -150,20 +150,20 @@ rows_read {xs} a =
     done a.here xs (subst (Begins xs) same s.0, ap heading_at left) (ap behind_heading left) (λ ys is. closed xs ys is.0 is.1)
 
 -- The releases of a response are read, or not.
-releases_parts : (zs : List Response) (o : Opening) → AreInRange zs → heading_at zs ≡ Opens o
-    → AreCounted IsInRangeRelease (releases_at zs) × (behind_heading zs ≡ releases_block (releases_at zs) ++ rows_block (others_at zs))
+releases_parts : (zs : List Response) (o : Opening) → AreResponsesInRange zs → heading_at zs ≡ Opens o
+    → AreItemsCounted IsInRangeRelease (releases_at zs) × (behind_heading zs ≡ releases_block (releases_at zs) ++ rows_block (others_at zs))
 releases_parts [] o range e = absurd (cc)
 releases_parts (r ∷ rs) o range e = let is = All-head IsInRangeResponse r rs range in ((is.releases, is.counted), refl)
 
-some_releases : (xs : List Response) (o : Opening) → AreInRange xs → IsInRangeOpening o → (releases : List Release) → AreCounted IsInRangeRelease releases
+some_releases : (xs : List Response) (o : Opening) → AreResponsesInRange xs → IsInRangeOpening o → (releases : List Release) → AreItemsCounted IsInRangeRelease releases
     → (ys : List Response) × (Begins xs ys × (heading_at (drop (length xs) ys) ≡ Opens o)) × (releases_at (drop (length xs) ys) ≡ releases)
 some_releases xs o range is releases are =
     let r = response_of o releases in
     let s = some_begun xs (r ∷ []) range (one_response o releases is are) in
     (xs ++ r ∷ [], (s.0, ap heading_at s.1), ap releases_at s.1)
 
-pub releases_stop : {xs : List Response} {o : Opening} {bytes mid : List ℕ} {e : Stop} → HeadingAt xs (Opens o) bytes mid → IsStop releases_block (AreCounted IsInRangeRelease) mid e
-    → IsStop rows_block AreInRange bytes e
+pub releases_stop : {xs : List Response} {o : Opening} {bytes mid : List ℕ} {e : Stop} → HeadingAt xs (Opens o) bytes mid → IsStop releases_block (AreItemsCounted IsInRangeRelease) mid e
+    → IsStop rows_block AreResponsesInRange bytes e
 releases_stop {xs} {o} a i =
     stop (λ ys. releases_at (drop (length xs) ys)) (λ ys. rows_block (others_at (drop (length xs) ys)))
     (λ ys b. releases_parts (drop (length xs) ys) o (left_in_range xs ys b.0) b.1) (some_releases xs o a.in_range a.said) a.here i
@@ -176,7 +176,7 @@ one_more xs (r ∷ rs) o releases e f =
     ap (λ p. response_of p r.releases ∷ rs) same ∙ ap (λ l. response_of o l ∷ rs) f
 
 pub response_read : {xs : List Response} {o : Opening} {releases : List Release} {bytes mid rest : List ℕ} → HeadingAt xs (Opens o) bytes mid
-    → ReadsBlock releases_block (AreCounted IsInRangeRelease) mid releases rest → RowsAt (xs ++ response_of o releases ∷ []) bytes rest
+    → ReadsBlock releases_block (AreItemsCounted IsInRangeRelease) mid releases rest → RowsAt (xs ++ response_of o releases ∷ []) bytes rest
 response_read {xs} {o} {releases} a r = record {
   in_range = All-append IsInRangeResponse xs (x ∷ []) a.in_range (one_response o releases a.said r.is);
   here = same_at to from
@@ -215,7 +215,7 @@ line_within f {rest = rest} {x = x} r =
     omega (arith, total, whole, own)
 
 -- The first line, and the rows below it.
-abbrev pub text_parts : Two response_text AreInRange first_block IsAny rows_block AreInRange
+abbrev pub text_parts : Two response_text AreResponsesInRange first_block IsAny rows_block AreResponsesInRange
 text_parts = record {
   first = λ rs. tt;
   second = λ rs. rs;

@@ -8,8 +8,8 @@ use Rattle.drt_file.specs.trusted.Cutting.{fed, HasNoFeed}
 use Rattle.drt_file.proofs.Feeds.{count_fed, first_before, first_fed, first_line_of, no_lines}
 use Rattle.drt_evidence.specs.Blocks.{ReadsBlock, RefusesLine, Stops}
 use Rattle.drt_evidence.proofs.Sets.{line_more}
-use Rattle.drt_responses.specs.Ranges.{AreInRange}
-use Rattle.drt_responses.specs.Reading.{IsFaultyBy, HasTextFault, HoldsText, IsTextOf}
+use Rattle.drt_responses.specs.Ranges.{AreResponsesInRange}
+use Rattle.drt_responses.specs.Reading.{AreResponsesFaultyBy, HasTextFault, HoldsText, IsResponsesText}
 use Rattle.drt_responses.specs.Rows.{IsStop}
 use Rattle.drt_responses.specs.Text.{response_text}
 use Rattle.drt_responses.specs.declared.reading.text.Stop.{Stop}
@@ -36,7 +36,7 @@ line_behind bytes front tail ls left are size lines none = ap (λ n. 1 + n) (ap 
 
 -- Fewer lines than begin a text don't break.
 keep : (bytes : List ℕ) (ls : List (List ℕ)) (rest : List ℕ) → AllByRecursion HasNoFeed ls → bytes ≡ fed ls ++ rest
-    → (((s : List Response) (after : List ℕ) → AreInRange s → response_text s ≡ fed ls ++ after → ⊥) → ⊥) → (n : ℕ) → n ≤ length ls → IsFaultyBy bytes n → ⊥
+    → (((s : List Response) (after : List ℕ) → AreResponsesInRange s → response_text s ≡ fed ls ++ after → ⊥) → ⊥) → (n : ℕ) → n ≤ length ls → AreResponsesFaultyBy bytes n → ⊥
 keep bytes ls rest none are begun n le (inl (few, hold)) =
     let count = ap line_count are ∙ count_fed ls rest none in
     omega (arith, count, few, le)
@@ -46,17 +46,17 @@ keep bytes ls rest none are begun n le (inr broken) =
     begun (λ s after is e. broken (s, r.0 ++ after, record { in_range = is; is = sym (append_assoc (first_lines n bytes) r.0 after) ∙ ap (λ t. t ++ after) front ∙ sym e }))
 
 -- Bytes that begin with no text are no text, and hold none.
-no_text : (bytes : List ℕ) → ((s : List Response) (t : List ℕ) → AreInRange s → bytes ≡ response_text s ++ t → ⊥) → (s : List Response) → IsTextOf s bytes → ⊥
+no_text : (bytes : List ℕ) → ((s : List Response) (t : List ℕ) → AreResponsesInRange s → bytes ≡ response_text s ++ t → ⊥) → (s : List Response) → IsResponsesText s bytes → ⊥
 no_text bytes none s is = none s [] is.in_range (is.is ∙ sym (append-nil (response_text s)))
 
-none_held : (bytes : List ℕ) → ((s : List Response) (t : List ℕ) → AreInRange s → bytes ≡ response_text s ++ t → ⊥) → HoldsText bytes → ⊥
+none_held : (bytes : List ℕ) → ((s : List Response) (t : List ℕ) → AreResponsesInRange s → bytes ≡ response_text s ++ t → ⊥) → HoldsText bytes → ⊥
 none_held bytes none (s, front, rest, is, e) = none s rest is.in_range (e ∙ ap (λ t. t ++ rest) is.is)
 
-pub stopped_none : {bytes : List ℕ} {left : ℕ} {missing : Bool} → Stops response_text AreInRange bytes left missing → (s : List Response) → IsTextOf s bytes → ⊥
+pub stopped_none : {bytes : List ℕ} {left : ℕ} {missing : Bool} → Stops response_text AreResponsesInRange bytes left missing → (s : List Response) → IsResponsesText s bytes → ⊥
 stopped_none {bytes} h = no_text bytes h.none
 
 -- The next line is missing.
-missing_at : (bytes : List ℕ) (left : ℕ) (line : ℕ) (h : Stops response_text AreInRange bytes left true) → line ≡ 1 + length h.lines.ls → HasTextFault bytes line
+missing_at : (bytes : List ℕ) (left : ℕ) (line : ℕ) (h : Stops response_text AreResponsesInRange bytes left true) → line ≡ 1 + length h.lines.ls → HasTextFault bytes line
 missing_at bytes left line h at =
     let stands : bytes ≡ fed h.lines.ls ++ h.tail = h.stands ∙ ap (λ t. t ++ h.tail) h.lines.are in
     let count = ap line_count stands ∙ count_fed h.lines.ls h.tail h.lines.no_feeds in
@@ -69,10 +69,10 @@ missing_at bytes left line h at =
     }
 
 -- The next line can't stand there.
-unfit_at : (bytes : List ℕ) (left : ℕ) (line : ℕ) (h : Stops response_text AreInRange bytes left false) → line ≡ 1 + length h.lines.ls → HasTextFault bytes line
+unfit_at : (bytes : List ℕ) (left : ℕ) (line : ℕ) (h : Stops response_text AreResponsesInRange bytes left false) → line ≡ 1 + length h.lines.ls → HasTextFault bytes line
 unfit_at bytes left line h at =
     let ls = h.lines.ls in
-    let r : RefusesLine response_text AreInRange h.front h.tail = h.is_there refl in
+    let r : RefusesLine response_text AreResponsesInRange h.front h.tail = h.is_there refl in
     let stands : bytes ≡ fed ls ++ h.tail = h.stands ∙ ap (λ t. t ++ h.tail) h.lines.are in
     let whole : bytes ≡ fed ls ++ (r.line ++ 10 ∷ r.others) = stands ∙ ap (λ t. fed ls ++ t) r.cut in
     let number : line ≡ length ls + 1 = omega (arith, at) in
@@ -100,7 +100,7 @@ unfolding first_lines
 some_first b bs = (first_lines (cond (b == 10) 0 1) bs, refl)
 
 -- Bytes follow a whole text.
-followed_at : (bytes : List ℕ) (s : List Response) (b : ℕ) (rest : List ℕ) (line : ℕ) (r : ReadsBlock response_text AreInRange bytes s (b ∷ rest)) → line ≡ 1 + length r.lines.ls
+followed_at : (bytes : List ℕ) (s : List Response) (b : ℕ) (rest : List ℕ) (line : ℕ) (r : ReadsBlock response_text AreResponsesInRange bytes s (b ∷ rest)) → line ≡ 1 + length r.lines.ls
     → HasTextFault bytes line
 followed_at bytes s b rest line r at =
     let ls = r.lines.ls in
@@ -116,36 +116,36 @@ followed_at bytes s b rest line r at =
     }
   where
     -- No text is this one and a byte more.
-    longer : (t : List Response) (c : ℕ) (more : List ℕ) → AreInRange t → response_text s ++ (c ∷ more) ≡ response_text t → ⊥
+    longer : (t : List Response) (c : ℕ) (more : List ℕ) → AreResponsesInRange t → response_text s ++ (c ∷ more) ≡ response_text t → ⊥
     longer t c more is e =
         let same : t ≡ s = r.only t (c ∷ more) [] is (e ∙ sym (append-nil (response_text t))) in
         let nothing : c ∷ more ≡ [] = append_cancel_left (response_text s) (c ∷ more) [] (e ∙ ap response_text same ∙ sym (append-nil (response_text s))) in
         cc
 
 -- A whole text is that of the responses read.
-pub whole_is : (bytes : List ℕ) (s : List Response) (rest : List ℕ) → ReadsBlock response_text AreInRange bytes s rest → length rest ≤ 0 → IsTextOf s bytes
+pub whole_is : (bytes : List ℕ) (s : List Response) (rest : List ℕ) → ReadsBlock response_text AreResponsesInRange bytes s rest → length rest ≤ 0 → IsResponsesText s bytes
 whole_is bytes s [] r none = record { in_range = r.is; is = r.stands ∙ append-nil (response_text s) }
 whole_is bytes s (b ∷ rest) r none = absurd (omega (arith, none))
 
-pub whole_one : (bytes : List ℕ) (s : List Response) (rest : List ℕ) → ReadsBlock response_text AreInRange bytes s rest → (t : List Response) → IsTextOf t bytes → t ≡ s
+pub whole_one : (bytes : List ℕ) (s : List Response) (rest : List ℕ) → ReadsBlock response_text AreResponsesInRange bytes s rest → (t : List Response) → IsResponsesText t bytes → t ≡ s
 whole_one bytes s rest r t is = r.only t rest [] is.in_range (sym r.stands ∙ is.is ∙ sym (append-nil (response_text t)))
 
 -- How many bytes are left.
-pub left_within : {bytes : List ℕ} {left : ℕ} {missing : Bool} → Stops response_text AreInRange bytes left missing → left ≤ length bytes
+pub left_within : {bytes : List ℕ} {left : ℕ} {missing : Bool} → Stops response_text AreResponsesInRange bytes left missing → left ≤ length bytes
 left_within h =
     let total = ap length h.stands ∙ length-append h.front h.tail in
     let size = h.left_is in
     omega (arith, total, size)
 
 -- Bytes that stop being a text have their fault there.
-pub stop_cause : (bytes : List ℕ) (left : ℕ) (missing : Bool) → Stops response_text AreInRange bytes left missing → HasTextFault bytes (1 + line_count (take (length bytes - left) bytes))
+pub stop_cause : (bytes : List ℕ) (left : ℕ) (missing : Bool) → Stops response_text AreResponsesInRange bytes left missing → HasTextFault bytes (1 + line_count (take (length bytes - left) bytes))
 stop_cause bytes left true h =
     missing_at bytes left (1 + line_count (take (length bytes - left) bytes)) h (line_behind bytes h.front h.tail h.lines.ls left h.stands h.left_is h.lines.are h.lines.no_feeds)
 stop_cause bytes left false h =
     unfit_at bytes left (1 + line_count (take (length bytes - left) bytes)) h (line_behind bytes h.front h.tail h.lines.ls left h.stands h.left_is h.lines.are h.lines.no_feeds)
 
 -- So have bytes that go on behind a whole text.
-pub followed_cause : (bytes : List ℕ) (s : List Response) (rest : List ℕ) → ReadsBlock response_text AreInRange bytes s rest → 0 < length rest
+pub followed_cause : (bytes : List ℕ) (s : List Response) (rest : List ℕ) → ReadsBlock response_text AreResponsesInRange bytes s rest → 0 < length rest
     → HasTextFault bytes (1 + line_count (take (length bytes - length rest) bytes))
 followed_cause bytes s [] r some = absurd (omega (arith, some))
 followed_cause bytes s (b ∷ rest) r some =
@@ -153,5 +153,5 @@ followed_cause bytes s (b ∷ rest) r some =
     (line_behind bytes (response_text s) (b ∷ rest) r.lines.ls (length (b ∷ rest)) r.stands refl r.lines.are r.lines.no_feeds)
 
 -- The stop that a call answers with.
-pub stop_here : {bytes : List ℕ} {e : Stop} {left : ℕ} {missing : Bool} → IsStop response_text AreInRange bytes e → e ≡ stops.Fault left missing → Stops response_text AreInRange bytes left missing
+pub stop_here : {bytes : List ℕ} {e : Stop} {left : ℕ} {missing : Bool} → IsStop response_text AreResponsesInRange bytes e → e ≡ stops.Fault left missing → Stops response_text AreResponsesInRange bytes left missing
 stop_here {left = left} {missing = missing} i is = i.at left missing is

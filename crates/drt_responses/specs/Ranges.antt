@@ -12,5 +12,5 @@ pub record IsInRangeResponse (r : Response) : Type 0 where
   pub counted : IsCounted r.releases
 
 -- Each of the responses is in range.
-abbrev pub AreInRange : List Response → Type 0
-AreInRange responses = All IsInRangeResponse responses
+abbrev pub AreResponsesInRange : List Response → Type 0
+AreResponsesInRange responses = All IsInRangeResponse responses

@@ -3,7 +3,7 @@ ghost use Rattle.std.specs.Prelude.{◌≡◌, ℕ, ◌<◌, IfOk, IfSome, IsTru
 ghost use Rattle.drt_model.specs.Digraph.{out_degree, vertex_count};
 ghost use Rattle.drt_demand.specs.Demand.{demand_algebra};
 ghost use Rattle.drt_table.specs.Machine.{Setting, extended};
-ghost use Rattle.drt_table.specs.View.{CanApply, IsStep};
+ghost use Rattle.drt_table.specs.View.{CanApply, IsTableStep};
 
 use drt_demand::DemandLabel;
 use drt_graph::Graph;
@@ -90,7 +90,7 @@ fn try_offer(
 ) -> Result<Option<TableReply>, Memory>
     requires { graph.now ≡ table.old.graph }
     ensures graph { graph.now ≡ table.new.graph }
-    ensures step { IfOk result (λ reply. IfSome reply (λ r. IsStep demand_algebra table.old table.new worker (TableStep.Offer node edge) r)) }
+    ensures step { IfOk result (λ reply. IfSome reply (λ r. IsTableStep demand_algebra table.old table.new worker (TableStep.Offer node edge) r)) }
 {
     if !may_offer(graph, table, worker, node, edge) {
         return Ok(None);
@@ -115,7 +115,7 @@ pub(crate) fn try_step(
 ) -> Result<Option<TableReply>, Memory>
     requires { graph.now ≡ table.old.graph }
     ensures graph { graph.now ≡ table.new.graph }
-    ensures step { IfOk result (λ reply. IfSome reply (λ r. IsStep demand_algebra table.old table.new worker step r)) }
+    ensures step { IfOk result (λ reply. IfSome reply (λ r. IsTableStep demand_algebra table.old table.new worker step r)) }
 {
     match step {
         TableStep::Take => {

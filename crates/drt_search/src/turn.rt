@@ -1,8 +1,8 @@
 //! The turns of a worker.
 
 ghost use Rattle.std.specs.Prelude.{◌≡◌, ℕ, ◌<◌, IfOk, IfNone, IfSome, IsTrue, None, Some, length, true};
-ghost use Rattle.drt_model.specs.Digraph.{out_degree, IsSound};
-ghost use Rattle.drt_pool.specs.Turns.{IsStop};
+ghost use Rattle.drt_model.specs.Digraph.{out_degree, IsSoundGraph};
+ghost use Rattle.drt_pool.specs.Turns.{IsEndOfTurns};
 ghost use Rattle.drt_table.specs.Machine.{Setting, extended};
 ghost use Rattle.drt_shared.specs.Passes.{IsPassOf, HasMoved};
 ghost use Rattle.drt_shared.specs.Replies.{ForReply};
@@ -102,7 +102,7 @@ fn extended<L: Label>(alloc: Global, graph: &Graph, label: &L, edge: u32) -> Res
 
 // The times of a graph are in range, and its edges lead to its vertices. It does nothing.
 fn keeps_its_bounds(graph: &Graph)
-    ensures { IsSound graph.now }
+    ensures { IsSoundGraph graph.now }
 {
     graph.vertex_count();
 }

@@ -9,7 +9,7 @@ use Rattle.drt_table.specs.Machine.{State, Outcome}
 use Rattle.drt_table.specs.Node.{NodeOf, Held, is_pending, is_taken, is_pending_state, is_taken_state, is_held_by}
 use Rattle.drt_table.specs.declared.node.NodeState.{NodeState}
 use Rattle.drt_table.specs.declared.node.NodeState.TheVariants.{Pending, Taken as TakenBy, Done}
-use Rattle.drt_table.specs.View.{View, IsTable, IsStep, setting_of, state_of, spares_of, spares_after, outcome}
+use Rattle.drt_table.specs.View.{View, IsTable, IsTableStep, setting_of, state_of, spares_of, spares_after, outcome}
 use Rattle.drt_table.specs.declared.step.TableStep.{TableStep}
 use Rattle.drt_table.specs.declared.step.TableReply.{TableReply}
 use Rattle.drt_table.specs.declared.step.TableReply.TheVariants.{Taken, Busy, Finished, Added, Dominated, OutOfRange, Closed, Spent}
@@ -69,7 +69,7 @@ spare_added Spent spares k added e = absurd added
 pub few_logged : {L : Type 0} (a : Algebra L) (laws : Laws a) (v : View L) → IsTable a v → length v.log ≤ 1000000
 few_logged a laws v is = let l : length v.log ≤ v.budget = log_within a laws v is in let b : v.budget ≤ 1000000 = is.budget in omega arith
 
-module _ {L : Type 0} (a : Algebra L) (old new : View L) (w : ℕ) (step : TableStep) (reply : TableReply) (has : HasSpares old) (is : IsStep a old new w step reply) where
+module _ {L : Type 0} (a : Algebra L) (old new : View L) (w : ℕ) (step : TableStep) (reply : TableReply) (has : HasSpares old) (is : IsTableStep a old new w step reply) where
   abbrev gone : Outcome L
   gone = outcome a old w step
 

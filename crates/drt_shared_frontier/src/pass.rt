@@ -21,9 +21,9 @@ pub struct FrontierPass {
 impl Model for FrontierPass {
     ghost use Rattle.std.specs.Prelude.{◌≡◌, []};
     ghost use Rattle.drt_lock.specs.declared.view.Grip.TheVariants.{Away};
-    ghost use Rattle.drt_shared_frontier.specs.Passes.{PassOf};
+    ghost use Rattle.drt_shared_frontier.specs.Passes.{FrontierPassOf};
 
-    ghost Value = { PassOf };
+    ghost Value = { FrontierPassOf };
 
     ghost view = { λ p. record { number = p.number; count = p.count; held = p.held; nodes = p.nodes.items; name = p.seat.table_id; setting = p.seat.me.0.fixed } };
 

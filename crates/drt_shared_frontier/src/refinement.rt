@@ -1,12 +1,12 @@
 //! Working a frontier to its end.
 
 ghost use Rattle.std.specs.Prelude.{◌≡◌, ℕ, ◌≤◌, IfOk, length};
-ghost use Rattle.drt_pool.specs.Turns.{EachPlace, IsStop};
+ghost use Rattle.drt_pool.specs.Turns.{EachPlace, IsEndOfTurns};
 ghost use Rattle.drt_refine.specs.Drive.{StopsAt};
 ghost use Rattle.drt_refine.specs.Eager.{IsEager};
 ghost use Rattle.drt_refine.specs.View.{IsFrontier, setting_of, state_of};
 ghost use Rattle.drt_steps.specs.Time.{AreChosen};
-ghost use Rattle.drt_shared_frontier.specs.Passes.{IsPassOf};
+ghost use Rattle.drt_shared_frontier.specs.Passes.{IsPassOfFrontier};
 
 use crate::pass::FrontierPass;
 use crate::shared::SharedFrontier;
@@ -32,7 +32,7 @@ pub(crate) struct Refinement<'a> {
 impl Work for Refinement<'_> {
     type Pass = FrontierPass;
 
-    ghost fits = { λ work place pass. (work.forest.now ≡ work.shared.now.setting.forest) × IsPassOf work.shared.now pass };
+    ghost fits = { λ work place pass. (work.forest.now ≡ work.shared.now.setting.forest) × IsPassOfFrontier work.shared.now pass };
 
     ghost ended = { λ work place pass. Unit {0} };
 
@@ -138,9 +138,9 @@ fn run_passes<G: Gate, R: Threads + Wait + Sync>(
 ) -> Row<FrontierPass>
     requires forest { forest.now ≡ shared.now.setting.forest }
     requires count { length passes ≤ 16 }
-    requires passes { EachPlace (λ place p. IsPassOf shared.now p) passes }
+    requires passes { EachPlace (λ place p. IsPassOfFrontier shared.now p) passes }
     ensures count { length result ≡ length passes }
-    ensures passes { EachPlace (λ place p. IsPassOf shared.now p) result }
+    ensures passes { EachPlace (λ place p. IsPassOfFrontier shared.now p) result }
 {
     let mut passes = passes.into_vec();
     let work = Refinement { shared, forest };

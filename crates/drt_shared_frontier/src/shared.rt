@@ -9,10 +9,10 @@ ghost use Rattle.drt_refine.specs.View.{IsFrontier, setting_of};
 ghost use Rattle.drt_refine.specs.declared.step.FrontierStep.TheVariants.{Take};
 ghost use Rattle.drt_steps.specs.Time.{AreChosen};
 ghost use Rattle.drt_worklist.specs.Places.{total};
-ghost use Rattle.drt_frontier_board.specs.Board.{BoardOf, terms_of, CanMake, CanSettle, IsCall};
-ghost use Rattle.drt_frontier_board.specs.Finds.{DiffersIfStrange};
-ghost use Rattle.drt_shared_frontier.specs.Passes.{IsPassOf, IsNewPass, HasMoved};
-ghost use Rattle.drt_frontier_board.specs.Replies.{ForReply, IsReplyTo, logged, held_after, held_by};
+ghost use Rattle.drt_frontier_board.specs.Board.{BoardOf, terms_of, CanMake, CanSettle, IsFrontierCall};
+ghost use Rattle.drt_frontier_board.specs.Finds.{FrontierDiffersIfStrange};
+ghost use Rattle.drt_shared_frontier.specs.Passes.{IsPassOfFrontier, IsNewPass, HasMoved};
+ghost use Rattle.drt_frontier_board.specs.Replies.{ForFrontierReply, IsReplyTo, logged, held_after, held_by};
 
 use crate::pass::FrontierPass;
 use crate::passes::{deal, gather};
@@ -42,14 +42,14 @@ pub struct SharedFrontier {
 }
 
 impl Model for SharedFrontier {
-    ghost use Rattle.drt_shared_frontier.specs.Passes.{SharedOf};
-    ghost use Rattle.drt_shared_frontier.specs.Shared.{IsOwner, IsStarted};
+    ghost use Rattle.drt_shared_frontier.specs.Passes.{SharedFrontierOf};
+    ghost use Rattle.drt_shared_frontier.specs.Shared.{IsFrontierOwner, IsStarted};
 
-    ghost Value = { SharedOf };
+    ghost Value = { SharedFrontierOf };
 
     ghost view = { λ s. record { name = s.lock.name; setting = s.lock.fixed; passes = s.passes } };
 
-    ghost invariant = { λ s. IsOwner s.lock.name s.lock.fixed s.passes s.owner × IsStarted s.lock.fixed s.wcet s.deadline };
+    ghost invariant = { λ s. IsFrontierOwner s.lock.name s.lock.fixed s.passes s.owner × IsStarted s.lock.fixed s.wcet s.deadline };
 }
 
 impl SharedFrontier {
@@ -93,12 +93,12 @@ impl SharedFrontier {
     /// Takes the next combination, for a pass that holds none. With the combination comes a copy of its nodes.
     pub fn take<R: Wait>(&self, rt: &R, forest: &Forest, pass: &mut FrontierPass) -> FrontierAnswer
         requires forest { forest.now ≡ self.now.setting.forest }
-        requires pass { IsPassOf self.now pass.old }
+        requires pass { IsPassOfFrontier self.now pass.old }
         requires free { pass.old.held ≡ None }
-        ensures pass { IsPassOf self.now pass.new }
+        ensures pass { IsPassOfFrontier self.now pass.new }
         ensures moved { HasMoved pass.old pass.new result }
-        ensures reply { ForReply (IsReplyTo Take) result }
-        ensures strange { DiffersIfStrange pass.old.held result }
+        ensures reply { ForFrontierReply (IsReplyTo Take) result }
+        ensures strange { FrontierDiffersIfStrange pass.old.held result }
     {
         self.step(rt, forest, pass, FrontierStep::Take)
     }
@@ -113,12 +113,12 @@ impl SharedFrontier {
         step: FrontierStep,
     ) -> FrontierAnswer
         requires forest { forest.now ≡ self.now.setting.forest }
-        requires pass { IsPassOf self.now pass.old }
+        requires pass { IsPassOfFrontier self.now pass.old }
         requires settles { CanSettle self.now.setting pass.old.held pass.old.nodes step }
-        ensures pass { IsPassOf self.now pass.new }
+        ensures pass { IsPassOfFrontier self.now pass.new }
         ensures moved { HasMoved pass.old pass.new result }
-        ensures reply { ForReply (IsReplyTo step) result }
-        ensures strange { DiffersIfStrange pass.old.held result }
+        ensures reply { ForFrontierReply (IsReplyTo step) result }
+        ensures strange { FrontierDiffersIfStrange pass.old.held result }
     {
         self.step(rt, forest, pass, step)
     }
@@ -126,7 +126,7 @@ impl SharedFrontier {
     /// The frontier. Its log is an eager run and has exactly as many entries as the passes count together.
     pub fn finish(self, passes: Row<FrontierPass>) -> Frontier
         requires count { length passes ≡ self.passes }
-        requires passes { EachPlace (λ place p. IsPassOf self p) passes }
+        requires passes { EachPlace (λ place p. IsPassOfFrontier self p) passes }
         ensures setting { setting_of self.setting.forest result ≡ self.setting }
         ensures log { length result.log ≡ total (λ p. p.count) passes }
         ensures run { IsFrontier self.setting.forest result }
@@ -139,7 +139,7 @@ impl SharedFrontier {
     /// The step that settles the combination that the pass holds, found on the pass's copy and without the lock.
     pub fn choose_step(&self, forest: &Forest, pass: &FrontierPass) -> FrontierStep
         requires forest { forest.now ≡ self.now.setting.forest }
-        requires pass { IsPassOf self.now pass.now }
+        requires pass { IsPassOfFrontier self.now pass.now }
         requires holds { (id : ℕ) × (pass.now.held ≡ Some id) }
         ensures { CanSettle self.now.setting pass.now.held pass.now.nodes result }
     {
@@ -176,12 +176,12 @@ impl SharedFrontier {
         step: FrontierStep,
     ) -> FrontierAnswer
         requires forest { forest.now ≡ self.now.setting.forest }
-        requires pass { IsPassOf self.now pass.old }
+        requires pass { IsPassOfFrontier self.now pass.old }
         requires can { CanMake self.now.setting pass.old.held pass.old.nodes step }
-        ensures pass { IsPassOf self.now pass.new }
+        ensures pass { IsPassOfFrontier self.now pass.new }
         ensures moved { HasMoved pass.old pass.new result }
-        ensures reply { ForReply (IsReplyTo step) result }
-        ensures strange { DiffersIfStrange pass.old.held result }
+        ensures reply { ForFrontierReply (IsReplyTo step) result }
+        ensures strange { FrontierDiffersIfStrange pass.old.held result }
     {
         self.lock.enter(rt, &mut pass.seat);
         let answer = self.act(
@@ -214,7 +214,7 @@ impl SharedFrontier {
         requires nodes { AreInPlace self.now.setting nodes.old.items }
         requires can { CanMake self.now.setting held nodes.old.items step }
         ensures name { (seat.new.table_id ≡ seat.old.table_id) × (seat.new.me.0 ≡ seat.old.me.0) }
-        ensures machine { (y : BoardOf) → HoldsMachine y seat.old.me → (z : BoardOf) × HoldsMachine z seat.new.me × IsCall y z worker held nodes.old.items nodes.new.items step result }
+        ensures machine { (y : BoardOf) → HoldsMachine y seat.old.me → (z : BoardOf) × HoldsMachine z seat.new.me × IsFrontierCall y z worker held nodes.old.items nodes.new.items step result }
     {
         let board = seat.slot_mut(self.lock.slots(), 0);
         board.call(forest, worker, held, nodes, step)

@@ -15,7 +15,7 @@ use Rattle.drt_claims.specs.Ranges.{IsCounted, IsInRangeItem}
 use Rattle.drt_claims.specs.declared.evidence.Item.{Item}
 use Rattle.drt_refine.specs.Combination.{Combination}
 use Rattle.drt_refine.specs.Facts.{Facts}
-use Rattle.drt_refine.specs.Machine.{IsRun, Setting, State, replay}
+use Rattle.drt_refine.specs.Machine.{IsRun, FrontierSetting, FrontierState, replay}
 use Rattle.drt_refine.specs.View.{setting_of}
 use Rattle.drt_refine.specs.declared.step.FrontierEntry.{FrontierEntry}
 use Rattle.drt_sp.specs.Attempts.{AreGiven, AreTables, AreWith, CanBeEnded, HaveParts, IsAttempt, IsPartOf, Table}
@@ -29,7 +29,7 @@ use Rattle.drt_sp.proofs.Joining.{items_prove, parts_put}
 
 -- The laws of a frontier and of a forest that the parts stand on.
 abbrev pub FactsHold : Type 0
-FactsHold = (t : Setting) (log : List FrontierEntry) → IsForest t.forest → AreChosen t.deadline t.forest.pool t.roots → IsRun t log → Facts t (replay t log).combinations
+FactsHold = (t : FrontierSetting) (log : List FrontierEntry) → IsForest t.forest → AreChosen t.deadline t.forest.pool t.roots → IsRun t log → Facts t (replay t log).combinations
 
 abbrev pub AreAbove : Plain → Type 0
 AreAbove f = (leaf n t : ℕ) → IsUnder f leaf n → value_at (values f leaf) t ≤ value_at (values f n) t
@@ -85,13 +85,13 @@ module _ (f : Plain) (roots : List ℕ) (g : Digraph) where
 
   module _ (a : Attempt) (h : IsAttempt f roots g a) where
     roots_are : a.frontier.roots ≡ roots
-    roots_are = ap (λ (t : Setting). t.roots) h.spent.setting
+    roots_are = ap (λ (t : FrontierSetting). t.roots) h.spent.setting
 
     wcet_are : a.frontier.wcet ≡ a.wcet
-    wcet_are = ap (λ (t : Setting). t.wcet) h.spent.setting
+    wcet_are = ap (λ (t : FrontierSetting). t.wcet) h.spent.setting
 
     deadline_are : a.frontier.deadline ≡ a.deadline
-    deadline_are = ap (λ (t : Setting). t.deadline) h.spent.setting
+    deadline_are = ap (λ (t : FrontierSetting). t.deadline) h.spent.setting
 
     pub deadline_small : a.frontier.deadline ≤ 1000000
     deadline_small = subst (λ (d : ℕ). d ≤ 1000000) (sym deadline_are) h.deadline_small
@@ -104,7 +104,7 @@ module _ (f : Plain) (roots : List ℕ) (g : Digraph) where
           let v = a.frontier in
           let t = setting_of f v in
           let front = h.spent.frontier in
-          let facts : Facts t v.combinations = subst (λ (s : State). Facts t s.combinations) (sym front.state) (law t v.log front.forest front.roots front.run) in
+          let facts : Facts t v.combinations = subst (λ (s : FrontierState). Facts t s.combinations) (sym front.state) (law t v.log front.forest front.roots front.run) in
           let place = facts.nodes id c at in
           let few_nodes : length c.nodes ≤ 31 = let few : length v.roots ≤ 31 = subst (λ (l : List ℕ). length l ≤ 31) (sym roots_are) h.few_roots in omega (arith, place.1, few) in
           record { few = few_nodes; chosen = subst (λ (d : ℕ). AreChosen d f.pool c.nodes) deadline_are place.0 };

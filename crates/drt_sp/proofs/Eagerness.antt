@@ -10,7 +10,7 @@ use Rattle.drt_steps.specs.Time.{Passes, sum_at as forest_sum}
 use Rattle.drt_tree.specs.Tree.{IsForest, Plain, leaves}
 use Rattle.drt_tree.proofs.Trees.{get_front}
 use Rattle.drt_refine.specs.Eager.{IsWidest}
-use Rattle.drt_claims.specs.Proofs.{IsPassed, after, sum_at}
+use Rattle.drt_claims.specs.Proofs.{HasPassingTime, after, sum_at}
 use Rattle.drt_claims.specs.Trees.{IsTree, root}
 use Rattle.drt_claims.specs.declared.evidence.Item.{Item}
 use Rattle.drt_claims.specs.declared.evidence.Item.TheVariants.{Pass, Split}
@@ -61,7 +61,7 @@ module _ (bound : ℕ) (f : Plain) where
 
     module _ (g : Digraph) (v : ℕ) (near : deadline g v ≤ bound) where
       -- A time that passes on the claimed trees passes on the forest.
-      passes_back : (nodes : List ℕ) (t : ℕ) → AreIn bound f graphs claims lows nodes → IsPassed graphs claims g v (lower lows nodes, t) → Passes (wcet g v) (deadline g v) f.pool nodes t
+      passes_back : (nodes : List ℕ) (t : ℕ) → AreIn bound f graphs claims lows nodes → HasPassingTime graphs claims g v (lower lows nodes, t) → Passes (wcet g v) (deadline g v) f.pool nodes t
       passes_back nodes t h p =
           let sum : sum_at graphs claims (lower lows nodes) t ≡ forest_sum f.pool nodes t
           = sums_are bound f graphs claims lows nodes t h p.some (let w = p.within in omega (arith, w, near)) in
@@ -114,14 +114,14 @@ widest_more trees more nodes place narrow w = record {
 
 module _ (graphs others : List Digraph) (trees more : List TreeClaim) (m : ℕ) (graph_count : length graphs ≡ m) (tree_count : length trees ≡ m) (g : Digraph) (v : ℕ) where
   -- A time passes over the first trees exactly where it passes over more.
-  passed_on : (nodes : List ℕ) (t : ℕ) → length nodes ≤ m → IsPassed graphs trees g v (nodes, t) → IsPassed (graphs ++ others) (trees ++ more) g v (nodes, t)
+  passed_on : (nodes : List ℕ) (t : ℕ) → length nodes ≤ m → HasPassingTime graphs trees g v (nodes, t) → HasPassingTime (graphs ++ others) (trees ++ more) g v (nodes, t)
   passed_on nodes t narrow p = record {
     some = p.some;
     within = p.within;
     fits = (let e = p.fits in omega (arith, e, sum_more graphs others trees more nodes t (omega (arith, narrow, graph_count)) (omega (arith, narrow, tree_count))));
   }
 
-  passed_before : (nodes : List ℕ) (t : ℕ) → length nodes ≤ m → IsPassed (graphs ++ others) (trees ++ more) g v (nodes, t) → IsPassed graphs trees g v (nodes, t)
+  passed_before : (nodes : List ℕ) (t : ℕ) → length nodes ≤ m → HasPassingTime (graphs ++ others) (trees ++ more) g v (nodes, t) → HasPassingTime graphs trees g v (nodes, t)
   passed_before nodes t narrow p = record {
     some = p.some;
     within = p.within;

@@ -8,9 +8,9 @@ use Rattle.drt_tree.specs.Tree.{IsForest}
 use Rattle.drt_claims.specs.Trees.{greatest_deadline}
 use Rattle.drt_claims.specs.declared.evidence.Evidence.{Evidence}
 use Rattle.drt_claims.specs.declared.evidence.Evidence.TheVariants.{EdfYes, EdfNo, UtilisationOne, FixedYes, FixedStates, FixedNo, Undecided}
-use Rattle.drt_sp.specs.Answers.{IsAnswer, IsEnding, IsRefusal, IsVerdict}
+use Rattle.drt_sp.specs.Answers.{IsTreeAnswer, IsEnding, IsRefusalEvidence, IsTreeVerdict}
 use Rattle.drt_sp.specs.Grown.{AreProvedTrees}
-use Rattle.drt_sp.specs.Progress.{IsComplete}
+use Rattle.drt_sp.specs.Progress.{AreTreesComplete}
 use Rattle.drt_sp.specs.declared.answer.FixedAnswer.{FixedAnswer}
 use Rattle.drt_sp.specs.declared.answer.FixedAnswer.TheVariants as answers
 use Rattle.drt_sp.specs.declared.progress.Progress.{Progress}
@@ -18,7 +18,7 @@ use Rattle.drt_sp.proofs.ExactTrees.{grown_exact}
 use Rattle.drt_sp.proofs.Passing.{claimed_nodes}
 use Rattle.drt_sp.proofs.Yes.{is_yes}
 
-refusal_verdict : (set : Contents) (evidence : Evidence) → IsRefusal set evidence → IsVerdict set evidence
+refusal_verdict : (set : Contents) (evidence : Evidence) → IsRefusalEvidence set evidence → IsTreeVerdict set evidence
 refusal_verdict set (EdfYes ratios fronts) is = absurd is
 refusal_verdict set (EdfNo releases miss) is = absurd is
 refusal_verdict set (UtilisationOne ratios) is = absurd is
@@ -28,13 +28,13 @@ refusal_verdict set (FixedNo releases miss) is = is
 refusal_verdict set Undecided is = absurd is
 
 -- what ends an analysis is an answer of it
-pub ending_answer : (set : Contents) (budget : ℕ) (answer : FixedAnswer) → IsEnding set budget answer → IsAnswer set budget answer
+pub ending_answer : (set : Contents) (budget : ℕ) (answer : FixedAnswer) → IsEnding set budget answer → IsTreeAnswer set budget answer
 ending_answer set budget (answers.Done evidence) is = (refusal_verdict set evidence is.0, is.1)
 ending_answer set budget (answers.Undecided trail) is = is
 
 -- the trees of an analysis that proved all vertices
 pub proved_trees : (set : Contents) (order : List ℕ) (p : Progress) → IsTaskSet set.version set.tasks → AreConstrained set.tasks → TimesDecide → IsForest p.forest
-    → IsComplete set.tasks order p.forest p.roots.items p.trees.items p.proofs.items
+    → AreTreesComplete set.tasks order p.forest p.roots.items p.trees.items p.proofs.items
     → AreProvedTrees set (record { forest = p.forest; roots = p.roots.items; order = order })
 proved_trees set order p limits constrained decides forest is =
     let yes = is_yes set.tasks order is.order_is set.version limits is.last is.whole p.forest p.roots.items p.trees.items is.grown p.proofs.items is.proved constrained decides in

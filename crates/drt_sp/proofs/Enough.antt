@@ -1,6 +1,6 @@
 -- Where a budget was spent it is below what may be needed, so a budget that is enough isn't spent.
 use Rattle.std.proofs.Common.{◌≡◌, ℕ, ◌+◌, ◌*◌, ◌<◌, ◌≤◌, Some, List, length, slice_get, arith}
-use Rattle.drt_model.specs.Digraph.{IsSound}
+use Rattle.drt_model.specs.Digraph.{IsSoundGraph}
 use Rattle.drt_model.specs.Limits.{IsTaskSet}
 use Rattle.drt_model.specs.declared.tasks.Task.{Task}
 use Rattle.drt_busy.specs.Choice.{graph_at, no_task, task_at}
@@ -8,7 +8,7 @@ use Rattle.drt_choices.specs.Choices.{IsOrder}
 use Rattle.drt_claims.specs.Trees.{greatest_deadline}
 use Rattle.drt_graph.proofs.Soundness.{all_sound}
 use Rattle.drt_refine.specs.Below.{tuples}
-use Rattle.drt_refine.specs.Machine.{Setting, IsRun}
+use Rattle.drt_refine.specs.Machine.{FrontierSetting, IsRun}
 use Rattle.drt_refine.specs.declared.step.FrontierEntry.{FrontierEntry}
 use Rattle.drt_table.specs.declared.step.Entry.{Entry}
 use Rattle.drt_tree.specs.Tree.{IsForest, Plain, leaves}
@@ -16,7 +16,7 @@ use Rattle.drt_trails.specs.declared.FixedTrail.TheVariants.{Table, Refine}
 use Rattle.drt_sp.specs.Items.{IsSpentRefinement, refinement_of}
 use Rattle.drt_sp.specs.Laws.{BudgetsSuffice}
 use Rattle.drt_sp.specs.Needs.{AreFewLeaves, HasAtMost, IsBelowRefinement, IsBelowSearch, product_above}
-use Rattle.drt_sp.specs.TreeClaims.{IsSpentSearch}
+use Rattle.drt_sp.specs.TreeClaims.{IsSpentWalkSearch}
 use Rattle.drt_sp.proofs.GreatestDeadline.{greatest_most, greatest_some}
 use Rattle.drt_sp.proofs.EnoughRefinements.{tuples_short}
 use Rattle.drt_sp.proofs.EnoughSearches.{SearchesAreShort, SearchesKeepFew, spent_search}
@@ -24,14 +24,14 @@ use Rattle.drt_sp.proofs.Passing.{task_below}
 
 -- A search of a task's walks that spent its budget had less than it may need.
 pub search_below : SearchesAreShort → SearchesKeepFew → (version : ℕ) (tasks : List Task) → IsTaskSet version tasks → (k : ℕ) → k < length tasks → (budget : ℕ) (log : List Entry)
-    → IsSpentSearch (graph_at tasks k) (greatest_deadline tasks) budget log → IsBelowSearch (greatest_deadline tasks) (graph_at tasks k) budget
+    → IsSpentWalkSearch (graph_at tasks k) (greatest_deadline tasks) budget log → IsBelowSearch (greatest_deadline tasks) (graph_at tasks k) budget
 search_below short few version tasks limits k l budget log spent n most =
-    let sound : IsSound (graph_at tasks k) = all_sound version tasks limits k no_task l in
+    let sound : IsSoundGraph (graph_at tasks k) = all_sound version tasks limits k no_task l in
     spent_search short few (graph_at tasks k) (greatest_deadline tasks) budget n log sound (greatest_some version tasks limits) (greatest_most version tasks limits.each) spent most
 
 -- What a run of the refinement promises of its length.
 abbrev pub RefinementsAreShort : Type 0
-RefinementsAreShort = (t : Setting) (log : List FrontierEntry) → IsForest t.forest → IsRun t log → length log + 2 ≤ 4 * tuples t.forest t.roots
+RefinementsAreShort = (t : FrontierSetting) (log : List FrontierEntry) → IsForest t.forest → IsRun t log → length log + 2 ≤ 4 * tuples t.forest t.roots
 
 module _ (tasks : List Task) (order : List ℕ) (is : IsOrder tasks order) (f : Plain) (roots : List ℕ) (few : AreFewLeaves tasks order f roots)
     (k : ℕ) (at : slice_get order (length roots) ≡ Some k) where

@@ -9,21 +9,21 @@ use Rattle.std.proofs.lemmas.List.{append-nil, reverse-reverse}
 use Rattle.std.proofs.lemmas.List.FromFn.{length-map-range_with_len, get_or-map-range_with_len}
 use Rattle.std.proofs.lemmas.List.Sums.{fails_before_first, passes_at_first}
 use Rattle.drt_model.specs.Degrees.{most_out}
-use Rattle.drt_model.specs.Digraph.{Digraph, IsSound}
+use Rattle.drt_model.specs.Digraph.{Digraph, IsSoundGraph}
 use Rattle.drt_model.specs.RequestFunction.{request}
 use Rattle.drt_model.specs.Walk.{last_of, span}
 use Rattle.drt_model.proofs.MostOut.{most_row}
 use Rattle.drt_steps.specs.Values.{value_at}
 use Rattle.drt_request.specs.Laws.{request_laws}
 use Rattle.drt_request.specs.Request.{Request, request_algebra, dominates}
-use Rattle.drt_request.specs.Walk.{IsLabelOf}
+use Rattle.drt_request.specs.Walk.{IsRequestLabelOf}
 use Rattle.drt_table.specs.Machine.{Setting, State, step_of, opening_state, replay_from, IsRun, IsRunFrom, replay}
 use Rattle.drt_table.specs.Walk.{IsWalkBack, IsWalkLabel}
 use Rattle.drt_table.specs.Work.{IsDegree, IsShort, AreSlots, kept_count}
 use Rattle.drt_table.specs.declared.step.Entry.{Entry}
 use Rattle.drt_claims.specs.Trees.{IsShortWalk}
 use Rattle.drt_sp.specs.Needs.{HasAtMost}
-use Rattle.drt_sp.specs.TreeClaims.{IsSpentSearch, search_of}
+use Rattle.drt_sp.specs.TreeClaims.{IsSpentWalkSearch, search_of}
 use Rattle.drt_sp.proofs.FewWalks.{itself}
 use Rattle.drt_sp.proofs.RequestWalks.{same_labels, walk_short}
 
@@ -31,7 +31,7 @@ use Rattle.drt_sp.proofs.RequestWalks.{same_labels, walk_short}
 abbrev label_of : Digraph → ℕ → ℕ → List ℕ → Request
 label_of g bound u vs = record { vertex = last_of u vs; offset = span g u vs; values = map (request g u vs) (range_with_len 1 bound) }
 
-label_is : (g : Digraph) (bound u : ℕ) (vs : List ℕ) → IsLabelOf g bound u vs (label_of g bound u vs)
+label_is : (g : Digraph) (bound u : ℕ) (vs : List ℕ) → IsRequestLabelOf g bound u vs (label_of g bound u vs)
 unfolding value_at
 label_is g bound u vs = record {
   vertex = refl;
@@ -62,7 +62,7 @@ both b c p q = ap (λ x. x && c) p ∙ q
 
 module _ (g : Digraph) (bound : ℕ) where
   -- A walk has its label.
-  walk_has : (u : ℕ) (vs : List ℕ) (l : Request) → IsShortWalk bound g (u ∷ vs) → IsLabelOf g bound u vs l → has_label g bound l (u ∷ vs) ≡ true
+  walk_has : (u : ℕ) (vs : List ℕ) (l : Request) → IsShortWalk bound g (u ∷ vs) → IsRequestLabelOf g bound u vs l → has_label g bound l (u ∷ vs) ≡ true
   unfolding has_label
   walk_has u vs l short is =
       let same = same_labels g bound u vs u vs l (label_of g bound u vs) is (label_is g bound u vs) (itself bound g (u ∷ vs) short) in
@@ -95,7 +95,7 @@ module _ (g : Digraph) (bound : ℕ) where
 abbrev HasAll : Setting → List (List ℕ) → Type 0
 HasAll t walks = (w : List ℕ) → IsShortWalk t.bound t.graph w → Contains walks w
 
-module _ (t : Setting) (sound : IsSound t.graph) where
+module _ (t : Setting) (sound : IsSoundGraph t.graph) where
   -- The label of a walk of the search is that of one of the walks.
   labelled : (walks : List (List ℕ)) → HasAll t walks → (l : Request) → IsWalkLabel request_algebra t l → slot t.graph t.bound walks l < length walks
   labelled walks all l is =
@@ -127,12 +127,12 @@ module _ (t : Setting) where
 -- What holds after each run, of its log's length and of the kept nodes.
 abbrev pub SearchesAreShort : Type 0
 SearchesAreShort =
-    (t : Setting) (log : List Entry) (g : ℕ) → IsSound t.graph → IsTrue (request_algebra.takes_bound t.bound) → IsRun request_algebra t log → IsDegree request_algebra t g
+    (t : Setting) (log : List Entry) (g : ℕ) → IsSoundGraph t.graph → IsTrue (request_algebra.takes_bound t.bound) → IsRun request_algebra t log → IsDegree request_algebra t g
     → IsShort request_algebra t g (replay request_algebra t log)
 
 abbrev pub SearchesKeepFew : Type 0
 SearchesKeepFew =
-    (t : Setting) (log : List Entry) (slot : Request → ℕ) (many : ℕ) → IsSound t.graph → IsTrue (request_algebra.takes_bound t.bound) → IsRun request_algebra t log
+    (t : Setting) (log : List Entry) (slot : Request → ℕ) (many : ℕ) → IsSoundGraph t.graph → IsTrue (request_algebra.takes_bound t.bound) → IsRun request_algebra t log
     → AreSlots request_algebra t slot many → kept_count (replay request_algebra t log).nodes ≤ many
 
 scaled : (n kept many g : ℕ) → n < kept * (g + 2) → kept ≤ many → n < many * (g + 2)
@@ -141,8 +141,8 @@ scaled n kept many g l m =
     omega arith
 
 -- A search that spent its budget had less than a graph with so many walks needs.
-pub spent_search : SearchesAreShort → SearchesKeepFew → (g : Digraph) (bound budget n : ℕ) (log : List Entry) → IsSound g → 1 ≤ bound → bound ≤ 1000000
-    → IsSpentSearch g bound budget log → HasAtMost bound g n → budget < n * (most_out g.out + 2)
+pub spent_search : SearchesAreShort → SearchesKeepFew → (g : Digraph) (bound budget n : ℕ) (log : List Entry) → IsSoundGraph g → 1 ≤ bound → bound ≤ 1000000
+    → IsSpentWalkSearch g bound budget log → HasAtMost bound g n → budget < n * (most_out g.out + 2)
 spent_search short few g bound budget n log sound from to is most =
     let t = search_of g bound budget in
     let takes : (nat_le 1 bound && nat_le bound 1000000) ≡ true = grind (arith, nat_tests) in

@@ -10,12 +10,12 @@ use Rattle.drt_claims.specs.Trees.{greatest_deadline}
 use Rattle.drt_claims.specs.declared.evidence.TreeClaim.{TreeClaim}
 use Rattle.drt_sp.specs.Answers.{AreExactTrees}
 use Rattle.drt_sp.specs.Claims.{AreClaimsOf}
-use Rattle.drt_sp.specs.Progress.{AreGrown, first_graphs}
+use Rattle.drt_sp.specs.Progress.{AreTreesGrown, first_graphs}
 use Rattle.drt_sp.specs.TreeClaims.{IsTreeOf}
 
 -- The trees of the first tasks.
 pub grown_exact : (tasks : List Task) (order : List ℕ) (m : ℕ) (f : Plain) (roots : List ℕ) (trees : List TreeClaim)
-    → AreGrown tasks order m f roots trees → AreExactTrees tasks order f roots
+    → AreTreesGrown tasks order m f roots trees → AreExactTrees tasks order f roots
 grown_exact tasks order m f roots trees grown = record {
   trees = trees;
   lows = grown.lows;

@@ -6,7 +6,7 @@ use Rattle.std.proofs.lemmas.List.Elements.{All-cons, All-nil}
 use Rattle.std.proofs.lemmas.Option.{none-some, slice_get_within}
 use Rattle.drt_model.specs.Digraph.{Digraph}
 use Rattle.drt_tree.proofs.Trees.{get_front}
-use Rattle.drt_claims.specs.Proofs.{IsPassed, after, after_all, halved, parts_in, passes, sum_at}
+use Rattle.drt_claims.specs.Proofs.{HasPassingTime, after, after_all, halved, parts_in, passes, sum_at}
 use Rattle.drt_claims.specs.Trees.{node_values}
 use Rattle.drt_claims.specs.declared.evidence.Item.{Item}
 use Rattle.drt_claims.specs.declared.evidence.Item.TheVariants.{Pass, Split}
@@ -100,10 +100,10 @@ sum_more (g ∷ graphs) others [] more (n ∷ nodes) t l m = absurd (omega arith
 sum_more (g ∷ graphs) others (tree ∷ trees) more (n ∷ nodes) t l m = ap (λ x. get_or (node_values g tree t) n 0 + x) (sum_more graphs others trees more nodes t (omega arith) (omega arith))
 
 pub passed_more : (graphs others : List Digraph) (trees more : List TreeClaim) (m : ℕ) → length graphs ≡ m → length trees ≡ m → (g : Digraph) (v : ℕ) (ats : List (List ℕ × ℕ))
-    → All (λ at. length at.0 ≤ m) ats → All (IsPassed graphs trees g v) ats → All (IsPassed (graphs ++ others) (trees ++ more) g v) ats
+    → All (λ at. length at.0 ≤ m) ats → All (HasPassingTime graphs trees g v) ats → All (HasPassingTime (graphs ++ others) (trees ++ more) g v) ats
 passed_more graphs others trees more m l n g v ats narrow are i d h =
     let at : List ℕ × ℕ = get_or ats i d in
-    let p : IsPassed graphs trees g v at = are i d h in
+    let p : HasPassingTime graphs trees g v at = are i d h in
     let le : length at.0 ≤ m = narrow i d h in
     record {
       some = p.some;

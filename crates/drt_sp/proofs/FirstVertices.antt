@@ -3,7 +3,7 @@ use Rattle.std.proofs.Common.{ℕ, ◌+◌, ◌<◌, ◌≤◌, List, [], ◌∷
 use Rattle.std.proofs.lemmas.List.{map_push}
 use Rattle.std.proofs.lemmas.List.Elements.{All-nil, All-push}
 use Rattle.std.proofs.lemmas.List.FromFn.{map-range_with_len_more}
-use Rattle.drt_model.specs.Digraph.{Digraph, IsSound, vertex_count}
+use Rattle.drt_model.specs.Digraph.{Digraph, IsSoundGraph, vertex_count}
 use Rattle.drt_model.specs.Walk.{deadline, wcet}
 use Rattle.drt_tree.specs.Tree.{Plain}
 use Rattle.drt_claims.specs.Ranges.{IsCounted, IsInRangeItem}
@@ -20,7 +20,7 @@ module _ (f : Plain) (roots : List ℕ) (g : Digraph) (k : ℕ) where
   pub no_proofs : AreVertexProofs f roots g k 0 []
   no_proofs = record { are = refl; each = All-nil (IsProvedVertex f roots g k) }
 
-  pub proofs_more : (v : ℕ) (proofs : List ProofClaim) (items : List Item) → IsSound g → k ≤ 4294967295 → v < vertex_count g → AreVertexProofs f roots g k v proofs
+  pub proofs_more : (v : ℕ) (proofs : List ProofClaim) (items : List Item) → IsSoundGraph g → k ≤ 4294967295 → v < vertex_count g → AreVertexProofs f roots g k v proofs
       → IsProofOf f (wcet g v) (deadline g v) roots items → All IsInRangeItem items → IsCounted items
       → AreVertexProofs f roots g k (v + 1) (proofs ++ record { task = k; vertex = v; items = items } ∷ [])
   proofs_more v proofs items sound few l are is each counted = record {
@@ -41,7 +41,7 @@ module _ (f : Plain) (roots : List ℕ) (g : Digraph) (k : ℕ) where
   stop_at v proofs l are = record { vertex = l; earlier = λ u less. proofs_pass f roots g k v proofs are u less }
 
 -- A vertex of the graph is posed against the roots that its deadline chooses.
-pub posed_vertex : (p : PosedVertex) (g : Digraph) (v : ℕ) → IsSound g → v < vertex_count g → p.wcet ≡ wcet g v → p.deadline ≡ deadline g v
+pub posed_vertex : (p : PosedVertex) (g : Digraph) (v : ℕ) → IsSoundGraph g → v < vertex_count g → p.wcet ≡ wcet g v → p.deadline ≡ deadline g v
     → length p.roots.now ≤ 31 → AreChosen (deadline g v) p.forest.now.pool p.roots.now → IsPosedVertex p
 posed_vertex p g v sound l w d few chosen =
     let long = sound.wcet v l in

@@ -18,7 +18,7 @@ use Rattle.drt_claims.specs.Trees.{greatest_deadline}
 use Rattle.drt_claims.specs.declared.evidence.ProofClaim.{ProofClaim}
 use Rattle.drt_claims.specs.declared.evidence.TreeClaim.{TreeClaim}
 use Rattle.drt_sp.specs.Claims.{AreClaimsOf}
-use Rattle.drt_sp.specs.Progress.{AreGrown, AreProofsAt, AreProved, IsProofAt, first_graphs}
+use Rattle.drt_sp.specs.Progress.{AreTreesGrown, AreProofsAt, AreProved, IsProofAt, first_graphs}
 use Rattle.drt_sp.specs.TreeClaims.{IsClaimOf, IsTreeOf}
 use Rattle.drt_sp.specs.Vertices.{AreVertexProofs, IsProvedVertex}
 use Rattle.drt_sp.proofs.FewWalks.{more_few, none_few}
@@ -69,10 +69,10 @@ trees_push tasks bound f (j ∷ order) (r ∷ roots) k root at are is = (are.0, 
 
 -- One more tree.
 pub grown_more : (tasks : List Task) (order : List ℕ) (m k : ℕ) → slice_get order m ≡ Some k → (f g : Plain) (roots : List ℕ) (trees : List TreeClaim)
-    → AreGrown tasks order m f roots trees → IsForest f → Grows f g → All (λ (xs : List ℕ). length xs ≡ greatest_deadline tasks) g.pool → length g.nodes ≤ length f.nodes + 2000192
+    → AreTreesGrown tasks order m f roots trees → IsForest f → Grows f g → All (λ (xs : List ℕ). length xs ≡ greatest_deadline tasks) g.pool → length g.nodes ≤ length f.nodes + 2000192
     → (low top : ℕ) (claim : TreeClaim) → StandsFor (graph_at tasks k) (greatest_deadline tasks) g top → leaves g top ≡ length claim.walks
     → IsClaimOf (graph_at tasks k) (greatest_deadline tasks) g low top claim
-    → IsTreeOf (greatest_deadline tasks) (graph_at tasks k) claim → IsInRangeTree claim → AreGrown tasks order (m + 1) g (roots ++ top ∷ []) (trees ++ claim ∷ [])
+    → IsTreeOf (greatest_deadline tasks) (graph_at tasks k) claim → IsInRangeTree claim → AreTreesGrown tasks order (m + 1) g (roots ++ top ∷ []) (trees ++ claim ∷ [])
 grown_more tasks order m k at f g roots trees grown forest grows bounds few low top claim stands leaf_count is tree range =
     let bound : ℕ = greatest_deadline tasks in
     let graphs = graphs_more tasks order m k at in
@@ -95,16 +95,16 @@ grown_more tasks order m k at f g roots trees grown forest grows bounds few low 
     }
 
 -- There are as many trees as places.
-pub trees_count : (tasks : List Task) (order : List ℕ) (m : ℕ) → m ≤ length order → (f : Plain) (roots : List ℕ) (trees : List TreeClaim) → AreGrown tasks order m f roots trees → length trees ≡ m
+pub trees_count : (tasks : List Task) (order : List ℕ) (m : ℕ) → m ≤ length order → (f : Plain) (roots : List ℕ) (trees : List TreeClaim) → AreTreesGrown tasks order m f roots trees → length trees ≡ m
 trees_count tasks order m l f roots trees grown =
     sym (each_length (IsTreeOf (greatest_deadline tasks)) (first_graphs tasks order m) trees grown.exact)
     ∙ length-take-le m (map (graph_at tasks) order) (omega (arith, l, length-map order (graph_at tasks)))
 
 -- Where nothing is done yet.
 pub none_grown : (tasks : List Task) (order : List ℕ) (f : Plain) (roots : List ℕ) (trees : List TreeClaim)
-    → f.nodes ≡ [] → f.pool ≡ [] → roots ≡ [] → trees ≡ [] → AreGrown tasks order 0 f roots trees
+    → f.nodes ≡ [] → f.pool ≡ [] → roots ≡ [] → trees ≡ [] → AreTreesGrown tasks order 0 f roots trees
 none_grown tasks order f roots trees nodes pool roots_none trees_none =
-    subst (λ ts. AreGrown tasks order 0 f roots ts) (sym trees_none) (subst (λ rs. AreGrown tasks order 0 f rs []) (sym roots_none) (record {
+    subst (λ ts. AreTreesGrown tasks order 0 f roots ts) (sym trees_none) (subst (λ rs. AreTreesGrown tasks order 0 f rs []) (sym roots_none) (record {
       count = refl;
       one_bound = subst (λ xs. All (λ (ys : List ℕ). length ys ≡ greatest_deadline tasks) xs) (sym pool) (All-nil (λ (ys : List ℕ). length ys ≡ greatest_deadline tasks));
       few = omega (arith, ap length nodes);
@@ -152,7 +152,7 @@ proved_kept tasks order m trees claim rows l proved = record {
 
 -- One more task's proofs, in its row.
 pub proved_more : (tasks : List Task) (order : List ℕ) → IsOrder tasks order → (m k : ℕ) → slice_get order m ≡ Some k → (f : Plain) (roots : List ℕ) (trees : List TreeClaim)
-    → IsForest f → AreGrown tasks order m f roots trees → (rows : List (List ProofClaim)) → AreProved tasks order m trees rows → FirstPass tasks order (m + 1)
+    → IsForest f → AreTreesGrown tasks order m f roots trees → (rows : List (List ProofClaim)) → AreProved tasks order m trees rows → FirstPass tasks order (m + 1)
     → (proofs : List ProofClaim) → AreVertexProofs f roots (graph_at tasks k) k (vertex_count (graph_at tasks k)) proofs → AreProved tasks order (m + 1) trees (set rows k proofs)
 proved_more tasks order order_is m k at f roots trees forest grown rows proved first proofs are = record {
   count = omega (arith, proved.count, length-set rows k proofs);

@@ -10,8 +10,8 @@ use Rattle.drt_claims.specs.Ranges.{IsInRangeItem, IsNumber}
 use Rattle.drt_claims.specs.declared.evidence.Item.{Item}
 use Rattle.drt_claims.specs.declared.evidence.Item.TheVariants.{Pass, Split}
 use Rattle.drt_refine.specs.Combination.{Combination}
-use Rattle.drt_refine.specs.Machine.{Setting}
-use Rattle.drt_refine.specs.Settled.{AreSettled, HasNodes, IsSettled, IsSplitInto}
+use Rattle.drt_refine.specs.Machine.{FrontierSetting}
+use Rattle.drt_refine.specs.Settled.{AreSettled, CombinationHasNodes, IsSettled, IsSplitInto}
 use Rattle.drt_refine.specs.declared.step.CombinationState.{CombinationState}
 use Rattle.drt_refine.specs.declared.step.CombinationState.TheVariants.{Pending, Taken, Passed as PassedAt, Split as SplitAt, Failed}
 use Rattle.drt_steps.specs.Time.{IsLeastTime}
@@ -38,7 +38,7 @@ stacked_two : (cs : List Combination) (ids : List ℕ) (a b : ℕ) (under : List
 stacked_two cs [] a b under = refl
 stacked_two cs (i ∷ ids) a b under = stacked_two cs ids a b (nodes_of (slice_get cs i) ∷ under)
 
-has_nodes : (cs : List Combination) (id : ℕ) (nodes : List ℕ) → HasNodes cs id nodes → nodes_of (slice_get cs id) ≡ nodes
+has_nodes : (cs : List Combination) (id : ℕ) (nodes : List ℕ) → CombinationHasNodes cs id nodes → nodes_of (slice_get cs id) ≡ nodes
 has_nodes cs id nodes h = ap nodes_of h.at ∙ h.are
 
 -- The items so far, and whatever items end the stack, end the roots.
@@ -51,24 +51,24 @@ pub record IsReading (f : Plain) (wcet deadline : ℕ) (roots : List ℕ) (cs : 
   pub read : IsRead f wcet deadline roots cs items stack
   pub visit : IsVisit cs stack (length items)
 
-pub read_start : (t : Setting) (cs : List Combination) → AreSettled t cs → IsRead t.forest t.wcet t.deadline t.roots cs [] (0 ∷ [])
+pub read_start : (t : FrontierSetting) (cs : List Combination) → AreSettled t cs → IsRead t.forest t.wcet t.deadline t.roots cs [] (0 ∷ [])
 read_start t cs settled = record {
   goes = λ more h. subst (λ (nodes : List ℕ). AreItems t.forest t.wcet t.deadline more (nodes ∷ [])) (has_nodes cs 0 t.roots settled.opening) h;
   in_range = All-nil IsInRangeItem;
 }
 
-pub read_end : (t : Setting) (cs : List Combination) (items : List Item) → IsRead t.forest t.wcet t.deadline t.roots cs items []
+pub read_end : (t : FrontierSetting) (cs : List Combination) (items : List Item) → IsRead t.forest t.wcet t.deadline t.roots cs items []
     → AreItems t.forest t.wcet t.deadline items (t.roots ∷ [])
 read_end t cs items r = subst (λ (l : List Item). AreItems t.forest t.wcet t.deadline l (t.roots ∷ [])) (append-nil items) (r.goes [] none)
 
-pub reading_start : (t : Setting) (cs : List Combination) → AreSettled t cs → 1 ≤ length cs → IsReading t.forest t.wcet t.deadline t.roots cs [] (0 ∷ [])
+pub reading_start : (t : FrontierSetting) (cs : List Combination) → AreSettled t cs → 1 ≤ length cs → IsReading t.forest t.wcet t.deadline t.roots cs [] (0 ∷ [])
 reading_start t cs settled some = record { read = read_start t cs settled; visit = visit_start cs some }
 
-pub reading_end : (t : Setting) (cs : List Combination) (items : List Item) → IsReading t.forest t.wcet t.deadline t.roots cs items []
+pub reading_end : (t : FrontierSetting) (cs : List Combination) (items : List Item) → IsReading t.forest t.wcet t.deadline t.roots cs items []
     → AreItems t.forest t.wcet t.deadline items (t.roots ∷ [])
 reading_end t cs items r = read_end t cs items r.read
 
-module _ (t : Setting) (cs : List Combination) (settled : AreSettled t cs) (items : List Item) (rest : List ℕ) (id : ℕ) (c : Combination) (at : slice_get cs id ≡ Some c) where
+module _ (t : FrontierSetting) (cs : List Combination) (settled : AreSettled t cs) (items : List Item) (rest : List ℕ) (id : ℕ) (c : Combination) (at : slice_get cs id ≡ Some c) where
   abbrev Reads : List Item → List ℕ → Type 0
   Reads items stack = IsReading t.forest t.wcet t.deadline t.roots cs items stack
 

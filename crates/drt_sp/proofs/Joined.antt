@@ -5,7 +5,7 @@ use Rattle.drt_model.specs.Digraph.{Digraph}
 use Rattle.drt_claims.specs.Ranges.{IsCounted}
 use Rattle.drt_claims.specs.declared.evidence.Item.{Item}
 use Rattle.drt_refine.specs.Eager.{IsEager}
-use Rattle.drt_refine.specs.View.{View, IsFrontier, setting_of}
+use Rattle.drt_refine.specs.View.{FrontierView, IsFrontier, setting_of}
 use Rattle.drt_tree.specs.Tree.{Plain}
 use Rattle.drt_sp.specs.Attempts.{IsAttempt, Table}
 use Rattle.drt_sp.specs.Joints.{AreJoints, IsJoint, IsJointOf, KeepAttempts}
@@ -30,7 +30,7 @@ module _ (f : Plain) (roots : List ℕ) (g : Digraph) where
   -- an attempt with its parts, of which nothing is put together
   pub joint_of : (a : Attempt) (table : Table) (j : Joint) → IsAttempt f roots g a → HasParts f a.frontier.wcet a.frontier.deadline a.frontier.combinations table.items
       → j.attempt ≡ a → j.parts ≡ table → IfOk j.items (λ some. some ≡ None) → IsJointOf f roots g j
-  joint_of a table j is parts same own none = let v : View = j.attempt.frontier in record {
+  joint_of a table j is parts same own none = let v : FrontierView = j.attempt.frontier in record {
     attempt = subst (IsAttempt f roots g) (sym same) is;
     joint = record {
       frontier = subst (λ (x : Attempt). IsFrontier f x.frontier) (sym same) is.spent.frontier;

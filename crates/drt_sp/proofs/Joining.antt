@@ -10,7 +10,7 @@ use Rattle.drt_claims.specs.Ranges.{IsInRangeItem, IsNumber}
 use Rattle.drt_claims.specs.declared.evidence.Item.{Item}
 use Rattle.drt_claims.specs.declared.evidence.Item.TheVariants.{Pass, Split}
 use Rattle.drt_refine.specs.Below.{AreBelow}
-use Rattle.drt_refine.specs.Eager.{IsPlace}
+use Rattle.drt_refine.specs.Eager.{IsSplitPlace}
 use Rattle.drt_refine.proofs.Below.{below_half, chosen_halves, length_set, passes_below}
 use Rattle.drt_sp.specs.Items.{AreHalves, AreItems, IsProofOf, NonePasses, none, pass, split}
 use Rattle.drt_worklist.proofs.Writes.{length_set as length_write, set_at}
@@ -73,7 +73,7 @@ module _ (f : Plain) (w d : ℕ) (nodes : List ℕ) where
   }
 
   -- the widest place splits it
-  pub next_split : (place node l r : ℕ) (old new : List (List ℕ)) → IsForest f → CanEnd f w d nodes → NonePasses f w d nodes → IsPlace f nodes (Some place)
+  pub next_split : (place node l r : ℕ) (old new : List (List ℕ)) → IsForest f → CanEnd f w d nodes → NonePasses f w d nodes → IsSplitPlace f nodes (Some place)
       → slice_get nodes place ≡ Some node → children f node ≡ Some (l, r) → IsNumber place → new ≡ (old ++ slice_set nodes place r ∷ []) ++ slice_set nodes place l ∷ []
       → IsNextItem f w d nodes old new (Split place)
   next_split place node l r old new forest can hopeless is at pair number e =

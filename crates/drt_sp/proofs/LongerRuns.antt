@@ -5,7 +5,7 @@ use Rattle.std.specs.Prelude.{slice_get, is_none, ◌&&◌, nat_le}
 use Rattle.std.proofs.lemmas.Bool.{cases_lt, leb-false}
 use Rattle.std.proofs.lemmas.Bool.Decides.{nat_tests}
 use Rattle.drt_label.specs.Algebra.{Algebra}
-use Rattle.drt_model.specs.Digraph.{IsSound, out_degree}
+use Rattle.drt_model.specs.Digraph.{IsSoundGraph, out_degree}
 use Rattle.drt_request.specs.Request.{request_algebra}
 use Rattle.drt_worklist.specs.Places.{changed, first}
 use Rattle.drt_worklist.proofs.Runs.{run_join, run_log}
@@ -186,7 +186,7 @@ run_longer {L = L} a t es budget run unfinished offers more less =
     (there.entry, subst (λ (s : State L). IsRunFrom a u s (es ++ there.entry ∷ [])) (sym (opening_same a t budget more)) longer)
 
 -- A search that spent its budget goes on under a greater one.
-pub search_longer : ((t : Setting) (log : List Entry) → IsSound t.graph → IsRun request_algebra t log → Facts request_algebra t (replay request_algebra t log).nodes) → SearchesGoOn
+pub search_longer : ((t : Setting) (log : List Entry) → IsSoundGraph t.graph → IsRun request_algebra t log → Facts request_algebra t (replay request_algebra t log).nodes) → SearchesGoOn
 search_longer facts g bound budget more log sound spent less =
     let t = search_of g bound budget in
     run_longer request_algebra t log more spent.run spent.unfinished (facts t log sound spent.run).offered (omega (arith, less)) (omega (arith, less, spent.spent))

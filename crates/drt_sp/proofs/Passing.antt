@@ -21,9 +21,9 @@ use Rattle.drt_choices.specs.Laws.{IsPosed, LeavesPass}
 use Rattle.drt_claims.specs.Trees.{greatest_deadline}
 use Rattle.drt_claims.specs.declared.evidence.ProofClaim.{ProofClaim}
 use Rattle.drt_claims.specs.declared.evidence.TreeClaim.{TreeClaim}
-use Rattle.drt_sp.specs.Answers.{HigherMeetDeadlines, IsReached, MeetsDeadlines}
+use Rattle.drt_sp.specs.Answers.{HigherMeetDeadlines, IsVertexReached, MeetsDeadlines}
 use Rattle.drt_sp.specs.Claims.{AreClaimsOf}
-use Rattle.drt_sp.specs.Progress.{AreGrown}
+use Rattle.drt_sp.specs.Progress.{AreTreesGrown}
 use Rattle.drt_sp.specs.Vertices.{AreVertexProofs, IsProvedVertex, TuplesPass, subject_of, subjects}
 use Rattle.drt_sp.proofs.ExactTrees.{grown_exact}
 use Rattle.drt_sp.proofs.GreatestDeadline.{deadline_near}
@@ -93,7 +93,7 @@ module _ (tasks : List Task) (order : List ℕ) (order_is : IsOrder tasks order)
       first_meet version suffice limits constrained m p.0 i first before (at_place p.0 p.1 ∙ ap Some p.2)
 
   module _ (version m k : ℕ) (limits : IsTaskSet version tasks) (at : slice_get order m ≡ Some k)
-      (f : Plain) (roots : List ℕ) (trees : List TreeClaim) (grown : AreGrown tasks order m f roots trees) where
+      (f : Plain) (roots : List ℕ) (trees : List TreeClaim) (grown : AreTreesGrown tasks order m f roots trees) where
     pub posed_at : (v : ℕ) → v < vertex_count (graph_at tasks k) → IsPosed version tasks order (greatest_deadline tasks) f roots k v
     posed_at v l = record {
       limits = limits;
@@ -116,8 +116,8 @@ module _ (tasks : List Task) (order : List ℕ) (order_is : IsOrder tasks order)
 -- Where an analysis stands at a vertex whose earlier ones pass.
 pub reached_at : (set : Contents) (order : List ℕ) → IsOrder set.tasks order → IsTaskSet set.version set.tasks → AreConstrained set.tasks → TimesSufficeForTask → LeavesPass
     → (m k v : ℕ) → slice_get order m ≡ Some k → (f : Plain) (roots : List ℕ) (trees : List TreeClaim) → IsForest f
-    → AreGrown set.tasks order m f roots trees → FirstPass set.tasks order m
-    → v < vertex_count (graph_at set.tasks k) → ((u : ℕ) → u < v → TuplesPass f roots (graph_at set.tasks k) u) → IsReached set order f roots k v
+    → AreTreesGrown set.tasks order m f roots trees → FirstPass set.tasks order m
+    → v < vertex_count (graph_at set.tasks k) → ((u : ℕ) → u < v → TuplesPass f roots (graph_at set.tasks k) u) → IsVertexReached set order f roots k v
 reached_at set order order_is limits constrained suffice pass m k v at f roots trees forest grown first l earlier = record {
   task = task_below set.tasks order order_is m k at;
   nodes = claimed_nodes (greatest_deadline set.tasks) f _ grown.lows roots trees grown.claimed;

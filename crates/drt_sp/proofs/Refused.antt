@@ -5,7 +5,7 @@ use Rattle.std.proofs.lemmas.Bool.{cases_Bool, eqb-true}
 use Rattle.std.proofs.lemmas.List.{length-map}
 use Rattle.drt_model.specs.Contents.{Contents}
 use Rattle.drt_model.specs.Constrained.{AreConstrained}
-use Rattle.drt_model.specs.Digraph.{Digraph, IsSound, digraph_of, vertex_count}
+use Rattle.drt_model.specs.Digraph.{Digraph, IsSoundGraph, digraph_of, vertex_count}
 use Rattle.drt_model.specs.Walk.{deadline}
 use Rattle.drt_model.specs.declared.jobs.Miss.{Miss}
 use Rattle.drt_model.specs.declared.jobs.Release.{Release}
@@ -14,7 +14,7 @@ use Rattle.drt_model.proofs.JobLemmas.{length-jobs_of}
 use Rattle.drt_graph.specs.Graphs.{AreGraphs, graph_of, no_graph}
 use Rattle.drt_busy.specs.Choice.{AreDueBy, AreWalks, IsWalk, due_of, graph_at, task_at}
 use Rattle.drt_busy.specs.WalkReleases.{all_releases, releases_of, with_job}
-use Rattle.drt_tree.specs.Tree.{IsForest, IsPair, Leads, Plain, children, walk}
+use Rattle.drt_tree.specs.Tree.{IsForest, IsPair, LeadsToLeaf, Plain, children, walk}
 use Rattle.drt_refine.specs.Below.{AreBelow, AreNodes}
 use Rattle.drt_choices.specs.Choices.{AreTrees, IsOrder, chosen}
 use Rattle.drt_busy.specs.Response.{cut}
@@ -25,7 +25,7 @@ use Rattle.drt_claims.specs.Trees.{greatest_deadline}
 use Rattle.drt_claims.proofs.Accepting.{fixed_no_accepted}
 use Rattle.drt_releases.proofs.Walks.{graph_same}
 use Rattle.drt_releases.specs.Walks.{AreDueWalks}
-use Rattle.drt_sp.specs.Answers.{AreOfWalks, IsFailedVertex, IsMissed, IsTupleFor}
+use Rattle.drt_sp.specs.Answers.{AreOfWalks, IsFailedVertex, IsTreeMiss, IsTupleFor}
 use Rattle.drt_sp.specs.Chosen.{AreLeaves, IsLeafOf, leaf_for}
 use Rattle.drt_busy.proofs.Cuts.{cut_walk}
 use Rattle.drt_releases.proofs.Cuts.{cut_due, one_due}
@@ -33,7 +33,7 @@ use Rattle.drt_sp.proofs.Chosen.{chosen_none, chosen_some, leaf_place}
 use Rattle.drt_sp.proofs.Orders.{order_below}
 
 -- What stands under a node of a forest is a leaf of it.
-leaf_at : (f : Plain) → IsForest f → (n : ℕ) (turns : List Bool) (leaf : ℕ) → n < length f.nodes → Leads f n turns leaf → (leaf < length f.nodes) × (children f leaf ≡ None)
+leaf_at : (f : Plain) → IsForest f → (n : ℕ) (turns : List Bool) (leaf : ℕ) → n < length f.nodes → LeadsToLeaf f n turns leaf → (leaf < length f.nodes) × (children f leaf ≡ None)
 leaf_at f forest n [] leaf w l = (subst (λ k. k < length f.nodes) l.0 w, subst (λ k. children f k ≡ None) l.0 l.1)
 leaf_at f forest n (b ∷ turns) leaf w l = leaf_at f forest (cond b l.0 l.1) turns leaf (within b) l.3
   where
@@ -75,8 +75,8 @@ none_due : (g : Digraph) (t : ℕ) → IsDueWalk g t []
 none_due g t = (tt, omega arith)
 
 module _ (tasks : List Task) (f : Plain) (order tuple : List ℕ) (are : AreLeaves tasks f order tuple) (graphs : AreGraphs (graphs_of tasks)) where
-  pub sound_at : (k : ℕ) → k < length tasks → IsSound (graph_at tasks k)
-  sound_at k l = subst IsSound (graph_same tasks k l) (graphs.sound k no_graph (omega (arith, length-map tasks digraph_of)))
+  pub sound_at : (k : ℕ) → k < length tasks → IsSoundGraph (graph_at tasks k)
+  sound_at k l = subst IsSoundGraph (graph_same tasks k l) (graphs.sound k no_graph (omega (arith, length-map tasks digraph_of)))
 
   chosen_due : (d : ℕ) → d ≤ 1000000 → (k : ℕ) → k < length tasks → IsDueWalk (graph_at tasks k) 2000000 (chosen tasks f d order tuple k)
   chosen_due d le k l = go (leaf_for order tuple k) refl
@@ -161,12 +161,12 @@ failed_walks set order f k v tuple forest graphs failed =
 pub missed : (set : Contents) (order : List ℕ) (f : Plain) (k v : ℕ) (tuple : List ℕ) → AreConstrained set.tasks → LeavesMiss → IsForest f → AreGraphs (graphs_of set.tasks)
     → IsFailedVertex set order f k v tuple
     → (releases : List Release) (miss : Miss) → releases ≡ no_releases set.tasks f order tuple k v → miss ≡ record { task = k; index = 0; deadline = deadline (graph_at set.tasks k) v }
-    → IsMissed set releases miss
+    → IsTreeMiss set releases miss
 missed set order f k v tuple constrained law forest graphs failed releases miss same is =
     let rs : List Release = no_releases set.tasks f order tuple k v in
     let named : Miss = record { task = k; index = 0; deadline = deadline (graph_at set.tasks k) v } in
     let d = law set.version set.tasks order _ f failed.roots k v failed.reached.posed constrained failed.reached.passed tuple failed.failure.below failed.failure.hopeless in
-    let no : IsMissed set rs named = record {
+    let no : IsTreeMiss set rs named = record {
       not_schedulable = λ s. s rs d.0 d.1.job (omega (arith, d.1.here, length-jobs_of set.tasks rs)) d.1.misses;
       accepted = fixed_no_accepted set rs named constrained (record { legal = d.0; misses = d.1 });
       order = order;
@@ -179,11 +179,11 @@ missed set order f k v tuple constrained law forest graphs failed releases miss 
       miss_is = refl;
       of_walks = failed_walks set order f k v tuple forest graphs failed;
     } in
-    subst (λ xs. IsMissed set xs miss) (sym same) (subst (λ m. IsMissed set rs m) (sym is) no)
+    subst (λ xs. IsTreeMiss set xs miss) (sym same) (subst (λ m. IsTreeMiss set rs m) (sym is) no)
 
 -- The releases and the miss of a no are in range.
 pub no_in_range : (tasks : List Task) (releases : List Release) (k v : ℕ) → All IsInRangeRelease releases → length releases ≤ 4294967295 → k < length tasks → length tasks ≤ 32
-    → IsSound (graph_at tasks k) → v < vertex_count (graph_at tasks k) → AreInRangeReleases releases (record { task = k; index = 0; deadline = deadline (graph_at tasks k) v })
+    → IsSoundGraph (graph_at tasks k) → v < vertex_count (graph_at tasks k) → AreInRangeReleases releases (record { task = k; index = 0; deadline = deadline (graph_at tasks k) v })
 no_in_range tasks releases k v each few here tasks_few sound vertex = record {
   each = each;
   counted = few;

@@ -3,14 +3,14 @@ use Rattle.std.proofs.Common.{◌≡◌, ℕ, zero, suc, ◌+◌, ◌-◌, ◌<�
 use Rattle.std.specs.Prelude.{IsTrue, nat_le, nat_lt, ◌==◌, ◌&&◌, slice_index}
 use Rattle.std.proofs.lemmas.Bool.Decides.{nat_tests}
 use Rattle.std.proofs.lemmas.List.{append-nil, append_assoc, reverse-append, reverse-reverse}
-use Rattle.drt_model.specs.Digraph.{Digraph, IsSound, vertex_count, out_degree, edge_of}
+use Rattle.drt_model.specs.Digraph.{Digraph, IsSoundGraph, vertex_count, out_degree, edge_of}
 use Rattle.drt_model.specs.RequestFunction.{request}
 use Rattle.drt_model.specs.Walk.{gap, wcet, sep, IsEdge, IsPath, last_of, span}
 use Rattle.drt_graph.proofs.Edges.{sep_of_edge, edge_of_sep, gap_of}
 use Rattle.drt_graph.proofs.Paths.{path_both, path_within, last_both, span_cons}
 use Rattle.drt_request.specs.Laws.{request_laws}
 use Rattle.drt_request.specs.Request.{Request, request_algebra, dominates}
-use Rattle.drt_request.specs.Walk.{IsLabelOf}
+use Rattle.drt_request.specs.Walk.{IsRequestLabelOf}
 use Rattle.drt_request.proofs.Walks.{label_walks}
 use Rattle.drt_steps.specs.Values.{covers, value_at}
 use Rattle.drt_table.specs.Machine.{Setting, extended}
@@ -27,7 +27,7 @@ pub record IsPathTo (g : Digraph) (bound v : ℕ) (before : List ℕ) (l : Reque
   pub is_vertex : first < vertex_count g
   pub path : IsPath g first others
   pub last : last_of first others ≡ v
-  pub label : IsLabelOf g bound first others l
+  pub label : IsRequestLabelOf g bound first others l
 
 -- A walk that spans less than the bound, with its label.
 pub record IsLabelled (g : Digraph) (bound : ℕ) (walk : List ℕ) (l : Request) : Type 0 where
@@ -35,9 +35,9 @@ pub record IsLabelled (g : Digraph) (bound : ℕ) (walk : List ℕ) (l : Request
   pub others : List ℕ
   pub is : walk ≡ first ∷ others
   pub short : IsShortWalk bound g (first ∷ others)
-  pub label : IsLabelOf g bound first others l
+  pub label : IsRequestLabelOf g bound first others l
 
-module _ (t : Setting) (sound : IsSound t.graph) where
+module _ (t : Setting) (sound : IsSoundGraph t.graph) where
   -- A label extended by an edge with these ends and this separation.
   extended_is : (m : Request) (u k v s : ℕ) → m.vertex ≡ u → (edge_of t.graph u k).sep ≡ s → (edge_of t.graph u k).to ≡ v
       → extended request_algebra t m k ≡ request_algebra.extend m s v (wcet t.graph v)
@@ -62,7 +62,7 @@ module _ (t : Setting) (sound : IsSound t.graph) where
         is_vertex = p.is_vertex;
         path = path_both t.graph p.first p.others (v ∷ []) p.path (step, tt);
         last = last_both p.first p.others (v ∷ []);
-        label = subst (λ y. IsLabelOf t.graph t.bound p.first (p.others ++ v ∷ []) y) (sym label) ((label_walks t.graph t.bound).extended p.first p.others v m p.label);
+        label = subst (λ y. IsRequestLabelOf t.graph t.bound p.first (p.others ++ v ∷ []) y) (sym label) ((label_walks t.graph t.bound).extended p.first p.others v m p.label);
       }
 
   -- A walk of the search is a path with its label.
@@ -74,7 +74,7 @@ module _ (t : Setting) (sound : IsSound t.graph) where
     is_vertex = w.0;
     path = tt;
     last = refl;
-    label = subst (λ y. IsLabelOf t.graph t.bound v [] y) (sym w.1) ((label_walks t.graph t.bound).opening v);
+    label = subst (λ y. IsRequestLabelOf t.graph t.bound v [] y) (sym w.1) ((label_walks t.graph t.bound).opening v);
   }
   path_to v (u ∷ before) l w =
       path_more v u before l w.1 w.0 (path_to u before w.1 w.2) (walk_vertex request_algebra request_laws t u before w.1 w.2) w.3 w.4 w.5
@@ -93,9 +93,9 @@ module _ (t : Setting) (sound : IsSound t.graph) where
   walk_short walk l is = walk_back (reverse walk) l is walk (reverse-reverse walk)
 
   -- The label of a walk that goes on from u over these vertices.
-  walk_on : (first : ℕ) (others : List ℕ) (u : ℕ) (before : List ℕ) (m : Request) → WalkTo request_algebra t u before m → IsLabelOf t.graph t.bound first others m → last_of first others ≡ u
-      → (vs : List ℕ) → IsPath t.graph u vs → m.offset + span t.graph u vs < t.bound → (x : Request) × IsWalkLabel request_algebra t x × IsLabelOf t.graph t.bound first (others ++ vs) x
-  walk_on first others u before m w label last [] p d = (m, (u, before, w), subst (λ xs. IsLabelOf t.graph t.bound first xs m) (sym (append-nil others)) label)
+  walk_on : (first : ℕ) (others : List ℕ) (u : ℕ) (before : List ℕ) (m : Request) → WalkTo request_algebra t u before m → IsRequestLabelOf t.graph t.bound first others m → last_of first others ≡ u
+      → (vs : List ℕ) → IsPath t.graph u vs → m.offset + span t.graph u vs < t.bound → (x : Request) × IsWalkLabel request_algebra t x × IsRequestLabelOf t.graph t.bound first (others ++ vs) x
+  walk_on first others u before m w label last [] p d = (m, (u, before, w), subst (λ xs. IsRequestLabelOf t.graph t.bound first xs m) (sym (append-nil others)) label)
   walk_on first others u before m w label last (v ∷ vs) p d =
       let at = walk_vertex request_algebra request_laws t u before m w in
       let k = edge_of_sep t.graph u v (gap t.graph u v) p.0 in
@@ -105,14 +105,14 @@ module _ (t : Setting) (sound : IsSound t.graph) where
       let early : m.offset + gap t.graph u v < t.bound = omega (arith, s, d) in
       let range : nat_lt (m.offset + gap t.graph u v) t.bound ≡ true = grind (arith, nat_tests) in
       let walk : WalkTo request_algebra t v (u ∷ before) x = (k.0, m, w, k.1, k.2, is, range) in
-      let more : IsLabelOf t.graph t.bound first (others ++ v ∷ []) x =
-      subst (λ y. IsLabelOf t.graph t.bound first (others ++ v ∷ []) (request_algebra.extend m (gap t.graph y v) v (wcet t.graph v))) last
+      let more : IsRequestLabelOf t.graph t.bound first (others ++ v ∷ []) x =
+      subst (λ y. IsRequestLabelOf t.graph t.bound first (others ++ v ∷ []) (request_algebra.extend m (gap t.graph y v) v (wcet t.graph v))) last
       ((label_walks t.graph t.bound).extended first others v m label) in
       let rest = walk_on first (others ++ v ∷ []) v (u ∷ before) x walk more (last_both first others (v ∷ [])) vs p.1 (omega (arith, s, d)) in
-      (rest.0, rest.1, subst (λ xs. IsLabelOf t.graph t.bound first xs rest.0) (append_assoc others (v ∷ []) vs) rest.2)
+      (rest.0, rest.1, subst (λ xs. IsRequestLabelOf t.graph t.bound first xs rest.0) (append_assoc others (v ∷ []) vs) rest.2)
 
   -- A walk that spans less than the bound is one of the search.
-  pub short_walk : (u : ℕ) (vs : List ℕ) → IsShortWalk t.bound t.graph (u ∷ vs) → (x : Request) × IsWalkLabel request_algebra t x × IsLabelOf t.graph t.bound u vs x
+  pub short_walk : (u : ℕ) (vs : List ℕ) → IsShortWalk t.bound t.graph (u ∷ vs) → (x : Request) × IsWalkLabel request_algebra t x × IsRequestLabelOf t.graph t.bound u vs x
   short_walk u vs short =
       let b : span t.graph u vs < t.bound = short.2 in
       let some : 0 < t.bound = omega (arith, b) in
@@ -156,7 +156,7 @@ covers_values xs ys bound e f h =
     (λ i l. subst (λ k. slice_index ys k ≤ slice_index xs k) (let q : (i + 1) - 1 ≡ i = omega arith in q) (h (i + 1) (omega arith) (omega (arith, l, e))))
 
 -- A label that dominates another one is that of a walk above the other's.
-pub above_of : (g : Digraph) (bound u : ℕ) (vs : List ℕ) (w : ℕ) (ws : List ℕ) (x y : Request) → IsLabelOf g bound u vs x → IsLabelOf g bound w ws y → IsTrue (dominates y x)
+pub above_of : (g : Digraph) (bound u : ℕ) (vs : List ℕ) (w : ℕ) (ws : List ℕ) (x y : Request) → IsRequestLabelOf g bound u vs x → IsRequestLabelOf g bound w ws y → IsTrue (dominates y x)
     → IsAbove bound g u vs (w ∷ ws)
 above_of g bound u vs w ws x y p q d =
     let v : (y.vertex == x.vertex) ≡ true = and_left (y.vertex == x.vertex) (nat_le y.offset x.offset && covers y.values x.values) d in
@@ -172,7 +172,7 @@ above_of g bound u vs w ws x y p q d =
     (sym q.vertex ∙ (vertex ∙ p.vertex), omega (arith, offset, a, b), asks)
 
 -- And the converse.
-pub dominates_of : (g : Digraph) (bound u : ℕ) (vs : List ℕ) (w : ℕ) (ws : List ℕ) (x y : Request) → IsLabelOf g bound u vs x → IsLabelOf g bound w ws y → IsAbove bound g u vs (w ∷ ws)
+pub dominates_of : (g : Digraph) (bound u : ℕ) (vs : List ℕ) (w : ℕ) (ws : List ℕ) (x y : Request) → IsRequestLabelOf g bound u vs x → IsRequestLabelOf g bound w ws y → IsAbove bound g u vs (w ∷ ws)
     → IsTrue (dominates y x)
 dominates_of g bound u vs w ws x y p q is =
     let vertex : y.vertex ≡ x.vertex = q.vertex ∙ (is.0 ∙ sym p.vertex) in
@@ -185,11 +185,11 @@ dominates_of g bound u vs w ws x y p q is =
     (covers_values y.values x.values bound q.long p.long (λ t from to. let l = is.2 t from to in let m = p.values t from to in let n = q.values t from to in omega (arith, l, m, n))))
 
 -- Walks with one label have equal ones.
-pub same_labels : (g : Digraph) (bound u : ℕ) (vs : List ℕ) (w : ℕ) (ws : List ℕ) (x y : Request) → IsLabelOf g bound u vs x → IsLabelOf g bound w ws y → HaveOneLabel bound g (u ∷ vs) (w ∷ ws) → x ≡ y
+pub same_labels : (g : Digraph) (bound u : ℕ) (vs : List ℕ) (w : ℕ) (ws : List ℕ) (x y : Request) → IsRequestLabelOf g bound u vs x → IsRequestLabelOf g bound w ws y → HaveOneLabel bound g (u ∷ vs) (w ∷ ws) → x ≡ y
 same_labels g bound u vs w ws x y p q have = request_laws.antisymmetric x y (dominates_of g bound w ws u vs y x q p have.1) (dominates_of g bound u vs w ws x y p q have.0)
 
 -- And the converse.
-pub one_label : (g : Digraph) (bound u : ℕ) (vs : List ℕ) (w : ℕ) (ws : List ℕ) (x y : Request) → IsLabelOf g bound u vs x → IsLabelOf g bound w ws y → x ≡ y → HaveOneLabel bound g (u ∷ vs) (w ∷ ws)
+pub one_label : (g : Digraph) (bound u : ℕ) (vs : List ℕ) (w : ℕ) (ws : List ℕ) (x y : Request) → IsRequestLabelOf g bound u vs x → IsRequestLabelOf g bound w ws y → x ≡ y → HaveOneLabel bound g (u ∷ vs) (w ∷ ws)
 one_label g bound u vs w ws x y p q same = (
   above_of g bound u vs w ws x y p q (subst (λ z. IsTrue (dominates z x)) same (request_laws.reflexive x)),
   above_of g bound w ws u vs y x q p (subst (λ z. IsTrue (dominates x z)) same (request_laws.reflexive x)),

@@ -3,7 +3,7 @@ use Rattle.std.proofs.Common.{◌≡◌, ℕ, ◌+◌, ◌<◌, ◌≤◌, inl, 
 use Rattle.std.proofs.lemmas.Bool.{cases_Bool}
 use Rattle.std.proofs.lemmas.Bool.Decides.{nat_tests}
 use Rattle.std.proofs.lemmas.List.Elements.{All-cons, All-nil}
-use Rattle.drt_model.specs.Digraph.{Digraph, IsSound, vertex_count}
+use Rattle.drt_model.specs.Digraph.{Digraph, IsSoundGraph, vertex_count}
 use Rattle.drt_model.specs.RequestFunction.{request}
 use Rattle.drt_model.specs.Walk.{gap, IsPath, span}
 use Rattle.drt_graph.proofs.Edges.{edge_of_sep, source_of, target_of}
@@ -45,7 +45,7 @@ cut_short g bound some u vs is =
     let e = cut_early g bound 0 u vs (omega (arith, some)) in
     (w.0, w.1, omega (arith, e))
 
-module _ (g : Digraph) (sound : IsSound g) where
+module _ (g : Digraph) (sound : IsSoundGraph g) where
   -- A walk has at most as many vertices after its first one as it spans ticks.
   length_span : (u : ℕ) (vs : List ℕ) → IsPath g u vs → length vs ≤ span g u vs
   length_span u [] p = omega arith

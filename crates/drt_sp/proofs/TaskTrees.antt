@@ -11,7 +11,7 @@ use Rattle.std.proofs.lemmas.List.Elements.{All-map, All-weaker, All-get_or, All
 use Rattle.std.proofs.lemmas.List.FromFn.{length-map-range_with_len, get_or-map-range_with_len}
 use Rattle.std.proofs.lemmas.List.Sorted.{length_permutation}
 use Rattle.std.proofs.lemmas.Option.{none-some, same_Some, slice_get-map, slice_get_within, slice_get-get_or, get_or_from_slice_get}
-use Rattle.drt_model.specs.Digraph.{Digraph, IsSound, vertex_count, out_degree, edge_of}
+use Rattle.drt_model.specs.Digraph.{Digraph, IsSoundGraph, vertex_count, out_degree, edge_of}
 use Rattle.drt_model.specs.RequestFunction.{request}
 use Rattle.drt_model.specs.Walk.{last_of, span}
 use Rattle.drt_graph.proofs.Edges.{sep_of_edge, gap_of}
@@ -19,8 +19,8 @@ use Rattle.drt_graph.proofs.Paths.{path_both, path_within, span_both, span_cons,
 use Rattle.drt_steps.specs.Values.{value_at}
 use Rattle.drt_busy.specs.Choice.{IsWalk, request_of}
 use Rattle.drt_tree.specs.Leaf.{is_before}
-use Rattle.drt_tree.specs.Shape.{Shape, parts as leaf_count, pairs as pair_count, root_of, IsAdded}
-use Rattle.drt_tree.specs.Tree.{Plain, IsForest, IsPair, IsUnder, Leads, children, children_of, leaves, values, walk, walk_of, leaf_node, leaf_steps, with_leaves}
+use Rattle.drt_tree.specs.Shape.{Shape, parts as leaf_count, pairs as pair_count, root_of, IsTreeAdded}
+use Rattle.drt_tree.specs.Tree.{Plain, IsForest, IsPair, IsUnder, LeadsToLeaf, children, children_of, leaves, values, walk, walk_of, leaf_node, leaf_steps, with_leaves}
 use Rattle.drt_tree.specs.declared.leaf.Leaf.{Leaf}
 use Rattle.drt_tree.proofs.Trees.{get_front, grows_on, index_front, leaves_grow, with_long}
 use Rattle.drt_choices.specs.Choices.{StandsFor}
@@ -32,7 +32,7 @@ use Rattle.drt_claims.specs.Trees.{HasShortWalks, IsAbove, IsClosedWalk, IsExten
 use Rattle.drt_claims.specs.declared.evidence.Pair.{Pair}
 use Rattle.drt_claims.specs.declared.evidence.TreeClaim.{TreeClaim}
 use Rattle.drt_sp.specs.TaskTrees.{AreWalkLeaves, IsTaskTree, IsWalkLeaf, pair_of, pairs_from, walks_from}
-use Rattle.drt_sp.specs.TreeClaims.{HaveOneLabel, IsClaimOf, IsExactTree, IsNonDominated, IsTreeOf, lowered}
+use Rattle.drt_sp.specs.TreeClaims.{HaveOneLabel, IsClaimOf, IsExactTree, IsNonDominatedWalk, IsTreeOf, lowered}
 use Rattle.drt_sp.specs.declared.trees.TaskTree.{TaskTree}
 use Rattle.drt_sp.proofs.ShortWalks.{above_asks, asked_is, cut_short, walk_in_range, walk_is}
 use Rattle.drt_sp.proofs.TreeLeaves.{any_at, leaves_permutation}
@@ -75,7 +75,7 @@ pub parts_after : (claim : TreeClaim) (k : ℕ) (p : Pair) → length claim.walk
     → ◌≡◌ {A = Option (ℕ × ℕ)} (parts claim k) (Some (p.left, p.right))
 parts_after claim k p l at = let t : nat_lt k (length claim.walks) ≡ false = grind (arith, nat_tests) in rw (t, at) refl
 
-module _ (f h : Plain) (ls : List Leaf) (top : ℕ) (old : IsForest f) (added : IsAdded f h ls top) where
+module _ (f h : Plain) (ls : List Leaf) (top : ℕ) (old : IsForest f) (added : IsTreeAdded f h ls top) where
   abbrev low : ℕ
   low = length f.nodes
 
@@ -185,7 +185,7 @@ module _ (f h : Plain) (ls : List Leaf) (top : ℕ) (old : IsForest f) (added : 
       let e : first + (k - first) ≡ k = omega (arith, a, b, from) in
       subst (λ n. HasKids h (length f.nodes) n) e (kids_at (k - first) (omega (arith, a, b, c, from, to)))
 
-  module _ (g : Digraph) (sound : IsSound g) (bound : ℕ) (given : AreWalkLeaves bound g ls) where
+  module _ (g : Digraph) (sound : IsSoundGraph g) (bound : ℕ) (given : AreWalkLeaves bound g ls) where
     are : AreWalkLeaves bound g added.sorted
     are = leaves_permutation bound g ls added.sorted added.permutation given
 
@@ -204,7 +204,7 @@ module _ (f h : Plain) (ls : List Leaf) (top : ℕ) (old : IsForest f) (added : 
 
     under_leaf : (n : ℕ) → IsUnder h n top → IsLeafAt n
     under_leaf n u =
-        let r = under_range h tree low first added.built.stands u.0 n (subst (λ x. Leads h x u.0 n) root_top u.1) in
+        let r = under_range h tree low first added.built.stands u.0 n (subst (λ x. LeadsToLeaf h x u.0 n) root_top u.1) in
         let a = r.0 in
         let b = r.1 in
         let c = shape_counted in
@@ -214,7 +214,7 @@ module _ (f h : Plain) (ls : List Leaf) (top : ℕ) (old : IsForest f) (added : 
     leaf_under i l =
         let c = shape_counted in
         let u = under_all h tree low first added.built.stands (low + i) (omega arith) (omega (arith, l, c)) in
-        (u.0, subst (λ x. Leads h x u.0 (low + i)) (sym root_top) u.1)
+        (u.0, subst (λ x. LeadsToLeaf h x u.0 (low + i)) (sym root_top) u.1)
 
     -- The tree stands for the walks of the graph.
     pub stands_for : 1 ≤ bound → StandsFor g bound h top
@@ -441,7 +441,7 @@ module _ (f h : Plain) (ls : List Leaf) (top : ℕ) (old : IsForest f) (added : 
 
     written_exact : IsExactTree bound g written
     written_exact = record {
-      alone = All-map (IsNonDominated bound g) (λ l. l.walk) added.sorted are.alone;
+      alone = All-map (IsNonDominatedWalk bound g) (λ l. l.walk) added.sorted are.alone;
       each = each;
       once = λ i j w x at bt one.
           let m = image_at (λ l. l.walk) added.sorted i w at in
@@ -449,7 +449,7 @@ module _ (f h : Plain) (ls : List Leaf) (top : ℕ) (old : IsForest f) (added : 
           are.once i j m.source n.source m.at n.at (subst (λ y. HaveOneLabel bound g y n.source.walk) (sym m.image) (subst (λ y. HaveOneLabel bound g w y) (sym n.image) one));
     }
       where
-        each : (w : List ℕ) → IsShortWalk bound g w → IsNonDominated bound g w → (i : ℕ) × (x : List ℕ) × (slice_get walks_are i ≡ Some x) × HaveOneLabel bound g w x
+        each : (w : List ℕ) → IsShortWalk bound g w → IsNonDominatedWalk bound g w → (i : ℕ) × (x : List ℕ) × (slice_get walks_are i ≡ Some x) × HaveOneLabel bound g w x
         each [] short alone = absurd short
         each (u ∷ vs) short alone =
             let a = are.covers u vs short in

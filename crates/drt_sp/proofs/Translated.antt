@@ -10,7 +10,7 @@ use Rattle.drt_steps.specs.Values.{value_at}
 use Rattle.drt_steps.specs.Time.{Passes, sum_at as forest_sum}
 use Rattle.drt_tree.specs.Tree.{Plain, children, values}
 use Rattle.drt_claims.specs.Trees.{root, node_values}
-use Rattle.drt_claims.specs.Proofs.{IsPassed, after, after_all, halved, parts, parts_in, passes, sum_at}
+use Rattle.drt_claims.specs.Proofs.{HasPassingTime, after, after_all, halved, parts, parts_in, passes, sum_at}
 use Rattle.drt_claims.specs.declared.evidence.Item.{Item}
 use Rattle.drt_claims.specs.declared.evidence.Item.TheVariants.{Split}
 use Rattle.drt_claims.specs.declared.evidence.TreeClaim.{TreeClaim}
@@ -149,20 +149,20 @@ module _ (bound : ℕ) (f : Plain) where
         ap (after_all claims more) (split_after nodes rest place l r s) ∙ shape_of w d more (set nodes place l ∷ set nodes place r ∷ rest) are (s.left_in, (s.right_in, h.1))
 
     module _ (g : Digraph) (v : ℕ) (near : deadline g v ≤ bound) where
-      pub passed : (nodes : List ℕ) (t : ℕ) → AreIn graphs claims lows nodes → Passes (wcet g v) (deadline g v) f.pool nodes t → IsPassed graphs claims g v (lower lows nodes, t)
+      pub passed : (nodes : List ℕ) (t : ℕ) → AreIn graphs claims lows nodes → Passes (wcet g v) (deadline g v) f.pool nodes t → HasPassingTime graphs claims g v (lower lows nodes, t)
       passed nodes t h p =
           let sum : sum_at graphs claims (lower lows nodes) t ≡ forest_sum f.pool nodes t = sums_are graphs claims lows nodes t h p.from (omega (arith, p.to)) in
           record { some = p.from; within = omega (arith, p.to); fits = omega (arith, p.passes) }
 
       passes_of : (items : List Item) (stack : List (List ℕ)) → AreItems f (wcet g v) (deadline g v) items stack → AllIn stack
-          → All (IsPassed graphs claims g v) (passes claims items (Some (lower_all lows stack)))
+          → All (HasPassingTime graphs claims g v) (passes claims items (Some (lower_all lows stack)))
       unfolding passes
-      passes_of items stack none h = All-nil (IsPassed graphs claims g v)
+      passes_of items stack none h = All-nil (HasPassingTime graphs claims g v)
       passes_of items stack (pass t more nodes rest least are) h =
-          All-cons (IsPassed graphs claims g v) (lower lows nodes, t) (passes claims more (Some (lower_all lows rest))) (passed nodes t h.0 least.passes) (passes_of more rest are h.1)
+          All-cons (HasPassingTime graphs claims g v) (lower lows nodes, t) (passes claims more (Some (lower_all lows rest))) (passed nodes t h.0 least.passes) (passes_of more rest are h.1)
       passes_of items stack (split place l r more nodes rest hopeless place_is halves are) h =
           let s : IsSplitOf graphs claims lows nodes place l r = halves_of (wcet g v) (deadline g v) nodes place l r h.0 halves in
-          subst (λ (o : Option (List (List ℕ))). All (IsPassed graphs claims g v) (passes claims more o)) (sym (split_after nodes rest place l r s))
+          subst (λ (o : Option (List (List ℕ))). All (HasPassingTime graphs claims g v) (passes claims more o)) (sym (split_after nodes rest place l r s))
           (passes_of more (set nodes place l ∷ set nodes place r ∷ rest) are (s.left_in, (s.right_in, h.1)))
 
 -- The items of a proof from the tops on end the stack of a dossier's proof, and not before the last one.
@@ -175,7 +175,7 @@ items_shape bound f graphs lows tops claims are w d items is =
 -- Each of its items that passes does so at a time that passes for the vertex and the nodes of the claimed trees.
 pub items_pass : (bound : ℕ) (f : Plain) (graphs : List Digraph) (lows tops : List ℕ) (claims : List TreeClaim) → AreClaimsOf bound f graphs lows tops claims
     → (g : Digraph) (v : ℕ) → deadline g v ≤ bound → (items : List Item) → AreItems f (wcet g v) (deadline g v) items (tops ∷ [])
-    → All (IsPassed graphs claims g v) (passes claims items (Some (map root claims ∷ [])))
+    → All (HasPassingTime graphs claims g v) (passes claims items (Some (map root claims ∷ [])))
 items_pass bound f graphs lows tops claims are g v near items is =
-    subst (λ (nodes : List ℕ). All (IsPassed graphs claims g v) (passes claims items (Some (nodes ∷ [])))) (sym (tops_low bound f graphs lows tops claims are))
+    subst (λ (nodes : List ℕ). All (HasPassingTime graphs claims g v) (passes claims items (Some (nodes ∷ [])))) (sym (tops_low bound f graphs lows tops claims are))
     (passes_of bound f graphs claims lows g v near items (tops ∷ []) is (tops_in bound f graphs lows tops claims are, tt))

@@ -9,18 +9,18 @@ use Rattle.std.proofs.lemmas.List.Edits.{Swapped, swapped_from_swap, length-swap
 use Rattle.std.proofs.lemmas.List.Elements.{All-nil, All-push}
 use Rattle.std.proofs.lemmas.List.Sorted.{All-permutation, Contains-permutation, IsPermutation-keeps}
 use Rattle.std.proofs.lemmas.Option.{none-some, same_Some, slice_get_within, slice_get-get_or, get_or_from_slice_get}
-use Rattle.drt_model.specs.Digraph.{Digraph, IsSound}
+use Rattle.drt_model.specs.Digraph.{Digraph, IsSoundGraph}
 use Rattle.drt_request.specs.Request.{Request, request_algebra}
-use Rattle.drt_request.specs.Walk.{IsLabelOf}
+use Rattle.drt_request.specs.Walk.{IsRequestLabelOf}
 use Rattle.drt_steps.specs.Values.{value_at}
 use Rattle.drt_table.specs.Cover.{IsFront, KeptAt}
 use Rattle.drt_table.specs.Machine.{Setting}
 use Rattle.drt_table.specs.Node.{NodeOf, is_kept}
 use Rattle.drt_tree.specs.declared.leaf.Leaf.{Leaf}
 use Rattle.drt_claims.specs.Trees.{IsAbove, IsShortWalk, asked}
-use Rattle.drt_sp.specs.Gathering.{AreGathered, IsLeafOfNode}
+use Rattle.drt_sp.specs.Gathering.{AreLeavesGathered, IsLeafOfNode}
 use Rattle.drt_sp.specs.TaskTrees.{AreWalkLeaves, IsWalkLeaf}
-use Rattle.drt_sp.specs.TreeClaims.{HaveOneLabel, IsNonDominated}
+use Rattle.drt_sp.specs.TreeClaims.{HaveOneLabel, IsNonDominatedWalk}
 use Rattle.drt_sp.proofs.RequestWalks.{IsLabelled, walk_short, short_walk, above_of, dominates_of, same_labels, one_label}
 
 -- An element of a list with one more at its end.
@@ -59,7 +59,7 @@ module _ (t : Setting) (nodes : List (NodeOf Request)) where
   origin_later : (i j : ℕ) (l : Leaf) → i ≤ j → HasOrigin i l → HasOrigin j l
   origin_later i j l le o = let b = o.below in record { number = o.number; node = o.node; below = omega (arith, b, le); kept = o.kept; leaf = o.leaf }
 
-  origins : (i : ℕ) (ls : List Leaf) → AreGathered t nodes i ls → (p : ℕ) (x : Leaf) → slice_get ls p ≡ Some x → HasOrigin i x
+  origins : (i : ℕ) (ls : List Leaf) → AreLeavesGathered t nodes i ls → (p : ℕ) (x : Leaf) → slice_get ls p ≡ Some x → HasOrigin i x
   origins zero ls are p x at = absurd (none-some x (ap (λ ys. slice_get ys p) (sym are) ∙ at))
   origins (suc i) ls (inl are) p x at = origin_later i (suc i) x (omega arith) (origins i ls are.3 p x at)
   origins (suc i) ls (inr are) p x at = go (λ h. origins i are.2 are.6 p x h) (got_push are.2 are.1 p x (ap (λ ys. slice_get ys p) (sym are.5) ∙ at))
@@ -75,7 +75,7 @@ module _ (t : Setting) (nodes : List (NodeOf Request)) where
     pub at : slice_get ls place ≡ Some leaf
     pub is : IsLeafOfNode t n leaf
 
-  found : (i : ℕ) (ls : List Leaf) → AreGathered t nodes i ls → (j : ℕ) (n : NodeOf Request) → j < i → KeptAt request_algebra t nodes j n → HasLeaf ls n
+  found : (i : ℕ) (ls : List Leaf) → AreLeavesGathered t nodes i ls → (j : ℕ) (n : NodeOf Request) → j < i → KeptAt request_algebra t nodes j n → HasLeaf ls n
   found zero ls are j n l kept = absurd (omega (arith, l))
   found (suc i) ls (inl are) j n l kept = go (λ m. found i ls are.3 j n m kept) (cases_lt j i)
     where
@@ -98,7 +98,7 @@ module _ (t : Setting) (nodes : List (NodeOf Request)) where
           let same : are.0 ≡ n = same_Some are.0 n (sym are.3.at ∙ (ap (λ k. slice_get nodes k) (sym e) ∙ kept.at)) in
           record { place = length are.2; leaf = are.1; at = ap (λ ys. slice_get ys (length are.2)) are.5 ∙ got_end are.2 are.1; is = subst (λ x. IsLeafOfNode t x are.1) same are.4 }
 
-  module _ (sound : IsSound t.graph) (front : IsFront request_algebra t nodes) where
+  module _ (sound : IsSoundGraph t.graph) (front : IsFront request_algebra t nodes) where
     -- The walk of a leaf, by its node's label.
     walked : (n : NodeOf Request) (l : Leaf) → IsLeafOfNode t n l → IsLabelled t.graph t.bound l.walk n.label
     walked n l is = walk_short t sound l.walk n.label is.walk
@@ -112,12 +112,12 @@ module _ (t : Setting) (nodes : List (NodeOf Request)) where
           values = λ k from to. ap (λ xs. value_at xs k) is.steps ∙ (w.label.values k from to ∙ ap (λ xs. asked t.graph k xs) (sym w.is));
         }
 
-    alone_is : (i : ℕ) (n : NodeOf Request) (l : Leaf) → KeptAt request_algebra t nodes i n → IsLeafOfNode t n l → IsNonDominated t.bound t.graph l.walk
+    alone_is : (i : ℕ) (n : NodeOf Request) (l : Leaf) → KeptAt request_algebra t nodes i n → IsLeafOfNode t n l → IsNonDominatedWalk t.bound t.graph l.walk
     alone_is i n l kept is =
         let w = walked n l is in
-        subst (IsNonDominated t.bound t.graph) (sym w.is) (λ v short above. go w.first w.others w.label v short above)
+        subst (IsNonDominatedWalk t.bound t.graph) (sym w.is) (λ v short above. go w.first w.others w.label v short above)
       where
-        go : (u : ℕ) (vs : List ℕ) → IsLabelOf t.graph t.bound u vs n.label → (v : List ℕ) → IsShortWalk t.bound t.graph v → IsAbove t.bound t.graph u vs v → HaveOneLabel t.bound t.graph (u ∷ vs) v
+        go : (u : ℕ) (vs : List ℕ) → IsRequestLabelOf t.graph t.bound u vs n.label → (v : List ℕ) → IsShortWalk t.bound t.graph v → IsAbove t.bound t.graph u vs v → HaveOneLabel t.bound t.graph (u ∷ vs) v
         go u vs label [] short above = absurd short
         go u vs label (x ∷ xs) short above =
             let m = short_walk t sound x xs short in
@@ -125,7 +125,7 @@ module _ (t : Setting) (nodes : List (NodeOf Request)) where
             let same : m.0 ≡ n.label = (front.sound i n kept).alone m.0 m.1 d in
             one_label t.graph t.bound u vs x xs n.label m.0 label m.2 (sym same)
 
-    covered_by : (ls : List Leaf) → AreGathered t nodes (length nodes) ls → (u : ℕ) (vs : List ℕ) → IsShortWalk t.bound t.graph (u ∷ vs) → Any (λ l. IsAbove t.bound t.graph u vs l.walk) ls
+    covered_by : (ls : List Leaf) → AreLeavesGathered t nodes (length nodes) ls → (u : ℕ) (vs : List ℕ) → IsShortWalk t.bound t.graph (u ∷ vs) → Any (λ l. IsAbove t.bound t.graph u vs l.walk) ls
     covered_by ls are u vs short =
         let m = short_walk t sound u vs short in
         let c = front.covers m.0 m.1 in
@@ -143,7 +143,7 @@ module _ (t : Setting) (nodes : List (NodeOf Request)) where
         subst (λ z. HaveOneLabel t.bound t.graph z (w.first ∷ w.others)) v.is (subst (λ z. HaveOneLabel t.bound t.graph x.walk z) w.is have) in
         front.once i j m n p q (same_labels t.graph t.bound v.first v.others w.first w.others m.label n.label v.label w.label one)
 
-    once_is : (i : ℕ) (ls : List Leaf) → AreGathered t nodes i ls → (p q : ℕ) (x y : Leaf) → slice_get ls p ≡ Some x → slice_get ls q ≡ Some y → HaveOneLabel t.bound t.graph x.walk y.walk → p ≡ q
+    once_is : (i : ℕ) (ls : List Leaf) → AreLeavesGathered t nodes i ls → (p q : ℕ) (x y : Leaf) → slice_get ls p ≡ Some x → slice_get ls q ≡ Some y → HaveOneLabel t.bound t.graph x.walk y.walk → p ≡ q
     once_is zero ls are p q x y at bt have = absurd (none-some x (ap (λ ys. slice_get ys p) (sym are) ∙ at))
     once_is (suc i) ls (inl are) p q x y at bt have = once_is i ls are.3 p q x y at bt have
     once_is (suc i) ls (inr are) p q x y at bt have =
@@ -169,16 +169,16 @@ module _ (t : Setting) (nodes : List (NodeOf Request)) where
         go before (inr h) (inr k) = h.0 ∙ sym k.0
 
     each_is : (P : Leaf → Type 0) → ((i : ℕ) (n : NodeOf Request) (l : Leaf) → KeptAt request_algebra t nodes i n → IsLeafOfNode t n l → P l) → (i : ℕ) (ls : List Leaf)
-        → AreGathered t nodes i ls → All P ls
+        → AreLeavesGathered t nodes i ls → All P ls
     each_is P f zero ls are = subst (All P) (sym are) (All-nil P)
     each_is P f (suc i) ls (inl are) = each_is P f i ls are.3
     each_is P f (suc i) ls (inr are) = subst (All P) (sym are.5) (All-push P are.2 are.1 (each_is P f i are.2 are.6) (f i are.0 are.1 are.3 are.4))
 
     -- The leaves of all kept nodes of a finished search.
-    pub walk_leaves : (ls : List Leaf) → AreGathered t nodes (length nodes) ls → AreWalkLeaves t.bound t.graph ls
+    pub walk_leaves : (ls : List Leaf) → AreLeavesGathered t nodes (length nodes) ls → AreWalkLeaves t.bound t.graph ls
     walk_leaves ls are = record {
       each = each_is (IsWalkLeaf t.bound t.graph) (λ i n l kept is. leaf_is n l is) (length nodes) ls are;
-      alone = each_is (λ l. IsNonDominated t.bound t.graph l.walk) alone_is (length nodes) ls are;
+      alone = each_is (λ l. IsNonDominatedWalk t.bound t.graph l.walk) alone_is (length nodes) ls are;
       covers = covered_by ls are;
       once = once_is (length nodes) ls are;
     }
@@ -246,7 +246,7 @@ apart_permutation R xs ys perm apart =
 pub leaves_permutation : (bound : ℕ) (g : Digraph) (xs ys : List Leaf) → IsPermutation xs ys → AreWalkLeaves bound g xs → AreWalkLeaves bound g ys
 leaves_permutation bound g xs ys perm are = record {
   each = All-permutation (IsWalkLeaf bound g) xs ys perm are.each;
-  alone = All-permutation (λ l. IsNonDominated bound g l.walk) xs ys perm are.alone;
+  alone = All-permutation (λ l. IsNonDominatedWalk bound g l.walk) xs ys perm are.alone;
   covers = λ u vs short. any_permutation (λ l. IsAbove bound g u vs l.walk) xs ys perm (are.covers u vs short);
   once = apart_permutation (λ x y. HaveOneLabel bound g x.walk y.walk) xs ys perm are.once;
 }

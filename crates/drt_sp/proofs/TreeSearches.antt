@@ -6,7 +6,7 @@ use Rattle.std.specs.declared.sync.Arc.{Arc}
 use Rattle.std.proofs.lemmas.List.{length-map}
 use Rattle.std.proofs.lemmas.Option.{slice_get-map}
 use Rattle.std.proofs.lemmas.List.Elements.{All-weaker}
-use Rattle.drt_model.specs.Digraph.{Digraph, IsSound}
+use Rattle.drt_model.specs.Digraph.{Digraph, IsSoundGraph}
 use Rattle.drt_graph.proofs.Paths.{span_none}
 use Rattle.drt_request.specs.Laws.{request_laws}
 use Rattle.drt_request.specs.Request.{Request, request_algebra}
@@ -19,7 +19,7 @@ use Rattle.drt_tree.specs.Leaf.{leaves_of}
 use Rattle.drt_tree.specs.Tree.{HaveOneBound}
 use Rattle.drt_tree.specs.declared.leaf.Leaf.{Leaf}
 use Rattle.drt_tree.proofs.Trees.{length-leaves_of}
-use Rattle.drt_sp.specs.Gathering.{AreGathered}
+use Rattle.drt_sp.specs.Gathering.{AreLeavesGathered}
 use Rattle.drt_sp.specs.TaskTrees.{AreWalkLeaves, IsWalkLeaf}
 use Rattle.drt_sp.specs.Searches.{AreLeavesOf}
 use Rattle.drt_sp.specs.TreeClaims.{search_of}
@@ -27,8 +27,8 @@ use Rattle.drt_sp.specs.declared.trees.gathering.Leaves.{Leaves}
 use Rattle.drt_sp.proofs.TreeLeaves.{walk_leaves}
 
 module _ (g : Digraph) (bound budget : ℕ) (v : View Request) (setting : setting_of v ≡ search_of g bound budget) (is : IsTable request_algebra v) where
-  search_sound : IsSound g
-  search_sound = subst IsSound (ap (λ t. t.graph) setting) is.sound
+  search_sound : IsSoundGraph g
+  search_sound = subst IsSoundGraph (ap (λ t. t.graph) setting) is.sound
 
   search_leaves : (ls : List Leaf) → AreWalkLeaves v.bound v.graph ls → AreWalkLeaves bound g ls
   search_leaves ls are = subst (λ x. AreWalkLeaves bound x ls) (ap (λ t. t.graph) setting) (subst (λ b. AreWalkLeaves b v.graph ls) (ap (λ t. t.bound) setting) are)
@@ -43,7 +43,7 @@ module _ (g : Digraph) (bound budget : ℕ) (v : View Request) (setting : settin
       omega (arith, a, b, c, d, le)
 
 -- There is a leaf.
-some_leaves : (g : Digraph) (bound : ℕ) (ls : List Leaf) → IsSound g → 1 ≤ bound → AreWalkLeaves bound g ls → 1 ≤ length ls
+some_leaves : (g : Digraph) (bound : ℕ) (ls : List Leaf) → IsSoundGraph g → 1 ≤ bound → AreWalkLeaves bound g ls → 1 ≤ length ls
 some_leaves g bound ls sound some are =
     let s = sound.some in
     let z = span_none g 0 in
@@ -52,7 +52,7 @@ some_leaves g bound ls sound some are =
 
 -- The leaves of a search, as labels and walks that are lent.
 pub record AreLent {Z : Type 0} (g : Digraph) (bound : ℕ) (labels : List (Arc Request Z)) (walks : List (List ℕ)) : Type 0 where
-  pub sound : IsSound g
+  pub sound : IsSoundGraph g
   pub leaves : AreWalkLeaves bound g (leaves_of labels walks)
   pub counted : length (leaves_of labels walks) ≡ length labels
   pub some : 1 ≤ length labels
@@ -94,10 +94,10 @@ leaves_push (x ∷ labels) (y ∷ walks) l w e = ap (λ ls. record { steps = x.v
 
 -- The leaves of all kept nodes of a finished search are those of a tree.
 pub gathered_leaves : (v : View Request) → IsTable request_algebra v → IsFront request_algebra (setting_of v) (state_of v).nodes → (ls : List Leaf)
-    → AreGathered (setting_of v) (state_of v).nodes (length v.nodes) ls → AreWalkLeaves v.bound v.graph ls
+    → AreLeavesGathered (setting_of v) (state_of v).nodes (length v.nodes) ls → AreWalkLeaves v.bound v.graph ls
 gathered_leaves v is front ls are =
     let long : length v.nodes ≡ length (state_of v).nodes = sym (length-map v.nodes (λ h. h.node)) in
-    walk_leaves (setting_of v) (state_of v).nodes is.sound front ls (subst (λ n. AreGathered (setting_of v) (state_of v).nodes n ls) long are)
+    walk_leaves (setting_of v) (state_of v).nodes is.sound front ls (subst (λ n. AreLeavesGathered (setting_of v) (state_of v).nodes n ls) long are)
 
 none_of : (o : Option ℕ) → is_some o ≡ false → is_none o ≡ true
 none_of None e = refl
@@ -118,10 +118,10 @@ module _ (v : View Request) (i : ℕ) (h : Held Request) (at : slice_get v.nodes
   pub gathered_kept : {Z : Type 0} (labels : List (Arc Request Z)) (walks : List (List ℕ)) (l : Arc Request Z) (w : List ℕ) → is_some h.node.dropped_by ≡ false
       → length labels ≡ length walks → l.value ≡ h.node.label
       → ((n : NodeOf Request) → slice_get (state_of v).nodes i ≡ Some n → IsWalkOf request_algebra (setting_of v) w n.label)
-      → AreGathered (setting_of v) (state_of v).nodes i (leaves_of labels walks) → AreGathered (setting_of v) (state_of v).nodes (i + 1) (leaves_of (labels ++ l ∷ []) (walks ++ w ∷ []))
+      → AreLeavesGathered (setting_of v) (state_of v).nodes i (leaves_of labels walks) → AreLeavesGathered (setting_of v) (state_of v).nodes (i + 1) (leaves_of (labels ++ l ∷ []) (walks ++ w ∷ []))
   gathered_kept labels walks l w kept same label walk before =
       let leaf : Leaf = record { steps = l.value.values; walk = w } in
-      subst (λ k. AreGathered (setting_of v) (state_of v).nodes k (leaves_of (labels ++ l ∷ []) (walks ++ w ∷ []))) next_is
+      subst (λ k. AreLeavesGathered (setting_of v) (state_of v).nodes k (leaves_of (labels ++ l ∷ []) (walks ++ w ∷ []))) next_is
       (inr (
         h.node,
         leaf,
@@ -133,6 +133,6 @@ module _ (v : View Request) (i : ℕ) (h : Held Request) (at : slice_get v.nodes
       ))
 
   -- A dropped one gives none.
-  pub gathered_dropped : (ls : List Leaf) → is_some h.node.dropped_by ≡ true → AreGathered (setting_of v) (state_of v).nodes i ls → AreGathered (setting_of v) (state_of v).nodes (i + 1) ls
+  pub gathered_dropped : (ls : List Leaf) → is_some h.node.dropped_by ≡ true → AreLeavesGathered (setting_of v) (state_of v).nodes i ls → AreLeavesGathered (setting_of v) (state_of v).nodes (i + 1) ls
   gathered_dropped ls dropped before =
-      subst (λ k. AreGathered (setting_of v) (state_of v).nodes k ls) next_is (inl (h.node, node_at, some_of h.node.dropped_by dropped, before))
+      subst (λ k. AreLeavesGathered (setting_of v) (state_of v).nodes k ls) next_is (inl (h.node, node_at, some_of h.node.dropped_by dropped, before))

@@ -8,7 +8,7 @@ use Rattle.std.proofs.lemmas.List.{map-append}
 use Rattle.std.proofs.lemmas.List.Sums.{sum_by-append, sum_by_push}
 use Rattle.std.proofs.lemmas.Option.{none-some, same_Some}
 use Rattle.drt_tree.specs.Shape.{Shape, one, two, parts, pairs, root_of, Stands}
-use Rattle.drt_tree.specs.Tree.{Plain, Leads, children}
+use Rattle.drt_tree.specs.Tree.{Plain, LeadsToLeaf, children}
 use Rattle.drt_claims.specs.Trees.{named}
 use Rattle.drt_claims.specs.declared.evidence.Pair.{Pair}
 use Rattle.drt_sp.specs.TaskTrees.{pair_of, pairs_from}
@@ -24,7 +24,7 @@ root_last one low = omega arith
 root_last (two l r) low = omega arith
 
 -- What leads from the root to a leaf leads to one of the tree's.
-pub under_range : (f : Plain) (s : Shape) (low first : ℕ) → Stands f s low first → (turns : List Bool) (leaf : ℕ) → Leads f (root_of s low first) turns leaf → (low ≤ leaf) × (leaf < low + parts s)
+pub under_range : (f : Plain) (s : Shape) (low first : ℕ) → Stands f s low first → (turns : List Bool) (leaf : ℕ) → LeadsToLeaf f (root_of s low first) turns leaf → (low ≤ leaf) × (leaf < low + parts s)
 under_range f one low first st [] leaf h = let e = h.0 in (omega (arith, e), omega (arith, e))
 under_range f one low first st (b ∷ turns) leaf h = let p : ℕ × ℕ = (h.0, h.1) in absurd (none-some p (sym st.1 ∙ h.2))
 under_range f (two l r) low first st [] leaf h = let p : ℕ × ℕ = (root_of l low first, root_of r (low + parts l) (first + pairs l)) in absurd (none-some p (sym h.1 ∙ st.2))
@@ -33,25 +33,25 @@ under_range f (two l r) low first st (b ∷ turns) leaf h =
     let q : ℕ × ℕ = (h.0, h.1) in
     let same : p ≡ q = same_Some p q (sym st.2 ∙ h.2) in
     go b (λ k. under_range f l low first st.0 turns leaf k) (λ k. under_range f r (low + parts l) (first + pairs l) st.1 turns leaf k)
-    (subst (λ (z : ℕ × ℕ). Leads f (cond b z.0 z.1) turns leaf) (sym same) h.3)
+    (subst (λ (z : ℕ × ℕ). LeadsToLeaf f (cond b z.0 z.1) turns leaf) (sym same) h.3)
   where
-    go : (c : Bool) → (Leads f (root_of l low first) turns leaf → (low ≤ leaf) × (leaf < low + parts l))
-        → (Leads f (root_of r (low + parts l) (first + pairs l)) turns leaf → (low + parts l ≤ leaf) × (leaf < low + parts l + parts r))
-        → Leads f (cond c (root_of l low first) (root_of r (low + parts l) (first + pairs l))) turns leaf → (low ≤ leaf) × (leaf < low + (parts l + parts r))
+    go : (c : Bool) → (LeadsToLeaf f (root_of l low first) turns leaf → (low ≤ leaf) × (leaf < low + parts l))
+        → (LeadsToLeaf f (root_of r (low + parts l) (first + pairs l)) turns leaf → (low + parts l ≤ leaf) × (leaf < low + parts l + parts r))
+        → LeadsToLeaf f (cond c (root_of l low first) (root_of r (low + parts l) (first + pairs l))) turns leaf → (low ≤ leaf) × (leaf < low + (parts l + parts r))
     go true left right k = let i = left k in let x = i.0 in let y = i.1 in (x, omega (arith, y))
     go false left right k = let i = right k in let x = i.0 in let y = i.1 in (omega (arith, x), omega (arith, y))
 
 -- Each leaf of the tree is under its root.
-pub under_all : (f : Plain) (s : Shape) (low first : ℕ) → Stands f s low first → (leaf : ℕ) → low ≤ leaf → leaf < low + parts s → (turns : List Bool) × Leads f (root_of s low first) turns leaf
+pub under_all : (f : Plain) (s : Shape) (low first : ℕ) → Stands f s low first → (leaf : ℕ) → low ≤ leaf → leaf < low + parts s → (turns : List Bool) × LeadsToLeaf f (root_of s low first) turns leaf
 under_all f one low first st leaf from to =
     let e : low ≡ leaf = omega (arith, from, to) in
     ([], (e, st.1))
 under_all f (two l r) low first st leaf from to =
     go (λ c. under_all f l low first st.0 leaf from c) (λ c. under_all f r (low + parts l) (first + pairs l) st.1 leaf c (omega (arith, to))) (cases_lt leaf (low + parts l))
   where
-    go : (leaf < low + parts l → (turns : List Bool) × Leads f (root_of l low first) turns leaf)
-        → (low + parts l ≤ leaf → (turns : List Bool) × Leads f (root_of r (low + parts l) (first + pairs l)) turns leaf)
-        → (leaf < low + parts l) ⊎ (low + parts l ≤ leaf) → (turns : List Bool) × Leads f (first + pairs l + pairs r) turns leaf
+    go : (leaf < low + parts l → (turns : List Bool) × LeadsToLeaf f (root_of l low first) turns leaf)
+        → (low + parts l ≤ leaf → (turns : List Bool) × LeadsToLeaf f (root_of r (low + parts l) (first + pairs l)) turns leaf)
+        → (leaf < low + parts l) ⊎ (low + parts l ≤ leaf) → (turns : List Bool) × LeadsToLeaf f (first + pairs l + pairs r) turns leaf
     go left right (inl c) = let u = left c in (true ∷ u.0, (root_of l low first, root_of r (low + parts l) (first + pairs l), st.2, u.1))
     go left right (inr c) = let u = right c in (false ∷ u.0, (root_of l low first, root_of r (low + parts l) (first + pairs l), st.2, u.1))
 

@@ -3,7 +3,7 @@ use Rattle.std.proofs.Common.{◌≡◌, ℕ, ◌+◌, ◌<◌, ◌≤◌, Bool,
 use Rattle.std.specs.Prelude.{slice_get}
 use Rattle.drt_model.specs.Digraph.{Digraph}
 use Rattle.drt_steps.specs.Values.{value_at}
-use Rattle.drt_tree.specs.Tree.{Plain, Grows, IsForest, IsPair, Leads, children, values, walk, walk_of}
+use Rattle.drt_tree.specs.Tree.{Plain, Grows, IsForest, IsPair, LeadsToLeaf, children, values, walk, walk_of}
 use Rattle.drt_tree.proofs.Trees.{children_stay, get_front, grows_long, values_stay}
 use Rattle.drt_busy.specs.Choice.{IsWalk, request_of}
 use Rattle.drt_choices.specs.Choices.{StandsFor}
@@ -29,17 +29,17 @@ module _ (f h : Plain) (forest : IsForest f) (grows : Grows f h) where
       go false = let a = p.right in omega (arith, a, w)
 
   -- What leads from a node to a leaf leads to it in both.
-  leads_on : (n : ℕ) (turns : List Bool) (leaf : ℕ) → n < length f.nodes → Leads f n turns leaf → Leads h n turns leaf
+  leads_on : (n : ℕ) (turns : List Bool) (leaf : ℕ) → n < length f.nodes → LeadsToLeaf f n turns leaf → LeadsToLeaf h n turns leaf
   leads_on n [] leaf w l = (l.0, children_stay f h n grows w ∙ l.1)
   leads_on n (b ∷ turns) leaf w l = (l.0, l.1, children_stay f h n grows w ∙ l.2, leads_on (cond b l.0 l.1) turns leaf (child_there n l.0 l.1 b w l.2) l.3)
 
-  leads_back : (n : ℕ) (turns : List Bool) (leaf : ℕ) → n < length f.nodes → Leads h n turns leaf → Leads f n turns leaf
+  leads_back : (n : ℕ) (turns : List Bool) (leaf : ℕ) → n < length f.nodes → LeadsToLeaf h n turns leaf → LeadsToLeaf f n turns leaf
   leads_back n [] leaf w l = (l.0, sym (children_stay f h n grows w) ∙ l.1)
   leads_back n (b ∷ turns) leaf w l =
       let e : children f n ≡ Some (l.0, l.1) = sym (children_stay f h n grows w) ∙ l.2 in
       (l.0, l.1, e, leads_back (cond b l.0 l.1) turns leaf (child_there n l.0 l.1 b w e) l.3)
 
-  leaf_there : (n : ℕ) (turns : List Bool) (leaf : ℕ) → n < length f.nodes → Leads f n turns leaf → leaf < length f.nodes
+  leaf_there : (n : ℕ) (turns : List Bool) (leaf : ℕ) → n < length f.nodes → LeadsToLeaf f n turns leaf → leaf < length f.nodes
   leaf_there n [] leaf w l = subst (λ k. k < length f.nodes) l.0 w
   leaf_there n (b ∷ turns) leaf w l = leaf_there (cond b l.0 l.1) turns leaf (child_there n l.0 l.1 b w l.2) l.3
 

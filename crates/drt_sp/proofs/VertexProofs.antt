@@ -9,7 +9,7 @@ use Rattle.drt_claims.specs.declared.evidence.Item.{Item}
 use Rattle.drt_refine.specs.Below.{AreBelow, IsConcrete}
 use Rattle.drt_refine.specs.Combination.{Combination, is_failed}
 use Rattle.drt_refine.specs.Facts.{IsPassed}
-use Rattle.drt_refine.specs.Machine.{Setting, IsHopeless}
+use Rattle.drt_refine.specs.Machine.{FrontierSetting, IsHopeless}
 use Rattle.drt_refine.specs.Settled.{AreSettled}
 use Rattle.drt_sp.specs.Items.{AreItems, IsFailure, IsProofOf}
 
@@ -18,17 +18,17 @@ self_below : (f : Plain) (nodes : List ℕ) → IsConcrete f nodes → AreBelow 
 self_below f [] h = tt
 self_below f (n ∷ nodes) h = (([], (refl, h.0)), self_below f nodes h.1)
 
-pub proof_of : (t s : Setting) (cs : List Combination) (items : List Item) → s ≡ t → AreItems s.forest s.wcet s.deadline items (s.roots ∷ [])
+pub proof_of : (t s : FrontierSetting) (cs : List Combination) (items : List Item) → s ≡ t → AreItems s.forest s.wcet s.deadline items (s.roots ∷ [])
     → ((tuple : List ℕ) → AreBelow s.forest tuple s.roots → IsPassed s cs tuple) → IsProofOf t.forest t.wcet t.deadline t.roots items
-proof_of t s cs items same are passed = subst (λ (x : Setting). IsProofOf x.forest x.wcet x.deadline x.roots items) same (record {
+proof_of t s cs items same are passed = subst (λ (x : FrontierSetting). IsProofOf x.forest x.wcet x.deadline x.roots items) same (record {
   items_are = are;
   each = λ tuple below. ((passed tuple below).time, (passed tuple below).tuple_passes);
 })
 
-pub failure_of : (t s : Setting) (cs : List Combination) (id : ℕ) (c : Combination) (tuple : List ℕ) → s ≡ t → AreSettled s cs → slice_get cs id ≡ Some c → IsHopeless s c.nodes
+pub failure_of : (t s : FrontierSetting) (cs : List Combination) (id : ℕ) (c : Combination) (tuple : List ℕ) → s ≡ t → AreSettled s cs → slice_get cs id ≡ Some c → IsHopeless s c.nodes
     → tuple ≡ c.nodes → IsFailure t.forest t.wcet t.deadline t.roots tuple
 failure_of t s cs id c tuple same settled at hopeless is =
-    subst (λ (x : Setting). IsFailure x.forest x.wcet x.deadline x.roots tuple) same (subst (λ (l : List ℕ). IsFailure s.forest s.wcet s.deadline s.roots l) (sym is) (record {
+    subst (λ (x : FrontierSetting). IsFailure x.forest x.wcet x.deadline x.roots tuple) same (subst (λ (l : List ℕ). IsFailure s.forest s.wcet s.deadline s.roots l) (sym is) (record {
       below = settled.below id c c.nodes at (self_below s.forest c.nodes hopeless.0);
       hopeless = hopeless.1;
     }))

@@ -8,7 +8,7 @@ use Rattle.std.proofs.lemmas.Option.{slice_get_within}
 use Rattle.std.proofs.lemmas.Map.Steps.{length-le_from_distinct_below}
 use Rattle.drt_worklist.proofs.Lists.{length_join}
 use Rattle.drt_refine.specs.Combination.{Combination}
-use Rattle.drt_refine.specs.Machine.{Setting}
+use Rattle.drt_refine.specs.Machine.{FrontierSetting}
 use Rattle.drt_refine.specs.Settled.{AreSettled, IsHalfOf, IsSettled, IsSplitInto}
 use Rattle.drt_refine.specs.declared.step.CombinationState.{CombinationState}
 use Rattle.drt_refine.specs.declared.step.CombinationState.TheVariants.{Split}
@@ -130,7 +130,7 @@ module _ (cs : List Combination) (rest : List ℕ) (id k : ℕ) (v : IsVisit cs 
       let u : one id id ≡ 1 = one_self id in
       v.within id (omega arith)
 
-  module _ (t : Setting) (settled : AreSettled t cs) (c : Combination) (at : slice_get cs id ≡ Some c) (place left right : ℕ) (split : c.state ≡ Split place left right) where
+  module _ (t : FrontierSetting) (settled : AreSettled t cs) (c : Combination) (at : slice_get cs id ≡ Some c) (place left right : ℕ) (split : c.state ≡ Split place left right) where
     half_is : (n : ℕ) → (n ≡ left) ⊎ (n ≡ right) → IsHalfOf n c.state
     half_is n h = subst (λ (s : CombinationState). IsHalfOf n s) (sym split) h
 

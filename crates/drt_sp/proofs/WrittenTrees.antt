@@ -6,12 +6,12 @@ use Rattle.std.proofs.lemmas.List.Elements.{All-head, All-tail}
 use Rattle.std.proofs.lemmas.List.FromFn.{length-map-range_with_len, get_or-map-range_with_len}
 use Rattle.drt_model.specs.Digraph.{Digraph}
 use Rattle.drt_steps.specs.Values.{value_at}
-use Rattle.drt_tree.specs.Shape.{Shape, one, two, parts, pairs, root_of, IsHalved as IsHalvedShape}
+use Rattle.drt_tree.specs.Shape.{Shape, one, two, parts, pairs, root_of, IsHalvedShape}
 use Rattle.drt_tree.specs.declared.leaf.Leaf.{Leaf}
 use Rattle.drt_claims.specs.Trees.{asked, root}
 use Rattle.drt_claims.specs.declared.evidence.Pair.{Pair}
 use Rattle.drt_sp.specs.TaskTrees.{IsWalkLeaf}
-use Rattle.drt_sp.specs.Written.{HasHalves, IsHalved, leaf_of, pair, walk}
+use Rattle.drt_sp.specs.Written.{HasHalves, AreHalvedPairs, leaf_of, pair, walk}
 use Rattle.drt_sp.proofs.TreeShapes.{pairs_of, root_last}
 
 -- There are as many pairs as the tree has.
@@ -30,7 +30,7 @@ pairs_length (two l r) low first =
     )
 
 -- The pairs of a halved tree are written as such.
-pub pairs_halved : (s : Shape) → IsHalvedShape s → (low first : ℕ) → IsHalved (parts s) low first (pairs_of s low first) (root_of s low first)
+pub pairs_halved : (s : Shape) → IsHalvedShape s → (low first : ℕ) → AreHalvedPairs (parts s) low first (pairs_of s low first) (root_of s low first)
 unfolding pairs_of
 pairs_halved one halved low first = walk low first
 pairs_halved (two l r) halved low first =
@@ -39,13 +39,13 @@ pairs_halved (two l r) halved low first =
     let last : Pair = record { left = root_of l low first; right = root_of r (low + parts l) (first + pairs l) } in
     let a : length lefts ≡ pairs l = pairs_length l low first in
     let b : length rights ≡ pairs r = pairs_length r (low + parts l) (first + pairs l) in
-    let left : IsHalved (parts l) low first lefts (root_of l low first) = pairs_halved l halved.0 low first in
-    let right : IsHalved (parts r) (low + parts l) (first + length lefts) rights (root_of r (low + parts l) (first + pairs l)) =
-    subst (λ n. IsHalved (parts r) (low + parts l) (first + n) rights (root_of r (low + parts l) (first + pairs l))) (sym a)
+    let left : AreHalvedPairs (parts l) low first lefts (root_of l low first) = pairs_halved l halved.0 low first in
+    let right : AreHalvedPairs (parts r) (low + parts l) (first + length lefts) rights (root_of r (low + parts l) (first + pairs l)) =
+    subst (λ n. AreHalvedPairs (parts r) (low + parts l) (first + n) rights (root_of r (low + parts l) (first + pairs l))) (sym a)
     (pairs_halved r halved.1 (low + parts l) (first + pairs l)) in
     let root : first + length lefts + length rights ≡ first + pairs l + pairs r = omega (arith, a, b) in
-    subst (λ (ps : List Pair). IsHalved (parts l + parts r) low first ps (first + pairs l + pairs r)) (append_assoc lefts rights (last ∷ []))
-    (subst (λ n. IsHalved (parts l + parts r) low first (lefts ++ rights ++ last ∷ []) n) root
+    subst (λ (ps : List Pair). AreHalvedPairs (parts l + parts r) low first ps (first + pairs l + pairs r)) (append_assoc lefts rights (last ∷ []))
+    (subst (λ n. AreHalvedPairs (parts l + parts r) low first (lefts ++ rights ++ last ∷ []) n) root
     (pair (parts l) (parts r) low first (root_of l low first) (root_of r (low + parts l) (first + pairs l)) lefts rights halved.2 halved.3 left right))
 
 -- So a claim with these pairs and a walk for each leaf is halved.
@@ -55,8 +55,8 @@ claim_halved s halved walks long =
     let none : 0 + parts s ≡ parts s = omega arith in
     let last : root_of s 0 (parts s) + 1 ≡ 0 + parts s + pairs s = ap (λ n. root_of s 0 n + 1) (sym none) ∙ root_last s 0 in
     let top : root_of s 0 (parts s) ≡ root (record { walks = walks; pairs = pairs_are }) = omega (arith, last, long, pairs_length s 0 (parts s)) in
-    subst (λ n. IsHalved n 0 n pairs_are (root (record { walks = walks; pairs = pairs_are }))) (sym long)
-    (subst (IsHalved (parts s) 0 (parts s) pairs_are) top (pairs_halved s halved 0 (parts s)))
+    subst (λ n. AreHalvedPairs n 0 n pairs_are (root (record { walks = walks; pairs = pairs_are }))) (sym long)
+    (subst (AreHalvedPairs (parts s) 0 (parts s) pairs_are) top (pairs_halved s halved 0 (parts s)))
 
 -- The leaf of a leaf's walk is the leaf.
 leaf_is : (bound : ℕ) (g : Digraph) (l : Leaf) → IsWalkLeaf bound g l → leaf_of bound g l.walk ≡ l

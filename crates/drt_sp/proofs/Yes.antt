@@ -19,15 +19,15 @@ use Rattle.drt_busy.specs.Decide.{TimesDecide}
 use Rattle.drt_tree.specs.Tree.{Plain}
 use Rattle.drt_choices.specs.Choices.{IsOrder, VertexPasses}
 use Rattle.drt_claims.specs.Claims.{Each}
-use Rattle.drt_claims.specs.Proofs.{HasPassingTimes, HasShape, IsPassed, after_all, opening, passes, subjects_from}
-use Rattle.drt_claims.specs.Ranges.{IsInRange, IsInRangeProof}
+use Rattle.drt_claims.specs.Proofs.{HasPassingTimes, HasShape, HasPassingTime, after_all, opening, passes, subjects_from}
+use Rattle.drt_claims.specs.Ranges.{IsEvidenceInRange, IsInRangeProof}
 use Rattle.drt_claims.specs.Trees.{CoversWalks, HasShortWalks, IsTree, by_priority, greatest_deadline, higher_count, root, tree_graphs}
 use Rattle.drt_claims.specs.declared.evidence.Evidence.TheVariants.{FixedYes}
 use Rattle.drt_claims.specs.declared.evidence.ProofClaim.{ProofClaim}
 use Rattle.drt_claims.specs.declared.evidence.TreeClaim.{TreeClaim}
 use Rattle.drt_claims.proofs.Accepting.{fixed_yes_accepted}
-use Rattle.drt_sp.specs.Answers.{IsExactYes}
-use Rattle.drt_sp.specs.Progress.{AreGrown, AreProofsAt, AreProved, IsProofAt, first_graphs}
+use Rattle.drt_sp.specs.Answers.{IsExactTreeYes}
+use Rattle.drt_sp.specs.Progress.{AreTreesGrown, AreProofsAt, AreProved, IsProofAt, first_graphs}
 use Rattle.drt_sp.specs.TreeClaims.{IsTreeOf}
 use Rattle.drt_sp.specs.Vertices.{subject_of, subjects}
 use Rattle.drt_sp.specs.Written.{AreEagerItems, IsEagerProof}
@@ -100,7 +100,7 @@ subjects_count k version (t ∷ tasks) are =
     )
 
 module _ (tasks : List Task) (order : List ℕ) (order_is : IsOrder tasks order) (version : ℕ) (limits : IsTaskSet version tasks) (last : ℕ) (whole : last + 1 ≡ length order)
-    (f : Plain) (roots : List ℕ) (trees : List TreeClaim) (grown : AreGrown tasks order last f roots trees) where
+    (f : Plain) (roots : List ℕ) (trees : List TreeClaim) (grown : AreTreesGrown tasks order last f roots trees) where
   count_trees : length trees ≡ last
   count_trees =
       let a : length (first_graphs tasks order last) ≡ last = length-take-le last (map (graph_at tasks) order) (omega (arith, length-map order (graph_at tasks))) in
@@ -156,7 +156,7 @@ module _ (tasks : List Task) (order : List ℕ) (order_is : IsOrder tasks order)
     near : deadline (graph_at tasks placed.task) p.vertex ≤ greatest_deadline tasks
     near = deadline_near tasks placed.task p.vertex (omega (arith, slice_get_within tasks p.task t here, placed.is.task_is)) placed.is.vertex
 
-    times_first : All (IsPassed (first_graphs tasks order placed.place) (take placed.place trees) (graph_at tasks placed.task) p.vertex)
+    times_first : All (HasPassingTime (first_graphs tasks order placed.place) (take placed.place trees) (graph_at tasks placed.task) p.vertex)
         (passes (take placed.place trees) p.items (Some (opening trees placed.place)))
     times_first = items_pass (greatest_deadline tasks) placed.is.forest (first_graphs tasks order placed.place) placed.is.lows placed.is.roots (take placed.place trees) placed.is.claimed
         (graph_at tasks placed.task) p.vertex near p.items placed.is.items_are
@@ -167,7 +167,7 @@ module _ (tasks : List Task) (order : List ℕ) (order_is : IsOrder tasks order)
     split_graphs : first_graphs tasks order placed.place ++ drop placed.place (tree_graphs tasks trees) ≡ tree_graphs tasks trees
     split_graphs = ap (λ gs. gs ++ drop placed.place (tree_graphs tasks trees)) (graphs_first placed.place place_most) ∙ take-append-drop placed.place (tree_graphs tasks trees)
 
-    times_all : All (IsPassed (tree_graphs tasks trees) trees (graph_at tasks placed.task) p.vertex) (passes trees p.items (Some (opening trees placed.place)))
+    times_all : All (HasPassingTime (tree_graphs tasks trees) trees (graph_at tasks placed.task) p.vertex) (passes trees p.items (Some (opening trees placed.place)))
     times_all =
         let i : ℕ = placed.place in
         let g : Digraph = graph_at tasks placed.task in
@@ -177,18 +177,18 @@ module _ (tasks : List Task) (order : List ℕ) (order_is : IsOrder tasks order)
         let b : length (first_graphs tasks order i) ≡ i = length-take-le i (map (graph_at tasks) order) (omega (arith, place_low, length-map order (graph_at tasks))) in
         let c : length (map root front) ≡ length front = length-map front root in
         let narrow = passes_narrow i front p.items (Some (opening trees i)) (omega (arith, a, c), tt) in
-        let more : All (IsPassed (first_graphs tasks order i ++ drop i (tree_graphs tasks trees)) (front ++ back) g p.vertex) (passes front p.items (Some (opening trees i)))
+        let more : All (HasPassingTime (first_graphs tasks order i ++ drop i (tree_graphs tasks trees)) (front ++ back) g p.vertex) (passes front p.items (Some (opening trees i)))
         = passed_more (first_graphs tasks order i) (drop i (tree_graphs tasks trees)) front back i b a g p.vertex (passes front p.items (Some (opening trees i))) narrow times_first in
         let same : passes (front ++ back) p.items (Some (opening trees i)) ≡ passes front p.items (Some (opening trees i)) = passes_more front back p.items (opening trees i) [] shape_first in
-        let moved : All (IsPassed (tree_graphs tasks trees) (front ++ back) g p.vertex) (passes (front ++ back) p.items (Some (opening trees i)))
-        = subst (λ ats. All (IsPassed (tree_graphs tasks trees) (front ++ back) g p.vertex) ats) (sym same)
-        (subst (λ gs. All (IsPassed gs (front ++ back) g p.vertex) (passes front p.items (Some (opening trees i)))) split_graphs more) in
-        subst (λ ts. All (IsPassed (tree_graphs tasks trees) ts g p.vertex) (passes ts p.items (Some (opening trees i)))) (take-append-drop i trees) moved
+        let moved : All (HasPassingTime (tree_graphs tasks trees) (front ++ back) g p.vertex) (passes (front ++ back) p.items (Some (opening trees i)))
+        = subst (λ ats. All (HasPassingTime (tree_graphs tasks trees) (front ++ back) g p.vertex) ats) (sym same)
+        (subst (λ gs. All (HasPassingTime gs (front ++ back) g p.vertex) (passes front p.items (Some (opening trees i)))) split_graphs more) in
+        subst (λ ts. All (HasPassingTime (tree_graphs tasks trees) ts g p.vertex) (passes ts p.items (Some (opening trees i)))) (take-append-drop i trees) moved
 
     -- And they pass over all trees.
-    pub has_times : All (IsPassed (tree_graphs tasks trees) trees (digraph_of t) p.vertex) (passes trees p.items (Some (opening trees (higher_count tasks t.priority))))
-    has_times = subst (λ n. All (IsPassed (tree_graphs tasks trees) trees (digraph_of t) p.vertex) (passes trees p.items (Some (opening trees n)))) higher_is
-        (subst (λ g. All (IsPassed (tree_graphs tasks trees) trees g p.vertex) (passes trees p.items (Some (opening trees placed.place)))) graph_is times_all)
+    pub has_times : All (HasPassingTime (tree_graphs tasks trees) trees (digraph_of t) p.vertex) (passes trees p.items (Some (opening trees (higher_count tasks t.priority))))
+    has_times = subst (λ n. All (HasPassingTime (tree_graphs tasks trees) trees (digraph_of t) p.vertex) (passes trees p.items (Some (opening trees n)))) higher_is
+        (subst (λ g. All (HasPassingTime (tree_graphs tasks trees) trees g p.vertex) (passes trees p.items (Some (opening trees placed.place)))) graph_is times_all)
 
     -- The items are due one after another over the trees of the tasks of higher priority.
     due_first : AreEagerItems (first_graphs tasks order placed.place) (take placed.place trees) (graph_at tasks placed.task) p.vertex p.items (Some (opening trees placed.place))
@@ -255,7 +255,7 @@ module _ (tasks : List Task) (order : List ℕ) (order_is : IsOrder tasks order)
             let at = order_place tasks order order_is k l in
             proved.passed at.0 k v at.1 (slice_get-get_or order at.0 0 at.1 ∙ ap Some at.2) w
 
-    pub is_yes : (constrained : AreConstrained tasks) → TimesDecide → IsExactYes (record { version = version; tasks = tasks }) trees (flat_map (λ x. x) rows)
+    pub is_yes : (constrained : AreConstrained tasks) → TimesDecide → IsExactTreeYes (record { version = version; tasks = tasks }) trees (flat_map (λ x. x) rows)
     is_yes constrained decide = record {
       schedulable = all_pass decide constrained;
       accepted = fixed_yes_accepted (record { version = version; tasks = tasks }) trees (flat_map (λ x. x) rows) constrained (record {
@@ -273,7 +273,7 @@ module _ (tasks : List Task) (order : List ℕ) (order_is : IsOrder tasks order)
       eager = All-weaker IsPlaced (IsEagerProof tasks trees) (λ p placed t here. is_due p placed t here) (flat_map (λ x. x) rows) all_placed;
     }
 
-    pub is_in_range : IsInRange (FixedYes trees (flat_map (λ x. x) rows))
+    pub is_in_range : IsEvidenceInRange (FixedYes trees (flat_map (λ x. x) rows))
     is_in_range = (
       (grown.range, omega (arith, count_trees, whole, order_count tasks order order_is, few_tasks version tasks limits)),
       (All-weaker IsPlaced IsInRangeProof (λ p placed. placed.is.range) (flat_map (λ x. x) rows) all_placed, all_counted),

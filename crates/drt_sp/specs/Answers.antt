@@ -19,7 +19,7 @@ use Rattle.drt_table.specs.declared.step.Entry.{Entry}
 use Rattle.drt_choices.specs.Choices.{FirstPass, VertexPasses}
 use Rattle.drt_choices.specs.Laws.{IsPosed, no_releases}
 use Rattle.drt_claims.specs.Claims.{Each}
-use Rattle.drt_claims.specs.Ranges.{IsInRange}
+use Rattle.drt_claims.specs.Ranges.{IsEvidenceInRange}
 use Rattle.drt_claims.specs.Rules.{Accepts}
 use Rattle.drt_claims.specs.Trees.{greatest_deadline, tree_graphs}
 use Rattle.drt_claims.specs.declared.evidence.Evidence.{Evidence}
@@ -31,7 +31,7 @@ use Rattle.drt_sp.specs.Evidence.{under_fixed}
 use Rattle.drt_sp.specs.Items.{IsFailure, IsSpentRefinement}
 use Rattle.drt_sp.specs.Needs.{AreFewLeaves, IsBelowRefinement, IsBelowSearch}
 use Rattle.drt_sp.specs.Progress.{first_graphs}
-use Rattle.drt_sp.specs.TreeClaims.{IsSpentSearch, IsTreeOf}
+use Rattle.drt_sp.specs.TreeClaims.{IsSpentWalkSearch, IsTreeOf}
 use Rattle.drt_sp.specs.Written.{IsEagerProof}
 use Rattle.drt_sp.specs.declared.answer.FixedAnswer.{FixedAnswer}
 use Rattle.drt_sp.specs.declared.answer.FixedAnswer.TheVariants as answers
@@ -50,7 +50,7 @@ HigherMeetDeadlines tasks k = (i : ℕ) → i < length tasks → (task_at tasks 
 
 -- A yes: the set is schedulable, the evidence is accepted, each tree has exactly the labels of walks that no other one dominates, and each
 -- proof passes with the least time, or splits where no time passes, at the node with the most walks below it.
-pub record IsExactYes (set : Contents) (trees : List TreeClaim) (proofs : List ProofClaim) : Type 0 where
+pub record IsExactTreeYes (set : Contents) (trees : List TreeClaim) (proofs : List ProofClaim) : Type 0 where
   pub schedulable : Schedulable set.tasks Fixed
   pub accepted : Accepts (under_fixed set (FixedYes trees proofs))
   pub exact : Each (IsTreeOf (greatest_deadline set.tasks)) (tree_graphs set.tasks trees) trees
@@ -66,7 +66,7 @@ pub record AreExactTrees (tasks : List Task) (order : List ℕ) (f : Plain) (roo
 -- Where an analysis stands at a vertex: the trees of a forest are those of the tasks of higher priority and stand for the walks of these, with
 -- no more leaves than there are walks; each vertex of those tasks passes, so that none of their jobs misses; and each earlier vertex of its
 -- task passes.
-pub record IsReached (set : Contents) (order : List ℕ) (f : Plain) (roots : List ℕ) (k v : ℕ) : Type 0 where
+pub record IsVertexReached (set : Contents) (order : List ℕ) (f : Plain) (roots : List ℕ) (k v : ℕ) : Type 0 where
   pub task : k < length set.tasks
   pub nodes : AreNodes f roots
   pub posed : IsPosed set.version set.tasks order (greatest_deadline set.tasks) f roots k v
@@ -88,7 +88,7 @@ pub record IsTupleFor (set : Contents) (order : List ℕ) (f : Plain) (k v : ℕ
 -- The vertex that was reached is the first that fails: no time passes for it and the tuple of leaves.
 pub record IsFailedVertex (set : Contents) (order : List ℕ) (f : Plain) (k v : ℕ) (tuple : List ℕ) : Type 0 where
   pub roots : List ℕ
-  pub reached : IsReached set order f roots k v
+  pub reached : IsVertexReached set order f roots k v
   pub failure : IsFailure f (wcet (graph_at set.tasks k) v) (deadline (graph_at set.tasks k) v) roots tuple
 
 -- The releases are those of a walk of each task of higher priority than the named job's, from time 0, as early as the separations allow and each
@@ -104,7 +104,7 @@ pub record AreOfWalks (tasks : List Task) (releases : List Release) (miss : Miss
 
 -- A no: the set isn't schedulable, and the evidence is accepted. It is that of the first vertex that fails, in order of priority and then
 -- of the file: the releases are those of the walks of a tuple of leaves and one of the vertex, whose job misses.
-pub record IsMissed (set : Contents) (releases : List Release) (miss : Miss) : Type 0 where
+pub record IsTreeMiss (set : Contents) (releases : List Release) (miss : Miss) : Type 0 where
   pub not_schedulable : ¬ Schedulable set.tasks Fixed
   pub accepted : Accepts (under_fixed set (FixedNo releases miss))
   pub order : List ℕ
@@ -118,31 +118,31 @@ pub record IsMissed (set : Contents) (releases : List Release) (miss : Miss) : T
   pub of_walks : AreOfWalks set.tasks releases miss
 
 -- The evidence of a no, and no other.
-abbrev pub IsRefusal : Contents → Evidence → Type 0
-IsRefusal set (EdfYes ratios fronts) = ⊥
-IsRefusal set (EdfNo releases miss) = ⊥
-IsRefusal set (UtilisationOne ratios) = ⊥
-IsRefusal set (FixedYes trees proofs) = ⊥
-IsRefusal set (FixedStates tails searches) = ⊥
-IsRefusal set (FixedNo releases miss) = IsMissed set releases miss
-IsRefusal set Undecided = ⊥
+abbrev pub IsRefusalEvidence : Contents → Evidence → Type 0
+IsRefusalEvidence set (EdfYes ratios fronts) = ⊥
+IsRefusalEvidence set (EdfNo releases miss) = ⊥
+IsRefusalEvidence set (UtilisationOne ratios) = ⊥
+IsRefusalEvidence set (FixedYes trees proofs) = ⊥
+IsRefusalEvidence set (FixedStates tails searches) = ⊥
+IsRefusalEvidence set (FixedNo releases miss) = IsTreeMiss set releases miss
+IsRefusalEvidence set Undecided = ⊥
 
 -- What the evidence of an answer says. The analysis gives no other kind.
-abbrev pub IsVerdict : Contents → Evidence → Type 0
-IsVerdict set (EdfYes ratios fronts) = ⊥
-IsVerdict set (EdfNo releases miss) = ⊥
-IsVerdict set (UtilisationOne ratios) = ⊥
-IsVerdict set (FixedYes trees proofs) = IsExactYes set trees proofs
-IsVerdict set (FixedStates tails searches) = ⊥
-IsVerdict set (FixedNo releases miss) = IsMissed set releases miss
-IsVerdict set Undecided = ⊥
+abbrev pub IsTreeVerdict : Contents → Evidence → Type 0
+IsTreeVerdict set (EdfYes ratios fronts) = ⊥
+IsTreeVerdict set (EdfNo releases miss) = ⊥
+IsTreeVerdict set (UtilisationOne ratios) = ⊥
+IsTreeVerdict set (FixedYes trees proofs) = IsExactTreeYes set trees proofs
+IsTreeVerdict set (FixedStates tails searches) = ⊥
+IsTreeVerdict set (FixedNo releases miss) = IsTreeMiss set releases miss
+IsTreeVerdict set Undecided = ⊥
 
 -- The search of a task's walks up to the greatest deadline spent the budget, which is below what the search may need. Another task has a
 -- lower priority, and no job of the task or of one of higher priority misses.
-pub record IsSpentTable (tasks : List Task) (budget k : ℕ) (log : List Entry) : Type 0 where
+pub record IsSpentTreeTable (tasks : List Task) (budget k : ℕ) (log : List Entry) : Type 0 where
   pub task : k < length tasks
   pub lower : (i : ℕ) × (i < length tasks) × ((task_at tasks k).priority < (task_at tasks i).priority)
-  pub search : IsSpentSearch (graph_at tasks k) (greatest_deadline tasks) budget log
+  pub search : IsSpentWalkSearch (graph_at tasks k) (greatest_deadline tasks) budget log
   pub short : IsBelowSearch (greatest_deadline tasks) (graph_at tasks k) budget
   pub meets : MeetsDeadlines tasks k
   pub higher : HigherMeetDeadlines tasks k
@@ -152,21 +152,21 @@ pub record IsSpentVertex (set : Contents) (budget k v : ℕ) (log : List Frontie
   pub order : List ℕ
   pub forest : Plain
   pub roots : List ℕ
-  pub reached : IsReached set order forest roots k v
+  pub reached : IsVertexReached set order forest roots k v
   pub refinement : IsSpentRefinement forest (wcet (graph_at set.tasks k) v) (deadline (graph_at set.tasks k) v) roots budget log
   pub short : IsBelowRefinement set.tasks budget k
 
 -- Why there is no answer: a budget was spent.
-abbrev pub IsUndecided : Contents → ℕ → FixedTrail → Type 0
-IsUndecided set budget (Table task log) = IsSpentTable set.tasks budget task log
-IsUndecided set budget (Refine task vertex log) = IsSpentVertex set budget task vertex log
+abbrev pub IsTreeUndecided : Contents → ℕ → FixedTrail → Type 0
+IsTreeUndecided set budget (Table task log) = IsSpentTreeTable set.tasks budget task log
+IsTreeUndecided set budget (Refine task vertex log) = IsSpentVertex set budget task vertex log
 
 -- What each answer says, with a budget.
-abbrev pub IsAnswer : Contents → ℕ → FixedAnswer → Type 0
-IsAnswer set budget (answers.Done evidence) = IsVerdict set evidence × IsInRange evidence
-IsAnswer set budget (answers.Undecided trail) = IsUndecided set budget trail
+abbrev pub IsTreeAnswer : Contents → ℕ → FixedAnswer → Type 0
+IsTreeAnswer set budget (answers.Done evidence) = IsTreeVerdict set evidence × IsEvidenceInRange evidence
+IsTreeAnswer set budget (answers.Undecided trail) = IsTreeUndecided set budget trail
 
 -- An answer before all vertices are proved: it is a no, or a budget was spent.
 abbrev pub IsEnding : Contents → ℕ → FixedAnswer → Type 0
-IsEnding set budget (answers.Done evidence) = IsRefusal set evidence × IsInRange evidence
-IsEnding set budget (answers.Undecided trail) = IsUndecided set budget trail
+IsEnding set budget (answers.Done evidence) = IsRefusalEvidence set evidence × IsEvidenceInRange evidence
+IsEnding set budget (answers.Undecided trail) = IsTreeUndecided set budget trail

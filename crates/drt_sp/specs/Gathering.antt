@@ -17,14 +17,14 @@ pub record IsLeafOfNode (t : Setting) (n : NodeOf Request) (l : Leaf) : Type 0 w
   pub walk : IsWalkOf request_algebra t l.walk n.label
 
 -- The leaves of the kept ones of the first nodes, in order.
-abbrev pub AreGathered : Setting → List (NodeOf Request) → ℕ → List Leaf → Type 0
-AreGathered t nodes zero ls = ls ≡ []
-AreGathered t nodes (suc i) ls =
-    ((n : NodeOf Request) × (slice_get nodes i ≡ Some n) × (is_kept n ≡ false) × AreGathered t nodes i ls)
-    ⊎ ((n : NodeOf Request) × (l : Leaf) × (before : List Leaf) × KeptAt request_algebra t nodes i n × IsLeafOfNode t n l × (ls ≡ before ++ l ∷ []) × AreGathered t nodes i before)
+abbrev pub AreLeavesGathered : Setting → List (NodeOf Request) → ℕ → List Leaf → Type 0
+AreLeavesGathered t nodes zero ls = ls ≡ []
+AreLeavesGathered t nodes (suc i) ls =
+    ((n : NodeOf Request) × (slice_get nodes i ≡ Some n) × (is_kept n ≡ false) × AreLeavesGathered t nodes i ls)
+    ⊎ ((n : NodeOf Request) × (l : Leaf) × (before : List Leaf) × KeptAt request_algebra t nodes i n × IsLeafOfNode t n l × (ls ≡ before ++ l ∷ []) × AreLeavesGathered t nodes i before)
 
 -- The labels and the walks are the leaves of the kept ones of a table's first i nodes.
 pub record AreFirstLeaves (v : View Request) (i : ℕ) (labels : List (Arc Request Global)) (walks : List (List ℕ)) : Type 0 where
   pub same : length labels ≡ length walks
   pub few : length labels ≤ i
-  pub gathered : AreGathered (setting_of v) (state_of v).nodes i (leaves_of labels walks)
+  pub gathered : AreLeavesGathered (setting_of v) (state_of v).nodes i (leaves_of labels walks)

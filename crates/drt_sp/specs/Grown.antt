@@ -7,11 +7,11 @@ use Rattle.drt_model.specs.Schedulable.{Schedulable}
 use Rattle.drt_tree.specs.Tree.{IsForest}
 use Rattle.drt_refine.specs.Below.{AreNodes}
 use Rattle.drt_choices.specs.Choices.{AreTrees, FirstPass, IsOrder}
-use Rattle.drt_claims.specs.Ranges.{IsInRange}
+use Rattle.drt_claims.specs.Ranges.{IsEvidenceInRange}
 use Rattle.drt_claims.specs.Trees.{greatest_deadline}
-use Rattle.drt_sp.specs.Answers.{AreExactTrees, IsEnding, IsRefusal, IsUndecided}
+use Rattle.drt_sp.specs.Answers.{AreExactTrees, IsEnding, IsRefusalEvidence, IsTreeUndecided}
 use Rattle.drt_sp.specs.Needs.{AreFewLeaves}
-use Rattle.drt_sp.specs.Progress.{IsComplete}
+use Rattle.drt_sp.specs.Progress.{AreTreesComplete}
 use Rattle.drt_sp.specs.declared.grown.Outcome.{Outcome}
 use Rattle.drt_sp.specs.declared.grown.Outcome.TheVariants as outcomes
 use Rattle.drt_sp.specs.declared.grown.ProvedTrees.{ProvedTrees}
@@ -36,10 +36,10 @@ pub record AreProvedTrees (set : Contents) (trees : ProvedTrees) : Type 0 where
 -- What each answer says, with a budget.
 abbrev pub IsTreesAnswer : Contents → ℕ → TreesAnswer → Type 0
 IsTreesAnswer set budget (Proved trees) = AreProvedTrees set trees
-IsTreesAnswer set budget (Missed evidence) = IsRefusal set evidence × IsInRange evidence
-IsTreesAnswer set budget (Undecided trail) = IsUndecided set budget trail
+IsTreesAnswer set budget (Missed evidence) = IsRefusalEvidence set evidence × IsEvidenceInRange evidence
+IsTreesAnswer set budget (Undecided trail) = IsTreeUndecided set budget trail
 
 -- How an analysis in this order ends.
 abbrev pub IsOutcome : Contents → List ℕ → ℕ → Outcome → Type 0
-IsOutcome set order budget (outcomes.Proved p) = IsComplete set.tasks order p.forest p.roots.items p.trees.items p.proofs.items
+IsOutcome set order budget (outcomes.Proved p) = AreTreesComplete set.tasks order p.forest p.roots.items p.trees.items p.proofs.items
 IsOutcome set order budget (outcomes.Ended answer) = IsEnding set budget answer

@@ -8,8 +8,8 @@ use Rattle.drt_claims.specs.declared.evidence.Item.{Item}
 use Rattle.drt_claims.specs.declared.evidence.Item.TheVariants.{Pass, Split}
 use Rattle.drt_refine.specs.Below.{AreBelow}
 use Rattle.drt_refine.specs.Combination.{is_failed}
-use Rattle.drt_refine.specs.Eager.{IsEager, IsPlace}
-use Rattle.drt_refine.specs.Machine.{Setting, IsRun, replay, is_finished}
+use Rattle.drt_refine.specs.Eager.{IsEager, IsSplitPlace}
+use Rattle.drt_refine.specs.Machine.{FrontierSetting, IsRun, replay, is_finished}
 use Rattle.drt_refine.specs.declared.step.CombinationState.{CombinationState}
 use Rattle.drt_refine.specs.declared.step.CombinationState.TheVariants.{Pending, Taken, Passed as PassedAt, Split as SplitAt, Failed}
 use Rattle.drt_refine.specs.declared.step.FrontierEntry.{FrontierEntry}
@@ -17,7 +17,7 @@ use Rattle.drt_sp.specs.declared.proving.VertexProof.{VertexProof}
 use Rattle.drt_sp.specs.declared.proving.VertexProof.TheVariants.{Passes as PassesBy, Fails as FailsAt, Spent as SpentBy}
 
 -- A job of this wcet and deadline and the trees with these roots, with a budget of steps.
-abbrev pub refinement_of : Plain → List ℕ → ℕ → ℕ → ℕ → Setting
+abbrev pub refinement_of : Plain → List ℕ → ℕ → ℕ → ℕ → FrontierSetting
 refinement_of f roots wcet deadline budget = record { forest = f; roots = roots; wcet = wcet; deadline = deadline; budget = budget }
 
 module _ (f : Plain) (wcet deadline : ℕ) where
@@ -36,7 +36,7 @@ module _ (f : Plain) (wcet deadline : ℕ) where
   pub data AreItems : List Item → List (List ℕ) → Type 0 where
     none : AreItems [] []
     pass : (t : ℕ) (items : List Item) (nodes : List ℕ) (stack : List (List ℕ)) → IsLeastTime wcet deadline f.pool nodes t → AreItems items stack → AreItems (Pass t ∷ items) (nodes ∷ stack)
-    split : (place l r : ℕ) (items : List Item) (nodes : List ℕ) (stack : List (List ℕ)) → NonePasses nodes → IsPlace f nodes (Some place) → AreHalves nodes place l r
+    split : (place l r : ℕ) (items : List Item) (nodes : List ℕ) (stack : List (List ℕ)) → NonePasses nodes → IsSplitPlace f nodes (Some place) → AreHalves nodes place l r
         → AreItems items (slice_set nodes place l ∷ slice_set nodes place r ∷ stack) → AreItems (Split place ∷ items) (nodes ∷ stack)
 
   -- The vertex passes: the items are its proof from the roots on, and for each tuple of leaves some time passes.

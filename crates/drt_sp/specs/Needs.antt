@@ -23,7 +23,7 @@ product_above tasks counts p zero = 1
 product_above tasks counts p (suc k) = product_above tasks counts p k * (if nat_lt (task_at tasks k).priority p then counts k else 1)
 
 -- The budget is enough for each search of a task's walks but that of lowest priority, and for the refinement at each vertex.
-pub record IsEnough (tasks : List Task) (budget : ℕ) : Type 0 where
+pub record IsEnoughForTrees (tasks : List Task) (budget : ℕ) : Type 0 where
   pub counts : ℕ → ℕ
   pub walks : (k : ℕ) → k < length tasks → HasAtMost (greatest_deadline tasks) (graph_at tasks k) (counts k)
   pub searches : (k i : ℕ) → k < length tasks → i < length tasks → (task_at tasks k).priority < (task_at tasks i).priority

@@ -8,7 +8,7 @@ use Rattle.drt_tree.specs.Tree.{Plain}
 use Rattle.drt_refine.specs.Combination.{Combination}
 use Rattle.drt_refine.specs.Drive.{StopsAt}
 use Rattle.drt_refine.specs.Eager.{IsEager}
-use Rattle.drt_refine.specs.View.{View, IsFrontier, setting_of, state_of}
+use Rattle.drt_refine.specs.View.{FrontierView, IsFrontier, setting_of, state_of}
 use Rattle.drt_refine.specs.declared.step.CombinationState.{CombinationState}
 use Rattle.drt_refine.specs.declared.step.CombinationState.TheVariants.{Pending, Taken, Passed as PassedAt, Split as SplitAt, Failed}
 use Rattle.drt_refine.specs.declared.step.FrontierReply.TheVariants.{Spent as SpentReply}
@@ -34,7 +34,7 @@ pub record IsPosedVertex (v : PosedVertex) : Type 0 where
 
 module _ (f : Plain) (wcet deadline : ℕ) where
   -- The frontier is that of the job and the roots, made by eager steps, and spent its budget.
-  pub record IsSpentFrontier (roots : List ℕ) (budget : ℕ) (v : View) : Type 0 where
+  pub record IsSpentFrontier (roots : List ℕ) (budget : ℕ) (v : FrontierView) : Type 0 where
     pub setting : setting_of f v ≡ refinement_of f roots wcet deadline budget
     pub frontier : IsFrontier f v
     pub eager : IsEager (setting_of f v) v.log
@@ -87,6 +87,6 @@ module _ (f : Plain) (wcet deadline : ℕ) where
       pub are : (id : ℕ) (items : List Item) → slice_get parts id ≡ Some (Some items) → IsEndOf id items
 
 -- Some items were added to the old ones for the combination of that number of a frontier, which changed the stack.
-abbrev pub AreAddedFor : Plain → View → ℕ → List Item → List Item → List ℕ → List ℕ → Type 0
+abbrev pub AreAddedFor : Plain → FrontierView → ℕ → List Item → List Item → List ℕ → List ℕ → Type 0
 AreAddedFor f v id old new before after =
     (added : List Item) × (new ≡ old ++ added) × ((c : Combination) → slice_get v.combinations id ≡ Some c → AreAdded f v.wcet v.deadline c.state c.nodes added before after)

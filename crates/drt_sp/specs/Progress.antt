@@ -22,7 +22,7 @@ abbrev pub first_graphs : List Task → List ℕ → ℕ → List Digraph
 first_graphs tasks order m = take m (map (graph_at tasks) order)
 
 -- The trees of the tasks at the first m places of the order stand in the forest, with these roots and as these claims.
-pub record AreGrown (tasks : List Task) (order : List ℕ) (m : ℕ) (f : Plain) (roots : List ℕ) (trees : List TreeClaim) : Type 0 where
+pub record AreTreesGrown (tasks : List Task) (order : List ℕ) (m : ℕ) (f : Plain) (roots : List ℕ) (trees : List TreeClaim) : Type 0 where
   pub count : length roots ≡ m
   pub one_bound : All (λ (xs : List ℕ). length xs ≡ greatest_deadline tasks) f.pool
   pub few : length f.nodes ≤ m * 2000192
@@ -57,9 +57,9 @@ pub record AreProved (tasks : List Task) (order : List ℕ) (m : ℕ) (trees : L
   pub each : (i k : ℕ) → i < m → slice_get order i ≡ Some k → AreProofsAt tasks order i k trees (slice_index_or rows k [])
 
 -- The trees of all tasks but the last one of an order, and the proofs of all.
-pub record IsComplete (tasks : List Task) (order : List ℕ) (f : Plain) (roots : List ℕ) (trees : List TreeClaim) (rows : List (List ProofClaim)) : Type 0 where
+pub record AreTreesComplete (tasks : List Task) (order : List ℕ) (f : Plain) (roots : List ℕ) (trees : List TreeClaim) (rows : List (List ProofClaim)) : Type 0 where
   pub order_is : IsOrder tasks order
   pub last : ℕ
   pub whole : last + 1 ≡ length order
-  pub grown : AreGrown tasks order last f roots trees
+  pub grown : AreTreesGrown tasks order last f roots trees
   pub proved : AreProved tasks order (length order) trees rows

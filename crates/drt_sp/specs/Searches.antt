@@ -1,11 +1,11 @@
 -- Searches of tasks' walks, and their leaves before a tree is made of them.
 use Rattle.std.specs.Prelude.{◌≡◌, ℕ, ◌+◌, ◌≤◌, List, length, slice_index_or}
 use Rattle.drt_ahead.specs.Found.{AreThere}
-use Rattle.drt_model.specs.Digraph.{Digraph, IsSound}
+use Rattle.drt_model.specs.Digraph.{Digraph, IsSoundGraph}
 use Rattle.drt_graph.specs.Graphs.{graph_of}
 use Rattle.drt_tree.specs.Leaf.{leaves_of}
 use Rattle.drt_sp.specs.TaskTrees.{AreWalkLeaves}
-use Rattle.drt_sp.specs.TreeClaims.{IsSpentSearch}
+use Rattle.drt_sp.specs.TreeClaims.{IsSpentWalkSearch}
 use Rattle.drt_sp.specs.declared.ahead.EndsAhead.{EndsAhead}
 use Rattle.drt_sp.specs.declared.trees.SearchEnd.{SearchEnd}
 use Rattle.drt_sp.specs.declared.trees.SearchEnd.TheVariants as ends
@@ -13,7 +13,7 @@ use Rattle.drt_sp.specs.declared.trees.gathering.Leaves.{Leaves}
 
 -- They are the leaves of the graph's tree: a label and a walk at each place, of the walks that no other walk dominates.
 pub record AreLeavesOf (g : Digraph) (bound : ℕ) (leaves : Leaves) : Type 0 where
-  pub sound : IsSound g
+  pub sound : IsSoundGraph g
   pub same : length leaves.labels.items ≡ length leaves.walks.items
   pub few : length leaves.labels.items ≤ 1000096
   pub leaves_are : AreWalkLeaves bound g (leaves_of leaves.labels.items leaves.walks.items)
@@ -21,7 +21,7 @@ pub record AreLeavesOf (g : Digraph) (bound : ℕ) (leaves : Leaves) : Type 0 wh
 -- How a search of a graph's walks ends, before a tree is made of it.
 abbrev pub IsSearchEnd : Digraph → ℕ → ℕ → SearchEnd → Type 0
 IsSearchEnd g bound budget (ends.Finished leaves) = AreLeavesOf g bound leaves
-IsSearchEnd g bound budget (ends.Spent log) = IsSpentSearch g bound budget log
+IsSearchEnd g bound budget (ends.Spent log) = IsSpentWalkSearch g bound budget log
 
 -- So ends the search of the walks of the task at a place of an order.
 abbrev pub IsEndAt : List Digraph → List ℕ → ℕ → ℕ → ℕ → SearchEnd → Type 0

@@ -9,7 +9,7 @@ use Rattle.drt_choices.specs.Choices.{StandsFor}
 use Rattle.drt_claims.specs.Ranges.{IsInRangeTree}
 use Rattle.drt_claims.specs.Trees.{IsAbove, IsShortWalk, asked}
 use Rattle.drt_claims.specs.declared.evidence.Pair.{Pair}
-use Rattle.drt_sp.specs.TreeClaims.{HaveOneLabel, IsClaimOf, IsNonDominated, IsSpentSearch, IsTreeOf}
+use Rattle.drt_sp.specs.TreeClaims.{HaveOneLabel, IsClaimOf, IsNonDominatedWalk, IsSpentWalkSearch, IsTreeOf}
 use Rattle.drt_sp.specs.declared.trees.TaskTree.{TaskTree}
 use Rattle.drt_sp.specs.declared.trees.TreeSearch.{TreeSearch}
 use Rattle.drt_sp.specs.declared.trees.TreeSearch.TheVariants.{Spent, Tree}
@@ -23,7 +23,7 @@ pub record IsWalkLeaf (bound : ℕ) (g : Digraph) (l : Leaf) : Type 0 where
 -- Leaves of walks that no other walk dominates, one for each label of such a walk.
 pub record AreWalkLeaves (bound : ℕ) (g : Digraph) (ls : List Leaf) : Type 0 where
   pub each : All (IsWalkLeaf bound g) ls
-  pub alone : All (λ l. IsNonDominated bound g l.walk) ls
+  pub alone : All (λ l. IsNonDominatedWalk bound g l.walk) ls
   pub covers : (u : ℕ) (vs : List ℕ) → IsShortWalk bound g (u ∷ vs) → Any (λ l. IsAbove bound g u vs l.walk) ls
   pub once : (i j : ℕ) (x y : Leaf) → slice_get ls i ≡ Some x → slice_get ls j ≡ Some y → HaveOneLabel bound g x.walk y.walk → i ≡ j
 
@@ -54,4 +54,4 @@ pub record IsTaskTree (g : Digraph) (bound : ℕ) (old new : Plain) (tree : Task
 -- How a search of a graph's walks ends.
 abbrev pub IsTreeSearch : Digraph → ℕ → ℕ → Plain → Plain → TreeSearch → Type 0
 IsTreeSearch g bound budget old new (Tree tree) = IsTaskTree g bound old new tree
-IsTreeSearch g bound budget old new (Spent log) = IsSpentSearch g bound budget log
+IsTreeSearch g bound budget old new (Spent log) = IsSpentWalkSearch g bound budget log

@@ -9,7 +9,7 @@ use Rattle.drt_tree.specs.Tree.{Plain, children, values}
 use Rattle.drt_claims.specs.Proofs.{parts}
 use Rattle.drt_claims.specs.Trees.{CoversWalks, HasShortWalks, IsAbove, IsShortWalk, IsTree, node_values, root}
 use Rattle.drt_claims.specs.declared.evidence.TreeClaim.{TreeClaim}
-use Rattle.drt_sp.specs.Written.{AreInOrder, HasHalves}
+use Rattle.drt_sp.specs.Written.{AreWalksInOrder, HasHalves}
 
 -- The children of a node of the forest, numbered from low on.
 abbrev pub lowered : ℕ → Option (ℕ × ℕ) → Option (ℕ × ℕ)
@@ -31,14 +31,14 @@ HaveOneLabel bound g (u ∷ vs) [] = ⊥
 HaveOneLabel bound g (u ∷ vs) (x ∷ xs) = IsAbove bound g u vs (x ∷ xs) × IsAbove bound g x xs (u ∷ vs)
 
 -- No walk that spans less than the bound dominates this one, but those that have its label.
-abbrev pub IsNonDominated : ℕ → Digraph → List ℕ → Type 0
-IsNonDominated bound g [] = ⊥
-IsNonDominated bound g (u ∷ vs) = (w : List ℕ) → IsShortWalk bound g w → IsAbove bound g u vs w → HaveOneLabel bound g (u ∷ vs) w
+abbrev pub IsNonDominatedWalk : ℕ → Digraph → List ℕ → Type 0
+IsNonDominatedWalk bound g [] = ⊥
+IsNonDominatedWalk bound g (u ∷ vs) = (w : List ℕ) → IsShortWalk bound g w → IsAbove bound g u vs w → HaveOneLabel bound g (u ∷ vs) w
 
 -- The tree has walks whose labels no other walk's dominates, and one for each such label.
 pub record IsExactTree (bound : ℕ) (g : Digraph) (claim : TreeClaim) : Type 0 where
-  pub alone : All (IsNonDominated bound g) claim.walks
-  pub each : (w : List ℕ) → IsShortWalk bound g w → IsNonDominated bound g w → (i : ℕ) × (x : List ℕ) × (slice_get claim.walks i ≡ Some x) × HaveOneLabel bound g w x
+  pub alone : All (IsNonDominatedWalk bound g) claim.walks
+  pub each : (w : List ℕ) → IsShortWalk bound g w → IsNonDominatedWalk bound g w → (i : ℕ) × (x : List ℕ) × (slice_get claim.walks i ≡ Some x) × HaveOneLabel bound g w x
   pub once : (i j : ℕ) (w x : List ℕ) → slice_get claim.walks i ≡ Some w → slice_get claim.walks j ≡ Some x → HaveOneLabel bound g w x → i ≡ j
 
 -- What the rules on trees ask of a claim, that its labels are exactly the non-dominated ones, and that it is the halved tree over its walks
@@ -48,7 +48,7 @@ pub record IsTreeOf (bound : ℕ) (g : Digraph) (claim : TreeClaim) : Type 0 whe
   pub covers : CoversWalks bound g claim
   pub tree : IsTree claim
   pub exact : IsExactTree bound g claim
-  pub order : AreInOrder bound g claim
+  pub order : AreWalksInOrder bound g claim
   pub halves : HasHalves claim
 
 -- What a search of a graph's walks never changes.
@@ -56,7 +56,7 @@ abbrev pub search_of : Digraph → ℕ → ℕ → Setting
 search_of g bound budget = record { graph = g; bound = bound; budget = budget }
 
 -- The search of the graph's walks spent the budget: the log is a run of that many steps which isn't finished.
-pub record IsSpentSearch (g : Digraph) (bound budget : ℕ) (log : List Entry) : Type 0 where
+pub record IsSpentWalkSearch (g : Digraph) (bound budget : ℕ) (log : List Entry) : Type 0 where
   pub run : IsRun request_algebra (search_of g bound budget) log
   pub spent : length log ≡ budget
   pub unfinished : is_finished request_algebra (search_of g bound budget) (replay request_algebra (search_of g bound budget) log) ≡ false

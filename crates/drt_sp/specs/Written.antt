@@ -6,7 +6,7 @@ use Rattle.drt_model.specs.declared.tasks.Task.{Task}
 use Rattle.drt_model.specs.Digraph.{Digraph, digraph_of}
 use Rattle.drt_tree.specs.Leaf.{is_before}
 use Rattle.drt_tree.specs.declared.leaf.Leaf.{Leaf}
-use Rattle.drt_claims.specs.Proofs.{IsPassed, after, opening}
+use Rattle.drt_claims.specs.Proofs.{HasPassingTime, after, opening}
 use Rattle.drt_claims.specs.Trees.{asked, higher_count, root, tree_graphs}
 use Rattle.drt_claims.specs.declared.evidence.Item.{Item}
 use Rattle.drt_claims.specs.declared.evidence.Item.TheVariants.{Pass, Split}
@@ -17,14 +17,14 @@ use Rattle.drt_claims.specs.declared.evidence.TreeClaim.{TreeClaim}
 -- The pairs of a halved tree over so many walks, numbered from low on, where the pairs have the numbers from first on, and the number of its
 -- root. One walk is a tree by itself. Of more walks the first part has half, or one more than the second; the pairs of the first part stand
 -- first, then those of the second, and then the pair of both roots.
-pub data IsHalved : ℕ → ℕ → ℕ → List Pair → ℕ → Type 0 where
-  walk : (low first : ℕ) → IsHalved 1 low first [] low
-  pair : (m n low first l r : ℕ) (lefts rights : List Pair) → n ≤ m → m ≤ n + 1 → IsHalved m low first lefts l → IsHalved n (low + m) (first + length lefts) rights r
-      → IsHalved (m + n) low first (lefts ++ rights ++ record { left = l; right = r } ∷ []) (first + length lefts + length rights)
+pub data AreHalvedPairs : ℕ → ℕ → ℕ → List Pair → ℕ → Type 0 where
+  walk : (low first : ℕ) → AreHalvedPairs 1 low first [] low
+  pair : (m n low first l r : ℕ) (lefts rights : List Pair) → n ≤ m → m ≤ n + 1 → AreHalvedPairs m low first lefts l → AreHalvedPairs n (low + m) (first + length lefts) rights r
+      → AreHalvedPairs (m + n) low first (lefts ++ rights ++ record { left = l; right = r } ∷ []) (first + length lefts + length rights)
 
 -- The tree's pairs are those of a halved tree over its walks.
 abbrev pub HasHalves : TreeClaim → Type 0
-HasHalves tree = IsHalved (length tree.walks) 0 (length tree.walks) tree.pairs (root tree)
+HasHalves tree = AreHalvedPairs (length tree.walks) 0 (length tree.walks) tree.pairs (root tree)
 
 -- What the walk asks for before each time from 1 to the bound, and its vertices: by these, leaves are put in order.
 abbrev pub leaf_of : ℕ → Digraph → List ℕ → Leaf
@@ -32,8 +32,8 @@ leaf_of bound g w = record { steps = map (λ t. asked g t w) (range_with_len 1 b
 
 -- The tree's walks stand in order: by what they ask for before the bound, then by what they ask for before each earlier time, and then by
 -- their vertices.
-abbrev pub AreInOrder : ℕ → Digraph → TreeClaim → Type 0
-AreInOrder bound g tree = IsSortedBy is_before (map (leaf_of bound g) tree.walks)
+abbrev pub AreWalksInOrder : ℕ → Digraph → TreeClaim → Type 0
+AreWalksInOrder bound g tree = IsSortedBy is_before (map (leaf_of bound g) tree.walks)
 
 -- The numbers of walks below some nodes, followed by those of the pairs after them: a pair has those of both its parts.
 unfoldable pub counted : List ℕ → List Pair → List ℕ
@@ -64,8 +64,8 @@ module _ (graphs : List Digraph) (trees : List TreeClaim) (g : Digraph) (v : ℕ
   -- The item is due for the combination: it passes with the least time that passes for the vertex; or no time passes, and it splits the
   -- combination at its widest place.
   abbrev pub IsEagerItem : Item → List ℕ → Type 0
-  IsEagerItem (Pass t) nodes = IsPassed graphs trees g v (nodes, t) × ((s : ℕ) → s < t → IsPassed graphs trees g v (nodes, s) → ⊥)
-  IsEagerItem (Split place) nodes = ((t : ℕ) → IsPassed graphs trees g v (nodes, t) → ⊥) × IsWidestPlace trees nodes place
+  IsEagerItem (Pass t) nodes = HasPassingTime graphs trees g v (nodes, t) × ((s : ℕ) → s < t → HasPassingTime graphs trees g v (nodes, s) → ⊥)
+  IsEagerItem (Split place) nodes = ((t : ℕ) → HasPassingTime graphs trees g v (nodes, t) → ⊥) × IsWidestPlace trees nodes place
 
   -- Each of the items is due for the combination that it is taken for, and the last one ends the stack.
   unfoldable pub AreEagerItems : List Item → Option (List (List ℕ)) → Type 0

@@ -1,7 +1,7 @@
 //! The analysis.
 ghost use Rattle.std.specs.Prelude.{◌≡◌, ◌≤◌, IfOk};
 ghost use Rattle.drt_choices.specs.Choices.{IsOrder};
-ghost use Rattle.drt_sp.specs.Answers.{IsAnswer};
+ghost use Rattle.drt_sp.specs.Answers.{IsTreeAnswer};
 ghost use Rattle.drt_sp.specs.Grown.{IsOutcome, IsTreesAnswer};
 
 use crate::ahead::{EndsAhead, search_ahead};
@@ -31,7 +31,7 @@ pub fn analyse_fixed<G: Gate, R: Threads + Wait + Sync>(
     crew: &Crew<'_, G, R>,
     set: &Accepted<'_>,
 ) -> Result<FixedAnswer, Memory>
-    ensures { IfOk result (IsAnswer set.now crew.now.effort.budget) }
+    ensures { IfOk result (IsTreeAnswer set.now crew.now.effort.budget) }
 {
     let ranked = priority_order(crew.alloc, set.set())?;
     let order = ranked.as_slice();

@@ -1,6 +1,6 @@
 //! How an analysis ends, with its trees.
 ghost use Rattle.drt_sp.specs.Grown.{AreProvedTrees};
-ghost use Rattle.drt_sp.specs.Progress.{IsComplete};
+ghost use Rattle.drt_sp.specs.Progress.{AreTreesComplete};
 
 use crate::answer::FixedAnswer;
 use crate::progress::Progress;
@@ -41,7 +41,7 @@ pub(crate) enum Outcome {
 impl ProvedTrees {
     /// The trees of an analysis that proved all vertices.
     pub(crate) fn of(set: &Accepted<'_>, order: Vec<u32>, progress: Progress) -> ProvedTrees
-        requires { IsComplete set.now.tasks order.items progress.forest progress.roots.items progress.trees.items progress.proofs.items }
+        requires { AreTreesComplete set.now.tasks order.items progress.forest progress.roots.items progress.trees.items progress.proofs.items }
         ensures { AreProvedTrees set.now result }
     {
         times_decide();

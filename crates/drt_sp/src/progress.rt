@@ -3,10 +3,10 @@ ghost use Rattle.std.specs.Prelude.{◌≡◌, ℕ, ◌+◌, ◌<◌, ◌≤◌,
 ghost use Rattle.std.specs.List.{flat_map};
 ghost use Rattle.drt_choices.specs.Choices.{IsOrder};
 ghost use Rattle.drt_claims.specs.Claims.{graphs_of};
-ghost use Rattle.drt_claims.specs.Ranges.{IsInRange};
+ghost use Rattle.drt_claims.specs.Ranges.{IsEvidenceInRange};
 ghost use Rattle.drt_claims.specs.Trees.{greatest_deadline};
-ghost use Rattle.drt_sp.specs.Answers.{IsEnding, IsVerdict};
-ghost use Rattle.drt_sp.specs.Progress.{AreGrown, AreProved, IsComplete};
+ghost use Rattle.drt_sp.specs.Answers.{IsEnding, IsTreeVerdict};
+ghost use Rattle.drt_sp.specs.Progress.{AreTreesGrown, AreProved, AreTreesComplete};
 ghost use Rattle.drt_sp.specs.Searches.{IsEndAt};
 
 use crate::answer::FixedAnswer;
@@ -51,7 +51,7 @@ pub(crate) struct Progress {
 impl Progress {
     /// No tree and no proof.
     pub(crate) fn start(alloc: Global, given: &Given<'_>) -> Result<Progress, Memory>
-        ensures grown { IfOk result (λ p. AreGrown given.now.set.now.tasks given.now.order.now 0 p.forest p.roots.items p.trees.items) }
+        ensures grown { IfOk result (λ p. AreTreesGrown given.now.set.now.tasks given.now.order.now 0 p.forest p.roots.items p.trees.items) }
         ensures proved { IfOk result (λ p. AreProved given.now.set.now.tasks given.now.order.now 0 p.trees.items p.proofs.items) }
     {
         let mut proofs = Vec::new(alloc);
@@ -75,7 +75,7 @@ impl Progress {
     ) -> Result<Option<FixedAnswer>, Memory>
         requires order { IsOrder given.now.set.now.tasks given.now.order.now }
         requires here { place < length given.now.order.now }
-        requires grown { AreGrown given.now.set.now.tasks given.now.order.now place self.old.forest self.old.roots.items self.old.trees.items }
+        requires grown { AreTreesGrown given.now.set.now.tasks given.now.order.now place self.old.forest self.old.roots.items self.old.trees.items }
         requires proved { AreProved given.now.set.now.tasks given.now.order.now place self.old.trees.items self.old.proofs.items }
         ensures forest { self.new.forest ≡ self.old.forest }
         ensures roots { self.new.roots ≡ self.old.roots }
@@ -124,9 +124,9 @@ impl Progress {
         requires order { IsOrder given.now.set.now.tasks given.now.order.now }
         requires here { place + 1 < length given.now.order.now }
         requires found { IfSome found (IsEndAt (graphs_of given.now.set.now.tasks) given.now.order.now (greatest_deadline given.now.set.now.tasks) crew.now.effort.budget place) }
-        requires grown { AreGrown given.now.set.now.tasks given.now.order.now place self.old.forest self.old.roots.items self.old.trees.items }
+        requires grown { AreTreesGrown given.now.set.now.tasks given.now.order.now place self.old.forest self.old.roots.items self.old.trees.items }
         requires proved { AreProved given.now.set.now.tasks given.now.order.now (place + 1) self.old.trees.items self.old.proofs.items }
-        ensures grown { IfOk result (λ answer. MatchOption answer (AreGrown given.now.set.now.tasks given.now.order.now (place + 1) self.new.forest self.new.roots.items self.new.trees.items) (IsEnding given.now.set.now crew.now.effort.budget)) }
+        ensures grown { IfOk result (λ answer. MatchOption answer (AreTreesGrown given.now.set.now.tasks given.now.order.now (place + 1) self.new.forest self.new.roots.items self.new.trees.items) (IsEnding given.now.set.now crew.now.effort.budget)) }
         ensures proved { IfOk result (λ answer. AreProved given.now.set.now.tasks given.now.order.now (place + 1) self.new.trees.items self.new.proofs.items) }
     {
         over_every_search::<RequestLabel>();
@@ -154,9 +154,9 @@ impl Progress {
 
     /// The evidence of a yes, with the proofs in file order.
     pub(crate) fn evidence(self, alloc: Global, set: &Accepted<'_>) -> Result<Evidence, Memory>
-        requires { (order : List ℕ) × IsComplete set.now.tasks order self.forest self.roots.items self.trees.items self.proofs.items }
-        ensures verdict { IfOk result (IsVerdict set.now) }
-        ensures range { IfOk result IsInRange }
+        requires { (order : List ℕ) × AreTreesComplete set.now.tasks order self.forest self.roots.items self.trees.items self.proofs.items }
+        ensures verdict { IfOk result (IsTreeVerdict set.now) }
+        ensures range { IfOk result IsEvidenceInRange }
     {
         times_decide();
         set.keep_limits();

@@ -5,7 +5,7 @@ ghost use Rattle.drt_refine.specs.Combination.{Combination};
 ghost use Rattle.drt_refine.specs.Drive.{StopsAt};
 ghost use Rattle.drt_refine.specs.Eager.{IsEager};
 ghost use Rattle.drt_refine.specs.Machine.{is_finished};
-ghost use Rattle.drt_refine.specs.Settled.{IsDone};
+ghost use Rattle.drt_refine.specs.Settled.{IsPassedOrSplit};
 ghost use Rattle.drt_refine.specs.View.{IsFrontier, setting_of, state_of};
 ghost use Rattle.drt_refine.specs.declared.step.FrontierReply.TheVariants.{Spent};
 ghost use Rattle.drt_sp.specs.Items.{AreItems, IsItemOf, IsVertexProof};
@@ -204,7 +204,7 @@ fn items_of(alloc: Global, forest: &Forest, frontier: &Frontier) -> Result<Row<I
 // The item of a settled combination. Where it was split, its halves come on the stack, the left one on top.
 fn take_item(frontier: &Frontier, id: u32, stack: &mut Vec<u32>) -> Result<Item, Memory>
     requires within { id < length frontier.now.combinations }
-    requires done { (c : Combination) → slice_get frontier.now.combinations id ≡ Some c → IsDone c.state }
+    requires done { (c : Combination) → slice_get frontier.now.combinations id ≡ Some c → IsPassedOrSplit c.state }
     ensures { IfOk result (λ item. (c : Combination) → slice_get frontier.now.combinations id ≡ Some c → IsItemOf c.state item stack.old.items stack.new.items) }
 {
     match frontier.state(id) {

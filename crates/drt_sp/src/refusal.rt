@@ -1,7 +1,7 @@
 //! The evidence of a no.
 ghost use Rattle.std.specs.Prelude.{◌≡◌, IfOk};
-ghost use Rattle.drt_claims.specs.Ranges.{IsInRange};
-ghost use Rattle.drt_sp.specs.Answers.{IsFailedVertex, IsRefusal};
+ghost use Rattle.drt_claims.specs.Ranges.{IsEvidenceInRange};
+ghost use Rattle.drt_sp.specs.Answers.{IsFailedVertex, IsRefusalEvidence};
 
 use crate::progress::Given;
 use crate::releases::leaf_releases;
@@ -20,8 +20,8 @@ pub(crate) fn refusal(
     failed: &VertexTuple,
 ) -> Result<Evidence, Memory>
     requires { IsFailedVertex given.now.set.now given.now.order.now forest.now failed.now.task failed.now.vertex failed.now.tuple }
-    ensures verdict { IfOk result (IsRefusal given.now.set.now) }
-    ensures range { IfOk result IsInRange }
+    ensures verdict { IfOk result (IsRefusalEvidence given.now.set.now) }
+    ensures range { IfOk result IsEvidenceInRange }
 {
     leaves_miss();
     forest.show_sound();

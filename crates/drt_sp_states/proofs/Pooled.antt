@@ -10,9 +10,9 @@ use Rattle.drt_busy.specs.Choice.{IsWalk, request_of}
 use Rattle.drt_states_laws.specs.Laws.{asked_together}
 use Rattle.drt_steps.specs.Time.{AreChosen, IsLeastTime, Passes, sum_at}
 use Rattle.drt_steps.specs.Values.{value_at}
-use Rattle.drt_sp_states.specs.Misses.{AreMissing, AreReaching}
+use Rattle.drt_sp_states.specs.Misses.{AreMissing, AreReachingWalks}
 use Rattle.drt_sp_states.specs.Trials.{ArePooled}
-use Rattle.drt_sp_states.specs.Walks.{IsMade}
+use Rattle.drt_sp_states.specs.Walks.{IsMadeWalk}
 use Rattle.drt_sp_states.specs.declared.trials.Pool.{Pool}
 use Rattle.drt_sp_states.specs.declared.walks.Made.{Made}
 
@@ -63,7 +63,7 @@ none_pooled deadline pool walks functions chosen = record {
 }
 
 -- A pool with a further walk.
-pub added : (g : Digraph) (deadline : ℕ) (graphs : List Digraph) (pool longer : Pool) (made : Made) → IsMade g deadline made → ArePooled deadline graphs pool
+pub added : (g : Digraph) (deadline : ℕ) (graphs : List Digraph) (pool longer : Pool) (made : Made) → IsMadeWalk g deadline made → ArePooled deadline graphs pool
     → longer.chosen.items ≡ pool.chosen.items ++ length pool.functions.items ∷ []
     → longer.functions.items ≡ pool.functions.items ++ made.label.values ∷ []
     → longer.walks.items ≡ pool.walks.items ++ made.walk.items ∷ []
@@ -103,7 +103,7 @@ missing graphs wcet deadline pool p none = record {
 
 -- The least time that passes for the functions is the least one for the walks.
 pub reaching : (graphs : List Digraph) (wcet deadline time : ℕ) (pool : Pool) → ArePooled deadline graphs pool
-    → IsLeastTime wcet deadline pool.functions.items pool.chosen.items time → AreReaching graphs wcet deadline time pool.walks.items
+    → IsLeastTime wcet deadline pool.functions.items pool.chosen.items time → AreReachingWalks graphs wcet deadline time pool.walks.items
 reaching graphs wcet deadline time pool p is = record {
   each = p.each;
   some = is.passes.from;

@@ -5,8 +5,8 @@ use Rattle.drt_model.specs.Digraph.{Digraph}
 use Rattle.drt_states.specs.declared.claims.StateClaim.{StateClaim}
 use Rattle.drt_states.specs.declared.claims.TailClaim.{TailClaim}
 use Rattle.drt_states.specs.States.{AreStates, HaveDominatedChildren, HavePassingTimes}
-use Rattle.drt_sp_states.specs.Answers.{AreWorst, IsResponse}
-use Rattle.drt_sp_states.specs.Misses.{AreReaching}
+use Rattle.drt_sp_states.specs.Answers.{AreWorst, IsRespondedAnswer}
+use Rattle.drt_sp_states.specs.Misses.{AreReachingWalks}
 use Rattle.drt_sp_states.specs.Reaching.{IsReachedBy}
 use Rattle.drt_sp_states.specs.declared.places.Subject.{Subject}
 use Rattle.drt_sp_states.specs.declared.response.Reached.{Reached}
@@ -15,7 +15,7 @@ use Rattle.drt_sp_states.specs.declared.response.Responded.TheVariants as respon
 
 -- Walks that reach a number of ticks, with states whose times are at most that.
 pub worst : (graphs : List Digraph) (tails : List TailClaim) (wcet deadline ticks bound : ℕ) (walks : List (List ℕ)) (states : List StateClaim)
-    → AreReaching graphs wcet deadline ticks walks → bound ≡ ticks
+    → AreReachingWalks graphs wcet deadline ticks walks → bound ≡ ticks
     → AreStates graphs states → HavePassingTimes bound wcet tails states → HaveDominatedChildren graphs deadline states
     → AreWorst graphs tails wcet deadline ticks walks
 worst graphs tails wcet deadline ticks bound walks states r same are times children = record {
@@ -34,7 +34,7 @@ worst graphs tails wcet deadline ticks bound walks states r same are times child
 
 -- What is the greatest response up to a deadline is that up to a later one.
 pub farther : (graphs : List Digraph) (tails : List TailClaim) (wcet near deadline : ℕ) (answer : Responded) → near ≤ deadline
-    → IsResponse graphs tails wcet near answer → IsResponse graphs tails wcet deadline answer
+    → IsRespondedAnswer graphs tails wcet near answer → IsRespondedAnswer graphs tails wcet deadline answer
 farther graphs tails wcet near deadline (responses.Reached ticks walks) le w = record {
   each = w.each;
   some = w.some;
@@ -51,7 +51,7 @@ farther graphs tails wcet near deadline (responses.Reached ticks walks) le w = r
 farther graphs tails wcet near deadline responses.Spent le w = tt
 
 pub farther_ok : {E : Type 0} (graphs : List Digraph) (tails : List TailClaim) (wcet near deadline : ℕ) (r : Result Responded E) → near ≤ deadline
-    → IfOk r (λ answer. IsResponse graphs tails wcet near answer) → IfOk r (λ answer. IsResponse graphs tails wcet deadline answer)
+    → IfOk r (λ answer. IsRespondedAnswer graphs tails wcet near answer) → IfOk r (λ answer. IsRespondedAnswer graphs tails wcet deadline answer)
 farther_ok graphs tails wcet near deadline (Ok answer) le is = farther graphs tails wcet near deadline answer le is
 farther_ok graphs tails wcet near deadline (Err e) le is = tt
 

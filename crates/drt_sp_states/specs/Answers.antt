@@ -20,10 +20,10 @@ pub record ArePassing (graphs : List Digraph) (tails : List TailClaim) (wcet dea
   pub children : HaveDominatedChildren graphs deadline states
 
 -- A yes has states that keep the rules, and a no has walks for which no time passes.
-abbrev pub IsAnswer : List Digraph → List TailClaim → ℕ → ℕ → Searched → Type 0
-IsAnswer graphs tails wcet deadline (Passes states) = ArePassing graphs tails wcet deadline states
-IsAnswer graphs tails wcet deadline (Misses walks) = AreMissing graphs wcet deadline walks
-IsAnswer graphs tails wcet deadline Spent = Unit {0}
+abbrev pub IsSearchedAnswer : List Digraph → List TailClaim → ℕ → ℕ → Searched → Type 0
+IsSearchedAnswer graphs tails wcet deadline (Passes states) = ArePassing graphs tails wcet deadline states
+IsSearchedAnswer graphs tails wcet deadline (Misses walks) = AreMissing graphs wcet deadline walks
+IsSearchedAnswer graphs tails wcet deadline Spent = Unit {0}
 
 -- There is one walk of each graph, and the number is the least time that has room for the job and for what the walks ask for before it.
 -- The states show that some time up to the number has room whatever the walks are. Their children are released before a bound.
@@ -41,6 +41,6 @@ pub record AreWorst (graphs : List Digraph) (tails : List TailClaim) (wcet deadl
   pub children : HaveDominatedChildren graphs bound states
 
 -- A greatest response has walks that reach it, and states that show that none is greater.
-abbrev pub IsResponse : List Digraph → List TailClaim → ℕ → ℕ → Responded → Type 0
-IsResponse graphs tails wcet deadline (responses.Reached ticks walks) = AreWorst graphs tails wcet deadline ticks walks
-IsResponse graphs tails wcet deadline responses.Spent = Unit {0}
+abbrev pub IsRespondedAnswer : List Digraph → List TailClaim → ℕ → ℕ → Responded → Type 0
+IsRespondedAnswer graphs tails wcet deadline (responses.Reached ticks walks) = AreWorst graphs tails wcet deadline ticks walks
+IsRespondedAnswer graphs tails wcet deadline responses.Spent = Unit {0}

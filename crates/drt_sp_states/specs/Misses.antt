@@ -12,7 +12,7 @@ pub record AreMissing (graphs : List Digraph) (wcet deadline : ℕ) (walks : Lis
 
 -- There is one walk of each graph, and the time is the least one up to the deadline that has room for the job and for what the walks ask for
 -- before it.
-pub record AreReaching (graphs : List Digraph) (wcet deadline time : ℕ) (walks : List (List ℕ)) : Type 0 where
+pub record AreReachingWalks (graphs : List Digraph) (wcet deadline time : ℕ) (walks : List (List ℕ)) : Type 0 where
   pub each : AllZip IsWalk graphs walks
   pub some : 1 ≤ time
   pub most : time ≤ deadline

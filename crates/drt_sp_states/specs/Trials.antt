@@ -8,7 +8,7 @@ use Rattle.drt_steps.specs.Time.{AreChosen, sum_at}
 use Rattle.drt_sp_states.specs.declared.trials.Pool.{Pool}
 use Rattle.drt_sp_states.specs.declared.trials.Trial.{Trial}
 use Rattle.drt_sp_states.specs.declared.trials.Trial.TheVariants.{Misses, Passes, Broken}
-use Rattle.drt_sp_states.specs.Misses.{AreMissing, AreReaching}
+use Rattle.drt_sp_states.specs.Misses.{AreMissing, AreReachingWalks}
 
 -- There is one walk of each graph, and the chosen functions together are what the walks ask for.
 pub record ArePooled (deadline : ℕ) (graphs : List Digraph) (pool : Pool) : Type 0 where
@@ -19,7 +19,7 @@ pub record ArePooled (deadline : ℕ) (graphs : List Digraph) (pool : Pool) : Ty
   pub sums : (t : ℕ) → 1 ≤ t → t ≤ deadline → sum_at pool.functions.items pool.chosen.items t ≡ asked_together graphs pool.walks.items t
 
 -- What is said of a trial: where it misses, no time passes, and else this is the least one that does.
-abbrev pub IsTrial : List Digraph → ℕ → ℕ → Trial → Type 0
-IsTrial graphs wcet deadline (Misses walks) = AreMissing graphs wcet deadline walks
-IsTrial graphs wcet deadline (Passes time pool) = AreReaching graphs wcet deadline time pool.walks.items
-IsTrial graphs wcet deadline Broken = Unit {0}
+abbrev pub IsTrialAnswer : List Digraph → ℕ → ℕ → Trial → Type 0
+IsTrialAnswer graphs wcet deadline (Misses walks) = AreMissing graphs wcet deadline walks
+IsTrialAnswer graphs wcet deadline (Passes time pool) = AreReachingWalks graphs wcet deadline time pool.walks.items
+IsTrialAnswer graphs wcet deadline Broken = Unit {0}

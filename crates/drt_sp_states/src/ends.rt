@@ -2,7 +2,7 @@
 ghost use Rattle.std.specs.Prelude.{IsTrue};
 ghost use Rattle.drt_check_states.specs.Places.{graphs_at};
 ghost use Rattle.drt_states.specs.States.{AreStates, HaveDominatedChildren, HavePassingTimes};
-ghost use Rattle.drt_sp_states.specs.Subjects.{IsSubject};
+ghost use Rattle.drt_sp_states.specs.Subjects.{IsStateSubject};
 
 use crate::places::Subject;
 use crate::tables::{End, Standing, State, Table};
@@ -13,7 +13,7 @@ use std::alloc::Global;
 
 /// Whether the deciders accept the states, with times up to a bound.
 pub(crate) fn are_accepted(subject: Subject<'_>, bound: u32, states: &[StateClaim]) -> bool
-    requires { IsSubject subject }
+    requires { IsStateSubject subject }
     ensures states { IsTrue result → AreStates (graphs_at subject.entry.graphs.now subject.entry.order.now) states.now }
     ensures times { IsTrue result → HavePassingTimes bound subject.entry.wcet subject.entry.tails.now states.now }
     ensures children { IsTrue result → HaveDominatedChildren (graphs_at subject.entry.graphs.now subject.entry.order.now) subject.entry.deadline states.now }

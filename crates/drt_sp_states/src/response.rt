@@ -1,7 +1,7 @@
 //! The search for the greatest response of one vertex.
 ghost use Rattle.std.specs.Prelude.{◌≡◌, ◌≤◌, ◌⊎◌, Some, IfOk, IfSome};
 ghost use Rattle.drt_sp_states.specs.Reaching.{IsReachedBy};
-ghost use Rattle.drt_sp_states.specs.Subjects.{IsResponseTo, IsSubject};
+ghost use Rattle.drt_sp_states.specs.Subjects.{IsResponseTo, IsStateSubject};
 
 use crate::ends::{are_accepted, make_claims};
 use crate::looking::{Aim, Found};
@@ -52,7 +52,7 @@ pub fn search_response<G: Gate, R: Threads + Wait + Sync>(
     crew: &Crew<'_, G, R>,
     subject: Subject<'_>,
 ) -> Result<Responded, Memory>
-    requires subject { IsSubject subject }
+    requires subject { IsStateSubject subject }
     ensures { IfOk result (IsResponseTo subject.entry) }
 {
     let near = Subject {
@@ -80,7 +80,7 @@ fn search_near<G: Gate, R: Threads + Wait + Sync>(
     crew: &Crew<'_, G, R>,
     subject: Subject<'_>,
 ) -> Result<Responded, Memory>
-    requires { IsSubject subject }
+    requires { IsStateSubject subject }
     ensures { IfOk result (IsResponseTo subject.entry) }
 {
     let mut search = open_search(crew.alloc, subject)?;
@@ -99,7 +99,7 @@ fn take_waves<G: Gate, R: Threads + Wait + Sync>(
     search: &mut Search,
     reached: &mut Option<Reached>,
 ) -> Result<bool, Memory>
-    requires subject { IsSubject subject }
+    requires subject { IsStateSubject subject }
     requires reached { IfSome reached.old (IsReachedBy subject) }
     ensures { IfSome reached.new (IsReachedBy subject.entry) }
 {
@@ -129,7 +129,7 @@ fn go_on(
     reached: &mut Option<Reached>,
     wave: Wave,
 ) -> Result<bool, Memory>
-    requires subject { IsSubject subject }
+    requires subject { IsStateSubject subject }
     requires reached { IfSome reached.old (IsReachedBy subject) }
     ensures { IfSome reached.new (IsReachedBy subject.entry) }
 {
@@ -158,7 +158,7 @@ fn try_wave(
     reached: &mut Option<Reached>,
     wave: &Wave,
 ) -> Result<Outlook, Memory>
-    requires subject { IsSubject subject }
+    requires subject { IsStateSubject subject }
     requires reached { IfSome reached.old (IsReachedBy subject) }
     ensures { IfSome reached.new (IsReachedBy subject.entry) }
 {
@@ -181,7 +181,7 @@ fn try_state(
     reached: &mut Option<Reached>,
     found: &Found,
 ) -> Result<Outlook, Memory>
-    requires subject { IsSubject subject }
+    requires subject { IsStateSubject subject }
     requires reached { IfSome reached.old (IsReachedBy subject) }
     ensures { IfSome reached.new (IsReachedBy subject.entry) }
 {
@@ -227,7 +227,7 @@ fn end_of(
     table: &Table,
     reached: Option<Reached>,
 ) -> Result<Responded, Memory>
-    requires subject { IsSubject subject }
+    requires subject { IsStateSubject subject }
     requires reached { IfSome reached (IsReachedBy subject) }
     ensures { IfOk result (IsResponseTo subject.entry) }
 {

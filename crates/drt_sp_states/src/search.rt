@@ -1,6 +1,6 @@
 //! The search of the states of one vertex.
 ghost use Rattle.std.specs.Prelude.{IfOk, IfSome};
-ghost use Rattle.drt_sp_states.specs.Subjects.{IsAnswerTo, IsSubject};
+ghost use Rattle.drt_sp_states.specs.Subjects.{IsAnswerTo, IsStateSubject};
 
 use crate::ends::{are_accepted, make_claims};
 use crate::looking::{Aim, Found};
@@ -34,7 +34,7 @@ pub fn search_states<G: Gate, R: Threads + Wait + Sync>(
     crew: &Crew<'_, G, R>,
     subject: Subject<'_>,
 ) -> Result<Searched, Memory>
-    requires subject { IsSubject subject }
+    requires subject { IsStateSubject subject }
     ensures { IfOk result (IsAnswerTo subject.entry) }
 {
     let mut search = open_search(crew.alloc, subject)?;
@@ -47,7 +47,7 @@ fn take_waves<G: Gate, R: Threads + Wait + Sync>(
     subject: Subject<'_>,
     search: &mut Search,
 ) -> Result<Searched, Memory>
-    requires { IsSubject subject }
+    requires { IsStateSubject subject }
     ensures { IfOk result (IsAnswerTo subject.entry) }
 {
     let budget = crew.effort.budget();
@@ -73,7 +73,7 @@ fn go_on(
     search: &mut Search,
     wave: Wave,
 ) -> Result<Option<Searched>, Memory>
-    requires { IsSubject subject }
+    requires { IsStateSubject subject }
     ensures { IfOk result (λ r. IfSome r (IsAnswerTo subject.entry)) }
 {
     match first_stop(&wave.found) {
@@ -97,7 +97,7 @@ fn first_stop(all: &[Found]) -> Option<u32> {
 
 // What the search answers where no state waits.
 fn end_of(alloc: Global, subject: Subject<'_>, table: &Table) -> Result<Option<Searched>, Memory>
-    requires { IsSubject subject }
+    requires { IsStateSubject subject }
     ensures { IfOk result (λ r. IfSome r (IsAnswerTo subject.entry)) }
 {
     if !table.is_done() {
@@ -111,7 +111,7 @@ fn end_of(alloc: Global, subject: Subject<'_>, table: &Table) -> Result<Option<S
 
 // A yes by these states, where they are accepted.
 fn certify(subject: Subject<'_>, states: Vec<StateClaim>) -> Searched
-    requires { IsSubject subject }
+    requires { IsStateSubject subject }
     ensures { IsAnswerTo subject.entry result }
 {
     if are_accepted(subject, subject.deadline, &states) {
@@ -128,7 +128,7 @@ fn try_state(
     search: &mut Search,
     number: u32,
 ) -> Result<Option<Searched>, Memory>
-    requires { IsSubject subject }
+    requires { IsStateSubject subject }
     ensures { IfOk result (λ r. IfSome r (IsAnswerTo subject.entry)) }
 {
     match find_trial(

@@ -2,9 +2,9 @@
 ghost use Rattle.std.specs.Prelude.{◌≤◌, List, [], ◌∷◌, ◌++◌, IfOk, IfSome, length};
 ghost use Rattle.drt_model.specs.Digraph.{Digraph};
 ghost use Rattle.drt_check_states.specs.Places.{AreTasks, graphs_at};
-ghost use Rattle.drt_sp_states.specs.Subjects.{IsSubject, IsTrialOf};
+ghost use Rattle.drt_sp_states.specs.Subjects.{IsStateSubject, IsTrialOf};
 ghost use Rattle.drt_sp_states.specs.Trials.{ArePooled};
-ghost use Rattle.drt_sp_states.specs.Walks.{IsMade};
+ghost use Rattle.drt_sp_states.specs.Walks.{IsMadeWalk};
 
 use crate::places::Subject;
 use crate::walks::{Made, make_walk};
@@ -38,7 +38,7 @@ pub(crate) fn try_walks(
     subject: Subject<'_>,
     walks: &[Row<u32>],
 ) -> Result<Trial, Memory>
-    requires { IsSubject subject }
+    requires { IsStateSubject subject }
     ensures { IfOk result (IsTrialOf subject.entry) }
 {
     let Subject {
@@ -103,7 +103,7 @@ fn add_walk(
     pool: Pool,
     made: Made,
 ) -> Result<Pool, Memory>
-    requires made { IsMade graph.now deadline made }
+    requires made { IsMadeWalk graph.now deadline made }
     requires few { length pool.functions.items ≤ 31 }
     ensures { IfOk result (λ longer. (graphs : List Digraph) → ArePooled deadline graphs pool → ArePooled deadline (graphs ++ graph.now ∷ []) longer) }
 {

@@ -1,6 +1,6 @@
 //! The trial of a state, and what is done where its walks leave the job time.
 ghost use Rattle.std.specs.Prelude.{IfOk};
-ghost use Rattle.drt_sp_states.specs.Subjects.{IsSubject, IsTrialOf};
+ghost use Rattle.drt_sp_states.specs.Subjects.{IsStateSubject, IsTrialOf};
 
 use crate::curves::value_before;
 use crate::idle::is_active;
@@ -20,7 +20,7 @@ pub(crate) fn find_trial(
     number: u32,
     time: u64,
 ) -> Result<Trial, Memory>
-    requires { IsSubject subject }
+    requires { IsStateSubject subject }
     ensures { IfOk result (IsTrialOf subject.entry) }
 {
     match walks_of(alloc, subject, table, number, time)? {

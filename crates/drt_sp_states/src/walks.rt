@@ -1,6 +1,6 @@
 //! Walks and what they ask for.
 ghost use Rattle.std.specs.Prelude.{◌≡◌, ◌≤◌, IfOk, IfSome, OnOk};
-ghost use Rattle.drt_sp_states.specs.Walks.{IsMade};
+ghost use Rattle.drt_sp_states.specs.Walks.{IsMadeWalk};
 
 use drt_graph::Graph;
 use drt_label::Label;
@@ -24,7 +24,7 @@ pub(crate) fn make_walk(
 ) -> Result<Option<Made>, Memory>
     requires some { 1 ≤ bound }
     requires most { bound ≤ 1000000 }
-    ensures { IfOk result (λ r. IfSome r (IsMade graph.now bound)) }
+    ensures { IfOk result (λ r. IfSome r (IsMadeWalk graph.now bound)) }
 {
     if vertices.is_empty() {
         return Ok(None);
@@ -44,7 +44,7 @@ pub(crate) fn make_walk(
 fn begin_walk(alloc: Global, graph: &Graph, bound: u64, vertex: u32) -> Result<Option<Made>, Memory>
     requires some { 1 ≤ bound }
     requires most { bound ≤ 1000000 }
-    ensures { IfOk result (λ r. IfSome r (IsMade graph.now bound)) }
+    ensures { IfOk result (λ r. IfSome r (IsMadeWalk graph.now bound)) }
 {
     if vertex >= graph.vertex_count() {
         return Ok(None);
@@ -65,8 +65,8 @@ fn extend_walk(
     vertex: u32,
     made: &mut Made,
 ) -> Result<bool, Memory>
-    requires { IsMade graph.now bound made.old }
-    ensures { OnOk result (IsMade graph.now bound made.new) }
+    requires { IsMadeWalk graph.now bound made.old }
+    ensures { OnOk result (IsMadeWalk graph.now bound made.new) }
 {
     let at = made.label.vertex();
     let count = graph.vertex_count();

@@ -22,7 +22,7 @@ use Rattle.drt_releases.proofs.Walks.{graph_same}
 use Rattle.drt_trails.specs.declared.FixedTrail.{FixedTrail}
 use Rattle.drt_trails.specs.declared.FixedTrail.TheVariants.{Table, Refine}
 use Rattle.drt_sp.specs.Items.{IsFailure, IsSpentRefinement}
-use Rattle.drt_sp.specs.Progress.{AreGrown}
+use Rattle.drt_sp.specs.Progress.{AreTreesGrown}
 use Rattle.drt_sp.specs.TaskTrees.{IsTaskTree}
 use Rattle.drt_sp.specs.Vertices.{AreVertexProofs, IsStop, TuplesPass}
 use Rattle.drt_sp.specs.declared.trees.TaskTree.{TaskTree}
@@ -33,7 +33,7 @@ use Rattle.drt_sp.proofs.Orders.{order_count, order_place, order_rises}
 use Rattle.drt_sp.proofs.Passing.{at_place, chosen_at, claimed_nodes, posed_at, proofs_pass, task_below, vertex_passes}
 use Rattle.drt_sp.proofs.Yes.{few_tasks}
 use Rattle.drt_sp_task.specs.Task.{IsMeeting, IsSpentTask, IsUndecidedTask, TaskPasses}
-use Rattle.drt_sp_task.specs.Trees.{AreHigherTrees, AreTreesUpTo, IsFailing, IsSpentAt}
+use Rattle.drt_sp_task.specs.Trees.{AreHigherTrees, AreTreesUpTo, IsFailing, IsSpentAtPlace}
 use Rattle.drt_sp_task.specs.declared.given.Given.{Given}
 use Rattle.drt_sp_task.specs.declared.trees.HigherTrees.{HigherTrees}
 
@@ -51,7 +51,7 @@ module _ (g : Given) (order_is : IsOrder g.set.now.tasks g.order.now) where
   task_place k l = let p = order_place g.set.now.tasks g.order.now order_is k l in (p.0, at_place g.set.now.tasks g.order.now order_is p.0 p.1 ∙ ap Some p.2)
 
   -- A search of the walks of a task at an earlier place spent its budget.
-  pub spent_above : (budget k place m : ℕ) → place < m → slice_get g.order.now m ≡ Some k → (trail : FixedTrail) → IsSpentAt g budget place trail
+  pub spent_above : (budget k place m : ℕ) → place < m → slice_get g.order.now m ≡ Some k → (trail : FixedTrail) → IsSpentAtPlace g budget place trail
       → IsUndecidedTask g.set.now budget k trail
   spent_above budget k place m l at (Table task log) spent =
       let tasks = g.set.now.tasks in
@@ -81,7 +81,7 @@ module _ (g : Given) (order_is : IsOrder g.set.now.tasks g.order.now) where
         let claims = before.claims ++ tree.claim ∷ [] in
         let grown = grown_more tasks g.order.now place k at old.forest new.forest old.roots.items before.claims before.grown forest added.grows added.functions added.room
         tree.low tree.top tree.claim added.stands added.count added.claim added.rules added.range in
-        record { claims = claims; grown = subst (λ rs. AreGrown tasks g.order.now (place + 1) new.forest rs claims) (sym roots) grown }
+        record { claims = claims; grown = subst (λ rs. AreTreesGrown tasks g.order.now (place + 1) new.forest rs claims) (sym roots) grown }
 
     module _ (k : ℕ) (trees : HigherTrees) (above : AreHigherTrees g k trees) (forest : IsForest trees.forest) where
       -- There are fewer trees than tasks.

@@ -23,7 +23,7 @@ use Rattle.drt_trails.specs.declared.FixedTrail.TheVariants.{Table, Refine}
 use Rattle.drt_sp.specs.Answers.{AreExactTrees, MeetsDeadlines}
 use Rattle.drt_sp.specs.Items.{IsSpentRefinement}
 use Rattle.drt_sp.specs.Needs.{AreFewLeaves, IsBelowRefinement, IsBelowSearch}
-use Rattle.drt_sp.specs.TreeClaims.{IsSpentSearch}
+use Rattle.drt_sp.specs.TreeClaims.{IsSpentWalkSearch}
 use Rattle.drt_sp_task.specs.declared.answer.TaskAnswer.{TaskAnswer}
 use Rattle.drt_sp_task.specs.declared.answer.TaskAnswer.TheVariants as answers
 
@@ -67,7 +67,7 @@ pub record IsSpentTask (set : Contents) (budget k v : ℕ) (log : List FrontierE
 abbrev pub IsUndecidedTask : Contents → ℕ → ℕ → FixedTrail → Type 0
 IsUndecidedTask set budget k (Table task log) =
     (task < length set.tasks) × ((task_at set.tasks task).priority < (task_at set.tasks k).priority)
-    × IsSpentSearch (graph_at set.tasks task) (greatest_deadline set.tasks) budget log
+    × IsSpentWalkSearch (graph_at set.tasks task) (greatest_deadline set.tasks) budget log
     × IsBelowSearch (greatest_deadline set.tasks) (graph_at set.tasks task) budget
 IsUndecidedTask set budget k (Refine task v log) = (task ≡ k) × IsSpentTask set budget k v log
 

@@ -1,7 +1,7 @@
 //! The trees of the tasks of higher priority.
 ghost use Rattle.std.specs.Prelude.{◌≡◌, ℕ, ◌+◌, ◌<◌, ◌≤◌, Some, slice_get, length, IfOk, MatchOption};
 ghost use Rattle.drt_choices.specs.Choices.{IsOrder};
-ghost use Rattle.drt_sp_task.specs.Trees.{AreTreesUpTo, IsGrown, IsSpentAt};
+ghost use Rattle.drt_sp_task.specs.Trees.{AreTreesUpTo, AreSearchesEnded, IsSpentAtPlace};
 
 use crate::given::Given;
 use drt_crew::Crew;
@@ -39,7 +39,7 @@ pub(crate) fn grow_trees<G: Gate, R: Threads + Wait + Sync>(
 ) -> Result<Grown, Memory>
     requires order { IsOrder given.set.now.tasks given.order.now }
     requires task { task < length given.set.now.tasks }
-    ensures { IfOk result (IsGrown given.entry crew.now.effort.budget task) }
+    ensures { IfOk result (AreSearchesEnded given.entry crew.now.effort.budget task) }
 {
     given.set.keep_limits();
     let mut trees = HigherTrees {
@@ -78,7 +78,7 @@ fn add_tree<G: Gate, R: Threads + Wait + Sync>(
     requires order { IsOrder given.set.now.tasks given.order.now }
     requires here { place < length given.order.now }
     requires before { AreTreesUpTo given place trees.old }
-    ensures { IfOk result (λ trail. MatchOption trail (AreTreesUpTo given.entry (place + 1) trees.new) (IsSpentAt given.entry crew.now.effort.budget place)) }
+    ensures { IfOk result (λ trail. MatchOption trail (AreTreesUpTo given.entry (place + 1) trees.new) (IsSpentAtPlace given.entry crew.now.effort.budget place)) }
 {
     over_every_interleaving::<RequestLabel>();
     given.set.keep_limits();

@@ -2,7 +2,7 @@
 use Rattle.std.specs.Prelude.{ℕ, Option, Some, None, List, [], ◌∷◌}
 use Rattle.drt_tree.specs.Tree.{Plain}
 use Rattle.drt_tree.specs.declared.node.Node.{Node}
-use Rattle.drt_refine.specs.Machine.{Setting, State, step_of}
+use Rattle.drt_refine.specs.Machine.{FrontierSetting, FrontierState, step_of}
 use Rattle.drt_refine.specs.declared.step.FrontierEntry.{FrontierEntry}
 use Rattle.drt_refine.specs.declared.step.FrontierStep.{FrontierStep}
 use Rattle.drt_refine.specs.declared.step.FrontierStep.TheVariants.{Take, Pass, Split, Fail}
@@ -18,7 +18,7 @@ abbrev pub pair : ℕ → ℕ → ℕ → Node
 pair left right count = record { children = Some (left, right); leaves = count; walk = [] }
 
 -- A job of 2 ticks with the deadline 4, below one task with the walks y of 2 ticks and x of 3 ticks.
-abbrev pub narrow : ℕ → Setting
+abbrev pub narrow : ℕ → FrontierSetting
 narrow budget = record {
   forest = record { nodes = leaf 1 ∷ leaf 0 ∷ pair 0 1 2 ∷ []; pool = (2 ∷ 2 ∷ 2 ∷ 2 ∷ 2 ∷ []) ∷ (3 ∷ 3 ∷ 3 ∷ 3 ∷ 3 ∷ []) ∷ (3 ∷ 3 ∷ 3 ∷ 3 ∷ 3 ∷ []) ∷ [] };
   roots = 2 ∷ [];
@@ -28,7 +28,7 @@ narrow budget = record {
 }
 
 -- A job of 2 ticks with the deadline 5, below one task with the walks y, x and y y, whose second job comes 4 ticks later.
-abbrev pub wide : Setting
+abbrev pub wide : FrontierSetting
 wide = record {
   forest = record { nodes = leaf 1 ∷ leaf 0 ∷ leaf 1 ∷ pair 0 1 2 ∷ pair 3 2 3 ∷ []; pool = (2 ∷ 2 ∷ 2 ∷ 2 ∷ 2 ∷ []) ∷ (3 ∷ 3 ∷ 3 ∷ 3 ∷ 3 ∷ []) ∷ (2 ∷ 2 ∷ 2 ∷ 2 ∷ 4 ∷ []) ∷ (3 ∷ 3 ∷ 3 ∷ 3 ∷ 3 ∷ []) ∷ (3 ∷ 3 ∷ 3 ∷ 3 ∷ 4 ∷ []) ∷ [] };
   roots = 4 ∷ [];
@@ -42,7 +42,7 @@ abbrev pub by : ℕ → FrontierStep → FrontierEntry
 by w step = record { worker = w; step = step }
 
 -- The replies to some steps, one after another.
-abbrev pub replies : Setting → State → List FrontierEntry → List FrontierReply
+abbrev pub replies : FrontierSetting → FrontierState → List FrontierEntry → List FrontierReply
 replies t s [] = []
 replies t s (e ∷ es) = (step_of t s e.worker e.step).reply ∷ replies t (step_of t s e.worker e.step).state es
 

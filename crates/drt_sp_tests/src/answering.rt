@@ -1,6 +1,6 @@
 //! Answers by a crew, as bytes.
 ghost use Rattle.std.specs.Prelude.{ℕ, IfOk};
-ghost use Rattle.drt_sp.specs.Answers.{IsAnswer};
+ghost use Rattle.drt_sp.specs.Answers.{IsTreeAnswer};
 
 use drt_accepted::Accepted;
 use drt_claims::Dossier;
@@ -69,7 +69,7 @@ pub(crate) fn answer_to<G: Gate, R: Threads + Wait + Sync>(
     crew: &Crew<'_, G, R>,
     set: &TaskSet,
 ) -> Result<FixedAnswer, Fail>
-    ensures { IfOk result (IsAnswer set.now crew.now.effort.budget) }
+    ensures { IfOk result (IsTreeAnswer set.now crew.now.effort.budget) }
 {
     let graphs = drt_graph::check(crew.alloc, set)?;
     Ok(analyse_fixed(crew, &Accepted::of(set, &graphs))?)
@@ -81,7 +81,7 @@ fn print_whole(alloc: Global, dossier: &Dossier) -> Result<Vec<u8>, Fail> {
 
 // The text of an answer: its dossier, or where and by which steps a budget was spent.
 fn text_of(alloc: Global, set: TaskSet, answer: FixedAnswer) -> Result<Vec<u8>, Fail>
-    requires { (budget : ℕ) × IsAnswer set budget answer }
+    requires { (budget : ℕ) × IsTreeAnswer set budget answer }
 {
     match answer {
         FixedAnswer::Done(evidence) => {

@@ -2,7 +2,7 @@
 use Rattle.std.proofs.Common.{◌≡◌, ℕ, suc, ◌+◌, ◌-◌, ◌<◌, ◌≤◌, ◌⊎◌, inl, inr, Bool, true, false, eqb, List, [], ◌∷◌, Some, length, get_or, refl, ap, ◌∙◌, subst, arith}
 use Rattle.std.proofs.lemmas.Bool.{cases_lt, eqb-true}
 use Rattle.drt_model.specs.declared.tasks.Edge.{Edge}
-use Rattle.drt_model.specs.Digraph.{Digraph, IsSound, edge_of, no_edge, out_edges, vertex_count}
+use Rattle.drt_model.specs.Digraph.{Digraph, IsSoundGraph, edge_of, no_edge, out_edges, vertex_count}
 use Rattle.drt_model.specs.RequestFunction.{request}
 use Rattle.drt_model.specs.Walk.{IsEdge, IsPath, gap, sep_in, wcet}
 use Rattle.drt_states.specs.declared.claims.Jump.{Jump}
@@ -35,14 +35,14 @@ pub edge_between : (g : Digraph) (u v : ℕ) → IsEdge g u v → IsEdgeAt (out_
 edge_between g u v is = edge_at (out_edges g u) v (gap g u v) is
 
 -- It leads to a vertex.
-pub target_within : (g : Digraph) → IsSound g → (u v : ℕ) → u < vertex_count g → IsEdge g u v → v < vertex_count g
+pub target_within : (g : Digraph) → IsSoundGraph g → (u v : ℕ) → u < vertex_count g → IsEdge g u v → v < vertex_count g
 target_within g sound u v l is =
     let e = edge_between g u v is in
     let to = sound.to u e.number l e.here in
     let same = e.to in
     omega (arith, to, same)
 
-module _ (bound : ℕ) (g : Digraph) (tail : TailClaim) (sound : IsSound g) (are : IsTail bound g tail) (bounds : BoundsWalks bound g tail) where
+module _ (bound : ℕ) (g : Digraph) (tail : TailClaim) (sound : IsSoundGraph g) (are : IsTail bound g tail) (bounds : BoundsWalks bound g tail) where
   curve : (u : ℕ) → u < vertex_count g → IsCurve bound (curve_of tail u)
   curve u l = are.each u [] (let e = are.count in omega (arith, e, l))
 

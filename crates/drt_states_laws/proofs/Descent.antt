@@ -7,7 +7,7 @@ use Rattle.std.proofs.lemmas.Bool.{cases_lt, lt-ltb, ltb-true}
 use Rattle.std.proofs.lemmas.List.{length-map}
 use Rattle.std.proofs.lemmas.Option.{get_or_from_slice_get, none-some, same_Some, slice_get-get_or, slice_get-map, slice_get_within}
 use Rattle.drt_model.specs.declared.tasks.Edge.{Edge}
-use Rattle.drt_model.specs.Digraph.{Digraph, IsSound, edge_of, out_edges, vertex_count}
+use Rattle.drt_model.specs.Digraph.{Digraph, IsSoundGraph, edge_of, out_edges, vertex_count}
 use Rattle.drt_model.specs.RequestFunction.{request}
 use Rattle.drt_model.specs.Walk.{wcet}
 use Rattle.drt_busy.specs.Choice.{IsWalk}
@@ -98,7 +98,7 @@ graph_at places k P is l =
     rw at at is
 
 module _ (places : List Place) (tails : List TailClaim) (job deadline n : ℕ) (states : List StateClaim)
-    (sound : All (λ p. IsSound p.graph) places) (near : All (λ p. deadline ≤ p.bound) places)
+    (sound : All (λ p. IsSoundGraph p.graph) places) (near : All (λ p. deadline ≤ p.bound) places)
     (are : EachTail IsTail places tails) (bounds : EachTail BoundsWalks places tails)
     (within : n ≤ deadline) (passing : HavePassingTimes n job tails states) (dominated : HaveDominatedChildren (graphs_of places) deadline states) where
   -- No state of the list with so many places without an entry, and so much work below the greatest, has futures for which no time passes.

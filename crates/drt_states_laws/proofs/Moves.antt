@@ -1,7 +1,7 @@
 -- Where a walk goes on to: to its first vertex, or by its next edge, or by some edge where the next one comes too late to count.
 use Rattle.std.proofs.Common.{◌≡◌, ℕ, ◌+◌, ◌-◌, ◌<◌, ◌≤◌, ◌⊎◌, inl, inr, List, [], ◌∷◌, sym, ap, ◌∙◌, subst, arith}
 use Rattle.std.proofs.lemmas.Bool.{cases_lt}
-use Rattle.drt_model.specs.Digraph.{Digraph, IsSound, edge_of, out_degree, vertex_count}
+use Rattle.drt_model.specs.Digraph.{Digraph, IsSoundGraph, edge_of, out_degree, vertex_count}
 use Rattle.drt_model.specs.RequestFunction.{request}
 use Rattle.drt_model.specs.Walk.{gap, wcet}
 use Rattle.drt_busy.specs.Choice.{IsWalk, request_of}
@@ -15,7 +15,7 @@ pub record Begun (g : Digraph) (vs : List ℕ) : Type 0 where
   pub walk : IsWalk g (first ∷ rest)
   pub more : (t : ℕ) → request_of g vs t ≤ request g first rest (t - 0)
 
-pub begin : (g : Digraph) → IsSound g → (vs : List ℕ) → IsWalk g vs → Begun g vs
+pub begin : (g : Digraph) → IsSoundGraph g → (vs : List ℕ) → IsWalk g vs → Begun g vs
 begin g sound [] walk = record { first = 0; rest = []; walk = (sound.some, tt); more = λ t. omega arith }
 begin g sound (u ∷ vs) walk = record { first = u; rest = vs; walk = walk; more = more }
   where
@@ -33,7 +33,7 @@ pub record Moved (g : Digraph) (deadline n offset u : ℕ) (vs : List ℕ) : Typ
   pub more : (t : ℕ) → t ≤ n → request g u vs (t - offset) ≤ wcet g u + request g (edge_of g u number).to rest (t - (offset + (edge_of g u number).sep))
 
 -- Where nothing comes after u, any edge serves.
-move_late : (g : Digraph) → IsSound g → (deadline n offset u : ℕ) (vs : List ℕ) (k : ℕ) → u < vertex_count g → k < out_degree g u
+move_late : (g : Digraph) → IsSoundGraph g → (deadline n offset u : ℕ) (vs : List ℕ) (k : ℕ) → u < vertex_count g → k < out_degree g u
     → offset + (edge_of g u k).sep < deadline → ((t : ℕ) → t ≤ n → request g u vs (t - offset) ≤ wcet g u) → Moved g deadline n offset u vs
 move_late g sound deadline n offset u vs k l here early more = record {
   number = k;
@@ -66,7 +66,7 @@ move_next g deadline n offset u v vs walk m early =
     }
 
 -- A walk moves on where some edge out of its vertex has a target that comes before the deadline.
-pub move : (g : Digraph) → IsSound g → (deadline n offset u : ℕ) (vs : List ℕ) (k : ℕ) → n ≤ deadline → IsWalk g (u ∷ vs) → k < out_degree g u
+pub move : (g : Digraph) → IsSoundGraph g → (deadline n offset u : ℕ) (vs : List ℕ) (k : ℕ) → n ≤ deadline → IsWalk g (u ∷ vs) → k < out_degree g u
     → offset + (edge_of g u k).sep < deadline → Moved g deadline n offset u vs
 move g sound deadline n offset u [] k within walk here early =
     move_late g sound deadline n offset u [] k walk.0 here early (λ t l. request_last g u (t - offset))

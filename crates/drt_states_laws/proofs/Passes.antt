@@ -3,7 +3,7 @@ use Rattle.std.proofs.Common.{◌≡◌, ℕ, ◌+◌, ◌-◌, ◌<◌, ◌≤�
 use Rattle.std.specs.Prelude.{Option}
 use Rattle.std.proofs.lemmas.Bool.{cases_lt}
 use Rattle.std.proofs.lemmas.List.Elements.{All-head, All-tail}
-use Rattle.drt_model.specs.Digraph.{Digraph, IsSound}
+use Rattle.drt_model.specs.Digraph.{Digraph, IsSoundGraph}
 use Rattle.drt_model.specs.RequestFunction.{request}
 use Rattle.drt_states.specs.declared.claims.StateEntry.{StateEntry}
 use Rattle.drt_states.specs.declared.claims.TailClaim.{TailClaim}
@@ -14,7 +14,7 @@ use Rattle.drt_states_laws.proofs.Curves.{greatest_most}
 use Rattle.drt_states_laws.proofs.Futures.{AreFutures, IsFuture, future_asked, futures_asked}
 use Rattle.drt_states_laws.proofs.Requests.{request_none}
 
-module _ (bound : ℕ) (g : Digraph) (tail : TailClaim) (sound : IsSound g) (are : IsTail bound g tail) (bounds : BoundsWalks bound g tail) where
+module _ (bound : ℕ) (g : Digraph) (tail : TailClaim) (sound : IsSoundGraph g) (are : IsTail bound g tail) (bounds : BoundsWalks bound g tail) where
   future_most : (o : Option StateEntry) (vs : List ℕ) (t : ℕ) → IsFuture g o vs → 1 ≤ t → t ≤ bound → future_asked g o vs t ≤ asked_of tail o t
   future_most None [] t is some within = omega arith
   future_most None (u ∷ vs) t is some within =
@@ -33,7 +33,7 @@ module _ (bound : ℕ) (g : Digraph) (tail : TailClaim) (sound : IsSound g) (are
 
 -- Together.
 pub futures_most : (deadline i : ℕ) (places : List Place) (tails : List TailClaim) (entries : List StateEntry) (futures : List (List ℕ)) (t : ℕ)
-    → All (λ p. IsSound p.graph) places → All (λ p. deadline ≤ p.bound) places → EachTail IsTail places tails → EachTail BoundsWalks places tails
+    → All (λ p. IsSoundGraph p.graph) places → All (λ p. deadline ≤ p.bound) places → EachTail IsTail places tails → EachTail BoundsWalks places tails
     → AreFutures i places entries futures → 1 ≤ t → t ≤ deadline → futures_asked i places entries futures t ≤ asked_from i tails entries t
 unfolding futures_asked asked_from
 futures_most deadline i [] tails entries futures t sound near are bounds is some within = omega arith
@@ -41,7 +41,7 @@ futures_most deadline i (p ∷ places) tails entries [] t sound near are bounds 
 futures_most deadline i (p ∷ places) [] entries (vs ∷ futures) t sound near are bounds is some within = absurd are
 futures_most deadline i (p ∷ places) (tail ∷ tails) entries (vs ∷ futures) t sound near are bounds is some within =
     let to = All-head (λ (q : Place). deadline ≤ q.bound) p places near in
-    let first = future_most p.bound p.graph tail (All-head (λ (q : Place). IsSound q.graph) p places sound) are.0 bounds.0 (entry_at entries i) vs t is.0 some (omega (arith, within, to)) in
-    let rest = futures_most deadline (i + 1) places tails entries futures t (All-tail (λ (q : Place). IsSound q.graph) p places sound)
+    let first = future_most p.bound p.graph tail (All-head (λ (q : Place). IsSoundGraph q.graph) p places sound) are.0 bounds.0 (entry_at entries i) vs t is.0 some (omega (arith, within, to)) in
+    let rest = futures_most deadline (i + 1) places tails entries futures t (All-tail (λ (q : Place). IsSoundGraph q.graph) p places sound)
     (All-tail (λ (q : Place). deadline ≤ q.bound) p places near) are.1 bounds.1 is.1 some within in
     omega (arith, first, rest)

@@ -6,7 +6,7 @@ use Rattle.std.specs.Prelude.{slice_index_or}
 use Rattle.std.proofs.lemmas.List.Elements.{All-from_recursion, All-nil}
 use Rattle.drt_model.specs.declared.tasks.Edge.{Edge}
 use Rattle.drt_model.specs.declared.tasks.Vertex.{Vertex}
-use Rattle.drt_model.specs.Digraph.{Digraph, IsSound, edge_of, out_degree, vertex_of}
+use Rattle.drt_model.specs.Digraph.{Digraph, IsSoundGraph, edge_of, out_degree, vertex_of}
 use Rattle.drt_model.specs.Limits.{IsTime}
 use Rattle.drt_model.specs.Walk.{wcet}
 use Rattle.drt_model.proofs.Neighbours.{AllNeighbours-cons, AllNeighbours-nil, AllNeighbours-one}
@@ -235,7 +235,7 @@ time_2 = (omega arith, omega arith)
 time_3 : IsTime 3
 time_3 = (omega arith, omega arith)
 
-sound : IsSound graph
+sound : IsSoundGraph graph
 sound = record {
   some = omega arith;
   few = omega arith;
@@ -254,5 +254,5 @@ room_for_all : (walks : List (List ℕ)) → AreWalksOf (place ∷ []) walks
     → (t : ℕ) × (1 ≤ t) × (t ≤ 6) × (2 + asked_together (graph ∷ []) walks t ≤ t)
 room_for_all =
     states_pass (place ∷ []) (tail ∷ []) 2 6 6 states
-    (All-from_recursion (λ p. IsSound p.graph) (place ∷ []) (sound, tt)) (All-from_recursion (λ p. 6 ≤ p.bound) (place ∷ []) (omega arith, tt))
+    (All-from_recursion (λ p. IsSoundGraph p.graph) (place ∷ []) (sound, tt)) (All-from_recursion (λ p. 6 ≤ p.bound) (place ∷ []) (omega arith, tt))
     (is_tail, tt) (bounds_walks, tt) are_states (omega arith) passing dominated

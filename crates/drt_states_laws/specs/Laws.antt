@@ -1,7 +1,7 @@
 -- What claimed tails and states say of the walks of the tasks of higher priority.
 use Rattle.std.specs.Prelude.{ℕ, ◌+◌, ◌<◌, ◌≤◌, List, [], ◌∷◌, All}
 use Rattle.std.specs.List.{AllZip}
-use Rattle.drt_model.specs.Digraph.{Digraph, IsSound, vertex_count}
+use Rattle.drt_model.specs.Digraph.{Digraph, IsSoundGraph, vertex_count}
 use Rattle.drt_model.specs.RequestFunction.{request}
 use Rattle.drt_model.specs.Walk.{IsPath}
 use Rattle.drt_busy.specs.Choice.{IsWalk, request_of}
@@ -20,7 +20,7 @@ asked_together (g ∷ graphs) (walk ∷ walks) t = request_of g walk t + asked_t
 -- that starts there asks for.
 abbrev pub TailsBound : Type 0
 TailsBound =
-    (bound : ℕ) (g : Digraph) (tail : TailClaim) → IsSound g → IsTail bound g tail → BoundsWalks bound g tail
+    (bound : ℕ) (g : Digraph) (tail : TailClaim) → IsSoundGraph g → IsTail bound g tail → BoundsWalks bound g tail
     → (u : ℕ) (vs : List ℕ) (t : ℕ) → u < vertex_count g → IsPath g u vs → 1 ≤ t → t ≤ bound
     → request g u vs t ≤ value_before (curve_of tail u) t
 
@@ -34,7 +34,7 @@ AreWalksOf places walks = AllZip (λ p walk. IsWalk p.graph walk) places walks
 abbrev pub StatesPass : Type 0
 StatesPass =
     (places : List Place) (tails : List TailClaim) (wcet deadline n : ℕ) (states : List StateClaim)
-    → All (λ p. IsSound p.graph) places → All (λ p. deadline ≤ p.bound) places
+    → All (λ p. IsSoundGraph p.graph) places → All (λ p. deadline ≤ p.bound) places
     → EachTail IsTail places tails → EachTail BoundsWalks places tails
     → AreStates (graphs_of places) states → n ≤ deadline
     → HavePassingTimes n wcet tails states → HaveDominatedChildren (graphs_of places) deadline states

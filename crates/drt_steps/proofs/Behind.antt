@@ -2,7 +2,7 @@
 use Rattle.std.proofs.Common.{◌≡◌, ℕ, suc, ◌+◌, ◌<◌, ◌≤◌, Some, List, [], ◌∷◌, ◌++◌, length, ap, ◌∙◌, arith}
 use Rattle.std.specs.Prelude.{slice_get, slice_index}
 use Rattle.drt_steps.specs.declared.jump.Jump.{Jump}
-use Rattle.drt_steps.specs.Jumps.{risen, total, levels, values, AreFrom, AreKept, IsReached}
+use Rattle.drt_steps.specs.Jumps.{risen, total, levels, values, AreFrom, AreKept, IsPlaceReached}
 use Rattle.drt_steps.specs.Values.{raise}
 use Rattle.drt_steps.proofs.Jumps.{share, risen_append, total_append, below_append, raise_values, take_all, after_later}
 use Rattle.drt_steps.proofs.Places.{jump_at, jump_there, levels_long, level_is}
@@ -28,7 +28,7 @@ from_behind r (x ∷ js) new h le last =
     let b : j.after < new.after + 1 = last (length js) j (omega arith) at in
     (h.0, from_behind x.after js new h.1 (omega arith) (λ i k e there. last (suc i) k (omega (arith, e)) there))
 
-pub behind_kept : (n p : ℕ) (js : List Jump) (new : Jump) → AreKept n p js → p + total js + new.rise ≤ 1000000000000 → 1 ≤ new.after → new.after < n → IsReached js (new.after + 1) (length js) → AreKept n p (js ++ new ∷ [])
+pub behind_kept : (n p : ℕ) (js : List Jump) (new : Jump) → AreKept n p js → p + total js + new.rise ≤ 1000000000000 → 1 ≤ new.after → new.after < n → IsPlaceReached js (new.after + 1) (length js) → AreKept n p (js ++ new ∷ [])
 behind_kept n p js new k le from lt last =
     let a : total (js ++ new ∷ []) ≡ total js + (new.rise + 0) = total_append js (new ∷ []) in
     record { from = k.from; to = k.to; small = omega arith; order = from_behind 1 js new k.order from last.before; below = below_append n js (new ∷ []) k.below (lt, tt) }

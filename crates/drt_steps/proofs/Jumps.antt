@@ -3,7 +3,7 @@ use Rattle.std.specs.Prelude.{slice_get, nat_lt, nat_le, slice_index}
 use Rattle.std.proofs.lemmas.Option.{none-some, same_Some}
 use Rattle.std.proofs.lemmas.Bool.Decides.{nat_tests}
 use Rattle.drt_steps.specs.declared.jump.Jump.{Jump}
-use Rattle.drt_steps.specs.Jumps.{risen, total, values_from, values, AreFrom, AreBelow, up_to, past}
+use Rattle.drt_steps.specs.Jumps.{risen, total, values_from, values, AreFrom, AreJumpsBefore, up_to, past}
 use Rattle.drt_steps.specs.Values.{raise, value_at}
 
 -- what a jump adds before t
@@ -224,7 +224,7 @@ risen_total [] t = omega arith
 risen_total (x ∷ js) t = let e : risen js t ≤ total js = risen_total js t in let s : share x t ≤ x.rise = share_small x t in omega arith
 
 -- all jumps come before the bound
-pub risen_all : (n t : ℕ) (js : List Jump) → AreBelow n js → n ≤ t → risen js t ≡ total js
+pub risen_all : (n t : ℕ) (js : List Jump) → AreJumpsBefore n js → n ≤ t → risen js t ≡ total js
 risen_all n t [] h le = refl
 risen_all n t (x ∷ js) h le =
     let b : x.after < n = h.0 in
@@ -232,32 +232,32 @@ risen_all n t (x ∷ js) h le =
     let e : risen js t ≡ total js = risen_all n t js h.1 le in
     omega arith
 
-pub below_at : (n : ℕ) (js : List Jump) (i : ℕ) (j : Jump) → AreBelow n js → slice_get js i ≡ Some j → j.after < n
+pub below_at : (n : ℕ) (js : List Jump) (i : ℕ) (j : Jump) → AreJumpsBefore n js → slice_get js i ≡ Some j → j.after < n
 below_at n [] i j h at = absurd (none-some j at)
 below_at n (x ∷ js) zero j h at = subst (λ (y : Jump). y.after < n) (same_Some x j at) h.0
 below_at n (x ∷ js) (suc i) j h at = below_at n js i j h.1 at
 
-pub below_append : (n : ℕ) (xs ys : List Jump) → AreBelow n xs → AreBelow n ys → AreBelow n (xs ++ ys)
+pub below_append : (n : ℕ) (xs ys : List Jump) → AreJumpsBefore n xs → AreJumpsBefore n ys → AreJumpsBefore n (xs ++ ys)
 below_append n [] ys h k = k
 below_append n (x ∷ xs) ys h k = (h.0, below_append n xs ys h.1 k)
 
-pub below_later : (m n : ℕ) (js : List Jump) → m ≤ n → AreBelow m js → AreBelow n js
+pub below_later : (m n : ℕ) (js : List Jump) → m ≤ n → AreJumpsBefore m js → AreJumpsBefore n js
 below_later m n [] le h = tt
 below_later m n (x ∷ js) le h = let b : x.after < m = h.0 in (omega arith, below_later m n js le h.1)
 
-below_up_to_at : (n s : ℕ) (j : Jump) (js : List Jump) (b : Bool) → j.after < n → AreBelow n js → AreBelow n (cond b (j ∷ js) js)
+below_up_to_at : (n s : ℕ) (j : Jump) (js : List Jump) (b : Bool) → j.after < n → AreJumpsBefore n js → AreJumpsBefore n (cond b (j ∷ js) js)
 below_up_to_at n s j js true l h = (l, h)
 below_up_to_at n s j js false l h = h
 
-below_up_to : (n s : ℕ) (js : List Jump) → AreBelow n js → AreBelow n (up_to s js)
+below_up_to : (n s : ℕ) (js : List Jump) → AreJumpsBefore n js → AreJumpsBefore n (up_to s js)
 below_up_to n s [] h = tt
 below_up_to n s (j ∷ js) h = below_up_to_at n s j (up_to s js) (nat_le j.after s) h.0 (below_up_to n s js h.1)
 
-below_past : (n s : ℕ) (js : List Jump) → AreBelow n js → AreBelow n (past s js)
+below_past : (n s : ℕ) (js : List Jump) → AreJumpsBefore n js → AreJumpsBefore n (past s js)
 below_past n s [] h = tt
 below_past n s (j ∷ js) h = below_up_to_at n s j (past s js) (nat_lt s j.after) h.0 (below_past n s js h.1)
 
-pub below_placed : (n s : ℕ) (js : List Jump) (new : Jump) → new.after < n → AreBelow n js → AreBelow n (up_to s js ++ new ∷ past s js)
+pub below_placed : (n s : ℕ) (js : List Jump) (new : Jump) → new.after < n → AreJumpsBefore n js → AreJumpsBefore n (up_to s js ++ new ∷ past s js)
 below_placed n s js new l h = below_append n (up_to s js) (new ∷ past s js) (below_up_to n s js h) (l, below_past n s js h)
 
 -- places in order

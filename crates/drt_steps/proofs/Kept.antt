@@ -1,7 +1,7 @@
 -- What the walks over jumps mean for the functions that are kept.
 use Rattle.std.proofs.Common.{◌≡◌, ℕ, ◌+◌, ◌<◌, ◌≤◌, Bool, true, false, List, ◌∷◌, ◌++◌, length, refl, sym, ap, ◌∙◌, subst, arith, max}
 use Rattle.drt_steps.specs.declared.jump.Jump.{Jump}
-use Rattle.drt_steps.specs.Jumps.{risen, total, values, AreBelow, AreKept, AreMost, IsBelowAt, up_to, past}
+use Rattle.drt_steps.specs.Jumps.{risen, total, values, AreJumpsBefore, AreKept, AreMost, IsBelowAt, up_to, past}
 use Rattle.drt_steps.specs.Values.{covers, max_of, raise, value_at}
 use Rattle.drt_steps.proofs.Jumps.{length-values_from, same_values_from, value_of_jumps, risen_all, total_placed, from_placed, below_placed, risen_placed, raise_values}
 use Rattle.drt_steps.proofs.Merging.{covers_values, uncovers, most_values}
@@ -17,12 +17,12 @@ top n p js xs e k =
     let a : value_at (values n p js) n ≡ p + risen js n = value_of_jumps n p n js from (omega arith) in
     ap (λ ys. value_at ys n) (sym e) ∙ (a ∙ ap (λ z. p + z) (risen_all n n js k.below (omega arith)))
 
-pub covers_is : (r : Bool) (n m p q : ℕ) (own other : List Jump) → n ≡ m → 1 ≤ n → AreBelow m other → (r ≡ true → (t : ℕ) → q + risen other t ≤ p + risen own t) → (r ≡ false → (s : ℕ) × IsBelowAt p own q other s) → r ≡ covers (values n p own) (values m q other)
+pub covers_is : (r : Bool) (n m p q : ℕ) (own other : List Jump) → n ≡ m → 1 ≤ n → AreJumpsBefore m other → (r ≡ true → (t : ℕ) → q + risen other t ≤ p + risen own t) → (r ≡ false → (s : ℕ) × IsBelowAt p own q other s) → r ≡ covers (values n p own) (values m q other)
 covers_is true n m p q own other e from below up down =
     sym (covers_values (λ t. p + risen own t) (λ t. q + risen other t) 1 n (up refl)) ∙ ap (λ z. covers (values n p own) (values z q other)) e
 covers_is false n m p q own other e from below up down =
     let w : (s : ℕ) × IsBelowAt p own q other s = down refl in
-    let late : w.0 < n = w.1.early n from (subst (λ (z : ℕ). AreBelow z other) (sym e) below) in
+    let late : w.0 < n = w.1.early n from (subst (λ (z : ℕ). AreJumpsBefore z other) (sym e) below) in
     sym (uncovers (λ t. p + risen own t) (λ t. q + risen other t) n w.0 late w.1.less) ∙ ap (λ z. covers (values n p own) (values z q other)) e
 
 pub most_along : (p q : ℕ) (own own2 other other2 most : List Jump) → own ≡ own2 → other ≡ other2 → AreMost p own q other most → AreMost p own2 q other2 most
@@ -35,7 +35,7 @@ most_kept n m p q own other most e k l h =
     let a : p + total own ≤ 1000000000000 = k.small in
     let b : q + total other ≤ 1000000000000 = l.small in
     let c : max (p + total own) (q + total other) ≡ max p q + total most = h.total in
-    record { from = k.from; to = k.to; small = omega arith; order = h.order; below = h.below n k.below (subst (λ (z : ℕ). AreBelow z other) (sym e) l.below) }
+    record { from = k.from; to = k.to; small = omega arith; order = h.order; below = h.below n k.below (subst (λ (z : ℕ). AreJumpsBefore z other) (sym e) l.below) }
 
 pub most_is : (n m p q : ℕ) (own other most : List Jump) → n ≡ m → AreMost p own q other most → values n (max p q) most ≡ max_of (values n p own) (values m q other)
 most_is n m p q own other most e h =

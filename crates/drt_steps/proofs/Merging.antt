@@ -4,7 +4,7 @@ use Rattle.std.specs.Prelude.{slice_get, nat_lt, nat_le, ◌&&◌}
 use Rattle.std.proofs.lemmas.Option.{same_Some}
 use Rattle.std.proofs.lemmas.Bool.Decides.{nat_tests}
 use Rattle.drt_steps.specs.declared.jump.Jump.{Jump}
-use Rattle.drt_steps.specs.Jumps.{risen, total, values_from, AreFrom, AreBelow, AreMost, IsBelowAt, grown}
+use Rattle.drt_steps.specs.Jumps.{risen, total, values_from, AreFrom, AreJumpsBefore, AreMost, IsBelowAt, grown}
 use Rattle.drt_steps.specs.Values.{covers, max_of}
 use Rattle.drt_steps.proofs.Jumps.{share, share_out, take_more, take_within, total_more, risen_total, risen_append, total_append, taken_past, taken_more, next_later, after_later, below_at, below_append, below_later, none_risen, take_all}
 
@@ -149,22 +149,22 @@ risen_grown e b c t js le = risen_grown_at e b c t js (nat_lt b c) refl le
 pub total_grown : (e b c : ℕ) (js : List Jump) → b ≤ c → total (grown e b c js) ≡ total js + (c - b)
 total_grown e b c js le = total_grown_at e b c js (nat_lt b c) refl le
 
-from_end : (s : ℕ) (js : List Jump) (new : Jump) → AreFrom s js → AreBelow (new.after + 1) js → s ≤ new.after → AreFrom s (js ++ new ∷ [])
+from_end : (s : ℕ) (js : List Jump) (new : Jump) → AreFrom s js → AreJumpsBefore (new.after + 1) js → s ≤ new.after → AreFrom s (js ++ new ∷ [])
 from_end s [] new h k le = (le, tt)
 from_end s (x ∷ js) new h k le = let b : x.after < new.after + 1 = k.0 in (h.0, from_end x.after js new h.1 k.1 (omega arith))
 
-from_grown_at : (e b c : ℕ) (js : List Jump) (test : Bool) → AreFrom 1 js → AreBelow (e + 1) js → 1 ≤ e → AreFrom 1 (cond test (js ++ record { after = e; rise = c - b } ∷ []) js)
+from_grown_at : (e b c : ℕ) (js : List Jump) (test : Bool) → AreFrom 1 js → AreJumpsBefore (e + 1) js → 1 ≤ e → AreFrom 1 (cond test (js ++ record { after = e; rise = c - b } ∷ []) js)
 from_grown_at e b c js true h k le = from_end 1 js (record { after = e; rise = c - b }) h k le
 from_grown_at e b c js false h k le = h
 
-pub from_grown : (e b c : ℕ) (js : List Jump) → AreFrom 1 js → AreBelow (e + 1) js → 1 ≤ e → AreFrom 1 (grown e b c js)
+pub from_grown : (e b c : ℕ) (js : List Jump) → AreFrom 1 js → AreJumpsBefore (e + 1) js → 1 ≤ e → AreFrom 1 (grown e b c js)
 from_grown e b c js h k le = from_grown_at e b c js (nat_lt b c) h k le
 
-below_grown_at : (n e b c : ℕ) (js : List Jump) (test : Bool) → AreBelow n js → e < n → AreBelow n (cond test (js ++ record { after = e; rise = c - b } ∷ []) js)
+below_grown_at : (n e b c : ℕ) (js : List Jump) (test : Bool) → AreJumpsBefore n js → e < n → AreJumpsBefore n (cond test (js ++ record { after = e; rise = c - b } ∷ []) js)
 below_grown_at n e b c js true h lt = below_append n js (record { after = e; rise = c - b } ∷ []) h (lt, tt)
 below_grown_at n e b c js false h lt = h
 
-pub below_grown : (n e b c : ℕ) (js : List Jump) → AreBelow n js → e < n → AreBelow n (grown e b c js)
+pub below_grown : (n e b c : ℕ) (js : List Jump) → AreJumpsBefore n js → e < n → AreJumpsBefore n (grown e b c js)
 below_grown n e b c js h lt = below_grown_at n e b c js (nat_lt b c) h lt
 
 -- the greater function as far as jumps were taken
@@ -176,9 +176,9 @@ pub record Merging (p q : ℕ) (own other : List Jump) (i j x y : ℕ) (out : Li
   pub own_past : (k : Jump) → slice_get other j ≡ Some k → (t : ℕ) → k.after < t → risen (take i own) t ≡ total (take i own)
   pub other_past : (k : Jump) → slice_get own i ≡ Some k → (t : ℕ) → k.after < t → risen (take j other) t ≡ total (take j other)
   pub order : AreFrom 1 out
-  pub own_last : (k : Jump) → slice_get own i ≡ Some k → AreBelow (k.after + 1) out
-  pub other_last : (k : Jump) → slice_get other j ≡ Some k → AreBelow (k.after + 1) out
-  pub below : (n : ℕ) → AreBelow n own → AreBelow n other → AreBelow n out
+  pub own_last : (k : Jump) → slice_get own i ≡ Some k → AreJumpsBefore (k.after + 1) out
+  pub other_last : (k : Jump) → slice_get other j ≡ Some k → AreJumpsBefore (k.after + 1) out
+  pub below : (n : ℕ) → AreJumpsBefore n own → AreJumpsBefore n other → AreJumpsBefore n out
 
 pub merging_start : (p q : ℕ) (own other : List Jump) → Merging p q own other 0 0 p q []
 merging_start p q own other = record {
@@ -239,7 +239,7 @@ merging_own p q own other i j x y out k m order at next =
     let le : max x y ≤ max (x + k.rise) y = omega arith in
     let s : max x y ≡ max p q + total out = m.sum in
     let from : 1 ≤ k.after = after_later 1 own i k order at in
-    let last : AreBelow (k.after + 1) (grown k.after (max x y) (max (x + k.rise) y) out) = below_grown (k.after + 1) k.after (max x y) (max (x + k.rise) y) out (m.own_last k at) (omega arith) in
+    let last : AreJumpsBefore (k.after + 1) (grown k.after (max x y) (max (x + k.rise) y) out) = below_grown (k.after + 1) k.after (max x y) (max (x + k.rise) y) out (m.own_last k at) (omega arith) in
     let g : total (grown k.after (max x y) (max (x + k.rise) y) out) ≡ total out + (max (x + k.rise) y - max x y) = total_grown k.after (max x y) (max (x + k.rise) y) out le in
     record {
       own_is = omega arith;

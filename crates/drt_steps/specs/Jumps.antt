@@ -19,9 +19,9 @@ AreFrom s [] = Unit {0}
 AreFrom s (j ∷ js) = (s ≤ j.after) × AreFrom j.after js
 
 -- Each jump comes before the time n.
-abbrev pub AreBelow : ℕ → List Jump → Type 0
-AreBelow n [] = Unit {0}
-AreBelow n (j ∷ js) = (j.after < n) × AreBelow n js
+abbrev pub AreJumpsBefore : ℕ → List Jump → Type 0
+AreJumpsBefore n [] = Unit {0}
+AreJumpsBefore n (j ∷ js) = (j.after < n) × AreJumpsBefore n js
 
 -- The values of a function at t, at t + 1 and so on, n of them.
 abbrev pub values_from : (ℕ → ℕ) → ℕ → ℕ → List ℕ
@@ -38,7 +38,7 @@ pub record AreKept (bound base : ℕ) (jumps : List Jump) : Type 0 where
   pub to : bound ≤ 1000000
   pub small : base + total jumps ≤ 1000000000000
   pub order : AreFrom 1 jumps
-  pub below : AreBelow bound jumps
+  pub below : AreJumpsBefore bound jumps
 
 -- The value from each jump on, where the value before the first is the base.
 abbrev pub levels : ℕ → List Jump → List ℕ
@@ -46,7 +46,7 @@ levels base [] = []
 levels base (j ∷ js) = (base + j.rise) ∷ levels (base + j.rise) js
 
 -- All that is kept for a function: its bound, base and jumps, and the value from each jump on.
-pub record IsKept (bound base : ℕ) (jumps : List Jump) (values : List ℕ) : Type 0 where
+pub record IsFunctionKept (bound base : ℕ) (jumps : List Jump) (values : List ℕ) : Type 0 where
   pub kept : AreKept bound base jumps
   pub levels_are : values ≡ levels base jumps
 
@@ -55,13 +55,13 @@ pub record AreMarks (bound : ℕ) (xs marks : List ℕ) : Type 0 where
   pub are : (k : ℕ) → k < 16 → slice_index marks k ≡ value_at xs (bound - k * (bound / 16))
 
 -- A place among the jumps, or at their end, whose jump in front comes before the time t.
-pub record IsReached (jumps : List Jump) (t place : ℕ) : Type 0 where
+pub record IsPlaceReached (jumps : List Jump) (t place : ℕ) : Type 0 where
   pub within : place ≤ length jumps
   pub before : (i : ℕ) (j : Jump) → i + 1 ≡ place → slice_get jumps i ≡ Some j → j.after < t
 
 -- The place of the time t among jumps in order: the jump in front comes before t, and the jump there doesn't.
-pub record IsPlace (jumps : List Jump) (t place : ℕ) : Type 0 where
-  pub reached : IsReached jumps t place
+pub record IsJumpPlace (jumps : List Jump) (t place : ℕ) : Type 0 where
+  pub reached : IsPlaceReached jumps t place
   pub later : (j : Jump) → slice_get jumps place ≡ Some j → t ≤ j.after
 
 -- The jumps that come at the time s or earlier.
@@ -79,18 +79,18 @@ abbrev pub grown : ℕ → ℕ → ℕ → List Jump → List Jump
 grown after before now js = cond (nat_lt before now) (js ++ record { after = after; rise = now - before } ∷ []) js
 
 -- The next of some jumps comes before the next of some others, by at least a gap.
-pub record IsNext (gap : ℕ) (xs : List Jump) (i : ℕ) (ys : List Jump) (j : ℕ) : Type 0 where
+pub record IsNextJump (gap : ℕ) (xs : List Jump) (i : ℕ) (ys : List Jump) (j : ℕ) : Type 0 where
   pub within : i < length xs
   pub first : (o : Jump) → slice_get ys j ≡ Some o → (slice_index_or xs i (record { after = 0; rise = 0 })).after + gap ≤ o.after
 
 -- One function is below another one just after a jump of the other one, or at their bases.
 pub record IsBelowAt (own_base : ℕ) (own : List Jump) (other_base : ℕ) (other : List Jump) (s : ℕ) : Type 0 where
   pub less : own_base + risen own (s + 1) < other_base + risen other (s + 1)
-  pub early : (n : ℕ) → 1 ≤ n → AreBelow n other → s < n
+  pub early : (n : ℕ) → 1 ≤ n → AreJumpsBefore n other → s < n
 
 -- Jumps above the greater base that make at each time the greater value.
 pub record AreMost (own_base : ℕ) (own : List Jump) (other_base : ℕ) (other : List Jump) (most : List Jump) : Type 0 where
   pub values : (t : ℕ) → max (own_base + risen own t) (other_base + risen other t) ≡ max own_base other_base + risen most t
   pub total : max (own_base + total own) (other_base + total other) ≡ max own_base other_base + total most
   pub order : AreFrom 1 most
-  pub below : (n : ℕ) → AreBelow n own → AreBelow n other → AreBelow n most
+  pub below : (n : ℕ) → AreJumpsBefore n own → AreJumpsBefore n other → AreJumpsBefore n most

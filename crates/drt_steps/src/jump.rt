@@ -1,6 +1,6 @@
 //! The places where a function rises, in order of time.
 ghost use Rattle.std.specs.Prelude.{◌≡◌, ℕ, ◌≤◌, ◌<◌, ◌++◌, ◌∷◌, true, IfOk};
-ghost use Rattle.drt_steps.specs.Jumps.{risen, up_to, past, AreFrom, IsReached, IsPlace};
+ghost use Rattle.drt_steps.specs.Jumps.{risen, up_to, past, AreFrom, IsPlaceReached, IsJumpPlace};
 
 use std::alloc::{AllocError, Global};
 
@@ -14,14 +14,14 @@ pub struct Jump {
 /// The place of the time `t` among the jumps, which is the number of those before it, by halving.
 pub fn place_of(jumps: &[Jump], t: u64) -> usize
     requires { AreFrom 1 jumps.now }
-    ensures { IsPlace jumps.now t result }
+    ensures { IsJumpPlace jumps.now t result }
 {
     jumps.partition_point(|jump| jump.after < t)
 }
 
 /// Whether the place is one of the jumps or their end, and the jump in front of it comes before the time `t`.
 pub fn is_reached(jumps: &[Jump], place: usize, t: u64) -> bool
-    ensures { result ≡ true → IsReached jumps.now t place }
+    ensures { result ≡ true → IsPlaceReached jumps.now t place }
 {
     if place == 0 {
         return true;
@@ -35,7 +35,7 @@ pub fn is_reached(jumps: &[Jump], place: usize, t: u64) -> bool
 /// The place of the time `t`, by steps from the place of a time that is no later. From any other number it starts at
 /// the first jump.
 pub fn place_from(jumps: &[Jump], start: usize, t: u64) -> usize
-    ensures { IsPlace jumps.now t result }
+    ensures { IsJumpPlace jumps.now t result }
 {
     let mut place = 0;
     if is_reached(jumps, start, t) {

@@ -1,6 +1,6 @@
 //! Values of a function that are ready, so that most pairs of functions are told apart by them.
 ghost use Rattle.std.specs.Prelude.{◌≡◌, ℕ, List, ◌+◌, ◌/◌, ◌<◌, ◌≤◌, cond, nat_lt, min, length, slice_index};
-ghost use Rattle.drt_steps.specs.Jumps.{values, IsKept, AreMarks};
+ghost use Rattle.drt_steps.specs.Jumps.{values, IsFunctionKept, AreMarks};
 ghost use Rattle.drt_steps.specs.Samples.{coarse};
 ghost use Rattle.drt_steps.specs.Values.{raise};
 
@@ -12,7 +12,7 @@ pub(crate) const MARKS: usize = 16;
 
 /// The values of a function at its bound and at fifteen times before it, each a sixteenth of the bound before the last.
 pub(crate) fn marks(bound: u64, base: u64, jumps: &[Jump], levels: &[u64]) -> [u64; MARKS]
-    requires { IsKept bound base jumps.now levels.now }
+    requires { IsFunctionKept bound base jumps.now levels.now }
     ensures { AreMarks bound (values bound base jumps.now) result }
 {
     let mut marks = [0; MARKS];

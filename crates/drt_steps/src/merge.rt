@@ -1,6 +1,6 @@
 //! One walk over the jumps of two functions, in order of time.
 ghost use Rattle.std.specs.Prelude.{◌≡◌, ℕ, ◌+◌, ◌-◌, ◌<◌, ◌≤◌, ◌++◌, ◌∷◌, [], max, true, false, length, IfOk};
-ghost use Rattle.drt_steps.specs.Jumps.{risen, total, AreFrom, AreBelow, AreMost, IsBelowAt, IsNext, grown};
+ghost use Rattle.drt_steps.specs.Jumps.{risen, total, AreFrom, AreJumpsBefore, AreMost, IsBelowAt, IsNextJump, grown};
 
 use crate::jump::Jump;
 use std::alloc::{AllocError, Global};
@@ -8,8 +8,8 @@ use std::alloc::{AllocError, Global};
 // Whether the next of a function's own jumps comes no later than the next of the other's.
 fn is_own_next(own: &[Jump], i: usize, other: &[Jump], j: usize) -> bool
     requires { length own.now ≤ i → j < length other.now }
-    ensures own { result ≡ true → IsNext 0 own.now i other.now j }
-    ensures other { result ≡ false → IsNext 1 other.now j own.now i }
+    ensures own { result ≡ true → IsNextJump 0 own.now i other.now j }
+    ensures other { result ≡ false → IsNextJump 1 other.now j own.now i }
 {
     if i >= own.len() {
         return false;

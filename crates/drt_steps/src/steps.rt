@@ -3,7 +3,7 @@ ghost use Rattle.std.specs.Prelude.{◌≡◌, ℕ, ◌+◌, ◌≤◌, ◌<◌,
 ghost use Rattle.std.specs.Ordering.{nat_cmp};
 ghost use Rattle.std.specs.Cmp.Lexicographic.{slice_cmp};
 ghost use Rattle.drt_steps.specs.Values.{raise, value_at, covers, max_of};
-ghost use Rattle.drt_steps.specs.Jumps.{values, AreKept, IsKept, AreMarks};
+ghost use Rattle.drt_steps.specs.Jumps.{values, AreKept, IsFunctionKept, AreMarks};
 ghost use Rattle.drt_steps.specs.Samples.{samples_of};
 
 use crate::jump::{Jump, is_reached, level_since, place_from, place_of, placed};
@@ -28,13 +28,13 @@ pub struct Steps {
 
 impl Model for Steps {
     ghost use Rattle.std.specs.Prelude.{List, ℕ};
-    ghost use Rattle.drt_steps.specs.Jumps.{values, IsKept, AreMarks};
+    ghost use Rattle.drt_steps.specs.Jumps.{values, IsFunctionKept, AreMarks};
 
     ghost Value = { List ℕ };
 
     ghost view = { λ s. values s.bound s.base s.rises.value.jumps.items };
 
-    ghost invariant = { λ s. IsKept s.bound s.base s.rises.value.jumps.items s.rises.value.levels.items × AreMarks s.bound (values s.bound s.base s.rises.value.jumps.items) s.marks };
+    ghost invariant = { λ s. IsFunctionKept s.bound s.base s.rises.value.jumps.items s.rises.value.levels.items × AreMarks s.bound (values s.bound s.base s.rises.value.jumps.items) s.marks };
 }
 
 impl Steps {
@@ -77,7 +77,7 @@ impl Steps {
         rises: Rises,
         marks: [u64; MARKS],
     ) -> Result<Steps, AllocError>
-        requires kept { IsKept bound base rises.jumps.items rises.levels.items }
+        requires kept { IsFunctionKept bound base rises.jumps.items rises.levels.items }
         requires marks { AreMarks bound (values bound base rises.jumps.items) marks }
         ensures { IfOk result (λ s. s ≡ values bound base rises.jumps.items) }
     {

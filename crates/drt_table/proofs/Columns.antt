@@ -6,7 +6,7 @@ use Rattle.std.proofs.lemmas.List.{length_push, length-map, length-take-le, map-
 use Rattle.std.proofs.lemmas.Option.{none-some, same_Some, slice_get-map, slice_get_within}
 use Rattle.std.proofs.lemmas.Bool.Decides.{eqb_tells}
 use Rattle.std.proofs.Math.Seq.{take-append_seam}
-use Rattle.drt_columns.specs.Entries.{Entry}
+use Rattle.drt_columns.specs.Entries.{KeptLabel}
 use Rattle.drt_columns.specs.Shelf.{Shelf, entries}
 use Rattle.drt_label.specs.Algebra.{Algebra}
 use Rattle.drt_worklist.specs.Places.{first, changed}
@@ -35,7 +35,7 @@ sampled_push {L} a labels l old new before here others count = record {
     is_elsewhere : (v : ℕ) → (a.vertex l ≡ v → ⊥) → sampled_from a v 0 (labels ++ l ∷ []) ≡ sampled_from a v 0 labels
     is_elsewhere v other = more v ∙ (ap (λ es. sampled_from a v 0 labels ++ es) (sampled_elsewhere a v (length labels) l other) ∙ nothing_more (sampled_from a v 0 labels))
       where
-        nothing_more : (es : List Entry) → es ++ [] ≡ es
+        nothing_more : (es : List KeptLabel) → es ++ [] ≡ es
         nothing_more [] = refl
         nothing_more (e ∷ es) = ap (λ fs. e ∷ fs) (nothing_more es)
 

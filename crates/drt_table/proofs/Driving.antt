@@ -15,7 +15,7 @@ use Rattle.drt_table.specs.declared.step.TableReply.TheVariants.{Finished, OutOf
 use Rattle.drt_table.specs.declared.step.Entry.{Entry}
 use Rattle.drt_worklist.specs.Places.{first}
 use Rattle.drt_table.specs.Machine.{Setting, State, Outcome, in_range, extended, is_full, unchanged, logged, offset, next, holder, taken, dominating, compared, counted, offered_at, step_of, CanStep, is_finished, after, CanEnter, replay_from}
-use Rattle.drt_table.specs.View.{View, setting_of, state_of, CanApply, outcome, IsStep}
+use Rattle.drt_table.specs.View.{View, setting_of, state_of, CanApply, outcome, IsTableStep}
 use Rattle.drt_table.specs.Drive.{IsDriven, Drives, StopsAt}
 use Rattle.drt_table.specs.Turn.{Went, Stopped, ends, Turn}
 use Rattle.drt_table.proofs.Adding.{true_not_false}
@@ -84,7 +84,7 @@ module _ {L : Type 0} (a : Algebra L) (d : ℕ) (old new : View L) (w : ℕ) (r 
   finished_stops : setting_of new ≡ setting_of old → state_of new ≡ state_of old → is_finished a (setting_of old) (state_of old) ≡ true → StopsAt a new Finished
   finished_stops set st f = subst (λ (t : Setting). IsTrue (is_finished a t (state_of new))) (sym set) (subst (λ (s : State L). IsTrue (is_finished a (setting_of old) s)) (sym st) f)
 
-  after_effect : (step : TableStep) → CanApply a old w step → IsStep a old new w step r → IsDriven a (setting_of old) d (state_of old) w step → is_finished a (setting_of old) (state_of old) ≡ false → Effect a (setting_of old) (state_of old) (record { worker = w; step = step }) (outcome a old w step) → Turn a d old new r
+  after_effect : (step : TableStep) → CanApply a old w step → IsTableStep a old new w step r → IsDriven a (setting_of old) d (state_of old) w step → is_finished a (setting_of old) (state_of old) ≡ false → Effect a (setting_of old) (state_of old) (record { worker = w; step = step }) (outcome a old w step) → Turn a d old new r
   after_effect step can h driven f (spent full e s) = record {
     went_on = λ no. absurd (let yes : ends r ≡ true = ap ends (h.reply_is ∙ e) in true_not_false yes no);
     stopped = λ yes. record { setting = h.setting; state = h.state ∙ s; stops = subst (λ (q : TableReply). StopsAt a new q) (sym (h.reply_is ∙ e)) (spent_stops h.setting (h.state ∙ s) f full) };
@@ -97,20 +97,20 @@ module _ {L : Type 0} (a : Algebra L) (d : ℕ) (old new : View L) (w : ℕ) (r 
   unfinished : (j : ℕ) → holder a (setting_of old) (state_of old).nodes ≡ Some j → is_finished a (setting_of old) (state_of old) ≡ false
   unfinished j e = ap (λ o. is_none (next a (setting_of old) (state_of old).nodes) && is_none o) e ∙ and_false (is_none (next a (setting_of old) (state_of old).nodes))
 
-  pub after_offer : (id k j : ℕ) → holder a (setting_of old) (state_of old).nodes ≡ Some j → CanApply a old w (Offer id k) → IsStep a old new w (Offer id k) r → Turn a d old new r
+  pub after_offer : (id k j : ℕ) → holder a (setting_of old) (state_of old).nodes ≡ Some j → CanApply a old w (Offer id k) → IsTableStep a old new w (Offer id k) r → Turn a d old new r
   after_offer id k j e can h = after_effect (Offer id k) can h tt (unfinished j e) (effect_offer a (setting_of old) (state_of old) w id k can)
 
-  pub after_close : (id j : ℕ) → holder a (setting_of old) (state_of old).nodes ≡ Some j → CanApply a old w (Close id) → IsStep a old new w (Close id) r → Turn a d old new r
+  pub after_close : (id j : ℕ) → holder a (setting_of old) (state_of old).nodes ≡ Some j → CanApply a old w (Close id) → IsTableStep a old new w (Close id) r → Turn a d old new r
   after_close id j e can h = after_effect (Close id) can h tt (unfinished j e) (effect_close a (setting_of old) (state_of old) w id)
 
-  take_case : w ≡ d → holder a (setting_of old) (state_of old).nodes ≡ None → CanApply a old w Take → IsStep a old new w Take r → TakeEffect a (setting_of old) (state_of old) w (outcome a old w Take) → Turn a d old new r
+  take_case : w ≡ d → holder a (setting_of old) (state_of old).nodes ≡ None → CanApply a old w Take → IsTableStep a old new w Take r → TakeEffect a (setting_of old) (state_of old) w (outcome a old w Take) → Turn a d old new r
   take_case same none can h (finished f e s) = record {
     went_on = λ no. absurd (let yes : ends r ≡ true = ap ends (h.reply_is ∙ e) in true_not_false yes no);
     stopped = λ yes. record { setting = h.setting; state = h.state ∙ s; stops = subst (λ (q : TableReply). StopsAt a new q) (sym (h.reply_is ∙ e)) (finished_stops h.setting (h.state ∙ s) f) };
   }
   take_case same none can h (other f e) = after_effect Take can h (same, none) f e
 
-  pub after_take : w ≡ d → holder a (setting_of old) (state_of old).nodes ≡ None → CanApply a old w Take → IsStep a old new w Take r → Turn a d old new r
+  pub after_take : w ≡ d → holder a (setting_of old) (state_of old).nodes ≡ None → CanApply a old w Take → IsTableStep a old new w Take r → Turn a d old new r
   after_take same none can h = take_case same none can h (effect_take a (setting_of old) (state_of old) w none)
 
 -- Take is allowed where no node is taken

@@ -3,7 +3,7 @@ use Rattle.std.proofs.Common.{◌≡◌, ℕ, suc, zero, ◌+◌, ◌<◌, ◌�
 use Rattle.std.specs.Prelude.{slice_get, min}
 use Rattle.std.proofs.lemmas.Option.{none-some, same_Some, slice_get-get_or}
 use Rattle.std.proofs.lemmas.List.{drop_all}
-use Rattle.drt_model.specs.Digraph.{Digraph, IsSound, out_edges, out_degree, edge_of, no_edge}
+use Rattle.drt_model.specs.Digraph.{Digraph, IsSoundGraph, out_edges, out_degree, edge_of, no_edge}
 use Rattle.drt_model.specs.declared.tasks.Edge.{Edge}
 use Rattle.drt_table.specs.Machine.{shortest}
 use Rattle.drt_table.specs.Earliest.{smaller, least_of}
@@ -45,7 +45,7 @@ module _ (g : Digraph) where
       → least ≡ least_of (λ (e : Edge). true) (λ e. e.sep) (out_edges g v)
   edge_end v k least le h = sym (smaller-none least) ∙ (ap (λ xs. smaller least (least_of (λ (e : Edge). true) (λ e. e.sep) xs)) (sym (drop_all k (out_edges g v) le)) ∙ h)
 
-  pub row_more : IsSound g → (v : ℕ) (least o : Option ℕ) → v < length g.vertices → o ≡ least_of (λ (e : Edge). true) (λ e. e.sep) (out_edges g v) → smaller least (shortest (drop v g.out)) ≡ shortest g.out → smaller (smaller least o) (shortest (drop (v + 1) g.out)) ≡ shortest g.out
+  pub row_more : IsSoundGraph g → (v : ℕ) (least o : Option ℕ) → v < length g.vertices → o ≡ least_of (λ (e : Edge). true) (λ e. e.sep) (out_edges g v) → smaller least (shortest (drop v g.out)) ≡ shortest g.out → smaller (smaller least o) (shortest (drop (v + 1) g.out)) ≡ shortest g.out
   row_more sound v least o lt e h =
       let rows : length g.out ≡ length g.vertices = sound.rows in
       let at : slice_get g.out v ≡ Some (out_edges g v) = slice_get-get_or g.out v [] (omega arith) in
@@ -53,7 +53,7 @@ module _ (g : Digraph) where
       ∙ (ap (λ n. smaller least (smaller n (shortest (drop (v + 1) g.out)))) e
       ∙ (ap (λ xs. smaller least (shortest xs)) (sym (drop-at g.out v (out_edges g v) at)) ∙ h))
 
-  pub row_end : IsSound g → (v : ℕ) (least : Option ℕ) → length g.vertices ≤ v → smaller least (shortest (drop v g.out)) ≡ shortest g.out → least ≡ shortest g.out
+  pub row_end : IsSoundGraph g → (v : ℕ) (least : Option ℕ) → length g.vertices ≤ v → smaller least (shortest (drop v g.out)) ≡ shortest g.out → least ≡ shortest g.out
   row_end sound v least le h =
       let rows : length g.out ≡ length g.vertices = sound.rows in
       sym (smaller-none least) ∙ (ap (λ xs. smaller least (shortest xs)) (sym (drop_all v g.out (omega arith))) ∙ h)

@@ -12,7 +12,7 @@ use Rattle.drt_worklist.specs.Places.{changed}
 use Rattle.drt_table.specs.Held.{AllOf}
 use Rattle.drt_table.specs.View.{kept_at}
 use Rattle.drt_table.proofs.Adding.{true_not_false}
-use Rattle.drt_table.specs.Links.{IsBelow, rank, IsKeptAt, IsGreatest, IsNext, AreLinked, IsPlace, IsLink, heads_after, links_after}
+use Rattle.drt_table.specs.Links.{IsLinkBelow, rank, IsKeptAt, IsGreatest, IsNext, AreLinked, IsPlace, IsLink, heads_after, links_after}
 use Rattle.drt_worklist.proofs.Lists.{Before, before_change, After, after_change, length-changed}
 use Rattle.drt_table.proofs.Ranks.{lower, newer, same_offset}
 use Rattle.drt_table.proofs.Unlink.{set_here, set_other, same_or_not, rank_cases}
@@ -72,18 +72,18 @@ module _ {L : Type 0} (a : Algebra L) (f : Held L → Held L) (stays : StaysKept
   rank_of j x y e = ap (λ l. rank a j (record x { node = record x.node { label = l } })) e
 
   next_same : (v : ℕ) (m q : Option ℕ) → IsNext a nodes v m q → IsNext a (changed k f nodes) v m q
-  next_same v m None next = λ j y is b. let w : WasKept v j y = was_kept v j y is in next j w.old w.is (subst (λ r. IsBelow m r) (rank_of j y w.old w.label) b)
+  next_same v m None next = λ j y is b. let w : WasKept v j y = was_kept v j y is in next j w.old w.is (subst (λ r. IsLinkBelow m r) (rank_of j y w.old w.label) b)
   next_same v m (Some q) next =
       let s : IsStill v q next.held = still_kept v q next.held next.is in
       record {
         held = s.new;
         is = s.is;
-        below = subst (λ r. IsBelow m r) (sym (rank_of q s.new next.held s.label)) next.below;
+        below = subst (λ r. IsLinkBelow m r) (sym (rank_of q s.new next.held s.label)) next.below;
         most = λ j y is b.
             let w : WasKept v j y = was_kept v j y is in
             let r : rank a j y ≡ rank a j w.old = rank_of j y w.old w.label in
             let t : rank a q s.new ≡ rank a q next.held = rank_of q s.new next.held s.label in
-            let le : rank a j w.old ≤ rank a q next.held = next.most j w.old w.is (subst (λ n. IsBelow m n) r b) in
+            let le : rank a j w.old ≤ rank a q next.held = next.most j w.old w.is (subst (λ n. IsLinkBelow m n) r b) in
             omega arith;
       }
 
@@ -140,33 +140,33 @@ module _ {L : Type 0} (a : Algebra L) (nodes : List (Held L)) (links heads : Lis
   forth v k h is = record { at = get_pushed nodes z k h is.at; kept = is.kept; vertex = is.vertex }
 
   -- what came next still does, where z comes no earlier
-  stays : (v : ℕ) (m q : Option ℕ) → (v ≡ a.vertex z.node.label → IsBelow m (rank a (length nodes) z) → (q ≡ None → ⊥) × ((k : ℕ) (h : Held L) → q ≡ Some k → IsKeptAt a nodes v k h → rank a (length nodes) z ≤ rank a k h)) → IsNext a nodes v m q → IsNext a (nodes ++ z ∷ []) v m q
+  stays : (v : ℕ) (m q : Option ℕ) → (v ≡ a.vertex z.node.label → IsLinkBelow m (rank a (length nodes) z) → (q ≡ None → ⊥) × ((k : ℕ) (h : Held L) → q ≡ Some k → IsKeptAt a nodes v k h → rank a (length nodes) z ≤ rank a k h)) → IsNext a nodes v m q → IsNext a (nodes ++ z ∷ []) v m q
   stays v m None late next = λ k h is b. by_case k h is b (kept_cases v k h is)
     where
-      by_case : (k : ℕ) (h : Held L) → IsKeptAt a (nodes ++ z ∷ []) v k h → IsBelow m (rank a k h) → IsKeptAt a nodes v k h ⊎ ((k ≡ length nodes) × (h ≡ z)) → ⊥
+      by_case : (k : ℕ) (h : Held L) → IsKeptAt a (nodes ++ z ∷ []) v k h → IsLinkBelow m (rank a k h) → IsKeptAt a nodes v k h ⊎ ((k ≡ length nodes) × (h ≡ z)) → ⊥
       by_case k h is b (inl old) = next k h old b
       by_case k h is b (inr p) =
-          (late (sym is.vertex ∙ ap (λ (y : Held L). a.vertex y.node.label) p.1) (subst (λ r. IsBelow m r) (ap (λ j. rank a j h) p.0 ∙ ap (λ (y : Held L). rank a (length nodes) y) p.1) b)).0 refl
+          (late (sym is.vertex ∙ ap (λ (y : Held L). a.vertex y.node.label) p.1) (subst (λ r. IsLinkBelow m r) (ap (λ j. rank a j h) p.0 ∙ ap (λ (y : Held L). rank a (length nodes) y) p.1) b)).0 refl
   stays v m (Some q) late next = record { held = next.held; is = forth v q next.held next.is; below = next.below; most = λ k h is b. by_case k h is b (kept_cases v k h is) }
     where
-      by_case : (k : ℕ) (h : Held L) → IsKeptAt a (nodes ++ z ∷ []) v k h → IsBelow m (rank a k h) → IsKeptAt a nodes v k h ⊎ ((k ≡ length nodes) × (h ≡ z)) → rank a k h ≤ rank a q next.held
+      by_case : (k : ℕ) (h : Held L) → IsKeptAt a (nodes ++ z ∷ []) v k h → IsLinkBelow m (rank a k h) → IsKeptAt a nodes v k h ⊎ ((k ≡ length nodes) × (h ≡ z)) → rank a k h ≤ rank a q next.held
       by_case k h is b (inl old) = next.most k h old b
       by_case k h is b (inr p) =
           let r : rank a k h ≡ rank a (length nodes) z = ap (λ j. rank a j h) p.0 ∙ ap (λ (y : Held L). rank a (length nodes) y) p.1 in
-          let le : rank a (length nodes) z ≤ rank a q next.held = (late (sym is.vertex ∙ ap (λ (y : Held L). a.vertex y.node.label) p.1) (subst (λ n. IsBelow m n) r b)).1 q next.held refl next.is in
+          let le : rank a (length nodes) z ≤ rank a q next.held = (late (sym is.vertex ∙ ap (λ (y : Held L). a.vertex y.node.label) p.1) (subst (λ n. IsLinkBelow m n) r b)).1 q next.held refl next.is in
           omega arith
 
   -- z comes first below a rank, where all others below it have less offset
-  is_first : (m : Option ℕ) → IsBelow m (rank a (length nodes) z) → ((k : ℕ) (h : Held L) → IsKeptAt a nodes (a.vertex z.node.label) k h → IsBelow m (rank a k h) → a.offset h.node.label < a.offset z.node.label) → IsGreatest a (nodes ++ z ∷ []) (a.vertex z.node.label) m (length nodes)
+  is_first : (m : Option ℕ) → IsLinkBelow m (rank a (length nodes) z) → ((k : ℕ) (h : Held L) → IsKeptAt a nodes (a.vertex z.node.label) k h → IsLinkBelow m (rank a k h) → a.offset h.node.label < a.offset z.node.label) → IsGreatest a (nodes ++ z ∷ []) (a.vertex z.node.label) m (length nodes)
   is_first m below less = record { held = z; is = z_is; below = below; most = λ k h is b. by_case k h b (kept_cases (a.vertex z.node.label) k h is) }
     where
-      by_case : (k : ℕ) (h : Held L) → IsBelow m (rank a k h) → IsKeptAt a nodes (a.vertex z.node.label) k h ⊎ ((k ≡ length nodes) × (h ≡ z)) → rank a k h ≤ rank a (length nodes) z
+      by_case : (k : ℕ) (h : Held L) → IsLinkBelow m (rank a k h) → IsKeptAt a nodes (a.vertex z.node.label) k h ⊎ ((k ≡ length nodes) × (h ≡ z)) → rank a k h ≤ rank a (length nodes) z
       by_case k h b (inl old) = let lt : rank a k h < rank a (length nodes) z = lower (a.offset h.node.label) (a.offset z.node.label) k (length nodes) (less k h old b) in omega arith
       by_case k h b (inr p) = same_offset (a.offset h.node.label) (a.offset z.node.label) k (length nodes) (ap (λ (y : Held L). a.offset y.node.label) p.1) p.0
 
   -- what came next below m comes after z, which stands below m and above it
-  comes_after : (m q : Option ℕ) → ((k : ℕ) (h : Held L) → IsKeptAt a nodes (a.vertex z.node.label) k h → rank a k h < rank a (length nodes) z → IsBelow m (rank a k h))
-      → ((k : ℕ) (h : Held L) → IsKeptAt a nodes (a.vertex z.node.label) k h → IsBelow m (rank a k h) → a.offset h.node.label < a.offset z.node.label)
+  comes_after : (m q : Option ℕ) → ((k : ℕ) (h : Held L) → IsKeptAt a nodes (a.vertex z.node.label) k h → rank a k h < rank a (length nodes) z → IsLinkBelow m (rank a k h))
+      → ((k : ℕ) (h : Held L) → IsKeptAt a nodes (a.vertex z.node.label) k h → IsLinkBelow m (rank a k h) → a.offset h.node.label < a.offset z.node.label)
       → IsNext a nodes (a.vertex z.node.label) m q → IsNext a (nodes ++ z ∷ []) (a.vertex z.node.label) (Some (rank a (length nodes) z)) q
   comes_after m None up less next = λ k h is b. by_case k h b (kept_cases (a.vertex z.node.label) k h is)
     where
@@ -242,7 +242,7 @@ module _ {L : Type 0} (a : Algebra L) (nodes : List (Held L)) (links heads : Lis
     z_below = newer (a.offset z.node.label) (a.offset g.node.label) (length nodes) p early (slice_get_within nodes p g is_p.at) room
 
     -- a list that has p goes on with no later one than p before z
-    no_earlier : (v : ℕ) (m o : Option ℕ) → v ≡ a.vertex z.node.label → IsBelow m (rank a p g) → IsNext a nodes v m o → (o ≡ None → ⊥) × ((k : ℕ) (h : Held L) → o ≡ Some k → IsKeptAt a nodes v k h → rank a (length nodes) z ≤ rank a k h)
+    no_earlier : (v : ℕ) (m o : Option ℕ) → v ≡ a.vertex z.node.label → IsLinkBelow m (rank a p g) → IsNext a nodes v m o → (o ≡ None → ⊥) × ((k : ℕ) (h : Held L) → o ≡ Some k → IsKeptAt a nodes v k h → rank a (length nodes) z ≤ rank a k h)
     no_earlier v m None e b old = absurd (old p g (subst (λ u. IsKeptAt a nodes u p g) (sym e) is_p) b)
     no_earlier v m (Some o) e b old = (
       λ none. absurd (cc),

@@ -11,7 +11,7 @@ use Rattle.drt_table.specs.Held.{AllOf, count_offer, placed_nodes, placed_reply}
 use Rattle.drt_table.specs.Links.{AreAlone}
 use Rattle.drt_table.specs.Machine.{extended}
 use Rattle.drt_table.specs.Node.{NodeOf, Held}
-use Rattle.drt_table.specs.View.{View, CanApply, IsStep, IsTable, setting_of, state_of}
+use Rattle.drt_table.specs.View.{View, CanApply, IsTableStep, IsTable, setting_of, state_of}
 use Rattle.drt_table.specs.declared.step.Entry.{Entry}
 use Rattle.drt_table.specs.declared.step.TableReply.{TableReply}
 use Rattle.drt_table.specs.declared.step.TableStep.TheVariants.{Offer}
@@ -74,7 +74,7 @@ with_nodes v nodes log = record { graph = v.graph; bound = v.bound; budget = v.b
 module _ {L : Type 0} (a : Algebra L) (v : View L) (w id k : ℕ) (l : L) (deadline : ℕ) (counted nodes : List (Held L)) (log : List Entry) (r : TableReply)
     (o : Offering a v w id k l) (p : IsPlaced a v w id k l deadline counted nodes log r) where
   -- this is the machine's step
-  pub offer_step : IsStep a v (with_nodes v nodes log) w (Offer id k) r
+  pub offer_step : IsTableStep a v (with_nodes v nodes log) w (Offer id k) r
   offer_step = offer_placed a v w id k l (with_nodes v nodes log) o.node deadline r o.at o.label p.deadline_is refl
       (p.nodes_are ∙ ap (λ xs. placed_nodes a l id deadline v.bound xs) p.counted_is)
       (p.reply_is ∙ ap (λ xs. placed_reply a l deadline v.bound xs) p.counted_is) p.log_is p.room

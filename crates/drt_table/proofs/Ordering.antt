@@ -4,7 +4,7 @@ use Rattle.std.specs.Prelude.{slice_get, IsTrue, is_none, ◌&&◌, nat_lt}
 use Rattle.std.proofs.lemmas.Option.{same_Some}
 use Rattle.std.proofs.lemmas.Bool.Decides.{nat_tests}
 use Rattle.drt_label.specs.Algebra.{Algebra, Laws}
-use Rattle.drt_model.specs.Digraph.{IsSound, out_degree, edge_of, vertex_of}
+use Rattle.drt_model.specs.Digraph.{IsSoundGraph, out_degree, edge_of, vertex_of}
 use Rattle.drt_table.specs.Node.{NodeOf, is_kept, is_pending, is_taken, is_pending_state, is_taken_state, fresh}
 use Rattle.drt_table.specs.declared.node.NodeState.{NodeState}
 use Rattle.drt_table.specs.declared.node.NodeState.TheVariants.{Pending, Taken as TakenBy, Done}
@@ -152,7 +152,7 @@ module _ {L : Type 0} (a : Algebra L) (t : Setting) where
   cond_order true x y p q = p
   cond_order false x y p q = q
 
-  module _ (sound : IsSound t.graph) where
+  module _ (sound : IsSoundGraph t.graph) where
     -- a Take
     module _ (s : State L) (w k : ℕ) (order : Order a t s.nodes) (least : Earliest is_pending (offset a t) s.nodes k) (near : (j : ℕ) (n : NodeOf L) → slice_get s.nodes j ≡ Some n → IsTrue (is_taken n) → offset a t least.item < offset a t n + separation t) where
       data New (i : ℕ) (m : NodeOf L) : Type 0 where

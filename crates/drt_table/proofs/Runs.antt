@@ -13,7 +13,7 @@ use Rattle.drt_table.specs.declared.step.TableReply.TheVariants.{Taken, Busy, Ad
 use Rattle.drt_table.specs.declared.step.Entry.{Entry}
 use Rattle.drt_table.specs.Machine.{Setting, separation, State, Outcome, in_range, extended, is_full, unchanged, logged, offset_at, next, holder, takes, taken, drop_by, dominating, added, compared, counted, offered_at, step_of, CanStep, opening_nodes, opening_state, after, CanEnter, replay, IsRun}
 use Rattle.drt_worklist.specs.Places.{first, changed}
-use Rattle.drt_model.specs.Digraph.{IsSound}
+use Rattle.drt_model.specs.Digraph.{IsSoundGraph}
 use Rattle.drt_worklist.proofs.Runs.{replay_join, run_join, replay_keeps, run_keeps as keeps_all}
 use Rattle.drt_table.specs.Facts.{Facts, Order}
 use Rattle.drt_worklist.proofs.Lists.{length-changed}
@@ -33,7 +33,7 @@ module _ {L : Type 0} (a : Algebra L) (laws : Laws a) (t : Setting) where
       (λ s e can facts. step_keeps a laws t s e.worker e.step facts can) es (opening_state a t) (opening_facts a laws t) run
 
   -- whoever made its steps
-  pub run_order : IsSound t.graph → (es : List Entry) → IsRun a t es → Order a t (replay a t es).nodes
+  pub run_order : IsSoundGraph t.graph → (es : List Entry) → IsRun a t es → Order a t (replay a t es).nodes
   run_order sound es run =
       (keeps_all (after a t) (CanEnter a t) (λ (s : State L). s.log) (λ (s : State L). Facts a t s.nodes × Order a t s.nodes)
       (λ s e can both. (step_keeps a laws t s e.worker e.step both.0 can, step_order a t sound laws s e.worker e.step both.0 both.1 can))

@@ -3,7 +3,7 @@ use Rattle.std.proofs.Common.{◌≡◌, ℕ, suc, zero, ◌+◌, ◌<◌, ◌�
 use Rattle.std.specs.Prelude.{slice_get, min, unwrap_or}
 use Rattle.std.proofs.lemmas.Option.{none-some, same_Some, slice_get-get_or, slice_get_within, get_or_from_slice_get}
 use Rattle.std.proofs.Math.Nat.{min-le_left, min-le_right}
-use Rattle.drt_model.specs.Digraph.{IsSound, out_edges, out_degree, edge_of, no_edge}
+use Rattle.drt_model.specs.Digraph.{IsSoundGraph, out_edges, out_degree, edge_of, no_edge}
 use Rattle.drt_model.specs.declared.tasks.Edge.{Edge}
 use Rattle.drt_table.specs.Earliest.{smaller, least_of}
 use Rattle.drt_table.specs.Machine.{Setting, shortest, separation}
@@ -79,7 +79,7 @@ shortest_has (r ∷ rows) m h = by_parts (least_of (λ (x : Edge). true) (λ x. 
           | inr q ↦ rest_has r rows m (rest m (ap (λ j. Some j) (sym q) ∙ h))
         ]
 
-module _ (t : Setting) (sound : IsSound t.graph) where
+module _ (t : Setting) (sound : IsSoundGraph t.graph) where
   pub separation_le : (v k : ℕ) → v < length t.graph.vertices → k < out_degree t.graph v → separation t ≤ (edge_of t.graph v k).sep
   separation_le v k lt less =
       let rows_are : length t.graph.out ≡ length t.graph.vertices = sound.rows in

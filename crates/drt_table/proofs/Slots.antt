@@ -4,7 +4,7 @@ use Rattle.std.specs.Prelude.{slice_get, IsTrue, is_none, ◌&&◌, ◌==◌, na
 use Rattle.std.proofs.lemmas.Option.{none-some, same_Some}
 use Rattle.std.proofs.lemmas.Bool.Decides.{nat_tests}
 use Rattle.drt_label.specs.Algebra.{Algebra, Laws}
-use Rattle.drt_model.specs.Digraph.{IsSound, out_degree}
+use Rattle.drt_model.specs.Digraph.{IsSoundGraph, out_degree}
 use Rattle.drt_table.specs.Node.{NodeOf, is_kept, is_pending, is_taken, is_taken_state}
 use Rattle.drt_table.specs.declared.node.NodeState.{NodeState}
 use Rattle.drt_table.specs.declared.node.NodeState.TheVariants.{Pending, Taken as TakenBy, Done}
@@ -67,7 +67,7 @@ record Open {L : Type 0} (nodes : List (NodeOf L)) : Type 0 where
   kept : IsTrue (is_kept node)
   few : state_entries node.state ≤ 1
 
-module _ {L : Type 0} (a : Algebra L) (laws : Laws a) (t : Setting) (takes_bound : IsTrue (a.takes_bound t.bound)) (sound : IsSound t.graph) where
+module _ {L : Type 0} (a : Algebra L) (laws : Laws a) (t : Setting) (takes_bound : IsTrue (a.takes_bound t.bound)) (sound : IsSoundGraph t.graph) where
   taken_few : (x : NodeState) → is_taken_state x ≡ true → state_entries x ≤ 1
   taken_few Pending e = omega arith
   taken_few (TakenBy w) e = omega arith

@@ -2,7 +2,7 @@
 use Rattle.std.proofs.Common.{◌≡◌, ℕ, suc, zero, ◌+◌, ◌-◌, ◌<◌, ◌≤◌, Bool, true, false, cond, Option, None, Some, List, [], ◌∷◌, ◌++◌, length, map, replicate, refl, sym, ap, ◌∙◌, subst, arith, append_assoc, length-append}
 use Rattle.std.proofs.lemmas.List.{map-append, replicate_more}
 use Rattle.drt_label.specs.Algebra.{Algebra, Laws}
-use Rattle.drt_model.specs.Digraph.{IsSound, vertex_of}
+use Rattle.drt_model.specs.Digraph.{IsSoundGraph, vertex_of}
 use Rattle.std.specs.Prelude.{◌&&◌, ◌==◌, IsTrue}
 use Rattle.std.proofs.lemmas.Option.{none-some, same_Some}
 use Rattle.std.proofs.lemmas.Bool.Decides.{nat_tests}
@@ -135,14 +135,14 @@ module _ {L : Type 0} (a : Algebra L) (laws : Laws a) (t : Setting) (n v : ℕ) 
   }
 
 -- a table at its start keeps what the type keeps
-pub table_starts : {L : Type 0} (a : Algebra L) (v : View L) (t : Setting) → setting_of v ≡ t → IsSound t.graph → IsTrue (a.takes_bound t.bound) → t.budget ≤ 1000000
+pub table_starts : {L : Type 0} (a : Algebra L) (v : View L) (t : Setting) → setting_of v ≡ t → IsSoundGraph t.graph → IsTrue (a.takes_bound t.bound) → t.budget ≤ 1000000
     → map (λ (h : Held L). h.node) v.nodes ≡ (opening_state a t).nodes → v.log ≡ [] → IsTable a v
 table_starts {L} a v t set sound bound budget nodes log =
     let ns : List (NodeOf L) = (opening_state a (setting_of v)).nodes in
     let nodes_are : map (λ (h : Held L). h.node) v.nodes ≡ ns = nodes ∙ ap (λ (x : Setting). (opening_state a x).nodes) (sym set) in
     let as_replayed : opening_state a (setting_of v) ≡ replay a (setting_of v) v.log = ap (λ es. replay a (setting_of v) es) (sym log) in
     record {
-      sound = subst (λ (x : Setting). IsSound x.graph) (sym set) sound;
+      sound = subst (λ (x : Setting). IsSoundGraph x.graph) (sym set) sound;
       bound = subst (λ (x : Setting). IsTrue (a.takes_bound x.bound)) (sym set) bound;
       budget = subst (λ (x : Setting). x.budget ≤ 1000000) (sym set) budget;
       run = subst (λ es. IsRun a (setting_of v) es) (sym log) tt;

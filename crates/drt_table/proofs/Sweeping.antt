@@ -6,7 +6,7 @@ use Rattle.drt_label.specs.Algebra.{Algebra, Laws}
 use Rattle.drt_table.specs.Node.{Held, is_kept}
 use Rattle.drt_worklist.specs.Places.{changed}
 use Rattle.drt_table.specs.Held.{AllOf, drop_held}
-use Rattle.drt_table.specs.Links.{IsBelow, rank, IsKeptAt, IsNext, AreLinked, IsAfter, IsPlace, heads_after, links_after}
+use Rattle.drt_table.specs.Links.{IsLinkBelow, rank, IsKeptAt, IsNext, AreLinked, IsAfter, IsPlace, heads_after, links_after}
 use Rattle.drt_table.proofs.Adding.{true_not_false}
 use Rattle.drt_table.proofs.Earliest.{and_left, and_right}
 use Rattle.drt_worklist.proofs.Lists.{changed_other, changed_at}
@@ -119,7 +119,7 @@ module _ {L : Type 0} (a : Algebra L) (laws : Laws a) (l : L) (number : ℕ) (xs
     all_swept = same_lists ns (map (drop_held a l number) xs) (λ k. same_at k (slice_get xs k) refl ∙ sym (slice_get-map (drop_held a l number) xs k))
 
     -- what comes after `last` has less offset
-    rest : (m : Option ℕ) (o : Option ℕ) → next ≡ o → IsNext a ns (a.vertex l) m o → (k : ℕ) (h : Held L) → IsKeptAt a ns (a.vertex l) k h → IsBelow m (rank a k h) → a.offset h.node.label < a.offset l
+    rest : (m : Option ℕ) (o : Option ℕ) → next ≡ o → IsNext a ns (a.vertex l) m o → (k : ℕ) (h : Held L) → IsKeptAt a ns (a.vertex l) k h → IsLinkBelow m (rank a k h) → a.offset h.node.label < a.offset l
     rest m None e n k h is b = absurd (n k h is b)
     rest m (Some i) e n k h is b =
         let le : rank a k h ≤ rank a i n.held = n.most k h is b in

@@ -5,7 +5,7 @@ use Rattle.std.proofs.lemmas.Bool.{le-leb, lt-leb}
 use Rattle.std.proofs.lemmas.List.{length-map, map-append}
 use Rattle.std.proofs.lemmas.Option.{none-some, same_Some, slice_get-map, slice_get_within}
 use Rattle.drt_label.specs.Algebra.{Algebra, Laws}
-use Rattle.drt_model.specs.Digraph.{Digraph, IsSound, vertex_of, edge_of, out_degree}
+use Rattle.drt_model.specs.Digraph.{Digraph, IsSoundGraph, vertex_of, edge_of, out_degree}
 use Rattle.drt_table.specs.Node.{NodeOf, Held, is_kept, is_pending, is_taken, is_taken_state, fresh}
 use Rattle.drt_table.specs.declared.node.NodeState.TheVariants.{Taken as TakenBy, Done}
 use Rattle.drt_table.specs.declared.step.TableStep.{TableStep}
@@ -20,7 +20,7 @@ use Rattle.drt_table.specs.Machine.{Setting, State, Outcome, separation, in_rang
 use Rattle.drt_table.specs.Facts.{Facts}
 use Rattle.drt_table.specs.Links.{AreAlone}
 use Rattle.drt_table.specs.Held.{AllOf, held_offset, take_by, count_offer, close_node, hand_out, dominates_held, drop_held, compared_nodes, compared_reply, placed_nodes, placed_reply}
-use Rattle.drt_table.specs.View.{View, setting_of, state_of, IsTable, spares_of, spares_after, CanApply, outcome, IsStep}
+use Rattle.drt_table.specs.View.{View, setting_of, state_of, IsTable, spares_of, spares_after, CanApply, outcome, IsTableStep}
 use Rattle.drt_table.proofs.Earliest.{earliest-map}
 use Rattle.drt_worklist.proofs.Lists.{Before, before_change, get_within}
 use Rattle.drt_worklist.proofs.Views.{first-map, map-changed, map-changed_same, map-map_with, map-map_same}
@@ -69,13 +69,13 @@ module _ {L : Type 0} (a : Algebra L) (v : View L) where
   not_full h = lt-leb v.budget (length v.log) h
 
   -- a step that changes nothing
-  unchanged_step : (w : ℕ) (step : TableStep) (r : TableReply) → outcome a v w step ≡ unchanged a (setting_of v) (state_of v) r → spares_after r (spares_of v) ≡ spares_of v → IsStep a v v w step r
+  unchanged_step : (w : ℕ) (step : TableStep) (r : TableReply) → outcome a v w step ≡ unchanged a (setting_of v) (state_of v) r → spares_after r (spares_of v) ≡ spares_of v → IsTableStep a v v w step r
   unchanged_step w step r e s = record { setting = refl; state = ap (λ (o : Outcome L). o.state) (sym e); reply_is = ap (λ (o : Outcome L). o.reply) (sym e); spares = sym s }
 
   -- a step that is logged
   logged_step : (new : View L) (w : ℕ) (step : TableStep) (r : TableReply) (ns : List (NodeOf L)) → setting_of new ≡ setting_of v
       → map (λ (h : Held L). h.node) new.nodes ≡ ns → new.log ≡ v.log ++ record { worker = w; step = step } ∷ []
-      → outcome a v w step ≡ logged a (setting_of v) (state_of v) (record { worker = w; step = step }) ns r → spares_of new ≡ spares_after r (spares_of v) → IsStep a v new w step r
+      → outcome a v w step ≡ logged a (setting_of v) (state_of v) (record { worker = w; step = step }) ns r → spares_of new ≡ spares_after r (spares_of v) → IsTableStep a v new w step r
   logged_step new w step r ns set nodes log e s = record {
     setting = set;
     state = state_eq (map (λ (h : Held L). h.node) new.nodes) ns new.log (v.log ++ record { worker = w; step = step } ∷ []) nodes log ∙ ap (λ (o : Outcome L). o.state) (sym e);
@@ -83,13 +83,13 @@ module _ {L : Type 0} (a : Algebra L) (v : View L) where
     spares = s;
   }
 
-  pub offer_spent : (w id k : ℕ) → v.budget ≤ length v.log → IsStep a v v w (Offer id k) Spent
+  pub offer_spent : (w id k : ℕ) → v.budget ≤ length v.log → IsTableStep a v v w (Offer id k) Spent
   offer_spent w id k h = unchanged_step w (Offer id k) Spent (ap (λ b. cond b (unchanged a (setting_of v) (state_of v) Spent) (offered_at a (setting_of v) (state_of v) (record { worker = w; step = Offer id k }) id k (slice_get (state_of v).nodes id))) (full h)) refl
 
-  pub close_spent : (w id : ℕ) → v.budget ≤ length v.log → IsStep a v v w (Close id) Spent
+  pub close_spent : (w id : ℕ) → v.budget ≤ length v.log → IsTableStep a v v w (Close id) Spent
   close_spent w id h = unchanged_step w (Close id) Spent (ap (λ b. cond b (unchanged a (setting_of v) (state_of v) Spent) (logged a (setting_of v) (state_of v) (record { worker = w; step = Close id }) (changed id (λ n. record n { state = Done }) (state_of v).nodes) Closed)) (full h)) refl
 
-  pub close_closed : (new : View L) (w id : ℕ) → setting_of new ≡ setting_of v → new.nodes ≡ changed id close_node v.nodes → new.log ≡ v.log ++ record { worker = w; step = Close id } ∷ [] → length v.log < v.budget → IsStep a v new w (Close id) Closed
+  pub close_closed : (new : View L) (w id : ℕ) → setting_of new ≡ setting_of v → new.nodes ≡ changed id close_node v.nodes → new.log ≡ v.log ++ record { worker = w; step = Close id } ∷ [] → length v.log < v.budget → IsTableStep a v new w (Close id) Closed
   close_closed new w id set nodes log h =
       let ns : List (NodeOf L) = changed id (λ (n : NodeOf L). record n { state = Done }) (state_of v).nodes in
       logged_step new w (Close id) Closed ns set
@@ -164,10 +164,10 @@ module _ {L : Type 0} (a : Algebra L) (v : View L) where
       at_reply (Some k) (Some h) false true = refl
       at_reply (Some k) (Some h) false false = refl
 
-  pub take_same : (w : ℕ) (p o : Option ℕ) (b c : Bool) (r : TableReply) → Found-for-take p o b c r → taken_node r ≡ None → IsStep a v v w Take r
+  pub take_same : (w : ℕ) (p o : Option ℕ) (b c : Bool) (r : TableReply) → Found-for-take p o b c r → taken_node r ≡ None → IsTableStep a v v w Take r
   take_same w p o b c r f e = unchanged_step w Take r (take_outcome w p o b c r f ∙ ap (λ n. after_reply (state_of v) w r n) e) (no_spare r (spares_of v) e p o b c f.reply)
 
-  pub take_taken : (new : View L) (w k : ℕ) (p o : Option ℕ) (b c : Bool) (r : TableReply) → Found-for-take p o b c r → taken_node r ≡ Some k → setting_of new ≡ setting_of v → new.nodes ≡ changed k (take_by w) v.nodes → new.log ≡ v.log ++ record { worker = w; step = Take } ∷ [] → IsStep a v new w Take (Taken k)
+  pub take_taken : (new : View L) (w k : ℕ) (p o : Option ℕ) (b c : Bool) (r : TableReply) → Found-for-take p o b c r → taken_node r ≡ Some k → setting_of new ≡ setting_of v → new.nodes ≡ changed k (take_by w) v.nodes → new.log ≡ v.log ++ record { worker = w; step = Take } ∷ [] → IsTableStep a v new w Take (Taken k)
   take_taken new w k p o b c r f e set nodes log =
       let ns : List (NodeOf L) = changed k (λ (n : NodeOf L). record n { state = TakenBy w }) (state_of v).nodes in
       logged_step new w Take (Taken k) ns set
@@ -243,7 +243,7 @@ module _ {L : Type 0} (a : Algebra L) (v : View L) (w id k : ℕ) (l : L) where
       → new.nodes ≡ placed_nodes a l id deadline v.bound (changed id count_offer v.nodes)
       → r ≡ placed_reply a l deadline v.bound (changed id count_offer v.nodes)
       → new.log ≡ v.log ++ record { worker = w; step = Offer id k } ∷ [] → length v.log < v.budget
-      → IsStep a v new w (Offer id k) r
+      → IsTableStep a v new w (Offer id k) r
   offer_placed new x deadline r at l_is d_is set nodes r_is log h =
       let t = setting_of v in
       let s = state_of v in
@@ -271,11 +271,11 @@ module _ {L : Type 0} (a : Algebra L) (v : View L) (w id k : ℕ) (l : L) where
       let whole : outcome a v w (Offer id k) ≡ logged a t s e ns q = step_1 ∙ (step_2 ∙ (step_3 ∙ (step_4 ∙ (step_5 ∙ (step_6 ∙ placed_outcome e xs b o))))) in
       let spares : spares_of new ≡ spares_after q (spares_of v) =
       ap (λ ys. map spare ys) nodes ∙ (placed_spares xs b o ∙ ap (λ ys. spares_after q ys) (map-changed_same spare count_offer (λ _. refl) id v.nodes)) in
-      subst (λ (y : TableReply). IsStep a v new w (Offer id k) y) (sym r_is)
+      subst (λ (y : TableReply). IsTableStep a v new w (Offer id k) y) (sym r_is)
       (logged_step a v new w (Offer id k) q ns set (ap (λ ys. map node ys) nodes) log whole spares)
 
 -- a logged step keeps the invariant
-pub table_more : {L : Type 0} (a : Algebra L) (old new : View L) (w : ℕ) (step : TableStep) (r : TableReply) → IsTable a old → CanApply a old w step → IsStep a old new w step r → new.log ≡ old.log ++ record { worker = w; step = step } ∷ [] → IsTable a new
+pub table_more : {L : Type 0} (a : Algebra L) (old new : View L) (w : ℕ) (step : TableStep) (r : TableReply) → IsTable a old → CanApply a old w step → IsTableStep a old new w step r → new.log ≡ old.log ++ record { worker = w; step = step } ∷ [] → IsTable a new
 table_more {L} a old new w step r is can h log =
     let t : Setting = setting_of old in
     let e : Entry = record { worker = w; step = step } in
@@ -287,7 +287,7 @@ table_more {L} a old new w step r is can h log =
     let state : state_of new ≡ replay a t (old.log ++ e ∷ []) =
     h.state ∙ (ap (λ s. (step_of a t s w step).state) is.state ∙ sym (replay_more a t old.log e)) in
     record {
-      sound = subst (λ (g : Digraph). IsSound g) (ap (λ (x : Setting). x.graph) (sym h.setting)) is.sound;
+      sound = subst (λ (g : Digraph). IsSoundGraph g) (ap (λ (x : Setting). x.graph) (sym h.setting)) is.sound;
       bound = subst (λ (x : ℕ). IsTrue (a.takes_bound x)) (ap (λ (x : Setting). x.bound) (sym h.setting)) is.bound;
       budget = subst (λ (x : ℕ). x ≤ 1000000) (ap (λ (x : Setting). x.budget) (sym h.setting)) is.budget;
       run = subst (λ (x : Setting). IsRun a x new.log) (sym h.setting) (subst (λ (es : List Entry). IsRun a t es) (sym log) run);
@@ -380,7 +380,7 @@ pub table_same_nodes : {L : Type 0} (a : Algebra L) (old new : View L) (id : ℕ
 table_same_nodes {L} a old new id is set nodes log =
     let same : state_of new ≡ state_of old = state_eq (map (λ (h : Held L). h.node) new.nodes) (map (λ (h : Held L). h.node) old.nodes) new.log old.log (ap (λ xs. map (λ (h : Held L). h.node) xs) nodes ∙ map-changed_same (λ (h : Held L). h.node) hand_out (λ _. refl) id old.nodes) log in
     record {
-      sound = subst (λ (g : Digraph). IsSound g) (ap (λ (x : Setting). x.graph) (sym set)) is.sound;
+      sound = subst (λ (g : Digraph). IsSoundGraph g) (ap (λ (x : Setting). x.graph) (sym set)) is.sound;
       bound = subst (λ (x : ℕ). IsTrue (a.takes_bound x)) (ap (λ (x : Setting). x.bound) (sym set)) is.bound;
       budget = subst (λ (x : ℕ). x ≤ 1000000) (ap (λ (x : Setting). x.budget) (sym set)) is.budget;
       run = subst (λ (x : Setting). IsRun a x new.log) (sym set) (subst (λ (es : List Entry). IsRun a (setting_of old) es) (sym log) is.run);

@@ -2,8 +2,8 @@
 use Rattle.std.proofs.Common.{◌≡◌, ℕ, suc, zero, ◌+◌, ◌<◌, ◌≤◌, ◌⊎◌, Bool, true, false, Option, Some, None, List, ◌∷◌, ◌++◌, length, refl, sym, ap, ◌∙◌, subst, inl, inr, arith}
 use Rattle.std.specs.Prelude.{slice_get, slice_index, option_map, IsTrue}
 use Rattle.std.proofs.lemmas.Option.{none-some, same_Some, slice_get-map, slice_get_within}
-use Rattle.drt_columns.specs.Entries.{Entry, IsBelow, AreBelow}
-use Rattle.drt_columns.specs.Seeking.{IsFound, IsFoundAt, IsSeek, remaining}
+use Rattle.drt_columns.specs.Entries.{KeptLabel, IsRuledOut, AreRuledOut}
+use Rattle.drt_columns.specs.Seeking.{IsFoundLabel, IsFoundLabelAt, IsSeek, remaining}
 use Rattle.drt_columns.specs.Shelf.{Shelf}
 use Rattle.drt_columns.specs.declared.seek.Seek.{Seek}
 use Rattle.drt_label.specs.Algebra.{Algebra, Laws}
@@ -17,28 +17,28 @@ use Rattle.drt_table.proofs.Earliest.{and_right}
 use Rattle.drt_table.proofs.Sampled.{IsEntryOf, entry_of, has_entry, ascending as sampled_ascending}
 
 -- the entry is that of a node
-pub record IsNodes {L : Type 0} (a : Algebra L) (nodes : List (Held L)) (e : Entry) : Type 0 where
+pub record IsNodes {L : Type 0} (a : Algebra L) (nodes : List (Held L)) (e : KeptLabel) : Type 0 where
   pub held : Held L
   pub at : slice_get nodes e.number ≡ Some held
   pub samples : e.samples ≡ a.samples held.node.label
 
 -- an entry of that number stands there
-pub record HasEntry (rest : List Entry) (k : ℕ) : Type 0 where
+pub record HasEntry (rest : List KeptLabel) (k : ℕ) : Type 0 where
   pub place : ℕ
-  pub entry : Entry
+  pub entry : KeptLabel
   pub at : slice_get rest place ≡ Some entry
   pub number : entry.number ≡ k
 
 -- the entries that are left are those of nodes, in ascending order, and each node that dominates the label has one there
-pub record IsTold {L : Type 0} (a : Algebra L) (l : L) (nodes : List (Held L)) (rest : List Entry) : Type 0 where
-  pub sound : (j : ℕ) (e : Entry) → slice_get rest j ≡ Some e → IsNodes a nodes e
+pub record IsTold {L : Type 0} (a : Algebra L) (l : L) (nodes : List (Held L)) (rest : List KeptLabel) : Type 0 where
+  pub sound : (j : ℕ) (e : KeptLabel) → slice_get rest j ≡ Some e → IsNodes a nodes e
   pub all : (k : ℕ) (h : Held L) → slice_get nodes k ≡ Some h → dominates_held a l h ≡ true → HasEntry rest k
-  pub ascending : (i j : ℕ) (e f : Entry) → slice_get rest i ≡ Some e → slice_get rest j ≡ Some f → i < j → e.number < f.number
+  pub ascending : (i j : ℕ) (e f : KeptLabel) → slice_get rest i ≡ Some e → slice_get rest j ≡ Some f → i < j → e.number < f.number
 
 -- a look that found an entry
-pub look_found : (shelf : Shelf) (seek : Seek) (samples : List ℕ) (rest : List Entry) (o : Option ℕ) (number : ℕ) → IsFound shelf seek samples rest o → o ≡ Some number
-    → IsFoundAt shelf seek samples rest number
-look_found shelf seek samples rest o number found is = subst (λ p. IsFound shelf seek samples rest p) is found
+pub look_found : (shelf : Shelf) (seek : Seek) (samples : List ℕ) (rest : List KeptLabel) (o : Option ℕ) (number : ℕ) → IsFoundLabel shelf seek samples rest o → o ≡ Some number
+    → IsFoundLabelAt shelf seek samples rest number
+look_found shelf seek samples rest o number found is = subst (λ p. IsFoundLabel shelf seek samples rest p) is found
 
 -- the node of a label
 held_at : {L : Type 0} (nodes : List (Held L)) (k : ℕ) (l : L) → slice_get (labels_of nodes) k ≡ Some l → (h : Held L) × (slice_get nodes k ≡ Some h) × (l ≡ h.node.label)
@@ -53,19 +53,19 @@ module _ {L : Type 0} (a : Algebra L) (laws : Laws a) (l : L) (nodes : List (Hel
   dominates h t = and_right (is_kept h.node) (a.dominates h.node.label l) t
 
   -- a look that begins
-  pub seek_first : (shelf : Shelf) (seek : Seek) (samples : List ℕ) (rest : List Entry) → IsSeek shelf seek samples rest → samples ≡ a.samples l
+  pub seek_first : (shelf : Shelf) (seek : Seek) (samples : List ℕ) (rest : List KeptLabel) → IsSeek shelf seek samples rest → samples ≡ a.samples l
       → IsSeek shelf seek (a.samples l) (remaining shelf seek)
   seek_first shelf seek samples rest is same = record { seeking = is.seeking; samples_is = is.samples_is ∙ same; rest_is = refl }
 
   -- all entries of the label's vertex are left at first
-  pub told_first : (rest : List Entry) → rest ≡ sampled_from a (a.vertex l) 0 (labels_of nodes) → IsTold a l nodes rest
-  told_first rest is = subst (λ (es : List Entry). IsTold a l nodes es) (sym is) (record {
+  pub told_first : (rest : List KeptLabel) → rest ≡ sampled_from a (a.vertex l) 0 (labels_of nodes) → IsTold a l nodes rest
+  told_first rest is = subst (λ (es : List KeptLabel). IsTold a l nodes es) (sym is) (record {
     sound = λ j e at. sound e (entry_of a (a.vertex l) 0 (labels_of nodes) j e at);
     all = all;
     ascending = λ i j e f at_e at_f lt. sampled_ascending a (a.vertex l) 0 (labels_of nodes) i j e f at_e at_f lt;
   })
     where
-      sound : (e : Entry) → IsEntryOf a (a.vertex l) 0 (labels_of nodes) e → IsNodes a nodes e
+      sound : (e : KeptLabel) → IsEntryOf a (a.vertex l) 0 (labels_of nodes) e → IsNodes a nodes e
       sound e is =
           let h = held_at nodes is.place is.label is.at in
           let n : e.number ≡ is.place = is.number ∙ (let z : 0 + is.place ≡ is.place = omega arith in z) in
@@ -79,7 +79,7 @@ module _ {L : Type 0} (a : Algebra L) (laws : Laws a) (l : L) (nodes : List (Hel
 
   module _ (bound : ℕ) (of : IsTrue (a.is_of l bound)) (all_of : AllOf (λ (h : Held L). IsTrue (a.is_of h.node.label bound)) nodes) where
     -- a node one of whose samples is less doesn't dominate the label
-    below_not : (e : Entry) → IsNodes a nodes e → IsBelow (a.samples l) e → (h : Held L) → slice_get nodes e.number ≡ Some h → dominates_held a l h ≡ true → ⊥
+    below_not : (e : KeptLabel) → IsNodes a nodes e → IsRuledOut (a.samples l) e → (h : Held L) → slice_get nodes e.number ≡ Some h → dominates_held a l h ≡ true → ⊥
     below_not e is below h at t =
         let same : is.held ≡ h = same_Some is.held h (sym is.at ∙ at) in
         let samples : e.samples ≡ a.samples h.node.label = is.samples ∙ ap (λ (x : Held L). a.samples x.node.label) same in
@@ -88,13 +88,13 @@ module _ {L : Type 0} (a : Algebra L) (laws : Laws a) (l : L) (nodes : List (Hel
         omega arith
 
     -- each entry has a sample that is less
-    none_above : (passed : List Entry) → ((j : ℕ) (e : Entry) → slice_get passed j ≡ Some e → IsNodes a nodes e) → AreBelow (a.samples l) passed
+    none_above : (passed : List KeptLabel) → ((j : ℕ) (e : KeptLabel) → slice_get passed j ≡ Some e → IsNodes a nodes e) → AreRuledOut (a.samples l) passed
         → (k : ℕ) (h : Held L) → slice_get nodes k ≡ Some h → dominates_held a l h ≡ true → HasEntry passed k → ⊥
     none_above passed sound below k h at t has =
         below_not has.entry (sound has.place has.entry has.at) (below has.place has.entry has.at) h (ap (λ n. slice_get nodes n) has.number ∙ at) t
 
     -- at the end of the entries
-    pub told_end : (rest : List Entry) → IsTold a l nodes rest → AreBelow (a.samples l) rest → None ≡ first (dominates_held a l) nodes
+    pub told_end : (rest : List KeptLabel) → IsTold a l nodes rest → AreRuledOut (a.samples l) rest → None ≡ first (dominates_held a l) nodes
     told_end rest told below = first_none (dominates_held a l) nodes (λ k y lt at. by_test k y at (dominates_held a l y) refl)
       where
         by_test : (k : ℕ) (y : Held L) → slice_get nodes k ≡ Some y → (b : Bool) → dominates_held a l y ≡ b → dominates_held a l y ≡ false
@@ -102,14 +102,14 @@ module _ {L : Type 0} (a : Algebra L) (laws : Laws a) (l : L) (nodes : List (Hel
         by_test k y at true t = absurd (none_above rest told.sound below k y at t (told.all k y at t))
 
     -- at an entry, past others that have a sample that is less
-    module _ (rest passed after : List Entry) (e : Entry) (told : IsTold a l nodes rest) (rest_is : rest ≡ passed ++ e ∷ after) (below : AreBelow (a.samples l) passed) where
+    module _ (rest passed after : List KeptLabel) (e : KeptLabel) (told : IsTold a l nodes rest) (rest_is : rest ≡ passed ++ e ∷ after) (below : AreRuledOut (a.samples l) passed) where
       joined : IsTold a l nodes (passed ++ e ∷ after)
-      joined = subst (λ (es : List Entry). IsTold a l nodes es) rest_is told
+      joined = subst (λ (es : List KeptLabel). IsTold a l nodes es) rest_is told
 
       at_e : slice_get (passed ++ e ∷ after) (length passed + 0) ≡ Some e
       at_e = after_end passed (e ∷ after) 0 e refl
 
-      at_after : (j : ℕ) (f : Entry) → slice_get after j ≡ Some f → slice_get (passed ++ e ∷ after) (length passed + suc j) ≡ Some f
+      at_after : (j : ℕ) (f : KeptLabel) → slice_get after j ≡ Some f → slice_get (passed ++ e ∷ after) (length passed + suc j) ≡ Some f
       at_after j f at = after_end passed (e ∷ after) (suc j) f at
 
       here : IsNodes a nodes e
@@ -122,11 +122,11 @@ module _ {L : Type 0} (a : Algebra L) (laws : Laws a) (l : L) (nodes : List (Hel
       ahead : (k : ℕ) (h : Held L) → slice_get nodes k ≡ Some h → dominates_held a l h ≡ true → (k ≡ e.number) ⊎ HasEntry after k
       ahead k h at t = by_has (joined.all k h at t)
         where
-          by_later : (f : Entry) → f.number ≡ k → (i : ℕ) → slice_get (e ∷ after) i ≡ Some f → (k ≡ e.number) ⊎ HasEntry after k
-          by_later f number zero at_f = inl (sym number ∙ ap (λ (g : Entry). g.number) (sym (same_Some e f at_f)))
+          by_later : (f : KeptLabel) → f.number ≡ k → (i : ℕ) → slice_get (e ∷ after) i ≡ Some f → (k ≡ e.number) ⊎ HasEntry after k
+          by_later f number zero at_f = inl (sym number ∙ ap (λ (g : KeptLabel). g.number) (sym (same_Some e f at_f)))
           by_later f number (suc i) at_f = inr (record { place = i; entry = f; at = at_f; number = number })
 
-          by_joined : (j : ℕ) (f : Entry) → slice_get (passed ++ e ∷ after) j ≡ Some f → f.number ≡ k → Joined passed (e ∷ after) j f → (k ≡ e.number) ⊎ HasEntry after k
+          by_joined : (j : ℕ) (f : KeptLabel) → slice_get (passed ++ e ∷ after) j ≡ Some f → f.number ≡ k → Joined passed (e ∷ after) j f → (k ≡ e.number) ⊎ HasEntry after k
           by_joined j f at_j number (earlier at_f) =
               absurd (below_not f (joined.sound j f at_j) (below j f at_f) h (ap (λ n. slice_get nodes n) number ∙ at) t)
           by_joined j f at_j number (later i j_is at_f) = by_later f number i at_f
@@ -164,7 +164,7 @@ module _ {L : Type 0} (a : Algebra L) (laws : Laws a) (l : L) (nodes : List (Hel
             by_place k y at t (inr has) = has
 
     -- at the entry that a look found
-    module _ (shelf : Shelf) (seek : Seek) (rest : List Entry) (number : ℕ) (told : IsTold a l nodes rest) (found : IsFoundAt shelf seek (a.samples l) rest number) where
+    module _ (shelf : Shelf) (seek : Seek) (rest : List KeptLabel) (number : ℕ) (told : IsTold a l nodes rest) (found : IsFoundLabelAt shelf seek (a.samples l) rest number) where
       pub found_within : number < length nodes
       found_within = subst (λ n. n < length nodes) found.number_is (told_within rest found.passed found.after found.entry told found.rest_is found.below)
 
@@ -187,4 +187,4 @@ module _ {L : Type 0} (a : Algebra L) (laws : Laws a) (l : L) (nodes : List (Hel
 
         pub found_more : dominates_held a l h ≡ false → IsTold a l nodes (remaining shelf seek)
         found_more d =
-            subst (λ (es : List Entry). IsTold a l nodes es) (sym found.seek_is.rest_is) (told_more rest found.passed found.after found.entry told found.rest_is found.below h at_entry d)
+            subst (λ (es : List KeptLabel). IsTold a l nodes es) (sym found.seek_is.rest_is) (told_more rest found.passed found.after found.entry told found.rest_is found.below h at_entry d)

@@ -9,7 +9,7 @@ use Rattle.drt_table.specs.Held.{held_offset}
 use Rattle.drt_table.specs.Machine.{holder, offset}
 use Rattle.drt_table.specs.Node.{NodeOf, Held, is_taken}
 use Rattle.drt_table.specs.Turn.{Turn}
-use Rattle.drt_table.specs.View.{View, IsTable, setting_of, state_of, CanApply, IsStep}
+use Rattle.drt_table.specs.View.{View, IsTable, setting_of, state_of, CanApply, IsTableStep}
 use Rattle.drt_table.specs.declared.node.NodeState.TheVariants.{Taken as TakenBy}
 use Rattle.drt_table.specs.declared.step.TableReply.{TableReply}
 use Rattle.drt_table.specs.declared.step.TableStep.TheVariants.{Take, Offer, Close}
@@ -33,7 +33,7 @@ module _ {L : Type 0} (a : Algebra L) (laws : Laws a) (v x : View L) (is : IsTab
   pub may_take : (w : ℕ) → o ≡ None → CanApply a x w Take
   may_take w none = can_take a x w (held_is ∙ none)
 
-  pub turn_take : (w : ℕ) (new : View L) (r : TableReply) → o ≡ None → IsStep a x new w Take r → Turn a w x new r
+  pub turn_take : (w : ℕ) (new : View L) (r : TableReply) → o ≡ None → IsTableStep a x new w Take r → Turn a w x new r
   turn_take w new r none step = after_take a w x new w r log_in refl (held_is ∙ none) (may_take w none) step
 
   module _ (id : ℕ) (some : o ≡ Some id) where
@@ -68,7 +68,7 @@ module _ {L : Type 0} (a : Algebra L) (laws : Laws a) (v x : View L) (is : IsTab
             pub may_offer : (w : ℕ) → h.node.state ≡ TakenBy w → CanApply a x w (Offer id offered)
             may_offer w taken = subst (λ (y : View L). CanApply a y w (Offer id offered)) same (h.node, node_holds a laws v is id h at w taken, count, edge)
 
-            pub turn_offer : (driver w : ℕ) (new : View L) (r : TableReply) → h.node.state ≡ TakenBy w → IsStep a x new w (Offer id offered) r → Turn a driver x new r
+            pub turn_offer : (driver w : ℕ) (new : View L) (r : TableReply) → h.node.state ≡ TakenBy w → IsTableStep a x new w (Offer id offered) r → Turn a driver x new r
             turn_offer driver w new r taken step = after_offer a driver x new w r log_in id offered id (held_is ∙ some) (may_offer w taken) step
 
           -- where none is left, the node is closed for the worker that holds it
@@ -79,5 +79,5 @@ module _ {L : Type 0} (a : Algebra L) (laws : Laws a) (v x : View L) (is : IsTab
             pub may_close : (w : ℕ) → h.node.state ≡ TakenBy w → CanApply a x w (Close id)
             may_close w taken = subst (λ (y : View L). CanApply a y w (Close id)) same (h.node, node_holds a laws v is id h at w taken, all)
 
-            pub turn_close : (driver w : ℕ) (new : View L) (r : TableReply) → h.node.state ≡ TakenBy w → IsStep a x new w (Close id) r → Turn a driver x new r
+            pub turn_close : (driver w : ℕ) (new : View L) (r : TableReply) → h.node.state ≡ TakenBy w → IsTableStep a x new w (Close id) r → Turn a driver x new r
             turn_close driver w new r taken step = after_close a driver x new w r log_in id id (held_is ∙ some) (may_close w taken) step

@@ -6,7 +6,7 @@ use Rattle.std.proofs.lemmas.Option.{none-some, same_Some, slice_get_within}
 use Rattle.drt_label.specs.Algebra.{Algebra}
 use Rattle.drt_table.specs.Node.{Held, is_kept}
 use Rattle.drt_worklist.specs.Places.{changed}
-use Rattle.drt_table.specs.Links.{IsBelow, rank, IsKeptAt, IsGreatest, IsNext, AreLinked, IsAfter, heads_after, links_after}
+use Rattle.drt_table.specs.Links.{IsLinkBelow, rank, IsKeptAt, IsGreatest, IsNext, AreLinked, IsAfter, heads_after, links_after}
 use Rattle.drt_worklist.proofs.Lists.{length-changed}
 use Rattle.drt_table.proofs.Adding.{true_not_false}
 use Rattle.drt_worklist.proofs.Lists.{changed_other, changed_at}
@@ -31,7 +31,7 @@ same_or_not (suc m) zero = inr (λ e. absurd (omega arith))
 same_or_not (suc m) (suc n) = elim (same_or_not m n) as (λ _. (suc m ≡ suc n) ⊎ (suc m ≡ suc n → ⊥)) [ inl e ↦ inl (ap suc e) | inr ne ↦ inr (λ e. ne (omega arith)) ]
 
 -- below a lower rank is below
-pub below_less : (m : Option ℕ) (r s : ℕ) → IsBelow m s → r < s → IsBelow m r
+pub below_less : (m : Option ℕ) (r s : ℕ) → IsLinkBelow m s → r < s → IsLinkBelow m r
 below_less None r s b lt = tt
 below_less (Some m) r s b lt = let h : s < m = b in omega arith
 
@@ -88,7 +88,7 @@ module _ {L : Type 0} (a : Algebra L) (nodes : List (Held L)) (links heads : Lis
       h_is : first.held ≡ h
       h_is = kept_same a nodes (a.vertex h.node.label) i first.held h first.is at
 
-      low : (k : ℕ) (x : Held L) → IsKeptAt a (changed i g nodes) (a.vertex h.node.label) k x → IsBelow m (rank a k x) → rank a k x < rank a i h
+      low : (k : ℕ) (x : Held L) → IsKeptAt a (changed i g nodes) (a.vertex h.node.label) k x → IsLinkBelow m (rank a k x) → rank a k x < rank a i h
       low k x is b = by_rank (rank_cases a nodes ok.few (a.vertex h.node.label) k i x h (back (a.vertex h.node.label) k x is) here)
         where
           most : rank a k x ≤ rank a i h
@@ -104,7 +104,7 @@ module _ {L : Type 0} (a : Algebra L) (nodes : List (Held L)) (links heads : Lis
       by_next (Some q) n = record {
         held = n.held;
         is = forth (a.vertex h.node.label) q n.held n.is (λ e. differs q n e);
-        below = below_less m (rank a q n.held) (rank a i h) (subst (λ (y : Held L). IsBelow m (rank a i y)) h_is first.below) n.below;
+        below = below_less m (rank a q n.held) (rank a i h) (subst (λ (y : Held L). IsLinkBelow m (rank a i y)) h_is first.below) n.below;
         most = λ k x is b. n.most k x (back (a.vertex h.node.label) k x is) (low k x is b);
       }
         where

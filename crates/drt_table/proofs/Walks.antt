@@ -2,7 +2,7 @@
 use Rattle.std.proofs.Common.{◌≡◌, ℕ, ◌<◌, List, [], ◌∷◌, length, refl, sym, ap, ◌∙◌, subst}
 use Rattle.std.specs.Prelude.{IsTrue}
 use Rattle.drt_label.specs.Algebra.{Algebra, Laws}
-use Rattle.drt_model.specs.Digraph.{IsSound, vertex_of, edge_of, out_degree}
+use Rattle.drt_model.specs.Digraph.{IsSoundGraph, vertex_of, edge_of, out_degree}
 use Rattle.drt_table.specs.Machine.{Setting, in_range, extended}
 use Rattle.drt_table.specs.Walk.{WalkTo, IsWalkLabel}
 
@@ -18,7 +18,7 @@ module _ {L : Type 0} (a : Algebra L) (laws : Laws a) (t : Setting) where
   walk_range v [] l w = w.2
   walk_range v (u ∷ before) l w = w.6
 
-  pub walk_within : IsSound t.graph → (v : ℕ) (before : List ℕ) (l : L) → WalkTo a t v before l → v < length t.graph.vertices
+  pub walk_within : IsSoundGraph t.graph → (v : ℕ) (before : List ℕ) (l : L) → WalkTo a t v before l → v < length t.graph.vertices
   walk_within sound v [] l w = w.0
   walk_within sound v (u ∷ before) l w = subst (λ (x : ℕ). x < length t.graph.vertices) w.4 (sound.to u w.0 (walk_within sound u before w.1 w.2) w.3)
 

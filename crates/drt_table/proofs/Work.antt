@@ -3,7 +3,7 @@ use Rattle.std.proofs.Common.{◌≡◌, ℕ, suc, zero, ◌+◌, ◌<◌, ◌�
 use Rattle.std.specs.Prelude.{slice_get, IsTrue, ◌&&◌, nat_lt}
 use Rattle.std.proofs.lemmas.Option.{none-some, same_Some}
 use Rattle.drt_label.specs.Algebra.{Algebra, Laws}
-use Rattle.drt_model.specs.Digraph.{IsSound, out_degree}
+use Rattle.drt_model.specs.Digraph.{IsSoundGraph, out_degree}
 use Rattle.drt_table.specs.Node.{NodeOf, is_kept, is_pending, fresh}
 use Rattle.drt_table.specs.declared.node.NodeState.TheVariants.{Taken as TakenBy, Done}
 use Rattle.drt_table.specs.declared.step.TableStep.{TableStep}
@@ -59,7 +59,7 @@ distinct_changed {L} k f nodes keeps d = record {
     old_label i m b (inl p) = ap (λ x. x.label) p.1 ∙ keeps b.old
     old_label i m b (inr q) = ap (λ x. x.label) q
 
-module _ {L : Type 0} (a : Algebra L) (laws : Laws a) (t : Setting) (takes_bound : IsTrue (a.takes_bound t.bound)) (sound : IsSound t.graph) where
+module _ {L : Type 0} (a : Algebra L) (laws : Laws a) (t : Setting) (takes_bound : IsTrue (a.takes_bound t.bound)) (sound : IsSoundGraph t.graph) where
   drop_label : (l : L) (number : ℕ) (n : NodeOf L) (b : Bool) → (cond b (record n { dropped_by = Some number; state = Done }) n).label ≡ n.label
   drop_label l number n true = refl
   drop_label l number n false = refl

@@ -9,9 +9,9 @@ unfoldable pub standing : ℕ → ℕ → ℕ
 standing offset number = offset * 4294967296 + (4294967295 - number)
 
 -- The number is below the other one, if there is one.
-abbrev pub IsBelow : Option ℕ → ℕ → Type 0
-IsBelow None r = Unit {0}
-IsBelow (Some m) r = r < m
+abbrev pub IsLinkBelow : Option ℕ → ℕ → Type 0
+IsLinkBelow None r = Unit {0}
+IsLinkBelow (Some m) r = r < m
 
 module _ {L : Type 0} (a : Algebra L) where
   -- The standing of a node.
@@ -28,12 +28,12 @@ module _ {L : Type 0} (a : Algebra L) where
   pub record IsGreatest (nodes : List (Held L)) (v : ℕ) (m : Option ℕ) (i : ℕ) : Type 0 where
     pub held : Held L
     pub is : IsKeptAt nodes v i held
-    pub below : IsBelow m (rank i held)
-    pub most : (k : ℕ) (h : Held L) → IsKeptAt nodes v k h → IsBelow m (rank k h) → rank k h ≤ rank i held
+    pub below : IsLinkBelow m (rank i held)
+    pub most : (k : ℕ) (h : Held L) → IsKeptAt nodes v k h → IsLinkBelow m (rank k h) → rank k h ≤ rank i held
 
   -- The kept node of the vertex that comes next below a rank, or first where none is given.
   abbrev pub IsNext : List (Held L) → ℕ → Option ℕ → Option ℕ → Type 0
-  IsNext nodes v m None = (k : ℕ) (h : Held L) → IsKeptAt nodes v k h → IsBelow m (rank k h) → ⊥
+  IsNext nodes v m None = (k : ℕ) (h : Held L) → IsKeptAt nodes v k h → IsLinkBelow m (rank k h) → ⊥
   IsNext nodes v m (Some i) = IsGreatest nodes v m i
 
   -- There is a link for each node. The head of each vertex is its first kept node, and the link of a kept node is the next one of its

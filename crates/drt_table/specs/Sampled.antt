@@ -1,6 +1,6 @@
 -- The samples that an arena keeps of its nodes' labels, where their kind isn't a chain.
 use Rattle.std.specs.Prelude.{◌≡◌, ℕ, suc, ◌<◌, ◌≤◌, ◌==◌, false, Some, List, [], ◌∷◌, length, map, slice_get, take, if◌then◌else◌}
-use Rattle.drt_columns.specs.Entries.{Entry}
+use Rattle.drt_columns.specs.Entries.{KeptLabel}
 use Rattle.drt_columns.specs.Shelf.{Shelf, entries}
 use Rattle.drt_label.specs.Algebra.{Algebra}
 use Rattle.drt_table.specs.Node.{Held}
@@ -11,7 +11,7 @@ labels_of nodes = map (λ h. h.node.label) nodes
 
 module _ {L : Type 0} (a : Algebra L) where
   -- The entries of a vertex's labels, in order, where the first label of the list has the number i.
-  abbrev pub sampled_from : ℕ → ℕ → List L → List Entry
+  abbrev pub sampled_from : ℕ → ℕ → List L → List KeptLabel
   sampled_from v i [] = []
   sampled_from v i (l ∷ ls) = if a.vertex l == v then record { number = i; samples = a.samples l } ∷ sampled_from v (suc i) ls else sampled_from v (suc i) ls
 

@@ -2,7 +2,7 @@
 use Rattle.std.specs.Prelude.{◌≡◌, ℕ, ◌<◌, Bool, true, false, [], ◌∷◌, ◌++◌, length}
 use Rattle.drt_label.specs.Algebra.{Algebra}
 use Rattle.drt_table.specs.Drive.{IsDriven, StopsAt}
-use Rattle.drt_table.specs.View.{View, setting_of, state_of, CanApply, IsStep}
+use Rattle.drt_table.specs.View.{View, setting_of, state_of, CanApply, IsTableStep}
 use Rattle.drt_table.specs.declared.step.TableStep.{TableStep}
 use Rattle.drt_table.specs.declared.step.TableReply.{TableReply}
 use Rattle.drt_table.specs.declared.step.TableReply.TheVariants.{Taken, Busy, Finished, Added, Dominated, OutOfRange, Closed, Spent}
@@ -12,7 +12,7 @@ pub record Went {L : Type 0} (a : Algebra L) (w : ℕ) (old new : View L) (r : T
   pub worker : ℕ
   pub step : TableStep
   pub can : CanApply a old worker step
-  pub is_step : IsStep a old new worker step r
+  pub is_step : IsTableStep a old new worker step r
   pub room : length old.log < old.budget
   pub log : new.log ≡ old.log ++ record { worker = worker; step = step } ∷ []
   pub driven : IsDriven a (setting_of old) w (state_of old) worker step

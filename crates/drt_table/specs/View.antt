@@ -1,7 +1,7 @@
 -- What contracts see of a table.
 use Rattle.std.specs.Prelude.{◌≡◌, ℕ, ◌≤◌, Bool, true, IsTrue, Option, Some, None, List, [], ◌∷◌, ◌++◌, map, slice_get, ◌&&◌, ◌==◌}
 use Rattle.drt_label.specs.Algebra.{Algebra}
-use Rattle.drt_model.specs.Digraph.{Digraph, IsSound}
+use Rattle.drt_model.specs.Digraph.{Digraph, IsSoundGraph}
 use Rattle.drt_table.specs.Node.{NodeOf, Held, is_kept}
 use Rattle.drt_table.specs.Machine.{Setting, State, Outcome, IsRun, replay, CanStep, step_of, extended}
 use Rattle.drt_table.specs.declared.step.TableStep.{TableStep}
@@ -29,7 +29,7 @@ module _ {L : Type 0} (v : View L) where
 
 -- What the type keeps: the log is a run, and the state is that after it.
 pub record IsTable {L : Type 0} (a : Algebra L) (v : View L) : Type 0 where
-  pub sound : IsSound v.graph
+  pub sound : IsSoundGraph v.graph
   pub bound : IsTrue (a.takes_bound v.bound)
   pub budget : v.budget ≤ 1000000
   pub run : IsRun a (setting_of v) v.log
@@ -66,7 +66,7 @@ module _ {L : Type 0} (a : Algebra L) (v : View L) where
   outcome w step = step_of a (setting_of v) (state_of v) w step
 
 -- One step of the machine, from old to new, with its reply.
-pub record IsStep {L : Type 0} (a : Algebra L) (old new : View L) (w : ℕ) (step : TableStep) (reply : TableReply) : Type 0 where
+pub record IsTableStep {L : Type 0} (a : Algebra L) (old new : View L) (w : ℕ) (step : TableStep) (reply : TableReply) : Type 0 where
   pub setting : setting_of new ≡ setting_of old
   pub state : state_of new ≡ (outcome a old w step).state
   pub reply_is : reply ≡ (outcome a old w step).reply

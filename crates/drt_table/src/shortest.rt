@@ -1,7 +1,7 @@
 //! The least separation of a graph.
 
 ghost use Rattle.std.specs.Prelude.{◌≡◌, ◌<◌, true, length};
-ghost use Rattle.drt_model.specs.Digraph.{IsSound, vertex_count, out_edges};
+ghost use Rattle.drt_model.specs.Digraph.{IsSoundGraph, vertex_count, out_edges};
 ghost use Rattle.drt_table.specs.Machine.{shortest};
 ghost use Rattle.drt_table.specs.Earliest.{smaller, least_of};
 

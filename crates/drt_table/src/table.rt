@@ -2,7 +2,7 @@
 
 ghost use Rattle.std.specs.Prelude.{◌≡◌, ℕ, ◌+◌, ◌≤◌, ◌<◌, ◌++◌, ◌∷◌, [], true, Some, slice_get, length, IfOk, IfSome, IsTrue, map, nat_le, replicate, vec_capacity};
 ghost use Rattle.std.specs.Prelude.{None, if◌then◌else◌};
-ghost use Rattle.drt_table.specs.View.{View, IsTable, setting_of, state_of, spares_of, CanApply, ComesWith, IsStep};
+ghost use Rattle.drt_table.specs.View.{View, IsTable, setting_of, state_of, spares_of, CanApply, ComesWith, IsTableStep};
 ghost use Rattle.drt_table.specs.Machine.{opening_state, extended};
 ghost use Rattle.drt_worklist.specs.Places.{changed};
 ghost use Rattle.drt_table.specs.Node.{NodeOf, Held, is_taken};
@@ -131,7 +131,7 @@ impl<L: Label> Table<L> {
     pub fn apply(&mut self, worker: u32, step: TableStep, label: Option<Twin<L>>) -> TableReply
         requires can { CanApply L.algebra self.old worker step }
         requires comes { ComesWith L.algebra self.old step label }
-        ensures { IsStep L.algebra self.old self.new worker step result }
+        ensures { IsTableStep L.algebra self.old self.new worker step result }
     {
         match step {
             TableStep::Take => self.take(worker),
@@ -158,7 +158,7 @@ impl<L: Label> Table<L> {
     // The step Take.
     pub(crate) fn take(&mut self, worker: u32) -> TableReply
         requires { CanApply L.algebra self.old worker TableStep.Take }
-        ensures { IsStep L.algebra self.old self.new worker TableStep.Take result }
+        ensures { IsTableStep L.algebra self.old self.new worker TableStep.Take result }
     {
         let next = self.arena.next();
         let holder = self.arena.holder();
@@ -185,7 +185,7 @@ impl<L: Label> Table<L> {
     pub(crate) fn offer(&mut self, worker: u32, node: u32, edge: u32, twin: Twin<L>) -> TableReply
         requires can { CanApply L.algebra self.old worker (TableStep.Offer node edge) }
         requires comes { (n : NodeOf L) × (slice_get (state_of self.old).nodes node ≡ Some n) × (twin ≡ extended L.algebra (setting_of self.old) n.label edge) }
-        ensures { IsStep L.algebra self.old self.new worker (TableStep.Offer node edge) result }
+        ensures { IsTableStep L.algebra self.old self.new worker (TableStep.Offer node edge) result }
     {
         if self.log.len() as u64 >= self.budget {
             return TableReply::Spent;
@@ -207,7 +207,7 @@ impl<L: Label> Table<L> {
     // The step Close.
     pub(crate) fn close(&mut self, worker: u32, node: u32) -> TableReply
         requires { CanApply L.algebra self.old worker (TableStep.Close node) }
-        ensures { IsStep L.algebra self.old self.new worker (TableStep.Close node) result }
+        ensures { IsTableStep L.algebra self.old self.new worker (TableStep.Close node) result }
     {
         if self.log.len() as u64 >= self.budget {
             return TableReply::Spent;

@@ -1,7 +1,7 @@
 //! What holds after any run.
 
 ghost use Rattle.std.specs.Prelude.{◌≡◌, ℕ, ◌+◌, ◌*◌, ◌<◌, ◌≤◌, IsTrue, List, length, false};
-ghost use Rattle.drt_model.specs.Digraph.{IsSound};
+ghost use Rattle.drt_model.specs.Digraph.{IsSoundGraph};
 ghost use Rattle.drt_table.specs.Cover.{IsFront};
 ghost use Rattle.drt_table.specs.Facts.{Facts, Order};
 ghost use Rattle.drt_table.specs.Machine.{Setting, IsRun, replay, is_finished};
@@ -19,13 +19,13 @@ use drt_label::Label;
 ///
 /// The function does nothing: its contract is a theorem.
 pub fn over_every_interleaving<L: Label>()
-    ensures facts { (t : Setting) (log : _) → IsSound t.graph → IsRun L.algebra t log → Facts L.algebra t (replay L.algebra t log).nodes }
-    ensures order { (t : Setting) (log : _) → IsSound t.graph → IsRun L.algebra t log → Order L.algebra t (replay L.algebra t log).nodes }
-    ensures front { (t : Setting) (log : _) → IsSound t.graph → IsTrue (L.algebra.takes_bound t.bound) → IsRun L.algebra t log → IsTrue (is_finished L.algebra t (replay L.algebra t log))
+    ensures facts { (t : Setting) (log : _) → IsSoundGraph t.graph → IsRun L.algebra t log → Facts L.algebra t (replay L.algebra t log).nodes }
+    ensures order { (t : Setting) (log : _) → IsSoundGraph t.graph → IsRun L.algebra t log → Order L.algebra t (replay L.algebra t log).nodes }
+    ensures front { (t : Setting) (log : _) → IsSoundGraph t.graph → IsTrue (L.algebra.takes_bound t.bound) → IsRun L.algebra t log → IsTrue (is_finished L.algebra t (replay L.algebra t log))
         → IsFront L.algebra t (replay L.algebra t log).nodes }
-    ensures bounded { (t : Setting) (log : _) → IsSound t.graph → IsTrue (L.algebra.takes_bound t.bound) → IsRun L.algebra t log → IsBounded (replay L.algebra t log) }
-    ensures short { (t : Setting) (log : _) (g : ℕ) → IsSound t.graph → IsTrue (L.algebra.takes_bound t.bound) → IsRun L.algebra t log → IsDegree L.algebra t g
+    ensures bounded { (t : Setting) (log : _) → IsSoundGraph t.graph → IsTrue (L.algebra.takes_bound t.bound) → IsRun L.algebra t log → IsBounded (replay L.algebra t log) }
+    ensures short { (t : Setting) (log : _) (g : ℕ) → IsSoundGraph t.graph → IsTrue (L.algebra.takes_bound t.bound) → IsRun L.algebra t log → IsDegree L.algebra t g
         → IsShort L.algebra t g (replay L.algebra t log) }
-    ensures slots { (t : Setting) (log : _) (slot : L → ℕ) (many : ℕ) → IsSound t.graph → IsTrue (L.algebra.takes_bound t.bound) → IsRun L.algebra t log
+    ensures slots { (t : Setting) (log : _) (slot : L → ℕ) (many : ℕ) → IsSoundGraph t.graph → IsTrue (L.algebra.takes_bound t.bound) → IsRun L.algebra t log
         → AreSlots L.algebra t slot many → kept_count (replay L.algebra t log).nodes ≤ many }
 {}

@@ -5,7 +5,7 @@ use Rattle.std.specs.List.{range_with_len}
 use Rattle.std.proofs.lemmas.List.{get_or_default}
 use Rattle.std.proofs.lemmas.List.Elements.{All-weaker}
 use Rattle.std.proofs.lemmas.List.FromFn.{get_or-map-range_with_len, length-map-range_with_len}
-use Rattle.drt_model.specs.Digraph.{Digraph, IsSound, digraph_of, edge_of, out_degree, vertex_count}
+use Rattle.drt_model.specs.Digraph.{Digraph, IsSoundGraph, digraph_of, edge_of, out_degree, vertex_count}
 use Rattle.drt_model.specs.Walk.{IsEdge, gap, last_of, span, wcet}
 use Rattle.drt_model.specs.Legal.{AllNeighbours}
 use Rattle.drt_model.specs.declared.front.FrontEntry.{FrontEntry}
@@ -32,7 +32,7 @@ record HasJump (front : List FrontEntry) (u o w : ℕ) : Type 0 where
   early : (get_or (jumps_at front u) place no_jump).offset ≤ o
   enough : w ≤ (get_or (jumps_at front u) place no_jump).work
 
-module _ (g h : Digraph) (bound : ℕ) (sound : IsSound g) (turned : IsTurned g h) (some : 1 ≤ bound) (front : List FrontEntry) (is : IsMergedFront h bound front) where
+module _ (g h : Digraph) (bound : ℕ) (sound : IsSoundGraph g) (turned : IsTurned g h) (some : 1 ≤ bound) (front : List FrontEntry) (is : IsMergedFront h bound front) where
   has_jump : (u o w : ℕ) → IsWalkEntry h bound (record { vertex = u; offset = o; work = w }) → HasJump front u o w
   has_jump u o w walk = go (is.covers (record { vertex = u; offset = o; work = w }) walk)
     where
@@ -136,11 +136,11 @@ module _ (g h : Digraph) (bound : ℕ) (sound : IsSound g) (turned : IsTurned g 
     attained_is u l = subst (All (IsAttainedAt g u)) (sym (curve_at u l)) (All-weaker (IsOfEntry front u) (IsAttainedAt g u) (attained_at u) (jumps_at front u) (of_entries front u))
 
 -- What the front of the turned graph says of the tail that is cut from it.
-pub found : (g h : Digraph) (graphs : List Digraph) (bound : ℕ) (front : List FrontEntry) (tail : TailClaim) → IsSound g → AreTurnedGraphs g graphs → h ≡ graph_of graphs 0 → IsSound h → 1 ≤ bound → IsMergedFront h bound front
+pub found : (g h : Digraph) (graphs : List Digraph) (bound : ℕ) (front : List FrontEntry) (tail : TailClaim) → IsSoundGraph g → AreTurnedGraphs g graphs → h ≡ graph_of graphs 0 → IsSoundGraph h → 1 ≤ bound → IsMergedFront h bound front
     → tail.curves ≡ map (jumps_at front) (range_with_len 0 (vertex_count g)) → IsTail bound g tail × BoundsWalks bound g tail × IsAttained g tail
 found g h graphs bound front tail sound are named named_sound some is cut =
     let e : h ≡ digraph_of are.task = named ∙ ap (λ (xs : List Digraph). graph_of xs 0) are.are in
-    let turned : IsTurned g h = subst (IsTurned g) (sym e) (turned_is g sound are.task are.turned (subst IsSound e named_sound)) in (
+    let turned : IsTurned g h = subst (IsTurned g) (sym e) (turned_is g sound are.task are.turned (subst IsSoundGraph e named_sound)) in (
       tail_is g h bound sound turned some front is tail cut,
       bounds_is g h bound sound turned some front is tail cut,
       attained_is g h bound sound turned some front is tail cut,

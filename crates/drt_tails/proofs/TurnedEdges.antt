@@ -10,7 +10,7 @@ use native.Mathlib.Decide.{dec_lt}
 use Rattle.drt_model.specs.declared.tasks.Vertex.{Vertex}
 use Rattle.drt_model.specs.declared.tasks.Edge.{Edge}
 use Rattle.drt_model.specs.declared.tasks.Task.{Task}
-use Rattle.drt_model.specs.Digraph.{Digraph, IsSound, digraph_of, edges_from, edge_of, no_edge, no_vertex, out_degree, out_edges, vertex_count}
+use Rattle.drt_model.specs.Digraph.{Digraph, IsSoundGraph, digraph_of, edges_from, edge_of, no_edge, no_vertex, out_degree, out_edges, vertex_count}
 use Rattle.drt_model.specs.Walk.{deadline, sep}
 use Rattle.drt_model.proofs.Neighbours.{kept}
 use Rattle.drt_graph.proofs.Edges.{edge_of_sep, sep_of_edge, source_of, target_of}
@@ -57,7 +57,7 @@ urgent_works [] (suc v) = refl
 urgent_works (x ∷ vertices) zero = refl
 urgent_works (x ∷ vertices) (suc v) = urgent_works vertices v
 
-module _ (g : Digraph) (sound : IsSound g) (t : Task) (is : IsTurnedTask g t) (kept_sound : IsSound (digraph_of t)) where
+module _ (g : Digraph) (sound : IsSoundGraph g) (t : Task) (is : IsTurnedTask g t) (kept_sound : IsSoundGraph (digraph_of t)) where
   same_count : vertex_count (digraph_of t) ≡ vertex_count g
   same_count = ap length is.vertices ∙ length-map g.vertices urgent
 

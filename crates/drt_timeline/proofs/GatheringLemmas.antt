@@ -17,7 +17,7 @@ use Rattle.drt_replay.specs.Board.{IsFinishSoFar}
 use Rattle.drt_timeline.specs.declared.event.Event.{Event}
 use Rattle.drt_timeline.specs.declared.event.Mark.{Mark}
 use Rattle.drt_timeline.specs.declared.event.Mark.TheVariants.{Finish, Deadline, Miss, Release}
-use Rattle.drt_timeline.specs.Events.{AreEvents, Happens, IsBefore, IsEvent, mark_rank}
+use Rattle.drt_timeline.specs.Events.{AreEvents, Happens, IsEventBefore, IsEvent, mark_rank}
 use Rattle.drt_timeline.specs.Gathering.{deadline_events, deadline_mark, finish_events, job_events, order_cmp, order_of, release_events}
 
 -- Two events are of one kind and of one job.
@@ -274,7 +274,7 @@ then_assoc Equal b c = refl
 then_assoc Greater b c = refl
 
 in_order_if : (e f : Event) → is_lt (ordering_then (ordering_then (nat_cmp f.time e.time) (nat_cmp (mark_rank f.mark) (mark_rank e.mark))) (nat_cmp f.job e.job)) ≡ false
-    → same_kind e f ≡ false → IsBefore e f
+    → same_kind e f ≡ false → IsEventBefore e f
 in_order_if e f h apart =
     let nested = then_assoc (nat_cmp f.time e.time) (nat_cmp (mark_rank f.mark) (mark_rank e.mark)) (nat_cmp f.job e.job) in
     not_less f.time e.time _ _ (sym (is_lt-then f.time e.time (ordering_then (nat_cmp (mark_rank f.mark) (mark_rank e.mark)) (nat_cmp f.job e.job))) ∙ sym (ap is_lt nested) ∙ h)

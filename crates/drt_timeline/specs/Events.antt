@@ -29,8 +29,8 @@ mark_rank Miss = 2
 mark_rank Release = 3
 
 -- The first event comes before the second: by time, then by what it is, then by the job's place.
-abbrev pub IsBefore : Event → Event → Type 0
-IsBefore e f =
+abbrev pub IsEventBefore : Event → Event → Type 0
+IsEventBefore e f =
     (e.time < f.time)
     ⊎ ((e.time ≡ f.time) × ((mark_rank e.mark < mark_rank f.mark) ⊎ ((mark_rank e.mark ≡ mark_rank f.mark) × (e.job < f.job))))
 
@@ -38,4 +38,4 @@ IsBefore e f =
 pub record AreEvents (policy : Policy) (jobs : List Job) (until : ℕ) (events : List Event) : Type 0 where
   pub each : All (IsEvent policy jobs until) events
   pub all : (e : Event) → IsEvent policy jobs until e → Contains events e
-  pub in_order : AllNeighbours IsBefore events
+  pub in_order : AllNeighbours IsEventBefore events

@@ -6,7 +6,7 @@ use Rattle.drt_model.specs.Misses.{index_of}
 use Rattle.drt_model.specs.Schedulable.{jobs_of}
 
 -- What names jobs: the tasks and the releases.
-pub record Named : Type 0 where
+pub record JobNames : Type 0 where
   pub tasks : List Task
   pub releases : List Release
 

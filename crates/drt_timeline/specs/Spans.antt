@@ -13,17 +13,17 @@ pub record IsSpan (jobs : List Job) (until : ℕ) (s : Span) : Type 0 where
   pub here : s.job < length jobs
 
 -- The tick lies in the span.
-abbrev pub IsIn : ℕ → Span → Type 0
-IsIn i s = (s.start ≤ i) × (i < s.end)
+abbrev pub IsInSpan : ℕ → Span → Type 0
+IsInSpan i s = (s.start ≤ i) × (i < s.end)
 
 -- The second span comes after the first, and where it begins at once it is of another job.
-abbrev pub IsNext : Span → Span → Type 0
-IsNext s t = (s.end ≤ t.start) × (s.end ≡ t.start → s.job ≢ t.job)
+abbrev pub IsNextSpan : Span → Span → Type 0
+IsNextSpan s t = (s.end ≤ t.start) × (s.end ≡ t.start → s.job ≢ t.job)
 
 -- The spans are those of the ticks before `until`: in order, each as long as can be; in each the tick machine picks its job at every tick,
 -- and at a tick outside of all of them it is idle.
 pub record AreSpans (policy : Policy) (jobs : List Job) (until : ℕ) (spans : List Span) : Type 0 where
   pub each : All (IsSpan jobs until) spans
-  pub in_order : AllNeighbours IsNext spans
-  pub runs : All (λ s. (i : ℕ) → IsIn i s → pick policy jobs i ≡ Some s.job) spans
-  pub idle : (i : ℕ) → i < until → ¬ Any (IsIn i) spans → pick policy jobs i ≡ None
+  pub in_order : AllNeighbours IsNextSpan spans
+  pub runs : All (λ s. (i : ℕ) → IsInSpan i s → pick policy jobs i ≡ Some s.job) spans
+  pub idle : (i : ℕ) → i < until → ¬ Any (IsInSpan i) spans → pick policy jobs i ≡ None

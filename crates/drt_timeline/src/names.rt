@@ -19,9 +19,9 @@ pub struct Names<'a> {
 }
 
 impl<'a> Model for Names<'a> {
-    ghost use Rattle.drt_timeline.specs.Names.{AreIndices, Named};
+    ghost use Rattle.drt_timeline.specs.Names.{AreIndices, JobNames};
 
-    ghost Value = { Named };
+    ghost Value = { JobNames };
 
     ghost view = { λ n. record { tasks = n.tasks.now; releases = n.releases.now } };
 

@@ -1,6 +1,6 @@
 //! Spans of ticks.
 ghost use Rattle.std.specs.Prelude.{◌↔◌, IsTrue, OnOk};
-ghost use Rattle.drt_timeline.specs.Joining.{Adjoins, IsGrown};
+ghost use Rattle.drt_timeline.specs.Joining.{Adjoins, IsSpanGrown};
 
 use drt_model::Memory;
 
@@ -15,7 +15,7 @@ pub struct Span {
 
 /// Adds a span, as one with the last where that is of the same job and ends where the new one starts.
 pub(crate) fn push_span(spans: &mut Vec<Span>, span: Span) -> Result<(), Memory>
-    ensures { OnOk result (IsGrown spans.old.items span spans.new.items) }
+    ensures { OnOk result (IsSpanGrown spans.old.items span spans.new.items) }
 {
     let count = spans.len();
     if count > 0 && adjoins(spans[count - 1], span) {

@@ -3,8 +3,8 @@ ghost use Rattle.std.specs.Prelude.{◌≡◌, ◌≢◌, ◌<◌, ◌≤◌, �
 ghost use Rattle.drt_io.specs.Causes.{Rose};
 ghost use Rattle.drt_command.specs.declared.input.Input.{Input};
 ghost use Rattle.drt_command.specs.Inputs.{AtInput};
-ghost use Rattle.drt_command.specs.Runs.{IsComplete, IsCutShort, IsRun, Writes};
-ghost use Rattle.drt_outcome.specs.Stops.{IsRefusal, IsStatus, fault_status};
+ghost use Rattle.drt_command.specs.Runs.{IsCompleteRun, IsCutShort, IsRun, Writes};
+ghost use Rattle.drt_outcome.specs.Stops.{IsRefusalStatus, IsStatus, fault_status};
 ghost use Rattle.drt_words.specs.declared.meaning.Meaning.{Meaning};
 ghost use Rattle.drt_words.specs.Meaning.{meaning_of};
 ghost use Rattle.drt_top.specs.commands.{rules_of};
@@ -54,7 +54,7 @@ pub fn run<S: Source, K: Sink, G: Gate, R: Threads + Wait + Sync>(
         → AtInput (rules_of m).input (S.left source.old) (λ bytes. Writes (rules_of m) bytes result.status result.trail (K.held sink.old) (K.held sink.new)) }
 
     // Every other end has its cause.
-    ensures refused { (m : Meaning) → meaning_of (map string_bytes words.now) ≡ Some m → IsRefusal result.status
+    ensures refused { (m : Meaning) → meaning_of (map string_bytes words.now) ≡ Some m → IsRefusalStatus result.status
         → AtInput (rules_of m).input (S.left source.old) (λ bytes. (rules_of m).refuses bytes result.fault) }
     ensures words { result.status ≡ 5 → meaning_of (map string_bytes words.now) ≡ None }
     ensures read { result.status ≡ 6 → Rose (S.faults source.old) (S.faults source.new) }
@@ -73,11 +73,11 @@ pub fn run<S: Source, K: Sink, G: Gate, R: Threads + Wait + Sync>(
     ensures complete { (m : Meaning) → meaning_of (map string_bytes words.now) ≡ Some m
         → ¬ Rose (S.faults source.old) (S.faults source.new)
         → ¬ Rose (K.faults sink.old) (K.faults sink.new)
-        → AtInput (rules_of m).input (S.left source.old) (λ bytes. IsComplete (rules_of m) bytes result.status result.fault) }
+        → AtInput (rules_of m).input (S.left source.old) (λ bytes. IsCompleteRun (rules_of m) bytes result.status result.fault) }
 
     // A fault stands in the outcome of a refused input alone, with the status of its kind, and a trail in that of a text that was written.
-    ensures fault { ¬ IsRefusal result.status → result.fault ≡ Fault.Nothing }
-    ensures kind { IsRefusal result.status → result.status ≡ fault_status result.fault }
+    ensures fault { ¬ IsRefusalStatus result.status → result.fault ≡ Fault.Nothing }
+    ensures kind { IsRefusalStatus result.status → result.status ≡ fault_status result.fault }
     ensures trail { 4 ≤ result.status → result.trail ≡ Trail.Nothing }
 {
     match words_of(alloc, words) {

@@ -2,7 +2,7 @@
 use Rattle.std.proofs.Common.{◌≡◌, ℕ, ◌+◌, ◌<◌, ◌≤◌, Bool, true, false, cond, Option, Some, List, [], ◌∷◌, sym, ap, ◌∙◌, subst, arith}
 use Rattle.std.proofs.lemmas.Option.{none-some, same_Some}
 use Rattle.drt_tree.specs.Shape.{Shape, one, two, parts, pairs, root_of, Stands}
-use Rattle.drt_tree.specs.Tree.{Plain, children, Leads, IsUnder}
+use Rattle.drt_tree.specs.Tree.{Plain, children, LeadsToLeaf, IsUnder}
 
 -- a node has no other children than its own
 same_pair : (l r l' r' : ℕ) (o : Option (ℕ × ℕ)) → o ≡ Some (l, r) → o ≡ Some (l', r') → (l ≡ l') × (r ≡ r')
@@ -13,21 +13,21 @@ same_pair l r l' r' o e g =
     (ap (λ (x : ℕ × ℕ). x.0) h, ap (λ (x : ℕ × ℕ). x.1) h)
 
 -- a range that goes on in one of two parts
-turn_range : (g : Plain) (a b a' b' low mid high leaf : ℕ) (turn : Bool) (turns : List Bool) → low ≤ mid → mid ≤ high → (a ≡ a') × (b ≡ b') → Leads g (cond turn a' b') turns leaf
-    → (Leads g a turns leaf → (low ≤ leaf) × (leaf < mid)) → (Leads g b turns leaf → (mid ≤ leaf) × (leaf < high)) → (low ≤ leaf) × (leaf < high)
+turn_range : (g : Plain) (a b a' b' low mid high leaf : ℕ) (turn : Bool) (turns : List Bool) → low ≤ mid → mid ≤ high → (a ≡ a') × (b ≡ b') → LeadsToLeaf g (cond turn a' b') turns leaf
+    → (LeadsToLeaf g a turns leaf → (low ≤ leaf) × (leaf < mid)) → (LeadsToLeaf g b turns leaf → (mid ≤ leaf) × (leaf < high)) → (low ≤ leaf) × (leaf < high)
 turn_range g a b a' b' low mid high leaf true turns le ge e h left right =
-    let r = left (subst (λ (n : ℕ). Leads g n turns leaf) (sym e.0) h) in
+    let r = left (subst (λ (n : ℕ). LeadsToLeaf g n turns leaf) (sym e.0) h) in
     let x : low ≤ leaf = r.0 in
     let y : leaf < mid = r.1 in
     (x, omega arith)
 turn_range g a b a' b' low mid high leaf false turns le ge e h left right =
-    let r = right (subst (λ (n : ℕ). Leads g n turns leaf) (sym e.1) h) in
+    let r = right (subst (λ (n : ℕ). LeadsToLeaf g n turns leaf) (sym e.1) h) in
     let x : mid ≤ leaf = r.0 in
     let y : leaf < high = r.1 in
     (omega arith, y)
 
 -- the leaves under the root of a tree have the numbers from low
-under_range : (g : Plain) (s : Shape) (low first : ℕ) → Stands g s low first → (turns : List Bool) (leaf : ℕ) → Leads g (root_of s low first) turns leaf → (low ≤ leaf) × (leaf < low + parts s)
+under_range : (g : Plain) (s : Shape) (low first : ℕ) → Stands g s low first → (turns : List Bool) (leaf : ℕ) → LeadsToLeaf g (root_of s low first) turns leaf → (low ≤ leaf) × (leaf < low + parts s)
 under_range g one low first h [] leaf l = let e : low ≡ leaf = l.0 in (omega arith, omega arith)
 under_range g one low first h (b ∷ turns) leaf l =
     let p : ℕ × ℕ = (l.0, l.1) in

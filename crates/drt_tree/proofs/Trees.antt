@@ -15,8 +15,8 @@ use Rattle.drt_request.specs.Request.{Request}
 use Rattle.drt_tree.specs.Leaf.{leaves_of, is_before}
 use Rattle.drt_tree.specs.declared.leaf.Leaf.{Leaf}
 use Rattle.drt_tree.specs.declared.node.Node.{Node}
-use Rattle.drt_tree.specs.Tree.{Plain, plain, IsForest, IsPair, IsUnder, Grows, HaveOneBound, children, children_of, leaves, leaves_of_node, values, Leads, leaf_node, leaf_steps, with_leaves}
-use Rattle.drt_tree.specs.Shape.{Shape, one, two, parts, pairs, root_of, Stands, IsBuilt, IsAdded}
+use Rattle.drt_tree.specs.Tree.{Plain, plain, IsForest, IsPair, IsUnder, Grows, HaveOneBound, children, children_of, leaves, leaves_of_node, values, LeadsToLeaf, leaf_node, leaf_steps, with_leaves}
+use Rattle.drt_tree.specs.Shape.{Shape, one, two, parts, pairs, root_of, Stands, IsBuilt, IsTreeAdded}
 use Rattle.drt_tree.proofs.Apart.{roots_apart}
 
 pub get_front : {A : Type 0} (xs ys : List A) (n : ℕ) → n < length xs → slice_get (xs ++ ys) n ≡ slice_get xs n
@@ -127,7 +127,7 @@ child_below f n l r t b k h =
     let e : length (values f l) ≡ length (values f r) = k.bound l r (omega arith) (omega arith) in
     subst (λ (z : List ℕ). slice_index (values f (cond b l r)) (t - 1) ≤ slice_index z (t - 1)) (sym p.most) (below_most f l r t b e)
 
-pub leaf_below : (f : Plain) (n : ℕ) (turns : List Bool) (leaf t : ℕ) → IsForest f → Leads f n turns leaf → value_at (values f leaf) t ≤ value_at (values f n) t
+pub leaf_below : (f : Plain) (n : ℕ) (turns : List Bool) (leaf t : ℕ) → IsForest f → LeadsToLeaf f n turns leaf → value_at (values f leaf) t ≤ value_at (values f n) t
 leaf_below f n [] leaf t k h = subst (λ (z : ℕ). value_at (values f z) t ≤ value_at (values f n) t) h.0 (omega arith)
 leaf_below f n (b ∷ turns) leaf t k h =
     let a : value_at (values f leaf) t ≤ value_at (values f (cond b h.0 h.1)) t = leaf_below f (cond b h.0 h.1) turns leaf t k h.3 in
@@ -273,7 +273,7 @@ turned_within : (f : Plain) (n l r : ℕ) (b : Bool) → n < length f.nodes → 
 turned_within f n l r true w p = let le : l < n = p.left in omega arith
 turned_within f n l r false w p = let le : r < n = p.right in omega arith
 
-leads_back : (f g : Plain) → Grows f g → IsForest f → (n : ℕ) (turns : List Bool) (leaf : ℕ) → n < length f.nodes → Leads g n turns leaf → Leads f n turns leaf
+leads_back : (f g : Plain) → Grows f g → IsForest f → (n : ℕ) (turns : List Bool) (leaf : ℕ) → n < length f.nodes → LeadsToLeaf g n turns leaf → LeadsToLeaf f n turns leaf
 leads_back f g a k n [] leaf w h = (h.0, sym (children_stay f g n a w) ∙ h.1)
 leads_back f g a k n (b ∷ turns) leaf w h =
     let e : children f n ≡ Some (h.0, h.1) = sym (children_stay f g n a w) ∙ h.2 in
@@ -462,7 +462,7 @@ if_ok_more P Q (Err e) f h = h
 pub plain_is : (nodes nodes2 : List Node) (pool pool2 : List (List ℕ)) → nodes ≡ nodes2 → pool ≡ pool2 → plain nodes pool ≡ plain nodes2 pool2
 plain_is nodes nodes2 pool pool2 a b = ap (λ z. plain z pool) a ∙ ap (λ z. plain nodes2 z) b
 
-pub added : (f p g : Plain) (ls sorted : List Leaf) (low count root : ℕ) → p ≡ with_leaves f sorted → IsPermutation ls sorted → IsSortedBy is_before sorted → low ≡ length f.nodes → count ≡ length ls → Grows p g → IsBuilt p g low count root → IsAdded f g ls root
+pub added : (f p g : Plain) (ls sorted : List Leaf) (low count root : ℕ) → p ≡ with_leaves f sorted → IsPermutation ls sorted → IsSortedBy is_before sorted → low ≡ length f.nodes → count ≡ length ls → Grows p g → IsBuilt p g low count root → IsTreeAdded f g ls root
 added f p g ls sorted low count root e perm order el ec gr b =
     let b1 : IsBuilt (with_leaves f sorted) g low count root = subst (λ (z : Plain). IsBuilt z g low count root) e b in
     let b2 : IsBuilt (with_leaves f sorted) g (length f.nodes) count root = subst (λ (z : ℕ). IsBuilt (with_leaves f sorted) g z count root) el b1 in

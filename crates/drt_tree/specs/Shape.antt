@@ -21,9 +21,9 @@ pairs one = 0
 pairs (two l r) = pairs l + pairs r + 1
 
 -- The leaves of each pair were halved: its left tree has as many as its right one, or one more.
-abbrev pub IsHalved : Shape → Type 0
-IsHalved one = Unit {0}
-IsHalved (two l r) = IsHalved l × IsHalved r × (parts r ≤ parts l) × (parts l ≤ parts r + 1)
+abbrev pub IsHalvedShape : Shape → Type 0
+IsHalvedShape one = Unit {0}
+IsHalvedShape (two l r) = IsHalvedShape l × IsHalvedShape r × (parts r ≤ parts l) × (parts l ≤ parts r + 1)
 
 -- The number of a tree's root, where its leaves have the numbers from low and its pairs those from first.
 abbrev pub root_of : Shape → ℕ → ℕ → ℕ
@@ -44,14 +44,14 @@ pub record IsBuilt (f g : Plain) (low count root : ℕ) : Type 0 where
   pub within : root < length g.nodes
   pub count_is : leaves g root ≡ count
   pub shape : Shape
-  pub halved : IsHalved shape
+  pub halved : IsHalvedShape shape
   pub parts_are : parts shape ≡ count
   pub stands : Stands g shape low (length f.nodes)
   pub root_is : root ≡ root_of shape low (length f.nodes)
 
 -- The tree of some leaves is new in the second forest: the leaves, put in their order, have the first new numbers, and the
 -- tree is built over them.
-pub record IsAdded (f g : Plain) (ls : List Leaf) (root : ℕ) : Type 0 where
+pub record IsTreeAdded (f g : Plain) (ls : List Leaf) (root : ℕ) : Type 0 where
   pub sorted : List Leaf
   pub permutation : IsPermutation ls sorted
   pub order : IsSortedBy is_before sorted

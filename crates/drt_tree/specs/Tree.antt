@@ -53,13 +53,13 @@ pub record IsPair (f : Plain) (n l r : ℕ) : Type 0 where
   pub most : values f n ≡ max_of (values f l) (values f r)
 
 -- From a node, left or right at each turn, to a leaf.
-abbrev pub Leads : Plain → ℕ → List Bool → ℕ → Type 0
-Leads f n [] leaf = (n ≡ leaf) × (children f n ≡ None)
-Leads f n (b ∷ turns) leaf = (l : ℕ) × (r : ℕ) × (children f n ≡ Some (l, r)) × Leads f (cond b l r) turns leaf
+abbrev pub LeadsToLeaf : Plain → ℕ → List Bool → ℕ → Type 0
+LeadsToLeaf f n [] leaf = (n ≡ leaf) × (children f n ≡ None)
+LeadsToLeaf f n (b ∷ turns) leaf = (l : ℕ) × (r : ℕ) × (children f n ≡ Some (l, r)) × LeadsToLeaf f (cond b l r) turns leaf
 
 -- The leaf is under the node.
 abbrev pub IsUnder : Plain → ℕ → ℕ → Type 0
-IsUnder f leaf n = (turns : List Bool) × Leads f n turns leaf
+IsUnder f leaf n = (turns : List Bool) × LeadsToLeaf f n turns leaf
 
 -- No leaf is under both children of a node.
 abbrev pub AreApart : Plain → Type 0

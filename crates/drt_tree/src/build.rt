@@ -2,7 +2,7 @@
 ghost use Rattle.std.specs.Prelude.{◌≡◌, ℕ, ◌+◌, ◌≤◌, ◌<◌, ◌*◌, ◌++◌, length, map, None, IfOk};
 ghost use Rattle.std.specs.Result.{OnErr, OnOk};
 ghost use Rattle.drt_tree.specs.Tree.{IsForest, Grows, HaveOneBound, children, plain, leaf_node, leaf_steps};
-ghost use Rattle.drt_tree.specs.Shape.{IsAdded, IsBuilt};
+ghost use Rattle.drt_tree.specs.Shape.{IsTreeAdded, IsBuilt};
 ghost use Rattle.drt_tree.specs.Leaf.{leaves_of};
 
 use crate::leaf::{Leaf, gather, sort_leaves};
@@ -80,7 +80,7 @@ fn grow_tree(
     requires bound { HaveOneBound pool.old.items (leaves_of labels.now walks.now) }
     requires room { length nodes.old.items + 2 * length labels.now ≤ 4294967295 }
     ensures grows { Grows (plain nodes.old.items pool.old.items) (plain nodes.new.items pool.new.items) }
-    ensures added { IfOk result (λ root. IsAdded (plain nodes.old.items pool.old.items) (plain nodes.new.items pool.new.items) (leaves_of labels.now walks.now) root) }
+    ensures added { IfOk result (λ root. IsTreeAdded (plain nodes.old.items pool.old.items) (plain nodes.new.items pool.new.items) (leaves_of labels.now walks.now) root) }
 {
     let mut leaves = gather(alloc, labels, walks)?;
     sort_leaves(&mut leaves)?;
@@ -104,7 +104,7 @@ pub fn add_tree(
     requires bound { HaveOneBound pool.old.items (leaves_of labels.now walks.now) }
     requires room { length nodes.old.items + 2 * length labels.now ≤ 4294967295 }
     ensures forest { IsForest (plain nodes.new.items pool.new.items) }
-    ensures added { IfOk result (λ root. IsAdded (plain nodes.old.items pool.old.items) (plain nodes.new.items pool.new.items) (leaves_of labels.now walks.now) root) }
+    ensures added { IfOk result (λ root. IsTreeAdded (plain nodes.old.items pool.old.items) (plain nodes.new.items pool.new.items) (leaves_of labels.now walks.now) root) }
     ensures err { OnErr result (plain nodes.new.items pool.new.items ≡ plain nodes.old.items pool.old.items) }
 {
     let old_nodes = nodes.len();

@@ -3,7 +3,7 @@ ghost use Rattle.std.specs.Prelude.{◌≡◌, ℕ, ◌+◌, ◌*◌, ◌≤◌,
 ghost use Rattle.std.specs.Result.{OnErr};
 ghost use Rattle.drt_steps.specs.Values.{value_at};
 ghost use Rattle.drt_tree.specs.Leaf.{leaves_of};
-ghost use Rattle.drt_tree.specs.Shape.{IsAdded};
+ghost use Rattle.drt_tree.specs.Shape.{IsTreeAdded};
 ghost use Rattle.drt_tree.specs.Tree.{IsForest, IsUnder, HaveOneBound, children, leaves, walk, values};
 
 use crate::build::add_tree;
@@ -57,7 +57,7 @@ impl Forest {
         requires some { 1 ≤ length labels.now }
         requires bound { HaveOneBound self.old.pool (leaves_of labels.now walks.now) }
         requires room { length self.old.nodes + 2 * length labels.now ≤ 4294967295 }
-        ensures added { IfOk result (λ root. IsAdded self.old self.new (leaves_of labels.now walks.now) root) }
+        ensures added { IfOk result (λ root. IsTreeAdded self.old self.new (leaves_of labels.now walks.now) root) }
         ensures err { OnErr result (self.new ≡ self.old) }
     {
         add_tree(alloc, &mut self.nodes, &mut self.pool, labels, walks)

@@ -2,7 +2,7 @@
 use Rattle.std.proofs.Common.{◌≡◌, ◌≢◌, ℕ, zero, suc, ◌+◌, ◌<◌, ◌≤◌, max, refl, subst, arith}
 use mathlib.Core.Logic.{dite}
 use native.Mathlib.Decide.{ℕ_discrete, dec_le, dec_lt}
-use Rattle.drt_wave.specs.Net.{Net, IsNet, Among, Reaches, Reached, IsBest}
+use Rattle.drt_wave.specs.Net.{Net, IsNet, Among, Reaches, Reached, IsGreatestReaching}
 use Rattle.drt_wave.specs.Lanes.{most}
 use Rattle.drt_wave.proofs.Sums.{among_most, most_among}
 
@@ -11,11 +11,11 @@ pub positive : (g : Net) (n c x : ℕ) → Reaches g n c x → 0 < x
 positive g zero c x r = r.1
 positive g (suc n) c x r = let y = positive g n r.0 r.1 r.4 in omega (arith, r.6)
 
-best_least : (g : Net) (c x y : ℕ) → IsBest g c x → IsBest g c y → x ≤ y
+best_least : (g : Net) (c x y : ℕ) → IsGreatestReaching g c x → IsGreatestReaching g c y → x ≤ y
 best_least g c x y is other = dite (ℕ_discrete x 0) (λ e. omega arith) (λ ne. other.1 x (is.0 ne))
 
 -- a cell has one greatest work
-pub best_same : (g : Net) (c x y : ℕ) → IsBest g c x → IsBest g c y → x ≡ y
+pub best_same : (g : Net) (c x y : ℕ) → IsGreatestReaching g c x → IsGreatestReaching g c y → x ≡ y
 best_same g c x y is other = let le = best_least g c x y is other in let ge = best_least g c y x other is in omega arith
 
 module _ (g : Net) (lawful : IsNet g) where
@@ -36,7 +36,7 @@ module _ (g : Net) (lawful : IsNet g) where
         (λ ne. let old = is.1 b y (omega (arith, ne)) comes in omega arith),
   )
 
-  next_most : (n c x : ℕ) → n < g.cells → IsMost n c x → (g.wave n < g.wave c → (z : ℕ) × IsBest g n z) → (t : ℕ) × IsMost (suc n) c t
+  next_most : (n c x : ℕ) → n < g.cells → IsMost n c x → (g.wave n < g.wave c → (z : ℕ) × IsGreatestReaching g n z) → (t : ℕ) × IsMost (suc n) c t
   next_most n c x lt is best = dite (dec_lt (g.wave n) (g.wave c))
       (λ early.
       let q = best early in let z : ℕ = q.0 in let w : ℕ = most c (g.arcs n) in
@@ -61,7 +61,7 @@ module _ (g : Net) (lawful : IsNet g) where
       ))))
       (λ late. (x, most_more n c x x is (omega arith) is.0 (λ y r. let on = lawful.onward n c r.2 lt r.4 in absurd (late on.2))))
 
-  all_most : (k c : ℕ) → ((b : ℕ) → b < g.cells → g.wave b < k → (z : ℕ) × IsBest g b z) → g.wave c ≤ k → (n : ℕ) → n ≤ g.cells → (t : ℕ) × IsMost n c t
+  all_most : (k c : ℕ) → ((b : ℕ) → b < g.cells → g.wave b < k → (z : ℕ) × IsGreatestReaching g b z) → g.wave c ≤ k → (n : ℕ) → n ≤ g.cells → (t : ℕ) × IsMost n c t
   all_most k c best low zero le = (0, (λ ne. absurd (ne refl), λ b y lt comes. absurd (omega (arith, lt))))
   all_most k c best low (suc n) le =
       let before = all_most k c best low n (omega arith) in
@@ -72,7 +72,7 @@ module _ (g : Net) (lawful : IsNet g) where
   reaches_least c t most_is zero y r = omega (arith, r.2)
   reaches_least c t most_is (suc n) y r = let le = most_is r.0 y r.3 (n, r.1, r.2, r.4, r.5, r.6) in omega arith
 
-  best_below : (k c : ℕ) → c < g.cells → g.wave c < k → (x : ℕ) × IsBest g c x
+  best_below : (k c : ℕ) → c < g.cells → g.wave c < k → (x : ℕ) × IsGreatestReaching g c x
   best_below zero c lt low = absurd (omega arith)
   best_below (suc k) c lt low =
       let m = all_most k c (best_below k) (omega arith) g.cells (omega arith) in
@@ -87,5 +87,5 @@ module _ (g : Net) (lawful : IsNet g) where
       )
 
   -- each cell has a greatest work
-  pub best_of : (c : ℕ) → c < g.cells → (x : ℕ) × IsBest g c x
+  pub best_of : (c : ℕ) → c < g.cells → (x : ℕ) × IsGreatestReaching g c x
   best_of c lt = best_below (suc (g.wave c)) c lt (omega arith)

@@ -11,7 +11,7 @@ use Rattle.drt_model.specs.Digraph.{vertex_count, out_edges, out_degree, edge_of
 use Rattle.drt_model.specs.Walk.{wcet, deadline}
 use Rattle.drt_wave.specs.declared.plan.Plan.{Plan}
 use Rattle.drt_wave.specs.Net.{IsNet, Among, Reaches, Reached}
-use Rattle.drt_wave.specs.Cells.{width, offsets, cell_at, arcs_from, net_of, IsPlan, WalkTo}
+use Rattle.drt_wave.specs.Cells.{width, offsets, cell_at, arcs_from, net_of, IsWavePlan, WalkTo}
 
 nat_le-yes : (a b : ℕ) → a ≤ b → nat_le a b ≡ true
 nat_le-yes a b h = grind (arith, nat_tests)
@@ -93,7 +93,7 @@ module _ (p : Plan) where
         ap (λ x. cell_at p x (first + k % n)) (div-mul-add v n i within) ∙ ap (λ x. cell_at p v (first + x)) (mod-mul-add v n i within) ∙ ap (λ x. cell_at p v x) split ∙ div-add-mod' c w,
       )
 
-  pub is_net : IsPlan p → IsNet (net_of p)
+  pub is_net : IsWavePlan p → IsNet (net_of p)
   is_net plan = record {
     onward = λ b t w lt a.
         let v : ℕ = b / width p in let s : ℕ = b % width p in
@@ -163,7 +163,7 @@ module _ (p : Plan) where
       )
 
   -- each in-range walk ends at a cell
-  pub of_walk : IsPlan p → (v : ℕ) (before : List ℕ) (s x : ℕ) → WalkTo p v before s x → (s ≤ p.bound) × (v < vertex_count p.graph) × Reached (net_of p) (cell_at p v s) x
+  pub of_walk : IsWavePlan p → (v : ℕ) (before : List ℕ) (s x : ℕ) → WalkTo p v before s x → (s ≤ p.bound) × (v < vertex_count p.graph) × Reached (net_of p) (cell_at p v s) x
   of_walk plan v [] s x walk =
       let at_zero : s ≡ 0 = walk.1 in
       let some_work = plan.sound.wcet v walk.0 in (

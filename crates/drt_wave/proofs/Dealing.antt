@@ -5,8 +5,8 @@ use Rattle.drt_wave.specs.declared.seat.WaveSeat.{WaveSeat}
 use Rattle.drt_wave.specs.declared.table.WaveTable.{WaveTable}
 use Rattle.drt_wave.specs.Net.{Among}
 use Rattle.drt_wave.specs.Cells.{net_of}
-use Rattle.drt_wave.specs.Seats.{parts_of, draws_of, KnowsTo, IsOf, Kept, Turned, IsCut, IsGlued, AllExpanded, HasDrawnBelow}
-use Rattle.drt_wave.specs.Shifts.{IsShift, IsOwner}
+use Rattle.drt_wave.specs.Seats.{parts_of, draws_of, KnowsTo, IsOfTable, IsSeatKept, Turned, IsSeatCut, IsGlued, AllExpanded, HasDrawnBelow}
+use Rattle.drt_wave.specs.Shifts.{IsShift, IsWaveOwner}
 use Rattle.drt_wave.proofs.Going.{expanded_on, all_on, all_none, below_on}
 
 module _ (p : Plan) where
@@ -18,7 +18,7 @@ module _ (p : Plan) where
 
 module _ (t : WaveTable) (j : ℕ) where
   -- The wave went on.
-  pub shift_turned : (s n : WaveSeat) → IsShift t j s → IsOf t n → Turned s n → AllExpanded t.plan n → IsShift t j n
+  pub shift_turned : (s n : WaveSeat) → IsShift t j s → IsOfTable t n → Turned s n → AllExpanded t.plan n → IsShift t j n
   shift_turned s n h of turned all = (
     h.0,
     record {
@@ -31,7 +31,7 @@ module _ (t : WaveTable) (j : ℕ) where
 
 module _ (t : WaveTable) (j a waves : ℕ) where
   -- A seat is split off.
-  pub owner_left : (b : ℕ) (s left right : WaveSeat) → IsOwner t j a waves s → a ≡ b + 1 → 0 < b → IsOf t left → IsCut s left right → IsOwner t j b waves left
+  pub owner_left : (b : ℕ) (s left right : WaveSeat) → IsWaveOwner t j a waves s → a ≡ b + 1 → 0 < b → IsOfTable t left → IsSeatCut s left right → IsWaveOwner t j b waves left
   owner_left b s left right o is some of cut = let few = o.few in let was = o.work.parts in let parts = cut.parts in record {
     work = record { of = of; parts = omega arith; known = cut.known j o.work.known; all = all_on t.plan s left cut.draws cut.raised o.work.all };
     some = some;
@@ -42,7 +42,7 @@ module _ (t : WaveTable) (j a waves : ℕ) where
   }
 
   -- It is a worker's.
-  pub shift_right : (s left right : WaveSeat) → IsOwner t j a waves s → j < waves → IsOf t right → IsCut s left right → IsShift t j right
+  pub shift_right : (s left right : WaveSeat) → IsWaveOwner t j a waves s → j < waves → IsOfTable t right → IsSeatCut s left right → IsShift t j right
   shift_right s left right o lt of cut = (
     subst (λ z. j < z) o.waves_are lt,
     record {
@@ -54,7 +54,7 @@ module _ (t : WaveTable) (j a waves : ℕ) where
   )
 
   -- A worker's seat is joined. It may have worked another wave.
-  pub owner_joined : (i : ℕ) (s other n : WaveSeat) → IsOwner t j a waves s → IsShift t i other → a < 1024 → IsOf t n → IsGlued s other n → IsOwner t j (a + 1) waves n
+  pub owner_joined : (i : ℕ) (s other n : WaveSeat) → IsWaveOwner t j a waves s → IsShift t i other → a < 1024 → IsOfTable t n → IsGlued s other n → IsWaveOwner t j (a + 1) waves n
   owner_joined i s other n o w lt of glued =
       let was = o.work.parts in let one = w.1.parts in let parts = glued.parts in
       record {
@@ -67,8 +67,8 @@ module _ (t : WaveTable) (j a waves : ℕ) where
       }
 
   -- The whole seat has worked the open wave, and the next one is open.
-  pub owner_next : (s n : WaveSeat) → IsOwner t j a waves s → 1024 ≤ a → j < waves → IsOf t n → parts_of n ≡ 1024 → AllExpanded t.plan n
-      → HasDrawnBelow (net_of t.plan) (j + 1) n → KnowsTo (j + 1) n → IsOwner t (j + 1) a waves n
+  pub owner_next : (s n : WaveSeat) → IsWaveOwner t j a waves s → 1024 ≤ a → j < waves → IsOfTable t n → parts_of n ≡ 1024 → AllExpanded t.plan n
+      → HasDrawnBelow (net_of t.plan) (j + 1) n → KnowsTo (j + 1) n → IsWaveOwner t (j + 1) a waves n
   owner_next s n o whole lt of parts all drawn known = let few = o.few in record {
     work = record { of = of; parts = omega arith; known = known; all = all };
     some = o.some;
@@ -79,7 +79,7 @@ module _ (t : WaveTable) (j a waves : ℕ) where
   }
 
   -- The seat has read some cells.
-  pub owner_kept : (s n : WaveSeat) → IsOwner t j a waves s → IsOf t n → Kept s n → IsOwner t j a waves n
+  pub owner_kept : (s n : WaveSeat) → IsWaveOwner t j a waves s → IsOfTable t n → IsSeatKept s n → IsWaveOwner t j a waves n
   owner_kept s n o of kept = record {
     work = record { of = of; parts = kept.parts ∙ o.work.parts; known = kept.known j o.work.known; all = all_on t.plan s n kept.draws kept.raised o.work.all };
     some = o.some;
@@ -90,5 +90,5 @@ module _ (t : WaveTable) (j a waves : ℕ) where
   }
 
   -- Where no wave is left the seat knows the last one as final.
-  pub owner_done : (s : WaveSeat) → IsOwner t j a waves s → waves ≤ j → KnowsTo (net_of t.plan).waves s
+  pub owner_done : (s : WaveSeat) → IsWaveOwner t j a waves s → waves ≤ j → KnowsTo (net_of t.plan).waves s
   owner_done s o end = let within = o.within in let same : j ≡ waves = omega arith in subst (λ z. KnowsTo z s) (same ∙ o.waves_are) o.work.known

@@ -7,7 +7,7 @@ use Rattle.drt_wave.specs.declared.plan.Plan.{Plan}
 use Rattle.drt_wave.specs.declared.seat.WaveSeat.{WaveSeat}
 use Rattle.drt_wave.specs.declared.ways.Way.{Way}
 use Rattle.drt_wave.specs.Net.{Reached}
-use Rattle.drt_wave.specs.Cells.{width, cell_at, net_of, IsPlan}
+use Rattle.drt_wave.specs.Cells.{width, cell_at, net_of, IsWavePlan}
 use Rattle.drt_wave.specs.Seats.{HasRaised, PassedOn}
 use Rattle.drt_wave.specs.Ways.{IsWay}
 use Rattle.drt_wave.proofs.Working.{reach_more, sum_fits}
@@ -22,7 +22,7 @@ module _ (p : Plan) where
   way_below : (e : Edge) (y : Way) (s : ℕ) → IsWay p e y → s + e.sep + deadline p.graph e.to ≤ p.bound → s < y.end
   way_below e y s is due = subst (λ n. s < n) (sym is.end) (omega arith)
 
-  pub way_vertex : IsPlan p → (u k : ℕ) (y : Way) → u < vertex_count p.graph → k < out_degree p.graph u → IsWay p (edge_of p.graph u k) y → y.vertex < vertex_count p.graph
+  pub way_vertex : IsWavePlan p → (u k : ℕ) (y : Way) → u < vertex_count p.graph → k < out_degree p.graph u → IsWay p (edge_of p.graph u k) y → y.vertex < vertex_count p.graph
   way_vertex plan u k y ltu ltk is = subst (λ v. v < vertex_count p.graph) (sym is.vertex) (plan.sound.to u k ltu ltk)
 
   -- an offset below the end leads to a cell
@@ -38,7 +38,7 @@ module _ (p : Plan) where
       (reach_more p u s k x ltu le ltk (way_due e y s is lt) r)
 
   -- the sum isn't too great
-  pub way_fits : IsPlan p → (u k s x : ℕ) (y : Way) → u < vertex_count p.graph → s ≤ p.bound → k < out_degree p.graph u → IsWay p (edge_of p.graph u k) y
+  pub way_fits : IsWavePlan p → (u k s x : ℕ) (y : Way) → u < vertex_count p.graph → s ≤ p.bound → k < out_degree p.graph u → IsWay p (edge_of p.graph u k) y
       → Reached (net_of p) (cell_at p u s) x → x + y.work < 2 ^ 64
   way_fits plan u k s x y ltu le ltk is r =
       let to = plan.sound.to u k ltu ltk in

@@ -11,15 +11,15 @@ use Rattle.drt_model.specs.Digraph.{out_edges, out_degree, edge_of}
 use Rattle.drt_wave.specs.declared.plan.Plan.{Plan}
 use Rattle.drt_wave.specs.declared.seat.WaveSeat.{WaveSeat}
 use Rattle.drt_wave.specs.declared.table.WaveTable.{WaveTable}
-use Rattle.drt_wave.specs.Net.{Net, Among, IsBest}
-use Rattle.drt_wave.specs.Cells.{width, cell_at, arcs_from, net_of, IsPlan}
+use Rattle.drt_wave.specs.Net.{Net, Among, IsGreatestReaching}
+use Rattle.drt_wave.specs.Cells.{width, cell_at, arcs_from, net_of, IsWavePlan}
 use Rattle.drt_wave.specs.Lane.{LaneSeat}
-use Rattle.drt_wave.specs.Seats.{parts_of, draws_of, HasRaised, Kept, Turned, HasClaimed}
+use Rattle.drt_wave.specs.Seats.{parts_of, draws_of, HasRaised, IsSeatKept, Turned, HasClaimed}
 use Rattle.drt_wave.specs.Seats.{IsExpanded, AllExpanded, ExpandedTo, PassedOn, Passed, IsPast, HasDrawn, HasDrawnBelow}
 use Rattle.drt_wave.specs.Shifts.{HasWorked}
 use Rattle.drt_wave.proofs.Cells.{arc_is, cell_vertex, cell_offset, is_net}
 
-pub kept_refl : (s : WaveSeat) → Kept s s
+pub kept_refl : (s : WaveSeat) → IsSeatKept s s
 kept_refl s = record {
   parts = refl;
   draws = refl;
@@ -27,7 +27,7 @@ kept_refl s = record {
   raised = λ v o x h. h;
 }
 
-pub kept_more : (s n o : WaveSeat) → Kept s n → Kept n o → Kept s o
+pub kept_more : (s n o : WaveSeat) → IsSeatKept s n → IsSeatKept n o → IsSeatKept s o
 kept_more s n o p q = record {
   parts = q.parts ∙ p.parts;
   draws = q.draws ∙ p.draws;
@@ -35,7 +35,7 @@ kept_more s n o p q = record {
   raised = λ v a x h. q.raised v a x (p.raised v a x h);
 }
 
-pub kept_some : (s n : WaveSeat) → Kept s n → 0 < parts_of s → 0 < parts_of n
+pub kept_some : (s n : WaveSeat) → IsSeatKept s n → 0 < parts_of s → 0 < parts_of n
 kept_some s n k part = subst (λ x. 0 < x) (sym k.parts) part
 
 pub turned_refl : (s : WaveSeat) → Turned s s
@@ -54,7 +54,7 @@ turned_more s n o p q = record {
   raised = λ v a x h. q.raised v a x (p.raised v a x h);
 }
 
-pub turned_kept : (s n : WaveSeat) → Kept s n → Turned s n
+pub turned_kept : (s n : WaveSeat) → IsSeatKept s n → Turned s n
 turned_kept s n k = record {
   parts = k.parts;
   draws = λ i j a. subst (λ l. Among (i, j) l) (sym k.draws) a;
@@ -83,13 +83,13 @@ pub past_drawn : (g : Net) (s n : WaveSeat) (j r : ℕ) → HasClaimed j r s n �
 past_drawn g s n j r d past = let low = told_low s n j r d in (d.number, d.drawn, omega arith)
 
 module _ (p : Plan) where
-  pub passed_more : (s n : WaveSeat) (u o x i : ℕ) → Kept s n → Passed p s u o x i → PassedOn p n u o x i → Passed p n u o x (i + 1)
+  pub passed_more : (s n : WaveSeat) (u o x i : ℕ) → IsSeatKept s n → Passed p s u o x i → PassedOn p n u o x i → Passed p n u o x (i + 1)
   passed_more s n u o x i kept before now k lt fits = dite (dec_lt k i)
       (λ l. kept.raised _ _ _ (before k l fits))
       (λ nl. let same : k ≡ i = omega arith in subst (PassedOn p n u o x) (sym same) now fits)
 
   -- the cell whose greatest work was read, and passed on where it is not 0, is expanded
-  pub expanded_by : (n : WaveSeat) (u s x : ℕ) → s ≤ p.bound → IsBest (net_of p) (cell_at p u s) x → (x ≢ 0 → Passed p n u s x (out_degree p.graph u)) → IsExpanded p n (cell_at p u s)
+  pub expanded_by : (n : WaveSeat) (u s x : ℕ) → s ≤ p.bound → IsGreatestReaching (net_of p) (cell_at p u s) x → (x ≢ 0 → Passed p n u s x (out_degree p.graph u)) → IsExpanded p n (cell_at p u s)
   expanded_by n u s x le best passed =
       let b : ℕ = cell_at p u s in
       let bu : b / width p ≡ u = cell_vertex p u s le in let bs : b % width p ≡ s = cell_offset p u s le in (
@@ -125,7 +125,7 @@ module _ (p : Plan) where
       (λ (old : Among (a, b / 64) (draws_of s)). expanded_on s n ((net_of p).cell a b) turned.raised (all a b lt old)) (d.no_more a (b / 64) at)
 
   -- a number within the wave was drawn, and the cells of its block were expanded
-  pub all_drawn : (s n o : WaveSeat) (j r : ℕ) → HasClaimed j r s n → Turned s n → AllExpanded p s → (net_of p).size j < 2 ^ 64 → Kept n o
+  pub all_drawn : (s n o : WaveSeat) (j r : ℕ) → HasClaimed j r s n → Turned s n → AllExpanded p s → (net_of p).size j < 2 ^ 64 → IsSeatKept n o
       → ((k : ℕ) → k < (net_of p).size j → k / 64 ≡ r → IsExpanded p o ((net_of p).cell j k)) → AllExpanded p o
   all_drawn s n o j r d turned all small kept here a b lt at = ⊎_elim
       (λ (e : (a ≡ j) × (b / 64 ≡ d.number)).
@@ -138,14 +138,14 @@ module _ (p : Plan) where
       (d.no_more a (b / 64) (subst (λ l. Among (a, b / 64) l) kept.draws at))
 
   -- the cells of some numbers of a wave are expanded, and that of the next number too
-  pub block_more : (s n : WaveSeat) (j low k : ℕ) → Kept s n → ((i : ℕ) → low ≤ i → i < k → IsExpanded p s ((net_of p).cell j i)) → IsExpanded p n ((net_of p).cell j k)
+  pub block_more : (s n : WaveSeat) (j low k : ℕ) → IsSeatKept s n → ((i : ℕ) → low ≤ i → i < k → IsExpanded p s ((net_of p).cell j i)) → IsExpanded p n ((net_of p).cell j k)
       → (i : ℕ) → low ≤ i → i < k + 1 → IsExpanded p n ((net_of p).cell j i)
   block_more s n j low k kept before now i from lt = dite (dec_lt i k)
       (λ l. expanded_on s n ((net_of p).cell j i) kept.raised (before i from l))
       (λ nl. let same : i ≡ k = omega arith in subst (λ z. IsExpanded p n ((net_of p).cell j z)) (sym same) now)
 
   -- where all blocks up to a wave are drawn and expanded, so is each cell
-  pub expanded_to : IsPlan p → (s : WaveSeat) (j : ℕ) → AllExpanded p s → HasDrawnBelow (net_of p) (j + 1) s → ExpandedTo p j s
+  pub expanded_to : IsWavePlan p → (s : WaveSeat) (j : ℕ) → AllExpanded p s → HasDrawnBelow (net_of p) (j + 1) s → ExpandedTo p j s
   expanded_to plan s j all drawn c lt le =
       let at = (is_net p plan).place c lt in let i : ℕ = (net_of p).wave c in
       subst (IsExpanded p s) at.2 (all i at.0 at.1 (drawn i at.0 (omega arith) at.1))

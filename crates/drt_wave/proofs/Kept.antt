@@ -11,11 +11,11 @@ use Rattle.drt_model.proofs.Neighbours.{AllNeighbours-one, AllNeighbours-head, A
 use Rattle.drt_model.specs.declared.front.FrontEntry.{FrontEntry}
 use Rattle.drt_graph.proofs.Edges.{edge_of_sep, source_of}
 use Rattle.drt_graph.proofs.Paths.{span_cons, span_none}
-use Rattle.drt_wave.specs.Cells.{IsPlan}
+use Rattle.drt_wave.specs.Cells.{IsWavePlan}
 use Rattle.drt_wave.specs.Dense.{Dense, AreBest, work_at}
-use Rattle.drt_wave.specs.Greatest.{IsInRange, HasWalk, IsGreatestWork}
-use Rattle.drt_wave.specs.Fronts.{IsRangeEntry, IsWalkEntry, Covers, IsNonDominated, IsFrontOf, IsExactFront, CoversAll, IsNextEntry}
-use Rattle.drt_wave.specs.Gathered.{IsKept, IsBefore, AreGathered, IsMost}
+use Rattle.drt_wave.specs.Greatest.{IsWalkInRange, HasWalk, IsGreatestWork}
+use Rattle.drt_wave.specs.Fronts.{IsRangeEntry, IsWalkEntry, Covers, IsNonDominatedEntry, IsFrontOf, IsExactFront, CoversAll, IsNextEntry}
+use Rattle.drt_wave.specs.Gathered.{IsCellKept, IsCellBefore, AreCellsGathered, IsMost}
 use Rattle.drt_wave.proofs.Walks.{greatest_at, has_bounds}
 
 -- An entry of these parts.
@@ -26,7 +26,7 @@ entry v s x = record { vertex = v; offset = s; work = x }
 same_entry : (d e : FrontEntry) → d.vertex ≡ e.vertex → d.offset ≡ e.offset → d.work ≡ e.work → d ≡ e
 same_entry d e p q r = λ i. record { vertex = p i; offset = q i; work = r i }
 
-module _ (d : Dense) (plan : IsPlan d.plan) (best : AreBest d.plan d.columns) where
+module _ (d : Dense) (plan : IsWavePlan d.plan) (best : AreBest d.plan d.columns) where
   abbrev IsLabel : FrontEntry → Type 0
   IsLabel = IsRangeEntry d.plan.graph d.plan.bound
 
@@ -34,7 +34,7 @@ module _ (d : Dense) (plan : IsPlan d.plan) (best : AreBest d.plan d.columns) wh
   greatest v s ltv le = greatest_at d.plan d.columns plan best v s ltv le
 
   -- What is kept is not covered by another label.
-  kept_alone : (e : FrontEntry) → IsKept d e → IsNonDominated IsLabel e
+  kept_alone : (e : FrontEntry) → IsCellKept d e → IsNonDominatedEntry IsLabel e
   kept_alone e k =
       let some = k.some in let is = k.works in
       record {
@@ -54,7 +54,7 @@ module _ (d : Dense) (plan : IsPlan d.plan) (best : AreBest d.plan d.columns) wh
       }
 
   -- A label that no other covers is kept.
-  alone_kept : (e : FrontEntry) → IsNonDominated IsLabel e → IsKept d e
+  alone_kept : (e : FrontEntry) → IsNonDominatedEntry IsLabel e → IsCellKept d e
   alone_kept e n =
       let b = has_bounds d.plan plan e.vertex e.offset e.work n.label in
       let le = (greatest e.vertex e.offset b.0 b.1).1 e.work n.label in
@@ -73,7 +73,7 @@ module _ (d : Dense) (plan : IsPlan d.plan) (best : AreBest d.plan d.columns) wh
       }
 
   -- Entries that are all before a vertex past the last one are a front.
-  pub gathered_front : (entries : List FrontEntry) → AreGathered d (vertex_count d.plan.graph) 0 entries → IsFrontOf IsLabel entries
+  pub gathered_front : (entries : List FrontEntry) → AreCellsGathered d (vertex_count d.plan.graph) 0 entries → IsFrontOf IsLabel entries
   gathered_front entries g e = (λ has. kept_alone e (g.kept e has).0, λ n. let k = alone_kept e n in g.all e k (inl k.vertex))
 
   -- At an offset below n there is at least so much work, or there is less at each.
@@ -89,7 +89,7 @@ module _ (d : Dense) (plan : IsPlan d.plan) (best : AreBest d.plan d.columns) wh
       (some_above v w n))
 
   -- What is kept covers each work of a cell.
-  kept_covers : (n v s x : ℕ) → s < n → v < vertex_count d.plan.graph → s ≤ d.plan.bound → 0 < x → x ≤ work_at d v s → (k : FrontEntry) × IsKept d k × Covers v s x k
+  kept_covers : (n v s x : ℕ) → s < n → v < vertex_count d.plan.graph → s ≤ d.plan.bound → 0 < x → x ≤ work_at d v s → (k : FrontEntry) × IsCellKept d k × Covers v s x k
   kept_covers zero v s x lt ltv le some fits = absurd (omega arith)
   kept_covers (suc n) v s x lt ltv le some fits = ⊎_elim
       (λ (f : (t : ℕ) × (t < s) × (work_at d v s ≤ work_at d v t)).
@@ -101,7 +101,7 @@ module _ (d : Dense) (plan : IsPlan d.plan) (best : AreBest d.plan d.columns) wh
       (some_above v (work_at d v s) s)
 
   -- Such a front covers each label.
-  pub gathered_covers : (entries : List FrontEntry) → AreGathered d (vertex_count d.plan.graph) 0 entries → CoversAll IsLabel entries
+  pub gathered_covers : (entries : List FrontEntry) → AreCellsGathered d (vertex_count d.plan.graph) 0 entries → CoversAll IsLabel entries
   gathered_covers entries g e label =
       let b = has_bounds d.plan plan e.vertex e.offset e.work label in
       let le = (greatest e.vertex e.offset b.0 b.1).1 e.work label in
@@ -111,7 +111,7 @@ module _ (d : Dense) (plan : IsPlan d.plan) (best : AreBest d.plan d.columns) wh
 
   -- With constrained deadlines each prefix of a walk is due before the walk's last job.
   all_in_range : IsConstrainedGraph d.plan.graph → (s u : ℕ) (vs : List ℕ) → IsPath d.plan.graph u vs
-      → s + span d.plan.graph u vs + deadline d.plan.graph (last_of u vs) ≤ d.plan.bound → IsInRange d.plan.graph d.plan.bound s u vs
+      → s + span d.plan.graph u vs + deadline d.plan.graph (last_of u vs) ≤ d.plan.bound → IsWalkInRange d.plan.graph d.plan.bound s u vs
   all_in_range con s u [] path due = let none = span_none d.plan.graph u in omega (arith, due, none)
   all_in_range con s u (v ∷ vs) path due =
       let g = d.plan.graph in
@@ -136,7 +136,7 @@ module _ (d : Dense) (plan : IsPlan d.plan) (best : AreBest d.plan d.columns) wh
         },
       )
 
-  range_last : (s u : ℕ) (vs : List ℕ) → IsInRange d.plan.graph d.plan.bound s u vs → s + span d.plan.graph u vs + deadline d.plan.graph (last_of u vs) ≤ d.plan.bound
+  range_last : (s u : ℕ) (vs : List ℕ) → IsWalkInRange d.plan.graph d.plan.bound s u vs → s + span d.plan.graph u vs + deadline d.plan.graph (last_of u vs) ≤ d.plan.bound
   range_last s u [] range = let none = span_none d.plan.graph u in omega (arith, range, none)
   range_last s u (v ∷ vs) range = let more = span_cons d.plan.graph u v vs in let rest = range_last (s + gap d.plan.graph u v) v vs range.1 in omega (arith, more, rest)
 
@@ -182,8 +182,8 @@ neighbours_more R (x ∷ (z ∷ zs)) y n all =
 
 module _ (d : Dense) where
   -- The list before the first vertex is empty.
-  pub none_gathered : (entries : List FrontEntry) → entries ≡ [] → AreGathered d 0 0 entries
-  none_gathered entries is = subst (AreGathered d 0 0) (sym is) record {
+  pub none_gathered : (entries : List FrontEntry) → entries ≡ [] → AreCellsGathered d 0 0 entries
+  none_gathered entries is = subst (AreCellsGathered d 0 0) (sym is) record {
     kept = λ e has. absurd (omega (arith, has.1));
     all = λ e k b. ⊎_elim (λ (lt : e.vertex < 0). absurd (omega arith)) (λ (lt : (e.vertex ≡ 0) × (e.offset < 0)). let l = lt.1 in absurd (omega (arith, l))) b;
     ordered = λ i e lt. absurd (omega arith);
@@ -191,7 +191,7 @@ module _ (d : Dense) where
   }
 
   -- A vertex is done at the offset past the bound.
-  pub next_vertex : (v s : ℕ) (entries : List FrontEntry) → s ≡ d.plan.bound + 1 → AreGathered d v s entries → AreGathered d (v + 1) 0 entries
+  pub next_vertex : (v s : ℕ) (entries : List FrontEntry) → s ≡ d.plan.bound + 1 → AreCellsGathered d v s entries → AreCellsGathered d (v + 1) 0 entries
   next_vertex v s entries end g = let past : d.plan.bound < s = omega arith in record {
     kept = λ e has. let k = g.kept e has in (k.0, ⊎_elim (λ (lt : e.vertex < v). inl (omega arith)) (λ (lt : (e.vertex ≡ v) × (e.offset < s)). let l = lt.0 in inl (omega (arith, l))) k.1);
     all = λ e k b. g.all e k (⊎_elim
@@ -219,7 +219,7 @@ module _ (d : Dense) where
   }
 
   -- where it has no more work it isn't kept
-  pub gathered_same : (v s most : ℕ) (entries : List FrontEntry) → work_at d v s ≤ most → IsMost d v s most → AreGathered d v s entries → AreGathered d v (s + 1) entries
+  pub gathered_same : (v s most : ℕ) (entries : List FrontEntry) → work_at d v s ≤ most → IsMost d v s most → AreCellsGathered d v s entries → AreCellsGathered d v (s + 1) entries
   gathered_same v s most entries le m g = record {
     kept = λ e has. let k = g.kept e has in (k.0, ⊎_elim (λ (lt : e.vertex < v). inl lt) (λ (lt : (e.vertex ≡ v) × (e.offset < s)). let l = lt.1 in inr (lt.0, omega (arith, l))) k.1);
     all = λ e k b. ⊎_elim
@@ -239,19 +239,19 @@ module _ (d : Dense) where
   }
 
   -- where it has more it is
-  pub gathered_more : (v s most : ℕ) (entries new : List FrontEntry) → v < vertex_count d.plan.graph → s ≤ d.plan.bound → most < work_at d v s → IsMost d v s most → AreGathered d v s entries
-      → new ≡ entries ++ entry v s (work_at d v s) ∷ [] → AreGathered d v (s + 1) new
+  pub gathered_more : (v s most : ℕ) (entries new : List FrontEntry) → v < vertex_count d.plan.graph → s ≤ d.plan.bound → most < work_at d v s → IsMost d v s most → AreCellsGathered d v s entries
+      → new ≡ entries ++ entry v s (work_at d v s) ∷ [] → AreCellsGathered d v (s + 1) new
   gathered_more v s most entries new ltv le lt m g is =
       let x : FrontEntry = entry v s (work_at d v s) in
-      let mine : IsKept d x = record { vertex = ltv; offset = le; works = refl; some = omega arith; above = λ t l. let old = m.least t l in omega (arith, old) } in
-      subst (AreGathered d v (s + 1)) (sym is) record {
+      let mine : IsCellKept d x = record { vertex = ltv; offset = le; works = refl; some = omega arith; above = λ t l. let old = m.least t l in omega (arith, old) } in
+      subst (AreCellsGathered d v (s + 1)) (sym is) record {
         kept = λ e has. ⊎_elim
             (λ (old : Contains entries e). let k = g.kept e old in (
               k.0,
               ⊎_elim (λ (l : e.vertex < v). inl l) (λ (l : (e.vertex ≡ v) ×
                   (e.offset < s)). let l1 = l.1 in inr (l.0, omega (arith, l1))) k.1,
             ))
-            (λ (now : Contains (x ∷ []) e). let same : x ≡ e = only x e now in subst (λ z. IsKept d z × IsBefore v (s + 1) z) same (mine, inr (refl, omega arith)))
+            (λ (now : Contains (x ∷ []) e). let same : x ≡ e = only x e now in subst (λ z. IsCellKept d z × IsCellBefore v (s + 1) z) same (mine, inr (refl, omega arith)))
             (Contains-append_cases entries (x ∷ []) e has);
         all = λ e k b. ⊎_elim
             (λ (l : e.vertex < v). Contains-append_left entries (x ∷ []) e (g.all e k (inl l)))

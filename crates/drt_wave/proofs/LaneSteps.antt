@@ -8,7 +8,7 @@ use lib.ListN.{get_elem?}
 use lib.Seq.{set-get_or}
 use Rattle.atomic_table.specs.Table.{State, Me, step, keeps, Allows, Splits, Joins, opening, Final, Seen}
 use Rattle.atomic_table.proofs.Lists.{at_snoc, set_here, set_else}
-use Rattle.drt_wave.specs.Net.{Net, IsNet, Among, Reaches, Reached, IsBest}
+use Rattle.drt_wave.specs.Net.{Net, IsNet, Among, Reaches, Reached, IsGreatestReaching}
 use Rattle.drt_wave.specs.Sums.{greatest}
 use Rattle.drt_wave.specs.Lanes.{most, fresh_lane, spent_lane, lane_left, lane_right, lane_joined, lane_raised, lane_knowing, Settled, Knows, IsRead, InLane, glanced, raises}
 use Rattle.drt_wave.specs.declared.view.LaneView.{LaneView}
@@ -31,11 +31,11 @@ module _ {F : Type 0} where
 module _ {F : Type 0} (net : F → Net) (first count : F → ℕ) (key : F) where
   -- words grow, and not beyond their greatest work
   abbrev Grows : List ℕ → List ℕ → Type 0
-  Grows old new = (o : ℕ) → o < count key → IsBest (net key) (first key + o) (get_or old o 0) → get_or new o 0 ≡ get_or old o 0
+  Grows old new = (o : ℕ) → o < count key → IsGreatestReaching (net key) (first key + o) (get_or old o 0) → get_or new o 0 ≡ get_or old o 0
 
   -- each word of the first n whose cell is of a wave up to j is final
   abbrev AreBest : List ℕ → ℕ → ℕ → Type 0
-  AreBest ws j n = (o : ℕ) → o < n → (net key).wave (first key + o) ≤ j → IsBest (net key) (first key + o) (get_or ws o 0)
+  AreBest ws j n = (o : ℕ) → o < n → (net key).wave (first key + o) ≤ j → IsGreatestReaching (net key) (first key + o) (get_or ws o 0)
 
   knows_later : (old new : List ℕ) (v : LaneView F) → Grows old new → Knows net first count key old v → Knows net first count key new v
   knows_later old new v grows k = record {
@@ -43,7 +43,7 @@ module _ {F : Type 0} (net : F → Net) (first count : F → ℕ) (key : F) wher
     idle = k.idle;
     same = k.same;
     reached = k.reached;
-    final = λ o lt low. let best = k.final o lt low in subst (IsBest (net key) (first key + o)) (sym (grows o lt best)) best;
+    final = λ o lt low. let best = k.final o lt low in subst (IsGreatestReaching (net key) (first key + o)) (sym (grows o lt best)) best;
   }
 
 module _ {S F : Type 0} (net : F → Net) (first count : F → ℕ) (key : F) where
@@ -71,7 +71,7 @@ module _ {S F : Type 0} (net : F → Net) (first count : F → ℕ) (key : F) wh
 
     -- where a seat passed on all that a cell gets, the cell has its greatest work
     settled_best : (i : ℕ) (v : LaneView F) (o j : ℕ) → get_elem? s.views i ≡ some v → o < count key → Settled net first count key v j
-        → (net key).wave (first key + o) ≤ j + 1 → IsBest (net key) (first key + o) (get_or s.words o 0)
+        → (net key).wave (first key + o) ≤ j + 1 → IsGreatestReaching (net key) (first key + o) (get_or s.words o 0)
     settled_best i v o j at lt settled low = (cell_reached o lt, λ y r. least y r.0 r.1) where
       least : (y n : ℕ) → Reaches (net key) n (first key + o) y → y ≤ get_or s.words o 0
       least y zero r = omega (arith, h.cell o lt, r.2)
@@ -125,7 +125,7 @@ module _ {S F : Type 0} (net : F → Net) (first count : F → ℕ) (key : F) wh
               idle = λ none. absurd (omega arith);
               same = k.same;
               reached = λ d y a. ⊎_elim (same_pair (λ i z. Reached g (first key + i) z) o x d y reached) (k.reached d y) a;
-              final = λ d ltd low. let best = k.final d ltd low in subst (IsBest g (first key + d)) (sym (grows d ltd best)) best;
+              final = λ d ltd low. let best = k.final d ltd low in subst (IsGreatestReaching g (first key + d)) (sym (grows d ltd best)) best;
             },
         refl,
       )
@@ -146,7 +146,7 @@ module _ {S F : Type 0} (net : F → Net) (first count : F → ℕ) (key : F) wh
       let b = best_of (net key) h.lawful (first key + n) (omega (arith, h.within)) in
       dite (ℕ_discrete (get_or s.words n 0) b.0)
       (λ e. inl (λ o lt low'. dite (ℕ_discrete o n)
-      (λ same. subst (λ i. IsBest (net key) (first key + i) (get_or s.words i 0)) (sym same) (subst (IsBest (net key) (first key + n)) (sym e) b.1))
+      (λ same. subst (λ i. IsGreatestReaching (net key) (first key + i) (get_or s.words i 0)) (sym same) (subst (IsGreatestReaching (net key) (first key + n)) (sym e) b.1))
       (λ ne. yes o (omega (arith, ne)) low')))
       (λ ne. inr (λ all. ne (best_same (net key) (first key + n) (get_or s.words n 0) b.0 (all n (omega arith) low) b.1))))
       (λ high. inl (λ o lt low'. dite (ℕ_discrete o n)
@@ -300,8 +300,8 @@ module _ {S F : Type 0} (net : F → Net) (first count : F → ℕ) (key : F) wh
 
   -- at the end each word that the seat knows as final is the greatest work of its cell
   pub closes_known : (id : ℕ) (v : LaneView F) (ws : List ℕ) (xs : List S) → ((o : ℕ) → o < count key → (net key).wave (first key + o) ≤ v.known) → Final (Seen Holds id v) ws xs
-      → (o : ℕ) → o < length ws → IsBest (net key) (first key + o) (get_or ws o 0)
+      → (o : ℕ) → o < length ws → IsGreatestReaching (net key) (first key + o) (get_or ws o 0)
   closes_known id v ws xs known fin o lt =
       let s = fin.0 in let h = fin.1.0 in let me = fin.1.1 in
       let inside : o < count key = subst (λ n. o < n) (sym (ap length fin.2) ∙ h.wide) lt in
-      subst (λ (l : List ℕ). IsBest (net key) (first key + o) (get_or l o 0)) fin.2 ((h.each id v me).final o inside (known o inside))
+      subst (λ (l : List ℕ). IsGreatestReaching (net key) (first key + o) (get_or l o 0)) fin.2 ((h.each id v me).final o inside (known o inside))

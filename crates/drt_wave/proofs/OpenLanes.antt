@@ -9,7 +9,7 @@ use Rattle.drt_model.specs.Walk.{wcet, deadline}
 use Rattle.drt_wave.specs.declared.plan.Plan.{Plan}
 use Rattle.drt_wave.specs.declared.view.LaneKey.{LaneKey}
 use Rattle.drt_wave.specs.Net.{IsNet}
-use Rattle.drt_wave.specs.Cells.{width, cell_at, net_of, IsPlan}
+use Rattle.drt_wave.specs.Cells.{width, cell_at, net_of, IsWavePlan}
 use Rattle.drt_wave.specs.Keys.{lane_net, lane_first, lane_count}
 use Rattle.drt_wave.specs.Lanes.{InLane, fresh_lane}
 use Rattle.atomic_table.specs.Table.{opening}
@@ -56,7 +56,7 @@ module _ (p : Plan) where
       let last : m + p.bound < n = cell_lt p v p.bound lt (omega arith) in omega arith
 
 -- a lane at its start keeps the rule
-pub start_holds : (p : Plan) (key : LaneKey) (ws : List ℕ) → key.plan.value ≡ p → IsPlan p → key.vertex < vertex_count p.graph → length ws ≡ width p → AreOpen p key.vertex ws
+pub start_holds : (p : Plan) (key : LaneKey) (ws : List ℕ) → key.plan.value ≡ p → IsWavePlan p → key.vertex < vertex_count p.graph → length ws ≡ width p → AreOpen p key.vertex ws
     → InLane lane_net lane_first lane_count {S = Unit {0}} key (opening ws [] (fresh_lane key 1024))
 start_holds p key ws is plan lt wide open_cells = opens_so lane_net lane_first lane_count key ws
     (subst (λ q. IsNet (net_of q)) (sym is) (is_net p plan))

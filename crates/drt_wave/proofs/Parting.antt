@@ -11,14 +11,14 @@ use Rattle.drt_wave.specs.declared.plan.Plan.{Plan}
 use Rattle.drt_wave.specs.declared.lane.Lane.{Lane}
 use Rattle.drt_wave.specs.declared.seat.WaveSeat.{WaveSeat}
 use Rattle.drt_wave.specs.declared.table.WaveTable.{WaveTable}
-use Rattle.drt_wave.specs.Net.{Among, IsBest}
-use Rattle.drt_wave.specs.Cells.{net_of, cell_at, width, IsPlan}
+use Rattle.drt_wave.specs.Net.{Among, IsGreatestReaching}
+use Rattle.drt_wave.specs.Cells.{net_of, cell_at, width, IsWavePlan}
 use Rattle.drt_wave.specs.Keys.{lane_net, lane_first}
 use Rattle.drt_wave.specs.Lane.{LaneSeat, IsLane, IsLaneSeat, IsClaimSeat, AreFinal}
 use Rattle.drt_wave.specs.Lanes.{lane_left, lane_right, lane_joined}
 use Rattle.drt_wave.specs.Claims.{claims_left, claims_right, claims_joined}
 use Rattle.drt_wave.specs.Dense.{AreBest, AreWhole}
-use Rattle.drt_wave.specs.Seats.{parts_of, draws_of, IsOf, IsCut, IsGlued}
+use Rattle.drt_wave.specs.Seats.{parts_of, draws_of, IsOfTable, IsSeatCut, IsGlued}
 use Rattle.drt_wave.proofs.Sums.{at_inside, at_there, at_end, among-append, among_left, among_right}
 use Rattle.drt_wave.proofs.Cells.{is_net, cell_lt}
 use Rattle.drt_wave.proofs.Seating.{Found, found_at, lane_read}
@@ -133,7 +133,7 @@ module _ (lanes : List Lane) (olds : List LaneSeat) where
       moved : (l l' : Lane) (y y' z z' n n' : LaneSeat) → l ≡ l' → y ≡ y' → z ≡ z' → n ≡ n' → IsBoth l y z n → IsBoth l' y' z' n'
       moved l l' y y' z z' n n' e f d g h = subst (λ (q : Lane × LaneSeat × LaneSeat × LaneSeat). IsBoth q.0 q.1 q.2 q.3) (λ k. (e k, f k, d k, g k)) h
 
-module _ (t : WaveTable) (s : WaveSeat) (of : IsOf t s) where
+module _ (t : WaveTable) (s : WaveSeat) (of : IsOfTable t s) where
   abbrev both_at : ℕ → Type 0
   both_at v = (l : Lane) × (y : LaneSeat) × (get_elem? t.lanes v ≡ some l) × (get_elem? s.lanes.items v ≡ some y)
 
@@ -142,7 +142,7 @@ module _ (t : WaveTable) (s : WaveSeat) (of : IsOf t s) where
   lane_there v lt = let l = at_there t.lanes v lt in let y = at_there s.lanes.items v (omega (arith, of.count)) in (l.0, y.0, l.1, y.1)
 
   module _ (left right : WaveSeat) (cut : Cutting t.lanes s.lanes.items left.lanes.items right.lanes.items (length t.lanes)) where
-    pub of_left : IsClaimSeat t.claims left.claims → left.claims.me.0 ≡ claims_left s.claims.me.0 → length t.lanes ≤ vec_capacity left.lanes → IsOf t left
+    pub of_left : IsClaimSeat t.claims left.claims → left.claims.me.0 ≡ claims_left s.claims.me.0 → length t.lanes ≤ vec_capacity left.lanes → IsOfTable t left
     of_left claims is room = record {
       claims = claims;
       count = cut.count;
@@ -153,7 +153,7 @@ module _ (t : WaveTable) (s : WaveSeat) (of : IsOf t s) where
           (p.0, ap (λ m. m.parts) p.1 ∙ ap (λ k. k - 1) (of.lane v l y.0 el y.1).1 ∙ sym (ap (λ m. m.parts) is));
     }
 
-    pub of_right : IsClaimSeat t.claims right.claims → right.claims.me.0 ≡ claims_right s.claims.me.0 → length t.lanes ≤ vec_capacity right.lanes → IsOf t right
+    pub of_right : IsClaimSeat t.claims right.claims → right.claims.me.0 ≡ claims_right s.claims.me.0 → length t.lanes ≤ vec_capacity right.lanes → IsOfTable t right
     of_right claims is room = record {
       claims = claims;
       count = cut.cut_count;
@@ -164,7 +164,7 @@ module _ (t : WaveTable) (s : WaveSeat) (of : IsOf t s) where
           (p.0, ap (λ m. m.parts) p.1 ∙ sym (ap (λ m. m.parts) is));
     }
 
-    pub is_cut : 1 < parts_of s → left.claims.me.0 ≡ claims_left s.claims.me.0 → right.claims.me.0 ≡ claims_right s.claims.me.0 → IsCut s left right
+    pub is_cut : 1 < parts_of s → left.claims.me.0 ≡ claims_left s.claims.me.0 → right.claims.me.0 ≡ claims_right s.claims.me.0 → IsSeatCut s left right
     is_cut whole is_left is_right = record {
       parts = let e = ap (λ m. m.parts) is_left in omega (arith, e);
       draws = ap (λ m. m.draws) is_left;
@@ -188,7 +188,7 @@ module _ (t : WaveTable) (s : WaveSeat) (of : IsOf t s) where
           let same = ap (λ m. m.known) (cut.right v b.0 b.1 n b.2 b.3 en).1 in let h = knows v b.1 b.3 in omega (arith, same, h);
     }
 
-  module _ (other n : WaveSeat) (of_other : IsOf t other) (others : List LaneSeat) (none : length others ≡ 0) (glue : Gluing t.lanes s.lanes.items other.lanes.items n.lanes.items others) where
+  module _ (other n : WaveSeat) (of_other : IsOfTable t other) (others : List LaneSeat) (none : length others ≡ 0) (glue : Gluing t.lanes s.lanes.items other.lanes.items n.lanes.items others) where
     at_done : (v : ℕ) → v < length t.lanes → (l : Lane) × (y : LaneSeat) × (z : LaneSeat) × (u : LaneSeat)
         × (get_elem? t.lanes v ≡ some l) × (get_elem? s.lanes.items v ≡ some y) × (get_elem? other.lanes.items v ≡ some z) × (get_elem? n.lanes.items v ≡ some u) × IsBoth l y z u
     at_done v lt =
@@ -196,7 +196,7 @@ module _ (t : WaveTable) (s : WaveSeat) (of : IsOf t s) where
         let z = at_there other.lanes.items v (omega (arith, of_other.count)) in let u = at_there n.lanes.items v (omega (arith, glue.count)) in
         (l.0, y.0, z.0, u.0, l.1, y.1, z.1, u.1, glue.done v l.0 y.0 z.0 u.0 (omega (arith, none)) l.1 y.1 z.1 u.1)
 
-    pub of_glued : IsClaimSeat t.claims n.claims → n.claims.me.0 ≡ claims_joined s.claims.me.0 other.claims.me.0 → length t.lanes ≤ vec_capacity n.lanes → IsOf t n
+    pub of_glued : IsClaimSeat t.claims n.claims → n.claims.me.0 ≡ claims_joined s.claims.me.0 other.claims.me.0 → length t.lanes ≤ vec_capacity n.lanes → IsOfTable t n
     of_glued claims is room = record {
       claims = claims;
       count = glue.count;
@@ -241,7 +241,7 @@ module _ (t : WaveTable) (s : WaveSeat) (of : IsOf t s) where
         }
 
 -- what was read at the next place where seats are split
-pub next_cut : (t : WaveTable) (s : WaveSeat) (news cut : List LaneSeat) (v : ℕ) (l : Lane) (y : LaneSeat) (xs : List Lane) → IsOf t s → Cutting t.lanes s.lanes.items news cut v
+pub next_cut : (t : WaveTable) (s : WaveSeat) (news cut : List LaneSeat) (v : ℕ) (l : Lane) (y : LaneSeat) (xs : List Lane) → IsOfTable t s → Cutting t.lanes s.lanes.items news cut v
     → v < length xs → xs ≡ t.lanes → l ≡ get_or xs v l → y ≡ get_or news v y → Found t s v l y × (get_elem? news v ≡ some y)
 next_cut t s news cut v l y xs of c ltx same is_l is_y =
     let lt : v < length t.lanes = subst (λ (ys : List Lane). v < length ys) same ltx in
@@ -254,7 +254,7 @@ all_cut t olds news cut v xs c same le ge =
     let e : length xs ≡ length t.lanes = ap length same in let is : v ≡ length t.lanes = omega arith in subst (Cutting t.lanes olds news cut) is c
 
 -- what was read at the next place where seats are joined
-pub next_glued : (t : WaveTable) (s other : WaveSeat) (news others more : List LaneSeat) (v : ℕ) (l : Lane) (y z : LaneSeat) (xs : List Lane) → IsOf t s
+pub next_glued : (t : WaveTable) (s other : WaveSeat) (news others more : List LaneSeat) (v : ℕ) (l : Lane) (y z : LaneSeat) (xs : List Lane) → IsOfTable t s
     → Gluing t.lanes s.lanes.items other.lanes.items news others → others ≡ more ++ z ∷ [] → v ≡ length more → xs ≡ t.lanes → l ≡ get_or xs v l → y ≡ get_or news v y
     → Found t s v l y × (get_elem? news v ≡ some y) × (get_elem? other.lanes.items v ≡ some z)
 next_glued t s other news others more v l y z xs of g is at same is_l is_y =
@@ -264,7 +264,7 @@ next_glued t s other news others more v l y z xs of g is at same is_l is_y =
 
 -- The cells of a vertex have their greatest works.
 abbrev pub IsColumn : Plan → ℕ → List ℕ → Type 0
-IsColumn p v c = (length c ≡ width p) × ((o : ℕ) → o < width p → IsBest (net_of p) (cell_at p v o) (slice_index c o))
+IsColumn p v c = (length c ≡ width p) × ((o : ℕ) → o < width p → IsGreatestReaching (net_of p) (cell_at p v o) (slice_index c o))
 
 -- The lanes behind `left` are closed, the last one first.
 pub record Closing (p : Plan) (lanes left : List Lane) (seats more : List LaneSeat) (columns : List (List ℕ)) : Type 0 where
@@ -275,7 +275,7 @@ pub record Closing (p : Plan) (lanes left : List Lane) (seats more : List LaneSe
   pub column : (k : ℕ) (c : List ℕ) → get_elem? (reverse columns) k ≡ some c → IsColumn p (length left + k) c
 
 module _ (p : Plan) where
-  pub lane_known : IsPlan p → (v : ℕ) (l : Lane) (k known : ℕ) → IsLane p v l → v < vertex_count p.graph → k ≤ known → (net_of p).waves ≤ k + 1
+  pub lane_known : IsWavePlan p → (v : ℕ) (l : Lane) (k known : ℕ) → IsLane p v l → v < vertex_count p.graph → k ≤ known → (net_of p).waves ≤ k + 1
       → (o : ℕ) → o < l.table.shared.table_id.words → (lane_net l.table.shared.key).wave (lane_first l.table.shared.key + o) ≤ known
   lane_known plan v l k known is lt e all o inside =
       let in_bound : o < width p = subst (λ n. o < n) is.words inside in
@@ -286,7 +286,7 @@ module _ (p : Plan) where
   pub column_is : (v : ℕ) (l : Lane) (c : List ℕ) → IsLane p v l → length c ≡ l.table.shared.table_id.words → AreFinal l.table.shared.key c → IsColumn p v c
   column_is v l c is len final = (
     len ∙ is.words,
-    λ o lt. subst (λ (q : Plan × ℕ). IsBest (net_of q.0) (cell_at q.0 q.1 o) (slice_index c o)) (λ i. (is.plan i, is.vertex i)) (final o (subst (λ n. o < n) (sym (len ∙ is.words)) lt)),
+    λ o lt. subst (λ (q : Plan × ℕ). IsGreatestReaching (net_of q.0) (cell_at q.0 q.1 o) (slice_index c o)) (λ i. (is.plan i, is.vertex i)) (final o (subst (λ n. o < n) (sym (len ∙ is.words)) lt)),
   )
 
   pub close_more : (lanes left less : List Lane) (seats more fewer : List LaneSeat) (columns : List (List ℕ)) (l : Lane) (y : LaneSeat) (c : List ℕ)

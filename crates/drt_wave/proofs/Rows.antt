@@ -9,7 +9,7 @@ use Rattle.drt_wave.specs.declared.plan.Plan.{Plan}
 use Rattle.drt_wave.specs.declared.seat.WaveSeat.{WaveSeat}
 use Rattle.drt_wave.specs.Net.{Among}
 use Rattle.drt_wave.specs.Cells.{net_of}
-use Rattle.drt_wave.specs.Seats.{draws_of, Kept, Turned, HasClaimed, IsExpanded, AllExpanded}
+use Rattle.drt_wave.specs.Seats.{draws_of, IsSeatKept, Turned, HasClaimed, IsExpanded, AllExpanded}
 use Rattle.drt_wave.specs.Rows.{IsInRow, ExpandedBut}
 use Rattle.drt_wave.proofs.Going.{expanded_on, told_low}
 
@@ -47,7 +47,7 @@ module _ (p : Plan) where
       (λ (held : (i ≡ j) × IsInRow row k (c / 64)). inr (held.0, row_kept row k r (c / 64) held.1)) (but i c lt old)) (d.no_more i (c / 64) at)
 
   -- the cells of the blocks of the row are expanded
-  pub but_all : (s n : WaveSeat) (j k : ℕ) (row : List ℕ) → ExpandedBut p j row k s → Kept s n
+  pub but_all : (s n : WaveSeat) (j k : ℕ) (row : List ℕ) → ExpandedBut p j row k s → IsSeatKept s n
       → ((i c : ℕ) → i < k → c < (net_of p).size j → c / 64 ≡ slice_index row i → IsExpanded p n ((net_of p).cell j c)) → AllExpanded p n
   but_all s n j k row but kept here i c lt at = ⊎_elim
       (λ (done : IsExpanded p s ((net_of p).cell i c)). expanded_on p s n ((net_of p).cell i c) kept.raised done)
@@ -57,7 +57,7 @@ module _ (p : Plan) where
       (but i c lt (subst (λ l. Among (i, c / 64) l) kept.draws at))
 
   -- the cells of so many blocks of the row are expanded, and those of the next one too
-  pub row_more : (s n : WaveSeat) (j k : ℕ) (row : List ℕ) → Kept s n
+  pub row_more : (s n : WaveSeat) (j k : ℕ) (row : List ℕ) → IsSeatKept s n
       → ((i c : ℕ) → i < k → c < (net_of p).size j → c / 64 ≡ slice_index row i → IsExpanded p s ((net_of p).cell j c))
       → ((c : ℕ) → c < (net_of p).size j → c / 64 ≡ slice_index row k → IsExpanded p n ((net_of p).cell j c))
       → (i c : ℕ) → i < k + 1 → c < (net_of p).size j → c / 64 ≡ slice_index row i → IsExpanded p n ((net_of p).cell j c)

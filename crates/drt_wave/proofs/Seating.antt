@@ -16,12 +16,12 @@ use Rattle.drt_wave.specs.declared.view.LaneView.{LaneView}
 use Rattle.drt_wave.specs.declared.lane.Lane.{Lane}
 use Rattle.drt_wave.specs.declared.seat.WaveSeat.{WaveSeat}
 use Rattle.drt_wave.specs.declared.table.WaveTable.{WaveTable}
-use Rattle.drt_wave.specs.Net.{Net, Among, IsBest}
-use Rattle.drt_wave.specs.Cells.{net_of, cell_at, width, IsPlan}
+use Rattle.drt_wave.specs.Net.{Net, Among, IsGreatestReaching}
+use Rattle.drt_wave.specs.Cells.{net_of, cell_at, width, IsWavePlan}
 use Rattle.drt_wave.specs.Keys.{lane_net, lane_first, lane_count}
 use Rattle.drt_wave.specs.Lanes.{Settled, Learns}
 use Rattle.drt_wave.specs.Lane.{LaneSeat, IsLane, IsLaneSeat, IsClaimSeat}
-use Rattle.drt_wave.specs.Seats.{parts_of, HasRaised, HasNoMore, KnowsTo, IsOf, Kept, ExpandedTo}
+use Rattle.drt_wave.specs.Seats.{parts_of, HasRaised, HasNoMore, KnowsTo, IsOfTable, IsSeatKept, ExpandedTo}
 use Rattle.drt_wave.proofs.Cells.{cell_vertex, cell_offset}
 use Rattle.drt_wave.proofs.Sums.{at_inside, at_there}
 
@@ -44,13 +44,13 @@ pub record Found (t : WaveTable) (s : WaveSeat) (v : ℕ) (l : Lane) (y : LaneSe
 pub vertex_inside : (t : WaveTable) (v : ℕ) → v < vertex_count t.plan.graph → v < length t.lanes
 vertex_inside t v lt = subst (λ n. v < n) (sym t.laned.count) lt
 
-pub found_at : (t : WaveTable) (s : WaveSeat) (v : ℕ) (l : Lane) (y : LaneSeat) → IsOf t s → get_elem? t.lanes v ≡ some l → get_elem? s.lanes.items v ≡ some y → Found t s v l y
+pub found_at : (t : WaveTable) (s : WaveSeat) (v : ℕ) (l : Lane) (y : LaneSeat) → IsOfTable t s → get_elem? t.lanes v ≡ some l → get_elem? s.lanes.items v ≡ some y → Found t s v l y
 found_at t s v l y is at_l at_y = let h = is.lane v l y at_l at_y in record { at_lane = at_l; at_seat = at_y; lane = t.laned.each v l at_l; sits = h.0; parts = h.1 }
 
 pub lane_read : (t : WaveTable) (v : ℕ) (l : Lane) (xs : List Lane) → v < length t.lanes → xs ≡ t.lanes → l ≡ get_or xs v l → get_elem? t.lanes v ≡ some l
 lane_read t v l xs lt same is = at_index t.lanes v l lt (subst (λ ys. l ≡ get_or ys v l) same is)
 
-pub found : (t : WaveTable) (s : WaveSeat) (v : ℕ) (l : Lane) (y : LaneSeat) (xs : List Lane) → IsOf t s → v < length t.lanes → xs ≡ t.lanes → l ≡ get_or xs v l → y ≡ get_or s.lanes.items v y
+pub found : (t : WaveTable) (s : WaveSeat) (v : ℕ) (l : Lane) (y : LaneSeat) (xs : List Lane) → IsOfTable t s → v < length t.lanes → xs ≡ t.lanes → l ≡ get_or xs v l → y ≡ get_or s.lanes.items v y
     → Found t s v l y
 found t s v l y xs is lt same is_l is_y =
     found_at t s v l y is (lane_read t v l xs lt same is_l) (at_index s.lanes.items v y (omega (arith, lt, is.count)) is_y)
@@ -66,8 +66,8 @@ low_wave p s v o k l y is at_y le known low =
 abbrev pub with_seat : WaveSeat → ℕ → LaneSeat → WaveSeat
 with_seat s v n = record { claims = s.claims; lanes = with_item s.lanes v n }
 
-pub with_is_of : (t : WaveTable) (s : WaveSeat) (v : ℕ) (l : Lane) (y n : LaneSeat) → IsOf t s → get_elem? t.lanes v ≡ some l → get_elem? s.lanes.items v ≡ some y
-    → IsLaneSeat l n → n.me.0.parts ≡ y.me.0.parts → IsOf t (with_seat s v n)
+pub with_is_of : (t : WaveTable) (s : WaveSeat) (v : ℕ) (l : Lane) (y n : LaneSeat) → IsOfTable t s → get_elem? t.lanes v ≡ some l → get_elem? s.lanes.items v ≡ some y
+    → IsLaneSeat l n → n.me.0.parts ≡ y.me.0.parts → IsOfTable t (with_seat s v n)
 with_is_of t s v l y n is at_l at_y sits parts = record {
   claims = is.claims;
   count = length-set s.lanes.items v n ∙ is.count;
@@ -86,7 +86,7 @@ module _ (s : WaveSeat) (v : ℕ) (y n : LaneSeat) (at_y : get_elem? s.lanes.ite
   here : get_elem? (set s.lanes.items v n) v ≡ some n
   here = set_here s.lanes.items v n (at_inside s.lanes.items v y at_y)
 
-  pub with_kept : y.me.0.known ≤ n.me.0.known → ((o x : ℕ) → Among (o, x) y.me.0.raised → Among (o, x) n.me.0.raised) → Kept s (with_seat s v n)
+  pub with_kept : y.me.0.known ≤ n.me.0.known → ((o x : ℕ) → Among (o, x) y.me.0.raised → Among (o, x) n.me.0.raised) → IsSeatKept s (with_seat s v n)
   with_kept known raised = record {
     parts = refl;
     draws = refl;
@@ -135,7 +135,7 @@ module _ (s : WaveSeat) (v : ℕ) (y n : LaneSeat) (at_y : get_elem? s.lanes.ite
 -- The seat of lane v passed on what the cells up to wave j have for the lane.
 abbrev Settles : Plan → ℕ → LaneView LaneKey → ℕ → Type 0
 Settles p v w j = (b : ℕ) → b < (net_of p).cells → (net_of p).wave b ≤ j
-    → (x : ℕ) × IsBest (net_of p) b x × (x ≢ 0 → (o a : ℕ) → o < width p → Among (cell_at p v o, a) ((net_of p).arcs b) → Among (o, x + a) w.raised)
+    → (x : ℕ) × IsGreatestReaching (net_of p) b x × (x ≢ 0 → (o a : ℕ) → o < width p → Among (cell_at p v o, a) ((net_of p).arcs b) → Among (o, x + a) w.raised)
 
 settles : (p : Plan) (s : WaveSeat) (j v : ℕ) (y : LaneSeat) → get_elem? s.lanes.items v ≡ some y → ExpandedTo p j s → Settles p v y.me.0 j
 settles p s j v y at_y expanded b lt low =
@@ -150,12 +150,12 @@ settles p s j v y at_y expanded b lt low =
     )
 
 -- the wave of a lane's cell at the first offset of wave j
-pub first_wave : (p : Plan) (v j o : ℕ) (l : Lane) → IsPlan p → IsLane p v l → o ≤ p.bound → o ≡ j * p.span → (lane_net l.table.shared.key).wave (lane_first l.table.shared.key + o) ≡ j
+pub first_wave : (p : Plan) (v j o : ℕ) (l : Lane) → IsWavePlan p → IsLane p v l → o ≤ p.bound → o ≡ j * p.span → (lane_net l.table.shared.key).wave (lane_first l.table.shared.key + o) ≡ j
 first_wave p v j o l plan is le first =
     let m : ℕ = j * p.span in let begun : o ≡ j * p.span + 0 = omega (arith, first) in
     to_lane (λ g c. g.wave c ≡ j) p v o l is (ap (λ r. r / p.span) (cell_offset p v o le ∙ begun) ∙ div-mul-add j p.span 0 plan.some)
 
-pub settled_at : (p : Plan) (s : WaveSeat) (j v o : ℕ) (l : Lane) (y : LaneSeat) → IsPlan p → IsLane p v l → get_elem? s.lanes.items v ≡ some y → o ≤ p.bound → o ≡ j * p.span → ExpandedTo p j s
+pub settled_at : (p : Plan) (s : WaveSeat) (j v o : ℕ) (l : Lane) (y : LaneSeat) → IsWavePlan p → IsLane p v l → get_elem? s.lanes.items v ≡ some y → o ≤ p.bound → o ≡ j * p.span → ExpandedTo p j s
     → Settled lane_net lane_first lane_count l.table.shared.key y.me.0 ((lane_net l.table.shared.key).wave (lane_first l.table.shared.key + o))
 settled_at p s j v o l y plan is at_y le first expanded =
     subst (Settled lane_net lane_first lane_count l.table.shared.key y.me.0) (sym (first_wave p v j o l plan is le first))
@@ -172,7 +172,7 @@ pub record HaveLooked (t : WaveTable) (j : ℕ) (s n : WaveSeat) (k : ℕ) : Typ
   pub left : (i : ℕ) → k ≤ i → get_elem? n.lanes.items i ≡ get_elem? s.lanes.items i
 
 -- what was read at the next lane
-pub next_found : (t : WaveTable) (j : ℕ) (s n : WaveSeat) (v : ℕ) (l : Lane) (y : LaneSeat) (xs : List Lane) → IsOf t s → HaveLooked t j s n v → v < length xs → xs ≡ t.lanes → l ≡ get_or xs v l
+pub next_found : (t : WaveTable) (j : ℕ) (s n : WaveSeat) (v : ℕ) (l : Lane) (y : LaneSeat) (xs : List Lane) → IsOfTable t s → HaveLooked t j s n v → v < length xs → xs ≡ t.lanes → l ≡ get_or xs v l
     → y ≡ get_or n.lanes.items v y → Found t s v l y × (get_elem? n.lanes.items v ≡ some y)
 next_found t j s n v l y xs is h ltx same is_l is_y =
     let lt : v < length t.lanes = subst (λ ys. v < length ys) same ltx in
@@ -210,7 +210,7 @@ one_looked t j s n k l y u h at_l at_y sits learned final = record {
   left = λ i le. set_else n.lanes.items k i u (λ e. omega arith) ∙ h.left i (omega arith);
 }
 
-module _ (t : WaveTable) (j : ℕ) (s n : WaveSeat) (is : IsOf t s) (h : HaveLooked t j s n (length t.lanes)) where
+module _ (t : WaveTable) (j : ℕ) (s n : WaveSeat) (is : IsOfTable t s) (h : HaveLooked t j s n (length t.lanes)) where
   -- what a seat of the lane at i is
   looked : (i : ℕ) (l : Lane) (u : LaneSeat) → get_elem? t.lanes i ≡ some l → get_elem? n.lanes.items i ≡ some u
       → (y : LaneSeat) × (get_elem? s.lanes.items i ≡ some y) × IsLaneSeat l u × Learns y.me.0 u.me.0 × (ExpandedTo t.plan j s → j + 1 ≤ u.me.0.known)
@@ -219,7 +219,7 @@ module _ (t : WaveTable) (j : ℕ) (s n : WaveSeat) (is : IsOf t s) (h : HaveLoo
       let y = at_there s.lanes.items i (omega (arith, inside, is.count)) in
       let d = h.done i l y.0 u inside at_l y.1 at_u in (y.0, y.1, d.0, d.1, d.2)
 
-  pub all_is_of : IsOf t n
+  pub all_is_of : IsOfTable t n
   all_is_of = record {
     claims = subst (λ c. IsClaimSeat t.claims c) (sym h.claims) is.claims;
     count = h.count ∙ is.count;
@@ -235,7 +235,7 @@ module _ (t : WaveTable) (j : ℕ) (s n : WaveSeat) (is : IsOf t s) (h : HaveLoo
       let l = at_there t.lanes i (omega (arith, inside, h.count, is.count)) in
       let d = looked i l.0 u l.1 at_u in d.4 expanded
 
-  pub all_kept : Kept s n
+  pub all_kept : IsSeatKept s n
   all_kept = record {
     parts = ap (λ c. c.me.0.parts) h.claims;
     draws = ap (λ c. c.me.0.draws) h.claims;

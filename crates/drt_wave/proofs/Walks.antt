@@ -7,24 +7,24 @@ use Rattle.drt_model.specs.Walk.{wcet, deadline, gap, sep, IsEdge, IsPath, last_
 use Rattle.drt_graph.proofs.Edges.{sep_of_edge, edge_of_sep, gap_of}
 use Rattle.drt_graph.proofs.Paths.{path_both, path_within, last_both, work_both, span_both, work_cons, work_none, span_cons, span_none}
 use Rattle.drt_wave.specs.declared.plan.Plan.{Plan}
-use Rattle.drt_wave.specs.Net.{IsBest}
-use Rattle.drt_wave.specs.Cells.{cell_at, net_of, IsPlan, WalkTo}
+use Rattle.drt_wave.specs.Net.{IsGreatestReaching}
+use Rattle.drt_wave.specs.Cells.{cell_at, net_of, IsWavePlan, WalkTo}
 use Rattle.drt_wave.specs.Dense.{AreBest}
-use Rattle.drt_wave.specs.Greatest.{IsInRange, HasWalk, IsGreatestWork}
+use Rattle.drt_wave.specs.Greatest.{IsWalkInRange, HasWalk, IsGreatestWork}
 use Rattle.drt_wave.proofs.Cells.{to_walk, of_walk, cell_vertex, cell_offset}
 
 -- A walk in range that goes on to a vertex that is due within the bound is in range.
-range_more : (g : Digraph) (bound s u v : ℕ) (vs : List ℕ) → IsInRange g bound s u vs → s + span g u vs + gap g (last_of u vs) v + deadline g v ≤ bound → IsInRange g bound s u (vs ++ v ∷ [])
+range_more : (g : Digraph) (bound s u v : ℕ) (vs : List ℕ) → IsWalkInRange g bound s u vs → s + span g u vs + gap g (last_of u vs) v + deadline g v ≤ bound → IsWalkInRange g bound s u (vs ++ v ∷ [])
 range_more g bound s u v [] range h = let none = span_none g u in (range, omega (arith, h, none))
 range_more g bound s u v (x ∷ vs) range h = let more = span_cons g u x vs in (range.0, range_more g bound (s + gap g u x) x v vs range.1 (omega (arith, h, more)))
 
 -- The first vertex of a walk in range is due within the bound.
-range_first : (g : Digraph) (bound s u : ℕ) (vs : List ℕ) → IsInRange g bound s u vs → s + deadline g u ≤ bound
+range_first : (g : Digraph) (bound s u : ℕ) (vs : List ℕ) → IsWalkInRange g bound s u vs → s + deadline g u ≤ bound
 range_first g bound s u [] range = range
 range_first g bound s u (v ∷ vs) range = range.0
 
 -- A walk in range that goes on by an edge, and is still in range.
-pub goes_on : (p : Plan) → IsPlan p → (u v s x : ℕ) → HasWalk p.graph p.bound u s x → IsEdge p.graph u v → s + gap p.graph u v + deadline p.graph v ≤ p.bound
+pub goes_on : (p : Plan) → IsWavePlan p → (u v s x : ℕ) → HasWalk p.graph p.bound u s x → IsEdge p.graph u v → s + gap p.graph u v + deadline p.graph v ≤ p.bound
     → HasWalk p.graph p.bound v (s + gap p.graph u v) (x + wcet p.graph v)
 goes_on p plan u v s x walk on fits =
     let g = p.graph in let f : ℕ = walk.0 in let others : List ℕ = walk.1 in let is = walk.2 in
@@ -45,7 +45,7 @@ goes_on p plan u v s x walk on fits =
     )
 
 -- The walk of some vertices, the last first, is one of the graph.
-pub walk_of : (p : Plan) → IsPlan p → (v : ℕ) (before : List ℕ) (s x : ℕ) → WalkTo p v before s x → HasWalk p.graph p.bound v s x
+pub walk_of : (p : Plan) → IsWavePlan p → (v : ℕ) (before : List ℕ) (s x : ℕ) → WalkTo p v before s x → HasWalk p.graph p.bound v s x
 walk_of p plan v [] s x w =
     let g = p.graph in let none = span_none g v in let w1 = work_cons g v [] in let w2 = work_none g in let off = w.1 in let works = w.2 in let due = w.3 in (
       v,
@@ -63,7 +63,7 @@ walk_of p plan v (u ∷ before) s x w =
     subst (λ (q : ℕ × ℕ). HasWalk g p.bound v q.0 q.1) (λ i. (same_s i, same_x i)) (goes_on p plan u v r y walk is.1 (omega (arith, gaps, off, due)))
 
 -- The walk from f over the others, behind a walk to f, as a list of vertices, the last first.
-before_of : (p : Plan) (f : ℕ) (others : List ℕ) (s x : ℕ) (before : List ℕ) → WalkTo p f before s x → IsPath p.graph f others → IsInRange p.graph p.bound s f others
+before_of : (p : Plan) (f : ℕ) (others : List ℕ) (s x : ℕ) (before : List ℕ) → WalkTo p f before s x → IsPath p.graph f others → IsWalkInRange p.graph p.bound s f others
     → (b : List ℕ) × WalkTo p (last_of f others) b (s + span p.graph f others) (x + work p.graph others)
 before_of p f [] s x before w path range =
     let g = p.graph in let none = span_none g f in let no_work = work_none g in
@@ -91,18 +91,18 @@ of_has p v s x walk =
     (r.0, subst (λ (q : ℕ × ℕ × ℕ). WalkTo p q.0 r.0 q.1 q.2) (λ i. (is.vertex i, same_s i, same_x i)) r.1)
 
 -- Where a walk in range ends there is a cell, and its work is more than 0.
-pub has_bounds : (p : Plan) → IsPlan p → (v s x : ℕ) → HasWalk p.graph p.bound v s x → (v < vertex_count p.graph) × (s ≤ p.bound) × (0 < x)
+pub has_bounds : (p : Plan) → IsWavePlan p → (v s x : ℕ) → HasWalk p.graph p.bound v s x → (v < vertex_count p.graph) × (s ≤ p.bound) × (0 < x)
 has_bounds p plan v s x walk =
     let b = of_has p v s x walk in let at = of_walk p plan v b.0 s x b.1 in
     let some = (plan.sound.wcet walk.0 walk.2.is_vertex).0 in let w1 = work_cons p.graph walk.0 walk.1 in let works = walk.2.works in
     (at.1, at.0, omega (arith, some, w1, works))
 
 -- What a cell holds is the greatest work of the walks that end there.
-pub greatest_at : (p : Plan) (columns : List (List ℕ)) → IsPlan p → AreBest p columns → (v s : ℕ) → v < vertex_count p.graph → s ≤ p.bound
+pub greatest_at : (p : Plan) (columns : List (List ℕ)) → IsWavePlan p → AreBest p columns → (v s : ℕ) → v < vertex_count p.graph → s ≤ p.bound
     → IsGreatestWork p.graph p.bound v s (slice_index (slice_index_or columns v []) s)
 greatest_at p columns plan best v s ltv le =
     let c : ℕ = cell_at p v s in let x : ℕ = slice_index (slice_index_or columns v []) s in
-    let is : IsBest (net_of p) c x = best v s ltv le in (
+    let is : IsGreatestReaching (net_of p) c x = best v s ltv le in (
       (λ ne.
           let r = is.0 ne in let walk = to_walk p r.0 c x r.1 in
           let at : WalkTo p v walk.0 s x = subst (λ (q : ℕ × ℕ). WalkTo p q.0 walk.0 q.1 x) (λ i. (cell_vertex p v s le i, cell_offset p v s le i)) walk.1 in

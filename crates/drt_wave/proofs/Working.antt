@@ -7,12 +7,12 @@ use Rattle.drt_model.specs.Digraph.{vertex_count, out_edges, out_degree, edge_of
 use Rattle.drt_model.specs.Walk.{wcet, deadline}
 use Rattle.drt_wave.specs.declared.plan.Plan.{Plan}
 use Rattle.drt_wave.specs.Net.{Among, Reached}
-use Rattle.drt_wave.specs.Cells.{width, offsets, cell_at, arcs_from, net_of, IsPlan, WalkTo}
+use Rattle.drt_wave.specs.Cells.{width, offsets, cell_at, arcs_from, net_of, IsWavePlan, WalkTo}
 use Rattle.drt_wave.proofs.Cells.{arc_among, of_walk, to_walk, cell_lt, cell_vertex, cell_offset}
 
 module _ (p : Plan) where
   -- the work of a walk is at most a million times its offset and one
-  walk_small : IsPlan p → (v : ℕ) (before : List ℕ) (s x : ℕ) → WalkTo p v before s x → x ≤ 1000000 * (s + 1)
+  walk_small : IsWavePlan p → (v : ℕ) (before : List ℕ) (s x : ℕ) → WalkTo p v before s x → x ≤ 1000000 * (s + 1)
   walk_small plan v [] s x walk = let w = plan.sound.wcet v walk.0 in omega (arith, w.1, walk.2)
   walk_small plan v (u ∷ before) s x walk =
       let was = walk_small plan u before walk.1 walk.2 walk.3 in
@@ -22,17 +22,17 @@ module _ (p : Plan) where
       let w = plan.sound.wcet v to in
       omega (arith, w.1, walk.7, walk.6, sep.0)
 
-  pub reached_small : IsPlan p → (v s x : ℕ) → s ≤ p.bound → Reached (net_of p) (cell_at p v s) x → x ≤ 1000000 * (s + 1)
+  pub reached_small : IsWavePlan p → (v s x : ℕ) → s ≤ p.bound → Reached (net_of p) (cell_at p v s) x → x ≤ 1000000 * (s + 1)
   reached_small plan v s x le r =
       let walk = to_walk p r.0 (cell_at p v s) x r.1 in
       let small = walk_small plan (cell_at p v s / width p) walk.0 (cell_at p v s % width p) x walk.1 in
       subst (λ z. x ≤ 1000000 * (z + 1)) (cell_offset p v s le) small
 
-  pub bound_small : IsPlan p → (n : ℕ) → n ≤ 4194304 → n ≡ vertex_count p.graph * width p → p.bound < 4194304
+  pub bound_small : IsWavePlan p → (n : ℕ) → n ≤ 4194304 → n ≡ vertex_count p.graph * width p → p.bound < 4194304
   bound_small plan n small is =
       let one : 1 * width p ≤ vertex_count p.graph * width p = mul-le 1 (width p) (vertex_count p.graph) (width p) plan.sound.some (omega arith) in omega (arith, one, is)
 
-  pub sum_fits : IsPlan p → (n v s x w : ℕ) → n ≤ 4194304 → n ≡ vertex_count p.graph * width p → s ≤ p.bound → Reached (net_of p) (cell_at p v s) x → w ≤ 1000000 → x + w < 2 ^ 64
+  pub sum_fits : IsWavePlan p → (n v s x w : ℕ) → n ≤ 4194304 → n ≡ vertex_count p.graph * width p → s ≤ p.bound → Reached (net_of p) (cell_at p v s) x → w ≤ 1000000 → x + w < 2 ^ 64
   sum_fits plan n v s x w small is le r some = omega (arith, reached_small plan v s x le r, bound_small plan n small is)
 
   -- a walk that goes on by an edge
@@ -47,18 +47,18 @@ module _ (p : Plan) where
       (suc r.0, (b, x, wcet p.graph e.to, cell_lt p u s ltu le, r.1, arc', refl))
 
 module _ (p : Plan) where
-  wave_first : IsPlan p → (j : ℕ) → j < p.bound / p.span + 1 → j * p.span ≤ p.bound
+  wave_first : IsWavePlan p → (j : ℕ) → j < p.bound / p.span + 1 → j * p.span ≤ p.bound
   wave_first plan j lt =
       let q : ℕ = p.bound / p.span in let m : ℕ = q * p.span in let split : m + p.bound % p.span ≡ p.bound = div-add-mod' p.bound p.span in
       let le : j * p.span ≤ m = mul-le j p.span q p.span (omega arith) (omega arith) in omega arith
 
-  pub size_small : IsPlan p → (n j : ℕ) → n ≤ 4194304 → n ≡ vertex_count p.graph * width p → (net_of p).size j < 2 ^ 64
+  pub size_small : IsWavePlan p → (n j : ℕ) → n ≤ 4194304 → n ≡ vertex_count p.graph * width p → (net_of p).size j < 2 ^ 64
   size_small plan n j small is =
       let le : vertex_count p.graph * offsets p j ≤ vertex_count p.graph * width p = mul-le (vertex_count p.graph) (offsets p j) (vertex_count p.graph)
       (width p) (omega arith) (omega arith) in omega (arith, le, is)
 
   -- where number k of wave j stands
-  pub placed : IsPlan p → (j k : ℕ) → j < p.bound / p.span + 1 → k < vertex_count p.graph * offsets p j
+  pub placed : IsWavePlan p → (j k : ℕ) → j < p.bound / p.span + 1 → k < vertex_count p.graph * offsets p j
       → (0 < offsets p j) × (k / offsets p j < vertex_count p.graph) × (j * p.span + k % offsets p j ≤ p.bound) × ((j * p.span + k % offsets p j) / p.span ≡ j)
   placed plan j k ltj ltk =
       let some = plan.some in

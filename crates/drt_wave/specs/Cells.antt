@@ -1,7 +1,7 @@
 -- The cells of a graph, their waves, and the walks that they are about.
 use Rattle.std.specs.Prelude.{◌≡◌, ℕ, ◌+◌, ◌-◌, ◌*◌, ◌/◌, ◌%◌, ◌<◌, ◌≤◌, min, nat_le, ◌==◌, ◌&&◌, if◌then◌else◌, List, [], ◌∷◌}
 use Rattle.drt_model.specs.declared.tasks.Edge.{Edge}
-use Rattle.drt_model.specs.Digraph.{IsSound, vertex_count, out_edges, out_degree, edge_of}
+use Rattle.drt_model.specs.Digraph.{IsSoundGraph, vertex_count, out_edges, out_degree, edge_of}
 use Rattle.drt_model.specs.Walk.{wcet, deadline}
 use Rattle.drt_wave.specs.declared.plan.Plan.{Plan}
 use Rattle.drt_wave.specs.Net.{Net}
@@ -37,8 +37,8 @@ net_of p = record {
 
 -- The graph is sound, there are at most 2^22 cells, and the span, which is more than 0, is the least separation, or all offsets where that is less:
 -- the greatest number that is at most each separation and at most how many offsets there are.
-pub record IsPlan (p : Plan) : Type 0 where
-  pub sound : IsSound p.graph
+pub record IsWavePlan (p : Plan) : Type 0 where
+  pub sound : IsSoundGraph p.graph
   pub small : vertex_count p.graph * width p ≤ 4194304
   pub some : 0 < p.span
   pub apart : (v k : ℕ) → v < vertex_count p.graph → k < out_degree p.graph v → p.span ≤ (edge_of p.graph v k).sep

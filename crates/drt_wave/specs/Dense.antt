@@ -5,7 +5,7 @@ use Rattle.std.specs.declared.alloc.Global.{Global}
 use Rattle.atomic_table.specs.declared.owned.Closed.{Closed}
 use Rattle.drt_model.specs.Digraph.{vertex_count}
 use Rattle.drt_wave.specs.declared.plan.Plan.{Plan}
-use Rattle.drt_wave.specs.Net.{IsBest}
+use Rattle.drt_wave.specs.Net.{IsGreatestReaching}
 use Rattle.drt_wave.specs.Cells.{cell_at, net_of, width}
 
 -- the words of a lane's table that is closed, and none where there is no table
@@ -20,7 +20,7 @@ pub record Dense : Type 0 where
 
 -- Each cell holds the greatest work that reaches it.
 abbrev pub AreBest : Plan → List (List ℕ) → Type 0
-AreBest p columns = (v s : ℕ) → v < vertex_count p.graph → s ≤ p.bound → IsBest (net_of p) (cell_at p v s) (slice_index (slice_index_or columns v []) s)
+AreBest p columns = (v s : ℕ) → v < vertex_count p.graph → s ≤ p.bound → IsGreatestReaching (net_of p) (cell_at p v s) (slice_index (slice_index_or columns v []) s)
 
 -- There is a list for each vertex, with as many cells as there are offsets.
 abbrev pub AreWhole : Plan → List (List ℕ) → Type 0

@@ -25,13 +25,13 @@ abbrev pub Covers : ℕ → ℕ → ℕ → FrontEntry → Type 0
 Covers vertex offset work e = (e.vertex ≡ vertex) × (e.offset ≤ offset) × (work ≤ e.work)
 
 -- The entry is one of some labels, and no other of them covers it: none of its vertex has at most its offset and at least its work.
-pub record IsNonDominated (IsLabel : FrontEntry → Type 0) (e : FrontEntry) : Type 0 where
+pub record IsNonDominatedEntry (IsLabel : FrontEntry → Type 0) (e : FrontEntry) : Type 0 where
   pub label : IsLabel e
   pub alone : (d : FrontEntry) → IsLabel d → Covers e.vertex e.offset e.work d → d ≡ e
 
 -- The front has exactly those of some labels that no other one covers.
 abbrev pub IsFrontOf : (FrontEntry → Type 0) → List FrontEntry → Type 0
-IsFrontOf IsLabel front = (e : FrontEntry) → Contains front e ↔ IsNonDominated IsLabel e
+IsFrontOf IsLabel front = (e : FrontEntry) → Contains front e ↔ IsNonDominatedEntry IsLabel e
 
 -- The front has exactly the labels, of walks whose last job is due within the bound, that no other one covers.
 abbrev pub IsExactFront : ℕ → Digraph → List FrontEntry → Type 0

@@ -7,7 +7,7 @@ use Rattle.drt_wave.specs.Dense.{Dense, work_at}
 use Rattle.drt_wave.specs.Fronts.{IsNextEntry}
 
 -- The entry has the work of its cell, which is more than that of each cell of its vertex at a smaller offset.
-pub record IsKept (d : Dense) (e : FrontEntry) : Type 0 where
+pub record IsCellKept (d : Dense) (e : FrontEntry) : Type 0 where
   pub vertex : e.vertex < vertex_count d.plan.graph
   pub offset : e.offset ≤ d.plan.bound
   pub works : e.work ≡ work_at d e.vertex e.offset
@@ -15,13 +15,13 @@ pub record IsKept (d : Dense) (e : FrontEntry) : Type 0 where
   pub above : (t : ℕ) → t < e.offset → work_at d e.vertex t < e.work
 
 -- The entry is of an earlier vertex than v, or of v with a smaller offset than s.
-abbrev pub IsBefore : ℕ → ℕ → FrontEntry → Type 0
-IsBefore v s e = (e.vertex < v) ⊎ ((e.vertex ≡ v) × (e.offset < s))
+abbrev pub IsCellBefore : ℕ → ℕ → FrontEntry → Type 0
+IsCellBefore v s e = (e.vertex < v) ⊎ ((e.vertex ≡ v) × (e.offset < s))
 
 -- The list has, in order, exactly the entries to be kept before a vertex and an offset. There are no more than cells.
-pub record AreGathered (d : Dense) (v s : ℕ) (entries : List FrontEntry) : Type 0 where
-  pub kept : (e : FrontEntry) → Contains entries e → IsKept d e × IsBefore v s e
-  pub all : (e : FrontEntry) → IsKept d e → IsBefore v s e → Contains entries e
+pub record AreCellsGathered (d : Dense) (v s : ℕ) (entries : List FrontEntry) : Type 0 where
+  pub kept : (e : FrontEntry) → Contains entries e → IsCellKept d e × IsCellBefore v s e
+  pub all : (e : FrontEntry) → IsCellKept d e → IsCellBefore v s e → Contains entries e
   pub ordered : AllNeighbours IsNextEntry entries
   pub few : length entries ≤ v * (d.plan.bound + 1) + s
 

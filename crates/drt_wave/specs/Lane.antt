@@ -7,7 +7,7 @@ use Rattle.drt_wave.specs.declared.view.LaneKey.{LaneKey}
 use Rattle.drt_wave.specs.declared.view.LaneView.{LaneView}
 use Rattle.drt_wave.specs.declared.lane.Lane.{Lane}
 use Rattle.drt_wave.specs.declared.claims.Claims.{Claims}
-use Rattle.drt_wave.specs.Net.{IsBest}
+use Rattle.drt_wave.specs.Net.{IsGreatestReaching}
 use Rattle.drt_wave.specs.Cells.{width}
 use Rattle.drt_wave.specs.Keys.{lane_net, lane_first}
 
@@ -38,4 +38,4 @@ pub record IsClaimSeat (c : Claims) (y : ClaimSeat) : Type 0 where
 
 -- Each word of a lane is the greatest work of its cell.
 abbrev pub AreFinal : LaneKey → List ℕ → Type 0
-AreFinal key ws = (o : ℕ) → o < length ws → IsBest (lane_net key) (lane_first key + o) (slice_index ws o)
+AreFinal key ws = (o : ℕ) → o < length ws → IsGreatestReaching (lane_net key) (lane_first key + o) (slice_index ws o)

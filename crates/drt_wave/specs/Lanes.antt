@@ -4,7 +4,7 @@ use mathlib.Core.Option.{some}
 use lib.ListN.{get_elem?}
 use Rattle.atomic_table.specs.Table.{State, Me, Step}
 use Rattle.drt_wave.specs.declared.view.LaneView.{LaneView}
-use Rattle.drt_wave.specs.Net.{Net, IsNet, Among, Reached, IsBest}
+use Rattle.drt_wave.specs.Net.{Net, IsNet, Among, Reached, IsGreatestReaching}
 use Rattle.drt_wave.specs.Sums.{total, greatest}
 
 -- the greatest contribution at offset o
@@ -49,7 +49,7 @@ module _ {F : Type 0} (net : F → Net) (first count : F → ℕ) where
   -- Each cell up to wave j has its greatest work, and the seat passed that on along each arc into the lane.
   abbrev pub Settled : F → LaneView F → ℕ → Type 0
   Settled key v j = (b : ℕ) → b < (net key).cells → (net key).wave b ≤ j
-      → (x : ℕ) × IsBest (net key) b x × (x ≢ 0 → (o w : ℕ) → o < count key → Among (first key + o, w) ((net key).arcs b) → Among (o, x + w) v.raised)
+      → (x : ℕ) × IsGreatestReaching (net key) b x × (x ≢ 0 → (o w : ℕ) → o < count key → Among (first key + o, w) ((net key).arcs b) → Among (o, x + w) v.raised)
 
   -- What a seat did and knows is true of the words.
   pub record Knows (key : F) (ws : List ℕ) (v : LaneView F) : Type 0 where
@@ -59,7 +59,7 @@ module _ {F : Type 0} (net : F → Net) (first count : F → ℕ) where
     pub idle : v.parts ≡ 0 → v.raised ≡ []
     pub same : (f : F) → v.fixed ≡ Some f → f ≡ key
     pub reached : (o x : ℕ) → Among (o, x) v.raised → Reached (net key) (first key + o) x
-    pub final : (o : ℕ) → o < count key → (net key).wave (first key + o) ≤ v.known → IsBest (net key) (first key + o) (slice_index ws o)
+    pub final : (o : ℕ) → o < count key → (net key).wave (first key + o) ≤ v.known → IsGreatestReaching (net key) (first key + o) (slice_index ws o)
 
   -- The rule: the seats have 1,024 parts together, each word is the greatest of what its cell opened with and what all seats contributed to it,
   -- and what each seat knows is true.
@@ -72,8 +72,8 @@ module _ {F : Type 0} (net : F → Net) (first count : F → ℕ) where
     pub each : (i : ℕ) (v : LaneView F) → get_elem? s.views i ≡ some v → Knows key s.words v
 
 -- what a step tells: of the step, the seat before, the number found and the seat after
-abbrev pub Said : Type 0 → Type 0 → Type 1
-Said S F = Step S → Me S (LaneView F) → ℕ → Me S (LaneView F) → Type 0
+abbrev pub LaneSaid : Type 0 → Type 0 → Type 1
+LaneSaid S F = Step S → Me S (LaneView F) → ℕ → Me S (LaneView F) → Type 0
 
 module _ {F : Type 0} (net : F → Net) (first : F → ℕ) where
   -- Number r, which was read at offset o, is no less than what the cell opened with and what the seat contributed to it, where it isn't 0 the work
@@ -82,16 +82,16 @@ module _ {F : Type 0} (net : F → Net) (first : F → ℕ) where
     pub opened : (net key).opens (first key + o) ≤ r
     pub own : (x : ℕ) → Among (o, x) v.raised → x ≤ r
     pub reached : r ≢ 0 → Reached (net key) (first key + o) r
-    pub best : (net key).wave (first key + o) ≤ v.known → IsBest (net key) (first key + o) r
+    pub best : (net key).wave (first key + o) ≤ v.known → IsGreatestReaching (net key) (first key + o) r
 
 module _ {S F : Type 0} (net : F → Net) (first count : F → ℕ) where
   -- A cell was read, and nothing else done. A seat that passed on all that the cells up to that cell's wave have for the lane knows the next wave as
   -- final too.
-  abbrev pub glanced : Said S F
+  abbrev pub glanced : LaneSaid S F
   glanced st m r n = (k : ℕ) × (n ≡ (lane_knowing m.0 k, m.1)) × (m.0.known ≤ k)
       × ((f : F) → m.0.fixed ≡ Some f → IsRead net first f m.0 st.word r
       × (Settled net first count f m.0 ((net f).wave (first f + st.word)) → (net f).wave (first f + st.word) + 1 ≤ k))
 
 -- A work was contributed to a cell.
-abbrev pub raises : {S F : Type 0} → Said S F
+abbrev pub raises : {S F : Type 0} → LaneSaid S F
 raises st m r n = n ≡ (lane_raised m.0 st.word st.first, m.1)

@@ -8,7 +8,7 @@ use Rattle.drt_wave.specs.declared.plan.Plan.{Plan}
 use Rattle.drt_wave.specs.declared.lane.Lane.{Lane}
 use Rattle.drt_wave.specs.declared.seat.WaveSeat.{WaveSeat}
 use Rattle.drt_wave.specs.declared.table.WaveTable.{WaveTable}
-use Rattle.drt_wave.specs.Net.{Net, Among, IsBest}
+use Rattle.drt_wave.specs.Net.{Net, Among, IsGreatestReaching}
 use Rattle.drt_wave.specs.Cells.{net_of, width}
 use Rattle.drt_wave.specs.Lane.{LaneSeat, IsLaneSeat, IsClaimSeat}
 
@@ -29,22 +29,22 @@ abbrev pub KnowsTo : ℕ → WaveSeat → Type 0
 KnowsTo k s = (v : ℕ) (y : LaneSeat) → get_elem? s.lanes.items v ≡ some y → k ≤ y.me.0.known
 
 -- It is of the table: it has a seat of the claim words and one of each lane, with as many parts.
-pub record IsOf (t : WaveTable) (s : WaveSeat) : Type 0 where
+pub record IsOfTable (t : WaveTable) (s : WaveSeat) : Type 0 where
   pub claims : IsClaimSeat t.claims s.claims
   pub count : length s.lanes.items ≡ length t.lanes
   pub room : length t.lanes ≤ vec_capacity s.lanes
   pub lane : (v : ℕ) (l : Lane) (y : LaneSeat) → get_elem? t.lanes v ≡ some l → get_elem? s.lanes.items v ≡ some y → IsLaneSeat l y × (y.me.0.parts ≡ parts_of s)
 
 -- It has no element, and room for one of each lane.
-abbrev pub IsRoom : {A : Type 0} → WaveTable → Vec LaneSeat A → Type 0
-IsRoom t room = (room.items ≡ []) × (length t.lanes ≤ vec_capacity room)
+abbrev pub HasRoomForLanes : {A : Type 0} → WaveTable → Vec LaneSeat A → Type 0
+HasRoomForLanes t room = (room.items ≡ []) × (length t.lanes ≤ vec_capacity room)
 
 -- from s to n it contributed nothing
 abbrev pub HasNoMore : WaveSeat → WaveSeat → Type 0
 HasNoMore s n = (v o x : ℕ) → HasRaised n v o x → HasRaised s v o x
 
 -- It contributed something, or nothing, and did nothing else.
-pub record Kept (s n : WaveSeat) : Type 0 where
+pub record IsSeatKept (s n : WaveSeat) : Type 0 where
   pub parts : parts_of n ≡ parts_of s
   pub draws : draws_of n ≡ draws_of s
   pub known : (k : ℕ) → KnowsTo k s → KnowsTo k n
@@ -58,7 +58,7 @@ pub record Turned (s n : WaveSeat) : Type 0 where
   pub raised : (v o x : ℕ) → HasRaised s v o x → HasRaised n v o x
 
 -- One part of it went to another seat.
-pub record IsCut (s left right : WaveSeat) : Type 0 where
+pub record IsSeatCut (s left right : WaveSeat) : Type 0 where
   pub parts : parts_of left + 1 ≡ parts_of s
   pub draws : draws_of left ≡ draws_of s
   pub known : (k : ℕ) → KnowsTo k s → KnowsTo k left
@@ -94,7 +94,7 @@ pub record HasClaimed (j r : ℕ) (s n : WaveSeat) : Type 0 where
 module _ (p : Plan) where
   -- The cell has its greatest work, and the seat passed that on along each arc.
   abbrev pub IsExpanded : WaveSeat → ℕ → Type 0
-  IsExpanded s c = (x : ℕ) × IsBest (net_of p) c x × (x ≢ 0 → (t w : ℕ) → Among (t, w) ((net_of p).arcs c) → HasRaised s (t / width p) (t % width p) (x + w))
+  IsExpanded s c = (x : ℕ) × IsGreatestReaching (net_of p) c x × (x ≢ 0 → (t w : ℕ) → Among (t, w) ((net_of p).arcs c) → HasRaised s (t / width p) (t % width p) (x + w))
 
   -- Each cell of a block that the seat drew is expanded. A block has 64 cells, the last one of a wave what is left.
   abbrev pub AllExpanded : WaveSeat → Type 0

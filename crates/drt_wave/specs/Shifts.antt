@@ -3,11 +3,11 @@ use Rattle.std.specs.Prelude.{◌≡◌, ℕ, ◌*◌, ◌<◌, ◌≤◌}
 use Rattle.drt_wave.specs.declared.seat.WaveSeat.{WaveSeat}
 use Rattle.drt_wave.specs.declared.table.WaveTable.{WaveTable}
 use Rattle.drt_wave.specs.Cells.{net_of}
-use Rattle.drt_wave.specs.Seats.{parts_of, KnowsTo, IsOf, AllExpanded, HasDrawn, HasDrawnBelow}
+use Rattle.drt_wave.specs.Seats.{parts_of, KnowsTo, IsOfTable, AllExpanded, HasDrawn, HasDrawnBelow}
 
 -- The seat has so many parts, and works wave j: it knows the earlier waves as final, and has expanded all that it drew.
 pub record IsAtWork (t : WaveTable) (j count : ℕ) (s : WaveSeat) : Type 0 where
-  pub of : IsOf t s
+  pub of : IsOfTable t s
   pub parts : parts_of s ≡ count
   pub known : KnowsTo j s
   pub all : AllExpanded t.plan s
@@ -23,7 +23,7 @@ abbrev pub IsShift : WaveTable → ℕ → WaveSeat → Type 0
 IsShift t j s = (j < (net_of t.plan).waves) × IsAtWork t j 1 s
 
 -- The seat has so many parts. All waves below wave j are worked, and wave j is open, or none where they are all worked.
-pub record IsOwner (t : WaveTable) (j count waves : ℕ) (s : WaveSeat) : Type 0 where
+pub record IsWaveOwner (t : WaveTable) (j count waves : ℕ) (s : WaveSeat) : Type 0 where
   pub work : IsAtWork t j count s
   pub some : 0 < count
   pub few : count ≤ 1024

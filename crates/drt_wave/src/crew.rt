@@ -1,7 +1,7 @@
 //! How many workers a table has, and which waves they share.
 ghost use Rattle.std.specs.Prelude.{◌≡◌, ◌<◌, ◌≤◌};
-ghost use Rattle.drt_wave.specs.Cells.{net_of, IsPlan};
-ghost use Rattle.drt_wave.specs.Seats.{IsOf, Kept};
+ghost use Rattle.drt_wave.specs.Cells.{net_of, IsWavePlan};
+ghost use Rattle.drt_wave.specs.Seats.{IsOfTable, IsSeatKept};
 
 use crate::plan::Plan;
 use crate::seat::WaveSeat;
@@ -64,7 +64,7 @@ impl Crew {
     /// more than there are processors. (Cells that others opened come slowly to one who works them alone.) To ask how many processors there are takes
     /// as long as to work a thousand cells.
     pub(crate) fn openers<R: Threads>(self, rt: &R, plan: &Plan) -> u32
-        requires planned { IsPlan plan.now }
+        requires planned { IsWavePlan plan.now }
         requires some { 1 ≤ self.count }
         ensures { result ≤ self.count }
     {
@@ -121,10 +121,10 @@ impl Sharing {
     /// they work each one of which they spare the caller more than it takes to hand it out; and as long as they haven't begun, only where that is
     /// enough for them to begin, if the waves after this one are as it is.
     pub(crate) fn shares(&mut self, table: &WaveTable, seat: &mut WaveSeat, wave: u32) -> bool
-        requires seat { IsOf table.now seat.old }
+        requires seat { IsOfTable table.now seat.old }
         requires wave { wave < (net_of table.now.plan).waves }
-        ensures seat { IsOf table.now seat.new }
-        ensures kept { Kept seat.old seat.new }
+        ensures seat { IsOfTable table.now seat.new }
+        ensures kept { IsSeatKept seat.old seat.new }
     {
         if self.crew.count <= 1 {
             return false;
@@ -144,11 +144,11 @@ impl Sharing {
 
     // Whether it is worth it to share a wave of this size.
     fn pays(&mut self, table: &WaveTable, seat: &mut WaveSeat, wave: u32, size: u64) -> bool
-        requires seat { IsOf table.now seat.old }
+        requires seat { IsOfTable table.now seat.old }
         requires wave { wave < (net_of table.now.plan).waves }
         requires some { 1 ≤ self.old.crew.count }
-        ensures seat { IsOf table.now seat.new }
-        ensures kept { Kept seat.old seat.new }
+        ensures seat { IsOfTable table.now seat.new }
+        ensures kept { IsSeatKept seat.old seat.new }
     {
         // So many waves as it is are left; where workers have begun any number will do.
         let waves = if self.has_begun {
@@ -172,11 +172,11 @@ impl Sharing {
 
     // Whether it is worth it to share a wave by the load that its cells tell. Before workers begin, which they do once, more cells have to tell it.
     fn is_loaded(&self, table: &WaveTable, seat: &mut WaveSeat, wave: u32, waves: u64) -> bool
-        requires seat { IsOf table.now seat.old }
+        requires seat { IsOfTable table.now seat.old }
         requires wave { wave < (net_of table.now.plan).waves }
         requires some { 1 ≤ self.now.crew.count }
-        ensures seat { IsOf table.now seat.new }
-        ensures kept { Kept seat.old seat.new }
+        ensures seat { IsOfTable table.now seat.new }
+        ensures kept { IsSeatKept seat.old seat.new }
     {
         if !self.crew.gains(load_of(table, seat, wave, FEW), waves) {
             return false;
@@ -190,11 +190,11 @@ impl Sharing {
 
 // The load of a wave whose cells are final, told by so many looks.
 fn load_of(table: &WaveTable, seat: &mut WaveSeat, wave: u32, looks: u64) -> u64
-    requires seat { IsOf table.now seat.old }
+    requires seat { IsOfTable table.now seat.old }
     requires wave { wave < (net_of table.now.plan).waves }
     requires looks { (1 ≤ looks) × (looks ≤ 64) }
-    ensures seat { IsOf table.now seat.new }
-    ensures kept { Kept seat.old seat.new }
+    ensures seat { IsOfTable table.now seat.new }
+    ensures kept { IsSeatKept seat.old seat.new }
     ensures load { result ≤ 4194304 }
 {
     let size = table.wave_size(wave);

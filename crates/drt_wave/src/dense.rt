@@ -17,12 +17,12 @@ pub struct DenseFront {
 }
 
 impl Model for DenseFront {
-    ghost use Rattle.drt_wave.specs.Cells.{IsPlan};
+    ghost use Rattle.drt_wave.specs.Cells.{IsWavePlan};
     ghost use Rattle.drt_wave.specs.Dense.{Dense, AreBest, AreWhole};
 
     ghost Value = { Dense };
 
     ghost view = { λ d. record { plan = d.plan; columns = d.columns.items } };
 
-    ghost invariant = { λ d. IsPlan d.plan × AreWhole d.plan d.columns.items × AreBest d.plan d.columns.items };
+    ghost invariant = { λ d. IsWavePlan d.plan × AreWhole d.plan d.columns.items × AreBest d.plan d.columns.items };
 }

@@ -2,7 +2,7 @@
 ghost use Rattle.std.specs.Prelude.{◌≡◌, [], IfOk, IfErr, IfSome};
 ghost use Rattle.drt_wave.specs.Cells.{net_of};
 ghost use Rattle.drt_wave.specs.Shifts.{IsAtWork, IsShift};
-ghost use Rattle.drt_wave.specs.Seats.{draws_of, KnowsTo, IsOf, IsRoom};
+ghost use Rattle.drt_wave.specs.Seats.{draws_of, KnowsTo, IsOfTable, HasRoomForLanes};
 
 use crate::crew::{Crew, Sharing};
 use crate::drawing::turn_count;
@@ -39,14 +39,14 @@ pub(crate) struct Desk<'a> {
 }
 
 impl<'a> Model for Desk<'a> {
-    ghost use Rattle.drt_wave.specs.Shifts.{IsOwner};
+    ghost use Rattle.drt_wave.specs.Shifts.{IsWaveOwner};
     ghost use Rattle.drt_wave.specs.declared.table.WaveTable.{WaveTable};
 
     ghost Value = { WaveTable };
 
     ghost view = { λ d. d.table.now };
 
-    ghost invariant = { λ d. IsOwner d.table.now d.wave d.parts d.waves d.owner };
+    ghost invariant = { λ d. IsWaveOwner d.table.now d.wave d.parts d.waves d.owner };
 }
 
 impl<'a> Guarded for Desk<'a> {
@@ -102,10 +102,10 @@ impl<'a> Desk<'a> {
 
     /// A seat for the open wave, where that is `next` or a later one and there is a part to spare, and else the room for it back.
     pub(crate) fn take(&mut self, next: u64, room: Vec<LaneSeat>) -> Result<Shift, Vec<LaneSeat>>
-        requires room { IsRoom self.old room }
+        requires room { HasRoomForLanes self.old room }
         ensures kept { self.new ≡ self.old }
         ensures shift { IfOk result (λ shift. IsShift self.old shift.wave shift.seat) }
-        ensures room { IfErr result (λ back. IsRoom self.old back) }
+        ensures room { IfErr result (λ back. HasRoomForLanes self.old back) }
     {
         if self.wave >= self.waves || (self.wave as u64) < next || self.parts <= 1 {
             return Err(room);
@@ -122,7 +122,7 @@ impl<'a> Desk<'a> {
     pub(crate) fn give_back(&mut self, shift: Shift) -> Option<Vec<LaneSeat>>
         requires { IsShift self.old shift.wave shift.seat }
         ensures kept { self.new ≡ self.old }
-        ensures room { IfSome result (λ room. IsRoom self.old room) }
+        ensures room { IfSome result (λ room. HasRoomForLanes self.old room) }
     {
         if self.parts >= PARTS {
             return None;
@@ -143,7 +143,7 @@ impl<'a> Desk<'a> {
 
     /// The seat, once every wave is worked. Where all parts are back it works those that are left, and where one is out, None.
     pub(crate) fn into_seat(self) -> Option<WaveSeat>
-        ensures seat { IfSome result (λ seat. IsOf self.entry seat) }
+        ensures seat { IfSome result (λ seat. IsOfTable self.entry seat) }
         ensures known { IfSome result (λ seat. KnowsTo (net_of self.entry.plan).waves seat) }
     {
         let mut desk = self;

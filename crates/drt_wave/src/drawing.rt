@@ -1,7 +1,7 @@
 //! What a worker of a shared wave does: it draws blocks in a row, and then expands their cells.
 ghost use Rattle.std.specs.Prelude.{◌≡◌, ℕ, ◌*◌, ◌/◌, ◌<◌, ◌≤◌, slice_index, false};
 ghost use Rattle.drt_wave.specs.Cells.{net_of};
-ghost use Rattle.drt_wave.specs.Seats.{parts_of, KnowsTo, IsOf, IsExpanded, AllExpanded, Kept, IsPast, Turned};
+ghost use Rattle.drt_wave.specs.Seats.{parts_of, KnowsTo, IsOfTable, IsExpanded, AllExpanded, IsSeatKept, IsPast, Turned};
 ghost use Rattle.drt_wave.specs.Rows.{ExpandedBut};
 
 use crate::expanding::expand_block;
@@ -14,11 +14,11 @@ const ROW: usize = 8;
 // Draws blocks of a wave until the row is full or a number is past the wave's end, and says how many are drawn. There it reads no cell, since only
 // a seat with every part would get to know the next wave by that.
 fn draw_row(table: &WaveTable, seat: &mut WaveSeat, wave: u32, row: &mut [u64; ROW]) -> usize
-    requires seat { IsOf table.now seat.old }
+    requires seat { IsOfTable table.now seat.old }
     requires parts { 0 < parts_of seat.old }
     requires wave { wave < (net_of table.now.plan).waves }
     requires all { AllExpanded table.now.plan seat.old }
-    ensures seat { IsOf table.now seat.new }
+    ensures seat { IsOfTable table.now seat.new }
     ensures turned { Turned seat.old seat.new }
     ensures count { result ≤ 8 }
     ensures within { (k : ℕ) → k < result → slice_index row.new k * 64 < (net_of table.now.plan).size wave }
@@ -38,14 +38,14 @@ fn draw_row(table: &WaveTable, seat: &mut WaveSeat, wave: u32, row: &mut [u64; R
 
 // Expands the cells of the first blocks of a row.
 fn expand_row(table: &WaveTable, seat: &mut WaveSeat, wave: u32, row: &[u64; ROW], count: usize)
-    requires seat { IsOf table.now seat.old }
+    requires seat { IsOfTable table.now seat.old }
     requires parts { 0 < parts_of seat.old }
     requires wave { wave < (net_of table.now.plan).waves }
     requires known { KnowsTo wave seat.old }
     requires count { count ≤ 8 }
     requires within { (k : ℕ) → k < count → slice_index row.now k * 64 < (net_of table.now.plan).size wave }
-    ensures seat { IsOf table.now seat.new }
-    ensures kept { Kept seat.old seat.new }
+    ensures seat { IsOfTable table.now seat.new }
+    ensures kept { IsSeatKept seat.old seat.new }
     ensures expanded { (k n : ℕ) → k < count → n < (net_of table.now.plan).size wave → n / 64 ≡ slice_index row.now k
         → IsExpanded table.now.plan seat.new ((net_of table.now.plan).cell wave n) }
 {
@@ -56,12 +56,12 @@ fn expand_row(table: &WaveTable, seat: &mut WaveSeat, wave: u32, row: &[u64; ROW
 
 /// Draws blocks of a wave in a row, and then expands their cells. False where a number is past the wave's end.
 pub(crate) fn turn_some(table: &WaveTable, seat: &mut WaveSeat, wave: u32) -> bool
-    requires seat { IsOf table.now seat.old }
+    requires seat { IsOfTable table.now seat.old }
     requires parts { 0 < parts_of seat.old }
     requires wave { wave < (net_of table.now.plan).waves }
     requires known { KnowsTo wave seat.old }
     requires all { AllExpanded table.now.plan seat.old }
-    ensures seat { IsOf table.now seat.new }
+    ensures seat { IsOfTable table.now seat.new }
     ensures turned { Turned seat.old seat.new }
     ensures all { AllExpanded table.now.plan seat.new }
     ensures past { result ≡ false → IsPast (net_of table.now.plan) wave seat.new }

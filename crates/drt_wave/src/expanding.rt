@@ -3,7 +3,7 @@ ghost use Rattle.std.specs.Prelude.{◌≡◌, ℕ, ◌+◌, ◌*◌, ◌^◌, �
 ghost use Rattle.drt_model.specs.Digraph.{vertex_count, out_degree};
 ghost use Rattle.drt_wave.specs.Net.{Reached};
 ghost use Rattle.drt_wave.specs.Cells.{net_of, cell_at};
-ghost use Rattle.drt_wave.specs.Seats.{parts_of, KnowsTo, HasRaised, IsOf, IsExpanded, AllExpanded, Kept, Passed, IsPast, HasDrawn, HasDrawnBelow, Turned};
+ghost use Rattle.drt_wave.specs.Seats.{parts_of, KnowsTo, HasRaised, IsOfTable, IsExpanded, AllExpanded, IsSeatKept, Passed, IsPast, HasDrawn, HasDrawnBelow, Turned};
 ghost use Rattle.drt_wave.specs.Shifts.{HasWorked};
 ghost use Rattle.drt_wave.specs.Ways.{IsWayRow};
 
@@ -14,15 +14,15 @@ use crate::ways::Way;
 
 // Passes the value of a cell on along a way from its offset.
 fn pass_one(table: &WaveTable, seat: &mut WaveSeat, way: Way, offset: u64, value: u64)
-    requires seat { IsOf table.now seat.old }
+    requires seat { IsOfTable table.now seat.old }
     requires parts { 0 < parts_of seat.old }
     requires vertex { way.vertex < vertex_count table.now.plan.graph }
     requires within { offset < way.end → way.gap + offset ≤ table.now.plan.bound }
     requires reached { offset < way.end → Reached (net_of table.now.plan) (cell_at table.now.plan way.vertex (way.gap + offset)) (value + way.work) }
     requires small { table.now.plan.bound < 4194304 }
     requires fits { value + way.work < 2 ^ 64 }
-    ensures seat { IsOf table.now seat.new }
-    ensures kept { Kept seat.old seat.new }
+    ensures seat { IsOfTable table.now seat.new }
+    ensures kept { IsSeatKept seat.old seat.new }
     ensures passed { offset < way.end → HasRaised seat.new way.vertex (way.gap + offset) (value + way.work) }
 {
     if offset >= way.end as u64 {
@@ -38,13 +38,13 @@ fn pass_one(table: &WaveTable, seat: &mut WaveSeat, way: Way, offset: u64, value
 
 // Passes the value of a cell on along the edges out of its vertex.
 fn pass_on(table: &WaveTable, seat: &mut WaveSeat, vertex: u32, offset: u64, value: u64)
-    requires seat { IsOf table.now seat.old }
+    requires seat { IsOfTable table.now seat.old }
     requires parts { 0 < parts_of seat.old }
     requires vertex { vertex < vertex_count table.now.plan.graph }
     requires offset { offset ≤ table.now.plan.bound }
     requires value { Reached (net_of table.now.plan) (cell_at table.now.plan vertex offset) value }
-    ensures seat { IsOf table.now seat.new }
-    ensures kept { Kept seat.old seat.new }
+    ensures seat { IsOfTable table.now seat.new }
+    ensures kept { IsSeatKept seat.old seat.new }
     ensures passed { Passed table.now.plan seat.new vertex offset value (out_degree table.now.plan.graph vertex) }
 {
     let ways = table.ways_from(vertex);
@@ -55,13 +55,13 @@ fn pass_on(table: &WaveTable, seat: &mut WaveSeat, vertex: u32, offset: u64, val
 
 // Reads a cell, and passes its value on. A cell of 0 costs this look alone.
 fn expand(table: &WaveTable, seat: &mut WaveSeat, vertex: u32, offset: u64)
-    requires seat { IsOf table.now seat.old }
+    requires seat { IsOfTable table.now seat.old }
     requires parts { 0 < parts_of seat.old }
     requires vertex { vertex < vertex_count table.now.plan.graph }
     requires offset { offset ≤ table.now.plan.bound }
     requires known { KnowsTo (offset / table.now.plan.span) seat.old }
-    ensures seat { IsOf table.now seat.new }
-    ensures kept { Kept seat.old seat.new }
+    ensures seat { IsOfTable table.now seat.new }
+    ensures kept { IsSeatKept seat.old seat.new }
     ensures expanded { IsExpanded table.now.plan seat.new (cell_at table.now.plan vertex offset) }
 {
     let value = table.glance_at(seat, vertex, offset);
@@ -86,13 +86,13 @@ fn next_place(row: u32, column: u64, width: u64) -> (u32, u64)
 
 // Expands the cells of a block.
 pub(crate) fn expand_block(table: &WaveTable, seat: &mut WaveSeat, wave: u32, block: u64)
-    requires seat { IsOf table.now seat.old }
+    requires seat { IsOfTable table.now seat.old }
     requires parts { 0 < parts_of seat.old }
     requires wave { wave < (net_of table.now.plan).waves }
     requires known { KnowsTo wave seat.old }
     requires block { block * 64 < (net_of table.now.plan).size wave }
-    ensures seat { IsOf table.now seat.new }
-    ensures kept { Kept seat.old seat.new }
+    ensures seat { IsOfTable table.now seat.new }
+    ensures kept { IsSeatKept seat.old seat.new }
     ensures expanded { (n : ℕ) → n < (net_of table.now.plan).size wave → n / 64 ≡ block → IsExpanded table.now.plan seat.new ((net_of table.now.plan).cell wave n) }
 {
     let first = table.first_offset(wave);
@@ -119,12 +119,12 @@ impl WaveTable {
 
 /// Draws the next block of a wave, and expands its cells. False where the number is past the wave's end.
 pub(crate) fn turn(table: &WaveTable, seat: &mut WaveSeat, wave: u32) -> bool
-    requires seat { IsOf table.now seat.old }
+    requires seat { IsOfTable table.now seat.old }
     requires parts { 0 < parts_of seat.old }
     requires wave { wave < (net_of table.now.plan).waves }
     requires known { KnowsTo wave seat.old }
     requires all { AllExpanded table.now.plan seat.old }
-    ensures seat { IsOf table.now seat.new }
+    ensures seat { IsOfTable table.now seat.new }
     ensures turned { Turned seat.old seat.new }
     ensures all { AllExpanded table.now.plan seat.new }
     ensures past { result ≡ false → IsPast (net_of table.now.plan) wave seat.new }

@@ -1,8 +1,8 @@
 //! A whole table, worked by one seat or by several workers.
 ghost use Rattle.std.specs.Prelude.{◌≡◌, ◌+◌, ◌*◌, ◌≤◌, [], length, IfOk};
 ghost use Rattle.drt_model.specs.Digraph.{vertex_count};
-ghost use Rattle.drt_wave.specs.Cells.{net_of, IsPlan};
-ghost use Rattle.drt_wave.specs.Seats.{parts_of, draws_of, KnowsTo, IsOf};
+ghost use Rattle.drt_wave.specs.Cells.{net_of, IsWavePlan};
+ghost use Rattle.drt_wave.specs.Seats.{parts_of, draws_of, KnowsTo, IsOfTable};
 ghost use Rattle.drt_wave.specs.Tables.{AreOpened};
 
 use crate::crew::Crew;
@@ -23,12 +23,12 @@ use std::thread::Threads;
 
 // Works all waves, in order.
 fn work_all(table: &WaveTable, seat: &mut WaveSeat, count: u32)
-    requires seat { IsOf table.now seat.old }
+    requires seat { IsOfTable table.now seat.old }
     requires whole { parts_of seat.old ≡ 1024 }
     requires count { count ≡ (net_of table.now.plan).waves }
     requires known { KnowsTo 0 seat.old }
     requires draws { draws_of seat.old ≡ [] }
-    ensures seat { IsOf table.now seat.new }
+    ensures seat { IsOfTable table.now seat.new }
     ensures known { KnowsTo count seat.new }
 {
     'waves: for wave in 0..count {
@@ -54,7 +54,7 @@ fn open_lanes<R: Threads + Wait + Sync>(
     plan: &Plan,
     crew: Crew,
 ) -> Result<(Vec<Lane>, Vec<LaneSeat>), Memory>
-    requires planned { IsPlan plan.now }
+    requires planned { IsWavePlan plan.now }
     requires crew { (1 ≤ crew.count) × (crew.count ≤ 16) }
     ensures count { IfOk result (λ r. length r.0.items ≡ vertex_count plan.now.graph) }
     ensures opened { IfOk result (λ r. AreOpened plan.now 0 r.0.items r.1.items) }

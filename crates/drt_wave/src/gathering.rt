@@ -3,7 +3,7 @@ ghost use Rattle.std.specs.Prelude.{◌+◌, ◌*◌, ◌<◌, ◌≤◌, length
 ghost use Rattle.drt_model.specs.Digraph.{IsConstrainedGraph, vertex_count};
 ghost use Rattle.drt_model.specs.Legal.{AllNeighbours};
 ghost use Rattle.drt_wave.specs.Fronts.{IsRangeEntry, IsWalkEntry, IsFrontOf, IsExactFront, CoversAll, IsNextEntry};
-ghost use Rattle.drt_wave.specs.Gathered.{AreGathered, IsMost};
+ghost use Rattle.drt_wave.specs.Gathered.{AreCellsGathered, IsMost};
 
 use crate::dense::DenseFront;
 use drt_model::{FrontEntry, Memory, Row};
@@ -21,9 +21,9 @@ impl DenseFront {
         requires vertex { vertex < vertex_count self.now.plan.graph }
         requires offset { offset ≤ self.now.plan.bound }
         requires most { IsMost self.now vertex offset most }
-        requires gathered { AreGathered self.now vertex offset front.old.items }
+        requires gathered { AreCellsGathered self.now vertex offset front.old.items }
         ensures most { IfOk result (λ m. IsMost self.now vertex (offset + 1) m) }
-        ensures gathered { IfOk result (λ m. AreGathered self.now vertex (offset + 1) front.new.items) }
+        ensures gathered { IfOk result (λ m. AreCellsGathered self.now vertex (offset + 1) front.new.items) }
     {
         let work = self.cell(vertex, offset);
         if work <= most {
@@ -40,8 +40,8 @@ impl DenseFront {
     // Adds the labels of a vertex.
     fn add_vertex(&self, vertex: u32, front: &mut Vec<FrontEntry>) -> Result<(), Memory>
         requires vertex { vertex < vertex_count self.now.plan.graph }
-        requires gathered { AreGathered self.now vertex 0 front.old.items }
-        ensures { IfOk result (λ u. AreGathered self.now (vertex + 1) 0 front.new.items) }
+        requires gathered { AreCellsGathered self.now vertex 0 front.old.items }
+        ensures { IfOk result (λ u. AreCellsGathered self.now (vertex + 1) 0 front.new.items) }
     {
         let width = self.width();
         let mut most = 0;

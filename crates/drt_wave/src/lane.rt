@@ -2,7 +2,7 @@
 ghost use Rattle.std.specs.Prelude.{◌≡◌, ℕ, ◌+◌, ◌<◌, ◌≤◌, length, slice_index, IfOk};
 ghost use Rattle.drt_model.specs.Digraph.{vertex_count};
 ghost use Rattle.drt_wave.specs.Net.{Reached};
-ghost use Rattle.drt_wave.specs.Cells.{IsPlan, width};
+ghost use Rattle.drt_wave.specs.Cells.{IsWavePlan, width};
 ghost use Rattle.drt_wave.specs.Keys.{lane_net, lane_first, lane_count};
 ghost use Rattle.drt_wave.specs.Lanes.{Settled, IsRead, fresh_lane, lane_left, lane_right, lane_joined, lane_raised, Learns};
 
@@ -38,7 +38,7 @@ impl Lane {
         vertex: u32,
         words: &mut [u64],
     ) -> Result<(Lane, LaneSeat), Memory>
-        requires planned { IsPlan plan.now }
+        requires planned { IsWavePlan plan.now }
         requires vertex { vertex < vertex_count plan.now.graph }
         requires count { length words.old ≡ width plan.now }
         requires zeros { (k : ℕ) → 0 < k → slice_index words.old k ≡ 0 }

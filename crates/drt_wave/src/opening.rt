@@ -2,7 +2,7 @@
 ghost use Rattle.std.specs.Prelude.{◌≡◌, ◌<◌, ◌≤◌, length, IfOk};
 ghost use Rattle.drt_model.specs.Digraph.{vertex_count};
 ghost use Rattle.drt_pool.specs.Turns.{EachPlace};
-ghost use Rattle.drt_wave.specs.Cells.{IsPlan};
+ghost use Rattle.drt_wave.specs.Cells.{IsWavePlan};
 ghost use Rattle.drt_wave.specs.Tables.{AreOpened};
 ghost use Rattle.drt_wave.specs.Openers.{IsOpener, HasLanes};
 ghost use Rattle.drt_wave.specs.Lane.{IsLane, IsLaneSeat};
@@ -35,7 +35,7 @@ struct Opening<'a> {
     plan: &'a Plan,
     // The vertex whose lane is opened next. Who is slow opens fewer.
     next: AtomicU64,
-    ghost planned: { IsPlan plan.now },
+    ghost planned: { IsWavePlan plan.now },
 }
 
 impl Work for Opening<'_> {
@@ -84,7 +84,7 @@ impl Opener {
 
     // Opens the lane of a vertex.
     fn make(&mut self, alloc: Global, plan: &Plan, vertex: u32) -> Result<Opened, Memory>
-        requires planned { IsPlan plan.now }
+        requires planned { IsWavePlan plan.now }
         requires vertex { vertex < vertex_count plan.now.graph }
         requires opener { IsOpener plan.now self.old }
         ensures opener { IsOpener plan.now self.new }
@@ -100,7 +100,7 @@ impl Opener {
 
     // Opens the lane of a vertex and puts it in its place. False where memory ran out.
     fn open(&mut self, alloc: Global, plan: &Plan, vertex: u32) -> bool
-        requires planned { IsPlan plan.now }
+        requires planned { IsWavePlan plan.now }
         requires vertex { vertex < vertex_count plan.now.graph }
         requires opener { IsOpener plan.now self.old }
         ensures { IsOpener plan.now self.new }
@@ -116,7 +116,7 @@ impl Opener {
 
     // The lane of a vertex, opened here where it isn't in its place.
     fn lane_at(&mut self, alloc: Global, plan: &Plan, vertex: u32) -> Result<Opened, Memory>
-        requires planned { IsPlan plan.now }
+        requires planned { IsWavePlan plan.now }
         requires vertex { vertex < vertex_count plan.now.graph }
         requires opener { IsOpener plan.now self.old }
         ensures opener { IsOpener plan.now self.new }
@@ -132,7 +132,7 @@ impl Opener {
 
     // The lanes in order of vertices. Those that nobody opened are opened here.
     fn in_order(self, alloc: Global, plan: &Plan) -> Result<(Vec<Lane>, Vec<LaneSeat>), Memory>
-        requires planned { IsPlan plan.now }
+        requires planned { IsWavePlan plan.now }
         requires opener { IsOpener plan.now self }
         ensures count { IfOk result (λ r. length r.0.items ≡ vertex_count plan.now.graph) }
         ensures opened { IfOk result (λ r. AreOpened plan.now 0 r.0.items r.1.items) }
@@ -152,7 +152,7 @@ impl Opener {
 
 /// The lanes of all vertices, with seats that have every part.
 pub(crate) fn open_all(alloc: Global, plan: &Plan) -> Result<(Vec<Lane>, Vec<LaneSeat>), Memory>
-    requires planned { IsPlan plan.now }
+    requires planned { IsWavePlan plan.now }
     ensures count { IfOk result (λ r. length r.0.items ≡ vertex_count plan.now.graph) }
     ensures opened { IfOk result (λ r. AreOpened plan.now 0 r.0.items r.1.items) }
 {
@@ -194,7 +194,7 @@ fn collect_lanes(
     plan: &Plan,
     openers: Vec<Opener>,
 ) -> Result<(Vec<Lane>, Vec<LaneSeat>), Memory>
-    requires planned { IsPlan plan.now }
+    requires planned { IsWavePlan plan.now }
     requires each { EachPlace (λ place opener. IsOpener plan.now opener) openers.items }
     ensures count { IfOk result (λ r. length r.0.items ≡ vertex_count plan.now.graph) }
     ensures opened { IfOk result (λ r. AreOpened plan.now 0 r.0.items r.1.items) }
@@ -213,7 +213,7 @@ pub(crate) fn open_together<R: Threads + Wait + Sync>(
     plan: &Plan,
     workers: u32,
 ) -> Result<(Vec<Lane>, Vec<LaneSeat>), Memory>
-    requires planned { IsPlan plan.now }
+    requires planned { IsWavePlan plan.now }
     requires workers { workers ≤ 16 }
     ensures count { IfOk result (λ r. length r.0.items ≡ vertex_count plan.now.graph) }
     ensures opened { IfOk result (λ r. AreOpened plan.now 0 r.0.items r.1.items) }

@@ -1,7 +1,7 @@
 //! What a table is of.
 ghost use Rattle.std.specs.Prelude.{◌≡◌, ℕ, ◌+◌, ◌*◌, ◌<◌, ◌≤◌, IfOk};
-ghost use Rattle.drt_model.specs.Digraph.{IsSound, vertex_count, out_degree, edge_of};
-ghost use Rattle.drt_wave.specs.Cells.{IsPlan, net_of, width};
+ghost use Rattle.drt_model.specs.Digraph.{IsSoundGraph, vertex_count, out_degree, edge_of};
+ghost use Rattle.drt_wave.specs.Cells.{IsWavePlan, net_of, width};
 
 use drt_graph::Graph;
 use drt_model::Memory;
@@ -18,7 +18,7 @@ pub struct Plan {
 
 /// The times of a graph are in range, and it has some vertices with few edges each. It does nothing.
 pub(crate) fn keeps_its_bounds(graph: &Graph)
-    ensures { IsSound graph.now }
+    ensures { IsSoundGraph graph.now }
 {
     graph.vertex_count();
 }
@@ -62,7 +62,7 @@ pub(crate) fn make_plan(alloc: Global, graph: &Graph, bound: u64) -> Result<Plan
     requires small { vertex_count graph.now * (bound + 1) ≤ 4194304 }
     ensures graph { IfOk result (λ plan. plan.graph ≡ graph.now) }
     ensures bound { IfOk result (λ plan. plan.bound ≡ bound) }
-    ensures planned { IfOk result (λ plan. IsPlan plan) }
+    ensures planned { IfOk result (λ plan. IsWavePlan plan) }
 {
     keeps_its_bounds(graph);
     let span = least_separation(graph, bound + 1);
@@ -82,7 +82,7 @@ impl Plan {
 
     /// How many waves there are.
     pub(crate) fn wave_count(&self) -> u32
-        requires planned { IsPlan self.now }
+        requires planned { IsWavePlan self.now }
         ensures { result ≡ (net_of self.now).waves }
     {
         (self.bound / self.span + 1) as u32

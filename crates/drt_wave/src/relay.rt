@@ -2,7 +2,7 @@
 ghost use Rattle.std.specs.Prelude.{◌≡◌, IfOk, IfErr, IfSome};
 ghost use Rattle.drt_lock.specs.Seats.{HoldsMachine, Rests};
 ghost use Rattle.drt_wave.specs.Shifts.{IsShift};
-ghost use Rattle.drt_wave.specs.Seats.{IsRoom};
+ghost use Rattle.drt_wave.specs.Seats.{HasRoomForLanes};
 
 use crate::desk::{Desk, Shift};
 use crate::drawing::turn_some;
@@ -49,7 +49,7 @@ impl<'a> Work for Relay<'a> {
 
     ghost fits = { λ relay place hand. (hand.lock_seat.table_id ≡ relay.lock.name) × Rests relay.lock.fixed 1 0 hand.lock_seat.me
         × IfSome hand.held (λ shift. IsShift relay.table.now shift.wave shift.seat)
-        × IfSome hand.room (λ room. IsRoom relay.table.now room) };
+        × IfSome hand.room (λ room. HasRoomForLanes relay.table.now room) };
 
     ghost ended = { λ relay place hand. Unit {0} };
 
@@ -71,11 +71,11 @@ impl<'a> Relay<'a> {
         requires name { hand.old.lock_seat.table_id ≡ self.now.lock.name }
         requires seat { Rests self.now.lock.fixed 1 0 hand.old.lock_seat.me }
         requires shift { IsShift self.now.table.now shift.wave shift.seat }
-        requires room { IfSome hand.old.room (λ room. IsRoom self.now.table.now room) }
+        requires room { IfSome hand.old.room (λ room. HasRoomForLanes self.now.table.now room) }
         ensures name { hand.new.lock_seat.table_id ≡ self.now.lock.name }
         ensures seat { Rests self.now.lock.fixed 1 0 hand.new.lock_seat.me }
         ensures held { IfSome hand.new.held (λ s. IsShift self.now.table.now s.wave s.seat) }
-        ensures room { IfSome hand.new.room (λ room. IsRoom self.now.table.now room) }
+        ensures room { IfSome hand.new.room (λ room. HasRoomForLanes self.now.table.now room) }
     {
         let mut shift = shift;
         if turn_some(self.table, &mut shift.seat, shift.wave) {
@@ -90,11 +90,11 @@ impl<'a> Relay<'a> {
         requires name { hand.old.lock_seat.table_id ≡ self.now.lock.name }
         requires seat { Rests self.now.lock.fixed 1 0 hand.old.lock_seat.me }
         requires shift { IsShift self.now.table.now shift.wave shift.seat }
-        requires room { IfSome hand.old.room (λ room. IsRoom self.now.table.now room) }
+        requires room { IfSome hand.old.room (λ room. HasRoomForLanes self.now.table.now room) }
         ensures name { hand.new.lock_seat.table_id ≡ self.now.lock.name }
         ensures seat { Rests self.now.lock.fixed 1 0 hand.new.lock_seat.me }
         ensures held { IfSome hand.new.held (λ s. IsShift self.now.table.now s.wave s.seat) }
-        ensures room { IfSome hand.new.room (λ room. IsRoom self.now.table.now room) }
+        ensures room { IfSome hand.new.room (λ room. HasRoomForLanes self.now.table.now room) }
     {
         let Some(_entries) = self.lock.try_enter(&mut hand.lock_seat) else {
             thread::yield_now();
@@ -119,7 +119,7 @@ impl<'a> Relay<'a> {
         requires shift { IsShift self.now.lock.fixed shift.wave shift.seat }
         ensures name { seat.new.table_id ≡ seat.old.table_id }
         ensures me { seat.new.me ≡ seat.old.me }
-        ensures room { IfSome result.0 (λ room. IsRoom self.now.lock.fixed room) }
+        ensures room { IfSome result.0 (λ room. HasRoomForLanes self.now.lock.fixed room) }
     {
         let desk = seat.slot_mut(self.lock.slots(), 0);
         let room = desk.give_back(shift);
@@ -131,11 +131,11 @@ impl<'a> Relay<'a> {
     fn seek(&self, hand: &mut Hand<'a>) -> Turn
         requires name { hand.old.lock_seat.table_id ≡ self.now.lock.name }
         requires seat { Rests self.now.lock.fixed 1 0 hand.old.lock_seat.me }
-        requires room { IfSome hand.old.room (λ room. IsRoom self.now.table.now room) }
+        requires room { IfSome hand.old.room (λ room. HasRoomForLanes self.now.table.now room) }
         ensures name { hand.new.lock_seat.table_id ≡ self.now.lock.name }
         ensures seat { Rests self.now.lock.fixed 1 0 hand.new.lock_seat.me }
         ensures held { IfSome hand.new.held (λ s. IsShift self.now.table.now s.wave s.seat) }
-        ensures room { IfSome hand.new.room (λ room. IsRoom self.now.table.now room) }
+        ensures room { IfSome hand.new.room (λ room. HasRoomForLanes self.now.table.now room) }
     {
         hand.held = None;
         if !self.is_open(hand.next) {
@@ -168,11 +168,11 @@ impl<'a> Relay<'a> {
     ) -> (bool, Result<Shift, Vec<LaneSeat>>)
         requires name { seat.old.table_id ≡ self.now.lock.name }
         requires desk { HoldsMachine self.now.lock.fixed seat.old.me }
-        requires room { IsRoom self.now.lock.fixed room }
+        requires room { HasRoomForLanes self.now.lock.fixed room }
         ensures name { seat.new.table_id ≡ seat.old.table_id }
         ensures me { seat.new.me ≡ seat.old.me }
         ensures shift { IfOk result.1 (λ s. IsShift self.now.lock.fixed s.wave s.seat) }
-        ensures room { IfErr result.1 (λ back. IsRoom self.now.lock.fixed back) }
+        ensures room { IfErr result.1 (λ back. HasRoomForLanes self.now.lock.fixed back) }
     {
         let desk = seat.slot_mut(self.lock.slots(), 0);
         let taken = desk.take(next, room);

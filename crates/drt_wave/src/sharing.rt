@@ -4,7 +4,7 @@ ghost use Rattle.drt_lock.specs.Seats.{Rests};
 ghost use Rattle.drt_pool.specs.Turns.{EachPlace};
 ghost use Rattle.drt_wave.specs.Cells.{net_of};
 ghost use Rattle.drt_wave.specs.Shifts.{IsAtWork};
-ghost use Rattle.drt_wave.specs.Seats.{draws_of, KnowsTo, IsOf, IsRoom};
+ghost use Rattle.drt_wave.specs.Seats.{draws_of, KnowsTo, IsOfTable, HasRoomForLanes};
 
 use crate::crew::Crew;
 use crate::desk::Desk;
@@ -53,7 +53,7 @@ fn deal<'a>(
     ensures owner { IfOk result (λ u. (owner.new.me.0.parts + count ≡ 1024) × Rests lock.now.fixed owner.new.me.0.parts 0 owner.new.me) }
     ensures count { IfOk result (λ u. length hands.new.items ≡ count) }
     ensures each { IfOk result (λ u. EachPlace (λ place hand. (hand.lock_seat.table_id ≡ lock.now.name) × Rests lock.now.fixed 1 0 hand.lock_seat.me
-        × (hand.held ≡ None) × IfSome hand.room (λ room. IsRoom table.now room)) hands.new.items) }
+        × (hand.held ≡ None) × IfSome hand.room (λ room. HasRoomForLanes table.now room)) hands.new.items) }
 {
     'hands: for _hand in 0..count {
         let room = table.room(alloc)?;
@@ -124,7 +124,7 @@ pub(crate) fn share_table<G: Gate, R: Threads + Wait + Sync>(
     requires owner { IsAtWork table.now 0 1024 owner }
     requires draws { draws_of owner ≡ [] }
     requires crew { (1 ≤ crew.count) × (crew.count ≤ 16) }
-    ensures seat { IfOk result (λ o. IfSome o (λ seat. IsOf table.now seat)) }
+    ensures seat { IfOk result (λ o. IfSome o (λ seat. IsOfTable table.now seat)) }
     ensures known { IfOk result (λ o. IfSome o (λ seat. KnowsTo (net_of table.now.plan).waves seat)) }
 {
     let mut desk = Desk::open(table, owner, crew);

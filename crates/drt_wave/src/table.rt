@@ -1,8 +1,8 @@
 //! The table. Each step is taken by a seat, and none waits.
 ghost use Rattle.std.specs.Prelude.{◌≡◌, ◌≢◌, ℕ, ◌+◌, ◌*◌, ◌/◌, ◌<◌, ◌≤◌, ◌⊎◌, [], length, IfOk, IfErr};
 ghost use Rattle.drt_model.specs.Digraph.{vertex_count};
-ghost use Rattle.drt_wave.specs.Net.{Reached, IsBest};
-ghost use Rattle.drt_wave.specs.Cells.{net_of, cell_at, IsPlan};
+ghost use Rattle.drt_wave.specs.Net.{Reached, IsGreatestReaching};
+ghost use Rattle.drt_wave.specs.Cells.{net_of, cell_at, IsWavePlan};
 ghost use Rattle.drt_wave.specs.Tables.{AreLanes, AreOpened};
 ghost use Rattle.drt_wave.specs.Ways.{AreWays};
 
@@ -29,21 +29,21 @@ pub struct WaveTable {
     pub(crate) claims: Claims,
     pub(crate) lanes: Row<Lane>,
     pub(crate) ways: Row<Row<Way>>,
-    ghost planned: { IsPlan plan },
+    ghost planned: { IsWavePlan plan },
     ghost claimed: { claims.table.shared.table_id.words ≡ (net_of plan).waves },
     ghost laned: { AreLanes plan lanes },
     ghost followed: { AreWays plan ways },
 }
 
 impl WaveTable {
-    ghost use Rattle.drt_wave.specs.Seats.{parts_of, draws_of, HasRaised, HasNoMore, KnowsTo, IsOf, IsRoom, Kept, Turned, IsCut, IsGlued, HasClaimed, ExpandedTo};
+    ghost use Rattle.drt_wave.specs.Seats.{parts_of, draws_of, HasRaised, HasNoMore, KnowsTo, IsOfTable, HasRoomForLanes, IsSeatKept, Turned, IsSeatCut, IsGlued, HasClaimed, ExpandedTo};
 
     /// A table of the graph's walks up to a bound in ticks, with the seat that has every part.
     pub fn start(alloc: Global, graph: &Graph, bound: u64) -> Result<(WaveTable, WaveSeat), Memory>
         requires small { vertex_count graph.now * (bound + 1) ≤ 4194304 }
         ensures graph { IfOk result (λ r. r.0.plan.graph ≡ graph.now) }
         ensures bound { IfOk result (λ r. r.0.plan.bound ≡ bound) }
-        ensures seat { IfOk result (λ r. IsOf r.0 r.1) }
+        ensures seat { IfOk result (λ r. IsOfTable r.0 r.1) }
         ensures parts { IfOk result (λ r. parts_of r.1 ≡ 1024) }
         ensures draws { IfOk result (λ r. draws_of r.1 ≡ []) }
         ensures raised { IfOk result (λ r. (v o x : ℕ) → HasRaised r.1 v o x → ⊥) }
@@ -61,11 +61,11 @@ impl WaveTable {
         lanes: Vec<Lane>,
         seats: Vec<LaneSeat>,
     ) -> Result<(WaveTable, WaveSeat), Memory>
-        requires planned { IsPlan plan }
+        requires planned { IsWavePlan plan }
         requires count { length lanes.items ≡ vertex_count plan.graph }
         requires opened { AreOpened plan 0 lanes.items seats.items }
         ensures plan { IfOk result (λ r. r.0.plan ≡ plan) }
-        ensures seat { IfOk result (λ r. IsOf r.0 r.1) }
+        ensures seat { IfOk result (λ r. IsOfTable r.0 r.1) }
         ensures parts { IfOk result (λ r. parts_of r.1 ≡ 1024) }
         ensures draws { IfOk result (λ r. draws_of r.1 ≡ []) }
         ensures raised { IfOk result (λ r. (v o x : ℕ) → HasRaised r.1 v o x → ⊥) }
@@ -91,10 +91,10 @@ impl WaveTable {
     /// where it expanded each cell up to that wave, as the seat that has every part does by expanding what it draws, it knows the next wave as
     /// final then.
     pub fn claim(&self, seat: &mut WaveSeat, wave: u32) -> u64
-        requires seat { IsOf self.now seat.old }
+        requires seat { IsOfTable self.now seat.old }
         requires parts { 0 < parts_of seat.old }
         requires wave { wave < (net_of self.now.plan).waves }
-        ensures seat { IsOf self.now seat.new }
+        ensures seat { IsOfTable self.now seat.new }
         ensures claimed { HasClaimed wave result seat.old seat.new }
         ensures turned { Turned seat.old seat.new }
         ensures same { HasNoMore seat.old seat.new }
@@ -109,10 +109,10 @@ impl WaveTable {
 
     /// The same, but no cell is read past the wave's end.
     pub(crate) fn draw(&self, seat: &mut WaveSeat, wave: u32) -> u64
-        requires seat { IsOf self.now seat.old }
+        requires seat { IsOfTable self.now seat.old }
         requires parts { 0 < parts_of seat.old }
         requires wave { wave < (net_of self.now.plan).waves }
-        ensures seat { IsOf self.now seat.new }
+        ensures seat { IsOfTable self.now seat.new }
         ensures claimed { HasClaimed wave result seat.old seat.new }
         ensures turned { Turned seat.old seat.new }
         ensures same { HasNoMore seat.old seat.new }
@@ -122,13 +122,13 @@ impl WaveTable {
 
     /// Makes the cell of a vertex and an offset at least `work`, which is that of a walk that ends there.
     pub(crate) fn raise_at(&self, seat: &mut WaveSeat, vertex: u32, offset: u64, work: u64)
-        requires seat { IsOf self.now seat.old }
+        requires seat { IsOfTable self.now seat.old }
         requires parts { 0 < parts_of seat.old }
         requires vertex { vertex < vertex_count self.now.plan.graph }
         requires offset { offset ≤ self.now.plan.bound }
         requires work { Reached (net_of self.now.plan) (cell_at self.now.plan vertex offset) work }
-        ensures seat { IsOf self.now seat.new }
-        ensures kept { Kept seat.old seat.new }
+        ensures seat { IsOfTable self.now seat.new }
+        ensures kept { IsSeatKept seat.old seat.new }
         ensures raised { HasRaised seat.new vertex offset work }
         ensures only { (v o x : ℕ) → HasRaised seat.new v o x → ((v ≡ vertex) × (o ≡ offset) × (x ≡ work)) ⊎ HasRaised seat.old v o x }
     {
@@ -138,16 +138,16 @@ impl WaveTable {
 
     /// Reads the cell of a vertex and an offset.
     pub(crate) fn glance_at(&self, seat: &mut WaveSeat, vertex: u32, offset: u64) -> u64
-        requires seat { IsOf self.now seat.old }
+        requires seat { IsOfTable self.now seat.old }
         requires vertex { vertex < vertex_count self.now.plan.graph }
         requires offset { offset ≤ self.now.plan.bound }
-        ensures seat { IsOf self.now seat.new }
-        ensures kept { Kept seat.old seat.new }
+        ensures seat { IsOfTable self.now seat.new }
+        ensures kept { IsSeatKept seat.old seat.new }
         ensures same { HasNoMore seat.old seat.new }
         ensures opened { (net_of self.now.plan).opens (cell_at self.now.plan vertex offset) ≤ result }
         ensures own { (x : ℕ) → HasRaised seat.old vertex offset x → x ≤ result }
         ensures reached { result ≢ 0 → Reached (net_of self.now.plan) (cell_at self.now.plan vertex offset) result }
-        ensures best { (k : ℕ) → KnowsTo k seat.old → offset / self.now.plan.span ≤ k → IsBest (net_of self.now.plan) (cell_at self.now.plan vertex offset) result }
+        ensures best { (k : ℕ) → KnowsTo k seat.old → offset / self.now.plan.span ≤ k → IsGreatestReaching (net_of self.now.plan) (cell_at self.now.plan vertex offset) result }
     {
         let lane = &self.lanes.as_slice()[vertex as usize];
         lane.glance(&mut seat.lanes[vertex as usize], offset)
@@ -155,10 +155,10 @@ impl WaveTable {
 
     /// Reads the first cell of a wave in each lane. A seat that expanded each cell up to the wave knows the next one as final then.
     pub(crate) fn look_along(&self, seat: &mut WaveSeat, wave: u32)
-        requires seat { IsOf self.now seat.old }
+        requires seat { IsOfTable self.now seat.old }
         requires wave { wave < (net_of self.now.plan).waves }
-        ensures seat { IsOf self.now seat.new }
-        ensures kept { Kept seat.old seat.new }
+        ensures seat { IsOfTable self.now seat.new }
+        ensures kept { IsSeatKept seat.old seat.new }
         ensures same { HasNoMore seat.old seat.new }
         ensures known { ExpandedTo self.now.plan wave seat.old → KnowsTo (wave + 1) seat.new }
     {
@@ -171,16 +171,16 @@ impl WaveTable {
 
     /// Room for a seat that is split off. The seats have no bytes, but it is asked for before a lock is taken.
     pub(crate) fn room(&self, alloc: Global) -> Result<Vec<LaneSeat>, Memory>
-        ensures { IfOk result (λ room. IsRoom self.now room) }
+        ensures { IfOk result (λ room. HasRoomForLanes self.now room) }
     {
         Ok(Vec::with_capacity(alloc, self.lanes.as_slice().len())?)
     }
 
     /// A seat with one of the parts, for another worker.
     pub fn split(&self, alloc: Global, seat: &mut WaveSeat) -> Result<WaveSeat, Memory>
-        requires seat { IsOf self.now seat.old }
+        requires seat { IsOfTable self.now seat.old }
         requires parts { 1 < parts_of seat.old }
-        ensures cut { IfOk result (λ new. IsOf self.now seat.new × IsOf self.now new × IsCut seat.old seat.new new) }
+        ensures cut { IfOk result (λ new. IsOfTable self.now seat.new × IsOfTable self.now new × IsSeatCut seat.old seat.new new) }
         ensures kept { IfErr result (λ e. seat.new ≡ seat.old) }
     {
         let room = self.room(alloc)?;
@@ -189,12 +189,12 @@ impl WaveTable {
 
     /// The same, into room that was asked for before.
     pub(crate) fn split_into(&self, seat: &mut WaveSeat, room: Vec<LaneSeat>) -> WaveSeat
-        requires seat { IsOf self.now seat.old }
+        requires seat { IsOfTable self.now seat.old }
         requires parts { 1 < parts_of seat.old }
-        requires room { IsRoom self.now room }
-        ensures seat { IsOf self.now seat.new }
-        ensures new { IsOf self.now result }
-        ensures cut { IsCut seat.old seat.new result }
+        requires room { HasRoomForLanes self.now room }
+        ensures seat { IsOfTable self.now seat.new }
+        ensures new { IsOfTable self.now result }
+        ensures cut { IsSeatCut seat.old seat.new result }
     {
         let lanes = self.lanes.as_slice();
         let mut cut = room;
@@ -209,10 +209,10 @@ impl WaveTable {
 
     /// Takes in another seat.
     pub fn join(&self, seat: &mut WaveSeat, other: WaveSeat)
-        requires seat { IsOf self.now seat.old }
-        requires other { IsOf self.now other }
+        requires seat { IsOfTable self.now seat.old }
+        requires other { IsOfTable self.now other }
         requires parts { 0 < parts_of seat.old }
-        ensures seat { IsOf self.now seat.new }
+        ensures seat { IsOfTable self.now seat.new }
         ensures glued { IsGlued seat.old other seat.new }
     {
         let _room = self.join_back(seat, other);
@@ -220,12 +220,12 @@ impl WaveTable {
 
     /// Takes in another seat, and gives its room back.
     pub(crate) fn join_back(&self, seat: &mut WaveSeat, other: WaveSeat) -> Vec<LaneSeat>
-        requires seat { IsOf self.now seat.old }
-        requires other { IsOf self.now other }
+        requires seat { IsOfTable self.now seat.old }
+        requires other { IsOfTable self.now other }
         requires parts { 0 < parts_of seat.old }
-        ensures seat { IsOf self.now seat.new }
+        ensures seat { IsOfTable self.now seat.new }
         ensures glued { IsGlued seat.old other seat.new }
-        ensures room { IsRoom self.now result }
+        ensures room { HasRoomForLanes self.now result }
     {
         let lanes = self.lanes.as_slice();
         let WaveSeat {
@@ -242,7 +242,7 @@ impl WaveTable {
 
     /// The greatest works. The seat knows every wave as final.
     pub fn close(self, seat: WaveSeat) -> DenseFront
-        requires seat { IsOf self seat }
+        requires seat { IsOfTable self seat }
         requires known { (k : ℕ) × KnowsTo k seat × ((net_of self.plan).waves ≤ k + 1) }
         ensures { result.plan ≡ self.plan }
     {

@@ -2,8 +2,8 @@
 ghost use Rattle.std.specs.Prelude.{ℕ, ◌<◌, ◌≤◌, IfOk};
 ghost use Rattle.drt_model.specs.Digraph.{vertex_count};
 ghost use Rattle.drt_wave.specs.Dense.{work_at};
-ghost use Rattle.drt_wave.specs.Greatest.{HasWalk, IsGreatestWork, IsWalkTo};
-ghost use Rattle.drt_wave.specs.Backwards.{IsOneBefore, IsStep};
+ghost use Rattle.drt_wave.specs.Greatest.{HasWalk, IsGreatestWork, IsWorkWalkTo};
+ghost use Rattle.drt_wave.specs.Backwards.{IsOffsetBefore, IsBackStep};
 
 use crate::dense::DenseFront;
 use drt_model::{Memory, Row};
@@ -15,7 +15,7 @@ impl DenseFront {
         requires from { u < vertex_count self.now.plan.graph }
         requires vertex { vertex < vertex_count self.now.plan.graph }
         requires offset { offset ≤ self.now.plan.bound }
-        ensures { IsOneBefore self.now u vertex offset result }
+        ensures { IsOffsetBefore self.now u vertex offset result }
     {
         let Some(sep) = self.graph().separation(u, vertex) else {
             return None;
@@ -45,7 +45,7 @@ impl DenseFront {
         requires offset { offset ≤ self.now.plan.bound }
         requires later { 0 < offset }
         requires some { 0 < work_at self.now vertex offset }
-        ensures { IsStep self.now result.0 result.1 vertex offset }
+        ensures { IsBackStep self.now result.0 result.1 vertex offset }
     {
         self.keeps_best();
         let count = self.graph().vertex_count();
@@ -64,7 +64,7 @@ impl DenseFront {
         requires vertex { vertex < vertex_count self.now.plan.graph }
         requires offset { offset ≤ self.now.plan.bound }
         requires some { (x : ℕ) × HasWalk self.now.plan.graph self.now.plan.bound vertex offset x }
-        ensures { IfOk result (λ walk. (x : ℕ) × IsGreatestWork self.now.plan.graph self.now.plan.bound vertex offset x × IsWalkTo self.now.plan.graph self.now.plan.bound vertex offset x walk) }
+        ensures { IfOk result (λ walk. (x : ℕ) × IsGreatestWork self.now.plan.graph self.now.plan.bound vertex offset x × IsWorkWalkTo self.now.plan.graph self.now.plan.bound vertex offset x walk) }
     {
         self.keeps_best();
         let mut walk = Vec::new(alloc);

@@ -1,7 +1,7 @@
 //! The edges of a graph, as the work on cells follows them.
 ghost use Rattle.std.specs.Prelude.{◌<◌, IfOk};
 ghost use Rattle.drt_model.specs.Digraph.{vertex_count, out_degree, edge_of};
-ghost use Rattle.drt_wave.specs.Cells.{IsPlan};
+ghost use Rattle.drt_wave.specs.Cells.{IsWavePlan};
 ghost use Rattle.drt_wave.specs.Ways.{IsWay, IsWayRow, AreWays};
 
 use crate::plan::Plan;
@@ -20,7 +20,7 @@ pub(crate) struct Way {
 
 // The way of out-edge `k` of a vertex.
 fn make_way(plan: &Plan, vertex: u32, k: u32) -> Way
-    requires planned { IsPlan plan.now }
+    requires planned { IsWavePlan plan.now }
     requires vertex { vertex < vertex_count plan.now.graph }
     requires edge { k < out_degree plan.now.graph vertex }
     ensures { IsWay plan.now (edge_of plan.now.graph vertex k) result }
@@ -39,7 +39,7 @@ fn make_way(plan: &Plan, vertex: u32, k: u32) -> Way
 
 // The ways out of a vertex, in file order of its edges.
 fn make_row(alloc: Global, plan: &Plan, vertex: u32) -> Result<Row<Way>, Memory>
-    requires planned { IsPlan plan.now }
+    requires planned { IsWavePlan plan.now }
     requires vertex { vertex < vertex_count plan.now.graph }
     ensures { IfOk result (IsWayRow plan.now vertex) }
 {
@@ -53,7 +53,7 @@ fn make_row(alloc: Global, plan: &Plan, vertex: u32) -> Result<Row<Way>, Memory>
 
 /// The ways out of each vertex.
 pub(crate) fn make_ways(alloc: Global, plan: &Plan) -> Result<Row<Row<Way>>, Memory>
-    requires planned { IsPlan plan.now }
+    requires planned { IsWavePlan plan.now }
     ensures { IfOk result (AreWays plan.now) }
 {
     let count = plan.graph.vertex_count();

@@ -1,7 +1,7 @@
 //! The works of a finished table.
 ghost use Rattle.std.specs.Prelude.{◌≡◌, ◌+◌, ◌<◌, ◌≤◌};
 ghost use Rattle.drt_model.specs.Digraph.{vertex_count};
-ghost use Rattle.drt_wave.specs.Cells.{IsPlan};
+ghost use Rattle.drt_wave.specs.Cells.{IsWavePlan};
 ghost use Rattle.drt_wave.specs.Dense.{AreBest, AreWhole, work_at};
 ghost use Rattle.drt_wave.specs.Greatest.{IsGreatestWork};
 
@@ -11,7 +11,7 @@ use drt_graph::Graph;
 impl DenseFront {
     // What a finished table keeps: each cell holds the greatest work that reaches it.
     pub(crate) fn keeps_best(&self)
-        ensures planned { IsPlan self.now.plan }
+        ensures planned { IsWavePlan self.now.plan }
         ensures whole { AreWhole self.now.plan self.now.columns }
         ensures best { AreBest self.now.plan self.now.columns }
     {

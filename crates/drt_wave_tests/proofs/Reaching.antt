@@ -6,11 +6,11 @@ use Rattle.drt_model.specs.Digraph.{vertex_count, vertex_of, out_degree, edge_of
 use Rattle.drt_model.specs.Walk.{wcet, deadline}
 use Rattle.drt_wave.specs.declared.plan.Plan.{Plan}
 use Rattle.drt_wave.specs.Net.{Reached}
-use Rattle.drt_wave.specs.Cells.{net_of, width, IsPlan, WalkTo}
+use Rattle.drt_wave.specs.Cells.{net_of, width, IsWavePlan, WalkTo}
 use Rattle.drt_wave.proofs.Cells.{of_walk}
 
 -- e is edge number k out of vertex u, which is v, and leads to w
-pub one_edge : (p : Plan) → IsPlan p → (u k : ℕ) (e : Edge) (v w : Vertex) → u < vertex_count p.graph → k < out_degree p.graph u → e ≡ edge_of p.graph u k → v ≡ vertex_of p.graph u
+pub one_edge : (p : Plan) → IsWavePlan p → (u k : ℕ) (e : Edge) (v w : Vertex) → u < vertex_count p.graph → k < out_degree p.graph u → e ≡ edge_of p.graph u k → v ≡ vertex_of p.graph u
     → w ≡ vertex_of p.graph e.to → v.deadline ≤ p.bound → e.sep + w.deadline ≤ p.bound → Reached (net_of p) (e.to * width p + e.sep) (v.wcet + w.wcet)
 one_edge p plan u k e v w ltu ltk is_e is_v is_w due late =
     let g = p.graph in

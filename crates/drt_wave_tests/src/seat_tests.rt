@@ -1,5 +1,5 @@
 ghost use Rattle.std.specs.Prelude.{◌≡◌, ◌<◌, IfOk};
-ghost use Rattle.drt_wave.specs.Seats.{parts_of, IsOf};
+ghost use Rattle.drt_wave.specs.Seats.{parts_of, IsOfTable};
 
 use crate::graphs::{PAIR, read_cell, start_table};
 use drt_fixtures::Shape;
@@ -33,7 +33,7 @@ fn a_wave_has_as_many_offsets_as_the_least_separation(rt: HostRuntime) -> Result
 
 // A wave table of the walks up to 5, and two seats of it.
 fn start_two(alloc: Global) -> Result<(WaveTable, WaveSeat, WaveSeat), Fail>
-    ensures seats { IfOk result (λ r. IsOf r.0 r.1 × IsOf r.0 r.2) }
+    ensures seats { IfOk result (λ r. IsOfTable r.0 r.1 × IsOfTable r.0 r.2) }
     ensures parts { IfOk result (λ r. (0 < parts_of r.1) × (0 < parts_of r.2)) }
 {
     let (table, mut seat) = start_table(alloc, RETURNING, 5)?;
@@ -43,9 +43,9 @@ fn start_two(alloc: Global) -> Result<(WaveTable, WaveSeat, WaveSeat), Fail>
 
 // The next number of the first wave that a seat draws.
 fn draw(table: &WaveTable, seat: &mut WaveSeat) -> u64
-    requires seat { IsOf table.now seat.old }
+    requires seat { IsOfTable table.now seat.old }
     requires parts { 0 < parts_of seat.old }
-    ensures seat { IsOf table.now seat.new }
+    ensures seat { IsOfTable table.now seat.new }
     ensures parts { parts_of seat.new ≡ parts_of seat.old }
 {
     table.claim(seat, 0)
@@ -122,9 +122,9 @@ fn raise_walk(
     from: u32,
     number: u32,
 ) -> Result<(u64, u64), Fail>
-    requires seat { IsOf table.now seat.old }
+    requires seat { IsOfTable table.now seat.old }
     requires parts { 0 < parts_of seat.old }
-    ensures seat { IsOf table.now seat.new }
+    ensures seat { IsOfTable table.now seat.new }
     ensures parts { parts_of seat.new ≡ parts_of seat.old }
 {
     let graph = &table.plan.graph;

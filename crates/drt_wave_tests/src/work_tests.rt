@@ -1,6 +1,6 @@
 ghost use Rattle.std.specs.Prelude.{◌≡◌, ◌≤◌, [], IfOk};
 ghost use Rattle.drt_wave.specs.Cells.{net_of};
-ghost use Rattle.drt_wave.specs.Seats.{parts_of, draws_of, KnowsTo, IsOf};
+ghost use Rattle.drt_wave.specs.Seats.{parts_of, draws_of, KnowsTo, IsOfTable};
 
 use crate::graphs::{PAIR, make_graph, read_cell, start_table};
 use crate::tables::has_front;
@@ -52,12 +52,12 @@ fn works_of(alloc: Global, shape: Shape<'_>, bound: u64) -> Result<DenseFront, F
 
 // Works the first waves of a table, in order, by the seat that has every part.
 fn work_waves(table: &WaveTable, seat: &mut WaveSeat, count: u32)
-    requires seat { IsOf table.now seat.old }
+    requires seat { IsOfTable table.now seat.old }
     requires whole { parts_of seat.old ≡ 1024 }
     requires count { count ≤ (net_of table.now.plan).waves }
     requires draws { draws_of seat.old ≡ [] }
     requires known { KnowsTo 0 seat.old }
-    ensures seat { IsOf table.now seat.new }
+    ensures seat { IsOfTable table.now seat.new }
     ensures known { KnowsTo count seat.new }
 {
     'waves: for wave in 0..count {
@@ -67,7 +67,7 @@ fn work_waves(table: &WaveTable, seat: &mut WaveSeat, count: u32)
 
 // A table of a shape's walks up to a bound, worked by the seat that has every part.
 fn work_table(alloc: Global, shape: Shape<'_>, bound: u64) -> Result<(WaveTable, WaveSeat), Fail>
-    ensures seat { IfOk result (λ r. IsOf r.0 r.1) }
+    ensures seat { IfOk result (λ r. IsOfTable r.0 r.1) }
     ensures known { IfOk result (λ r. KnowsTo (net_of r.0.plan).waves r.1) }
 {
     let (table, mut seat) = start_table(alloc, shape, bound)?;

@@ -1,4 +1,4 @@
--- Each kind of step keeps the rule.
+-- HoldsOfEach kind of step keeps the rule.
 use Rattle.std.proofs.Common.{◌≡◌, ◌≢◌, ℕ, zero, suc, ◌+◌, ◌<◌, ◌≤◌, ◌⊎◌, max, List, [], ◌∷◌, ◌++◌, get_or, set, sym, refl, ap, ◌∙◌, subst, inl, inr, arith, length-set, get_or-set_same}
 use Rattle.std.proofs.lemmas.Bool.{cases_lt}
 use mathlib.Core.Logic.{dite}
@@ -8,29 +8,29 @@ use lib.ListN.{get_elem?}
 use lib.Seq.{set-get_or}
 use Rattle.atomic_table.specs.Table.{State, Me, step, keeps, Allows, Splits, Joins, opening, Final, Seen}
 use Rattle.atomic_table.proofs.Lists.{at_set, at_snoc, set_else, at_longer}
-use Rattle.drt_word.specs.Rising.{Each, IsIn, total_parts, fresh, spent, split_left, split_right, joined, with_raised, with_noted, Knows, IsRaisedIn, IsRisen, Raised, Glanced}
-use Rattle.drt_word.specs.Closing.{IsClosed}
+use Rattle.drt_word.specs.Rising.{HoldsOfEach, IsInList, total_parts, fresh, spent, split_left, split_right, joined, with_raised, with_noted, Knows, IsRaisedIn, IsRisen, Raised, Glanced}
+use Rattle.drt_word.specs.Closing.{IsWordClosed}
 use Rattle.drt_word.specs.declared.view.View.{View}
 
-pub each_weaker : (P Q : ℕ → Type 0) → ((n : ℕ) → P n → Q n) → (ns : List ℕ) → Each P ns → Each Q ns
+pub each_weaker : (P Q : ℕ → Type 0) → ((n : ℕ) → P n → Q n) → (ns : List ℕ) → HoldsOfEach P ns → HoldsOfEach Q ns
 each_weaker P Q f [] h = tt
 each_weaker P Q f (n ∷ ns) h = (f n h.0, each_weaker P Q f ns h.1)
 
-pub each_join : (P : ℕ → Type 0) (ms ns : List ℕ) → Each P ms → Each P ns → Each P (ms ++ ns)
+pub each_join : (P : ℕ → Type 0) (ms ns : List ℕ) → HoldsOfEach P ms → HoldsOfEach P ns → HoldsOfEach P (ms ++ ns)
 each_join P [] ns h g = g
 each_join P (m ∷ ms) ns h g = (h.0, each_join P ms ns h.1 g)
 
-pub each_in : (P : ℕ → Type 0) (x : ℕ) (ns : List ℕ) → Each P ns → IsIn x ns → P x
+pub each_in : (P : ℕ → Type 0) (x : ℕ) (ns : List ℕ) → HoldsOfEach P ns → IsInList x ns → P x
 each_in P x [] h i = elim i [ ]
 each_in P x (n ∷ ns) h (inl e) = subst P (sym e) h.0
 each_in P x (n ∷ ns) h (inr i) = each_in P x ns h.1 i
 
-pub in_left : (x : ℕ) (ms ns : List ℕ) → IsIn x ms → IsIn x (ms ++ ns)
+pub in_left : (x : ℕ) (ms ns : List ℕ) → IsInList x ms → IsInList x (ms ++ ns)
 in_left x [] ns i = elim i [ ]
 in_left x (m ∷ ms) ns (inl e) = inl e
 in_left x (m ∷ ms) ns (inr i) = inr (in_left x ms ns i)
 
-pub in_right : (x : ℕ) (ms ns : List ℕ) → IsIn x ns → IsIn x (ms ++ ns)
+pub in_right : (x : ℕ) (ms ns : List ℕ) → IsInList x ns → IsInList x (ms ++ ns)
 in_right x [] ns i = i
 in_right x (m ∷ ms) ns i = inr (in_right x ms ns i)
 
@@ -73,9 +73,9 @@ all_set Q views id w mine others j u e = elim (at_set views id j w u e) as (λ _
 ]
 
 -- a number that a view raised is still raised once one view has more
-still_raised : (views : List View) (id x : ℕ) (v w : View) → get_elem? views id ≡ some v → (IsIn x v.raised → IsIn x w.raised) → IsRaisedIn x views → IsRaisedIn x (set views id w)
+still_raised : (views : List View) (id x : ℕ) (v w : View) → get_elem? views id ≡ some v → (IsInList x v.raised → IsInList x w.raised) → IsRaisedIn x views → IsRaisedIn x (set views id w)
 still_raised views id x v w me more r = dite (ℕ_discrete r.0 id)
-    (λ e. (id, w, here_set views id v w me, more (subst (λ (u : View). IsIn x u.raised) (same_view views id r.1 v (ap (λ i. get_elem? views i) (sym e) ∙ r.2) me) r.3)))
+    (λ e. (id, w, here_set views id v w me, more (subst (λ (u : View). IsInList x u.raised) (same_view views id r.1 v (ap (λ i. get_elem? views i) (sym e) ∙ r.2) me) r.3)))
     (λ ne. (r.0, r.1, set_else views id r.0 w ne ∙ r.2, r.3))
 
 knows_higher : (P : ℕ → Type 0) (a b : ℕ) (v : View) → a ≤ b → Knows P a v → Knows P b v
@@ -101,19 +101,19 @@ joined_top views id x other v w me ne at r =
     let vs : List View = set views id b in
     let first : get_elem? (set vs other spent) id ≡ some b = set_else vs other id spent (λ e. ne (sym e)) ∙ here_set views id v b me in
     dite (ℕ_discrete r.0 id)
-    (λ e. (id, b, first, in_left x v.raised w.raised (subst (λ (u : View). IsIn x u.raised) (same_view views id r.1 v (ap (λ i. get_elem? views i) (sym e) ∙ r.2) me) r.3)))
+    (λ e. (id, b, first, in_left x v.raised w.raised (subst (λ (u : View). IsInList x u.raised) (same_view views id r.1 v (ap (λ i. get_elem? views i) (sym e) ∙ r.2) me) r.3)))
     (λ not_id. dite (ℕ_discrete r.0 other)
     (λ e. (
       id,
       b,
       first,
       in_right x v.raised w.raised
-          (subst (λ (u : View). IsIn x u.raised) (same_view vs other r.1 w (ap (λ i. get_elem? vs i) (sym e) ∙ (set_else views id r.0 b not_id ∙ r.2)) at) r.3),
+          (subst (λ (u : View). IsInList x u.raised) (same_view vs other r.1 w (ap (λ i. get_elem? vs i) (sym e) ∙ (set_else views id r.0 b not_id ∙ r.2)) at) r.3),
     ))
     (λ not_other. (r.0, r.1, set_else vs other r.0 spent not_other ∙ (set_else views id r.0 b not_id ∙ r.2), r.3)))
 
-nobody : (x : ℕ) (u : View) → u.raised ≡ [] → IsIn x u.raised → ⊥
-nobody x u e i = (let j : IsIn x [] = subst (λ (l : List ℕ). IsIn x l) e i in j)
+nobody : (x : ℕ) (u : View) → u.raised ≡ [] → IsInList x u.raised → ⊥
+nobody x u e i = (let j : IsInList x [] = subst (λ (l : List ℕ). IsInList x l) e i in j)
 
 first_word : (ws : List ℕ) (r : ℕ) → get_elem? ws 0 ≡ some r → get_or ws 0 0 ≡ r
 first_word [] r e = absurd (some-ne-none r (sym e))
@@ -223,7 +223,7 @@ module _ {S : Type 0} (P : ℕ → Type 0) where
     top = inl refl;
   }
 
-  pub closes : (id : ℕ) (v : View) (ws : List ℕ) (xs : List S) → v.parts ≡ 1024 → Final (Seen Holds id v) ws xs → IsClosed P (get_or ws 0 0) v
+  pub closes : (id : ℕ) (v : View) (ws : List ℕ) (xs : List S) → v.parts ≡ 1024 → Final (Seen Holds id v) ws xs → IsWordClosed P (get_or ws 0 0) v
   closes id v ws xs whole fin =
       let s = fin.0 in
       let h = fin.1.0 in
@@ -231,18 +231,18 @@ module _ {S : Type 0} (P : ℕ → Type 0) where
       let n : ℕ = get_or s.words 0 0 in
       let word : n ≡ get_or ws 0 0 = ap (λ (l : List ℕ). get_or l 0 0) fin.2 in
       let k : Knows P n v = h.each id v me in
-      let at_end : IsClosed P n v = record {
-        top = elim h.top as (λ _. (n ≡ 0) ⊎ IsIn n v.raised) [
+      let at_end : IsWordClosed P n v = record {
+        top = elim h.top as (λ _. (n ≡ 0) ⊎ IsInList n v.raised) [
           | inl z ↦ inl z
           | inr r ↦ dite (ℕ_discrete r.0 id)
-              (λ e. inr (subst (λ (u : View). IsIn n u.raised) (same_view s.views id r.1 v (ap (λ i. get_elem? s.views i) (sym e) ∙ r.2) me) r.3))
+              (λ e. inr (subst (λ (u : View). IsInList n u.raised) (same_view s.views id r.1 v (ap (λ i. get_elem? s.views i) (sym e) ∙ r.2) me) r.3))
               (λ ne. absurd (nobody n r.1 (((h.each r.0 r.1 r.2).idle (let t = two_parts s.views id r.0 v r.1 ne me r.2 in omega (arith, h.parts))).0) r.3))
         ];
         raised = k.raised;
         noted = k.noted;
       } in
-      subst (λ (x : ℕ). IsClosed P x v) word at_end
+      subst (λ (x : ℕ). IsWordClosed P x v) word at_end
 
   -- by the word that the closed table shows
-  pub closes_at : (id : ℕ) (v : View) (ws : List ℕ) (xs : List S) (word : ℕ) → v.parts ≡ 1024 → Final (Seen Holds id v) ws xs → get_elem? ws 0 ≡ some word → IsClosed P word v
-  closes_at id v ws xs word whole fin at = subst (λ (n : ℕ). IsClosed P n v) (first_word ws word at) (closes id v ws xs whole fin)
+  pub closes_at : (id : ℕ) (v : View) (ws : List ℕ) (xs : List S) (word : ℕ) → v.parts ≡ 1024 → Final (Seen Holds id v) ws xs → get_elem? ws 0 ≡ some word → IsWordClosed P word v
+  closes_at id v ws xs word whole fin at = subst (λ (n : ℕ). IsWordClosed P n v) (first_word ws word at) (closes id v ws xs whole fin)

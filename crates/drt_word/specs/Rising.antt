@@ -1,4 +1,4 @@
--- The rule of a word that only rises. Each view has the numbers that its seat put into the word, the values that it found there,
+-- The rule of a word that only rises. HoldsOfEach view has the numbers that its seat put into the word, the values that it found there,
 -- and its parts.
 use Rattle.std.specs.Prelude.{◌≡◌, ℕ, ◌+◌, ◌-◌, ◌≤◌, ◌⊎◌, List, [], ◌∷◌, ◌++◌, length, slice_index}
 use mathlib.Core.Option.{some}
@@ -7,14 +7,14 @@ use Rattle.atomic_table.specs.Table.{State, Me, Step}
 use Rattle.drt_word.specs.declared.view.View.{View}
 
 -- P holds of each number.
-abbrev pub Each : (ℕ → Type 0) → List ℕ → Type 0
-Each P [] = Unit {0}
-Each P (n ∷ ns) = P n × Each P ns
+abbrev pub HoldsOfEach : (ℕ → Type 0) → List ℕ → Type 0
+HoldsOfEach P [] = Unit {0}
+HoldsOfEach P (n ∷ ns) = P n × HoldsOfEach P ns
 
 -- The number is one of the list.
-abbrev pub IsIn : ℕ → List ℕ → Type 0
-IsIn x [] = ⊥
-IsIn x (n ∷ ns) = (x ≡ n) ⊎ IsIn x ns
+abbrev pub IsInList : ℕ → List ℕ → Type 0
+IsInList x [] = ⊥
+IsInList x (n ∷ ns) = (x ≡ n) ⊎ IsInList x ns
 
 -- The parts of all views together.
 abbrev pub total_parts : List View → ℕ
@@ -53,12 +53,12 @@ with_noted v n = record { raised = v.raised; noted = n ∷ v.noted; parts = v.pa
 -- most the word; and each noted one is at most the word.
 pub record Knows (P : ℕ → Type 0) (word : ℕ) (v : View) : Type 0 where
   pub idle : v.parts ≡ 0 → (v.raised ≡ []) × (v.noted ≡ [])
-  pub raised : Each (λ n. (n ≤ word) × P n) v.raised
-  pub noted : Each (λ n. n ≤ word) v.noted
+  pub raised : HoldsOfEach (λ n. (n ≤ word) × P n) v.raised
+  pub noted : HoldsOfEach (λ n. n ≤ word) v.noted
 
 -- The word is a number that some view raised.
 abbrev pub IsRaisedIn : ℕ → List View → Type 0
-IsRaisedIn word views = (i : ℕ) × (v : View) × (get_elem? views i ≡ some v) × IsIn word v.raised
+IsRaisedIn word views = (i : ℕ) × (v : View) × (get_elem? views i ≡ some v) × IsInList word v.raised
 
 -- The word is 0 or the greatest number that any view raised, and the parts of all views add up to 1024.
 pub record IsRisen {S : Type 0} (P : ℕ → Type 0) (s : State S View) : Type 0 where
@@ -73,4 +73,4 @@ Raised st m r n = n ≡ (with_raised m.0 st.first, m.1)
 
 -- The value that was found is noted, and nothing that the seat knew is above it.
 abbrev pub Glanced : {S : Type 0} → Step S → Me S View → ℕ → Me S View → Type 0
-Glanced st m r n = (n ≡ (with_noted m.0 r, m.1)) × Each (λ x. x ≤ r) m.0.raised × Each (λ x. x ≤ r) m.0.noted
+Glanced st m r n = (n ≡ (with_noted m.0 r, m.1)) × HoldsOfEach (λ x. x ≤ r) m.0.raised × HoldsOfEach (λ x. x ≤ r) m.0.noted

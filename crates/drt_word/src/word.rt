@@ -1,8 +1,8 @@
 //! The word. Each step is taken by a seat.
 
 ghost use Rattle.std.specs.Prelude.{◌≡◌, ℕ, ◌<◌, ◌≤◌, [], IfOk};
-ghost use Rattle.drt_word.specs.Rising.{Each, fresh, split_left, split_right, joined, with_raised, with_noted};
-ghost use Rattle.drt_word.specs.Closing.{IsClosed};
+ghost use Rattle.drt_word.specs.Rising.{HoldsOfEach, fresh, split_left, split_right, joined, with_raised, with_noted};
+ghost use Rattle.drt_word.specs.Closing.{IsWordClosed};
 
 use crate::rule::{Glance, Join, Meaning, Raise, Rule, Split};
 use crate::view::View;
@@ -59,8 +59,8 @@ impl<S: Meaning> Word<S> {
         requires part { 0 < seat.old.me.0.parts }
         ensures name { seat.new.table_id ≡ self.now.name }
         ensures seat { seat.new.me ≡ (with_noted seat.old.me.0 result, seat.old.me.1) }
-        ensures raised { Each (λ x. x ≤ result) seat.old.me.0.raised }
-        ensures noted { Each (λ x. x ≤ result) seat.old.me.0.noted }
+        ensures raised { HoldsOfEach (λ x. x ≤ result) seat.old.me.0.raised }
+        ensures noted { HoldsOfEach (λ x. x ≤ result) seat.old.me.0.noted }
     {
         self.table.shared.load::<Glance>(seat, WORD)
     }
@@ -92,7 +92,7 @@ impl<S: Meaning> Word<S> {
     pub fn close(self, seat: Seat<(), View>) -> u64
         requires name { seat.table_id ≡ self.name }
         requires parts { seat.me.0.parts ≡ 1024 }
-        ensures { IsClosed (S.is_reached self.about) result seat.me.0 }
+        ensures { IsWordClosed (S.is_reached self.about) result seat.me.0 }
     {
         let Word { table } = self;
         let closed = table.close_with(seat);

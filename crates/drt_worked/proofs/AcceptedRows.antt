@@ -15,7 +15,7 @@ use Rattle.drt_model.specs.Utilisation.{Fraction, IsScale, rate}
 use Rattle.drt_model.specs.Walk.{sep_in, or_zero, work, span}
 use Rattle.drt_model.specs.declared.front.FrontEntry.{FrontEntry}
 use Rattle.drt_model.specs.FrontEntry.{due}
-use Rattle.drt_claims.specs.Fronts.{HasOpenings, IsClosedFront, IsExtended, IsNextEntry, IsWithin, works_due}
+use Rattle.drt_claims.specs.Fronts.{HasOpenings, IsClosedFront, IsExtended, IsNextEntry, IsEntryWithin, works_due}
 use Rattle.drt_claims.specs.Rules.{Accepts}
 use Rattle.drt_claims.specs.declared.evidence.RatioClaim.{RatioClaim}
 use Rattle.drt_claims.proofs.Accepting.{AreFrontClaims, AreRatioClaims, IsEdfYes, yes_accepted}
@@ -67,7 +67,7 @@ no_opening (suc v) h by = absurd (omega (arith, h))
 front_claims : AreFrontClaims one 0 ([] ∷ [])
 front_claims = record {
   near = lit≤ tt;
-  ordered = ((All-nil (IsWithin graph 0), (λ i d l. absurd (omega (arith, l)))), tt);
+  ordered = ((All-nil (IsEntryWithin graph 0), (λ i d l. absurd (omega (arith, l)))), tt);
   openings = (no_opening, tt);
   closed = (All-nil (λ (e : FrontEntry). (k : ℕ) → k < out_degree graph e.vertex → IsExtended 0 graph [] e k), tt);
   room = (All-nil (λ (e : FrontEntry). works_due (graph ∷ []) ([] ∷ []) (due graph e) ≤ due graph e), tt);

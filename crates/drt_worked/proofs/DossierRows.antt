@@ -4,7 +4,7 @@ use Rattle.std.specs.Fmt.{digits}
 use Rattle.drt_model.specs.declared.jobs.Policy.TheVariants.{Edf}
 use Rattle.drt_file.specs.trusted.Canonical.{written_line, name_at, priority_lines, body_lines, task_lines, set_lines, canonical}
 use Rattle.drt_file.specs.trusted.CanonicalPrefix.{line_count, first_lines}
-use Rattle.drt_evidence.specs.Reading.{IsTextOf, IsDossierPrefix, HoldsDossier, IsFaultyBy, HasDossierFault}
+use Rattle.drt_evidence.specs.Reading.{IsDossierText, IsDossierPrefix, HoldsDossier, IsDossierFaultyBy, HasDossierFault}
 use Rattle.drt_claims.specs.Statement.{Statement}
 use Rattle.drt_evidence.specs.Text.{text}
 use Rattle.drt_claims.specs.declared.evidence.Evidence.TheVariants.{Undecided}
@@ -18,7 +18,7 @@ undecided = record { policy = Edf; set = record { version = 1; tasks = short ∷
 abbrev pub undecided_bytes : List ℕ
 undecided_bytes = codes "drt-dossier 1\npolicy edf\ndrt 1\ntask T\nvertex a 2 5\nedge a a 5\nend\nevidence undecided\nclose\n"
 
-pub undecided_is_text : IsTextOf undecided undecided_bytes
+pub undecided_is_text : IsDossierText undecided undecided_bytes
 unfolding text digits written_line name_at priority_lines body_lines task_lines set_lines canonical
 undecided_is_text = record { stated = (short_is_set, tt); is = refl }
 
@@ -47,7 +47,7 @@ pub x_has_fault : HasDossierFault (codes "x\n") 1 1
 unfolding line_count first_lines
 x_has_fault = record { here = inr x_is_no_prefix; least = least; is_code = inr (inr (refl, lit≤ tt, x_holds_none)) }
   where
-    least : (n : ℕ) → n < 1 → ¬ IsFaultyBy (120 ∷ 10 ∷ []) n
+    least : (n : ℕ) → n < 1 → ¬ IsDossierFaultyBy (120 ∷ 10 ∷ []) n
     least zero l (inl few) = absurd (omega (arith, few.0))
     least zero l (inr broken) = broken none_is_prefix
     least (suc n) l b = absurd (omega arith)
@@ -60,7 +60,7 @@ pub empty_has_fault : HasDossierFault [] 1 2
 unfolding line_count first_lines
 empty_has_fault = record { here = inl (lit< tt, empty_holds_none); least = least; is_code = inr (inl (refl, lit< tt, empty_holds_none)) }
   where
-    least : (n : ℕ) → n < 1 → ¬ IsFaultyBy [] n
+    least : (n : ℕ) → n < 1 → ¬ IsDossierFaultyBy [] n
     least zero l (inl few) = absurd (omega (arith, few.0))
     least zero l (inr broken) = broken none_is_prefix
     least (suc n) l b = absurd (omega arith)

@@ -5,7 +5,7 @@ use Rattle.drt_model.specs.declared.tasks.Task.{Task}
 use Rattle.drt_model.specs.Digraph.{Digraph, digraph_of}
 use Rattle.drt_model.specs.RequestFunction.{requested_from}
 use Rattle.drt_model.specs.Walk.{sep_in, or_zero}
-use Rattle.drt_claims.specs.Proofs.{IsPassed, after_all, opening, sum_at}
+use Rattle.drt_claims.specs.Proofs.{HasPassingTime, after_all, opening, sum_at}
 use Rattle.drt_claims.specs.Trees.{by_priority, higher_count, joined, placed, tree_graphs}
 use Rattle.drt_claims.specs.declared.evidence.Item.{Item}
 use Rattle.drt_claims.specs.declared.evidence.Item.TheVariants.{Pass, Split}
@@ -76,7 +76,7 @@ last_is_not_widest w = absurd (omega (arith, w.most 0 (lit< tt)))
 
 -- For z and the two roots no time passes: they ask for 4 before each time up to 4, and for 5 before 5.
 abbrev Passes : List ℕ → ℕ → Type 0
-Passes nodes t = IsPassed graphs trees (digraph_of low) 0 (nodes, t)
+Passes nodes t = HasPassingTime graphs trees (digraph_of low) 0 (nodes, t)
 
 pub none_passes_roots : (t : ℕ) → Passes (6 ∷ 2 ∷ []) t → ⊥
 unfolding sum_at joined requested_from sep_in or_zero

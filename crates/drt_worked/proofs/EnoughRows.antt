@@ -9,7 +9,7 @@ use Rattle.drt_model.specs.Digraph.{Digraph}
 use Rattle.drt_model.specs.Walk.{sep_in, or_zero, span}
 use Rattle.drt_busy.specs.Choice.{graph_at, task_at}
 use Rattle.drt_claims.specs.Trees.{IsShortWalk, greatest_deadline, latest_deadline}
-use Rattle.drt_sp.specs.Needs.{HasAtMost, IsEnough, product_above}
+use Rattle.drt_sp.specs.Needs.{HasAtMost, IsEnoughForTrees, product_above}
 use Rattle.drt_rows.proofs.Sets.{edge, looped}
 
 abbrev pub tasks : List Task
@@ -51,7 +51,7 @@ abbrev walks : ℕ → ℕ
 walks zero = 2
 walks (suc k) = 1
 
-pub eight_is_enough : IsEnough tasks 8
+pub eight_is_enough : IsEnoughForTrees tasks 8
 unfolding greatest_deadline latest_deadline product_above
 eight_is_enough = record { counts = walks; walks = are; searches = searches; refinements = refinements }
   where

@@ -4,7 +4,7 @@ ghost use Rattle.std.specs.Prelude.{◌≡◌, ◌≤◌, ◌∷◌, [], IfOk, l
 ghost use Rattle.drt_pool.specs.Turns.{EachPlace};
 ghost use Rattle.drt_refine.specs.View.{IsFrontier};
 ghost use Rattle.drt_steps.specs.Time.{AreChosen};
-ghost use Rattle.drt_shared_frontier.specs.Passes.{IsPassOf};
+ghost use Rattle.drt_shared_frontier.specs.Passes.{IsPassOfFrontier};
 
 use drt_model::{Memory, Row};
 use drt_pool::Gate;
@@ -34,7 +34,7 @@ pub(crate) fn share(
 ) -> Result<(SharedFrontier, Vec<FrontierPass>), Memory>
     ensures forest { IfOk result (λ r. forest.now ≡ r.0.setting.forest) }
     ensures count { IfOk result (λ r. length r.1.items ≡ r.0.passes) }
-    ensures passes { IfOk result (λ r. EachPlace (λ place p. IsPassOf r.0 p) r.1.items) }
+    ensures passes { IfOk result (λ r. EachPlace (λ place p. IsPassOfFrontier r.0 p) r.1.items) }
 {
     check(rt, forest, root, deadline, budget);
     assert!(rt; 1 <= passes && passes <= 16);
@@ -97,8 +97,8 @@ fn turn<R: Wait>(
     pass: &mut FrontierPass,
 ) -> (FrontierStep, FrontierAnswer)
     requires forest { forest.now ≡ shared.now.setting.forest }
-    requires pass { IsPassOf shared.now pass.old }
-    ensures { IsPassOf shared.now pass.new }
+    requires pass { IsPassOfFrontier shared.now pass.old }
+    ensures { IsPassOfFrontier shared.now pass.new }
 {
     match pass.held() {
         None => (FrontierStep::Take, shared.take(rt, forest, pass)),
@@ -119,9 +119,9 @@ pub(crate) fn follow<R: Wait>(
 ) -> (usize, Vec<FrontierPass>)
     requires forest { forest.now ≡ shared.now.setting.forest }
     requires count { length passes.items ≡ shared.now.passes }
-    requires passes { EachPlace (λ place p. IsPassOf shared.now p) passes.items }
+    requires passes { EachPlace (λ place p. IsPassOfFrontier shared.now p) passes.items }
     ensures count { length result.1.items ≡ shared.now.passes }
-    ensures passes { EachPlace (λ place p. IsPassOf shared.now p) result.1.items }
+    ensures passes { EachPlace (λ place p. IsPassOfFrontier shared.now p) result.1.items }
 {
     let mut passes = passes;
     let followed = play_all(rt, shared, forest, passes.as_mut_slice(), plays);
@@ -137,9 +137,9 @@ fn play_all<R: Wait>(
     plays: &[Play],
 ) -> usize
     requires forest { forest.now ≡ shared.now.setting.forest }
-    requires passes { EachPlace (λ place p. IsPassOf shared.now p) passes.old }
+    requires passes { EachPlace (λ place p. IsPassOfFrontier shared.now p) passes.old }
     ensures count { length passes.new ≡ length passes.old }
-    ensures passes { EachPlace (λ place p. IsPassOf shared.now p) passes.new }
+    ensures passes { EachPlace (λ place p. IsPassOfFrontier shared.now p) passes.new }
 {
     for i in 0..plays.len() {
         let (place, wanted, reply) = plays[i];
@@ -157,7 +157,7 @@ fn play_all<R: Wait>(
 // The frontier, once the passes are done with it.
 pub(crate) fn close(shared: SharedFrontier, passes: Vec<FrontierPass>) -> Frontier
     requires count { length passes.items ≡ shared.passes }
-    requires passes { EachPlace (λ place p. IsPassOf shared p) passes.items }
+    requires passes { EachPlace (λ place p. IsPassOfFrontier shared p) passes.items }
     ensures { IsFrontier shared.setting.forest result }
 {
     shared.finish(Row::from_vec(passes))

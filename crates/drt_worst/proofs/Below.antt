@@ -4,7 +4,7 @@ use Rattle.std.specs.Prelude.{slice_get}
 use Rattle.std.proofs.lemmas.Option.{none-some, same_Some}
 use Rattle.drt_steps.specs.Values.{value_at}
 use Rattle.drt_steps.specs.Time.{sum_at, Passes}
-use Rattle.drt_tree.specs.Tree.{Plain, IsForest, IsPair, children, leaves, values, Leads, IsUnder}
+use Rattle.drt_tree.specs.Tree.{Plain, IsForest, IsPair, children, leaves, values, LeadsToLeaf, IsUnder}
 use Rattle.drt_tree.proofs.Trees.{leaf_below}
 use Rattle.drt_refine.specs.Below.{AreBelow, IsConcrete, tuples}
 use Rattle.drt_worst.specs.Splitting.{IsSplit, IsHalfOf, IsPartBy, IsPart}
@@ -18,11 +18,11 @@ same_pair l r l' r' o e g =
     (ap (λ (x : ℕ × ℕ). x.0) h, ap (λ (x : ℕ × ℕ). x.1) h)
 
 module _ (f : Plain) where
-  turn : (l r l' r' leaf : ℕ) (b : Bool) (turns : List Bool) → (l ≡ l') × (r ≡ r') → Leads f (cond b l' r') turns leaf → IsUnder f leaf l ⊎ IsUnder f leaf r
-  turn l r l' r' leaf true turns e h = inl (turns, subst (λ (n : ℕ). Leads f n turns leaf) (sym e.0) h)
-  turn l r l' r' leaf false turns e h = inr (turns, subst (λ (n : ℕ). Leads f n turns leaf) (sym e.1) h)
+  turn : (l r l' r' leaf : ℕ) (b : Bool) (turns : List Bool) → (l ≡ l') × (r ≡ r') → LeadsToLeaf f (cond b l' r') turns leaf → IsUnder f leaf l ⊎ IsUnder f leaf r
+  turn l r l' r' leaf true turns e h = inl (turns, subst (λ (n : ℕ). LeadsToLeaf f n turns leaf) (sym e.0) h)
+  turn l r l' r' leaf false turns e h = inr (turns, subst (λ (n : ℕ). LeadsToLeaf f n turns leaf) (sym e.1) h)
 
-  under_by : (leaf n l r : ℕ) → children f n ≡ Some (l, r) → (turns : List Bool) → Leads f n turns leaf → IsUnder f leaf l ⊎ IsUnder f leaf r
+  under_by : (leaf n l r : ℕ) → children f n ≡ Some (l, r) → (turns : List Bool) → LeadsToLeaf f n turns leaf → IsUnder f leaf l ⊎ IsUnder f leaf r
   under_by leaf n l r h [] g =
       let p : ℕ × ℕ = (l, r) in
       absurd (none-some p (sym g.1 ∙ h))
@@ -110,7 +110,7 @@ module _ (f : Plain) where
   concrete_below [] h = tt
   concrete_below (n ∷ c) h = (([], (refl, h.0)), concrete_below c h.1)
 
-  leads_leaf : (n : ℕ) (turns : List Bool) (leaf : ℕ) → Leads f n turns leaf → children f leaf ≡ None
+  leads_leaf : (n : ℕ) (turns : List Bool) (leaf : ℕ) → LeadsToLeaf f n turns leaf → children f leaf ≡ None
   leads_leaf n [] leaf h = subst (λ (k : ℕ). children f k ≡ None) h.0 h.1
   leads_leaf n (b ∷ turns) leaf h = leads_leaf (cond b h.0 h.1) turns leaf h.3
 

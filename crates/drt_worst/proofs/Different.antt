@@ -6,7 +6,7 @@ use Rattle.std.proofs.lemmas.Option.{none-some, same_Some}
 use Rattle.drt_tree.specs.Tree.{Plain, AreApart, IsForest, IsUnder}
 use Rattle.drt_refine.specs.Below.{AreBelow, tuples}
 use Rattle.drt_worst.specs.Splitting.{Search, IsSplit, IsHalfOf, IsPart}
-use Rattle.drt_worst.specs.Runs.{Choice, skips, reaches, splits, Entry, known, left_after, halves_of, half_of, stack_after, IsFit, IsRunFrom, combination_of}
+use Rattle.drt_worst.specs.Runs.{Choice, skips, reaches, splits, PassEntry, known, left_after, halves_of, half_of, stack_after, IsFit, IsRunFrom, combination_of}
 use Rattle.drt_worst.specs.Spent.{IsProperPart, IsSpent}
 use Rattle.drt_worst.proofs.Below.{below_from_left, below_from_right, below_part, some_tuple, tuples_some, tuples_split, tuples_part}
 use Rattle.drt_worst.proofs.Spending.{Mapped, at_map, length-map, takes_run, fails_split, skips_later, spent_short}
@@ -98,21 +98,21 @@ module _ (s : Search) where
       let both = disjoint_halves s.forest c c l r stack h.0 p.0 in
       ((halves_disjoint s.forest apart c l r h.0, both.0), (both.1, p.1))
 
-  later_differ : IsForest s.forest → (b : List ℕ) (low : ℕ) (stack : List (List ℕ)) (es : List Entry) (j : ℕ) (e : Entry)
+  later_differ : IsForest s.forest → (b : List ℕ) (low : ℕ) (stack : List (List ℕ)) (es : List PassEntry) (j : ℕ) (e : PassEntry)
       → IsRunFrom s low stack es → AllDiffer s.forest b stack → slice_get es j ≡ Some e → Differs s.forest b e.combination
   later_differ sound b low stack [] j e run d at = absurd (none-some e at)
   later_differ sound b low [] (x ∷ es) j e run d at = elim run [ ]
-  later_differ sound b low (c ∷ stack) (x ∷ es) zero e run d at = subst (λ (z : List ℕ). Differs s.forest b z) (sym run.0 ∙ ap (λ (y : Entry). y.combination) (same_Some x e at)) d.0
+  later_differ sound b low (c ∷ stack) (x ∷ es) zero e run d at = subst (λ (z : List ℕ). Differs s.forest b z) (sym run.0 ∙ ap (λ (y : PassEntry). y.combination) (same_Some x e at)) d.0
   later_differ sound b low (c ∷ stack) (x ∷ es) (suc j) e run d at =
       later_differ sound b (known x.seen x.choice) (left_after x.choice stack) es j e run.3 (left_differ sound b c stack x.seen x.choice run.2 d) at
 
-  entries_differ : IsForest s.forest → AreApart s.forest → (low : ℕ) (stack : List (List ℕ)) (es : List Entry) (i j : ℕ) (d e : Entry) → IsRunFrom s low stack es
+  entries_differ : IsForest s.forest → AreApart s.forest → (low : ℕ) (stack : List (List ℕ)) (es : List PassEntry) (i j : ℕ) (d e : PassEntry) → IsRunFrom s low stack es
       → ArePairwise s.forest stack → i < j → slice_get es i ≡ Some d → slice_get es j ≡ Some e → Differs s.forest d.combination e.combination
   entries_differ sound apart low stack [] i j d e run p lt ati atj = absurd (none-some d ati)
   entries_differ sound apart low [] (x ∷ es) i j d e run p lt ati atj = elim run [ ]
   entries_differ sound apart low (c ∷ stack) (x ∷ es) i zero d e run p lt ati atj = absurd (omega arith)
   entries_differ sound apart low (c ∷ stack) (x ∷ es) zero (suc j) d e run p lt ati atj =
-      let same : c ≡ d.combination = sym run.0 ∙ ap (λ (y : Entry). y.combination) (same_Some x d ati) in
+      let same : c ≡ d.combination = sym run.0 ∙ ap (λ (y : PassEntry). y.combination) (same_Some x d ati) in
       let differs : Differs s.forest c e.combination = later_differ sound c (known x.seen x.choice) (left_after x.choice stack) es j e run.3 (own_differ sound c stack x.seen x.choice run.2 p.0) atj in
       subst (λ (z : List ℕ). Differs s.forest z e.combination) same differs
   entries_differ sound apart low (c ∷ stack) (x ∷ es) (suc i) (suc j) d e run p lt ati atj =
@@ -125,11 +125,11 @@ module _ (s : Search) where
   left_apart b c stack seen (splits l r) h d =
       ((λ tuple x y. d.0 tuple x (below_from_left s.forest tuple c l r h.0 y)), ((λ tuple x y. d.0 tuple x (below_from_right s.forest tuple c l r h.0 y)), d.1))
 
-  later_apart : (b : List ℕ) (low : ℕ) (stack : List (List ℕ)) (es : List Entry) (k : ℕ) (e : Entry)
+  later_apart : (b : List ℕ) (low : ℕ) (stack : List (List ℕ)) (es : List PassEntry) (k : ℕ) (e : PassEntry)
       → IsRunFrom s low stack es → AllDisjoint s.forest b stack → slice_get es k ≡ Some e → AreDisjoint s.forest b e.combination
   later_apart b low stack [] k e run d at = absurd (none-some e at)
   later_apart b low [] (x ∷ es) k e run d at = elim run [ ]
-  later_apart b low (c ∷ stack) (x ∷ es) zero e run d at = subst (λ (z : List ℕ). AreDisjoint s.forest b z) (sym run.0 ∙ ap (λ (y : Entry). y.combination) (same_Some x e at)) d.0
+  later_apart b low (c ∷ stack) (x ∷ es) zero e run d at = subst (λ (z : List ℕ). AreDisjoint s.forest b z) (sym run.0 ∙ ap (λ (y : PassEntry). y.combination) (same_Some x e at)) d.0
   later_apart b low (c ∷ stack) (x ∷ es) (suc k) e run d at =
       later_apart b (known x.seen x.choice) (left_after x.choice stack) es k e run.3 (left_apart b c stack x.seen x.choice run.2 d) at
 
@@ -140,7 +140,7 @@ module _ (s : Search) where
       let p : List ℕ × List ℕ = (l, r) in
       absurd (none-some p (sym h))
 
-  whole_apart : AreApart s.forest → (low : ℕ) (stack : List (List ℕ)) (es : List Entry) (j k : ℕ) (d e : Entry)
+  whole_apart : AreApart s.forest → (low : ℕ) (stack : List (List ℕ)) (es : List PassEntry) (j k : ℕ) (d e : PassEntry)
       → IsRunFrom s low stack es → ArePairwise s.forest stack → j < k → slice_get es j ≡ Some d → slice_get es k ≡ Some e
       → halves_of d.choice ≡ None → AreDisjoint s.forest d.combination e.combination
   whole_apart apart low stack [] j k d e run p lt atj atk none = absurd (none-some d atj)
@@ -148,8 +148,8 @@ module _ (s : Search) where
   whole_apart apart low (c ∷ stack) (x ∷ es) j zero d e run p lt atj atk none = absurd (omega arith)
   whole_apart apart low (c ∷ stack) (x ∷ es) zero (suc k) d e run p lt atj atk none =
       let is : x ≡ d = same_Some x d atj in
-      let unsplit : halves_of x.choice ≡ None = ap (λ (y : Entry). halves_of y.choice) is ∙ none in
-      let same : c ≡ d.combination = sym run.0 ∙ ap (λ (y : Entry). y.combination) is in
+      let unsplit : halves_of x.choice ≡ None = ap (λ (y : PassEntry). halves_of y.choice) is ∙ none in
+      let same : c ≡ d.combination = sym run.0 ∙ ap (λ (y : PassEntry). y.combination) is in
       let later : AreDisjoint s.forest c e.combination = later_apart c (known x.seen x.choice) (left_after x.choice stack) es k e run.3 (whole_left c stack x.choice unsplit p.0) atk in
       subst (λ (z : List ℕ). AreDisjoint s.forest z e.combination) same later
   whole_apart apart low (c ∷ stack) (x ∷ es) (suc j) (suc k) d e run p lt atj atk none =
@@ -170,7 +170,7 @@ module _ (s : Search) where
       let up : AreBelow s.forest t.0 c = half_below t.0 c p.0 p.1 (below_part s.forest t.0 p.0 d p.2 t.1) in
       (omega arith, ((λ h. h t.0 up t.1), (λ h. h t.0 t.1 up)))
 
-  proper_by : IsForest s.forest → (low : ℕ) (start : List ℕ) (es : List Entry) → IsRunFrom s low (start ∷ []) es → (j k : ℕ) (d e : Entry) → slice_get es j ≡ Some d → slice_get es k ≡ Some e
+  proper_by : IsForest s.forest → (low : ℕ) (start : List ℕ) (es : List PassEntry) → IsRunFrom s low (start ∷ []) es → (j k : ℕ) (d e : PassEntry) → slice_get es j ≡ Some d → slice_get es k ≡ Some e
       → halves_of d.choice ≡ None → ¬ IsProperPart s.forest d.combination e.combination
   proper_by sound low start es run j k d e atj atk none proper =
       let p = proper_not sound d.combination e.combination proper in
@@ -181,13 +181,13 @@ module _ (s : Search) where
           | inl earlier ↦ elim (entries_differ sound sound.apart low (start ∷ []) es k j e d run (tt, tt) earlier atk atj) as (λ _. ⊥) [ inl apart ↦ p.1.1 apart | inr more ↦ omega arith ]
           | inr ge ↦ (let same : j ≡ k = omega arith in
               let is : d ≡ e = same_Some d e (sym atj ∙ (ap (λ i. slice_get es i) same ∙ atk)) in
-              let equal : tuples s.forest d.combination ≡ tuples s.forest e.combination = ap (λ (x : Entry). tuples s.forest x.combination) is in
+              let equal : tuples s.forest d.combination ≡ tuples s.forest e.combination = ap (λ (x : PassEntry). tuples s.forest x.combination) is in
               omega arith)
         ]
       ]
 
   -- of what isn't split no part is taken
-  pub whole_stays : IsForest s.forest → (low : ℕ) (start : List ℕ) (es : List Entry) → IsRunFrom s low (start ∷ []) es
+  pub whole_stays : IsForest s.forest → (low : ℕ) (start : List ℕ) (es : List PassEntry) → IsRunFrom s low (start ∷ []) es
       → (j k : ℕ) (d e : List ℕ) → slice_get (map combination_of es) j ≡ Some d → slice_get (map half_of es) j ≡ Some None
       → slice_get (map combination_of es) k ≡ Some e → ¬ IsProperPart s.forest d e
   whole_stays sound low start es run j k d e atj none atk proper =
@@ -195,12 +195,12 @@ module _ (s : Search) where
       let y : Mapped combination_of es k e = at_map combination_of es k e atk in
       let h : Mapped half_of es j None = at_map half_of es j None none in
       let same : h.item ≡ x.item = same_Some h.item x.item (sym h.at ∙ x.at) in
-      let unsplit : halves_of x.item.choice ≡ None = ap (λ (z : Entry). halves_of z.choice) (sym same) ∙ h.is in
+      let unsplit : halves_of x.item.choice ≡ None = ap (λ (z : PassEntry). halves_of z.choice) (sym same) ∙ h.is in
       let up : IsProperPart s.forest x.item.combination e = subst (λ (z : List ℕ). IsProperPart s.forest z e) (sym x.is) proper in
       proper_by sound low start es run j k x.item y.item x.at y.at unsplit (subst (λ (z : List ℕ). IsProperPart s.forest x.item.combination z) (sym y.is) up)
 
   -- what a pass takes is all different
-  pub taken_differ : IsForest s.forest → (low : ℕ) (start : List ℕ) (es : List Entry) → IsRunFrom s low (start ∷ []) es
+  pub taken_differ : IsForest s.forest → (low : ℕ) (start : List ℕ) (es : List PassEntry) → IsRunFrom s low (start ∷ []) es
       → (i j : ℕ) (c d : List ℕ) → i < j → slice_get (map combination_of es) i ≡ Some c → slice_get (map combination_of es) j ≡ Some d → c ≢ d
   taken_differ sound low start es run i j c d lt ati atj e =
       let x : Mapped combination_of es i c = at_map combination_of es i c ati in
@@ -209,7 +209,7 @@ module _ (s : Search) where
       differ_not s.forest sound x.item.combination y.item.combination differs (x.is ∙ (e ∙ sym y.is))
 
   -- a pass that took as many as the budget and still has one to take
-  pub spent : IsForest s.forest → (roots start : List ℕ) (low budget : ℕ) (es : List Entry)
+  pub spent : IsForest s.forest → (roots start : List ℕ) (low budget : ℕ) (es : List PassEntry)
       → IsPart s.forest roots start → IsRunFrom s low (start ∷ []) es → stack_after (start ∷ []) es ≢ [] → length es ≡ budget
       → IsSpent s roots budget (map combination_of es)
   spent sound roots start low budget es p run more count = record {

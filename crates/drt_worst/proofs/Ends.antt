@@ -14,11 +14,11 @@ use Rattle.drt_worst.specs.Spent.{IsSpent}
 use Rattle.drt_worst.proofs.Below.{part_more, below_parts}
 use Rattle.drt_worst.proofs.Runs.{greatest, some_reached}
 use Rattle.drt_worst.proofs.Different.{spent}
-use Rattle.drt_word.specs.Rising.{IsIn, joined}
-use Rattle.drt_word.specs.Closing.{IsClosed}
+use Rattle.drt_word.specs.Rising.{IsInList, joined}
+use Rattle.drt_word.specs.Closing.{IsWordClosed}
 use Rattle.drt_word.proofs.Steps.{each_in, each_join, each_weaker, in_left, in_right}
 use Rattle.drt_word.specs.declared.view.View.{View}
-use Rattle.drt_worst.specs.Passing.{search_of, IsNotedIn, IsBest, HasRun, IsReady}
+use Rattle.drt_worst.specs.Passing.{search_of, IsNotedIn, IsGreatestRaised, HasRun, IsSearchReady}
 use Rattle.drt_pool.specs.Turns.{EachPlace}
 use Rattle.drt_worst.specs.declared.pass.Pass.{Pass}
 
@@ -34,26 +34,26 @@ noted_right n v w (inr (inl i)) = inr (inl (in_right n v.raised w.raised i))
 noted_right n v w (inr (inr i)) = inr (inr (in_right n v.noted w.noted i))
 
 module _ (s : Search) (roots : List ℕ) where
-  pub best_left : (a b : ℕ) (os bs : List ℕ) (v w : View) → b ≤ a → IsBest s roots a os v → IsBest s roots b bs w → IsBest s roots a os (joined v w)
+  pub best_left : (a b : ℕ) (os bs : List ℕ) (v w : View) → b ≤ a → IsGreatestRaised s roots a os v → IsGreatestRaised s roots b bs w → IsGreatestRaised s roots a os (joined v w)
   best_left a b os bs v w le x y = record {
     most = each_join (λ n. n ≤ a) v.raised w.raised x.most (each_weaker (λ n. n ≤ b) (λ n. n ≤ a) (λ n h. omega arith) w.raised y.most);
-    is = elim x.is as (λ _. (a ≡ 0) ⊎ (IsIn a (v.raised ++ w.raised) × IsReached s roots a os)) [ inl z ↦ inl z | inr i ↦ inr (in_left a v.raised w.raised i.0, i.1) ];
+    is = elim x.is as (λ _. (a ≡ 0) ⊎ (IsInList a (v.raised ++ w.raised) × IsReached s roots a os)) [ inl z ↦ inl z | inr i ↦ inr (in_left a v.raised w.raised i.0, i.1) ];
   }
 
-  pub best_right : (a b : ℕ) (os bs : List ℕ) (v w : View) → a ≤ b → IsBest s roots a os v → IsBest s roots b bs w → IsBest s roots b bs (joined v w)
+  pub best_right : (a b : ℕ) (os bs : List ℕ) (v w : View) → a ≤ b → IsGreatestRaised s roots a os v → IsGreatestRaised s roots b bs w → IsGreatestRaised s roots b bs (joined v w)
   best_right a b os bs v w le x y = record {
     most = each_join (λ n. n ≤ b) v.raised w.raised (each_weaker (λ n. n ≤ a) (λ n. n ≤ b) (λ n h. omega arith) v.raised x.most) y.most;
-    is = elim y.is as (λ _. (b ≡ 0) ⊎ (IsIn b (v.raised ++ w.raised) × IsReached s roots b bs)) [ inl z ↦ inl z | inr i ↦ inr (in_right b v.raised w.raised i.0, i.1) ];
+    is = elim y.is as (λ _. (b ≡ 0) ⊎ (IsInList b (v.raised ++ w.raised) × IsReached s roots b bs)) [ inl z ↦ inl z | inr i ↦ inr (in_right b v.raised w.raised i.0, i.1) ];
   }
 
   -- the greatest number that was raised is the word
-  pub best_word : (P : ℕ → Type 0) (word best : ℕ) (leaves : List ℕ) (v : View) → IsClosed P word v → IsBest s roots best leaves v → word ≡ best
+  pub best_word : (P : ℕ → Type 0) (word best : ℕ) (leaves : List ℕ) (v : View) → IsWordClosed P word v → IsGreatestRaised s roots best leaves v → word ≡ best
   best_word P word best leaves v c b =
       let low : word ≤ best = elim c.top as (λ _. word ≤ best) [ inl z ↦ omega arith | inr i ↦ each_in (λ n. n ≤ best) word v.raised b.most i ] in
       let high : best ≤ word = elim b.is as (λ _. best ≤ word) [ inl z ↦ omega arith | inr i ↦ (each_in (λ n. (n ≤ word) × P n) best v.raised c.raised i.0).0 ] in
       omega arith
 
-  pub known_word : (P : ℕ → Type 0) (word n : ℕ) (v : View) → IsClosed P word v → IsNotedIn n v → n ≤ word
+  pub known_word : (P : ℕ → Type 0) (word n : ℕ) (v : View) → IsWordClosed P word v → IsNotedIn n v → n ≤ word
   known_word P word n v c (inl z) = omega arith
   known_word P word n v c (inr (inl i)) = (each_in (λ n. (n ≤ word) × P n) n v.raised c.raised i).0
   known_word P word n v c (inr (inr i)) = each_in (λ n. n ≤ word) n v.noted c.noted i
@@ -113,7 +113,7 @@ module _ (s : Search) (roots : List ℕ) where
       e.dealt tuple i p there (subst (λ (x : List ℕ). AreBelow s.forest tuple x) (sym is) below)
 
   -- once all passes are done, the greatest value that was raised is the greatest least time
-  pub settles : IsReady s roots → (P : ℕ → Type 0) (word best : ℕ) (leaves : List ℕ) (v : View) (ps : List Pass) (dealt : List (List ℕ)) → IsClosed P word v → IsBest s roots best leaves v
+  pub settles : IsSearchReady s roots → (P : ℕ → Type 0) (word best : ℕ) (leaves : List ℕ) (v : View) (ps : List Pass) (dealt : List (List ℕ)) → IsWordClosed P word v → IsGreatestRaised s roots best leaves v
       → AreDealt s.forest roots dealt → ((i : ℕ) (c : List ℕ) → slice_get dealt i ≡ Some c → (p : Pass) × (slice_get ps i ≡ Some p) × (p.start ≡ c))
       → ((i : ℕ) (p : Pass) → slice_get ps i ≡ Some p → HasRun s roots p × (p.stack.items ≡ []) × IsNotedIn p.known v) → IsGreatest s roots best leaves
   settles ready P word best leaves v ps dealt c b d from each =
@@ -127,7 +127,7 @@ module _ (s : Search) (roots : List ℕ) where
       greatest s ready.forest roots best e.runs e.ended all leaves reached
 
   -- a pass that took as many as the budget and has something left
-  pub spends : IsReady s roots → (budget : ℕ) (p : Pass) (list : List (List ℕ)) → p.stack.items ≢ [] → p.taken.count ≡ budget
+  pub spends : IsSearchReady s roots → (budget : ℕ) (p : Pass) (list : List (List ℕ)) → p.stack.items ≢ [] → p.taken.count ≡ budget
       → (r : HasRun s roots p) → map combination_of r.entries ≡ list → IsSpent s roots budget list
   spends ready budget p list more count r same =
       let left : stack_after (p.start ∷ []) r.entries ≢ [] = λ e. more (reverse_none p.stack.items (sym r.stack ∙ e)) in
@@ -215,7 +215,7 @@ popped_split all left rest done x e d = e ∙ (ap (λ z. z ++ done) d ∙ append
 module _ (word : WordOf Question) (all rest : List Pass) (p : Pass) (best best' : ℕ) (leaves leaves' : List ℕ) (v w : View) where
   -- one more pass is taken in
   pub gather_more : (left : List Pass) → IsGathered word all left best leaves v → left ≡ rest ++ p ∷ [] → w.parts ≡ v.parts + 1 → IsNotedIn p.known w → ((n : ℕ) → IsNotedIn n v → IsNotedIn n w)
-      → IsBest (search_of word.about) word.about.roots.value best' leaves' w → IsGathered word all rest best' leaves' w
+      → IsGreatestRaised (search_of word.about) word.about.roots.value best' leaves' w → IsGathered word all rest best' leaves' w
   gather_more left g e parts mine kept b = record {
     parts = (let a : v.parts + length left ≡ 1024 = g.parts in let c : length left ≡ length rest + 1 = ap length e ∙ length-append rest (p ∷ []) in omega arith);
     done = p ∷ g.done;

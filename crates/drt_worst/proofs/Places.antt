@@ -7,7 +7,7 @@ use Rattle.drt_tree.specs.Tree.{Plain, IsForest, IsPair, values}
 use Rattle.drt_tree.proofs.Trees.{child_within}
 use Rattle.drt_refine.specs.Below.{AreBelow, AreNodes}
 use Rattle.drt_worst.specs.Splitting.{IsSplit, IsPartBy, IsPart, search_for}
-use Rattle.drt_worst.specs.Passing.{IsReady}
+use Rattle.drt_worst.specs.Passing.{IsSearchReady}
 use Rattle.drt_worst.specs.Plans.{CanTake}
 
 pub node_of : (f : Plain) (nodes : List ℕ) (i n : ℕ) → AreNodes f nodes → slice_get nodes i ≡ Some n → n < length f.nodes
@@ -72,7 +72,7 @@ chosen_nodes f d (n ∷ nodes) sound h =
 
 -- the conditions of a search
 pub roots_ready : (f : Plain) (wcet deadline : ℕ) (roots : List ℕ) → IsForest f → length roots ≤ 31 → AreChosen deadline f.pool roots → wcet ≤ 1000000
-    → ((tuple : List ℕ) → AreBelow f tuple roots → (t : ℕ) × Passes wcet deadline f.pool tuple t) → IsReady (search_for f wcet deadline) roots
+    → ((tuple : List ℕ) → AreBelow f tuple roots → (t : ℕ) × Passes wcet deadline f.pool tuple t) → IsSearchReady (search_for f wcet deadline) roots
 roots_ready f wcet deadline roots sound few chosen small passes = record {
   forest = sound;
   wcet = small;

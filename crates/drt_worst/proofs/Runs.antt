@@ -5,7 +5,7 @@ use Rattle.std.proofs.lemmas.Option.{none-some, same_Some}
 use Rattle.drt_tree.specs.Tree.{IsForest}
 use Rattle.drt_refine.specs.Below.{AreBelow}
 use Rattle.drt_worst.specs.Splitting.{Search, IsSplit, IsPart, AreParts, IsBelowOne, IsWithin, IsReached, IsGreatest}
-use Rattle.drt_worst.specs.Runs.{Choice, skips, reaches, splits, Entry, known, left_after, stack_after, known_after, IsFit, IsRunFrom, IsEnded, Run, AreEnded, IsDealtTo, AreDealt}
+use Rattle.drt_worst.specs.Runs.{Choice, skips, reaches, splits, PassEntry, known, left_after, stack_after, known_after, IsFit, IsRunFrom, IsEnded, Run, AreEnded, IsDealtTo, AreDealt}
 use Rattle.drt_worst.proofs.Below.{below_parts, below_part, part_more, concrete_below, passes_below, some_tuple}
 use Rattle.drt_worst.proofs.Least.{least_of}
 
@@ -17,17 +17,17 @@ module _ (s : Search) where
   knows_more c seen (splits l r) h = omega arith
 
   -- what holds of one entry
-  pub record At (low : ℕ) (es : List Entry) (e : Entry) : Type 0 where
+  pub record At (low : ℕ) (es : List PassEntry) (e : PassEntry) : Type 0 where
     pub seen : low ≤ e.seen
     pub fits : IsFit s e.combination e.seen e.choice
 
-  pub entry_at : (low : ℕ) (stack : List (List ℕ)) (es : List Entry) (j : ℕ) (e : Entry) → IsRunFrom s low stack es → slice_get es j ≡ Some e → At low es e
+  pub entry_at : (low : ℕ) (stack : List (List ℕ)) (es : List PassEntry) (j : ℕ) (e : PassEntry) → IsRunFrom s low stack es → slice_get es j ≡ Some e → At low es e
   entry_at low stack [] j e run at = absurd (none-some e at)
   entry_at low [] (d ∷ es) j e run at = elim run [ ]
   entry_at low (c ∷ stack) (d ∷ es) zero e run at =
       let h : IsFit s d.combination d.seen d.choice = subst (λ (x : List ℕ). IsFit s x d.seen d.choice) (sym run.0) run.2 in
       let first : At low (d ∷ es) d = record { seen = run.1; fits = h } in
-      subst (λ (x : Entry). At low (d ∷ es) x) (same_Some d e at) first
+      subst (λ (x : PassEntry). At low (d ∷ es) x) (same_Some d e at) first
   entry_at low (c ∷ stack) (d ∷ es) (suc j) e run at =
       let more : d.seen ≤ known d.seen d.choice = knows_more c d.seen d.choice run.2 in
       let a : At (known d.seen d.choice) es e = entry_at (known d.seen d.choice) (left_after d.choice stack) es j e run.3 at in
@@ -35,7 +35,7 @@ module _ (s : Search) where
       let y : low ≤ d.seen = run.1 in
       record { seen = omega arith; fits = a.fits }
 
-  pub known_rises : (low : ℕ) (stack : List (List ℕ)) (es : List Entry) → IsRunFrom s low stack es → low ≤ known_after low es
+  pub known_rises : (low : ℕ) (stack : List (List ℕ)) (es : List PassEntry) → IsRunFrom s low stack es → low ≤ known_after low es
   known_rises low stack [] run = omega arith
   known_rises low [] (d ∷ es) run = elim run [ ]
   known_rises low (c ∷ stack) (d ∷ es) run =
@@ -59,7 +59,7 @@ module _ (s : Search) where
   below_taken sound tuple c stack seen (splits l r) h (inr b) = inl (inr (inr b))
 
   -- each tuple below what was dealt is below what is left, or within what is known
-  pub covered : IsForest s.forest → (low : ℕ) (stack : List (List ℕ)) (es : List Entry) → IsRunFrom s low stack es → (tuple : List ℕ) → IsBelowOne s.forest tuple stack
+  pub covered : IsForest s.forest → (low : ℕ) (stack : List (List ℕ)) (es : List PassEntry) → IsRunFrom s low stack es → (tuple : List ℕ) → IsBelowOne s.forest tuple stack
       → IsBelowOne s.forest tuple (stack_after stack es) ⊎ IsWithin s tuple (known_after low es)
   covered sound low stack [] run tuple b = inl b
   covered sound low [] (d ∷ es) run tuple b = elim run [ ]
@@ -77,16 +77,16 @@ module _ (s : Search) where
   parts_left roots c stack seen (reaches t) h p ps = ps
   parts_left roots c stack seen (splits l r) h p ps = (part_more s.forest roots c l p (r, inl h.0), (part_more s.forest roots c r p (l, inr h.0), ps))
 
-  pub entry_part : (roots : List ℕ) (low : ℕ) (stack : List (List ℕ)) (es : List Entry) (j : ℕ) (e : Entry)
+  pub entry_part : (roots : List ℕ) (low : ℕ) (stack : List (List ℕ)) (es : List PassEntry) (j : ℕ) (e : PassEntry)
       → AreParts s.forest roots stack → IsRunFrom s low stack es → slice_get es j ≡ Some e → IsPart s.forest roots e.combination
   entry_part roots low stack [] j e ps run at = absurd (none-some e at)
   entry_part roots low [] (d ∷ es) j e ps run at = elim run [ ]
-  entry_part roots low (c ∷ stack) (d ∷ es) zero e ps run at = subst (λ (x : List ℕ). IsPart s.forest roots x) (sym run.0 ∙ ap (λ (x : Entry). x.combination) (same_Some d e at)) ps.0
+  entry_part roots low (c ∷ stack) (d ∷ es) zero e ps run at = subst (λ (x : List ℕ). IsPart s.forest roots x) (sym run.0 ∙ ap (λ (x : PassEntry). x.combination) (same_Some d e at)) ps.0
   entry_part roots low (c ∷ stack) (d ∷ es) (suc j) e ps run at =
       entry_part roots (known d.seen d.choice) (left_after d.choice stack) es j e (parts_left roots c stack d.seen d.choice run.2 ps.0 ps.1) run.3 at
 
   -- a value that a pass puts into the word is the least time of a tuple below the roots
-  pub reaches_tuple : (roots : List ℕ) (low : ℕ) (stack : List (List ℕ)) (es : List Entry) (j t : ℕ) (e : Entry) → AreParts s.forest roots stack
+  pub reaches_tuple : (roots : List ℕ) (low : ℕ) (stack : List (List ℕ)) (es : List PassEntry) (j t : ℕ) (e : PassEntry) → AreParts s.forest roots stack
       → IsRunFrom s low stack es → slice_get es j ≡ Some e → e.choice ≡ reaches t → IsReached s roots t e.combination
   reaches_tuple roots low stack es j t e ps run at is =
       let a : At low es e = entry_at low stack es j e run at in
@@ -95,7 +95,7 @@ module _ (s : Search) where
       record { below = below_part s.forest e.combination roots e.combination p (concrete_below s.forest e.combination h.0); least = h.1 }
 
   -- the entries of a pass that goes on
-  pub run_more : (low : ℕ) (stack : List (List ℕ)) (es : List Entry) (e : Entry) (c : List ℕ) (others : List (List ℕ))
+  pub run_more : (low : ℕ) (stack : List (List ℕ)) (es : List PassEntry) (e : PassEntry) (c : List ℕ) (others : List (List ℕ))
       → IsRunFrom s low stack es → stack_after stack es ≡ c ∷ others → e.combination ≡ c → known_after low es ≤ e.seen → IsFit s c e.seen e.choice
       → IsRunFrom s low stack (es ++ e ∷ []) × (stack_after stack (es ++ e ∷ []) ≡ left_after e.choice others) × (known_after low (es ++ e ∷ []) ≡ known e.seen e.choice)
   run_more low stack [] e c others run is same more fits =
@@ -109,7 +109,7 @@ module _ (s : Search) where
       ((run.0, run.1, run.2, rest.0), rest.1, rest.2)
 
   -- one pass that has ended, and then all of them
-  ended_within : IsForest s.forest → (word : ℕ) (start : List (List ℕ)) (es : List Entry) → IsEnded s word start es → (tuple : List ℕ) → IsBelowOne s.forest tuple start → IsWithin s tuple word
+  ended_within : IsForest s.forest → (word : ℕ) (start : List (List ℕ)) (es : List PassEntry) → IsEnded s word start es → (tuple : List ℕ) → IsBelowOne s.forest tuple start → IsWithin s tuple word
   ended_within sound word start es h tuple b =
       elim (covered sound 0 start es h.run tuple b) as (λ _. IsWithin s tuple word) [
         | inl u ↦ absurd (let v : IsBelowOne s.forest tuple [] = subst (λ (x : List (List ℕ)). IsBelowOne s.forest tuple x) h.empty u in v)

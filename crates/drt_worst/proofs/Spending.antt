@@ -5,7 +5,7 @@ use Rattle.std.proofs.lemmas.Option.{none-some, same_Some}
 use Rattle.drt_tree.specs.Tree.{IsForest}
 use Rattle.drt_refine.specs.Below.{IsConcrete, tuples}
 use Rattle.drt_worst.specs.Splitting.{Search, IsPart, PassesFor, IsLeastFor}
-use Rattle.drt_worst.specs.Runs.{Choice, skips, reaches, splits, Entry, known, left_after, halves_of, stack_after, IsFit, IsRunFrom, combination_of, half_of}
+use Rattle.drt_worst.specs.Runs.{Choice, skips, reaches, splits, PassEntry, known, left_after, halves_of, stack_after, IsFit, IsRunFrom, combination_of, half_of}
 use Rattle.drt_worst.specs.Spent.{with_halves, AreHalves, AreTaken}
 use Rattle.drt_worst.proofs.Below.{concrete_whole, tuples_some, tuples_split, tuples_part}
 use Rattle.drt_worst.proofs.Runs.{At, entry_at}
@@ -41,7 +41,7 @@ module _ (s : Search) where
   put_left (reaches t) stack = refl
   put_left (splits l r) stack = refl
 
-  pub takes_run : (low : ℕ) (stack : List (List ℕ)) (es : List Entry) → IsRunFrom s low stack es → AreTaken s.forest stack (map combination_of es) (map half_of es) (stack_after stack es)
+  pub takes_run : (low : ℕ) (stack : List (List ℕ)) (es : List PassEntry) → IsRunFrom s low stack es → AreTaken s.forest stack (map combination_of es) (map half_of es) (stack_after stack es)
   takes_run low stack [] run = refl
   takes_run low [] (d ∷ es) run = elim run [ ]
   takes_run low (c ∷ stack) (d ∷ es) run = (
@@ -57,7 +57,7 @@ module _ (s : Search) where
   split_failing c seen (reaches t) h n none = absurd (n h.0)
   split_failing c seen (splits l r) h n none = ((l, r), refl)
 
-  pub fails_split : (low : ℕ) (stack : List (List ℕ)) (es : List Entry) → IsRunFrom s low stack es → (i : ℕ) (c : List ℕ)
+  pub fails_split : (low : ℕ) (stack : List (List ℕ)) (es : List PassEntry) → IsRunFrom s low stack es → (i : ℕ) (c : List ℕ)
       → slice_get (map combination_of es) i ≡ Some c → ¬ IsConcrete s.forest c → ((t : ℕ) → ¬ PassesFor s c t)
       → (p : List ℕ × List ℕ) × (slice_get (map half_of es) i ≡ Some (Some p))
   fails_split low stack es run i c at n none =
@@ -78,7 +78,7 @@ module _ (s : Search) where
   not_split c seen t (reaches u) h p le = refl
   not_split c seen t (splits l r) h p le = absurd (let a : seen < t = h.1 t p in omega arith)
 
-  pub skips_later : (low : ℕ) (stack : List (List ℕ)) (es : List Entry) → IsRunFrom s low stack es → (i j T t : ℕ) (c d : List ℕ)
+  pub skips_later : (low : ℕ) (stack : List (List ℕ)) (es : List PassEntry) → IsRunFrom s low stack es → (i j T t : ℕ) (c d : List ℕ)
       → i < j → slice_get (map combination_of es) i ≡ Some c → slice_get (map combination_of es) j ≡ Some d
       → IsConcrete s.forest c → IsLeastFor s c T → IsLeastFor s d t → t ≤ T → slice_get (map half_of es) j ≡ Some None
   skips_later low stack [] run i j T t c d lt ati atj leaf least own le = absurd (none-some c ati)
@@ -111,7 +111,7 @@ module _ (s : Search) where
       let e : tuples s.forest l + tuples s.forest r ≡ tuples s.forest c = tuples_split s.forest sound c l r h.0 in
       omega arith
 
-  pub work_bounded : IsForest s.forest → (low : ℕ) (stack : List (List ℕ)) (es : List Entry) → IsRunFrom s low stack es → length es + work (stack_after stack es) ≤ work stack
+  pub work_bounded : IsForest s.forest → (low : ℕ) (stack : List (List ℕ)) (es : List PassEntry) → IsRunFrom s low stack es → length es + work (stack_after stack es) ≤ work stack
   work_bounded sound low stack [] run = omega arith
   work_bounded sound low [] (d ∷ es) run = elim run [ ]
   work_bounded sound low (c ∷ stack) (d ∷ es) run =
@@ -124,7 +124,7 @@ module _ (s : Search) where
   work_some sound (c ∷ cs) n = let a : 1 ≤ tuples s.forest c = tuples_some s.forest sound c in omega arith
 
   -- so what a pass takes is less than twice the tuples below the roots
-  pub spent_short : IsForest s.forest → (roots start : List ℕ) (low : ℕ) (es : List Entry) → IsPart s.forest roots start
+  pub spent_short : IsForest s.forest → (roots start : List ℕ) (low : ℕ) (es : List PassEntry) → IsPart s.forest roots start
       → IsRunFrom s low (start ∷ []) es → stack_after (start ∷ []) es ≢ [] → length es < 2 * tuples s.forest roots
   spent_short sound roots start low es p run more =
       let a : length es + work (stack_after (start ∷ []) es) ≤ work (start ∷ []) = work_bounded sound low (start ∷ []) es run in

@@ -12,7 +12,7 @@ pub data Choice : Type 0 where
   splits : List ℕ → List ℕ → Choice
 
 -- A combination that was taken, the value that the pass had read from the word, and what it did.
-pub record Entry : Type 0 where
+pub record PassEntry : Type 0 where
   pub combination : List ℕ
   pub seen : ℕ
   pub choice : Choice
@@ -36,21 +36,21 @@ halves_of (reaches t) = None
 halves_of (splits l r) = Some (l, r)
 
 -- The combination that was taken.
-abbrev pub combination_of : Entry → List ℕ
+abbrev pub combination_of : PassEntry → List ℕ
 combination_of e = e.combination
 
 -- How it was split, if it was.
-abbrev pub half_of : Entry → Option (List ℕ × List ℕ)
+abbrev pub half_of : PassEntry → Option (List ℕ × List ℕ)
 half_of e = halves_of e.choice
 
 -- The combinations that are left after some entries, the next one first.
-abbrev pub stack_after : List (List ℕ) → List Entry → List (List ℕ)
+abbrev pub stack_after : List (List ℕ) → List PassEntry → List (List ℕ)
 stack_after stack [] = stack
 stack_after [] (e ∷ es) = []
 stack_after (c ∷ stack) (e ∷ es) = stack_after (left_after e.choice stack) es
 
 -- What the pass knows to be reached after some entries.
-abbrev pub known_after : ℕ → List Entry → ℕ
+abbrev pub known_after : ℕ → List PassEntry → ℕ
 known_after low [] = low
 known_after low (e ∷ es) = known_after (known e.seen e.choice) es
 
@@ -64,14 +64,14 @@ module _ (s : Search) where
 
   -- The entries are those of a pass that has this stack, and knows that the value `low` was reached. What it reads is any value
   -- that is not lower than what it knows: other passes may have raised the word.
-  abbrev pub IsRunFrom : ℕ → List (List ℕ) → List Entry → Type 0
+  abbrev pub IsRunFrom : ℕ → List (List ℕ) → List PassEntry → Type 0
   IsRunFrom low stack [] = Unit {0}
   IsRunFrom low [] (e ∷ es) = ⊥
   IsRunFrom low (c ∷ stack) (e ∷ es) =
       (e.combination ≡ c) × (low ≤ e.seen) × IsFit c e.seen e.choice × IsRunFrom (known e.seen e.choice) (left_after e.choice stack) es
 
   -- A pass that has taken all that was dealt to it, where what it knows to be reached is at most the word.
-  pub record IsEnded (word : ℕ) (start : List (List ℕ)) (entries : List Entry) : Type 0 where
+  pub record IsEnded (word : ℕ) (start : List (List ℕ)) (entries : List PassEntry) : Type 0 where
     pub run : IsRunFrom 0 start entries
     pub empty : stack_after start entries ≡ []
     pub within : known_after 0 entries ≤ word
@@ -79,7 +79,7 @@ module _ (s : Search) where
 -- What a pass was dealt, and its entries.
 pub record Run : Type 0 where
   pub start : List (List ℕ)
-  pub entries : List Entry
+  pub entries : List PassEntry
 
 -- All passes have ended.
 abbrev pub AreEnded : Search → ℕ → List Run → Type 0

@@ -6,7 +6,7 @@ ghost use Rattle.drt_worst.specs.Runs.{known, left_after, reaches};
 ghost use Rattle.drt_word.specs.Rising.{with_raised};
 ghost use Rattle.drt_worst.specs.Subjects.{search_over};
 ghost use Rattle.drt_worst.specs.Plans.{choice_of};
-ghost use Rattle.drt_worst.specs.Passing.{search_of, announced, best_after, leaves_after, IsSeatOf, HasRun, HasRunWith, IsReady};
+ghost use Rattle.drt_worst.specs.Passing.{search_of, announced, best_after, leaves_after, IsSeatOf, HasRun, HasRunWith, IsSearchReady};
 
 use crate::plan::{Plan, make_plan};
 use crate::subject::Subject;
@@ -156,7 +156,7 @@ fn follow(
     combination: Row<u32>,
 ) -> Result<(), Memory>
     requires about { search_of word.now.about ≡ search_over subject }
-    requires ready { IsReady (search_over subject) word.now.about.roots.value }
+    requires ready { IsSearchReady (search_over subject) word.now.about.roots.value }
     requires seat { IsSeatOf word.now.name pass.old }
     requires room { pass.old.taken.count + 1 < 2 ^ 64 }
     requires runs { HasRunWith (search_over subject) word.now.about.roots.value (combination ∷ reverse pass.old.stack.items) pass.old }
@@ -190,7 +190,7 @@ pub(crate) fn take(
     pass: &mut Pass,
 ) -> Result<(), Memory>
     requires about { search_of word.now.about ≡ search_over subject }
-    requires ready { IsReady (search_over subject) word.now.about.roots.value }
+    requires ready { IsSearchReady (search_over subject) word.now.about.roots.value }
     requires seat { IsSeatOf word.now.name pass.old }
     requires room { pass.old.taken.count + 1 < 2 ^ 64 }
     requires runs { HasRun (search_over subject) word.now.about.roots.value pass.old }

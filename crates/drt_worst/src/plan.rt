@@ -3,7 +3,7 @@
 ghost use Rattle.std.specs.Prelude.{◌≡◌, ℕ, ◌<◌, ◌≤◌, length, Some, IfSome, IfOk, slice_set};
 ghost use Rattle.drt_steps.specs.Time.{IsLeastTimeOf};
 ghost use Rattle.drt_refine.specs.Below.{AreNodes, IsConcrete};
-ghost use Rattle.drt_refine.specs.Eager.{IsPlace};
+ghost use Rattle.drt_refine.specs.Eager.{IsSplitPlace};
 ghost use Rattle.drt_worst.specs.Splitting.{IsSplit, PassesFor};
 ghost use Rattle.drt_worst.specs.Subjects.{search_over};
 ghost use Rattle.drt_worst.specs.Runs.{IsFit};
@@ -42,7 +42,7 @@ pub(crate) fn halves(
     place: u32,
 ) -> Result<(Row<u32>, Row<u32>), Memory>
     requires nodes { AreNodes forest.now nodes.now }
-    requires place { IsPlace forest.now nodes.now (Some place) }
+    requires place { IsSplitPlace forest.now nodes.now (Some place) }
     ensures { IfOk result (λ r. IsSplit forest.now nodes.now r.0 r.1) }
 {
     let place = place as usize;

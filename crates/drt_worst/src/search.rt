@@ -9,9 +9,9 @@ ghost use Rattle.drt_word.specs.Rising.{split_left, joined, fresh};
 ghost use Rattle.drt_worst.specs.Splitting.{search_for};
 ghost use Rattle.drt_worst.specs.Subjects.{search_over};
 ghost use Rattle.drt_worst.specs.Plans.{CanTake};
-ghost use Rattle.drt_worst.specs.Passing.{search_of, IsSeatOf, HasRun, IsReady, IsBest, IsNotedIn};
+ghost use Rattle.drt_worst.specs.Passing.{search_of, IsSeatOf, HasRun, IsSearchReady, IsGreatestRaised, IsNotedIn};
 ghost use Rattle.drt_pool.specs.Turns.{EachPlace};
-ghost use Rattle.drt_worst.specs.Jobs.{IsOpened, IsDoneOf, IsHaltedOf, IsToldAs};
+ghost use Rattle.drt_worst.specs.Jobs.{IsPassOpened, IsDoneOf, IsHaltedOf, IsToldAs};
 ghost use Rattle.drt_worst.specs.Worst.{IsWorst};
 ghost use Rattle.drt_worst.specs.declared.answer.Worst.TheVariants.{Spent};
 ghost use Rattle.drt_steps.specs.Time.{AreChosen, Passes};
@@ -101,10 +101,10 @@ fn absorb(
     requires part { 0 < owner.old.me.0.parts }
     requires seat { IsSeatOf word.now.name pass }
     requires runs { HasRun (search_of word.now.about) word.now.about.roots.value pass }
-    requires best { IsBest (search_of word.now.about) word.now.about.roots.value best.old leaves.old owner.old.me.0 }
+    requires best { IsGreatestRaised (search_of word.now.about) word.now.about.roots.value best.old leaves.old owner.old.me.0 }
     ensures name { owner.new.table_id ≡ owner.old.table_id }
     ensures parts { owner.new.me.0.parts ≡ owner.old.me.0.parts + 1 }
-    ensures best { IsBest (search_of word.now.about) word.now.about.roots.value best.new leaves.new owner.new.me.0 }
+    ensures best { IsGreatestRaised (search_of word.now.about) word.now.about.roots.value best.new leaves.new owner.new.me.0 }
     ensures known { IsNotedIn pass.known owner.new.me.0 }
     ensures kept { (n : ℕ) → IsNotedIn n owner.old.me.0 → IsNotedIn n owner.new.me.0 }
 {
@@ -158,7 +158,7 @@ fn open_all(
     requires parts { AreParts (search_of word.now.about).forest word.now.about.roots.value dealt.now }
     ensures name { owner.new.table_id ≡ owner.old.table_id }
     ensures owner { IfOk result (λ ps. owner.new.me.0 ≡ fresh (1024 - length dealt.now)) }
-    ensures passes { IfOk result (λ ps. (length ps.items ≡ length dealt.now) × EachPlace (IsOpened word.now dealt.now told) ps.items) }
+    ensures passes { IfOk result (λ ps. (length ps.items ≡ length dealt.now) × EachPlace (IsPassOpened word.now dealt.now told) ps.items) }
 {
     let mut passes = Vec::new(alloc);
     for i in 0..dealt.len() {
@@ -208,7 +208,7 @@ fn absorb_all(
     requires passes { EachPlace (IsDoneOf word.now) passes.items }
     ensures name { owner.new.table_id ≡ owner.old.table_id }
     ensures parts { owner.new.me.0.parts ≡ 1024 }
-    ensures best { IsBest (search_of word.now.about) word.now.about.roots.value best.new leaves.new owner.new.me.0 }
+    ensures best { IsGreatestRaised (search_of word.now.about) word.now.about.roots.value best.new leaves.new owner.new.me.0 }
     ensures known { (i : ℕ) (p : Pass) → slice_get passes.items i ≡ Some p → IsNotedIn p.known owner.new.me.0 }
 {
     while let Some(pass) = passes.pop() {
@@ -226,7 +226,7 @@ fn gather(
     requires name { owner.table_id ≡ word.name }
     requires owner { owner.me.0 ≡ fresh (1024 - length passes.items) }
     requires few { length passes.items ≤ 16 }
-    requires ready { IsReady (search_of word.about) word.about.roots.value }
+    requires ready { IsSearchReady (search_of word.about) word.about.roots.value }
     requires passes { EachPlace (IsDoneOf word) passes.items }
     requires dealt { (dealt : List (List ℕ)) × AreDealt (search_of word.about).forest word.about.roots.value dealt × (length passes.items ≡ length dealt) × EachPlace (λ place p. slice_get dealt place ≡ Some p.start) passes.items }
     ensures { (budget : ℕ) → IsWorst (search_of word.about) word.about.roots.value budget result }
@@ -264,7 +264,7 @@ fn finish(
     requires name { owner.table_id ≡ word.name }
     requires owner { owner.me.0 ≡ fresh (1024 - length passes.items) }
     requires few { length passes.items ≤ 16 }
-    requires ready { IsReady (search_of word.about) word.about.roots.value }
+    requires ready { IsSearchReady (search_of word.about) word.about.roots.value }
     requires passes { EachPlace (IsHaltedOf word budget) passes.items }
     requires dealt { (dealt : List (List ℕ)) × AreDealt (search_of word.about).forest word.about.roots.value dealt × (length passes.items ≡ length dealt) × EachPlace (λ place p. slice_get dealt place ≡ Some p.start) passes.items }
     ensures worst { IfOk result (λ o. IfSome o (λ w. IsWorst (search_of word.about) word.about.roots.value budget w)) }
@@ -292,9 +292,9 @@ fn run_passes<G: Gate, R: Threads + Wait + Sync>(
     passes: &mut [Pass],
 )
     requires about { search_of word.now.about ≡ search_over subject }
-    requires ready { IsReady (search_over subject) word.now.about.roots.value }
+    requires ready { IsSearchReady (search_over subject) word.now.about.roots.value }
     requires few { length passes.old ≤ 16 }
-    requires passes { EachPlace (IsOpened word.now dealt.now told) passes.old }
+    requires passes { EachPlace (IsPassOpened word.now dealt.now told) passes.old }
     ensures count { length passes.new ≡ length passes.old }
     ensures halted { EachPlace (IsHaltedOf word.now crew.now.effort.budget) passes.new }
     ensures told { EachPlace (λ place p. IsToldAs told p) passes.new }
@@ -318,7 +318,7 @@ fn search_tree<G: Gate, R: Threads + Wait + Sync>(
     roots: &[u32],
     told: bool,
 ) -> Result<Option<Worst>, Memory>
-    requires ready { IsReady (search_over subject) roots.now }
+    requires ready { IsSearchReady (search_over subject) roots.now }
     ensures worst { IfOk result (λ o. IfSome o (λ w. IsWorst (search_over subject.entry) roots.now crew.now.effort.budget w)) }
     ensures told { told ≡ true → IfOk result (λ o. IsSome o) }
 {

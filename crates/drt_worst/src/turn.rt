@@ -1,7 +1,7 @@
 //! The turns of the passes.
 ghost use Rattle.std.specs.Prelude.{◌≡◌, ◌≢◌, ℕ, ◌≤◌, Some, slice_get};
-ghost use Rattle.drt_pool.specs.Turns.{IsStop};
-ghost use Rattle.drt_worst.specs.Jobs.{IsPassOf, IsStopped};
+ghost use Rattle.drt_pool.specs.Turns.{IsEndOfTurns};
+ghost use Rattle.drt_worst.specs.Jobs.{IsPassOfJob, IsStopped};
 
 use crate::pass::{Pass, Question, take};
 use crate::subject::Subject;
@@ -27,10 +27,10 @@ pub(crate) struct Job<'a, 'b> {
 
 /// One turn of a pass: it stops where nothing is left, where it took as many as its budget, or where it found no memory.
 pub(crate) fn turn_of(job: &Job<'_, '_>, pass: &mut Pass) -> Turn
-    requires { IsPassOf job.now pass.old }
-    ensures kept { IsPassOf job.now pass.new }
+    requires { IsPassOfJob job.now pass.old }
+    ensures kept { IsPassOfJob job.now pass.new }
     ensures start { pass.new.start ≡ pass.old.start }
-    ensures stopped { IsStop result → IsStopped job.now.budget pass.new }
+    ensures stopped { IsEndOfTurns result → IsStopped job.now.budget pass.new }
 {
     if pass.failed || pass.stack.is_empty() || pass.taken.count >= job.budget {
         return Turn::Stop;
@@ -47,7 +47,7 @@ pub(crate) fn turn_of(job: &Job<'_, '_>, pass: &mut Pass) -> Turn
 impl Work for Job<'_, '_> {
     type Pass = Pass;
 
-    ghost fits = { λ job place p. IsPassOf job p × (slice_get job.dealt.now place ≡ Some p.start) };
+    ghost fits = { λ job place p. IsPassOfJob job p × (slice_get job.dealt.now place ≡ Some p.start) };
 
     ghost ended = { λ job place p. IsStopped job.budget p };
 

@@ -4,8 +4,8 @@
 //! behind it, in one pass over the fields of the value.
 ghost use Rattle.std.specs.Prelude.{◌<◌, ◌≤◌, ◌++◌, ℕ, List, decimal, IfOk, MatchOption};
 ghost use Rattle.drt_evidence.specs.Blocks.{AreSoMany, in_turn};
-ghost use Rattle.drt_evidence.specs.Cuts.{IsCut, IsNoCut, IsSpaced, counted_form, entry_form, jump_form, left, spaced_form};
-ghost use Rattle.drt_evidence.specs.LineForms.{AreCounted, IsFieldForm};
+ghost use Rattle.drt_evidence.specs.Cuts.{IsFormCut, IsNoCut, IsSpaced, counted_form, entry_form, jump_form, left, spaced_form};
+ghost use Rattle.drt_evidence.specs.LineForms.{AreItemsCounted, IsFieldForm};
 ghost use Rattle.drt_claims.specs.Ranges.{IsInRangeJump, IsInRangeStateEntry};
 ghost use Rattle.drt_evidence.specs.Some.{entry_spaced, jump_spaced};
 
@@ -19,7 +19,7 @@ pub(crate) fn cut_one<F: Field>(rest: Option<&[u8]>) -> Option<(F, Option<&[u8]>
     requires { IsFieldForm F.field F.is_stated }
     ensures { MatchOption result
         (IsNoCut (spaced_form F.field) F.is_stated (left rest.entry))
-        (λ p. IsCut (spaced_form F.field) F.is_stated (left rest.entry) p.0 (left p.1)) }
+        (λ p. IsFormCut (spaced_form F.field) F.is_stated (left rest.entry) p.0 (left p.1)) }
 {
     let (field, others) = cut_field(rest?);
     let value = F::of(field)?;
@@ -31,7 +31,7 @@ pub(crate) fn cut_number(rest: Option<&[u8]>, most: u64) -> Option<(u64, Option<
     requires { most < 18446744073709551615 }
     ensures { MatchOption result
         (IsNoCut (spaced_form decimal) (λ n. n ≤ most) (left rest.entry))
-        (λ p. IsCut (spaced_form decimal) (λ n. n ≤ most) (left rest.entry) p.0 (left p.1)) }
+        (λ p. IsFormCut (spaced_form decimal) (λ n. n ≤ most) (left rest.entry) p.0 (left p.1)) }
 {
     let (field, others) = cut_field(rest?);
     let value = number_of(field, most)?;
@@ -50,7 +50,7 @@ pub(crate) trait Group: Sized + Drop {
     fn cut(rest: Option<&[u8]>) -> Option<(Self, Option<&[u8]>)>
         ensures { MatchOption result
             (IsNoCut form is_stated (left rest.entry))
-            (λ p. IsCut form is_stated (left rest.entry) p.0 (left p.1)) };
+            (λ p. IsFormCut form is_stated (left rest.entry) p.0 (left p.1)) };
 
     // The fields of a value begin with a space.
     ghost spaced: { (x : Self) (t : List ℕ) → IsSpaced (form x ++ t) };
@@ -60,7 +60,7 @@ pub(crate) trait Group: Sized + Drop {
 fn cut_jump(rest: Option<&[u8]>) -> Option<(Jump, Option<&[u8]>)>
     ensures { MatchOption result
         (IsNoCut jump_form IsInRangeJump (left rest.entry))
-        (λ p. IsCut jump_form IsInRangeJump (left rest.entry) p.0 (left p.1)) }
+        (λ p. IsFormCut jump_form IsInRangeJump (left rest.entry) p.0 (left p.1)) }
 {
     let (offset, rest) = cut_number(rest, MOST_TICKS)?;
     let (work, rest) = cut_number(rest, MOST_WORK)?;
@@ -83,7 +83,7 @@ impl Group for Jump {
 fn cut_entry(rest: Option<&[u8]>) -> Option<(StateEntry, Option<&[u8]>)>
     ensures { MatchOption result
         (IsNoCut entry_form IsInRangeStateEntry (left rest.entry))
-        (λ p. IsCut entry_form IsInRangeStateEntry (left rest.entry) p.0 (left p.1)) }
+        (λ p. IsFormCut entry_form IsInRangeStateEntry (left rest.entry) p.0 (left p.1)) }
 {
     let (place, rest) = cut_one::<u32>(rest)?;
     let (vertex, rest) = cut_one::<u32>(rest)?;
@@ -118,7 +118,7 @@ fn cut_each<G: Group>(
 ) -> Result<Option<(Vec<G>, Option<&[u8]>)>, Memory>
     ensures { IfOk result (λ found. MatchOption found
         (IsNoCut (in_turn G.form) (AreSoMany count G.is_stated) (left rest.entry))
-        (λ p. IsCut (in_turn G.form) (AreSoMany count G.is_stated) (left rest.entry) p.0.items (left p.1))) }
+        (λ p. IsFormCut (in_turn G.form) (AreSoMany count G.is_stated) (left rest.entry) p.0.items (left p.1))) }
 {
     let mut found = Vec::with_capacity(alloc, room_for(rest, count as usize))?;
     let mut rest = rest;
@@ -149,8 +149,8 @@ pub(crate) fn cut_list<G: Group>(
     rest: Option<&[u8]>,
 ) -> Result<Option<(Row<G>, Option<&[u8]>)>, Memory>
     ensures { IfOk result (λ found. MatchOption found
-        (IsNoCut (counted_form G.form) (AreCounted G.is_stated) (left rest.entry))
-        (λ p. IsCut (counted_form G.form) (AreCounted G.is_stated) (left rest.entry) p.0 (left p.1))) }
+        (IsNoCut (counted_form G.form) (AreItemsCounted G.is_stated) (left rest.entry))
+        (λ p. IsFormCut (counted_form G.form) (AreItemsCounted G.is_stated) (left rest.entry) p.0 (left p.1))) }
 {
     let (count, rest) = match cut_one::<u32>(rest) {
         Some(parts) => parts,

@@ -4,7 +4,7 @@ ghost use Rattle.drt_file.specs.trusted.Canonical.{written};
 ghost use Rattle.drt_file.specs.trusted.CanonicalPrefix.{line_count};
 ghost use Rattle.drt_evidence.specs.Blocks.{IsStop, ReadsBlock};
 ghost use Rattle.drt_evidence.specs.LineForms.{IsAny};
-ghost use Rattle.drt_evidence.specs.Reading.{GivesStatement, IsDossierCause, IsTextOf};
+ghost use Rattle.drt_evidence.specs.Reading.{GivesStatement, IsDossierCause, IsDossierText};
 ghost use Rattle.drt_claims.specs.Statement.{IsStated, Statement};
 ghost use Rattle.drt_evidence.specs.Text.{head_lines, text};
 ghost use Rattle.drt_evidence.specs.declared.fault.DossierError.TheVariants.{Fault, Memory};
@@ -67,7 +67,7 @@ fn line_at(bytes: &[u8], left: usize) -> u32
 pub fn read(alloc: Global, bytes: &[u8]) -> Result<Dossier, DossierError>
     requires { length bytes.now ≤ 1073741824 }
     ensures read { IfOk result (λ d. bytes.now ≡ text d) }
-    ensures found { (s : Statement) → IsTextOf s bytes.now → GivesStatement result s }
+    ensures found { (s : Statement) → IsDossierText s bytes.now → GivesStatement result s }
     ensures fault { IfErr result (IsDossierCause bytes.now) }
 {
     let mut from = Text { rest: bytes };
@@ -88,7 +88,7 @@ fn cause_of(bytes: &[u8], stop: Stop) -> DossierError
     requires size { length bytes.now ≤ 1073741824 }
     requires stops { IsStop text IsStated bytes.now stop }
     ensures fault { IsDossierCause bytes.now result }
-    ensures none { (s : Statement) → IsTextOf s bytes.now → result ≡ Memory }
+    ensures none { (s : Statement) → IsDossierText s bytes.now → result ≡ Memory }
 {
     match stop {
         Stop::Fault { left, missing } => {

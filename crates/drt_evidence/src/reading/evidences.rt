@@ -3,8 +3,8 @@ ghost use Rattle.std.specs.Prelude.{ℕ, List, IfOk, IfErr};
 ghost use Rattle.drt_file.specs.trusted.Canonical.{written};
 ghost use Rattle.drt_evidence.specs.Blocks.{AreNamed, IsOfKind, IsStop, ReadsBlock, named_block};
 ghost use Rattle.drt_evidence.specs.declared.reading.line_forms.KindOfEvidence.TheVariants.{EdfYes, FixedStates, FixedYes};
-ghost use Rattle.drt_evidence.specs.LineForms.{AreCounted};
-ghost use Rattle.drt_claims.specs.Ranges.{IsInRange, IsInRangeFront, IsInRangeProof, IsInRangeRatio, IsInRangeSearch, IsInRangeTail, IsInRangeTree};
+ghost use Rattle.drt_evidence.specs.LineForms.{AreItemsCounted};
+ghost use Rattle.drt_claims.specs.Ranges.{IsEvidenceInRange, IsInRangeFront, IsInRangeProof, IsInRangeRatio, IsInRangeSearch, IsInRangeTail, IsInRangeTree};
 ghost use Rattle.drt_evidence.specs.Text.{body_lines, evidence_lines, front_block, proof_block, ratio_block, search_block, tail_block, tree_block};
 
 use crate::reading::block::read_counted;
@@ -18,48 +18,48 @@ use std::alloc::Global;
 
 // How many ratios, and the lines of each.
 fn read_ratios(alloc: Global, text: &mut Text) -> Result<Row<RatioClaim>, Stop>
-    ensures read { IfOk result (λ x. ReadsBlock (λ rs. written (ratio_block rs)) (AreCounted IsInRangeRatio) text.old.rest.now x text.new.rest.now) }
-    ensures stops { IfErr result (IsStop (λ rs. written (ratio_block rs)) (AreCounted IsInRangeRatio) text.old.rest.now) }
+    ensures read { IfOk result (λ x. ReadsBlock (λ rs. written (ratio_block rs)) (AreItemsCounted IsInRangeRatio) text.old.rest.now x text.new.rest.now) }
+    ensures stops { IfErr result (IsStop (λ rs. written (ratio_block rs)) (AreItemsCounted IsInRangeRatio) text.old.rest.now) }
 {
     read_counted(alloc, text, b"ratios")
 }
 
 // How many fronts, and the lines of each.
 fn read_fronts(alloc: Global, text: &mut Text) -> Result<Row<Row<FrontEntry>>, Stop>
-    ensures read { IfOk result (λ x. ReadsBlock (λ fs. written (front_block fs)) (AreCounted IsInRangeFront) text.old.rest.now x text.new.rest.now) }
-    ensures stops { IfErr result (IsStop (λ fs. written (front_block fs)) (AreCounted IsInRangeFront) text.old.rest.now) }
+    ensures read { IfOk result (λ x. ReadsBlock (λ fs. written (front_block fs)) (AreItemsCounted IsInRangeFront) text.old.rest.now x text.new.rest.now) }
+    ensures stops { IfErr result (IsStop (λ fs. written (front_block fs)) (AreItemsCounted IsInRangeFront) text.old.rest.now) }
 {
     read_counted(alloc, text, b"fronts")
 }
 
 // How many trees, and the lines of each.
 fn read_trees(alloc: Global, text: &mut Text) -> Result<Row<TreeClaim>, Stop>
-    ensures read { IfOk result (λ x. ReadsBlock (λ ts. written (tree_block ts)) (AreCounted IsInRangeTree) text.old.rest.now x text.new.rest.now) }
-    ensures stops { IfErr result (IsStop (λ ts. written (tree_block ts)) (AreCounted IsInRangeTree) text.old.rest.now) }
+    ensures read { IfOk result (λ x. ReadsBlock (λ ts. written (tree_block ts)) (AreItemsCounted IsInRangeTree) text.old.rest.now x text.new.rest.now) }
+    ensures stops { IfErr result (IsStop (λ ts. written (tree_block ts)) (AreItemsCounted IsInRangeTree) text.old.rest.now) }
 {
     read_counted(alloc, text, b"trees")
 }
 
 // How many proofs, and the line of each.
 fn read_proofs(alloc: Global, text: &mut Text) -> Result<Row<ProofClaim>, Stop>
-    ensures read { IfOk result (λ x. ReadsBlock (λ ps. written (proof_block ps)) (AreCounted IsInRangeProof) text.old.rest.now x text.new.rest.now) }
-    ensures stops { IfErr result (IsStop (λ ps. written (proof_block ps)) (AreCounted IsInRangeProof) text.old.rest.now) }
+    ensures read { IfOk result (λ x. ReadsBlock (λ ps. written (proof_block ps)) (AreItemsCounted IsInRangeProof) text.old.rest.now x text.new.rest.now) }
+    ensures stops { IfErr result (IsStop (λ ps. written (proof_block ps)) (AreItemsCounted IsInRangeProof) text.old.rest.now) }
 {
     read_counted(alloc, text, b"proofs")
 }
 
 // How many tails, and the lines of each.
 fn read_tails(alloc: Global, text: &mut Text) -> Result<Row<TailClaim>, Stop>
-    ensures read { IfOk result (λ x. ReadsBlock (λ ts. written (tail_block ts)) (AreCounted IsInRangeTail) text.old.rest.now x text.new.rest.now) }
-    ensures stops { IfErr result (IsStop (λ ts. written (tail_block ts)) (AreCounted IsInRangeTail) text.old.rest.now) }
+    ensures read { IfOk result (λ x. ReadsBlock (λ ts. written (tail_block ts)) (AreItemsCounted IsInRangeTail) text.old.rest.now x text.new.rest.now) }
+    ensures stops { IfErr result (IsStop (λ ts. written (tail_block ts)) (AreItemsCounted IsInRangeTail) text.old.rest.now) }
 {
     read_counted(alloc, text, b"tails")
 }
 
 // How many searches, and the lines of each.
 fn read_searches(alloc: Global, text: &mut Text) -> Result<Row<SearchClaim>, Stop>
-    ensures read { IfOk result (λ x. ReadsBlock (λ ss. written (search_block ss)) (AreCounted IsInRangeSearch) text.old.rest.now x text.new.rest.now) }
-    ensures stops { IfErr result (IsStop (λ ss. written (search_block ss)) (AreCounted IsInRangeSearch) text.old.rest.now) }
+    ensures read { IfOk result (λ x. ReadsBlock (λ ss. written (search_block ss)) (AreItemsCounted IsInRangeSearch) text.old.rest.now x text.new.rest.now) }
+    ensures stops { IfErr result (IsStop (λ ss. written (search_block ss)) (AreItemsCounted IsInRangeSearch) text.old.rest.now) }
 {
     read_counted(alloc, text, b"searches")
 }
@@ -131,8 +131,8 @@ fn read_body(alloc: Global, text: &mut Text, kind: KindOfEvidence) -> Result<Evi
 
 // The lines below the set.
 pub(crate) fn read_evidence(alloc: Global, text: &mut Text) -> Result<Evidence, Stop>
-    ensures read { IfOk result (λ x. ReadsBlock (λ e. written (evidence_lines e)) IsInRange text.old.rest.now x text.new.rest.now) }
-    ensures stops { IfErr result (IsStop (λ e. written (evidence_lines e)) IsInRange text.old.rest.now) }
+    ensures read { IfOk result (λ x. ReadsBlock (λ e. written (evidence_lines e)) IsEvidenceInRange text.old.rest.now x text.new.rest.now) }
+    ensures stops { IfErr result (IsStop (λ e. written (evidence_lines e)) IsEvidenceInRange text.old.rest.now) }
 {
     let kind = read_kind(text)?;
     let evidence = read_body(alloc, text, kind)?;

@@ -6,7 +6,7 @@ ghost use Rattle.drt_file.specs.trusted.Canonical.{written_line};
 ghost use Rattle.drt_file.specs.trusted.Cutting.{HasNoFeed};
 ghost use Rattle.drt_evidence.specs.Blocks.{IsStop, ReadsBlock, close_block, first_block};
 ghost use Rattle.drt_evidence.specs.declared.reading.text.Stop.TheVariants.{Fault};
-ghost use Rattle.drt_evidence.specs.LineForms.{AreCounted, IsAny, IsInRangeWritten, IsInRangeWrittenSearch, kind_line};
+ghost use Rattle.drt_evidence.specs.LineForms.{AreItemsCounted, IsAny, IsInRangeWritten, IsInRangeWrittenSearch, kind_line};
 ghost use Rattle.drt_evidence.specs.LineForms.{numbers_line, policy_line, potentials_line, written_ratio_line, written_search_line};
 ghost use Rattle.drt_claims.specs.Ranges.{IsInRangeCurve, IsInRangeEntry, IsInRangeMiss, IsInRangePair, IsInRangePotential, IsInRangeProof, IsInRangeRelease, IsInRangeState, IsNumber};
 ghost use Rattle.drt_evidence.specs.Text.{count_line, curve_line, entry_line, miss_line, pair_line, proof_line, release_line, state_line};
@@ -131,8 +131,8 @@ pub(crate) fn read_pair(text: &mut Text) -> Result<Pair, Stop>
 // The line of a list of numbers.
 pub(crate) fn read_numbers(alloc: Global, text: &mut Text, word: &[u8]) -> Result<Row<u32>, Stop>
     requires { HasNoFeed word.now }
-    ensures read { IfOk result (λ x. ReadsBlock (λ y. written_line (numbers_line word.now y)) (AreCounted IsNumber) text.old.rest.now x text.new.rest.now) }
-    ensures stops { IfErr result (IsStop (λ y. written_line (numbers_line word.now y)) (AreCounted IsNumber) text.old.rest.now) }
+    ensures read { IfOk result (λ x. ReadsBlock (λ y. written_line (numbers_line word.now y)) (AreItemsCounted IsNumber) text.old.rest.now x text.new.rest.now) }
+    ensures stops { IfErr result (IsStop (λ y. written_line (numbers_line word.now y)) (AreItemsCounted IsNumber) text.old.rest.now) }
 {
     let (line, others) = first_line(text.rest)?;
     let found = numbers_of(alloc, line, word)?;
@@ -141,8 +141,8 @@ pub(crate) fn read_numbers(alloc: Global, text: &mut Text, word: &[u8]) -> Resul
 
 // The line of potentials.
 pub(crate) fn read_potentials(alloc: Global, text: &mut Text) -> Result<Row<i64>, Stop>
-    ensures read { IfOk result (λ x. ReadsBlock (λ y. written_line (potentials_line y)) (AreCounted IsInRangePotential) text.old.rest.now x text.new.rest.now) }
-    ensures stops { IfErr result (IsStop (λ y. written_line (potentials_line y)) (AreCounted IsInRangePotential) text.old.rest.now) }
+    ensures read { IfOk result (λ x. ReadsBlock (λ y. written_line (potentials_line y)) (AreItemsCounted IsInRangePotential) text.old.rest.now x text.new.rest.now) }
+    ensures stops { IfErr result (IsStop (λ y. written_line (potentials_line y)) (AreItemsCounted IsInRangePotential) text.old.rest.now) }
 {
     let (line, others) = first_line(text.rest)?;
     let found = potentials_of(alloc, line)?;

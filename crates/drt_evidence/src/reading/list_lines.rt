@@ -4,7 +4,7 @@
 //! as many values as the count says, but for no more than the bytes behind it can hold.
 ghost use Rattle.std.specs.Prelude.{◌≡◌, decimal, map, option_map, All, IfOk, MatchOption};
 ghost use Rattle.drt_evidence.specs.Fields.{behind};
-ghost use Rattle.drt_evidence.specs.LineForms.{AreBoth, AreCounted, IsFieldForm, IsForm, IsLineOf, IsNoForm, IsNoLine, list_form, numbers_line, pair_form, potentials_line, spaced};
+ghost use Rattle.drt_evidence.specs.LineForms.{AreBoth, AreItemsCounted, IsFieldForm, IsForm, IsLineOf, IsNoForm, IsNoLine, list_form, numbers_line, pair_form, potentials_line, spaced};
 ghost use Rattle.drt_claims.specs.Ranges.{IsInRangeItem, IsInRangePotential, IsInRangeProof, IsNumber};
 ghost use Rattle.drt_evidence.specs.Text.{item_field, proof_line};
 
@@ -49,8 +49,8 @@ fn room_for(rest: Option<&[u8]>, awaited: usize) -> usize {
 fn list_of<F: Field>(alloc: Global, bytes: &[u8]) -> Result<Option<Vec<F>>, Memory>
     requires { IsFieldForm F.field F.is_stated }
     ensures { IfOk result (λ found. MatchOption found
-        (IsNoForm (list_form F.field) (AreCounted F.is_stated) bytes.now)
-        (λ v. IsForm (list_form F.field) (AreCounted F.is_stated) bytes.now v.items)) }
+        (IsNoForm (list_form F.field) (AreItemsCounted F.is_stated) bytes.now)
+        (λ v. IsForm (list_form F.field) (AreItemsCounted F.is_stated) bytes.now v.items)) }
 {
     let (field, rest) = cut_field(bytes);
     let count = match index_of(field) {
@@ -74,8 +74,8 @@ pub(crate) fn numbers_of(
     word: &[u8],
 ) -> Result<Option<Row<u32>>, Memory>
     ensures { IfOk result (λ found. MatchOption found
-        (IsNoLine (numbers_line word.now) (AreCounted IsNumber) line.now)
-        (IsLineOf (numbers_line word.now) (AreCounted IsNumber) line.now)) }
+        (IsNoLine (numbers_line word.now) (AreItemsCounted IsNumber) line.now)
+        (IsLineOf (numbers_line word.now) (AreItemsCounted IsNumber) line.now)) }
 {
     let rest = match behind_word(line, word) {
         Some(rest) => rest,
@@ -90,8 +90,8 @@ pub(crate) fn numbers_of(
 // The potentials that the line says.
 pub(crate) fn potentials_of(alloc: Global, line: &[u8]) -> Result<Option<Row<i64>>, Memory>
     ensures { IfOk result (λ found. MatchOption found
-        (IsNoLine potentials_line (AreCounted IsInRangePotential) line.now)
-        (IsLineOf potentials_line (AreCounted IsInRangePotential) line.now)) }
+        (IsNoLine potentials_line (AreItemsCounted IsInRangePotential) line.now)
+        (IsLineOf potentials_line (AreItemsCounted IsInRangePotential) line.now)) }
 {
     let rest = match behind_word(line, b"potentials") {
         Some(rest) => rest,
@@ -106,8 +106,8 @@ pub(crate) fn potentials_of(alloc: Global, line: &[u8]) -> Result<Option<Row<i64
 // The number of a vertex, and items.
 fn vertex_and_items(alloc: Global, bytes: &[u8]) -> Result<Option<(u32, Vec<Item>)>, Memory>
     ensures { IfOk result (λ found. MatchOption found
-        (IsNoForm (pair_form decimal (list_form item_field)) (AreBoth IsNumber (AreCounted IsInRangeItem)) bytes.now)
-        (λ p. IsForm (pair_form decimal (list_form item_field)) (AreBoth IsNumber (AreCounted IsInRangeItem)) bytes.now (p.0, p.1.items))) }
+        (IsNoForm (pair_form decimal (list_form item_field)) (AreBoth IsNumber (AreItemsCounted IsInRangeItem)) bytes.now)
+        (λ p. IsForm (pair_form decimal (list_form item_field)) (AreBoth IsNumber (AreItemsCounted IsInRangeItem)) bytes.now (p.0, p.1.items))) }
 {
     let (vertex, rest) = match index_before(bytes) {
         Some(parts) => parts,
@@ -122,8 +122,8 @@ fn vertex_and_items(alloc: Global, bytes: &[u8]) -> Result<Option<(u32, Vec<Item
 // The numbers of a task and a vertex, and items.
 fn parts_of_proof(alloc: Global, bytes: &[u8]) -> Result<Option<(u32, (u32, Vec<Item>))>, Memory>
     ensures { IfOk result (λ found. MatchOption found
-        (IsNoForm (pair_form decimal (pair_form decimal (list_form item_field))) (AreBoth IsNumber (AreBoth IsNumber (AreCounted IsInRangeItem))) bytes.now)
-        (λ p. IsForm (pair_form decimal (pair_form decimal (list_form item_field))) (AreBoth IsNumber (AreBoth IsNumber (AreCounted IsInRangeItem))) bytes.now (p.0, (p.1.0, p.1.1.items)))) }
+        (IsNoForm (pair_form decimal (pair_form decimal (list_form item_field))) (AreBoth IsNumber (AreBoth IsNumber (AreItemsCounted IsInRangeItem))) bytes.now)
+        (λ p. IsForm (pair_form decimal (pair_form decimal (list_form item_field))) (AreBoth IsNumber (AreBoth IsNumber (AreItemsCounted IsInRangeItem))) bytes.now (p.0, (p.1.0, p.1.1.items)))) }
 {
     let (task, rest) = match index_before(bytes) {
         Some(parts) => parts,

@@ -3,10 +3,10 @@ ghost use Rattle.std.specs.Prelude.{◌≡◌, Some, None, length, false, codes,
 ghost use Rattle.drt_file.specs.trusted.Canonical.{written_line};
 ghost use Rattle.drt_file.specs.trusted.Cutting.{HasNoFeed};
 ghost use Rattle.drt_evidence.specs.Blocks.{AreSoMany, ReadsBlock, in_turn};
-ghost use Rattle.drt_evidence.specs.LineForms.{AreCounted, IsAny};
+ghost use Rattle.drt_evidence.specs.LineForms.{AreItemsCounted, IsAny};
 ghost use Rattle.drt_claims.specs.Ranges.{IsInRangeRelease, IsNumber};
 ghost use Rattle.drt_evidence.specs.Text.{count_line, release_line};
-ghost use Rattle.drt_responses.specs.Ranges.{AreInRange};
+ghost use Rattle.drt_responses.specs.Ranges.{AreResponsesInRange};
 ghost use Rattle.drt_responses.specs.Rows.{IsInRangeHeading, IsStop, first_block, heading_line, releases_block, rows_block};
 ghost use Rattle.drt_responses.specs.declared.reading.text.Stop.TheVariants.{Fault};
 
@@ -82,8 +82,8 @@ fn read_each_release(alloc: Global, text: &mut Text, count: u32) -> Result<Vec<R
 
 // How many releases there are, and the line of each.
 fn read_releases(alloc: Global, text: &mut Text) -> Result<Row<Release>, Stop>
-    ensures read { IfOk result (λ rs. ReadsBlock releases_block (AreCounted IsInRangeRelease) text.old.rest.now rs text.new.rest.now) }
-    ensures stops { IfErr result (IsStop releases_block (AreCounted IsInRangeRelease) text.old.rest.now) }
+    ensures read { IfOk result (λ rs. ReadsBlock releases_block (AreItemsCounted IsInRangeRelease) text.old.rest.now rs text.new.rest.now) }
+    ensures stops { IfErr result (IsStop releases_block (AreItemsCounted IsInRangeRelease) text.old.rest.now) }
 {
     let count = read_count(text, b"releases")?;
     let releases = read_each_release(alloc, text, count)?;
@@ -92,8 +92,8 @@ fn read_releases(alloc: Global, text: &mut Text) -> Result<Row<Release>, Stop>
 
 // Responses, down to the last line.
 pub(crate) fn read_rows(alloc: Global, text: &mut Text) -> Result<Row<Response>, Stop>
-    ensures read { IfOk result (λ rs. ReadsBlock rows_block AreInRange text.old.rest.now rs text.new.rest.now) }
-    ensures stops { IfErr result (IsStop rows_block AreInRange text.old.rest.now) }
+    ensures read { IfOk result (λ rs. ReadsBlock rows_block AreResponsesInRange text.old.rest.now rs text.new.rest.now) }
+    ensures stops { IfErr result (IsStop rows_block AreResponsesInRange text.old.rest.now) }
 {
     let mut responses = Vec::new(alloc);
     'rows: while let Heading::Opens(opening) = read_heading(text)? {

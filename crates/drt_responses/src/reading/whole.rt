@@ -2,8 +2,8 @@
 ghost use Rattle.std.specs.Prelude.{◌≡◌, ◌≤◌, ◌+◌, ◌-◌, ℕ, List, length, take, IfOk, IfErr};
 ghost use Rattle.drt_file.specs.trusted.CanonicalPrefix.{line_count};
 ghost use Rattle.drt_evidence.specs.Blocks.{ReadsBlock};
-ghost use Rattle.drt_responses.specs.Ranges.{AreInRange};
-ghost use Rattle.drt_responses.specs.Reading.{GivesResponses, IsTextCause, IsTextOf};
+ghost use Rattle.drt_responses.specs.Ranges.{AreResponsesInRange};
+ghost use Rattle.drt_responses.specs.Reading.{GivesResponses, IsTextCause, IsResponsesText};
 ghost use Rattle.drt_responses.specs.Rows.{IsStop};
 ghost use Rattle.drt_responses.specs.Text.{response_text};
 ghost use Rattle.drt_responses.specs.declared.fault.ResponseError.TheVariants.{Fault, Memory};
@@ -18,8 +18,8 @@ use std::alloc::Global;
 
 // The responses whose text stands at the front of a text.
 fn read_responses(alloc: Global, from: &mut Text) -> Result<Row<Response>, Stop>
-    ensures read { IfOk result (λ rs. ReadsBlock response_text AreInRange from.old.rest.now rs from.new.rest.now) }
-    ensures stops { IfErr result (IsStop response_text AreInRange from.old.rest.now) }
+    ensures read { IfOk result (λ rs. ReadsBlock response_text AreResponsesInRange from.old.rest.now rs from.new.rest.now) }
+    ensures stops { IfErr result (IsStop response_text AreResponsesInRange from.old.rest.now) }
 {
     read_first(from)?;
     let responses = read_rows(alloc, from)?;
@@ -50,8 +50,8 @@ fn fault(bytes: &[u8], left: usize) -> ResponseError
 /// Lists take the room of what follows, and none by the count above them.
 pub fn read(alloc: Global, bytes: &[u8]) -> Result<Row<Response>, ResponseError>
     requires { length bytes.now ≤ 1073741824 }
-    ensures read { IfOk result (λ responses. IsTextOf responses bytes.now) }
-    ensures found { (responses : List Response) → IsTextOf responses bytes.now → GivesResponses result responses }
+    ensures read { IfOk result (λ responses. IsResponsesText responses bytes.now) }
+    ensures found { (responses : List Response) → IsResponsesText responses bytes.now → GivesResponses result responses }
     ensures fault { IfErr result (IsTextCause bytes.now) }
 {
     let mut from = Text { rest: bytes };
@@ -70,9 +70,9 @@ pub fn read(alloc: Global, bytes: &[u8]) -> Result<Row<Response>, ResponseError>
 // Why a text that stops there is none of responses.
 fn cause_of(bytes: &[u8], stop: Stop) -> ResponseError
     requires size { length bytes.now ≤ 1073741824 }
-    requires stops { IsStop response_text AreInRange bytes.now stop }
+    requires stops { IsStop response_text AreResponsesInRange bytes.now stop }
     ensures fault { IsTextCause bytes.now result }
-    ensures none { (responses : List Response) → IsTextOf responses bytes.now → result ≡ Memory }
+    ensures none { (responses : List Response) → IsResponsesText responses bytes.now → result ≡ Memory }
 {
     match stop {
         Stop::Fault { left, missing: _ } => fault(bytes, left),

@@ -1,7 +1,7 @@
 //! A tree in the forest, and the same tree as a claim.
 ghost use Rattle.std.specs.Prelude.{◌≡◌, ℕ, ◌+◌, ◌-◌, ◌*◌, ◌≤◌, ◌<◌, IfOk, None, Some, length};
 ghost use Rattle.drt_tree.specs.Leaf.{leaves_of};
-ghost use Rattle.drt_tree.specs.Shape.{IsAdded};
+ghost use Rattle.drt_tree.specs.Shape.{IsTreeAdded};
 ghost use Rattle.drt_tree.specs.Tree.{HaveOneBound, IsForest, children};
 ghost use Rattle.drt_sp.specs.TaskTrees.{pair_of, pairs_from, walks_from};
 
@@ -75,7 +75,7 @@ pub(crate) fn add_tree(
     requires bound { HaveOneBound forest.old.pool (leaves_of labels.now walks.now) }
     requires room { length forest.old.nodes + 2 * length labels.now ≤ 4294967295 }
     ensures forest { IsForest forest.old }
-    ensures added { IfOk result (λ tree. IsAdded forest.old forest.new (leaves_of labels.now walks.now) tree.top) }
+    ensures added { IfOk result (λ tree. IsTreeAdded forest.old forest.new (leaves_of labels.now walks.now) tree.top) }
     ensures low { IfOk result (λ tree. tree.low ≡ length forest.old.nodes) }
     ensures walks { IfOk result (λ tree. tree.claim.walks ≡ walks_from forest.new tree.low (length labels.now)) }
     ensures pairs { IfOk result (λ tree. tree.claim.pairs ≡ pairs_from forest.new tree.low (tree.low + length labels.now) (length labels.now - 1)) }

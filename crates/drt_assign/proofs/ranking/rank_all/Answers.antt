@@ -2,7 +2,7 @@ use Rattle.std.proofs.Common.{◌≡◌, ℕ, List, length, sym, subst}
 use Rattle.drt_model.specs.declared.tasks.Task.{Task}
 use Rattle.drt_priorities.specs.Priorities.{prioritised}
 use Rattle.drt_assign.specs.Rule.{AreRanks}
-use Rattle.drt_assign.specs.Steps.{IsRound}
+use Rattle.drt_assign.specs.Steps.{IsRoundAnswer}
 use Rattle.drt_assign.specs.declared.rounds.Round.{Round}
 use Rattle.drt_assign.specs.declared.rounds.Round.TheVariants as rounds
 use Rattle.drt_assign.proofs.Ends.{as_many_in, end_stuck}
@@ -11,10 +11,10 @@ use Rattle.drt_assign.proofs.ranking.rank_all.Goals as goal
 
 -- What a round says of the set that it got, said of the tasks of the file.
 round_of : (tasks before : List Task) (old ranks known : List ℕ) (m budget : ℕ) (r s : Round) → before ≡ tasks → ranks ≡ known → r ≡ s
-    → IsRound before old ranks m budget r → IsRound tasks old known m budget s
+    → IsRoundAnswer before old ranks m budget r → IsRoundAnswer tasks old known m budget s
 round_of tasks before old ranks known m budget r s e f h is =
-    subst (λ (x : Round). IsRound tasks old known m budget x) h
-    (subst (λ (xs : List ℕ). IsRound tasks old xs m budget r) f (subst (λ (ts : List Task). IsRound ts old ranks m budget r) e is))
+    subst (λ (x : Round). IsRoundAnswer tasks old known m budget x) h
+    (subst (λ (xs : List ℕ). IsRoundAnswer tasks old xs m budget r) f (subst (λ (ts : List Task). IsRoundAnswer ts old ranks m budget r) e is))
 
 pub find_next-requires-clause-ranks : goal.find_next-requires-clause-ranks
 find_next-requires-clause-ranks g c κs within =

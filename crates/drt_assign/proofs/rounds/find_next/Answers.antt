@@ -6,7 +6,7 @@ use Rattle.drt_priorities.proofs.Prioritised.{length-prioritised}
 use Rattle.drt_sp_task.specs.declared.answer.TaskAnswer.{TaskAnswer}
 use Rattle.drt_assign.specs.Assign.{AreStuck}
 use Rattle.drt_assign.specs.Rule.{AreRanks}
-use Rattle.drt_assign.specs.Steps.{AreAhead, IsTried}
+use Rattle.drt_assign.specs.Steps.{AreTrialsAhead, IsTaskTried}
 use Rattle.drt_assign.specs.declared.ahead.Ahead.{Ahead}
 use Rattle.drt_assign.specs.declared.answer.Stuck.{Stuck}
 use Rattle.drt_assign.proofs.Tried.{IsSoFar, found, of_self, so_far_all, so_far_over, so_far_stuck, spent_at}
@@ -19,13 +19,13 @@ ranks_of tasks old ranks m are = subst (λ (n : ℕ). AreRanks n m ranks) (sym (
 
 -- What is said of a trial from the set of a round, said from that of the file.
 tried_of : (tasks before : List Task) (ranks : List ℕ) (m k budget : ℕ) (set : Contents) (answer known : TaskAnswer) → before ≡ tasks → answer ≡ known
-    → IsTried before ranks m k budget set answer → IsTried tasks ranks m k budget set known
+    → IsTaskTried before ranks m k budget set answer → IsTaskTried tasks ranks m k budget set known
 tried_of tasks before ranks m k budget set answer known e f is =
-    subst (λ (a : TaskAnswer). IsTried tasks ranks m k budget set a) f (subst (λ (ts : List Task). IsTried ts ranks m k budget set answer) e is)
+    subst (λ (a : TaskAnswer). IsTaskTried tasks ranks m k budget set a) f (subst (λ (ts : List Task). IsTaskTried ts ranks m k budget set answer) e is)
 
 -- What was found ahead is said from the tasks of the file.
-ahead_of : (tasks before : List Task) (ranks : List ℕ) (m budget : ℕ) (found : Ahead) → before ≡ tasks → AreAhead before ranks m budget found → AreAhead tasks ranks m budget found
-ahead_of tasks before ranks m budget found e is = subst (λ (ts : List Task). AreAhead ts ranks m budget found) e is
+ahead_of : (tasks before : List Task) (ranks : List ℕ) (m budget : ℕ) (found : Ahead) → before ≡ tasks → AreTrialsAhead before ranks m budget found → AreTrialsAhead tasks ranks m budget found
+ahead_of tasks before ranks m budget found e is = subst (λ (ts : List Task). AreTrialsAhead ts ranks m budget found) e is
 
 pub look_further-requires-clause-ranks : goal.look_further-requires-clause-ranks
 look_further-requires-clause-ranks g c κs within =
@@ -85,13 +85,13 @@ tasks-preserved g c =
           let ahead = ahead_of tasks (prioritised c.tasks.set.tasks old) ranks m budget w.take_or_try.new.ahead c.tasks.invariant.0.same w.in_ok-tried.ensures.ahead in (
             subst (λ (s : Contents). IsSoFar tasks old ranks m (k + 1) s c.if-ranks-k-eq0.stuck.items) (sym w.set-is)
                 (subst (λ (xs : List Stuck). IsSoFar tasks old ranks m (k + 1) w.in_ok-tried.tried xs) (sym (ap (λ v. v.items) w.stuck-is ∙ w.in_ok-push-in-Misses.ensures.items)) next),
-            subst (λ (found : Ahead). AreAhead tasks ranks m budget found) (sym w.ahead-is) ahead,
+            subst (λ (found : Ahead). AreTrialsAhead tasks ranks m budget found) (sym w.ahead-is) ahead,
           ))
       | else-ranks-k-eq0 w ↦ (let next = so_far_over tasks old ranks m budget c.requires.course.as_many own are k l c.tasks.set c.tasks.stuck.items c.tasks.invariant.0
           w.if-ranks-k-eq0.false in (
             subst (λ (s : Contents). IsSoFar tasks old ranks m (k + 1) s c.if-ranks-k-eq0.stuck.items) (sym w.set-is)
                 (subst (λ (xs : List Stuck). IsSoFar tasks old ranks m (k + 1) c.tasks.set xs) (sym (ap (λ v. v.items) w.stuck-is)) next),
-            subst (λ (found : Ahead). AreAhead tasks ranks m budget found) (sym w.ahead-is) c.tasks.invariant.1,
+            subst (λ (found : Ahead). AreTrialsAhead tasks ranks m budget found) (sym w.ahead-is) c.tasks.invariant.1,
           ))
     ]
 

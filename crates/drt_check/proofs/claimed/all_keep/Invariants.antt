@@ -2,8 +2,8 @@
 use Rattle.std.proofs.Common.{drop}
 use Rattle.std.specs.Prelude.{◌↔◌}
 use Rattle.drt_claims.specs.Claims.{Each}
-use Rattle.drt_check.specs.Claimed.{IsKept}
+use Rattle.drt_check.specs.Claimed.{KeepsRatioRule}
 use Rattle.drt_check.proofs.claimed.all_keep.Given as goal
 
 abbrev pub invariant-tasks : goal.invariant-tasks
-invariant-tasks l = Each (IsKept l.rule) l.graphs l.ratios ↔ Each (IsKept l.rule) (drop l.i l.graphs) (drop l.i l.ratios)
+invariant-tasks l = Each (KeepsRatioRule l.rule) l.graphs l.ratios ↔ Each (KeepsRatioRule l.rule) (drop l.i l.graphs) (drop l.i l.ratios)

@@ -6,131 +6,131 @@ use Rattle.drt_claims.specs.Statement.{Statement}
 use Rattle.drt_claims.specs.declared.rule.Rule.TheVariants.{LowestTerms, PotentialPerVertex, FittingPotentials, ClosedCycles, TightCycles, NearHorizon}
 use Rattle.drt_claims.specs.declared.rule.Rule.TheVariants.{OrderedFronts, CoveredOpenings, CoveredExtensions, Room}
 use Rattle.drt_claims.specs.declared.rule.Rule.TheVariants.{TreePerHigherTask, ShortWalks, CoveredWalks, TreeShapes, ProofShapes, PassingTimes}
-use Rattle.drt_check.specs.Deciding.{IsNext}
+use Rattle.drt_check.specs.Deciding.{IsNextRule}
 use Rattle.drt_check.proofs.Rows.{counted, decides, decides_at, decides_near, decides_order, given, in_order, near}
 use Rattle.drt_check.proofs.rules.keeps.Goals as goal
 
 pub all_keep-requires-clause-counted : goal.all_keep-requires-clause-counted
 all_keep-requires-clause-counted c =
-    let next = subst (λ r. IsNext c.args.dossier.now r) c.in-PotentialPerVertex.is c.requires.next in
+    let next = subst (λ r. IsNextRule c.args.dossier.now r) c.in-PotentialPerVertex.is c.requires.next in
     rw (c.ratios_of-ratios.ensures.value, c.requires.graphs) (counted c.args.dossier.now PotentialPerVertex next next.applies (omega arith))
 
 pub all_keep-requires-in-FittingPotentials-clause-counted : goal.all_keep-requires-in-FittingPotentials-clause-counted
 all_keep-requires-in-FittingPotentials-clause-counted c =
-    let next = subst (λ r. IsNext c.args.dossier.now r) c.in-FittingPotentials.is c.requires.next in
+    let next = subst (λ r. IsNextRule c.args.dossier.now r) c.in-FittingPotentials.is c.requires.next in
     rw (c.ratios_of-ratios.ensures.value, c.requires.graphs) (counted c.args.dossier.now FittingPotentials next next.applies (omega arith))
 
 pub all_keep-requires-in-ClosedCycles-clause-counted : goal.all_keep-requires-in-ClosedCycles-clause-counted
 all_keep-requires-in-ClosedCycles-clause-counted c =
-    let next = subst (λ r. IsNext c.args.dossier.now r) c.in-ClosedCycles.is c.requires.next in
+    let next = subst (λ r. IsNextRule c.args.dossier.now r) c.in-ClosedCycles.is c.requires.next in
     rw (c.ratios_of-ratios.ensures.value, c.requires.graphs) (counted c.args.dossier.now ClosedCycles next next.applies (omega arith))
 
 pub all_keep-requires-in-TightCycles-clause-counted : goal.all_keep-requires-in-TightCycles-clause-counted
 all_keep-requires-in-TightCycles-clause-counted c =
-    let next = subst (λ r. IsNext c.args.dossier.now r) c.in-TightCycles.is c.requires.next in
+    let next = subst (λ r. IsNextRule c.args.dossier.now r) c.in-TightCycles.is c.requires.next in
     rw (c.ratios_of-ratios.ensures.value, c.requires.graphs) (counted c.args.dossier.now TightCycles next next.applies (omega arith))
 
 pub horizon_of-requires-clause-given : goal.horizon_of-requires-clause-given
 horizon_of-requires-clause-given c =
-    let next = subst (λ r. IsNext c.args.dossier.now r) c.in-NearHorizon.is c.requires.next in
+    let next = subst (λ r. IsNextRule c.args.dossier.now r) c.in-NearHorizon.is c.requires.next in
     rw (c.ratios_of-ratios.ensures.value, c.requires.graphs) (given c.args.dossier.now NearHorizon next next.applies (omega arith))
 
 pub near_horizon-requires-clause-given : goal.near_horizon-requires-clause-given
 near_horizon-requires-clause-given c =
-    let next = subst (λ r. IsNext c.args.dossier.now r) c.in-OrderedFronts.is c.requires.next in
+    let next = subst (λ r. IsNextRule c.args.dossier.now r) c.in-OrderedFronts.is c.requires.next in
     rw (c.ratios_of-ratios.ensures.value, c.requires.graphs) (given c.args.dossier.now OrderedFronts next next.applies (omega arith))
 
 pub near_horizon-requires-clause-near : goal.near_horizon-requires-clause-near
 near_horizon-requires-clause-near c =
-    let next = subst (λ r. IsNext c.args.dossier.now r) c.in-OrderedFronts.is c.requires.next in
+    let next = subst (λ r. IsNextRule c.args.dossier.now r) c.in-OrderedFronts.is c.requires.next in
     rw (c.ratios_of-ratios.ensures.value, c.requires.graphs) (near c.args.dossier.now OrderedFronts next next.applies (omega arith))
 
 pub near_horizon-requires-in-CoveredOpenings-clause-given : goal.near_horizon-requires-in-CoveredOpenings-clause-given
 near_horizon-requires-in-CoveredOpenings-clause-given c =
-    let next = subst (λ r. IsNext c.args.dossier.now r) c.in-CoveredOpenings.is c.requires.next in
+    let next = subst (λ r. IsNextRule c.args.dossier.now r) c.in-CoveredOpenings.is c.requires.next in
     rw (c.ratios_of-ratios.ensures.value, c.requires.graphs) (given c.args.dossier.now CoveredOpenings next next.applies (omega arith))
 
 pub near_horizon-requires-in-CoveredOpenings-clause-near : goal.near_horizon-requires-in-CoveredOpenings-clause-near
 near_horizon-requires-in-CoveredOpenings-clause-near c =
-    let next = subst (λ r. IsNext c.args.dossier.now r) c.in-CoveredOpenings.is c.requires.next in
+    let next = subst (λ r. IsNextRule c.args.dossier.now r) c.in-CoveredOpenings.is c.requires.next in
     rw (c.ratios_of-ratios.ensures.value, c.requires.graphs) (near c.args.dossier.now CoveredOpenings next next.applies (omega arith))
 
 pub near_horizon-requires-in-CoveredExtensions-clause-given : goal.near_horizon-requires-in-CoveredExtensions-clause-given
 near_horizon-requires-in-CoveredExtensions-clause-given c =
-    let next = subst (λ r. IsNext c.args.dossier.now r) c.in-CoveredExtensions.is c.requires.next in
+    let next = subst (λ r. IsNextRule c.args.dossier.now r) c.in-CoveredExtensions.is c.requires.next in
     rw (c.ratios_of-ratios.ensures.value, c.requires.graphs) (given c.args.dossier.now CoveredExtensions next next.applies (omega arith))
 
 pub near_horizon-requires-in-CoveredExtensions-clause-near : goal.near_horizon-requires-in-CoveredExtensions-clause-near
 near_horizon-requires-in-CoveredExtensions-clause-near c =
-    let next = subst (λ r. IsNext c.args.dossier.now r) c.in-CoveredExtensions.is c.requires.next in
+    let next = subst (λ r. IsNextRule c.args.dossier.now r) c.in-CoveredExtensions.is c.requires.next in
     rw (c.ratios_of-ratios.ensures.value, c.requires.graphs) (near c.args.dossier.now CoveredExtensions next next.applies (omega arith))
 
 pub near_horizon-requires-in-Room-clause-given : goal.near_horizon-requires-in-Room-clause-given
 near_horizon-requires-in-Room-clause-given c =
-    let next = subst (λ r. IsNext c.args.dossier.now r) c.in-Room.is c.requires.next in
+    let next = subst (λ r. IsNextRule c.args.dossier.now r) c.in-Room.is c.requires.next in
     rw (c.ratios_of-ratios.ensures.value, c.requires.graphs) (given c.args.dossier.now Room next next.applies (omega arith))
 
 pub near_horizon-requires-in-Room-clause-near : goal.near_horizon-requires-in-Room-clause-near
 near_horizon-requires-in-Room-clause-near c =
-    let next = subst (λ r. IsNext c.args.dossier.now r) c.in-Room.is c.requires.next in
+    let next = subst (λ r. IsNextRule c.args.dossier.now r) c.in-Room.is c.requires.next in
     rw (c.ratios_of-ratios.ensures.value, c.requires.graphs) (near c.args.dossier.now Room next next.applies (omega arith))
 
 pub have_openings-requires : goal.have_openings-requires
 have_openings-requires c =
-    let next = subst (λ r. IsNext c.args.dossier.now r) c.in-CoveredOpenings.is c.requires.next in
+    let next = subst (λ r. IsNextRule c.args.dossier.now r) c.in-CoveredOpenings.is c.requires.next in
     let is = rw (c.ratios_of-ratios.ensures.value, c.requires.graphs) at c.near_horizon-in-CoveredOpenings.ensures in
     rw (c.fronts_of-fronts.ensures.value, c.requires.graphs) (in_order c.args.dossier.now CoveredOpenings next next.applies (omega arith) c.near_horizon-in-CoveredOpenings.result is)
 
 pub are_closed-requires-clause-order : goal.are_closed-requires-clause-order
 are_closed-requires-clause-order c =
-    let next = subst (λ r. IsNext c.args.dossier.now r) c.in-CoveredExtensions.is c.requires.next in
+    let next = subst (λ r. IsNextRule c.args.dossier.now r) c.in-CoveredExtensions.is c.requires.next in
     let is = rw (c.ratios_of-ratios.ensures.value, c.requires.graphs) at c.near_horizon-in-CoveredExtensions.ensures in
     rw (c.fronts_of-fronts.ensures.value, c.requires.graphs) (in_order c.args.dossier.now CoveredExtensions next next.applies (omega arith) c.near_horizon-in-CoveredExtensions.result is)
 
 pub have_room-requires : goal.have_room-requires
 have_room-requires c =
-    let next = subst (λ r. IsNext c.args.dossier.now r) c.in-Room.is c.requires.next in
+    let next = subst (λ r. IsNextRule c.args.dossier.now r) c.in-Room.is c.requires.next in
     let is = rw (c.ratios_of-ratios.ensures.value, c.requires.graphs) at c.near_horizon-in-Room.ensures in
     rw (c.fronts_of-fronts.ensures.value, c.requires.graphs) (in_order c.args.dossier.now Room next next.applies (omega arith) c.near_horizon-in-Room.result is)
 
 pub have_short_walks-requires-clause-per_task : goal.have_short_walks-requires-clause-per_task
 have_short_walks-requires-clause-per_task c =
-    let next = subst (λ r. IsNext c.args.dossier.now r) c.in-ShortWalks.is c.requires.next in
+    let next = subst (λ r. IsNextRule c.args.dossier.now r) c.in-ShortWalks.is c.requires.next in
     let set = ap (λ (s : Statement). s.set) c.dossier.view_is in
     rw (set, c.trees_of-trees.ensures.value) (next.before TreePerHigherTask next.applies (omega arith))
 
 pub cover_walks-requires-clause-per_task : goal.cover_walks-requires-clause-per_task
 cover_walks-requires-clause-per_task c =
-    let next = subst (λ r. IsNext c.args.dossier.now r) c.in-CoveredWalks.is c.requires.next in
+    let next = subst (λ r. IsNextRule c.args.dossier.now r) c.in-CoveredWalks.is c.requires.next in
     let set = ap (λ (s : Statement). s.set) c.dossier.view_is in
     rw (set, c.trees_of-trees.ensures.value) (next.before TreePerHigherTask next.applies (omega arith))
 
 pub cover_walks-requires-clause-short : goal.cover_walks-requires-clause-short
 cover_walks-requires-clause-short c =
-    let next = subst (λ r. IsNext c.args.dossier.now r) c.in-CoveredWalks.is c.requires.next in
+    let next = subst (λ r. IsNextRule c.args.dossier.now r) c.in-CoveredWalks.is c.requires.next in
     let set = ap (λ (s : Statement). s.set) c.dossier.view_is in
     rw (set, c.trees_of-trees.ensures.value) (next.before ShortWalks next.applies (omega arith))
 
 pub have_passing_times-requires-clause-per_task : goal.have_passing_times-requires-clause-per_task
 have_passing_times-requires-clause-per_task c =
-    let next = subst (λ r. IsNext c.args.dossier.now r) c.in-PassingTimes.is c.requires.next in
+    let next = subst (λ r. IsNextRule c.args.dossier.now r) c.in-PassingTimes.is c.requires.next in
     let set = ap (λ (s : Statement). s.set) c.dossier.view_is in
     rw (set, c.trees_of-trees.ensures.value) (next.before TreePerHigherTask next.applies (omega arith))
 
 pub have_passing_times-requires-clause-walks : goal.have_passing_times-requires-clause-walks
 have_passing_times-requires-clause-walks c =
-    let next = subst (λ r. IsNext c.args.dossier.now r) c.in-PassingTimes.is c.requires.next in
+    let next = subst (λ r. IsNextRule c.args.dossier.now r) c.in-PassingTimes.is c.requires.next in
     let set = ap (λ (s : Statement). s.set) c.dossier.view_is in
     rw (set, c.trees_of-trees.ensures.value) (next.before ShortWalks next.applies (omega arith))
 
 pub have_passing_times-requires-clause-trees : goal.have_passing_times-requires-clause-trees
 have_passing_times-requires-clause-trees c =
-    let next = subst (λ r. IsNext c.args.dossier.now r) c.in-PassingTimes.is c.requires.next in
+    let next = subst (λ r. IsNextRule c.args.dossier.now r) c.in-PassingTimes.is c.requires.next in
     rw c.trees_of-trees.ensures.value (next.before TreeShapes next.applies (omega arith))
 
 pub have_passing_times-requires-clause-proofs : goal.have_passing_times-requires-clause-proofs
 have_passing_times-requires-clause-proofs c =
-    let next = subst (λ r. IsNext c.args.dossier.now r) c.in-PassingTimes.is c.requires.next in
+    let next = subst (λ r. IsNextRule c.args.dossier.now r) c.in-PassingTimes.is c.requires.next in
     let set = ap (λ (s : Statement). s.set) c.dossier.view_is in
     rw (set, c.trees_of-trees.ensures.value, c.proofs_of-proofs.ensures.value) (next.before ProofShapes next.applies (omega arith))
 

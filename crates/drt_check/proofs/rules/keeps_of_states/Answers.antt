@@ -7,13 +7,13 @@ use Rattle.drt_claims.specs.Kinds.{tails_of}
 use Rattle.drt_claims.specs.Searches.{HasDominatedChildren, HasPassingStates}
 use Rattle.drt_claims.specs.Statement.{Statement}
 use Rattle.drt_claims.specs.declared.rule.Rule.TheVariants.{BoundingTails, DominatedChildren, PassingStates, RisingTails, SearchStates}
-use Rattle.drt_check.specs.Deciding.{IsNext}
+use Rattle.drt_check.specs.Deciding.{IsNextRule}
 use Rattle.drt_check.proofs.Rows.{decides}
 use Rattle.drt_check.proofs.rules.keeps_of_states.Goals as goal
 
 pub bound_walks-requires-clause-tails : goal.bound_walks-requires-clause-tails
 bound_walks-requires-clause-tails c =
-    let next = subst (λ r. IsNext c.args.dossier.now r) c.in-BoundingTails.is c.requires.next in
+    let next = subst (λ r. IsNextRule c.args.dossier.now r) c.in-BoundingTails.is c.requires.next in
     let set = ap (λ (s : Statement). s.set) c.dossier.view_is in
     rw (set, c.tails_of-tails.ensures) (next.before RisingTails next.applies (omega arith))
 
@@ -25,7 +25,7 @@ returns-in-SearchStates c =
 
 pub have_passing_states-requires : goal.have_passing_states-requires
 have_passing_states-requires c =
-    let next = subst (λ r. IsNext c.args.dossier.now r) c.in-PassingStates.is c.requires.next in
+    let next = subst (λ r. IsNextRule c.args.dossier.now r) c.in-PassingStates.is c.requires.next in
     let set = ap (λ (s : Statement). s.set) c.dossier.view_is in
     record { tails = rw (set, c.tails_of-tails.ensures) (next.before RisingTails next.applies (omega arith)) }
 
@@ -41,7 +41,7 @@ returns-in-PassingStates c =
 
 pub have_dominated_splits-requires-clause-states : goal.have_dominated_splits-requires-clause-states
 have_dominated_splits-requires-clause-states c =
-    let next = subst (λ r. IsNext c.args.dossier.now r) c.in-DominatedChildren.is c.requires.next in
+    let next = subst (λ r. IsNextRule c.args.dossier.now r) c.in-DominatedChildren.is c.requires.next in
     let set = ap (λ (s : Statement). s.set) c.dossier.view_is in
     rw (set, c.searches_of-searches.ensures) (next.before SearchStates next.applies (omega arith))
 

@@ -3,13 +3,13 @@ use Rattle.std.specs.Prelude.{◌↔◌, IsTrue}
 use Rattle.drt_claims.specs.Rules.{Keeps}
 use Rattle.drt_claims.specs.Statement.{Statement}
 use Rattle.drt_claims.specs.declared.rule.Rule.TheVariants.{ConstrainedDeadlines, LegalReleases}
-use Rattle.drt_check.specs.Deciding.{IsNext}
+use Rattle.drt_check.specs.Deciding.{IsNextRule}
 use Rattle.drt_check.proofs.Plain.{deadlines_left}
 use Rattle.drt_check.proofs.rules.keeps_plainly.Goals as goal
 
 pub is_least_miss-requires-clause-legal : goal.is_least_miss-requires-clause-legal
 is_least_miss-requires-clause-legal c =
-    let next = subst (λ r. IsNext c.args.dossier.now r) c.in-LeastMiss.is c.requires.next in
+    let next = subst (λ r. IsNextRule c.args.dossier.now r) c.in-LeastMiss.is c.requires.next in
     let set = ap (λ (s : Statement). s.set) c.dossier.view_is in
     rw (set, c.releases_of-releases.ensures.value) (next.before LegalReleases next.applies (omega arith))
 

@@ -6,7 +6,7 @@ use Rattle.drt_model.specs.declared.tasks.Edge.{Edge}
 use Rattle.drt_model.specs.declared.tasks.Vertex.{Vertex}
 use Rattle.drt_claims.specs.Trees.{IsShortWalk}
 use Rattle.drt_check_trees.specs.Asking.{span_of}
-use Rattle.drt_check_trees.specs.Entries.{IsOver, last_in}
+use Rattle.drt_check_trees.specs.Entries.{IsWalkOver, last_in}
 use Rattle.drt_check_trees.proofs.Extending.{extended_far, extended_near, short_longer, span_longer, work_longer}
 use Rattle.drt_check_trees.proofs.Ranks.{short_small}
 use Rattle.drt_check_trees.proofs.covering.is_extended.Goals as goal
@@ -66,8 +66,8 @@ returns c =
     let near : span_of g walk + (edge_of g (last_in walk) k).sep < c.args.bound = omega (arith, c.if-span-bound.false, c.requires.span, ap (λ (x : Edge). x.sep) e) in
     let both = extended_near g c.args.bound k c.args.tree.now walk c.requires.walk near in
     let walks : c.as_slice.result.now ≡ c.args.tree.now.walks = c.as_slice.ensures in
-    let before : (w : List ℕ) → Any (IsOver c.args.bound g w) c.as_slice.result.now ↔ Any (IsOver c.args.bound g w) c.args.tree.now.walks
-    = (λ w. (subst (λ (ws : List (List ℕ)). Any (IsOver c.args.bound g w) ws) walks, subst (λ (ws : List (List ℕ)). Any (IsOver c.args.bound g w) ws) (sym walks))) in (
-      λ t. both.1 (subst (λ (w : List ℕ). Any (IsOver c.args.bound g w) c.args.tree.now.walks) y ((before c.as_slice-2.result.now).0 (c.has_above.ensures.0 t))),
-      λ is. c.has_above.ensures.1 ((before c.as_slice-2.result.now).1 (subst (λ (w : List ℕ). Any (IsOver c.args.bound g w) c.args.tree.now.walks) (sym y) (both.0 is))),
+    let before : (w : List ℕ) → Any (IsWalkOver c.args.bound g w) c.as_slice.result.now ↔ Any (IsWalkOver c.args.bound g w) c.args.tree.now.walks
+    = (λ w. (subst (λ (ws : List (List ℕ)). Any (IsWalkOver c.args.bound g w) ws) walks, subst (λ (ws : List (List ℕ)). Any (IsWalkOver c.args.bound g w) ws) (sym walks))) in (
+      λ t. both.1 (subst (λ (w : List ℕ). Any (IsWalkOver c.args.bound g w) c.args.tree.now.walks) y ((before c.as_slice-2.result.now).0 (c.has_above.ensures.0 t))),
+      λ is. c.has_above.ensures.1 ((before c.as_slice-2.result.now).1 (subst (λ (w : List ℕ). Any (IsWalkOver c.args.bound g w) c.args.tree.now.walks) (sym y) (both.0 is))),
     )

@@ -3,7 +3,7 @@ use Rattle.std.proofs.lemmas.Bool.{cases_lt}
 use Rattle.std.proofs.lemmas.List.{get_or_default}
 use Rattle.drt_model.specs.Walk.{work}
 use Rattle.drt_check_trees.specs.Asking.{AsksNoLess}
-use Rattle.drt_check_trees.specs.Entries.{IsEntryOf, IsOver, last_in, rank_of}
+use Rattle.drt_check_trees.specs.Entries.{IsEntryOf, IsWalkOver, last_in, rank_of}
 use Rattle.drt_check_trees.specs.declared.entries.Entry.{Entry}
 use Rattle.drt_check_trees.proofs.Ranks.{entry_over, over_entry, over_parts, short_last, short_small, short_within}
 use Rattle.drt_check_trees.proofs.entries.has_above.Goals as goal
@@ -73,7 +73,7 @@ loop-k-preserved c =
     let e : Entry = get_or entries k d in
     let l : k < length entries = omega (arith, c.loop-k-test.true, c.loop-k.invariant.0, c.first_from-k.ensures.within) in
     let of : IsEntryOf g c.args.walks.now e = c.requires.entries.each k d l in
-    let not : IsOver c.args.bound g c.args.walk.now (get_or c.args.walks.now e.number []) → ⊥
+    let not : IsWalkOver c.args.bound g c.args.walk.now (get_or c.args.walks.now e.number []) → ⊥
     = (λ over.
     let parts = over_parts c.args.bound g c.args.walk.now (get_or c.args.walks.now e.number []) over in
     let r : c.is_no_less.result ≡ true = c.is_no_less.ensures.1 (omega (arith, parts.1, of.span, c.requires.span), parts.2) in
@@ -85,7 +85,7 @@ loop-k-preserved c =
             | inl q ↦ (
                 let s : j ≡ k = omega (arith, m, q) in
                 let same : get_or entries j f ≡ e = ap (λ (i : ℕ). get_or entries i f) s ∙ get_or_default entries k f d l in
-                not (subst (λ (x : Entry). IsOver c.args.bound g c.args.walk.now (get_or c.args.walks.now x.number [])) same over))
+                not (subst (λ (x : Entry). IsWalkOver c.args.bound g c.args.walk.now (get_or c.args.walks.now x.number [])) same over))
             | inr q ↦ c.loop-k.invariant.1 j f q n to over
           ],
     )
@@ -104,5 +104,5 @@ returns c =
                 absurd (omega (arith, b, h.from, rank, c.last_in-last.ensures)))
             | inr q ↦ q
           ] in
-          absurd (c.loop-k.invariant.1 h.place h.entry past h.within (omega (arith, h.to, rank)) (subst (λ (x : Entry). IsOver c.args.bound g c.args.walk.now (get_or c.args.walks.now x.number [])) (sym h.at) h.over)),
+          absurd (c.loop-k.invariant.1 h.place h.entry past h.within (omega (arith, h.to, rank)) (subst (λ (x : Entry). IsWalkOver c.args.bound g c.args.walk.now (get_or c.args.walks.now x.number [])) (sym h.at) h.over)),
     )

@@ -1,6 +1,6 @@
 use Rattle.std.proofs.Common.{Global, Vec, ◌≡◌, ℕ, ◌+◌, ◌-◌, ◌<◌, List, [], arith, get_or, length, set, subst, sym, ap, ◌∙◌}
 use Rattle.std.proofs.lemmas.List.{get_or_default}
-use Rattle.drt_check_trees.specs.Entries.{AreEntries, IsEntryOf, IsOver}
+use Rattle.drt_check_trees.specs.Entries.{AreWalkEntries, IsEntryOf, IsWalkOver}
 use Rattle.drt_check_trees.specs.declared.entries.Entry.{Entry}
 use Rattle.drt_check_trees.proofs.Thinning.{IsThinned, thinned_end, thinned_here, thinned_in, thinned_out, thinned_start}
 use Rattle.drt_check_trees.proofs.entries.thinned.Goals.{then-not-is_over, else-not-is_over}
@@ -36,10 +36,10 @@ loop-i-preserved c =
           (thinned_in bound g walks c.requires.short all c.requires.all now kept i is l)))
       | else-not-is_over w ↦ (
           let items : c.if-not-is_over.entries.items ≡ now = ap (λ (v : Vec Entry Global). v.items) w.entries-is in
-          let over : IsOver bound g c.as_slice-walk.result.now (get_or walks c.index-last.result.now.number []) = c.is_over.ensures.0 w.if-not-is_over.false in
-          let over' : IsOver bound g (get_or walks (get_or now i none).number []) (get_or walks (get_or now (kept - 1) none).number [])
-          = subst (λ (x : Entry). IsOver bound g (get_or walks (get_or now i none).number []) (get_or walks x.number [])) last
-          (subst (λ (x : List ℕ). IsOver bound g x (get_or walks c.index-last.result.now.number [])) walk over) in
+          let over : IsWalkOver bound g c.as_slice-walk.result.now (get_or walks c.index-last.result.now.number []) = c.is_over.ensures.0 w.if-not-is_over.false in
+          let over' : IsWalkOver bound g (get_or walks (get_or now i none).number []) (get_or walks (get_or now (kept - 1) none).number [])
+          = subst (λ (x : Entry). IsWalkOver bound g (get_or walks (get_or now i none).number []) (get_or walks x.number [])) last
+          (subst (λ (x : List ℕ). IsWalkOver bound g x (get_or walks c.index-last.result.now.number [])) walk over) in
           subst (λ (es : List Entry). IsThinned bound g walks all es c.if-not-is_over.kept (i + 1)) (sym items)
           (subst (λ (k : ℕ). IsThinned bound g walks all now k (i + 1)) (sym w.kept-is)
           (thinned_out bound g walks c.requires.short all c.requires.all now kept i is l over')))
@@ -47,6 +47,6 @@ loop-i-preserved c =
 
 pub returns : goal.returns
 returns c =
-    subst (λ (es : List Entry). AreEntries c.args.bound c.args.graph.now c.args.walks.now es) (sym c.truncate.ensures.items)
+    subst (λ (es : List Entry). AreWalkEntries c.args.bound c.args.graph.now c.args.walks.now es) (sym c.truncate.ensures.items)
     (thinned_end c.args.bound c.args.graph.now c.args.walks.now c.requires.short c.args.all.items c.requires.all c.loop-i.entries.items c.loop-i.kept c.loop-i.i c.loop-i.invariant
     (omega (arith, c.loop-i-test.false, c.loop-i.auto.i-end, c.len-i-end.ensures)))

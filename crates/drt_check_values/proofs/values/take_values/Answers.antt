@@ -1,7 +1,7 @@
 use Rattle.std.proofs.Common.{ℕ, List, length, ap, sym, subst, All}
 use Rattle.std.specs.Prelude.{◌↔◌, IsTrue}
 use Rattle.drt_check_values.specs.declared.rises.Rise.{Rise}
-use Rattle.drt_check_values.specs.Sweeps.{AreReady, HasRun}
+use Rattle.drt_check_values.specs.Sweeps.{AreReady, HasRunOfPlaces}
 use Rattle.drt_check_values.specs.Values.{AreLeft, AreWithin}
 use Rattle.drt_check_values.proofs.Valuing.{answers_same, has_runs, rises_ready}
 use Rattle.drt_check_values.proofs.values.take_values.Goals as goal
@@ -10,7 +10,7 @@ pub sweep-requires-clause-runs : goal.sweep-requires-clause-runs
 sweep-requires-clause-runs c =
     let firsts = c.in_ok-places.places.firsts.items in
     let sizes = c.in_ok-places.places.sizes.items in
-    subst (λ n. All (HasRun firsts sizes n) c.args.queries.now) (sym (ap length c.as_slice-count.ensures)) (has_runs c.args.tree.now c.requires.tree firsts sizes c.args.queries.now
+    subst (λ n. All (HasRunOfPlaces firsts sizes n) c.args.queries.now) (sym (ap length c.as_slice-count.ensures)) (has_runs c.args.tree.now c.requires.tree firsts sizes c.args.queries.now
     c.in_ok-places.ensures.firsts c.in_ok-places.ensures.sizes c.requires.nodes)
 
 pub sweep-requires-clause-rises : goal.sweep-requires-clause-rises

@@ -4,7 +4,7 @@ use Rattle.drt_io.specs.Causes.{Rose}
 use Rattle.drt_command.specs.declared.input.Input.{Input}
 use Rattle.drt_command.specs.declared.input.Input.TheVariants.{Nothing}
 use Rattle.drt_command.specs.Inputs.{IsInput}
-use Rattle.drt_command.specs.Rules.{IsCause}
+use Rattle.drt_command.specs.Rules.{IsUnmadeCause}
 use Rattle.drt_command.specs.Runs.{IsReadCause}
 use Rattle.drt_command_bench.specs.Bench.{bench_rules}
 use Rattle.drt_command_bench.proofs.command.conduct.Goals as goal
@@ -16,7 +16,7 @@ returns-in-Ok-clause-run g c =
     let is = subst (λ (b : List ℕ). IsInput Nothing left b) (sym c.as_slice-in-Ok.ensures) c.in-Ok.ensures.is in
     c.finish.ensures.run left (g.S.Source.faults c.args.source.now) (g.S.Source.faults c.read_input.new.source) is
     (subst (λ (b : List ℕ). IfOk c.make-made.result ((bench_rules c.args.command.now.number).makes b)) same c.make-made.ensures.makes)
-    (subst (λ (b : List ℕ). IfErr c.make-made.result (IsCause (bench_rules c.args.command.now.number).refuses b)) same c.make-made.ensures.unmade)
+    (subst (λ (b : List ℕ). IfErr c.make-made.result (IsUnmadeCause (bench_rules c.args.command.now.number).refuses b)) same c.make-made.ensures.unmade)
 
 pub returns-in-Err-clause-run : goal.returns-in-Err-clause-run
 returns-in-Err-clause-run g c =

@@ -3,7 +3,7 @@ use Rattle.std.proofs.Common.{◌≡◌, ℕ, List, Option, IfErr, IfOk, sym, su
 use Rattle.drt_io.specs.Causes.{Rose}
 use Rattle.drt_command.specs.declared.input.Input.{Input}
 use Rattle.drt_command.specs.Inputs.{IsInput}
-use Rattle.drt_command.specs.Rules.{IsCause}
+use Rattle.drt_command.specs.Rules.{IsUnmadeCause}
 use Rattle.drt_command.specs.Runs.{IsReadCause}
 use Rattle.drt_command_sp.specs.Sp.{sp_rules}
 use Rattle.drt_command_files.specs.TaskFiles.{file_input}
@@ -16,7 +16,7 @@ returns-in-Ok-clause-run g c =
     let is = subst (λ (b : List ℕ). IsInput file_input left b) (sym c.as_slice-in-Ok.ensures) (subst (λ (i : Input). IsInput i left c.in-Ok.bytes) c.file_input.ensures c.in-Ok.ensures.is) in
     c.finish.ensures.run left (g.S.Source.faults c.args.source.now) (g.S.Source.faults c.read_input.new.source) is
     (subst (λ (b : List ℕ). IfOk c.make-made.result ((sp_rules c.args.command.now.effort.budget).makes b)) same c.make-made.ensures.makes)
-    (subst (λ (b : List ℕ). IfErr c.make-made.result (IsCause (sp_rules c.args.command.now.effort.budget).refuses b)) same c.make-made.ensures.unmade)
+    (subst (λ (b : List ℕ). IfErr c.make-made.result (IsUnmadeCause (sp_rules c.args.command.now.effort.budget).refuses b)) same c.make-made.ensures.unmade)
 
 pub returns-in-Err-clause-run : goal.returns-in-Err-clause-run
 returns-in-Err-clause-run g c =

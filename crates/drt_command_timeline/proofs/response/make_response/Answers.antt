@@ -1,5 +1,5 @@
 use Rattle.std.proofs.Common.{◌-◌, length, take, drop}
-use Rattle.drt_command.specs.Rules.{IsCause}
+use Rattle.drt_command.specs.Rules.{IsUnmadeCause}
 use Rattle.drt_command_timeline.specs.Response.{IsResponseFault}
 use Rattle.drt_command_timeline.proofs.ResponseLemmas.{err_then, file_cause, input_at, named_cause, named_draws, ok_then, passed, text_cause}
 use Rattle.drt_command_timeline.proofs.response.make_response.Goals as goal
@@ -8,7 +8,7 @@ pub returns-in_err-set-clause-unmade : goal.returns-in_err-set-clause-unmade
 returns-in_err-set-clause-unmade c =
     let o = c.args.command.now in
     let at = c.cut_at-at.result in
-    passed (IsCause (IsResponseFault o.task o.vertex) c.args.bytes.now) c.from_residual.result c.in_err-set.field-0.0 c.from_residual.ensures.1
+    passed (IsUnmadeCause (IsResponseFault o.task o.vertex) c.args.bytes.now) c.from_residual.result c.in_err-set.field-0.0 c.from_residual.ensures.1
     (file_cause o.task o.vertex c.args.bytes.now (take at c.args.bytes.now) (take (length c.args.bytes.now - at) (drop at c.args.bytes.now))
     (input_at c.args.bytes.now at c.requires c.cut_at-at.ensures) c.in_err-set.field-0.0 c.in_err-set.ensures.unmade)
 
@@ -16,7 +16,7 @@ pub returns-in_err-responses-clause-unmade : goal.returns-in_err-responses-claus
 returns-in_err-responses-clause-unmade c =
     let o = c.args.command.now in
     let at = c.cut_at-at.result in
-    passed (IsCause (IsResponseFault o.task o.vertex) c.args.bytes.now) c.from_residual-in_err-responses.result c.in_err-responses.field-0.0 c.from_residual-in_err-responses.ensures.1
+    passed (IsUnmadeCause (IsResponseFault o.task o.vertex) c.args.bytes.now) c.from_residual-in_err-responses.result c.in_err-responses.field-0.0 c.from_residual-in_err-responses.ensures.1
     (text_cause o.task o.vertex c.args.bytes.now (take at c.args.bytes.now) (take (length c.args.bytes.now - at) (drop at c.args.bytes.now)) c.in_ok-set.set
     (input_at c.args.bytes.now at c.requires c.cut_at-at.ensures)
     c.in_ok-set.ensures.accepted c.in_err-responses.field-0.0 c.in_err-responses.ensures.unmade)

@@ -4,9 +4,9 @@ use Rattle.drt_graph.specs.Graphs.{AreGraphs}
 use Rattle.drt_rates.specs.Demands.{IsLeastExcess}
 use Rattle.drt_horizon.proofs.Givens.{given_small}
 use Rattle.drt_claims.specs.Claims.{graphs_of}
-use Rattle.drt_claims.specs.Ranges.{IsInRange}
+use Rattle.drt_claims.specs.Ranges.{IsEvidenceInRange}
 use Rattle.drt_claims.specs.declared.evidence.Evidence.TheVariants.{EdfYes}
-use Rattle.drt_edf.specs.Answers.{IsExactYes}
+use Rattle.drt_edf.specs.Answers.{IsExactEdfYes}
 use Rattle.drt_fronts.specs.LabelFronts.{AreDemandWalks}
 use Rattle.drt_edf.proofs.Decided.{listed_walks, plan_near, yes_in_range}
 use Rattle.drt_edf.proofs.Gathered.{fronts_within, walks_work}
@@ -28,7 +28,7 @@ returns-in_ok-claims_of-in-None-clause-done c =
     let room = subst (λ gs. IsLeastExcess gs c.args.fronts c.args.bound None) c.graphs-graphs.ensures.graphs at in
     let yes = is_yes c.horizon_holds.ensures c.deadlines_decide.ensures c.args.set.now.version c.args.set.now.tasks c.keep_limits.ensures.limits c.keep_limits.ensures.constrained kept
     c.args.proofs c.requires.given c.args.bound c.requires.plan c.args.fronts c.requires.fronts room in
-    subst (λ x. IsExactYes c.args.set.now.tasks x c.args.fronts) (sym c.in_ok-claims_of-in-None.ensures) yes
+    subst (λ x. IsExactEdfYes c.args.set.now.tasks x c.args.fronts) (sym c.in_ok-claims_of-in-None.ensures) yes
 
 pub returns-in_ok-claims_of-in-None-clause-range : goal.returns-in_ok-claims_of-in-None-clause-range
 returns-in_ok-claims_of-in-None-clause-range c =
@@ -36,7 +36,7 @@ returns-in_ok-claims_of-in-None-clause-range c =
     let kept = subst AreGraphs c.graphs-graphs.ensures.graphs c.count-count.ensures.kept in
     let near = plan_near graphs c.args.proofs c.args.bound c.requires.plan in
     let range = yes_in_range graphs c.args.proofs c.args.bound c.args.fronts kept c.requires.given near c.requires.fronts c.requires.counted in
-    subst (λ x. IsInRange (EdfYes x c.args.fronts)) (sym c.in_ok-claims_of-in-None.ensures) range
+    subst (λ x. IsEvidenceInRange (EdfYes x c.args.fronts)) (sym c.in_ok-claims_of-in-None.ensures) range
 
 pub demand_walks-requires : goal.demand_walks-requires
 demand_walks-requires c = (c.args.bound, rw (c.as_slice-in-Some.ensures, c.graphs-graphs.ensures.graphs) c.requires.fronts)

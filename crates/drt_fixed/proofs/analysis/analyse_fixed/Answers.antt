@@ -1,7 +1,7 @@
 -- What trees say with few steps, what tails and states say, and what trees say with the whole budget.
 use Rattle.std.proofs.Common.{◌≡◌, ℕ, ap, ◌∙◌, subst, arith}
 use Rattle.drt_effort.specs.Efforts.{Numbers}
-use Rattle.drt_sp.specs.Answers.{IsUndecided}
+use Rattle.drt_sp.specs.Answers.{IsTreeUndecided}
 use Rattle.drt_fixed.proofs.analysis.analyse_fixed.Goals as goal
 
 pub returns-in-Done : goal.returns-in-Done
@@ -12,7 +12,7 @@ returns-in-Undecided g c =
     let whole = c.first_effort.ensures (omega (arith, c.if-budget-le-ALLOWANCE.true, c.budget.ensures.is)) in
     let same : c.with-few.result.effort.budget ≡ c.args.crew.now.effort.budget = ap (λ (n : Numbers). n.budget) c.with-few.ensures ∙ whole in
     let said = rw c.in-Undecided.is at c.in_ok-evidence.ensures in
-    c.undecided.ensures c.args.set.now c.args.crew.now.effort.budget (subst (λ (budget : ℕ). IsUndecided c.args.set.now budget c.in-Undecided.trail) same said)
+    c.undecided.ensures c.args.set.now c.args.crew.now.effort.budget (subst (λ (budget : ℕ). IsTreeUndecided c.args.set.now budget c.in-Undecided.trail) same said)
 
 pub returns-in-Some : goal.returns-in-Some
 returns-in-Some g c = c.decided_by_states.ensures c.args.set.now c.args.crew.now.effort.budget (rw c.in-Some.is at c.in_ok-evidence-2.ensures)

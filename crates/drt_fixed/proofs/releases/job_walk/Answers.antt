@@ -3,7 +3,7 @@ use Rattle.std.proofs.Common.{◌≡◌, ◌<◌, ◌≤◌, List, [], ◌∷◌
 use Rattle.std.proofs.lemmas.List.{get_or_default}
 use Rattle.std.proofs.lemmas.Result.{IfOk-weaker}
 use Rattle.drt_model.specs.declared.tasks.Task.{Task}
-use Rattle.drt_model.specs.Digraph.{IsSound, vertex_count}
+use Rattle.drt_model.specs.Digraph.{IsSoundGraph, vertex_count}
 use Rattle.drt_graph.specs.Graphs.{graph_of}
 use Rattle.drt_busy.specs.Choice.{IsWalk, graph_at, no_task, task_at}
 use Rattle.drt_releases.proofs.Walks.{graph_same}
@@ -33,7 +33,7 @@ returns-then-tasks-k c =
     let b : get_or c.tasks-tasks.result.now j u ≡ task_at tasks j = ap (λ (ts : List Task). get_or ts j u) e ∙ get_or_default tasks j u no_task here in
     let less : (task_at tasks k).priority < (task_at tasks j).priority = omega (arith, c.if-tasks-k.true, ap (λ (x : Task). x.priority) a, ap (λ (x : Task). x.priority) b) in
     let graph : c.graph-graph.result.now ≡ graph_at tasks k = c.graph-graph.ensures.graph ∙ (ap (λ gs. graph_of gs k) c.graphs-graphs.ensures.graphs ∙ graph_same tasks k c.requires.here) in
-    let sound : IsSound (graph_at tasks k) = subst IsSound graph c.graph-graph.ensures.sound in
+    let sound : IsSoundGraph (graph_at tasks k) = subst IsSoundGraph graph c.graph-graph.ensures.sound in
     let w : List ℕ = c.walk_of.result.now in
     let same : graph_of (graphs_given c.args.given) k ≡ graph_at tasks k = graph_same tasks k c.requires.here in
     let is : IsWalk (graph_at tasks k) w = subst (λ g. IsWalk g w) same (c.walk_of.ensures (graphs_given c.args.given) c.requires.walks) in
@@ -56,7 +56,7 @@ returns c =
     let le : (task_at tasks j).priority ≤ (task_at tasks k).priority = omega (arith, c.if-tasks-k.false, ap (λ (x : Task). x.priority) a, ap (λ (x : Task). x.priority) b) in
     let graph : c.graph-graph.result.now ≡ graph_at tasks k = c.graph-graph.ensures.graph ∙ (ap (λ gs. graph_of gs k) c.graphs-graphs.ensures.graphs ∙ graph_same tasks k c.requires.here) in
     let same : graph_of (graphs_given c.args.given) k ≡ graph_at tasks k = graph_same tasks k c.requires.here in
-    let sound : IsSound (graph_at tasks k) = subst IsSound graph c.graph-graph.ensures.sound in
+    let sound : IsSoundGraph (graph_at tasks k) = subst IsSoundGraph graph c.graph-graph.ensures.sound in
     elim c.if-k-at.branch [
       | then-k-at+in_ok-push w ↦ (
           let row : c.from_vec.result ≡ v ∷ [] = c.from_vec.ensures ∙ (ap (λ x. x.items) w.walk-is ∙ (w.in_ok-push.ensures.items ∙ ap (λ (xs : List ℕ). xs ++ v ∷ []) c.new-walk.ensures.items)) in

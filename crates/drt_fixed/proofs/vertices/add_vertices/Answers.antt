@@ -4,7 +4,7 @@ use Rattle.std.proofs.lemmas.List.Elements.{All-push}
 use Rattle.drt_model.specs.Digraph.{digraph_of, vertex_count}
 use Rattle.drt_model.specs.Walk.{deadline}
 use Rattle.drt_graph.specs.Graphs.{graph_of}
-use Rattle.drt_fixed.specs.Searching.{IsPlaced, graphs_given}
+use Rattle.drt_fixed.specs.Searching.{IsVertexPlaced, graphs_given}
 use Rattle.drt_fixed.specs.declared.vertices.PlacedVertex.{PlacedVertex}
 use Rattle.drt_fixed.specs.declared.vertices.VertexAt.{VertexAt}
 use Rattle.drt_fixed.proofs.vertices.add_vertices.Goals as goal
@@ -14,7 +14,7 @@ placed_vertex-requires c = subst (λ (n : ℕ). c.loop-vertex.vertex < n) c.vert
 
 pub loop-vertex-preserved : goal.loop-vertex-preserved
 loop-vertex-preserved c =
-    let Is : PlacedVertex → Type 0 = IsPlaced c.args.given in
+    let Is : PlacedVertex → Type 0 = IsVertexPlaced c.args.given in
     let tasks = c.args.given.set.now.tasks in
     let graphs = graphs_given c.args.given in
     let same = rw c.graphs-graphs.ensures.graphs at c.graph-graph.ensures.graph in

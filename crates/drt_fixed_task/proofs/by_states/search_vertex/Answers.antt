@@ -6,7 +6,7 @@ use Rattle.drt_states.specs.declared.claims.TailClaim.{TailClaim}
 use Rattle.drt_busy.specs.Choice.{graph_at, task_at}
 use Rattle.drt_claims.specs.Claims.{graphs_of}
 use Rattle.drt_check_states.specs.Places.{graphs_at}
-use Rattle.drt_sp_states.specs.Answers.{IsAnswer}
+use Rattle.drt_sp_states.specs.Answers.{IsSearchedAnswer}
 use Rattle.drt_sp_states.specs.declared.search.Searched.{Searched}
 use Rattle.drt_fixed_task.specs.Higher.{higher_tasks}
 use Rattle.drt_fixed_task.specs.Tails.{AreTails}
@@ -29,5 +29,5 @@ returns g c =
     let are : AreTails c.args.given.bound gs c.args.given.tails.now = subst (λ (hs : List Digraph). AreTails c.args.given.bound hs c.args.given.tails.now) same given.tails in
     if_ok_more _ _ c.search_states.result
     (λ (x : Searched) answer. searched set.version set.tasks c.keep_limits.ensures.limits c.args.given.task c.args.vertex c.args.given.bound c.args.given.tails.now c.states_pass.ensures
-    gs s.wcet s.deadline is.graphs is.wcet is.deadline are (given.near c.args.vertex c.requires.vertex) x (subst (λ (ts : List TailClaim). IsAnswer gs ts s.wcet s.deadline x) is.tails answer))
+    gs s.wcet s.deadline is.graphs is.wcet is.deadline are (given.near c.args.vertex c.requires.vertex) x (subst (λ (ts : List TailClaim). IsSearchedAnswer gs ts s.wcet s.deadline x) is.tails answer))
     c.search_states.ensures

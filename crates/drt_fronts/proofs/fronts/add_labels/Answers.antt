@@ -8,7 +8,7 @@ use Rattle.drt_table.specs.KeptOrder.{IsKeptOf, IsNextKept, left_from}
 use Rattle.drt_table.specs.Node.{NodeOf}
 use Rattle.drt_table.specs.View.{View, setting_of, state_of}
 use Rattle.drt_table.proofs.KeptOrder.{less_left}
-use Rattle.drt_fronts.specs.Falling.{AreFalling, IsPassed}
+use Rattle.drt_fronts.specs.Falling.{AreFalling, IsEntryPassed}
 use Rattle.drt_fronts.proofs.Falling.{falling_start, falling_more, falling_end, first_stands, next_stands}
 use Rattle.drt_fronts.proofs.fronts.add_labels.Goals as goal
 
@@ -33,8 +33,8 @@ nodes-preserved c =
     let label : c.entry_of.result ≡ here.0.label =
     c.entry_of.ensures ∙ c.label.ensures ∙ ap (λ (n : NodeOf FrontEntry). n.label) (same_Some c.node.result.now.node here.0 (sym at ∙ here.1.at)) in
     let pushed : c.push.new.self.items ≡ c.nodes.front.items ++ here.0.label ∷ [] = c.in_ok-push.ensures.items ∙ ap (λ l. c.nodes.front.items ++ l ∷ []) label in
-    let old : AreFalling (setting_of v) (IsPassed nodes c.args.vertex (Some id)) c.nodes.front.items =
-    subst (λ o. AreFalling (setting_of v) (IsPassed nodes c.args.vertex o) c.nodes.front.items) c.in-Some.is c.nodes.invariant.passed in
+    let old : AreFalling (setting_of v) (IsEntryPassed nodes c.args.vertex (Some id)) c.nodes.front.items =
+    subst (λ o. AreFalling (setting_of v) (IsEntryPassed nodes c.args.vertex o) c.nodes.front.items) c.in-Some.is c.nodes.invariant.passed in
     record {
       passed = falling_more (setting_of v) c.requires.sound nodes c.requires.finished c.args.vertex id here.0 here.1 c.next_kept-next.result next c.nodes.front.items
           c.push.new.self.items pushed old;
@@ -65,5 +65,5 @@ pub returns : goal.returns
 returns c =
     let v : View FrontEntry = c.args.table.now in
     let nodes : List (NodeOf FrontEntry) = (state_of v).nodes in
-    let none = subst (λ o. AreFalling (setting_of v) (IsPassed nodes c.args.vertex o) c.nodes.front.items) c.in_default.is c.nodes.invariant.passed in
+    let none = subst (λ o. AreFalling (setting_of v) (IsEntryPassed nodes c.args.vertex o) c.nodes.front.items) c.in_default.is c.nodes.invariant.passed in
     falling_end (setting_of v) c.requires.sound nodes c.requires.finished c.args.vertex c.nodes.front.items none

@@ -1,6 +1,6 @@
 use Rattle.std.proofs.Common.{ℕ, List, Option, Some, None}
 use Rattle.std.specs.Prelude.{IfSome}
-use Rattle.drt_model.specs.Digraph.{Digraph, IsSound}
+use Rattle.drt_model.specs.Digraph.{Digraph, IsSoundGraph}
 use Rattle.drt_model.specs.declared.front.FrontEntry.{FrontEntry}
 use Rattle.drt_claims.specs.Ranges.{IsCounted}
 use Rattle.drt_merge.specs.Gathered.{IsMergedFront}
@@ -8,7 +8,7 @@ use Rattle.drt_fronts.specs.LabelFronts.{IsLabelFront}
 use Rattle.drt_fronts.proofs.WaveFronts.{wave_front_is}
 use Rattle.drt_fronts.proofs.merged.merged_front.Goals as goal
 
-label_front : (g : Digraph) (bound : ℕ) → IsSound g → (o : Option (List FrontEntry)) → IfSome o (IsMergedFront g bound) → IfSome o (IsLabelFront g bound)
+label_front : (g : Digraph) (bound : ℕ) → IsSoundGraph g → (o : Option (List FrontEntry)) → IfSome o (IsMergedFront g bound) → IfSome o (IsLabelFront g bound)
 label_front g bound sound None h = tt
 label_front g bound sound (Some front) m = wave_front_is g bound sound front m.ordered m.exact m.covers
 

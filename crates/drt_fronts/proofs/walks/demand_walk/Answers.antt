@@ -2,13 +2,13 @@ use Rattle.std.proofs.Common.{ℕ, List, Some, sym, ◌∙◌, subst}
 use Rattle.std.specs.Prelude.{Result, Ok, Err, IfOk}
 use Rattle.drt_model.specs.Digraph.{Digraph}
 use Rattle.drt_model.specs.declared.front.FrontEntry.{FrontEntry}
-use Rattle.drt_fronts.specs.DemandWalk.{IsGreatestDue, IsWalkTo}
+use Rattle.drt_fronts.specs.DemandWalk.{IsGreatestDue, IsDemandWalkTo}
 use Rattle.drt_fronts.specs.LabelFronts.{IsDemandWalk}
 use Rattle.drt_fronts.proofs.DemandWalks.{some_walk, no_walk}
 use Rattle.drt_fronts.proofs.walks.demand_walk.Goals as goal
 
 -- The walk, where there was memory for it.
-walk_if : {E : Type 0} (g : Digraph) (front : List FrontEntry) (t : ℕ) (last : FrontEntry) → IsGreatestDue g front t (Some last) → (r : Result (List ℕ) E) → IfOk r (IsWalkTo g last)
+walk_if : {E : Type 0} (g : Digraph) (front : List FrontEntry) (t : ℕ) (last : FrontEntry) → IsGreatestDue g front t (Some last) → (r : Result (List ℕ) E) → IfOk r (IsDemandWalkTo g last)
     → IfOk r (IsDemandWalk g front t)
 walk_if g front t last is (Ok walk) w = some_walk g front t last is walk w
 walk_if g front t last is (Err e) w = tt

@@ -2,7 +2,7 @@ use Rattle.std.proofs.Common.{◌+◌, ◌<◌, ◌≤◌, ◌⊎◌, inl, inr, 
 use Rattle.std.proofs.lemmas.Bool.{cases_lt}
 use Rattle.std.specs.Prelude.{Contains}
 use Rattle.drt_model.specs.declared.front.FrontEntry.{FrontEntry}
-use Rattle.drt_fronts.specs.DemandWalk.{IsPrefix}
+use Rattle.drt_fronts.specs.DemandWalk.{IsPrefixLabel}
 use Rattle.drt_fronts.proofs.Prefixes.{has_prefix, entry_vertex}
 use Rattle.drt_fronts.proofs.walks.predecessor.Goals as goal
 
@@ -15,7 +15,7 @@ prefix_of-requires-clause-ordered c = c.requires.front.1.ordered.1
 pub vertices-preserved : goal.vertices-preserved
 vertices-preserved c = λ d has p. go d has p (c.vertices.invariant d has p) (cases_lt c.vertices.u d.vertex)
   where
-    go : (d : FrontEntry) → Contains c.args.front.now d → IsPrefix c.args.graph.now d c.args.entry → c.vertices.u ≤ d.vertex → (c.vertices.u < d.vertex) ⊎ (d.vertex ≤ c.vertices.u)
+    go : (d : FrontEntry) → Contains c.args.front.now d → IsPrefixLabel c.args.graph.now d c.args.entry → c.vertices.u ≤ d.vertex → (c.vertices.u < d.vertex) ⊎ (d.vertex ≤ c.vertices.u)
         → c.vertices.u + 1 ≤ d.vertex
     go d has p l (inl m) = omega (arith, m)
     go d has p l (inr m) = absurd (c.in-None.ensures d has (omega (arith, l, m)) p)

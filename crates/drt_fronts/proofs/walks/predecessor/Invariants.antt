@@ -2,8 +2,8 @@
 use Rattle.std.proofs.Common.{◌≤◌}
 use Rattle.std.specs.Prelude.{Contains}
 use Rattle.drt_model.specs.declared.front.FrontEntry.{FrontEntry}
-use Rattle.drt_fronts.specs.DemandWalk.{IsPrefix}
+use Rattle.drt_fronts.specs.DemandWalk.{IsPrefixLabel}
 use Rattle.drt_fronts.proofs.walks.predecessor.Given as goal
 
 abbrev pub invariant-vertices : goal.invariant-vertices
-invariant-vertices l = (d : FrontEntry) → Contains l.front d → IsPrefix l.graph d l.entry → l.u ≤ d.vertex
+invariant-vertices l = (d : FrontEntry) → Contains l.front d → IsPrefixLabel l.graph d l.entry → l.u ≤ d.vertex

@@ -1,5 +1,5 @@
 use Rattle.std.proofs.Common.{◌∷◌, [], ◌++◌, sym, subst, arith}
-use Rattle.drt_merge.specs.Marks.{row, IsCovered, AreRows, AreGrown}
+use Rattle.drt_merge.specs.Marks.{row, IsCovered, AreRows, AreMarksGrown}
 use Rattle.drt_merge.proofs.Rows.{row_set, row_more, rows_set, grown_set, covers_new}
 use Rattle.drt_merge.proofs.offering.offer.Goals as goal
 
@@ -12,7 +12,7 @@ returns-in_ok-push-in-Kept-clause-rows c =
 pub returns-in_ok-push-in-Kept-clause-grown : goal.returns-in_ok-push-in-Kept-clause-grown
 returns-in_ok-push-in-Kept-clause-grown c =
     let v = c.args.vertex in let old = c.args.lists.now in let m = c.args.mark in
-    subst (AreGrown old) (sym c.in_ok-push-in-Kept.ensures) (grown_set old v m (omega (arith, c.requires.rows.count, c.requires.vertex)))
+    subst (AreMarksGrown old) (sym c.in_ok-push-in-Kept.ensures) (grown_set old v m (omega (arith, c.requires.rows.count, c.requires.vertex)))
 
 pub returns-in_ok-push-in-Kept-clause-offered : goal.returns-in_ok-push-in-Kept-clause-offered
 returns-in_ok-push-in-Kept-clause-offered c =

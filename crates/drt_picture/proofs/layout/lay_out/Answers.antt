@@ -9,8 +9,8 @@ use Rattle.drt_timeline.specs.declared.event.Event.{Event}
 use Rattle.drt_picture.specs.declared.axis.Cut.{Cut}
 use Rattle.drt_picture.specs.declared.axis.Tick.{Tick}
 use Rattle.drt_picture.specs.declared.layout.Layout.{Layout}
-use Rattle.drt_picture.specs.Layout.{IsCutMark, IsSpanOf, IsTick, arrow_of, bar_of, from_of}
-use Rattle.drt_picture.specs.Moments.{IsCut, IsWithin, moments_of}
+use Rattle.drt_picture.specs.Layout.{IsCutMark, IsSpanOf, IsAxisTick, arrow_of, bar_of, from_of}
+use Rattle.drt_picture.specs.Moments.{IsGap, IsMomentWithin, moments_of}
 use Rattle.drt_picture.proofs.LayoutLemmas.{from_in_time}
 use Rattle.drt_picture.proofs.PageLemmas.{AreGiven, given_drop, laid_out, shown_within}
 use Rattle.drt_picture.proofs.layout.lay_out.Goals as goal
@@ -34,9 +34,9 @@ scale_of-requires-clause-each c =
     } in
     let later = subst (λ (f : ℕ). All (λ e. f ≤ e.time) (drop early events)) from_is c.count_before-early.ensures.later in
     let within = shown_within hidden count until (drop hidden spans) (drop early events) (given_drop count until hidden early spans events given) later in
-    subst (λ (f : ℕ). All (IsWithin f until) (moments_of (take (length spans - hidden) (drop hidden spans)) (take (length events - early) (drop early events)) until)) (sym from_is)
-    (subst (λ (ss : List Span). All (IsWithin (from_of hidden (drop hidden spans)) until) (moments_of ss (take (length events - early) (drop early events)) until)) (sym spans_are)
-    (subst (λ (es : List Event). All (IsWithin (from_of hidden (drop hidden spans)) until) (moments_of (drop hidden spans) es until)) (sym events_are) within))
+    subst (λ (f : ℕ). All (IsMomentWithin f until) (moments_of (take (length spans - hidden) (drop hidden spans)) (take (length events - early) (drop early events)) until)) (sym from_is)
+    (subst (λ (ss : List Span). All (IsMomentWithin (from_of hidden (drop hidden spans)) until) (moments_of ss (take (length events - early) (drop early events)) until)) (sym spans_are)
+    (subst (λ (es : List Event). All (IsMomentWithin (from_of hidden (drop hidden spans)) until) (moments_of (drop hidden spans) es until)) (sym events_are) within))
 
 pub scale_of-requires-clause-ahead : goal.scale_of-requires-clause-ahead
 scale_of-requires-clause-ahead c =
@@ -66,8 +66,8 @@ returns c =
       each_event = c.requires.each_event;
       events_in_order = c.requires.events_in_order;
     } in
-    let parts = subst (λ (es : List Event). AllNeighbours (IsCut (moments_of (drop hidden spans) es until)) scale.parts) events_are
-    (subst (λ (ss : List Span). AllNeighbours (IsCut (moments_of ss (take (length events - early) (drop early events)) until)) scale.parts) spans_are c.in_ok-scale.ensures.cuts) in
+    let parts = subst (λ (es : List Event). AllNeighbours (IsGap (moments_of (drop hidden spans) es until)) scale.parts) events_are
+    (subst (λ (ss : List Span). AllNeighbours (IsGap (moments_of ss (take (length events - early) (drop early events)) until)) scale.parts) spans_are c.in_ok-scale.ensures.cuts) in
     let page : Layout = record {
       from = c.from_of-from.result;
       hidden = hidden;
@@ -92,7 +92,7 @@ returns c =
       parts = parts;
       bars = c.from_vec.ensures ∙ c.in_ok-bars.ensures ∙ ap (λ (ss : List Span). map (bar_of scale releases) ss) spans_are;
       arrows = c.from_vec-2.ensures ∙ c.in_ok-arrows.ensures ∙ ap (λ (es : List Event). map (arrow_of scale releases) es) events_are;
-      axis = subst (λ (ts : List Tick). All (IsTick scale) ts) (sym c.from_vec-3.ensures) c.in_ok-ticks.ensures;
+      axis = subst (λ (ts : List Tick). All (IsAxisTick scale) ts) (sym c.from_vec-3.ensures) c.in_ok-ticks.ensures;
       cuts = subst (λ (cs : List Cut). All (IsCutMark scale) cs) (sym c.from_vec-4.ensures) c.in_ok-cuts.ensures;
       high = subst (λ (ts : List Task). 720 + 480 * length ts ≤ c.height_of-height.result) c.tasks.ensures.tasks c.height_of-height.ensures;
     })

@@ -2,7 +2,7 @@ use Rattle.std.proofs.Common.{rules, ◌≡◌, ◌+◌, ◌<◌, length, get_or
 use Rattle.std.proofs.lemmas.List.{get_or_default}
 use Rattle.std.proofs.lemmas.List.Elements.{All-get_or}
 use Rattle.drt_picture.specs.declared.moments.Moment.{Moment}
-use Rattle.drt_picture.specs.Moments.{IsWithin}
+use Rattle.drt_picture.specs.Moments.{IsMomentWithin}
 use Rattle.drt_picture.proofs.PartLemmas.{so_far_cut, so_far_more}
 use Rattle.drt_picture.proofs.moments.parts_of.Goals as goal
 use Rattle.drt_picture.proofs.moments.parts_of.Goals.{then-is_long+in_ok-push, else-is_long}
@@ -15,7 +15,7 @@ loop-moment-preserved c =
     let m = get_or moments i nothing in
     let here : i < length moments = c.loop-moment-test.true in
     let is : (d : Moment) → m ≡ get_or moments i d = λ d. get_or_default moments i nothing d here in
-    let within : IsWithin c.args.from c.args.until m = All-get_or (IsWithin c.args.from c.args.until) moments i nothing here c.requires.each in
+    let within : IsMomentWithin c.args.from c.args.until m = All-get_or (IsMomentWithin c.args.from c.args.until) moments i nothing here c.requires.each in
     elim c.if-is_long.branch [
       | then-is_long+in_ok-push w ↦ (
           let far : (length c.loop-moment.parts.items < 16) × (c.loop-moment.reached + c.in_ok-longest.longest < m.start) = search rules in

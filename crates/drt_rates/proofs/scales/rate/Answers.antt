@@ -1,7 +1,7 @@
 use Rattle.std.proofs.Common.{◌<◌, length, arith}
 use Rattle.std.proofs.lemmas.List.{drop_all}
 use Rattle.drt_graph.proofs.Scales.{left_at, rate_cons, rate_none, term_small}
-use Rattle.drt_rates.specs.Rates.{IsSmall}
+use Rattle.drt_rates.specs.Rates.{IsSmallRatio}
 use Rattle.drt_rates.proofs.Ratings.{all_at}
 use Rattle.drt_rates.proofs.scales.rate.Goals as goal
 
@@ -12,7 +12,7 @@ ratios-preserved g c =
     let l : c.ratios.i < length c.args.ratios.now = omega arith in
     let left = left_at c.args.ratios.now c.ratios.i x l c.index-ratios-i.is in
     let total = rw (left, rate_cons) at c.ratios.invariant.total in
-    let small = all_at (λ x. IsSmall (f x)) c.args.ratios.now c.ratios.i x l c.index-ratios-i.is c.requires.small in
+    let small = all_at (λ x. IsSmallRatio (f x)) c.args.ratios.now c.ratios.i x l c.index-ratios-i.is c.requires.small in
     let term = term_small (f x).num (f x).den c.args.scale small.num (omega arith) in
     rw (c.num.ensures, c.den.ensures) (record { total = omega arith; most = omega arith })
 

@@ -1,7 +1,7 @@
 use Rattle.std.proofs.Common.{◌<◌, ◌+◌, length, take, arith}
 use Rattle.drt_num.specs.Multiple.{IsLcm}
 use Rattle.drt_graph.proofs.Scales.{done_at, scale_none, scale_push, scale_far}
-use Rattle.drt_rates.specs.Rates.{IsSmall}
+use Rattle.drt_rates.specs.Rates.{IsSmallRatio}
 use Rattle.drt_rates.proofs.Ratings.{all_at, scale_exists}
 use Rattle.drt_rates.proofs.scales.scale.Goals as goal
 
@@ -14,7 +14,7 @@ returns-in_default g c =
     let x = c.index-ratios-i.result in
     let l : c.ratios.i < length c.args.ratios.now = omega arith in
     let e = done_at c.args.ratios.now c.ratios.i x l c.index-ratios-i.is in
-    let small = all_at (λ x. IsSmall (f x)) c.args.ratios.now c.ratios.i x l c.index-ratios-i.is c.requires in
+    let small = all_at (λ x. IsSmallRatio (f x)) c.args.ratios.now c.ratios.i x l c.index-ratios-i.is c.requires in
     let far = c.in_default.ensures in
     let is : IsLcm c.ratios.common (f x).den far.0 = rw c.den-den.ensures at far.1 in
     let whole = scale_exists f c.args.ratios.now c.requires in
@@ -28,7 +28,7 @@ ratios-preserved g c =
     let x = c.index-ratios-i.result in
     let l : c.ratios.i < length c.args.ratios.now = omega arith in
     let e = done_at c.args.ratios.now c.ratios.i x l c.index-ratios-i.is in
-    let small = all_at (λ x. IsSmall (f x)) c.args.ratios.now c.ratios.i x l c.index-ratios-i.is c.requires in
+    let small = all_at (λ x. IsSmallRatio (f x)) c.args.ratios.now c.ratios.i x l c.index-ratios-i.is c.requires in
     let is : IsLcm c.ratios.common (f x).den c.in-Some.next = rw c.den-den.ensures at c.in-Some.ensures.0 in
     record {
       scale = rw e (scale_push f (take c.ratios.i c.args.ratios.now) x c.ratios.common c.in-Some.next c.ratios.invariant.scale small.some is);

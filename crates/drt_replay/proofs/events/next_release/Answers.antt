@@ -2,7 +2,7 @@ use Rattle.std.proofs.Common.{inl, inr, ◌<◌, ◌≤◌, sym, subst, arith}
 use Rattle.std.proofs.lemmas.Bool.{cases_eq}
 use Rattle.std.proofs.lemmas.List.Elements.{All-from_get_or, All-get_or}
 use Rattle.drt_model.specs.Trace.{job_at}
-use Rattle.drt_replay.specs.Events.{IsFrom, IsLater, stretch_at}
+use Rattle.drt_replay.specs.Events.{IsStretchFrom, IsLater, stretch_at}
 use Rattle.drt_replay.proofs.Stretches.{no_stretch}
 use Rattle.drt_replay.proofs.events.next_release.Goals as goal
 use Rattle.drt_replay.proofs.events.next_release.Goals.{then-stretch, else-stretch}
@@ -33,4 +33,4 @@ loop-stretch-preserved c =
     ]
 
 pub returns-clause-calm : goal.returns-clause-calm
-returns-clause-calm c = All-from_get_or (IsFrom c.args.jobs.now c.loop-stretch.next) c.args.waiting.now no_stretch (λ k h. c.loop-stretch.invariant.calm k (omega arith))
+returns-clause-calm c = All-from_get_or (IsStretchFrom c.args.jobs.now c.loop-stretch.next) c.args.waiting.now no_stretch (λ k h. c.loop-stretch.invariant.calm k (omega arith))

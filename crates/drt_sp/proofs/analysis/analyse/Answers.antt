@@ -5,7 +5,7 @@ use Rattle.drt_model.specs.declared.tasks.Task.{Task}
 use Rattle.drt_choices.specs.Choices.{IsOrder}
 use Rattle.drt_claims.specs.Claims.{graphs_of}
 use Rattle.drt_claims.specs.Trees.{greatest_deadline}
-use Rattle.drt_sp.specs.Progress.{AreGrown, AreProved}
+use Rattle.drt_sp.specs.Progress.{AreTreesGrown, AreProved}
 use Rattle.drt_sp.specs.Searches.{IsEndAt}
 use Rattle.drt_sp.proofs.Orders.{order_count}
 use Rattle.drt_sp.proofs.analysis.analyse.Goals as goal
@@ -36,8 +36,8 @@ returns-in-None g c =
     let is : IsOrder tasks order = c.requires in
     let e : c.places.place ≡ length order - 1 = omega (arith, c.places-test.false, c.places.auto.place-end) in
     let whole : (length order - 1) + 1 ≡ length order = omega (arith, order_count tasks order is, c.tasks-tasks.ensures.limits.has_task) in
-    let grown : AreGrown tasks order (length order - 1) c.places.progress.forest c.places.progress.roots.items c.places.progress.trees.items
-    = subst (λ (n : ℕ). AreGrown tasks order n c.places.progress.forest c.places.progress.roots.items c.places.progress.trees.items) e c.places.invariant.grown in
+    let grown : AreTreesGrown tasks order (length order - 1) c.places.progress.forest c.places.progress.roots.items c.places.progress.trees.items
+    = subst (λ (n : ℕ). AreTreesGrown tasks order n c.places.progress.forest c.places.progress.roots.items c.places.progress.trees.items) e c.places.invariant.grown in
     let proved : AreProved tasks order ((length order - 1) + 1) c.prove_task-2.new.self.trees.items c.prove_task-2.new.self.proofs.items = rw c.in-None.is at c.in_ok-answer-3.ensures.decided in
     record {
       order_is = is;

@@ -6,7 +6,7 @@ use Rattle.std.proofs.lemmas.Option.{slice_get_within}
 use Rattle.drt_worklist.proofs.Lists.{get_within}
 use Rattle.drt_claims.specs.declared.evidence.Item.{Item}
 use Rattle.drt_refine.specs.Combination.{Combination}
-use Rattle.drt_refine.specs.Machine.{State}
+use Rattle.drt_refine.specs.Machine.{FrontierState}
 use Rattle.drt_refine.specs.Settled.{AreSettled}
 use Rattle.drt_refine.specs.View.{setting_of}
 use Rattle.std.proofs.lemmas.Option.{IfSome_then}
@@ -21,7 +21,7 @@ loop-init c =
     let t = setting_of c.args.forest.now c.args.frontier.now in
     let cs = c.args.frontier.now.combinations in
     let law = c.eager_settles.ensures.settled t c.args.frontier.now.log c.requires.frontier.run c.requires.eager in
-    let settled : AreSettled t cs = subst (λ (s : State). AreSettled t s.combinations) (sym c.requires.frontier.state) law in
+    let settled : AreSettled t cs = subst (λ (s : FrontierState). AreSettled t s.combinations) (sym c.requires.frontier.state) law in
     let some : 0 < length cs = slice_get_within cs 0 settled.opening.combination settled.opening.at in
     let stack : c.push.new.self.items ≡ 0 ∷ [] = c.in_ok-push.ensures.items ∙ ap (λ (l : List ℕ). l ++ 0 ∷ []) c.new-stack.ensures.items in
     record {
@@ -67,7 +67,7 @@ loop-preserved c =
     let t = setting_of c.args.forest.now c.args.frontier.now in
     let cs = c.args.frontier.now.combinations in
     let law = c.eager_settles.ensures.settled t c.args.frontier.now.log c.requires.frontier.run c.requires.eager in
-    let settled : AreSettled t cs = subst (λ (s : State). AreSettled t s.combinations) (sym c.requires.frontier.state) law in
+    let settled : AreSettled t cs = subst (λ (s : FrontierState). AreSettled t s.combinations) (sym c.requires.frontier.state) law in
     let two = All-pop (λ n. n < length cs) c.loop.stack.items c.pop.new.self.items c.pop.result c.pop.ensures.items c.loop.invariant.within in
     let lt : c.in-Some.id < length cs = rw c.in-Some.is at two.1 in
     let x : (x : Combination) × (slice_get cs c.in-Some.id ≡ Some x) = get_within cs c.in-Some.id lt in

@@ -4,7 +4,7 @@ use Rattle.std.specs.Prelude.{slice_index_or, slice_set}
 use Rattle.std.proofs.lemmas.Option.{get_or_from_slice_get, none-some, slice_get_within}
 use Rattle.drt_tree.specs.Tree.{children}
 use Rattle.drt_refine.specs.Below.{AreNodes}
-use Rattle.drt_refine.specs.Eager.{IsPlace}
+use Rattle.drt_refine.specs.Eager.{IsSplitPlace}
 use Rattle.drt_refine.proofs.Below.{child_within, chosen_nodes}
 use Rattle.drt_sp.proofs.Joining.{next_pass, next_split}
 use Rattle.drt_sp.proofs.parts.take_next.Goals as goal
@@ -60,7 +60,7 @@ returns c =
     let seen = c.as_slice-combination.result.now in
     let nodes = c.args.nodes in
     let same : seen ≡ nodes = c.as_slice-combination.ensures in
-    let h : IsPlace f nodes (Some place) = subst (λ (l : List ℕ). IsPlace f l (Some place)) same c.in-Some-choose_place.ensures in
+    let h : IsSplitPlace f nodes (Some place) = subst (λ (l : List ℕ). IsSplitPlace f l (Some place)) same c.in-Some-choose_place.ensures in
     let e : slice_index_or seen place 0 ≡ h.0.node = ap (λ (l : List ℕ). slice_index_or l place 0) same ∙ get_or_from_slice_get nodes place h.0.node 0 h.0.at in
     let within : place < length nodes = slice_get_within nodes place h.0.node h.0.at in
     let pair : children f h.0.node ≡ Some (c.in-Some-children.left, c.in-Some-children.right) = ap (λ (n : ℕ). children f n) (sym e) ∙ sym c.in-Some-children.ensures.value in

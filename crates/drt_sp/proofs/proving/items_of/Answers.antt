@@ -5,7 +5,7 @@ use Rattle.std.proofs.lemmas.Option.{slice_get_within}
 use Rattle.drt_claims.specs.Ranges.{IsInRangeItem}
 use Rattle.drt_claims.specs.declared.evidence.Item.{Item}
 use Rattle.drt_refine.specs.Combination.{Combination}
-use Rattle.drt_refine.specs.Machine.{State, is_finished}
+use Rattle.drt_refine.specs.Machine.{FrontierState, is_finished}
 use Rattle.drt_refine.specs.Settled.{AreSettled}
 use Rattle.drt_refine.specs.View.{setting_of}
 use Rattle.drt_sp.specs.Items.{AreItems}
@@ -20,7 +20,7 @@ loop-id-init c =
     let t = setting_of c.args.forest.now c.args.frontier.now in
     let cs = c.args.frontier.now.combinations in
     let law = c.eager_settles.ensures.settled t c.args.frontier.now.log c.requires.frontier.run c.requires.eager in
-    let settled : AreSettled t cs = subst (λ (s : State). AreSettled t s.combinations) (sym c.requires.frontier.state) law in
+    let settled : AreSettled t cs = subst (λ (s : FrontierState). AreSettled t s.combinations) (sym c.requires.frontier.state) law in
     let some : 1 ≤ length cs = slice_get_within cs 0 settled.opening.combination settled.opening.at in
     let stack : c.push.new.self.items ≡ 0 ∷ [] = c.in_ok-push.ensures.items ∙ ap (λ (l : List ℕ). l ++ 0 ∷ []) c.new-stack.ensures.items in
     subst (λ (l : List Item). IsReading t.forest t.wcet t.deadline t.roots cs l c.push.new.self.items) (sym c.in_ok-items.ensures.items)
@@ -33,8 +33,8 @@ take_item-requires-clause-within c =
 pub take_item-requires-clause-done : goal.take_item-requires-clause-done
 take_item-requires-clause-done c x at =
     let t = setting_of c.args.forest.now c.args.frontier.now in
-    c.eager_settles.ensures.finished t c.args.frontier.now.log (subst (λ (s : State). IsTrue (is_finished t s)) c.requires.frontier.state c.requires.finished) c.in-Some.id x
-    (subst (λ (s : State). slice_get s.combinations c.in-Some.id ≡ Some x) c.requires.frontier.state at)
+    c.eager_settles.ensures.finished t c.args.frontier.now.log (subst (λ (s : FrontierState). IsTrue (is_finished t s)) c.requires.frontier.state c.requires.finished) c.in-Some.id x
+    (subst (λ (s : FrontierState). slice_get s.combinations c.in-Some.id ≡ Some x) c.requires.frontier.state at)
 
 pub loop-id-smaller : goal.loop-id-smaller
 loop-id-smaller c =
@@ -49,7 +49,7 @@ loop-id-preserved c =
     let t = setting_of c.args.forest.now c.args.frontier.now in
     let cs = c.args.frontier.now.combinations in
     let law = c.eager_settles.ensures.settled t c.args.frontier.now.log c.requires.frontier.run c.requires.eager in
-    let settled : AreSettled t cs = subst (λ (s : State). AreSettled t s.combinations) (sym c.requires.frontier.state) law in
+    let settled : AreSettled t cs = subst (λ (s : FrontierState). AreSettled t s.combinations) (sym c.requires.frontier.state) law in
     let lt : c.in-Some.id < length cs = top cs c.loop-id.stack.items c.pop.new.self.items c.in-Some.id (length c.loop-id.items.items) c.in-Some.ensures.items c.loop-id.invariant.visit in
     let x : (x : Combination) × (slice_get cs c.in-Some.id ≡ Some x) = get_within cs c.in-Some.id lt in
     let before : IsReading t.forest t.wcet t.deadline t.roots cs c.loop-id.items.items (c.pop.new.self.items ++ c.in-Some.id ∷ [])

@@ -5,7 +5,7 @@ use Rattle.drt_model.specs.declared.tasks.Task.{Task}
 use Rattle.drt_busy.specs.Choice.{graph_at}
 use Rattle.drt_claims.specs.Trees.{greatest_deadline}
 use Rattle.drt_sp.specs.TaskTrees.{IsTaskTree}
-use Rattle.drt_sp.specs.TreeClaims.{IsSpentSearch}
+use Rattle.drt_sp.specs.TreeClaims.{IsSpentWalkSearch}
 use Rattle.drt_sp.proofs.Enough.{search_below}
 use Rattle.drt_sp.proofs.Orders.{order_below}
 use Rattle.drt_sp.proofs.Passing.{at_place}
@@ -52,7 +52,7 @@ returns-in-Spent g c =
     let graph : c.graph.result.now ≡ graph_at tasks k = graph_here given c.requires.order c.graphs-graphs.ensures.graphs k below c.graph.ensures.graph in
     let latest : c.from.result ≡ greatest_deadline tasks
     = c.from.ensures ∙ (c.greatest_deadline.ensures.value ∙ ap (λ (s : Contents). greatest_deadline s.tasks) c.set.ensures.set) in
-    let spent : IsSpentSearch (graph_at tasks k) (greatest_deadline tasks) c.args.crew.now.effort.budget c.in-Spent.log
+    let spent : IsSpentWalkSearch (graph_at tasks k) (greatest_deadline tasks) c.args.crew.now.effort.budget c.in-Spent.log
     = rw (c.in-Spent.is, graph, latest) at c.in_ok-tree.ensures in
     let laws = c.over_every_interleaving.ensures in (
       at,

@@ -1,6 +1,6 @@
 use Rattle.std.proofs.Common.{arith}
 use Rattle.std.proofs.lemmas.Option.{slice_get_within}
-use Rattle.drt_sp_task.specs.Trees.{IsSpentAt}
+use Rattle.drt_sp_task.specs.Trees.{IsSpentAtPlace}
 use Rattle.drt_sp_task.proofs.Above.{none_yet, spent_above, task_place}
 use Rattle.drt_sp_task.proofs.trees.grow_trees.Goals as goal
 
@@ -16,6 +16,6 @@ add_tree-requires-clause-here g c κs within =
 
 pub returns-in-Some : goal.returns-in-Some
 returns-in-Some g c =
-    let spent : IsSpentAt c.args.given c.args.crew.now.effort.budget c.places.place c.in-Some.trail = rw c.in-Some.is at c.in_ok-trail.ensures in
+    let spent : IsSpentAtPlace c.args.given c.args.crew.now.effort.budget c.places.place c.in-Some.trail = rw c.in-Some.is at c.in_ok-trail.ensures in
     spent_above c.args.given c.requires.order c.args.crew.now.effort.budget c.args.task c.places.place c.place_of-end.result c.places-test.true c.place_of-end.ensures
     c.in-Some.trail spent

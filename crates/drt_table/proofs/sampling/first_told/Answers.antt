@@ -1,8 +1,8 @@
 use Rattle.std.proofs.Common.{◌≡◌, ◌<◌, ◌≤◌, ℕ, Some, List, length, refl, sym, ap, ◌∙◌, subst, arith}
 use Rattle.std.specs.Prelude.{slice_get}
 use Rattle.std.proofs.lemmas.Option.{slice_get_read}
-use Rattle.drt_columns.specs.Entries.{Entry, AreBelow}
-use Rattle.drt_columns.specs.Seeking.{IsFound, remaining}
+use Rattle.drt_columns.specs.Entries.{KeptLabel, AreRuledOut}
+use Rattle.drt_columns.specs.Seeking.{IsFoundLabel, remaining}
 use Rattle.drt_table.specs.Node.{Held}
 use Rattle.drt_table.specs.Sampled.{labels_of, sampled_from}
 use Rattle.drt_table.proofs.Telling.{look_found, seek_first, told_first, told_end, found_within, found_less, found_seek, found_first, found_more}
@@ -34,7 +34,7 @@ offset_bounds-nodes-number g c =
     let shelf = c.args.columns.now in
     let of = c.requires.of in
     let before = c.loop-number.invariant in
-    let rest : List Entry = remaining shelf c.loop-number.seek in
+    let rest : List KeptLabel = remaining shelf c.loop-number.seek in
     let found = look_found shelf c.next.new.seek (a.samples l) rest c.next.result c.in-Some.number (c.next.ensures (a.samples l) rest before.seek) c.in-Some.is in
     less_le c.in-Some.number (length c.args.nodes.now) (found_within a laws l nodes of.0 of.1 of.2 shelf c.next.new.seek rest c.in-Some.number before.told found)
 
@@ -47,7 +47,7 @@ bounds-nodes-number g c =
     let shelf = c.args.columns.now in
     let of = c.requires.of in
     let before = c.loop-number.invariant in
-    let rest : List Entry = remaining shelf c.loop-number.seek in
+    let rest : List KeptLabel = remaining shelf c.loop-number.seek in
     let found = look_found shelf c.next.new.seek (a.samples l) rest c.next.result c.in-Some.number (c.next.ensures (a.samples l) rest before.seek) c.in-Some.is in
     found_within a laws l nodes of.0 of.1 of.2 shelf c.next.new.seek rest c.in-Some.number before.told found
 
@@ -60,7 +60,7 @@ is_above-requires-after_bounds g c κs within =
     let shelf = c.args.columns.now in
     let of = c.requires.of in
     let before = c.loop-number.invariant in
-    let rest : List Entry = remaining shelf c.loop-number.seek in
+    let rest : List KeptLabel = remaining shelf c.loop-number.seek in
     let found = look_found shelf c.next.new.seek (a.samples l) rest c.next.result c.in-Some.number (c.next.ensures (a.samples l) rest before.seek) c.in-Some.is in
     let lt : c.in-Some.number < length nodes = found_within a laws l nodes of.0 of.1 of.2 shelf c.next.new.seek rest c.in-Some.number before.told found in
     let x : Held _ = c.index-nodes-number.result in
@@ -76,7 +76,7 @@ returns-then-is_above g c =
     let shelf = c.args.columns.now in
     let of = c.requires.of in
     let before = c.loop-number.invariant in
-    let rest : List Entry = remaining shelf c.loop-number.seek in
+    let rest : List KeptLabel = remaining shelf c.loop-number.seek in
     let found = look_found shelf c.next.new.seek (a.samples l) rest c.next.result c.in-Some.number (c.next.ensures (a.samples l) rest before.seek) c.in-Some.is in
     let lt : c.in-Some.number < length nodes = found_within a laws l nodes of.0 of.1 of.2 shelf c.next.new.seek rest c.in-Some.number before.told found in
     let x : Held _ = c.index-nodes-number.result in
@@ -92,7 +92,7 @@ loop-number-smaller g c =
     let shelf = c.args.columns.now in
     let of = c.requires.of in
     let before = c.loop-number.invariant in
-    let rest : List Entry = remaining shelf c.loop-number.seek in
+    let rest : List KeptLabel = remaining shelf c.loop-number.seek in
     let found = look_found shelf c.next.new.seek (a.samples l) rest c.next.result c.in-Some.number (c.next.ensures (a.samples l) rest before.seek) c.in-Some.is in
     found_less a laws l nodes of.0 of.1 of.2 shelf c.next.new.seek rest c.in-Some.number before.told found
 
@@ -105,7 +105,7 @@ loop-number-preserved g c =
     let shelf = c.args.columns.now in
     let of = c.requires.of in
     let before = c.loop-number.invariant in
-    let rest : List Entry = remaining shelf c.loop-number.seek in
+    let rest : List KeptLabel = remaining shelf c.loop-number.seek in
     let found = look_found shelf c.next.new.seek (a.samples l) rest c.next.result c.in-Some.number (c.next.ensures (a.samples l) rest before.seek) c.in-Some.is in
     let lt : c.in-Some.number < length nodes = found_within a laws l nodes of.0 of.1 of.2 shelf c.next.new.seek rest c.in-Some.number before.told found in
     let x : Held _ = c.index-nodes-number.result in
@@ -124,6 +124,6 @@ returns g c =
     let shelf = c.args.columns.now in
     let of = c.requires.of in
     let before = c.loop-number.invariant in
-    let rest : List Entry = remaining shelf c.loop-number.seek in
-    let below : AreBelow (a.samples l) rest = subst (λ o. IsFound shelf c.next.new.seek (a.samples l) rest o) c.in_default.is (c.next.ensures (a.samples l) rest before.seek) in
+    let rest : List KeptLabel = remaining shelf c.loop-number.seek in
+    let below : AreRuledOut (a.samples l) rest = subst (λ o. IsFoundLabel shelf c.next.new.seek (a.samples l) rest o) c.in_default.is (c.next.ensures (a.samples l) rest before.seek) in
     told_end a laws l nodes of.0 of.1 of.2 rest before.told below

@@ -3,7 +3,7 @@ use Rattle.std.proofs.Common.{◌≡◌, ℕ, ◌<◌, ◌≤◌, Some, length, 
 use Rattle.drt_model.specs.Trace.{pick}
 use Rattle.drt_model.proofs.MachineLemmas.{in_range, pick_pending}
 use Rattle.drt_replay.specs.Board.{Shown}
-use Rattle.drt_timeline.specs.Joining.{IsGrown}
+use Rattle.drt_timeline.specs.Joining.{IsSpanGrown}
 use Rattle.drt_timeline.specs.Spans.{AreSpans}
 use Rattle.drt_timeline.proofs.SpanLemmas.{spans_grown}
 use Rattle.drt_timeline.proofs.running.spans_of.Goals as goal
@@ -20,9 +20,9 @@ loop-board-preserved-in-Continue-1 c =
     let forward : b.ticks < m = c.in-Some.ensures.forward in
     let ran : (i : ℕ) → b.ticks ≤ i → i < m → pick b.policy b.jobs i ≡ Some j = c.in-Some.ensures.ran in
     let here : j < length b.jobs = in_range b.policy b.jobs b.ticks j (pick_pending b.policy b.jobs b.ticks j (ran b.ticks (omega arith) forward)) in
-    let grown : IsGrown spans (record { start = b.ticks; end = m; job = j }) new
-    = subst (λ e. IsGrown spans (record { start = b.ticks; end = e; job = j }) new) c.ticks-end.ensures
-    (subst (λ s. IsGrown spans (record { start = s; end = c.ticks-end.result; job = j }) new) c.ticks-start.ensures c.in_ok-push_span.ensures) in
+    let grown : IsSpanGrown spans (record { start = b.ticks; end = m; job = j }) new
+    = subst (λ e. IsSpanGrown spans (record { start = b.ticks; end = e; job = j }) new) c.ticks-end.ensures
+    (subst (λ s. IsSpanGrown spans (record { start = s; end = c.ticks-end.result; job = j }) new) c.ticks-start.ensures c.in_ok-push_span.ensures) in
     let are = spans_grown b.policy b.jobs b.ticks m j forward here ran spans c.loop-board.invariant.spans new grown in
     record {
       policy = ap (λ (s : Shown). s.policy) kept ∙ c.loop-board.invariant.policy;

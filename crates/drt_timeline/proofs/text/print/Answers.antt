@@ -2,7 +2,7 @@
 use Rattle.std.proofs.Common.{◌≡◌, [], ◌∷◌, ◌++◌, ap, ◌∙◌}
 use Rattle.std.specs.Prelude.{codes}
 use Rattle.drt_file.specs.trusted.Canonical.{written}
-use Rattle.drt_timeline.specs.Names.{Named}
+use Rattle.drt_timeline.specs.Names.{JobNames}
 use Rattle.drt_timeline.specs.Text.{head_lines, timeline_lines}
 use Rattle.drt_timeline.proofs.PrintLemmas.{framed}
 use Rattle.drt_timeline.proofs.text.print.Goals as goal
@@ -15,7 +15,7 @@ returns c =
     let spans = c.as_slice.result.now in
     let events = c.as_slice-2.result.now in
     let named : timeline_lines c.in_ok-names.names.tasks c.in_ok-names.names.releases spans events ≡ timeline_lines tasks rs timeline.spans timeline.events
-    = ap (λ (n : Named). timeline_lines n.tasks n.releases spans events) c.in_ok-names.ensures
+    = ap (λ (n : JobNames). timeline_lines n.tasks n.releases spans events) c.in_ok-names.ensures
     ∙ ap (λ ts. timeline_lines ts rs spans events) c.tasks.ensures.tasks
     ∙ ap (λ xs. timeline_lines tasks rs xs events) c.as_slice.ensures
     ∙ ap (λ xs. timeline_lines tasks rs timeline.spans xs) c.as_slice-2.ensures in

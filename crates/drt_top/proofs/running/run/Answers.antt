@@ -4,7 +4,7 @@ use Rattle.std.proofs.lemmas.Option.{same_Some}
 use Rattle.drt_outcome.specs.declared.outcome.Outcome.{Outcome}
 use Rattle.drt_outcome.specs.declared.stop.Stop.TheVariants as stops
 use Rattle.drt_command.specs.Inputs.{AtInput}
-use Rattle.drt_command.specs.Runs.{IsComplete}
+use Rattle.drt_command.specs.Runs.{IsCompleteRun}
 use Rattle.drt_outcome.specs.Stops.{IsStatus}
 use Rattle.drt_command.proofs.Ends.{memory_complete, stop_known}
 use Rattle.drt_top.specs.commands.{rules_of}
@@ -18,7 +18,7 @@ returns-in-Err-Memory-clause-known g c = subst (λ (o : Outcome). IsStatus o.sta
 
 pub returns-in-Err-Memory-clause-complete : goal.returns-in-Err-Memory-clause-complete
 returns-in-Err-Memory-clause-complete g c = λ m _ _ _.
-    subst (λ (o : Outcome). AtInput (rules_of m).input (g.S.Source.left c.args.source.now) (λ b. IsComplete (rules_of m) b o.status o.fault)) (sym c.outcome_of-in-Err-Memory.ensures)
+    subst (λ (o : Outcome). AtInput (rules_of m).input (g.S.Source.left c.args.source.now) (λ b. IsCompleteRun (rules_of m) b o.status o.fault)) (sym c.outcome_of-in-Err-Memory.ensures)
     (memory_complete (rules_of m) (g.S.Source.left c.args.source.now))
 
 pub returns-in-Ok-clause-refused : goal.returns-in-Ok-clause-refused

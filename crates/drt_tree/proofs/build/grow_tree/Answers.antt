@@ -4,7 +4,7 @@ use Rattle.std.proofs.lemmas.List.Sorted.{length_permutation}
 use Rattle.drt_tree.specs.declared.leaf.Leaf.{Leaf}
 use Rattle.drt_tree.specs.Leaf.{leaves_of}
 use Rattle.drt_tree.specs.Tree.{Plain, plain, IsForest, with_leaves, children}
-use Rattle.drt_tree.specs.Shape.{IsBuilt, IsAdded}
+use Rattle.drt_tree.specs.Shape.{IsBuilt, IsTreeAdded}
 use Rattle.drt_tree.proofs.Trees.{grows_none, with_forest, with_long, one_bound, leaf_none, length-leaves_of, plain_is, added, if_ok_more}
 use Rattle.drt_tree.proofs.build.grow_tree.Goals as goal
 
@@ -76,5 +76,5 @@ returns-clause-added c =
     let a : length sorted ≡ length ls = length_permutation ls sorted perm in
     let n : length c.sort_leaves.new.leaves.items ≡ c.len-count.result = search rules in
     let m : length c.args.nodes.now.items ≡ c.len-low.result = search rules in
-    if_ok_more (λ root. IsBuilt p g c.len-low.result c.len-count.result root) (λ root. IsAdded f g ls root) c.build.result
+    if_ok_more (λ root. IsBuilt p g c.len-low.result c.len-count.result root) (λ root. IsTreeAdded f g ls root) c.build.result
     (λ root b. added f p g ls sorted c.len-low.result c.len-count.result root e perm c.in_ok-sort_leaves.ensures.sorted (sym m) (sym n ∙ a) c.build.ensures.grows b) c.build.ensures.built

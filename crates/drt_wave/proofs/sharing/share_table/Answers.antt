@@ -2,11 +2,11 @@ use Rattle.std.proofs.Common.{subst}
 use Rattle.std.specs.Prelude.{IfSome}
 use Rattle.drt_wave.specs.declared.table.WaveTable.{WaveTable}
 use Rattle.drt_wave.specs.Cells.{net_of}
-use Rattle.drt_wave.specs.Seats.{KnowsTo, IsOf}
+use Rattle.drt_wave.specs.Seats.{KnowsTo, IsOfTable}
 use Rattle.drt_wave.proofs.sharing.share_table.Goals as goal
 
 pub returns-clause-seat : goal.returns-clause-seat
-returns-clause-seat g c = subst (λ (t : WaveTable). IfSome c.into_seat.result (λ seat. IsOf t seat)) c.in_ok-desk.ensures c.into_seat.ensures.seat
+returns-clause-seat g c = subst (λ (t : WaveTable). IfSome c.into_seat.result (λ seat. IsOfTable t seat)) c.in_ok-desk.ensures c.into_seat.ensures.seat
 
 pub returns-clause-known : goal.returns-clause-known
 returns-clause-known g c =

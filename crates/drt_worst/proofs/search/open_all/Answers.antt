@@ -5,7 +5,7 @@ use Rattle.drt_word.specs.Rising.{fresh, split_left}
 use Rattle.drt_word.specs.declared.view.View.{View}
 use Rattle.drt_worst.specs.Passing.{search_of}
 use Rattle.drt_pool.specs.Turns.{EachPlace}
-use Rattle.drt_worst.specs.Jobs.{IsOpened}
+use Rattle.drt_worst.specs.Jobs.{IsPassOpened}
 use Rattle.drt_worst.specs.declared.pass.Pass.{Pass}
 use Rattle.drt_worst.proofs.Ends.{parts_at, each_push}
 use Rattle.drt_worst.proofs.search.open_all.Goals as goal
@@ -22,13 +22,13 @@ loop-i-preserved c =
     let p : Pass = c.in_ok-open_one.field-0 in
     let start : slice_get c.args.dealt.now (length c.loop-i.passes.items) ≡ Some p.start
     = ap (λ k. slice_get c.args.dealt.now k) c.loop-i.invariant.2 ∙ (at ∙ ap (λ (z : List ℕ). Some z) (sym c.in_ok-open_one.ensures.new.2)) in
-    let opened : IsOpened c.args.word.now c.args.dealt.now c.args.told (length c.loop-i.passes.items) p
+    let opened : IsPassOpened c.args.word.now c.args.dealt.now c.args.told (length c.loop-i.passes.items) p
     = (c.in_ok-open_one.ensures.seat, c.in_ok-open_one.ensures.runs, c.in_ok-open_one.ensures.new.0, c.in_ok-open_one.ensures.new.1, start, c.in_ok-open_one.ensures.new.3) in
     let view : c.open_one.new.owner.me.0 ≡ split_left (fresh (1024 - c.loop-i.i)) = ap (λ m. m.0) c.in_ok-open_one.ensures.owner ∙ ap (λ (v : View). split_left v) c.loop-i.invariant.1 in
     let less : (1024 - c.loop-i.i) - 1 ≡ 1024 - (c.loop-i.i + 1) = omega arith in (
       c.open_one.ensures.name ∙ c.loop-i.invariant.0,
       view ∙ ap (λ k. fresh k) less,
       search (rules, c.loop-i.invariant.2),
-      subst (λ (z : List Pass). EachPlace (IsOpened c.args.word.now c.args.dealt.now c.args.told) z) (sym c.in_ok-push.ensures.items)
-          (each_push (IsOpened c.args.word.now c.args.dealt.now c.args.told) c.loop-i.passes.items p c.loop-i.invariant.3 opened),
+      subst (λ (z : List Pass). EachPlace (IsPassOpened c.args.word.now c.args.dealt.now c.args.told) z) (sym c.in_ok-push.ensures.items)
+          (each_push (IsPassOpened c.args.word.now c.args.dealt.now c.args.told) c.loop-i.passes.items p c.loop-i.invariant.3 opened),
     )

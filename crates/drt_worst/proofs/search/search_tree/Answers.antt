@@ -5,7 +5,7 @@ use Rattle.drt_worst.specs.Runs.{AreDealt}
 use Rattle.drt_worst.specs.Subjects.{search_over}
 use Rattle.drt_worst.specs.Passing.{search_of}
 use Rattle.drt_pool.specs.Turns.{EachPlace}
-use Rattle.drt_worst.specs.Jobs.{IsOpened, IsHaltedOf}
+use Rattle.drt_worst.specs.Jobs.{IsPassOpened, IsHaltedOf}
 use Rattle.drt_worst.specs.declared.pass.Pass.{Pass}
 use Rattle.drt_worst.proofs.Wholes.{whole}
 use Rattle.drt_worst.proofs.search.search_tree.Goals as goal
@@ -14,8 +14,8 @@ pub run_passes-requires-clause-passes : goal.run_passes-requires-clause-passes
 run_passes-requires-clause-passes g c κs within =
     let w = c.in_ok-word.word in
     let same : c.as_slice.result.now ≡ c.as_slice-2.result.now = c.as_slice.ensures.value ∙ sym c.as_slice-2.ensures.value in
-    subst (λ (xs : List (List ℕ)). EachPlace (IsOpened w xs c.args.told) c.as_mut_slice.result.now) same
-    (subst (λ (ps : List Pass). EachPlace (IsOpened w c.as_slice.result.now c.args.told) ps) (sym c.as_mut_slice.ensures.value) c.in_ok-passes.ensures.passes.1)
+    subst (λ (xs : List (List ℕ)). EachPlace (IsPassOpened w xs c.args.told) c.as_mut_slice.result.now) same
+    (subst (λ (ps : List Pass). EachPlace (IsPassOpened w c.as_slice.result.now c.args.told) ps) (sym c.as_mut_slice.ensures.value) c.in_ok-passes.ensures.passes.1)
 
 pub finish-requires-clause-passes : goal.finish-requires-clause-passes
 finish-requires-clause-passes g c =

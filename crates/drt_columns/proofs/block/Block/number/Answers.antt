@@ -1,5 +1,5 @@
 use Rattle.std.proofs.Common.{◌≡◌, ◌<◌, length, arith, ap, rules}
-use Rattle.drt_columns.specs.Entries.{Entry}
+use Rattle.drt_columns.specs.Entries.{KeptLabel}
 use Rattle.drt_columns.specs.Slots.{first_entries}
 use Rattle.drt_columns.proofs.Masks.{entry_found}
 use Rattle.drt_columns.proofs.Slots.{entries_many}
@@ -19,4 +19,4 @@ bounds-numbers-slot c =
     omega (arith, c.self.invariant.0)
 
 pub returns : goal.returns
-returns c e at = ap (λ (x : Entry). x.number) (entry_found c.self.inside.numbers c.self.inside.columns c.self.inside.count c.args.slot e (rw c.self.view_is at))
+returns c e at = ap (λ (x : KeptLabel). x.number) (entry_found c.self.inside.numbers c.self.inside.columns c.self.inside.count c.args.slot e (rw c.self.view_is at))

@@ -1,7 +1,7 @@
 use Rattle.std.proofs.Common.{◌≡◌, ◌<◌, ◌≤◌, ◌∙◌, Some, [], length, get_or, arith, refl, sym, ap}
 use Rattle.std.specs.Prelude.{slice_get}
 use Rattle.std.proofs.lemmas.Option.{slice_get-get_or, slice_get_read}
-use Rattle.drt_columns.specs.Entries.{Entry}
+use Rattle.drt_columns.specs.Entries.{KeptLabel}
 use Rattle.drt_columns.specs.Shelf.{Shelf}
 use Rattle.drt_columns.proofs.Passing.{passed_all, passed_block, stops}
 use Rattle.drt_columns.proofs.columns.Columns.next.Goals as goal
@@ -18,7 +18,7 @@ block_at c =
 used_slot : (c : After-index) → c.in-Some.slot < length c.index.result.now
 used_slot c = (c.loop-seek.invariant.seeking.masked c.index.result.now (block_at c)).used c.in-Some.slot c.in-Some.ensures.some.2
 
-nothing : Entry
+nothing : KeptLabel
 nothing = record { number = 0; samples = [] }
 
 pub number-requires : goal.number-requires

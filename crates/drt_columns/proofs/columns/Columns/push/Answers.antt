@@ -2,7 +2,7 @@ use Rattle.std.proofs.Common.{◌≡◌, ◌≢◌, ◌+◌, ◌-◌, ◌<◌, �
 use Rattle.std.specs.Prelude.{slice_get, slice_index, vec_capacity}
 use Rattle.std.specs.Vec.{with_item}
 use Rattle.std.proofs.lemmas.Option.{get_or_from_slice_get, slice_get_within}
-use Rattle.drt_columns.specs.Entries.{Entry}
+use Rattle.drt_columns.specs.Entries.{KeptLabel}
 use Rattle.drt_columns.specs.Kept.{IsOpen}
 use Rattle.drt_columns.specs.Shelf.{Shelf}
 use Rattle.drt_columns.specs.declared.columns.Columns.TheInside.{Inside}
@@ -47,10 +47,10 @@ more : (c : After-push_reserved-then-free-eq0)
       free = with_item c.self.inside.free c.args.vertex 63;
     }) c.args.vertex (record { number = c.args.number; samples = c.args.samples })
 more c =
-    let e : Entry = record { number = c.args.number; samples = c.args.samples } in
+    let e : KeptLabel = record { number = c.args.number; samples = c.args.samples } in
     record {
       owners = c.push_reserved.ensures.items;
-      blocks = c.push_reserved-then-free-eq0.ensures.items ∙ ap (λ (b : List Entry). c.self.inside.blocks.items ++ b ∷ []) (c.push.ensures ∙ ap (λ (b : List Entry). b ++ e ∷ []) c.new-block.ensures);
+      blocks = c.push_reserved-then-free-eq0.ensures.items ∙ ap (λ (b : List KeptLabel). c.self.inside.blocks.items ++ b ∷ []) (c.push.ensures ∙ ap (λ (b : List KeptLabel). b ++ e ∷ []) c.new-block.ensures);
       lasts = ap (λ n. set c.self.inside.lasts.items c.args.vertex n) (let is : c.len.result ≡ length c.self.inside.blocks.items = omega (arith, c.self.inside.blocks.ok.0) in is);
       free = refl;
       count = refl;
@@ -124,7 +124,7 @@ module _ (c : After-index_mut-else-free-eq0-2)
     (b : IsOpen c.self.inside.owners.items c.self.inside.blocks.items c.args.vertex (slice_index c.self.inside.lasts.items c.args.vertex) (slice_index c.self.inside.free.items c.args.vertex))
     (place : slice_index c.self.inside.lasts.items c.args.vertex ≡ c.index-last.result.now) (free : slice_index c.self.inside.free.items c.args.vertex ≡ c.index-free.result.now)
     (is : c.index_mut-else-free-eq0.result.now ≡ b.block) where
-  abbrev pub label : Entry
+  abbrev pub label : KeptLabel
   label = record { number = c.args.number; samples = c.args.samples }
 
   abbrev pub after : Inside
@@ -141,7 +141,7 @@ module _ (c : After-index_mut-else-free-eq0-2)
   filled = record {
     owners = refl;
     blocks =
-        ap (λ (block : List Entry). set c.self.inside.blocks.items c.index-last.result.now block) (c.push-else-free-eq0.ensures ∙ ap (λ (block : List Entry). block ++ label ∷ []) is)
+        ap (λ (block : List KeptLabel). set c.self.inside.blocks.items c.index-last.result.now block) (c.push-else-free-eq0.ensures ∙ ap (λ (block : List KeptLabel). block ++ label ∷ []) is)
         ∙ ap (λ n. set c.self.inside.blocks.items n (b.block ++ label ∷ [])) (sym place);
     lasts = refl;
     free = ap (λ n. set c.self.inside.free.items c.args.vertex (n - 1)) (sym free);

@@ -1,6 +1,6 @@
 use Rattle.std.proofs.Common.{subst, sym}
-use Rattle.drt_evidence.specs.Cuts.{IsCut, counted_form, left}
-use Rattle.drt_evidence.specs.LineForms.{AreCounted}
+use Rattle.drt_evidence.specs.Cuts.{IsFormCut, counted_form, left}
+use Rattle.drt_evidence.specs.LineForms.{AreItemsCounted}
 use Rattle.drt_evidence.proofs.Cuts.{list_broken_off, list_cut, list_none}
 use Rattle.drt_evidence.proofs.Forms.{number_no_space}
 use Rattle.drt_evidence.proofs.reading.cuts.cut_list.Goals as goal
@@ -13,7 +13,7 @@ returns-in-None g c = list_none g.G.Group.form g.G.Group.is_stated g.met.G.Group
 
 pub returns-in-Some-2 : goal.returns-in-Some-2
 returns-in-Some-2 g c =
-    subst (λ xs. IsCut (counted_form g.G.Group.form) (AreCounted g.G.Group.is_stated) (left c.args.rest) xs (left c.in-Some-2.others)) (sym c.from_vec.ensures)
+    subst (λ xs. IsFormCut (counted_form g.G.Group.form) (AreItemsCounted g.G.Group.is_stated) (left c.args.rest) xs (left c.in-Some-2.others)) (sym c.from_vec.ensures)
     (list_cut g.G.Group.form g.G.Group.is_stated g.met.G.Group.spaced (left c.args.rest) (left c.in-Some.parts.1) (left c.in-Some-2.others) c.in-Some.parts.0 c.in-Some-2.found.items
     c.in-Some.ensures (rw c.in-Some-2.is at c.in_ok-found.ensures))
 

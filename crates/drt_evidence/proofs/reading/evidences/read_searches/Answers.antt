@@ -1,7 +1,7 @@
 use Rattle.std.proofs.Common.{subst, refl}
 use Rattle.std.specs.Prelude.{codes, IfErr, IfOk}
 use Rattle.drt_evidence.specs.Blocks.{IsStop, ReadsBlock}
-use Rattle.drt_evidence.specs.LineForms.{AreCounted}
+use Rattle.drt_evidence.specs.LineForms.{AreItemsCounted}
 use Rattle.drt_claims.specs.Ranges.{IsInRangeSearch}
 use Rattle.drt_evidence.proofs.Leaves.{plain_word}
 use Rattle.drt_evidence.proofs.Records.{searches_same}
@@ -12,7 +12,7 @@ read_counted-requires c = plain_word (codes "searches") refl
 
 pub returns-clause-read : goal.returns-clause-read
 returns-clause-read c =
-    subst (λ T. IfOk c.read_counted.result (λ x. ReadsBlock T (AreCounted IsInRangeSearch) c.args.text.now.rest.now x c.read_counted.new.text.rest.now)) searches_same c.read_counted.ensures.read
+    subst (λ T. IfOk c.read_counted.result (λ x. ReadsBlock T (AreItemsCounted IsInRangeSearch) c.args.text.now.rest.now x c.read_counted.new.text.rest.now)) searches_same c.read_counted.ensures.read
 
 pub returns-clause-stops : goal.returns-clause-stops
-returns-clause-stops c = subst (λ T. IfErr c.read_counted.result (IsStop T (AreCounted IsInRangeSearch) c.args.text.now.rest.now)) searches_same c.read_counted.ensures.stops
+returns-clause-stops c = subst (λ T. IfErr c.read_counted.result (IsStop T (AreItemsCounted IsInRangeSearch) c.args.text.now.rest.now)) searches_same c.read_counted.ensures.stops

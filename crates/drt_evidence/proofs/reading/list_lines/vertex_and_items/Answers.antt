@@ -1,5 +1,5 @@
 use Rattle.std.proofs.Common.{decimal}
-use Rattle.drt_evidence.specs.LineForms.{AreCounted, list_form}
+use Rattle.drt_evidence.specs.LineForms.{AreItemsCounted, list_form}
 use Rattle.drt_claims.specs.Ranges.{IsInRangeItem, IsNumber}
 use Rattle.drt_evidence.specs.Text.{item_field}
 use Rattle.drt_evidence.proofs.Forms.{rest_is, rest_none, rest_broken}
@@ -10,14 +10,14 @@ pub list_of-requires : goal.list_of-requires
 list_of-requires c = item_no_space
 
 pub returns-in-None : goal.returns-in-None
-returns-in-None c = rest_none decimal IsNumber (list_form item_field) (AreCounted IsInRangeItem) c.args.bytes.now c.in-None.ensures
+returns-in-None c = rest_none decimal IsNumber (list_form item_field) (AreItemsCounted IsInRangeItem) c.args.bytes.now c.in-None.ensures
 
 pub returns-in-Some-2 : goal.returns-in-Some-2
 returns-in-Some-2 c =
-    rest_is decimal IsNumber (list_form item_field) (AreCounted IsInRangeItem) c.args.bytes.now c.in-Some.parts.1.now c.in-Some.parts.0 c.in-Some-2.items.items
+    rest_is decimal IsNumber (list_form item_field) (AreItemsCounted IsInRangeItem) c.args.bytes.now c.in-Some.parts.1.now c.in-Some.parts.0 c.in-Some-2.items.items
     c.in-Some.ensures (rw c.in-Some-2.is at c.in_ok-items.ensures)
 
 pub returns-in-None-2 : goal.returns-in-None-2
 returns-in-None-2 c =
-    rest_broken decimal IsNumber (list_form item_field) (AreCounted IsInRangeItem) c.args.bytes.now c.in-Some.parts.1.now c.in-Some.parts.0
+    rest_broken decimal IsNumber (list_form item_field) (AreItemsCounted IsInRangeItem) c.args.bytes.now c.in-Some.parts.1.now c.in-Some.parts.0
     c.in-Some.ensures (rw c.in-None-2.is at c.in_ok-items.ensures)

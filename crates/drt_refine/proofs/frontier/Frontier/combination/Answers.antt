@@ -1,7 +1,7 @@
 use Rattle.std.proofs.Common.{◌≡◌, ℕ, ◌+◌, ◌-◌, ◌*◌, ◌<◌, ◌≤◌, Option, Some, None, List, length, take, drop, refl, sym, ap, ◌∙◌, subst, arith}
 use Rattle.std.specs.Prelude.{slice_get, IfSome}
 use Rattle.drt_refine.specs.Combination.{Combination}
-use Rattle.drt_refine.specs.View.{View, combinations_of}
+use Rattle.drt_refine.specs.View.{FrontierView, combinations_of}
 use Rattle.drt_refine.specs.declared.step.CombinationState.{CombinationState}
 use Rattle.drt_refine.proofs.Flat.{CombinationAt, combination_at, length_combinations}
 use Rattle.drt_refine.proofs.Halves.{rows}
@@ -26,7 +26,7 @@ part_is w width nodes states id x same at =
 pub slice_bounds-result-end : goal.slice_bounds-result-end
 slice_bounds-result-end c =
     let w : ℕ = length c.self.inside.roots.items in
-    let n : length c.self.inside.states.items ≡ length c.args.self.now.combinations = sym (length_combinations w c.self.inside.nodes.items c.self.inside.states.items) ∙ ap (λ (v : View). length v.combinations) c.self.view_is in
+    let n : length c.self.inside.states.items ≡ length c.args.self.now.combinations = sym (length_combinations w c.self.inside.nodes.items c.self.inside.states.items) ∙ ap (λ (v : FrontierView). length v.combinations) c.self.view_is in
     let r : c.args.id * c.len-width.result + c.len-width.result ≤ length c.self.inside.nodes.items = row w c.len-width.result c.self.inside.nodes.items c.self.inside.states.items c.args.id (omega (arith, c.self.inside.roots.ok.0, c.len-width.ensures)) c.self.invariant.4 (omega (arith, c.requires)) in
     subst (λ (xs : List ℕ). c.args.id * c.len-width.result + c.len-width.result ≤ length xs) (sym c.deref.ensures.value) r
 
@@ -35,4 +35,4 @@ returns c =
     let w : ℕ = length c.self.inside.roots.items in
     if_some (slice_get c.args.self.now.combinations c.args.id) _ (λ x at.
     ap (λ xs. take (c.args.id * c.len-width.result + c.len-width.result - c.args.id * c.len-width.result) (drop (c.args.id * c.len-width.result) xs)) c.deref.ensures.value
-    ∙ part_is w c.len-width.result c.self.inside.nodes.items c.self.inside.states.items c.args.id x (omega (arith, c.self.inside.roots.ok.0, c.len-width.ensures)) (ap (λ (v : View). slice_get v.combinations c.args.id) c.self.view_is ∙ at))
+    ∙ part_is w c.len-width.result c.self.inside.nodes.items c.self.inside.states.items c.args.id x (omega (arith, c.self.inside.roots.ok.0, c.len-width.ensures)) (ap (λ (v : FrontierView). slice_get v.combinations c.args.id) c.self.view_is ∙ at))

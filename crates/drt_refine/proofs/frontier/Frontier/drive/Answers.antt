@@ -1,4 +1,4 @@
-use Rattle.drt_refine.specs.Drive.{Drives}
+use Rattle.drt_refine.specs.Drive.{DrivesFrontier}
 use Rattle.drt_refine.proofs.Driving.{drives_start, drives_on, drives_eager}
 use Rattle.drt_refine.proofs.frontier.Frontier.drive.Goals as goal
 
@@ -13,5 +13,5 @@ returns-then-ends-clause-drives c = drives_on c.args.forest.now c.args.worker c.
 
 pub returns-then-ends-clause-eager : goal.returns-then-ends-clause-eager
 returns-then-ends-clause-eager c h =
-    let all : Drives c.args.forest.now c.args.worker c.args.self.now c.turn-reply.new.self = drives_on c.args.forest.now c.args.worker c.args.self.now c.loop-reply.self c.turn-reply.new.self c.loop-reply.invariant.1 c.turn-reply.ensures.turn.drives in
+    let all : DrivesFrontier c.args.forest.now c.args.worker c.args.self.now c.turn-reply.new.self = drives_on c.args.forest.now c.args.worker c.args.self.now c.loop-reply.self c.turn-reply.new.self c.loop-reply.invariant.1 c.turn-reply.ensures.turn.drives in
     drives_eager c.args.forest.now c.args.worker c.args.self.now c.turn-reply.new.self c.requires.frontier all h

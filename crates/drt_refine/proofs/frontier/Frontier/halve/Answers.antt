@@ -4,7 +4,7 @@ use Rattle.std.proofs.lemmas.Option.{same_Some}
 use Rattle.drt_worklist.specs.Places.{first, places}
 use Rattle.drt_refine.specs.Combination.{Combination, is_failed, is_failed_state, is_taken_state}
 use Rattle.drt_refine.specs.Machine.{halves}
-use Rattle.drt_refine.specs.View.{View, combinations_of}
+use Rattle.drt_refine.specs.View.{FrontierView, combinations_of}
 use Rattle.drt_refine.specs.declared.step.CombinationState.{CombinationState}
 use Rattle.drt_refine.specs.declared.step.FrontierStep.TheVariants.{Split}
 use Rattle.drt_refine.specs.declared.step.FrontierReply.TheVariants.{Halved}
@@ -64,7 +64,7 @@ split-left-requires-clause-taken c =
 pub split-left-requires-clause-none : goal.split-left-requires-clause-none
 split-left-requires-clause-none c =
     first_combinations is_failed_state (length c.self.inside.roots.items) c.self.inside.nodes.items c.self.inside.states.items
-    ∙ (ap (λ (v : View). first is_failed v.combinations) c.self.view_is ∙ c.requires.none)
+    ∙ (ap (λ (v : FrontierView). first is_failed v.combinations) c.self.view_is ∙ c.requires.none)
 
 pub split-left-requires-clause-room : goal.split-left-requires-clause-room
 split-left-requires-clause-room c =
@@ -86,8 +86,8 @@ invariant_of-self c =
     let z : Halving w width budget nodes states id x =
     halving c.self.inside.roots.items c.self.inside.wcet c.self.inside.deadline budget nodes states c.self.inside.log.items c.args.self.now c.self.view_is c.self.invariant.4 c.self.invariant.5
     id width x c.requires.held.1 c.requires.held.2 c.requires.held.3 c.requires.room (omega (arith, c.self.inside.roots.ok.0, c.len-width.ensures)) in
-    let hl : length c.self.inside.log.items ≡ length c.args.self.now.log = ap (λ (v : View). length v.log) c.self.view_is in
-    let hb : budget ≡ c.args.self.now.budget = ap (λ (v : View). v.budget) c.self.view_is in
+    let hl : length c.self.inside.log.items ≡ length c.args.self.now.log = ap (λ (v : FrontierView). length v.log) c.self.view_is in
+    let hb : budget ≡ c.args.self.now.budget = ap (λ (v : FrontierView). v.budget) c.self.view_is in
     let a : List ℕ = set (take width (drop (id * width) nodes)) c.args.place c.args.left in
     let pa : a ≡ set x.nodes c.args.place c.args.left = first_copy w width budget nodes states id x z c.args.place c.args.left in
     let la : length a ≡ w = ap length pa ∙ length_copy w width budget nodes states id x z c.args.place c.args.left in
@@ -135,5 +135,5 @@ returns-clause-new c y h =
 
 pub returns-clause-reply : goal.returns-clause-reply
 returns-clause-reply c =
-    let n : length c.self.inside.states.items ≡ length c.args.self.now.combinations = sym (length_combinations (length c.self.inside.roots.items) c.self.inside.nodes.items c.self.inside.states.items) ∙ ap (λ (v : View). length v.combinations) c.self.view_is in
+    let n : length c.self.inside.states.items ≡ length c.args.self.now.combinations = sym (length_combinations (length c.self.inside.roots.items) c.self.inside.nodes.items c.self.inside.states.items) ∙ ap (λ (v : FrontierView). length v.combinations) c.self.view_is in
     ap (λ k. Halved k c.split-left.result.1) (c.split-left.ensures.left ∙ n) ∙ ap (λ k. Halved (length c.args.self.now.combinations) k) (c.split-left.ensures.right ∙ ap (λ k. k + 1) n)

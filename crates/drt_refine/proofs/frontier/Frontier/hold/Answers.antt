@@ -3,7 +3,7 @@ use Rattle.drt_worklist.specs.Places.{first, places, changed}
 use Rattle.drt_worklist.proofs.Places.{places_set}
 use Rattle.drt_worklist.proofs.Writes.{length_set}
 use Rattle.drt_refine.specs.Combination.{with_state, is_pending, is_pending_state, is_taken_state}
-use Rattle.drt_refine.specs.View.{View, combinations_of}
+use Rattle.drt_refine.specs.View.{FrontierView, combinations_of}
 use Rattle.drt_refine.specs.declared.step.CombinationState.{CombinationState}
 use Rattle.drt_refine.specs.declared.step.CombinationState.TheVariants.{Taken}
 use Rattle.drt_refine.specs.declared.step.FrontierStep.TheVariants.{Take}
@@ -13,14 +13,14 @@ use Rattle.drt_refine.proofs.frontier.Frontier.hold.Goals as goal
 pub take-requires : goal.take-requires
 take-requires c =
     first_combinations is_pending_state (length c.self.inside.roots.items) c.self.inside.nodes.items c.self.inside.states.items
-    ∙ (ap (λ (v : View). first is_pending v.combinations) c.self.view_is ∙ c.requires.pending)
+    ∙ (ap (λ (v : FrontierView). first is_pending v.combinations) c.self.view_is ∙ c.requires.pending)
 
 pub invariant_of-self : goal.invariant_of-self
 invariant_of-self c =
     let states : List CombinationState = c.self.inside.states.items in
     let w : ℕ = length c.self.inside.roots.items in
-    let hl : length c.self.inside.log.items ≡ length c.args.self.now.log = ap (λ (v : View). length v.log) c.self.view_is in
-    let hb : c.self.inside.budget ≡ c.args.self.now.budget = ap (λ (v : View). v.budget) c.self.view_is in
+    let hl : length c.self.inside.log.items ≡ length c.args.self.now.log = ap (λ (v : FrontierView). length v.log) c.self.view_is in
+    let hb : c.self.inside.budget ≡ c.args.self.now.budget = ap (λ (v : FrontierView). v.budget) c.self.view_is in
     let ls : length c.take.new.self.items ≡ length states = ap length c.take.ensures.items ∙ length_set states c.args.id (Taken c.args.worker) in
     let pw : length c.take.new.self.items * w ≡ length states * w = ap (λ n. n * w) ls in
     let pe : length (places is_taken_state c.take.new.self.items) ≡ length (places is_taken_state (set states c.args.id (Taken c.args.worker))) = ap (λ l. length (places is_taken_state l)) c.take.ensures.items in

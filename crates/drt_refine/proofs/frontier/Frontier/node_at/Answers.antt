@@ -2,7 +2,7 @@ use Rattle.std.proofs.Common.{◌≡◌, ℕ, ◌+◌, ◌*◌, ◌<◌, ◌≤�
 use Rattle.std.specs.Prelude.{slice_get, vec_len, slice_index_or}
 use Rattle.std.proofs.lemmas.Option.{slice_get_read, slice_get_within, same_Some}
 use Rattle.drt_refine.specs.Combination.{Combination}
-use Rattle.drt_refine.specs.View.{View, combinations_of}
+use Rattle.drt_refine.specs.View.{FrontierView, combinations_of}
 use Rattle.drt_refine.specs.declared.step.CombinationState.{CombinationState}
 use Rattle.drt_refine.proofs.Flat.{combination_at, CombinationAt}
 use Rattle.drt_refine.proofs.Copies.{at_part}
@@ -25,8 +25,8 @@ at_place w nodes states id place n x flat at wide there =
 pub index-requires : goal.index-requires
 index-requires c =
     let w : ℕ = length c.self.inside.roots.items in
-    let at : slice_get (combinations_of w c.self.inside.nodes.items c.self.inside.states.items) c.args.id ≡ Some c.requires.0 = ap (λ (v : View). slice_get v.combinations c.args.id) c.self.view_is ∙ c.requires.2 in
-    let wide : length c.requires.0.nodes ≡ w = c.requires.3 ∙ sym (ap (λ (v : View). length v.roots) c.self.view_is) in
+    let at : slice_get (combinations_of w c.self.inside.nodes.items c.self.inside.states.items) c.args.id ≡ Some c.requires.0 = ap (λ (v : FrontierView). slice_get v.combinations c.args.id) c.self.view_is ∙ c.requires.2 in
+    let wide : length c.requires.0.nodes ≡ w = c.requires.3 ∙ sym (ap (λ (v : FrontierView). length v.roots) c.self.view_is) in
     let n : NodeAt w c.self.inside.nodes.items c.args.id c.args.place c.requires.0 = at_place w c.self.inside.nodes.items c.self.inside.states.items c.args.id c.args.place c.requires.1 c.requires.0 c.self.invariant.4 at wide c.requires.4 in
     let we : c.len.result ≡ w = omega (arith, c.self.inside.roots.ok.0, c.len.ensures) in
     let inside : c.args.id * w + c.args.place < length c.self.inside.nodes.items = n.inside in
@@ -36,8 +36,8 @@ pub returns : goal.returns
 returns c y h =
     let w : ℕ = length c.self.inside.roots.items in
     let nodes : List ℕ = c.self.inside.nodes.items in
-    let at : slice_get (combinations_of w nodes c.self.inside.states.items) c.args.id ≡ Some c.requires.0 = ap (λ (v : View). slice_get v.combinations c.args.id) c.self.view_is ∙ c.requires.2 in
-    let wide : length c.requires.0.nodes ≡ w = c.requires.3 ∙ sym (ap (λ (v : View). length v.roots) c.self.view_is) in
+    let at : slice_get (combinations_of w nodes c.self.inside.states.items) c.args.id ≡ Some c.requires.0 = ap (λ (v : FrontierView). slice_get v.combinations c.args.id) c.self.view_is ∙ c.requires.2 in
+    let wide : length c.requires.0.nodes ≡ w = c.requires.3 ∙ sym (ap (λ (v : FrontierView). length v.roots) c.self.view_is) in
     let in_row : c.args.place < length c.requires.0.nodes = slice_get_within c.requires.0.nodes c.args.place c.requires.1 c.requires.4 in
     let n : NodeAt w nodes c.args.id c.args.place c.requires.0 = at_place w nodes c.self.inside.states.items c.args.id c.args.place c.requires.1 c.requires.0 c.self.invariant.4 at wide c.requires.4 in
     let we : c.len.result ≡ w = omega (arith, c.self.inside.roots.ok.0, c.len.ensures) in

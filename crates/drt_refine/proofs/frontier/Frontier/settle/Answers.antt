@@ -4,7 +4,7 @@ use Rattle.drt_worklist.specs.Places.{first, places, changed}
 use Rattle.drt_worklist.proofs.Places.{places_set}
 use Rattle.drt_worklist.proofs.Writes.{length_set}
 use Rattle.drt_refine.specs.Combination.{Combination, with_state, is_failed, is_failed_state, is_taken_state}
-use Rattle.drt_refine.specs.View.{View, combinations_of}
+use Rattle.drt_refine.specs.View.{FrontierView, combinations_of}
 use Rattle.drt_refine.specs.declared.step.CombinationState.{CombinationState}
 use Rattle.drt_refine.proofs.Flat.{combination_at, first_combinations, combinations_set, moved_by}
 use Rattle.drt_refine.proofs.frontier.Frontier.settle.Goals as goal
@@ -13,20 +13,20 @@ pub settle-requires-clause-taken : goal.settle-requires-clause-taken
 settle-requires-clause-taken c =
     let w : ℕ = length c.self.inside.roots.items in
     let x : Combination = c.requires.held.0 in
-    let at : slice_get (combinations_of w c.self.inside.nodes.items c.self.inside.states.items) c.args.id ≡ Some x = ap (λ (v : View). slice_get v.combinations c.args.id) c.self.view_is ∙ c.requires.held.1 in
+    let at : slice_get (combinations_of w c.self.inside.nodes.items c.self.inside.states.items) c.args.id ≡ Some x = ap (λ (v : FrontierView). slice_get v.combinations c.args.id) c.self.view_is ∙ c.requires.held.1 in
     (x.state, (combination_at w c.self.inside.nodes.items c.self.inside.states.items c.args.id x at).state_at, c.requires.held.2)
 
 pub settle-requires-clause-none : goal.settle-requires-clause-none
 settle-requires-clause-none c =
     first_combinations is_failed_state (length c.self.inside.roots.items) c.self.inside.nodes.items c.self.inside.states.items
-    ∙ (ap (λ (v : View). first is_failed v.combinations) c.self.view_is ∙ c.requires.none)
+    ∙ (ap (λ (v : FrontierView). first is_failed v.combinations) c.self.view_is ∙ c.requires.none)
 
 pub invariant_of-self : goal.invariant_of-self
 invariant_of-self c =
     let states : List CombinationState = c.self.inside.states.items in
     let w : ℕ = length c.self.inside.roots.items in
-    let hl : length c.self.inside.log.items ≡ length c.args.self.now.log = ap (λ (v : View). length v.log) c.self.view_is in
-    let hb : c.self.inside.budget ≡ c.args.self.now.budget = ap (λ (v : View). v.budget) c.self.view_is in
+    let hl : length c.self.inside.log.items ≡ length c.args.self.now.log = ap (λ (v : FrontierView). length v.log) c.self.view_is in
+    let hb : c.self.inside.budget ≡ c.args.self.now.budget = ap (λ (v : FrontierView). v.budget) c.self.view_is in
     let ls : length c.settle.new.self.items ≡ length states = ap length c.settle.ensures.items ∙ length_set states c.args.id c.args.state in
     let pw : length c.settle.new.self.items * w ≡ length states * w = ap (λ n. n * w) ls in
     let pe : length (places is_taken_state c.settle.new.self.items) ≡ length (places is_taken_state (set states c.args.id c.args.state)) = ap (λ l. length (places is_taken_state l)) c.settle.ensures.items in

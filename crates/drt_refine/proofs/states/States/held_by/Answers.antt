@@ -5,7 +5,7 @@ use Rattle.drt_worklist.specs.Places.{first, places}
 use Rattle.drt_worklist.proofs.Places.{IsPlaceOf, place_is}
 use Rattle.drt_worklist.proofs.Writes.{first_among, none_among, unseen_more}
 use Rattle.drt_refine.specs.Combination.{is_taken_state, is_held_state}
-use Rattle.drt_refine.specs.States.{Stock}
+use Rattle.drt_refine.specs.States.{CombinationStock}
 use Rattle.drt_refine.specs.declared.step.CombinationState.{CombinationState}
 use Rattle.drt_refine.proofs.Sorted.{held_taken}
 use Rattle.drt_refine.proofs.states.States.held_by.Goals as goal
@@ -34,7 +34,7 @@ returns-then-is_held c =
     at_place items taken c.loop-j.j (length taken) id c.self.invariant.0.taken_are refl (omega (arith, c.len-j-end.ensures, c.self.inside.taken.ok.0, c.loop-j-test.true)) c.index-id.ensures in
     first_among is_taken_state (is_held_state c.args.worker) (held_taken c.args.worker) items taken c.self.invariant.0.taken_are c.loop-j.j id c.index.result.now here.0
     (slice_get_read items (length items) id c.index.result.now refl here.1 c.index.ensures) (sym c.is_held.ensures ∙ c.if-is_held.true) (λ i k s lt there at. c.loop-j.invariant i k s lt there at)
-    ∙ ap (λ (v : Stock). first (is_held_state c.args.worker) v.items) c.self.view_is
+    ∙ ap (λ (v : CombinationStock). first (is_held_state c.args.worker) v.items) c.self.view_is
 
 pub loop-j-preserved : goal.loop-j-preserved
 loop-j-preserved c =
@@ -50,7 +50,7 @@ pub returns : goal.returns
 returns c =
     none_among is_taken_state (is_held_state c.args.worker) (held_taken c.args.worker) c.self.inside.items.items c.self.inside.taken.items c.self.invariant.0.taken_are
     (λ i k s lt there at. c.loop-j.invariant i k s (omega (arith, c.len-j-end.ensures, c.self.inside.taken.ok.0, c.loop-j-test.false, lt)) there at)
-    ∙ ap (λ (v : Stock). first (is_held_state c.args.worker) v.items) c.self.view_is
+    ∙ ap (λ (v : CombinationStock). first (is_held_state c.args.worker) v.items) c.self.view_is
 
 pub loop-j-init : goal.loop-j-init
 loop-j-init c = λ i k s lt there at. absurd (omega (arith, lt))

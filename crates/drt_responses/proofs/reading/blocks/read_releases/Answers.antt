@@ -2,7 +2,7 @@ use Rattle.std.proofs.Common.{refl, sym, subst}
 use Rattle.std.specs.Prelude.{codes}
 use Rattle.drt_file.specs.trusted.Canonical.{written_line}
 use Rattle.drt_evidence.specs.Blocks.{ReadsBlock}
-use Rattle.drt_evidence.specs.LineForms.{AreCounted}
+use Rattle.drt_evidence.specs.LineForms.{AreItemsCounted}
 use Rattle.drt_claims.specs.Ranges.{IsInRangeRelease}
 use Rattle.drt_evidence.specs.Some.{some_release}
 use Rattle.drt_evidence.specs.Text.{release_line}
@@ -28,4 +28,4 @@ returns-in_err-releases-clause-stops c =
 pub returns-clause-read : goal.returns-clause-read
 returns-clause-read c =
     let h = counted_read (λ r. written_line (release_line r)) IsInRangeRelease (codes "releases") c.in_ok-count.ensures.read c.in_ok-releases.ensures.read in
-    subst (λ rs. ReadsBlock releases_block (AreCounted IsInRangeRelease) c.args.text.now.rest.now rs c.read_each_release.new.text.rest.now) (sym c.from_vec.ensures) h
+    subst (λ rs. ReadsBlock releases_block (AreItemsCounted IsInRangeRelease) c.args.text.now.rest.now rs c.read_each_release.new.text.rest.now) (sym c.from_vec.ensures) h

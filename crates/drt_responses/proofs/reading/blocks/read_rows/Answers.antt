@@ -1,7 +1,7 @@
 use Rattle.std.proofs.Common.{◌++◌, [], ◌∷◌, arith, subst, sym}
 use Rattle.drt_evidence.specs.Blocks.{ReadsBlock}
 use Rattle.drt_evidence.proofs.Blocks.{within}
-use Rattle.drt_responses.specs.Ranges.{AreInRange}
+use Rattle.drt_responses.specs.Ranges.{AreResponsesInRange}
 use Rattle.drt_responses.specs.Rows.{heading_line, rows_block}
 use Rattle.drt_responses.proofs.Rows.{RowsAt, heading_closes, heading_opens, heading_read, heading_stop, line_within, releases_stop, response_read, rows_read, rows_start}
 use Rattle.drt_responses.proofs.Stopping.{passed_stop}
@@ -31,5 +31,5 @@ rows-preserved c =
 
 pub returns-clause-read : goal.returns-clause-read
 returns-clause-read c =
-    subst (λ rs. ReadsBlock rows_block AreInRange c.args.text.now.rest.now rs c.read_heading.new.text.rest.now) (sym c.from_vec.ensures)
+    subst (λ rs. ReadsBlock rows_block AreResponsesInRange c.args.text.now.rest.now rs c.read_heading.new.text.rest.now) (sym c.from_vec.ensures)
     (rows_read (heading_opens (heading_closes c.in_ok-opening.field-0 c.in_default.not-Opens) (heading_read c.rows.invariant c.in_ok-opening.ensures.read)))

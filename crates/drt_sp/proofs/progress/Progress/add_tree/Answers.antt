@@ -13,7 +13,7 @@ use Rattle.drt_claims.specs.declared.evidence.TreeClaim.{TreeClaim}
 use Rattle.drt_releases.proofs.Walks.{graph_same}
 use Rattle.drt_claims.specs.Trees.{greatest_deadline}
 use Rattle.drt_sp.specs.TaskTrees.{IsTaskTree}
-use Rattle.drt_sp.specs.TreeClaims.{IsSpentSearch}
+use Rattle.drt_sp.specs.TreeClaims.{IsSpentWalkSearch}
 use Rattle.drt_sp.proofs.Enough.{search_below}
 use Rattle.drt_sp.proofs.Growth.{grown_more, proved_kept, trees_count}
 use Rattle.drt_sp.proofs.Orders.{order_below, order_count, order_rises}
@@ -103,7 +103,7 @@ returns-in-Spent-clause-grown g c =
     let below : k < length tasks = order_below tasks order is place l in
     let graph : c.graph-graph.result.now ≡ graph_at tasks k = c.graph-graph.ensures.graph ∙ (ap (λ gs. graph_of gs k) c.graphs-graphs.ensures.graphs ∙ graph_same tasks k below) in
     let until : c.from-bound.result ≡ greatest_deadline tasks = c.from-bound.ensures ∙ (c.greatest_deadline.ensures.value ∙ ap (λ (s : Contents). greatest_deadline s.tasks) c.set.ensures.set) in
-    let spent : IsSpentSearch (graph_at tasks k) (greatest_deadline tasks) c.args.crew.now.effort.budget c.in-Spent.log = rw (c.in-Spent.is, graph, until) at c.in_ok-tree.ensures in
+    let spent : IsSpentWalkSearch (graph_at tasks k) (greatest_deadline tasks) c.args.crew.now.effort.budget c.in-Spent.log = rw (c.in-Spent.is, graph, until) at c.in_ok-tree.ensures in
     let first : FirstPass tasks order place = λ i j v m here w. c.requires.proved.passed i j v (omega (arith, m)) here w in
     record {
       task = below;

@@ -4,7 +4,7 @@ use Rattle.drt_request.specs.Request.{request_algebra}
 use Rattle.drt_table.specs.View.{setting_of, state_of}
 use Rattle.drt_table.proofs.Tables.{nodes_small}
 use Rattle.drt_tree.specs.Leaf.{leaves_of}
-use Rattle.drt_sp.specs.Gathering.{AreGathered}
+use Rattle.drt_sp.specs.Gathering.{AreLeavesGathered}
 use Rattle.drt_sp.proofs.TreeSearches.{gathered_leaves}
 use Rattle.drt_sp.proofs.trees.gathering.gather.Goals as goal
 
@@ -19,5 +19,5 @@ returns-clause-leaves c =
     let leaves = c.nodes.leaves in
     let e : c.nodes.id ≡ length v.nodes = omega (arith, c.nodes-test.false, c.nodes.auto.id-end, c.node_count-id-end.ensures) in
     let ls = leaves_of leaves.labels.items leaves.walks.items in
-    let are = subst (λ k. AreGathered (setting_of v) (state_of v).nodes k ls) e c.nodes.invariant.gathered in
+    let are = subst (λ k. AreLeavesGathered (setting_of v) (state_of v).nodes k ls) e c.nodes.invariant.gathered in
     gathered_leaves v c.log-log.ensures.replayed c.requires.front ls are

@@ -2,7 +2,7 @@ use Rattle.std.proofs.Common.{◌≡◌, ℕ, ◌+◌, ◌<◌, ◌≤◌, lengt
 use Rattle.drt_steps.specs.declared.jump.Jump.{Jump}
 use Rattle.drt_steps.specs.declared.rises.Rises.{Rises}
 use Rattle.drt_steps.specs.Values.{raise, value_at}
-use Rattle.drt_steps.specs.Jumps.{total, values, AreKept, AreMarks, IsReached, up_to, past}
+use Rattle.drt_steps.specs.Jumps.{total, values, AreKept, AreMarks, IsPlaceReached, up_to, past}
 use Rattle.drt_steps.proofs.Jumps.{raise_out, base_raised}
 use Rattle.drt_steps.proofs.Kept.{long, top, base_kept, placed_kept, placed_is}
 use Rattle.drt_steps.proofs.Behind.{behind_kept, behind_is}
@@ -120,7 +120,7 @@ from_rises-requires-clause-kept c =
     let t : value_at c.args.self.now n ≡ c.self.inside.base + total js = top n c.self.inside.base js c.args.self.now c.self.view_is c.self.invariant.0.kept in
     let lt : c.args.offset < n = c.if-offset-self.false in
     let small : value_at c.args.self.now n + c.args.work ≤ 1000000000000 = c.requires n lt (omega arith) in
-    let last : IsReached js (c.args.offset + 1) (length js) = subst (λ (ks : List Jump). IsReached ks (c.args.offset + 1) (length ks)) c.jumps_of-own.ensures (c.is_reached.ensures c.if-is_reached.true) in
+    let last : IsPlaceReached js (c.args.offset + 1) (length js) = subst (λ (ks : List Jump). IsPlaceReached ks (c.args.offset + 1) (length ks)) c.jumps_of-own.ensures (c.is_reached.ensures c.if-is_reached.true) in
     let e : c.in_ok-rises.rises.jumps.items ≡ js ++ new ∷ [] = c.in_ok-rises.ensures.jumps ∙ ap (λ (r : Rises). r.jumps.items ++ new ∷ []) c.deref.ensures in
     record {
       kept = subst (λ (ks : List Jump). AreKept n c.self.inside.base ks) (sym e) (behind_kept n c.self.inside.base js new c.self.invariant.0.kept (omega arith) (omega (arith, c.if-offset-eq0.false)) lt last);

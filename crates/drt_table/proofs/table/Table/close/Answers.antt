@@ -1,5 +1,5 @@
 use Rattle.std.proofs.Common.{◌<◌, length, refl, sym, ◌∙◌, subst, arith}
-use Rattle.drt_table.specs.View.{View, CanApply, IsStep, IsTable}
+use Rattle.drt_table.specs.View.{View, CanApply, IsTableStep, IsTable}
 use Rattle.drt_table.specs.declared.step.TableStep.TheVariants.{Close}
 use Rattle.drt_table.specs.declared.step.TableReply.TheVariants.{Closed}
 use Rattle.drt_table.proofs.Tables.{close_closed, table_more, held_at}
@@ -23,7 +23,7 @@ invariant_of-self g c =
     let can : CanApply a v c.args.worker (Close c.args.node) = subst (λ (x : View _). CanApply a x c.args.worker (Close c.args.node)) (sym c.self.view_is) c.requires in
     let new : View _ = record { graph = v.graph; bound = v.bound; budget = v.budget; nodes = c.close.new.self.nodes; log = c.push_within.new.items.items } in
     let room : length v.log < v.budget = omega (arith, c.self.inside.log.ok.0) in
-    let step : IsStep a v new c.args.worker (Close c.args.node) Closed = close_closed a v new c.args.worker c.args.node refl c.close.ensures.nodes_are c.push_within.ensures.items room in (
+    let step : IsTableStep a v new c.args.worker (Close c.args.node) Closed = close_closed a v new c.args.worker c.args.node refl c.close.ensures.nodes_are c.push_within.ensures.items room in (
       table_more a v new c.args.worker (Close c.args.node) Closed is can step c.push_within.ensures.items,
       c.close.ensures.vertices ∙ c.self.invariant.1,
       omega (arith, c.self.invariant.2, c.close.ensures.room),
@@ -40,5 +40,5 @@ returns g c =
     let can : CanApply a v c.args.worker (Close c.args.node) = subst (λ (x : View _). CanApply a x c.args.worker (Close c.args.node)) (sym c.self.view_is) c.requires in
     let new : View _ = record { graph = v.graph; bound = v.bound; budget = v.budget; nodes = c.close.new.self.nodes; log = c.push_within.new.items.items } in
     let room : length v.log < v.budget = omega (arith, c.self.inside.log.ok.0) in
-    let step : IsStep a v new c.args.worker (Close c.args.node) Closed = close_closed a v new c.args.worker c.args.node refl c.close.ensures.nodes_are c.push_within.ensures.items room in
-    subst (λ (x : View _). IsStep a x new c.args.worker (Close c.args.node) Closed) c.self.view_is step
+    let step : IsTableStep a v new c.args.worker (Close c.args.node) Closed = close_closed a v new c.args.worker c.args.node refl c.close.ensures.nodes_are c.push_within.ensures.items room in
+    subst (λ (x : View _). IsTableStep a x new c.args.worker (Close c.args.node) Closed) c.self.view_is step

@@ -4,7 +4,7 @@ use Rattle.drt_model.specs.Digraph.{vertex_of}
 use Rattle.drt_table.specs.Held.{AllOf, count_offer}
 use Rattle.drt_table.specs.Links.{AreAlone}
 use Rattle.drt_table.specs.Node.{Held}
-use Rattle.drt_table.specs.View.{View, IsStep}
+use Rattle.drt_table.specs.View.{View, IsTableStep}
 use Rattle.drt_table.specs.declared.step.TableStep.TheVariants.{Offer}
 use Rattle.drt_worklist.proofs.Lists.{length-changed}
 use Rattle.drt_table.proofs.Offering.{offering, IsPlaced, with_nodes, offer_step, offer_table}
@@ -95,5 +95,5 @@ returns g c =
     } in
     let v : View _ = record { graph = graph; bound = c.self.inside.bound; budget = c.self.inside.budget; nodes = c.self.inside.arena.nodes; log = c.self.inside.log.items } in
     let new : View _ = with_nodes v c.place-reply.new.self.nodes c.push_within.new.items.items in
-    subst (λ (x : View _). IsStep a x new c.args.worker (Offer c.args.node c.args.edge) c.place-reply.result) c.self.view_is
+    subst (λ (x : View _). IsTableStep a x new c.args.worker (Offer c.args.node c.args.edge) c.place-reply.result) c.self.view_is
     (offer_step a _ c.args.worker c.args.node c.args.edge c.args.twin _ _ _ _ _ o p)

@@ -1,5 +1,5 @@
 use Rattle.std.proofs.Common.{◌≡◌, ◌+◌, length, sym, ap, ◌∙◌, rules}
-use Rattle.drt_model.specs.Digraph.{Digraph, IsSound}
+use Rattle.drt_model.specs.Digraph.{Digraph, IsSoundGraph}
 use Rattle.drt_table.specs.Machine.{Setting, shortest}
 use Rattle.drt_table.specs.View.{View, setting_of}
 use Rattle.drt_table.proofs.Arranged.{same_le}
@@ -9,7 +9,7 @@ use Rattle.drt_table.proofs.table.Table.start.Goals as goal
 pub invariant_of-result : goal.invariant_of-result
 invariant_of-result g c =
     let graph : c.in_ok-graph.graph ≡ c.args.graph.now = c.in_ok-graph.ensures in
-    let sound : IsSound c.args.graph.now = search rules in
+    let sound : IsSoundGraph c.args.graph.now = search rules in
     let t : Setting = record { graph = c.args.graph.now; bound = c.args.bound; budget = c.args.budget } in
     let v : View _ = record { graph = c.in_ok-graph.graph; bound = c.args.bound; budget = c.args.budget; nodes = c.in_ok-arena.arena.nodes; log = c.in_ok-log.log.items } in
     let set : setting_of v ≡ t = ap (λ (x : Digraph). record { graph = x; bound = c.args.bound; budget = c.args.budget }) graph in (

@@ -5,7 +5,7 @@ use Rattle.drt_table.specs.Node.{Held, is_pending, is_taken}
 use Rattle.drt_table.specs.Held.{held_offset}
 use Rattle.drt_table.specs.Machine.{separation, is_full}
 use Rattle.drt_table.specs.Taking.{taken_node, is_soon}
-use Rattle.drt_table.specs.View.{View, CanApply, IsStep, IsTable, setting_of, state_of}
+use Rattle.drt_table.specs.View.{View, CanApply, IsTableStep, IsTable, setting_of, state_of}
 use Rattle.drt_table.specs.declared.step.TableStep.TheVariants.{Take}
 use Rattle.drt_table.specs.declared.step.TableReply.TheVariants.{Taken}
 use Rattle.drt_table.proofs.Earliest.{Earliest, found_earliest}
@@ -45,7 +45,7 @@ returns-in-None g c =
       soon = c.is_soon-soon.ensures ∙ ap (λ s. is_soon a v.nodes s c.next-next.result c.holder-holder.result) sep_is;
       reply = c.choose-reply.ensures;
     } in
-    subst (λ (x : View _). IsStep a x x c.args.worker Take c.choose-reply.result) c.self.view_is
+    subst (λ (x : View _). IsTableStep a x x c.args.worker Take c.choose-reply.result) c.self.view_is
     (take_same a v c.args.worker c.next-next.result c.holder-holder.result c.reaches-full.result c.is_soon-soon.result c.choose-reply.result f (sym c.taken_by.ensures ∙ c.in-None.is))
 
 pub returns-in-Some : goal.returns-in-Some
@@ -66,8 +66,8 @@ returns-in-Some g c =
     let node_is : taken_node c.choose-reply.result ≡ Some c.in-Some.id = sym c.taken_by.ensures ∙ c.in-Some.is in
     let not_full : c.reaches-full.result ≡ false = taken_room a v c.next-next.result c.holder-holder.result c.reaches-full.result c.is_soon-soon.result c.choose-reply.result c.in-Some.id f node_is in
     let new : View _ = record { graph = v.graph; bound = v.bound; budget = v.budget; nodes = c.take_by.new.self.nodes; log = c.push_within.new.items.items } in
-    let step : IsStep a v new c.args.worker Take (Taken c.in-Some.id) = take_taken a v new c.args.worker c.in-Some.id c.next-next.result c.holder-holder.result c.reaches-full.result c.is_soon-soon.result c.choose-reply.result f node_is refl c.take_by.ensures.nodes_are c.push_within.ensures.items in
-    subst (λ (x : View _). IsStep a x new c.args.worker Take (Taken c.in-Some.id)) c.self.view_is step
+    let step : IsTableStep a v new c.args.worker Take (Taken c.in-Some.id) = take_taken a v new c.args.worker c.in-Some.id c.next-next.result c.holder-holder.result c.reaches-full.result c.is_soon-soon.result c.choose-reply.result f node_is refl c.take_by.ensures.nodes_are c.push_within.ensures.items in
+    subst (λ (x : View _). IsTableStep a x new c.args.worker Take (Taken c.in-Some.id)) c.self.view_is step
 
 pub invariant_of-self : goal.invariant_of-self
 invariant_of-self g c =
@@ -87,7 +87,7 @@ invariant_of-self g c =
     let node_is : taken_node c.choose-reply.result ≡ Some c.in-Some.id = sym c.taken_by.ensures ∙ c.in-Some.is in
     let not_full : c.reaches-full.result ≡ false = taken_room a v c.next-next.result c.holder-holder.result c.reaches-full.result c.is_soon-soon.result c.choose-reply.result c.in-Some.id f node_is in
     let new : View _ = record { graph = v.graph; bound = v.bound; budget = v.budget; nodes = c.take_by.new.self.nodes; log = c.push_within.new.items.items } in
-    let step : IsStep a v new c.args.worker Take (Taken c.in-Some.id) = take_taken a v new c.args.worker c.in-Some.id c.next-next.result c.holder-holder.result c.reaches-full.result c.is_soon-soon.result c.choose-reply.result f node_is refl c.take_by.ensures.nodes_are c.push_within.ensures.items in
+    let step : IsTableStep a v new c.args.worker Take (Taken c.in-Some.id) = take_taken a v new c.args.worker c.in-Some.id c.next-next.result c.holder-holder.result c.reaches-full.result c.is_soon-soon.result c.choose-reply.result f node_is refl c.take_by.ensures.nodes_are c.push_within.ensures.items in
     let can : CanApply a v c.args.worker Take = subst (λ (x : View _). CanApply a x c.args.worker Take) (sym c.self.view_is) c.requires in (
       table_more a v new c.args.worker Take (Taken c.in-Some.id) is can step c.push_within.ensures.items,
       c.take_by.ensures.vertices ∙ c.self.invariant.1,

@@ -1,17 +1,17 @@
 use Rattle.std.proofs.Common.{◌≡◌, ◌∙◌, length, ap, sym, subst, arith}
 use Rattle.drt_model.specs.Digraph.{vertex_count}
 use Rattle.drt_wave.specs.Fronts.{IsRangeEntry, IsWalkEntry, IsFrontOf, IsExactFront, CoversAll}
-use Rattle.drt_wave.specs.Gathered.{AreGathered}
+use Rattle.drt_wave.specs.Gathered.{AreCellsGathered}
 use Rattle.drt_wave.proofs.Kept.{gathered_front, gathered_covers, constrained_front, constrained_covers}
 use Rattle.drt_wave.proofs.dense.DenseFront.front.Goals as goal
 
 -- The entries are gathered up to the end.
-gathered : (c : goal.After-from_vec) → AreGathered c.args.self.now (vertex_count c.args.self.now.plan.graph) 0 c.vertices.front.items
+gathered : (c : goal.After-from_vec) → AreCellsGathered c.args.self.now (vertex_count c.args.self.now.plan.graph) 0 c.vertices.front.items
 gathered c =
     let d = c.args.self.now in
     let count : c.vertex_count-count.result ≡ vertex_count d.plan.graph = c.vertex_count-count.ensures.count ∙ ap vertex_count c.graph.ensures in
     let end : c.vertices.vertex ≡ vertex_count d.plan.graph = omega (arith, count, c.vertices-test.false, c.vertices.auto.vertex-end) in
-    subst (λ n. AreGathered d n 0 c.vertices.front.items) end c.vertices.invariant
+    subst (λ n. AreCellsGathered d n 0 c.vertices.front.items) end c.vertices.invariant
 
 pub returns-clause-non_dominated : goal.returns-clause-non_dominated
 returns-clause-non_dominated c =

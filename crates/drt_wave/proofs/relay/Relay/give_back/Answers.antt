@@ -2,7 +2,7 @@ use Rattle.std.proofs.Common.{◌≡◌, ℕ, List, [], ◌∷◌, ap, sym, subs
 use Rattle.std.specs.Prelude.{IfSome, slice_index_or}
 use Rattle.atomic_table.specs.Table.{rest}
 use Rattle.drt_wave.specs.declared.table.WaveTable.{WaveTable}
-use Rattle.drt_wave.specs.Seats.{IsRoom}
+use Rattle.drt_wave.specs.Seats.{HasRoomForLanes}
 use Rattle.drt_wave.specs.Shifts.{IsShift}
 use Rattle.drt_wave.proofs.relay.Relay.give_back.Goals as goal
 
@@ -27,4 +27,4 @@ returns-clause-me c =
 pub returns-clause-room : goal.returns-clause-room
 returns-clause-room c =
     let same = is_held c.args.self.now.lock.fixed c.slot_mut-desk.result.now c.args.seat.now.me.1 c.slot_mut-desk.ensures.value c.requires.desk in
-    subst (λ (t : WaveTable). IfSome c.give_back-room.result (λ room. IsRoom t room)) same c.give_back-room.ensures.room
+    subst (λ (t : WaveTable). IfSome c.give_back-room.result (λ room. HasRoomForLanes t room)) same c.give_back-room.ensures.room

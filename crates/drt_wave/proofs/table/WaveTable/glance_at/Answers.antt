@@ -1,7 +1,7 @@
 use Rattle.std.proofs.Common.{◌≤◌, sym, ap, subst, arith}
 use Rattle.drt_wave.specs.declared.view.LaneKey.{LaneKey}
 use Rattle.drt_wave.specs.declared.view.LaneView.{LaneView}
-use Rattle.drt_wave.specs.Net.{Among, Reached, IsBest}
+use Rattle.drt_wave.specs.Net.{Among, Reached, IsGreatestReaching}
 use Rattle.drt_wave.proofs.Seating.{found, vertex_inside, of_lane, low_wave, with_is_of, with_kept, with_same, raised_here}
 use Rattle.drt_wave.proofs.table.WaveTable.glance_at.Goals as goal
 
@@ -59,6 +59,6 @@ pub returns-clause-best : goal.returns-clause-best
 returns-clause-best c =
     let f = found c.args.self.now c.args.seat.now c.args.vertex c.index-as_slice-vertex.result c.index_mut.result.now c.as_slice.result.now c.requires.seat
     (vertex_inside c.args.self.now c.args.vertex c.requires.vertex) c.as_slice.ensures c.index-as_slice-vertex.is c.index_mut.ensures.value in
-    λ k known low. of_lane (λ g b. IsBest g b c.glance.result) c.args.self.now.plan c.args.vertex c.args.offset c.index-as_slice-vertex.result f.lane
+    λ k known low. of_lane (λ g b. IsGreatestReaching g b c.glance.result) c.args.self.now.plan c.args.vertex c.args.offset c.index-as_slice-vertex.result f.lane
     (c.glance.ensures.read.best
     (low_wave c.args.self.now.plan c.args.seat.now c.args.vertex c.args.offset k c.index-as_slice-vertex.result c.index_mut.result.now f.lane f.at_seat c.requires.offset known low))
