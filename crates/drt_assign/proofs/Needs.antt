@@ -4,7 +4,7 @@ use Rattle.std.proofs.Math.Nat.{mul-le-mul}
 use Rattle.std.proofs.lemmas.Bool.{cases_Bool}
 use Rattle.drt_model.specs.declared.tasks.Task.{Task}
 use Rattle.drt_model.specs.Contents.{Contents}
-use Rattle.drt_model.specs.Degrees.{most_out}
+use Rattle.drt_graph.specs.Degrees.{most_out}
 use Rattle.drt_model.specs.Digraph.{Digraph, vertex_count}
 use Rattle.drt_model.specs.Limits.{IsTask, IsTaskSet}
 use Rattle.drt_model.specs.Walk.{span}

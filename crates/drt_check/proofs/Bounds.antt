@@ -4,7 +4,7 @@ use Rattle.std.proofs.lemmas.Int.{ints}
 use Rattle.std.proofs.lemmas.Bool.{cases_lt}
 use Rattle.std.proofs.lemmas.List.{get_or_past}
 use Rattle.drt_model.specs.Digraph.{Digraph}
-use Rattle.drt_model.specs.Potential.{potential_of}
+use Rattle.drt_graph.specs.Potential.{potential_of}
 use Rattle.drt_claims.specs.Claims.{fraction_of, fractions, IsFine}
 use Rattle.drt_claims.specs.Ranges.{IsInRangePotential, IsInRangeRatio}
 use Rattle.drt_claims.specs.declared.evidence.RatioClaim.{RatioClaim}

@@ -13,7 +13,7 @@ use Rattle.drt_claims.specs.Rules.{HasClaimedUtilisation, Keeps, number_of}
 use Rattle.drt_claims.specs.Statement.{Statement}
 use Rattle.drt_claims.specs.declared.evidence.Evidence.{Evidence}
 use Rattle.drt_claims.specs.declared.evidence.Evidence.TheVariants.{EdfYes}
-use Rattle.drt_model.specs.declared.front.FrontEntry.{FrontEntry}
+use Rattle.drt_graph.specs.declared.front.FrontEntry.{FrontEntry}
 use Rattle.drt_claims.specs.declared.evidence.RatioClaim.{RatioClaim}
 use Rattle.drt_claims.specs.declared.rule.Rule.{Rule}
 use Rattle.drt_claims.specs.declared.rule.Rule.TheVariants.{RatioPerTask, FineScale, ClaimedUtilisation, NearHorizon, OrderedFronts}

@@ -10,10 +10,10 @@ use Rattle.drt_graph.proofs.Edges.{edge_of_sep, target_of}
 use Rattle.drt_graph.proofs.Paths.{span_cons, span_none, work_cons, work_none}
 use Rattle.drt_busy.specs.Choice.{AreDueBy, AreWalks, IsWalk, due_of, efforts}
 use Rattle.drt_sweep.specs.Dues.{sum_due}
-use Rattle.drt_model.specs.declared.front.FrontEntry.{FrontEntry}
+use Rattle.drt_graph.specs.declared.front.FrontEntry.{FrontEntry}
 use Rattle.drt_claims.specs.Claims.{Each, graphs_of}
-use Rattle.drt_model.specs.FrontEntry.{due}
-use Rattle.drt_claims.specs.Fronts.{Covers, HasOpenings, IsClosedFront, IsExtended, work_due, works_due}
+use Rattle.drt_graph.specs.FrontEntry.{due, Covers}
+use Rattle.drt_claims.specs.Fronts.{HasOpenings, IsClosedFront, IsExtended, work_due, works_due}
 use Rattle.drt_check.proofs.SoundWalks.{efforts_cons, efforts_none}
 
 -- With constrained deadlines the first vertex of a walk is due by the walk's last deadline.

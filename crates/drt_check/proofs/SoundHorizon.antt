@@ -4,8 +4,8 @@ use Rattle.std.specs.Int.{◌∣◌}
 use Rattle.std.proofs.lemmas.Bool.{cases_lt}
 use Rattle.drt_model.specs.declared.tasks.Task.{Task}
 use Rattle.drt_model.specs.Digraph.{Digraph, IsSoundGraph, digraph_of}
-use Rattle.drt_model.specs.Horizon.{above_zero, constant_of, extra}
-use Rattle.drt_model.specs.RatioRules.{FitPotentials}
+use Rattle.drt_graph.specs.Horizon.{above_zero, constant_of, extra}
+use Rattle.drt_graph.specs.RatioRules.{FitPotentials}
 use Rattle.drt_model.specs.Utilisation.{EachDivides, rate}
 use Rattle.drt_model.specs.Walk.{work}
 use Rattle.drt_graph.proofs.Bounds.{beyond, scaled_work}

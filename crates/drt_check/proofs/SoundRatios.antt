@@ -7,8 +7,8 @@ use Rattle.std.proofs.lemmas.Int.{ints}
 use Rattle.std.proofs.lemmas.List.{length-map}
 use Rattle.std.proofs.lemmas.Nat.Gcd.{IsGcd-from_zero, IsGcd-swap, same_from_IsGcd, le_of_dvd}
 use Rattle.drt_model.specs.Digraph.{Digraph, digraph_of}
-use Rattle.drt_model.specs.Potential.{potential_of}
-use Rattle.drt_model.specs.RatioRules.{FitPotentials, IsClosedCycle, IsTight}
+use Rattle.drt_graph.specs.Potential.{potential_of}
+use Rattle.drt_graph.specs.RatioRules.{FitPotentials, IsClosedCycle, IsTight}
 use Rattle.drt_model.specs.Utilisation.{AreRatios, HasRatio, BoundsCycles}
 use Rattle.drt_model.specs.Walk.{gap, last_of, span, work}
 use Rattle.drt_graph.proofs.Bounds.{rises}

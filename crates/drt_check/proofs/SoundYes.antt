@@ -13,7 +13,7 @@ use Rattle.drt_busy.specs.Decide.{DeadlinesDecide}
 use Rattle.drt_graph.proofs.Soundness.{are_graphs}
 use Rattle.drt_claims.specs.Claims.{graphs_of}
 use Rattle.drt_claims.specs.Fronts.{HasOpenings}
-use Rattle.drt_model.specs.declared.front.FrontEntry.{FrontEntry}
+use Rattle.drt_graph.specs.declared.front.FrontEntry.{FrontEntry}
 use Rattle.drt_claims.specs.declared.evidence.RatioClaim.{RatioClaim}
 use Rattle.drt_claims.proofs.Accepting.{IsEdfYes}
 use Rattle.drt_check_fronts.proofs.Eachs.{each_count}

@@ -5,8 +5,8 @@ use Rattle.std.specs.List.Sorted.{IsPartitionedBy, IsPartitionPoint}
 use Rattle.std.proofs.lemmas.Bool.{cases_lt, eqb-true, ltb-true, leb-true, lt-ltb, le-leb, eq-eqb}
 use Rattle.std.proofs.lemmas.List.{get_or_default}
 use Rattle.drt_model.specs.Legal.{AllNeighbours}
-use Rattle.drt_model.specs.declared.front.FrontEntry.{FrontEntry}
-use Rattle.drt_claims.specs.Fronts.{Covers, IsNextEntry}
+use Rattle.drt_graph.specs.declared.front.FrontEntry.{FrontEntry}
+use Rattle.drt_graph.specs.FrontEntry.{IsNextEntry, Covers}
 
 next_trans : (a b c : FrontEntry) → IsNextEntry a b → IsNextEntry b c → IsNextEntry a c
 next_trans a b c (inl p) (inl q) = inl (omega arith)

@@ -4,9 +4,9 @@ use Rattle.std.proofs.lemmas.Bool.{eqb-true}
 use Rattle.std.proofs.lemmas.Bool.Decides.{nat_tests}
 use Rattle.drt_model.specs.Digraph.{Digraph}
 use Rattle.drt_sweep.specs.Dues.{sum_due}
-use Rattle.drt_model.specs.declared.front.FrontEntry.{FrontEntry}
+use Rattle.drt_graph.specs.declared.front.FrontEntry.{FrontEntry}
 use Rattle.drt_claims.specs.Claims.{Each}
-use Rattle.drt_model.specs.FrontEntry.{due}
+use Rattle.drt_graph.specs.FrontEntry.{due}
 use Rattle.drt_claims.specs.Fronts.{HaveRoom, work_due, works_due}
 
 same_test : (x t : ℕ) → eqb x (suc t) ≡ false → leb x (suc t) ≡ leb x t

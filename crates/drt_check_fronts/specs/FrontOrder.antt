@@ -1,7 +1,7 @@
 -- Fronts in order within a bound.
 use Rattle.std.specs.Prelude.{◌≡◌, ℕ, List, length}
 use Rattle.drt_model.specs.Digraph.{Digraph}
-use Rattle.drt_model.specs.declared.front.FrontEntry.{FrontEntry}
+use Rattle.drt_graph.specs.declared.front.FrontEntry.{FrontEntry}
 use Rattle.drt_claims.specs.Claims.{Each}
 use Rattle.drt_claims.specs.Fronts.{IsOrdered}
 

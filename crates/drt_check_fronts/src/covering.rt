@@ -1,7 +1,7 @@
 //! The search for an entry that covers a label.
 ghost use Rattle.std.specs.Prelude.{◌↔◌, Any, IsTrue};
 ghost use Rattle.drt_model.specs.Legal.{AllNeighbours};
-ghost use Rattle.drt_claims.specs.Fronts.{Covers, IsNextEntry};
+ghost use Rattle.drt_graph.specs.FrontEntry.{IsNextEntry, Covers};
 
 use drt_claims::FrontEntry;
 

@@ -4,7 +4,8 @@ ghost use Rattle.drt_model.specs.Digraph.{vertex_count};
 ghost use Rattle.drt_model.specs.Legal.{AllNeighbours};
 ghost use Rattle.drt_model.specs.Walk.{deadline, wcet};
 ghost use Rattle.drt_claims.specs.Claims.{Each};
-ghost use Rattle.drt_claims.specs.Fronts.{Covers, HasOpenings, IsNextEntry};
+ghost use Rattle.drt_claims.specs.Fronts.{HasOpenings};
+ghost use Rattle.drt_graph.specs.FrontEntry.{IsNextEntry, Covers};
 ghost use Rattle.drt_check_fronts.specs.FrontOrder.{AreFrontsInOrder};
 
 use crate::covering::is_covered;

@@ -1,7 +1,8 @@
 //! Whether the entries of fronts are within a bound and in order.
 ghost use Rattle.std.specs.Prelude.{◌≡◌, ◌↔◌, All, IsTrue, length};
 ghost use Rattle.drt_model.specs.Legal.{AllNeighbours};
-ghost use Rattle.drt_claims.specs.Fronts.{IsNextEntry, IsOrdered, IsEntryWithin};
+ghost use Rattle.drt_claims.specs.Fronts.{IsOrdered, IsEntryWithin};
+ghost use Rattle.drt_graph.specs.FrontEntry.{IsNextEntry};
 ghost use Rattle.drt_claims.specs.Ranges.{IsInRangeEntry};
 ghost use Rattle.drt_check_fronts.specs.FrontOrder.{AreFrontsInOrder};
 

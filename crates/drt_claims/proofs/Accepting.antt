@@ -20,7 +20,7 @@ use Rattle.drt_claims.specs.Statement.{Statement}
 use Rattle.drt_claims.specs.Trees.{CoversWalks, HasShortWalks, IsTree, IsTreePerHigherTask, greatest_deadline, tree_graphs}
 use Rattle.drt_claims.specs.declared.evidence.Evidence.{Evidence}
 use Rattle.drt_claims.specs.declared.evidence.Evidence.TheVariants.{EdfYes, EdfNo, UtilisationOne, FixedYes, FixedStates, FixedNo}
-use Rattle.drt_model.specs.declared.front.FrontEntry.{FrontEntry}
+use Rattle.drt_graph.specs.declared.front.FrontEntry.{FrontEntry}
 use Rattle.drt_claims.specs.declared.evidence.ProofClaim.{ProofClaim}
 use Rattle.drt_claims.specs.declared.evidence.RatioClaim.{RatioClaim}
 use Rattle.drt_claims.specs.declared.evidence.TreeClaim.{TreeClaim}

@@ -4,8 +4,8 @@ use Rattle.std.specs.Int.{IsGcd}
 use Rattle.drt_model.specs.declared.tasks.Task.{Task}
 use Rattle.drt_model.specs.Digraph.{Digraph, digraph_of}
 use Rattle.drt_model.specs.Utilisation.{Fraction, IsScale, rate}
-use Rattle.drt_model.specs.Horizon.{horizon}
-use Rattle.drt_model.specs.RatioRules.{ArePotentialsCounted, FitPotentials, IsClosedCycle, IsTight}
+use Rattle.drt_graph.specs.Horizon.{horizon}
+use Rattle.drt_graph.specs.RatioRules.{ArePotentialsCounted, FitPotentials, IsClosedCycle, IsTight}
 use Rattle.drt_claims.specs.declared.evidence.RatioClaim.{RatioClaim}
 
 -- The graphs of the tasks, in order.

@@ -1,28 +1,20 @@
 -- Claimed fronts: for each task labels that are to dominate the labels of all its walks within the horizon.
 use Rattle.std.specs.Prelude.{◌≡◌, ℕ, ◌+◌, ◌≤◌, ◌<◌, ◌⊎◌, List, All, Any}
 use Rattle.drt_model.specs.Digraph.{Digraph, vertex_count, out_degree, edge_of}
-use Rattle.drt_model.specs.FrontEntry.{due}
+use Rattle.drt_graph.specs.FrontEntry.{due, IsNextEntry, Covers}
 use Rattle.drt_model.specs.Walk.{wcet, deadline}
 use Rattle.drt_model.specs.Legal.{AllNeighbours}
 use Rattle.drt_sweep.specs.Dues.{greatest_due, sum_due}
-use Rattle.drt_model.specs.declared.front.FrontEntry.{FrontEntry}
+use Rattle.drt_graph.specs.declared.front.FrontEntry.{FrontEntry}
 use Rattle.drt_claims.specs.Claims.{Each}
 
 -- The entry names a vertex, and its last job is due within the bound.
 abbrev pub IsEntryWithin : Digraph → ℕ → FrontEntry → Type 0
 IsEntryWithin g bound e = (e.vertex < vertex_count g) × (due g e ≤ bound)
 
--- The next entry is of a later vertex, or of the same one with a greater offset and a greater work.
-abbrev pub IsNextEntry : FrontEntry → FrontEntry → Type 0
-IsNextEntry d e = (d.vertex < e.vertex) ⊎ ((d.vertex ≡ e.vertex) × (d.offset < e.offset) × (d.work < e.work))
-
 -- The entries are within the bound, and stand in order of vertices and then of offsets; for one vertex their works rise.
 abbrev pub IsOrdered : ℕ → Digraph → List FrontEntry → Type 0
 IsOrdered bound g front = All (IsEntryWithin g bound) front × AllNeighbours IsNextEntry front
-
--- The entry is of that vertex, has at most that offset and at least that work.
-abbrev pub Covers : ℕ → ℕ → ℕ → FrontEntry → Type 0
-Covers vertex offset work e = (e.vertex ≡ vertex) × (e.offset ≤ offset) × (work ≤ e.work)
 
 -- The walk of each single vertex that is due within the bound is covered by an entry.
 abbrev pub HasOpenings : ℕ → Digraph → List FrontEntry → Type 0

@@ -1,5 +1,6 @@
 //! What a dossier claims of a task set.
-use drt_model::{FrontEntry, Miss, Policy, Release, Row, TaskSet};
+use drt_graph::FrontEntry;
+use drt_model::{Miss, Policy, Release, Row, TaskSet};
 use drt_states::{SearchClaim, TailClaim};
 use std::marker::Model;
 

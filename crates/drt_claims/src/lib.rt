@@ -11,6 +11,6 @@
 mod evidence;
 mod rule;
 
-pub use drt_model::FrontEntry;
+pub use drt_graph::FrontEntry;
 pub use evidence::{Dossier, Evidence, Item, Pair, ProofClaim, RatioClaim, TreeClaim};
 pub use rule::Rule;

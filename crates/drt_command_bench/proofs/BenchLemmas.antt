@@ -4,12 +4,13 @@ use Rattle.drt_model.specs.Contents.{Contents}
 use Rattle.drt_model.specs.Digraph.{Digraph}
 use Rattle.drt_model.specs.Legal.{AllNeighbours}
 use Rattle.drt_model.specs.Limits.{IsTaskSet}
-use Rattle.drt_model.specs.declared.front.FrontEntry.{FrontEntry}
+use Rattle.drt_graph.specs.declared.front.FrontEntry.{FrontEntry}
 use Rattle.drt_model.specs.declared.jobs.Release.{Release}
 use Rattle.drt_model.specs.declared.jobs.Miss.{Miss}
 use Rattle.drt_model.specs.declared.tasks.Task.{Task}
 use Rattle.drt_claims.specs.Claims.{graphs_of, Each}
-use Rattle.drt_claims.specs.Fronts.{IsNextEntry, IsOrdered}
+use Rattle.drt_claims.specs.Fronts.{IsOrdered}
+use Rattle.drt_graph.specs.FrontEntry.{IsNextEntry}
 use Rattle.drt_claims.specs.Rates.{IsAtOne}
 use Rattle.drt_claims.specs.declared.evidence.RatioClaim.{RatioClaim}
 use Rattle.drt_claims.specs.declared.evidence.ProofClaim.{ProofClaim}

@@ -3,7 +3,7 @@
 use Rattle.std.proofs.Common.{◌≡◌, ◌≤◌, ◌⊎◌, inl, inr, arith}
 use Rattle.std.specs.Prelude.{IsTrue}
 use Rattle.std.proofs.lemmas.Bool.Decides.{nat_tests}
-use Rattle.drt_model.specs.declared.front.FrontEntry.{FrontEntry}
+use Rattle.drt_graph.specs.declared.front.FrontEntry.{FrontEntry}
 use Rattle.drt_demand.specs.Demand.{dominates}
 
 by_work : (x y : FrontEntry) → x.vertex ≡ y.vertex → x.offset ≡ y.offset → (x.work ≤ y.work) ⊎ (y.work ≤ x.work) → IsTrue (dominates x y) ⊎ IsTrue (dominates y x)

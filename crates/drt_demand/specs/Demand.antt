@@ -1,7 +1,7 @@
 -- Demand labels as values.
 use Rattle.std.specs.Prelude.{ℕ, ◌+◌, ◌*◌, ◌≤◌, Bool, true, ◌==◌, nat_le, ◌&&◌, replicate}
 use Rattle.drt_label.specs.Algebra.{Algebra}
-use Rattle.drt_model.specs.declared.front.FrontEntry.{FrontEntry}
+use Rattle.drt_graph.specs.declared.front.FrontEntry.{FrontEntry}
 
 -- The greatest bound of a table of demand labels, 2^40 ticks.
 abbrev pub greatest_bound : ℕ

@@ -2,11 +2,10 @@
 
 ghost use Rattle.std.specs.Prelude.{◌≡◌, ℕ, ◌<◌, ◌≤◌, ◌↔◌, All, IsTrue};
 ghost use Rattle.drt_model.specs.Digraph.{vertex_count};
-ghost use Rattle.drt_model.specs.FrontEntry.{due};
+ghost use Rattle.drt_graph.specs.FrontEntry.{due};
 ghost use Rattle.drt_demand.specs.Dbf.{dbf_at};
 
-use drt_graph::Graph;
-use drt_model::FrontEntry;
+use drt_graph::{FrontEntry, Graph};
 
 /// Whether the last job of a label's walk is due at `t` or before, in ticks.
 pub fn is_due(graph: &Graph, label: FrontEntry, t: u64) -> bool

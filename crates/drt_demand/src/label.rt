@@ -1,7 +1,8 @@
 //! The demand label.
 
 ghost use Rattle.std.specs.Prelude.{◌≡◌, ℕ, ◌≤◌, IfOk, IsTrue};
-ghost use Rattle.drt_label.specs.Algebra.{Algebra, Laws, IsTime};
+ghost use Rattle.drt_label.specs.Algebra.{Algebra, Laws};
+ghost use Rattle.drt_model.specs.Limits.{IsTime};
 ghost use Rattle.drt_demand.specs.Laws.{demand_laws};
 ghost use Rattle.drt_demand.specs.Demand.{demand_algebra};
 
@@ -24,7 +25,7 @@ pub struct DemandLabel {
 }
 
 impl Model for DemandLabel {
-    ghost use Rattle.drt_model.specs.declared.front.FrontEntry.{FrontEntry};
+    ghost use Rattle.drt_graph.specs.declared.front.FrontEntry.{FrontEntry};
 
     ghost Value = { FrontEntry };
 

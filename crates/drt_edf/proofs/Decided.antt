@@ -4,7 +4,7 @@ use Rattle.std.specs.Prelude.{Ok}
 use Rattle.drt_model.specs.declared.tasks.Task.{Task}
 use Rattle.drt_model.specs.Digraph.{Digraph, IsSoundGraph}
 use Rattle.drt_graph.specs.Graphs.{AreGraphs}
-use Rattle.drt_model.specs.declared.front.FrontEntry.{FrontEntry}
+use Rattle.drt_graph.specs.declared.front.FrontEntry.{FrontEntry}
 use Rattle.drt_ratio.specs.declared.ratio_proof.RatioProof.{RatioProof}
 use Rattle.drt_horizon.specs.declared.answers.Horizon.TheVariants.{Under}
 use Rattle.drt_horizon.specs.Given.{AreGiven}

@@ -6,7 +6,7 @@ use Rattle.std.proofs.lemmas.List.{length-map}
 use Rattle.drt_model.specs.Constrained.{AreConstrained}
 use Rattle.drt_model.specs.Digraph.{Digraph, digraph_of}
 use Rattle.drt_model.specs.Utilisation.{IsScale}
-use Rattle.drt_model.specs.Horizon.{horizon}
+use Rattle.drt_graph.specs.Horizon.{horizon}
 use Rattle.drt_ratio.specs.declared.ratio_proof.RatioProof.{RatioProof}
 use Rattle.drt_ratio.specs.SetRatios.{fractions_of}
 use Rattle.drt_horizon.specs.declared.answers.Horizon.TheVariants.{Under, One, Over}

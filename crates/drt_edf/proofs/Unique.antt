@@ -5,8 +5,8 @@ use Rattle.std.proofs.lemmas.Int.{ints}
 use Rattle.drt_model.specs.declared.tasks.Task.{Task}
 use Rattle.drt_model.specs.Digraph.{Digraph, IsSoundGraph}
 use Rattle.drt_model.specs.Utilisation.{Fraction, IsScale}
-use Rattle.drt_model.specs.Potential.{IsPotential, potential_of, AreCanonical}
-use Rattle.drt_model.specs.Horizon.{horizon}
+use Rattle.drt_graph.specs.Potential.{IsPotential, potential_of, AreCanonical}
+use Rattle.drt_graph.specs.Horizon.{horizon}
 use Rattle.drt_graph.proofs.Scales.{scale_same}
 use Rattle.drt_ratio.proofs.Unique.{ratios_same}
 use Rattle.drt_claims.specs.Claims.{graphs_of}

@@ -14,7 +14,7 @@ use Rattle.drt_busy.specs.Choice.{AreWalks, AreDueBy, efforts}
 use Rattle.drt_busy.specs.Decide.{DeadlinesDecide}
 use Rattle.drt_graph.specs.Graphs.{AreGraphs}
 use Rattle.drt_graph.proofs.Edges.{sep_of_edge, gap_of}
-use Rattle.drt_model.specs.declared.front.FrontEntry.{FrontEntry}
+use Rattle.drt_graph.specs.declared.front.FrontEntry.{FrontEntry}
 use Rattle.drt_ratio.specs.declared.ratio_proof.RatioProof.{RatioProof}
 use Rattle.drt_ratio.proofs.Optima.{path_sums}
 use Rattle.drt_graph.proofs.Paths.{path_both, last_both, work_both, span_both, work_cons, work_none, span_cons, span_none, path_within}
@@ -24,7 +24,7 @@ use Rattle.drt_horizon.specs.Given.{AreGiven}
 use Rattle.drt_horizon.specs.Laws.{HorizonHolds}
 use Rattle.drt_horizon.specs.Plans.{IsHorizonPlan}
 use Rattle.drt_claims.specs.Claims.{graphs_of, Each}
-use Rattle.drt_model.specs.FrontEntry.{due}
+use Rattle.drt_graph.specs.FrontEntry.{due}
 use Rattle.drt_claims.specs.Fronts.{IsOrdered, HasOpenings, IsExtended, IsClosedFront, works_due, HaveRoom}
 use Rattle.drt_claims.specs.Ranges.{IsInRangeEntry}
 use Rattle.drt_claims.proofs.Accepting.{AreFrontClaims, yes_accepted}

@@ -17,7 +17,7 @@ use Rattle.drt_claims.specs.Ranges.{IsEvidenceInRange}
 use Rattle.drt_claims.specs.Rules.{Accepts}
 use Rattle.drt_claims.specs.declared.evidence.Evidence.{Evidence}
 use Rattle.drt_claims.specs.declared.evidence.Evidence.TheVariants.{EdfYes, EdfNo, UtilisationOne, FixedYes, FixedStates, FixedNo, Undecided}
-use Rattle.drt_model.specs.declared.front.FrontEntry.{FrontEntry}
+use Rattle.drt_graph.specs.declared.front.FrontEntry.{FrontEntry}
 use Rattle.drt_claims.specs.declared.evidence.RatioClaim.{RatioClaim}
 use Rattle.drt_claims.specs.Rates.{IsAtOne}
 use Rattle.drt_edf.specs.Plans.{IsAboveOne, HasHorizon, IsTooFar, AreTooFine}

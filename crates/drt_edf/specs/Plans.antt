@@ -3,8 +3,8 @@ use Rattle.std.specs.Prelude.{◌≡◌, ℕ, ◌≤◌, ◌<◌, ◌^◌, ℤ, 
 use Rattle.drt_model.specs.declared.tasks.Task.{Task}
 use Rattle.drt_model.specs.Digraph.{Digraph}
 use Rattle.drt_model.specs.Utilisation.{Fraction, rate}
-use Rattle.drt_model.specs.Potential.{AreCanonical}
-use Rattle.drt_model.specs.Horizon.{horizon}
+use Rattle.drt_graph.specs.Potential.{AreCanonical}
+use Rattle.drt_graph.specs.Horizon.{horizon}
 use Rattle.drt_claims.specs.Claims.{graphs_of}
 use Rattle.drt_claims.specs.Rates.{Rates}
 

@@ -1,7 +1,7 @@
 -- The fronts of the tasks, one after another.
 use Rattle.std.proofs.Common.{ℕ, List, [], ◌∷◌, ◌++◌}
 use Rattle.drt_model.specs.Digraph.{Digraph}
-use Rattle.drt_model.specs.declared.front.FrontEntry.{FrontEntry}
+use Rattle.drt_graph.specs.declared.front.FrontEntry.{FrontEntry}
 use Rattle.drt_rates.specs.Demands.{IsFront, AreFronts}
 
 -- One more front.

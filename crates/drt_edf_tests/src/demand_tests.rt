@@ -3,9 +3,8 @@ ghost use Rattle.std.specs.Prelude.{IsTrue, ◌<◌, ◌≤◌, length};
 use drt_demand::{DemandLabel, dbf};
 use drt_fixtures::make_set;
 use drt_fixtures::shapes::RETURNING;
-use drt_graph::check;
+use drt_graph::{FrontEntry, check};
 use drt_label::{Label, Memory};
-use drt_model::FrontEntry;
 use std::alloc::Global;
 use std::test::Fail;
 

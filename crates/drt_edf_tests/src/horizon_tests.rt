@@ -3,9 +3,9 @@ ghost use Rattle.drt_rates.specs.Demands.{AreFronts, IsFront};
 
 use drt_fixtures::shapes::BRANCHING;
 use drt_fixtures::{Shape, make_set};
-use drt_graph::{Graph, Graphs, check};
+use drt_graph::{FrontEntry, Graph, Graphs, check};
 use drt_horizon::{Beyond, Horizon, Over, overload, plan, ratios, scan};
-use drt_model::{FrontEntry, Row};
+use drt_model::Row;
 use std::alloc::Global;
 use std::test::Fail;
 

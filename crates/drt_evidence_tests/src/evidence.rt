@@ -1,7 +1,8 @@
 //! The values that lines of evidence are read as, each below one set and printed again as it was.
 use crate::texts::dossier_below;
 use drt_claims::{Evidence, Item, Pair, ProofClaim, RatioClaim, TreeClaim};
-use drt_model::{FrontEntry, Miss, Release, Row};
+use drt_graph::FrontEntry;
+use drt_model::{Miss, Release, Row};
 use drt_states::{Jump, StateClaim, StateEnd, StateEntry};
 use std::alloc::Global;
 use std::test::Fail;

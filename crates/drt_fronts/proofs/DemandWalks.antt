@@ -4,9 +4,9 @@ use Rattle.std.specs.Prelude.{max, nat_le, Contains}
 use Rattle.std.proofs.lemmas.Bool.{cases_lt, leb-true}
 use Rattle.drt_model.specs.Digraph.{Digraph}
 use Rattle.drt_model.specs.Walk.{last_of, deadline}
-use Rattle.drt_model.specs.declared.front.FrontEntry.{FrontEntry}
+use Rattle.drt_graph.specs.declared.front.FrontEntry.{FrontEntry}
 use Rattle.drt_graph.proofs.Paths.{work_none}
-use Rattle.drt_model.specs.FrontEntry.{due}
+use Rattle.drt_graph.specs.FrontEntry.{due}
 use Rattle.drt_demand.specs.Dbf.{dbf_at}
 use Rattle.drt_fronts.specs.DemandWalk.{IsGreatestDue, IsDemandWalkTo}
 use Rattle.drt_fronts.specs.LabelFronts.{IsDemandWalk}

@@ -6,14 +6,15 @@ use Rattle.std.proofs.lemmas.Bool.Decides.{nat_tests}
 use Rattle.std.proofs.lemmas.List.Elements.{All-weaker, All-contains}
 use Rattle.drt_model.specs.Digraph.{IsSoundGraph, IsConstrainedGraph}
 use Rattle.drt_model.specs.Legal.{AllNeighbours}
-use Rattle.drt_model.specs.declared.front.FrontEntry.{FrontEntry}
+use Rattle.drt_graph.specs.declared.front.FrontEntry.{FrontEntry}
 use Rattle.drt_demand.specs.Demand.{demand_algebra, dominates}
 use Rattle.drt_table.specs.Node.{NodeOf}
 use Rattle.drt_table.specs.Machine.{Setting, IsRun, replay, is_finished}
 use Rattle.drt_table.specs.View.{View, IsTable, setting_of, state_of}
 use Rattle.drt_table.specs.declared.step.Entry.{Entry}
 use Rattle.drt_table.specs.Cover.{IsFront, IsNonDominated as IsAlone}
-use Rattle.drt_claims.specs.Fronts.{Covers, IsEntryWithin, IsNextEntry}
+use Rattle.drt_claims.specs.Fronts.{IsEntryWithin}
+use Rattle.drt_graph.specs.FrontEntry.{IsNextEntry, Covers}
 use Rattle.drt_fronts.specs.Falling.{IsLowerEntry}
 use Rattle.drt_fronts.specs.LabelFronts.{IsLabelFront}
 use Rattle.drt_wave.specs.Fronts.{IsWalkEntry}

@@ -8,7 +8,7 @@ use Rattle.drt_model.specs.Digraph.{Digraph, IsSoundGraph, IsConstrainedGraph, v
 use Rattle.drt_model.specs.Walk.{gap, wcet, deadline, sep, IsEdge, IsPath, last_of, span, work}
 use Rattle.drt_graph.proofs.Edges.{sep_of_edge, edge_of_sep, gap_of, source_of}
 use Rattle.drt_graph.proofs.Paths.{path_both, path_within, last_both, work_cons, work_none, span_cons, span_none}
-use Rattle.drt_model.specs.declared.front.FrontEntry.{FrontEntry}
+use Rattle.drt_graph.specs.declared.front.FrontEntry.{FrontEntry}
 use Rattle.drt_demand.specs.Demand.{demand_algebra, opening, extend, dominates}
 use Rattle.drt_demand.specs.Laws.{demand_laws}
 use Rattle.drt_demand.specs.WalkLabel.{demand_of}
@@ -17,7 +17,6 @@ use Rattle.drt_table.specs.Machine.{Setting, in_range, extended}
 use Rattle.drt_table.specs.Walk.{WalkTo, IsWalkLabel}
 use Rattle.drt_table.specs.Cover.{IsNonDominated as IsAlone}
 use Rattle.drt_table.proofs.Walks.{walk_vertex, walk_range}
-use Rattle.drt_claims.specs.Fronts.{Covers}
 use Rattle.drt_wave.specs.Fronts.{IsWalkEntry, IsNonDominatedEntry}
 
 -- Two labels with the same parts are equal.

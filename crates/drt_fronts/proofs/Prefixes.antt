@@ -7,8 +7,8 @@ use Rattle.drt_model.specs.Digraph.{Digraph, IsSoundGraph, IsConstrainedGraph, v
 use Rattle.drt_model.specs.Walk.{wcet, deadline, gap, IsEdge, IsPath, last_of, work, span}
 use Rattle.drt_graph.proofs.Edges.{edge_of_sep, source_of, target_of}
 use Rattle.drt_graph.proofs.Paths.{path_both, last_both, work_both, span_both, work_cons, work_none, span_cons, span_none}
-use Rattle.drt_model.specs.declared.front.FrontEntry.{FrontEntry}
-use Rattle.drt_model.specs.FrontEntry.{due}
+use Rattle.drt_graph.specs.declared.front.FrontEntry.{FrontEntry}
+use Rattle.drt_graph.specs.FrontEntry.{due}
 use Rattle.drt_claims.specs.Fronts.{IsEntryWithin}
 use Rattle.drt_fronts.specs.DemandWalk.{IsPrefixLabel, IsDemandWalkTo}
 use Rattle.drt_fronts.specs.LabelFronts.{IsLabelFront}

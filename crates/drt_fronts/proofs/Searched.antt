@@ -1,7 +1,7 @@
 -- How the searches of the tasks' walks end.
 use Rattle.std.proofs.Common.{◌≡◌, ℕ, ◌<◌, false, length, sym, ap, arith, ◌∙◌, subst}
 use Rattle.drt_model.specs.Digraph.{Digraph}
-use Rattle.drt_model.specs.declared.front.FrontEntry.{FrontEntry}
+use Rattle.drt_graph.specs.declared.front.FrontEntry.{FrontEntry}
 use Rattle.drt_demand.specs.Demand.{demand_algebra}
 use Rattle.drt_table.specs.Drive.{StopsAt}
 use Rattle.drt_table.specs.Machine.{IsRun, is_finished, replay}

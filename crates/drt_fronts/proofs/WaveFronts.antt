@@ -3,9 +3,10 @@ use Rattle.std.proofs.Common.{ℕ, ◌<◌, List, get_or, sym, subst}
 use Rattle.std.proofs.lemmas.List.{get_or_default}
 use Rattle.drt_model.specs.Digraph.{Digraph, IsSoundGraph, vertex_count}
 use Rattle.drt_model.specs.Legal.{AllNeighbours}
-use Rattle.drt_model.specs.declared.front.FrontEntry.{FrontEntry}
+use Rattle.drt_graph.specs.declared.front.FrontEntry.{FrontEntry}
 use Rattle.drt_graph.proofs.Paths.{path_within}
-use Rattle.drt_claims.specs.Fronts.{IsEntryWithin, IsNextEntry}
+use Rattle.drt_claims.specs.Fronts.{IsEntryWithin}
+use Rattle.drt_graph.specs.FrontEntry.{IsNextEntry}
 use Rattle.drt_wave.specs.Fronts.{CoversAll}
 use Rattle.drt_wave.specs.Fronts.{IsWalkEntry, IsExactFront}
 use Rattle.drt_fronts.specs.LabelFronts.{IsLabelFront}

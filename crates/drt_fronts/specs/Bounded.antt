@@ -1,13 +1,13 @@
 -- That the search of a graph's walks is bounded, whether it is finished or not.
 use Rattle.std.specs.Prelude.{◌≡◌, ℕ, ◌+◌, ◌*◌, ◌≤◌, ◌<◌, IsTrue, false, Some, List, length, slice_get}
 use Rattle.drt_model.specs.Digraph.{Digraph, IsSoundGraph, vertex_count}
-use Rattle.drt_model.specs.declared.front.FrontEntry.{FrontEntry}
+use Rattle.drt_graph.specs.declared.front.FrontEntry.{FrontEntry}
 use Rattle.drt_demand.specs.Demand.{demand_algebra}
 use Rattle.drt_table.specs.Node.{NodeOf}
 use Rattle.drt_table.specs.Machine.{State, IsRun, replay, is_finished}
 use Rattle.drt_table.specs.Work.{node_entries, kept_count}
 use Rattle.drt_table.specs.declared.step.Entry.{Entry}
-use Rattle.drt_model.specs.Degrees.{most_out}
+use Rattle.drt_graph.specs.Degrees.{most_out}
 use Rattle.drt_fronts.specs.Needs.{search_of, table_need}
 
 -- The state after a log of the search.

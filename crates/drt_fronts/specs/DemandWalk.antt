@@ -2,8 +2,8 @@
 use Rattle.std.specs.Prelude.{◌≡◌, ℕ, ◌+◌, ◌≤◌, ◌<◌, List, [], ◌∷◌, Option, Some, None, Contains, Bool, nat_lt, ◌==◌, ◌&&◌, ◌||◌}
 use Rattle.drt_model.specs.Digraph.{Digraph, vertex_count}
 use Rattle.drt_model.specs.Walk.{IsEdge, IsPath, gap, last_of, span, wcet, work}
-use Rattle.drt_model.specs.declared.front.FrontEntry.{FrontEntry}
-use Rattle.drt_model.specs.FrontEntry.{due}
+use Rattle.drt_graph.specs.declared.front.FrontEntry.{FrontEntry}
+use Rattle.drt_graph.specs.FrontEntry.{due}
 use Rattle.drt_demand.specs.Dbf.{dbf_at}
 
 -- An entry that is due by t and has all the demand of t; none where that is 0.

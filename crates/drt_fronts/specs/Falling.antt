@@ -1,6 +1,6 @@
 -- The front of a finished search, as it is gathered: from the last vertex to the first, and in descending order of offset.
 use Rattle.std.specs.Prelude.{ℕ, ◌<◌, ◌≤◌, ◌⊎◌, ◌≡◌, Option, Some, None, List, slice_get, All, AllPairs, Contains}
-use Rattle.drt_model.specs.declared.front.FrontEntry.{FrontEntry}
+use Rattle.drt_graph.specs.declared.front.FrontEntry.{FrontEntry}
 use Rattle.drt_demand.specs.Demand.{demand_algebra}
 use Rattle.drt_table.specs.Cover.{IsNonDominated}
 use Rattle.drt_table.specs.Machine.{Setting}

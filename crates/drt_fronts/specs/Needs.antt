@@ -1,6 +1,6 @@
 -- What a search of a graph's walks is, and what it needs.
 use Rattle.std.specs.Prelude.{ℕ, ◌+◌, ◌*◌, ◌≤◌}
-use Rattle.drt_model.specs.Degrees.{most_out}
+use Rattle.drt_graph.specs.Degrees.{most_out}
 use Rattle.drt_model.specs.Digraph.{Digraph, vertex_count}
 use Rattle.drt_table.specs.Machine.{Setting}
 

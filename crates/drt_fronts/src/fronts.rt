@@ -10,8 +10,8 @@ ghost use Rattle.drt_fronts.specs.Falling.{AreFalling, IsFromVertex};
 ghost use Rattle.drt_fronts.specs.LabelFronts.{IsLabelFront};
 
 use drt_demand::DemandLabel;
-use drt_graph::Graph;
-use drt_model::{FrontEntry, Memory, Row};
+use drt_graph::{FrontEntry, Graph};
+use drt_model::{Memory, Row};
 use drt_table::{Table, over_every_interleaving};
 use std::alloc::Global;
 

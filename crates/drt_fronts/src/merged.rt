@@ -4,9 +4,9 @@ ghost use Rattle.drt_model.specs.Digraph.{IsConstrainedGraph};
 ghost use Rattle.drt_claims.specs.Ranges.{IsCounted};
 ghost use Rattle.drt_fronts.specs.LabelFronts.{IsLabelFront};
 
-use drt_graph::Graph;
+use drt_graph::{FrontEntry, Graph};
 use drt_merge::Patience;
-use drt_model::{FrontEntry, Memory, Row};
+use drt_model::{Memory, Row};
 use std::alloc::Global;
 
 /// The front of a task's walks up to the bound, in ticks, merged from the lists of its vertices. None where its labels count more steps

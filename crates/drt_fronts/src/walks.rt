@@ -2,13 +2,12 @@
 ghost use Rattle.std.specs.Prelude.{◌≡◌, ℕ, ◌<◌, ◌↔◌, All, Contains, IfOk, IsTrue};
 ghost use Rattle.drt_model.specs.Digraph.{IsConstrainedGraph, vertex_count};
 ghost use Rattle.drt_model.specs.Legal.{AllNeighbours};
-ghost use Rattle.drt_claims.specs.Fronts.{IsNextEntry};
 ghost use Rattle.drt_fronts.specs.DemandWalk.{IsGreatestDue, IsLabelBefore, IsPrefixLabel, IsPrefixOf, IsDemandWalkTo, is_below};
 ghost use Rattle.drt_fronts.specs.LabelFronts.{IsLabelFront, IsDemandWalk};
 
 use drt_demand::{dbf, is_due};
-use drt_graph::Graph;
-use drt_model::{FrontEntry, Memory, Row};
+use drt_graph::{FrontEntry, Graph};
+use drt_model::{Memory, Row};
 use std::alloc::Global;
 
 // An entry of the front that is due by `t` and has all the demand of `t`; none where that is 0.

@@ -1,14 +1,14 @@
 //! Tasks whose walks are worked in a wave table.
 ghost use Rattle.std.specs.Prelude.{◌≡◌, ◌+◌, ◌*◌, ◌≤◌, ◌↔◌, IfOk, IsTrue};
-ghost use Rattle.drt_model.specs.Degrees.{most_out};
+ghost use Rattle.drt_graph.specs.Degrees.{most_out};
 ghost use Rattle.drt_model.specs.Digraph.{IsConstrainedGraph, vertex_count};
 ghost use Rattle.drt_claims.specs.Ranges.{IsCounted};
 ghost use Rattle.drt_fronts.specs.LabelFronts.{IsLabelFront};
 ghost use Rattle.drt_fronts.specs.Needs.{HasWaveTable};
 
 use drt_crew::Crew;
-use drt_graph::Graph;
-use drt_model::{FrontEntry, Memory, Row};
+use drt_graph::{FrontEntry, Graph};
+use drt_model::{Memory, Row};
 use drt_pool::Gate;
 use drt_wave::fill;
 use std::sync::Wait;

@@ -2,7 +2,7 @@
 use Rattle.std.proofs.Common.{ℕ, List}
 use Rattle.std.specs.Prelude.{ℤ}
 use Rattle.drt_model.specs.Digraph.{Digraph, IsSoundGraph, edge_of}
-use Rattle.drt_model.specs.RatioRules.{FitPotentials}
+use Rattle.drt_graph.specs.RatioRules.{FitPotentials}
 use Rattle.drt_graph.proofs.Edges.{sep_of_edge, edge_of_sep, source_of}
 use Rattle.drt_graph.specs.Fits.{AllowAll}
 

@@ -7,10 +7,10 @@ use Rattle.std.proofs.lemmas.Int.{ints, clamps}
 use Rattle.std.proofs.lemmas.Bool.{cases_lt}
 use Rattle.drt_model.specs.Digraph.{Digraph, IsSoundGraph, vertex_count}
 use Rattle.drt_model.specs.Walk.{gap, wcet, deadline, IsEdge, IsPath, last_of, work, span}
-use Rattle.drt_model.specs.Potential.{potential_of}
-use Rattle.drt_model.specs.RatioRules.{FitPotentials}
+use Rattle.drt_graph.specs.Potential.{potential_of}
+use Rattle.drt_graph.specs.RatioRules.{FitPotentials}
 use Rattle.drt_graph.proofs.Paths.{work_cons, span_cons, work_none, span_none, path_within}
-use Rattle.drt_model.specs.Horizon.{most_to, most_over, constant_of, above_zero}
+use Rattle.drt_graph.specs.Horizon.{most_to, most_over, constant_of, above_zero}
 
 at_most : (f : ℕ → ℤ) (n k : ℕ) → k ≤ n → f k ≤ℤ most_to f n
 unfolding most_to

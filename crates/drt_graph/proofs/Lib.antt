@@ -1,5 +1,6 @@
 pub mod Edges
 pub mod Rows
+pub mod MostOut
 pub mod Soundness
 pub mod Paths
 pub mod Bounds

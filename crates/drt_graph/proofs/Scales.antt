@@ -8,7 +8,7 @@ use Rattle.std.proofs.Math.Nat.{dvd-mul_left, dvd-mul_right, one-dvd, eq-zero_of
 use Rattle.std.proofs.lemmas.List.{drop_more, take_more}
 use Rattle.drt_model.specs.Digraph.{Digraph}
 use Rattle.drt_model.specs.Utilisation.{Fraction, EachDivides, IsScale, rate}
-use Rattle.drt_model.specs.Horizon.{extra, constant_of, above_zero}
+use Rattle.drt_graph.specs.Horizon.{extra, constant_of, above_zero}
 
 -- A read at i is the head of what is left.
 pub left_at : {X : Type 0} (xs : List X) (i : ℕ) (x : X) → i < length xs → x ≡ get_or xs i x → drop i xs ≡ x ∷ drop (i + 1) xs

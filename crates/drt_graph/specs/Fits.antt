@@ -2,7 +2,7 @@
 use Rattle.std.specs.Prelude.{ℕ, ◌*◌, ◌<◌, ℤ, pos, negsuc, ◌-ℤ◌, ◌≤ℤ◌, List}
 use Rattle.drt_model.specs.Digraph.{Digraph, vertex_count, out_degree, edge_of}
 use Rattle.drt_model.specs.Walk.{wcet}
-use Rattle.drt_model.specs.Potential.{potential_of}
+use Rattle.drt_graph.specs.Potential.{potential_of}
 
 -- On the k-th edge out of u the gain of the edge is at most what the potential rises.
 abbrev pub Allows : Digraph → ℕ → ℕ → List ℤ → ℕ → ℕ → Type 0

@@ -3,8 +3,8 @@ ghost use Rattle.std.specs.Prelude.{◌≡◌, ℕ, ◌*◌, ◌<◌, ◌≤◌,
 ghost use Rattle.std.specs.Int.{int_max};
 ghost use Rattle.drt_model.specs.Digraph.{vertex_count};
 ghost use Rattle.drt_model.specs.Walk.{wcet, deadline};
-ghost use Rattle.drt_model.specs.Potential.{potential_of};
-ghost use Rattle.drt_model.specs.Horizon.{most_over, constant_of, above_zero};
+ghost use Rattle.drt_graph.specs.Potential.{potential_of};
+ghost use Rattle.drt_graph.specs.Horizon.{most_over, constant_of, above_zero};
 ghost use Rattle.drt_graph.specs.Fits.{AreNear};
 
 use crate::graph::Graph;

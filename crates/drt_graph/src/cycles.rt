@@ -2,7 +2,7 @@
 ghost use Rattle.std.specs.Prelude.{◌≡◌, ◌*◌, ◌<◌, ◌≤◌, ◌↔◌, IsTrue, length};
 ghost use Rattle.drt_model.specs.Digraph.{vertex_count};
 ghost use Rattle.drt_model.specs.Walk.{wcet, sep, gap, IsEdge, IsCycle, work, cycle_span};
-ghost use Rattle.drt_model.specs.RatioRules.{IsClosedCycle, IsTight};
+ghost use Rattle.drt_graph.specs.RatioRules.{IsClosedCycle, IsTight};
 
 use crate::graph::Graph;
 

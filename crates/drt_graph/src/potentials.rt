@@ -1,8 +1,8 @@
 //! Whether potentials fit a graph.
 ghost use Rattle.std.specs.Prelude.{◌≡◌, ℤ, pos, ◌*◌, ◌<◌, ◌≤◌, ◌≤ℤ◌, ◌-ℤ◌, ◌↔◌, IsTrue};
 ghost use Rattle.drt_model.specs.Digraph.{vertex_count, out_degree};
-ghost use Rattle.drt_model.specs.Potential.{potential_of};
-ghost use Rattle.drt_model.specs.RatioRules.{FitPotentials};
+ghost use Rattle.drt_graph.specs.Potential.{potential_of};
+ghost use Rattle.drt_graph.specs.RatioRules.{FitPotentials};
 ghost use Rattle.drt_graph.specs.Fits.{Allows, AllowAll};
 
 use crate::graph::Graph;

@@ -5,9 +5,9 @@ use Rattle.std.specs.Int.{◌∣◌}
 use Rattle.std.proofs.lemmas.Bool.{cases_lt}
 use Rattle.drt_model.specs.Digraph.{Digraph, IsSoundGraph}
 use Rattle.drt_model.specs.Walk.{work}
-use Rattle.drt_model.specs.RatioRules.{FitPotentials}
+use Rattle.drt_graph.specs.RatioRules.{FitPotentials}
 use Rattle.drt_model.specs.Utilisation.{EachDivides, rate}
-use Rattle.drt_model.specs.Horizon.{constant_of, above_zero, extra}
+use Rattle.drt_graph.specs.Horizon.{constant_of, above_zero, extra}
 use Rattle.drt_graph.specs.Graphs.{AreGraphs}
 use Rattle.drt_ratio.specs.declared.ratio_proof.RatioProof.{RatioProof}
 use Rattle.drt_ratio.specs.SetRatios.{fractions_of}

@@ -5,7 +5,7 @@ use Rattle.std.proofs.lemmas.Bool.{cases_lt, leb-true}
 use Rattle.drt_model.specs.Digraph.{Digraph}
 use Rattle.drt_model.specs.Walk.{last_of, span, work, deadline}
 use Rattle.drt_graph.specs.Graphs.{AreGraphs}
-use Rattle.drt_model.specs.declared.front.FrontEntry.{FrontEntry}
+use Rattle.drt_graph.specs.declared.front.FrontEntry.{FrontEntry}
 use Rattle.drt_sweep.specs.Dues.{sum_due}
 use Rattle.drt_demand.specs.Dbf.{dbf_at}
 use Rattle.drt_ratio.specs.declared.ratio_proof.RatioProof.{RatioProof}

@@ -1,7 +1,7 @@
 -- The graphs of a set with what the search for the greatest ratio gives for each.
 use Rattle.std.specs.Prelude.{ℤ, List, [], ◌∷◌, map}
 use Rattle.drt_model.specs.Digraph.{Digraph}
-use Rattle.drt_model.specs.RatioRules.{ProvesRatio}
+use Rattle.drt_graph.specs.RatioRules.{ProvesRatio}
 use Rattle.drt_ratio.specs.declared.ratio_proof.RatioProof.{RatioProof}
 use Rattle.drt_ratio.specs.Claims.{IsRatioProof, IsInReach}
 

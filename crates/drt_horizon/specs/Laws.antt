@@ -2,11 +2,11 @@
 use Rattle.std.specs.Prelude.{◌≡◌, ℕ, ◌+◌, ◌-◌, ◌*◌, ◌/◌, ◌<◌, ◌≤◌, ℤ, pos, ◌+ℤ◌, ◌≤ℤ◌, List, [], ◌∷◌, All, Ok}
 use Rattle.drt_model.specs.Digraph.{Digraph, IsSoundGraph, vertex_count}
 use Rattle.drt_model.specs.Walk.{IsPath, last_of, work, span, deadline}
-use Rattle.drt_model.specs.RatioRules.{FitPotentials}
+use Rattle.drt_graph.specs.RatioRules.{FitPotentials}
 use Rattle.drt_model.specs.Utilisation.{IsScale}
-use Rattle.drt_model.specs.Horizon.{constant_of}
+use Rattle.drt_graph.specs.Horizon.{constant_of}
 use Rattle.drt_graph.specs.Graphs.{AreGraphs}
-use Rattle.drt_model.specs.declared.front.FrontEntry.{FrontEntry}
+use Rattle.drt_graph.specs.declared.front.FrontEntry.{FrontEntry}
 use Rattle.drt_demand.specs.WalkLabel.{demand_of}
 use Rattle.drt_ratio.specs.declared.ratio_proof.RatioProof.{RatioProof}
 use Rattle.drt_ratio.specs.SetRatios.{fractions_of}

@@ -2,7 +2,7 @@
 use Rattle.std.specs.Prelude.{◌≡◌, ℕ, ◌^◌, ◌<◌, ◌≤◌, List, Result, Ok, Err}
 use Rattle.drt_model.specs.Digraph.{Digraph}
 use Rattle.drt_model.specs.Utilisation.{IsScale, rate}
-use Rattle.drt_model.specs.Horizon.{horizon}
+use Rattle.drt_graph.specs.Horizon.{horizon}
 use Rattle.drt_ratio.specs.declared.ratio_proof.RatioProof.{RatioProof}
 use Rattle.drt_ratio.specs.SetRatios.{fractions_of}
 use Rattle.drt_horizon.specs.declared.answers.Horizon.{Horizon}

@@ -61,7 +61,3 @@ pub record Laws {L : Type 0} (a : Algebra L) : Type 0 where
   pub opening_of : (number wcet bound : ℕ) → IsTrue (a.takes_bound bound) → IsTrue (a.is_of (a.opening number wcet bound) bound)
   pub extended_of : (x : L) (sep target wcet bound : ℕ) → IsTrue (a.is_of x bound) → IsTrue (a.is_of (a.extend x sep target wcet) bound)
   pub extendable : (x : L) (deadline bound : ℕ) → IsTrue (a.is_of x bound) → IsTrue (a.in_range x deadline bound) → IsTrue (a.is_extendable x)
-
--- A time of a file: 1 to 1,000,000 ticks.
-abbrev pub IsTime : ℕ → Type 0
-IsTime t = (1 ≤ t) × (t ≤ 1000000)

@@ -1,7 +1,8 @@
 //! The trait that the two kinds of label share.
 
 ghost use Rattle.std.specs.Prelude.{◌≡◌, ℕ, IfOk, IsTrue};
-ghost use Rattle.drt_label.specs.Algebra.{Algebra, Laws, IsTime};
+ghost use Rattle.drt_label.specs.Algebra.{Algebra, Laws};
+ghost use Rattle.drt_model.specs.Limits.{IsTime};
 
 use std::alloc::{AllocError as Memory, Global};
 

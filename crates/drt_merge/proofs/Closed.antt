@@ -5,8 +5,9 @@ use Rattle.drt_model.specs.Digraph.{Digraph, IsConstrainedGraph, IsSoundGraph, e
 use Rattle.drt_model.specs.Walk.{IsEdge, IsPath, deadline, gap, last_of, span, wcet, work}
 use Rattle.drt_graph.proofs.Edges.{edge_of_sep, target_of}
 use Rattle.drt_graph.proofs.Paths.{span_cons, span_none, work_cons, work_none}
-use Rattle.drt_model.specs.declared.front.FrontEntry.{FrontEntry}
-use Rattle.drt_claims.specs.Fronts.{Covers, HasOpenings, IsClosedFront, IsExtended}
+use Rattle.drt_graph.specs.declared.front.FrontEntry.{FrontEntry}
+use Rattle.drt_claims.specs.Fronts.{HasOpenings, IsClosedFront, IsExtended}
+use Rattle.drt_graph.specs.FrontEntry.{Covers}
 
 -- With constrained deadlines the first vertex of a walk is due by the walk's last deadline.
 first_due : (g : Digraph) → IsConstrainedGraph g → (v : ℕ) (vs : List ℕ) → v < vertex_count g → IsPath g v vs → deadline g v ≤ span g v vs + deadline g (last_of v vs)

@@ -7,8 +7,7 @@ use native.Mathlib.Decide.{dec_lt}
 use Rattle.drt_model.specs.Digraph.{Digraph, vertex_count}
 use Rattle.drt_model.specs.Legal.{AllNeighbours}
 use Rattle.drt_model.proofs.Neighbours.{AllNeighbours-one, AllNeighbours-head, AllNeighbours-tail, AllNeighbours-cons}
-use Rattle.drt_model.specs.declared.front.FrontEntry.{FrontEntry}
-use Rattle.drt_wave.specs.Fronts.{IsNextEntry}
+use Rattle.drt_graph.specs.declared.front.FrontEntry.{FrontEntry}
 use Rattle.drt_merge.specs.declared.mark.Mark.{Mark}
 use Rattle.drt_merge.specs.Marks.{row, mark_at, entry_of, AreRows}
 use Rattle.drt_merge.specs.Gathered.{IsOfMark, IsMarkBefore, AreMarksGathered, AreMarkEntries}

@@ -6,9 +6,10 @@ use mathlib.Core.Logic.{dite}
 use native.Mathlib.Decide.{dec_lt}
 use Rattle.drt_model.specs.Digraph.{Digraph, IsConstrainedGraph, IsSoundGraph, vertex_count, out_degree, edge_of}
 use Rattle.drt_model.specs.Walk.{deadline, last_of, span}
-use Rattle.drt_model.specs.declared.front.FrontEntry.{FrontEntry}
+use Rattle.drt_graph.specs.declared.front.FrontEntry.{FrontEntry}
 use Rattle.drt_claims.specs.Ranges.{IsCounted}
-use Rattle.drt_claims.specs.Fronts.{Covers, HasOpenings, IsClosedFront, IsExtended}
+use Rattle.drt_claims.specs.Fronts.{HasOpenings, IsClosedFront, IsExtended}
+use Rattle.drt_graph.specs.FrontEntry.{Covers}
 use Rattle.drt_wave.specs.Fronts.{IsWalkEntry, IsNonDominatedEntry, IsExactFront, CoversAll}
 use Rattle.drt_merge.specs.declared.mark.Mark.{Mark}
 use Rattle.drt_merge.specs.Arcs.{arc_of, extended}

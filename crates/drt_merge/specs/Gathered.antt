@@ -2,9 +2,10 @@
 use Rattle.std.specs.Prelude.{◌≡◌, ℕ, ◌<◌, ◌⊎◌, List, length, Contains}
 use Rattle.drt_model.specs.Digraph.{Digraph}
 use Rattle.drt_model.specs.Legal.{AllNeighbours}
-use Rattle.drt_model.specs.declared.front.FrontEntry.{FrontEntry}
+use Rattle.drt_graph.specs.declared.front.FrontEntry.{FrontEntry}
 use Rattle.drt_claims.specs.Ranges.{IsCounted}
-use Rattle.drt_wave.specs.Fronts.{IsWalkEntry, IsExactFront, CoversAll, IsNextEntry}
+use Rattle.drt_wave.specs.Fronts.{IsWalkEntry, IsExactFront, CoversAll}
+use Rattle.drt_graph.specs.FrontEntry.{IsNextEntry}
 use Rattle.drt_merge.specs.declared.mark.Mark.{Mark}
 use Rattle.drt_merge.specs.Marks.{row, mark_at, entry_of}
 

@@ -5,8 +5,8 @@ ghost use Rattle.drt_merge.specs.Marks.{AreRows};
 ghost use Rattle.drt_merge.specs.Gathered.{AreMarksGathered, AreMarkEntries};
 
 use crate::lists::Lists;
-use drt_graph::Graph;
-use drt_model::{FrontEntry, Memory};
+use drt_graph::{FrontEntry, Graph};
+use drt_model::Memory;
 use std::alloc::Global;
 
 // Adds the entries of a vertex.

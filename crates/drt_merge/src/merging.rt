@@ -13,8 +13,8 @@ use crate::offering::Outcome;
 use crate::opening::open_all;
 use crate::queue::Queue;
 use crate::streams::{Merging, Walks, are_spent, refresh, step, wake};
-use drt_graph::Graph;
-use drt_model::{FrontEntry, Memory, Row};
+use drt_graph::{FrontEntry, Graph};
+use drt_model::{Memory, Row};
 use std::alloc::Global;
 
 // The number of the first arc out of each vertex, and at last the number of arcs.

@@ -4,9 +4,8 @@ ghost use Rattle.std.specs.Prelude.{◌≤◌};
 use drt_drawn::{Draws, drawn_set};
 use drt_fixtures::shapes::RETURNING;
 use drt_fixtures::{Shape, make_set};
-use drt_graph::check;
+use drt_graph::{FrontEntry, check};
 use drt_merge::{Patience, merged_front};
-use drt_model::FrontEntry;
 use std::alloc::Global;
 use std::test::Fail;
 

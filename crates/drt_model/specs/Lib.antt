@@ -6,11 +6,6 @@ pub mod Schedulable
 pub mod Misses
 pub mod Constrained
 pub mod Digraph
-pub mod Degrees
 pub mod Walk
-pub mod FrontEntry
 pub mod Utilisation
-pub mod Potential
-pub mod RatioRules
-pub mod Horizon
 pub mod RequestFunction

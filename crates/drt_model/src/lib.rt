@@ -6,7 +6,6 @@
 //! of an analysis. The layer above uses `legal`, the types and these definitions.
 #![tactic(auto)]
 
-pub mod front;
 pub mod jobs;
 pub mod limits;
 pub mod name;
@@ -15,7 +14,6 @@ pub mod releases;
 pub mod row;
 pub mod tasks;
 
-pub use front::FrontEntry;
 pub use jobs::{Job, Miss, Policy, Release};
 pub use limits::task_set;
 pub use name::Name;

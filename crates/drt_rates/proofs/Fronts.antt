@@ -2,11 +2,11 @@
 use Rattle.std.proofs.Common.{ℕ, zero, suc, ◌≤◌, List, [], ◌∷◌, ◌++◌, All, length, subst, arith}
 use Rattle.std.specs.Prelude.{Option, Some, None}
 use Rattle.drt_model.specs.Digraph.{Digraph}
-use Rattle.drt_model.specs.declared.front.FrontEntry.{FrontEntry}
+use Rattle.drt_graph.specs.declared.front.FrontEntry.{FrontEntry}
 use Rattle.drt_sweep.specs.declared.due_work.DueWork.{DueWork}
 use Rattle.drt_sweep.specs.DueWorks.{IsFirstExcess, works_from, works_of}
 use Rattle.drt_sweep.proofs.Lists.{sums_same}
-use Rattle.drt_model.specs.FrontEntry.{due}
+use Rattle.drt_graph.specs.FrontEntry.{due}
 use Rattle.drt_rates.specs.Demands.{IsFront, AreFronts, IsLeastExcess}
 
 all_cons : (bound : ℕ) (w : DueWork) (ws : List DueWork) → w.due ≤ bound → All (λ w. w.due ≤ bound) ws → All (λ w. w.due ≤ bound) (w ∷ ws)

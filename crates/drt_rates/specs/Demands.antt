@@ -1,8 +1,8 @@
 -- The demands of a set over the fronts of its tasks.
 use Rattle.std.specs.Prelude.{ℕ, ◌<◌, ◌≤◌, List, [], ◌∷◌, All, Option, Some, None}
 use Rattle.drt_model.specs.Digraph.{Digraph, vertex_count}
-use Rattle.drt_model.specs.FrontEntry.{due}
-use Rattle.drt_model.specs.declared.front.FrontEntry.{FrontEntry}
+use Rattle.drt_graph.specs.FrontEntry.{due}
+use Rattle.drt_graph.specs.declared.front.FrontEntry.{FrontEntry}
 use Rattle.drt_sweep.specs.Dues.{sum_due}
 
 -- Each entry of the list names a vertex of the graph, and its last job is due within the bound.

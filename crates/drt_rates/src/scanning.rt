@@ -1,11 +1,11 @@
 //! The scan of the times at which demand rises.
 ghost use Rattle.std.specs.Prelude.{◌≡◌, ◌++◌, IfOk};
 ghost use Rattle.drt_sweep.specs.DueWorks.{works_from, works_of};
-ghost use Rattle.drt_model.specs.FrontEntry.{due};
+ghost use Rattle.drt_graph.specs.FrontEntry.{due};
 ghost use Rattle.drt_rates.specs.Demands.{AreFronts, IsFront, IsLeastExcess};
 
-use drt_graph::{Graph, Graphs};
-use drt_model::{FrontEntry, Memory, Row};
+use drt_graph::{FrontEntry, Graph, Graphs};
+use drt_model::{Memory, Row};
 use drt_sweep::{DueWork, first_excess};
 use std::alloc::Global;
 

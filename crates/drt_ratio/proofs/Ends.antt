@@ -3,8 +3,8 @@ use Rattle.std.proofs.Common.{◌≡◌, ℕ, ℤ, pos, ◌+◌, ◌-◌, ◌<�
 use Rattle.std.proofs.lemmas.Int.{ints}
 use Rattle.std.specs.Int.{IsGcd}
 use Rattle.drt_model.specs.Digraph.{Digraph, IsSoundGraph, vertex_count}
-use Rattle.drt_model.specs.Potential.{potential_of}
-use Rattle.drt_model.specs.RatioRules.{IsClosedCycle, IsTight, ProvesRatio}
+use Rattle.drt_graph.specs.Potential.{potential_of}
+use Rattle.drt_graph.specs.RatioRules.{IsClosedCycle, IsTight, ProvesRatio}
 use Rattle.drt_model.specs.Utilisation.{AreDistinct, HasRatio}
 use Rattle.drt_graph.proofs.Edges.{target_of, source_of}
 use Rattle.drt_ratio.specs.declared.levels.Level.{Level}

@@ -9,7 +9,7 @@ use Rattle.drt_model.specs.Walk.{sep, gap, wcet, IsEdge, IsPath, last_of, work, 
 use Rattle.drt_graph.proofs.Edges.{target_of, source_of, gap_of}
 use Rattle.drt_ratio.specs.declared.levels.Level.{Level}
 use Rattle.drt_model.specs.Utilisation.{HasRatio, BoundsCycles}
-use Rattle.drt_model.specs.Potential.{IsPotential}
+use Rattle.drt_graph.specs.Potential.{IsPotential}
 use Rattle.drt_ratio.specs.Levels.{height, level_of, Comes, IsWholeRound, IsTower, IsSettled}
 use Rattle.drt_graph.proofs.Paths.{work_cons, span_cons, work_none, span_none, fits_cycle}
 use Rattle.drt_ratio.proofs.Loops.{IsMost, round_edge}

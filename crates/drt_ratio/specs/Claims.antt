@@ -3,7 +3,7 @@ use Rattle.std.specs.Prelude.{ℕ, ◌<◌, ◌≤◌, ℤ, pos, ◌≤ℤ◌, L
 use Rattle.std.specs.Int.{IsGcd}
 use Rattle.drt_model.specs.Digraph.{Digraph, vertex_count}
 use Rattle.drt_model.specs.Utilisation.{BoundsCycles, HasRatio, AreDistinct}
-use Rattle.drt_model.specs.Potential.{potential_of, AreCanonical}
+use Rattle.drt_graph.specs.Potential.{potential_of, AreCanonical}
 
 -- The ratio a / b is that of the graph, in lowest terms; the cycle has it and names each vertex at most once, and is empty
 -- exactly at 0 / 1; the potentials are the canonical ones.

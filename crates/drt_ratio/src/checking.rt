@@ -1,6 +1,6 @@
 //! Whether a claimed ratio keeps the rules.
 ghost use Rattle.std.specs.Prelude.{◌≤◌, ◌↔◌, IsTrue};
-ghost use Rattle.drt_model.specs.RatioRules.{ProvesRatio};
+ghost use Rattle.drt_graph.specs.RatioRules.{ProvesRatio};
 
 use crate::ratio_proof::RatioProof;
 use drt_graph::{Graph, is_closed, is_tight, potentials_fit};

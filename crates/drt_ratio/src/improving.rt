@@ -2,8 +2,8 @@
 ghost use Rattle.std.specs.Prelude.{◌≡◌, ℕ, ℤ, pos, ◌+◌, ◌*◌, ◌<◌, ◌≤◌, ◌-◌, IfOk, length};
 ghost use Rattle.drt_model.specs.Digraph.{Digraph, vertex_count};
 ghost use Rattle.drt_ratio.specs.Claims.{IsInReach, IsRatioProof};
-ghost use Rattle.drt_model.specs.RatioRules.{ProvesRatio};
-ghost use Rattle.drt_model.specs.Potential.{potential_of};
+ghost use Rattle.drt_graph.specs.RatioRules.{ProvesRatio};
+ghost use Rattle.drt_graph.specs.Potential.{potential_of};
 ghost use Rattle.drt_ratio.specs.Levels.{height, IsLevelBelow};
 ghost use Rattle.drt_model.specs.Walk.{IsCycle, work, cycle_span};
 

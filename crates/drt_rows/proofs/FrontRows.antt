@@ -1,7 +1,7 @@
 -- One worker's run of the search of p(1,1), q(2,1), m(1,1) with the edges p-m 1, q-m 1, m-m 3 up to the bound 5: labels of walks, which covers
 -- which, and the front.
 use Rattle.std.proofs.Common.{◌≡◌, ℕ, List, [], ◌∷◌, ◌++◌, Option, Some, None, false, true, length, refl, sym, ap, subst, lit<}
-use Rattle.drt_model.specs.declared.front.FrontEntry.{FrontEntry}
+use Rattle.drt_graph.specs.declared.front.FrontEntry.{FrontEntry}
 use Rattle.drt_demand.specs.Demand.{dominates, demand_algebra}
 use Rattle.drt_demand.specs.Laws.{demand_laws}
 use Rattle.drt_table.specs.Cover.{IsFront, IsNonDominated}

@@ -2,7 +2,7 @@
 use Rattle.std.proofs.Common.{◌≡◌, List, [], ◌∷◌, map, refl}
 use Rattle.std.specs.Prelude.{codes, ℤ, pos}
 use Rattle.drt_model.specs.Digraph.{Digraph, digraph_of}
-use Rattle.drt_model.specs.Horizon.{most_to, constant_of, extra, horizon}
+use Rattle.drt_graph.specs.Horizon.{most_to, constant_of, extra, horizon}
 use Rattle.drt_model.specs.Utilisation.{Fraction, rate}
 use Rattle.drt_rows.proofs.Sets.{looped, lone, short, two_vertices, three_of_ten, two_of_ten, apart, engine_set}
 use Rattle.drt_rows.proofs.UtilisationRows.{fraction}

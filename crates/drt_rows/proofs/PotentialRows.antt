@@ -8,8 +8,8 @@ use Rattle.std.proofs.lemmas.Nat.Gcd.{IsGcd-from_zero, IsGcd-from_mod, IsGcd-swa
 use Rattle.std.proofs.lemmas.Option.{none-some, same_Some}
 use Rattle.drt_model.specs.Digraph.{Digraph, digraph_of}
 use Rattle.drt_model.specs.Walk.{sep_in, or_zero, gap, work, span, IsPath, last_of, deadline, IsEdge}
-use Rattle.drt_model.specs.Potential.{gain, IsPotential, AreCanonical, potential_of}
-use Rattle.drt_model.specs.RatioRules.{FitPotentials}
+use Rattle.drt_graph.specs.Potential.{gain, IsPotential, AreCanonical, potential_of}
+use Rattle.drt_graph.specs.RatioRules.{FitPotentials}
 use Rattle.drt_model.specs.Utilisation.{BoundsCycles, IsRatio}
 use Rattle.drt_graph.proofs.Bounds.{rises}
 use Rattle.drt_model.specs.declared.tasks.Edge.{Edge}

@@ -3,7 +3,7 @@ use Rattle.std.proofs.Common.{◌≡◌, [], ◌∷◌, Some, None, refl}
 use Rattle.std.specs.Prelude.{pos, negsuc}
 use Rattle.drt_model.specs.Digraph.{Digraph, digraph_of}
 use Rattle.drt_model.specs.Walk.{sep, sep_in, or_zero, work, span, IsPath, IsCycle, cycle_span}
-use Rattle.drt_model.specs.Potential.{gain}
+use Rattle.drt_graph.specs.Potential.{gain}
 use Rattle.drt_rows.proofs.Sets.{two_vertices}
 
 -- The graph of a (1, 2) and b (4, 6) with the edges a-b 2, b-a 8 and a-a 5.

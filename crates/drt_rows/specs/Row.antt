@@ -1,7 +1,7 @@
 -- The steps of three workers, and of one, on one small graph.
 use Rattle.std.specs.Prelude.{ℕ, Option, List, [], ◌∷◌, map, filter}
 use Rattle.drt_model.specs.Digraph.{Digraph}
-use Rattle.drt_model.specs.declared.front.FrontEntry.{FrontEntry}
+use Rattle.drt_graph.specs.declared.front.FrontEntry.{FrontEntry}
 use Rattle.drt_demand.specs.Demand.{demand_algebra}
 use Rattle.drt_table.specs.Node.{NodeOf, is_kept}
 use Rattle.drt_table.specs.Machine.{Setting, State, step_of, opening_state, replay_from}

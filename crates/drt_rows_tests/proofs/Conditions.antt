@@ -5,7 +5,7 @@ use Rattle.std.proofs.lemmas.Bool.Decides.{nat_tests}
 use Rattle.std.proofs.lemmas.List.{length-map}
 use Rattle.std.proofs.lemmas.Option.{none-some, same_Some, slice_get-map, slice_get_within}
 use Rattle.drt_model.specs.Digraph.{out_degree}
-use Rattle.drt_model.specs.declared.front.FrontEntry.{FrontEntry}
+use Rattle.drt_graph.specs.declared.front.FrontEntry.{FrontEntry}
 use Rattle.drt_demand.specs.Demand.{demand_algebra}
 use Rattle.drt_table.specs.Node.{NodeOf, Held, is_held_by, is_taken_by}
 use Rattle.drt_table.specs.declared.node.NodeState.{NodeState}

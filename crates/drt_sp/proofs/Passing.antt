@@ -21,7 +21,8 @@ use Rattle.drt_choices.specs.Laws.{IsPosed, LeavesPass}
 use Rattle.drt_claims.specs.Trees.{greatest_deadline}
 use Rattle.drt_claims.specs.declared.evidence.ProofClaim.{ProofClaim}
 use Rattle.drt_claims.specs.declared.evidence.TreeClaim.{TreeClaim}
-use Rattle.drt_sp.specs.Answers.{HigherMeetDeadlines, IsVertexReached, MeetsDeadlines}
+use Rattle.drt_sp.specs.Answers.{HigherMeetDeadlines, IsVertexReached}
+use Rattle.drt_busy.specs.Response.{MeetsDeadlines}
 use Rattle.drt_sp.specs.Claims.{AreClaimsOf}
 use Rattle.drt_sp.specs.Progress.{AreTreesGrown}
 use Rattle.drt_sp.specs.Vertices.{AreVertexProofs, IsProvedVertex, TuplesPass, subject_of, subjects}

@@ -1,4 +1,5 @@
 -- What each answer of the analysis under fixed priorities says.
+use Rattle.drt_busy.specs.Response.{MeetsDeadlines}
 use Rattle.std.specs.Prelude.{◌≡◌, ℕ, ◌<◌, List, length, All}
 use Rattle.drt_model.specs.Contents.{Contents}
 use Rattle.drt_model.specs.declared.tasks.Task.{Task}
@@ -37,12 +38,6 @@ use Rattle.drt_sp.specs.declared.answer.FixedAnswer.{FixedAnswer}
 use Rattle.drt_sp.specs.declared.answer.FixedAnswer.TheVariants as answers
 use Rattle.drt_trails.specs.declared.FixedTrail.{FixedTrail}
 use Rattle.drt_trails.specs.declared.FixedTrail.TheVariants.{Table, Refine}
-
--- No job of the task misses, whatever the tasks legally release.
-abbrev pub MeetsDeadlines : List Task → ℕ → Type 0
-MeetsDeadlines tasks k =
-    (releases : List Release) → IsLegal tasks releases → (j : ℕ) → j < length releases → (job_at (jobs_of tasks releases) j).task ≡ k
-    → ¬ Misses Fixed (jobs_of tasks releases) j
 
 -- None of the jobs of a task of higher priority than task k does.
 abbrev pub HigherMeetDeadlines : List Task → ℕ → Type 0

@@ -1,7 +1,7 @@
 -- How large a budget is enough, by the numbers of the tasks' walks. Nothing computes these numbers.
 use Rattle.std.specs.Prelude.{◌≡◌, ℕ, zero, suc, ◌+◌, ◌*◌, ◌<◌, ◌≤◌, nat_lt, if◌then◌else◌, Some, List, length, Contains, slice_get}
 use Rattle.drt_model.specs.declared.tasks.Task.{Task}
-use Rattle.drt_model.specs.Degrees.{most_out}
+use Rattle.drt_graph.specs.Degrees.{most_out}
 use Rattle.drt_model.specs.Digraph.{Digraph}
 use Rattle.drt_busy.specs.Choice.{graph_at, task_at}
 use Rattle.drt_tree.specs.Tree.{Plain, leaves}

@@ -4,7 +4,6 @@ use Rattle.std.specs.Prelude.{IsTrue, nat_lt}
 use Rattle.std.proofs.lemmas.Bool.Decides.{nat_tests}
 use Rattle.drt_graph.proofs.Edges.{gap_of, target_of}
 use Rattle.drt_graph.proofs.Paths.{path_both}
-use Rattle.drt_label.specs.Algebra.{IsTime}
 use Rattle.drt_model.specs.Digraph.{Digraph, IsSoundGraph, vertex_count}
 use Rattle.drt_model.specs.Walk.{last_of, sep, wcet}
 use Rattle.drt_request.specs.Request.{request_algebra}

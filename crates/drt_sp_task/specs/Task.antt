@@ -20,7 +20,8 @@ use Rattle.drt_choices.specs.Laws.{IsPosed}
 use Rattle.drt_claims.specs.Trees.{greatest_deadline}
 use Rattle.drt_trails.specs.declared.FixedTrail.{FixedTrail}
 use Rattle.drt_trails.specs.declared.FixedTrail.TheVariants.{Table, Refine}
-use Rattle.drt_sp.specs.Answers.{AreExactTrees, MeetsDeadlines}
+use Rattle.drt_sp.specs.Answers.{AreExactTrees}
+use Rattle.drt_busy.specs.Response.{MeetsDeadlines}
 use Rattle.drt_sp.specs.Items.{IsSpentRefinement}
 use Rattle.drt_sp.specs.Needs.{AreFewLeaves, IsBelowRefinement, IsBelowSearch}
 use Rattle.drt_sp.specs.TreeClaims.{IsSpentWalkSearch}

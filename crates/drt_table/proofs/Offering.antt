@@ -3,7 +3,8 @@ use Rattle.std.proofs.Common.{◌≡◌, ℕ, ◌+◌, ◌<◌, ◌≤◌, Some,
 use Rattle.std.proofs.lemmas.List.{length-map}
 use Rattle.std.proofs.lemmas.Option.{same_Some, slice_get_within}
 use Rattle.std.specs.Prelude.{slice_get, IsTrue}
-use Rattle.drt_label.specs.Algebra.{Algebra, Laws, IsTime}
+use Rattle.drt_label.specs.Algebra.{Algebra, Laws}
+use Rattle.drt_model.specs.Limits.{IsTime}
 use Rattle.drt_model.specs.Digraph.{edge_of, out_degree, vertex_of}
 use Rattle.drt_model.specs.declared.tasks.Edge.{Edge}
 use Rattle.drt_worklist.specs.Places.{changed}

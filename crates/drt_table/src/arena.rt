@@ -4,7 +4,6 @@
 //! in a short list. All room is taken when an arena is made.
 
 ghost use Rattle.std.specs.Prelude.{◌≡◌, ℕ, ◌+◌, ◌<◌, ◌≤◌, ◌^◌, ◌++◌, ◌∷◌, [], IfOk, IfSome, IsTrue, true, false, Some, None, length, map, slice_get, option_map, unwrap_or, nat_lt, vec_len, vec_capacity, if◌then◌else◌};
-ghost use Rattle.drt_label.specs.Algebra.{IsTime};
 ghost use Rattle.drt_table.specs.Arena.{Stock, HasNodes};
 ghost use Rattle.drt_table.specs.Held.{AllOf, take_by, count_offer, close_node, hand_out, fresh_held, held_offset, drop_held, dominates_held, placed_nodes, placed_reply};
 ghost use Rattle.drt_table.specs.Links.{AreAlone};

@@ -7,7 +7,6 @@
 
 ghost use Rattle.std.specs.Prelude.{◌≡◌, ℕ, ◌+◌, ◌<◌, ◌≤◌, IsTrue, Some, None, length, map, vec_len, vec_capacity, ◌^◌, ◌++◌, ◌∷◌, []};
 ghost use Rattle.drt_table.specs.Held.{AllOf, drop_held, dominates_held, fresh_held, placed_nodes, placed_reply};
-ghost use Rattle.drt_label.specs.Algebra.{IsTime};
 ghost use Rattle.drt_table.specs.Node.{is_kept};
 ghost use Rattle.drt_table.specs.Links.{AreLinked, AreAlone, IsPlace, IsLink, heads_after, links_after};
 ghost use Rattle.drt_table.specs.Sampled.{IsShelf};

@@ -3,7 +3,6 @@
 ghost use Rattle.std.specs.Prelude.{◌≡◌, ℕ, ◌<◌, ◌^◌, ◌++◌, ◌∷◌, [], IfOk, IsTrue, true, false, Some, None};
 ghost use Rattle.drt_table.specs.Node.{Held, is_pending, is_taken, is_kept, is_held_by, fresh};
 ghost use Rattle.drt_table.specs.Held.{take_by, count_offer, close_node, hand_out, fresh_held, held_offset, drop_held, dominates_held};
-ghost use Rattle.drt_label.specs.Algebra.{IsTime};
 
 use drt_label::{Label, Memory};
 use std::alloc::Global;

@@ -8,7 +8,6 @@ ghost use Rattle.drt_worklist.specs.Places.{changed};
 ghost use Rattle.drt_table.specs.Node.{NodeOf, Held, is_taken};
 ghost use Rattle.drt_table.specs.Held.{hand_out};
 ghost use Rattle.drt_table.specs.Taking.{chosen, taken_node};
-ghost use Rattle.drt_label.specs.Algebra.{IsTime};
 ghost use Rattle.drt_model.specs.Digraph.{vertex_count};
 
 use crate::arena::Arena;

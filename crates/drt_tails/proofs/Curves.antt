@@ -5,9 +5,8 @@ use Rattle.std.proofs.lemmas.Bool.{cond_both, eq-eqb, eqb-true, lt-ltb}
 use Rattle.std.proofs.lemmas.List.{get_or-map, length-map}
 use Rattle.std.proofs.lemmas.List.Elements.{All-cons, All-contains_itself, All-filter, All-map, All-nil, All-weaker, filter_passes}
 use Rattle.drt_model.specs.Legal.{AllNeighbours}
-use Rattle.drt_model.specs.declared.front.FrontEntry.{FrontEntry}
+use Rattle.drt_graph.specs.declared.front.FrontEntry.{FrontEntry}
 use Rattle.drt_model.proofs.Neighbours.{AllNeighbours-cons, AllNeighbours-head, AllNeighbours-nil, AllNeighbours-one, AllNeighbours-tail, filter-no, filter-yes, kept}
-use Rattle.drt_wave.specs.Fronts.{IsNextEntry}
 use Rattle.drt_states.specs.declared.claims.Jump.{Jump}
 use Rattle.drt_states.specs.Tails.{last_work}
 use Rattle.drt_tails.specs.Cut.{jump_of, jumps_at}

@@ -8,10 +8,11 @@ use Rattle.std.proofs.lemmas.List.FromFn.{get_or-map-range_with_len, length-map-
 use Rattle.drt_model.specs.Digraph.{Digraph, IsSoundGraph, digraph_of, edge_of, out_degree, vertex_count}
 use Rattle.drt_model.specs.Walk.{IsEdge, gap, last_of, span, wcet}
 use Rattle.drt_model.specs.Legal.{AllNeighbours}
-use Rattle.drt_model.specs.declared.front.FrontEntry.{FrontEntry}
+use Rattle.drt_graph.specs.declared.front.FrontEntry.{FrontEntry}
 use Rattle.drt_graph.specs.Graphs.{graph_of}
 use Rattle.drt_graph.proofs.Edges.{gap_of, sep_of_edge}
-use Rattle.drt_wave.specs.Fronts.{Covers, IsWalkEntry}
+use Rattle.drt_wave.specs.Fronts.{IsWalkEntry}
+use Rattle.drt_graph.specs.FrontEntry.{Covers}
 use Rattle.drt_merge.specs.Marks.{entry_of}
 use Rattle.drt_merge.specs.Gathered.{IsMergedFront}
 use Rattle.drt_merge.proofs.Walks.{opening_walk, walk_edge}

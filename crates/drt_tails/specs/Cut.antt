@@ -1,6 +1,6 @@
 -- The entries of a front as jumps of its vertices.
 use Rattle.std.specs.Prelude.{ℕ, ◌==◌, List, map, filter}
-use Rattle.drt_model.specs.declared.front.FrontEntry.{FrontEntry}
+use Rattle.drt_graph.specs.declared.front.FrontEntry.{FrontEntry}
 use Rattle.drt_states.specs.declared.claims.Jump.{Jump}
 
 -- The jump of an entry.

@@ -3,7 +3,8 @@ ghost use Rattle.std.specs.Prelude.{◌≡◌, IfOk, map};
 ghost use Rattle.std.specs.List.{range_with_len};
 ghost use Rattle.drt_tails.specs.Cut.{jumps_at};
 
-use drt_model::{FrontEntry, Memory, Row};
+use drt_graph::FrontEntry;
+use drt_model::{Memory, Row};
 use drt_states::Jump;
 use std::alloc::Global;
 

@@ -8,13 +8,14 @@ use Rattle.drt_model.specs.Digraph.{IsConstrainedGraph, vertex_count}
 use Rattle.drt_model.specs.Walk.{IsPath, gap, deadline, last_of, span}
 use Rattle.drt_model.specs.Legal.{AllNeighbours}
 use Rattle.drt_model.proofs.Neighbours.{AllNeighbours-one, AllNeighbours-head, AllNeighbours-tail, AllNeighbours-cons}
-use Rattle.drt_model.specs.declared.front.FrontEntry.{FrontEntry}
+use Rattle.drt_graph.specs.declared.front.FrontEntry.{FrontEntry}
 use Rattle.drt_graph.proofs.Edges.{edge_of_sep, source_of}
 use Rattle.drt_graph.proofs.Paths.{span_cons, span_none}
 use Rattle.drt_wave.specs.Cells.{IsWavePlan}
 use Rattle.drt_wave.specs.Dense.{Dense, AreBest, work_at}
 use Rattle.drt_wave.specs.Greatest.{IsWalkInRange, HasWalk, IsGreatestWork}
-use Rattle.drt_wave.specs.Fronts.{IsRangeEntry, IsWalkEntry, Covers, IsNonDominatedEntry, IsFrontOf, IsExactFront, CoversAll, IsNextEntry}
+use Rattle.drt_wave.specs.Fronts.{IsRangeEntry, IsWalkEntry, IsNonDominatedEntry, IsFrontOf, IsExactFront, CoversAll}
+use Rattle.drt_graph.specs.FrontEntry.{IsNextEntry, Covers}
 use Rattle.drt_wave.specs.Gathered.{IsCellKept, IsCellBefore, AreCellsGathered, IsMost}
 use Rattle.drt_wave.proofs.Walks.{greatest_at, has_bounds}
 

@@ -1,8 +1,9 @@
 -- Fronts: the labels of walks that no other label covers.
+use Rattle.drt_graph.specs.FrontEntry.{Covers}
 use Rattle.std.specs.Prelude.{◌≡◌, ℕ, ◌+◌, ◌≤◌, ◌<◌, ◌⊎◌, ◌↔◌, List, ◌∷◌, Any, Contains}
 use Rattle.drt_model.specs.Digraph.{Digraph, vertex_count}
 use Rattle.drt_model.specs.Walk.{IsPath, deadline, last_of, span, work}
-use Rattle.drt_model.specs.declared.front.FrontEntry.{FrontEntry}
+use Rattle.drt_graph.specs.declared.front.FrontEntry.{FrontEntry}
 use Rattle.drt_wave.specs.Greatest.{HasWalk}
 
 -- The entry is the label of a walk that is in range of the bound.
@@ -20,10 +21,6 @@ pub record IsWalkEntry (g : Digraph) (bound : ℕ) (e : FrontEntry) : Type 0 whe
   pub works : e.work ≡ work g (first ∷ others)
   pub within : e.offset + deadline g e.vertex ≤ bound
 
--- The entry is of that vertex, has at most that offset and at least that work.
-abbrev pub Covers : ℕ → ℕ → ℕ → FrontEntry → Type 0
-Covers vertex offset work e = (e.vertex ≡ vertex) × (e.offset ≤ offset) × (work ≤ e.work)
-
 -- The entry is one of some labels, and no other of them covers it: none of its vertex has at most its offset and at least its work.
 pub record IsNonDominatedEntry (IsLabel : FrontEntry → Type 0) (e : FrontEntry) : Type 0 where
   pub label : IsLabel e
@@ -40,7 +37,3 @@ IsExactFront bound g front = IsFrontOf (IsWalkEntry g bound) front
 -- Each of some labels is covered by an entry of the front.
 abbrev pub CoversAll : (FrontEntry → Type 0) → List FrontEntry → Type 0
 CoversAll IsLabel front = (e : FrontEntry) → IsLabel e → Any (Covers e.vertex e.offset e.work) front
-
--- The next entry is of a later vertex, or of the same one with a greater offset and a greater work.
-abbrev pub IsNextEntry : FrontEntry → FrontEntry → Type 0
-IsNextEntry d e = (d.vertex < e.vertex) ⊎ ((d.vertex ≡ e.vertex) × (d.offset < e.offset) × (d.work < e.work))

@@ -2,9 +2,8 @@
 use Rattle.std.specs.Prelude.{◌≡◌, ℕ, ◌+◌, ◌*◌, ◌<◌, ◌≤◌, ◌⊎◌, List, length, Contains}
 use Rattle.drt_model.specs.Digraph.{vertex_count}
 use Rattle.drt_model.specs.Legal.{AllNeighbours}
-use Rattle.drt_model.specs.declared.front.FrontEntry.{FrontEntry}
+use Rattle.drt_graph.specs.declared.front.FrontEntry.{FrontEntry}
 use Rattle.drt_wave.specs.Dense.{Dense, work_at}
-use Rattle.drt_wave.specs.Fronts.{IsNextEntry}
 
 -- The entry has the work of its cell, which is more than that of each cell of its vertex at a smaller offset.
 pub record IsCellKept (d : Dense) (e : FrontEntry) : Type 0 where

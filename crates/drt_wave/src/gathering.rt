@@ -2,11 +2,13 @@
 ghost use Rattle.std.specs.Prelude.{◌+◌, ◌*◌, ◌<◌, ◌≤◌, length, IfOk};
 ghost use Rattle.drt_model.specs.Digraph.{IsConstrainedGraph, vertex_count};
 ghost use Rattle.drt_model.specs.Legal.{AllNeighbours};
-ghost use Rattle.drt_wave.specs.Fronts.{IsRangeEntry, IsWalkEntry, IsFrontOf, IsExactFront, CoversAll, IsNextEntry};
+ghost use Rattle.drt_wave.specs.Fronts.{IsRangeEntry, IsWalkEntry, IsFrontOf, IsExactFront, CoversAll};
+ghost use Rattle.drt_graph.specs.FrontEntry.{IsNextEntry};
 ghost use Rattle.drt_wave.specs.Gathered.{AreCellsGathered, IsMost};
 
 use crate::dense::DenseFront;
-use drt_model::{FrontEntry, Memory, Row};
+use drt_graph::FrontEntry;
+use drt_model::{Memory, Row};
 use std::alloc::Global;
 
 impl DenseFront {

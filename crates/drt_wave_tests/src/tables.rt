@@ -2,8 +2,7 @@
 ghost use Rattle.std.specs.Prelude.{◌≤◌};
 
 use drt_demand::DemandLabel;
-use drt_graph::Graph;
-use drt_model::FrontEntry;
+use drt_graph::{FrontEntry, Graph};
 use drt_pool::EagerGate;
 use drt_search::search_together;
 use drt_table::{Table, TableReply};

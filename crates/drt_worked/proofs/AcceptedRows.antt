@@ -9,13 +9,13 @@ use Rattle.std.proofs.lemmas.List.Elements.{All-nil, All-cons}
 use Rattle.std.proofs.lemmas.Nat.Gcd.{IsGcd-from_zero, IsGcd-from_mod, IsGcd-swap}
 use Rattle.std.proofs.lemmas.Option.{none-some, same_Some}
 use Rattle.drt_model.specs.Digraph.{Digraph, digraph_of, out_degree}
-use Rattle.drt_model.specs.Horizon.{most_to, constant_of, extra, horizon}
-use Rattle.drt_model.specs.RatioRules.{FitPotentials}
+use Rattle.drt_graph.specs.Horizon.{most_to, constant_of, extra, horizon}
+use Rattle.drt_graph.specs.RatioRules.{FitPotentials}
 use Rattle.drt_model.specs.Utilisation.{Fraction, IsScale, rate}
 use Rattle.drt_model.specs.Walk.{sep_in, or_zero, work, span}
-use Rattle.drt_model.specs.declared.front.FrontEntry.{FrontEntry}
-use Rattle.drt_model.specs.FrontEntry.{due}
-use Rattle.drt_claims.specs.Fronts.{HasOpenings, IsClosedFront, IsExtended, IsNextEntry, IsEntryWithin, works_due}
+use Rattle.drt_graph.specs.declared.front.FrontEntry.{FrontEntry}
+use Rattle.drt_graph.specs.FrontEntry.{due, IsNextEntry}
+use Rattle.drt_claims.specs.Fronts.{HasOpenings, IsClosedFront, IsExtended, IsEntryWithin, works_due}
 use Rattle.drt_claims.specs.Rules.{Accepts}
 use Rattle.drt_claims.specs.declared.evidence.RatioClaim.{RatioClaim}
 use Rattle.drt_claims.proofs.Accepting.{AreFrontClaims, AreRatioClaims, IsEdfYes, yes_accepted}

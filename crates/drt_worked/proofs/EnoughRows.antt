@@ -4,7 +4,7 @@ use Rattle.std.specs.Prelude.{Contains, None, if◌then◌else◌}
 use Rattle.std.proofs.lemmas.Bool.{ne_eqb}
 use Rattle.std.proofs.lemmas.Option.{none-some}
 use Rattle.drt_model.specs.declared.tasks.Task.{Task}
-use Rattle.drt_model.specs.Degrees.{most_out}
+use Rattle.drt_graph.specs.Degrees.{most_out}
 use Rattle.drt_model.specs.Digraph.{Digraph}
 use Rattle.drt_model.specs.Walk.{sep_in, or_zero, span}
 use Rattle.drt_busy.specs.Choice.{graph_at, task_at}

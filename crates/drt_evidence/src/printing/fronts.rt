@@ -5,7 +5,8 @@ ghost use Rattle.drt_evidence.specs.Text.{entry_line, front_block, front_lines};
 
 use crate::lines::push_count;
 use drt_file::push_line;
-use drt_model::{FrontEntry, Memory, Row};
+use drt_graph::FrontEntry;
+use drt_model::{Memory, Row};
 use itoa::Buffer;
 
 // Adds how many fronts there are, and the lines of each.

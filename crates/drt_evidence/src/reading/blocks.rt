@@ -14,7 +14,8 @@ use crate::reading::forms::{
 };
 use crate::reading::text::{Stop, Text};
 use drt_claims::{Pair, ProofClaim, RatioClaim, TreeClaim};
-use drt_model::{FrontEntry, Release, Row};
+use drt_graph::FrontEntry;
+use drt_model::{Release, Row};
 use drt_states::{Jump, SearchClaim, StateClaim, TailClaim};
 use std::alloc::Global;
 

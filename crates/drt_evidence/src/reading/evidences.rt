@@ -12,7 +12,8 @@ use crate::reading::forms::{read_kind, read_last, read_miss};
 use crate::reading::line_forms::KindOfEvidence;
 use crate::reading::text::{Stop, Text};
 use drt_claims::{Evidence, ProofClaim, RatioClaim, TreeClaim};
-use drt_model::{FrontEntry, Miss, Release, Row};
+use drt_graph::FrontEntry;
+use drt_model::{Miss, Release, Row};
 use drt_states::{SearchClaim, TailClaim};
 use std::alloc::Global;
 

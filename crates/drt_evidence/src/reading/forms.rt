@@ -19,7 +19,8 @@ use crate::reading::list_lines::{numbers_of, potentials_of, proof_of};
 use crate::reading::state_lines::{jumps_of, state_of};
 use crate::reading::text::{Stop, Text, first_line, refused};
 use drt_claims::{Pair, ProofClaim};
-use drt_model::{FrontEntry, Miss, Policy, Release, Row};
+use drt_graph::FrontEntry;
+use drt_model::{Miss, Policy, Release, Row};
 use drt_states::{Jump, StateClaim};
 use std::alloc::Global;
 

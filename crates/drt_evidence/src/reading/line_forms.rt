@@ -12,7 +12,8 @@ use crate::reading::fields::{
     MOST_NUMBER, MOST_PART, MOST_TICKS, MOST_WORK, behind_word, cut_field, index_of, number_of,
 };
 use drt_claims::Pair;
-use drt_model::{FrontEntry, Miss, Policy, Release};
+use drt_graph::FrontEntry;
+use drt_model::{Miss, Policy, Release};
 
 /// A kind of evidence, as the line above its blocks names it.
 #[derive(Debug, Clone, Copy, PartialEq, Eq)]

@@ -1,7 +1,7 @@
 -- The fronts so far cover their entries' extensions.
 use Rattle.std.proofs.Common.{ℕ, ◌<◌, List, get_or}
 use Rattle.drt_graph.specs.Graphs.{graph_of}
-use Rattle.drt_model.specs.declared.front.FrontEntry.{FrontEntry}
+use Rattle.drt_graph.specs.declared.front.FrontEntry.{FrontEntry}
 use Rattle.drt_claims.specs.Fronts.{IsClosedFront}
 use Rattle.drt_check_fronts.proofs.closing.are_closed.Given as goal
 

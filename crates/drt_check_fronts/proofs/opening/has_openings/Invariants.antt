@@ -2,7 +2,6 @@
 use Rattle.std.proofs.Common.{ℕ, ◌<◌, ◌≤◌}
 use Rattle.std.specs.Prelude.{Any}
 use Rattle.drt_model.specs.Walk.{deadline, wcet}
-use Rattle.drt_claims.specs.Fronts.{Covers}
 use Rattle.drt_check_fronts.proofs.opening.has_openings.Given as goal
 
 abbrev pub invariant-loop-v : goal.invariant-loop-v

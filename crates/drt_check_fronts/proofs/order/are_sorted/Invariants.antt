@@ -1,7 +1,6 @@
 -- The entries so far are in order.
 use Rattle.std.proofs.Common.{ℕ, ◌+◌, ◌<◌, get_or}
-use Rattle.drt_model.specs.declared.front.FrontEntry.{FrontEntry}
-use Rattle.drt_claims.specs.Fronts.{IsNextEntry}
+use Rattle.drt_graph.specs.declared.front.FrontEntry.{FrontEntry}
 use Rattle.drt_check_fronts.proofs.order.are_sorted.Given as goal
 
 abbrev pub invariant-loop-i : goal.invariant-loop-i

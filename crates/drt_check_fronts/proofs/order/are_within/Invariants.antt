@@ -1,6 +1,6 @@
 -- The entries so far are within the bound.
 use Rattle.std.proofs.Common.{ℕ, ◌<◌, get_or}
-use Rattle.drt_model.specs.declared.front.FrontEntry.{FrontEntry}
+use Rattle.drt_graph.specs.declared.front.FrontEntry.{FrontEntry}
 use Rattle.drt_claims.specs.Fronts.{IsEntryWithin}
 use Rattle.drt_check_fronts.proofs.order.are_within.Given as goal
 

@@ -1,7 +1,7 @@
 use Rattle.std.proofs.Common.{ℕ, List, Option, Some, None}
 use Rattle.std.specs.Prelude.{IfSome}
 use Rattle.drt_model.specs.Digraph.{Digraph, IsSoundGraph}
-use Rattle.drt_model.specs.declared.front.FrontEntry.{FrontEntry}
+use Rattle.drt_graph.specs.declared.front.FrontEntry.{FrontEntry}
 use Rattle.drt_claims.specs.Ranges.{IsCounted}
 use Rattle.drt_merge.specs.Gathered.{IsMergedFront}
 use Rattle.drt_fronts.specs.LabelFronts.{IsLabelFront}

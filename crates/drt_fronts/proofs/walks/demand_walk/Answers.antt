@@ -1,7 +1,7 @@
 use Rattle.std.proofs.Common.{ℕ, List, Some, sym, ◌∙◌, subst}
 use Rattle.std.specs.Prelude.{Result, Ok, Err, IfOk}
 use Rattle.drt_model.specs.Digraph.{Digraph}
-use Rattle.drt_model.specs.declared.front.FrontEntry.{FrontEntry}
+use Rattle.drt_graph.specs.declared.front.FrontEntry.{FrontEntry}
 use Rattle.drt_fronts.specs.DemandWalk.{IsGreatestDue, IsDemandWalkTo}
 use Rattle.drt_fronts.specs.LabelFronts.{IsDemandWalk}
 use Rattle.drt_fronts.proofs.DemandWalks.{some_walk, no_walk}

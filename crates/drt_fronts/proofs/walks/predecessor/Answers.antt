@@ -1,7 +1,7 @@
 use Rattle.std.proofs.Common.{◌+◌, ◌<◌, ◌≤◌, ◌⊎◌, inl, inr, arith}
 use Rattle.std.proofs.lemmas.Bool.{cases_lt}
 use Rattle.std.specs.Prelude.{Contains}
-use Rattle.drt_model.specs.declared.front.FrontEntry.{FrontEntry}
+use Rattle.drt_graph.specs.declared.front.FrontEntry.{FrontEntry}
 use Rattle.drt_fronts.specs.DemandWalk.{IsPrefixLabel}
 use Rattle.drt_fronts.proofs.Prefixes.{has_prefix, entry_vertex}
 use Rattle.drt_fronts.proofs.walks.predecessor.Goals as goal

@@ -1,8 +1,8 @@
 -- The greatest share of the vertices that were taken.
 use Rattle.std.proofs.Common.{◌≡◌, pos, negsuc, ◌-◌, ◌*◌}
 use Rattle.std.specs.Prelude.{◌-ℤ◌, ◌≤ℤ◌}
-use Rattle.drt_model.specs.Potential.{potential_of}
-use Rattle.drt_model.specs.Horizon.{most_to}
+use Rattle.drt_graph.specs.Potential.{potential_of}
+use Rattle.drt_graph.specs.Horizon.{most_to}
 use Rattle.drt_model.specs.Walk.{deadline}
 use Rattle.drt_graph.proofs.constants.greatest_closing.Given as goal
 

@@ -3,7 +3,7 @@ use Rattle.std.specs.Prelude.{◌-ℤ◌}
 use Rattle.std.specs.Int.{int_max}
 use Rattle.std.proofs.lemmas.Int.{to_z-of_z}
 use Rattle.drt_model.specs.Walk.{wcet}
-use Rattle.drt_model.specs.Potential.{potential_of}
+use Rattle.drt_graph.specs.Potential.{potential_of}
 use Rattle.drt_graph.proofs.Bounds.{most_start, most_more, max_low, max_high}
 use Rattle.drt_graph.proofs.constants.greatest_opening.Goals as goal
 

@@ -2,8 +2,8 @@
 use Rattle.std.proofs.Common.{◌≡◌, pos, negsuc, ◌-◌, ◌*◌}
 use Rattle.std.specs.Prelude.{◌-ℤ◌, ◌≤ℤ◌}
 use Rattle.drt_model.specs.Walk.{wcet}
-use Rattle.drt_model.specs.Potential.{potential_of}
-use Rattle.drt_model.specs.Horizon.{most_to}
+use Rattle.drt_graph.specs.Potential.{potential_of}
+use Rattle.drt_graph.specs.Horizon.{most_to}
 use Rattle.drt_graph.proofs.constants.greatest_opening.Given as goal
 
 abbrev pub invariant-vertices : goal.invariant-vertices

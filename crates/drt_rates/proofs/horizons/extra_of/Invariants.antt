@@ -1,6 +1,6 @@
 -- What is done and what is left of the sum are the whole.
 use Rattle.std.proofs.Common.{◌≡◌, ◌+◌, ◌*◌, ◌≤◌, drop, map}
-use Rattle.drt_model.specs.Horizon.{extra}
+use Rattle.drt_graph.specs.Horizon.{extra}
 use Rattle.drt_rates.specs.Rates.{AreRated}
 use Rattle.drt_rates.proofs.horizons.extra_of.Given as goal
 

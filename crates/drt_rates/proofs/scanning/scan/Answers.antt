@@ -1,7 +1,7 @@
 use Rattle.std.proofs.Common.{◌≡◌}
 use Rattle.drt_sweep.specs.DueWorks.{works_of}
 use Rattle.drt_sweep.proofs.Lists.{are_of_tasks}
-use Rattle.drt_model.specs.FrontEntry.{due}
+use Rattle.drt_graph.specs.FrontEntry.{due}
 use Rattle.drt_rates.proofs.Fronts.{found}
 use Rattle.drt_rates.proofs.scanning.scan.Goals as goal
 

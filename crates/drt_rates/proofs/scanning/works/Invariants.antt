@@ -1,7 +1,7 @@
 -- The works so far and those of the fronts that are left are all works.
 use Rattle.std.proofs.Common.{◌≡◌, ◌++◌, drop}
 use Rattle.drt_sweep.specs.DueWorks.{works_of}
-use Rattle.drt_model.specs.FrontEntry.{due}
+use Rattle.drt_graph.specs.FrontEntry.{due}
 use Rattle.drt_rates.specs.Demands.{AreFronts}
 use Rattle.drt_rates.proofs.scanning.works.Given as goal
 

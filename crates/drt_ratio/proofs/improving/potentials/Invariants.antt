@@ -1,5 +1,5 @@
 use Rattle.std.proofs.Common.{◌≡◌, ℕ, ◌<◌, pos, length}
-use Rattle.drt_model.specs.Potential.{potential_of}
+use Rattle.drt_graph.specs.Potential.{potential_of}
 use Rattle.drt_ratio.specs.Levels.{height}
 use Rattle.drt_ratio.proofs.improving.potentials.Given as goal
 

@@ -1,7 +1,7 @@
 use Rattle.std.proofs.Common.{ℕ, List, map, ap, ◌∙◌, subst}
 use Rattle.std.specs.Prelude.{IfSome}
 use Rattle.std.specs.List.{range_with_len}
-use Rattle.drt_model.specs.declared.front.FrontEntry.{FrontEntry}
+use Rattle.drt_graph.specs.declared.front.FrontEntry.{FrontEntry}
 use Rattle.drt_merge.specs.Gathered.{IsMergedFront}
 use Rattle.drt_tails.specs.Cut.{jumps_at}
 use Rattle.drt_tails.specs.Turned.{AreTurnedGraphs}

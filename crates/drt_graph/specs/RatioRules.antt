@@ -2,7 +2,7 @@
 use Rattle.std.specs.Prelude.{◌≡◌, ◌≢◌, ℕ, ◌*◌, ℤ, pos, ◌-ℤ◌, ◌≤ℤ◌, List, [], ◌∷◌, Some, length}
 use Rattle.drt_model.specs.Digraph.{Digraph, vertex_count}
 use Rattle.drt_model.specs.Walk.{sep, wcet, work, IsCycle, cycle_span}
-use Rattle.drt_model.specs.Potential.{potential_of}
+use Rattle.drt_graph.specs.Potential.{potential_of}
 
 -- There are as many potentials as vertices.
 abbrev pub ArePotentialsCounted : Digraph → List ℤ → Type 0

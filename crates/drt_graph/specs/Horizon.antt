@@ -3,7 +3,7 @@ use Rattle.std.specs.Prelude.{ℕ, zero, suc, ◌+◌, ◌-◌, ◌*◌, ◌/◌
 use Rattle.std.specs.Int.{int_max}
 use Rattle.drt_model.specs.Digraph.{Digraph, vertex_count}
 use Rattle.drt_model.specs.Walk.{wcet, deadline}
-use Rattle.drt_model.specs.Potential.{potential_of}
+use Rattle.drt_graph.specs.Potential.{potential_of}
 use Rattle.drt_model.specs.Utilisation.{Fraction, rate}
 
 -- The greatest of f 0, .., f n.
