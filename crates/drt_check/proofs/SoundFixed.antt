@@ -11,7 +11,7 @@ use Rattle.drt_model.specs.Schedulable.{Schedulable}
 use Rattle.drt_busy.specs.Choice.{AreWalks, graph_at, no_task, task_at}
 use Rattle.drt_busy.specs.Decide.{TimesDecide}
 use Rattle.drt_claims.specs.Claims.{Each}
-use Rattle.drt_claims.specs.Proofs.{HasPassingTime, after_all, opening, passes}
+use Rattle.drt_claims.specs.Proofs.{HasPassingTime, after_all, opening_stack, passes}
 use Rattle.drt_claims.specs.Trees.{CoversWalks, greatest_deadline, higher_count, root, tree_graphs}
 use Rattle.drt_claims.specs.declared.evidence.ProofClaim.{ProofClaim}
 use Rattle.drt_claims.specs.declared.evidence.TreeClaim.{TreeClaim}
@@ -26,7 +26,7 @@ no_proof = record { task = 0; vertex = 0; items = [] }
 
 -- What a proof of the vertex begins with.
 abbrev start : List Task → List TreeClaim → ℕ → List (List ℕ)
-start tasks trees k = opening trees (higher_count tasks (task_at tasks k).priority)
+start tasks trees k = opening_stack trees (higher_count tasks (task_at tasks k).priority)
 
 -- The time passes for the vertex and the combination.
 abbrev Passes : List Task → List TreeClaim → ℕ → ℕ → List ℕ × ℕ → Type 0

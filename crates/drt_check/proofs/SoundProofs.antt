@@ -5,7 +5,7 @@ use Rattle.std.proofs.lemmas.List.Elements.{All-head, All-tail}
 use Rattle.std.proofs.lemmas.Option.{none-some}
 use Rattle.drt_model.specs.Digraph.{Digraph, digraph_of}
 use Rattle.drt_claims.specs.Claims.{Each}
-use Rattle.drt_claims.specs.Proofs.{after_all, halved, parts_in, passes, sum_at}
+use Rattle.drt_claims.specs.Proofs.{after_all, halved, parts_in, passes, tree_sum_at}
 use Rattle.drt_claims.specs.Trees.{CoversWalks, IsTree, asked, root}
 use Rattle.drt_claims.specs.declared.evidence.Item.{Item}
 use Rattle.drt_claims.specs.declared.evidence.Item.TheVariants.{Pass, Split}
@@ -31,8 +31,8 @@ leaves_at (g ∷ graphs) (tree ∷ trees) (l ∷ leaves) t = asked g t (slice_in
 
 -- Leaves under a combination ask for at most its values.
 pub leaves_most : (graphs : List Digraph) (trees : List TreeClaim) → All IsTree trees → (leaves nodes : List ℕ) → AreUnder leaves nodes trees
-    → (t : ℕ) → leaves_at graphs trees leaves t ≤ sum_at graphs trees nodes t
-unfolding leaves_at sum_at
+    → (t : ℕ) → leaves_at graphs trees leaves t ≤ tree_sum_at graphs trees nodes t
+unfolding leaves_at tree_sum_at
 leaves_most graphs trees are [] [] under t = omega arith
 leaves_most graphs trees are [] (n ∷ nodes) under t = absurd under
 leaves_most graphs trees are (l ∷ leaves) [] under t = absurd under

@@ -17,7 +17,7 @@ use Rattle.drt_busy.specs.Decide.{TimesDecide}
 use Rattle.drt_states.specs.declared.claims.SearchClaim.{SearchClaim}
 use Rattle.drt_states.specs.declared.claims.TailClaim.{TailClaim}
 use Rattle.drt_states.specs.States.{AreStates, HaveDominatedChildren, HavePassingTimes}
-use Rattle.drt_states.specs.Tails.{BoundsWalks, EachTail, IsTail, Place, graphs_of}
+use Rattle.drt_states.specs.Tails.{BoundsWalks, EachTail, IsTail, Place, graphs_of_places}
 use Rattle.drt_states_laws.specs.Laws.{AreWalksOf, StatesPass, asked_together}
 use Rattle.drt_claims.specs.Searches.{higher_places, higher_tails, place_of, places_of}
 use Rattle.drt_claims.specs.Trees.{higher_count}
@@ -50,7 +50,7 @@ take_places tasks (suc n) (suc c) (x ∷ xs) l = ap (λ ps. place_of tasks x.0 �
 
 -- What the first walks ask for together.
 asked_first : (tasks : List Task) (t n : ℕ) (xs : List Walked)
-    → asked_together (graphs_of (places_in tasks (take n xs))) (walks_in (take n xs)) t ≡ total_first t n xs
+    → asked_together (graphs_of_places (places_in tasks (take n xs))) (walks_in (take n xs)) t ≡ total_first t n xs
 unfolding asked_together total_first
 asked_first tasks t zero xs = refl
 asked_first tasks t (suc n) [] = refl
@@ -102,9 +102,9 @@ no_search = record { task = 0; vertex = 0; states = [] }
 -- A search of the vertex has states that keep their rules.
 record IsSearched (tasks : List Task) (tails : List TailClaim) (k v : ℕ) : Type 0 where
   pub search : SearchClaim
-  pub states : AreStates (graphs_of (higher_places tasks (task_at tasks k))) search.states
+  pub states : AreStates (graphs_of_places (higher_places tasks (task_at tasks k))) search.states
   pub passing : HavePassingTimes (deadline (graph_at tasks k) v) (wcet (graph_at tasks k) v) (higher_tails tasks tails (task_at tasks k)) search.states
-  pub children : HaveDominatedChildren (graphs_of (higher_places tasks (task_at tasks k))) (deadline (graph_at tasks k) v) search.states
+  pub children : HaveDominatedChildren (graphs_of_places (higher_places tasks (task_at tasks k))) (deadline (graph_at tasks k) v) search.states
 
 is_searched : (tasks : List Task) (tails : List TailClaim) (searches : List SearchClaim) → IsFixedStates tasks tails searches
     → (k v : ℕ) → k < length tasks → v < vertex_count (graph_at tasks k) → IsSearched tasks tails k v
@@ -121,7 +121,7 @@ is_searched tasks tails searches is k v l m =
       search = search;
       states = is.states has.place no_search has.here task at;
       passing = subst (λ u. HavePassingTimes (deadline (graph_at tasks k) u) (wcet (graph_at tasks k) u) (higher_tails tasks tails task) search.states) vertex_is passing;
-      children = subst (λ u. HaveDominatedChildren (graphs_of (higher_places tasks task)) (deadline (graph_at tasks k) u) search.states) vertex_is children;
+      children = subst (λ u. HaveDominatedChildren (graphs_of_places (higher_places tasks task)) (deadline (graph_at tasks k) u) search.states) vertex_is children;
     }
 
 -- Whatever the walks, there is a time for the vertex: the one at which its states pass for those of the tasks of higher priority.
@@ -138,8 +138,8 @@ has_time pass version tasks limits tails searches is k v l m walks are =
     let rising = subst (λ ps. EachTail IsTail ps (take n tails)) same (zip_take (λ (q : Place) tail. IsTail q.bound q.graph tail) n (places_of tasks) tails is.rising) in
     let bounding = subst (λ ps. EachTail BoundsWalks ps (take n tails)) same (zip_take (λ (q : Place) tail. BoundsWalks q.bound q.graph tail) n (places_of tasks) tails is.bounding) in
     let searched = is_searched tasks tails searches is k v l m in
-    let states = subst (λ ps. AreStates (graphs_of ps) searched.search.states) same searched.states in
-    let children = subst (λ ps. HaveDominatedChildren (graphs_of ps) due searched.search.states) same searched.children in
+    let states = subst (λ ps. AreStates (graphs_of_places ps) searched.search.states) same searched.states in
+    let children = subst (λ ps. HaveDominatedChildren (graphs_of_places ps) due searched.search.states) same searched.children in
     let found = pass (places_in tasks first) (take n tails) (wcet (graph_at tasks k) v) due due searched.search.states
     (higher_sound version tasks limits walks k) (higher_near tasks walks k v l m) rising bounding states (omega arith) searched.passing children
     (walks_in first) (first_walks tasks n xs (ordered_walked tasks walks are)) in

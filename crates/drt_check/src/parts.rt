@@ -1,6 +1,6 @@
 //! What a dossier has, by the kind of its evidence.
 ghost use Rattle.std.specs.Prelude.{◌≡◌, ◌↔◌, All, IsTrue};
-ghost use Rattle.drt_claims.specs.Kinds.{HasReleases, IsOfPolicy, fronts_of, miss_of, proofs_of, ratios_of, releases_of, searches_of, tails_of, trees_of};
+ghost use Rattle.drt_claims.specs.Kinds.{HasReleases, IsOfPolicy, fronts_of, stated_miss, proofs_of, ratios_of, stated_releases, searches_of, tails_of, trees_of};
 ghost use Rattle.drt_claims.specs.Ranges.{AreInRangeReleases, IsInRangeEntry, IsInRangeProof, IsInRangeRatio, IsInRangeTree};
 ghost use Rattle.drt_claims.specs.declared.evidence.Evidence.TheVariants.{Undecided};
 ghost use Rattle.drt_check.specs.Judging.{claimed};
@@ -81,8 +81,8 @@ pub fn fronts_of(dossier: &Dossier) -> &[Row<FrontEntry>]
 
 /// The releases that are to miss, and none where the evidence has none.
 pub fn releases_of(dossier: &Dossier) -> &[Release]
-    ensures value { result.now ≡ releases_of dossier.now.evidence }
-    ensures in_range { AreInRangeReleases result.now (miss_of dossier.now.evidence) }
+    ensures value { result.now ≡ stated_releases dossier.now.evidence }
+    ensures in_range { AreInRangeReleases result.now (stated_miss dossier.now.evidence) }
 {
     match &dossier.evidence {
         Evidence::EdfNo { releases, .. } => releases.as_slice(),
@@ -93,7 +93,7 @@ pub fn releases_of(dossier: &Dossier) -> &[Release]
 
 /// The miss that is named, and that of no job where the evidence names none.
 pub fn miss_of(dossier: &Dossier) -> Miss
-    ensures { result ≡ miss_of dossier.now.evidence }
+    ensures { result ≡ stated_miss dossier.now.evidence }
 {
     match &dossier.evidence {
         Evidence::EdfNo { miss, .. } => *miss,

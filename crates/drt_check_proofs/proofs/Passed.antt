@@ -7,7 +7,7 @@ use Rattle.drt_claims.specs.declared.evidence.Item.{Item}
 use Rattle.drt_claims.specs.declared.evidence.Item.TheVariants.{Pass, Split}
 use Rattle.drt_claims.specs.declared.evidence.TreeClaim.{TreeClaim}
 use Rattle.drt_check_values.specs.declared.query.Query.{Query}
-use Rattle.drt_check_proofs.specs.Passing.{asks, passes_at, times}
+use Rattle.drt_check_proofs.specs.Passing.{asks, passes_at, passing_times}
 use Rattle.drt_check_proofs.specs.Places.{at_place, node_at}
 use Rattle.drt_check_proofs.proofs.Steps.{AreWide, Stepped, stepped}
 
@@ -22,8 +22,8 @@ pub record Passed (trees : List TreeClaim) (width : ℕ) (ts : List ℕ) (ps : L
   pub places : (i : ℕ) (tree : TreeClaim) → slice_get trees i ≡ Some tree → qs i tree ≡ map (asks_of i) ps
 
 pub passed : (trees : List TreeClaim) (width : ℕ) (items : List Item) (stack last : List (List ℕ)) → AreWide width stack → after_all trees items (Some stack) ≡ Some last
-    → Passed trees width (times items) (passes trees items (Some stack)) (λ i tree. passes_at tree i items (Some (at_place i stack)))
-unfolding after_all passes passes_at times
+    → Passed trees width (passing_times items) (passes trees items (Some stack)) (λ i tree. passes_at tree i items (Some (at_place i stack)))
+unfolding after_all passes passes_at passing_times
 passed trees width [] stack last wide e = record { times_are = refl; wide = tt; places = λ i tree at. refl }
 passed trees width (item ∷ items) [] last wide e = absurd (cc)
 passed trees width (Pass t ∷ items) (nodes ∷ stack) last wide e =
@@ -37,8 +37,8 @@ passed trees width (Split place ∷ items) (nodes ∷ stack) last wide e = go (a
   where
     go : (o : Option (List (List ℕ))) → after trees (Split place) (nodes ∷ stack) ≡ o → after_all trees items o ≡ Some last
         → ((next : List (List ℕ)) → AreWide width next → after_all trees items (Some next) ≡ Some last
-        → Passed trees width (times items) (passes trees items (Some next)) (λ i tree. passes_at tree i items (Some (at_place i next))))
-        → Passed trees width (times (Split place ∷ items)) (passes trees (Split place ∷ items) (Some (nodes ∷ stack))) (λ i tree. passes_at tree i (Split place ∷ items) (Some (at_place i (nodes ∷ stack))))
+        → Passed trees width (passing_times items) (passes trees items (Some next)) (λ i tree. passes_at tree i items (Some (at_place i next))))
+        → Passed trees width (passing_times (Split place ∷ items)) (passes trees (Split place ∷ items) (Some (nodes ∷ stack))) (λ i tree. passes_at tree i (Split place ∷ items) (Some (at_place i (nodes ∷ stack))))
     go None was h more = absurd (cc)
     go (Some next) was h more =
         let step : Stepped trees width (Split place) (nodes ∷ stack) next = stepped trees width (Split place) (nodes ∷ stack) next wide was in

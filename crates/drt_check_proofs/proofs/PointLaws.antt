@@ -8,13 +8,13 @@ use Rattle.std.proofs.lemmas.List.Elements.{All-from_recursion, recursion_from_A
 use Rattle.std.proofs.lemmas.Option.{slice_get-get_or, slice_get_past, slice_get_within, same_Some}
 use Rattle.drt_model.specs.declared.tasks.Task.{Task}
 use Rattle.drt_model.specs.Digraph.{Digraph, digraph_of}
-use Rattle.drt_claims.specs.Proofs.{HasPassingTimes, HasShape, HasPassingTime, opening, passes}
+use Rattle.drt_claims.specs.Proofs.{HasPassingTimes, HasShape, HasPassingTime, opening_stack, passes}
 use Rattle.drt_claims.specs.Trees.{higher_count}
 use Rattle.drt_claims.specs.declared.evidence.ProofClaim.{ProofClaim}
 use Rattle.drt_claims.specs.declared.evidence.TreeClaim.{TreeClaim}
-use Rattle.drt_check_proofs.specs.Passing.{all_queries, blank, passes_at, queries_in, queries_of, times}
+use Rattle.drt_check_proofs.specs.Passing.{all_queries, blank, passes_at, queries_in, queries_of, passing_times}
 use Rattle.drt_check_proofs.specs.Places.{at_place}
-use Rattle.drt_check_proofs.specs.Points.{IsPoint, mark_at, marks, marks_in, marks_of, point, points, points_in, points_of, query}
+use Rattle.drt_check_proofs.specs.Points.{IsPoint, mark_of_vertex, marks, marks_in, marks_of, point, points, points_in, points_of, query}
 use Rattle.drt_check_proofs.proofs.Passed.{Passed, asks_of, passed}
 use Rattle.drt_check_proofs.proofs.Replays.{begins_at, opening_wide}
 use Rattle.drt_check_proofs.proofs.Rest.{all_parts, queries_above, queries_past}
@@ -28,17 +28,17 @@ flat_lift P f g h each (x ∷ xs) all =
     let rest = flat_lift P f g h each xs all.1 in
     ap (λ ys. ys ++ flat_map f xs) here ∙ (ap (λ ys. map h (g x) ++ ys) rest ∙ sym (map-append h (g x) (flat_map g xs)))
 
-marks_map : (g : Digraph) (v : ℕ) (ps : List (List ℕ × ℕ)) → map (λ p. p.mark) (map (point g v) ps) ≡ map (mark_at g v) (map (λ at. at.1) ps)
+marks_map : (g : Digraph) (v : ℕ) (ps : List (List ℕ × ℕ)) → map (λ p. p.mark) (map (point g v) ps) ≡ map (mark_of_vertex g v) (map (λ at. at.1) ps)
 marks_map g v [] = refl
-marks_map g v (p ∷ ps) = ap (λ ms. mark_at g v p.1 ∷ ms) (marks_map g v ps)
+marks_map g v (p ∷ ps) = ap (λ ms. mark_of_vertex g v p.1 ∷ ms) (marks_map g v ps)
 
 -- What was found of a proof of the right shape.
 found_of : (tasks : List Task) (trees : List TreeClaim) (proof : ProofClaim) (t : Task) → HasShape tasks trees proof → slice_get tasks proof.task ≡ Some t
-    → Passed trees (min (higher_count tasks t.priority) (length trees)) (times proof.items) (passes trees proof.items (Some (opening trees (higher_count tasks t.priority))))
-    (λ i tree. passes_at tree i proof.items (Some (at_place i (opening trees (higher_count tasks t.priority)))))
+    → Passed trees (min (higher_count tasks t.priority) (length trees)) (passing_times proof.items) (passes trees proof.items (Some (opening_stack trees (higher_count tasks t.priority))))
+    (λ i tree. passes_at tree i proof.items (Some (at_place i (opening_stack trees (higher_count tasks t.priority)))))
 found_of tasks trees proof t has at =
     let m = higher_count tasks t.priority in
-    passed trees (min m (length trees)) proof.items (opening trees m) [] (opening_wide trees m) (has t at)
+    passed trees (min m (length trees)) proof.items (opening_stack trees m) [] (opening_wide trees m) (has t at)
 
 marks_one : (tasks : List Task) (trees : List TreeClaim) (proof : ProofClaim) → HasShape tasks trees proof → marks_of tasks proof ≡ map (λ p. p.mark) (points_of tasks trees proof)
 marks_one tasks trees proof has = go (slice_get tasks proof.task) refl
@@ -46,9 +46,9 @@ marks_one tasks trees proof has = go (slice_get tasks proof.task) refl
     go : (o : Option Task) → slice_get tasks proof.task ≡ o → marks_in proof o ≡ map (λ p. p.mark) (points_in tasks trees proof o)
     go None at = refl
     go (Some t) at =
-        let ps = passes trees proof.items (Some (opening trees (higher_count tasks t.priority))) in
+        let ps = passes trees proof.items (Some (opening_stack trees (higher_count tasks t.priority))) in
         let found = found_of tasks trees proof t has at in
-        ap (map (mark_at (digraph_of t) proof.vertex)) (sym found.times_are) ∙ sym (marks_map (digraph_of t) proof.vertex ps)
+        ap (map (mark_of_vertex (digraph_of t) proof.vertex)) (sym found.times_are) ∙ sym (marks_map (digraph_of t) proof.vertex ps)
 
 -- The marks are those of the points.
 pub marks_points : (tasks : List Task) (trees : List TreeClaim) (proofs : List ProofClaim) → All (HasShape tasks trees) proofs → marks tasks proofs ≡ map (λ p. p.mark) (points tasks trees proofs)
@@ -81,12 +81,12 @@ queries_one tasks trees i tree at_tree proof has = go (slice_get tasks proof.tas
         let within = slice_get_within trees i tree at_tree in
         sym (queries_above tasks tree i proof t at l)
         ∙ (ap (λ (nodes : List ℕ). passes_at tree i proof.items (Some nodes)) (sym (begins_at trees m i tree l at_tree within))
-        ∙ (found.places i tree at_tree ∙ inside (digraph_of t) proof.vertex i (min m (length trees)) (passes trees proof.items (Some (opening trees m))) (omega (arith, l, within)) found.wide))
+        ∙ (found.places i tree at_tree ∙ inside (digraph_of t) proof.vertex i (min m (length trees)) (passes trees proof.items (Some (opening_stack trees m))) (omega (arith, l, within)) found.wide))
     above t at (inr l) =
         let m = higher_count tasks t.priority in
         let found = found_of tasks trees proof t has at in
         sym (queries_past tasks tree i proof t at l)
-        ∙ (ap (map blank) (sym found.times_are) ∙ outside (digraph_of t) proof.vertex i (min m (length trees)) (passes trees proof.items (Some (opening trees m))) (omega (arith, l)) found.wide)
+        ∙ (ap (map blank) (sym found.times_are) ∙ outside (digraph_of t) proof.vertex i (min m (length trees)) (passes trees proof.items (Some (opening_stack trees m))) (omega (arith, l)) found.wide)
 
     go : (o : Option Task) → slice_get tasks proof.task ≡ o → queries_of tasks tree i proof ≡ map (query i) (points_in tasks trees proof (slice_get tasks proof.task))
     go None at = ap (queries_in tasks tree i proof.items) at ∙ ap (λ o. map (query i) (points_in tasks trees proof o)) (sym at)

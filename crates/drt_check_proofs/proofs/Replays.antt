@@ -4,7 +4,7 @@ use Rattle.std.specs.Prelude.{◌↔◌, Option, Some, None, IsSome, slice_get}
 use Rattle.std.proofs.lemmas.List.{length-map, length-take, get_or-map, get_or-take, nil_from_length}
 use Rattle.std.proofs.lemmas.Option.{get_or_from_slice_get, same_Some}
 use Rattle.drt_model.specs.declared.tasks.Task.{Task}
-use Rattle.drt_claims.specs.Proofs.{HasShape, after, after_all, opening}
+use Rattle.drt_claims.specs.Proofs.{HasShape, after, after_all, opening_stack}
 use Rattle.drt_claims.specs.Trees.{higher_count, root}
 use Rattle.drt_claims.specs.declared.evidence.Item.{Item}
 use Rattle.drt_claims.specs.declared.evidence.ProofClaim.{ProofClaim}
@@ -62,7 +62,7 @@ replays trees width (item ∷ items) stack n few wide d each = go (after trees i
         (rest.0, rw (was, after_all) rest.1, rest.2)
 
 -- The combination that a proof begins with has the root of the tree at each place.
-pub begins_at : (trees : List TreeClaim) (count i : ℕ) (tree : TreeClaim) → i < count → slice_get trees i ≡ Some tree → i < length trees → at_place i (opening trees count) ≡ root tree ∷ []
+pub begins_at : (trees : List TreeClaim) (count i : ℕ) (tree : TreeClaim) → i < count → slice_get trees i ≡ Some tree → i < length trees → at_place i (opening_stack trees count) ≡ root tree ∷ []
 begins_at trees count i tree l at within =
     let n : i < length (take count trees) = omega (arith, length-take count trees) in
     let e : get_or (map root (take count trees)) i 0 ≡ root (get_or (take count trees) i tree) = get_or-map root (take count trees) i tree 0 n in
@@ -71,25 +71,25 @@ begins_at trees count i tree l at within =
     ap (λ k. k ∷ []) (e ∙ ap root (f ∙ g))
 
 -- It is as wide as there are trees for it.
-pub opening_wide : (trees : List TreeClaim) (count : ℕ) → AreWide (min count (length trees)) (opening trees count)
+pub opening_wide : (trees : List TreeClaim) (count : ℕ) → AreWide (min count (length trees)) (opening_stack trees count)
 opening_wide trees count = (length-map (take count trees) root ∙ length-take count trees, tt)
 
 -- A shape is right where it is so place by place.
 pub shape_decides : (trees : List TreeClaim) (count width : ℕ) (items : List Item) → width ≡ min count (length trees)
-    → (after_all trees items (Some (opening trees count)) ≡ Some []) ↔ (IsWholeProof width items × CanTakeBelow trees width items)
+    → (after_all trees items (Some (opening_stack trees count)) ≡ Some []) ↔ (IsWholeProof width items × CanTakeBelow trees width items)
 shape_decides trees count width items e = (
   λ all. (
-      let r : Replayed trees width items (opening trees count) [] = replayed trees width items (opening trees count) [] wide all in
+      let r : Replayed trees width items (opening_stack trees count) [] = replayed trees width items (opening_stack trees count) [] wide all in
       (r.depth, λ i tree l at. (let b = begins_at trees count i tree (omega arith) at (omega arith) in let h = rw b at (r.each i tree at) in rw h refl))
       ),
   λ both. (
-      let r = replays trees width items (opening trees count) 0 (omega arith) wide both.0 (λ i tree l at. rw (begins_at trees count i tree (omega arith) at (omega arith)) (both.1 i tree l at)) in
+      let r = replays trees width items (opening_stack trees count) 0 (omega arith) wide both.0 (λ i tree l at. rw (begins_at trees count i tree (omega arith) at (omega arith)) (both.1 i tree l at)) in
       rw r.1 (ap (λ (s : List (List ℕ)). Some s) (nil_from_length r.0 r.2))
       ),
 )
   where
-    wide : AreWide width (opening trees count)
-    wide = subst (λ w. AreWide w (opening trees count)) (sym e) (opening_wide trees count)
+    wide : AreWide width (opening_stack trees count)
+    wide = subst (λ w. AreWide w (opening_stack trees count)) (sym e) (opening_wide trees count)
 
 -- A proof has the right shape where it is so place by place.
 pub has_shape_decides : (tasks : List Task) (trees : List TreeClaim) (proof : ProofClaim) (t : Task) (width : ℕ) → slice_get tasks proof.task ≡ Some t
@@ -98,5 +98,5 @@ has_shape_decides tasks trees proof t width at e =
     let decides = shape_decides trees (higher_count tasks t.priority) width proof.items e in (
       λ has. decides.0 (has t at),
       λ both u at_u. (let same : t ≡ u = same_Some _ _ (sym at ∙ at_u) in
-          subst (λ (x : Task). after_all trees proof.items (Some (opening trees (higher_count tasks x.priority))) ≡ Some []) same (decides.1 both)),
+          subst (λ (x : Task). after_all trees proof.items (Some (opening_stack trees (higher_count tasks x.priority))) ≡ Some []) same (decides.1 both)),
     )

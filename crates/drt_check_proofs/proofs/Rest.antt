@@ -12,7 +12,7 @@ use Rattle.drt_claims.specs.Trees.{higher_count, root}
 use Rattle.drt_model.specs.declared.tasks.Task.{Task}
 use Rattle.drt_model.specs.Digraph.{digraph_of}
 use Rattle.drt_model.specs.Walk.{deadline, wcet}
-use Rattle.drt_check_proofs.specs.Passing.{asks_at, blank, passes_at, queries_of, times}
+use Rattle.drt_check_proofs.specs.Passing.{asks_at, blank, passes_at, queries_of, passing_times}
 use Rattle.drt_check_proofs.specs.Points.{make_mark, marks_in, marks_of}
 use Rattle.drt_check_proofs.specs.Places.{after_at}
 use Rattle.drt_check_proofs.proofs.Turns.{item_at}
@@ -31,19 +31,19 @@ flat_turned {X} f xs i x l is = ap (flat_map f) (drop_more xs i x l) ∙ ap (λ 
 pub flat_ended : {X Y : Type 0} (f : X → List Y) (xs : List X) (i : ℕ) → length xs ≤ i → flat_map f (drop i xs) ≡ []
 flat_ended f xs i l = ap (flat_map f) (drop_all i xs l)
 
-times_first : (item : Item) (items : List Item) → times (item ∷ items) ≡ times (item ∷ []) ++ times items
-unfolding times
+times_first : (item : Item) (items : List Item) → passing_times (item ∷ items) ≡ passing_times (item ∷ []) ++ passing_times items
+unfolding passing_times
 times_first (Pass t) items = refl
 times_first (Split place) items = refl
 
-pub times_turned : {Y : Type 0} (f : ℕ → Y) (items : List Item) (i : ℕ) → i < length items → map f (times (drop i items)) ≡ map f (times (item_at items i ∷ [])) ++ map f (times (drop (i + 1) items))
+pub times_turned : {Y : Type 0} (f : ℕ → Y) (items : List Item) (i : ℕ) → i < length items → map f (passing_times (drop i items)) ≡ map f (passing_times (item_at items i ∷ [])) ++ map f (passing_times (drop (i + 1) items))
 times_turned f items i l =
-    ap (λ xs. map f (times xs)) (drop_more items i (Pass 0) l)
-    ∙ (ap (map f) (times_first (item_at items i) (drop (i + 1) items)) ∙ map-append f (times (item_at items i ∷ [])) (times (drop (i + 1) items)))
+    ap (λ xs. map f (passing_times xs)) (drop_more items i (Pass 0) l)
+    ∙ (ap (map f) (times_first (item_at items i) (drop (i + 1) items)) ∙ map-append f (passing_times (item_at items i ∷ [])) (passing_times (drop (i + 1) items)))
 
-pub times_ended : {Y : Type 0} (f : ℕ → Y) (items : List Item) (i : ℕ) → length items ≤ i → map f (times (drop i items)) ≡ []
-unfolding times
-times_ended f items i l = ap (λ xs. map f (times xs)) (drop_all i items l)
+pub times_ended : {Y : Type 0} (f : ℕ → Y) (items : List Item) (i : ℕ) → length items ≤ i → map f (passing_times (drop i items)) ≡ []
+unfolding passing_times
+times_ended f items i l = ap (λ xs. map f (passing_times xs)) (drop_all i items l)
 
 pub passes_turned : (tree : TreeClaim) (place : ℕ) (items : List Item) (i : ℕ) (nodes : List ℕ) (o : Option (List ℕ)) → i < length items → after_at tree place (item_at items i) nodes ≡ o
     → passes_at tree place (drop i items) (Some nodes) ≡ asks_at (item_at items i) nodes ++ passes_at tree place (drop (i + 1) items) o
@@ -86,12 +86,12 @@ pub queries_above : (tasks : List Task) (tree : TreeClaim) (i : ℕ) (proof : Pr
 queries_above tasks tree i proof t at l = rw (at, lt-ltb i (higher_count tasks t.priority) l) refl
 
 pub queries_past : (tasks : List Task) (tree : TreeClaim) (i : ℕ) (proof : ProofClaim) (t : Task) → slice_get tasks proof.task ≡ Some t → higher_count tasks t.priority ≤ i
-    → map blank (times proof.items) ≡ queries_of tasks tree i proof
+    → map blank (passing_times proof.items) ≡ queries_of tasks tree i proof
 queries_past tasks tree i proof t at l = rw (at, le-ltb i (higher_count tasks t.priority) l) refl
 
 -- The marks of a proof, by the numbers of its vertex.
 pub marks_are : (tasks : List Task) (proof : ProofClaim) (t : Task) (c d : ℕ) → slice_get tasks proof.task ≡ Some t → c ≡ wcet (digraph_of t) proof.vertex → d ≡ deadline (digraph_of t) proof.vertex
-    → map (make_mark c d) (times proof.items) ≡ marks_of tasks proof
+    → map (make_mark c d) (passing_times proof.items) ≡ marks_of tasks proof
 marks_are tasks proof t c d at e f =
-    ap (λ (n : ℕ). map (make_mark n d) (times proof.items)) e
-    ∙ (ap (λ (n : ℕ). map (make_mark (wcet (digraph_of t) proof.vertex) n) (times proof.items)) f ∙ sym (ap (marks_in proof) at))
+    ap (λ (n : ℕ). map (make_mark n d) (passing_times proof.items)) e
+    ∙ (ap (λ (n : ℕ). map (make_mark (wcet (digraph_of t) proof.vertex) n) (passing_times proof.items)) f ∙ sym (ap (marks_in proof) at))

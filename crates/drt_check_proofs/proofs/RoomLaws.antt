@@ -6,11 +6,11 @@ use Rattle.std.proofs.lemmas.List.{get_or-map, length-map, take_all}
 use Rattle.std.proofs.lemmas.List.Elements.{All-from_recursion, recursion_from_All}
 use Rattle.drt_model.specs.Digraph.{Digraph}
 use Rattle.drt_claims.specs.Claims.{Each}
-use Rattle.drt_claims.specs.Proofs.{sum_at}
+use Rattle.drt_claims.specs.Proofs.{tree_sum_at}
 use Rattle.drt_claims.specs.Trees.{IsTree}
 use Rattle.drt_claims.specs.declared.evidence.TreeClaim.{TreeClaim}
 use Rattle.drt_check_values.specs.declared.query.Query.{Query}
-use Rattle.drt_check_values.specs.Values.{AreLeft, AreWithin, value, values}
+use Rattle.drt_check_values.specs.Values.{AreLeft, AreWithin, query_value, query_values}
 use Rattle.drt_check_proofs.specs.Points.{AreRooms, IsPoint, IsTimely, Mark, Point, query, room, used}
 use Rattle.drt_check_proofs.proofs.Sums.{used_first, used_more, used_most}
 
@@ -50,18 +50,18 @@ rooms_first graphs trees ps rooms ready are = record {
 
 -- The values of the points' questions.
 values_at_point : (g : Digraph) (tree : TreeClaim) (i : ℕ) (ps : List Point) (qs : List Query) → qs ≡ map (query i) ps
-    → (k : ℕ) (d : Point) → k < length ps → (length (values g tree qs) ≡ length ps) × (get_or (values g tree qs) k 0 ≡ value g tree (query i (get_or ps k d)))
+    → (k : ℕ) (d : Point) → k < length ps → (length (query_values g tree qs) ≡ length ps) × (get_or (query_values g tree qs) k 0 ≡ query_value g tree (query i (get_or ps k d)))
 values_at_point g tree i ps qs asked k d l =
     let long : length (map (query i) ps) ≡ length ps = length-map ps (query i) in (
-      length-map qs (value g tree) ∙ (ap length asked ∙ long),
-      ap (λ (asks : List Query). get_or (values g tree asks) k 0) asked
-          ∙ (get_or-map (value g tree) (map (query i) ps) k (query i d) 0 (omega (arith, long)) ∙ ap (value g tree) (get_or-map (query i) ps k d (query i d) l)),
+      length-map qs (query_value g tree) ∙ (ap length asked ∙ long),
+      ap (λ (asks : List Query). get_or (query_values g tree asks) k 0) asked
+          ∙ (get_or-map (query_value g tree) (map (query i) ps) k (query i d) 0 (omega (arith, long)) ∙ ap (query_value g tree) (get_or-map (query i) ps k d (query i d) l)),
     )
 
 -- Where the values were taken, what is left is so at one place more.
 pub rooms_more : (graphs : List Digraph) (trees : List TreeClaim) (i : ℕ) (g : Digraph) (tree : TreeClaim) (ps : List Point) (qs : List Query) (rooms next : List ℕ)
     → slice_get graphs i ≡ Some g → slice_get trees i ≡ Some tree → IsTree tree → AreReady ps → qs ≡ map (query i) ps → AreRooms graphs trees i ps rooms
-    → length next ≡ length rooms → AreLeft (values g tree qs) rooms next → AreRooms graphs trees (i + 1) ps next
+    → length next ≡ length rooms → AreLeft (query_values g tree qs) rooms next → AreRooms graphs trees (i + 1) ps next
 rooms_more graphs trees i g tree ps qs rooms next at_g at_tree is ready asked so_far long taken = record {
   count = long ∙ so_far.count;
   left = λ k d l. (
@@ -76,9 +76,9 @@ rooms_more graphs trees i g tree ps qs rooms next at_g at_tree is ready asked so
 -- Where all points pass, the values fit.
 pub values_fit : (graphs : List Digraph) (trees : List TreeClaim) (i : ℕ) (g : Digraph) (tree : TreeClaim) (ps : List Point) (qs : List Query) (rooms : List ℕ)
     → slice_get graphs i ≡ Some g → slice_get trees i ≡ Some tree → IsTree tree → AreReady ps → qs ≡ map (query i) ps → AreRooms graphs trees i ps rooms
-    → AllByRecursion (IsPoint graphs trees) ps → AreWithin (values g tree qs) rooms
+    → AllByRecursion (IsPoint graphs trees) ps → AreWithin (query_values g tree qs) rooms
 values_fit graphs trees i g tree ps qs rooms at_g at_tree is ready asked so_far all k m =
-    let many : length (values g tree qs) ≡ length ps = length-map qs (value g tree) ∙ (ap length asked ∙ length-map ps (query i)) in
+    let many : length (query_values g tree qs) ≡ length ps = length-map qs (query_value g tree) ∙ (ap length asked ∙ length-map ps (query i)) in
     let l : k < length ps = omega (arith, many) in
     let d = no_point tt in
     let p = get_or ps k d in
@@ -93,7 +93,7 @@ pub rooms_last : (graphs : List Digraph) (trees : List TreeClaim) (i : ℕ) (ps 
 rooms_last graphs trees i ps rooms last ready so_far = recursion_from_All (IsPoint graphs trees) ps (λ k d l. (
     let p = get_or ps k d in
     let timely = (ready_at ps ready k d l).0 in
-    let all : used graphs trees i p ≡ p.mark.wcet + sum_at graphs trees p.nodes p.mark.time = ap (λ gs. p.mark.wcet + sum_at gs trees p.nodes p.mark.time) (take_all i graphs last) in
+    let all : used graphs trees i p ≡ p.mark.wcet + tree_sum_at graphs trees p.nodes p.mark.time = ap (λ gs. p.mark.wcet + tree_sum_at gs trees p.nodes p.mark.time) (take_all i graphs last) in
     record { some = timely.some; within = timely.within; fits = omega (arith, all, so_far.left k d l) }))
 
 -- Points that pass are in time.

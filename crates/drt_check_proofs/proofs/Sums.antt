@@ -6,11 +6,11 @@ use Rattle.std.proofs.lemmas.List.{get_or_append_left, length_push}
 use Rattle.drt_model.specs.Digraph.{Digraph}
 use Rattle.drt_model.specs.RequestFunction.{requested_from}
 use Rattle.drt_model.specs.Walk.{gap}
-use Rattle.drt_claims.specs.Proofs.{sum_at}
+use Rattle.drt_claims.specs.Proofs.{tree_sum_at}
 use Rattle.drt_claims.specs.Trees.{IsTree, asked, joined, node_values}
 use Rattle.drt_claims.specs.declared.evidence.Pair.{Pair}
 use Rattle.drt_claims.specs.declared.evidence.TreeClaim.{TreeClaim}
-use Rattle.drt_check_values.specs.Values.{value}
+use Rattle.drt_check_values.specs.Values.{query_value}
 use Rattle.drt_check_proofs.specs.Points.{Point, query, query_in, used}
 
 -- The value of a node, if there is one.
@@ -18,15 +18,15 @@ abbrev pub value_in : Digraph → TreeClaim → ℕ → Option ℕ → ℕ
 value_in g tree t None = 0
 value_in g tree t (Some n) = get_or (node_values g tree t) n 0
 
-sum_none : (trees : List TreeClaim) (nodes : List ℕ) (t : ℕ) → sum_at [] trees nodes t ≡ 0
-unfolding sum_at
+sum_none : (trees : List TreeClaim) (nodes : List ℕ) (t : ℕ) → tree_sum_at [] trees nodes t ≡ 0
+unfolding tree_sum_at
 sum_none trees [] t = refl
 sum_none trees (n ∷ nodes) t = refl
 
 -- The sum at one place more.
 sum_more : (i : ℕ) (graphs : List Digraph) (trees : List TreeClaim) (nodes : List ℕ) (t : ℕ) (g : Digraph) (tree : TreeClaim) → slice_get graphs i ≡ Some g → slice_get trees i ≡ Some tree
-    → sum_at (take (suc i) graphs) trees nodes t ≡ sum_at (take i graphs) trees nodes t + value_in g tree t (slice_get nodes i)
-unfolding sum_at
+    → tree_sum_at (take (suc i) graphs) trees nodes t ≡ tree_sum_at (take i graphs) trees nodes t + value_in g tree t (slice_get nodes i)
+unfolding tree_sum_at
 sum_more i [] trees nodes t g tree at_g at_tree = absurd (cc)
 sum_more i (h ∷ graphs) [] nodes t g tree at_g at_tree = absurd (cc)
 sum_more i (h ∷ graphs) (u ∷ trees) [] t g tree at_g at_tree = refl
@@ -41,8 +41,8 @@ sum_more (suc i) (h ∷ graphs) (u ∷ trees) (n ∷ nodes) t g tree at_g at_tre
     omega (arith, rest)
 
 -- Values at some of the places are at most those at all.
-sum_most : (i : ℕ) (graphs : List Digraph) (trees : List TreeClaim) (nodes : List ℕ) (t : ℕ) → sum_at (take i graphs) trees nodes t ≤ sum_at graphs trees nodes t
-unfolding sum_at
+sum_most : (i : ℕ) (graphs : List Digraph) (trees : List TreeClaim) (nodes : List ℕ) (t : ℕ) → tree_sum_at (take i graphs) trees nodes t ≤ tree_sum_at graphs trees nodes t
+unfolding tree_sum_at
 sum_most zero graphs trees nodes t = (let none = sum_none trees nodes t in omega (arith, none))
 sum_most (suc i) [] trees nodes t = omega arith
 sum_most (suc i) (h ∷ graphs) [] [] t = omega arith
@@ -77,22 +77,22 @@ value_none g tree some = go tree.walks some
     go [] l = absurd (omega arith)
     go (x ∷ walks) l = joined_keeps (asked g 0 x ∷ map (asked g 0) walks) tree.pairs 0 (omega arith) ∙ asked_none g x
 
-value_query : (g : Digraph) (tree : TreeClaim) (t : ℕ) (o : Option ℕ) → 1 ≤ length tree.walks → t ≤ 4294967295 → value g tree (query_in t o) ≡ value_in g tree t o
+value_query : (g : Digraph) (tree : TreeClaim) (t : ℕ) (o : Option ℕ) → 1 ≤ length tree.walks → t ≤ 4294967295 → query_value g tree (query_in t o) ≡ value_in g tree t o
 value_query g tree t None some short = value_none g tree some
 value_query g tree t (Some n) some short = (let e : min t 4294967295 ≡ t = omega arith in ap (λ s. get_or (node_values g tree s) n 0) e)
 
 -- What a point asks for at one place more.
 pub used_more : (graphs : List Digraph) (trees : List TreeClaim) (i : ℕ) (g : Digraph) (tree : TreeClaim) (p : Point) → slice_get graphs i ≡ Some g → slice_get trees i ≡ Some tree → IsTree tree
-    → p.mark.time ≤ 4294967295 → used graphs trees (i + 1) p ≡ used graphs trees i p + value g tree (query i p)
+    → p.mark.time ≤ 4294967295 → used graphs trees (i + 1) p ≡ used graphs trees i p + query_value g tree (query i p)
 used_more graphs trees i g tree p at_g at_tree is short =
     let step = sum_more i graphs trees p.nodes p.mark.time g tree at_g at_tree in
     let v = value_query g tree p.mark.time (slice_get p.nodes i) is.some short in
     let next : i + 1 ≡ suc i = omega arith in
-    let e = ap (λ n. sum_at (take n graphs) trees p.nodes p.mark.time) next in
+    let e = ap (λ n. tree_sum_at (take n graphs) trees p.nodes p.mark.time) next in
     omega (arith, step, v, e)
 
 -- What it asks for at some places is at most what it asks for at all.
-pub used_most : (graphs : List Digraph) (trees : List TreeClaim) (i : ℕ) (p : Point) → used graphs trees i p ≤ p.mark.wcet + sum_at graphs trees p.nodes p.mark.time
+pub used_most : (graphs : List Digraph) (trees : List TreeClaim) (i : ℕ) (p : Point) → used graphs trees i p ≤ p.mark.wcet + tree_sum_at graphs trees p.nodes p.mark.time
 used_most graphs trees i p = (let l = sum_most i graphs trees p.nodes p.mark.time in omega (arith, l))
 
 pub used_first : (graphs : List Digraph) (trees : List TreeClaim) (p : Point) → used graphs trees 0 p ≡ p.mark.wcet

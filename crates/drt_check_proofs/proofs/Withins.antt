@@ -10,7 +10,7 @@ use Rattle.drt_model.specs.declared.tasks.Task.{Task}
 use Rattle.drt_model.specs.Digraph.{digraph_of, no_vertex}
 use Rattle.drt_model.specs.Limits.{IsTask, IsVertex}
 use Rattle.drt_model.specs.Walk.{deadline}
-use Rattle.drt_claims.specs.Proofs.{opening, parts, parts_of, passes}
+use Rattle.drt_claims.specs.Proofs.{opening_stack, parts_in, parts_of, passes}
 use Rattle.drt_claims.specs.Trees.{IsTree, higher_count, root}
 use Rattle.drt_claims.specs.declared.evidence.Item.{Item}
 use Rattle.drt_claims.specs.declared.evidence.Item.TheVariants.{Pass, Split}
@@ -18,7 +18,7 @@ use Rattle.drt_claims.specs.declared.evidence.Pair.{Pair}
 use Rattle.drt_claims.specs.declared.evidence.ProofClaim.{ProofClaim}
 use Rattle.drt_claims.specs.declared.evidence.TreeClaim.{TreeClaim}
 use Rattle.drt_check_values.specs.declared.query.Query.{Query}
-use Rattle.drt_check_proofs.specs.Passing.{all_queries, asks_at, blank, passes_at, queries_in, queries_of, times}
+use Rattle.drt_check_proofs.specs.Passing.{all_queries, asks_at, blank, passes_at, queries_in, queries_of, passing_times}
 use Rattle.drt_check_proofs.specs.Places.{after_at, with_halves}
 use Rattle.drt_check_proofs.specs.Points.{point, points, points_in, points_of}
 use Rattle.drt_check_proofs.proofs.Rest.{all_parts}
@@ -31,7 +31,7 @@ size tree = length tree.walks + length tree.pairs
 abbrev pub IsWithin : TreeClaim → Query → Type 0
 IsWithin tree q = q.node < size tree
 
-parts_within : (tree : TreeClaim) (n : ℕ) (p : ℕ × ℕ) → IsTree tree → parts tree n ≡ Some p → (p.0 < size tree) × (p.1 < size tree)
+parts_within : (tree : TreeClaim) (n : ℕ) (p : ℕ × ℕ) → IsTree tree → parts_in tree n ≡ Some p → (p.0 < size tree) × (p.1 < size tree)
 parts_within tree n p is e = go (cases_lt n (length tree.walks))
   where
     by_pair : (o : Option Pair) → slice_get tree.pairs (n - length tree.walks) ≡ o → parts_of o ≡ Some p → (p.0 < size tree) × (p.1 < size tree)
@@ -61,12 +61,12 @@ after_within tree i item [] is all = tt
 after_within tree i (Pass t) (n ∷ nodes) is all = all.1
 after_within tree i (Split place) (n ∷ nodes) is all = by_test (place == i)
   where
-    by_parts : (o : Option (ℕ × ℕ)) → parts tree n ≡ o → AreWithinIn tree (with_halves nodes o)
+    by_parts : (o : Option (ℕ × ℕ)) → parts_in tree n ≡ o → AreWithinIn tree (with_halves nodes o)
     by_parts None e = tt
     by_parts (Some p) e = (let both = parts_within tree n p is e in (both.0, (both.1, all.1)))
 
-    by_test : (b : Bool) → AreWithinIn tree (with_halves nodes (if b then parts tree n else Some (n, n)))
-    by_test true = by_parts (parts tree n) refl
+    by_test : (b : Bool) → AreWithinIn tree (with_halves nodes (if b then parts_in tree n else Some (n, n)))
+    by_test true = by_parts (parts_in tree n) refl
     by_test false = (all.0, (all.0, all.1))
 
 asks_within : (tree : TreeClaim) (item : Item) (nodes : List ℕ) → AreWithin tree nodes → AllByRecursion (IsWithin tree) (asks_at item nodes)
@@ -90,9 +90,9 @@ queries_within_in : (tasks : List Task) (tree : TreeClaim) (i : ℕ) (items : Li
 queries_within_in tasks tree i items None is = tt
 queries_within_in tasks tree i items (Some t) is = go (ltb i (higher_count tasks t.priority))
   where
-    go : (b : Bool) → AllByRecursion (IsWithin tree) (if b then passes_at tree i items (Some (root tree ∷ [])) else map blank (times items))
+    go : (b : Bool) → AllByRecursion (IsWithin tree) (if b then passes_at tree i items (Some (root tree ∷ [])) else map blank (passing_times items))
     go true = passes_within tree i items (Some (root tree ∷ [])) is (omega (arith, is.some), tt)
-    go false = blanks_within tree (times items) is
+    go false = blanks_within tree (passing_times items) is
 
 queries_within_all : (tasks : List Task) (tree : TreeClaim) (i : ℕ) (proofs : List ProofClaim) → IsTree tree → AllByRecursion (IsWithin tree) (all_queries tasks tree i proofs)
 queries_within_all tasks tree i [] is = tt
@@ -125,7 +125,7 @@ points_short_one tasks trees proof version all = go (slice_get tasks proof.task)
     go None at = tt
     go (Some t) at =
         let is : IsTask version t = subst (λ (x : Task). IsTask version x) (get_or_from_slice_get tasks proof.task t t at) (all proof.task t (slice_get_within tasks proof.task t at)) in
-        points_of_task t proof.vertex (deadline_short version t proof.vertex is) (passes trees proof.items (Some (opening trees (higher_count tasks t.priority))))
+        points_of_task t proof.vertex (deadline_short version t proof.vertex is) (passes trees proof.items (Some (opening_stack trees (higher_count tasks t.priority))))
 
 -- The deadlines of all points are short.
 pub points_short : (tasks : List Task) (trees : List TreeClaim) (proofs : List ProofClaim) (version : ℕ) → All (IsTask version) tasks

@@ -11,10 +11,10 @@ use Rattle.drt_check_values.specs.declared.query.Query.{Query}
 use Rattle.drt_check_proofs.specs.Places.{after_at}
 
 -- The times of the items that pass, in order.
-unfoldable pub times : List Item → List ℕ
-times [] = []
-times (Pass t ∷ items) = t ∷ times items
-times (Split place ∷ items) = times items
+unfoldable pub passing_times : List Item → List ℕ
+passing_times [] = []
+passing_times (Pass t ∷ items) = t ∷ passing_times items
+passing_times (Split place ∷ items) = passing_times items
 
 -- The question for the value of a node at a time. A time past 32 bits, which passes for no vertex, stands for the greatest that has 32.
 abbrev pub asks : ℕ → ℕ → Query
@@ -40,7 +40,7 @@ blank t = asks 0 0
 abbrev pub queries_in : List Task → TreeClaim → ℕ → List Item → Option Task → List Query
 queries_in tasks tree i items None = []
 queries_in tasks tree i items (Some t) =
-    if nat_lt i (higher_count tasks t.priority) then passes_at tree i items (Some (root tree ∷ [])) else map blank (times items)
+    if nat_lt i (higher_count tasks t.priority) then passes_at tree i items (Some (root tree ∷ [])) else map blank (passing_times items)
 
 -- The questions of a proof at a place, of the task that it names.
 abbrev pub queries_of : List Task → TreeClaim → ℕ → ProofClaim → List Query

@@ -4,12 +4,12 @@ use Rattle.std.specs.List.{flat_map}
 use Rattle.drt_model.specs.declared.tasks.Task.{Task}
 use Rattle.drt_model.specs.Digraph.{Digraph, digraph_of}
 use Rattle.drt_model.specs.Walk.{deadline, wcet}
-use Rattle.drt_claims.specs.Proofs.{opening, passes, sum_at}
+use Rattle.drt_claims.specs.Proofs.{opening_stack, passes, tree_sum_at}
 use Rattle.drt_claims.specs.Trees.{higher_count}
 use Rattle.drt_claims.specs.declared.evidence.ProofClaim.{ProofClaim}
 use Rattle.drt_claims.specs.declared.evidence.TreeClaim.{TreeClaim}
 use Rattle.drt_check_values.specs.declared.query.Query.{Query}
-use Rattle.drt_check_proofs.specs.Passing.{asks, times}
+use Rattle.drt_check_proofs.specs.Passing.{asks, passing_times}
 
 -- A time that is to pass for a vertex, with the vertex's execution time and deadline.
 pub record Mark : Type 0 where
@@ -22,13 +22,13 @@ abbrev pub make_mark : ℕ → ℕ → ℕ → Mark
 make_mark c d t = record { wcet = c; deadline = d; time = t }
 
 -- The mark of a vertex at a time.
-abbrev pub mark_at : Digraph → ℕ → ℕ → Mark
-mark_at g v t = make_mark (wcet g v) (deadline g v) t
+abbrev pub mark_of_vertex : Digraph → ℕ → ℕ → Mark
+mark_of_vertex g v t = make_mark (wcet g v) (deadline g v) t
 
 -- The marks of a proof of a vertex of a task.
 abbrev pub marks_in : ProofClaim → Option Task → List Mark
 marks_in proof None = []
-marks_in proof (Some t) = map (mark_at (digraph_of t) proof.vertex) (times proof.items)
+marks_in proof (Some t) = map (mark_of_vertex (digraph_of t) proof.vertex) (passing_times proof.items)
 
 -- The marks of a proof, of the task that it names.
 abbrev pub marks_of : List Task → ProofClaim → List Mark
@@ -55,12 +55,12 @@ pub record Point : Type 0 where
 
 -- The point of a vertex for a combination and its time.
 abbrev pub point : Digraph → ℕ → List ℕ × ℕ → Point
-point g v at = record { mark = mark_at g v at.1; nodes = at.0 }
+point g v at = record { mark = mark_of_vertex g v at.1; nodes = at.0 }
 
 -- The points of a proof.
 abbrev pub points_in : List Task → List TreeClaim → ProofClaim → Option Task → List Point
 points_in tasks trees proof None = []
-points_in tasks trees proof (Some t) = map (point (digraph_of t) proof.vertex) (passes trees proof.items (Some (opening trees (higher_count tasks t.priority))))
+points_in tasks trees proof (Some t) = map (point (digraph_of t) proof.vertex) (passes trees proof.items (Some (opening_stack trees (higher_count tasks t.priority))))
 
 -- The points of a proof, of the task that it names.
 abbrev pub points_of : List Task → List TreeClaim → ProofClaim → List Point
@@ -81,7 +81,7 @@ query i p = query_in p.mark.time (slice_get p.nodes i)
 
 -- What a point asks for: the execution time, and the values at the first places.
 abbrev pub used : List Digraph → List TreeClaim → ℕ → Point → ℕ
-used graphs trees i p = p.mark.wcet + sum_at (take i graphs) trees p.nodes p.mark.time
+used graphs trees i p = p.mark.wcet + tree_sum_at (take i graphs) trees p.nodes p.mark.time
 
 -- What is left of the points' times beside what they ask for at the first places.
 pub record AreRooms (graphs : List Digraph) (trees : List TreeClaim) (i : ℕ) (ps : List Point) (rooms : List ℕ) : Type 0 where
@@ -92,4 +92,4 @@ pub record AreRooms (graphs : List Digraph) (trees : List TreeClaim) (i : ℕ) (
 pub record IsPoint (graphs : List Digraph) (trees : List TreeClaim) (p : Point) : Type 0 where
   pub some : 1 ≤ p.mark.time
   pub within : p.mark.time ≤ p.mark.deadline
-  pub fits : p.mark.wcet + sum_at graphs trees p.nodes p.mark.time ≤ p.mark.time
+  pub fits : p.mark.wcet + tree_sum_at graphs trees p.nodes p.mark.time ≤ p.mark.time

@@ -1,8 +1,8 @@
 //! A proof seen at one place, as a stack of nodes of one tree. The last of the nodes is the topmost combination's.
 ghost use Rattle.std.specs.Prelude.{◌≡◌, IfOk, Some, None, reverse, if◌then◌else◌, [], ◌∷◌};
-ghost use Rattle.drt_claims.specs.Proofs.{parts};
+ghost use Rattle.drt_claims.specs.Proofs.{parts_in};
 ghost use Rattle.drt_claims.specs.Trees.{root};
-ghost use Rattle.drt_check_proofs.specs.Places.{after_at, halves};
+ghost use Rattle.drt_check_proofs.specs.Places.{after_at, halves_at};
 
 use drt_claims::{Item, TreeClaim};
 use drt_model::Memory;
@@ -10,7 +10,7 @@ use std::alloc::AllocError;
 
 // The two parts of a node of the tree, if it is a pair.
 fn parts(tree: &TreeClaim, node: u32) -> Option<(u32, u32)>
-    ensures { result ≡ parts tree.now node }
+    ensures { result ≡ parts_in tree.now node }
 {
     let walks = tree.walks.as_slice().len();
     if (node as usize) < walks {
@@ -24,7 +24,7 @@ fn parts(tree: &TreeClaim, node: u32) -> Option<(u32, u32)>
 
 // The nodes at a place of the two halves of a combination that has this node there and is split.
 fn halves(tree: &TreeClaim, i: usize, place: u32, node: u32) -> Option<(u32, u32)>
-    ensures { result ≡ halves tree.now i place node }
+    ensures { result ≡ halves_at tree.now i place node }
 {
     if place as usize == i {
         parts(tree, node)

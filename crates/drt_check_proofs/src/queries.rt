@@ -1,7 +1,7 @@
 //! The nodes and times at which proofs ask for the values of one tree.
 ghost use Rattle.std.specs.Prelude.{◌≡◌, ◌++◌, [], ◌∷◌, IfOk, Some, map, reverse};
 ghost use Rattle.drt_claims.specs.Trees.{root};
-ghost use Rattle.drt_check_proofs.specs.Passing.{all_queries, asks_at, blank, passes_at, queries_of, times};
+ghost use Rattle.drt_check_proofs.specs.Passing.{all_queries, asks_at, blank, passes_at, queries_of, passing_times};
 
 use crate::places::{begin, take};
 use crate::shapes::higher_count;
@@ -88,7 +88,7 @@ fn add_pass(item: Item, nodes: &[u32], queries: &mut Vec<Query>) -> Result<(), M
 }
 
 fn add_blanks(items: &[Item], queries: &mut Vec<Query>) -> Result<(), Memory>
-    ensures { IfOk result (λ u. queries.new.items ≡ queries.old.items ++ map blank (times items.now)) }
+    ensures { IfOk result (λ u. queries.new.items ≡ queries.old.items ++ map blank (passing_times items.now)) }
 {
     'items: for item in items {
         add_blank(*item, queries)?;
@@ -98,7 +98,7 @@ fn add_blanks(items: &[Item], queries: &mut Vec<Query>) -> Result<(), Memory>
 
 #[tactic(auto, unfolding(crate::specs::Passing::times))]
 fn add_blank(item: Item, queries: &mut Vec<Query>) -> Result<(), Memory>
-    ensures { IfOk result (λ u. queries.new.items ≡ queries.old.items ++ map blank (times (item ∷ []))) }
+    ensures { IfOk result (λ u. queries.new.items ≡ queries.old.items ++ map blank (passing_times (item ∷ []))) }
 {
     match item {
         Item::Pass(_) => queries.push(Query { node: 0, time: 0 })?,

@@ -3,7 +3,7 @@ ghost use Rattle.std.specs.Prelude.{◌≡◌, ◌↔◌, ◌++◌, [], ◌∷�
 ghost use Rattle.std.specs.List.{AllByRecursion};
 ghost use Rattle.drt_model.specs.Digraph.{digraph_of};
 ghost use Rattle.drt_model.specs.Walk.{deadline, wcet};
-ghost use Rattle.drt_check_proofs.specs.Passing.{times};
+ghost use Rattle.drt_check_proofs.specs.Passing.{passing_times};
 ghost use Rattle.drt_check_proofs.specs.Points.{IsTimely, make_mark, marks, marks_of, room};
 
 use drt_claims::{Item, ProofClaim};
@@ -52,8 +52,8 @@ fn numbers(task: &Task, vertex: u32) -> (u32, u32)
 }
 
 fn add_times(wcet: u32, deadline: u32, items: &[Item], rooms: &mut Vec<u32>) -> Result<bool, Memory>
-    ensures timely { IfOk result (λ are. IsTrue are ↔ AllByRecursion IsTimely (map (make_mark wcet deadline) (times items.now))) }
-    ensures rooms { IfOk result (λ are. IsTrue are → rooms.new.items ≡ rooms.old.items ++ map room (map (make_mark wcet deadline) (times items.now))) }
+    ensures timely { IfOk result (λ are. IsTrue are ↔ AllByRecursion IsTimely (map (make_mark wcet deadline) (passing_times items.now))) }
+    ensures rooms { IfOk result (λ are. IsTrue are → rooms.new.items ≡ rooms.old.items ++ map room (map (make_mark wcet deadline) (passing_times items.now))) }
 {
     'items: for item in items {
         if !add_time(wcet, deadline, *item, rooms)? {
@@ -65,8 +65,8 @@ fn add_times(wcet: u32, deadline: u32, items: &[Item], rooms: &mut Vec<u32>) -> 
 
 #[tactic(auto, unfolding(crate::specs::Passing::times))]
 fn add_time(wcet: u32, deadline: u32, item: Item, rooms: &mut Vec<u32>) -> Result<bool, Memory>
-    ensures timely { IfOk result (λ are. IsTrue are ↔ AllByRecursion IsTimely (map (make_mark wcet deadline) (times (item ∷ [])))) }
-    ensures rooms { IfOk result (λ are. IsTrue are → rooms.new.items ≡ rooms.old.items ++ map room (map (make_mark wcet deadline) (times (item ∷ [])))) }
+    ensures timely { IfOk result (λ are. IsTrue are ↔ AllByRecursion IsTimely (map (make_mark wcet deadline) (passing_times (item ∷ [])))) }
+    ensures rooms { IfOk result (λ are. IsTrue are → rooms.new.items ≡ rooms.old.items ++ map room (map (make_mark wcet deadline) (passing_times (item ∷ [])))) }
 {
     match item {
         Item::Pass(time) => {

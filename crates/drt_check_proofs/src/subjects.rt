@@ -2,7 +2,7 @@
 ghost use Rattle.std.specs.Prelude.{◌≡◌, ◌+◌, ◌≤◌, ◌↔◌, IsTrue, drop, length, map, take};
 ghost use Rattle.std.specs.List.{range_with_len};
 ghost use Rattle.drt_claims.specs.Proofs.{IsProofPerVertex};
-ghost use Rattle.drt_check_proofs.specs.Subjects.{subject};
+ghost use Rattle.drt_check_proofs.specs.Subjects.{subject_of_proof};
 
 use drt_claims::ProofClaim;
 use drt_model::TaskSet;
@@ -26,7 +26,7 @@ pub fn is_proof_per_vertex(set: &TaskSet, proofs: &[ProofClaim]) -> bool
 // Whether so many of the proofs, from the first on, are those of the vertices 0, 1, .. of the task.
 fn are_of_task(task: usize, first: usize, count: usize, proofs: &[ProofClaim]) -> bool
     requires { first + count ≤ length proofs.now }
-    ensures { IsTrue result ↔ map subject (take count (drop first proofs.now)) ≡ map (λ v. (task, v)) (range_with_len 0 count) }
+    ensures { IsTrue result ↔ map subject_of_proof (take count (drop first proofs.now)) ≡ map (λ v. (task, v)) (range_with_len 0 count) }
 {
     for v in 0..count {
         let proof = &proofs[first + v];

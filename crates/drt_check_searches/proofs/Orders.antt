@@ -12,7 +12,7 @@ use Rattle.drt_graph.specs.Graphs.{graph_of, no_graph}
 use Rattle.drt_claims.specs.Claims.{graphs_of}
 use Rattle.drt_claims.specs.Searches.{higher_places, lower_deadline, place_of, places_of}
 use Rattle.drt_claims.specs.Trees.{by_priority, higher_count, placed}
-use Rattle.drt_states.specs.Tails.{graphs_of as place_graphs}
+use Rattle.drt_states.specs.Tails.{graphs_of_places as place_graphs}
 use Rattle.drt_check_states.specs.Places.{AreTasks, graphs_at}
 use Rattle.drt_check_trees.specs.Order.{IsPriorityOrder}
 use Rattle.drt_check_searches.specs.Places.{no_place, place_at}

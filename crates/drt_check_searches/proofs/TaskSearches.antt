@@ -7,7 +7,7 @@ use Rattle.std.proofs.lemmas.List.FromFn.{fill_by_all, get_or-map-range_with_len
 use Rattle.drt_claims.specs.Proofs.{subjects_from}
 use Rattle.drt_states.specs.declared.claims.SearchClaim.{SearchClaim}
 use Rattle.drt_model.specs.declared.tasks.Task.{Task}
-use Rattle.drt_check_searches.specs.Subjects.{subject}
+use Rattle.drt_check_searches.specs.Subjects.{subject_of_search}
 
 -- What stands for a search past the last one.
 no_search : Unit {0} → SearchClaim
@@ -28,67 +28,67 @@ same_halves (x ∷ xs) (y ∷ ys) zs ws l e =
 abbrev pub of_task : ℕ → ℕ → List (ℕ × ℕ)
 of_task k count = map (λ v. (k, v)) (range_with_len 0 count)
 
-subjects_split : (searches : List SearchClaim) (n : ℕ) → map subject (take n searches) ++ map subject (drop n searches) ≡ map subject searches
-subjects_split searches n = sym (map-append subject (take n searches) (drop n searches)) ∙ ap (map subject) (take-append-drop n searches)
+subjects_split : (searches : List SearchClaim) (n : ℕ) → map subject_of_search (take n searches) ++ map subject_of_search (drop n searches) ≡ map subject_of_search searches
+subjects_split searches n = sym (map-append subject_of_search (take n searches) (drop n searches)) ∙ ap (map subject_of_search) (take-append-drop n searches)
 
 -- Searches are those of a task and the tasks after it where the first of them are the task's and the rest those of the others.
 pub task_first : (searches : List SearchClaim) (k : ℕ) (t : Task) (tasks : List Task) → length t.vertices ≤ length searches
-    → (map subject searches ≡ subjects_from k (t ∷ tasks))
-    ↔ ((map subject (take (length t.vertices) searches) ≡ of_task k (length t.vertices)) × (map subject (drop (length t.vertices) searches) ≡ subjects_from (k + 1) tasks))
+    → (map subject_of_search searches ≡ subjects_from k (t ∷ tasks))
+    ↔ ((map subject_of_search (take (length t.vertices) searches) ≡ of_task k (length t.vertices)) × (map subject_of_search (drop (length t.vertices) searches) ≡ subjects_from (k + 1) tasks))
 unfolding subjects_from
 task_first searches k t tasks l =
     let n = length t.vertices in
-    let long : length (map subject (take n searches)) ≡ length (of_task k n) =
-    length-map (take n searches) subject ∙ (length-take-le n searches l ∙ sym (length-map-range_with_len (λ v. (k, v)) 0 n)) in (
-      λ e. same_halves (map subject (take n searches)) (of_task k n) (map subject (drop n searches)) (subjects_from (k + 1) tasks) long (subjects_split searches n ∙ e),
+    let long : length (map subject_of_search (take n searches)) ≡ length (of_task k n) =
+    length-map (take n searches) subject_of_search ∙ (length-take-le n searches l ∙ sym (length-map-range_with_len (λ v. (k, v)) 0 n)) in (
+      λ e. same_halves (map subject_of_search (take n searches)) (of_task k n) (map subject_of_search (drop n searches)) (subjects_from (k + 1) tasks) long (subjects_split searches n ∙ e),
       λ both. sym (subjects_split searches n) ∙ cc (both.0, both.1),
     )
 
 -- Too few searches for the task.
-pub too_few : (searches : List SearchClaim) (k : ℕ) (t : Task) (tasks : List Task) → length searches < length t.vertices → map subject searches ≡ subjects_from k (t ∷ tasks) → ⊥
+pub too_few : (searches : List SearchClaim) (k : ℕ) (t : Task) (tasks : List Task) → length searches < length t.vertices → map subject_of_search searches ≡ subjects_from k (t ∷ tasks) → ⊥
 unfolding subjects_from
 too_few searches k t tasks l e =
     let n = length t.vertices in
-    let long : length (map subject searches) ≡ length (of_task k n) + length (subjects_from (k + 1) tasks) = ap length e ∙ length-append (of_task k n) (subjects_from (k + 1) tasks) in
+    let long : length (map subject_of_search searches) ≡ length (of_task k n) + length (subjects_from (k + 1) tasks) = ap length e ∙ length-append (of_task k n) (subjects_from (k + 1) tasks) in
     let own : length (of_task k n) ≡ n = length-map-range_with_len (λ v. (k, v)) 0 n in
-    omega (arith, long, own, length-map searches subject)
+    omega (arith, long, own, length-map searches subject_of_search)
 
 -- Searches that are of the task's vertices one by one are so all together.
-pub are_all : (searches : List SearchClaim) (task n : ℕ) → n ≤ length searches → ((k : ℕ) (d : SearchClaim) → k < n → subject (get_or searches k d) ≡ (task, k))
-    → map subject (take n searches) ≡ of_task task n
+pub are_all : (searches : List SearchClaim) (task n : ℕ) → n ≤ length searches → ((k : ℕ) (d : SearchClaim) → k < n → subject_of_search (get_or searches k d) ≡ (task, k))
+    → map subject_of_search (take n searches) ≡ of_task task n
 are_all searches task n l each =
     let long : length (take n searches) ≡ n = length-take-le n searches l in
-    fill_by_all (λ v. (task, v)) (map subject (take n searches)) n (0, 0) (length-map (take n searches) subject ∙ long)
-    (λ k m. get_or-map subject (take n searches) k (no_search tt) (0, 0) (omega arith) ∙ (ap subject (get_or-take n searches k (no_search tt) m) ∙ each k (no_search tt) m))
+    fill_by_all (λ v. (task, v)) (map subject_of_search (take n searches)) n (0, 0) (length-map (take n searches) subject_of_search ∙ long)
+    (λ k m. get_or-map subject_of_search (take n searches) k (no_search tt) (0, 0) (omega arith) ∙ (ap subject_of_search (get_or-take n searches k (no_search tt) m) ∙ each k (no_search tt) m))
 
 -- Searches that are so all together are so one by one.
 pub are_each : (searches : List SearchClaim) (task n k : ℕ) (p : SearchClaim) → n ≤ length searches → k < n → p ≡ get_or searches k p
-    → map subject (take n searches) ≡ of_task task n → subject p ≡ (task, k)
+    → map subject_of_search (take n searches) ≡ of_task task n → subject_of_search p ≡ (task, k)
 are_each searches task n k p l m at e =
     let long : length (take n searches) ≡ n = length-take-le n searches l in
-    let here : get_or (map subject (take n searches)) k (0, 0) ≡ subject (get_or (take n searches) k p) = get_or-map subject (take n searches) k p (0, 0) (omega arith) in
+    let here : get_or (map subject_of_search (take n searches)) k (0, 0) ≡ subject_of_search (get_or (take n searches) k p) = get_or-map subject_of_search (take n searches) k p (0, 0) (omega arith) in
     let same : get_or (take n searches) k p ≡ p = get_or-take n searches k p m ∙ sym at in
     let there : get_or (of_task task n) k (0, 0) ≡ (task, k) = get_or-map-range_with_len (λ v. (task, v)) 0 n k k (0, 0) m (omega arith) in
-    sym (ap subject same) ∙ (sym here ∙ (ap (λ (xs : List (ℕ × ℕ)). get_or xs k (0, 0)) e ∙ there))
+    sym (ap subject_of_search same) ∙ (sym here ∙ (ap (λ (xs : List (ℕ × ℕ)). get_or xs k (0, 0)) e ∙ there))
 
 -- What is left of the searches is to be what is left of the tasks.
 abbrev pub AreLeft : List SearchClaim → ℕ → List Task → ℕ → Type 0
-AreLeft searches first tasks k = map subject (drop first searches) ≡ subjects_from k (drop k tasks)
+AreLeft searches first tasks k = map subject_of_search (drop first searches) ≡ subjects_from k (drop k tasks)
 
 left_split : (searches : List SearchClaim) (first k : ℕ) (t : Task) (tasks : List Task) → k < length tasks → t ≡ get_or tasks k t → length t.vertices ≤ length (drop first searches)
     → AreLeft searches first tasks k
-    ↔ ((map subject (take (length t.vertices) (drop first searches)) ≡ of_task k (length t.vertices)) × AreLeft searches (first + length t.vertices) tasks (k + 1))
+    ↔ ((map subject_of_search (take (length t.vertices) (drop first searches)) ≡ of_task k (length t.vertices)) × AreLeft searches (first + length t.vertices) tasks (k + 1))
 left_split searches first k t tasks l is few =
     let here : drop k tasks ≡ t ∷ drop (k + 1) tasks = drop_more tasks k t l ∙ ap (λ (x : Task). x ∷ drop (k + 1) tasks) (sym is) in
     let split = task_first (drop first searches) k t (drop (k + 1) tasks) few in
     let rest : drop (length t.vertices) (drop first searches) ≡ drop (first + length t.vertices) searches = drop-drop (length t.vertices) first searches in (
-      λ e. (let both = split.0 (e ∙ ap (subjects_from k) here) in (both.0, sym (ap (map subject) rest) ∙ both.1)),
-      λ both. split.1 (both.0, ap (map subject) rest ∙ both.1) ∙ sym (ap (subjects_from k) here),
+      λ e. (let both = split.0 (e ∙ ap (subjects_from k) here) in (both.0, sym (ap (map subject_of_search) rest) ∙ both.1)),
+      λ both. split.1 (both.0, ap (map subject_of_search) rest ∙ both.1) ∙ sym (ap (subjects_from k) here),
     )
 
 -- One more task has its searches.
 pub next_task : (A : Type 0) (searches : List SearchClaim) (first k n : ℕ) (t : Task) (tasks : List Task) → k < length tasks → t ≡ get_or tasks k t → length t.vertices ≡ n
-    → first ≤ length searches → n ≤ length searches - first → map subject (take n (drop first searches)) ≡ of_task k n → (A ↔ AreLeft searches first tasks k)
+    → first ≤ length searches → n ≤ length searches - first → map subject_of_search (take n (drop first searches)) ≡ of_task k n → (A ↔ AreLeft searches first tasks k)
     → A ↔ AreLeft searches (first + n) tasks (k + 1)
 next_task A searches first k n t tasks l is n_is within few own left =
     let m : length t.vertices ≤ length (drop first searches) = omega (arith, length-drop first searches) in
@@ -97,7 +97,7 @@ next_task A searches first k n t tasks l is n_is within few own left =
 
 -- A task hasn't its searches.
 pub not_next : (A : Type 0) (searches : List SearchClaim) (first k n : ℕ) (t : Task) (tasks : List Task) → k < length tasks → t ≡ get_or tasks k t → length t.vertices ≡ n
-    → first ≤ length searches → n ≤ length searches - first → (map subject (take n (drop first searches)) ≡ of_task k n → ⊥) → (A ↔ AreLeft searches first tasks k)
+    → first ≤ length searches → n ≤ length searches - first → (map subject_of_search (take n (drop first searches)) ≡ of_task k n → ⊥) → (A ↔ AreLeft searches first tasks k)
     → A → ⊥
 not_next A searches first k n t tasks l is n_is within few not left a =
     let m : length t.vertices ≤ length (drop first searches) = omega (arith, length-drop first searches) in
@@ -115,9 +115,9 @@ too_few_left A searches first k n t tasks l is n_is few left a =
 pub none_left : (searches : List SearchClaim) (first k : ℕ) (tasks : List Task) → length tasks ≤ k → AreLeft searches first tasks k → length searches ≤ first
 unfolding subjects_from
 none_left searches first k tasks l e =
-    let f : map subject (drop first searches) ≡ [] = e ∙ ap (subjects_from k) (drop_all k tasks l) in
-    omega (arith, length-drop first searches, sym (length-map (drop first searches) subject) ∙ ap length f)
+    let f : map subject_of_search (drop first searches) ≡ [] = e ∙ ap (subjects_from k) (drop_all k tasks l) in
+    omega (arith, length-drop first searches, sym (length-map (drop first searches) subject_of_search) ∙ ap length f)
 
 pub all_left : (searches : List SearchClaim) (first k : ℕ) (tasks : List Task) → length tasks ≤ k → length searches ≤ first → AreLeft searches first tasks k
 unfolding subjects_from
-all_left searches first k tasks l m = ap (map subject) (drop_all first searches m) ∙ sym (ap (subjects_from k) (drop_all k tasks l))
+all_left searches first k tasks l m = ap (map subject_of_search) (drop_all first searches m) ∙ sym (ap (subjects_from k) (drop_all k tasks l))

@@ -5,7 +5,7 @@ ghost use Rattle.drt_model.specs.declared.tasks.Task.{Task};
 ghost use Rattle.drt_claims.specs.Claims.{graphs_of};
 ghost use Rattle.drt_claims.specs.Searches.{higher_places, places_of};
 ghost use Rattle.drt_claims.specs.Trees.{higher_count};
-ghost use Rattle.drt_states.specs.Tails.{graphs_of as place_graphs};
+ghost use Rattle.drt_states.specs.Tails.{graphs_of_places as place_graphs};
 ghost use Rattle.drt_check_states.specs.Places.{AreTasks, graphs_at};
 ghost use Rattle.drt_check_trees.specs.Order.{IsPriorityOrder};
 ghost use Rattle.drt_check_searches.specs.Places.{place_at};

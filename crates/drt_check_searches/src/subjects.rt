@@ -2,7 +2,7 @@
 ghost use Rattle.std.specs.Prelude.{◌≡◌, ◌+◌, ◌≤◌, ◌↔◌, IsTrue, drop, length, map, take};
 ghost use Rattle.std.specs.List.{range_with_len};
 ghost use Rattle.drt_claims.specs.Searches.{IsSearchPerVertex};
-ghost use Rattle.drt_check_searches.specs.Subjects.{subject};
+ghost use Rattle.drt_check_searches.specs.Subjects.{subject_of_search};
 
 use drt_model::TaskSet;
 use drt_states::SearchClaim;
@@ -26,7 +26,7 @@ pub fn is_search_per_vertex(set: &TaskSet, searches: &[SearchClaim]) -> bool
 // Whether so many of the searches, from the first on, are those of the vertices 0, 1, .. of the task.
 fn are_of_task(task: usize, first: usize, count: usize, searches: &[SearchClaim]) -> bool
     requires { first + count ≤ length searches.now }
-    ensures { IsTrue result ↔ map subject (take count (drop first searches.now)) ≡ map (λ v. (task, v)) (range_with_len 0 count) }
+    ensures { IsTrue result ↔ map subject_of_search (take count (drop first searches.now)) ≡ map (λ v. (task, v)) (range_with_len 0 count) }
 {
     for v in 0..count {
         let search = &searches[first + v];

@@ -7,28 +7,28 @@ use Rattle.drt_model.specs.Digraph.{Digraph}
 use Rattle.drt_model.specs.RequestFunction.{requested_from}
 use Rattle.drt_model.specs.Walk.{gap, wcet, work}
 use Rattle.drt_graph.proofs.Paths.{span_cons, span_none, work_cons, work_none}
-use Rattle.drt_check_trees.specs.Asking.{AsksNoLess, IsCursorPlaced, asked_at, asked_from, span_of}
+use Rattle.drt_check_trees.specs.Asking.{AsksNoLess, IsCursorPlaced, asked_at, asked_by_rest, span_of}
 use Rattle.drt_check_trees.specs.Gaps.{gap_to, leap}
 use Rattle.drt_check_trees.specs.declared.asking.Cursor.{Cursor}
 
 module _ (g : Digraph) where
   -- Before its first release a walk asks for nothing.
-  pub asks_none : (offset : ℕ) (vs : List ℕ) (t : ℕ) → t ≤ offset → asked_from g offset vs t ≡ 0
+  pub asks_none : (offset : ℕ) (vs : List ℕ) (t : ℕ) → t ≤ offset → asked_by_rest g offset vs t ≡ 0
   unfolding requested_from
   asks_none offset [] t le = refl
   asks_none offset (u ∷ []) t le = rw (le-ltb offset t le) refl
   asks_none offset (u ∷ v ∷ vs) t le = rw (le-ltb offset t le) (omega (arith, asks_none (offset + gap g u v) (v ∷ vs) t (omega arith)))
 
   -- After it, for the first vertex and what the others ask for.
-  pub asks_more : (offset u : ℕ) (vs : List ℕ) (t : ℕ) → offset < t → asked_from g offset (u ∷ vs) t ≡ wcet g u + asked_from g (offset + gap_to g u vs) vs t
+  pub asks_more : (offset u : ℕ) (vs : List ℕ) (t : ℕ) → offset < t → asked_by_rest g offset (u ∷ vs) t ≡ wcet g u + asked_by_rest g (offset + gap_to g u vs) vs t
   unfolding requested_from
   asks_more offset u [] t l = rw (lt-ltb offset t l) (omega arith)
   asks_more offset u (v ∷ vs) t l = rw (lt-ltb offset t l) refl
 
   -- The same at a place of a walk.
   pub asks_at : (walk : List ℕ) (i offset t : ℕ) → i < length walk → offset < t
-      → asked_from g offset (drop i walk) t ≡ wcet g (get_or walk i 0) + asked_from g (offset + leap g walk i) (drop (i + 1) walk) t
-  asks_at walk i offset t l m = ap (λ xs. asked_from g offset xs t) (drop_more walk i 0 l) ∙ asks_more offset (get_or walk i 0) (drop (i + 1) walk) t m
+      → asked_by_rest g offset (drop i walk) t ≡ wcet g (get_or walk i 0) + asked_by_rest g (offset + leap g walk i) (drop (i + 1) walk) t
+  asks_at walk i offset t l m = ap (λ xs. asked_by_rest g offset xs t) (drop_more walk i 0 l) ∙ asks_more offset (get_or walk i 0) (drop (i + 1) walk) t m
 
   pub span_more : (u : ℕ) (vs : List ℕ) → span_of g (u ∷ vs) ≡ gap_to g u vs + span_of g vs
   span_more u [] = omega (arith, span_none g u)
@@ -48,7 +48,7 @@ module _ (g : Digraph) where
 
   -- From an offset on, what is done and left of one walk is at most what is done and left of another.
   abbrev pub Stays : ℕ → ℕ → ℕ → List ℕ → (ℕ → ℕ) → Type 0
-  Stays bound offset done rest asked = (t : ℕ) → offset < t → t ≤ bound → done + asked_from g offset rest t ≤ asked t
+  Stays bound offset done rest asked = (t : ℕ) → offset < t → t ≤ bound → done + asked_by_rest g offset rest t ≤ asked t
 
   module _ (bound offset done : ℕ) (other : List ℕ) (i : ℕ) (asked : ℕ → ℕ) where
     pub stays_past : bound ≤ offset → Stays bound offset done (drop i other) asked
@@ -56,7 +56,7 @@ module _ (g : Digraph) where
 
     pub stays_end : (least : ℕ) → length other ≤ i → done ≤ least → ((t : ℕ) → offset < t → least ≤ asked t) → Stays bound offset done (drop i other) asked
     stays_end least long le at t l m =
-        let e : asked_from g offset (drop i other) t ≡ 0 = ap (λ xs. asked_from g offset xs t) (drop_all i other long) in
+        let e : asked_by_rest g offset (drop i other) t ≡ 0 = ap (λ xs. asked_by_rest g offset xs t) (drop_all i other long) in
         let a = at t l in
         omega (arith, e, le, a)
 
@@ -89,10 +89,10 @@ module _ (g : Digraph) where
           comes : Stays bound (offset + leap g other i) (done + wcet g (get_or other i 0)) (drop (i + 1) other) asked → Stays bound offset done (drop i other) asked
           comes stays t m n = go (cases_lt (offset + leap g other i) t)
             where
-              b : asked_from g offset (drop i other) t ≡ wcet g (get_or other i 0) + asked_from g (offset + leap g other i) (drop (i + 1) other) t
+              b : asked_by_rest g offset (drop i other) t ≡ wcet g (get_or other i 0) + asked_by_rest g (offset + leap g other i) (drop (i + 1) other) t
               b = asks_at other i offset t l m
 
-              go : (offset + leap g other i < t) ⊎ (t ≤ offset + leap g other i) → done + asked_from g offset (drop i other) t ≤ asked t
+              go : (offset + leap g other i < t) ⊎ (t ≤ offset + leap g other i) → done + asked_by_rest g offset (drop i other) t ≤ asked t
               go (inl q) = let a = stays t q n in omega (arith, a, b)
               go (inr q) =
                   let e = asks_none (offset + leap g other i) (drop (i + 1) other) t q in
@@ -114,7 +114,7 @@ module _ (g : Digraph) where
   module _ (bound : ℕ) (other walk : List ℕ) where
     pub settled_start : (c : Cursor) → c.place ≡ 0 → c.offset ≡ 0 → c.work ≡ 0 → IsSettled bound other walk 0 0 0 c
     settled_start c p o w =
-        let at : (t : ℕ) → asked_at g walk c t ≡ asked_from g 0 walk t = (λ t. rw (p, o, w) (omega arith)) in
+        let at : (t : ℕ) → asked_at g walk c t ≡ asked_by_rest g 0 walk t = (λ t. rw (p, o, w) (omega arith)) in
         record {
           placed = record { within = omega (arith, p); offset = omega (arith, o); work = omega (arith, w) };
           offset_small = omega arith;
@@ -138,7 +138,7 @@ module _ (g : Digraph) where
           where
             at : (d.place < length walk) ⊎ (length walk ≤ d.place) → asked_at g walk d (offset + 1) ≡ d.work
             at (inl q) = let a = past q in let e = asks_none d.offset (drop d.place walk) (offset + 1) (omega (arith, a)) in omega (arith, e)
-            at (inr q) = let e : asked_from g d.offset (drop d.place walk) (offset + 1) ≡ 0 = ap (λ xs. asked_from g d.offset xs (offset + 1)) (drop_all d.place walk q) in omega (arith, e)
+            at (inr q) = let e : asked_by_rest g d.offset (drop d.place walk) (offset + 1) ≡ 0 = ap (λ xs. asked_by_rest g d.offset xs (offset + 1)) (drop_all d.place walk q) in omega (arith, e)
 
         pub settled_more : IsCursorPlaced walk d → wcet g (get_or other i 0) ≤ 1000000 → leap g other i ≤ 1000000 → done + wcet g (get_or other i 0) ≤ d.work
             → IsSettled bound other walk (i + 1) (offset + leap g other i) (done + wcet g (get_or other i 0)) d

@@ -11,7 +11,7 @@ use Rattle.drt_model.specs.Walk.{IsPath, gap, last_of, span, work}
 use Rattle.drt_graph.proofs.Edges.{target_of}
 use Rattle.drt_graph.proofs.Paths.{path_within, span_cons, work_cons, work_none}
 use Rattle.drt_claims.specs.Trees.{IsShortWalk}
-use Rattle.drt_check_trees.specs.Asking.{AsksNoLess, AreWalkVertices, asked_from, span_of}
+use Rattle.drt_check_trees.specs.Asking.{AsksNoLess, AreWalkVertices, asked_by_rest, span_of}
 use Rattle.drt_check_trees.specs.Entries.{AreWalkEntries, IsEntryOf, IsListed, IsWalkOver, last_in, order_of, rank_of}
 use Rattle.drt_check_trees.specs.Gaps.{gap_to}
 use Rattle.drt_check_trees.specs.declared.entries.Entry.{Entry}
@@ -61,7 +61,7 @@ module _ (g : Digraph) (sound : IsSoundGraph g) where
     short_last (u ∷ vs) is = path_within g sound u vs is.0 is.1
 
 -- After its last release a walk has asked for all its work.
-asks_all : (g : Digraph) (vs : List ℕ) (offset t : ℕ) → offset + span_of g vs < t → asked_from g offset vs t ≡ work g vs
+asks_all : (g : Digraph) (vs : List ℕ) (offset t : ℕ) → offset + span_of g vs < t → asked_by_rest g offset vs t ≡ work g vs
 asks_all g [] offset t l = sym (work_none g)
 asks_all g (u ∷ vs) offset t l =
     let s = span_more g u vs in
@@ -72,7 +72,7 @@ asks_all g (u ∷ vs) offset t l =
     omega (arith, a, b, w)
 
 module _ (bound : ℕ) (g : Digraph) where
-  pub short_work : (walk : List ℕ) → IsShortWalk bound g walk → (1 ≤ bound) × (asked_from g 0 walk bound ≡ work g walk)
+  pub short_work : (walk : List ℕ) → IsShortWalk bound g walk → (1 ≤ bound) × (asked_by_rest g 0 walk bound ≡ work g walk)
   short_work [] is = absurd is
   short_work (u ∷ vs) is = (omega (arith, is.2), asks_all g (u ∷ vs) 0 bound (omega (arith, is.2)))
 

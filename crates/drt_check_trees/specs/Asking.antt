@@ -16,13 +16,13 @@ span_of g [] = 0
 span_of g (u ∷ vs) = span g u vs
 
 -- What some vertices ask for before t where the first one is released at the offset.
-abbrev pub asked_from : Digraph → ℕ → List ℕ → ℕ → ℕ
-asked_from g offset [] t = 0
-asked_from g offset (u ∷ vs) t = requested_from g offset u vs t
+abbrev pub asked_by_rest : Digraph → ℕ → List ℕ → ℕ → ℕ
+asked_by_rest g offset [] t = 0
+asked_by_rest g offset (u ∷ vs) t = requested_from g offset u vs t
 
 -- What a walk asks for before t, by the work of the vertices before a cursor and what those from it on ask for.
 abbrev pub asked_at : Digraph → List ℕ → Cursor → ℕ → ℕ
-asked_at g walk c t = c.work + asked_from g c.offset (drop c.place walk) t
+asked_at g walk c t = c.work + asked_by_rest g c.offset (drop c.place walk) t
 
 -- The cursor stands in the walk, and its numbers are small.
 pub record IsCursorPlaced (walk : List ℕ) (c : Cursor) : Type 0 where
@@ -32,4 +32,4 @@ pub record IsCursorPlaced (walk : List ℕ) (c : Cursor) : Type 0 where
 
 -- At no time from 1 to the bound does the second walk ask for less than the first.
 abbrev pub AsksNoLess : ℕ → Digraph → List ℕ → List ℕ → Type 0
-AsksNoLess bound g other walk = (t : ℕ) → 1 ≤ t → t ≤ bound → asked_from g 0 other t ≤ asked_from g 0 walk t
+AsksNoLess bound g other walk = (t : ℕ) → 1 ≤ t → t ≤ bound → asked_by_rest g 0 other t ≤ asked_by_rest g 0 walk t

@@ -5,7 +5,7 @@ use Rattle.std.proofs.lemmas.Bool.{cases_lt}
 use Rattle.std.proofs.lemmas.List.{length_push, get_or_push, get_or_append_left}
 use Rattle.drt_claims.specs.declared.evidence.Pair.{Pair}
 use Rattle.drt_claims.specs.Trees.{joined}
-use Rattle.drt_check_values.specs.Leaves.{grown}
+use Rattle.drt_check_values.specs.Leaves.{grown_items}
 
 -- What stands for a pair past the last one.
 abbrev pub no_pair : Pair
@@ -59,8 +59,8 @@ grown_step {A} none join items p pairs all has is = record {
         let e : length items + suc i ≡ length (items ++ new ∷ []) + i = omega (arith, more) in
         rw e (is.joins i (omega arith))
 
-pub grown_is : {A : Type 0} (none : A) (join : A → A → A) (items : List A) (pairs : List Pair) → HasParts (length items) pairs → IsGrown none join items pairs (grown none join items pairs)
-unfolding grown
+pub grown_is : {A : Type 0} (none : A) (join : A → A → A) (items : List A) (pairs : List Pair) → HasParts (length items) pairs → IsGrown none join items pairs (grown_items none join items pairs)
+unfolding grown_items
 grown_is {A} none join items [] has = record { count = omega arith; items_kept = λ k l. refl; joins = λ i l. absurd (omega arith) }
 grown_is {A} none join items (p ∷ pairs) has =
     let more = length_push items (join (get_or items p.left none) (get_or items p.right none)) in
@@ -68,8 +68,8 @@ grown_is {A} none join items (p ∷ pairs) has =
     (grown_is none join (items ++ join (get_or items p.left none) (get_or items p.right none) ∷ []) pairs (rw more (parts_after (length items) p pairs has)))
 
 -- Joining by greatest values is such a growth.
-pub joined_grown : (values : List ℕ) (pairs : List Pair) → joined values pairs ≡ grown 0 (λ x y. max x y) values pairs
-unfolding joined grown
+pub joined_grown : (values : List ℕ) (pairs : List Pair) → joined values pairs ≡ grown_items 0 (λ x y. max x y) values pairs
+unfolding joined grown_items
 joined_grown values [] = refl
 joined_grown values (p ∷ pairs) = joined_grown (values ++ max (get_or values p.left 0) (get_or values p.right 0) ∷ []) pairs
 

@@ -15,7 +15,7 @@ use Rattle.drt_model.specs.Digraph.{Digraph}
 use Rattle.drt_claims.specs.declared.evidence.TreeClaim.{TreeClaim}
 use Rattle.drt_claims.specs.Trees.{IsTree, asked, node_values, root}
 use Rattle.drt_check_values.specs.Greatest.{greatest}
-use Rattle.drt_check_values.specs.Leaves.{grown, leaf_lists, leaves_below, leaf_order, node_count, IsFirstLeaf}
+use Rattle.drt_check_values.specs.Leaves.{grown_items, leaf_lists, leaves_below, leaf_order, node_count, IsFirstLeaf}
 use Rattle.drt_check_values.proofs.Growing.{no_pair, HasParts, IsGrown, grown_is, joined_grown, each_node}
 use Rattle.drt_check_values.proofs.Counting.{tick, last_sum, has_pair, sum_one, sum_same, sum_below, sum_next, sum_none}
 use Rattle.drt_check_values.proofs.Halving.{greatest_none, greatest_cons, greatest-append}
@@ -236,7 +236,7 @@ node_value g tree is t = each_node (length tree.walks) tree.pairs (λ n. get_or 
     count : length items ≡ length tree.walks
     count = length-map tree.walks (asked g t)
 
-    same : node_values g tree t ≡ grown 0 (λ x y. max x y) items tree.pairs
+    same : node_values g tree t ≡ grown_items 0 (λ x y. max x y) items tree.pairs
     same = joined_grown items tree.pairs
 
     values : IsGrown 0 (λ x y. max x y) items tree.pairs (node_values g tree t)

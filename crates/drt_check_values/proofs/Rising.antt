@@ -14,7 +14,7 @@ use Rattle.drt_claims.specs.declared.evidence.TreeClaim.{TreeClaim}
 use Rattle.drt_claims.specs.Trees.{HasShortWalks, IsTree, IsShortWalk, asked, root}
 use Rattle.drt_check_values.specs.declared.rises.Rise.{Rise}
 use Rattle.drt_check_values.specs.Leaves.{leaf_order, IsFirstLeaf}
-use Rattle.drt_check_values.specs.Rises.{AreRises, added, asked_at, rise_at, rises_along, rises_from, risen}
+use Rattle.drt_check_values.specs.Rises.{AreRises, added, asked_at_place, rise_at, rises_along, rises_from, risen_at_place}
 use Rattle.drt_check_values.proofs.Leaves.{first_fits, leaves_some, leaves_small, order_count, order_same, root_node, walk_first}
 
 -- The releases after the first of a walk.
@@ -69,7 +69,7 @@ added_here t place p x w = go (eqb place p) (ltb x t)
     go true b = refl
     go false b = refl
 
-from_risen : (g : Digraph) (place x u : ℕ) (vs : List ℕ) (t p : ℕ) → risen (rises_from g place x u vs) t p ≡ at_place (eqb place p) (requested_from g x u vs t)
+from_risen : (g : Digraph) (place x u : ℕ) (vs : List ℕ) (t p : ℕ) → risen_at_place (rises_from g place x u vs) t p ≡ at_place (eqb place p) (requested_from g x u vs t)
 unfolding rises_from requested_from
 from_risen g place x u [] t p =
     let e = sum_by-cons (λ r. added t p r) (rise_at g place x u) [] in
@@ -86,7 +86,7 @@ from_risen g place x u (v ∷ vs) t p =
     split true m n = refl
     split false m n = omega arith
 
-along_risen : (g : Digraph) (place : ℕ) (walk : List ℕ) (t p : ℕ) → risen (rises_along g place walk) t p ≡ at_place (eqb place p) (asked g t walk)
+along_risen : (g : Digraph) (place : ℕ) (walk : List ℕ) (t p : ℕ) → risen_at_place (rises_along g place walk) t p ≡ at_place (eqb place p) (asked g t walk)
 along_risen g place [] t p = go (eqb place p)
   where
     go : (b : Bool) → 0 ≡ at_place b 0
@@ -119,13 +119,13 @@ along_offsets g place bound (u ∷ vs) is few = from_offsets g place bound 0 u v
 pub record AreRisesTo (g : Digraph) (tree : TreeClaim) (i : ℕ) (rises : List Rise) : Type 0 where
   pub offsets : All (λ r. r.offset < 1000000) rises
   pub places : All (λ r. r.place < length tree.walks) rises
-  pub values : (t p : ℕ) → p < length tree.walks → risen rises t p ≡ at_place (nat_lt (get_or (leaf_order tree) p 0) i) (asked_at g tree t p)
+  pub values : (t p : ℕ) → p < length tree.walks → risen_at_place rises t p ≡ at_place (nat_lt (get_or (leaf_order tree) p 0) i) (asked_at_place g tree t p)
 
 pub rises_first : (g : Digraph) (tree : TreeClaim) → AreRisesTo g tree 0 []
 rises_first g tree = record {
   offsets = All-nil (λ (r : Rise). r.offset < 1000000);
   places = All-nil (λ (r : Rise). r.place < length tree.walks);
-  values = λ t p l. none (get_or (leaf_order tree) p 0) (asked_at g tree t p);
+  values = λ t p l. none (get_or (leaf_order tree) p 0) (asked_at_place g tree t p);
 }
   where
     none : (w n : ℕ) → 0 ≡ at_place (nat_lt w 0) n
@@ -158,17 +158,17 @@ rises_next g tree is bound few short i first rises l are at = record {
     here = walk_first tree is i first l at
 
     go : (t p : ℕ) → p < length tree.walks → (first ≡ p) ⊎ (first ≢ p)
-        → risen rises t p + risen (rises_along g first walk) t p ≡ at_place (nat_lt (get_or (leaf_order tree) p 0) (i + 1)) (asked_at g tree t p)
+        → risen_at_place rises t p + risen_at_place (rises_along g first walk) t p ≡ at_place (nat_lt (get_or (leaf_order tree) p 0) (i + 1)) (asked_at_place g tree t p)
     go t p m (inl e) =
         let old = are.values t p m in
         let w : get_or (leaf_order tree) p 0 ≡ i = ap (λ k. get_or (leaf_order tree) k 0) (sym e) ∙ here in
-        let before : at_place (nat_lt (get_or (leaf_order tree) p 0) i) (asked_at g tree t p) ≡ 0 = ap (λ b. at_place b (asked_at g tree t p)) (le-ltb (get_or (leaf_order tree) p 0) i
+        let before : at_place (nat_lt (get_or (leaf_order tree) p 0) i) (asked_at_place g tree t p) ≡ 0 = ap (λ b. at_place b (asked_at_place g tree t p)) (le-ltb (get_or (leaf_order tree) p 0) i
         (omega (arith, w))) in
-        let since : at_place (nat_lt (get_or (leaf_order tree) p 0) (i + 1)) (asked_at g tree t p) ≡ asked_at g tree t p = ap (λ b. at_place b (asked_at g tree t p)) (lt-ltb (get_or
+        let since : at_place (nat_lt (get_or (leaf_order tree) p 0) (i + 1)) (asked_at_place g tree t p) ≡ asked_at_place g tree t p = ap (λ b. at_place b (asked_at_place g tree t p)) (lt-ltb (get_or
         (leaf_order tree) p 0) (i + 1) (omega (arith, w))) in
         let new = along_risen g first walk t p in
         let same : at_place (eqb first p) (asked g t walk) ≡ asked g t walk = on (eqb first p) (λ f. eqb-false first p f e) (asked g t walk) in
-        let mine : asked_at g tree t p ≡ asked g t walk = ap (λ k. asked g t (get_or tree.walks k [])) w in
+        let mine : asked_at_place g tree t p ≡ asked g t walk = ap (λ k. asked g t (get_or tree.walks k [])) w in
         omega (arith, old, before, since, new, same, mine)
       where
         on : (b : Bool) → (b ≡ false → ⊥) → (n : ℕ) → at_place b n ≡ n
@@ -180,7 +180,7 @@ rises_next g tree is bound few short i first rises l are at = record {
         let new = along_risen g first walk t p in
         let none : at_place (eqb first p) (asked g t walk) ≡ 0 = off (eqb first p) (λ f. differ (eqb-true first p f)) (asked g t walk) in
         let kept : nat_lt (get_or (leaf_order tree) p 0) (i + 1) ≡ nat_lt (get_or (leaf_order tree) p 0) i = later (cases_lt (get_or (leaf_order tree) p 0) i) other in
-        let e = ap (λ b. at_place b (asked_at g tree t p)) kept in
+        let e = ap (λ b. at_place b (asked_at_place g tree t p)) kept in
         omega (arith, old, new, none, e)
       where
         off : (b : Bool) → (b ≡ true → ⊥) → (n : ℕ) → at_place b n ≡ 0
@@ -197,7 +197,7 @@ pub rises_all : (g : Digraph) (tree : TreeClaim) → IsTree tree → (i : ℕ) (
 rises_all g tree is i rises l are = record {
   offsets = are.offsets;
   places = are.places;
-  values = λ t p m. are.values t p m ∙ ap (λ b. at_place b (asked_at g tree t p)) (lt-ltb (get_or (leaf_order tree) p 0) i (small p m));
+  values = λ t p m. are.values t p m ∙ ap (λ b. at_place b (asked_at_place g tree t p)) (lt-ltb (get_or (leaf_order tree) p 0) i (small p m));
 }
   where
     small : (p : ℕ) → p < length tree.walks → get_or (leaf_order tree) p 0 < i

@@ -13,15 +13,15 @@ use Rattle.std.proofs.lemmas.Map.Keys.{IsDistinct-IsPermutation, IsDistinct-from
 use Rattle.std.specs.List.{IsDistinct}
 use Rattle.drt_check_values.specs.declared.query.Query.{Query}
 use Rattle.drt_check_values.specs.declared.rises.Rise.{Rise}
-use Rattle.drt_check_values.specs.Rises.{added, risen}
+use Rattle.drt_check_values.specs.Rises.{added, risen_at_place}
 use Rattle.drt_check_values.specs.Values.{AreLeft, AreWithin}
-use Rattle.drt_check_values.specs.Sweeps.{AreReady, HasRunOfPlaces, IsInOrder, IsTaken, answer, heights, no_query, no_rise, time_of, total, totals, whole}
+use Rattle.drt_check_values.specs.Sweeps.{AreReady, HasRunOfPlaces, IsInOrder, IsTaken, answer, heights, no_query, no_rise, time_of, total_at_place, totals, whole_rise}
 
-totals_at : (rises : List Rise) (count p : ℕ) → p < count → get_or (totals rises count) p 0 ≡ total rises p
-totals_at rises count p l = get_or-map-range_with_len (λ p. total rises p) 0 count p p 0 l (omega arith)
+totals_at : (rises : List Rise) (count p : ℕ) → p < count → get_or (totals rises count) p 0 ≡ total_at_place rises p
+totals_at rises count p l = get_or-map-range_with_len (λ p. total_at_place rises p) 0 count p p 0 l (omega arith)
 
 totals_count : (rises : List Rise) (count : ℕ) → length (totals rises count) ≡ count
-totals_count rises count = length-map-range_with_len (λ p. total rises p) 0 count
+totals_count rises count = length-map-range_with_len (λ p. total_at_place rises p) 0 count
 
 on_here : (b : Bool) (n : ℕ) → (b ≡ false → ⊥) → cond b n 0 ≡ n
 on_here true n no_way = refl
@@ -31,10 +31,10 @@ off_here : (b : Bool) (n : ℕ) → (b ≡ true → ⊥) → cond b n 0 ≡ 0
 off_here true n no_way = absurd (no_way refl)
 off_here false n no_way = refl
 
-whole_here : (r : Rise) → whole r.place r ≡ r.work
+whole_here : (r : Rise) → whole_rise r.place r ≡ r.work
 whole_here r = on_here (eqb r.place r.place) r.work (λ e. eqb-false r.place r.place e refl)
 
-whole_other : (r : Rise) (p : ℕ) → p ≢ r.place → whole p r ≡ 0
+whole_other : (r : Rise) (p : ℕ) → p ≢ r.place → whole_rise p r ≡ 0
 whole_other r p differ = off_here (eqb r.place p) r.work (λ e. differ (sym (eqb-true r.place p e)))
 
 -- No release is taken in at first.
@@ -59,7 +59,7 @@ rise_fits rises taken t count values l ready same is =
     let inside = ready.places taken no_rise l in
     let m : r.place < length values = omega (arith, inside, same) in
     let at = ap (λ (vs : List ℕ). get_or vs r.place 0) is.sums ∙ totals_at (take taken rises) (length values) r.place m in
-    let more = sum_by_more_le (λ x. whole r.place x) rises taken no_rise l in
+    let more = sum_by_more_le (λ x. whole_rise r.place x) rises taken no_rise l in
     let here = whole_here r in
     let most = ready.most r.place inside in
     (m, omega (arith, at, more, here, most))
@@ -83,31 +83,31 @@ rise_taken rises taken t values l soon inside is = record {
     count : length next ≡ length values
     count = length-set values r.place (get_or values r.place 0 + r.work)
 
-    was : (p : ℕ) → p < length values → get_or values p 0 ≡ total (take taken rises) p
+    was : (p : ℕ) → p < length values → get_or values p 0 ≡ total_at_place (take taken rises) p
     was p m = ap (λ (vs : List ℕ). get_or vs p 0) is.sums ∙ totals_at (take taken rises) (length values) p m
 
     go : (p : ℕ) → p < length next → (p ≡ r.place) ⊎ (p ≢ r.place) → get_or next p 0 ≡ get_or (totals (take (taken + 1) rises) (length next)) p 0
     go p m (inl e) =
         let at = totals_at (take (taken + 1) rises) (length next) p m in
-        let more = sum_by_more (λ x. whole p x) rises taken no_rise l in
-        let here : whole p r ≡ r.work = rw e (whole_here r) in
+        let more = sum_by_more (λ x. whole_rise p x) rises taken no_rise l in
+        let here : whole_rise p r ≡ r.work = rw e (whole_here r) in
         let old = was p (omega (arith, count, m)) in
         let new : get_or next p 0 ≡ get_or values p 0 + r.work = rw e (get_or-set_same values r.place (get_or values r.place 0 + r.work) 0 inside) in
         omega (arith, at, more, here, old, new)
     go p m (inr differ) =
         let at = totals_at (take (taken + 1) rises) (length next) p m in
-        let more = sum_by_more (λ x. whole p x) rises taken no_rise l in
+        let more = sum_by_more (λ x. whole_rise p x) rises taken no_rise l in
         let other = whole_other r p differ in
         let old = was p (omega (arith, count, m)) in
         let new = get_or-set_other values r.place p (get_or values r.place 0 + r.work) 0 differ in
         omega (arith, at, more, other, old, new)
 
 -- What comes before t adds before t all that it adds.
-pub early_sum : (t p : ℕ) (rises : List Rise) → All (λ r. r.offset < t) rises → risen rises t p ≡ total rises p
+pub early_sum : (t p : ℕ) (rises : List Rise) → All (λ r. r.offset < t) rises → risen_at_place rises t p ≡ total_at_place rises p
 early_sum t p [] early = refl
 early_sum t p (r ∷ rises) early =
     let e = sum_by-cons (λ x. added t p x) r rises in
-    let f = sum_by-cons (λ x. whole p x) r rises in
+    let f = sum_by-cons (λ x. whole_rise p x) r rises in
     let rest = early_sum t p rises (All-tail (λ (x : Rise). x.offset < t) r rises early) in
     let one = go (eqb r.place p) (lt-ltb r.offset t (All-head (λ (x : Rise). x.offset < t) r rises early)) in
     omega (arith, e, f, rest, one)
@@ -117,7 +117,7 @@ early_sum t p (r ∷ rises) early =
     go false g = refl
 
 -- What comes later adds nothing.
-late_sum : (t p : ℕ) (rises : List Rise) → All (λ r. t ≤ r.offset) rises → risen rises t p ≡ 0
+late_sum : (t p : ℕ) (rises : List Rise) → All (λ r. t ≤ r.offset) rises → risen_at_place rises t p ≡ 0
 late_sum t p [] late = refl
 late_sum t p (r ∷ rises) late =
     let e = sum_by-cons (λ x. added t p x) r rises in
@@ -133,7 +133,7 @@ late_sum t p (r ∷ rises) late =
 pub all_early : (rises : List Rise) (taken t count : ℕ) (values : List ℕ) → AreReady count rises → IsTaken rises taken t values → count ≡ length values
     → (taken < length rises → t ≤ (rise_of rises taken).offset) → values ≡ heights rises count t
 all_early rises taken t count values ready is same late =
-    ext_get_or 0 values (heights rises count t) (omega (arith, same, length-map-range_with_len (λ p. risen rises t p) 0 count)) each
+    ext_get_or 0 values (heights rises count t) (omega (arith, same, length-map-range_with_len (λ p. risen_at_place rises t p) 0 count)) each
   where
     later : All (λ r. t ≤ r.offset) (drop taken rises)
     later = All-from_get_or (λ (r : Rise). t ≤ r.offset) (drop taken rises) no_rise go
@@ -148,7 +148,7 @@ all_early rises taken t count values ready is same late =
 
     each : (p : ℕ) → p < length values → get_or values p 0 ≡ get_or (heights rises count t) p 0
     each p l =
-        let at = get_or-map-range_with_len (λ p. risen rises t p) 0 count p p 0 (omega (arith, same)) (omega arith) in
+        let at = get_or-map-range_with_len (λ p. risen_at_place rises t p) 0 count p p 0 (omega (arith, same)) (omega arith) in
         let old = ap (λ (vs : List ℕ). get_or vs p 0) is.sums ∙ totals_at (take taken rises) (length values) p l in
         let early = early_sum t p (take taken rises) is.early in
         let none = late_sum t p (drop taken rises) later in

@@ -17,9 +17,9 @@ use Rattle.drt_check_values.specs.declared.query.Query.{Query}
 use Rattle.drt_check_values.specs.declared.rises.Rise.{Rise}
 use Rattle.drt_check_values.specs.Greatest.{greatest}
 use Rattle.drt_check_values.specs.Leaves.{AreFirsts, AreSizes, leaf_order, node_count}
-use Rattle.drt_check_values.specs.Rises.{AreRises, added, risen}
-use Rattle.drt_check_values.specs.Sweeps.{AreReady, HasRunOfPlaces, answer, heights, whole}
-use Rattle.drt_check_values.specs.Values.{value, values}
+use Rattle.drt_check_values.specs.Rises.{AreRises, added, risen_at_place}
+use Rattle.drt_check_values.specs.Sweeps.{AreReady, HasRunOfPlaces, answer, heights, whole_rise}
+use Rattle.drt_check_values.specs.Values.{query_value, query_values}
 use Rattle.drt_check_values.proofs.Leaves.{asked_of, first_fits, order_count, value_found}
 use Rattle.drt_check_values.proofs.Placing.{size_at, sizes_count}
 use Rattle.drt_check_values.proofs.Taking.{early_sum}
@@ -71,7 +71,7 @@ pub rises_ready : (g : Digraph) → IsSoundGraph g → (tree : TreeClaim) (bound
 rises_ready g sound tree bound few short rises sorted are same order = record {
   order = order;
   places = All-permutation (λ (r : Rise). r.place < length tree.walks) rises sorted same are.places;
-  most = λ p l. (let e = sum_by-IsPermutation (λ r. whole p r) rises sorted same in
+  most = λ p l. (let e = sum_by-IsPermutation (λ r. whole_rise p r) rises sorted same in
       let f = early_sum 1000000 p rises are.offsets in
       let h = are.values 1000000 p l in
       let m = walk_most g sound tree bound few short 1000000 (get_or (leaf_order tree) p 0) in
@@ -89,11 +89,11 @@ heights_are g tree is rises sorted t are same =
     n = length tree.walks
 
     count : length (heights sorted n t) ≡ n
-    count = length-map-range_with_len (λ p. risen sorted t p) 0 n
+    count = length-map-range_with_len (λ p. risen_at_place sorted t p) 0 n
 
     go : (p : ℕ) → p < n → get_or (heights sorted n t) p 0 ≡ get_or (map (asked_of g tree t) (leaf_order tree)) p 0
     go p l =
-        get_or-map-range_with_len (λ p. risen sorted t p) 0 n p p 0 l (omega arith)
+        get_or-map-range_with_len (λ p. risen_at_place sorted t p) 0 n p p 0 l (omega arith)
         ∙ (sum_by-IsPermutation (λ r. added t p r) rises sorted same
         ∙ (are.values t p l ∙ sym (get_or-map (asked_of g tree t) (leaf_order tree) p 0 0 (omega (arith, order_count tree is, l)))))
 
@@ -114,11 +114,11 @@ map_same {X} f h (x ∷ xs) all =
 -- So what the sweep takes are the values of the queries' nodes.
 pub answers_same : (g : Digraph) (tree : TreeClaim) → IsTree tree → (firsts sizes : List ℕ) (rises sorted swept : List Rise) (count : ℕ) (queries : List Query)
     → AreFirsts tree firsts → AreSizes tree sizes → AreRises g tree rises → IsPermutation rises sorted → All (λ q. q.node < node_count tree) queries
-    → swept ≡ sorted → count ≡ length tree.walks → map (answer firsts sizes count swept) queries ≡ values g tree queries
+    → swept ≡ sorted → count ≡ length tree.walks → map (answer firsts sizes count swept) queries ≡ query_values g tree queries
 answers_same g tree is firsts sizes rises sorted swept count queries placed sized are same nodes e f =
     ap (λ (rs : List Rise). map (answer firsts sizes count rs) queries) e
     ∙ (ap (λ n. map (answer firsts sizes n sorted) queries) f
-    ∙ map_same (answer firsts sizes (length tree.walks) sorted) (value g tree) queries
+    ∙ map_same (answer firsts sizes (length tree.walks) sorted) (query_value g tree) queries
     (λ k d l. answer_is g tree is firsts sizes rises sorted (get_or queries k d) placed sized are same (nodes k d l)))
 
 -- The query's places are some of those that there are.

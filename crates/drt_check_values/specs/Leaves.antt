@@ -6,14 +6,14 @@ use Rattle.drt_claims.specs.declared.evidence.TreeClaim.{TreeClaim}
 use Rattle.drt_claims.specs.Trees.{root}
 
 -- What some nodes have, followed by what the pairs after them have: each what its two parts have, joined.
-unfoldable pub grown : {A : Type 0} → A → (A → A → A) → List A → List Pair → List A
-grown none join items [] = items
-grown none join items (p ∷ pairs) = grown none join (items ++ join (slice_index_or items p.left none) (slice_index_or items p.right none) ∷ []) pairs
+unfoldable pub grown_items : {A : Type 0} → A → (A → A → A) → List A → List Pair → List A
+grown_items none join items [] = items
+grown_items none join items (p ∷ pairs) = grown_items none join (items ++ join (slice_index_or items p.left none) (slice_index_or items p.right none) ∷ []) pairs
 
 -- The leaves below each node, from the left to the right: a walk is its own leaf, by its number, and a pair has those of its left
 -- part and then those of its right one.
 abbrev pub leaf_lists : TreeClaim → List (List ℕ)
-leaf_lists tree = grown [] (λ xs ys. xs ++ ys) (map (λ w. w ∷ []) (range_with_len 0 (length tree.walks))) tree.pairs
+leaf_lists tree = grown_items [] (λ xs ys. xs ++ ys) (map (λ w. w ∷ []) (range_with_len 0 (length tree.walks))) tree.pairs
 
 -- The leaves below node n.
 abbrev pub leaves_below : TreeClaim → ℕ → List ℕ

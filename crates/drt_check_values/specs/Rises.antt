@@ -26,15 +26,15 @@ abbrev pub added : ℕ → ℕ → Rise → ℕ
 added t place r = if (r.place == place) && nat_lt r.offset t then r.work else 0
 
 -- What releases add to a place before t.
-abbrev pub risen : List Rise → ℕ → ℕ → ℕ
-risen rises t place = sum_by (λ r. added t place r) rises
+abbrev pub risen_at_place : List Rise → ℕ → ℕ → ℕ
+risen_at_place rises t place = sum_by (λ r. added t place r) rises
 
 -- What the walk at a place asks for before t.
-abbrev pub asked_at : Digraph → TreeClaim → ℕ → ℕ → ℕ
-asked_at g tree t place = asked g t (slice_index_or tree.walks (slice_index_or (leaf_order tree) place 0) [])
+abbrev pub asked_at_place : Digraph → TreeClaim → ℕ → ℕ → ℕ
+asked_at_place g tree t place = asked g t (slice_index_or tree.walks (slice_index_or (leaf_order tree) place 0) [])
 
 -- The releases are at the places of the walks and before 1,000,000, and add up to what the walks ask for.
 pub record AreRises (g : Digraph) (tree : TreeClaim) (rises : List Rise) : Type 0 where
   pub offsets : All (λ r. r.offset < 1000000) rises
   pub places : All (λ r. r.place < length tree.walks) rises
-  pub values : (t place : ℕ) → place < length tree.walks → risen rises t place ≡ asked_at g tree t place
+  pub values : (t place : ℕ) → place < length tree.walks → risen_at_place rises t place ≡ asked_at_place g tree t place

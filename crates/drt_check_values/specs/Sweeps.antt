@@ -5,7 +5,7 @@ use Rattle.std.specs.List.Sorted.{IsPermutation, IsNonDecreasingBy}
 use Rattle.drt_check_values.specs.declared.query.Query.{Query}
 use Rattle.drt_check_values.specs.declared.rises.Rise.{Rise}
 use Rattle.drt_check_values.specs.Greatest.{greatest}
-use Rattle.drt_check_values.specs.Rises.{risen}
+use Rattle.drt_check_values.specs.Rises.{risen_at_place}
 
 -- What stands for a release past the last one.
 abbrev pub no_rise : Rise
@@ -25,26 +25,26 @@ pub record IsInOrder (queries : List Query) (order : List ℕ) : Type 0 where
   pub times : IsNonDecreasingBy (λ k. time_of queries k) order
 
 -- What a release adds to a place.
-abbrev pub whole : ℕ → Rise → ℕ
-whole place r = if r.place == place then r.work else 0
+abbrev pub whole_rise : ℕ → Rise → ℕ
+whole_rise place r = if r.place == place then r.work else 0
 
 -- What releases add to a place.
-abbrev pub total : List Rise → ℕ → ℕ
-total rises place = sum_by (λ r. whole place r) rises
+abbrev pub total_at_place : List Rise → ℕ → ℕ
+total_at_place rises place = sum_by (λ r. whole_rise place r) rises
 
 -- What they add to each of some places.
 abbrev pub totals : List Rise → ℕ → List ℕ
-totals rises count = map (λ p. total rises p) (range_with_len 0 count)
+totals rises count = map (λ p. total_at_place rises p) (range_with_len 0 count)
 
 -- What they add to each before t.
 abbrev pub heights : List Rise → ℕ → ℕ → List ℕ
-heights rises count t = map (λ p. risen rises t p) (range_with_len 0 count)
+heights rises count t = map (λ p. risen_at_place rises t p) (range_with_len 0 count)
 
 -- The releases are in order of their offsets, at some of the places, and add up to at most 10^12 at each.
 pub record AreReady (count : ℕ) (rises : List Rise) : Type 0 where
   pub order : IsNonDecreasingBy (λ r. r.offset) rises
   pub places : All (λ r. r.place < count) rises
-  pub most : (place : ℕ) → place < count → total rises place ≤ 1000000000000
+  pub most : (place : ℕ) → place < count → total_at_place rises place ≤ 1000000000000
 
 -- As many releases are taken in, all of them before t, and the values of the places are what they add.
 pub record IsTaken (rises : List Rise) (taken t : ℕ) (values : List ℕ) : Type 0 where

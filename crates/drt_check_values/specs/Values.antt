@@ -6,17 +6,17 @@ use Rattle.drt_claims.specs.declared.evidence.TreeClaim.{TreeClaim}
 use Rattle.drt_check_values.specs.declared.query.Query.{Query}
 
 -- The value of the query's node at its time.
-abbrev pub value : Digraph → TreeClaim → Query → ℕ
-value g tree q = slice_index_or (node_values g tree q.time) q.node 0
+abbrev pub query_value : Digraph → TreeClaim → Query → ℕ
+query_value g tree q = slice_index_or (node_values g tree q.time) q.node 0
 
 -- The values of the queries, in their order.
-abbrev pub values : Digraph → TreeClaim → List Query → List ℕ
-values g tree queries = map (value g tree) queries
+abbrev pub query_values : Digraph → TreeClaim → List Query → List ℕ
+query_values g tree queries = map (query_value g tree) queries
 
 -- Each value fits into the room at its place.
 abbrev pub AreWithin : List ℕ → List ℕ → Type 0
-AreWithin values rooms = (k : ℕ) → k < length values → slice_index values k ≤ slice_index rooms k
+AreWithin query_values rooms = (k : ℕ) → k < length query_values → slice_index query_values k ≤ slice_index rooms k
 
 -- Beside each value what is left is the room at its place.
 abbrev pub AreLeft : List ℕ → List ℕ → List ℕ → Type 0
-AreLeft values rooms left = (k : ℕ) → k < length values → slice_index left k + slice_index values k ≡ slice_index rooms k
+AreLeft query_values rooms left = (k : ℕ) → k < length query_values → slice_index left k + slice_index query_values k ≡ slice_index rooms k

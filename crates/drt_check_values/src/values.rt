@@ -3,7 +3,7 @@ ghost use Rattle.std.specs.Prelude.{◌≡◌, ◌+◌, ◌<◌, ◌≤◌, ◌�
 ghost use Rattle.drt_model.specs.Digraph.{IsSoundGraph};
 ghost use Rattle.drt_claims.specs.Ranges.{IsInRangeTree};
 ghost use Rattle.drt_claims.specs.Trees.{HasShortWalks, IsTree};
-ghost use Rattle.drt_check_values.specs.Values.{AreLeft, AreWithin, values};
+ghost use Rattle.drt_check_values.specs.Values.{AreLeft, AreWithin, query_values};
 
 use crate::places::places_of;
 use crate::query::Query;
@@ -34,8 +34,8 @@ pub fn take_values(
     requires ranges { IsInRangeTree tree.now }
     requires nodes { All (λ q. q.node < length tree.now.walks + length tree.now.pairs) queries.now }
     requires count { length rooms.old ≡ length queries.now }
-    ensures fits { IfOk result (λ fit. IsTrue fit ↔ AreWithin (values graph.now tree.now queries.now) rooms.old) }
-    ensures left { IfOk result (λ fit. IsTrue fit → AreLeft (values graph.now tree.now queries.now) rooms.old rooms.new) }
+    ensures fits { IfOk result (λ fit. IsTrue fit ↔ AreWithin (query_values graph.now tree.now queries.now) rooms.old) }
+    ensures left { IfOk result (λ fit. IsTrue fit → AreLeft (query_values graph.now tree.now queries.now) rooms.old rooms.new) }
     ensures count { length rooms.new ≡ length rooms.old }
 {
     keep_limits(graph);

@@ -22,7 +22,7 @@ use Rattle.drt_busy.specs.WalkReleases.{all_releases, releases_from, with_job}
 use Rattle.drt_busy.proofs.Decide.{requests_miss}
 use Rattle.drt_busy.proofs.FixedWalks.{times_suffice_for_task}
 use Rattle.drt_steps.specs.Values.{value_at}
-use Rattle.drt_tree.specs.Tree.{IsUnder, Plain, plain, values, walk}
+use Rattle.drt_tree.specs.Tree.{IsUnder, Plain, plain, node_values_in, walk}
 use Rattle.drt_refine.specs.Below.{AreBelow}
 use Rattle.drt_choices.specs.Choices.{FirstPass, IsOrder, StandsFor, VertexPasses, chosen}
 use Rattle.drt_busy.specs.Response.{cut, cut_from}
@@ -152,9 +152,9 @@ each_time P a b c d (suc (suc (suc (suc zero)))) one by = d
 each_time P a b c d (suc (suc (suc (suc (suc t))))) one by = absurd (omega arith)
 
 -- the tree asks for 1 at each of them
-value_is : (t : ℕ) → 1 ≤ t → t ≤ 4 → value_at (values tree 0) t ≡ 1
+value_is : (t : ℕ) → 1 ≤ t → t ≤ 4 → value_at (node_values_in tree 0) t ≡ 1
 unfolding value_at
-value_is t one by = each_time (λ n. value_at (values tree 0) n ≡ 1) refl refl refl refl t one by
+value_is t one by = each_time (λ n. value_at (node_values_in tree 0) n ≡ 1) refl refl refl refl t one by
 
 leaf_asks : (t : ℕ) → 1 ≤ t → t ≤ 4 → request_of (digraph_of higher) (walk tree 0) t ≡ 1
 unfolding requested_from sep_in or_zero
@@ -195,7 +195,7 @@ pub stands : StandsFor (digraph_of higher) 4 tree 0
 stands = record {
   covers = λ w is. (0, ([], (refl, refl)), λ t one by. omega (arith, at_most_one w is t by, value_is t one by));
   walks = λ leaf under. subst (λ n. IsWalk (digraph_of higher) (walk tree n)) (one_leaf leaf under) leaf_walk;
-  asks = λ leaf t under one by. subst (λ n. value_at (values tree n) t ≡ request_of (digraph_of higher) (walk tree n) t) (one_leaf leaf under) (value_is t one by ∙ sym (leaf_asks t one by));
+  asks = λ leaf t under one by. subst (λ n. value_at (node_values_in tree n) t ≡ request_of (digraph_of higher) (walk tree n) t) (one_leaf leaf under) (value_is t one by ∙ sym (leaf_asks t one by));
 }
 
 -- The first task's vertex is posed, with the one tree.

@@ -8,7 +8,7 @@ use Rattle.drt_model.specs.Walk.{deadline, wcet}
 use Rattle.drt_busy.specs.Choice.{AreWalks, IsWalk, graph_at, request_of, requests, task_at}
 use Rattle.drt_busy.specs.Response.{cut}
 use Rattle.drt_steps.specs.Values.{value_at}
-use Rattle.drt_tree.specs.Tree.{Plain, IsUnder, values, walk}
+use Rattle.drt_tree.specs.Tree.{Plain, IsUnder, node_values_in, walk}
 
 -- The numbers of the tasks in order of priority, the highest (the least number) first.
 pub record IsOrder (tasks : List Task) (order : List ℕ) : Type 0 where
@@ -18,9 +18,9 @@ pub record IsOrder (tasks : List Task) (order : List ℕ) : Type 0 where
 -- The tree stands for the walks of the graph up to the bound: each walk asks at no time for more than some leaf, and each leaf has
 -- a walk of the graph, and asks for what that walk does.
 pub record StandsFor (g : Digraph) (bound : ℕ) (f : Plain) (root : ℕ) : Type 0 where
-  pub covers : (w : List ℕ) → IsWalk g w → (leaf : ℕ) × IsUnder f leaf root × ((t : ℕ) → 1 ≤ t → t ≤ bound → request_of g w t ≤ value_at (values f leaf) t)
+  pub covers : (w : List ℕ) → IsWalk g w → (leaf : ℕ) × IsUnder f leaf root × ((t : ℕ) → 1 ≤ t → t ≤ bound → request_of g w t ≤ value_at (node_values_in f leaf) t)
   pub walks : (leaf : ℕ) → IsUnder f leaf root → IsWalk g (walk f leaf)
-  pub asks : (leaf t : ℕ) → IsUnder f leaf root → 1 ≤ t → t ≤ bound → value_at (values f leaf) t ≡ request_of g (walk f leaf) t
+  pub asks : (leaf t : ℕ) → IsUnder f leaf root → 1 ≤ t → t ≤ bound → value_at (node_values_in f leaf) t ≡ request_of g (walk f leaf) t
 
 -- The tree at each place stands for the walks of the task at that place of the order.
 abbrev pub AreTrees : List Task → List ℕ → ℕ → Plain → List ℕ → Type 0

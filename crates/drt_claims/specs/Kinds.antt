@@ -62,16 +62,16 @@ fronts_of (EdfYes ratios fronts) = fronts
 fronts_of other = []
 
 -- The releases of evidence that has some.
-abbrev pub releases_of : Evidence → List Release
-releases_of (EdfNo releases miss) = releases
-releases_of (FixedNo releases miss) = releases
-releases_of other = []
+abbrev pub stated_releases : Evidence → List Release
+stated_releases (EdfNo releases miss) = releases
+stated_releases (FixedNo releases miss) = releases
+stated_releases other = []
 
 -- The miss of evidence that has releases.
-abbrev pub miss_of : Evidence → Miss
-miss_of (EdfNo releases miss) = miss
-miss_of (FixedNo releases miss) = miss
-miss_of other = record { task = 0; index = 0; deadline = 0 }
+abbrev pub stated_miss : Evidence → Miss
+stated_miss (EdfNo releases miss) = miss
+stated_miss (FixedNo releases miss) = miss
+stated_miss other = record { task = 0; index = 0; deadline = 0 }
 
 -- The trees of evidence that has some.
 abbrev pub trees_of : Evidence → List TreeClaim

@@ -27,14 +27,14 @@ parts_of None = None
 parts_of (Some p) = Some (p.left, p.right)
 
 -- The two parts of a node of the tree, if it is a pair.
-abbrev pub parts : TreeClaim → ℕ → Option (ℕ × ℕ)
-parts tree n = if nat_lt n (length tree.walks) then None else parts_of (slice_get tree.pairs (n - length tree.walks))
+abbrev pub parts_in : TreeClaim → ℕ → Option (ℕ × ℕ)
+parts_in tree n = if nat_lt n (length tree.walks) then None else parts_of (slice_get tree.pairs (n - length tree.walks))
 
 -- The two parts of the node at a place, if there are a node and a tree at it and the node is a pair.
 abbrev pub parts_in : Option TreeClaim → Option ℕ → Option (ℕ × ℕ)
 parts_in None n = None
 parts_in (Some tree) None = None
-parts_in (Some tree) (Some n) = parts tree n
+parts_in (Some tree) (Some n) = parts_in tree n
 
 -- The combinations after the topmost one was split at a place: the one with the left part comes on top, and the one with the right
 -- part after it.
@@ -56,14 +56,14 @@ after_all trees [] (Some stack) = Some stack
 after_all trees (item ∷ items) (Some stack) = after_all trees items (after trees item stack)
 
 -- What a proof of a vertex begins with: the roots of the trees of the tasks of higher priority.
-abbrev pub opening : List TreeClaim → ℕ → List (List ℕ)
-opening trees count = map root (take count trees) ∷ []
+abbrev pub opening_stack : List TreeClaim → ℕ → List (List ℕ)
+opening_stack trees count = map root (take count trees) ∷ []
 
 -- The items of the proof can be taken one after another, and the stack is empty after the last one and not before.
 abbrev pub HasShape : List Task → List TreeClaim → ProofClaim → Type 0
 HasShape tasks trees proof =
     (t : Task) → slice_get tasks proof.task ≡ Some t
-    → after_all trees proof.items (Some (opening trees (higher_count tasks t.priority))) ≡ Some []
+    → after_all trees proof.items (Some (opening_stack trees (higher_count tasks t.priority))) ≡ Some []
 
 -- Where each item that passes stands: its combination and its time.
 unfoldable pub passes : List TreeClaim → List Item → Option (List (List ℕ)) → List (List ℕ × ℕ)
@@ -74,21 +74,21 @@ passes trees (Pass t ∷ items) (Some (nodes ∷ stack)) = (nodes, t) ∷ passes
 passes trees (Split place ∷ items) (Some (nodes ∷ stack)) = passes trees items (after trees (Split place) (nodes ∷ stack))
 
 -- The sum of the values at t of the nodes of a combination, each of the tree at its place.
-unfoldable pub sum_at : List Digraph → List TreeClaim → List ℕ → ℕ → ℕ
-sum_at graphs trees [] t = 0
-sum_at [] trees (n ∷ nodes) t = 0
-sum_at (g ∷ graphs) [] (n ∷ nodes) t = 0
-sum_at (g ∷ graphs) (tree ∷ trees) (n ∷ nodes) t = slice_index_or (node_values g tree t) n 0 + sum_at graphs trees nodes t
+unfoldable pub tree_sum_at : List Digraph → List TreeClaim → List ℕ → ℕ → ℕ
+tree_sum_at graphs trees [] t = 0
+tree_sum_at [] trees (n ∷ nodes) t = 0
+tree_sum_at (g ∷ graphs) [] (n ∷ nodes) t = 0
+tree_sum_at (g ∷ graphs) (tree ∷ trees) (n ∷ nodes) t = slice_index_or (node_values g tree t) n 0 + tree_sum_at graphs trees nodes t
 
 -- A time passes for a vertex and a combination: it is at most the vertex's deadline, and the vertex's execution time and what the
 -- combination asks for before it fit into it.
 pub record HasPassingTime (graphs : List Digraph) (trees : List TreeClaim) (g : Digraph) (v : ℕ) (at : List ℕ × ℕ) : Type 0 where
   pub some : 1 ≤ at.1
   pub within : at.1 ≤ deadline g v
-  pub fits : wcet g v + sum_at graphs trees at.0 at.1 ≤ at.1
+  pub fits : wcet g v + tree_sum_at graphs trees at.0 at.1 ≤ at.1
 
 -- Each item of the proof that passes does so at a time that passes.
 abbrev pub HasPassingTimes : List Task → List Digraph → List TreeClaim → ProofClaim → Type 0
 HasPassingTimes tasks graphs trees proof =
     (t : Task) → slice_get tasks proof.task ≡ Some t
-    → All (HasPassingTime graphs trees (digraph_of t) proof.vertex) (passes trees proof.items (Some (opening trees (higher_count tasks t.priority))))
+    → All (HasPassingTime graphs trees (digraph_of t) proof.vertex) (passes trees proof.items (Some (opening_stack trees (higher_count tasks t.priority))))

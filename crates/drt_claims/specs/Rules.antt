@@ -8,7 +8,7 @@ use Rattle.drt_model.specs.Schedulable.{jobs_of}
 use Rattle.drt_claims.specs.Claims.{graphs_of, Each, IsClaimPerTask, AreLowest, HavePotentials, HaveFittingPotentials, HaveClosedCycles}
 use Rattle.drt_claims.specs.Claims.{HaveTightCycles, IsFine, HaveUtilisationBelowOne, HaveUtilisationOne, IsHorizon}
 use Rattle.drt_claims.specs.Fronts.{IsOrdered, HasOpenings, IsClosedFront, HaveRoom}
-use Rattle.drt_claims.specs.Kinds.{IsOfPolicy, HasRatios, HasFronts, HasReleases, HasStates, HasTrees, ratios_of, fronts_of, releases_of, miss_of, trees_of, proofs_of}
+use Rattle.drt_claims.specs.Kinds.{IsOfPolicy, HasRatios, HasFronts, HasReleases, HasStates, HasTrees, ratios_of, fronts_of, stated_releases, stated_miss, trees_of, proofs_of}
 use Rattle.drt_claims.specs.Kinds.{tails_of, searches_of}
 use Rattle.drt_claims.specs.Proofs.{IsProofPerVertex, HasShape, HasPassingTimes}
 use Rattle.drt_claims.specs.Searches.{HasDominatedChildren, HasPassingStates, HasStatesOver, IsSearchPerVertex, places_of}
@@ -129,8 +129,8 @@ Keeps TreeShapes s = All IsTree (trees_of s.evidence)
 Keeps ProofPerVertex s = IsProofPerVertex s.set.tasks (proofs_of s.evidence)
 Keeps ProofShapes s = All (HasShape s.set.tasks (trees_of s.evidence)) (proofs_of s.evidence)
 Keeps PassingTimes s = All (HasPassingTimes s.set.tasks (tree_graphs s.set.tasks (trees_of s.evidence)) (trees_of s.evidence)) (proofs_of s.evidence)
-Keeps LegalReleases s = IsLegal s.set.tasks (releases_of s.evidence)
-Keeps LeastMiss s = IsLeastMiss s.policy (jobs_of s.set.tasks (releases_of s.evidence)) (miss_of s.evidence)
+Keeps LegalReleases s = IsLegal s.set.tasks (stated_releases s.evidence)
+Keeps LeastMiss s = IsLeastMiss s.policy (jobs_of s.set.tasks (stated_releases s.evidence)) (stated_miss s.evidence)
 Keeps RisingTails s = EachTail IsTail (places_of s.set.tasks) (tails_of s.evidence)
 Keeps BoundingTails s = EachTail BoundsWalks (places_of s.set.tasks) (tails_of s.evidence)
 Keeps SearchPerVertex s = IsSearchPerVertex s.set.tasks (searches_of s.evidence)

@@ -6,7 +6,7 @@ use Rattle.drt_model.specs.Walk.{deadline, wcet}
 use Rattle.drt_claims.specs.Proofs.{subjects_from}
 use Rattle.drt_claims.specs.Trees.{by_priority, greatest_deadline, higher_count}
 use Rattle.drt_states.specs.States.{AreStates, HaveDominatedChildren, HavePassingTimes}
-use Rattle.drt_states.specs.Tails.{Place, graphs_of}
+use Rattle.drt_states.specs.Tails.{Place, graphs_of_places}
 use Rattle.drt_states.specs.declared.claims.SearchClaim.{SearchClaim}
 use Rattle.drt_states.specs.declared.claims.TailClaim.{TailClaim}
 
@@ -36,7 +36,7 @@ IsSearchPerVertex tasks searches = map (λ s. (s.task, s.vertex)) searches ≡ s
 
 -- The states of the search are states over the tasks of higher priority than its task's.
 abbrev pub HasStatesOver : List Task → SearchClaim → Type 0
-HasStatesOver tasks s = (t : Task) → slice_get tasks s.task ≡ Some t → AreStates (graphs_of (higher_places tasks t)) s.states
+HasStatesOver tasks s = (t : Task) → slice_get tasks s.task ≡ Some t → AreStates (graphs_of_places (higher_places tasks t)) s.states
 
 -- The states of the search pass at times that have room, up to the deadline of its vertex.
 abbrev pub HasPassingStates : List Task → List TailClaim → SearchClaim → Type 0
@@ -48,4 +48,4 @@ HasPassingStates tasks tails s =
 abbrev pub HasDominatedChildren : List Task → SearchClaim → Type 0
 HasDominatedChildren tasks s =
     (t : Task) → slice_get tasks s.task ≡ Some t
-    → HaveDominatedChildren (graphs_of (higher_places tasks t)) (deadline (digraph_of t) s.vertex) s.states
+    → HaveDominatedChildren (graphs_of_places (higher_places tasks t)) (deadline (digraph_of t) s.vertex) s.states

@@ -11,11 +11,11 @@ use Rattle.drt_file.specs.trusted.Words.{is_digit, is_name_byte, is_name, is_num
 use Rattle.drt_classic.specs.declared.classic.Frame.{Frame}
 use Rattle.drt_classic.specs.declared.classic.Classic.{Classic}
 use Rattle.drt_classic.specs.declared.classic.Classic.TheVariants.{Sporadic, Multiframe, Cyclic, Free}
-use Rattle.drt_classic.specs.ClassicFaults.{kind, is_named, in_last, has_task, task_count, is_open, is_full, first_of, sporadic_fault, multiframe_fault, open_fault, frame_fault, end_fault, kind_fault}
-use Rattle.drt_classic.specs.ClassicFaults.{fault_of_line, said_by, with_last, with_frame, add_frame, after_line, unless}
-use Rattle.drt_classic.specs.ClassicFaults.{is_head, line_step, step, steps, has_no_frame, first_without_frame, closing, finish}
-use Rattle.drt_classic.specs.ClassicFaults.{read_text, fault_of}
-use Rattle.drt_classic.specs.Digraphs.{vertices_from, edges_from, digraph_of}
+use Rattle.drt_classic.specs.ClassicFaults.{classic_kind, is_named, in_last, has_classic_task, classic_task_count, is_open, is_full, first_of, sporadic_fault, multiframe_fault, open_fault, frame_fault, classic_end_fault, classic_kind_fault}
+use Rattle.drt_classic.specs.ClassicFaults.{fault_of_line, classic_said_by, with_last_classic, with_frame, add_frame, after_classic_line, unless}
+use Rattle.drt_classic.specs.ClassicFaults.{is_head, classic_line_step, classic_step, classic_steps, has_no_frame, first_without_frame, classic_closing, classic_finish}
+use Rattle.drt_classic.specs.ClassicFaults.{read_classic_text, classic_fault_of}
+use Rattle.drt_classic.specs.Digraphs.{vertices_from, frame_edges, digraph_of_classic}
 
 -- A text, and its fault.
 abbrev Row : Type 0
@@ -27,7 +27,7 @@ row text line code = (codes "drt-classic 1\n" ++ text, Some (line, code))
 
 -- The texts have those faults.
 abbrev AreRight : List Row → Type 0
-AreRight rows = map (λ r. fault_of r.0) rows ≡ map (λ r. r.1) rows
+AreRight rows = map (λ r. classic_fault_of r.0) rows ≡ map (λ r. r.1) rows
 
 -- One text for each code.
 abbrev by_code : List Row
@@ -82,8 +82,8 @@ by_order =
 -- All of them are right.
 pub codes_are_right : AreRight by_code × AreRight by_limit × AreRight by_order
 unfolding with_run lines_after is_blank fields_after is_skipped is_text is_digit is_name_byte is_name is_number value_after
-    kind is_named in_last has_task task_count is_open is_full first_of sporadic_fault multiframe_fault open_fault frame_fault end_fault kind_fault
-    fault_of_line said_by with_last with_frame add_frame after_line unless is_head line_step step steps has_no_frame first_without_frame closing finish read_text fault_of
+    classic_kind is_named in_last has_classic_task classic_task_count is_open is_full first_of sporadic_fault multiframe_fault open_fault frame_fault classic_end_fault classic_kind_fault
+    fault_of_line classic_said_by with_last_classic with_frame add_frame after_classic_line unless is_head classic_line_step classic_step classic_steps has_no_frame first_without_frame classic_closing classic_finish read_classic_text classic_fault_of
 codes_are_right = (refl, refl, refl)
 
 -- The frames of an example.
@@ -97,24 +97,24 @@ edge from to sep = record { from = from; to = to; sep = sep }
 name : List ℕ
 name = codes "t"
 
-sporadic_edges : (digraph_of 1 (Sporadic name (record { wcet = 2; deadline = 5; sep = 7 }))).edges ≡ edge 0 0 7 ∷ []
-unfolding edges_from
+sporadic_edges : (digraph_of_classic 1 (Sporadic name (record { wcet = 2; deadline = 5; sep = 7 }))).edges ≡ edge 0 0 7 ∷ []
+unfolding frame_edges
 sporadic_edges = refl
 
-sporadic_vertices : (digraph_of 1 (Sporadic name (record { wcet = 2; deadline = 5; sep = 7 }))).vertices ≡ record { name = codes "f0"; wcet = 2; deadline = 5 } ∷ []
+sporadic_vertices : (digraph_of_classic 1 (Sporadic name (record { wcet = 2; deadline = 5; sep = 7 }))).vertices ≡ record { name = codes "f0"; wcet = 2; deadline = 5 } ∷ []
 unfolding vertices_from
 sporadic_vertices =
     let zero_digit : decimal 0 ≡ 48 ∷ [] = decimal_digit 0 (omega arith) in
     ap (λ digits. record { name = 102 ∷ digits; wcet = 2; deadline = 5 } ∷ []) zero_digit
 
-cyclic_edges : (digraph_of 1 (Cyclic name two_frames)).edges ≡ edge 0 1 4 ∷ edge 1 0 9 ∷ []
-unfolding edges_from
+cyclic_edges : (digraph_of_classic 1 (Cyclic name two_frames)).edges ≡ edge 0 1 4 ∷ edge 1 0 9 ∷ []
+unfolding frame_edges
 cyclic_edges = refl
 
-free_edges : (digraph_of 1 (Free name two_frames)).edges ≡ edge 0 0 4 ∷ edge 0 1 4 ∷ edge 1 0 9 ∷ edge 1 1 9 ∷ []
-unfolding edges_from
+free_edges : (digraph_of_classic 1 (Free name two_frames)).edges ≡ edge 0 0 4 ∷ edge 0 1 4 ∷ edge 1 0 9 ∷ edge 1 1 9 ∷ []
+unfolding frame_edges
 free_edges = refl
 
-multiframe_edges : (digraph_of 1 (Multiframe name 5 10 (1 ∷ 2 ∷ 3 ∷ []))).edges ≡ edge 0 1 10 ∷ edge 1 2 10 ∷ edge 2 0 10 ∷ []
-unfolding edges_from
+multiframe_edges : (digraph_of_classic 1 (Multiframe name 5 10 (1 ∷ 2 ∷ 3 ∷ []))).edges ≡ edge 0 1 10 ∷ edge 1 2 10 ∷ edge 2 0 10 ∷ []
+unfolding frame_edges
 multiframe_edges = refl

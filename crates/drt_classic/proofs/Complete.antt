@@ -14,8 +14,8 @@ use Rattle.drt_classic.specs.declared.state.Line.{Line}
 use Rattle.drt_classic.specs.declared.state.Line.TheVariants as saying
 use Rattle.drt_classic.specs.Classics.{name_of, frames_of, frames_of_period}
 use Rattle.drt_classic.specs.ClassicLimits.{IsFrame, IsClassic, IsClassicSet, most_frames}
-use Rattle.drt_classic.specs.ClassicReading.{lines_of_task, lines_of}
-use Rattle.drt_classic.specs.ClassicFaults.{with_last, task_of, with_frame, add_frame, after_line, opening, in_last, is_open, is_full, task_count}
+use Rattle.drt_classic.specs.ClassicReading.{lines_of_classic, lines_of}
+use Rattle.drt_classic.specs.ClassicFaults.{with_last_classic, task_of_draft, with_frame, add_frame, after_classic_line, classic_opening, in_last, is_open, is_full, classic_task_count}
 use Rattle.drt_classic.proofs.Fits.{Fits, FitsTask, FitsFrame, period_count}
 use Rattle.drt_classic.proofs.Runs.{tasks_in, Leads}
 use Rattle.drt_classic.proofs.States.{with_open, counted, name_new}
@@ -55,7 +55,7 @@ frames_lead : (tasks : List Classic) (rest : List Line) (make : List Frame → C
     → s.ended ≡ false → s.last ≡ Some (record { line = line; task = make done }) → AllByRecursion IsFrame fs → length done + length fs ≤ most
     → ((t : State) → t.closed ≡ s.closed → t.ended ≡ false → t.last ≡ Some (record { line = line; task = make (done ++ fs) }) → Leads tasks t rest)
     → Leads tasks s (map saying.Frame fs ++ rest)
-unfolding after_line add_frame
+unfolding after_classic_line add_frame
 frames_lead tasks rest make most built [] done s line still at are few next =
     next s refl still (at ∙ ap (λ d. Some (record { line = line; task = make d })) (sym (append-nil done)))
 frames_lead tasks rest make most built (f ∷ fs) done s line still at are few next =
@@ -67,7 +67,7 @@ frames_lead tasks rest make most built (f ∷ fs) done s line still at are few n
       tt,
       record { unfinished = unfinished; room = room; frame = are.0 },
       λ n.
-          frames_lead tasks rest make most built fs (done ++ f ∷ []) (after_line n s (saying.Frame f)) line still
+          frames_lead tasks rest make most built fs (done ++ f ∷ []) (after_classic_line n s (saying.Frame f)) line still
           (ap (option_map (add_frame f)) at ∙ ap (λ t. Some (record { line = line; task = t })) (built.grows f done)) are.1 (omega (arith, more, few))
           (λ t closed ended last. next t closed ended (last ∙ ap (λ d. Some (record { line = line; task = make d })) (append_assoc done (f ∷ []) fs))),
     )
@@ -107,40 +107,40 @@ fits_task tasks s t u ts b same few frames =
     }
 
 -- A task whose own line says its frames.
-after_own : (n : ℕ) (s : State) (t : Classic) → tasks_in (after_line n s (saying.Task t)) ≡ tasks_in s ++ t ∷ []
-unfolding after_line with_last
-after_own n s t = map_push task_of (with_last s.closed s.last) (record { line = n; task = t })
+after_own : (n : ℕ) (s : State) (t : Classic) → tasks_in (after_classic_line n s (saying.Task t)) ≡ tasks_in s ++ t ∷ []
+unfolding after_classic_line with_last_classic
+after_own n s t = map_push task_of_draft (with_last_classic s.closed s.last) (record { line = n; task = t })
 
-after_still : (n : ℕ) (s : State) (t : Classic) → s.ended ≡ false → (after_line n s (saying.Task t)).ended ≡ false
-unfolding after_line
+after_still : (n : ℕ) (s : State) (t : Classic) → s.ended ≡ false → (after_classic_line n s (saying.Task t)).ended ≡ false
+unfolding after_classic_line
 after_still n s t e = e
 
-after_closed : (n : ℕ) (s : State) (t : Classic) → map task_of (after_line n s (saying.Task t)).closed ≡ tasks_in s
-unfolding after_line
+after_closed : (n : ℕ) (s : State) (t : Classic) → map task_of_draft (after_classic_line n s (saying.Task t)).closed ≡ tasks_in s
+unfolding after_classic_line
 after_closed n s t = refl
 
-after_last : (n : ℕ) (s : State) (t : Classic) → (after_line n s (saying.Task t)).last ≡ Some (record { line = n; task = t })
-unfolding after_line
+after_last : (n : ℕ) (s : State) (t : Classic) → (after_classic_line n s (saying.Task t)).last ≡ Some (record { line = n; task = t })
+unfolding after_classic_line
 after_last n s t = refl
 
-end_leads : (tasks : List Classic) (n : ℕ) (s : State) → tasks_in s ≡ tasks → Leads tasks (after_line n s saying.End) []
-unfolding after_line
+end_leads : (tasks : List Classic) (n : ℕ) (s : State) → tasks_in s ≡ tasks → Leads tasks (after_classic_line n s saying.End) []
+unfolding after_classic_line
 end_leads tasks n s are = (refl, are)
 
 -- A `gmf` or `noncyclic` and its frames.
 built_leads : (tasks : List Classic) (ts : List Classic) (s : State) (make : List Frame → Classic) (most : ℕ) → IsBuilt make most → (frames : List Frame) → Below tasks s (make frames ∷ ts)
-    → AllByRecursion IsFrame frames → length frames ≤ most → ((u : State) → Below tasks u ts → Leads tasks u (flat_map lines_of_task ts ++ saying.End ∷ [])) → (n : ℕ)
-    → Leads tasks (after_line n s (saying.Task (make []))) ((map saying.Frame frames ++ flat_map lines_of_task ts) ++ saying.End ∷ [])
+    → AllByRecursion IsFrame frames → length frames ≤ most → ((u : State) → Below tasks u ts → Leads tasks u (flat_map lines_of_classic ts ++ saying.End ∷ [])) → (n : ℕ)
+    → Leads tasks (after_classic_line n s (saying.Task (make []))) ((map saying.Frame frames ++ flat_map lines_of_classic ts) ++ saying.End ∷ [])
 built_leads tasks ts s make most built frames b are few next n =
-    let rest = flat_map lines_of_task ts ++ saying.End ∷ [] in
-    let t = after_line n s (saying.Task (make [])) in
-    subst (Leads tasks t) (sym (append_assoc (map saying.Frame frames) (flat_map lines_of_task ts) (saying.End ∷ [])))
+    let rest = flat_map lines_of_classic ts ++ saying.End ∷ [] in
+    let t = after_classic_line n s (saying.Task (make [])) in
+    subst (Leads tasks t) (sym (append_assoc (map saying.Frame frames) (flat_map lines_of_classic ts) (saying.End ∷ [])))
     (frames_lead tasks rest make most built frames [] t n (after_still n s (make []) b.still) (after_last n s (make [])) are (omega (arith, few))
     (λ u closed still last.
     next u (one_done tasks s u (make frames) ts b still
-    (with_open u (record { line = n; task = make frames }) last ∙ ap (λ c. map task_of c ++ make frames ∷ []) closed ∙ ap (λ l. l ++ make frames ∷ []) (after_closed n s (make []))))))
+    (with_open u (record { line = n; task = make frames }) last ∙ ap (λ c. map task_of_draft c ++ make frames ∷ []) closed ∙ ap (λ l. l ++ make frames ∷ []) (after_closed n s (make []))))))
 
-tasks_lead : (tasks : List Classic) (ts : List Classic) (s : State) → Below tasks s ts → Leads tasks s (flat_map lines_of_task ts ++ saying.End ∷ [])
+tasks_lead : (tasks : List Classic) (ts : List Classic) (s : State) → Below tasks s ts → Leads tasks s (flat_map lines_of_classic ts ++ saying.End ∷ [])
 tasks_lead tasks [] s b = (b.still, tt, tt, λ n. end_leads tasks n s (sym (append-nil (tasks_in s)) ∙ b.are))
 tasks_lead tasks (Sporadic name frame ∷ ts) s b =
     let t = Sporadic name frame in
@@ -148,7 +148,7 @@ tasks_lead tasks (Sporadic name frame ∷ ts) s b =
       b.still,
       tt,
       fits_task tasks s t t ts b refl is.few_frames (recursion_from_All IsFrame (frames_of t) is.frames),
-      λ n. tasks_lead tasks ts (after_line n s (saying.Task t)) (one_done tasks s (after_line n s (saying.Task t)) t ts b (after_still n s t b.still) (after_own n s t)),
+      λ n. tasks_lead tasks ts (after_classic_line n s (saying.Task t)) (one_done tasks s (after_classic_line n s (saying.Task t)) t ts b (after_still n s t b.still) (after_own n s t)),
     )
 tasks_lead tasks (Multiframe name deadline period wcets ∷ ts) s b =
     let t = Multiframe name deadline period wcets in
@@ -158,7 +158,7 @@ tasks_lead tasks (Multiframe name deadline period wcets ∷ ts) s b =
       b.still,
       omega (arith, count, has),
       fits_task tasks s t t ts b refl is.few_frames (recursion_from_All IsFrame (frames_of t) is.frames),
-      λ n. tasks_lead tasks ts (after_line n s (saying.Task t)) (one_done tasks s (after_line n s (saying.Task t)) t ts b (after_still n s t b.still) (after_own n s t)),
+      λ n. tasks_lead tasks ts (after_classic_line n s (saying.Task t)) (one_done tasks s (after_classic_line n s (saying.Task t)) t ts b (after_still n s t b.still) (after_own n s t)),
     )
 tasks_lead tasks (Cyclic name frames ∷ ts) s b =
     let is = b.each.0 in (
@@ -175,9 +175,9 @@ tasks_lead tasks (Free name frames ∷ ts) s b =
       built_leads tasks ts s (Free name) 16 (free_built name) frames b (recursion_from_All IsFrame frames is.frames) is.few_frames (λ u below. tasks_lead tasks ts u below),
     )
 
-pub set_leads : (tasks : List Classic) → IsClassicSet tasks → Leads tasks opening (lines_of tasks)
-unfolding with_last
-set_leads tasks is = tasks_lead tasks tasks opening (record {
+pub set_leads : (tasks : List Classic) → IsClassicSet tasks → Leads tasks classic_opening (lines_of tasks)
+unfolding with_last_classic
+set_leads tasks is = tasks_lead tasks tasks classic_opening (record {
   still = refl;
   each = recursion_from_All IsClassic tasks is.each;
   names = pairs_of_all (λ s t. name_of s ≢ name_of t) tasks is.distinct_names;

@@ -21,7 +21,7 @@ use Rattle.drt_classic.specs.Classics.{name_of, frames_of, frames_of_period}
 use Rattle.drt_classic.specs.ClassicLimits.{IsFrame}
 use Rattle.drt_classic.specs.ClassicWords.{sporadic_word, multiframe_word, gmf_word, noncyclic_word, frame_word, end_word}
 use Rattle.drt_classic.specs.ClassicReading.{MeanFrame, SaysSporadic, SaysMultiframe, SaysFrame, SaysClassic}
-use Rattle.drt_classic.specs.ClassicFaults.{first_of, in_last, is_open, is_full, has_task, task_count, sporadic_fault, multiframe_fault, open_fault, frame_fault, end_fault, said_by, is_past}
+use Rattle.drt_classic.specs.ClassicFaults.{first_of, in_last, is_open, is_full, has_classic_task, classic_task_count, sporadic_fault, multiframe_fault, open_fault, frame_fault, classic_end_fault, classic_said_by, is_past}
 
 -- A table of tests.
 
@@ -44,8 +44,8 @@ none_left = refl
 -- What fits below what the lines above leave: a task with a new name where there is room.
 pub record FitsTask (s : State) (t : Classic) : Type 0 where
   pub name : IsName (name_of t)
-  pub new : has_task (name_of t) s ≡ false
-  pub room : task_count s < 16
+  pub new : has_classic_task (name_of t) s ≡ false
+  pub room : classic_task_count s < 16
   pub few : length (frames_of t) ≤ 48
   pub frames : AllByRecursion IsFrame (frames_of t)
 
@@ -145,8 +145,8 @@ pub record Passed (s : State) (words : List (List ℕ)) (l : Line) : Type 0 wher
   pub says : SaysClassic words l
   pub fits : Fits s l
 
-pub sporadic_passed : (s : State) (words rest : List (List ℕ)) → words ≡ sporadic_word ∷ rest → sporadic_fault s words ≡ None → Passed s words (said_by kinds.Sporadic words)
-unfolding sporadic_fault said_by
+pub sporadic_passed : (s : State) (words rest : List (List ℕ)) → words ≡ sporadic_word ∷ rest → sporadic_fault s words ≡ None → Passed s words (classic_said_by kinds.Sporadic words)
+unfolding sporadic_fault classic_said_by
 sporadic_passed s [] rest is e = absurd (cc)
 sporadic_passed s (a ∷ []) rest is e = absurd (cc)
 sporadic_passed s (a ∷ b ∷ []) rest is e = absurd (cc)
@@ -167,7 +167,7 @@ sporadic_passed s (word ∷ name ∷ wcet ∷ deadline ∷ period ∷ []) rest i
       fits = record {
         name = is_a_name name (not_false _ seven.0);
         new = eight.0;
-        room = room_of (task_count s) full.0;
+        room = room_of (classic_task_count s) full.0;
         few = omega arith;
         frames = (frame_is wcet deadline period t nine.0, tt);
       };
@@ -179,13 +179,13 @@ pub record Again (fault : Option ℕ) (said l : Line) : Type 0 where
   pub is : said ≡ l
 
 pub sporadic_again : (s : State) (words : List (List ℕ)) (name : List ℕ) (f : Frame) → SaysSporadic words name f → FitsTask s (Sporadic name f)
-    → Again (sporadic_fault s words) (said_by kinds.Sporadic words) (saying.Task (Sporadic name f))
-unfolding sporadic_fault said_by
+    → Again (sporadic_fault s words) (classic_said_by kinds.Sporadic words) (saying.Task (Sporadic name f))
+unfolding sporadic_fault classic_said_by
 sporadic_again s words name f says fits =
     let m = meant says.wcet says.deadline says.period f says.times fits.frames.0 in
     rw says.spelled (record {
       none = passes _ _ m.numbers (passes _ _ m.in_range (passes _ _ (not_true (is_name name) (name_is name fits.name))
-          (passes _ _ fits.new (passes _ _ m.not_past (passes _ _ (room_again (task_count s) fits.room) none_left)))));
+          (passes _ _ fits.new (passes _ _ m.not_past (passes _ _ (room_again (classic_task_count s) fits.room) none_left)))));
       is = ap (λ g. saying.Task (Sporadic name g)) m.is;
     })
 
@@ -213,8 +213,8 @@ few_again n le = grind (arith, le)
 pub period_count : (deadline period : ℕ) (wcets : List ℕ) → length (frames_of_period deadline period wcets) ≡ length wcets
 period_count deadline period wcets = length-map wcets (λ wcet. record { wcet = wcet; deadline = deadline; sep = period })
 
-pub multiframe_passed : (s : State) (words rest : List (List ℕ)) → words ≡ multiframe_word ∷ rest → multiframe_fault s words ≡ None → Passed s words (said_by kinds.Multiframe words)
-unfolding multiframe_fault said_by
+pub multiframe_passed : (s : State) (words rest : List (List ℕ)) → words ≡ multiframe_word ∷ rest → multiframe_fault s words ≡ None → Passed s words (classic_said_by kinds.Multiframe words)
+unfolding multiframe_fault classic_said_by
 multiframe_passed s [] rest is e = absurd (cc)
 multiframe_passed s (a ∷ []) rest is e = absurd (cc)
 multiframe_passed s (a ∷ b ∷ []) rest is e = absurd (cc)
@@ -246,7 +246,7 @@ multiframe_passed s (word ∷ name ∷ deadline ∷ period ∷ wcet ∷ wcets) r
       fits = record {
         name = is_a_name name (not_false _ seven.0);
         new = eight.0;
-        room = room_of (task_count s) full.0;
+        room = room_of (classic_task_count s) full.0;
         few = (let most_48 = few_of (length (wcet ∷ wcets)) most.0 in omega (arith, count, most_48));
         frames = period_frames deadline period (wcet ∷ wcets) r.0 r.1.0 nine.0 r.1.1;
       };
@@ -275,15 +275,15 @@ same_multiframe name a b c d xs ys e f g = rw (e, f, g) refl
 
 pub multiframe_again : (s : State) (words : List (List ℕ)) (name : List ℕ) (deadline period : ℕ) (wcets : List ℕ) → SaysMultiframe words name deadline period wcets
     → FitsTask s (Multiframe name deadline period wcets) → 1 ≤ length wcets
-    → Again (multiframe_fault s words) (said_by kinds.Multiframe words) (saying.Task (Multiframe name deadline period wcets))
-unfolding multiframe_fault said_by
+    → Again (multiframe_fault s words) (classic_said_by kinds.Multiframe words) (saying.Task (Multiframe name deadline period wcets))
+unfolding multiframe_fault classic_said_by
 multiframe_again s words name deadline period wcets says fits has =
     let count = period_count deadline period wcets in
     let few = fits.few in
     go says.others wcets says.spelled says.wcets_are (omega (arith, count, few)) has fits.frames
   where
     go : (others : List (List ℕ)) (ns : List ℕ) → words ≡ multiframe_word ∷ name ∷ says.first ∷ says.second ∷ others → AllZip Means others ns → length ns ≤ 48 → 1 ≤ length ns
-        → AllByRecursion IsFrame (frames_of_period deadline period ns) → Again (multiframe_fault s words) (said_by kinds.Multiframe words) (saying.Task (Multiframe name deadline period ns))
+        → AllByRecursion IsFrame (frames_of_period deadline period ns) → Again (multiframe_fault s words) (classic_said_by kinds.Multiframe words) (saying.Task (Multiframe name deadline period ns))
     go others [] spelled mean few one are = absurd (omega (arith, one))
     go [] (n ∷ ns) spelled mean few one are = absurd mean
     go (w ∷ ws) (n ∷ ns) spelled mean few one are =
@@ -296,7 +296,7 @@ multiframe_again s words name deadline period wcets says fits has =
         let past = past_not says.first says.second deadline period says.deadline_is.1 says.period_is.1 frame.constrained in
         rw spelled (record {
           none = passes _ _ (not_true _ numbers) (passes _ _ (not_true _ in_range) (passes _ _ (not_true (is_name name) (name_is name fits.name)) (passes _ _ fits.new (passes _ _ past
-              (passes _ _ (room_again (task_count s) fits.room) (passes _ _ (few_again (length (w ∷ ws)) (omega (arith, long, few))) none_left))))));
+              (passes _ _ (room_again (classic_task_count s) fits.room) (passes _ _ (few_again (length (w ∷ ws)) (omega (arith, long, few))) none_left))))));
           is = same_multiframe name (value says.first) deadline (value says.second) period (map value (w ∷ ws)) (n ∷ ns) says.deadline_is.1 says.period_is.1 m.are;
         })
 
@@ -307,8 +307,8 @@ record OpenPassed (s : State) (words : List (List ℕ)) : Type 0 where
   name : List ℕ
   spelled : words ≡ word ∷ name ∷ []
   named : IsName name
-  new : has_task name s ≡ false
-  room : task_count s < 16
+  new : has_classic_task name s ≡ false
+  room : classic_task_count s < 16
 
 open_passed : (s : State) (words : List (List ℕ)) → open_fault s words ≡ None → OpenPassed s words
 unfolding open_fault
@@ -319,10 +319,10 @@ open_passed s (word ∷ name ∷ []) e =
     let seven = passed _ _ e in
     let eight = passed _ _ seven.1 in
     let full = passed _ _ eight.1 in
-    record { word = word; name = name; spelled = refl; named = is_a_name name (not_false _ seven.0); new = eight.0; room = room_of (task_count s) full.0 }
+    record { word = word; name = name; spelled = refl; named = is_a_name name (not_false _ seven.0); new = eight.0; room = room_of (classic_task_count s) full.0 }
 
-pub gmf_passed : (s : State) (words rest : List (List ℕ)) → words ≡ gmf_word ∷ rest → open_fault s words ≡ None → Passed s words (said_by kinds.Gmf words)
-unfolding said_by
+pub gmf_passed : (s : State) (words rest : List (List ℕ)) → words ≡ gmf_word ∷ rest → open_fault s words ≡ None → Passed s words (classic_said_by kinds.Gmf words)
+unfolding classic_said_by
 gmf_passed s words rest is e =
     let p = open_passed s words e in
     let same : p.word ∷ p.name ∷ [] ≡ gmf_word ∷ rest = sym p.spelled ∙ is in
@@ -332,8 +332,8 @@ gmf_passed s words rest is e =
       fits = record { name = p.named; new = p.new; room = p.room; few = omega arith; frames = tt };
     })
 
-pub noncyclic_passed : (s : State) (words rest : List (List ℕ)) → words ≡ noncyclic_word ∷ rest → open_fault s words ≡ None → Passed s words (said_by kinds.Noncyclic words)
-unfolding said_by
+pub noncyclic_passed : (s : State) (words rest : List (List ℕ)) → words ≡ noncyclic_word ∷ rest → open_fault s words ≡ None → Passed s words (classic_said_by kinds.Noncyclic words)
+unfolding classic_said_by
 noncyclic_passed s words rest is e =
     let p = open_passed s words e in
     let same : p.word ∷ p.name ∷ [] ≡ noncyclic_word ∷ rest = sym p.spelled ∙ is in
@@ -343,29 +343,29 @@ noncyclic_passed s words rest is e =
       fits = record { name = p.named; new = p.new; room = p.room; few = omega arith; frames = tt };
     })
 
-open_again : (s : State) (word name : List ℕ) → IsName name → has_task name s ≡ false → task_count s < 16 → open_fault s (word ∷ name ∷ []) ≡ None
+open_again : (s : State) (word name : List ℕ) → IsName name → has_classic_task name s ≡ false → classic_task_count s < 16 → open_fault s (word ∷ name ∷ []) ≡ None
 unfolding open_fault
 open_again s word name named new room =
-    passes _ _ (not_true (is_name name) (name_is name named)) (passes _ _ new (passes _ _ (room_again (task_count s) room) none_left))
+    passes _ _ (not_true (is_name name) (name_is name named)) (passes _ _ new (passes _ _ (room_again (classic_task_count s) room) none_left))
 
 pub gmf_again : (s : State) (words : List (List ℕ)) (name : List ℕ) (frames : List Frame) → words ≡ gmf_word ∷ name ∷ [] → frames ≡ [] → FitsTask s (Cyclic name frames)
-    → Again (open_fault s words) (said_by kinds.Gmf words) (saying.Task (Cyclic name frames))
-unfolding said_by
+    → Again (open_fault s words) (classic_said_by kinds.Gmf words) (saying.Task (Cyclic name frames))
+unfolding classic_said_by
 gmf_again s words name frames spelled none fits =
     let at = open_again s gmf_word name fits.name fits.new fits.room in
     rw (spelled, none) (record { none = at; is = refl })
 
 pub noncyclic_again : (s : State) (words : List (List ℕ)) (name : List ℕ) (frames : List Frame) → words ≡ noncyclic_word ∷ name ∷ [] → frames ≡ [] → FitsTask s (Free name frames)
-    → Again (open_fault s words) (said_by kinds.Noncyclic words) (saying.Task (Free name frames))
-unfolding said_by
+    → Again (open_fault s words) (classic_said_by kinds.Noncyclic words) (saying.Task (Free name frames))
+unfolding classic_said_by
 noncyclic_again s words name frames spelled none fits =
     let at = open_again s noncyclic_word name fits.name fits.new fits.room in
     rw (spelled, none) (record { none = at; is = refl })
 
 -- A `frame` line.
 
-pub frame_passed : (s : State) (words rest : List (List ℕ)) → words ≡ frame_word ∷ rest → frame_fault s words ≡ None → Passed s words (said_by kinds.Frame words)
-unfolding frame_fault said_by
+pub frame_passed : (s : State) (words rest : List (List ℕ)) → words ≡ frame_word ∷ rest → frame_fault s words ≡ None → Passed s words (classic_said_by kinds.Frame words)
+unfolding frame_fault classic_said_by
 frame_passed s [] rest is e = absurd (cc)
 frame_passed s (a ∷ []) rest is e = absurd (cc)
 frame_passed s (a ∷ b ∷ []) rest is e = absurd (cc)
@@ -384,8 +384,8 @@ frame_passed s (word ∷ wcet ∷ deadline ∷ sep ∷ []) rest is e =
       fits = record { unfinished = not_false _ forty.0; room = room.0; frame = frame_is wcet deadline sep t nine.0 };
     }
 
-pub frame_again : (s : State) (words : List (List ℕ)) (f : Frame) → SaysFrame words f → FitsFrame s f → Again (frame_fault s words) (said_by kinds.Frame words) (saying.Frame f)
-unfolding frame_fault said_by
+pub frame_again : (s : State) (words : List (List ℕ)) (f : Frame) → SaysFrame words f → FitsFrame s f → Again (frame_fault s words) (classic_said_by kinds.Frame words) (saying.Frame f)
+unfolding frame_fault classic_said_by
 frame_again s words f says fits =
     let m = meant says.wcet says.deadline says.sep f says.times fits.frame in
     rw says.spelled (record {
@@ -395,14 +395,14 @@ frame_again s words f says fits =
 
 -- An `end` line.
 
-pub end_passed : (s : State) (words rest : List (List ℕ)) → words ≡ end_word ∷ rest → end_fault words ≡ None → Passed s words (said_by kinds.End words)
-unfolding end_fault said_by
+pub end_passed : (s : State) (words rest : List (List ℕ)) → words ≡ end_word ∷ rest → classic_end_fault words ≡ None → Passed s words (classic_said_by kinds.End words)
+unfolding classic_end_fault classic_said_by
 end_passed s [] rest is e = absurd (cc)
 end_passed s (a ∷ b ∷ words) rest is e = absurd (cc)
 end_passed s (word ∷ []) rest is e =
     let first : word ≡ end_word = cc in
     record { says = ap (λ w. w ∷ []) first; fits = tt }
 
-pub end_again : (words : List (List ℕ)) → words ≡ end_word ∷ [] → Again (end_fault words) (said_by kinds.End words) saying.End
-unfolding end_fault said_by
+pub end_again : (words : List (List ℕ)) → words ≡ end_word ∷ [] → Again (classic_end_fault words) (classic_said_by kinds.End words) saying.End
+unfolding classic_end_fault classic_said_by
 end_again words spelled = rw spelled (record { none = refl; is = refl })

@@ -10,7 +10,7 @@ use Rattle.drt_classic.specs.declared.classic.Classic.{Classic}
 use Rattle.drt_classic.specs.declared.classic.Classic.TheVariants.{Sporadic, Multiframe, Cyclic, Free}
 use Rattle.drt_classic.specs.Classics.{frames_of, frames_of_period}
 use Rattle.drt_classic.specs.ClassicLegal.{next_frame, IsApart, MayFollow, IsFrameRelease}
-use Rattle.drt_classic.specs.Digraphs.{vertices_from, edges_from, frames_after, digraph_of}
+use Rattle.drt_classic.specs.Digraphs.{vertices_from, frame_edges, frames_after, digraph_of_classic}
 use Rattle.drt_classic.proofs.SomeOf.{SomeOf, some_any, any_some, some_split, some_left, some_right, Has, range_has}
 
 -- A vertex has the execution time of its frame.
@@ -53,10 +53,10 @@ record Comes (after : ℕ → List ℕ) (i : ℕ) (frames : List Frame) (r s : R
   apart : IsSomeAnd (slice_get frames k) (λ f. r.time + f.sep ≤ s.time)
   to : Has s.vertex (after r.vertex)
 
-comes : (after : ℕ → List ℕ) (i : ℕ) (frames : List Frame) (r s : Release) → SomeOf (λ e. Leads e r s) (edges_from after i frames) → Comes after i frames r s
-unfolding edges_from
+comes : (after : ℕ → List ℕ) (i : ℕ) (frames : List Frame) (r s : Release) → SomeOf (λ e. Leads e r s) (frame_edges after i frames) → Comes after i frames r s
+unfolding frame_edges
 comes after i [] r s h = absurd h
-comes after i (f ∷ frames) r s h = elim (some_split (λ e. Leads e r s) (row_of i f.sep (after i)) (edges_from after (i + 1) frames) h) [
+comes after i (f ∷ frames) r s h = elim (some_split (λ e. Leads e r s) (row_of i f.sep (after i)) (frame_edges after (i + 1) frames) h) [
   | inl here ↦
       let l = leads_in i f.sep (after i) r s here in
       record { k = 0; at = omega (arith, l.from); apart = l.apart; to = subst (λ v. Has s.vertex (after v)) l.from l.to }
@@ -66,27 +66,27 @@ comes after i (f ∷ frames) r s h = elim (some_split (λ e. Leads e r s) (row_o
 ]
 
 comes_again : (after : ℕ → List ℕ) (i : ℕ) (frames : List Frame) (r s : Release) (k : ℕ) → r.vertex ≡ i + k → IsSomeAnd (slice_get frames k) (λ f. r.time + f.sep ≤ s.time)
-    → Has s.vertex (after r.vertex) → SomeOf (λ e. Leads e r s) (edges_from after i frames)
-unfolding edges_from
+    → Has s.vertex (after r.vertex) → SomeOf (λ e. Leads e r s) (frame_edges after i frames)
+unfolding frame_edges
 comes_again after i [] r s k at apart to = absurd apart
 comes_again after i (f ∷ frames) r s zero at apart to =
     let e : i ≡ r.vertex = omega (arith, at) in
-    some_left (λ e. Leads e r s) (row_of i f.sep (after i)) (edges_from after (i + 1) frames)
+    some_left (λ e. Leads e r s) (row_of i f.sep (after i)) (frame_edges after (i + 1) frames)
     (leads_again i f.sep (after i) r s e apart (subst (λ v. Has s.vertex (after v)) (sym e) to))
 comes_again after i (f ∷ frames) r s (suc k) at apart to =
-    some_right (λ e. Leads e r s) (row_of i f.sep (after i)) (edges_from after (i + 1) frames)
+    some_right (λ e. Leads e r s) (row_of i f.sep (after i)) (frame_edges after (i + 1) frames)
     (comes_again after (i + 1) frames r s k (omega (arith, at)) apart to)
 
 -- Both ways for a task whose frames are these.
-apart_of : (after : ℕ → List ℕ) (frames : List Frame) (r s : Release) → Any (λ e. Leads e r s) (edges_from after 0 frames) → IsApart frames r s × Has s.vertex (after r.vertex)
+apart_of : (after : ℕ → List ℕ) (frames : List Frame) (r s : Release) → Any (λ e. Leads e r s) (frame_edges after 0 frames) → IsApart frames r s × Has s.vertex (after r.vertex)
 apart_of after frames r s h =
-    let c = comes after 0 frames r s (some_any (λ e. Leads e r s) (edges_from after 0 frames) h) in
+    let c = comes after 0 frames r s (some_any (λ e. Leads e r s) (frame_edges after 0 frames) h) in
     let e : c.k ≡ r.vertex = omega (arith, c.at) in
     (subst (λ k. IsSomeAnd (slice_get frames k) (λ f. r.time + f.sep ≤ s.time)) e c.apart, c.to)
 
-edge_of : (after : ℕ → List ℕ) (frames : List Frame) (r s : Release) → IsApart frames r s → Has s.vertex (after r.vertex) → Any (λ e. Leads e r s) (edges_from after 0 frames)
+edge_of : (after : ℕ → List ℕ) (frames : List Frame) (r s : Release) → IsApart frames r s → Has s.vertex (after r.vertex) → Any (λ e. Leads e r s) (frame_edges after 0 frames)
 edge_of after frames r s apart to =
-    any_some (λ e. Leads e r s) (edges_from after 0 frames) (comes_again after 0 frames r s r.vertex (omega arith) apart to)
+    any_some (λ e. Leads e r s) (frame_edges after 0 frames) (comes_again after 0 frames r s r.vertex (omega arith) apart to)
 
 only : (j k : ℕ) → Has j (k ∷ []) → j ≡ k
 only j k (inl e) = sym e
@@ -116,7 +116,7 @@ within P (x ∷ xs) zero h = omega arith
 within P (x ∷ xs) (suc k) h = let lt = within P xs k h in omega (arith, lt)
 
 -- Of two releases of a task the second may come after the first exactly where an edge of the digraph leads there.
-pub step_of_edge : (p : ℕ) (t : Classic) (r s : Release) → Follows (digraph_of p t) r s → MayFollow t r s
+pub step_of_edge : (p : ℕ) (t : Classic) (r s : Release) → Follows (digraph_of_classic p t) r s → MayFollow t r s
 step_of_edge p (Sporadic name frame) r s h =
     let a = apart_of (frames_after (Sporadic name frame)) (frame ∷ []) r s h in
     (first_alone (λ f. r.time + f.sep ≤ s.time) frame r.vertex a.0).1
@@ -128,7 +128,7 @@ step_of_edge p (Cyclic name frames) r s h =
     (only s.vertex (next_frame (length frames) r.vertex) a.1, a.0)
 step_of_edge p (Free name frames) r s h = (apart_of (frames_after (Free name frames)) frames r s h).0
 
-pub edge_of_step : (p : ℕ) (t : Classic) (r s : Release) → IsFrameRelease t r → IsFrameRelease t s → MayFollow t r s → Follows (digraph_of p t) r s
+pub edge_of_step : (p : ℕ) (t : Classic) (r s : Release) → IsFrameRelease t r → IsFrameRelease t s → MayFollow t r s → Follows (digraph_of_classic p t) r s
 edge_of_step p (Sporadic name frame) r s hr hs h =
     let P = λ (v : Release) (f : Frame). (1 ≤ v.need) × (v.need ≤ f.wcet) in
     let er : r.vertex ≡ 0 = (first_alone (P r) frame r.vertex hr).0 in
@@ -143,8 +143,8 @@ edge_of_step p (Free name frames) r s hr hs h =
     (range_has 0 (length frames) s.vertex (omega arith) (let lt = within (λ f. (1 ≤ s.need) × (s.need ≤ f.wcet)) frames s.vertex hs in omega (arith, lt)))
 
 -- A release is one of the digraph exactly where it is one of a frame.
-pub release_there : (p : ℕ) (t : Classic) (r : Release) → IsReleaseOf (digraph_of p t) r → IsFrameRelease t r
+pub release_there : (p : ℕ) (t : Classic) (r : Release) → IsReleaseOf (digraph_of_classic p t) r → IsFrameRelease t r
 release_there p t r h = frame_there (λ w. (1 ≤ r.need) × (r.need ≤ w)) 0 (frames_of t) r.vertex h
 
-pub release_again : (p : ℕ) (t : Classic) (r : Release) → IsFrameRelease t r → IsReleaseOf (digraph_of p t) r
+pub release_again : (p : ℕ) (t : Classic) (r : Release) → IsFrameRelease t r → IsReleaseOf (digraph_of_classic p t) r
 release_again p t r h = vertex_there (λ w. (1 ≤ r.need) × (r.need ≤ w)) 0 (frames_of t) r.vertex h

@@ -23,7 +23,7 @@ use Rattle.drt_classic.specs.Classics.{name_of, frames_of, frames_of_period}
 use Rattle.drt_classic.specs.ClassicLimits.{IsFrame, IsClassic, IsClassicSet, most_frames}
 use Rattle.drt_classic.specs.ClassicLegal.{next_frame}
 use Rattle.drt_classic.specs.ClassicLaws.{DigraphsKeepLimits}
-use Rattle.drt_classic.specs.Digraphs.{vertex_name, vertices_from, frames_after, edges_from, digraph_of, tasks_from}
+use Rattle.drt_classic.specs.Digraphs.{frame_name, vertices_from, frames_after, frame_edges, digraph_of_classic, tasks_from}
 use Rattle.drt_classic.proofs.Agree.{as_many, task_at}
 
 -- Names of vertices.
@@ -40,17 +40,17 @@ digits_of word e = grind (arith, e)
 letter : IsNameByte 102
 letter = grind arith
 
-vertex_named : (i : ℕ) → i < 48 → IsName (vertex_name i)
+vertex_named : (i : ℕ) → i < 48 → IsName (frame_name i)
 vertex_named i lt =
     let few : length (decimal i) ≤ 2 = length-decimal-le 2 i (omega arith) (omega (arith, lt)) (omega (arith, lt)) in
-    let bytes : AllByRecursion IsNameByte (vertex_name i) = (letter, digit_names (decimal i) (digits_of (decimal i) (decimal_number i (omega (arith, lt))))) in
-    record { not_empty = omega arith; at_most_32 = omega (arith, few); bytes = All-from_recursion IsNameByte (vertex_name i) bytes }
+    let bytes : AllByRecursion IsNameByte (frame_name i) = (letter, digit_names (decimal i) (digits_of (decimal i) (decimal_number i (omega (arith, lt))))) in
+    record { not_empty = omega arith; at_most_32 = omega (arith, few); bytes = All-from_recursion IsNameByte (frame_name i) bytes }
 
 tail_of : List ℕ → List ℕ
 tail_of [] = []
 tail_of (b ∷ bs) = bs
 
-names_apart : (i j : ℕ) → i < j → j < 48 → vertex_name i ≡ vertex_name j → ⊥
+names_apart : (i j : ℕ) → i < j → j < 48 → frame_name i ≡ frame_name j → ⊥
 unfolding tail_of
 names_apart i j lt few e =
     let same : i ≡ j = decimal_injective i j (omega (arith, lt, few)) (omega (arith, few)) (ap tail_of e) in
@@ -71,7 +71,7 @@ are_vertices i (f ∷ frames) few are = (
   are_vertices (i + 1) frames (omega (arith, few)) are.1,
 )
 
-names_after : (i j : ℕ) (frames : List Frame) → i < j → j + length frames ≤ 48 → AllByRecursion (λ v. vertex_name i ≢ v.name) (vertices_from j frames)
+names_after : (i j : ℕ) (frames : List Frame) → i < j → j + length frames ≤ 48 → AllByRecursion (λ v. frame_name i ≢ v.name) (vertices_from j frames)
 unfolding vertices_from
 names_after i j [] lt few = tt
 names_after i j (f ∷ frames) lt few = (
@@ -100,22 +100,22 @@ row_among n i sep [] lt time are = tt
 row_among n i sep (j ∷ js) lt time are = (record { from = lt; to = are.0; sep = time }, row_among n i sep js lt time are.1)
 
 edges_among : (after : ℕ → List ℕ) (m n i : ℕ) (frames : List Frame) → IsAfter after m n → i + length frames ≤ n → AllByRecursion IsFrame frames
-    → AllByRecursion (IsEdgeAmong n) (edges_from after i frames)
-unfolding edges_from
+    → AllByRecursion (IsEdgeAmong n) (frame_edges after i frames)
+unfolding frame_edges
 edges_among after m n i [] is few are = tt
 edges_among after m n i (f ∷ frames) is few are =
     let lt : i < n = omega (arith, few) in
-    all_of_both (IsEdgeAmong n) (row_of i f.sep (after i)) (edges_from after (i + 1) frames)
+    all_of_both (IsEdgeAmong n) (row_of i f.sep (after i)) (frame_edges after (i + 1) frames)
     (row_among n i f.sep (after i) lt are.0.sep (is.frames i lt)) (edges_among after m n (i + 1) frames is (omega (arith, few)) are.1)
 
 -- At most m edges leave each frame.
-few_edges : (after : ℕ → List ℕ) (m n i : ℕ) (frames : List Frame) → IsAfter after m n → length (edges_from after i frames) ≤ m * length frames
-unfolding edges_from
+few_edges : (after : ℕ → List ℕ) (m n i : ℕ) (frames : List Frame) → IsAfter after m n → length (frame_edges after i frames) ≤ m * length frames
+unfolding frame_edges
 few_edges after m n i [] is = omega arith
 few_edges after m n i (f ∷ frames) is =
     let row : length (row_of i f.sep (after i)) ≡ length (after i) = length-map (after i) (λ j. record { from = i; to = j; sep = f.sep }) in
-    let both : length (edges_from after i (f ∷ frames)) ≡ length (row_of i f.sep (after i)) + length (edges_from after (i + 1) frames)
-    = length-append (row_of i f.sep (after i)) (edges_from after (i + 1) frames) in
+    let both : length (frame_edges after i (f ∷ frames)) ≡ length (row_of i f.sep (after i)) + length (frame_edges after (i + 1) frames)
+    = length-append (row_of i f.sep (after i)) (frame_edges after (i + 1) frames) in
     let others = few_edges after m n (i + 1) frames is in
     let product : m * suc (length frames) ≡ m * length frames + m = mul-suc m (length frames) in
     omega (arith, row, both, others, product, is.few i)
@@ -136,11 +136,11 @@ row_later : (i : ℕ) (k sep : ℕ) (js : List ℕ) → i < k → AllByRecursion
 row_later i k sep [] lt = tt
 row_later i k sep (j ∷ js) lt = (lt, row_later i k sep js lt)
 
-edges_later : (after : ℕ → List ℕ) (i k : ℕ) (frames : List Frame) → i < k → AllByRecursion (λ (e : Edge). i < e.from) (edges_from after k frames)
-unfolding edges_from
+edges_later : (after : ℕ → List ℕ) (i k : ℕ) (frames : List Frame) → i < k → AllByRecursion (λ (e : Edge). i < e.from) (frame_edges after k frames)
+unfolding frame_edges
 edges_later after i k [] lt = tt
 edges_later after i k (f ∷ frames) lt =
-    all_of_both (λ (e : Edge). i < e.from) (row_of k f.sep (after k)) (edges_from after (k + 1) frames) (row_later i k f.sep (after k) lt) (edges_later after i (k + 1) frames (omega (arith, lt)))
+    all_of_both (λ (e : Edge). i < e.from) (row_of k f.sep (after k)) (frame_edges after (k + 1) frames) (row_later i k f.sep (after k) lt) (edges_later after i (k + 1) frames (omega (arith, lt)))
 
 join_apart : (i sep : ℕ) (js : List ℕ) (es : List Edge) → Pairwise (λ j k. j ≢ k) js → AllByRecursion (λ (e : Edge). i < e.from) es → Pairwise Apart es → Pairwise Apart (row_of i sep js ++ es)
 join_apart i sep [] es js_apart later are = are
@@ -149,11 +149,11 @@ join_apart i sep (j ∷ js) es js_apart later are = (
   join_apart i sep js es js_apart.1 later are,
 )
 
-edges_apart : (after : ℕ → List ℕ) (m n i : ℕ) (frames : List Frame) → IsAfter after m n → Pairwise Apart (edges_from after i frames)
-unfolding edges_from
+edges_apart : (after : ℕ → List ℕ) (m n i : ℕ) (frames : List Frame) → IsAfter after m n → Pairwise Apart (frame_edges after i frames)
+unfolding frame_edges
 edges_apart after m n i [] is = tt
 edges_apart after m n i (f ∷ frames) is =
-    join_apart i f.sep (after i) (edges_from after (i + 1) frames) (is.apart i) (edges_later after i (i + 1) frames (omega arith)) (edges_apart after m n (i + 1) frames is)
+    join_apart i f.sep (after i) (frame_edges after (i + 1) frames) (is.apart i) (edges_later after i (i + 1) frames (omega arith)) (edges_apart after m n (i + 1) frames is)
 
 -- Each edge has the separation of its source, which is due by then.
 record IsBehind (vs : List Vertex) (i : ℕ) (e : Edge) : Type 0 where
@@ -168,17 +168,17 @@ row_behind vs v i sep (j ∷ js) le = (record { k = 0; at = omega arith; due = l
 further : (vs : List Vertex) (v : Vertex) (i : ℕ) (e : Edge) → IsBehind vs (i + 1) e → IsBehind (v ∷ vs) i e
 further vs v i e b = record { k = suc b.k; at = omega (arith, b.at); due = b.due }
 
-edges_behind : (after : ℕ → List ℕ) (i : ℕ) (frames : List Frame) → AllByRecursion IsFrame frames → AllByRecursion (IsBehind (vertices_from i frames) i) (edges_from after i frames)
-unfolding edges_from vertices_from
+edges_behind : (after : ℕ → List ℕ) (i : ℕ) (frames : List Frame) → AllByRecursion IsFrame frames → AllByRecursion (IsBehind (vertices_from i frames) i) (frame_edges after i frames)
+unfolding frame_edges vertices_from
 edges_behind after i [] are = tt
 edges_behind after i (f ∷ frames) are =
-    let v : Vertex = record { name = vertex_name i; wcet = f.wcet; deadline = f.deadline } in
-    all_of_both (IsBehind (v ∷ vertices_from (i + 1) frames) i) (row_of i f.sep (after i)) (edges_from after (i + 1) frames)
+    let v : Vertex = record { name = frame_name i; wcet = f.wcet; deadline = f.deadline } in
+    all_of_both (IsBehind (v ∷ vertices_from (i + 1) frames) i) (row_of i f.sep (after i)) (frame_edges after (i + 1) frames)
     (row_behind (vertices_from (i + 1) frames) v i f.sep (after i) are.0.constrained)
     (every_weaker (IsBehind (vertices_from (i + 1) frames) (i + 1)) (IsBehind (v ∷ vertices_from (i + 1) frames) i)
-    (further (vertices_from (i + 1) frames) v i) (edges_from after (i + 1) frames) (edges_behind after (i + 1) frames are.1))
+    (further (vertices_from (i + 1) frames) v i) (frame_edges after (i + 1) frames) (edges_behind after (i + 1) frames are.1))
 
-constrained : (p : ℕ) (t : Classic) (e : Edge) → IsBehind (vertices_from 0 (frames_of t)) 0 e → IsConstrainedEdge (digraph_of p t) e
+constrained : (p : ℕ) (t : Classic) (e : Edge) → IsBehind (vertices_from 0 (frames_of t)) 0 e → IsConstrainedEdge (digraph_of_classic p t) e
 constrained p t e b =
     let same : b.k ≡ e.from = omega (arith, b.at) in
     subst (λ k. IfSome (slice_get (vertices_from 0 (frames_of t)) k) (λ v. v.deadline ≤ e.sep)) same b.due
@@ -246,7 +246,7 @@ within_256 (Cyclic name frames) n le = omega (arith, le)
 within_256 (Free name frames) n le = omega (arith, le)
 
 -- The digraph of a task keeps the limits of a task.
-digraph_is : (p : ℕ) (t : Classic) → 1 ≤ p → p ≤ 16 → IsClassic t → IsTask 1 (digraph_of p t)
+digraph_is : (p : ℕ) (t : Classic) → 1 ≤ p → p ≤ 16 → IsClassic t → IsTask 1 (digraph_of_classic p t)
 digraph_is p t low high is =
     let frames = frames_of t in
     let are : AllByRecursion IsFrame frames = recursion_from_All IsFrame frames is.frames in
@@ -261,10 +261,10 @@ digraph_is p t low high is =
       vertices = All-from_recursion IsVertex (vertices_from 0 frames) (are_vertices 0 frames (omega (arith, few)) are);
       distinct_names = pairs_all (λ u v. u.name ≢ v.name) (vertices_from 0 frames) (names_distinct 0 frames (omega (arith, few)));
       at_most_256_edges = (let edges = few_edges (frames_after t) (most_after t) (length frames) 0 frames after in let most = within_256 t (length frames) is.few_frames in omega (arith, edges, most));
-      edges = subst (λ n. All (IsEdgeAmong n) (edges_from (frames_after t) 0 frames)) (sym count)
-          (All-from_recursion (IsEdgeAmong (length frames)) (edges_from (frames_after t) 0 frames)
+      edges = subst (λ n. All (IsEdgeAmong n) (frame_edges (frames_after t) 0 frames)) (sym count)
+          (All-from_recursion (IsEdgeAmong (length frames)) (frame_edges (frames_after t) 0 frames)
           (edges_among (frames_after t) (most_after t) (length frames) 0 frames after (omega arith) are));
-      one_edge_each_way = pairs_all Apart (edges_from (frames_after t) 0 frames) (edges_apart (frames_after t) (most_after t) (length frames) 0 frames after);
+      one_edge_each_way = pairs_all Apart (frame_edges (frames_after t) 0 frames) (edges_apart (frames_after t) (most_after t) (length frames) 0 frames after);
     }
 
 digraphs_are : (p : ℕ) (ts : List Classic) → 1 ≤ p → p + length ts ≤ 17 → AllByRecursion IsClassic ts → AllByRecursion (IsTask 1) (tasks_from p ts)
@@ -276,8 +276,8 @@ digraphs_constrained : (p : ℕ) (ts : List Classic) → AllByRecursion IsClassi
 unfolding tasks_from
 digraphs_constrained p [] are = tt
 digraphs_constrained p (t ∷ ts) are = (
-  All-from_recursion (IsConstrainedEdge (digraph_of p t)) (edges_from (frames_after t) 0 (frames_of t))
-      (every_weaker (IsBehind (vertices_from 0 (frames_of t)) 0) (IsConstrainedEdge (digraph_of p t)) (constrained p t) (edges_from (frames_after t) 0 (frames_of t))
+  All-from_recursion (IsConstrainedEdge (digraph_of_classic p t)) (frame_edges (frames_after t) 0 (frames_of t))
+      (every_weaker (IsBehind (vertices_from 0 (frames_of t)) 0) (IsConstrainedEdge (digraph_of_classic p t)) (constrained p t) (frame_edges (frames_after t) 0 (frames_of t))
       (edges_behind (frames_after t) 0 (frames_of t) (recursion_from_All IsFrame (frames_of t) are.0.frames))),
   digraphs_constrained (p + 1) ts are.1,
 )

@@ -11,7 +11,7 @@ use Rattle.drt_file.specs.trusted.Line.{is_in_range}
 use Rattle.drt_file.specs.trusted.Words.{value}
 use Rattle.drt_classic.specs.declared.classic.Frame.{Frame}
 use Rattle.drt_classic.specs.declared.classic.Classic.{Classic}
-use Rattle.drt_classic.specs.Digraphs.{vertex_name, vertices_from, edges_from, digraph_of, tasks_from}
+use Rattle.drt_classic.specs.Digraphs.{frame_name, vertices_from, frame_edges, digraph_of_classic, tasks_from}
 
 range_from : (a n j : ℕ) → a + n ≡ j → range_with_len a (suc n) ≡ range_with_len a n ++ j ∷ []
 range_from a zero j e = let z : a ≡ j = omega (arith, e) in ap (λ k. k ∷ []) z
@@ -26,7 +26,7 @@ behind : {X : Type 0} (done : List X) (x : X) (rest all total : List X) → all 
 behind done x rest all total e so_far = append_assoc done (x ∷ []) rest ∙ ap (λ l. done ++ l) (sym e) ∙ so_far
 
 pub vertices_more : (done : List Vertex) (frames : List Frame) (i : ℕ) (f : Frame) (total : List Vertex) → i < length frames → done ++ vertices_from i (drop i frames) ≡ total
-    → (done ++ record { name = vertex_name i; wcet = (get_or frames i f).wcet; deadline = (get_or frames i f).deadline } ∷ []) ++ vertices_from (i + 1) (drop (i + 1) frames) ≡ total
+    → (done ++ record { name = frame_name i; wcet = (get_or frames i f).wcet; deadline = (get_or frames i f).deadline } ∷ []) ++ vertices_from (i + 1) (drop (i + 1) frames) ≡ total
 unfolding vertices_from
 vertices_more done frames i f total lt so_far =
     behind done _ (vertices_from (i + 1) (drop (i + 1) frames)) (vertices_from i (drop i frames)) total (at_drop_more (vertices_from i) frames i f lt) so_far
@@ -35,22 +35,22 @@ pub vertices_all : (done : List Vertex) (frames : List Frame) (i : ℕ) (total :
 unfolding vertices_from
 vertices_all done frames i total le so_far = sym (append-nil done) ∙ ap (λ l. done ++ l) (sym (at_drop_all (vertices_from i) frames i le)) ∙ so_far
 
-pub edges_more : (after : ℕ → List ℕ) (done : List Edge) (frames : List Frame) (i : ℕ) (f : Frame) (total : List Edge) → i < length frames → done ++ edges_from after i (drop i frames) ≡ total
-    → (done ++ map (λ j. record { from = i; to = j; sep = (get_or frames i f).sep }) (after i)) ++ edges_from after (i + 1) (drop (i + 1) frames) ≡ total
-unfolding edges_from
+pub edges_more : (after : ℕ → List ℕ) (done : List Edge) (frames : List Frame) (i : ℕ) (f : Frame) (total : List Edge) → i < length frames → done ++ frame_edges after i (drop i frames) ≡ total
+    → (done ++ map (λ j. record { from = i; to = j; sep = (get_or frames i f).sep }) (after i)) ++ frame_edges after (i + 1) (drop (i + 1) frames) ≡ total
+unfolding frame_edges
 edges_more after done frames i f total lt so_far =
-    append_assoc done (map (λ j. record { from = i; to = j; sep = (get_or frames i f).sep }) (after i)) (edges_from after (i + 1) (drop (i + 1) frames))
-    ∙ ap (λ l. done ++ l) (sym (at_drop_more (edges_from after i) frames i f lt)) ∙ so_far
+    append_assoc done (map (λ j. record { from = i; to = j; sep = (get_or frames i f).sep }) (after i)) (frame_edges after (i + 1) (drop (i + 1) frames))
+    ∙ ap (λ l. done ++ l) (sym (at_drop_more (frame_edges after i) frames i f lt)) ∙ so_far
 
-pub edges_all : (after : ℕ → List ℕ) (done : List Edge) (frames : List Frame) (i : ℕ) (total : List Edge) → length frames ≤ i → done ++ edges_from after i (drop i frames) ≡ total → done ≡ total
-unfolding edges_from
-edges_all after done frames i total le so_far = sym (append-nil done) ∙ ap (λ l. done ++ l) (sym (at_drop_all (edges_from after i) frames i le)) ∙ so_far
+pub edges_all : (after : ℕ → List ℕ) (done : List Edge) (frames : List Frame) (i : ℕ) (total : List Edge) → length frames ≤ i → done ++ frame_edges after i (drop i frames) ≡ total → done ≡ total
+unfolding frame_edges
+edges_all after done frames i total le so_far = sym (append-nil done) ∙ ap (λ l. done ++ l) (sym (at_drop_all (frame_edges after i) frames i le)) ∙ so_far
 
 pub tasks_more : (done : List Task) (ts : List Classic) (i : ℕ) (t : Classic) (total : List Task) → i < length ts → t ≡ get_or ts i t → done ++ tasks_from (i + 1) (drop i ts) ≡ total
-    → (done ++ digraph_of (i + 1) t ∷ []) ++ tasks_from (i + 1 + 1) (drop (i + 1) ts) ≡ total
+    → (done ++ digraph_of_classic (i + 1) t ∷ []) ++ tasks_from (i + 1 + 1) (drop (i + 1) ts) ≡ total
 unfolding tasks_from
 tasks_more done ts i t total lt is so_far =
-    behind done (digraph_of (i + 1) t) (tasks_from (i + 1 + 1) (drop (i + 1) ts)) (tasks_from (i + 1) (drop i ts)) total
+    behind done (digraph_of_classic (i + 1) t) (tasks_from (i + 1 + 1) (drop (i + 1) ts)) (tasks_from (i + 1) (drop i ts)) total
     (at_drop_more (tasks_from (i + 1)) ts i t lt ∙ ap (λ u. tasks_from (i + 1) (u ∷ drop (i + 1) ts)) (sym is)) so_far
 
 pub tasks_all : (done : List Task) (ts : List Classic) (i : ℕ) (total : List Task) → length ts ≤ i → done ++ tasks_from (i + 1) (drop i ts) ≡ total → done ≡ total

@@ -7,28 +7,28 @@ use Rattle.drt_classic.specs.declared.state.State.{State}
 use Rattle.drt_classic.specs.declared.fault.ClassicFault.{ClassicFault}
 use Rattle.drt_classic.specs.declared.fault.ClassicError.{ClassicError}
 use Rattle.drt_classic.specs.declared.fault.ClassicError.TheVariants as errors
-use Rattle.drt_classic.specs.ClassicFaults.{step, steps, has_no_frame, first_without_frame}
+use Rattle.drt_classic.specs.ClassicFaults.{classic_step, classic_steps, has_no_frame, first_without_frame}
 use Rattle.drt_classic.specs.Gives.{FailsClassic}
 
-pub line_read : (n : ℕ) (above below : Option State) (line rest others : List ℕ) (total : Result (ℕ × Option State) ClassicFault) → lines rest ≡ line ∷ lines others → step n above line ≡ Ok below
-    → steps n above (lines rest) ≡ total → steps (n + 1) below (lines others) ≡ total
-unfolding steps
+pub line_read : (n : ℕ) (above below : Option State) (line rest others : List ℕ) (total : Result (ℕ × Option State) ClassicFault) → lines rest ≡ line ∷ lines others → classic_step n above line ≡ Ok below
+    → classic_steps n above (lines rest) ≡ total → classic_steps (n + 1) below (lines others) ≡ total
+unfolding classic_steps
 line_read n above below line rest others total cut ok so_far =
-    let one : steps n above (lines rest) ≡ steps (n + 1) below (lines others) = rw (cut, ok) refl in
+    let one : classic_steps n above (lines rest) ≡ classic_steps (n + 1) below (lines others) = rw (cut, ok) refl in
     sym one ∙ so_far
 
 pub line_fails : (e : ClassicError) (n : ℕ) (above : Option State) (line rest others : List ℕ) (total : Result (ℕ × Option State) ClassicFault) → lines rest ≡ line ∷ lines others
-    → FailsClassic e (step n above line)
-    → steps n above (lines rest) ≡ total → FailsClassic e total
-unfolding steps
+    → FailsClassic e (classic_step n above line)
+    → classic_steps n above (lines rest) ≡ total → FailsClassic e total
+unfolding classic_steps
 line_fails errors.Memory n above line rest others total cut fails so_far = tt
 line_fails (errors.Fault f) n above line rest others total cut fails so_far =
-    let one : steps n above (lines rest) ≡ Err f = rw (cut, fails) refl in
+    let one : classic_steps n above (lines rest) ≡ Err f = rw (cut, fails) refl in
     sym so_far ∙ one
 
 pub no_line : (n : ℕ) (above : Option State) (rest : List ℕ) (total : Result (ℕ × Option State) ClassicFault) → length rest ≡ 0
-    → steps n above (lines rest) ≡ total → total ≡ Ok (n, above)
-unfolding steps lines_after with_run
+    → classic_steps n above (lines rest) ≡ total → total ≡ Ok (n, above)
+unfolding classic_steps lines_after with_run
 no_line n above [] total none so_far = sym so_far
 no_line n above (b ∷ bs) total none so_far = absurd (omega arith)
 

@@ -28,8 +28,8 @@ first_word [] = []
 first_word (word ∷ words) = word
 
 -- What the first field of a line says that it is: one of the six words, or another.
-unfoldable pub kind : List ℕ → Kind
-kind word =
+unfoldable pub classic_kind : List ℕ → Kind
+classic_kind word =
     if bytes_eq word sporadic_word then kinds.Sporadic
     else if bytes_eq word multiframe_word then kinds.Multiframe
     else if bytes_eq word gmf_word then kinds.Gmf
@@ -49,12 +49,12 @@ unfoldable pub in_last : (Draft → Bool) → State → Bool
 in_last test s = elim s.last [ None ↦ false | Some d ↦ test d ]
 
 -- A task of that name stands above.
-unfoldable pub has_task : List ℕ → State → Bool
-has_task name s = list_any (is_named name) s.closed || in_last (is_named name) s
+unfoldable pub has_classic_task : List ℕ → State → Bool
+has_classic_task name s = list_any (is_named name) s.closed || in_last (is_named name) s
 
 -- How many tasks stand above.
-unfoldable pub task_count : State → ℕ
-task_count s = elim s.last [ None ↦ length s.closed | Some d ↦ length s.closed + 1 ]
+unfoldable pub classic_task_count : State → ℕ
+classic_task_count s = elim s.last [ None ↦ length s.closed | Some d ↦ length s.closed + 1 ]
 
 -- The task is a `gmf` or `noncyclic`, which lines `frame` may follow.
 unfoldable pub is_open : Draft → Bool
@@ -72,12 +72,12 @@ first_of [] = None
 first_of (row ∷ rows) = if row.1 then Some row.0 else first_of rows
 
 -- 35: a time isn't a number.
-abbrev pub has_no_number : List (List ℕ) → Bool
-has_no_number times = not (list_all is_number times)
+abbrev pub classic_has_no_number : List (List ℕ) → Bool
+classic_has_no_number times = not (list_all is_number times)
 
 -- 36: a time is outside 1 to 1,000,000.
-abbrev pub is_out_of_range : List (List ℕ) → Bool
-is_out_of_range times = not (list_all is_in_range times)
+abbrev pub classic_is_out_of_range : List (List ℕ) → Bool
+classic_is_out_of_range times = not (list_all is_in_range times)
 
 -- 37: a name isn't as in a task file.
 abbrev pub is_no_name : List ℕ → Bool
@@ -89,15 +89,15 @@ is_past deadline sep = nat_lt (value sep) (value deadline)
 
 -- 41: a task below 16 others.
 abbrev pub are_full : State → Bool
-are_full s = nat_le 16 (task_count s)
+are_full s = nat_le 16 (classic_task_count s)
 
 -- The code of a line `sporadic NAME WCET DEADLINE PERIOD`; 34 where it hasn't five fields.
 unfoldable pub sporadic_fault : State → List (List ℕ) → Option ℕ
 sporadic_fault s (word ∷ name ∷ wcet ∷ deadline ∷ period ∷ []) = first_of (
-    (35, has_no_number (wcet ∷ deadline ∷ period ∷ []))
-    ∷ (36, is_out_of_range (wcet ∷ deadline ∷ period ∷ []))
+    (35, classic_has_no_number (wcet ∷ deadline ∷ period ∷ []))
+    ∷ (36, classic_is_out_of_range (wcet ∷ deadline ∷ period ∷ []))
     ∷ (37, is_no_name name)
-    ∷ (38, has_task name s)
+    ∷ (38, has_classic_task name s)
     ∷ (39, is_past deadline period)
     ∷ (41, are_full s)
     ∷ [])
@@ -106,10 +106,10 @@ sporadic_fault s words = Some 34
 -- The code of a line `multiframe NAME DEADLINE PERIOD WCET1 .. WCETK`; 34 where it has fewer than five fields, 42 where it has more than 48 frames.
 unfoldable pub multiframe_fault : State → List (List ℕ) → Option ℕ
 multiframe_fault s (word ∷ name ∷ deadline ∷ period ∷ wcet ∷ wcets) = first_of (
-    (35, has_no_number (deadline ∷ period ∷ wcet ∷ wcets))
-    ∷ (36, is_out_of_range (deadline ∷ period ∷ wcet ∷ wcets))
+    (35, classic_has_no_number (deadline ∷ period ∷ wcet ∷ wcets))
+    ∷ (36, classic_is_out_of_range (deadline ∷ period ∷ wcet ∷ wcets))
     ∷ (37, is_no_name name)
-    ∷ (38, has_task name s)
+    ∷ (38, has_classic_task name s)
     ∷ (39, is_past deadline period)
     ∷ (41, are_full s)
     ∷ (42, nat_lt 48 (length (wcet ∷ wcets)))
@@ -120,7 +120,7 @@ multiframe_fault s words = Some 34
 unfoldable pub open_fault : State → List (List ℕ) → Option ℕ
 open_fault s (word ∷ name ∷ []) = first_of (
     (37, is_no_name name)
-    ∷ (38, has_task name s)
+    ∷ (38, has_classic_task name s)
     ∷ (41, are_full s)
     ∷ [])
 open_fault s words = Some 34
@@ -129,8 +129,8 @@ open_fault s words = Some 34
 -- `noncyclic`, 42 where it has the most frames.
 unfoldable pub frame_fault : State → List (List ℕ) → Option ℕ
 frame_fault s (word ∷ wcet ∷ deadline ∷ sep ∷ []) = first_of (
-    (35, has_no_number (wcet ∷ deadline ∷ sep ∷ []))
-    ∷ (36, is_out_of_range (wcet ∷ deadline ∷ sep ∷ []))
+    (35, classic_has_no_number (wcet ∷ deadline ∷ sep ∷ []))
+    ∷ (36, classic_is_out_of_range (wcet ∷ deadline ∷ sep ∷ []))
     ∷ (39, is_past deadline sep)
     ∷ (40, not (in_last is_open s))
     ∷ (42, in_last is_full s)
@@ -138,42 +138,42 @@ frame_fault s (word ∷ wcet ∷ deadline ∷ sep ∷ []) = first_of (
 frame_fault s words = Some 34
 
 -- The code of a line `end`; 34 where it hasn't one field.
-unfoldable pub end_fault : List (List ℕ) → Option ℕ
-end_fault (word ∷ []) = None
-end_fault words = Some 34
+unfoldable pub classic_end_fault : List (List ℕ) → Option ℕ
+classic_end_fault (word ∷ []) = None
+classic_end_fault words = Some 34
 
 -- The code of a line of each kind; 33 where the first field is none of the six words.
-unfoldable pub kind_fault : Kind → State → List (List ℕ) → Option ℕ
-kind_fault kinds.Sporadic s words = sporadic_fault s words
-kind_fault kinds.Multiframe s words = multiframe_fault s words
-kind_fault kinds.Gmf s words = open_fault s words
-kind_fault kinds.Noncyclic s words = open_fault s words
-kind_fault kinds.Frame s words = frame_fault s words
-kind_fault kinds.End s words = end_fault words
-kind_fault kinds.Other s words = Some 33
+unfoldable pub classic_kind_fault : Kind → State → List (List ℕ) → Option ℕ
+classic_kind_fault kinds.Sporadic s words = sporadic_fault s words
+classic_kind_fault kinds.Multiframe s words = multiframe_fault s words
+classic_kind_fault kinds.Gmf s words = open_fault s words
+classic_kind_fault kinds.Noncyclic s words = open_fault s words
+classic_kind_fault kinds.Frame s words = frame_fault s words
+classic_kind_fault kinds.End s words = classic_end_fault words
+classic_kind_fault kinds.Other s words = Some 33
 
 -- The code of a line that isn't skipped and isn't the first such: 32 where a byte is neither a blank nor printable ASCII, 46 after `end`.
 unfoldable pub fault_of_line : State → List ℕ → List (List ℕ) → Option ℕ
 fault_of_line s line words =
     if not (list_all is_text line) then Some 32
     else if s.ended then Some 46
-    else kind_fault (kind (first_word words)) s words
+    else classic_kind_fault (classic_kind (first_word words)) s words
 
 -- What a line says that has no fault.
 
 -- What a line of each kind says. A `gmf` and a `noncyclic` have no frame yet.
-unfoldable pub said_by : Kind → List (List ℕ) → Line
-said_by kinds.Sporadic (word ∷ name ∷ wcet ∷ deadline ∷ period ∷ rest) = saying.Task (Sporadic name (record { wcet = value wcet; deadline = value deadline; sep = value period }))
-said_by kinds.Multiframe (word ∷ name ∷ deadline ∷ period ∷ wcets) = saying.Task (Multiframe name (value deadline) (value period) (map value wcets))
-said_by kinds.Gmf (word ∷ name ∷ rest) = saying.Task (Cyclic name [])
-said_by kinds.Noncyclic (word ∷ name ∷ rest) = saying.Task (Free name [])
-said_by kinds.Frame (word ∷ wcet ∷ deadline ∷ sep ∷ rest) = saying.Frame (record { wcet = value wcet; deadline = value deadline; sep = value sep })
-said_by k words = saying.End
+unfoldable pub classic_said_by : Kind → List (List ℕ) → Line
+classic_said_by kinds.Sporadic (word ∷ name ∷ wcet ∷ deadline ∷ period ∷ rest) = saying.Task (Sporadic name (record { wcet = value wcet; deadline = value deadline; sep = value period }))
+classic_said_by kinds.Multiframe (word ∷ name ∷ deadline ∷ period ∷ wcets) = saying.Task (Multiframe name (value deadline) (value period) (map value wcets))
+classic_said_by kinds.Gmf (word ∷ name ∷ rest) = saying.Task (Cyclic name [])
+classic_said_by kinds.Noncyclic (word ∷ name ∷ rest) = saying.Task (Free name [])
+classic_said_by kinds.Frame (word ∷ wcet ∷ deadline ∷ sep ∷ rest) = saying.Frame (record { wcet = value wcet; deadline = value deadline; sep = value sep })
+classic_said_by k words = saying.End
 
 -- The tasks above a line: those that are done, and the last one, if any.
-unfoldable pub with_last : List Draft → Option Draft → List Draft
-with_last ds None = ds
-with_last ds (Some d) = ds ++ d ∷ []
+unfoldable pub with_last_classic : List Draft → Option Draft → List Draft
+with_last_classic ds None = ds
+with_last_classic ds (Some d) = ds ++ d ∷ []
 
 -- The task with this frame behind its others. Only a `gmf` and a `noncyclic` have such lines.
 unfoldable pub with_frame : Frame → Classic → Classic
@@ -187,10 +187,10 @@ unfoldable pub add_frame : Frame → Draft → Draft
 add_frame f d = record { line = d.line; task = with_frame f d.task }
 
 -- What line n leaves that says this, below what the lines above leave.
-unfoldable pub after_line : ℕ → State → Line → State
-after_line n s (saying.Task t) = record { closed = with_last s.closed s.last; last = Some (record { line = n; task = t }); ended = s.ended }
-after_line n s (saying.Frame f) = record { closed = s.closed; last = option_map (add_frame f) s.last; ended = s.ended }
-after_line n s saying.End = record { closed = s.closed; last = s.last; ended = true }
+unfoldable pub after_classic_line : ℕ → State → Line → State
+after_classic_line n s (saying.Task t) = record { closed = with_last_classic s.closed s.last; last = Some (record { line = n; task = t }); ended = s.ended }
+after_classic_line n s (saying.Frame f) = record { closed = s.closed; last = option_map (add_frame f) s.last; ended = s.ended }
+after_classic_line n s saying.End = record { closed = s.closed; last = s.last; ended = true }
 
 -- Reading line by line, down to the first fault.
 
@@ -206,8 +206,8 @@ unless n None x = Ok x
 unless n (Some code) x = Err (record { line = n; code = code })
 
 -- Below the first line, which is `drt-classic 1`, nothing is known.
-abbrev pub opening : State
-opening = record { closed = []; last = None; ended = false }
+abbrev pub classic_opening : State
+classic_opening = record { closed = []; last = None; ended = false }
 
 -- The first line that isn't skipped is `drt-classic 1`.
 unfoldable pub is_head : List (List ℕ) → Bool
@@ -215,18 +215,18 @@ is_head (word ∷ version ∷ []) = bytes_eq word classic_word && bytes_eq versi
 is_head words = false
 
 -- Line n, which isn't skipped, below what the lines above leave: nothing above the first such, on which only 31 is tried.
-unfoldable pub line_step : ℕ → Option State → List ℕ → List (List ℕ) → Result (Option State) ClassicFault
-line_step n None line words = unless n (if is_head words then None else Some 31) (Some opening)
-line_step n (Some s) line words = unless n (fault_of_line s line words) (Some (after_line n s (said_by (kind (first_word words)) words)))
+unfoldable pub classic_line_step : ℕ → Option State → List ℕ → List (List ℕ) → Result (Option State) ClassicFault
+classic_line_step n None line words = unless n (if is_head words then None else Some 31) (Some classic_opening)
+classic_line_step n (Some s) line words = unless n (fault_of_line s line words) (Some (after_classic_line n s (classic_said_by (classic_kind (first_word words)) words)))
 
 -- Line n, below what the lines above leave. A skipped line changes nothing.
-unfoldable pub step : ℕ → Option State → List ℕ → Result (Option State) ClassicFault
-step n above line = if is_skipped (fields line) then Ok above else line_step n above line (fields line)
+unfoldable pub classic_step : ℕ → Option State → List ℕ → Result (Option State) ClassicFault
+classic_step n above line = if is_skipped (fields line) then Ok above else classic_line_step n above line (fields line)
 
 -- Lines from number n on: the number behind the last, and what they leave.
-unfoldable pub steps : ℕ → Option State → List (List ℕ) → Result (ℕ × Option State) ClassicFault
-steps n above [] = Ok (n, above)
-steps n above (line ∷ others) = step n above line >>= λ below. steps (n + 1) below others
+unfoldable pub classic_steps : ℕ → Option State → List (List ℕ) → Result (ℕ × Option State) ClassicFault
+classic_steps n above [] = Ok (n, above)
+classic_steps n above (line ∷ others) = classic_step n above line >>= λ below. classic_steps (n + 1) below others
 
 -- The task has no frame.
 unfoldable pub has_no_frame : Draft → Bool
@@ -238,27 +238,27 @@ first_without_frame [] = None
 first_without_frame (d ∷ ds) = if has_no_frame d then Some d.line else first_without_frame ds
 
 -- The task of a draft.
-abbrev pub task_of : Draft → Classic
-task_of d = d.task
+abbrev pub task_of_draft : Draft → Classic
+task_of_draft d = d.task
 
 -- Behind the last line, whose number is n - 1: 43 where there is no task, 44 where one has no frame, 45 where there is no `end`, and else the tasks.
-unfoldable pub closing : ℕ → List Draft → Bool → Result (List Classic) ClassicFault
-closing n ds ended =
+unfoldable pub classic_closing : ℕ → List Draft → Bool → Result (List Classic) ClassicFault
+classic_closing n ds ended =
     if length ds == 0 then Err (record { line = n; code = 43 })
     else elim (first_without_frame ds) [
       | Some line ↦ Err (record { line = line; code = 44 })
-      | None ↦ if ended then Ok (map task_of ds) else Err (record { line = n; code = 45 })
+      | None ↦ if ended then Ok (map task_of_draft ds) else Err (record { line = n; code = 45 })
     ]
 
 -- The tasks that the lines say, or the fault of the text as a whole: 31 where no line is left.
-unfoldable pub finish : ℕ → Option State → Result (List Classic) ClassicFault
-finish n None = Err (record { line = n; code = 31 })
-finish n (Some s) = closing n (with_last s.closed s.last) s.ended
+unfoldable pub classic_finish : ℕ → Option State → Result (List Classic) ClassicFault
+classic_finish n None = Err (record { line = n; code = 31 })
+classic_finish n (Some s) = classic_closing n (with_last_classic s.closed s.last) s.ended
 
 -- The tasks that a text says, or its fault.
-unfoldable pub read_text : List ℕ → Result (List Classic) ClassicFault
-read_text text = steps 1 None (lines text) >>= λ x. finish x.0 x.1
+unfoldable pub read_classic_text : List ℕ → Result (List Classic) ClassicFault
+read_classic_text text = classic_steps 1 None (lines text) >>= λ x. classic_finish x.0 x.1
 
 -- The line and the code of a text's fault, if it has one.
-unfoldable pub fault_of : List ℕ → Option (ℕ × ℕ)
-fault_of text = elim (read_text text) [ Ok tasks ↦ None | Err f ↦ Some (f.line, f.code) ]
+unfoldable pub classic_fault_of : List ℕ → Option (ℕ × ℕ)
+classic_fault_of text = elim (read_classic_text text) [ Ok tasks ↦ None | Err f ↦ Some (f.line, f.code) ]

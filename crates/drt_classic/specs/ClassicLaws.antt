@@ -8,7 +8,7 @@ use Rattle.drt_classic.specs.declared.classic.Classic.{Classic}
 use Rattle.drt_classic.specs.ClassicLimits.{IsClassicSet}
 use Rattle.drt_classic.specs.ClassicLegal.{IsClassicList}
 use Rattle.drt_classic.specs.Digraphs.{digraphs_of}
-use Rattle.drt_classic.specs.ClassicFaults.{fault_of}
+use Rattle.drt_classic.specs.ClassicFaults.{classic_fault_of}
 use Rattle.drt_classic.specs.ClassicReading.{ReadsClassic}
 
 -- A list of releases is legal for the digraphs of a classic set exactly where it is a classic list of that set.
@@ -21,7 +21,7 @@ DigraphsKeepLimits = (tasks : List Classic) → IsClassicSet tasks → IsTaskSet
 
 -- A text has no fault exactly where it reads as some classic set.
 abbrev pub FaultlessClassicTextsRead : Type 0
-FaultlessClassicTextsRead = (bytes : List ℕ) → fault_of bytes ≡ None ↔ ((tasks : List Classic) × ReadsClassic bytes tasks)
+FaultlessClassicTextsRead = (bytes : List ℕ) → classic_fault_of bytes ≡ None ↔ ((tasks : List Classic) × ReadsClassic bytes tasks)
 
 -- A text reads as one classic set at most.
 abbrev pub ClassicTextsReadAsOneSet : Type 0

@@ -12,18 +12,18 @@ use Rattle.drt_classic.specs.declared.fault.ClassicError.{ClassicError}
 use Rattle.drt_classic.specs.declared.fault.ClassicError.TheVariants as errors
 use Rattle.drt_classic.specs.ClassicLimits.{IsClassicSet}
 use Rattle.drt_classic.specs.ClassicWords.{head_line, sporadic_word, multiframe_word, gmf_word, noncyclic_word, frame_word, end_word}
-use Rattle.drt_classic.specs.ClassicFaults.{fault_of}
+use Rattle.drt_classic.specs.ClassicFaults.{classic_fault_of}
 
 -- The lines of a task: its own line, and for a `gmf` or `noncyclic`, whose own line says no frame, a line for each frame.
-abbrev pub lines_of_task : Classic → List Line
-lines_of_task (Sporadic name frame) = saying.Task (Sporadic name frame) ∷ []
-lines_of_task (Multiframe name deadline period wcets) = saying.Task (Multiframe name deadline period wcets) ∷ []
-lines_of_task (Cyclic name frames) = saying.Task (Cyclic name []) ∷ map saying.Frame frames
-lines_of_task (Free name frames) = saying.Task (Free name []) ∷ map saying.Frame frames
+abbrev pub lines_of_classic : Classic → List Line
+lines_of_classic (Sporadic name frame) = saying.Task (Sporadic name frame) ∷ []
+lines_of_classic (Multiframe name deadline period wcets) = saying.Task (Multiframe name deadline period wcets) ∷ []
+lines_of_classic (Cyclic name frames) = saying.Task (Cyclic name []) ∷ map saying.Frame frames
+lines_of_classic (Free name frames) = saying.Task (Free name []) ∷ map saying.Frame frames
 
 -- The lines of tasks, in order, and `end`.
 abbrev pub lines_of : List Classic → List Line
-lines_of tasks = flat_map lines_of_task tasks ++ saying.End ∷ []
+lines_of tasks = flat_map lines_of_classic tasks ++ saying.End ∷ []
 
 -- Three fields mean the times of a frame.
 abbrev pub MeanFrame : List ℕ → List ℕ → List ℕ → Frame → Type 0
@@ -74,7 +74,7 @@ pub record ReadsClassic (bytes : List ℕ) (tasks : List Classic) : Type 0 where
 
 -- A text has this fault: it is the one that the tables of codes give (ClassicFaults.antt), and the text reads as no set.
 pub record HasClassicFault (bytes : List ℕ) (line code : ℕ) : Type 0 where
-  pub first : fault_of bytes ≡ Some (line, code)
+  pub first : classic_fault_of bytes ≡ Some (line, code)
   pub reads_as_none : (tasks : List Classic) → ¬ ReadsClassic bytes tasks
 
 -- Why a text isn't read: it has that fault, or memory ran out.

@@ -12,13 +12,13 @@ use Rattle.drt_classic.specs.Classics.{name_of, frames_of}
 use Rattle.drt_classic.specs.ClassicLegal.{next_frame}
 
 -- The vertex of frame i is named `f` and its number.
-abbrev pub vertex_name : ℕ → List ℕ
-vertex_name i = 102 ∷ decimal i
+abbrev pub frame_name : ℕ → List ℕ
+frame_name i = 102 ∷ decimal i
 
 -- A vertex for each of these frames, of which the first has number i.
 unfoldable pub vertices_from : ℕ → List Frame → List Vertex
 vertices_from i [] = []
-vertices_from i (f ∷ frames) = record { name = vertex_name i; wcet = f.wcet; deadline = f.deadline } ∷ vertices_from (i + 1) frames
+vertices_from i (f ∷ frames) = record { name = frame_name i; wcet = f.wcet; deadline = f.deadline } ∷ vertices_from (i + 1) frames
 
 -- The frames that may come after frame i, in order: any frame of a free task, and of each other the next one round.
 abbrev pub frames_after : Classic → ℕ → List ℕ
@@ -28,23 +28,23 @@ frames_after (Cyclic name frames) i = next_frame (length frames) i ∷ []
 frames_after (Free name frames) i = range_with_len 0 (length frames)
 
 -- The edges out of these frames, of which the first has number i, in order of sources and then of targets. The separation is that of the source.
-unfoldable pub edges_from : (ℕ → List ℕ) → ℕ → List Frame → List Edge
-edges_from after i [] = []
-edges_from after i (f ∷ frames) = map (λ j. record { from = i; to = j; sep = f.sep }) (after i) ++ edges_from after (i + 1) frames
+unfoldable pub frame_edges : (ℕ → List ℕ) → ℕ → List Frame → List Edge
+frame_edges after i [] = []
+frame_edges after i (f ∷ frames) = map (λ j. record { from = i; to = j; sep = f.sep }) (after i) ++ frame_edges after (i + 1) frames
 
 -- The digraph of a task. It has this priority.
-abbrev pub digraph_of : ℕ → Classic → Task
-digraph_of priority t = record {
+abbrev pub digraph_of_classic : ℕ → Classic → Task
+digraph_of_classic priority t = record {
   name = name_of t;
   priority = priority;
   vertices = vertices_from 0 (frames_of t);
-  edges = edges_from (frames_after t) 0 (frames_of t);
+  edges = frame_edges (frames_after t) 0 (frames_of t);
 }
 
 -- The digraphs of tasks, in order, with the priorities from this one on.
 unfoldable pub tasks_from : ℕ → List Classic → List Task
 tasks_from priority [] = []
-tasks_from priority (t ∷ ts) = digraph_of priority t ∷ tasks_from (priority + 1) ts
+tasks_from priority (t ∷ ts) = digraph_of_classic priority t ∷ tasks_from (priority + 1) ts
 
 -- The digraphs of a classic set are a set of version 1.
 abbrev pub digraphs_of : List Classic → Contents

@@ -5,7 +5,7 @@ ghost use Rattle.drt_classic.specs.ClassicLimits.{IsClassicSet};
 ghost use Rattle.drt_classic.specs.ClassicLegal.{next_frame};
 ghost use Rattle.drt_classic.specs.Classics.{frames_of, frames_of_period, name_of};
 ghost use Rattle.std.specs.List.{range_with_len};
-ghost use Rattle.drt_classic.specs.Digraphs.{digraph_of, digraphs_of, edges_from, frames_after, tasks_from, vertex_name, vertices_from};
+ghost use Rattle.drt_classic.specs.Digraphs.{digraph_of_classic, digraphs_of, frame_edges, frames_after, tasks_from, frame_name, vertices_from};
 
 use crate::classic::{Classic, ClassicSet, Frame, name_of};
 use drt_model::{Edge, Memory, Name, Row, Task, TaskSet, Vertex};
@@ -37,7 +37,7 @@ fn tasks_of(alloc: Global, tasks: &[Classic]) -> Result<Row<Task>, Memory>
 // The digraph of a task, with this priority.
 fn digraph_of(alloc: Global, priority: u32, task: &Classic) -> Result<Task, Memory>
     requires { length (frames_of task.now) ≤ 48 }
-    ensures { IfOk result (λ digraph. digraph ≡ digraph_of priority task.now) }
+    ensures { IfOk result (λ digraph. digraph ≡ digraph_of_classic priority task.now) }
 {
     let frames = frames_of(alloc, task)?;
     digraph_from(alloc, priority, task, frames.as_slice())
@@ -52,7 +52,7 @@ fn digraph_from(
 ) -> Result<Task, Memory>
     requires few { length frames.now ≤ 48 }
     requires own { frames.now ≡ frames_of task.now }
-    ensures { IfOk result (λ digraph. digraph ≡ digraph_of priority task.now) }
+    ensures { IfOk result (λ digraph. digraph ≡ digraph_of_classic priority task.now) }
 {
     let name = copy_name(alloc, task)?;
     let (vertices, edges) = graph_of(alloc, task, frames)?;
@@ -73,7 +73,7 @@ fn graph_of(
     requires few { length frames.now ≤ 48 }
     requires own { frames.now ≡ frames_of task.now }
     ensures vertices { IfOk result (λ both. both.0 ≡ vertices_from 0 frames.now) }
-    ensures edges { IfOk result (λ both. both.1 ≡ edges_from (frames_after task.now) 0 frames.now) }
+    ensures edges { IfOk result (λ both. both.1 ≡ frame_edges (frames_after task.now) 0 frames.now) }
 {
     let vertices = vertices_of(alloc, frames)?;
     Ok((vertices, edges_of(alloc, task, frames)?))
@@ -126,7 +126,7 @@ fn frames_of_period(
 
 // The name of the vertex of a frame.
 fn vertex_name(alloc: Global, number: u32) -> Result<Name, Memory>
-    ensures { IfOk result (λ name. name ≡ vertex_name number) }
+    ensures { IfOk result (λ name. name ≡ frame_name number) }
 {
     let mut digits = Buffer::new();
     let mut name = Vec::from_slice(alloc, b"f")?;
@@ -154,7 +154,7 @@ fn vertices_of(alloc: Global, frames: &[Frame]) -> Result<Row<Vertex>, Memory>
 fn edges_of(alloc: Global, task: &Classic, frames: &[Frame]) -> Result<Row<Edge>, Memory>
     requires few { length frames.now ≤ 48 }
     requires own { frames.now ≡ frames_of task.now }
-    ensures { IfOk result (λ edges. edges ≡ edges_from (frames_after task.now) 0 frames.now) }
+    ensures { IfOk result (λ edges. edges ≡ frame_edges (frames_after task.now) 0 frames.now) }
 {
     let mut edges = Vec::new(alloc);
     for (i, frame) in frames.iter().enumerate() {

@@ -1,6 +1,6 @@
 //! What a line without a fault adds to what the lines above leave.
 ghost use Rattle.std.specs.Prelude.{◌≡◌, Some, true, IfOk, option_map};
-ghost use Rattle.drt_classic.specs.ClassicFaults.{add_frame, after_line, opening, with_frame, with_last};
+ghost use Rattle.drt_classic.specs.ClassicFaults.{add_frame, after_classic_line, classic_opening, with_frame, with_last_classic};
 
 use crate::classic::{Classic, Frame};
 use crate::state::{Draft, Line, State, pushed};
@@ -9,7 +9,7 @@ use std::alloc::Global;
 
 /// The state below the first line.
 pub fn open(alloc: Global) -> State
-    ensures { result ≡ opening }
+    ensures { result ≡ classic_opening }
 {
     State {
         closed: Row::from_vec(Vec::new(alloc)),
@@ -21,7 +21,7 @@ pub fn open(alloc: Global) -> State
 /// The tasks that are done, with the last one behind them.
 #[tactic(auto, unfolding(crate::specs::ClassicFaults::with_last))]
 pub fn close(closed: Row<Draft>, last: Option<Draft>) -> Result<Row<Draft>, Memory>
-    ensures { IfOk result (λ ds. ds ≡ with_last closed last) }
+    ensures { IfOk result (λ ds. ds ≡ with_last_classic closed last) }
 {
     match last {
         Some(draft) => pushed(closed, draft),
@@ -62,7 +62,7 @@ fn frame_added(frame: Frame, last: Option<Draft>) -> Result<Option<Draft>, Memor
 
 // The state with this task behind the others, of a line with this number.
 fn after_task(n: u32, s: State, task: Classic) -> Result<State, Memory>
-    ensures { IfOk result (λ t. t ≡ record { closed = with_last s.closed s.last; last = Some (record { line = n; task = task }); ended = s.ended }) }
+    ensures { IfOk result (λ t. t ≡ record { closed = with_last_classic s.closed s.last; last = Some (record { line = n; task = task }); ended = s.ended }) }
 {
     let State {
         closed,
@@ -120,7 +120,7 @@ fn after_end(s: State) -> State
 /// The state below a line that says this.
 #[tactic(auto, unfolding(crate::specs::ClassicFaults::after_line))]
 pub fn after(n: u32, s: State, line: Line) -> Result<State, Memory>
-    ensures { IfOk result (λ t. t ≡ after_line n s line) }
+    ensures { IfOk result (λ t. t ≡ after_classic_line n s line) }
 {
     match line {
         Line::Task(task) => after_task(n, s, task),

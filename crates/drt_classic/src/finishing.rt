@@ -1,7 +1,7 @@
 //! The end of a classic file: the tasks that its lines say, or the fault of the text as a whole.
 ghost use Rattle.std.specs.Prelude.{◌≡◌, map, IfOk};
 ghost use Rattle.drt_classic.specs.declared.fault.ClassicError.TheVariants.{Fault};
-ghost use Rattle.drt_classic.specs.ClassicFaults.{closing, finish, first_without_frame, has_no_frame, task_of};
+ghost use Rattle.drt_classic.specs.ClassicFaults.{classic_closing, classic_finish, first_without_frame, has_no_frame, task_of_draft};
 ghost use Rattle.drt_classic.specs.Gives.{GivesClassic};
 
 use crate::classic::Classic;
@@ -43,7 +43,7 @@ fn fault_at(line: u32, code: u8) -> ClassicError
 }
 
 fn tasks_of(alloc: Global, drafts: Row<Draft>) -> Result<Row<Classic>, Memory>
-    ensures { IfOk result (λ tasks. tasks ≡ map task_of drafts) }
+    ensures { IfOk result (λ tasks. tasks ≡ map task_of_draft drafts) }
 {
     let mut tasks = Vec::new(alloc);
     for draft in drafts.into_vec() {
@@ -61,7 +61,7 @@ fn closing(
     drafts: Row<Draft>,
     ended: bool,
 ) -> Result<Row<Classic>, ClassicError>
-    ensures { GivesClassic result (closing n drafts ended) }
+    ensures { GivesClassic result (classic_closing n drafts ended) }
 {
     if drafts.as_slice().is_empty() {
         return Err(fault_at(n, NO_TASK));
@@ -80,7 +80,7 @@ fn closing(
 /// The tasks that a text says, from what its lines leave; n is the number behind its last line.
 #[tactic(auto, unfolding(crate::specs::ClassicFaults::finish))]
 pub fn finish(alloc: Global, n: u32, above: Option<State>) -> Result<Row<Classic>, ClassicError>
-    ensures { GivesClassic result (finish n above) }
+    ensures { GivesClassic result (classic_finish n above) }
 {
     match above {
         None => Err(fault_at(n, NO_HEAD)),

@@ -8,21 +8,21 @@ ghost use Rattle.drt_classic.specs.declared.state.Kind.TheVariants as kinds;
 ghost use Rattle.drt_classic.specs.Gives.{GivesClassic, second_word};
 ghost use Rattle.drt_classic.specs.ClassicFaults.{
   fault_of_line,
-  end_fault,
+  classic_end_fault,
   first_word,
   frame_fault,
-  has_task,
+  has_classic_task,
   is_full,
   is_named,
   is_open,
   is_past,
-  kind,
-  kind_fault,
+  classic_kind,
+  classic_kind_fault,
   multiframe_fault,
   open_fault,
-  said_by,
+  classic_said_by,
   sporadic_fault,
-  task_count,
+  classic_task_count,
   unless,
 };
 
@@ -62,7 +62,7 @@ fn any_named(name: &[u8], drafts: &[Draft]) -> bool
 // Whether a task of that name stands above.
 #[tactic(auto, unfolding(crate::specs::ClassicFaults::has_task, crate::specs::ClassicFaults::in_last))]
 fn has_task(name: &[u8], s: &State) -> bool
-    ensures { result ≡ has_task name.now s.now }
+    ensures { result ≡ has_classic_task name.now s.now }
 {
     if any_named(name, s.closed.as_slice()) {
         return true;
@@ -76,7 +76,7 @@ fn has_task(name: &[u8], s: &State) -> bool
 // Whether 16 tasks stand above.
 #[tactic(auto, unfolding(crate::specs::ClassicFaults::task_count))]
 fn full(s: &State) -> bool
-    ensures { result ≡ nat_le 16 (task_count s.now) }
+    ensures { result ≡ nat_le 16 (classic_task_count s.now) }
 {
     match &s.last {
         Some(_) => 15 <= s.closed.as_slice().len(),
@@ -140,7 +140,7 @@ fn sporadic_fault(s: &State, name: &[u8], wcet: &[u8], deadline: &[u8], period: 
 // A `sporadic` line.
 #[tactic(auto, unfolding(crate::specs::ClassicFaults::sporadic_fault, crate::specs::ClassicFaults::unless, crate::specs::ClassicFaults::said_by))]
 fn sporadic_line(alloc: Global, n: u32, s: &State, words: &[&[u8]]) -> Result<Line, ClassicError>
-    ensures { GivesClassic result (unless n (sporadic_fault s.now (map (λ w. w.now) words.now)) (said_by kinds.Sporadic (map (λ w. w.now) words.now))) }
+    ensures { GivesClassic result (unless n (sporadic_fault s.now (map (λ w. w.now) words.now)) (classic_said_by kinds.Sporadic (map (λ w. w.now) words.now))) }
 {
     match words {
         [_, name, wcet, deadline, period] => match sporadic_fault(s, name, wcet, deadline, period) {
@@ -191,7 +191,7 @@ fn multiframe_from(
     wcets: &[&[u8]],
 ) -> Result<Line, Memory>
     requires { IsTrue (list_all is_in_range (deadline.now ∷ period.now ∷ map (λ w. w.now) wcets.now)) }
-    ensures { IfOk result (λ line. line ≡ said_by kinds.Multiframe ([] ∷ name.now ∷ deadline.now ∷ period.now ∷ map (λ w. w.now) wcets.now)) }
+    ensures { IfOk result (λ line. line ≡ classic_said_by kinds.Multiframe ([] ∷ name.now ∷ deadline.now ∷ period.now ∷ map (λ w. w.now) wcets.now)) }
 {
     let name = name_from(alloc, name)?;
     let wcets = times_from(alloc, wcets)?;
@@ -253,7 +253,7 @@ fn multiframe_fault(
 // A `multiframe` line.
 #[tactic(auto, unfolding(crate::specs::ClassicFaults::multiframe_fault, crate::specs::ClassicFaults::unless, crate::specs::ClassicFaults::said_by))]
 fn multiframe_line(alloc: Global, n: u32, s: &State, words: &[&[u8]]) -> Result<Line, ClassicError>
-    ensures { GivesClassic result (unless n (multiframe_fault s.now (map (λ w. w.now) words.now)) (said_by kinds.Multiframe (map (λ w. w.now) words.now))) }
+    ensures { GivesClassic result (unless n (multiframe_fault s.now (map (λ w. w.now) words.now)) (classic_said_by kinds.Multiframe (map (λ w. w.now) words.now))) }
 {
     match words {
         [_, name, deadline, period, wcets @ ..] => {
@@ -300,7 +300,7 @@ fn open_name(alloc: Global, n: u32, s: &State, words: &[&[u8]]) -> Result<Name, 
 // A `gmf` line.
 #[tactic(auto, unfolding(crate::specs::ClassicFaults::open_fault, crate::specs::ClassicFaults::unless, crate::specs::ClassicFaults::said_by))]
 fn gmf_line(alloc: Global, n: u32, s: &State, words: &[&[u8]]) -> Result<Line, ClassicError>
-    ensures { GivesClassic result (unless n (open_fault s.now (map (λ w. w.now) words.now)) (said_by kinds.Gmf (map (λ w. w.now) words.now))) }
+    ensures { GivesClassic result (unless n (open_fault s.now (map (λ w. w.now) words.now)) (classic_said_by kinds.Gmf (map (λ w. w.now) words.now))) }
 {
     let name = open_name(alloc, n, s, words)?;
     Ok(Line::Task(Classic::Cyclic {
@@ -312,7 +312,7 @@ fn gmf_line(alloc: Global, n: u32, s: &State, words: &[&[u8]]) -> Result<Line, C
 // A `noncyclic` line.
 #[tactic(auto, unfolding(crate::specs::ClassicFaults::open_fault, crate::specs::ClassicFaults::unless, crate::specs::ClassicFaults::said_by))]
 fn noncyclic_line(alloc: Global, n: u32, s: &State, words: &[&[u8]]) -> Result<Line, ClassicError>
-    ensures { GivesClassic result (unless n (open_fault s.now (map (λ w. w.now) words.now)) (said_by kinds.Noncyclic (map (λ w. w.now) words.now))) }
+    ensures { GivesClassic result (unless n (open_fault s.now (map (λ w. w.now) words.now)) (classic_said_by kinds.Noncyclic (map (λ w. w.now) words.now))) }
 {
     let name = open_name(alloc, n, s, words)?;
     Ok(Line::Task(Classic::Free {
@@ -371,7 +371,7 @@ fn frame_fault(s: &State, wcet: &[u8], deadline: &[u8], sep: &[u8]) -> Option<u8
 // A `frame` line.
 #[tactic(auto, unfolding(crate::specs::ClassicFaults::frame_fault, crate::specs::ClassicFaults::unless, crate::specs::ClassicFaults::said_by))]
 fn frame_line(n: u32, s: &State, words: &[&[u8]]) -> Result<Line, ClassicError>
-    ensures { GivesClassic result (unless n (frame_fault s.now (map (λ w. w.now) words.now)) (said_by kinds.Frame (map (λ w. w.now) words.now))) }
+    ensures { GivesClassic result (unless n (frame_fault s.now (map (λ w. w.now) words.now)) (classic_said_by kinds.Frame (map (λ w. w.now) words.now))) }
 {
     match words {
         [_, wcet, deadline, sep] => match frame_fault(s, wcet, deadline, sep) {
@@ -385,7 +385,7 @@ fn frame_line(n: u32, s: &State, words: &[&[u8]]) -> Result<Line, ClassicError>
 // An `end` line.
 #[tactic(auto, unfolding(crate::specs::ClassicFaults::end_fault, crate::specs::ClassicFaults::unless, crate::specs::ClassicFaults::said_by))]
 fn end_line(n: u32, words: &[&[u8]]) -> Result<Line, ClassicError>
-    ensures { GivesClassic result (unless n (end_fault (map (λ w. w.now) words.now)) (said_by kinds.End (map (λ w. w.now) words.now))) }
+    ensures { GivesClassic result (unless n (classic_end_fault (map (λ w. w.now) words.now)) (classic_said_by kinds.End (map (λ w. w.now) words.now))) }
 {
     match words {
         [_] => Ok(Line::End),
@@ -401,7 +401,7 @@ fn line_of_kind(
     s: &State,
     words: &[&[u8]],
 ) -> Result<Line, ClassicError>
-    ensures { GivesClassic result (unless n (kind_fault kind s.now (map (λ w. w.now) words.now)) (said_by kind (map (λ w. w.now) words.now))) }
+    ensures { GivesClassic result (unless n (classic_kind_fault classic_kind s.now (map (λ w. w.now) words.now)) (classic_said_by classic_kind (map (λ w. w.now) words.now))) }
 {
     match kind {
         Kind::Sporadic => sporadic_line(alloc, n, s, words),
@@ -424,7 +424,7 @@ pub fn parse_line(
     words: &[&[u8]],
 ) -> Result<Line, ClassicError>
     ensures { GivesClassic result (unless n (fault_of_line s.now line.now (map (λ w. w.now) words.now))
-        (said_by (kind (first_word (map (λ w. w.now) words.now))) (map (λ w. w.now) words.now))) }
+        (classic_said_by (classic_kind (first_word (map (λ w. w.now) words.now))) (map (λ w. w.now) words.now))) }
 {
     if !all_text(line) {
         return Err(fault(n, NO_TEXT));

@@ -3,17 +3,17 @@ ghost use Rattle.std.specs.Prelude.{◌≡◌, ◌≤◌, if◌then◌else◌, N
 ghost use Rattle.drt_file.specs.trusted.Cutting.{lines};
 ghost use Rattle.drt_file.specs.trusted.Line.{is_skipped};
 ghost use Rattle.drt_classic.specs.ClassicFaults.{
-  after_line,
+  after_classic_line,
   fault_of_line,
   first_word,
   is_head,
-  kind,
-  line_step,
-  opening,
-  read_text,
-  said_by,
-  step,
-  steps,
+  classic_kind,
+  classic_line_step,
+  classic_opening,
+  read_classic_text,
+  classic_said_by,
+  classic_step,
+  classic_steps,
   unless,
 };
 ghost use Rattle.drt_classic.specs.ClassicReading.{ReadsClassic, IsClassicCauseOf};
@@ -34,7 +34,7 @@ use std::alloc::Global;
 // What the first line that isn't skipped leaves, or its fault.
 #[tactic(auto, unfolding(crate::specs::ClassicFaults::unless))]
 fn first(alloc: Global, n: u32, words: &[&[u8]]) -> Result<Option<State>, ClassicError>
-    ensures { GivesClassic result (unless n (if is_head (map (λ w. w.now) words.now) then None else Some 31) (Some opening)) }
+    ensures { GivesClassic result (unless n (if is_head (map (λ w. w.now) words.now) then None else Some 31) (Some classic_opening)) }
 {
     if head(words) {
         Ok(Some(open(alloc)))
@@ -56,7 +56,7 @@ fn below(
     words: &[&[u8]],
 ) -> Result<Option<State>, ClassicError>
     ensures { GivesClassic result (unless n (fault_of_line s line.now (map (λ w. w.now) words.now))
-        (Some (after_line n s (said_by (kind (first_word (map (λ w. w.now) words.now))) (map (λ w. w.now) words.now))))) }
+        (Some (after_classic_line n s (classic_said_by (classic_kind (first_word (map (λ w. w.now) words.now))) (map (λ w. w.now) words.now))))) }
 {
     match parse_line(alloc, n, &s, line, words) {
         Ok(said) => Ok(Some(after(n, s, said)?)),
@@ -77,7 +77,7 @@ fn line_step(
     line: &[u8],
     words: &[&[u8]],
 ) -> Result<Option<State>, ClassicError>
-    ensures { GivesClassic result (line_step n above line.now (map (λ w. w.now) words.now)) }
+    ensures { GivesClassic result (classic_line_step n above line.now (map (λ w. w.now) words.now)) }
 {
     match above {
         None => first(alloc, n, words),
@@ -93,7 +93,7 @@ fn words_step(
     line: &[u8],
     words: &[&[u8]],
 ) -> Result<Option<State>, ClassicError>
-    ensures { GivesClassic result (if is_skipped (map (λ w. w.now) words.now) then Ok above else line_step n above line.now (map (λ w. w.now) words.now)) }
+    ensures { GivesClassic result (if is_skipped (map (λ w. w.now) words.now) then Ok above else classic_line_step n above line.now (map (λ w. w.now) words.now)) }
 {
     if skipped(words) {
         Ok(above)
@@ -109,7 +109,7 @@ fn step(
     above: Option<State>,
     line: &[u8],
 ) -> Result<Option<State>, ClassicError>
-    ensures { GivesClassic result (step n above line.now) }
+    ensures { GivesClassic result (classic_step n above line.now) }
 {
     match fields_of(alloc, line) {
         Ok(words) => words_step(alloc, n, above, line, words.as_slice()),
@@ -122,7 +122,7 @@ fn step(
 
 fn all_lines(alloc: Global, text: &[u8]) -> Result<(u32, Option<State>), ClassicError>
     requires { length text.now ≤ 1073741824 }
-    ensures { GivesClassic result (steps 1 None (lines text.now)) }
+    ensures { GivesClassic result (classic_steps 1 None (lines text.now)) }
 {
     let mut n: u32 = 1;
     let mut above = None;
@@ -140,7 +140,7 @@ fn all_lines(alloc: Global, text: &[u8]) -> Result<(u32, Option<State>), Classic
 #[tactic(auto, unfolding(crate::specs::ClassicFaults::read_text))]
 fn tasks_of(alloc: Global, bytes: &[u8]) -> Result<Row<Classic>, ClassicError>
     requires { length bytes.now ≤ 1073741824 }
-    ensures { GivesClassic result (read_text bytes.now) }
+    ensures { GivesClassic result (read_classic_text bytes.now) }
 {
     let (n, above) = all_lines(alloc, bytes)?;
     finish(alloc, n, above)

@@ -14,7 +14,7 @@ use Rattle.drt_outcome.specs.declared.outcome.Trail.{Trail}
 use Rattle.drt_outcome.specs.declared.outcome.Trail.TheVariants as trails
 use Rattle.drt_command.specs.declared.report.Report.{Report}
 use Rattle.drt_command_files.specs.TaskFiles.{IsAccepted}
-use Rattle.drt_command_sp.specs.Besides.{trail_of}
+use Rattle.drt_command_sp.specs.Besides.{fixed_trail_of}
 use Rattle.drt_command_assign.specs.Text.{no_order_text}
 
 -- The trail of a budget that was spent at a task under these others.
@@ -27,7 +27,7 @@ abbrev pub report_of : AssignAnswer → Report
 report_of (answers.Done dossier) = record { status = 0; text = text dossier; trail = trails.Nothing }
 report_of (answers.NoOrder set stuck) = record { status = 1; text = no_order_text set stuck; trail = trails.Nothing }
 report_of (answers.Undecided set higher task trail) = record { status = 3; text = text (under_fixed set Undecided); trail = attempt_trail higher trail }
-report_of (answers.Unproved set trail) = record { status = 3; text = text (under_fixed set Undecided); trail = trail_of trail }
+report_of (answers.Unproved set trail) = record { status = 3; text = text (under_fixed set Undecided); trail = fixed_trail_of trail }
 
 -- The bytes are an accepted file, and the report is that of an answer to its set with this budget.
 pub record Besides (budget : ℕ) (bytes : List ℕ) (made : Report) : Type 0 where

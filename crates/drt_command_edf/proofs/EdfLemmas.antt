@@ -26,7 +26,7 @@ use Rattle.drt_command_files.specs.Dossiers.{evidence_status}
 use Rattle.drt_command.specs.declared.report.Report.{Report}
 use Rattle.drt_command.specs.declared.report.Unmade.{Unmade}
 use Rattle.drt_command_files.specs.TaskFiles.{IsAccepted}
-use Rattle.drt_command_edf.specs.Besides.{Besides, IsEdfNoText, IsEdfYesText, IsOneText, IsUndecidedText, trail_of, under_edf}
+use Rattle.drt_command_edf.specs.Besides.{Besides, IsEdfNoText, IsEdfYesText, IsOneText, IsUndecidedText, edf_trail_of, under_edf}
 use Rattle.drt_command_edf.specs.Edf.{EdfEnds}
 use Rattle.drt_outcome.specs.declared.outcome.Trail.{Trail}
 use Rattle.drt_outcome.specs.declared.outcome.Trail.TheVariants as trails
@@ -201,5 +201,5 @@ done_decides bytes set budget evidence accepted done planned range (Err e) is = 
 
 -- The answer of a spent budget.
 pub undecided_is : (set : Contents) (budget : ℕ) (spent : EdfTrail) → IsTaskSet set.version set.tasks → IsEdfUndecided set.tasks budget spent
-    → IsEdfAnswer set budget 3 (text (under_edf set Undecided)) (trail_of spent)
+    → IsEdfAnswer set budget 3 (text (under_edf set Undecided)) (edf_trail_of spent)
 undecided_is set budget spent limits cause = inr (inr (inr (refl, record { spent = spent; cause = cause; trail_is = refl; is = record { stated = (limits, tt); is = refl } })))

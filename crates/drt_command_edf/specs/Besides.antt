@@ -53,15 +53,15 @@ pub record IsOneText (set : Contents) (written : List ℕ) : Type 0 where
   pub is : IsAcceptedText set (UtilisationOne ratios) written
 
 -- The trail of a spent budget.
-abbrev pub trail_of : EdfTrail → Trail
-trail_of (Table task log) = trails.Table task log
-trail_of (Overload last) = trails.Overload last
+abbrev pub edf_trail_of : EdfTrail → Trail
+edf_trail_of (Table task log) = trails.Table task log
+edf_trail_of (Overload last) = trails.Overload last
 
 -- The text is that nothing is decided, and the trail shows that the budget was spent.
 pub record IsUndecidedText (set : Contents) (budget : ℕ) (written : List ℕ) (trail : Trail) : Type 0 where
   pub spent : EdfTrail
   pub cause : IsEdfUndecided set.tasks budget spent
-  pub trail_is : trail ≡ trail_of spent
+  pub trail_is : trail ≡ edf_trail_of spent
   pub is : IsDossierText (under_edf set Undecided) written
 
 -- The bytes are an accepted file, and the text is the dossier of its answer. A yes has the status 0, a no 1, a utilisation of one 2 and a

@@ -6,7 +6,7 @@ ghost use Rattle.drt_command.specs.declared.input.Input.{Input};
 ghost use Rattle.drt_command.specs.Inputs.{IsInputWithin};
 ghost use Rattle.drt_command.specs.Rules.{IsUnmadeCause};
 ghost use Rattle.drt_command.specs.Runs.{IsRun};
-ghost use Rattle.drt_command_edf.specs.Besides.{Besides, trail_of};
+ghost use Rattle.drt_command_edf.specs.Besides.{Besides, edf_trail_of};
 ghost use Rattle.drt_command_edf.specs.Edf.{IsOutOfReach, beyond_code, edf_rules};
 ghost use Rattle.drt_command_files.specs.TaskFiles.{IsAccepted};
 
@@ -119,7 +119,7 @@ fn decide<G: Gate, R: Threads + Wait + Sync>(
 
 /// The trail of a spent budget.
 pub fn make_trail(trail: EdfTrail) -> Trail
-    ensures { result ≡ trail_of trail }
+    ensures { result ≡ edf_trail_of trail }
 {
     match trail {
         EdfTrail::Table { task, log } => Trail::Table { task, log },

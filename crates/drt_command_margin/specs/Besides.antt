@@ -21,8 +21,8 @@ use Rattle.drt_command_sp.specs.Besides as sp
 
 -- The trail of a spent budget.
 abbrev pub margin_trail : MarginTrail → Trail
-margin_trail (spent.Edf trail) = edf.trail_of trail
-margin_trail (spent.Fixed trail) = sp.trail_of trail
+margin_trail (spent.Edf trail) = edf.edf_trail_of trail
+margin_trail (spent.Fixed trail) = sp.fixed_trail_of trail
 
 -- What is written of an answer, its status and its trail. Where numbers are out of reach nothing is.
 abbrev pub IsReportOf : Policy → Contents → ℕ → ℕ → MarginAnswer → Report → Type 0

@@ -24,12 +24,12 @@ abbrev pub add_line : ℕ → List (List ℕ)
 add_line add = codes "add" ∷ decimal add ∷ []
 
 -- The lines above the first dossier.
-abbrev pub head_lines : ℕ → List (List (List ℕ))
-head_lines add = (codes "drt-margin" ∷ codes "1" ∷ []) ∷ add_line add ∷ word_line (codes "within") ∷ []
+abbrev pub margin_head_lines : ℕ → List (List (List ℕ))
+margin_head_lines add = (codes "drt-margin" ∷ codes "1" ∷ []) ∷ add_line add ∷ word_line (codes "within") ∷ []
 
 -- The text of a margin: its number, the dossier of the set with it, and what is shown of the set with one tick more.
 abbrev pub margin_text : Policy → Contents → ℕ → ℕ → ℕ → Evidence → Next → List ℕ
 margin_text policy set k v add within next =
-    written (head_lines add)
+    written (margin_head_lines add)
     ++ (text (with_evidence policy set k v add within)
     ++ (written (word_line (codes "next") ∷ []) ++ (next_text policy set k v (add + 1) next ++ written (word_line (codes "close") ∷ []))))

@@ -10,14 +10,14 @@ use Rattle.drt_margin.specs.Margin.{IsMargin}
 use Rattle.drt_command.specs.declared.report.Report.{Report}
 use Rattle.drt_command_files.specs.Spots.{IsSpot}
 use Rattle.drt_command_files.specs.TaskFiles.{IsAccepted}
-use Rattle.drt_command_margin.specs.Text.{head_lines}
+use Rattle.drt_command_margin.specs.Text.{margin_head_lines}
 
 -- The first lines of the text say the margin of vertex v of task k.
 pub record IsMarginText (policy : Policy) (set : Contents) (k v : ℕ) (text : List ℕ) : Type 0 where
   pub add : ℕ
   pub margin : IsMargin set policy k v add
   pub rest : List ℕ
-  pub is : text ≡ written (head_lines add) ++ rest
+  pub is : text ≡ written (margin_head_lines add) ++ rest
 
 -- The bytes are an accepted file, and a vertex of its set has the names. At status 0 the text says its margin under the policy; at 1 the set
 -- isn't schedulable as it is; at 2 the policy is EDF and the utilisation is one; at 3 nothing is decided.

@@ -13,7 +13,7 @@ use Rattle.drt_response.specs.declared.answer.ResponseTrail.{ResponseTrail}
 use Rattle.drt_response.specs.declared.answer.ResponseTrail.TheVariants.{Fixed, Search}
 use Rattle.drt_sp.specs.Evidence.{under_fixed}
 use Rattle.drt_command_files.specs.TaskFiles.{IsAccepted}
-use Rattle.drt_command_sp.specs.Besides.{IsSpNoText, trail_of}
+use Rattle.drt_command_sp.specs.Besides.{IsSpNoText, fixed_trail_of}
 
 -- The text says the greatest response time of each vertex of the set, in order of the file, with releases that reach it.
 pub record IsResponseText (set : Contents) (text : List ℕ) : Type 0 where
@@ -23,7 +23,7 @@ pub record IsResponseText (set : Contents) (text : List ℕ) : Type 0 where
 
 -- The trail of a spent budget.
 abbrev pub response_trail : ResponseTrail → Trail
-response_trail (Fixed spent) = trail_of spent
+response_trail (Fixed spent) = fixed_trail_of spent
 response_trail (Search task vertex taken) = trails.Response task vertex taken
 
 -- The text is that nothing is decided, and the trail shows that the budget was spent.

@@ -31,20 +31,20 @@ pub record IsSpNoText (set : Contents) (written : List ℕ) : Type 0 where
   pub is : IsDossierText (under_fixed set (FixedNo releases miss)) written
 
 -- The trail of a spent budget.
-abbrev pub trail_of : FixedTrail → Trail
-trail_of (Table task log) = trails.Table task log
-trail_of (Refine task vertex log) = trails.Refine task vertex log
+abbrev pub fixed_trail_of : FixedTrail → Trail
+fixed_trail_of (Table task log) = trails.Table task log
+fixed_trail_of (Refine task vertex log) = trails.Refine task vertex log
 
 -- The trail of an answer: that of a spent budget, where one was spent.
 abbrev pub trail_after : Option FixedTrail → Trail
 trail_after None = trails.Nothing
-trail_after (Some spent) = trail_of spent
+trail_after (Some spent) = fixed_trail_of spent
 
 -- The text is that nothing is decided, and the trail shows that the budget was spent.
 pub record IsSpUndecidedText (set : Contents) (budget : ℕ) (written : List ℕ) (trail : Trail) : Type 0 where
   pub spent : FixedTrail
   pub cause : IsTreeUndecided set budget spent
-  pub trail_is : trail ≡ trail_of spent
+  pub trail_is : trail ≡ fixed_trail_of spent
   pub is : IsDossierText (under_fixed set Undecided) written
 
 -- The bytes are an accepted file, and the text is the dossier of its answer. A yes has the status 0, a no 1 and a spent budget 3; only

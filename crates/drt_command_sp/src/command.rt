@@ -10,7 +10,7 @@ ghost use Rattle.drt_command.specs.Runs.{IsRun};
 ghost use Rattle.drt_evidence.specs.Text.{text};
 ghost use Rattle.drt_sp.specs.Evidence.{under_fixed};
 ghost use Rattle.drt_command_files.specs.Dossiers.{evidence_status};
-ghost use Rattle.drt_command_sp.specs.Besides.{Besides, trail_after, trail_of};
+ghost use Rattle.drt_command_sp.specs.Besides.{Besides, trail_after, fixed_trail_of};
 ghost use Rattle.drt_command_sp.specs.Sp.{sp_rules};
 ghost use Rattle.drt_command_files.specs.TaskFiles.{IsAccepted};
 
@@ -126,7 +126,7 @@ fn report_of(alloc: Global, set: TaskSet, answer: Analysed) -> Result<Report, Un
 
 /// The trail of a spent budget.
 pub fn make_trail(trail: FixedTrail) -> Trail
-    ensures { result ≡ trail_of trail }
+    ensures { result ≡ fixed_trail_of trail }
 {
     match trail {
         FixedTrail::Table { task, log } => Trail::Table { task, log },

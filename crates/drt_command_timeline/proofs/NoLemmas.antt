@@ -3,7 +3,7 @@ use Rattle.std.proofs.Common.{inl, inr, ◌≡◌, ℕ, ◌≤◌, ◌^◌, List
 use Rattle.std.proofs.lemmas.List.Elements.{All-weaker}
 use Rattle.drt_model.specs.Legal.{IsLegal}
 use Rattle.drt_model.specs.declared.jobs.Release.{Release}
-use Rattle.drt_claims.specs.Kinds.{HasReleases, miss_of, releases_of}
+use Rattle.drt_claims.specs.Kinds.{HasReleases, stated_miss, stated_releases}
 use Rattle.drt_claims.specs.Ranges.{AreInRangeReleases, IsEvidenceInRange, IsInRangeRelease}
 use Rattle.drt_claims.specs.Statement.{Statement}
 use Rattle.drt_claims.specs.declared.evidence.Evidence.{Evidence}
@@ -55,11 +55,11 @@ not_drawn s judgements.NothingToCheck is not none = refl
 not_drawn s (judgements.Rejected n) is not none = absurd (not n refl)
 
 -- The releases of a no are legal.
-pub legal_no : (s : Statement) → IsStatementJudged s judgements.Unschedulable → IsLegal s.set.tasks (releases_of s.evidence)
+pub legal_no : (s : Statement) → IsStatementJudged s judgements.Unschedulable → IsLegal s.set.tasks (stated_releases s.evidence)
 legal_no s is = is.0.keeps LegalReleases (has_releases s.evidence is.1)
 
 -- They and the miss have their numbers in range.
-pub range_of : (e : Evidence) → IsEvidenceInRange e → HasReleases e → AreInRangeReleases (releases_of e) (miss_of e)
+pub range_of : (e : Evidence) → IsEvidenceInRange e → HasReleases e → AreInRangeReleases (stated_releases e) (stated_miss e)
 range_of (EdfYes ratios fronts) is h = absurd h
 range_of (EdfNo releases miss) is h = is
 range_of (UtilisationOne ratios) is h = absurd h
@@ -88,7 +88,7 @@ none_cause bytes s j is not none =
 
 -- What is known of a dossier with releases that isn't rejected.
 pub known_no : (bytes : List ℕ) (s t : Statement) (j : Judgement) → IsJudgedDossier bytes s j → s ≡ t → ((n : ℕ) → j ≡ judgements.Rejected n → ⊥) → HasReleases t.evidence
-    → IsLegal t.set.tasks (releases_of t.evidence) × AreInRangeReleases (releases_of t.evidence) (miss_of t.evidence)
+    → IsLegal t.set.tasks (stated_releases t.evidence) × AreInRangeReleases (stated_releases t.evidence) (stated_miss t.evidence)
 known_no bytes s t j is same not h =
     let here : IsJudgedDossier bytes t j = subst (λ u. IsJudgedDossier bytes u j) same is in
     let no : IsStatementJudged t judgements.Unschedulable = subst (IsStatementJudged t) (is_no t j here.judged not h) here.judged in

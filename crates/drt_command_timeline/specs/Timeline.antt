@@ -1,6 +1,6 @@
 -- `timeline` of a dossier: what it draws, what it refuses, and with which status it ends.
 use Rattle.std.specs.Prelude.{◌≡◌, ℕ, ◌≤◌, ◌⊎◌, Bool, List, length}
-use Rattle.drt_claims.specs.Kinds.{miss_of, releases_of}
+use Rattle.drt_claims.specs.Kinds.{stated_miss, stated_releases}
 use Rattle.drt_evidence.specs.Reading.{IsDossierText}
 use Rattle.drt_claims.specs.Statement.{Statement}
 use Rattle.drt_check.specs.Judging.{IsStatementJudged, IsSoundJudgement}
@@ -32,7 +32,7 @@ pub record IsJudgedDossier (bytes : List ℕ) (s : Statement) (judgement : Judge
 pub record IsDrawnNo (svg : Bool) (bytes text : List ℕ) : Type 0 where
   pub statement : Statement
   pub no : IsJudgedDossier bytes statement judgements.Unschedulable
-  pub drawn : IsDrawn svg statement.set.tasks statement.policy (releases_of statement.evidence) (miss_of statement.evidence).deadline text
+  pub drawn : IsDrawn svg statement.set.tasks statement.policy (stated_releases statement.evidence) (stated_miss statement.evidence).deadline text
 
 -- `timeline` of a dossier: its no is drawn, with status 1, as `check` has, and without a trail.
 pub record DrawsNo (svg : Bool) (bytes : List ℕ) (made : Report) : Type 0 where

@@ -1,6 +1,6 @@
 //! `timeline` of a dossier: its releases that miss, drawn up to the deadline that is missed.
 ghost use Rattle.std.specs.Prelude.{◌≡◌, ◌≤◌, IfErr, IfOk, MatchOption, length};
-ghost use Rattle.drt_claims.specs.Kinds.{HasReleases, miss_of, releases_of};
+ghost use Rattle.drt_claims.specs.Kinds.{HasReleases, stated_miss, stated_releases};
 ghost use Rattle.drt_command.specs.Rules.{IsUnmadeCause};
 ghost use Rattle.drt_command_check.specs.Check.{IsDossierFault, most_dossier_bytes};
 ghost use Rattle.drt_command_timeline.specs.Timeline.{DrawsNo, IsJudgedDossier, IsTimelineFault, timeline_rules};
@@ -99,7 +99,7 @@ fn draw_no(
 fn releases_in(evidence: &Evidence) -> Option<(&[Release], u64)>
     ensures { MatchOption result
         (¬ HasReleases evidence.now)
-        (λ p. HasReleases evidence.now × (p.0.now ≡ releases_of evidence.now) × (p.1 ≡ (miss_of evidence.now).deadline)) }
+        (λ p. HasReleases evidence.now × (p.0.now ≡ stated_releases evidence.now) × (p.1 ≡ (stated_miss evidence.now).deadline)) }
 {
     match evidence {
         Evidence::EdfNo { releases, miss } | Evidence::FixedNo { releases, miss } => {

@@ -18,10 +18,10 @@ abbrev pub fraction_line : List ℕ → Fraction → List (List ℕ)
 fraction_line name r = name ∷ (decimal r.num ++ codes "/" ++ decimal r.den) ∷ []
 
 -- The lines of the tasks, each with its fraction, in order.
-abbrev pub ratio_lines : List Task → List Fraction → List (List (List ℕ))
-ratio_lines [] ratios = []
-ratio_lines (t ∷ tasks) [] = []
-ratio_lines (t ∷ tasks) (r ∷ ratios) = fraction_line t.name r ∷ ratio_lines tasks ratios
+abbrev pub fraction_lines : List Task → List Fraction → List (List (List ℕ))
+fraction_lines [] ratios = []
+fraction_lines (t ∷ tasks) [] = []
+fraction_lines (t ∷ tasks) (r ∷ ratios) = fraction_line t.name r ∷ fraction_lines tasks ratios
 
 -- The name of the last line.
 abbrev pub total_word : List ℕ
@@ -29,7 +29,7 @@ total_word = codes "total"
 
 -- The lines of the tasks, each with its fraction, and the line of the total.
 abbrev pub util_lines : List Task → List Fraction → Fraction → List (List (List ℕ))
-util_lines tasks ratios total = ratio_lines tasks ratios ++ fraction_line total_word total ∷ []
+util_lines tasks ratios total = fraction_lines tasks ratios ++ fraction_line total_word total ∷ []
 
 -- The text says the ratios of the set's tasks and, in lowest terms, its utilisation, where the scale is at most 2^60.
 pub record IsUtilisationText (set : Contents) (text : List ℕ) : Type 0 where

@@ -4,7 +4,7 @@ ghost use Rattle.drt_file.specs.trusted.Canonical.{written, written_line};
 ghost use Rattle.drt_model.specs.Digraph.{digraph_of};
 ghost use Rattle.drt_ratio.specs.SetRatios.{AreRatioProofs, AreSmall, fractions_of};
 ghost use Rattle.drt_command.specs.Rules.{IsUnmadeCause};
-ghost use Rattle.drt_command_util.specs.Util.{IsTooFineSet, IsTooFineFile, IsUtilisationText, Utilises, fraction_line, ratio_lines, util_lines, util_rules};
+ghost use Rattle.drt_command_util.specs.Util.{IsTooFineSet, IsTooFineFile, IsUtilisationText, Utilises, fraction_line, fraction_lines, util_lines, util_rules};
 ghost use Rattle.drt_command_files.specs.TaskFiles.{IsAccepted};
 
 use drt_command::{Command, Input, Report, Unmade};
@@ -113,7 +113,7 @@ fn push_ratios(
     proofs: &[RatioProof],
 ) -> Result<(), Memory>
     requires { length tasks.now ≡ length proofs.now }
-    ensures { OnOk result (text.new.items ≡ text.old.items ++ written (ratio_lines tasks.now (fractions_of proofs.now))) }
+    ensures { OnOk result (text.new.items ≡ text.old.items ++ written (fraction_lines tasks.now (fractions_of proofs.now))) }
 {
     'tasks: for i in 0..tasks.len() {
         push_fraction(alloc, text, tasks[i].name.as_slice(), &proofs[i].ratio)?;

@@ -2,7 +2,7 @@
 use Rattle.std.proofs.Common.{◌≡◌, ℕ, ◌+◌, List, [], ◌∷◌, ◌++◌, refl, ap, ◌∙◌, arith}
 use Rattle.drt_model.specs.Digraph.{Digraph}
 use Rattle.drt_model.specs.Walk.{gap, wcet, last_of, work, span}
-use Rattle.drt_demand.specs.Demand.{opening, extend}
+use Rattle.drt_demand.specs.Demand.{opening_entry, extend}
 use Rattle.drt_demand.specs.WalkLabel.{demand_of, AreWalkLabels}
 
 module _ (g : Digraph) where
@@ -45,7 +45,7 @@ module _ (g : Digraph) where
   work-one : (v : ℕ) → work g (v ∷ []) ≡ wcet g v
   work-one v = let e = work-cons v [] in let h = work-none in omega (arith, e, h)
 
-  opened : (u bound : ℕ) → demand_of g u [] ≡ opening u (wcet g u) bound
+  opened : (u bound : ℕ) → demand_of g u [] ≡ opening_entry u (wcet g u) bound
   opened u bound =
       ap (λ o. record { vertex = u; offset = o; work = work g (u ∷ []) }) (span-none u)
       ∙ ap (λ w. record { vertex = u; offset = 0; work = w }) (work-one u)

@@ -8,8 +8,8 @@ abbrev pub greatest_bound : ℕ
 greatest_bound = 1099511627776
 
 -- The label of the walk of one vertex.
-abbrev pub opening : ℕ → ℕ → ℕ → FrontEntry
-opening number wcet bound = record { vertex = number; offset = 0; work = wcet }
+abbrev pub opening_entry : ℕ → ℕ → ℕ → FrontEntry
+opening_entry number wcet bound = record { vertex = number; offset = 0; work = wcet }
 
 -- The label of a walk that goes on by an edge.
 abbrev pub extend : FrontEntry → ℕ → ℕ → ℕ → FrontEntry
@@ -20,19 +20,19 @@ abbrev pub in_range : FrontEntry → ℕ → ℕ → Bool
 in_range x deadline bound = nat_le (x.offset + deadline) bound
 
 -- A label dominates one of the same vertex that is no earlier and has no more work.
-abbrev pub dominates : FrontEntry → FrontEntry → Bool
-dominates x y = (x.vertex == y.vertex) && (nat_le x.offset y.offset && nat_le y.work x.work)
+abbrev pub entry_dominates : FrontEntry → FrontEntry → Bool
+entry_dominates x y = (x.vertex == y.vertex) && (nat_le x.offset y.offset && nat_le y.work x.work)
 
 -- Demand labels: each is of every bound up to the greatest one, and extendable where its offset is at most that.
 abbrev pub demand_algebra : Algebra FrontEntry
 demand_algebra = record {
   takes_bound = λ bound. nat_le bound greatest_bound;
-  opening = opening;
+  opening = opening_entry;
   extend = extend;
   vertex = λ x. x.vertex;
   offset = λ x. x.offset;
   in_range = in_range;
-  dominates = dominates;
+  dominates = entry_dominates;
   is_of = λ x bound. nat_le bound greatest_bound;
   is_extendable = λ x. nat_le x.offset greatest_bound;
   is_chain = true;

@@ -4,7 +4,7 @@ use Rattle.std.proofs.Common.{inl, inr, arith, ap, ◌∙◌}
 use Rattle.std.proofs.lemmas.Bool.Decides.{nat_tests}
 use Rattle.drt_label.specs.Algebra.{IsChain, Laws}
 use Rattle.drt_graph.specs.declared.front.FrontEntry.{FrontEntry}
-use Rattle.drt_demand.specs.Demand.{dominates, demand_algebra}
+use Rattle.drt_demand.specs.Demand.{entry_dominates, demand_algebra}
 
 -- Two labels with the same parts are equal.
 same_demand : (x y : FrontEntry) → x.vertex ≡ y.vertex → x.offset ≡ y.offset → x.work ≡ y.work → x ≡ y
@@ -14,11 +14,11 @@ same_demand x y p q r =
     ∙ ap (λ w. record { vertex = y.vertex; offset = y.offset; work = w }) r)
 
 -- Two labels that dominate each other are equal.
-antisymmetric : (x y : FrontEntry) → IsTrue (dominates x y) → IsTrue (dominates y x) → x ≡ y
+antisymmetric : (x y : FrontEntry) → IsTrue (entry_dominates x y) → IsTrue (entry_dominates y x) → x ≡ y
 antisymmetric x y h k = same_demand x y (grind (arith, nat_tests)) (grind (arith, nat_tests)) (grind (arith, nat_tests))
 
-by_work : (x y z : FrontEntry) → x.vertex ≡ y.vertex → y.vertex ≡ z.vertex → x.offset ≤ y.offset → y.offset ≤ z.offset → IsTrue (dominates x z)
-    → (y.work ≤ x.work) ⊎ (x.work < y.work) → IsTrue (dominates x y) ⊎ IsTrue (dominates y z)
+by_work : (x y z : FrontEntry) → x.vertex ≡ y.vertex → y.vertex ≡ z.vertex → x.offset ≤ y.offset → y.offset ≤ z.offset → IsTrue (entry_dominates x z)
+    → (y.work ≤ x.work) ⊎ (x.work < y.work) → IsTrue (entry_dominates x y) ⊎ IsTrue (entry_dominates y z)
 by_work x y z p q r s h (inl le) = inl (grind (arith, nat_tests))
 by_work x y z p q r s h (inr lt) = inr (grind (arith, nat_tests))
 

@@ -10,7 +10,7 @@ use Rattle.drt_demand.specs.Dbf.{dbf_at}
 use Rattle.drt_graph.proofs.Paths.{work_none}
 use Rattle.drt_sweep.specs.Dues.{sum_due}
 use Rattle.drt_rates.specs.Demands.{demands}
-use Rattle.drt_horizon.specs.Laws.{IsDue, AreDue, efforts}
+use Rattle.drt_horizon.specs.Laws.{IsDue, AreDue, efforts_together}
 use Rattle.drt_graph.specs.FrontEntry.{due}
 use Rattle.drt_fronts.specs.LabelFronts.{IsLabelFront, AreLabelFronts}
 use Rattle.drt_fronts.proofs.WalkEntries.{walk_entry, walk_entry_is}
@@ -41,8 +41,8 @@ walk_within g bound t front is l (u ∷ vs) d =
 
 -- Walks of the graphs that are due by t have together at most the demands of t.
 pub all_within : (graphs : List Digraph) (bound t : ℕ) (fronts : List (List FrontEntry)) (walks : List (List ℕ))
-    → AreLabelFronts bound graphs fronts → t ≤ bound → AreDue t graphs walks → efforts graphs walks ≤ demands graphs fronts t
-unfolding efforts sum_due
+    → AreLabelFronts bound graphs fronts → t ≤ bound → AreDue t graphs walks → efforts_together graphs walks ≤ demands graphs fronts t
+unfolding efforts_together sum_due
 all_within [] bound t fronts walks are l d = omega arith
 all_within (g ∷ graphs) bound t [] walks are l d = absurd are
 all_within (g ∷ graphs) bound t (f ∷ fronts) [] are l d = omega arith

@@ -5,7 +5,7 @@ use Rattle.drt_graph.specs.Graphs.{graph_of}
 use Rattle.drt_graph.specs.declared.front.FrontEntry.{FrontEntry}
 use Rattle.drt_sweep.specs.Dues.{sum_due}
 use Rattle.drt_rates.specs.Demands.{AreFronts, demands}
-use Rattle.drt_horizon.specs.Laws.{AreDue, efforts}
+use Rattle.drt_horizon.specs.Laws.{AreDue, efforts_together}
 use Rattle.drt_fronts.specs.LabelFronts.{IsLabelFront, AreLabelFronts, IsDemandWalk, AreDemandWalks}
 use Rattle.drt_edf.proofs.Suffixes.{due_walk}
 
@@ -58,8 +58,8 @@ walks_due (g ∷ graphs) [] t walks are = absurd are
 walks_due (g ∷ graphs) (f ∷ fronts) t [] are = absurd are
 walks_due (g ∷ graphs) (f ∷ fronts) t (w ∷ walks) are = (due_walk g t w are.0.walk_is are.0.due, walks_due graphs fronts t walks are.1)
 
-pub walks_work : (graphs : List Digraph) (fronts : List (List FrontEntry)) (t : ℕ) (walks : List (List ℕ)) → AreDemandWalks graphs fronts t walks → efforts graphs walks ≡ demands graphs fronts t
-unfolding efforts sum_due
+pub walks_work : (graphs : List Digraph) (fronts : List (List FrontEntry)) (t : ℕ) (walks : List (List ℕ)) → AreDemandWalks graphs fronts t walks → efforts_together graphs walks ≡ demands graphs fronts t
+unfolding efforts_together sum_due
 walks_work [] fronts t walks are = refl
 walks_work (g ∷ graphs) [] t walks are = absurd are
 walks_work (g ∷ graphs) (f ∷ fronts) t [] are = absurd are

@@ -8,7 +8,7 @@ use Rattle.drt_model.specs.Walk.{gap, IsPath, last_of, work, cycle_span}
 use Rattle.drt_model.specs.Utilisation.{HasRatio, AreRatios, AreDistinct}
 use Rattle.drt_graph.proofs.Edges.{target_of}
 use Rattle.drt_ratio.specs.declared.ratio_proof.RatioProof.{RatioProof}
-use Rattle.drt_ratio.specs.SetRatios.{AreSmall, fraction_of, fractions_of}
+use Rattle.drt_ratio.specs.SetRatios.{AreSmall, fraction_of_proof, fractions_of}
 use Rattle.drt_ratio.proofs.Optima.{cycle_sums}
 use Rattle.drt_horizon.specs.Given.{IsRatioGiven, AreGiven, potentials_of}
 use Rattle.drt_horizon.proofs.Overloads.{cycle_few}
@@ -34,7 +34,7 @@ tail_of P x xs all k d l = all (suc k) d (omega arith)
 -- The claims' fractions are those of what is given.
 pub fractions_same : (proofs : List RatioProof) → fractions (claims_of proofs) ≡ fractions_of proofs
 fractions_same [] = refl
-fractions_same (p ∷ proofs) = ap (λ rs. fraction_of p ∷ rs) (fractions_same proofs)
+fractions_same (p ∷ proofs) = ap (λ rs. fraction_of_proof p ∷ rs) (fractions_same proofs)
 
 -- So are their potentials.
 pub potentials_same : (proofs : List RatioProof) → potentials (claims_of proofs) ≡ potentials_of proofs

@@ -6,7 +6,7 @@ use Rattle.drt_model.specs.Digraph.{Digraph, digraph_of}
 use Rattle.drt_model.specs.Walk.{work}
 use Rattle.drt_busy.specs.Choice.{no_task, task_at, graph_at, IsWalk, due_of, AreWalks, AreDueBy, efforts}
 use Rattle.drt_graph.specs.Graphs.{no_graph}
-use Rattle.drt_horizon.specs.Laws.{IsDue, AreDue, efforts as list_efforts}
+use Rattle.drt_horizon.specs.Laws.{IsDue, AreDue, efforts_together as list_efforts}
 use Rattle.drt_claims.specs.Claims.{graphs_of}
 use Rattle.drt_releases.specs.Walks.{walk_at}
 

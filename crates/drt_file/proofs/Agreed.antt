@@ -16,7 +16,7 @@ use Rattle.drt_file.specs.declared.state.Kind.TheVariants as kinds
 use Rattle.drt_file.specs.declared.fault.FileFault.{FileFault}
 use Rattle.drt_file.specs.trusted.Cutting.{fields, fed, HasNoFeed}
 use Rattle.drt_file.specs.trusted.Words.{priority_word}
-use Rattle.drt_file.specs.trusted.Canonical.{canonical, written, written_line, name_at, version_line, task_line, vertex_line, edge_line, end_line, priority_lines, body_lines, task_lines, set_lines}
+use Rattle.drt_file.specs.trusted.Canonical.{canonical, written, written_line, name_at, version_line, task_line, vertex_line, edge_line, end_line, priority_lines, lines_of_body, task_lines, set_lines}
 use Rattle.drt_file.specs.internal.Kinds.{kind}
 use Rattle.drt_file.specs.trusted.Line.{is_skipped}
 use Rattle.drt_file.specs.internal.StateFaults.{has_priority, in_task, is_outside, task_count}
@@ -205,7 +205,7 @@ body_agrees version (x ∷ vs) es ws has are among rest =
     (edges_agree version (x ∷ vs) es ws among rest)))
 
 task_agrees : (version : ℕ) (t : Task) (ws : List (List (List ℕ))) → IsVersion version → IsTask version t → Agrees (Below (In version Whole)) ws → Agrees (Below (Open version)) (task_lines version t ++ ws)
-unfolding task_lines body_lines priority_lines
+unfolding task_lines lines_of_body priority_lines
 task_agrees version t ws known is rest =
     let body = body_agrees version t.vertices t.edges ws is.has_vertex (recursion_from_All IsVertex t.vertices is.vertices) (recursion_from_All (IsEdgeAmong (length t.vertices)) t.edges is.edges) rest in
     let own = map vertex_line t.vertices ++ (map (edge_line t.vertices) t.edges ++ ws) in

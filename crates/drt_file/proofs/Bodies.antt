@@ -14,7 +14,7 @@ use Rattle.drt_file.specs.trusted.Cutting.{is_blank, fields}
 use Rattle.drt_file.specs.trusted.Words.{is_name, is_number, value, task_word, vertex_word, edge_word, priority_word}
 use Rattle.drt_file.specs.internal.Kinds.{kind}
 use Rattle.drt_file.specs.trusted.Line.{is_text}
-use Rattle.drt_file.specs.internal.StateFaults.{kind_fault, has_vertex, has_edge, has_that_priority, place_of}
+use Rattle.drt_file.specs.internal.StateFaults.{kind_fault, has_vertex, has_edge, has_that_priority, place_of_name}
 use Rattle.drt_file.specs.internal.Steps.{narrow, with_vertex, with_edge, with_priority, on_current, after_kind, line_step, capped}
 use Rattle.drt_file.specs.trusted.Reading.{Means, Says, nothing, vertex, edge, priority}
 use Rattle.drt_file.proofs.Snoc.{every_pop, every_map, every_unmap, every_weaker, Pairwise, pairs_pop}
@@ -181,25 +181,25 @@ edge_one version done name p vs es e from to sep at_from at_to m parts n above l
     let t_is = every_at IsVertex vs e.to to parts.vertices at_to in
     let stand : d.vertices ≡ vs = vertices_are d name p vs es at.core_is in
     let above_es : d.edges ≡ es = edges_are d name p vs es at.core_is in
-    let f_place : place_of from.name d.vertices ≡ e.from = ap (place_of from.name) stand ∙ place_again vs e.from from parts.names at_from in
-    let t_place : place_of to.name d.vertices ≡ e.to = ap (place_of to.name) stand ∙ place_again vs e.to to parts.names at_to in
+    let f_place : place_of_name from.name d.vertices ≡ e.from = ap (place_of_name from.name) stand ∙ place_again vs e.from from parts.names at_from in
+    let t_place : place_of_name to.name d.vertices ≡ e.to = ap (place_of_name to.name) stand ∙ place_again vs e.to to parts.names at_to in
     let f_stands : has_vertex from.name d.vertices ≡ true = ap (has_vertex from.name) stand ∙ stands_again vs e.from from at_from in
     let t_stands : has_vertex to.name d.vertices ≡ true = ap (has_vertex to.name) stand ∙ stands_again vs e.to to at_to in
     let is_time = (every_pop (λ x. IsTime x.sep) es e parts.seps).1 in
     let others = (pairs_pop (λ x y. x.from ≡ y.from → x.to ≢ y.to) es e parts.one_edge).1 in
-    let new : has_edge (place_of from.name d.vertices) (place_of to.name d.vertices) d.edges ≡ false
-    = ap (λ f. has_edge f (place_of to.name d.vertices) d.edges) f_place ∙ ap (λ t. has_edge e.from t d.edges) t_place ∙ ap (has_edge e.from e.to) above_es ∙ new_edge es e.from e.to others in
+    let new : has_edge (place_of_name from.name d.vertices) (place_of_name to.name d.vertices) d.edges ≡ false
+    = ap (λ f. has_edge f (place_of_name to.name d.vertices) d.edges) f_place ∙ ap (λ t. has_edge e.from t d.edges) t_place ∙ ap (has_edge e.from e.to) above_es ∙ new_edge es e.from e.to others in
     let grown = one_more es e in
     let few = parts.few_edges in
     let count : length d.edges ≡ length es = ap length above_es in
     let room : length d.edges < 256 = omega (arith, grown, few, count) in
     let none = edge_again s d from.name to.name sep e.sep at.current_is m is_time f_is.name t_is.name f_stands t_stands new room in
     let text = text_again line words cut (edge_text from.name to.name sep (name_is from.name f_is.name) (name_is to.name t_is.name) m.0) in
-    let f_same : narrow (place_of from.name d.vertices) ≡ e.from = ap narrow f_place ∙ small_place e.from (length vs) version (slice_get_within vs e.from from at_from) parts.few in
-    let t_same : narrow (place_of to.name d.vertices) ≡ e.to = ap narrow t_place ∙ small_place e.to (length vs) version (slice_get_within vs e.to to at_to) parts.few in
-    let made : Edge = record { from = narrow (place_of from.name d.vertices); to = narrow (place_of to.name d.vertices); sep = capped sep } in
+    let f_same : narrow (place_of_name from.name d.vertices) ≡ e.from = ap narrow f_place ∙ small_place e.from (length vs) version (slice_get_within vs e.from from at_from) parts.few in
+    let t_same : narrow (place_of_name to.name d.vertices) ≡ e.to = ap narrow t_place ∙ small_place e.to (length vs) version (slice_get_within vs e.to to at_to) parts.few in
+    let made : Edge = record { from = narrow (place_of_name from.name d.vertices); to = narrow (place_of_name to.name d.vertices); sep = capped sep } in
     let same : made ≡ e
-    = ap (λ f. record { from = f; to = narrow (place_of to.name d.vertices); sep = capped sep }) f_same
+    = ap (λ f. record { from = f; to = narrow (place_of_name to.name d.vertices); sep = capped sep }) f_same
     ∙ ap (λ t. record { from = e.from; to = t; sep = capped sep }) t_same
     ∙ ap (λ x. record { from = e.from; to = e.to; sep = x }) (meant sep e.sep m is_time) in (
       Some (after_kind kinds.Edge n s words),

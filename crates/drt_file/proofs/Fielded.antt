@@ -10,7 +10,7 @@ use Rattle.drt_model.specs.declared.tasks.Task.{Task}
 use Rattle.drt_model.specs.Contents.{Contents}
 use Rattle.drt_model.specs.Limits.{IsNameByte, IsName, IsVertex, IsEdgeAmong, IsTask, IsTaskSet, IsVersion}
 use Rattle.drt_file.specs.trusted.Words.{drt_word, task_word, vertex_word, edge_word, priority_word, end_word}
-use Rattle.drt_file.specs.trusted.Canonical.{name_at, vertex_line, edge_line, end_line, priority_lines, body_lines, task_lines, set_lines}
+use Rattle.drt_file.specs.trusted.Canonical.{name_at, vertex_line, edge_line, end_line, priority_lines, lines_of_body, task_lines, set_lines}
 use Rattle.drt_file.proofs.Again.{IsField, all_of_both}
 use Rattle.drt_file.proofs.Digits.{decimal_field}
 
@@ -77,7 +77,7 @@ priority_fielded version t le = go (version == 2)
     go false = tt
 
 task_fielded : (version : ℕ) (t : Task) → IsTask version t → AllByRecursion (AllByRecursion IsField) (task_lines version t)
-unfolding task_lines body_lines
+unfolding task_lines lines_of_body
 task_fielded version t is = (
   (task_field, (name_field t.name is.name, tt)),
   all_of_both (AllByRecursion IsField) (priority_lines version t) (map vertex_line t.vertices ++ map (edge_line t.vertices) t.edges) (priority_fielded version t is.priority.1)

@@ -9,7 +9,7 @@ use Rattle.drt_model.specs.Limits.{IsTaskSet}
 use Rattle.drt_file.specs.declared.state.Draft.{Draft}
 use Rattle.drt_file.specs.declared.state.State.{State}
 use Rattle.drt_file.specs.declared.front.CanonicalError.TheVariants as errors
-use Rattle.drt_file.specs.trusted.Canonical.{canonical, written, version_line, end_line, priority_lines, body_lines, task_lines, set_lines}
+use Rattle.drt_file.specs.trusted.Canonical.{canonical, written, version_line, end_line, priority_lines, lines_of_body, task_lines, set_lines}
 use Rattle.drt_file.specs.internal.Steps.{◌>>=◌, with_last, task_of, closing, finish, steps, read_text}
 use Rattle.drt_file.specs.trusted.Cutting.{fed, HasNoFeed}
 use Rattle.drt_file.specs.internal.Strict.{strict_step, strict_steps, has_ended, Above}
@@ -36,7 +36,7 @@ pub record Finished (ls : List (List ℕ)) (n : ℕ) (s : State) : Type 0 where
   pub finish_is : finish n (Some s) ≡ Ok (set_of s)
 
 draft_prints : (version : ℕ) (d : Draft) → IsWhole d → draft_lines version d ≡ task_lines version (task_of d)
-unfolding task_lines body_lines priority_lines task_of
+unfolding task_lines lines_of_body priority_lines task_of
 draft_prints version d whole = go d.priority whole.priority.0 whole.priority.1
   where
     go : (o : Option ℕ) (k : ℕ) → o ≡ Some k

@@ -17,7 +17,7 @@ use Rattle.drt_file.specs.trusted.Cutting.{fields, fed}
 use Rattle.drt_file.specs.trusted.Words.{drt_word, task_word, vertex_word, edge_word, priority_word}
 use Rattle.drt_file.specs.trusted.Canonical.{written, written_line, name_at, version_line, vertex_line, edge_line, end_line}
 use Rattle.drt_file.specs.internal.Kinds.{kind, first_word}
-use Rattle.drt_file.specs.internal.StateFaults.{has_priority, has_vertex, in_task, is_outside, kind_fault, place_of}
+use Rattle.drt_file.specs.internal.StateFaults.{has_priority, has_vertex, in_task, is_outside, kind_fault, place_of_name}
 use Rattle.drt_file.specs.internal.Steps.{narrow, with_last, opening_priority, with_vertex, with_edge, with_priority, on_current, after_task, after_end, after_kind, opening, head, headed, line_step, capped}
 use Rattle.drt_file.specs.internal.Strict.{is_printed, is_whole, takes_vertex, takes_priority, fits, fits_below, strict_step, strict_steps}
 use Rattle.drt_file.proofs.Meanings.{both}
@@ -183,7 +183,7 @@ vertex_went n s words p is fit still good =
     (ap (λ l. (task_word ∷ d.name ∷ []) ∷ l) (vertex_lines_more (cond (s.version == 2) (number_lines d.priority) []) d.vertices v d.edges none))
     (record { unprinted = λ o. absurd (is_there d here.0 o); no_edges = λ e. none; few = omega (arith, grown, room, most) })
 
-name_found : (vs : List Vertex) (name : List ℕ) → has_vertex name vs ≡ true → name_at vs (place_of name vs) ≡ name
+name_found : (vs : List Vertex) (name : List ℕ) → has_vertex name vs ≡ true → name_at vs (place_of_name name vs) ≡ name
 unfolding name_at
 name_found vs name e =
     let r = stands_at name vs e in
@@ -197,11 +197,11 @@ edge_went n s words p is fit still good =
     let vs = d.vertices in
     let printed = printed_is p.sep (sym (ap (fits kinds.Edge s) p.words_are) ∙ fit) in
     let shape : Shape s.version d = subst (CurrentIs s.version s.closed) p.in_a_task good.current in
-    let f_same : narrow (place_of p.from vs) ≡ place_of p.from vs = narrow_same (place_of p.from vs) (length vs) (place_within p.from vs p.from_stands) shape.few in
-    let t_same : narrow (place_of p.to vs) ≡ place_of p.to vs = narrow_same (place_of p.to vs) (length vs) (place_within p.to vs p.to_stands) shape.few in
-    let from : name_at vs (narrow (place_of p.from vs)) ≡ p.from = ap (name_at vs) f_same ∙ name_found vs p.from p.from_stands in
-    let to : name_at vs (narrow (place_of p.to vs)) ≡ p.to = ap (name_at vs) t_same ∙ name_found vs p.to p.to_stands in
-    let e : Edge = record { from = narrow (place_of p.from vs); to = narrow (place_of p.to vs); sep = capped p.sep } in
+    let f_same : narrow (place_of_name p.from vs) ≡ place_of_name p.from vs = narrow_same (place_of_name p.from vs) (length vs) (place_within p.from vs p.from_stands) shape.few in
+    let t_same : narrow (place_of_name p.to vs) ≡ place_of_name p.to vs = narrow_same (place_of_name p.to vs) (length vs) (place_within p.to vs p.to_stands) shape.few in
+    let from : name_at vs (narrow (place_of_name p.from vs)) ≡ p.from = ap (name_at vs) f_same ∙ name_found vs p.from p.from_stands in
+    let to : name_at vs (narrow (place_of_name p.to vs)) ≡ p.to = ap (name_at vs) t_same ∙ name_found vs p.to p.to_stands in
+    let e : Edge = record { from = narrow (place_of_name p.from vs); to = narrow (place_of_name p.to vs); sep = capped p.sep } in
     let line : words ≡ edge_line vs e
     = p.words_are ∙ ap (λ w. w ∷ p.from ∷ p.to ∷ p.sep ∷ []) is ∙ sym (ap (λ w. edge_word ∷ w ∷ p.to ∷ p.sep ∷ []) from)
     ∙ sym (ap (λ w. edge_word ∷ name_at vs e.from ∷ w ∷ p.sep ∷ []) to) ∙ sym (ap (λ w. edge_word ∷ name_at vs e.from ∷ name_at vs e.to ∷ w ∷ []) printed) in

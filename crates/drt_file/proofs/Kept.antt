@@ -10,7 +10,7 @@ use Rattle.drt_file.specs.declared.state.State.{State}
 use Rattle.drt_file.specs.trusted.Words.{is_number, value, task_word, vertex_word, edge_word, priority_word}
 use Rattle.drt_file.specs.trusted.Line.{is_in_range}
 use Rattle.drt_file.specs.trusted.Canonical.{version_line}
-use Rattle.drt_file.specs.internal.StateFaults.{has_edge, has_that_priority, place_of}
+use Rattle.drt_file.specs.internal.StateFaults.{has_edge, has_that_priority, place_of_name}
 use Rattle.drt_file.specs.internal.Steps.{narrow, with_vertex, with_edge, with_priority, capped}
 use Rattle.drt_file.specs.trusted.Reading.{Means, Says, vertex, edge, priority, written_priority}
 use Rattle.drt_file.proofs.Snoc.{every_push, every_weaker, every_map, Pairwise, pairs_push}
@@ -118,7 +118,7 @@ old_edge : (x : Edge) (f t from to : ℕ) → (x.from == f && x.to == t) ≡ fal
 old_edge x f t from to e a b c d = grind (arith, e, a, b, c, d)
 
 abbrev pub edge_of : {s : State} {words : List (List ℕ)} → EdgePassed s words → Edge
-edge_of p = record { from = narrow (place_of p.from p.draft.vertices); to = narrow (place_of p.to p.draft.vertices); sep = capped p.sep }
+edge_of p = record { from = narrow (place_of_name p.from p.draft.vertices); to = narrow (place_of_name p.to p.draft.vertices); sep = capped p.sep }
 
 pub edge_goes : (ws : List (List (List ℕ))) (s : State) (words : List (List ℕ)) (p : EdgePassed s words) → p.word ≡ edge_word → Inside ws s.version s.closed p.draft
     → Inside (ws ++ words ∷ []) s.version s.closed (with_edge p.from p.to (capped p.sep) p.draft)
@@ -129,10 +129,10 @@ edge_goes ws s words p is at =
     let e : Edge = edge_of p in
     let last = at.says_last in
     let few : length vs ≤ 96 = let most = most_96 s.version in let le = last.few_vertices in omega (arith, most, le) in
-    let f_in : place_of p.from vs < length vs = place_within p.from vs p.from_stands in
-    let t_in : place_of p.to vs < length vs = place_within p.to vs p.to_stands in
-    let f_same : narrow (place_of p.from vs) ≡ place_of p.from vs = narrow_same (place_of p.from vs) (length vs) f_in few in
-    let t_same : narrow (place_of p.to vs) ≡ place_of p.to vs = narrow_same (place_of p.to vs) (length vs) t_in few in
+    let f_in : place_of_name p.from vs < length vs = place_within p.from vs p.from_stands in
+    let t_in : place_of_name p.to vs < length vs = place_within p.to vs p.to_stands in
+    let f_same : narrow (place_of_name p.from vs) ≡ place_of_name p.from vs = narrow_same (place_of_name p.from vs) (length vs) f_in few in
+    let t_same : narrow (place_of_name p.to vs) ≡ place_of_name p.to vs = narrow_same (place_of_name p.to vs) (length vs) t_in few in
     let from = stands_at p.from vs p.from_stands in
     let to = stands_at p.to vs p.to_stands in
     let grown : length (d.edges ++ e ∷ []) ≡ length d.edges + 1 = one_more d.edges e in
@@ -156,9 +156,9 @@ edge_goes ws s words p is at =
         edges = every_push (IsEdgeAmong (length vs)) d.edges e last.edges
             (record { from = omega (arith, f_same, f_in); to = omega (arith, t_same, t_in); sep = range_is p.sep p.in_range });
         one_edge = pairs_push (λ x y. x.from ≡ y.from → x.to ≢ y.to) d.edges e last.one_edge
-            (every_weaker (λ x. (x.from == place_of p.from vs && x.to == place_of p.to vs) ≡ false) (λ x. x.from ≡ e.from → x.to ≢ e.to)
-            (λ x h a b. old_edge x (place_of p.from vs) (place_of p.to vs) e.from e.to h f_same t_same a b) d.edges
-            (every_of_any (λ x. x.from == place_of p.from vs && x.to == place_of p.to vs) d.edges p.new_edge));
+            (every_weaker (λ x. (x.from == place_of_name p.from vs && x.to == place_of_name p.to vs) ≡ false) (λ x. x.from ≡ e.from → x.to ≢ e.to)
+            (λ x h a b. old_edge x (place_of_name p.from vs) (place_of_name p.to vs) e.from e.to h f_same t_same a b) d.edges
+            (every_of_any (λ x. x.from == place_of_name p.from vs && x.to == place_of_name p.to vs) d.edges p.new_edge));
       };
       ws_are = goes_on ws at.done at.own s.version words at.ws_are;
       few = at.few;

@@ -15,7 +15,7 @@ use Rattle.drt_file.specs.trusted.Faults.{has_wrong_length, has_no_number, is_ou
 use Rattle.drt_file.specs.trusted.Faults.{is_before_tasks, is_task_too_many, is_vertex_too_many, is_edge_too_many, is_second_priority, is_priority_again, table}
 use Rattle.drt_file.specs.trusted.Faults.{is_of_tasks, is_tried, first_code}
 use Rattle.drt_file.specs.internal.Kinds.{kind, first_word}
-use Rattle.drt_file.specs.internal.StateFaults.{first_of, has_vertex, place_of, has_edge, in_task, is_outside, in_some_task, task_count, has_priority, has_that_priority}
+use Rattle.drt_file.specs.internal.StateFaults.{first_of, has_vertex, place_of_name, has_edge, in_task, is_outside, in_some_task, task_count, has_priority, has_that_priority}
 use Rattle.drt_file.specs.internal.StateFaults.{task_fault, vertex_fault, edge_fault, priority_fault, end_fault, kind_fault}
 use Rattle.drt_file.proofs.Shown.{Shown, ShownIn}
 
@@ -225,7 +225,7 @@ vertex_out s name wcet deadline again many at = rw at refl
 
 edge_in : (s : State) (d : Draft) (from to sep : List ℕ) → s.current ≡ Some d → edge_fault s (edge_word ∷ from ∷ to ∷ sep ∷ [])
     ≡ edge_rows true (is_number sep) (is_in_range sep) (is_name from && is_name to) (not (has_vertex from d.vertices && has_vertex to d.vertices))
-    (has_edge (place_of from d.vertices) (place_of to d.vertices) d.edges) (nat_le 256 (length d.edges))
+    (has_edge (place_of_name from d.vertices) (place_of_name to d.vertices) d.edges) (nat_le 256 (length d.edges))
 unfolding edge_fault in_task is_outside
 edge_in s d from to sep at = rw at refl
 
@@ -289,7 +289,7 @@ edge_agrees ws s line (from ∷ to ∷ sep ∷ []) (Some d) at o w =
     let rows = edge_rows true (is_number sep) (is_in_range sep) names in
     let many = nat_le 256 (count_by is_edge (own_lines ws)) in
     let missing = not (has_vertex from d.vertices && has_vertex to d.vertices) in
-    let again = has_edge (place_of from d.vertices) (place_of to d.vertices) d.edges in
+    let again = has_edge (place_of_name from d.vertices) (place_of_name to d.vertices) d.edges in
     edge_codes ws line from to sep true o
     ∙ ap (λ b. rows (not (b && has_vertex_named to ws)) (has_edge_between from to ws) many) (w.vertex_named from)
     ∙ ap (λ b. rows (not (has_vertex from d.vertices && b)) (has_edge_between from to ws) many) (w.vertex_named to)

@@ -14,7 +14,7 @@ use Rattle.drt_file.specs.trusted.Words.{value, task_word, vertex_word, edge_wor
 use Rattle.drt_file.specs.trusted.Canonical.{name_at}
 use Rattle.drt_file.specs.trusted.Faults.{Fields, field, is_task, is_vertex, is_edge, is_priority, is_end, has_task, own_lines, lines_of_others}
 use Rattle.drt_file.specs.trusted.Reading.{Says, nothing, vertex, edge, priority, SaysVertex, SaysEdge, SaysPriority, written_priority}
-use Rattle.drt_file.specs.internal.StateFaults.{place_of, has_edge, has_that_priority}
+use Rattle.drt_file.specs.internal.StateFaults.{place_of_name, has_edge, has_that_priority}
 use Rattle.drt_file.proofs.Kept.{IsDraft, SaysDrafts, none, more}
 use Rattle.drt_file.proofs.Meanings.{unlike, either_false}
 use Rattle.drt_file.proofs.Passing.{every_at}
@@ -190,35 +190,35 @@ other_name f v vs i are lt at =
     let other : v.name ≢ w.0.name = every_at (λ u. v.name ≢ u.name) vs i w.0 are w.1 in
     ap (λ n. bytes_eq n f) (name_of_place vs i w.0 w.1) ∙ unlike w.0.name f (λ same. other (is ∙ sym same))
 
-pub at_place : (f : List ℕ) (vs : List Vertex) (i : ℕ) → Pairwise (λ u v. u.name ≢ v.name) vs → i < length vs → (i == place_of f vs) ≡ bytes_eq (name_at vs i) f
-unfolding place_of name_at
+pub at_place : (f : List ℕ) (vs : List Vertex) (i : ℕ) → Pairwise (λ u v. u.name ≢ v.name) vs → i < length vs → (i == place_of_name f vs) ≡ bytes_eq (name_at vs i) f
+unfolding place_of_name name_at
 at_place f [] i are lt = absurd (omega (arith, lt))
 at_place f (v ∷ vs) zero are lt = go (bytes_eq v.name f)
   where
-    go : (b : Bool) → (0 == cond (not b) (1 + place_of f vs) 0) ≡ b
+    go : (b : Bool) → (0 == cond (not b) (1 + place_of_name f vs) 0) ≡ b
     go true = refl
     go false = grind arith
 at_place f (v ∷ vs) (suc i) are lt = go (at_place f vs i are.1 (omega (arith, lt))) (bytes_eq v.name f) refl
   where
-    go : (i == place_of f vs) ≡ bytes_eq (name_at vs i) f → (b : Bool) → bytes_eq v.name f ≡ b → (suc i == cond (not b) (1 + place_of f vs) 0) ≡ bytes_eq (name_at vs i) f
+    go : (i == place_of_name f vs) ≡ bytes_eq (name_at vs i) f → (b : Bool) → bytes_eq v.name f ≡ b → (suc i == cond (not b) (1 + place_of_name f vs) 0) ≡ bytes_eq (name_at vs i) f
     go rest false at = (grind arith) ∙ rest
     go rest true at = (grind arith) ∙ sym (other_name f v vs i are.0 (omega (arith, lt)) at)
 
 -- An edge with two ends stands among the edges where one with their names does.
 edges_placed : (f t : List ℕ) (vs : List Vertex) → Pairwise (λ u v. u.name ≢ v.name) vs → (es : List Edge) → AllByRecursion (IsEdgeAmong (length vs)) es
-    → list_any (joined_by f t vs) es ≡ has_edge (place_of f vs) (place_of t vs) es
+    → list_any (joined_by f t vs) es ≡ has_edge (place_of_name f vs) (place_of_name t vs) es
 unfolding has_edge
 edges_placed f t vs distinct [] are = refl
 edges_placed f t vs distinct (e ∷ es) are =
-    let a : (e.from == place_of f vs) ≡ bytes_eq (name_at vs e.from) f = at_place f vs e.from distinct are.0.from in
-    let b : (e.to == place_of t vs) ≡ bytes_eq (name_at vs e.to) t = at_place t vs e.to distinct are.0.to in
+    let a : (e.from == place_of_name f vs) ≡ bytes_eq (name_at vs e.from) f = at_place f vs e.from distinct are.0.from in
+    let b : (e.to == place_of_name t vs) ≡ bytes_eq (name_at vs e.to) t = at_place t vs e.to distinct are.0.to in
     ap (λ c. (c && bytes_eq (name_at vs e.to) t) || list_any (joined_by f t vs) es) (sym a)
-    ∙ ap (λ c. ((e.from == place_of f vs) && c) || list_any (joined_by f t vs) es) (sym b)
-    ∙ ap (λ c. ((e.from == place_of f vs) && (e.to == place_of t vs)) || c) (edges_placed f t vs distinct es are.1)
+    ∙ ap (λ c. ((e.from == place_of_name f vs) && c) || list_any (joined_by f t vs) es) (sym b)
+    ∙ ap (λ c. ((e.from == place_of_name f vs) && (e.to == place_of_name t vs)) || c) (edges_placed f t vs distinct es are.1)
 
 pub edges_said : (f t : List ℕ) (body : List Fields) (vs : List Vertex) (es : List Edge) (p : Option ℕ) → Says body vs es p → Pairwise (λ u v. u.name ≢ v.name) vs
     → AllByRecursion (IsEdgeAmong (length vs)) es
-    → list_any (λ o. is_edge o && (bytes_eq (field 1 o) f && bytes_eq (field 2 o) t)) body ≡ has_edge (place_of f vs) (place_of t vs) es
+    → list_any (λ o. is_edge o && (bytes_eq (field 1 o) f && bytes_eq (field 2 o) t)) body ≡ has_edge (place_of_name f vs) (place_of_name t vs) es
 edges_said f t body vs es p says distinct are =
     edges_named f t body vs es p says [] ∙ ap (λ l. list_any (joined_by f t l) es) (append-nil vs) ∙ edges_placed f t vs distinct es are
 

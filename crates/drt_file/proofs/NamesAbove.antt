@@ -9,8 +9,8 @@ use Rattle.drt_model.specs.declared.tasks.Vertex.{Vertex}
 use Rattle.drt_model.specs.declared.tasks.Edge.{Edge}
 use Rattle.drt_file.specs.declared.state.Draft.{Draft}
 use Rattle.drt_file.specs.declared.state.State.{State}
-use Rattle.drt_file.specs.internal.StateFaults.{has_vertex, place_of, in_task, in_some_task, is_outside}
-use Rattle.drt_file.specs.internal.Reader.{own_vertices, task_names, vertex_names, HasNames, joined}
+use Rattle.drt_file.specs.internal.StateFaults.{has_vertex, place_of_name, in_task, in_some_task, is_outside}
+use Rattle.drt_file.specs.internal.Reader.{own_vertices, task_names, vertex_names, HasNames, joined_draft}
 use Rattle.drt_file.specs.internal.Steps.{with_last, narrow, on_current, after_task, after_end, with_vertex, with_edge, with_priority}
 use Rattle.drt_file.proofs.Table.{inside}
 
@@ -93,8 +93,8 @@ pub vertex_among : (s : State) (name : List ℕ) → list_any (λ n. bytes_eq n 
 unfolding vertex_names
 vertex_among s name = sym (any_of (λ n. bytes_eq n name) (λ v. v.name) (own_vertices s))
 
-pub vertex_placed : (s : State) (name : List ℕ) → position_or_len (λ n. bytes_eq n name) (vertex_names s) ≡ place_of name (own_vertices s)
-unfolding vertex_names place_of
+pub vertex_placed : (s : State) (name : List ℕ) → position_or_len (λ n. bytes_eq n name) (vertex_names s) ≡ place_of_name name (own_vertices s)
+unfolding vertex_names place_of_name
 vertex_placed s name = sym (placed_as (λ n. bytes_eq n name) (λ v. v.name) (own_vertices s))
 
 -- names that stand as tables of them say, after each line
@@ -127,11 +127,11 @@ vertex_names_stay f same s = go s.current
     go (Some d) = ap (λ (vs : List Vertex). map (λ v. v.name) vs) (same d)
 
 -- after an `edge` line
-pub names_after_edge : (e : Edge) (s t : State) (tasks vertices : List (List ℕ)) → HasNames s tasks vertices → t ≡ on_current (joined e) s → HasNames t tasks vertices
-unfolding joined
+pub names_after_edge : (e : Edge) (s t : State) (tasks vertices : List (List ℕ)) → HasNames s tasks vertices → t ≡ on_current (joined_draft e) s → HasNames t tasks vertices
+unfolding joined_draft
 names_after_edge e s t tasks vertices has at = record {
-  of_tasks = has.of_tasks ∙ sym (task_names_stay (joined e) (λ d. refl) s) ∙ sym (ap task_names at);
-  of_vertices = has.of_vertices ∙ sym (vertex_names_stay (joined e) (λ d. refl) s) ∙ sym (ap vertex_names at);
+  of_tasks = has.of_tasks ∙ sym (task_names_stay (joined_draft e) (λ d. refl) s) ∙ sym (ap task_names at);
+  of_vertices = has.of_vertices ∙ sym (vertex_names_stay (joined_draft e) (λ d. refl) s) ∙ sym (ap vertex_names at);
 }
 
 -- after a `priority` line
@@ -167,19 +167,19 @@ names_after_vertex v s r t word tasks vertices more has view within at grown sam
 
 -- the ends of an edge by the places of their names
 pub ends_by_place : (from to : List ℕ) (sep : ℕ) (s : State)
-    → on_current (joined (record { from = narrow (place_of from (own_vertices s)); to = narrow (place_of to (own_vertices s)); sep = sep })) s ≡ on_current (with_edge from to sep) s
-unfolding on_current joined with_edge own_vertices
+    → on_current (joined_draft (record { from = narrow (place_of_name from (own_vertices s)); to = narrow (place_of_name to (own_vertices s)); sep = sep })) s ≡ on_current (with_edge from to sep) s
+unfolding on_current joined_draft with_edge own_vertices
 ends_by_place from to sep s = go s.current refl
   where
-    go : (o : Option Draft) → s.current ≡ o → on_current (joined (record { from = narrow (place_of from (own_vertices s)); to = narrow (place_of to (own_vertices s)); sep = sep })) s ≡ on_current (with_edge from to sep) s
+    go : (o : Option Draft) → s.current ≡ o → on_current (joined_draft (record { from = narrow (place_of_name from (own_vertices s)); to = narrow (place_of_name to (own_vertices s)); sep = sep })) s ≡ on_current (with_edge from to sep) s
     go None at = rw at refl
     go (Some d) at = rw at refl
 
-pub edge_is : (from to : List ℕ) (sep : ℕ) (s r : State) (a b : ℕ) → s ≡ r → a ≡ narrow (place_of from (own_vertices r)) → b ≡ narrow (place_of to (own_vertices r))
-    → on_current (joined (record { from = a; to = b; sep = sep })) s ≡ on_current (with_edge from to sep) r
+pub edge_is : (from to : List ℕ) (sep : ℕ) (s r : State) (a b : ℕ) → s ≡ r → a ≡ narrow (place_of_name from (own_vertices r)) → b ≡ narrow (place_of_name to (own_vertices r))
+    → on_current (joined_draft (record { from = a; to = b; sep = sep })) s ≡ on_current (with_edge from to sep) r
 edge_is from to sep s r a b view is_from is_to =
-    ap (λ t. on_current (joined (record { from = a; to = b; sep = sep })) t) view ∙ ap (λ x. on_current (joined (record { from = x; to = b; sep = sep })) r) is_from
-    ∙ ap (λ y. on_current (joined (record { from = narrow (place_of from (own_vertices r)); to = y; sep = sep })) r) is_to ∙ ends_by_place from to sep r
+    ap (λ t. on_current (joined_draft (record { from = a; to = b; sep = sep })) t) view ∙ ap (λ x. on_current (joined_draft (record { from = x; to = b; sep = sep })) r) is_from
+    ∙ ap (λ y. on_current (joined_draft (record { from = narrow (place_of_name from (own_vertices r)); to = y; sep = sep })) r) is_to ∙ ends_by_place from to sep r
 
 -- what a line without a fault says of its names
 

@@ -12,7 +12,7 @@ use Rattle.drt_file.specs.declared.state.State.{State}
 use Rattle.drt_file.specs.trusted.Words.{is_name, value, task_word, vertex_word, edge_word, priority_word}
 use Rattle.drt_file.specs.trusted.Line.{is_in_range}
 use Rattle.drt_file.specs.trusted.Reading.{Means}
-use Rattle.drt_file.specs.internal.StateFaults.{first_of, in_task, in_some_task, is_outside, task_fault, vertex_fault, edge_fault, priority_fault, has_vertex, has_edge, has_priority, has_that_priority, place_of, task_count}
+use Rattle.drt_file.specs.internal.StateFaults.{first_of, in_task, in_some_task, is_outside, task_fault, vertex_fault, edge_fault, priority_fault, has_vertex, has_edge, has_priority, has_that_priority, place_of_name, task_count}
 use Rattle.drt_file.specs.internal.Steps.{with_last, capped}
 use Rattle.drt_file.proofs.Snoc.{every_weaker, Pairwise}
 use Rattle.drt_file.proofs.Meanings.{range_again, range_capped, unlike, any_of_every}
@@ -36,7 +36,7 @@ vertex_again s d name wcet deadline w l at mw ml named tw tl new few =
     rw (mw.0, ml.0, rw1, rd1, nm, at, new, room) refl
 
 pub edge_again : (s : State) (d : Draft) (from to sep : List ℕ) (n : ℕ) → s.current ≡ Some d → Means sep n → IsTime n → IsName from → IsName to
-    → has_vertex from d.vertices ≡ true → has_vertex to d.vertices ≡ true → has_edge (place_of from d.vertices) (place_of to d.vertices) d.edges ≡ false → length d.edges < 256
+    → has_vertex from d.vertices ≡ true → has_vertex to d.vertices ≡ true → has_edge (place_of_name from d.vertices) (place_of_name to d.vertices) d.edges ≡ false → length d.edges < 256
     → edge_fault s (edge_word ∷ from ∷ to ∷ sep ∷ []) ≡ None
 unfolding edge_fault first_of in_task is_outside
 edge_again s d from to sep n at m t nf nt hf ht new few =
@@ -103,8 +103,8 @@ stands_again (u ∷ us) (suc i) v e = go (bytes_eq u.name v.name) (stands_again 
     go true h = refl
     go false h = h
 
-pub place_again : (vs : List Vertex) (i : ℕ) (v : Vertex) → Pairwise (λ u w. u.name ≢ w.name) vs → slice_get vs i ≡ Some v → place_of v.name vs ≡ i
-unfolding place_of
+pub place_again : (vs : List Vertex) (i : ℕ) (v : Vertex) → Pairwise (λ u w. u.name ≢ w.name) vs → slice_get vs i ≡ Some v → place_of_name v.name vs ≡ i
+unfolding place_of_name
 place_again [] i v are e = absurd (cc)
 place_again (u ∷ us) zero v are e =
     let same : u ≡ v = cc in
@@ -113,7 +113,7 @@ place_again (u ∷ us) zero v are e =
 place_again (u ∷ us) (suc i) v are e =
     let other : bytes_eq u.name v.name ≡ false = unlike u.name v.name (every_at (λ w. u.name ≢ w.name) us i v are.0 e) in
     let later = place_again us i v are.1 e in
-    let next : place_of v.name (u ∷ us) ≡ suc (place_of v.name us) = rw other (omega arith) in
+    let next : place_of_name v.name (u ∷ us) ≡ suc (place_of_name v.name us) = rw other (omega arith) in
     next ∙ ap (λ n. suc n) later
 
 new_end : (x : Edge) (f t : ℕ) → (x.from ≡ f → x.to ≢ t) → (x.from == f && x.to == t) ≡ false

@@ -12,7 +12,7 @@ use Rattle.drt_model.specs.Contents.{Contents}
 use Rattle.drt_model.specs.Limits.{IsVertex, IsEdgeAmong, IsTask, IsTaskSet}
 use Rattle.drt_file.specs.trusted.Cutting.{lines_of_fields}
 use Rattle.drt_file.specs.trusted.Words.{edge_word, priority_word}
-use Rattle.drt_file.specs.trusted.Canonical.{name_at, vertex_line, edge_line, end_line, priority_lines, body_lines, task_lines, set_lines, canonical}
+use Rattle.drt_file.specs.trusted.Canonical.{name_at, vertex_line, edge_line, end_line, priority_lines, lines_of_body, task_lines, set_lines, canonical}
 use Rattle.drt_file.specs.trusted.Line.{is_skipped}
 use Rattle.drt_file.specs.trusted.Reading.{Means, Says, nothing, vertex, edge, priority, written_priority, SaysTask, SaysTasks, no_task, next_task, Reads}
 use Rattle.drt_file.proofs.Again.{all_of_both, written_again}
@@ -50,11 +50,11 @@ priority_stays version t = go (version == 2)
     go false = tt
 
 tasks_stay : (version : ℕ) (ts : List Task) → AllByRecursion Stays (flat_map (task_lines version) ts)
-unfolding task_lines body_lines is_skipped
+unfolding task_lines lines_of_body is_skipped
 tasks_stay version [] = tt
 tasks_stay version (t ∷ ts) =
     all_of_both Stays (task_lines version t) (flat_map (task_lines version) ts)
-    (refl, all_of_both Stays (priority_lines version t) (body_lines t) (priority_stays version t) (all_of_both Stays (map vertex_line t.vertices) (map (edge_line t.vertices) t.edges) (vertices_stay t.vertices) (edges_stay t.vertices t.edges)))
+    (refl, all_of_both Stays (priority_lines version t) (lines_of_body t) (priority_stays version t) (all_of_both Stays (map vertex_line t.vertices) (map (edge_line t.vertices) t.edges) (vertices_stay t.vertices) (edges_stay t.vertices t.edges)))
     (tasks_stay version ts)
 
 pub set_stays : (set : Contents) → AllByRecursion Stays (set_lines set)
@@ -103,7 +103,7 @@ priority_said version t le = go (version == 2)
     go false = nothing
 
 task_said : (version : ℕ) (t : Task) → IsTask version t → SaysTask version (task_lines version t) t
-unfolding task_lines body_lines
+unfolding task_lines lines_of_body
 task_said version t is =
     let pl = priority_lines version t in
     let mv = map vertex_line t.vertices in

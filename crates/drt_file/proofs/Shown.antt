@@ -10,7 +10,7 @@ use Rattle.drt_file.specs.trusted.Words.{value, task_word}
 use Rattle.drt_file.specs.trusted.Canonical.{version_line}
 use Rattle.drt_file.specs.trusted.Faults.{Fields, field, is_task, is_vertex, is_edge, is_priority, is_end, is_first, version_of, has_task, has_end, own_lines, lines_of_others, has_task_named, has_vertex_named, has_edge_between, others_have_priority}
 use Rattle.drt_file.specs.trusted.Reading.{written_priority}
-use Rattle.drt_file.specs.internal.StateFaults.{has_vertex, place_of, has_edge, has_priority, has_that_priority}
+use Rattle.drt_file.specs.internal.StateFaults.{has_vertex, place_of_name, has_edge, has_priority, has_that_priority}
 use Rattle.drt_file.proofs.Digits.{value_decimal}
 use Rattle.drt_file.proofs.Kept.{IsDraft, SaysDrafts, Inside, Stands, written_two}
 use Rattle.drt_file.proofs.LinesAbove.{has_last, own_is, others_are, vertices_named, vertices_counted, edges_counted, edges_said, has_priority_said, drafts_said, body_has_no_task, one_task_in, tasks_counted, no_end_in, task_named_in, priority_in}
@@ -28,7 +28,7 @@ pub record Shown (ws : List Fields) (version : ℕ) (closed : List Draft) (o : O
 pub record ShownIn (ws : List Fields) (version : ℕ) (closed : List Draft) (d : Draft) : Type 0 where
   pub vertex_named : (name : List ℕ) → has_vertex_named name ws ≡ has_vertex name d.vertices
   pub vertices : count_by is_vertex (own_lines ws) ≡ length d.vertices
-  pub edge_between : (from to : List ℕ) → has_edge_between from to ws ≡ has_edge (place_of from d.vertices) (place_of to d.vertices) d.edges
+  pub edge_between : (from to : List ℕ) → has_edge_between from to ws ≡ has_edge (place_of_name from d.vertices) (place_of_name to d.vertices) d.edges
   pub edges : count_by is_edge (own_lines ws) ≡ length d.edges
   pub has_own : version ≡ 2 → list_any is_priority (own_lines ws) ≡ has_priority d
   pub others_have : version ≡ 2 → (n : ℕ) → others_have_priority n ws ≡ list_any (has_that_priority n) closed

@@ -7,7 +7,7 @@ use Rattle.drt_file.specs.declared.state.Draft.{Draft}
 use Rattle.drt_file.specs.declared.state.State.{State}
 use Rattle.drt_file.specs.trusted.Words.{is_number, is_name, value}
 use Rattle.drt_file.specs.trusted.Line.{is_in_range}
-use Rattle.drt_file.specs.internal.StateFaults.{first_of, in_task, in_some_task, is_outside, task_fault, vertex_fault, edge_fault, priority_fault, end_fault, has_vertex, has_edge, has_priority, has_that_priority, place_of, task_count}
+use Rattle.drt_file.specs.internal.StateFaults.{first_of, in_task, in_some_task, is_outside, task_fault, vertex_fault, edge_fault, priority_fault, end_fault, has_vertex, has_edge, has_priority, has_that_priority, place_of_name, task_count}
 use Rattle.drt_file.proofs.Meanings.{both, not_false, either_false}
 
 -- No code: this test doesn't hold, and none of the others.
@@ -122,7 +122,7 @@ pub record EdgePassed (s : State) (words : List (List ℕ)) : Type 0 where
   pub in_a_task : s.current ≡ Some draft
   pub from_stands : has_vertex from draft.vertices ≡ true
   pub to_stands : has_vertex to draft.vertices ≡ true
-  pub new_edge : has_edge (place_of from draft.vertices) (place_of to draft.vertices) draft.edges ≡ false
+  pub new_edge : has_edge (place_of_name from draft.vertices) (place_of_name to draft.vertices) draft.edges ≡ false
   pub room : length draft.edges < 256
 
 pub edge_passed : (s : State) (words : List (List ℕ)) → edge_fault s words ≡ None → EdgePassed s words
@@ -153,7 +153,7 @@ edge_passed s (word ∷ from ∷ to ∷ sep ∷ []) e =
       in_a_task = here.1;
       from_stands = stand.0;
       to_stands = stand.1;
-      new_edge = sym (at_task (λ d. has_edge (place_of from d.vertices) (place_of to d.vertices) d.edges) s here.0 here.1) ∙ eleven.0;
+      new_edge = sym (at_task (λ d. has_edge (place_of_name from d.vertices) (place_of_name to d.vertices) d.edges) s here.0 here.1) ∙ eleven.0;
       room = not_full _ _ (sym (at_task (λ d. nat_le 256 (length d.edges)) s here.0 here.1) ∙ fifteen.0);
     }
 edge_passed s (a ∷ b ∷ c ∷ d ∷ e1 ∷ more) e = absurd (cc)

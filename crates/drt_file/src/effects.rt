@@ -1,9 +1,9 @@
 //! What a line without a fault adds to what the lines above leave.
 ghost use Rattle.std.specs.Prelude.{◌≡◌, ◌++◌, ◌∷◌, [], None, Some, false, map, bytes_eq, IfOk, option_map};
 ghost use Rattle.std.specs.List.{list_any};
-ghost use Rattle.drt_file.specs.internal.StateFaults.{place_of, has_vertex, in_some_task, is_outside, kind_fault};
+ghost use Rattle.drt_file.specs.internal.StateFaults.{place_of_name, has_vertex, in_some_task, is_outside, kind_fault};
 ghost use Rattle.drt_file.specs.internal.Parsed.{IsNew, after_line};
-ghost use Rattle.drt_file.specs.internal.Reader.{own_vertices, joined};
+ghost use Rattle.drt_file.specs.internal.Reader.{own_vertices, joined_draft};
 ghost use Rattle.drt_file.specs.internal.Steps.{
   after_task,
   after_end,
@@ -143,7 +143,7 @@ fn vertex_added(current: Option<Draft>, v: Vertex) -> Result<Option<Draft>, Memo
 
 #[tactic(auto, unfolding(crate::specs::internal::Reader::joined))]
 fn edge_added(current: Option<Draft>, edge: Edge) -> Result<Option<Draft>, Memory>
-    ensures { IfOk result (λ d. d ≡ option_map (joined edge) current) }
+    ensures { IfOk result (λ d. d ≡ option_map (joined_draft edge) current) }
 {
     match current {
         Some(d) => {
@@ -239,7 +239,7 @@ fn after_vertex(alloc: Global, r: Reader, v: Vertex) -> Result<Reader, Memory>
 
 #[tactic(auto, unfolding(crate::specs::internal::Steps::on_current))]
 fn edge_put(s: State, edge: Edge) -> Result<State, Memory>
-    ensures { IfOk result (λ t. t ≡ on_current (joined edge) s) }
+    ensures { IfOk result (λ t. t ≡ on_current (joined_draft edge) s) }
 {
     let State {
         version,
@@ -257,7 +257,7 @@ fn edge_put(s: State, edge: Edge) -> Result<State, Memory>
 }
 
 fn after_edge(r: Reader, edge: Edge) -> Result<Reader, Memory>
-    ensures { IfOk result (λ t. t ≡ on_current (joined edge) r) }
+    ensures { IfOk result (λ t. t ≡ on_current (joined_draft edge) r) }
 {
     let Reader {
         state,

@@ -8,7 +8,7 @@ ghost use Rattle.drt_file.specs.internal.Parsed.{read_as, said_by, parsed};
 ghost use Rattle.drt_file.specs.internal.Reader.{own_vertices};
 ghost use Rattle.drt_file.specs.internal.StateFaults.{
   has_vertex,
-  place_of,
+  place_of_name,
   has_edge,
   has_that_priority,
   has_priority,
@@ -74,7 +74,7 @@ fn name_of(alloc: Global, word: &[u8]) -> Result<Name, Memory>
 }
 
 fn place_in(r: &Reader, name: &[u8]) -> u32
-    ensures { result ≡ narrow (place_of name.now (own_vertices r.now)) }
+    ensures { result ≡ narrow (place_of_name name.now (own_vertices r.now)) }
 {
     r.place(name).min(4294967295) as u32
 }
@@ -152,7 +152,7 @@ fn both_stand(r: &Reader, from: &[u8], to: &[u8]) -> bool
 }
 
 fn joins(r: &Reader, d: &Draft, from: &[u8], to: &[u8]) -> bool
-    ensures { result ≡ has_edge (place_of from.now (own_vertices r.now)) (place_of to.now (own_vertices r.now)) d.now.edges }
+    ensures { result ≡ has_edge (place_of_name from.now (own_vertices r.now)) (place_of_name to.now (own_vertices r.now)) d.now.edges }
 {
     any_edge(r.place(from), r.place(to), d.edges.as_slice())
 }

@@ -7,7 +7,7 @@ ghost use Rattle.drt_file.specs.trusted.Canonical.{
   written_line,
   name_at,
   priority_lines,
-  body_lines,
+  lines_of_body,
   task_lines,
   vertex_line,
   edge_line,

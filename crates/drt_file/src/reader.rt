@@ -1,6 +1,6 @@
 //! What the lines above leave, with the names that stand there found by hash.
 ghost use Rattle.std.specs.Prelude.{◌≡◌, bytes_eq};
-ghost use Rattle.drt_file.specs.internal.StateFaults.{has_vertex, place_of, in_some_task};
+ghost use Rattle.drt_file.specs.internal.StateFaults.{has_vertex, place_of_name, in_some_task};
 ghost use Rattle.drt_file.specs.internal.Reader.{own_vertices};
 ghost use Rattle.drt_file.specs.internal.Steps.{opening};
 
@@ -79,7 +79,7 @@ impl Reader {
 
     /// How many vertices of the task stand before the one of that name.
     pub fn place(&self, name: &[u8]) -> usize
-        ensures { result ≡ place_of name.now (own_vertices self.now) }
+        ensures { result ≡ place_of_name name.now (own_vertices self.now) }
     {
         self.vertices.place(name)
     }

@@ -49,12 +49,12 @@ IsFoundVertex g v (Passes states) = Unit {0}
 IsFoundVertex g v Spent = Unit {0}
 
 -- What stands for a vertex past the last one.
-abbrev pub no_vertex : PlacedVertex
-no_vertex = record { place = 0; at = record { task = 0; vertex = 0; deadline = 0 }; wcet = 0 }
+abbrev pub no_placed_vertex : PlacedVertex
+no_placed_vertex = record { place = 0; at = record { task = 0; vertex = 0; deadline = 0 }; wcet = 0 }
 
 -- What is found of some vertices, the first of which has this number.
 abbrev pub AreFoundFrom : Given → List PlacedVertex → ℕ → List (Option Searched) → Type 0
-AreFoundFrom g vertices first found = AreThere (λ i searched. IsFoundVertex g (slice_index_or vertices (first + i) no_vertex) searched) found
+AreFoundFrom g vertices first found = AreThere (λ i searched. IsFoundVertex g (slice_index_or vertices (first + i) no_placed_vertex) searched) found
 
 -- A walk of task k beside vertex v of task j: where task k has no higher priority than task j, it is the vertex alone for task j itself, and no
 -- walk for another task.

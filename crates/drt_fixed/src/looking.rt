@@ -2,7 +2,7 @@
 ghost use Rattle.std.specs.Prelude.{◌≡◌, ◌<◌, ◌≤◌, All, IfOk, IfSome, List, length, slice_index_or};
 ghost use denote.Param.Send.{IsSync};
 ghost use Rattle.drt_ahead.specs.Found.{AreThere};
-ghost use Rattle.drt_fixed.specs.Searching.{AreFoundFrom, IsFoundVertex, IsSearchGiven, IsVertexPlaced, no_vertex};
+ghost use Rattle.drt_fixed.specs.Searching.{AreFoundFrom, IsFoundVertex, IsSearchGiven, IsVertexPlaced, no_placed_vertex};
 ghost use Rattle.drt_fixed.specs.declared.vertices.Given.{Given};
 ghost use Rattle.drt_fixed.specs.declared.vertices.PlacedVertex.{PlacedVertex};
 
@@ -47,7 +47,7 @@ impl Ahead {
     // What is found of the vertex of this number.
     fn take(&mut self, number: usize) -> Option<Searched>
         ensures ahead { (given : Given) (vertices : List PlacedVertex) → AreFoundFrom given vertices self.old.first self.old.found.items → AreFoundFrom given vertices self.new.first self.new.found.items }
-        ensures found { (given : Given) (vertices : List PlacedVertex) → AreFoundFrom given vertices self.old.first self.old.found.items → IfSome result (IsFoundVertex given (slice_index_or vertices number no_vertex)) }
+        ensures found { (given : Given) (vertices : List PlacedVertex) → AreFoundFrom given vertices self.old.first self.old.found.items → IfSome result (IsFoundVertex given (slice_index_or vertices number no_placed_vertex)) }
     {
         if number < self.first {
             return None;
@@ -82,7 +82,7 @@ pub(crate) fn search_next<G: Gate, R: Threads + Wait + Sync>(
     requires number { number < length vertices.now }
     requires ahead { AreFoundFrom given vertices.now ahead.old.first ahead.old.found.items }
     ensures ahead { IfOk result (λ searched. AreFoundFrom given.entry vertices.now ahead.new.first ahead.new.found.items) }
-    ensures found { IfOk result (IsFoundVertex given.entry (slice_index_or vertices.now number no_vertex)) }
+    ensures found { IfOk result (IsFoundVertex given.entry (slice_index_or vertices.now number no_placed_vertex)) }
 {
     look_from(crew, given, vertices, number, ahead)?;
     match ahead.take(number) {
@@ -104,7 +104,7 @@ fn search_at<G: Gate, R: Threads + Wait + Sync>(
     requires given { IsSearchGiven given }
     requires vertices { All (IsVertexPlaced given) vertices.now }
     requires number { number < length vertices.now }
-    ensures { IfOk result (IsFoundVertex given.entry (slice_index_or vertices.now number no_vertex)) }
+    ensures { IfOk result (IsFoundVertex given.entry (slice_index_or vertices.now number no_placed_vertex)) }
 {
     search_vertex(crew, given, vertices[number])
 }
@@ -142,14 +142,14 @@ fn search_ahead<G: Gate, R: Threads + Wait + Sync>(
 ) -> Result<Vec<Option<Searched>>, Memory>
     requires given { IsSearchGiven given }
     requires left { All (IsVertexPlaced given) left.now }
-    ensures { IfOk result (λ found. AreThere (λ i searched. IsFoundVertex given.entry (slice_index_or left.now i no_vertex) searched) found.items) }
+    ensures { IfOk result (λ found. AreThere (λ i searched. IsFoundVertex given.entry (slice_index_or left.now i no_placed_vertex) searched) found.items) }
 {
     let first = latest_first(crew.alloc, left)?;
     let alone = crew.with(crew.effort.alone().at_most(MOST_AHEAD));
     let alone = &alone;
     let job = move |place: u32| -> Result<Searched, Memory>
         requires { IsSync R.row × IsSync G.row × IsSearchGiven given × All (IsVertexPlaced given) left.now × (place < length left.now) }
-        ensures { IfOk result (IsFoundVertex given.entry (slice_index_or left.entry.now place no_vertex)) }
+        ensures { IfOk result (IsFoundVertex given.entry (slice_index_or left.entry.now place no_placed_vertex)) }
     { search_at(alone, given, left, place as usize) };
     look_ahead(crew, first.as_slice(), job, is_last)
 }

@@ -11,7 +11,7 @@ use Rattle.drt_busy.specs.Choice.{IsWalk, graph_at, no_task, task_at}
 use Rattle.drt_states.specs.declared.claims.StateClaim.{StateClaim}
 use Rattle.drt_states.specs.declared.claims.TailClaim.{TailClaim}
 use Rattle.drt_states.specs.States.{AreStates, HaveDominatedChildren, HavePassingTimes}
-use Rattle.drt_states.specs.Tails.{BoundsWalks, EachTail, IsTail, Place, graphs_of}
+use Rattle.drt_states.specs.Tails.{BoundsWalks, EachTail, IsTail, Place, graphs_of_places}
 use Rattle.drt_states_laws.specs.Laws.{AreWalksOf, StatesPass, asked_together}
 use Rattle.drt_choices.specs.Choices.{VertexPasses}
 use Rattle.drt_fixed_task.specs.Higher.{higher_tasks}
@@ -24,7 +24,7 @@ module _ (bound : ℕ) where
   abbrev places_of : List Digraph → List Place
   places_of gs = map (λ g. record { graph = g; bound = bound }) gs
 
-  places_graphs : (gs : List Digraph) → graphs_of (places_of gs) ≡ gs
+  places_graphs : (gs : List Digraph) → graphs_of_places (places_of gs) ≡ gs
   places_graphs [] = refl
   places_graphs (g ∷ gs) = ap (λ hs. g ∷ hs) (places_graphs gs)
 
@@ -58,10 +58,10 @@ module _ (bound : ℕ) (gs : List Digraph) (tails : List TailClaim) (are : AreTa
       → (walks : List (List ℕ)) → AllZip IsWalk gs walks → HasTime gs walks wcet d
   graphs_pass pass wcet d states near opens times children walks each =
       let ps : List Place = places_of bound gs in
-      let same : graphs_of ps ≡ gs = places_graphs bound gs in
+      let same : graphs_of_places ps ≡ gs = places_graphs bound gs in
       let sounds : All (λ (p : Place). IsSoundGraph p.graph) ps = All-from_recursion (λ (p : Place). IsSoundGraph p.graph) ps (places_sound bound gs (recursion_from_All IsSoundGraph gs sound)) in
       let nears : All (λ (p : Place). d ≤ p.bound) ps = All-from_recursion (λ (p : Place). d ≤ p.bound) ps (places_near bound d near gs) in
-      let found : HasTime (graphs_of ps) walks wcet d =
+      let found : HasTime (graphs_of_places ps) walks wcet d =
       pass ps tails wcet d d states sounds nears (places_tails bound IsTail gs tails are.rising) (places_tails bound BoundsWalks gs tails are.bounding)
       (subst (λ hs. AreStates hs states) (sym same) opens) (omega arith) times (subst (λ hs. HaveDominatedChildren hs d states) (sym same) children)
       walks (places_walks bound gs walks each) in

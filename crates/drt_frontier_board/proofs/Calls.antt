@@ -8,7 +8,7 @@ use Rattle.drt_tree.specs.Tree.{Plain}
 use Rattle.drt_worklist.specs.Places.{first}
 use Rattle.drt_worklist.proofs.Lists.{Found, found, none_found, get_within}
 use Rattle.drt_worklist.proofs.Runs.{along_join}
-use Rattle.drt_refine.specs.Combination.{Combination, is_failed, is_failed_state, is_held_by, is_held_state}
+use Rattle.drt_refine.specs.Combination.{Combination, is_failed, is_failed_state, is_combination_held_by, is_held_state}
 use Rattle.drt_refine.specs.Drive.{Settles}
 use Rattle.drt_refine.specs.Eager.{IsEager, IsEagerStep, IsSplitPlace}
 use Rattle.drt_refine.specs.Facts.{AreInPlace}
@@ -23,8 +23,8 @@ use Rattle.drt_refine.specs.declared.step.FrontierStep.TheVariants.{Take, Pass, 
 use Rattle.drt_refine.proofs.Making.{Logs, same, adds, step_logs, frontier_facts}
 use Rattle.drt_refine.proofs.Settling.{settle_can, settle_eager, take_eager}
 use Rattle.drt_frontier_board.specs.Board.{BoardOf, terms_of, CanMake, IsFrontierStepMade}
-use Rattle.drt_frontier_board.specs.Finds.{HasCopy, IsFoundCombination, is_number, is_expected}
-use Rattle.drt_frontier_board.specs.Replies.{logged_by, taken_by, IsReplyTo}
+use Rattle.drt_frontier_board.specs.Finds.{HasCopy, IsFoundCombination, is_that_combination, is_expected_combination}
+use Rattle.drt_frontier_board.specs.Replies.{frontier_logged_by, taken_by, IsReplyTo}
 use Rattle.drt_frontier_board.specs.declared.answer.FrontierFound.{FrontierFound}
 use Rattle.drt_frontier_board.proofs.Goes.{Goes, FailsHeld, goes}
 
@@ -52,7 +52,7 @@ state_held w (PassedAt time) e = absurd (cc e)
 state_held w (SplitAt place left right) e = absurd (cc e)
 state_held w HasFailed e = absurd (cc e)
 
-number_is : (k : ℕ) (o : Option ℕ) → is_number k o ≡ true → o ≡ Some k
+number_is : (k : ℕ) (o : Option ℕ) → is_that_combination k o ≡ true → o ≡ Some k
 number_is k None e = absurd (cc e)
 number_is k (Some j) e = ap (λ n. Some n) (is_equal j k e)
 
@@ -71,39 +71,39 @@ pub record IsSeen (s : FrontierState) (w id : ℕ) (nodes : List ℕ) : Type 0 w
 pub record CanGo (t : FrontierSetting) (s : FrontierState) (w : ℕ) (held : Option ℕ) (step : FrontierStep) : Type 0 where
   pub can : CanStep t s w step
   pub eager : IsEagerStep t s (record { worker = w; step = step })
-  pub other : (k : ℕ) → first is_failed s.combinations ≡ Some k → is_number k held ≡ false
+  pub other : (k : ℕ) → first is_failed s.combinations ≡ Some k → is_that_combination k held ≡ false
   pub fails : FailsHeld t s held step
 
 module _ (t : FrontierSetting) (s : FrontierState) (w : ℕ) (nodes : List ℕ) (f : FrontierFound) where
   -- where a pass holds nothing and nothing was found
   take_go : IsFoundCombination s.combinations w None nodes f → is_none f.held ≡ true → CanGo t s w None Take
   take_go is e =
-      let none : first (is_held_by w) s.combinations ≡ None = sym is.held_is ∙ none_is f.held e in
+      let none : first (is_combination_held_by w) s.combinations ≡ None = sym is.held_is ∙ none_is f.held e in
       record {
-        can = λ id c at held. absurd (cc (none_found (is_held_by w) s.combinations none id c at, ap (λ x. is_held_state w x) held, equals w w refl));
+        can = λ id c at held. absurd (cc (none_found (is_combination_held_by w) s.combinations none id c at, ap (λ x. is_held_state w x) held, equals w w refl));
         eager = take_eager t s w;
         other = λ k e. refl;
         fails = tt;
       }
 
   -- where what was found is what the pass holds
-  seen : (id : ℕ) → IsFoundCombination s.combinations w (Some id) nodes f → is_expected (Some id) f ≡ true → IsSeen s w id nodes
+  seen : (id : ℕ) → IsFoundCombination s.combinations w (Some id) nodes f → is_expected_combination (Some id) f ≡ true → IsSeen s w id nodes
   seen id is e =
-      let at : f.held ≡ Some id = number_is id f.held (and_left (is_number id f.held) f.same e) in
-      let c : HasCopy s.combinations f.held (Some id) nodes = is.same_is.0 (and_right (is_number id f.held) f.same e) in
+      let at : f.held ≡ Some id = number_is id f.held (and_left (is_that_combination id f.held) f.same e) in
+      let c : HasCopy s.combinations f.held (Some id) nodes = is.same_is.0 (and_right (is_that_combination id f.held) f.same e) in
       let one : c.found ≡ id = same_Some c.found id (sym c.found_is ∙ at) in
       let here : slice_get s.combinations id ≡ Some c.combination = ap (λ i. slice_get s.combinations i) (sym one) ∙ c.combination_is in
-      let g : Found (is_held_by w) s.combinations id = found (is_held_by w) s.combinations id (sym is.held_is ∙ at) in
+      let g : Found (is_combination_held_by w) s.combinations id = found (is_combination_held_by w) s.combinations id (sym is.held_is ∙ at) in
       let item : g.item ≡ c.combination = same_Some g.item c.combination (sym g.at ∙ here) in
       record {
         combination = c.combination;
         at = here;
-        held = state_held w c.combination.state (subst (λ (x : Combination). is_held_by w x ≡ true) item g.passes);
+        held = state_held w c.combination.state (subst (λ (x : Combination). is_combination_held_by w x ≡ true) item g.passes);
         nodes_are = c.same;
       }
 
   -- it hasn't failed
-  not_failed : (id : ℕ) → IsSeen s w id nodes → (k : ℕ) → first is_failed s.combinations ≡ Some k → is_number k (Some id) ≡ false
+  not_failed : (id : ℕ) → IsSeen s w id nodes → (k : ℕ) → first is_failed s.combinations ≡ Some k → is_that_combination k (Some id) ≡ false
   not_failed id x k e = not_equal id k (λ one.
       let g : Found is_failed s.combinations k = found is_failed s.combinations k e in
       let item : x.combination ≡ g.item = same_Some x.combination g.item (sym x.at ∙ (ap (λ i. slice_get s.combinations i) one ∙ g.at)) in
@@ -127,7 +127,7 @@ module _ (t : FrontierSetting) (s : FrontierState) (w : ℕ) (nodes : List ℕ) 
   fails_held id (Split k place) can = tt
   fails_held id (Fail k) can = equals id k (same_Some id k can.0)
 
-  settle_go : (id : ℕ) (step : FrontierStep) → IsFoundCombination s.combinations w (Some id) nodes f → is_expected (Some id) f ≡ true → CanMake t (Some id) nodes step → CanGo t s w (Some id) step
+  settle_go : (id : ℕ) (step : FrontierStep) → IsFoundCombination s.combinations w (Some id) nodes f → is_expected_combination (Some id) f ≡ true → CanMake t (Some id) nodes step → CanGo t s w (Some id) step
   settle_go id step is e can =
       let x : IsSeen s w id nodes = seen id is e in
       let does : Settles t id x.combination step = settles id x step can in
@@ -139,7 +139,7 @@ module _ (t : FrontierSetting) (s : FrontierState) (w : ℕ) (nodes : List ℕ) 
       }
 
   -- a worker may make a step that the pass may ask for, where what was found is what the pass holds
-  pub can_go : (held : Option ℕ) (step : FrontierStep) → IsFoundCombination s.combinations w held nodes f → is_expected held f ≡ true → CanMake t held nodes step → CanGo t s w held step
+  pub can_go : (held : Option ℕ) (step : FrontierStep) → IsFoundCombination s.combinations w held nodes f → is_expected_combination held f ≡ true → CanMake t held nodes step → CanGo t s w held step
   can_go None Take is e can = take_go is e
   can_go None (Pass k time) is e can = absurd (none-some k can.0)
   can_go None (Split k place) is e can = absurd (none-some k can.0)
@@ -169,15 +169,15 @@ made old new w held step reply same_forest go h =
     record {
       terms = ap (λ x. setting_of x new.frontier) same_forest ∙ ap (λ v. setting_of old.forest v) h.state;
       made = h;
-      log = ap (λ (v : FrontierView). length v.log) h.state ∙ (g.log ∙ ap (λ x. length old.frontier.log + logged_by held x) (sym r));
-      few = λ one. g.few (ap (λ x. logged_by held x) (sym r) ∙ one);
+      log = ap (λ (v : FrontierView). length v.log) h.state ∙ (g.log ∙ ap (λ x. length old.frontier.log + frontier_logged_by held x) (sym r));
+      few = λ one. g.few (ap (λ x. frontier_logged_by held x) (sym r) ∙ one);
       kind = subst (λ x. IsReplyTo step x) (sym r) g.kind;
       taken = λ k e. subst (λ (v : FrontierView). k < length v.combinations) (sym h.state) (g.taken_is k (ap (λ x. taken_by x) (sym r) ∙ e));
     }
 
 -- the combination that a worker holds is one of the frontier
-pub combination_within : (combinations : List Combination) (w id : ℕ) → first (is_held_by w) combinations ≡ Some id → id < length combinations
-combination_within combinations w id e = let f : Found (is_held_by w) combinations id = found (is_held_by w) combinations id e in slice_get_within combinations id f.item f.at
+pub combination_within : (combinations : List Combination) (w id : ℕ) → first (is_combination_held_by w) combinations ≡ Some id → id < length combinations
+combination_within combinations w id e = let f : Found (is_combination_held_by w) combinations id = found (is_combination_held_by w) combinations id e in slice_get_within combinations id f.item f.at
 
 if_some : (o : Option Combination) (P : Combination → Type 0) (x : Combination) → IfSome o P → o ≡ Some x → P x
 if_some None P x h e = absurd (none-some x e)
@@ -193,7 +193,7 @@ in_place f v id nodes front lt are =
 
 -- what was found of the combination that the worker holds
 pub found_one : (combinations : List Combination) (w id : ℕ) (held : Option ℕ) (nodes its : List ℕ) (b : Bool)
-    → first (is_held_by w) combinations ≡ Some id → IfSome (slice_get combinations id) (λ c. its ≡ c.nodes)
+    → first (is_combination_held_by w) combinations ≡ Some id → IfSome (slice_get combinations id) (λ c. its ≡ c.nodes)
     → MatchBool b ((k : ℕ) × (held ≡ Some k) × (nodes ≡ its)) ((k : ℕ) → held ≡ Some k → nodes ≢ its) → IsFoundCombination combinations w held nodes (record { held = Some id; same = b })
 found_one combinations w id held nodes its true at are is =
     let lt : id < length combinations = combination_within combinations w id at in

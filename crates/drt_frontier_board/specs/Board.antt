@@ -11,7 +11,7 @@ use Rattle.drt_refine.specs.declared.step.FrontierReply.{FrontierReply}
 use Rattle.drt_refine.specs.declared.step.FrontierStep.{FrontierStep}
 use Rattle.drt_refine.specs.declared.step.FrontierStep.TheVariants.{Take, Pass, Split, Fail}
 use Rattle.drt_frontier_board.specs.Finds.{FrontierDiffersIfStrange, TellsFrontierFound}
-use Rattle.drt_frontier_board.specs.Replies.{ForFrontierReply, IsReplyTo, logged, logged_by, taken_by}
+use Rattle.drt_frontier_board.specs.Replies.{ForFrontierReply, IsReplyTo, frontier_logged, frontier_logged_by, taken_by}
 use Rattle.drt_frontier_board.specs.declared.answer.FrontierAnswer.{FrontierAnswer}
 use Rattle.drt_frontier_board.specs.declared.answer.FrontierAnswer.TheVariants.{Step, Strange}
 
@@ -43,8 +43,8 @@ CanMake t held nodes (Fail id) = CanSettle t held nodes (Fail id)
 pub record IsFrontierStepMade (old new : BoardOf) (w : ℕ) (held : Option ℕ) (step : FrontierStep) (reply : FrontierReply) : Type 0 where
   pub terms : terms_of new ≡ terms_of old
   pub made : IsFrontierStep old.forest old.frontier new.frontier w step reply
-  pub log : length new.frontier.log ≡ length old.frontier.log + logged_by held reply
-  pub few : logged_by held reply ≡ 1 → length old.frontier.log < old.frontier.budget
+  pub log : length new.frontier.log ≡ length old.frontier.log + frontier_logged_by held reply
+  pub few : frontier_logged_by held reply ≡ 1 → length old.frontier.log < old.frontier.budget
   pub kind : IsReplyTo step reply
   pub taken : (k : ℕ) → taken_by reply ≡ Some k → k < length new.frontier.combinations
 
@@ -68,8 +68,8 @@ KeepsCopy (Strange f) old new = new ≡ old
 pub record IsFrontierCall (old new : BoardOf) (w : ℕ) (held : Option ℕ) (nodes copy : List ℕ) (step : FrontierStep) (answer : FrontierAnswer) : Type 0 where
   pub terms : terms_of new ≡ terms_of old
   pub becomes : Becomes old new w step answer
-  pub log : length new.frontier.log ≡ length old.frontier.log + logged held answer
-  pub few : logged held answer ≡ 1 → length old.frontier.log < old.frontier.budget
+  pub log : length new.frontier.log ≡ length old.frontier.log + frontier_logged held answer
+  pub few : frontier_logged held answer ≡ 1 → length old.frontier.log < old.frontier.budget
   pub kind : ForFrontierReply (IsReplyTo step) answer
   pub differs : FrontierDiffersIfStrange held answer
   pub found : TellsFrontierFound old.frontier.combinations w held nodes answer

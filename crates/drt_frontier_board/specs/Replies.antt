@@ -4,25 +4,25 @@ use Rattle.drt_refine.specs.declared.step.FrontierReply.{FrontierReply}
 use Rattle.drt_refine.specs.declared.step.FrontierReply.TheVariants.{Taken, Busy, Finished, Passed, Halved, Failed, Spent}
 use Rattle.drt_refine.specs.declared.step.FrontierStep.{FrontierStep}
 use Rattle.drt_refine.specs.declared.step.FrontierStep.TheVariants.{Take, Pass, Split, Fail}
-use Rattle.drt_frontier_board.specs.Finds.{is_number}
+use Rattle.drt_frontier_board.specs.Finds.{is_that_combination}
 use Rattle.drt_frontier_board.specs.declared.answer.FrontierAnswer.{FrontierAnswer}
 use Rattle.drt_frontier_board.specs.declared.answer.FrontierAnswer.TheVariants.{Step, Strange}
 
 -- How many entries a reply adds to the log, where the worker held that combination. That one has failed is told once, by the step
 -- that is logged; each later step is told the same.
-abbrev pub logged_by : Option ℕ → FrontierReply → ℕ
-logged_by held (Taken k) = 1
-logged_by held (Busy k) = 0
-logged_by held Finished = 0
-logged_by held Passed = 1
-logged_by held (Halved left right) = 1
-logged_by held (Failed k) = if is_number k held then 1 else 0
-logged_by held Spent = 0
+abbrev pub frontier_logged_by : Option ℕ → FrontierReply → ℕ
+frontier_logged_by held (Taken k) = 1
+frontier_logged_by held (Busy k) = 0
+frontier_logged_by held Finished = 0
+frontier_logged_by held Passed = 1
+frontier_logged_by held (Halved left right) = 1
+frontier_logged_by held (Failed k) = if is_that_combination k held then 1 else 0
+frontier_logged_by held Spent = 0
 
 -- How many entries an answer adds to the log.
-abbrev pub logged : Option ℕ → FrontierAnswer → ℕ
-logged held (Step r) = logged_by held r
-logged held (Strange f) = 0
+abbrev pub frontier_logged : Option ℕ → FrontierAnswer → ℕ
+frontier_logged held (Step r) = frontier_logged_by held r
+frontier_logged held (Strange f) = 0
 
 -- The combination that a pass holds after a reply.
 abbrev pub held_by : Option ℕ → FrontierReply → Option ℕ
@@ -31,7 +31,7 @@ held_by held (Busy k) = held
 held_by held Finished = held
 held_by held Passed = None
 held_by held (Halved left right) = None
-held_by held (Failed k) = if is_number k held then None else held
+held_by held (Failed k) = if is_that_combination k held then None else held
 held_by held Spent = held
 
 -- The combination that it holds after an answer.

@@ -5,7 +5,7 @@ ghost use Rattle.drt_refine.specs.Eager.{IsEager};
 ghost use Rattle.drt_refine.specs.Facts.{AreInPlace};
 ghost use Rattle.drt_refine.specs.View.{IsFrontier};
 ghost use Rattle.drt_frontier_board.specs.Board.{terms_of, CanMake, IsFrontierCall, IsFrontierStepMade, IsCopied};
-ghost use Rattle.drt_frontier_board.specs.Finds.{IsFoundCombination, is_expected, is_number};
+ghost use Rattle.drt_frontier_board.specs.Finds.{IsFoundCombination, is_expected_combination, is_that_combination};
 ghost use Rattle.drt_frontier_board.specs.Replies.{taken_by};
 ghost use Rattle.drt_frontier_board.specs.declared.answer.FrontierFound.{FrontierFound as Found};
 
@@ -121,7 +121,7 @@ impl Board {
     ) -> FrontierReply
         requires forest { forest.now ≡ self.old.forest }
         requires can { CanMake (terms_of self.old) held nodes.now step }
-        requires expected { (f : Found) × IsFoundCombination self.old.frontier.combinations worker held nodes.now f × (is_expected held f ≡ true) }
+        requires expected { (f : Found) × IsFoundCombination self.old.frontier.combinations worker held nodes.now f × (is_expected_combination held f ≡ true) }
         ensures { IsFrontierStepMade self.old self.new worker held step result }
     {
         self.frontier.apply(forest, worker, step)
@@ -152,7 +152,7 @@ pub fn is_copy(held: Option<u32>, nodes: &[u32], its: &[u32]) -> bool
 
 // Whether what was found is what the pass holds.
 fn expects(held: Option<u32>, found: FrontierFound) -> bool
-    ensures { result ≡ is_expected held found }
+    ensures { result ≡ is_expected_combination held found }
 {
     match held {
         None => found.held.is_none(),
@@ -162,7 +162,7 @@ fn expects(held: Option<u32>, found: FrontierFound) -> bool
 
 /// Whether the number is that one.
 pub fn is_number(id: u32, number: Option<u32>) -> bool
-    ensures { result ≡ is_number id number }
+    ensures { result ≡ is_that_combination id number }
 {
     match number {
         None => false,

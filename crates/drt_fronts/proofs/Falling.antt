@@ -9,7 +9,7 @@ use Rattle.std.proofs.lemmas.List.Quantifiers.{all_pairs_push}
 use Rattle.std.proofs.lemmas.List.Sorted.{All-permutation, Contains-permutation, IsPermutation-reverse}
 use Rattle.drt_model.specs.Digraph.{IsSoundGraph, vertex_count}
 use Rattle.drt_graph.specs.declared.front.FrontEntry.{FrontEntry}
-use Rattle.drt_demand.specs.Demand.{demand_algebra, dominates}
+use Rattle.drt_demand.specs.Demand.{demand_algebra, entry_dominates}
 use Rattle.drt_demand.specs.Laws.{demand_laws}
 use Rattle.drt_demand.proofs.Comparable.{comparable}
 use Rattle.drt_table.specs.Node.{NodeOf}
@@ -28,7 +28,7 @@ none_is (Some x) e = absurd (cc)
 one_place : (t : Setting) (x y : FrontEntry) → IsAlone demand_algebra t x → IsAlone demand_algebra t y → x.vertex ≡ y.vertex → x.offset ≡ y.offset → x ≡ y
 one_place t x y p q vertex offset = go (comparable x y vertex offset)
   where
-    go : IsTrue (dominates x y) ⊎ IsTrue (dominates y x) → x ≡ y
+    go : IsTrue (entry_dominates x y) ⊎ IsTrue (entry_dominates y x) → x ≡ y
     go (inl d) = q.alone x p.walk d
     go (inr d) = sym (p.alone y q.walk d)
 

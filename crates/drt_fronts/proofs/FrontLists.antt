@@ -7,7 +7,7 @@ use Rattle.std.proofs.lemmas.List.Elements.{All-weaker, All-contains}
 use Rattle.drt_model.specs.Digraph.{IsSoundGraph, IsConstrainedGraph}
 use Rattle.drt_model.specs.Legal.{AllNeighbours}
 use Rattle.drt_graph.specs.declared.front.FrontEntry.{FrontEntry}
-use Rattle.drt_demand.specs.Demand.{demand_algebra, dominates}
+use Rattle.drt_demand.specs.Demand.{demand_algebra, entry_dominates}
 use Rattle.drt_table.specs.Node.{NodeOf}
 use Rattle.drt_table.specs.Machine.{Setting, IsRun, replay, is_finished}
 use Rattle.drt_table.specs.View.{View, IsTable, setting_of, state_of}
@@ -48,7 +48,7 @@ module _ (t : Setting) (sound : IsSoundGraph t.graph) (con : IsConstrainedGraph 
       more (inr m) =
           let a = l.0 in
           let b = l.1 in
-          let d : IsTrue (dominates x y) = grind (arith, nat_tests) in
+          let d : IsTrue (entry_dominates x y) = grind (arith, nat_tests) in
           let o : x.offset ≡ y.offset = ap (λ z. z.offset) (q.alone x p.walk d) in
           absurd (omega (arith, o, b))
 
@@ -62,10 +62,10 @@ module _ (t : Setting) (sound : IsSoundGraph t.graph) (con : IsConstrainedGraph 
       let c = front.covers e (entry_walk t sound con e w) in
       let l : FrontEntry = c.node.label in
       let has = are.complete l (front.sound c.by c.node c.kept) in
-      let d : IsTrue (dominates l e) = c.dominates in
+      let d : IsTrue (entry_dominates l e) = c.dominates in
       (has.0, l, has.1, has.2, covers l d)
     where
-      covers : (l : FrontEntry) → IsTrue (dominates l e) → Covers e.vertex e.offset e.work l
+      covers : (l : FrontEntry) → IsTrue (entry_dominates l e) → Covers e.vertex e.offset e.work l
       covers l d = (grind (arith, nat_tests), grind (arith, nat_tests), grind (arith, nat_tests))
 
   -- The labels are a front.

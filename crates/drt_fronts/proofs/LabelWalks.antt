@@ -9,7 +9,7 @@ use Rattle.drt_model.specs.Walk.{gap, wcet, deadline, sep, IsEdge, IsPath, last_
 use Rattle.drt_graph.proofs.Edges.{sep_of_edge, edge_of_sep, gap_of, source_of}
 use Rattle.drt_graph.proofs.Paths.{path_both, path_within, last_both, work_cons, work_none, span_cons, span_none}
 use Rattle.drt_graph.specs.declared.front.FrontEntry.{FrontEntry}
-use Rattle.drt_demand.specs.Demand.{demand_algebra, opening, extend, dominates}
+use Rattle.drt_demand.specs.Demand.{demand_algebra, opening_entry, extend, entry_dominates}
 use Rattle.drt_demand.specs.Laws.{demand_laws}
 use Rattle.drt_demand.specs.WalkLabel.{demand_of}
 use Rattle.drt_demand.proofs.WalkLabels.{walk_labels}
@@ -129,7 +129,7 @@ module _ (t : Setting) (sound : IsSoundGraph t.graph) where
     -- An entry of a walk is the label of a walk of the search.
     pub entry_walk : (e : FrontEntry) → IsWalkEntry t.graph t.bound e → IsWalkLabel demand_algebra t e
     entry_walk e w =
-        let x : FrontEntry = opening w.first (wcet t.graph w.first) t.bound in
+        let x : FrontEntry = opening_entry w.first (wcet t.graph w.first) t.bound in
         let first = path_due t.graph sound con w.first w.others w.path in
         let o = w.offset in
         let v = w.vertex in
@@ -148,7 +148,7 @@ module _ (t : Setting) (sound : IsSoundGraph t.graph) where
       alone = λ d w c. is.alone d (entry_walk d w) (above d c);
     }
       where
-        above : (d : FrontEntry) → Covers l.vertex l.offset l.work d → IsTrue (dominates d l)
+        above : (d : FrontEntry) → Covers l.vertex l.offset l.work d → IsTrue (entry_dominates d l)
         above d c = let a = c.0 in let b = c.1 in let e = c.2 in grind (arith, nat_tests)
 
     -- And the converse.
@@ -158,5 +158,5 @@ module _ (t : Setting) (sound : IsSoundGraph t.graph) where
       alone = λ m w d. is.alone m (walk_entry m w) (above m d);
     }
       where
-        above : (m : FrontEntry) → IsTrue (dominates m e) → Covers e.vertex e.offset e.work m
+        above : (m : FrontEntry) → IsTrue (entry_dominates m e) → Covers e.vertex e.offset e.work m
         above m d = (grind (arith, nat_tests), grind (arith, nat_tests), grind (arith, nat_tests))

@@ -4,7 +4,7 @@ use Rattle.std.proofs.lemmas.Int.{ints}
 use Rattle.drt_model.specs.Digraph.{Digraph}
 use Rattle.drt_graph.specs.Fits.{AreNear}
 use Rattle.drt_ratio.specs.declared.ratio_proof.RatioProof.{RatioProof}
-use Rattle.drt_ratio.specs.SetRatios.{AreSmall, fraction_of}
+use Rattle.drt_ratio.specs.SetRatios.{AreSmall, fraction_of_proof}
 use Rattle.drt_rates.specs.Rates.{AreRated}
 use Rattle.drt_horizon.specs.Given.{IsRatioGiven, AreGiven}
 
@@ -31,7 +31,7 @@ given_small (g ∷ graphs) [] given = absurd given
 given_small (g ∷ graphs) (p ∷ proofs) given = (omega (arith, given.0.reach.num), omega (arith, given.0.reach.den), given_small graphs proofs given.1)
 
 -- Their numbers and potentials are within what their arithmetic needs.
-pub given_rated : (graphs : List Digraph) (proofs : List RatioProof) → AreGiven graphs proofs → AreRated fraction_of (λ p. p.potentials) graphs proofs
+pub given_rated : (graphs : List Digraph) (proofs : List RatioProof) → AreGiven graphs proofs → AreRated fraction_of_proof (λ p. p.potentials) graphs proofs
 given_rated [] [] given = tt
 given_rated [] (p ∷ proofs) given = absurd given
 given_rated (g ∷ graphs) [] given = absurd given

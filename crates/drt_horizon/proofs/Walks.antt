@@ -14,7 +14,7 @@ use Rattle.drt_horizon.specs.declared.answers.Horizon.TheVariants.{Under}
 use Rattle.drt_horizon.specs.Given.{AreGiven}
 use Rattle.drt_horizon.specs.Plans.{IsHorizonPlan}
 use Rattle.drt_rates.specs.Demands.{demands}
-use Rattle.drt_horizon.specs.Laws.{IsDue, AreDue, efforts, IsWalkLabel, AreWalkFronts}
+use Rattle.drt_horizon.specs.Laws.{IsDue, AreDue, efforts_together, IsWalkLabel, AreWalkFronts}
 use Rattle.drt_horizon.proofs.Horizons.{horizon_holds}
 
 -- A walk of a graph that is due by t and has that work.
@@ -50,8 +50,8 @@ front_walk g t [] all = ([], tt, work_none g)
 front_walk g t (x ∷ front) all =
     label_walk g t (dbf_at g front t) x (all 0 x (omega arith)) (front_walk g t front (λ k d l. all (suc k) d (omega arith))) (nat_le (x.offset + deadline g x.vertex) t) refl
 
-front_walks : (graphs : List Digraph) (fronts : List (List FrontEntry)) (t : ℕ) → AreWalkFronts graphs fronts → (walks : List (List ℕ)) × AreDue t graphs walks × (efforts graphs walks ≡ demands graphs fronts t)
-unfolding efforts sum_due
+front_walks : (graphs : List Digraph) (fronts : List (List FrontEntry)) (t : ℕ) → AreWalkFronts graphs fronts → (walks : List (List ℕ)) × AreDue t graphs walks × (efforts_together graphs walks ≡ demands graphs fronts t)
+unfolding efforts_together sum_due
 front_walks [] [] t are = ([], tt, refl)
 front_walks [] (f ∷ fronts) t are = absurd are
 front_walks (g ∷ graphs) [] t are = absurd are

@@ -39,17 +39,17 @@ AreDue t (g ∷ graphs) [] = ⊥
 AreDue t (g ∷ graphs) (w ∷ walks) = IsDue g t w × AreDue t graphs walks
 
 -- The work of the walks together.
-unfoldable pub efforts : List Digraph → List (List ℕ) → ℕ
-efforts [] walks = 0
-efforts (g ∷ graphs) [] = 0
-efforts (g ∷ graphs) (w ∷ walks) = work g w + efforts graphs walks
+unfoldable pub efforts_together : List Digraph → List (List ℕ) → ℕ
+efforts_together [] walks = 0
+efforts_together (g ∷ graphs) [] = 0
+efforts_together (g ∷ graphs) (w ∷ walks) = work g w + efforts_together graphs walks
 
 -- Where the plan is a horizon, each time by which walks with more work than time are due is at most the horizon.
 abbrev pub HorizonHolds : Type 0
 HorizonHolds =
     (graphs : List Digraph) (proofs : List RatioProof) → AreGraphs graphs → AreGiven graphs proofs →
     (bound : ℕ) → IsHorizonPlan graphs proofs (Ok (Under bound)) →
-    (t : ℕ) (walks : List (List ℕ)) → AreDue t graphs walks → t < efforts graphs walks →
+    (t : ℕ) (walks : List (List ℕ)) → AreDue t graphs walks → t < efforts_together graphs walks →
     t ≤ bound
 
 -- A time by which an overload shows: the scale times the work of one turn of each cycle, over the rate less the scale, and one.

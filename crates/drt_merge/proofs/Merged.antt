@@ -13,7 +13,7 @@ use Rattle.drt_graph.specs.FrontEntry.{Covers}
 use Rattle.drt_wave.specs.Fronts.{IsWalkEntry, IsNonDominatedEntry, IsExactFront, CoversAll}
 use Rattle.drt_merge.specs.declared.mark.Mark.{Mark}
 use Rattle.drt_merge.specs.Arcs.{arc_of, extended}
-use Rattle.drt_merge.specs.Marks.{row, mark_at, entry_of, opening, IsCovered}
+use Rattle.drt_merge.specs.Marks.{row, mark_at, entry_of, opening_mark, IsCovered}
 use Rattle.drt_merge.specs.Merging.{AreMerged}
 use Rattle.drt_merge.specs.Gathered.{AreMarkEntries, IsMergedFront}
 use Rattle.drt_merge.proofs.Closed.{covered}
@@ -40,7 +40,7 @@ module _ (g : Digraph) (bound : ℕ) (sound : IsSoundGraph g) (constrained : IsC
       any_of (Covers v m.offset m.work) front (entry_of v (mark_at (row lists v) is.place)) (are.all v is.place (omega (arith, c, lv)) is.there) (refl, is.over.0, is.over.1)
 
   openings : HasOpenings bound g front
-  openings v lv due = any_covers v (opening g v) lv (merged.opened v lv due)
+  openings v lv due = any_covers v (opening_mark g v) lv (merged.opened v lv due)
 
   -- One entry, by the mark that it is of.
   closed_entry : (v i : ℕ) → v < vertex_count g → i < length (row lists v) → (k : ℕ) → k < out_degree g v → IsExtended bound g front (entry_of v (mark_at (row lists v) i)) k

@@ -7,7 +7,7 @@ use native.Mathlib.Decide.{ℕ_discrete, dec_lt}
 use Rattle.drt_model.specs.Digraph.{Digraph, vertex_count}
 use Rattle.drt_wave.specs.Fronts.{IsWalkEntry}
 use Rattle.drt_merge.specs.declared.mark.Mark.{Mark}
-use Rattle.drt_merge.specs.Marks.{no_mark, row, mark_at, IsLastMark, IsMarkOver, IsCovered, IsSmallMark, entry_of, IsMarkRow, AreRows, AreMarksGrown, AreOpenedTo, opening}
+use Rattle.drt_merge.specs.Marks.{no_mark, row, mark_at, IsLastMark, IsMarkOver, IsCovered, IsSmallMark, entry_of, IsMarkRow, AreRows, AreMarksGrown, AreOpenedTo, opening_mark}
 use Rattle.drt_merge.specs.Offers.{IsMarkBelow}
 
 -- The row that is set, and the others.
@@ -128,10 +128,10 @@ covered_grown old new v m grown is =
     record { place = is.place; there = omega (arith, more, there); over = (omega (arith, o, a), omega (arith, w, b)) }
 
 pub opened_grown : (g : Digraph) (bound n : ℕ) (old new : List (List Mark)) → AreMarksGrown old new → AreOpenedTo g bound n old → AreOpenedTo g bound n new
-opened_grown g bound n old new grown opened v lt due = covered_grown old new v (opening g v) grown (opened v lt due)
+opened_grown g bound n old new grown opened v lt due = covered_grown old new v (opening_mark g v) grown (opened v lt due)
 
 -- One more vertex.
-pub opened_more : (g : Digraph) (bound n : ℕ) (lists : List (List Mark)) → AreOpenedTo g bound n lists → IsCovered (row lists n) (opening g n) → AreOpenedTo g bound (n + 1) lists
+pub opened_more : (g : Digraph) (bound n : ℕ) (lists : List (List Mark)) → AreOpenedTo g bound n lists → IsCovered (row lists n) (opening_mark g n) → AreOpenedTo g bound (n + 1) lists
 opened_more g bound n lists opened here v lt due = dite (dec_lt v n)
     (λ l. opened v l due)
-    (λ nl. let e : v ≡ n = omega (arith, lt) in subst (λ z. IsCovered (row lists z) (opening g z)) (sym e) here)
+    (λ nl. let e : v ≡ n = omega (arith, lt) in subst (λ z. IsCovered (row lists z) (opening_mark g z)) (sym e) here)

@@ -12,10 +12,10 @@ use Rattle.drt_wave.specs.Fronts.{IsWalkEntry}
 use Rattle.drt_merge.specs.declared.mark.Mark.{Mark}
 use Rattle.drt_merge.specs.declared.arcs.Arc.{Arc}
 use Rattle.drt_merge.specs.Arcs.{arc_of, IsArc, AreArcs, AreArcsTo, extended}
-use Rattle.drt_merge.specs.Marks.{entry_of, opening, IsSmallMark}
+use Rattle.drt_merge.specs.Marks.{entry_of, opening_mark, IsSmallMark}
 
 -- The walk of one vertex.
-pub opening_walk : (g : Digraph) (bound v : ℕ) → v < vertex_count g → deadline g v ≤ bound → IsWalkEntry g bound (entry_of v (opening g v))
+pub opening_walk : (g : Digraph) (bound v : ℕ) → v < vertex_count g → deadline g v ≤ bound → IsWalkEntry g bound (entry_of v (opening_mark g v))
 opening_walk g bound v lv due =
     let s = span_none g v in let w = work_cons g v [] in let n = work_none g in
     record { first = v; others = []; is_vertex = lv; path = tt; vertex = refl; offset = sym s; works = omega (arith, w, n); within = omega (arith, due) }

@@ -64,9 +64,9 @@ pub record AreMarksGrown (old new : List (List Mark)) : Type 0 where
   pub same : (v i : ℕ) → i < length (row old v) → mark_at (row new v) i ≡ mark_at (row old v) i
 
 -- The mark of the walk of one vertex.
-abbrev pub opening : Digraph → ℕ → Mark
-opening g v = record { offset = 0; work = wcet g v }
+abbrev pub opening_mark : Digraph → ℕ → Mark
+opening_mark g v = record { offset = 0; work = wcet g v }
 
 -- It is covered for each vertex below n whose job is due within the bound.
 abbrev pub AreOpenedTo : Digraph → ℕ → ℕ → List (List Mark) → Type 0
-AreOpenedTo g bound n lists = (v : ℕ) → v < n → deadline g v ≤ bound → IsCovered (row lists v) (opening g v)
+AreOpenedTo g bound n lists = (v : ℕ) → v < n → deadline g v ≤ bound → IsCovered (row lists v) (opening_mark g v)

@@ -12,7 +12,7 @@ use Rattle.drt_picture.specs.declared.bars.Bar.{Bar}
 use Rattle.drt_picture.specs.declared.bars.Arrow.{Arrow}
 use Rattle.drt_picture.specs.declared.layout.Layout.{Layout}
 use Rattle.drt_picture.specs.declared.scale.Scale.{Scale}
-use Rattle.drt_picture.specs.Layout.{IsArrow, IsBar, IsEventOf, IsPageRow, IsSpanOf, arrow_of, bar_of, from_of, task_of}
+use Rattle.drt_picture.specs.Layout.{IsArrow, IsBar, IsEventOf, IsPageRow, IsSpanOf, arrow_of, bar_of, from_of, task_of_job}
 use Rattle.drt_picture.specs.Moments.{IsMomentWithin, moment_of_event, moment_of_span, moments_of}
 use Rattle.drt_picture.specs.Scale.{IsPageScale, x_of}
 use Rattle.drt_picture.proofs.Orders.{ascends, neighbours_map, neighbours_weaker}
@@ -79,9 +79,9 @@ arrows_in_order s releases events order =
 
 -- The task of a job has a row.
 has_row : (tasks : List Task) (releases : List Release) (height j : ℕ) → All (λ r. r.task < length tasks) releases → 720 + 480 * length tasks ≤ height → j < length releases
-    → IsPageRow tasks height (task_of releases j)
+    → IsPageRow tasks height (task_of_job releases j)
 has_row tasks releases height j legal high here =
-    let row : task_of releases j < length tasks
+    let row : task_of_job releases j < length tasks
     = All-get_or (λ (r : Release). r.task < length tasks) releases j (record { task = 0; vertex = 0; time = 0; need = 0 }) here legal in
     record { here = row; on_page = omega (arith, row, high) }
 

@@ -8,7 +8,7 @@ use Rattle.std.proofs.lemmas.Bool.{leb-true, le-leb}
 use Rattle.std.proofs.lemmas.List.Sums.{sum_by-cons, count_by-le-length}
 use Rattle.drt_picture.specs.declared.scale.Part.{Part}
 use Rattle.drt_picture.specs.declared.scale.Scale.{Scale}
-use Rattle.drt_picture.specs.Scale.{IsPageScale, begun_by, room, shown_before, ticks_before, x_of}
+use Rattle.drt_picture.specs.Scale.{IsPageScale, begun_by, cut_room, shown_before, ticks_before, x_of}
 
 ticks_rise : (p : Part) (a b : ℕ) → a ≤ b → ticks_before a p ≤ ticks_before b p
 ticks_rise p a b h = omega arith
@@ -43,8 +43,8 @@ div_rise m n k h =
 pub x_rise : (s : Scale) (a b : ℕ) → a ≤ b → x_of s a ≤ x_of s b
 x_rise s a b h =
     let begun = begun_rise s.parts a b h in
-    let shown = div_rise (shown_before s.parts a * room s.width s.parts) (shown_before s.parts b * room s.width s.parts) (shown_before s.parts s.until)
-    (mul-le-mul_right (room s.width s.parts) (shown_rise s.parts a b h)) in
+    let shown = div_rise (shown_before s.parts a * cut_room s.width s.parts) (shown_before s.parts b * cut_room s.width s.parts) (shown_before s.parts s.until)
+    (mul-le-mul_right (cut_room s.width s.parts) (shown_rise s.parts a b h)) in
     omega (arith, begun, shown)
 
 -- No place is left of the drawing area.
@@ -54,7 +54,7 @@ x_left s time = omega arith
 -- No place is right of the drawing area.
 pub x_right : (s : Scale) (time : ℕ) → IsPageScale s → time ≤ s.until → x_of s time ≤ s.left + s.width
 x_right s time scale h =
-    let r = room s.width s.parts in
+    let r = cut_room s.width s.parts in
     let all = shown_before s.parts s.until in
     let shown : shown_before s.parts time ≤ max all 1 = omega (arith, shown_rise s.parts time s.until h) in
     let ticks : shown_before s.parts time * r / max all 1 ≤ r = div-le_of_le-mul (max all 1) (mul-le-mul_right r shown) in

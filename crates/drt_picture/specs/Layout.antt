@@ -27,16 +27,16 @@ pub record IsEventOf (count until : ℕ) (e : Event) : Type 0 where
   pub here : e.job < count
 
 -- The task of a job, by number.
-abbrev pub task_of : List Release → ℕ → ℕ
-task_of releases j = (slice_index_or releases j (record { task = 0; vertex = 0; time = 0; need = 0 })).task
+abbrev pub task_of_job : List Release → ℕ → ℕ
+task_of_job releases j = (slice_index_or releases j (record { task = 0; vertex = 0; time = 0; need = 0 })).task
 
 -- The bar of a span: from the place of its start to that of its end, in the row of its task.
 abbrev pub bar_of : Scale → List Release → Span → Bar
-bar_of s releases span = record { span = span; row = task_of releases span.job; left = x_of s span.start; right = x_of s span.end }
+bar_of s releases span = record { span = span; row = task_of_job releases span.job; left = x_of s span.start; right = x_of s span.end }
 
 -- The arrow of an event: at the place of its time, in the row of its task.
 abbrev pub arrow_of : Scale → List Release → Event → Arrow
-arrow_of s releases event = record { event = event; row = task_of releases event.job; x = x_of s event.time }
+arrow_of s releases event = record { event = event; row = task_of_job releases event.job; x = x_of s event.time }
 
 -- Where a row begins: a row is 48 pixels high, and above the first one there are 72 pixels.
 abbrev pub row_top : ℕ → ℕ

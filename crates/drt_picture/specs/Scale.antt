@@ -17,13 +17,13 @@ abbrev pub begun_by : List Part → ℕ → ℕ
 begun_by parts time = count_by (λ p. nat_le p.start time) parts
 
 -- The width that the cuts between so many parts leave to ticks: a cut takes 24 pixels.
-abbrev pub room : ℕ → List Part → ℕ
-room width parts = width - 240 * (length parts - 1)
+abbrev pub cut_room : ℕ → List Part → ℕ
+cut_room width parts = width - 240 * (length parts - 1)
 
 -- The place of a time: the ticks shown before it, at one scale for all of them, and the cuts before it.
 abbrev pub x_of : Scale → ℕ → ℕ
 x_of s time =
-    s.left + shown_before s.parts time * room s.width s.parts / max (shown_before s.parts s.until) 1 + 240 * (begun_by s.parts time - 1)
+    s.left + shown_before s.parts time * cut_room s.width s.parts / max (shown_before s.parts s.until) 1 + 240 * (begun_by s.parts time - 1)
 
 -- A place in the drawing area.
 abbrev pub IsInArea : Scale → ℕ → Type 0

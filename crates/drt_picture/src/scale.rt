@@ -1,6 +1,6 @@
 //! Where times stand on the page.
 ghost use Rattle.std.specs.Prelude.{◌≡◌, ◌*◌, ◌^◌, ◌≤◌, length};
-ghost use Rattle.drt_picture.specs.Scale.{IsInArea, IsPageScale, begun_by, room, shown_before, x_of};
+ghost use Rattle.drt_picture.specs.Scale.{IsInArea, IsPageScale, begun_by, cut_room, shown_before, x_of};
 
 use drt_model::Row;
 
@@ -78,7 +78,7 @@ fn begun_by(parts: &[Part], time: u64) -> usize
 pub fn room(width: u32, parts: &[Part]) -> u32
     requires few { length parts.now ≤ 17 }
     requires wide { 4000 ≤ width }
-    ensures { result ≡ room width parts.now }
+    ensures { result ≡ cut_room width parts.now }
 {
     width - CUT_WIDTH * parts.len().saturating_sub(1) as u32
 }

@@ -7,12 +7,12 @@ use Rattle.drt_ratio.specs.declared.ratio_proof.RatioProof.{RatioProof}
 use Rattle.drt_ratio.specs.Claims.{IsRatioProof}
 
 -- The fraction of a claim.
-abbrev pub fraction_of : RatioProof → Fraction
-fraction_of p = record { num = p.ratio.num; den = p.ratio.den }
+abbrev pub fraction_of_proof : RatioProof → Fraction
+fraction_of_proof p = record { num = p.ratio.num; den = p.ratio.den }
 
 -- The fractions of claims, in order.
 abbrev pub fractions_of : List RatioProof → List Fraction
-fractions_of proofs = map fraction_of proofs
+fractions_of proofs = map fraction_of_proof proofs
 
 -- Each numerator and each denominator is at most 1,000,000,000.
 abbrev pub AreSmall : List RatioProof → Type 0

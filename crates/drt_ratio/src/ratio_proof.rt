@@ -1,5 +1,5 @@
 //! A ratio with its evidence.
-ghost use Rattle.drt_ratio.specs.SetRatios.{fraction_of};
+ghost use Rattle.drt_ratio.specs.SetRatios.{fraction_of_proof};
 
 use drt_model::Row;
 use drt_num::Ratio;
@@ -19,7 +19,7 @@ pub struct RatioProof {
 impl Rated for RatioProof {
     type Item = RatioProof;
 
-    ghost fraction = { fraction_of };
+    ghost fraction = { fraction_of_proof };
 
     ghost heights = { λ p. p.potentials };
 

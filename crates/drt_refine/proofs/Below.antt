@@ -4,7 +4,7 @@ use Rattle.std.specs.Prelude.{slice_get}
 use Rattle.std.proofs.lemmas.Option.{none-some, same_Some, slice_get_within}
 use Rattle.drt_steps.specs.Values.{value_at}
 use Rattle.drt_steps.specs.Time.{sum_at, Passes, AreChosen}
-use Rattle.drt_tree.specs.Tree.{Plain, IsForest, IsPair, IsUnder, LeadsToLeaf, children, children_of, leaves, values}
+use Rattle.drt_tree.specs.Tree.{Plain, IsForest, IsPair, IsUnder, LeadsToLeaf, children, node_children, leaves, node_values_in}
 use Rattle.drt_tree.specs.declared.node.Node.{Node}
 use Rattle.drt_refine.specs.Below.{AreBelow, AreNodes, tuples}
 
@@ -35,13 +35,13 @@ module _ (f : Plain) where
   below_half (leaf ∷ tuple) (m ∷ nodes) (suc place) n l r at h b =
       elim (below_half tuple nodes place n l r at h b.1) as (λ _. AreBelow f (leaf ∷ tuple) (m ∷ set nodes place l) ⊎ AreBelow f (leaf ∷ tuple) (m ∷ set nodes place r)) [ inl u ↦ inl (b.0, u) | inr u ↦ inr (b.0, u) ]
 
-  module _ (above : (leaf n t : ℕ) → IsUnder f leaf n → value_at (values f leaf) t ≤ value_at (values f n) t) where
+  module _ (above : (leaf n t : ℕ) → IsUnder f leaf n → value_at (node_values_in f leaf) t ≤ value_at (node_values_in f n) t) where
     below_sum : (tuple nodes : List ℕ) (t : ℕ) → AreBelow f tuple nodes → sum_at f.pool tuple t ≤ sum_at f.pool nodes t
     below_sum [] [] t h = omega arith
     below_sum [] (n ∷ nodes) t h = elim h [ ]
     below_sum (leaf ∷ tuple) [] t h = elim h [ ]
     below_sum (leaf ∷ tuple) (n ∷ nodes) t h =
-        let a : value_at (values f leaf) t ≤ value_at (values f n) t = above leaf n t h.0 in
+        let a : value_at (node_values_in f leaf) t ≤ value_at (node_values_in f n) t = above leaf n t h.0 in
         let b : sum_at f.pool tuple t ≤ sum_at f.pool nodes t = below_sum tuple nodes t h.1 in
         omega arith
 
@@ -53,26 +53,26 @@ module _ (f : Plain) where
         record { from = p.from; to = p.to; passes = omega arith }
 
   -- a child in place of its pair
-  pub chosen_set : (deadline : ℕ) (nodes : List ℕ) (place k : ℕ) → k < length f.pool → deadline ≤ length (values f k) → AreChosen deadline f.pool nodes → AreChosen deadline f.pool (set nodes place k)
+  pub chosen_set : (deadline : ℕ) (nodes : List ℕ) (place k : ℕ) → k < length f.pool → deadline ≤ length (node_values_in f k) → AreChosen deadline f.pool nodes → AreChosen deadline f.pool (set nodes place k)
   chosen_set deadline [] place k lt le h = tt
   chosen_set deadline (m ∷ nodes) zero k lt le h = (lt, le, h.2)
   chosen_set deadline (m ∷ nodes) (suc place) k lt le h = (h.0, h.1, chosen_set deadline nodes place k lt le h.2)
 
-  pub chosen_at : (deadline : ℕ) (nodes : List ℕ) (place n : ℕ) → slice_get nodes place ≡ Some n → AreChosen deadline f.pool nodes → (n < length f.pool) × (deadline ≤ length (values f n))
+  pub chosen_at : (deadline : ℕ) (nodes : List ℕ) (place n : ℕ) → slice_get nodes place ≡ Some n → AreChosen deadline f.pool nodes → (n < length f.pool) × (deadline ≤ length (node_values_in f n))
   chosen_at deadline [] place n at h = absurd (none-some n at)
-  chosen_at deadline (m ∷ nodes) zero n at h = subst (λ (k : ℕ). (k < length f.pool) × (deadline ≤ length (values f k))) (same_Some m n at) (h.0, h.1)
+  chosen_at deadline (m ∷ nodes) zero n at h = subst (λ (k : ℕ). (k < length f.pool) × (deadline ≤ length (node_values_in f k))) (same_Some m n at) (h.0, h.1)
   chosen_at deadline (m ∷ nodes) (suc place) n at h = chosen_at deadline nodes place n at h.2
 
   pub chosen_halves : IsForest f → (deadline : ℕ) (nodes : List ℕ) (place n l r : ℕ) → slice_get nodes place ≡ Some n → children f n ≡ Some (l, r) → AreChosen deadline f.pool nodes → AreChosen deadline f.pool (set nodes place l) × AreChosen deadline f.pool (set nodes place r)
   chosen_halves forest deadline nodes place n l r at h chosen =
-      let here : (n < length f.pool) × (deadline ≤ length (values f n)) = chosen_at deadline nodes place n at chosen in
+      let here : (n < length f.pool) × (deadline ≤ length (node_values_in f n)) = chosen_at deadline nodes place n at chosen in
       let lt : n < length f.pool = here.0 in
-      let le : deadline ≤ length (values f n) = here.1 in
+      let le : deadline ≤ length (node_values_in f n) = here.1 in
       let pair : IsPair f n l r = forest.pairs n l r h in
       let pl : l < n = pair.left in
       let pr : r < n = pair.right in
-      let el : length (values f l) ≡ length (values f n) = forest.bound l n (omega arith) lt in
-      let er : length (values f r) ≡ length (values f n) = forest.bound r n (omega arith) lt in
+      let el : length (node_values_in f l) ≡ length (node_values_in f n) = forest.bound l n (omega arith) lt in
+      let er : length (node_values_in f r) ≡ length (node_values_in f n) = forest.bound r n (omega arith) lt in
       (chosen_set deadline nodes place l (omega arith) (omega arith) chosen, chosen_set deadline nodes place r (omega arith) (omega arith) chosen)
 
   pub chosen_nodes : IsForest f → (deadline : ℕ) (nodes : List ℕ) → AreChosen deadline f.pool nodes → AreNodes f nodes
@@ -107,7 +107,7 @@ length_set [] i x = refl
 length_set (y ∷ xs) zero x = refl
 length_set (y ∷ xs) (suc i) x = ap suc (length_set xs i x)
 
-within_by : (f : Plain) (n : ℕ) (p : ℕ × ℕ) (o : Option Node) → slice_get f.nodes n ≡ o → children_of o ≡ Some p → n < length f.nodes
+within_by : (f : Plain) (n : ℕ) (p : ℕ × ℕ) (o : Option Node) → slice_get f.nodes n ≡ o → node_children o ≡ Some p → n < length f.nodes
 within_by f n p None e h = absurd (none-some p h)
 within_by f n p (Some x) e h = slice_get_within f.nodes n x e
 

@@ -9,11 +9,11 @@ use Rattle.drt_worklist.specs.Places.{first, changed}
 use Rattle.drt_worklist.specs.Runs.{AllAlong, IsRunFrom as IsRunBy}
 use Rattle.drt_worklist.proofs.Runs.{replay_join, along_join, run_join}
 use Rattle.drt_worklist.proofs.Writes.{changed_set, first_new}
-use Rattle.drt_refine.specs.Combination.{Combination, with_state, is_pending, is_taken, is_failed}
+use Rattle.drt_refine.specs.Combination.{Combination, with_state, is_combination_pending, is_combination_taken, is_failed}
 use Rattle.drt_refine.specs.Machine.{FrontierSetting, FrontierState, FrontierOutcome, is_full, unchanged, taken, halved, halved_at, children_at, stepped, step_by, step_of, CanStep, IsPairAt, after, CanEnter, replay_from, opening_state, is_finished}
 use Rattle.drt_refine.specs.Eager.{IsEagerStep, IsEager}
 use Rattle.drt_refine.specs.View.{FrontierView, setting_of, state_of, moved, CanApply, outcome, IsFrontierStep, IsFrontier}
-use Rattle.drt_refine.specs.Drive.{IsDriven, IsTurn, DrivesFrontier, StopsAt, ends, FrontierTurn}
+use Rattle.drt_refine.specs.Drive.{IsDriven, IsTurn, DrivesFrontier, StopsAt, ends_frontier, FrontierTurn}
 use Rattle.drt_refine.specs.declared.step.CombinationState.TheVariants.{Failed as HasFailed}
 use Rattle.drt_refine.specs.declared.step.FrontierStep.{FrontierStep}
 use Rattle.drt_refine.specs.declared.step.FrontierStep.TheVariants.{Take, Pass, Split, Fail}
@@ -32,8 +32,8 @@ true_not_false false h g = absurd (cc)
 module _ (t : FrontierSetting) where
   -- The step stopped where it was, or its entry was added. Where its reply ends a driver's work, it has its cause.
   pub data Effect (s : FrontierState) (e : FrontierEntry) (o : FrontierOutcome) : Type 0 where
-    stood : o.state ≡ s → ends o.reply ≡ true → StopsAt t s o.reply → Effect s e o
-    went : length s.log < t.budget → o.state.log ≡ s.log ++ e ∷ [] → (ends o.reply ≡ true → StopsAt t o.state o.reply) → Effect s e o
+    stood : o.state ≡ s → ends_frontier o.reply ≡ true → StopsAt t s o.reply → Effect s e o
+    went : length s.log < t.budget → o.state.log ≡ s.log ++ e ∷ [] → (ends_frontier o.reply ≡ true → StopsAt t o.state o.reply) → Effect s e o
 
   never : (b : Bool) (P : Type 0) → b ≡ false → b ≡ true → P
   never b P h g = absurd (true_not_false b g h)
@@ -44,14 +44,14 @@ module _ (t : FrontierSetting) where
     effect_full true o h unfinished go = stood refl refl (record { full = (let le : t.budget ≤ length s.log = leb-true t.budget (length s.log) h in omega arith); unfinished = unfinished; unfailed = unfailed })
     effect_full false o h unfinished go = go (leb-false t.budget (length s.log) h)
 
-    pending_unfinished : (k : ℕ) → first is_pending s.combinations ≡ Some k → is_finished t s ≡ false
-    pending_unfinished k h = ap (λ o. is_none o && (is_none (first is_taken s.combinations) && is_none (first is_failed s.combinations))) h
+    pending_unfinished : (k : ℕ) → first is_combination_pending s.combinations ≡ Some k → is_finished t s ≡ false
+    pending_unfinished k h = ap (λ o. is_none o && (is_none (first is_combination_taken s.combinations) && is_none (first is_failed s.combinations))) h
 
-    taken_unfinished : (k : ℕ) → first is_taken s.combinations ≡ Some k → is_finished t s ≡ false
-    taken_unfinished k h = ap (λ o. is_none (first is_pending s.combinations) && (is_none o && is_none (first is_failed s.combinations))) h ∙ and_false (is_none (first is_pending s.combinations))
+    taken_unfinished : (k : ℕ) → first is_combination_taken s.combinations ≡ Some k → is_finished t s ≡ false
+    taken_unfinished k h = ap (λ o. is_none (first is_combination_pending s.combinations) && (is_none o && is_none (first is_failed s.combinations))) h ∙ and_false (is_none (first is_combination_pending s.combinations))
 
-    none_finished : first is_pending s.combinations ≡ None → first is_taken s.combinations ≡ None → is_finished t s ≡ true
-    none_finished p q = ap (λ o. is_none o && (is_none (first is_taken s.combinations) && is_none (first is_failed s.combinations))) p
+    none_finished : first is_combination_pending s.combinations ≡ None → first is_combination_taken s.combinations ≡ None → is_finished t s ≡ true
+    none_finished p q = ap (λ o. is_none o && (is_none (first is_combination_taken s.combinations) && is_none (first is_failed s.combinations))) p
         ∙ (ap (λ o. is_none o && is_none (first is_failed s.combinations)) q ∙ ap (λ o. is_none o) unfailed)
 
     halved_effect : (id place : ℕ) (c : Combination) (o : Option (ℕ × ℕ)) (p : IsPairAt t c.nodes place) → children_at t (slice_get c.nodes place) ≡ o → length s.log < t.budget → Effect s e (halved t s e id place c.nodes o)
@@ -70,12 +70,12 @@ module _ (t : FrontierSetting) where
     fails id c at = ap (λ cs. first is_failed cs) (changed_set (with_state HasFailed) s.combinations id c at) ∙ sym (first_new is_failed s.combinations id (with_state HasFailed c) (slice_get_within s.combinations id c at) unfailed refl)
 
   module _ (s : FrontierState) (w : ℕ) (within : length s.log ≤ t.budget) where
-    take_effect : (o : Option ℕ) → first is_failed s.combinations ≡ None → first is_pending s.combinations ≡ o → first is_taken s.combinations ≡ None → Effect s (record { worker = w; step = Take }) (taken t s w o None)
+    take_effect : (o : Option ℕ) → first is_failed s.combinations ≡ None → first is_combination_pending s.combinations ≡ o → first is_combination_taken s.combinations ≡ None → Effect s (record { worker = w; step = Take }) (taken t s w o None)
     take_effect None unfailed h none = stood refl refl (none_finished s (record { worker = w; step = Take }) within unfailed h none)
     take_effect (Some k) unfailed h none = effect_full s (record { worker = w; step = Take }) within unfailed (is_full t s) _ refl (pending_unfinished s (record { worker = w; step = Take }) within unfailed k h) (λ lt. went lt refl (λ g. never false _ refl g))
 
     stepped_effect : (step : FrontierStep) → first is_failed s.combinations ≡ None → CanStep t s w step → IsTurn t s step → Effect s (record { worker = w; step = step }) (stepped t s w step)
-    stepped_effect Take unfailed can turn = subst (λ (o : Option ℕ). Effect s (record { worker = w; step = Take }) (taken t s w (first is_pending s.combinations) o)) (sym turn) (take_effect (first is_pending s.combinations) unfailed refl turn)
+    stepped_effect Take unfailed can turn = subst (λ (o : Option ℕ). Effect s (record { worker = w; step = Take }) (taken t s w (first is_combination_pending s.combinations) o)) (sym turn) (take_effect (first is_combination_pending s.combinations) unfailed refl turn)
     stepped_effect (Pass id time) unfailed can turn =
         let e : FrontierEntry = record { worker = w; step = Pass id time } in
         effect_full s e within unfailed (is_full t s) _ refl (taken_unfinished s e within unfailed turn.0 turn.1) (λ lt. went lt refl (λ g. never false _ refl g))
@@ -101,7 +101,7 @@ module _ (f : Plain) (d : ℕ) (old : FrontierView) (w : ℕ) (step : FrontierSt
   turn_by can eager driven o is (stood same end stops) = record {
     drives = record { more = []; setting = refl; log = ap (λ (s : FrontierState). s.log) same ∙ sym (append-nil old.log); run = tt; state = same; eager = tt; driven = tt };
     stops = λ g. subst (λ (s : FrontierState). StopsAt (setting_of f old) s o.reply) (sym same) stops;
-    goes = λ g. absurd (true_not_false (ends o.reply) end g);
+    goes = λ g. absurd (true_not_false (ends_frontier o.reply) end g);
   }
   turn_by can eager driven o is (went lt log stops) = record {
     drives = record { more = entry ∷ []; setting = refl; log = log; run = (can, ap (λ (x : FrontierOutcome). x.state.log) is ∙ log, tt); state = sym (ap (λ (x : FrontierOutcome). x.state) is); eager = (eager, tt); driven = (driven, tt) };

@@ -6,7 +6,7 @@ use Rattle.drt_worklist.specs.Places.{first, changed}
 use Rattle.drt_worklist.proofs.Lists.{Before, before_change, After, after_change, length-changed, earlier, later, before_join, after_join, after_end, Found, found, none_found}
 use Rattle.drt_tree.specs.Tree.{Plain, IsUnder, children}
 use Rattle.drt_refine.specs.Below.{AreBelow}
-use Rattle.drt_refine.specs.Combination.{Combination, fresh, with_state, is_pending, is_pending_state, is_taken, is_taken_state, is_failed, is_failed_state}
+use Rattle.drt_refine.specs.Combination.{Combination, fresh_combination, with_state, is_combination_pending, is_pending_combination, is_combination_taken, is_taken_combination, is_failed, is_failed_state}
 use Rattle.drt_refine.specs.Machine.{FrontierSetting, FrontierState, FrontierOutcome, opening_state, after, is_full, is_finished, taken, halved, halved_at, children_at, stepped, step_by}
 use Rattle.drt_refine.specs.Machine.{replay_from, replay, IsRunFrom, IsRun, CanStep, IsPairAt, NonePasses}
 use Rattle.drt_refine.specs.Eager.{IsWidest, IsSplitPlace, IsEagerStep, AreEagerFrom, IsEager}
@@ -155,7 +155,7 @@ module _ (t : FrontierSetting) where
     right_nodes = set c.nodes place pair.right
 
     abbrev back : List Combination
-    back = fresh left_nodes ∷ fresh right_nodes ∷ []
+    back = fresh_combination left_nodes ∷ fresh_combination right_nodes ∷ []
 
     keeps : (j : ℕ) (nodes : List ℕ) → CombinationHasNodes cs j nodes → CombinationHasNodes (front ++ back) j nodes
     keeps j nodes h = has_join front back j nodes (has_change k split_state cs j nodes h)
@@ -170,9 +170,9 @@ module _ (t : FrontierSetting) where
           place_is = place_is;
           pair = pair;
           left_has =
-              record { combination = fresh left_nodes; at = subst (λ i. slice_get (front ++ back) i ≡ Some (fresh left_nodes)) l (after_end front back 0 (fresh left_nodes) refl); are = refl };
+              record { combination = fresh_combination left_nodes; at = subst (λ i. slice_get (front ++ back) i ≡ Some (fresh_combination left_nodes)) l (after_end front back 0 (fresh_combination left_nodes) refl); are = refl };
           right_has =
-              record { combination = fresh right_nodes; at = subst (λ i. slice_get (front ++ back) i ≡ Some (fresh right_nodes)) r (after_end front back 1 (fresh right_nodes) refl); are = refl };
+              record { combination = fresh_combination right_nodes; at = subst (λ i. slice_get (front ++ back) i ≡ Some (fresh_combination right_nodes)) r (after_end front back 1 (fresh_combination right_nodes) refl); are = refl };
           later = slice_get_within cs k c at;
           next = refl;
         }
@@ -182,7 +182,7 @@ module _ (t : FrontierSetting) where
       state : x.state ≡ Pending
       below : (tuple : List ℕ) → AreBelow t.forest tuple x.nodes → AreBelow t.forest tuple t.roots
 
-    new_half : (child : ℕ) → ((leaf : ℕ) → IsUnder t.forest leaf child → IsUnder t.forest leaf pair.node) → (id : ℕ) (x : Combination) → fresh (set c.nodes place child) ≡ x → IsNew id x
+    new_half : (child : ℕ) → ((leaf : ℕ) → IsUnder t.forest leaf child → IsUnder t.forest leaf pair.node) → (id : ℕ) (x : Combination) → fresh_combination (set c.nodes place child) ≡ x → IsNew id x
     new_half child up id x e = record {
       state = sym (ap (λ (y : Combination). y.state) e);
       below =
@@ -190,8 +190,8 @@ module _ (t : FrontierSetting) where
     }
 
     is_new : (i id : ℕ) (x : Combination) → slice_get back i ≡ Some x → IsNew id x
-    is_new zero id x h = new_half pair.left (λ leaf u. under_left t.forest leaf pair.node pair.left pair.right pair.children u) id x (same_Some (fresh left_nodes) x h)
-    is_new (suc zero) id x h = new_half pair.right (λ leaf u. under_right t.forest leaf pair.node pair.left pair.right pair.children u) id x (same_Some (fresh right_nodes) x h)
+    is_new zero id x h = new_half pair.left (λ leaf u. under_left t.forest leaf pair.node pair.left pair.right pair.children u) id x (same_Some (fresh_combination left_nodes) x h)
+    is_new (suc zero) id x h = new_half pair.right (λ leaf u. under_right t.forest leaf pair.node pair.left pair.right pair.children u) id x (same_Some (fresh_combination right_nodes) x h)
     is_new (suc (suc i)) id x h = absurd (none-some x h)
 
     new_settled : (id : ℕ) (x : Combination) → IsNew id x → IsSettled t (front ++ back) id x.nodes x.state
@@ -259,11 +259,11 @@ module _ (t : FrontierSetting) where
   pair_with nodes place q p h = record { node = p.node; left = q.0; right = q.1; at = p.at; children = sym (ap (λ x. children_at t x) p.at) ∙ h }
 
   module _ (s : FrontierState) (w : ℕ) (facts : AreSettled t s.combinations) where
-    take_settles : (o u : Option ℕ) → first is_pending s.combinations ≡ o → AreSettled t (taken t s w o u).state.combinations
+    take_settles : (o u : Option ℕ) → first is_combination_pending s.combinations ≡ o → AreSettled t (taken t s w o u).state.combinations
     take_settles None None e = facts
     take_settles None (Some k) e = cond_settles (is_full t s) _ _ facts facts
     take_settles (Some k) u e =
-        let f : Found is_pending s.combinations k = found is_pending s.combinations k e in
+        let f : Found is_combination_pending s.combinations k = found is_combination_pending s.combinations k e in
         cond_settles (is_full t s) _ _ facts (state_settles s.combinations k f.item (TakenBy w) f.at facts (λ n h. h) (λ new. tt))
 
     halved_settles : (e : FrontierEntry) (id place : ℕ) (c : Combination) (o : Option (ℕ × ℕ)) → slice_get s.combinations id ≡ Some c → IsPairAt t c.nodes place
@@ -283,7 +283,7 @@ module _ (t : FrontierSetting) where
         (subst (λ (x : Combination). NonePasses t x.nodes) same none) (subst (λ (x : Combination). IsWidest t.forest x.nodes place) same wide) refl
 
     stepped_settles : (step : FrontierStep) → CanStep t s w step → IsEagerStep t s (record { worker = w; step = step }) → AreSettled t (stepped t s w step).state.combinations
-    stepped_settles Take can eager = take_settles (first is_pending s.combinations) (first is_taken s.combinations) refl
+    stepped_settles Take can eager = take_settles (first is_combination_pending s.combinations) (first is_combination_taken s.combinations) refl
     stepped_settles (Pass id time) can eager =
         cond_settles (is_full t s) _ _ facts (state_settles s.combinations id can.0 (PassedAt time) can.1.at facts (λ n h. h) (λ new. eager id can.0 refl can.1.at))
     stepped_settles (Split id place) can eager =
@@ -296,14 +296,14 @@ module _ (t : FrontierSetting) where
     step_by_settles step None can eager = stepped_settles step can eager
     step_by_settles step (Some id) can eager = facts
 
-  opening_told : (id : ℕ) (x : Combination) → slice_get (fresh t.roots ∷ []) id ≡ Some x → x ≡ fresh t.roots
-  opening_told zero x h = sym (same_Some (fresh t.roots) x h)
+  opening_told : (id : ℕ) (x : Combination) → slice_get (fresh_combination t.roots ∷ []) id ≡ Some x → x ≡ fresh_combination t.roots
+  opening_told zero x h = sym (same_Some (fresh_combination t.roots) x h)
   opening_told (suc id) x h = absurd (none-some x h)
 
   opening_settled : AreSettled t (opening_state t).combinations
   opening_settled = record {
-    opening = record { combination = fresh t.roots; at = refl; are = refl };
-    each = λ id x h. subst (λ (y : Combination). IsSettled t (fresh t.roots ∷ []) id y.nodes y.state) (sym (opening_told id x h)) tt;
+    opening = record { combination = fresh_combination t.roots; at = refl; are = refl };
+    each = λ id x h. subst (λ (y : Combination). IsSettled t (fresh_combination t.roots ∷ []) id y.nodes y.state) (sym (opening_told id x h)) tt;
     below = λ id x tuple h b. subst (λ (y : Combination). AreBelow t.forest tuple y.nodes) (opening_told id x h) b;
     once = λ n i j x y hx hy gx gy. absurd (subst (λ (z : Combination). IsHalfOf n z.state) (opening_told i x hx) gx);
   }
@@ -315,7 +315,7 @@ module _ (t : FrontierSetting) where
   pub eager_settled : (es : List FrontierEntry) → IsRun t es → IsEager t es → AreSettled t (replay t es).combinations
   eager_settled es run eager = settles_from es (opening_state t) opening_settled run eager
 
-done_by : (x : CombinationState) → is_pending_state x ≡ false → is_taken_state x ≡ false → is_failed_state x ≡ false → IsPassedOrSplit x
+done_by : (x : CombinationState) → is_pending_combination x ≡ false → is_taken_combination x ≡ false → is_failed_state x ≡ false → IsPassedOrSplit x
 done_by Pending p q r = absurd (cc)
 done_by (TakenBy w) p q r = absurd (cc)
 done_by (PassedAt time) p q r = tt
@@ -326,4 +326,4 @@ done_by HasFailed p q r = absurd (cc)
 pub finished_done : (t : FrontierSetting) (s : FrontierState) → is_finished t s ≡ true → (id : ℕ) (c : Combination) → slice_get s.combinations id ≡ Some c → IsPassedOrSplit c.state
 finished_done t s h id c at =
     let none : AreNone s = finished_none t s h in
-    done_by c.state (none_found is_pending s.combinations none.pending id c at) (none_found is_taken s.combinations none.taken id c at) (none_found is_failed s.combinations none.failed id c at)
+    done_by c.state (none_found is_combination_pending s.combinations none.pending id c at) (none_found is_combination_taken s.combinations none.taken id c at) (none_found is_failed s.combinations none.failed id c at)

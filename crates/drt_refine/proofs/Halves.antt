@@ -6,7 +6,7 @@ use Rattle.drt_worklist.specs.Places.{changed, places}
 use Rattle.drt_worklist.proofs.Places.{Placed, placed}
 use Rattle.drt_worklist.proofs.Writes.{length_set}
 use Rattle.drt_refine.specs.View.{combinations_of}
-use Rattle.drt_refine.specs.Combination.{Combination, with_state, is_taken, is_taken_state, fresh}
+use Rattle.drt_refine.specs.Combination.{Combination, with_state, is_combination_taken, is_taken_combination, fresh_combination}
 use Rattle.drt_refine.specs.Machine.{halves}
 use Rattle.drt_refine.specs.declared.step.CombinationState.{CombinationState}
 use Rattle.drt_refine.specs.declared.step.CombinationState.TheVariants.{Pending, Split as SplitAt}
@@ -19,10 +19,10 @@ pub record Room (w : ℕ) (nodes : List ℕ) (states : List CombinationState) (b
   pub wide : length nodes + (w + w) ≤ (budget + 1) * w
   pub nodes_are : c.nodes ≡ take w (drop (id * w) nodes)
 
-some_taken : (states : List CombinationState) (i : ℕ) (x : CombinationState) → slice_get states i ≡ Some x → is_taken_state x ≡ true → 1 ≤ length (places is_taken_state states)
+some_taken : (states : List CombinationState) (i : ℕ) (x : CombinationState) → slice_get states i ≡ Some x → is_taken_combination x ≡ true → 1 ≤ length (places is_taken_combination states)
 some_taken states i x at h =
-    let p : Placed 0 is_taken_state states i = placed is_taken_state 0 states i x at h in
-    let lt : p.place < length (places is_taken_state states) = slice_get_within (places is_taken_state states) p.place (0 + i) p.at in
+    let p : Placed 0 is_taken_combination states i = placed is_taken_combination 0 states i x at h in
+    let lt : p.place < length (places is_taken_combination states) = slice_get_within (places is_taken_combination states) p.place (0 + i) p.at in
     omega arith
 
 pub rows : (a b w : ℕ) → a ≤ b → a * w ≤ b * w
@@ -32,10 +32,10 @@ rows a b w le =
     let h : (a + (b - a)) * w ≡ a * w + (b - a) * w = omega arith in
     omega arith
 
-pub room_of : (w : ℕ) (nodes : List ℕ) (states : List CombinationState) (budget entries id : ℕ) (c : Combination) → length nodes ≡ length states * w → length states + length (places is_taken_state states) ≤ 1 + entries → entries < budget → slice_get (combinations_of w nodes states) id ≡ Some c → is_taken c ≡ true → Room w nodes states budget id c
+pub room_of : (w : ℕ) (nodes : List ℕ) (states : List CombinationState) (budget entries id : ℕ) (c : Combination) → length nodes ≡ length states * w → length states + length (places is_taken_combination states) ≤ 1 + entries → entries < budget → slice_get (combinations_of w nodes states) id ≡ Some c → is_combination_taken c ≡ true → Room w nodes states budget id c
 room_of w nodes states budget entries id c e room lt at held =
     let a : CombinationAt w nodes states id c = combination_at w nodes states id c at in
-    let one : 1 ≤ length (places is_taken_state states) = some_taken states id c.state a.state_at held in
+    let one : 1 ≤ length (places is_taken_combination states) = some_taken states id c.state a.state_at held in
     let in_list : id < length states = slice_get_within states id c.state a.state_at in
     let r : (id + 1) * w ≤ length states * w = rows (id + 1) (length states) w (omega arith) in
     let q : (length states + 2) * w ≤ (budget + 1) * w = rows (length states + 2) (budget + 1) w (omega arith) in
@@ -59,11 +59,11 @@ module _ (w : ℕ) (nodes : List ℕ) (states : List CombinationState) (id place
       let e2 : length (nodes ++ a) ≡ length (set states id x ++ Pending ∷ []) * w =
       ln ∙ (let g : length nodes + length a ≡ (length (set states id x) + 1) * w = omega arith in g ∙ ap (λ n. n * w) (sym lm)) in
       combinations_push w (nodes ++ a) b (set states id x ++ Pending ∷ []) Pending e2 lb
-      ∙ (ap (λ cs. cs ++ fresh b ∷ []) (combinations_push w nodes a (set states id x) Pending e1 la ∙ ap (λ cs. cs ++ fresh a ∷ []) (combinations_set w nodes states id x))
-      ∙ (two (changed id (with_state x) (combinations_of w nodes states)) (fresh a) (fresh b)
-      ∙ (ap (λ z. changed id (with_state z) (combinations_of w nodes states) ++ fresh a ∷ fresh b ∷ []) y
-      ∙ (ap (λ z. changed id (with_state (SplitAt place (length (combinations_of w nodes states)) (length (combinations_of w nodes states) + 1))) (combinations_of w nodes states) ++ fresh z ∷ fresh b ∷ []) p
-      ∙ ap (λ z. changed id (with_state (SplitAt place (length (combinations_of w nodes states)) (length (combinations_of w nodes states) + 1))) (combinations_of w nodes states) ++ fresh (set c.nodes place left) ∷ fresh z ∷ []) q))))
+      ∙ (ap (λ cs. cs ++ fresh_combination b ∷ []) (combinations_push w nodes a (set states id x) Pending e1 la ∙ ap (λ cs. cs ++ fresh_combination a ∷ []) (combinations_set w nodes states id x))
+      ∙ (two (changed id (with_state x) (combinations_of w nodes states)) (fresh_combination a) (fresh_combination b)
+      ∙ (ap (λ z. changed id (with_state z) (combinations_of w nodes states) ++ fresh_combination a ∷ fresh_combination b ∷ []) y
+      ∙ (ap (λ z. changed id (with_state (SplitAt place (length (combinations_of w nodes states)) (length (combinations_of w nodes states) + 1))) (combinations_of w nodes states) ++ fresh_combination z ∷ fresh_combination b ∷ []) p
+      ∙ ap (λ z. changed id (with_state (SplitAt place (length (combinations_of w nodes states)) (length (combinations_of w nodes states) + 1))) (combinations_of w nodes states) ++ fresh_combination (set c.nodes place left) ∷ fresh_combination z ∷ []) q))))
     where
       two : {A : Type 0} (xs : List A) (u v : A) → (xs ++ u ∷ []) ++ v ∷ [] ≡ xs ++ u ∷ v ∷ []
       two [] u v = refl

@@ -4,7 +4,7 @@ use Rattle.std.specs.Prelude.{slice_get}
 use Rattle.drt_worklist.specs.Places.{places}
 use Rattle.drt_worklist.proofs.Places.{places_fewer, places_more}
 use Rattle.drt_worklist.proofs.Writes.{length_set}
-use Rattle.drt_refine.specs.Combination.{Combination, is_taken, is_taken_state}
+use Rattle.drt_refine.specs.Combination.{Combination, is_combination_taken, is_taken_combination}
 use Rattle.drt_refine.specs.Machine.{halves}
 use Rattle.drt_refine.specs.View.{FrontierView, combinations_of}
 use Rattle.drt_refine.specs.declared.step.CombinationState.{CombinationState}
@@ -20,12 +20,12 @@ pub record Halving (w width budget : ℕ) (nodes : List ℕ) (states : List Comb
   pub flat : length nodes ≡ length states * w
   pub room : Room w nodes states budget id x
   pub state : slice_get states id ≡ Some x.state
-  pub taken : is_taken_state x.state ≡ true
+  pub taken : is_taken_combination x.state ≡ true
   pub part : id * width + width ≤ length nodes
 
 pub halving : (r : List ℕ) (wcet deadline budget : ℕ) (nodes : List ℕ) (states : List CombinationState) (log : List FrontierEntry) (v : FrontierView) → record { roots = r; wcet = wcet; deadline = deadline; budget = budget; combinations = combinations_of (length r) nodes states; log = log } ≡ v →
-    length nodes ≡ length states * length r → length states + length (places is_taken_state states) ≤ 1 + length log →
-    (id width : ℕ) (x : Combination) → slice_get v.combinations id ≡ Some x → is_taken x ≡ true → length x.nodes ≡ length v.roots → length v.log < v.budget → width ≡ length r → Halving (length r) width budget nodes states id x
+    length nodes ≡ length states * length r → length states + length (places is_taken_combination states) ≤ 1 + length log →
+    (id width : ℕ) (x : Combination) → slice_get v.combinations id ≡ Some x → is_combination_taken x ≡ true → length x.nodes ≡ length v.roots → length v.log < v.budget → width ≡ length r → Halving (length r) width budget nodes states id x
 halving r wcet deadline budget nodes states log v is flat left id width x at_v held wide_v lt_v same =
     let w : ℕ = length r in
     let at : slice_get (combinations_of w nodes states) id ≡ Some x = ap (λ (u : FrontierView). slice_get u.combinations id) is ∙ at_v in
@@ -67,11 +67,11 @@ module _ (w width budget : ℕ) (nodes : List ℕ) (states : List CombinationSta
         let b : length set_states ≡ length states = length_set states id (Split place (length states) (length states + 1)) in
         omega arith
 
-    pub taken_now : length (places is_taken_state now) + 1 ≡ length (places is_taken_state states)
+    pub taken_now : length (places is_taken_combination now) + 1 ≡ length (places is_taken_combination states)
     taken_now =
-        ap (λ l. length (places is_taken_state l) + 1) twice
-        ∙ (ap (λ l. length l + 1) (places_more is_taken_state (set_states ++ Pending ∷ []) Pending refl ∙ places_more is_taken_state set_states Pending refl)
-        ∙ places_fewer is_taken_state states id x.state (Split place (length states) (length states + 1)) h.state h.taken refl)
+        ap (λ l. length (places is_taken_combination l) + 1) twice
+        ∙ (ap (λ l. length l + 1) (places_more is_taken_combination (set_states ++ Pending ∷ []) Pending refl ∙ places_more is_taken_combination set_states Pending refl)
+        ∙ places_fewer is_taken_combination states id x.state (Split place (length states) (length states + 1)) h.state h.taken refl)
 
     pub flat_now : (all : List ℕ) → length all ≡ length nodes + (w + w) → length all ≡ length now * w
     flat_now all e =

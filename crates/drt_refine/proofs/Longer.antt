@@ -9,8 +9,8 @@ use Rattle.drt_worklist.specs.Places.{first, changed}
 use Rattle.drt_worklist.proofs.Lists.{Found, found}
 use Rattle.drt_worklist.proofs.Runs.{run_join, run_log}
 use Rattle.drt_refine.specs.Below.{IsConcrete}
-use Rattle.drt_refine.specs.Combination.{Combination, with_state, is_pending, is_taken, is_taken_state, is_failed}
-use Rattle.drt_refine.specs.Machine.{FrontierSetting, FrontierState, FrontierOutcome, is_full, unchanged, logged, taken, halved, halved_at, children_at, stepped, step_by, step_of, CanStep, IsPairAt, NonePasses, after, CanEnter, replay_from, replay, IsRunFrom, IsRun, opening_state, is_finished}
+use Rattle.drt_refine.specs.Combination.{Combination, with_state, is_combination_pending, is_combination_taken, is_taken_combination, is_failed}
+use Rattle.drt_refine.specs.Machine.{FrontierSetting, FrontierState, FrontierOutcome, is_full, unchanged, logged_outcome, taken, halved, halved_at, children_at, stepped, step_by, step_of, CanStep, IsPairAt, NonePasses, after, CanEnter, replay_from, replay, IsRunFrom, IsRun, opening_state, is_finished}
 use Rattle.drt_refine.specs.Facts.{CanGoOn, with_budget}
 use Rattle.drt_refine.specs.declared.step.CombinationState.{CombinationState}
 use Rattle.drt_refine.specs.declared.step.CombinationState.TheVariants.{Pending, Taken as TakenBy, Passed as PassedAt, Split as SplitAt, Failed as HasFailed}
@@ -36,7 +36,7 @@ module _ (t : FrontierSetting) (budget : ℕ) (more : t.budget ≤ budget) where
     take_same w (Some k) u l = full_same (is_full t s) _ refl l
 
     stepped_same : (w : ℕ) (step : FrontierStep) → (stepped t s w step).state.log ≡ s.log ++ e ∷ [] → stepped (with_budget budget t) s w step ≡ stepped t s w step
-    stepped_same w Take l = take_same w (first is_pending s.combinations) (first is_taken s.combinations) l
+    stepped_same w Take l = take_same w (first is_combination_pending s.combinations) (first is_combination_taken s.combinations) l
     stepped_same w (Pass id time) l = full_same (is_full t s) _ refl l
     stepped_same w (Split id place) l = split_same id place w (slice_get s.combinations id) (halved_at t s (record { worker = w; step = Split id place }) id place (slice_get s.combinations id)) refl l
       where
@@ -121,7 +121,7 @@ concrete_or t (n ∷ nodes) = by (children t.forest n) refl (concrete_or t nodes
     ]
     by (Some q) e rest = inr (0, record { node = n; left = q.0; right = q.1; at = refl; children = e })
 
-holder_of : (x : CombinationState) → is_taken_state x ≡ true → (w : ℕ) × (x ≡ TakenBy w)
+holder_of : (x : CombinationState) → is_taken_combination x ≡ true → (w : ℕ) × (x ≡ TakenBy w)
 holder_of Pending h = absurd (cc)
 holder_of (TakenBy w) h = (w, refl)
 holder_of (PassedAt time) h = absurd (cc)
@@ -144,9 +144,9 @@ module _ (t : FrontierSetting) (s : FrontierState) (lt : length s.log < t.budget
 
   settle_one : (id w : ℕ) (c : Combination) → slice_get s.combinations id ≡ Some c → c.state ≡ TakenBy w → IsLogged t s
   settle_one id w c at held = elim (passes_or t c.nodes) as (λ _. IsLogged t s) [
-    | inl p ↦ record { entry = record { worker = w; step = Pass id p.0 }; can = (c, record { at = at; held = held }, p.1); logs = logs_by w (Pass id p.0) (logged s (record { worker = w; step = Pass id p.0 }) (changed id (with_state (PassedAt p.0)) s.combinations) Passed) refl refl }
+    | inl p ↦ record { entry = record { worker = w; step = Pass id p.0 }; can = (c, record { at = at; held = held }, p.1); logs = logs_by w (Pass id p.0) (logged_outcome s (record { worker = w; step = Pass id p.0 }) (changed id (with_state (PassedAt p.0)) s.combinations) Passed) refl refl }
     | inr none ↦ elim (concrete_or t c.nodes) as (λ _. IsLogged t s) [
-      | inl leaves ↦ record { entry = record { worker = w; step = Fail id }; can = (c, record { at = at; held = held }, (leaves, none)); logs = logs_by w (Fail id) (logged s (record { worker = w; step = Fail id }) (changed id (with_state HasFailed) s.combinations) (Failed id)) refl refl }
+      | inl leaves ↦ record { entry = record { worker = w; step = Fail id }; can = (c, record { at = at; held = held }, (leaves, none)); logs = logs_by w (Fail id) (logged_outcome s (record { worker = w; step = Fail id }) (changed id (with_state HasFailed) s.combinations) (Failed id)) refl refl }
       | inr pair ↦ record {
         entry = record { worker = w; step = Split id pair.0 };
         can = (c, record { at = at; held = held }, pair.1);
@@ -157,23 +157,23 @@ module _ (t : FrontierSetting) (s : FrontierState) (lt : length s.log < t.budget
     ]
   ]
 
-  by_taken : (o : Option ℕ) → first is_taken s.combinations ≡ o → (u : Option ℕ) → first is_pending s.combinations ≡ u → is_finished t s ≡ false → IsLogged t s
+  by_taken : (o : Option ℕ) → first is_combination_taken s.combinations ≡ o → (u : Option ℕ) → first is_combination_pending s.combinations ≡ u → is_finished t s ≡ false → IsLogged t s
   by_taken (Some id) h u g unfinished =
-      let f : Found is_taken s.combinations id = found is_taken s.combinations id h in
+      let f : Found is_combination_taken s.combinations id = found is_combination_taken s.combinations id h in
       let w : (w : ℕ) × (f.item.state ≡ TakenBy w) = holder_of f.item.state f.passes in
       settle_one id w.0 f.item f.at w.1
   by_taken None h (Some k) g unfinished = record {
     entry = record { worker = 0; step = Take };
     can = take_can t s 0 h;
-    logs = logs_by 0 Take (logged s (record { worker = 0; step = Take }) (changed k (with_state (TakenBy 0)) s.combinations) (Taken k)) (ap (λ o. taken t s 0 o (first is_taken s.combinations)) g) refl;
+    logs = logs_by 0 Take (logged_outcome s (record { worker = 0; step = Take }) (changed k (with_state (TakenBy 0)) s.combinations) (Taken k)) (ap (λ o. taken t s 0 o (first is_combination_taken s.combinations)) g) refl;
   }
   by_taken None h None g unfinished =
-      let yes : is_finished t s ≡ true = ap (λ o. is_none o && (is_none (first is_taken s.combinations) && is_none (first is_failed s.combinations))) g
+      let yes : is_finished t s ≡ true = ap (λ o. is_none o && (is_none (first is_combination_taken s.combinations) && is_none (first is_failed s.combinations))) g
       ∙ (ap (λ o. is_none o && is_none (first is_failed s.combinations)) h ∙ ap (λ o. is_none o) unfailed) in
       absurd (let c : true ≡ false = sym yes ∙ unfinished in cc)
 
   pub goes_on : is_finished t s ≡ false → IsLogged t s
-  goes_on unfinished = by_taken (first is_taken s.combinations) refl (first is_pending s.combinations) refl unfinished
+  goes_on unfinished = by_taken (first is_combination_taken s.combinations) refl (first is_combination_pending s.combinations) refl unfinished
 
 -- a run that is neither finished nor failed can be lengthened
 pub run_longer : (t : FrontierSetting) (es : List FrontierEntry) (budget : ℕ) → IsRun t es → is_finished t (replay t es) ≡ false → first is_failed (replay t es).combinations ≡ None → t.budget ≤ budget → length es < budget → CanGoOn t budget es

@@ -4,8 +4,8 @@ use Rattle.std.specs.Prelude.{slice_get, nat_le}
 use Rattle.drt_tree.specs.Tree.{Plain}
 use Rattle.drt_worklist.specs.Places.{first, changed}
 use Rattle.drt_worklist.proofs.Runs.{run_join, replay_join}
-use Rattle.drt_refine.specs.Combination.{Combination, with_state, is_pending, is_taken, is_failed}
-use Rattle.drt_refine.specs.Machine.{FrontierSetting, FrontierState, FrontierOutcome, taken, stepped, step_by, step_of, is_full, unchanged, logged, replay, IsRun, opening_state, after, CanEnter, halved, halved_at, children_at, CanStep}
+use Rattle.drt_refine.specs.Combination.{Combination, with_state, is_combination_pending, is_combination_taken, is_failed}
+use Rattle.drt_refine.specs.Machine.{FrontierSetting, FrontierState, FrontierOutcome, taken, stepped, step_by, step_of, is_full, unchanged, logged_outcome, replay, IsRun, opening_state, after, CanEnter, halved, halved_at, children_at, CanStep}
 use Rattle.drt_refine.specs.Facts.{Facts}
 use Rattle.drt_refine.specs.View.{FrontierView, setting_of, state_of, outcome, moved, IsFrontierStep, IsFrontier, CanApply}
 use Rattle.drt_refine.specs.declared.step.CombinationState.{CombinationState}
@@ -22,10 +22,10 @@ module _ (p : Plain) (old : FrontierView) (w : ℕ) where
 
   -- a step of a combination that the worker settles
   pub settled : (new : FrontierView) (step : FrontierStep) (reply : FrontierReply) (k : ℕ) (x : CombinationState) → first is_failed old.combinations ≡ None → false ≡ nat_le old.budget (length old.log) →
-      stepped (setting_of p old) (state_of old) w step ≡ cond (nat_le old.budget (length old.log)) (unchanged (state_of old) Spent) (logged (state_of old) (record { worker = w; step = step }) (changed k (with_state x) old.combinations) reply) →
+      stepped (setting_of p old) (state_of old) w step ≡ cond (nat_le old.budget (length old.log)) (unchanged (state_of old) Spent) (logged_outcome (state_of old) (record { worker = w; step = step }) (changed k (with_state x) old.combinations) reply) →
       new ≡ moved old (record { combinations = changed k (with_state x) old.combinations; log = old.log ++ record { worker = w; step = step } ∷ [] }) → IsFrontierStep p old new w step reply
-  settled new step reply k x f h e n = made new step reply (logged (state_of old) (record { worker = w; step = step }) (changed k (with_state x) old.combinations) reply)
-      (ap (λ y. step_by (setting_of p old) (state_of old) w step y) f ∙ (e ∙ ap (λ y. cond y (unchanged (state_of old) Spent) (logged (state_of old) (record { worker = w; step = step }) (changed k (with_state x) old.combinations) reply)) (sym h))) n refl
+  settled new step reply k x f h e n = made new step reply (logged_outcome (state_of old) (record { worker = w; step = step }) (changed k (with_state x) old.combinations) reply)
+      (ap (λ y. step_by (setting_of p old) (state_of old) w step y) f ∙ (e ∙ ap (λ y. cond y (unchanged (state_of old) Spent) (logged_outcome (state_of old) (record { worker = w; step = step }) (changed k (with_state x) old.combinations) reply)) (sym h))) n refl
 
 -- a step changes nothing, or adds itself to the log
 pub data Logs (s : FrontierState) (e : FrontierEntry) (x : FrontierState) : Type 0 where
@@ -51,7 +51,7 @@ module _ (t : FrontierSetting) (s : FrontierState) (w : ℕ) where
   halved_at_logs e id place (Some c) = halved_logs e id place c.nodes (children_at t (slice_get c.nodes place))
 
   stepped_logs : (step : FrontierStep) → Logs s (record { worker = w; step = step }) (stepped t s w step).state
-  stepped_logs Take = take_logs (first is_pending s.combinations) (first is_taken s.combinations)
+  stepped_logs Take = take_logs (first is_combination_pending s.combinations) (first is_combination_taken s.combinations)
   stepped_logs (Pass id time) = cond_logs (record { worker = w; step = Pass id time }) (is_full t s) _ _ (same refl) (adds refl)
   stepped_logs (Split id place) = cond_logs (record { worker = w; step = Split id place }) (is_full t s) _ _ (same refl) (halved_at_logs (record { worker = w; step = Split id place }) id place (slice_get s.combinations id))
   stepped_logs (Fail id) = cond_logs (record { worker = w; step = Fail id }) (is_full t s) _ _ (same refl) (adds refl)

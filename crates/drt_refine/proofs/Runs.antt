@@ -4,12 +4,12 @@ use Rattle.std.specs.Prelude.{slice_get, is_none, ◌&&◌}
 use Rattle.std.proofs.lemmas.Option.{none-some, same_Some}
 use Rattle.drt_steps.specs.Values.{value_at}
 use Rattle.drt_steps.specs.Time.{AreChosen}
-use Rattle.drt_tree.specs.Tree.{IsForest, IsUnder, values}
+use Rattle.drt_tree.specs.Tree.{IsForest, IsUnder, node_values_in}
 use Rattle.drt_worklist.specs.Places.{first}
 use Rattle.drt_worklist.proofs.Lists.{Found, found, none_found}
 use Rattle.drt_worklist.proofs.Runs.{run_keeps}
 use Rattle.drt_refine.specs.Below.{AreBelow}
-use Rattle.drt_refine.specs.Combination.{Combination, fresh, is_pending, is_pending_state, is_taken, is_taken_state, is_failed, is_failed_state, is_split_state}
+use Rattle.drt_refine.specs.Combination.{Combination, fresh_combination, is_combination_pending, is_pending_combination, is_combination_taken, is_taken_combination, is_failed, is_failed_state, is_split_state}
 use Rattle.drt_refine.specs.Machine.{FrontierSetting, FrontierState, opening_state, after, CanEnter, replay, IsRun, is_finished, PassesFor, IsHopeless}
 use Rattle.drt_refine.specs.Facts.{IsTrueOf, IsStanding, Facts, AreInPlace, IsPassed}
 use Rattle.drt_refine.specs.declared.step.CombinationState.{CombinationState}
@@ -19,13 +19,13 @@ use Rattle.drt_refine.proofs.Below.{passes_below}
 use Rattle.drt_refine.proofs.Steps.{step_keeps}
 
 module _ (t : FrontierSetting) (forest : IsForest t.forest) (roots : AreChosen t.deadline t.forest.pool t.roots) where
-  opening_told : (id : ℕ) (x : Combination) → slice_get (fresh t.roots ∷ []) id ≡ Some x → IsTrueOf t x.nodes x.state × AreInPlace t x.nodes
-  opening_told zero x h = subst (λ (y : Combination). IsTrueOf t y.nodes y.state × AreInPlace t y.nodes) (same_Some (fresh t.roots) x h) (tt, (roots, refl))
+  opening_told : (id : ℕ) (x : Combination) → slice_get (fresh_combination t.roots ∷ []) id ≡ Some x → IsTrueOf t x.nodes x.state × AreInPlace t x.nodes
+  opening_told zero x h = subst (λ (y : Combination). IsTrueOf t y.nodes y.state × AreInPlace t y.nodes) (same_Some (fresh_combination t.roots) x h) (tt, (roots, refl))
   opening_told (suc i) x h = absurd (none-some x h)
 
   opening_facts : Facts t (opening_state t).combinations
   opening_facts = record {
-    covers = λ tuple h. record { id = 0; combination = fresh t.roots; at = refl; stands = refl; below = h };
+    covers = λ tuple h. record { id = 0; combination = fresh_combination t.roots; at = refl; stands = refl; below = h };
     states = λ id x h. (opening_told id x h).0;
     nodes = λ id x h. (opening_told id x h).1;
   }
@@ -48,19 +48,19 @@ none_of (Some k) e = absurd (cc)
 
 -- where the state is finished, none is pending, taken or failed
 pub record AreNone (s : FrontierState) : Type 0 where
-  pub pending : first is_pending s.combinations ≡ None
-  pub taken : first is_taken s.combinations ≡ None
+  pub pending : first is_combination_pending s.combinations ≡ None
+  pub taken : first is_combination_taken s.combinations ≡ None
   pub failed : first is_failed s.combinations ≡ None
 
 pub finished_none : (t : FrontierSetting) (s : FrontierState) → is_finished t s ≡ true → AreNone s
 finished_none t s h =
-    let p : Bool = is_none (first is_pending s.combinations) in
-    let q : Bool = is_none (first is_taken s.combinations) in
+    let p : Bool = is_none (first is_combination_pending s.combinations) in
+    let q : Bool = is_none (first is_combination_taken s.combinations) in
     let r : Bool = is_none (first is_failed s.combinations) in
     let qr : (q && r) ≡ true = and_right p (q && r) h in
     record {
-      pending = none_of (first is_pending s.combinations) (and_left p (q && r) h);
-      taken = none_of (first is_taken s.combinations) (and_left q r qr);
+      pending = none_of (first is_combination_pending s.combinations) (and_left p (q && r) h);
+      taken = none_of (first is_combination_taken s.combinations) (and_left q r qr);
       failed = none_of (first is_failed s.combinations) (and_right q r qr);
     }
 
@@ -68,7 +68,7 @@ record IsTime (s : CombinationState) : Type 0 where
   time : ℕ
   is : s ≡ PassedAt time
 
-time_of : (s : CombinationState) → is_pending_state s ≡ false → is_taken_state s ≡ false → is_failed_state s ≡ false → is_split_state s ≡ false → IsTime s
+time_of : (s : CombinationState) → is_pending_combination s ≡ false → is_taken_combination s ≡ false → is_failed_state s ≡ false → is_split_state s ≡ false → IsTime s
 time_of Pending p q r u = absurd (cc)
 time_of (TakenBy w) p q r u = absurd (cc)
 time_of (PassedAt time) p q r u = record { time = time; is = refl }
@@ -84,13 +84,13 @@ failed_state HasFailed h = refl
 
 module _ (t : FrontierSetting) (s : FrontierState) (facts : Facts t s.combinations) where
   -- where it is finished, each tuple below the roots is below a passed combination, whose time passes for the tuple
-  pub finished_passed : ((leaf n u : ℕ) → IsUnder t.forest leaf n → value_at (values t.forest leaf) u ≤ value_at (values t.forest n) u) → is_finished t s ≡ true → (tuple : List ℕ) → AreBelow t.forest tuple t.roots → IsPassed t s.combinations tuple
+  pub finished_passed : ((leaf n u : ℕ) → IsUnder t.forest leaf n → value_at (node_values_in t.forest leaf) u ≤ value_at (node_values_in t.forest n) u) → is_finished t s ≡ true → (tuple : List ℕ) → AreBelow t.forest tuple t.roots → IsPassed t s.combinations tuple
   finished_passed above h tuple below =
       let none : AreNone s = finished_none t s h in
       let o : IsStanding t s.combinations tuple = facts.covers tuple below in
       let u : IsTime o.combination.state = time_of o.combination.state
-      (none_found is_pending s.combinations none.pending o.id o.combination o.at)
-      (none_found is_taken s.combinations none.taken o.id o.combination o.at)
+      (none_found is_combination_pending s.combinations none.pending o.id o.combination o.at)
+      (none_found is_combination_taken s.combinations none.taken o.id o.combination o.at)
       (none_found is_failed s.combinations none.failed o.id o.combination o.at) o.stands in
       let p : PassesFor t o.combination.nodes u.time = subst (λ (x : CombinationState). IsTrueOf t o.combination.nodes x) u.is (facts.states o.id o.combination o.at) in
       record {

@@ -4,7 +4,7 @@ use Rattle.std.specs.Prelude.{slice_get, IfSome}
 use Rattle.std.proofs.lemmas.Option.{none-some, same_Some}
 use Rattle.drt_worklist.specs.Places.{first}
 use Rattle.drt_worklist.proofs.Lists.{none_found}
-use Rattle.drt_refine.specs.Combination.{Combination, is_taken, is_taken_state}
+use Rattle.drt_refine.specs.Combination.{Combination, is_combination_taken, is_taken_combination}
 use Rattle.drt_refine.specs.Machine.{FrontierSetting, FrontierState, CanStep, Holds}
 use Rattle.drt_refine.specs.Eager.{IsEagerFor, IsEagerStep, settled_by}
 use Rattle.drt_refine.specs.Drive.{Settles, IsDriven, IsTurn}
@@ -44,7 +44,7 @@ module _ (t : FrontierSetting) (s : FrontierState) (w id : ℕ) (c : Combination
   settle_eager step h j x e here = subst (λ (y : Combination). IsEagerFor t y step) (same_Some c x (sym at ∙ (ap (λ n. slice_get s.combinations n) (sym (settled_is step j h e)) ∙ here))) (eager_for step h)
 
 -- it settles where one is taken
-pub settle_turn : (t : FrontierSetting) (s : FrontierState) (id : ℕ) (c : Combination) → first is_taken s.combinations ≡ Some id → (step : FrontierStep) → Settles t id c step → IsTurn t s step
+pub settle_turn : (t : FrontierSetting) (s : FrontierState) (id : ℕ) (c : Combination) → first is_combination_taken s.combinations ≡ Some id → (step : FrontierStep) → Settles t id c step → IsTurn t s step
 settle_turn t s id c h Take g = elim g [ ]
 settle_turn t s id c h (Pass k time) g = (id, h)
 settle_turn t s id c h (Split k place) g = (id, h)
@@ -54,14 +54,14 @@ take_or : (t : FrontierSetting) (id : ℕ) (c : Combination) (P : Type 0) (step 
 take_or t id c P step g e = elim (subst (λ (x : FrontierStep). Settles t id c x) e g) [ ]
 
 pub settle_driven : (t : FrontierSetting) (s : FrontierState) (d w id : ℕ) (c : Combination) (step : FrontierStep) → Settles t id c step → IsDriven d s (record { worker = w; step = step })
-settle_driven t s d w id c step g e = take_or t id c ((w ≡ d) × (first is_taken s.combinations ≡ None)) step g e
+settle_driven t s d w id c step g e = take_or t id c ((w ≡ d) × (first is_combination_taken s.combinations ≡ None)) step g e
 
-untaken : (x : CombinationState) (w : ℕ) → x ≡ Taken w → is_taken_state x ≡ false → ⊥
-untaken x w e h = absurd (let t : is_taken_state (Taken w) ≡ false = ap is_taken_state (sym e) ∙ h in cc)
+untaken : (x : CombinationState) (w : ℕ) → x ≡ Taken w → is_taken_combination x ≡ false → ⊥
+untaken x w e h = absurd (let t : is_taken_combination (Taken w) ≡ false = ap is_taken_combination (sym e) ∙ h in cc)
 
 -- a worker may take where no combination is taken
-pub take_can : (t : FrontierSetting) (s : FrontierState) (w : ℕ) → first is_taken s.combinations ≡ None → CanStep t s w Take
-take_can t s w none id c at held = untaken c.state w held (none_found is_taken s.combinations none id c at)
+pub take_can : (t : FrontierSetting) (s : FrontierState) (w : ℕ) → first is_combination_taken s.combinations ≡ None → CanStep t s w Take
+take_can t s w none id c at held = untaken c.state w held (none_found is_combination_taken s.combinations none id c at)
 
 pub take_eager : (t : FrontierSetting) (s : FrontierState) (w : ℕ) → IsEagerStep t s (record { worker = w; step = Take })
 take_eager t s w id c e at = absurd (none-some id e)

@@ -5,7 +5,7 @@ use Rattle.drt_worklist.specs.Places.{first}
 use Rattle.drt_tree.specs.Tree.{Plain, children}
 use Rattle.drt_refine.specs.Facts.{Facts}
 use Rattle.drt_refine.specs.View.{FrontierView, setting_of, state_of, moved, IsFrontierStep, IsFrontier, CanApply}
-use Rattle.drt_refine.specs.Combination.{Combination, is_failed, is_taken, is_taken_state}
+use Rattle.drt_refine.specs.Combination.{Combination, is_failed, is_combination_taken, is_taken_combination}
 use Rattle.drt_refine.specs.Machine.{halves, step_by, unchanged, halved, halved_at, children_at}
 use Rattle.drt_refine.specs.declared.step.CombinationState.{CombinationState}
 use Rattle.drt_refine.specs.declared.step.FrontierStep.TheVariants.{Split}
@@ -22,7 +22,7 @@ pub record Splitting (p : Plain) (v : FrontierView) (w id place : ℕ) : Type 0 
   pub left : ℕ
   pub right : ℕ
   pub at : slice_get v.combinations id ≡ Some combination
-  pub taken : is_taken combination ≡ true
+  pub taken : is_combination_taken combination ≡ true
   pub wide : length combination.nodes ≡ length v.roots
   pub node_at : slice_get combination.nodes place ≡ Some node
   pub pair : children p node ≡ Some (left, right)
@@ -37,7 +37,7 @@ splitting p v w id place front can =
       left = can.2.left;
       right = can.2.right;
       at = can.1.at;
-      taken = ap (λ (x : CombinationState). is_taken_state x) can.1.held;
+      taken = ap (λ (x : CombinationState). is_taken_combination x) can.1.held;
       wide = (facts.nodes id can.0 can.1.at).1;
       node_at = can.2.at;
       pair = can.2.children;

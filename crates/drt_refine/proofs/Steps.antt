@@ -6,7 +6,7 @@ use Rattle.drt_worklist.specs.Places.{first, changed}
 use Rattle.drt_steps.specs.Time.{AreChosen}
 use Rattle.drt_tree.specs.Tree.{IsForest, children}
 use Rattle.drt_refine.specs.Below.{AreBelow}
-use Rattle.drt_refine.specs.Combination.{Combination, fresh, with_state, is_pending, is_taken, is_failed, is_split_state}
+use Rattle.drt_refine.specs.Combination.{Combination, fresh_combination, with_state, is_combination_pending, is_combination_taken, is_failed, is_split_state}
 use Rattle.drt_refine.specs.Machine.{FrontierSetting, FrontierState, FrontierOutcome, is_full, halves, taken, halved, halved_at, children_at, stepped, step_by, step_of, CanStep, IsPairAt}
 use Rattle.drt_refine.specs.Facts.{IsTrueOf, IsStanding, Facts, AreInPlace}
 use Rattle.drt_refine.specs.declared.step.CombinationState.{CombinationState}
@@ -56,15 +56,15 @@ module _ (t : FrontierSetting) (forest : IsForest t.forest) where
     halved_standing : (tuple : List ℕ) → AreBelow t.forest tuple (set c.nodes place l) ⊎ AreBelow t.forest tuple (set c.nodes place r) → IsStanding t (halves combinations k place (set c.nodes place l) (set c.nodes place r)) tuple
     halved_standing tuple (inl u) = record {
       id = length (changed k (with_state (SplitAt place (length combinations) (length combinations + 1))) combinations) + 0;
-      combination = fresh (set c.nodes place l);
-      at = after_end (changed k (with_state (SplitAt place (length combinations) (length combinations + 1))) combinations) (fresh (set c.nodes place l) ∷ fresh (set c.nodes place r) ∷ []) 0 (fresh (set c.nodes place l)) refl;
+      combination = fresh_combination (set c.nodes place l);
+      at = after_end (changed k (with_state (SplitAt place (length combinations) (length combinations + 1))) combinations) (fresh_combination (set c.nodes place l) ∷ fresh_combination (set c.nodes place r) ∷ []) 0 (fresh_combination (set c.nodes place l)) refl;
       stands = refl;
       below = u;
     }
     halved_standing tuple (inr u) = record {
       id = length (changed k (with_state (SplitAt place (length combinations) (length combinations + 1))) combinations) + 1;
-      combination = fresh (set c.nodes place r);
-      at = after_end (changed k (with_state (SplitAt place (length combinations) (length combinations + 1))) combinations) (fresh (set c.nodes place l) ∷ fresh (set c.nodes place r) ∷ []) 1 (fresh (set c.nodes place r)) refl;
+      combination = fresh_combination (set c.nodes place r);
+      at = after_end (changed k (with_state (SplitAt place (length combinations) (length combinations + 1))) combinations) (fresh_combination (set c.nodes place l) ∷ fresh_combination (set c.nodes place r) ∷ []) 1 (fresh_combination (set c.nodes place r)) refl;
       stands = refl;
       below = u;
     }
@@ -80,7 +80,7 @@ module _ (t : FrontierSetting) (forest : IsForest t.forest) where
           | inr e ↦ record {
             id = o.id;
             combination = a.new;
-            at = after_join (changed k (with_state s) combinations) (fresh (set c.nodes place l) ∷ fresh (set c.nodes place r) ∷ []) o.id a.new a.at;
+            at = after_join (changed k (with_state s) combinations) (fresh_combination (set c.nodes place l) ∷ fresh_combination (set c.nodes place r) ∷ []) o.id a.new a.at;
             stands = subst (λ (x : Combination). is_split_state x.state ≡ false) (sym e) o.stands;
             below = subst (λ (x : Combination). AreBelow t.forest tuple x.nodes) (sym e) o.below;
           }
@@ -94,17 +94,17 @@ module _ (t : FrontierSetting) (forest : IsForest t.forest) where
         let two : AreChosen t.deadline t.forest.pool (set c.nodes place l) × AreChosen t.deadline t.forest.pool (set c.nodes place r) = chosen_halves t.forest forest t.deadline c.nodes place n l r node_at pair_is nodes_of.0 in
         ((two.0, length_set c.nodes place l ∙ nodes_of.1), (two.1, length_set c.nodes place r ∙ nodes_of.1))
 
-    told_new : (i : ℕ) (x : Combination) → slice_get (fresh (set c.nodes place l) ∷ fresh (set c.nodes place r) ∷ []) i ≡ Some x → IsTrueOf t x.nodes x.state × (AreInPlace t x.nodes)
-    told_new zero x h = subst (λ (y : Combination). IsTrueOf t y.nodes y.state × (AreInPlace t y.nodes)) (same_Some (fresh (set c.nodes place l)) x h)
+    told_new : (i : ℕ) (x : Combination) → slice_get (fresh_combination (set c.nodes place l) ∷ fresh_combination (set c.nodes place r) ∷ []) i ≡ Some x → IsTrueOf t x.nodes x.state × (AreInPlace t x.nodes)
+    told_new zero x h = subst (λ (y : Combination). IsTrueOf t y.nodes y.state × (AreInPlace t y.nodes)) (same_Some (fresh_combination (set c.nodes place l)) x h)
         (tt, in_place.0)
-    told_new (suc zero) x h = subst (λ (y : Combination). IsTrueOf t y.nodes y.state × (AreInPlace t y.nodes)) (same_Some (fresh (set c.nodes place r)) x h)
+    told_new (suc zero) x h = subst (λ (y : Combination). IsTrueOf t y.nodes y.state × (AreInPlace t y.nodes)) (same_Some (fresh_combination (set c.nodes place r)) x h)
         (tt, in_place.1)
     told_new (suc (suc i)) x h = absurd (none-some x h)
 
     split_told : (id : ℕ) (x : Combination) → slice_get (halves combinations k place (set c.nodes place l) (set c.nodes place r)) id ≡ Some x → IsTrueOf t x.nodes x.state × (AreInPlace t x.nodes)
     split_told id x h =
         let s = SplitAt place (length combinations) (length combinations + 1) in
-        elim (before_join (changed k (with_state s) combinations) (fresh (set c.nodes place l) ∷ fresh (set c.nodes place r) ∷ []) id x h) [
+        elim (before_join (changed k (with_state s) combinations) (fresh_combination (set c.nodes place l) ∷ fresh_combination (set c.nodes place r) ∷ []) id x h) [
           | earlier g ↦ told combinations k c s at tt facts id x g
           | later i e g ↦ told_new i x g
         ]
@@ -121,11 +121,11 @@ module _ (t : FrontierSetting) (forest : IsForest t.forest) where
   cond_keeps false x y p q = q
 
   module _ (s : FrontierState) (w : ℕ) (facts : Facts t s.combinations) where
-    take_keeps : (o u : Option ℕ) → first is_pending s.combinations ≡ o → Facts t (taken t s w o u).state.combinations
+    take_keeps : (o u : Option ℕ) → first is_combination_pending s.combinations ≡ o → Facts t (taken t s w o u).state.combinations
     take_keeps None None e = facts
     take_keeps None (Some k) e = cond_keeps (is_full t s) _ _ facts facts
     take_keeps (Some k) u e =
-        let f : Found is_pending s.combinations k = found is_pending s.combinations k e in
+        let f : Found is_combination_pending s.combinations k = found is_combination_pending s.combinations k e in
         cond_keeps (is_full t s) _ _ facts (state_keeps s.combinations k f.item (TakenBy w) f.at refl tt facts)
 
     halved_keeps : (e : FrontierEntry) (id place : ℕ) (c : Combination) (o : Option (ℕ × ℕ)) → slice_get s.combinations id ≡ Some c → (p : IsPairAt t c.nodes place) → children_at t (slice_get c.nodes place) ≡ o → Facts t (halved t s e id place c.nodes o).state.combinations
@@ -140,7 +140,7 @@ module _ (t : FrontierSetting) (forest : IsForest t.forest) where
         halved_keeps e id place d (children_at t (slice_get d.nodes place)) h (subst (λ (x : Combination). IsPairAt t x.nodes place) same p) refl
 
     stepped_keeps : (step : FrontierStep) → CanStep t s w step → Facts t (stepped t s w step).state.combinations
-    stepped_keeps Take can = take_keeps (first is_pending s.combinations) (first is_taken s.combinations) refl
+    stepped_keeps Take can = take_keeps (first is_combination_pending s.combinations) (first is_combination_taken s.combinations) refl
     stepped_keeps (Pass id time) can = cond_keeps (is_full t s) _ _ facts (state_keeps s.combinations id can.0 (PassedAt time) can.1.at refl can.2 facts)
     stepped_keeps (Split id place) can = cond_keeps (is_full t s) _ _ facts (halved_at_keeps (record { worker = w; step = Split id place }) id place can.0 (slice_get s.combinations id) can.1.at can.2 refl)
     stepped_keeps (Fail id) can = cond_keeps (is_full t s) _ _ facts (state_keeps s.combinations id can.0 HasFailed can.1.at refl can.2 facts)

@@ -7,7 +7,7 @@ use Rattle.drt_worklist.specs.Places.{first, changed, total}
 use Rattle.drt_worklist.proofs.Lists.{Found, found, total_changed, total_join, length_join}
 use Rattle.drt_worklist.proofs.Runs.{run_keeps, run_log}
 use Rattle.drt_refine.specs.Below.{tuples}
-use Rattle.drt_refine.specs.Combination.{Combination, fresh, with_state, is_pending, is_pending_state, is_taken, is_failed}
+use Rattle.drt_refine.specs.Combination.{Combination, fresh_combination, with_state, is_combination_pending, is_pending_combination, is_combination_taken, is_failed}
 use Rattle.drt_refine.specs.Machine.{FrontierSetting, FrontierState, FrontierOutcome, is_full, taken, halved, halved_at, children_at, stepped, step_by, step_of, CanStep, IsPairAt, opening_state, after, CanEnter, replay, IsRun}
 use Rattle.drt_refine.specs.Facts.{left_of, left, IsBounded}
 use Rattle.drt_refine.specs.declared.step.CombinationState.{CombinationState}
@@ -18,7 +18,7 @@ use Rattle.drt_refine.specs.declared.step.FrontierEntry.{FrontierEntry}
 use Rattle.drt_refine.proofs.Below.{tuples_some, tuples_halved}
 
 module _ (t : FrontierSetting) (forest : IsForest t.forest) (some : (n : ℕ) → 1 ≤ leaves t.forest n) where
-  left_pending : (p : ℕ) (x : CombinationState) → is_pending_state x ≡ true → left_of t p x ≡ 4 * p - 2
+  left_pending : (p : ℕ) (x : CombinationState) → is_pending_combination x ≡ true → left_of t p x ≡ 4 * p - 2
   left_pending p Pending g = refl
   left_pending p (TakenBy w) g = absurd (cc)
   left_pending p (PassedAt time) g = absurd (cc)
@@ -48,11 +48,11 @@ module _ (t : FrontierSetting) (forest : IsForest t.forest) (some : (n : ℕ) �
     left_held : (c : Combination) → c.state ≡ TakenBy w → left t c ≡ 4 * tuples t.forest c.nodes - 3
     left_held c h = ap (λ x. left_of t (tuples t.forest c.nodes) x) h
 
-    take_bounded : (o u : Option ℕ) → first is_pending s.combinations ≡ o → IsBounded t (taken t s w o u).state
+    take_bounded : (o u : Option ℕ) → first is_combination_pending s.combinations ≡ o → IsBounded t (taken t s w o u).state
     take_bounded None None e = bounded
     take_bounded None (Some k) e = either_bounded (is_full t s) _ _ bounded bounded
     take_bounded (Some k) u e =
-        let f : Found is_pending s.combinations k = found is_pending s.combinations k e in
+        let f : Found is_combination_pending s.combinations k = found is_combination_pending s.combinations k e in
         let a : left t f.item ≡ 4 * tuples t.forest f.item.nodes - 2 = left_pending (tuples t.forest f.item.nodes) f.item.state f.passes in
         let p : 1 ≤ tuples t.forest f.item.nodes = tuples_some t.forest forest some f.item.nodes in
         either_bounded (is_full t s) _ _ bounded (one_more k f.item (TakenBy w) (record { worker = w; step = Take }) f.at (let g : left_of t (tuples t.forest f.item.nodes) (TakenBy w) ≡ 4 * tuples t.forest f.item.nodes - 3 = refl in omega arith))
@@ -64,7 +64,7 @@ module _ (t : FrontierSetting) (forest : IsForest t.forest) (some : (n : ℕ) �
         let ln : List ℕ = set c.nodes place q.0 in
         let rn : List ℕ = set c.nodes place q.1 in
         let front : List Combination = changed id (with_state x) s.combinations in
-        let rest : List Combination = fresh ln ∷ fresh rn ∷ [] in
+        let rest : List Combination = fresh_combination ln ∷ fresh_combination rn ∷ [] in
         let a : total (left t) front + left t c ≡ total (left t) s.combinations + 0 = total_changed (left t) id (with_state x) s.combinations c at in
         let j : total (left t) (front ++ rest) ≡ total (left t) front + total (left t) rest = total_join (left t) front rest in
         let lh : left t c ≡ 4 * tuples t.forest c.nodes - 3 = left_held c held in
@@ -87,7 +87,7 @@ module _ (t : FrontierSetting) (forest : IsForest t.forest) (some : (n : ℕ) �
         one_more k c x e at (omega arith)
 
     stepped_bounded : (step : FrontierStep) → CanStep t s w step → IsBounded t (stepped t s w step).state
-    stepped_bounded Take can = take_bounded (first is_pending s.combinations) (first is_taken s.combinations) refl
+    stepped_bounded Take can = take_bounded (first is_combination_pending s.combinations) (first is_combination_taken s.combinations) refl
     stepped_bounded (Pass id time) can = either_bounded (is_full t s) _ _ bounded (settled_bounded id can.0 (PassedAt time) (record { worker = w; step = Pass id time }) can.1.at can.1.held refl)
     stepped_bounded (Split id place) can = either_bounded (is_full t s) _ _ bounded (halved_at_bounded (record { worker = w; step = Split id place }) id place can.0 (slice_get s.combinations id) can.1.at can.1.held can.2 refl)
     stepped_bounded (Fail id) can = either_bounded (is_full t s) _ _ bounded (settled_bounded id can.0 HasFailed (record { worker = w; step = Fail id }) can.1.at can.1.held refl)

@@ -9,20 +9,20 @@ pub record Combination : Type 0 where
   pub state : CombinationState
 
 -- It waits to be taken.
-abbrev pub is_pending_state : CombinationState → Bool
-is_pending_state Pending = true
-is_pending_state (Taken w) = false
-is_pending_state (Passed time) = false
-is_pending_state (Split place left right) = false
-is_pending_state Failed = false
+abbrev pub is_pending_combination : CombinationState → Bool
+is_pending_combination Pending = true
+is_pending_combination (Taken w) = false
+is_pending_combination (Passed time) = false
+is_pending_combination (Split place left right) = false
+is_pending_combination Failed = false
 
 -- A worker holds it.
-abbrev pub is_taken_state : CombinationState → Bool
-is_taken_state Pending = false
-is_taken_state (Taken w) = true
-is_taken_state (Passed time) = false
-is_taken_state (Split place left right) = false
-is_taken_state Failed = false
+abbrev pub is_taken_combination : CombinationState → Bool
+is_taken_combination Pending = false
+is_taken_combination (Taken w) = true
+is_taken_combination (Passed time) = false
+is_taken_combination (Split place left right) = false
+is_taken_combination Failed = false
 
 -- This worker holds it.
 abbrev pub is_held_state : ℕ → CombinationState → Bool
@@ -49,24 +49,24 @@ is_failed_state (Split place left right) = false
 is_failed_state Failed = true
 
 -- The combination waits to be taken.
-abbrev pub is_pending : Combination → Bool
-is_pending c = is_pending_state c.state
+abbrev pub is_combination_pending : Combination → Bool
+is_combination_pending c = is_pending_combination c.state
 
 -- A worker holds the combination.
-abbrev pub is_taken : Combination → Bool
-is_taken c = is_taken_state c.state
+abbrev pub is_combination_taken : Combination → Bool
+is_combination_taken c = is_taken_combination c.state
 
 -- This worker holds the combination.
-abbrev pub is_held_by : ℕ → Combination → Bool
-is_held_by w c = is_held_state w c.state
+abbrev pub is_combination_held_by : ℕ → Combination → Bool
+is_combination_held_by w c = is_held_state w c.state
 
 -- The combination failed.
 abbrev pub is_failed : Combination → Bool
 is_failed c = is_failed_state c.state
 
 -- A new combination of these nodes.
-abbrev pub fresh : List ℕ → Combination
-fresh nodes = record { nodes = nodes; state = Pending }
+abbrev pub fresh_combination : List ℕ → Combination
+fresh_combination nodes = record { nodes = nodes; state = Pending }
 
 -- The combination in another state.
 abbrev pub with_state : CombinationState → Combination → Combination

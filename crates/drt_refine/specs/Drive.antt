@@ -4,7 +4,7 @@ use Rattle.drt_tree.specs.Tree.{Plain}
 use Rattle.drt_worklist.specs.Places.{first}
 use Rattle.drt_worklist.specs.Runs.{AllAlong}
 use Rattle.drt_steps.specs.Time.{IsLeastTime}
-use Rattle.drt_refine.specs.Combination.{Combination, is_taken, is_failed}
+use Rattle.drt_refine.specs.Combination.{Combination, is_combination_taken, is_failed}
 use Rattle.drt_refine.specs.Machine.{FrontierSetting, FrontierState, after, is_finished, IsRunFrom, replay_from, NonePasses, IsHopeless}
 use Rattle.drt_refine.specs.Eager.{AreEagerFrom, IsSplitPlace}
 use Rattle.drt_refine.specs.View.{FrontierView, setting_of, state_of}
@@ -16,7 +16,7 @@ use Rattle.drt_refine.specs.declared.step.FrontierReply.TheVariants.{Taken, Busy
 
 -- A driver takes combinations as worker w, and only where none is taken: it first settles those that are.
 abbrev pub IsDriven : ℕ → FrontierState → FrontierEntry → Type 0
-IsDriven w s e = e.step ≡ Take → (e.worker ≡ w) × (first is_taken s.combinations ≡ None)
+IsDriven w s e = e.step ≡ Take → (e.worker ≡ w) × (first is_combination_taken s.combinations ≡ None)
 
 -- The driver w went on from old to new: each of its steps is one step of the machine, all are eager, and the log begins with the
 -- old log.
@@ -47,21 +47,21 @@ module _ (t : FrontierSetting) (s : FrontierState) where
   StopsAt Spent = IsSpent
 
 -- The reply ends a driver's work.
-abbrev pub ends : FrontierReply → Bool
-ends (Taken id) = false
-ends (Busy id) = false
-ends Finished = true
-ends Passed = false
-ends (Halved left right) = false
-ends (Failed id) = true
-ends Spent = true
+abbrev pub ends_frontier : FrontierReply → Bool
+ends_frontier (Taken id) = false
+ends_frontier (Busy id) = false
+ends_frontier Finished = true
+ends_frontier Passed = false
+ends_frontier (Halved left right) = false
+ends_frontier (Failed id) = true
+ends_frontier Spent = true
 
 -- A driver's step: it takes where no combination is taken, and else settles one.
 abbrev pub IsTurn : FrontierSetting → FrontierState → FrontierStep → Type 0
-IsTurn t s Take = first is_taken s.combinations ≡ None
-IsTurn t s (Pass id time) = (k : ℕ) × (first is_taken s.combinations ≡ Some k)
-IsTurn t s (Split id place) = (k : ℕ) × (first is_taken s.combinations ≡ Some k)
-IsTurn t s (Fail id) = (k : ℕ) × (first is_taken s.combinations ≡ Some k)
+IsTurn t s Take = first is_combination_taken s.combinations ≡ None
+IsTurn t s (Pass id time) = (k : ℕ) × (first is_combination_taken s.combinations ≡ Some k)
+IsTurn t s (Split id place) = (k : ℕ) × (first is_combination_taken s.combinations ≡ Some k)
+IsTurn t s (Fail id) = (k : ℕ) × (first is_combination_taken s.combinations ≡ Some k)
 
 module _ (t : FrontierSetting) (id : ℕ) (c : Combination) where
   -- The step settles the combination of that number: it passes with the least time that passes; where none passes it is split at
@@ -75,5 +75,5 @@ module _ (t : FrontierSetting) (id : ℕ) (c : Combination) where
 -- A driver's turn: it made a step, or stopped by its reply.
 pub record FrontierTurn (f : Plain) (w : ℕ) (old new : FrontierView) (r : FrontierReply) : Type 0 where
   pub drives : DrivesFrontier f w old new
-  pub stops : ends r ≡ true → StopsAt (setting_of f new) (state_of new) r
-  pub goes : ends r ≡ false → (length new.log ≡ length old.log + 1) × (length old.log < old.budget) × (new.budget ≡ old.budget)
+  pub stops : ends_frontier r ≡ true → StopsAt (setting_of f new) (state_of new) r
+  pub goes : ends_frontier r ≡ false → (length new.log ≡ length old.log + 1) × (length old.log < old.budget) × (new.budget ≡ old.budget)

@@ -5,7 +5,7 @@ use Rattle.drt_tree.specs.Tree.{Plain, children}
 use Rattle.drt_worklist.specs.Places.{first, changed}
 use Rattle.drt_worklist.specs.Runs.{replay_from as replay_by, IsRunFrom as IsRunBy}
 use Rattle.drt_refine.specs.Below.{IsConcrete}
-use Rattle.drt_refine.specs.Combination.{Combination, is_pending, is_taken, is_failed, fresh, with_state}
+use Rattle.drt_refine.specs.Combination.{Combination, is_combination_pending, is_combination_taken, is_failed, fresh_combination, with_state}
 use Rattle.drt_refine.specs.declared.step.CombinationState.TheVariants.{Taken as TakenBy, Passed as PassedAt, Split as SplitAt, Failed as HasFailed}
 use Rattle.drt_refine.specs.declared.step.FrontierStep.{FrontierStep}
 use Rattle.drt_refine.specs.declared.step.FrontierStep.TheVariants.{Take, Pass, Split, Fail}
@@ -36,18 +36,18 @@ abbrev pub unchanged : FrontierState → FrontierReply → FrontierOutcome
 unchanged s r = record { state = s; reply = r }
 
 -- A step that is logged.
-abbrev pub logged : FrontierState → FrontierEntry → List Combination → FrontierReply → FrontierOutcome
-logged s e combinations r = record { state = record { combinations = combinations; log = s.log ++ e ∷ [] }; reply = r }
+abbrev pub logged_outcome : FrontierState → FrontierEntry → List Combination → FrontierReply → FrontierOutcome
+logged_outcome s e combinations r = record { state = record { combinations = combinations; log = s.log ++ e ∷ [] }; reply = r }
 
 -- The combinations after that of number id was split at a place into two of these nodes, which come at the end.
 abbrev pub halves : List Combination → ℕ → ℕ → List ℕ → List ℕ → List Combination
 halves combinations id place left right =
-    changed id (with_state (SplitAt place (length combinations) (length combinations + 1))) combinations ++ fresh left ∷ fresh right ∷ []
+    changed id (with_state (SplitAt place (length combinations) (length combinations + 1))) combinations ++ fresh_combination left ∷ fresh_combination right ∷ []
 
 module _ (t : FrontierSetting) where
   -- The opening state has the roots as its one combination.
   abbrev pub opening_state : FrontierState
-  opening_state = record { combinations = fresh t.roots ∷ []; log = [] }
+  opening_state = record { combinations = fresh_combination t.roots ∷ []; log = [] }
 
   -- The log has as many entries as the budget allows.
   abbrev pub is_full : FrontierState → Bool
@@ -59,7 +59,7 @@ module _ (t : FrontierSetting) where
   taken s w None (Some h) = if is_full s then unchanged s Spent else unchanged s (Busy h)
   taken s w (Some k) h =
       if is_full s then unchanged s Spent else
-      logged s (record { worker = w; step = Take }) (changed k (with_state (TakenBy w)) s.combinations) (Taken k)
+      logged_outcome s (record { worker = w; step = Take }) (changed k (with_state (TakenBy w)) s.combinations) (Taken k)
 
   -- The children of a node, if it is there and is a pair.
   abbrev pub children_at : Option ℕ → Option (ℕ × ℕ)
@@ -70,7 +70,7 @@ module _ (t : FrontierSetting) where
   abbrev pub halved : FrontierState → FrontierEntry → ℕ → ℕ → List ℕ → Option (ℕ × ℕ) → FrontierOutcome
   halved s e id place nodes None = unchanged s Spent
   halved s e id place nodes (Some p) =
-      logged s e (halves s.combinations id place (slice_set nodes place p.0) (slice_set nodes place p.1))
+      logged_outcome s e (halves s.combinations id place (slice_set nodes place p.0) (slice_set nodes place p.1))
       (Halved (length s.combinations) (length s.combinations + 1))
 
   -- The step Split of the combination of number id. (There is one.)
@@ -80,10 +80,10 @@ module _ (t : FrontierSetting) where
 
   -- The outcome of a worker's step where no combination has failed.
   abbrev pub stepped : FrontierState → ℕ → FrontierStep → FrontierOutcome
-  stepped s w Take = taken s w (first is_pending s.combinations) (first is_taken s.combinations)
-  stepped s w (Pass id time) = if is_full s then unchanged s Spent else logged s (record { worker = w; step = Pass id time }) (changed id (with_state (PassedAt time)) s.combinations) Passed
+  stepped s w Take = taken s w (first is_combination_pending s.combinations) (first is_combination_taken s.combinations)
+  stepped s w (Pass id time) = if is_full s then unchanged s Spent else logged_outcome s (record { worker = w; step = Pass id time }) (changed id (with_state (PassedAt time)) s.combinations) Passed
   stepped s w (Split id place) = if is_full s then unchanged s Spent else halved_at s (record { worker = w; step = Split id place }) id place (slice_get s.combinations id)
-  stepped s w (Fail id) = if is_full s then unchanged s Spent else logged s (record { worker = w; step = Fail id }) (changed id (with_state HasFailed) s.combinations) (Failed id)
+  stepped s w (Fail id) = if is_full s then unchanged s Spent else logged_outcome s (record { worker = w; step = Fail id }) (changed id (with_state HasFailed) s.combinations) (Failed id)
 
   -- The outcome of a worker's step, by the least combination that has failed, if there is one.
   abbrev pub step_by : FrontierState → ℕ → FrontierStep → Option ℕ → FrontierOutcome
@@ -153,4 +153,4 @@ module _ (t : FrontierSetting) where
 
   -- No combination is pending, none is taken and none has failed.
   abbrev pub is_finished : FrontierState → Bool
-  is_finished s = is_none (first is_pending s.combinations) && (is_none (first is_taken s.combinations) && is_none (first is_failed s.combinations))
+  is_finished s = is_none (first is_combination_pending s.combinations) && (is_none (first is_combination_taken s.combinations) && is_none (first is_failed s.combinations))

@@ -2,8 +2,8 @@
 
 ghost use Rattle.std.specs.Prelude.{◌≡◌, ◌<◌, length, slice_get, Some};
 ghost use Rattle.drt_worklist.specs.Places.{first};
-ghost use Rattle.drt_refine.specs.Combination.{Combination, is_taken};
-ghost use Rattle.drt_refine.specs.Drive.{DrivesFrontier, StopsAt, Settles, FrontierTurn, ends};
+ghost use Rattle.drt_refine.specs.Combination.{Combination, is_combination_taken};
+ghost use Rattle.drt_refine.specs.Drive.{DrivesFrontier, StopsAt, Settles, FrontierTurn, ends_frontier};
 ghost use Rattle.drt_refine.specs.Eager.{IsEager};
 ghost use Rattle.drt_refine.specs.View.{IsFrontier, setting_of, state_of};
 ghost use Rattle.drt_refine.specs.declared.step.CombinationState.TheVariants.{Taken as TakenBy};
@@ -52,7 +52,7 @@ impl Frontier {
 
     // The worker that holds the first taken combination.
     fn holder(&self, id: u32) -> u32
-        requires { first is_taken self.now.combinations ≡ Some id }
+        requires { first is_combination_taken self.now.combinations ≡ Some id }
         ensures { (c : Combination) → slice_get self.now.combinations id ≡ Some c → c.state ≡ TakenBy result }
     {
         match self.states.at(id) {
@@ -85,7 +85,7 @@ impl Frontier {
 
 // Whether the reply ends a driver's work.
 fn ends(reply: FrontierReply) -> bool
-    ensures { result ≡ ends reply }
+    ensures { result ≡ ends_frontier reply }
 {
     match reply {
         FrontierReply::Taken(_) => false,

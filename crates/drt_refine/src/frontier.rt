@@ -31,7 +31,7 @@ pub struct Frontier {
 impl Model for Frontier {
     ghost use Rattle.std.specs.Prelude.{◌≡◌, ◌+◌, ◌*◌, ◌≤◌, length, vec_capacity};
     ghost use Rattle.drt_worklist.specs.Places.{places};
-    ghost use Rattle.drt_refine.specs.Combination.{is_taken_state};
+    ghost use Rattle.drt_refine.specs.Combination.{is_taken_combination};
     ghost use Rattle.drt_refine.specs.View.{FrontierView, combinations_of};
 
     ghost Value = { FrontierView };
@@ -44,7 +44,7 @@ impl Model for Frontier {
         × (f.budget ≤ 1000000)
         × (length f.log.items ≤ f.budget)
         × (length f.nodes.items ≡ length f.states.items * length f.roots.items)
-        × (length f.states.items + length (places is_taken_state f.states.items) ≤ 1 + length f.log.items)
+        × (length f.states.items + length (places is_taken_combination f.states.items) ≤ 1 + length f.log.items)
         × (f.budget + 1 ≤ f.states.room)
         × ((f.budget + 1) * length f.roots.items ≤ vec_capacity f.nodes)
         × (f.budget ≤ vec_capacity f.log) };

@@ -2,7 +2,7 @@
 
 ghost use Rattle.std.specs.Prelude.{◌≡◌, ◌<◌, ◌≤◌, length, slice_get, IfSome, nat_le};
 ghost use Rattle.drt_worklist.specs.Places.{first};
-ghost use Rattle.drt_refine.specs.Combination.{is_pending, is_taken, is_held_by, is_failed};
+ghost use Rattle.drt_refine.specs.Combination.{is_combination_pending, is_combination_taken, is_combination_held_by, is_failed};
 
 use crate::frontier::Frontier;
 use crate::step::{CombinationState, FrontierEntry};
@@ -50,21 +50,21 @@ impl Frontier {
 
     /// The least combination that the worker holds, if there is one.
     pub fn held_by(&self, worker: u32) -> Option<u32>
-        ensures { result ≡ first (is_held_by worker) self.now.combinations }
+        ensures { result ≡ first (is_combination_held_by worker) self.now.combinations }
     {
         self.states.held_by(worker)
     }
 
     // The first combination that is pending.
     pub(crate) fn first_pending(&self) -> Option<u32>
-        ensures { result ≡ first is_pending self.now.combinations }
+        ensures { result ≡ first is_combination_pending self.now.combinations }
     {
         self.states.first_pending()
     }
 
     // The first combination that is taken.
     pub(crate) fn first_taken(&self) -> Option<u32>
-        ensures value { result ≡ first is_taken self.now.combinations }
+        ensures value { result ≡ first is_combination_taken self.now.combinations }
         ensures within { length self.now.log ≤ self.now.budget }
     {
         self.states.first_taken()

@@ -5,7 +5,7 @@
 
 ghost use Rattle.std.specs.Prelude.{◌≡◌, ℕ, ◌+◌, ◌≤◌, ◌<◌, ◌++◌, ◌∷◌, [], true, false, Some, None, length, slice_get, set, IfOk, vec_capacity, not, ◌==◌};
 ghost use Rattle.drt_worklist.specs.Places.{first, places};
-ghost use Rattle.drt_refine.specs.Combination.{is_pending_state, is_taken_state, is_held_state, is_failed_state};
+ghost use Rattle.drt_refine.specs.Combination.{is_pending_combination, is_taken_combination, is_held_state, is_failed_state};
 ghost use Rattle.drt_refine.specs.declared.step.CombinationState.TheVariants.{Pending, Taken, Split};
 ghost use Rattle.std.specs.List.{filter};
 
@@ -79,7 +79,7 @@ impl States {
 
     // The first that is pending.
     pub(crate) fn first_pending(&self) -> Option<u32>
-        ensures { result ≡ first is_pending_state self.now.items }
+        ensures { result ≡ first is_pending_combination self.now.items }
     {
         if self.next < self.count() {
             Some(self.next)
@@ -90,7 +90,7 @@ impl States {
 
     // The first that is taken.
     pub(crate) fn first_taken(&self) -> Option<u32>
-        ensures { result ≡ first is_taken_state self.now.items }
+        ensures { result ≡ first is_taken_combination self.now.items }
     {
         self.taken.first().copied()
     }
@@ -117,7 +117,7 @@ impl States {
 
     // The first pending one is taken by a worker.
     pub(crate) fn take(&mut self, id: u32, worker: u32)
-        requires { first is_pending_state self.old.items ≡ Some id }
+        requires { first is_pending_combination self.old.items ≡ Some id }
         ensures items { self.new.items ≡ set self.old.items id (Taken worker) }
         ensures room { self.new.room ≡ self.old.room }
     {
@@ -128,8 +128,8 @@ impl States {
 
     // A taken one is settled by a state for good. None has failed before.
     pub(crate) fn settle(&mut self, id: u32, state: CombinationState)
-        requires taken { (s : _) × (slice_get self.old.items id ≡ Some s) × (is_taken_state s ≡ true) }
-        requires settled { (is_pending_state state ≡ false) × (is_taken_state state ≡ false) }
+        requires taken { (s : _) × (slice_get self.old.items id ≡ Some s) × (is_taken_combination s ≡ true) }
+        requires settled { (is_pending_combination state ≡ false) × (is_taken_combination state ≡ false) }
         requires none { first is_failed_state self.old.items ≡ None }
         ensures items { self.new.items ≡ set self.old.items id state }
         ensures room { self.new.room ≡ self.old.room }
@@ -143,7 +143,7 @@ impl States {
 
     // A taken one is split at a place into two, which are pending and have the next numbers. None has failed before.
     pub(crate) fn split(&mut self, id: u32, place: u32) -> (u32, u32)
-        requires taken { (s : _) × (slice_get self.old.items id ≡ Some s) × (is_taken_state s ≡ true) }
+        requires taken { (s : _) × (slice_get self.old.items id ≡ Some s) × (is_taken_combination s ≡ true) }
         requires none { first is_failed_state self.old.items ≡ None }
         requires room { length self.old.items + 2 ≤ self.old.room }
         ensures items { self.new.items ≡ set self.old.items id (Split place (length self.old.items) (length self.old.items + 1)) ++ Pending ∷ Pending ∷ [] }

@@ -2,7 +2,7 @@
 
 ghost use Rattle.std.specs.Prelude.{◌≡◌, ℕ, ◌+◌, ◌≤◌, ◌<◌, ◌++◌, ◌∷◌, [], Some, None, true, false, length, slice_get, slice_set, take, drop, vec_capacity};
 ghost use Rattle.drt_worklist.specs.Places.{first, changed};
-ghost use Rattle.drt_refine.specs.Combination.{Combination, with_state, is_pending, is_pending_state, is_taken, is_taken_state, is_failed};
+ghost use Rattle.drt_refine.specs.Combination.{Combination, with_state, is_combination_pending, is_pending_combination, is_combination_taken, is_taken_combination, is_failed};
 ghost use Rattle.drt_refine.specs.Machine.{halves};
 ghost use Rattle.drt_refine.specs.View.{IsFrontier, CanApply, IsFrontierStep, moved};
 ghost use Rattle.drt_refine.specs.declared.step.CombinationState.TheVariants.{Taken as TakenBy};
@@ -82,7 +82,7 @@ impl Frontier {
     // The worker takes the first pending combination.
     fn hold(&mut self, worker: u32, id: u32)
         requires room { length self.old.log < self.old.budget }
-        requires pending { first is_pending self.old.combinations ≡ Some id }
+        requires pending { first is_combination_pending self.old.combinations ≡ Some id }
         ensures { self.new ≡ moved self.old (record { combinations = changed id (with_state (TakenBy worker)) self.old.combinations; log = self.old.log ++ record { worker = worker; step = Take } ∷ [] }) }
     {
         self.states.take(id, worker);
@@ -93,8 +93,8 @@ impl Frontier {
     // The combination, which the worker holds, is settled by a state for good.
     fn settle(&mut self, worker: u32, id: u32, state: CombinationState, step: FrontierStep)
         requires room { length self.old.log < self.old.budget }
-        requires held { (c : Combination) × (slice_get self.old.combinations id ≡ Some c) × (is_taken c ≡ true) }
-        requires settled { (is_pending_state state ≡ false) × (is_taken_state state ≡ false) }
+        requires held { (c : Combination) × (slice_get self.old.combinations id ≡ Some c) × (is_combination_taken c ≡ true) }
+        requires settled { (is_pending_combination state ≡ false) × (is_taken_combination state ≡ false) }
         requires none { first is_failed self.old.combinations ≡ None }
         ensures { self.new ≡ moved self.old (record { combinations = changed id (with_state state) self.old.combinations; log = self.old.log ++ record { worker = worker; step = step } ∷ [] }) }
     {
@@ -128,7 +128,7 @@ impl Frontier {
     // A taken combination is split at a place into two with these nodes there.
     fn halve(&mut self, worker: u32, id: u32, place: u32, left: u32, right: u32) -> FrontierReply
         requires room { length self.old.log < self.old.budget }
-        requires held { (c : Combination) × (slice_get self.old.combinations id ≡ Some c) × (is_taken c ≡ true) × (length c.nodes ≡ length self.old.roots) }
+        requires held { (c : Combination) × (slice_get self.old.combinations id ≡ Some c) × (is_combination_taken c ≡ true) × (length c.nodes ≡ length self.old.roots) }
         requires none { first is_failed self.old.combinations ≡ None }
         ensures new { (c : Combination) → slice_get self.old.combinations id ≡ Some c → self.new ≡ moved self.old (record {
           combinations = halves self.old.combinations id place (slice_set c.nodes place left) (slice_set c.nodes place right);

@@ -4,7 +4,7 @@ use Rattle.std.specs.Prelude.{nat_le, ◌==◌, ◌&&◌, slice_index}
 use Rattle.std.proofs.lemmas.List.{length-replicate}
 use Rattle.drt_steps.specs.Values.{covers, value_at}
 use Rattle.drt_steps.proofs.Merging.{and_false, not_le}
-use Rattle.drt_request.specs.Request.{Request, dominates}
+use Rattle.drt_request.specs.Request.{Request, request_dominates}
 use Rattle.drt_request.proofs.Walks.{at_flat}
 
 below_last : (xs ys : List ℕ) (i j : ℕ) → length xs ≡ suc i → length ys ≡ suc j → slice_index xs i < slice_index ys j → covers xs ys ≡ false
@@ -35,7 +35,7 @@ flat_total n v from =
     sym (at_flat n v (length (replicate n v) - 1) (omega (arith, from, l)))
 
 -- so its label doesn't dominate the other one's
-pub below_label : (x y : Request) → value_at x.values (length x.values) < value_at y.values (length y.values) → false ≡ dominates x y
+pub below_label : (x y : Request) → value_at x.values (length x.values) < value_at y.values (length y.values) → false ≡ request_dominates x y
 below_label x y less = sym (
     ap (λ r. (x.vertex == y.vertex) && (nat_le x.offset y.offset && r)) (below_total x.values y.values less)
     ∙ (ap (λ r. (x.vertex == y.vertex) && r) (and_false (nat_le x.offset y.offset)) ∙ and_false (x.vertex == y.vertex)))

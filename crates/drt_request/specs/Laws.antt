@@ -7,7 +7,7 @@ use Rattle.drt_label.specs.Algebra.{Laws}
 use Rattle.drt_steps.specs.Values.{raise, covers}
 use Rattle.drt_steps.proofs.Values.{length-raise}
 use Rattle.drt_steps.proofs.Samples.{samples_covered}
-use Rattle.drt_request.specs.Request.{Request, dominates, request_algebra}
+use Rattle.drt_request.specs.Request.{Request, request_dominates, request_algebra}
 
 -- what a test of three parts tells
 record Parts (x y : Request) : Type 0 where
@@ -26,14 +26,14 @@ and_right false c h = absurd (cc)
 both : (b c : Bool) → b ≡ true → c ≡ true → (b && c) ≡ true
 both b c p q = ap (λ x. x && c) p ∙ q
 
-parts : (x y : Request) → dominates x y ≡ true → Parts x y
+parts : (x y : Request) → request_dominates x y ≡ true → Parts x y
 parts x y h =
     let v : (x.vertex == y.vertex) ≡ true = and_left (x.vertex == y.vertex) (nat_le x.offset y.offset && covers x.values y.values) h in
     let r : (nat_le x.offset y.offset && covers x.values y.values) ≡ true = and_right (x.vertex == y.vertex) (nat_le x.offset y.offset && covers x.values y.values) h in
     let o : nat_le x.offset y.offset ≡ true = and_left (nat_le x.offset y.offset) (covers x.values y.values) r in
     record { vertex = grind (arith, nat_tests); offset = grind (arith, nat_tests); values = and_right (nat_le x.offset y.offset) (covers x.values y.values) r }
 
-whole : (x y : Request) → Parts x y → dominates x y ≡ true
+whole : (x y : Request) → Parts x y → request_dominates x y ≡ true
 whole x y p =
     let v : x.vertex ≡ y.vertex = p.vertex in
     let o : x.offset ≤ y.offset = p.offset in
@@ -91,7 +91,7 @@ same_request x y p q r =
     ∙ (ap (λ o. record { vertex = y.vertex; offset = o; values = x.values }) q
     ∙ ap (λ w. record { vertex = y.vertex; offset = y.offset; values = w }) r)
 
-antisymmetric : (x y : Request) → dominates x y ≡ true → dominates y x ≡ true → x ≡ y
+antisymmetric : (x y : Request) → request_dominates x y ≡ true → request_dominates y x ≡ true → x ≡ y
 antisymmetric x y h k =
     let p : Parts x y = parts x y h in
     let q : Parts y x = parts y x k in
@@ -99,14 +99,14 @@ antisymmetric x y h k =
     let u : y.offset ≤ x.offset = q.offset in
     same_request x y p.vertex (omega arith) (covers_both x.values y.values p.values q.values)
 
-extends : (x y : Request) → dominates x y ≡ true → nat_lt y.offset (length y.values) ≡ true → nat_lt x.offset (length x.values) ≡ true
+extends : (x y : Request) → request_dominates x y ≡ true → nat_lt y.offset (length y.values) ≡ true → nat_lt x.offset (length x.values) ≡ true
 extends x y h k =
     let p : Parts x y = parts x y h in
     let o : x.offset ≤ y.offset = p.offset in
     let e : length x.values ≡ length y.values = covers_length x.values y.values p.values in
     grind (arith, nat_tests)
 
-monotone : (x y : Request) (sep target wcet : ℕ) → dominates x y ≡ true → dominates (request_algebra.extend x sep target wcet) (request_algebra.extend y sep target wcet) ≡ true
+monotone : (x y : Request) (sep target wcet : ℕ) → request_dominates x y ≡ true → request_dominates (request_algebra.extend x sep target wcet) (request_algebra.extend y sep target wcet) ≡ true
 monotone x y sep target wcet h =
     let p : Parts x y = parts x y h in
     let o : x.offset ≤ y.offset = p.offset in

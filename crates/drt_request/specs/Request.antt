@@ -11,8 +11,8 @@ pub record Request : Type 0 where
   pub values : List ℕ
 
 -- One label dominates another one of its vertex that is no earlier and asks at no time for more.
-abbrev pub dominates : Request → Request → Bool
-dominates x y = (x.vertex == y.vertex) && (nat_le x.offset y.offset && covers x.values y.values)
+abbrev pub request_dominates : Request → Request → Bool
+request_dominates x y = (x.vertex == y.vertex) && (nat_le x.offset y.offset && covers x.values y.values)
 
 -- How request labels are made, read and compared.
 abbrev pub request_algebra : Algebra Request
@@ -23,7 +23,7 @@ request_algebra = record {
   vertex = λ x. x.vertex;
   offset = λ x. x.offset;
   in_range = λ x deadline bound. nat_lt x.offset bound;
-  dominates = dominates;
+  dominates = request_dominates;
   is_of = λ x bound. length x.values == bound;
   is_extendable = λ x. nat_lt x.offset (length x.values);
   is_chain = false;

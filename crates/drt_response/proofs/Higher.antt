@@ -9,7 +9,7 @@ use Rattle.drt_model.specs.Limits.{IsTaskSet}
 use Rattle.drt_model.specs.Walk.{deadline}
 use Rattle.drt_graph.proofs.Soundness.{all_sound}
 use Rattle.drt_busy.specs.Choice.{graph_at, requests, task_at}
-use Rattle.drt_states.specs.Tails.{Place, graphs_of}
+use Rattle.drt_states.specs.Tails.{Place, graphs_of_places}
 use Rattle.drt_states_laws.specs.Laws.{AreWalksOf, asked_together}
 use Rattle.drt_claims.specs.Searches.{higher_places, place_of}
 use Rattle.drt_claims.specs.Trees.{higher_count}
@@ -68,7 +68,7 @@ take_places tasks (suc n) (suc c) (x ∷ xs) l = ap (λ ps. place_of tasks x.0 �
 
 -- What the first walks ask for together.
 asked_first : (tasks : List Task) (t n : ℕ) (xs : List Walked)
-    → asked_together (graphs_of (places_in tasks (take n xs))) (walks_in (take n xs)) t ≡ total_first t n xs
+    → asked_together (graphs_of_places (places_in tasks (take n xs))) (walks_in (take n xs)) t ≡ total_first t n xs
 unfolding asked_together total_first
 asked_first tasks t zero xs = refl
 asked_first tasks t (suc n) [] = refl
@@ -115,7 +115,7 @@ higher_near tasks walks k v bound l m near =
 
 -- What the walks of the tasks of higher priority ask for.
 pub requests_together : (tasks : List Task) (walks : ℕ → List ℕ) (k t : ℕ)
-    → requests tasks walks (task_at tasks k).priority (length tasks) t ≡ asked_together (graphs_of (places_in tasks (higher tasks walks k))) (walks_in (higher tasks walks k)) t
+    → requests tasks walks (task_at tasks k).priority (length tasks) t ≡ asked_together (graphs_of_places (places_in tasks (higher tasks walks k))) (walks_in (higher tasks walks k)) t
 requests_together tasks walks k t =
     let n : ℕ = higher_count tasks (task_at tasks k).priority in
     requests_first tasks walks (task_at tasks k).priority t ∙ sym (asked_first tasks t n (ordered (walked tasks walks)))

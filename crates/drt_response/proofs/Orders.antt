@@ -14,7 +14,7 @@ use Rattle.drt_claims.specs.Claims.{graphs_of}
 use Rattle.drt_claims.specs.Searches.{higher_places, place_of, places_of}
 use Rattle.drt_claims.specs.Trees.{by_priority, higher_count}
 use Rattle.drt_states.specs.declared.claims.TailClaim.{TailClaim}
-use Rattle.drt_states.specs.Tails.{IsTail, graphs_of as place_graphs}
+use Rattle.drt_states.specs.Tails.{IsTail, graphs_of_places as place_graphs}
 use Rattle.drt_check.proofs.SoundOrder.{higher_below}
 use Rattle.drt_check_states.specs.Places.{AreTasks, graphs_at}
 use Rattle.drt_check_trees.specs.Order.{IsPriorityOrder}

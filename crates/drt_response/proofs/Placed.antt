@@ -5,7 +5,7 @@ use Rattle.drt_model.specs.declared.tasks.Task.{Task}
 use Rattle.drt_model.specs.Digraph.{digraph_of}
 use Rattle.drt_model.specs.Limits.{IsTaskSet}
 use Rattle.drt_busy.specs.Choice.{AreWalks, IsWalk, requests, task_at}
-use Rattle.drt_states.specs.Tails.{graphs_of}
+use Rattle.drt_states.specs.Tails.{graphs_of_places}
 use Rattle.drt_states_laws.specs.Laws.{asked_together}
 use Rattle.drt_claims.specs.Searches.{higher_places}
 use Rattle.drt_claims.specs.Trees.{by_priority, higher_count}
@@ -30,7 +30,7 @@ module _ (place : ℕ → ℕ) (all : List (List ℕ)) where
       (subst (λ w. IsWalk (digraph_of x.0) w) (sym walk) tt, none_walked (suc i) xs at.1 placed.1 later)
 
   -- The walks from place i on.
-  first_placed : (tasks : List Task) (i n : ℕ) (xs : List Walked) (walks : List (List ℕ)) → AllZip IsWalk (graphs_of (places_in tasks (take n xs))) walks
+  first_placed : (tasks : List Task) (i n : ℕ) (xs : List Walked) (walks : List (List ℕ)) → AllZip IsWalk (graphs_of_places (places_in tasks (take n xs))) walks
       → AreAt place i (tasks_of xs) → HavePlaced place all xs → ((j : ℕ) → walk_at all (i + j) ≡ walk_at walks j) → (walks_in (take n xs) ≡ walks) × AreWalked xs
   first_placed tasks i zero xs [] each at placed same = (refl, none_walked i xs at placed same)
   first_placed tasks i zero xs (w ∷ walks) each at placed same = absurd each
@@ -45,7 +45,7 @@ module _ (place : ℕ → ℕ) (all : List (List ℕ)) where
       (ap (λ y. y ∷ walks_in (take n xs)) walk ∙ ap (λ ws. w ∷ ws) rest.0, (subst (λ y. IsWalk (digraph_of x.0) y) (sym walk) each.0, rest.1))
 
 module _ (version : ℕ) (tasks : List Task) (limits : IsTaskSet version tasks) (k : ℕ) (task : k < length tasks) (walks : List (List ℕ))
-    (each : AllZip IsWalk (graphs_of (higher_places tasks (task_at tasks k))) walks) where
+    (each : AllZip IsWalk (graphs_of_places (higher_places tasks (task_at tasks k))) walks) where
   both : (walks_in (higher tasks (placed_walk tasks walks) k) ≡ walks) × AreWalked (ordered (walked tasks (placed_walk tasks walks)))
   both =
       let chosen : ℕ → List ℕ = placed_walk tasks walks in
@@ -53,7 +53,7 @@ module _ (version : ℕ) (tasks : List Task) (limits : IsTaskSet version tasks) 
       let at : AreAt (higher_count tasks) 0 (tasks_of xs) = subst (λ ts. AreAt (higher_count tasks) 0 ts) (sym (ordered_tasks tasks chosen)) (tasks_at version tasks limits) in
       let placed : HavePlaced (higher_count tasks) walks xs = ordered_each (λ x. x.1 ≡ walk_at walks (higher_count tasks x.0.priority)) tasks chosen (λ j l. refl) in
       let same : (j : ℕ) → walk_at walks (0 + j) ≡ walk_at walks j = λ j. (let e : 0 + j ≡ j = omega arith in ap (λ n. walk_at walks n) e) in
-      let here = subst (λ ps. AllZip IsWalk (graphs_of ps) walks) (higher_are tasks chosen k task) each in
+      let here = subst (λ ps. AllZip IsWalk (graphs_of_places ps) walks) (higher_are tasks chosen k task) each in
       first_placed (higher_count tasks) walks tasks 0 (higher_count tasks (task_at tasks k).priority) xs walks here at placed same
 
   -- There is a walk of each task.
@@ -61,9 +61,9 @@ module _ (version : ℕ) (tasks : List Task) (limits : IsTaskSet version tasks) 
   placed_are_walks j l = each_ordered (λ x. IsWalk (digraph_of x.0) x.1) tasks (placed_walk tasks walks) both.1 j l
 
   -- What they ask for is what the list asks for.
-  pub placed_asked : (t : ℕ) → requests tasks (placed_walk tasks walks) (task_at tasks k).priority (length tasks) t ≡ asked_together (graphs_of (higher_places tasks (task_at tasks k))) walks t
+  pub placed_asked : (t : ℕ) → requests tasks (placed_walk tasks walks) (task_at tasks k).priority (length tasks) t ≡ asked_together (graphs_of_places (higher_places tasks (task_at tasks k))) walks t
   placed_asked t =
       let chosen : ℕ → List ℕ = placed_walk tasks walks in
-      let ps = ap (λ qs. asked_together (graphs_of qs) walks t) (sym (higher_are tasks chosen k task)) in
-      let ws = ap (λ us. asked_together (graphs_of (places_in tasks (higher tasks chosen k))) us t) both.0 in
+      let ps = ap (λ qs. asked_together (graphs_of_places qs) walks t) (sym (higher_are tasks chosen k task)) in
+      let ws = ap (λ us. asked_together (graphs_of_places (places_in tasks (higher tasks chosen k))) us t) both.0 in
       requests_together tasks chosen k t ∙ (ws ∙ ps)

@@ -16,7 +16,7 @@ use Rattle.drt_busy.specs.Choice.{AreWalks, graph_at, no_task, task_at}
 use Rattle.drt_busy.specs.Response.{FitsWithin, IsGreatestFit, IsGreatestResponse, IsLeastFit, MeetsDeadlines, ReleasesReach, ResponseDecides, reaching}
 use Rattle.drt_states.specs.declared.claims.TailClaim.{TailClaim}
 use Rattle.drt_states.specs.States.{AreStates, HaveDominatedChildren}
-use Rattle.drt_states.specs.Tails.{BoundsWalks, EachTail, IsTail, graphs_of}
+use Rattle.drt_states.specs.Tails.{BoundsWalks, EachTail, IsTail, graphs_of_places}
 use Rattle.drt_states_laws.specs.Laws.{StatesPass}
 use Rattle.drt_choices.specs.Laws.{AreReachingReleases}
 use Rattle.drt_claims.specs.Searches.{higher_places, higher_tails, places_of}
@@ -32,7 +32,7 @@ use Rattle.drt_response.proofs.Placed.{placed_are_walks, placed_asked}
 
 module _ (version : ℕ) (tasks : List Task) (limits : IsTaskSet version tasks) (tails : List TailClaim) (have : HaveTails tasks tails)
     (k v : ℕ) (task : k < length tasks) (vertex : v < vertex_count (graph_at tasks k)) (ticks : ℕ) (walks : List (List ℕ))
-    (worst : AreWorst (graphs_of (higher_places tasks (task_at tasks k))) (higher_tails tasks tails (task_at tasks k)) (wcet (graph_at tasks k) v) (deadline (graph_at tasks k) v) ticks walks) where
+    (worst : AreWorst (graphs_of_places (higher_places tasks (task_at tasks k))) (higher_tails tasks tails (task_at tasks k)) (wcet (graph_at tasks k) v) (deadline (graph_at tasks k) v) ticks walks) where
   -- Whatever the walks, some time up to the number has room.
   most : StatesPass → (others : ℕ → List ℕ) → AreWalks tasks others → FitsWithin tasks others k v ticks
   most pass others are =
@@ -42,8 +42,8 @@ module _ (version : ℕ) (tasks : List Task) (limits : IsTaskSet version tasks) 
       let same = higher_are tasks others k task in
       let rising = subst (λ ps. EachTail IsTail ps (take n tails)) same (zip_take (λ q tail. IsTail q.bound q.graph tail) n (places_of tasks) tails have.rising) in
       let bounding = subst (λ ps. EachTail BoundsWalks ps (take n tails)) same (zip_take (λ q tail. BoundsWalks q.bound q.graph tail) n (places_of tasks) tails have.bounding) in
-      let states = subst (λ ps. AreStates (graphs_of ps) worst.states) same worst.are in
-      let children = subst (λ ps. HaveDominatedChildren (graphs_of ps) worst.bound worst.states) same worst.children in
+      let states = subst (λ ps. AreStates (graphs_of_places ps) worst.states) same worst.are in
+      let children = subst (λ ps. HaveDominatedChildren (graphs_of_places ps) worst.bound worst.states) same worst.children in
       let found = pass (places_in tasks first) (take n tails) (wcet (graph_at tasks k) v) worst.bound ticks worst.states
       (higher_sound version tasks limits others k) (higher_near tasks others k v worst.bound task vertex worst.near) rising bounding states worst.within worst.times children
       (walks_in first) (first_walks tasks n xs (ordered_walked tasks others are)) in

@@ -6,7 +6,7 @@ use Rattle.drt_model.specs.Schedulable.{Schedulable}
 use Rattle.drt_model.specs.Walk.{deadline, wcet}
 use Rattle.drt_ahead.specs.Found.{AreThere}
 use Rattle.drt_busy.specs.Choice.{graph_at, task_at}
-use Rattle.drt_states.specs.Tails.{graphs_of as place_graphs}
+use Rattle.drt_states.specs.Tails.{graphs_of_places as place_graphs}
 use Rattle.drt_check_states.specs.Crests.{AreCrests}
 use Rattle.drt_check_states.specs.Places.{graphs_at}
 use Rattle.drt_check_trees.specs.Order.{IsPriorityOrder}

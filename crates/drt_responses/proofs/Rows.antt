@@ -14,7 +14,7 @@ use Rattle.drt_evidence.specs.Text.{count_line, release_line, word_line}
 use Rattle.drt_evidence.proofs.Blocks.{At, done, next, start, within}
 use Rattle.drt_evidence.proofs.Parts.{Two, written_both, written_flat, written_map}
 use Rattle.drt_responses.specs.Ranges.{AreResponsesInRange, IsInRangeResponse}
-use Rattle.drt_responses.specs.Rows.{IsInRangeHeading, IsInRangeOpening, IsStop, first_block, first_words, heading_line, releases_block, rows_block}
+use Rattle.drt_responses.specs.Rows.{IsInRangeHeading, IsInRangeOpening, IsStop, first_responses_block, first_words, heading_line, releases_block, rows_block}
 use Rattle.drt_responses.specs.Text.{response_line, response_lines, response_text}
 use Rattle.drt_responses.specs.declared.reading.lines.Heading.{Heading}
 use Rattle.drt_responses.specs.declared.reading.lines.Heading.TheVariants.{Opens, Closes}
@@ -215,7 +215,7 @@ line_within f {rest = rest} {x = x} r =
     omega (arith, total, whole, own)
 
 -- The first line, and the rows below it.
-abbrev pub text_parts : Two response_text AreResponsesInRange first_block IsAny rows_block AreResponsesInRange
+abbrev pub text_parts : Two response_text AreResponsesInRange first_responses_block IsAny rows_block AreResponsesInRange
 text_parts = record {
   first = λ rs. tt;
   second = λ rs. rs;

@@ -2,7 +2,7 @@
 -- which, and the front.
 use Rattle.std.proofs.Common.{◌≡◌, ℕ, List, [], ◌∷◌, ◌++◌, Option, Some, None, false, true, length, refl, sym, ap, subst, lit<}
 use Rattle.drt_graph.specs.declared.front.FrontEntry.{FrontEntry}
-use Rattle.drt_demand.specs.Demand.{dominates, demand_algebra}
+use Rattle.drt_demand.specs.Demand.{entry_dominates, demand_algebra}
 use Rattle.drt_demand.specs.Laws.{demand_laws}
 use Rattle.drt_table.specs.Cover.{IsFront, IsNonDominated}
 use Rattle.drt_table.specs.Machine.{Setting, State, CanStep, IsRun, IsRunFrom, replay, replay_from, is_finished, step_of, opening_state}
@@ -26,13 +26,13 @@ pub walk_qm : IsWalkOf demand_algebra setting (1 ∷ 2 ∷ []) (label 2 1 3)
 walk_qm = (0, label 1 0 2, (lit< tt, refl, refl), lit< tt, refl, refl, refl)
 
 -- It covers the label (m, 1, 2) of p m and (m, 3, 2) of m m, and not (m, 0, 1) of m, which is earlier.
-pub covers_pm : dominates (label 2 1 3) (label 2 1 2) ≡ true
+pub covers_pm : entry_dominates (label 2 1 3) (label 2 1 2) ≡ true
 covers_pm = refl
 
-pub covers_mm : dominates (label 2 1 3) (label 2 3 2) ≡ true
+pub covers_mm : entry_dominates (label 2 1 3) (label 2 3 2) ≡ true
 covers_mm = refl
 
-pub not_earlier : dominates (label 2 1 3) (label 2 0 1) ≡ false
+pub not_earlier : entry_dominates (label 2 1 3) (label 2 0 1) ≡ false
 not_earlier = refl
 
 -- The worker takes a node, offers its one edge and closes it.

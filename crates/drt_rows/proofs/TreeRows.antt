@@ -5,7 +5,7 @@ use Rattle.drt_model.specs.declared.tasks.Task.{Task}
 use Rattle.drt_model.specs.Digraph.{digraph_of}
 use Rattle.drt_model.specs.RequestFunction.{requested_from}
 use Rattle.drt_model.specs.Walk.{sep_in, or_zero}
-use Rattle.drt_claims.specs.Proofs.{after_all, opening, parts, passes, subjects_from, sum_at}
+use Rattle.drt_claims.specs.Proofs.{after_all, opening_stack, parts_in, passes, subjects_from, tree_sum_at}
 use Rattle.drt_claims.specs.Trees.{by_priority, greatest_deadline, higher_count, joined, latest_deadline, named, node_values, placed, root}
 use Rattle.drt_claims.specs.declared.evidence.Item.TheVariants.{Pass, Split}
 use Rattle.drt_claims.specs.declared.evidence.Pair.{Pair}
@@ -68,36 +68,36 @@ subjects = refl
 abbrev trees : List TreeClaim
 trees = tree ∷ []
 
-pub ends : after_all trees (Split 0 ∷ Pass 5 ∷ Pass 4 ∷ []) (Some (opening trees 1)) ≡ Some []
+pub ends : after_all trees (Split 0 ∷ Pass 5 ∷ Pass 4 ∷ []) (Some (opening_stack trees 1)) ≡ Some []
 unfolding after_all
 ends = refl
 
-pub times : passes trees (Split 0 ∷ Pass 5 ∷ Pass 4 ∷ []) (Some (opening trees 1)) ≡ ((3 ∷ []), 5) ∷ ((2 ∷ []), 4) ∷ []
+pub times : passes trees (Split 0 ∷ Pass 5 ∷ Pass 4 ∷ []) (Some (opening_stack trees 1)) ≡ ((3 ∷ []), 5) ∷ ((2 ∷ []), 4) ∷ []
 unfolding passes
 times = refl
 
 -- Node 3 asks for 3 before 5, and node 2 for 2 before 4: with z's 2 ticks just enough.
-pub left_asks : sum_at (digraph_of upper ∷ []) trees (3 ∷ []) 5 ≡ 3
-unfolding sum_at joined requested_from sep_in or_zero
+pub left_asks : tree_sum_at (digraph_of upper ∷ []) trees (3 ∷ []) 5 ≡ 3
+unfolding tree_sum_at joined requested_from sep_in or_zero
 left_asks = refl
 
-pub right_asks : sum_at (digraph_of upper ∷ []) trees (2 ∷ []) 4 ≡ 2
-unfolding sum_at joined requested_from sep_in or_zero
+pub right_asks : tree_sum_at (digraph_of upper ∷ []) trees (2 ∷ []) 4 ≡ 2
+unfolding tree_sum_at joined requested_from sep_in or_zero
 right_asks = refl
 
 -- With one item fewer a combination is left, with one more there is none to take, and a walk can't be split.
-pub one_left : after_all trees (Split 0 ∷ Pass 5 ∷ []) (Some (opening trees 1)) ≡ Some ((2 ∷ []) ∷ [])
+pub one_left : after_all trees (Split 0 ∷ Pass 5 ∷ []) (Some (opening_stack trees 1)) ≡ Some ((2 ∷ []) ∷ [])
 unfolding after_all
 one_left = refl
 
-pub none_left : after_all trees (Split 0 ∷ Pass 5 ∷ Pass 4 ∷ Pass 5 ∷ []) (Some (opening trees 1)) ≡ None
+pub none_left : after_all trees (Split 0 ∷ Pass 5 ∷ Pass 4 ∷ Pass 5 ∷ []) (Some (opening_stack trees 1)) ≡ None
 unfolding after_all
 none_left = refl
 
-pub no_parts : parts tree 2 ≡ None
+pub no_parts : parts_in tree 2 ≡ None
 no_parts = refl
 
 -- The highest task has no combination but the empty one, which passes at the vertex's execution time.
-pub empty_opening : passes trees (Pass 3 ∷ []) (Some (opening trees 0)) ≡ ([], 3) ∷ []
+pub empty_opening : passes trees (Pass 3 ∷ []) (Some (opening_stack trees 0)) ≡ ([], 3) ∷ []
 unfolding passes
 empty_opening = refl

@@ -6,7 +6,7 @@ use Rattle.std.proofs.lemmas.Option.{none-some, same_Some, slice_get-map, slice_
 use Rattle.drt_label.specs.Algebra.{Algebra, Laws}
 use Rattle.drt_table.specs.Held.{hand_out}
 use Rattle.drt_table.specs.Machine.{State, Outcome}
-use Rattle.drt_table.specs.Node.{NodeOf, Held, is_pending, is_taken, is_pending_state, is_taken_state, is_held_by}
+use Rattle.drt_table.specs.Node.{NodeOf, Held, is_node_pending, is_taken, is_pending_state, is_taken_state, is_held_by}
 use Rattle.drt_table.specs.declared.node.NodeState.{NodeState}
 use Rattle.drt_table.specs.declared.node.NodeState.TheVariants.{Pending, Taken as TakenBy, Done}
 use Rattle.drt_table.specs.View.{View, IsTable, IsTableStep, setting_of, state_of, spares_of, spares_after, outcome}
@@ -40,7 +40,7 @@ module _ {L : Type 0} (v : View L) where
   waiting_spare : HasSpares v → (k : ℕ) → WaitsAt (state_of v).nodes k → slice_get (spares_of v) k ≡ Some true
   waiting_spare has k w =
       let x = held_node k w.0 w.1 in
-      spare_at k x.0 x.1 ∙ ap (λ b. Some b) (has k x.0 x.1 (ap (λ (n : NodeOf L). is_pending n) x.2 ∙ w.2))
+      spare_at k x.0 x.1 ∙ ap (λ b. Some b) (has k x.0 x.1 (ap (λ (n : NodeOf L). is_node_pending n) x.2 ∙ w.2))
 
   counts_spares : length (spares_of v) ≡ length (state_of v).nodes
   counts_spares = length-map v.nodes (λ h. h.spare) ∙ sym (length-map v.nodes (λ h. h.node))
@@ -126,7 +126,7 @@ handed_spares {L} old new id has can nodes k h at waits =
     let one : b.old ≡ can.0 = same_Some b.old can.0 (sym b.at ∙ (ap (λ i. slice_get old.nodes i) p.0 ∙ can.1)) in
     let no : is_taken h.node ≡ true = ap (λ (x : Held L). is_taken x.node) p.1 ∙ (ap (λ (x : Held L). is_taken x.node) one ∙ can.3) in
     absurd (not_both h.node.state waits no))
-    (λ (e : h ≡ b.old). ap (λ (x : Held L). x.spare) e ∙ has k b.old b.at (ap (λ (x : Held L). is_pending x.node) (sym e) ∙ waits)) b.is
+    (λ (e : h ≡ b.old). ap (λ (x : Held L). x.spare) e ∙ has k b.old b.at (ap (λ (x : Held L). is_node_pending x.node) (sym e) ∙ waits)) b.is
 
 -- what is handed out is a label of the table
 pub handed_label : {L : Type 0} (a : Algebra L) (laws : Laws a) (v : View L) (is : IsTable a v) (id : ℕ) (l : L) (can : CanHandOut v id) → l ≡ can.0.node.label → IsLabel a (setting_of v) l

@@ -20,7 +20,7 @@ use Rattle.drt_table.proofs.Earliest.{and_left, and_right}
 use Rattle.drt_worklist.specs.Places.{first}
 use Rattle.drt_worklist.proofs.Lists.{Found as FoundAt, found, none_found}
 use Rattle.drt_shared.specs.Board.{ComesTaken, CanMove, CanCount, HasMore, CanHandOut, HandsOut, IsLogged, IsCall}
-use Rattle.drt_shared.specs.Finds.{is_same, found_node, found_at, found_for, is_number, is_expected}
+use Rattle.drt_shared.specs.Finds.{is_same, found_node, found_at, found_for, is_that_node, is_expected}
 use Rattle.drt_shared.specs.Passes.{AreHeld, IsHolding, IsLabel, CanOffer}
 use Rattle.drt_shared.specs.Replies.{IsOfTake, IsOfOffer, IsOfClose}
 use Rattle.drt_shared.specs.declared.pass.Holding.{Holding}
@@ -40,7 +40,7 @@ state_held w Pending e = absurd (cc e)
 state_held w (TakenBy x) e = ap (λ y. TakenBy y) (is_equal x w e)
 state_held w Done e = absurd (cc e)
 
-number_is : (k : ℕ) (o : Option ℕ) → is_number k o ≡ true → o ≡ Some k
+number_is : (k : ℕ) (o : Option ℕ) → is_that_node k o ≡ true → o ≡ Some k
 number_is k None e = absurd (cc e)
 number_is k (Some j) e = ap (λ n. Some n) (is_equal j k e)
 

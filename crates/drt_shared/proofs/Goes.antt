@@ -3,7 +3,7 @@ use Rattle.std.proofs.Common.{◌≡◌, ℕ, ◌+◌, ◌⊎◌, Bool, true, fa
 use Rattle.std.specs.Prelude.{slice_get, ◌&&◌, nat_lt}
 use Rattle.drt_label.specs.Algebra.{Algebra}
 use Rattle.drt_table.specs.Machine.{Setting, State, Outcome, in_range, extended, is_full, unchanged, offset, offset_at, separation, next, holder, takes, taken, drop_by, dominating, added, compared, counted, offered, offered_at, step_of}
-use Rattle.drt_table.specs.Node.{NodeOf, is_kept, is_pending, is_taken, fresh}
+use Rattle.drt_table.specs.Node.{NodeOf, is_kept, is_node_pending, is_taken, fresh}
 use Rattle.drt_table.specs.declared.node.NodeState.TheVariants.{Taken as TakenBy, Done}
 use Rattle.drt_table.specs.declared.step.TableStep.{TableStep}
 use Rattle.drt_table.specs.declared.step.TableStep.TheVariants.{Take, Offer, Close}
@@ -30,7 +30,7 @@ IsAdded Spent = ⊥
 module _ {L : Type 0} where
   -- a node that waits
   abbrev pub WaitsAt : List (NodeOf L) → ℕ → Type 0
-  WaitsAt nodes k = (m : NodeOf L) × (slice_get nodes k ≡ Some m) × (is_pending m ≡ true)
+  WaitsAt nodes k = (m : NodeOf L) × (slice_get nodes k ≡ Some m) × (is_node_pending m ≡ true)
 
   -- a node that waits after a step waited before it, or was added by it
   abbrev pub Waited : List (NodeOf L) → TableReply → ℕ → Type 0
@@ -58,10 +58,10 @@ module _ {L : Type 0} where
   cond_both P false x y p q = q
 
   -- nodes of which one changed, and waits only where it did
-  changed_waits : (id : ℕ) (f : NodeOf L → NodeOf L) (nodes : List (NodeOf L)) (r : TableReply) → ((n : NodeOf L) → is_pending (f n) ≡ true → is_pending n ≡ true) → (k : ℕ) → WaitsAt (changed id f nodes) k → Waited nodes r k
+  changed_waits : (id : ℕ) (f : NodeOf L → NodeOf L) (nodes : List (NodeOf L)) (r : TableReply) → ((n : NodeOf L) → is_node_pending (f n) ≡ true → is_node_pending n ≡ true) → (k : ℕ) → WaitsAt (changed id f nodes) k → Waited nodes r k
   changed_waits id f nodes r back k w =
       let b : Before id f nodes k w.0 = before_change id f nodes k w.0 w.1 in
-      inl (b.old, b.at, ⊎_elim (λ (p : (k ≡ id) × (w.0 ≡ f b.old)). back b.old (subst (λ (n : NodeOf L). is_pending n ≡ true) p.1 w.2)) (λ (e : w.0 ≡ b.old). subst (λ (n : NodeOf L). is_pending n ≡ true) e w.2) b.is)
+      inl (b.old, b.at, ⊎_elim (λ (p : (k ≡ id) × (w.0 ≡ f b.old)). back b.old (subst (λ (n : NodeOf L). is_node_pending n ≡ true) p.1 w.2)) (λ (e : w.0 ≡ b.old). subst (λ (n : NodeOf L). is_node_pending n ≡ true) e w.2) b.is)
 
 module _ {L : Type 0} (a : Algebra L) (t : Setting) where
   same : (s : State L) (step : TableStep) (r : TableReply) → logged_by r ≡ 0 → IsReplyOf step r → TakesOne s.nodes s.nodes r → Goes s step (unchanged a t s r)
@@ -73,7 +73,7 @@ module _ {L : Type 0} (a : Algebra L) (t : Setting) where
   goes_takes : (s : State L) (w k : ℕ) → next a t s.nodes ≡ Some k → Goes s Take (takes a t s w k)
   goes_takes s w k is =
       let f : NodeOf L → NodeOf L = λ n. record n { state = TakenBy w } in
-      let e : Earliest is_pending (offset a t) s.nodes k = found_earliest is_pending (offset a t) s.nodes k is in
+      let e : Earliest is_node_pending (offset a t) s.nodes k = found_earliest is_node_pending (offset a t) s.nodes k is in
       record {
         log = one_longer s (record { worker = w; step = Take });
         kind = tt;
@@ -92,11 +92,11 @@ module _ {L : Type 0} (a : Algebra L) (t : Setting) where
   abbrev counts : NodeOf L → NodeOf L
   counts n = record n { offered = n.offered + 1 }
 
-  drop_at : (n m : NodeOf L) (b : Bool) → is_pending m ≡ false → is_pending (cond b m n) ≡ true → is_pending n ≡ true
+  drop_at : (n m : NodeOf L) (b : Bool) → is_node_pending m ≡ false → is_node_pending (cond b m n) ≡ true → is_node_pending n ≡ true
   drop_at n m true e p = absurd (cc (e, p))
   drop_at n m false e p = p
 
-  drop_waits : (l : L) (number : ℕ) (n : NodeOf L) → is_pending (drop_by a t l number n) ≡ true → is_pending n ≡ true
+  drop_waits : (l : L) (number : ℕ) (n : NodeOf L) → is_node_pending (drop_by a t l number n) ≡ true → is_node_pending n ≡ true
   drop_waits l number n p = drop_at n (record n { dropped_by = Some number; state = Done }) (is_kept n && a.dominates l n.label) refl p
 
   -- the nodes after one more was added
@@ -107,7 +107,7 @@ module _ {L : Type 0} (a : Algebra L) (t : Setting) where
     where
       from : Pushed (drop_by a t l (length (counted a t id s.nodes))) (counted a t id s.nodes) (fresh l (Some id)) k w.0 → Waited s.nodes (Added j) k
       from (earlier x at is lt) =
-          changed_waits id counts s.nodes (Added j) (λ n p. p) k (x, at, drop_waits l (length (counted a t id s.nodes)) x (subst (λ (n : NodeOf L). is_pending n ≡ true) is w.2))
+          changed_waits id counts s.nodes (Added j) (λ n p. p) k (x, at, drop_waits l (length (counted a t id s.nodes)) x (subst (λ (n : NodeOf L). is_node_pending n ≡ true) is w.2))
       from (last e is) = inr (tt, e ∙ length-changed id counts s.nodes)
 
   goes_compared : (s : State L) (e : Entry) (id k : ℕ) (l : L) (o : Option ℕ) → Goes s (Offer id k) (compared a t s e (counted a t id s.nodes) id l o)

@@ -3,7 +3,7 @@ use Rattle.std.specs.Prelude.{◌≡◌, ℕ, ◌+◌, ◌<◌, ◌≤◌, IsTru
 use Rattle.drt_label.specs.Algebra.{Algebra}
 use Rattle.drt_model.specs.Digraph.{out_degree}
 use Rattle.drt_table.specs.Machine.{Setting}
-use Rattle.drt_table.specs.Node.{Held, is_pending, is_taken}
+use Rattle.drt_table.specs.Node.{Held, is_node_pending, is_taken}
 use Rattle.drt_table.specs.View.{View, setting_of}
 use Rattle.drt_table.specs.declared.step.TableStep.{TableStep}
 use Rattle.drt_table.specs.declared.step.TableReply.{TableReply}
@@ -20,7 +20,7 @@ use Rattle.drt_shared.specs.declared.reply.SharedReply.TheVariants.{Step, Halted
 module _ {L : Type 0} where
   -- Each pending node has its spare.
   abbrev pub HasSpares : View L → Type 0
-  HasSpares v = (k : ℕ) (h : Held L) → slice_get v.nodes k ≡ Some h → IsTrue (is_pending h.node) → IsTrue h.spare
+  HasSpares v = (k : ℕ) (h : Held L) → slice_get v.nodes k ≡ Some h → IsTrue (is_node_pending h.node) → IsTrue h.spare
 
   -- The label of the node can be handed out.
   abbrev pub CanHandOut : View L → ℕ → Type 0

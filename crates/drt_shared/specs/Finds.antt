@@ -33,14 +33,14 @@ module _ {L : Type 0} (a : Algebra L) where
   found_for nodes w o = found_at nodes o (first (is_held_by w) nodes)
 
 -- The number is that one.
-abbrev pub is_number : ℕ → Option ℕ → Bool
-is_number k None = false
-is_number k (Some j) = j == k
+abbrev pub is_that_node : ℕ → Option ℕ → Bool
+is_that_node k None = false
+is_that_node k (Some j) = j == k
 
 -- What was found is what the pass holds.
 abbrev pub is_expected : {L : Type 0} → Option (Holding L) → Found → Bool
 is_expected None f = is_none f.held
-is_expected (Some h) f = is_number h.node f.held && ((f.offered == h.offered) && f.same)
+is_expected (Some h) f = is_that_node h.node f.held && ((f.offered == h.offered) && f.same)
 
 -- A strange answer tells something that differs from what the pass holds.
 abbrev pub DiffersIfStrange : {L : Type 0} → Option (Holding L) → SharedReply → Type 0

@@ -6,7 +6,7 @@ ghost use Rattle.drt_table.specs.Taking.{taken_node};
 ghost use Rattle.drt_table.specs.View.{IsTable, setting_of, state_of, CanApply, ComesWith};
 ghost use Rattle.drt_worklist.specs.Places.{first};
 ghost use Rattle.drt_shared.specs.Board.{CanMove, CanHandOut, IsCall, IsLogged, StaysUnlessStepped};
-ghost use Rattle.drt_shared.specs.Finds.{found_for, is_label_of, is_expected, is_number, TellsFound};
+ghost use Rattle.drt_shared.specs.Finds.{found_for, is_label_of, is_expected, is_that_node, TellsFound};
 ghost use Rattle.drt_shared.specs.Passes.{AreHeld, IsLabel};
 ghost use Rattle.drt_shared.specs.declared.reply.Move.TheVariants.{Take, Offer, Close};
 ghost use Rattle.drt_shared.specs.declared.reply.SharedReply.TheVariants.{Step, Halted};
@@ -253,7 +253,7 @@ fn expects<L: Label>(holding: &Option<Holding<L>>, found: Found) -> bool
 }
 
 fn is_node(node: u32, held: Option<u32>) -> bool
-    ensures { result ≡ is_number node held }
+    ensures { result ≡ is_that_node node held }
 {
     match held {
         None => false,

@@ -4,7 +4,7 @@ use Rattle.atomic_table.specs.Seated.{TableId}
 use Rattle.drt_refine.specs.Facts.{AreInPlace}
 use Rattle.drt_refine.specs.Machine.{FrontierSetting}
 use Rattle.drt_frontier_board.specs.Board.{KeepsCopy}
-use Rattle.drt_frontier_board.specs.Replies.{logged, held_after}
+use Rattle.drt_frontier_board.specs.Replies.{frontier_logged, held_after}
 use Rattle.drt_frontier_board.specs.declared.answer.FrontierAnswer.{FrontierAnswer}
 
 -- A pass is its number, the count of its logged steps, the combination that it holds, the copy of that one's nodes (where it holds
@@ -40,6 +40,6 @@ pub record IsNewPass (s : SharedFrontierOf) (place : ℕ) (p : FrontierPassOf) :
 -- What an answer does to a pass: it keeps its number, counts what was logged, and holds what the answer says.
 pub record HasMoved (old new : FrontierPassOf) (answer : FrontierAnswer) : Type 0 where
   pub number : new.number ≡ old.number
-  pub count : new.count ≡ old.count + logged old.held answer
+  pub count : new.count ≡ old.count + frontier_logged old.held answer
   pub held : new.held ≡ held_after old.held answer
   pub nodes : KeepsCopy answer old.nodes new.nodes

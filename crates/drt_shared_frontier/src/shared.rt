@@ -12,7 +12,7 @@ ghost use Rattle.drt_worklist.specs.Places.{total};
 ghost use Rattle.drt_frontier_board.specs.Board.{BoardOf, terms_of, CanMake, CanSettle, IsFrontierCall};
 ghost use Rattle.drt_frontier_board.specs.Finds.{FrontierDiffersIfStrange};
 ghost use Rattle.drt_shared_frontier.specs.Passes.{IsPassOfFrontier, IsNewPass, HasMoved};
-ghost use Rattle.drt_frontier_board.specs.Replies.{ForFrontierReply, IsReplyTo, logged, held_after, held_by};
+ghost use Rattle.drt_frontier_board.specs.Replies.{ForFrontierReply, IsReplyTo, frontier_logged, held_after, held_by};
 
 use crate::pass::FrontierPass;
 use crate::passes::{deal, gather};
@@ -228,11 +228,11 @@ impl SharedFrontier {
         answer: FrontierAnswer,
     ) -> u64
         requires name { seat.old.table_id ≡ self.now.name }
-        requires work { IsAtWork seat.old.me.0 × (seat.old.me.0.read + logged held answer < 2 ^ 64) }
-        ensures result { result ≡ logged held answer }
+        requires work { IsAtWork seat.old.me.0 × (seat.old.me.0.read + frontier_logged held answer < 2 ^ 64) }
+        ensures result { result ≡ frontier_logged held answer }
         ensures name { seat.new.table_id ≡ seat.old.table_id }
-        ensures knows { (seat.new.me.0.fixed ≡ seat.old.me.0.fixed) × (seat.new.me.0.parts ≡ seat.old.me.0.parts) × (seat.new.me.0.count ≡ seat.old.me.0.count + logged held answer) }
-        ensures work { IsAtWork seat.new.me.0 × (seat.new.me.0.read ≡ seat.old.me.0.read + logged held answer) }
+        ensures knows { (seat.new.me.0.fixed ≡ seat.old.me.0.fixed) × (seat.new.me.0.parts ≡ seat.old.me.0.parts) × (seat.new.me.0.count ≡ seat.old.me.0.count + frontier_logged held answer) }
+        ensures work { IsAtWork seat.new.me.0 × (seat.new.me.0.read ≡ seat.old.me.0.read + frontier_logged held answer) }
         ensures machine { seat.new.me.1 ≡ seat.old.me.1 }
     {
         if is_logged(held, answer) {
@@ -246,7 +246,7 @@ impl SharedFrontier {
 
 // Whether the answer is a reply to a step that is logged.
 fn is_logged(held: Option<u32>, answer: FrontierAnswer) -> bool
-    ensures { MatchBool result (logged held answer ≡ 1) (logged held answer ≡ 0) }
+    ensures { MatchBool result (frontier_logged held answer ≡ 1) (frontier_logged held answer ≡ 0) }
 {
     match answer {
         FrontierAnswer::Step(FrontierReply::Taken(_)) => true,

@@ -10,7 +10,7 @@ use Rattle.drt_model.specs.Digraph.{Digraph}
 use Rattle.drt_model.specs.Walk.{deadline, wcet}
 use Rattle.drt_steps.specs.Time.{AreChosen}
 use Rattle.drt_steps.specs.Values.{value_at}
-use Rattle.drt_tree.specs.Tree.{IsForest, IsUnder, Plain, values}
+use Rattle.drt_tree.specs.Tree.{IsForest, IsUnder, Plain, node_values_in}
 use Rattle.drt_claims.specs.Ranges.{IsCounted, IsInRangeItem}
 use Rattle.drt_claims.specs.declared.evidence.Item.{Item}
 use Rattle.drt_refine.specs.Combination.{Combination}
@@ -32,7 +32,7 @@ abbrev pub FactsHold : Type 0
 FactsHold = (t : FrontierSetting) (log : List FrontierEntry) → IsForest t.forest → AreChosen t.deadline t.forest.pool t.roots → IsRun t log → Facts t (replay t log).combinations
 
 abbrev pub AreAbove : Plain → Type 0
-AreAbove f = (leaf n t : ℕ) → IsUnder f leaf n → value_at (values f leaf) t ≤ value_at (values f n) t
+AreAbove f = (leaf n t : ℕ) → IsUnder f leaf n → value_at (node_values_in f leaf) t ≤ value_at (node_values_in f n) t
 
 module _ (f : Plain) (roots : List ℕ) (g : Digraph) where
   -- What becomes of vertex v, whatever the budget.

@@ -6,12 +6,12 @@ use Rattle.std.proofs.lemmas.List.{get_or-map, get_or_append_left, get_or_at, le
 use Rattle.std.proofs.lemmas.Option.{none-some, same_Some, slice_get_within}
 use Rattle.drt_model.specs.Digraph.{Digraph}
 use Rattle.drt_tree.specs.Tree.{IsForest, IsPair, Plain, children, leaves}
-use Rattle.drt_claims.specs.Proofs.{parts}
+use Rattle.drt_claims.specs.Proofs.{parts_in}
 use Rattle.drt_claims.specs.Trees.{IsTree, root}
 use Rattle.drt_claims.specs.declared.evidence.Pair.{Pair}
 use Rattle.drt_claims.specs.declared.evidence.TreeClaim.{TreeClaim}
 use Rattle.drt_sp.specs.TreeClaims.{IsClaimOf, lowered}
-use Rattle.drt_sp.specs.Written.{counted, walk_counts}
+use Rattle.drt_sp.specs.Written.{counted_pairs, walk_counts}
 use Rattle.drt_sp.proofs.TaskTrees.{parts_after, parts_before}
 
 -- The count at the place of the pair is the sum of the counts at its parts, which come before it.
@@ -39,8 +39,8 @@ module _ (count : ℕ → ℕ) where
 
   -- Where the first counts are those of a function, and each pair's is the sum of its parts', all are the function's.
   counted_are : (counts : List ℕ) (pairs : List Pair) → AreCounts counts → AreSums (length counts) pairs
-      → (n : ℕ) → n < length counts + length pairs → slice_index_or (counted counts pairs) n 0 ≡ count n
-  unfolding counted
+      → (n : ℕ) → n < length counts + length pairs → slice_index_or (counted_pairs counts pairs) n 0 ≡ count n
+  unfolding counted_pairs
   counted_are counts [] first sums n l = first n (omega (arith, l))
   counted_are counts (p ∷ pairs) first sums n l =
       let s : IsSum count (length counts + 0) p = sums 0 p refl in
@@ -72,7 +72,7 @@ module _ (g : Digraph) (bound : ℕ) (f : Plain) (low top : ℕ) (claim : TreeCl
   one_walk : (n : ℕ) → n < width → leaves f (low + n) ≡ 1
   one_walk n l =
       let inside : n ≤ root claim = let p = tree.pairs in omega (arith, l, p) in
-      let none : parts claim n ≡ None = parts_before claim n l in
+      let none : parts_in claim n ≡ None = parts_before claim n l in
       forest.ones (low + n) (lowered_none low (children f (low + n)) (sym none ∙ is.parts n inside))
 
   -- A pair of the claim has as many leaves as both its parts.
@@ -81,7 +81,7 @@ module _ (g : Digraph) (bound : ℕ) (f : Plain) (low top : ℕ) (claim : TreeCl
       let within : i < length claim.pairs = slice_get_within claim.pairs i p at in
       let inside : width + i ≤ root claim = omega (arith, within) in
       let here : slice_get claim.pairs (width + i - width) ≡ Some p = ap (slice_get claim.pairs) (let e : width + i - width ≡ i = omega arith in e) ∙ at in
-      let named : parts claim (width + i) ≡ Some (p.left, p.right) = parts_after claim (width + i) p (omega arith) here in
+      let named : parts_in claim (width + i) ≡ Some (p.left, p.right) = parts_after claim (width + i) p (omega arith) here in
       let c = lowered_some low (children f (low + (width + i))) (p.left, p.right) (sym named ∙ is.parts (width + i) inside) in
       let from = is.above (width + i) c.0.0 c.0.1 inside c.1 in
       let pair : IsPair f (low + (width + i)) c.0.0 c.0.1 = forest.pairs (low + (width + i)) c.0.0 c.0.1 c.1 in

@@ -10,7 +10,7 @@ use Rattle.drt_steps.specs.Time.{Passes, sum_at as forest_sum}
 use Rattle.drt_tree.specs.Tree.{IsForest, Plain, leaves}
 use Rattle.drt_tree.proofs.Trees.{get_front}
 use Rattle.drt_refine.specs.Eager.{IsWidest}
-use Rattle.drt_claims.specs.Proofs.{HasPassingTime, after, sum_at}
+use Rattle.drt_claims.specs.Proofs.{HasPassingTime, after, tree_sum_at}
 use Rattle.drt_claims.specs.Trees.{IsTree, root}
 use Rattle.drt_claims.specs.declared.evidence.Item.{Item}
 use Rattle.drt_claims.specs.declared.evidence.Item.TheVariants.{Pass, Split}
@@ -63,7 +63,7 @@ module _ (bound : ℕ) (f : Plain) where
       -- A time that passes on the claimed trees passes on the forest.
       passes_back : (nodes : List ℕ) (t : ℕ) → AreIn bound f graphs claims lows nodes → HasPassingTime graphs claims g v (lower lows nodes, t) → Passes (wcet g v) (deadline g v) f.pool nodes t
       passes_back nodes t h p =
-          let sum : sum_at graphs claims (lower lows nodes) t ≡ forest_sum f.pool nodes t
+          let sum : tree_sum_at graphs claims (lower lows nodes) t ≡ forest_sum f.pool nodes t
           = sums_are bound f graphs claims lows nodes t h p.some (let w = p.within in omega (arith, w, near)) in
           record { from = p.some; to = p.within; passes = (let e = p.fits in omega (arith, e, sum)) }
 

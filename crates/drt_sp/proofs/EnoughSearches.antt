@@ -15,7 +15,7 @@ use Rattle.drt_model.specs.Walk.{last_of, span}
 use Rattle.drt_graph.proofs.MostOut.{most_row}
 use Rattle.drt_steps.specs.Values.{value_at}
 use Rattle.drt_request.specs.Laws.{request_laws}
-use Rattle.drt_request.specs.Request.{Request, request_algebra, dominates}
+use Rattle.drt_request.specs.Request.{Request, request_algebra, request_dominates}
 use Rattle.drt_request.specs.Walk.{IsRequestLabelOf}
 use Rattle.drt_table.specs.Machine.{Setting, State, step_of, opening_state, replay_from, IsRun, IsRunFrom, replay}
 use Rattle.drt_table.specs.Walk.{IsWalkBack, IsWalkLabel}
@@ -43,7 +43,7 @@ label_is g bound u vs = record {
 -- The walk has the label: each dominates the other.
 has_label : Digraph → ℕ → Request → List ℕ → Bool
 has_label g bound l [] = false
-has_label g bound l (u ∷ vs) = dominates l (label_of g bound u vs) && dominates (label_of g bound u vs) l
+has_label g bound l (u ∷ vs) = request_dominates l (label_of g bound u vs) && request_dominates (label_of g bound u vs) l
 
 -- A label's slot is the place of the first walk that has it.
 slot : Digraph → ℕ → List (List ℕ) → Request → ℕ
@@ -66,15 +66,15 @@ module _ (g : Digraph) (bound : ℕ) where
   unfolding has_label
   walk_has u vs l short is =
       let same = same_labels g bound u vs u vs l (label_of g bound u vs) is (label_is g bound u vs) (itself bound g (u ∷ vs) short) in
-      subst (λ x. (dominates l x && dominates x l) ≡ true) same (both (dominates l l) (dominates l l) (request_laws.reflexive l) (request_laws.reflexive l))
+      subst (λ x. (request_dominates l x && request_dominates x l) ≡ true) same (both (request_dominates l l) (request_dominates l l) (request_laws.reflexive l) (request_laws.reflexive l))
 
   -- Of two labels of one walk one dominates the other.
-  one_walk : (w : List ℕ) (l m : Request) → has_label g bound l w ≡ true → has_label g bound m w ≡ true → IsTrue (dominates l m)
+  one_walk : (w : List ℕ) (l m : Request) → has_label g bound l w ≡ true → has_label g bound m w ≡ true → IsTrue (request_dominates l m)
   unfolding has_label
   one_walk [] l m h k = absurd (cc)
   one_walk (u ∷ vs) l m h k =
       let x = label_of g bound u vs in
-      request_laws.transitive l x m (and_left (dominates l x) (dominates x l) h) (and_right (dominates m x) (dominates x m) k)
+      request_laws.transitive l x m (and_left (request_dominates l x) (request_dominates x l) h) (and_right (request_dominates m x) (request_dominates x m) k)
 
   module _ (walks : List (List ℕ)) where
     slot_within : (l : Request) (w : List ℕ) → Contains walks w → has_label g bound l w ≡ true → slot g bound walks l < length walks

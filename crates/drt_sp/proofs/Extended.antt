@@ -6,7 +6,7 @@ use Rattle.std.proofs.lemmas.List.Elements.{All-cons, All-nil}
 use Rattle.std.proofs.lemmas.Option.{none-some, slice_get_within}
 use Rattle.drt_model.specs.Digraph.{Digraph}
 use Rattle.drt_tree.proofs.Trees.{get_front}
-use Rattle.drt_claims.specs.Proofs.{HasPassingTime, after, after_all, halved, parts_in, passes, sum_at}
+use Rattle.drt_claims.specs.Proofs.{HasPassingTime, after, after_all, halved, parts_in, passes, tree_sum_at}
 use Rattle.drt_claims.specs.Trees.{node_values}
 use Rattle.drt_claims.specs.declared.evidence.Item.{Item}
 use Rattle.drt_claims.specs.declared.evidence.Item.TheVariants.{Pass, Split}
@@ -92,8 +92,8 @@ passes_narrow m trees (Split place ∷ items) (Some (nodes ∷ stack)) is = pass
 
 -- A combination's sum takes the first graphs and trees alone.
 pub sum_more : (graphs others : List Digraph) (trees more : List TreeClaim) (nodes : List ℕ) (t : ℕ) → length nodes ≤ length graphs → length nodes ≤ length trees
-    → sum_at (graphs ++ others) (trees ++ more) nodes t ≡ sum_at graphs trees nodes t
-unfolding sum_at
+    → tree_sum_at (graphs ++ others) (trees ++ more) nodes t ≡ tree_sum_at graphs trees nodes t
+unfolding tree_sum_at
 sum_more graphs others trees more [] t l m = refl
 sum_more [] others trees more (n ∷ nodes) t l m = absurd (omega arith)
 sum_more (g ∷ graphs) others [] more (n ∷ nodes) t l m = absurd (omega arith)

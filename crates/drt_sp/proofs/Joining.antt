@@ -5,7 +5,7 @@ use Rattle.std.proofs.lemmas.List.{append-nil}
 use Rattle.std.proofs.lemmas.List.Elements.{All-cons, All-nil, All-pop, All-push}
 use Rattle.drt_steps.specs.Time.{AreChosen, IsLeastTime, Passes}
 use Rattle.drt_steps.specs.Values.{value_at}
-use Rattle.drt_tree.specs.Tree.{IsForest, IsUnder, Plain, children, values}
+use Rattle.drt_tree.specs.Tree.{IsForest, IsUnder, Plain, children, node_values_in}
 use Rattle.drt_claims.specs.Ranges.{IsInRangeItem, IsNumber}
 use Rattle.drt_claims.specs.declared.evidence.Item.{Item}
 use Rattle.drt_claims.specs.declared.evidence.Item.TheVariants.{Pass, Split}
@@ -27,7 +27,7 @@ module _ (f : Plain) (w d : ℕ) where
   items_join items more stack under (split place l r rest nodes below hopeless place_is halves are) h =
       split place l r (rest ++ more) nodes (below ++ under) hopeless place_is halves (items_join rest more (slice_set nodes place l ∷ slice_set nodes place r ∷ below) under are h)
 
-  module _ (above : (leaf n t : ℕ) → IsUnder f leaf n → value_at (values f leaf) t ≤ value_at (values f n) t) where
+  module _ (above : (leaf n t : ℕ) → IsUnder f leaf n → value_at (node_values_in f leaf) t ≤ value_at (node_values_in f n) t) where
     -- for each tuple below the nodes a time passes
     abbrev TuplesPass : List ℕ → Type 0
     TuplesPass nodes = (tuple : List ℕ) → AreBelow f tuple nodes → (t : ℕ) × Passes w d f.pool tuple t

@@ -14,7 +14,7 @@ use Rattle.drt_model.specs.declared.tasks.Task.{Task}
 use Rattle.drt_busy.specs.Choice.{graph_at, task_at}
 use Rattle.drt_busy.specs.Decide.{TimesSufficeForTask}
 use Rattle.drt_steps.specs.Time.{AreChosen}
-use Rattle.drt_tree.specs.Tree.{IsForest, Plain, values}
+use Rattle.drt_tree.specs.Tree.{IsForest, Plain, node_values_in}
 use Rattle.drt_refine.specs.Below.{AreNodes}
 use Rattle.drt_choices.specs.Choices.{FirstPass, IsOrder, VertexPasses}
 use Rattle.drt_choices.specs.Laws.{IsPosed, LeavesPass}
@@ -42,7 +42,7 @@ pub nodes_chosen : (bound d : ℕ) (f : Plain) (roots : List ℕ) → length f.n
 nodes_chosen bound d f [] same all le are = tt
 nodes_chosen bound d f (root ∷ roots) same all le are =
     let l : root < length f.pool = omega (arith, are.0, same) in
-    let long : length (values f root) ≡ bound = all root [] l in
+    let long : length (node_values_in f root) ≡ bound = all root [] l in
     (l, omega (arith, long, le), nodes_chosen bound d f roots same all le are.1)
 
 -- What the proofs of the first vertices say of each of them.

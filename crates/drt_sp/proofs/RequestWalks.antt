@@ -9,7 +9,7 @@ use Rattle.drt_model.specs.Walk.{gap, wcet, sep, IsEdge, IsPath, last_of, span}
 use Rattle.drt_graph.proofs.Edges.{sep_of_edge, edge_of_sep, gap_of}
 use Rattle.drt_graph.proofs.Paths.{path_both, path_within, last_both, span_cons}
 use Rattle.drt_request.specs.Laws.{request_laws}
-use Rattle.drt_request.specs.Request.{Request, request_algebra, dominates}
+use Rattle.drt_request.specs.Request.{Request, request_algebra, request_dominates}
 use Rattle.drt_request.specs.Walk.{IsRequestLabelOf}
 use Rattle.drt_request.proofs.Walks.{label_walks}
 use Rattle.drt_steps.specs.Values.{covers, value_at}
@@ -156,7 +156,7 @@ covers_values xs ys bound e f h =
     (λ i l. subst (λ k. slice_index ys k ≤ slice_index xs k) (let q : (i + 1) - 1 ≡ i = omega arith in q) (h (i + 1) (omega arith) (omega (arith, l, e))))
 
 -- A label that dominates another one is that of a walk above the other's.
-pub above_of : (g : Digraph) (bound u : ℕ) (vs : List ℕ) (w : ℕ) (ws : List ℕ) (x y : Request) → IsRequestLabelOf g bound u vs x → IsRequestLabelOf g bound w ws y → IsTrue (dominates y x)
+pub above_of : (g : Digraph) (bound u : ℕ) (vs : List ℕ) (w : ℕ) (ws : List ℕ) (x y : Request) → IsRequestLabelOf g bound u vs x → IsRequestLabelOf g bound w ws y → IsTrue (request_dominates y x)
     → IsAbove bound g u vs (w ∷ ws)
 above_of g bound u vs w ws x y p q d =
     let v : (y.vertex == x.vertex) ≡ true = and_left (y.vertex == x.vertex) (nat_le y.offset x.offset && covers y.values x.values) d in
@@ -173,7 +173,7 @@ above_of g bound u vs w ws x y p q d =
 
 -- And the converse.
 pub dominates_of : (g : Digraph) (bound u : ℕ) (vs : List ℕ) (w : ℕ) (ws : List ℕ) (x y : Request) → IsRequestLabelOf g bound u vs x → IsRequestLabelOf g bound w ws y → IsAbove bound g u vs (w ∷ ws)
-    → IsTrue (dominates y x)
+    → IsTrue (request_dominates y x)
 dominates_of g bound u vs w ws x y p q is =
     let vertex : y.vertex ≡ x.vertex = q.vertex ∙ (is.0 ∙ sym p.vertex) in
     let a = p.offset in
@@ -191,6 +191,6 @@ same_labels g bound u vs w ws x y p q have = request_laws.antisymmetric x y (dom
 -- And the converse.
 pub one_label : (g : Digraph) (bound u : ℕ) (vs : List ℕ) (w : ℕ) (ws : List ℕ) (x y : Request) → IsRequestLabelOf g bound u vs x → IsRequestLabelOf g bound w ws y → x ≡ y → HaveOneLabel bound g (u ∷ vs) (w ∷ ws)
 one_label g bound u vs w ws x y p q same = (
-  above_of g bound u vs w ws x y p q (subst (λ z. IsTrue (dominates z x)) same (request_laws.reflexive x)),
-  above_of g bound w ws u vs y x q p (subst (λ z. IsTrue (dominates x z)) same (request_laws.reflexive x)),
+  above_of g bound u vs w ws x y p q (subst (λ z. IsTrue (request_dominates z x)) same (request_laws.reflexive x)),
+  above_of g bound w ws u vs y x q p (subst (λ z. IsTrue (request_dominates x z)) same (request_laws.reflexive x)),
 )

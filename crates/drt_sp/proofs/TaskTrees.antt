@@ -18,15 +18,15 @@ use Rattle.drt_graph.proofs.Edges.{sep_of_edge, gap_of}
 use Rattle.drt_graph.proofs.Paths.{path_both, path_within, span_both, span_cons, span_none}
 use Rattle.drt_steps.specs.Values.{value_at}
 use Rattle.drt_busy.specs.Choice.{IsWalk, request_of}
-use Rattle.drt_tree.specs.Leaf.{is_before}
+use Rattle.drt_tree.specs.Leaf.{is_leaf_before}
 use Rattle.drt_tree.specs.Shape.{Shape, parts as leaf_count, pairs as pair_count, root_of, IsTreeAdded}
-use Rattle.drt_tree.specs.Tree.{Plain, IsForest, IsPair, IsUnder, LeadsToLeaf, children, children_of, leaves, values, walk, walk_of, leaf_node, leaf_steps, with_leaves}
+use Rattle.drt_tree.specs.Tree.{Plain, IsForest, IsPair, IsUnder, LeadsToLeaf, children, node_children, leaves, node_values_in, walk, node_walk, leaf_node, leaf_steps, with_leaves}
 use Rattle.drt_tree.specs.declared.leaf.Leaf.{Leaf}
 use Rattle.drt_tree.proofs.Trees.{get_front, grows_on, index_front, leaves_grow, with_long}
 use Rattle.drt_choices.specs.Choices.{StandsFor}
 use Rattle.drt_busy.specs.Response.{cut_from}
 use Rattle.drt_choices.proofs.Cuts.{cut_asks}
-use Rattle.drt_claims.specs.Proofs.{parts}
+use Rattle.drt_claims.specs.Proofs.{parts_in}
 use Rattle.drt_claims.specs.Ranges.{IsInRangePair, IsInRangeTree, IsInRangeWalk}
 use Rattle.drt_claims.specs.Trees.{HasShortWalks, IsAbove, IsClosedWalk, IsExtendedWalk, IsShortWalk, IsTree, asked, node_values, root}
 use Rattle.drt_claims.specs.declared.evidence.Pair.{Pair}
@@ -68,11 +68,11 @@ get_past : {A : Type 0} (xs ys : List A) (k : ℕ) → slice_get (xs ++ ys) (len
 get_past [] ys k = ap (λ n. slice_get ys n) (let e : 0 + k ≡ k = omega arith in e)
 get_past (x ∷ xs) ys k = ap (λ n. slice_get (x ∷ (xs ++ ys)) n) (let e : suc (length xs) + k ≡ suc (length xs + k) = omega arith in e) ∙ get_past xs ys k
 
-pub parts_before : (claim : TreeClaim) (k : ℕ) → k < length claim.walks → parts claim k ≡ None
+pub parts_before : (claim : TreeClaim) (k : ℕ) → k < length claim.walks → parts_in claim k ≡ None
 parts_before claim k l = let t : nat_lt k (length claim.walks) ≡ true = grind (arith, nat_tests) in rw t refl
 
 pub parts_after : (claim : TreeClaim) (k : ℕ) (p : Pair) → length claim.walks ≤ k → slice_get claim.pairs (k - length claim.walks) ≡ Some p
-    → ◌≡◌ {A = Option (ℕ × ℕ)} (parts claim k) (Some (p.left, p.right))
+    → ◌≡◌ {A = Option (ℕ × ℕ)} (parts_in claim k) (Some (p.left, p.right))
 parts_after claim k p l at = let t : nat_lt k (length claim.walks) ≡ false = grind (arith, nat_tests) in rw (t, at) refl
 
 module _ (f h : Plain) (ls : List Leaf) (top : ℕ) (old : IsForest f) (added : IsTreeAdded f h ls top) where
@@ -120,7 +120,7 @@ module _ (f h : Plain) (ls : List Leaf) (top : ℕ) (old : IsForest f) (added : 
   -- The node of a leaf.
   record HasLeafNode (i : ℕ) (l : Leaf) : Type 0 where
     node : slice_get h.nodes (low + i) ≡ Some (leaf_node l)
-    steps : values h (low + i) ≡ l.steps
+    steps : node_values_in h (low + i) ≡ l.steps
 
   leaf_at : (i : ℕ) (l : Leaf) → slice_get added.sorted i ≡ Some l → HasLeafNode i l
   leaf_at i l at =
@@ -142,10 +142,10 @@ module _ (f h : Plain) (ls : List Leaf) (top : ℕ) (old : IsForest f) (added : 
       }
 
   leaf_walk : (i : ℕ) (l : Leaf) → slice_get added.sorted i ≡ Some l → walk h (low + i) ≡ l.walk
-  leaf_walk i l at = ap walk_of (leaf_at i l at).node
+  leaf_walk i l at = ap node_walk (leaf_at i l at).node
 
   leaf_children : (i : ℕ) (l : Leaf) → slice_get added.sorted i ≡ Some l → children h (low + i) ≡ None
-  leaf_children i l at = ap children_of (leaf_at i l at).node
+  leaf_children i l at = ap node_children (leaf_at i l at).node
 
   default_leaf : Leaf
   default_leaf = record { steps = []; walk = [] }
@@ -192,7 +192,7 @@ module _ (f h : Plain) (ls : List Leaf) (top : ℕ) (old : IsForest f) (added : 
     is_leaf : (i : ℕ) (l : Leaf) → slice_get added.sorted i ≡ Some l → IsWalkLeaf bound g l
     is_leaf i l at = subst (IsWalkLeaf bound g) (get_or_from_slice_get added.sorted i l l at) (All-get_or (IsWalkLeaf bound g) added.sorted i l (slice_get_within added.sorted i l at) are.each)
 
-    leaf_value : (i : ℕ) (l : Leaf) (t : ℕ) → slice_get added.sorted i ≡ Some l → 1 ≤ t → t ≤ bound → value_at (values h (low + i)) t ≡ asked g t l.walk
+    leaf_value : (i : ℕ) (l : Leaf) (t : ℕ) → slice_get added.sorted i ≡ Some l → 1 ≤ t → t ≤ bound → value_at (node_values_in h (low + i)) t ≡ asked g t l.walk
     leaf_value i l t at from to = ap (λ xs. value_at xs t) (leaf_at i l at).steps ∙ (is_leaf i l at).values t from to
 
     -- There is a leaf, since a graph has a vertex.
@@ -225,11 +225,11 @@ module _ (f h : Plain) (ls : List Leaf) (top : ℕ) (old : IsForest f) (added : 
           subst (λ k. IsWalk g (walk h k)) i.number (subst (IsWalk g) (sym (leaf_walk i.place i.leaf i.at)) (walk_is bound g i.leaf.walk (is_leaf i.place i.leaf i.at).short));
       asks = λ n t u from to.
           let i = under_leaf n u in
-          subst (λ k. value_at (values h k) t ≡ request_of g (walk h k) t) i.number
+          subst (λ k. value_at (node_values_in h k) t ≡ request_of g (walk h k) t) i.number
           (leaf_value i.place i.leaf t i.at from to ∙ (asked_is g t i.leaf.walk ∙ ap (λ w. request_of g w t) (sym (leaf_walk i.place i.leaf i.at))));
     }
       where
-        covers : (w : List ℕ) → IsWalk g w → (leaf : ℕ) × IsUnder h leaf top × ((t : ℕ) → 1 ≤ t → t ≤ bound → request_of g w t ≤ value_at (values h leaf) t)
+        covers : (w : List ℕ) → IsWalk g w → (leaf : ℕ) × IsUnder h leaf top × ((t : ℕ) → 1 ≤ t → t ≤ bound → request_of g w t ≤ value_at (node_values_in h leaf) t)
         covers [] is = (low + 0, leaf_under 0 (some_leaf some), λ t from to. omega arith)
         covers (u ∷ vs) is =
             let xs : List ℕ = cut_from g bound 0 u vs in
@@ -322,10 +322,10 @@ module _ (f h : Plain) (ls : List Leaf) (top : ℕ) (old : IsForest f) (added : 
     node_is : (k : ℕ) → count ≤ k → first + (k - count) ≡ low + k
     node_is k l = let e = first_is in omega (arith, e, l)
 
-    written_parts : (k : ℕ) → 1 ≤ count → k ≤ root written → parts written k ≡ lowered low (children h (low + k))
+    written_parts : (k : ℕ) → 1 ≤ count → k ≤ root written → parts_in written k ≡ lowered low (children h (low + k))
     written_parts k some le = go (node_cases k some le)
       where
-        go : (IsLeafAt (low + k) × (k < count)) ⊎ ((count ≤ k) × (k - count < pair_count tree)) → parts written k ≡ lowered low (children h (low + k))
+        go : (IsLeafAt (low + k) × (k < count)) ⊎ ((count ≤ k) × (k - count < pair_count tree)) → parts_in written k ≡ lowered low (children h (low + k))
         go (inl i) = parts_before written k (let l = i.1 in let e = walks_long in omega (arith, l, e)) ∙ ap (λ o. lowered low o) (sym (leaf_none k i.0))
         go (inr i) =
             let p : Pair = pair_of low (children h (first + (k - count))) in
@@ -356,7 +356,7 @@ module _ (f h : Plain) (ls : List Leaf) (top : ℕ) (old : IsForest f) (added : 
 
     -- The value of a node of the tree at t.
     abbrev value_of : ℕ → ℕ → ℕ
-    value_of t k = value_at (values h (low + k)) t
+    value_of t k = value_at (node_values_in h (low + k)) t
 
     join_at : (t i : ℕ) (p : Pair) → slice_get pairs_are i ≡ Some p → IsJoin (value_of t) (count + i) p
     join_at t i p at =
@@ -369,17 +369,17 @@ module _ (f h : Plain) (ls : List Leaf) (top : ℕ) (old : IsForest f) (added : 
         let e = first_is in
         let w = q.within in
         let long_pool : first + i < length h.pool = (let x = forest.same in let y = long in let z = pairs_counted in omega (arith, x, y, z, e, w)) in
-        let same : length (values h q.kids.left) ≡ length (values h q.kids.right) = forest.bound q.kids.left q.kids.right (omega (arith, c, long_pool)) (omega (arith, d, long_pool)) in
-        let most : value_at (values h (first + i)) t ≡ max (value_at (values h q.kids.left) t) (value_at (values h q.kids.right) t) =
-        ap (λ xs. value_at xs t) q.pair.most ∙ most_value (values h q.kids.left) (values h q.kids.right) t same in
+        let same : length (node_values_in h q.kids.left) ≡ length (node_values_in h q.kids.right) = forest.bound q.kids.left q.kids.right (omega (arith, c, long_pool)) (omega (arith, d, long_pool)) in
+        let most : value_at (node_values_in h (first + i)) t ≡ max (value_at (node_values_in h q.kids.left) t) (value_at (node_values_in h q.kids.right) t) =
+        ap (λ xs. value_at xs t) q.pair.most ∙ most_value (node_values_in h q.kids.left) (node_values_in h q.kids.right) t same in
         record {
           left = omega (arith, a, c, e);
           right = omega (arith, b, d, e);
           most =
-              ap (λ n. value_at (values h n) t) (let x : low + (count + i) ≡ first + i = omega (arith, e) in x)
+              ap (λ n. value_at (node_values_in h n) t) (let x : low + (count + i) ≡ first + i = omega (arith, e) in x)
               ∙ (most
-              ∙ (ap (λ n. max (value_at (values h n) t) (value_at (values h q.kids.right) t)) (sym a)
-              ∙ ap (λ n. max (value_of t p.left) (value_at (values h n) t)) (sym b)));
+              ∙ (ap (λ n. max (value_at (node_values_in h n) t) (value_at (node_values_in h q.kids.right) t)) (sym a)
+              ∙ ap (λ n. max (value_of t p.left) (value_at (node_values_in h n) t)) (sym b)));
         }
 
     written_values : (k t : ℕ) → 1 ≤ count → k ≤ root written → 1 ≤ t → t ≤ bound → slice_index_or (node_values g written t) k 0 ≡ value_of t k
@@ -465,7 +465,7 @@ module _ (f h : Plain) (ls : List Leaf) (top : ℕ) (old : IsForest f) (added : 
       );
       tree = written_tree (some_leaf some);
       exact = written_exact;
-      order = subst (IsSortedBy is_before) (sym (leaves_are bound g added.sorted are.each)) added.order;
+      order = subst (IsSortedBy is_leaf_before) (sym (leaves_are bound g added.sorted are.each)) added.order;
       halves = claim_halved tree added.built.halved walks_are (walks_long ∙ sym shape_counted);
     }
 
@@ -491,7 +491,7 @@ module _ (f h : Plain) (ls : List Leaf) (top : ℕ) (old : IsForest f) (added : 
     all_functions some =
         let i = leaf_of low (omega arith) (let c = some_leaf some in omega (arith, c)) in
         let forest = added.built.forest in
-        let here : length (values h low) ≡ bound = ap (λ n. length (values h n)) (sym i.number) ∙ (ap length (leaf_at i.place i.leaf i.at).steps ∙ (is_leaf i.place i.leaf i.at).long) in
+        let here : length (node_values_in h low) ≡ bound = ap (λ n. length (node_values_in h n)) (sym i.number) ∙ (ap length (leaf_at i.place i.leaf i.at).steps ∙ (is_leaf i.place i.leaf i.at).long) in
         let inside : low < length h.pool = (let a = forest.same in let b = long in let c = some_leaf some in omega (arith, a, b, c)) in
         All-from_get_or (λ xs. length xs ≡ bound) h.pool [] (λ k l. forest.bound k low l inside ∙ here)
 

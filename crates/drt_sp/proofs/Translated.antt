@@ -8,9 +8,9 @@ use Rattle.drt_model.specs.Digraph.{Digraph}
 use Rattle.drt_model.specs.Walk.{wcet, deadline}
 use Rattle.drt_steps.specs.Values.{value_at}
 use Rattle.drt_steps.specs.Time.{Passes, sum_at as forest_sum}
-use Rattle.drt_tree.specs.Tree.{Plain, children, values}
+use Rattle.drt_tree.specs.Tree.{Plain, children, node_values_in}
 use Rattle.drt_claims.specs.Trees.{root, node_values}
-use Rattle.drt_claims.specs.Proofs.{HasPassingTime, after, after_all, halved, parts, parts_in, passes, sum_at}
+use Rattle.drt_claims.specs.Proofs.{HasPassingTime, after, after_all, halved, parts_in, parts_in, passes, tree_sum_at}
 use Rattle.drt_claims.specs.declared.evidence.Item.{Item}
 use Rattle.drt_claims.specs.declared.evidence.Item.TheVariants.{Split}
 use Rattle.drt_claims.specs.declared.evidence.TreeClaim.{TreeClaim}
@@ -52,7 +52,7 @@ module _ (bound : ℕ) (f : Plain) where
       pair_is : children f (low + (n - low)) ≡ Some (l, r)
       pair_is = ap (children f) again ∙ pair
 
-      part_of : parts claim (n - low) ≡ Some (l - low, r - low)
+      part_of : parts_in claim (n - low) ≡ Some (l - low, r - low)
       part_of = is.claim_is.parts (n - low) inside ∙ ap (lowered low) pair_is
 
       part_in : IsIn g claim low l × IsIn g claim low r
@@ -100,14 +100,14 @@ module _ (bound : ℕ) (f : Plain) where
 
   -- the sums are the same
   pub sums_are : (graphs : List Digraph) (claims : List TreeClaim) (lows nodes : List ℕ) (t : ℕ) → AreIn graphs claims lows nodes → 1 ≤ t → t ≤ bound
-      → sum_at graphs claims (lower lows nodes) t ≡ forest_sum f.pool nodes t
-  unfolding sum_at
+      → tree_sum_at graphs claims (lower lows nodes) t ≡ forest_sum f.pool nodes t
+  unfolding tree_sum_at
   sums_are graphs claims lows [] t h some near = refl
   sums_are (g ∷ graphs) (claim ∷ claims) (low ∷ lows) (n ∷ nodes) t h some near =
-      let v : slice_index_or (node_values g claim t) (n - low) 0 ≡ value_at (values f (low + (n - low))) t = h.0.claim_is.values (n - low) t (inside g claim low n h.0) some near in
-      let w : slice_index_or (node_values g claim t) (n - low) 0 ≡ value_at (values f n) t = v ∙ ap (λ i. value_at (values f i) t) (again g claim low n h.0) in
-      let rest : sum_at graphs claims (lower lows nodes) t ≡ forest_sum f.pool nodes t = sums_are graphs claims lows nodes t h.1 some near in
-      ap (λ x. x + sum_at graphs claims (lower lows nodes) t) w ∙ ap (λ x. value_at (values f n) t + x) rest
+      let v : slice_index_or (node_values g claim t) (n - low) 0 ≡ value_at (node_values_in f (low + (n - low))) t = h.0.claim_is.values (n - low) t (inside g claim low n h.0) some near in
+      let w : slice_index_or (node_values g claim t) (n - low) 0 ≡ value_at (node_values_in f n) t = v ∙ ap (λ i. value_at (node_values_in f i) t) (again g claim low n h.0) in
+      let rest : tree_sum_at graphs claims (lower lows nodes) t ≡ forest_sum f.pool nodes t = sums_are graphs claims lows nodes t h.1 some near in
+      ap (λ x. x + tree_sum_at graphs claims (lower lows nodes) t) w ∙ ap (λ x. value_at (node_values_in f n) t + x) rest
   sums_are graphs claims lows (n ∷ nodes) t h some near = elim h [ ]
 
   -- the tops are in their trees, and are their roots
@@ -151,7 +151,7 @@ module _ (bound : ℕ) (f : Plain) where
     module _ (g : Digraph) (v : ℕ) (near : deadline g v ≤ bound) where
       pub passed : (nodes : List ℕ) (t : ℕ) → AreIn graphs claims lows nodes → Passes (wcet g v) (deadline g v) f.pool nodes t → HasPassingTime graphs claims g v (lower lows nodes, t)
       passed nodes t h p =
-          let sum : sum_at graphs claims (lower lows nodes) t ≡ forest_sum f.pool nodes t = sums_are graphs claims lows nodes t h p.from (omega (arith, p.to)) in
+          let sum : tree_sum_at graphs claims (lower lows nodes) t ≡ forest_sum f.pool nodes t = sums_are graphs claims lows nodes t h p.from (omega (arith, p.to)) in
           record { some = p.from; within = omega (arith, p.to); fits = omega (arith, p.passes) }
 
       passes_of : (items : List Item) (stack : List (List ℕ)) → AreItems f (wcet g v) (deadline g v) items stack → AllIn stack

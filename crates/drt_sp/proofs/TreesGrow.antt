@@ -3,7 +3,7 @@ use Rattle.std.proofs.Common.{◌≡◌, ℕ, ◌+◌, ◌<◌, ◌≤◌, Bool,
 use Rattle.std.specs.Prelude.{slice_get}
 use Rattle.drt_model.specs.Digraph.{Digraph}
 use Rattle.drt_steps.specs.Values.{value_at}
-use Rattle.drt_tree.specs.Tree.{Plain, Grows, IsForest, IsPair, LeadsToLeaf, children, values, walk, walk_of}
+use Rattle.drt_tree.specs.Tree.{Plain, Grows, IsForest, IsPair, LeadsToLeaf, children, node_values_in, walk, node_walk}
 use Rattle.drt_tree.proofs.Trees.{children_stay, get_front, grows_long, values_stay}
 use Rattle.drt_busy.specs.Choice.{IsWalk, request_of}
 use Rattle.drt_choices.specs.Choices.{StandsFor}
@@ -13,9 +13,9 @@ use Rattle.drt_sp.specs.TreeClaims.{IsClaimOf, lowered}
 
 module _ (f h : Plain) (forest : IsForest f) (grows : Grows f h) where
   walk_stays : (n : ℕ) → n < length f.nodes → walk h n ≡ walk f n
-  walk_stays n l = ap (λ xs. walk_of (slice_get xs n)) grows.nodes ∙ ap walk_of (get_front f.nodes grows.more n l)
+  walk_stays n l = ap (λ xs. node_walk (slice_get xs n)) grows.nodes ∙ ap node_walk (get_front f.nodes grows.more n l)
 
-  values_stay_there : (n : ℕ) → n < length f.nodes → values h n ≡ values f n
+  values_stay_there : (n : ℕ) → n < length f.nodes → node_values_in h n ≡ node_values_in f n
   values_stay_there n l = let s = forest.same in values_stay f h n grows (omega (arith, l, s))
 
   child_there : (n l r : ℕ) (b : Bool) → n < length f.nodes → children f n ≡ Some (l, r) → cond b l r < length f.nodes

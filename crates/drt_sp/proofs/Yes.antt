@@ -19,7 +19,7 @@ use Rattle.drt_busy.specs.Decide.{TimesDecide}
 use Rattle.drt_tree.specs.Tree.{Plain}
 use Rattle.drt_choices.specs.Choices.{IsOrder, VertexPasses}
 use Rattle.drt_claims.specs.Claims.{Each}
-use Rattle.drt_claims.specs.Proofs.{HasPassingTimes, HasShape, HasPassingTime, after_all, opening, passes, subjects_from}
+use Rattle.drt_claims.specs.Proofs.{HasPassingTimes, HasShape, HasPassingTime, after_all, opening_stack, passes, subjects_from}
 use Rattle.drt_claims.specs.Ranges.{IsEvidenceInRange, IsInRangeProof}
 use Rattle.drt_claims.specs.Trees.{CoversWalks, HasShortWalks, IsTree, by_priority, greatest_deadline, higher_count, root, tree_graphs}
 use Rattle.drt_claims.specs.declared.evidence.Evidence.TheVariants.{FixedYes}
@@ -141,23 +141,23 @@ module _ (tasks : List Task) (order : List ℕ) (order_is : IsOrder tasks order)
         let e : get_or order placed.place 0 ≡ placed.task = get_or_from_slice_get order placed.place placed.task 0 placed.at in
         sym (order_higher tasks order order_is placed.place place_low) ∙ ap (λ x. higher_count tasks x.priority) (ap (task_at tasks) e ∙ task_is)
 
-    shape_first : after_all (take placed.place trees) p.items (Some (opening trees placed.place)) ≡ Some []
+    shape_first : after_all (take placed.place trees) p.items (Some (opening_stack trees placed.place)) ≡ Some []
     shape_first = items_shape (greatest_deadline tasks) placed.is.forest (first_graphs tasks order placed.place) placed.is.lows placed.is.roots (take placed.place trees) placed.is.claimed
         (wcet (graph_at tasks placed.task) p.vertex) (deadline (graph_at tasks placed.task) p.vertex) p.items placed.is.items_are
 
-    shape_all : after_all trees p.items (Some (opening trees placed.place)) ≡ Some []
-    shape_all = subst (λ ts. after_all ts p.items (Some (opening trees placed.place)) ≡ Some []) (take-append-drop placed.place trees)
-        (all_more (take placed.place trees) (drop placed.place trees) p.items (opening trees placed.place) [] shape_first)
+    shape_all : after_all trees p.items (Some (opening_stack trees placed.place)) ≡ Some []
+    shape_all = subst (λ ts. after_all ts p.items (Some (opening_stack trees placed.place)) ≡ Some []) (take-append-drop placed.place trees)
+        (all_more (take placed.place trees) (drop placed.place trees) p.items (opening_stack trees placed.place) [] shape_first)
 
     -- The items can be taken over all trees.
-    pub has_shape : after_all trees p.items (Some (opening trees (higher_count tasks t.priority))) ≡ Some []
-    has_shape = subst (λ n. after_all trees p.items (Some (opening trees n)) ≡ Some []) higher_is shape_all
+    pub has_shape : after_all trees p.items (Some (opening_stack trees (higher_count tasks t.priority))) ≡ Some []
+    has_shape = subst (λ n. after_all trees p.items (Some (opening_stack trees n)) ≡ Some []) higher_is shape_all
 
     near : deadline (graph_at tasks placed.task) p.vertex ≤ greatest_deadline tasks
     near = deadline_near tasks placed.task p.vertex (omega (arith, slice_get_within tasks p.task t here, placed.is.task_is)) placed.is.vertex
 
     times_first : All (HasPassingTime (first_graphs tasks order placed.place) (take placed.place trees) (graph_at tasks placed.task) p.vertex)
-        (passes (take placed.place trees) p.items (Some (opening trees placed.place)))
+        (passes (take placed.place trees) p.items (Some (opening_stack trees placed.place)))
     times_first = items_pass (greatest_deadline tasks) placed.is.forest (first_graphs tasks order placed.place) placed.is.lows placed.is.roots (take placed.place trees) placed.is.claimed
         (graph_at tasks placed.task) p.vertex near p.items placed.is.items_are
 
@@ -167,7 +167,7 @@ module _ (tasks : List Task) (order : List ℕ) (order_is : IsOrder tasks order)
     split_graphs : first_graphs tasks order placed.place ++ drop placed.place (tree_graphs tasks trees) ≡ tree_graphs tasks trees
     split_graphs = ap (λ gs. gs ++ drop placed.place (tree_graphs tasks trees)) (graphs_first placed.place place_most) ∙ take-append-drop placed.place (tree_graphs tasks trees)
 
-    times_all : All (HasPassingTime (tree_graphs tasks trees) trees (graph_at tasks placed.task) p.vertex) (passes trees p.items (Some (opening trees placed.place)))
+    times_all : All (HasPassingTime (tree_graphs tasks trees) trees (graph_at tasks placed.task) p.vertex) (passes trees p.items (Some (opening_stack trees placed.place)))
     times_all =
         let i : ℕ = placed.place in
         let g : Digraph = graph_at tasks placed.task in
@@ -176,28 +176,28 @@ module _ (tasks : List Task) (order : List ℕ) (order_is : IsOrder tasks order)
         let a : length front ≡ i = length-take-le i trees (omega (arith, place_most, count_trees)) in
         let b : length (first_graphs tasks order i) ≡ i = length-take-le i (map (graph_at tasks) order) (omega (arith, place_low, length-map order (graph_at tasks))) in
         let c : length (map root front) ≡ length front = length-map front root in
-        let narrow = passes_narrow i front p.items (Some (opening trees i)) (omega (arith, a, c), tt) in
-        let more : All (HasPassingTime (first_graphs tasks order i ++ drop i (tree_graphs tasks trees)) (front ++ back) g p.vertex) (passes front p.items (Some (opening trees i)))
-        = passed_more (first_graphs tasks order i) (drop i (tree_graphs tasks trees)) front back i b a g p.vertex (passes front p.items (Some (opening trees i))) narrow times_first in
-        let same : passes (front ++ back) p.items (Some (opening trees i)) ≡ passes front p.items (Some (opening trees i)) = passes_more front back p.items (opening trees i) [] shape_first in
-        let moved : All (HasPassingTime (tree_graphs tasks trees) (front ++ back) g p.vertex) (passes (front ++ back) p.items (Some (opening trees i)))
+        let narrow = passes_narrow i front p.items (Some (opening_stack trees i)) (omega (arith, a, c), tt) in
+        let more : All (HasPassingTime (first_graphs tasks order i ++ drop i (tree_graphs tasks trees)) (front ++ back) g p.vertex) (passes front p.items (Some (opening_stack trees i)))
+        = passed_more (first_graphs tasks order i) (drop i (tree_graphs tasks trees)) front back i b a g p.vertex (passes front p.items (Some (opening_stack trees i))) narrow times_first in
+        let same : passes (front ++ back) p.items (Some (opening_stack trees i)) ≡ passes front p.items (Some (opening_stack trees i)) = passes_more front back p.items (opening_stack trees i) [] shape_first in
+        let moved : All (HasPassingTime (tree_graphs tasks trees) (front ++ back) g p.vertex) (passes (front ++ back) p.items (Some (opening_stack trees i)))
         = subst (λ ats. All (HasPassingTime (tree_graphs tasks trees) (front ++ back) g p.vertex) ats) (sym same)
-        (subst (λ gs. All (HasPassingTime gs (front ++ back) g p.vertex) (passes front p.items (Some (opening trees i)))) split_graphs more) in
-        subst (λ ts. All (HasPassingTime (tree_graphs tasks trees) ts g p.vertex) (passes ts p.items (Some (opening trees i)))) (take-append-drop i trees) moved
+        (subst (λ gs. All (HasPassingTime gs (front ++ back) g p.vertex) (passes front p.items (Some (opening_stack trees i)))) split_graphs more) in
+        subst (λ ts. All (HasPassingTime (tree_graphs tasks trees) ts g p.vertex) (passes ts p.items (Some (opening_stack trees i)))) (take-append-drop i trees) moved
 
     -- And they pass over all trees.
-    pub has_times : All (HasPassingTime (tree_graphs tasks trees) trees (digraph_of t) p.vertex) (passes trees p.items (Some (opening trees (higher_count tasks t.priority))))
-    has_times = subst (λ n. All (HasPassingTime (tree_graphs tasks trees) trees (digraph_of t) p.vertex) (passes trees p.items (Some (opening trees n)))) higher_is
-        (subst (λ g. All (HasPassingTime (tree_graphs tasks trees) trees g p.vertex) (passes trees p.items (Some (opening trees placed.place)))) graph_is times_all)
+    pub has_times : All (HasPassingTime (tree_graphs tasks trees) trees (digraph_of t) p.vertex) (passes trees p.items (Some (opening_stack trees (higher_count tasks t.priority))))
+    has_times = subst (λ n. All (HasPassingTime (tree_graphs tasks trees) trees (digraph_of t) p.vertex) (passes trees p.items (Some (opening_stack trees n)))) higher_is
+        (subst (λ g. All (HasPassingTime (tree_graphs tasks trees) trees g p.vertex) (passes trees p.items (Some (opening_stack trees placed.place)))) graph_is times_all)
 
     -- The items are due one after another over the trees of the tasks of higher priority.
-    due_first : AreEagerItems (first_graphs tasks order placed.place) (take placed.place trees) (graph_at tasks placed.task) p.vertex p.items (Some (opening trees placed.place))
+    due_first : AreEagerItems (first_graphs tasks order placed.place) (take placed.place trees) (graph_at tasks placed.task) p.vertex p.items (Some (opening_stack trees placed.place))
     due_first =
         let is : IsProofAt tasks order placed.place placed.task trees p = placed.is in
         items_due (greatest_deadline tasks) is.forest is.forest_is (first_graphs tasks order placed.place) is.lows is.roots (take placed.place trees) is.claimed
         (take_trees placed.place) (graph_at tasks placed.task) p.vertex near p.items is.items_are
 
-    due_all : AreEagerItems (tree_graphs tasks trees) trees (graph_at tasks placed.task) p.vertex p.items (Some (opening trees placed.place))
+    due_all : AreEagerItems (tree_graphs tasks trees) trees (graph_at tasks placed.task) p.vertex p.items (Some (opening_stack trees placed.place))
     due_all =
         let i : ℕ = placed.place in
         let g : Digraph = graph_at tasks placed.task in
@@ -206,15 +206,15 @@ module _ (tasks : List Task) (order : List ℕ) (order_is : IsOrder tasks order)
         let a : length front ≡ i = length-take-le i trees (omega (arith, place_most, count_trees)) in
         let b : length (first_graphs tasks order i) ≡ i = length-take-le i (map (graph_at tasks) order) (omega (arith, place_low, length-map order (graph_at tasks))) in
         let c : length (map root front) ≡ length front = length-map front root in
-        let more : AreEagerItems (first_graphs tasks order i ++ drop i (tree_graphs tasks trees)) (front ++ back) g p.vertex p.items (Some (opening trees i))
-        = due_more (first_graphs tasks order i) (drop i (tree_graphs tasks trees)) front back i b a g p.vertex p.items (opening trees i) (omega (arith, a, c), tt) due_first in
-        subst (λ ts. AreEagerItems (tree_graphs tasks trees) ts g p.vertex p.items (Some (opening trees i))) (take-append-drop i trees)
-        (subst (λ gs. AreEagerItems gs (front ++ back) g p.vertex p.items (Some (opening trees i))) split_graphs more)
+        let more : AreEagerItems (first_graphs tasks order i ++ drop i (tree_graphs tasks trees)) (front ++ back) g p.vertex p.items (Some (opening_stack trees i))
+        = due_more (first_graphs tasks order i) (drop i (tree_graphs tasks trees)) front back i b a g p.vertex p.items (opening_stack trees i) (omega (arith, a, c), tt) due_first in
+        subst (λ ts. AreEagerItems (tree_graphs tasks trees) ts g p.vertex p.items (Some (opening_stack trees i))) (take-append-drop i trees)
+        (subst (λ gs. AreEagerItems gs (front ++ back) g p.vertex p.items (Some (opening_stack trees i))) split_graphs more)
 
     -- And they are due over all trees.
-    pub is_due : AreEagerItems (tree_graphs tasks trees) trees (digraph_of t) p.vertex p.items (Some (opening trees (higher_count tasks t.priority)))
-    is_due = subst (λ n. AreEagerItems (tree_graphs tasks trees) trees (digraph_of t) p.vertex p.items (Some (opening trees n))) higher_is
-        (subst (λ g. AreEagerItems (tree_graphs tasks trees) trees g p.vertex p.items (Some (opening trees placed.place))) graph_is due_all)
+    pub is_due : AreEagerItems (tree_graphs tasks trees) trees (digraph_of t) p.vertex p.items (Some (opening_stack trees (higher_count tasks t.priority)))
+    is_due = subst (λ n. AreEagerItems (tree_graphs tasks trees) trees (digraph_of t) p.vertex p.items (Some (opening_stack trees n))) higher_is
+        (subst (λ g. AreEagerItems (tree_graphs tasks trees) trees g p.vertex p.items (Some (opening_stack trees placed.place))) graph_is due_all)
 
   module _ (rows : List (List ProofClaim)) (proved : AreProved tasks order (length order) trees rows) where
     row_at : (k : ℕ) → k < length tasks → (i : ℕ) × (slice_get order i ≡ Some k) × AreProofsAt tasks order i k trees (get_or rows k [])

@@ -4,9 +4,9 @@ use Rattle.std.specs.List.{range_with_len}
 use Rattle.std.specs.List.Sorted.{IsSortedBy}
 use Rattle.drt_model.specs.declared.tasks.Task.{Task}
 use Rattle.drt_model.specs.Digraph.{Digraph, digraph_of}
-use Rattle.drt_tree.specs.Leaf.{is_before}
+use Rattle.drt_tree.specs.Leaf.{is_leaf_before}
 use Rattle.drt_tree.specs.declared.leaf.Leaf.{Leaf}
-use Rattle.drt_claims.specs.Proofs.{HasPassingTime, after, opening}
+use Rattle.drt_claims.specs.Proofs.{HasPassingTime, after, opening_stack}
 use Rattle.drt_claims.specs.Trees.{asked, higher_count, root, tree_graphs}
 use Rattle.drt_claims.specs.declared.evidence.Item.{Item}
 use Rattle.drt_claims.specs.declared.evidence.Item.TheVariants.{Pass, Split}
@@ -33,16 +33,16 @@ leaf_of bound g w = record { steps = map (λ t. asked g t w) (range_with_len 1 b
 -- The tree's walks stand in order: by what they ask for before the bound, then by what they ask for before each earlier time, and then by
 -- their vertices.
 abbrev pub AreWalksInOrder : ℕ → Digraph → TreeClaim → Type 0
-AreWalksInOrder bound g tree = IsSortedBy is_before (map (leaf_of bound g) tree.walks)
+AreWalksInOrder bound g tree = IsSortedBy is_leaf_before (map (leaf_of bound g) tree.walks)
 
 -- The numbers of walks below some nodes, followed by those of the pairs after them: a pair has those of both its parts.
-unfoldable pub counted : List ℕ → List Pair → List ℕ
-counted counts [] = counts
-counted counts (p ∷ pairs) = counted (counts ++ (slice_index_or counts p.left 0 + slice_index_or counts p.right 0) ∷ []) pairs
+unfoldable pub counted_pairs : List ℕ → List Pair → List ℕ
+counted_pairs counts [] = counts
+counted_pairs counts (p ∷ pairs) = counted_pairs (counts ++ (slice_index_or counts p.left 0 + slice_index_or counts p.right 0) ∷ []) pairs
 
 -- The numbers of walks below the nodes of the tree: a walk is one.
 abbrev pub walk_counts : TreeClaim → List ℕ
-walk_counts tree = counted (map (λ walk. 1) tree.walks) tree.pairs
+walk_counts tree = counted_pairs (map (λ walk. 1) tree.walks) tree.pairs
 
 -- The number of walks below a node, if there are a tree and a node.
 abbrev pub count_in : Option TreeClaim → Option ℕ → ℕ
@@ -79,4 +79,4 @@ module _ (graphs : List Digraph) (trees : List TreeClaim) (g : Digraph) (v : ℕ
 abbrev pub IsEagerProof : List Task → List TreeClaim → ProofClaim → Type 0
 IsEagerProof tasks trees proof =
     (t : Task) → slice_get tasks proof.task ≡ Some t
-    → AreEagerItems (tree_graphs tasks trees) trees (digraph_of t) proof.vertex proof.items (Some (opening trees (higher_count tasks t.priority)))
+    → AreEagerItems (tree_graphs tasks trees) trees (digraph_of t) proof.vertex proof.items (Some (opening_stack trees (higher_count tasks t.priority)))

@@ -61,8 +61,8 @@ pub record Place : Type 0 where
   pub bound : ℕ
 
 -- The graphs of some places.
-abbrev pub graphs_of : List Place → List Digraph
-graphs_of places = map (λ p. p.graph) places
+abbrev pub graphs_of_places : List Place → List Digraph
+graphs_of_places places = map (λ p. p.graph) places
 
 -- There is a tail for each place, and R holds of its bound, its graph and the tail.
 abbrev pub EachTail : (ℕ → Digraph → TailClaim → Type 0) → List Place → List TailClaim → Type 0

@@ -18,7 +18,7 @@ use Rattle.drt_states.specs.declared.claims.StateEntry.{StateEntry}
 use Rattle.drt_states.specs.declared.claims.TailClaim.{TailClaim}
 use Rattle.drt_states.specs.States.{AreStates, Child, Dominates, HasRoomAt, HaveDominatedChildren, HavePassingTimes, IsOpening, IsPassing, IsSplitting}
 use Rattle.drt_states.specs.States.{NamesAbove, child_at, children_of, entry_at, with_entry}
-use Rattle.drt_states.specs.Tails.{BoundsWalks, EachTail, IsTail, Place, graphs_of}
+use Rattle.drt_states.specs.Tails.{BoundsWalks, EachTail, IsTail, Place, graphs_of_places}
 use Rattle.drt_states_laws.specs.Laws.{AreWalksOf, StatesPass, asked_together}
 use Rattle.drt_states_laws.proofs.Children.{Named, edge_named, edge_passing, state_at, vertex_named}
 use Rattle.drt_states_laws.proofs.Entries.{idle_above, idle_from, idle_moved, idle_opened, with_here, with_other, zipped_above}
@@ -90,17 +90,17 @@ work_most (r ∷ states) zero s at = let same : r.work ≡ s.work = ap (λ x. x.
 work_most (r ∷ states) (suc k) s at = let more = work_most states k s at in omega (arith, more)
 
 -- What holds of the graph of number k holds of that of the place.
-graph_at : (places : List Place) (k : ℕ) (P : Digraph → Type 0) → IsSomeAnd (slice_get (graphs_of places) k) P → k < length places
+graph_at : (places : List Place) (k : ℕ) (P : Digraph → Type 0) → IsSomeAnd (slice_get (graphs_of_places places) k) P → k < length places
     → P (get_or places k no_place).graph
 graph_at places k P is l =
-    let at : slice_get (graphs_of places) k ≡ Some (get_or places k no_place).graph =
+    let at : slice_get (graphs_of_places places) k ≡ Some (get_or places k no_place).graph =
     slice_get-map (λ (p : Place). p.graph) places k ∙ ap (λ o. option_map (λ (p : Place). p.graph) o) (slice_get-get_or places k no_place l) in
     rw at at is
 
 module _ (places : List Place) (tails : List TailClaim) (job deadline n : ℕ) (states : List StateClaim)
     (sound : All (λ p. IsSoundGraph p.graph) places) (near : All (λ p. deadline ≤ p.bound) places)
     (are : EachTail IsTail places tails) (bounds : EachTail BoundsWalks places tails)
-    (within : n ≤ deadline) (passing : HavePassingTimes n job tails states) (dominated : HaveDominatedChildren (graphs_of places) deadline states) where
+    (within : n ≤ deadline) (passing : HavePassingTimes n job tails states) (dominated : HaveDominatedChildren (graphs_of_places places) deadline states) where
   -- No state of the list with so many places without an entry, and so much work below the greatest, has futures for which no time passes.
   abbrev Refuted : ℕ → ℕ → Type 0
   Refuted rooms fuel =
@@ -190,11 +190,11 @@ module _ (places : List Place) (tails : List TailClaim) (job deadline n : ℕ) (
       let l = slice_get_within states k s at in
       let here = get_or_from_slice_get states k s s at in
       let pass = subst (λ q. IsPassing n job tails q q.end) here (passing k s l) in
-      let split = subst (λ q. IsSplitting (graphs_of places) deadline states q q.end) here (dominated k s l) in
+      let split = subst (λ q. IsSplitting (graphs_of_places places) deadline states q q.end) here (dominated k s l) in
       ends s.end pass split
     where
       -- by how the state ends
-      ends : (end : StateEnd) → IsPassing n job tails s end → IsSplitting (graphs_of places) deadline states s end → ⊥
+      ends : (end : StateEnd) → IsPassing n job tails s end → IsSplitting (graphs_of_places places) deadline states s end → ⊥
       ends (Passes t) room split = passes_not s t room has
       ends (Splits place numbers) room split = goes (entry_at s.entries place) refl each
         where
@@ -223,8 +223,8 @@ module _ (places : List Place) (tails : List TailClaim) (job deadline n : ℕ) (
       by_fuel (suc rooms) (λ r e. subst (λ x. (f : ℕ) → Refuted x f) (let same : rooms ≡ r = omega arith in same) later)
 
   -- For no walks of the places' graphs no time passes.
-  walks_pass : AreStates (graphs_of places) states → (walks : List (List ℕ)) → AreWalksOf places walks
-      → ((t : ℕ) → 1 ≤ t → t ≤ n → t < job + asked_together (graphs_of places) walks t) → ⊥
+  walks_pass : AreStates (graphs_of_places places) states → (walks : List (List ℕ)) → AreWalksOf places walks
+      → ((t : ℕ) → 1 ≤ t → t ≤ n → t < job + asked_together (graphs_of_places places) walks t) → ⊥
   walks_pass opens walks is fails =
       let r = state_at states 0 IsOpening opens.opens in
       let first : HasFailing places job n [] 0 = (
@@ -255,10 +255,10 @@ found f (suc n) = go (found f n) (cases_lt (suc n) (f (suc n)))
 
 pub states_pass : StatesPass
 states_pass places tails job deadline n states sound near are bounds opens within passing dominated walks is =
-    go (found (λ t. job + asked_together (graphs_of places) walks t) n)
+    go (found (λ t. job + asked_together (graphs_of_places places) walks t) n)
   where
-    go : ((t : ℕ) × (1 ≤ t) × (t ≤ n) × (job + asked_together (graphs_of places) walks t ≤ t))
-        ⊎ ((t : ℕ) → 1 ≤ t → t ≤ n → t < job + asked_together (graphs_of places) walks t)
-        → (t : ℕ) × (1 ≤ t) × (t ≤ n) × (job + asked_together (graphs_of places) walks t ≤ t)
+    go : ((t : ℕ) × (1 ≤ t) × (t ≤ n) × (job + asked_together (graphs_of_places places) walks t ≤ t))
+        ⊎ ((t : ℕ) → 1 ≤ t → t ≤ n → t < job + asked_together (graphs_of_places places) walks t)
+        → (t : ℕ) × (1 ≤ t) × (t ≤ n) × (job + asked_together (graphs_of_places places) walks t ≤ t)
     go (inl passes) = passes
     go (inr fails) = absurd (walks_pass places tails job deadline n states sound near are bounds within passing dominated opens walks is fails)

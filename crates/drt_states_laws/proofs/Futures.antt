@@ -7,7 +7,7 @@ use Rattle.drt_model.specs.RequestFunction.{request}
 use Rattle.drt_busy.specs.Choice.{IsWalk, request_of}
 use Rattle.drt_states.specs.declared.claims.StateEntry.{StateEntry}
 use Rattle.drt_states.specs.States.{entry_at}
-use Rattle.drt_states.specs.Tails.{Place, graphs_of}
+use Rattle.drt_states.specs.Tails.{Place, graphs_of_places}
 use Rattle.drt_states_laws.specs.Laws.{AreWalksOf, asked_together}
 use Rattle.drt_states_laws.proofs.Requests.{request_grows}
 
@@ -104,7 +104,7 @@ first_futures i [] (w ∷ walks) are = absurd are
 first_futures i (p ∷ places) [] are = absurd are
 first_futures i (p ∷ places) (w ∷ walks) are = (subst (λ o. IsFuture p.graph o w) (sym (none_at i)) are.0, first_futures (i + 1) places walks are.1)
 
-pub first_asked : (i : ℕ) (places : List Place) (walks : List (List ℕ)) (t : ℕ) → futures_asked i places [] walks t ≡ asked_together (graphs_of places) walks t
+pub first_asked : (i : ℕ) (places : List Place) (walks : List (List ℕ)) (t : ℕ) → futures_asked i places [] walks t ≡ asked_together (graphs_of_places places) walks t
 unfolding futures_asked asked_together
 first_asked i [] walks t = refl
 first_asked i (p ∷ places) [] t = refl

@@ -8,7 +8,7 @@ use Rattle.drt_busy.specs.Choice.{IsWalk, request_of}
 use Rattle.drt_states.specs.declared.claims.StateClaim.{StateClaim}
 use Rattle.drt_states.specs.declared.claims.TailClaim.{TailClaim}
 use Rattle.drt_states.specs.States.{AreStates, HaveDominatedChildren, HavePassingTimes}
-use Rattle.drt_states.specs.Tails.{BoundsWalks, EachTail, IsTail, Place, curve_of, graphs_of, value_before}
+use Rattle.drt_states.specs.Tails.{BoundsWalks, EachTail, IsTail, Place, curve_of, graphs_of_places, value_before}
 
 -- What walks, one of each graph, ask for before t together, each first release at 0.
 unfoldable pub asked_together : List Digraph → List (List ℕ) → ℕ → ℕ
@@ -36,7 +36,7 @@ StatesPass =
     (places : List Place) (tails : List TailClaim) (wcet deadline n : ℕ) (states : List StateClaim)
     → All (λ p. IsSoundGraph p.graph) places → All (λ p. deadline ≤ p.bound) places
     → EachTail IsTail places tails → EachTail BoundsWalks places tails
-    → AreStates (graphs_of places) states → n ≤ deadline
-    → HavePassingTimes n wcet tails states → HaveDominatedChildren (graphs_of places) deadline states
+    → AreStates (graphs_of_places places) states → n ≤ deadline
+    → HavePassingTimes n wcet tails states → HaveDominatedChildren (graphs_of_places places) deadline states
     → (walks : List (List ℕ)) → AreWalksOf places walks
-    → (t : ℕ) × (1 ≤ t) × (t ≤ n) × (wcet + asked_together (graphs_of places) walks t ≤ t)
+    → (t : ℕ) × (1 ≤ t) × (t ≤ n) × (wcet + asked_together (graphs_of_places places) walks t ≤ t)

@@ -3,7 +3,7 @@ use Rattle.std.specs.Prelude.{slice_get, nat_lt, nat_le, slice_index}
 use Rattle.std.proofs.lemmas.Option.{none-some, same_Some}
 use Rattle.std.proofs.lemmas.Bool.Decides.{nat_tests}
 use Rattle.drt_steps.specs.declared.jump.Jump.{Jump}
-use Rattle.drt_steps.specs.Jumps.{risen, total, values_from, values, AreFrom, AreJumpsBefore, up_to, past}
+use Rattle.drt_steps.specs.Jumps.{risen, total_rise, values_from, values, AreFrom, AreJumpsBefore, up_to, past}
 use Rattle.drt_steps.specs.Values.{raise, value_at}
 
 -- what a jump adds before t
@@ -185,51 +185,51 @@ pub share_small : (j : Jump) (t : ℕ) → share j t ≤ j.rise
 share_small j t = grind (arith, nat_tests)
 
 -- totals
-pub total_append : (xs ys : List Jump) → total (xs ++ ys) ≡ total xs + total ys
+pub total_append : (xs ys : List Jump) → total_rise (xs ++ ys) ≡ total_rise xs + total_rise ys
 total_append [] ys = sym (omega arith)
-total_append (x ∷ xs) ys = let e : total (xs ++ ys) ≡ total xs + total ys = total_append xs ys in omega arith
+total_append (x ∷ xs) ys = let e : total_rise (xs ++ ys) ≡ total_rise xs + total_rise ys = total_append xs ys in omega arith
 
-total_parts_at : (s : ℕ) (j : Jump) (js : List Jump) (b c : Bool) → nat_le j.after s ≡ b → nat_lt s j.after ≡ c → total (up_to s js) + total (past s js) ≡ total js → total (cond b (j ∷ up_to s js) (up_to s js)) + total (cond c (j ∷ past s js) (past s js)) ≡ j.rise + total js
+total_parts_at : (s : ℕ) (j : Jump) (js : List Jump) (b c : Bool) → nat_le j.after s ≡ b → nat_lt s j.after ≡ c → total_rise (up_to s js) + total_rise (past s js) ≡ total_rise js → total_rise (cond b (j ∷ up_to s js) (up_to s js)) + total_rise (cond c (j ∷ past s js) (past s js)) ≡ j.rise + total_rise js
 total_parts_at s j js true true p q e = absurd (grind (arith, nat_tests))
 total_parts_at s j js true false p q e = omega arith
 total_parts_at s j js false true p q e = omega arith
 total_parts_at s j js false false p q e = absurd (grind (arith, nat_tests))
 
-total_parts : (s : ℕ) (js : List Jump) → total (up_to s js) + total (past s js) ≡ total js
+total_parts : (s : ℕ) (js : List Jump) → total_rise (up_to s js) + total_rise (past s js) ≡ total_rise js
 total_parts s [] = refl
 total_parts s (j ∷ js) = total_parts_at s j js (nat_le j.after s) (nat_lt s j.after) refl refl (total_parts s js)
 
-pub total_placed : (s : ℕ) (js : List Jump) (new : Jump) → total (up_to s js ++ new ∷ past s js) ≡ total js + new.rise
+pub total_placed : (s : ℕ) (js : List Jump) (new : Jump) → total_rise (up_to s js ++ new ∷ past s js) ≡ total_rise js + new.rise
 total_placed s js new =
-    let a : total (up_to s js ++ new ∷ past s js) ≡ total (up_to s js) + total (new ∷ past s js) = total_append (up_to s js) (new ∷ past s js) in
-    let b : total (up_to s js) + total (past s js) ≡ total js = total_parts s js in
+    let a : total_rise (up_to s js ++ new ∷ past s js) ≡ total_rise (up_to s js) + total_rise (new ∷ past s js) = total_append (up_to s js) (new ∷ past s js) in
+    let b : total_rise (up_to s js) + total_rise (past s js) ≡ total_rise js = total_parts s js in
     omega arith
 
-total_suc : (js : List Jump) (i : ℕ) (j : Jump) → slice_get js i ≡ Some j → total (take (suc i) js) ≡ total (take i js) + j.rise
+total_suc : (js : List Jump) (i : ℕ) (j : Jump) → slice_get js i ≡ Some j → total_rise (take (suc i) js) ≡ total_rise (take i js) + j.rise
 total_suc [] i j at = absurd (none-some j at)
 total_suc (x ∷ js) zero j at = let e : x.rise ≡ j.rise = ap (λ (y : Jump). y.rise) (same_Some x j at) in omega arith
-total_suc (x ∷ js) (suc i) j at = let e : total (take (suc i) js) ≡ total (take i js) + j.rise = total_suc js i j at in omega arith
+total_suc (x ∷ js) (suc i) j at = let e : total_rise (take (suc i) js) ≡ total_rise (take i js) + j.rise = total_suc js i j at in omega arith
 
-pub total_more : (js : List Jump) (i : ℕ) (j : Jump) → slice_get js i ≡ Some j → total (take (i + 1) js) ≡ total (take i js) + j.rise
-total_more js i j at = ap (λ k. total (take k js)) (add-one i) ∙ total_suc js i j at
+pub total_more : (js : List Jump) (i : ℕ) (j : Jump) → slice_get js i ≡ Some j → total_rise (take (i + 1) js) ≡ total_rise (take i js) + j.rise
+total_more js i j at = ap (λ k. total_rise (take k js)) (add-one i) ∙ total_suc js i j at
 
-pub total_within : (js : List Jump) (i : ℕ) → total (take i js) ≤ total js
+pub total_within : (js : List Jump) (i : ℕ) → total_rise (take i js) ≤ total_rise js
 total_within [] zero = omega arith
 total_within [] (suc i) = omega arith
 total_within (x ∷ js) zero = omega arith
-total_within (x ∷ js) (suc i) = let e : total (take i js) ≤ total js = total_within js i in omega arith
+total_within (x ∷ js) (suc i) = let e : total_rise (take i js) ≤ total_rise js = total_within js i in omega arith
 
-pub risen_total : (js : List Jump) (t : ℕ) → risen js t ≤ total js
+pub risen_total : (js : List Jump) (t : ℕ) → risen js t ≤ total_rise js
 risen_total [] t = omega arith
-risen_total (x ∷ js) t = let e : risen js t ≤ total js = risen_total js t in let s : share x t ≤ x.rise = share_small x t in omega arith
+risen_total (x ∷ js) t = let e : risen js t ≤ total_rise js = risen_total js t in let s : share x t ≤ x.rise = share_small x t in omega arith
 
 -- all jumps come before the bound
-pub risen_all : (n t : ℕ) (js : List Jump) → AreJumpsBefore n js → n ≤ t → risen js t ≡ total js
+pub risen_all : (n t : ℕ) (js : List Jump) → AreJumpsBefore n js → n ≤ t → risen js t ≡ total_rise js
 risen_all n t [] h le = refl
 risen_all n t (x ∷ js) h le =
     let b : x.after < n = h.0 in
     let s : share x t ≡ x.rise = share_in x t (omega arith) in
-    let e : risen js t ≡ total js = risen_all n t js h.1 le in
+    let e : risen js t ≡ total_rise js = risen_all n t js h.1 le in
     omega arith
 
 pub below_at : (n : ℕ) (js : List Jump) (i : ℕ) (j : Jump) → AreJumpsBefore n js → slice_get js i ≡ Some j → j.after < n
@@ -275,21 +275,21 @@ pub next_later : (s : ℕ) (js : List Jump) (i : ℕ) (j k : Jump) → AreFrom s
 next_later s js i j k h at next = next_suc s js i j k h at (ap (λ n. slice_get js n) (sym (add-one i)) ∙ next)
 
 -- at a time later than a jump all in front of it have risen
-pub taken_past : (s : ℕ) (js : List Jump) (i : ℕ) (j : Jump) (t : ℕ) → AreFrom s js → slice_get js i ≡ Some j → j.after < t → risen (take i js) t ≡ total (take i js)
+pub taken_past : (s : ℕ) (js : List Jump) (i : ℕ) (j : Jump) (t : ℕ) → AreFrom s js → slice_get js i ≡ Some j → j.after < t → risen (take i js) t ≡ total_rise (take i js)
 taken_past s [] i j t h at lt = absurd (none-some j at)
 taken_past s (x ∷ js) zero j t h at lt = refl
 taken_past s (x ∷ js) (suc i) j t h at lt =
     let b : x.after ≤ j.after = after_later x.after js i j h.1 at in
     let e : share x t ≡ x.rise = share_in x t (omega arith) in
-    let r : risen (take i js) t ≡ total (take i js) = taken_past x.after js i j t h.1 at lt in
+    let r : risen (take i js) t ≡ total_rise (take i js) = taken_past x.after js i j t h.1 at lt in
     omega arith
 
-pub taken_more : (s : ℕ) (js : List Jump) (i : ℕ) (j : Jump) (t : ℕ) → AreFrom s js → slice_get js i ≡ Some j → j.after < t → risen (take (i + 1) js) t ≡ total (take (i + 1) js)
+pub taken_more : (s : ℕ) (js : List Jump) (i : ℕ) (j : Jump) (t : ℕ) → AreFrom s js → slice_get js i ≡ Some j → j.after < t → risen (take (i + 1) js) t ≡ total_rise (take (i + 1) js)
 taken_more s js i j t h at lt =
     let a : risen (take (i + 1) js) t ≡ risen (take i js) t + share j t = take_more js i j t at in
-    let b : total (take (i + 1) js) ≡ total (take i js) + j.rise = total_more js i j at in
+    let b : total_rise (take (i + 1) js) ≡ total_rise (take i js) + j.rise = total_more js i j at in
     let e : share j t ≡ j.rise = share_in j t lt in
-    let r : risen (take i js) t ≡ total (take i js) = taken_past s js i j t h at lt in
+    let r : risen (take i js) t ≡ total_rise (take i js) = taken_past s js i j t h at lt in
     omega arith
 
 pub none_risen : (s : ℕ) (js : List Jump) (t : ℕ) → AreFrom s js → t ≤ s → risen js t ≡ 0

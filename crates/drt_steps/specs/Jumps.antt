@@ -9,9 +9,9 @@ risen [] t = 0
 risen (j ∷ js) t = cond (nat_lt j.after t) j.rise 0 + risen js t
 
 -- All rises together.
-abbrev pub total : List Jump → ℕ
-total [] = 0
-total (j ∷ js) = j.rise + total js
+abbrev pub total_rise : List Jump → ℕ
+total_rise [] = 0
+total_rise (j ∷ js) = j.rise + total_rise js
 
 -- Each jump comes at s or later, and not before the one in front of it.
 abbrev pub AreFrom : ℕ → List Jump → Type 0
@@ -36,7 +36,7 @@ values bound base jumps = values_from (λ t. base + risen jumps t) 1 bound
 pub record AreKept (bound base : ℕ) (jumps : List Jump) : Type 0 where
   pub from : 1 ≤ bound
   pub to : bound ≤ 1000000
-  pub small : base + total jumps ≤ 1000000000000
+  pub small : base + total_rise jumps ≤ 1000000000000
   pub order : AreFrom 1 jumps
   pub below : AreJumpsBefore bound jumps
 
@@ -75,8 +75,8 @@ past s [] = []
 past s (j ∷ js) = cond (nat_lt s j.after) (j ∷ past s js) (past s js)
 
 -- The jumps after which a value has grown from one number to another at a time.
-abbrev pub grown : ℕ → ℕ → ℕ → List Jump → List Jump
-grown after before now js = cond (nat_lt before now) (js ++ record { after = after; rise = now - before } ∷ []) js
+abbrev pub grown_jumps : ℕ → ℕ → ℕ → List Jump → List Jump
+grown_jumps after before now js = cond (nat_lt before now) (js ++ record { after = after; rise = now - before } ∷ []) js
 
 -- The next of some jumps comes before the next of some others, by at least a gap.
 pub record IsNextJump (gap : ℕ) (xs : List Jump) (i : ℕ) (ys : List Jump) (j : ℕ) : Type 0 where
@@ -91,6 +91,6 @@ pub record IsBelowAt (own_base : ℕ) (own : List Jump) (other_base : ℕ) (othe
 -- Jumps above the greater base that make at each time the greater value.
 pub record AreMost (own_base : ℕ) (own : List Jump) (other_base : ℕ) (other : List Jump) (most : List Jump) : Type 0 where
   pub values : (t : ℕ) → max (own_base + risen own t) (other_base + risen other t) ≡ max own_base other_base + risen most t
-  pub total : max (own_base + total own) (other_base + total other) ≡ max own_base other_base + total most
+  pub total : max (own_base + total_rise own) (other_base + total_rise other) ≡ max own_base other_base + total_rise most
   pub order : AreFrom 1 most
   pub below : (n : ℕ) → AreJumpsBefore n own → AreJumpsBefore n other → AreJumpsBefore n most

@@ -1,13 +1,13 @@
 //! The values that a function has from each of its jumps on.
 ghost use Rattle.std.specs.Prelude.{◌≡◌, ◌+◌, ◌≤◌, ◌∷◌, length, slice_index, IfOk};
-ghost use Rattle.drt_steps.specs.Jumps.{total, levels};
+ghost use Rattle.drt_steps.specs.Jumps.{total_rise, levels};
 
 use crate::jump::Jump;
 use std::alloc::{AllocError, Global};
 
 /// The value from each jump on, of a function with this base.
 pub fn levels(alloc: Global, base: u64, jumps: &[Jump]) -> Result<Vec<u64>, AllocError>
-    requires { base + total jumps.now ≤ 1000000000000 }
+    requires { base + total_rise jumps.now ≤ 1000000000000 }
     ensures { IfOk result (λ v. v.items ≡ levels base jumps.now) }
 {
     let mut all = Vec::with_capacity(alloc, jumps.len())?;

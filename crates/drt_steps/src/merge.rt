@@ -1,6 +1,6 @@
 //! One walk over the jumps of two functions, in order of time.
 ghost use Rattle.std.specs.Prelude.{◌≡◌, ℕ, ◌+◌, ◌-◌, ◌<◌, ◌≤◌, ◌++◌, ◌∷◌, [], max, true, false, length, IfOk};
-ghost use Rattle.drt_steps.specs.Jumps.{risen, total, AreFrom, AreJumpsBefore, AreMost, IsBelowAt, IsNextJump, grown};
+ghost use Rattle.drt_steps.specs.Jumps.{risen, total_rise, AreFrom, AreJumpsBefore, AreMost, IsBelowAt, IsNextJump, grown_jumps};
 
 use crate::jump::Jump;
 use std::alloc::{AllocError, Global};
@@ -25,8 +25,8 @@ fn is_own_next(own: &[Jump], i: usize, other: &[Jump], j: usize) -> bool
 pub fn stays_above(own_base: u64, own: &[Jump], other_base: u64, other: &[Jump]) -> bool
     requires own_order { AreFrom 1 own.now }
     requires other_order { AreFrom 1 other.now }
-    requires own_small { own_base + total own.now ≤ 1000000000000 }
-    requires other_small { other_base + total other.now ≤ 1000000000000 }
+    requires own_small { own_base + total_rise own.now ≤ 1000000000000 }
+    requires other_small { other_base + total_rise other.now ≤ 1000000000000 }
     ensures above { result ≡ true → (t : ℕ) → other_base + risen other.now t ≤ own_base + risen own.now t }
     ensures below { result ≡ false → (s : ℕ) × IsBelowAt own_base own.now other_base other.now s }
 {
@@ -54,7 +54,7 @@ pub fn stays_above(own_base: u64, own: &[Jump], other_base: u64, other: &[Jump])
 
 // A jump at the end for a value that has grown, and none for one that hasn't.
 fn grow(jumps: &mut Vec<Jump>, after: u64, before: u64, now: u64) -> Result<(), AllocError>
-    ensures { IfOk result (λ _. jumps.new.items ≡ grown after before now jumps.old.items) }
+    ensures { IfOk result (λ _. jumps.new.items ≡ grown_jumps after before now jumps.old.items) }
 {
     if before < now {
         jumps.push(Jump {
@@ -75,8 +75,8 @@ pub fn merged(
 ) -> Result<Vec<Jump>, AllocError>
     requires own_order { AreFrom 1 own.now }
     requires other_order { AreFrom 1 other.now }
-    requires own_small { own_base + total own.now ≤ 1000000000000 }
-    requires other_small { other_base + total other.now ≤ 1000000000000 }
+    requires own_small { own_base + total_rise own.now ≤ 1000000000000 }
+    requires other_small { other_base + total_rise other.now ≤ 1000000000000 }
     ensures { IfOk result (λ v. AreMost own_base own.now other_base other.now v.items) }
 {
     let mut jumps = Vec::new(alloc);

@@ -8,7 +8,7 @@ use Rattle.std.proofs.lemmas.List.{length_push, length-map}
 use Rattle.std.proofs.lemmas.List.Elements.{Contains-append_left, Contains-push}
 use Rattle.std.proofs.lemmas.Option.{none-some, same_Some, slice_get_read, slice_get_within}
 use Rattle.drt_label.specs.Algebra.{Algebra}
-use Rattle.drt_table.specs.Node.{Held, NodeOf, is_kept, is_pending, is_taken, is_pending_state, is_taken_state}
+use Rattle.drt_table.specs.Node.{Held, NodeOf, is_kept, is_node_pending, is_taken, is_pending_state, is_taken_state}
 use Rattle.drt_table.specs.declared.node.NodeState.{NodeState}
 use Rattle.drt_table.specs.declared.node.NodeState.TheVariants.{Pending, Taken, Done}
 use Rattle.drt_worklist.specs.Places.{first, changed}
@@ -77,7 +77,7 @@ still_held {L} nodes later taken stay h = record {
 -- a change of one node that leaves its label, and makes it neither pending nor taken
 pub record Calms {L : Type 0} (f : Held L → Held L) : Type 0 where
   pub label : (h : Held L) → (f h).node.label ≡ h.node.label
-  pub pending : (h : Held L) → is_pending (f h).node ≡ true → is_pending h.node ≡ true
+  pub pending : (h : Held L) → is_node_pending (f h).node ≡ true → is_node_pending h.node ≡ true
 
 module _ {L : Type 0} (f : Held L → Held L) (k : ℕ) (nodes : List (Held L)) where
   pub change_stays : Calms f → StayWaiting nodes (changed k f nodes)
@@ -90,12 +90,12 @@ module _ {L : Type 0} (f : Held L → Held L) (k : ℕ) (nodes : List (Held L)) 
           by_case y (inl p) = ap (λ (z : Held L). z.node.label) p.1 ∙ calms.label x
           by_case y (inr e) = ap (λ (z : Held L). z.node.label) e
 
-      back : (j : ℕ) (y : Held L) → Before k f nodes j y → (x : Held L) × (slice_get nodes j ≡ Some x) × (y.node.label ≡ x.node.label) × (is_pending y.node ≡ true → is_pending x.node ≡ true)
+      back : (j : ℕ) (y : Held L) → Before k f nodes j y → (x : Held L) × (slice_get nodes j ≡ Some x) × (y.node.label ≡ x.node.label) × (is_node_pending y.node ≡ true → is_node_pending x.node ≡ true)
       back j y b = by_case b.is
         where
-          by_case : ((j ≡ k) × (y ≡ f b.old)) ⊎ (y ≡ b.old) → (x : Held L) × (slice_get nodes j ≡ Some x) × (y.node.label ≡ x.node.label) × (is_pending y.node ≡ true → is_pending x.node ≡ true)
-          by_case (inl p) = (b.old, b.at, ap (λ (z : Held L). z.node.label) p.1 ∙ calms.label b.old, λ t. calms.pending b.old (ap (λ (z : Held L). is_pending z.node) (sym p.1) ∙ t))
-          by_case (inr e) = (b.old, b.at, ap (λ (z : Held L). z.node.label) e, λ t. ap (λ (z : Held L). is_pending z.node) (sym e) ∙ t)
+          by_case : ((j ≡ k) × (y ≡ f b.old)) ⊎ (y ≡ b.old) → (x : Held L) × (slice_get nodes j ≡ Some x) × (y.node.label ≡ x.node.label) × (is_node_pending y.node ≡ true → is_node_pending x.node ≡ true)
+          by_case (inl p) = (b.old, b.at, ap (λ (z : Held L). z.node.label) p.1 ∙ calms.label b.old, λ t. calms.pending b.old (ap (λ (z : Held L). is_node_pending z.node) (sym p.1) ∙ t))
+          by_case (inr e) = (b.old, b.at, ap (λ (z : Held L). z.node.label) e, λ t. ap (λ (z : Held L). is_node_pending z.node) (sym e) ∙ t)
 
   pub change_held : ((h : Held L) → is_taken (f h).node ≡ true → is_taken h.node ≡ true) → StayHeld nodes (changed k f nodes)
   change_held keeps = record { longer = let e : length (changed k f nodes) ≡ length nodes = length-changed k f nodes in omega arith; back = λ j y at t. back j y (before_change k f nodes j y at) t }
@@ -108,20 +108,20 @@ module _ {L : Type 0} (f : Held L → Held L) (k : ℕ) (nodes : List (Held L)) 
           by_case (inr e) = (b.old, b.at, ap (λ (z : Held L). is_taken z.node) (sym e) ∙ t)
 
   -- where the changed node goes on waiting if it waited
-  pub change_fresh : (x : Held L) → slice_get nodes k ≡ Some x → (is_pending x.node ≡ true → is_pending (f x).node ≡ true) → (tickets : List Ticket) → IsFresh nodes tickets → IsFresh (changed k f nodes) tickets
+  pub change_fresh : (x : Held L) → slice_get nodes k ≡ Some x → (is_node_pending x.node ≡ true → is_node_pending (f x).node ≡ true) → (tickets : List Ticket) → IsFresh nodes tickets → IsFresh (changed k f nodes) tickets
   change_fresh x at_x goes_on tickets fresh t at =
       let top = fresh t at in
       let b : After k f nodes t.0.1 top.0 = after_change k f nodes t.0.1 top.0 top.1 in
       (b.new, b.at, by_case top.0 top.1 top.2 b.new b.is)
     where
-      by_case : (y : Held L) → slice_get nodes t.0.1 ≡ Some y → is_pending y.node ≡ true → (z : Held L) → ((t.0.1 ≡ k) × (z ≡ f y)) ⊎ (z ≡ y) → is_pending z.node ≡ true
+      by_case : (y : Held L) → slice_get nodes t.0.1 ≡ Some y → is_node_pending y.node ≡ true → (z : Held L) → ((t.0.1 ≡ k) × (z ≡ f y)) ⊎ (z ≡ y) → is_node_pending z.node ≡ true
       by_case y at_y p z (inl q) =
           let same : x ≡ y = same_Some x y (sym at_x ∙ (ap (λ j. slice_get nodes j) (sym q.0) ∙ at_y)) in
-          ap (λ (h : Held L). is_pending h.node) (q.1 ∙ ap f (sym same)) ∙ goes_on (ap (λ (h : Held L). is_pending h.node) same ∙ p)
-      by_case y at_y p z (inr e) = ap (λ (h : Held L). is_pending h.node) e ∙ p
+          ap (λ (h : Held L). is_node_pending h.node) (q.1 ∙ ap f (sym same)) ∙ goes_on (ap (λ (h : Held L). is_node_pending h.node) same ∙ p)
+      by_case y at_y p z (inr e) = ap (λ (h : Held L). is_node_pending h.node) e ∙ p
 
   -- an arena after a change that its lists and its queue don't see
-  pub change_arranged : (a : Algebra L) (links heads : List (Option ℕ)) (tickets : List Ticket) (taken : List ℕ) (x : Held L) → slice_get nodes k ≡ Some x → StaysKept f → Calms f → ((h : Held L) → is_taken (f h).node ≡ true → is_taken h.node ≡ true) → (is_pending x.node ≡ true → is_pending (f x).node ≡ true)
+  pub change_arranged : (a : Algebra L) (links heads : List (Option ℕ)) (tickets : List Ticket) (taken : List ℕ) (x : Held L) → slice_get nodes k ≡ Some x → StaysKept f → Calms f → ((h : Held L) → is_taken (f h).node ≡ true → is_taken h.node ≡ true) → (is_node_pending x.node ≡ true → is_node_pending (f x).node ≡ true)
       → AreArranged a nodes links heads tickets taken → AreArranged a (changed k f nodes) links heads tickets taken
   change_arranged a links heads tickets taken x at kept calms keeps goes_on ok = record {
     linked = changed_linked a f kept k nodes links heads ok.linked;
@@ -164,7 +164,7 @@ module _ {L : Type 0} (nodes : List (Held L)) (z : Held L) where
     back = λ k y lt at. by_place k y lt (at_pushed nodes z k y at);
   }
     where
-      by_place : (k : ℕ) (y : Held L) → k < length nodes → ((k < length nodes) × (slice_get nodes k ≡ Some y)) ⊎ ((k ≡ length nodes) × (y ≡ z)) → (x : Held L) × (slice_get nodes k ≡ Some x) × (y.node.label ≡ x.node.label) × (is_pending y.node ≡ true → is_pending x.node ≡ true)
+      by_place : (k : ℕ) (y : Held L) → k < length nodes → ((k < length nodes) × (slice_get nodes k ≡ Some y)) ⊎ ((k ≡ length nodes) × (y ≡ z)) → (x : Held L) × (slice_get nodes k ≡ Some x) × (y.node.label ≡ x.node.label) × (is_node_pending y.node ≡ true → is_node_pending x.node ≡ true)
       by_place k y lt (inl p) = (y, p.1, refl, λ t. t)
       by_place k y lt (inr p) = absurd (let e : k ≡ length nodes = p.0 in omega arith)
 
@@ -179,12 +179,12 @@ module _ {L : Type 0} (nodes : List (Held L)) (z : Held L) where
 module _ {L : Type 0} (a : Algebra L) (l : L) (parent deadline bound : ℕ) (xs : List (Held L)) where
   drops_calmly : (number : ℕ) (h : Held L) (b : Bool)
       → ((cond b (record h { node = record h.node { dropped_by = Some number; state = Done } }) h).node.label ≡ h.node.label)
-      × (is_pending (cond b (record h { node = record h.node { dropped_by = Some number; state = Done } }) h).node ≡ true → is_pending h.node ≡ true)
+      × (is_node_pending (cond b (record h { node = record h.node { dropped_by = Some number; state = Done } }) h).node ≡ true → is_node_pending h.node ≡ true)
       × (is_taken (cond b (record h { node = record h.node { dropped_by = Some number; state = Done } }) h).node ≡ true → is_taken h.node ≡ true)
   drops_calmly number h true = (refl, λ t. absurd (cc), λ t. absurd (cc))
   drops_calmly number h false = (refl, λ t. t, λ t. t)
 
-  drop_calms : (h : Held L) → ((drop_held a l (length xs) h).node.label ≡ h.node.label) × (is_pending (drop_held a l (length xs) h).node ≡ true → is_pending h.node ≡ true) × (is_taken (drop_held a l (length xs) h).node ≡ true → is_taken h.node ≡ true)
+  drop_calms : (h : Held L) → ((drop_held a l (length xs) h).node.label ≡ h.node.label) × (is_node_pending (drop_held a l (length xs) h).node ≡ true → is_node_pending h.node ≡ true) × (is_taken (drop_held a l (length xs) h).node ≡ true → is_taken h.node ≡ true)
   drop_calms h = drops_calmly (length xs) h (is_kept h.node && a.dominates l h.node.label)
 
   added_stays : StayWaiting xs (map (drop_held a l (length xs)) xs ++ fresh_held l (Some parent) ∷ [])
@@ -193,8 +193,8 @@ module _ {L : Type 0} (a : Algebra L) (l : L) (parent deadline bound : ℕ) (xs 
     back = λ k y lt at. by_place k y lt (before_push (drop_held a l (length xs)) xs (fresh_held l (Some parent)) k y at);
   }
     where
-      by_place : (k : ℕ) (y : Held L) → k < length xs → Pushed (drop_held a l (length xs)) xs (fresh_held l (Some parent)) k y → (x : Held L) × (slice_get xs k ≡ Some x) × (y.node.label ≡ x.node.label) × (is_pending y.node ≡ true → is_pending x.node ≡ true)
-      by_place k y lt (earlier x at e less) = (x, at, ap (λ (h : Held L). h.node.label) e ∙ (drop_calms x).0, λ t. (drop_calms x).1 (ap (λ (h : Held L). is_pending h.node) (sym e) ∙ t))
+      by_place : (k : ℕ) (y : Held L) → k < length xs → Pushed (drop_held a l (length xs)) xs (fresh_held l (Some parent)) k y → (x : Held L) × (slice_get xs k ≡ Some x) × (y.node.label ≡ x.node.label) × (is_node_pending y.node ≡ true → is_node_pending x.node ≡ true)
+      by_place k y lt (earlier x at e less) = (x, at, ap (λ (h : Held L). h.node.label) e ∙ (drop_calms x).0, λ t. (drop_calms x).1 (ap (λ (h : Held L). is_node_pending h.node) (sym e) ∙ t))
       by_place k y lt (last e is) = absurd (omega arith)
 
   length-added : length (map (drop_held a l (length xs)) xs ++ fresh_held l (Some parent) ∷ []) ≡ length xs + 1
@@ -260,18 +260,18 @@ done_not : (b : Bool) → false ≡ true → b ≡ true
 done_not b e = absurd (cc)
 
 take_calms : {L : Type 0} (w : ℕ) → Calms {L = L} (take_by w)
-take_calms w = record { label = λ h. refl; pending = λ h t. done_not (is_pending h.node) t }
+take_calms w = record { label = λ h. refl; pending = λ h t. done_not (is_node_pending h.node) t }
 
 pub close_calms : {L : Type 0} → Calms {L = L} close_node
-close_calms = record { label = λ h. refl; pending = λ h t. done_not (is_pending h.node) t }
+close_calms = record { label = λ h. refl; pending = λ h t. done_not (is_node_pending h.node) t }
 
 pub close_keeps : {L : Type 0} (h : Held L) → is_taken (close_node h).node ≡ true → is_taken h.node ≡ true
 close_keeps h t = done_not (is_taken h.node) t
 
 -- taking the next node
-module _ {L : Type 0} (a : Algebra L) (nodes : List (Held L)) (links heads : List (Option ℕ)) (tickets : List Ticket) (taken : List ℕ) (ok : AreArranged a nodes links heads tickets taken) (id w : ℕ) (next : Some id ≡ earliest (λ (h : Held L). is_pending h.node) (held_offset a) nodes) where
-  found : Earliest (λ (h : Held L). is_pending h.node) (held_offset a) nodes id
-  found = found_earliest (λ (h : Held L). is_pending h.node) (held_offset a) nodes id (sym next)
+module _ {L : Type 0} (a : Algebra L) (nodes : List (Held L)) (links heads : List (Option ℕ)) (tickets : List Ticket) (taken : List ℕ) (ok : AreArranged a nodes links heads tickets taken) (id w : ℕ) (next : Some id ≡ earliest (λ (h : Held L). is_node_pending h.node) (held_offset a) nodes) where
+  found : Earliest (λ (h : Held L). is_node_pending h.node) (held_offset a) nodes id
+  found = found_earliest (λ (h : Held L). is_node_pending h.node) (held_offset a) nodes id (sym next)
 
   pub next_within : id < length nodes
   next_within = slice_get_within nodes id found.item found.at
@@ -279,14 +279,14 @@ module _ {L : Type 0} (a : Algebra L) (nodes : List (Held L)) (links heads : Lis
   pub next_waits : 0 < length tickets
   next_waits = let c = ok.waiting.all id found.item next_within found.at found.passes in let lt : c.0 < length tickets = c.1 in omega arith
 
-  pub taken_waiting : (rest : List Ticket) (t : Ticket) → slice_get tickets 0 ≡ Some t → Some t.0.1 ≡ earliest (λ (h : Held L). is_pending h.node) (held_offset a) nodes → IsPermutation tickets (t ∷ rest) → AreWaiting a (changed id (take_by w) nodes) rest (length (changed id (take_by w) nodes))
+  pub taken_waiting : (rest : List Ticket) (t : Ticket) → slice_get tickets 0 ≡ Some t → Some t.0.1 ≡ earliest (λ (h : Held L). is_node_pending h.node) (held_offset a) nodes → IsPermutation tickets (t ∷ rest) → AreWaiting a (changed id (take_by w) nodes) rest (length (changed id (take_by w) nodes))
   taken_waiting rest t at is_next perm =
       let same : t.0.1 ≡ id = same_Some t.0.1 id (is_next ∙ sym next) in
       let here : slice_get (changed id (take_by w) nodes) t.0.1 ≡ Some (take_by w found.item) = ap (λ k. slice_get (changed id (take_by w) nodes) k) same ∙ changed_at id (take_by w) nodes found.item found.at in
       popped_ticket a (changed id (take_by w) nodes) tickets rest (length (changed id (take_by w) nodes)) t (take_by w found.item)
       (subst (λ n. AreWaiting a (changed id (take_by w) nodes) tickets n) (sym (length-changed id (take_by w) nodes)) (still_waiting a nodes (changed id (take_by w) nodes) tickets (change_stays (take_by w) id nodes (take_calms w)) ok.waiting)) here refl perm
 
-pub not_pending : {L : Type 0} (n : NodeOf L) → is_taken n ≡ true → is_pending n ≡ false
+pub not_pending : {L : Type 0} (n : NodeOf L) → is_taken n ≡ true → is_node_pending n ≡ false
 not_pending n = by_state n.state
   where
     by_state : (s : NodeState) → is_taken_state s ≡ true → is_pending_state s ≡ false
@@ -294,7 +294,7 @@ not_pending n = by_state n.state
     by_state (Taken w) t = refl
     by_state Done t = refl
 
-pub taken_not_pending : {L : Type 0} (n : NodeOf L) → is_taken n ≡ true → is_pending n ≡ true → ⊥
+pub taken_not_pending : {L : Type 0} (n : NodeOf L) → is_taken n ≡ true → is_node_pending n ≡ true → ⊥
 taken_not_pending n = by_state n.state
   where
     by_state : (s : NodeState) → is_taken_state s ≡ true → is_pending_state s ≡ true → ⊥

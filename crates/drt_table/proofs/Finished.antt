@@ -4,7 +4,7 @@ use Rattle.std.specs.Prelude.{slice_get, IsTrue, is_none}
 use Rattle.std.proofs.lemmas.Option.{same_Some, slice_get_within}
 use Rattle.drt_label.specs.Algebra.{Algebra, Laws}
 use Rattle.drt_model.specs.Digraph.{vertex_of, edge_of, out_degree}
-use Rattle.drt_table.specs.Node.{NodeOf, is_pending, is_taken, is_pending_state, is_taken_state}
+use Rattle.drt_table.specs.Node.{NodeOf, is_node_pending, is_taken, is_pending_state, is_taken_state}
 use Rattle.drt_table.specs.declared.node.NodeState.{NodeState}
 use Rattle.drt_table.specs.declared.node.NodeState.TheVariants.{Pending, Taken, Done}
 use Rattle.drt_table.specs.Machine.{Setting, State, opening_label, in_range, extended, offset, next, holder, is_finished}
@@ -92,4 +92,4 @@ run_front a laws t takes s facts h =
     let no_pending : next a t s.nodes ≡ None = none_of (next a t s.nodes) (and_left (is_none (next a t s.nodes)) (is_none (holder a t s.nodes)) h) in
     let no_taken : holder a t s.nodes ≡ None = none_of (holder a t s.nodes) (and_right (is_none (next a t s.nodes)) (is_none (holder a t s.nodes)) h) in
     front a laws t takes s.nodes facts
-    (λ i n at. done_state n.state (none_earliest is_pending (offset a t) s.nodes no_pending i n at) (none_earliest is_taken (offset a t) s.nodes no_taken i n at))
+    (λ i n at. done_state n.state (none_earliest is_node_pending (offset a t) s.nodes no_pending i n at) (none_earliest is_taken (offset a t) s.nodes no_taken i n at))

@@ -5,7 +5,7 @@ use Rattle.std.proofs.lemmas.Option.{same_Some}
 use Rattle.std.proofs.lemmas.Bool.Decides.{nat_tests}
 use Rattle.drt_label.specs.Algebra.{Algebra, Laws}
 use Rattle.drt_model.specs.Digraph.{IsSoundGraph, out_degree, edge_of, vertex_of}
-use Rattle.drt_table.specs.Node.{NodeOf, is_kept, is_pending, is_taken, is_pending_state, is_taken_state, fresh}
+use Rattle.drt_table.specs.Node.{NodeOf, is_kept, is_node_pending, is_taken, is_pending_state, is_taken_state, fresh}
 use Rattle.drt_table.specs.declared.node.NodeState.{NodeState}
 use Rattle.drt_table.specs.declared.node.NodeState.TheVariants.{Pending, Taken as TakenBy, Done}
 use Rattle.drt_table.specs.declared.step.TableStep.{TableStep}
@@ -29,7 +29,7 @@ pending_is Pending e = refl
 pending_is (TakenBy w) e = absurd (cc)
 pending_is Done e = absurd (cc)
 
-pub pending_state : {L : Type 0} (n : NodeOf L) → IsTrue (is_pending n) → n.state ≡ Pending
+pub pending_state : {L : Type 0} (n : NodeOf L) → IsTrue (is_node_pending n) → n.state ≡ Pending
 pending_state n e = pending_is n.state e
 
 not_was : {L : Type 0} (a : Algebra L) (t : Setting) (n : NodeOf L) → n.state ≡ Pending → WasTaken a t n → ⊥
@@ -43,12 +43,12 @@ module _ {L : Type 0} (a : Algebra L) (t : Setting) where
   -- a node that tells no more of the order than an old one
   pub record Weaker (m old : NodeOf L) : Type 0 where
     pub label : m.label ≡ old.label
-    pub pending : IsTrue (is_pending m) → IsTrue (is_pending old)
-    pub offered : IsTrue (is_pending m) → m.offered ≡ old.offered
+    pub pending : IsTrue (is_node_pending m) → IsTrue (is_node_pending old)
+    pub offered : IsTrue (is_node_pending m) → m.offered ≡ old.offered
     pub taken : IsTrue (is_taken m) → IsTrue (is_taken old)
     pub was : WasTaken a t m → WasTaken a t old
-    pub kept : IsTrue (is_kept old) → (IsTrue (is_pending m) ⊎ IsTrue (is_taken m)) → IsTrue (is_kept m)
-    pub idle : (d : ℕ) → m.dropped_by ≡ Some d → ((e : ℕ) → old.dropped_by ≡ Some e → old.offered ≡ 0) → (IsTrue (is_pending old) → old.offered ≡ 0) → m.offered ≡ 0
+    pub kept : IsTrue (is_kept old) → (IsTrue (is_node_pending m) ⊎ IsTrue (is_taken m)) → IsTrue (is_kept m)
+    pub idle : (d : ℕ) → m.dropped_by ≡ Some d → ((e : ℕ) → old.dropped_by ≡ Some e → old.offered ≡ 0) → (IsTrue (is_node_pending old) → old.offered ≡ 0) → m.offered ≡ 0
 
   -- where a node comes from: an old one, or it is new and no earlier than any that was taken
   pub data Source (nodes : List (NodeOf L)) (i : ℕ) (m : NodeOf L) : Type 0 where
@@ -59,7 +59,7 @@ module _ {L : Type 0} (a : Algebra L) (t : Setting) where
   offset_is m n e = ap a.offset e
 
   module _ (nodes later : List (NodeOf L)) (sources : (i : ℕ) (m : NodeOf L) → slice_get later i ≡ Some m → Source nodes i m) (order : Order a t nodes) where
-    before_at : (i j : ℕ) (m n : NodeOf L) → WasTaken a t m → IsTrue (is_pending n) → Source nodes i m → Source nodes j n → offset a t m ≤ offset a t n
+    before_at : (i j : ℕ) (m n : NodeOf L) → WasTaken a t m → IsTrue (is_node_pending n) → Source nodes i m → Source nodes j n → offset a t m ≤ offset a t n
     before_at i j m n w p (old x at s) (old y bt r) =
         let h : offset a t x ≤ offset a t y = order.before_pending i j x y at bt (s.was w) (r.pending p) in
         let e : offset a t m ≡ offset a t x = offset_is m x s.label in
@@ -85,11 +85,11 @@ module _ {L : Type 0} (a : Algebra L) (t : Setting) where
     taken_at i n p (old x at s) = s.kept (order.taken_kept i x at (s.taken p)) (inr p)
     taken_at i n p (new l q e h) = ap is_kept e
 
-    pending_at : (i : ℕ) (n : NodeOf L) → IsTrue (is_pending n) → Source nodes i n → IsTrue (is_kept n)
+    pending_at : (i : ℕ) (n : NodeOf L) → IsTrue (is_node_pending n) → Source nodes i n → IsTrue (is_kept n)
     pending_at i n p (old x at s) = s.kept (order.pending_kept i x at (s.pending p)) (inl p)
     pending_at i n p (new l q e h) = ap is_kept e
 
-    idle_at : (i : ℕ) (n : NodeOf L) → IsTrue (is_pending n) → Source nodes i n → n.offered ≡ 0
+    idle_at : (i : ℕ) (n : NodeOf L) → IsTrue (is_node_pending n) → Source nodes i n → n.offered ≡ 0
     idle_at i n p (old x at s) = s.offered p ∙ order.pending_idle i x at (s.pending p)
     idle_at i n p (new l q e h) = ap (λ (z : NodeOf L). z.offered) e
 
@@ -138,7 +138,7 @@ module _ {L : Type 0} (a : Algebra L) (t : Setting) where
   counted_weaker n w e k = record {
     label = refl;
     pending = λ p. p;
-    offered = λ p. absurd (let no : is_pending n ≡ false = ap is_pending_state e in true_not_false p no);
+    offered = λ p. absurd (let no : is_node_pending n ≡ false = ap is_pending_state e in true_not_false p no);
     taken = λ p. p;
     was = λ h. h;
     kept = λ h p. h;
@@ -154,7 +154,7 @@ module _ {L : Type 0} (a : Algebra L) (t : Setting) where
 
   module _ (sound : IsSoundGraph t.graph) where
     -- a Take
-    module _ (s : State L) (w k : ℕ) (order : Order a t s.nodes) (least : Earliest is_pending (offset a t) s.nodes k) (near : (j : ℕ) (n : NodeOf L) → slice_get s.nodes j ≡ Some n → IsTrue (is_taken n) → offset a t least.item < offset a t n + separation t) where
+    module _ (s : State L) (w k : ℕ) (order : Order a t s.nodes) (least : Earliest is_node_pending (offset a t) s.nodes k) (near : (j : ℕ) (n : NodeOf L) → slice_get s.nodes j ≡ Some n → IsTrue (is_taken n) → offset a t least.item < offset a t n + separation t) where
       data New (i : ℕ) (m : NodeOf L) : Type 0 where
         this : m.label ≡ least.item.label → m.dropped_by ≡ least.item.dropped_by → m.offered ≡ least.item.offered → m.state ≡ TakenBy w → New i m
         other : slice_get s.nodes i ≡ Some m → New i m
@@ -168,10 +168,10 @@ module _ {L : Type 0} (a : Algebra L) (t : Setting) where
       new_at : (i : ℕ) (m : NodeOf L) → slice_get (changed k (λ n. record n { state = TakenBy w }) s.nodes) i ≡ Some m → New i m
       new_at i m h = let b : Before k (λ (n : NodeOf L). record n { state = TakenBy w }) s.nodes i m = before_change k (λ n. record n { state = TakenBy w }) s.nodes i m h in new_of i m b b.is
 
-      not_pending : (n : NodeOf L) → n.state ≡ TakenBy w → IsTrue (is_pending n) → ⊥
-      not_pending n e p = absurd (let no : is_pending n ≡ false = ap is_pending_state e in true_not_false p no)
+      not_pending : (n : NodeOf L) → n.state ≡ TakenBy w → IsTrue (is_node_pending n) → ⊥
+      not_pending n e p = absurd (let no : is_node_pending n ≡ false = ap is_pending_state e in true_not_false p no)
 
-      take_before : (i j : ℕ) (m n : NodeOf L) → WasTaken a t m → IsTrue (is_pending n) → New i m → New j n → offset a t m ≤ offset a t n
+      take_before : (i j : ℕ) (m n : NodeOf L) → WasTaken a t m → IsTrue (is_node_pending n) → New i m → New j n → offset a t m ≤ offset a t n
       take_before i j m n h p (this e d f g) (this e' d' f' g') = absurd (not_pending n g' p)
       take_before i j m n h p (this e d f g) (other bt) =
           let le : offset a t least.item ≤ offset a t n = least.least j n bt p in
@@ -201,11 +201,11 @@ module _ {L : Type 0} (a : Algebra L) (t : Setting) where
       take_kept i n p (this e d f g) = ap is_none d ∙ order.pending_kept k least.item least.at least.passes
       take_kept i n p (other at) = order.taken_kept i n at p
 
-      take_pending : (i : ℕ) (n : NodeOf L) → IsTrue (is_pending n) → New i n → IsTrue (is_kept n)
+      take_pending : (i : ℕ) (n : NodeOf L) → IsTrue (is_node_pending n) → New i n → IsTrue (is_kept n)
       take_pending i n p (this e d f g) = absurd (not_pending n g p)
       take_pending i n p (other at) = order.pending_kept i n at p
 
-      take_idle : (i : ℕ) (n : NodeOf L) → IsTrue (is_pending n) → New i n → n.offered ≡ 0
+      take_idle : (i : ℕ) (n : NodeOf L) → IsTrue (is_node_pending n) → New i n → n.offered ≡ 0
       take_idle i n p (this e d f g) = absurd (not_pending n g p)
       take_idle i n p (other at) = order.pending_idle i n at p
 
@@ -239,16 +239,16 @@ module _ {L : Type 0} (a : Algebra L) (t : Setting) where
     taken_order s w order None None e f = order
     taken_order s w order None (Some h) e f = cond_order (is_full a t s) _ _ order order
     taken_order s w order (Some k) None e f =
-        let x : Earliest is_pending (offset a t) s.nodes k = found_earliest is_pending (offset a t) s.nodes k e in
+        let x : Earliest is_node_pending (offset a t) s.nodes k = found_earliest is_node_pending (offset a t) s.nodes k e in
         cond_order (is_full a t s) _ _ order (takes_order s w k order x (near_none s (offset a t x.item) f))
     taken_order s w order (Some k) (Some h) e f =
-        let x : Earliest is_pending (offset a t) s.nodes k = found_earliest is_pending (offset a t) s.nodes k e in
+        let x : Earliest is_node_pending (offset a t) s.nodes k = found_earliest is_node_pending (offset a t) s.nodes k e in
         cond_order (is_full a t s) _ _ order (by_test (nat_lt (offset_at a t s.nodes k) (offset_at a t s.nodes h + separation t)) refl)
       where
         by_test : (b : Bool) → nat_lt (offset_at a t s.nodes k) (offset_at a t s.nodes h + separation t) ≡ b → Order a t (cond b (takes a t s w k) (unchanged a t s (Busy h))).state.nodes
         by_test false g = order
         by_test true g =
-            let x : Earliest is_pending (offset a t) s.nodes k = found_earliest is_pending (offset a t) s.nodes k e in
+            let x : Earliest is_node_pending (offset a t) s.nodes k = found_earliest is_node_pending (offset a t) s.nodes k e in
             takes_order s w k order x (near_some s k h x.item x.at f g)
 
     -- an Offer that adds
@@ -262,7 +262,7 @@ module _ {L : Type 0} (a : Algebra L) (t : Setting) where
           let le : a.offset l ≤ offset a t n = laws.no_later l n.label d in
           omega arith)
 
-      pub only_pending : (j : ℕ) (n : NodeOf L) → slice_get nodes j ≡ Some n → IsTrue (is_kept n) → IsTrue (a.dominates l n.label) → (c : NodeState) → n.state ≡ c → IsTrue (is_pending n)
+      pub only_pending : (j : ℕ) (n : NodeOf L) → slice_get nodes j ≡ Some n → IsTrue (is_kept n) → IsTrue (a.dominates l n.label) → (c : NodeState) → n.state ≡ c → IsTrue (is_node_pending n)
       only_pending j n bt k d Pending e = ap is_pending_state e
       only_pending j n bt k d (TakenBy w) e = absurd (not_dominated j n bt d (inl (ap is_taken_state e)))
       only_pending j n bt k d Done e = absurd (not_dominated j n bt d (inr (e, k)))
@@ -282,7 +282,7 @@ module _ {L : Type 0} (a : Algebra L) (t : Setting) where
           gone_was (inl h) = absurd (cc)
           gone_was (inr h) = absurd (let no : false ≡ true = h.1 in cc)
 
-          gone_kept : IsTrue (is_kept n) → (IsTrue (is_pending (record n { dropped_by = Some number; state = Done })) ⊎ IsTrue (is_taken (record n { dropped_by = Some number; state = Done }))) → IsTrue (is_kept (record n { dropped_by = Some number; state = Done }))
+          gone_kept : IsTrue (is_kept n) → (IsTrue (is_node_pending (record n { dropped_by = Some number; state = Done })) ⊎ IsTrue (is_taken (record n { dropped_by = Some number; state = Done }))) → IsTrue (is_kept (record n { dropped_by = Some number; state = Done }))
           gone_kept h (inl p) = absurd (let no : false ≡ true = p in cc)
           gone_kept h (inr p) = absurd (let no : false ≡ true = p in cc)
 

@@ -5,7 +5,7 @@ use Rattle.std.proofs.lemmas.Option.{none-some, same_Some}
 use Rattle.std.proofs.lemmas.Bool.Decides.{nat_tests}
 use Rattle.drt_label.specs.Algebra.{Algebra, Laws}
 use Rattle.drt_model.specs.Digraph.{IsSoundGraph, out_degree}
-use Rattle.drt_table.specs.Node.{NodeOf, is_kept, is_pending, is_taken, is_taken_state}
+use Rattle.drt_table.specs.Node.{NodeOf, is_kept, is_node_pending, is_taken, is_taken_state}
 use Rattle.drt_table.specs.declared.node.NodeState.{NodeState}
 use Rattle.drt_table.specs.declared.node.NodeState.TheVariants.{Pending, Taken as TakenBy, Done}
 use Rattle.drt_table.specs.declared.step.Entry.{Entry}
@@ -76,7 +76,7 @@ module _ {L : Type 0} (a : Algebra L) (laws : Laws a) (t : Setting) (takes_bound
   open_by : (nodes : List (NodeOf L)) (p o : Option ℕ) → Order a t nodes → next a t nodes ≡ p → holder a t nodes ≡ o → (is_none p && is_none o) ≡ false → Open nodes
   open_by nodes None None order e f h = absurd (cc)
   open_by nodes (Some k) o order e f h =
-      let x : Earliest is_pending (offset a t) nodes k = found_earliest is_pending (offset a t) nodes k e in
+      let x : Earliest is_node_pending (offset a t) nodes k = found_earliest is_node_pending (offset a t) nodes k e in
       record { number = k; node = x.item; at = x.at; kept = order.pending_kept k x.item x.at x.passes; few = let s : state_entries x.item.state ≡ 0 = ap state_entries (pending_state x.item x.passes) in omega arith }
   open_by nodes None (Some k) order e f h =
       let x : Earliest is_taken (offset a t) nodes k = found_earliest is_taken (offset a t) nodes k f in

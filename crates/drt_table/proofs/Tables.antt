@@ -6,7 +6,7 @@ use Rattle.std.proofs.lemmas.List.{length-map, map-append}
 use Rattle.std.proofs.lemmas.Option.{none-some, same_Some, slice_get-map, slice_get_within}
 use Rattle.drt_label.specs.Algebra.{Algebra, Laws}
 use Rattle.drt_model.specs.Digraph.{Digraph, IsSoundGraph, vertex_of, edge_of, out_degree}
-use Rattle.drt_table.specs.Node.{NodeOf, Held, is_kept, is_pending, is_taken, is_taken_state, fresh}
+use Rattle.drt_table.specs.Node.{NodeOf, Held, is_kept, is_node_pending, is_taken, is_taken_state, fresh}
 use Rattle.drt_table.specs.declared.node.NodeState.TheVariants.{Taken as TakenBy, Done}
 use Rattle.drt_table.specs.declared.step.TableStep.{TableStep}
 use Rattle.drt_table.specs.declared.step.TableStep.TheVariants.{Take, Offer, Close}
@@ -15,7 +15,7 @@ use Rattle.drt_table.specs.declared.step.TableReply.TheVariants.{Taken, Busy, Ad
 use Rattle.drt_table.specs.declared.step.Entry.{Entry}
 use Rattle.drt_worklist.specs.Places.{first, changed}
 use Rattle.drt_table.specs.Earliest.{earliest}
-use Rattle.drt_table.specs.Taking.{chosen, taken_node, offset_of, is_soon}
+use Rattle.drt_table.specs.Taking.{take_reply, taken_node, offset_of, is_soon}
 use Rattle.drt_table.specs.Machine.{Setting, State, Outcome, separation, in_range, extended, is_full, unchanged, logged, offset, offset_in, offset_at, next, holder, takes, taken, drop_by, dominating, added, compared, counted, offered, offered_at, step_of, CanStep, Holds, replay, IsRun, is_finished}
 use Rattle.drt_table.specs.Facts.{Facts}
 use Rattle.drt_table.specs.Links.{AreAlone}
@@ -108,7 +108,7 @@ module _ {L : Type 0} (a : Algebra L) (v : View L) where
   soon_for s (Some k) None = true
   soon_for s (Some k) (Some h) = nat_lt (offset_at a (setting_of v) s.nodes k) (offset_at a (setting_of v) s.nodes h + separation (setting_of v))
 
-  taken_is : (s : State L) (w : ℕ) (p o : Option ℕ) (b c : Bool) → is_full a (setting_of v) s ≡ b → soon_for s p o ≡ c → taken a (setting_of v) s w p o ≡ after_reply s w (chosen p o b c) (taken_node (chosen p o b c))
+  taken_is : (s : State L) (w : ℕ) (p o : Option ℕ) (b c : Bool) → is_full a (setting_of v) s ≡ b → soon_for s p o ≡ c → taken a (setting_of v) s w p o ≡ after_reply s w (take_reply p o b c) (taken_node (take_reply p o b c))
   taken_is s w None None b c e f = refl
   taken_is s w None (Some h) true c e f = ap (λ x. cond x (unchanged a (setting_of v) s Spent) (unchanged a (setting_of v) s (Busy h))) e
   taken_is s w None (Some h) false c e f = ap (λ x. cond x (unchanged a (setting_of v) s Spent) (unchanged a (setting_of v) s (Busy h))) e
@@ -138,23 +138,23 @@ module _ {L : Type 0} (a : Algebra L) (v : View L) where
 
   -- what the code found before it takes
   pub record Found-for-take (p o : Option ℕ) (b c : Bool) (r : TableReply) : Type 0 where
-    pub next_is : p ≡ earliest (λ (h : Held L). is_pending h.node) (held_offset a) v.nodes
+    pub next_is : p ≡ earliest (λ (h : Held L). is_node_pending h.node) (held_offset a) v.nodes
     pub holder_is : o ≡ earliest (λ (h : Held L). is_taken h.node) (held_offset a) v.nodes
     pub full : is_full a (setting_of v) (state_of v) ≡ b
     pub soon : c ≡ is_soon a v.nodes (separation (setting_of v)) p o
-    pub reply : r ≡ chosen p o b c
+    pub reply : r ≡ take_reply p o b c
 
   take_outcome : (w : ℕ) (p o : Option ℕ) (b c : Bool) (r : TableReply) → Found-for-take p o b c r → outcome a v w Take ≡ after_reply (state_of v) w r (taken_node r)
   take_outcome w p o b c r f =
-      ap (λ x. taken a (setting_of v) (state_of v) w x (holder a (setting_of v) (state_of v).nodes)) (earliest-map is_pending (offset a (setting_of v)) (λ (h : Held L). h.node) v.nodes ∙ sym f.next_is)
+      ap (λ x. taken a (setting_of v) (state_of v) w x (holder a (setting_of v) (state_of v).nodes)) (earliest-map is_node_pending (offset a (setting_of v)) (λ (h : Held L). h.node) v.nodes ∙ sym f.next_is)
       ∙ (ap (λ x. taken a (setting_of v) (state_of v) w p x) (earliest-map is_taken (offset a (setting_of v)) (λ (h : Held L). h.node) v.nodes ∙ sym f.holder_is)
       ∙ (taken_is (state_of v) w p o b c f.full (soon_same p o ∙ sym f.soon)
       ∙ ap (λ q. after_reply (state_of v) w q (taken_node q)) (sym f.reply)))
 
-  no_spare : (r : TableReply) (spares : List Bool) → taken_node r ≡ None → (p o : Option ℕ) (b c : Bool) → r ≡ chosen p o b c → spares_after r spares ≡ spares
+  no_spare : (r : TableReply) (spares : List Bool) → taken_node r ≡ None → (p o : Option ℕ) (b c : Bool) → r ≡ take_reply p o b c → spares_after r spares ≡ spares
   no_spare r spares e p o b c h = ap (λ q. spares_after q spares) h ∙ at_reply p o b c
     where
-      at_reply : (p o : Option ℕ) (b c : Bool) → spares_after (chosen p o b c) spares ≡ spares
+      at_reply : (p o : Option ℕ) (b c : Bool) → spares_after (take_reply p o b c) spares ≡ spares
       at_reply None None b c = refl
       at_reply None (Some h) true c = refl
       at_reply None (Some h) false c = refl
@@ -180,7 +180,7 @@ module _ {L : Type 0} (a : Algebra L) (v : View L) where
   pub taken_room : (p o : Option ℕ) (b c : Bool) (r : TableReply) (k : ℕ) → Found-for-take p o b c r → taken_node r ≡ Some k → b ≡ false
   taken_room p o b c r k f e = at_reply p o b c (ap taken_node (sym f.reply) ∙ e)
     where
-      at_reply : (p o : Option ℕ) (b c : Bool) → taken_node (chosen p o b c) ≡ Some k → b ≡ false
+      at_reply : (p o : Option ℕ) (b c : Bool) → taken_node (take_reply p o b c) ≡ Some k → b ≡ false
       at_reply p o false c h = refl
       at_reply None None true c h = absurd (none-some k h)
       at_reply None (Some j) true c h = absurd (none-some k h)
@@ -190,7 +190,7 @@ module _ {L : Type 0} (a : Algebra L) (v : View L) where
   pub taken_next : (p o : Option ℕ) (b c : Bool) (r : TableReply) (k : ℕ) → Found-for-take p o b c r → taken_node r ≡ Some k → Some k ≡ p
   taken_next p o b c r k f e = at_reply p o b c (ap taken_node (sym f.reply) ∙ e)
     where
-      at_reply : (p o : Option ℕ) (b c : Bool) → taken_node (chosen p o b c) ≡ Some k → Some k ≡ p
+      at_reply : (p o : Option ℕ) (b c : Bool) → taken_node (take_reply p o b c) ≡ Some k → Some k ≡ p
       at_reply None None b c h = absurd (none-some k h)
       at_reply None (Some j) true c h = absurd (none-some k h)
       at_reply None (Some j) false c h = absurd (none-some k h)
@@ -364,9 +364,9 @@ offer_alone {L} a laws v is id i j g h at_i at_j kept_i kept_j dom = from (befor
         (subst (λ l. IsTrue (a.dominates l c.old.node.label)) p.0 (subst (λ l. IsTrue (a.dominates g.node.label l)) q.0 dom))
 
 -- whether the table is finished, by the next node and the holder
-pub finished_is : {L : Type 0} (a : Algebra L) (v : View L) (p o : Option ℕ) → p ≡ earliest (λ (h : Held L). is_pending h.node) (held_offset a) v.nodes → o ≡ earliest (λ (h : Held L). is_taken h.node) (held_offset a) v.nodes → (is_none p && is_none o) ≡ is_finished a (setting_of v) (state_of v)
+pub finished_is : {L : Type 0} (a : Algebra L) (v : View L) (p o : Option ℕ) → p ≡ earliest (λ (h : Held L). is_node_pending h.node) (held_offset a) v.nodes → o ≡ earliest (λ (h : Held L). is_taken h.node) (held_offset a) v.nodes → (is_none p && is_none o) ≡ is_finished a (setting_of v) (state_of v)
 finished_is {L} a v p o e f =
-    ap (λ x. is_none x && is_none o) (e ∙ sym (earliest-map is_pending (offset a (setting_of v)) (λ (h : Held L). h.node) v.nodes))
+    ap (λ x. is_none x && is_none o) (e ∙ sym (earliest-map is_node_pending (offset a (setting_of v)) (λ (h : Held L). h.node) v.nodes))
     ∙ ap (λ x. is_none (next a (setting_of v) (state_of v).nodes) && is_none x) (f ∙ sym (earliest-map is_taken (offset a (setting_of v)) (λ (h : Held L). h.node) v.nodes))
 
 pub none_result : {A : Type 0} (o : Option A) (r : Bool) → is_some o ≡ not r → r ≡ is_none o

@@ -11,7 +11,7 @@ use Rattle.std.proofs.lemmas.Bool.Decides.{nat_tests}
 use Rattle.std.proofs.lemmas.List.Sorted.{Contains-permutation, IsPermutation-sym}
 use Rattle.std.proofs.lemmas.Option.{none-some, same_Some, slice_get_within, slice_get-get_or, get_or_from_slice_get}
 use Rattle.drt_label.specs.Algebra.{Algebra}
-use Rattle.drt_table.specs.Node.{Held, is_pending}
+use Rattle.drt_table.specs.Node.{Held, is_node_pending}
 use Rattle.drt_table.specs.Held.{held_offset}
 use Rattle.drt_table.specs.Earliest.{earliest}
 use Rattle.drt_table.specs.Waiting.{Ticket, ticket, ticket_cmp, AreWaiting, IsFresh, IsStale}
@@ -62,17 +62,17 @@ no_later t u h =
 
 module _ {L : Type 0} (a : Algebra L) (nodes : List (Held L)) where
   -- the first ticket is that of the next node
-  pub first_is_next : (tickets : List Ticket) → AreWaiting a nodes tickets (length nodes) → IsFresh nodes tickets → (t : Ticket) → slice_get tickets 0 ≡ Some t → IsUpperBound ticket_cmp t tickets → Some t.0.1 ≡ earliest (λ (h : Held L). is_pending h.node) (held_offset a) nodes
+  pub first_is_next : (tickets : List Ticket) → AreWaiting a nodes tickets (length nodes) → IsFresh nodes tickets → (t : Ticket) → slice_get tickets 0 ≡ Some t → IsUpperBound ticket_cmp t tickets → Some t.0.1 ≡ earliest (λ (h : Held L). is_node_pending h.node) (held_offset a) nodes
   first_is_next tickets w fresh t at bound =
       let top = fresh t at in
       let own = w.sound t (contains_at tickets 0 t at) in
       let same : own.0 ≡ top.0 = same_Some own.0 top.0 (sym own.1 ∙ top.1) in
       let offset : held_offset a top.0 ≡ t.0.0 = ap (λ (h : Held L). held_offset a h) (sym same) ∙ own.2 in
-      earliest_is (λ (h : Held L). is_pending h.node) (held_offset a) nodes t.0.1 top.0 top.1 top.2
+      earliest_is (λ (h : Held L). is_node_pending h.node) (held_offset a) nodes t.0.1 top.0 top.1 top.2
       (λ j y g p. let le : t.0.0 ≤ held_offset a y = (later j y g p).0 in omega arith)
       (λ j y lt g p. strict j y lt p (later j y g p).0 (later j y g p).1 offset (below_or_same (held_offset a y) t.0.0 (later j y g p).0))
     where
-      later : (j : ℕ) (y : Held L) → slice_get nodes j ≡ Some y → is_pending y.node ≡ true → (t.0.0 ≤ held_offset a y) × (held_offset a y ≡ t.0.0 → t.0.1 ≤ j)
+      later : (j : ℕ) (y : Held L) → slice_get nodes j ≡ Some y → is_node_pending y.node ≡ true → (t.0.0 ≤ held_offset a y) × (held_offset a y ≡ t.0.0 → t.0.1 ≤ j)
       later j y g p =
           let place = at_contains tickets (ticket (held_offset a y) j) (w.all j y (slice_get_within nodes j y g) g p) in
           no_later t (ticket (held_offset a y) j) (each_of (λ (u : Ticket). is_lt (ticket_cmp t u) ≡ false) tickets bound place.0 (ticket (held_offset a y) j) place.1)
@@ -80,15 +80,15 @@ module _ {L : Type 0} (a : Algebra L) (nodes : List (Held L)) where
       below_or_same : (m n : ℕ) → n ≤ m → (n < m) ⊎ (m ≡ n)
       below_or_same m n le = grind arith
 
-      strict : (j : ℕ) (y : Held L) → j < t.0.1 → is_pending y.node ≡ true → t.0.0 ≤ held_offset a y → (held_offset a y ≡ t.0.0 → t.0.1 ≤ j) → held_offset a (fresh t at).0 ≡ t.0.0 → (t.0.0 < held_offset a y) ⊎ (held_offset a y ≡ t.0.0) → held_offset a (fresh t at).0 < held_offset a y
+      strict : (j : ℕ) (y : Held L) → j < t.0.1 → is_node_pending y.node ≡ true → t.0.0 ≤ held_offset a y → (held_offset a y ≡ t.0.0 → t.0.1 ≤ j) → held_offset a (fresh t at).0 ≡ t.0.0 → (t.0.0 < held_offset a y) ⊎ (held_offset a y ≡ t.0.0) → held_offset a (fresh t at).0 < held_offset a y
       strict j y lt p le after offset (inl less) = omega arith
       strict j y lt p le after offset (inr e) = absurd (let no : t.0.1 ≤ j = after e in omega arith)
 
   -- where there is no ticket, no node is pending
-  pub none_is_next : (tickets : List Ticket) → AreWaiting a nodes tickets (length nodes) → length tickets ≡ 0 → None ≡ earliest (λ (h : Held L). is_pending h.node) (held_offset a) nodes
-  none_is_next tickets w empty = earliest_none (λ (h : Held L). is_pending h.node) (held_offset a) nodes (λ k y at. not_pending k y at (is_pending y.node) refl)
+  pub none_is_next : (tickets : List Ticket) → AreWaiting a nodes tickets (length nodes) → length tickets ≡ 0 → None ≡ earliest (λ (h : Held L). is_node_pending h.node) (held_offset a) nodes
+  none_is_next tickets w empty = earliest_none (λ (h : Held L). is_node_pending h.node) (held_offset a) nodes (λ k y at. not_pending k y at (is_node_pending y.node) refl)
     where
-      not_pending : (k : ℕ) (y : Held L) → slice_get nodes k ≡ Some y → (b : Bool) → is_pending y.node ≡ b → is_pending y.node ≡ false
+      not_pending : (k : ℕ) (y : Held L) → slice_get nodes k ≡ Some y → (b : Bool) → is_node_pending y.node ≡ b → is_node_pending y.node ≡ false
       not_pending k y at false e = e
       not_pending k y at true e = absurd (let c = w.all k y (slice_get_within nodes k y at) at e in let lt : c.0 < length tickets = c.1 in omega arith)
 
@@ -106,7 +106,7 @@ module _ {L : Type 0} (a : Algebra L) (nodes : List (Held L)) where
       cases_le : (j i : ℕ) → j < i + 1 → (j < i) ⊎ (i ≡ j)
       cases_le j i lt = grind arith
 
-      all : (j : ℕ) (x : Held L) → j < k + 1 → slice_get nodes j ≡ Some x → is_pending x.node ≡ true → Contains more (ticket (held_offset a x) j)
+      all : (j : ℕ) (x : Held L) → j < k + 1 → slice_get nodes j ≡ Some x → is_node_pending x.node ≡ true → Contains more (ticket (held_offset a x) j)
       all j x lt g p = Contains-permutation (ticket m k ∷ tickets) more (ticket (held_offset a x) j) perm (by_case (cases_le j k lt))
         where
           by_case : (j < k) ⊎ (k ≡ j) → Contains (ticket m k ∷ tickets) (ticket (held_offset a x) j)
@@ -116,19 +116,19 @@ module _ {L : Type 0} (a : Algebra L) (nodes : List (Held L)) where
               subst (λ (u : Ticket). Contains (ticket m k ∷ tickets) u) (ap (λ i. ticket m i) s ∙ ap (λ o. ticket o j) (e ∙ ap (λ (y : Held L). held_offset a y) same)) (contains_head (ticket m k) tickets)
 
   -- a ticket of a node that doesn't wait is gone
-  pub popped_ticket : (tickets rest : List Ticket) (number : ℕ) (t : Ticket) (h : Held L) → AreWaiting a nodes tickets number → slice_get nodes t.0.1 ≡ Some h → is_pending h.node ≡ false → IsPermutation tickets (t ∷ rest) → AreWaiting a nodes rest number
+  pub popped_ticket : (tickets rest : List Ticket) (number : ℕ) (t : Ticket) (h : Held L) → AreWaiting a nodes tickets number → slice_get nodes t.0.1 ≡ Some h → is_node_pending h.node ≡ false → IsPermutation tickets (t ∷ rest) → AreWaiting a nodes rest number
   popped_ticket tickets rest number t h w at idle perm = record { sound = sound; all = all }
     where
       sound : (u : Ticket) → Contains rest u → (x : Held L) × (slice_get nodes u.0.1 ≡ Some x) × (held_offset a x ≡ u.0.0)
       sound u c = w.sound u (Contains-permutation (t ∷ rest) tickets u (IsPermutation-sym _ _ perm) (contains_tail t rest u c))
 
-      all : (j : ℕ) (x : Held L) → j < number → slice_get nodes j ≡ Some x → is_pending x.node ≡ true → Contains rest (ticket (held_offset a x) j)
+      all : (j : ℕ) (x : Held L) → j < number → slice_get nodes j ≡ Some x → is_node_pending x.node ≡ true → Contains rest (ticket (held_offset a x) j)
       all j x lt g p = by_case (contains_cases t rest (ticket (held_offset a x) j) (Contains-permutation tickets (t ∷ rest) (ticket (held_offset a x) j) perm (w.all j x lt g p)))
         where
           by_case : (t ≡ ticket (held_offset a x) j) ⊎ Contains rest (ticket (held_offset a x) j) → Contains rest (ticket (held_offset a x) j)
           by_case (inl s) =
               let same : h ≡ x = same_Some h x (sym at ∙ (ap (λ (u : Ticket). slice_get nodes u.0.1) s ∙ g)) in
-              absurd (true_not_false p (ap (λ (y : Held L). is_pending y.node) (sym same) ∙ idle))
+              absurd (true_not_false p (ap (λ (y : Held L). is_node_pending y.node) (sym same) ∙ idle))
           by_case (inr c) = c
 
   pub popped_stale : (tickets rest : List Ticket) (number : ℕ) → AreWaiting a nodes tickets number → IsStale nodes tickets → (t : Ticket) × (slice_get tickets 0 ≡ Some t) × IsPermutation tickets (t ∷ rest) → AreWaiting a nodes rest number
@@ -139,7 +139,7 @@ module _ {L : Type 0} (a : Algebra L) (nodes : List (Held L)) where
 -- the nodes are these, with others after them; their labels stay, and none of them begins to wait
 pub record StayWaiting {L : Type 0} (nodes later : List (Held L)) : Type 0 where
   pub forth : (k : ℕ) (x : Held L) → slice_get nodes k ≡ Some x → (y : Held L) × (slice_get later k ≡ Some y) × (y.node.label ≡ x.node.label)
-  pub back : (k : ℕ) (y : Held L) → k < length nodes → slice_get later k ≡ Some y → (x : Held L) × (slice_get nodes k ≡ Some x) × (y.node.label ≡ x.node.label) × (is_pending y.node ≡ true → is_pending x.node ≡ true)
+  pub back : (k : ℕ) (y : Held L) → k < length nodes → slice_get later k ≡ Some y → (x : Held L) × (slice_get nodes k ≡ Some x) × (y.node.label ≡ x.node.label) × (is_node_pending y.node ≡ true → is_node_pending x.node ≡ true)
 
 pub still_waiting : {L : Type 0} (a : Algebra L) (nodes later : List (Held L)) (tickets : List Ticket) → StayWaiting nodes later → AreWaiting a nodes tickets (length nodes) → AreWaiting a later tickets (length nodes)
 still_waiting {L} a nodes later tickets stay w = record { sound = sound; all = all }
@@ -150,7 +150,7 @@ still_waiting {L} a nodes later tickets stay w = record { sound = sound; all = a
         let new = stay.forth t.0.1 own.0 own.1 in
         (new.0, new.1, ap (λ l. a.offset l) new.2 ∙ own.2)
 
-    all : (k : ℕ) (h : Held L) → k < length nodes → slice_get later k ≡ Some h → is_pending h.node ≡ true → Contains tickets (ticket (held_offset a h) k)
+    all : (k : ℕ) (h : Held L) → k < length nodes → slice_get later k ≡ Some h → is_node_pending h.node ≡ true → Contains tickets (ticket (held_offset a h) k)
     all k h lt at p =
         let old = stay.back k h lt at in
         subst (λ l. Contains tickets (ticket (a.offset l) k)) (sym old.2) (w.all k old.0 lt old.1 (old.3 p))

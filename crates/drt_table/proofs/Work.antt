@@ -4,7 +4,7 @@ use Rattle.std.specs.Prelude.{slice_get, IsTrue, ◌&&◌, nat_lt}
 use Rattle.std.proofs.lemmas.Option.{none-some, same_Some}
 use Rattle.drt_label.specs.Algebra.{Algebra, Laws}
 use Rattle.drt_model.specs.Digraph.{IsSoundGraph, out_degree}
-use Rattle.drt_table.specs.Node.{NodeOf, is_kept, is_pending, fresh}
+use Rattle.drt_table.specs.Node.{NodeOf, is_kept, is_node_pending, fresh}
 use Rattle.drt_table.specs.declared.node.NodeState.TheVariants.{Taken as TakenBy, Done}
 use Rattle.drt_table.specs.declared.step.TableStep.{TableStep}
 use Rattle.drt_table.specs.declared.step.TableStep.TheVariants.{Take, Offer, Close}
@@ -97,7 +97,7 @@ module _ {L : Type 0} (a : Algebra L) (laws : Laws a) (t : Setting) (takes_bound
   keeps_cond false x y p q = q
 
   module _ (s : State L) (facts : Facts a t s.nodes) (order : Order a t s.nodes) (k : Keeps s) where
-    keeps_takes : (w i : ℕ) → Earliest is_pending (offset a t) s.nodes i → Keeps (takes a t s w i).state
+    keeps_takes : (w i : ℕ) → Earliest is_node_pending (offset a t) s.nodes i → Keeps (takes a t s w i).state
     keeps_takes w i f =
         let g : NodeOf L → NodeOf L = λ n. record n { state = TakenBy w } in
         let kept : IsTrue (is_kept f.item) = order.pending_kept i f.item f.at f.passes in
@@ -108,10 +108,10 @@ module _ {L : Type 0} (a : Algebra L) (laws : Laws a) (t : Setting) (takes_bound
     keeps_taken : (w : ℕ) (p o : Option ℕ) → next a t s.nodes ≡ p → Keeps (taken a t s w p o).state
     keeps_taken w None None e = k
     keeps_taken w None (Some h) e = keeps_cond (is_full a t s) _ _ k k
-    keeps_taken w (Some i) None e = keeps_cond (is_full a t s) _ _ k (keeps_takes w i (found_earliest is_pending (offset a t) s.nodes i e))
+    keeps_taken w (Some i) None e = keeps_cond (is_full a t s) _ _ k (keeps_takes w i (found_earliest is_node_pending (offset a t) s.nodes i e))
     keeps_taken w (Some i) (Some h) e =
         keeps_cond (is_full a t s) _ _ k
-        (keeps_cond (nat_lt (offset_at a t s.nodes i) (offset_at a t s.nodes h + separation t)) (takes a t s w i) (unchanged a t s (Busy h)) (keeps_takes w i (found_earliest is_pending (offset a t) s.nodes i e)) k)
+        (keeps_cond (nat_lt (offset_at a t s.nodes i) (offset_at a t s.nodes h + separation t)) (takes a t s w i) (unchanged a t s (Busy h)) (keeps_takes w i (found_earliest is_node_pending (offset a t) s.nodes i e)) k)
 
     keeps_close : (w id : ℕ) (n : NodeOf L) → slice_get s.nodes id ≡ Some n → n.state ≡ TakenBy w → Keeps (step_of a t s w (Close id)).state
     keeps_close w id n at held =
@@ -145,7 +145,7 @@ module _ {L : Type 0} (a : Algebra L) (laws : Laws a) (t : Setting) (takes_bound
       -- a node that is dropped had no entries
       dropped_none : (j : ℕ) (m : NodeOf L) → slice_get (changed id count_one s.nodes) j ≡ Some m → IsTrue (is_kept m) → IsTrue (a.dominates l m.label) → node_entries m ≡ 0
       dropped_none j m h kept d =
-          let p : IsTrue (is_pending m) = only_pending a t sound laws (changed id count_one s.nodes) id (count_one n) (counted_at a t sound laws s e w id n at held order) (taken_is a t n w held) l later now j m h kept d m.state refl in
+          let p : IsTrue (is_node_pending m) = only_pending a t sound laws (changed id count_one s.nodes) id (count_one n) (counted_at a t sound laws s e w id n at held order) (taken_is a t n w held) l later now j m h kept d m.state refl in
           let none : m.offered ≡ 0 = now.pending_idle j m h p in
           let state : state_entries m.state ≡ 0 = ap state_entries (pending_state m p) in
           let both = kept_entries m kept in

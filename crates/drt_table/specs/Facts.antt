@@ -2,7 +2,7 @@
 use Rattle.std.specs.Prelude.{◌≡◌, ℕ, ◌+◌, ◌<◌, ◌≤◌, ◌⊎◌, IsTrue, Some, None, slice_get, List, length}
 use Rattle.drt_label.specs.Algebra.{Algebra}
 use Rattle.drt_model.specs.Digraph.{out_degree}
-use Rattle.drt_table.specs.Node.{NodeOf, is_kept, is_pending, is_taken}
+use Rattle.drt_table.specs.Node.{NodeOf, is_kept, is_node_pending, is_taken}
 use Rattle.drt_table.specs.declared.node.NodeState.TheVariants.{Done}
 use Rattle.drt_table.specs.Machine.{Setting, opening_label, in_range, extended, offset, separation}
 use Rattle.drt_table.specs.Walk.{IsWalkLabel}
@@ -65,12 +65,12 @@ module _ {L : Type 0} (a : Algebra L) (t : Setting) where
   -- What holds of the nodes after any run, as to the order in which they are taken.
   pub record Order (nodes : List (NodeOf L)) : Type 0 where
     -- the offset of each node that was taken is at most that of each pending node
-    pub before_pending : (i j : ℕ) (m n : NodeOf L) → slice_get nodes i ≡ Some m → slice_get nodes j ≡ Some n → WasTaken m → IsTrue (is_pending n) → offset a t m ≤ offset a t n
+    pub before_pending : (i j : ℕ) (m n : NodeOf L) → slice_get nodes i ≡ Some m → slice_get nodes j ≡ Some n → WasTaken m → IsTrue (is_node_pending n) → offset a t m ≤ offset a t n
     -- the offset of each node that was taken is below that of each taken node plus the least separation
     pub near_taken : (i j : ℕ) (m n : NodeOf L) → slice_get nodes i ≡ Some m → slice_get nodes j ≡ Some n → WasTaken m → IsTrue (is_taken n) → offset a t m < offset a t n + separation t
     -- each taken node is kept, and so is each pending node
     pub taken_kept : (i : ℕ) (n : NodeOf L) → slice_get nodes i ≡ Some n → IsTrue (is_taken n) → IsTrue (is_kept n)
-    pub pending_kept : (i : ℕ) (n : NodeOf L) → slice_get nodes i ≡ Some n → IsTrue (is_pending n) → IsTrue (is_kept n)
+    pub pending_kept : (i : ℕ) (n : NodeOf L) → slice_get nodes i ≡ Some n → IsTrue (is_node_pending n) → IsTrue (is_kept n)
     -- a pending node has offered nothing, and a dropped node neither: it was never taken
-    pub pending_idle : (i : ℕ) (n : NodeOf L) → slice_get nodes i ≡ Some n → IsTrue (is_pending n) → n.offered ≡ 0
+    pub pending_idle : (i : ℕ) (n : NodeOf L) → slice_get nodes i ≡ Some n → IsTrue (is_node_pending n) → n.offered ≡ 0
     pub dropped_idle : (i : ℕ) (n : NodeOf L) (d : ℕ) → slice_get nodes i ≡ Some n → n.dropped_by ≡ Some d → n.offered ≡ 0

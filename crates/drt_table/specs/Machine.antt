@@ -3,7 +3,7 @@ use Rattle.std.specs.Prelude.{◌≡◌, ℕ, suc, zero, ◌+◌, ◌<◌, nat_l
 use Rattle.drt_label.specs.Algebra.{Algebra}
 use Rattle.drt_model.specs.Digraph.{Digraph, vertex_of, edge_of, out_degree}
 use Rattle.drt_model.specs.declared.tasks.Edge.{Edge}
-use Rattle.drt_table.specs.Node.{NodeOf, is_kept, is_pending, is_taken, fresh}
+use Rattle.drt_table.specs.Node.{NodeOf, is_kept, is_node_pending, is_taken, fresh}
 use Rattle.drt_worklist.specs.Places.{first, changed}
 use Rattle.drt_worklist.specs.Runs.{replay_from as replay_by, IsRunFrom as IsRunBy}
 use Rattle.drt_table.specs.Earliest.{smaller, least_of, earliest}
@@ -91,7 +91,7 @@ module _ {L : Type 0} (a : Algebra L) (t : Setting) where
 
   -- The next node: the pending node of least offset, the least number in a tie.
   abbrev pub next : List (NodeOf L) → Option ℕ
-  next nodes = earliest is_pending offset nodes
+  next nodes = earliest is_node_pending offset nodes
 
   -- The holder: the taken node of least offset, the least number in a tie.
   abbrev pub holder : List (NodeOf L) → Option ℕ

@@ -33,8 +33,8 @@ is_taken_state (Taken w) = true
 is_taken_state Done = false
 
 -- A node is pending.
-abbrev pub is_pending : {L : Type 0} → NodeOf L → Bool
-is_pending n = is_pending_state n.state
+abbrev pub is_node_pending : {L : Type 0} → NodeOf L → Bool
+is_node_pending n = is_pending_state n.state
 
 -- A node is taken.
 abbrev pub is_taken : {L : Type 0} → NodeOf L → Bool

@@ -7,11 +7,11 @@ use Rattle.drt_table.specs.declared.step.TableReply.{TableReply}
 use Rattle.drt_table.specs.declared.step.TableReply.TheVariants.{Taken, Busy, Finished, Added, Dominated, OutOfRange, Closed, Spent}
 
 -- The reply to Take, by the next node, the holder, whether the log is full, and whether the next node is soon enough.
-abbrev pub chosen : Option ℕ → Option ℕ → Bool → Bool → TableReply
-chosen None None full soon = Finished
-chosen None (Some h) full soon = if full then Spent else Busy h
-chosen (Some k) None full soon = if full then Spent else Taken k
-chosen (Some k) (Some h) full soon = if full then Spent else if soon then Taken k else Busy h
+abbrev pub take_reply : Option ℕ → Option ℕ → Bool → Bool → TableReply
+take_reply None None full soon = Finished
+take_reply None (Some h) full soon = if full then Spent else Busy h
+take_reply (Some k) None full soon = if full then Spent else Taken k
+take_reply (Some k) (Some h) full soon = if full then Spent else if soon then Taken k else Busy h
 
 -- The node that a reply says was taken.
 abbrev pub taken_node : TableReply → Option ℕ

@@ -5,7 +5,7 @@ use Rattle.std.specs.Ordering.{nat_cmp, ordering_then}
 use Rattle.std.specs.declared.cmp.Ordering.{Ordering}
 use Rattle.std.specs.declared.cmp.Reverse.{Reverse}
 use Rattle.drt_label.specs.Algebra.{Algebra}
-use Rattle.drt_table.specs.Node.{Held, is_pending, is_taken}
+use Rattle.drt_table.specs.Node.{Held, is_node_pending, is_taken}
 use Rattle.drt_table.specs.Held.{held_offset}
 
 -- A ticket has an offset and the number of a node.
@@ -24,16 +24,16 @@ module _ {L : Type 0} (a : Algebra L) (nodes : List (Held L)) where
   -- Each ticket is that of a node, and each pending node below the number has its ticket there.
   pub record AreWaiting (tickets : List Ticket) (number : ℕ) : Type 0 where
     pub sound : (t : Ticket) → Contains tickets t → (h : Held L) × (slice_get nodes t.0.1 ≡ Some h) × (held_offset a h ≡ t.0.0)
-    pub all : (k : ℕ) (h : Held L) → k < number → slice_get nodes k ≡ Some h → is_pending h.node ≡ true → Contains tickets (ticket (held_offset a h) k)
+    pub all : (k : ℕ) (h : Held L) → k < number → slice_get nodes k ≡ Some h → is_node_pending h.node ≡ true → Contains tickets (ticket (held_offset a h) k)
 
 module _ {L : Type 0} (nodes : List (Held L)) where
   -- The first ticket, if there is one, is that of a pending node.
   abbrev pub IsFresh : List Ticket → Type 0
-  IsFresh tickets = (t : Ticket) → slice_get tickets 0 ≡ Some t → (h : Held L) × (slice_get nodes t.0.1 ≡ Some h) × (is_pending h.node ≡ true)
+  IsFresh tickets = (t : Ticket) → slice_get tickets 0 ≡ Some t → (h : Held L) × (slice_get nodes t.0.1 ≡ Some h) × (is_node_pending h.node ≡ true)
 
   -- The first ticket is that of a node that doesn't wait.
   abbrev pub IsStale : List Ticket → Type 0
-  IsStale tickets = (t : Ticket) × (slice_get tickets 0 ≡ Some t) × (h : Held L) × (slice_get nodes t.0.1 ≡ Some h) × (is_pending h.node ≡ false)
+  IsStale tickets = (t : Ticket) × (slice_get tickets 0 ≡ Some t) × (h : Held L) × (slice_get nodes t.0.1 ≡ Some h) × (is_node_pending h.node ≡ false)
 
   -- Each number is that of a node, and each taken node has its number there.
   pub record AreHeld (taken : List ℕ) : Type 0 where

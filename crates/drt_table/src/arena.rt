@@ -8,7 +8,7 @@ ghost use Rattle.drt_table.specs.Arena.{Stock, HasNodes};
 ghost use Rattle.drt_table.specs.Held.{AllOf, take_by, count_offer, close_node, hand_out, fresh_held, held_offset, drop_held, dominates_held, placed_nodes, placed_reply};
 ghost use Rattle.drt_table.specs.Links.{AreAlone};
 ghost use Rattle.drt_table.specs.KeptOrder.{IsFirstKept, IsNextKept};
-ghost use Rattle.drt_table.specs.Node.{NodeOf, Held, is_pending, is_taken, is_held_by};
+ghost use Rattle.drt_table.specs.Node.{NodeOf, Held, is_node_pending, is_taken, is_held_by};
 ghost use Rattle.drt_worklist.specs.Places.{first, changed};
 ghost use Rattle.drt_table.specs.Earliest.{earliest};
 ghost use Rattle.std.specs.Option.{ForSome};
@@ -107,7 +107,7 @@ impl<L: Label> Arena<L> {
 
     // The pending node of least offset, the least number in a tie.
     pub(crate) fn next(&self) -> Option<u32>
-        ensures { result ≡ earliest (λ h. is_pending h.node) (held_offset L.algebra) self.now.nodes }
+        ensures { result ≡ earliest (λ h. is_node_pending h.node) (held_offset L.algebra) self.now.nodes }
     {
         first_waiting(self.nodes.as_slice(), &self.queue)
     }
@@ -187,7 +187,7 @@ impl<L: Label> Arena<L> {
 
     // Lets the worker take the next node.
     pub(crate) fn take_by(&mut self, id: u32, worker: u32)
-        requires { Some id ≡ earliest (λ h. is_pending h.node) (held_offset L.algebra) self.old.nodes }
+        requires { Some id ≡ earliest (λ h. is_node_pending h.node) (held_offset L.algebra) self.old.nodes }
         ensures { HasNodes self.old self.new (changed id (take_by worker) self.old.nodes) }
     {
         self.nodes[id as usize].take_by(worker);

@@ -1,7 +1,7 @@
 //! Nodes of a table.
 
 ghost use Rattle.std.specs.Prelude.{◌≡◌, ℕ, ◌<◌, ◌^◌, ◌++◌, ◌∷◌, [], IfOk, IsTrue, true, false, Some, None};
-ghost use Rattle.drt_table.specs.Node.{Held, is_pending, is_taken, is_kept, is_held_by, fresh};
+ghost use Rattle.drt_table.specs.Node.{Held, is_node_pending, is_taken, is_kept, is_held_by, fresh};
 ghost use Rattle.drt_table.specs.Held.{take_by, count_offer, close_node, hand_out, fresh_held, held_offset, drop_held, dominates_held};
 
 use drt_label::{Label, Memory};
@@ -139,7 +139,7 @@ impl<L: Label> Node<L> {
     }
 
     pub(crate) fn is_pending(&self) -> bool
-        ensures { result ≡ is_pending self.now.node }
+        ensures { result ≡ is_node_pending self.now.node }
     {
         match self.stage {
             Stage::Pending => true,
@@ -194,7 +194,7 @@ impl<L: Label> Node<L> {
     }
 
     pub(crate) fn take_by(&mut self, worker: u32)
-        requires { is_pending self.old.node ≡ true }
+        requires { is_node_pending self.old.node ≡ true }
         ensures { self.new ≡ take_by worker self.old }
     {
         self.stage = Stage::Taken(worker);
@@ -217,7 +217,7 @@ impl<L: Label> Node<L> {
     // The label once more, made of the spare, which the node then lacks.
     pub(crate) fn hand_out(&mut self) -> L
         requires there { self.old.spare ≡ true }
-        requires taken { is_pending self.old.node ≡ false }
+        requires taken { is_node_pending self.old.node ≡ false }
         ensures node { self.new ≡ hand_out self.old }
         ensures label { result ≡ self.old.node.label }
     {

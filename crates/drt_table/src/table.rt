@@ -7,7 +7,7 @@ ghost use Rattle.drt_table.specs.Machine.{opening_state, extended};
 ghost use Rattle.drt_worklist.specs.Places.{changed};
 ghost use Rattle.drt_table.specs.Node.{NodeOf, Held, is_taken};
 ghost use Rattle.drt_table.specs.Held.{hand_out};
-ghost use Rattle.drt_table.specs.Taking.{chosen, taken_node};
+ghost use Rattle.drt_table.specs.Taking.{take_reply, taken_node};
 ghost use Rattle.drt_model.specs.Digraph.{vertex_count};
 
 use crate::arena::Arena;
@@ -231,7 +231,7 @@ fn reaches(count: u64, budget: u64) -> bool
 
 // The reply to Take, by the next node and the holder.
 fn choose(next: Option<u32>, holder: Option<u32>, full: bool, soon: bool) -> TableReply
-    ensures { result ≡ chosen next holder full soon }
+    ensures { result ≡ take_reply next holder full soon }
 {
     match (next, holder) {
         (None, None) => TableReply::Finished,

@@ -6,7 +6,7 @@ ghost use Rattle.std.specs.Prelude.{◌≡◌, ℕ, ◌+◌, ◌<◌, ◌≤◌,
 ghost use Rattle.std.specs.BinaryHeap.{IsHeap, IsUpperBound, heap_capacity, heap_items, heap_len};
 ghost use Rattle.std.specs.List.Sorted.{IsPermutation};
 ghost use Rattle.drt_table.specs.Held.{held_offset};
-ghost use Rattle.drt_table.specs.Node.{is_pending};
+ghost use Rattle.drt_table.specs.Node.{is_node_pending};
 ghost use Rattle.drt_table.specs.Earliest.{earliest};
 ghost use Rattle.drt_table.specs.Waiting.{Ticket, ticket, ticket_cmp, AreWaiting, IsFresh, IsStale};
 
@@ -23,7 +23,7 @@ pub(crate) fn first_waiting<L: Label>(nodes: &[Node<L>], queue: &Queue) -> Optio
     requires waiting { AreWaiting L.algebra nodes.now (heap_items queue.now) (length nodes.now) }
     requires fresh { IsFresh nodes.now (heap_items queue.now) }
     requires order { IsHeap ticket_cmp (heap_items queue.now) }
-    ensures { result ≡ earliest (λ h. is_pending h.node) (held_offset L.algebra) nodes.now }
+    ensures { result ≡ earliest (λ h. is_node_pending h.node) (held_offset L.algebra) nodes.now }
 {
     match queue.peek() {
         Some(Reverse((_, id))) => Some(*id),

@@ -18,7 +18,7 @@ use Rattle.drt_timeline.specs.declared.event.Event.{Event}
 use Rattle.drt_timeline.specs.declared.event.Mark.{Mark}
 use Rattle.drt_timeline.specs.declared.event.Mark.TheVariants.{Finish, Deadline, Miss, Release}
 use Rattle.drt_timeline.specs.Events.{AreEvents, Happens, IsEventBefore, IsEvent, mark_rank}
-use Rattle.drt_timeline.specs.Gathering.{deadline_events, deadline_mark, finish_events, job_events, order_cmp, order_of, release_events}
+use Rattle.drt_timeline.specs.Gathering.{deadline_events, deadline_mark, finish_events, job_events, order_cmp, event_key, release_events}
 
 -- Two events are of one kind and of one job.
 abbrev pub same_kind : Event → Event → Bool
@@ -283,7 +283,7 @@ in_order_if e f h apart =
 
 -- the sorted events are all that happen, in order
 module _ (policy : Policy) (jobs : List Job) (until : ℕ) (old new : List Event) (gathered : AreEventsBelow policy jobs until (length jobs) old)
-    (moved : IsPermutation old new) (sorted : IsSortedByKey order_of order_cmp new) where
+    (moved : IsPermutation old new) (sorted : IsSortedByKey event_key order_cmp new) where
   distinct_new : IsDistinct same_kind new
   distinct_new = IsDistinct-IsPermutation same_kind same_kind-sym old new moved gathered.distinct
 

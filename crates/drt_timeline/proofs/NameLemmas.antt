@@ -11,7 +11,7 @@ use Rattle.drt_model.specs.Schedulable.{job_of, jobs_of}
 use Rattle.drt_model.specs.Trace.{job_at}
 use Rattle.drt_model.proofs.JobLemmas.{job_at-jobs_of}
 use Rattle.drt_timeline.specs.Names.{AreIndices}
-use Rattle.drt_timeline.specs.Text.{release_at}
+use Rattle.drt_timeline.specs.Text.{release_in}
 
 -- How many of the first so many releases are of a task.
 abbrev pub count_of : List Release → ℕ → ℕ → ℕ
@@ -31,12 +31,12 @@ counts_more releases counts i x d h here so_far was t l =
     ]
 
 -- the indices so far, and one more
-pub indices_more : (releases : List Release) (indices : List ℕ) (i x : ℕ) → length indices ≡ i → x ≡ count_of releases (release_at releases i).task i
-    → ((j : ℕ) → j < i → get_or indices j 0 ≡ count_of releases (release_at releases j).task j)
-    → (j : ℕ) → j < i + 1 → get_or (indices ++ x ∷ []) j 0 ≡ count_of releases (release_at releases j).task j
+pub indices_more : (releases : List Release) (indices : List ℕ) (i x : ℕ) → length indices ≡ i → x ≡ count_of releases (release_in releases i).task i
+    → ((j : ℕ) → j < i → get_or indices j 0 ≡ count_of releases (release_in releases j).task j)
+    → (j : ℕ) → j < i + 1 → get_or (indices ++ x ∷ []) j 0 ≡ count_of releases (release_in releases j).task j
 indices_more releases indices i x long is so_far j h = elim (cases_eq (length indices) j) [
-  | inl e ↦ subst (λ k. get_or (indices ++ x ∷ []) k 0 ≡ count_of releases (release_at releases k).task k) e
-      (get_or-append_seam indices x [] 0 ∙ subst (λ k. x ≡ count_of releases (release_at releases k).task k) (sym long) is)
+  | inl e ↦ subst (λ k. get_or (indices ++ x ∷ []) k 0 ≡ count_of releases (release_in releases k).task k) e
+      (get_or-append_seam indices x [] 0 ∙ subst (λ k. x ≡ count_of releases (release_in releases k).task k) (sym long) is)
   | inr ne ↦ get_or_append_left indices (x ∷ []) 0 j (omega (arith, ne)) ∙ so_far j (omega (arith, ne))
 ]
 
@@ -49,14 +49,14 @@ count-map tasks p (r ∷ rs) =
     ∙ sym (sum_by-cons (λ x. cond (p x.task) 1 0) r rs)
 
 pub indices_are : (tasks : List Task) (releases : List Release) (indices : List ℕ) → length indices ≡ length releases
-    → ((j : ℕ) → j < length releases → get_or indices j 0 ≡ count_of releases (release_at releases j).task j) → AreIndices tasks releases indices
+    → ((j : ℕ) → j < length releases → get_or indices j 0 ≡ count_of releases (release_in releases j).task j) → AreIndices tasks releases indices
 indices_are tasks releases indices long each = record {
   as_many = long;
   each = λ j h.
-      let of : (job_at (jobs_of tasks releases) j).task ≡ (release_at releases j).task = ap (λ x. x.task) (job_at-jobs_of tasks releases j h) in
-      let same : index_of (jobs_of tasks releases) j ≡ count_by (λ job. eqb job.task (release_at releases j).task) (take j (jobs_of tasks releases))
+      let of : (job_at (jobs_of tasks releases) j).task ≡ (release_in releases j).task = ap (λ x. x.task) (job_at-jobs_of tasks releases j h) in
+      let same : index_of (jobs_of tasks releases) j ≡ count_by (λ job. eqb job.task (release_in releases j).task) (take j (jobs_of tasks releases))
       = ap (λ t. count_by (λ job. eqb job.task t) (take j (jobs_of tasks releases))) of in
-      let taken : count_by (λ job. eqb job.task (release_at releases j).task) (take j (jobs_of tasks releases)) ≡ count_of releases (release_at releases j).task j
-      = ap (count_by (λ job. eqb job.task (release_at releases j).task)) (take-map (job_of tasks) j releases) ∙ count-map tasks (λ t. eqb t (release_at releases j).task) (take j releases) in
+      let taken : count_by (λ job. eqb job.task (release_in releases j).task) (take j (jobs_of tasks releases)) ≡ count_of releases (release_in releases j).task j
+      = ap (count_by (λ job. eqb job.task (release_in releases j).task)) (take-map (job_of tasks) j releases) ∙ count-map tasks (λ t. eqb t (release_in releases j).task) (take j releases) in
       each j h ∙ sym (same ∙ taken);
 }

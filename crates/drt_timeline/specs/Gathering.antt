@@ -31,8 +31,8 @@ unfoldable pub job_events : ℕ → Job → Option ℕ → ℕ → List Event
 job_events j job finish until = finish_events j finish ++ (deadline_events j job finish until ++ release_events j job until)
 
 -- What events are sorted by: the time, the rank of the mark, and the job's place.
-abbrev pub order_of : Event → ℕ × ℕ × ℕ
-order_of e = (e.time, mark_rank e.mark, e.job)
+abbrev pub event_key : Event → ℕ × ℕ × ℕ
+event_key e = (e.time, mark_rank e.mark, e.job)
 
 -- How two such triples compare, the first numbers first.
 abbrev pub order_cmp : ℕ × ℕ × ℕ → ℕ × ℕ × ℕ → Ordering

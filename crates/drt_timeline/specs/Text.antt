@@ -26,21 +26,21 @@ policy_word Edf = codes "edf"
 policy_word Fixed = codes "fixed"
 
 -- The release at a place of a list, and past its end one of the first vertex of the first task.
-abbrev pub release_at : List Release → ℕ → Release
-release_at releases j = slice_index_or releases j (record { task = 0; vertex = 0; time = 0; need = 0 })
+abbrev pub release_in : List Release → ℕ → Release
+release_in releases j = slice_index_or releases j (record { task = 0; vertex = 0; time = 0; need = 0 })
 
 -- The name of the task of a release, and no byte where there is none.
-abbrev pub task_name : List Task → Release → List ℕ
-task_name tasks r = unwrap_or (option_map (λ t. t.name) (slice_get tasks r.task)) []
+abbrev pub name_of_task : List Task → Release → List ℕ
+name_of_task tasks r = unwrap_or (option_map (λ t. t.name) (slice_get tasks r.task)) []
 
 -- The name of the vertex of a release, and no byte where there is none.
-abbrev pub vertex_name : List Task → Release → List ℕ
-vertex_name tasks r = unwrap_or (option_map (λ v. v.name) (vertex_named tasks r)) []
+abbrev pub name_of_vertex : List Task → Release → List ℕ
+name_of_vertex tasks r = unwrap_or (option_map (λ v. v.name) (vertex_named tasks r)) []
 
 -- The fields that name the job at a place: its task, its vertex, and its index among the jobs of its task, from 0.
 abbrev pub job_fields : List Task → List Release → ℕ → List (List ℕ)
 job_fields tasks releases j =
-    task_name tasks (release_at releases j) ∷ vertex_name tasks (release_at releases j) ∷ decimal (index_of (jobs_of tasks releases) j) ∷ []
+    name_of_task tasks (release_in releases j) ∷ name_of_vertex tasks (release_in releases j) ∷ decimal (index_of (jobs_of tasks releases) j) ∷ []
 
 -- The line of an event: its mark, its time and its job.
 abbrev pub event_line : List Task → List Release → Event → List (List ℕ)
@@ -72,10 +72,10 @@ timeline_lines tasks releases (s ∷ spans) events =
     ++ span_line tasks releases s ∷ timeline_lines tasks releases spans (events_after s.start events)
 
 -- The lines above the spans and events: what the text is, and the policy.
-abbrev pub head_lines : Policy → List (List (List ℕ))
-head_lines policy = (codes "drt-timeline" ∷ codes "1" ∷ []) ∷ (codes "policy" ∷ policy_word policy ∷ []) ∷ []
+abbrev pub timeline_head_lines : Policy → List (List (List ℕ))
+timeline_head_lines policy = (codes "drt-timeline" ∷ codes "1" ∷ []) ∷ (codes "policy" ∷ policy_word policy ∷ []) ∷ []
 
 -- The text of a timeline: its head, the lines of its spans and events, and the last line.
 abbrev pub timeline_text : List Task → Policy → List Release → Timeline → List ℕ
 timeline_text tasks policy releases timeline =
-    written (head_lines policy ++ (timeline_lines tasks releases timeline.spans timeline.events ++ (codes "close" ∷ []) ∷ []))
+    written (timeline_head_lines policy ++ (timeline_lines tasks releases timeline.spans timeline.events ++ (codes "close" ∷ []) ∷ []))

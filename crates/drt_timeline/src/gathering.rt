@@ -1,7 +1,7 @@
 //! The events of jobs.
 ghost use Rattle.std.specs.Prelude.{◌≡◌, ◌++◌, IfOk, OnOk};
 ghost use Rattle.drt_timeline.specs.Events.{AreEvents};
-ghost use Rattle.drt_timeline.specs.Gathering.{deadline_events, deadline_mark, finish_events, job_events, order_of, release_events};
+ghost use Rattle.drt_timeline.specs.Gathering.{deadline_events, deadline_mark, finish_events, job_events, event_key, release_events};
 
 use crate::event::{Event, Mark};
 use drt_model::{Job, Memory};
@@ -19,7 +19,7 @@ pub fn events_of(alloc: Global, board: &Board) -> Result<Vec<Event>, Memory>
     }
     events.sort_unstable_by_key(
         |event: &Event| -> (u64, u8, usize)
-            ensures { result ≡ order_of event.now }
+            ensures { result ≡ event_key event.now }
         { order_of(event) },
     );
     Ok(events)
@@ -27,7 +27,7 @@ pub fn events_of(alloc: Global, board: &Board) -> Result<Vec<Event>, Memory>
 
 // What events are sorted by.
 fn order_of(event: &Event) -> (u64, u8, usize)
-    ensures { result ≡ order_of event.now }
+    ensures { result ≡ event_key event.now }
 {
     let mark = match event.mark {
         Mark::Finish => 0,

@@ -3,7 +3,7 @@ ghost use Rattle.std.specs.Prelude.{◌≡◌, ◌<◌, All, IfOk, length};
 ghost use Rattle.drt_model.specs.Misses.{index_of};
 ghost use Rattle.drt_model.specs.Schedulable.{jobs_of};
 ghost use Rattle.drt_timeline.specs.Names.{AreIndices};
-ghost use Rattle.drt_timeline.specs.Text.{release_at, task_name, vertex_name};
+ghost use Rattle.drt_timeline.specs.Text.{release_in, name_of_task, name_of_vertex};
 
 use drt_model::{Memory, Release, Task};
 use std::alloc::Global;
@@ -49,7 +49,7 @@ impl<'a> Names<'a> {
     /// The name of the task of a job.
     pub fn task(&self, j: usize) -> &[u8]
         requires { j < length self.now.releases }
-        ensures { result.now ≡ task_name self.now.tasks (release_at self.now.releases j) }
+        ensures { result.now ≡ name_of_task self.now.tasks (release_in self.now.releases j) }
     {
         let releases = self.releases;
         task_name(self.tasks, &releases[j])
@@ -58,7 +58,7 @@ impl<'a> Names<'a> {
     /// The name of the vertex of a job.
     pub fn vertex(&self, j: usize) -> &[u8]
         requires { j < length self.now.releases }
-        ensures { result.now ≡ vertex_name self.now.tasks (release_at self.now.releases j) }
+        ensures { result.now ≡ name_of_vertex self.now.tasks (release_in self.now.releases j) }
     {
         let releases = self.releases;
         vertex_name(self.tasks, &releases[j])
@@ -90,7 +90,7 @@ fn indices_of(alloc: Global, tasks: &[Task], releases: &[Release]) -> Result<Vec
 
 // The name of the task of a release, and no byte where there is none.
 fn task_name<'a>(tasks: &'a [Task], release: &Release) -> &'a [u8]
-    ensures { result.now ≡ task_name tasks.now release.now }
+    ensures { result.now ≡ name_of_task tasks.now release.now }
 {
     match tasks.get(release.task as usize) {
         Some(task) => task.name.as_slice(),
@@ -100,7 +100,7 @@ fn task_name<'a>(tasks: &'a [Task], release: &Release) -> &'a [u8]
 
 // The name of the vertex of a release, and no byte where there is none.
 fn vertex_name<'a>(tasks: &'a [Task], release: &Release) -> &'a [u8]
-    ensures { result.now ≡ vertex_name tasks.now release.now }
+    ensures { result.now ≡ name_of_vertex tasks.now release.now }
 {
     let Some(task) = tasks.get(release.task as usize) else {
         return &[];

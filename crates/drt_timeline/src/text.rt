@@ -2,7 +2,7 @@
 ghost use Rattle.std.specs.Prelude.{◌≡◌, ◌++◌, ◌∷◌, ◌<◌, ◌≤◌, All, IfOk, OnOk, drop, length};
 ghost use Rattle.drt_file.specs.trusted.Canonical.{written, written_line};
 ghost use Rattle.drt_model.specs.Legal.{IsLegal};
-ghost use Rattle.drt_timeline.specs.Text.{event_line, event_lines, head_lines, job_fields, mark_word, policy_word, span_line, timeline_lines, timeline_text};
+ghost use Rattle.drt_timeline.specs.Text.{event_line, event_lines, timeline_head_lines, job_fields, mark_word, policy_word, span_line, timeline_lines, timeline_text};
 ghost use Rattle.drt_timeline.specs.Printing.{IsPrintedUntil};
 
 use crate::event::{Event, Mark};
@@ -43,7 +43,7 @@ pub fn print(
 
 // Adds the lines above the spans and events.
 fn push_head(text: &mut Vec<u8>, policy: Policy) -> Result<(), Memory>
-    ensures { OnOk result (text.new.items ≡ text.old.items ++ written (head_lines policy)) }
+    ensures { OnOk result (text.new.items ≡ text.old.items ++ written (timeline_head_lines policy)) }
 {
     push_line(text, &[b"drt-timeline".as_slice(), b"1"])?;
     push_line(text, &[b"policy".as_slice(), policy_word(policy)])?;

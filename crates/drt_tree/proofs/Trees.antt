@@ -12,10 +12,10 @@ use Rattle.std.specs.declared.sync.Arc.{Arc}
 use Rattle.std.proofs.lemmas.List.Elements.{All-append, All-map}
 use Rattle.std.proofs.lemmas.List.Sorted.{All-permutation}
 use Rattle.drt_request.specs.Request.{Request}
-use Rattle.drt_tree.specs.Leaf.{leaves_of, is_before}
+use Rattle.drt_tree.specs.Leaf.{leaves_of, is_leaf_before}
 use Rattle.drt_tree.specs.declared.leaf.Leaf.{Leaf}
 use Rattle.drt_tree.specs.declared.node.Node.{Node}
-use Rattle.drt_tree.specs.Tree.{Plain, plain, IsForest, IsPair, IsUnder, Grows, HaveOneBound, children, children_of, leaves, leaves_of_node, values, LeadsToLeaf, leaf_node, leaf_steps, with_leaves}
+use Rattle.drt_tree.specs.Tree.{Plain, plain, IsForest, IsPair, IsUnder, Grows, HaveOneBound, children, node_children, leaves, leaves_of_node, node_values_in, LeadsToLeaf, leaf_node, leaf_steps, with_leaves}
 use Rattle.drt_tree.specs.Shape.{Shape, one, two, parts, pairs, root_of, Stands, IsBuilt, IsTreeAdded}
 use Rattle.drt_tree.proofs.Apart.{roots_apart}
 
@@ -72,19 +72,19 @@ node_stays : (f g : Plain) (n : ℕ) → Grows f g → n < length f.nodes → sl
 node_stays f g n a lt = ap (λ z. slice_get z n) a.nodes ∙ get_front f.nodes a.more n lt
 
 pub children_stay : (f g : Plain) (n : ℕ) → Grows f g → n < length f.nodes → children g n ≡ children f n
-children_stay f g n a lt = ap children_of (node_stays f g n a lt)
+children_stay f g n a lt = ap node_children (node_stays f g n a lt)
 
 pub leaves_stay : (f g : Plain) (n : ℕ) → Grows f g → n < length f.nodes → leaves g n ≡ leaves f n
 leaves_stay f g n a lt = ap leaves_of_node (node_stays f g n a lt)
 
-pub values_stay : (f g : Plain) (n : ℕ) → Grows f g → n < length f.pool → values g n ≡ values f n
+pub values_stay : (f g : Plain) (n : ℕ) → Grows f g → n < length f.pool → node_values_in g n ≡ node_values_in f n
 values_stay f g n a lt = ap (λ z. slice_index_or z n []) a.pool ∙ index_front [] f.pool a.functions n lt
 
 -- a node with children is there
 child_within_at : (f : Plain) (n l r : ℕ) (inside : Bool) → ltb n (length f.nodes) ≡ inside → children f n ≡ Some (l, r) → n < length f.nodes
 child_within_at f n l r true t h = grind (arith, nat_tests)
 child_within_at f n l r false t h =
-    let e : children f n ≡ None = ap children_of (past_end f.nodes n (grind (arith, nat_tests))) in
+    let e : children f n ≡ None = ap node_children (past_end f.nodes n (grind (arith, nat_tests))) in
     let p : ℕ × ℕ = (l, r) in
     absurd (none-some p (sym e ∙ h))
 
@@ -112,11 +112,11 @@ at_most_right (x ∷ xs) [] i e = absurd (let h : length xs + 1 ≡ 0 = omega ar
 at_most_right (x ∷ xs) (y ∷ ys) zero e = let h : y ≤ max x y = omega arith in h
 at_most_right (x ∷ xs) (y ∷ ys) (suc i) e = at_most_right xs ys i (omega arith)
 
-below_most : (f : Plain) (l r t : ℕ) (b : Bool) → length (values f l) ≡ length (values f r) → slice_index (values f (cond b l r)) (t - 1) ≤ slice_index (max_of (values f l) (values f r)) (t - 1)
-below_most f l r t true e = at_most_left (values f l) (values f r) (t - 1) e
-below_most f l r t false e = at_most_right (values f l) (values f r) (t - 1) e
+below_most : (f : Plain) (l r t : ℕ) (b : Bool) → length (node_values_in f l) ≡ length (node_values_in f r) → slice_index (node_values_in f (cond b l r)) (t - 1) ≤ slice_index (max_of (node_values_in f l) (node_values_in f r)) (t - 1)
+below_most f l r t true e = at_most_left (node_values_in f l) (node_values_in f r) (t - 1) e
+below_most f l r t false e = at_most_right (node_values_in f l) (node_values_in f r) (t - 1) e
 
-child_below : (f : Plain) (n l r t : ℕ) (b : Bool) → IsForest f → children f n ≡ Some (l, r) → value_at (values f (cond b l r)) t ≤ value_at (values f n) t
+child_below : (f : Plain) (n l r t : ℕ) (b : Bool) → IsForest f → children f n ≡ Some (l, r) → value_at (node_values_in f (cond b l r)) t ≤ value_at (node_values_in f n) t
 unfolding value_at
 child_below f n l r t b k h =
     let p : IsPair f n l r = k.pairs n l r h in
@@ -124,14 +124,14 @@ child_below f n l r t b k h =
     let s : length f.nodes ≡ length f.pool = k.same in
     let pl : l < n = p.left in
     let pr : r < n = p.right in
-    let e : length (values f l) ≡ length (values f r) = k.bound l r (omega arith) (omega arith) in
-    subst (λ (z : List ℕ). slice_index (values f (cond b l r)) (t - 1) ≤ slice_index z (t - 1)) (sym p.most) (below_most f l r t b e)
+    let e : length (node_values_in f l) ≡ length (node_values_in f r) = k.bound l r (omega arith) (omega arith) in
+    subst (λ (z : List ℕ). slice_index (node_values_in f (cond b l r)) (t - 1) ≤ slice_index z (t - 1)) (sym p.most) (below_most f l r t b e)
 
-pub leaf_below : (f : Plain) (n : ℕ) (turns : List Bool) (leaf t : ℕ) → IsForest f → LeadsToLeaf f n turns leaf → value_at (values f leaf) t ≤ value_at (values f n) t
-leaf_below f n [] leaf t k h = subst (λ (z : ℕ). value_at (values f z) t ≤ value_at (values f n) t) h.0 (omega arith)
+pub leaf_below : (f : Plain) (n : ℕ) (turns : List Bool) (leaf t : ℕ) → IsForest f → LeadsToLeaf f n turns leaf → value_at (node_values_in f leaf) t ≤ value_at (node_values_in f n) t
+leaf_below f n [] leaf t k h = subst (λ (z : ℕ). value_at (node_values_in f z) t ≤ value_at (node_values_in f n) t) h.0 (omega arith)
 leaf_below f n (b ∷ turns) leaf t k h =
-    let a : value_at (values f leaf) t ≤ value_at (values f (cond b h.0 h.1)) t = leaf_below f (cond b h.0 h.1) turns leaf t k h.3 in
-    let c : value_at (values f (cond b h.0 h.1)) t ≤ value_at (values f n) t = child_below f n h.0 h.1 t b k h.2 in
+    let a : value_at (node_values_in f leaf) t ≤ value_at (node_values_in f (cond b h.0 h.1)) t = leaf_below f (cond b h.0 h.1) turns leaf t k h.3 in
+    let c : value_at (node_values_in f (cond b h.0 h.1)) t ≤ value_at (node_values_in f n) t = child_below f n h.0 h.1 t b k h.2 in
     omega arith
 
 -- one leaf is a tree
@@ -151,22 +151,22 @@ built_one f low count k e w h = record {
 -- the functions of a forest with one more
 pub record Paired (f : Plain) (n l r : ℕ) (g : Plain) : Type 0 where
   pub nodes : g.nodes ≡ f.nodes ++ record { children = Some (l, r); leaves = n; walk = [] } ∷ []
-  pub pool : g.pool ≡ f.pool ++ max_of (values f l) (values f r) ∷ []
+  pub pool : g.pool ≡ f.pool ++ max_of (node_values_in f l) (node_values_in f r) ∷ []
 
 paired_grows : (f g : Plain) (n l r : ℕ) → Paired f n l r g → Grows f g
-paired_grows f g n l r p = record { more = record { children = Some (l, r); leaves = n; walk = [] } ∷ []; functions = max_of (values f l) (values f r) ∷ []; nodes = p.nodes; pool = p.pool }
+paired_grows f g n l r p = record { more = record { children = Some (l, r); leaves = n; walk = [] } ∷ []; functions = max_of (node_values_in f l) (node_values_in f r) ∷ []; nodes = p.nodes; pool = p.pool }
 
 new_node : (f g : Plain) (n l r : ℕ) → Paired f n l r g → slice_get g.nodes (length f.nodes) ≡ Some (record { children = Some (l, r); leaves = n; walk = [] })
 new_node f g n l r p = ap (λ z. slice_get z (length f.nodes)) p.nodes ∙ get_end f.nodes (record { children = Some (l, r); leaves = n; walk = [] })
 
-new_values : (f g : Plain) (n l r : ℕ) → length f.nodes ≡ length f.pool → Paired f n l r g → values g (length f.nodes) ≡ max_of (values f l) (values f r)
-new_values f g n l r e p = ap (λ z. slice_index_or z (length f.nodes) []) p.pool ∙ (ap (λ k. slice_index_or (f.pool ++ max_of (values f l) (values f r) ∷ []) k []) e ∙ index_end [] f.pool (max_of (values f l) (values f r)))
+new_values : (f g : Plain) (n l r : ℕ) → length f.nodes ≡ length f.pool → Paired f n l r g → node_values_in g (length f.nodes) ≡ max_of (node_values_in f l) (node_values_in f r)
+new_values f g n l r e p = ap (λ z. slice_index_or z (length f.nodes) []) p.pool ∙ (ap (λ k. slice_index_or (f.pool ++ max_of (node_values_in f l) (node_values_in f r) ∷ []) k []) e ∙ index_end [] f.pool (max_of (node_values_in f l) (node_values_in f r)))
 
 paired_long : (f g : Plain) (n l r : ℕ) → Paired f n l r g → length g.nodes ≡ length f.nodes + 1
 paired_long f g n l r p = ap length p.nodes ∙ length_end f.nodes (record { children = Some (l, r); leaves = n; walk = [] })
 
 paired_long_pool : (f g : Plain) (n l r : ℕ) → Paired f n l r g → length g.pool ≡ length f.pool + 1
-paired_long_pool f g n l r p = ap length p.pool ∙ length_end f.pool (max_of (values f l) (values f r))
+paired_long_pool f g n l r p = ap length p.pool ∙ length_end f.pool (max_of (node_values_in f l) (node_values_in f r))
 
 length-max_of : (xs ys : List ℕ) → length xs ≡ length ys → length (max_of xs ys) ≡ length xs
 length-max_of [] ys e = refl
@@ -187,9 +187,9 @@ pair_on : (f g : Plain) (n l r : ℕ) → Grows f g → length f.nodes ≡ lengt
 pair_on f g n l r a e w p =
     let wl : l < n = p.left in
     let wr : r < n = p.right in
-    let vl : values g l ≡ values f l = values_stay f g l a (omega arith) in
-    let vr : values g r ≡ values f r = values_stay f g r a (omega arith) in
-    let vn : values g n ≡ values f n = values_stay f g n a (omega arith) in
+    let vl : node_values_in g l ≡ node_values_in f l = values_stay f g l a (omega arith) in
+    let vr : node_values_in g r ≡ node_values_in f r = values_stay f g r a (omega arith) in
+    let vn : node_values_in g n ≡ node_values_in f n = values_stay f g n a (omega arith) in
     let cl : leaves g l ≡ leaves f l = leaves_stay f g l a (omega arith) in
     let cr : leaves g r ≡ leaves f r = leaves_stay f g r a (omega arith) in
     let cn : leaves g n ≡ leaves f n = leaves_stay f g n a w in
@@ -198,15 +198,15 @@ pair_on f g n l r a e w p =
       left = p.left;
       right = p.right;
       count = omega arith;
-      most = vn ∙ (p.most ∙ (ap (λ z. max_of z (values f r)) (sym vl) ∙ ap (λ z. max_of (values g l) z) (sym vr)));
+      most = vn ∙ (p.most ∙ (ap (λ z. max_of z (node_values_in f r)) (sym vl) ∙ ap (λ z. max_of (node_values_in g l) z) (sym vr)));
     }
 
 pair_new : (f g : Plain) (n l r : ℕ) → IsForest f → Paired f n l r g → l < length f.nodes → r < length f.nodes → n ≡ leaves f l + leaves f r → IsPair g (length f.nodes) l r
 pair_new f g n l r k p wl wr e =
     let a : Grows f g = paired_grows f g n l r p in
     let s : length f.nodes ≡ length f.pool = k.same in
-    let vl : values g l ≡ values f l = values_stay f g l a (omega arith) in
-    let vr : values g r ≡ values f r = values_stay f g r a (omega arith) in
+    let vl : node_values_in g l ≡ node_values_in f l = values_stay f g l a (omega arith) in
+    let vr : node_values_in g r ≡ node_values_in f r = values_stay f g r a (omega arith) in
     let cl : leaves g l ≡ leaves f l = leaves_stay f g l a wl in
     let cr : leaves g r ≡ leaves f r = leaves_stay f g r a wr in
     let cn : leaves g (length f.nodes) ≡ n = ap leaves_of_node (new_node f g n l r p) in
@@ -214,7 +214,7 @@ pair_new f g n l r k p wl wr e =
       left = wl;
       right = wr;
       count = omega arith;
-      most = new_values f g n l r s p ∙ (ap (λ z. max_of z (values f r)) (sym vl) ∙ ap (λ z. max_of (values g l) z) (sym vr));
+      most = new_values f g n l r s p ∙ (ap (λ z. max_of z (node_values_in f r)) (sym vl) ∙ ap (λ z. max_of (node_values_in g l) z) (sym vr));
     }
 
 paired_pair : (f g : Plain) (n l r : ℕ) → IsForest f → Paired f n l r g → l < length f.nodes → r < length f.nodes → n ≡ leaves f l + leaves f r → (m l2 r2 : ℕ) (old : Bool) → ltb m (length f.nodes) ≡ old → children g m ≡ Some (l2, r2) → IsPair g m l2 r2
@@ -229,7 +229,7 @@ paired_pair f g n l r k p wl wr e m l2 r2 false t h =
     let is : length f.nodes ≡ m = omega arith in
     let v : ℕ × ℕ = (l, r) in
     let v2 : ℕ × ℕ = (l2, r2) in
-    let c : children g m ≡ Some v = ap (λ z. children g z) (sym is) ∙ ap children_of (new_node f g n l r p) in
+    let c : children g m ≡ Some v = ap (λ z. children g z) (sym is) ∙ ap node_children (new_node f g n l r p) in
     let same : v ≡ v2 = same_Some v v2 (sym c ∙ h) in
     let el : l ≡ l2 = ap (λ (z : ℕ × ℕ). z.0) same in
     let er : r ≡ r2 = ap (λ (z : ℕ × ℕ). z.1) same in
@@ -244,7 +244,7 @@ paired_ones_past f g n l r p m true t late h =
     let long : length g.nodes ≡ length f.nodes + 1 = paired_long f g n l r p in
     let is : length f.nodes ≡ m = omega arith in
     let v : ℕ × ℕ = (l, r) in
-    let c : children g m ≡ Some v = ap (λ z. children g z) (sym is) ∙ ap children_of (new_node f g n l r p) in
+    let c : children g m ≡ Some v = ap (λ z. children g z) (sym is) ∙ ap node_children (new_node f g n l r p) in
     absurd (none-some v (sym h ∙ c))
 paired_ones_past f g n l r p m false t late h = ap leaves_of_node (past_end g.nodes m (grind (arith, nat_tests)))
 
@@ -255,7 +255,7 @@ paired_ones f g n l r k p m true t h =
     leaves_stay f g m a w ∙ k.ones m (sym (children_stay f g m a w) ∙ h)
 paired_ones f g n l r k p m false t h = paired_ones_past f g n l r p m (ltb m (length g.nodes)) refl (grind (arith, nat_tests)) h
 
-paired_bound : (f g : Plain) (n l r : ℕ) → IsForest f → Paired f n l r g → l < length f.nodes → r < length f.nodes → (m : ℕ) (old : Bool) → ltb m (length f.pool) ≡ old → m < length g.pool → length (values g m) ≡ length (values f l)
+paired_bound : (f g : Plain) (n l r : ℕ) → IsForest f → Paired f n l r g → l < length f.nodes → r < length f.nodes → (m : ℕ) (old : Bool) → ltb m (length f.pool) ≡ old → m < length g.pool → length (node_values_in g m) ≡ length (node_values_in f l)
 paired_bound f g n l r k p wl wr m true t w =
     let a : Grows f g = paired_grows f g n l r p in
     let s : length f.nodes ≡ length f.pool = k.same in
@@ -266,7 +266,7 @@ paired_bound f g n l r k p wl wr m false t w =
     let late : length f.pool ≤ m = grind (arith, nat_tests) in
     let long : length g.pool ≡ length f.pool + 1 = paired_long_pool f g n l r p in
     let is : m ≡ length f.nodes = omega arith in
-    ap (λ z. length (values g z)) is ∙ (ap length (new_values f g n l r s p) ∙ length-max_of (values f l) (values f r) (k.bound l r (omega arith) (omega arith)))
+    ap (λ z. length (node_values_in g z)) is ∙ (ap length (new_values f g n l r s p) ∙ length-max_of (node_values_in f l) (node_values_in f r) (k.bound l r (omega arith) (omega arith)))
 
 -- a leaf under an old node of a forest that grew was under it before
 turned_within : (f : Plain) (n l r : ℕ) (b : Bool) → n < length f.nodes → IsPair f n l r → cond b l r < length f.nodes
@@ -302,7 +302,7 @@ paired_apart f g n l r k p wl wr apart m l2 r2 leaf false t h =
     let is : length f.nodes ≡ m = omega arith in
     let v : ℕ × ℕ = (l, r) in
     let v2 : ℕ × ℕ = (l2, r2) in
-    let c : children g m ≡ Some v = ap (λ z. children g z) (sym is) ∙ ap children_of (new_node f g n l r p) in
+    let c : children g m ≡ Some v = ap (λ z. children g z) (sym is) ∙ ap node_children (new_node f g n l r p) in
     let same : v ≡ v2 = same_Some v v2 (sym c ∙ h) in
     let el : l2 ≡ l = sym (ap (λ (z : ℕ × ℕ). z.0) same) in
     let er : r2 ≡ r = sym (ap (λ (z : ℕ × ℕ). z.1) same) in
@@ -351,7 +351,7 @@ built_two f a b g low count half rest l r sum le ge ga ba gb bb p =
     let rr1 : r ≡ root_of bb.shape (low + parts ba.shape) (length a.nodes) = bb.root_is ∙ ap (λ z. root_of bb.shape z (length a.nodes)) second in
     let apart : (leaf : ℕ) → IsUnder b leaf l → ¬ IsUnder b leaf r = λ leaf under other. roots_apart b ba.shape bb.shape low (length f.nodes) (length a.nodes) leaf left1 right1
     (subst (λ (z : ℕ). IsUnder b leaf z) ba.root_is under) (subst (λ (z : ℕ). IsUnder b leaf z) rr1 other) in
-    let kids : children g (length b.nodes) ≡ Some (l, r) = ap children_of (new_node b g count l r p) in
+    let kids : children g (length b.nodes) ≡ Some (l, r) = ap node_children (new_node b g count l r p) in
     let kids2 : children g (length f.nodes + pairs ba.shape + pairs bb.shape) ≡ Some (root_of ba.shape low (length f.nodes), root_of bb.shape (low + parts ba.shape) (length f.nodes + pairs ba.shape)) =
     ap (λ z. children g z) (sym root) ∙ (kids ∙ (ap (λ z. Some (z, r)) ba.root_is ∙ ap (λ z. Some (root_of ba.shape low (length f.nodes), z)) rr)) in
     record {
@@ -371,7 +371,7 @@ get_past : {A : Type 0} (xs ys : List A) (k : ℕ) → slice_get (xs ++ ys) (len
 get_past [] ys k = ap (λ z. slice_get ys z) (let e : 0 + k ≡ k = omega arith in e)
 get_past (x ∷ xs) ys k = ap (λ z. slice_get (x ∷ (xs ++ ys)) z) (let e : length xs + 1 + k ≡ suc (length xs + k) = omega arith in let f : length (x ∷ xs) + k ≡ suc (length xs + k) = omega arith in f) ∙ get_past xs ys k
 
-leaf_children : (ls : List Leaf) (k : ℕ) → children_of (slice_get (map leaf_node ls) k) ≡ None
+leaf_children : (ls : List Leaf) (k : ℕ) → node_children (slice_get (map leaf_node ls) k) ≡ None
 leaf_children [] k = refl
 leaf_children (l ∷ ls) zero = refl
 leaf_children (l ∷ ls) (suc k) = leaf_children ls k
@@ -388,7 +388,7 @@ pub leaves_grow : (f : Plain) (ls : List Leaf) → Grows f (with_leaves f ls)
 leaves_grow f ls = record { more = map leaf_node ls; functions = map leaf_steps ls; nodes = refl; pool = refl }
 
 pub leaf_none : (f : Plain) (ls : List Leaf) (n : ℕ) → length f.nodes ≤ n → children (with_leaves f ls) n ≡ None
-leaf_none f ls n le = ap children_of (past_node f ls n le) ∙ leaf_children ls (n - length f.nodes)
+leaf_none f ls n le = ap node_children (past_node f ls n le) ∙ leaf_children ls (n - length f.nodes)
 
 leaf_one : (f : Plain) (ls : List Leaf) (n : ℕ) → length f.nodes ≤ n → leaves (with_leaves f ls) n ≡ 1
 leaf_one f ls n le = ap leaves_of_node (past_node f ls n le) ∙ leaf_ones ls (n - length f.nodes)
@@ -462,7 +462,7 @@ if_ok_more P Q (Err e) f h = h
 pub plain_is : (nodes nodes2 : List Node) (pool pool2 : List (List ℕ)) → nodes ≡ nodes2 → pool ≡ pool2 → plain nodes pool ≡ plain nodes2 pool2
 plain_is nodes nodes2 pool pool2 a b = ap (λ z. plain z pool) a ∙ ap (λ z. plain nodes2 z) b
 
-pub added : (f p g : Plain) (ls sorted : List Leaf) (low count root : ℕ) → p ≡ with_leaves f sorted → IsPermutation ls sorted → IsSortedBy is_before sorted → low ≡ length f.nodes → count ≡ length ls → Grows p g → IsBuilt p g low count root → IsTreeAdded f g ls root
+pub added : (f p g : Plain) (ls sorted : List Leaf) (low count root : ℕ) → p ≡ with_leaves f sorted → IsPermutation ls sorted → IsSortedBy is_leaf_before sorted → low ≡ length f.nodes → count ≡ length ls → Grows p g → IsBuilt p g low count root → IsTreeAdded f g ls root
 added f p g ls sorted low count root e perm order el ec gr b =
     let b1 : IsBuilt (with_leaves f sorted) g low count root = subst (λ (z : Plain). IsBuilt z g low count root) e b in
     let b2 : IsBuilt (with_leaves f sorted) g (length f.nodes) count root = subst (λ (z : ℕ). IsBuilt (with_leaves f sorted) g z count root) el b1 in

@@ -16,8 +16,8 @@ abbrev pub leaf_cmp : Leaf → Leaf → Ordering
 leaf_cmp x y = slice_cmp nat_cmp (leaf_key x) (leaf_key y)
 
 -- A leaf comes before another one.
-abbrev pub is_before : Leaf → Leaf → Bool
-is_before x y = is_lt (leaf_cmp x y)
+abbrev pub is_leaf_before : Leaf → Leaf → Bool
+is_leaf_before x y = is_lt (leaf_cmp x y)
 
 -- The leaf at each place has the label's function and the walk at its place.
 abbrev pub leaves_of : {Z : Type 0} → List (Arc Request Z) → List (List ℕ) → List Leaf

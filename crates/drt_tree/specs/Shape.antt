@@ -2,7 +2,7 @@
 use Rattle.std.specs.Prelude.{◌≡◌, ℕ, ◌+◌, ◌<◌, ◌≤◌, None, Some, List, length}
 use Rattle.std.specs.List.Sorted.{IsPermutation, IsSortedBy}
 use Rattle.drt_tree.specs.declared.leaf.Leaf.{Leaf}
-use Rattle.drt_tree.specs.Leaf.{is_before}
+use Rattle.drt_tree.specs.Leaf.{is_leaf_before}
 use Rattle.drt_tree.specs.Tree.{Plain, Grows, IsForest, children, leaves, with_leaves}
 
 -- A tree without its functions: one leaf, or a pair of two trees.
@@ -54,6 +54,6 @@ pub record IsBuilt (f g : Plain) (low count root : ℕ) : Type 0 where
 pub record IsTreeAdded (f g : Plain) (ls : List Leaf) (root : ℕ) : Type 0 where
   pub sorted : List Leaf
   pub permutation : IsPermutation ls sorted
-  pub order : IsSortedBy is_before sorted
+  pub order : IsSortedBy is_leaf_before sorted
   pub grows : Grows (with_leaves f sorted) g
   pub built : IsBuilt (with_leaves f sorted) g (length f.nodes) (length ls) root

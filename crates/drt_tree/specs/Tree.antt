@@ -15,9 +15,9 @@ abbrev pub plain : List Node → List (List ℕ) → Plain
 plain nodes pool = record { nodes = nodes; pool = pool }
 
 -- The children that a node has, if it is there.
-abbrev pub children_of : Option Node → Option (ℕ × ℕ)
-children_of None = None
-children_of (Some n) = n.children
+abbrev pub node_children : Option Node → Option (ℕ × ℕ)
+node_children None = None
+node_children (Some n) = n.children
 
 -- The number of leaves of a node, if it is there.
 abbrev pub leaves_of_node : Option Node → ℕ
@@ -25,13 +25,13 @@ leaves_of_node None = 1
 leaves_of_node (Some n) = n.leaves
 
 -- The walk of a node, if it is there.
-abbrev pub walk_of : Option Node → List ℕ
-walk_of None = []
-walk_of (Some n) = n.walk
+abbrev pub node_walk : Option Node → List ℕ
+node_walk None = []
+node_walk (Some n) = n.walk
 
 -- The children of the node of a number.
 abbrev pub children : Plain → ℕ → Option (ℕ × ℕ)
-children f n = children_of (slice_get f.nodes n)
+children f n = node_children (slice_get f.nodes n)
 
 -- The number of leaves under the node of a number.
 abbrev pub leaves : Plain → ℕ → ℕ
@@ -39,18 +39,18 @@ leaves f n = leaves_of_node (slice_get f.nodes n)
 
 -- The walk of the leaf of a number.
 abbrev pub walk : Plain → ℕ → List ℕ
-walk f n = walk_of (slice_get f.nodes n)
+walk f n = node_walk (slice_get f.nodes n)
 
 -- The values of the node of a number at 1 to the bound.
-abbrev pub values : Plain → ℕ → List ℕ
-values f n = slice_index_or f.pool n []
+abbrev pub node_values_in : Plain → ℕ → List ℕ
+node_values_in f n = slice_index_or f.pool n []
 
 -- A pair comes after its children, has the leaves of both under it, and at each time the greater of their values.
 pub record IsPair (f : Plain) (n l r : ℕ) : Type 0 where
   pub left : l < n
   pub right : r < n
   pub count : leaves f n ≡ leaves f l + leaves f r
-  pub most : values f n ≡ max_of (values f l) (values f r)
+  pub most : node_values_in f n ≡ max_of (node_values_in f l) (node_values_in f r)
 
 -- From a node, left or right at each turn, to a leaf.
 abbrev pub LeadsToLeaf : Plain → ℕ → List Bool → ℕ → Type 0
@@ -70,7 +70,7 @@ pub record IsForest (f : Plain) : Type 0 where
   pub same : length f.nodes ≡ length f.pool
   pub pairs : (n l r : ℕ) → children f n ≡ Some (l, r) → IsPair f n l r
   pub ones : (n : ℕ) → children f n ≡ None → leaves f n ≡ 1
-  pub bound : (m n : ℕ) → m < length f.pool → n < length f.pool → length (values f m) ≡ length (values f n)
+  pub bound : (m n : ℕ) → m < length f.pool → n < length f.pool → length (node_values_in f m) ≡ length (node_values_in f n)
   pub apart : AreApart f
 
 -- One forest goes on from another one, whose nodes it has first.

@@ -4,7 +4,7 @@ ghost use Rattle.std.specs.Result.{OnErr};
 ghost use Rattle.drt_steps.specs.Values.{value_at};
 ghost use Rattle.drt_tree.specs.Leaf.{leaves_of};
 ghost use Rattle.drt_tree.specs.Shape.{IsTreeAdded};
-ghost use Rattle.drt_tree.specs.Tree.{IsForest, IsUnder, HaveOneBound, children, leaves, walk, values};
+ghost use Rattle.drt_tree.specs.Tree.{IsForest, IsUnder, HaveOneBound, children, leaves, walk, node_values_in};
 
 use crate::build::add_tree;
 use crate::node::Node;
@@ -82,7 +82,7 @@ impl Forest {
     /// The function of a node.
     pub fn steps(&self, node: u32) -> &Steps
         requires { node < length self.now.nodes }
-        ensures value { result.now ≡ values self.now node }
+        ensures value { result.now ≡ node_values_in self.now node }
         ensures forest { IsForest self.now }
     {
         &self.pool[node as usize]
@@ -110,7 +110,7 @@ impl Forest {
     pub fn all(&self) -> &[Steps]
         ensures value { result.now ≡ self.now.pool }
         ensures forest { IsForest self.now }
-        ensures below { (leaf n t : ℕ) → IsUnder self.now leaf n → value_at (values self.now leaf) t ≤ value_at (values self.now n) t }
+        ensures below { (leaf n t : ℕ) → IsUnder self.now leaf n → value_at (node_values_in self.now leaf) t ≤ value_at (node_values_in self.now n) t }
     {
         &self.pool
     }

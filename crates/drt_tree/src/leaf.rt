@@ -3,7 +3,7 @@ ghost use Rattle.std.specs.Prelude.{◌≡◌, ℕ, ◌≤◌, length, IfOk};
 ghost use Rattle.std.specs.Result.{OnOk};
 ghost use Rattle.std.specs.Ordering.{is_lt};
 ghost use Rattle.std.specs.List.Sorted.{IsPermutation, IsSortedBy};
-ghost use Rattle.drt_tree.specs.Leaf.{leaf_cmp, is_before, leaves_of};
+ghost use Rattle.drt_tree.specs.Leaf.{leaf_cmp, is_leaf_before, leaves_of};
 
 use drt_model::Row;
 use drt_request::RequestLabel;
@@ -57,7 +57,7 @@ pub fn gather(
 /// Puts the leaves in their order: by their functions from the bound down, and then by their walks.
 pub fn sort_leaves(leaves: &mut Vec<Leaf>) -> Result<(), Memory>
     ensures permutation { IsPermutation leaves.old.items leaves.new.items }
-    ensures sorted { OnOk result (IsSortedBy is_before leaves.new.items) }
+    ensures sorted { OnOk result (IsSortedBy is_leaf_before leaves.new.items) }
 {
     leaves.sort_by(
         |a: &Leaf, b: &Leaf| -> Ordering

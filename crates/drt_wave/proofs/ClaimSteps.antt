@@ -9,8 +9,8 @@ use lib.ListN.{get_elem?}
 use Rattle.atomic_table.specs.Table.{State, Me, step, keeps, Allows, Splits, Joins, opening}
 use Rattle.atomic_table.proofs.Lists.{at_snoc}
 use Rattle.drt_wave.specs.Net.{Among}
-use Rattle.drt_wave.specs.Sums.{total}
-use Rattle.drt_wave.specs.Claims.{times, fresh_claims, spent_claims, claims_left, claims_right, claims_joined, with_draw, InClaims, claimed}
+use Rattle.drt_wave.specs.Sums.{total_by}
+use Rattle.drt_wave.specs.Claims.{times, fresh_claims, spent_claims, claims_left, claims_right, claims_joined, with_draw, InClaims, claim_said}
 use Rattle.drt_wave.specs.declared.view.ClaimView.{ClaimView}
 use Rattle.drt_wave.proofs.Sums.{total-append, total-set, total-one, term_le, among_times, times_among, times_more, times-append, all_set, word_here, word_there}
 
@@ -29,7 +29,7 @@ bump_else drawn j i ne = ap (λ b. if b then drawn i + 1 else drawn i) (ne_eqb i
 
 -- where a seat draws nothing
 same_draws : (views : List ClaimView) (id : ℕ) (v w : ClaimView) (j k : ℕ) → get_elem? views id ≡ some v → w.draws ≡ v.draws
-    → total (λ u. times j k u.draws) (set views id w) ≡ total (λ u. times j k u.draws) views
+    → total_by (λ u. times j k u.draws) (set views id w) ≡ total_by (λ u. times j k u.draws) views
 same_draws views id v w j k me e = let same : times j k w.draws ≡ times j k v.draws = ap (times j k) e in omega (arith, total-set (λ (u : ClaimView). times j k u.draws) views id v w me)
 
 -- a seat with no part has drawn nothing
@@ -61,7 +61,7 @@ module _ {S : Type 0} (waves : ℕ) where
       let inside : j < length s.words = omega (arith, h.wide, ltj) in
       let drawn_of : ℕ → ℕ → ClaimView → ℕ = λ a b u. times a b u.draws in
       -- a draw that is not this one
-      let other : (a b : ℕ) → ((j ≡ a) × (t ≡ b) → ⊥) → total (drawn_of a b) (set s.views id w) ≡ total (drawn_of a b) s.views =
+      let other : (a b : ℕ) → ((j ≡ a) × (t ≡ b) → ⊥) → total_by (drawn_of a b) (set s.views id w) ≡ total_by (drawn_of a b) s.views =
       λ a b no. omega (arith, total-set (drawn_of a b) s.views id v w me, (times_more a b j t v.draws).1 no) in
       record {
         wide = length-set s.words j _ ∙ h.wide;
@@ -82,7 +82,7 @@ module _ {S : Type 0} (waves : ℕ) where
         idle = all_set IsIdle s.views id w (λ none. absurd (omega arith)) h.idle;
       }
 
-  pub claims_one : (slots id j : ℕ) (m : Me S ClaimView) → 0 < m.0.parts → j < waves → Allows Holds slots id m j (λ n. (n + 1) % 2 ^ 64) (claimed (step slots j 1 0 none) m)
+  pub claims_one : (slots id j : ℕ) (m : Me S ClaimView) → 0 < m.0.parts → j < waves → Allows Holds slots id m j (λ n. (n + 1) % 2 ^ 64) (claim_said (step slots j 1 0 none) m)
   claims_one slots id j m part ltj s h long me small =
       let v : ClaimView = m.0 in let t : ℕ = h.drawn j in (
         with_draw v j t,
@@ -96,7 +96,7 @@ module _ {S : Type 0} (waves : ℕ) where
   splits id v two s h me =
       let l : ClaimView = claims_left v in let r : ClaimView = claims_right v in let vs : List ClaimView = set s.views id l in
       let drawn_of : ℕ → ℕ → ClaimView → ℕ = λ a b u. times a b u.draws in
-      let same : (a b : ℕ) → total (drawn_of a b) (vs ++ r ∷ []) ≡ total (drawn_of a b) s.views =
+      let same : (a b : ℕ) → total_by (drawn_of a b) (vs ++ r ∷ []) ≡ total_by (drawn_of a b) s.views =
       λ a b. omega (arith, total-append (drawn_of a b) vs (r ∷ []), same_draws s.views id v l a b me refl) in
       record {
         wide = h.wide;
@@ -113,7 +113,7 @@ module _ {S : Type 0} (waves : ℕ) where
   joins id v other w part s h me ne at' =
       let b : ClaimView = claims_joined v w in let e : ClaimView = spent_claims in let vs : List ClaimView = set s.views id b in let us : List ClaimView = set vs other e in
       let drawn_of : ℕ → ℕ → ClaimView → ℕ = λ i j u. times i j u.draws in
-      let same : (i j : ℕ) → total (drawn_of i j) us ≡ total (drawn_of i j) s.views =
+      let same : (i j : ℕ) → total_by (drawn_of i j) us ≡ total_by (drawn_of i j) s.views =
       λ i j. omega (arith, total-set (drawn_of i j) s.views id v b me, total-set (drawn_of i j) vs other w e at', times-append i j w.draws v.draws) in
       record {
         wide = h.wide;

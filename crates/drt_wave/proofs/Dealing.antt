@@ -5,7 +5,7 @@ use Rattle.drt_wave.specs.declared.seat.WaveSeat.{WaveSeat}
 use Rattle.drt_wave.specs.declared.table.WaveTable.{WaveTable}
 use Rattle.drt_wave.specs.Net.{Among}
 use Rattle.drt_wave.specs.Cells.{net_of}
-use Rattle.drt_wave.specs.Seats.{parts_of, draws_of, KnowsTo, IsOfTable, IsSeatKept, Turned, IsSeatCut, IsGlued, AllExpanded, HasDrawnBelow}
+use Rattle.drt_wave.specs.Seats.{parts_held, draws_of, KnowsTo, IsOfTable, IsSeatKept, Turned, IsSeatCut, IsGlued, AllExpanded, HasDrawnBelow}
 use Rattle.drt_wave.specs.Shifts.{IsShift, IsWaveOwner}
 use Rattle.drt_wave.proofs.Going.{expanded_on, all_on, all_none, below_on}
 
@@ -67,7 +67,7 @@ module _ (t : WaveTable) (j a waves : ℕ) where
       }
 
   -- The whole seat has worked the open wave, and the next one is open.
-  pub owner_next : (s n : WaveSeat) → IsWaveOwner t j a waves s → 1024 ≤ a → j < waves → IsOfTable t n → parts_of n ≡ 1024 → AllExpanded t.plan n
+  pub owner_next : (s n : WaveSeat) → IsWaveOwner t j a waves s → 1024 ≤ a → j < waves → IsOfTable t n → parts_held n ≡ 1024 → AllExpanded t.plan n
       → HasDrawnBelow (net_of t.plan) (j + 1) n → KnowsTo (j + 1) n → IsWaveOwner t (j + 1) a waves n
   owner_next s n o whole lt of parts all drawn known = let few = o.few in record {
     work = record { of = of; parts = omega arith; known = known; all = all };

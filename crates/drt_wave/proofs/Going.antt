@@ -14,7 +14,7 @@ use Rattle.drt_wave.specs.declared.table.WaveTable.{WaveTable}
 use Rattle.drt_wave.specs.Net.{Net, Among, IsGreatestReaching}
 use Rattle.drt_wave.specs.Cells.{width, cell_at, arcs_from, net_of, IsWavePlan}
 use Rattle.drt_wave.specs.Lane.{LaneSeat}
-use Rattle.drt_wave.specs.Seats.{parts_of, draws_of, HasRaised, IsSeatKept, Turned, HasClaimed}
+use Rattle.drt_wave.specs.Seats.{parts_held, draws_of, HasRaised, IsSeatKept, Turned, HasClaimed}
 use Rattle.drt_wave.specs.Seats.{IsExpanded, AllExpanded, ExpandedTo, PassedOn, Passed, IsPast, HasDrawn, HasDrawnBelow}
 use Rattle.drt_wave.specs.Shifts.{HasWorked}
 use Rattle.drt_wave.proofs.Cells.{arc_is, cell_vertex, cell_offset, is_net}
@@ -35,7 +35,7 @@ kept_more s n o p q = record {
   raised = λ v a x h. q.raised v a x (p.raised v a x h);
 }
 
-pub kept_some : (s n : WaveSeat) → IsSeatKept s n → 0 < parts_of s → 0 < parts_of n
+pub kept_some : (s n : WaveSeat) → IsSeatKept s n → 0 < parts_held s → 0 < parts_held n
 kept_some s n k part = subst (λ x. 0 < x) (sym k.parts) part
 
 pub turned_refl : (s : WaveSeat) → Turned s s
@@ -62,11 +62,11 @@ turned_kept s n k = record {
   raised = k.raised;
 }
 
-pub turned_some : (s n : WaveSeat) → Turned s n → 0 < parts_of s → 0 < parts_of n
+pub turned_some : (s n : WaveSeat) → Turned s n → 0 < parts_held s → 0 < parts_held n
 turned_some s n t part = subst (λ x. 0 < x) (sym t.parts) part
 
 -- a number was drawn, and nothing else done
-pub drawn_turned : (s n : WaveSeat) → parts_of n ≡ parts_of s → ((j k : ℕ) → Among (j, k) (draws_of s) → Among (j, k) (draws_of n)) → n.lanes ≡ s.lanes → Turned s n
+pub drawn_turned : (s n : WaveSeat) → parts_held n ≡ parts_held s → ((j k : ℕ) → Among (j, k) (draws_of s) → Among (j, k) (draws_of n)) → n.lanes ≡ s.lanes → Turned s n
 drawn_turned s n parts draws lanes = record {
   parts = parts;
   draws = draws;
@@ -151,7 +151,7 @@ module _ (p : Plan) where
       subst (IsExpanded p s) at.2 (all i at.0 at.1 (drawn i at.0 (omega arith) at.1))
 
 -- the seat with every part has drawn one number more
-pub drawn_more : (s n : WaveSeat) (j r b : ℕ) → HasClaimed j r s n → Turned s n → parts_of s ≡ 1024 → HasDrawn j b s → HasDrawn j (b + 1) n
+pub drawn_more : (s n : WaveSeat) (j r b : ℕ) → HasClaimed j r s n → Turned s n → parts_held s ≡ 1024 → HasDrawn j b s → HasDrawn j (b + 1) n
 drawn_more s n j r b d turned whole has k lt =
     let t : ℕ = d.number in
     let low : b ≤ t = dite (dec_lt t b) (λ lt. let less = d.above t (has t lt) in absurd (omega arith)) (λ nlt. omega arith) in
@@ -160,7 +160,7 @@ drawn_more s n j r b d turned whole has k lt =
     (λ ne. turned.draws j k (d.whole whole k (omega arith)))
 
 -- it had drawn the whole wave where the number is past the end
-worked_before : (table : WaveTable) (s n : WaveSeat) (j r : ℕ) → HasClaimed j r s n → parts_of s ≡ 1024 → (net_of table.plan).size j ≤ r * 64 → HasWorked table j s
+worked_before : (table : WaveTable) (s n : WaveSeat) (j r : ℕ) → HasClaimed j r s n → parts_held s ≡ 1024 → (net_of table.plan).size j ≤ r * 64 → HasWorked table j s
 worked_before table s n j r d whole past =
     let t : ℕ = d.number in let low : r ≤ t = told_low s n j r d in record {
       blocks = t;
@@ -168,7 +168,7 @@ worked_before table s n j r d whole past =
       ended = omega arith;
     }
 
-pub worked_past : (table : WaveTable) (s n : WaveSeat) (j r : ℕ) → HasClaimed j r s n → Turned s n → parts_of s ≡ 1024 → (net_of table.plan).size j ≤ r * 64 → HasWorked table j n
+pub worked_past : (table : WaveTable) (s n : WaveSeat) (j r : ℕ) → HasClaimed j r s n → Turned s n → parts_held s ≡ 1024 → (net_of table.plan).size j ≤ r * 64 → HasWorked table j n
 worked_past table s n j r d turned whole past =
     let w = worked_before table s n j r d whole past in record {
       blocks = w.blocks;
@@ -192,7 +192,7 @@ pub below_on : (g : Net) (s n : WaveSeat) (j : ℕ) → draws_of n ≡ draws_of 
 below_on g s n j draws before i k lt few = subst (λ l. Among (i, k / 64) l) (sym draws) (before i k lt few)
 
 -- where the seat with every part drew a number past the end of a wave, each cell up to that wave was expanded
-pub past_expanded : (table : WaveTable) (s n : WaveSeat) (j r : ℕ) → HasClaimed j r s n → parts_of s ≡ 1024 → (net_of table.plan).size j ≤ r * 64 → AllExpanded table.plan s
+pub past_expanded : (table : WaveTable) (s n : WaveSeat) (j r : ℕ) → HasClaimed j r s n → parts_held s ≡ 1024 → (net_of table.plan).size j ≤ r * 64 → AllExpanded table.plan s
     → HasDrawnBelow (net_of table.plan) j s → ExpandedTo table.plan j s
 past_expanded table s n j r d whole past all before =
     expanded_to table.plan table.planned s j all (waves_more table s s j (turned_refl s) before (worked_before table s n j r d whole past))

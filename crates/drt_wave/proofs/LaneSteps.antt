@@ -9,7 +9,7 @@ use lib.Seq.{set-get_or}
 use Rattle.atomic_table.specs.Table.{State, Me, step, keeps, Allows, Splits, Joins, opening, Final, Seen}
 use Rattle.atomic_table.proofs.Lists.{at_snoc, set_here, set_else}
 use Rattle.drt_wave.specs.Net.{Net, IsNet, Among, Reaches, Reached, IsGreatestReaching}
-use Rattle.drt_wave.specs.Sums.{greatest}
+use Rattle.drt_wave.specs.Sums.{greatest_by}
 use Rattle.drt_wave.specs.Lanes.{most, fresh_lane, spent_lane, lane_left, lane_right, lane_joined, lane_raised, lane_knowing, Settled, Knows, IsRead, InLane, glanced, raises}
 use Rattle.drt_wave.specs.declared.view.LaneView.{LaneView}
 use Rattle.drt_wave.proofs.Sums.{total-append, total-set, greatest-append, greatest-set, greatest-drop, greatest_term, greatest_at, among-append}
@@ -23,7 +23,7 @@ same_pair P o x d y holds e = subst (λ (q : ℕ × ℕ). P q.0 q.1) e holds
 module _ {F : Type 0} where
   -- where a seat contributes nothing
   same_raised : (views : List (LaneView F)) (id : ℕ) (v w : LaneView F) (o : ℕ) → get_elem? views id ≡ some v → w.raised ≡ v.raised
-      → greatest (λ u. most o u.raised) (set views id w) ≡ greatest (λ u. most o u.raised) views
+      → greatest_by (λ u. most o u.raised) (set views id w) ≡ greatest_by (λ u. most o u.raised) views
   same_raised views id v w o me e =
       let same : most o w.raised ≡ most o v.raised = ap (most o) e in
       omega (arith, greatest-set (λ (u : LaneView F). most o u.raised) views id 0 v w me (omega arith))
@@ -55,9 +55,9 @@ module _ {S F : Type 0} (net : F → Net) (first count : F → ℕ) (key : F) wh
     cell_reached : (o : ℕ) → o < count key → get_or s.words o 0 ≢ 0 → Reached (net key) (first key + o) (get_or s.words o 0)
     cell_reached o lt ne =
         let most_of : LaneView F → ℕ = λ v. most o v.raised in let c : ℕ = first key + o in
-        let is : get_or s.words o 0 ≡ max ((net key).opens c) (greatest most_of s.views) = h.cell o lt in
+        let is : get_or s.words o 0 ≡ max ((net key).opens c) (greatest_by most_of s.views) = h.cell o lt in
         let within = h.within in
-        dite (dec_le (greatest most_of s.views) ((net key).opens c))
+        dite (dec_le (greatest_by most_of s.views) ((net key).opens c))
         (λ le. (zero, (omega (arith, within, lt), omega arith, omega (arith, is))))
         (λ nle.
         let at = greatest_at most_of s.views (omega arith) in
@@ -87,7 +87,7 @@ module _ {S F : Type 0} (net : F → Net) (first count : F → ℕ) (key : F) wh
   -- a step of the seat id, which goes from v to w
   moved : (s : State S (LaneView F)) (h : Holds s) (id : ℕ) (v w : LaneView F) (ws : List ℕ) → get_elem? s.views id ≡ some v
       → w.parts ≡ v.parts → length ws ≡ length s.words
-      → ((o : ℕ) → o < count key → get_or ws o 0 ≡ max ((net key).opens (first key + o)) (greatest (λ u. most o u.raised) (set s.views id w)))
+      → ((o : ℕ) → o < count key → get_or ws o 0 ≡ max ((net key).opens (first key + o)) (greatest_by (λ u. most o u.raised) (set s.views id w)))
       → Grows net first count key s.words ws → Knows net first count key ws w
       → Holds record { words = ws; homes = s.homes; views = set s.views id w }
   moved s h id v w ws me same_parts same_length cell grows mine = record {

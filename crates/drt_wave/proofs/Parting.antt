@@ -18,7 +18,7 @@ use Rattle.drt_wave.specs.Lane.{LaneSeat, IsLane, IsLaneSeat, IsClaimSeat, AreFi
 use Rattle.drt_wave.specs.Lanes.{lane_left, lane_right, lane_joined}
 use Rattle.drt_wave.specs.Claims.{claims_left, claims_right, claims_joined}
 use Rattle.drt_wave.specs.Dense.{AreBest, AreWhole}
-use Rattle.drt_wave.specs.Seats.{parts_of, draws_of, IsOfTable, IsSeatCut, IsGlued}
+use Rattle.drt_wave.specs.Seats.{parts_held, draws_of, IsOfTable, IsSeatCut, IsGlued}
 use Rattle.drt_wave.proofs.Sums.{at_inside, at_there, at_end, among-append, among_left, among_right}
 use Rattle.drt_wave.proofs.Cells.{is_net, cell_lt}
 use Rattle.drt_wave.proofs.Seating.{Found, found_at, lane_read}
@@ -164,7 +164,7 @@ module _ (t : WaveTable) (s : WaveSeat) (of : IsOfTable t s) where
           (p.0, ap (λ m. m.parts) p.1 ∙ sym (ap (λ m. m.parts) is));
     }
 
-    pub is_cut : 1 < parts_of s → left.claims.me.0 ≡ claims_left s.claims.me.0 → right.claims.me.0 ≡ claims_right s.claims.me.0 → IsSeatCut s left right
+    pub is_cut : 1 < parts_held s → left.claims.me.0 ≡ claims_left s.claims.me.0 → right.claims.me.0 ≡ claims_right s.claims.me.0 → IsSeatCut s left right
     is_cut whole is_left is_right = record {
       parts = let e = ap (λ m. m.parts) is_left in omega (arith, e);
       draws = ap (λ m. m.draws) is_left;

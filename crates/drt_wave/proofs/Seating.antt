@@ -21,7 +21,7 @@ use Rattle.drt_wave.specs.Cells.{net_of, cell_at, width, IsWavePlan}
 use Rattle.drt_wave.specs.Keys.{lane_net, lane_first, lane_count}
 use Rattle.drt_wave.specs.Lanes.{Settled, Learns}
 use Rattle.drt_wave.specs.Lane.{LaneSeat, IsLane, IsLaneSeat, IsClaimSeat}
-use Rattle.drt_wave.specs.Seats.{parts_of, HasRaised, HasNoMore, KnowsTo, IsOfTable, IsSeatKept, ExpandedTo}
+use Rattle.drt_wave.specs.Seats.{parts_held, HasRaised, HasNoMore, KnowsTo, IsOfTable, IsSeatKept, ExpandedTo}
 use Rattle.drt_wave.proofs.Cells.{cell_vertex, cell_offset}
 use Rattle.drt_wave.proofs.Sums.{at_inside, at_there}
 
@@ -39,7 +39,7 @@ pub record Found (t : WaveTable) (s : WaveSeat) (v : ℕ) (l : Lane) (y : LaneSe
   pub at_seat : get_elem? s.lanes.items v ≡ some y
   pub lane : IsLane t.plan v l
   pub sits : IsLaneSeat l y
-  pub parts : y.me.0.parts ≡ parts_of s
+  pub parts : y.me.0.parts ≡ parts_held s
 
 pub vertex_inside : (t : WaveTable) (v : ℕ) → v < vertex_count t.plan.graph → v < length t.lanes
 vertex_inside t v lt = subst (λ n. v < n) (sym t.laned.count) lt

@@ -8,51 +8,51 @@ use native.Mathlib.Decide.{dec_le, ℕ_discrete}
 use lib.ListN.{get_elem?}
 use Rattle.atomic_table.proofs.Lists.{at_set}
 use Rattle.drt_wave.specs.Net.{Among}
-use Rattle.drt_wave.specs.Sums.{total, greatest}
+use Rattle.drt_wave.specs.Sums.{total_by, greatest_by}
 use Rattle.drt_wave.specs.Claims.{times}
 use Rattle.drt_wave.specs.Lanes.{most}
 
 module _ {A : Type 0} (g : A → ℕ) where
-  pub total-append : (l m : List A) → total g (l ++ m) ≡ total g l + total g m
+  pub total-append : (l m : List A) → total_by g (l ++ m) ≡ total_by g l + total_by g m
   total-append [] m = omega arith
   total-append (x ∷ xs) m = omega (arith, total-append xs m)
 
-  pub total-set : (l : List A) (j : ℕ) (v w : A) → get_elem? l j ≡ some v → total g (set l j w) + g v ≡ total g l + g w
+  pub total-set : (l : List A) (j : ℕ) (v w : A) → get_elem? l j ≡ some v → total_by g (set l j w) + g v ≡ total_by g l + g w
   total-set [] j v w e = absurd (some-ne-none v (sym e))
   total-set (x ∷ xs) zero v w e = omega (arith, ap g (some-injective x v e))
   total-set (x ∷ xs) (suc j) v w e = omega (arith, total-set xs j v w e)
 
-  pub term_le : (l : List A) (j : ℕ) (v : A) → get_elem? l j ≡ some v → g v ≤ total g l
+  pub term_le : (l : List A) (j : ℕ) (v : A) → get_elem? l j ≡ some v → g v ≤ total_by g l
   term_le [] j v e = absurd (some-ne-none v (sym e))
   term_le (x ∷ xs) zero v e = omega (arith, ap g (some-injective x v e))
   term_le (x ∷ xs) (suc j) v e = omega (arith, term_le xs j v e)
 
-  pub total-zero : (l : List A) → ((i : ℕ) (v : A) → get_elem? l i ≡ some v → g v ≡ 0) → total g l ≡ 0
+  pub total-zero : (l : List A) → ((i : ℕ) (v : A) → get_elem? l i ≡ some v → g v ≡ 0) → total_by g l ≡ 0
   total-zero [] h = refl
   total-zero (x ∷ xs) h = omega (arith, h zero x refl, total-zero xs (λ i v e. h (suc i) v e))
 
-  pub greatest-append : (l m : List A) → greatest g (l ++ m) ≡ max (greatest g l) (greatest g m)
+  pub greatest-append : (l m : List A) → greatest_by g (l ++ m) ≡ max (greatest_by g l) (greatest_by g m)
   greatest-append [] m = omega arith
   greatest-append (x ∷ xs) m = omega (arith, greatest-append xs m)
 
   -- one of them grows to at least x
-  pub greatest-set : (l : List A) (j x : ℕ) (v w : A) → get_elem? l j ≡ some v → g w ≡ max (g v) x → greatest g (set l j w) ≡ max (greatest g l) x
+  pub greatest-set : (l : List A) (j x : ℕ) (v w : A) → get_elem? l j ≡ some v → g w ≡ max (g v) x → greatest_by g (set l j w) ≡ max (greatest_by g l) x
   greatest-set [] j x v w e h = absurd (some-ne-none v (sym e))
   greatest-set (y ∷ ys) zero x v w e h = omega (arith, ap g (some-injective y v e), h)
   greatest-set (y ∷ ys) (suc j) x v w e h = omega (arith, greatest-set ys j x v w e h)
 
-  pub greatest_term : (l : List A) (j : ℕ) (v : A) → get_elem? l j ≡ some v → g v ≤ greatest g l
+  pub greatest_term : (l : List A) (j : ℕ) (v : A) → get_elem? l j ≡ some v → g v ≤ greatest_by g l
   greatest_term [] j v e = absurd (some-ne-none v (sym e))
   greatest_term (x ∷ xs) zero v e = omega (arith, ap g (some-injective x v e))
   greatest_term (x ∷ xs) (suc j) v e = omega (arith, greatest_term xs j v e)
 
-  greatest-small : (l : List A) (j m : ℕ) (v w : A) → get_elem? l j ≡ some v → g v ≤ m → g w ≤ m → max m (greatest g (set l j w)) ≡ max m (greatest g l)
+  greatest-small : (l : List A) (j m : ℕ) (v w : A) → get_elem? l j ≡ some v → g v ≤ m → g w ≤ m → max m (greatest_by g (set l j w)) ≡ max m (greatest_by g l)
   greatest-small [] j m v w e h i = absurd (some-ne-none v (sym e))
   greatest-small (x ∷ xs) zero m v w e h i = omega (arith, ap g (some-injective x v e), h, i)
   greatest-small (x ∷ xs) (suc j) m v w e h i = omega (arith, greatest-small xs j m v w e h i)
 
   -- one of them becomes no greater than another
-  pub greatest-drop : (l : List A) (j k : ℕ) (v w u : A) → k ≢ j → get_elem? l j ≡ some v → get_elem? l k ≡ some u → g v ≤ g u → g w ≤ g u → greatest g (set l j w) ≡ greatest g l
+  pub greatest-drop : (l : List A) (j k : ℕ) (v w u : A) → k ≢ j → get_elem? l j ≡ some v → get_elem? l k ≡ some u → g v ≤ g u → g w ≤ g u → greatest_by g (set l j w) ≡ greatest_by g l
   greatest-drop [] j k v w u n e d h i = absurd (some-ne-none v (sym e))
   greatest-drop (x ∷ xs) zero zero v w u n e d h i = absurd (n refl)
   greatest-drop (x ∷ xs) zero (suc k) v w u n e d h i = omega (arith, ap g (some-injective x v e), greatest_term xs k u d, h, i)
@@ -60,17 +60,17 @@ module _ {A : Type 0} (g : A → ℕ) where
   greatest-drop (x ∷ xs) (suc j) (suc k) v w u n e d h i = omega (arith, greatest-drop xs j k v w u (λ p. n (ap suc p)) e d h i)
 
   -- some element has the greatest, where it is not 0
-  pub greatest_at : (l : List A) → greatest g l ≢ 0 → (j : ℕ) × (v : A) × (get_elem? l j ≡ some v) × (g v ≡ greatest g l)
+  pub greatest_at : (l : List A) → greatest_by g l ≢ 0 → (j : ℕ) × (v : A) × (get_elem? l j ≡ some v) × (g v ≡ greatest_by g l)
   greatest_at [] n = absurd (n refl)
-  greatest_at (x ∷ xs) n = dite (dec_le (greatest g xs) (g x))
+  greatest_at (x ∷ xs) n = dite (dec_le (greatest_by g xs) (g x))
       (λ le. (0, x, refl, omega arith))
       (λ nle. let t = greatest_at xs (omega arith) in (suc t.0, t.1, t.2, omega (arith, t.3)))
 
 -- where one has the whole of f, and g is 0 where f is, one has the whole of g
-pub total-one : {A : Type 0} (f g : A → ℕ) (l : List A) (j : ℕ) (v : A) → get_elem? l j ≡ some v → total f l ≡ f v → ((i : ℕ) (u : A) → get_elem? l i ≡ some u → f u ≡ 0 → g u ≡ 0) → total g l ≡ g v
+pub total-one : {A : Type 0} (f g : A → ℕ) (l : List A) (j : ℕ) (v : A) → get_elem? l j ≡ some v → total_by f l ≡ f v → ((i : ℕ) (u : A) → get_elem? l i ≡ some u → f u ≡ 0 → g u ≡ 0) → total_by g l ≡ g v
 total-one f g [] j v e whole h = absurd (some-ne-none v (sym e))
 total-one f g (x ∷ xs) zero v e whole h =
-    let nothing : total f xs ≡ 0 = omega (arith, ap f (some-injective x v e)) in
+    let nothing : total_by f xs ≡ 0 = omega (arith, ap f (some-injective x v e)) in
     omega (arith, ap g (some-injective x v e), total-zero g xs (λ i u at. h (suc i) u at (omega (arith, term_le f xs i u at))))
 total-one f g (x ∷ xs) (suc j) v e whole h =
     let part = term_le f xs j v e in

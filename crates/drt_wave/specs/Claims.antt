@@ -5,11 +5,11 @@ use lib.ListN.{get_elem?}
 use Rattle.atomic_table.specs.Table.{State, Me, Step}
 use Rattle.drt_wave.specs.declared.view.ClaimView.{ClaimView}
 use Rattle.drt_wave.specs.Net.{Among}
-use Rattle.drt_wave.specs.Sums.{total}
+use Rattle.drt_wave.specs.Sums.{total_by}
 
 -- how often number k of wave j was drawn
 abbrev pub times : ℕ → ℕ → List (ℕ × ℕ) → ℕ
-times j k draws = total (λ d. if (d.0 == j) && (d.1 == k) then 1 else 0) draws
+times j k draws = total_by (λ d. if (d.0 == j) && (d.1 == k) then 1 else 0) draws
 
 -- a seat that has so many parts and drew nothing
 abbrev pub fresh_claims : ℕ → ClaimView
@@ -39,11 +39,11 @@ with_draw v j t = record { parts = v.parts; draws = (j, t) ∷ v.draws }
 pub record InClaims {S : Type 0} (waves : ℕ) (s : State S ClaimView) : Type 0 where
   pub wide : length s.words ≡ waves
   pub drawn : ℕ → ℕ
-  pub parts : total (λ v. v.parts) s.views ≡ 1024
+  pub parts : total_by (λ v. v.parts) s.views ≡ 1024
   pub claims : (j : ℕ) → j < waves → slice_index s.words j ≡ drawn j % 2 ^ 64
   -- each number below the claims of its wave was drawn once, and no other
-  pub once : (j k : ℕ) → k < drawn j → total (λ v. times j k v.draws) s.views ≡ 1
-  pub never : (j k : ℕ) → drawn j ≤ k → total (λ v. times j k v.draws) s.views ≡ 0
+  pub once : (j k : ℕ) → k < drawn j → total_by (λ v. times j k v.draws) s.views ≡ 1
+  pub never : (j k : ℕ) → drawn j ≤ k → total_by (λ v. times j k v.draws) s.views ≡ 0
   -- a seat with no part has drawn nothing
   pub idle : (i : ℕ) (v : ClaimView) → get_elem? s.views i ≡ some v → v.parts ≡ 0 → v.draws ≡ []
 
@@ -54,5 +54,5 @@ Draws j r v w = (t : ℕ) × (r ≡ t % 2 ^ 64) × (w ≡ with_draw v j t)
     × ((k : ℕ) → Among (j, k) v.draws → k < t)
 
 -- what a step tells: of the step, the seat before, the number found and the seat after
-abbrev pub claimed : {S : Type 0} → Step S → Me S ClaimView → ℕ → Me S ClaimView → Type 0
-claimed st m r n = Draws st.word r m.0 n.0 × (n.1 ≡ m.1)
+abbrev pub claim_said : {S : Type 0} → Step S → Me S ClaimView → ℕ → Me S ClaimView → Type 0
+claim_said st m r n = Draws st.word r m.0 n.0 × (n.1 ≡ m.1)

@@ -5,11 +5,11 @@ use lib.ListN.{get_elem?}
 use Rattle.atomic_table.specs.Table.{State, Me, Step}
 use Rattle.drt_wave.specs.declared.view.LaneView.{LaneView}
 use Rattle.drt_wave.specs.Net.{Net, IsNet, Among, Reached, IsGreatestReaching}
-use Rattle.drt_wave.specs.Sums.{total, greatest}
+use Rattle.drt_wave.specs.Sums.{total_by, greatest_by}
 
 -- the greatest contribution at offset o
 abbrev pub most : ℕ → List (ℕ × ℕ) → ℕ
-most o raised = greatest (λ r. if r.0 == o then r.1 else 0) raised
+most o raised = greatest_by (λ r. if r.0 == o then r.1 else 0) raised
 
 module _ {F : Type 0} where
   -- a seat that has so many parts and did nothing
@@ -67,8 +67,8 @@ module _ {F : Type 0} (net : F → Net) (first count : F → ℕ) where
     pub lawful : IsNet (net key)
     pub wide : length s.words ≡ count key
     pub within : first key + count key ≤ (net key).cells
-    pub parts : total (λ v. v.parts) s.views ≡ 1024
-    pub cell : (o : ℕ) → o < count key → slice_index s.words o ≡ max ((net key).opens (first key + o)) (greatest (λ v. most o v.raised) s.views)
+    pub parts : total_by (λ v. v.parts) s.views ≡ 1024
+    pub cell : (o : ℕ) → o < count key → slice_index s.words o ≡ max ((net key).opens (first key + o)) (greatest_by (λ v. most o v.raised) s.views)
     pub each : (i : ℕ) (v : LaneView F) → get_elem? s.views i ≡ some v → Knows key s.words v
 
 -- what a step tells: of the step, the seat before, the number found and the seat after

@@ -13,8 +13,8 @@ use Rattle.drt_wave.specs.Cells.{net_of, width}
 use Rattle.drt_wave.specs.Lane.{LaneSeat, IsLaneSeat, IsClaimSeat}
 
 -- its parts of 1,024
-abbrev pub parts_of : WaveSeat → ℕ
-parts_of s = s.claims.me.0.parts
+abbrev pub parts_held : WaveSeat → ℕ
+parts_held s = s.claims.me.0.parts
 
 -- each wave and number that it drew
 abbrev pub draws_of : WaveSeat → List (ℕ × ℕ)
@@ -33,7 +33,7 @@ pub record IsOfTable (t : WaveTable) (s : WaveSeat) : Type 0 where
   pub claims : IsClaimSeat t.claims s.claims
   pub count : length s.lanes.items ≡ length t.lanes
   pub room : length t.lanes ≤ vec_capacity s.lanes
-  pub lane : (v : ℕ) (l : Lane) (y : LaneSeat) → get_elem? t.lanes v ≡ some l → get_elem? s.lanes.items v ≡ some y → IsLaneSeat l y × (y.me.0.parts ≡ parts_of s)
+  pub lane : (v : ℕ) (l : Lane) (y : LaneSeat) → get_elem? t.lanes v ≡ some l → get_elem? s.lanes.items v ≡ some y → IsLaneSeat l y × (y.me.0.parts ≡ parts_held s)
 
 -- It has no element, and room for one of each lane.
 abbrev pub HasRoomForLanes : {A : Type 0} → WaveTable → Vec LaneSeat A → Type 0
@@ -45,33 +45,33 @@ HasNoMore s n = (v o x : ℕ) → HasRaised n v o x → HasRaised s v o x
 
 -- It contributed something, or nothing, and did nothing else.
 pub record IsSeatKept (s n : WaveSeat) : Type 0 where
-  pub parts : parts_of n ≡ parts_of s
+  pub parts : parts_held n ≡ parts_held s
   pub draws : draws_of n ≡ draws_of s
   pub known : (k : ℕ) → KnowsTo k s → KnowsTo k n
   pub raised : (v o x : ℕ) → HasRaised s v o x → HasRaised n v o x
 
 -- It went on with its wave.
 pub record Turned (s n : WaveSeat) : Type 0 where
-  pub parts : parts_of n ≡ parts_of s
+  pub parts : parts_held n ≡ parts_held s
   pub draws : (j k : ℕ) → Among (j, k) (draws_of s) → Among (j, k) (draws_of n)
   pub known : (k : ℕ) → KnowsTo k s → KnowsTo k n
   pub raised : (v o x : ℕ) → HasRaised s v o x → HasRaised n v o x
 
 -- One part of it went to another seat.
 pub record IsSeatCut (s left right : WaveSeat) : Type 0 where
-  pub parts : parts_of left + 1 ≡ parts_of s
+  pub parts : parts_held left + 1 ≡ parts_held s
   pub draws : draws_of left ≡ draws_of s
   pub known : (k : ℕ) → KnowsTo k s → KnowsTo k left
   pub raised : (v o x : ℕ) → HasRaised s v o x → HasRaised left v o x
   pub same : HasNoMore s left
-  pub right_parts : parts_of right ≡ 1
+  pub right_parts : parts_held right ≡ 1
   pub right_draws : draws_of right ≡ []
   pub right_raised : (v o x : ℕ) → HasRaised right v o x → ⊥
   pub right_known : (k : ℕ) → KnowsTo k s → KnowsTo k right
 
 -- It took in another seat.
 pub record IsGlued (s other n : WaveSeat) : Type 0 where
-  pub parts : parts_of n ≡ parts_of s + parts_of other
+  pub parts : parts_held n ≡ parts_held s + parts_held other
   pub draws : (j k : ℕ) → Among (j, k) (draws_of s) → Among (j, k) (draws_of n)
   pub other_draws : (j k : ℕ) → Among (j, k) (draws_of other) → Among (j, k) (draws_of n)
   pub no_more : (j k : ℕ) → Among (j, k) (draws_of n) → Among (j, k) (draws_of other) ⊎ Among (j, k) (draws_of s)
@@ -87,7 +87,7 @@ pub record HasClaimed (j r : ℕ) (s n : WaveSeat) : Type 0 where
   pub number : ℕ
   pub told : r ≡ number % 2 ^ 64
   pub drawn : Among (j, number) (draws_of n)
-  pub whole : parts_of s ≡ 1024 → (k : ℕ) → k < number → Among (j, k) (draws_of s)
+  pub whole : parts_held s ≡ 1024 → (k : ℕ) → k < number → Among (j, k) (draws_of s)
   pub above : (k : ℕ) → Among (j, k) (draws_of s) → k < number
   pub no_more : (i k : ℕ) → Among (i, k) (draws_of n) → ((i ≡ j) × (k ≡ number)) ⊎ Among (i, k) (draws_of s)
 

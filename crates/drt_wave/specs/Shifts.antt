@@ -3,12 +3,12 @@ use Rattle.std.specs.Prelude.{◌≡◌, ℕ, ◌*◌, ◌<◌, ◌≤◌}
 use Rattle.drt_wave.specs.declared.seat.WaveSeat.{WaveSeat}
 use Rattle.drt_wave.specs.declared.table.WaveTable.{WaveTable}
 use Rattle.drt_wave.specs.Cells.{net_of}
-use Rattle.drt_wave.specs.Seats.{parts_of, KnowsTo, IsOfTable, AllExpanded, HasDrawn, HasDrawnBelow}
+use Rattle.drt_wave.specs.Seats.{parts_held, KnowsTo, IsOfTable, AllExpanded, HasDrawn, HasDrawnBelow}
 
 -- The seat has so many parts, and works wave j: it knows the earlier waves as final, and has expanded all that it drew.
 pub record IsAtWork (t : WaveTable) (j count : ℕ) (s : WaveSeat) : Type 0 where
   pub of : IsOfTable t s
-  pub parts : parts_of s ≡ count
+  pub parts : parts_held s ≡ count
   pub known : KnowsTo j s
   pub all : AllExpanded t.plan s
 

@@ -1,7 +1,7 @@
 //! What a worker of a shared wave does: it draws blocks in a row, and then expands their cells.
 ghost use Rattle.std.specs.Prelude.{◌≡◌, ℕ, ◌*◌, ◌/◌, ◌<◌, ◌≤◌, slice_index, false};
 ghost use Rattle.drt_wave.specs.Cells.{net_of};
-ghost use Rattle.drt_wave.specs.Seats.{parts_of, KnowsTo, IsOfTable, IsExpanded, AllExpanded, IsSeatKept, IsPast, Turned};
+ghost use Rattle.drt_wave.specs.Seats.{parts_held, KnowsTo, IsOfTable, IsExpanded, AllExpanded, IsSeatKept, IsPast, Turned};
 ghost use Rattle.drt_wave.specs.Rows.{ExpandedBut};
 
 use crate::expanding::expand_block;
@@ -15,7 +15,7 @@ const ROW: usize = 8;
 // a seat with every part would get to know the next wave by that.
 fn draw_row(table: &WaveTable, seat: &mut WaveSeat, wave: u32, row: &mut [u64; ROW]) -> usize
     requires seat { IsOfTable table.now seat.old }
-    requires parts { 0 < parts_of seat.old }
+    requires parts { 0 < parts_held seat.old }
     requires wave { wave < (net_of table.now.plan).waves }
     requires all { AllExpanded table.now.plan seat.old }
     ensures seat { IsOfTable table.now seat.new }
@@ -39,7 +39,7 @@ fn draw_row(table: &WaveTable, seat: &mut WaveSeat, wave: u32, row: &mut [u64; R
 // Expands the cells of the first blocks of a row.
 fn expand_row(table: &WaveTable, seat: &mut WaveSeat, wave: u32, row: &[u64; ROW], count: usize)
     requires seat { IsOfTable table.now seat.old }
-    requires parts { 0 < parts_of seat.old }
+    requires parts { 0 < parts_held seat.old }
     requires wave { wave < (net_of table.now.plan).waves }
     requires known { KnowsTo wave seat.old }
     requires count { count ≤ 8 }
@@ -57,7 +57,7 @@ fn expand_row(table: &WaveTable, seat: &mut WaveSeat, wave: u32, row: &[u64; ROW
 /// Draws blocks of a wave in a row, and then expands their cells. False where a number is past the wave's end.
 pub(crate) fn turn_some(table: &WaveTable, seat: &mut WaveSeat, wave: u32) -> bool
     requires seat { IsOfTable table.now seat.old }
-    requires parts { 0 < parts_of seat.old }
+    requires parts { 0 < parts_held seat.old }
     requires wave { wave < (net_of table.now.plan).waves }
     requires known { KnowsTo wave seat.old }
     requires all { AllExpanded table.now.plan seat.old }

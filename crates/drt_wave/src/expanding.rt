@@ -3,7 +3,7 @@ ghost use Rattle.std.specs.Prelude.{◌≡◌, ℕ, ◌+◌, ◌*◌, ◌^◌, �
 ghost use Rattle.drt_model.specs.Digraph.{vertex_count, out_degree};
 ghost use Rattle.drt_wave.specs.Net.{Reached};
 ghost use Rattle.drt_wave.specs.Cells.{net_of, cell_at};
-ghost use Rattle.drt_wave.specs.Seats.{parts_of, KnowsTo, HasRaised, IsOfTable, IsExpanded, AllExpanded, IsSeatKept, Passed, IsPast, HasDrawn, HasDrawnBelow, Turned};
+ghost use Rattle.drt_wave.specs.Seats.{parts_held, KnowsTo, HasRaised, IsOfTable, IsExpanded, AllExpanded, IsSeatKept, Passed, IsPast, HasDrawn, HasDrawnBelow, Turned};
 ghost use Rattle.drt_wave.specs.Shifts.{HasWorked};
 ghost use Rattle.drt_wave.specs.Ways.{IsWayRow};
 
@@ -15,7 +15,7 @@ use crate::ways::Way;
 // Passes the value of a cell on along a way from its offset.
 fn pass_one(table: &WaveTable, seat: &mut WaveSeat, way: Way, offset: u64, value: u64)
     requires seat { IsOfTable table.now seat.old }
-    requires parts { 0 < parts_of seat.old }
+    requires parts { 0 < parts_held seat.old }
     requires vertex { way.vertex < vertex_count table.now.plan.graph }
     requires within { offset < way.end → way.gap + offset ≤ table.now.plan.bound }
     requires reached { offset < way.end → Reached (net_of table.now.plan) (cell_at table.now.plan way.vertex (way.gap + offset)) (value + way.work) }
@@ -39,7 +39,7 @@ fn pass_one(table: &WaveTable, seat: &mut WaveSeat, way: Way, offset: u64, value
 // Passes the value of a cell on along the edges out of its vertex.
 fn pass_on(table: &WaveTable, seat: &mut WaveSeat, vertex: u32, offset: u64, value: u64)
     requires seat { IsOfTable table.now seat.old }
-    requires parts { 0 < parts_of seat.old }
+    requires parts { 0 < parts_held seat.old }
     requires vertex { vertex < vertex_count table.now.plan.graph }
     requires offset { offset ≤ table.now.plan.bound }
     requires value { Reached (net_of table.now.plan) (cell_at table.now.plan vertex offset) value }
@@ -56,7 +56,7 @@ fn pass_on(table: &WaveTable, seat: &mut WaveSeat, vertex: u32, offset: u64, val
 // Reads a cell, and passes its value on. A cell of 0 costs this look alone.
 fn expand(table: &WaveTable, seat: &mut WaveSeat, vertex: u32, offset: u64)
     requires seat { IsOfTable table.now seat.old }
-    requires parts { 0 < parts_of seat.old }
+    requires parts { 0 < parts_held seat.old }
     requires vertex { vertex < vertex_count table.now.plan.graph }
     requires offset { offset ≤ table.now.plan.bound }
     requires known { KnowsTo (offset / table.now.plan.span) seat.old }
@@ -87,7 +87,7 @@ fn next_place(row: u32, column: u64, width: u64) -> (u32, u64)
 // Expands the cells of a block.
 pub(crate) fn expand_block(table: &WaveTable, seat: &mut WaveSeat, wave: u32, block: u64)
     requires seat { IsOfTable table.now seat.old }
-    requires parts { 0 < parts_of seat.old }
+    requires parts { 0 < parts_held seat.old }
     requires wave { wave < (net_of table.now.plan).waves }
     requires known { KnowsTo wave seat.old }
     requires block { block * 64 < (net_of table.now.plan).size wave }
@@ -120,7 +120,7 @@ impl WaveTable {
 /// Draws the next block of a wave, and expands its cells. False where the number is past the wave's end.
 pub(crate) fn turn(table: &WaveTable, seat: &mut WaveSeat, wave: u32) -> bool
     requires seat { IsOfTable table.now seat.old }
-    requires parts { 0 < parts_of seat.old }
+    requires parts { 0 < parts_held seat.old }
     requires wave { wave < (net_of table.now.plan).waves }
     requires known { KnowsTo wave seat.old }
     requires all { AllExpanded table.now.plan seat.old }
@@ -128,9 +128,9 @@ pub(crate) fn turn(table: &WaveTable, seat: &mut WaveSeat, wave: u32) -> bool
     ensures turned { Turned seat.old seat.new }
     ensures all { AllExpanded table.now.plan seat.new }
     ensures past { result ≡ false → IsPast (net_of table.now.plan) wave seat.new }
-    ensures drawn { (b : ℕ) → parts_of seat.old ≡ 1024 → HasDrawn wave b seat.old → HasDrawn wave (b + 1) seat.new }
-    ensures worked { result ≡ false → parts_of seat.old ≡ 1024 → HasWorked table.now wave seat.new }
-    ensures known { result ≡ false → parts_of seat.old ≡ 1024 → HasDrawnBelow (net_of table.now.plan) wave seat.old → KnowsTo (wave + 1) seat.new }
+    ensures drawn { (b : ℕ) → parts_held seat.old ≡ 1024 → HasDrawn wave b seat.old → HasDrawn wave (b + 1) seat.new }
+    ensures worked { result ≡ false → parts_held seat.old ≡ 1024 → HasWorked table.now wave seat.new }
+    ensures known { result ≡ false → parts_held seat.old ≡ 1024 → HasDrawnBelow (net_of table.now.plan) wave seat.old → KnowsTo (wave + 1) seat.new }
 {
     let blocks = table.block_count(wave);
     let block = table.claim(seat, wave);

@@ -2,7 +2,7 @@
 ghost use Rattle.std.specs.Prelude.{◌≡◌, ◌+◌, ◌*◌, ◌≤◌, [], length, IfOk};
 ghost use Rattle.drt_model.specs.Digraph.{vertex_count};
 ghost use Rattle.drt_wave.specs.Cells.{net_of, IsWavePlan};
-ghost use Rattle.drt_wave.specs.Seats.{parts_of, draws_of, KnowsTo, IsOfTable};
+ghost use Rattle.drt_wave.specs.Seats.{parts_held, draws_of, KnowsTo, IsOfTable};
 ghost use Rattle.drt_wave.specs.Tables.{AreOpened};
 
 use crate::crew::Crew;
@@ -24,7 +24,7 @@ use std::thread::Threads;
 // Works all waves, in order.
 fn work_all(table: &WaveTable, seat: &mut WaveSeat, count: u32)
     requires seat { IsOfTable table.now seat.old }
-    requires whole { parts_of seat.old ≡ 1024 }
+    requires whole { parts_held seat.old ≡ 1024 }
     requires count { count ≡ (net_of table.now.plan).waves }
     requires known { KnowsTo 0 seat.old }
     requires draws { draws_of seat.old ≡ [] }

@@ -7,12 +7,12 @@ use crate::seat::WaveSeat;
 use crate::table::WaveTable;
 
 impl WaveTable {
-    ghost use Rattle.drt_wave.specs.Seats.{parts_of, HasRaised, HasNoMore, KnowsTo, IsOfTable, IsSeatKept};
+    ghost use Rattle.drt_wave.specs.Seats.{parts_held, HasRaised, HasNoMore, KnowsTo, IsOfTable, IsSeatKept};
 
     /// Makes a cell at least `work`, which is that of a walk that ends at the cell's vertex and offset.
     pub fn raise(&self, seat: &mut WaveSeat, cell: u32, work: u64)
         requires seat { IsOfTable self.now seat.old }
-        requires parts { 0 < parts_of seat.old }
+        requires parts { 0 < parts_held seat.old }
         requires cell { cell < (net_of self.now.plan).cells }
         requires work { Reached (net_of self.now.plan) cell work }
         ensures seat { IsOfTable self.now seat.new }

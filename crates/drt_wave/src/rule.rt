@@ -1,5 +1,5 @@
 //! The rules of a lane and of the claim words, and the five kinds of step.
-ghost use Rattle.drt_wave.specs.Claims.{InClaims, fresh_claims, spent_claims, claims_left, claims_right, claims_joined, claimed};
+ghost use Rattle.drt_wave.specs.Claims.{InClaims, fresh_claims, spent_claims, claims_left, claims_right, claims_joined, claim_said};
 ghost use Rattle.drt_wave.specs.Lanes.{InLane, fresh_lane, spent_lane, lane_left, lane_right, lane_joined, glanced, raises};
 ghost use Rattle.drt_wave.specs.Keys.{lane_net, lane_first, lane_count};
 
@@ -28,7 +28,7 @@ impl<S> TableRule<S, ClaimView, u32> for ClaimRule {
 pub struct Claim;
 
 impl<S> Play<S, ClaimView> for Claim {
-    ghost then = { claimed };
+    ghost then = { claim_said };
 }
 
 /// A cell is read.

@@ -36,7 +36,7 @@ pub struct WaveTable {
 }
 
 impl WaveTable {
-    ghost use Rattle.drt_wave.specs.Seats.{parts_of, draws_of, HasRaised, HasNoMore, KnowsTo, IsOfTable, HasRoomForLanes, IsSeatKept, Turned, IsSeatCut, IsGlued, HasClaimed, ExpandedTo};
+    ghost use Rattle.drt_wave.specs.Seats.{parts_held, draws_of, HasRaised, HasNoMore, KnowsTo, IsOfTable, HasRoomForLanes, IsSeatKept, Turned, IsSeatCut, IsGlued, HasClaimed, ExpandedTo};
 
     /// A table of the graph's walks up to a bound in ticks, with the seat that has every part.
     pub fn start(alloc: Global, graph: &Graph, bound: u64) -> Result<(WaveTable, WaveSeat), Memory>
@@ -44,7 +44,7 @@ impl WaveTable {
         ensures graph { IfOk result (λ r. r.0.plan.graph ≡ graph.now) }
         ensures bound { IfOk result (λ r. r.0.plan.bound ≡ bound) }
         ensures seat { IfOk result (λ r. IsOfTable r.0 r.1) }
-        ensures parts { IfOk result (λ r. parts_of r.1 ≡ 1024) }
+        ensures parts { IfOk result (λ r. parts_held r.1 ≡ 1024) }
         ensures draws { IfOk result (λ r. draws_of r.1 ≡ []) }
         ensures raised { IfOk result (λ r. (v o x : ℕ) → HasRaised r.1 v o x → ⊥) }
         ensures known { IfOk result (λ r. KnowsTo 0 r.1) }
@@ -66,7 +66,7 @@ impl WaveTable {
         requires opened { AreOpened plan 0 lanes.items seats.items }
         ensures plan { IfOk result (λ r. r.0.plan ≡ plan) }
         ensures seat { IfOk result (λ r. IsOfTable r.0 r.1) }
-        ensures parts { IfOk result (λ r. parts_of r.1 ≡ 1024) }
+        ensures parts { IfOk result (λ r. parts_held r.1 ≡ 1024) }
         ensures draws { IfOk result (λ r. draws_of r.1 ≡ []) }
         ensures raised { IfOk result (λ r. (v o x : ℕ) → HasRaised r.1 v o x → ⊥) }
         ensures known { IfOk result (λ r. KnowsTo 0 r.1) }
@@ -92,7 +92,7 @@ impl WaveTable {
     /// final then.
     pub fn claim(&self, seat: &mut WaveSeat, wave: u32) -> u64
         requires seat { IsOfTable self.now seat.old }
-        requires parts { 0 < parts_of seat.old }
+        requires parts { 0 < parts_held seat.old }
         requires wave { wave < (net_of self.now.plan).waves }
         ensures seat { IsOfTable self.now seat.new }
         ensures claimed { HasClaimed wave result seat.old seat.new }
@@ -110,7 +110,7 @@ impl WaveTable {
     /// The same, but no cell is read past the wave's end.
     pub(crate) fn draw(&self, seat: &mut WaveSeat, wave: u32) -> u64
         requires seat { IsOfTable self.now seat.old }
-        requires parts { 0 < parts_of seat.old }
+        requires parts { 0 < parts_held seat.old }
         requires wave { wave < (net_of self.now.plan).waves }
         ensures seat { IsOfTable self.now seat.new }
         ensures claimed { HasClaimed wave result seat.old seat.new }
@@ -123,7 +123,7 @@ impl WaveTable {
     /// Makes the cell of a vertex and an offset at least `work`, which is that of a walk that ends there.
     pub(crate) fn raise_at(&self, seat: &mut WaveSeat, vertex: u32, offset: u64, work: u64)
         requires seat { IsOfTable self.now seat.old }
-        requires parts { 0 < parts_of seat.old }
+        requires parts { 0 < parts_held seat.old }
         requires vertex { vertex < vertex_count self.now.plan.graph }
         requires offset { offset ≤ self.now.plan.bound }
         requires work { Reached (net_of self.now.plan) (cell_at self.now.plan vertex offset) work }
@@ -179,7 +179,7 @@ impl WaveTable {
     /// A seat with one of the parts, for another worker.
     pub fn split(&self, alloc: Global, seat: &mut WaveSeat) -> Result<WaveSeat, Memory>
         requires seat { IsOfTable self.now seat.old }
-        requires parts { 1 < parts_of seat.old }
+        requires parts { 1 < parts_held seat.old }
         ensures cut { IfOk result (λ new. IsOfTable self.now seat.new × IsOfTable self.now new × IsSeatCut seat.old seat.new new) }
         ensures kept { IfErr result (λ e. seat.new ≡ seat.old) }
     {
@@ -190,7 +190,7 @@ impl WaveTable {
     /// The same, into room that was asked for before.
     pub(crate) fn split_into(&self, seat: &mut WaveSeat, room: Vec<LaneSeat>) -> WaveSeat
         requires seat { IsOfTable self.now seat.old }
-        requires parts { 1 < parts_of seat.old }
+        requires parts { 1 < parts_held seat.old }
         requires room { HasRoomForLanes self.now room }
         ensures seat { IsOfTable self.now seat.new }
         ensures new { IsOfTable self.now result }
@@ -211,7 +211,7 @@ impl WaveTable {
     pub fn join(&self, seat: &mut WaveSeat, other: WaveSeat)
         requires seat { IsOfTable self.now seat.old }
         requires other { IsOfTable self.now other }
-        requires parts { 0 < parts_of seat.old }
+        requires parts { 0 < parts_held seat.old }
         ensures seat { IsOfTable self.now seat.new }
         ensures glued { IsGlued seat.old other seat.new }
     {
@@ -222,7 +222,7 @@ impl WaveTable {
     pub(crate) fn join_back(&self, seat: &mut WaveSeat, other: WaveSeat) -> Vec<LaneSeat>
         requires seat { IsOfTable self.now seat.old }
         requires other { IsOfTable self.now other }
-        requires parts { 0 < parts_of seat.old }
+        requires parts { 0 < parts_held seat.old }
         ensures seat { IsOfTable self.now seat.new }
         ensures glued { IsGlued seat.old other seat.new }
         ensures room { HasRoomForLanes self.now result }

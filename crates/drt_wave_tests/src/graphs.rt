@@ -1,7 +1,7 @@
 //! Graphs of shapes, and wave tables of them.
 ghost use Rattle.std.specs.Prelude.{◌≡◌, ◌+◌, ◌*◌, ◌≤◌, [], IfOk, true};
 ghost use Rattle.drt_model.specs.Digraph.{vertex_count};
-ghost use Rattle.drt_wave.specs.Seats.{parts_of, draws_of, KnowsTo, IsOfTable};
+ghost use Rattle.drt_wave.specs.Seats.{parts_held, draws_of, KnowsTo, IsOfTable};
 
 use drt_fixtures::{Shape, make_set};
 use drt_graph::{Graph, Graphs, check};
@@ -52,7 +52,7 @@ pub(crate) fn start_table(
     bound: u64,
 ) -> Result<(WaveTable, WaveSeat), Fail>
     ensures seat { IfOk result (λ r. IsOfTable r.0 r.1) }
-    ensures parts { IfOk result (λ r. parts_of r.1 ≡ 1024) }
+    ensures parts { IfOk result (λ r. parts_held r.1 ≡ 1024) }
     ensures draws { IfOk result (λ r. draws_of r.1 ≡ []) }
     ensures known { IfOk result (λ r. KnowsTo 0 r.1) }
 {
@@ -64,7 +64,7 @@ pub(crate) fn start_table(
 pub(crate) fn read_cell(table: &WaveTable, seat: &mut WaveSeat, cell: u32) -> Result<u64, Fail>
     requires seat { IsOfTable table.now seat.old }
     ensures seat { IsOfTable table.now seat.new }
-    ensures parts { parts_of seat.new ≡ parts_of seat.old }
+    ensures parts { parts_held seat.new ≡ parts_held seat.old }
 {
     let cells = table.plan.graph.vertex_count() as u64 * (table.plan.bound + 1);
     if cell as u64 >= cells {

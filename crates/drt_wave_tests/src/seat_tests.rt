@@ -1,5 +1,5 @@
 ghost use Rattle.std.specs.Prelude.{◌≡◌, ◌<◌, IfOk};
-ghost use Rattle.drt_wave.specs.Seats.{parts_of, IsOfTable};
+ghost use Rattle.drt_wave.specs.Seats.{parts_held, IsOfTable};
 
 use crate::graphs::{PAIR, read_cell, start_table};
 use drt_fixtures::Shape;
@@ -34,7 +34,7 @@ fn a_wave_has_as_many_offsets_as_the_least_separation(rt: HostRuntime) -> Result
 // A wave table of the walks up to 5, and two seats of it.
 fn start_two(alloc: Global) -> Result<(WaveTable, WaveSeat, WaveSeat), Fail>
     ensures seats { IfOk result (λ r. IsOfTable r.0 r.1 × IsOfTable r.0 r.2) }
-    ensures parts { IfOk result (λ r. (0 < parts_of r.1) × (0 < parts_of r.2)) }
+    ensures parts { IfOk result (λ r. (0 < parts_held r.1) × (0 < parts_held r.2)) }
 {
     let (table, mut seat) = start_table(alloc, RETURNING, 5)?;
     let other = table.split(alloc, &mut seat)?;
@@ -44,9 +44,9 @@ fn start_two(alloc: Global) -> Result<(WaveTable, WaveSeat, WaveSeat), Fail>
 // The next number of the first wave that a seat draws.
 fn draw(table: &WaveTable, seat: &mut WaveSeat) -> u64
     requires seat { IsOfTable table.now seat.old }
-    requires parts { 0 < parts_of seat.old }
+    requires parts { 0 < parts_held seat.old }
     ensures seat { IsOfTable table.now seat.new }
-    ensures parts { parts_of seat.new ≡ parts_of seat.old }
+    ensures parts { parts_held seat.new ≡ parts_held seat.old }
 {
     table.claim(seat, 0)
 }
@@ -123,9 +123,9 @@ fn raise_walk(
     number: u32,
 ) -> Result<(u64, u64), Fail>
     requires seat { IsOfTable table.now seat.old }
-    requires parts { 0 < parts_of seat.old }
+    requires parts { 0 < parts_held seat.old }
     ensures seat { IsOfTable table.now seat.new }
-    ensures parts { parts_of seat.new ≡ parts_of seat.old }
+    ensures parts { parts_held seat.new ≡ parts_held seat.old }
 {
     let graph = &table.plan.graph;
     let count = graph.vertex_count();

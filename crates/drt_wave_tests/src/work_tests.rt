@@ -1,6 +1,6 @@
 ghost use Rattle.std.specs.Prelude.{◌≡◌, ◌≤◌, [], IfOk};
 ghost use Rattle.drt_wave.specs.Cells.{net_of};
-ghost use Rattle.drt_wave.specs.Seats.{parts_of, draws_of, KnowsTo, IsOfTable};
+ghost use Rattle.drt_wave.specs.Seats.{parts_held, draws_of, KnowsTo, IsOfTable};
 
 use crate::graphs::{PAIR, make_graph, read_cell, start_table};
 use crate::tables::has_front;
@@ -53,7 +53,7 @@ fn works_of(alloc: Global, shape: Shape<'_>, bound: u64) -> Result<DenseFront, F
 // Works the first waves of a table, in order, by the seat that has every part.
 fn work_waves(table: &WaveTable, seat: &mut WaveSeat, count: u32)
     requires seat { IsOfTable table.now seat.old }
-    requires whole { parts_of seat.old ≡ 1024 }
+    requires whole { parts_held seat.old ≡ 1024 }
     requires count { count ≤ (net_of table.now.plan).waves }
     requires draws { draws_of seat.old ≡ [] }
     requires known { KnowsTo 0 seat.old }

@@ -8,7 +8,7 @@ use lib.ListN.{get_elem?}
 use lib.Seq.{set-get_or}
 use Rattle.atomic_table.specs.Table.{State, Me, step, keeps, Allows, Splits, Joins, opening, Final, Seen}
 use Rattle.atomic_table.proofs.Lists.{at_set, at_snoc, set_else, at_longer}
-use Rattle.drt_word.specs.Rising.{HoldsOfEach, IsInList, total_parts, fresh, spent, split_left, split_right, joined, with_raised, with_noted, Knows, IsRaisedIn, IsRisen, Raised, Glanced}
+use Rattle.drt_word.specs.Rising.{HoldsOfEach, IsInList, total_parts, fresh_view, spent, split_left, split_right, joined_views, with_raised, with_noted, Knows, IsRaisedIn, IsRisen, Raised, Glanced}
 use Rattle.drt_word.specs.Closing.{IsWordClosed}
 use Rattle.drt_word.specs.declared.view.View.{View}
 
@@ -94,10 +94,10 @@ raised_top views id k n v me top = elim (cases_lt n k) as (λ _. (max n k ≡ 0)
   ]
 ]
 
-joined_top : (views : List View) (id x other : ℕ) (v w : View) → get_elem? views id ≡ some v → other ≢ id → get_elem? (set views id (joined v w)) other ≡ some w → IsRaisedIn x views
-    → IsRaisedIn x (set (set views id (joined v w)) other spent)
+joined_top : (views : List View) (id x other : ℕ) (v w : View) → get_elem? views id ≡ some v → other ≢ id → get_elem? (set views id (joined_views v w)) other ≡ some w → IsRaisedIn x views
+    → IsRaisedIn x (set (set views id (joined_views v w)) other spent)
 joined_top views id x other v w me ne at r =
-    let b : View = joined v w in
+    let b : View = joined_views v w in
     let vs : List View = set views id b in
     let first : get_elem? (set vs other spent) id ≡ some b = set_else vs other id spent (λ e. ne (sym e)) ∙ here_set views id v b me in
     dite (ℕ_discrete r.0 id)
@@ -191,10 +191,10 @@ module _ {S : Type 0} (P : ℕ → Type 0) where
         ];
       }
 
-  pub joins : (id : ℕ) (v : View) (other : ℕ) (w : View) → 0 < v.parts → Joins Holds id v other w (joined v w) spent
+  pub joins : (id : ℕ) (v : View) (other : ℕ) (w : View) → 0 < v.parts → Joins Holds id v other w (joined_views v w) spent
   joins id v other w part s h me ne at =
       let n : ℕ = get_or s.words 0 0 in
-      let b : View = joined v w in
+      let b : View = joined_views v w in
       let vs : List View = set s.views id b in
       let mine : Knows P n v = h.each id v me in
       let was : get_elem? s.views other ≡ some w = sym (set_else s.views id other b ne) ∙ at in
@@ -212,11 +212,11 @@ module _ {S : Type 0} (P : ℕ → Type 0) where
         top = elim h.top as (λ _. (n ≡ 0) ⊎ IsRaisedIn n (set vs other spent)) [ inl z ↦ inl z | inr r ↦ inr (joined_top s.views id n other v w me ne at r) ];
       }
 
-  pub opens : Holds (opening (0 ∷ []) [] (fresh 1024))
+  pub opens : Holds (opening (0 ∷ []) [] (fresh_view 1024))
   opens = record {
     wide = refl;
     parts = refl;
-    each = λ i v at. elim (at_snoc [] (fresh 1024) v i at) as (λ _. Knows P 0 v) [
+    each = λ i v at. elim (at_snoc [] (fresh_view 1024) v i at) as (λ _. Knows P 0 v) [
       | inl x ↦ absurd (some-ne-none v (sym x))
       | inr e ↦ subst (λ (u : View). Knows P 0 u) e (record { idle = λ none. (refl, refl); raised = tt; noted = tt })
     ];

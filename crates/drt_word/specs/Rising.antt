@@ -22,8 +22,8 @@ total_parts [] = 0
 total_parts (v ∷ vs) = v.parts + total_parts vs
 
 -- A seat with so many parts that has done nothing yet.
-abbrev pub fresh : ℕ → View
-fresh parts = record { raised = []; noted = []; parts = parts }
+abbrev pub fresh_view : ℕ → View
+fresh_view parts = record { raised = []; noted = []; parts = parts }
 
 -- A seat that was joined to another one.
 abbrev pub spent : View
@@ -38,8 +38,8 @@ abbrev pub split_right : View → View
 split_right v = record { raised = []; noted = []; parts = 1 }
 
 -- A seat that took in the numbers and the parts of another one.
-abbrev pub joined : View → View → View
-joined v w = record { raised = v.raised ++ w.raised; noted = v.noted ++ w.noted; parts = v.parts + w.parts }
+abbrev pub joined_views : View → View → View
+joined_views v w = record { raised = v.raised ++ w.raised; noted = v.noted ++ w.noted; parts = v.parts + w.parts }
 
 -- A seat that raised a number.
 abbrev pub with_raised : View → ℕ → View

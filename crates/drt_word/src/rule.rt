@@ -1,7 +1,7 @@
 //! The rule of the word, and its four kinds of step.
 
 ghost use Rattle.std.specs.Prelude.{ℕ};
-ghost use Rattle.drt_word.specs.Rising.{IsRisen, fresh, spent, split_left, split_right, joined, Raised, Glanced};
+ghost use Rattle.drt_word.specs.Rising.{IsRisen, fresh_view, spent, split_left, split_right, joined_views, Raised, Glanced};
 
 use crate::view::View;
 use atomic_table::{Play, TableRule};
@@ -19,7 +19,7 @@ pub struct Rule;
 impl<S: Meaning> TableRule<(), View, Snapshot<S>> for Rule {
     ghost holds = { λ key. IsRisen (S.is_reached key.value) };
 
-    ghost first = { λ _. fresh 1024 };
+    ghost first = { λ _. fresh_view 1024 };
 }
 
 /// A seat makes the word at least a number.
@@ -49,7 +49,7 @@ impl atomic_table::Split<View> for Split {
 pub(crate) struct Join;
 
 impl atomic_table::Join<View> for Join {
-    ghost both = { joined };
+    ghost both = { joined_views };
 
     ghost spent = { spent };
 }

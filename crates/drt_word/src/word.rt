@@ -1,7 +1,7 @@
 //! The word. Each step is taken by a seat.
 
 ghost use Rattle.std.specs.Prelude.{◌≡◌, ℕ, ◌<◌, ◌≤◌, [], IfOk};
-ghost use Rattle.drt_word.specs.Rising.{HoldsOfEach, fresh, split_left, split_right, joined, with_raised, with_noted};
+ghost use Rattle.drt_word.specs.Rising.{HoldsOfEach, fresh_view, split_left, split_right, joined_views, with_raised, with_noted};
 ghost use Rattle.drt_word.specs.Closing.{IsWordClosed};
 
 use crate::rule::{Glance, Join, Meaning, Raise, Rule, Split};
@@ -36,7 +36,7 @@ impl<S: Meaning> Word<S> {
     pub fn new(alloc: Global, about: Snapshot<S>) -> Result<(Word<S>, Seat<(), View>), Memory>
         ensures about { IfOk result (λ r. r.0.about ≡ about.value) }
         ensures name { IfOk result (λ r. r.1.table_id ≡ r.0.name) }
-        ensures seat { IfOk result (λ r. r.1.me ≡ (fresh 1024, [])) }
+        ensures seat { IfOk result (λ r. r.1.me ≡ (fresh_view 1024, [])) }
     {
         let (table, seat) = Table::of_words(alloc, &[0], &about)?;
         Ok((Word { table }, seat))
@@ -82,7 +82,7 @@ impl<S: Meaning> Word<S> {
         requires part { 0 < seat.old.me.0.parts }
         requires other { other.me.1 ≡ [] }
         ensures name { seat.new.table_id ≡ self.now.name }
-        ensures seat { seat.new.me ≡ (joined seat.old.me.0 other.me.0, seat.old.me.1) }
+        ensures seat { seat.new.me ≡ (joined_views seat.old.me.0 other.me.0, seat.old.me.1) }
     {
         self.table.shared.join_seat::<Join>(seat, other);
     }

@@ -2,7 +2,7 @@
 use Rattle.std.proofs.Common.{◌≡◌, ℕ, zero, suc, ◌<◌, inl, inr, List, [], ◌∷◌, ◌++◌, get_or, codes, refl, ap, ◌∙◌, lit<, lit≤, arith}
 use Rattle.std.specs.Fmt.{digits}
 use Rattle.drt_model.specs.declared.jobs.Policy.TheVariants.{Edf}
-use Rattle.drt_file.specs.trusted.Canonical.{written_line, name_at, priority_lines, body_lines, task_lines, set_lines, canonical}
+use Rattle.drt_file.specs.trusted.Canonical.{written_line, name_at, priority_lines, lines_of_body, task_lines, set_lines, canonical}
 use Rattle.drt_file.specs.trusted.CanonicalPrefix.{line_count, first_lines}
 use Rattle.drt_evidence.specs.Reading.{IsDossierText, IsDossierPrefix, HoldsDossier, IsDossierFaultyBy, HasDossierFault}
 use Rattle.drt_claims.specs.Statement.{Statement}
@@ -19,7 +19,7 @@ abbrev pub undecided_bytes : List ℕ
 undecided_bytes = codes "drt-dossier 1\npolicy edf\ndrt 1\ntask T\nvertex a 2 5\nedge a a 5\nend\nevidence undecided\nclose\n"
 
 pub undecided_is_text : IsDossierText undecided undecided_bytes
-unfolding text digits written_line name_at priority_lines body_lines task_lines set_lines canonical
+unfolding text digits written_line name_at priority_lines lines_of_body task_lines set_lines canonical
 undecided_is_text = record { stated = (short_is_set, tt); is = refl }
 
 -- Each dossier begins with a `d`.

@@ -5,14 +5,14 @@ use Rattle.drt_model.specs.declared.tasks.Task.{Task}
 use Rattle.drt_model.specs.Digraph.{Digraph, digraph_of}
 use Rattle.drt_model.specs.RequestFunction.{requested_from}
 use Rattle.drt_model.specs.Walk.{sep_in, or_zero}
-use Rattle.drt_claims.specs.Proofs.{HasPassingTime, after_all, opening, sum_at}
+use Rattle.drt_claims.specs.Proofs.{HasPassingTime, after_all, opening_stack, tree_sum_at}
 use Rattle.drt_claims.specs.Trees.{by_priority, higher_count, joined, placed, tree_graphs}
 use Rattle.drt_claims.specs.declared.evidence.Item.{Item}
 use Rattle.drt_claims.specs.declared.evidence.Item.TheVariants.{Pass, Split}
 use Rattle.drt_claims.specs.declared.evidence.Pair.{Pair}
 use Rattle.drt_claims.specs.declared.evidence.ProofClaim.{ProofClaim}
 use Rattle.drt_claims.specs.declared.evidence.TreeClaim.{TreeClaim}
-use Rattle.drt_sp.specs.Written.{AreEagerItems, IsEagerProof, IsWidestPlace, count_at, counted, walk_counts}
+use Rattle.drt_sp.specs.Written.{AreEagerItems, IsEagerProof, IsWidestPlace, count_at, counted_pairs, walk_counts}
 use Rattle.drt_rows.proofs.Sets.{edge, vertex}
 
 -- x (3, 5) with a loop of 20 and y (2, 4) with a loop of 4.
@@ -53,16 +53,16 @@ graphs_are = refl
 
 -- One walk below each walk, and below a pair as many as below both its parts.
 pub high_counts : walk_counts high_tree ≡ 1 ∷ 1 ∷ 1 ∷ 1 ∷ 2 ∷ 2 ∷ 4 ∷ []
-unfolding counted
+unfolding counted_pairs
 high_counts = refl
 
 pub mid_counts : walk_counts mid_tree ≡ 1 ∷ 1 ∷ 2 ∷ []
-unfolding counted
+unfolding counted_pairs
 mid_counts = refl
 
 -- So of the two roots the first one is the widest, and the last one isn't.
 pub first_is_widest : IsWidestPlace trees (6 ∷ 2 ∷ []) 0
-unfolding counted
+unfolding counted_pairs
 first_is_widest = record { within = lit< tt; most = most; least = λ q l. absurd (omega (arith, l)) }
   where
     most : (q : ℕ) → q < 2 → count_at trees (6 ∷ 2 ∷ []) q ≤ 4
@@ -71,7 +71,7 @@ first_is_widest = record { within = lit< tt; most = most; least = λ q l. absurd
     most (suc (suc q)) l = absurd (omega (arith, l))
 
 pub last_is_not_widest : ¬ IsWidestPlace trees (6 ∷ 2 ∷ []) 1
-unfolding counted
+unfolding counted_pairs
 last_is_not_widest w = absurd (omega (arith, w.most 0 (lit< tt)))
 
 -- For z and the two roots no time passes: they ask for 4 before each time up to 4, and for 5 before 5.
@@ -79,7 +79,7 @@ abbrev Passes : List ℕ → ℕ → Type 0
 Passes nodes t = HasPassingTime graphs trees (digraph_of low) 0 (nodes, t)
 
 pub none_passes_roots : (t : ℕ) → Passes (6 ∷ 2 ∷ []) t → ⊥
-unfolding sum_at joined requested_from sep_in or_zero
+unfolding tree_sum_at joined requested_from sep_in or_zero
 none_passes_roots zero p = omega (arith, p.some)
 none_passes_roots (suc zero) p = omega (arith, p.fits)
 none_passes_roots (suc (suc zero)) p = omega (arith, p.fits)
@@ -90,11 +90,11 @@ none_passes_roots (suc (suc (suc (suc (suc (suc t)))))) p = omega (arith, p.with
 
 -- The left half, with y and x, asks for 4 up to 5, so that 5 passes and no earlier time.
 pub left_passes : Passes (4 ∷ 2 ∷ []) 5
-unfolding sum_at joined requested_from sep_in or_zero
+unfolding tree_sum_at joined requested_from sep_in or_zero
 left_passes = record { some = lit≤ tt; within = lit≤ tt; fits = lit≤ tt }
 
 pub left_none_earlier : (t : ℕ) → t < 5 → Passes (4 ∷ 2 ∷ []) t → ⊥
-unfolding sum_at joined requested_from sep_in or_zero
+unfolding tree_sum_at joined requested_from sep_in or_zero
 left_none_earlier zero l p = omega (arith, p.some)
 left_none_earlier (suc zero) l p = omega (arith, p.fits)
 left_none_earlier (suc (suc zero)) l p = omega (arith, p.fits)
@@ -104,11 +104,11 @@ left_none_earlier (suc (suc (suc (suc (suc t))))) l p = omega (arith, l)
 
 -- The right half, with y y and y y y, asks for 3 up to 4, so that 4 passes and no earlier time.
 pub right_passes : Passes (5 ∷ 2 ∷ []) 4
-unfolding sum_at joined requested_from sep_in or_zero
+unfolding tree_sum_at joined requested_from sep_in or_zero
 right_passes = record { some = lit≤ tt; within = lit≤ tt; fits = lit≤ tt }
 
 pub right_none_earlier : (t : ℕ) → t < 4 → Passes (5 ∷ 2 ∷ []) t → ⊥
-unfolding sum_at joined requested_from sep_in or_zero
+unfolding tree_sum_at joined requested_from sep_in or_zero
 right_none_earlier zero l p = omega (arith, p.some)
 right_none_earlier (suc zero) l p = omega (arith, p.fits)
 right_none_earlier (suc (suc zero)) l p = omega (arith, p.fits)
@@ -119,7 +119,7 @@ abbrev z_proof : List Item → ProofClaim
 z_proof items = record { task = 2; vertex = 0; items = items }
 
 abbrev due : List Item → Type 0
-due items = AreEagerItems graphs trees (digraph_of low) 0 items (Some (opening trees 2))
+due items = AreEagerItems graphs trees (digraph_of low) 0 items (Some (opening_stack trees 2))
 
 -- z's proof splits the first root, and then each half passes with the least time that does.
 pub first_split_is_due : due (Split 0 ∷ Pass 5 ∷ Pass 4 ∷ [])
@@ -130,7 +130,7 @@ first_split_is_due = ((none_passes_roots, first_is_widest), ((left_passes, left_
 abbrev last_first : List Item
 last_first = Split 1 ∷ Split 0 ∷ Pass 5 ∷ Pass 4 ∷ Split 0 ∷ Pass 5 ∷ Pass 4 ∷ []
 
-pub last_split_ends : after_all trees last_first (Some (opening trees 2)) ≡ Some []
+pub last_split_ends : after_all trees last_first (Some (opening_stack trees 2)) ≡ Some []
 unfolding after_all
 last_split_ends = refl
 
@@ -142,7 +142,7 @@ last_split_is_not_due items d = last_is_not_widest d.0.1
 pub first_split_is_eager : IsEagerProof tasks trees (z_proof (Split 0 ∷ Pass 5 ∷ Pass 4 ∷ []))
 unfolding by_priority placed
 first_split_is_eager t at =
-    subst (λ (u : Task). AreEagerItems graphs trees (digraph_of u) 0 (Split 0 ∷ Pass 5 ∷ Pass 4 ∷ []) (Some (opening trees (higher_count tasks u.priority)))) (same_Some low t at) first_split_is_due
+    subst (λ (u : Task). AreEagerItems graphs trees (digraph_of u) 0 (Split 0 ∷ Pass 5 ∷ Pass 4 ∷ []) (Some (opening_stack trees (higher_count tasks u.priority)))) (same_Some low t at) first_split_is_due
 
 pub last_split_is_not_eager : ¬ IsEagerProof tasks trees (z_proof last_first)
 unfolding by_priority placed

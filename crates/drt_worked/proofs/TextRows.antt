@@ -5,7 +5,7 @@ use Rattle.std.specs.Fmt.{digits}
 use Rattle.drt_model.specs.Contents.{Contents}
 use Rattle.drt_model.specs.Utilisation.{Fraction}
 use Rattle.drt_model.specs.declared.tasks.Task.{Task}
-use Rattle.drt_file.specs.trusted.Canonical.{written, written_line, name_at, priority_lines, body_lines, task_lines, set_lines, canonical}
+use Rattle.drt_file.specs.trusted.Canonical.{written, written_line, name_at, priority_lines, lines_of_body, task_lines, set_lines, canonical}
 use Rattle.drt_command_util.specs.Util.{util_lines}
 use Rattle.drt_sp.specs.Evidence.{under_fixed}
 use Rattle.drt_claims.specs.Statement.{Statement}
@@ -32,11 +32,11 @@ one = short ∷ []
 
 -- The same set in version 1 and, with its priority, in version 2.
 pub first_text : canonical (record { version = 1; tasks = one }) ≡ codes "drt 1\ntask T\nvertex a 2 5\nedge a a 5\nend\n"
-unfolding digits written_line name_at priority_lines body_lines task_lines set_lines canonical
+unfolding digits written_line name_at priority_lines lines_of_body task_lines set_lines canonical
 first_text = refl
 
 pub second_text : canonical (record { version = 2; tasks = one }) ≡ codes "drt 2\ntask T\npriority 1\nvertex a 2 5\nedge a a 5\nend\n"
-unfolding digits written_line name_at priority_lines body_lines task_lines set_lines canonical
+unfolding digits written_line name_at priority_lines lines_of_body task_lines set_lines canonical
 second_text = refl
 
 -- That set of version 1.
@@ -52,7 +52,7 @@ abbrev sp_proof : ProofClaim
 sp_proof = record { task = 0; vertex = 0; items = Pass 2 ∷ [] }
 
 pub sp_text : text (under_fixed set (FixedYes [] (sp_proof ∷ []))) ≡ sp_dossier
-unfolding text digits written_line name_at priority_lines body_lines task_lines set_lines canonical
+unfolding text digits written_line name_at priority_lines lines_of_body task_lines set_lines canonical
 sp_text = refl
 
 pub sp_length : length sp_dossier ≡ 125
@@ -72,7 +72,7 @@ edf_statement = record {
 }
 
 pub edf_text : text edf_statement ≡ edf_dossier
-unfolding text digits written_line name_at priority_lines body_lines task_lines set_lines canonical
+unfolding text digits written_line name_at priority_lines lines_of_body task_lines set_lines canonical
 edf_text = refl
 
 pub edf_length : length edf_dossier ≡ 150

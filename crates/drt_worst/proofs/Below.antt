@@ -4,7 +4,7 @@ use Rattle.std.specs.Prelude.{slice_get}
 use Rattle.std.proofs.lemmas.Option.{none-some, same_Some}
 use Rattle.drt_steps.specs.Values.{value_at}
 use Rattle.drt_steps.specs.Time.{sum_at, Passes}
-use Rattle.drt_tree.specs.Tree.{Plain, IsForest, IsPair, children, leaves, values, LeadsToLeaf, IsUnder}
+use Rattle.drt_tree.specs.Tree.{Plain, IsForest, IsPair, children, leaves, node_values_in, LeadsToLeaf, IsUnder}
 use Rattle.drt_tree.proofs.Trees.{leaf_below}
 use Rattle.drt_refine.specs.Below.{AreBelow, IsConcrete, tuples}
 use Rattle.drt_worst.specs.Splitting.{IsSplit, IsHalfOf, IsPartBy, IsPart}
@@ -137,7 +137,7 @@ module _ (f : Plain) where
   below_sum sound [] (n ∷ nodes) t h = elim h [ ]
   below_sum sound (leaf ∷ tuple) [] t h = elim h [ ]
   below_sum sound (leaf ∷ tuple) (n ∷ nodes) t h =
-      let a : value_at (values f leaf) t ≤ value_at (values f n) t = leaf_below f n h.0.0 leaf t sound h.0.1 in
+      let a : value_at (node_values_in f leaf) t ≤ value_at (node_values_in f n) t = leaf_below f n h.0.0 leaf t sound h.0.1 in
       let b : sum_at f.pool tuple t ≤ sum_at f.pool nodes t = below_sum sound tuple nodes t h.1 in
       omega arith
 

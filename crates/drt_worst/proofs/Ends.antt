@@ -14,33 +14,33 @@ use Rattle.drt_worst.specs.Spent.{IsSpent}
 use Rattle.drt_worst.proofs.Below.{part_more, below_parts}
 use Rattle.drt_worst.proofs.Runs.{greatest, some_reached}
 use Rattle.drt_worst.proofs.Different.{spent}
-use Rattle.drt_word.specs.Rising.{IsInList, joined}
+use Rattle.drt_word.specs.Rising.{IsInList, joined_views}
 use Rattle.drt_word.specs.Closing.{IsWordClosed}
 use Rattle.drt_word.proofs.Steps.{each_in, each_join, each_weaker, in_left, in_right}
 use Rattle.drt_word.specs.declared.view.View.{View}
-use Rattle.drt_worst.specs.Passing.{search_of, IsNotedIn, IsGreatestRaised, HasRun, IsSearchReady}
+use Rattle.drt_worst.specs.Passing.{search_of_question, IsNotedIn, IsGreatestRaised, HasRun, IsSearchReady}
 use Rattle.drt_pool.specs.Turns.{EachPlace}
 use Rattle.drt_worst.specs.declared.pass.Pass.{Pass}
 
 -- joined views
-pub noted_left : (n : ℕ) (v w : View) → IsNotedIn n v → IsNotedIn n (joined v w)
+pub noted_left : (n : ℕ) (v w : View) → IsNotedIn n v → IsNotedIn n (joined_views v w)
 noted_left n v w (inl z) = inl z
 noted_left n v w (inr (inl i)) = inr (inl (in_left n v.raised w.raised i))
 noted_left n v w (inr (inr i)) = inr (inr (in_left n v.noted w.noted i))
 
-pub noted_right : (n : ℕ) (v w : View) → IsNotedIn n w → IsNotedIn n (joined v w)
+pub noted_right : (n : ℕ) (v w : View) → IsNotedIn n w → IsNotedIn n (joined_views v w)
 noted_right n v w (inl z) = inl z
 noted_right n v w (inr (inl i)) = inr (inl (in_right n v.raised w.raised i))
 noted_right n v w (inr (inr i)) = inr (inr (in_right n v.noted w.noted i))
 
 module _ (s : Search) (roots : List ℕ) where
-  pub best_left : (a b : ℕ) (os bs : List ℕ) (v w : View) → b ≤ a → IsGreatestRaised s roots a os v → IsGreatestRaised s roots b bs w → IsGreatestRaised s roots a os (joined v w)
+  pub best_left : (a b : ℕ) (os bs : List ℕ) (v w : View) → b ≤ a → IsGreatestRaised s roots a os v → IsGreatestRaised s roots b bs w → IsGreatestRaised s roots a os (joined_views v w)
   best_left a b os bs v w le x y = record {
     most = each_join (λ n. n ≤ a) v.raised w.raised x.most (each_weaker (λ n. n ≤ b) (λ n. n ≤ a) (λ n h. omega arith) w.raised y.most);
     is = elim x.is as (λ _. (a ≡ 0) ⊎ (IsInList a (v.raised ++ w.raised) × IsReached s roots a os)) [ inl z ↦ inl z | inr i ↦ inr (in_left a v.raised w.raised i.0, i.1) ];
   }
 
-  pub best_right : (a b : ℕ) (os bs : List ℕ) (v w : View) → a ≤ b → IsGreatestRaised s roots a os v → IsGreatestRaised s roots b bs w → IsGreatestRaised s roots b bs (joined v w)
+  pub best_right : (a b : ℕ) (os bs : List ℕ) (v w : View) → a ≤ b → IsGreatestRaised s roots a os v → IsGreatestRaised s roots b bs w → IsGreatestRaised s roots b bs (joined_views v w)
   best_right a b os bs v w le x y = record {
     most = each_join (λ n. n ≤ b) v.raised w.raised (each_weaker (λ n. n ≤ a) (λ n. n ≤ b) (λ n h. omega arith) v.raised x.most) y.most;
     is = elim y.is as (λ _. (b ≡ 0) ⊎ (IsInList b (v.raised ++ w.raised) × IsReached s roots b bs)) [ inl z ↦ inl z | inr i ↦ inr (in_right b v.raised w.raised i.0, i.1) ];
@@ -215,7 +215,7 @@ popped_split all left rest done x e d = e ∙ (ap (λ z. z ++ done) d ∙ append
 module _ (word : WordOf Question) (all rest : List Pass) (p : Pass) (best best' : ℕ) (leaves leaves' : List ℕ) (v w : View) where
   -- one more pass is taken in
   pub gather_more : (left : List Pass) → IsGathered word all left best leaves v → left ≡ rest ++ p ∷ [] → w.parts ≡ v.parts + 1 → IsNotedIn p.known w → ((n : ℕ) → IsNotedIn n v → IsNotedIn n w)
-      → IsGreatestRaised (search_of word.about) word.about.roots.value best' leaves' w → IsGathered word all rest best' leaves' w
+      → IsGreatestRaised (search_of_question word.about) word.about.roots.value best' leaves' w → IsGathered word all rest best' leaves' w
   gather_more left g e parts mine kept b = record {
     parts = (let a : v.parts + length left ≡ 1024 = g.parts in let c : length left ≡ length rest + 1 = ap length e ∙ length-append rest (p ∷ []) in omega arith);
     done = p ∷ g.done;

@@ -3,7 +3,7 @@ use Rattle.std.proofs.Common.{◌≡◌, ℕ, suc, zero, ◌<◌, ◌≤◌, ◌
 use Rattle.std.specs.Prelude.{slice_get}
 use Rattle.std.proofs.lemmas.Option.{none-some, same_Some}
 use Rattle.drt_steps.specs.Time.{AreChosen, Passes}
-use Rattle.drt_tree.specs.Tree.{Plain, IsForest, IsPair, values}
+use Rattle.drt_tree.specs.Tree.{Plain, IsForest, IsPair, node_values_in}
 use Rattle.drt_tree.proofs.Trees.{child_within}
 use Rattle.drt_refine.specs.Below.{AreBelow, AreNodes}
 use Rattle.drt_worst.specs.Splitting.{IsSplit, IsPartBy, IsPart, search_for}
@@ -21,11 +21,11 @@ set_nodes f (m ∷ nodes) zero k lt h = (lt, h.1)
 set_nodes f (m ∷ nodes) (suc place) k lt h = (h.0, set_nodes f nodes place k lt h.1)
 
 set_chosen : (f : Plain) (d : ℕ) (nodes : List ℕ) (place n k : ℕ) → slice_get nodes place ≡ Some n → k < length f.pool
-    → length (values f k) ≡ length (values f n) → AreChosen d f.pool nodes → AreChosen d f.pool (set nodes place k)
+    → length (node_values_in f k) ≡ length (node_values_in f n) → AreChosen d f.pool nodes → AreChosen d f.pool (set nodes place k)
 set_chosen f d [] place n k at lt e h = absurd (none-some n at)
 set_chosen f d (m ∷ nodes) zero n k at lt e h = (
   lt,
-  (let s : length (values f m) ≡ length (values f n) = ap (λ z. length (values f z)) (same_Some m n at) in let g : d ≤ length (values f m) = h.1 in omega arith),
+  (let s : length (node_values_in f m) ≡ length (node_values_in f n) = ap (λ z. length (node_values_in f z)) (same_Some m n at) in let g : d ≤ length (node_values_in f m) = h.1 in omega arith),
   h.2,
 )
 set_chosen f d (m ∷ nodes) (suc place) n k at lt e h = (h.0, h.1, set_chosen f d nodes place n k at lt e h.2)

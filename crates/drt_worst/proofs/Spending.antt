@@ -6,7 +6,7 @@ use Rattle.drt_tree.specs.Tree.{IsForest}
 use Rattle.drt_refine.specs.Below.{IsConcrete, tuples}
 use Rattle.drt_worst.specs.Splitting.{Search, IsPart, PassesFor, IsLeastFor}
 use Rattle.drt_worst.specs.Runs.{Choice, skips, reaches, splits, PassEntry, known, left_after, halves_of, stack_after, IsFit, IsRunFrom, combination_of, half_of}
-use Rattle.drt_worst.specs.Spent.{with_halves, AreHalves, AreTaken}
+use Rattle.drt_worst.specs.Spent.{with_halves_in_front, AreHalves, AreTaken}
 use Rattle.drt_worst.proofs.Below.{concrete_whole, tuples_some, tuples_split, tuples_part}
 use Rattle.drt_worst.proofs.Runs.{At, entry_at}
 
@@ -36,7 +36,7 @@ module _ (s : Search) where
   halves_fit c seen (reaches t) h = tt
   halves_fit c seen (splits l r) h = h.0
 
-  put_left : (choice : Choice) (stack : List (List ℕ)) → with_halves (halves_of choice) stack ≡ left_after choice stack
+  put_left : (choice : Choice) (stack : List (List ℕ)) → with_halves_in_front (halves_of choice) stack ≡ left_after choice stack
   put_left skips stack = refl
   put_left (reaches t) stack = refl
   put_left (splits l r) stack = refl

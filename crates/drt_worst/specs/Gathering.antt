@@ -2,7 +2,7 @@
 use Rattle.std.specs.Prelude.{◌≡◌, ℕ, ◌+◌, List, ◌++◌, length, Some, slice_get}
 use Rattle.drt_word.specs.declared.view.View.{View}
 use Rattle.drt_word.specs.Closing.{WordOf}
-use Rattle.drt_worst.specs.Passing.{search_of, IsGreatestRaised, IsNotedIn}
+use Rattle.drt_worst.specs.Passing.{search_of_question, IsGreatestRaised, IsNotedIn}
 use Rattle.drt_worst.specs.declared.pass.Pass.{Pass}
 use Rattle.drt_worst.specs.declared.pass.Question.{Question}
 
@@ -12,4 +12,4 @@ pub record IsGathered (word : WordOf Question) (all left : List Pass) (best : �
   pub done : List Pass
   pub split : all ≡ left ++ done
   pub known : (i : ℕ) (p : Pass) → slice_get done i ≡ Some p → IsNotedIn p.known v
-  pub greatest : IsGreatestRaised (search_of word.about) word.about.roots.value best leaves v
+  pub greatest : IsGreatestRaised (search_of_question word.about) word.about.roots.value best leaves v

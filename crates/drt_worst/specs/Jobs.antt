@@ -2,7 +2,7 @@
 use Rattle.std.specs.Prelude.{◌≡◌, ℕ, ◌≤◌, ◌⊎◌, Bool, false, true, List, [], slice_get, Some, IsSome}
 use Rattle.drt_worst.specs.Splitting.{Search}
 use Rattle.drt_worst.specs.Subjects.{search_over}
-use Rattle.drt_worst.specs.Passing.{search_of, IsSeatOf, HasRun, IsSearchReady}
+use Rattle.drt_worst.specs.Passing.{search_of_question, IsSeatOf, HasRun, IsSearchReady}
 use Rattle.drt_worst.specs.declared.pass.Pass.{Pass}
 use Rattle.drt_word.specs.Closing.{WordOf}
 use Rattle.drt_worst.specs.declared.pass.Question.{Question}
@@ -23,7 +23,7 @@ IsToldAs told p = told ≡ true → IsSome p.taken.told
 -- The pass is one of the job. One that found no memory only has its seat.
 abbrev pub IsPassOfJob : Job → Pass → Type 0
 IsPassOfJob job p =
-    (search_of job.word.now.about ≡ search_of_job job) × IsSearchReady (search_of_job job) (roots_of_job job)
+    (search_of_question job.word.now.about ≡ search_of_job job) × IsSearchReady (search_of_job job) (roots_of_job job)
     × IsSeatOf job.word.now.name p × IsToldAs job.told.value p
     × (p.failed ≡ false → HasRun (search_of_job job) (roots_of_job job) p × (p.taken.count ≤ job.budget))
 
@@ -34,17 +34,17 @@ IsStopped budget p = p.failed ≡ false → (p.stack.items ≡ []) ⊎ (p.taken.
 -- A pass as it is opened: it has its seat and the combination at its place.
 abbrev pub IsPassOpened : WordOf Question → List (List ℕ) → Bool → ℕ → Pass → Type 0
 IsPassOpened word dealt told place p =
-    IsSeatOf word.name p × HasRun (search_of word.about) word.about.roots.value p
+    IsSeatOf word.name p × HasRun (search_of_question word.about) word.about.roots.value p
     × (p.failed ≡ false) × (p.taken.count ≡ 0) × (slice_get dealt place ≡ Some p.start) × IsToldAs told p
 
 -- A pass that has nothing left.
 abbrev pub IsDoneOf : WordOf Question → ℕ → Pass → Type 0
 IsDoneOf word place p =
-    IsSeatOf word.name p × HasRun (search_of word.about) word.about.roots.value p × (p.stack.items ≡ [])
+    IsSeatOf word.name p × HasRun (search_of_question word.about) word.about.roots.value p × (p.stack.items ≡ [])
 
 -- A pass that has stopped.
 abbrev pub IsHaltedOf : WordOf Question → ℕ → ℕ → Pass → Type 0
 IsHaltedOf word budget place p =
     IsSeatOf word.name p
-    × (p.failed ≡ false → HasRun (search_of word.about) word.about.roots.value p)
+    × (p.failed ≡ false → HasRun (search_of_question word.about) word.about.roots.value p)
     × IsStopped budget p

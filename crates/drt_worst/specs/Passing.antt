@@ -13,8 +13,8 @@ use Rattle.drt_worst.specs.declared.pass.Question.{Question}
 use Rattle.drt_worst.specs.declared.pass.Pass.{Pass}
 
 -- The search that the word is about.
-abbrev pub search_of : Question → Search
-search_of q = search_for q.forest.value q.wcet q.deadline
+abbrev pub search_of_question : Question → Search
+search_of_question q = search_for q.forest.value q.wcet q.deadline
 
 -- What a seat knows once it has put into the word what was reached.
 abbrev pub announced : View → Choice → View

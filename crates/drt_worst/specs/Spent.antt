@@ -5,9 +5,9 @@ use Rattle.drt_refine.specs.Below.{IsConcrete, tuples}
 use Rattle.drt_worst.specs.Splitting.{Search, IsSplit, IsHalfOf, IsPart, PassesFor, IsLeastFor}
 
 -- The list after a combination was taken from its front: its two parts, if it was split, come first, the left one before the right one.
-abbrev pub with_halves : Option (List ℕ × List ℕ) → List (List ℕ) → List (List ℕ)
-with_halves None list = list
-with_halves (Some p) list = p.0 ∷ p.1 ∷ list
+abbrev pub with_halves_in_front : Option (List ℕ × List ℕ) → List (List ℕ) → List (List ℕ)
+with_halves_in_front None list = list
+with_halves_in_front (Some p) list = p.0 ∷ p.1 ∷ list
 
 module _ (f : Plain) where
   -- The parts of a combination, if it was split.
@@ -21,7 +21,7 @@ module _ (f : Plain) where
   AreTaken list [] (h ∷ halves) rest = ⊥
   AreTaken [] (d ∷ taken) halves rest = ⊥
   AreTaken (c ∷ list) (d ∷ taken) [] rest = ⊥
-  AreTaken (c ∷ list) (d ∷ taken) (h ∷ halves) rest = (c ≡ d) × AreHalves c h × AreTaken (with_halves h list) taken halves rest
+  AreTaken (c ∷ list) (d ∷ taken) (h ∷ halves) rest = (c ≡ d) × AreHalves c h × AreTaken (with_halves_in_front h list) taken halves rest
 
   -- Splitting the first combination, and the parts that this gives, gives the second one.
   abbrev pub IsProperPart : List ℕ → List ℕ → Type 0

@@ -6,7 +6,7 @@ ghost use Rattle.drt_worst.specs.Runs.{known, left_after, reaches};
 ghost use Rattle.drt_word.specs.Rising.{with_raised};
 ghost use Rattle.drt_worst.specs.Subjects.{search_over};
 ghost use Rattle.drt_worst.specs.Plans.{choice_of};
-ghost use Rattle.drt_worst.specs.Passing.{search_of, announced, best_after, leaves_after, IsSeatOf, HasRun, HasRunWith, IsSearchReady};
+ghost use Rattle.drt_worst.specs.Passing.{search_of_question, announced, best_after, leaves_after, IsSeatOf, HasRun, HasRunWith, IsSearchReady};
 
 use crate::plan::{Plan, make_plan};
 use crate::subject::Subject;
@@ -27,7 +27,7 @@ pub(crate) struct Question {
 }
 
 impl Meaning for Question {
-    ghost is_reached = { λ q ticks. (tuple : List ℕ) × IsReached (search_of q) q.roots.value ticks tuple };
+    ghost is_reached = { λ q ticks. (tuple : List ℕ) × IsReached (search_of_question q) q.roots.value ticks tuple };
 }
 
 /// How many combinations a pass took, and which ones, where that is told.
@@ -98,7 +98,7 @@ fn known_by(plan: &Plan, seen: u64) -> u64
 fn announce(word: &Word<Question>, seat: &mut Seat<(), View>, plan: &Plan)
     requires name { seat.old.table_id ≡ word.now.name }
     requires part { 0 < seat.old.me.0.parts }
-    requires reached { (t : ℕ) → choice_of plan.now ≡ reaches t → (tuple : List ℕ) × IsReached (search_of word.now.about) word.now.about.roots.value t tuple }
+    requires reached { (t : ℕ) → choice_of plan.now ≡ reaches t → (tuple : List ℕ) × IsReached (search_of_question word.now.about) word.now.about.roots.value t tuple }
     ensures name { seat.new.table_id ≡ seat.old.table_id }
     ensures seat { seat.new.me ≡ (announced seat.old.me.0 (choice_of plan.now), seat.old.me.1) }
 {
@@ -155,7 +155,7 @@ fn follow(
     pass: &mut Pass,
     combination: Row<u32>,
 ) -> Result<(), Memory>
-    requires about { search_of word.now.about ≡ search_over subject }
+    requires about { search_of_question word.now.about ≡ search_over subject }
     requires ready { IsSearchReady (search_over subject) word.now.about.roots.value }
     requires seat { IsSeatOf word.now.name pass.old }
     requires room { pass.old.taken.count + 1 < 2 ^ 64 }
@@ -189,7 +189,7 @@ pub(crate) fn take(
     subject: Subject<'_>,
     pass: &mut Pass,
 ) -> Result<(), Memory>
-    requires about { search_of word.now.about ≡ search_over subject }
+    requires about { search_of_question word.now.about ≡ search_over subject }
     requires ready { IsSearchReady (search_over subject) word.now.about.roots.value }
     requires seat { IsSeatOf word.now.name pass.old }
     requires room { pass.old.taken.count + 1 < 2 ^ 64 }

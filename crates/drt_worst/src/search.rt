@@ -5,11 +5,11 @@ ghost use Rattle.drt_tree.specs.Tree.{IsForest};
 ghost use Rattle.drt_refine.specs.Below.{AreBelow, AreNodes};
 ghost use Rattle.drt_worst.specs.Splitting.{AreParts, IsPart};
 ghost use Rattle.drt_worst.specs.Runs.{AreDealt};
-ghost use Rattle.drt_word.specs.Rising.{split_left, joined, fresh};
+ghost use Rattle.drt_word.specs.Rising.{split_left, joined_views, fresh_view};
 ghost use Rattle.drt_worst.specs.Splitting.{search_for};
 ghost use Rattle.drt_worst.specs.Subjects.{search_over};
 ghost use Rattle.drt_worst.specs.Plans.{CanTake};
-ghost use Rattle.drt_worst.specs.Passing.{search_of, IsSeatOf, HasRun, IsSearchReady, IsGreatestRaised, IsNotedIn};
+ghost use Rattle.drt_worst.specs.Passing.{search_of_question, IsSeatOf, HasRun, IsSearchReady, IsGreatestRaised, IsNotedIn};
 ghost use Rattle.drt_pool.specs.Turns.{EachPlace};
 ghost use Rattle.drt_worst.specs.Jobs.{IsPassOpened, IsDoneOf, IsHaltedOf, IsToldAs};
 ghost use Rattle.drt_worst.specs.Worst.{IsWorst};
@@ -66,11 +66,11 @@ fn open_one(
 ) -> Result<Pass, Memory>
     requires name { owner.old.table_id ≡ word.now.name }
     requires parts { 1 < owner.old.me.0.parts }
-    requires part { IsPart (search_of word.now.about).forest word.now.about.roots.value combination }
+    requires part { IsPart (search_of_question word.now.about).forest word.now.about.roots.value combination }
     ensures name { owner.new.table_id ≡ owner.old.table_id }
     ensures owner { IfOk result (λ p. owner.new.me ≡ (split_left owner.old.me.0, owner.old.me.1)) }
     ensures seat { IfOk result (λ p. IsSeatOf word.now.name p) }
-    ensures runs { IfOk result (λ p. HasRun (search_of word.now.about) word.now.about.roots.value p) }
+    ensures runs { IfOk result (λ p. HasRun (search_of_question word.now.about) word.now.about.roots.value p) }
     ensures new { IfOk result (λ p. (p.failed ≡ false) × (p.taken.count ≡ 0) × (p.start ≡ combination) × IsToldAs told p) }
 {
     let start = Row::from_vec(Vec::from_slice(alloc, combination.as_slice())?);
@@ -100,11 +100,11 @@ fn absorb(
     requires name { owner.old.table_id ≡ word.now.name }
     requires part { 0 < owner.old.me.0.parts }
     requires seat { IsSeatOf word.now.name pass }
-    requires runs { HasRun (search_of word.now.about) word.now.about.roots.value pass }
-    requires best { IsGreatestRaised (search_of word.now.about) word.now.about.roots.value best.old leaves.old owner.old.me.0 }
+    requires runs { HasRun (search_of_question word.now.about) word.now.about.roots.value pass }
+    requires best { IsGreatestRaised (search_of_question word.now.about) word.now.about.roots.value best.old leaves.old owner.old.me.0 }
     ensures name { owner.new.table_id ≡ owner.old.table_id }
     ensures parts { owner.new.me.0.parts ≡ owner.old.me.0.parts + 1 }
-    ensures best { IsGreatestRaised (search_of word.now.about) word.now.about.roots.value best.new leaves.new owner.new.me.0 }
+    ensures best { IsGreatestRaised (search_of_question word.now.about) word.now.about.roots.value best.new leaves.new owner.new.me.0 }
     ensures known { IsNotedIn pass.known owner.new.me.0 }
     ensures kept { (n : ℕ) → IsNotedIn n owner.old.me.0 → IsNotedIn n owner.new.me.0 }
 {
@@ -153,11 +153,11 @@ fn open_all(
     told: bool,
 ) -> Result<Vec<Pass>, Memory>
     requires name { owner.old.table_id ≡ word.now.name }
-    requires owner { owner.old.me ≡ (fresh 1024, []) }
+    requires owner { owner.old.me ≡ (fresh_view 1024, []) }
     requires few { length dealt.now ≤ 16 }
-    requires parts { AreParts (search_of word.now.about).forest word.now.about.roots.value dealt.now }
+    requires parts { AreParts (search_of_question word.now.about).forest word.now.about.roots.value dealt.now }
     ensures name { owner.new.table_id ≡ owner.old.table_id }
-    ensures owner { IfOk result (λ ps. owner.new.me.0 ≡ fresh (1024 - length dealt.now)) }
+    ensures owner { IfOk result (λ ps. owner.new.me.0 ≡ fresh_view (1024 - length dealt.now)) }
     ensures passes { IfOk result (λ ps. (length ps.items ≡ length dealt.now) × EachPlace (IsPassOpened word.now dealt.now told) ps.items) }
 {
     let mut passes = Vec::new(alloc);
@@ -202,13 +202,13 @@ fn absorb_all(
     mut passes: Vec<Pass>,
 )
     requires name { owner.old.table_id ≡ word.now.name }
-    requires owner { owner.old.me.0 ≡ fresh (1024 - length passes.items) }
+    requires owner { owner.old.me.0 ≡ fresh_view (1024 - length passes.items) }
     requires few { length passes.items ≤ 16 }
     requires best { best.old ≡ 0 }
     requires passes { EachPlace (IsDoneOf word.now) passes.items }
     ensures name { owner.new.table_id ≡ owner.old.table_id }
     ensures parts { owner.new.me.0.parts ≡ 1024 }
-    ensures best { IsGreatestRaised (search_of word.now.about) word.now.about.roots.value best.new leaves.new owner.new.me.0 }
+    ensures best { IsGreatestRaised (search_of_question word.now.about) word.now.about.roots.value best.new leaves.new owner.new.me.0 }
     ensures known { (i : ℕ) (p : Pass) → slice_get passes.items i ≡ Some p → IsNotedIn p.known owner.new.me.0 }
 {
     while let Some(pass) = passes.pop() {
@@ -224,12 +224,12 @@ fn gather(
     passes: Vec<Pass>,
 ) -> Worst
     requires name { owner.table_id ≡ word.name }
-    requires owner { owner.me.0 ≡ fresh (1024 - length passes.items) }
+    requires owner { owner.me.0 ≡ fresh_view (1024 - length passes.items) }
     requires few { length passes.items ≤ 16 }
-    requires ready { IsSearchReady (search_of word.about) word.about.roots.value }
+    requires ready { IsSearchReady (search_of_question word.about) word.about.roots.value }
     requires passes { EachPlace (IsDoneOf word) passes.items }
-    requires dealt { (dealt : List (List ℕ)) × AreDealt (search_of word.about).forest word.about.roots.value dealt × (length passes.items ≡ length dealt) × EachPlace (λ place p. slice_get dealt place ≡ Some p.start) passes.items }
-    ensures { (budget : ℕ) → IsWorst (search_of word.about) word.about.roots.value budget result }
+    requires dealt { (dealt : List (List ℕ)) × AreDealt (search_of_question word.about).forest word.about.roots.value dealt × (length passes.items ≡ length dealt) × EachPlace (λ place p. slice_get dealt place ≡ Some p.start) passes.items }
+    ensures { (budget : ℕ) → IsWorst (search_of_question word.about) word.about.roots.value budget result }
 {
     let mut best = 0;
     let mut leaves = Row::from_vec(Vec::new(alloc));
@@ -262,12 +262,12 @@ fn finish(
     budget: u64,
 ) -> Result<Option<Worst>, Memory>
     requires name { owner.table_id ≡ word.name }
-    requires owner { owner.me.0 ≡ fresh (1024 - length passes.items) }
+    requires owner { owner.me.0 ≡ fresh_view (1024 - length passes.items) }
     requires few { length passes.items ≤ 16 }
-    requires ready { IsSearchReady (search_of word.about) word.about.roots.value }
+    requires ready { IsSearchReady (search_of_question word.about) word.about.roots.value }
     requires passes { EachPlace (IsHaltedOf word budget) passes.items }
-    requires dealt { (dealt : List (List ℕ)) × AreDealt (search_of word.about).forest word.about.roots.value dealt × (length passes.items ≡ length dealt) × EachPlace (λ place p. slice_get dealt place ≡ Some p.start) passes.items }
-    ensures worst { IfOk result (λ o. IfSome o (λ w. IsWorst (search_of word.about) word.about.roots.value budget w)) }
+    requires dealt { (dealt : List (List ℕ)) × AreDealt (search_of_question word.about).forest word.about.roots.value dealt × (length passes.items ≡ length dealt) × EachPlace (λ place p. slice_get dealt place ≡ Some p.start) passes.items }
+    ensures worst { IfOk result (λ o. IfSome o (λ w. IsWorst (search_of_question word.about) word.about.roots.value budget w)) }
     ensures told { EachPlace (λ place p. IsSome p.taken.told) passes.items → IfOk result (λ o. IsSome o) }
 {
     if has_failed(passes.as_slice()) {
@@ -291,7 +291,7 @@ fn run_passes<G: Gate, R: Threads + Wait + Sync>(
     told: bool,
     passes: &mut [Pass],
 )
-    requires about { search_of word.now.about ≡ search_over subject }
+    requires about { search_of_question word.now.about ≡ search_over subject }
     requires ready { IsSearchReady (search_over subject) word.now.about.roots.value }
     requires few { length passes.old ≤ 16 }
     requires passes { EachPlace (IsPassOpened word.now dealt.now told) passes.old }

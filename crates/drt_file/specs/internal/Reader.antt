@@ -24,5 +24,5 @@ pub record HasNames (s : State) (tasks vertices : List (List ℕ)) : Type 0 wher
   pub of_vertices : vertices ≡ vertex_names s
 
 -- The task with this edge more.
-unfoldable pub joined : Edge → Draft → Draft
-joined e d = record { name = d.name; line = d.line; priority = d.priority; vertices = d.vertices; edges = d.edges ++ e ∷ [] }
+unfoldable pub joined_draft : Edge → Draft → Draft
+joined_draft e d = record { name = d.name; line = d.line; priority = d.priority; vertices = d.vertices; edges = d.edges ++ e ∷ [] }

@@ -22,8 +22,8 @@ abbrev pub has_vertex : List ℕ → List Vertex → Bool
 has_vertex name vs = list_any (λ v. bytes_eq v.name name) vs
 
 -- How many vertices stand before the one of that name.
-unfoldable pub place_of : List ℕ → List Vertex → ℕ
-place_of name vs = position_or_len (λ v. bytes_eq v.name name) vs
+unfoldable pub place_of_name : List ℕ → List Vertex → ℕ
+place_of_name name vs = position_or_len (λ v. bytes_eq v.name name) vs
 
 -- An edge with these two ends stands among these.
 unfoldable pub has_edge : ℕ → ℕ → List Edge → Bool
@@ -81,7 +81,7 @@ edge_fault s (word ∷ from ∷ to ∷ sep ∷ []) = first_of (
     ∷ (6, not (is_in_range sep))
     ∷ (7, not (is_name from && is_name to))
     ∷ (10, in_task (λ d. not (has_vertex from d.vertices && has_vertex to d.vertices)) s)
-    ∷ (11, in_task (λ d. has_edge (place_of from d.vertices) (place_of to d.vertices) d.edges) s)
+    ∷ (11, in_task (λ d. has_edge (place_of_name from d.vertices) (place_of_name to d.vertices) d.edges) s)
     ∷ (12, is_outside s)
     ∷ (15, in_task (λ d. nat_le 256 (length d.edges)) s)
     ∷ [])

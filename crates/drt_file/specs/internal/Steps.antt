@@ -14,7 +14,7 @@ use Rattle.drt_file.specs.trusted.Cutting.{lines, fields}
 use Rattle.drt_file.specs.trusted.Words.{drt_word, value}
 use Rattle.drt_file.specs.internal.Kinds.{kind, first_word}
 use Rattle.drt_file.specs.trusted.Line.{is_skipped}
-use Rattle.drt_file.specs.internal.StateFaults.{place_of, line_fault, task_count}
+use Rattle.drt_file.specs.internal.StateFaults.{place_of_name, line_fault, task_count}
 
 -- The number that digits mean, or 1,000,001 where it is greater.
 abbrev pub capped : List ℕ → ℕ
@@ -68,7 +68,7 @@ with_vertex v d = record { name = d.name; line = d.line; priority = d.priority; 
 
 -- The task with one edge more, whose ends are the places of these names.
 unfoldable pub with_edge : List ℕ → List ℕ → ℕ → Draft → Draft
-with_edge from to sep d = record { name = d.name; line = d.line; priority = d.priority; vertices = d.vertices; edges = d.edges ++ record { from = narrow (place_of from d.vertices); to = narrow (place_of to d.vertices); sep = sep } ∷ [] }
+with_edge from to sep d = record { name = d.name; line = d.line; priority = d.priority; vertices = d.vertices; edges = d.edges ++ record { from = narrow (place_of_name from d.vertices); to = narrow (place_of_name to d.vertices); sep = sep } ∷ [] }
 
 -- The task with this priority.
 unfoldable pub with_priority : ℕ → Draft → Draft

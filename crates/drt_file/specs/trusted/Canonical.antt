@@ -40,12 +40,12 @@ abbrev pub edge_line : List Vertex → Edge → List (List ℕ)
 edge_line vertices e = edge_word ∷ name_at vertices e.from ∷ name_at vertices e.to ∷ decimal e.sep ∷ []
 
 -- The lines of a task's vertices and edges, each in their order.
-unfoldable pub body_lines : Task → List (List (List ℕ))
-body_lines t = map vertex_line t.vertices ++ map (edge_line t.vertices) t.edges
+unfoldable pub lines_of_body : Task → List (List (List ℕ))
+lines_of_body t = map vertex_line t.vertices ++ map (edge_line t.vertices) t.edges
 
 -- The lines of a task: its name, in version 2 its priority, its vertices and its edges.
 unfoldable pub task_lines : ℕ → Task → List (List (List ℕ))
-task_lines version t = task_line t ∷ (priority_lines version t ++ body_lines t)
+task_lines version t = task_line t ∷ (priority_lines version t ++ lines_of_body t)
 
 -- The last line of a text: `end`.
 abbrev pub end_line : List (List ℕ)

@@ -7,7 +7,7 @@ ghost use Rattle.drt_evidence.specs.LineForms.{AreItemsCounted, IsAny};
 ghost use Rattle.drt_claims.specs.Ranges.{IsInRangeRelease, IsNumber};
 ghost use Rattle.drt_evidence.specs.Text.{count_line, release_line};
 ghost use Rattle.drt_responses.specs.Ranges.{AreResponsesInRange};
-ghost use Rattle.drt_responses.specs.Rows.{IsInRangeHeading, IsStop, first_block, heading_line, releases_block, rows_block};
+ghost use Rattle.drt_responses.specs.Rows.{IsInRangeHeading, IsStop, first_responses_block, heading_line, releases_block, rows_block};
 ghost use Rattle.drt_responses.specs.declared.reading.text.Stop.TheVariants.{Fault};
 
 use crate::reading::lines::{Heading, count_of, heading_of, is_first_line, release_of};
@@ -32,8 +32,8 @@ fn taken<'a, T>(text: &mut Text<'a>, others: &'a [u8], found: Option<T>) -> Resu
 
 // The first line of a text of responses.
 pub(crate) fn read_first(text: &mut Text) -> Result<(), Stop>
-    ensures read { IfOk result (λ u. ReadsBlock first_block IsAny text.old.rest.now u text.new.rest.now) }
-    ensures stops { IfErr result (IsStop first_block IsAny text.old.rest.now) }
+    ensures read { IfOk result (λ u. ReadsBlock first_responses_block IsAny text.old.rest.now u text.new.rest.now) }
+    ensures stops { IfErr result (IsStop first_responses_block IsAny text.old.rest.now) }
 {
     let (line, others) = first_line(text.rest)?;
     taken(text, others, is_first_line(line).then_some(()))

@@ -5,7 +5,7 @@ use Rattle.std.proofs.lemmas.Option.{slice_get_past, slice_get_read}
 use Rattle.drt_claims.specs.Trees.{higher_count, root}
 use Rattle.drt_claims.specs.declared.evidence.Item.{Item}
 use Rattle.drt_check_values.specs.declared.query.Query.{Query}
-use Rattle.drt_check_proofs.specs.Passing.{blank, passes_at, times}
+use Rattle.drt_check_proofs.specs.Passing.{blank, passes_at, passing_times}
 use Rattle.drt_check_proofs.proofs.Rest.{queries_above, queries_past}
 use Rattle.drt_check_proofs.proofs.queries.add_queries.Goals as goal
 
@@ -29,5 +29,5 @@ returns-else-i-higher_count c =
     let tree = c.args.tree.now in
     let at : slice_get c.args.tasks.now c.args.proof.now.task ≡ Some t = slice_get_read c.args.tasks.now (length c.args.tasks.now) c.args.proof.now.task t refl c.if-proof-tasks.false c.index-tasks-proof.is in
     let l : higher_count c.args.tasks.now t.priority ≤ c.args.i = rw c.higher_count.ensures at c.if-i-higher_count.false in
-    let e = ap (λ (items : List Item). map blank (times items)) c.as_slice-else-i-higher_count.ensures ∙ queries_past c.args.tasks.now tree c.args.i c.args.proof.now t at l in
+    let e = ap (λ (items : List Item). map blank (passing_times items)) c.as_slice-else-i-higher_count.ensures ∙ queries_past c.args.tasks.now tree c.args.i c.args.proof.now t at l in
     subst (λ (qs : List Query). IfOk c.add_blanks.result (λ u. c.add_blanks.new.queries.items ≡ c.args.queries.now.items ++ qs)) e c.add_blanks.ensures

@@ -2,7 +2,7 @@ use Rattle.std.proofs.Common.{◌≡◌, length, map, sym, ap, ◌∙◌, arith}
 use Rattle.std.proofs.lemmas.Bool.{false≢true, eqb-true, eq-eqb}
 use Rattle.drt_claims.specs.Proofs.{subjects_from}
 use Rattle.drt_model.specs.declared.tasks.Task.{Task}
-use Rattle.drt_check_proofs.specs.Subjects.{subject}
+use Rattle.drt_check_proofs.specs.Subjects.{subject_of_proof}
 use Rattle.drt_check_proofs.proofs.TaskProofs.{all_left, next_task, none_left, not_next, too_few_left}
 use Rattle.drt_check_proofs.proofs.subjects.is_proof_per_vertex.Goals as goal
 use Rattle.drt_check_proofs.proofs.subjects.is_proof_per_vertex.Goals.{then-proofs-first-via-then-proofs-first, then-proofs-first-via-else-proofs-first+then-not-are_of_task}
@@ -14,7 +14,7 @@ returns-then-proofs-first c =
     let t = c.index-tasks-k.result in
     let n = length c.as_slice-count.result.now in
     let n_is : length t.vertices ≡ n = ap (λ (x : Task). length x.vertices) c.index-tasks-k.is ∙ sym (ap length c.as_slice-count.ensures) in
-    let A = map subject proofs ≡ subjects_from 0 tasks in (
+    let A = map subject_of_proof proofs ≡ subjects_from 0 tasks in (
       λ e. absurd (false≢true e),
       λ all. (let here = rw (sym c.tasks-tasks.ensures.tasks) at all in
           elim c.then-proofs-first.branch [
@@ -30,7 +30,7 @@ tasks-preserved c =
     let n_is : length c.index-tasks-k.result.vertices ≡ n = ap (λ (x : Task). length x.vertices) c.index-tasks-k.is ∙ sym (ap length c.as_slice-count.ensures) in
     let own = c.are_of_task.ensures.0 (cc) in (
       omega (arith, c.if-proofs-first.false, c.tasks.invariant.0),
-      next_task (map subject c.args.proofs.now ≡ subjects_from 0 c.tasks-tasks.result.now) c.args.proofs.now c.tasks.first c.tasks.k n c.index-tasks-k.result c.tasks-tasks.result.now
+      next_task (map subject_of_proof c.args.proofs.now ≡ subjects_from 0 c.tasks-tasks.result.now) c.args.proofs.now c.tasks.first c.tasks.k n c.index-tasks-k.result c.tasks-tasks.result.now
           c.tasks-test.true c.index-tasks-k.is n_is c.tasks.invariant.0 c.if-proofs-first.false own c.tasks.invariant.1,
     )
 

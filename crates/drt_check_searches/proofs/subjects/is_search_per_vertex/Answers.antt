@@ -2,7 +2,7 @@ use Rattle.std.proofs.Common.{◌≡◌, length, map, sym, ap, ◌∙◌, arith}
 use Rattle.std.proofs.lemmas.Bool.{false≢true, eqb-true, eq-eqb}
 use Rattle.drt_claims.specs.Proofs.{subjects_from}
 use Rattle.drt_model.specs.declared.tasks.Task.{Task}
-use Rattle.drt_check_searches.specs.Subjects.{subject}
+use Rattle.drt_check_searches.specs.Subjects.{subject_of_search}
 use Rattle.drt_check_searches.proofs.TaskSearches.{all_left, next_task, none_left, not_next, too_few_left}
 use Rattle.drt_check_searches.proofs.subjects.is_search_per_vertex.Goals as goal
 use Rattle.drt_check_searches.proofs.subjects.is_search_per_vertex.Goals.{then-searches-first-via-then-searches-first, then-searches-first-via-else-searches-first+then-not-are_of_task}
@@ -15,7 +15,7 @@ returns-then-searches-first c =
     let n = length c.as_slice-count.result.now in
     let n_is : length t.vertices ≡ n = ap (λ (x : Task). length x.vertices) c.index-tasks-k.is ∙ sym (ap length c.as_slice-count.ensures) in
     let first = c.tasks.first in
-    let A = map subject searches ≡ subjects_from 0 tasks in (
+    let A = map subject_of_search searches ≡ subjects_from 0 tasks in (
       λ e. absurd (false≢true e),
       λ all. (let here = rw (sym c.tasks-tasks.ensures.tasks) at all in
           elim c.then-searches-first.branch [
@@ -33,7 +33,7 @@ tasks-preserved c =
     let n_is : length c.index-tasks-k.result.vertices ≡ n = ap (λ (x : Task). length x.vertices) c.index-tasks-k.is ∙ sym (ap length c.as_slice-count.ensures) in
     let own = c.are_of_task.ensures.0 (cc) in (
       omega (arith, c.if-searches-first.false, c.tasks.invariant.0),
-      next_task (map subject c.args.searches.now ≡ subjects_from 0 c.tasks-tasks.result.now) c.args.searches.now c.tasks.first c.tasks.k n c.index-tasks-k.result c.tasks-tasks.result.now
+      next_task (map subject_of_search c.args.searches.now ≡ subjects_from 0 c.tasks-tasks.result.now) c.args.searches.now c.tasks.first c.tasks.k n c.index-tasks-k.result c.tasks-tasks.result.now
           c.tasks-test.true c.index-tasks-k.is n_is c.tasks.invariant.0 c.if-searches-first.false own c.tasks.invariant.1,
     )
 

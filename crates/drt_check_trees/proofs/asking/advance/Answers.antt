@@ -1,7 +1,7 @@
 use Rattle.std.proofs.Common.{◌≡◌, ℕ, ◌+◌, ◌<◌, ◌≤◌, ap, arith, drop, get_or, length}
 use Rattle.drt_model.specs.declared.tasks.Vertex.{Vertex}
 use Rattle.drt_model.specs.Walk.{wcet}
-use Rattle.drt_check_trees.specs.Asking.{asked_from}
+use Rattle.drt_check_trees.specs.Asking.{asked_by_rest}
 use Rattle.drt_check_trees.proofs.Asks.{asks_at}
 use Rattle.drt_check_trees.proofs.asking.advance.Goals as goal
 
@@ -22,7 +22,7 @@ loop-cursor-preserved c =
       λ t m.
           let low : d.offset < t = omega (arith, c.if-cursor-offset.true, m) in
           let a = asks_at g walk d.place d.offset t l low in
-          let b = ap (λ (x : ℕ). asked_from g x (drop (d.place + 1) walk) t) o in
+          let b = ap (λ (x : ℕ). asked_by_rest g x (drop (d.place + 1) walk) t) o in
           let same = c.loop-cursor.invariant.1 t m in
           omega (arith, a, b, v, same),
     )

@@ -1,6 +1,6 @@
 use Rattle.std.proofs.Common.{◌≤◌, ◌^◌, All, ap, arith, length, subst, sym}
 use Rattle.drt_model.specs.Legal.{IsLegal}
-use Rattle.drt_claims.specs.Kinds.{releases_of}
+use Rattle.drt_claims.specs.Kinds.{stated_releases}
 use Rattle.drt_command_timeline.proofs.NoLemmas.{known_no, times_of}
 use Rattle.drt_command_timeline.proofs.no.draw_no.Goals as goal
 
@@ -16,7 +16,7 @@ draw-requires c =
     let until = c.in-Some.ensures.2 in
     record {
       legal = subst (IsLegal d.set.tasks) (sym same) known.0;
-      times = subst (λ rs. All (λ r. r.time ≤ 10 ^ 18) rs) (sym same) (times_of (releases_of d.evidence) known.1.each);
+      times = subst (λ rs. All (λ r. r.time ≤ 10 ^ 18) rs) (sym same) (times_of (stated_releases d.evidence) known.1.each);
       few = omega (arith, count, counted);
       within = omega (arith, deadline, until);
     }

@@ -2,7 +2,7 @@
 use Rattle.std.proofs.Common.{◌≡◌, ◌+◌, ◌++◌, length, sym, ap, ◌∙◌, subst, arith, rules}
 use Rattle.std.proofs.lemmas.Fn.{always_returns_same}
 use Rattle.drt_model.specs.Trace.{job_at}
-use Rattle.drt_timeline.specs.Gathering.{job_events, order_of}
+use Rattle.drt_timeline.specs.Gathering.{job_events, event_key}
 use Rattle.drt_timeline.proofs.GatheringLemmas.{AreEventsBelow, all_events, events_more, events_none}
 use Rattle.drt_timeline.proofs.gathering.events_of.Goals as goal
 
@@ -31,4 +31,4 @@ returns c =
     let end : c.loop-j.j ≡ length b.jobs = omega arith in
     let gathered = subst (λ n. AreEventsBelow b.policy b.jobs b.ticks n events) end c.loop-j.invariant in
     all_events b.policy b.jobs b.ticks events c.sort_unstable_by_key.new.self.items gathered c.sort_unstable_by_key.ensures.permutation
-    (c.sort_unstable_by_key.ensures.sorted order_of (always_returns_same _ (λ a r. r ≡ order_of a.0.now) _ (λ a r q k. search rules)))
+    (c.sort_unstable_by_key.ensures.sorted event_key (always_returns_same _ (λ a r. r ≡ event_key a.0.now) _ (λ a r q k. search rules)))

@@ -3,7 +3,7 @@ use Rattle.std.proofs.Common.{◌≡◌, [], ◌∷◌, ◌++◌, ap, ◌∙◌}
 use Rattle.std.specs.Prelude.{codes}
 use Rattle.drt_file.specs.trusted.Canonical.{written}
 use Rattle.drt_timeline.specs.Names.{JobNames}
-use Rattle.drt_timeline.specs.Text.{head_lines, timeline_lines}
+use Rattle.drt_timeline.specs.Text.{timeline_head_lines, timeline_lines}
 use Rattle.drt_timeline.proofs.PrintLemmas.{framed}
 use Rattle.drt_timeline.proofs.text.print.Goals as goal
 
@@ -21,5 +21,5 @@ returns c =
     ∙ ap (λ xs. timeline_lines tasks rs timeline.spans xs) c.as_slice-2.ensures in
     c.from_vec.ensures
     ∙ framed c.new-text.result.items c.push_head.new.text.items c.push_lines.new.text.items c.push_line.new.text.items
-    (head_lines c.args.policy) (timeline_lines tasks rs timeline.spans timeline.events) (codes "close" ∷ []) c.new-text.ensures.items
+    (timeline_head_lines c.args.policy) (timeline_lines tasks rs timeline.spans timeline.events) (codes "close" ∷ []) c.new-text.ensures.items
     c.in_ok-push_head.ensures (c.in_ok-push_lines.ensures ∙ ap (λ ls. c.push_head.new.text.items ++ written ls) named) (rw c.as_slice-3.ensures at c.in_ok-push_line.ensures.line)

@@ -1,6 +1,6 @@
 use Rattle.std.proofs.Common.{rules, ◌≡◌, ℕ, ◌+◌, ◌-◌, ◌/◌, ◌<◌, ◌≤◌, [], ◌∷◌, ◌++◌, Some, length, sym, ap, ◌∙◌, subst, arith}
 use Rattle.drt_steps.specs.Values.{max_of}
-use Rattle.drt_tree.specs.Tree.{Plain, plain, IsForest, Grows, values}
+use Rattle.drt_tree.specs.Tree.{Plain, plain, IsForest, Grows, node_values_in}
 use Rattle.drt_tree.specs.Shape.{IsBuilt}
 use Rattle.drt_tree.proofs.Trees.{grows_none, grows_long, children_stay, any_default, built_two, Paired}
 use Rattle.drt_tree.proofs.build.+build.Goals as goal
@@ -30,8 +30,8 @@ max_of-requires t c =
     let wl : l < length a.nodes = c.in_ok-left.ensures.built.within in
     let ab : length a.nodes ≤ length b.nodes = grows_long a b c.in_ok-right.ensures.grows in
     let wr : r < length b.nodes = c.in_ok-right.ensures.built.within in
-    let el : c.index.result.now ≡ values b l = c.index.ensures ∙ any_default c.index.result.now [] b.pool l (omega arith) in
-    let er : c.index-2.result.now ≡ values b r = c.index-2.ensures ∙ any_default c.index-2.result.now [] b.pool r (omega arith) in
+    let el : c.index.result.now ≡ node_values_in b l = c.index.ensures ∙ any_default c.index.result.now [] b.pool l (omega arith) in
+    let er : c.index-2.result.now ≡ node_values_in b r = c.index-2.ensures ∙ any_default c.index-2.result.now [] b.pool r (omega arith) in
     ap length el ∙ (k.bound l r (omega arith) (omega arith) ∙ sym (ap length er))
 
 pub returns-clause-built : goal.returns-clause-built
@@ -48,9 +48,9 @@ returns-clause-built t c =
     let wl : l < length a.nodes = c.in_ok-left.ensures.built.within in
     let ab : length a.nodes ≤ length b.nodes = grows_long a b c.in_ok-right.ensures.grows in
     let wr : r < length b.nodes = c.in_ok-right.ensures.built.within in
-    let el : c.index.result.now ≡ values b l = c.index.ensures ∙ any_default c.index.result.now [] b.pool l (omega arith) in
-    let er : c.index-2.result.now ≡ values b r = c.index-2.ensures ∙ any_default c.index-2.result.now [] b.pool r (omega arith) in
-    let most : c.in_ok-most.most ≡ max_of (values b l) (values b r) = c.in_ok-most.ensures ∙ (ap (λ z. max_of z c.index-2.result.now) el ∙ ap (λ z. max_of (values b l) z) er) in
+    let el : c.index.result.now ≡ node_values_in b l = c.index.ensures ∙ any_default c.index.result.now [] b.pool l (omega arith) in
+    let er : c.index-2.result.now ≡ node_values_in b r = c.index-2.ensures ∙ any_default c.index-2.result.now [] b.pool r (omega arith) in
+    let most : c.in_ok-most.most ≡ max_of (node_values_in b l) (node_values_in b r) = c.in_ok-most.ensures ∙ (ap (λ z. max_of z c.index-2.result.now) el ∙ ap (λ z. max_of (node_values_in b l) z) er) in
     let none : c.from_vec.result ≡ [] = c.from_vec.ensures ∙ c.new.ensures.items in
     let p : Paired b count l r g = record {
       nodes = c.in_ok-push-2.ensures.items ∙ ap (λ z. b.nodes ++ record { children = Some (l, r); leaves = count; walk = z } ∷ []) none;

@@ -1,12 +1,12 @@
 use Rattle.std.proofs.Common.{rules, sym, ap, subst}
 use Rattle.drt_word.specs.declared.view.View.{View}
-use Rattle.drt_worst.specs.Passing.{search_of, IsGreatestRaised, IsNotedIn}
+use Rattle.drt_worst.specs.Passing.{search_of_question, IsGreatestRaised, IsNotedIn}
 use Rattle.drt_worst.proofs.Ends.{noted_left, noted_right, best_left, best_right}
 use Rattle.drt_worst.proofs.search.absorb.Goals as goal
 
 pub returns-then-own_best-best-clause-best : goal.returns-then-own_best-best-clause-best
 returns-then-own_best-best-clause-best c =
-    let s = search_of c.args.word.now.about in
+    let s = search_of_question c.args.word.now.about in
     let roots = c.args.word.now.about.roots.value in
     subst (λ (v : View). IsGreatestRaised s roots c.args.pass.best c.args.pass.leaves v) (sym (ap (λ m. m.0) c.join.ensures.seat))
     (best_right s roots c.args.best.now c.args.pass.best c.args.leaves.now c.args.pass.leaves c.args.owner.now.me.0 c.args.pass.seat.me.0 (search rules) c.requires.best c.requires.runs.best)
@@ -20,7 +20,7 @@ returns-then-own_best-best-clause-kept c n h = subst (λ (v : View). IsNotedIn n
 
 pub returns-clause-best : goal.returns-clause-best
 returns-clause-best c =
-    let s = search_of c.args.word.now.about in
+    let s = search_of_question c.args.word.now.about in
     let roots = c.args.word.now.about.roots.value in
     subst (λ (v : View). IsGreatestRaised s roots c.args.best.now c.args.leaves.now v) (sym (ap (λ m. m.0) c.join.ensures.seat))
     (best_left s roots c.args.best.now c.args.pass.best c.args.leaves.now c.args.pass.leaves c.args.owner.now.me.0 c.args.pass.seat.me.0 (search rules) c.requires.best c.requires.runs.best)

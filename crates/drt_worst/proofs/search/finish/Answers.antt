@@ -2,7 +2,7 @@ use Rattle.std.proofs.Common.{rules, inl, inr, ◌≡◌, ◌≢◌, ℕ, List, 
 use Rattle.std.specs.Prelude.{slice_get, option_map, IfSome, IsSome}
 use Rattle.std.proofs.lemmas.Option.{get_or_from_slice_get, IfSome_then}
 use Rattle.drt_worst.specs.Worst.{IsWorst}
-use Rattle.drt_worst.specs.Passing.{search_of, HasRun}
+use Rattle.drt_worst.specs.Passing.{search_of_question, HasRun}
 use Rattle.drt_worst.specs.Jobs.{IsHaltedOf}
 use Rattle.drt_worst.specs.declared.pass.Pass.{Pass}
 use Rattle.drt_worst.specs.declared.answer.Worst.TheVariants.{Spent}
@@ -15,7 +15,7 @@ returns-in-None-clause-worst c = c.gather.ensures c.args.budget
 pub returns-in-Some-clause-worst : goal.returns-in-Some-clause-worst
 returns-in-Some-clause-worst c =
     let q = c.args.word.about in
-    let s = search_of q in
+    let s = search_of_question q in
     let roots : List ℕ = q.roots.value in
     let ps : List Pass = c.args.passes.items in
     let same : c.as_slice.result.now ≡ ps = c.as_slice.ensures.value in

@@ -3,7 +3,7 @@ use Rattle.std.specs.Prelude.{slice_get}
 use Rattle.drt_worst.specs.Splitting.{Search}
 use Rattle.drt_worst.specs.Runs.{AreDealt}
 use Rattle.drt_worst.specs.Subjects.{search_over}
-use Rattle.drt_worst.specs.Passing.{search_of}
+use Rattle.drt_worst.specs.Passing.{search_of_question}
 use Rattle.drt_pool.specs.Turns.{EachPlace}
 use Rattle.drt_worst.specs.Jobs.{IsPassOpened, IsHaltedOf}
 use Rattle.drt_worst.specs.declared.pass.Pass.{Pass}
@@ -31,7 +31,7 @@ finish-requires-clause-dealt g c =
     let dealt : List (List ℕ) = c.as_slice-2.result.now in
     let all = whole c.in_ok-passes.passes.items c.run_passes.new.passes c.in_ok-passes.passes.len (search rules) (search rules) in
     let lengths : length c.run_passes.new.passes ≡ length dealt = search rules in
-    let about : search_of w.about ≡ search_over c.args.subject = search rules in
+    let about : search_of_question w.about ≡ search_over c.args.subject = search rules in
     let roots : w.about.roots.value ≡ c.args.roots.now = search rules in
     let d : AreDealt c.args.subject.forest.now c.args.roots.now dealt
     = subst (λ (xs : List (List ℕ)). AreDealt c.args.subject.forest.now c.args.roots.now xs) (sym c.as_slice-2.ensures.value) c.in_ok-dealt.ensures.dealt in

@@ -1,14 +1,14 @@
 use Rattle.std.proofs.Common.{◌≡◌, ap, ◌∙◌, arith, length}
 use Rattle.drt_worklist.specs.Places.{first}
-use Rattle.drt_refine.specs.Combination.{is_taken, is_taken_state}
+use Rattle.drt_refine.specs.Combination.{is_combination_taken, is_taken_combination}
 use Rattle.drt_refine.specs.View.{FrontierView}
 use Rattle.drt_refine.proofs.Flat.{first_combinations}
 use Rattle.drt_refine.proofs.frontier.Frontier.first_taken.Goals as goal
 
 pub returns-clause-value : goal.returns-clause-value
 returns-clause-value c =
-    c.first_taken.ensures ∙ (first_combinations is_taken_state (length c.self.inside.roots.items) c.self.inside.nodes.items c.self.inside.states.items
-    ∙ ap (λ (v : FrontierView). first is_taken v.combinations) c.self.view_is)
+    c.first_taken.ensures ∙ (first_combinations is_taken_combination (length c.self.inside.roots.items) c.self.inside.nodes.items c.self.inside.states.items
+    ∙ ap (λ (v : FrontierView). first is_combination_taken v.combinations) c.self.view_is)
 
 pub returns-clause-within : goal.returns-clause-within
 returns-clause-within c =

@@ -2,7 +2,7 @@ use Rattle.std.proofs.Common.{◌≡◌, ℕ, ◌+◌, ◌*◌, ◌≤◌, List,
 use Rattle.std.specs.Prelude.{vec_capacity}
 use Rattle.std.proofs.lemmas.Option.{same_Some}
 use Rattle.drt_worklist.specs.Places.{first, places}
-use Rattle.drt_refine.specs.Combination.{Combination, is_failed, is_failed_state, is_taken_state}
+use Rattle.drt_refine.specs.Combination.{Combination, is_failed, is_failed_state, is_taken_combination}
 use Rattle.drt_refine.specs.Machine.{halves}
 use Rattle.drt_refine.specs.View.{FrontierView, combinations_of}
 use Rattle.drt_refine.specs.declared.step.CombinationState.{CombinationState}
@@ -97,7 +97,7 @@ invariant_of-self c =
     let l1 : length c.copy_with.new.items.items ≡ length nodes + length a = ap length c.copy_with.ensures.items ∙ length-append nodes a in
     let l2 : length c.copy_with-2.new.items.items ≡ length c.copy_with.new.items.items + length b = ap length c.copy_with-2.ensures.items ∙ length-append c.copy_with.new.items.items b in
     let n : length c.split-left.new.self.items ≡ length states + 2 = length_now w width budget nodes states id x z c.args.place c.split-left.new.self.items c.split-left.ensures.items in
-    let t : length (places is_taken_state c.split-left.new.self.items) + 1 ≡ length (places is_taken_state states) = taken_now w width budget nodes states id x z c.args.place c.split-left.new.self.items c.split-left.ensures.items in
+    let t : length (places is_taken_combination c.split-left.new.self.items) + 1 ≡ length (places is_taken_combination states) = taken_now w width budget nodes states id x z c.args.place c.split-left.new.self.items c.split-left.ensures.items in
     let m : length c.push_within.new.items.items ≡ length c.self.inside.log.items + 1 = ap length c.push_within.ensures.items ∙ length-append c.self.inside.log.items (_ ∷ []) in (
       c.self.invariant.0,
       c.self.invariant.1,

@@ -3,7 +3,7 @@ use Rattle.std.specs.Prelude.{slice_get}
 use Rattle.drt_worklist.specs.Places.{first, places, changed}
 use Rattle.drt_worklist.proofs.Places.{places_set}
 use Rattle.drt_worklist.proofs.Writes.{length_set}
-use Rattle.drt_refine.specs.Combination.{Combination, with_state, is_failed, is_failed_state, is_taken_state}
+use Rattle.drt_refine.specs.Combination.{Combination, with_state, is_failed, is_failed_state, is_taken_combination}
 use Rattle.drt_refine.specs.View.{FrontierView, combinations_of}
 use Rattle.drt_refine.specs.declared.step.CombinationState.{CombinationState}
 use Rattle.drt_refine.proofs.Flat.{combination_at, first_combinations, combinations_set, moved_by}
@@ -29,8 +29,8 @@ invariant_of-self c =
     let hb : c.self.inside.budget ≡ c.args.self.now.budget = ap (λ (v : FrontierView). v.budget) c.self.view_is in
     let ls : length c.settle.new.self.items ≡ length states = ap length c.settle.ensures.items ∙ length_set states c.args.id c.args.state in
     let pw : length c.settle.new.self.items * w ≡ length states * w = ap (λ n. n * w) ls in
-    let pe : length (places is_taken_state c.settle.new.self.items) ≡ length (places is_taken_state (set states c.args.id c.args.state)) = ap (λ l. length (places is_taken_state l)) c.settle.ensures.items in
-    let pl : length (places is_taken_state (set states c.args.id c.args.state)) ≤ length (places is_taken_state states) + 1 = places_set is_taken_state states c.args.id c.args.state in
+    let pe : length (places is_taken_combination c.settle.new.self.items) ≡ length (places is_taken_combination (set states c.args.id c.args.state)) = ap (λ l. length (places is_taken_combination l)) c.settle.ensures.items in
+    let pl : length (places is_taken_combination (set states c.args.id c.args.state)) ≤ length (places is_taken_combination states) + 1 = places_set is_taken_combination states c.args.id c.args.state in
     let m : length c.push_within.new.items.items ≡ length c.self.inside.log.items + 1 = ap length c.push_within.ensures.items ∙ length-append c.self.inside.log.items (_ ∷ []) in
     (c.self.invariant.0, c.self.invariant.1, c.self.invariant.2, omega (arith, c.requires.room), c.self.invariant.4 ∙ sym pw, omega (arith, c.self.invariant.5), omega (arith, c.self.invariant.6, c.settle.ensures.room), c.self.invariant.7, omega (arith, c.self.invariant.8, c.push_within.ensures.capacity))
 

@@ -2,7 +2,7 @@ use Rattle.std.proofs.Common.{◌≡◌, ℕ, ◌+◌, ◌<◌, ◌≤◌, lengt
 use Rattle.drt_steps.specs.declared.jump.Jump.{Jump}
 use Rattle.drt_steps.specs.declared.rises.Rises.{Rises}
 use Rattle.drt_steps.specs.Values.{raise, value_at}
-use Rattle.drt_steps.specs.Jumps.{total, values, AreKept, AreMarks, IsPlaceReached, up_to, past}
+use Rattle.drt_steps.specs.Jumps.{total_rise, values, AreKept, AreMarks, IsPlaceReached, up_to, past}
 use Rattle.drt_steps.proofs.Jumps.{raise_out, base_raised}
 use Rattle.drt_steps.proofs.Kept.{long, top, base_kept, placed_kept, placed_is}
 use Rattle.drt_steps.proofs.Behind.{behind_kept, behind_is}
@@ -30,7 +30,7 @@ from_marked-requires-clause-kept c =
     let n : ℕ = c.self.inside.bound in
     let js : List Jump = c.self.inside.rises.value.jumps.items in
     let is : n ≡ length c.args.self.now = long n c.self.inside.base js c.args.self.now c.self.view_is in
-    let t : value_at c.args.self.now n ≡ c.self.inside.base + total js = top n c.self.inside.base js c.args.self.now c.self.view_is c.self.invariant.0.kept in
+    let t : value_at c.args.self.now n ≡ c.self.inside.base + total_rise js = top n c.self.inside.base js c.args.self.now c.self.view_is c.self.invariant.0.kept in
     let from : 1 ≤ n = c.self.invariant.0.kept.from in
     let small : value_at c.args.self.now n + c.args.work ≤ 1000000000000 = c.requires n (omega (arith, c.if-offset-eq0.true)) (omega arith) in
     let e : js ≡ c.in_ok-jumps.jumps.items = sym (c.in_ok-jumps.ensures.items ∙ c.jumps_of-own.ensures) in
@@ -67,7 +67,7 @@ from_marked-requires-2-clause-kept c =
     let js : List Jump = c.self.inside.rises.value.jumps.items in
     let new : Jump = record { after = c.args.offset; rise = c.args.work } in
     let is : n ≡ length c.args.self.now = long n c.self.inside.base js c.args.self.now c.self.view_is in
-    let t : value_at c.args.self.now n ≡ c.self.inside.base + total js = top n c.self.inside.base js c.args.self.now c.self.view_is c.self.invariant.0.kept in
+    let t : value_at c.args.self.now n ≡ c.self.inside.base + total_rise js = top n c.self.inside.base js c.args.self.now c.self.view_is c.self.invariant.0.kept in
     let lt : c.args.offset < n = c.if-offset-self.false in
     let small : value_at c.args.self.now n + c.args.work ≤ 1000000000000 = c.requires n lt (omega arith) in
     let e : c.in_ok-jumps-2.jumps.items ≡ up_to c.args.offset js ++ new ∷ past c.args.offset js = c.in_ok-jumps-2.ensures ∙ ap (λ ks. up_to c.args.offset ks ++ new ∷ past c.args.offset ks) c.jumps_of-own.ensures in
@@ -106,9 +106,9 @@ one_more-requires-clause-small c =
     let n : ℕ = c.self.inside.bound in
     let js : List Jump = c.self.inside.rises.value.jumps.items in
     let is : n ≡ length c.args.self.now = long n c.self.inside.base js c.args.self.now c.self.view_is in
-    let t : value_at c.args.self.now n ≡ c.self.inside.base + total js = top n c.self.inside.base js c.args.self.now c.self.view_is c.self.invariant.0.kept in
+    let t : value_at c.args.self.now n ≡ c.self.inside.base + total_rise js = top n c.self.inside.base js c.args.self.now c.self.view_is c.self.invariant.0.kept in
     let small : value_at c.args.self.now n + c.args.work ≤ 1000000000000 = c.requires n c.if-offset-self.false (omega arith) in
-    let e : total c.deref.result.now.jumps.items ≡ total js = ap (λ (r : Rises). total r.jumps.items) c.deref.ensures in
+    let e : total_rise c.deref.result.now.jumps.items ≡ total_rise js = ap (λ (r : Rises). total_rise r.jumps.items) c.deref.ensures in
     omega arith
 
 pub from_rises-requires-clause-kept : goal.from_rises-requires-clause-kept
@@ -117,7 +117,7 @@ from_rises-requires-clause-kept c =
     let js : List Jump = c.self.inside.rises.value.jumps.items in
     let new : Jump = record { after = c.args.offset; rise = c.args.work } in
     let is : n ≡ length c.args.self.now = long n c.self.inside.base js c.args.self.now c.self.view_is in
-    let t : value_at c.args.self.now n ≡ c.self.inside.base + total js = top n c.self.inside.base js c.args.self.now c.self.view_is c.self.invariant.0.kept in
+    let t : value_at c.args.self.now n ≡ c.self.inside.base + total_rise js = top n c.self.inside.base js c.args.self.now c.self.view_is c.self.invariant.0.kept in
     let lt : c.args.offset < n = c.if-offset-self.false in
     let small : value_at c.args.self.now n + c.args.work ≤ 1000000000000 = c.requires n lt (omega arith) in
     let last : IsPlaceReached js (c.args.offset + 1) (length js) = subst (λ (ks : List Jump). IsPlaceReached ks (c.args.offset + 1) (length ks)) c.jumps_of-own.ensures (c.is_reached.ensures c.if-is_reached.true) in

@@ -5,7 +5,7 @@ use Rattle.std.proofs.lemmas.List.{length-set, length_push}
 use Rattle.std.proofs.lemmas.Option.{slice_get_read, slice_get_within, same_Some}
 use Rattle.drt_table.specs.Arena.{Stock, HasNodes, AreArranged}
 use Rattle.drt_table.specs.Held.{take_by, held_offset}
-use Rattle.drt_table.specs.Node.{Held, is_pending}
+use Rattle.drt_table.specs.Node.{Held, is_node_pending}
 use Rattle.drt_worklist.specs.Places.{changed}
 use Rattle.drt_table.specs.Earliest.{earliest}
 use Rattle.drt_table.specs.Waiting.{Ticket, AreWaiting, IsFresh}
@@ -20,8 +20,8 @@ use Rattle.drt_table.proofs.arena.Arena.take_by.Goals as goal
 pub returns : goal.returns
 returns g c =
     let v : Stock _ = record { nodes = c.self.inside.nodes.items; vertices = length c.self.inside.heads.items; room = c.self.inside.room } in
-    let can : Some c.args.id ≡ earliest (λ (h : Held _). is_pending h.node) (held_offset g.L.Label.algebra) v.nodes = subst (λ (x : Stock _). Some c.args.id ≡ earliest (λ (h : Held _). is_pending h.node) (held_offset g.L.Label.algebra) x.nodes) (sym c.self.view_is) c.requires in
-    let lt : c.args.id < length v.nodes = (let f : Earliest (λ (h : Held _). is_pending h.node) (held_offset g.L.Label.algebra) v.nodes c.args.id = found_earliest (λ (h : Held _). is_pending h.node) (held_offset g.L.Label.algebra) v.nodes c.args.id (sym can) in slice_get_within v.nodes c.args.id f.item f.at) in
+    let can : Some c.args.id ≡ earliest (λ (h : Held _). is_node_pending h.node) (held_offset g.L.Label.algebra) v.nodes = subst (λ (x : Stock _). Some c.args.id ≡ earliest (λ (h : Held _). is_node_pending h.node) (held_offset g.L.Label.algebra) x.nodes) (sym c.self.view_is) c.requires in
+    let lt : c.args.id < length v.nodes = (let f : Earliest (λ (h : Held _). is_node_pending h.node) (held_offset g.L.Label.algebra) v.nodes c.args.id = found_earliest (λ (h : Held _). is_node_pending h.node) (held_offset g.L.Label.algebra) v.nodes c.args.id (sym can) in slice_get_within v.nodes c.args.id f.item f.at) in
     let at : slice_get v.nodes c.args.id ≡ Some c.index_mut.result.now = slice_get_read v.nodes (length v.nodes) c.args.id c.index_mut.result.now refl lt c.index_mut.ensures.value in
     let nodes : slice_set v.nodes c.args.id c.take_by.new.self ≡ changed c.args.id (take_by c.args.worker) v.nodes = ap (λ x. set v.nodes c.args.id x) c.take_by.ensures ∙ sym (changed_set (take_by c.args.worker) v.nodes c.args.id c.index_mut.result.now at) in
     subst (λ (x : Stock _). HasNodes x (record { nodes = slice_set v.nodes c.args.id c.take_by.new.self; vertices = v.vertices; room = v.room }) (changed c.args.id (take_by c.args.worker) x.nodes)) c.self.view_is (record { nodes_are = nodes; vertices = refl; room = refl })
@@ -29,25 +29,25 @@ returns g c =
 pub index_mut-requires : goal.index_mut-requires
 index_mut-requires g c =
     let v : Stock _ = record { nodes = c.self.inside.nodes.items; vertices = length c.self.inside.heads.items; room = c.self.inside.room } in
-    let can : Some c.args.id ≡ earliest (λ (h : Held _). is_pending h.node) (held_offset g.L.Label.algebra) v.nodes = subst (λ (x : Stock _). Some c.args.id ≡ earliest (λ (h : Held _). is_pending h.node) (held_offset g.L.Label.algebra) x.nodes) (sym c.self.view_is) c.requires in
-    let f : Earliest (λ (h : Held _). is_pending h.node) (held_offset g.L.Label.algebra) v.nodes c.args.id = found_earliest (λ (h : Held _). is_pending h.node) (held_offset g.L.Label.algebra) v.nodes c.args.id (sym can) in
+    let can : Some c.args.id ≡ earliest (λ (h : Held _). is_node_pending h.node) (held_offset g.L.Label.algebra) v.nodes = subst (λ (x : Stock _). Some c.args.id ≡ earliest (λ (h : Held _). is_node_pending h.node) (held_offset g.L.Label.algebra) x.nodes) (sym c.self.view_is) c.requires in
+    let f : Earliest (λ (h : Held _). is_node_pending h.node) (held_offset g.L.Label.algebra) v.nodes c.args.id = found_earliest (λ (h : Held _). is_node_pending h.node) (held_offset g.L.Label.algebra) v.nodes c.args.id (sym can) in
     let lt : c.args.id < length v.nodes = slice_get_within v.nodes c.args.id f.item f.at in
     omega (arith, lt, c.self.inside.nodes.ok.0)
 
 pub take_by-requires-after_bounds : goal.take_by-requires-after_bounds
 take_by-requires-after_bounds g c κs within =
     let v : Stock _ = record { nodes = c.self.inside.nodes.items; vertices = length c.self.inside.heads.items; room = c.self.inside.room } in
-    let can : Some c.args.id ≡ earliest (λ (h : Held _). is_pending h.node) (held_offset g.L.Label.algebra) v.nodes = subst (λ (x : Stock _). Some c.args.id ≡ earliest (λ (h : Held _). is_pending h.node) (held_offset g.L.Label.algebra) x.nodes) (sym c.self.view_is) c.requires in
-    let f : Earliest (λ (h : Held _). is_pending h.node) (held_offset g.L.Label.algebra) v.nodes c.args.id = found_earliest (λ (h : Held _). is_pending h.node) (held_offset g.L.Label.algebra) v.nodes c.args.id (sym can) in
+    let can : Some c.args.id ≡ earliest (λ (h : Held _). is_node_pending h.node) (held_offset g.L.Label.algebra) v.nodes = subst (λ (x : Stock _). Some c.args.id ≡ earliest (λ (h : Held _). is_node_pending h.node) (held_offset g.L.Label.algebra) x.nodes) (sym c.self.view_is) c.requires in
+    let f : Earliest (λ (h : Held _). is_node_pending h.node) (held_offset g.L.Label.algebra) v.nodes c.args.id = found_earliest (λ (h : Held _). is_node_pending h.node) (held_offset g.L.Label.algebra) v.nodes c.args.id (sym can) in
     let lt : c.args.id < length v.nodes = slice_get_within v.nodes c.args.id f.item f.at in
     let at : slice_get v.nodes c.args.id ≡ Some c.index_mut.result.now = slice_get_read v.nodes (length v.nodes) c.args.id c.index_mut.result.now refl lt c.index_mut.ensures.value in
-    ap (λ (h : Held _). is_pending h.node) (same_Some c.index_mut.result.now f.item (sym at ∙ f.at)) ∙ f.passes
+    ap (λ (h : Held _). is_node_pending h.node) (same_Some c.index_mut.result.now f.item (sym at ∙ f.at)) ∙ f.passes
 
 pub pop_ticket-requires-clause-some : goal.pop_ticket-requires-clause-some
 pop_ticket-requires-clause-some g c =
     let v : Stock _ = record { nodes = c.self.inside.nodes.items; vertices = length c.self.inside.heads.items; room = c.self.inside.room } in
-    let can : Some c.args.id ≡ earliest (λ (h : Held _). is_pending h.node) (held_offset g.L.Label.algebra) v.nodes = subst (λ (x : Stock _). Some c.args.id ≡ earliest (λ (h : Held _). is_pending h.node) (held_offset g.L.Label.algebra) x.nodes) (sym c.self.view_is) c.requires in
-    let lt : c.args.id < length v.nodes = (let f : Earliest (λ (h : Held _). is_pending h.node) (held_offset g.L.Label.algebra) v.nodes c.args.id = found_earliest (λ (h : Held _). is_pending h.node) (held_offset g.L.Label.algebra) v.nodes c.args.id (sym can) in slice_get_within v.nodes c.args.id f.item f.at) in
+    let can : Some c.args.id ≡ earliest (λ (h : Held _). is_node_pending h.node) (held_offset g.L.Label.algebra) v.nodes = subst (λ (x : Stock _). Some c.args.id ≡ earliest (λ (h : Held _). is_node_pending h.node) (held_offset g.L.Label.algebra) x.nodes) (sym c.self.view_is) c.requires in
+    let lt : c.args.id < length v.nodes = (let f : Earliest (λ (h : Held _). is_node_pending h.node) (held_offset g.L.Label.algebra) v.nodes c.args.id = found_earliest (λ (h : Held _). is_node_pending h.node) (held_offset g.L.Label.algebra) v.nodes c.args.id (sym can) in slice_get_within v.nodes c.args.id f.item f.at) in
     let at : slice_get v.nodes c.args.id ≡ Some c.index_mut.result.now = slice_get_read v.nodes (length v.nodes) c.args.id c.index_mut.result.now refl lt c.index_mut.ensures.value in
     let nodes : slice_set v.nodes c.args.id c.take_by.new.self ≡ changed c.args.id (take_by c.args.worker) v.nodes = ap (λ x. set v.nodes c.args.id x) c.take_by.ensures ∙ sym (changed_set (take_by c.args.worker) v.nodes c.args.id c.index_mut.result.now at) in
     let old = c.self.invariant in
@@ -64,8 +64,8 @@ pop_ticket-requires-clause-some g c =
 pub refresh-requires-clause-waiting : goal.refresh-requires-clause-waiting
 refresh-requires-clause-waiting g c κs within =
     let v : Stock _ = record { nodes = c.self.inside.nodes.items; vertices = length c.self.inside.heads.items; room = c.self.inside.room } in
-    let can : Some c.args.id ≡ earliest (λ (h : Held _). is_pending h.node) (held_offset g.L.Label.algebra) v.nodes = subst (λ (x : Stock _). Some c.args.id ≡ earliest (λ (h : Held _). is_pending h.node) (held_offset g.L.Label.algebra) x.nodes) (sym c.self.view_is) c.requires in
-    let lt : c.args.id < length v.nodes = (let f : Earliest (λ (h : Held _). is_pending h.node) (held_offset g.L.Label.algebra) v.nodes c.args.id = found_earliest (λ (h : Held _). is_pending h.node) (held_offset g.L.Label.algebra) v.nodes c.args.id (sym can) in slice_get_within v.nodes c.args.id f.item f.at) in
+    let can : Some c.args.id ≡ earliest (λ (h : Held _). is_node_pending h.node) (held_offset g.L.Label.algebra) v.nodes = subst (λ (x : Stock _). Some c.args.id ≡ earliest (λ (h : Held _). is_node_pending h.node) (held_offset g.L.Label.algebra) x.nodes) (sym c.self.view_is) c.requires in
+    let lt : c.args.id < length v.nodes = (let f : Earliest (λ (h : Held _). is_node_pending h.node) (held_offset g.L.Label.algebra) v.nodes c.args.id = found_earliest (λ (h : Held _). is_node_pending h.node) (held_offset g.L.Label.algebra) v.nodes c.args.id (sym can) in slice_get_within v.nodes c.args.id f.item f.at) in
     let at : slice_get v.nodes c.args.id ≡ Some c.index_mut.result.now = slice_get_read v.nodes (length v.nodes) c.args.id c.index_mut.result.now refl lt c.index_mut.ensures.value in
     let nodes : slice_set v.nodes c.args.id c.take_by.new.self ≡ changed c.args.id (take_by c.args.worker) v.nodes = ap (λ x. set v.nodes c.args.id x) c.take_by.ensures ∙ sym (changed_set (take_by c.args.worker) v.nodes c.args.id c.index_mut.result.now at) in
     let old = c.self.invariant in
@@ -78,15 +78,15 @@ refresh-requires-clause-waiting g c κs within =
     let heads = c.self.inside.heads.items in
     let t : Ticket = c.pop_ticket.ensures.first.0 in
     let at_t : slice_get tickets 0 ≡ Some t = c.pop_ticket.ensures.first.1 in
-    let first : Some t.0.1 ≡ earliest (λ (h : Held _). is_pending h.node) (held_offset a) v.nodes = first_is_next a v.nodes tickets old.0.waiting old.0.fresh t at_t c.pop_ticket.ensures.first.2 in
+    let first : Some t.0.1 ≡ earliest (λ (h : Held _). is_node_pending h.node) (held_offset a) v.nodes = first_is_next a v.nodes tickets old.0.waiting old.0.fresh t at_t c.pop_ticket.ensures.first.2 in
     subst (λ xs. AreWaiting a xs (heap_items c.pop_ticket.new.queue) (length xs)) (sym (c.as_slice.ensures.value ∙ nodes))
     (taken_waiting a v.nodes links heads tickets taken old.0 id w can (heap_items c.pop_ticket.new.queue) t at_t first c.pop_ticket.ensures.first.3)
 
 pub invariant_of-self : goal.invariant_of-self
 invariant_of-self g c =
     let v : Stock _ = record { nodes = c.self.inside.nodes.items; vertices = length c.self.inside.heads.items; room = c.self.inside.room } in
-    let can : Some c.args.id ≡ earliest (λ (h : Held _). is_pending h.node) (held_offset g.L.Label.algebra) v.nodes = subst (λ (x : Stock _). Some c.args.id ≡ earliest (λ (h : Held _). is_pending h.node) (held_offset g.L.Label.algebra) x.nodes) (sym c.self.view_is) c.requires in
-    let lt : c.args.id < length v.nodes = (let f : Earliest (λ (h : Held _). is_pending h.node) (held_offset g.L.Label.algebra) v.nodes c.args.id = found_earliest (λ (h : Held _). is_pending h.node) (held_offset g.L.Label.algebra) v.nodes c.args.id (sym can) in slice_get_within v.nodes c.args.id f.item f.at) in
+    let can : Some c.args.id ≡ earliest (λ (h : Held _). is_node_pending h.node) (held_offset g.L.Label.algebra) v.nodes = subst (λ (x : Stock _). Some c.args.id ≡ earliest (λ (h : Held _). is_node_pending h.node) (held_offset g.L.Label.algebra) x.nodes) (sym c.self.view_is) c.requires in
+    let lt : c.args.id < length v.nodes = (let f : Earliest (λ (h : Held _). is_node_pending h.node) (held_offset g.L.Label.algebra) v.nodes c.args.id = found_earliest (λ (h : Held _). is_node_pending h.node) (held_offset g.L.Label.algebra) v.nodes c.args.id (sym can) in slice_get_within v.nodes c.args.id f.item f.at) in
     let at : slice_get v.nodes c.args.id ≡ Some c.index_mut.result.now = slice_get_read v.nodes (length v.nodes) c.args.id c.index_mut.result.now refl lt c.index_mut.ensures.value in
     let nodes : slice_set v.nodes c.args.id c.take_by.new.self ≡ changed c.args.id (take_by c.args.worker) v.nodes = ap (λ x. set v.nodes c.args.id x) c.take_by.ensures ∙ sym (changed_set (take_by c.args.worker) v.nodes c.args.id c.index_mut.result.now at) in
     let old = c.self.invariant in

@@ -1,7 +1,7 @@
 use Rattle.std.proofs.Common.{◌≡◌, ℕ, ◌+◌, Some, length, false, refl, sym, ap, ◌∙◌, subst, arith}
 use Rattle.std.specs.Prelude.{nat_le, unwrap_or}
 use Rattle.std.proofs.lemmas.Option.{slice_get_within}
-use Rattle.drt_table.specs.Node.{Held, is_pending, is_taken}
+use Rattle.drt_table.specs.Node.{Held, is_node_pending, is_taken}
 use Rattle.drt_table.specs.Held.{held_offset}
 use Rattle.drt_table.specs.Machine.{separation, is_full}
 use Rattle.drt_table.specs.Taking.{taken_node, is_soon}
@@ -18,7 +18,7 @@ is_soon-soon-requires-clause-next g c κs within k e =
     let laws = (g.met.L.Label g.world.𝓛 g.world.𝓜 g.world.𝓡 ((λ s x. x), (λ x. x), (λ x. x), λ x. x)).laws in
     let v : View _ = record { graph = c.self.inside.graph; bound = c.self.inside.bound; budget = c.self.inside.budget; nodes = c.self.inside.arena.nodes; log = c.self.inside.log.items } in
     let is : IsTable a v = c.self.invariant.0 in
-    let f : Earliest (λ (h : Held _). is_pending h.node) (held_offset a) v.nodes k = found_earliest (λ (h : Held _). is_pending h.node) (held_offset a) v.nodes k (sym c.next-next.ensures ∙ e) in
+    let f : Earliest (λ (h : Held _). is_node_pending h.node) (held_offset a) v.nodes k = found_earliest (λ (h : Held _). is_node_pending h.node) (held_offset a) v.nodes k (sym c.next-next.ensures ∙ e) in
     slice_get_within v.nodes k f.item f.at
 
 pub is_soon-soon-requires-clause-holder : goal.is_soon-soon-requires-clause-holder
