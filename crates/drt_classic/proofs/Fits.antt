@@ -4,7 +4,7 @@ use Rattle.std.specs.Prelude.{nat_le, nat_lt, bytes_eq}
 use Rattle.std.specs.List.{AllByRecursion, AllZip, list_all, list_any}
 use Rattle.std.proofs.lemmas.List.{length-map}
 use Rattle.drt_model.specs.Limits.{IsName, IsTime}
-use Rattle.drt_file.specs.trusted.Words.{is_name, is_number, value}
+use Rattle.drt_file.specs.trusted.Words.{is_name, is_number, value, end_word}
 use Rattle.drt_file.specs.trusted.Line.{is_text, is_in_range}
 use Rattle.drt_file.specs.trusted.Reading.{Means}
 use Rattle.drt_file.proofs.Meanings.{both, not_false, between, between_again, every_of_all, all_of_every}
@@ -19,26 +19,26 @@ use Rattle.drt_classic.specs.declared.state.Kind.{Kind}
 use Rattle.drt_classic.specs.declared.state.Kind.TheVariants as kinds
 use Rattle.drt_classic.specs.Classics.{name_of, frames_of, frames_of_period}
 use Rattle.drt_classic.specs.ClassicLimits.{IsFrame}
-use Rattle.drt_classic.specs.ClassicWords.{sporadic_word, multiframe_word, gmf_word, noncyclic_word, frame_word, end_word}
+use Rattle.drt_classic.specs.ClassicWords.{sporadic_word, multiframe_word, gmf_word, noncyclic_word, frame_word}
 use Rattle.drt_classic.specs.ClassicReading.{MeanFrame, SaysSporadic, SaysMultiframe, SaysFrame, SaysClassic}
-use Rattle.drt_classic.specs.ClassicFaults.{first_of, in_last, is_open, is_full, has_classic_task, classic_task_count, sporadic_fault, multiframe_fault, open_fault, frame_fault, classic_end_fault, classic_said_by, is_past}
+use Rattle.drt_classic.specs.ClassicFaults.{first_that_holds, in_last, is_open, is_full, has_classic_task, classic_task_count, sporadic_fault, multiframe_fault, open_fault, frame_fault, classic_end_fault, classic_said_by, is_past}
 
 -- A table of tests.
 
-pub passed : (t : ℕ × Bool) (ts : List (ℕ × Bool)) → first_of (t ∷ ts) ≡ None → (t.1 ≡ false) × (first_of ts ≡ None)
-unfolding first_of
+pub passed : (t : ℕ × Bool) (ts : List (ℕ × Bool)) → first_that_holds (t ∷ ts) ≡ None → (t.1 ≡ false) × (first_that_holds ts ≡ None)
+unfolding first_that_holds
 passed t ts e = go t.1 refl e
   where
-    go : (b : Bool) → t.1 ≡ b → cond b (Some t.0) (first_of ts) ≡ None → (t.1 ≡ false) × (first_of ts ≡ None)
+    go : (b : Bool) → t.1 ≡ b → cond b (Some t.0) (first_that_holds ts) ≡ None → (t.1 ≡ false) × (first_that_holds ts ≡ None)
     go false at h = (at, h)
     go true at h = absurd (cc)
 
-pub passes : (t : ℕ × Bool) (ts : List (ℕ × Bool)) → t.1 ≡ false → first_of ts ≡ None → first_of (t ∷ ts) ≡ None
-unfolding first_of
+pub passes : (t : ℕ × Bool) (ts : List (ℕ × Bool)) → t.1 ≡ false → first_that_holds ts ≡ None → first_that_holds (t ∷ ts) ≡ None
+unfolding first_that_holds
 passes t ts here others = rw here others
 
-pub none_left : first_of [] ≡ None
-unfolding first_of
+pub none_left : first_that_holds [] ≡ None
+unfolding first_that_holds
 none_left = refl
 
 -- What fits below what the lines above leave: a task with a new name where there is room.

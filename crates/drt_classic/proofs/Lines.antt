@@ -6,7 +6,7 @@ use Rattle.std.specs.List.{AllByRecursion, AllZip, list_all}
 use Rattle.std.proofs.lemmas.Bool.{cases_Bool}
 use Rattle.std.proofs.lemmas.Slice.Eq.{bytes_eq-Decides}
 use Rattle.drt_file.specs.trusted.Cutting.{fields, is_blank}
-use Rattle.drt_file.specs.trusted.Words.{is_name, is_number}
+use Rattle.drt_file.specs.trusted.Words.{is_name, is_number, end_word}
 use Rattle.drt_file.specs.trusted.Line.{is_text}
 use Rattle.drt_file.specs.trusted.Reading.{Means}
 use Rattle.drt_file.proofs.Leads.{text_again}
@@ -20,9 +20,9 @@ use Rattle.drt_classic.specs.declared.state.Line.{Line}
 use Rattle.drt_classic.specs.declared.state.Line.TheVariants as saying
 use Rattle.drt_classic.specs.declared.state.Kind.{Kind}
 use Rattle.drt_classic.specs.declared.state.Kind.TheVariants as kinds
-use Rattle.drt_classic.specs.ClassicWords.{sporadic_word, multiframe_word, gmf_word, noncyclic_word, frame_word, end_word}
+use Rattle.drt_classic.specs.ClassicWords.{sporadic_word, multiframe_word, gmf_word, noncyclic_word, frame_word}
 use Rattle.drt_classic.specs.ClassicReading.{SaysClassic, SaysSporadic, SaysMultiframe, SaysFrame}
-use Rattle.drt_classic.specs.ClassicFaults.{first_word, classic_kind, classic_kind_fault, fault_of_line, classic_said_by, after_classic_line, unless, classic_line_step}
+use Rattle.drt_classic.specs.ClassicFaults.{first_field, classic_kind, classic_kind_fault, fault_of_line, classic_said_by, after_classic_line, unless, classic_line_step}
 use Rattle.drt_classic.proofs.Fits.{Fits, SaysOwn, Passed, Again, sporadic_passed, sporadic_again, multiframe_passed, multiframe_again}
 use Rattle.drt_classic.proofs.Fits.{gmf_passed, gmf_again, noncyclic_passed, noncyclic_again, frame_passed, frame_again, end_passed, end_again}
 
@@ -64,11 +64,11 @@ kind_keeps word = elim (cases_Bool (bytes_eq word sporadic_word)) [
 ]
 
 -- Fields whose first is this word, which isn't empty.
-begins : (words : List (List ℕ)) (b : ℕ) (bs : List ℕ) → first_word words ≡ b ∷ bs → (rest : List (List ℕ)) × (words ≡ (b ∷ bs) ∷ rest)
+begins : (words : List (List ℕ)) (b : ℕ) (bs : List ℕ) → first_field words ≡ b ∷ bs → (rest : List (List ℕ)) × (words ≡ (b ∷ bs) ∷ rest)
 begins [] b bs e = absurd (cc)
 begins (word ∷ words) b bs e = (words, ap (λ w. w ∷ words) e)
 
-kind_passed : (k : Kind) (s : State) (words : List (List ℕ)) → Keeps (first_word words) k → classic_kind_fault k s words ≡ None → Passed s words (classic_said_by k words)
+kind_passed : (k : Kind) (s : State) (words : List (List ℕ)) → Keeps (first_field words) k → classic_kind_fault k s words ≡ None → Passed s words (classic_said_by k words)
 unfolding classic_kind_fault
 kind_passed kinds.Sporadic s words keeps e = let b = begins words _ _ keeps in sporadic_passed s words b.0 b.1 e
 kind_passed kinds.Multiframe s words keeps e = let b = begins words _ _ keeps in multiframe_passed s words b.0 b.1 e
@@ -83,15 +83,15 @@ pub record Goes (s : State) (words : List (List ℕ)) (l : Line) : Type 0 where
   pub still : s.ended ≡ false
   pub passed : Passed s words l
 
-line_passed : (s : State) (line : List ℕ) (words : List (List ℕ)) → fault_of_line s line words ≡ None → Goes s words (classic_said_by (classic_kind (first_word words)) words)
+line_passed : (s : State) (line : List ℕ) (words : List (List ℕ)) → fault_of_line s line words ≡ None → Goes s words (classic_said_by (classic_kind (first_field words)) words)
 unfolding fault_of_line
 line_passed s line words e = go (list_all is_text line) s.ended refl e
   where
-    go : (t ended : Bool) → s.ended ≡ ended → cond (not t) (Some 32) (cond ended (Some 46) (classic_kind_fault (classic_kind (first_word words)) s words)) ≡ None
-        → Goes s words (classic_said_by (classic_kind (first_word words)) words)
+    go : (t ended : Bool) → s.ended ≡ ended → cond (not t) (Some 32) (cond ended (Some 46) (classic_kind_fault (classic_kind (first_field words)) s words)) ≡ None
+        → Goes s words (classic_said_by (classic_kind (first_field words)) words)
     go false ended at h = absurd (cc)
     go true true at h = absurd (cc)
-    go true false at h = record { still = at; passed = kind_passed (classic_kind (first_word words)) s words (kind_keeps (first_word words)) h }
+    go true false at h = record { still = at; passed = kind_passed (classic_kind (first_field words)) s words (kind_keeps (first_field words)) h }
 
 -- What a line leaves that has no fault: what it says, which fits.
 pub record Stepped (n : ℕ) (s : State) (words : List (List ℕ)) (below : Option State) : Type 0 where
@@ -104,11 +104,11 @@ unfolding classic_line_step unless
 stepped n s line words below e = go (fault_of_line s line words) refl e
   where
     l : Line
-    l = classic_said_by (classic_kind (first_word words)) words
+    l = classic_said_by (classic_kind (first_field words)) words
 
     go : (o : Option ℕ) → fault_of_line s line words ≡ o
-        → ◌≡◌ {A = Result (Option State) ClassicFault} (unless n o (Some (after_classic_line n s (classic_said_by (classic_kind (first_word words)) words)))) (Ok below) → Stepped n s words below
-    go None at h = record { said = classic_said_by (classic_kind (first_word words)) words; goes = line_passed s line words at; is = cc }
+        → ◌≡◌ {A = Result (Option State) ClassicFault} (unless n o (Some (after_classic_line n s (classic_said_by (classic_kind (first_field words)) words)))) (Ok below) → Stepped n s words below
+    go None at h = record { said = classic_said_by (classic_kind (first_field words)) words; goes = line_passed s line words at; is = cc }
     go (Some code) at h = absurd (cc)
 
 -- The fields of a line that says something are printable.
@@ -166,10 +166,10 @@ said_text s words saying.End says fits = subst AreText (sym says) (keyword_text 
 
 -- Of this kind it has no code and says that.
 record Has (k : Kind) (s : State) (words : List (List ℕ)) (l : Line) : Type 0 where
-  of_kind : classic_kind (first_word words) ≡ k
+  of_kind : classic_kind (first_field words) ≡ k
   again : Again (classic_kind_fault k s words) (classic_said_by k words) l
 
-kind_of_keyword : (words rest : List (List ℕ)) (k l : Kind) → words ≡ keyword k ∷ rest → classic_kind (keyword k) ≡ l → classic_kind (first_word words) ≡ l
+kind_of_keyword : (words rest : List (List ℕ)) (k l : Kind) → words ≡ keyword k ∷ rest → classic_kind (keyword k) ≡ l → classic_kind (first_field words) ≡ l
 kind_of_keyword words rest k l spelled e = rw spelled e
 
 sporadic_kind : classic_kind sporadic_word ≡ kinds.Sporadic
@@ -216,11 +216,11 @@ said_again s words (saying.Frame f) says own fits =
 said_again s words saying.End says own fits =
     (kinds.End, record { of_kind = kind_of_keyword words _ kinds.End kinds.End says end_kind; again = end_again words says })
 
-faultless_line : (s : State) (line : List ℕ) (words : List (List ℕ)) → list_all is_text line ≡ true → s.ended ≡ false → classic_kind_fault (classic_kind (first_word words)) s words ≡ None
+faultless_line : (s : State) (line : List ℕ) (words : List (List ℕ)) → list_all is_text line ≡ true → s.ended ≡ false → classic_kind_fault (classic_kind (first_field words)) s words ≡ None
     → fault_of_line s line words ≡ None
 unfolding fault_of_line
 faultless_line s line words text still none =
-    let code = classic_kind_fault (classic_kind (first_word words)) s words in
+    let code = classic_kind_fault (classic_kind (first_field words)) s words in
     ap (λ t. cond (not t) (Some 32) (cond s.ended (Some 46) code)) text ∙ ap (λ e. cond e (Some 46) code) still ∙ none
 
 leaves : (n : ℕ) (s : State) (o : Option ℕ) (m l : Line) → o ≡ None → m ≡ l → ◌≡◌ {A = Result (Option State) ClassicFault} (unless n o (Some (after_classic_line n s m))) (Ok (Some (after_classic_line n s l)))
@@ -234,6 +234,6 @@ steps_again n s line words l cut still says own fits =
     let text : list_all is_text line ≡ true = text_again line words cut (all_text words (said_text s words l says fits)) in
     let h = said_again s words l says own fits in
     let has = h.1 in
-    let none : classic_kind_fault (classic_kind (first_word words)) s words ≡ None = ap (λ k. classic_kind_fault k s words) has.of_kind ∙ has.again.none in
-    let is : classic_said_by (classic_kind (first_word words)) words ≡ l = ap (λ k. classic_said_by k words) has.of_kind ∙ has.again.is in
-    leaves n s (fault_of_line s line words) (classic_said_by (classic_kind (first_word words)) words) l (faultless_line s line words text still none) is
+    let none : classic_kind_fault (classic_kind (first_field words)) s words ≡ None = ap (λ k. classic_kind_fault k s words) has.of_kind ∙ has.again.none in
+    let is : classic_said_by (classic_kind (first_field words)) words ≡ l = ap (λ k. classic_said_by k words) has.of_kind ∙ has.again.is in
+    leaves n s (fault_of_line s line words) (classic_said_by (classic_kind (first_field words)) words) l (faultless_line s line words text still none) is

@@ -4,7 +4,7 @@ use Rattle.std.specs.Prelude.{ℕ, ◌+◌, Bool, true, false, not, ◌&&◌, �
 use Rattle.std.specs.Prelude.{[], ◌∷◌, ◌++◌, length, map, Option, Some, None, option_map, Result, Ok, Err, bytes_eq}
 use Rattle.std.specs.List.{list_any, list_all}
 use Rattle.drt_file.specs.trusted.Cutting.{lines, fields}
-use Rattle.drt_file.specs.trusted.Words.{is_name, is_number, value}
+use Rattle.drt_file.specs.trusted.Words.{is_name, is_number, value, end_word}
 use Rattle.drt_file.specs.trusted.Line.{is_text, is_in_range, is_skipped}
 use Rattle.drt_classic.specs.declared.classic.Frame.{Frame}
 use Rattle.drt_classic.specs.declared.classic.Classic.{Classic}
@@ -18,14 +18,14 @@ use Rattle.drt_classic.specs.declared.state.Kind.TheVariants as kinds
 use Rattle.drt_classic.specs.declared.fault.ClassicFault.{ClassicFault}
 use Rattle.drt_classic.specs.Classics.{name_of, frames_of}
 use Rattle.drt_classic.specs.ClassicLimits.{most_frames}
-use Rattle.drt_classic.specs.ClassicWords.{head_line, classic_word, sporadic_word, multiframe_word, gmf_word, noncyclic_word, frame_word, end_word}
+use Rattle.drt_classic.specs.ClassicWords.{head_line, classic_word, sporadic_word, multiframe_word, gmf_word, noncyclic_word, frame_word}
 
 -- What a line is, from its first field.
 
 -- The first field, and no byte where there is none.
-abbrev pub first_word : List (List ℕ) → List ℕ
-first_word [] = []
-first_word (word ∷ words) = word
+abbrev pub first_field : List (List ℕ) → List ℕ
+first_field [] = []
+first_field (word ∷ words) = word
 
 -- What the first field of a line says that it is: one of the six words, or another.
 unfoldable pub classic_kind : List ℕ → Kind
@@ -67,9 +67,9 @@ is_full d = nat_le (most_frames d.task) (length (frames_of d.task))
 -- What each code says of a line.
 
 -- In a table of codes and tests, the code of the first test that holds.
-unfoldable pub first_of : List (ℕ × Bool) → Option ℕ
-first_of [] = None
-first_of (row ∷ rows) = if row.1 then Some row.0 else first_of rows
+unfoldable pub first_that_holds : List (ℕ × Bool) → Option ℕ
+first_that_holds [] = None
+first_that_holds (row ∷ rows) = if row.1 then Some row.0 else first_that_holds rows
 
 -- 35: a time isn't a number.
 abbrev pub classic_has_no_number : List (List ℕ) → Bool
@@ -93,7 +93,7 @@ are_full s = nat_le 16 (classic_task_count s)
 
 -- The code of a line `sporadic NAME WCET DEADLINE PERIOD`; 34 where it hasn't five fields.
 unfoldable pub sporadic_fault : State → List (List ℕ) → Option ℕ
-sporadic_fault s (word ∷ name ∷ wcet ∷ deadline ∷ period ∷ []) = first_of (
+sporadic_fault s (word ∷ name ∷ wcet ∷ deadline ∷ period ∷ []) = first_that_holds (
     (35, classic_has_no_number (wcet ∷ deadline ∷ period ∷ []))
     ∷ (36, classic_is_out_of_range (wcet ∷ deadline ∷ period ∷ []))
     ∷ (37, is_no_name name)
@@ -105,7 +105,7 @@ sporadic_fault s words = Some 34
 
 -- The code of a line `multiframe NAME DEADLINE PERIOD WCET1 .. WCETK`; 34 where it has fewer than five fields, 42 where it has more than 48 frames.
 unfoldable pub multiframe_fault : State → List (List ℕ) → Option ℕ
-multiframe_fault s (word ∷ name ∷ deadline ∷ period ∷ wcet ∷ wcets) = first_of (
+multiframe_fault s (word ∷ name ∷ deadline ∷ period ∷ wcet ∷ wcets) = first_that_holds (
     (35, classic_has_no_number (deadline ∷ period ∷ wcet ∷ wcets))
     ∷ (36, classic_is_out_of_range (deadline ∷ period ∷ wcet ∷ wcets))
     ∷ (37, is_no_name name)
@@ -118,7 +118,7 @@ multiframe_fault s words = Some 34
 
 -- The code of a line `gmf NAME` or `noncyclic NAME`; 34 where it hasn't two fields.
 unfoldable pub open_fault : State → List (List ℕ) → Option ℕ
-open_fault s (word ∷ name ∷ []) = first_of (
+open_fault s (word ∷ name ∷ []) = first_that_holds (
     (37, is_no_name name)
     ∷ (38, has_classic_task name s)
     ∷ (41, are_full s)
@@ -128,7 +128,7 @@ open_fault s words = Some 34
 -- The code of a line `frame WCET DEADLINE SEPARATION`; 34 where it hasn't four fields, 40 where the last task above is no `gmf` or
 -- `noncyclic`, 42 where it has the most frames.
 unfoldable pub frame_fault : State → List (List ℕ) → Option ℕ
-frame_fault s (word ∷ wcet ∷ deadline ∷ sep ∷ []) = first_of (
+frame_fault s (word ∷ wcet ∷ deadline ∷ sep ∷ []) = first_that_holds (
     (35, classic_has_no_number (wcet ∷ deadline ∷ sep ∷ []))
     ∷ (36, classic_is_out_of_range (wcet ∷ deadline ∷ sep ∷ []))
     ∷ (39, is_past deadline sep)
@@ -157,7 +157,7 @@ unfoldable pub fault_of_line : State → List ℕ → List (List ℕ) → Option
 fault_of_line s line words =
     if not (list_all is_text line) then Some 32
     else if s.ended then Some 46
-    else classic_kind_fault (classic_kind (first_word words)) s words
+    else classic_kind_fault (classic_kind (first_field words)) s words
 
 -- What a line says that has no fault.
 
@@ -217,7 +217,7 @@ is_head words = false
 -- Line n, which isn't skipped, below what the lines above leave: nothing above the first such, on which only 31 is tried.
 unfoldable pub classic_line_step : ℕ → Option State → List ℕ → List (List ℕ) → Result (Option State) ClassicFault
 classic_line_step n None line words = unless n (if is_head words then None else Some 31) (Some classic_opening)
-classic_line_step n (Some s) line words = unless n (fault_of_line s line words) (Some (after_classic_line n s (classic_said_by (classic_kind (first_word words)) words)))
+classic_line_step n (Some s) line words = unless n (fault_of_line s line words) (Some (after_classic_line n s (classic_said_by (classic_kind (first_field words)) words)))
 
 -- Line n, below what the lines above leave. A skipped line changes nothing.
 unfoldable pub classic_step : ℕ → Option State → List ℕ → Result (Option State) ClassicFault

@@ -11,7 +11,8 @@ use Rattle.drt_classic.specs.declared.state.Line.TheVariants as saying
 use Rattle.drt_classic.specs.declared.fault.ClassicError.{ClassicError}
 use Rattle.drt_classic.specs.declared.fault.ClassicError.TheVariants as errors
 use Rattle.drt_classic.specs.ClassicLimits.{IsClassicSet}
-use Rattle.drt_classic.specs.ClassicWords.{head_line, sporadic_word, multiframe_word, gmf_word, noncyclic_word, frame_word, end_word}
+use Rattle.drt_classic.specs.ClassicWords.{head_line, sporadic_word, multiframe_word, gmf_word, noncyclic_word, frame_word}
+use Rattle.drt_file.specs.trusted.Words.{end_word}
 use Rattle.drt_classic.specs.ClassicFaults.{classic_fault_of}
 
 -- The lines of a task: its own line, and for a `gmf` or `noncyclic`, whose own line says no frame, a line for each frame.

@@ -28,7 +28,3 @@ noncyclic_word = codes "noncyclic"
 -- The keyword `frame`.
 abbrev pub frame_word : List ℕ
 frame_word = codes "frame"
-
--- The keyword `end`.
-abbrev pub end_word : List ℕ
-end_word = codes "end"

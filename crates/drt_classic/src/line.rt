@@ -3,7 +3,7 @@ ghost use Rattle.std.specs.Prelude.{◌≡◌, ◌∷◌, [], nat_lt, map, IsTru
 ghost use Rattle.std.specs.List.{list_all};
 ghost use Rattle.drt_file.specs.trusted.Line.{is_text, is_skipped, is_in_range};
 ghost use Rattle.drt_file.specs.trusted.Words.{is_number, value};
-ghost use Rattle.drt_classic.specs.ClassicFaults.{classic_kind, first_word, is_head};
+ghost use Rattle.drt_classic.specs.ClassicFaults.{classic_kind, first_field, is_head};
 
 use crate::state::Kind;
 use drt_file::cutting::blank;
@@ -77,7 +77,7 @@ fn kind_of_word(word: &[u8]) -> Kind
 
 /// What the first field of a line of these fields says that it is.
 pub fn kind_of(words: &[&[u8]]) -> Kind
-    ensures { result ≡ classic_kind (first_word (map (λ w. w.now) words.now)) }
+    ensures { result ≡ classic_kind (first_field (map (λ w. w.now) words.now)) }
 {
     match words {
         [word, ..] => kind_of_word(word),

@@ -9,7 +9,7 @@ ghost use Rattle.drt_classic.specs.Gives.{GivesClassic, second_word};
 ghost use Rattle.drt_classic.specs.ClassicFaults.{
   fault_of_line,
   classic_end_fault,
-  first_word,
+  first_field,
   frame_fault,
   has_classic_task,
   is_full,
@@ -424,7 +424,7 @@ pub fn parse_line(
     words: &[&[u8]],
 ) -> Result<Line, ClassicError>
     ensures { GivesClassic result (unless n (fault_of_line s.now line.now (map (λ w. w.now) words.now))
-        (classic_said_by (classic_kind (first_word (map (λ w. w.now) words.now))) (map (λ w. w.now) words.now))) }
+        (classic_said_by (classic_kind (first_field (map (λ w. w.now) words.now))) (map (λ w. w.now) words.now))) }
 {
     if !all_text(line) {
         return Err(fault(n, NO_TEXT));

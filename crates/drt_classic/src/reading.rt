@@ -5,7 +5,7 @@ ghost use Rattle.drt_file.specs.trusted.Line.{is_skipped};
 ghost use Rattle.drt_classic.specs.ClassicFaults.{
   after_classic_line,
   fault_of_line,
-  first_word,
+  first_field,
   is_head,
   classic_kind,
   classic_line_step,
@@ -56,7 +56,7 @@ fn below(
     words: &[&[u8]],
 ) -> Result<Option<State>, ClassicError>
     ensures { GivesClassic result (unless n (fault_of_line s line.now (map (λ w. w.now) words.now))
-        (Some (after_classic_line n s (classic_said_by (classic_kind (first_word (map (λ w. w.now) words.now))) (map (λ w. w.now) words.now))))) }
+        (Some (after_classic_line n s (classic_said_by (classic_kind (first_field (map (λ w. w.now) words.now))) (map (λ w. w.now) words.now))))) }
 {
     match parse_line(alloc, n, &s, line, words) {
         Ok(said) => Ok(Some(after(n, s, said)?)),

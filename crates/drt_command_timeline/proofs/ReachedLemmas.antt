@@ -17,7 +17,8 @@ use Rattle.drt_model.specs.declared.jobs.Release.{Release}
 use Rattle.drt_model.specs.declared.tasks.Task.{Task}
 use Rattle.drt_replay.specs.Board.{IsFinishSoFar, Shown}
 use Rattle.drt_responses.specs.declared.response.Response.{Response}
-use Rattle.drt_command_timeline.specs.Reached.{IsReachedResponse, IsStart, release_at}
+use Rattle.drt_command_timeline.specs.Reached.{IsReachedResponse, IsStart}
+use Rattle.drt_timeline.specs.Text.{release_in}
 
 -- What is found in a list has what all of it have.
 pub found_has : {X : Type 0} (p : X → Bool) (P : X → Type 0) (xs : List X) (x : X) → All P xs → find p xs ≡ Some x → P x
@@ -32,7 +33,7 @@ found_has p P (y ∷ ys) x are e = go (p y) refl (λ rest. found_has p P ys x (A
     go false is on = on (rw is at e)
 
 -- The job of a release.
-job_is : (tasks : List Task) (releases : List Release) (i : ℕ) → i < length releases → job_at (jobs_of tasks releases) i ≡ job_of tasks (release_at releases i)
+job_is : (tasks : List Task) (releases : List Release) (i : ℕ) → i < length releases → job_at (jobs_of tasks releases) i ≡ job_of tasks (release_in releases i)
 job_is tasks releases i lt = get_or-map (job_of tasks) releases i (record { task = 0; vertex = 0; time = 0; need = 0 }) (record { task = 0; priority = 0; time = 0; deadline = 0; need = 0 }) lt
 
 -- The first release of a task is its job of index 0.

@@ -1,4 +1,5 @@
 -- Releases that reach a response time.
+use Rattle.drt_timeline.specs.Text.{release_in}
 use Rattle.std.specs.Prelude.{◌≡◌, ◌≢◌, ℕ, ◌<◌, ◌≤◌, ◌^◌, List, length, slice_index_or}
 use Rattle.drt_model.specs.declared.jobs.Policy.TheVariants.{Fixed}
 use Rattle.drt_model.specs.declared.jobs.Release.{Release}
@@ -8,17 +9,13 @@ use Rattle.drt_model.specs.Schedulable.{jobs_of}
 use Rattle.drt_model.specs.Trace.{IsFinish}
 use Rattle.drt_responses.specs.declared.response.Response.{Response}
 
--- The release at a place.
-abbrev pub release_at : List Release → ℕ → Release
-release_at releases j = slice_index_or releases j (record { task = 0; vertex = 0; time = 0; need = 0 })
-
 -- The first release of the task is at this place, of this vertex, and at time 0.
 pub record IsStart (task vertex : ℕ) (releases : List Release) (j : ℕ) : Type 0 where
   pub here : j < length releases
-  pub task_is : (release_at releases j).task ≡ task
-  pub first : (i : ℕ) → i < j → (release_at releases i).task ≢ task
-  pub vertex_is : (release_at releases j).vertex ≡ vertex
-  pub time_is : (release_at releases j).time ≡ 0
+  pub task_is : (release_in releases j).task ≡ task
+  pub first : (i : ℕ) → i < j → (release_in releases i).task ≢ task
+  pub vertex_is : (release_in releases j).vertex ≡ vertex
+  pub time_is : (release_in releases j).time ≡ 0
 
 -- A response is reached: its releases are legal, the first of its task is of its vertex at time 0, and by the tick machine under fixed
 -- priorities that job finishes after exactly its ticks, which are at most 2^62.

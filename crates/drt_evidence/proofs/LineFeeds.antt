@@ -28,7 +28,8 @@ use Rattle.drt_states.specs.declared.claims.StateEnd.TheVariants.{Passes, Splits
 use Rattle.drt_states.specs.declared.claims.StateEntry.{StateEntry}
 use Rattle.drt_claims.specs.Ranges.{IsNumber, IsInRangeEntry, IsInRangeItem, IsInRangeMiss, IsInRangePair, IsInRangePotential, IsInRangeProof, IsInRangeRelease}
 use Rattle.drt_claims.specs.Ranges.{IsInRangeCurve, IsInRangeEnd, IsInRangeJump, IsInRangeState, IsInRangeStateEntry}
-use Rattle.drt_evidence.specs.Text.{count_line, curve_line, end_fields, entry_line, item_field, jump_fields, miss_line, pair_line, policy_word, proof_line, release_line}
+use Rattle.drt_evidence.specs.Text.{count_line, curve_line, end_fields, entry_line, item_field, jump_fields, miss_line, pair_line, proof_line, release_line}
+use Rattle.drt_file.specs.trusted.Words.{policy_word}
 use Rattle.drt_evidence.specs.Text.{state_entry_fields, state_line, word_line}
 use Rattle.drt_evidence.specs.LineForms.{AreItemsCounted, IsInRangeWritten, IsInRangeWrittenSearch, kind_keyword, kind_line}
 use Rattle.drt_evidence.specs.LineForms.{numbers_line, policy_line, potentials_line, written_ratio_line, written_search_line}

@@ -3,11 +3,11 @@ use Rattle.std.specs.Prelude.{◌≡◌, ℕ, ◌<◌, ◌≤◌, ℤ, true, sli
 use Rattle.std.specs.List.{join_with_byte, AllByRecursion, list_all}
 use Rattle.std.specs.Prelude.{◌≢◌}
 use Rattle.std.specs.Fmt.{signed_decimal}
-use Rattle.drt_file.specs.trusted.Words.{is_digit}
+use Rattle.drt_file.specs.trusted.Words.{is_digit, policy_word}
 use Rattle.drt_model.specs.declared.jobs.Policy.{Policy}
 use Rattle.drt_evidence.specs.Fields.{behind}
 use Rattle.drt_claims.specs.Ranges.{IsCounted, IsNumber}
-use Rattle.drt_evidence.specs.Text.{list_line, policy_word}
+use Rattle.drt_evidence.specs.Text.{list_line}
 use Rattle.drt_claims.specs.declared.evidence.Evidence.{Evidence}
 use Rattle.drt_claims.specs.declared.evidence.Evidence.TheVariants as evidence
 use Rattle.drt_evidence.specs.declared.reading.line_forms.KindOfEvidence.{KindOfEvidence}

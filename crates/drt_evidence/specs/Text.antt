@@ -1,4 +1,5 @@
 -- The one text of a dossier, by blocks of lines. A line is the list of its fields.
+use Rattle.drt_file.specs.trusted.Words.{policy_word}
 use Rattle.std.specs.Prelude.{ℕ, List, [], ◌∷◌, ◌++◌, length, map, codes, decimal}
 use Rattle.std.specs.List.{flat_map}
 use Rattle.std.specs.Fmt.{signed_decimal}
@@ -164,11 +165,6 @@ body_lines (FixedYes trees proofs) = tree_block trees ++ proof_block proofs
 body_lines (FixedStates tails searches) = tail_block tails ++ search_block searches
 body_lines (FixedNo releases miss) = release_block releases miss
 body_lines Undecided = []
-
--- The keyword of each policy.
-abbrev pub policy_word : Policy → List ℕ
-policy_word Edf = codes "edf"
-policy_word Fixed = codes "fixed"
 
 -- The lines above the set: the first one, and that of the policy.
 abbrev pub head_lines : Policy → List (List (List ℕ))

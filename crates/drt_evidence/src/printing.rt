@@ -1,7 +1,8 @@
 //! The text of a dossier.
 ghost use Rattle.std.specs.Prelude.{◌≡◌, ◌++◌, codes, IfOk, OnOk};
 ghost use Rattle.drt_file.specs.trusted.Canonical.{written, written_line};
-ghost use Rattle.drt_evidence.specs.Text.{body_lines, evidence_lines, head_lines, kind_word, policy_word, text, word_line};
+ghost use Rattle.drt_evidence.specs.Text.{body_lines, evidence_lines, head_lines, kind_word, text, word_line};
+ghost use Rattle.drt_file.specs.trusted.Words.{policy_word};
 
 mod fronts;
 mod proofs;

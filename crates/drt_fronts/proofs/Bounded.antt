@@ -10,13 +10,13 @@ use Rattle.drt_graph.specs.declared.front.FrontEntry.{FrontEntry}
 use Rattle.drt_graph.proofs.MostOut.{most_least, most_row}
 use Rattle.drt_demand.specs.Demand.{demand_algebra}
 use Rattle.drt_demand.proofs.Comparable.{comparable}
-use Rattle.drt_table.specs.Machine.{Setting, State, step_of, opening_state, replay_from, IsRun, IsRunFrom, replay, is_finished, in_range}
+use Rattle.drt_table.specs.Machine.{Setting, State, step_of, opening_state, replay_from, IsRun, IsRunFrom, replay, is_finished, in_range, search_of}
 use Rattle.drt_table.specs.View.{View, IsTable, setting_of, state_of}
 use Rattle.drt_table.specs.Walk.{WalkTo, IsWalkLabel}
 use Rattle.drt_table.specs.Work.{IsBounded, IsDegree, IsShort, AreSlots, kept_count}
 use Rattle.drt_table.specs.declared.step.Entry.{Entry}
 use Rattle.drt_fronts.specs.Bounded.{SearchesAreBounded}
-use Rattle.drt_fronts.specs.Needs.{search_of, table_need}
+use Rattle.drt_fronts.specs.Needs.{table_need}
 
 -- The label of an in-range walk to v is of v, which is a vertex, and is in range.
 pub label_of : (t : Setting) (v : ℕ) (before : List ℕ) (l : FrontEntry) → IsSoundGraph t.graph

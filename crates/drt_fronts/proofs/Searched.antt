@@ -4,12 +4,12 @@ use Rattle.drt_model.specs.Digraph.{Digraph}
 use Rattle.drt_graph.specs.declared.front.FrontEntry.{FrontEntry}
 use Rattle.drt_demand.specs.Demand.{demand_algebra}
 use Rattle.drt_table.specs.Drive.{StopsAt}
-use Rattle.drt_table.specs.Machine.{IsRun, is_finished, replay}
+use Rattle.drt_table.specs.Machine.{IsRun, is_finished, replay, search_of}
 use Rattle.drt_table.specs.View.{View, IsTable, setting_of, state_of}
 use Rattle.drt_table.specs.declared.step.TableReply.{TableReply}
 use Rattle.drt_table.specs.declared.step.TableReply.TheVariants.{Taken, Busy, Finished, Added, Dominated, OutOfRange, Closed, Spent}
 use Rattle.drt_fronts.specs.Ends.{IsFull}
-use Rattle.drt_fronts.specs.Needs.{search_of, table_need}
+use Rattle.drt_fronts.specs.Needs.{table_need}
 use Rattle.drt_fronts.proofs.Bounded.{AreShort, AreFew, unfinished_short}
 
 -- A driver that stops before the search is finished has spent the budget.

@@ -4,11 +4,11 @@ use Rattle.drt_model.specs.Digraph.{Digraph, IsSoundGraph, vertex_count}
 use Rattle.drt_graph.specs.declared.front.FrontEntry.{FrontEntry}
 use Rattle.drt_demand.specs.Demand.{demand_algebra}
 use Rattle.drt_table.specs.Node.{NodeOf}
-use Rattle.drt_table.specs.Machine.{State, IsRun, replay, is_finished}
+use Rattle.drt_table.specs.Machine.{State, IsRun, replay, is_finished, search_of}
 use Rattle.drt_table.specs.Work.{node_entries, kept_count}
 use Rattle.drt_table.specs.declared.step.Entry.{Entry}
 use Rattle.drt_graph.specs.Degrees.{most_out}
-use Rattle.drt_fronts.specs.Needs.{search_of, table_need}
+use Rattle.drt_fronts.specs.Needs.{table_need}
 
 -- The state after a log of the search.
 abbrev pub state_after_log : Digraph → ℕ → ℕ → List Entry → State FrontEntry

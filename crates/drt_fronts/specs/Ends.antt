@@ -2,11 +2,11 @@
 use Rattle.std.specs.Prelude.{◌≡◌, ℕ, ◌<◌, false, List, length}
 use Rattle.drt_model.specs.Digraph.{Digraph}
 use Rattle.drt_demand.specs.Demand.{demand_algebra}
-use Rattle.drt_table.specs.Machine.{IsRun, is_finished, replay}
+use Rattle.drt_table.specs.Machine.{IsRun, is_finished, replay, search_of}
 use Rattle.drt_table.specs.declared.step.Entry.{Entry}
 use Rattle.drt_claims.specs.Ranges.{IsCounted}
 use Rattle.drt_fronts.specs.LabelFronts.{IsLabelFront}
-use Rattle.drt_fronts.specs.Needs.{HasWaveTable, search_of, table_need}
+use Rattle.drt_fronts.specs.Needs.{HasWaveTable, table_need}
 use Rattle.drt_fronts.specs.declared.search.Ended.{Ended}
 use Rattle.drt_fronts.specs.declared.search.Ended.TheVariants.{Front, Full}
 

@@ -12,7 +12,3 @@ table_need g bound = vertex_count g * (bound + 1) * (most_out g.out + 2)
 -- where the budget is enough for any search, and there are at most 2^22 cells.
 abbrev pub HasWaveTable : Digraph → ℕ → ℕ → Type 0
 HasWaveTable g bound budget = (vertex_count g * (bound + 1) ≤ 4194304) × (table_need g bound ≤ budget)
-
--- What a search of a graph's walks never changes.
-abbrev pub search_of : Digraph → ℕ → ℕ → Setting
-search_of g bound budget = record { graph = g; bound = bound; budget = budget }

@@ -2,7 +2,6 @@
 ghost use Rattle.std.specs.Prelude.{◌≡◌, ◌≤◌, IfOk};
 ghost use Rattle.drt_model.specs.Digraph.{IsConstrainedGraph};
 ghost use Rattle.drt_fronts.specs.Ends.{IsEnded};
-ghost use Rattle.drt_fronts.specs.Needs.{search_of};
 ghost use Rattle.drt_table.specs.Drive.{StopsAt};
 ghost use Rattle.drt_table.specs.View.{setting_of};
 ghost use Rattle.drt_demand.specs.Demand.{demand_algebra};

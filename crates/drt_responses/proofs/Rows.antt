@@ -14,7 +14,7 @@ use Rattle.drt_evidence.specs.Text.{count_line, release_line, word_line}
 use Rattle.drt_evidence.proofs.Blocks.{At, done, next, start, within}
 use Rattle.drt_evidence.proofs.Parts.{Two, written_both, written_flat, written_map}
 use Rattle.drt_responses.specs.Ranges.{AreResponsesInRange, IsInRangeResponse}
-use Rattle.drt_responses.specs.Rows.{IsInRangeHeading, IsInRangeOpening, IsStop, first_responses_block, first_words, heading_line, releases_block, rows_block}
+use Rattle.drt_responses.specs.Rows.{IsInRangeHeading, IsInRangeOpening, IsResponsesStop, first_responses_block, first_words, heading_line, releases_block, rows_block}
 use Rattle.drt_responses.specs.Text.{response_line, response_lines, response_text}
 use Rattle.drt_responses.specs.declared.reading.lines.Heading.{Heading}
 use Rattle.drt_responses.specs.declared.reading.lines.Heading.TheVariants.{Opens, Closes}
@@ -129,7 +129,7 @@ some_heading xs range (Opens o) is =
     let s = some_begun xs (r ∷ []) range (one_response o [] is (All-nil IsInRangeRelease, omega arith)) in
     (xs ++ r ∷ [], s.0, ap heading_at s.1)
 
-pub heading_stop : {xs : List Response} {bytes mid : List ℕ} {e : Stop} → RowsAt xs bytes mid → IsStop (λ y. written_line (heading_line y)) IsInRangeHeading mid e → IsStop rows_block AreResponsesInRange bytes e
+pub heading_stop : {xs : List Response} {bytes mid : List ℕ} {e : Stop} → RowsAt xs bytes mid → IsResponsesStop (λ y. written_line (heading_line y)) IsInRangeHeading mid e → IsResponsesStop rows_block AreResponsesInRange bytes e
 heading_stop {xs} a i =
     stop (λ ys. heading_at (drop (length xs) ys)) (λ ys. behind_heading (drop (length xs) ys)) (λ ys b. heading_parts (drop (length xs) ys) (left_in_range xs ys b))
     (some_heading xs a.in_range) a.here i
@@ -162,8 +162,8 @@ some_releases xs o range is releases are =
     let s = some_begun xs (r ∷ []) range (one_response o releases is are) in
     (xs ++ r ∷ [], (s.0, ap heading_at s.1), ap releases_at s.1)
 
-pub releases_stop : {xs : List Response} {o : Opening} {bytes mid : List ℕ} {e : Stop} → HeadingAt xs (Opens o) bytes mid → IsStop releases_block (AreItemsCounted IsInRangeRelease) mid e
-    → IsStop rows_block AreResponsesInRange bytes e
+pub releases_stop : {xs : List Response} {o : Opening} {bytes mid : List ℕ} {e : Stop} → HeadingAt xs (Opens o) bytes mid → IsResponsesStop releases_block (AreItemsCounted IsInRangeRelease) mid e
+    → IsResponsesStop rows_block AreResponsesInRange bytes e
 releases_stop {xs} {o} a i =
     stop (λ ys. releases_at (drop (length xs) ys)) (λ ys. rows_block (others_at (drop (length xs) ys)))
     (λ ys b. releases_parts (drop (length xs) ys) o (left_in_range xs ys b.0) b.1) (some_releases xs o a.in_range a.said) a.here i

@@ -17,14 +17,14 @@ use Rattle.drt_evidence.specs.LineForms.{AreItemsCounted, IsLineOf, IsNoLine}
 use Rattle.drt_evidence.proofs.Blocks.{At, both_lines, cut_at, next, no_lines, start}
 use Rattle.drt_evidence.proofs.Leaves.{IsLine, line_taken as taken_line}
 use Rattle.drt_evidence.proofs.Parts.{Two}
-use Rattle.drt_responses.specs.Rows.{IsStop}
+use Rattle.drt_responses.specs.Rows.{IsResponsesStop}
 use Rattle.drt_responses.specs.declared.reading.text.Stop.{Stop}
 use Rattle.drt_responses.specs.declared.reading.text.Stop.TheVariants as stops
 
 -- A stop in a part behind the front is a stop of the whole, where each part begins what may be behind the front.
 pub stop : {X V : Type 0} {T : X → List ℕ} {D E : X → Type 0} {U : X → List ℕ} {bytes mid : List ℕ} {B : V → List ℕ} {F : V → Type 0} {e : Stop}
     → (part : X → V) (behind : X → List ℕ) → ((x : X) → E x → F (part x) × (U x ≡ B (part x) ++ behind x)) → ((v : V) → F v → (x : X) × E x × (part x ≡ v))
-    → At T D E U bytes mid → IsStop B F mid e → IsStop T D bytes e
+    → At T D E U bytes mid → IsResponsesStop B F mid e → IsResponsesStop T D bytes e
 stop {X} {V} {T} {D} {E} {U} {bytes} {mid} {B} {F} part behind parts some a i = record { at = λ left missing is. whole left missing (i.at left missing is) }
   where
     -- What a whole block that begins with the front has behind it.
@@ -71,7 +71,7 @@ stop {X} {V} {T} {D} {E} {U} {bytes} {mid} {B} {F} part behind parts some a i = 
     }
 
 pub two_first : {X V W : Type 0} {T : X → List ℕ} {D : X → Type 0} {A : V → List ℕ} {F : V → Type 0} {B : W → List ℕ} {G : W → Type 0} {bytes : List ℕ} {e : Stop}
-    → Two T D A F B G → IsStop A F bytes e → IsStop T D bytes e
+    → Two T D A F B G → IsResponsesStop A F bytes e → IsResponsesStop T D bytes e
 two_first {X} {V} {W} {T} {D} {A} {F} {B} {G} {bytes} two i =
     stop two.first (λ x. B (two.second x)) (λ x is. (two.first_is x is, two.block_is x is))
     (λ v is. (two.make v two.other, two.make_is v two.other is two.other_is, two.make_first v two.other is two.other_is))
@@ -82,7 +82,7 @@ two_at : {X V W : Type 0} {T : X → List ℕ} {D : X → Type 0} {A : V → Lis
 two_at {X} {V} {W} {T} {D} {A} {F} {B} {G} {bytes} two r = next two.first (λ x. B (two.second x)) (λ x is. (two.first_is x is, two.block_is x is)) (start T D bytes) r
 
 pub two_second : {X V W : Type 0} {T : X → List ℕ} {D : X → Type 0} {A : V → List ℕ} {F : V → Type 0} {B : W → List ℕ} {G : W → Type 0} {bytes mid : List ℕ} {v : V} {e : Stop}
-    → Two T D A F B G → ReadsBlock A F bytes v mid → IsStop B G mid e → IsStop T D bytes e
+    → Two T D A F B G → ReadsBlock A F bytes v mid → IsResponsesStop B G mid e → IsResponsesStop T D bytes e
 two_second {X} {V} {W} {T} {D} {A} {F} {B} {G} {bytes} {mid} {v} two r i =
     stop two.second (λ x. []) (λ x is. (two.second_is x is.0, sym (append-nil (B (two.second x)))))
     (λ w is. (two.make v w, (two.make_is v w r.is is, two.make_first v w r.is is), two.make_second v w r.is is))
@@ -117,7 +117,7 @@ all_same : {X : Type 0} (D : X → Type 0) (n : ℕ) (x : X) → D x → AllByRe
 all_same D n x is = recursion_from_All D (replicate n x) (All-replicate D n x is)
 
 pub each_stop : {X : Type 0} {T : X → List ℕ} {D : X → Type 0} {n : ℕ} {bytes mid : List ℕ} {xs : List X} {e : Stop} (count : ℕ) → n < count → (x : X) → D x
-    → ReadsBlock (in_turn T) (AreSoMany n D) bytes xs mid → IsStop T D mid e → IsStop (in_turn T) (AreSoMany count D) bytes e
+    → ReadsBlock (in_turn T) (AreSoMany n D) bytes xs mid → IsResponsesStop T D mid e → IsResponsesStop (in_turn T) (AreSoMany count D) bytes e
 each_stop {X} {T} {D} {n} {bytes} {mid} {xs} {e} count lt some some_is r i = record { at = λ left missing is. whole left missing (i.at left missing is) }
   where
     refuses : (front tail : List ℕ) → RefusesLine T D front tail → RefusesLine (in_turn T) (AreSoMany count D) (in_turn T xs ++ front) tail
@@ -165,7 +165,7 @@ count_parts : {X : Type 0} (word : List ℕ) (T : X → List ℕ) (D : X → Typ
 count_parts word T D xs is = (is.1, refl)
 
 pub count_stop : {X : Type 0} {bytes : List ℕ} {e : Stop} (T : X → List ℕ) (D : X → Type 0) (word : List ℕ) → (x : X) → D x
-    → IsStop (λ n. written_line (count_line word n)) IsNumber bytes e → IsStop (counted_blocks word T) (AreItemsCounted D) bytes e
+    → IsResponsesStop (λ n. written_line (count_line word n)) IsNumber bytes e → IsResponsesStop (counted_blocks word T) (AreItemsCounted D) bytes e
 count_stop {X} {bytes} T D word x is i =
     stop (λ (xs : List X). length xs) (in_turn T) (count_parts word T D)
     (λ n num. (replicate n x, (All-replicate D n x is, subst IsNumber (sym (length-replicate n x)) num), length-replicate n x))
@@ -176,7 +176,7 @@ counted_at : {X : Type 0} {n : ℕ} {bytes mid : List ℕ} (T : X → List ℕ) 
 counted_at {X} {bytes = bytes} T D word r = next (λ (xs : List X). length xs) (in_turn T) (count_parts word T D) (start (counted_blocks word T) (AreItemsCounted D) bytes) r
 
 pub counted_stop : {X : Type 0} {n : ℕ} {bytes mid : List ℕ} {e : Stop} (T : X → List ℕ) (D : X → Type 0) (word : List ℕ) → ReadsBlock (λ k. written_line (count_line word k)) IsNumber bytes n mid
-    → IsStop (in_turn T) (AreSoMany n D) mid e → IsStop (counted_blocks word T) (AreItemsCounted D) bytes e
+    → IsResponsesStop (in_turn T) (AreSoMany n D) mid e → IsResponsesStop (counted_blocks word T) (AreItemsCounted D) bytes e
 counted_stop {X} {n} T D word r i =
     stop (λ (xs : List X). xs) (λ xs. []) (λ xs is. ((recursion_from_All D xs is.0.0, is.1), sym (append-nil (in_turn T xs))))
     (λ xs is. (xs, ((All-from_recursion D xs is.0, subst IsNumber (sym is.1) r.is), is.1), refl)) (counted_at T D word r) i
@@ -186,7 +186,7 @@ unfolding written_line
 written_is words rest = append_assoc (join_with_byte 32 words) (10 ∷ []) rest
 
 line_missing : {X : Type 0} (fields : X → List (List ℕ)) (In : X → Type 0) (rest : List ℕ) (e : Stop) → IsLine fields In → e ≡ stops.Fault (length rest) true → HasNoFeed rest
-    → IsStop (λ y. written_line (fields y)) In rest e
+    → IsResponsesStop (λ y. written_line (fields y)) In rest e
 line_missing fields In rest e form is none = record {
   at = λ left missing other.
       let same : stops.Fault (length rest) true ≡ stops.Fault left missing = sym is ∙ other in
@@ -206,7 +206,7 @@ line_missing fields In rest e form is none = record {
 }
 
 line_refused : {X : Type 0} (fields : X → List (List ℕ)) (In : X → Type 0) (rest line others : List ℕ) (e : Stop) → IsLine fields In → e ≡ stops.Fault (length rest) false
-    → rest ≡ line ++ 10 ∷ others → HasNoFeed line → IsNoLine fields In line → IsStop (λ y. written_line (fields y)) In rest e
+    → rest ≡ line ++ 10 ∷ others → HasNoFeed line → IsNoLine fields In line → IsResponsesStop (λ y. written_line (fields y)) In rest e
 line_refused {X} fields In rest line others e form is cut none denied = record {
   at = λ left missing other.
       let same : stops.Fault (length rest) false ≡ stops.Fault left missing = sym is ∙ other in
@@ -241,13 +241,13 @@ passed (Err y) e P is p = subst P (sym is) p
 
 -- The first line is missing.
 pub none_taken : {X T : Type 0} {fields : X → List (List ℕ)} {In : X → Type 0} → IsLine fields In → (rest : List ℕ) (e : Stop) (r : Result T Stop) → IsErrAnd r (λ y. y ≡ e)
-    → (e ≡ stops.Fault (length rest) true) × HasNoFeed rest → IfErr r (IsStop (λ y. written_line (fields y)) In rest)
+    → (e ≡ stops.Fault (length rest) true) × HasNoFeed rest → IfErr r (IsResponsesStop (λ y. written_line (fields y)) In rest)
 none_taken {X} {T} {fields} {In} kind rest e r is missing =
-    passed r e (IsStop (λ y. written_line (fields y)) In rest) is (line_missing fields In rest e kind missing.0 missing.1)
+    passed r e (IsResponsesStop (λ y. written_line (fields y)) In rest) is (line_missing fields In rest e kind missing.0 missing.1)
 
 -- A stop that is passed on.
-pub passed_stop : {X R : Type 0} {T : X → List ℕ} {D : X → Type 0} {bytes : List ℕ} {e : Stop} → (r : Result R Stop) → IsErrAnd r (λ y. y ≡ e) → IsStop T D bytes e → IfErr r (IsStop T D bytes)
-passed_stop {T = T} {D = D} {bytes = bytes} {e = e} r is stops_here = passed r e (IsStop T D bytes) is stops_here
+pub passed_stop : {X R : Type 0} {T : X → List ℕ} {D : X → Type 0} {bytes : List ℕ} {e : Stop} → (r : Result R Stop) → IsErrAnd r (λ y. y ≡ e) → IsResponsesStop T D bytes e → IfErr r (IsResponsesStop T D bytes)
+passed_stop {T = T} {D = D} {bytes = bytes} {e = e} r is stops_here = passed r e (IsResponsesStop T D bytes) is stops_here
 
 -- What is found in the first line is taken.
 pub line_taken : {X : Type 0} {fields : X → List (List ℕ)} {In : X → Type 0} → IsLine fields In → (rest line others now : List ℕ) (found : Option X) (r : Result X Stop)
@@ -259,7 +259,7 @@ line_taken kind rest line others now found (Err e) cut says is = tt
 -- The line is refused.
 pub line_left : {X : Type 0} {fields : X → List (List ℕ)} {In : X → Type 0} → IsLine fields In → (rest line others : List ℕ) (found : Option X) (r : Result X Stop)
     → (rest ≡ line ++ 10 ∷ others) × HasNoFeed line → MatchOption found (IsNoLine fields In line) (IsLineOf fields In line)
-    → IfErr r (λ e. (found ≡ None) × (e ≡ stops.Fault (length rest) false)) → IfErr r (IsStop (λ y. written_line (fields y)) In rest)
+    → IfErr r (λ e. (found ≡ None) × (e ≡ stops.Fault (length rest) false)) → IfErr r (IsResponsesStop (λ y. written_line (fields y)) In rest)
 line_left {X} {fields} {In} kind rest line others found (Ok x) cut says is = tt
 line_left {X} {fields} {In} kind rest line others found (Err e) cut says is =
     line_refused fields In rest line others e kind is.1 cut.0 cut.1 (subst (λ o. MatchOption o (IsNoLine fields In line) (IsLineOf fields In line)) is.0 says)

@@ -10,7 +10,7 @@ use Rattle.drt_evidence.specs.Blocks.{ReadsBlock, RefusesLine, Stops}
 use Rattle.drt_evidence.proofs.Sets.{line_more}
 use Rattle.drt_responses.specs.Ranges.{AreResponsesInRange}
 use Rattle.drt_responses.specs.Reading.{AreResponsesFaultyBy, HasTextFault, HoldsText, IsResponsesText}
-use Rattle.drt_responses.specs.Rows.{IsStop}
+use Rattle.drt_responses.specs.Rows.{IsResponsesStop}
 use Rattle.drt_responses.specs.Text.{response_text}
 use Rattle.drt_responses.specs.declared.reading.text.Stop.{Stop}
 use Rattle.drt_responses.specs.declared.reading.text.Stop.TheVariants as stops
@@ -153,5 +153,5 @@ followed_cause bytes s (b ∷ rest) r some =
     (line_behind bytes (response_text s) (b ∷ rest) r.lines.ls (length (b ∷ rest)) r.stands refl r.lines.are r.lines.no_feeds)
 
 -- The stop that a call answers with.
-pub stop_here : {bytes : List ℕ} {e : Stop} {left : ℕ} {missing : Bool} → IsStop response_text AreResponsesInRange bytes e → e ≡ stops.Fault left missing → Stops response_text AreResponsesInRange bytes left missing
+pub stop_here : {bytes : List ℕ} {e : Stop} {left : ℕ} {missing : Bool} → IsResponsesStop response_text AreResponsesInRange bytes e → e ≡ stops.Fault left missing → Stops response_text AreResponsesInRange bytes left missing
 stop_here {left = left} {missing = missing} i is = i.at left missing is

@@ -15,7 +15,7 @@ use Rattle.drt_responses.specs.declared.reading.text.Stop.TheVariants.{Fault}
 use Rattle.drt_responses.specs.declared.response.Response.{Response}
 
 -- Why a block isn't read: the text stops being one there, or memory ran out.
-pub record IsStop {X : Type 0} (block : X → List ℕ) (Is : X → Type 0) (bytes : List ℕ) (stop : Stop) : Type 0 where
+pub record IsResponsesStop {X : Type 0} (block : X → List ℕ) (Is : X → Type 0) (bytes : List ℕ) (stop : Stop) : Type 0 where
   pub at : (left : ℕ) (missing : Bool) → stop ≡ Fault left missing → Stops block Is bytes left missing
 
 -- The first line of a text of responses.

@@ -17,13 +17,13 @@ use Rattle.drt_steps.specs.Values.{value_at}
 use Rattle.drt_request.specs.Laws.{request_laws}
 use Rattle.drt_request.specs.Request.{Request, request_algebra, request_dominates}
 use Rattle.drt_request.specs.Walk.{IsRequestLabelOf}
-use Rattle.drt_table.specs.Machine.{Setting, State, step_of, opening_state, replay_from, IsRun, IsRunFrom, replay}
+use Rattle.drt_table.specs.Machine.{Setting, State, step_of, opening_state, replay_from, IsRun, IsRunFrom, replay, search_of}
 use Rattle.drt_table.specs.Walk.{IsWalkBack, IsWalkLabel}
 use Rattle.drt_table.specs.Work.{IsDegree, IsShort, AreSlots, kept_count}
 use Rattle.drt_table.specs.declared.step.Entry.{Entry}
 use Rattle.drt_claims.specs.Trees.{IsShortWalk}
 use Rattle.drt_sp.specs.Needs.{HasAtMost}
-use Rattle.drt_sp.specs.TreeClaims.{IsSpentWalkSearch, search_of}
+use Rattle.drt_sp.specs.TreeClaims.{IsSpentWalkSearch}
 use Rattle.drt_sp.proofs.FewWalks.{itself}
 use Rattle.drt_sp.proofs.RequestWalks.{same_labels, walk_short}
 

@@ -10,7 +10,7 @@ use Rattle.drt_request.specs.Request.{request_algebra}
 use Rattle.drt_worklist.specs.Places.{changed, first}
 use Rattle.drt_worklist.proofs.Runs.{run_join, run_log}
 use Rattle.drt_table.specs.Facts.{Facts}
-use Rattle.drt_table.specs.Machine.{Setting, State, Outcome, in_range, opening_label, opening_nodes, opening_state, extended, is_full, unchanged, logged, offset, next, holder}
+use Rattle.drt_table.specs.Machine.{Setting, State, Outcome, in_range, opening_label, opening_nodes, opening_state, extended, is_full, unchanged, logged, offset, next, holder, search_of}
 use Rattle.drt_table.specs.Machine.{takes, taken, dominating, compared, counted, offered, offered_at, step_of, CanStep, after, CanEnter, replay, replay_from, IsRun, IsRunFrom, is_finished}
 use Rattle.drt_table.specs.Node.{NodeOf, fresh, is_taken, is_taken_state}
 use Rattle.drt_table.specs.declared.node.NodeState.{NodeState}
@@ -21,7 +21,6 @@ use Rattle.drt_table.specs.declared.step.TableStep.{TableStep}
 use Rattle.drt_table.specs.declared.step.TableStep.TheVariants.{Take, Offer, Close}
 use Rattle.drt_table.proofs.Earliest.{found_earliest, none_earliest}
 use Rattle.drt_sp.specs.Laws.{SearchesGoOn}
-use Rattle.drt_sp.specs.TreeClaims.{search_of}
 
 -- The setting with another budget.
 abbrev with_budget : ℕ → Setting → Setting

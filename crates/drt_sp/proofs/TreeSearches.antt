@@ -22,7 +22,6 @@ use Rattle.drt_tree.proofs.Trees.{length-leaves_of}
 use Rattle.drt_sp.specs.Gathering.{AreLeavesGathered}
 use Rattle.drt_sp.specs.TaskTrees.{AreWalkLeaves, IsWalkLeaf}
 use Rattle.drt_sp.specs.Searches.{AreLeavesOf}
-use Rattle.drt_sp.specs.TreeClaims.{search_of}
 use Rattle.drt_sp.specs.declared.trees.gathering.Leaves.{Leaves}
 use Rattle.drt_sp.proofs.TreeLeaves.{walk_leaves}
 

@@ -4,12 +4,12 @@ use Rattle.drt_model.specs.Contents.{Contents}
 use Rattle.drt_model.specs.Digraph.{Digraph, IsSoundGraph}
 use Rattle.drt_model.specs.Limits.{IsTaskSet}
 use Rattle.drt_request.specs.Request.{request_algebra}
-use Rattle.drt_table.specs.Machine.{IsRun}
+use Rattle.drt_table.specs.Machine.{IsRun, search_of}
 use Rattle.drt_table.specs.declared.step.Entry.{Entry}
 use Rattle.drt_trails.specs.declared.FixedTrail.{FixedTrail}
 use Rattle.drt_sp.specs.Answers.{IsTreeUndecided}
 use Rattle.drt_sp.specs.Needs.{IsEnoughForTrees}
-use Rattle.drt_sp.specs.TreeClaims.{IsSpentWalkSearch, search_of}
+use Rattle.drt_sp.specs.TreeClaims.{IsSpentWalkSearch}
 
 -- Where there is no answer, since a budget was spent, that budget isn't enough.
 abbrev pub BudgetsSuffice : Type 0

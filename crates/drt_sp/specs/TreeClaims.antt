@@ -3,7 +3,7 @@ use Rattle.std.specs.Prelude.{◌≡◌, ℕ, ◌+◌, ◌-◌, ◌≤◌, ◌<�
 use Rattle.drt_model.specs.Digraph.{Digraph}
 use Rattle.drt_request.specs.Request.{request_algebra}
 use Rattle.drt_steps.specs.Values.{value_at}
-use Rattle.drt_table.specs.Machine.{Setting, IsRun, replay, is_finished}
+use Rattle.drt_table.specs.Machine.{Setting, IsRun, replay, is_finished, search_of}
 use Rattle.drt_table.specs.declared.step.Entry.{Entry}
 use Rattle.drt_tree.specs.Tree.{Plain, children, node_values_in}
 use Rattle.drt_claims.specs.Proofs.{parts_in}
@@ -50,10 +50,6 @@ pub record IsTreeOf (bound : ℕ) (g : Digraph) (claim : TreeClaim) : Type 0 whe
   pub exact : IsExactTree bound g claim
   pub order : AreWalksInOrder bound g claim
   pub halves : HasHalves claim
-
--- What a search of a graph's walks never changes.
-abbrev pub search_of : Digraph → ℕ → ℕ → Setting
-search_of g bound budget = record { graph = g; bound = bound; budget = budget }
 
 -- The search of the graph's walks spent the budget: the log is a run of that many steps which isn't finished.
 pub record IsSpentWalkSearch (g : Digraph) (bound budget : ℕ) (log : List Entry) : Type 0 where

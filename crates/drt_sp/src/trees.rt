@@ -3,7 +3,6 @@ ghost use Rattle.std.specs.Prelude.{◌≡◌, ◌+◌, ◌*◌, ◌≤◌, All,
 ghost use Rattle.drt_request.specs.Request.{request_algebra};
 ghost use Rattle.drt_table.specs.Drive.{StopsAt};
 ghost use Rattle.drt_table.specs.View.{setting_of};
-ghost use Rattle.drt_sp.specs.TreeClaims.{search_of};
 ghost use Rattle.drt_table.specs.declared.step.TableReply.{TableReply};
 ghost use Rattle.drt_sp.specs.Searches.{IsSearchEnd};
 ghost use Rattle.drt_sp.specs.TaskTrees.{IsTreeSearch};

@@ -20,6 +20,10 @@ pub record Setting : Type 0 where
   pub bound : ℕ
   pub budget : ℕ
 
+-- What a search of a graph's walks never changes.
+abbrev pub search_of : Digraph → ℕ → ℕ → Setting
+search_of g bound budget = record { graph = g; bound = bound; budget = budget }
+
 -- A state has nodes, and the log of the steps that led to it.
 pub record State (L : Type 0) : Type 0 where
   pub nodes : List (NodeOf L)

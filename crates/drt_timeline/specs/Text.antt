@@ -1,4 +1,5 @@
 -- The text of a timeline. A line is the list of its fields.
+use Rattle.drt_file.specs.trusted.Words.{policy_word}
 use Rattle.std.specs.Prelude.{ℕ, List, [], ◌∷◌, ◌++◌, map, codes, decimal, nat_le, if◌then◌else◌, unwrap_or, option_map, slice_get, slice_index_or}
 use Rattle.drt_file.specs.trusted.Canonical.{written}
 use Rattle.drt_model.specs.declared.jobs.Policy.{Policy}
@@ -19,11 +20,6 @@ mark_word Finish = codes "finish"
 mark_word Deadline = codes "deadline"
 mark_word Miss = codes "miss"
 mark_word Released = codes "release"
-
--- The keyword of each policy.
-abbrev pub policy_word : Policy → List ℕ
-policy_word Edf = codes "edf"
-policy_word Fixed = codes "fixed"
 
 -- The release at a place of a list, and past its end one of the first vertex of the first task.
 abbrev pub release_in : List Release → ℕ → Release

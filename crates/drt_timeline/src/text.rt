@@ -2,7 +2,8 @@
 ghost use Rattle.std.specs.Prelude.{◌≡◌, ◌++◌, ◌∷◌, ◌<◌, ◌≤◌, All, IfOk, OnOk, drop, length};
 ghost use Rattle.drt_file.specs.trusted.Canonical.{written, written_line};
 ghost use Rattle.drt_model.specs.Legal.{IsLegal};
-ghost use Rattle.drt_timeline.specs.Text.{event_line, event_lines, timeline_head_lines, job_fields, mark_word, policy_word, span_line, timeline_lines, timeline_text};
+ghost use Rattle.drt_timeline.specs.Text.{event_line, event_lines, timeline_head_lines, job_fields, mark_word, span_line, timeline_lines, timeline_text};
+ghost use Rattle.drt_file.specs.trusted.Words.{policy_word};
 ghost use Rattle.drt_timeline.specs.Printing.{IsPrintedUntil};
 
 use crate::event::{Event, Mark};

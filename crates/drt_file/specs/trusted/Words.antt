@@ -1,6 +1,8 @@
 -- What single fields say.
 use Rattle.std.specs.Prelude.{ℕ, ◌+◌, ◌*◌, ◌-◌, Bool, ◌&&◌, ◌||◌, ◌==◌, nat_le, List, [], ◌∷◌, length, codes}
 use Rattle.std.specs.List.{list_all}
+use Rattle.drt_model.specs.declared.jobs.Policy.{Policy}
+use Rattle.drt_model.specs.declared.jobs.Policy.TheVariants.{Edf, Fixed}
 
 -- A number lies between two others, or is one of them.
 abbrev pub is_between : ℕ → ℕ → ℕ → Bool
@@ -54,3 +56,8 @@ priority_word = codes "priority"
 -- The keyword `end`.
 abbrev pub end_word : List ℕ
 end_word = codes "end"
+
+-- The keyword of each policy.
+abbrev pub policy_word : Policy → List ℕ
+policy_word Edf = codes "edf"
+policy_word Fixed = codes "fixed"

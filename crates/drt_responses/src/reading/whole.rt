@@ -4,7 +4,7 @@ ghost use Rattle.drt_file.specs.trusted.CanonicalPrefix.{line_count};
 ghost use Rattle.drt_evidence.specs.Blocks.{ReadsBlock};
 ghost use Rattle.drt_responses.specs.Ranges.{AreResponsesInRange};
 ghost use Rattle.drt_responses.specs.Reading.{GivesResponses, IsTextCause, IsResponsesText};
-ghost use Rattle.drt_responses.specs.Rows.{IsStop};
+ghost use Rattle.drt_responses.specs.Rows.{IsResponsesStop};
 ghost use Rattle.drt_responses.specs.Text.{response_text};
 ghost use Rattle.drt_responses.specs.declared.fault.ResponseError.TheVariants.{Fault, Memory};
 ghost use Rattle.drt_responses.specs.declared.response.Response.{Response};
@@ -19,7 +19,7 @@ use std::alloc::Global;
 // The responses whose text stands at the front of a text.
 fn read_responses(alloc: Global, from: &mut Text) -> Result<Row<Response>, Stop>
     ensures read { IfOk result (λ rs. ReadsBlock response_text AreResponsesInRange from.old.rest.now rs from.new.rest.now) }
-    ensures stops { IfErr result (IsStop response_text AreResponsesInRange from.old.rest.now) }
+    ensures stops { IfErr result (IsResponsesStop response_text AreResponsesInRange from.old.rest.now) }
 {
     read_first(from)?;
     let responses = read_rows(alloc, from)?;
@@ -70,7 +70,7 @@ pub fn read(alloc: Global, bytes: &[u8]) -> Result<Row<Response>, ResponseError>
 // Why a text that stops there is none of responses.
 fn cause_of(bytes: &[u8], stop: Stop) -> ResponseError
     requires size { length bytes.now ≤ 1073741824 }
-    requires stops { IsStop response_text AreResponsesInRange bytes.now stop }
+    requires stops { IsResponsesStop response_text AreResponsesInRange bytes.now stop }
     ensures fault { IsTextCause bytes.now result }
     ensures none { (responses : List Response) → IsResponsesText responses bytes.now → result ≡ Memory }
 {
